@@ -1,0 +1,13 @@
+//! Where input is read from and output is written to: in memory, with faults that a test sets, or
+//! over the real thing.
+#![tactic(auto)]
+
+mod sink;
+mod source;
+#[cfg(test)]
+mod tests;
+mod transfer;
+
+pub use sink::{MemSink, Sink, WriteSink};
+pub use source::{Failed, MemSource, ReadSource, Source};
+pub use transfer::{ReadError, read_all, write_all};

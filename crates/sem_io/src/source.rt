@@ -1,0 +1,144 @@
+ghost use Rattle.std.specs.Prelude.{◌≡◌, ℕ, ◌+◌, ◌<◌, ◌≤◌, ◌↔◌, List, [], length, take, drop, min, vec_len, ◌-◌, if◌then◌else◌, Option, Some, None, Contains, IfOk, IfSome, IsErr, OnErr};
+ghost use Rattle.std.specs.Result.{is_err};
+ghost use Rattle.sem_io.specs.Count.{Rose, counted};
+ghost use Rattle.sem_io.specs.SourceBytes.{Takes};
+
+use std::io::Read;
+use thiserror::Error;
+
+/// A read or a write failed.
+#[derive(Clone, Copy, Debug, PartialEq, Eq, Error)]
+#[error("a read or a write failed")]
+pub struct Failed;
+
+/// Where bytes are read from, a piece at a time.
+pub trait Source {
+    // The bytes that are left, where the source tells them.
+    ghost left: { Self → Option (List ℕ) };
+
+    // How many calls have failed. The count stops at 18446744073709551615.
+    ghost faults: { Self → ℕ };
+
+    /// Reads the next bytes to the front of `buf`, and says how many. `Ok(0)` is the end of the input.
+    fn read(&mut self, buf: &mut [u8]) -> Result<usize, Failed>
+        requires { 0 < length buf.old }
+        ensures within { IfOk result (λ n. n ≤ length buf.new) }
+        ensures taken { IfOk result (λ n. Takes (left self.old) (left self.new) (take n buf.new)) }
+        ensures end { IfOk result (λ n. n ≡ 0 → IfSome (left self.old) (λ bytes. bytes ≡ [])) }
+        ensures err { OnErr result (left self.new ≡ left self.old) }
+        ensures fault { OnErr result (Rose (faults self.old) (faults self.new)) }
+        ensures never_falls { faults self.old ≤ faults self.new };
+}
+
+/// A source in memory. It gives at most `step` bytes a call, and fails where a test wants it to.
+#[derive(Debug, Drop)]
+pub struct MemSource {
+    /// All bytes of the input.
+    pub bytes: Vec<u8>,
+    /// How many of them were read.
+    pub at: usize,
+    /// The most bytes that one call gives, at least 1.
+    pub step: usize,
+    /// The numbers, counted from 0, of the calls that fail.
+    pub fails: Vec<u64>,
+    /// How many calls were made.
+    pub calls: u64,
+    /// How many calls have failed.
+    pub failed: u64,
+    ghost within: { at ≤ vec_len bytes },
+    ghost moves: { 0 < step },
+}
+
+impl MemSource {
+    /// A source that has read nothing yet. Takes no memory.
+    pub fn new(bytes: Vec<u8>, step: usize, fails: Vec<u64>) -> Self
+        requires { 0 < step }
+        ensures bytes { result.bytes ≡ bytes }
+        ensures at { result.at ≡ 0 }
+        ensures step { result.step ≡ step }
+        ensures fails { result.fails ≡ fails }
+        ensures calls { result.calls ≡ 0 }
+        ensures failed { result.failed ≡ 0 }
+    {
+        MemSource {
+            bytes,
+            at: 0,
+            step,
+            fails,
+            calls: 0,
+            failed: 0,
+        }
+    }
+}
+
+impl Source for MemSource {
+    ghost left = { λ s. Some (drop s.at s.bytes.items) };
+
+    ghost faults = { λ s. s.failed };
+
+    fn read(&mut self, buf: &mut [u8]) -> Result<usize, Failed>
+        requires { 0 < length buf.old }
+
+        // As every source.
+        ensures within { IfOk result (λ n. n ≤ length buf.new) }
+        ensures taken { IfOk result (λ n. Takes (Some (drop self.old.at self.old.bytes.items)) (Some (drop self.new.at self.new.bytes.items)) (take n buf.new)) }
+        ensures end { IfOk result (λ n. n ≡ 0 → drop self.old.at self.old.bytes.items ≡ []) }
+        ensures err { OnErr result (drop self.new.at self.new.bytes.items ≡ drop self.old.at self.old.bytes.items) }
+        ensures fault { OnErr result (Rose self.old.failed self.new.failed) }
+        ensures never_falls { self.old.failed ≤ self.new.failed }
+
+        // It fails at the calls that were named, and gives as much as it can at all others.
+        ensures fails { IsErr result ↔ Contains self.old.fails.items self.old.calls }
+        ensures count { IfOk result (λ n. n ≡ min (min (length buf.old) self.old.step) (vec_len self.old.bytes - self.old.at)) }
+        ensures calls { self.new.calls ≡ counted self.old.calls }
+        ensures failed { self.new.failed ≡ (if is_err result then counted self.old.failed else self.old.failed) }
+        ensures bytes { self.new.bytes ≡ self.old.bytes }
+        ensures plan { self.new.fails ≡ self.old.fails }
+        ensures step { self.new.step ≡ self.old.step }
+    {
+        let call = self.calls;
+        self.calls = call.saturating_add(1);
+        if self.fails.contains(&call) {
+            self.failed = self.failed.saturating_add(1);
+            return Err(Failed);
+        }
+        let count = buf.len().min(self.step).min(self.bytes.len() - self.at);
+        let end = self.at + count;
+        buf[..count].copy_from_slice(&self.bytes[self.at..end]);
+        self.at = end;
+        Ok(count)
+    }
+}
+
+/// A source over a real reader, whose bytes it does not tell.
+#[derive(Drop)]
+pub struct ReadSource<R: Read> {
+    pub inner: R,
+    /// How many calls of the reader have failed.
+    pub failed: u64,
+}
+
+impl<R: Read> ReadSource<R> {
+    /// A source over the reader. Takes no memory.
+    pub fn new(inner: R) -> Self
+        ensures failed { result.failed ≡ 0 }
+    {
+        ReadSource { inner, failed: 0 }
+    }
+}
+
+impl<R: Read> Source for ReadSource<R> {
+    ghost left = { λ _. None };
+
+    ghost faults = { λ s. s.failed };
+
+    fn read(&mut self, buf: &mut [u8]) -> Result<usize, Failed> {
+        match self.inner.read(buf) {
+            Ok(count) => Ok(count),
+            Err(_) => {
+                self.failed = self.failed.saturating_add(1);
+                Err(Failed)
+            }
+        }
+    }
+}

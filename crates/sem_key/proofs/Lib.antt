@@ -1,0 +1,4 @@
+pub mod Packed
+pub mod Filtered
+pub mod RisingKeys
+pub mod Owners

@@ -1,0 +1,4 @@
+pub mod KeyName
+pub mod PlaceName
+pub mod KeyList
+pub mod MembershipTable
