@@ -1,13 +1,12 @@
 -- How takings from a source and givings to a sink add up over several calls.
-use Rattle.std.proofs.Common.{◌≡◌, ℕ, ◌+◌, ◌≤◌, ◌<◌, List, [], ◌∷◌, ◌++◌, length, take, drop, Option, Some, None, IfSome, Result, Ok, Err, OnErr, refl, sym, ◌∙◌, ap, arith, append_assoc, append-nil, length-append, length-take, length-drop, drop-drop, inl, inr}
+use Rattle.std.proofs.Common.{◌≡◌, ℕ, ◌+◌, ◌≤◌, List, [], ◌++◌, length, take, drop, Option, Some, None, IfSome, Result, Ok, Err, OnErr, refl, sym, ap, arith, append_assoc, append-nil, length-append, length-take, length-drop, drop-drop, inl, inr}
 use Rattle.std.proofs.lemmas.List.{take_at, take_all, take_rest, take-append-drop}
 use Rattle.std.specs.List.{slice_range}
 use Rattle.std.proofs.lemmas.Bool.{cases_lt}
 use Rattle.std.proofs.Math.Seq.{take-add}
-use Rattle.std.specs.Option.{option_map}
 use Rattle.std.proofs.lemmas.Grind.{common_steps}
 use Rattle.sem_io.specs.SourceBytes.{Takes, TakesAtMost}
-use Rattle.sem_io.specs.SinkBytes.{Appends, AppendsPrefix}
+use Rattle.sem_io.specs.SinkBytes.{Appends}
 
 -- what holds, holds on an error
 pub holds_on_err : {T E P : Type 0} (r : Result T E) → P → OnErr r P
@@ -50,23 +49,23 @@ Appends-append (Some written) between after xs ys first second = grind (arith, a
 pub record IsReading (before now : Option (List ℕ)) (faults_before faults_now : ℕ) (bytes : List ℕ) (limit : ℕ) : Type 0 where
   pub taken : Takes before now bytes
   pub within : length bytes ≤ limit + 1
-  pub never_falls : faults_before ≤ faults_now
+  pub quiet : faults_now ≡ faults_before
 
 -- between two writes: the first bytes were given, as many as are done
 pub record IsWriting (before now : Option (List ℕ)) (faults_before faults_now : ℕ) (bytes : List ℕ) (done : ℕ) : Type 0 where
   pub given : Appends before now (take done bytes)
   pub within : done ≤ length bytes
-  pub never_falls : faults_before ≤ faults_now
+  pub quiet : faults_now ≡ faults_before
 
 -- after one more write of `count` bytes
-pub writes_on : (before now after : Option (List ℕ)) (faults_before faults_now faults_after : ℕ) (bytes : List ℕ) (done count : ℕ) → IsWriting before now faults_before faults_now bytes done → Appends now after (take count (slice_range bytes done (length bytes))) → count ≤ length (slice_range bytes done (length bytes)) → faults_now ≤ faults_after → IsWriting before after faults_before faults_after bytes (done + count)
+pub writes_on : (before now after : Option (List ℕ)) (faults_before faults_now faults_after : ℕ) (bytes : List ℕ) (done count : ℕ) → IsWriting before now faults_before faults_now bytes done → Appends now after (take count (slice_range bytes done (length bytes))) → count ≤ length (slice_range bytes done (length bytes)) → faults_after ≡ faults_now → IsWriting before after faults_before faults_after bytes (done + count)
 writes_on before now after faults_before faults_now faults_after bytes done count writing given within rise =
     let given' : Appends now after (take count (drop done bytes)) = rw take_rest at given in
     let within' : count ≤ length (drop done bytes) = rw take_rest at within in
     record {
       given = rw take-add (Appends-append before now after (take done bytes) (take count (drop done bytes)) writing.given given');
       within = omega (arith, length-drop done bytes, writing.within);
-      never_falls = omega (arith, writing.never_falls);
+      quiet = omega (arith, writing.quiet);
     }
 
 -- after one more read that did not go past the limit

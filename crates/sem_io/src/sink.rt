@@ -1,5 +1,6 @@
-ghost use Rattle.std.specs.Prelude.{◌≡◌, ℕ, ◌+◌, ◌<◌, ◌≤◌, ◌↔◌, List, [], length, take, min, vec_len, vec_capacity, ◌-◌, ◌⊎◌, if◌then◌else◌, Contains, Option, Some, None, IfOk, IsErr, OnErr};
+ghost use Rattle.std.specs.Prelude.{◌≡◌, ℕ, ◌+◌, ◌<◌, ◌≤◌, ◌↔◌, List, [], length, take, min, vec_len, vec_capacity, ◌-◌, ◌⊎◌, if◌then◌else◌, Contains, Option, Some, None, IfOk, IsErr, OnErr, OnOk};
 ghost use Rattle.std.specs.Result.{is_err};
+ghost use Rattle.std.specs.Io.KnownBytes.{Appends as WriterAppends};
 ghost use Rattle.sem_io.specs.Count.{Rose, counted};
 ghost use Rattle.sem_io.specs.SinkBytes.{Appends};
 
@@ -23,6 +24,7 @@ pub trait Sink {
         ensures given { IfOk result (λ n. Appends (written self.old) (written self.new) (take n bytes.now)) }
         ensures err { OnErr result (written self.new ≡ written self.old) }
         ensures fault { OnErr result (Rose (faults self.old) (faults self.new)) }
+        ensures quiet { OnOk result (faults self.new ≡ faults self.old) }
         ensures never_falls { faults self.old ≤ faults self.new };
 }
 
@@ -89,6 +91,7 @@ impl Sink for MemSink {
         ensures given { IfOk result (λ n. Appends (Some self.old.bytes.items) (Some self.new.bytes.items) (take n bytes.now)) }
         ensures err { OnErr result (self.new.bytes.items ≡ self.old.bytes.items) }
         ensures fault { OnErr result (Rose self.old.failed self.new.failed) }
+        ensures quiet { OnOk result (self.new.failed ≡ self.old.failed) }
         ensures never_falls { self.old.failed ≤ self.new.failed }
 
         // It fails where it is full and at the calls that were named, and takes as much as it can else.
@@ -123,6 +126,7 @@ pub struct WriteSink<W: Write> {
 impl<W: Write> WriteSink<W> {
     /// A sink over the writer. Takes no memory.
     pub fn new(inner: W) -> Self
+        ensures inner { result.inner ≡ inner }
         ensures failed { result.failed ≡ 0 }
     {
         WriteSink { inner, failed: 0 }
@@ -134,7 +138,21 @@ impl<W: Write> Sink for WriteSink<W> {
 
     ghost faults = { λ s. s.failed };
 
-    fn write(&mut self, bytes: &[u8]) -> Result<usize, Failed> {
+    fn write(&mut self, bytes: &[u8]) -> Result<usize, Failed>
+        requires { 0 < length bytes.now }
+
+        // As every sink.
+        ensures some { IfOk result (λ n. 0 < n) }
+        ensures within { IfOk result (λ n. n ≤ length bytes.now) }
+        ensures given { IfOk result (λ n. Appends None None (take n bytes.now)) }
+        ensures fault { OnErr result (Rose self.old.failed self.new.failed) }
+        ensures quiet { OnOk result (self.new.failed ≡ self.old.failed) }
+        ensures never_falls { self.old.failed ≤ self.new.failed }
+
+        // The bytes go to the writer, where it tells what it holds, and each of its errors is a fault.
+        ensures bytes { IfOk result (λ n. WriterAppends (W.contents self.old.inner) (W.contents self.new.inner) (take n bytes.now)) }
+        ensures counted { OnErr result (self.new.failed ≡ counted self.old.failed) }
+    {
         match self.inner.write(bytes) {
             Ok(count) if count > 0 => Ok(count),
             _ => {

@@ -1,5 +1,6 @@
-ghost use Rattle.std.specs.Prelude.{◌≡◌, ℕ, ◌+◌, ◌<◌, ◌≤◌, ◌↔◌, List, [], length, take, drop, min, vec_len, ◌-◌, if◌then◌else◌, Option, Some, None, Contains, IfOk, IfSome, IsErr, OnErr};
+ghost use Rattle.std.specs.Prelude.{◌≡◌, ℕ, ◌+◌, ◌<◌, ◌≤◌, ◌↔◌, List, [], length, take, drop, min, vec_len, ◌-◌, if◌then◌else◌, Option, Some, None, Contains, IfOk, IfSome, IsErr, OnErr, OnOk};
 ghost use Rattle.std.specs.Result.{is_err};
+ghost use Rattle.std.specs.Io.KnownBytes.{Consumes, IsAtEnd};
 ghost use Rattle.sem_io.specs.Count.{Rose, counted};
 ghost use Rattle.sem_io.specs.SourceBytes.{Takes};
 
@@ -27,6 +28,7 @@ pub trait Source {
         ensures end { IfOk result (λ n. n ≡ 0 → IfSome (left self.old) (λ bytes. bytes ≡ [])) }
         ensures err { OnErr result (left self.new ≡ left self.old) }
         ensures fault { OnErr result (Rose (faults self.old) (faults self.new)) }
+        ensures quiet { OnOk result (faults self.new ≡ faults self.old) }
         ensures never_falls { faults self.old ≤ faults self.new };
 }
 
@@ -85,6 +87,7 @@ impl Source for MemSource {
         ensures end { IfOk result (λ n. n ≡ 0 → drop self.old.at self.old.bytes.items ≡ []) }
         ensures err { OnErr result (drop self.new.at self.new.bytes.items ≡ drop self.old.at self.old.bytes.items) }
         ensures fault { OnErr result (Rose self.old.failed self.new.failed) }
+        ensures quiet { OnOk result (self.new.failed ≡ self.old.failed) }
         ensures never_falls { self.old.failed ≤ self.new.failed }
 
         // It fails at the calls that were named, and gives as much as it can at all others.
@@ -121,6 +124,7 @@ pub struct ReadSource<R: Read> {
 impl<R: Read> ReadSource<R> {
     /// A source over the reader. Takes no memory.
     pub fn new(inner: R) -> Self
+        ensures inner { result.inner ≡ inner }
         ensures failed { result.failed ≡ 0 }
     {
         ReadSource { inner, failed: 0 }
@@ -132,7 +136,21 @@ impl<R: Read> Source for ReadSource<R> {
 
     ghost faults = { λ s. s.failed };
 
-    fn read(&mut self, buf: &mut [u8]) -> Result<usize, Failed> {
+    fn read(&mut self, buf: &mut [u8]) -> Result<usize, Failed>
+        requires { 0 < length buf.old }
+
+        // As every source.
+        ensures within { IfOk result (λ n. n ≤ length buf.new) }
+        ensures taken { IfOk result (λ n. Takes None None (take n buf.new)) }
+        ensures fault { OnErr result (Rose self.old.failed self.new.failed) }
+        ensures quiet { OnOk result (self.new.failed ≡ self.old.failed) }
+        ensures never_falls { self.old.failed ≤ self.new.failed }
+
+        // The bytes are those of the reader, where it tells them, and each of its errors is a fault.
+        ensures bytes { IfOk result (λ n. Consumes (R.remaining self.old.inner) (R.remaining self.new.inner) (take n buf.new)) }
+        ensures end { IfOk result (λ n. n ≡ 0 → IsAtEnd (R.remaining self.new.inner)) }
+        ensures counted { OnErr result (self.new.failed ≡ counted self.old.failed) }
+    {
         match self.inner.read(buf) {
             Ok(count) => Ok(count),
             Err(_) => {

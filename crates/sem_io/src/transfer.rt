@@ -49,6 +49,7 @@ pub fn read_all<S: Source>(alloc: Global, input: &mut S, limit: usize) -> Result
 
     // A fault is one of the source. Want of memory is the other error.
     ensures fault { IsErrOf result ReadError.Fault → Rose (S.faults input.old) (S.faults input.new) }
+    ensures quiet { OnOk result (S.faults input.new ≡ S.faults input.old) }
     ensures err { OnErr result (TakesAtMost (S.left input.old) (S.left input.new) (limit + 1)) }
     ensures never_falls { S.faults input.old ≤ S.faults input.new }
 {
@@ -69,6 +70,7 @@ pub fn read_all<S: Source>(alloc: Global, input: &mut S, limit: usize) -> Result
 pub fn write_all<K: Sink>(out: &mut K, bytes: &[u8]) -> Result<(), Failed>
     ensures ok { OnOk result (Appends (K.written out.old) (K.written out.new) bytes.now) }
     ensures err { OnErr result (AppendsPrefix (K.written out.old) (K.written out.new) bytes.now) }
+    ensures quiet { OnOk result (K.faults out.new ≡ K.faults out.old) }
     ensures fault { OnErr result (Rose (K.faults out.old) (K.faults out.new)) }
     ensures never_falls { K.faults out.old ≤ K.faults out.new }
 {

@@ -1,6 +1,5 @@
 -- The owners in a membership table.
 use Rattle.std.proofs.Common.{◌≡◌, ℕ, zero, suc, ◌<◌, ◌≤◌, Option, Some, None, IfSome, replicate, get_or, refl, sym}
-use Rattle.std.proofs.lemmas.Grind.{common_steps}
 use Rattle.sem_key.specs.MembershipTable.{MembershipTable, IsMembership, owner_at}
 
 -- no PE has an owner at first

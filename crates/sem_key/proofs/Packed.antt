@@ -1,11 +1,9 @@
 -- Keys, their equality and their packed words.
-use Rattle.std.proofs.Common.{◌≡◌, ℕ, ◌+◌, ◌*◌, ◌^◌, ◌<◌, ◌≤◌, Bool, true, false, eqb, cond, if◌then◌else◌, refl, sym, ◌∙◌, ap, subst, arith}
-use Rattle.std.specs.Bool.{Decides}
-use Rattle.std.proofs.lemmas.Grind.{common_steps}
+use Rattle.std.proofs.Common.{◌≡◌, ℕ, ◌≤◌, Bool, true, false, eqb, if◌then◌else◌, refl, sym, ◌∙◌, ap, arith}
 use Rattle.std.proofs.lemmas.Bool.Decides.{nat_tests}
 use Rattle.sem_key.specs.declared.key.Kind.{Kind}
 use Rattle.sem_key.specs.declared.key.Kind.TheVariants.{Mem as MemKind, Recv as RecvKind, Send as SendKind, Serv as ServKind, Sess as SessKind}
-use Rattle.sem_key.specs.KeyName.{KeyName, IsValidKey, kind_number, packed, key_eq, key_lt}
+use Rattle.sem_key.specs.KeyName.{KeyName, IsValidKey, kind_number, packed, key_eq}
 
 -- the kind of a number
 abbrev kind_of : ℕ → Kind

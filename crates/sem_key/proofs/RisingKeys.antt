@@ -1,21 +1,20 @@
 -- What a search finds among rising keys, and what an edit at that place does.
-use Rattle.std.proofs.Common.{◌≡◌, ℕ, suc, ◌+◌, ◌-◌, ◌<◌, ◌≤◌, Bool, true, false, List, [], ◌∷◌, ◌++◌, length, take, drop, get_or, Some, None, Result, Ok, Err, IfOk, IfErr, not, refl, sym, ◌∙◌, ap, subst, inl, inr, add-one, arith}
-use Rattle.std.specs.List.{All, AllPairs, AllWithin, Contains, filter, insert, remove, slice_get}
+use Rattle.std.proofs.Common.{◌≡◌, ℕ, suc, ◌+◌, ◌-◌, ◌<◌, ◌≤◌, List, ◌∷◌, length, take, drop, get_or, Some, Result, Ok, Err, IfOk, IfErr, not, refl, sym, ap, subst, inl, inr, add-one, arith}
+use Rattle.std.specs.List.{AllWithin, Contains, insert, remove, slice_get}
 use Rattle.std.specs.List.Sorted.{IsSearchInRange, IsBinarySearchResult, IsNonDecreasingBy}
 use Rattle.std.specs.Ordering.{nat_cmp, ordering_index}
 use Rattle.std.proofs.lemmas.Cmp.{ranked}
-use Rattle.std.proofs.lemmas.List.Edits.{length-insert, get_or-insert_below, get_or-insert_at, get_or-insert_above, length-remove}
+use Rattle.std.proofs.lemmas.List.Edits.{length-insert, get_or-insert_below, get_or-insert_at, get_or-insert_above}
 use Rattle.std.proofs.lemmas.List.Quantifiers.{all_pairs_remove}
 use Rattle.std.proofs.lemmas.List.Elements.{All-append, All-cons, All-take, All-drop}
 use Rattle.std.proofs.lemmas.Bool.Decides.{nat_tests}
 use Rattle.std.proofs.lemmas.Bool.{cases_lt}
 use Rattle.std.proofs.lemmas.Option.{slice_get_read, slice_get_within, get_or_from_slice_get}
 use Rattle.std.proofs.Math.Seq.{split_at}
-use Rattle.std.proofs.lemmas.Grind.{common_steps}
 use Rattle.sem_key.specs.KeyName.{KeyName, IsValidKey, packed, key_eq, key_lt}
 use Rattle.sem_key.specs.KeyList.{IsRising, IsKeyList, IsGapFor, with_key, without_key}
 use Rattle.sem_key.proofs.Packed.{packed-injective, key_eq-same, key_eq-differs}
-use Rattle.sem_key.proofs.Filtered.{filter-all, filter-none, filter-front, filter-back, filter-others}
+use Rattle.sem_key.proofs.Filtered.{filter-all, filter-front, filter-back, filter-others}
 
 module _ (ks : List KeyName) (is_list : IsKeyList ks) (k : KeyName) where
   -- the comparisons with k rise along the list, as a binary search asks

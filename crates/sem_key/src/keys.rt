@@ -2,8 +2,9 @@ ghost use Rattle.std.specs.Prelude.{◌≡◌, ◌+◌, ◌<◌, ◌≤◌, ◌�
 ghost use Rattle.sem_key.specs.KeyName.{IsValidKey};
 ghost use Rattle.sem_key.specs.KeyList.{IsRising, IsGapFor, with_key, without_key};
 
+use crate::OutOfMemory;
 use crate::key::{Key, pack};
-use std::alloc::{AllocError as OutOfMemory, Global};
+use std::alloc::Global;
 use std::marker::Model;
 
 /// Distinct keys in rising key order.

@@ -8,11 +8,11 @@ pub enum Object {
     Mem { base: u32, len: u32, rights: u8 },
     /// A gate that receives messages into so many slots, 1 to 64.
     Recv { slots: u8 },
-    /// A gate that sends to the receive gate with that key, under a label, with 1 to 64 credits.
+    /// A gate that sends to the receive gate of that key, under a label, with 1 to 64 credits.
     Send { gate: Key, label: u32, credits: u8 },
     /// The service with that name.
     Serv { name: u8 },
-    /// The session with the service of that key, which `ident` opened.
+    /// The session with the service of that key, which the VPE `ident` (0 to 63) opened.
     Sess { service: Key, ident: u16 },
 }
 

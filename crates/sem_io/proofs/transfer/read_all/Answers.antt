@@ -1,5 +1,5 @@
-use Rattle.std.proofs.Common.{◌+◌, ◌≤◌, length, take, rules, arith, length-take, vec_len}
-use Rattle.sem_io.specs.SourceBytes.{Takes, TakesAtMost}
+use Rattle.std.proofs.Common.{◌+◌, ◌≤◌, length, take, arith}
+use Rattle.sem_io.specs.SourceBytes.{TakesAtMost}
 use Rattle.std.proofs.lemmas.Grind.{common_steps}
 use Rattle.sem_io.proofs.Moves.{reads_at_most, holds_on_err}
 use Rattle.sem_io.proofs.transfer.read_all.Goals as goal

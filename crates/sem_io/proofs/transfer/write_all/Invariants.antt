@@ -1,5 +1,4 @@
-use Rattle.std.proofs.Common.{◌≤◌, ◌-◌, length, take}
-use Rattle.sem_io.specs.SinkBytes.{Appends}
+use Rattle.std.proofs.Common.{◌-◌, length}
 use Rattle.sem_io.proofs.Moves.{IsWriting}
 use Rattle.sem_io.proofs.transfer.write_all.Given as goal
 

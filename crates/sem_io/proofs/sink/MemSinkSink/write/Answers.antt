@@ -1,4 +1,4 @@
-use Rattle.std.proofs.Common.{arith, inl, inr}
+use Rattle.std.proofs.Common.{arith}
 use Rattle.std.proofs.lemmas.Grind.{common_steps}
 use Rattle.sem_io.proofs.sink.MemSinkSink.write.Goals as goal
 use Rattle.sem_io.proofs.sink.MemSinkSink.write.Goals.{then-len-self-via-then-len-self, then-len-self-via-else-len-self+then-contains}

@@ -1,4 +1,4 @@
-use Rattle.std.proofs.Common.{rules, arith}
+use Rattle.std.proofs.Common.{arith}
 use Rattle.std.proofs.lemmas.Grind.{common_steps}
 use Rattle.sem_io.proofs.Moves.{piece_then_rest}
 use Rattle.sem_io.proofs.source.MemSourceSource.read.Goals as goal
