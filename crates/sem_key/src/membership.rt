@@ -1,5 +1,5 @@
 ghost use Rattle.std.specs.Prelude.{◌≡◌, ◌<◌, ◌≤◌, ◌↔◌, IsSome, IfSome, IsErr, OnOk, OnErr, None, replicate};
-ghost use Rattle.sem_key.specs.MembershipTable.{owner_at, with_owner};
+ghost use Rattle.sem_key.specs.MembershipTable.{IsMembership, owner_at, with_owner};
 
 use std::marker::Model;
 use thiserror::Error;
@@ -36,7 +36,8 @@ impl Membership {
     pub fn empty(kernels: u32) -> Self
         requires some { 1 ≤ kernels }
         requires few { kernels ≤ 16 }
-        ensures { result ≡ record { kernels = kernels; owners = replicate 64 None } }
+        ensures empty { result ≡ record { kernels = kernels; owners = replicate 64 None } }
+        ensures table { IsMembership result }
     {
         Membership {
             kernels,
@@ -60,6 +61,7 @@ impl Membership {
         ensures taken { IsErr result ↔ IsSome (owner_at self.old pe) }
         ensures ok { OnOk result (self.new ≡ with_owner self.old pe kernel) }
         ensures err { OnErr result (self.new ≡ self.old) }
+        ensures table { IsMembership self.new }
     {
         let owner = &mut self.owners[usize::from(pe)];
         if owner.is_some() {

@@ -1,0 +1,21 @@
+-- Reading after a write that fills the list up to its place.
+use Rattle.std.proofs.Common.{◌≡◌, ◌≢◌, ℕ, zero, suc, List, [], ◌∷◌, get_or, refl, ap}
+use Rattle.sem_key.specs.Lists.{put}
+
+pub get_or-put_same : {X : Type 0} (d : X) (xs : List X) (i : ℕ) (x : X) → get_or (put d xs i x) i d ≡ x
+unfolding put
+get_or-put_same d [] zero x = refl
+get_or-put_same d [] (suc i) x = get_or-put_same d [] i x
+get_or-put_same d (y ∷ ys) zero x = refl
+get_or-put_same d (y ∷ ys) (suc i) x = get_or-put_same d ys i x
+
+pub get_or-put_other : {X : Type 0} (d : X) (xs : List X) (i j : ℕ) (x : X) → j ≢ i → get_or (put d xs i x) j d ≡ get_or xs j d
+unfolding put
+get_or-put_other d [] zero zero x differs = absurd (differs refl)
+get_or-put_other d [] zero (suc j) x differs = refl
+get_or-put_other d [] (suc i) zero x differs = refl
+get_or-put_other d [] (suc i) (suc j) x differs = get_or-put_other d [] i j x (λ same. differs (ap suc same))
+get_or-put_other d (y ∷ ys) zero zero x differs = absurd (differs refl)
+get_or-put_other d (y ∷ ys) zero (suc j) x differs = refl
+get_or-put_other d (y ∷ ys) (suc i) zero x differs = refl
+get_or-put_other d (y ∷ ys) (suc i) (suc j) x differs = get_or-put_other d ys i j x (λ same. differs (ap suc same))

@@ -1,0 +1,91 @@
+-- What a journal tells: which keys were made from which, what was revoked, and what should be left ("Derived notions" in docs/machine.md).
+use Rattle.std.specs.Prelude.{ℕ, zero, suc, ◌+◌, ◌==◌, Bool, false, not, List, [], ◌∷◌, ◌++◌, length, map, filter, filter_map, flat_map, find, Contains, Option, Some, if◌then◌else◌}
+use Rattle.std.specs.List.{list_any}
+use Rattle.std.specs.Option.{option_map, option_map_or}
+use Rattle.sem_key.specs.KeyName.{KeyName, key_eq}
+use Rattle.sem_key.specs.KeyList.{key_set}
+use Rattle.sem_msg.specs.declared.call.Call.TheVariants.{Revoke, Exit}
+use Rattle.sem_msg.specs.declared.event.Act.{Act}
+use Rattle.sem_msg.specs.declared.event.Act.TheVariants.{Call as Calls, Kill}
+use Rattle.sem_msg.specs.declared.entry.Detail.{Detail}
+use Rattle.sem_msg.specs.declared.entry.Detail.TheVariants.{Called}
+use Rattle.sem_msg.specs.declared.entry.Entry.{Entry}
+use Rattle.sem_msg.specs.declared.setup.Root.{Root}
+use Rattle.sem_msg.specs.declared.setup.VpeDecl.{VpeDecl}
+use Rattle.sem_msg.specs.Setup.{Setup, root_key}
+use Rattle.sem_msg.specs.Journal.{replies}
+use Rattle.sem_machine.specs.Revokes.{has_key}
+
+-- the grants, each a parent and its child, in their order
+abbrev pub grants : List Entry → List (KeyName × KeyName)
+grants J = filter_map (λ e. e.grant) J
+
+-- the keys of roots that are numbered from n on
+unfoldable pub root_keys_from : VpeDecl → ℕ → List Root → List KeyName
+root_keys_from d n [] = []
+root_keys_from d n (r ∷ rs) = root_key d n r ∷ root_keys_from d (n + 1) rs
+
+-- the keys of all roots and services
+abbrev pub root_keys : Setup → List KeyName
+root_keys T = flat_map (λ d. root_keys_from d 0 d.roots) T.vpes
+
+-- the made keys: those of roots and services, and the children of grants
+abbrev pub made : Setup → List Entry → List KeyName
+made T J = root_keys T ++ map (λ g. g.1) (grants J)
+
+-- the parent of a key, by the first grant of it
+abbrev pub parent_in : List (KeyName × KeyName) → KeyName → Option KeyName
+parent_in gs k = option_map (λ g. g.0) (find (λ g. key_eq g.1 k) gs)
+
+-- a key and the parents above it, at most n of them
+unfoldable pub line_in : ℕ → List (KeyName × KeyName) → KeyName → List KeyName
+line_in zero gs k = k ∷ []
+line_in (suc n) gs k = k ∷ option_map_or (line_in n gs) (parent_in gs k) []
+
+-- the line of a key: the key, its parent, the parent's parent, and so on
+abbrev pub line : List Entry → KeyName → List KeyName
+line J k = line_in (length J) (grants J) k
+
+-- b descends from a: a is in the line of b
+abbrev pub Descends : List Entry → KeyName → KeyName → Type 0
+Descends J a b = Contains (line J b) a
+
+-- whether a VPE ends by an act: it is killed, or calls `exit`
+abbrev pub ends : ℕ → Act → Detail → Bool
+ends v (Kill w) detail = w == v
+ends v (Calls w) (Called index Exit) = w == v
+ends v act detail = false
+
+-- whether a VPE has ended in the journal
+abbrev pub has_ended : List Entry → ℕ → Bool
+has_ended J v = list_any (λ e. ends v e.event.act e.detail) J
+
+-- the cut: the keys that a revoke began to cut off, and the made keys of the VPEs that have ended; each once
+abbrev pub cut : Setup → List Entry → List KeyName
+cut T J = key_set (filter_map (λ e. e.cut) J ++ filter (λ k. has_ended J k.vpe) (made T J))
+
+-- the code of the first reply to a VPE
+abbrev pub first_reply : List Entry → ℕ → Option ℕ
+first_reply J v = option_map (λ r. r.code) (find (λ r. r.vpe == v) (replies J))
+
+-- whether the code is there and is 0
+abbrev pub is_success : Option ℕ → Bool
+is_success code = option_map_or (λ c. c == 0) code false
+
+-- the key of a revoke that was called in an entry, if its first reply among the later entries is success
+abbrev pub revoked_by : Act → Detail → Option KeyName → List Entry → List KeyName
+revoked_by (Calls v) (Called index (Revoke src)) (Some k) later = if is_success (first_reply later v) then k ∷ [] else []
+revoked_by act detail cut' later = []
+
+-- the answered keys: a revoke of the key was called, and answered with success
+unfoldable pub answered : List Entry → List KeyName
+answered [] = []
+answered (e ∷ es) = revoked_by e.event.act e.detail e.cut es ++ answered es
+
+-- whether a key has an ancestor among these keys; a key is its own ancestor
+abbrev pub descends_from_any : List Entry → List KeyName → KeyName → Bool
+descends_from_any J ks k = list_any (has_key ks) (line J k)
+
+-- the forest: the made keys without an ancestor in the cut
+abbrev pub forest : Setup → List Entry → List KeyName
+forest T J = filter (λ k. not (descends_from_any J (cut T J) k)) (made T J)

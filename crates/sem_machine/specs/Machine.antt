@@ -1,0 +1,193 @@
+-- The machine: the sides of all kernels and the links between them, the events, and the step of each ("Events" in docs/machine.md).
+use Rattle.std.specs.Prelude.{ℕ, ◌+◌, ◌==◌, nat_lt, nat_le, Bool, true, false, not, ◌&&◌, List, [], ◌∷◌, ◌++◌, length, map, filter, flat_map, drop, slice_get, slice_index_or, Option, None, is_none, is_some}
+use Rattle.std.specs.List.{range_with_len}
+use Rattle.std.specs.Option.{option_map, option_map_or}
+use Rattle.sem_key.specs.KeyName.{KeyName}
+use Rattle.sem_key.specs.Lists.{put, in_turn}
+use Rattle.sem_msg.specs.declared.call.Call.{Call}
+use Rattle.sem_msg.specs.declared.message.Message.{Message}
+use Rattle.sem_msg.specs.declared.event.Act.{Act}
+use Rattle.sem_msg.specs.declared.event.Act.TheVariants.{Call as Calls, Fetch, Handle, Upcall, Resume, Flush, Kill}
+use Rattle.sem_msg.specs.declared.event.Event.{Event}
+use Rattle.sem_msg.specs.declared.entry.Detail.{Detail}
+use Rattle.sem_msg.specs.declared.entry.Detail.TheVariants.{Called, Carried, Asked, Nothing}
+use Rattle.sem_msg.specs.declared.entry.Entry.{Entry}
+use Rattle.sem_msg.specs.declared.setup.Root.{Root}
+use Rattle.sem_msg.specs.declared.setup.VpeDecl.{VpeDecl}
+use Rattle.sem_msg.specs.declared.state.Slot.TheVariants.{Held}
+use Rattle.sem_msg.specs.Setup.{Setup, root_key}
+use Rattle.sem_msg.specs.Journal.{kill_number}
+use Rattle.sem_machine.specs.declared.Outcome.{Outcome}
+use Rattle.sem_machine.specs.Setups.{pe_owner, kernel_of, calls_of}
+use Rattle.sem_machine.specs.Sides.{Side, no_side, row, parked, outbox, is_alive, with_row, call_counted, cap_added, with_slot, with_inbox, sent}
+use Rattle.sem_machine.specs.Steps.{Step, plain}
+use Rattle.sem_machine.specs.Ends.{ended}
+use Rattle.sem_machine.specs.Calls.{call_row}
+use Rattle.sem_machine.specs.Upcalls.{upcall_row}
+use Rattle.sem_machine.specs.Handles.{handled}
+use Rattle.sem_machine.specs.Resumes.{can_resume, resume_row}
+
+-- The start.
+
+-- a root: held at its selector, under a number that is drawn for it, without parent, child or mark
+abbrev pub root_added : VpeDecl → Root → Side → Side
+root_added d r s =
+    let k : KeyName = root_key d (row s d.vpe).next_number r in
+    with_row d.vpe (λ v. record v { next_number = v.next_number + 1 })
+    (with_slot d.vpe r.sel (Held k) (cap_added (record { key = k; parent = None; children = []; mark = None; selector = r.sel; object = r.object }) s))
+
+-- a VPE: alive, with its roots and services in the order of their lines
+abbrev pub vpe_added : VpeDecl → Side → Side
+vpe_added d s = in_turn (root_added d) d.roots (with_row d.vpe (λ v. record v { alive = true }) s)
+
+-- the side of kernel i at the start
+unfoldable pub start_side : Setup → ℕ → Side
+start_side T i = in_turn vpe_added (filter (λ d. pe_owner T d.pe == i) T.vpes) no_side
+
+-- the state of all kernels and of the links between them
+pub record World : Type 0 where
+  -- by kernel
+  pub sides : List Side
+  -- by sender and receiver, the messages in the link, the oldest first
+  pub links : List (List (List Message))
+  -- how many replies there were
+  pub replies : ℕ
+
+unfoldable pub start : Setup → World
+start T = record { sides = map (start_side T) (range_with_len 0 T.kernels); links = []; replies = 0 }
+
+abbrev pub side : World → ℕ → Side
+side W i = slice_index_or W.sides i no_side
+
+-- the link from kernel i to kernel j
+abbrev pub link : World → ℕ → ℕ → List Message
+link W i j = slice_index_or (slice_index_or W.links i []) j []
+
+abbrev pub with_side : ℕ → Side → World → World
+with_side i s W = record W { sides = put no_side W.sides i s }
+
+abbrev pub with_link : ℕ → ℕ → List Message → World → World
+with_link i j messages W = record W { links = put [] W.links i (put [] (slice_index_or W.links i []) j messages) }
+
+-- The step of one side.
+
+-- the call that the VPE makes next
+abbrev pub next_call : Setup → Side → ℕ → Option Call
+next_call T s v = slice_get (calls_of T v) (row s v).next_call
+
+-- What an act does to the side of kernel i. A fetch is handed the message that it takes out of the link.
+unfoldable pub local_step : Setup → ℕ → Side → Act → Option Message → Step
+local_step T i s (Calls v) input = option_map_or (call_row T i (call_counted v s) v) (next_call T s v) (plain s)
+local_step T i s (Fetch from) input = plain (with_inbox (option_map (λ m. (from, m)) input) s)
+local_step T i s Handle input = plain (option_map_or (λ m. handled T i (with_inbox None s) m.0 m.1) s.inbox s)
+local_step T i s (Upcall v) input = upcall_row T i s v
+local_step T i s (Resume v) input = resume_row T s v
+local_step T i s (Flush to) input = plain (sent to s)
+local_step T i s (Kill v) input = plain (ended T i v s)
+
+-- what an entry tells beside its act: the call, the message, or who was asked
+abbrev pub asked_detail : Outcome → Detail
+asked_detail o = option_map_or (λ a. Asked a.0 a.1) o.asked Nothing
+
+abbrev pub detail_of : Setup → Side → Act → Option Message → Outcome → Detail
+detail_of T s (Calls v) input o = option_map_or (λ call. Called (row s v).next_call call) (next_call T s v) Nothing
+detail_of T s (Fetch from) input o = option_map_or (λ m. Carried from m) input Nothing
+detail_of T s Handle input o = option_map_or (λ m. Carried m.0 m.1) s.inbox Nothing
+detail_of T s (Upcall v) input o = asked_detail o
+detail_of T s (Resume v) input o = Nothing
+detail_of T s (Flush to) input o = option_map_or (λ m. Carried to m) (slice_get (outbox s to) 0) Nothing
+detail_of T s (Kill v) input o = Nothing
+
+-- the VPE whose call an act answers
+abbrev pub replied_vpe : Act → ℕ
+replied_vpe (Calls v) = v
+replied_vpe (Resume v) = v
+replied_vpe act = 0
+
+-- the entry that an act of kernel i makes
+unfoldable pub local_entry : Setup → ℕ → Side → Act → Option Message → Entry
+local_entry T i s act input =
+    let o : Outcome = (local_step T i s act input).outcome in
+    record {
+      event = record { kernel = i; act = act };
+      detail = detail_of T s act input o;
+      grant = o.grant;
+      cut = o.cut;
+      reply = option_map (λ code. record { vpe = replied_vpe act; code = code }) o.reply;
+    }
+
+-- Which acts are enabled.
+
+abbrev pub is_other_kernel : Setup → ℕ → ℕ → Bool
+is_other_kernel T i j = nat_lt j T.kernels && not (j == i)
+
+-- whether an act of kernel i is enabled as far as its side tells, without the links and the replies
+unfoldable pub is_locally_enabled : Setup → ℕ → Side → Act → Bool
+is_locally_enabled T i s (Calls v) = (kernel_of T v == i) && (is_alive s v && (is_none (parked s v) && is_some (next_call T s v)))
+is_locally_enabled T i s (Resume v) = (kernel_of T v == i) && can_resume (parked s v)
+is_locally_enabled T i s (Upcall v) = (kernel_of T v == i) && (is_alive s v && is_some (slice_get (row s v).asks 0))
+is_locally_enabled T i s Handle = is_some s.inbox
+is_locally_enabled T i s (Fetch j) = is_other_kernel T i j && is_none s.inbox
+is_locally_enabled T i s (Flush j) = is_other_kernel T i j && is_some (slice_get (outbox s j) 0)
+is_locally_enabled T i s (Kill v) = (kernel_of T v == i) && (is_alive s v && is_some (kill_number T v))
+
+-- whether the links and the replies allow it: a fetch finds a message, a flush finds a link with room, a kill is due
+abbrev pub is_allowed : Setup → World → ℕ → Act → Bool
+is_allowed T W i (Calls v) = true
+is_allowed T W i (Resume v) = true
+is_allowed T W i (Upcall v) = true
+is_allowed T W i Handle = true
+is_allowed T W i (Fetch j) = is_some (slice_get (link W j i) 0)
+is_allowed T W i (Flush j) = nat_lt (length (link W i j)) 4
+is_allowed T W i (Kill v) = option_map_or (λ n. nat_le n W.replies) (kill_number T v) false
+
+unfoldable pub is_enabled : Setup → World → Event → Bool
+is_enabled T W e = nat_lt e.kernel T.kernels && (is_locally_enabled T e.kernel (side W e.kernel) e.act && is_allowed T W e.kernel e.act)
+
+abbrev pub event : ℕ → Act → Event
+event i act = record { kernel = i; act = act }
+
+-- All events of kernel i: the calls, resumes and upcalls by VPE, the handling, the fetches and flushes by kernel, the kills by VPE.
+abbrev pub kernel_events : Setup → ℕ → List Event
+kernel_events T i =
+    map (λ d. event i (Calls d.vpe)) T.vpes
+    ++ map (λ d. event i (Resume d.vpe)) T.vpes
+    ++ map (λ d. event i (Upcall d.vpe)) T.vpes
+    ++ (event i Handle ∷ [])
+    ++ map (λ j. event i (Fetch j)) (range_with_len 0 T.kernels)
+    ++ map (λ j. event i (Flush j)) (range_with_len 0 T.kernels)
+    ++ map (λ k. event i (Kill k.0)) T.kills
+
+abbrev pub all_events : Setup → List Event
+all_events T = flat_map (kernel_events T) (range_with_len 0 T.kernels)
+
+-- the enabled events, in their order
+unfoldable pub enabled : Setup → World → List Event
+enabled T W = filter (is_enabled T W) (all_events T)
+
+-- The step of the world.
+
+-- the message that an act takes out of a link
+abbrev pub input_of : World → ℕ → Act → Option Message
+input_of W i (Fetch j) = slice_get (link W j i) 0
+input_of W i act = None
+
+-- a fetch takes the oldest message out of a link, a flush moves the oldest waiting message into one
+abbrev pub link_moved : ℕ → Side → Act → World → World
+link_moved i s (Fetch j) W = with_link j i (drop 1 (link W j i)) W
+link_moved i s (Flush j) W = option_map_or (λ m. with_link i j (link W i j ++ m ∷ []) W) (slice_get (outbox s j) 0) W
+link_moved i s act W = W
+
+abbrev pub reply_counted : Outcome → World → World
+reply_counted o W = record W { replies = option_map_or (λ code. W.replies + 1) o.reply W.replies }
+
+-- the world after an event
+unfoldable pub after : Setup → World → Event → World
+after T W e =
+    let s : Side = side W e.kernel in
+    let x : Step = local_step T e.kernel s e.act (input_of W e.kernel e.act) in
+    reply_counted x.outcome (link_moved e.kernel s e.act (with_side e.kernel x.side W))
+
+-- the entry that an event makes
+unfoldable pub entry_of : Setup → World → Event → Entry
+entry_of T W e = local_entry T e.kernel (side W e.kernel) e.act (input_of W e.kernel e.act)

@@ -1,0 +1,71 @@
+-- What a setup says of VPEs, owners, services and denies ("Setup" and "Owners" in docs/machine.md).
+use Rattle.std.specs.Prelude.{◌≡◌, ℕ, ◌==◌, Bool, false, ◌&&◌, List, [], find, Option, unwrap_or}
+use Rattle.std.specs.List.{list_any}
+use Rattle.std.specs.Option.{option_map, option_map_or, option_and_then}
+use Rattle.sem_key.specs.KeyName.{KeyName, key_eq}
+use Rattle.sem_key.specs.PlaceName.{PlaceName}
+use Rattle.sem_key.specs.MembershipTable.{owner_at}
+use Rattle.sem_msg.specs.declared.call.Call.{Call}
+use Rattle.sem_msg.specs.declared.setup.VpeDecl.{VpeDecl}
+use Rattle.sem_msg.specs.declared.setup.Service.{Service}
+use Rattle.sem_msg.specs.Setup.{Setup}
+
+-- the declaration of a VPE
+abbrev pub decl : Setup → ℕ → Option VpeDecl
+decl T v = find (λ d. d.vpe == v) T.vpes
+
+-- the PE of a VPE; 64, which is no PE, where it is not declared
+abbrev pub pe_of : Setup → ℕ → ℕ
+pe_of T v = option_map_or (λ d. d.pe) (decl T v) 64
+
+-- the calls of a VPE
+abbrev pub calls_of : Setup → ℕ → List Call
+calls_of T v = option_map_or (λ d. d.calls) (decl T v) []
+
+-- whether a VPE is declared
+abbrev pub is_declared : Setup → ℕ → Bool
+is_declared T v = list_any (λ d. d.vpe == v) T.vpes
+
+-- whether a VPE is declared, and with that PE
+abbrev pub is_declared_at : Setup → ℕ → ℕ → Bool
+is_declared_at T pe v = option_map_or (λ d. d.pe == pe) (decl T v) false
+
+-- the kernel that owns a PE; the number of kernels, which is no kernel, where none does
+abbrev pub pe_owner : Setup → ℕ → ℕ
+pe_owner T pe = unwrap_or (owner_at T.owners pe) T.kernels
+
+-- the kernel that owns a key
+abbrev pub owner_of : Setup → KeyName → ℕ
+owner_of T k = pe_owner T k.pe
+
+-- the kernel that owns a place
+abbrev pub place_owner : Setup → PlaceName → ℕ
+place_owner T p = pe_owner T p.pe
+
+-- the kernel of a VPE; the number of kernels, which is no kernel, where it is not declared
+abbrev pub kernel_of : Setup → ℕ → ℕ
+kernel_of T v = option_map_or (λ d. pe_owner T d.pe) (decl T v) T.kernels
+
+-- a key is local to the kernel that owns it, and remote to every other
+abbrev pub IsLocal : Setup → ℕ → KeyName → Type 0
+IsLocal T i k = owner_of T k ≡ i
+
+-- whether a key is local to kernel i
+abbrev pub is_local : Setup → ℕ → KeyName → Bool
+is_local T i k = owner_of T k == i
+
+-- whether v refuses what the asker asks
+abbrev pub denies : Setup → ℕ → ℕ → Bool
+denies T v asker = list_any (λ d. (d.0 == v) && (d.1 == asker)) T.denies
+
+-- the service of a name
+abbrev pub service_named : Setup → ℕ → Option Service
+service_named T name = find (λ s. s.name == name) T.services
+
+-- the selector that a service of that name offers under an index
+abbrev pub offer_named : Setup → ℕ → ℕ → Option ℕ
+offer_named T index name = option_map (λ o. o.sel) (find (λ o. (o.name == name) && (o.index == index)) T.offers)
+
+-- the selector that the service of that key offers under an index
+abbrev pub offered : Setup → KeyName → ℕ → Option ℕ
+offered T service index = option_and_then (λ s. offer_named T index s.name) (find (λ s. key_eq s.key service) T.services)

@@ -1,0 +1,228 @@
+-- The side of a kernel, how it is read, and the small changes of it ("State" in docs/machine.md).
+-- Each change names the one field of the side that it writes.
+use Rattle.std.specs.Prelude.{ℕ, ◌+◌, ◌==◌, nat_lt, Bool, false, not, List, [], ◌∷◌, ◌++◌, length, map, filter, find, drop, slice_index_or, Option, Some, None, is_some, if◌then◌else◌}
+use Rattle.std.specs.List.{list_any}
+use Rattle.std.specs.Option.{option_map_or}
+use Rattle.sem_key.specs.declared.object.Object.{Object}
+use Rattle.sem_key.specs.KeyName.{KeyName, key_eq, key_lt}
+use Rattle.sem_key.specs.Lists.{change, put}
+use Rattle.sem_key.specs.KeyList.{with_key, without_key}
+use Rattle.sem_key.specs.Capability.{Capability}
+use Rattle.sem_msg.specs.declared.message.Message.{Message}
+use Rattle.sem_msg.specs.declared.state.Slot.{Slot}
+use Rattle.sem_msg.specs.declared.state.Slot.TheVariants.{Free, Held, Promised}
+use Rattle.sem_msg.specs.declared.state.Ask.{Ask}
+use Rattle.sem_msg.specs.declared.state.Parked.{Parked}
+use Rattle.sem_msg.specs.declared.state.Parked.TheVariants.{Ready}
+use Rattle.sem_msg.specs.declared.state.Pending.{Pending}
+use Rattle.sem_msg.specs.declared.state.Up.{Up}
+use Rattle.sem_msg.specs.Rows.{JobRow, Endpoint, VpeRow, no_vpe}
+
+pub record Side : Type 0 where
+  -- the capabilities that it holds, in rising key order
+  pub caps : List Capability
+  -- what it keeps of each VPE, by number; of the VPEs of other kernels it keeps nothing
+  pub vpes : List VpeRow
+  -- the delegations from other kernels that were accepted and are not acknowledged yet
+  pub pendings : List Pending
+  -- the open jobs, in the order in which they were opened
+  pub jobs : List JobRow
+  -- the id of the next job
+  pub next_job : ℕ
+  -- the message that was fetched and not handled yet, after its sender
+  pub inbox : Option (ℕ × Message)
+  -- by kernel, the messages that wait to be sent to it
+  pub outs : List (List Message)
+
+-- a kernel that keeps nothing
+abbrev pub no_side : Side
+no_side = record { caps = []; vpes = []; pendings = []; jobs = []; next_job = 0; inbox = None; outs = [] }
+
+-- Reading.
+
+-- what is kept of a VPE
+abbrev pub row : Side → ℕ → VpeRow
+row s v = slice_index_or s.vpes v no_vpe
+
+-- whether a VPE of this kernel is alive
+abbrev pub is_alive : Side → ℕ → Bool
+is_alive s v = (row s v).alive
+
+-- the state in which a call of the VPE is parked
+abbrev pub parked : Side → ℕ → Option Parked
+parked s v = (row s v).parked
+
+-- the held capability of that key
+abbrev pub cap : Side → KeyName → Option Capability
+cap s k = find (λ c. key_eq c.key k) s.caps
+
+-- a selector of a VPE
+abbrev pub slot : Side → ℕ → ℕ → Slot
+slot s v sel = slice_index_or (row s v).slots sel Free
+
+-- the capability that stands in a slot
+abbrev pub cap_in : Side → Slot → Option Capability
+cap_in s Free = None
+cap_in s (Held k) = cap s k
+cap_in s Promised = None
+
+-- the capability at a selector of a VPE
+abbrev pub own : Side → ℕ → ℕ → Option Capability
+own s v sel = cap_in s (slot s v sel)
+
+-- what an endpoint of a VPE is bound to
+abbrev pub endpoint : Side → ℕ → ℕ → Option Endpoint
+endpoint s v ep = slice_index_or (row s v).endpoints ep None
+
+-- the open job of that id
+abbrev pub job : Side → ℕ → Option JobRow
+job s j = find (λ x. x.id == j) s.jobs
+
+-- the pending delegation of that key
+abbrev pub pending : Side → KeyName → Option Pending
+pending s k = find (λ p. key_eq p.key k) s.pendings
+
+-- the messages that wait to be sent to kernel j
+abbrev pub outbox : Side → ℕ → List Message
+outbox s j = slice_index_or s.outs j []
+
+-- whether a job has marked the capability
+abbrev pub is_marked : Option Capability → Bool
+is_marked o = option_map_or (λ c. is_some c.mark) o false
+
+-- Changes of what is kept of a VPE.
+
+-- the row of the VPE changed
+abbrev pub with_row : ℕ → (VpeRow → VpeRow) → Side → Side
+with_row v f s = record s { vpes = put no_vpe s.vpes v (f (row s v)) }
+
+-- one more call was made
+abbrev pub call_counted : ℕ → Side → Side
+call_counted v s = with_row v (λ r. record r { next_call = r.next_call + 1 }) s
+
+-- one more number was drawn
+abbrev pub drawn : ℕ → Side → Side
+drawn v s = with_row v (λ r. record r { next_number = r.next_number + 1 }) s
+
+-- the selector is in that state
+abbrev pub with_slot : ℕ → ℕ → Slot → Side → Side
+with_slot v sel state s = with_row v (λ r. record r { slots = put Free r.slots sel state }) s
+
+-- the selector is promised
+abbrev pub promised : ℕ → ℕ → Side → Side
+promised v sel s = with_slot v sel Promised s
+
+-- the selector is free
+abbrev pub freed : ℕ → ℕ → Side → Side
+freed v sel s = with_slot v sel Free s
+
+-- a call of the VPE is parked
+abbrev pub parked_as : ℕ → Parked → Side → Side
+parked_as v state s = with_row v (λ r. record r { parked = Some state }) s
+
+-- no call of the VPE is parked
+abbrev pub unparked : ℕ → Side → Side
+unparked v s = with_row v (λ r. record r { parked = None }) s
+
+-- the parked call of the VPE will end with that code
+abbrev pub ready : ℕ → ℕ → Side → Side
+ready code v s = parked_as v (Ready code) s
+
+-- the VPE is asked, unless 64 asks wait already
+abbrev pub asked : ℕ → Ask → Side → Side
+asked v a s = with_row v (λ r. record r { asks = if nat_lt (length r.asks) 64 then r.asks ++ a ∷ [] else r.asks }) s
+
+-- the oldest ask is taken out
+abbrev pub ask_taken : ℕ → Side → Side
+ask_taken v s = with_row v (λ r. record r { asks = drop 1 r.asks }) s
+
+-- the VPE is dead, and is asked nothing any more
+abbrev pub buried : ℕ → Side → Side
+buried v s = with_row v (λ r. record r { alive = false; asks = [] }) s
+
+-- the endpoint is bound so
+abbrev pub with_endpoint : ℕ → ℕ → Option Endpoint → Side → Side
+with_endpoint v ep e s = with_row v (λ r. record r { endpoints = put None r.endpoints ep e }) s
+
+-- the endpoint without its binding, where it is bound to one of these keys
+abbrev pub unbound_from : List KeyName → Option Endpoint → Option Endpoint
+unbound_from ks None = None
+unbound_from ks (Some e) = if list_any (key_eq e.key) ks then None else Some e
+
+-- every endpoint that is bound to one of these keys is unbound
+abbrev pub unbind_all : List KeyName → Side → Side
+unbind_all ks s = record s { vpes = map (λ (r : VpeRow). record r { endpoints = map {A = Option Endpoint} (unbound_from ks) r.endpoints }) s.vpes }
+
+-- Changes of the capabilities.
+
+-- the capabilities with one more, behind those that come before it in rising key order
+abbrev pub with_cap : List Capability → Capability → List Capability
+with_cap cs c = filter (λ x. key_lt x.key c.key) cs ++ c ∷ filter (λ x. not (key_lt x.key c.key)) cs
+
+-- the capability is held
+abbrev pub cap_added : Capability → Side → Side
+cap_added c s = record s { caps = with_cap s.caps c }
+
+-- the capability of that key changed
+abbrev pub cap_changed : KeyName → (Capability → Capability) → Side → Side
+cap_changed k f s = record s { caps = change (λ c. key_eq c.key k) f s.caps }
+
+-- the parent leads to the child
+abbrev pub linked : KeyName → KeyName → Side → Side
+linked parent child s = cap_changed parent (λ c. record c { children = with_key c.children child }) s
+
+-- the parent does not lead to the child
+abbrev pub unlinked : KeyName → KeyName → Side → Side
+unlinked parent child s = cap_changed parent (λ c. record c { children = without_key c.children child }) s
+
+-- the capabilities of these keys are marked by the job
+abbrev pub mark_all : List KeyName → ℕ → Side → Side
+mark_all ks j s = record s { caps = change (λ c. list_any (key_eq c.key) ks) (λ c. record c { mark = Some j }) s.caps }
+
+-- whether the job has marked the capability
+abbrev pub is_marked_by : ℕ → Capability → Bool
+is_marked_by j c = option_map_or (λ m. m == j) c.mark false
+
+-- what the job has marked is not held any more
+abbrev pub caps_removed : ℕ → Side → Side
+caps_removed j s = record s { caps = filter (λ c. not (is_marked_by j c)) s.caps }
+
+-- Installed: held with this parent, object and selector, without child or mark, and the selector holds it.
+abbrev pub installed : KeyName → Option KeyName → ℕ → Object → Side → Side
+installed k parent sel object s =
+    with_slot k.vpe sel (Held k) (cap_added (record { key = k; parent = parent; children = []; mark = None; selector = sel; object = object }) s)
+
+-- Changes of pending delegations, jobs and messages.
+
+-- one more delegation is pending
+abbrev pub pending_added : Pending → Side → Side
+pending_added p s = record s { pendings = s.pendings ++ p ∷ [] }
+
+-- the delegation of that key is pending no more
+abbrev pub pending_removed : KeyName → Side → Side
+pending_removed k s = record s { pendings = filter (λ p. not (key_eq p.key k)) s.pendings }
+
+-- a job is opened
+abbrev pub job_opened : KeyName → Option Up → List ℕ → Side → Side
+job_opened root up waiters s =
+    record s { jobs = s.jobs ++ record { id = s.next_job; root = root; up = up; waiters = waiters; count = 0 } ∷ []; next_job = s.next_job + 1 }
+
+-- the job changed
+abbrev pub job_changed : ℕ → (JobRow → JobRow) → Side → Side
+job_changed j f s = record s { jobs = change (λ x. x.id == j) f s.jobs }
+
+-- the job is gone
+abbrev pub job_removed : ℕ → Side → Side
+job_removed j s = record s { jobs = filter (λ x. not (x.id == j)) s.jobs }
+
+-- the message waits to be sent to kernel j
+abbrev pub send : ℕ → Message → Side → Side
+send j m s = record s { outs = put [] s.outs j (outbox s j ++ m ∷ []) }
+
+-- the next message for kernel j waits no more
+abbrev pub sent : ℕ → Side → Side
+sent j s = record s { outs = put [] s.outs j (drop 1 (outbox s j)) }
+
+-- what is in the inbox
+abbrev pub with_inbox : Option (ℕ × Message) → Side → Side
+with_inbox message s = record s { inbox = message }

@@ -1,0 +1,22 @@
+use Rattle.std.proofs.Common.{arith}
+use Rattle.sem_msg.proofs.OutboxRows.{IsRoomier-tried, IsRoomier-more, messages-kept, invariant-kept, invariant-raised}
+use Rattle.sem_msg.proofs.outboxes.Outboxes.room.Goals as goal
+
+-- one more outbox has room
+pub loop-outbox-preserved : goal.loop-outbox-preserved
+loop-outbox-preserved c = IsRoomier-more _ _ _ _ c.outbox-item.result _ c.loop-outbox.invariant (omega arith) c.in_ok-room.ensures.messages c.in_ok-room.ensures.spare c.in_ok-room.ensures.room
+
+-- memory was refused at an outbox
+pub invariant_of-self : goal.invariant_of-self
+invariant_of-self c =
+    let tried = IsRoomier-tried _ _ _ _ c.outbox-item.result _ c.loop-outbox.invariant (omega arith) c.in_err-room.ensures.messages c.in_err-room.ensures.spare in
+    invariant-kept _ _ _ _ _ _ tried c.deref_mut-outbox-items.ensures.value c.deref_mut-outbox-items.ensures.len _ c.self.invariant.0 c.self.invariant.1
+
+pub returns-in_err-room-clause-boxes : goal.returns-in_err-room-clause-boxes
+returns-in_err-room-clause-boxes c =
+    let tried = IsRoomier-tried _ _ _ _ c.outbox-item.result _ c.loop-outbox.invariant (omega arith) c.in_err-room.ensures.messages c.in_err-room.ensures.spare in
+    rw (← c.self.view_is) (messages-kept _ _ _ _ _ _ tried c.deref_mut-outbox-items.ensures.value c.deref_mut-outbox-items.ensures.len)
+
+-- all outboxes have room
+pub invariant_of-self-2 : goal.invariant_of-self-2
+invariant_of-self-2 c = invariant-raised _ _ _ _ _ _ c.loop-outbox.invariant c.deref_mut-outbox-items.ensures.value c.deref_mut-outbox-items.ensures.len (omega arith) _ _ c.max-self-inside.ensures c.self.invariant.0 c.self.invariant.1

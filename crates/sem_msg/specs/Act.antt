@@ -1,0 +1,14 @@
+-- Acts of a kernel ("Events" in docs/machine.md).
+use Rattle.std.specs.Prelude.{ℕ}
+use Rattle.sem_msg.specs.declared.event.Act.{Act}
+use Rattle.sem_msg.specs.declared.event.Act.TheVariants.{Call as Calls, Fetch, Handle, Upcall, Resume, Flush, Kill}
+
+-- the number that stands for an act
+abbrev pub number_of : Act → ℕ
+number_of (Calls vpe) = 1
+number_of (Fetch from) = 2
+number_of Handle = 3
+number_of (Upcall vpe) = 4
+number_of (Resume vpe) = 5
+number_of (Flush to) = 6
+number_of (Kill vpe) = 7

@@ -1,0 +1,7 @@
+pub mod Act
+pub mod Message
+pub mod Calls
+pub mod Setup
+pub mod Journal
+pub mod Outboxes
+pub mod Rows

@@ -1,0 +1,45 @@
+-- What a kernel keeps of its jobs, endpoints and VPEs, as plain data ("State" in docs/machine.md).
+use Rattle.std.specs.Prelude.{ℕ, Bool, false, List, [], Option, None}
+use Rattle.sem_key.specs.declared.object.Object.{Object}
+use Rattle.sem_key.specs.KeyName.{KeyName}
+use Rattle.sem_msg.specs.declared.state.Slot.{Slot}
+use Rattle.sem_msg.specs.declared.state.Ask.{Ask}
+use Rattle.sem_msg.specs.declared.state.Parked.{Parked}
+use Rattle.sem_msg.specs.declared.state.Up.{Up}
+
+-- a job that revokes what was made from its root
+pub record JobRow : Type 0 where
+  pub id : ℕ
+  pub root : KeyName
+  -- the job that waits for this one
+  pub up : Option Up
+  -- the VPEs that wait for it, in rising order
+  pub waiters : List ℕ
+  -- how many tokens are out for it
+  pub count : ℕ
+
+-- what an endpoint is bound to
+pub record Endpoint : Type 0 where
+  pub key : KeyName
+  pub object : Object
+  -- the lengths of the messages that were sent and not yet credited, oldest first
+  pub ring : List ℕ
+
+-- what a kernel keeps of a VPE
+pub record VpeRow : Type 0 where
+  pub alive : Bool
+  -- by selector
+  pub slots : List Slot
+  -- how many numbers were drawn for its keys
+  pub next_number : ℕ
+  -- how many calls it has made
+  pub next_call : ℕ
+  -- what it is asked, oldest first
+  pub asks : List Ask
+  pub parked : Option Parked
+  -- by endpoint
+  pub endpoints : List (Option Endpoint)
+
+-- nothing is kept of a VPE of another kernel
+abbrev pub no_vpe : VpeRow
+no_vpe = record { alive = false; slots = []; next_number = 0; next_call = 0; asks = []; parked = None; endpoints = [] }

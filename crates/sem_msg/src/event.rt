@@ -1,0 +1,43 @@
+ghost use Rattle.std.specs.Prelude.{◌≡◌};
+ghost use Rattle.sem_msg.specs.Act.{number_of};
+
+/// What one kernel does in one atomic step.
+#[derive(Clone, Copy, Debug, PartialEq, Eq)]
+pub enum Act {
+    /// A VPE makes its next call.
+    Call { vpe: u16 },
+    /// The next message from another kernel goes to the inbox.
+    Fetch { from: u32 },
+    /// The message in the inbox is handled.
+    Handle,
+    /// A VPE is asked for consent.
+    Upcall { vpe: u16 },
+    /// A parked call of a VPE goes on.
+    Resume { vpe: u16 },
+    /// The next message for another kernel goes to the link.
+    Flush { to: u32 },
+    /// A VPE is killed.
+    Kill { vpe: u16 },
+}
+
+/// An act of one kernel.
+#[derive(Clone, Copy, Debug, PartialEq, Eq)]
+pub struct Event {
+    pub kernel: u32,
+    pub act: Act,
+}
+
+/// The number of the act, 1 to 7 in the order of `Act`.
+pub fn act_number(act: Act) -> u8
+    ensures { result ≡ number_of act }
+{
+    match act {
+        Act::Call { .. } => 1,
+        Act::Fetch { .. } => 2,
+        Act::Handle => 3,
+        Act::Upcall { .. } => 4,
+        Act::Resume { .. } => 5,
+        Act::Flush { .. } => 6,
+        Act::Kill { .. } => 7,
+    }
+}

@@ -1,0 +1,65 @@
+ghost use Rattle.std.specs.Prelude.{◌≡◌, ◌+◌, ◌<◌, ◌≤◌, [], ◌∷◌, ◌++◌, length, slice_get, OnOk};
+
+use crate::entry::Entry;
+use crate::reserved;
+use sem_key::OutOfMemory;
+use std::alloc::Global;
+use std::marker::Model;
+
+/// The entries of a run, in the order in which they were made.
+#[derive(Debug, Drop)]
+pub struct Journal {
+    entries: Vec<Entry>,
+}
+
+impl Model for Journal {
+    ghost use Rattle.std.specs.Prelude.{◌-◌, vec_len, vec_capacity};
+    ghost use Rattle.sem_msg.specs.Journal.{JournalList};
+
+    ghost Value = { JournalList };
+
+    ghost view = { λ j. record { entries = j.entries.items; spare = vec_capacity j.entries - vec_len j.entries } };
+}
+
+impl Journal {
+    /// No entries. Takes no memory.
+    pub fn new(alloc: Global) -> Self
+        ensures { result.entries ≡ [] }
+    {
+        Journal {
+            entries: Vec::new(alloc),
+        }
+    }
+
+    /// How many entries there are.
+    pub fn len(&self) -> usize
+        ensures { result ≡ length self.now.entries }
+    {
+        self.entries.len()
+    }
+
+    /// The entry at that place, counted from 0; none past the end.
+    pub fn get(&self, at: usize) -> Option<Entry>
+        ensures { result ≡ slice_get self.now.entries at }
+    {
+        self.entries.get(at).copied()
+    }
+
+    /// Makes room for `more` entries, so that appending them takes no memory.
+    pub fn room(&mut self, more: usize) -> Result<(), OutOfMemory>
+        ensures room { OnOk result (more ≤ self.new.spare) }
+        ensures entries { self.new.entries ≡ self.old.entries }
+        ensures spare { self.old.spare ≤ self.new.spare }
+    {
+        self.entries.reserve(more)
+    }
+
+    /// Appends the entry. Takes no memory.
+    pub fn push(&mut self, entry: Entry)
+        requires { 0 < self.old.spare }
+        ensures entries { self.new.entries ≡ self.old.entries ++ entry ∷ [] }
+        ensures spare { self.new.spare + 1 ≡ self.old.spare }
+    {
+        reserved::push(&mut self.entries, &entry);
+    }
+}

@@ -1,0 +1,28 @@
+//! What kernels say to each other and what they keep: messages, calls, events, entries, the setup of
+//! a run, and the journal.
+#![tactic(auto)]
+
+mod call;
+mod entry;
+mod event;
+mod journal;
+mod list;
+mod message;
+mod outboxes;
+mod reserved;
+mod setup;
+mod state;
+#[cfg(test)]
+mod tests;
+
+pub use call::Call;
+pub use entry::{Consent, Detail, Entry, Reply};
+pub use event::{Act, Event, act_number};
+pub use journal::Journal;
+pub use list::Seq;
+pub use message::{Message, Target};
+pub use outboxes::Outboxes;
+pub use setup::{
+    Calls, Denies, Kills, Offer, Offers, Root, Roots, Service, Services, Setup, VpeDecl, Vpes0,
+};
+pub use state::{Ask, Parked, Pending, Slot, Up};

@@ -1,0 +1,74 @@
+use sem_key::{Key, Object, Place};
+
+/// What an obtain asks for.
+#[derive(Clone, Copy, Debug, PartialEq, Eq)]
+pub enum Target {
+    /// The capability at a selector of a VPE.
+    Sel { vpe: u16, sel: u8 },
+    /// A session with the service of that key.
+    Serv { service: Key },
+    /// What the service of that key offers under an index.
+    Offer { service: Key, index: u8 },
+}
+
+/// A message from one kernel to another.
+#[derive(Clone, Copy, Debug, PartialEq, Eq)]
+pub enum Message {
+    /// A VPE asks for a capability, which would get that place.
+    ObtainReq {
+        place: Place,
+        target: Target,
+    },
+    /// It is granted.
+    ObtainOk {
+        parent: Key,
+        key: Key,
+        object: Object,
+    },
+    /// It is refused, with a code from 1 to 15.
+    ObtainNo {
+        place: Place,
+        code: u8,
+    },
+    /// A VPE offers a capability to another VPE, for that selector.
+    DelegateReq {
+        parent: Key,
+        object: Object,
+        vpe: u16,
+        sel: u8,
+    },
+    /// It is accepted, and would get that key.
+    DelegatePrepared {
+        parent: Key,
+        key: Key,
+    },
+    /// It is refused, with a code from 1 to 15.
+    DelegateNo {
+        parent: Key,
+        code: u8,
+    },
+    /// The accepted delegation holds, or does not.
+    Ack {
+        key: Key,
+        yes: bool,
+    },
+    /// The child was granted to a VPE that is dead.
+    Orphan {
+        parent: Key,
+        key: Key,
+    },
+    /// The child is to be revoked, for a job of the sender.
+    RevokeReq {
+        key: Key,
+        job: u32,
+    },
+    /// What the job of the receiver asked for is revoked.
+    RevokeDone {
+        job: u32,
+    },
+    /// The child is gone, without its parent's doing.
+    Unlink {
+        parent: Key,
+        key: Key,
+    },
+}
