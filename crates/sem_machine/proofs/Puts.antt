@@ -1,5 +1,5 @@
 -- Reading after a write that fills the list up to its place.
-use Rattle.std.proofs.Common.{◌≡◌, ◌≢◌, ℕ, zero, suc, List, [], ◌∷◌, get_or, refl, ap}
+use Rattle.std.proofs.Common.{◌≡◌, ◌≢◌, ℕ, zero, suc, ◌<◌, List, [], ◌∷◌, length, get_or, set, refl, ap, arith}
 use Rattle.sem_key.specs.Lists.{put}
 
 pub get_or-put_same : {X : Type 0} (d : X) (xs : List X) (i : ℕ) (x : X) → get_or (put d xs i x) i d ≡ x
@@ -19,3 +19,10 @@ get_or-put_other d (y ∷ ys) zero zero x differs = absurd (differs refl)
 get_or-put_other d (y ∷ ys) zero (suc j) x differs = refl
 get_or-put_other d (y ∷ ys) (suc i) zero x differs = refl
 get_or-put_other d (y ∷ ys) (suc i) (suc j) x differs = get_or-put_other d ys i j x (λ same. differs (ap suc same))
+
+-- within the list, it is the write of a slice
+pub put-set : {X : Type 0} (d : X) (xs : List X) (i : ℕ) (x : X) → i < length xs → put d xs i x ≡ set xs i x
+unfolding put
+put-set d [] i x within = absurd (omega arith)
+put-set d (y ∷ ys) zero x within = refl
+put-set d (y ∷ ys) (suc i) x within = ap (λ zs. y ∷ zs) (put-set d ys i x (omega arith))

@@ -1,5 +1,5 @@
 -- The machine: the sides of all kernels and the links between them, the events, and the step of each ("Events" in docs/machine.md).
-use Rattle.std.specs.Prelude.{ℕ, ◌+◌, ◌==◌, nat_lt, nat_le, Bool, true, false, not, ◌&&◌, List, [], ◌∷◌, ◌++◌, length, map, filter, flat_map, drop, slice_get, slice_index_or, Option, None, is_none, is_some}
+use Rattle.std.specs.Prelude.{ℕ, ◌+◌, ◌==◌, nat_lt, nat_le, Bool, true, false, not, ◌&&◌, List, [], ◌∷◌, ◌++◌, length, map, filter, flat_map, drop, slice_get, slice_index_or, Option, None, is_none, is_some, replicate}
 use Rattle.std.specs.List.{range_with_len}
 use Rattle.std.specs.Option.{option_map, option_map_or}
 use Rattle.sem_key.specs.KeyName.{KeyName}
@@ -14,7 +14,8 @@ use Rattle.sem_msg.specs.declared.entry.Detail.TheVariants.{Called, Carried, Ask
 use Rattle.sem_msg.specs.declared.entry.Entry.{Entry}
 use Rattle.sem_msg.specs.declared.setup.Root.{Root}
 use Rattle.sem_msg.specs.declared.setup.VpeDecl.{VpeDecl}
-use Rattle.sem_msg.specs.declared.state.Slot.TheVariants.{Held}
+use Rattle.sem_msg.specs.declared.state.Slot.TheVariants.{Free, Held}
+use Rattle.sem_msg.specs.Rows.{VpeRow, no_vpe}
 use Rattle.sem_msg.specs.Setup.{Setup, root_key}
 use Rattle.sem_msg.specs.Journal.{kill_number}
 use Rattle.sem_machine.specs.declared.Outcome.{Outcome}
@@ -36,13 +37,21 @@ root_added d r s =
     with_row d.vpe (λ v. record v { next_number = v.next_number + 1 })
     (with_slot d.vpe r.sel (Held k) (cap_added (record { key = k; parent = None; children = []; mark = None; selector = r.sel; object = r.object }) s))
 
--- a VPE: alive, with its roots and services in the order of their lines
+-- a VPE with nothing yet: alive, with 256 free selectors and 16 unbound endpoints
+abbrev pub new_vpe : VpeRow
+new_vpe = record no_vpe { alive = true; slots = replicate 256 Free; endpoints = replicate 16 None }
+
+-- a VPE with its roots and services, in the order of their lines
 abbrev pub vpe_added : VpeDecl → Side → Side
-vpe_added d s = in_turn (root_added d) d.roots (with_row d.vpe (λ v. record v { alive = true }) s)
+vpe_added d s = in_turn (root_added d) d.roots (with_row d.vpe (λ v. new_vpe) s)
+
+-- a side with a place for each VPE and each kernel, and nothing in them
+abbrev pub empty_side : Setup → Side
+empty_side T = record no_side { vpes = replicate 64 no_vpe; outs = replicate T.kernels [] }
 
 -- the side of kernel i at the start
 unfoldable pub start_side : Setup → ℕ → Side
-start_side T i = in_turn vpe_added (filter (λ d. pe_owner T d.pe == i) T.vpes) no_side
+start_side T i = in_turn vpe_added (filter (λ d. pe_owner T d.pe == i) T.vpes) (empty_side T)
 
 -- the state of all kernels and of the links between them
 pub record World : Type 0 where
@@ -54,7 +63,12 @@ pub record World : Type 0 where
   pub replies : ℕ
 
 unfoldable pub start : Setup → World
-start T = record { sides = map (start_side T) (range_with_len 0 T.kernels); links = []; replies = 0 }
+start T =
+    record {
+      sides = map (start_side T) (range_with_len 0 T.kernels);
+      links = replicate T.kernels (replicate T.kernels []);
+      replies = 0;
+    }
 
 abbrev pub side : World → ℕ → Side
 side W i = slice_index_or W.sides i no_side

@@ -1,6 +1,6 @@
 //! Laws about the definitions of the machine. Each is the contract of a function that does nothing.
 
-ghost use Rattle.std.specs.Prelude.{◌≡◌, ◌≢◌, ◌↔◌, ℕ, true, false, List, [], ◌++◌, Option, Some, None, All, Contains, find, map, slice_index_or};
+ghost use Rattle.std.specs.Prelude.{◌≡◌, ◌≢◌, ◌↔◌, ℕ, true, false, List, [], ◌++◌, Option, Some, None, All, Contains, find, map, ◌<◌, length, slice_index_or, slice_set};
 ghost use Rattle.std.specs.Option.{option_map};
 ghost use Rattle.sem_key.specs.KeyName.{KeyName, IsValidKey, key_eq};
 ghost use Rattle.sem_key.specs.KeyList.{IsRising};
@@ -13,10 +13,11 @@ ghost use Rattle.sem_machine.specs.Revokes.{has_key, Reached, region};
 ghost use Rattle.sem_machine.specs.Machine.{World, enabled, is_enabled};
 
 /// Reading after a write that fills the list up to its place: the element that was written is read there, and at every other
-/// place what was read before.
+/// place what was read before. Within the list it is the write of a slice.
 pub fn put_is_read<X>()
     ensures same { (d : X) (xs : List X) (i : ℕ) (x : X) → slice_index_or (put d xs i x) i d ≡ x }
     ensures other { (d : X) (xs : List X) (i j : ℕ) (x : X) → j ≢ i → slice_index_or (put d xs i x) j d ≡ slice_index_or xs j d }
+    ensures within { (d : X) (xs : List X) (i : ℕ) (x : X) → i < length xs → put d xs i x ≡ slice_set xs i x }
 {}
 
 /// What is done with each element of two joined lists in turn is done with those of the first and then with those of the second.
