@@ -1,0 +1,3 @@
+pub mod EntryText
+pub mod ReportText
+pub mod AuditList

@@ -1,0 +1,240 @@
+// What is said of an entry, as words. After want of memory each of these functions but `print_entry`
+// may have appended a part.
+ghost use Rattle.std.specs.Prelude.{◌≡◌, [], ◌∷◌, ◌++◌, decimal, OnOk, OnErr};
+ghost use Rattle.sem_text.specs.Lines.{behind_blanks, line};
+ghost use Rattle.sem_trace.specs.Words.{key_word, object_words};
+ghost use Rattle.sem_journal.specs.EntryText.{target_words, yes_or_no, message_words, act_words, consent_word, detail_words, grant_words, cut_words, reply_words, entry_words, entry_line};
+
+use sem_key::{Key, Object, OutOfMemory};
+use sem_msg::{Act, Consent, Detail, Entry, Message, Reply, Target};
+use sem_text::push_number;
+use sem_trace::{
+    push_call, push_key_word, push_named, push_number_word, push_numbers, push_object,
+    push_place_word, push_word,
+};
+use std::alloc::Global;
+
+// Appends the name and two keys, each behind a blank.
+fn push_keys(out: &mut Vec<u8>, name: &[u8], parent: &Key, key: &Key) -> Result<(), OutOfMemory>
+    ensures ok { OnOk result (out.new.items ≡ out.old.items ++ behind_blanks (name.now ∷ key_word parent.now ∷ key_word key.now ∷ [])) }
+{
+    push_word(out, name)?;
+    push_key_word(out, parent)?;
+    push_key_word(out, key)
+}
+
+// Appends the name, a key and a number, each behind a blank.
+fn push_numbered_key(
+    out: &mut Vec<u8>,
+    name: &[u8],
+    key: &Key,
+    number: u64,
+) -> Result<(), OutOfMemory>
+    ensures ok { OnOk result (out.new.items ≡ out.old.items ++ behind_blanks (name.now ∷ key_word key.now ∷ decimal number ∷ [])) }
+{
+    push_word(out, name)?;
+    push_key_word(out, key)?;
+    push_number_word(out, number)
+}
+
+// Appends the name and what is delegated to which selector of which VPE, each word behind a blank.
+fn push_delegation(
+    out: &mut Vec<u8>,
+    name: &[u8],
+    parent: &Key,
+    object: &Object,
+    vpe: u16,
+    sel: u8,
+) -> Result<(), OutOfMemory>
+    ensures ok { OnOk result (out.new.items ≡ out.old.items ++ behind_blanks (name.now ∷ key_word parent.now ∷ object_words object.now ++ decimal vpe ∷ decimal sel ∷ [])) }
+{
+    push_word(out, name)?;
+    push_key_word(out, parent)?;
+    push_object(out, object)?;
+    push_numbers(out, &[u64::from(vpe), u64::from(sel)])
+}
+
+/// Appends the words of the target, each behind a blank.
+pub fn push_target(out: &mut Vec<u8>, target: &Target) -> Result<(), OutOfMemory>
+    ensures ok { OnOk result (out.new.items ≡ out.old.items ++ behind_blanks (target_words target.now)) }
+{
+    match target {
+        Target::Sel { vpe, sel } => push_named(out, b"sel", &[u64::from(*vpe), u64::from(*sel)]),
+        Target::Serv { service } => {
+            push_word(out, b"serv")?;
+            push_key_word(out, service)
+        }
+        Target::Offer { service, index } => {
+            push_word(out, b"offer")?;
+            push_key_word(out, service)?;
+            push_number_word(out, u64::from(*index))
+        }
+    }
+}
+
+// Appends yes or no behind a blank.
+fn push_yes_or_no(out: &mut Vec<u8>, yes: bool) -> Result<(), OutOfMemory>
+    ensures ok { OnOk result (out.new.items ≡ out.old.items ++ 32 ∷ yes_or_no yes) }
+{
+    if yes {
+        push_word(out, b"yes")
+    } else {
+        push_word(out, b"no")
+    }
+}
+
+/// Appends the words of the message, each behind a blank.
+pub fn push_message(out: &mut Vec<u8>, message: &Message) -> Result<(), OutOfMemory>
+    ensures ok { OnOk result (out.new.items ≡ out.old.items ++ behind_blanks (message_words message.now)) }
+{
+    match message {
+        Message::ObtainReq { place, target } => {
+            push_word(out, b"obtain-req")?;
+            push_place_word(out, place)?;
+            push_target(out, target)
+        }
+        Message::ObtainOk {
+            parent,
+            key,
+            object,
+        } => {
+            push_keys(out, b"obtain-ok", parent, key)?;
+            push_object(out, object)
+        }
+        Message::ObtainNo { place, code } => {
+            push_word(out, b"obtain-no")?;
+            push_place_word(out, place)?;
+            push_number_word(out, u64::from(*code))
+        }
+        Message::DelegateReq {
+            parent,
+            object,
+            vpe,
+            sel,
+        } => push_delegation(out, b"delegate-req", parent, object, *vpe, *sel),
+        Message::DelegatePrepared { parent, key } => {
+            push_keys(out, b"delegate-prepared", parent, key)
+        }
+        Message::DelegateNo { parent, code } => {
+            push_numbered_key(out, b"delegate-no", parent, u64::from(*code))
+        }
+        Message::Ack { key, yes } => {
+            push_word(out, b"ack")?;
+            push_key_word(out, key)?;
+            push_yes_or_no(out, *yes)
+        }
+        Message::Orphan { parent, key } => push_keys(out, b"orphan", parent, key),
+        Message::RevokeReq { key, job } => {
+            push_numbered_key(out, b"revoke-req", key, u64::from(*job))
+        }
+        Message::RevokeDone { job } => push_named(out, b"revoke-done", &[u64::from(*job)]),
+        Message::Unlink { parent, key } => push_keys(out, b"unlink", parent, key),
+    }
+}
+
+/// Appends the words of the act, each behind a blank. The kernel of a fetch or a flush is not among them.
+pub fn push_act(out: &mut Vec<u8>, act: &Act) -> Result<(), OutOfMemory>
+    ensures ok { OnOk result (out.new.items ≡ out.old.items ++ behind_blanks (act_words act.now)) }
+{
+    match act {
+        Act::Call { vpe } => push_named(out, b"call", &[u64::from(*vpe)]),
+        Act::Fetch { .. } => push_word(out, b"fetch"),
+        Act::Handle => push_word(out, b"handle"),
+        Act::Upcall { vpe } => push_named(out, b"upcall", &[u64::from(*vpe)]),
+        Act::Resume { vpe } => push_named(out, b"resume", &[u64::from(*vpe)]),
+        Act::Flush { .. } => push_word(out, b"flush"),
+        Act::Kill { vpe } => push_named(out, b"kill", &[u64::from(*vpe)]),
+    }
+}
+
+/// Appends the answer behind a blank.
+pub fn push_consent(out: &mut Vec<u8>, answer: &Consent) -> Result<(), OutOfMemory>
+    ensures ok { OnOk result (out.new.items ≡ out.old.items ++ 32 ∷ consent_word answer.now) }
+{
+    match answer {
+        Consent::Yes => push_word(out, b"yes"),
+        Consent::No => push_word(out, b"no"),
+        Consent::Dropped => push_word(out, b"drop"),
+    }
+}
+
+/// Appends the words that say what an event was about, each behind a blank.
+pub fn push_detail(out: &mut Vec<u8>, detail: &Detail) -> Result<(), OutOfMemory>
+    ensures ok { OnOk result (out.new.items ≡ out.old.items ++ behind_blanks (detail_words detail.now)) }
+{
+    match detail {
+        Detail::Called { index, call } => {
+            push_number_word(out, u64::from(*index))?;
+            push_call(out, call)
+        }
+        Detail::Carried { peer, message } => {
+            push_number_word(out, u64::from(*peer))?;
+            push_message(out, message)
+        }
+        Detail::Asked { asker, answer } => {
+            push_number_word(out, u64::from(*asker))?;
+            push_consent(out, answer)
+        }
+        Detail::Nothing => Ok(()),
+    }
+}
+
+/// Appends the words of the grant, each behind a blank; nothing where there is none.
+pub fn push_grant(out: &mut Vec<u8>, grant: &Option<(Key, Key)>) -> Result<(), OutOfMemory>
+    ensures ok { OnOk result (out.new.items ≡ out.old.items ++ behind_blanks (grant_words grant.now)) }
+{
+    match grant {
+        Some((parent, child)) => push_keys(out, b"grant", parent, child),
+        None => Ok(()),
+    }
+}
+
+/// Appends the words of the cut, each behind a blank; nothing where there is none.
+pub fn push_cut(out: &mut Vec<u8>, cut: &Option<Key>) -> Result<(), OutOfMemory>
+    ensures ok { OnOk result (out.new.items ≡ out.old.items ++ behind_blanks (cut_words cut.now)) }
+{
+    match cut {
+        Some(key) => {
+            push_word(out, b"cut")?;
+            push_key_word(out, key)
+        }
+        None => Ok(()),
+    }
+}
+
+/// Appends the words of the reply, each behind a blank; nothing where there is none.
+pub fn push_reply(out: &mut Vec<u8>, reply: &Option<Reply>) -> Result<(), OutOfMemory>
+    ensures ok { OnOk result (out.new.items ≡ out.old.items ++ behind_blanks (reply_words reply.now)) }
+{
+    match reply {
+        Some(reply) => push_named(
+            out,
+            b"reply",
+            &[u64::from(reply.vpe), u64::from(reply.code)],
+        ),
+        None => Ok(()),
+    }
+}
+
+/// Appends the line of the entry.
+pub fn push_entry(out: &mut Vec<u8>, entry: &Entry) -> Result<(), OutOfMemory>
+    ensures ok { OnOk result (out.new.items ≡ out.old.items ++ line (entry_words entry.now)) }
+{
+    push_number(out, u64::from(entry.event.kernel))?;
+    push_act(out, &entry.event.act)?;
+    push_detail(out, &entry.detail)?;
+    push_grant(out, &entry.grant)?;
+    push_cut(out, &entry.cut)?;
+    push_reply(out, &entry.reply)?;
+    Ok(out.push(b'\n')?)
+}
+
+/// Appends the line of the entry. After want of memory `out` is as before.
+pub fn print_entry(alloc: Global, entry: &Entry, out: &mut Vec<u8>) -> Result<(), OutOfMemory>
+    ensures ok { OnOk result (out.new.items ≡ out.old.items ++ entry_line entry.now) }
+    ensures err { OnErr result (out.new.items ≡ out.old.items) }
+{
+    let mut text = Vec::new(alloc);
+    push_entry(&mut text, entry)?;
+    out.extend_from_slice(&text)
+}

@@ -1,0 +1,183 @@
+// Words of a line. After want of memory each of these functions may have appended a part.
+ghost use Rattle.std.specs.Prelude.{◌≡◌, ◌∷◌, ◌++◌, map, decimal, OnOk};
+ghost use Rattle.sem_text.specs.Lines.{behind_blanks};
+ghost use Rattle.sem_trace.specs.Words.{key_word, place_word, object_words, call_words};
+
+use sem_key::{Key, Object, OutOfMemory, Place};
+use sem_msg::Call;
+use sem_text::push_number;
+
+/// Appends the word behind a blank.
+pub fn push_word(out: &mut Vec<u8>, word: &[u8]) -> Result<(), OutOfMemory>
+    ensures ok { OnOk result (out.new.items ≡ out.old.items ++ 32 ∷ word.now) }
+{
+    out.push(b' ')?;
+    out.extend_from_slice(word)
+}
+
+/// Appends the number behind a blank.
+pub fn push_number_word(out: &mut Vec<u8>, value: u64) -> Result<(), OutOfMemory>
+    ensures ok { OnOk result (out.new.items ≡ out.old.items ++ 32 ∷ decimal value) }
+{
+    out.push(b' ')?;
+    push_number(out, value)
+}
+
+/// Appends the numbers, each behind a blank.
+pub fn push_numbers(out: &mut Vec<u8>, values: &[u64]) -> Result<(), OutOfMemory>
+    ensures ok { OnOk result (out.new.items ≡ out.old.items ++ behind_blanks (map decimal values.now)) }
+{
+    for value in values {
+        push_number_word(out, *value)?;
+    }
+    Ok(())
+}
+
+/// Appends the name and then the numbers, each behind a blank.
+pub fn push_named(out: &mut Vec<u8>, name: &[u8], values: &[u64]) -> Result<(), OutOfMemory>
+    ensures ok { OnOk result (out.new.items ≡ out.old.items ++ behind_blanks (name.now ∷ map decimal values.now)) }
+{
+    push_word(out, name)?;
+    push_numbers(out, values)
+}
+
+// Appends the number behind a point.
+fn push_part(out: &mut Vec<u8>, value: u64) -> Result<(), OutOfMemory>
+    ensures ok { OnOk result (out.new.items ≡ out.old.items ++ 46 ∷ decimal value) }
+{
+    out.push(b'.')?;
+    push_number(out, value)
+}
+
+/// Appends the key.
+pub fn push_key(out: &mut Vec<u8>, key: &Key) -> Result<(), OutOfMemory>
+    ensures ok { OnOk result (out.new.items ≡ out.old.items ++ key_word key.now) }
+{
+    push_number(out, u64::from(key.pe))?;
+    push_part(out, u64::from(key.vpe))?;
+    push_part(out, u64::from(key.kind.number()))?;
+    push_part(out, u64::from(key.number))
+}
+
+/// Appends the key behind a blank.
+pub fn push_key_word(out: &mut Vec<u8>, key: &Key) -> Result<(), OutOfMemory>
+    ensures ok { OnOk result (out.new.items ≡ out.old.items ++ 32 ∷ key_word key.now) }
+{
+    out.push(b' ')?;
+    push_key(out, key)
+}
+
+/// Appends the place.
+pub fn push_place(out: &mut Vec<u8>, place: &Place) -> Result<(), OutOfMemory>
+    ensures ok { OnOk result (out.new.items ≡ out.old.items ++ place_word place.now) }
+{
+    push_number(out, u64::from(place.pe))?;
+    push_part(out, u64::from(place.vpe))?;
+    push_part(out, u64::from(place.number))
+}
+
+/// Appends the place behind a blank.
+pub fn push_place_word(out: &mut Vec<u8>, place: &Place) -> Result<(), OutOfMemory>
+    ensures ok { OnOk result (out.new.items ≡ out.old.items ++ 32 ∷ place_word place.now) }
+{
+    out.push(b' ')?;
+    push_place(out, place)
+}
+
+/// Appends the words of the object, each behind a blank.
+pub fn push_object(out: &mut Vec<u8>, object: &Object) -> Result<(), OutOfMemory>
+    ensures ok { OnOk result (out.new.items ≡ out.old.items ++ behind_blanks (object_words object.now)) }
+{
+    match object {
+        Object::Mem { base, len, rights } => {
+            let numbers = [u64::from(*base), u64::from(*len), u64::from(*rights)];
+            push_named(out, b"mem", &numbers)
+        }
+        Object::Recv { slots } => push_named(out, b"recv", &[u64::from(*slots)]),
+        Object::Send {
+            gate,
+            label,
+            credits,
+        } => {
+            push_word(out, b"send")?;
+            push_key_word(out, gate)?;
+            push_numbers(out, &[u64::from(*label), u64::from(*credits)])
+        }
+        Object::Serv { name } => push_named(out, b"serv", &[u64::from(*name)]),
+        Object::Sess { service, ident } => {
+            push_word(out, b"sess")?;
+            push_key_word(out, service)?;
+            push_number_word(out, u64::from(*ident))
+        }
+    }
+}
+
+/// Appends the words of the call, each behind a blank.
+pub fn push_call(out: &mut Vec<u8>, call: &Call) -> Result<(), OutOfMemory>
+    ensures ok { OnOk result (out.new.items ≡ out.old.items ++ behind_blanks (call_words call.now)) }
+{
+    match call {
+        Call::Derive {
+            src,
+            dst,
+            off,
+            len,
+            rights,
+        } => {
+            let numbers = [
+                u64::from(*src),
+                u64::from(*dst),
+                u64::from(*off),
+                u64::from(*len),
+                u64::from(*rights),
+            ];
+            push_named(out, b"derive", &numbers)
+        }
+        Call::Gate {
+            src,
+            dst,
+            label,
+            credits,
+        } => {
+            let numbers = [
+                u64::from(*src),
+                u64::from(*dst),
+                u64::from(*label),
+                u64::from(*credits),
+            ];
+            push_named(out, b"gate", &numbers)
+        }
+        Call::Obtain { dst, vpe, src } => {
+            let numbers = [u64::from(*dst), u64::from(*vpe), u64::from(*src)];
+            push_named(out, b"obtain", &numbers)
+        }
+        Call::Delegate { src, vpe, dst } => {
+            let numbers = [u64::from(*src), u64::from(*vpe), u64::from(*dst)];
+            push_named(out, b"delegate", &numbers)
+        }
+        Call::OpenSession { dst, name } => {
+            push_named(out, b"open", &[u64::from(*dst), u64::from(*name)])
+        }
+        Call::AskOffer {
+            dst,
+            session,
+            index,
+        } => {
+            let numbers = [u64::from(*dst), u64::from(*session), u64::from(*index)];
+            push_named(out, b"ask", &numbers)
+        }
+        Call::Revoke { src } => push_named(out, b"revoke", &[u64::from(*src)]),
+        Call::Bind { ep, src } => push_named(out, b"bind", &[u64::from(*ep), u64::from(*src)]),
+        Call::Read { ep, off, len } => {
+            let numbers = [u64::from(*ep), u64::from(*off), u64::from(*len)];
+            push_named(out, b"read", &numbers)
+        }
+        Call::Write { ep, off, len } => {
+            let numbers = [u64::from(*ep), u64::from(*off), u64::from(*len)];
+            push_named(out, b"write", &numbers)
+        }
+        Call::Send { ep, len } => push_named(out, b"send", &[u64::from(*ep), u64::from(*len)]),
+        Call::Credit { ep } => push_named(out, b"credit", &[u64::from(*ep)]),
+        Call::Exit => push_word(out, b"exit"),
+    }
+}
