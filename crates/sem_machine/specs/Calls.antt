@@ -81,10 +81,10 @@ abbrev pub next_place : Setup → Side → ℕ → PlaceName
 next_place T s v = record { pe = pe_of T v; vpe = v; number = (row s v).next_number }
 
 -- a child of a capability of the VPE itself is made
-abbrev pub child_made : Setup → ℕ → ℕ → Object → Capability → Side → Step
-child_made T v dst object p s =
+abbrev pub child_made : Setup → ℕ → ℕ → Object → KeyName → Side → Step
+child_made T v dst object parent s =
     let k : KeyName = next_key T s v (object_kind object) in
-    granting p.key k (answer Done (installed k (Some p.key) dst object (linked p.key k (drawn v s))))
+    granting parent k (answer Done (installed k (Some parent) dst object (linked parent k (drawn v s))))
 
 -- what is done with a capability of which the tests know that it is held
 abbrev pub with_held : Option Capability → (Capability → Step) → Side → Step
@@ -108,7 +108,7 @@ derive_tests s v src dst off len rights =
 abbrev pub derive_row : Setup → Side → ℕ → ℕ → ℕ → ℕ → ℕ → ℕ → Step
 derive_row T s v src dst off len rights =
     unless (derive_tests s v src dst off len rights) (λ code. answer code s)
-    (with_held (own s v src) (λ p. child_made T v dst (narrowed off len rights p.object) p s) s)
+    (with_held (own s v src) (λ p. child_made T v dst (narrowed off len rights p.object) p.key s) s)
 
 -- gate: a send gate for a receive gate
 
@@ -123,7 +123,7 @@ gate_tests s v src dst credits =
 abbrev pub gate_row : Setup → Side → ℕ → ℕ → ℕ → ℕ → ℕ → Step
 gate_row T s v src dst label credits =
     unless (gate_tests s v src dst credits) (λ code. answer code s)
-    (with_held (own s v src) (λ p. child_made T v dst (Send p.key label credits) p s) s)
+    (with_held (own s v src) (λ p. child_made T v dst (Send p.key label credits) p.key s) s)
 
 -- the three asking calls: obtain, open, ask
 

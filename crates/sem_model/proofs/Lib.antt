@@ -1,0 +1,15 @@
+pub mod AloneBegun
+pub mod AloneFreed
+pub mod AloneLists
+pub mod AloneMarked
+pub mod AloneRevoke
+pub mod Booting
+pub mod Children
+pub mod Cutting
+pub mod Declared
+pub mod Freeing
+pub mod Parted
+pub mod Refusing
+pub mod RegionSteps
+pub mod Resuming
+pub mod Revoked

@@ -1,0 +1,6 @@
+pub mod Alone
+pub mod ModelWorld
+pub mod Placed
+pub mod Refusal
+pub mod RegionTests
+pub mod Revoking

@@ -1,0 +1,28 @@
+//! The machine as plain lists: the world at the start, and calls of a VPE that do to a side just what the
+//! definitions say.
+#![tactic(auto)]
+
+#[cfg(test)]
+mod call_tests;
+mod caps;
+mod derives;
+mod links;
+mod outcomes;
+mod refusals;
+mod regions;
+mod resumes;
+mod revokes;
+mod selectors;
+mod setups;
+mod starts;
+mod state;
+#[cfg(test)]
+mod tests;
+
+pub use derives::{Part, derive};
+pub use resumes::resume;
+pub use revokes::revoke;
+pub use selectors::{has_selector, selectors_fit};
+pub use setups::is_declared;
+pub use starts::boot;
+pub use state::{Bound, Capability, Job, Links, Outbox, Side, Vpe, World};
