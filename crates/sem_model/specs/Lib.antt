@@ -1,4 +1,5 @@
 pub mod Alone
+pub mod Built
 pub mod ModelWorld
 pub mod Placed
 pub mod Refusal
