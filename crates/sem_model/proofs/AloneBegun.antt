@@ -42,7 +42,7 @@ changed_at-over d f g (suc i) (y ∷ ys) over = ap (λ xs. y ∷ xs) (changed_at
 
 module _ {X : Type 0} (P : X → Type 0) where
   -- what holds of each element and of a new one holds after it is put
-  All-put : (d : X) (xs : List X) (i : ℕ) (x : X) → P d → P x → All P xs → All P (put d xs i x)
+  pub All-put : (d : X) (xs : List X) (i : ℕ) (x : X) → P d → P x → All P xs → All P (put d xs i x)
   unfolding put
   All-put d [] zero x other here all = All-cons P x [] here all
   All-put d [] (suc i) x other here all = All-cons P d (put d [] i x) other (All-put d [] i x other here all)
@@ -50,7 +50,7 @@ module _ {X : Type 0} (P : X → Type 0) where
   All-put d (y ∷ ys) (suc i) x other here all = All-cons P y (put d ys i x) (All-head P y ys all) (All-put d ys i x other here (All-tail P y ys all))
 
   -- what holds of each element, and of what is read past the end, holds of what is read at any place
-  All-read : (d : X) (xs : List X) (i : ℕ) → P d → All P xs → P (get_or xs i d)
+  pub All-read : (d : X) (xs : List X) (i : ℕ) → P d → All P xs → P (get_or xs i d)
   All-read d [] i other all = other
   All-read d (y ∷ ys) zero other all = All-head P y ys all
   All-read d (y ∷ ys) (suc i) other all = All-read d ys i other (All-tail P y ys all)

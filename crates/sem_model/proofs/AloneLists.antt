@@ -23,7 +23,7 @@ in_turn-map f g [] s = refl
 in_turn-map f g (x ∷ xs) s = in_turn-map f g xs (f (g x) s)
 
 module _ (P : KeyName → Type 0) where
-  All-with_key : (ks : List KeyName) (k : KeyName) → All P ks → P k → All P (with_key ks k)
+  pub All-with_key : (ks : List KeyName) (k : KeyName) → All P ks → P k → All P (with_key ks k)
   All-with_key ks k all here =
       All-append P (filter (λ q. key_lt q k) ks) (k ∷ filter (λ q. key_lt k q) ks) (All-filter (λ q. key_lt q k) P ks all) (All-cons P k (filter (λ q. key_lt k q) ks) here (All-filter (λ q. key_lt k q) P ks all))
 

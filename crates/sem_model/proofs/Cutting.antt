@@ -17,7 +17,7 @@ use Rattle.sem_model.specs.Alone.{IsAlone, revoked_alone}
 use Rattle.sem_model.proofs.AloneBegun.{revoke_begun-alone}
 
 -- what stands at a selector is found under its key
-own-found : (s : Side) (v sel : ℕ) (c : Capability) → own s v sel ≡ Some c → cap s c.key ≡ Some c
+pub own-found : (s : Side) (v sel : ℕ) (c : Capability) → own s v sel ≡ Some c → cap s c.key ≡ Some c
 own-found s v sel c held = from (slot s v sel) held
   where
     from : (x : Slot) → cap_in s x ≡ Some c → cap s c.key ≡ Some c

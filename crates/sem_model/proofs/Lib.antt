@@ -13,3 +13,11 @@ pub mod Refusing
 pub mod RegionSteps
 pub mod Resuming
 pub mod Revoked
+pub mod CalmRows
+pub mod OwnCaps
+pub mod OneVpe
+pub mod BuiltSides
+pub mod BuiltActs
+pub mod BuiltWorlds
+pub mod BuiltStart
+pub mod Calling

@@ -10,7 +10,7 @@ use Rattle.sem_machine.specs.Resumes.{resumed, resume_row}
 use Rattle.sem_machine.proofs.Puts.{put-set}
 use Rattle.sem_model.proofs.Children.{row-read}
 
-resume_row-ready : (T : Setup) (s : Side) (v code : ℕ) → parked s v ≡ Some (Ready code) → resume_row T s v ≡ answer code (unparked v s)
+pub resume_row-ready : (T : Setup) (s : Side) (v code : ℕ) → parked s v ≡ Some (Ready code) → resume_row T s v ≡ answer code (unparked v s)
 unfolding resume_row
 resume_row-ready T s v code ready = ap (λ p. resumed T p (unparked v s)) ready
 

@@ -1,5 +1,7 @@
+pub mod Acting
 pub mod Alone
 pub mod Built
+pub mod BuiltWorld
 pub mod ModelWorld
 pub mod Placed
 pub mod Refusal

@@ -6,6 +6,7 @@
 mod call_tests;
 mod caps;
 mod derives;
+mod enabling;
 mod links;
 mod outcomes;
 mod refusals;
@@ -16,13 +17,16 @@ mod selectors;
 mod setups;
 mod starts;
 mod state;
+mod steps;
 #[cfg(test)]
 mod tests;
 
 pub use derives::{Part, derive};
+pub use enabling::{enabled, is_enabled};
 pub use resumes::resume;
 pub use revokes::revoke;
 pub use selectors::{has_selector, selectors_fit};
 pub use setups::is_declared;
 pub use starts::boot;
 pub use state::{Bound, Capability, Job, Links, Outbox, Side, Vpe, World};
+pub use steps::{StepError, step};

@@ -5,6 +5,7 @@ ghost use Rattle.sem_msg.specs.Setup.{IsRoot, root_key};
 ghost use Rattle.sem_msg.specs.Rows.{no_vpe};
 ghost use Rattle.sem_machine.specs.Sides.{row, with_cap};
 ghost use Rattle.sem_machine.specs.Machine.{new_vpe, empty_side, root_added, vpe_added, start_side};
+ghost use Rattle.sem_model.specs.Built.{IsBuilt};
 ghost use Rattle.sem_model.specs.ModelWorld.{booted};
 
 use crate::caps::{add_cap, kind_of};
@@ -25,6 +26,7 @@ const ENDPOINTS: usize = 16;
 
 /// The world of the setup at the start.
 pub fn boot(alloc: Global, setup: &Setup) -> Result<World, OutOfMemory>
+    requires { IsBuilt setup.now }
     ensures { IfOk result (λ world. world ≡ booted setup.now) }
 {
     let mut sides = Vec::new(alloc);
@@ -44,7 +46,7 @@ pub fn boot(alloc: Global, setup: &Setup) -> Result<World, OutOfMemory>
 }
 
 // The side of a kernel at the start.
-fn started_side(alloc: Global, setup: &Setup, kernel: u32) -> Result<Side, OutOfMemory>
+pub fn started_side(alloc: Global, setup: &Setup, kernel: u32) -> Result<Side, OutOfMemory>
     requires { kernel < setup.now.kernels }
     ensures { IfOk result (λ side. side ≡ start_side setup.now kernel) }
 {

@@ -223,7 +223,8 @@ impl Model for Links {
     ghost view = { λ l. l.boxes.items };
 }
 
-/// The state of all kernels and of the links between them, with the setup that it runs.
+/// The state of all kernels and of the links between them, with the setup that it runs. Its type keeps what the world of a
+/// built setup always is.
 #[derive(Debug, Drop)]
 pub struct World {
     pub setup: Setup,
@@ -234,8 +235,11 @@ pub struct World {
 
 impl Model for World {
     ghost use Rattle.sem_model.specs.ModelWorld.{ModelWorld};
+    ghost use Rattle.sem_model.specs.BuiltWorld.{IsBuiltWorld};
 
     ghost Value = { ModelWorld };
 
     ghost view = { λ w. record { setup = w.setup; world = record { sides = w.sides.items; links = w.links.items; replies = w.replies } } };
+
+    ghost invariant = { λ w. IsBuiltWorld (record { setup = w.setup; world = record { sides = w.sides.items; links = w.links.items; replies = w.replies } }) };
 }
