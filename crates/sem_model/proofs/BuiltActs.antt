@@ -1,10 +1,9 @@
 -- The acts of the one kernel of a built setup keep what its side always is.
-use Rattle.std.proofs.Common.{◌≡◌, ℕ, ◌+◌, ◌<◌, ◌≤◌, ◌&&◌, true, false, List, [], length, Option, Some, None, is_none, is_some, slice_get, refl, sym, ◌∙◌, ap, subst, arith, true≢false}
+use Rattle.std.proofs.Common.{◌≡◌, ℕ, ◌+◌, ◌<◌, ◌≤◌, ◌&&◌, true, length, Option, Some, None, is_none, is_some, slice_get, refl, sym, ◌∙◌, ap, subst, arith, true≢false}
 use Rattle.std.specs.Prelude.{◌==◌}
 use Rattle.std.specs.List.{All}
 use Rattle.std.specs.Option.{option_map_or}
 use Rattle.std.proofs.lemmas.Bool.{and_parts}
-use Rattle.std.proofs.lemmas.List.Elements.{All-contains}
 use Rattle.std.proofs.lemmas.Option.{slice_get_within, get_or_from_slice_get}
 use Rattle.sem_msg.specs.declared.call.Call.{Call}
 use Rattle.sem_msg.specs.declared.event.Act.{Act}
@@ -14,11 +13,11 @@ use Rattle.sem_msg.specs.declared.state.Parked.{Parked}
 use Rattle.sem_msg.specs.declared.state.Parked.TheVariants.{ObtainWait, ObtainReady, ObtainCancelled, DelegateWait, DelegateReady, RevokeWait, Ready}
 use Rattle.sem_msg.specs.Calls.{IsValidCall}
 use Rattle.sem_msg.specs.Setup.{Setup, IsSetup, IsVpeDecl}
-use Rattle.sem_machine.specs.Setups.{kernel_of, calls_of}
+use Rattle.sem_machine.specs.Setups.{kernel_of}
 use Rattle.sem_machine.specs.Sides.{Side, row, parked, is_alive, call_counted, unparked}
 use Rattle.sem_machine.specs.Steps.{Step, answer, plain}
 use Rattle.sem_machine.specs.Calls.{call_row}
-use Rattle.sem_machine.specs.Resumes.{can_resume, resume_row}
+use Rattle.sem_machine.specs.Resumes.{can_resume}
 use Rattle.sem_machine.specs.Machine.{next_call, is_locally_enabled, local_step}
 use Rattle.sem_model.specs.Acting.{can_act, reply_number}
 use Rattle.sem_model.specs.Built.{IsBuilt, IsBuiltCall}

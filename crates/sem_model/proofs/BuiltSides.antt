@@ -1,7 +1,6 @@
 -- What the acts of the one kernel of a built setup leave of its side.
-use Rattle.std.proofs.Common.{◌≡◌, ℕ, ◌+◌, ◌<◌, ◌≤◌, true, false, List, [], length, not, Option, Some, None, refl, sym, ◌∙◌, ap, subst, arith, set, length-set}
-use Rattle.std.specs.List.{All, filter}
-use Rattle.std.specs.Option.{option_map_or}
+use Rattle.std.proofs.Common.{◌≡◌, ℕ, ◌+◌, ◌<◌, ◌≤◌, true, [], length, not, Option, Some, None, refl, sym, ap, subst, arith, length-set}
+use Rattle.std.specs.List.{All}
 use Rattle.std.proofs.lemmas.List.Elements.{All-filter, All-weaker, All-contains}
 use Rattle.sem_key.specs.declared.object.Object.{Object}
 use Rattle.sem_key.specs.ObjectRanges.{object_kind}
@@ -16,14 +15,12 @@ use Rattle.sem_msg.specs.declared.state.Parked.TheVariants.{Ready}
 use Rattle.sem_msg.specs.Calls.{IsValidCall}
 use Rattle.sem_msg.specs.Rows.{VpeRow, no_vpe}
 use Rattle.sem_msg.specs.Setup.{Setup}
-use Rattle.sem_machine.specs.declared.Outcome.{Outcome}
 use Rattle.sem_machine.specs.Codes.{Done, NoCap}
-use Rattle.sem_machine.specs.Setups.{is_declared, is_local}
+use Rattle.sem_machine.specs.Setups.{is_local}
 use Rattle.sem_machine.specs.Sides.{Side, row, own, call_counted, unparked}
 use Rattle.sem_machine.specs.Steps.{Step, answer, unless}
 use Rattle.sem_machine.specs.Calls.{next_key, narrowed, child_made, derive_tests, derive_row, revoke_row, call_row}
 use Rattle.sem_machine.specs.Revokes.{has_key, region}
-use Rattle.sem_machine.specs.Resumes.{resume_row}
 use Rattle.sem_machine.proofs.Members.{found}
 use Rattle.sem_machine.proofs.Puts.{put-set}
 use Rattle.sem_key.specs.Lists.{put}
@@ -33,13 +30,12 @@ use Rattle.sem_model.specs.Built.{IsBuiltCall}
 use Rattle.sem_model.specs.BuiltWorld.{IsCalm, IsOwnCap, parked_number}
 use Rattle.sem_model.specs.Refusal.{first_code}
 use Rattle.sem_model.proofs.CalmRows.{AreRows, AreRows-own, AreRows-all_freed, AreRows-ready, row-calm}
-use Rattle.sem_model.proofs.Children.{row_with_child, caps_with_child, child_made-is}
+use Rattle.sem_model.proofs.Children.{row_with_child, child_made-is}
 use Rattle.sem_model.proofs.Cutting.{own-found, revoke-none, revoke-some}
 use Rattle.sem_model.proofs.OneVpe.{IsOnly, only-is_declared, only-pe}
 use Rattle.sem_model.proofs.OwnCaps.{own-with_child, own-caps_left}
 use Rattle.sem_model.proofs.Refusing.{derive-refused, derive-done}
-use Rattle.sem_model.proofs.Resuming.{resume_row-ready}
-use Rattle.sem_model.proofs.Revoked.{gone, kept, with_written, revoked_alone-written}
+use Rattle.sem_model.proofs.Revoked.{gone, kept, revoked_alone-written}
 
 -- the side of a kernel whose only VPE has made n calls and waits so
 pub record IsKept (T : Setup) (v n : ℕ) (p : Option Parked) (s : Side) : Type 0 where
@@ -106,7 +102,7 @@ module _ (T : Setup) (v : ℕ) (d : VpeDecl) (only : IsOnly T v d) (n : ℕ) (s 
         let before = row-calm s.vpes v is.rows.calm in
         let written : VpeRow = record (row s v) { slots = put Free (row s v).slots dst (Held k); next_number = (row s v).next_number + 1 } in
         let rows : AreRows v n None (put no_vpe s.vpes v (row_with_child k dst (row s v))) =
-            AreRows-own v n n None None s.vpes (row_with_child k dst (row s v)) is.rows (record { asks = before.asks; parked = before.parked; unbound = before.unbound }) (omega (arith, is.rows.selectors, length-set (row s v).slots dst (Held k))) is.rows.calls is.rows.parked in
+        AreRows-own v n n None None s.vpes (row_with_child k dst (row s v)) is.rows (record { asks = before.asks; parked = before.parked; unbound = before.unbound }) (omega (arith, is.rows.selectors, length-set (row s v).slots dst (Held k))) is.rows.calls is.rows.parked in
         rw (child_made-is T v dst object parent s place selector) (record {
           waits = None;
           kept_so = record {

@@ -1,8 +1,8 @@
 -- The world of a built setup at the start is as such a world always is.
-use Rattle.std.proofs.Common.{◌≡◌, ℕ, zero, suc, ◌+◌, ◌<◌, ◌≤◌, Bool, true, false, eqb, cond, List, [], ◌∷◌, ◌++◌, length, map, replicate, get_or, Option, Some, None, IfSome, IsSome, refl, sym, ◌∙◌, ap, subst, arith, inl, inr, eq-eqb}
+use Rattle.std.proofs.Common.{◌≡◌, ℕ, zero, suc, ◌+◌, ◌≤◌, true, List, [], ◌∷◌, length, map, replicate, get_or, Option, Some, None, IsSome, refl, sym, ◌∙◌, ap, subst, arith, eq-eqb}
 use Rattle.std.specs.Prelude.{◌==◌, unwrap_or}
 use Rattle.std.specs.List.{All, filter, range_with_len}
-use Rattle.std.proofs.lemmas.Bool.{cases_eq, cond-true}
+use Rattle.std.proofs.lemmas.Bool.{cond-true}
 use Rattle.std.proofs.lemmas.List.{length-replicate}
 use Rattle.std.proofs.lemmas.List.Elements.{All-nil, All-cons, All-head, All-tail}
 use Rattle.sem_key.specs.Lists.{put, in_turn}
@@ -14,9 +14,9 @@ use Rattle.sem_msg.specs.declared.setup.VpeDecl.{VpeDecl}
 use Rattle.sem_msg.specs.declared.state.Slot.TheVariants.{Free, Held}
 use Rattle.sem_msg.specs.Rows.{VpeRow, no_vpe}
 use Rattle.sem_msg.specs.Setup.{Setup, IsSetup, IsVpeDecl, IsRoot, root_key}
-use Rattle.sem_machine.specs.Setups.{decl, pe_owner, is_declared, is_local}
+use Rattle.sem_machine.specs.Setups.{pe_owner, is_local}
 use Rattle.sem_machine.specs.Sides.{Side, no_side, row}
-use Rattle.sem_machine.specs.Machine.{World, new_vpe, root_added, vpe_added, empty_side, start_side, start, side}
+use Rattle.sem_machine.specs.Machine.{new_vpe, root_added, vpe_added, empty_side, start_side, start}
 use Rattle.sem_machine.proofs.Puts.{get_or-put_same}
 use Rattle.sem_model.specs.Built.{IsBuilt}
 use Rattle.sem_model.specs.BuiltWorld.{IsCalm, IsOwnCap, IsBuiltSide, IsBuiltWorld, IsCounted}
@@ -63,7 +63,7 @@ module _ (T : Setup) where
           local_children = All-nil (λ k. is_local T 0 k ≡ true);
         } in
         let one : AreRows v 0 None (put no_vpe s.vpes v held) =
-            AreRows-own v 0 0 None None s.vpes held is.rows (record { asks = before.asks; parked = before.parked; unbound = before.unbound }) (omega (arith, length-put Free (row s v).slots r.sel (Held k), is.rows.selectors)) is.rows.calls is.rows.parked in
+        AreRows-own v 0 0 None None s.vpes held is.rows (record { asks = before.asks; parked = before.parked; unbound = before.unbound }) (omega (arith, length-put Free (row s v).slots r.sel (Held k), is.rows.selectors)) is.rows.calls is.rows.parked in
         let middle = row-calm (put no_vpe s.vpes v held) v one.calm in
         let two = AreRows-own v 0 0 None None (put no_vpe s.vpes v held) (record (get_or (put no_vpe s.vpes v held) v no_vpe) { next_number = (get_or (put no_vpe s.vpes v held) v no_vpe).next_number + 1 }) one (record { asks = middle.asks; parked = middle.parked; unbound = middle.unbound }) one.selectors one.calls one.parked in
         record {

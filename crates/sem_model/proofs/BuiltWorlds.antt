@@ -1,5 +1,5 @@
 -- The events of a built world: which are enabled, and that they keep what the world always is.
-use Rattle.std.proofs.Common.{◌≡◌, ℕ, zero, suc, ◌+◌, ◌<◌, ◌≤◌, ◌&&◌, Bool, true, false, not, List, [], ◌∷◌, ◌++◌, length, map, Option, Some, None, is_none, is_some, slice_get, get_or, set, refl, sym, ◌∙◌, ap, subst, arith, true≢false, append-nil, append_assoc, length-set, eq-eqb}
+use Rattle.std.proofs.Common.{◌≡◌, ℕ, zero, suc, ◌+◌, ◌≤◌, ◌&&◌, Bool, true, false, not, List, [], ◌∷◌, ◌++◌, length, map, Option, Some, None, is_none, is_some, slice_get, get_or, set, refl, sym, ◌∙◌, ap, subst, arith, true≢false, append-nil, append_assoc, length-set, eq-eqb}
 use Rattle.std.specs.Prelude.{◌==◌, ◌≢◌, nat_lt, flat_map}
 use Rattle.std.specs.List.{All, filter, range_with_len}
 use Rattle.std.specs.Option.{option_map_or}
@@ -15,14 +15,14 @@ use Rattle.sem_msg.specs.declared.event.Act.TheVariants.{Call as Calls, Fetch, H
 use Rattle.sem_msg.specs.declared.event.Event.{Event}
 use Rattle.sem_msg.specs.declared.entry.Entry.{Entry}
 use Rattle.sem_msg.specs.declared.setup.VpeDecl.{VpeDecl}
-use Rattle.sem_msg.specs.Setup.{Setup, IsSetup}
+use Rattle.sem_msg.specs.Setup.{Setup}
 use Rattle.sem_msg.specs.Journal.{kill_number}
 use Rattle.sem_machine.specs.declared.Outcome.{Outcome}
 use Rattle.sem_machine.specs.Setups.{kernel_of}
 use Rattle.sem_machine.specs.Resumes.{can_resume}
-use Rattle.sem_machine.specs.Sides.{Side, no_side, row, parked, outbox, is_alive}
+use Rattle.sem_machine.specs.Sides.{Side, no_side, row, parked, is_alive}
 use Rattle.sem_machine.specs.Steps.{Step}
-use Rattle.sem_machine.specs.Machine.{World, side, event, local_step, is_other_kernel, is_locally_enabled, is_allowed, is_enabled, kernel_events, all_events, enabled, after, entry_of, local_entry, input_of, next_call}
+use Rattle.sem_machine.specs.Machine.{World, side, event, local_step, is_other_kernel, is_locally_enabled, is_allowed, is_enabled, kernel_events, enabled, after, entry_of, local_entry, input_of, next_call}
 use Rattle.sem_machine.proofs.Puts.{get_or-put_same, put-set}
 use Rattle.sem_model.specs.Acting.{can_act, reply_number}
 use Rattle.sem_model.specs.Built.{IsBuilt}

@@ -1,5 +1,5 @@
 -- What the code needs to know of the kernel of a built setup when its VPE makes a call, and what it has done then.
-use Rattle.std.proofs.Common.{◌≡◌, ℕ, ◌+◌, ◌<◌, ◌≤◌, true, List, [], ◌∷◌, length, get_or, set, Option, Some, None, refl, sym, ◌∙◌, ap, subst, arith, eq-eqb, is_none, is_some, ◌&&◌}
+use Rattle.std.proofs.Common.{◌≡◌, ℕ, ◌+◌, ◌<◌, ◌≤◌, true, length, get_or, set, Some, None, refl, sym, ◌∙◌, ap, subst, arith, eq-eqb, is_none, is_some, ◌&&◌}
 use Rattle.std.specs.Prelude.{◌==◌, ◌≢◌}
 use Rattle.std.specs.List.{All, sum_by}
 use Rattle.std.specs.Option.{option_map, option_map_or}
@@ -21,12 +21,12 @@ use Rattle.sem_machine.specs.declared.Outcome.{Outcome}
 use Rattle.sem_machine.specs.Calls.{derive_row, revoke_row, call_row}
 use Rattle.sem_machine.specs.Machine.{event, next_call, is_locally_enabled, local_step, local_entry}
 use Rattle.sem_machine.specs.Sides.{Side, row, parked, is_alive, call_counted}
-use Rattle.sem_machine.proofs.Puts.{get_or-put_same, put-set}
+use Rattle.sem_machine.proofs.Puts.{put-set}
 use Rattle.sem_model.specs.Alone.{IsAlone}
 use Rattle.sem_model.specs.Built.{IsBuilt, IsBuiltCall}
 use Rattle.sem_model.specs.BuiltWorld.{IsBuiltSide, IsCounted, IsOwnCap}
 use Rattle.sem_model.proofs.BuiltActs.{kept-side, side-kept, placed-only, next-within, CanCall, can_call, call-step, call-counted, ready-code}
-use Rattle.sem_model.proofs.BuiltSides.{IsKept, alone-kept, counted-kept}
+use Rattle.sem_model.proofs.BuiltSides.{IsKept, alone-kept}
 use Rattle.sem_model.proofs.CalmRows.{row-calm}
 use Rattle.sem_model.proofs.Children.{row-read}
 use Rattle.sem_model.proofs.OneVpe.{IsOnly, only-vpe, only-declared, only-is_declared, only-all}

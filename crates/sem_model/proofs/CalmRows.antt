@@ -1,17 +1,16 @@
 -- The rows of VPEs of which one makes calls, and what the calls of a built setup write of them.
-use Rattle.std.proofs.Common.{◌≡◌, ℕ, zero, suc, ◌≤◌, List, [], ◌∷◌, length, get_or, set, Option, Some, None, refl, sym, ◌∙◌, ap, subst, inl, inr, arith}
+use Rattle.std.proofs.Common.{◌≡◌, ℕ, zero, suc, ◌≤◌, List, [], ◌∷◌, length, Option, Some, None, refl, sym, subst, inl, inr, arith}
 use Rattle.std.specs.List.{All}
 use Rattle.std.proofs.lemmas.Bool.{cases_eq}
 use Rattle.std.proofs.lemmas.List.Elements.{All-nil}
 use Rattle.sem_key.specs.Lists.{put, in_turn}
 use Rattle.sem_key.specs.Capability.{Capability}
-use Rattle.sem_msg.specs.declared.state.Slot.{Slot}
 use Rattle.sem_msg.specs.declared.state.Slot.TheVariants.{Free}
 use Rattle.sem_msg.specs.declared.state.Parked.{Parked}
 use Rattle.sem_msg.specs.declared.state.Parked.TheVariants.{Ready}
 use Rattle.sem_msg.specs.Rows.{VpeRow, no_vpe}
 use Rattle.sem_machine.proofs.Puts.{get_or-put_same, get_or-put_other}
-use Rattle.sem_model.specs.BuiltWorld.{IsCalm, IsReadyAtMost}
+use Rattle.sem_model.specs.BuiltWorld.{IsCalm}
 use Rattle.sem_model.specs.Revoking.{row_of, slot_freed, slots_freed, row_ready}
 use Rattle.sem_model.proofs.AloneBegun.{All-put, All-read}
 

@@ -1,13 +1,12 @@
 -- A built setup has at most one VPE: what is so of one that its kernel has.
-use Rattle.std.proofs.Common.{◌≡◌, ℕ, zero, suc, ◌≤◌, Bool, true, false, eqb, List, [], ◌∷◌, length, Option, Some, None, refl, sym, ◌∙◌, ap, subst, arith, true≢false, inl, inr, eq-eqb}
+use Rattle.std.proofs.Common.{◌≡◌, ℕ, ◌≤◌, true, eqb, List, [], ◌∷◌, length, Option, Some, None, refl, sym, ◌∙◌, ap, subst, arith, inl, inr, eq-eqb}
 use Rattle.std.specs.List.{All, Contains}
 use Rattle.std.specs.Option.{option_map_or}
 use Rattle.std.proofs.lemmas.Bool.{eqb-true}
 use Rattle.std.proofs.lemmas.List.Elements.{All-contains, All-cons, All-nil}
-use Rattle.sem_msg.specs.declared.call.Call.{Call}
 use Rattle.sem_msg.specs.declared.setup.VpeDecl.{VpeDecl}
 use Rattle.sem_msg.specs.Setup.{Setup}
-use Rattle.sem_machine.specs.Setups.{decl, pe_owner, pe_of, kernel_of, calls_of, is_declared, is_local}
+use Rattle.sem_machine.specs.Setups.{decl, pe_owner, pe_of, kernel_of, calls_of, is_declared}
 use Rattle.sem_machine.proofs.Members.{found, list_any-some, Contains-head, Contains-cons_cases, Contains-nil}
 use Rattle.sem_model.specs.Built.{IsBuilt}
 

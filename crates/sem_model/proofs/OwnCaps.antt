@@ -1,18 +1,18 @@
 -- Capabilities of one kernel that nobody else knows of stay so when a child is made, and when some are removed.
-use Rattle.std.proofs.Common.{◌≡◌, ℕ, ◌≤◌, Bool, true, not, List, [], ◌∷◌, ◌++◌, map, Option, Some, None, IfSome, refl, if◌then◌else◌}
+use Rattle.std.proofs.Common.{◌≡◌, ℕ, ◌≤◌, Bool, true, not, List, ◌∷◌, Option, Some, None, refl, if◌then◌else◌}
 use Rattle.std.specs.List.{All, filter}
 use Rattle.std.proofs.lemmas.Bool.{cond_both}
 use Rattle.std.proofs.lemmas.List.Elements.{All-append, All-cons, All-nil, All-filter, All-map, All-weaker}
 use Rattle.sem_key.specs.declared.object.Object.{Object}
 use Rattle.sem_key.specs.KeyName.{KeyName, key_eq, key_lt}
-use Rattle.sem_key.specs.KeyList.{with_key, without_key}
+use Rattle.sem_key.specs.KeyList.{with_key}
 use Rattle.sem_key.specs.Lists.{change}
 use Rattle.sem_key.specs.Capability.{Capability}
 use Rattle.sem_msg.specs.Setup.{Setup}
 use Rattle.sem_machine.specs.Setups.{is_declared, is_local}
 use Rattle.sem_machine.specs.Sides.{with_cap}
 use Rattle.sem_model.specs.BuiltWorld.{IsOwnCap}
-use Rattle.sem_model.specs.Revoking.{child_left, caps_unlinked, caps_left}
+use Rattle.sem_model.specs.Revoking.{child_left, caps_left}
 use Rattle.sem_model.proofs.AloneLists.{All-with_key}
 use Rattle.sem_model.proofs.Children.{child_cap, caps_with_child}
 

@@ -1,4 +1,4 @@
--- A revoke that meets no other job and leaves its kernel nowhere: it ends in its own step.
+-- A revoke that meets no other job and leaves its kernel nowhere: it ends in its own step ("Revocation" in docs/machine.md).
 use Rattle.std.specs.Prelude.{◌≡◌, ℕ, ◌+◌, true, not, List, [], filter, All, Option, Some, None, IfSome}
 use Rattle.sem_key.specs.KeyName.{KeyName}
 use Rattle.sem_key.specs.Lists.{in_turn}

@@ -1,5 +1,5 @@
 -- What can be run today: at most one VPE on one kernel, memory, derive and revoke ("What is built" in docs/machine.md).
-use Rattle.std.specs.Prelude.{◌≡◌, ℕ, ◌≤◌, true, List, [], length, filter, All, Option, is_some}
+use Rattle.std.specs.Prelude.{◌≡◌, ℕ, ◌≤◌, true, [], length, filter, All, Option, is_some}
 use Rattle.sem_key.specs.declared.key.Kind.TheVariants.{Mem as MemKind}
 use Rattle.sem_msg.specs.declared.call.Call.{Call}
 use Rattle.sem_msg.specs.declared.call.Call.TheVariants.{Derive, Gate, Obtain, Delegate, OpenSession, AskOffer, Revoke, Bind, Read, Write, Send as SendCall, Credit, Exit}

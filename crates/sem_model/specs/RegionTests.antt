@@ -1,4 +1,4 @@
--- The tests of one capability by which a region grows.
+-- The tests of one capability by which a region grows ("Revocation" in docs/machine.md).
 use Rattle.std.specs.Prelude.{Bool, ◌&&◌, not, List}
 use Rattle.std.specs.Option.{is_none}
 use Rattle.sem_key.specs.KeyName.{KeyName}

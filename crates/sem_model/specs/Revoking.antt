@@ -1,4 +1,4 @@
--- What is kept of VPEs by number, with selectors freed and a call gone on.
+-- What is kept of VPEs by number, with selectors freed and a call gone on ("Revocation" in docs/machine.md).
 use Rattle.std.specs.Prelude.{ℕ, List, slice_index_or, Option, Some, None}
 use Rattle.sem_key.specs.KeyName.{KeyName, key_eq}
 use Rattle.sem_key.specs.KeyList.{without_key}

@@ -1,4 +1,4 @@
-use crate::tests::{memory, started};
+use crate::tests::{first_side, memory, one_vpe};
 use crate::{Part, Side, derive, has_selector, is_declared, resume, revoke, selectors_fit};
 use sem_machine::Outcome;
 use sem_msg::{Setup, Slot};
@@ -48,10 +48,10 @@ fn a_derive_is_refused_by_the_first_test_that_holds(rt: HostRuntime) -> Result<(
         (0, 0, 0, 4096, 7, 6),
         (0, 1, 0, 4096, 7, 0),
     ] {
-        let mut world = started(rt.alloc())?;
-        let mut side = world.sides.pop().ok_or("no side")?;
+        let setup = one_vpe(rt.alloc())?;
+        let mut side = first_side(rt.alloc())?;
         let part = Part { off, len, rights };
-        let outcome = derived(&rt, rt.alloc(), &world.setup, &mut side, (src, dst), part)?;
+        let outcome = derived(&rt, rt.alloc(), &setup, &mut side, (src, dst), part)?;
         assert_eq!(rt;
             outcome.reply,
             Some(want),
@@ -63,14 +63,14 @@ fn a_derive_is_refused_by_the_first_test_that_holds(rt: HostRuntime) -> Result<(
 
 #[test]
 fn a_revoked_memory_and_its_part_are_gone(rt: HostRuntime) -> Result<(), Fail> {
-    let mut world = started(rt.alloc())?;
-    let mut side = world.sides.pop().ok_or("no side")?;
+    let setup = one_vpe(rt.alloc())?;
+    let mut side = first_side(rt.alloc())?;
     let part = Part {
         off: 0,
         len: 1024,
         rights: 1,
     };
-    derived(&rt, rt.alloc(), &world.setup, &mut side, (0, 1), part)?;
+    derived(&rt, rt.alloc(), &setup, &mut side, (0, 1), part)?;
     let outcome = revoked(&rt, rt.alloc(), &mut side, 0)?;
     assert_eq!(rt; (outcome.cut, outcome.reply), (Some(memory()), None));
     assert_eq!(rt; side.caps.len(), 0);
@@ -84,8 +84,7 @@ fn a_revoked_memory_and_its_part_are_gone(rt: HostRuntime) -> Result<(), Fail> {
 
 #[test]
 fn a_revoke_ends_with_its_resume(rt: HostRuntime) -> Result<(), Fail> {
-    let mut world = started(rt.alloc())?;
-    let mut side = world.sides.pop().ok_or("no side")?;
+    let mut side = first_side(rt.alloc())?;
     assert_eq!(rt; resumed(&rt, &mut side), None);
     revoked(&rt, rt.alloc(), &mut side, 0)?;
     assert_eq!(rt; resumed(&rt, &mut side), Some(0));

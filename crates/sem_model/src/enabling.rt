@@ -78,9 +78,11 @@ fn can_act(setup: &Setup, side: &Side, act: Act) -> bool
     match act {
         Act::Call { vpe } => can_call(setup, side, vpe),
         Act::Resume { vpe } => can_go_on(setup, side, vpe),
-        Act::Fetch { .. } | Act::Handle | Act::Upcall { .. } | Act::Flush { .. } | Act::Kill { .. } => {
-            false
-        }
+        Act::Fetch { .. }
+        | Act::Handle
+        | Act::Upcall { .. }
+        | Act::Flush { .. }
+        | Act::Kill { .. } => { false }
     }
 }
 
@@ -130,9 +132,7 @@ fn ends(state: &Option<Parked>) -> bool
             | Parked::DelegateReady { .. }
             | Parked::Ready { .. },
         ) => true,
-        Some(
-            Parked::ObtainWait { .. } | Parked::DelegateWait { .. } | Parked::RevokeWait { .. },
-        )
+        Some(Parked::ObtainWait { .. } | Parked::DelegateWait { .. } | Parked::RevokeWait { .. })
         | None => false,
     }
 }

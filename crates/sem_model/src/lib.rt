@@ -17,6 +17,8 @@ mod selectors;
 mod setups;
 mod starts;
 mod state;
+#[cfg(test)]
+mod step_tests;
 mod steps;
 #[cfg(test)]
 mod tests;

@@ -62,12 +62,7 @@ pub fn step(alloc: Global, world: &mut World, event: Event) -> Result<Entry, Ste
 }
 
 // The side does the act. After want of memory it means nothing.
-fn act_on(
-    alloc: Global,
-    setup: &Setup,
-    side: &mut Side,
-    act: Act,
-) -> Result<Outcome, OutOfMemory>
+fn act_on(alloc: Global, setup: &Setup, side: &mut Side, act: Act) -> Result<Outcome, OutOfMemory>
     requires valid { IsSetup setup.now }
     requires built { IsBuilt setup.now }
     requires kernel { IsBuiltSide setup.now side.old }

@@ -1,4 +1,8 @@
-use crate::{World, boot};
+ghost use Rattle.std.specs.Prelude.{IfOk};
+ghost use Rattle.sem_model.specs.Built.{IsBuilt};
+
+use crate::starts::started_side;
+use crate::{Side, World, boot};
 use sem_key::{Key, Kind, Membership, Object};
 use sem_msg::{
     Call, Calls, Denies, Kills, Offers, Root, Roots, Services, Setup, Slot, VpeDecl, Vpes0,
@@ -7,7 +11,9 @@ use std::alloc::Global;
 use std::test::Fail;
 
 // One kernel, and one VPE with memory that it derives from and then revokes.
-fn one_vpe(alloc: Global) -> Result<Setup, Fail> {
+pub fn one_vpe(alloc: Global) -> Result<Setup, Fail>
+    ensures { IfOk result (λ setup. IsBuilt setup) }
+{
     let mut owners = Membership::empty(1);
     owners.set(0, 0)?;
     let mut roots = Roots::new(alloc);
@@ -50,6 +56,12 @@ fn one_vpe(alloc: Global) -> Result<Setup, Fail> {
 pub fn started(alloc: Global) -> Result<World, Fail> {
     let setup = one_vpe(alloc)?;
     Ok(boot(alloc, &setup)?)
+}
+
+// The side of its kernel at the start.
+pub fn first_side(alloc: Global) -> Result<Side, Fail> {
+    let setup = one_vpe(alloc)?;
+    Ok(started_side(alloc, &setup, 0)?)
 }
 
 // The key of the VPE's memory.

@@ -1,8 +1,6 @@
-use Rattle.std.proofs.Common.{rules, ◌∙◌, ap, sym}
-use Rattle.std.specs.List.{filter}
+use Rattle.std.proofs.Common.{rules, ◌∙◌}
 use Rattle.std.proofs.lemmas.Fn.{filter_same}
 use Rattle.sem_model.specs.contracts.state.World.{the_view}
-use Rattle.sem_machine.specs.Machine.{is_enabled}
 use Rattle.sem_model.proofs.BuiltWorlds.{enabled-events}
 use Rattle.sem_model.proofs.enabling.enabled.Goals as goal
 

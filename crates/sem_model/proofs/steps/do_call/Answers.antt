@@ -1,6 +1,6 @@
 use Rattle.std.proofs.Common.{arith}
 use Rattle.std.proofs.lemmas.Result.{IfOk-weaker}
-use Rattle.sem_model.proofs.Calling.{vpe-placed, vpe-selector, vpe-declared, caps-selectors, vpe-alone, vpe-few, vpe-jobs, call_row-derive, call_row-revoke}
+use Rattle.sem_model.proofs.Calling.{vpe-selector, vpe-declared, caps-selectors, vpe-alone, vpe-few, vpe-jobs, call_row-derive, call_row-revoke}
 use Rattle.sem_model.proofs.steps.do_call.Goals as goal
 
 pub derive-requires-clause-declared : goal.derive-requires-clause-declared

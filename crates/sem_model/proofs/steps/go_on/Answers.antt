@@ -1,4 +1,3 @@
-use Rattle.std.proofs.Common.{◌∙◌, sym, refl, arith}
 use Rattle.sem_model.proofs.Calling.{resume-own, resume-ready, local_step-resume, vpe-placed}
 use Rattle.sem_model.proofs.steps.go_on.Goals as goal
 

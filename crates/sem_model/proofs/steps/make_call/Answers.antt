@@ -1,4 +1,4 @@
-use Rattle.std.proofs.Common.{◌∙◌, sym, refl, arith}
+use Rattle.std.proofs.Common.{◌∙◌, sym, arith}
 use Rattle.sem_model.proofs.Calling.{call-own, call-next, call-built, call-step_is, counted-side, counted-jobs, vpe-placed, vpe-few}
 use Rattle.sem_model.proofs.steps.make_call.Goals as goal
 

@@ -1,6 +1,6 @@
-use Rattle.std.proofs.Common.{rules, arith, ◌∙◌, ap, sym}
+use Rattle.std.proofs.Common.{rules, arith}
 use Rattle.sem_model.specs.contracts.state.World.{the_view}
-use Rattle.sem_model.proofs.BuiltWorlds.{step-can, step-kernel, step-entry, step-built, step-after, step-few}
+use Rattle.sem_model.proofs.BuiltWorlds.{step-can, step-entry, step-built, step-after, step-few}
 use Rattle.sem_model.proofs.steps.step.Goals as goal
 
 pub act_on-requires-clause-enabled : goal.act_on-requires-clause-enabled

@@ -1,5 +1,5 @@
 use Rattle.std.proofs.Common.{◌≡◌, ℕ, zero, suc, ◌<◌, [], ◌∷◌, Option, Some, None, replicate, get_or, refl, arith, rules}
-use Rattle.std.specs.List.{slice_set}
+use Rattle.std.specs.List.{slice_set, All}
 use Rattle.std.proofs.lemmas.List.Elements.{All-cons, All-nil}
 use Rattle.sem_key.specs.MembershipTable.{MembershipTable}
 use Rattle.sem_key.specs.declared.object.Object.TheVariants.{Mem}
@@ -9,6 +9,7 @@ use Rattle.sem_msg.specs.declared.setup.Root.{Root}
 use Rattle.sem_msg.specs.declared.setup.VpeDecl.{VpeDecl}
 use Rattle.sem_msg.specs.Calls.{IsValidCall}
 use Rattle.sem_msg.specs.Setup.{Setup, IsSetup, IsRoot, IsVpeDecl, services_from}
+use Rattle.sem_model.specs.Built.{IsBuilt, IsBuiltCall, IsMemoryRoot}
 use Rattle.sem_model.proofs.tests.one_vpe.Goals as goal
 
 abbrev owners : MembershipTable
@@ -72,3 +73,21 @@ is_setup = record {
 pub invariant_of-result : goal.invariant_of-result
 invariant_of-result c =
     rw (c.in_ok-set.ensures.ok, c.empty-owners.ensures.empty, c.in_ok-push-4.ensures.ok, c.new-vpes.ensures, c.in_ok-push-3.ensures.ok, c.in_ok-push-2.ensures.ok, c.new-calls.ensures, c.in_ok-push.ensures.ok, c.new-roots.ensures, c.new.ensures, c.new-2.ensures, c.new-3.ensures, c.new-4.ensures) is_setup
+
+-- it can be run
+is_built : IsBuilt setup
+is_built = record {
+  one_kernel = refl;
+  one_pe = omega arith;
+  one_vpe = omega arith;
+  memory = All-cons (λ (d : VpeDecl). All IsMemoryRoot d.roots) vpe [] (All-cons IsMemoryRoot root [] refl (All-nil IsMemoryRoot)) (All-nil (λ (d : VpeDecl). All IsMemoryRoot d.roots));
+  calls = All-cons (λ (d : VpeDecl). All IsBuiltCall d.calls) vpe [] (All-cons IsBuiltCall derive (revoke ∷ []) tt (All-cons IsBuiltCall revoke [] tt (All-nil IsBuiltCall))) (All-nil (λ (d : VpeDecl). All IsBuiltCall d.calls));
+  no_services = refl;
+  no_offers = refl;
+  no_denies = refl;
+  no_kills = refl;
+}
+
+pub returns : goal.returns
+returns c =
+    rw (c.in_ok-set.ensures.ok, c.empty-owners.ensures.empty, c.in_ok-push-4.ensures.ok, c.new-vpes.ensures, c.in_ok-push-3.ensures.ok, c.in_ok-push-2.ensures.ok, c.new-calls.ensures, c.in_ok-push.ensures.ok, c.new-roots.ensures, c.new.ensures, c.new-2.ensures, c.new-3.ensures, c.new-4.ensures) is_built
