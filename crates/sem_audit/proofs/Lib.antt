@@ -1,0 +1,6 @@
+pub mod Reading
+pub mod Roots
+pub mod Ended
+pub mod Order
+pub mod Runs
+pub mod Played

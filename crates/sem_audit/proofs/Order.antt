@@ -1,0 +1,78 @@
+-- What is held, in rising key order.
+use Rattle.std.proofs.Common.{◌≡◌, ◌≤◌, ◌<◌, Bool, true, false, cond, List, [], ◌∷◌, append-nil, ℕ, ◌+◌, length, take, get_or, map, not, refl, sym, ap, arith}
+use Rattle.std.specs.List.{filter, flat_map, insert}
+use Rattle.std.specs.List.Sorted.{IsPartitionPoint}
+use Rattle.std.proofs.lemmas.Bool.Decides.{nat_tests}
+use Rattle.std.proofs.lemmas.List.{map-append, take_more}
+use Rattle.std.proofs.lemmas.Grind.{flat_map-append}
+use Rattle.std.proofs.lemmas.List.Sorted.{IsNonDecreasingBy-insert}
+use Rattle.sem_key.specs.KeyName.{KeyName, packed, key_lt}
+use Rattle.sem_key.specs.Lists.{in_turn}
+use Rattle.sem_key.specs.Capability.{Capability}
+use Rattle.sem_key.proofs.Filtered.{filter-front, filter-back}
+use Rattle.sem_journal.specs.declared.audit.Held.{Held}
+use Rattle.sem_journal.specs.AuditList.{held_pairs}
+use Rattle.sem_machine.specs.Sides.{Side, with_cap}
+use Rattle.sem_machine.specs.Machine.{World}
+use Rattle.sem_machine.proofs.InTurns.{in_turn-append}
+use Rattle.sem_audit.specs.HeldKeys.{held}
+use Rattle.sem_audit.specs.Holding.{holding, IsInOrder, with_held, with_caps}
+
+-- the place for a key: what stands before it comes before the key, and nothing else does
+abbrev pub IsPlaceFor : List Held → KeyName → ℕ → Type 0
+IsPlaceFor hs k at = IsPartitionPoint (λ h. key_lt h.key k ≡ true) (λ h. key_lt h.key k ≡ false) hs at
+
+-- inserted there, it stands behind what comes before it
+pub insert-with_held : (hs : List Held) (h : Held) (at : ℕ) → IsPlaceFor hs h.key at → insert hs at h ≡ with_held hs h
+insert-with_held hs h at place =
+    let front = filter-front (λ x. key_lt x.key h.key) hs at place.0 place.1 in
+    let back = filter-back (λ x. not (key_lt x.key h.key)) hs at (λ k d low high. ap not (place.0 k d low high)) (λ k d low high. ap not (place.1 k d low high)) in
+    rw (front, back) refl
+
+-- and the list stays in order
+pub insert-in_order : (hs : List Held) (h : Held) (at : ℕ) → IsInOrder hs → at ≤ length hs → IsPlaceFor hs h.key at → IsInOrder (insert hs at h)
+insert-in_order hs h at order within place =
+    IsNonDecreasingBy-insert (λ x. packed x.key) hs at h order within
+    (λ k d low. let before = place.0 k d (omega arith) low in grind (arith, nat_tests))
+    (λ k d high inside. let behind = place.1 k d high inside in grind (arith, nat_tests))
+
+filter-map : {X Y : Type 0} (f : X → Y) (p : Y → Bool) (xs : List X) → filter p (map f xs) ≡ map f (filter (λ x. p (f x)) xs)
+filter-map f p [] = refl
+filter-map f p (x ∷ xs) = head (p (f x)) (filter-map f p xs)
+  where
+    head : (t : Bool) → filter p (map f xs) ≡ map f (filter (λ x. p (f x)) xs) → cond t (f x ∷ filter p (map f xs)) (filter p (map f xs)) ≡ map f (cond t (x ∷ filter (λ x. p (f x)) xs) (filter (λ x. p (f x)) xs))
+    head true same = ap (λ ys. f x ∷ ys) same
+    head false same = same
+
+-- a capability at its place is what is held at its place
+holding-with_cap : (cs : List Capability) (c : Capability) → with_held (map holding cs) (holding c) ≡ map holding (with_cap cs c)
+holding-with_cap cs c =
+    rw (filter-map holding (λ h. key_lt h.key c.key) cs, filter-map holding (λ h. not (key_lt h.key c.key)) cs) (sym (map-append holding (filter (λ x. key_lt x.key c.key) cs) (c ∷ filter (λ x. not (key_lt x.key c.key)) cs)))
+
+pub with_caps-none : (found : List Held) → with_caps found [] ≡ found
+unfolding in_turn
+with_caps-none found = refl
+
+-- what is held of one capability more
+pub with_caps-more : (found now new : List Held) (cs : List Capability) (i : ℕ) (c : Capability) → i < length cs → c ≡ get_or cs i c → now ≡ with_caps found (take i cs) → new ≡ with_held now (holding c) → new ≡ with_caps found (take (i + 1) cs)
+unfolding in_turn
+with_caps-more found now new cs i c more at so_far is = rw (take_more cs i c more, in_turn-append, ← at, ← so_far) is
+
+-- what is held at one side more
+pub with_sides-more : (ss : List Side) (i : ℕ) (s : Side) (now new : List Held) → i < length ss → s ≡ get_or ss i s → now ≡ with_caps [] (flat_map (λ (x : Side). x.caps) (take i ss)) → new ≡ with_caps now s.caps → new ≡ with_caps [] (flat_map (λ (x : Side). x.caps) (take (i + 1) ss))
+with_sides-more ss i s now new more at so_far is =
+    rw (take_more ss i s more, flat_map-append, in_turn-append, ← at, ← so_far, append-nil) is
+
+-- so it is with capabilities that are put at their places in turn
+pub with_caps-is : (cs found : List Capability) → with_caps (map holding found) cs ≡ map holding (in_turn (λ c found. with_cap found c) cs found)
+unfolding in_turn
+with_caps-is [] found = refl
+with_caps-is (c ∷ cs) found = rw (holding-with_cap found c) (with_caps-is cs (with_cap found c))
+
+holding-pairs : (cs : List Capability) → held_pairs (map holding cs) ≡ map (λ c. (c.key, c.selector)) cs
+holding-pairs [] = refl
+holding-pairs (c ∷ cs) = ap (λ ps. (c.key, c.selector) ∷ ps) (holding-pairs cs)
+
+-- the list with what all capabilities of a world hold tells what is held in it
+pub held-is : (W : World) (hs : List Held) → hs ≡ with_caps [] (flat_map (λ (s : Side). s.caps) W.sides) → held_pairs hs ≡ held W
+held-is W hs is = rw (is, with_caps-is (flat_map (λ (s : Side). s.caps) W.sides) [], holding-pairs) refl

@@ -1,0 +1,24 @@
+-- What the kernels hold, and the text of the report of a journal ("The report" in docs/texts.md).
+use Rattle.std.specs.Prelude.{ℕ, List, [], length, map, flat_map}
+use Rattle.sem_key.specs.KeyName.{KeyName}
+use Rattle.sem_key.specs.Lists.{in_turn}
+use Rattle.sem_key.specs.Capability.{Capability}
+use Rattle.sem_msg.specs.declared.entry.Entry.{Entry}
+use Rattle.sem_msg.specs.Setup.{Setup}
+use Rattle.sem_journal.specs.ReportText.{report_text}
+use Rattle.sem_machine.specs.Sides.{with_cap}
+use Rattle.sem_machine.specs.Machine.{World}
+use Rattle.sem_machine.specs.Schedules.{world_after}
+use Rattle.sem_machine.specs.Journals.{made, cut}
+
+-- the capabilities of all kernels, in rising key order
+abbrev pub all_caps : World → List Capability
+all_caps W = in_turn (λ c found. with_cap found c) (flat_map (λ s. s.caps) W.sides) []
+
+-- the keys that the kernels hold with the selectors at which they stand, in rising key order
+abbrev pub held : World → List (KeyName × ℕ)
+held W = map (λ c. (c.key, c.selector)) (all_caps W)
+
+-- the text of the report of a journal: with how many keys it made and cut, and what is held after it
+abbrev pub report : Setup → List Entry → List ℕ
+report T J = report_text T J (length (made T J)) (length (cut T J)) (held (world_after T J))

@@ -1,0 +1,3 @@
+pub mod HeldKeys
+pub mod Holding
+pub mod Ending

@@ -1,0 +1,33 @@
+ghost use Rattle.std.specs.Prelude.{◌≡◌, length, IfOk};
+ghost use Rattle.sem_journal.specs.AuditList.{held_pairs};
+ghost use Rattle.sem_machine.specs.Journals.{made as made_lem, cut};
+ghost use Rattle.sem_audit.specs.HeldKeys.{held};
+
+use crate::cuts::cut_among;
+use crate::holds::held_list;
+use crate::makes::made_keys;
+use sem_journal::Audit;
+use sem_key::OutOfMemory;
+use sem_model::World;
+use sem_msg::{Journal, Setup};
+use std::alloc::Global;
+
+/// The audit of a journal after which the kernels are in that world.
+pub fn audit_of(
+    alloc: Global,
+    setup: &Setup,
+    journal: &Journal,
+    world: &World,
+) -> Result<Audit, OutOfMemory>
+    ensures made { IfOk result (λ audit. audit.made ≡ length (made_lem setup.now journal.now.entries)) }
+    ensures cut { IfOk result (λ audit. audit.cut ≡ length (cut setup.now journal.now.entries)) }
+    ensures held { IfOk result (λ audit. held_pairs audit.held ≡ held world.now.world) }
+{
+    let made = made_keys(alloc, setup, journal)?;
+    let cut = cut_among(alloc, &made, journal)?;
+    Ok(Audit {
+        made: made.len() as u64,
+        cut: cut.as_slice().len() as u64,
+        held: held_list(alloc, world)?,
+    })
+}

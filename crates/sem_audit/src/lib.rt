@@ -1,0 +1,19 @@
+//! The audit of a journal: how many keys were made and how many were cut off, and what the kernels
+//! hold at the end.
+#![tactic(auto)]
+
+mod audits;
+mod cuts;
+mod holds;
+mod makes;
+#[cfg(test)]
+mod replay_tests;
+mod replays;
+#[cfg(test)]
+mod tests;
+
+pub use audits::audit_of;
+pub use cuts::cut_keys;
+pub use holds::held_list;
+pub use makes::made_keys;
+pub use replays::audit;

@@ -1,0 +1,58 @@
+ghost use Rattle.std.specs.Prelude.{◌≡◌, ◌≢◌, ◌⊎◌, List, ℕ, [], Some, None, map, string_bytes};
+ghost use Rattle.sem_msg.specs.Setup.{Setup, IsSetup};
+ghost use Rattle.sem_io.specs.Count.{Rose};
+ghost use Rattle.sem_io.specs.SinkBytes.{Appends};
+ghost use Rattle.sem_trace.specs.TraceText.{canonical};
+ghost use Rattle.sem_model.specs.Built.{IsBuilt};
+ghost use Rattle.sem_run.specs.declared.forms.Command.TheVariants.{Run};
+ghost use Rattle.sem_run.specs.declared.statuses.Status.{Status as StatusData};
+ghost use Rattle.sem_run.specs.Commands.{command_of};
+ghost use Rattle.sem_run.specs.Ends.{EndsDone, EndsUsage, EndsNotBuilt, EndsReadFault, EndsMemory, EndsStuck, EndsSpent, IsNotBuilt, WouldEnd, Writes, WritesPrefix};
+
+use crate::responses::respond;
+use crate::statuses::Status;
+use sem_io::{Failed, Sink, Source, write_all};
+use sem_msg::Journal;
+use std::alloc::Global;
+
+/// Does what the words ask for: reads the input, writes to the sink, leaves the journal of the run, and waits for nobody.
+/// The status tells how it ended.
+pub fn semper_alone<S: Source, K: Sink>(
+    alloc: Global,
+    words: &[String],
+    input: &mut S,
+    out: &mut K,
+    journal: &mut Journal,
+) -> Status
+    requires { journal.old.entries ≡ [] }
+
+    // The seeded run: the journal is the seeded one of the trace that was read to its end, it is complete, and its report was
+    // written and nothing else.
+    ensures done { result ≡ Status.Done → Writes (K.written out.old) (K.written out.new) (λ text. EndsDone (map string_bytes words.now) (S.left input.old) (S.left input.new) journal.new.entries text) }
+
+    // Why each other status comes, with the text that was written and the journal.
+    ensures usage { result ≡ Status.Usage → Writes (K.written out.old) (K.written out.new) (λ text. EndsUsage (map string_bytes words.now) journal.new.entries text) }
+    ensures not_built { result ≡ Status.NotBuilt → Writes (K.written out.old) (K.written out.new) (λ text. EndsNotBuilt (map string_bytes words.now) (S.left input.old) (S.faults input.old) (S.faults input.new) journal.new.entries text) }
+    ensures read_fault { result ≡ Status.ReadFault → Writes (K.written out.old) (K.written out.new) (λ text. EndsReadFault (map string_bytes words.now) (S.faults input.old) (S.faults input.new) journal.new.entries text) }
+    ensures memory { result ≡ Status.Memory → Writes (K.written out.old) (K.written out.new) (λ text. EndsMemory (S.left input.old) (S.left input.new) journal.new.entries text) }
+    ensures stuck { result ≡ Status.Stuck → Writes (K.written out.old) (K.written out.new) (λ text. EndsStuck (map string_bytes words.now) (S.left input.old) (S.left input.new) journal.new.entries text) }
+    ensures spent { result ≡ Status.Spent → Writes (K.written out.old) (K.written out.new) (λ text. EndsSpent (map string_bytes words.now) (S.left input.old) (S.left input.new) journal.new.entries text) }
+
+    // A write that failed: the journal is as with the status whose text was being written.
+    ensures write_fault { result ≡ Status.WriteFault → Rose (K.faults out.old) (K.faults out.new) }
+    ensures prefix { result ≡ Status.WriteFault → (status : StatusData) × WritesPrefix (K.written out.old) (K.written out.new) (λ text. WouldEnd (map string_bytes words.now) (S.left input.old) (S.left input.new) (S.faults input.old) (S.faults input.new) journal.new.entries text status) }
+
+    // Exactly: words that are no command, and what is not built, are told so, unless memory was wanting or a count of faults rose.
+    ensures usage_exactly { command_of (map string_bytes words.now) ≡ None → (result ≡ Status.Usage) ⊎ ((result ≡ Status.WriteFault) ⊎ (result ≡ Status.Memory)) }
+    ensures not_built_exactly { IsNotBuilt (map string_bytes words.now) (S.left input.old) → S.left input.old ≢ None → (result ≡ Status.NotBuilt) ⊎ ((result ≡ Status.ReadFault) ⊎ ((result ≡ Status.WriteFault) ⊎ (result ≡ Status.Memory))) }
+
+    // A trace that can be run is run, unless memory was wanting or a count of faults rose.
+    ensures runs { (T : Setup) (seed : ℕ) → command_of (map string_bytes words.now) ≡ Some (Run seed) → IsSetup T → IsBuilt T → S.left input.old ≡ Some (canonical T) → (result ≡ Status.Done) ⊎ ((result ≡ Status.Stuck) ⊎ ((result ≡ Status.Spent) ⊎ ((result ≡ Status.ReadFault) ⊎ ((result ≡ Status.WriteFault) ⊎ (result ≡ Status.Memory))))) }
+{
+    let mut text = Vec::new(alloc);
+    let status = respond(alloc, words, input, journal, &mut text);
+    match write_all(out, &text) {
+        Ok(()) => status,
+        Err(Failed) => Status::WriteFault,
+    }
+}
