@@ -17,7 +17,7 @@ pub fn held_list(alloc: Global, world: &World) -> Result<HeldList, OutOfMemory>
 }
 
 // What the kernels hold, in rising key order.
-fn found_held(alloc: Global, sides: &[Side]) -> Result<Vec<Held>, OutOfMemory>
+pub fn found_held(alloc: Global, sides: &[Side]) -> Result<Vec<Held>, OutOfMemory>
     ensures { IfOk result (λ found. found.items ≡ with_caps [] (flat_map (λ s. s.caps) sides.now)) }
 {
     let mut found = Vec::new(alloc);

@@ -1,10 +1,11 @@
 ghost use Rattle.std.specs.Prelude.{IfOk};
 ghost use Rattle.sem_model.specs.Built.{IsBuilt};
 
+use crate::holds::found_held;
 use crate::{audit_of, cut_keys, held_list, made_keys};
-use sem_journal::{Audit, Held};
+use sem_journal::{Audit, Held, HeldList};
 use sem_key::{Key, Kind, Membership, Object};
-use sem_model::{Capability, Links, Side, World};
+use sem_model::{Capability, Side, boot};
 use sem_msg::{
     Act, Call, Calls, Denies, Detail, Entry, Event, Journal, Kills, Offers, Reply, Root, Roots,
     Services, Setup, VpeDecl, Vpes0,
@@ -151,17 +152,6 @@ fn holder(alloc: Global, key: Key, selector: u8) -> Result<Side, Fail> {
     })
 }
 
-// A world with these kernels.
-fn world_of(alloc: Global, sides: Vec<Side>) -> Result<World, Fail> {
-    let links: Vec<Links> = Vec::new(alloc);
-    Ok(World {
-        setup: one_vpe(alloc)?,
-        sides,
-        links,
-        replies: 0,
-    })
-}
-
 // The made keys of a journal are these.
 fn expect_made(
     rt: &impl Abort,
@@ -185,26 +175,30 @@ fn expect_cut(rt: &impl Abort, alloc: Global, entries: &[Entry], keys: &[Key]) -
     Ok(())
 }
 
-// This is held in a world of these kernels.
+// This is held by these kernels.
 fn expect_held(
     rt: &impl Abort,
     alloc: Global,
-    sides: Vec<Side>,
+    sides: &[Side],
     expected: &[Held],
 ) -> Result<(), Fail> {
-    let world = world_of(alloc, sides)?;
-    let held = held_list(alloc, &world)?;
+    let held = found_held(alloc, sides)?;
     assert_eq!(rt; held.as_slice(), expected);
     Ok(())
 }
 
-// The audit of a journal, where one kernel is left with this.
-fn audited(alloc: Global, entries: &[Entry], side: Side) -> Result<Audit, Fail> {
+// What is held at the start.
+fn held_at_start(alloc: Global) -> Result<HeldList, Fail> {
+    let setup = one_vpe(alloc)?;
+    let world = boot(alloc, &setup)?;
+    Ok(held_list(alloc, &world)?)
+}
+
+// The audit of a journal, with the world at the start.
+fn audited(alloc: Global, entries: &[Entry]) -> Result<Audit, Fail> {
     let setup = one_vpe(alloc)?;
     let journal = journal_of(alloc, entries)?;
-    let mut sides = Vec::new(alloc);
-    sides.push(side)?;
-    let world = world_of(alloc, sides)?;
+    let world = boot(alloc, &setup)?;
     Ok(audit_of(alloc, &setup, &journal, &world)?)
 }
 
@@ -231,17 +225,23 @@ fn what_all_kernels_hold_is_listed_in_rising_key_order(rt: HostRuntime) -> Resul
     sides.push(holder(rt.alloc(), CHILD, 1)?)?;
     let child = Held { key: CHILD, sel: 1 };
     let other = Held { key: OTHER, sel: 7 };
-    expect_held(&rt, rt.alloc(), sides, &[child, other])
+    expect_held(&rt, rt.alloc(), &sides, &[child, other])
 }
 
 #[test]
 fn an_audit_counts_the_made_and_the_cut_and_lists_the_held(rt: HostRuntime) -> Result<(), Fail> {
-    let left = holder(rt.alloc(), ROOT, 0)?;
-    let audit = audited(rt.alloc(), &[derived(), revoked(1, CHILD)], left)?;
+    let audit = audited(rt.alloc(), &[derived(), revoked(1, CHILD)])?;
     assert_eq!(rt; (audit.made, audit.cut), (2, 1));
     assert_eq!(rt;
         audit.held.as_slice(),
         [Held { key: ROOT, sel: 0 }].as_slice()
     );
+    Ok(())
+}
+
+#[test]
+fn a_root_is_held_at_its_selector(rt: HostRuntime) -> Result<(), Fail> {
+    let held = held_at_start(rt.alloc())?;
+    assert_eq!(rt; held.as_slice(), [Held { key: ROOT, sel: 0 }].as_slice());
     Ok(())
 }

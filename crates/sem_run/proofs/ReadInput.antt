@@ -1,9 +1,7 @@
 -- What the bytes that were read tell of the input.
 use Rattle.std.proofs.Common.{◌≡◌, ℕ, ◌+◌, ◌<◌, ◌≤◌, List, [], ◌∷◌, ◌++◌, length, take, Option, Some, None, IfSome, refl, sym, ◌∙◌, ap, subst, arith}
-use Rattle.std.specs.Prelude.{◌≢◌, min}
-use Rattle.std.specs.Option.{option_map}
+use Rattle.std.specs.Prelude.{◌≢◌}
 use Rattle.std.proofs.lemmas.List.{length-append, take_all, length-take}
-use Rattle.std.proofs.lemmas.Option.{same_Some}
 use Rattle.sem_msg.specs.Setup.{Setup, IsSetup}
 use Rattle.sem_io.specs.SourceBytes.{Takes}
 use Rattle.sem_trace.specs.TraceText.{canonical}

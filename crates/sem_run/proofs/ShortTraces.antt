@@ -1,23 +1,22 @@
 -- The trace of a setup that can be run is short.
-use Rattle.std.proofs.Common.{◌≡◌, ℕ, zero, suc, ◌+◌, ◌*◌, ◌<◌, ◌≤◌, ◌^◌, true, List, [], ◌∷◌, ◌++◌, length, map, get_or, Option, Some, None, refl, sym, ◌∙◌, ap, subst, arith, true≢false, append-nil}
+use Rattle.std.proofs.Common.{◌≡◌, ℕ, suc, ◌+◌, ◌*◌, ◌<◌, ◌≤◌, ◌^◌, true, List, [], ◌∷◌, ◌++◌, length, map, get_or, Option, Some, None, refl, sym, ◌∙◌, ap, subst, arith, true≢false, append-nil}
 use Rattle.std.specs.Prelude.{codes, decimal, flat_map}
 use Rattle.std.specs.List.{All, sum_by, enumerate_from}
 use Rattle.std.proofs.lemmas.List.{length-append, length-map}
 use Rattle.std.proofs.lemmas.Fmt.{length-decimal-le}
-use Rattle.std.proofs.lemmas.List.Elements.{All-append, All-cons, All-head, All-map, All-nil, All-tail, All-weaker, All-contains}
+use Rattle.std.proofs.lemmas.List.Elements.{All-append, All-cons, All-head, All-map, All-nil, All-tail}
 use Rattle.sem_key.specs.declared.key.Kind.TheVariants.{Mem as MemKind}
 use Rattle.sem_key.specs.declared.object.Object.{Object}
 use Rattle.sem_key.specs.declared.object.Object.TheVariants.{Mem, Recv, Send, Serv, Sess}
 use Rattle.sem_key.specs.ObjectRanges.{IsValidObject}
 use Rattle.sem_msg.specs.declared.call.Call.{Call}
 use Rattle.sem_msg.specs.declared.call.Call.TheVariants.{Derive, Gate, Obtain, Delegate, OpenSession, AskOffer, Revoke, Bind, Read, Write, Send as SendCall, Credit, Exit}
-use Rattle.sem_msg.specs.declared.setup.Root.{Root}
 use Rattle.sem_msg.specs.declared.setup.VpeDecl.{VpeDecl}
 use Rattle.sem_msg.specs.Calls.{IsValidCall}
-use Rattle.sem_msg.specs.Setup.{Setup, IsSetup, IsRoot, IsVpeDecl, call_count}
+use Rattle.sem_msg.specs.Setup.{Setup, IsSetup, IsVpeDecl}
 use Rattle.sem_text.specs.Lines.{behind_blanks, line, text}
 use Rattle.sem_trace.specs.Words.{object_words, call_words}
-use Rattle.sem_trace.specs.TraceText.{pe_line, vpe_line, root_line, root_line_of, offer_line, deny_line, kill_line, trace_lines, canonical}
+use Rattle.sem_trace.specs.TraceText.{pe_line, vpe_line, root_line, root_line_of, offer_line, deny_line, kill_line, canonical}
 use Rattle.sem_machine.specs.Calls.{is_of}
 use Rattle.sem_model.proofs.Booting.{roots-few}
 use Rattle.sem_model.specs.Built.{IsBuilt, IsBuiltCall, IsMemoryRoot}

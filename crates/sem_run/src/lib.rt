@@ -20,6 +20,8 @@ mod run_tests;
 mod runs;
 mod setups;
 mod statuses;
+#[cfg(test)]
+mod top_tests;
 
 pub use alone::semper_alone;
 pub use built::is_built;

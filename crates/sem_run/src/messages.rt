@@ -12,7 +12,7 @@ pub fn usage() -> &'static [u8]
     b"usage: semper run SEED | threads SEED | check | gen SEED VPES CALLS | soak SEED VPES CALLS\n"
 }
 
-/// The line that tells that a command is not built yet.
+/// The line that tells that the command, or what the input asks for, is not built yet.
 pub fn not_built() -> &'static [u8]
     ensures { result.now ≡ not_built_line }
 {

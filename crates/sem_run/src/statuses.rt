@@ -18,7 +18,7 @@ pub enum Status {
     Stuck,
     /// The run has as many entries as it may have, and an event is enabled.
     Spent,
-    /// The command, or the setup that was read, is not built yet.
+    /// The command is not built yet, or the input is the canonical text of no setup that can be run.
     NotBuilt,
 }
 

@@ -1,3 +1,5 @@
+use Rattle.std.proofs.lemmas.Bool.{true_from_ne_false}
+use Rattle.sem_machine.specs.Machine.{is_enabled}
 use Rattle.sem_audit.proofs.Played.{HasPlayed-none, HasPlayed-more}
 use Rattle.sem_audit.proofs.replay_tests.played.Goals as goal
 
@@ -6,5 +8,5 @@ loop-event-init c = HasPlayed-none c.args.setup.now _ _ c.new-journal.ensures c.
 
 pub loop-event-preserved : goal.loop-event-preserved
 loop-event-preserved c =
-    let step = c.in-Ok.ensures.step in
-    HasPlayed-more c.args.setup.now _ _ _ _ _ c.in-Ok.entry c.loop-event.invariant step.0 step.1 step.2 (rw c.in_ok-room.ensures.entries at c.push.ensures.entries)
+    let enabled = true_from_ne_false (is_enabled c.loop-event.world.setup c.loop-event.world.world _) (λ refused. let wrong = c.in-Ok.ensures.not_enabled.1 refused in cc wrong) in
+    HasPlayed-more c.args.setup.now _ _ _ _ _ c.in-Ok.entry c.loop-event.invariant enabled c.in-Ok.ensures.entry c.in-Ok.ensures.after (rw c.in_ok-room.ensures.entries at c.push.ensures.entries)

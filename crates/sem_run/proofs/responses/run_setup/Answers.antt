@@ -1,4 +1,4 @@
-use Rattle.std.proofs.Common.{rules, refl}
+use Rattle.std.proofs.Common.{rules}
 use Rattle.sem_run.proofs.responses.run_setup.Goals as goal
 
 -- the run is stuck at a VPE

@@ -1,0 +1,173 @@
+use crate::{Status, semper_alone};
+use sem_io::{MemSink, MemSource};
+use sem_msg::Journal;
+use std::alloc::Global;
+use std::process::Abort;
+use std::test::Fail;
+
+// A trace of one VPE with memory, but for its calls and its end.
+const DECLARED: &str = "semper trace 1\nkernels 1\npe 0 0\nvpe 0 0\nroot 0 0 mem 0 4096 7\n";
+
+const DERIVE_AND_REVOKE: &str = "call 0 derive 0 1 0 1024 1\ncall 0 revoke 0\nend\n";
+
+const DERIVED_AND_REVOKED: &str =
+    "journal 3\n0 call 0 0 derive 0 1 0 1024 1 grant 0.0.1.0 0.0.1.1 reply 0 0\n0 call 0 1 revoke 0 cut 0.0.1.0\n0 resume 0 reply 0 0\naudit\nmade 2\ncut 1\nheld 0\nend\n";
+
+const USAGE: &str =
+    "usage: semper run SEED | threads SEED | check | gen SEED VPES CALLS | soak SEED VPES CALLS\n";
+
+// The words of a line, parted by blanks; none where it is empty.
+fn words(alloc: Global, line: &str) -> Result<Vec<String>, Fail> {
+    let mut words = Vec::new(alloc);
+    for word in line.split(' ').filter(|word| !word.is_empty()) {
+        words.push(String::from_str(alloc, word)?)?;
+    }
+    Ok(words)
+}
+
+// What the program answered, and how many entries the journal has.
+#[derive(Drop)]
+struct Ending {
+    status: Status,
+    written: Vec<u8>,
+    entries: usize,
+}
+
+// What it answers over this source and this sink.
+fn answer_over(
+    alloc: Global,
+    line: &str,
+    mut source: MemSource,
+    mut sink: MemSink,
+) -> Result<Ending, Fail> {
+    let words = words(alloc, line)?;
+    let mut journal = Journal::new(alloc);
+    let status = semper_alone(alloc, &words, &mut source, &mut sink, &mut journal);
+    Ok(Ending {
+        status,
+        written: sink.bytes,
+        entries: journal.len(),
+    })
+}
+
+// What it answers to these words and this input.
+fn answer(alloc: Global, line: &str, input: &str) -> Result<Ending, Fail> {
+    let bytes = input.as_bytes().to_vec(alloc)?;
+    let source = MemSource::new(bytes, 4096, Vec::new(alloc));
+    let sink = MemSink::new(alloc, 10_000_000, 4096, Vec::new(alloc))?;
+    answer_over(alloc, line, source, sink)
+}
+
+// Asserts the whole answer.
+fn check(rt: &impl Abort, answer: &Ending, status: Status, written: &str, entries: usize) {
+    assert_eq!(rt; answer.status, status);
+    assert_eq!(rt; answer.written.as_slice(), written.as_bytes());
+    assert_eq!(rt; answer.entries, entries);
+}
+
+#[test]
+fn a_derived_capability_goes_with_its_root(rt: HostRuntime) -> Result<(), Fail> {
+    let trace = format!(in rt.alloc(); "{DECLARED}{DERIVE_AND_REVOKE}")?;
+    let report = format!(in rt.alloc(); "semper report 1\n{trace}{DERIVED_AND_REVOKED}")?;
+    for line in ["run 0", "run 1", "run 18446744073709551615"] {
+        let answer = answer(rt.alloc(), line, trace.as_str())?;
+        check(&rt, &answer, Status::Done, report.as_str(), 3);
+    }
+    Ok(())
+}
+
+#[test]
+fn a_revoked_part_leaves_its_root(rt: HostRuntime) -> Result<(), Fail> {
+    let calls = "call 0 derive 0 1 0 1024 1\ncall 0 revoke 1\ncall 0 revoke 1\nend\n";
+    let told =
+        "journal 4\n0 call 0 0 derive 0 1 0 1024 1 grant 0.0.1.0 0.0.1.1 reply 0 0\n0 call 0 1 revoke 1 cut 0.0.1.1\n0 resume 0 reply 0 0\n0 call 0 2 revoke 1 reply 0 3\naudit\nmade 2\ncut 1\nheld 1\nkey 0.0.1.0 0\nend\n";
+    let trace = format!(in rt.alloc(); "{DECLARED}{calls}")?;
+    let report = format!(in rt.alloc(); "semper report 1\n{trace}{told}")?;
+    let answer = answer(rt.alloc(), "run 0", trace.as_str())?;
+    check(&rt, &answer, Status::Done, report.as_str(), 4);
+    Ok(())
+}
+
+#[test]
+fn a_vpe_draws_at_most_4096_numbers(rt: HostRuntime) -> Result<(), Fail> {
+    let mut trace = String::new(rt.alloc());
+    trace.push_str(DECLARED)?;
+    for _ in 0..4095 {
+        trace.push_str("call 0 derive 0 1 0 1 1\ncall 0 revoke 1\n")?;
+    }
+    trace.push_str("call 0 derive 0 1 0 1 1\nend\n")?;
+    let answer = answer(rt.alloc(), "run 0", trace.as_str())?;
+    assert_eq!(rt; answer.status, Status::Done);
+    assert_eq!(rt; answer.entries, 12286);
+    let end =
+        b"0 call 0 8190 derive 0 1 0 1 1 reply 0 7\naudit\nmade 4096\ncut 4095\nheld 1\nkey 0.0.1.0 0\nend\n";
+    assert!(rt; answer.written.ends_with(end));
+    Ok(())
+}
+
+#[test]
+fn a_sink_that_fails_leaves_a_prefix(rt: HostRuntime) -> Result<(), Fail> {
+    let trace = format!(in rt.alloc(); "{DECLARED}{DERIVE_AND_REVOKE}")?;
+    let report = format!(in rt.alloc(); "semper report 1\n{trace}{DERIVED_AND_REVOKED}")?;
+    let calls = report.len().div_ceil(64);
+    for call in 0..calls {
+        let bytes = trace.as_bytes().to_vec(rt.alloc())?;
+        let source = MemSource::new(bytes, 4096, Vec::new(rt.alloc()));
+        let fails = vec![in rt.alloc(); call as u64]?;
+        let sink = MemSink::new(rt.alloc(), 4096, 64, fails)?;
+        let answer = answer_over(rt.alloc(), "run 0", source, sink)?;
+        assert_eq!(rt; answer.status, Status::WriteFault, "call {call}");
+        assert_eq!(rt; answer.written.len(), call * 64);
+        assert!(rt; report.as_bytes().starts_with(&answer.written));
+        assert_eq!(rt; answer.entries, 3, "call {call}");
+    }
+    Ok(())
+}
+
+#[test]
+fn a_source_that_fails_leaves_nothing_written(rt: HostRuntime) -> Result<(), Fail> {
+    let trace = format!(in rt.alloc(); "{DECLARED}{DERIVE_AND_REVOKE}")?;
+    let bytes = trace.as_bytes().to_vec(rt.alloc())?;
+    let source = MemSource::new(bytes, 4096, vec![in rt.alloc(); 0u64]?);
+    let sink = MemSink::new(rt.alloc(), 4096, 64, Vec::new(rt.alloc()))?;
+    let answer = answer_over(rt.alloc(), "run 0", source, sink)?;
+    check(&rt, &answer, Status::ReadFault, "", 0);
+    Ok(())
+}
+
+#[test]
+fn other_words_get_the_usage(rt: HostRuntime) -> Result<(), Fail> {
+    for line in ["run", "run 01", "gen 0 65 1", ""] {
+        let answer = answer(rt.alloc(), line, "")?;
+        check(&rt, &answer, Status::Usage, USAGE, 0);
+    }
+    Ok(())
+}
+
+#[test]
+fn what_is_not_built_is_told_so(rt: HostRuntime) -> Result<(), Fail> {
+    for line in ["threads 0", "check", "gen 5 1 0", "soak 9 8 100"] {
+        let answer = answer(rt.alloc(), line, "")?;
+        check(&rt, &answer, Status::NotBuilt, "not built\n", 0);
+    }
+    for input in [
+        "",
+        "semper trace 1\nkernels 2\npe 0 0\npe 1 1\nend\n",
+        "semper trace 1\nkernels 1\npe 0 0\nvpe 0 0\ncall 0 exit\nend\n",
+        "semper trace 1\n\nkernels 1\nend\n",
+    ] {
+        let answer = answer(rt.alloc(), "run 0", input)?;
+        check(&rt, &answer, Status::NotBuilt, "not built\n", 0);
+    }
+    Ok(())
+}
+
+#[test]
+fn a_trace_without_a_vpe_has_an_empty_journal(rt: HostRuntime) -> Result<(), Fail> {
+    let trace = "semper trace 1\nkernels 1\npe 0 0\nend\n";
+    let report =
+        "semper report 1\nsemper trace 1\nkernels 1\npe 0 0\nend\njournal 0\naudit\nmade 0\ncut 0\nheld 0\nend\n";
+    let answer = answer(rt.alloc(), "run 7", trace)?;
+    check(&rt, &answer, Status::Done, report, 0);
+    Ok(())
+}
