@@ -1,0 +1,63 @@
+-- What is observed of a side and of a world: functions read off them. Facts about schedules are stated over these ("Observations" in docs/proof.md).
+use Rattle.std.specs.Prelude.{◌≡◌, ℕ, ◌==◌, Bool, false, List, map, Option, Some, None, AllPairs, if◌then◌else◌}
+use Rattle.std.specs.Option.{option_map, option_and_then}
+use Rattle.sem_key.specs.KeyName.{KeyName, key_eq}
+use Rattle.sem_key.specs.Capability.{Capability}
+use Rattle.sem_msg.specs.declared.message.Message.{Message}
+use Rattle.sem_msg.specs.declared.state.Pending.{Pending}
+use Rattle.sem_msg.specs.Rows.{JobRow, Endpoint, VpeRow}
+use Rattle.sem_machine.specs.Sides.{Side, cap, row, pending, job, outbox, unbound_from}
+use Rattle.sem_machine.specs.Machine.{World, side, link}
+
+-- what is seen of a side
+pub record Seen : Type 0 where
+  -- the held capability of a key
+  pub cap : KeyName → Option Capability
+  -- what is kept of a VPE
+  pub row : ℕ → VpeRow
+  -- the pending delegation of a key
+  pub pending : KeyName → Option Pending
+  -- the open job of an id
+  pub job : ℕ → Option JobRow
+  pub next_job : ℕ
+  pub inbox : Option (ℕ × Message)
+  -- the messages that wait to be sent to a kernel
+  pub outbox : ℕ → List Message
+
+abbrev pub seen : Side → Seen
+seen s = record { cap = cap s; row = row s; pending = pending s; job = job s; next_job = s.next_job; inbox = s.inbox; outbox = outbox s }
+
+-- what is seen of a world
+pub record Observed : Type 0 where
+  -- of the side of a kernel
+  pub kernel : ℕ → Seen
+  -- the link from a kernel to another
+  pub link : ℕ → ℕ → List Message
+  pub replies : ℕ
+
+abbrev pub observed : World → Observed
+observed W = record { kernel = λ i. seen (side W i); link = link W; replies = W.replies }
+
+-- the function with another value at one number
+abbrev pub at : {X : Type 0} → ℕ → X → (ℕ → X) → ℕ → X
+at i x f j = if j == i then x else f j
+
+-- the function with another value at one key
+abbrev pub at_key : {X : Type 0} → KeyName → X → (KeyName → X) → KeyName → X
+at_key k x f q = if key_eq q k then x else f q
+
+-- the row with no endpoint bound to one of these keys
+abbrev pub row_unbound : List KeyName → VpeRow → VpeRow
+row_unbound ks r = record r { endpoints = map {A = Option Endpoint} (unbound_from ks) r.endpoints }
+
+-- the capabilities whose keys pass a test, changed
+abbrev pub caps_changed : (KeyName → Bool) → (Capability → Capability) → (KeyName → Option Capability) → KeyName → Option Capability
+caps_changed test f caps q = if test q then option_map f (caps q) else caps q
+
+-- the capability, where it passes the test
+abbrev pub if_kept : (Capability → Bool) → Option Capability → Option Capability
+if_kept test o = option_and_then (λ c. if test c then Some c else None) o
+
+-- the keys of the capabilities are distinct
+abbrev pub AreDistinct : List Capability → Type 0
+AreDistinct cs = AllPairs (λ a b. key_eq a.key b.key ≡ false) cs
