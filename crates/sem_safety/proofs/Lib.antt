@@ -1,3 +1,4 @@
 pub mod Updates
 pub mod Worlds
 pub mod Noted
+pub mod GrownLines
