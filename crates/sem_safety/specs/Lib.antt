@@ -1,3 +1,4 @@
 pub mod Seen
 pub mod History
 pub mod Growth
+pub mod Counts
