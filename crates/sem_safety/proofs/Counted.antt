@@ -1,15 +1,13 @@
 -- Sums over kernels, and how many messages are in flight once one is sent or handled.
-use Rattle.std.proofs.Common.{◌≡◌, ℕ, zero, suc, ◌+◌, ◌<◌, ◌≤◌, Bool, true, false, if◌then◌else◌, List, [], ◌∷◌, ◌++◌, Option, Some, None, refl, sym, ◌∙◌, ap, subst, inl, inr, arith, ◌⊎◌, eq-eqb}
-use Rattle.std.specs.Prelude.{◌==◌, count_by}
-use Rattle.std.proofs.lemmas.Bool.{cases_Bool, cases_eq, cond-true, cond-false, ne_eqb}
+use Rattle.std.proofs.Common.{◌≡◌, ℕ, zero, suc, ◌+◌, ◌<◌, ◌≤◌, Bool, List, [], ◌∷◌, ◌++◌, Some, None, refl, sym, ◌∙◌, ap, inl, inr, arith}
+use Rattle.std.specs.Prelude.{count_by}
+use Rattle.std.proofs.lemmas.Bool.{cases_eq}
 use Rattle.std.proofs.lemmas.List.Sums.{sum_by-append, sum_by-cons}
 use Rattle.sem_msg.specs.declared.message.Message.{Message}
-use Rattle.sem_machine.specs.Sides.{Side, outbox, send, sent, with_inbox}
+use Rattle.sem_machine.specs.Sides.{outbox, send, sent, with_inbox}
 use Rattle.sem_machine.specs.Machine.{World, side, link, with_side, with_link}
 use Rattle.sem_machine.specs.Living.{way}
-use Rattle.sem_safety.specs.Seen.{at}
 use Rattle.sem_safety.specs.Counts.{sum_to, one_if, in_flight}
-use Rattle.sem_safety.proofs.Updates.{ext}
 use Rattle.sem_safety.proofs.Worlds.{way-flushed, way-fetched, way-taken, way-taken_other, way-posted, way-posted_other}
 
 -- sums of functions that agree below n

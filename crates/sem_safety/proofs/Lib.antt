@@ -3,3 +3,8 @@ pub mod Worlds
 pub mod Noted
 pub mod GrownLines
 pub mod Counted
+pub mod Carrying
+pub mod CarryingRevokes
+pub mod CarryingRows
+pub mod CarryingSteps
+pub mod CarryingWorlds
