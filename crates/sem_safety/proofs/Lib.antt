@@ -8,3 +8,4 @@ pub mod CarryingRevokes
 pub mod CarryingRows
 pub mod CarryingSteps
 pub mod CarryingWorlds
+pub mod Parents

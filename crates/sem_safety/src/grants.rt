@@ -1,0 +1,17 @@
+ghost use Rattle.std.specs.Prelude.{◌≡◌, List, ◌∷◌, ◌++◌, Contains, Some};
+ghost use Rattle.sem_key.specs.KeyName.{KeyName};
+ghost use Rattle.sem_msg.specs.declared.entry.Entry.{Entry};
+ghost use Rattle.sem_msg.specs.declared.event.Event.{Event};
+ghost use Rattle.sem_msg.specs.Setup.{Setup};
+ghost use Rattle.sem_machine.specs.Machine.{World, entry_of};
+ghost use Rattle.sem_machine.specs.Schedules.{IsSchedule, world_after};
+ghost use Rattle.sem_machine.specs.Journals.{made};
+ghost use Rattle.sem_machine.specs.Safety.{HoldsUnmarked};
+
+/// Just before a grant its kernel holds the parent, and no job has marked it; so the parent was made by then. This is the half
+/// of the sentence of sound grants that speaks of the parent.
+pub fn grants_are_below_what_is_held()
+    ensures event { (T : Setup) (W : World) (e : Event) (p k : KeyName) → (entry_of T W e).grant ≡ Some (p, k) → HoldsUnmarked W e.kernel p }
+    ensures entry { (T : Setup) (J before later : List Entry) (e : Entry) (p k : KeyName) → IsSchedule T J → J ≡ before ++ e ∷ later → e.grant ≡ Some (p, k) → HoldsUnmarked (world_after T before) e.event.kernel p }
+    ensures made { (T : Setup) (J before later : List Entry) (e : Entry) (p k : KeyName) → IsSchedule T J → J ≡ before ++ e ∷ later → e.grant ≡ Some (p, k) → Contains (made T before) p }
+{}
