@@ -1,18 +1,21 @@
 -- Each change of a side keeps a fact about the keys that it carries, where what is new has it.
-use Rattle.std.proofs.Common.{◌≡◌, ℕ, zero, suc, Bool, not, if◌then◌else◌, List, [], ◌∷◌, ◌++◌, map, drop, get_or, Option, Some, None, sym, subst}
+use Rattle.std.proofs.Common.{refl, ◌≡◌, ℕ, zero, suc, Bool, not, if◌then◌else◌, List, [], ◌∷◌, ◌++◌, map, drop, get_or, Option, Some, None, sym, subst}
 use Rattle.std.specs.List.{All, filter, list_any}
+use Rattle.std.specs.Option.{option_map}
 use Rattle.std.proofs.lemmas.Bool.{cond_both}
-use Rattle.std.proofs.lemmas.List.Elements.{All-append, All-cons, All-head, All-tail, All-nil, All-filter, All-map, All-weaker}
-use Rattle.sem_key.specs.declared.object.Object.{Object}
+use Rattle.std.proofs.lemmas.List.Elements.{All-contains, All-append, All-cons, All-head, All-tail, All-nil, All-filter, All-map, All-weaker}
 use Rattle.sem_key.specs.KeyName.{KeyName, key_eq, key_lt}
-use Rattle.sem_key.specs.Lists.{change, put, in_turn}
+use Rattle.sem_key.specs.Lists.{change, put}
+use Rattle.sem_key.specs.KeyList.{with_key, without_key}
 use Rattle.sem_key.specs.Capability.{Capability}
 use Rattle.sem_msg.specs.declared.message.Message.{Message}
 use Rattle.sem_msg.specs.declared.state.Parked.{Parked}
 use Rattle.sem_msg.specs.declared.state.Slot.{Slot}
 use Rattle.sem_msg.specs.Rows.{Endpoint, VpeRow, no_vpe}
-use Rattle.sem_machine.specs.Sides.{Side, no_side, row, endpoint, outbox, with_slot, parked_as, unparked, with_endpoint, unbound_from, unbind_all, cap_added, is_marked_by, caps_removed, installed, send, sent, with_inbox}
+use Rattle.sem_machine.specs.Sides.{Side, no_side, row, endpoint, outbox, with_slot, parked_as, unparked, with_endpoint, unbound_from, unbind_all, cap_added, is_marked_by, caps_removed, send, sent, with_inbox}
+use Rattle.sem_machine.proofs.Members.{found}
 use Rattle.sem_safety.specs.Carried.{InMessage, InMessages, InParked, InEndpoint, InRow, InInbox, InSide}
+use Rattle.sem_safety.proofs.Layers.{IsLayer}
 
 -- Lists.
 
@@ -35,12 +38,6 @@ module _ {X : Type 0} (P : X → Type 0) where
 
   pub All-change : (test : X → Bool) (f : X → X) (xs : List X) → ((x : X) → P x → P (f x)) → All P xs → All P (change test f xs)
   All-change test f xs keeps all = All-map P (λ x. if test x then f x else x) xs (All-weaker P (λ x. P (if test x then f x else x)) (λ x here. cond_both (test x) (f x) x P (λ _. keeps x here) (λ _. here)) xs all)
-
--- what each keeps, all in turn keep
-pub in_turn-keeps : {X S : Type 0} (P : S → Type 0) (f : X → S → S) → ((x : X) (s : S) → P s → P (f x s)) → (xs : List X) (s : S) → P s → P (in_turn f xs s)
-unfolding in_turn
-in_turn-keeps P f keeps [] s is = is
-in_turn-keeps P f keeps (x ∷ xs) s is = in_turn-keeps P f keeps xs (f x s) (keeps x s is)
 
 module _ (Q : KeyName → Type 0) where
   -- nothing
@@ -114,6 +111,40 @@ module _ (Q : KeyName → Type 0) where
     pub with_inbox-in : (message : Option (ℕ × Message)) → InInbox Q message → InSide Q (with_inbox message s)
     with_inbox-in message here = record { caps = is.caps; rows = is.rows; inbox = here; outs = is.outs }
 
-  -- a capability that is installed
-  pub installed-in : (s : Side) → InSide Q s → (k : KeyName) (parent : Option KeyName) (sel : ℕ) (object : Object) → Q k → InSide Q (installed k parent sel object s)
-  installed-in s is k parent sel object here = with_slot-in _ (cap_added-in s is (record { key = k; parent = parent; children = []; mark = None; selector = sel; object = object }) here) k.vpe sel _
+  -- a ring of an endpoint changed
+  ring-in : (e : Option Endpoint) → InEndpoint Q e → (f : List ℕ → List ℕ) → InEndpoint Q (option_map {T = Endpoint} (λ x. record x { ring = f x.ring }) e)
+  ring-in None here f = tt
+  ring-in (Some e) here f = here
+
+  -- what a side carries is a layer
+  pub carried : IsLayer Q (InSide Q)
+  carried = record {
+    keeps_counted = λ s is v. plain_row-in s is v _ refl refl;
+    keeps_drawn = λ s is v. plain_row-in s is v _ refl refl;
+    keeps_slot = λ s is v sel state. with_slot-in s is v sel state;
+    keeps_parked = λ s is v p here. parked_as-in s is v p here;
+    keeps_unparked = λ s is v. unparked-in s is v;
+    keeps_asked = λ s is v a. plain_row-in s is v _ refl refl;
+    keeps_taken = λ s is v. plain_row-in s is v _ refl refl;
+    keeps_buried = λ s is v. plain_row-in s is v _ refl refl;
+    keeps_bound = λ s is v ep e here. with_endpoint-in s is v ep e here;
+    keeps_rung = λ s is v ep f. with_endpoint-in s is v ep (option_map {T = Endpoint} (λ x. record x { ring = f x.ring }) (endpoint s v ep)) (ring-in (endpoint s v ep) (endpoint-in s is v ep) f);
+    keeps_unbound = λ s is ks. unbind_all-in s is ks;
+    keeps_added = λ s is c here. cap_added-in s is c here;
+    keeps_linked = λ s is p k. caps_changed-in s is (λ c. key_eq c.key p) (λ c. record c { children = with_key c.children k }) (λ c. refl);
+    keeps_unlinked = λ s is p k. caps_changed-in s is (λ c. key_eq c.key p) (λ c. record c { children = without_key c.children k }) (λ c. refl);
+    keeps_marked = λ s is ks j. caps_changed-in s is (λ c. list_any (key_eq c.key) ks) (λ c. record c { mark = Some j }) (λ c. refl);
+    keeps_removed = λ s is j. caps_removed-in s is j;
+    keeps_pending_added = λ s is p. record { caps = is.caps; rows = is.rows; inbox = is.inbox; outs = is.outs };
+    keeps_pending_removed = λ s is k. record { caps = is.caps; rows = is.rows; inbox = is.inbox; outs = is.outs };
+    keeps_opened = λ s is root up waiters. record { caps = is.caps; rows = is.rows; inbox = is.inbox; outs = is.outs };
+    keeps_changed = λ s is j f. record { caps = is.caps; rows = is.rows; inbox = is.inbox; outs = is.outs };
+    keeps_unwaited = λ s is v. record { caps = is.caps; rows = is.rows; inbox = is.inbox; outs = is.outs };
+    keeps_closed = λ s is j. record { caps = is.caps; rows = is.rows; inbox = is.inbox; outs = is.outs };
+    keeps_send = λ s is j m here. send-in s is j m here;
+    keeps_sent = λ s is j. sent-in s is j;
+    keeps_inbox = λ s is message here. with_inbox-in s is message here;
+    of_cap = λ s is k c held. All-contains (λ (x : Capability). Q x.key) s.caps c is.caps (found (λ x. key_eq x.key k) s.caps c held).0;
+    of_call = λ s is v. (row-in s is v).parked;
+    of_inbox = λ s is. is.inbox;
+  }

@@ -31,9 +31,9 @@ use Rattle.sem_machine.proofs.Members.{Contains-head, Contains-tail, Contains-ma
 use Rattle.sem_machine.proofs.KeyTests.{key_eq-true}
 use Rattle.sem_machine.proofs.Puts.{get_or-put_same}
 use Rattle.sem_safety.specs.Carried.{InMessage, InMessages, InParked, InEndpoint, InRow, InInbox, InSide, InWorld, InGrant}
-use Rattle.sem_safety.proofs.Carrying.{All-put, All-read, All-drop_one, no_vpe-in, no_side-in, row-in, endpoint-in, put_row-in, with_slot-in, cap_added-in}
-use Rattle.sem_safety.proofs.CarryingRevokes.{cap-in}
-use Rattle.sem_safety.proofs.CarryingSteps.{InInput, local_step-keeps}
+use Rattle.sem_safety.proofs.Carrying.{All-put, All-read, All-drop_one, no_vpe-in, no_side-in, row-in, endpoint-in, put_row-in, with_slot-in, cap_added-in, carried}
+use Rattle.sem_safety.proofs.Layers.{InInput}
+use Rattle.sem_safety.proofs.KeptSteps.{local_step-keeps}
 
 module _ (Q : KeyName → Type 0) where
   -- Parts of a world.
@@ -91,7 +91,7 @@ module _ (Q : KeyName → Type 0) where
       let s : Side = side W e.kernel in
       let x : Step = local_step T e.kernel s e.act (input_of W e.kernel e.act) in
       let before = side-in W is e.kernel in
-      let now : InSide Q x.side = local_step-keeps Q T e.kernel s e.act (input_of W e.kernel e.act) before (input-in W is e.kernel e.act) grant in
+      let now : InSide Q x.side = local_step-keeps Q (InSide Q) (carried Q) T e.kernel s e.act (input_of W e.kernel e.act) before (input-in W is e.kernel e.act) grant in
       let moved = moved-in e.kernel s e.act (with_side e.kernel x.side W) before (with_side-in W is e.kernel x.side now) in
       record { sides = moved.sides; links = moved.links }
 
@@ -167,7 +167,7 @@ module _ (Q : KeyName → Type 0) where
   -- What is in use is carried.
   held-in : (W : World) → InWorld Q W → (k : KeyName) (i : ℕ) (o : Option Capability) → cap (side W i) k ≡ o → IsSome o → Q k
   held-in W is k i None none some = absurd cc
-  held-in W is k i (Some c) there some = subst Q (key_eq-true c.key k (found (λ x. key_eq x.key k) (side W i).caps c there).1) (cap-in Q (side W i) (side-in W is i) k c there)
+  held-in W is k i (Some c) there some = subst Q (key_eq-true c.key k (found (λ x. key_eq x.key k) (side W i).caps c there).1) ((carried Q).of_cap (side W i) (side-in W is i) k c there)
 
   inbox-in : (from : ℕ) (inbox : Option (ℕ × Message)) → InInbox Q inbox → InMessages Q (fetched_from from inbox)
   inbox-in from None here = All-nil (InMessage Q)

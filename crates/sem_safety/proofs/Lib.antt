@@ -3,9 +3,11 @@ pub mod Worlds
 pub mod Noted
 pub mod GrownLines
 pub mod Counted
+pub mod Layers
 pub mod Carrying
-pub mod CarryingRevokes
-pub mod CarryingRows
-pub mod CarryingSteps
+pub mod KeptRevokes
+pub mod KeptRows
+pub mod KeptSteps
 pub mod CarryingWorlds
 pub mod Parents
+pub mod GoingOn

@@ -41,7 +41,7 @@ use Rattle.sem_machine.specs.Journals.{made}
 use Rattle.sem_machine.specs.Safety.{HoldsUnmarked}
 use Rattle.sem_machine.proofs.Members.{found}
 use Rattle.sem_machine.proofs.KeyTests.{key_eq-true}
-use Rattle.sem_safety.proofs.CarryingRevokes.{option-keeps}
+use Rattle.sem_safety.proofs.KeptRevokes.{option-keeps}
 use Rattle.sem_safety.proofs.CarryingWorlds.{used-in, world_after-in}
 
 -- the side holds the key, and no job has marked it

@@ -3,3 +3,4 @@ pub mod History
 pub mod Growth
 pub mod Counts
 pub mod Carried
+pub mod Onward

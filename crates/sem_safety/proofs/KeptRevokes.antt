@@ -1,0 +1,131 @@
+-- What a revoke does keeps a layer.
+use Rattle.std.proofs.Common.{◌≡◌, ℕ, zero, suc, ◌+◌, ◌-◌, List, [], ◌∷◌, length, Option, Some, None, refl}
+use Rattle.std.specs.List.{filter}
+use Rattle.std.specs.Option.{option_map_or}
+use Rattle.std.proofs.lemmas.Bool.{cond_both}
+use Rattle.sem_key.specs.declared.object.Object.{Object}
+use Rattle.sem_key.specs.KeyName.{KeyName}
+use Rattle.sem_key.specs.Lists.{in_turn}
+use Rattle.sem_key.specs.Capability.{Capability}
+use Rattle.sem_msg.specs.declared.message.Message.TheVariants.{RevokeReq, RevokeDone, Unlink}
+use Rattle.sem_msg.specs.declared.state.Parked.{Parked}
+use Rattle.sem_msg.specs.declared.state.Parked.TheVariants.{ObtainWait, ObtainReady, ObtainCancelled, DelegateWait, DelegateReady, RevokeWait, Ready}
+use Rattle.sem_msg.specs.declared.state.Slot.TheVariants.{Free, Held}
+use Rattle.sem_msg.specs.declared.state.Up.{Up}
+use Rattle.sem_msg.specs.declared.state.Up.TheVariants.{Local, Remote}
+use Rattle.sem_msg.specs.Rows.{JobRow}
+use Rattle.sem_msg.specs.Setup.{Setup}
+use Rattle.sem_machine.specs.Codes.{Done}
+use Rattle.sem_machine.specs.Setups.{owner_of, is_local}
+use Rattle.sem_machine.specs.Sides.{Side, cap, job, parked, freed, ready, parked_as, installed, cap_added, unlinked, mark_all, unbind_all, is_marked_by, job_opened, send}
+use Rattle.sem_machine.specs.Revokes.{with_number}
+use Rattle.sem_machine.specs.Revokes.{region, children_of, count_raised, count_lowered, with_up, adopted, other_marker, request_or_adopt, selectors_freed, swept, woken, parent_left, root_parent, up_told, closed, if_done, next_done, finish, settled, begin, revoke_begun, is_ready_with, ready_freed, obtain_cancelled, request_begun, revoke_requested, revoke_done}
+use Rattle.sem_safety.proofs.Layers.{IsLayer, in_turn-keeps}
+
+-- what is so of both is so of what an option picks
+pub option-keeps : {X Y : Type 0} (P : Y → Type 0) (f : X → Y) (o : Option X) (y : Y) → ((x : X) → o ≡ Some x → P (f x)) → P y → P (option_map_or f o y)
+option-keeps P f None y some none = none
+option-keeps P f (Some x) y some none = some x refl
+
+module _ (Q : KeyName → Type 0) (P : Side → Type 0) (L : IsLayer Q P) where
+  -- Small changes.
+  pub freed-in : (s : Side) → P s → (v sel : ℕ) → P (freed v sel s)
+  freed-in s is v sel = L.keeps_slot s is v sel Free
+
+  pub installed-in : (s : Side) → P s → (k : KeyName) (parent : Option KeyName) (sel : ℕ) (object : Object) → Q k → P (installed k parent sel object s)
+  installed-in s is k parent sel object here = L.keeps_slot (cap_added (record { key = k; parent = parent; children = []; mark = None; selector = sel; object = object }) s) (L.keeps_added s is (record { key = k; parent = parent; children = []; mark = None; selector = sel; object = object }) here) k.vpe sel (Held k)
+
+  pub ready-in : (s : Side) → P s → (code v : ℕ) → P (ready code v s)
+  ready-in s is code v = L.keeps_parked s is v (Ready code) tt
+
+  -- Closing a job.
+  swept-in : (s : Side) → P s → (j : ℕ) → P (swept j s)
+  swept-in s is j = L.keeps_removed (selectors_freed j s) (in_turn-keeps P (λ (c : Capability) t. freed c.key.vpe c.selector t) (λ c t here. freed-in t here c.key.vpe c.selector) (filter (is_marked_by j) s.caps) s is) j
+
+  -- the parent of a root is left; the job is given by its parts
+  left-in : (T : Setup) (i id count : ℕ) (root : KeyName) (up : Option Up) (waiters : List ℕ) (o : Option KeyName) (s : Side) → P s → P (parent_left T i (record { id = id; root = root; up = up; waiters = waiters; count = count }) o s)
+  left-in T i id count root up waiters None s is = is
+  left-in T i id count root (Some (Remote kernel j)) waiters (Some p) s is = cond_both (is_local T i p) (unlinked p root s) s P (λ _. L.keeps_unlinked s is p root) (λ _. is)
+  left-in T i id count root (Some (Local j)) waiters (Some p) s is = cond_both (is_local T i p) (unlinked p root s) (send (owner_of T p) (Unlink p root) s) P (λ _. L.keeps_unlinked s is p root) (λ _. L.keeps_send s is (owner_of T p) (Unlink p root) tt)
+  left-in T i id count root None waiters (Some p) s is = cond_both (is_local T i p) (unlinked p root s) (send (owner_of T p) (Unlink p root) s) P (λ _. L.keeps_unlinked s is p root) (λ _. L.keeps_send s is (owner_of T p) (Unlink p root) tt)
+
+  told-in : (up : Option Up) (s : Side) → P s → P (up_told up s)
+  told-in None s is = is
+  told-in (Some (Local j)) s is = L.keeps_changed s is j (λ x. record x { count = x.count - 1 })
+  told-in (Some (Remote kernel j)) s is = L.keeps_send s is kernel (RevokeDone j) tt
+
+  closed-in : (T : Setup) (i : ℕ) (x : JobRow) (s : Side) → P s → P (closed T i x s)
+  unfolding closed
+  closed-in T i x s is =
+      let woke = in_turn-keeps P woken (λ v t here. ready-in t here Done v) x.waiters (swept x.id s) (swept-in s is x.id) in
+      let left = left-in T i x.id x.count x.root x.up x.waiters (root_parent s x) (in_turn woken x.waiters (swept x.id s)) woke in
+      let told = told-in x.up (parent_left T i x (root_parent s x) (in_turn woken x.waiters (swept x.id s))) left in
+      L.keeps_closed (up_told x.up (parent_left T i x (root_parent s x) (in_turn woken x.waiters (swept x.id s)))) told x.id
+
+  finish-in : (T : Setup) (i n : ℕ) (o : Option JobRow) (s : Side) → P s → P (finish T i n o s)
+  unfolding finish
+  finish-in T i zero o s is = is
+  finish-in T i (suc n) None s is = is
+  finish-in T i (suc n) (Some x) s is = finish-in T i n (next_done x.up (closed T i x s)) (closed T i x s) (closed-in T i x s is)
+
+  pub settled-in : (T : Setup) (i j : ℕ) (s : Side) → P s → P (settled T i j s)
+  settled-in T i j s is = finish-in T i (length s.jobs) (if_done (job s j)) s is
+
+  -- Beginning a job.
+  raised-in : (j : ℕ) (s : Side) → P s → P (count_raised j s)
+  raised-in j s is = L.keeps_changed s is j (λ x. record x { count = x.count + 1 })
+
+  adopted-in : (j : ℕ) (o : Option ℕ) (s : Side) → P s → P (adopted j o s)
+  adopted-in j None s is = is
+  adopted-in j (Some m) s is = raised-in j (with_up (Local j) m s) (L.keeps_changed s is m (λ x. record x { up = Some (Local j) }))
+
+  request-in : (T : Setup) (i j : ℕ) (k : KeyName) (s : Side) → P s → P (request_or_adopt T i j k s)
+  request-in T i j k s is = cond_both (is_local T i k) (adopted j (other_marker j (cap s k)) s) (count_raised j (send (owner_of T k) (RevokeReq k j) s)) P (λ _. adopted-in j (other_marker j (cap s k)) s is) (λ _. raised-in j (send (owner_of T k) (RevokeReq k j) s) (L.keeps_send s is (owner_of T k) (RevokeReq k j) tt))
+
+  pub begin-in : (T : Setup) (i : ℕ) (root : KeyName) (up : Option Up) (waiters : List ℕ) (s : Side) → P s → P (begin T i root up waiters s)
+  unfolding begin
+  begin-in T i root up waiters s is =
+      let j : ℕ = s.next_job in
+      let ks : List KeyName = region s.caps root in
+      let opened : P (job_opened root up waiters s) = L.keeps_opened s is root up waiters in
+      let marked : P (mark_all ks j (job_opened root up waiters s)) = L.keeps_marked (job_opened root up waiters s) opened ks j in
+      let unbound = L.keeps_unbound (mark_all ks j (job_opened root up waiters s)) marked ks in
+      settled-in T i j (in_turn (request_or_adopt T i j) (children_of s.caps ks) (unbind_all ks (mark_all ks j (job_opened root up waiters s)))) (in_turn-keeps P (request_or_adopt T i j) (λ k t here. request-in T i j k t here) (children_of s.caps ks) (unbind_all ks (mark_all ks j (job_opened root up waiters s))) unbound)
+
+  pub begun-in : (T : Setup) (i v : ℕ) (k : KeyName) (mark : Option ℕ) (s : Side) → P s → P (revoke_begun T i v k mark s)
+  begun-in T i v k None s is = begin-in T i k None (v ∷ []) (parked_as v (RevokeWait s.next_job) s) (L.keeps_parked s is v (RevokeWait s.next_job) tt)
+  begun-in T i v k (Some j) s is = L.keeps_changed (parked_as v (RevokeWait j) s) (L.keeps_parked s is v (RevokeWait j) tt) j (λ x. record x { waiters = with_number x.waiters v })
+
+  -- A request from another kernel, and a token that came back.
+  ready_freed-in : (p : Option Parked) (v : ℕ) (s : Side) → P s → P (ready_freed p v s)
+  ready_freed-in None v s is = is
+  ready_freed-in (Some (ObtainReady key parent object sel)) v s is = freed-in s is v sel
+  ready_freed-in (Some (ObtainWait number sel)) v s is = is
+  ready_freed-in (Some ObtainCancelled) v s is = is
+  ready_freed-in (Some (DelegateWait parent)) v s is = is
+  ready_freed-in (Some (DelegateReady parent key)) v s is = is
+  ready_freed-in (Some (RevokeWait j)) v s is = is
+  ready_freed-in (Some (Ready code)) v s is = is
+
+  cancelled-in : (k : KeyName) (s : Side) → P s → P (obtain_cancelled k s)
+  cancelled-in k s is = cond_both (is_ready_with k (parked s k.vpe)) _ s P (λ _. L.keeps_parked (ready_freed (parked s k.vpe) k.vpe s) (ready_freed-in (parked s k.vpe) k.vpe s is) k.vpe ObtainCancelled tt) (λ _. is)
+
+  request_begun-in : (T : Setup) (i from j : ℕ) (k : KeyName) (mark : Option ℕ) (s : Side) → P s → P (request_begun T i from j k mark s)
+  request_begun-in T i from j k None s is = begin-in T i k (Some (Remote from j)) [] s is
+  request_begun-in T i from j k (Some m) s is = L.keeps_changed s is m (λ x. record x { up = Some (Remote from j) })
+
+  pub requested-in : (T : Setup) (i from j : ℕ) (k : KeyName) (o : Option Capability) (s : Side) → P s → P (revoke_requested T i from j k o s)
+  requested-in T i from j k (Some c) s is = request_begun-in T i from j k c.mark s is
+  requested-in T i from j k None s is = L.keeps_send (obtain_cancelled k s) (cancelled-in k s is) from (RevokeDone j) tt
+
+  -- the job settled, if it is there
+  abbrev settled_if_there : Setup → ℕ → ℕ → Option JobRow → Side → Side
+  settled_if_there T i j None s = s
+  settled_if_there T i j (Some x) s = settled T i j (count_lowered j s)
+
+  settled_if_there-in : (T : Setup) (i j : ℕ) (o : Option JobRow) (s : Side) → P s → P (settled_if_there T i j o s)
+  settled_if_there-in T i j None s is = is
+  settled_if_there-in T i j (Some x) s is = settled-in T i j (count_lowered j s) (L.keeps_changed s is j (λ x. record x { count = x.count - 1 }))
+
+  pub done-in : (T : Setup) (i j : ℕ) (s : Side) → P s → P (revoke_done T i j s)
+  done-in T i j s is = settled_if_there-in T i j (job s j) s is

@@ -1,0 +1,146 @@
+-- Calls and the ends of VPEs keep a layer.
+use Rattle.std.proofs.Common.{◌≡◌, ℕ, ◌++◌, Bool, false, List, [], ◌∷◌, Option, Some, None}
+use Rattle.std.specs.Prelude.{◌==◌}
+use Rattle.std.specs.Option.{option_map_or}
+use Rattle.std.proofs.lemmas.Bool.{cond_both}
+use Rattle.sem_key.specs.declared.object.Object.{Object}
+use Rattle.sem_key.specs.declared.object.Object.TheVariants.{Send}
+use Rattle.sem_key.specs.ObjectRanges.{object_kind}
+use Rattle.sem_key.specs.KeyName.{KeyName}
+use Rattle.sem_key.specs.PlaceName.{PlaceName}
+use Rattle.sem_key.specs.Lists.{in_turn}
+use Rattle.sem_key.specs.Capability.{Capability}
+use Rattle.sem_msg.specs.declared.call.Call.{Call}
+use Rattle.sem_msg.specs.declared.call.Call.TheVariants.{Derive, Gate, Obtain, Delegate, OpenSession, AskOffer, Revoke, Bind, Read, Write, Send as SendCall, Credit, Exit}
+use Rattle.sem_msg.specs.declared.message.Target.{Target}
+use Rattle.sem_msg.specs.declared.message.Target.TheVariants.{Sel as SelTarget, Serv as ServTarget, Offer as OfferTarget}
+use Rattle.sem_msg.specs.declared.message.Message.TheVariants.{ObtainReq, ObtainNo, DelegateReq, DelegateNo, Ack, Orphan}
+use Rattle.sem_msg.specs.declared.setup.Service.{Service}
+use Rattle.sem_msg.specs.declared.state.Ask.{Ask}
+use Rattle.sem_msg.specs.declared.state.Ask.TheVariants.{Obtain as ObtainAsk, Delegate as DelegateAsk}
+use Rattle.sem_msg.specs.declared.state.Parked.{Parked}
+use Rattle.sem_msg.specs.declared.state.Parked.TheVariants.{ObtainWait, ObtainReady, ObtainCancelled, DelegateWait, DelegateReady, RevokeWait, Ready}
+use Rattle.sem_msg.specs.declared.state.Slot.{Slot}
+use Rattle.sem_msg.specs.declared.state.Slot.TheVariants.{Free, Held, Promised}
+use Rattle.sem_msg.specs.Setup.{Setup}
+use Rattle.sem_machine.specs.Codes.{NoCap, NoService, BadKind, Dead}
+use Rattle.sem_machine.specs.Setups.{kernel_of, owner_of, place_owner, service_named}
+use Rattle.sem_machine.specs.Sides.{Side, row, cap, cap_in, own, slot, endpoint, parked, drawn, promised, parked_as, unparked, asked, buried, linked, send}
+use Rattle.sem_machine.specs.Steps.{Step, answer, unless}
+use Rattle.sem_machine.specs.Asks.{target_vpe, asker, is_unawaited, promise_freed, call_refused, refusal_sent, ask_refused}
+use Rattle.sem_machine.specs.Revokes.{begin}
+use Rattle.sem_machine.specs.Endpoints.{memory_tests, send_tests, credit_tests}
+use Rattle.sem_machine.specs.Ends.{ask_ended, call_ended, revoked_if_left, ended}
+use Rattle.sem_machine.specs.Calls.{next_key, next_place, child_made, with_held, derive_tests, narrowed, gate_tests, ask_made, obtain_tests, open_tests, offer_tests, delegate_tests, offer_made, bind_tests, call_row}
+use Rattle.sem_safety.specs.Carried.{InGrant}
+use Rattle.sem_safety.proofs.Layers.{IsLayer, in_turn-keeps}
+use Rattle.sem_safety.proofs.KeptRevokes.{option-keeps, installed-in, freed-in, ready-in, begin-in, begun-in}
+
+-- what is so of each refusal and of the step that is done is so of the row
+pub unless-keeps : (P : Step → Type 0) (tests : List (Bool × ℕ)) (refuse : ℕ → Step) (done : Step) → ((code : ℕ) → P (refuse code)) → P done → P (unless tests refuse done)
+unfolding unless
+unless-keeps P [] refuse done each here = here
+unless-keeps P (test ∷ tests) refuse done each here = cond_both test.0 (refuse test.1) (unless tests refuse done) P (λ _. each test.1) (λ _. unless-keeps P tests refuse done each here)
+
+module _ (Q : KeyName → Type 0) (P : Side → Type 0) (L : IsLayer Q P) where
+  -- the step keeps the fact
+  abbrev pub Keeps : Step → Type 0
+  Keeps x = InGrant Q x.outcome.grant → P x.side
+
+  -- A refused ask.
+  promise_freed-in : (p : Option Parked) (v : ℕ) (s : Side) → P s → P (promise_freed p v s)
+  promise_freed-in None v s is = is
+  promise_freed-in (Some (ObtainWait number sel)) v s is = freed-in Q P L s is v sel
+  promise_freed-in (Some (ObtainReady key parent object sel)) v s is = is
+  promise_freed-in (Some ObtainCancelled) v s is = is
+  promise_freed-in (Some (DelegateWait parent)) v s is = is
+  promise_freed-in (Some (DelegateReady parent key)) v s is = is
+  promise_freed-in (Some (RevokeWait j)) v s is = is
+  promise_freed-in (Some (Ready code)) v s is = is
+
+  pub call_refused-in : (code v : ℕ) (s : Side) → P s → P (call_refused code v s)
+  call_refused-in code v s is = ready-in Q P L (promise_freed (parked s v) v s) (promise_freed-in (parked s v) v s is) code v
+
+  refusal_sent-in : (T : Setup) (code : ℕ) (a : Ask) (s : Side) → P s → P (refusal_sent T code a s)
+  refusal_sent-in T code (ObtainAsk place target) s is = L.keeps_send s is (place_owner T place) (ObtainNo place code) tt
+  refusal_sent-in T code (DelegateAsk parent object sel) s is = L.keeps_send s is (owner_of T parent) (DelegateNo parent code) tt
+
+  pub ask_refused-in : (T : Setup) (i code : ℕ) (a : Ask) (s : Side) → P s → P (ask_refused T i code a s)
+  ask_refused-in T i code a s is = cond_both (kernel_of T (asker a) == i) (call_refused code (asker a) s) (refusal_sent T code a s) P (λ _. call_refused-in code (asker a) s is) (λ _. refusal_sent-in T code a s is)
+
+  -- The end of a VPE.
+  ask_ended-in : (T : Setup) (i : ℕ) (a : Ask) (s : Side) → P s → P (ask_ended T i a s)
+  ask_ended-in T i a s is = cond_both (is_unawaited T i s a) s (ask_refused T i Dead a s) P (λ _. is) (λ _. ask_refused-in T i Dead a s is)
+
+  call_ended-in : (T : Setup) (p : Option Parked) (v : ℕ) (s : Side) → P s → P (call_ended T p v s)
+  call_ended-in T None v s is = is
+  call_ended-in T (Some (ObtainWait number sel)) v s is = is
+  call_ended-in T (Some (ObtainReady key parent object sel)) v s is = L.keeps_send s is (owner_of T parent) (Orphan parent key) tt
+  call_ended-in T (Some ObtainCancelled) v s is = is
+  call_ended-in T (Some (DelegateWait parent)) v s is = is
+  call_ended-in T (Some (DelegateReady parent key)) v s is = L.keeps_send s is (owner_of T key) (Ack key false) tt
+  call_ended-in T (Some (RevokeWait j)) v s is = L.keeps_unwaited s is v
+  call_ended-in T (Some (Ready code)) v s is = is
+
+  -- the capability, revoked if it is there and not marked
+  abbrev revoked_if_there : Setup → ℕ → KeyName → Option Capability → Side → Side
+  revoked_if_there T i k None s = s
+  revoked_if_there T i k (Some c) s = option_map_or (λ m. s) c.mark (begin T i k None [] s)
+
+  revoked_if_there-in : (T : Setup) (i : ℕ) (k : KeyName) (o : Option Capability) (s : Side) → P s → P (revoked_if_there T i k o s)
+  revoked_if_there-in T i k None s is = is
+  revoked_if_there-in T i k (Some c) s is = option-keeps P (λ (m : ℕ). s) c.mark (begin T i k None [] s) (λ m marked. is) (begin-in Q P L T i k None [] s is)
+
+  pub ended-in : (T : Setup) (i v : ℕ) (s : Side) → P s → P (ended T i v s)
+  unfolding ended
+  ended-in T i v s is =
+      let told = in_turn-keeps P (ask_ended T i) (λ a t here. ask_ended-in T i a t here) (row s v).asks (buried v s) (L.keeps_buried s is v) in
+      let left = call_ended-in T (parked (in_turn (ask_ended T i) (row s v).asks (buried v s)) v) v (unparked v (in_turn (ask_ended T i) (row s v).asks (buried v s))) (L.keeps_unparked (in_turn (ask_ended T i) (row s v).asks (buried v s)) told v) in
+      in_turn-keeps P (revoked_if_left T i) (λ k t here. revoked_if_there-in T i k (cap t k) t here) _ _ left
+
+  -- Calls.
+  child_made-keeps : (T : Setup) (v dst : ℕ) (object : Object) (parent : KeyName) (s : Side) → P s → Keeps (child_made T v dst object parent s)
+  child_made-keeps T v dst object parent s is = λ here.
+      let k : KeyName = next_key T s v (object_kind object) in
+      installed-in Q P L (linked parent k (drawn v s)) (L.keeps_linked (drawn v s) (L.keeps_drawn s is v) parent k) k (Some parent) dst object here
+
+  with_held-keeps : (o : Option Capability) (f : Capability → Step) (s : Side) → P s → ((c : Capability) → o ≡ Some c → Keeps (f c)) → Keeps (with_held o f s)
+  with_held-keeps o f s is each = option-keeps Keeps f o (answer NoCap s) each (λ _. is)
+
+  ask_made-keeps : (T : Setup) (i v dst : ℕ) (target : Target) (s : Side) → P s → Keeps (ask_made T i v dst target s)
+  ask_made-keeps T i v dst target s is = λ _.
+      let place : PlaceName = next_place T s v in
+      let w : ℕ = target_vpe target in
+      let waiting : Side = parked_as v (ObtainWait place.number dst) (promised v dst (drawn v s)) in
+      let kept : P waiting = L.keeps_parked (promised v dst (drawn v s)) (L.keeps_slot (drawn v s) (L.keeps_drawn s is v) v dst Promised) v (ObtainWait place.number dst) tt in
+      cond_both (kernel_of T w == i) (asked w (ObtainAsk place target) waiting) (send (kernel_of T w) (ObtainReq place target) waiting) P (λ _. L.keeps_asked waiting kept w (ObtainAsk place target)) (λ _. L.keeps_send waiting kept (kernel_of T w) (ObtainReq place target) tt)
+
+  offer_made-keeps : (T : Setup) (i v w dst : ℕ) (p : Capability) (s : Side) → P s → Keeps (offer_made T i v w dst p s)
+  offer_made-keeps T i v w dst p s is = λ _.
+      let waiting : Side = parked_as v (DelegateWait p.key) s in
+      let kept : P waiting = L.keeps_parked s is v (DelegateWait p.key) tt in
+      cond_both (kernel_of T w == i) (asked w (DelegateAsk p.key p.object dst) waiting) (send (kernel_of T w) (DelegateReq p.key p.object w dst) waiting) P (λ _. L.keeps_asked waiting kept w (DelegateAsk p.key p.object dst)) (λ _. L.keeps_send waiting kept (kernel_of T w) (DelegateReq p.key p.object w dst) tt)
+
+  own-in : (s : Side) → P s → (v sel : ℕ) (c : Capability) → own s v sel ≡ Some c → Q c.key
+  own-in s is v sel c held = from (slot s v sel) held
+    where
+      from : (x : Slot) → cap_in s x ≡ Some c → Q c.key
+      from Free none = absurd cc
+      from (Held k) some = L.of_cap s is k c some
+      from Promised none = absurd cc
+
+  pub call_row-keeps : (T : Setup) (i : ℕ) (s : Side) (v : ℕ) (c : Call) → P s → Keeps (call_row T i s v c)
+  unfolding call_row
+  call_row-keeps T i s v (Derive src dst off len rights) is = unless-keeps Keeps (derive_tests s v src dst off len rights) _ _ (λ code _. is) (with_held-keeps (own s v src) _ s is (λ p held. child_made-keeps T v dst (narrowed off len rights p.object) p.key s is))
+  call_row-keeps T i s v (Gate src dst label credits) is = unless-keeps Keeps (gate_tests s v src dst credits) _ _ (λ code _. is) (with_held-keeps (own s v src) _ s is (λ p held. child_made-keeps T v dst (Send p.key label credits) p.key s is))
+  call_row-keeps T i s v (Obtain dst w src) is = unless-keeps Keeps (obtain_tests T i s v dst w) _ _ (λ code _. is) (ask_made-keeps T i v dst (SelTarget w src) s is)
+  call_row-keeps T i s v (Delegate src w dst) is = unless-keeps Keeps (delegate_tests T i s v src w) _ _ (λ code _. is) (with_held-keeps (own s v src) _ s is (λ p held. offer_made-keeps T i v w dst p s is))
+  call_row-keeps T i s v (OpenSession dst name) is = unless-keeps Keeps (open_tests T i s v dst name) _ _ (λ code _. is) (option-keeps Keeps (λ (x : Service). ask_made T i v dst (ServTarget x.key) s) (service_named T name) (answer NoService s) (λ x there. ask_made-keeps T i v dst (ServTarget x.key) s is) (λ _. is))
+  call_row-keeps T i s v (AskOffer dst session index) is = unless-keeps Keeps (offer_tests T i s v dst session) _ _ (λ code _. is) (option-keeps Keeps (λ (k : KeyName). ask_made T i v dst (OfferTarget k index) s) _ (answer BadKind s) (λ k there. ask_made-keeps T i v dst (OfferTarget k index) s is) (λ _. is))
+  call_row-keeps T i s v (Revoke src) is = with_held-keeps (own s v src) _ s is (λ c held _. begun-in Q P L T i v c.key c.mark s is)
+  call_row-keeps T i s v (Bind ep src) is = unless-keeps Keeps (bind_tests s v src) _ _ (λ code _. is) (with_held-keeps (own s v src) _ s is (λ c held _. L.keeps_bound s is v ep (Some (record { key = c.key; object = c.object; ring = [] })) (own-in s is v src c held)))
+  call_row-keeps T i s v (Read ep off len) is = unless-keeps Keeps (memory_tests 1 off len (endpoint s v ep)) _ _ (λ code _. is) (λ _. is)
+  call_row-keeps T i s v (Write ep off len) is = unless-keeps Keeps (memory_tests 2 off len (endpoint s v ep)) _ _ (λ code _. is) (λ _. is)
+  call_row-keeps T i s v (SendCall ep len) is = unless-keeps Keeps (send_tests (endpoint s v ep)) _ _ (λ code _. is) (λ _. L.keeps_rung s is v ep (λ ring. ring ++ len ∷ []))
+  call_row-keeps T i s v (Credit ep) is = unless-keeps Keeps (credit_tests (endpoint s v ep)) _ _ (λ code _. is) (λ _. L.keeps_rung s is v ep _)
+  call_row-keeps T i s v Exit is = λ _. ended-in T i v s is
