@@ -27,7 +27,7 @@ pub option-keeps : {X Y : Type 0} (P : Y → Type 0) (f : X → Y) (o : Option X
 option-keeps P f None y some none = none
 option-keeps P f (Some x) y some none = some x refl
 
-module _ (Q : KeyName → Type 0) (P : Side → Type 0) (L : IsLayer Q P) where
+module _ (Q : KeyName → Type 0) (R : ℕ → ℕ → Type 0) (P : Side → Type 0) (L : IsLayer Q R P) where
   -- Small changes.
   pub freed-in : (s : Side) → P s → (v sel : ℕ) → P (freed v sel s)
   freed-in s is v sel = L.keeps_slot s is v sel Free

@@ -4,6 +4,7 @@ pub mod Noted
 pub mod GrownLines
 pub mod Counted
 pub mod Layers
+pub mod Onwards
 pub mod Carrying
 pub mod KeptRevokes
 pub mod KeptRows
@@ -11,3 +12,8 @@ pub mod KeptSteps
 pub mod CarryingWorlds
 pub mod Parents
 pub mod GoingOn
+pub mod Numbers
+pub mod NumberRuns
+pub mod FirstNumbers
+pub mod Fresh
+pub mod OwnChildren

@@ -2,5 +2,4 @@ pub mod Seen
 pub mod History
 pub mod Growth
 pub mod Counts
-pub mod Carried
 pub mod Onward
