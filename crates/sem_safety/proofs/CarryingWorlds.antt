@@ -29,8 +29,8 @@ use Rattle.sem_machine.specs.Living.{way, fetched_from, InFlight}
 use Rattle.sem_machine.specs.Safety.{IsInUse}
 use Rattle.sem_machine.proofs.Members.{Contains-head, Contains-tail, Contains-map, found}
 use Rattle.sem_machine.proofs.KeyTests.{key_eq-true}
-use Rattle.sem_machine.proofs.Puts.{get_or-put_same}
 use Rattle.sem_safety.proofs.Carrying.{InRow, BringsAll, InSide, InWorld, All-put, All-read, All-drop_one, no_vpe-in, no_side-in, row-in, endpoint-in, put_row-in, with_slot-in, cap_added-in, carried}
+use Rattle.sem_safety.proofs.FirstNumbers.{with_row-same, root-next}
 use Rattle.sem_safety.proofs.Layers.{Brings, BringsIn, BringsFrom, Awaits, AsksFor, InEndpoint, InGrant}
 use Rattle.sem_safety.proofs.Onwards.{AnyPlace}
 use Rattle.sem_safety.proofs.GoingOn.{AnyVpe, may_act}
@@ -109,28 +109,17 @@ module _ (Q : KeyName → Type 0) (R : ℕ → ℕ → Type 0) where
       let kept : InSide Q R t = with_slot-in Q R (cap_added c s) (cap_added-in Q R s is c here) d.vpe r.sel (Held k) in
       put_row-in Q R t kept d.vpe _ (record { parked = (row-in Q R t kept d.vpe).parked; asks = (row-in Q R t kept d.vpe).asks; endpoints = (row-in Q R t kept d.vpe).endpoints })
 
-  with_row-read : (v : ℕ) (f : VpeRow → VpeRow) (s : Side) → row (with_row v f s) v ≡ f (row s v)
-  with_row-read v f s = get_or-put_same no_vpe s.vpes v (f (row s v))
-
-  number-next : (d : VpeDecl) (r : Root) (s : Side) → (row (root_added d r s) d.vpe).next_number ≡ (row s d.vpe).next_number + 1
-  number-next d r s =
-      let k : KeyName = root_key d (row s d.vpe).next_number r in
-      let c : Capability = record { key = k; parent = None; children = []; mark = None; selector = r.sel; object = r.object } in
-      let t : Side = with_slot d.vpe r.sel (Held k) (cap_added c s) in
-      ap (λ (x : VpeRow). x.next_number) (with_row-read d.vpe (λ v. record v { next_number = v.next_number + 1 }) t)
-      ∙ ap (λ (x : VpeRow). x.next_number + 1) (get_or-put_same no_vpe s.vpes d.vpe _)
-
   roots-in : (d : VpeDecl) (rs : List Root) (n : ℕ) (s : Side) → InSide Q R s → (row s d.vpe).next_number ≡ n → ((k : KeyName) → Contains (root_keys_from d n rs) k → Q k) → InSide Q R (in_turn (root_added d) rs s)
   unfolding in_turn root_keys_from
   roots-in d [] n s is number each = is
   roots-in d (r ∷ rs) n s is number each =
       roots-in d rs (n + 1) (root_added d r s)
       (root_added-in d r s is (subst (λ m. Q (root_key d m r)) (sym number) (each (root_key d n r) (Contains-head (root_key d n r) (root_keys_from d (n + 1) rs)))))
-      (number-next d r s ∙ ap (λ m. m + 1) number)
+      (root-next d r s ∙ ap (λ m. m + 1) number)
       (λ k among. each k (Contains-tail (root_key d n r) (root_keys_from d (n + 1) rs) k among))
 
   vpe_added-in : (d : VpeDecl) (s : Side) → InSide Q R s → ((k : KeyName) → Contains (root_keys_from d 0 d.roots) k → Q k) → InSide Q R (vpe_added d s)
-  vpe_added-in d s is each = roots-in d d.roots 0 (with_row d.vpe (λ v. new_vpe) s) (put_row-in Q R s is d.vpe new_vpe (record { parked = tt; asks = All-nil (AsksFor R); endpoints = All-replicate (InEndpoint Q) 16 None tt })) (ap (λ (x : VpeRow). x.next_number) (with_row-read d.vpe (λ v. new_vpe) s)) each
+  vpe_added-in d s is each = roots-in d d.roots 0 (with_row d.vpe (λ v. new_vpe) s) (put_row-in Q R s is d.vpe new_vpe (record { parked = tt; asks = All-nil (AsksFor R); endpoints = All-replicate (InEndpoint Q) 16 None tt })) (ap (λ (x : VpeRow). x.next_number) (with_row-same d.vpe (λ v. new_vpe) s)) each
 
   vpes-in : (p : VpeDecl → Bool) (ds : List VpeDecl) (s : Side) → InSide Q R s → ((k : KeyName) → Contains (flat_map (λ d. root_keys_from d 0 d.roots) ds) k → Q k) → InSide Q R (in_turn vpe_added (filter p ds) s)
   unfolding in_turn

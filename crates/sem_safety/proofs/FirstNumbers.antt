@@ -34,13 +34,13 @@ AllPairs-tail S x xs pairs i j d lt within = pairs (suc i) (suc j) d (omega arit
 
 -- Rows.
 
-with_row-same : (v : ℕ) (f : VpeRow → VpeRow) (s : Side) → row (with_row v f s) v ≡ f (row s v)
+pub with_row-same : (v : ℕ) (f : VpeRow → VpeRow) (s : Side) → row (with_row v f s) v ≡ f (row s v)
 with_row-same v f s = get_or-put_same no_vpe s.vpes v (f (row s v))
 
 with_row-other : (v : ℕ) (f : VpeRow → VpeRow) (s : Side) (w : ℕ) → (w ≡ v → ⊥) → row (with_row v f s) w ≡ row s w
 with_row-other v f s w other = get_or-put_other no_vpe s.vpes v w (f (row s v)) other
 
-root-next : (d : VpeDecl) (r : Root) (s : Side) → (row (root_added d r s) d.vpe).next_number ≡ (row s d.vpe).next_number + 1
+pub root-next : (d : VpeDecl) (r : Root) (s : Side) → (row (root_added d r s) d.vpe).next_number ≡ (row s d.vpe).next_number + 1
 root-next d r s =
     let k : KeyName = root_key d (row s d.vpe).next_number r in
     let c : Capability = record { key = k; parent = None; children = []; mark = None; selector = r.sel; object = r.object } in

@@ -11,8 +11,8 @@ use Rattle.sem_msg.specs.declared.message.Message.{Message}
 use Rattle.sem_msg.specs.Setup.{Setup}
 use Rattle.sem_machine.specs.Sides.{Side, no_side, outbox, is_alive}
 use Rattle.sem_machine.specs.Steps.{Step}
-use Rattle.sem_machine.specs.Machine.{World, start, side, link, with_side, with_link, local_step, input_of, link_moved, after}
-use Rattle.sem_machine.specs.Schedules.{run, world_after}
+use Rattle.sem_machine.specs.Machine.{World, start, side, link, with_side, with_link, local_step, input_of, link_moved, after, entry_of, is_enabled}
+use Rattle.sem_machine.specs.Schedules.{IsRun, run, world_after}
 use Rattle.sem_machine.proofs.Puts.{get_or-put_same, get_or-put_other}
 use Rattle.sem_safety.proofs.Layers.{InGrant}
 use Rattle.sem_safety.specs.Onward.{IsOnward, IsOnwardWorld}
@@ -107,3 +107,9 @@ dead-later T before later i v dead =
     let onward = run-onward T later (world_after T before) in
     let still : is_alive (side (run T (world_after T before) later) i) v ≡ false = false_from_ne_true (is_alive (side (run T (world_after T before) later) i) v) (λ lives. let both : false ≡ true = sym dead ∙ (onward.sides i).dead v lives in absurd cc) in
     subst (λ (W : World). is_alive (side W i) v ≡ false) (sym (run-append T before later (start T))) still
+
+-- a run that goes on with an entry makes it where it stands, by an event that is enabled there
+pub entry-enabled : (T : Setup) (before : List Entry) (W : World) (e : Entry) (later : List Entry) → IsRun T W (before ++ e ∷ later) → IsRun T W before × (is_enabled T (run T W before) e.event ≡ true) × (e ≡ entry_of T (run T W before) e.event)
+unfolding IsRun
+entry-enabled T [] W e later (allowed, made, rest) = (tt, allowed, made)
+entry-enabled T (b ∷ bs) W e later (allowed, made, rest) = let inner = entry-enabled T bs (after T W b.event) e later rest in ((allowed, made, inner.0), inner.1, inner.2)

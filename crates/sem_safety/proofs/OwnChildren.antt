@@ -1,5 +1,5 @@
 -- What a call grants is a key of its VPE, under the next number.
-use Rattle.std.proofs.Common.{◌≡◌, ℕ, ◌+◌, ◌++◌, true, List, [], ◌∷◌, Option, Some, None, sym, ◌∙◌, ap, subst}
+use Rattle.std.proofs.Common.{◌≡◌, ℕ, ◌+◌, ◌++◌, true, List, ◌∷◌, Option, Some, None, sym, ◌∙◌, ap, subst}
 use Rattle.sem_key.specs.declared.object.Object.{Object}
 use Rattle.sem_key.specs.declared.object.Object.TheVariants.{Send}
 use Rattle.sem_key.specs.ObjectRanges.{object_kind}
@@ -21,10 +21,11 @@ use Rattle.sem_machine.specs.Sides.{Side, row, own, endpoint, call_counted}
 use Rattle.sem_machine.specs.Steps.{Step, plain, answer}
 use Rattle.sem_machine.specs.Endpoints.{memory_tests, send_tests, credit_tests}
 use Rattle.sem_machine.specs.Calls.{next_key, child_made, narrowed, derive_tests, gate_tests, ask_made, obtain_tests, open_tests, offer_tests, delegate_tests, bind_tests, call_row}
-use Rattle.sem_machine.specs.Machine.{World, side, start, next_call, local_step, local_entry, after, entry_of, is_enabled}
-use Rattle.sem_machine.specs.Schedules.{IsRun, IsSchedule, run, world_after}
+use Rattle.sem_machine.specs.Machine.{World, side, start, next_call, local_step, local_entry, entry_of, is_enabled}
+use Rattle.sem_machine.specs.Schedules.{IsSchedule, world_after}
 use Rattle.sem_machine.specs.Journals.{made}
 use Rattle.sem_machine.proofs.Puts.{get_or-put_same}
+use Rattle.sem_safety.proofs.GoingOn.{entry-enabled}
 use Rattle.sem_safety.proofs.KeptRevokes.{option-keeps}
 use Rattle.sem_safety.proofs.KeptRows.{unless-keeps}
 use Rattle.sem_safety.proofs.NumberRuns.{may_draw}
@@ -69,12 +70,6 @@ call-next T W i v p k granted =
     let counted : (row (call_counted v s) v).next_number ≡ (row s v).next_number = ap (λ (r : VpeRow). r.next_number) (get_or-put_same no_vpe s.vpes v (record (row s v) { next_call = (row s v).next_call + 1 })) in
     let is = option-keeps (λ (x : Step). IsNext (call_counted v s) v x.outcome.grant) (call_row T i (call_counted v s) v) (next_call T s v) (plain s) (λ c there. call_row-next T i (call_counted v s) v c) (nothing (call_counted v s) v) p k granted in
     (is.0, is.1 ∙ counted)
-
--- a run that goes on with an entry makes it where it stands, by an event that is enabled there
-entry-enabled : (T : Setup) (before : List Entry) (W : World) (e : Entry) (later : List Entry) → IsRun T W (before ++ e ∷ later) → IsRun T W before × (is_enabled T (run T W before) e.event ≡ true) × (e ≡ entry_of T (run T W before) e.event)
-unfolding IsRun
-entry-enabled T [] W e later (allowed, made, rest) = (tt, allowed, made)
-entry-enabled T (b ∷ bs) W e later (allowed, made, rest) = let inner = entry-enabled T bs (after T W b.event) e later rest in ((allowed, made, inner.0), inner.1, inner.2)
 
 -- what a call grants was never made before
 pub child-new : (T : Setup) (J before later : List Entry) (e : Entry) (i v : ℕ) (p k : KeyName) → IsSetup T → IsSchedule T J → J ≡ before ++ e ∷ later → e.event ≡ record { kernel = i; act = Calls v } → e.grant ≡ Some (p, k) → Contains (made T before) k → ⊥

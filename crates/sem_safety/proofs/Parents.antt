@@ -35,14 +35,15 @@ use Rattle.sem_machine.specs.Endpoints.{memory_tests, send_tests, credit_tests}
 use Rattle.sem_machine.specs.Calls.{destination_tests, child_made, narrowed, derive_tests, gate_tests, ask_made, obtain_tests, open_tests, offer_tests, delegate_tests, bind_tests, call_row}
 use Rattle.sem_machine.specs.Upcalls.{source, source_tests, child_given, obtain_consent, parent_tests, delegate_consent, consented, ask_decided, upcall_row}
 use Rattle.sem_machine.specs.Resumes.{delegate_granted, delegate_resumed, resumed, resume_row}
-use Rattle.sem_machine.specs.Machine.{World, side, next_call, local_step, local_entry, input_of, after, entry_of, start}
-use Rattle.sem_machine.specs.Schedules.{IsRun, IsSchedule, run, world_after}
+use Rattle.sem_machine.specs.Machine.{World, side, next_call, local_step, local_entry, input_of, entry_of, start}
+use Rattle.sem_machine.specs.Schedules.{IsSchedule, world_after}
 use Rattle.sem_machine.specs.Journals.{made}
 use Rattle.sem_machine.specs.Safety.{HoldsUnmarked}
 use Rattle.sem_machine.proofs.Members.{found}
 use Rattle.sem_machine.proofs.KeyTests.{key_eq-true}
 use Rattle.sem_safety.proofs.KeptRevokes.{option-keeps}
 use Rattle.sem_safety.proofs.Onwards.{AnyPlace}
+use Rattle.sem_safety.proofs.GoingOn.{entry-enabled}
 use Rattle.sem_safety.proofs.CarryingWorlds.{used-in, world_after-in}
 
 -- the side holds the key, and no job has marked it
@@ -191,19 +192,13 @@ pub entry-below : (T : Setup) (W : World) (e : Event) (p k : KeyName) → (entry
 unfolding entry_of local_entry
 entry-below T W e p k granted = local_step-below T e.kernel (side W e.kernel) e.act (input_of W e.kernel e.act) p k granted
 
--- a run that goes on with an entry makes it where it stands
-pub run-entry : (T : Setup) (before : List Entry) (W : World) (e : Entry) (later : List Entry) → IsRun T W (before ++ e ∷ later) → IsRun T W before × (e ≡ entry_of T (run T W before) e.event)
-unfolding IsRun
-run-entry T [] W e later (allowed, made, rest) = (tt, made)
-run-entry T (b ∷ bs) W e later (allowed, made, rest) = let inner = run-entry T bs (after T W b.event) e later rest in ((allowed, made, inner.0), inner.1)
-
 pub journal-below : (T : Setup) (J before later : List Entry) (e : Entry) (p k : KeyName) → IsSchedule T J → J ≡ before ++ e ∷ later → e.grant ≡ Some (p, k) → HoldsUnmarked (world_after T before) e.event.kernel p
 journal-below T J before later e p k runs parts granted =
-    let made = (run-entry T before (start T) e later (subst (IsSchedule T) parts runs)).1 in
+    let made = (entry-enabled T before (start T) e later (subst (IsSchedule T) parts runs)).2 in
     entry-below T (world_after T before) e.event p k (sym (ap (λ (x : Entry). x.grant) made) ∙ granted)
 
 pub parent-made : (T : Setup) (J before later : List Entry) (e : Entry) (p k : KeyName) → IsSchedule T J → J ≡ before ++ e ∷ later → e.grant ≡ Some (p, k) → Contains (made T before) p
 parent-made T J before later e p k runs parts granted =
     let held = journal-below T J before later e p k runs parts granted in
-    let schedule : IsSchedule T before = (run-entry T before (start T) e later (subst (IsSchedule T) parts runs)).0 in
+    let schedule : IsSchedule T before = (entry-enabled T before (start T) e later (subst (IsSchedule T) parts runs)).0 in
     used-in (Contains (made T before)) AnyPlace (world_after T before) (world_after-in T before schedule) p (inl (inl (e.event.kernel, subst IsSome (sym held.1) refl)))
