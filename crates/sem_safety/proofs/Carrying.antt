@@ -1,4 +1,4 @@
--- Each change of a side keeps a fact about the keys that it carries, where what is new has it.
+-- Each change of a side keeps a fact about the keys and places that it carries, where what is new has it.
 use Rattle.std.proofs.Common.{refl, ◌≡◌, ℕ, zero, suc, Bool, not, if◌then◌else◌, List, [], ◌∷◌, ◌++◌, map, drop, get_or, length, slice_get, Option, Some, None, sym, subst}
 use Rattle.std.specs.List.{All, filter, list_any}
 use Rattle.std.specs.Option.{option_map}
@@ -44,7 +44,7 @@ module _ {X : Type 0} (P : X → Type 0) where
 
 -- What a side carries.
 
--- of the key that an endpoint is bound to is in Layers; a row, a side and a world have such facts of all that they carry
+-- Q of the keys and R of the places that a row carries; a side and a world likewise
 pub record InRow (Q : KeyName → Type 0) (R : ℕ → ℕ → Type 0) (r : VpeRow) : Type 0 where
   pub parked : Awaits Q R r.parked
   pub asks : All (AsksFor R) r.asks
