@@ -190,7 +190,7 @@ module _ (M M' : ModelWorld) (e : Event) (same : M' ≡ M) (is : IsBuiltWorld M'
   enabled-other other = let fails : (e.kernel == 0) ≡ false = false_from_ne_true (e.kernel == 0) (λ yes'. other (eqb-true e.kernel 0 yes')) in rw (acts, fails) refl
 
 -- the entry of an event of the kernel
-entry-is : (T : Setup) (W : World) (e : Event) → e.kernel ≡ 0 → can_act T (side W 0) e.act ≡ true → local_entry T 0 (side W 0) e.act None ≡ entry_of T W e
+pub entry-is : (T : Setup) (W : World) (e : Event) → e.kernel ≡ 0 → can_act T (side W 0) e.act ≡ true → local_entry T 0 (side W 0) e.act None ≡ entry_of T W e
 unfolding entry_of
 entry-is T W e here can = ap (λ i. local_entry T 0 (side W 0) e.act i) (no-input e.act can) ∙ ap (λ i. local_entry T i (side W i) e.act (input_of W i e.act)) (sym here)
   where

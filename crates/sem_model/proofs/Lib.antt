@@ -21,3 +21,8 @@ pub mod BuiltActs
 pub mod BuiltWorlds
 pub mod BuiltStart
 pub mod Calling
+pub mod BuiltDone
+pub mod BuiltSchedules
+pub mod BuiltSafety
+pub mod SampleSetup
+pub mod SampleRuns

@@ -7,3 +7,4 @@ pub mod Placed
 pub mod Refusal
 pub mod RegionTests
 pub mod Revoking
+pub mod Sample

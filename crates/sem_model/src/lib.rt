@@ -1,5 +1,5 @@
-//! The machine as plain lists: the world at the start, and calls of a VPE that do to a side just what the
-//! definitions say.
+//! The machine as plain lists: the world at the start, which events are enabled, and the step of an event, which is just what
+//! the definitions say; and the law that all schedules of what can be run are safe.
 #![tactic(auto)]
 
 #[cfg(test)]
@@ -7,6 +7,7 @@ mod call_tests;
 mod caps;
 mod derives;
 mod enabling;
+pub mod laws;
 mod links;
 mod outcomes;
 mod refusals;

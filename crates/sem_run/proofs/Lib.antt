@@ -16,3 +16,4 @@ pub mod ShortTraces
 pub mod SplitLines
 pub mod TraceLines
 pub mod Unanswered
+pub mod SafeRuns

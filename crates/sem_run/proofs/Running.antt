@@ -16,7 +16,7 @@ use Rattle.sem_model.specs.ModelWorld.{ModelWorld, booted}
 use Rattle.sem_run.specs.Runs.{IsRunTo, IsOver}
 
 -- an entry names the event that made it
-entry_of-event : (T : Setup) (W : World) (e : Event) → (entry_of T W e).event ≡ e
+pub entry_of-event : (T : Setup) (W : World) (e : Event) → (entry_of T W e).event ≡ e
 unfolding entry_of local_entry
 entry_of-event T W e = refl
 

@@ -9,6 +9,7 @@ use Rattle.sem_trace.specs.TraceText.{canonical}
 use Rattle.sem_machine.specs.Schedules.{IsSchedule}
 use Rattle.sem_machine.specs.Seeded.{seeded}
 use Rattle.sem_machine.specs.Living.{IsComplete}
+use Rattle.sem_machine.specs.Safety.{lineage, revoked_is_gone, sound_grants, nothing_lost, sound_endpoints}
 use Rattle.sem_model.specs.Built.{IsBuilt}
 use Rattle.sem_audit.specs.HeldKeys.{report}
 use Rattle.sem_run.specs.declared.forms.Command.{Command}
@@ -74,6 +75,28 @@ IsPartOfRun before after J = (J ≡ []) ⊎ ((T : Setup) × ReadsTrace before af
 pub record EndsMemory (before after : Option (List ℕ)) (J : List Entry) (text : List ℕ) : Type 0 where
   pub part : IsPartOfRun before after J
   pub told : text ≡ []
+
+-- Safety: the journal is a schedule of the setup that was read, and the sentences of safety hold after it.
+pub record IsSafeRun (before after : Option (List ℕ)) (J : List Entry) : Type 0 where
+  pub setup : Setup
+  pub trace : ReadsTrace before after setup
+  pub schedule : IsSchedule setup J
+  pub lineage : lineage setup J
+  pub revoked_is_gone : revoked_is_gone setup J
+  pub sound_grants : sound_grants setup J
+  pub nothing_lost : nothing_lost setup J
+  pub sound_endpoints : sound_endpoints setup J
+
+-- whether a run left the journal: with statuses 0, 6 and 7 always, with 4 and 5 where it is not empty
+abbrev pub IsOfRun : Status → List Entry → Type 0
+IsOfRun Done J = Unit {0}
+IsOfRun Usage J = ⊥
+IsOfRun ReadFault J = ⊥
+IsOfRun WriteFault J = J ≢ []
+IsOfRun Memory J = J ≢ []
+IsOfRun Stuck J = Unit {0}
+IsOfRun Spent J = Unit {0}
+IsOfRun NotBuilt J = ⊥
 
 -- Status 6: the world after the seeded journal is quiet, and a living VPE, of which the least is told, has an unanswered call.
 pub record EndsStuck (words : List (List ℕ)) (before after : Option (List ℕ)) (J : List Entry) (text : List ℕ) : Type 0 where

@@ -7,7 +7,7 @@ ghost use Rattle.sem_model.specs.Built.{IsBuilt};
 ghost use Rattle.sem_run.specs.declared.forms.Command.TheVariants.{Run};
 ghost use Rattle.sem_run.specs.declared.statuses.Status.{Status as StatusData};
 ghost use Rattle.sem_run.specs.Commands.{command_of};
-ghost use Rattle.sem_run.specs.Ends.{EndsDone, EndsUsage, EndsNotBuilt, EndsReadFault, EndsMemory, EndsStuck, EndsSpent, IsNotBuilt, WouldEnd, Writes, WritesPrefix};
+ghost use Rattle.sem_run.specs.Ends.{EndsDone, EndsUsage, EndsNotBuilt, EndsReadFault, EndsMemory, EndsStuck, EndsSpent, IsNotBuilt, IsOfRun, IsSafeRun, WouldEnd, Writes, WritesPrefix};
 
 use crate::responses::respond;
 use crate::statuses::Status;
@@ -41,6 +41,9 @@ pub fn semper_alone<S: Source, K: Sink>(
     // A write that failed: the journal is as with the status whose text was being written.
     ensures write_fault { result ≡ Status.WriteFault → Rose (K.faults out.old) (K.faults out.new) }
     ensures prefix { result ≡ Status.WriteFault → (status : StatusData) × WritesPrefix (K.written out.old) (K.written out.new) (λ text. WouldEnd (map string_bytes words.now) (S.left input.old) (S.left input.new) (S.faults input.old) (S.faults input.new) journal.new.entries text status) }
+
+    // Safety: what a run leaves, whole or cut short, is a schedule of the trace, and safe.
+    ensures safe { IsOfRun result journal.new.entries → IsSafeRun (S.left input.old) (S.left input.new) journal.new.entries }
 
     // Exactly: words that are no command, and what is not built, are told so, unless memory was wanting or a count of faults rose.
     ensures usage_exactly { command_of (map string_bytes words.now) ≡ None → (result ≡ Status.Usage) ⊎ ((result ≡ Status.WriteFault) ⊎ (result ≡ Status.Memory)) }

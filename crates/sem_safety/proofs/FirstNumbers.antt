@@ -90,7 +90,7 @@ vpes-next (x ∷ xs) s d rise among = elim (Contains-cons_cases x xs d among) [
 
 -- The declaration of a VPE.
 
-find-decl : (ds : List VpeDecl) (d : VpeDecl) → AllPairs (λ (a b : VpeDecl). a.vpe < b.vpe) ds → Contains ds d → find (λ x. x.vpe == d.vpe) ds ≡ Some d
+pub find-decl : (ds : List VpeDecl) (d : VpeDecl) → AllPairs (λ (a b : VpeDecl). a.vpe < b.vpe) ds → Contains ds d → find (λ x. x.vpe == d.vpe) ds ≡ Some d
 find-decl [] d rise among = absurd (Contains-nil d among)
 find-decl (x ∷ xs) d rise among = elim (Contains-cons_cases x xs d among) [
   | inl same ↦ cond-true (x.vpe == d.vpe) (Some x) (find (λ x. x.vpe == d.vpe) xs) (eq-eqb x.vpe d.vpe (ap (λ (y : VpeDecl). y.vpe) same)) ∙ ap Some same
@@ -99,7 +99,7 @@ find-decl (x ∷ xs) d rise among = elim (Contains-cons_cases x xs d among) [
       cond-false (x.vpe == d.vpe) (Some x) (find (λ x. x.vpe == d.vpe) xs) (ne_eqb x.vpe d.vpe (λ same. omega (arith, before, same))) ∙ find-decl xs d (AllPairs-tail (λ (a b : VpeDecl). a.vpe < b.vpe) x xs rise) rest
 ]
 
-owner-is : (n : ℕ) (o : Option ℕ) → IsSome o → ((kernel : ℕ) → o ≡ Some kernel → kernel < n) → unwrap_or o n < n
+pub owner-is : (n : ℕ) (o : Option ℕ) → IsSome o → ((kernel : ℕ) → o ≡ Some kernel → kernel < n) → unwrap_or o n < n
 owner-is n None some exist = absurd cc
 owner-is n (Some kernel) some exist = exist kernel refl
 

@@ -14,14 +14,27 @@ use Rattle.sem_machine.specs.Steps.{Step}
 use Rattle.sem_machine.specs.Machine.{World, start, side, link, with_side, with_link, local_step, input_of, link_moved, after, entry_of, is_enabled}
 use Rattle.sem_machine.specs.Schedules.{IsRun, run, world_after}
 use Rattle.sem_machine.proofs.Puts.{get_or-put_same, get_or-put_other}
-use Rattle.sem_safety.proofs.Layers.{InGrant}
+use Rattle.sem_safety.proofs.Layers.{facts, InGrant, InCut}
 use Rattle.sem_safety.specs.Onward.{IsOnward, IsOnwardWorld}
 use Rattle.sem_safety.proofs.Onwards.{Any, AnyPlace, any_input, onward-same, onward-next, onward}
-use Rattle.sem_safety.proofs.KeptSteps.{MayDraw, local_step-keeps}
+use Rattle.sem_safety.proofs.KeptSteps.{MayDraw, Dies, local_step-keeps}
 
-any_grant : (g : Option (KeyName × KeyName)) → InGrant Any g
+pub any_grant : (g : Option (KeyName × KeyName)) → InGrant (facts Any AnyPlace) g
 any_grant None = tt
-any_grant (Some g) = tt
+any_grant (Some g) = (tt, tt)
+
+pub any_cut : (o : Option KeyName) → InCut (facts Any AnyPlace) o
+any_cut None = tt
+any_cut (Some k) = tt
+
+pub any_end : (T : Setup) (s : Side) (a : Act) → Dies (facts Any AnyPlace) T s a
+any_end T s (Calls v) = λ exits k same. tt
+any_end T s (Upcall v) = tt
+any_end T s (Fetch from) = tt
+any_end T s Handle = tt
+any_end T s (Resume v) = tt
+any_end T s (Flush to) = tt
+any_end T s (Kill v) = λ k same. tt
 
 abbrev pub AnyVpe : ℕ → Type 0
 AnyVpe v = Unit {0}
@@ -36,7 +49,7 @@ may_act (Flush to) = tt
 may_act (Kill v) = tt
 
 pub local_step-onward : (T : Setup) (i : ℕ) (s : Side) (a : Act) (input : Option Message) → IsOnward s (local_step T i s a input).side
-local_step-onward T i s a input = local_step-keeps Any AnyPlace AnyVpe (IsOnward s) (onward s) T i s a input (may_act a) (onward-same s) (any_input input) (any_grant (local_step T i s a input).outcome.grant, λ v n may below. tt)
+local_step-onward T i s a input = local_step-keeps (facts Any AnyPlace) AnyVpe (IsOnward s) (onward s) T i s a input (may_act a) (onward-same s) (any_end T s a) (any_input input) (any_grant (local_step T i s a input).outcome.grant, λ v n may below. tt, any_cut (local_step T i s a input).outcome.cut)
 
 -- Worlds.
 
@@ -98,7 +111,7 @@ pub run-onward : (T : Setup) (J : List Entry) (W : World) → IsOnwardWorld W (r
 run-onward T [] W = worlds-same W
 run-onward T (e ∷ es) W = worlds-next W (after T W e.event) (run T (after T W e.event) es) (after-onward T W e.event) (run-onward T es (after T W e.event))
 
-run-append : (T : Setup) (before later : List Entry) (W : World) → run T W (before ++ later) ≡ run T (run T W before) later
+pub run-append : (T : Setup) (before later : List Entry) (W : World) → run T W (before ++ later) ≡ run T (run T W before) later
 run-append T [] later W = refl
 run-append T (e ∷ es) later W = run-append T es later (after T W e.event)
 
@@ -113,3 +126,9 @@ pub entry-enabled : (T : Setup) (before : List Entry) (W : World) (e : Entry) (l
 unfolding IsRun
 entry-enabled T [] W e later (allowed, made, rest) = (tt, allowed, made)
 entry-enabled T (b ∷ bs) W e later (allowed, made, rest) = let inner = entry-enabled T bs (after T W b.event) e later rest in ((allowed, made, inner.0), inner.1, inner.2)
+
+-- and is a run up to that entry
+pub run-prefix : (T : Setup) (before : List Entry) (later : List Entry) (e : Entry) (W : World) → IsRun T W (before ++ e ∷ later) → IsRun T W (before ++ e ∷ [])
+unfolding IsRun
+run-prefix T [] later e W (allowed, made, rest) = (allowed, made, tt)
+run-prefix T (b ∷ bs) later e W (allowed, made, rest) = (allowed, made, run-prefix T bs later e (after T W b.event) rest)

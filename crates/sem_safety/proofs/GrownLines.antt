@@ -15,7 +15,7 @@ use Rattle.sem_machine.proofs.Members.{found, find_none, Contains-head, Contains
 use Rattle.sem_safety.specs.Growth.{grown, IsGrown, no_grants, granted_next}
 
 -- a parent is that of a grant
-parent-granted : (gs : List (KeyName × KeyName)) (k p : KeyName) → parent_in gs k ≡ Some p → Contains gs (p, k)
+pub parent-granted : (gs : List (KeyName × KeyName)) (k p : KeyName) → parent_in gs k ≡ Some p → Contains gs (p, k)
 parent-granted gs k p is = from (find (λ (g : KeyName × KeyName). key_eq g.1 k) gs) refl is
   where
     from : (o : Option (KeyName × KeyName)) → find (λ (g : KeyName × KeyName). key_eq g.1 k) gs ≡ o → option_map (λ (g : KeyName × KeyName). g.0) o ≡ Some p → Contains gs (p, k)
@@ -27,20 +27,20 @@ parent-granted gs k p is = from (find (λ (g : KeyName × KeyName). key_eq g.1 k
         subst (Contains gs) (ap (λ x. (x, g.1)) parent ∙ ap (λ x. (p, x)) child) at.0
 
 -- one grant more gives its child a parent, and no other key
-parent-more : (gs : List (KeyName × KeyName)) (p c k : KeyName) → key_eq c k ≡ false → parent_in (gs ++ (p, c) ∷ []) k ≡ parent_in gs k
+pub parent-more : (gs : List (KeyName × KeyName)) (p c k : KeyName) → key_eq c k ≡ false → parent_in (gs ++ (p, c) ∷ []) k ≡ parent_in gs k
 parent-more gs p c k other = ap (option_map (λ (g : KeyName × KeyName). g.0)) (find-append (λ (g : KeyName × KeyName). key_eq g.1 k) gs ((p, c) ∷ []) ∙ (ap (option_or (find (λ (g : KeyName × KeyName). key_eq g.1 k) gs)) (cond-false (key_eq c k) (Some (p, c)) None other) ∙ or-none (find (λ (g : KeyName × KeyName). key_eq g.1 k) gs)))
   where
     or-none : {X : Type 0} (o : Option X) → option_or o None ≡ o
     or-none None = refl
     or-none (Some x) = refl
 
-parent-new : (roots : List KeyName) (gs : List (KeyName × KeyName)) (p c : KeyName) → (Contains (grown roots gs) c → ⊥) → parent_in (gs ++ (p, c) ∷ []) c ≡ Some p
+pub parent-new : (roots : List KeyName) (gs : List (KeyName × KeyName)) (p c : KeyName) → (Contains (grown roots gs) c → ⊥) → parent_in (gs ++ (p, c) ∷ []) c ≡ Some p
 parent-new roots gs p c new =
     let none : find (λ (g : KeyName × KeyName). key_eq g.1 c) gs ≡ None = find_none (λ (g : KeyName × KeyName). key_eq g.1 c) gs (λ g in_gs. false_from_ne_true (key_eq g.1 c) (λ same. new (subst (Contains (grown roots gs)) (key_eq-true g.1 c same) (Contains-append_right roots (map (λ (x : KeyName × KeyName). x.1) gs) g.1 (Contains-map (λ (x : KeyName × KeyName). x.1) gs g in_gs))))) in
     ap (option_map (λ (g : KeyName × KeyName). g.0)) (find-append (λ (g : KeyName × KeyName). key_eq g.1 c) gs ((p, c) ∷ []) ∙ (ap (λ o. option_or o (find (λ (g : KeyName × KeyName). key_eq g.1 c) ((p, c) ∷ []))) none ∙ cond-true (key_eq c c) (Some (p, c)) None (key_eq-same c)))
 
 -- the keys that are there once one more is granted
-grown-more : (roots : List KeyName) (gs : List (KeyName × KeyName)) (p c k : KeyName) → Contains (grown roots (gs ++ (p, c) ∷ [])) k → Contains (grown roots gs) k ⊎ (c ≡ k)
+pub grown-more : (roots : List KeyName) (gs : List (KeyName × KeyName)) (p c k : KeyName) → Contains (grown roots (gs ++ (p, c) ∷ [])) k → Contains (grown roots gs) k ⊎ (c ≡ k)
 grown-more roots gs p c k there = elim (Contains-append_cases roots (map (λ (g : KeyName × KeyName). g.1) (gs ++ (p, c) ∷ [])) k there) [
   | inl root ↦ inl (Contains-append_left roots (map (λ (g : KeyName × KeyName). g.1) gs) k root)
   | inr child ↦ elim (Contains-append_cases (map (λ (g : KeyName × KeyName). g.1) gs) (c ∷ []) k (subst (λ ks. Contains ks k) (map-append (λ (g : KeyName × KeyName). g.1) gs ((p, c) ∷ [])) child)) [
@@ -52,14 +52,14 @@ grown-more roots gs p c k there = elim (Contains-append_cases roots (map (λ (g 
   ]
 ]
 
-grown-keeps : (roots : List KeyName) (gs : List (KeyName × KeyName)) (p c k : KeyName) → Contains (grown roots gs) k → Contains (grown roots (gs ++ (p, c) ∷ [])) k
+pub grown-keeps : (roots : List KeyName) (gs : List (KeyName × KeyName)) (p c k : KeyName) → Contains (grown roots gs) k → Contains (grown roots (gs ++ (p, c) ∷ [])) k
 grown-keeps roots gs p c k there = elim (Contains-append_cases roots (map (λ (g : KeyName × KeyName). g.1) gs) k there) [
   | inl root ↦ Contains-append_left roots (map (λ (g : KeyName × KeyName). g.1) (gs ++ (p, c) ∷ [])) k root
   | inr child ↦ Contains-append_right roots (map (λ (g : KeyName × KeyName). g.1) (gs ++ (p, c) ∷ [])) k (subst (λ ks. Contains ks k) (sym (map-append (λ (g : KeyName × KeyName). g.1) gs ((p, c) ∷ []))) (Contains-append_left (map (λ (g : KeyName × KeyName). g.1) gs) (c ∷ []) k child))
 ]
 
 -- each parent is there
-parent-grown : (roots : List KeyName) (gs : List (KeyName × KeyName)) → IsGrown roots gs → (p k : KeyName) → Contains gs (p, k) → Contains (grown roots gs) p
+pub parent-grown : (roots : List KeyName) (gs : List (KeyName × KeyName)) → IsGrown roots gs → (p k : KeyName) → Contains gs (p, k) → Contains (grown roots gs) p
 parent-grown roots _ no_grants p k there = absurd (Contains-nil (p, k) there)
 parent-grown roots _ (granted_next gs q c before parent new) p k there = elim (Contains-append_cases gs ((q, c) ∷ []) (p, k) there) [
   | inl earlier ↦ grown-keeps roots gs q c p (parent-grown roots gs before p k earlier)

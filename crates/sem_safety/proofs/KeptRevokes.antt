@@ -1,5 +1,5 @@
 -- What a revoke does keeps a layer.
-use Rattle.std.proofs.Common.{◌≡◌, ℕ, zero, suc, ◌+◌, ◌-◌, List, [], ◌∷◌, length, Option, Some, None, refl}
+use Rattle.std.proofs.Common.{true, refl, ◌≡◌, ℕ, zero, suc, ◌+◌, ◌-◌, List, [], ◌∷◌, length, Option, Some, None, refl}
 use Rattle.std.specs.List.{filter}
 use Rattle.std.specs.Option.{option_map_or}
 use Rattle.std.proofs.lemmas.Bool.{cond_both}
@@ -18,22 +18,23 @@ use Rattle.sem_msg.specs.Setup.{Setup}
 use Rattle.sem_machine.specs.Codes.{Done}
 use Rattle.sem_machine.specs.Setups.{owner_of, is_local}
 use Rattle.sem_machine.specs.Sides.{Side, cap, job, parked, freed, ready, parked_as, installed, cap_added, unlinked, mark_all, unbind_all, is_marked_by, job_opened, send}
-use Rattle.sem_machine.specs.Revokes.{with_number}
+use Rattle.sem_machine.specs.Revokes.{has_key, with_number}
 use Rattle.sem_machine.specs.Revokes.{region, children_of, count_raised, count_lowered, with_up, adopted, other_marker, request_or_adopt, selectors_freed, swept, woken, parent_left, root_parent, up_told, closed, if_done, next_done, finish, settled, begin, revoke_begun, is_ready_with, ready_freed, obtain_cancelled, request_begun, revoke_requested, revoke_done}
-use Rattle.sem_safety.proofs.Layers.{IsLayer, in_turn-keeps}
+use Rattle.sem_safety.proofs.Layers.{Facts, IsKept, in_turn-keeps, in_turn-keeps_each}
+use Rattle.sem_safety.proofs.Doomed.{region-doomed, children-doomed}
 
 -- what is so of both is so of what an option picks
 pub option-keeps : {X Y : Type 0} (P : Y → Type 0) (f : X → Y) (o : Option X) (y : Y) → ((x : X) → o ≡ Some x → P (f x)) → P y → P (option_map_or f o y)
 option-keeps P f None y some none = none
 option-keeps P f (Some x) y some none = some x refl
 
-module _ (Q : KeyName → Type 0) (R : ℕ → ℕ → Type 0) (P : Side → Type 0) (L : IsLayer Q R P) where
+module _ (F : Facts) (P : Side → Type 0) (L : IsKept F P) where
   -- Small changes.
   pub freed-in : (s : Side) → P s → (v sel : ℕ) → P (freed v sel s)
-  freed-in s is v sel = L.keeps_slot s is v sel Free
+  freed-in s is v sel = L.keeps_slot s is v sel Free tt
 
-  pub installed-in : (s : Side) → P s → (k : KeyName) (parent : Option KeyName) (sel : ℕ) (object : Object) → Q k → P (installed k parent sel object s)
-  installed-in s is k parent sel object here = L.keeps_slot (cap_added (record { key = k; parent = parent; children = []; mark = None; selector = sel; object = object }) s) (L.keeps_added s is (record { key = k; parent = parent; children = []; mark = None; selector = sel; object = object }) here) k.vpe sel (Held k)
+  pub installed-in : (s : Side) → P s → (k : KeyName) (parent : Option KeyName) (sel : ℕ) (object : Object) → F.key k → P (installed k parent sel object s)
+  installed-in s is k parent sel object here = L.keeps_slot (cap_added (record { key = k; parent = parent; children = []; mark = None; selector = sel; object = object }) s) (L.keeps_added s is (record { key = k; parent = parent; children = []; mark = None; selector = sel; object = object }) here refl refl) k.vpe sel (Held k) refl
 
   pub ready-in : (s : Side) → P s → (code v : ℕ) → P (ready code v s)
   ready-in s is code v = L.keeps_parked s is v (Ready code) tt
@@ -79,22 +80,22 @@ module _ (Q : KeyName → Type 0) (R : ℕ → ℕ → Type 0) (P : Side → Typ
   adopted-in j None s is = is
   adopted-in j (Some m) s is = raised-in j (with_up (Local j) m s) (L.keeps_changed s is m (λ x. record x { up = Some (Local j) }))
 
-  request-in : (T : Setup) (i j : ℕ) (k : KeyName) (s : Side) → P s → P (request_or_adopt T i j k s)
-  request-in T i j k s is = cond_both (is_local T i k) (adopted j (other_marker j (cap s k)) s) (count_raised j (send (owner_of T k) (RevokeReq k j) s)) P (λ _. adopted-in j (other_marker j (cap s k)) s is) (λ _. raised-in j (send (owner_of T k) (RevokeReq k j) s) (L.keeps_send s is (owner_of T k) (RevokeReq k j) tt))
+  request-in : (T : Setup) (i j : ℕ) (k : KeyName) (s : Side) → P s → F.doomed k → P (request_or_adopt T i j k s)
+  request-in T i j k s is doomed = cond_both (is_local T i k) (adopted j (other_marker j (cap s k)) s) (count_raised j (send (owner_of T k) (RevokeReq k j) s)) P (λ _. adopted-in j (other_marker j (cap s k)) s is) (λ _. raised-in j (send (owner_of T k) (RevokeReq k j) s) (L.keeps_send s is (owner_of T k) (RevokeReq k j) doomed))
 
-  pub begin-in : (T : Setup) (i : ℕ) (root : KeyName) (up : Option Up) (waiters : List ℕ) (s : Side) → P s → P (begin T i root up waiters s)
+  pub begin-in : (T : Setup) (i : ℕ) (root : KeyName) (up : Option Up) (waiters : List ℕ) (s : Side) → P s → F.doomed root → P (begin T i root up waiters s)
   unfolding begin
-  begin-in T i root up waiters s is =
+  begin-in T i root up waiters s is doomed =
       let j : ℕ = s.next_job in
       let ks : List KeyName = region s.caps root in
+      let marks : (k : KeyName) → has_key ks k ≡ true → F.doomed k = region-doomed F.link F.doomed L.spreads s.caps (L.of_link s is) root doomed in
       let opened : P (job_opened root up waiters s) = L.keeps_opened s is root up waiters in
-      let marked : P (mark_all ks j (job_opened root up waiters s)) = L.keeps_marked (job_opened root up waiters s) opened ks j in
-      let unbound = L.keeps_unbound (mark_all ks j (job_opened root up waiters s)) marked ks in
-      settled-in T i j (in_turn (request_or_adopt T i j) (children_of s.caps ks) (unbind_all ks (mark_all ks j (job_opened root up waiters s)))) (in_turn-keeps P (request_or_adopt T i j) (λ k t here. request-in T i j k t here) (children_of s.caps ks) (unbind_all ks (mark_all ks j (job_opened root up waiters s))) unbound)
+      let unbound : P (unbind_all ks (mark_all ks j (job_opened root up waiters s))) = L.keeps_marked (job_opened root up waiters s) opened ks j marks in
+      settled-in T i j (in_turn (request_or_adopt T i j) (children_of s.caps ks) (unbind_all ks (mark_all ks j (job_opened root up waiters s)))) (in_turn-keeps_each P (request_or_adopt T i j) (children_of s.caps ks) (λ k among t here. request-in T i j k t here (children-doomed F.link F.doomed L.spreads s.caps (L.of_link s is) ks marks k among)) (unbind_all ks (mark_all ks j (job_opened root up waiters s))) unbound)
 
-  pub begun-in : (T : Setup) (i v : ℕ) (k : KeyName) (mark : Option ℕ) (s : Side) → P s → P (revoke_begun T i v k mark s)
-  begun-in T i v k None s is = begin-in T i k None (v ∷ []) (parked_as v (RevokeWait s.next_job) s) (L.keeps_parked s is v (RevokeWait s.next_job) tt)
-  begun-in T i v k (Some j) s is = L.keeps_changed (parked_as v (RevokeWait j) s) (L.keeps_parked s is v (RevokeWait j) tt) j (λ x. record x { waiters = with_number x.waiters v })
+  pub begun-in : (T : Setup) (i v : ℕ) (k : KeyName) (mark : Option ℕ) (s : Side) → P s → F.doomed k → P (revoke_begun T i v k mark s)
+  begun-in T i v k None s is doomed = begin-in T i k None (v ∷ []) (parked_as v (RevokeWait s.next_job) s) (L.keeps_parked s is v (RevokeWait s.next_job) tt) doomed
+  begun-in T i v k (Some j) s is doomed = L.keeps_changed (parked_as v (RevokeWait j) s) (L.keeps_parked s is v (RevokeWait j) tt) j (λ x. record x { waiters = with_number x.waiters v })
 
   -- A request from another kernel, and a token that came back.
   ready_freed-in : (p : Option Parked) (v : ℕ) (s : Side) → P s → P (ready_freed p v s)
@@ -110,13 +111,13 @@ module _ (Q : KeyName → Type 0) (R : ℕ → ℕ → Type 0) (P : Side → Typ
   cancelled-in : (k : KeyName) (s : Side) → P s → P (obtain_cancelled k s)
   cancelled-in k s is = cond_both (is_ready_with k (parked s k.vpe)) _ s P (λ _. L.keeps_parked (ready_freed (parked s k.vpe) k.vpe s) (ready_freed-in (parked s k.vpe) k.vpe s is) k.vpe ObtainCancelled tt) (λ _. is)
 
-  request_begun-in : (T : Setup) (i from j : ℕ) (k : KeyName) (mark : Option ℕ) (s : Side) → P s → P (request_begun T i from j k mark s)
-  request_begun-in T i from j k None s is = begin-in T i k (Some (Remote from j)) [] s is
-  request_begun-in T i from j k (Some m) s is = L.keeps_changed s is m (λ x. record x { up = Some (Remote from j) })
+  request_begun-in : (T : Setup) (i from j : ℕ) (k : KeyName) (mark : Option ℕ) (s : Side) → P s → F.doomed k → P (request_begun T i from j k mark s)
+  request_begun-in T i from j k None s is doomed = begin-in T i k (Some (Remote from j)) [] s is doomed
+  request_begun-in T i from j k (Some m) s is doomed = L.keeps_changed s is m (λ x. record x { up = Some (Remote from j) })
 
-  pub requested-in : (T : Setup) (i from j : ℕ) (k : KeyName) (o : Option Capability) (s : Side) → P s → P (revoke_requested T i from j k o s)
-  requested-in T i from j k (Some c) s is = request_begun-in T i from j k c.mark s is
-  requested-in T i from j k None s is = L.keeps_send (obtain_cancelled k s) (cancelled-in k s is) from (RevokeDone j) tt
+  pub requested-in : (T : Setup) (i from j : ℕ) (k : KeyName) (o : Option Capability) (s : Side) → P s → F.doomed k → P (revoke_requested T i from j k o s)
+  requested-in T i from j k (Some c) s is doomed = request_begun-in T i from j k c.mark s is doomed
+  requested-in T i from j k None s is doomed = L.keeps_send (obtain_cancelled k s) (cancelled-in k s is) from (RevokeDone j) tt
 
   -- the job settled, if it is there
   abbrev settled_if_there : Setup → ℕ → ℕ → Option JobRow → Side → Side

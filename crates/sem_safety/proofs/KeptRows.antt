@@ -1,5 +1,7 @@
 -- Calls and the ends of VPEs keep a layer.
-use Rattle.std.proofs.Common.{◌≡◌, ℕ, ◌<◌, ◌++◌, Bool, false, List, [], ◌∷◌, Option, Some, None}
+use Rattle.std.proofs.lemmas.Bool.{eqb-true}
+use Rattle.sem_machine.proofs.Members.{Contains-from_filter}
+use Rattle.std.proofs.Common.{true, is_some, sym, ◌∙◌, ap, if◌then◌else◌, refl, ◌≡◌, ℕ, ◌<◌, ◌≤◌, ◌++◌, Bool, false, List, [], ◌∷◌, Option, Some, None, arith}
 use Rattle.std.specs.Prelude.{◌==◌}
 use Rattle.std.specs.Option.{option_map_or}
 use Rattle.std.proofs.lemmas.Bool.{cond_both}
@@ -25,7 +27,7 @@ use Rattle.sem_msg.specs.declared.state.Slot.TheVariants.{Free, Held, Promised}
 use Rattle.sem_msg.specs.Setup.{Setup}
 use Rattle.sem_machine.specs.Codes.{NoCap, NoService, BadKind, Dead}
 use Rattle.sem_machine.specs.Setups.{kernel_of, owner_of, place_owner, service_named}
-use Rattle.sem_machine.specs.Sides.{Side, row, cap, cap_in, own, slot, endpoint, parked, drawn, promised, parked_as, unparked, asked, buried, linked, send}
+use Rattle.sem_machine.specs.Sides.{is_marked, Side, row, cap, cap_in, own, slot, endpoint, parked, drawn, promised, parked_as, unparked, asked, buried, linked, send}
 use Rattle.sem_machine.specs.Steps.{Step, answer, unless}
 use Rattle.sem_machine.specs.Asks.{target_vpe, asker, is_unawaited, promise_freed, call_refused, refusal_sent, ask_refused}
 use Rattle.sem_machine.specs.Revokes.{begin}
@@ -35,7 +37,7 @@ use Rattle.sem_machine.specs.Calls.{next_key, next_place, child_made, with_held,
 use Rattle.sem_safety.proofs.Layers.{InGrant}
 use Rattle.sem_safety.specs.Onward.{IsOnward}
 use Rattle.sem_safety.proofs.Onwards.{onward-same, onward, drawn-below}
-use Rattle.sem_safety.proofs.Layers.{IsLayer, in_turn-keeps}
+use Rattle.sem_safety.proofs.Layers.{Facts, InCut, IsKept, in_turn-keeps, in_turn-keeps_each}
 use Rattle.sem_safety.proofs.KeptRevokes.{option-keeps, installed-in, freed-in, ready-in, begin-in, begun-in}
 
 -- what is so of each refusal and of the step that is done is so of the row
@@ -44,19 +46,46 @@ unfolding unless
 unless-keeps P [] refuse done each here = here
 unless-keeps P (test ∷ tests) refuse done each here = cond_both test.0 (refuse test.1) (unless tests refuse done) P (λ _. each test.1) (λ _. unless-keeps P tests refuse done each here)
 
-module _ (Q : KeyName → Type 0) (R : ℕ → ℕ → Type 0) (D : ℕ → Type 0) (P : Side → Type 0) (L : IsLayer Q R P) where
-  -- what is known of a step: the key that it grants has the fact, and so do the numbers that are drawn after it
-  abbrev pub Hand : Step → Type 0
-  Hand x = InGrant Q x.outcome.grant × ((v n : ℕ) → D v → n < (row x.side v).next_number → R v n)
+-- no test holds
+abbrev pub Passed : List (Bool × ℕ) → Type 0
+Passed [] = Unit {0}
+Passed (test ∷ tests) = (test.0 ≡ false) × Passed tests
+
+-- and of the step that is done it may be known that no test held
+pub unless-passed : (P : Step → Type 0) (tests : List (Bool × ℕ)) (refuse : ℕ → Step) (done : Step) → ((code : ℕ) → P (refuse code)) → (Passed tests → P done) → P (unless tests refuse done)
+unfolding unless
+unless-passed P [] refuse done each here = here tt
+unless-passed P (test ∷ tests) refuse done each here = from test.0 refl (unless-passed P tests refuse done each)
+  where
+    from : (b : Bool) → test.0 ≡ b → ((Passed tests → P done) → P (unless tests refuse done)) → P (if b then refuse test.1 else unless tests refuse done)
+    from true holds rest = each test.1
+    from false fails rest = rest (λ passed. here (fails, passed))
+
+-- an own capability that is not being revoked
+pub unmarked-own : (o : Option Capability) (c : Capability) → o ≡ Some c → is_marked o ≡ false → c.mark ≡ None
+unmarked-own o c held test = none c.mark (sym (ap is_marked held) ∙ test)
+  where
+    none : (m : Option ℕ) → is_some m ≡ false → m ≡ None
+    none None h = refl
+    none (Some j) h = absurd cc
+
+module _ (F : Facts) (D : ℕ → Type 0) (P : Side → Type 0) (L : IsKept F P) where
+  -- what is known of a step of the side s: the grant, the numbers that are drawn in it, and the key that it cuts have the facts
+  abbrev pub Hand : Side → Step → Type 0
+  Hand s x = InGrant F x.outcome.grant × ((v n : ℕ) → D v → (row s v).next_number ≤ n → n < (row x.side v).next_number → F.place v n) × InCut F x.outcome.cut
 
   -- the step keeps the fact
-  abbrev pub Keeps : Step → Type 0
-  Keeps x = Hand x → P x.side
+  abbrev pub Keeps : Side → Step → Type 0
+  Keeps s x = Hand s x → P x.side
+
+  -- what is kept from a later side on is kept
+  pub keeps-later : (s t : Side) (x : Step) → IsOnward s t → Keeps t x → Keeps s x
+  keeps-later s t x on keeps = λ hand. keeps (hand.0, λ v n may low below. hand.1 v n may (let first = on.numbers v in omega (arith, first, low)) below, hand.2)
 
   -- A refused ask.
   promise_freed-in : (p : Option Parked) (v : ℕ) (s : Side) → P s → P (promise_freed p v s)
   promise_freed-in None v s is = is
-  promise_freed-in (Some (ObtainWait number sel)) v s is = freed-in Q R P L s is v sel
+  promise_freed-in (Some (ObtainWait number sel)) v s is = freed-in F P L s is v sel
   promise_freed-in (Some (ObtainReady key parent object sel)) v s is = is
   promise_freed-in (Some ObtainCancelled) v s is = is
   promise_freed-in (Some (DelegateWait parent)) v s is = is
@@ -65,7 +94,7 @@ module _ (Q : KeyName → Type 0) (R : ℕ → ℕ → Type 0) (D : ℕ → Type
   promise_freed-in (Some (Ready code)) v s is = is
 
   pub call_refused-in : (code v : ℕ) (s : Side) → P s → P (call_refused code v s)
-  call_refused-in code v s is = ready-in Q R P L (promise_freed (parked s v) v s) (promise_freed-in (parked s v) v s is) code v
+  call_refused-in code v s is = ready-in F P L (promise_freed (parked s v) v s) (promise_freed-in (parked s v) v s is) code v
 
   refusal_sent-in : (T : Setup) (code : ℕ) (a : Ask) (s : Side) → P s → P (refusal_sent T code a s)
   refusal_sent-in T code (ObtainAsk place target) s is = L.keeps_send s is (place_owner T place) (ObtainNo place code) tt
@@ -93,64 +122,64 @@ module _ (Q : KeyName → Type 0) (R : ℕ → ℕ → Type 0) (D : ℕ → Type
   revoked_if_there T i k None s = s
   revoked_if_there T i k (Some c) s = option_map_or (λ m. s) c.mark (begin T i k None [] s)
 
-  revoked_if_there-in : (T : Setup) (i : ℕ) (k : KeyName) (o : Option Capability) (s : Side) → P s → P (revoked_if_there T i k o s)
-  revoked_if_there-in T i k None s is = is
-  revoked_if_there-in T i k (Some c) s is = option-keeps P (λ (m : ℕ). s) c.mark (begin T i k None [] s) (λ m marked. is) (begin-in Q R P L T i k None [] s is)
+  revoked_if_there-in : (T : Setup) (i : ℕ) (k : KeyName) (o : Option Capability) (s : Side) → P s → F.doomed k → P (revoked_if_there T i k o s)
+  revoked_if_there-in T i k None s is doomed = is
+  revoked_if_there-in T i k (Some c) s is doomed = option-keeps P (λ (m : ℕ). s) c.mark (begin T i k None [] s) (λ m marked. is) (begin-in F P L T i k None [] s is doomed)
 
-  pub ended-in : (T : Setup) (i v : ℕ) (s : Side) → P s → P (ended T i v s)
+  pub ended-in : (T : Setup) (i v : ℕ) (s : Side) → P s → ((k : KeyName) → k.vpe ≡ v → F.doomed k) → P (ended T i v s)
   unfolding ended
-  ended-in T i v s is =
+  ended-in T i v s is dies =
       let told = in_turn-keeps P (ask_ended T i) (λ a t here. ask_ended-in T i a t here) (row s v).asks (buried v s) (L.keeps_buried s is v) in
       let left = call_ended-in T (parked (in_turn (ask_ended T i) (row s v).asks (buried v s)) v) v (unparked v (in_turn (ask_ended T i) (row s v).asks (buried v s))) (L.keeps_unparked (in_turn (ask_ended T i) (row s v).asks (buried v s)) told v) in
-      in_turn-keeps P (revoked_if_left T i) (λ k t here. revoked_if_there-in T i k (cap t k) t here) _ _ left
+      in_turn-keeps_each P (revoked_if_left T i) _ (λ k among t here. revoked_if_there-in T i k (cap t k) t here (dies k (eqb-true k.vpe v (Contains-from_filter (λ (x : KeyName). x.vpe == v) _ k among).1))) _ left
 
   -- Calls.
-  child_made-keeps : (T : Setup) (v dst : ℕ) (object : Object) (parent : KeyName) (s : Side) → P s → Keeps (child_made T v dst object parent s)
+  child_made-keeps : (T : Setup) (v dst : ℕ) (object : Object) (parent : KeyName) (s : Side) → P s → Keeps s (child_made T v dst object parent s)
   child_made-keeps T v dst object parent s is = λ here.
       let k : KeyName = next_key T s v (object_kind object) in
-      installed-in Q R P L (linked parent k (drawn v s)) (L.keeps_linked (drawn v s) (L.keeps_drawn s is v) parent k) k (Some parent) dst object here.0
+      installed-in F P L (linked parent k (drawn v s)) (L.keeps_linked (drawn v s) (L.keeps_drawn s is v) parent k here.0.1) k (Some parent) dst object here.0.0
 
-  with_held-keeps : (o : Option Capability) (f : Capability → Step) (s : Side) → P s → ((c : Capability) → o ≡ Some c → Keeps (f c)) → Keeps (with_held o f s)
-  with_held-keeps o f s is each = option-keeps Keeps f o (answer NoCap s) each (λ _. is)
+  with_held-keeps : (o : Option Capability) (f : Capability → Step) (s : Side) → P s → ((c : Capability) → o ≡ Some c → Keeps s (f c)) → Keeps s (with_held o f s)
+  with_held-keeps o f s is each = option-keeps (Keeps s) f o (answer NoCap s) each (λ _. is)
 
-  ask_made-keeps : (T : Setup) (i v dst : ℕ) (target : Target) (s : Side) → D v → P s → Keeps (ask_made T i v dst target s)
+  ask_made-keeps : (T : Setup) (i v dst : ℕ) (target : Target) (s : Side) → D v → P s → Keeps s (ask_made T i v dst target s)
   ask_made-keeps T i v dst target s may is = λ hand.
       let place : PlaceName = next_place T s v in
       let w : ℕ = target_vpe target in
       let waiting : Side = parked_as v (ObtainWait place.number dst) (promised v dst (drawn v s)) in
-      let kept : P waiting = L.keeps_parked (promised v dst (drawn v s)) (L.keeps_slot (drawn v s) (L.keeps_drawn s is v) v dst Promised) v (ObtainWait place.number dst) tt in
-      let O = onward (drawn v s) in
-      let on : IsOnward (drawn v s) waiting = O.keeps_parked (promised v dst (drawn v s)) (O.keeps_slot (drawn v s) (onward-same (drawn v s)) v dst Promised) v (ObtainWait place.number dst) tt in
+      let kept : P waiting = L.keeps_parked (promised v dst (drawn v s)) (L.keeps_slot (drawn v s) (L.keeps_drawn s is v) v dst Promised tt) v (ObtainWait place.number dst) tt in
+      let O = (onward (drawn v s)).kept in
+      let on : IsOnward (drawn v s) waiting = O.keeps_parked (promised v dst (drawn v s)) (O.keeps_slot (drawn v s) (onward-same (drawn v s)) v dst Promised tt) v (ObtainWait place.number dst) tt in
       let after : IsOnward (drawn v s) (ask_made T i v dst target s).side = cond_both (kernel_of T w == i) (asked w (ObtainAsk place target) waiting) (send (kernel_of T w) (ObtainReq place target) waiting) (IsOnward (drawn v s)) (λ _. O.keeps_asked waiting on w (ObtainAsk place target) tt) (λ _. O.keeps_send waiting on (kernel_of T w) (ObtainReq place target) tt) in
-      let number : R v place.number = hand.1 v place.number may (drawn-below v s (ask_made T i v dst target s).side after) in
+      let number : F.place v place.number = hand.1 v place.number may (omega arith) (drawn-below v s (ask_made T i v dst target s).side after) in
       cond_both (kernel_of T w == i) (asked w (ObtainAsk place target) waiting) (send (kernel_of T w) (ObtainReq place target) waiting) P (λ _. L.keeps_asked waiting kept w (ObtainAsk place target) number) (λ _. L.keeps_send waiting kept (kernel_of T w) (ObtainReq place target) number)
 
-  offer_made-keeps : (T : Setup) (i v w dst : ℕ) (p : Capability) (s : Side) → P s → Keeps (offer_made T i v w dst p s)
+  offer_made-keeps : (T : Setup) (i v w dst : ℕ) (p : Capability) (s : Side) → P s → Keeps s (offer_made T i v w dst p s)
   offer_made-keeps T i v w dst p s is = λ _.
       let waiting : Side = parked_as v (DelegateWait p.key) s in
       let kept : P waiting = L.keeps_parked s is v (DelegateWait p.key) tt in
       cond_both (kernel_of T w == i) (asked w (DelegateAsk p.key p.object dst) waiting) (send (kernel_of T w) (DelegateReq p.key p.object w dst) waiting) P (λ _. L.keeps_asked waiting kept w (DelegateAsk p.key p.object dst) tt) (λ _. L.keeps_send waiting kept (kernel_of T w) (DelegateReq p.key p.object w dst) tt)
 
-  own-in : (s : Side) → P s → (v sel : ℕ) (c : Capability) → own s v sel ≡ Some c → Q c.key
-  own-in s is v sel c held = from (slot s v sel) held
+  own-in : (s : Side) → ((k : KeyName) (c : Capability) → cap s k ≡ Some c → F.key c.key) → (v sel : ℕ) (c : Capability) → own s v sel ≡ Some c → F.key c.key
+  own-in s caps v sel c held = from (slot s v sel) held
     where
-      from : (x : Slot) → cap_in s x ≡ Some c → Q c.key
+      from : (x : Slot) → cap_in s x ≡ Some c → F.key c.key
       from Free none = absurd cc
-      from (Held k) some = L.of_cap s is k c some
+      from (Held k) some = caps k c some
       from Promised none = absurd cc
 
-  pub call_row-keeps : (T : Setup) (i : ℕ) (s : Side) (v : ℕ) (c : Call) → D v → P s → Keeps (call_row T i s v c)
+  pub call_row-keeps : (T : Setup) (i : ℕ) (s : Side) (v : ℕ) (c : Call) → D v → P s → (c ≡ Exit → (k : KeyName) → k.vpe ≡ v → F.doomed k) → ((k : KeyName) (p : Capability) → cap s k ≡ Some p → F.key p.key) → Keeps s (call_row T i s v c)
   unfolding call_row
-  call_row-keeps T i s v (Derive src dst off len rights) may is = unless-keeps Keeps (derive_tests s v src dst off len rights) _ _ (λ code _. is) (with_held-keeps (own s v src) _ s is (λ p held. child_made-keeps T v dst (narrowed off len rights p.object) p.key s is))
-  call_row-keeps T i s v (Gate src dst label credits) may is = unless-keeps Keeps (gate_tests s v src dst credits) _ _ (λ code _. is) (with_held-keeps (own s v src) _ s is (λ p held. child_made-keeps T v dst (Send p.key label credits) p.key s is))
-  call_row-keeps T i s v (Obtain dst w src) may is = unless-keeps Keeps (obtain_tests T i s v dst w) _ _ (λ code _. is) (ask_made-keeps T i v dst (SelTarget w src) s may is)
-  call_row-keeps T i s v (Delegate src w dst) may is = unless-keeps Keeps (delegate_tests T i s v src w) _ _ (λ code _. is) (with_held-keeps (own s v src) _ s is (λ p held. offer_made-keeps T i v w dst p s is))
-  call_row-keeps T i s v (OpenSession dst name) may is = unless-keeps Keeps (open_tests T i s v dst name) _ _ (λ code _. is) (option-keeps Keeps (λ (x : Service). ask_made T i v dst (ServTarget x.key) s) (service_named T name) (answer NoService s) (λ x there. ask_made-keeps T i v dst (ServTarget x.key) s may is) (λ _. is))
-  call_row-keeps T i s v (AskOffer dst session index) may is = unless-keeps Keeps (offer_tests T i s v dst session) _ _ (λ code _. is) (option-keeps Keeps (λ (k : KeyName). ask_made T i v dst (OfferTarget k index) s) _ (answer BadKind s) (λ k there. ask_made-keeps T i v dst (OfferTarget k index) s may is) (λ _. is))
-  call_row-keeps T i s v (Revoke src) may is = with_held-keeps (own s v src) _ s is (λ c held _. begun-in Q R P L T i v c.key c.mark s is)
-  call_row-keeps T i s v (Bind ep src) may is = unless-keeps Keeps (bind_tests s v src) _ _ (λ code _. is) (with_held-keeps (own s v src) _ s is (λ c held _. L.keeps_bound s is v ep (Some (record { key = c.key; object = c.object; ring = [] })) (own-in s is v src c held)))
-  call_row-keeps T i s v (Read ep off len) may is = unless-keeps Keeps (memory_tests 1 off len (endpoint s v ep)) _ _ (λ code _. is) (λ _. is)
-  call_row-keeps T i s v (Write ep off len) may is = unless-keeps Keeps (memory_tests 2 off len (endpoint s v ep)) _ _ (λ code _. is) (λ _. is)
-  call_row-keeps T i s v (SendCall ep len) may is = unless-keeps Keeps (send_tests (endpoint s v ep)) _ _ (λ code _. is) (λ _. L.keeps_rung s is v ep (λ ring. ring ++ len ∷ []))
-  call_row-keeps T i s v (Credit ep) may is = unless-keeps Keeps (credit_tests (endpoint s v ep)) _ _ (λ code _. is) (λ _. L.keeps_rung s is v ep _)
-  call_row-keeps T i s v Exit may is = λ _. ended-in T i v s is
+  call_row-keeps T i s v (Derive src dst off len rights) may is dies caps = unless-keeps (Keeps s) (derive_tests s v src dst off len rights) _ _ (λ code _. is) (with_held-keeps (own s v src) _ s is (λ p held. child_made-keeps T v dst (narrowed off len rights p.object) p.key s is))
+  call_row-keeps T i s v (Gate src dst label credits) may is dies caps = unless-keeps (Keeps s) (gate_tests s v src dst credits) _ _ (λ code _. is) (with_held-keeps (own s v src) _ s is (λ p held. child_made-keeps T v dst (Send p.key label credits) p.key s is))
+  call_row-keeps T i s v (Obtain dst w src) may is dies caps = unless-keeps (Keeps s) (obtain_tests T i s v dst w) _ _ (λ code _. is) (ask_made-keeps T i v dst (SelTarget w src) s may is)
+  call_row-keeps T i s v (Delegate src w dst) may is dies caps = unless-keeps (Keeps s) (delegate_tests T i s v src w) _ _ (λ code _. is) (with_held-keeps (own s v src) _ s is (λ p held. offer_made-keeps T i v w dst p s is))
+  call_row-keeps T i s v (OpenSession dst name) may is dies caps = unless-keeps (Keeps s) (open_tests T i s v dst name) _ _ (λ code _. is) (option-keeps (Keeps s) (λ (x : Service). ask_made T i v dst (ServTarget x.key) s) (service_named T name) (answer NoService s) (λ x there. ask_made-keeps T i v dst (ServTarget x.key) s may is) (λ _. is))
+  call_row-keeps T i s v (AskOffer dst session index) may is dies caps = unless-keeps (Keeps s) (offer_tests T i s v dst session) _ _ (λ code _. is) (option-keeps (Keeps s) (λ (k : KeyName). ask_made T i v dst (OfferTarget k index) s) _ (answer BadKind s) (λ k there. ask_made-keeps T i v dst (OfferTarget k index) s may is) (λ _. is))
+  call_row-keeps T i s v (Revoke src) may is dies caps = with_held-keeps (own s v src) _ s is (λ c held hand. begun-in F P L T i v c.key c.mark s is hand.2)
+  call_row-keeps T i s v (Bind ep src) may is dies caps = unless-passed (Keeps s) (bind_tests s v src) _ _ (λ code _. is) (λ passed. with_held-keeps (own s v src) _ s is (λ c held _. L.keeps_bound s is v ep src c held (unmarked-own (own s v src) c held passed.1.0) (own-in s caps v src c held)))
+  call_row-keeps T i s v (Read ep off len) may is dies caps = unless-keeps (Keeps s) (memory_tests 1 off len (endpoint s v ep)) _ _ (λ code _. is) (λ _. is)
+  call_row-keeps T i s v (Write ep off len) may is dies caps = unless-keeps (Keeps s) (memory_tests 2 off len (endpoint s v ep)) _ _ (λ code _. is) (λ _. is)
+  call_row-keeps T i s v (SendCall ep len) may is dies caps = unless-keeps (Keeps s) (send_tests (endpoint s v ep)) _ _ (λ code _. is) (λ _. L.keeps_rung s is v ep (λ ring. ring ++ len ∷ []))
+  call_row-keeps T i s v (Credit ep) may is dies caps = unless-keeps (Keeps s) (credit_tests (endpoint s v ep)) _ _ (λ code _. is) (λ _. L.keeps_rung s is v ep _)
+  call_row-keeps T i s v Exit may is dies caps = λ _. ended-in T i v s is (dies refl)

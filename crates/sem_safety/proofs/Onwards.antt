@@ -10,11 +10,11 @@ use Rattle.sem_msg.specs.declared.state.Ask.TheVariants.{Obtain as ObtainAsk, De
 use Rattle.sem_msg.specs.declared.state.Parked.{Parked}
 use Rattle.sem_msg.specs.declared.state.Parked.TheVariants.{ObtainWait, ObtainReady, ObtainCancelled, DelegateWait, DelegateReady, RevokeWait, Ready}
 use Rattle.sem_msg.specs.Rows.{VpeRow, no_vpe}
-use Rattle.sem_machine.specs.Sides.{drawn, Side, row, parked, unbind_all}
+use Rattle.sem_machine.specs.Sides.{mark_all, drawn, Side, row, parked, unbind_all}
 use Rattle.sem_machine.proofs.Puts.{get_or-put_same, get_or-put_other}
 use Rattle.sem_safety.specs.Onward.{IsOnward}
 use Rattle.sem_safety.proofs.Updates.{seen-unbind_all}
-use Rattle.sem_safety.proofs.Layers.{Brings, BringsIn, BringsFrom, Awaits, AsksFor, IsLayer}
+use Rattle.sem_safety.proofs.Layers.{facts, Brings, BringsIn, BringsFrom, Awaits, AsksFor, IsLayer}
 
 -- no fact about keys is needed
 abbrev pub Any : KeyName → Type 0
@@ -23,7 +23,7 @@ Any k = Unit {0}
 abbrev pub AnyPlace : ℕ → ℕ → Type 0
 AnyPlace v n = Unit {0}
 
-pub any_message : (m : Message) → Brings Any AnyPlace m
+pub any_message : (m : Message) → Brings (facts Any AnyPlace) m
 any_message (ObtainReq place target) = tt
 any_message (ObtainOk parent key object) = tt
 any_message (ObtainNo place code) = tt
@@ -37,7 +37,7 @@ any_message (RevokeReq key job) = tt
 any_message (RevokeDone job) = tt
 any_message (Unlink parent key) = tt
 
-pub any_call : (p : Option Parked) → Awaits Any AnyPlace p
+pub any_call : (p : Option Parked) → Awaits (facts Any AnyPlace) p
 any_call None = tt
 any_call (Some (ObtainWait number sel)) = tt
 any_call (Some (ObtainReady key parent object sel)) = tt
@@ -47,15 +47,15 @@ any_call (Some (DelegateReady parent key)) = tt
 any_call (Some (RevokeWait job)) = tt
 any_call (Some (Ready code)) = tt
 
-pub any_inbox : (inbox : Option (ℕ × Message)) → BringsFrom Any AnyPlace inbox
+pub any_inbox : (inbox : Option (ℕ × Message)) → BringsFrom (facts Any AnyPlace) inbox
 any_inbox None = tt
 any_inbox (Some m) = any_message m.1
 
-pub any_input : (input : Option Message) → BringsIn Any AnyPlace input
+pub any_input : (input : Option Message) → BringsIn (facts Any AnyPlace) input
 any_input None = tt
 any_input (Some m) = any_message m
 
-pub any_ask : (a : Ask) → AsksFor AnyPlace a
+pub any_ask : (a : Ask) → AsksFor (facts Any AnyPlace) a
 any_ask (ObtainAsk place target) = tt
 any_ask (DelegateAsk parent object sel) = tt
 
@@ -104,33 +104,36 @@ module _ (z : Side) where
   kept_plain : (s : Side) → IsOnward z s → (v : ℕ) (r : VpeRow) → r.next_number ≡ (row s v).next_number → r.next_call ≡ (row s v).next_call → r.alive ≡ (row s v).alive → IsOnward z (record s { vpes = put no_vpe s.vpes v r })
   kept_plain s is v r numbers calls alive = kept_row s is v r (record { numbers = omega (arith, numbers); calls = omega (arith, calls); dead = λ lives. sym alive ∙ lives })
 
-  pub onward : IsLayer Any AnyPlace (IsOnward z)
+  pub onward : IsLayer (facts Any AnyPlace) (IsOnward z)
   onward = record {
-    keeps_counted = λ s is v. kept_row s is v _ (record { numbers = omega arith; calls = omega arith; dead = λ lives. lives });
-    keeps_drawn = λ s is v. kept_row s is v _ (record { numbers = omega arith; calls = omega arith; dead = λ lives. lives });
-    keeps_slot = λ s is v sel state. kept_plain s is v _ refl refl refl;
-    keeps_parked = λ s is v p here. kept_plain s is v _ refl refl refl;
-    keeps_unparked = λ s is v. kept_plain s is v _ refl refl refl;
-    keeps_asked = λ s is v a here. kept_plain s is v _ refl refl refl;
-    keeps_taken = λ s is v. kept_plain s is v _ refl refl refl;
-    keeps_buried = λ s is v. kept_row s is v _ (record { numbers = omega arith; calls = omega arith; dead = λ lives. absurd cc });
-    keeps_bound = λ s is v ep e here. kept_plain s is v _ refl refl refl;
-    keeps_rung = λ s is v ep f. kept_plain s is v _ refl refl refl;
-    keeps_unbound = λ s is ks. onward-next z s (unbind_all ks s) is (unbound-onward s ks);
-    keeps_added = λ s is c here. record { numbers = is.numbers; calls = is.calls; dead = is.dead; ids = is.ids };
-    keeps_linked = λ s is p k. record { numbers = is.numbers; calls = is.calls; dead = is.dead; ids = is.ids };
-    keeps_unlinked = λ s is p k. record { numbers = is.numbers; calls = is.calls; dead = is.dead; ids = is.ids };
-    keeps_marked = λ s is ks j. record { numbers = is.numbers; calls = is.calls; dead = is.dead; ids = is.ids };
-    keeps_removed = λ s is j. record { numbers = is.numbers; calls = is.calls; dead = is.dead; ids = is.ids };
-    keeps_pending_added = λ s is p. record { numbers = is.numbers; calls = is.calls; dead = is.dead; ids = is.ids };
-    keeps_pending_removed = λ s is k. record { numbers = is.numbers; calls = is.calls; dead = is.dead; ids = is.ids };
-    keeps_opened = λ s is root up waiters. record { numbers = is.numbers; calls = is.calls; dead = is.dead; ids = let ids = is.ids in omega arith };
-    keeps_changed = λ s is j f. record { numbers = is.numbers; calls = is.calls; dead = is.dead; ids = is.ids };
-    keeps_unwaited = λ s is v. record { numbers = is.numbers; calls = is.calls; dead = is.dead; ids = is.ids };
-    keeps_closed = λ s is j. record { numbers = is.numbers; calls = is.calls; dead = is.dead; ids = is.ids };
-    keeps_send = λ s is j m here. record { numbers = is.numbers; calls = is.calls; dead = is.dead; ids = is.ids };
-    keeps_sent = λ s is j. record { numbers = is.numbers; calls = is.calls; dead = is.dead; ids = is.ids };
-    keeps_inbox = λ s is message here. record { numbers = is.numbers; calls = is.calls; dead = is.dead; ids = is.ids };
+    kept = record {
+      keeps_counted = λ s is v. kept_row s is v _ (record { numbers = omega arith; calls = omega arith; dead = λ lives. lives });
+      keeps_drawn = λ s is v. kept_row s is v _ (record { numbers = omega arith; calls = omega arith; dead = λ lives. lives });
+      keeps_slot = λ s is v sel state of_vpe. kept_plain s is v _ refl refl refl;
+      keeps_parked = λ s is v p here. kept_plain s is v _ refl refl refl;
+      keeps_unparked = λ s is v. kept_plain s is v _ refl refl refl;
+      keeps_asked = λ s is v a here. kept_plain s is v _ refl refl refl;
+      keeps_taken = λ s is v. kept_plain s is v _ refl refl refl;
+      keeps_buried = λ s is v. kept_row s is v _ (record { numbers = omega arith; calls = omega arith; dead = λ lives. absurd cc });
+      keeps_bound = λ s is v ep src c held unmarked here. kept_plain s is v _ refl refl refl;
+      keeps_rung = λ s is v ep f. kept_plain s is v _ refl refl refl;
+      keeps_added = λ s is c here childless unmarked. record { numbers = is.numbers; calls = is.calls; dead = is.dead; ids = is.ids };
+      keeps_linked = λ s is p k here. record { numbers = is.numbers; calls = is.calls; dead = is.dead; ids = is.ids };
+      keeps_unlinked = λ s is p k. record { numbers = is.numbers; calls = is.calls; dead = is.dead; ids = is.ids };
+      keeps_marked = λ s is ks j here. onward-next z (mark_all ks j s) (unbind_all ks (mark_all ks j s)) (record { numbers = is.numbers; calls = is.calls; dead = is.dead; ids = is.ids }) (unbound-onward (mark_all ks j s) ks);
+      keeps_removed = λ s is j. record { numbers = is.numbers; calls = is.calls; dead = is.dead; ids = is.ids };
+      keeps_pending_added = λ s is p. record { numbers = is.numbers; calls = is.calls; dead = is.dead; ids = is.ids };
+      keeps_pending_removed = λ s is k. record { numbers = is.numbers; calls = is.calls; dead = is.dead; ids = is.ids };
+      keeps_opened = λ s is root up waiters. record { numbers = is.numbers; calls = is.calls; dead = is.dead; ids = let ids = is.ids in omega arith };
+      keeps_changed = λ s is j f. record { numbers = is.numbers; calls = is.calls; dead = is.dead; ids = is.ids };
+      keeps_unwaited = λ s is v. record { numbers = is.numbers; calls = is.calls; dead = is.dead; ids = is.ids };
+      keeps_closed = λ s is j. record { numbers = is.numbers; calls = is.calls; dead = is.dead; ids = is.ids };
+      keeps_send = λ s is j m here. record { numbers = is.numbers; calls = is.calls; dead = is.dead; ids = is.ids };
+      keeps_sent = λ s is j. record { numbers = is.numbers; calls = is.calls; dead = is.dead; ids = is.ids };
+      keeps_inbox = λ s is message here. record { numbers = is.numbers; calls = is.calls; dead = is.dead; ids = is.ids };
+      of_link = λ s is c among k child. tt;
+      spreads = λ p k here doomed. tt;
+    };
     of_cap = λ s is k c held. tt;
     of_call = λ s is v. any_call (parked s v);
     of_inbox = λ s is. any_inbox s.inbox;

@@ -1,0 +1,183 @@
+-- The places in which a key is live: held capabilities, an ObtainOk or an accepting Ack in flight, and calls that are ready to install it.
+-- Each change of a side adds no such place but those that it is handed.
+use Rattle.std.proofs.Common.{◌≡◌, ℕ, ◌+◌, ◌≤◌, Bool, true, false, not, List, [], ◌∷◌, ◌++◌, length, map, drop, Option, Some, None, slice_get, refl, ap, arith}
+use Rattle.std.specs.Prelude.{nat_lt, if◌then◌else◌}
+use Rattle.std.specs.List.{filter, sum_by, list_any}
+use Rattle.std.specs.Option.{option_map}
+use Rattle.std.proofs.lemmas.Bool.{cond_both}
+use Rattle.std.proofs.lemmas.List.Sums.{sum_by-cons, sum_by-append, sum_by_push}
+use Rattle.sem_key.specs.KeyName.{KeyName, key_eq, key_lt}
+use Rattle.sem_key.specs.KeyList.{with_key, without_key}
+use Rattle.sem_key.specs.Capability.{Capability}
+use Rattle.sem_key.specs.Lists.{change, put}
+use Rattle.sem_msg.specs.declared.message.Message.{Message}
+use Rattle.sem_msg.specs.declared.message.Message.TheVariants.{ObtainReq, ObtainOk, ObtainNo, DelegateReq, DelegatePrepared, DelegateNo, Ack, Orphan, RevokeReq, RevokeDone, Unlink}
+use Rattle.sem_msg.specs.declared.state.Parked.{Parked}
+use Rattle.sem_msg.specs.declared.state.Parked.TheVariants.{ObtainWait, ObtainReady, ObtainCancelled, DelegateWait, DelegateReady, RevokeWait, Ready}
+use Rattle.sem_msg.specs.declared.state.Slot.TheVariants.{Free}
+use Rattle.sem_msg.specs.Rows.{Endpoint, VpeRow, no_vpe}
+use Rattle.sem_machine.specs.Sides.{Side, row, endpoint, outbox, cap_added, is_marked_by, unbound_from, send, sent, parked_as, unparked, with_inbox}
+use Rattle.sem_safety.proofs.Layers.{Facts, facts, Brings, BringsFrom, Awaits, IsKept}
+use Rattle.sem_safety.proofs.Onwards.{AnyPlace}
+use Rattle.sem_safety.proofs.Weighing.{of_option, weigh-put, weigh-drop, weigh-map, weigh-parts, weigh-filter}
+
+module _ (k0 : KeyName) where
+  -- one, if it is that key
+  abbrev pub at_key : KeyName → ℕ
+  at_key k = if key_eq k k0 then 1 else 0
+
+  abbrev pub at_cap : Capability → ℕ
+  at_cap c = at_key c.key
+
+  abbrev pub at_message : Message → ℕ
+  at_message (ObtainReq place target) = 0
+  at_message (ObtainOk parent key object) = at_key key
+  at_message (ObtainNo place code) = 0
+  at_message (DelegateReq parent object vpe sel) = 0
+  at_message (DelegatePrepared parent key) = 0
+  at_message (DelegateNo parent code) = 0
+  at_message (Ack key true) = at_key key
+  at_message (Ack key false) = 0
+  at_message (Orphan parent key) = 0
+  at_message (RevokeReq key job) = 0
+  at_message (RevokeDone job) = 0
+  at_message (Unlink parent key) = 0
+
+  abbrev pub at_parked : Option Parked → ℕ
+  at_parked None = 0
+  at_parked (Some (ObtainWait number sel)) = 0
+  at_parked (Some (ObtainReady key parent object sel)) = at_key key
+  at_parked (Some ObtainCancelled) = 0
+  at_parked (Some (DelegateWait parent)) = 0
+  at_parked (Some (DelegateReady parent key)) = 0
+  at_parked (Some (RevokeWait job)) = 0
+  at_parked (Some (Ready code)) = 0
+
+  abbrev pub at_row : VpeRow → ℕ
+  at_row r = at_parked r.parked
+
+  abbrev pub at_inbox : Option (ℕ × Message) → ℕ
+  at_inbox None = 0
+  at_inbox (Some m) = at_message m.1
+
+  abbrev pub at_messages : List Message → ℕ
+  at_messages ms = sum_by at_message ms
+
+  abbrev pub at_side : Side → ℕ
+  at_side s = sum_by at_cap s.caps + (sum_by at_row s.vpes + (at_inbox s.inbox + sum_by at_messages s.outs))
+
+  abbrev pub at_grant : Option (KeyName × KeyName) → ℕ
+  at_grant None = 0
+  at_grant (Some g) = at_key g.1
+
+  -- another key
+  abbrev pub Differs : KeyName → Type 0
+  Differs k = at_key k ≡ 0
+
+  abbrev pub OtherKeys : Facts
+  OtherKeys = facts Differs AnyPlace
+
+  message-none : (m : Message) → Brings OtherKeys m → at_message m ≡ 0
+  message-none (ObtainReq place target) here = refl
+  message-none (ObtainOk parent key object) here = here
+  message-none (ObtainNo place code) here = refl
+  message-none (DelegateReq parent object vpe sel) here = refl
+  message-none (DelegatePrepared parent key) here = refl
+  message-none (DelegateNo parent code) here = refl
+  message-none (Ack key true) here = here
+  message-none (Ack key false) here = refl
+  message-none (Orphan parent key) here = refl
+  message-none (RevokeReq key job) here = refl
+  message-none (RevokeDone job) here = refl
+  message-none (Unlink parent key) here = refl
+
+  inbox-none : (o : Option (ℕ × Message)) → BringsFrom OtherKeys o → at_inbox o ≡ 0
+  inbox-none None here = refl
+  inbox-none (Some m) here = message-none m.1 here
+
+  parked-none : (p : Option Parked) → Awaits OtherKeys p → at_parked p ≡ 0
+  parked-none None here = refl
+  parked-none (Some (ObtainWait number sel)) here = refl
+  parked-none (Some (ObtainReady key parent object sel)) here = here
+  parked-none (Some ObtainCancelled) here = refl
+  parked-none (Some (DelegateWait parent)) here = refl
+  parked-none (Some (DelegateReady parent key)) here = refl
+  parked-none (Some (RevokeWait job)) here = refl
+  parked-none (Some (Ready code)) here = refl
+
+  -- Rows.
+
+  pub lives-row : (s : Side) (v : ℕ) (r : VpeRow) → at_side (record s { vpes = put no_vpe s.vpes v r }) + at_row (row s v) ≡ at_side s + at_row r
+  lives-row s v r = let rows = weigh-put at_row no_vpe refl s.vpes v r in omega (arith, rows)
+
+  -- the parked call stays
+  pub lives-same : (s : Side) (v : ℕ) (r : VpeRow) → r.parked ≡ (row s v).parked → at_side (record s { vpes = put no_vpe s.vpes v r }) ≤ at_side s
+  lives-same s v r same = let rows = lives-row s v r in let weight = ap at_parked same in omega (arith, rows, weight)
+
+  pub lives-parked : (s : Side) (v : ℕ) (p : Parked) → at_side (parked_as v p s) ≤ at_side s + at_parked (Some p)
+  lives-parked s v p = let rows = lives-row s v (record (row s v) { parked = Some p }) in omega (arith, rows)
+
+  pub lives-unparked : (s : Side) (v : ℕ) → at_side (unparked v s) + at_parked (row s v).parked ≡ at_side s
+  lives-unparked s v = let rows = lives-row s v (record (row s v) { parked = None }) in omega (arith, rows)
+
+  -- Capabilities.
+
+  pub lives-added : (s : Side) (c : Capability) → at_side (cap_added c s) ≡ at_side s + at_key c.key
+  lives-added s c =
+      let parts = weigh-parts at_cap (λ x. key_lt x.key c.key) s.caps in
+      let joined = sum_by-append at_cap (filter (λ x. key_lt x.key c.key) s.caps) (c ∷ filter (λ x. not (key_lt x.key c.key)) s.caps) in
+      let first = sum_by-cons at_cap c (filter (λ x. not (key_lt x.key c.key)) s.caps) in
+      omega (arith, parts, joined, first)
+
+  lives-changed : (s : Side) (test : Capability → Bool) (f : Capability → Capability) → ((c : Capability) → (f c).key ≡ c.key) → at_side (record s { caps = change test f s.caps }) ≡ at_side s
+  lives-changed s test f keeps =
+      let caps = weigh-map at_cap (λ x. if test x then f x else x) (λ x. cond_both (test x) (f x) x (λ y. at_cap y ≡ at_cap x) (λ _. ap at_key (keeps x)) (λ _. refl)) s.caps in
+      omega (arith, caps)
+
+  -- Messages.
+
+  pub lives-send : (s : Side) (j : ℕ) (m : Message) → at_side (send j m s) ≡ at_side s + at_message m
+  lives-send s j m =
+      let outs = weigh-put at_messages [] refl s.outs j (outbox s j ++ m ∷ []) in
+      let push = sum_by_push at_message (outbox s j) m in
+      omega (arith, outs, push)
+
+  pub lives-sent : (s : Side) (j : ℕ) → at_side (sent j s) + of_option at_message (slice_get (outbox s j) 0) ≡ at_side s
+  lives-sent s j =
+      let outs = weigh-put at_messages [] refl s.outs j (drop 1 (outbox s j)) in
+      let front = weigh-drop at_message (outbox s j) in
+      omega (arith, outs, front)
+
+  pub lives-inbox : (s : Side) (message : Option (ℕ × Message)) → at_side (with_inbox message s) + at_inbox s.inbox ≡ at_side s + at_inbox message
+  lives-inbox s message = omega arith
+
+  -- No change adds a place of this key, where all that it is handed is of others.
+  pub lives : (m : ℕ) → IsKept OtherKeys (λ s. at_side s ≤ m)
+  lives m = record {
+    keeps_counted = λ s is v. let new = lives-same s v (record (row s v) { next_call = (row s v).next_call + 1 }) refl in omega (arith, is, new);
+    keeps_drawn = λ s is v. let new = lives-same s v (record (row s v) { next_number = (row s v).next_number + 1 }) refl in omega (arith, is, new);
+    keeps_slot = λ s is v sel state of_vpe. let new = lives-same s v (record (row s v) { slots = put Free (row s v).slots sel state }) refl in omega (arith, is, new);
+    keeps_parked = λ s is v p here. let new = lives-parked s v p in let none = parked-none (Some p) here in omega (arith, is, new, none);
+    keeps_unparked = λ s is v. let new = lives-unparked s v in omega (arith, is, new);
+    keeps_asked = λ s is v a here. let new = lives-same s v (record (row s v) { asks = if nat_lt (length (row s v).asks) 64 then (row s v).asks ++ a ∷ [] else (row s v).asks }) refl in omega (arith, is, new);
+    keeps_taken = λ s is v. let new = lives-same s v (record (row s v) { asks = drop 1 (row s v).asks }) refl in omega (arith, is, new);
+    keeps_buried = λ s is v. let new = lives-same s v (record (row s v) { alive = false; asks = [] }) refl in omega (arith, is, new);
+    keeps_bound = λ s is v ep src c held unmarked here. let new = lives-same s v (record (row s v) { endpoints = put None (row s v).endpoints ep (Some (record { key = c.key; object = c.object; ring = [] })) }) refl in omega (arith, is, new);
+    keeps_rung = λ s is v ep f. let new = lives-same s v (record (row s v) { endpoints = put None (row s v).endpoints ep (option_map {T = Endpoint} (λ x. record x { ring = f x.ring }) (endpoint s v ep)) }) refl in omega (arith, is, new);
+    keeps_added = λ s is c here childless unmarked. let new = lives-added s c in omega (arith, is, new, here);
+    keeps_linked = λ s is p k here. let new = lives-changed s (λ c. key_eq c.key p) (λ c. record c { children = with_key c.children k }) (λ c. refl) in omega (arith, is, new);
+    keeps_unlinked = λ s is p k. let new = lives-changed s (λ c. key_eq c.key p) (λ c. record c { children = without_key c.children k }) (λ c. refl) in omega (arith, is, new);
+    keeps_marked = λ s is ks j here. let new = lives-changed s (λ c. list_any (key_eq c.key) ks) (λ c. record c { mark = Some j }) (λ c. refl) in let rows = weigh-map at_row (λ (r : VpeRow). record r { endpoints = map {A = Option Endpoint} (unbound_from ks) r.endpoints }) (λ r. refl) s.vpes in omega (arith, is, new, rows);
+    keeps_removed = λ s is j. let new = weigh-filter at_cap (λ c. not (is_marked_by j c)) s.caps in omega (arith, is, new);
+    keeps_pending_added = λ s is p. is;
+    keeps_pending_removed = λ s is k. is;
+    keeps_opened = λ s is root up waiters. is;
+    keeps_changed = λ s is j f. is;
+    keeps_unwaited = λ s is v. is;
+    keeps_closed = λ s is j. is;
+    keeps_send = λ s is j msg here. let new = lives-send s j msg in let none = message-none msg here in omega (arith, is, new, none);
+    keeps_sent = λ s is j. let new = lives-sent s j in omega (arith, is, new);
+    keeps_inbox = λ s is message here. let new = lives-inbox s message in let none = inbox-none message here in omega (arith, is, new, none);
+    of_link = λ s is c among k child. tt;
+    spreads = λ p k here doomed. tt;
+  }
