@@ -5,7 +5,9 @@ use Rattle.sem_msg.specs.Setup.{Setup, IsSetup}
 use Rattle.sem_io.specs.Count.{Rose}
 use Rattle.sem_io.specs.SourceBytes.{Takes}
 use Rattle.sem_io.specs.SinkBytes.{Appends, AppendsPrefix}
-use Rattle.sem_trace.specs.TraceText.{canonical}
+use Rattle.sem_trace.specs.declared.fault.TraceFault.{TraceFault}
+use Rattle.sem_trace.specs.Refusal.{refusal}
+use Rattle.sem_trace.specs.Standing.{Stands}
 use Rattle.sem_machine.specs.Schedules.{IsSchedule}
 use Rattle.sem_machine.specs.Seeded.{seeded}
 use Rattle.sem_machine.specs.Living.{IsComplete}
@@ -15,9 +17,9 @@ use Rattle.sem_audit.specs.HeldKeys.{report}
 use Rattle.sem_run.specs.declared.forms.Command.{Command}
 use Rattle.sem_run.specs.declared.forms.Command.TheVariants.{Run, Threads, Check, Generate, Soak}
 use Rattle.sem_run.specs.declared.statuses.Status.{Status}
-use Rattle.sem_run.specs.declared.statuses.Status.TheVariants.{Done, Usage, ReadFault, WriteFault, Memory, Stuck, Spent, NotBuilt}
+use Rattle.sem_run.specs.declared.statuses.Status.TheVariants.{Done, Usage, Refused, ReadFault, WriteFault, Memory, Stuck, Spent, NotBuilt}
 use Rattle.sem_run.specs.Commands.{command_of}
-use Rattle.sem_run.specs.Messages.{usage_line, not_built_line, stuck_line, spent_line}
+use Rattle.sem_run.specs.Messages.{usage_line, not_built_line, refused_line, stuck_line, spent_line}
 use Rattle.sem_run.specs.Runs.{IsStuck, IsSpent}
 
 -- whether the command is built
@@ -28,16 +30,22 @@ is_built Check = false
 is_built (Generate seed vpes calls) = false
 is_built (Soak seed vpes calls) = false
 
--- The input, of which the bytes that are left before and after may be known, was read to its end, and was the canonical text of a setup that can be run.
+-- The input, of which the bytes that are left before and after may be known, was read to its end, and stands for a setup that can be run.
 pub record ReadsTrace (before after : Option (List ℕ)) (T : Setup) : Type 0 where
   pub valid : IsSetup T
   pub built : IsBuilt T
-  pub taken : Takes before after (canonical T)
+  pub text : List ℕ
+  pub taken : Takes before after text
+  pub stands : Stands text T
   pub to_end : IfSome after (λ rest. rest ≡ [])
 
--- the input is the canonical text of no setup that can be run
-abbrev pub IsNoTrace : Option (List ℕ) → Type 0
-IsNoTrace before = IfSome before (λ bytes. (T : Setup) → IsSetup T → IsBuilt T → bytes ≢ canonical T)
+-- the input is no trace, and this is its first fault
+abbrev pub IsRefused : Option (List ℕ) → TraceFault → Type 0
+IsRefused before fault = IfSome before (λ bytes. refusal bytes ≡ Some fault)
+
+-- the input stands for a setup that cannot be run yet
+abbrev pub IsUnbuilt : Option (List ℕ) → Type 0
+IsUnbuilt before = IfSome before (λ bytes. (T : Setup) × Stands bytes T × (IsBuilt T → ⊥))
 
 -- the journal is the seeded one of the setup that was read
 pub record RunsSeeded (words : List (List ℕ)) (before after : Option (List ℕ)) (J : List Entry) (T : Setup) (seed : ℕ) : Type 0 where
@@ -58,6 +66,16 @@ pub record EndsUsage (words : List (List ℕ)) (J : List Entry) (text : List ℕ
   pub no_command : command_of words ≡ None
   pub no_journal : J ≡ []
   pub told : text ≡ usage_line
+
+-- Status 2: a command that reads, and an input that is no trace.
+pub record EndsRefused (words : List (List ℕ)) (before : Option (List ℕ)) (faults faults' : ℕ) (J : List Entry) (text : List ℕ) : Type 0 where
+  pub seed : ℕ
+  pub command : command_of words ≡ Some (Run seed)
+  pub fault : TraceFault
+  pub refused : IsRefused before fault
+  pub quiet : faults' ≡ faults
+  pub no_journal : J ≡ []
+  pub told : text ≡ refused_line fault
 
 -- Status 3: a command that reads, and a read that failed.
 pub record EndsReadFault (words : List (List ℕ)) (faults faults' : ℕ) (J : List Entry) (text : List ℕ) : Type 0 where
@@ -91,6 +109,7 @@ pub record IsSafeRun (before after : Option (List ℕ)) (J : List Entry) : Type 
 abbrev pub IsOfRun : Status → List Entry → Type 0
 IsOfRun Done J = Unit {0}
 IsOfRun Usage J = ⊥
+IsOfRun Refused J = ⊥
 IsOfRun ReadFault J = ⊥
 IsOfRun WriteFault J = J ≢ []
 IsOfRun Memory J = J ≢ []
@@ -120,7 +139,7 @@ pub record EndsSpent (words : List (List ℕ)) (before after : Option (List ℕ)
 abbrev pub IsNotBuilt : List (List ℕ) → Option (List ℕ) → Type 0
 IsNotBuilt words before =
     ((c : Command) × (command_of words ≡ Some c) × (is_built c ≡ false))
-    ⊎ ((seed : ℕ) × (command_of words ≡ Some (Run seed)) × IsNoTrace before)
+    ⊎ ((seed : ℕ) × (command_of words ≡ Some (Run seed)) × IsUnbuilt before)
 
 -- Status 10.
 pub record EndsNotBuilt (words : List (List ℕ)) (before : Option (List ℕ)) (faults faults' : ℕ) (J : List Entry) (text : List ℕ) : Type 0 where
@@ -133,6 +152,7 @@ pub record EndsNotBuilt (words : List (List ℕ)) (before : Option (List ℕ)) (
 abbrev pub WouldEnd : List (List ℕ) → Option (List ℕ) → Option (List ℕ) → ℕ → ℕ → List Entry → List ℕ → Status → Type 0
 WouldEnd words before after faults faults' J text Done = EndsDone words before after J text
 WouldEnd words before after faults faults' J text Usage = EndsUsage words J text
+WouldEnd words before after faults faults' J text Refused = EndsRefused words before faults faults' J text
 WouldEnd words before after faults faults' J text ReadFault = EndsReadFault words faults faults' J text
 WouldEnd words before after faults faults' J text WriteFault = ⊥
 WouldEnd words before after faults faults' J text Memory = EndsMemory before after J text
@@ -144,6 +164,7 @@ WouldEnd words before after faults faults' J text NotBuilt = EndsNotBuilt words 
 abbrev pub RunEnds : Setup → ℕ → List Entry → List ℕ → Status → Type 0
 RunEnds T seed J text Done = (J ≡ seeded T seed) × IsComplete T J × (text ≡ report T J)
 RunEnds T seed J text Usage = ⊥
+RunEnds T seed J text Refused = ⊥
 RunEnds T seed J text ReadFault = ⊥
 RunEnds T seed J text WriteFault = ⊥
 RunEnds T seed J text Memory = ⊥

@@ -1,8 +1,6 @@
 pub mod Commands
-pub mod Declarations
 pub mod Ends
-pub mod LineWords
 pub mod Messages
-pub mod OneKernel
+pub mod Readings
 pub mod Runs
 pub mod Statuses

@@ -1,6 +1,9 @@
 -- The one-line texts of the program ("The command line" in docs/texts.md).
 use Rattle.std.specs.Prelude.{ℕ, List, [], ◌∷◌, ◌++◌, codes, decimal}
 use Rattle.sem_text.specs.Lines.{line}
+use Rattle.sem_trace.specs.declared.fault.Cause.{Cause}
+use Rattle.sem_trace.specs.declared.fault.Cause.TheVariants.{NotText, UnknownWord, BadNumber, OutOfRange, Twice, Undeclared, Missing, TooMany, LineTooLong, InputTooLong, NotCanonical}
+use Rattle.sem_trace.specs.declared.fault.TraceFault.{TraceFault}
 
 -- the forms of a command, with the vertical bar between blanks
 abbrev pub usage_line : List ℕ
@@ -16,3 +19,21 @@ stuck_line v = line (codes "stuck:" ∷ codes "vpe" ∷ decimal v ∷ [])
 -- how many entries there are
 abbrev pub spent_line : ℕ → List ℕ
 spent_line n = line (codes "spent:" ∷ codes "entries" ∷ decimal n ∷ [])
+
+-- the name of a cause
+abbrev pub cause_name : Cause → List ℕ
+cause_name NotText = codes "NotText"
+cause_name UnknownWord = codes "UnknownWord"
+cause_name BadNumber = codes "BadNumber"
+cause_name OutOfRange = codes "OutOfRange"
+cause_name Twice = codes "Twice"
+cause_name Undeclared = codes "Undeclared"
+cause_name Missing = codes "Missing"
+cause_name TooMany = codes "TooMany"
+cause_name LineTooLong = codes "LineTooLong"
+cause_name InputTooLong = codes "InputTooLong"
+cause_name NotCanonical = codes "NotCanonical"
+
+-- the first bad line and its cause
+abbrev pub refused_line : TraceFault → List ℕ
+refused_line fault = codes "trace refused: line " ++ decimal fault.line ++ codes ": " ++ cause_name fault.cause ++ 10 ∷ []

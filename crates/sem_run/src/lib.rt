@@ -7,18 +7,12 @@ mod built;
 #[cfg(test)]
 mod command_tests;
 mod commands;
-mod declarations;
 mod forms;
-mod lines;
 mod messages;
-mod reading;
-#[cfg(test)]
-mod reading_tests;
 mod responses;
 #[cfg(test)]
 mod run_tests;
 mod runs;
-mod setups;
 mod statuses;
 #[cfg(test)]
 mod top_tests;
@@ -27,7 +21,6 @@ pub use alone::semper_alone;
 pub use built::is_built;
 pub use commands::command;
 pub use forms::Command;
-pub use messages::{not_built, push_spent, push_stuck, usage};
-pub use reading::read_built;
+pub use messages::{not_built, push_refused, push_spent, push_stuck, usage};
 pub use runs::{RunError, run_seeded};
 pub use statuses::Status;

@@ -7,13 +7,14 @@ ghost use Rattle.sem_audit.specs.HeldKeys.{report};
 ghost use Rattle.sem_run.specs.declared.forms.Command.TheVariants.{Run};
 ghost use Rattle.sem_run.specs.declared.statuses.Status.TheVariants.{ReadFault, Memory};
 ghost use Rattle.sem_run.specs.Commands.{command_of};
-ghost use Rattle.sem_run.specs.Ends.{ReadsTrace, IsNoTrace, IsPartOfRun, EndsReadFault, EndsMemory, RunEnds, WouldEnd};
+ghost use Rattle.sem_run.specs.Readings.{IsReading};
+ghost use Rattle.sem_run.specs.Ends.{IsPartOfRun, EndsReadFault, EndsMemory, RunEnds, WouldEnd};
 ghost use Rattle.sem_run.specs.Runs.{run_to};
 
+use crate::built::is_built;
 use crate::commands::command;
 use crate::forms::Command;
-use crate::messages::{not_built, push_spent, push_stuck, usage};
-use crate::reading::read_built;
+use crate::messages::{not_built, push_refused, push_spent, push_stuck, usage};
 use crate::runs::{RunError, run_seeded};
 use crate::statuses::Status;
 use sem_audit::audit_of;
@@ -22,6 +23,8 @@ use sem_journal::print_report;
 use sem_key::OutOfMemory;
 use sem_model::World;
 use sem_msg::{Journal, Setup};
+use sem_reader::read_trace;
+use sem_trace::{TraceError, TraceFault};
 use std::alloc::Global;
 
 /// The most bytes of a trace.
@@ -99,25 +102,43 @@ fn run_trace<S: Source>(
     ensures unread { IsErrOf result ReadError.Fault → journal.new.entries ≡ [] }
     ensures memory { IsErrOf result ReadError.Memory → IsPartOfRun (S.left input.old) (S.left input.new) journal.new.entries }
 {
-    let Some(setup) = read_setup(alloc, input)? else {
-        text.extend_from_slice(not_built())?;
-        return Ok(Status::NotBuilt);
-    };
-    Ok(run_setup(alloc, &setup, seed, journal, text)?)
+    match read_setup(alloc, input)? {
+        Reading::Runs(setup) => Ok(run_setup(alloc, &setup, seed, journal, text)?),
+        Reading::Faulty(fault) => {
+            push_refused(text, &fault)?;
+            Ok(Status::Refused)
+        }
+        Reading::Unbuilt => {
+            text.extend_from_slice(not_built())?;
+            Ok(Status::NotBuilt)
+        }
+    }
 }
 
-// The setup whose canonical text the input is, read to its end; none where it is that of no setup that can be run.
-fn read_setup<S: Source>(alloc: Global, input: &mut S) -> Result<Option<Setup>, ReadError>
-    ensures trace { IfOk result (λ found. IfSome found (λ setup. ReadsTrace (S.left input.old) (S.left input.new) setup)) }
-    ensures other { IfOk result (λ found. found ≡ None → IsNoTrace (S.left input.old)) }
+// What an input is: a trace that can be run, no trace, or a trace that cannot be run yet.
+#[derive(Drop)]
+enum Reading {
+    Runs(Setup),
+    Faulty(TraceFault),
+    Unbuilt,
+}
+
+// What the input is, read to its end or to one byte more than a trace may have.
+fn read_setup<S: Source>(alloc: Global, input: &mut S) -> Result<Reading, ReadError>
+    ensures reads { IfOk result (IsReading (S.left input.old) (S.left input.new)) }
     ensures quiet { OnOk result (S.faults input.new ≡ S.faults input.old) }
     ensures fault { IsErrOf result ReadError.Fault → Rose (S.faults input.old) (S.faults input.new) }
 {
     let bytes = read_all(alloc, input, MOST_BYTES)?;
-    if bytes.len() > MOST_BYTES {
-        return Ok(None);
+    match read_trace(alloc, &bytes) {
+        Ok(setup) => Ok(if is_built(&setup) {
+            Reading::Runs(setup)
+        } else {
+            Reading::Unbuilt
+        }),
+        Err(TraceError::Refused(fault)) => Ok(Reading::Faulty(fault)),
+        Err(TraceError::Memory) => Err(ReadError::Memory),
     }
-    Ok(read_built(alloc, &bytes)?)
 }
 
 // Runs the setup, and makes the report or the line that tells why the run ended early. After want of memory the text means

@@ -8,6 +8,8 @@ pub enum Status {
     Done,
     /// The words are no command.
     Usage,
+    /// The input is no trace.
+    Refused,
     /// The input could not be read.
     ReadFault,
     /// The output could not be written.
@@ -18,7 +20,7 @@ pub enum Status {
     Stuck,
     /// The run has as many entries as it may have, and an event is enabled.
     Spent,
-    /// The command is not built yet, or the input is the canonical text of no setup that can be run.
+    /// The command is not built yet, or the input stands for a setup that cannot be run yet.
     NotBuilt,
 }
 
@@ -30,6 +32,7 @@ impl Status {
         match self {
             Status::Done => 0,
             Status::Usage => 1,
+            Status::Refused => 2,
             Status::ReadFault => 3,
             Status::WriteFault => 4,
             Status::Memory => 5,

@@ -151,14 +151,93 @@ fn what_is_not_built_is_told_so(rt: HostRuntime) -> Result<(), Fail> {
         check(&rt, &answer, Status::NotBuilt, "not built\n", 0);
     }
     for input in [
-        "",
         "semper trace 1\nkernels 2\npe 0 0\npe 1 1\nend\n",
         "semper trace 1\nkernels 1\npe 0 0\nvpe 0 0\ncall 0 exit\nend\n",
-        "semper trace 1\n\nkernels 1\nend\n",
+        "semper trace 1\nkernels 1\npe 0 0\nvpe 0 0\nservice 0 0 7\nend\n",
     ] {
         let answer = answer(rt.alloc(), "run 0", input)?;
         check(&rt, &answer, Status::NotBuilt, "not built\n", 0);
     }
+    Ok(())
+}
+
+// The trace with another line at a place, counted from 1; without the line where that is empty.
+fn with_line(alloc: Global, number: usize, line: &str) -> Result<String, Fail> {
+    let mut trace = String::new(alloc);
+    for (i, plain) in [
+        "semper trace 1",
+        "kernels 1",
+        "pe 0 0",
+        "vpe 0 0",
+        "root 0 0 mem 0 4096 7",
+        "call 0 derive 0 1 0 1024 1",
+        "call 0 revoke 0",
+        "end",
+    ]
+    .into_iter()
+    .enumerate()
+    {
+        let chosen = if i + 1 == number { line } else { plain };
+        if !chosen.is_empty() {
+            trace.push_str(chosen)?;
+            trace.push_str("\n")?;
+        }
+    }
+    Ok(trace)
+}
+
+#[test]
+fn what_is_no_trace_is_refused_at_its_first_bad_line(rt: HostRuntime) -> Result<(), Fail> {
+    let nothing = answer(rt.alloc(), "run 0", "")?;
+    check(
+        &rt,
+        &nothing,
+        Status::Refused,
+        "trace refused: line 1: Missing\n",
+        0,
+    );
+    let mut long = String::from_str(rt.alloc(), "#")?;
+    for _ in 0..255 {
+        long.push_str("z")?;
+    }
+    for (number, line, told) in [
+        (1, "semper trace 9", "line 1: UnknownWord"),
+        (3, "pe 0 0 Ã", "line 3: NotText"),
+        (4, "vpe 64 0", "line 4: OutOfRange"),
+        (5, "root 0 0 mem 4294967295 2 7", "line 5: OutOfRange"),
+        (6, "root 0 0 recv 4", "line 6: Twice"),
+        (6, "call 3 revoke 0", "line 6: Undeclared"),
+        (6, "call 0 derive 0 01 0 1024 1", "line 6: BadNumber"),
+        (6, "call 0 derive 0 256 0 1024 1", "line 6: OutOfRange"),
+        (7, "call 0 revoke 0 0", "line 7: TooMany"),
+        (7, long.as_str(), "line 7: LineTooLong"),
+        (8, "", "line 8: Missing"),
+    ] {
+        let trace = with_line(rt.alloc(), number, line)?;
+        let written = format!(in rt.alloc(); "trace refused: {told}\n")?;
+        let answer = answer(rt.alloc(), "run 0", trace.as_str())?;
+        check(&rt, &answer, Status::Refused, written.as_str(), 0);
+    }
+    Ok(())
+}
+
+#[test]
+fn the_last_selector_is_a_destination(rt: HostRuntime) -> Result<(), Fail> {
+    let trace = with_line(rt.alloc(), 6, "call 0 derive 0 255 0 1024 1")?;
+    let answer = answer(rt.alloc(), "run 0", trace.as_str())?;
+    assert_eq!(rt; answer.status, Status::Done);
+    assert_eq!(rt; answer.entries, 3);
+    Ok(())
+}
+
+#[test]
+fn another_spelling_of_a_trace_is_run(rt: HostRuntime) -> Result<(), Fail> {
+    let trace = format!(in rt.alloc(); "{DECLARED}{DERIVE_AND_REVOKE}")?;
+    let report = format!(in rt.alloc(); "semper report 1\n{trace}{DERIVED_AND_REVOKED}")?;
+    let spelled =
+        "# a derive and a revoke\nsemper\ttrace 1\n\nkernels 1\npe 0  0\nvpe 0 0 \ncall 0 derive 0 1 0 1024 1\nroot 0 0 mem 0 4096 7\ncall 0 revoke 0\nend";
+    let answer = answer(rt.alloc(), "run 0", spelled)?;
+    check(&rt, &answer, Status::Done, report.as_str(), 3);
     Ok(())
 }
 

@@ -1,1 +1,4 @@
 pub mod LinesSoFar
+pub mod TraceExamples
+pub mod FirstParts
+pub mod PlaceSteps

@@ -1,2 +1,11 @@
 pub mod Words
 pub mod TraceText
+pub mod TextLines
+pub mod Forms
+pub mod Places
+pub mod Ranges
+pub mod Declarations
+pub mod Earlier
+pub mod Context
+pub mod Refusal
+pub mod Standing

@@ -1,15 +1,16 @@
-use Rattle.std.proofs.Common.{arith}
-use Rattle.sem_run.proofs.ReadInput.{no_trace-long, found-trace, found-none}
+use Rattle.std.proofs.Common.{refl, sym, subst, true≢false}
+use Rattle.sem_msg.specs.Setup.{IsSetup}
+use Rattle.sem_run.proofs.ReadInput.{reading-runs, reading-unbuilt, reading-faulty}
+use Rattle.sem_run.proofs.responses.read_setup.Goals.{then-is_built, else-is_built}
 use Rattle.sem_run.proofs.responses.read_setup.Goals as goal
 
--- more bytes than a trace may have
-pub returns-then-len-gt-MOST_BYTES-clause-other : goal.returns-then-len-gt-MOST_BYTES-clause-other
-returns-then-len-gt-MOST_BYTES-clause-other g c = λ none. no_trace-long _ c.in_ok-bytes.bytes.items c.in_ok-bytes.ensures.bytes (omega (arith, c.if-len-gt-MOST_BYTES.true, c.len.ensures, c.in_ok-bytes.bytes.ok.0))
+-- the text stands for a setup
+pub returns-in-Ok-clause-reads : goal.returns-in-Ok-clause-reads
+returns-in-Ok-clause-reads g c = elim c.if-is_built.branch [
+  | then-is_built w ↦ reading-runs _ _ c.in_ok-bytes.bytes.items c.deref.result.now c.in-Ok.setup c.if-is_built.result c.in_ok-bytes.ensures.bytes c.in_ok-bytes.ensures.taken c.deref.ensures.value c.in-Ok.ensures.stands (subst IsSetup c.setup.view_is c.setup.invariant) (w.if-is_built.ensures.0 refl) w.result-is
+  | else-is_built w ↦ reading-unbuilt _ _ c.in_ok-bytes.bytes.items c.deref.result.now c.in-Ok.setup c.if-is_built.result c.in_ok-bytes.ensures.bytes c.deref.ensures.value c.in-Ok.ensures.stands (λ built. true≢false (sym (w.if-is_built.ensures.1 built))) w.result-is
+]
 
--- a trace
-pub returns-clause-trace : goal.returns-clause-trace
-returns-clause-trace g c = found-trace _ _ c.in_ok-bytes.bytes.items c.deref.result.now c.in_ok-read_built.field-0 c.in_ok-bytes.ensures.bytes c.in_ok-bytes.ensures.taken (omega (arith, c.if-len-gt-MOST_BYTES.false, c.len.ensures, c.in_ok-bytes.bytes.ok.0)) c.deref.ensures.value c.in_ok-read_built.ensures.stands
-
--- no trace
-pub returns-clause-other : goal.returns-clause-other
-returns-clause-other g c = found-none _ c.in_ok-bytes.bytes.items c.deref.result.now c.in_ok-read_built.field-0 c.in_ok-bytes.ensures.bytes (omega (arith, c.if-len-gt-MOST_BYTES.false, c.len.ensures, c.in_ok-bytes.bytes.ok.0)) c.deref.ensures.value c.in_ok-read_built.ensures.other
+-- it is refused
+pub returns-in-Err-Refused-clause-reads : goal.returns-in-Err-Refused-clause-reads
+returns-in-Err-Refused-clause-reads g c = reading-faulty _ c.in_ok-bytes.bytes.items c.deref.result.now c.in-Err-Refused.fault c.in-Err-Refused.field-0 c.in_ok-bytes.ensures.bytes c.deref.ensures.value c.in-Err-Refused.ensures.refused c.in-Err-Refused.field-0-is

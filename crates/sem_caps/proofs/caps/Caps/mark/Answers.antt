@@ -1,0 +1,30 @@
+use Rattle.std.proofs.Common.{◌≡◌, Some, sym, ap, refl, arith, rules}
+use Rattle.std.specs.List.{slice_get}
+use Rattle.sem_key.specs.Capability.{Capability}
+use Rattle.sem_caps.specs.CapStore.{CapStore, keys_of}
+use Rattle.sem_caps.specs.Stored.{plain}
+use Rattle.sem_caps.proofs.RisingCaps.{in_range-row, cap_of-gap}
+use Rattle.sem_caps.proofs.Edited.{same_caps, changed-row, stored-set}
+use Rattle.sem_caps.proofs.caps.Caps.mark.Goals as goal
+
+-- the capability is held
+pub unreachable-requires : goal.unreachable-requires
+unreachable-requires c = rw (cap_of-gap _ c.args.key _ c.in_default.ensures.absent) at c.requires
+
+pub index_mut-cap-requires : goal.index_mut-cap-requires
+index_mut-cap-requires c =
+    let caps : c.args.self.now.caps ≡ plain c.self.inside.rising.items = sym (ap (λ (s : CapStore). s.caps) c.self.view_is) in
+    let within = in_range-row c.self.inside.rising.items c.args.key c.in-Ok.at (rw caps at c.in-Ok.ensures.found) in
+    search rules
+
+pub invariant_of-self : goal.invariant_of-self
+invariant_of-self c =
+    let caps : c.args.self.now.caps ≡ plain c.self.inside.rising.items = sym (ap (λ (s : CapStore). s.caps) c.self.view_is) in
+    let here : slice_get (keys_of (plain c.self.inside.rising.items)) c.in-Ok.at ≡ Some c.args.key = rw caps at c.in-Ok.ensures.found in
+    stored-set c.self.inside.rising.items c.self.invariant.keys c.args.key c.in-Ok.at here c.index_mut-cap.result.now c.index_mut-cap.ensures.value _ c.self.inside.child_room refl (omega arith) c.self.invariant
+
+pub returns : goal.returns
+returns c =
+    let caps : c.args.self.now.caps ≡ plain c.self.inside.rising.items = sym (ap (λ (s : CapStore). s.caps) c.self.view_is) in
+    let here : slice_get (keys_of (plain c.self.inside.rising.items)) c.in-Ok.at ≡ Some c.args.key = rw caps at c.in-Ok.ensures.found in
+    rw (← c.self.view_is) (same_caps _ _ _ _ (changed-row c.self.inside.rising.items c.self.invariant.keys c.args.key c.in-Ok.at here c.index_mut-cap.result.now c.index_mut-cap.ensures.value _ (λ (x : Capability). record x { mark = Some c.args.job }) refl))

@@ -1,0 +1,2 @@
+pub mod CapStore
+pub mod Stored

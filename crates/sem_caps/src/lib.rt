@@ -1,0 +1,11 @@
+//! The capabilities that one kernel holds, by key.
+#![tactic(auto)]
+
+mod caps;
+#[cfg(test)]
+mod random_tests;
+#[cfg(test)]
+mod tests;
+
+pub use caps::Caps;
+pub use sem_key::OutOfMemory;

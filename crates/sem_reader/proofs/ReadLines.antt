@@ -1,0 +1,147 @@
+-- One line more is read.
+use Rattle.std.proofs.Common.{◌≡◌, ℕ, ◌≤◌, Bool, true, false, cond, List, [], ◌∷◌, ◌++◌, map, Some, None, replicate, refl, ap, sym, subst, ◌∙◌, inl, inr}
+use Rattle.std.proofs.lemmas.Bool.{cases_Bool}
+use Rattle.sem_key.specs.MembershipTable.{MembershipTable}
+use Rattle.sem_trace.specs.declared.fault.Cause.{Cause}
+use Rattle.sem_trace.specs.declared.fault.Cause.TheVariants.{TooMany}
+use Rattle.sem_trace.specs.declared.declaration.Declaration.{Declaration}
+use Rattle.sem_trace.specs.TextLines.{words_of, is_significant, bytes_fault}
+use Rattle.sem_trace.specs.Forms.{form_fault, first_form, second_form, form}
+use Rattle.sem_trace.specs.Declarations.{number_at, declaration}
+use Rattle.sem_trace.specs.Earlier.{owner_in, is_end, is_ended}
+use Rattle.sem_trace.specs.Context.{context_fault}
+use Rattle.sem_trace.specs.Refusal.{words_fault, line_fault}
+use Rattle.sem_reader.specs.declared.reader.Stage.{Stage}
+use Rattle.sem_reader.specs.declared.reader.Stage.TheVariants.{Start, Named, Open, Ended}
+use Rattle.sem_reader.specs.declared.reader.LineError.{LineError}
+use Rattle.sem_reader.specs.declared.reader.LineError.TheVariants.{Refused, Memory}
+use Rattle.sem_reader.specs.declared.tables.Tables.{Tables}
+use Rattle.sem_reader.specs.Tells.{Tells}
+use Rattle.sem_reader.specs.Reads.{IsOpened, IsReadTo, with_line, Stops}
+use Rattle.sem_reader.proofs.OneMore.{accepted_none, is_ended-same, is_ended-new}
+use Rattle.sem_reader.proofs.Empty.{entry}
+
+owner_in-none : (p : ℕ) → owner_in [] p ≡ None
+unfolding owner_in
+owner_in-none p = refl
+
+-- so many kernels, and nothing is declared
+pub tells_kernels : (kernels n : ℕ) (t : Tables) (owners : MembershipTable) → 1 ≤ kernels → kernels ≤ 16 → owners ≡ record { kernels = kernels; owners = replicate n None } → Tells 1 [] t → Tells kernels [] (record t { owners = owners })
+tells_kernels kernels n t owners some few is told = record {
+  some = some;
+  few = few;
+  accepted = accepted_none kernels;
+  number = ap (λ (m : MembershipTable). m.kernels) is;
+  owner = λ p. entry owners.owners n None p (ap (λ (m : MembershipTable). m.owners) is) ∙ sym (owner_in-none p);
+  pe = told.pe;
+  taken = told.taken;
+  root = told.root;
+  call = told.call;
+  count = told.count;
+  few_calls = told.few_calls;
+  named = told.named;
+  offer = told.offer;
+  denied = told.denied;
+  kill = told.kill;
+}
+
+pub first_line : (stage : Stage) (lines : List (List (List ℕ))) (words : List (List ℕ)) (t : Tables) → stage ≡ Start → IsReadTo stage lines t → form_fault first_form words ≡ None → (words_fault lines words ≡ None) × IsReadTo Named (lines ++ words ∷ []) t
+unfolding words_fault
+first_line stage lines words t at read fits =
+    let start : IsReadTo Start lines t = subst (λ (s : Stage). IsReadTo s lines t) at read in
+    (rw start.0 fits, (words, rw start.0 refl, start.1))
+
+pub first_refused : (stage : Stage) (lines : List (List (List ℕ))) (words : List (List ℕ)) (t : Tables) (cause : Cause) → stage ≡ Start → form_fault first_form words ≡ Some cause → IsReadTo stage lines t → words_fault lines words ≡ Some cause
+unfolding words_fault
+first_refused stage lines words t cause at fault read =
+    let start : IsReadTo Start lines t = subst (λ (s : Stage). IsReadTo s lines t) at read in
+    rw start.0 fault
+
+pub second_line : (stage : Stage) (lines : List (List (List ℕ))) (words : List (List ℕ)) (t : Tables) (kernels n : ℕ) (owners : MembershipTable) → stage ≡ Named → IsReadTo stage lines t → form_fault second_form words ≡ None → kernels ≡ number_at words 1 → 1 ≤ kernels → kernels ≤ 16 → owners ≡ record { kernels = kernels; owners = replicate n None } → (words_fault lines words ≡ None) × IsReadTo Open (lines ++ words ∷ []) (record t { owners = owners })
+unfolding words_fault is_ended
+second_line stage lines words t kernels n owners at read fits is some few empty =
+    let named : IsReadTo Named lines t = subst (λ (s : Stage). IsReadTo s lines t) at read in
+    (rw named.1 fits, record { first = named.0; second = words; earlier = []; are = ap (λ (ls : List (List (List ℕ))). ls ++ words ∷ []) named.1; tells = rw (← is) (tells_kernels kernels n t owners some few empty named.2); said = refl })
+
+pub second_refused : (stage : Stage) (lines : List (List (List ℕ))) (words : List (List ℕ)) (t : Tables) (cause : Cause) → stage ≡ Named → form_fault second_form words ≡ Some cause → IsReadTo stage lines t → words_fault lines words ≡ Some cause
+unfolding words_fault
+second_refused stage lines words t cause at fault read =
+    let named : IsReadTo Named lines t = subst (λ (s : Stage). IsReadTo s lines t) at read in
+    rw named.1 fault
+
+map-push : {X Y : Type 0} (f : X → Y) (xs : List X) (x : X) → map f (xs ++ x ∷ []) ≡ map f xs ++ f x ∷ []
+map-push f [] x = refl
+map-push f (y ∷ ys) x = ap (λ zs. f y ∷ zs) (map-push f ys x)
+
+ended-push : (ds : List Declaration) (d : Declaration) → is_ended ds ≡ false → is_ended (ds ++ d ∷ []) ≡ is_end d
+ended-push ds d not_yet =
+    elim (cases_Bool (is_end d)) [
+      | inl ends ↦ is_ended-new ds d ends ∙ sym ends
+      | inr goes_on ↦ is_ended-same ds d goes_on ∙ (not_yet ∙ sym goes_on)
+    ]
+
+stage_read : (b : Bool) (lines : List (List (List ℕ))) (t : Tables) → IsOpened lines t b → IsReadTo (cond b Ended Open) lines t
+stage_read true lines t opened = opened
+stage_read false lines t opened = opened
+
+-- what a reader behind the second line has read
+pub opened : (stage : Stage) (lines : List (List (List ℕ))) (t : Tables) → stage ≡ Open → IsReadTo stage lines t → IsOpened lines t false
+opened stage lines t at read = subst (λ (s : Stage). IsReadTo s lines t) at read
+
+pub open_line : (lines : List (List (List ℕ))) (words : List (List ℕ)) (t after : Tables) (kernels : ℕ) (d : Declaration) → (read : IsOpened lines t false) → kernels ≡ t.owners.kernels → form_fault (form kernels words) words ≡ None → d ≡ declaration words → context_fault (map declaration read.earlier) d ≡ None → Tells (number_at read.second 1) (map declaration read.earlier ++ d ∷ []) after → (words_fault lines words ≡ None) × IsReadTo (cond (is_end d) Ended Open) (lines ++ words ∷ []) after
+unfolding words_fault
+open_line lines words t after kernels d read is fits says accepted told =
+    let number : kernels ≡ number_at read.second 1 = is ∙ read.tells.number in
+    let more : map declaration (read.earlier ++ words ∷ []) ≡ map declaration read.earlier ++ d ∷ [] = map-push declaration read.earlier words ∙ ap (λ (e : Declaration). map declaration read.earlier ++ e ∷ []) (sym says) in (
+      rw (read.are, read.said, ← number, fits, ← says) accepted,
+      stage_read (is_end d) (lines ++ words ∷ []) after (record {
+        first = read.first;
+        second = read.second;
+        earlier = read.earlier ++ words ∷ [];
+        are = rw read.are refl;
+        tells = rw more told;
+        said = rw more (ended-push (map declaration read.earlier) d read.said);
+      }),
+    )
+
+pub open_ill_formed : (lines : List (List (List ℕ))) (words : List (List ℕ)) (t : Tables) (kernels : ℕ) (cause : Cause) → (read : IsOpened lines t false) → kernels ≡ t.owners.kernels → form_fault (form kernels words) words ≡ Some cause → words_fault lines words ≡ Some cause
+unfolding words_fault
+open_ill_formed lines words t kernels cause read is fault =
+    let number : kernels ≡ number_at read.second 1 = is ∙ read.tells.number in
+    rw (read.are, read.said, ← number, fault) refl
+
+pub open_refused : (lines : List (List (List ℕ))) (words : List (List ℕ)) (t : Tables) (kernels : ℕ) (d : Declaration) (cause : Cause) → (read : IsOpened lines t false) → kernels ≡ t.owners.kernels → form_fault (form kernels words) words ≡ None → d ≡ declaration words → context_fault (map declaration read.earlier) d ≡ Some cause → words_fault lines words ≡ Some cause
+unfolding words_fault
+open_refused lines words t kernels d cause read is fits says fault =
+    let number : kernels ≡ number_at read.second 1 = is ∙ read.tells.number in
+    rw (read.are, read.said, ← number, fits, ← says) fault
+
+pub ended_refused : (stage : Stage) (lines : List (List (List ℕ))) (words : List (List ℕ)) (t : Tables) → stage ≡ Ended → IsReadTo stage lines t → words_fault lines words ≡ Some TooMany
+unfolding words_fault
+ended_refused stage lines words t at read =
+    let ended : IsOpened lines t true = subst (λ (s : Stage). IsReadTo s lines t) at read in
+    rw (ended.are, ended.said) refl
+
+-- a line whose bytes are bad
+pub bad_bytes : (lines : List (List (List ℕ))) (line : List ℕ) (cause : Cause) → bytes_fault line ≡ Some cause → line_fault lines line ≡ Some cause
+unfolding line_fault
+bad_bytes lines line cause fault = rw fault refl
+
+-- a line that says nothing
+pub skipped : (lines : List (List (List ℕ))) (line : List ℕ) (P : List (List (List ℕ)) → Type 0) → bytes_fault line ≡ None → is_significant (words_of line) ≡ false → P lines → (line_fault lines line ≡ None) × P (with_line lines line)
+unfolding line_fault
+skipped lines line P fits nothing holds = (rw (fits, nothing) refl, rw nothing holds)
+
+-- a line that says something
+pub said : (lines : List (List (List ℕ))) (line : List ℕ) (P : List (List (List ℕ)) → Type 0) → bytes_fault line ≡ None → is_significant (words_of line) ≡ true → (words_fault lines (words_of line) ≡ None) × P (lines ++ words_of line ∷ []) → (line_fault lines line ≡ None) × P (with_line lines line)
+unfolding line_fault
+said lines line P fits something holds = (rw (fits, something) holds.0, rw something holds.1)
+
+pub refused : (lines : List (List (List ℕ))) (line : List ℕ) (cause : Cause) → bytes_fault line ≡ None → is_significant (words_of line) ≡ true → words_fault lines (words_of line) ≡ Some cause → line_fault lines line ≡ Some cause
+unfolding line_fault
+refused lines line cause fits something fault = rw (fits, something) fault
+
+-- what is wrong with a line, for another reason
+pub stops_weaker : (P Q : Cause → Type 0) → ((cause : Cause) → P cause → Q cause) → (e : LineError) → Stops P e → Stops Q e
+stops_weaker P Q more (Refused cause) stops = more cause stops
+stops_weaker P Q more Memory stops = tt

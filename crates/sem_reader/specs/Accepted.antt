@@ -1,0 +1,9 @@
+-- Lines that are accepted one after another.
+use Rattle.std.specs.Prelude.{◌≡◌, List, ◌∷◌, ◌++◌, ℕ, None}
+use Rattle.sem_trace.specs.declared.declaration.Declaration.{Declaration}
+use Rattle.sem_trace.specs.Ranges.{IsInRange}
+use Rattle.sem_trace.specs.Context.{context_fault}
+
+-- what the lines say is in range, and nothing is wrong with any of it behind what was said before
+abbrev pub AreAccepted : ℕ → List Declaration → Type 0
+AreAccepted kernels ds = (before after : List Declaration) (d : Declaration) → ds ≡ before ++ d ∷ after → IsInRange kernels d × (context_fault before d ≡ None)

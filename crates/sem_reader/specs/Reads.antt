@@ -1,0 +1,74 @@
+-- What the reader keeps of the lines so far that say something, each as its words.
+use Rattle.std.specs.Prelude.{◌≡◌, ℕ, ◌+◌, ◌≤◌, Bool, true, false, List, [], ◌∷◌, ◌++◌, length, map, None, Some, if◌then◌else◌}
+use Rattle.sem_trace.specs.declared.fault.Cause.{Cause}
+use Rattle.sem_trace.specs.declared.fault.TraceError.{TraceError}
+use Rattle.sem_trace.specs.declared.fault.TraceError.TheVariants.{Refused as RefusedText, Memory as NoMemory}
+use Rattle.sem_trace.specs.TextLines.{lines_of, words_of, is_significant, significant}
+use Rattle.sem_trace.specs.Declarations.{number_at, declaration}
+use Rattle.sem_trace.specs.Earlier.{first_some, is_ended}
+use Rattle.sem_trace.specs.Refusal.{words_fault, line_fault, numbers, fault_at}
+use Rattle.sem_reader.specs.declared.reader.Stage.{Stage}
+use Rattle.sem_reader.specs.declared.reader.Stage.TheVariants.{Start, Named, Open, Ended}
+use Rattle.sem_reader.specs.declared.reader.LineError.{LineError}
+use Rattle.sem_reader.specs.declared.reader.LineError.TheVariants.{Refused, Memory}
+use Rattle.sem_reader.specs.declared.reader.Reader.{Reader}
+use Rattle.sem_reader.specs.declared.tables.Tables.{Tables}
+use Rattle.sem_reader.specs.Tells.{Tells, HasSizes}
+
+-- behind the second line
+pub record IsOpened (lines : List (List (List ℕ))) (t : Tables) (ended : Bool) : Type 0 where
+  pub first : List (List ℕ)
+  pub second : List (List ℕ)
+  pub earlier : List (List (List ℕ))
+  pub are : lines ≡ first ∷ second ∷ earlier
+  pub tells : Tells (number_at second 1) (map declaration earlier) t
+  pub said : is_ended (map declaration earlier) ≡ ended
+
+abbrev pub IsReadTo : Stage → List (List (List ℕ)) → Tables → Type 0
+IsReadTo Start lines t = (lines ≡ []) × Tells 1 [] t
+IsReadTo Named lines t = (first : List (List ℕ)) × (lines ≡ first ∷ []) × Tells 1 [] t
+IsReadTo Open lines t = IsOpened lines t false
+IsReadTo Ended lines t = IsOpened lines t true
+
+-- the reader has read these lines, and nothing was wrong with any
+abbrev pub IsRead : List (List (List ℕ)) → Reader → Type 0
+IsRead lines r = IsReadTo r.stage lines r.tables
+
+-- nothing is wrong with a line of these words, and the reader has read it too
+abbrev pub Accepts : List (List ℕ) → Reader → Reader → Type 0
+Accepts words old new = (lines : List (List (List ℕ))) → IsRead lines old → (words_fault lines words ≡ None) × IsRead (lines ++ words ∷ []) new
+
+-- that is wrong with a line of these words
+abbrev pub Refuses : List (List ℕ) → Reader → Cause → Type 0
+Refuses words old cause = (lines : List (List (List ℕ))) → IsRead lines old → words_fault lines words ≡ Some cause
+
+-- the lines with one more, if it says something
+abbrev pub with_line : List (List (List ℕ)) → List ℕ → List (List (List ℕ))
+with_line lines line = if is_significant (words_of line) then lines ++ words_of line ∷ [] else lines
+
+-- the same of a line that may say nothing
+abbrev pub AcceptsLine : List ℕ → Reader → Reader → Type 0
+AcceptsLine line old new = (lines : List (List (List ℕ))) → IsRead lines old → (line_fault lines line ≡ None) × IsRead (with_line lines line) new
+
+-- why a line is not read: what is wrong with it, or memory is wanted
+abbrev pub Stops : (Cause → Type 0) → LineError → Type 0
+Stops refuses (Refused cause) = refuses cause
+Stops refuses Memory = Unit {0}
+
+abbrev pub RefusesLine : List ℕ → Reader → Cause → Type 0
+RefusesLine line old cause = (lines : List (List (List ℕ))) → IsRead lines old → line_fault lines line ≡ Some cause
+
+-- The lines of a text are read up to a rest of it, and nothing was wrong with any of them.
+pub record IsReadUpTo (bytes rest : List ℕ) (number : ℕ) (r : Reader) : Type 0 where
+  pub before : List (List ℕ)
+  pub lines : lines_of bytes ≡ before ++ lines_of rest
+  pub count : number ≡ length before
+  pub fine : first_some (fault_at (lines_of bytes)) (numbers number) ≡ None
+  pub read : IsRead (significant before) r
+  pub sizes : HasSizes r.tables
+  pub room : number + length rest ≤ length bytes
+
+-- why a text is not read, where that line of it is not
+abbrev pub at_line : ℕ → LineError → TraceError
+at_line line (Refused cause) = RefusedText (record { line = line; cause = cause })
+at_line line Memory = NoMemory

@@ -1,0 +1,46 @@
+-- What the tables of the reader tell of the lines so far.
+use Rattle.std.specs.Prelude.{◌≡◌, ℕ, ◌+◌, ◌*◌, ◌<◌, ◌≤◌, false, List, [], length, None, slice_index_or}
+use Rattle.sem_key.specs.MembershipTable.{owner_at}
+use Rattle.sem_msg.specs.declared.setup.VpeDecl.{VpeDecl}
+use Rattle.sem_trace.specs.declared.declaration.Declaration.{Declaration}
+use Rattle.sem_trace.specs.Earlier.{owner_in, pe_in, is_taken, roots_in, calls_in, has_service, offer_in, is_denied, kill_in, call_number}
+use Rattle.sem_reader.specs.declared.tables.Tables.{Tables}
+use Rattle.sem_reader.specs.Accepted.{AreAccepted}
+
+-- each table is as long as there are numbers
+pub record HasSizes (t : Tables) : Type 0 where
+  pub owners : length t.owners.owners ≡ 64
+  pub roots : length t.roots.items ≡ 64
+  pub calls : length t.calls.items ≡ 64
+  pub offers : length t.offers.items ≡ 65536
+  pub denied : length t.denied.items ≡ 4096
+
+-- the tables tell what so many kernels and these lines declare
+pub record Tells (kernels : ℕ) (ds : List Declaration) (t : Tables) : Type 0 where
+  pub some : 1 ≤ kernels
+  pub few : kernels ≤ 16
+  pub accepted : AreAccepted kernels ds
+  pub number : t.owners.kernels ≡ kernels
+  pub owner : (p : ℕ) → owner_at t.owners p ≡ owner_in ds p
+  pub pe : (v : ℕ) → slice_index_or t.pes v None ≡ pe_in ds v
+  pub taken : (p : ℕ) → slice_index_or t.taken p false ≡ is_taken ds p
+  pub root : (v : ℕ) → slice_index_or t.roots.items v [] ≡ roots_in ds v
+  pub call : (v : ℕ) → slice_index_or t.calls.items v [] ≡ calls_in ds v
+  pub count : t.call_number ≡ call_number ds
+  pub few_calls : t.call_number ≤ 20000
+  pub named : (name : ℕ) → slice_index_or t.named name false ≡ has_service ds name
+  pub offer : (name index : ℕ) → index < 256 → slice_index_or t.offers.items (name * 256 + index) None ≡ offer_in ds name index
+  pub denied : (v asker : ℕ) → asker < 64 → slice_index_or t.denied.items (v * 64 + asker) false ≡ is_denied ds v asker
+  pub kill : (v : ℕ) → slice_index_or t.kills v None ≡ kill_in ds v
+
+-- the tables tell what some lines declare
+pub record IsTold (t : Tables) : Type 0 where
+  pub kernels : ℕ
+  pub ds : List Declaration
+  pub tells : Tells kernels ds t
+
+-- the numbers of a VPE are in range, and it holds no more than there are selectors
+pub record IsPlainVpe (d : VpeDecl) : Type 0 where
+  pub vpe : d.vpe ≤ 63
+  pub pe : d.pe ≤ 63
+  pub few_roots : length d.roots ≤ 256

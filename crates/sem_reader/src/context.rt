@@ -1,0 +1,127 @@
+// What is wrong with a line because of the lines before it.
+ghost use Rattle.std.specs.Prelude.{◌≡◌, ℕ, ◌≤◌, List, is_none};
+ghost use Rattle.sem_trace.specs.declared.declaration.Declaration.{Declaration as DeclarationData};
+ghost use Rattle.sem_trace.specs.Earlier.{pe_in, roots_in, holds_at};
+ghost use Rattle.sem_trace.specs.Context.{is_too_long as is_too_long_lem, is_undeclared as is_undeclared_lem, is_twice as is_twice_lem, is_call_too_many as is_call_too_many_lem, context_fault};
+ghost use Rattle.sem_trace.specs.Ranges.{IsInRange};
+ghost use Rattle.sem_reader.specs.Tells.{Tells, HasSizes};
+
+use crate::tables::{BYTES, NODES, Tables};
+use sem_msg::Root;
+use sem_trace::{Cause, Declaration};
+
+/// The most calls of a trace.
+const MOST_CALLS: u32 = 20000;
+
+// Whether one of the roots stands at the selector.
+fn holds(roots: &[Root], sel: u8) -> bool
+    ensures { result ≡ holds_at roots.now sel }
+{
+    roots.iter().any(|root| root.sel == sel)
+}
+
+// Whether it is memory that ends past 2 ^ 32.
+fn is_too_long(d: &Declaration) -> bool
+    ensures { result ≡ is_too_long_lem d.now }
+{
+    match *d {
+        Declaration::Memory { base, len, .. } => u64::from(base) + u64::from(len) > 1 << 32,
+        _ => false,
+    }
+}
+
+impl Tables {
+    // Whether no line declares the VPE.
+    fn is_unknown(&self, vpe: u16) -> bool
+        requires { vpe ≤ 63 }
+        ensures { (kernels : ℕ) (ds : List DeclarationData) → Tells kernels ds self.now → result ≡ is_none (pe_in ds vpe) }
+    {
+        self.pes[usize::from(vpe)].is_none()
+    }
+
+    // Whether the VPE holds something at the selector.
+    fn holds_at(&self, vpe: u16, sel: u8) -> bool
+        requires vpe { vpe ≤ 63 }
+        requires sizes { HasSizes self.now }
+        ensures { (kernels : ℕ) (ds : List DeclarationData) → Tells kernels ds self.now → result ≡ holds_at (roots_in ds vpe) sel }
+    {
+        holds(self.roots[usize::from(vpe)].as_slice(), sel)
+    }
+
+    // Whether the line speaks of what no line declares.
+    fn is_undeclared(&self, d: &Declaration) -> bool
+        requires { IsInRange self.now.owners.kernels d.now }
+        ensures { (kernels : ℕ) (ds : List DeclarationData) → Tells kernels ds self.now → result ≡ is_undeclared_lem ds d.now }
+    {
+        match *d {
+            Declaration::Kernels { .. } | Declaration::Pe { .. } | Declaration::End => false,
+            Declaration::Vpe { pe, .. } => self.owners.owner(pe).is_none(),
+            Declaration::Memory { vpe, .. }
+            | Declaration::Receive { vpe, .. }
+            | Declaration::Service { vpe, .. }
+            | Declaration::Kill { vpe, .. }
+            | Declaration::Call { vpe, .. } => self.is_unknown(vpe),
+            Declaration::Offer { name, .. } => !self.named[usize::from(name)],
+            Declaration::Deny { vpe, asker } => self.is_unknown(vpe) || self.is_unknown(asker),
+        }
+    }
+
+    // Whether a line says that already.
+    fn is_twice(&self, d: &Declaration) -> bool
+        requires range { IsInRange self.now.owners.kernels d.now }
+        requires sizes { HasSizes self.now }
+        ensures { (kernels : ℕ) (ds : List DeclarationData) → Tells kernels ds self.now → result ≡ is_twice_lem ds d.now }
+    {
+        match *d {
+            Declaration::Kernels { .. } => true,
+            Declaration::Pe { pe, .. } => self.owners.owner(pe).is_some(),
+            Declaration::Vpe { vpe, pe } => {
+                self.pes[usize::from(vpe)].is_some() || self.taken[usize::from(pe)]
+            }
+            Declaration::Memory { vpe, sel, .. } | Declaration::Receive { vpe, sel, .. } => {
+                self.holds_at(vpe, sel)
+            }
+            Declaration::Service { vpe, sel, name } => {
+                self.holds_at(vpe, sel) || self.named[usize::from(name)]
+            }
+            Declaration::Offer { name, index, .. } => {
+                self.offers[usize::from(name) * BYTES + usize::from(index)].is_some()
+            }
+            Declaration::Deny { vpe, asker } => {
+                self.denied[usize::from(vpe) * NODES + usize::from(asker)]
+            }
+            Declaration::Kill { vpe, .. } => self.kills[usize::from(vpe)].is_some(),
+            Declaration::Call { .. } | Declaration::End => false,
+        }
+    }
+
+    // Whether it is one call more than there may be.
+    fn is_call_too_many(&self, d: &Declaration) -> bool
+        ensures { (kernels : ℕ) (ds : List DeclarationData) → Tells kernels ds self.now → result ≡ is_call_too_many_lem ds d.now }
+    {
+        match d {
+            Declaration::Call { .. } => self.call_number >= MOST_CALLS,
+            _ => false,
+        }
+    }
+
+    /// What is wrong with the line because of the lines so far. Takes no memory.
+    #[tactic(auto, unfolding(sem_trace::specs::Context::context_fault))]
+    pub(crate) fn fault(&self, d: &Declaration) -> Option<Cause>
+        requires range { IsInRange self.now.owners.kernels d.now }
+        requires sizes { HasSizes self.now }
+        ensures { (kernels : ℕ) (ds : List DeclarationData) → Tells kernels ds self.now → result ≡ context_fault ds d.now }
+    {
+        if is_too_long(d) {
+            Some(Cause::OutOfRange)
+        } else if self.is_undeclared(d) {
+            Some(Cause::Undeclared)
+        } else if self.is_twice(d) {
+            Some(Cause::Twice)
+        } else if self.is_call_too_many(d) {
+            Some(Cause::TooMany)
+        } else {
+            None
+        }
+    }
+}

@@ -1,0 +1,92 @@
+// A line that is accepted is entered into the tables.
+ghost use Rattle.std.specs.Prelude.{◌≡◌, ℕ, ◌<◌, ◌≤◌, Some, List, [], ◌∷◌, ◌++◌, ◌+◌, ◌*◌, true, None, length, slice_index_or, slice_set, OnOk};
+ghost use Rattle.sem_trace.specs.declared.declaration.Declaration.{Declaration as DeclarationData};
+ghost use Rattle.sem_trace.specs.Context.{context_fault};
+ghost use Rattle.sem_trace.specs.Ranges.{IsInRange};
+ghost use Rattle.sem_reader.specs.Tells.{Tells, HasSizes};
+
+use crate::tables::{BYTES, NODES, Tables};
+use sem_key::{Object, OutOfMemory};
+use sem_msg::{Call, Calls, Root, Roots};
+use sem_trace::Declaration;
+
+// Appends a root to those of the VPE.
+fn push_root(lists: &mut Vec<Roots>, vpe: u16, sel: u8, object: Object) -> Result<(), OutOfMemory>
+    requires { vpe < length lists.old.items }
+    ensures ok { OnOk result (lists.new.items ≡ slice_set lists.old.items vpe (slice_index_or lists.old.items vpe [] ++ record { sel = sel; object = object } ∷ [])) }
+{
+    lists[usize::from(vpe)].push(Root { sel, object })
+}
+
+// Appends a call to those of the VPE.
+fn push_call(lists: &mut Vec<Calls>, vpe: u16, call: Call) -> Result<(), OutOfMemory>
+    requires { vpe < length lists.old.items }
+    ensures ok { OnOk result (lists.new.items ≡ slice_set lists.old.items vpe (slice_index_or lists.old.items vpe [] ++ call ∷ [])) }
+{
+    lists[usize::from(vpe)].push(call)
+}
+
+// Writes what the service of that name offers under the index.
+fn put_offer(offers: &mut Vec<Option<u8>>, name: u8, index: u8, sel: u8)
+    requires { length offers.old.items ≡ 65536 }
+    ensures { offers.new.items ≡ slice_set offers.old.items (name * 256 + index) (Some sel) }
+{
+    offers[usize::from(name) * BYTES + usize::from(index)] = Some(sel);
+}
+
+// Writes that the VPE denies the other.
+fn put_deny(denied: &mut Vec<bool>, vpe: u16, asker: u16)
+    requires vpe { vpe ≤ 63 }
+    requires asker { asker ≤ 63 }
+    requires size { length denied.old.items ≡ 4096 }
+    ensures { denied.new.items ≡ slice_set denied.old.items (vpe * 64 + asker) true }
+{
+    denied[usize::from(vpe) * NODES + usize::from(asker)] = true;
+}
+
+impl Tables {
+    /// Enters what a line says with which nothing is wrong.
+    pub(crate) fn enter(&mut self, d: Declaration) -> Result<(), OutOfMemory>
+        requires range { IsInRange self.old.owners.kernels d }
+        requires sizes { HasSizes self.old }
+        requires few { self.old.call_number ≤ 20000 }
+        ensures ok { OnOk result ((kernels : ℕ) (ds : List DeclarationData) → Tells kernels ds self.old → context_fault ds d ≡ None → Tells kernels (ds ++ d ∷ []) self.new) }
+        ensures sizes { OnOk result (HasSizes self.new) }
+    {
+        match d {
+            Declaration::Kernels { .. } => {}
+            Declaration::End => {}
+            Declaration::Pe { pe, kernel } => {
+                let _ = self.owners.set(pe, kernel);
+            }
+            Declaration::Vpe { vpe, pe } => {
+                self.pes[usize::from(vpe)] = Some(pe);
+                self.taken[usize::from(pe)] = true;
+            }
+            Declaration::Memory {
+                vpe,
+                sel,
+                base,
+                len,
+                rights,
+            } => push_root(&mut self.roots, vpe, sel, Object::Mem { base, len, rights })?,
+            Declaration::Receive { vpe, sel, slots } => {
+                push_root(&mut self.roots, vpe, sel, Object::Recv { slots })?;
+            }
+            Declaration::Service { vpe, sel, name } => {
+                push_root(&mut self.roots, vpe, sel, Object::Serv { name })?;
+                self.named[usize::from(name)] = true;
+            }
+            Declaration::Offer { name, index, sel } => {
+                put_offer(&mut self.offers, name, index, sel);
+            }
+            Declaration::Deny { vpe, asker } => put_deny(&mut self.denied, vpe, asker),
+            Declaration::Kill { vpe, replies } => self.kills[usize::from(vpe)] = Some(replies),
+            Declaration::Call { vpe, call } => {
+                push_call(&mut self.calls, vpe, call)?;
+                self.call_number += 1;
+            }
+        }
+        Ok(())
+    }
+}

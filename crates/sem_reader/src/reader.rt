@@ -1,0 +1,200 @@
+ghost use Rattle.std.specs.Prelude.{◌≡◌, ◌≤◌, if◌then◌else◌, [], IfOk, IfErr, OnOk};
+ghost use Rattle.sem_trace.specs.TextLines.{lines_of, words_of};
+ghost use Rattle.sem_trace.specs.Refusal.{first_fault, refusal};
+ghost use Rattle.sem_trace.specs.Standing.{Stands, IsWhy};
+ghost use Rattle.sem_trace.specs.declared.fault.TraceError.TheVariants.{Refused as RefusedText};
+ghost use Rattle.sem_trace.specs.Earlier.{is_end};
+ghost use Rattle.sem_reader.specs.Tells.{HasSizes};
+ghost use Rattle.sem_reader.specs.Reads.{Accepts, Refuses, AcceptsLine, RefusesLine, Stops, IsReadUpTo, at_line as at_line_lem};
+ghost use Rattle.sem_reader.specs.declared.reader.LineError.TheVariants.{Refused, Memory};
+
+use crate::tables::Tables;
+use sem_key::{Membership, OutOfMemory};
+use sem_msg::Setup;
+use sem_trace::{
+    Cause, Declaration, TraceError, TraceFault, bytes_fault, is_significant, next_line,
+    read_declaration, read_first, read_second,
+};
+use std::alloc::Global;
+
+/// The most bytes of a trace.
+const TRACE_BYTES: usize = 8388608;
+
+// How far a trace is read.
+#[derive(Clone, Copy, Debug, PartialEq, Eq)]
+enum Stage {
+    Start,
+    Named,
+    Open,
+    Ended,
+}
+
+// Why a line is not read.
+#[derive(Clone, Copy, Debug)]
+enum LineError {
+    Refused(Cause),
+    Memory,
+}
+
+impl From<Cause> for LineError {
+    ghost from_gives = { λ cause e. e ≡ Refused cause };
+
+    fn from(cause: Cause) -> LineError {
+        LineError::Refused(cause)
+    }
+}
+
+impl From<OutOfMemory> for LineError {
+    ghost from_gives = { λ _ e. e ≡ Memory };
+
+    fn from(_: OutOfMemory) -> LineError {
+        LineError::Memory
+    }
+}
+
+// What is read so far.
+#[derive(Drop)]
+struct Reader {
+    stage: Stage,
+    tables: Tables,
+}
+
+// Where the reader is after a line behind the second.
+fn stage_after(d: &Declaration) -> Stage
+    ensures { result ≡ (if is_end d.now then Stage.Ended else Stage.Open) }
+{
+    match d {
+        Declaration::End => Stage::Ended,
+        _ => Stage::Open,
+    }
+}
+
+impl Reader {
+    // Reads the first line.
+    fn first(&mut self, line: &[u8]) -> Result<(), Cause>
+        requires stage { self.old.stage ≡ Stage.Start }
+        requires sizes { HasSizes self.old.tables }
+        ensures ok { OnOk result (Accepts (words_of line.now) self.old self.new) }
+        ensures err { IfErr result (Refuses (words_of line.now) self.old) }
+        ensures sizes { OnOk result (HasSizes self.new.tables) }
+    {
+        read_first(line)?;
+        self.stage = Stage::Named;
+        Ok(())
+    }
+
+    // Reads the second line.
+    fn second(&mut self, line: &[u8]) -> Result<(), Cause>
+        requires stage { self.old.stage ≡ Stage.Named }
+        requires sizes { HasSizes self.old.tables }
+        ensures ok { OnOk result (Accepts (words_of line.now) self.old self.new) }
+        ensures err { IfErr result (Refuses (words_of line.now) self.old) }
+        ensures sizes { OnOk result (HasSizes self.new.tables) }
+    {
+        let kernels = read_second(line)?;
+        self.tables.owners = Membership::empty(kernels);
+        self.stage = Stage::Open;
+        Ok(())
+    }
+
+    // Reads a line behind the second.
+    fn open(&mut self, line: &[u8]) -> Result<(), LineError>
+        requires stage { self.old.stage ≡ Stage.Open }
+        requires sizes { HasSizes self.old.tables }
+        requires few { self.old.tables.call_number ≤ 20000 }
+        ensures ok { OnOk result (Accepts (words_of line.now) self.old self.new) }
+        ensures err { IfErr result (Stops (Refuses (words_of line.now) self.old)) }
+        ensures sizes { OnOk result (HasSizes self.new.tables) }
+    {
+        let d = read_declaration(line, self.tables.owners.kernels())?;
+        if let Some(cause) = self.tables.fault(&d) {
+            return Err(LineError::Refused(cause));
+        }
+        self.tables.enter(d)?;
+        self.stage = stage_after(&d);
+        Ok(())
+    }
+
+    // Reads a line.
+    fn line(&mut self, line: &[u8]) -> Result<(), LineError>
+        requires sizes { HasSizes self.old.tables }
+        requires few { self.old.tables.call_number ≤ 20000 }
+        ensures ok { OnOk result (AcceptsLine line.now self.old self.new) }
+        ensures err { IfErr result (Stops (RefusesLine line.now self.old)) }
+        ensures sizes { OnOk result (HasSizes self.new.tables) }
+    {
+        if let Some(cause) = bytes_fault(line) {
+            return Err(LineError::Refused(cause));
+        }
+        if !is_significant(line) {
+            return Ok(());
+        }
+        match self.stage {
+            Stage::Start => Ok(self.first(line)?),
+            Stage::Named => Ok(self.second(line)?),
+            Stage::Open => self.open(line),
+            Stage::Ended => Err(LineError::Refused(Cause::TooMany)),
+        }
+    }
+}
+
+// The refusal of a text at that line.
+fn refused(line: u64, cause: Cause) -> TraceError
+    ensures { result ≡ RefusedText (record { line = line; cause = cause }) }
+{
+    TraceError::Refused(TraceFault { line, cause })
+}
+
+// Why a text is not read, where that line of it is not.
+fn at_line(line: u64, e: LineError) -> TraceError
+    ensures { result ≡ at_line_lem line e }
+{
+    match e {
+        LineError::Refused(cause) => refused(line, cause),
+        LineError::Memory => TraceError::Memory,
+    }
+}
+
+// Reads all lines, and tells how many there are.
+fn read_lines(alloc: Global, bytes: &[u8]) -> Result<(Reader, u64), TraceError>
+    ensures read { IfOk result (λ r. IsReadUpTo bytes.now [] r.1 r.0) }
+    ensures refused { IfErr result (IsWhy (first_fault (lines_of bytes.now))) }
+{
+    let Ok(tables) = Tables::new(alloc, 1) else {
+        return Err(TraceError::Memory);
+    };
+    let mut reader = Reader {
+        stage: Stage::Start,
+        tables,
+    };
+    let mut rest = bytes;
+    let mut number = 0;
+    while let Some((line, behind)) = next_line(rest) {
+        number += 1;
+        match reader.line(line) {
+            Ok(()) => rest = behind,
+            Err(e) => return Err(at_line(number, e)),
+        }
+    }
+    Ok((reader, number))
+}
+
+/// The setup for which the text stands. The text is refused at its first bad line.
+pub fn read_trace(alloc: Global, bytes: &[u8]) -> Result<Setup, TraceError>
+    // What is read is what the text stands for, and then it is not refused.
+    ensures stands { IfOk result (Stands bytes.now) }
+    // Where it is refused, it is refused so.
+    ensures refused { IfErr result (IsWhy (refusal bytes.now)) }
+{
+    if bytes.len() > TRACE_BYTES {
+        return Err(refused(0, Cause::InputTooLong));
+    }
+    let (reader, lines) = read_lines(alloc, bytes)?;
+    match reader.stage {
+        Stage::Ended => match reader.tables.setup(alloc) {
+            Ok(setup) => Ok(setup),
+            Err(_) => Err(TraceError::Memory),
+        },
+        _ => Err(refused(lines + 1, Cause::Missing)),
+    }
+}

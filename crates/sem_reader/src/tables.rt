@@ -1,0 +1,105 @@
+// What the lines so far declare, in tables by number.
+ghost use Rattle.std.specs.Prelude.{◌≡◌, ◌≤◌, [], None, false, replicate, IfOk};
+ghost use Rattle.sem_reader.specs.Tells.{Tells, HasSizes};
+
+use sem_key::{Membership, OutOfMemory};
+use sem_msg::{Calls, Roots};
+use std::alloc::Global;
+
+/// How many PEs, and how many VPEs, there can be.
+pub(crate) const NODES: usize = 64;
+
+/// How many selectors, names and indexes there can be.
+pub(crate) const BYTES: usize = 256;
+
+/// What is declared so far.
+#[derive(Drop)]
+pub(crate) struct Tables {
+    /// Which kernel owns which PE.
+    pub owners: Membership,
+    /// The PE of each VPE.
+    pub pes: [Option<u8>; NODES],
+    /// Which PEs have a VPE.
+    pub taken: [bool; NODES],
+    /// What each VPE holds at the start.
+    pub roots: Vec<Roots>,
+    /// The calls of each VPE.
+    pub calls: Vec<Calls>,
+    /// How many calls there are.
+    pub call_number: u32,
+    /// Which names have a service.
+    pub named: [bool; BYTES],
+    /// What is offered, by name and index.
+    pub offers: Vec<Option<u8>>,
+    /// Which VPE denies which, by both.
+    pub denied: Vec<bool>,
+    /// After how many replies each VPE is killed.
+    pub kills: [Option<u64>; NODES],
+}
+
+// Empty lists of roots for all VPEs.
+fn no_roots(alloc: Global) -> Result<Vec<Roots>, OutOfMemory>
+    ensures { IfOk result (λ lists. lists.items ≡ replicate 64 []) }
+{
+    let mut lists = Vec::new(alloc);
+    for _ in 0..NODES {
+        lists.push(Roots::new(alloc))?;
+    }
+    Ok(lists)
+}
+
+// Empty lists of calls for all VPEs.
+fn no_calls(alloc: Global) -> Result<Vec<Calls>, OutOfMemory>
+    ensures { IfOk result (λ lists. lists.items ≡ replicate 64 []) }
+{
+    let mut lists = Vec::new(alloc);
+    for _ in 0..NODES {
+        lists.push(Calls::new(alloc))?;
+    }
+    Ok(lists)
+}
+
+// A table of so many names and indexes without an offer.
+fn no_offers(alloc: Global, size: usize) -> Result<Vec<Option<u8>>, OutOfMemory>
+    ensures { IfOk result (λ table. table.items ≡ replicate size None) }
+{
+    let mut table = Vec::new(alloc);
+    for _ in 0..size {
+        table.push(None)?;
+    }
+    Ok(table)
+}
+
+// A table of so many pairs, none of them denied.
+fn no_denies(alloc: Global, size: usize) -> Result<Vec<bool>, OutOfMemory>
+    ensures { IfOk result (λ table. table.items ≡ replicate size false) }
+{
+    let mut table = Vec::new(alloc);
+    for _ in 0..size {
+        table.push(false)?;
+    }
+    Ok(table)
+}
+
+impl Tables {
+    /// Nothing is declared but so many kernels.
+    pub(crate) fn new(alloc: Global, kernels: u32) -> Result<Tables, OutOfMemory>
+        requires some { 1 ≤ kernels }
+        requires few { kernels ≤ 16 }
+        ensures tells { IfOk result (Tells kernels []) }
+        ensures sizes { IfOk result HasSizes }
+    {
+        Ok(Tables {
+            owners: Membership::empty(kernels),
+            pes: [None; NODES],
+            taken: [false; NODES],
+            roots: no_roots(alloc)?,
+            calls: no_calls(alloc)?,
+            call_number: 0,
+            named: [false; BYTES],
+            offers: no_offers(alloc, BYTES * BYTES)?,
+            denied: no_denies(alloc, NODES * NODES)?,
+            kills: [None; NODES],
+        })
+    }
+}

@@ -1,0 +1,163 @@
+-- The first line of a text and the first word of a line.
+use Rattle.std.proofs.Common.{◌≡◌, ◌≢◌, ℕ, zero, suc, ◌+◌, ◌-◌, ◌<◌, ◌≤◌, ◌==◌, ◌⊎◌, inl, inr, Bool, true, false, cond, not, true≢false, min, List, [], ◌∷◌, length, take, drop, Option, Some, None, ap, sym, ◌∙◌, refl, arith, drop-drop, one-add, length-drop, length-take, eq-eqb, eqb-true}
+use Rattle.std.specs.List.{filter, slice_split, onto_first, prefix_len, position_or_len}
+use Rattle.std.proofs.lemmas.Bool.{cases_Bool}
+use Rattle.std.proofs.lemmas.List.{drop_all, drop_min, drop-take}
+use Rattle.std.proofs.lemmas.Option.{none-some, same_Some}
+use Rattle.std.proofs.lemmas.List.Sums.{prefix_len-le-length}
+use Rattle.sem_text.specs.Words.{is_blank, word_from}
+use Rattle.sem_text.specs.Lines.{line_from}
+use Rattle.sem_trace.specs.TextLines.{without_empty_last, lines_of, is_word, words_of}
+
+module _ (p : ℕ → Bool) where
+  -- the first part ends before the first element that passes
+  first_part : (xs : List ℕ) → slice_split p xs ≡ take (position_or_len p xs) xs ∷ drop 1 (slice_split p (drop (position_or_len p xs) xs))
+  first_part [] = refl
+  first_part (x ∷ xs) =
+      elim (cases_Bool (p x)) [
+        | inl passes ↦ rw (passes, passes) refl
+        | inr fails ↦ rw (fails, one-add, first_part xs) refl
+      ]
+
+  -- what is behind it begins with that element
+  rest_begins : (xs : List ℕ) → filter is_word (drop 1 (slice_split p (drop (position_or_len p xs) xs))) ≡ filter is_word (slice_split p (drop (position_or_len p xs) xs))
+  rest_begins [] = refl
+  rest_begins (x ∷ xs) =
+      elim (cases_Bool (p x)) [
+        | inl passes ↦ rw (passes, passes) refl
+        | inr fails ↦ rw (fails, one-add) (rest_begins xs)
+      ]
+
+  -- elements that pass at the front part nothing
+  skip_front : (xs : List ℕ) → filter is_word (slice_split p xs) ≡ filter is_word (slice_split p (drop (prefix_len p xs) xs))
+  skip_front [] = refl
+  skip_front (x ∷ xs) =
+      elim (cases_Bool (p x)) [
+        | inl passes ↦ rw (passes, one-add) (skip_front xs)
+        | inr fails ↦ rw (fails, fails) refl
+      ]
+
+  -- behind them a part begins, or nothing is left
+  part_begins : (xs : List ℕ) → prefix_len p xs ≢ length xs → is_word (take (position_or_len p (drop (prefix_len p xs) xs)) (drop (prefix_len p xs) xs)) ≡ true
+  part_begins [] more = absurd (more refl)
+  part_begins (x ∷ xs) more =
+      elim (cases_Bool (p x)) [
+        | inl passes ↦ rw (passes, one-add) (part_begins xs (λ e. more (rw (passes, e) (omega arith))))
+        | inr fails ↦ rw (fails, fails, one-add) refl
+      ]
+
+  -- the first part that is not empty
+  first_filled : (xs : List ℕ) → prefix_len p xs ≢ length xs → filter is_word (slice_split p xs) ≡ take (position_or_len p (drop (prefix_len p xs) xs)) (drop (prefix_len p xs) xs) ∷ filter is_word (slice_split p (drop (position_or_len p (drop (prefix_len p xs) xs)) (drop (prefix_len p xs) xs)))
+  first_filled xs more =
+      let rest : List ℕ = drop (prefix_len p xs) xs in
+      skip_front xs ∙ (rw (first_part rest, part_begins xs more) (ap (λ parts. take (position_or_len p rest) rest ∷ parts) (rest_begins rest)))
+
+  -- a split has a part
+  split_is_cons : (xs : List ℕ) → (part : List ℕ) × (parts : List (List ℕ)) × (slice_split p xs ≡ part ∷ parts)
+  split_is_cons xs = (_, _, first_part xs)
+
+-- what a first word is
+pub record FirstWord (line : List ℕ) (begin end : ℕ) : Type 0 where
+  pub within : end ≤ length line
+  pub begins : begin ≤ end
+  pub words : words_of line ≡ drop begin (take end line) ∷ words_of (drop end line)
+
+found_word : (line : List ℕ) (n : ℕ) → n ≡ prefix_len is_blank line → n ≢ length line → FirstWord line n (n + prefix_len (λ b. not (is_blank b)) (drop n line))
+unfolding words_of
+found_word line n is more =
+    let m : ℕ = prefix_len (λ b. not (is_blank b)) (drop n line) in
+    let front : prefix_len is_blank line ≤ length line = prefix_len-le-length is_blank line in
+    let word : m ≤ length (drop n line) = prefix_len-le-length (λ b. not (is_blank b)) (drop n line) in
+    record {
+      within = omega (arith, length-drop n line);
+      begins = omega arith;
+      words = rw (drop-take n m line, ← drop-drop m n line, is) (first_filled is_blank line (λ e. more (is ∙ e)));
+    }
+
+found_cond : {X : Type 0} (b : Bool) (x y : X) → Some x ≡ cond b None (Some y) → (b ≡ false) × (x ≡ y)
+found_cond true x y found = absurd (none-some x (sym found))
+found_cond false x y found = (refl, same_Some x y found)
+
+none_cond : {X : Type 0} (b : Bool) (y : X) → cond b None (Some y) ≡ None → b ≡ true
+none_cond true y found = refl
+none_cond false y found = absurd (none-some y (sym found))
+
+pub word_found : (line : List ℕ) (begin end : ℕ) → Some (begin, end) ≡ word_from line 0 → FirstWord line begin end
+word_found line begin end found =
+    let n : ℕ = 0 + prefix_len is_blank line in
+    let h : ((n == length line) ≡ false) × ((begin, end) ≡ (n, n + prefix_len (λ b. not (is_blank b)) (drop n line))) = found_cond (n == length line) (begin, end) (n, n + prefix_len (λ b. not (is_blank b)) (drop n line)) found in
+    let begins : begin ≡ n = ap (λ (q : ℕ × ℕ). q.0) h.1 in
+    let ends : end ≡ n + prefix_len (λ b. not (is_blank b)) (drop n line) = ap (λ (q : ℕ × ℕ). q.1) h.1 in
+    rw (begins, ends) (found_word line n (omega arith) (λ e. true≢false (sym (eq-eqb _ _ e) ∙ h.0)))
+
+pub no_word : (line : List ℕ) → word_from line 0 ≡ None → words_of line ≡ []
+unfolding words_of
+no_word line found =
+    let n : ℕ = 0 + prefix_len is_blank line in
+    let all : n ≡ length line = eqb-true _ _ (none_cond (n == length line) (n, n + prefix_len (λ b. not (is_blank b)) (drop n line)) found) in
+    let past : drop (prefix_len is_blank line) line ≡ [] = drop_all (prefix_len is_blank line) line (omega arith) in
+    skip_front is_blank line ∙ (rw past refl)
+
+-- a part before another stays
+keep_first : (first part : List ℕ) (parts : List (List ℕ)) → without_empty_last (first ∷ part ∷ parts) ≡ first ∷ without_empty_last (part ∷ parts)
+keep_first [] part parts = refl
+keep_first (b ∷ bs) part parts = refl
+
+-- a last part stays where it is not empty
+keep_last : (part : List ℕ) → 0 < length part → without_empty_last (part ∷ []) ≡ part ∷ []
+keep_last [] some = absurd (omega arith)
+keep_last (b ∷ bs) some = refl
+
+-- the lines of a text whose first line is `first`, and behind which `rest` stands
+lines_behind : (first rest : List ℕ) → 0 < length first + length rest → (rest ≡ []) ⊎ ((b : ℕ) × (bs : List ℕ) × (rest ≡ b ∷ bs) × ((b == 10) ≡ true)) → without_empty_last (first ∷ drop 1 (slice_split (λ b. b == 10) rest)) ≡ first ∷ without_empty_last (slice_split (λ b. b == 10) (drop 1 rest))
+lines_behind first rest some (inl none) = rw none (keep_last first (let short : length rest ≡ 0 = ap length none in omega arith))
+lines_behind first rest some (inr (b, bs, is, ends)) =
+    let split = split_is_cons (λ b. b == 10) bs in
+    rw (is, ends, split.2) (keep_first first split.0 split.1)
+
+-- what stands behind the first line: nothing, or a line end
+at_end : (bytes : List ℕ) → (drop (position_or_len (λ b. b == 10) bytes) bytes ≡ []) ⊎ ((b : ℕ) × (bs : List ℕ) × (drop (position_or_len (λ b. b == 10) bytes) bytes ≡ b ∷ bs) × ((b == 10) ≡ true))
+at_end [] = inl refl
+at_end (b ∷ bs) =
+    elim (cases_Bool (b == 10)) [
+      | inl passes ↦ inr (b, bs, rw passes refl, passes)
+      | inr fails ↦ rw (fails, one-add) (at_end bs)
+    ]
+
+-- what a first line is
+pub record FirstLine (text : List ℕ) (end next : ℕ) : Type 0 where
+  pub within : end ≤ length text
+  pub next_within : next ≤ length text
+  pub some : 0 < next
+  pub lines : lines_of text ≡ take end text ∷ lines_of (drop next text)
+
+found_line : (text : List ℕ) → 0 < length text → FirstLine text (position_or_len (λ b. b == 10) text) (min (position_or_len (λ b. b == 10) text + 1) (length text))
+unfolding lines_of
+found_line text some =
+    let n : ℕ = position_or_len (λ b. b == 10) text in
+    let front : n ≤ length text = prefix_len-le-length (λ b. not (b == 10)) text in
+    let long : 0 < length (take n text) + length (drop n text) = omega (arith, length-drop n text, length-take n text) in
+    record {
+      within = front;
+      next_within = omega arith;
+      some = omega arith;
+      lines = rw (drop_min (n + 1) text, ← drop-drop 1 n text) (ap without_empty_last (first_part (λ b. b == 10) text) ∙ lines_behind (take n text) (drop n text) long (at_end text));
+    }
+
+pub line_found : (text : List ℕ) (end next : ℕ) → Some (end, next) ≡ line_from text 0 → FirstLine text end next
+line_found text end next found =
+    let n : ℕ = 0 + position_or_len (λ b. b == 10) text in
+    let h : ((0 == length text) ≡ false) × ((end, next) ≡ (n, min (n + 1) (length text))) = found_cond (0 == length text) (end, next) (n, min (n + 1) (length text)) found in
+    let ends : end ≡ n = ap (λ (q : ℕ × ℕ). q.0) h.1 in
+    let begins : next ≡ min (n + 1) (length text) = ap (λ (q : ℕ × ℕ). q.1) h.1 in
+    let zero : n ≡ position_or_len (λ b. b == 10) text = omega arith in
+    let some : 0 ≢ length text = λ e. true≢false (sym (eq-eqb _ _ e) ∙ h.0) in
+    rw (begins, ends, zero) (found_line text (omega arith))
+
+pub no_line : (text : List ℕ) → line_from text 0 ≡ None → lines_of text ≡ []
+unfolding lines_of
+no_line [] found = refl
+no_line (b ∷ bs) found =
+    let n : ℕ = 0 + position_or_len (λ b. b == 10) (b ∷ bs) in
+    let none : 0 ≡ length (b ∷ bs) = eqb-true _ _ (none_cond (0 == length (b ∷ bs)) (n, min (n + 1) (length (b ∷ bs))) found) in
+    absurd (omega arith)

@@ -1,0 +1,120 @@
+-- The forms of the lines of a trace, and the first fault of words against a form ("The trace" in docs/texts.md).
+use Rattle.std.specs.Prelude.{ℕ, ◌-◌, nat_le, not, ◌&&◌, List, [], ◌∷◌, map, codes, slice_index_or, Option, Some, None, if◌then◌else◌}
+use Rattle.std.specs.List.{list_any}
+use Rattle.std.specs.Option.{option_or}
+use Rattle.std.specs.Str.{bytes_eq}
+use Rattle.sem_text.specs.Number.{is_number, number_value}
+use Rattle.sem_trace.specs.declared.fault.Cause.{Cause}
+use Rattle.sem_trace.specs.declared.fault.Cause.TheVariants.{UnknownWord, BadNumber, OutOfRange, Missing, TooMany}
+
+-- what can stand in a place of a line: one of some words, or a number of a range
+pub data Place : Type 0 where
+  Word : (names : List (List ℕ)) → Place
+  Number : (least most : ℕ) → Place
+
+-- what is wrong with a word in that place
+abbrev pub place_fault : Place → List ℕ → Option Cause
+place_fault (Word names) word = if list_any (bytes_eq word) names then None else Some UnknownWord
+place_fault (Number least most) word =
+    if not (is_number word) then Some BadNumber
+    else (if nat_le least (number_value word) && nat_le (number_value word) most then None else Some OutOfRange)
+
+-- what is wrong with these words in those places: the leftmost fault
+unfoldable pub form_fault : List Place → List (List ℕ) → Option Cause
+form_fault [] [] = None
+form_fault [] (word ∷ words) = Some TooMany
+form_fault (place ∷ places) [] = Some Missing
+form_fault (place ∷ places) (word ∷ words) = option_or (place_fault place word) (form_fault places words)
+
+-- the word at a place, counted from 0; past the end there is none
+abbrev pub word_at : List (List ℕ) → ℕ → List ℕ
+word_at words i = slice_index_or words i []
+
+-- names, and which places follow each
+abbrev pub Table : Type 0
+Table = List (List ℕ × List Place)
+
+-- the places that follow a word
+abbrev pub behind : Table → List ℕ → List Place
+behind [] word = []
+behind ((name, places) ∷ table) word = if bytes_eq word name then places else behind table word
+
+-- the place of one of the names, and those that follow the word that stands there
+abbrev pub choice : Table → List ℕ → List Place
+choice table word = Word (map (λ row. row.0) table) ∷ behind table word
+
+abbrev pub up_to : ℕ → Place
+up_to most = Number 0 most
+
+-- a PE, or a VPE
+abbrev pub node : Place
+node = up_to 63
+
+-- a selector, or the name of a service, or an index
+abbrev pub byte : Place
+byte = up_to 255
+
+abbrev pub endpoint : Place
+endpoint = up_to 15
+
+abbrev pub rights : Place
+rights = up_to 7
+
+-- slots, or credits
+abbrev pub slots : Place
+slots = Number 1 64
+
+-- any other number
+abbrev pub word : Place
+word = up_to 4294967295
+
+-- the objects that a line `root` declares
+unfoldable pub objects : Table
+objects =
+    (codes "mem", word ∷ word ∷ rights ∷ [])
+    ∷ (codes "recv", slots ∷ [])
+    ∷ []
+
+unfoldable pub calls : Table
+calls =
+    (codes "derive", byte ∷ byte ∷ word ∷ word ∷ rights ∷ [])
+    ∷ (codes "gate", byte ∷ byte ∷ word ∷ slots ∷ [])
+    ∷ (codes "obtain", byte ∷ node ∷ byte ∷ [])
+    ∷ (codes "delegate", byte ∷ node ∷ byte ∷ [])
+    ∷ (codes "open", byte ∷ byte ∷ [])
+    ∷ (codes "ask", byte ∷ byte ∷ byte ∷ [])
+    ∷ (codes "revoke", byte ∷ [])
+    ∷ (codes "bind", endpoint ∷ byte ∷ [])
+    ∷ (codes "read", endpoint ∷ word ∷ word ∷ [])
+    ∷ (codes "write", endpoint ∷ word ∷ word ∷ [])
+    ∷ (codes "send", endpoint ∷ word ∷ [])
+    ∷ (codes "credit", endpoint ∷ [])
+    ∷ (codes "exit", [])
+    ∷ []
+
+-- the lines behind the second, where there are so many kernels
+unfoldable pub lines : ℕ → List (List ℕ) → Table
+lines kernels words =
+    (codes "kernels", Number 1 16 ∷ [])
+    ∷ (codes "pe", node ∷ up_to (kernels - 1) ∷ [])
+    ∷ (codes "vpe", node ∷ node ∷ [])
+    ∷ (codes "root", node ∷ byte ∷ choice objects (word_at words 3))
+    ∷ (codes "service", node ∷ byte ∷ byte ∷ [])
+    ∷ (codes "offer", byte ∷ byte ∷ byte ∷ [])
+    ∷ (codes "deny", node ∷ node ∷ [])
+    ∷ (codes "kill", node ∷ word ∷ [])
+    ∷ (codes "call", node ∷ choice calls (word_at words 2))
+    ∷ (codes "end", [])
+    ∷ []
+
+-- the first line
+unfoldable pub first_form : List Place
+first_form = Word (codes "semper" ∷ []) ∷ Word (codes "trace" ∷ []) ∷ Word (codes "1" ∷ []) ∷ []
+
+-- the second line
+unfoldable pub second_form : List Place
+second_form = Word (codes "kernels" ∷ []) ∷ Number 1 16 ∷ []
+
+-- a line behind the second
+unfoldable pub form : ℕ → List (List ℕ) → List Place
+form kernels words = choice (lines kernels words) (word_at words 0)
