@@ -1,0 +1,4 @@
+pub mod Puts
+pub mod Edited
+pub mod Started
+pub mod Owned

@@ -1,0 +1,8 @@
+use Rattle.std.proofs.Common.{[], ◌∷◌}
+use Rattle.std.proofs.lemmas.List.Edits.{map_over_more}
+use Rattle.sem_dtu.specs.EndpointTable.{unbound_from}
+use Rattle.sem_dtu.proofs.dtus.unbind_each.Goals as goal
+
+-- one more endpoint is not bound to the key
+pub loop-endpoint-preserved : goal.loop-endpoint-preserved
+loop-endpoint-preserved c = rw (c.unbind_from.ensures, ← c.endpoint-item.is) (map_over_more (unbound_from (c.args.key ∷ [])) _ _ _ _ c.loop-endpoint-test.true c.loop-endpoint.invariant c.endpoint-item.is)

@@ -1,0 +1,5 @@
+pub mod EndpointTable
+pub mod Uses
+pub mod OwnVpes
+pub mod Stored
+pub mod Rows

@@ -1,0 +1,146 @@
+ghost use Rattle.std.specs.Prelude.{◌≡◌, ◌≤◌, [], ◌∷◌, Some, false, is_some, slice_index_or, if◌then◌else◌, IfOk, map};
+ghost use Rattle.std.specs.Option.{option_map};
+ghost use Rattle.std.specs.Result.{result_err};
+ghost use Rattle.sem_key.specs.ObjectRanges.{IsValidObject};
+ghost use Rattle.sem_dtu.specs.EndpointTable.{IsOurs, IsEndpointTable, endpoint, with_endpoint, unbound_from, unbind_key as unbind_key_lem};
+ghost use Rattle.sem_dtu.specs.OwnVpes.{new_table};
+ghost use Rattle.sem_dtu.specs.Stored.{IsMemoryOrGate};
+ghost use Rattle.sem_dtu.specs.Uses.{refusal, use_done};
+
+use crate::endpoint::Endpoint;
+use crate::op::{Op, UseFault};
+use crate::row::Row;
+use crate::setups::is_own_vpe;
+use sem_key::{Key, Object, OutOfMemory};
+use sem_msg::Setup;
+use std::alloc::Global;
+use std::marker::Model;
+
+// How many VPEs there can be.
+const VPES: u16 = 64;
+
+/// The endpoints of the VPEs of one kernel, 16 for each. An endpoint is unbound, or bound to a key, to the object that its
+/// capability had when it was bound, and to a ring with the lengths of the messages that were sent and not credited.
+#[derive(Debug, Drop)]
+pub struct Dtus {
+    // By VPE number.
+    rows: Vec<Row>,
+}
+
+impl Model for Dtus {
+    ghost use Rattle.std.specs.Prelude.{map};
+    ghost use Rattle.sem_dtu.specs.EndpointTable.{EndpointTable, IsEndpointTable};
+    ghost use Rattle.sem_dtu.specs.Rows.{table};
+
+    ghost Value = { EndpointTable };
+
+    ghost view = { λ s. table s.rows.items };
+
+    ghost invariant = { λ s. IsEndpointTable (table s.rows.items) };
+}
+
+impl Dtus {
+    /// The endpoints of the VPEs of a kernel, none of them bound. The VPEs of a kernel are those that the setup declares on
+    /// its PEs.
+    pub fn new(alloc: Global, setup: &Setup, kernel: u32) -> Result<Self, OutOfMemory>
+        ensures { IfOk result (λ t. t ≡ new_table setup.now kernel) }
+    {
+        let mut rows = Vec::new(alloc);
+        for vpe in 0..VPES {
+            rows.push(Row::new(alloc, is_own_vpe(setup, kernel, vpe))?)?;
+        }
+        Ok(Dtus { rows })
+    }
+
+    /// Binds an endpoint of a VPE to a key with the object of its capability, also where the endpoint is bound. No message
+    /// is under way then. Takes no memory.
+    ///
+    /// The VPE belongs to this kernel, the endpoint is at most 15, and the object is memory or a gate, in its ranges.
+    pub fn bind(&mut self, vpe: u16, ep: u8, key: Key, object: Object)
+        requires ours { IsOurs self.old vpe }
+        requires ep { ep ≤ 15 }
+        requires kind { IsMemoryOrGate object }
+        requires in_range { IsValidObject object }
+        ensures { self.new ≡ record self.old {
+          rows = with_endpoint vpe ep (Some (record { key = key; object = object; ring = [] })) self.old.rows;
+        } }
+    {
+        let row = &mut self.rows[usize::from(vpe)];
+        let endpoint = &mut row.endpoints[usize::from(ep)];
+        endpoint.bind(key, object);
+    }
+
+    /// The key to which an endpoint of a VPE is bound; none where it is not bound. Takes no memory.
+    ///
+    /// The VPE belongs to this kernel, and the endpoint is at most 15.
+    pub fn bound(&self, vpe: u16, ep: u8) -> Option<Key>
+        requires ours { IsOurs self.now vpe }
+        requires ep { ep ≤ 15 }
+        ensures key { result ≡ option_map (λ e. e.key) (endpoint self.now.rows vpe ep) }
+        ensures table { IsEndpointTable self.now }
+    {
+        self.rows[usize::from(vpe)].endpoints[usize::from(ep)].key()
+    }
+
+    /// Unbinds every endpoint of the key's VPE that is bound to the key. Takes no memory.
+    ///
+    /// The key's VPE belongs to this kernel.
+    pub fn unbind_key(&mut self, key: Key)
+        requires { IsOurs self.old key.vpe }
+        ensures { self.new ≡ record self.old { rows = unbind_key_lem key self.old.rows } }
+    {
+        let row = &mut self.rows[usize::from(key.vpe)];
+        unbind_each(&mut row.endpoints, key);
+    }
+
+    /// Does an operation through an endpoint of a VPE, if the endpoint does not refuse it; the first test that holds is the
+    /// refusal, and then nothing changes. A sent message comes to the end of the ring, and the oldest one is credited; all
+    /// else changes nothing. Takes no memory.
+    ///
+    /// The VPE belongs to this kernel, and the endpoint is at most 15.
+    pub fn use_endpoint(&mut self, vpe: u16, ep: u8, op: Op) -> Result<(), UseFault>
+        requires ours { IsOurs self.old vpe }
+        requires ep { ep ≤ 15 }
+        ensures refusal { result_err result ≡ refusal op (endpoint self.old.rows vpe ep) }
+        ensures table { self.new ≡ (
+            if is_some (refusal op (endpoint self.old.rows vpe ep))
+            then self.old
+            else record self.old { rows = use_done op vpe ep self.old.rows }) }
+    {
+        let row = &mut self.rows[usize::from(vpe)];
+        let endpoint = &mut row.endpoints[usize::from(ep)];
+        endpoint.operate(op)
+    }
+
+    // Whether the VPE belongs to this kernel.
+    #[cfg(test)]
+    pub fn is_ours(&self, vpe: u16) -> bool
+        ensures { result ≡ slice_index_or self.now.ours vpe false }
+    {
+        match self.rows.get(usize::from(vpe)) {
+            Some(row) => row.is_ours,
+            None => false,
+        }
+    }
+
+    // The lengths of the messages of an endpoint that were sent and not credited, the oldest first.
+    #[cfg(test)]
+    pub fn messages(&self, alloc: Global, vpe: u16, ep: u8) -> Result<Vec<u32>, OutOfMemory> {
+        let Some(row) = self.rows.get(usize::from(vpe)) else {
+            return Ok(Vec::new(alloc));
+        };
+        match row.endpoints.get(usize::from(ep)) {
+            Some(endpoint) => endpoint.messages(alloc),
+            None => Ok(Vec::new(alloc)),
+        }
+    }
+}
+
+// Unbinds each of the endpoints that is bound to the key.
+fn unbind_each(endpoints: &mut [Endpoint], key: Key)
+    ensures { endpoints.new ≡ map (unbound_from (key ∷ [])) endpoints.old }
+{
+    for endpoint in endpoints {
+        endpoint.unbind_from(key);
+    }
+}

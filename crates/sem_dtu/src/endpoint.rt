@@ -1,0 +1,126 @@
+ghost use Rattle.std.specs.Prelude.{◌≡◌, ◌≤◌, [], ◌∷◌, Some, None, IfOk};
+ghost use Rattle.std.specs.Option.{option_map};
+ghost use Rattle.std.specs.Result.{result_err};
+ghost use Rattle.sem_key.specs.ObjectRanges.{IsValidObject};
+ghost use Rattle.sem_dtu.specs.EndpointTable.{unbound_from};
+ghost use Rattle.sem_dtu.specs.Stored.{IsMemoryOrGate};
+ghost use Rattle.sem_dtu.specs.Uses.{refusal, tried};
+
+use crate::binding::Binding;
+use crate::object_tests::{allows, are_credits_used, is_past_end, is_send_gate, refuse};
+use crate::op::{Op, UseFault};
+use circular_buffer::HeapCircularBuffer;
+use sem_key::{Key, Object, OutOfMemory};
+use std::alloc::Global;
+use std::marker::Model;
+
+// The most credits that a send gate can have.
+const CREDITS: usize = 64;
+
+// The rights of a memory that are asked for.
+const READ: u8 = 1;
+
+const WRITE: u8 = 2;
+
+// What a VPE may use through one of its endpoints.
+#[derive(Debug, Drop)]
+pub struct Endpoint {
+    binding: Option<Binding>,
+    // The lengths of the messages that were sent and not credited, the oldest first. It has room for all credits.
+    ring: HeapCircularBuffer<u32>,
+}
+
+impl Model for Endpoint {
+    ghost use Rattle.std.specs.Prelude.{◌≡◌, Option, IfSome};
+    ghost use Rattle.std.specs.Option.{option_map};
+    ghost use Rattle.sem_msg.specs.Rows.{Endpoint};
+    ghost use Rattle.sem_dtu.specs.Stored.{bound_with, IsBound};
+
+    ghost Value = { Option Endpoint };
+
+    ghost view = { λ e. option_map (bound_with e.ring.items) e.binding };
+
+    ghost invariant = { λ e. (e.ring.capacity ≡ 64) × IfSome (option_map (bound_with e.ring.items) e.binding) IsBound };
+}
+
+impl Endpoint {
+    // An endpoint that is not bound.
+    pub fn new(alloc: Global) -> Result<Self, OutOfMemory>
+        ensures { IfOk result (λ e. e ≡ None) }
+    {
+        Ok(Endpoint {
+            binding: None,
+            ring: HeapCircularBuffer::with_capacity(alloc, CREDITS)?,
+        })
+    }
+
+    // Binds it, also where it is bound; no message is under way.
+    pub fn bind(&mut self, key: Key, object: Object)
+        requires kind { IsMemoryOrGate object }
+        requires in_range { IsValidObject object }
+        ensures { self.new ≡ Some (record { key = key; object = object; ring = [] }) }
+    {
+        self.ring.clear();
+        self.binding = Some(Binding { key, object });
+    }
+
+    // Unbinds it, where it is bound to the key.
+    pub fn unbind_from(&mut self, key: Key)
+        ensures { self.new ≡ unbound_from (key ∷ []) self.old }
+    {
+        if self.key() == Some(key) {
+            self.binding = None;
+        }
+    }
+
+    // The key to which it is bound.
+    pub fn key(&self) -> Option<Key>
+        ensures { result ≡ option_map (λ e. e.key) self.now }
+    {
+        match &self.binding {
+            Some(binding) => Some(binding.key),
+            None => None,
+        }
+    }
+
+    // Why it would refuse the operation, if it would.
+    fn test(&self, op: Op) -> Result<(), UseFault>
+        ensures { result_err result ≡ refusal op self.now }
+    {
+        let Some(binding) = &self.binding else {
+            return Err(UseFault::Unbound);
+        };
+        let object = &binding.object;
+        let sent = self.ring.len();
+        match op {
+            Op::Read { off, len } => refuse(allows(object, READ), is_past_end(object, off, len)),
+            Op::Write { off, len } => refuse(allows(object, WRITE), is_past_end(object, off, len)),
+            Op::Send { .. } => refuse(is_send_gate(object), are_credits_used(object, sent)),
+            Op::Credit => refuse(is_send_gate(object), sent == 0),
+        }
+    }
+
+    // Does the operation, unless it is refused, and then changes nothing.
+    pub fn operate(&mut self, op: Op) -> Result<(), UseFault>
+        ensures refusal { result_err result ≡ refusal op self.old }
+        ensures tried { self.new ≡ tried op self.old }
+    {
+        self.test(op)?;
+        match op {
+            Op::Read { .. } | Op::Write { .. } => {}
+            Op::Send { len } => {
+                self.ring.push_back(len);
+            }
+            Op::Credit => {
+                self.ring.pop_front();
+            }
+        }
+        Ok(())
+    }
+
+    // The lengths of its messages, the oldest first.
+    #[cfg(test)]
+    pub fn messages(&self, alloc: Global) -> Result<Vec<u32>, OutOfMemory> {
+        self.ring.to_vec(alloc)
+    }
+}

@@ -1,0 +1,18 @@
+//! The endpoints through which the VPEs of one kernel reach memory and send messages.
+#![tactic(auto)]
+
+mod binding;
+mod dtus;
+mod endpoint;
+mod object_tests;
+mod op;
+#[cfg(test)]
+mod random_tests;
+mod row;
+mod setups;
+#[cfg(test)]
+mod tests;
+
+pub use dtus::Dtus;
+pub use op::{Op, UseFault};
+pub use sem_key::OutOfMemory;

@@ -1,0 +1,3 @@
+pub mod VpeSet
+pub mod JobStore
+pub mod Chain

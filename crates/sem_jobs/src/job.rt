@@ -1,0 +1,81 @@
+ghost use Rattle.std.specs.Prelude.{◌≡◌, ◌+◌, ◌-◌, ◌<◌, Some};
+ghost use Rattle.sem_jobs.specs.VpeSet.{with_number, without_number};
+
+use crate::vpe_list::VpeList;
+use sem_key::Key;
+use sem_msg::Up;
+use std::marker::Model;
+
+/// A job that revokes what was made from its root.
+#[derive(Debug, Drop)]
+pub struct Job {
+    pub id: u32,
+    pub root: Key,
+    /// How many tokens are out for it.
+    pub outstanding: u64,
+    /// The job that waits for it.
+    pub up: Option<Up>,
+    /// The VPEs that wait for it.
+    pub slots: VpeList,
+}
+
+impl Model for Job {
+    ghost use Rattle.sem_msg.specs.Rows.{JobRow};
+
+    ghost Value = { JobRow };
+
+    ghost view = { λ j. record { id = j.id; root = j.root; up = j.up; waiters = j.slots; count = j.outstanding } };
+}
+
+impl Job {
+    // The same job.
+    pub(crate) fn copy(&self) -> Self
+        ensures { result ≡ self.now }
+    {
+        Job {
+            id: self.id,
+            root: self.root,
+            outstanding: self.outstanding,
+            up: self.up,
+            slots: self.slots.copy(),
+        }
+    }
+
+    // One token more is out for it.
+    pub(crate) fn raise(&mut self)
+        requires { self.old.count < 18446744073709551615 }
+        ensures { self.new ≡ record self.old { count = self.old.count + 1 } }
+    {
+        self.outstanding += 1;
+    }
+
+    // A token came back to it.
+    pub(crate) fn lower(&mut self)
+        requires { 0 < self.old.count }
+        ensures { self.new ≡ record self.old { count = self.old.count - 1 } }
+    {
+        self.outstanding -= 1;
+    }
+
+    // Another job waits for it.
+    pub(crate) fn set_up(&mut self, up: Up)
+        ensures { self.new ≡ record self.old { up = Some up } }
+    {
+        self.up = Some(up);
+    }
+
+    // The VPE waits for it.
+    pub(crate) fn wait(&mut self, vpe: u16)
+        requires { vpe < 128 }
+        ensures { self.new ≡ record self.old { waiters = with_number self.old.waiters vpe } }
+    {
+        self.slots.insert(vpe);
+    }
+
+    // The VPE waits for it no more.
+    pub(crate) fn leave(&mut self, vpe: u16)
+        ensures { self.new ≡ record self.old { waiters = without_number self.old.waiters vpe } }
+    {
+        self.slots.remove(vpe);
+    }
+}

@@ -1,0 +1,248 @@
+ghost use Rattle.std.specs.Prelude.{◌≡◌, ℕ, ◌+◌, ◌<◌, ◌≤◌, ◌++◌, [], length, vec_len, vec_capacity, None, Some, IsSome, IsSomeAnd, IfSome, IfOk, OnOk};
+ghost use Rattle.std.specs.Option.{option_and_then};
+ghost use Rattle.sem_jobs.specs.JobStore.{IsJobStore, IsPlaceOf, job_of, job_opened, job_removed, count_raised, count_lowered, with_up, waiter_added, waiter_removed, is_done};
+ghost use Rattle.sem_jobs.specs.Chain.{up_told, next_done, chain, chain_of};
+
+use crate::job::Job;
+use crate::vpe_list::VpeList;
+use sem_key::{Key, OutOfMemory};
+use sem_msg::Up;
+use std::alloc::Global;
+use std::marker::Model;
+
+/// The open jobs of one kernel, each under an id of its own. Ids are drawn in rising order from 0.
+#[derive(Debug, Drop)]
+pub struct Jobs {
+    // By rising id.
+    rising: Vec<Job>,
+    // The id of the next job.
+    next: u32,
+}
+
+impl Model for Jobs {
+    ghost use Rattle.std.specs.Prelude.{◌-◌, vec_len, vec_capacity};
+    ghost use Rattle.sem_jobs.specs.JobStore.{JobStore, HasRisingIds, ids_of};
+
+    ghost Value = { JobStore };
+
+    ghost view = { λ s. record { jobs = s.rising.items; next = s.next; spare = vec_capacity s.rising - vec_len s.rising } };
+
+    ghost invariant = { λ s. HasRisingIds (ids_of s.rising.items) s.next };
+}
+
+impl Jobs {
+    /// No jobs.
+    pub fn new(alloc: Global) -> Result<Self, OutOfMemory>
+        ensures jobs { IfOk result (λ store. store.jobs ≡ []) }
+        ensures next { IfOk result (λ store. store.next ≡ 0) }
+    {
+        Ok(Jobs {
+            rising: Vec::new(alloc),
+            next: 0,
+        })
+    }
+
+    /// Makes room for `more` jobs, so that opening them takes no memory. The jobs stay as they are, also after want of
+    /// memory.
+    pub fn room(&mut self, more: usize) -> Result<(), OutOfMemory>
+        ensures room { OnOk result (more ≤ self.new.spare) }
+        ensures jobs { self.new ≡ record self.old { spare = self.new.spare } }
+        ensures spare { self.old.spare ≤ self.new.spare }
+    {
+        self.rising.reserve(more)
+    }
+
+    /// The job with that id; none where it is not there.
+    pub fn get(&self, job: u32) -> Option<Job>
+        ensures job { result ≡ job_of self.now.jobs job }
+        ensures store { IsJobStore self.now }
+    {
+        let at = self.place_of(job)?;
+        let open = &self.rising[at];
+        Some(open.copy())
+    }
+
+    /// Opens a job with the next id, and gives the id. No token is out for it and no VPE waits for it. Takes no memory.
+    ///
+    /// There is room for the job, and fewer than 4,294,967,295 ids were drawn.
+    pub fn begin(&mut self, root: Key, up: Option<Up>) -> u32
+        requires room { 0 < self.old.spare }
+        requires ids { self.old.next < 4294967295 }
+        ensures id { result ≡ self.old.next }
+        ensures jobs { self.new.jobs ≡ job_opened self.old.next root up self.old.jobs }
+        ensures next { self.new.next ≡ self.old.next + 1 }
+        ensures spare { self.old.spare ≤ self.new.spare + 1 }
+    {
+        let id = self.next;
+        self.rising.push_reserved(Job {
+            id,
+            root,
+            outstanding: 0,
+            up,
+            slots: VpeList::empty(),
+        });
+        self.next += 1;
+        id
+    }
+
+    /// One token more is out for the job. Takes no memory.
+    ///
+    /// The job is there, and fewer than 18,446,744,073,709,551,615 tokens are out for it.
+    pub fn add_outstanding(&mut self, job: u32)
+        requires { IsSomeAnd (job_of self.old.jobs job) (λ x. x.count < 18446744073709551615) }
+        ensures { self.new ≡ record self.old { jobs = count_raised job self.old.jobs } }
+    {
+        let Some(at) = self.place_of(job) else {
+            unreachable!()
+        };
+        let open = &mut self.rising[at];
+        open.raise();
+    }
+
+    /// Lets another job wait for the job, in place of the one that did before. Takes no memory.
+    ///
+    /// The job is there.
+    pub fn set_up(&mut self, job: u32, up: Up)
+        requires { IsSome (job_of self.old.jobs job) }
+        ensures { self.new ≡ record self.old { jobs = with_up up job self.old.jobs } }
+    {
+        let Some(at) = self.place_of(job) else {
+            unreachable!()
+        };
+        let open = &mut self.rising[at];
+        open.set_up(up);
+    }
+
+    /// Lets the VPE wait for the job. Takes no memory.
+    ///
+    /// The job is there, and the VPE is 0 to 127.
+    pub fn wait(&mut self, job: u32, vpe: u16)
+        requires there { IsSome (job_of self.old.jobs job) }
+        requires vpe_in_range { vpe < 128 }
+        ensures { self.new ≡ record self.old { jobs = waiter_added job vpe self.old.jobs } }
+    {
+        let Some(at) = self.place_of(job) else {
+            unreachable!()
+        };
+        let open = &mut self.rising[at];
+        open.wait(vpe);
+    }
+
+    /// Lets the VPE wait for no job any more. Takes no memory.
+    pub fn leave(&mut self, vpe: u16)
+        ensures { self.new ≡ record self.old { jobs = waiter_removed vpe self.old.jobs } }
+    {
+        leave_all(&mut self.rising, vpe);
+    }
+
+    /// A token came back to the job. Tells whether it was the last one that was out. Takes no memory.
+    ///
+    /// The job is there, and a token is out for it.
+    pub fn done(&mut self, job: u32) -> bool
+        requires { IsSomeAnd (job_of self.old.jobs job) (λ x. 0 < x.count) }
+        ensures last { result ≡ is_done (job_of self.new.jobs job) }
+        ensures jobs { self.new ≡ record self.old { jobs = count_lowered job self.old.jobs } }
+    {
+        let Some(at) = self.place_of(job) else {
+            unreachable!()
+        };
+        let open = &mut self.rising[at];
+        open.lower();
+        open.outstanding == 0
+    }
+
+    /// Finishes the job, and those that are done by that, one after the other: takes each out and appends it to `out`.
+    /// After each, the local job that waits for it gets a token back, if it is there and a token is out for it; where that
+    /// was its last one, it is finished next. Takes no memory.
+    ///
+    /// The job is there, no token is out for it, and `out` has room for all jobs.
+    pub fn finish_chain(&mut self, job: u32, out: &mut Vec<Job>)
+        requires done { IsSomeAnd (job_of self.old.jobs job) (λ x. x.count ≡ 0) }
+        requires room { vec_len out.old + length self.old.jobs ≤ vec_capacity out.old }
+        ensures out { out.new.items ≡ out.old.items ++ (chain_of job self.old.jobs).gone }
+        ensures jobs { self.new.jobs ≡ (chain_of job self.old.jobs).left }
+        ensures next { self.new.next ≡ self.old.next }
+        ensures spare { self.old.spare ≤ self.new.spare }
+        ensures capacity { vec_capacity out.new ≡ vec_capacity out.old }
+        ensures bound { (n : ℕ) → length self.old.jobs ≤ n → chain n (job_of self.old.jobs job) self.old.jobs ≡ chain_of job self.old.jobs }
+    {
+        // So that the proof knows that the ids rise.
+        let _ = &self.rising;
+        let mut next = Some(job);
+        while let Some(id) = next {
+            let finished = self.take(id);
+            let up = finished.up;
+            out.push_reserved(finished);
+            next = self.tell(up);
+        }
+    }
+
+    // How many jobs are open.
+    #[cfg(test)]
+    pub fn len(&self) -> usize
+        ensures { result ≡ length self.now.jobs }
+    {
+        self.rising.len()
+    }
+
+    // How many ids were drawn.
+    #[cfg(test)]
+    pub fn drawn(&self) -> u32
+        ensures { result ≡ self.now.next }
+    {
+        self.next
+    }
+
+    // Takes the job out.
+    //
+    // The job is there.
+    fn take(&mut self, job: u32) -> Job
+        requires { IsSome (job_of self.old.jobs job) }
+        ensures job { Some result ≡ job_of self.old.jobs job }
+        ensures store { IsJobStore self.old }
+        ensures jobs { self.new.jobs ≡ job_removed job self.old.jobs }
+        ensures next { self.new.next ≡ self.old.next }
+        ensures spare { self.old.spare ≤ self.new.spare }
+    {
+        let Some(at) = self.place_of(job) else {
+            unreachable!()
+        };
+        self.rising.remove(at)
+    }
+
+    // Gives a token back to the local job that waited for a finished one, if it is there and a token is out for it. Gives
+    // its id where it is to be finished next.
+    fn tell(&mut self, up: Option<Up>) -> Option<u32>
+        ensures next { option_and_then (job_of self.new.jobs) result ≡ next_done up self.old.jobs }
+        ensures there { IfSome result (λ job. IsSome (job_of self.new.jobs job)) }
+        ensures jobs { self.new ≡ record self.old { jobs = up_told up self.old.jobs } }
+    {
+        let Some(Up::Local { job }) = up else {
+            return None;
+        };
+        let waiting = self.get(job)?;
+        if waiting.outstanding == 0 {
+            return None;
+        }
+        self.done(job).then_some(job)
+    }
+
+    // Where the job is; none where it is not there.
+    fn place_of(&self, job: u32) -> Option<usize>
+        ensures place { IfSome result (IsPlaceOf self.now.jobs job) }
+        ensures absent { result ≡ None → job_of self.now.jobs job ≡ None }
+        ensures store { IsJobStore self.now }
+    {
+        self.rising.binary_search_by_key(&job, |open| open.id).ok()
+    }
+}
+
+// Lets the VPE wait for none of the jobs.
+fn leave_all(jobs: &mut Vec<Job>, vpe: u16)
+    ensures jobs { jobs.new.items ≡ waiter_removed vpe jobs.old.items }
+    ensures capacity { vec_capacity jobs.new ≡ vec_capacity jobs.old }
+{
+    for job in jobs.iter_mut() {
+        job.leave(vpe);
+    }
+}

@@ -1,0 +1,18 @@
+//! The revoke jobs that one kernel has open, by id, and the working space of one step.
+#![tactic(auto)]
+
+mod job;
+mod jobs;
+#[cfg(test)]
+mod random_tests;
+mod scratch;
+#[cfg(test)]
+mod tests;
+mod vpe_list;
+
+pub use job::Job;
+pub use jobs::Jobs;
+pub use scratch::Scratch;
+pub use sem_key::OutOfMemory;
+pub use sem_msg::Up;
+pub use vpe_list::VpeList;

@@ -1,0 +1,64 @@
+ghost use Rattle.std.specs.Prelude.{◌≡◌, ◌<◌, ◌↔◌, [], Contains, IsTrue};
+ghost use Rattle.sem_jobs.specs.VpeSet.{IsVpeList, with_number, without_number};
+
+use std::marker::Model;
+
+// How many VPEs a list can tell apart.
+const VPES: u16 = 128;
+
+/// VPEs, 0 to 127, each at most once.
+#[derive(Debug, Drop)]
+pub struct VpeList {
+    // A bit for each VPE.
+    mask: u128,
+}
+
+impl Model for VpeList {
+    ghost use Rattle.std.specs.Prelude.{ℕ, List};
+    ghost use Rattle.sem_jobs.specs.VpeSet.{vpes_of};
+
+    ghost Value = { List ℕ };
+
+    ghost view = { λ l. vpes_of l.mask };
+}
+
+impl VpeList {
+    /// Whether the VPE is in the list.
+    pub fn has(&self, vpe: u16) -> bool
+        ensures has { IsTrue result ↔ Contains self.now vpe }
+        ensures list { IsVpeList self.now }
+    {
+        vpe < VPES && self.mask >> vpe & 1 == 1
+    }
+
+    // No VPEs.
+    pub(crate) fn empty() -> Self
+        ensures { result ≡ [] }
+    {
+        VpeList { mask: 0 }
+    }
+
+    // The same VPEs.
+    pub(crate) fn copy(&self) -> Self
+        ensures { result ≡ self.now }
+    {
+        VpeList { mask: self.mask }
+    }
+
+    // Adds the VPE, if it is not there.
+    pub(crate) fn insert(&mut self, vpe: u16)
+        requires { vpe < 128 }
+        ensures { self.new ≡ with_number self.old vpe }
+    {
+        self.mask |= 1 << vpe;
+    }
+
+    // Takes the VPE out, if it is there.
+    pub(crate) fn remove(&mut self, vpe: u16)
+        ensures { self.new ≡ without_number self.old vpe }
+    {
+        if vpe < VPES {
+            self.mask &= !(1 << vpe);
+        }
+    }
+}

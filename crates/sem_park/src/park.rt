@@ -1,0 +1,109 @@
+ghost use Rattle.std.specs.Prelude.{◌≡◌, ◌<◌, ◌≤◌, length, replicate, None, Some};
+ghost use Rattle.sem_key.specs.KeyName.{key_eq};
+ghost use Rattle.sem_park.specs.Parks.{IsPark, state_of, parked_as, unparked, promised_to, cancelled};
+
+use sem_key::Key;
+use sem_msg::Parked;
+use std::marker::Model;
+
+/// How many VPEs there can be.
+const VPES: usize = 64;
+
+/// For each VPE, 0 to 63, the state in which its call waits, if it has one.
+#[derive(Clone, Copy, Debug)]
+pub struct Park {
+    states: [Option<Parked>; VPES],
+}
+
+impl Model for Park {
+    ghost use Rattle.std.specs.Prelude.{List, Option};
+    ghost use Rattle.sem_msg.specs.declared.state.Parked.{Parked};
+    ghost use Rattle.sem_park.specs.Parks.{IsPark};
+
+    ghost Value = { List (Option Parked) };
+
+    ghost view = { λ p. p.states };
+
+    ghost invariant = { λ p. IsPark p.states };
+
+    ghost inverse = { λ states. record { states = states } };
+}
+
+impl Park {
+    /// No call of any VPE waits.
+    pub fn new() -> Self
+        ensures none { result ≡ replicate 64 None }
+        ensures park { IsPark result }
+    {
+        Park {
+            states: [None; VPES],
+        }
+    }
+
+    /// The state in which the call of the VPE waits; none where it has no such call. The VPE is 0 to 63.
+    pub fn state(&self, vpe: u16) -> Option<Parked>
+        requires { vpe < 64 }
+        ensures state { result ≡ state_of self.now vpe }
+        ensures park { IsPark self.now }
+    {
+        let place = usize::from(vpe);
+        self.states[place]
+    }
+
+    /// Lets the call of the VPE wait in that state, in place of the one before. The VPE is 0 to 63.
+    pub fn park(&mut self, vpe: u16, state: Parked)
+        requires { vpe < 64 }
+        ensures states { self.new ≡ parked_as self.old vpe state }
+        ensures park { IsPark self.new }
+    {
+        self.states[usize::from(vpe)] = Some(state);
+    }
+
+    /// No call of the VPE waits any more. The VPE is 0 to 63.
+    pub fn clear(&mut self, vpe: u16)
+        requires { vpe < 64 }
+        ensures states { self.new ≡ unparked self.old vpe }
+        ensures park { IsPark self.new }
+    {
+        self.states[usize::from(vpe)] = None;
+    }
+
+    /// Cancels the call that is about to install the key, and gives the selector that was promised to it; none where the
+    /// VPE of the key has no such call. Nothing changes then.
+    pub fn cancel(&mut self, key: Key) -> Option<u8>
+        ensures selector { result ≡ promised_to key (state_of self.old key.vpe) }
+        ensures states { self.new ≡ cancelled self.old key }
+        ensures park { IsPark self.new }
+    {
+        let place = usize::from(key.vpe);
+        let sel = selector_for(&self.states[place], &key)?;
+        self.states[place] = Some(Parked::ObtainCancelled);
+        Some(sel)
+    }
+}
+
+// The selector that was promised to the call in that state, if it is about to install the key.
+fn selector_for(state: &Option<Parked>, key: &Key) -> Option<u8>
+    ensures { result ≡ promised_to key.now state.now }
+{
+    match state {
+        Some(
+            Parked::ObtainReady {
+                key: ready,
+                sel,
+                ..
+            },
+        ) => is_same(ready, key).then_some(*sel),
+        _ => None,
+    }
+}
+
+// Whether the keys are the same.
+fn is_same(one: &Key, other: &Key) -> bool
+    ensures { result ≡ key_eq one.now other.now }
+{
+    one.pe == other.pe
+        && one.vpe == other.vpe
+        && one.kind.number() == other.kind.number()
+        && one.number == other.number
+}

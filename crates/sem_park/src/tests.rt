@@ -1,0 +1,98 @@
+ghost use Rattle.std.specs.Prelude.{◌≡◌, ◌≤◌};
+
+use crate::{Park, Parked};
+use sem_key::{Key, Kind, Object};
+use std::process::Abort;
+use std::test::Fail;
+
+// The key of a memory of that VPE, which runs on the PE of its number.
+pub fn key(vpe: u8, number: u32) -> Key
+    requires vpe_in_range { vpe ≤ 63 }
+    requires number_in_range { number ≤ 4095 }
+    ensures vpe_of { result.vpe ≡ vpe }
+{
+    Key {
+        pe: vpe,
+        vpe: u16::from(vpe),
+        kind: Kind::Mem,
+        number,
+    }
+}
+
+// A call that is about to install the key.
+pub fn ready(key: Key, sel: u8) -> Parked {
+    Parked::ObtainReady {
+        key,
+        parent: key,
+        object: Object::Mem {
+            base: 4096,
+            len: 512,
+            rights: 3,
+        },
+        sel,
+    }
+}
+
+#[test]
+fn no_call_waits_at_first(rt: HostRuntime) {
+    let park = Park::new();
+    for vpe in 0..64 {
+        assert!(rt; park.state(vpe).is_none(), "of VPE {vpe}");
+    }
+}
+
+#[test]
+fn a_vpe_has_the_state_that_was_parked_last(rt: HostRuntime) {
+    let mut park = Park::new();
+    park.park(63, Parked::ObtainWait { number: 9, sel: 4 });
+    park.park(0, Parked::RevokeWait { job: 7 });
+    park.park(63, Parked::Ready { code: 15 });
+    assert_eq!(rt; park.state(63), Some(Parked::Ready { code: 15 }));
+    assert_eq!(rt; park.state(0), Some(Parked::RevokeWait { job: 7 }));
+    assert_eq!(rt; park.state(62), None);
+}
+
+#[test]
+fn a_cleared_vpe_waits_no_more(rt: HostRuntime) {
+    let mut park = Park::new();
+    park.park(4, Parked::ObtainCancelled);
+    park.park(5, Parked::DelegateWait { parent: key(5, 1) });
+    park.clear(4);
+    park.clear(6);
+    assert_eq!(rt; park.state(4), None);
+    let waits = Parked::DelegateWait { parent: key(5, 1) };
+    assert_eq!(rt; park.state(5), Some(waits));
+    assert_eq!(rt; park.state(6), None);
+}
+
+#[test]
+fn a_call_is_cancelled_by_the_key_that_it_is_about_to_install(rt: HostRuntime) {
+    let mut park = Park::new();
+    park.park(5, ready(key(5, 1), 200));
+    park.park(6, ready(key(6, 1), 9));
+    assert_eq!(rt; park.cancel(key(5, 2)), None, "another number");
+    assert_eq!(rt; park.cancel(key(7, 1)), None, "no call waits");
+    assert_eq!(rt; park.state(5), Some(ready(key(5, 1), 200)));
+    assert_eq!(rt; park.cancel(key(5, 1)), Some(200));
+    assert_eq!(rt; park.state(5), Some(Parked::ObtainCancelled));
+    assert_eq!(rt; park.state(6), Some(ready(key(6, 1), 9)));
+    assert_eq!(rt; park.cancel(key(5, 1)), None, "it is cancelled already");
+}
+
+#[test]
+fn no_other_state_is_cancelled(rt: HostRuntime) -> Result<(), Fail> {
+    let mut park = Park::new();
+    let key = key(3, 8);
+    for state in &[
+        Parked::ObtainWait { number: 8, sel: 1 },
+        Parked::DelegateWait { parent: key },
+        Parked::DelegateReady { parent: key, key },
+        Parked::RevokeWait { job: 8 },
+        Parked::Ready { code: 8 },
+    ] {
+        park.park(3, *state);
+        assert_eq!(rt; park.cancel(key), None);
+        assert_eq!(rt; park.state(3), Some(*state));
+    }
+    Ok(())
+}

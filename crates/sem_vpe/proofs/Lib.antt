@@ -1,0 +1,4 @@
+pub mod Puts
+pub mod Places
+pub mod Starts
+pub mod Declared

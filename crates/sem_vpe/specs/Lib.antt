@@ -1,0 +1,3 @@
+pub mod VpeTable
+pub mod Starting
+pub mod Stored

@@ -1,0 +1,70 @@
+-- What a kernel keeps of its VPEs at the start ("State" in docs/machine.md).
+use Rattle.std.specs.Prelude.{◌≡◌, ◌≢◌, ℕ, ◌+◌, ◌==◌, ◌≤◌, ◌↔◌, true, All, [], length, slice_get, IsSome, map, find, Option, Some, None, unwrap_or, is_some, replicate, if◌then◌else◌}
+use Rattle.std.specs.List.{range_with_len}
+use Rattle.std.specs.Option.{option_and_then, option_map}
+use Rattle.sem_key.specs.Lists.{put, in_turn}
+use Rattle.sem_key.specs.MembershipTable.{owner_at}
+use Rattle.sem_msg.specs.declared.setup.Root.{Root}
+use Rattle.sem_msg.specs.declared.setup.VpeDecl.{VpeDecl}
+use Rattle.sem_msg.specs.declared.state.Slot.TheVariants.{Free, Held}
+use Rattle.sem_msg.specs.Rows.{VpeRow, no_vpe}
+use Rattle.sem_msg.specs.Setup.{Setup, root_key}
+use Rattle.sem_vpe.specs.VpeTable.{VpeTable, IsOurs, row, slot, is_alive}
+
+-- the declaration of a VPE
+abbrev pub decl : Setup → ℕ → Option VpeDecl
+decl T v = find (λ d. d.vpe == v) T.vpes
+
+-- the kernel that owns a PE; the number of kernels, which is no kernel, where none does
+abbrev pub pe_owner : Setup → ℕ → ℕ
+pe_owner T pe = unwrap_or (owner_at T.owners pe) T.kernels
+
+-- the declaration of a VPE that is on a PE of kernel i
+abbrev pub own_decl : Setup → ℕ → ℕ → Option VpeDecl
+own_decl T i v = option_and_then (λ d. if pe_owner T d.pe == i then Some d else None) (decl T v)
+
+-- a VPE with nothing yet: alive, with 256 free selectors
+abbrev pub new_vpe : VpeRow
+new_vpe = record no_vpe { alive = true; slots = replicate 256 Free }
+
+-- a root: its selector is held, under a number that is drawn for it
+abbrev pub root_added : VpeDecl → Root → VpeRow → VpeRow
+root_added d r x = record x { slots = put Free x.slots r.sel (Held (root_key d x.next_number r)); next_number = x.next_number + 1 }
+
+-- a VPE with its roots and services, in the order of their lines
+unfoldable pub start_row : VpeDecl → VpeRow
+start_row d = in_turn (root_added d) d.roots new_vpe
+
+-- what is kept of a VPE at the start, if it belongs to kernel i
+abbrev pub start_place : Setup → ℕ → ℕ → Option VpeRow
+start_place T i v = option_map start_row (own_decl T i v)
+
+-- the table of kernel i at the start
+unfoldable pub start_table : Setup → ℕ → VpeTable
+start_table T i =
+    record {
+      ours = map (λ v. is_some (start_place T i v)) (range_with_len 0 64);
+      rows = map (λ v. unwrap_or (start_place T i v) no_vpe) (range_with_len 0 64);
+    }
+
+-- a declaration in its ranges, with no more roots than there are selectors
+pub record IsStartable (d : VpeDecl) : Type 0 where
+  pub vpe : d.vpe ≤ 63
+  pub pe : d.pe ≤ 63
+  pub few_roots : length d.roots ≤ 256
+
+-- The table, read VPE by VPE: what a kernel has at the start is what the setup declares on its PEs.
+pub record IsAsDeclared (T : Setup) (i : ℕ) (t : VpeTable) : Type 0 where
+  -- the VPEs of this kernel are those that are declared on a PE that it owns
+  pub ours : (v : ℕ) → IsOurs t v ↔ IsSome (own_decl T i v)
+  -- they are alive
+  pub living : (v : ℕ) (d : VpeDecl) → own_decl T i v ≡ Some d → is_alive t.rows v ≡ true
+  -- each root stands at its selector, under the key of its place in the list
+  pub roots : (v n : ℕ) (d : VpeDecl) (r : Root) → own_decl T i v ≡ Some d → slice_get d.roots n ≡ Some r → slot t.rows v r.sel ≡ Held (root_key d n r)
+  -- the other selectors are free
+  pub others : (v sel : ℕ) (d : VpeDecl) → own_decl T i v ≡ Some d → All (λ r. r.sel ≢ sel) d.roots → slot t.rows v sel ≡ Free
+  -- as many numbers were drawn as there are roots
+  pub numbers : (v : ℕ) (d : VpeDecl) → own_decl T i v ≡ Some d → (row t.rows v).next_number ≡ length d.roots
+  -- no call was counted, and no ask waits
+  pub calls : (v : ℕ) (d : VpeDecl) → own_decl T i v ≡ Some d → (row t.rows v).next_call ≡ 0
+  pub asks : (v : ℕ) (d : VpeDecl) → own_decl T i v ≡ Some d → (row t.rows v).asks ≡ []

@@ -1,0 +1,16 @@
+//! What one kernel keeps of its VPEs: whether they live, their selectors, numbers and calls, and
+//! what they are asked.
+#![tactic(auto)]
+
+mod queue;
+#[cfg(test)]
+mod random_tests;
+#[cfg(test)]
+mod tests;
+mod vpe;
+mod vpes;
+
+pub use sem_key::OutOfMemory;
+pub use sem_msg::{Ask, Slot};
+pub use vpe::{Numbers, Occupied};
+pub use vpes::Vpes;

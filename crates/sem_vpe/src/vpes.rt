@@ -1,0 +1,246 @@
+ghost use Rattle.std.specs.Prelude.{◌≡◌, ◌<◌, ◌≤◌, ◌↔◌, [], ◌∷◌, ◌++◌, ◌==◌, length, find, slice_get, slice_index_or, option_copied, false, IsTrue, IfOk, IfSome, IsErr, OnOk, OnErr};
+ghost use Rattle.sem_msg.specs.declared.state.Slot.TheVariants.{Held};
+ghost use Rattle.sem_vpe.specs.VpeTable.{IsOurs, IsVpeRow, IsVpeTable, row, is_alive, slot as slot_lem, is_taken, call_counted, drawn, with_slot, promised, freed, asked, ask_taken, died};
+ghost use Rattle.sem_vpe.specs.Starting.{own_decl as own_decl_lem, IsStartable, IsAsDeclared, start_place, start_table};
+
+use crate::vpe::{Numbers, Occupied, Vpe};
+use sem_key::{Key, OutOfMemory};
+use sem_msg::{Ask, Setup, Slot, VpeDecl, Vpes0};
+use std::alloc::Global;
+use std::marker::Model;
+
+/// How many VPEs there can be.
+const VPES: u16 = 64;
+
+/// What a kernel keeps of its VPEs. A call about a VPE asks that it belongs to this kernel.
+#[derive(Debug, Drop)]
+pub struct Vpes {
+    // By VPE number; none for the VPEs of other kernels.
+    places: Vec<Option<Vpe>>,
+}
+
+impl Model for Vpes {
+    ghost use Rattle.sem_vpe.specs.VpeTable.{VpeTable, IsVpeTable};
+    ghost use Rattle.sem_vpe.specs.Stored.{plain};
+
+    ghost Value = { VpeTable };
+
+    ghost view = { λ s. plain s.places.items };
+
+    ghost invariant = { λ s. IsVpeTable (plain s.places.items) };
+}
+
+impl Vpes {
+    /// The VPEs of a kernel as they are at the start. It takes all the memory that they need.
+    pub fn new(alloc: Global, setup: &Setup, kernel: u32) -> Result<Self, OutOfMemory>
+        ensures start { IfOk result (λ vpes. vpes ≡ start_table setup.now kernel) }
+        ensures declared { IfOk result (λ vpes. IsAsDeclared setup.now kernel vpes) }
+        ensures table { IfOk result IsVpeTable }
+    {
+        // So that the proof knows what a setup keeps.
+        let _ = &setup.vpes;
+        let mut places = Vec::new(alloc);
+        for vpe in 0..VPES {
+            places.push(started(alloc, setup, kernel, vpe)?)?;
+        }
+        Ok(Vpes { places })
+    }
+
+    /// Whether the VPE is alive.
+    pub fn alive(&self, vpe: u16) -> bool
+        requires { IsOurs self.now vpe }
+        ensures alive { result ≡ is_alive self.now.rows vpe }
+        ensures table { IsVpeTable self.now }
+    {
+        self.kept(vpe).alive()
+    }
+
+    /// The state of a selector.
+    pub fn selector(&self, vpe: u16, sel: u8) -> Slot
+        requires { IsOurs self.now vpe }
+        ensures { result ≡ slot_lem self.now.rows vpe sel }
+    {
+        self.kept(vpe).selector(sel)
+    }
+
+    /// How many calls of the VPE were counted.
+    pub fn next_call(&self, vpe: u16) -> u32
+        requires { IsOurs self.now vpe }
+        ensures { result ≡ (row self.now.rows vpe).next_call }
+    {
+        self.kept(vpe).next_call()
+    }
+
+    /// How many asks wait for the VPE, at most 64.
+    pub fn asks(&self, vpe: u16) -> usize
+        requires { IsOurs self.now vpe }
+        ensures asks { result ≡ length (row self.now.rows vpe).asks }
+        ensures few { result ≤ 64 }
+    {
+        self.kept(vpe).asks()
+    }
+
+    /// The oldest ask that waits for the VPE; none where no ask waits.
+    pub fn front_ask(&self, vpe: u16) -> Option<Ask>
+        requires { IsOurs self.now vpe }
+        ensures { result ≡ slice_get (row self.now.rows vpe).asks 0 }
+    {
+        self.kept(vpe).front_ask()
+    }
+
+    /// Promises a selector. Nothing changes where it is held or promised. Takes no memory.
+    pub fn promise(&mut self, vpe: u16, sel: u8) -> Result<(), Occupied>
+        requires { IsOurs self.old vpe }
+        ensures occupied { IsErr result ↔ IsTrue (is_taken (slot_lem self.old.rows vpe sel)) }
+        ensures ok { OnOk result (self.new ≡ record self.old { rows = promised vpe sel self.old.rows }) }
+        ensures err { OnErr result (self.new ≡ self.old) }
+    {
+        let Some(kept) = &mut self.places[usize::from(vpe)] else {
+            unreachable!()
+        };
+        kept.promise(sel)
+    }
+
+    /// Lets the capability of that key stand at a selector. Takes no memory.
+    pub fn fill(&mut self, vpe: u16, sel: u8, key: Key)
+        requires { IsOurs self.old vpe }
+        ensures { self.new ≡ record self.old { rows = with_slot vpe sel (Held key) self.old.rows } }
+    {
+        let Some(kept) = &mut self.places[usize::from(vpe)] else {
+            unreachable!()
+        };
+        kept.set(sel, Slot::Held(key));
+    }
+
+    /// Makes a selector free. Takes no memory.
+    pub fn release(&mut self, vpe: u16, sel: u8)
+        requires { IsOurs self.old vpe }
+        ensures { self.new ≡ record self.old { rows = freed vpe sel self.old.rows } }
+    {
+        let Some(kept) = &mut self.places[usize::from(vpe)] else {
+            unreachable!()
+        };
+        kept.set(sel, Slot::Free);
+    }
+
+    /// Draws the next number, 0 to 4095. Nothing changes where all 4,096 were drawn. Takes no memory.
+    pub fn draw(&mut self, vpe: u16) -> Result<u32, Numbers>
+        requires { IsOurs self.old vpe }
+        ensures numbers { IsErr result ↔ (4096 ≤ (row self.old.rows vpe).next_number) }
+        ensures number { IfOk result (λ number. number ≡ (row self.old.rows vpe).next_number) }
+        ensures in_range { IfOk result (λ number. number ≤ 4095) }
+        ensures ok { OnOk result (self.new ≡ record self.old { rows = drawn vpe self.old.rows }) }
+        ensures err { OnErr result (self.new ≡ self.old) }
+    {
+        let Some(kept) = &mut self.places[usize::from(vpe)] else {
+            unreachable!()
+        };
+        kept.draw()
+    }
+
+    /// Appends an ask to those that wait for the VPE. Takes no memory.
+    ///
+    /// Fewer than 64 asks wait.
+    pub fn ask(&mut self, vpe: u16, ask: Ask)
+        requires ours { IsOurs self.old vpe }
+        requires room { length (row self.old.rows vpe).asks < 64 }
+        ensures asked { self.new ≡ record self.old { rows = asked vpe ask self.old.rows } }
+        ensures appended { (row self.new.rows vpe).asks ≡ (row self.old.rows vpe).asks ++ ask ∷ [] }
+    {
+        let Some(kept) = &mut self.places[usize::from(vpe)] else {
+            unreachable!()
+        };
+        kept.ask(&ask);
+    }
+
+    /// Takes out the oldest ask that waits for the VPE; none where no ask waits, and then nothing changes. Takes no memory.
+    pub fn next_ask(&mut self, vpe: u16) -> Option<Ask>
+        requires { IsOurs self.old vpe }
+        ensures front { result ≡ slice_get (row self.old.rows vpe).asks 0 }
+        ensures taken { self.new ≡ record self.old { rows = ask_taken vpe self.old.rows } }
+    {
+        let Some(kept) = &mut self.places[usize::from(vpe)] else {
+            unreachable!()
+        };
+        kept.next_ask()
+    }
+
+    /// Counts a call of the VPE. Takes no memory.
+    ///
+    /// Fewer than 4,294,967,295 were counted.
+    pub fn advance(&mut self, vpe: u16)
+        requires ours { IsOurs self.old vpe }
+        requires few { (row self.old.rows vpe).next_call < 4294967295 }
+        ensures { self.new ≡ record self.old { rows = call_counted vpe self.old.rows } }
+    {
+        let Some(kept) = &mut self.places[usize::from(vpe)] else {
+            unreachable!()
+        };
+        kept.advance();
+    }
+
+    /// Makes the VPE dead. Its selectors and what it was asked stay. Takes no memory.
+    pub fn end(&mut self, vpe: u16)
+        requires { IsOurs self.old vpe }
+        ensures { self.new ≡ record self.old { rows = died vpe self.old.rows } }
+    {
+        let Some(kept) = &mut self.places[usize::from(vpe)] else {
+            unreachable!()
+        };
+        kept.end();
+    }
+
+    // Whether the VPE belongs to this kernel.
+    #[cfg(test)]
+    pub fn is_ours(&self, vpe: u16) -> bool
+        ensures { result ≡ slice_index_or self.now.ours vpe false }
+    {
+        match self.places.get(usize::from(vpe)) {
+            Some(place) => place.is_some(),
+            None => false,
+        }
+    }
+
+    // What is kept of a VPE.
+    fn kept(&self, vpe: u16) -> &Vpe
+        requires { IsOurs self.now vpe }
+        ensures row { result.now ≡ row self.now.rows vpe }
+        ensures table { IsVpeTable self.now }
+    {
+        let Some(kept) = &self.places[usize::from(vpe)] else {
+            unreachable!()
+        };
+        kept
+    }
+}
+
+// A VPE as it is at the start, if it belongs to the kernel.
+fn started(alloc: Global, setup: &Setup, kernel: u32, vpe: u16) -> Result<Option<Vpe>, OutOfMemory>
+    ensures place { IfOk result (λ place. place ≡ start_place setup.now kernel vpe) }
+    ensures row { IfOk result (λ place. IfSome place IsVpeRow) }
+{
+    match own_decl(setup, kernel, vpe) {
+        Some(decl) => Ok(Some(Vpe::new(alloc, decl)?)),
+        None => Ok(None),
+    }
+}
+
+// The declaration of a VPE, if it is on a PE of the kernel.
+fn own_decl(setup: &Setup, kernel: u32, vpe: u16) -> Option<&VpeDecl>
+    ensures decl { option_copied result ≡ own_decl_lem setup.now kernel vpe }
+    ensures valid { IfSome (option_copied result) IsStartable }
+{
+    let decl = declaration(&setup.vpes, vpe)?;
+    if setup.owners.owner(decl.pe) == Some(kernel) {
+        Some(decl)
+    } else {
+        None
+    }
+}
+
+// The declaration of a VPE.
+fn declaration(vpes: &Vpes0, vpe: u16) -> Option<&VpeDecl>
+    ensures { option_copied result ≡ find (λ d. d.vpe == vpe) vpes.now }
+{
+    vpes.as_slice().iter().find(|decl| decl.vpe == vpe)
+}
