@@ -1,1 +1,17 @@
 pub mod LinesJoined
+pub mod WordChoices
+pub mod Decimals
+pub mod PlainText
+pub mod LongMemory
+pub mod EntryParts
+pub mod TextInLines
+pub mod LineForms
+pub mod ReportSteps
+pub mod TraceInReport
+pub mod WholeReport
+pub mod LineLength
+pub mod PrintedPlaces
+pub mod PrintedEntries
+pub mod EntryFrom
+pub mod OneEntry
+pub mod PlainEntries

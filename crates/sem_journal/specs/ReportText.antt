@@ -21,12 +21,15 @@ audit_lines made cut held =
     ∷ map held_line held
     ++ (codes "end" ∷ []) ∷ []
 
+-- the lines of the journal: how many entries there are, and each of them
+abbrev pub journal_lines : List Entry → List (List (List ℕ))
+journal_lines J = (codes "journal" ∷ decimal (length J) ∷ []) ∷ map entry_words J
+
 abbrev pub report_lines : Setup → List Entry → ℕ → ℕ → List (KeyName × ℕ) → List (List (List ℕ))
 report_lines T J made cut held =
     (codes "semper" ∷ codes "report" ∷ codes "1" ∷ [])
     ∷ trace_lines T
-    ++ (codes "journal" ∷ decimal (length J) ∷ [])
-    ∷ map entry_words J
+    ++ journal_lines J
     ++ audit_lines made cut held
 
 -- the text of a report with this journal and audit

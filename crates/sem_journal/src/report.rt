@@ -43,8 +43,8 @@ fn push_journal(out: &mut Vec<u8>, journal: &Journal) -> Result<(), OutOfMemory>
     push_entries(out, journal)
 }
 
-// Appends the line of a key that is held.
-fn push_held(out: &mut Vec<u8>, held: &Held) -> Result<(), OutOfMemory>
+/// Appends the line of a key that is held.
+pub fn push_held(out: &mut Vec<u8>, held: &Held) -> Result<(), OutOfMemory>
     ensures ok { OnOk result (out.new.items ≡ out.old.items ++ line (held_line (held.now.key, held.now.sel))) }
 {
     out.extend_from_slice(b"key")?;

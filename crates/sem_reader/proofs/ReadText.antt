@@ -1,21 +1,21 @@
 -- A text is read line by line.
-use Rattle.std.proofs.Common.{◌≡◌, ℕ, zero, suc, ◌+◌, ◌<◌, ◌≤◌, Bool, true, false, cond, List, [], ◌∷◌, ◌++◌, length, map, drop, get_or, Option, Some, None, refl, ap, sym, ◌∙◌, subst, arith, append_assoc, append-nil, length-append, lt-ltb, le-ltb, inl, inr}
+use Rattle.std.proofs.Common.{◌≡◌, ℕ, zero, suc, ◌+◌, ◌<◌, ◌≤◌, Bool, true, false, cond, List, [], ◌∷◌, ◌++◌, length, map, drop, get_or, Option, Some, None, refl, ap, sym, ◌∙◌, subst, arith, append_assoc, append-nil, length-append, lt-ltb, le-ltb, Result, Ok, Err, inl, inr}
 use Rattle.std.specs.List.{range_with_len}
 use Rattle.std.specs.Option.{option_map, option_or}
 use Rattle.std.proofs.lemmas.Bool.{cases_Bool}
 use Rattle.std.proofs.Math.Seq.{take-append_seam}
 use Rattle.std.proofs.lemmas.Option.{none-some}
+use Rattle.std.specs.Result.{IfOk, IfErr}
 use Rattle.sem_trace.specs.declared.fault.Cause.{Cause}
 use Rattle.sem_trace.specs.declared.fault.Cause.TheVariants.{Missing, InputTooLong}
-use Rattle.sem_trace.specs.declared.fault.TraceFault.{TraceFault}
 use Rattle.sem_trace.specs.declared.fault.TraceError.{TraceError}
 use Rattle.sem_trace.specs.declared.fault.TraceError.TheVariants.{Refused, Memory}
 use Rattle.sem_trace.specs.declared.declaration.Declaration.{Declaration}
 use Rattle.sem_trace.specs.TextLines.{lines_of, words_of, is_significant, significant}
 use Rattle.sem_trace.specs.Declarations.{declaration}
 use Rattle.sem_trace.specs.Earlier.{first_some, is_ended}
-use Rattle.sem_trace.specs.Refusal.{line_fault, numbers, fault_at, first_fault, kernels_of, declarations_of, end_fault, refusal}
-use Rattle.sem_trace.specs.Standing.{setup_of, Stands, IsWhy}
+use Rattle.sem_trace.specs.Refusal.{lines_refusal, line_fault, numbers, fault_at, first_fault, kernels_of, declarations_of, end_fault, refusal}
+use Rattle.sem_trace.specs.Standing.{Declare, setup_of, Stands, IsWhy}
 use Rattle.sem_msg.specs.Setup.{Setup}
 use Rattle.sem_reader.specs.declared.reader.Stage.{Stage}
 use Rattle.sem_reader.specs.declared.reader.Stage.TheVariants.{Start, Named, Open, Ended}
@@ -150,14 +150,29 @@ pub too_long : (bytes : List ℕ) → 8388608 < length bytes → refusal bytes �
 unfolding refusal
 too_long bytes long = rw (lt-ltb _ _ long) refl
 
--- a text with a bad line
-pub bad_line : (bytes : List ℕ) (fault : TraceFault) → length bytes ≤ 8388608 → first_fault (lines_of bytes) ≡ Some fault → refusal bytes ≡ Some fault
+-- the refusal of the lines of a text that is not too long
+pub refused_lines : (bytes : List ℕ) (e : TraceError) → length bytes ≤ 8388608 → IsWhy (lines_refusal (lines_of bytes)) e → IsWhy (refusal bytes) e
 unfolding refusal
-bad_line bytes fault short bad = rw (le-ltb _ _ short, bad) refl
+refused_lines bytes (Refused fault) short bad = rw (le-ltb _ _ short) bad
+refused_lines bytes Memory short bad = tt
 
-pub bad_lines : (bytes : List ℕ) (e : TraceError) → length bytes ≤ 8388608 → IsWhy (first_fault (lines_of bytes)) e → IsWhy (refusal bytes) e
-bad_lines bytes (Refused fault) short bad = bad_line bytes fault short bad
-bad_lines bytes Memory short bad = tt
+pub accepted_lines : (bytes : List ℕ) (T : Setup) → length bytes ≤ 8388608 → Declare (lines_of bytes) T → Stands bytes T
+unfolding refusal
+accepted_lines bytes T short declare = record { accepted = rw (le-ltb _ _ short) declare.accepted; declared = declare.declared }
+
+-- what holds of a result holds so of it
+pub if_ok : {X E : Type 0} (r : Result X E) (P Q : X → Type 0) → IfOk r P → ((x : X) → P x → Q x) → IfOk r Q
+if_ok (Ok x) P Q holds then' = then' x holds
+if_ok (Err e) P Q holds then' = tt
+
+pub if_err : {X E : Type 0} (r : Result X E) (P Q : E → Type 0) → IfErr r P → ((e : E) → P e → Q e) → IfErr r Q
+if_err (Ok x) P Q holds then' = tt
+if_err (Err e) P Q holds then' = then' e holds
+
+-- a text with a bad line
+pub bad_lines : (lines : List (List ℕ)) (e : TraceError) → IsWhy (first_fault lines) e → IsWhy (lines_refusal lines) e
+bad_lines lines (Refused fault) bad = rw bad refl
+bad_lines lines Memory bad = tt
 
 -- a text without its last line
 unfinished : (stage : Stage) (lines : List (List (List ℕ))) (t : Tables) → (stage ≡ Ended → ⊥) → IsReadTo stage lines t → is_ended (map declaration (drop 2 lines)) ≡ false
@@ -167,22 +182,22 @@ unfinished Named lines t other read = rw read.1 refl
 unfinished Open lines t other read = rw read.are read.said
 unfinished Ended lines t other read = absurd (other refl)
 
-pub no_end : (bytes : List ℕ) (number : ℕ) (r : Reader) → length bytes ≤ 8388608 → IsReadUpTo bytes [] number r → (r.stage ≡ Ended → ⊥) → refusal bytes ≡ Some (record { line = number + 1; cause = Missing })
-unfolding refusal end_fault declarations_of
-no_end bytes number r short whole other =
+pub no_end : (bytes : List ℕ) (number : ℕ) (r : Reader) → IsReadUpTo bytes [] number r → (r.stage ≡ Ended → ⊥) → lines_refusal (lines_of bytes) ≡ Some (record { line = number + 1; cause = Missing })
+unfolding end_fault declarations_of
+no_end bytes number r whole other =
     let lines = all_lines bytes number r whole in
     let read : is_ended (map declaration (drop 2 (significant (lines_of bytes)))) ≡ false = rw lines at (unfinished r.stage (significant whole.before) r.tables other whole.read) in
     let count : length (lines_of bytes) ≡ number = ap length (sym lines) ∙ sym whole.count in
-    rw (le-ltb _ _ short, no_first_fault bytes number r whole, read, count) refl
+    rw (no_first_fault bytes number r whole, read, count) refl
 
 -- a text that is read to its end
-pub whole_text : (bytes : List ℕ) (number : ℕ) (r : Reader) (T : Setup) → length bytes ≤ 8388608 → IsReadUpTo bytes [] number r → r.stage ≡ Ended → ((kernels : ℕ) (ds : List Declaration) → Tells kernels ds r.tables → T ≡ setup_of kernels ds) → Stands bytes T
-unfolding refusal end_fault declarations_of kernels_of
-whole_text bytes number r T short whole at is =
+pub whole_text : (bytes : List ℕ) (number : ℕ) (r : Reader) (T : Setup) → IsReadUpTo bytes [] number r → r.stage ≡ Ended → ((kernels : ℕ) (ds : List Declaration) → Tells kernels ds r.tables → T ≡ setup_of kernels ds) → Declare (lines_of bytes) T
+unfolding end_fault declarations_of kernels_of
+whole_text bytes number r T whole at is =
     let opened : IsOpened (significant whole.before) r.tables true = subst (λ (s : Stage). IsReadTo s (significant whole.before) r.tables) at whole.read in
     let are : significant (lines_of bytes) ≡ opened.first ∷ opened.second ∷ opened.earlier = ap significant (sym (all_lines bytes number r whole)) ∙ opened.are in
     record {
-      accepted = rw (le-ltb _ _ short, no_first_fault bytes number r whole, are, opened.said) refl;
+      accepted = rw (no_first_fault bytes number r whole, are, opened.said) refl;
       declared = rw are (is _ _ opened.tells);
     }
 

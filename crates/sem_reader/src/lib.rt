@@ -11,4 +11,4 @@ mod tables;
 mod tests;
 
 pub use laws::{canonical_stands, one_reading};
-pub use reader::read_trace;
+pub use reader::{read_section, read_trace};

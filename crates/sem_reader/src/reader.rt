@@ -1,7 +1,7 @@
 ghost use Rattle.std.specs.Prelude.{◌≡◌, ◌≤◌, if◌then◌else◌, [], IfOk, IfErr, OnOk};
 ghost use Rattle.sem_trace.specs.TextLines.{lines_of, words_of};
-ghost use Rattle.sem_trace.specs.Refusal.{first_fault, refusal};
-ghost use Rattle.sem_trace.specs.Standing.{Stands, IsWhy};
+ghost use Rattle.sem_trace.specs.Refusal.{first_fault, lines_refusal, refusal};
+ghost use Rattle.sem_trace.specs.Standing.{Declare, Stands, IsWhy};
 ghost use Rattle.sem_trace.specs.declared.fault.TraceError.TheVariants.{Refused as RefusedText};
 ghost use Rattle.sem_trace.specs.Earlier.{is_end};
 ghost use Rattle.sem_reader.specs.Tells.{HasSizes};
@@ -179,6 +179,21 @@ fn read_lines(alloc: Global, bytes: &[u8]) -> Result<(Reader, u64), TraceError>
     Ok((reader, number))
 }
 
+/// The setup that the lines of the text declare, however many bytes they are. They are refused at the first bad one.
+pub fn read_section(alloc: Global, bytes: &[u8]) -> Result<Setup, TraceError>
+    ensures declared { IfOk result (Declare (lines_of bytes.now)) }
+    ensures refused { IfErr result (IsWhy (lines_refusal (lines_of bytes.now))) }
+{
+    let (reader, lines) = read_lines(alloc, bytes)?;
+    match reader.stage {
+        Stage::Ended => match reader.tables.setup(alloc) {
+            Ok(setup) => Ok(setup),
+            Err(_) => Err(TraceError::Memory),
+        },
+        _ => Err(refused(lines + 1, Cause::Missing)),
+    }
+}
+
 /// The setup for which the text stands. The text is refused at its first bad line.
 pub fn read_trace(alloc: Global, bytes: &[u8]) -> Result<Setup, TraceError>
     // What is read is what the text stands for, and then it is not refused.
@@ -189,12 +204,5 @@ pub fn read_trace(alloc: Global, bytes: &[u8]) -> Result<Setup, TraceError>
     if bytes.len() > TRACE_BYTES {
         return Err(refused(0, Cause::InputTooLong));
     }
-    let (reader, lines) = read_lines(alloc, bytes)?;
-    match reader.stage {
-        Stage::Ended => match reader.tables.setup(alloc) {
-            Ok(setup) => Ok(setup),
-            Err(_) => Err(TraceError::Memory),
-        },
-        _ => Err(refused(lines + 1, Cause::Missing)),
-    }
+    read_section(alloc, bytes)
 }

@@ -1,6 +1,6 @@
 -- The first line of a text and the first word of a line.
-use Rattle.std.proofs.Common.{◌≡◌, ◌≢◌, ℕ, zero, suc, ◌+◌, ◌-◌, ◌<◌, ◌≤◌, ◌==◌, ◌⊎◌, inl, inr, Bool, true, false, cond, not, true≢false, min, List, [], ◌∷◌, length, take, drop, Option, Some, None, ap, sym, ◌∙◌, refl, arith, drop-drop, one-add, length-drop, length-take, eq-eqb, eqb-true}
-use Rattle.std.specs.List.{filter, slice_split, onto_first, prefix_len, position_or_len}
+use Rattle.std.proofs.Common.{◌≡◌, ◌≢◌, ℕ, ◌+◌, ◌<◌, ◌≤◌, ◌==◌, ◌⊎◌, inl, inr, Bool, true, false, cond, not, true≢false, min, List, [], ◌∷◌, length, take, drop, Some, None, ap, sym, ◌∙◌, refl, arith, drop-drop, one-add, length-drop, length-take, eq-eqb, eqb-true}
+use Rattle.std.specs.List.{filter, slice_split, prefix_len, position_or_len}
 use Rattle.std.proofs.lemmas.Bool.{cases_Bool}
 use Rattle.std.proofs.lemmas.List.{drop_all, drop_min, drop-take}
 use Rattle.std.proofs.lemmas.Option.{none-some, same_Some}
@@ -11,7 +11,7 @@ use Rattle.sem_trace.specs.TextLines.{without_empty_last, lines_of, is_word, wor
 
 module _ (p : ℕ → Bool) where
   -- the first part ends before the first element that passes
-  first_part : (xs : List ℕ) → slice_split p xs ≡ take (position_or_len p xs) xs ∷ drop 1 (slice_split p (drop (position_or_len p xs) xs))
+  pub first_part : (xs : List ℕ) → slice_split p xs ≡ take (position_or_len p xs) xs ∷ drop 1 (slice_split p (drop (position_or_len p xs) xs))
   first_part [] = refl
   first_part (x ∷ xs) =
       elim (cases_Bool (p x)) [
@@ -53,8 +53,17 @@ module _ (p : ℕ → Bool) where
       skip_front xs ∙ (rw (first_part rest, part_begins xs more) (ap (λ parts. take (position_or_len p rest) rest ∷ parts) (rest_begins rest)))
 
   -- a split has a part
-  split_is_cons : (xs : List ℕ) → (part : List ℕ) × (parts : List (List ℕ)) × (slice_split p xs ≡ part ∷ parts)
+  pub split_is_cons : (xs : List ℕ) → (part : List ℕ) × (parts : List (List ℕ)) × (slice_split p xs ≡ part ∷ parts)
   split_is_cons xs = (_, _, first_part xs)
+
+  -- what stands behind the first part: nothing, or an element that passes
+  pub behind_part : (xs : List ℕ) → (drop (position_or_len p xs) xs ≡ []) ⊎ ((x : ℕ) × (rest : List ℕ) × (drop (position_or_len p xs) xs ≡ x ∷ rest) × (p x ≡ true))
+  behind_part [] = inl refl
+  behind_part (x ∷ xs) =
+      elim (cases_Bool (p x)) [
+        | inl passes ↦ inr (x, xs, rw passes refl, passes)
+        | inr fails ↦ rw (fails, one-add) (behind_part xs)
+      ]
 
 -- what a first word is
 pub record FirstWord (line : List ℕ) (begin end : ℕ) : Type 0 where
@@ -115,15 +124,6 @@ lines_behind first rest some (inr (b, bs, is, ends)) =
     let split = split_is_cons (λ b. b == 10) bs in
     rw (is, ends, split.2) (keep_first first split.0 split.1)
 
--- what stands behind the first line: nothing, or a line end
-at_end : (bytes : List ℕ) → (drop (position_or_len (λ b. b == 10) bytes) bytes ≡ []) ⊎ ((b : ℕ) × (bs : List ℕ) × (drop (position_or_len (λ b. b == 10) bytes) bytes ≡ b ∷ bs) × ((b == 10) ≡ true))
-at_end [] = inl refl
-at_end (b ∷ bs) =
-    elim (cases_Bool (b == 10)) [
-      | inl passes ↦ inr (b, bs, rw passes refl, passes)
-      | inr fails ↦ rw (fails, one-add) (at_end bs)
-    ]
-
 -- what a first line is
 pub record FirstLine (text : List ℕ) (end next : ℕ) : Type 0 where
   pub within : end ≤ length text
@@ -141,7 +141,7 @@ found_line text some =
       within = front;
       next_within = omega arith;
       some = omega arith;
-      lines = rw (drop_min (n + 1) text, ← drop-drop 1 n text) (ap without_empty_last (first_part (λ b. b == 10) text) ∙ lines_behind (take n text) (drop n text) long (at_end text));
+      lines = rw (drop_min (n + 1) text, ← drop-drop 1 n text) (ap without_empty_last (first_part (λ b. b == 10) text) ∙ lines_behind (take n text) (drop n text) long (behind_part (λ b. b == 10) text));
     }
 
 pub line_found : (text : List ℕ) (end next : ℕ) → Some (end, next) ≡ line_from text 0 → FirstLine text end next

@@ -1,12 +1,12 @@
 -- One place of a form more.
-use Rattle.std.proofs.Common.{◌≡◌, ℕ, suc, ◌+◌, Bool, true, false, true≢false, List, [], ◌∷◌, Option, Some, None, ◌<◌, length, map, ◌++◌, take, drop, get_or, set, inl, inr, refl, ap, ◌∙◌, sym, arith, one-add, add-one, drop-cons, get_or-drop}
+use Rattle.std.proofs.Common.{◌≡◌, ℕ, suc, ◌+◌, Bool, true, false, true≢false, List, [], ◌∷◌, Option, Some, None, ◌<◌, length, map, ◌++◌, take, drop, get_or, set, inl, inr, refl, ap, ◌∙◌, sym, arith, add-one, drop-cons, get_or-drop, decimal, append_assoc, take-suc-set}
+use Rattle.std.proofs.lemmas.List.{map-append}
 use Rattle.std.proofs.lemmas.Bool.{cases_eq, false_from_ne_true}
 use Rattle.std.proofs.lemmas.Slice.Eq.{bytes_eq-Decides}
 use Rattle.std.specs.Bool.{Decides}
 use Rattle.std.proofs.lemmas.List.{get_or-set_same, get_or-set_other}
 use Rattle.std.specs.Option.{MatchOption, ok_or}
 use Rattle.std.specs.Result.{IfErr}
-use Rattle.std.specs.List.{list_any}
 use Rattle.std.specs.Str.{bytes_eq}
 use Rattle.sem_trace.specs.declared.fault.Cause.{Cause}
 use Rattle.sem_trace.specs.declared.fault.Cause.TheVariants.{Missing, UnknownWord}
@@ -67,3 +67,9 @@ differs word name decides = false_from_ne_true _ (λ same. true≢false (sym (de
 -- the words from the third on, where they are these
 pub third_on : (all rest words : List (List ℕ)) (word : List ℕ) (i : ℕ) → rest ≡ drop 2 all → rest ≡ word ∷ words → word_at all (2 + i) ≡ word_at (word ∷ words) i
 third_on all rest words word i behind is = sym (get_or-drop 2 all i []) ∙ ap (λ (ws : List (List ℕ)). word_at ws i) (sym behind ∙ is)
+
+-- the printed numbers so far and one more
+pub printed_more : (values : List ℕ) (i v : ℕ) (all words rest : List (List ℕ)) → i < length values → all ≡ map decimal (take i values) ++ words → words ≡ decimal v ∷ rest → all ≡ map decimal (take (i + 1) (set values i v)) ++ rest
+printed_more values i v all words rest within so_far here =
+    let next : i + 1 ≡ suc i = add-one i in
+    so_far ∙ (rw (here, next, take-suc-set values i v within, map-append, append_assoc) refl)

@@ -1,23 +1,48 @@
 -- The forms of the lines of a trace, and the first fault of words against a form ("The trace" in docs/texts.md).
-use Rattle.std.specs.Prelude.{ℕ, ◌-◌, nat_le, not, ◌&&◌, List, [], ◌∷◌, map, codes, slice_index_or, Option, Some, None, if◌then◌else◌}
-use Rattle.std.specs.List.{list_any}
+use Rattle.std.specs.Prelude.{ℕ, ◌-◌, ◌==◌, nat_le, Bool, true, false, not, ◌&&◌, List, [], ◌∷◌, map, codes, slice_index_or, Option, Some, None, if◌then◌else◌}
+use Rattle.std.specs.List.{list_any, slice_split}
 use Rattle.std.specs.Option.{option_or}
 use Rattle.std.specs.Str.{bytes_eq}
 use Rattle.sem_text.specs.Number.{is_number, number_value}
 use Rattle.sem_trace.specs.declared.fault.Cause.{Cause}
 use Rattle.sem_trace.specs.declared.fault.Cause.TheVariants.{UnknownWord, BadNumber, OutOfRange, Missing, TooMany}
 
--- what can stand in a place of a line: one of some words, or a number of a range
+-- what can stand in a place of a line: one of some words, a number of a range, or numbers of such ranges with points between
 pub data Place : Type 0 where
   Word : (names : List (List ℕ)) → Place
   Number : (least most : ℕ) → Place
+  Dotted : (ranges : List (ℕ × ℕ)) → Place
+
+-- the parts of a word between its points (byte 46)
+abbrev pub parts_of : List ℕ → List (List ℕ)
+parts_of word = slice_split (λ b. b == 46) word
+
+-- whether they are so many numbers
+unfoldable pub are_numbers : List (ℕ × ℕ) → List (List ℕ) → Bool
+are_numbers [] [] = true
+are_numbers [] (part ∷ parts) = false
+are_numbers (range ∷ ranges) [] = false
+are_numbers (range ∷ ranges) (part ∷ parts) = is_number part && are_numbers ranges parts
+
+-- whether the number that a word is lies between two others, or is one of them
+abbrev pub is_between : ℕ × ℕ → List ℕ → Bool
+is_between range word = nat_le range.0 (number_value word) && nat_le (number_value word) range.1
+
+-- whether each number is in its range
+unfoldable pub are_within : List (ℕ × ℕ) → List (List ℕ) → Bool
+are_within [] parts = true
+are_within (range ∷ ranges) [] = true
+are_within (range ∷ ranges) (part ∷ parts) = is_between range part && are_within ranges parts
 
 -- what is wrong with a word in that place
 abbrev pub place_fault : Place → List ℕ → Option Cause
 place_fault (Word names) word = if list_any (bytes_eq word) names then None else Some UnknownWord
 place_fault (Number least most) word =
     if not (is_number word) then Some BadNumber
-    else (if nat_le least (number_value word) && nat_le (number_value word) most then None else Some OutOfRange)
+    else (if is_between (least, most) word then None else Some OutOfRange)
+place_fault (Dotted ranges) word =
+    if not (are_numbers ranges (parts_of word)) then Some BadNumber
+    else (if are_within ranges (parts_of word) then None else Some OutOfRange)
 
 -- what is wrong with these words in those places: the leftmost fault
 unfoldable pub form_fault : List Place → List (List ℕ) → Option Cause
@@ -67,6 +92,14 @@ slots = Number 1 64
 -- any other number
 abbrev pub word : Place
 word = up_to 4294967295
+
+-- a key: its PE, its VPE, its kind and its number
+abbrev pub key : Place
+key = Dotted ((0, 63) ∷ (0, 63) ∷ (1, 5) ∷ (0, 4095) ∷ [])
+
+-- a place: a PE, a VPE and a number
+abbrev pub key_place : Place
+key_place = Dotted ((0, 63) ∷ (0, 63) ∷ (0, 4095) ∷ [])
 
 -- the objects that a line `root` declares
 unfoldable pub objects : Table

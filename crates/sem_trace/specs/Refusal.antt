@@ -48,8 +48,12 @@ declarations_of lines = map declaration (drop 2 (significant lines))
 unfoldable pub end_fault : List (List ℕ) → Option TraceFault
 end_fault lines = if is_ended (declarations_of lines) then None else Some (record { line = length lines + 1; cause = Missing })
 
--- the refusal of a text, if it is refused: that it is too long, its first bad line, or that its last line is missing
+-- the refusal of lines: that of the first bad one, or that the last line is missing
+abbrev pub lines_refusal : List (List ℕ) → Option TraceFault
+lines_refusal lines = option_or (first_fault lines) (end_fault lines)
+
+-- the refusal of a text, if it is refused: that it is too long, or that of its lines
 unfoldable pub refusal : List ℕ → Option TraceFault
 refusal bytes =
     if nat_lt 8388608 (length bytes) then Some (record { line = 0; cause = InputTooLong })
-    else option_or (first_fault (lines_of bytes)) (end_fault (lines_of bytes))
+    else lines_refusal (lines_of bytes)

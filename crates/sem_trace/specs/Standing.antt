@@ -10,7 +10,7 @@ use Rattle.sem_trace.specs.declared.fault.TraceError.{TraceError}
 use Rattle.sem_trace.specs.declared.fault.TraceError.TheVariants.{Refused, Memory}
 use Rattle.sem_trace.specs.TextLines.{lines_of}
 use Rattle.sem_trace.specs.Earlier.{owner_in, vpe_in, offer_in, is_denied, kill_in}
-use Rattle.sem_trace.specs.Refusal.{numbers, kernels_of, declarations_of, refusal}
+use Rattle.sem_trace.specs.Refusal.{numbers, kernels_of, declarations_of, lines_refusal, refusal}
 
 -- the VPEs that are declared, by number
 unfoldable pub vpes_of : List Declaration → List VpeDecl
@@ -59,6 +59,11 @@ setup_of kernels ds = record {
   denies = denies_of ds (vpes_of ds);
   kills = kills_of ds (vpes_of ds);
 }
+
+-- the lines are not refused, and they declare the setup
+pub record Declare (lines : List (List ℕ)) (T : Setup) : Type 0 where
+  pub accepted : lines_refusal lines ≡ None
+  pub declared : T ≡ setup_of (kernels_of lines) (declarations_of lines)
 
 -- the text is not refused, and its lines declare the setup
 pub record Stands (bytes : List ℕ) (T : Setup) : Type 0 where

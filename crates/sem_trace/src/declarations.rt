@@ -8,7 +8,7 @@ ghost use Rattle.sem_trace.specs.Forms.{form_fault, first_form, second_form, for
 ghost use Rattle.sem_trace.specs.Declarations.{number_at, call_from, root_from, declaration as declaration_lem};
 ghost use Rattle.sem_trace.specs.Ranges.{IsNode, IsInRange};
 
-use crate::calls::call;
+use crate::calls::first_call;
 use crate::declaration::Declaration;
 use crate::fault::Cause;
 use crate::forms::{
@@ -215,9 +215,11 @@ fn call_line(words: &[u8]) -> Result<Declaration, Cause>
     ensures ranges { (kernels : ℕ) → IfOk result (IsInRange kernels) }
 {
     let ([vpe, ..], rest) = first_numbers(words, &[NODE])?;
+    let (call, rest) = first_call(rest)?;
+    no_more(rest)?;
     Ok(Declaration::Call {
         vpe: vpe as u16,
-        call: call(rest)?,
+        call,
     })
 }
 

@@ -20,8 +20,8 @@ pub fn next_line(text: &[u8]) -> Option<(&[u8], &[u8])>
     Some((line, rest))
 }
 
-// The first word, and what is behind it; none where there is no word.
-pub(crate) fn next_word(line: &[u8]) -> Option<(&[u8], &[u8])>
+/// The first word, and what is behind it; none where there is no word. Takes no memory.
+pub fn next_word(line: &[u8]) -> Option<(&[u8], &[u8])>
     ensures { MatchOption result (words_of line.now ≡ []) (λ p. words_of line.now ≡ p.0.now ∷ words_of p.1.now) }
 {
     let (begin, end) = word_at(line, 0)?;

@@ -1,10 +1,10 @@
-use Rattle.std.proofs.Common.{◌≡◌, ℕ, ◌+◌, ◌≤◌, length, length-set, List, [], drop, ap, ◌∙◌, drop-drop, get_or-drop, add-zero, arith}
+use Rattle.std.proofs.Common.{◌≡◌, ℕ, ◌≤◌, length, length-set, List, [], drop, ap, ◌∙◌, drop-drop, get_or-drop, add-zero, arith}
 use Rattle.sem_text.specs.Number.{number_value}
 use Rattle.sem_trace.specs.TextLines.{words_of}
 use Rattle.sem_trace.specs.Forms.{word_at}
 use Rattle.sem_trace.specs.Declarations.{number_at}
 use Rattle.sem_trace.specs.Places.{least_at, most_at}
-use Rattle.sem_trace.proofs.PlaceSteps.{more_places, more_all}
+use Rattle.sem_trace.proofs.PlaceSteps.{more_places, more_all, printed_more}
 use Rattle.sem_trace.proofs.forms.first_numbers.Goals as goal
 
 pub loop-place-preserved : goal.loop-place-preserved
@@ -20,5 +20,6 @@ loop-place-preserved c =
       values = more_all c.loop-place.values i c.in_ok-value.value (λ k n. n ≡ number_at (words_of c.args.words.now) k) (omega arith) c.loop-place.invariant.values (c.in_ok-value.ensures.value ∙ ap number_value here);
       least = more_all c.loop-place.values i c.in_ok-value.value (λ k n. least_at c.args.ranges.now k ≤ n) (omega arith) c.loop-place.invariant.least c.in_ok-value.ensures.within.least;
       most = more_all c.loop-place.values i c.in_ok-value.value (λ k n. n ≤ most_at c.args.ranges.now k) (omega arith) c.loop-place.invariant.most c.in_ok-value.ensures.within.most;
+      printed = printed_more c.loop-place.values i c.in_ok-value.value _ _ _ (omega arith) c.loop-place.invariant.printed c.in_ok-value.ensures.printed;
       behind = c.in_ok-value.ensures.behind ∙ (ap (drop 1) behind ∙ drop-drop 1 i (words_of c.args.words.now));
     }

@@ -1,4 +1,4 @@
-use Rattle.std.proofs.Common.{◌≡◌, ℕ, ◌+◌, ◌<◌, ◌≤◌, List, ◌++◌, map, length, take, drop, get_or}
+use Rattle.std.proofs.Common.{◌≡◌, ℕ, ◌<◌, ◌≤◌, List, ◌++◌, map, length, take, drop, get_or, decimal}
 use Rattle.sem_trace.specs.TextLines.{words_of}
 use Rattle.sem_trace.specs.Forms.{Place, form_fault}
 use Rattle.sem_trace.specs.Declarations.{number_at}
@@ -13,5 +13,6 @@ invariant-loop-place l = record {
   values : (i : ℕ) → i < l.place → get_or l.values i 0 ≡ number_at (words_of l.words) i;
   least : (i : ℕ) → i < l.place → least_at l.ranges i ≤ get_or l.values i 0;
   most : (i : ℕ) → i < l.place → get_or l.values i 0 ≤ most_at l.ranges i;
+  printed : words_of l.words ≡ map decimal (take l.place l.values) ++ words_of l.rest;
   behind : words_of l.rest ≡ drop l.place (words_of l.words);
 }

@@ -1,0 +1,117 @@
+-- The faults of an entry, part by part.
+use Rattle.std.proofs.Common.{◌≡◌, ℕ, ◌+◌, ◌-◌, true, false, List, [], ◌∷◌, ◌++◌, length, drop, map, Option, Some, None, refl, sym, ◌∙◌, drop-drop, inl, inr, decimal, append_assoc}
+use Rattle.std.specs.Option.{option_or}
+use Rattle.std.proofs.lemmas.Bool.{cases_Bool}
+use Rattle.std.proofs.lemmas.Option.{none-some}
+use Rattle.std.proofs.lemmas.Slice.Eq.{bytes_eq-Decides}
+use Rattle.std.specs.Str.{bytes_eq}
+use Rattle.sem_trace.specs.declared.fault.Cause.{Cause}
+use Rattle.sem_trace.specs.declared.fault.Cause.TheVariants.{OutOfRange, UnknownWord, TooMany, Missing}
+use Rattle.sem_trace.specs.declared.forms.Range.{Range}
+use Rattle.sem_trace.specs.Forms.{Place, place_fault, form_fault}
+use Rattle.sem_trace.specs.Forms.Place.{Word}
+use Rattle.sem_trace.specs.Places.{Fills, Fails, number_place}
+use Rattle.sem_msg.specs.declared.event.Act.{Act}
+use Rattle.sem_msg.specs.declared.entry.Detail.{Detail}
+use Rattle.sem_msg.specs.declared.entry.Entry.{Entry}
+use Rattle.sem_journal.specs.declared.outcome.Outcome.{Outcome}
+use Rattle.sem_journal.specs.EntryText.{act_words, detail_words, entry_words}
+use Rattle.sem_journal.specs.Outcomes.{outcome_words}
+use Rattle.sem_journal.specs.EntryForms.{kernel, event_form, behind_event, entry_form, has_long_memory, entry_fault}
+
+-- nothing stands behind the last place
+pub nothing_more : (words : List (List ℕ)) → form_fault [] words ≡ None → words ≡ []
+unfolding form_fault
+nothing_more [] fits = refl
+nothing_more (word ∷ words) fits = absurd (none-some TooMany (sym fits))
+
+-- places for just these words
+abbrev exactly : List (List ℕ) → List Place
+exactly words = map (λ word. Word (word ∷ [])) words
+
+same_bytes : (word : List ℕ) → bytes_eq word word ≡ true
+same_bytes word = (bytes_eq-Decides word word).1 refl
+
+exactly_fits : (words : List (List ℕ)) → form_fault (exactly words) words ≡ None
+unfolding form_fault
+exactly_fits [] = refl
+exactly_fits (word ∷ words) = rw (same_bytes word) (exactly_fits words)
+
+or_none : (o p : Option Cause) → option_or o p ≡ None → (o ≡ None) × (p ≡ None)
+or_none None p none = (refl, none)
+or_none (Some cause) p none = absurd (none-some cause (sym none))
+
+the_word : (name word : List ℕ) → place_fault (Word (name ∷ [])) word ≡ None → word ≡ name
+the_word name word fits = elim (cases_Bool (bytes_eq word name)) [
+  | inl same ↦ (bytes_eq-Decides word name).0 same
+  | inr other ↦ absurd (none-some UnknownWord (sym (rw other at fits)))
+]
+
+exactly_is : (words others : List (List ℕ)) → form_fault (exactly words) others ≡ None → others ≡ words
+unfolding form_fault
+exactly_is [] [] fits = refl
+exactly_is [] (word ∷ others) fits = absurd (none-some TooMany (sym fits))
+exactly_is (word ∷ words) [] fits = absurd (none-some Missing (sym fits))
+exactly_is (word ∷ words) (other ∷ others) fits =
+    let both = or_none (place_fault (Word (word ∷ [])) other) (form_fault (exactly words) others) fits in
+    let first : other ≡ word = the_word word other both.0 in
+    let rest : others ≡ words = exactly_is words others both.1 in
+    rw (first, rest) refl
+
+rest_is : (places : List Place) (words rest : List (List ℕ)) → form_fault (places ++ exactly rest) words ≡ None → drop (length places) words ≡ rest
+unfolding form_fault
+rest_is [] words rest fits = exactly_is rest words fits
+rest_is (place ∷ places) [] rest fits = absurd (none-some Missing (sym fits))
+rest_is (place ∷ places) (word ∷ words) rest fits = rest_is places words rest (or_none (place_fault place word) _ fits).1
+
+-- the words that fill the places are as many as these
+pub behind_filled : (places : List Place) (words rest : List (List ℕ)) → Fills places words rest → drop (length places) words ≡ rest
+behind_filled places words rest fills = rest_is places words rest (fills (exactly rest) ∙ exactly_fits rest)
+
+-- an entry whose kernel is wrong
+pub kernel_fault : (kernels : ℕ) (words : List (List ℕ)) (range : Range) (cause : Cause) → range.least ≡ 0 → range.most ≡ kernels - 1 → Fails (number_place range ∷ []) words cause → entry_fault kernels words ≡ Some cause
+unfolding entry_fault entry_form
+kernel_fault kernels words range cause least most fails =
+    let fails' : Fails (kernel kernels ∷ []) words cause = rw (least, most) at fails in
+    rw (fails' (event_form kernels (drop 1 words) ++ behind_event (drop (1 + length (event_form kernels (drop 1 words))) words))) refl
+
+-- the words of an entry behind its kernel
+pub behind_kernel : (kernels : ℕ) (words rest : List (List ℕ)) (range : Range) → range.least ≡ 0 → range.most ≡ kernels - 1 → Fills (number_place range ∷ []) words rest → form_fault (entry_form kernels words) words ≡ form_fault (event_form kernels rest ++ behind_event (drop (length (event_form kernels rest)) rest)) rest
+unfolding entry_form
+behind_kernel kernels words rest range least most fills =
+    let fills' : Fills (kernel kernels ∷ []) words rest = rw (least, most) at fills in
+    let behind : drop 1 words ≡ rest = behind_filled (kernel kernels ∷ []) words rest fills' in
+    rw (drop_behind (length (event_form kernels (drop 1 words))) words, behind) (fills' (event_form kernels rest ++ behind_event (drop (length (event_form kernels rest)) rest)))
+  where
+    drop_behind : (n : ℕ) (words : List (List ℕ)) → drop (1 + n) words ≡ drop n (drop 1 words)
+    drop_behind n words = sym (drop-drop n 1 words)
+
+-- an entry whose event is wrong
+pub event_fault : (kernels : ℕ) (words rest : List (List ℕ)) (range : Range) (cause : Cause) → range.least ≡ 0 → range.most ≡ kernels - 1 → Fills (number_place range ∷ []) words rest → Fails (event_form kernels rest) rest cause → entry_fault kernels words ≡ Some cause
+unfolding entry_fault
+event_fault kernels words rest range cause least most fills fails =
+    rw (behind_kernel kernels words rest range least most fills, fails (behind_event (drop (length (event_form kernels rest)) rest))) refl
+
+-- what is wrong with an entry behind its event
+pub outcome_fault : (kernels : ℕ) (words rest behind : List (List ℕ)) (range : Range) → range.least ≡ 0 → range.most ≡ kernels - 1 → Fills (number_place range ∷ []) words rest → Fills (event_form kernels rest) rest behind → form_fault (entry_form kernels words) words ≡ form_fault (behind_event behind) behind
+outcome_fault kernels words rest behind range least most fills event =
+    rw (behind_kernel kernels words rest range least most fills, behind_filled (event_form kernels rest) rest behind event) (event (behind_event behind))
+
+pub fault_behind : (kernels : ℕ) (words : List (List ℕ)) (cause : Cause) → form_fault (entry_form kernels words) words ≡ Some cause → entry_fault kernels words ≡ Some cause
+unfolding entry_fault
+fault_behind kernels words cause fault = rw fault refl
+
+pub long_fault : (kernels : ℕ) (words : List (List ℕ)) → form_fault (entry_form kernels words) words ≡ None → has_long_memory words ≡ true → entry_fault kernels words ≡ Some OutOfRange
+unfolding entry_fault
+long_fault kernels words fits long = rw (fits, long) refl
+
+pub no_fault : (kernels : ℕ) (words : List (List ℕ)) → form_fault (entry_form kernels words) words ≡ None → has_long_memory words ≡ false → entry_fault kernels words ≡ None
+unfolding entry_fault
+no_fault kernels words fits short = rw (fits, short) refl
+
+-- the entry that these are the parts of
+abbrev pub entry : ℕ → Act → Detail → Outcome → Entry
+entry k act detail outcome = record { event = record { kernel = k; act = act }; detail = detail; grant = outcome.grant; cut = outcome.cut; reply = outcome.reply }
+
+pub entry_is : (k : ℕ) (act : Act) (detail : Detail) (outcome : Outcome) (rest behind : List (List ℕ)) → rest ≡ act_words act ++ detail_words detail ++ behind → behind ≡ outcome_words outcome → decimal k ∷ rest ≡ entry_words (entry k act detail outcome)
+entry_is k act detail outcome rest behind rest_is behind_is = rw (rest_is, behind_is) (simp append_assoc)

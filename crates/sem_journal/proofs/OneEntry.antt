@@ -1,0 +1,185 @@
+-- A line tells one entry: the words that are printed of an entry tell that entry.
+use Rattle.std.proofs.Common.{◌≡◌, ℕ, ◌≤◌, true, false, List, [], ◌∷◌, ◌++◌, length, drop, Option, None, Some, refl, ap, sym, ◌∙◌, arith, decimal, append_assoc}
+use Rattle.sem_key.specs.declared.object.Object.{Object}
+use Rattle.sem_key.specs.declared.object.Object.TheVariants.{Mem, Recv, Send, Serv, Sess}
+use Rattle.sem_key.specs.declared.key.Kind.{Kind}
+use Rattle.sem_key.specs.declared.key.Kind.TheVariants.{Mem as MemKind, Recv as RecvKind, Send as SendKind, Serv as ServKind, Sess as SessKind}
+use Rattle.sem_key.specs.KeyName.{KeyName, IsValidKey, kind_number}
+use Rattle.sem_key.specs.PlaceName.{PlaceName, IsValidPlace}
+use Rattle.sem_msg.specs.declared.call.Call.{Call}
+use Rattle.sem_msg.specs.declared.call.Call.TheVariants.{Derive, Gate, Obtain, Delegate, OpenSession, AskOffer, Revoke, Bind, Read, Write, Send as SendCall, Credit, Exit}
+use Rattle.sem_msg.specs.Calls.{IsValidCall}
+use Rattle.sem_msg.specs.declared.message.Target.{Target}
+use Rattle.sem_msg.specs.declared.message.Target.TheVariants.{Sel as SelTarget, Serv as ServTarget, Offer as OfferTarget}
+use Rattle.sem_msg.specs.declared.message.Message.{Message}
+use Rattle.sem_msg.specs.declared.message.Message.TheVariants.{ObtainReq, ObtainOk, ObtainNo, DelegateReq, DelegatePrepared, DelegateNo, Ack, Orphan, RevokeReq, RevokeDone, Unlink}
+use Rattle.sem_msg.specs.declared.event.Act.{Act}
+use Rattle.sem_msg.specs.declared.event.Act.TheVariants.{Call as Calls, Fetch, Handle, Upcall, Resume, Flush, Kill}
+use Rattle.sem_msg.specs.declared.entry.Consent.{Consent}
+use Rattle.sem_msg.specs.declared.entry.Consent.TheVariants.{Yes, No, Dropped}
+use Rattle.sem_msg.specs.declared.entry.Detail.{Detail}
+use Rattle.sem_msg.specs.declared.entry.Detail.TheVariants.{Called, Carried, Asked, Nothing}
+use Rattle.sem_msg.specs.declared.entry.Reply.{Reply}
+use Rattle.sem_msg.specs.declared.entry.Entry.{Entry}
+use Rattle.sem_text.specs.Number.{number_value}
+use Rattle.sem_trace.specs.Places.{Fills}
+use Rattle.sem_trace.specs.Words.{key_word, place_word, object_words, call_words}
+use Rattle.sem_trace.specs.Declarations.{call_from}
+use Rattle.sem_journal.specs.EntryText.{target_words, message_words, act_words, detail_words, consent_word, grant_words, cut_words, reply_words, entry_words}
+use Rattle.sem_journal.specs.EntryForms.{objects, event_form}
+use Rattle.sem_journal.specs.EntryRanges.{ObjectFits, TargetFits, MessageFits, EventFits, GrantFits, CutFits, ReplyFits, EntryFits}
+use Rattle.sem_journal.proofs.EntryParts.{behind_filled}
+use Rattle.sem_journal.proofs.PrintedPlaces.{value, kind_most, key_parts, place_parts}
+use Rattle.sem_journal.proofs.PrintedEntries.{event_filled, words_are}
+use Rattle.sem_journal.proofs.EntryFrom.{kind_from, key_from, place_from, object_from, behind_object, target_from, message_from, act_from, consent_from, detail_from, grant_from, past_grant, cut_from, past_cut, reply_from, past_event, entry_from}
+
+small : (n : ℕ) → n ≤ 4294967295 → number_value (decimal n) ≡ n
+small n fits = value n (omega arith)
+
+kind_of_number : (kind : Kind) → kind_from (kind_number kind) ≡ kind
+unfolding kind_from
+kind_of_number MemKind = refl
+kind_of_number RecvKind = refl
+kind_of_number SendKind = refl
+kind_of_number ServKind = refl
+kind_of_number SessKind = refl
+
+kind_read : (kind : Kind) → kind_from (number_value (decimal (kind_number kind))) ≡ kind
+kind_read kind = ap kind_from (small (kind_number kind) (omega (arith, kind_most kind))) ∙ kind_of_number kind
+
+key_read : (k : KeyName) → IsValidKey k → key_from (key_word k) ≡ k
+unfolding key_from
+key_read k valid = rw (key_parts k valid, small k.pe (omega (arith, valid.0)), small k.vpe (omega (arith, valid.1)), small k.number (omega (arith, valid.2)), kind_read k.kind) refl
+
+place_read : (p : PlaceName) → IsValidPlace p → place_from (place_word p) ≡ p
+unfolding place_from
+place_read p valid = rw (place_parts p valid, small p.pe (omega (arith, valid.0)), small p.vpe (omega (arith, valid.1)), small p.number (omega (arith, valid.2))) refl
+
+object_read : (o : Object) (rest : List (List ℕ)) → ObjectFits o → object_from (object_words o ++ rest) ≡ o
+unfolding object_from
+object_read (Mem base len rights) rest fits = rw (small base fits.0, small len fits.1, small rights (omega (arith, fits.2))) refl
+object_read (Recv slots) rest fits = rw (small slots (omega (arith, fits.1))) refl
+object_read (Send gate label credits) rest fits = rw (key_read gate fits.0, small label fits.1, small credits (omega (arith, fits.3))) refl
+object_read (Serv name) rest fits = rw (small name (omega (arith, fits))) refl
+object_read (Sess service ident) rest fits = rw (key_read service fits.0, small ident (omega (arith, fits.1))) refl
+
+past_object : (o : Object) (rest : List (List ℕ)) → behind_object (object_words o ++ rest) ≡ rest
+unfolding behind_object objects
+past_object (Mem base len rights) rest = refl
+past_object (Recv slots) rest = refl
+past_object (Send gate label credits) rest = refl
+past_object (Serv name) rest = refl
+past_object (Sess service ident) rest = refl
+
+target_read : (t : Target) (rest : List (List ℕ)) → TargetFits t → target_from (target_words t ++ rest) ≡ t
+unfolding target_from
+target_read (SelTarget vpe sel) rest fits = rw (small vpe (omega (arith, fits.0)), small sel (omega (arith, fits.1))) refl
+target_read (ServTarget service) rest fits = rw (key_read service fits) refl
+target_read (OfferTarget service index) rest fits = rw (key_read service fits.0, small index (omega (arith, fits.1))) refl
+
+call_read : (c : Call) (rest : List (List ℕ)) → IsValidCall c → call_from (call_words c ++ rest) ≡ c
+unfolding call_from
+call_read (Derive src dst off len rights) rest valid = rw (small src (omega (arith, valid.0)), small dst (omega (arith, valid.1)), small off (omega (arith, valid.2)), small len (omega (arith, valid.3)), small rights (omega (arith, valid.4))) refl
+call_read (Gate src dst label credits) rest valid = rw (small src (omega (arith, valid.0)), small dst (omega (arith, valid.1)), small label (omega (arith, valid.2)), small credits (omega (arith, valid.4))) refl
+call_read (Obtain dst vpe src) rest valid = rw (small dst (omega (arith, valid.0)), small vpe (omega (arith, valid.1)), small src (omega (arith, valid.2))) refl
+call_read (Delegate src vpe dst) rest valid = rw (small src (omega (arith, valid.0)), small vpe (omega (arith, valid.1)), small dst (omega (arith, valid.2))) refl
+call_read (OpenSession dst name) rest valid = rw (small dst (omega (arith, valid.0)), small name (omega (arith, valid.1))) refl
+call_read (AskOffer dst session index) rest valid = rw (small dst (omega (arith, valid.0)), small session (omega (arith, valid.1)), small index (omega (arith, valid.2))) refl
+call_read (Revoke src) rest valid = rw (small src (omega (arith, valid))) refl
+call_read (Bind ep src) rest valid = rw (small ep (omega (arith, valid.0)), small src (omega (arith, valid.1))) refl
+call_read (Read ep off len) rest valid = rw (small ep (omega (arith, valid.0)), small off (omega (arith, valid.1)), small len (omega (arith, valid.2))) refl
+call_read (Write ep off len) rest valid = rw (small ep (omega (arith, valid.0)), small off (omega (arith, valid.1)), small len (omega (arith, valid.2))) refl
+call_read (SendCall ep len) rest valid = rw (small ep (omega (arith, valid.0)), small len (omega (arith, valid.1))) refl
+call_read (Credit ep) rest valid = rw (small ep (omega (arith, valid))) refl
+call_read Exit rest valid = refl
+
+message_read : (m : Message) (rest : List (List ℕ)) → MessageFits m → message_from (message_words m ++ rest) ≡ m
+unfolding message_from
+message_read (ObtainReq place target) rest fits = rw (place_read place fits.0, target_read target rest fits.1) refl
+message_read (ObtainOk parent key object) rest fits = rw (key_read parent fits.0, key_read key fits.1, object_read object rest fits.2) refl
+message_read (ObtainNo place code) rest fits = rw (place_read place fits.0, small code (omega (arith, fits.1))) refl
+message_read (DelegateReq parent object vpe sel) rest fits = rw (append_assoc (object_words object) (decimal vpe ∷ decimal sel ∷ []) rest, key_read parent fits.0, object_read object (decimal vpe ∷ decimal sel ∷ rest) fits.1, past_object object (decimal vpe ∷ decimal sel ∷ rest), small vpe (omega (arith, fits.2)), small sel (omega (arith, fits.3))) refl
+message_read (DelegatePrepared parent key) rest fits = rw (key_read parent fits.0, key_read key fits.1) refl
+message_read (DelegateNo parent code) rest fits = rw (key_read parent fits.0, small code (omega (arith, fits.1))) refl
+message_read (Ack key true) rest fits = rw (key_read key fits) refl
+message_read (Ack key false) rest fits = rw (key_read key fits) refl
+message_read (Orphan parent key) rest fits = rw (key_read parent fits.0, key_read key fits.1) refl
+message_read (RevokeReq key job) rest fits = rw (key_read key fits.0, small job fits.1) refl
+message_read (RevokeDone job) rest fits = rw (small job fits) refl
+message_read (Unlink parent key) rest fits = rw (key_read parent fits.0, key_read key fits.1) refl
+
+consent_read : (kernel name asker : List ℕ) (answer : Consent) (rest : List (List ℕ)) → consent_from (kernel ∷ name ∷ asker ∷ consent_word answer ∷ rest) 3 ≡ answer
+unfolding consent_from
+consent_read kernel name asker Yes rest = refl
+consent_read kernel name asker No rest = refl
+consent_read kernel name asker Dropped rest = refl
+
+-- the act and its detail
+event_read : (kernels : ℕ) (act : Act) (detail : Detail) (rest : List (List ℕ)) → kernels ≤ 16 → EventFits kernels act detail → (act_from (act_words act ++ detail_words detail ++ rest) ≡ act) × (detail_from (act_words act ++ detail_words detail ++ rest) ≡ detail)
+unfolding act_from detail_from
+event_read kernels (Calls v) (Called index call) rest few fits = (rw (small v (omega (arith, fits.0))) refl, rw (small index fits.1, call_read call rest fits.2) refl)
+event_read kernels (Fetch from) (Carried peer message) rest few fits = (rw (fits.0, small peer (omega (arith, fits.1))) refl, rw (small peer (omega (arith, fits.1)), message_read message rest fits.2) refl)
+event_read kernels Handle (Carried peer message) rest few fits = (refl, rw (small peer (omega (arith, fits.0)), message_read message rest fits.1) refl)
+event_read kernels (Upcall v) (Asked asker answer) rest few fits = (rw (small v (omega (arith, fits.0))) refl, rw (small asker (omega (arith, fits.1)), consent_read _ _ _ answer rest) refl)
+event_read kernels (Resume v) Nothing rest few fits = (rw (small v (omega (arith, fits))) refl, refl)
+event_read kernels (Flush to) (Carried peer message) rest few fits = (rw (fits.0, small peer (omega (arith, fits.1))) refl, rw (small peer (omega (arith, fits.1)), message_read message rest fits.2) refl)
+event_read kernels (Kill v) Nothing rest few fits = (rw (small v (omega (arith, fits))) refl, refl)
+event_read kernels (Calls v) (Carried peer message) rest few fits = absurd fits
+event_read kernels (Calls v) (Asked asker answer) rest few fits = absurd fits
+event_read kernels (Calls v) Nothing rest few fits = absurd fits
+event_read kernels (Fetch from) (Called index call) rest few fits = absurd fits
+event_read kernels (Fetch from) (Asked asker answer) rest few fits = absurd fits
+event_read kernels (Fetch from) Nothing rest few fits = absurd fits
+event_read kernels Handle (Called index call) rest few fits = absurd fits
+event_read kernels Handle (Asked asker answer) rest few fits = absurd fits
+event_read kernels Handle Nothing rest few fits = absurd fits
+event_read kernels (Upcall v) (Called index call) rest few fits = absurd fits
+event_read kernels (Upcall v) (Carried peer message) rest few fits = absurd fits
+event_read kernels (Upcall v) Nothing rest few fits = absurd fits
+event_read kernels (Resume v) (Called index call) rest few fits = absurd fits
+event_read kernels (Resume v) (Carried peer message) rest few fits = absurd fits
+event_read kernels (Resume v) (Asked asker answer) rest few fits = absurd fits
+event_read kernels (Flush to) (Called index call) rest few fits = absurd fits
+event_read kernels (Flush to) (Asked asker answer) rest few fits = absurd fits
+event_read kernels (Flush to) Nothing rest few fits = absurd fits
+event_read kernels (Kill v) (Called index call) rest few fits = absurd fits
+event_read kernels (Kill v) (Carried peer message) rest few fits = absurd fits
+event_read kernels (Kill v) (Asked asker answer) rest few fits = absurd fits
+
+grant_read : (g : Option (KeyName × KeyName)) (cut : Option KeyName) (r : Option Reply) → GrantFits g → (grant_from (grant_words g ++ cut_words cut ++ reply_words r) ≡ g) × (past_grant (grant_words g ++ cut_words cut ++ reply_words r) ≡ cut_words cut ++ reply_words r)
+unfolding grant_from past_grant
+grant_read (Some g) cut r fits = (rw (key_read g.0 fits.0, key_read g.1 fits.1) refl, refl)
+grant_read None (Some k) r fits = (refl, refl)
+grant_read None None (Some r) fits = (refl, refl)
+grant_read None None None fits = (refl, refl)
+
+cut_read : (cut : Option KeyName) (r : Option Reply) → CutFits cut → (cut_from (cut_words cut ++ reply_words r) ≡ cut) × (past_cut (cut_words cut ++ reply_words r) ≡ reply_words r)
+unfolding cut_from past_cut
+cut_read (Some k) r fits = (rw (key_read k fits) refl, refl)
+cut_read None (Some r) fits = (refl, refl)
+cut_read None None fits = (refl, refl)
+
+reply_read : (r : Option Reply) → ReplyFits r → reply_from (reply_words r) ≡ r
+unfolding reply_from
+reply_read (Some r) fits = rw (small r.vpe (omega (arith, fits.0)), small r.code (omega (arith, fits.1))) refl
+reply_read None fits = refl
+
+-- an entry by its parts
+parts_read : (kernels : ℕ) (e : Entry) (rest behind : List (List ℕ)) → kernels ≤ 16 → EntryFits kernels e → rest ≡ act_words e.event.act ++ detail_words e.detail ++ behind → behind ≡ grant_words e.grant ++ cut_words e.cut ++ reply_words e.reply → entry_from kernels (decimal e.event.kernel ∷ rest) ≡ e
+unfolding entry_from past_event
+parts_read kernels e rest behind few fits rest_is behind_is =
+    let event : Fills (event_form kernels rest) rest behind = rw rest_is (λ more. (event_filled kernels e.event.act e.detail (omega (arith, fits.kernel)) few fits.event (record { is = refl })).is) in
+    let past : drop (length (event_form kernels rest)) rest ≡ behind = behind_filled (event_form kernels rest) rest behind event in
+    let read = event_read kernels e.event.act e.detail behind few fits.event in
+    let act : act_from rest ≡ e.event.act = rw rest_is read.0 in
+    let detail : detail_from rest ≡ e.detail = rw rest_is read.1 in
+    let grant = grant_read e.grant e.cut e.reply fits.grant in
+    let cut = cut_read e.cut e.reply fits.cut in
+    let reply = reply_read e.reply fits.reply in
+    rw (past, act, detail, small e.event.kernel (omega (arith, fits.kernel)), behind_is, grant.0, grant.1, cut.0, cut.1, reply) refl
+
+entry_told : (kernels : ℕ) (e : Entry) → kernels ≤ 16 → EntryFits kernels e → entry_from kernels (entry_words e) ≡ e
+entry_told kernels e few fits = ap (entry_from kernels) (words_are e) ∙ parts_read kernels e _ _ few fits refl refl
+
+pub one_entry : (kernels : ℕ) (e f : Entry) → EntryFits kernels e → EntryFits kernels f → kernels ≤ 16 → entry_words e ≡ entry_words f → e ≡ f
+one_entry kernels e f e_fits f_fits few same = sym (entry_told kernels e few e_fits) ∙ (ap (entry_from kernels) same ∙ entry_told kernels f few f_fits)

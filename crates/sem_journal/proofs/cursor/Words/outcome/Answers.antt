@@ -1,0 +1,38 @@
+use Rattle.std.proofs.Common.{refl}
+use Rattle.std.proofs.lemmas.Result.{err_from_is_err_and}
+use Rattle.sem_trace.specs.Forms.{form_fault}
+use Rattle.sem_journal.specs.EntryForms.{behind_event}
+use Rattle.sem_journal.proofs.WordChoices.{differs}
+use Rattle.sem_journal.proofs.cursor.Words.outcome.Goals as goal
+
+pub returns-in_default-clause-fault : goal.returns-in_default-clause-fault
+unfolding form_fault behind_event
+returns-in_default-clause-fault c = rw (c.in_default.ensures) refl
+
+pub returns-then-is-clause-fault : goal.returns-then-is-clause-fault
+unfolding form_fault behind_event
+returns-then-is-clause-fault c = rw (c.in-Some.ensures, c.if-is.ensures.0 refl) c.grant.ensures.fault
+
+pub returns-in_err-key-clause-fault : goal.returns-in_err-key-clause-fault
+unfolding form_fault behind_event
+returns-in_err-key-clause-fault c =
+    let p = err_from_is_err_and c.from_residual.result c.from_residual.ensures.1 in
+    rw (p.1, p.2, c.in-Some.ensures, c.if-is-2.ensures.0 refl) c.in_err-key.ensures.fault
+
+pub returns-in_err-reply-clause-fault : goal.returns-in_err-reply-clause-fault
+unfolding form_fault behind_event
+returns-in_err-reply-clause-fault c =
+    let p = err_from_is_err_and c.from_residual-in_err-reply.result c.from_residual-in_err-reply.ensures.1 in
+    rw (p.1, p.2, c.in-Some.ensures, c.if-is-3.ensures.0 refl) c.in_err-reply.ensures.fault
+
+pub returns-in_ok-key-clause-fault : goal.returns-in_ok-key-clause-fault
+unfolding form_fault behind_event
+returns-in_ok-key-clause-fault c = rw (c.in-Some.ensures, c.if-is-2.ensures.0 refl) c.in_ok-key.ensures.fault
+
+pub returns-in_ok-reply-clause-fault : goal.returns-in_ok-reply-clause-fault
+unfolding form_fault behind_event
+returns-in_ok-reply-clause-fault c = rw (c.in-Some.ensures, c.if-is-3.ensures.0 refl) c.in_ok-reply.ensures.fault
+
+pub returns-else-is-3-clause-fault : goal.returns-else-is-3-clause-fault
+unfolding form_fault behind_event
+returns-else-is-3-clause-fault c = rw (c.in-Some.ensures, differs _ _ c.if-is.ensures, differs _ _ c.if-is-2.ensures, differs _ _ c.if-is-3.ensures) refl

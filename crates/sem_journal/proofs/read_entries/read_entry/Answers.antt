@@ -1,0 +1,50 @@
+use Rattle.std.proofs.Common.{◌≡◌, ◌∙◌, sym, ap, arith}
+use Rattle.std.proofs.lemmas.Result.{err_from_is_err_and}
+use Rattle.sem_trace.specs.TextLines.{words_of}
+use Rattle.sem_msg.specs.declared.entry.Entry.{Entry}
+use Rattle.sem_journal.specs.EntryText.{entry_words}
+use Rattle.sem_journal.specs.EntryForms.{has_long_memory}
+use Rattle.sem_journal.proofs.LongMemory.{long_entry}
+use Rattle.sem_journal.proofs.EntryParts.{entry, entry_is, kernel_fault, event_fault, outcome_fault, fault_behind, long_fault, no_fault}
+use Rattle.sem_journal.proofs.read_entries.read_entry.Goals as goal
+
+pub returns-in_err-kernel-clause-fault : goal.returns-in_err-kernel-clause-fault
+returns-in_err-kernel-clause-fault c =
+    let p = err_from_is_err_and c.from_residual.result c.from_residual.ensures.1 in
+    rw (p.1, p.2) (kernel_fault c.args.kernels (words_of c.args.line.now) c.kernel_range.result _ c.kernel_range.ensures.least c.kernel_range.ensures.most c.in_err-kernel.ensures.err)
+
+pub returns-in_err-act-clause-fault : goal.returns-in_err-act-clause-fault
+returns-in_err-act-clause-fault c =
+    let p = err_from_is_err_and c.from_residual-in_err-act.result c.from_residual-in_err-act.ensures.1 in
+    rw (p.1, p.2) (event_fault c.args.kernels (words_of c.args.line.now) _ c.kernel_range.result _ c.kernel_range.ensures.least c.kernel_range.ensures.most c.in_ok-kernel.ensures.ok c.in_err-act.ensures.err)
+
+pub returns-in_err-outcome-clause-fault : goal.returns-in_err-outcome-clause-fault
+returns-in_err-outcome-clause-fault c =
+    let p = err_from_is_err_and c.from_residual-in_err-outcome.result c.from_residual-in_err-outcome.ensures.1 in
+    rw (p.1, p.2) (fault_behind c.args.kernels (words_of c.args.line.now) _ (outcome_fault c.args.kernels (words_of c.args.line.now) _ _ c.kernel_range.result c.kernel_range.ensures.least c.kernel_range.ensures.most c.in_ok-kernel.ensures.ok c.in_ok-act.ensures.ok ∙ c.in_err-outcome.ensures.fault))
+
+pub returns-then-carries_long-clause-fault : goal.returns-then-carries_long-clause-fault
+returns-then-carries_long-clause-fault c =
+    let e : Entry = entry c.in_ok-kernel.kernel c.in_ok-act.act c.in_ok-act.detail c.in_ok-outcome.outcome in
+    let words : words_of c.args.line.now ≡ entry_words e = c.in_ok-kernel.ensures.printed ∙ entry_is c.in_ok-kernel.kernel c.in_ok-act.act c.in_ok-act.detail c.in_ok-outcome.outcome _ _ c.in_ok-act.ensures.printed c.in_ok-outcome.ensures.printed in
+    let fits = outcome_fault c.args.kernels (words_of c.args.line.now) _ _ c.kernel_range.result c.kernel_range.ensures.least c.kernel_range.ensures.most c.in_ok-kernel.ensures.ok c.in_ok-act.ensures.ok ∙ c.in_ok-outcome.ensures.fault in
+    long_fault c.args.kernels (words_of c.args.line.now) fits (ap has_long_memory words ∙ (long_entry c.args.kernels e c.in_ok-act.ensures.fits ∙ sym c.if-carries_long.ensures))
+
+pub returns-clause-fault : goal.returns-clause-fault
+returns-clause-fault c =
+    let e : Entry = entry c.in_ok-kernel.kernel c.in_ok-act.act c.in_ok-act.detail c.in_ok-outcome.outcome in
+    let words : words_of c.args.line.now ≡ entry_words e = c.in_ok-kernel.ensures.printed ∙ entry_is c.in_ok-kernel.kernel c.in_ok-act.act c.in_ok-act.detail c.in_ok-outcome.outcome _ _ c.in_ok-act.ensures.printed c.in_ok-outcome.ensures.printed in
+    let fits = outcome_fault c.args.kernels (words_of c.args.line.now) _ _ c.kernel_range.result c.kernel_range.ensures.least c.kernel_range.ensures.most c.in_ok-kernel.ensures.ok c.in_ok-act.ensures.ok ∙ c.in_ok-outcome.ensures.fault in
+    no_fault c.args.kernels (words_of c.args.line.now) fits (ap has_long_memory words ∙ (long_entry c.args.kernels e c.in_ok-act.ensures.fits ∙ sym c.if-carries_long.ensures))
+
+pub returns-clause-fits : goal.returns-clause-fits
+returns-clause-fits c =
+    let e : Entry = entry c.in_ok-kernel.kernel c.in_ok-act.act c.in_ok-act.detail c.in_ok-outcome.outcome in
+    record {
+      kernel = omega (arith, c.kernel_range.ensures.most, c.in_ok-kernel.ensures.within.most, c.requires);
+      event = c.in_ok-act.ensures.fits;
+      grant = c.in_ok-outcome.ensures.fits.grant;
+      cut = c.in_ok-outcome.ensures.fits.cut;
+      reply = c.in_ok-outcome.ensures.fits.reply;
+      memory = long_entry c.args.kernels e c.in_ok-act.ensures.fits ∙ sym c.if-carries_long.ensures;
+    }

@@ -1,0 +1,10 @@
+use sem_key::Key;
+use sem_msg::Reply;
+
+/// What came of an event: what was granted, cut and replied.
+#[derive(Clone, Copy, Debug)]
+pub struct Outcome {
+    pub grant: Option<(Key, Key)>,
+    pub cut: Option<Key>,
+    pub reply: Option<Reply>,
+}

@@ -1,0 +1,352 @@
+// Entries, read from the left.
+ghost use Rattle.std.specs.Prelude.{◌≡◌, ℕ, ◌-◌, ◌<◌, ◌≤◌, [], ◌∷◌, ◌++◌, drop, codes, decimal, Some, IfOk, IfErr, OnOk};
+ghost use Rattle.std.specs.Result.{result_err};
+ghost use Rattle.sem_trace.specs.TextLines.{words_of};
+ghost use Rattle.sem_trace.specs.Forms.{form_fault, choice, word_at, node, word, key as key_lem, calls};
+ghost use Rattle.sem_trace.specs.Forms.Place.{Word};
+ghost use Rattle.sem_trace.specs.Places.{Fills, Fails};
+ghost use Rattle.sem_journal.specs.EntryText.{message_words, act_words, consent_word, detail_words, cut_words, reply_words, entry_words};
+ghost use Rattle.sem_journal.specs.EntryForms.{kernel as kernel_lem, code as code_lem, message_form, event_form, behind_cut, behind_grant, behind_event, entry_fault};
+ghost use Rattle.sem_journal.specs.Outcomes.{outcome_words, OutcomeFits, is_long as is_long_lem, carries_long as carries_long_lem};
+ghost use Rattle.sem_journal.specs.EntryRanges.{MessageFits, EventFits, ReplyFits, CutFits, EntryFits};
+
+use crate::cursor::Words;
+use crate::outcome::Outcome;
+use crate::read_message::CODE;
+use sem_key::{Key, Object};
+use sem_msg::{Act, Consent, Detail, Entry, Event, Message, Reply};
+use sem_trace::{Cause, NODE, Range, WORD, is, no_more};
+
+// Nothing came of it.
+const NOTHING: Outcome = Outcome {
+    grant: None,
+    cut: None,
+    reply: None,
+};
+
+// One of so many kernels.
+fn kernel_range(kernels: u32) -> Range
+    requires { 1 ≤ kernels }
+    ensures least { result.least ≡ 0 }
+    ensures most { result.most ≡ kernels - 1 }
+{
+    Range {
+        least: 0,
+        most: u64::from(kernels) - 1,
+    }
+}
+
+impl Words<'_> {
+    fn call_event(&mut self) -> Result<(Act, Detail), Cause>
+        ensures ok { OnOk result (Fills (node ∷ word ∷ choice calls (word_at (words_of self.old.rest.now) 2)) (words_of self.old.rest.now) (words_of self.new.rest.now)) }
+        ensures err { IfErr result (Fails (node ∷ word ∷ choice calls (word_at (words_of self.old.rest.now) 2)) (words_of self.old.rest.now)) }
+        ensures printed { IfOk result (λ p. codes "call" ∷ words_of self.old.rest.now ≡ act_words p.0 ++ detail_words p.1 ++ words_of self.new.rest.now) }
+        ensures fits { (kernels : ℕ) → IfOk result (λ p. EventFits kernels p.0 p.1) }
+    {
+        let [vpe, index, ..] = self.numbers(&[NODE, WORD])?;
+        let call = self.call()?;
+        let act = Act::Call { vpe: vpe as u16 };
+        let detail = Detail::Called {
+            index: index as u32,
+            call,
+        };
+        Ok((act, detail))
+    }
+
+    // A message, behind its other kernel.
+    fn carried(&mut self, kernels: u32) -> Result<(u32, Message), Cause>
+        requires { 1 ≤ kernels }
+        ensures ok { OnOk result (Fills (kernel_lem kernels ∷ message_form (drop 1 (words_of self.old.rest.now))) (words_of self.old.rest.now) (words_of self.new.rest.now)) }
+        ensures err { IfErr result (Fails (kernel_lem kernels ∷ message_form (drop 1 (words_of self.old.rest.now))) (words_of self.old.rest.now)) }
+        ensures printed { IfOk result (λ p. words_of self.old.rest.now ≡ decimal p.0 ∷ message_words p.1 ++ words_of self.new.rest.now) }
+        ensures peer { IfOk result (λ p. p.0 < kernels) }
+        ensures fits { IfOk result (λ p. MessageFits p.1) }
+    {
+        let peer = self.number(kernel_range(kernels))?;
+        let message = self.message()?;
+        Ok((peer as u32, message))
+    }
+
+    fn fetch_event(&mut self, kernels: u32) -> Result<(Act, Detail), Cause>
+        requires { 1 ≤ kernels }
+        ensures ok { OnOk result (Fills (kernel_lem kernels ∷ message_form (drop 1 (words_of self.old.rest.now))) (words_of self.old.rest.now) (words_of self.new.rest.now)) }
+        ensures err { IfErr result (Fails (kernel_lem kernels ∷ message_form (drop 1 (words_of self.old.rest.now))) (words_of self.old.rest.now)) }
+        ensures printed { IfOk result (λ p. codes "fetch" ∷ words_of self.old.rest.now ≡ act_words p.0 ++ detail_words p.1 ++ words_of self.new.rest.now) }
+        ensures fits { IfOk result (λ p. EventFits kernels p.0 p.1) }
+    {
+        let (peer, message) = self.carried(kernels)?;
+        Ok((Act::Fetch { from: peer }, Detail::Carried { peer, message }))
+    }
+
+    fn handle_event(&mut self, kernels: u32) -> Result<(Act, Detail), Cause>
+        requires { 1 ≤ kernels }
+        ensures ok { OnOk result (Fills (kernel_lem kernels ∷ message_form (drop 1 (words_of self.old.rest.now))) (words_of self.old.rest.now) (words_of self.new.rest.now)) }
+        ensures err { IfErr result (Fails (kernel_lem kernels ∷ message_form (drop 1 (words_of self.old.rest.now))) (words_of self.old.rest.now)) }
+        ensures printed { IfOk result (λ p. codes "handle" ∷ words_of self.old.rest.now ≡ act_words p.0 ++ detail_words p.1 ++ words_of self.new.rest.now) }
+        ensures fits { IfOk result (λ p. EventFits kernels p.0 p.1) }
+    {
+        let (peer, message) = self.carried(kernels)?;
+        Ok((Act::Handle, Detail::Carried { peer, message }))
+    }
+
+    fn flush_event(&mut self, kernels: u32) -> Result<(Act, Detail), Cause>
+        requires { 1 ≤ kernels }
+        ensures ok { OnOk result (Fills (kernel_lem kernels ∷ message_form (drop 1 (words_of self.old.rest.now))) (words_of self.old.rest.now) (words_of self.new.rest.now)) }
+        ensures err { IfErr result (Fails (kernel_lem kernels ∷ message_form (drop 1 (words_of self.old.rest.now))) (words_of self.old.rest.now)) }
+        ensures printed { IfOk result (λ p. codes "flush" ∷ words_of self.old.rest.now ≡ act_words p.0 ++ detail_words p.1 ++ words_of self.new.rest.now) }
+        ensures fits { IfOk result (λ p. EventFits kernels p.0 p.1) }
+    {
+        let (peer, message) = self.carried(kernels)?;
+        Ok((Act::Flush { to: peer }, Detail::Carried { peer, message }))
+    }
+
+    // The answer to an ask.
+    fn consent(&mut self) -> Result<Consent, Cause>
+        ensures ok { OnOk result (Fills (Word (codes "yes" ∷ codes "no" ∷ codes "drop" ∷ []) ∷ []) (words_of self.old.rest.now) (words_of self.new.rest.now)) }
+        ensures err { IfErr result (Fails (Word (codes "yes" ∷ codes "no" ∷ codes "drop" ∷ []) ∷ []) (words_of self.old.rest.now)) }
+        ensures printed { IfOk result (λ answer. words_of self.old.rest.now ≡ consent_word answer ∷ words_of self.new.rest.now) }
+    {
+        let answer = self.word()?;
+        if is(answer, b"yes") {
+            Ok(Consent::Yes)
+        } else if is(answer, b"no") {
+            Ok(Consent::No)
+        } else if is(answer, b"drop") {
+            Ok(Consent::Dropped)
+        } else {
+            Err(Cause::UnknownWord)
+        }
+    }
+
+    fn upcall_event(&mut self) -> Result<(Act, Detail), Cause>
+        ensures ok { OnOk result (Fills (node ∷ node ∷ Word (codes "yes" ∷ codes "no" ∷ codes "drop" ∷ []) ∷ []) (words_of self.old.rest.now) (words_of self.new.rest.now)) }
+        ensures err { IfErr result (Fails (node ∷ node ∷ Word (codes "yes" ∷ codes "no" ∷ codes "drop" ∷ []) ∷ []) (words_of self.old.rest.now)) }
+        ensures printed { IfOk result (λ p. codes "upcall" ∷ words_of self.old.rest.now ≡ act_words p.0 ++ detail_words p.1 ++ words_of self.new.rest.now) }
+        ensures fits { (kernels : ℕ) → IfOk result (λ p. EventFits kernels p.0 p.1) }
+    {
+        let [vpe, asker, ..] = self.numbers(&[NODE, NODE])?;
+        let answer = self.consent()?;
+        let act = Act::Upcall { vpe: vpe as u16 };
+        let detail = Detail::Asked {
+            asker: asker as u16,
+            answer,
+        };
+        Ok((act, detail))
+    }
+
+    fn resume_event(&mut self) -> Result<(Act, Detail), Cause>
+        ensures ok { OnOk result (Fills (node ∷ []) (words_of self.old.rest.now) (words_of self.new.rest.now)) }
+        ensures err { IfErr result (Fails (node ∷ []) (words_of self.old.rest.now)) }
+        ensures printed { IfOk result (λ p. codes "resume" ∷ words_of self.old.rest.now ≡ act_words p.0 ++ detail_words p.1 ++ words_of self.new.rest.now) }
+        ensures fits { (kernels : ℕ) → IfOk result (λ p. EventFits kernels p.0 p.1) }
+    {
+        let vpe = self.number(NODE)?;
+        Ok((Act::Resume { vpe: vpe as u16 }, Detail::Nothing))
+    }
+
+    fn kill_event(&mut self) -> Result<(Act, Detail), Cause>
+        ensures ok { OnOk result (Fills (node ∷ []) (words_of self.old.rest.now) (words_of self.new.rest.now)) }
+        ensures err { IfErr result (Fails (node ∷ []) (words_of self.old.rest.now)) }
+        ensures printed { IfOk result (λ p. codes "kill" ∷ words_of self.old.rest.now ≡ act_words p.0 ++ detail_words p.1 ++ words_of self.new.rest.now) }
+        ensures fits { (kernels : ℕ) → IfOk result (λ p. EventFits kernels p.0 p.1) }
+    {
+        let vpe = self.number(NODE)?;
+        Ok((Act::Kill { vpe: vpe as u16 }, Detail::Nothing))
+    }
+
+    // The next words, which are an event.
+    fn event(&mut self, kernels: u32) -> Result<(Act, Detail), Cause>
+        requires { 1 ≤ kernels }
+        ensures ok { OnOk result (Fills (event_form kernels (words_of self.old.rest.now)) (words_of self.old.rest.now) (words_of self.new.rest.now)) }
+        ensures err { IfErr result (Fails (event_form kernels (words_of self.old.rest.now)) (words_of self.old.rest.now)) }
+        ensures printed { IfOk result (λ p. words_of self.old.rest.now ≡ act_words p.0 ++ detail_words p.1 ++ words_of self.new.rest.now) }
+        ensures fits { IfOk result (λ p. EventFits kernels p.0 p.1) }
+    {
+        let name = self.word()?;
+        if is(name, b"call") {
+            self.call_event()
+        } else if is(name, b"fetch") {
+            self.fetch_event(kernels)
+        } else if is(name, b"handle") {
+            self.handle_event(kernels)
+        } else if is(name, b"upcall") {
+            self.upcall_event()
+        } else if is(name, b"resume") {
+            self.resume_event()
+        } else if is(name, b"flush") {
+            self.flush_event(kernels)
+        } else if is(name, b"kill") {
+            self.kill_event()
+        } else {
+            Err(Cause::UnknownWord)
+        }
+    }
+
+    // The two numbers of a reply.
+    fn reply_numbers(&mut self) -> Result<Reply, Cause>
+        ensures ok { OnOk result (Fills (node ∷ code_lem ∷ []) (words_of self.old.rest.now) (words_of self.new.rest.now)) }
+        ensures err { IfErr result (Fails (node ∷ code_lem ∷ []) (words_of self.old.rest.now)) }
+        ensures printed { IfOk result (λ r. codes "reply" ∷ words_of self.old.rest.now ≡ reply_words (Some r) ++ words_of self.new.rest.now) }
+        ensures fits { IfOk result (λ r. ReplyFits (Some r)) }
+    {
+        let [vpe, code, ..] = self.numbers(&[NODE, CODE])?;
+        Ok(Reply {
+            vpe: vpe as u16,
+            code: code as u8,
+        })
+    }
+
+    // What stands behind the name of a reply.
+    fn reply(&mut self) -> Result<Reply, Cause>
+        ensures fault { form_fault (node ∷ code_lem ∷ []) (words_of self.old.rest.now) ≡ result_err result }
+        ensures printed { IfOk result (λ r. codes "reply" ∷ words_of self.old.rest.now ≡ reply_words (Some r)) }
+        ensures fits { IfOk result (λ r. ReplyFits (Some r)) }
+    {
+        let reply = self.reply_numbers()?;
+        no_more(self.rest)?;
+        Ok(reply)
+    }
+
+    // What stands behind a cut.
+    fn behind_cut(&mut self) -> Result<Option<Reply>, Cause>
+        ensures fault { form_fault (behind_cut (words_of self.old.rest.now)) (words_of self.old.rest.now) ≡ result_err result }
+        ensures printed { IfOk result (λ r. words_of self.old.rest.now ≡ reply_words r) }
+        ensures fits { IfOk result ReplyFits }
+    {
+        let Some(name) = self.next_word() else {
+            return Ok(None);
+        };
+        if is(name, b"reply") {
+            let reply = self.reply()?;
+            Ok(Some(reply))
+        } else {
+            Err(Cause::UnknownWord)
+        }
+    }
+
+    // What stands behind the name of a cut.
+    fn cut(&mut self) -> Result<(Key, Option<Reply>), Cause>
+        ensures fault { form_fault (key_lem ∷ behind_cut (drop 1 (words_of self.old.rest.now))) (words_of self.old.rest.now) ≡ result_err result }
+        ensures printed { IfOk result (λ p. codes "cut" ∷ words_of self.old.rest.now ≡ cut_words (Some p.0) ++ reply_words p.1) }
+        ensures cut { IfOk result (λ p. CutFits (Some p.0)) }
+        ensures reply { IfOk result (λ p. ReplyFits p.1) }
+    {
+        let key = self.key()?;
+        let reply = self.behind_cut()?;
+        Ok((key, reply))
+    }
+
+    // What stands behind a grant.
+    fn behind_grant(&mut self) -> Result<(Option<Key>, Option<Reply>), Cause>
+        ensures fault { form_fault (behind_grant (words_of self.old.rest.now)) (words_of self.old.rest.now) ≡ result_err result }
+        ensures printed { IfOk result (λ p. words_of self.old.rest.now ≡ cut_words p.0 ++ reply_words p.1) }
+        ensures cut { IfOk result (λ p. CutFits p.0) }
+        ensures reply { IfOk result (λ p. ReplyFits p.1) }
+    {
+        let Some(name) = self.next_word() else {
+            return Ok((None, None));
+        };
+        if is(name, b"cut") {
+            let (key, reply) = self.cut()?;
+            Ok((Some(key), reply))
+        } else if is(name, b"reply") {
+            let reply = self.reply()?;
+            Ok((None, Some(reply)))
+        } else {
+            Err(Cause::UnknownWord)
+        }
+    }
+
+    // What stands behind the name of a grant.
+    fn grant(&mut self) -> Result<Outcome, Cause>
+        ensures fault { form_fault (key_lem ∷ key_lem ∷ behind_grant (drop 2 (words_of self.old.rest.now))) (words_of self.old.rest.now) ≡ result_err result }
+        ensures printed { IfOk result (λ o. codes "grant" ∷ words_of self.old.rest.now ≡ outcome_words o) }
+        ensures fits { IfOk result OutcomeFits }
+    {
+        let (parent, child) = self.two_keys()?;
+        let (cut, reply) = self.behind_grant()?;
+        Ok(Outcome {
+            grant: Some((parent, child)),
+            cut,
+            reply,
+        })
+    }
+
+    // What stands behind an event.
+    fn outcome(&mut self) -> Result<Outcome, Cause>
+        ensures fault { form_fault (behind_event (words_of self.old.rest.now)) (words_of self.old.rest.now) ≡ result_err result }
+        ensures printed { IfOk result (λ o. words_of self.old.rest.now ≡ outcome_words o) }
+        ensures fits { IfOk result OutcomeFits }
+    {
+        let Some(name) = self.next_word() else {
+            return Ok(NOTHING);
+        };
+        if is(name, b"grant") {
+            self.grant()
+        } else if is(name, b"cut") {
+            let (key, reply) = self.cut()?;
+            Ok(Outcome {
+                cut: Some(key),
+                reply,
+                ..NOTHING
+            })
+        } else if is(name, b"reply") {
+            let reply = self.reply()?;
+            Ok(Outcome {
+                reply: Some(reply),
+                ..NOTHING
+            })
+        } else {
+            Err(Cause::UnknownWord)
+        }
+    }
+}
+
+// Whether it is memory that ends past 2 ^ 32.
+fn is_long(object: &Object) -> bool
+    ensures { result ≡ is_long_lem object.now }
+{
+    match object {
+        Object::Mem { base, len, .. } => u64::from(*base) + u64::from(*len) > 4294967296,
+        _ => false,
+    }
+}
+
+// Whether such memory is carried.
+fn carries_long(detail: &Detail) -> bool
+    ensures { result ≡ carries_long_lem detail.now }
+{
+    match detail {
+        Detail::Carried {
+            message: Message::ObtainOk { object, .. } | Message::DelegateReq { object, .. },
+            ..
+        } => is_long(object),
+        _ => false,
+    }
+}
+
+/// The entry that the words of a line tell, where there are so many kernels, at least 1. Takes no memory.
+pub fn read_entry(line: &[u8], kernels: u32) -> Result<Entry, Cause>
+    requires { 1 ≤ kernels }
+    ensures fault { entry_fault kernels (words_of line.now) ≡ result_err result }
+    ensures printed { IfOk result (λ e. words_of line.now ≡ entry_words e) }
+    ensures fits { IfOk result (EntryFits kernels) }
+{
+    let mut words = Words { rest: line };
+    let kernel = words.number(kernel_range(kernels))?;
+    let (act, detail) = words.event(kernels)?;
+    let outcome = words.outcome()?;
+    if carries_long(&detail) {
+        return Err(Cause::OutOfRange);
+    }
+    Ok(Entry {
+        event: Event {
+            kernel: kernel as u32,
+            act,
+        },
+        detail,
+        grant: outcome.grant,
+        cut: outcome.cut,
+        reply: outcome.reply,
+    })
+}

@@ -1,0 +1,168 @@
+// Keys and places: numbers with points between.
+ghost use Rattle.std.specs.Prelude.{◌≡◌, ℕ, ◌≤◌, ◌==◌, true, false, length, List, [], ◌∷◌, decimal, IfOk, IfErr, MatchOption};
+ghost use Rattle.std.specs.List.{position_or_len};
+ghost use Rattle.std.specs.Result.{result_err};
+ghost use Rattle.sem_key.specs.KeyName.{IsValidKey, kind_number};
+ghost use Rattle.sem_key.specs.PlaceName.{IsValidPlace};
+ghost use Rattle.sem_trace.specs.TextLines.{words_of};
+ghost use Rattle.sem_trace.specs.Words.{key_word, place_word};
+ghost use Rattle.sem_trace.specs.Forms.{place_fault, parts_of, are_numbers, is_between, key as key_lem, key_place};
+ghost use Rattle.sem_text.specs.Number.{is_number as is_number_lem};
+ghost use Rattle.sem_trace.specs.declared.fault.Cause.TheVariants.{BadNumber, OutOfRange};
+ghost use Rattle.sem_trace.specs.Places.{Fills, Fails, IsWithin, bounds};
+
+use crate::fault::Cause;
+use crate::forms::{NODE, Range, first_word, number_in};
+use sem_key::{Key, Kind, Place};
+use sem_text::{NumberFault, number};
+
+/// The number of a kind.
+const KIND: Range = Range { least: 1, most: 5 };
+
+/// A number that a VPE has drawn.
+const DRAWN: Range = Range {
+    least: 0,
+    most: 4095,
+};
+
+// How many bytes come before the first point, or in all.
+fn front_len(text: &[u8]) -> usize
+    ensures within { result ≤ length text.now }
+    ensures first { result ≡ position_or_len (λ b. b == 46) text.now }
+{
+    text.iter().take_while(|byte| **byte != b'.').count()
+}
+
+// What stands before the first point and what stands behind it.
+fn split_point(text: &[u8]) -> Option<(&[u8], &[u8])>
+    ensures { MatchOption result (parts_of text.now ≡ text.now ∷ []) (λ p. parts_of text.now ≡ p.0.now ∷ parts_of p.1.now) }
+{
+    let end = front_len(text);
+    if end == text.len() {
+        return None;
+    }
+    let (front, rest) = text.split_at(end);
+    let (_, behind) = rest.split_at(1);
+    Some((front, behind))
+}
+
+// Whether the word is a number.
+fn is_number(word: &[u8]) -> bool
+    ensures { result ≡ is_number_lem word.now }
+{
+    !matches!(number(word, u64::MAX), Err(NumberFault::Bad))
+}
+
+// The number before the first point and what stands behind it.
+fn first_part(text: &[u8]) -> Result<(&[u8], &[u8]), Cause>
+    ensures parts { IfOk result (λ p. parts_of text.now ≡ p.0.now ∷ parts_of p.1.now) }
+    ensures number { IfOk result (λ p. is_number_lem p.0.now ≡ true) }
+    ensures cause { IfErr result (λ cause. cause ≡ BadNumber) }
+    ensures err { IfErr result (λ _. (a b : ℕ × ℕ) (ranges : List (ℕ × ℕ)) → are_numbers (a ∷ b ∷ ranges) (parts_of text.now) ≡ false) }
+{
+    let Some((part, rest)) = split_point(text) else {
+        return Err(Cause::BadNumber);
+    };
+    if is_number(part) {
+        Ok((part, rest))
+    } else {
+        Err(Cause::BadNumber)
+    }
+}
+
+// The last number.
+fn last_part(text: &[u8]) -> Result<&[u8], Cause>
+    ensures part { IfOk result (λ part. parts_of text.now ≡ part.now ∷ []) }
+    ensures number { IfOk result (λ part. is_number_lem part.now ≡ true) }
+    ensures cause { IfErr result (λ cause. cause ≡ BadNumber) }
+    ensures err { IfErr result (λ _. (a : ℕ × ℕ) → are_numbers (a ∷ []) (parts_of text.now) ≡ false) }
+{
+    if is_number(text) {
+        Ok(text)
+    } else {
+        Err(Cause::BadNumber)
+    }
+}
+
+// The number of a part, if it is in its range.
+fn part_in(part: &[u8], range: Range) -> Result<u64, Cause>
+    requires { is_number_lem part.now ≡ true }
+    ensures ok { IfOk result (λ _. is_between (bounds range) part.now ≡ true) }
+    ensures within { IfOk result (λ value. IsWithin range value) }
+    ensures printed { IfOk result (λ value. part.now ≡ decimal value) }
+    ensures cause { IfErr result (λ cause. cause ≡ OutOfRange) }
+    ensures err { IfErr result (λ _. is_between (bounds range) part.now ≡ false) }
+{
+    number_in(part, range)
+}
+
+// The kind of that number, 1 to 5.
+fn kind(number: u64) -> Kind
+    requires least { 1 ≤ number }
+    requires most { number ≤ 5 }
+    ensures { kind_number result ≡ number }
+{
+    match number {
+        1 => Kind::Mem,
+        2 => Kind::Recv,
+        3 => Kind::Send,
+        4 => Kind::Serv,
+        _ => Kind::Sess,
+    }
+}
+
+// The key that the word is.
+#[tactic(auto, unfolding(crate::specs::Forms::are_numbers, crate::specs::Forms::are_within))]
+fn key(word: &[u8]) -> Result<Key, Cause>
+    ensures fault { place_fault key_lem word.now ≡ result_err result }
+    ensures printed { IfOk result (λ k. word.now ≡ key_word k) }
+{
+    let (pe, rest) = first_part(word)?;
+    let (vpe, rest) = first_part(rest)?;
+    let (kind_number, rest) = first_part(rest)?;
+    let number = last_part(rest)?;
+    Ok(Key {
+        pe: part_in(pe, NODE)? as u8,
+        vpe: part_in(vpe, NODE)? as u16,
+        kind: kind(part_in(kind_number, KIND)?),
+        number: part_in(number, DRAWN)? as u32,
+    })
+}
+
+// The place that the word is.
+#[tactic(auto, unfolding(crate::specs::Forms::are_numbers, crate::specs::Forms::are_within))]
+fn place(word: &[u8]) -> Result<Place, Cause>
+    ensures fault { place_fault key_place word.now ≡ result_err result }
+    ensures printed { IfOk result (λ p. word.now ≡ place_word p) }
+{
+    let (pe, rest) = first_part(word)?;
+    let (vpe, rest) = first_part(rest)?;
+    let number = last_part(rest)?;
+    Ok(Place {
+        pe: part_in(pe, NODE)? as u8,
+        vpe: part_in(vpe, NODE)? as u16,
+        number: part_in(number, DRAWN)? as u32,
+    })
+}
+
+/// The key in the first place, and the words behind it. Takes no memory.
+pub fn first_key(words: &[u8]) -> Result<(Key, &[u8]), Cause>
+    ensures ok { IfOk result (λ p. Fills (key_lem ∷ []) (words_of words.now) (words_of p.1.now)) }
+    ensures err { IfErr result (Fails (key_lem ∷ []) (words_of words.now)) }
+    ensures printed { IfOk result (λ p. words_of words.now ≡ key_word p.0 ∷ words_of p.1.now) }
+    ensures valid { IfOk result (λ p. IsValidKey p.0) }
+{
+    let (word, rest) = first_word(words)?;
+    Ok((key(word)?, rest))
+}
+
+/// The place of a key in the first place, and the words behind it. Takes no memory.
+pub fn first_place(words: &[u8]) -> Result<(Place, &[u8]), Cause>
+    ensures ok { IfOk result (λ p. Fills (key_place ∷ []) (words_of words.now) (words_of p.1.now)) }
+    ensures err { IfErr result (Fails (key_place ∷ []) (words_of words.now)) }
+    ensures printed { IfOk result (λ p. words_of words.now ≡ place_word p.0 ∷ words_of p.1.now) }
+    ensures valid { IfOk result (λ p. IsValidPlace p.0) }
+{
+    let (word, rest) = first_word(words)?;
+    Ok((place(word)?, rest))
+}
