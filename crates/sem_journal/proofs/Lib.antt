@@ -15,3 +15,8 @@ pub mod PrintedEntries
 pub mod EntryFrom
 pub mod OneEntry
 pub mod PlainEntries
+pub mod OneReport
+pub mod PlainTrace
+pub mod PrintedLines
+pub mod PrintedReport
+pub mod WholeText

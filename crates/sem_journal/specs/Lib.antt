@@ -7,3 +7,4 @@ pub mod Outcomes
 pub mod WholeLines
 pub mod ReportRefusal
 pub mod ReadsReport
+pub mod ReportRanges
