@@ -3,10 +3,10 @@ use Rattle.std.specs.Prelude.{ℕ, List, [], length, map, flat_map}
 use Rattle.sem_key.specs.KeyName.{KeyName}
 use Rattle.sem_key.specs.Lists.{in_turn}
 use Rattle.sem_key.specs.Capability.{Capability}
+use Rattle.sem_key.specs.CapList.{with_cap}
 use Rattle.sem_msg.specs.declared.entry.Entry.{Entry}
 use Rattle.sem_msg.specs.Setup.{Setup}
 use Rattle.sem_journal.specs.ReportText.{report_text}
-use Rattle.sem_machine.specs.Sides.{with_cap}
 use Rattle.sem_machine.specs.Machine.{World}
 use Rattle.sem_machine.specs.Schedules.{world_after}
 use Rattle.sem_machine.specs.Journals.{made, cut}

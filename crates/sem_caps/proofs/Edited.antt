@@ -12,7 +12,8 @@ use Rattle.sem_key.specs.KeyName.{KeyName, key_eq}
 use Rattle.sem_key.specs.KeyList.{IsKeyList}
 use Rattle.sem_key.specs.Lists.{change}
 use Rattle.sem_key.specs.Capability.{Capability, capability_of}
-use Rattle.sem_caps.specs.CapStore.{CapStore, keys_of}
+use Rattle.sem_key.specs.CapList.{keys_of}
+use Rattle.sem_caps.specs.CapStore.{CapStore}
 use Rattle.sem_caps.specs.Stored.{plain, HasChildRoom, IsStored}
 use Rattle.sem_caps.proofs.RisingCaps.{length-plain, in_range-row, key-here, only-here, change-there}
 

@@ -12,7 +12,7 @@ use Rattle.sem_key.specs.declared.object.Object.{Object}
 use Rattle.sem_key.specs.KeyName.{KeyName, IsValidKey, packed, key_lt}
 use Rattle.sem_key.specs.KeyList.{KeyList, IsRising, IsKeyList, IsGapFor}
 use Rattle.sem_key.specs.Capability.{Capability, capability_of}
-use Rattle.sem_caps.specs.CapStore.{keys_of, fresh, with_cap}
+use Rattle.sem_key.specs.CapList.{keys_of, fresh, with_cap}
 use Rattle.sem_caps.specs.Stored.{plain, HasChildRoom, IsStored}
 use Rattle.sem_caps.proofs.Filtered.{filter-front, filter-back}
 use Rattle.sem_caps.proofs.RisingCaps.{length-keys, key-at}

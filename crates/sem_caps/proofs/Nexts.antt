@@ -8,7 +8,8 @@ use Rattle.std.proofs.lemmas.List.{get_or-drop, length-drop, drop-map, take_all}
 use Rattle.sem_key.specs.declared.object.Cap.{Cap}
 use Rattle.sem_key.specs.KeyName.{KeyName, packed}
 use Rattle.sem_key.specs.KeyList.{IsRising, IsKeyList}
-use Rattle.sem_caps.specs.CapStore.{keys_of, IsAbove, IsNextOf}
+use Rattle.sem_key.specs.CapList.{keys_of}
+use Rattle.sem_caps.specs.CapStore.{IsAbove, IsNextOf}
 use Rattle.sem_caps.specs.Stored.{plain, IsFirstAbove}
 
 -- A search in rising keys.

@@ -14,7 +14,7 @@ use Rattle.sem_key.specs.KeyName.{KeyName, IsValidKey, packed, key_eq}
 use Rattle.sem_key.specs.KeyList.{IsKeyList, IsGapFor}
 use Rattle.sem_key.specs.Lists.{change}
 use Rattle.sem_key.specs.Capability.{Capability, capability_of}
-use Rattle.sem_caps.specs.CapStore.{cap_of, keys_of}
+use Rattle.sem_key.specs.CapList.{cap_of, keys_of}
 use Rattle.sem_caps.specs.Stored.{plain}
 use Rattle.sem_caps.proofs.Packed.{packed-injective, key_eq-same, key_eq-differs}
 use Rattle.sem_caps.proofs.Places.{find-none, find-at, change-none, change-at}

@@ -11,7 +11,8 @@ use Rattle.sem_key.specs.declared.object.Cap.{Cap}
 use Rattle.sem_key.specs.KeyName.{KeyName, IsValidKey, packed, key_eq}
 use Rattle.sem_key.specs.KeyList.{IsRising, IsKeyList}
 use Rattle.sem_key.specs.Capability.{Capability, capability_of}
-use Rattle.sem_caps.specs.CapStore.{cap_of, held_key, keys_of, is_marked_by, marked_by, not_marked_by, key_and_selector}
+use Rattle.sem_key.specs.CapList.{cap_of, keys_of, is_marked_by, marked_by, not_marked_by}
+use Rattle.sem_caps.specs.CapStore.{held_key, key_and_selector}
 use Rattle.sem_caps.specs.Stored.{plain, HasChildRoom, IsStored}
 use Rattle.sem_caps.proofs.Packed.{key_eq-true, key_eq-differs}
 use Rattle.sem_caps.proofs.Places.{find-none}

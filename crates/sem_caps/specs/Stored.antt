@@ -5,7 +5,8 @@ use Rattle.sem_key.specs.declared.object.Cap.{Cap}
 use Rattle.sem_key.specs.KeyName.{KeyName}
 use Rattle.sem_key.specs.KeyList.{IsKeyList}
 use Rattle.sem_key.specs.Capability.{Capability, capability_of}
-use Rattle.sem_caps.specs.CapStore.{keys_of, IsAbove}
+use Rattle.sem_key.specs.CapList.{keys_of}
+use Rattle.sem_caps.specs.CapStore.{IsAbove}
 
 -- what is in the store
 abbrev pub plain : List Cap → List Capability

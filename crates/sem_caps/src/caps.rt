@@ -2,7 +2,8 @@ ghost use Rattle.std.specs.Prelude.{◌≡◌, ◌↔◌, ◌+◌, ◌<◌, ◌�
 ghost use Rattle.sem_key.specs.Capability.{capability_of};
 ghost use Rattle.sem_key.specs.KeyList.{IsRising, IsGapFor};
 ghost use Rattle.sem_key.specs.KeyName.{IsValidKey};
-ghost use Rattle.sem_caps.specs.CapStore.{IsCapStore, cap_of, held_key, keys_of, IsNextOf, is_marked_by, marked_by, not_marked_by, key_and_selector, fresh, with_cap, IsLinked, linked, unlinked, marked};
+ghost use Rattle.sem_key.specs.CapList.{cap_of, keys_of, is_marked_by, marked_by, not_marked_by, fresh, with_cap, linked, unlinked, marked};
+ghost use Rattle.sem_caps.specs.CapStore.{IsCapStore, held_key, IsNextOf, key_and_selector, IsLinked};
 ghost use Rattle.sem_caps.specs.Stored.{plain, IsFirstAbove};
 
 use sem_key::{Cap, Key, Keys, Object, OutOfMemory, pack};

@@ -1,5 +1,5 @@
 ghost use Rattle.std.specs.Prelude.{◌≡◌, ◌≤◌, None, IsTrue, IsSomeAnd};
-ghost use Rattle.sem_caps.specs.CapStore.{cap_of};
+ghost use Rattle.sem_key.specs.CapList.{cap_of};
 
 use crate::Caps;
 use sem_key::{Key, Kind, Object, OutOfMemory};

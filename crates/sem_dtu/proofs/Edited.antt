@@ -6,10 +6,11 @@ use Rattle.std.proofs.lemmas.List.{get_or-map, map-set, length-map, get_or_past,
 use Rattle.std.proofs.lemmas.Bool.{cases_lt}
 use Rattle.sem_key.specs.Lists.{put}
 use Rattle.sem_msg.specs.Rows.{Endpoint}
+use Rattle.sem_msg.specs.EndpointRows.{endpoint, with_row, with_endpoint}
 use Rattle.sem_dtu.specs.declared.row.Row.{Row}
 use Rattle.sem_dtu.specs.declared.op.Op.{Op}
 use Rattle.sem_dtu.specs.declared.op.Op.TheVariants.{Read, Write, Send as SendOp, Credit}
-use Rattle.sem_dtu.specs.EndpointTable.{EndpointTable, IsEndpointTable, endpoint_count, IsOurs, endpoint, with_row, with_endpoint}
+use Rattle.sem_dtu.specs.EndpointTable.{EndpointTable, IsEndpointTable, endpoint_count, IsOurs}
 use Rattle.sem_dtu.specs.Rows.{table}
 use Rattle.sem_dtu.specs.Uses.{refusal, done, tried, use_done}
 use Rattle.sem_dtu.proofs.Puts.{put-set, put-same}

@@ -7,7 +7,8 @@ use Rattle.std.proofs.lemmas.Option.{same_Some}
 use Rattle.sem_key.specs.MembershipTable.{owner_at}
 use Rattle.sem_msg.specs.declared.setup.VpeDecl.{VpeDecl}
 use Rattle.sem_msg.specs.Setup.{Setup, IsSetup, IsVpeDecl}
-use Rattle.sem_dtu.specs.OwnVpes.{decl, is_own_vpe}
+use Rattle.sem_msg.specs.Lookups.{decl}
+use Rattle.sem_dtu.specs.OwnVpes.{is_own_vpe}
 
 -- what holds of each element holds of the one that is found
 found-has : {X : Type 0} (P : X → Type 0) (p : X → Bool) (xs : List X) (x : X) → All P xs → find p xs ≡ Some x → P x

@@ -1,20 +1,11 @@
 -- Which VPEs belong to a kernel, and their endpoints at the start ("State" and "Owners" in docs/machine.md).
-use Rattle.std.specs.Prelude.{ℕ, ◌==◌, Bool, false, List, [], map, find, replicate, Option, None, unwrap_or, if◌then◌else◌}
+use Rattle.std.specs.Prelude.{ℕ, ◌==◌, Bool, false, List, [], map, replicate, Option, None, if◌then◌else◌}
 use Rattle.std.specs.List.{range_with_len}
 use Rattle.std.specs.Option.{option_map_or}
-use Rattle.sem_key.specs.MembershipTable.{owner_at}
-use Rattle.sem_msg.specs.declared.setup.VpeDecl.{VpeDecl}
 use Rattle.sem_msg.specs.Setup.{Setup}
 use Rattle.sem_msg.specs.Rows.{Endpoint}
+use Rattle.sem_msg.specs.Lookups.{decl, pe_owner}
 use Rattle.sem_dtu.specs.EndpointTable.{EndpointTable}
-
--- the declaration of a VPE
-abbrev pub decl : Setup → ℕ → Option VpeDecl
-decl T v = find (λ d. d.vpe == v) T.vpes
-
--- the kernel that owns a PE; the number of kernels, which is no kernel, where none does
-abbrev pub pe_owner : Setup → ℕ → ℕ
-pe_owner T pe = unwrap_or (owner_at T.owners pe) T.kernels
 
 -- whether the VPE is declared on a PE that kernel i owns
 abbrev pub is_own_vpe : Setup → ℕ → ℕ → Bool

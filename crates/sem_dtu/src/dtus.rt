@@ -2,7 +2,8 @@ ghost use Rattle.std.specs.Prelude.{◌≡◌, ◌≤◌, [], ◌∷◌, Some, f
 ghost use Rattle.std.specs.Option.{option_map};
 ghost use Rattle.std.specs.Result.{result_err};
 ghost use Rattle.sem_key.specs.ObjectRanges.{IsValidObject};
-ghost use Rattle.sem_dtu.specs.EndpointTable.{IsOurs, IsEndpointTable, endpoint, with_endpoint, unbound_from, unbind_key as unbind_key_lem};
+ghost use Rattle.sem_msg.specs.EndpointRows.{endpoint, with_endpoint, unbound_from, unbind_key as unbind_key_lem};
+ghost use Rattle.sem_dtu.specs.EndpointTable.{IsOurs, IsEndpointTable};
 ghost use Rattle.sem_dtu.specs.OwnVpes.{new_table};
 ghost use Rattle.sem_dtu.specs.Stored.{IsMemoryOrGate};
 ghost use Rattle.sem_dtu.specs.Uses.{refusal, use_done};

@@ -2,7 +2,7 @@ ghost use Rattle.std.specs.Prelude.{◌≡◌, ◌≤◌, [], ◌∷◌, Some, N
 ghost use Rattle.std.specs.Option.{option_map};
 ghost use Rattle.std.specs.Result.{result_err};
 ghost use Rattle.sem_key.specs.ObjectRanges.{IsValidObject};
-ghost use Rattle.sem_dtu.specs.EndpointTable.{unbound_from};
+ghost use Rattle.sem_msg.specs.EndpointRows.{unbound_from};
 ghost use Rattle.sem_dtu.specs.Stored.{IsMemoryOrGate};
 ghost use Rattle.sem_dtu.specs.Uses.{refusal, tried};
 

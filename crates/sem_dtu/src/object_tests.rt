@@ -1,7 +1,7 @@
 ghost use Rattle.std.specs.Prelude.{◌≡◌, not, Some, None, if◌then◌else◌};
 ghost use Rattle.std.specs.Result.{result_err};
+ghost use Rattle.sem_msg.specs.Uses.{allows as allows_lem, is_send_gate as is_send_gate_lem, is_past_end as is_past_end_lem, are_credits_used as are_credits_used_lem};
 ghost use Rattle.sem_dtu.specs.declared.op.UseFault.TheVariants.{Rights, Range};
-ghost use Rattle.sem_dtu.specs.Uses.{allows as allows_lem, is_send_gate as is_send_gate_lem, is_past_end as is_past_end_lem, are_credits_used as are_credits_used_lem};
 
 use crate::op::UseFault;
 use sem_key::Object;

@@ -1,5 +1,6 @@
 ghost use Rattle.std.specs.Prelude.{◌≡◌, option_copied};
-ghost use Rattle.sem_dtu.specs.OwnVpes.{decl as decl_lem, is_own_vpe as is_own_vpe_lem};
+ghost use Rattle.sem_msg.specs.Lookups.{decl as decl_lem};
+ghost use Rattle.sem_dtu.specs.OwnVpes.{is_own_vpe as is_own_vpe_lem};
 
 use sem_msg::{Setup, VpeDecl};
 

@@ -10,7 +10,8 @@ use Rattle.std.proofs.lemmas.Grind.{common_steps}
 use Rattle.sem_msg.specs.Rows.{JobRow}
 use Rattle.sem_msg.specs.declared.state.Up.{Up}
 use Rattle.sem_msg.specs.declared.state.Up.TheVariants.{Local, Remote}
-use Rattle.sem_jobs.specs.JobStore.{HasRisingIds, IsPlaceOf, job_of, job_changed, job_removed, count_lowered, is_done, ids_of}
+use Rattle.sem_msg.specs.JobRows.{job_of, job_changed, job_removed, count_lowered, ids_of}
+use Rattle.sem_jobs.specs.JobStore.{HasRisingIds, IsPlaceOf, is_done}
 use Rattle.sem_jobs.specs.Chain.{Chain, is_last_token, up_told, next_done, chain}
 use Rattle.sem_jobs.proofs.JobPlaces.{found-changed, changed, removed, ids-removed}
 

@@ -13,7 +13,8 @@ use Rattle.std.proofs.lemmas.Bool.Decides.{nat_tests}
 use Rattle.std.proofs.lemmas.Bool.{cases_lt}
 use Rattle.std.proofs.lemmas.Grind.{common_steps}
 use Rattle.sem_msg.specs.Rows.{JobRow}
-use Rattle.sem_jobs.specs.JobStore.{JobStore, HasRisingIds, IsPlaceOf, job_of, job_changed, job_removed, waiter_removed, ids_of}
+use Rattle.sem_msg.specs.JobRows.{job_of, job_changed, job_removed, waiter_removed, ids_of}
+use Rattle.sem_jobs.specs.JobStore.{JobStore, HasRisingIds, IsPlaceOf}
 use Rattle.sem_jobs.proofs.Places.{find-none, find-at, change-at, others-at}
 
 -- stores with the same jobs, and all else the same

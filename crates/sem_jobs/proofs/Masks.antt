@@ -11,7 +11,8 @@ use Rattle.std.specs.Int.{bit_at, bit_not}
 use Rattle.std.specs.Prelude.{bit_or, bit_and}
 use Rattle.std.proofs.lemmas.Nat.Bits.{bit_at-zero, bit_at_set_same, bit_at_set_other, bit_at_clear_same, bit_at_clear_other}
 use mir.Syntax.{w128}
-use Rattle.sem_jobs.specs.VpeSet.{IsVpeList, with_number, without_number, vpes_of}
+use Rattle.sem_msg.specs.JobRows.{with_number, without_number}
+use Rattle.sem_jobs.specs.VpeSet.{IsVpeList, vpes_of}
 
 -- One number more, which a test keeps or not.
 none-below : (v : ℕ) (t : Bool) (ws : List ℕ) → filter (λ w. nat_lt w v) ws ≡ [] → filter (λ w. nat_lt w v) (cond t (v ∷ ws) ws) ≡ []

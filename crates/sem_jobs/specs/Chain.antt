@@ -4,7 +4,7 @@ use Rattle.std.specs.Option.{option_map_or}
 use Rattle.sem_msg.specs.declared.state.Up.{Up}
 use Rattle.sem_msg.specs.declared.state.Up.TheVariants.{Local, Remote}
 use Rattle.sem_msg.specs.Rows.{JobRow}
-use Rattle.sem_jobs.specs.JobStore.{job_of, job_removed, count_lowered}
+use Rattle.sem_msg.specs.JobRows.{job_of, job_removed, count_lowered}
 
 -- what finishing a chain of jobs leaves, and the jobs that it takes out, in their order
 pub record Chain : Type 0 where

@@ -1,5 +1,5 @@
 -- The VPEs that wait for a job: their numbers, 0 to 127, in rising order ("State" in docs/machine.md).
-use Rattle.std.specs.Prelude.{ℕ, ◌<◌, ◌==◌, nat_lt, not, List, ◌∷◌, ◌++◌, filter, All}
+use Rattle.std.specs.Prelude.{ℕ, ◌<◌, ◌==◌, List, filter, All}
 use Rattle.std.specs.List.{AllPairs, range_with_len}
 use Rattle.std.specs.Int.{bit_at}
 
@@ -7,14 +7,6 @@ use Rattle.std.specs.Int.{bit_at}
 pub record IsVpeList (vs : List ℕ) : Type 0 where
   pub rising : AllPairs (λ v w. v < w) vs
   pub below : All (λ v. v < 128) vs
-
--- the VPEs with one more, in rising order
-abbrev pub with_number : List ℕ → ℕ → List ℕ
-with_number vs v = filter (λ w. nat_lt w v) vs ++ v ∷ filter (λ w. nat_lt v w) vs
-
--- the VPEs without one
-abbrev pub without_number : List ℕ → ℕ → List ℕ
-without_number vs v = filter (λ w. not (w == v)) vs
 
 -- the VPEs of a mask, which has a bit for each
 unfoldable pub vpes_of : ℕ → List ℕ

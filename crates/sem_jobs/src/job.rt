@@ -1,5 +1,5 @@
 ghost use Rattle.std.specs.Prelude.{◌≡◌, ◌+◌, ◌-◌, ◌<◌, Some};
-ghost use Rattle.sem_jobs.specs.VpeSet.{with_number, without_number};
+ghost use Rattle.sem_msg.specs.JobRows.{with_number, without_number};
 
 use crate::vpe_list::VpeList;
 use sem_key::Key;

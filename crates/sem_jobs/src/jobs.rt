@@ -1,6 +1,7 @@
 ghost use Rattle.std.specs.Prelude.{◌≡◌, ℕ, ◌+◌, ◌<◌, ◌≤◌, ◌++◌, [], length, vec_len, vec_capacity, None, Some, IsSome, IsSomeAnd, IfSome, IfOk, OnOk};
 ghost use Rattle.std.specs.Option.{option_and_then};
-ghost use Rattle.sem_jobs.specs.JobStore.{IsJobStore, IsPlaceOf, job_of, job_opened, job_removed, count_raised, count_lowered, with_up, waiter_added, waiter_removed, is_done};
+ghost use Rattle.sem_msg.specs.JobRows.{job_of, job_opened, job_removed, count_raised, count_lowered, with_up, waiter_added, waiter_removed};
+ghost use Rattle.sem_jobs.specs.JobStore.{IsJobStore, IsPlaceOf, is_done};
 ghost use Rattle.sem_jobs.specs.Chain.{up_told, next_done, chain, chain_of};
 
 use crate::job::Job;
@@ -21,7 +22,8 @@ pub struct Jobs {
 
 impl Model for Jobs {
     ghost use Rattle.std.specs.Prelude.{◌-◌, vec_len, vec_capacity};
-    ghost use Rattle.sem_jobs.specs.JobStore.{JobStore, HasRisingIds, ids_of};
+    ghost use Rattle.sem_msg.specs.JobRows.{ids_of};
+    ghost use Rattle.sem_jobs.specs.JobStore.{JobStore, HasRisingIds};
 
     ghost Value = { JobStore };
 
@@ -69,7 +71,7 @@ impl Jobs {
         requires room { 0 < self.old.spare }
         requires ids { self.old.next < 4294967295 }
         ensures id { result ≡ self.old.next }
-        ensures jobs { self.new.jobs ≡ job_opened self.old.next root up self.old.jobs }
+        ensures jobs { self.new.jobs ≡ job_opened self.old.next root up [] self.old.jobs }
         ensures next { self.new.next ≡ self.old.next + 1 }
         ensures spare { self.old.spare ≤ self.new.spare + 1 }
     {

@@ -1,5 +1,5 @@
 ghost use Rattle.std.specs.Prelude.{◌≡◌, ◌≤◌, ◌<◌, IsTrue, IsSome, IsSomeAnd};
-ghost use Rattle.sem_jobs.specs.JobStore.{job_of};
+ghost use Rattle.sem_msg.specs.JobRows.{job_of};
 
 use crate::{Job, Jobs, Scratch, Up, VpeList};
 use sem_key::{Key, Kind, OutOfMemory};

@@ -1,5 +1,6 @@
 ghost use Rattle.std.specs.Prelude.{◌≡◌, ◌<◌, ◌↔◌, [], Contains, IsTrue};
-ghost use Rattle.sem_jobs.specs.VpeSet.{IsVpeList, with_number, without_number};
+ghost use Rattle.sem_msg.specs.JobRows.{with_number, without_number};
+ghost use Rattle.sem_jobs.specs.VpeSet.{IsVpeList};
 
 use std::marker::Model;
 

@@ -4,4 +4,5 @@ pub mod PlaceName
 pub mod ObjectRanges
 pub mod KeyList
 pub mod Capability
+pub mod CapList
 pub mod MembershipTable

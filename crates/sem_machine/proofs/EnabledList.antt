@@ -12,7 +12,7 @@ use Rattle.sem_msg.specs.declared.event.Event.{Event}
 use Rattle.sem_msg.specs.declared.setup.VpeDecl.{VpeDecl}
 use Rattle.sem_msg.specs.Setup.{Setup}
 use Rattle.sem_msg.specs.Journal.{kill_number}
-use Rattle.sem_machine.specs.Setups.{decl, pe_owner, kernel_of}
+use Rattle.sem_msg.specs.Lookups.{decl, pe_owner, kernel_of}
 use Rattle.sem_machine.specs.Sides.{Side, row, parked, outbox, is_alive}
 use Rattle.sem_machine.specs.Resumes.{can_resume}
 use Rattle.sem_machine.specs.Machine.{World, side, event, next_call, is_other_kernel, is_locally_enabled, is_allowed, is_enabled, kernel_events, all_events, enabled}

@@ -10,7 +10,7 @@ use Rattle.sem_key.specs.KeyName.{KeyName, IsValidKey, packed, key_eq, key_lt}
 use Rattle.sem_key.specs.KeyList.{IsRising}
 use Rattle.sem_key.specs.Lists.{change}
 use Rattle.sem_key.specs.Capability.{Capability}
-use Rattle.sem_machine.specs.Sides.{with_cap}
+use Rattle.sem_key.specs.CapList.{with_cap}
 use Rattle.sem_machine.proofs.Members.{Contains-map, Contains-head, Contains-tail, Contains-cons_cases, not_found, find_none, Contains-from_filter, AllPairs-map, AllPairs-from_map}
 use Rattle.sem_machine.proofs.KeyTests.{packed-injective, key_eq-true, key_eq-from}
 

@@ -1,5 +1,4 @@
 pub mod Codes
-pub mod Setups
 pub mod Sides
 pub mod Steps
 pub mod Asks

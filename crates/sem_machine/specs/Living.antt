@@ -12,7 +12,7 @@ use Rattle.sem_msg.specs.declared.state.Pending.{Pending}
 use Rattle.sem_msg.specs.Rows.{Endpoint}
 use Rattle.sem_msg.specs.Setup.{Setup}
 use Rattle.sem_msg.specs.Journal.{replies}
-use Rattle.sem_machine.specs.Setups.{kernel_of, calls_of}
+use Rattle.sem_msg.specs.Lookups.{kernel_of, calls_of}
 use Rattle.sem_machine.specs.Sides.{row, cap, parked, pending, endpoint, outbox, is_alive}
 use Rattle.sem_machine.specs.Resumes.{can_resume}
 use Rattle.sem_machine.specs.Machine.{World, side, link, enabled}

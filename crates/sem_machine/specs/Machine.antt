@@ -4,6 +4,7 @@ use Rattle.std.specs.List.{range_with_len}
 use Rattle.std.specs.Option.{option_map, option_map_or}
 use Rattle.sem_key.specs.KeyName.{KeyName}
 use Rattle.sem_key.specs.Lists.{put, in_turn}
+use Rattle.sem_key.specs.CapList.{fresh}
 use Rattle.sem_msg.specs.declared.call.Call.{Call}
 use Rattle.sem_msg.specs.declared.message.Message.{Message}
 use Rattle.sem_msg.specs.declared.event.Act.{Act}
@@ -18,8 +19,8 @@ use Rattle.sem_msg.specs.declared.state.Slot.TheVariants.{Free, Held}
 use Rattle.sem_msg.specs.Rows.{VpeRow, no_vpe}
 use Rattle.sem_msg.specs.Setup.{Setup, root_key}
 use Rattle.sem_msg.specs.Journal.{kill_number}
+use Rattle.sem_msg.specs.Lookups.{pe_owner, kernel_of, calls_of}
 use Rattle.sem_machine.specs.declared.Outcome.{Outcome}
-use Rattle.sem_machine.specs.Setups.{pe_owner, kernel_of, calls_of}
 use Rattle.sem_machine.specs.Sides.{Side, no_side, row, parked, outbox, is_alive, with_row, call_counted, cap_added, with_slot, with_inbox, sent}
 use Rattle.sem_machine.specs.Steps.{Step, plain}
 use Rattle.sem_machine.specs.Ends.{ended}
@@ -35,7 +36,7 @@ abbrev pub root_added : VpeDecl → Root → Side → Side
 root_added d r s =
     let k : KeyName = root_key d (row s d.vpe).next_number r in
     with_row d.vpe (λ v. record v { next_number = v.next_number + 1 })
-    (with_slot d.vpe r.sel (Held k) (cap_added (record { key = k; parent = None; children = []; mark = None; selector = r.sel; object = r.object }) s))
+    (with_slot d.vpe r.sel (Held k) (cap_added (fresh k None r.sel r.object) s))
 
 -- a VPE with nothing yet: alive, with 256 free selectors and 16 unbound endpoints
 abbrev pub new_vpe : VpeRow

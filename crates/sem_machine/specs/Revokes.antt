@@ -1,11 +1,12 @@
 -- Revocation: the region of a job, how a job begins, and how it is finished ("Revocation" in docs/machine.md).
-use Rattle.std.specs.Prelude.{◌≡◌, ℕ, zero, suc, ◌+◌, ◌-◌, ◌==◌, nat_lt, Bool, true, false, not, ◌&&◌, List, [], ◌∷◌, ◌++◌, length, map, filter, flat_map, find, Option, Some, None, if◌then◌else◌}
+use Rattle.std.specs.Prelude.{◌≡◌, ℕ, zero, suc, ◌==◌, Bool, true, not, ◌&&◌, List, [], ◌∷◌, length, filter, flat_map, find, Option, Some, None, if◌then◌else◌}
 use Rattle.std.specs.List.{list_any}
 use Rattle.std.specs.Option.{option_map_or, option_and_then, is_none}
 use Rattle.sem_key.specs.KeyName.{KeyName, key_eq}
 use Rattle.sem_key.specs.Lists.{in_turn}
 use Rattle.sem_key.specs.KeyList.{key_set}
 use Rattle.sem_key.specs.Capability.{Capability}
+use Rattle.sem_key.specs.CapList.{cap_of, marked_by, keys_of}
 use Rattle.sem_msg.specs.declared.message.Message.TheVariants.{RevokeReq, RevokeDone, Unlink}
 use Rattle.sem_msg.specs.declared.state.Parked.{Parked}
 use Rattle.sem_msg.specs.declared.state.Parked.TheVariants.{ObtainReady, ObtainCancelled, RevokeWait}
@@ -13,9 +14,11 @@ use Rattle.sem_msg.specs.declared.state.Up.{Up}
 use Rattle.sem_msg.specs.declared.state.Up.TheVariants.{Local, Remote}
 use Rattle.sem_msg.specs.Rows.{JobRow}
 use Rattle.sem_msg.specs.Setup.{Setup}
+use Rattle.sem_msg.specs.JobRows
+use Rattle.sem_msg.specs.ParkedStates.{is_ready_with}
+use Rattle.sem_msg.specs.Lookups.{owner_of, is_local}
 use Rattle.sem_machine.specs.Codes.{Done}
-use Rattle.sem_machine.specs.Setups.{owner_of, is_local}
-use Rattle.sem_machine.specs.Sides.{Side, cap, job, parked, freed, ready, parked_as, unlinked, mark_all, unbind_all, is_marked_by, caps_removed, job_opened, job_changed, job_removed, send}
+use Rattle.sem_machine.specs.Sides.{Side, cap, job, parked, freed, ready, parked_as, unlinked, mark_all, unbind_all, caps_removed, job_opened, job_removed, send}
 
 -- whether a list of keys has the key
 abbrev pub has_key : List KeyName → KeyName → Bool
@@ -24,8 +27,8 @@ has_key ks k = list_any (key_eq k) ks
 -- The region of a root: the unmarked capabilities that are reached from it by child links through unmarked ones.
 -- It is what a relation is closed under; the computed region below has exactly these keys.
 pub data Reached (caps : List Capability) (root : KeyName) : KeyName → Type 0 where
-  at_root : (c : Capability) → find (λ x. key_eq x.key root) caps ≡ Some c → c.mark ≡ None → Reached caps root root
-  by_link : (p k : KeyName) (c d : Capability) → Reached caps root p → find (λ x. key_eq x.key p) caps ≡ Some c → has_key c.children k ≡ true → find (λ x. key_eq x.key k) caps ≡ Some d → d.mark ≡ None → Reached caps root k
+  at_root : (c : Capability) → cap_of caps root ≡ Some c → c.mark ≡ None → Reached caps root root
+  by_link : (p k : KeyName) (c d : Capability) → Reached caps root p → cap_of caps p ≡ Some c → has_key c.children k ≡ true → cap_of caps k ≡ Some d → d.mark ≡ None → Reached caps root k
 
 -- the children of those unmarked capabilities whose keys are among these
 abbrev pub linked_from : List Capability → List KeyName → List KeyName
@@ -44,7 +47,7 @@ grow (suc n) caps ks = option_map_or (λ c. grow n caps (c.key ∷ ks)) (next_re
 abbrev pub region : List Capability → KeyName → List KeyName
 region caps root =
     let reached : List KeyName = grow (length caps) caps (root ∷ []) in
-    map (λ c. c.key) (filter (λ c. is_none c.mark && has_key reached c.key) caps)
+    keys_of (filter (λ c. is_none c.mark && has_key reached c.key) caps)
 
 -- the children of the region, each once, in rising key order
 abbrev pub children_of : List Capability → List KeyName → List KeyName
@@ -52,15 +55,15 @@ children_of caps ks = key_set (linked_from caps ks)
 
 -- one token more is out for the job
 abbrev pub count_raised : ℕ → Side → Side
-count_raised j s = job_changed j (λ x. record x { count = x.count + 1 }) s
+count_raised j s = record s { jobs = JobRows.count_raised j s.jobs }
 
 -- one token came back to the job
 abbrev pub count_lowered : ℕ → Side → Side
-count_lowered j s = job_changed j (λ x. record x { count = x.count - 1 }) s
+count_lowered j s = record s { jobs = JobRows.count_lowered j s.jobs }
 
 -- another job waits for the job
 abbrev pub with_up : Up → ℕ → Side → Side
-with_up up j s = job_changed j (λ x. record x { up = Some up }) s
+with_up up j s = record s { jobs = JobRows.with_up up j s.jobs }
 
 -- the job that marks the capability, if it is another than j
 abbrev pub other_marker : ℕ → Option Capability → Option ℕ
@@ -78,7 +81,7 @@ request_or_adopt T i j k s =
 
 -- the selectors of what the job has marked are free
 abbrev pub selectors_freed : ℕ → Side → Side
-selectors_freed j s = in_turn (λ c t. freed c.key.vpe c.selector t) (filter (is_marked_by j) s.caps) s
+selectors_freed j s = in_turn (λ c t. freed c.key.vpe c.selector t) (marked_by j s.caps) s
 
 -- what the job has marked is swept: removed, and its selectors are free
 abbrev pub swept : ℕ → Side → Side
@@ -140,27 +143,18 @@ begin T i root up waiters s =
     let marked : Side = unbind_all ks (mark_all ks j (job_opened root up waiters s)) in
     settled T i j (in_turn (request_or_adopt T i j) children marked)
 
--- the VPEs with one more, in rising order
-abbrev pub with_number : List ℕ → ℕ → List ℕ
-with_number vs v = filter (λ w. nat_lt w v) vs ++ v ∷ filter (λ w. nat_lt v w) vs
-
 -- the VPE waits for the job
 abbrev pub waiter_added : ℕ → ℕ → Side → Side
-waiter_added j v s = job_changed j (λ x. record x { waiters = with_number x.waiters v }) s
+waiter_added j v s = record s { jobs = JobRows.waiter_added j v s.jobs }
 
 -- the VPE waits for no job
 abbrev pub waiter_removed : ℕ → Side → Side
-waiter_removed v s = record s { jobs = map (λ (x : JobRow). record x { waiters = filter (λ w. not (w == v)) x.waiters }) s.jobs }
+waiter_removed v s = record s { jobs = JobRows.waiter_removed v s.jobs }
 
 -- a VPE revokes the capability of that key, and waits
 abbrev pub revoke_begun : Setup → ℕ → ℕ → KeyName → Option ℕ → Side → Side
 revoke_begun T i v k None s = begin T i k None (v ∷ []) (parked_as v (RevokeWait s.next_job) s)
 revoke_begun T i v k (Some j) s = waiter_added j v (parked_as v (RevokeWait j) s)
-
--- whether a call in that state is about to install the key
-abbrev pub is_ready_with : KeyName → Option Parked → Bool
-is_ready_with k (Some (ObtainReady key parent object sel)) = key_eq key k
-is_ready_with k p = false
 
 -- the selector that such a call was promised is free
 abbrev pub ready_freed : Option Parked → ℕ → Side → Side

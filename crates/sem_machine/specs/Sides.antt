@@ -1,13 +1,14 @@
 -- The side of a kernel, how it is read, and the small changes of it ("State" in docs/machine.md).
 -- Each change names the one field of the side that it writes.
-use Rattle.std.specs.Prelude.{ℕ, ◌+◌, ◌==◌, nat_lt, Bool, false, not, List, [], ◌∷◌, ◌++◌, length, map, filter, find, drop, slice_index_or, Option, Some, None, is_some, if◌then◌else◌}
+use Rattle.std.specs.Prelude.{ℕ, ◌+◌, Bool, false, not, List, [], ◌∷◌, ◌++◌, map, filter, find, drop, slice_index_or, Option, Some, None, is_some}
 use Rattle.std.specs.List.{list_any}
 use Rattle.std.specs.Option.{option_map_or}
 use Rattle.sem_key.specs.declared.object.Object.{Object}
-use Rattle.sem_key.specs.KeyName.{KeyName, key_eq, key_lt}
+use Rattle.sem_key.specs.KeyName.{KeyName, key_eq}
 use Rattle.sem_key.specs.Lists.{change, put}
-use Rattle.sem_key.specs.KeyList.{with_key, without_key}
 use Rattle.sem_key.specs.Capability.{Capability}
+use Rattle.sem_key.specs.CapList
+use Rattle.sem_key.specs.CapList.{cap_of, fresh, with_cap, with_mark, not_marked_by}
 use Rattle.sem_msg.specs.declared.message.Message.{Message}
 use Rattle.sem_msg.specs.declared.state.Slot.{Slot}
 use Rattle.sem_msg.specs.declared.state.Slot.TheVariants.{Free, Held, Promised}
@@ -16,7 +17,11 @@ use Rattle.sem_msg.specs.declared.state.Parked.{Parked}
 use Rattle.sem_msg.specs.declared.state.Parked.TheVariants.{Ready}
 use Rattle.sem_msg.specs.declared.state.Pending.{Pending}
 use Rattle.sem_msg.specs.declared.state.Up.{Up}
-use Rattle.sem_msg.specs.Rows.{JobRow, Endpoint, VpeRow, no_vpe}
+use Rattle.sem_msg.specs.Rows.{JobRow, Endpoint, VpeRow}
+use Rattle.sem_msg.specs.VpeRows
+use Rattle.sem_msg.specs.EndpointRows.{endpoint_in, with_endpoint_in, all_unbound_from}
+use Rattle.sem_msg.specs.JobRows
+use Rattle.sem_msg.specs.JobRows.{job_of}
 
 pub record Side : Type 0 where
   -- the capabilities that it holds, in rising key order
@@ -42,11 +47,11 @@ no_side = record { caps = []; vpes = []; pendings = []; jobs = []; next_job = 0;
 
 -- what is kept of a VPE
 abbrev pub row : Side → ℕ → VpeRow
-row s v = slice_index_or s.vpes v no_vpe
+row s v = VpeRows.row s.vpes v
 
 -- whether a VPE of this kernel is alive
 abbrev pub is_alive : Side → ℕ → Bool
-is_alive s v = (row s v).alive
+is_alive s v = VpeRows.is_alive s.vpes v
 
 -- the state in which a call of the VPE is parked
 abbrev pub parked : Side → ℕ → Option Parked
@@ -54,11 +59,11 @@ parked s v = (row s v).parked
 
 -- the held capability of that key
 abbrev pub cap : Side → KeyName → Option Capability
-cap s k = find (λ c. key_eq c.key k) s.caps
+cap s k = cap_of s.caps k
 
 -- a selector of a VPE
 abbrev pub slot : Side → ℕ → ℕ → Slot
-slot s v sel = slice_index_or (row s v).slots sel Free
+slot s v sel = VpeRows.slot s.vpes v sel
 
 -- the capability that stands in a slot
 abbrev pub cap_in : Side → Slot → Option Capability
@@ -72,11 +77,11 @@ own s v sel = cap_in s (slot s v sel)
 
 -- what an endpoint of a VPE is bound to
 abbrev pub endpoint : Side → ℕ → ℕ → Option Endpoint
-endpoint s v ep = slice_index_or (row s v).endpoints ep None
+endpoint s v ep = endpoint_in (row s v).endpoints ep
 
 -- the open job of that id
 abbrev pub job : Side → ℕ → Option JobRow
-job s j = find (λ x. x.id == j) s.jobs
+job s j = job_of s.jobs j
 
 -- the pending delegation of that key
 abbrev pub pending : Side → KeyName → Option Pending
@@ -94,19 +99,19 @@ is_marked o = option_map_or (λ c. is_some c.mark) o false
 
 -- the row of the VPE changed
 abbrev pub with_row : ℕ → (VpeRow → VpeRow) → Side → Side
-with_row v f s = record s { vpes = put no_vpe s.vpes v (f (row s v)) }
+with_row v f s = record s { vpes = VpeRows.with_row v f s.vpes }
 
 -- one more call was made
 abbrev pub call_counted : ℕ → Side → Side
-call_counted v s = with_row v (λ r. record r { next_call = r.next_call + 1 }) s
+call_counted v s = record s { vpes = VpeRows.call_counted v s.vpes }
 
 -- one more number was drawn
 abbrev pub drawn : ℕ → Side → Side
-drawn v s = with_row v (λ r. record r { next_number = r.next_number + 1 }) s
+drawn v s = record s { vpes = VpeRows.drawn v s.vpes }
 
 -- the selector is in that state
 abbrev pub with_slot : ℕ → ℕ → Slot → Side → Side
-with_slot v sel state s = with_row v (λ r. record r { slots = put Free r.slots sel state }) s
+with_slot v sel state s = record s { vpes = VpeRows.with_slot v sel state s.vpes }
 
 -- the selector is promised
 abbrev pub promised : ℕ → ℕ → Side → Side
@@ -130,11 +135,11 @@ ready code v s = parked_as v (Ready code) s
 
 -- the VPE is asked, unless 64 asks wait already
 abbrev pub asked : ℕ → Ask → Side → Side
-asked v a s = with_row v (λ r. record r { asks = if nat_lt (length r.asks) 64 then r.asks ++ a ∷ [] else r.asks }) s
+asked v a s = record s { vpes = VpeRows.asked v a s.vpes }
 
 -- the oldest ask is taken out
 abbrev pub ask_taken : ℕ → Side → Side
-ask_taken v s = with_row v (λ r. record r { asks = drop 1 r.asks }) s
+ask_taken v s = record s { vpes = VpeRows.ask_taken v s.vpes }
 
 -- the VPE is dead, and is asked nothing any more
 abbrev pub buried : ℕ → Side → Side
@@ -142,22 +147,13 @@ buried v s = with_row v (λ r. record r { alive = false; asks = [] }) s
 
 -- the endpoint is bound so
 abbrev pub with_endpoint : ℕ → ℕ → Option Endpoint → Side → Side
-with_endpoint v ep e s = with_row v (λ r. record r { endpoints = put None r.endpoints ep e }) s
-
--- the endpoint without its binding, where it is bound to one of these keys
-abbrev pub unbound_from : List KeyName → Option Endpoint → Option Endpoint
-unbound_from ks None = None
-unbound_from ks (Some e) = if list_any (key_eq e.key) ks then None else Some e
+with_endpoint v ep e s = with_row v (λ r. record r { endpoints = with_endpoint_in r.endpoints ep e }) s
 
 -- every endpoint that is bound to one of these keys is unbound
 abbrev pub unbind_all : List KeyName → Side → Side
-unbind_all ks s = record s { vpes = map (λ (r : VpeRow). record r { endpoints = map {A = Option Endpoint} (unbound_from ks) r.endpoints }) s.vpes }
+unbind_all ks s = record s { vpes = map (λ (r : VpeRow). record r { endpoints = all_unbound_from ks r.endpoints }) s.vpes }
 
 -- Changes of the capabilities.
-
--- the capabilities with one more, behind those that come before it in rising key order
-abbrev pub with_cap : List Capability → Capability → List Capability
-with_cap cs c = filter (λ x. key_lt x.key c.key) cs ++ c ∷ filter (λ x. not (key_lt x.key c.key)) cs
 
 -- the capability is held
 abbrev pub cap_added : Capability → Side → Side
@@ -165,32 +161,28 @@ cap_added c s = record s { caps = with_cap s.caps c }
 
 -- the capability of that key changed
 abbrev pub cap_changed : KeyName → (Capability → Capability) → Side → Side
-cap_changed k f s = record s { caps = change (λ c. key_eq c.key k) f s.caps }
+cap_changed k f s = record s { caps = CapList.cap_changed k f s.caps }
 
 -- the parent leads to the child
 abbrev pub linked : KeyName → KeyName → Side → Side
-linked parent child s = cap_changed parent (λ c. record c { children = with_key c.children child }) s
+linked parent child s = record s { caps = CapList.linked s.caps parent child }
 
 -- the parent does not lead to the child
 abbrev pub unlinked : KeyName → KeyName → Side → Side
-unlinked parent child s = cap_changed parent (λ c. record c { children = without_key c.children child }) s
+unlinked parent child s = record s { caps = CapList.unlinked s.caps parent child }
 
 -- the capabilities of these keys are marked by the job
 abbrev pub mark_all : List KeyName → ℕ → Side → Side
-mark_all ks j s = record s { caps = change (λ c. list_any (key_eq c.key) ks) (λ c. record c { mark = Some j }) s.caps }
-
--- whether the job has marked the capability
-abbrev pub is_marked_by : ℕ → Capability → Bool
-is_marked_by j c = option_map_or (λ m. m == j) c.mark false
+mark_all ks j s = record s { caps = change (λ c. list_any (key_eq c.key) ks) (with_mark j) s.caps }
 
 -- what the job has marked is not held any more
 abbrev pub caps_removed : ℕ → Side → Side
-caps_removed j s = record s { caps = filter (λ c. not (is_marked_by j c)) s.caps }
+caps_removed j s = record s { caps = not_marked_by j s.caps }
 
 -- Installed: held with this parent, object and selector, without child or mark, and the selector holds it.
 abbrev pub installed : KeyName → Option KeyName → ℕ → Object → Side → Side
 installed k parent sel object s =
-    with_slot k.vpe sel (Held k) (cap_added (record { key = k; parent = parent; children = []; mark = None; selector = sel; object = object }) s)
+    with_slot k.vpe sel (Held k) (cap_added (fresh k parent sel object) s)
 
 -- Changes of pending delegations, jobs and messages.
 
@@ -205,15 +197,15 @@ pending_removed k s = record s { pendings = filter (λ p. not (key_eq p.key k)) 
 -- a job is opened
 abbrev pub job_opened : KeyName → Option Up → List ℕ → Side → Side
 job_opened root up waiters s =
-    record s { jobs = s.jobs ++ record { id = s.next_job; root = root; up = up; waiters = waiters; count = 0 } ∷ []; next_job = s.next_job + 1 }
+    record s { jobs = JobRows.job_opened s.next_job root up waiters s.jobs; next_job = s.next_job + 1 }
 
 -- the job changed
 abbrev pub job_changed : ℕ → (JobRow → JobRow) → Side → Side
-job_changed j f s = record s { jobs = change (λ x. x.id == j) f s.jobs }
+job_changed j f s = record s { jobs = JobRows.job_changed j f s.jobs }
 
 -- the job is gone
 abbrev pub job_removed : ℕ → Side → Side
-job_removed j s = record s { jobs = filter (λ x. not (x.id == j)) s.jobs }
+job_removed j s = record s { jobs = JobRows.job_removed j s.jobs }
 
 -- the message waits to be sent to kernel j
 abbrev pub send : ℕ → Message → Side → Side

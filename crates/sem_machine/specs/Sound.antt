@@ -21,7 +21,7 @@ use Rattle.sem_msg.specs.Rows.{JobRow}
 use Rattle.sem_msg.specs.Message.{IsValidTarget, IsJobId, IsDelegable}
 use Rattle.sem_msg.specs.Calls.{IsSelector}
 use Rattle.sem_msg.specs.Setup.{Setup}
-use Rattle.sem_machine.specs.Setups.{owner_of, kernel_of, calls_of, is_declared_at}
+use Rattle.sem_msg.specs.Lookups.{owner_of, kernel_of, calls_of, is_declared_at}
 use Rattle.sem_machine.specs.Sides.{Side, row, cap, job, slot, parked}
 
 -- Names: every VPE in a key or place is declared, with its PE.

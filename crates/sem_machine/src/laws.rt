@@ -6,9 +6,9 @@ ghost use Rattle.sem_key.specs.KeyName.{KeyName, IsValidKey, key_eq};
 ghost use Rattle.sem_key.specs.KeyList.{IsRising};
 ghost use Rattle.sem_key.specs.Lists.{change, put, in_turn};
 ghost use Rattle.sem_key.specs.Capability.{Capability};
+ghost use Rattle.sem_key.specs.CapList.{with_cap};
 ghost use Rattle.sem_msg.specs.declared.event.Event.{Event};
 ghost use Rattle.sem_msg.specs.Setup.{Setup};
-ghost use Rattle.sem_machine.specs.Sides.{with_cap};
 ghost use Rattle.sem_machine.specs.Revokes.{has_key, Reached, region};
 ghost use Rattle.sem_machine.specs.Machine.{World, enabled, is_enabled};
 

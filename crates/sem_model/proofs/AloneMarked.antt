@@ -6,7 +6,7 @@ use Rattle.std.proofs.lemmas.Bool.{cond_both, cond-true, cond-false, cases_Bool}
 use Rattle.std.proofs.lemmas.List.Elements.{All-head, All-tail, All-contains}
 use Rattle.sem_key.specs.KeyName.{KeyName, key_eq}
 use Rattle.sem_key.specs.Capability.{Capability}
-use Rattle.sem_machine.specs.Sides.{is_marked_by}
+use Rattle.sem_key.specs.CapList.{is_marked_by}
 use Rattle.sem_machine.specs.Revokes.{has_key, other_marker}
 use Rattle.sem_machine.proofs.Members.{found}
 

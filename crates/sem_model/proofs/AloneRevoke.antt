@@ -10,9 +10,10 @@ use Rattle.sem_key.specs.Capability.{Capability}
 use Rattle.sem_key.specs.Lists.{in_turn}
 use Rattle.sem_msg.specs.Rows.{JobRow, VpeRow, Endpoint}
 use Rattle.sem_msg.specs.Setup.{Setup}
+use Rattle.sem_msg.specs.Lookups.{is_local}
+use Rattle.sem_msg.specs.EndpointRows.{unbound_from}
 use Rattle.sem_machine.specs.Codes.{Done}
-use Rattle.sem_machine.specs.Setups.{is_local}
-use Rattle.sem_machine.specs.Sides.{Side, cap, ready, unlinked, freed, unbound_from, mark_all, unbind_all, job_opened, caps_removed, job_removed}
+use Rattle.sem_machine.specs.Sides.{Side, cap, ready, unlinked, freed, mark_all, unbind_all, job_opened, caps_removed, job_removed}
 use Rattle.sem_machine.specs.Revokes.{has_key, region, linked_from, children_of, adopted, request_or_adopt, swept, woken, parent_left, root_parent, closed, finish, settled, begin, if_done}
 use Rattle.sem_machine.proofs.Members.{found, Contains-from_filter, Contains-from_flat_map}
 use Rattle.sem_model.specs.Alone.{IsAlone, all_freed, left_by, revoked_alone}

@@ -14,14 +14,15 @@ use Rattle.sem_key.specs.declared.object.Object.TheVariants.{Mem}
 use Rattle.sem_key.specs.Lists.{put, in_turn}
 use Rattle.sem_key.specs.Capability.{Capability}
 use Rattle.sem_key.specs.MembershipTable.{owner_at}
+use Rattle.sem_key.specs.CapList.{with_cap}
 use Rattle.sem_msg.specs.declared.message.Message.{Message}
 use Rattle.sem_msg.specs.declared.setup.Root.{Root}
 use Rattle.sem_msg.specs.declared.setup.VpeDecl.{VpeDecl}
 use Rattle.sem_msg.specs.declared.state.Slot.TheVariants.{Free, Held}
 use Rattle.sem_msg.specs.Rows.{VpeRow, no_vpe}
 use Rattle.sem_msg.specs.Setup.{Setup, IsSetup, IsRoot, IsVpeDecl, root_key}
-use Rattle.sem_machine.specs.Setups.{pe_owner}
-use Rattle.sem_machine.specs.Sides.{Side, row, with_cap}
+use Rattle.sem_msg.specs.Lookups.{pe_owner}
+use Rattle.sem_machine.specs.Sides.{Side, row}
 use Rattle.sem_machine.specs.Machine.{new_vpe, root_added, vpe_added, empty_side, start_side, start}
 use Rattle.sem_model.specs.ModelWorld.{booted}
 use Rattle.sem_machine.proofs.InTurns.{in_turn-append}

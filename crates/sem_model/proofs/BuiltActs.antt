@@ -13,7 +13,7 @@ use Rattle.sem_msg.specs.declared.state.Parked.{Parked}
 use Rattle.sem_msg.specs.declared.state.Parked.TheVariants.{ObtainWait, ObtainReady, ObtainCancelled, DelegateWait, DelegateReady, RevokeWait, Ready}
 use Rattle.sem_msg.specs.Calls.{IsValidCall}
 use Rattle.sem_msg.specs.Setup.{Setup, IsSetup, IsVpeDecl}
-use Rattle.sem_machine.specs.Setups.{kernel_of}
+use Rattle.sem_msg.specs.Lookups.{kernel_of}
 use Rattle.sem_machine.specs.Sides.{Side, row, parked, is_alive, call_counted, unparked}
 use Rattle.sem_machine.specs.Steps.{Step, answer, plain}
 use Rattle.sem_machine.specs.Calls.{call_row}

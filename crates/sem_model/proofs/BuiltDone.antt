@@ -7,6 +7,7 @@ use Rattle.sem_key.specs.KeyName.{KeyName, IsValidKey, key_eq}
 use Rattle.sem_key.specs.KeyList.{with_key}
 use Rattle.sem_key.specs.Lists.{change}
 use Rattle.sem_key.specs.Capability.{Capability}
+use Rattle.sem_key.specs.CapList.{with_cap}
 use Rattle.sem_msg.specs.declared.call.Call.{Call}
 use Rattle.sem_msg.specs.declared.call.Call.TheVariants.{Derive, Gate, Obtain, Delegate, OpenSession, AskOffer, Revoke, Bind, Read, Write, Send as SendCall, Credit, Exit}
 use Rattle.sem_msg.specs.declared.event.Act.{Act}
@@ -14,7 +15,7 @@ use Rattle.sem_msg.specs.declared.event.Act.TheVariants.{Call as Calls, Fetch, H
 use Rattle.sem_msg.specs.declared.setup.VpeDecl.{VpeDecl}
 use Rattle.sem_msg.specs.Setup.{Setup, IsSetup, IsVpeDecl}
 use Rattle.sem_machine.specs.Codes.{NoCap}
-use Rattle.sem_machine.specs.Sides.{Side, cap, own, call_counted, with_cap}
+use Rattle.sem_machine.specs.Sides.{Side, cap, own, call_counted}
 use Rattle.sem_machine.specs.Steps.{Step, answer, unless}
 use Rattle.sem_machine.specs.Calls.{next_key, narrowed, derive_tests, derive_row, revoke_row, call_row}
 use Rattle.sem_machine.specs.Revokes.{has_key, region}

@@ -16,7 +16,6 @@ use Rattle.sem_msg.specs.Calls.{IsValidCall}
 use Rattle.sem_msg.specs.Rows.{VpeRow, no_vpe}
 use Rattle.sem_msg.specs.Setup.{Setup}
 use Rattle.sem_machine.specs.Codes.{Done, NoCap}
-use Rattle.sem_machine.specs.Setups.{is_local}
 use Rattle.sem_machine.specs.Sides.{Side, row, own, call_counted, unparked}
 use Rattle.sem_machine.specs.Steps.{Step, answer, unless}
 use Rattle.sem_machine.specs.Calls.{next_key, narrowed, child_made, derive_tests, derive_row, revoke_row, call_row}
@@ -24,6 +23,7 @@ use Rattle.sem_machine.specs.Revokes.{has_key, region}
 use Rattle.sem_machine.proofs.Members.{found}
 use Rattle.sem_machine.proofs.Puts.{put-set}
 use Rattle.sem_key.specs.Lists.{put}
+use Rattle.sem_msg.specs.Lookups.{is_local}
 use Rattle.sem_model.specs.Acting.{reply_number}
 use Rattle.sem_model.specs.Alone.{IsAlone, revoked_alone}
 use Rattle.sem_model.specs.Built.{IsBuiltCall}

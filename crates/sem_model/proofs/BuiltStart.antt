@@ -14,7 +14,7 @@ use Rattle.sem_msg.specs.declared.setup.VpeDecl.{VpeDecl}
 use Rattle.sem_msg.specs.declared.state.Slot.TheVariants.{Free, Held}
 use Rattle.sem_msg.specs.Rows.{VpeRow, no_vpe}
 use Rattle.sem_msg.specs.Setup.{Setup, IsSetup, IsVpeDecl, IsRoot, root_key}
-use Rattle.sem_machine.specs.Setups.{pe_owner, is_local}
+use Rattle.sem_msg.specs.Lookups.{pe_owner, is_local}
 use Rattle.sem_machine.specs.Sides.{Side, no_side, row}
 use Rattle.sem_machine.specs.Machine.{new_vpe, root_added, vpe_added, empty_side, start_side, start}
 use Rattle.sem_machine.proofs.Puts.{get_or-put_same}

@@ -17,8 +17,8 @@ use Rattle.sem_msg.specs.declared.entry.Entry.{Entry}
 use Rattle.sem_msg.specs.declared.setup.VpeDecl.{VpeDecl}
 use Rattle.sem_msg.specs.Setup.{Setup}
 use Rattle.sem_msg.specs.Journal.{kill_number}
+use Rattle.sem_msg.specs.Lookups.{kernel_of}
 use Rattle.sem_machine.specs.declared.Outcome.{Outcome}
-use Rattle.sem_machine.specs.Setups.{kernel_of}
 use Rattle.sem_machine.specs.Resumes.{can_resume}
 use Rattle.sem_machine.specs.Sides.{Side, no_side, row, parked, is_alive}
 use Rattle.sem_machine.specs.Steps.{Step}

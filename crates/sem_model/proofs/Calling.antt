@@ -15,8 +15,8 @@ use Rattle.sem_msg.specs.declared.setup.VpeDecl.{VpeDecl}
 use Rattle.sem_msg.specs.declared.state.Parked.TheVariants.{Ready}
 use Rattle.sem_msg.specs.Rows.{VpeRow, no_vpe}
 use Rattle.sem_msg.specs.Setup.{Setup, IsSetup, call_count}
+use Rattle.sem_msg.specs.Lookups.{kernel_of, is_declared}
 use Rattle.sem_machine.specs.Resumes.{can_resume, resume_row}
-use Rattle.sem_machine.specs.Setups.{kernel_of, is_declared}
 use Rattle.sem_machine.specs.declared.Outcome.{Outcome}
 use Rattle.sem_machine.specs.Calls.{derive_row, revoke_row, call_row}
 use Rattle.sem_machine.specs.Machine.{event, next_call, is_locally_enabled, local_step, local_entry}

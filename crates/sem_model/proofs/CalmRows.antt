@@ -9,9 +9,10 @@ use Rattle.sem_msg.specs.declared.state.Slot.TheVariants.{Free}
 use Rattle.sem_msg.specs.declared.state.Parked.{Parked}
 use Rattle.sem_msg.specs.declared.state.Parked.TheVariants.{Ready}
 use Rattle.sem_msg.specs.Rows.{VpeRow, no_vpe}
+use Rattle.sem_msg.specs.VpeRows.{row as row_of, freed as slot_freed}
 use Rattle.sem_machine.proofs.Puts.{get_or-put_same, get_or-put_other}
 use Rattle.sem_model.specs.BuiltWorld.{IsCalm}
-use Rattle.sem_model.specs.Revoking.{row_of, slot_freed, slots_freed, row_ready}
+use Rattle.sem_model.specs.Revoking.{slots_freed, row_ready}
 use Rattle.sem_model.proofs.AloneBegun.{All-put, All-read}
 
 -- a write makes no list shorter

@@ -7,11 +7,12 @@ use Rattle.sem_key.specs.ObjectRanges.{object_kind}
 use Rattle.sem_key.specs.KeyList.{with_key}
 use Rattle.sem_key.specs.Lists.{change, put}
 use Rattle.sem_key.specs.Capability.{Capability}
+use Rattle.sem_key.specs.CapList.{with_cap}
 use Rattle.sem_msg.specs.declared.state.Slot.TheVariants.{Free, Held}
 use Rattle.sem_msg.specs.Rows.{VpeRow, no_vpe}
 use Rattle.sem_msg.specs.Setup.{Setup}
 use Rattle.sem_machine.specs.Codes.{Done}
-use Rattle.sem_machine.specs.Sides.{Side, row, with_cap}
+use Rattle.sem_machine.specs.Sides.{Side, row}
 use Rattle.sem_machine.specs.Calls.{next_key, child_made}
 use Rattle.sem_machine.proofs.Puts.{get_or-put_same, put-set}
 

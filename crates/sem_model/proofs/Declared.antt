@@ -5,7 +5,7 @@ use Rattle.std.specs.Prelude.{◌==◌}
 use Rattle.std.proofs.lemmas.List.Elements.{All-contains}
 use Rattle.sem_msg.specs.declared.setup.VpeDecl.{VpeDecl}
 use Rattle.sem_msg.specs.Setup.{Setup, IsSetup, IsVpeDecl}
-use Rattle.sem_machine.specs.Setups.{decl, is_declared}
+use Rattle.sem_msg.specs.Lookups.{decl, is_declared}
 use Rattle.sem_model.specs.Placed.{IsPlaced}
 use Rattle.sem_machine.proofs.Members.{found, not_found, list_any-some}
 

@@ -9,11 +9,12 @@ use Rattle.sem_key.specs.Capability.{Capability}
 use Rattle.sem_msg.specs.declared.state.Slot.TheVariants.{Free}
 use Rattle.sem_msg.specs.declared.state.Parked.TheVariants.{Ready}
 use Rattle.sem_msg.specs.Rows.{VpeRow, no_vpe}
+use Rattle.sem_msg.specs.VpeRows.{row as row_of, freed as slot_freed}
 use Rattle.sem_machine.specs.Sides.{Side}
 use Rattle.sem_machine.proofs.Puts.{get_or-put_same, get_or-put_other, put-set}
 use Rattle.sem_machine.proofs.InTurns.{in_turn-append}
 use Rattle.sem_model.specs.Alone.{all_freed}
-use Rattle.sem_model.specs.Revoking.{row_of, slot_freed, slots_freed, row_ready}
+use Rattle.sem_model.specs.Revoking.{slots_freed, row_ready}
 
 -- what is read within the rows is the row of the VPE
 pub row_of-read : (rows : List VpeRow) (v i : ℕ) (r : VpeRow) → i ≡ v → v < length rows → r ≡ get_or rows i r → r ≡ row_of rows v

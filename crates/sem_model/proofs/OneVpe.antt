@@ -6,7 +6,7 @@ use Rattle.std.proofs.lemmas.Bool.{eqb-true}
 use Rattle.std.proofs.lemmas.List.Elements.{All-contains, All-cons, All-nil}
 use Rattle.sem_msg.specs.declared.setup.VpeDecl.{VpeDecl}
 use Rattle.sem_msg.specs.Setup.{Setup}
-use Rattle.sem_machine.specs.Setups.{decl, pe_owner, pe_of, kernel_of, calls_of, is_declared}
+use Rattle.sem_msg.specs.Lookups.{decl, pe_owner, pe_of, kernel_of, calls_of, is_declared}
 use Rattle.sem_machine.proofs.Members.{found, list_any-some, Contains-head, Contains-cons_cases, Contains-nil}
 use Rattle.sem_model.specs.Built.{IsBuilt}
 

@@ -8,9 +8,9 @@ use Rattle.sem_key.specs.KeyName.{KeyName, key_eq, key_lt}
 use Rattle.sem_key.specs.KeyList.{with_key}
 use Rattle.sem_key.specs.Lists.{change}
 use Rattle.sem_key.specs.Capability.{Capability}
+use Rattle.sem_key.specs.CapList.{with_cap}
 use Rattle.sem_msg.specs.Setup.{Setup}
-use Rattle.sem_machine.specs.Setups.{is_declared, is_local}
-use Rattle.sem_machine.specs.Sides.{with_cap}
+use Rattle.sem_msg.specs.Lookups.{is_declared, is_local}
 use Rattle.sem_model.specs.BuiltWorld.{IsOwnCap}
 use Rattle.sem_model.specs.Revoking.{child_left, caps_left}
 use Rattle.sem_model.proofs.AloneLists.{All-with_key}

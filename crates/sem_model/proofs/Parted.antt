@@ -4,7 +4,7 @@ use Rattle.std.specs.List.{filter}
 use Rattle.std.proofs.lemmas.List.{map-id}
 use Rattle.sem_key.specs.KeyName.{KeyName, key_lt}
 use Rattle.sem_key.specs.Capability.{Capability}
-use Rattle.sem_machine.specs.Sides.{with_cap}
+use Rattle.sem_key.specs.CapList.{with_cap}
 
 -- some capabilities, parted by whether they come before a key
 pub record IsParted (k : KeyName) (all before behind : List Capability) : Type 0 where

@@ -6,11 +6,12 @@ use Rattle.std.specs.Option.{option_map_or}
 use Rattle.sem_key.specs.declared.key.Kind.TheVariants.{Mem}
 use Rattle.sem_key.specs.Capability.{Capability}
 use Rattle.sem_msg.specs.Setup.{Setup}
+use Rattle.sem_msg.specs.VpeRows.{is_taken}
 use Rattle.sem_machine.specs.declared.Outcome.{Outcome}
 use Rattle.sem_machine.specs.Codes.{NoCap, Revoking, Occupied, Numbers, BadKind, Wider}
 use Rattle.sem_machine.specs.Sides.{Side, row, own, slot, is_marked}
 use Rattle.sem_machine.specs.Steps.{Step, unless}
-use Rattle.sem_machine.specs.Calls.{derive_tests, derive_row, child_made, narrowed, object_passes, is_of, is_wider, is_taken}
+use Rattle.sem_machine.specs.Calls.{derive_tests, derive_row, child_made, narrowed, object_passes, is_of, is_wider}
 use Rattle.sem_model.specs.Refusal.{first_code}
 
 -- a refused call is answered with the first code, and any other is done

@@ -4,8 +4,8 @@ use Rattle.sem_key.specs.KeyName.{KeyName}
 use Rattle.sem_key.specs.Lists.{in_turn}
 use Rattle.sem_key.specs.Capability.{Capability}
 use Rattle.sem_msg.specs.Setup.{Setup}
+use Rattle.sem_msg.specs.Lookups.{is_local}
 use Rattle.sem_machine.specs.Codes.{Done}
-use Rattle.sem_machine.specs.Setups.{is_local}
 use Rattle.sem_machine.specs.Sides.{Side, freed, ready, unlinked}
 use Rattle.sem_machine.specs.Revokes.{has_key, region}
 

@@ -6,7 +6,7 @@ use Rattle.sem_msg.specs.declared.state.Parked.{Parked}
 use Rattle.sem_msg.specs.declared.state.Parked.TheVariants.{ObtainWait, ObtainReady, ObtainCancelled, DelegateWait, DelegateReady, RevokeWait, Ready}
 use Rattle.sem_msg.specs.Rows.{VpeRow}
 use Rattle.sem_msg.specs.Setup.{Setup, IsSetup}
-use Rattle.sem_machine.specs.Setups.{is_declared, is_local}
+use Rattle.sem_msg.specs.Lookups.{is_declared, is_local}
 use Rattle.sem_machine.specs.Sides.{Side, row}
 use Rattle.sem_machine.specs.Machine.{World, side}
 use Rattle.sem_model.specs.Built.{IsBuilt}

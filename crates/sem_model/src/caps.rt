@@ -1,7 +1,8 @@
 ghost use Rattle.std.specs.Prelude.{◌≡◌, ◌<◌, length, find, option_copied, IfOk};
 ghost use Rattle.sem_key.specs.KeyName.{key_eq};
 ghost use Rattle.sem_key.specs.ObjectRanges.{object_kind};
-ghost use Rattle.sem_machine.specs.Sides.{own, row, with_cap};
+ghost use Rattle.sem_key.specs.CapList.{with_cap};
+ghost use Rattle.sem_machine.specs.Sides.{own, row};
 
 use crate::state::{Capability, Side};
 use sem_key::{Key, Kind, Object, OutOfMemory, pack};

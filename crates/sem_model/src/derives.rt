@@ -3,10 +3,11 @@ ghost use Rattle.sem_key.specs.KeyName.{key_eq};
 ghost use Rattle.sem_key.specs.KeyList.{with_key};
 ghost use Rattle.sem_key.specs.Lists.{change};
 ghost use Rattle.sem_key.specs.ObjectRanges.{object_kind};
+ghost use Rattle.sem_key.specs.CapList.{with_cap};
 ghost use Rattle.sem_msg.specs.declared.state.Slot.TheVariants.{Held};
+ghost use Rattle.sem_msg.specs.Lookups.{is_declared};
 ghost use Rattle.sem_machine.specs.Calls.{narrowed as narrowed_lem, next_key as next_key_lem, child_made, derive_row};
-ghost use Rattle.sem_machine.specs.Setups.{is_declared};
-ghost use Rattle.sem_machine.specs.Sides.{row, with_cap};
+ghost use Rattle.sem_machine.specs.Sides.{row};
 
 use crate::caps::{add_cap, kind_of, own_cap};
 use crate::links::link;

@@ -1,10 +1,12 @@
 ghost use Rattle.std.specs.Prelude.{◌≡◌, ℕ, ◌<◌, ◌+◌, ◌^◌, not, length, filter, All, IfOk, OnErr};
+ghost use Rattle.sem_key.specs.CapList.{unlinked as caps_unlinked};
 ghost use Rattle.sem_msg.specs.Setup.{Setup};
+ghost use Rattle.sem_msg.specs.VpeRows.{row as row_of, freed as slot_freed};
 ghost use Rattle.sem_machine.specs.Sides.{row};
 ghost use Rattle.sem_machine.specs.Calls.{revoke_row};
 ghost use Rattle.sem_machine.specs.Revokes.{has_key as has_key_lem};
 ghost use Rattle.sem_model.specs.Alone.{IsAlone, revoked_alone};
-ghost use Rattle.sem_model.specs.Revoking.{row_of, slot_freed, slots_freed, row_ready, child_left, caps_unlinked, caps_left};
+ghost use Rattle.sem_model.specs.Revoking.{slots_freed, row_ready, child_left, caps_left};
 
 use crate::caps::{own_cap, same_key};
 use crate::outcomes::answered;
@@ -63,7 +65,7 @@ fn leave(capability: &mut Capability, child: &Key)
 
 // The parent leads to the child no more.
 fn unlink(caps: &mut Vec<Capability>, parent: &Key, child: &Key)
-    ensures { caps.new.items ≡ caps_unlinked parent.now child.now caps.old.items }
+    ensures { caps.new.items ≡ caps_unlinked caps.old.items parent.now child.now }
 {
     for capability in caps.iter_mut() {
         if same_key(&capability.key, parent) {

@@ -1,6 +1,6 @@
 ghost use Rattle.std.specs.Prelude.{◌≡◌, ◌==◌, find, true, option_copied};
+ghost use Rattle.sem_msg.specs.Lookups.{is_declared as is_declared_lem, kernel_of as kernel_of_lem, pe_of as pe_of_lem};
 ghost use Rattle.sem_machine.specs.Machine.{next_call as next_call_lem};
-ghost use Rattle.sem_machine.specs.Setups.{is_declared as is_declared_lem, kernel_of as kernel_of_lem, pe_of as pe_of_lem};
 ghost use Rattle.sem_machine.specs.Sides.{row};
 ghost use Rattle.sem_model.specs.Placed.{IsPlaced};
 

@@ -1,9 +1,10 @@
 ghost use Rattle.std.specs.Prelude.{◌≡◌, ◌+◌, ◌<◌, ◌≤◌, [], length, replicate, slice_set, All, None, IfOk};
 ghost use Rattle.sem_key.specs.ObjectRanges.{object_kind};
+ghost use Rattle.sem_key.specs.CapList.{with_cap};
 ghost use Rattle.sem_msg.specs.declared.state.Slot.TheVariants.{Held};
 ghost use Rattle.sem_msg.specs.Setup.{IsRoot, root_key};
 ghost use Rattle.sem_msg.specs.Rows.{no_vpe};
-ghost use Rattle.sem_machine.specs.Sides.{row, with_cap};
+ghost use Rattle.sem_machine.specs.Sides.{row};
 ghost use Rattle.sem_machine.specs.Machine.{new_vpe, empty_side, root_added, vpe_added, start_side};
 ghost use Rattle.sem_model.specs.Built.{IsBuilt};
 ghost use Rattle.sem_model.specs.ModelWorld.{booted};

@@ -5,3 +5,9 @@ pub mod Setup
 pub mod Journal
 pub mod Outboxes
 pub mod Rows
+pub mod Lookups
+pub mod VpeRows
+pub mod EndpointRows
+pub mod Uses
+pub mod JobRows
+pub mod ParkedStates

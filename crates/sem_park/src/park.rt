@@ -1,6 +1,7 @@
 ghost use Rattle.std.specs.Prelude.{◌≡◌, ◌<◌, ◌≤◌, length, replicate, None, Some};
 ghost use Rattle.sem_key.specs.KeyName.{key_eq};
-ghost use Rattle.sem_park.specs.Parks.{IsPark, state_of, parked_as, unparked, promised_to, cancelled};
+ghost use Rattle.sem_msg.specs.ParkedStates.{state_of, parked_as, unparked, promised_to, cancelled};
+ghost use Rattle.sem_park.specs.Parks.{IsPark};
 
 use sem_key::Key;
 use sem_msg::Parked;

@@ -6,7 +6,7 @@ use Rattle.std.proofs.lemmas.List.{get_or_past, get_or_read}
 use Rattle.sem_msg.specs.declared.entry.Entry.{Entry}
 use Rattle.sem_msg.specs.declared.setup.VpeDecl.{VpeDecl}
 use Rattle.sem_msg.specs.Setup.{Setup}
-use Rattle.sem_machine.specs.Setups.{decl, kernel_of}
+use Rattle.sem_msg.specs.Lookups.{decl, kernel_of}
 use Rattle.sem_machine.specs.Sides.{is_alive, no_side}
 use Rattle.sem_machine.specs.Machine.{side}
 use Rattle.sem_machine.specs.Schedules.{world_after}

@@ -3,7 +3,7 @@ use Rattle.std.specs.Prelude.{◌≡◌, ◌≢◌, ℕ, ◌<◌, ◌≤◌, ◌
 use Rattle.std.specs.Option.{option_map_or}
 use Rattle.sem_msg.specs.declared.entry.Entry.{Entry}
 use Rattle.sem_msg.specs.Setup.{Setup}
-use Rattle.sem_machine.specs.Setups.{kernel_of, calls_of}
+use Rattle.sem_msg.specs.Lookups.{kernel_of, calls_of}
 use Rattle.sem_machine.specs.Sides.{is_alive}
 use Rattle.sem_machine.specs.Machine.{side, enabled}
 use Rattle.sem_machine.specs.Schedules.{IsSchedule, world_after}

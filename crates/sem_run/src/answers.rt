@@ -1,8 +1,8 @@
 ghost use Rattle.std.specs.Prelude.{◌≡◌, ℕ, ◌<◌, ◌↔◌, ◌==◌, false, find, length, option_copied, slice_get, IsTrue, MatchOption};
 ghost use Rattle.std.specs.Option.{option_map_or};
+ghost use Rattle.sem_msg.specs.Lookups.{kernel_of as kernel_of_lem, calls_of};
 ghost use Rattle.sem_machine.specs.Living.{reply_count as reply_count_of};
 ghost use Rattle.sem_machine.specs.Machine.{side};
-ghost use Rattle.sem_machine.specs.Setups.{kernel_of as kernel_of_lem, calls_of};
 ghost use Rattle.sem_machine.specs.Sides.{is_alive as is_alive_lem};
 ghost use Rattle.sem_run.specs.Runs.{IsRunTo, IsUnanswered, replies_to};
 

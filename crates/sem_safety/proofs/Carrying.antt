@@ -13,12 +13,14 @@ use Rattle.sem_key.specs.KeyName.{KeyName, key_eq, key_lt}
 use Rattle.sem_key.specs.Lists.{change, put}
 use Rattle.sem_key.specs.KeyList.{with_key, without_key}
 use Rattle.sem_key.specs.Capability.{Capability}
+use Rattle.sem_key.specs.CapList.{is_marked_by}
 use Rattle.sem_msg.specs.declared.message.Message.{Message}
 use Rattle.sem_msg.specs.declared.state.Ask.{Ask}
 use Rattle.sem_msg.specs.declared.state.Parked.{Parked}
 use Rattle.sem_msg.specs.declared.state.Slot.{Slot}
 use Rattle.sem_msg.specs.Rows.{Endpoint, VpeRow, no_vpe}
-use Rattle.sem_machine.specs.Sides.{linked, unlinked, mark_all, parked, Side, no_side, row, endpoint, outbox, with_slot, parked_as, unparked, with_endpoint, unbound_from, unbind_all, cap_added, is_marked_by, caps_removed, send, sent, with_inbox}
+use Rattle.sem_msg.specs.EndpointRows.{unbound_from}
+use Rattle.sem_machine.specs.Sides.{linked, unlinked, mark_all, parked, Side, no_side, row, endpoint, outbox, with_slot, parked_as, unparked, with_endpoint, unbind_all, cap_added, caps_removed, send, sent, with_inbox}
 use Rattle.sem_machine.proofs.Members.{found}
 use Rattle.sem_safety.proofs.Layers.{Facts, InEndpoint, Brings, BringsFrom, Awaits, AsksFor, IsLayer}
 

@@ -20,7 +20,7 @@ use Rattle.sem_msg.specs.declared.message.Message.TheVariants.{ObtainOk, Ack}
 use Rattle.sem_msg.specs.declared.state.Slot.TheVariants.{Held}
 use Rattle.sem_msg.specs.Rows.{VpeRow, no_vpe}
 use Rattle.sem_msg.specs.Setup.{Setup, root_key}
-use Rattle.sem_machine.specs.Setups.{pe_owner}
+use Rattle.sem_msg.specs.Lookups.{pe_owner}
 use Rattle.sem_machine.specs.Sides.{Side, no_side, row, cap, outbox, with_row, with_slot, cap_added}
 use Rattle.sem_machine.specs.Steps.{Step}
 use Rattle.sem_machine.specs.Machine.{World, side, link, with_side, with_link, start, start_side, empty_side, new_vpe, root_added, vpe_added, local_step, local_entry, input_of, link_moved, after, entry_of}

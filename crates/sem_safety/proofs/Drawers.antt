@@ -6,7 +6,7 @@ use Rattle.sem_msg.specs.declared.event.Act.{Act}
 use Rattle.sem_msg.specs.declared.event.Act.TheVariants.{Call as Calls, Fetch, Handle, Upcall, Resume, Flush, Kill}
 use Rattle.sem_msg.specs.declared.event.Event.{Event}
 use Rattle.sem_msg.specs.Setup.{Setup}
-use Rattle.sem_machine.specs.Setups.{kernel_of}
+use Rattle.sem_msg.specs.Lookups.{kernel_of}
 use Rattle.sem_machine.specs.Sides.{Side, no_side}
 use Rattle.sem_machine.specs.Machine.{World, side, with_side, after, is_enabled, is_locally_enabled, is_allowed}
 use Rattle.sem_machine.proofs.Puts.{get_or-put_same}

@@ -15,12 +15,13 @@ use Rattle.sem_key.specs.KeyName.{KeyName, IsValidKey, key_eq, key_lt}
 use Rattle.sem_key.specs.KeyList.{IsRising}
 use Rattle.sem_key.specs.Lists.{in_turn}
 use Rattle.sem_key.specs.Capability.{Capability}
+use Rattle.sem_key.specs.CapList.{with_cap}
 use Rattle.sem_msg.specs.declared.setup.Root.{Root}
 use Rattle.sem_msg.specs.declared.setup.VpeDecl.{VpeDecl}
 use Rattle.sem_msg.specs.Rows.{VpeRow}
 use Rattle.sem_msg.specs.Setup.{Setup, IsSetup, IsVpeDecl, root_key}
-use Rattle.sem_machine.specs.Setups.{pe_owner, kernel_of}
-use Rattle.sem_machine.specs.Sides.{Side, no_side, row, cap, with_row, with_cap}
+use Rattle.sem_msg.specs.Lookups.{pe_owner, kernel_of}
+use Rattle.sem_machine.specs.Sides.{Side, no_side, row, cap, with_row}
 use Rattle.sem_machine.specs.Machine.{side, start, start_side, empty_side, new_vpe, root_added, vpe_added}
 use Rattle.sem_machine.specs.Journals.{root_keys_from, root_keys}
 use Rattle.sem_machine.proofs.Members.{AllPairs-map, Contains-nil, Contains-cons_cases, Contains-filter, Contains-from_flat_map, find_none, list_any-some}

@@ -17,7 +17,7 @@ use Rattle.sem_msg.specs.declared.setup.VpeDecl.{VpeDecl}
 use Rattle.sem_msg.specs.declared.state.Slot.TheVariants.{Held}
 use Rattle.sem_msg.specs.Rows.{VpeRow, no_vpe}
 use Rattle.sem_msg.specs.Setup.{Setup, IsSetup, IsVpeDecl, root_key}
-use Rattle.sem_machine.specs.Setups.{pe_owner, kernel_of}
+use Rattle.sem_msg.specs.Lookups.{pe_owner, kernel_of}
 use Rattle.sem_machine.specs.Sides.{Side, no_side, row, with_row, with_slot, cap_added}
 use Rattle.sem_machine.specs.Machine.{side, start, start_side, empty_side, new_vpe, root_added, vpe_added}
 use Rattle.sem_machine.specs.Journals.{root_keys_from, root_keys}

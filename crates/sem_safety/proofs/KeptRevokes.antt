@@ -7,6 +7,7 @@ use Rattle.sem_key.specs.declared.object.Object.{Object}
 use Rattle.sem_key.specs.KeyName.{KeyName}
 use Rattle.sem_key.specs.Lists.{in_turn}
 use Rattle.sem_key.specs.Capability.{Capability}
+use Rattle.sem_key.specs.CapList.{is_marked_by}
 use Rattle.sem_msg.specs.declared.message.Message.TheVariants.{RevokeReq, RevokeDone, Unlink}
 use Rattle.sem_msg.specs.declared.state.Parked.{Parked}
 use Rattle.sem_msg.specs.declared.state.Parked.TheVariants.{ObtainWait, ObtainReady, ObtainCancelled, DelegateWait, DelegateReady, RevokeWait, Ready}
@@ -15,11 +16,13 @@ use Rattle.sem_msg.specs.declared.state.Up.{Up}
 use Rattle.sem_msg.specs.declared.state.Up.TheVariants.{Local, Remote}
 use Rattle.sem_msg.specs.Rows.{JobRow}
 use Rattle.sem_msg.specs.Setup.{Setup}
+use Rattle.sem_msg.specs.Lookups.{owner_of, is_local}
+use Rattle.sem_msg.specs.JobRows.{with_number}
+use Rattle.sem_msg.specs.ParkedStates.{is_ready_with}
 use Rattle.sem_machine.specs.Codes.{Done}
-use Rattle.sem_machine.specs.Setups.{owner_of, is_local}
-use Rattle.sem_machine.specs.Sides.{Side, cap, job, parked, freed, ready, parked_as, installed, cap_added, unlinked, mark_all, unbind_all, is_marked_by, job_opened, send}
-use Rattle.sem_machine.specs.Revokes.{has_key, with_number}
-use Rattle.sem_machine.specs.Revokes.{region, children_of, count_raised, count_lowered, with_up, adopted, other_marker, request_or_adopt, selectors_freed, swept, woken, parent_left, root_parent, up_told, closed, if_done, next_done, finish, settled, begin, revoke_begun, is_ready_with, ready_freed, obtain_cancelled, request_begun, revoke_requested, revoke_done}
+use Rattle.sem_machine.specs.Sides.{Side, cap, job, parked, freed, ready, parked_as, installed, cap_added, unlinked, mark_all, unbind_all, job_opened, send}
+use Rattle.sem_machine.specs.Revokes.{has_key}
+use Rattle.sem_machine.specs.Revokes.{region, children_of, count_raised, count_lowered, with_up, adopted, other_marker, request_or_adopt, selectors_freed, swept, woken, parent_left, root_parent, up_told, closed, if_done, next_done, finish, settled, begin, revoke_begun, ready_freed, obtain_cancelled, request_begun, revoke_requested, revoke_done}
 use Rattle.sem_safety.proofs.Layers.{Facts, IsKept, in_turn-keeps, in_turn-keeps_each}
 use Rattle.sem_safety.proofs.Doomed.{region-doomed, children-doomed}
 

@@ -25,8 +25,8 @@ use Rattle.sem_msg.specs.declared.state.Parked.TheVariants.{ObtainWait, ObtainRe
 use Rattle.sem_msg.specs.declared.state.Slot.{Slot}
 use Rattle.sem_msg.specs.declared.state.Slot.TheVariants.{Free, Held, Promised}
 use Rattle.sem_msg.specs.Setup.{Setup}
+use Rattle.sem_msg.specs.Lookups.{kernel_of, owner_of, place_owner, service_named}
 use Rattle.sem_machine.specs.Codes.{NoCap, NoService, BadKind, Dead}
-use Rattle.sem_machine.specs.Setups.{kernel_of, owner_of, place_owner, service_named}
 use Rattle.sem_machine.specs.Sides.{is_marked, Side, row, cap, cap_in, own, slot, endpoint, parked, drawn, promised, parked_as, unparked, asked, buried, linked, send}
 use Rattle.sem_machine.specs.Steps.{Step, answer, unless}
 use Rattle.sem_machine.specs.Asks.{target_vpe, asker, is_unawaited, promise_freed, call_refused, refusal_sent, ask_refused}

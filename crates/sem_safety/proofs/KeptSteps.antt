@@ -20,8 +20,8 @@ use Rattle.sem_msg.specs.declared.state.Parked.TheVariants.{ObtainWait, ObtainRe
 use Rattle.sem_msg.specs.declared.state.Pending.{Pending}
 use Rattle.sem_msg.specs.declared.state.Slot.TheVariants.{Promised}
 use Rattle.sem_msg.specs.Setup.{Setup}
+use Rattle.sem_msg.specs.Lookups.{kernel_of, owner_of, place_owner, denies}
 use Rattle.sem_machine.specs.Codes.{Done, Dead, Refused}
-use Rattle.sem_machine.specs.Setups.{kernel_of, owner_of, place_owner, denies}
 use Rattle.sem_machine.specs.Sides.{Side, row, cap, parked, pending, is_alive, drawn, promised, parked_as, unparked, asked, ask_taken, call_counted, linked, installed, pending_added, pending_removed, send, with_inbox}
 use Rattle.sem_machine.specs.Steps.{plain}
 use Rattle.sem_machine.specs.Asks.{target_vpe, asker, is_unawaited, ask_refused, call_refused}

@@ -27,7 +27,6 @@ use Rattle.sem_msg.specs.declared.state.Pending.{Pending}
 use Rattle.sem_msg.specs.declared.state.Slot.TheVariants.{Held, Promised}
 use Rattle.sem_msg.specs.Setup.{Setup}
 use Rattle.sem_machine.specs.Codes.{Done, NoCap, NoService, BadKind, Refused, Revoking, Gone}
-use Rattle.sem_machine.specs.Setups.{kernel_of, owner_of, place_owner, service_named, denies}
 use Rattle.sem_machine.specs.Sides.{Side, row, cap, own, endpoint, parked, is_alive, call_counted, drawn, promised, parked_as, unparked, asked, ask_taken, linked, installed, cap_added, pending, send, with_inbox, pending_added, pending_removed, with_endpoint}
 use Rattle.sem_machine.specs.Steps.{Step, plain, answer, cutting, asking}
 use Rattle.sem_machine.specs.Asks.{target_vpe, asker, is_unawaited, ask_refused}
@@ -44,6 +43,7 @@ use Rattle.sem_safety.proofs.KeptRows.{unless-keeps, ask_refused-in, ended-in}
 use Rattle.sem_safety.proofs.KeptSteps.{handled-in}
 use Rattle.sem_safety.proofs.GoingOn.{AnyVpe}
 use Rattle.sem_key.specs.Lists.{put}
+use Rattle.sem_msg.specs.Lookups.{kernel_of, owner_of, place_owner, service_named, denies}
 use Rattle.sem_safety.proofs.Layers.{Brings, IsKept}
 use Rattle.sem_safety.proofs.Lives.{at_key, at_message, at_parked, at_inbox, at_side, at_grant, OtherKeys, lives-same, lives-parked, lives-unparked, lives-added, lives-send, lives-inbox, lives}
 

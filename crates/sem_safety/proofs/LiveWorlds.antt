@@ -17,7 +17,7 @@ use Rattle.sem_msg.specs.declared.setup.VpeDecl.{VpeDecl}
 use Rattle.sem_msg.specs.declared.state.Slot.TheVariants.{Held}
 use Rattle.sem_msg.specs.Rows.{VpeRow, no_vpe}
 use Rattle.sem_msg.specs.Setup.{Setup, IsSetup, root_key}
-use Rattle.sem_machine.specs.Setups.{pe_owner}
+use Rattle.sem_msg.specs.Lookups.{pe_owner}
 use Rattle.sem_machine.specs.Sides.{Side, no_side, row, outbox, sent, with_row, with_slot, cap_added, with_inbox}
 use Rattle.sem_machine.specs.Machine.{World, side, link, with_side, with_link, start, start_side, empty_side, new_vpe, root_added, vpe_added, local_step, local_entry, after, entry_of, event}
 use Rattle.sem_machine.specs.Schedules.{IsSchedule, world_after}

@@ -10,13 +10,15 @@ use Rattle.sem_key.specs.KeyName.{KeyName, key_eq, key_lt}
 use Rattle.sem_key.specs.KeyList.{with_key, without_key}
 use Rattle.sem_key.specs.Capability.{Capability}
 use Rattle.sem_key.specs.Lists.{change, put}
+use Rattle.sem_key.specs.CapList.{is_marked_by}
 use Rattle.sem_msg.specs.declared.message.Message.{Message}
 use Rattle.sem_msg.specs.declared.message.Message.TheVariants.{ObtainReq, ObtainOk, ObtainNo, DelegateReq, DelegatePrepared, DelegateNo, Ack, Orphan, RevokeReq, RevokeDone, Unlink}
 use Rattle.sem_msg.specs.declared.state.Parked.{Parked}
 use Rattle.sem_msg.specs.declared.state.Parked.TheVariants.{ObtainWait, ObtainReady, ObtainCancelled, DelegateWait, DelegateReady, RevokeWait, Ready}
 use Rattle.sem_msg.specs.declared.state.Slot.TheVariants.{Free}
 use Rattle.sem_msg.specs.Rows.{Endpoint, VpeRow, no_vpe}
-use Rattle.sem_machine.specs.Sides.{Side, row, endpoint, outbox, cap_added, is_marked_by, unbound_from, send, sent, parked_as, unparked, with_inbox}
+use Rattle.sem_msg.specs.EndpointRows.{unbound_from}
+use Rattle.sem_machine.specs.Sides.{Side, row, endpoint, outbox, cap_added, send, sent, parked_as, unparked, with_inbox}
 use Rattle.sem_safety.proofs.Layers.{Facts, facts, Brings, BringsFrom, Awaits, IsKept}
 use Rattle.sem_safety.proofs.Onwards.{AnyPlace}
 use Rattle.sem_safety.proofs.Weighing.{of_option, weigh-put, weigh-drop, weigh-map, weigh-parts, weigh-filter}

@@ -14,7 +14,7 @@ use Rattle.sem_msg.specs.declared.entry.Entry.{Entry}
 use Rattle.sem_msg.specs.declared.message.Message.{Message}
 use Rattle.sem_msg.specs.Rows.{no_vpe}
 use Rattle.sem_msg.specs.Setup.{Setup, IsSetup, root_key}
-use Rattle.sem_machine.specs.Setups.{pe_owner, kernel_of}
+use Rattle.sem_msg.specs.Lookups.{pe_owner, kernel_of}
 use Rattle.sem_machine.specs.Sides.{Side, row, with_slot, cap_added}
 use Rattle.sem_machine.specs.Machine.{World, side, start, start_side, empty_side, new_vpe, root_added, vpe_added, local_entry, after, entry_of}
 use Rattle.sem_machine.specs.Schedules.{IsSchedule, world_after}

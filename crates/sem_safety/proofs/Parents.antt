@@ -26,8 +26,8 @@ use Rattle.sem_msg.specs.declared.state.Parked.TheVariants.{ObtainWait, ObtainRe
 use Rattle.sem_msg.specs.declared.state.Slot.{Slot}
 use Rattle.sem_msg.specs.declared.state.Slot.TheVariants.{Free, Held, Promised}
 use Rattle.sem_msg.specs.Setup.{Setup}
+use Rattle.sem_msg.specs.Lookups.{kernel_of, denies, offered, service_named}
 use Rattle.sem_machine.specs.Codes.{NoCap, NoService, BadKind}
-use Rattle.sem_machine.specs.Setups.{kernel_of, denies, offered, service_named}
 use Rattle.sem_machine.specs.Sides.{Side, row, cap, cap_in, own, slot, endpoint, parked, is_marked, call_counted, unparked, ask_taken}
 use Rattle.sem_machine.specs.Steps.{Step, plain, answer, unless}
 use Rattle.sem_machine.specs.Asks.{asker, is_unawaited}

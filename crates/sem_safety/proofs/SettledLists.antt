@@ -10,7 +10,7 @@ use Rattle.sem_key.specs.KeyName.{KeyName, IsValidKey, packed, key_eq}
 use Rattle.sem_key.specs.KeyList.{IsRising, with_key}
 use Rattle.sem_key.specs.Lists.{change}
 use Rattle.sem_key.specs.Capability.{Capability}
-use Rattle.sem_machine.specs.Sides.{with_cap}
+use Rattle.sem_key.specs.CapList.{with_cap}
 use Rattle.sem_machine.specs.Revokes.{has_key, region}
 use Rattle.sem_machine.specs.Revokes.Reached.{at_root}
 use Rattle.sem_machine.proofs.Finds.{held-with_cap_same, held-with_cap_other, held-change_same, held-change_other, with_cap-rises}

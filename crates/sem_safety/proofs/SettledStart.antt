@@ -5,7 +5,7 @@ use Rattle.std.proofs.lemmas.List.Elements.{All-contains, Contains-append_cases}
 use Rattle.sem_key.specs.KeyName.{KeyName, IsValidKey, key_eq}
 use Rattle.sem_key.specs.Capability.{Capability}
 use Rattle.sem_msg.specs.Setup.{Setup, IsSetup}
-use Rattle.sem_machine.specs.Setups.{kernel_of}
+use Rattle.sem_msg.specs.Lookups.{kernel_of}
 use Rattle.sem_machine.specs.Sides.{Side, no_side, cap}
 use Rattle.sem_machine.specs.Machine.{side, start, start_side}
 use Rattle.sem_machine.specs.Schedules.{IsRun, IsSchedule}

@@ -11,10 +11,12 @@ use Rattle.sem_key.specs.KeyName.{KeyName, key_eq, key_lt}
 use Rattle.sem_key.specs.KeyList.{with_key, without_key}
 use Rattle.sem_key.specs.Capability.{Capability}
 use Rattle.sem_key.specs.Lists.{change, put}
+use Rattle.sem_key.specs.CapList.{with_cap, is_marked_by}
 use Rattle.sem_msg.specs.declared.state.Slot.{Slot}
 use Rattle.sem_msg.specs.declared.state.Slot.TheVariants.{Free, Held, Promised}
 use Rattle.sem_msg.specs.Rows.{Endpoint, VpeRow, no_vpe}
-use Rattle.sem_machine.specs.Sides.{Side, row, slot, own, cap_in, endpoint, with_cap, with_slot, with_endpoint, mark_all, unbind_all, unbound_from, is_marked_by}
+use Rattle.sem_msg.specs.EndpointRows.{unbound_from}
+use Rattle.sem_machine.specs.Sides.{Side, row, slot, own, cap_in, endpoint, with_slot, with_endpoint, mark_all, unbind_all}
 use Rattle.sem_machine.specs.Revokes.{has_key}
 use Rattle.sem_machine.proofs.Puts.{get_or-put_same, get_or-put_other}
 use Rattle.sem_machine.proofs.KeyTests.{key_eq-true}

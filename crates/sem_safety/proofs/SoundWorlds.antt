@@ -13,7 +13,7 @@ use Rattle.sem_msg.specs.declared.state.Slot.{Slot}
 use Rattle.sem_msg.specs.declared.state.Slot.TheVariants.{Free, Held}
 use Rattle.sem_msg.specs.Rows.{Endpoint, VpeRow, no_vpe}
 use Rattle.sem_msg.specs.Setup.{Setup, IsSetup, root_key}
-use Rattle.sem_machine.specs.Setups.{pe_owner}
+use Rattle.sem_msg.specs.Lookups.{pe_owner}
 use Rattle.sem_machine.specs.Sides.{Side, no_side, row, slot, endpoint, with_slot, cap_added}
 use Rattle.sem_machine.specs.Machine.{side, start, start_side, empty_side, new_vpe, root_added, vpe_added}
 use Rattle.sem_machine.specs.Schedules.{IsSchedule, world_after}

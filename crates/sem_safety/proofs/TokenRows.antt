@@ -27,8 +27,8 @@ use Rattle.sem_msg.specs.declared.state.Pending.{Pending}
 use Rattle.sem_msg.specs.declared.state.Slot.TheVariants.{Promised}
 use Rattle.sem_msg.specs.Rows.{VpeRow, no_vpe}
 use Rattle.sem_msg.specs.Setup.{Setup}
+use Rattle.sem_msg.specs.Lookups.{kernel_of, owner_of, place_owner, service_named, denies}
 use Rattle.sem_machine.specs.Codes.{Done, Dead, NoCap, NoService, BadKind, Refused, Revoking, Gone}
-use Rattle.sem_machine.specs.Setups.{kernel_of, owner_of, place_owner, service_named, denies}
 use Rattle.sem_machine.specs.Sides.{Side, row, cap, own, endpoint, parked, is_alive, call_counted, drawn, promised, parked_as, unparked, asked, ask_taken, linked, installed, send, with_inbox, pending_added, with_endpoint}
 use Rattle.sem_machine.specs.Steps.{Step, plain, answer, cutting, asking}
 use Rattle.sem_machine.specs.Asks.{target_vpe, asker, is_unawaited, ask_refused}

@@ -10,7 +10,7 @@ use Rattle.sem_msg.specs.declared.event.Act.{Act}
 use Rattle.sem_msg.specs.declared.event.Act.TheVariants.{Call as Calls, Fetch, Handle, Upcall, Resume, Flush, Kill}
 use Rattle.sem_msg.specs.declared.event.Event.{Event}
 use Rattle.sem_msg.specs.Setup.{Setup}
-use Rattle.sem_machine.specs.Setups.{kernel_of}
+use Rattle.sem_msg.specs.Lookups.{kernel_of}
 use Rattle.sem_machine.specs.Sides.{Side, no_side, row, outbox, sent, with_inbox}
 use Rattle.sem_machine.specs.Machine.{World, side, link, with_side, with_link, local_step, after, event, is_enabled}
 use Rattle.sem_safety.proofs.CarryingWorlds.{stepped}

@@ -16,7 +16,8 @@ use Rattle.sem_msg.specs.declared.state.Parked.{Parked}
 use Rattle.sem_msg.specs.declared.state.Parked.TheVariants.{ObtainWait, ObtainReady, ObtainCancelled, DelegateWait, DelegateReady, RevokeWait, Ready}
 use Rattle.sem_msg.specs.declared.state.Slot.TheVariants.{Free}
 use Rattle.sem_msg.specs.Rows.{Endpoint, VpeRow, no_vpe}
-use Rattle.sem_machine.specs.Sides.{Side, row, endpoint, outbox, unbound_from, send, sent, asked, ask_taken, parked_as, unparked, with_inbox}
+use Rattle.sem_msg.specs.EndpointRows.{unbound_from}
+use Rattle.sem_machine.specs.Sides.{Side, row, endpoint, outbox, send, sent, asked, ask_taken, parked_as, unparked, with_inbox}
 use Rattle.sem_safety.proofs.Layers.{Facts, facts, Brings, BringsFrom, Awaits, AsksFor, IsKept}
 use Rattle.sem_safety.proofs.Onwards.{Any}
 use Rattle.sem_safety.proofs.Weighing.{of_option, weigh-put, weigh-drop, weigh-map}

@@ -8,11 +8,12 @@ use Rattle.std.proofs.lemmas.List.Folds.{find-append}
 use Rattle.sem_key.specs.KeyName.{KeyName, key_eq}
 use Rattle.sem_key.specs.Lists.{change, put}
 use Rattle.sem_key.specs.Capability.{Capability}
+use Rattle.sem_key.specs.CapList.{is_marked_by}
 use Rattle.sem_msg.specs.declared.message.Message.{Message}
 use Rattle.sem_msg.specs.declared.state.Pending.{Pending}
 use Rattle.sem_msg.specs.declared.state.Up.{Up}
 use Rattle.sem_msg.specs.Rows.{JobRow, VpeRow, no_vpe}
-use Rattle.sem_machine.specs.Sides.{Side, row, cap, job, pending, outbox, with_row, unbind_all, cap_added, cap_changed, mark_all, is_marked_by, caps_removed, pending_added, pending_removed, job_opened, job_changed, job_removed, send, sent, with_inbox}
+use Rattle.sem_machine.specs.Sides.{Side, row, cap, job, pending, outbox, with_row, unbind_all, cap_added, cap_changed, mark_all, caps_removed, pending_added, pending_removed, job_opened, job_changed, job_removed, send, sent, with_inbox}
 use Rattle.sem_machine.specs.Revokes.{has_key}
 use Rattle.sem_machine.proofs.Finds.{held-with_cap_same, held-with_cap_other}
 use Rattle.sem_machine.proofs.KeyTests.{key_eq-true, key_eq-from}

@@ -6,7 +6,8 @@ use Rattle.sem_key.specs.Capability.{Capability}
 use Rattle.sem_msg.specs.declared.message.Message.{Message}
 use Rattle.sem_msg.specs.declared.state.Pending.{Pending}
 use Rattle.sem_msg.specs.Rows.{JobRow, Endpoint, VpeRow}
-use Rattle.sem_machine.specs.Sides.{Side, cap, row, pending, job, outbox, unbound_from}
+use Rattle.sem_msg.specs.EndpointRows.{unbound_from}
+use Rattle.sem_machine.specs.Sides.{Side, cap, row, pending, job, outbox}
 use Rattle.sem_machine.specs.Machine.{World, side, link}
 
 -- what is seen of a side

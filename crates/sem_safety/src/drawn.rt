@@ -2,7 +2,7 @@ ghost use Rattle.std.specs.Prelude.{◌<◌, List, Contains};
 ghost use Rattle.sem_key.specs.KeyName.{KeyName};
 ghost use Rattle.sem_msg.specs.declared.entry.Entry.{Entry};
 ghost use Rattle.sem_msg.specs.Setup.{Setup, IsSetup};
-ghost use Rattle.sem_machine.specs.Setups.{kernel_of};
+ghost use Rattle.sem_msg.specs.Lookups.{kernel_of};
 ghost use Rattle.sem_machine.specs.Sides.{row};
 ghost use Rattle.sem_machine.specs.Machine.{side};
 ghost use Rattle.sem_machine.specs.Schedules.{IsSchedule, world_after};

@@ -2,11 +2,12 @@ ghost use Rattle.std.specs.Prelude.{◌≡◌, ◌==◌, ◌+◌, ℕ, not, List
 ghost use Rattle.std.specs.Option.{option_map, option_or};
 ghost use Rattle.sem_key.specs.KeyName.{KeyName, key_eq};
 ghost use Rattle.sem_key.specs.Capability.{Capability};
+ghost use Rattle.sem_key.specs.CapList.{is_marked_by};
 ghost use Rattle.sem_msg.specs.declared.message.Message.{Message};
 ghost use Rattle.sem_msg.specs.declared.state.Pending.{Pending};
 ghost use Rattle.sem_msg.specs.declared.state.Up.{Up};
 ghost use Rattle.sem_msg.specs.Rows.{JobRow, VpeRow};
-ghost use Rattle.sem_machine.specs.Sides.{Side, cap, row, pending, job, outbox, with_row, unbind_all, cap_added, cap_changed, mark_all, is_marked_by, caps_removed, pending_added, pending_removed, job_opened, job_changed, job_removed, send, sent, with_inbox};
+ghost use Rattle.sem_machine.specs.Sides.{Side, cap, row, pending, job, outbox, with_row, unbind_all, cap_added, cap_changed, mark_all, caps_removed, pending_added, pending_removed, job_opened, job_changed, job_removed, send, sent, with_inbox};
 ghost use Rattle.sem_machine.specs.Revokes.{has_key};
 ghost use Rattle.sem_machine.specs.Machine.{World, side, link, with_side, with_link};
 ghost use Rattle.sem_machine.specs.Living.{way};

@@ -12,8 +12,10 @@ use Rattle.sem_msg.specs.declared.setup.VpeDecl.{VpeDecl}
 use Rattle.sem_msg.specs.declared.state.Slot.TheVariants.{Free, Held}
 use Rattle.sem_msg.specs.Rows.{VpeRow, no_vpe}
 use Rattle.sem_msg.specs.Setup.{Setup, IsSetup, IsVpeDecl, root_key}
-use Rattle.sem_vpe.specs.VpeTable.{IsOurs, row, slot}
-use Rattle.sem_vpe.specs.Starting.{decl, pe_owner, own_decl, new_vpe, root_added, start_row, start_place, start_table, IsAsDeclared}
+use Rattle.sem_msg.specs.VpeRows.{row, slot}
+use Rattle.sem_msg.specs.Lookups.{decl, pe_owner}
+use Rattle.sem_vpe.specs.VpeTable.{IsOurs}
+use Rattle.sem_vpe.specs.Starting.{own_decl, new_vpe, root_added, start_row, start_place, start_table, IsAsDeclared}
 use Rattle.sem_vpe.proofs.Puts.{get_or-put_same, get_or-put_other}
 use Rattle.sem_vpe.proofs.Places.{marked-within}
 use Rattle.sem_vpe.proofs.Starts.{found-all}

@@ -8,7 +8,8 @@ use Rattle.std.proofs.lemmas.List.{get_or-map, map-set, length-map}
 use Rattle.sem_key.specs.Lists.{put}
 use Rattle.sem_msg.specs.declared.state.Ask.{Ask}
 use Rattle.sem_msg.specs.Rows.{VpeRow, no_vpe}
-use Rattle.sem_vpe.specs.VpeTable.{VpeTable, IsOurs, IsVpeRow, IsVpeTable, row, with_row}
+use Rattle.sem_msg.specs.VpeRows.{row, with_row}
+use Rattle.sem_vpe.specs.VpeTable.{VpeTable, IsOurs, IsVpeRow, IsVpeTable}
 use Rattle.sem_vpe.specs.Stored.{plain}
 use Rattle.sem_vpe.proofs.Puts.{get_or-put_same, get_or-put_other, put-set, length-put}
 

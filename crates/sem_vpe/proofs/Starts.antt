@@ -19,8 +19,9 @@ use Rattle.sem_msg.specs.declared.setup.Root.{Root}
 use Rattle.sem_msg.specs.declared.setup.VpeDecl.{VpeDecl}
 use Rattle.sem_msg.specs.Rows.{VpeRow, no_vpe}
 use Rattle.sem_msg.specs.Setup.{Setup, IsSetup, IsRoot, IsVpeDecl}
+use Rattle.sem_msg.specs.Lookups.{decl, pe_owner}
 use Rattle.sem_vpe.specs.VpeTable.{IsVpeRow, IsVpeTable}
-use Rattle.sem_vpe.specs.Starting.{decl, pe_owner, own_decl, new_vpe, root_added, start_row, start_place, start_table, IsStartable}
+use Rattle.sem_vpe.specs.Starting.{own_decl, new_vpe, root_added, start_row, start_place, start_table, IsStartable}
 use Rattle.sem_vpe.specs.Stored.{plain}
 
 -- first what is done with those of the front, then with those of the rest

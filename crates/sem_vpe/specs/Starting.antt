@@ -1,23 +1,16 @@
 -- What a kernel keeps of its VPEs at the start ("State" in docs/machine.md).
-use Rattle.std.specs.Prelude.{◌≡◌, ◌≢◌, ℕ, ◌+◌, ◌==◌, ◌≤◌, ◌↔◌, true, All, [], length, slice_get, IsSome, map, find, Option, Some, None, unwrap_or, is_some, replicate, if◌then◌else◌}
+use Rattle.std.specs.Prelude.{◌≡◌, ◌≢◌, ℕ, ◌+◌, ◌==◌, ◌≤◌, ◌↔◌, true, All, [], length, slice_get, IsSome, map, Option, Some, None, unwrap_or, is_some, replicate, if◌then◌else◌}
 use Rattle.std.specs.List.{range_with_len}
 use Rattle.std.specs.Option.{option_and_then, option_map}
 use Rattle.sem_key.specs.Lists.{put, in_turn}
-use Rattle.sem_key.specs.MembershipTable.{owner_at}
 use Rattle.sem_msg.specs.declared.setup.Root.{Root}
 use Rattle.sem_msg.specs.declared.setup.VpeDecl.{VpeDecl}
 use Rattle.sem_msg.specs.declared.state.Slot.TheVariants.{Free, Held}
 use Rattle.sem_msg.specs.Rows.{VpeRow, no_vpe}
 use Rattle.sem_msg.specs.Setup.{Setup, root_key}
-use Rattle.sem_vpe.specs.VpeTable.{VpeTable, IsOurs, row, slot, is_alive}
-
--- the declaration of a VPE
-abbrev pub decl : Setup → ℕ → Option VpeDecl
-decl T v = find (λ d. d.vpe == v) T.vpes
-
--- the kernel that owns a PE; the number of kernels, which is no kernel, where none does
-abbrev pub pe_owner : Setup → ℕ → ℕ
-pe_owner T pe = unwrap_or (owner_at T.owners pe) T.kernels
+use Rattle.sem_msg.specs.Lookups.{decl, pe_owner}
+use Rattle.sem_msg.specs.VpeRows.{row, slot, is_alive}
+use Rattle.sem_vpe.specs.VpeTable.{VpeTable, IsOurs}
 
 -- the declaration of a VPE that is on a PE of kernel i
 abbrev pub own_decl : Setup → ℕ → ℕ → Option VpeDecl

@@ -2,7 +2,8 @@ ghost use Rattle.std.specs.Prelude.{◌≡◌, ◌+◌, ◌<◌, ◌≤◌, ◌�
 ghost use Rattle.sem_key.specs.Lists.{put};
 ghost use Rattle.sem_msg.specs.declared.state.Slot.TheVariants.{Free, Held, Promised};
 ghost use Rattle.sem_key.specs.ObjectRanges.{object_kind};
-ghost use Rattle.sem_vpe.specs.VpeTable.{IsVpeRow, is_taken};
+ghost use Rattle.sem_msg.specs.VpeRows.{is_taken};
+ghost use Rattle.sem_vpe.specs.VpeTable.{IsVpeRow};
 ghost use Rattle.sem_vpe.specs.Starting.{IsStartable, root_added, start_row};
 
 use crate::queue;

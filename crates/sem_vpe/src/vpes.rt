@@ -1,6 +1,7 @@
 ghost use Rattle.std.specs.Prelude.{◌≡◌, ◌<◌, ◌≤◌, ◌↔◌, [], ◌∷◌, ◌++◌, ◌==◌, length, find, slice_get, slice_index_or, option_copied, false, IsTrue, IfOk, IfSome, IsErr, OnOk, OnErr};
 ghost use Rattle.sem_msg.specs.declared.state.Slot.TheVariants.{Held};
-ghost use Rattle.sem_vpe.specs.VpeTable.{IsOurs, IsVpeRow, IsVpeTable, row, is_alive, slot as slot_lem, is_taken, call_counted, drawn, with_slot, promised, freed, asked, ask_taken, died};
+ghost use Rattle.sem_msg.specs.VpeRows.{row, is_alive, slot as slot_lem, is_taken, call_counted, drawn, with_slot, promised, freed, asked, ask_taken, died};
+ghost use Rattle.sem_vpe.specs.VpeTable.{IsOurs, IsVpeRow, IsVpeTable};
 ghost use Rattle.sem_vpe.specs.Starting.{own_decl as own_decl_lem, IsStartable, IsAsDeclared, start_place, start_table};
 
 use crate::vpe::{Numbers, Occupied, Vpe};

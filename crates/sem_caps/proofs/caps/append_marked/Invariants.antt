@@ -1,5 +1,6 @@
 use Rattle.std.proofs.Common.{◌≡◌, ◌++◌, map, take, vec_capacity}
-use Rattle.sem_caps.specs.CapStore.{marked_by, key_and_selector}
+use Rattle.sem_key.specs.CapList.{marked_by}
+use Rattle.sem_caps.specs.CapStore.{key_and_selector}
 use Rattle.sem_caps.specs.Stored.{plain}
 use Rattle.sem_caps.proofs.caps.append_marked.Given as goal
 

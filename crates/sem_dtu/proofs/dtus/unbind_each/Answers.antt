@@ -1,6 +1,6 @@
 use Rattle.std.proofs.Common.{[], ◌∷◌}
 use Rattle.std.proofs.lemmas.List.Edits.{map_over_more}
-use Rattle.sem_dtu.specs.EndpointTable.{unbound_from}
+use Rattle.sem_msg.specs.EndpointRows.{unbound_from}
 use Rattle.sem_dtu.proofs.dtus.unbind_each.Goals as goal
 
 -- one more endpoint is not bound to the key

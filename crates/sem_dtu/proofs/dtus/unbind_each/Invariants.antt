@@ -1,5 +1,5 @@
 use Rattle.std.proofs.Common.{◌≡◌, ◌++◌, [], ◌∷◌, map, take, drop}
-use Rattle.sem_dtu.specs.EndpointTable.{unbound_from}
+use Rattle.sem_msg.specs.EndpointRows.{unbound_from}
 use Rattle.sem_dtu.proofs.dtus.unbind_each.Given as goal
 
 -- the endpoints so far are not bound to the key, and the others are as they were

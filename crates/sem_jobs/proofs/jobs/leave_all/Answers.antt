@@ -1,8 +1,8 @@
 use Rattle.std.proofs.Common.{rules, arith, ◌≡◌, ◌<◌, ◌+◌, length, ◌++◌, take, drop, set, get_or, sym, ◌∙◌, ap}
 use Rattle.std.proofs.lemmas.List.Edits.{map_over_more}
 use Rattle.sem_msg.specs.Rows.{JobRow}
-use Rattle.sem_jobs.specs.VpeSet.{without_number}
-use Rattle.sem_jobs.specs.JobStore.{waiter_removed}
+use Rattle.sem_msg.specs.JobRows.{without_number}
+use Rattle.sem_msg.specs.JobRows.{waiter_removed}
 use Rattle.sem_jobs.proofs.jobs.leave_all.Goals as goal
 
 -- the VPE waits for one job less

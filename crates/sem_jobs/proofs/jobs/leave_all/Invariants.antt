@@ -1,5 +1,5 @@
 use Rattle.std.proofs.Common.{◌≡◌, ◌++◌, take, drop}
-use Rattle.sem_jobs.specs.JobStore.{waiter_removed}
+use Rattle.sem_msg.specs.JobRows.{waiter_removed}
 use Rattle.sem_jobs.proofs.jobs.leave_all.Given as goal
 
 -- the VPE waits for none of the jobs so far, and the others are as they were

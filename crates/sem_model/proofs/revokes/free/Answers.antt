@@ -1,7 +1,7 @@
 use Rattle.std.proofs.Common.{rules, arith, ◌≡◌, ◌<◌, length, sym, ◌∙◌, ap}
 use Rattle.sem_model.specs.contracts.state.Vpe.{the_view}
-use Rattle.sem_model.specs.Revoking.{row_of}
 use Rattle.sem_msg.specs.Rows.{VpeRow}
+use Rattle.sem_msg.specs.VpeRows.{row as row_of}
 use Rattle.sem_model.proofs.Freeing.{row_of-within, row_of-read, slot_freed-set}
 use Rattle.sem_model.proofs.revokes.free.Goals as goal
 

@@ -1,9 +1,9 @@
 use Rattle.std.proofs.Common.{Vec, Global, rules, arith, ◌≡◌, ◌<◌, length, get_or, refl, sym, ◌∙◌, ap}
 use Rattle.sem_key.specs.Lists.{in_turn}
 use Rattle.sem_key.specs.Capability.{Capability}
+use Rattle.sem_msg.specs.VpeRows.{freed as slot_freed}
 use Rattle.sem_model.specs.declared.state.Vpe.{Vpe}
 use Rattle.sem_machine.specs.Revokes.{has_key}
-use Rattle.sem_model.specs.Revoking.{slot_freed}
 use Rattle.sem_model.proofs.Freeing.{IsSameShape-same, IsSameShape-freed, selector-within, slots_freed-pass, slots_freed-fail}
 use Rattle.sem_model.proofs.revokes.free_all.Goals.{then-has_key, else-has_key}
 use Rattle.sem_model.proofs.revokes.free_all.Goals as goal

@@ -1,7 +1,7 @@
 use Rattle.std.proofs.Common.{◌≡◌, ◌∙◌, sym}
 use Rattle.sem_model.specs.contracts.state.Vpe.{the_view}
-use Rattle.sem_model.specs.Revoking.{row_of}
 use Rattle.sem_msg.specs.Rows.{VpeRow}
+use Rattle.sem_msg.specs.VpeRows.{row as row_of}
 use Rattle.sem_model.proofs.Freeing.{row_of-read, row_ready-set}
 use Rattle.sem_model.proofs.revokes.wake.Goals as goal
 

@@ -1,6 +1,7 @@
 use Rattle.std.proofs.Common.{◌≡◌, Some, sym, ap, rules}
 use Rattle.std.specs.List.{slice_get}
-use Rattle.sem_caps.specs.CapStore.{CapStore, keys_of}
+use Rattle.sem_key.specs.CapList.{keys_of}
+use Rattle.sem_caps.specs.CapStore.{CapStore}
 use Rattle.sem_caps.specs.Stored.{plain}
 use Rattle.sem_caps.proofs.RisingCaps.{in_range-row, cap_of-gap, cap_of-row}
 use Rattle.sem_caps.proofs.caps.Caps.children_sorted.Goals as goal

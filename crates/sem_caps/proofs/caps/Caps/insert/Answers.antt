@@ -1,7 +1,8 @@
 use Rattle.std.proofs.Common.{◌≡◌, sym, ap, rules}
 use Rattle.std.specs.List.{insert}
 use Rattle.sem_key.specs.KeyList.{IsGapFor}
-use Rattle.sem_caps.specs.CapStore.{CapStore, keys_of}
+use Rattle.sem_key.specs.CapList.{keys_of}
+use Rattle.sem_caps.specs.CapStore.{CapStore}
 use Rattle.sem_caps.specs.Stored.{plain}
 use Rattle.sem_caps.proofs.RisingCaps.{cap_of-held}
 use Rattle.sem_caps.proofs.Inserted.{fresh_row, plain-fresh, stored-insert}

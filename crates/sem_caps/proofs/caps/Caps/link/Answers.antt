@@ -2,7 +2,8 @@ use Rattle.std.proofs.Common.{◌≡◌, Some, sym, ap, refl}
 use Rattle.std.specs.List.{slice_get}
 use Rattle.sem_key.specs.Capability.{Capability}
 use Rattle.sem_key.specs.KeyList.{with_key}
-use Rattle.sem_caps.specs.CapStore.{CapStore, keys_of}
+use Rattle.sem_key.specs.CapList.{keys_of}
+use Rattle.sem_caps.specs.CapStore.{CapStore}
 use Rattle.sem_caps.specs.Stored.{plain}
 use Rattle.sem_caps.proofs.Edited.{same_caps, changed-row, stored-used, room-here}
 use Rattle.sem_caps.proofs.caps.Caps.link.Goals as goal

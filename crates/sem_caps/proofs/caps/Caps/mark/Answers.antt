@@ -1,7 +1,8 @@
 use Rattle.std.proofs.Common.{◌≡◌, Some, sym, ap, refl, arith, rules}
 use Rattle.std.specs.List.{slice_get}
 use Rattle.sem_key.specs.Capability.{Capability}
-use Rattle.sem_caps.specs.CapStore.{CapStore, keys_of}
+use Rattle.sem_key.specs.CapList.{keys_of}
+use Rattle.sem_caps.specs.CapStore.{CapStore}
 use Rattle.sem_caps.specs.Stored.{plain}
 use Rattle.sem_caps.proofs.RisingCaps.{in_range-row, cap_of-gap}
 use Rattle.sem_caps.proofs.Edited.{same_caps, changed-row, stored-set}

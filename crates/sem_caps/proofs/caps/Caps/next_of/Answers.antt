@@ -1,5 +1,6 @@
 use Rattle.std.proofs.Common.{◌≡◌, sym, ap}
-use Rattle.sem_caps.specs.CapStore.{CapStore, keys_of}
+use Rattle.sem_key.specs.CapList.{keys_of}
+use Rattle.sem_caps.specs.CapStore.{CapStore}
 use Rattle.sem_caps.specs.Stored.{plain, IsFirstAbove}
 use Rattle.sem_caps.proofs.Nexts.{next-found}
 use Rattle.sem_caps.proofs.caps.Caps.next_of.Goals as goal

@@ -2,7 +2,8 @@ use Rattle.std.proofs.Common.{◌≡◌, not, sym, ap, rules, ◌∙◌}
 use Rattle.std.specs.List.{filter}
 use Rattle.std.proofs.lemmas.Fn.{filter_same}
 use Rattle.sem_key.specs.Capability.{capability_of}
-use Rattle.sem_caps.specs.CapStore.{CapStore, is_marked_by, held_key, not_marked_by}
+use Rattle.sem_key.specs.CapList.{is_marked_by, not_marked_by}
+use Rattle.sem_caps.specs.CapStore.{CapStore, held_key}
 use Rattle.sem_caps.specs.Stored.{plain}
 use Rattle.sem_caps.proofs.Swept.{plain-filter, stored-swept}
 use Rattle.sem_caps.proofs.caps.Caps.remove_marked.Goals as goal

@@ -1,7 +1,7 @@
 use Rattle.std.proofs.Common.{◌≡◌, [], ◌∷◌, map, length, get_or, refl, ◌∙◌, ap, subst}
 use Rattle.std.proofs.lemmas.List.{length-map}
 use Rattle.sem_key.specs.KeyName.{KeyName}
-use Rattle.sem_dtu.specs.EndpointTable.{unbound_from}
+use Rattle.sem_msg.specs.EndpointRows.{unbound_from}
 use Rattle.sem_dtu.proofs.Edited.{ours-place, is_table-row, table-written}
 use Rattle.sem_dtu.proofs.dtus.Dtus.unbind_key.Goals as goal
 

@@ -1,7 +1,8 @@
 use Rattle.std.proofs.Common.{◌<◌, [], ◌∷◌, length, sym, ◌∙◌, ap, append_assoc, append-nil, arith}
 use Rattle.std.specs.Option.{option_and_then}
 use Rattle.sem_msg.specs.Rows.{JobRow}
-use Rattle.sem_jobs.specs.JobStore.{JobStore, job_of}
+use Rattle.sem_msg.specs.JobRows.{job_of}
+use Rattle.sem_jobs.specs.JobStore.{JobStore}
 use Rattle.sem_jobs.specs.Chain.{chain}
 use Rattle.sem_jobs.proofs.Chains.{IsTurn, turned, chain-none, chain-more, there-found}
 use Rattle.sem_jobs.proofs.jobs.Jobs.finish_chain.Goals as goal

@@ -1,6 +1,6 @@
 use Rattle.std.proofs.Common.{◌≡◌, ◌+◌, ◌≤◌, ◌++◌, length, vec_len, vec_capacity, IfSome, IsSome}
 use Rattle.std.specs.Option.{option_and_then}
-use Rattle.sem_jobs.specs.JobStore.{job_of}
+use Rattle.sem_msg.specs.JobRows.{job_of}
 use Rattle.sem_jobs.specs.Chain.{chain, chain_of}
 use Rattle.sem_jobs.proofs.jobs.Jobs.finish_chain.Given as goal
 

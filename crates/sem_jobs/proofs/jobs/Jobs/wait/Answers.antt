@@ -1,6 +1,6 @@
 use Rattle.std.proofs.Common.{◌≡◌, sym, ap}
 use Rattle.sem_msg.specs.Rows.{JobRow}
-use Rattle.sem_jobs.specs.VpeSet.{with_number}
+use Rattle.sem_msg.specs.JobRows.{with_number}
 use Rattle.sem_jobs.specs.JobStore.{JobStore, IsPlaceOf}
 use Rattle.sem_jobs.proofs.JobPlaces.{same_jobs, ids-set, changed}
 use Rattle.sem_jobs.proofs.jobs.Jobs.wait.Goals as goal

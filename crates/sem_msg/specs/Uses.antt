@@ -1,0 +1,68 @@
+-- What a VPE may do through an endpoint, and what it does to it ("Calls" in docs/machine.md).
+-- Each list of tests is handed what it answers where nothing fit is bound, where the right is wanting, and where the use goes too far.
+use Rattle.std.specs.Prelude.{ℕ, ◌+◌, ◌==◌, nat_lt, nat_le, Bool, true, false, not, List, [], ◌∷◌, ◌++◌, length, drop, Option, is_none}
+use Rattle.std.specs.Option.{option_map, option_map_or}
+use Rattle.sem_key.specs.declared.object.Object.{Object}
+use Rattle.sem_key.specs.declared.object.Object.TheVariants.{Mem, Send}
+use Rattle.sem_key.specs.ObjectRanges.{is_subset}
+use Rattle.sem_msg.specs.Rows.{Endpoint}
+
+-- whether it is memory with that right
+abbrev pub allows : ℕ → Object → Bool
+allows right (Mem base len rights) = is_subset right rights
+allows right object = false
+
+-- whether it is a send gate
+abbrev pub is_send_gate : Object → Bool
+is_send_gate (Send gate label credits) = true
+is_send_gate object = false
+
+-- whether so many bytes from the offset on go past the end
+abbrev pub is_past_end : ℕ → ℕ → Object → Bool
+is_past_end off len (Mem base size rights) = nat_lt size (off + len)
+is_past_end off len object = true
+
+-- whether so many messages use up the credits
+abbrev pub are_credits_used : ℕ → Object → Bool
+are_credits_used n (Send gate label credits) = nat_le credits n
+are_credits_used n object = true
+
+-- whether what the endpoint is bound to passes the test
+abbrev pub bound_passes : (Endpoint → Bool) → Option Endpoint → Bool
+bound_passes test e = option_map_or test e false
+
+-- the tests of a read (right 1) or a write (right 2)
+abbrev pub memory_tests : {F : Type 0} → F → F → F → ℕ → ℕ → ℕ → Option Endpoint → List (Bool × F)
+memory_tests unbound rights range right off len e =
+    (is_none e, unbound)
+    ∷ (not (bound_passes (λ b. allows right b.object) e), rights)
+    ∷ (bound_passes (λ b. is_past_end off len b.object) e, range)
+    ∷ []
+
+-- the tests of a send
+abbrev pub send_tests : {F : Type 0} → F → F → F → Option Endpoint → List (Bool × F)
+send_tests unbound rights range e =
+    (is_none e, unbound)
+    ∷ (not (bound_passes (λ b. is_send_gate b.object) e), rights)
+    ∷ (bound_passes (λ b. are_credits_used (length b.ring) b.object) e, range)
+    ∷ []
+
+-- the tests of taking back a credit
+abbrev pub credit_tests : {F : Type 0} → F → F → F → Option Endpoint → List (Bool × F)
+credit_tests unbound rights range e =
+    (is_none e, unbound)
+    ∷ (not (bound_passes (λ b. is_send_gate b.object) e), rights)
+    ∷ (bound_passes (λ b. length b.ring == 0) e, range)
+    ∷ []
+
+-- the endpoint with its ring changed
+abbrev pub ring_changed : (List ℕ → List ℕ) → Option Endpoint → Option Endpoint
+ring_changed f e = option_map {T = Endpoint} (λ b. record b { ring = f b.ring }) e
+
+-- the ring after a message of that length was sent
+abbrev pub rung : ℕ → List ℕ → List ℕ
+rung len ring = ring ++ len ∷ []
+
+-- the ring after the oldest message was credited
+abbrev pub credited : List ℕ → List ℕ
+credited ring = drop 1 ring
