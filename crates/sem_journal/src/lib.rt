@@ -6,6 +6,8 @@ mod cursor;
 mod entry;
 mod laws;
 mod lines;
+#[cfg(test)]
+mod long_tests;
 mod outcome;
 mod read_entries;
 mod read_message;

@@ -3,6 +3,8 @@
 
 mod context;
 mod enter;
+#[cfg(test)]
+mod forms_tests;
 mod laws;
 mod reader;
 mod setups;

@@ -18,7 +18,7 @@ fn reads(alloc: Global, text: &[u8]) -> Result<Result<Vec<u8>, TraceFault>, Fail
 }
 
 // Sees that the text is refused at that line, for that cause.
-fn refuses(
+pub(crate) fn refuses(
     rt: &impl Abort,
     alloc: Global,
     text: &[u8],
