@@ -53,7 +53,7 @@ impl<'a> Words<'a> {
         Ok(value)
     }
 
-    /// The next words, which are numbers of those ranges, 5 at most. Behind the numbers stands 0.
+    /// The next words, which are numbers of those ranges, 5 at most.
     pub fn numbers(&mut self, ranges: &[Range]) -> Result<[u64; 5], Cause>
         requires { length ranges.now ≤ 5 }
         ensures ok { OnOk result (Fills (map number_place ranges.now) (words_of self.old.rest.now) (words_of self.new.rest.now)) }

@@ -117,8 +117,7 @@ pub fn first_number(words: &[u8], range: Range) -> Result<(u64, &[u8]), Cause>
     Ok((number_in(word, range)?, rest))
 }
 
-/// The numbers in the first places, 5 at most, and the words behind them. Behind the numbers stands 0.
-/// Takes no memory.
+/// The numbers in the first places, 5 at most, and the words behind them. Takes no memory.
 pub fn first_numbers<'a>(
     words: &'a [u8],
     ranges: &[Range],
@@ -142,7 +141,7 @@ pub fn first_numbers<'a>(
     Ok((values, rest))
 }
 
-/// The numbers in all places, 5 at most. Behind the numbers stands 0. Takes no memory.
+/// The numbers in all places, 5 at most. Takes no memory.
 pub fn numbers(words: &[u8], ranges: &[Range]) -> Result<[u64; MOST_NUMBERS], Cause>
     requires { length ranges.now ≤ 5 }
     ensures fault { form_fault (map number_place ranges.now) (words_of words.now) ≡ result_err result }
