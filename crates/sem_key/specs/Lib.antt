@@ -5,4 +5,5 @@ pub mod ObjectRanges
 pub mod KeyList
 pub mod Capability
 pub mod CapList
+pub mod Region
 pub mod MembershipTable

@@ -1,7 +1,8 @@
-ghost use Rattle.std.specs.Prelude.{◌≡◌};
-ghost use Rattle.sem_key.specs.KeyName.{IsValidKey, kind_number, packed};
+ghost use Rattle.std.specs.Prelude.{◌≡◌, ◌↔◌, ℕ, Some, IfSome};
+ghost use Rattle.sem_key.specs.KeyName.{KeyName, IsValidKey, kind_number, kind_numbered as kind_numbered_lem, packed, key_eq};
 ghost use Rattle.sem_key.specs.PlaceName.{keyed as keyed_lem};
 
+use crate::limits::{NUMBERS, PES, VPES};
 use std::marker::Model;
 
 /// What a capability is about.
@@ -28,7 +29,7 @@ impl Kind {
     }
 }
 
-/// The name of a capability: the PE (0 to 63) and the VPE (0 to 63) to which it belongs, its kind,
+/// The name of a capability: the PE (0 to 127) and the VPE (0 to 127) to which it belongs, its kind,
 /// and a number (0 to 4095) that the VPE has drawn for it.
 #[derive(Clone, Copy, Debug, PartialEq, Eq)]
 pub struct Key {
@@ -91,4 +92,51 @@ pub fn keyed(place: Place, kind: Kind) -> Key
         kind,
         number: place.number,
     }
+}
+
+/// Whether the keys are the same.
+pub fn same_key(one: &Key, other: &Key) -> bool
+    ensures { result ≡ key_eq one.now other.now }
+{
+    one.pe == other.pe
+        && one.vpe == other.vpe
+        && one.kind.number() == other.kind.number()
+        && one.number == other.number
+}
+
+// The kind of that number; none where no kind has it.
+fn kind_numbered(number: u64) -> Option<Kind>
+    ensures { result ≡ kind_numbered_lem number }
+{
+    match number {
+        1 => Some(Kind::Mem),
+        2 => Some(Kind::Recv),
+        3 => Some(Kind::Send),
+        4 => Some(Kind::Serv),
+        5 => Some(Kind::Sess),
+        _ => None,
+    }
+}
+
+/// The key that `pack` makes that word of; none where a field of the word is out of its range, and
+/// then it is the word of no key.
+pub fn unpack(word: u64) -> Option<Key>
+    ensures key { (key : KeyName) → IsValidKey key → ((result ≡ Some key) ↔ (packed key ≡ word)) }
+    ensures valid { IfSome result IsValidKey }
+{
+    let number = word % (1 << 32);
+    let above = word >> 32;
+    let kind = kind_numbered(above % (1 << 8))?;
+    let owner = above >> 8;
+    let vpe = owner % (1 << 16);
+    let pe = owner >> 16;
+    if number >= u64::from(NUMBERS) || vpe >= u64::from(VPES) || pe >= PES as u64 {
+        return None;
+    }
+    Some(Key {
+        pe: pe as u8,
+        vpe: vpe as u16,
+        kind,
+        number: number as u32,
+    })
 }

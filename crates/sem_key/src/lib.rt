@@ -3,14 +3,16 @@
 
 mod key;
 mod keys;
+mod limits;
 mod membership;
 mod object;
 #[cfg(test)]
 mod tests;
 
-pub use key::{Key, Kind, Place, keyed, pack};
+pub use key::{Key, Kind, Place, keyed, pack, same_key, unpack};
 pub use keys::Keys;
+pub use limits::{ADDRESSES, KERNELS, NUMBERS, PES, RIGHTS, SLOTS, VPES};
 pub use membership::{Membership, Taken};
-pub use object::{Cap, Object};
+pub use object::{Cap, Object, narrows};
 /// Memory was refused.
 pub use std::alloc::AllocError as OutOfMemory;

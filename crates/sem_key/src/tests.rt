@@ -1,12 +1,15 @@
-ghost use Rattle.std.specs.Prelude.{◌≡◌, ◌≤◌};
+ghost use Rattle.std.specs.Prelude.{◌≡◌, ◌<◌};
+ghost use Rattle.sem_key.specs.declared.limits.TheConstants.{NUMBERS, PES, VPES};
 
-use crate::{Cap, Key, Keys, Kind, Membership, Object, Place, Taken, keyed, pack};
+use crate::{
+    Cap, Key, Keys, Kind, Membership, Object, Place, Taken, keyed, narrows, pack, same_key, unpack,
+};
 use std::test::Fail;
 
 fn key(pe: u8, vpe: u16, kind: Kind, number: u32) -> Key
-    requires pe_in_range { pe ≤ 63 }
-    requires vpe_in_range { vpe ≤ 63 }
-    requires number_in_range { number ≤ 4095 }
+    requires pe_in_range { pe < PES }
+    requires vpe_in_range { vpe < VPES }
+    requires number_in_range { number < NUMBERS }
     ensures { result ≡ record { pe = pe; vpe = vpe; kind = kind; number = number } }
 {
     Key {
@@ -31,12 +34,106 @@ fn a_packed_key_has_its_fields_in_their_bytes(rt: HostRuntime) {
     for (key, bytes) in [
         (key(1, 1, Kind::Mem, 0), [1, 0, 1, 1, 0, 0, 0, 0]),
         (
-            key(63, 63, Kind::Sess, 4095),
-            [0x3f, 0, 0x3f, 5, 0, 0, 0x0f, 0xff],
+            key(127, 127, Kind::Sess, 4095),
+            [0x7f, 0, 0x7f, 5, 0, 0, 0x0f, 0xff],
         ),
     ] {
         assert_eq!(rt; pack(key).to_be_bytes(), bytes, "of {key:?}");
     }
+}
+
+#[test]
+fn the_word_of_a_key_is_unpacked(rt: HostRuntime) {
+    for key in [
+        key(0, 0, Kind::Mem, 0),
+        key(1, 2, Kind::Recv, 3),
+        key(127, 127, Kind::Sess, 4095),
+    ] {
+        assert_eq!(rt; unpack(pack(key)), Some(key));
+    }
+}
+
+#[test]
+fn a_word_with_a_field_out_of_its_range_is_of_no_key(rt: HostRuntime) {
+    for (cause, bytes) in [
+        ("PE 128", [0x80, 0, 1, 1, 0, 0, 0, 0]),
+        ("VPE 128", [1, 0, 0x80, 1, 0, 0, 0, 0]),
+        ("VPE 256", [1, 1, 0, 1, 0, 0, 0, 0]),
+        ("kind 0", [1, 0, 1, 0, 0, 0, 0, 0]),
+        ("kind 6", [1, 0, 1, 6, 0, 0, 0, 0]),
+        ("number 4096", [1, 0, 1, 1, 0, 0, 0x10, 0]),
+    ] {
+        assert_eq!(rt; unpack(u64::from_be_bytes(bytes)), None, "{cause}");
+    }
+}
+
+#[test]
+fn keys_that_differ_in_one_field_are_not_the_same(rt: HostRuntime) {
+    let one = key(1, 2, Kind::Mem, 3);
+    assert!(rt; same_key(&one, &key(1, 2, Kind::Mem, 3)));
+    for other in [
+        key(0, 2, Kind::Mem, 3),
+        key(1, 1, Kind::Mem, 3),
+        key(1, 2, Kind::Recv, 3),
+        key(1, 2, Kind::Mem, 4),
+    ] {
+        assert!(rt; !same_key(&one, &other), "{other:?}");
+    }
+}
+
+// A memory with all rights.
+fn memory(base: u32, len: u32) -> Object {
+    Object::Mem {
+        base,
+        len,
+        rights: 7,
+    }
+}
+
+// A gate to the receive gate of VPE 1.
+fn gate(credits: u8) -> Object {
+    Object::Send {
+        gate: key(1, 1, Kind::Recv, 0),
+        label: 5,
+        credits,
+    }
+}
+
+#[test]
+fn an_object_has_the_kind_of_its_capabilities(rt: HostRuntime) {
+    assert_eq!(rt; memory(0, 1).kind(), Kind::Mem);
+    assert_eq!(rt; Object::Recv { slots: 1 }.kind(), Kind::Recv);
+    assert_eq!(rt; gate(1).kind(), Kind::Send);
+}
+
+#[test]
+fn a_child_grants_no_more_than_its_parent(rt: HostRuntime) {
+    let parent = key(1, 1, Kind::Mem, 0);
+    let object = memory(4096, 4096);
+    for (child, narrow) in [
+        (memory(4096, 4096), true),
+        (memory(8191, 1), true),
+        (memory(8191, 2), false),
+        (memory(4095, 2), false),
+        (memory(0, 0), true),
+        (Object::Recv { slots: 1 }, false),
+    ] {
+        assert_eq!(rt; narrows(&child, parent, &object), narrow, "{child:?}");
+    }
+}
+
+#[test]
+fn a_send_gate_has_no_more_credits_than_its_gate_has_slots(rt: HostRuntime) {
+    let parent = key(1, 1, Kind::Recv, 0);
+    let object = Object::Recv { slots: 8 };
+    for (credits, narrow) in [(1, true), (8, true), (9, false)] {
+        assert_eq!(rt;
+            narrows(&gate(credits), parent, &object),
+            narrow,
+            "{credits}"
+        );
+    }
+    assert!(rt; !narrows(&gate(1), key(1, 1, Kind::Recv, 1), &object));
 }
 
 #[test]

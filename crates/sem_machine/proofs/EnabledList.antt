@@ -16,7 +16,7 @@ use Rattle.sem_msg.specs.Lookups.{decl, pe_owner, kernel_of}
 use Rattle.sem_machine.specs.Sides.{Side, row, parked, outbox, is_alive}
 use Rattle.sem_machine.specs.Resumes.{can_resume}
 use Rattle.sem_machine.specs.Machine.{World, side, event, next_call, is_other_kernel, is_locally_enabled, is_allowed, is_enabled, kernel_events, all_events, enabled}
-use Rattle.sem_machine.proofs.Members.{Contains-head, Contains-filter, Contains-from_filter, Contains-map, Contains-flat_map, found}
+use Rattle.sem_key.proofs.Members.{Contains-head, Contains-filter, Contains-from_filter, Contains-map, Contains-flat_map, found}
 
 -- a range from 0 has the numbers below its end
 Contains-range : (n j : ℕ) → j < n → Contains (range_with_len 0 n) j

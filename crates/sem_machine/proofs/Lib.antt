@@ -1,7 +1,3 @@
-pub mod Members
-pub mod KeyTests
-pub mod Puts
-pub mod InTurns
-pub mod Regions
 pub mod EnabledList
-pub mod Finds
+pub mod FirstCodes
+pub mod Versions

@@ -1,10 +1,10 @@
 -- What a journal tells: which keys were made from which, what was revoked, and what should be left ("Derived notions" in docs/machine.md).
-use Rattle.std.specs.Prelude.{ℕ, zero, suc, ◌+◌, ◌==◌, Bool, false, not, List, [], ◌∷◌, ◌++◌, length, map, filter, filter_map, flat_map, find, Contains, Option, Some, if◌then◌else◌}
+use Rattle.std.specs.Prelude.{ℕ, zero, suc, ◌+◌, ◌==◌, Bool, false, not, List, [], ◌∷◌, ◌++◌, length, map, filter, filter_map, flat_map, find, Contains, Option, if◌then◌else◌}
 use Rattle.std.specs.List.{list_any}
 use Rattle.std.specs.Option.{option_map, option_map_or}
 use Rattle.sem_key.specs.KeyName.{KeyName, key_eq}
 use Rattle.sem_key.specs.KeyList.{key_set}
-use Rattle.sem_msg.specs.declared.call.Call.TheVariants.{Revoke, Exit}
+use Rattle.sem_msg.specs.declared.call.Call.TheVariants.{Revoke, Clear, Exit}
 use Rattle.sem_msg.specs.declared.event.Act.{Act}
 use Rattle.sem_msg.specs.declared.event.Act.TheVariants.{Call as Calls, Kill}
 use Rattle.sem_msg.specs.declared.entry.Detail.{Detail}
@@ -14,7 +14,7 @@ use Rattle.sem_msg.specs.declared.setup.Root.{Root}
 use Rattle.sem_msg.specs.declared.setup.VpeDecl.{VpeDecl}
 use Rattle.sem_msg.specs.Setup.{Setup, root_key}
 use Rattle.sem_msg.specs.Journal.{replies}
-use Rattle.sem_machine.specs.Revokes.{has_key}
+use Rattle.sem_key.specs.Region.{has_key}
 
 -- the grants, each a parent and its child, in their order
 abbrev pub grants : List Entry → List (KeyName × KeyName)
@@ -60,9 +60,28 @@ ends v act detail = false
 abbrev pub has_ended : List Entry → ℕ → Bool
 has_ended J v = list_any (λ e. ends v e.event.act e.detail) J
 
--- the cut: the keys that a revoke began to cut off, and the made keys of the VPEs that have ended; each once
+-- the keys that were granted below a parent
+abbrev pub children_in : List (KeyName × KeyName) → KeyName → List KeyName
+children_in gs p = map (λ g. g.1) (filter (λ g. key_eq g.0 p) gs)
+
+-- What a call cuts off, by the grants before it: a revoke its key, a clear what was granted below its key by then.
+abbrev pub cut_off : List (KeyName × KeyName) → Detail → KeyName → List KeyName
+cut_off gs (Called index (Revoke src)) k = k ∷ []
+cut_off gs (Called index (Clear src)) k = children_in gs k
+cut_off gs detail k = []
+
+-- what an entry cuts off, by the entries before it
+abbrev pub cut_by : List Entry → Entry → List KeyName
+cut_by before e = option_map_or (cut_off (grants before) e.detail) e.cut []
+
+-- what the entries behind those before them cut off
+unfoldable pub cut_from : List Entry → List Entry → List KeyName
+cut_from before [] = []
+cut_from before (e ∷ es) = cut_by before e ++ cut_from (before ++ e ∷ []) es
+
+-- the cut: what revokes and clears cut off, and the made keys of the VPEs that have ended; each once
 abbrev pub cut : Setup → List Entry → List KeyName
-cut T J = key_set (filter_map (λ e. e.cut) J ++ filter (λ k. has_ended J k.vpe) (made T J))
+cut T J = key_set (cut_from [] J ++ filter (λ k. has_ended J k.vpe) (made T J))
 
 -- the code of the first reply to a VPE
 abbrev pub first_reply : List Entry → ℕ → Option ℕ
@@ -72,15 +91,19 @@ first_reply J v = option_map (λ r. r.code) (find (λ r. r.vpe == v) (replies J)
 abbrev pub is_success : Option ℕ → Bool
 is_success code = option_map_or (λ c. c == 0) code false
 
--- the key of a revoke that was called in an entry, if its first reply among the later entries is success
-abbrev pub revoked_by : Act → Detail → Option KeyName → List Entry → List KeyName
-revoked_by (Calls v) (Called index (Revoke src)) (Some k) later = if is_success (first_reply later v) then k ∷ [] else []
-revoked_by act detail cut' later = []
+-- whether the call of an act is answered with success: by the first reply to its VPE among the later entries
+abbrev pub succeeds : Act → List Entry → Bool
+succeeds (Calls v) later = is_success (first_reply later v)
+succeeds act later = false
 
--- the answered keys: a revoke of the key was called, and answered with success
-unfoldable pub answered : List Entry → List KeyName
-answered [] = []
-answered (e ∷ es) = revoked_by e.event.act e.detail e.cut es ++ answered es
+-- what the entries behind those before them cut off, as far as the calls are answered with success
+unfoldable pub answered_from : List Entry → List Entry → List KeyName
+answered_from before [] = []
+answered_from before (e ∷ es) = (if succeeds e.event.act es then cut_by before e else []) ++ answered_from (before ++ e ∷ []) es
+
+-- the answered keys: what revokes and clears cut off that were answered with success
+abbrev pub answered : List Entry → List KeyName
+answered J = answered_from [] J
 
 -- whether a key has an ancestor among these keys; a key is its own ancestor
 abbrev pub descends_from_any : List Entry → List KeyName → KeyName → Bool

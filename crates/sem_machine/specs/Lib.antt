@@ -1,4 +1,3 @@
-pub mod Codes
 pub mod Sides
 pub mod Steps
 pub mod Asks

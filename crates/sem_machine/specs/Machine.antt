@@ -2,7 +2,7 @@
 use Rattle.std.specs.Prelude.{ℕ, ◌+◌, ◌==◌, nat_lt, nat_le, Bool, true, false, not, ◌&&◌, List, [], ◌∷◌, ◌++◌, length, map, filter, flat_map, drop, slice_get, slice_index_or, Option, None, is_none, is_some, replicate}
 use Rattle.std.specs.List.{range_with_len}
 use Rattle.std.specs.Option.{option_map, option_map_or}
-use Rattle.sem_key.specs.KeyName.{KeyName}
+use Rattle.sem_key.specs.declared.limits.TheConstants.{VPES}
 use Rattle.sem_key.specs.Lists.{put, in_turn}
 use Rattle.sem_key.specs.CapList.{fresh}
 use Rattle.sem_msg.specs.declared.call.Call.{Call}
@@ -15,13 +15,14 @@ use Rattle.sem_msg.specs.declared.entry.Detail.TheVariants.{Called, Carried, Ask
 use Rattle.sem_msg.specs.declared.entry.Entry.{Entry}
 use Rattle.sem_msg.specs.declared.setup.Root.{Root}
 use Rattle.sem_msg.specs.declared.setup.VpeDecl.{VpeDecl}
-use Rattle.sem_msg.specs.declared.state.Slot.TheVariants.{Free, Held}
-use Rattle.sem_msg.specs.Rows.{VpeRow, no_vpe}
-use Rattle.sem_msg.specs.Setup.{Setup, root_key}
+use Rattle.sem_msg.specs.Rows.{no_vpe}
+use Rattle.sem_msg.specs.Setup.{Setup}
+use Rattle.sem_msg.specs.VpeRows.{new_vpe, next_root, root_held}
+use Rattle.sem_msg.specs.EndpointRows.{no_endpoint_bound}
 use Rattle.sem_msg.specs.Journal.{kill_number}
-use Rattle.sem_msg.specs.Lookups.{pe_owner, kernel_of, calls_of}
-use Rattle.sem_machine.specs.declared.Outcome.{Outcome}
-use Rattle.sem_machine.specs.Sides.{Side, no_side, row, parked, outbox, is_alive, with_row, call_counted, cap_added, with_slot, with_inbox, sent}
+use Rattle.sem_msg.specs.Lookups.{own_vpes, kernel_of, calls_of}
+use Rattle.sem_msg.specs.declared.entry.Outcome.{Outcome}
+use Rattle.sem_machine.specs.Sides.{Side, no_side, row, parked, outbox, is_alive, with_row, call_counted, cap_added, with_inbox, sent}
 use Rattle.sem_machine.specs.Steps.{Step, plain}
 use Rattle.sem_machine.specs.Ends.{ended}
 use Rattle.sem_machine.specs.Calls.{call_row}
@@ -31,28 +32,25 @@ use Rattle.sem_machine.specs.Resumes.{can_resume, resume_row}
 
 -- The start.
 
--- a root: held at its selector, under a number that is drawn for it, without parent, child or mark
+-- a root or service is held, without parent, child or mark
 abbrev pub root_added : VpeDecl → Root → Side → Side
-root_added d r s =
-    let k : KeyName = root_key d (row s d.vpe).next_number r in
-    with_row d.vpe (λ v. record v { next_number = v.next_number + 1 })
-    (with_slot d.vpe r.sel (Held k) (cap_added (fresh k None r.sel r.object) s))
+root_added d r s = with_row d.vpe (root_held d r) (cap_added (fresh (next_root d r (row s d.vpe)) None r.sel r.object) s)
 
--- a VPE with nothing yet: alive, with 256 free selectors and 16 unbound endpoints
-abbrev pub new_vpe : VpeRow
-new_vpe = record no_vpe { alive = true; slots = replicate 256 Free; endpoints = replicate 16 None }
+-- a VPE with nothing yet
+abbrev pub vpe_fresh : VpeDecl → Side → Side
+vpe_fresh d s = record (with_row d.vpe (λ v. new_vpe) s) { endpoints = put [] s.endpoints d.vpe no_endpoint_bound }
 
 -- a VPE with its roots and services, in the order of their lines
 abbrev pub vpe_added : VpeDecl → Side → Side
-vpe_added d s = in_turn (root_added d) d.roots (with_row d.vpe (λ v. new_vpe) s)
+vpe_added d s = in_turn (root_added d) d.roots (vpe_fresh d s)
 
 -- a side with a place for each VPE and each kernel, and nothing in them
 abbrev pub empty_side : Setup → Side
-empty_side T = record no_side { vpes = replicate 64 no_vpe; outs = replicate T.kernels [] }
+empty_side T = record no_side { vpes = replicate VPES no_vpe; endpoints = replicate VPES []; parks = replicate VPES None; outs = replicate T.kernels [] }
 
 -- the side of kernel i at the start
 unfoldable pub start_side : Setup → ℕ → Side
-start_side T i = in_turn vpe_added (filter (λ d. pe_owner T d.pe == i) T.vpes) (empty_side T)
+start_side T i = in_turn vpe_added (own_vpes T i) (empty_side T)
 
 -- the state of all kernels and of the links between them
 pub record World : Type 0 where
@@ -153,7 +151,7 @@ is_allowed T W i (Resume v) = true
 is_allowed T W i (Upcall v) = true
 is_allowed T W i Handle = true
 is_allowed T W i (Fetch j) = is_some (slice_get (link W j i) 0)
-is_allowed T W i (Flush j) = nat_lt (length (link W i j)) 4
+is_allowed T W i (Flush j) = nat_lt (length (link W i j)) T.window
 is_allowed T W i (Kill v) = option_map_or (λ n. nat_le n W.replies) (kill_number T v) false
 
 unfoldable pub is_enabled : Setup → World → Event → Bool

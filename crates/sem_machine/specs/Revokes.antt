@@ -1,57 +1,27 @@
 -- Revocation: the region of a job, how a job begins, and how it is finished ("Revocation" in docs/machine.md).
-use Rattle.std.specs.Prelude.{◌≡◌, ℕ, zero, suc, ◌==◌, Bool, true, not, ◌&&◌, List, [], ◌∷◌, length, filter, flat_map, find, Option, Some, None, if◌then◌else◌}
-use Rattle.std.specs.List.{list_any}
-use Rattle.std.specs.Option.{option_map_or, option_and_then, is_none}
-use Rattle.sem_key.specs.KeyName.{KeyName, key_eq}
+use Rattle.std.specs.Prelude.{ℕ, zero, suc, ◌==◌, Bool, true, false, List, [], ◌∷◌, length, Option, Some, None, if◌then◌else◌}
+use Rattle.std.specs.Option.{option_and_then}
+use Rattle.sem_key.specs.KeyName.{KeyName}
 use Rattle.sem_key.specs.Lists.{in_turn}
-use Rattle.sem_key.specs.KeyList.{key_set}
 use Rattle.sem_key.specs.Capability.{Capability}
-use Rattle.sem_key.specs.CapList.{cap_of, marked_by, keys_of}
+use Rattle.sem_key.specs.CapList.{marked_by, restored}
+use Rattle.sem_key.specs.Region.{region, children_of}
 use Rattle.sem_msg.specs.declared.message.Message.TheVariants.{RevokeReq, RevokeDone, Unlink}
 use Rattle.sem_msg.specs.declared.state.Parked.{Parked}
-use Rattle.sem_msg.specs.declared.state.Parked.TheVariants.{ObtainReady, ObtainCancelled, RevokeWait}
+use Rattle.sem_msg.specs.declared.state.Parked.TheVariants.{ObtainReady, ObtainCancelled, RevokeWait, Ready}
 use Rattle.sem_msg.specs.declared.state.Up.{Up}
 use Rattle.sem_msg.specs.declared.state.Up.TheVariants.{Local, Remote}
-use Rattle.sem_msg.specs.Rows.{JobRow}
+use Rattle.sem_msg.specs.Rows.{JobRow, VpeRow}
 use Rattle.sem_msg.specs.Setup.{Setup}
 use Rattle.sem_msg.specs.JobRows
+use Rattle.sem_msg.specs.JobRows.{if_done, next_done}
+use Rattle.sem_msg.specs.Codes.{code_number}
+use Rattle.sem_msg.specs.VpeRows
+use Rattle.sem_msg.specs.ParkedStates
 use Rattle.sem_msg.specs.ParkedStates.{is_ready_with}
 use Rattle.sem_msg.specs.Lookups.{owner_of, is_local}
-use Rattle.sem_machine.specs.Codes.{Done}
-use Rattle.sem_machine.specs.Sides.{Side, cap, job, parked, freed, ready, parked_as, unlinked, mark_all, unbind_all, caps_removed, job_opened, job_removed, send}
-
--- whether a list of keys has the key
-abbrev pub has_key : List KeyName → KeyName → Bool
-has_key ks k = list_any (key_eq k) ks
-
--- The region of a root: the unmarked capabilities that are reached from it by child links through unmarked ones.
--- It is what a relation is closed under; the computed region below has exactly these keys.
-pub data Reached (caps : List Capability) (root : KeyName) : KeyName → Type 0 where
-  at_root : (c : Capability) → cap_of caps root ≡ Some c → c.mark ≡ None → Reached caps root root
-  by_link : (p k : KeyName) (c d : Capability) → Reached caps root p → cap_of caps p ≡ Some c → has_key c.children k ≡ true → cap_of caps k ≡ Some d → d.mark ≡ None → Reached caps root k
-
--- the children of those unmarked capabilities whose keys are among these
-abbrev pub linked_from : List Capability → List KeyName → List KeyName
-linked_from caps ks = flat_map (λ c. c.children) (filter (λ c. is_none c.mark && has_key ks c.key) caps)
-
--- a capability that is reached next: unmarked, a child of a reached one, and not reached yet
-abbrev pub next_reached : List Capability → List KeyName → Option Capability
-next_reached caps ks = find (λ c. (is_none c.mark) && (has_key (linked_from caps ks) c.key && not (has_key ks c.key))) caps
-
--- what is reached from these keys in at most n turns, one more key a turn
-unfoldable pub grow : ℕ → List Capability → List KeyName → List KeyName
-grow zero caps ks = ks
-grow (suc n) caps ks = option_map_or (λ c. grow n caps (c.key ∷ ks)) (next_reached caps ks) ks
-
--- the region in rising key order; each turn takes in one capability, so there are no more turns than capabilities
-abbrev pub region : List Capability → KeyName → List KeyName
-region caps root =
-    let reached : List KeyName = grow (length caps) caps (root ∷ []) in
-    keys_of (filter (λ c. is_none c.mark && has_key reached c.key) caps)
-
--- the children of the region, each once, in rising key order
-abbrev pub children_of : List Capability → List KeyName → List KeyName
-children_of caps ks = key_set (linked_from caps ks)
+use Rattle.sem_msg.specs.declared.code.Code.TheVariants.{Ok as OkCode}
+use Rattle.sem_machine.specs.Sides.{Side, cap, job, parked, freed, parked_as, unlinked, mark_all, unbind_all, caps_removed, job_opened, job_removed, send}
 
 -- one token more is out for the job
 abbrev pub count_raised : ℕ → Side → Side
@@ -61,7 +31,7 @@ count_raised j s = record s { jobs = JobRows.count_raised j s.jobs }
 abbrev pub count_lowered : ℕ → Side → Side
 count_lowered j s = record s { jobs = JobRows.count_lowered j s.jobs }
 
--- another job waits for the job
+-- another job waits for the job, which keeps its root no longer
 abbrev pub with_up : Up → ℕ → Side → Side
 with_up up j s = record s { jobs = JobRows.with_up up j s.jobs }
 
@@ -79,17 +49,31 @@ abbrev pub request_or_adopt : Setup → ℕ → ℕ → KeyName → Side → Sid
 request_or_adopt T i j k s =
     if is_local T i k then adopted j (other_marker j (cap s k)) s else count_raised j (send (owner_of T k) (RevokeReq k j) s)
 
+-- the selectors of these capabilities are free
+abbrev pub all_freed : List Capability → List VpeRow → List VpeRow
+all_freed cs rows = in_turn (λ c rs. VpeRows.freed c.key.vpe c.selector rs) cs rows
+
+-- the root, where it is kept, loses its mark and all that it leads to
+abbrev pub spared : Bool → KeyName → List Capability → List Capability
+spared keep root caps = if keep then restored caps root else caps
+
+abbrev pub root_spared : JobRow → Side → Side
+root_spared x s = record s { caps = spared x.keep x.root s.caps }
+
 -- the selectors of what the job has marked are free
 abbrev pub selectors_freed : ℕ → Side → Side
-selectors_freed j s = in_turn (λ c t. freed c.key.vpe c.selector t) (marked_by j s.caps) s
+selectors_freed j s = record s { vpes = all_freed (marked_by j s.caps) s.vpes }
 
--- what the job has marked is swept: removed, and its selectors are free
-abbrev pub swept : ℕ → Side → Side
-swept j s = caps_removed j (selectors_freed j s)
+-- what the job has marked is swept: removed, and its selectors are free; a root that it keeps is spared first
+abbrev pub swept : JobRow → Side → Side
+swept x s = caps_removed x.id (selectors_freed x.id (root_spared x s))
 
--- the waiting revoke of the VPE will succeed
-abbrev pub woken : ℕ → Side → Side
-woken v s = ready Done v s
+-- the waiting calls of the VPEs will succeed
+abbrev pub all_woken : List ℕ → List (Option Parked) → List (Option Parked)
+all_woken vs parks = in_turn (λ v ps. ParkedStates.parked_as ps v (Ready (code_number OkCode))) vs parks
+
+abbrev pub woken : List ℕ → Side → Side
+woken vs s = record s { parks = all_woken vs s.parks }
 
 -- the parent of a finished job's root leads to it no more. The kernel of a remote parent is told, unless a job there waits
 abbrev pub parent_left : Setup → ℕ → JobRow → Option KeyName → Side → Side
@@ -100,61 +84,63 @@ parent_left T i x (Some p) s = if is_local T i p then unlinked p x.root s else p
     parent_told T x p (Some (Remote kernel j)) s = s
     parent_told T x p up s = send (owner_of T p) (Unlink p x.root) s
 
--- the job that waits for a finished one is told
+-- the job that waits for a finished one is told: here it gets a token back, elsewhere a message
 abbrev pub up_told : Option Up → Side → Side
 up_told None s = s
 up_told (Some (Local j)) s = count_lowered j s
 up_told (Some (Remote kernel j)) s = send kernel (RevokeDone j) s
 
--- the parent of the root of a job
-abbrev pub root_parent : Side → JobRow → Option KeyName
-root_parent s x = option_and_then (λ c. c.parent) (cap s x.root)
+-- the parent that the root of a finished job leaves: none, if the job keeps its root
+abbrev pub left_parent : Side → JobRow → Option KeyName
+left_parent s x = if x.keep then None else option_and_then (λ c. c.parent) (cap s x.root)
 
--- a job is closed: what it marked is swept, those who wait for it go on, its root's parent leads to it no more
-unfoldable pub closed : Setup → ℕ → JobRow → Side → Side
-closed T i x s = job_removed x.id (up_told x.up (parent_left T i x (root_parent s x) (in_turn woken x.waiters (swept x.id s))))
+-- what a job marked is swept, those who wait for it go on, the parent of a root that is gone leads to it no more
+unfoldable pub closed_here : Setup → ℕ → JobRow → Side → Side
+closed_here T i x s = parent_left T i x (left_parent s x) (woken x.waiters (swept x s))
 
--- the job, if no token is out for it
-abbrev pub if_done : Option JobRow → Option JobRow
-if_done o = option_and_then (λ x. if x.count == 0 then Some x else None) o
-
--- the job that is finished after one with that `up`: a job of this kernel which waited for it alone
-abbrev pub next_done : Option Up → Side → Option JobRow
-next_done None s = None
-next_done (Some (Local j)) s = if_done (job s j)
-next_done (Some (Remote kernel j)) s = None
+-- a job is closed: it is taken out, and the job that waits for it is told
+abbrev pub closed : Setup → ℕ → JobRow → Side → Side
+closed T i x s = up_told x.up (closed_here T i x (job_removed x.id s))
 
 -- a job is finished, and all that are done by that, one after the other; n bounds how many
 unfoldable pub finish : Setup → ℕ → ℕ → Option JobRow → Side → Side
 finish T i zero o s = s
 finish T i (suc n) None s = s
-finish T i (suc n) (Some x) s = let s2 = closed T i x s in finish T i n (next_done x.up s2) s2
+finish T i (suc n) (Some x) s = let s2 = closed T i x s in finish T i n (next_done x.up s2.jobs) s2
 
 -- the job is finished if no token is out for it
 abbrev pub settled : Setup → ℕ → ℕ → Side → Side
 settled T i j s = finish T i (length s.jobs) (if_done (job s j)) s
 
--- a job begins: its region is marked and unbound, what was made from the region elsewhere is asked for
-unfoldable pub begin : Setup → ℕ → KeyName → Option Up → List ℕ → Side → Side
-begin T i root up waiters s =
+-- a job is opened: its region is marked and unbound, what was made from the region elsewhere is asked for
+unfoldable pub opened : Setup → ℕ → KeyName → Option Up → List ℕ → Bool → Side → Side
+opened T i root up waiters keep s =
     let j : ℕ = s.next_job in
     let ks : List KeyName = region s.caps root in
     let children : List KeyName = children_of s.caps ks in
-    let marked : Side = unbind_all ks (mark_all ks j (job_opened root up waiters s)) in
-    settled T i j (in_turn (request_or_adopt T i j) children marked)
+    let marked : Side = unbind_all ks (mark_all ks j (job_opened root up waiters keep s)) in
+    in_turn (request_or_adopt T i j) children marked
+
+-- a job begins: it is opened, and finished if no token is out for it
+abbrev pub begin : Setup → ℕ → KeyName → Option Up → List ℕ → Bool → Side → Side
+begin T i root up waiters keep s = settled T i s.next_job (opened T i root up waiters keep s)
 
 -- the VPE waits for the job
 abbrev pub waiter_added : ℕ → ℕ → Side → Side
 waiter_added j v s = record s { jobs = JobRows.waiter_added j v s.jobs }
 
--- the VPE waits for no job
-abbrev pub waiter_removed : ℕ → Side → Side
-waiter_removed v s = record s { jobs = JobRows.waiter_removed v s.jobs }
+-- the VPE, which waited for job j, waits for no job, and keeps no root by it
+abbrev pub waiter_left : ℕ → ℕ → Side → Side
+waiter_left j v s = record s { jobs = JobRows.waiter_left j v s.jobs }
 
 -- a VPE revokes the capability of that key, and waits
 abbrev pub revoke_begun : Setup → ℕ → ℕ → KeyName → Option ℕ → Side → Side
-revoke_begun T i v k None s = begin T i k None (v ∷ []) (parked_as v (RevokeWait s.next_job) s)
+revoke_begun T i v k None s = begin T i k None (v ∷ []) false (parked_as v (RevokeWait s.next_job) s)
 revoke_begun T i v k (Some j) s = waiter_added j v (parked_as v (RevokeWait j) s)
+
+-- a VPE clears the capability of that key: it revokes what was made from it, keeps it, and waits
+abbrev pub clear_begun : Setup → ℕ → ℕ → KeyName → Side → Side
+clear_begun T i v k s = begin T i k None (v ∷ []) true (parked_as v (RevokeWait s.next_job) s)
 
 -- the selector that such a call was promised is free
 abbrev pub ready_freed : Option Parked → ℕ → Side → Side
@@ -167,7 +153,7 @@ obtain_cancelled k s = if is_ready_with k (parked s k.vpe) then parked_as k.vpe 
 
 -- the request of kernel `from` for its job j, where the key is held: begin, or let its job wait for the marking one
 abbrev pub request_begun : Setup → ℕ → ℕ → ℕ → KeyName → Option ℕ → Side → Side
-request_begun T i from j k None s = begin T i k (Some (Remote from j)) [] s
+request_begun T i from j k None s = begin T i k (Some (Remote from j)) [] false s
 request_begun T i from j k (Some m) s = with_up (Remote from j) m s
 
 -- a request to revoke the key, by what is held under it

@@ -1,15 +1,17 @@
 -- The side of a kernel, how it is read, and the small changes of it ("State" in docs/machine.md).
 -- Each change names the one field of the side that it writes.
-use Rattle.std.specs.Prelude.{ℕ, ◌+◌, Bool, false, not, List, [], ◌∷◌, ◌++◌, map, filter, find, drop, slice_index_or, Option, Some, None, is_some}
-use Rattle.std.specs.List.{list_any}
+use Rattle.std.specs.Prelude.{ℕ, ◌+◌, Bool, false, not, List, [], ◌∷◌, ◌++◌, filter, find, drop, slice_index_or, Option, None, is_some}
 use Rattle.std.specs.Option.{option_map_or}
 use Rattle.sem_key.specs.declared.object.Object.{Object}
 use Rattle.sem_key.specs.KeyName.{KeyName, key_eq}
-use Rattle.sem_key.specs.Lists.{change, put}
+use Rattle.sem_key.specs.Lists.{put}
 use Rattle.sem_key.specs.Capability.{Capability}
 use Rattle.sem_key.specs.CapList
-use Rattle.sem_key.specs.CapList.{cap_of, fresh, with_cap, with_mark, not_marked_by}
+use Rattle.sem_key.specs.CapList.{cap_of, fresh, with_cap, not_marked_by}
+use Rattle.sem_key.specs.Region.{all_marked}
 use Rattle.sem_msg.specs.declared.message.Message.{Message}
+use Rattle.sem_msg.specs.declared.code.Code.TheVariants.{Ok as OkCode}
+use Rattle.sem_msg.specs.Codes.{code_number}
 use Rattle.sem_msg.specs.declared.state.Slot.{Slot}
 use Rattle.sem_msg.specs.declared.state.Slot.TheVariants.{Free, Held, Promised}
 use Rattle.sem_msg.specs.declared.state.Ask.{Ask}
@@ -19,7 +21,8 @@ use Rattle.sem_msg.specs.declared.state.Pending.{Pending}
 use Rattle.sem_msg.specs.declared.state.Up.{Up}
 use Rattle.sem_msg.specs.Rows.{JobRow, Endpoint, VpeRow}
 use Rattle.sem_msg.specs.VpeRows
-use Rattle.sem_msg.specs.EndpointRows.{endpoint_in, with_endpoint_in, all_unbound_from}
+use Rattle.sem_msg.specs.EndpointRows
+use Rattle.sem_msg.specs.ParkedStates
 use Rattle.sem_msg.specs.JobRows
 use Rattle.sem_msg.specs.JobRows.{job_of}
 
@@ -28,6 +31,10 @@ pub record Side : Type 0 where
   pub caps : List Capability
   -- what it keeps of each VPE, by number; of the VPEs of other kernels it keeps nothing
   pub vpes : List VpeRow
+  -- by VPE and by endpoint, what it is bound to
+  pub endpoints : List (List (Option Endpoint))
+  -- by VPE, the state in which its call is parked
+  pub parks : List (Option Parked)
   -- the delegations from other kernels that were accepted and are not acknowledged yet
   pub pendings : List Pending
   -- the open jobs, in the order in which they were opened
@@ -41,7 +48,7 @@ pub record Side : Type 0 where
 
 -- a kernel that keeps nothing
 abbrev pub no_side : Side
-no_side = record { caps = []; vpes = []; pendings = []; jobs = []; next_job = 0; inbox = None; outs = [] }
+no_side = record { caps = []; vpes = []; endpoints = []; parks = []; pendings = []; jobs = []; next_job = 0; inbox = None; outs = [] }
 
 -- Reading.
 
@@ -55,7 +62,7 @@ is_alive s v = VpeRows.is_alive s.vpes v
 
 -- the state in which a call of the VPE is parked
 abbrev pub parked : Side → ℕ → Option Parked
-parked s v = (row s v).parked
+parked s v = ParkedStates.state_of s.parks v
 
 -- the held capability of that key
 abbrev pub cap : Side → KeyName → Option Capability
@@ -77,7 +84,7 @@ own s v sel = cap_in s (slot s v sel)
 
 -- what an endpoint of a VPE is bound to
 abbrev pub endpoint : Side → ℕ → ℕ → Option Endpoint
-endpoint s v ep = endpoint_in (row s v).endpoints ep
+endpoint s v ep = EndpointRows.endpoint s.endpoints v ep
 
 -- the open job of that id
 abbrev pub job : Side → ℕ → Option JobRow
@@ -123,17 +130,21 @@ freed v sel s = with_slot v sel Free s
 
 -- a call of the VPE is parked
 abbrev pub parked_as : ℕ → Parked → Side → Side
-parked_as v state s = with_row v (λ r. record r { parked = Some state }) s
+parked_as v state s = record s { parks = ParkedStates.parked_as s.parks v state }
 
 -- no call of the VPE is parked
 abbrev pub unparked : ℕ → Side → Side
-unparked v s = with_row v (λ r. record r { parked = None }) s
+unparked v s = record s { parks = ParkedStates.unparked s.parks v }
 
--- the parked call of the VPE will end with that code
+-- the parked call of the VPE will end with the number of a code
 abbrev pub ready : ℕ → ℕ → Side → Side
-ready code v s = parked_as v (Ready code) s
+ready number v s = parked_as v (Ready number) s
 
--- the VPE is asked, unless 64 asks wait already
+-- the parked call of the VPE will succeed
+abbrev pub succeeding : ℕ → Side → Side
+succeeding v s = ready (code_number OkCode) v s
+
+-- the VPE is asked, unless as many asks wait already as can
 abbrev pub asked : ℕ → Ask → Side → Side
 asked v a s = record s { vpes = VpeRows.asked v a s.vpes }
 
@@ -147,11 +158,11 @@ buried v s = with_row v (λ r. record r { alive = false; asks = [] }) s
 
 -- the endpoint is bound so
 abbrev pub with_endpoint : ℕ → ℕ → Option Endpoint → Side → Side
-with_endpoint v ep e s = with_row v (λ r. record r { endpoints = with_endpoint_in r.endpoints ep e }) s
+with_endpoint v ep e s = record s { endpoints = EndpointRows.with_endpoint v ep e s.endpoints }
 
 -- every endpoint that is bound to one of these keys is unbound
 abbrev pub unbind_all : List KeyName → Side → Side
-unbind_all ks s = record s { vpes = map (λ (r : VpeRow). record r { endpoints = all_unbound_from ks r.endpoints }) s.vpes }
+unbind_all ks s = record s { endpoints = EndpointRows.unbind_all ks s.endpoints }
 
 -- Changes of the capabilities.
 
@@ -173,7 +184,7 @@ unlinked parent child s = record s { caps = CapList.unlinked s.caps parent child
 
 -- the capabilities of these keys are marked by the job
 abbrev pub mark_all : List KeyName → ℕ → Side → Side
-mark_all ks j s = record s { caps = change (λ c. list_any (key_eq c.key) ks) (with_mark j) s.caps }
+mark_all ks j s = record s { caps = all_marked ks j s.caps }
 
 -- what the job has marked is not held any more
 abbrev pub caps_removed : ℕ → Side → Side
@@ -195,9 +206,9 @@ abbrev pub pending_removed : KeyName → Side → Side
 pending_removed k s = record s { pendings = filter (λ p. not (key_eq p.key k)) s.pendings }
 
 -- a job is opened
-abbrev pub job_opened : KeyName → Option Up → List ℕ → Side → Side
-job_opened root up waiters s =
-    record s { jobs = JobRows.job_opened s.next_job root up waiters s.jobs; next_job = s.next_job + 1 }
+abbrev pub job_opened : KeyName → Option Up → List ℕ → Bool → Side → Side
+job_opened root up waiters keep s =
+    record s { jobs = JobRows.job_opened s.next_job root up waiters keep s.jobs; next_job = s.next_job + 1 }
 
 -- the job changed
 abbrev pub job_changed : ℕ → (JobRow → JobRow) → Side → Side

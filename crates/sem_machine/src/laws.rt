@@ -8,9 +8,11 @@ ghost use Rattle.sem_key.specs.Lists.{change, put, in_turn};
 ghost use Rattle.sem_key.specs.Capability.{Capability};
 ghost use Rattle.sem_key.specs.CapList.{with_cap};
 ghost use Rattle.sem_msg.specs.declared.event.Event.{Event};
-ghost use Rattle.sem_msg.specs.Setup.{Setup};
-ghost use Rattle.sem_machine.specs.Revokes.{has_key, Reached, region};
+ghost use Rattle.sem_msg.specs.declared.entry.Entry.{Entry};
+ghost use Rattle.sem_msg.specs.Setup.{Setup, IsSetup};
+ghost use Rattle.sem_key.specs.Region.{has_key, Reached, region};
 ghost use Rattle.sem_machine.specs.Machine.{World, enabled, is_enabled};
+ghost use Rattle.sem_machine.specs.Schedules.{IsSchedule};
 
 /// Reading after a write that fills the list up to its place: the element that was written is read there, and at every other
 /// place what was read before. Within the list it is the write of a slice.
@@ -53,4 +55,12 @@ pub fn region_is_exact()
     ensures exact { (caps : List Capability) (root k : KeyName) → IsRising (map (λ c. c.key) caps) → ((has_key (region caps root) k ≡ true) ↔ Reached caps root k) }
     ensures rising { (caps : List Capability) (root : KeyName) → IsRising (map (λ c. c.key) caps) → IsRising (region caps root) }
     ensures empty { (caps : List Capability) (root : KeyName) → IsRising (map (λ c. c.key) caps) → ((c : Capability) → find (λ x. key_eq x.key root) caps ≡ Some c → c.mark ≢ None) → region caps root ≡ [] }
+{}
+
+/// A setup of version 1 is one of version 2 too, with a window of 4, and has the same schedules then: the machine reads the window
+/// of a setup, and never its version.
+pub fn versions_run_the_same()
+    ensures window { (T : Setup) → IsSetup T → T.version ≡ 1 → T.window ≡ 4 }
+    ensures setup { (T : Setup) → IsSetup T → T.version ≡ 1 → IsSetup (record T { version = 2 }) }
+    ensures same { (T : Setup) (J : List Entry) → T.version ≡ 1 → (IsSchedule T J ↔ IsSchedule (record T { version = 2 }) J) }
 {}

@@ -1,1 +1,3 @@
 pub mod OutboxRows
+pub mod Declared
+pub mod OneVpe

@@ -6,13 +6,14 @@ use Rattle.std.proofs.lemmas.Option.{get_or_from_slice_get, slice_get_within}
 use Rattle.std.proofs.lemmas.List.{get_or-map, map-set, length-map, take_all, drop_all}
 use Rattle.std.proofs.lemmas.List.Elements.{All-set, AllWithin-more_set}
 use Rattle.std.proofs.Math.Seq.{map-set_same}
+use Rattle.sem_key.proofs.Puts.{put-set}
 use Rattle.sem_msg.specs.declared.message.Message.{Message}
 use Rattle.sem_msg.specs.Message.{Fits}
 use Rattle.sem_msg.specs.Outboxes.{OutboxRow, box_for, with_box, messages_of, HaveRoom, AllFit}
 
 -- the rows with another row in a place
 module _ (rows : List OutboxRow) (to : ℕ) (row : OutboxRow) where
-  pub messages-set : messages_of (slice_set rows to row) ≡ with_box (messages_of rows) to row.messages
+  pub messages-set : messages_of (slice_set rows to row) ≡ slice_set (messages_of rows) to row.messages
   messages-set = map-set (λ (r : OutboxRow). r.messages) rows to row
 
   pub HaveRoom-set : (spare less : ℕ) → HaveRoom rows spare → less ≤ spare → less ≤ row.spare → HaveRoom (slice_set rows to row) less
@@ -31,7 +32,7 @@ module _ (rows : List OutboxRow) (to : ℕ) (row : OutboxRow) (in_range : to < l
 
   -- another row in the place has other messages there
   pub box-edited : (edit : List Message → List Message) (new : OutboxRow) → new.messages ≡ edit row.messages → messages_of (slice_set rows to new) ≡ with_box (messages_of rows) to (edit (box_for (messages_of rows) to))
-  box-edited edit new edited = rw (box-here, ← edited) (messages-set rows to new)
+  box-edited edit new edited = rw (put-set [] (messages_of rows) to (edit (box_for (messages_of rows) to)) in_range, box-here, ← edited) (messages-set rows to new)
 
   pub AllFit-here : AllFit (messages_of rows) → All Fits row.messages
   AllFit-here fit = subst (λ messages. All Fits messages) box-here (fit to [] in_range)

@@ -1,11 +1,16 @@
 -- The endpoints of VPEs: what each is bound to, and the small changes of it ("State" in docs/machine.md).
-use Rattle.std.specs.Prelude.{ℕ, List, [], ◌∷◌, map, slice_index_or, if◌then◌else◌, Option, Some, None}
+use Rattle.std.specs.Prelude.{ℕ, List, [], ◌∷◌, map, slice_index_or, replicate, if◌then◌else◌, Option, Some, None}
 use Rattle.std.specs.List.{list_any}
 use Rattle.sem_key.specs.KeyName.{KeyName, key_eq}
 use Rattle.sem_key.specs.Lists.{put}
+use Rattle.sem_msg.specs.declared.limits.TheConstants.{ENDPOINTS}
 use Rattle.sem_msg.specs.Rows.{Endpoint}
 
 -- The endpoints of one VPE.
+
+-- at the start none is bound
+abbrev pub no_endpoint_bound : List (Option Endpoint)
+no_endpoint_bound = replicate ENDPOINTS None
 
 -- what an endpoint is bound to
 abbrev pub endpoint_in : List (Option Endpoint) → ℕ → Option Endpoint
@@ -41,3 +46,7 @@ with_endpoint v ep e rows = with_row v (λ es. with_endpoint_in es ep e) rows
 -- every endpoint of the key's VPE that is bound to the key is unbound
 abbrev pub unbind_key : KeyName → List (List (Option Endpoint)) → List (List (Option Endpoint))
 unbind_key k rows = with_row k.vpe (λ es. all_unbound_from (k ∷ []) es) rows
+
+-- every endpoint that is bound to one of these keys is unbound
+abbrev pub unbind_all : List KeyName → List (List (Option Endpoint)) → List (List (Option Endpoint))
+unbind_all ks rows = map (all_unbound_from ks) rows

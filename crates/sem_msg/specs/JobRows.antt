@@ -1,8 +1,10 @@
 -- The open jobs of a kernel, by rising id, and the small changes of them ("State" in docs/machine.md).
-use Rattle.std.specs.Prelude.{ℕ, ◌+◌, ◌-◌, ◌==◌, nat_lt, not, List, [], ◌∷◌, ◌++◌, map, filter, find, Option, Some}
+use Rattle.std.specs.Prelude.{ℕ, ◌+◌, ◌-◌, ◌==◌, nat_lt, Bool, true, false, not, ◌&&◌, List, [], ◌∷◌, ◌++◌, map, filter, find, Option, Some, None, if◌then◌else◌}
+use Rattle.std.specs.Option.{option_and_then}
 use Rattle.sem_key.specs.KeyName.{KeyName}
 use Rattle.sem_key.specs.Lists.{change}
 use Rattle.sem_msg.specs.declared.state.Up.{Up}
+use Rattle.sem_msg.specs.declared.state.Up.TheVariants.{Local, Remote}
 use Rattle.sem_msg.specs.Rows.{JobRow}
 
 -- the open job of that id
@@ -14,8 +16,8 @@ abbrev pub ids_of : List JobRow → List ℕ
 ids_of xs = map (λ x. x.id) xs
 
 -- the jobs with one more, for which these VPEs wait, without a token out
-abbrev pub job_opened : ℕ → KeyName → Option Up → List ℕ → List JobRow → List JobRow
-job_opened id root up waiters xs = xs ++ record { id = id; root = root; up = up; waiters = waiters; count = 0 } ∷ []
+abbrev pub job_opened : ℕ → KeyName → Option Up → List ℕ → Bool → List JobRow → List JobRow
+job_opened id root up waiters keep xs = xs ++ record { id = id; root = root; up = up; waiters = waiters; count = 0; keep = keep } ∷ []
 
 -- the job changed
 abbrev pub job_changed : ℕ → (JobRow → JobRow) → List JobRow → List JobRow
@@ -33,9 +35,33 @@ count_raised j xs = job_changed j (λ x. record x { count = x.count + 1 }) xs
 abbrev pub count_lowered : ℕ → List JobRow → List JobRow
 count_lowered j xs = job_changed j (λ x. record x { count = x.count - 1 }) xs
 
--- another job waits for the job
+-- the job, if no token is out for it
+abbrev pub if_done : Option JobRow → Option JobRow
+if_done o = option_and_then (λ x. if x.count == 0 then Some x else None) o
+
+-- the job of this kernel that waits for a finished one gets a token back
+abbrev pub told : Option Up → List JobRow → List JobRow
+told None xs = xs
+told (Some (Local j)) xs = count_lowered j xs
+told (Some (Remote kernel j)) xs = xs
+
+-- the job that is finished after one with that `up`: a job of this kernel for which no token is out any more
+abbrev pub next_done : Option Up → List JobRow → Option JobRow
+next_done None xs = None
+next_done (Some (Local j)) xs = if_done (job_of xs j)
+next_done (Some (Remote kernel j)) xs = None
+
+-- the job keeps its root
+abbrev pub keep_set : ℕ → List JobRow → List JobRow
+keep_set j xs = job_changed j (λ x. record x { keep = true }) xs
+
+-- the job keeps its root no longer
+abbrev pub keep_given_up : ℕ → List JobRow → List JobRow
+keep_given_up j xs = job_changed j (λ x. record x { keep = false }) xs
+
+-- another job waits for the job, which keeps its root no longer
 abbrev pub with_up : Up → ℕ → List JobRow → List JobRow
-with_up up j xs = job_changed j (λ x. record x { up = Some up }) xs
+with_up up j xs = job_changed j (λ x. record x { up = Some up; keep = false }) xs
 
 -- Who waits for a job.
 
@@ -54,3 +80,12 @@ waiter_added j v xs = job_changed j (λ x. record x { waiters = with_number x.wa
 -- the VPE waits for no job
 abbrev pub waiter_removed : ℕ → List JobRow → List JobRow
 waiter_removed v xs = map (λ (x : JobRow). record x { waiters = without_number x.waiters v }) xs
+
+-- the VPE, which waited for job j, waits for no job; job j keeps its root no longer, where that is a capability of the VPE
+abbrev pub waiter_left : ℕ → ℕ → List JobRow → List JobRow
+waiter_left j v xs = map (λ (x : JobRow). record x { waiters = without_number x.waiters v; keep = x.keep && not ((x.id == j) && (x.root.vpe == v)) }) xs
+
+-- the VPE that waits for a job that begins, if one does
+abbrev pub waiters_of : Option ℕ → List ℕ
+waiters_of None = []
+waiters_of (Some v) = v ∷ []

@@ -57,7 +57,7 @@ pub record LeadsBy {X : Type 0} (n : ℕ) (ys xs : List X) : Type 0 where
   pub begins : ys ≡ xs ++ rest
   pub few : length rest ≤ n
 
--- What no kernel can tell alone: what was fetched was flushed before, a link never held more than 4 messages, and no kill came early.
+-- What no kernel can tell alone: what was fetched was flushed before, a link never held more messages than the window of the setup, and no kill came early.
 pub record Agrees (T : Setup) (J : List Entry) : Type 0 where
-  pub links : (n i j : ℕ) → LeadsBy 4 (flushed (take n J) i j) (fetched (take n J) i j)
+  pub links : (n i j : ℕ) → LeadsBy T.window (flushed (take n J) i j) (fetched (take n J) i j)
   pub kills : (before after : List Entry) (e : Entry) (v : ℕ) → J ≡ before ++ e ∷ after → e.event.act ≡ Kill v → IfSome (kill_number T v) (λ n. n ≤ length (replies before))

@@ -1,5 +1,8 @@
+pub mod Codes
+pub mod Audits
 pub mod Act
 pub mod Message
+pub mod Versions
 pub mod Calls
 pub mod Setup
 pub mod Journal

@@ -1,10 +1,11 @@
 -- What a setup says of VPEs, owners, services and denies ("Setup" and "Owners" in docs/machine.md).
-use Rattle.std.specs.Prelude.{◌≡◌, ℕ, ◌==◌, Bool, false, ◌&&◌, List, [], find, Option, unwrap_or}
+use Rattle.std.specs.Prelude.{◌≡◌, ℕ, ◌<◌, ◌==◌, Bool, false, ◌&&◌, List, [], filter, find, Option, Some, None, is_some, unwrap_or, if◌then◌else◌}
 use Rattle.std.specs.List.{list_any}
 use Rattle.std.specs.Option.{option_map, option_map_or, option_and_then}
 use Rattle.sem_key.specs.KeyName.{KeyName, key_eq}
 use Rattle.sem_key.specs.PlaceName.{PlaceName}
 use Rattle.sem_key.specs.MembershipTable.{owner_at}
+use Rattle.sem_key.specs.declared.limits.TheConstants.{PES, VPES}
 use Rattle.sem_msg.specs.declared.call.Call.{Call}
 use Rattle.sem_msg.specs.declared.setup.VpeDecl.{VpeDecl}
 use Rattle.sem_msg.specs.declared.setup.Service.{Service}
@@ -14,9 +15,14 @@ use Rattle.sem_msg.specs.Setup.{Setup}
 abbrev pub decl : Setup → ℕ → Option VpeDecl
 decl T v = find (λ d. d.vpe == v) T.vpes
 
--- the PE of a VPE; 64, which is no PE, where it is not declared
+-- the PE of a VPE; 128, which is no PE, where it is not declared
 abbrev pub pe_of : Setup → ℕ → ℕ
-pe_of T v = option_map_or (λ d. d.pe) (decl T v) 64
+pe_of T v = option_map_or (λ d. d.pe) (decl T v) PES
+
+-- the PE and the VPE are in their ranges
+pub record IsPlaced (T : Setup) (v : ℕ) : Type 0 where
+  pub pe : pe_of T v < PES
+  pub vpe : v < VPES
 
 -- the calls of a VPE
 abbrev pub calls_of : Setup → ℕ → List Call
@@ -45,6 +51,22 @@ place_owner T p = pe_owner T p.pe
 -- the kernel of a VPE; the number of kernels, which is no kernel, where it is not declared
 abbrev pub kernel_of : Setup → ℕ → ℕ
 kernel_of T v = option_map_or (λ d. pe_owner T d.pe) (decl T v) T.kernels
+
+-- whether a VPE that is declared so is one of kernel i
+abbrev pub runs_on : Setup → ℕ → VpeDecl → Bool
+runs_on T i d = pe_owner T d.pe == i
+
+-- the VPEs of kernel i
+abbrev pub own_vpes : Setup → ℕ → List VpeDecl
+own_vpes T i = filter (runs_on T i) T.vpes
+
+-- the declaration of a VPE, if it is one of kernel i
+abbrev pub own_decl : Setup → ℕ → ℕ → Option VpeDecl
+own_decl T i v = option_and_then (λ d. if runs_on T i d then Some d else None) (decl T v)
+
+-- whether a VPE is one of kernel i
+abbrev pub is_own : Setup → ℕ → ℕ → Bool
+is_own T i v = is_some (own_decl T i v)
 
 -- a key is local to the kernel that owns it, and remote to every other
 abbrev pub IsLocal : Setup → ℕ → KeyName → Type 0

@@ -1,7 +1,8 @@
 -- Messages: what their fields may be ("Messages" in docs/machine.md).
-use Rattle.std.specs.Prelude.{◌≡◌, ℕ, ◌≤◌}
+use Rattle.std.specs.Prelude.{◌≡◌, ℕ, ◌<◌, ◌≤◌}
 use Rattle.sem_key.specs.declared.key.Kind.{Kind}
 use Rattle.sem_key.specs.declared.key.Kind.TheVariants.{Mem as MemKind, Recv as RecvKind, Send as SendKind, Serv as ServKind, Sess as SessKind}
+use Rattle.sem_key.specs.declared.limits.TheConstants.{VPES}
 use Rattle.sem_key.specs.KeyName.{KeyName, IsValidKey}
 use Rattle.sem_key.specs.PlaceName.{IsValidPlace}
 use Rattle.sem_key.specs.ObjectRanges.{object_kind, IsValidObject}
@@ -9,13 +10,14 @@ use Rattle.sem_msg.specs.declared.message.Target.{Target}
 use Rattle.sem_msg.specs.declared.message.Target.TheVariants.{Sel as SelTarget, Serv as ServTarget, Offer as OfferTarget}
 use Rattle.sem_msg.specs.declared.message.Message.{Message}
 use Rattle.sem_msg.specs.declared.message.Message.TheVariants.{ObtainReq, ObtainOk, ObtainNo, DelegateReq, DelegatePrepared, DelegateNo, Ack, Orphan, RevokeReq, RevokeDone, Unlink}
+use Rattle.sem_msg.specs.Calls.{IsSelector}
 
 -- the key of a service
 abbrev pub IsServiceKey : KeyName → Type 0
 IsServiceKey k = IsValidKey k × (k.kind ≡ ServKind)
 
 abbrev pub IsValidTarget : Target → Type 0
-IsValidTarget (SelTarget vpe sel) = (vpe ≤ 63) × (sel ≤ 255)
+IsValidTarget (SelTarget vpe sel) = (vpe < VPES) × IsSelector sel
 IsValidTarget (ServTarget service) = IsServiceKey service
 IsValidTarget (OfferTarget service index) = IsServiceKey service × (index ≤ 255)
 
@@ -40,7 +42,7 @@ Fits (ObtainReq place target) = IsValidPlace place × IsValidTarget target
 Fits (ObtainOk parent key object) = IsValidKey parent × IsValidKey key × IsValidObject object × (key.kind ≡ object_kind object)
 Fits (ObtainNo place code) = IsValidPlace place × IsRefusal code
 Fits (DelegateReq parent object vpe sel) =
-    IsValidKey parent × IsValidObject object × (parent.kind ≡ object_kind object) × IsDelegable parent.kind × (vpe ≤ 63) × (sel ≤ 255)
+    IsValidKey parent × IsValidObject object × (parent.kind ≡ object_kind object) × IsDelegable parent.kind × (vpe < VPES) × IsSelector sel
 Fits (DelegatePrepared parent key) = IsValidKey parent × IsValidKey key
 Fits (DelegateNo parent code) = IsValidKey parent × IsRefusal code
 Fits (Ack key yes') = IsValidKey key

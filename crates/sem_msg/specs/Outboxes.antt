@@ -1,5 +1,6 @@
 -- The outboxes of a kernel as contracts see them ("State" in docs/machine.md).
-use Rattle.std.specs.Prelude.{ℕ, ◌≤◌, List, [], map, slice_index_or, slice_set, All}
+use Rattle.std.specs.Prelude.{ℕ, ◌≤◌, List, [], map, slice_index_or, All}
+use Rattle.sem_key.specs.Lists.{put}
 use Rattle.sem_msg.specs.declared.message.Message.{Message}
 use Rattle.sem_msg.specs.Message.{Fits}
 
@@ -20,7 +21,7 @@ box_for boxes to = slice_index_or boxes to []
 
 -- the outboxes with other messages for a kernel
 abbrev pub with_box : List (List Message) → ℕ → List Message → List (List Message)
-with_box boxes to messages = slice_set boxes to messages
+with_box boxes to messages = put [] boxes to messages
 
 -- the messages in the rows
 abbrev pub messages_of : List OutboxRow → List (List Message)

@@ -1,10 +1,9 @@
 -- What a kernel keeps of its jobs, endpoints and VPEs, as plain data ("State" in docs/machine.md).
-use Rattle.std.specs.Prelude.{ℕ, Bool, false, List, [], Option, None}
+use Rattle.std.specs.Prelude.{ℕ, Bool, false, List, [], Option}
 use Rattle.sem_key.specs.declared.object.Object.{Object}
 use Rattle.sem_key.specs.KeyName.{KeyName}
 use Rattle.sem_msg.specs.declared.state.Slot.{Slot}
 use Rattle.sem_msg.specs.declared.state.Ask.{Ask}
-use Rattle.sem_msg.specs.declared.state.Parked.{Parked}
 use Rattle.sem_msg.specs.declared.state.Up.{Up}
 
 -- a job that revokes what was made from its root
@@ -17,6 +16,8 @@ pub record JobRow : Type 0 where
   pub waiters : List ℕ
   -- how many tokens are out for it
   pub count : ℕ
+  -- whether it keeps its root, as a `clear` does
+  pub keep : Bool
 
 -- what an endpoint is bound to
 pub record Endpoint : Type 0 where
@@ -36,10 +37,7 @@ pub record VpeRow : Type 0 where
   pub next_call : ℕ
   -- what it is asked, oldest first
   pub asks : List Ask
-  pub parked : Option Parked
-  -- by endpoint
-  pub endpoints : List (Option Endpoint)
 
 -- nothing is kept of a VPE of another kernel
 abbrev pub no_vpe : VpeRow
-no_vpe = record { alive = false; slots = []; next_number = 0; next_call = 0; asks = []; parked = None; endpoints = [] }
+no_vpe = record { alive = false; slots = []; next_number = 0; next_call = 0; asks = [] }

@@ -9,9 +9,15 @@ use Rattle.sem_msg.specs.declared.setup.Root.{Root}
 use Rattle.sem_msg.specs.declared.setup.Service.{Service}
 use Rattle.sem_msg.specs.declared.setup.Offer.{Offer}
 use Rattle.sem_msg.specs.declared.setup.VpeDecl.{VpeDecl}
+use Rattle.sem_msg.specs.declared.limits.TheConstants.{CALLS}
+use Rattle.sem_msg.specs.Versions.{most_kernels, most_vpes, IsWindow}
 use Rattle.sem_msg.specs.Calls.{IsSelector, IsWord, IsValidCall}
 
 pub record Setup : Type 0 where
+  -- the version of its text
+  pub version : ℕ
+  -- how many messages a link holds
+  pub window : ℕ
   pub kernels : ℕ
   pub owners : MembershipTable
   pub vpes : List VpeDecl
@@ -55,12 +61,12 @@ abbrev pub IsDeclared : Setup → ℕ → Type 0
 IsDeclared T v = Any (λ d. d.vpe ≡ v) T.vpes
 
 pub record IsVpeDecl (T : Setup) (d : VpeDecl) : Type 0 where
-  pub vpe : d.vpe ≤ 63
-  pub pe : d.pe ≤ 63
+  pub vpe : d.vpe < most_vpes T.version
+  pub pe : d.pe < most_vpes T.version
   pub owned : IsSome (owner_at T.owners d.pe)
   pub selectors_differ : AllPairs (λ a b. a.sel ≢ b.sel) d.roots
   pub roots : All IsRoot d.roots
-  pub calls : All IsValidCall d.calls
+  pub calls : All (IsValidCall (most_vpes T.version)) d.calls
 
 -- offers and denies stand in the order of their first part and then of their second
 abbrev pub ComesBefore : ℕ × ℕ → ℕ × ℕ → Type 0
@@ -83,8 +89,10 @@ abbrev pub kill_count : Setup → ℕ
 kill_count T = length T.kills
 
 pub record IsSetup (T : Setup) : Type 0 where
+  pub versioned : (T.version ≡ 1) ⊎ (T.version ≡ 2)
+  pub windowed : IsWindow T.version T.window
   pub some_kernel : 1 ≤ T.kernels
-  pub few_kernels : T.kernels ≤ 16
+  pub few_kernels : T.kernels ≤ most_kernels T.version
   pub membership : IsMembership T.owners
   pub same_kernels : T.owners.kernels ≡ T.kernels
   -- the VPEs, each once, in rising order, on PEs of their own
@@ -100,4 +108,4 @@ pub record IsSetup (T : Setup) : Type 0 where
   pub denies_rise : AllPairs ComesBefore T.denies
   pub kills : All (λ k. IsDeclared T k.0 × IsWord k.1) T.kills
   pub kills_rise : AllPairs (λ a b. a.0 < b.0) T.kills
-  pub few_calls : call_count T ≤ 20000
+  pub few_calls : call_count T ≤ CALLS

@@ -1,10 +1,11 @@
 -- What a VPE may do through an endpoint, and what it does to it ("Calls" in docs/machine.md).
--- Each list of tests is handed what it answers where nothing fit is bound, where the right is wanting, and where the use goes too far.
 use Rattle.std.specs.Prelude.{ℕ, ◌+◌, ◌==◌, nat_lt, nat_le, Bool, true, false, not, List, [], ◌∷◌, ◌++◌, length, drop, Option, is_none}
 use Rattle.std.specs.Option.{option_map, option_map_or}
 use Rattle.sem_key.specs.declared.object.Object.{Object}
 use Rattle.sem_key.specs.declared.object.Object.TheVariants.{Mem, Send}
 use Rattle.sem_key.specs.ObjectRanges.{is_subset}
+use Rattle.sem_msg.specs.declared.code.Code.{Code}
+use Rattle.sem_msg.specs.declared.code.Code.TheVariants.{Unbound, Rights, Range}
 use Rattle.sem_msg.specs.Rows.{Endpoint}
 
 -- whether it is memory with that right
@@ -32,27 +33,27 @@ abbrev pub bound_passes : (Endpoint → Bool) → Option Endpoint → Bool
 bound_passes test e = option_map_or test e false
 
 -- the tests of a read (right 1) or a write (right 2)
-abbrev pub memory_tests : {F : Type 0} → F → F → F → ℕ → ℕ → ℕ → Option Endpoint → List (Bool × F)
-memory_tests unbound rights range right off len e =
-    (is_none e, unbound)
-    ∷ (not (bound_passes (λ b. allows right b.object) e), rights)
-    ∷ (bound_passes (λ b. is_past_end off len b.object) e, range)
+abbrev pub memory_tests : ℕ → ℕ → ℕ → Option Endpoint → List (Bool × Code)
+memory_tests right off len e =
+    (is_none e, Unbound)
+    ∷ (not (bound_passes (λ b. allows right b.object) e), Rights)
+    ∷ (bound_passes (λ b. is_past_end off len b.object) e, Range)
     ∷ []
 
 -- the tests of a send
-abbrev pub send_tests : {F : Type 0} → F → F → F → Option Endpoint → List (Bool × F)
-send_tests unbound rights range e =
-    (is_none e, unbound)
-    ∷ (not (bound_passes (λ b. is_send_gate b.object) e), rights)
-    ∷ (bound_passes (λ b. are_credits_used (length b.ring) b.object) e, range)
+abbrev pub send_tests : Option Endpoint → List (Bool × Code)
+send_tests e =
+    (is_none e, Unbound)
+    ∷ (not (bound_passes (λ b. is_send_gate b.object) e), Rights)
+    ∷ (bound_passes (λ b. are_credits_used (length b.ring) b.object) e, Range)
     ∷ []
 
 -- the tests of taking back a credit
-abbrev pub credit_tests : {F : Type 0} → F → F → F → Option Endpoint → List (Bool × F)
-credit_tests unbound rights range e =
-    (is_none e, unbound)
-    ∷ (not (bound_passes (λ b. is_send_gate b.object) e), rights)
-    ∷ (bound_passes (λ b. length b.ring == 0) e, range)
+abbrev pub credit_tests : Option Endpoint → List (Bool × Code)
+credit_tests e =
+    (is_none e, Unbound)
+    ∷ (not (bound_passes (λ b. is_send_gate b.object) e), Rights)
+    ∷ (bound_passes (λ b. length b.ring == 0) e, Range)
     ∷ []
 
 -- the endpoint with its ring changed

@@ -1,10 +1,33 @@
 -- What a kernel keeps of its VPEs, by number, and the small changes of it ("State" in docs/machine.md).
-use Rattle.std.specs.Prelude.{ℕ, ◌+◌, nat_lt, Bool, true, false, List, [], ◌∷◌, ◌++◌, length, drop, slice_index_or, if◌then◌else◌}
-use Rattle.sem_key.specs.Lists.{put}
+use Rattle.std.specs.Prelude.{ℕ, ◌+◌, nat_lt, Bool, true, false, List, [], ◌∷◌, ◌++◌, length, drop, slice_index_or, replicate, if◌then◌else◌}
+use Rattle.sem_key.specs.KeyName.{KeyName}
+use Rattle.sem_key.specs.Lists.{put, in_turn}
 use Rattle.sem_msg.specs.declared.state.Slot.{Slot}
 use Rattle.sem_msg.specs.declared.state.Slot.TheVariants.{Free, Held, Promised}
 use Rattle.sem_msg.specs.declared.state.Ask.{Ask}
+use Rattle.sem_msg.specs.declared.setup.Root.{Root}
+use Rattle.sem_msg.specs.declared.setup.VpeDecl.{VpeDecl}
+use Rattle.sem_msg.specs.declared.limits.TheConstants.{ASKS, SELECTORS}
+use Rattle.sem_msg.specs.Setup.{root_key}
 use Rattle.sem_msg.specs.Rows.{VpeRow, no_vpe}
+
+-- The start.
+
+-- a VPE with nothing yet: alive, with all selectors free
+abbrev pub new_vpe : VpeRow
+new_vpe = record no_vpe { alive = true; slots = replicate SELECTORS Free }
+
+-- the key of the next root or service
+abbrev pub next_root : VpeDecl → Root → VpeRow → KeyName
+next_root d r row = root_key d row.next_number r
+
+-- a root or service: held at its selector, under a number that is drawn for it
+abbrev pub root_held : VpeDecl → Root → VpeRow → VpeRow
+root_held d r row = record row { slots = put Free row.slots r.sel (Held (next_root d r row)); next_number = row.next_number + 1 }
+
+-- a VPE with its roots and services, in the order of their lines
+unfoldable pub start_row : VpeDecl → VpeRow
+start_row d = in_turn (root_held d) d.roots new_vpe
 
 -- Reading.
 
@@ -52,9 +75,9 @@ promised v sel rows = with_slot v sel Promised rows
 abbrev pub freed : ℕ → ℕ → List VpeRow → List VpeRow
 freed v sel rows = with_slot v sel Free rows
 
--- the VPE is asked, unless 64 asks wait already
+-- the VPE is asked, unless as many asks wait already as can
 abbrev pub asked : ℕ → Ask → List VpeRow → List VpeRow
-asked v a rows = with_row v (λ r. record r { asks = if nat_lt (length r.asks) 64 then r.asks ++ a ∷ [] else r.asks }) rows
+asked v a rows = with_row v (λ r. record r { asks = if nat_lt (length r.asks) ASKS then r.asks ++ a ∷ [] else r.asks }) rows
 
 -- the oldest ask is taken out
 abbrev pub ask_taken : ℕ → List VpeRow → List VpeRow

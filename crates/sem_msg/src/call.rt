@@ -71,4 +71,8 @@ pub enum Call {
     },
     /// End.
     Exit,
+    /// Revoke all that was made from a capability, and keep the capability.
+    Clear {
+        src: u8,
+    },
 }

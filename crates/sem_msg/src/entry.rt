@@ -34,6 +34,16 @@ pub struct Reply {
     pub code: u8,
 }
 
+/// What a step of a kernel shows beside its event: who asked and what was answered, the parent and
+/// the child of a grant, the key at which a revoke or a clear began, and the code of a reply.
+#[derive(Clone, Copy, Debug, PartialEq, Eq)]
+pub struct Outcome {
+    pub asked: Option<(u16, Consent)>,
+    pub grant: Option<(Key, Key)>,
+    pub cut: Option<Key>,
+    pub reply: Option<u8>,
+}
+
 /// What the journal keeps of an event.
 #[derive(Clone, Copy, Debug, PartialEq, Eq)]
 pub struct Entry {
@@ -41,7 +51,7 @@ pub struct Entry {
     pub detail: Detail,
     /// The parent and the child, where a capability was granted.
     pub grant: Option<(Key, Key)>,
-    /// The key that a revoke began to cut off.
+    /// The key at which a revoke or a clear began.
     pub cut: Option<Key>,
     pub reply: Option<Reply>,
 }

@@ -45,6 +45,13 @@ impl Journal {
         self.entries.get(at).copied()
     }
 
+    /// The entries, in their order.
+    pub fn as_slice(&self) -> &[Entry]
+        ensures { result.now ≡ self.now.entries }
+    {
+        &self.entries
+    }
+
     /// Makes room for `more` entries, so that appending them takes no memory.
     pub fn room(&mut self, more: usize) -> Result<(), OutOfMemory>
         ensures room { OnOk result (more ≤ self.new.spare) }

@@ -2,11 +2,15 @@
 //! a run, and the journal.
 #![tactic(auto)]
 
+mod audit;
 mod call;
+mod code;
 mod entry;
 mod event;
 mod journal;
+mod limits;
 mod list;
+mod lookups;
 mod message;
 mod outboxes;
 mod reserved;
@@ -15,10 +19,13 @@ mod state;
 #[cfg(test)]
 mod tests;
 
+pub use audit::{Audit, Held, HeldList};
 pub use call::Call;
-pub use entry::{Consent, Detail, Entry, Reply};
+pub use code::Code;
+pub use entry::{Consent, Detail, Entry, Outcome, Reply};
 pub use event::{Act, Event, act_number};
 pub use journal::Journal;
+pub use limits::{ASKS, CALLS, ENDPOINTS, SELECTORS, WINDOW};
 pub use list::Seq;
 pub use message::{Message, Target};
 pub use outboxes::Outboxes;

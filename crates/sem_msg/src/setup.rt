@@ -75,7 +75,11 @@ impl VpeDecl {
 /// What a trace declares. Its type keeps all that a trace has to keep.
 #[derive(Debug, Drop)]
 pub struct Setup {
-    /// How many kernels there are, 1 to 16.
+    /// The version of its text, 1 or 2. Kernels, PEs and VPEs have larger ranges in version 2.
+    pub version: u8,
+    /// How many messages a link holds: 4 in version 1, 1 to 32 in version 2.
+    pub window: u32,
+    /// How many kernels there are: 1 to 16 in version 1, 1 to 32 in version 2.
     pub kernels: u32,
     /// Which kernel owns which PE.
     pub owners: Membership,
@@ -92,6 +96,8 @@ impl Model for Setup {
     ghost Value = { Setup };
 
     ghost view = { λ s. record {
+      version = s.version;
+      window = s.window;
       kernels = s.kernels;
       owners = s.owners;
       vpes = s.vpes;
@@ -102,6 +108,8 @@ impl Model for Setup {
     } };
 
     ghost invariant = { λ s. IsSetup (record {
+      version = s.version;
+      window = s.window;
       kernels = s.kernels;
       owners = s.owners;
       vpes = s.vpes;
@@ -118,6 +126,8 @@ impl Setup {
         ensures { IfOk result (λ copy. copy ≡ self.now) }
     {
         Ok(Setup {
+            version: self.version,
+            window: self.window,
             kernels: self.kernels,
             owners: self.owners,
             vpes: copy_vpes(&self.vpes, alloc)?,

@@ -54,7 +54,7 @@ pub enum Parked {
         parent: Key,
         key: Key,
     },
-    /// A revoke that waits for a job.
+    /// A revoke or a clear that waits for a job.
     RevokeWait {
         job: u32,
     },

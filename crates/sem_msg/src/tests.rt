@@ -1,8 +1,8 @@
 ghost use Rattle.sem_msg.specs.Message.{Fits};
 
 use crate::{
-    Act, Call, Calls, Denies, Detail, Entry, Event, Journal, Kills, Message, Offers, Outboxes,
-    Reply, Root, Roots, Seq, Services, Setup, VpeDecl, Vpes0, act_number,
+    Act, Call, Calls, Code, Denies, Detail, Entry, Event, Journal, Kills, Message, Offers,
+    Outboxes, Reply, Root, Roots, Seq, Services, Setup, VpeDecl, Vpes0, act_number,
 };
 use sem_key::{Key, Kind, Membership, Object};
 use std::alloc::Global;
@@ -96,6 +96,7 @@ fn a_journal_keeps_its_entries_in_order(rt: HostRuntime) -> Result<(), Fail> {
     assert_eq!(rt; journal.get(0), Some(exited(8)));
     assert_eq!(rt; journal.get(1), Some(exited(3)));
     assert_eq!(rt; journal.get(2), None);
+    assert_eq!(rt; journal.as_slice(), [exited(8), exited(3)].as_slice());
     Ok(())
 }
 
@@ -148,6 +149,8 @@ fn one_vpe(alloc: Global) -> Result<Setup, Fail> {
         calls,
     })?;
     Ok(Setup {
+        version: 1,
+        window: 4,
         kernels: 1,
         owners,
         vpes,
@@ -161,6 +164,7 @@ fn one_vpe(alloc: Global) -> Result<Setup, Fail> {
 #[test]
 fn a_copied_setup_declares_the_same(rt: HostRuntime) -> Result<(), Fail> {
     let copy = one_vpe(rt.alloc())?.copy(rt.alloc())?;
+    assert_eq!(rt; (copy.version, copy.window), (1, 4));
     assert_eq!(rt; (copy.kernels, copy.owners.kernels()), (1, 1));
     assert_eq!(rt;
         (copy.owners.owner(0), copy.owners.owner(1)),
@@ -195,5 +199,50 @@ fn a_copied_setup_declares_the_same(rt: HostRuntime) -> Result<(), Fail> {
     );
     assert_eq!(rt; (copy.services.len(), copy.offers.len()), (0, 0));
     assert_eq!(rt; (copy.denies.len(), copy.kills.len()), (0, 0));
+    Ok(())
+}
+
+#[test]
+fn a_code_has_its_number(rt: HostRuntime) {
+    for (code, number) in [
+        (Code::Ok, 0),
+        (Code::NoVpe, 1),
+        (Code::Dead, 2),
+        (Code::NoCap, 3),
+        (Code::Revoking, 4),
+        (Code::Refused, 5),
+        (Code::Occupied, 6),
+        (Code::Numbers, 7),
+        (Code::BadKind, 8),
+        (Code::Wider, 9),
+        (Code::NoService, 10),
+        (Code::Gone, 11),
+        (Code::Unbound, 12),
+        (Code::Rights, 13),
+        (Code::Range, 14),
+        (Code::SelfExchange, 15),
+    ] {
+        assert_eq!(rt; code.number(), number, "{code:?}");
+    }
+}
+
+#[test]
+fn what_is_declared_is_found_and_nothing_else(rt: HostRuntime) -> Result<(), Fail> {
+    let setup = one_vpe(rt.alloc())?;
+    assert_eq!(rt; setup.decl(0).map(|decl| decl.pe), Some(0));
+    assert!(rt; setup.decl(1).is_none());
+    assert_eq!(rt; setup.own_decl(0, 0).map(|decl| decl.vpe), Some(0));
+    assert!(rt; setup.own_decl(1, 0).is_none());
+    assert_eq!(rt; (setup.is_own(0, 0), setup.is_own(1, 0)), (true, false));
+    assert_eq!(rt; (setup.is_declared(0), setup.is_declared(1)), (true, false));
+    Ok(())
+}
+
+#[test]
+fn what_is_not_declared_is_of_no_kernel_and_on_no_pe(rt: HostRuntime) -> Result<(), Fail> {
+    let setup = one_vpe(rt.alloc())?;
+    assert_eq!(rt; (setup.pe_of(0), setup.pe_of(1)), (0, 128));
+    assert_eq!(rt; (setup.pe_owner(0), setup.pe_owner(1)), (0, 1));
+    assert_eq!(rt; (setup.kernel_of(0), setup.kernel_of(1)), (0, 1));
     Ok(())
 }

@@ -1,4 +1,4 @@
-use Rattle.sem_machine.proofs.Finds.{held-with_cap_same, held-with_cap_other}
+use Rattle.sem_key.proofs.Finds.{held-with_cap_same, held-with_cap_other}
 use Rattle.sem_machine.proofs.laws.cap_added_is_found.Goals as goal
 
 pub returns-clause-same : goal.returns-clause-same

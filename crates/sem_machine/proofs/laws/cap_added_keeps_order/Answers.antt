@@ -1,4 +1,4 @@
-use Rattle.sem_machine.proofs.Finds.{with_cap-rises}
+use Rattle.sem_key.proofs.Finds.{with_cap-rises}
 use Rattle.sem_machine.proofs.laws.cap_added_keeps_order.Goals as goal
 
 pub returns : goal.returns

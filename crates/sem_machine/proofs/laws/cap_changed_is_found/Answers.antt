@@ -1,4 +1,4 @@
-use Rattle.sem_machine.proofs.Finds.{held-change_same, held-change_other}
+use Rattle.sem_key.proofs.Finds.{held-change_same, held-change_other}
 use Rattle.sem_machine.proofs.laws.cap_changed_is_found.Goals as goal
 
 pub returns-clause-same : goal.returns-clause-same

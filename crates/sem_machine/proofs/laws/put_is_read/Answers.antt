@@ -1,4 +1,4 @@
-use Rattle.sem_machine.proofs.Puts.{get_or-put_same, get_or-put_other, put-set}
+use Rattle.sem_key.proofs.Puts.{get_or-put_same, get_or-put_other, put-set}
 use Rattle.sem_machine.proofs.laws.put_is_read.Goals as goal
 
 pub returns-clause-same : goal.returns-clause-same

@@ -1,4 +1,4 @@
-use Rattle.sem_machine.proofs.Regions.{region-exact, region-rises, region-empty}
+use Rattle.sem_key.proofs.Regions.{region-exact, region-rises, region-empty}
 use Rattle.sem_machine.proofs.laws.region_is_exact.Goals as goal
 
 pub returns-clause-exact : goal.returns-clause-exact

@@ -11,8 +11,8 @@ use Rattle.sem_key.specs.KeyList.{IsRising}
 use Rattle.sem_key.specs.Lists.{change}
 use Rattle.sem_key.specs.Capability.{Capability}
 use Rattle.sem_key.specs.CapList.{with_cap}
-use Rattle.sem_machine.proofs.Members.{Contains-map, Contains-head, Contains-tail, Contains-cons_cases, not_found, find_none, Contains-from_filter, AllPairs-map, AllPairs-from_map}
-use Rattle.sem_machine.proofs.KeyTests.{packed-injective, key_eq-true, key_eq-from}
+use Rattle.sem_key.proofs.Members.{Contains-map, Contains-head, Contains-tail, Contains-cons_cases, not_found, find_none, Contains-from_filter, AllPairs-map, AllPairs-from_map}
+use Rattle.sem_key.proofs.KeyTests.{packed-injective, key_eq-true, key_eq-from}
 
 -- the look-up of a key
 abbrev pub held : KeyName → List Capability → Option Capability

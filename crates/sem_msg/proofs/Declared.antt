@@ -1,0 +1,35 @@
+-- What a setup keeps of a declared VPE.
+use Rattle.std.proofs.Common.{◌≡◌, ℕ, ◌≤◌, true, Option, Some, None, IfSome, refl, sym, ◌∙◌, subst, true≢false, arith}
+use Rattle.std.specs.Prelude.{◌==◌}
+use Rattle.std.proofs.lemmas.Bool.{eqb-true, cond_both}
+use Rattle.sem_key.proofs.Members.{found, not_found, list_any-some}
+use Rattle.sem_msg.specs.declared.setup.VpeDecl.{VpeDecl}
+use Rattle.sem_msg.specs.Versions.{most_vpes}
+use Rattle.sem_msg.specs.Setup.{Setup, IsVpeDecl}
+use Rattle.sem_msg.specs.Lookups.{decl, is_declared, IsPlaced}
+
+-- in either version there are at most 128 VPEs, and as many PEs
+pub most_vpes-le : (version : ℕ) → most_vpes version ≤ 128
+most_vpes-le version = cond_both (version == 1) 64 128 (λ n. n ≤ 128) (λ _. omega arith) (λ _. omega arith)
+
+-- a declared VPE has a declaration
+pub declared-some : (T : Setup) (v : ℕ) → is_declared T v ≡ true → (d : VpeDecl) × (decl T v ≡ Some d)
+declared-some T v declared = from (decl T v) refl
+  where
+    from : (o : Option VpeDecl) → decl T v ≡ o → (d : VpeDecl) × (decl T v ≡ Some d)
+    from None none =
+        let at = list_any-some (λ (d : VpeDecl). d.vpe == v) T.vpes declared in
+        absurd (true≢false (sym at.2 ∙ not_found (λ (d : VpeDecl). d.vpe == v) T.vpes at.0 none at.1))
+    from (Some d) some = (d, some)
+
+-- the PE and the VPE are in their ranges
+pub placed : (T : Setup) (v : ℕ) → IfSome (decl T v) (IsVpeDecl T) → is_declared T v ≡ true → IsPlaced T v
+placed T v valid declared = from (declared-some T v declared).0 (declared-some T v declared).1
+  where
+    from : (d : VpeDecl) → decl T v ≡ Some d → IsPlaced T v
+    from d some =
+        let few = most_vpes-le T.version in
+        let there = found (λ (e : VpeDecl). e.vpe == v) T.vpes d some in
+        let same : d.vpe ≡ v = eqb-true d.vpe v there.1 in
+        let kept : IsVpeDecl T d = subst (λ o. IfSome o (IsVpeDecl T)) some valid in
+        record { pe = rw some (let pe = kept.pe in omega arith); vpe = let vpe = kept.vpe in omega arith }

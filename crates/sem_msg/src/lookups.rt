@@ -1,0 +1,79 @@
+ghost use Rattle.std.specs.Prelude.{◌≡◌, ◌<◌, true, option_copied, IfSome};
+ghost use Rattle.std.specs.List.{Contains};
+ghost use Rattle.sem_msg.specs.Setup.{IsVpeDecl};
+ghost use Rattle.sem_msg.specs.Lookups.{decl as decl_lem, own_decl as own_decl_lem, is_own as is_own_lem, is_declared as is_declared_lem, pe_of as pe_of_lem, pe_owner as pe_owner_lem, owner_of as owner_of_lem, place_owner as place_owner_lem, kernel_of as kernel_of_lem, IsPlaced};
+
+use crate::setup::{Setup, VpeDecl};
+use sem_key::{Key, PES, Place};
+
+impl Setup {
+    /// The declaration of a VPE; none where it is not declared.
+    pub fn decl(&self, vpe: u16) -> Option<&VpeDecl>
+        ensures decl { option_copied result ≡ decl_lem self.now vpe }
+        ensures valid { IfSome (option_copied result) (IsVpeDecl self.now) }
+    {
+        self.vpes.as_slice().iter().find(|decl| decl.vpe == vpe)
+    }
+
+    /// The declaration of a VPE of that kernel; none where the kernel has no such VPE.
+    pub fn own_decl(&self, kernel: u32, vpe: u16) -> Option<&VpeDecl>
+        ensures decl { option_copied result ≡ own_decl_lem self.now kernel vpe }
+        ensures valid { IfSome (option_copied result) (IsVpeDecl self.now) }
+    {
+        self.decl(vpe)
+            .filter(|decl| self.pe_owner(decl.pe) == kernel)
+    }
+
+    /// Whether the VPE is one of that kernel.
+    pub fn is_own(&self, kernel: u32, vpe: u16) -> bool
+        ensures { result ≡ is_own_lem self.now kernel vpe }
+    {
+        self.own_decl(kernel, vpe).is_some()
+    }
+
+    /// Whether the VPE is declared.
+    pub fn is_declared(&self, vpe: u16) -> bool
+        ensures { result ≡ is_declared_lem self.now vpe }
+    {
+        self.vpes.as_slice().iter().any(|decl| decl.vpe == vpe)
+    }
+
+    /// The PE of a VPE; 128, which is no PE, where the VPE is not declared.
+    pub fn pe_of(&self, vpe: u16) -> u8
+        ensures pe { result ≡ pe_of_lem self.now vpe }
+        ensures placed { is_declared_lem self.now vpe ≡ true → IsPlaced self.now vpe }
+    {
+        self.decl(vpe).map_or(PES as u8, |decl| decl.pe)
+    }
+
+    /// The kernel that owns a PE; the number of kernels, which is no kernel, where none does.
+    pub fn pe_owner(&self, pe: u8) -> u32
+        ensures { result ≡ pe_owner_lem self.now pe }
+    {
+        self.owners.owner(pe).unwrap_or(self.kernels)
+    }
+
+    /// The kernel that owns a key; the number of kernels, which is no kernel, where none does.
+    pub fn owner_of(&self, key: Key) -> u32
+        ensures { result ≡ owner_of_lem self.now key }
+    {
+        self.pe_owner(key.pe)
+    }
+
+    /// The kernel that owns a place; the number of kernels, which is no kernel, where none does.
+    pub fn place_owner(&self, place: Place) -> u32
+        ensures { result ≡ place_owner_lem self.now place }
+    {
+        self.pe_owner(place.pe)
+    }
+
+    /// The kernel of a VPE; the number of kernels, which is no kernel, where the VPE is not declared.
+    pub fn kernel_of(&self, vpe: u16) -> u32
+        ensures { result ≡ kernel_of_lem self.now vpe }
+    {
+        match self.decl(vpe) {
+            Some(decl) => self.pe_owner(decl.pe),
+            None => self.kernels,
+        }
+    }
+}
