@@ -22,10 +22,10 @@ pub same_caps : (spare : ℕ) (child_room : Option KeyName) (cs cs' : List Capab
 same_caps spare child_room cs cs' same = ap (λ (xs : List Capability). record { caps = xs; spare = spare; child_room = child_room }) same
 
 module _ (rows : List Cap) (is_list : IsKeyList (keys_of (plain rows))) (k : KeyName) (at : ℕ) (here : slice_get (keys_of (plain rows)) at ≡ Some k) (row : Cap) (read : row ≡ get_or rows at row) where
-  within : at < length rows
+  pub within : at < length rows
   within = in_range-row rows k at here
 
-  plain-read : get_or (plain rows) at (capability_of row) ≡ capability_of row
+  pub plain-read : get_or (plain rows) at (capability_of row) ≡ capability_of row
   plain-read = get_or-map capability_of rows at row (capability_of row) within ∙ ap capability_of (sym read)
 
   key-row : row.key ≡ k

@@ -1,25 +1,24 @@
 -- What is stored after one more capability was inserted in its gap.
-use Rattle.std.proofs.Common.{◌≡◌, ℕ, suc, ◌+◌, ◌-◌, ◌<◌, ◌≤◌, List, [], ◌∷◌, length, take, drop, map, get_or, Option, Some, None, IfSome, not, refl, sym, ◌∙◌, ap, subst, inl, inr, arith}
+use Rattle.std.proofs.Common.{◌≡◌, ℕ, suc, ◌<◌, ◌≤◌, List, [], ◌∷◌, length, take, drop, map, get_or, Option, Some, None, IfSome, not, refl, sym, ◌∙◌, ap, subst, inl, inr, arith}
 use Rattle.std.specs.List.{All, Contains, insert}
 use Rattle.std.proofs.lemmas.List.{map-append, take-map, drop-map, take-append-drop}
-use Rattle.std.proofs.lemmas.List.Edits.{length-insert, get_or-insert_below, get_or-insert_at, get_or-insert_above}
 use Rattle.std.proofs.lemmas.List.Elements.{All-append, All-cons, All-take, All-drop, Contains-append_left, Contains-append_right, Contains-append_cases}
 use Rattle.std.proofs.lemmas.Bool.Decides.{nat_tests}
-use Rattle.std.proofs.lemmas.Bool.{cases_lt}
 use Rattle.std.proofs.lemmas.Option.{same_Some}
 use Rattle.sem_key.specs.declared.object.Cap.{Cap}
 use Rattle.sem_key.specs.declared.object.Object.{Object}
 use Rattle.sem_key.specs.KeyName.{KeyName, IsValidKey, packed, key_lt}
-use Rattle.sem_key.specs.KeyList.{KeyList, IsRising, IsKeyList, IsGapFor}
+use Rattle.sem_key.specs.KeyList.{KeyList, IsGapFor}
 use Rattle.sem_key.specs.Capability.{Capability, capability_of}
 use Rattle.sem_key.specs.CapList.{keys_of, fresh, with_cap}
 use Rattle.sem_caps.specs.Stored.{plain, HasChildRoom, IsStored}
-use Rattle.sem_caps.proofs.Filtered.{filter-front, filter-back}
+use Rattle.sem_key.proofs.RisingKeys.{Contains-gap, IsKeyList-insert}
+use Rattle.sem_key.proofs.Filtered.{filter-front, filter-back}
 use Rattle.sem_caps.proofs.RisingCaps.{length-keys, key-at}
 
 -- Lists.
 
-map-insert : {X Y : Type 0} (f : X → Y) (xs : List X) (i : ℕ) (y : X) → map f (insert xs i y) ≡ insert (map f xs) i (f y)
+pub map-insert : {X Y : Type 0} (f : X → Y) (xs : List X) (i : ℕ) (y : X) → map f (insert xs i y) ≡ insert (map f xs) i (f y)
 map-insert f xs i y = rw (map-append f (take i xs) (y ∷ drop i xs), ← take-map f i xs, ← drop-map f i xs) refl
 
 Contains-insert : {X : Type 0} (xs : List X) (i : ℕ) (y x : X) → Contains xs x → Contains (insert xs i y) x
@@ -31,33 +30,8 @@ Contains-insert xs i y x there = elim (Contains-append_cases (take i xs) (drop i
     tail : Contains (drop i xs) x → Contains (y ∷ drop i xs) x
     tail (k, within, same) = (suc k, omega arith, same)
 
-All-insert : {X : Type 0} (P : X → Type 0) (xs : List X) (i : ℕ) (y : X) → P y → All P xs → All P (insert xs i y)
+pub All-insert : {X : Type 0} (P : X → Type 0) (xs : List X) (i : ℕ) (y : X) → P y → All P xs → All P (insert xs i y)
 All-insert P xs i y here all = All-append P (take i xs) (y ∷ drop i xs) (All-take P i xs all) (All-cons P y (drop i xs) here (All-drop P i xs all))
-
--- Keys.
-
-module _ (ks : List KeyName) (is_list : IsKeyList ks) (k : KeyName) (at : ℕ) (gap : IsGapFor ks k at) where
-  -- no key of the list is k
-  absent : Contains ks k → ⊥
-  absent (j, lt, same) = elim (cases_lt j at) [
-    | inl below ↦ omega (arith, ap packed same, gap.before j k (omega arith) below)
-    | inr above ↦ omega (arith, ap packed same, gap.after j k above lt)
-  ]
-
-  -- each key of the new list is an old one before the gap, k at it, or an old one moved up by one
-  rising-insert : IsRising (insert ks at k)
-  rising-insert i j d lt within =
-      let new = insert ks at k in
-      let length_new = length-insert ks at k gap.in_range in
-      let word = λ (n : ℕ). packed (get_or new n d) in
-      let old_word = λ (n : ℕ). packed (get_or ks n d) in
-      let below : (n : ℕ) → n < at → word n ≡ old_word n = λ n lower. ap packed (get_or-insert_below ks at k d n lower gap.in_range) in
-      let here : (n : ℕ) → n ≡ at → word n ≡ packed k = λ n same. rw same (ap packed (get_or-insert_at ks at k d gap.in_range)) in
-      let above : (n : ℕ) → at < n → word n ≡ old_word (n - 1) = λ n upper. subst (λ m. word m ≡ old_word (n - 1)) {x = n - 1 + 1} (omega arith) (ap packed (get_or-insert_above ks at k d (n - 1) (omega arith) gap.in_range)) in
-      grind (arith, below i, here i, above i, below j, here j, above j, is_list.rising i j d, is_list.rising i (j - 1) d, is_list.rising (i - 1) (j - 1) d, gap.before i d, gap.after (j - 1) d)
-
-  IsKeyList-insert : IsValidKey k → IsKeyList (insert ks at k)
-  IsKeyList-insert valid = record { rising = rising-insert; valid = All-insert IsValidKey ks at k valid is_list.valid }
 
 -- Capabilities.
 
@@ -97,7 +71,7 @@ module _ (rows : List Cap) (new : Cap) (at : ℕ) (gap : IsGapFor (keys_of (plai
 
       other : (r : Option KeyName) → IfSome r (Contains (keys_of (plain rows))) → r ≡ Some new.key → ⊥
       other None there is = cc
-      other (Some k) there is = absent (keys_of (plain rows)) stored.keys new.key at gap (subst (Contains (keys_of (plain rows))) (same_Some k new.key is) there)
+      other (Some k) there is = Contains-gap (keys_of (plain rows)) stored.keys new.key at gap (subst (Contains (keys_of (plain rows))) (same_Some k new.key is) there)
 
 -- a capability that was just made, with room for children
 pub plain-fresh : (rows : List Cap) (k : KeyName) (parent : Option KeyName) (selector : ℕ) (object : Object) (children : KeyList) (at : ℕ) → IsGapFor (keys_of (plain rows)) k at → children.keys ≡ [] → plain (insert rows at (fresh_row k parent selector object children)) ≡ with_cap (plain rows) (fresh k parent selector object)

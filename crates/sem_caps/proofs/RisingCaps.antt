@@ -16,8 +16,8 @@ use Rattle.sem_key.specs.Lists.{change}
 use Rattle.sem_key.specs.Capability.{Capability, capability_of}
 use Rattle.sem_key.specs.CapList.{cap_of, keys_of}
 use Rattle.sem_caps.specs.Stored.{plain}
-use Rattle.sem_caps.proofs.Packed.{packed-injective, key_eq-same, key_eq-differs}
-use Rattle.sem_caps.proofs.Places.{find-none, find-at, change-none, change-at}
+use Rattle.sem_key.proofs.KeyTests.{packed-injective, key_eq-same, key_eq-differs}
+use Rattle.sem_key.proofs.OnePasses.{find-none, find-at, change-none, change-at}
 
 pub length-keys : (cs : List Capability) → length (keys_of cs) ≡ length cs
 length-keys cs = length-map cs (λ (c : Capability). c.key)

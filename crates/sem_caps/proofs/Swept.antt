@@ -1,6 +1,6 @@
 -- What is left after the capabilities that pass a test were removed.
 use Rattle.std.proofs.Common.{◌≡◌, ℕ, suc, ◌+◌, ◌<◌, ◌≤◌, Bool, true, false, not, cond, List, [], ◌∷◌, ◌++◌, length, take, drop, map, get_or, Option, Some, None, IfSome, if◌then◌else◌, is_some, refl, sym, ◌∙◌, ap, inl, inr, arith}
-use Rattle.std.specs.List.{All, AllPairs, Contains, filter, find}
+use Rattle.std.specs.List.{All, Contains, filter, find}
 use Rattle.std.proofs.lemmas.Bool.{cases_Bool, cond-true, cond-false}
 use Rattle.std.proofs.lemmas.List.Elements.{All-filter, All-map, All-weaker, filter-append}
 use Rattle.std.proofs.lemmas.List.{get_or-map, length-map, length-append, take-map, take-append-drop}
@@ -14,8 +14,9 @@ use Rattle.sem_key.specs.Capability.{Capability, capability_of}
 use Rattle.sem_key.specs.CapList.{cap_of, keys_of, is_marked_by, marked_by, not_marked_by}
 use Rattle.sem_caps.specs.CapStore.{held_key, key_and_selector}
 use Rattle.sem_caps.specs.Stored.{plain, HasChildRoom, IsStored}
-use Rattle.sem_caps.proofs.Packed.{key_eq-true, key_eq-differs}
-use Rattle.sem_caps.proofs.Places.{find-none}
+use Rattle.sem_key.proofs.Members.{AllPairs-map, AllPairs-from_map}
+use Rattle.sem_key.proofs.KeyTests.{key_eq-true, key_eq-differs}
+use Rattle.sem_key.proofs.OnePasses.{find-none}
 use Rattle.sem_caps.proofs.RisingCaps.{length-keys, key-at}
 
 -- Lists.
@@ -57,18 +58,6 @@ filter-longer p xs i d lt pass =
     let one : cond {A = ℕ} (p (get_or xs i d)) 1 0 ≡ 1 = cond-true {A = ℕ} (p (get_or xs i d)) 1 0 pass in
     let parts : filter p xs ≡ filter p (take (i + 1) xs) ++ filter p (drop (i + 1) xs) = ap (filter p) (sym (take-append-drop (i + 1) xs)) ∙ filter-append p (take (i + 1) xs) (drop (i + 1) xs) in
     omega (arith, ap length parts, length-append (filter p (take (i + 1) xs)) (filter p (drop (i + 1) xs)))
-
-AllPairs-map : {X Y : Type 0} (R : Y → Y → Type 0) (f : X → Y) (xs : List X) → AllPairs (λ a b. R (f a) (f b)) xs → AllPairs R (map f xs)
-AllPairs-map R f [] pairs i j d lt within = absurd (omega arith)
-AllPairs-map R f (x ∷ xs) pairs i j d lt within =
-    let long = length-map (x ∷ xs) f in
-    rw (get_or-map f (x ∷ xs) i x d (omega arith), get_or-map f (x ∷ xs) j x d (omega arith)) (pairs i j x lt (omega arith))
-
-AllPairs-from_map : {X Y : Type 0} (R : Y → Y → Type 0) (f : X → Y) (xs : List X) → AllPairs R (map f xs) → AllPairs (λ a b. R (f a) (f b)) xs
-AllPairs-from_map R f xs pairs i j d lt within =
-    let long = length-map xs f in
-    let pair : R (get_or (map f xs) i (f d)) (get_or (map f xs) j (f d)) = pairs i j (f d) lt (omega arith) in
-    rw (get_or-map f xs i d (f d) (omega arith), get_or-map f xs j d (f d) within) at pair
 
 -- Capabilities.
 

@@ -5,7 +5,7 @@ use Rattle.sem_key.specs.declared.object.Cap.{Cap}
 use Rattle.sem_key.specs.KeyName.{KeyName}
 use Rattle.sem_key.specs.KeyList.{IsKeyList}
 use Rattle.sem_key.specs.Capability.{Capability, capability_of}
-use Rattle.sem_key.specs.CapList.{keys_of}
+use Rattle.sem_key.specs.CapList.{keys_of, link_count}
 use Rattle.sem_caps.specs.CapStore.{IsAbove}
 
 -- what is in the store
@@ -21,6 +21,22 @@ pub record IsStored (rows : List Cap) (child_room : Option KeyName) : Type 0 whe
   pub keys : IsKeyList (keys_of (plain rows))
   pub child_room_held : IfSome child_room (Contains (keys_of (plain rows)))
   pub has_child_room : All (HasChildRoom child_room) rows
+
+-- distinct keys are no more than this, and neither are capabilities; so links are no more than that
+abbrev pub most_keys : ℕ
+most_keys = 536870912
+
+abbrev pub most_links : ℕ
+most_links = 288230376151711744
+
+-- no capability has more children than there are keys
+abbrev pub HaveFewChildren : List Cap → Type 0
+HaveFewChildren rows = All (λ c. length c.children ≤ most_keys) (plain rows)
+
+-- the links to children are counted
+pub record IsCounted (rows : List Cap) (links : ℕ) : Type 0 where
+  pub counted : links ≡ link_count (plain rows)
+  pub few : HaveFewChildren rows
 
 -- the keys from place i on come after the given one, and those before the place do not
 pub record IsFirstAbove (ks : List KeyName) (above : Option KeyName) (i : ℕ) : Type 0 where

@@ -1,10 +1,10 @@
-ghost use Rattle.std.specs.Prelude.{◌≡◌, ◌↔◌, ◌+◌, ◌<◌, ◌≤◌, ◌==◌, ◌++◌, [], length, map, find, vec_len, vec_capacity, None, Some, IsTrue, IsSome, IsSomeAnd, IfOk, IfErr, OnOk, OnErr, slice_get, option_copied, option_map};
+ghost use Rattle.std.specs.Prelude.{◌≡◌, ◌↔◌, ◌+◌, ◌<◌, ◌≤◌, ◌==◌, ◌++◌, [], length, map, find, vec_len, vec_capacity, None, Some, IsTrue, IsSome, IsSomeAnd, IfSome, IfOk, IfErr, Contains, OnOk, OnErr, slice_get, option_copied, option_map};
 ghost use Rattle.sem_key.specs.Capability.{capability_of};
 ghost use Rattle.sem_key.specs.KeyList.{IsRising, IsGapFor};
 ghost use Rattle.sem_key.specs.KeyName.{IsValidKey};
-ghost use Rattle.sem_key.specs.CapList.{cap_of, keys_of, is_marked_by, marked_by, not_marked_by, fresh, with_cap, linked, unlinked, marked};
+ghost use Rattle.sem_key.specs.CapList.{cap_of, keys_of, is_marked_by, marked_by, not_marked_by, fresh, with_cap, linked, unlinked, marked, restored, link_count};
 ghost use Rattle.sem_caps.specs.CapStore.{IsCapStore, held_key, IsNextOf, key_and_selector, IsLinked};
-ghost use Rattle.sem_caps.specs.Stored.{plain, IsFirstAbove};
+ghost use Rattle.sem_caps.specs.Stored.{plain, IsFirstAbove, HaveFewChildren, most_keys, most_links};
 
 use sem_key::{Cap, Key, Keys, Object, OutOfMemory, pack};
 use std::alloc::Global;
@@ -17,18 +17,20 @@ pub struct Caps {
     rising: Vec<Cap>,
     // The capability whose children have room for one more.
     child_room: Option<Key>,
+    // How many links to children there are.
+    links: usize,
 }
 
 impl Model for Caps {
     ghost use Rattle.std.specs.Prelude.{◌-◌, vec_len, vec_capacity};
     ghost use Rattle.sem_caps.specs.CapStore.{CapStore};
-    ghost use Rattle.sem_caps.specs.Stored.{plain, IsStored};
+    ghost use Rattle.sem_caps.specs.Stored.{plain, IsStored, IsCounted};
 
     ghost Value = { CapStore };
 
     ghost view = { λ s. record { caps = plain s.rising.items; spare = vec_capacity s.rising - vec_len s.rising; child_room = s.child_room } };
 
-    ghost invariant = { λ s. IsStored s.rising.items s.child_room };
+    ghost invariant = { λ s. IsStored s.rising.items s.child_room × IsCounted s.rising.items s.links };
 }
 
 impl Caps {
@@ -40,6 +42,7 @@ impl Caps {
         Ok(Caps {
             rising: Vec::new(alloc),
             child_room: None,
+            links: 0,
         })
     }
 
@@ -120,8 +123,11 @@ impl Caps {
             unreachable!()
         };
         let cap = &mut self.rising[at];
+        let before = child_count(cap);
         cap.children.insert(child);
+        let after = child_count(cap);
         self.child_room = None;
+        self.links = self.links - before + after;
     }
 
     /// Lets the capability `parent` lead to the child no more, and tells whether it did. Takes no memory.
@@ -133,7 +139,11 @@ impl Caps {
             return false;
         };
         let cap = &mut self.rising[at];
-        cap.children.remove(child)
+        let before = child_count(cap);
+        let stood = cap.children.remove(child);
+        let after = child_count(cap);
+        self.links = self.links - before + after;
+        stood
     }
 
     /// Lets a job mark the capability of that key. Takes no memory.
@@ -148,6 +158,23 @@ impl Caps {
         };
         let cap = &mut self.rising[at];
         cap.mark = Some(job);
+    }
+
+    /// Takes away the mark and all child links of the capability of that key. Takes no memory.
+    ///
+    /// The capability is held.
+    pub fn restore(&mut self, key: Key)
+        requires { IsSome (cap_of self.old.caps key) }
+        ensures { self.new ≡ record self.old { caps = restored self.old.caps key } }
+    {
+        let Ok(at) = self.search(key) else {
+            unreachable!()
+        };
+        let cap = &mut self.rising[at];
+        let before = child_count(cap);
+        remove_all(&mut cap.children);
+        cap.mark = None;
+        self.links -= before;
     }
 
     /// The least key that is held, of that VPE and above the given key, or the least of all keys of that VPE where none is
@@ -175,14 +202,25 @@ impl Caps {
         append_marked(&self.rising, job, gone);
         self.child_room = self.unmarked_child_room(job);
         self.rising.retain(|cap| !has_mark(cap, job));
+        self.links = count_links(&self.rising);
     }
 
-    // How many capabilities are held.
-    #[cfg(test)]
+    /// How many capabilities are held.
     pub fn len(&self) -> usize
-        ensures { result ≡ length self.now.caps }
+        ensures len { result ≡ length self.now.caps }
+        ensures few { result ≤ 536870912 }
     {
         self.rising.len()
+    }
+
+    /// How many links to children there are.
+    pub fn child_links(&self) -> usize
+        ensures links { result ≡ link_count self.now.caps }
+        ensures few { result ≤ 288230376151711744 }
+    {
+        // So that the proof knows what is stored.
+        let _ = &self.rising;
+        self.links
     }
 
     // Makes room for one more child of that capability, if it is given and held, and else for none.
@@ -264,4 +302,43 @@ fn append_marked(caps: &[Cap], job: u32, gone: &mut Vec<(Key, u8)>)
             gone.push_reserved((cap.key, cap.selector));
         }
     }
+}
+
+// How many children the capability has.
+fn child_count(cap: &Cap) -> usize
+    ensures count { result ≡ length cap.now.children.keys }
+    ensures few { result ≤ most_keys }
+{
+    cap.children.as_slice().len()
+}
+
+// How many links to children there are.
+fn count_links(caps: &[Cap]) -> usize
+    requires caps { length caps.now ≤ most_keys }
+    requires children { HaveFewChildren caps.now }
+    ensures { result ≡ link_count (plain caps.now) }
+{
+    let mut links = 0;
+    for cap in caps {
+        links += child_count(cap);
+    }
+    links
+}
+
+// Takes all keys out, and keeps the room for them.
+fn remove_all(keys: &mut Keys)
+    ensures keys { keys.new.keys ≡ [] }
+    ensures spare { keys.old.spare ≤ keys.new.spare }
+{
+    while let Some(last) = last_of(keys) {
+        keys.remove(last);
+    }
+}
+
+// The last key; none where there are no keys.
+fn last_of(keys: &Keys) -> Option<Key>
+    ensures last { IfSome result (Contains keys.now.keys) }
+    ensures none { result ≡ None → keys.now.keys ≡ [] }
+{
+    keys.as_slice().last().copied()
 }

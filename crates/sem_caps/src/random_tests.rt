@@ -2,7 +2,7 @@
 ghost use Rattle.std.specs.Prelude.{◌≤◌, ◌<◌, length, IfSome};
 
 use crate::Caps;
-use crate::tests::{children, is_unmarked, key, link, mark, put, sweep};
+use crate::tests::{children, key, link, mark, put, restore, sweep};
 use rand_core::utils::NextWord;
 use rand_pcg::Lcg64Xsh32;
 use sem_key::{Key, pack};
@@ -126,6 +126,17 @@ fn try_mark(rt: &impl Abort, caps: &mut Caps, rows: &mut Vec<Row>, words: &mut L
     }
 }
 
+// Restores a capability that is held.
+fn try_restore(rt: &impl Abort, caps: &mut Caps, rows: &mut Vec<Row>, words: &mut Lcg64Xsh32) {
+    let key = drawn(words);
+    if let Some(at) = place_of(rows, key) {
+        restore(rt, caps, key);
+        let row = &mut rows[at];
+        row.mark = None;
+        row.children.clear();
+    }
+}
+
 // Removes what a job has marked.
 fn try_sweep(
     rt: &impl Abort,
@@ -185,6 +196,11 @@ fn compare(rt: &impl Abort, caps: &Caps, rows: &[Row], key: Key) -> Result<(), F
 // All is as in the rows.
 fn compare_all(rt: &impl Abort, caps: &Caps, rows: &[Row]) -> Result<(), Fail> {
     assert_eq!(rt; caps.len(), rows.len());
+    let links: usize = rows
+        .iter()
+        .map(|row| row.children.len())
+        .fold(0, usize::saturating_add);
+    assert_eq!(rt; caps.child_links(), links);
     for vpe in 0..VPES {
         let first = caps.next_of(u16::from(vpe), None).map(|key| pack(key));
         assert_eq!(rt; first, least_above(rows, u16::from(vpe), None));
@@ -204,11 +220,12 @@ fn calls_in_any_order_do_as_with_plain_rows(rt: HostRuntime) -> Result<(), Fail>
     let mut caps = Caps::new(rt.alloc())?;
     let mut rows = Vec::new(rt.alloc());
     for _ in 0..600 {
-        match words.next_word() % 16 {
+        match words.next_word() % 17 {
             0..=4 => try_insert(&rt, rt.alloc(), &mut caps, &mut rows, &mut words)?,
             5..=8 => try_link(&rt, &mut caps, &mut rows, &mut words)?,
             9..=11 => try_unlink(&rt, &mut caps, &mut rows, &mut words),
             12..=14 => try_mark(&rt, &mut caps, &mut rows, &mut words),
+            15 => try_restore(&rt, &mut caps, &mut rows, &mut words),
             _ => try_sweep(&rt, rt.alloc(), &mut caps, &mut rows, &mut words)?,
         }
         compare_all(&rt, &caps, &rows)?;

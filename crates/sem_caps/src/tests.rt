@@ -1,8 +1,8 @@
-ghost use Rattle.std.specs.Prelude.{◌≡◌, ◌≤◌, None, IsTrue, IsSomeAnd};
+ghost use Rattle.std.specs.Prelude.{◌≡◌, ◌≤◌, ◌<◌, None, IsTrue, IsSome, IsSomeAnd};
 ghost use Rattle.sem_key.specs.CapList.{cap_of};
 
 use crate::Caps;
-use sem_key::{Key, Kind, Object, OutOfMemory};
+use sem_key::{Key, Kind, Object, OutOfMemory, VPES};
 use std::alloc::Global;
 use std::process::Abort;
 use std::test::Fail;
@@ -16,7 +16,7 @@ const MEMORY: Object = Object::Mem {
 
 // The key of a memory of that VPE, which runs on the PE of its number.
 pub fn key(vpe: u8, number: u32) -> Key
-    requires vpe_in_range { vpe ≤ 63 }
+    requires vpe_in_range { vpe < VPES }
     requires number_in_range { number ≤ 4095 }
 {
     Key {
@@ -63,6 +63,12 @@ pub fn is_unmarked(caps: &Caps, key: Key) -> bool
 pub fn mark(rt: &impl Abort, caps: &mut Caps, key: Key, job: u32) {
     assert!(rt; is_unmarked(caps, key));
     caps.mark(key, job);
+}
+
+// Restores a capability that is held.
+pub fn restore(rt: &impl Abort, caps: &mut Caps, key: Key) {
+    assert!(rt; caps.get(key).is_some());
+    caps.restore(key);
 }
 
 // Removes what the job has marked.
@@ -130,6 +136,33 @@ fn a_link_stands_once_until_it_is_taken_away(rt: HostRuntime) -> Result<(), Fail
         "there is no such parent"
     );
     assert_eq!(rt; children(&rt, &caps, parent), [key(8, 1)].as_slice());
+    assert_eq!(rt; caps.child_links(), 1);
+    Ok(())
+}
+
+#[test]
+fn a_restored_capability_has_no_mark_and_no_child(rt: HostRuntime) -> Result<(), Fail> {
+    let mut caps = Caps::new(rt.alloc())?;
+    let parent = key(127, 0);
+    put(&rt, &mut caps, parent, Some(key(3, 1)), 9)?;
+    put(&rt, &mut caps, key(1, 0), None, 0)?;
+    for child in [key(9, 1), key(8, 1), key(9, 2)] {
+        link(&rt, &mut caps, parent, child)?;
+    }
+    link(&rt, &mut caps, key(1, 0), key(9, 1))?;
+    assert_eq!(rt; caps.child_links(), 4);
+    mark(&rt, &mut caps, parent, 7);
+    mark(&rt, &mut caps, key(1, 0), 7);
+    restore(&rt, &mut caps, parent);
+    assert!(rt; is_unmarked(&caps, parent) && !is_unmarked(&caps, key(1, 0)));
+    assert!(rt; children(&rt, &caps, parent).is_empty());
+    assert_eq!(rt; (caps.child_links(), caps.len()), (1, 2));
+    let Some(cap) = caps.get(parent) else {
+        return Err(Fail::new("it is held"));
+    };
+    assert_eq!(rt; (cap.parent, cap.selector), (Some(key(3, 1)), 9));
+    link(&rt, &mut caps, parent, key(9, 1))?;
+    assert_eq!(rt; children(&rt, &caps, parent), [key(9, 1)].as_slice());
     Ok(())
 }
 

@@ -1,10 +1,11 @@
 -- What contracts see after the endpoints of one VPE were changed.
-use Rattle.std.proofs.Common.{◌≡◌, ℕ, ◌<◌, ◌≤◌, Bool, true, false, List, [], ◌++◌, length, map, take, drop, get_or, set, append-nil, Option, None, is_some, if◌then◌else◌, refl, sym, ◌∙◌, ap, subst, inl, inr, arith}
+use Rattle.std.proofs.Common.{◌≡◌, ℕ, ◌<◌, Bool, true, false, List, [], ◌++◌, length, map, take, drop, get_or, set, append-nil, Option, None, is_some, if◌then◌else◌, refl, sym, ◌∙◌, ap, subst, inl, inr, arith}
 use Rattle.std.specs.Vec.{vec_len}
 use Rattle.std.proofs.Math.Seq.{map-set_same}
 use Rattle.std.proofs.lemmas.List.{get_or-map, map-set, length-map, get_or_past, get_or_default, take_all, drop_all}
 use Rattle.std.proofs.lemmas.Bool.{cases_lt}
 use Rattle.sem_key.specs.Lists.{put}
+use Rattle.sem_msg.specs.declared.limits.TheConstants.{ENDPOINTS}
 use Rattle.sem_msg.specs.Rows.{Endpoint}
 use Rattle.sem_msg.specs.EndpointRows.{endpoint, with_row, with_endpoint}
 use Rattle.sem_dtu.specs.declared.row.Row.{Row}
@@ -13,7 +14,7 @@ use Rattle.sem_dtu.specs.declared.op.Op.TheVariants.{Read, Write, Send as SendOp
 use Rattle.sem_dtu.specs.EndpointTable.{EndpointTable, IsEndpointTable, endpoint_count, IsOurs}
 use Rattle.sem_dtu.specs.Rows.{table}
 use Rattle.sem_dtu.specs.Uses.{refusal, done, tried, use_done}
-use Rattle.sem_dtu.proofs.Puts.{put-set, put-same}
+use Rattle.sem_key.proofs.Puts.{put-set, put-same}
 
 -- tables with the same VPEs and the same endpoints
 pub same_table : (t u : EndpointTable) → t.ours ≡ u.ours → t.rows ≡ u.rows → t ≡ u
@@ -39,7 +40,7 @@ module _ (t : EndpointTable) (v ep : ℕ) (v_within : v < length t.rows) (ep_wit
   table-tried op = by_refusal (is_some (refusal op (endpoint t.rows v ep))) op
 
 -- a list that was written back whole
-written_back : (len : ℕ) (new old : List (Option Endpoint)) → length new ≡ len → length old ≡ len → take len (new ++ drop (length new) old) ≡ new
+pub written_back : {X : Type 0} (len : ℕ) (new old : List X) → length new ≡ len → length old ≡ len → take len (new ++ drop (length new) old) ≡ new
 written_back len new old same_new same_old = rw (drop_all (length new) old (omega arith), append-nil) (take_all len new (omega arith))
 
 -- the row of a VPE of this kernel
@@ -58,7 +59,7 @@ module _ (rows : List Row) (v : ℕ) (row : Row) (ours : IsOurs (table rows) v) 
   pub endpoints-row : get_or (table rows).rows v [] ≡ row.endpoints.items
   endpoints-row = get_or-map (λ (r : Row). r.endpoints.items) rows v row [] within-rows ∙ ap (λ (r : Row). r.endpoints.items) (sym read)
 
-  pub whole-row : IsEndpointTable (table rows) → length row.endpoints.items ≡ 16
+  pub whole-row : IsEndpointTable (table rows) → length row.endpoints.items ≡ ENDPOINTS
   whole-row is_table =
       ap length (sym endpoints-row)
       ∙ (sym (get_or-map length (table rows).rows v [] 0 (omega (arith, within-rows, length-map rows (λ (r : Row). r.endpoints.items))))
@@ -67,11 +68,11 @@ module _ (rows : List Row) (v : ℕ) (row : Row) (ours : IsOurs (table rows) v) 
       ∙ ap endpoint_count (get_or_default (table rows).ours v true false (omega (arith, within-rows, length-map rows (λ (r : Row). r.is_ours))) ∙ ours))))
 
   -- each of its endpoints is there
-  pub endpoint-within : IsEndpointTable (table rows) → (ep at : ℕ) → ep ≤ 15 → at ≡ ep → at < vec_len row.endpoints
+  pub endpoint-within : IsEndpointTable (table rows) → (ep at : ℕ) → ep < ENDPOINTS → at ≡ ep → at < vec_len row.endpoints
   endpoint-within is_table ep at low same = omega (arith, whole-row is_table, row.endpoints.ok.0)
 
   -- the endpoint in its place
-  pub endpoint-here : IsEndpointTable (table rows) → (ep at : ℕ) (e : Option Endpoint) → ep ≤ 15 → at ≡ ep → e ≡ get_or row.endpoints.items at e → endpoint (table rows).rows v ep ≡ e
+  pub endpoint-here : IsEndpointTable (table rows) → (ep at : ℕ) (e : Option Endpoint) → ep < ENDPOINTS → at ≡ ep → e ≡ get_or row.endpoints.items at e → endpoint (table rows).rows v ep ≡ e
   endpoint-here is_table ep at e low same is =
       ap (λ es. get_or es ep None) endpoints-row
       ∙ (get_or_default row.endpoints.items ep None e (omega (arith, whole-row is_table))
@@ -103,7 +104,7 @@ module _ (rows : List Row) (v : ℕ) (row : Row) (ours : IsOurs (table rows) v) 
         ∙ sym (put-set [] (table rows).rows v (f (get_or (table rows).rows v [])) (omega (arith, within-rows, length-map rows (λ (r : Row). r.endpoints.items)))) in
         same_table (table (set rows v new)) (record (table rows) { rows = with_row v f (table rows).rows }) ours-set changed
 
-    pub table-endpoint : IsEndpointTable (table rows) → (ep : ℕ) (e : Option Endpoint) → ep ≤ 15 → new.endpoints.items ≡ set row.endpoints.items ep e → table (set rows v new) ≡ record (table rows) { rows = with_endpoint v ep e (table rows).rows }
+    pub table-endpoint : IsEndpointTable (table rows) → (ep : ℕ) (e : Option Endpoint) → ep < ENDPOINTS → new.endpoints.items ≡ set row.endpoints.items ep e → table (set rows v new) ≡ record (table rows) { rows = with_endpoint v ep e (table rows).rows }
     table-endpoint is_table ep e low is =
         table-row (λ es. put None es ep e) (is ∙ sym (put-set None row.endpoints.items ep e (omega (arith, whole-row is_table))))
 
@@ -111,7 +112,7 @@ module _ (rows : List Row) (v : ℕ) (row : Row) (ours : IsOurs (table rows) v) 
     table-written f len given written same_given is same_length whole back =
         table-row f (back ∙ (written_back len written row.endpoints.items (same_length ∙ whole) (ap length (sym same_given) ∙ whole) ∙ (is ∙ ap f same_given)))
 
-    pub table-used : IsEndpointTable (table rows) → (op : Op) (ep at : ℕ) (old tried_at : Option Endpoint) → ep ≤ 15 → at ≡ ep → old ≡ get_or row.endpoints.items at old → tried_at ≡ tried op old → new.endpoints.items ≡ set row.endpoints.items at tried_at → table (set rows v new) ≡ (if is_some (refusal op (endpoint (table rows).rows v ep)) then table rows else record (table rows) { rows = use_done op v ep (table rows).rows })
+    pub table-used : IsEndpointTable (table rows) → (op : Op) (ep at : ℕ) (old tried_at : Option Endpoint) → ep < ENDPOINTS → at ≡ ep → old ≡ get_or row.endpoints.items at old → tried_at ≡ tried op old → new.endpoints.items ≡ set row.endpoints.items at tried_at → table (set rows v new) ≡ (if is_some (refusal op (endpoint (table rows).rows v ep)) then table rows else record (table rows) { rows = use_done op v ep (table rows).rows })
     table-used is_table op ep at old tried_at low same is was edited =
         let here : endpoint (table rows).rows v ep ≡ old = endpoint-here is_table ep at old low same is in
         let v_within : v < length (table rows).rows = omega (arith, within-rows, length-map rows (λ (r : Row). r.endpoints.items)) in

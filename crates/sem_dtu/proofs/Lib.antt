@@ -1,4 +1,4 @@
-pub mod Puts
 pub mod Edited
 pub mod Started
-pub mod Owned
+pub mod Unbound
+pub mod Sought

@@ -1,5 +1,7 @@
 -- The endpoints of the VPEs of one kernel as contracts see them ("State" in docs/machine.md).
 use Rattle.std.specs.Prelude.{◌≡◌, ℕ, Bool, true, false, List, length, map, slice_index_or, if◌then◌else◌, Option}
+use Rattle.sem_key.specs.declared.limits.TheConstants.{VPES}
+use Rattle.sem_msg.specs.declared.limits.TheConstants.{ENDPOINTS}
 use Rattle.sem_msg.specs.Rows.{Endpoint}
 
 pub record EndpointTable : Type 0 where
@@ -10,11 +12,11 @@ pub record EndpointTable : Type 0 where
 
 -- how many endpoints there are of a VPE
 abbrev pub endpoint_count : Bool → ℕ
-endpoint_count is_ours = if is_ours then 16 else 0
+endpoint_count is_ours = if is_ours then ENDPOINTS else 0
 
--- there are 64 VPEs, and 16 endpoints of each that belongs to this kernel
+-- there is a place for each VPE, and all endpoints of each that belongs to this kernel
 pub record IsEndpointTable (t : EndpointTable) : Type 0 where
-  pub all_vpes : length t.ours ≡ 64
+  pub all_vpes : length t.ours ≡ VPES
   pub all_endpoints : map length t.rows ≡ map endpoint_count t.ours
 
 -- the VPE belongs to this kernel

@@ -1,6 +1,8 @@
 -- What a VPE may do through its endpoints, and what it does ("Calls" in docs/machine.md).
 use Rattle.std.specs.Prelude.{ℕ, Bool, List, find, Option, is_some, if◌then◌else◌}
 use Rattle.std.specs.Option.{option_map}
+use Rattle.sem_msg.specs.declared.code.Code.{Code}
+use Rattle.sem_msg.specs.declared.code.Code.TheVariants.{Unbound as UnboundCode, Rights as RightsCode, Range as RangeCode}
 use Rattle.sem_msg.specs.Rows.{Endpoint}
 use Rattle.sem_msg.specs.EndpointRows.{endpoint, with_endpoint}
 use Rattle.sem_msg.specs.Uses.{memory_tests, send_tests, credit_tests, ring_changed, rung, credited}
@@ -9,15 +11,21 @@ use Rattle.sem_dtu.specs.declared.op.Op.TheVariants.{Read, Write, Send as SendOp
 use Rattle.sem_dtu.specs.declared.op.UseFault.{UseFault}
 use Rattle.sem_dtu.specs.declared.op.UseFault.TheVariants.{Unbound, Rights, Range}
 
--- the tests of an operation
-abbrev pub use_tests : Op → Option Endpoint → List (Bool × UseFault)
-use_tests (Read off len) e = memory_tests Unbound Rights Range 1 off len e
-use_tests (Write off len) e = memory_tests Unbound Rights Range 2 off len e
-use_tests (SendOp len) e = send_tests Unbound Rights Range e
-use_tests Credit e = credit_tests Unbound Rights Range e
+-- the code by which a call is answered that fails so
+abbrev pub fault_code : UseFault → Code
+fault_code Unbound = UnboundCode
+fault_code Rights = RightsCode
+fault_code Range = RangeCode
 
--- the first test that holds is the refusal
-abbrev pub refusal : Op → Option Endpoint → Option UseFault
+-- the tests of an operation
+abbrev pub use_tests : Op → Option Endpoint → List (Bool × Code)
+use_tests (Read off len) e = memory_tests 1 off len e
+use_tests (Write off len) e = memory_tests 2 off len e
+use_tests (SendOp len) e = send_tests e
+use_tests Credit e = credit_tests e
+
+-- the code of the first test that holds is the refusal
+abbrev pub refusal : Op → Option Endpoint → Option Code
 refusal op e = option_map (λ test. test.1) (find (λ test. test.0) (use_tests op e))
 
 -- the endpoint after the operation

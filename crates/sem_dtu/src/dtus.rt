@@ -1,24 +1,22 @@
-ghost use Rattle.std.specs.Prelude.{◌≡◌, ◌≤◌, [], ◌∷◌, Some, false, is_some, slice_index_or, if◌then◌else◌, IfOk, map};
+ghost use Rattle.std.specs.Prelude.{◌≡◌, ◌<◌, [], ◌∷◌, Some, false, is_some, slice_index_or, if◌then◌else◌, IfOk, map};
 ghost use Rattle.std.specs.Option.{option_map};
 ghost use Rattle.std.specs.Result.{result_err};
+ghost use Rattle.sem_key.specs.KeyList.{IsRising};
 ghost use Rattle.sem_key.specs.ObjectRanges.{IsValidObject};
-ghost use Rattle.sem_msg.specs.EndpointRows.{endpoint, with_endpoint, unbound_from, unbind_key as unbind_key_lem};
+ghost use Rattle.sem_msg.specs.EndpointRows.{endpoint, with_endpoint, unbound_from, all_unbound_from, unbind_key as unbind_key_lem, unbind_all as unbind_all_lem};
 ghost use Rattle.sem_dtu.specs.EndpointTable.{IsOurs, IsEndpointTable};
+ghost use Rattle.sem_dtu.specs.Rows.{table};
 ghost use Rattle.sem_dtu.specs.OwnVpes.{new_table};
 ghost use Rattle.sem_dtu.specs.Stored.{IsMemoryOrGate};
-ghost use Rattle.sem_dtu.specs.Uses.{refusal, use_done};
+ghost use Rattle.sem_dtu.specs.Uses.{fault_code, refusal, use_done};
 
 use crate::endpoint::Endpoint;
 use crate::op::{Op, UseFault};
 use crate::row::Row;
-use crate::setups::is_own_vpe;
-use sem_key::{Key, Object, OutOfMemory};
-use sem_msg::Setup;
+use sem_key::{Key, Object, OutOfMemory, VPES};
+use sem_msg::{ENDPOINTS, Setup};
 use std::alloc::Global;
 use std::marker::Model;
-
-// How many VPEs there can be.
-const VPES: u16 = 64;
 
 /// The endpoints of the VPEs of one kernel, 16 for each. An endpoint is unbound, or bound to a key, to the object that its
 /// capability had when it was bound, and to a ring with the lengths of the messages that were sent and not credited.
@@ -48,7 +46,7 @@ impl Dtus {
     {
         let mut rows = Vec::new(alloc);
         for vpe in 0..VPES {
-            rows.push(Row::new(alloc, is_own_vpe(setup, kernel, vpe))?)?;
+            rows.push(Row::new(alloc, setup.is_own(kernel, vpe))?)?;
         }
         Ok(Dtus { rows })
     }
@@ -59,7 +57,7 @@ impl Dtus {
     /// The VPE belongs to this kernel, the endpoint is at most 15, and the object is memory or a gate, in its ranges.
     pub fn bind(&mut self, vpe: u16, ep: u8, key: Key, object: Object)
         requires ours { IsOurs self.old vpe }
-        requires ep { ep ≤ 15 }
+        requires ep { ep < ENDPOINTS }
         requires kind { IsMemoryOrGate object }
         requires in_range { IsValidObject object }
         ensures { self.new ≡ record self.old {
@@ -76,7 +74,7 @@ impl Dtus {
     /// The VPE belongs to this kernel, and the endpoint is at most 15.
     pub fn bound(&self, vpe: u16, ep: u8) -> Option<Key>
         requires ours { IsOurs self.now vpe }
-        requires ep { ep ≤ 15 }
+        requires ep { ep < ENDPOINTS }
         ensures key { result ≡ option_map (λ e. e.key) (endpoint self.now.rows vpe ep) }
         ensures table { IsEndpointTable self.now }
     {
@@ -94,6 +92,14 @@ impl Dtus {
         unbind_each(&mut row.endpoints, key);
     }
 
+    /// Unbinds every endpoint that is bound to one of the keys, which rise. Takes no memory.
+    pub fn unbind_all(&mut self, keys: &[Key])
+        requires { IsRising keys.now }
+        ensures { self.new ≡ record self.old { rows = unbind_all_lem keys.now self.old.rows } }
+    {
+        unbind_rows(&mut self.rows, keys);
+    }
+
     /// Does an operation through an endpoint of a VPE, if the endpoint does not refuse it; the first test that holds is the
     /// refusal, and then nothing changes. A sent message comes to the end of the ring, and the oldest one is credited; all
     /// else changes nothing. Takes no memory.
@@ -101,8 +107,8 @@ impl Dtus {
     /// The VPE belongs to this kernel, and the endpoint is at most 15.
     pub fn use_endpoint(&mut self, vpe: u16, ep: u8, op: Op) -> Result<(), UseFault>
         requires ours { IsOurs self.old vpe }
-        requires ep { ep ≤ 15 }
-        ensures refusal { result_err result ≡ refusal op (endpoint self.old.rows vpe ep) }
+        requires ep { ep < ENDPOINTS }
+        ensures refusal { option_map fault_code (result_err result) ≡ refusal op (endpoint self.old.rows vpe ep) }
         ensures table { self.new ≡ (
             if is_some (refusal op (endpoint self.old.rows vpe ep))
             then self.old
@@ -143,5 +149,34 @@ fn unbind_each(endpoints: &mut [Endpoint], key: Key)
 {
     for endpoint in endpoints {
         endpoint.unbind_from(key);
+    }
+}
+
+// Unbinds each endpoint of the rows that is bound to one of the keys.
+fn unbind_rows(rows: &mut Vec<Row>, keys: &[Key])
+    requires { IsRising keys.now }
+    ensures { table rows.new.items ≡ record (table rows.old.items) { rows = unbind_all_lem keys.now (table rows.old.items).rows } }
+{
+    for row in rows.iter_mut() {
+        unbind_row(row, keys);
+    }
+}
+
+// Unbinds each endpoint of a row that is bound to one of the keys.
+fn unbind_row(row: &mut Row, keys: &[Key])
+    requires { IsRising keys.now }
+    ensures ours { row.new.is_ours ≡ row.old.is_ours }
+    ensures endpoints { row.new.endpoints.items ≡ all_unbound_from keys.now row.old.endpoints.items }
+{
+    unbind_all_of(&mut row.endpoints, keys);
+}
+
+// Unbinds each of the endpoints that is bound to one of the keys.
+fn unbind_all_of(endpoints: &mut Vec<Endpoint>, keys: &[Key])
+    requires { IsRising keys.now }
+    ensures { endpoints.new.items ≡ all_unbound_from keys.now endpoints.old.items }
+{
+    for endpoint in endpoints.iter_mut() {
+        endpoint.unbind_from_all(keys);
     }
 }

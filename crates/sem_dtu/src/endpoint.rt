@@ -1,21 +1,21 @@
 ghost use Rattle.std.specs.Prelude.{◌≡◌, ◌≤◌, [], ◌∷◌, Some, None, IfOk};
 ghost use Rattle.std.specs.Option.{option_map};
 ghost use Rattle.std.specs.Result.{result_err};
+ghost use Rattle.std.specs.List.{list_any};
+ghost use Rattle.sem_key.specs.KeyName.{key_eq};
+ghost use Rattle.sem_key.specs.KeyList.{IsRising};
 ghost use Rattle.sem_key.specs.ObjectRanges.{IsValidObject};
 ghost use Rattle.sem_msg.specs.EndpointRows.{unbound_from};
 ghost use Rattle.sem_dtu.specs.Stored.{IsMemoryOrGate};
-ghost use Rattle.sem_dtu.specs.Uses.{refusal, tried};
+ghost use Rattle.sem_dtu.specs.Uses.{fault_code, refusal, tried};
 
 use crate::binding::Binding;
 use crate::object_tests::{allows, are_credits_used, is_past_end, is_send_gate, refuse};
 use crate::op::{Op, UseFault};
 use circular_buffer::HeapCircularBuffer;
-use sem_key::{Key, Object, OutOfMemory};
+use sem_key::{Key, Object, OutOfMemory, SLOTS, pack, same_key};
 use std::alloc::Global;
 use std::marker::Model;
-
-// The most credits that a send gate can have.
-const CREDITS: usize = 64;
 
 // The rights of a memory that are asked for.
 const READ: u8 = 1;
@@ -33,6 +33,7 @@ pub struct Endpoint {
 impl Model for Endpoint {
     ghost use Rattle.std.specs.Prelude.{◌≡◌, Option, IfSome};
     ghost use Rattle.std.specs.Option.{option_map};
+    ghost use Rattle.sem_key.specs.declared.limits.TheConstants.{SLOTS};
     ghost use Rattle.sem_msg.specs.Rows.{Endpoint};
     ghost use Rattle.sem_dtu.specs.Stored.{bound_with, IsBound};
 
@@ -40,7 +41,7 @@ impl Model for Endpoint {
 
     ghost view = { λ e. option_map (bound_with e.ring.items) e.binding };
 
-    ghost invariant = { λ e. (e.ring.capacity ≡ 64) × IfSome (option_map (bound_with e.ring.items) e.binding) IsBound };
+    ghost invariant = { λ e. (e.ring.capacity ≡ SLOTS) × IfSome (option_map (bound_with e.ring.items) e.binding) IsBound };
 }
 
 impl Endpoint {
@@ -50,7 +51,7 @@ impl Endpoint {
     {
         Ok(Endpoint {
             binding: None,
-            ring: HeapCircularBuffer::with_capacity(alloc, CREDITS)?,
+            ring: HeapCircularBuffer::with_capacity(alloc, usize::from(SLOTS))?,
         })
     }
 
@@ -73,6 +74,18 @@ impl Endpoint {
         }
     }
 
+    // Unbinds it, where it is bound to one of the keys.
+    pub fn unbind_from_all(&mut self, keys: &[Key])
+        requires { IsRising keys.now }
+        ensures { self.new ≡ unbound_from keys.now self.old }
+    {
+        if let Some(key) = self.key() {
+            if has_key(keys, key) {
+                self.binding = None;
+            }
+        }
+    }
+
     // The key to which it is bound.
     pub fn key(&self) -> Option<Key>
         ensures { result ≡ option_map (λ e. e.key) self.now }
@@ -85,7 +98,7 @@ impl Endpoint {
 
     // Why it would refuse the operation, if it would.
     fn test(&self, op: Op) -> Result<(), UseFault>
-        ensures { result_err result ≡ refusal op self.now }
+        ensures { option_map fault_code (result_err result) ≡ refusal op self.now }
     {
         let Some(binding) = &self.binding else {
             return Err(UseFault::Unbound);
@@ -102,7 +115,7 @@ impl Endpoint {
 
     // Does the operation, unless it is refused, and then changes nothing.
     pub fn operate(&mut self, op: Op) -> Result<(), UseFault>
-        ensures refusal { result_err result ≡ refusal op self.old }
+        ensures refusal { option_map fault_code (result_err result) ≡ refusal op self.old }
         ensures tried { self.new ≡ tried op self.old }
     {
         self.test(op)?;
@@ -122,5 +135,16 @@ impl Endpoint {
     #[cfg(test)]
     pub fn messages(&self, alloc: Global) -> Result<Vec<u32>, OutOfMemory> {
         self.ring.to_vec(alloc)
+    }
+}
+
+// Whether the key is one of these, which rise.
+fn has_key(keys: &[Key], key: Key) -> bool
+    requires { IsRising keys.now }
+    ensures { result ≡ list_any (key_eq key) keys.now }
+{
+    match keys.binary_search_by_key(&pack(key), |other| pack(*other)) {
+        Ok(at) => same_key(&keys[at], &key),
+        Err(_) => false,
     }
 }

@@ -4,12 +4,12 @@
 mod binding;
 mod dtus;
 mod endpoint;
+mod fault;
 mod object_tests;
 mod op;
 #[cfg(test)]
 mod random_tests;
 mod row;
-mod setups;
 #[cfg(test)]
 mod tests;
 

@@ -1,7 +1,9 @@
 ghost use Rattle.std.specs.Prelude.{◌≡◌, not, Some, None, if◌then◌else◌};
+ghost use Rattle.std.specs.Option.{option_map};
 ghost use Rattle.std.specs.Result.{result_err};
 ghost use Rattle.sem_msg.specs.Uses.{allows as allows_lem, is_send_gate as is_send_gate_lem, is_past_end as is_past_end_lem, are_credits_used as are_credits_used_lem};
-ghost use Rattle.sem_dtu.specs.declared.op.UseFault.TheVariants.{Rights, Range};
+ghost use Rattle.sem_msg.specs.declared.code.Code.TheVariants.{Rights, Range};
+ghost use Rattle.sem_dtu.specs.Uses.{fault_code};
 
 use crate::op::UseFault;
 use sem_key::Object;
@@ -45,7 +47,7 @@ pub fn are_credits_used(object: &Object, messages: usize) -> bool
 
 // What is not allowed is refused before what is out of range.
 pub fn refuse(is_allowed: bool, is_out_of_range: bool) -> Result<(), UseFault>
-    ensures { result_err result ≡ (if not is_allowed then Some Rights else if is_out_of_range then Some Range else None) }
+    ensures { option_map fault_code (result_err result) ≡ (if not is_allowed then Some Rights else if is_out_of_range then Some Range else None) }
 {
     if !is_allowed {
         Err(UseFault::Rights)

@@ -3,17 +3,20 @@ ghost use Rattle.std.specs.Prelude.{◌≤◌, ◌<◌, length, IfSome};
 ghost use Rattle.sem_key.specs.ObjectRanges.{IsValidObject};
 ghost use Rattle.sem_dtu.specs.Stored.{IsMemoryOrGate};
 
-use crate::tests::{FIRST, SECOND, bind, bound, dtus, gate, key, memory, operate, unbind};
+use crate::tests::{
+    FIRST, SECOND, bind, bound, dtus, gate, key, memory, operate, two_keys, unbind, unbind_keys,
+};
 use crate::{Dtus, Op, UseFault};
 use rand_core::utils::NextWord;
 use rand_pcg::Lcg64Xsh32;
-use sem_key::{Key, Object};
+use sem_key::{Key, Object, VPES};
+use sem_msg::ENDPOINTS;
 use std::alloc::Global;
 use std::process::Abort;
 use std::test::Fail;
 
 // How many endpoints of a VPE are used here.
-const ENDPOINTS: u8 = 4;
+const USED: u8 = 4;
 
 // An endpoint.
 #[derive(Debug, Drop)]
@@ -29,7 +32,7 @@ struct Row {
 fn all_rows(alloc: Global) -> Result<Vec<Row>, Fail> {
     let mut rows = Vec::new(alloc);
     for vpe in [FIRST, SECOND] {
-        for ep in 0..ENDPOINTS {
+        for ep in 0..USED {
             rows.push(Row {
                 vpe,
                 ep,
@@ -51,7 +54,7 @@ fn place_of(rows: &[Row], vpe: u16, ep: u8) -> Option<usize>
 
 // One of the VPEs, by the words of a generator.
 fn drawn_vpe(words: &mut Lcg64Xsh32) -> u16
-    ensures { result ≤ 63 }
+    ensures { result < VPES }
 {
     if words.next_word() % 2 == 0 {
         FIRST
@@ -62,14 +65,14 @@ fn drawn_vpe(words: &mut Lcg64Xsh32) -> u16
 
 // One of the endpoints.
 fn drawn_ep(words: &mut Lcg64Xsh32) -> u8
-    ensures { result ≤ 15 }
+    ensures { result < ENDPOINTS }
 {
-    (words.next_word() % u32::from(ENDPOINTS)) as u8
+    (words.next_word() % u32::from(USED)) as u8
 }
 
 // A key of that VPE.
 fn drawn_key(words: &mut Lcg64Xsh32, vpe: u16) -> Key
-    requires { vpe ≤ 63 }
+    requires { vpe < VPES }
 {
     key(vpe, words.next_word() % 3)
 }
@@ -172,6 +175,27 @@ fn try_unbind(rt: &impl Abort, dtus: &mut Dtus, rows: &mut [Row], words: &mut Lc
     }
 }
 
+// Unbinds two keys at once.
+fn try_unbind_all(
+    alloc: Global,
+    dtus: &mut Dtus,
+    rows: &mut [Row],
+    words: &mut Lcg64Xsh32,
+) -> Result<(), Fail> {
+    let vpe = drawn_vpe(words);
+    let one = drawn_key(words, vpe);
+    let vpe = drawn_vpe(words);
+    let other = drawn_key(words, vpe);
+    let keys = two_keys(alloc, one, other)?;
+    unbind_keys(dtus, &keys);
+    for row in rows {
+        if row.key == Some(one) || row.key == Some(other) {
+            row.key = None;
+        }
+    }
+    Ok(())
+}
+
 // Uses an endpoint.
 fn try_use(
     rt: &impl Abort,
@@ -218,6 +242,7 @@ fn calls_in_any_order_do_as_with_plain_rows(rt: HostRuntime) -> Result<(), Fail>
         match words.next_word() % 16 {
             0 | 1 => try_bind(&rt, &mut dtus, &mut rows, &mut words),
             2 => try_unbind(&rt, &mut dtus, &mut rows, &mut words),
+            3 => try_unbind_all(rt.alloc(), &mut dtus, &mut rows, &mut words)?,
             _ => try_use(&rt, &mut dtus, &mut rows, &mut words)?,
         }
         compare_all(&rt, rt.alloc(), &dtus, &rows)?;

@@ -3,10 +3,8 @@ ghost use Rattle.sem_dtu.specs.OwnVpes.{new_endpoints};
 
 use crate::endpoint::Endpoint;
 use sem_key::OutOfMemory;
+use sem_msg::ENDPOINTS;
 use std::alloc::Global;
-
-// How many endpoints a VPE has.
-const ENDPOINTS: usize = 16;
 
 // The endpoints of one VPE.
 #[derive(Debug, Drop)]

@@ -1,10 +1,12 @@
-ghost use Rattle.std.specs.Prelude.{◌≡◌, ◌≤◌, ◌++◌, ◌∷◌, [], OnOk};
+ghost use Rattle.std.specs.Prelude.{◌≡◌, ◌≤◌, ◌<◌, ◌++◌, ◌∷◌, [], OnOk};
 ghost use Rattle.sem_key.specs.ObjectRanges.{IsValidObject};
 ghost use Rattle.sem_dtu.specs.Stored.{IsMemoryOrGate};
 
 use crate::{Dtus, Op, UseFault};
-use sem_key::{Key, Kind, Membership, Object};
-use sem_msg::{Calls, Denies, Kills, Offers, Roots, Services, Setup, VpeDecl, Vpes0};
+use sem_key::{Key, Keys, Kind, Membership, Object, OutOfMemory, VPES};
+use sem_msg::{
+    Calls, Code, Denies, ENDPOINTS, Kills, Offers, Roots, Services, Setup, VpeDecl, Vpes0,
+};
 use std::alloc::Global;
 use std::process::Abort;
 use std::test::Fail;
@@ -12,7 +14,7 @@ use std::test::Fail;
 // The VPEs of kernel 0 in these tests; VPE 4 is of kernel 1.
 pub const FIRST: u16 = 3;
 
-pub const SECOND: u16 = 7;
+pub const SECOND: u16 = 127;
 
 const READ: u8 = 1;
 
@@ -42,8 +44,10 @@ fn three_vpes(alloc: Global) -> Result<Setup, Fail> {
     let mut vpes = Vpes0::new(alloc);
     vpes.push(vpe_on(alloc, 3, 5))?;
     vpes.push(vpe_on(alloc, 4, 6))?;
-    vpes.push(vpe_on(alloc, 7, 8))?;
+    vpes.push(vpe_on(alloc, 127, 8))?;
     Ok(Setup {
+        version: 2,
+        window: 4,
         kernels: 2,
         owners,
         vpes,
@@ -61,7 +65,7 @@ pub fn dtus(alloc: Global) -> Result<Dtus, Fail> {
 
 // The key of that number of a VPE of kernel 0.
 pub fn key(vpe: u16, number: u32) -> Key
-    requires vpe_in_range { vpe ≤ 63 }
+    requires vpe_in_range { vpe < VPES }
     requires number_in_range { number ≤ 4095 }
     ensures { result.vpe ≡ vpe }
 {
@@ -107,7 +111,7 @@ pub fn gate(credits: u8) -> Object
 
 // Binds an endpoint of a VPE of this kernel.
 pub fn bind(rt: &impl Abort, dtus: &mut Dtus, vpe: u16, ep: u8, key: Key, object: Object)
-    requires ep { ep ≤ 15 }
+    requires ep { ep < ENDPOINTS }
     requires kind { IsMemoryOrGate object }
     requires in_range { IsValidObject object }
 {
@@ -117,7 +121,7 @@ pub fn bind(rt: &impl Abort, dtus: &mut Dtus, vpe: u16, ep: u8, key: Key, object
 
 // The key to which an endpoint of a VPE of this kernel is bound.
 pub fn bound(rt: &impl Abort, dtus: &Dtus, vpe: u16, ep: u8) -> Option<Key>
-    requires ep { ep ≤ 15 }
+    requires ep { ep < ENDPOINTS }
 {
     assert!(rt; dtus.is_ours(vpe));
     dtus.bound(vpe, ep)
@@ -129,9 +133,23 @@ pub fn unbind(rt: &impl Abort, dtus: &mut Dtus, key: Key) {
     dtus.unbind_key(key);
 }
 
+// The two keys, in rising order.
+pub fn two_keys(alloc: Global, one: Key, other: Key) -> Result<Keys, OutOfMemory> {
+    let mut keys = Keys::new(alloc);
+    keys.room(2)?;
+    keys.insert(one);
+    keys.insert(other);
+    Ok(keys)
+}
+
+// Unbinds all of these keys.
+pub fn unbind_keys(dtus: &mut Dtus, keys: &Keys) {
+    dtus.unbind_all(keys.as_slice());
+}
+
 // Uses an endpoint of a VPE of this kernel.
 pub fn operate(rt: &impl Abort, dtus: &mut Dtus, vpe: u16, ep: u8, op: Op) -> Result<(), UseFault>
-    requires ep { ep ≤ 15 }
+    requires ep { ep < ENDPOINTS }
 {
     assert!(rt; dtus.is_ours(vpe));
     dtus.use_endpoint(vpe, ep, op)
@@ -143,11 +161,11 @@ fn a_kernel_has_unbound_endpoints_for_its_vpes(rt: HostRuntime) -> Result<(), Fa
     for (kernel, own) in [
         (0, [FIRST, SECOND]),
         (1, [4, 4]),
-        (2, [99, 99]),
-        (9, [99, 99]),
+        (2, [999, 999]),
+        (9, [999, 999]),
     ] {
         let dtus = Dtus::new(rt.alloc(), &setup, kernel)?;
-        for vpe in 0..70 {
+        for vpe in 0..VPES {
             assert_eq!(rt;
                 dtus.is_ours(vpe),
                 own.contains(&vpe),
@@ -184,6 +202,24 @@ fn a_key_is_unbound_at_every_endpoint_of_its_vpe_and_at_no_other(
     assert_eq!(rt; bound(&rt, &dtus, FIRST, 1), Some(stays));
     assert_eq!(rt; bound(&rt, &dtus, SECOND, 0), Some(key(SECOND, 1)));
     assert_eq!(rt; bound(&rt, &dtus, SECOND, 2), Some(gone), "another VPE");
+    Ok(())
+}
+
+#[test]
+fn many_keys_are_unbound_at_once(rt: HostRuntime) -> Result<(), Fail> {
+    let mut dtus = dtus(rt.alloc())?;
+    bind(&rt, &mut dtus, FIRST, 0, key(FIRST, 1), memory(7));
+    bind(&rt, &mut dtus, FIRST, 15, key(FIRST, 2), memory(7));
+    bind(&rt, &mut dtus, SECOND, 15, key(SECOND, 1), memory(7));
+    bind(&rt, &mut dtus, SECOND, 3, key(SECOND, 2), memory(7));
+    unbind_keys(&mut dtus, &Keys::new(rt.alloc()));
+    assert_eq!(rt; bound(&rt, &dtus, FIRST, 0), Some(key(FIRST, 1)));
+    let gone = two_keys(rt.alloc(), key(SECOND, 1), key(FIRST, 1))?;
+    unbind_keys(&mut dtus, &gone);
+    assert_eq!(rt; bound(&rt, &dtus, FIRST, 0), None);
+    assert_eq!(rt; bound(&rt, &dtus, FIRST, 15), Some(key(FIRST, 2)));
+    assert_eq!(rt; bound(&rt, &dtus, SECOND, 15), None);
+    assert_eq!(rt; bound(&rt, &dtus, SECOND, 3), Some(key(SECOND, 2)));
     Ok(())
 }
 
@@ -358,13 +394,26 @@ fn an_endpoint_that_is_bound_anew_has_no_messages(rt: HostRuntime) -> Result<(),
 }
 
 #[test]
-fn a_fault_has_its_text(rt: HostRuntime) -> Result<(), Fail> {
-    for (fault, text) in [
-        (UseFault::Unbound, "the endpoint is not bound"),
-        (UseFault::Rights, "the endpoint does not allow it"),
-        (UseFault::Range, "it is out of the range of the endpoint"),
+fn a_fault_has_its_text_and_code(rt: HostRuntime) -> Result<(), Fail> {
+    for (fault, code, text) in [
+        (
+            UseFault::Unbound,
+            Code::Unbound,
+            "the endpoint is not bound",
+        ),
+        (
+            UseFault::Rights,
+            Code::Rights,
+            "the endpoint does not allow it",
+        ),
+        (
+            UseFault::Range,
+            Code::Range,
+            "it is out of the range of the endpoint",
+        ),
     ] {
         let printed = format!(in rt.alloc(); "{fault}")?;
+        assert_eq!(rt; Code::from(fault), code);
         assert_eq!(rt; printed.as_str(), text);
     }
     Ok(())
@@ -373,7 +422,7 @@ fn a_fault_has_its_text(rt: HostRuntime) -> Result<(), Fail> {
 #[test]
 fn want_of_memory_is_answered(rt: HostRuntime) -> Result<(), Fail> {
     let setup = three_vpes(rt.alloc())?;
-    // With `rt try --test --fail-alloc N`, N from 2 to 44, one allocation here is refused. The next call gets its memory.
+    // With `rt try --test --fail-alloc N`, N from 2 to 45, one allocation here is refused. The next call gets its memory.
     let mut dtus = match Dtus::new(rt.alloc(), &setup, 0) {
         Ok(dtus) => dtus,
         Err(_) => Dtus::new(rt.alloc(), &setup, 0)?,

@@ -1,5 +1,5 @@
 -- What a search finds among jobs of rising id, and what a change at that place does.
-use Rattle.std.proofs.Common.{◌≡◌, ℕ, ◌+◌, ◌<◌, ◌==◌, true, false, not, List, [], ◌∷◌, length, set, get_or, Some, None, IfSome, Result, Ok, Err, option_map, refl, sym, ◌∙◌, ap, inl, inr, arith}
+use Rattle.std.proofs.Common.{◌≡◌, ℕ, ◌+◌, ◌<◌, ◌==◌, true, false, not, List, [], ◌∷◌, ◌++◌, length, set, get_or, Some, None, IfSome, Result, Ok, Err, option_map, refl, sym, ◌∙◌, ap, inl, inr, arith}
 use Rattle.std.specs.List.{AllWithin, filter, remove}
 use Rattle.std.specs.List.Sorted.{IsSearchInRange, IsBinarySearchResult, IsNonDecreasingBy}
 use Rattle.std.specs.Ordering.{nat_cmp, ordering_index}
@@ -8,6 +8,7 @@ use Rattle.std.proofs.lemmas.Cmp.{ranked}
 use Rattle.std.proofs.lemmas.List.{get_or-map, length-map}
 use Rattle.std.proofs.Math.Seq.{map-set_same}
 use Rattle.std.proofs.lemmas.List.Elements.{All-filter}
+use Rattle.std.proofs.lemmas.List.Folds.{find-append}
 use Rattle.std.proofs.lemmas.List.Kept.{AllPairs-filter}
 use Rattle.std.proofs.lemmas.Bool.Decides.{nat_tests}
 use Rattle.std.proofs.lemmas.Bool.{cases_lt}
@@ -15,7 +16,7 @@ use Rattle.std.proofs.lemmas.Grind.{common_steps}
 use Rattle.sem_msg.specs.Rows.{JobRow}
 use Rattle.sem_msg.specs.JobRows.{job_of, job_changed, job_removed, waiter_removed, ids_of}
 use Rattle.sem_jobs.specs.JobStore.{JobStore, HasRisingIds, IsPlaceOf}
-use Rattle.sem_jobs.proofs.Places.{find-none, find-at, change-at, others-at}
+use Rattle.sem_key.proofs.OnePasses.{find-none, find-at, change-at, change-absent, others-at, others-absent}
 
 -- stores with the same jobs, and all else the same
 pub same_jobs : (next spare : ℕ) (xs ys : List JobRow) → xs ≡ ys → ◌≡◌ {A = JobStore} (record { jobs = xs; next = next; spare = spare }) (record { jobs = ys; next = next; spare = spare })
@@ -34,6 +35,14 @@ ids-set xs at row new read same = map-set_same (λ (x : JobRow). x.id) xs at new
 pub ids-left_by : (v : ℕ) (xs : List JobRow) → ids_of (waiter_removed v xs) ≡ ids_of xs
 ids-left_by v [] = refl
 ids-left_by v (x ∷ xs) = ap (λ ns. x.id ∷ ns) (ids-left_by v xs)
+
+-- a change of a job that is not there changes nothing
+pub changed-absent : (j : ℕ) (f : JobRow → JobRow) (xs : List JobRow) → job_of xs j ≡ None → job_changed j f xs ≡ xs
+changed-absent j f xs none = change-absent (λ (x : JobRow). x.id == j) f xs none
+
+-- nor is one taken out
+pub removed-absent : (j : ℕ) (xs : List JobRow) → job_of xs j ≡ None → job_removed j xs ≡ xs
+removed-absent j xs none = others-absent (λ (x : JobRow). x.id == j) xs none
 
 -- a job that was changed is found as it is now
 pub found-changed : (j : ℕ) (f : JobRow → JobRow) (keeps : (x : JobRow) → (f x).id ≡ x.id) (xs : List JobRow) → job_of (job_changed j f xs) j ≡ option_map f (job_of xs j)
@@ -56,6 +65,13 @@ module _ (xs : List JobRow) (next : ℕ) (ids : HasRisingIds (ids_of xs) next) w
       ids-filter : (ys : List JobRow) → ids_of (job_removed j ys) ≡ filter (λ n. not (n == j)) (ids_of ys)
       ids-filter [] = refl
       ids-filter (y ∷ ys) = let tail = ids-filter ys in grind (arith, common_steps, nat_tests)
+
+  -- a job under the next id is found
+  pub found-opened : (new : JobRow) → new.id ≡ next → job_of (xs ++ new ∷ []) next ≡ Some new
+  found-opened new id =
+      let none : job_of xs next ≡ None = find-none (λ (x : JobRow). x.id == next) xs (λ i d low lt. let long = length-ids xs in let less = ids.drawn i 0 (omega arith) in let is = id-at xs i d 0 lt in grind (arith, nat_tests)) in
+      let here : (new.id == next) ≡ true = grind (arith, nat_tests) in
+      rw (find-append (λ (x : JobRow). x.id == next) xs (new ∷ []), none, here) refl
 
   -- A binary search by ids ends at the job, or where it would stand.
   module _ (j : ℕ) where

@@ -1,4 +1,3 @@
 pub mod Masks
-pub mod Places
 pub mod JobPlaces
 pub mod Chains

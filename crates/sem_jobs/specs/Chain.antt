@@ -4,7 +4,7 @@ use Rattle.std.specs.Option.{option_map_or}
 use Rattle.sem_msg.specs.declared.state.Up.{Up}
 use Rattle.sem_msg.specs.declared.state.Up.TheVariants.{Local, Remote}
 use Rattle.sem_msg.specs.Rows.{JobRow}
-use Rattle.sem_msg.specs.JobRows.{job_of, job_removed, count_lowered}
+use Rattle.sem_msg.specs.JobRows.{job_of, job_removed, count_lowered, told}
 
 -- what finishing a chain of jobs leaves, and the jobs that it takes out, in their order
 pub record Chain : Type 0 where
@@ -14,12 +14,6 @@ pub record Chain : Type 0 where
 -- whether one token alone is out for the job
 abbrev pub is_last_token : Option JobRow → Bool
 is_last_token o = option_map_or (λ x. x.count == 1) o false
-
--- the local job that waits for a finished one, if it is there, gets a token back
-abbrev pub up_told : Option Up → List JobRow → List JobRow
-up_told None xs = xs
-up_told (Some (Local j)) xs = count_lowered j xs
-up_told (Some (Remote kernel j)) xs = xs
 
 -- the job that is finished next: the local one that gets its last token back by this
 abbrev pub next_done : Option Up → List JobRow → Option JobRow
@@ -34,7 +28,7 @@ chain zero o xs = record { left = xs; gone = [] }
 chain (suc n) None xs = record { left = xs; gone = [] }
 chain (suc n) (Some x) xs =
     let others : List JobRow = job_removed x.id xs in
-    let rest : Chain = chain n (next_done x.up others) (up_told x.up others) in
+    let rest : Chain = chain n (next_done x.up others) (told x.up others) in
     record { left = rest.left; gone = x ∷ rest.gone }
 
 -- the chain of the job of that id; each job in it is taken out of the list, so it has no more jobs than the list

@@ -2,6 +2,8 @@
 use Rattle.std.specs.Prelude.{◌≡◌, ℕ, ◌<◌, ◌==◌, Bool, false, List, length, slice_index_or, Option, All}
 use Rattle.std.specs.List.{AllPairs}
 use Rattle.std.specs.Option.{option_map_or}
+use Rattle.sem_key.specs.KeyName.{KeyName}
+use Rattle.sem_msg.specs.declared.state.Up.{Up}
 use Rattle.sem_msg.specs.Rows.{JobRow}
 use Rattle.sem_msg.specs.JobRows.{ids_of}
 
@@ -12,6 +14,10 @@ pub record JobStore : Type 0 where
   pub next : ℕ
   -- how many more can be opened without memory
   pub spare : ℕ
+
+-- a job that was just opened: no token is out for it
+abbrev pub new_job : ℕ → KeyName → Option Up → List ℕ → JobRow
+new_job id root up waiters = record { id = id; root = root; up = up; waiters = waiters; count = 0; keep = false }
 
 -- whether no token is out for the job
 abbrev pub is_done : Option JobRow → Bool

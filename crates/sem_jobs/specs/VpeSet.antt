@@ -2,12 +2,13 @@
 use Rattle.std.specs.Prelude.{ℕ, ◌<◌, ◌==◌, List, filter, All}
 use Rattle.std.specs.List.{AllPairs, range_with_len}
 use Rattle.std.specs.Int.{bit_at}
+use Rattle.sem_key.specs.declared.limits.TheConstants.{VPES}
 
--- rising numbers below 128
+-- rising numbers of VPEs
 pub record IsVpeList (vs : List ℕ) : Type 0 where
   pub rising : AllPairs (λ v w. v < w) vs
-  pub below : All (λ v. v < 128) vs
+  pub below : All (λ v. v < VPES) vs
 
 -- the VPEs of a mask, which has a bit for each
 unfoldable pub vpes_of : ℕ → List ℕ
-vpes_of mask = filter (λ v. bit_at mask v == 1) (range_with_len 0 128)
+vpes_of mask = filter (λ v. bit_at mask v == 1) (range_with_len 0 VPES)

@@ -1,8 +1,8 @@
-ghost use Rattle.std.specs.Prelude.{◌≡◌, ◌+◌, ◌-◌, ◌<◌, Some};
+ghost use Rattle.std.specs.Prelude.{◌≡◌, ◌+◌, ◌-◌, ◌<◌, true, false, Some};
 ghost use Rattle.sem_msg.specs.JobRows.{with_number, without_number};
 
 use crate::vpe_list::VpeList;
-use sem_key::Key;
+use sem_key::{Key, VPES};
 use sem_msg::Up;
 use std::marker::Model;
 
@@ -17,6 +17,8 @@ pub struct Job {
     pub up: Option<Up>,
     /// The VPEs that wait for it.
     pub slots: VpeList,
+    /// Whether it keeps its root, as a `clear` does.
+    pub keep: bool,
 }
 
 impl Model for Job {
@@ -24,7 +26,7 @@ impl Model for Job {
 
     ghost Value = { JobRow };
 
-    ghost view = { λ j. record { id = j.id; root = j.root; up = j.up; waiters = j.slots; count = j.outstanding } };
+    ghost view = { λ j. record { id = j.id; root = j.root; up = j.up; waiters = j.slots; count = j.outstanding; keep = j.keep } };
 }
 
 impl Job {
@@ -38,6 +40,7 @@ impl Job {
             outstanding: self.outstanding,
             up: self.up,
             slots: self.slots.copy(),
+            keep: self.keep,
         }
     }
 
@@ -57,16 +60,31 @@ impl Job {
         self.outstanding -= 1;
     }
 
-    // Another job waits for it.
+    // Another job waits for it, so it keeps its root no longer.
     pub(crate) fn set_up(&mut self, up: Up)
-        ensures { self.new ≡ record self.old { up = Some up } }
+        ensures { self.new ≡ record self.old { up = Some up; keep = false } }
     {
         self.up = Some(up);
+        self.keep = false;
+    }
+
+    // It keeps its root.
+    pub(crate) fn keep(&mut self)
+        ensures { self.new ≡ record self.old { keep = true } }
+    {
+        self.keep = true;
+    }
+
+    // It keeps its root no longer.
+    pub(crate) fn give_up(&mut self)
+        ensures { self.new ≡ record self.old { keep = false } }
+    {
+        self.keep = false;
     }
 
     // The VPE waits for it.
     pub(crate) fn wait(&mut self, vpe: u16)
-        requires { vpe < 128 }
+        requires { vpe < VPES }
         ensures { self.new ≡ record self.old { waiters = with_number self.old.waiters vpe } }
     {
         self.slots.insert(vpe);

@@ -1,12 +1,12 @@
-ghost use Rattle.std.specs.Prelude.{◌≡◌, ℕ, ◌+◌, ◌<◌, ◌≤◌, ◌++◌, [], length, vec_len, vec_capacity, None, Some, IsSome, IsSomeAnd, IfSome, IfOk, OnOk};
+ghost use Rattle.std.specs.Prelude.{◌≡◌, ℕ, ◌+◌, ◌<◌, ◌≤◌, ◌++◌, [], length, vec_len, vec_capacity, false, None, Some, IsSome, IsSomeAnd, IfSome, IfOk, OnOk};
 ghost use Rattle.std.specs.Option.{option_and_then};
-ghost use Rattle.sem_msg.specs.JobRows.{job_of, job_opened, job_removed, count_raised, count_lowered, with_up, waiter_added, waiter_removed};
-ghost use Rattle.sem_jobs.specs.JobStore.{IsJobStore, IsPlaceOf, is_done};
-ghost use Rattle.sem_jobs.specs.Chain.{up_told, next_done, chain, chain_of};
+ghost use Rattle.sem_msg.specs.JobRows.{job_of, job_opened, job_removed, count_raised, count_lowered, if_done, told, keep_set, keep_given_up, with_up, waiters_of, waiter_added, waiter_removed};
+ghost use Rattle.sem_jobs.specs.JobStore.{IsJobStore, IsPlaceOf, is_done, new_job};
+ghost use Rattle.sem_jobs.specs.Chain.{next_done, chain, chain_of};
 
 use crate::job::Job;
 use crate::vpe_list::VpeList;
-use sem_key::{Key, OutOfMemory};
+use sem_key::{Key, OutOfMemory, VPES};
 use sem_msg::Up;
 use std::alloc::Global;
 use std::marker::Model;
@@ -64,14 +64,17 @@ impl Jobs {
         Some(open.copy())
     }
 
-    /// Opens a job with the next id, and gives the id. No token is out for it and no VPE waits for it. Takes no memory.
+    /// Opens a job with the next id, for which the VPE waits, if one is given, and gives the id. No token is out for it.
+    /// Takes no memory.
     ///
-    /// There is room for the job, and fewer than 4,294,967,295 ids were drawn.
-    pub fn begin(&mut self, root: Key, up: Option<Up>) -> u32
+    /// There is room for the job, fewer than 4,294,967,295 ids were drawn, and the VPE is 0 to 127.
+    pub fn begin(&mut self, root: Key, up: Option<Up>, waiter: Option<u16>) -> u32
+        requires waiter { IfSome waiter (λ v. v < VPES) }
         requires room { 0 < self.old.spare }
         requires ids { self.old.next < 4294967295 }
         ensures id { result ≡ self.old.next }
-        ensures jobs { self.new.jobs ≡ job_opened self.old.next root up [] self.old.jobs }
+        ensures jobs { self.new.jobs ≡ job_opened self.old.next root up (waiters_of waiter) false self.old.jobs }
+        ensures there { job_of self.new.jobs result ≡ Some (new_job result root up (waiters_of waiter)) }
         ensures next { self.new.next ≡ self.old.next + 1 }
         ensures spare { self.old.spare ≤ self.new.spare + 1 }
     {
@@ -81,35 +84,59 @@ impl Jobs {
             root,
             outstanding: 0,
             up,
-            slots: VpeList::empty(),
+            slots: VpeList::of(waiter),
+            keep: false,
         });
         self.next += 1;
         id
     }
 
-    /// One token more is out for the job. Takes no memory.
+    /// The job keeps its root. Takes no memory.
     ///
-    /// The job is there, and fewer than 18,446,744,073,709,551,615 tokens are out for it.
-    pub fn add_outstanding(&mut self, job: u32)
-        requires { IsSomeAnd (job_of self.old.jobs job) (λ x. x.count < 18446744073709551615) }
-        ensures { self.new ≡ record self.old { jobs = count_raised job self.old.jobs } }
+    /// The job is there, and no other job waits for it.
+    pub fn keep(&mut self, job: u32)
+        requires { IsSomeAnd (job_of self.old.jobs job) (λ x. x.up ≡ None) }
+        ensures { self.new ≡ record self.old { jobs = keep_set job self.old.jobs } }
     {
         let Some(at) = self.place_of(job) else {
             unreachable!()
         };
         let open = &mut self.rising[at];
+        open.keep();
+    }
+
+    /// The job keeps its root no longer. Nothing changes where it is not there. Takes no memory.
+    pub fn give_up(&mut self, job: u32)
+        ensures { self.new ≡ record self.old { jobs = keep_given_up job self.old.jobs } }
+    {
+        let Some(at) = self.place_of(job) else {
+            return;
+        };
+        let open = &mut self.rising[at];
+        open.give_up();
+    }
+
+    /// One token more is out for the job. Nothing changes where it is not there. Takes no memory.
+    ///
+    /// Fewer than 18,446,744,073,709,551,615 tokens are out for it.
+    pub fn add_outstanding(&mut self, job: u32)
+        requires { IfSome (job_of self.old.jobs job) (λ x. x.count < 18446744073709551615) }
+        ensures { self.new ≡ record self.old { jobs = count_raised job self.old.jobs } }
+    {
+        let Some(at) = self.place_of(job) else {
+            return;
+        };
+        let open = &mut self.rising[at];
         open.raise();
     }
 
-    /// Lets another job wait for the job, in place of the one that did before. Takes no memory.
-    ///
-    /// The job is there.
+    /// Lets another job wait for the job, in place of the one that did before; it keeps its root no longer. Nothing
+    /// changes where it is not there. Takes no memory.
     pub fn set_up(&mut self, job: u32, up: Up)
-        requires { IsSome (job_of self.old.jobs job) }
         ensures { self.new ≡ record self.old { jobs = with_up up job self.old.jobs } }
     {
         let Some(at) = self.place_of(job) else {
-            unreachable!()
+            return;
         };
         let open = &mut self.rising[at];
         open.set_up(up);
@@ -120,7 +147,7 @@ impl Jobs {
     /// The job is there, and the VPE is 0 to 127.
     pub fn wait(&mut self, job: u32, vpe: u16)
         requires there { IsSome (job_of self.old.jobs job) }
-        requires vpe_in_range { vpe < 128 }
+        requires vpe_in_range { vpe < VPES }
         ensures { self.new ≡ record self.old { jobs = waiter_added job vpe self.old.jobs } }
     {
         let Some(at) = self.place_of(job) else {
@@ -153,6 +180,32 @@ impl Jobs {
         open.outstanding == 0
     }
 
+    /// A token came back to the job; a count of 0 stays. Gives the job, if it is there and no token is out for it.
+    /// Takes no memory.
+    pub fn token_back(&mut self, job: u32) -> Option<u32>
+        ensures next { option_and_then (job_of self.new.jobs) result ≡ if_done (job_of self.new.jobs job) }
+        ensures there { IfSome result (λ j. IsSome (job_of self.new.jobs j)) }
+        ensures jobs { self.new ≡ record self.old { jobs = count_lowered job self.old.jobs } }
+    {
+        let waiting = self.get(job)?;
+        if waiting.outstanding == 0 {
+            return Some(job);
+        }
+        self.done(job).then_some(job)
+    }
+
+    /// Takes the job out and gives it; none where it is not there. Takes no memory.
+    pub fn take(&mut self, job: u32) -> Option<Job>
+        ensures job { result ≡ job_of self.old.jobs job }
+        ensures store { IsJobStore self.old }
+        ensures jobs { self.new.jobs ≡ job_removed job self.old.jobs }
+        ensures next { self.new.next ≡ self.old.next }
+        ensures spare { self.old.spare ≤ self.new.spare }
+    {
+        let at = self.place_of(job)?;
+        Some(self.rising.remove(at))
+    }
+
     /// Finishes the job, and those that are done by that, one after the other: takes each out and appends it to `out`.
     /// After each, the local job that waits for it gets a token back, if it is there and a token is out for it; where that
     /// was its last one, it is finished next. Takes no memory.
@@ -172,15 +225,16 @@ impl Jobs {
         let _ = &self.rising;
         let mut next = Some(job);
         while let Some(id) = next {
-            let finished = self.take(id);
+            let Some(finished) = self.take(id) else {
+                unreachable!()
+            };
             let up = finished.up;
             out.push_reserved(finished);
             next = self.tell(up);
         }
     }
 
-    // How many jobs are open.
-    #[cfg(test)]
+    /// How many jobs are open.
     pub fn len(&self) -> usize
         ensures { result ≡ length self.now.jobs }
     {
@@ -195,29 +249,12 @@ impl Jobs {
         self.next
     }
 
-    // Takes the job out.
-    //
-    // The job is there.
-    fn take(&mut self, job: u32) -> Job
-        requires { IsSome (job_of self.old.jobs job) }
-        ensures job { Some result ≡ job_of self.old.jobs job }
-        ensures store { IsJobStore self.old }
-        ensures jobs { self.new.jobs ≡ job_removed job self.old.jobs }
-        ensures next { self.new.next ≡ self.old.next }
-        ensures spare { self.old.spare ≤ self.new.spare }
-    {
-        let Some(at) = self.place_of(job) else {
-            unreachable!()
-        };
-        self.rising.remove(at)
-    }
-
     // Gives a token back to the local job that waited for a finished one, if it is there and a token is out for it. Gives
     // its id where it is to be finished next.
     fn tell(&mut self, up: Option<Up>) -> Option<u32>
         ensures next { option_and_then (job_of self.new.jobs) result ≡ next_done up self.old.jobs }
         ensures there { IfSome result (λ job. IsSome (job_of self.new.jobs job)) }
-        ensures jobs { self.new ≡ record self.old { jobs = up_told up self.old.jobs } }
+        ensures jobs { self.new ≡ record self.old { jobs = told up self.old.jobs } }
     {
         let Some(Up::Local { job }) = up else {
             return None;
@@ -226,7 +263,8 @@ impl Jobs {
         if waiting.outstanding == 0 {
             return None;
         }
-        self.done(job).then_some(job)
+        let is_last = self.done(job);
+        is_last.then_some(job)
     }
 
     // Where the job is; none where it is not there.

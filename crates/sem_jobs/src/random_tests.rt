@@ -1,11 +1,11 @@
 // Calls in an order that a generator draws, beside plain rows in no order.
 ghost use Rattle.std.specs.Prelude.{◌≤◌, ◌<◌, length, IfSome};
 
-use crate::tests::{add, done, finish, open, root, set_up, wait, waiters};
+use crate::tests::{add, done, finish, keep, open_for, root, wait, waiters};
 use crate::{Job, Jobs, Up};
 use rand_core::utils::NextWord;
 use rand_pcg::Lcg64Xsh32;
-use sem_key::Key;
+use sem_key::{Key, VPES};
 use std::alloc::Global;
 use std::process::Abort;
 use std::test::Fail;
@@ -19,6 +19,7 @@ struct Row {
     up: Option<Up>,
     // In no order.
     waiters: Vec<u16>,
+    keep: bool,
 }
 
 // The place of the row of that job.
@@ -56,6 +57,13 @@ fn drawn_up(next: u32, words: &mut Lcg64Xsh32) -> Up {
     }
 }
 
+// One of the VPEs that wait here.
+fn drawn_vpe(words: &mut Lcg64Xsh32) -> u16
+    ensures { result < VPES }
+{
+    (120 + words.next_word() % 8) as u16
+}
+
 // Opens a job.
 fn try_begin(
     rt: &impl Abort,
@@ -66,15 +74,22 @@ fn try_begin(
 ) -> Result<(), Fail> {
     let number = words.next_word() % 4096;
     let next = jobs.drawn();
-    let up = Some(drawn_up(next, words));
-    let id = open(rt, jobs, root(number), up)?;
+    let up = match words.next_word() % 4 {
+        0 => None,
+        _ => Some(drawn_up(next, words)),
+    };
+    let vpe = drawn_vpe(words);
+    let id = open_for(rt, jobs, root(number), up, Some(vpe))?;
     assert_eq!(rt; id, next);
+    let mut waiters = Vec::new(alloc);
+    waiters.push(vpe)?;
     rows.push(Row {
         id,
         root: root(number),
         count: 0,
         up,
-        waiters: Vec::new(alloc),
+        waiters,
+        keep: false,
     })?;
     Ok(())
 }
@@ -89,12 +104,13 @@ fn try_add(rt: &impl Abort, jobs: &mut Jobs, rows: &mut Vec<Row>, words: &mut Lc
 }
 
 // Lets another job wait.
-fn try_set_up(rt: &impl Abort, jobs: &mut Jobs, rows: &mut Vec<Row>, words: &mut Lcg64Xsh32) {
+fn try_set_up(jobs: &mut Jobs, rows: &mut Vec<Row>, words: &mut Lcg64Xsh32) {
     let up = drawn_up(jobs.drawn(), words);
     if let Some(at) = drawn_place(rows, words) {
         let row = &mut rows[at];
-        set_up(rt, jobs, row.id, up);
+        jobs.set_up(row.id, up);
         row.up = Some(up);
+        row.keep = false;
     }
 }
 
@@ -105,7 +121,7 @@ fn try_wait(
     rows: &mut Vec<Row>,
     words: &mut Lcg64Xsh32,
 ) -> Result<(), Fail> {
-    let vpe = (120 + words.next_word() % 8) as u16;
+    let vpe = drawn_vpe(words);
     if let Some(at) = drawn_place(rows, words) {
         let row = &mut rows[at];
         wait(rt, jobs, row.id, vpe);
@@ -122,6 +138,30 @@ fn try_leave(jobs: &mut Jobs, rows: &mut Vec<Row>, words: &mut Lcg64Xsh32) {
     jobs.leave(vpe);
     for row in rows.iter_mut() {
         row.waiters.retain(|other| *other != vpe);
+    }
+}
+
+// Lets a job keep its root, if no other job waits for it, or give it up.
+fn try_keep(rt: &impl Abort, jobs: &mut Jobs, rows: &mut Vec<Row>, words: &mut Lcg64Xsh32) {
+    if let Some(at) = drawn_place(rows, words) {
+        let row = &mut rows[at];
+        if row.up.is_none() && !row.keep {
+            keep(rt, jobs, row.id);
+            row.keep = true;
+        } else {
+            jobs.give_up(row.id);
+            row.keep = false;
+        }
+    }
+}
+
+// Takes a token back, also where none is out.
+fn try_token_back(rt: &impl Abort, jobs: &mut Jobs, rows: &mut Vec<Row>, words: &mut Lcg64Xsh32) {
+    if let Some(at) = drawn_place(rows, words) {
+        let row = &mut rows[at];
+        row.count = row.count.saturating_sub(1);
+        let told = jobs.token_back(row.id);
+        assert_eq!(rt; told, (row.count == 0).then_some(row.id));
     }
 }
 
@@ -192,7 +232,10 @@ fn compare(rt: &impl Abort, alloc: Global, jobs: &Jobs, rows: &[Row]) -> Result<
         let Some(open) = jobs.get(row.id) else {
             return Err(Fail::new("it is there"));
         };
-        assert_eq!(rt; (open.id, open.root), (row.id, row.root));
+        assert_eq!(rt;
+            (open.id, open.root, open.keep),
+            (row.id, row.root, row.keep)
+        );
         assert_eq!(rt; (open.outstanding, open.up), (row.count, row.up));
         let vpes = waiters(alloc, &open.slots)?;
         assert_eq!(rt; vpes.len(), row.waiters.len());
@@ -210,13 +253,15 @@ fn calls_in_any_order_do_as_with_plain_rows(rt: HostRuntime) -> Result<(), Fail>
     let mut rows = Vec::new(rt.alloc());
     let mut longest = 0;
     for _ in 0..600 {
-        match words.next_word() % 16 {
+        match words.next_word() % 18 {
             0..=2 => try_begin(&rt, rt.alloc(), &mut jobs, &mut rows, &mut words)?,
             3..=6 => try_add(&rt, &mut jobs, &mut rows, &mut words),
-            7 => try_set_up(&rt, &mut jobs, &mut rows, &mut words),
+            7 => try_set_up(&mut jobs, &mut rows, &mut words),
             8..=9 => try_wait(&rt, &mut jobs, &mut rows, &mut words)?,
             10 => try_leave(&mut jobs, &mut rows, &mut words),
-            11..=13 => try_done(&rt, &mut jobs, &mut rows, &mut words),
+            11 => try_keep(&rt, &mut jobs, &mut rows, &mut words),
+            12 => try_token_back(&rt, &mut jobs, &mut rows, &mut words),
+            13..=14 => try_done(&rt, &mut jobs, &mut rows, &mut words),
             _ => {
                 let length = try_finish(&rt, rt.alloc(), &mut jobs, &mut rows, &mut words)?;
                 longest = longest.max(length);

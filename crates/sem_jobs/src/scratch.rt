@@ -8,6 +8,8 @@ use std::alloc::Global;
 #[derive(Debug, Drop)]
 pub struct Scratch {
     pub keys: Vec<Key>,
+    /// The keys of child links.
+    pub links: Vec<Key>,
     /// The keys of removed capabilities, each with its selector.
     pub gone: Vec<(Key, u8)>,
     /// The jobs that were finished.
@@ -18,33 +20,40 @@ impl Scratch {
     /// Empty, and with no room. Takes no memory.
     pub fn new(alloc: Global) -> Self
         ensures keys { result.keys.items ≡ [] }
+        ensures links { result.links.items ≡ [] }
         ensures gone { result.gone.items ≡ [] }
         ensures jobs { result.jobs.items ≡ [] }
     {
         Scratch {
             keys: Vec::new(alloc),
+            links: Vec::new(alloc),
             gone: Vec::new(alloc),
             jobs: Vec::new(alloc),
         }
     }
 
-    /// Empties all three, and makes room for so many elements in `keys`, as many in `gone`, and so many in `jobs`. After
-    /// want of memory all is as before.
+    /// Empties all four, and makes room for so many elements in `keys`, as many in `links` and in `gone`, and so many
+    /// in `jobs`. After want of memory all is as before.
     pub fn room(&mut self, keys: usize, jobs: usize) -> Result<(), OutOfMemory>
         ensures keys { OnOk result ((self.new.keys.items ≡ []) × (keys ≤ vec_capacity self.new.keys)) }
+        ensures links { OnOk result ((self.new.links.items ≡ []) × (keys ≤ vec_capacity self.new.links)) }
         ensures gone { OnOk result ((self.new.gone.items ≡ []) × (keys ≤ vec_capacity self.new.gone)) }
         ensures jobs { OnOk result ((self.new.jobs.items ≡ []) × (jobs ≤ vec_capacity self.new.jobs)) }
         ensures same_keys { OnErr result (self.new.keys.items ≡ self.old.keys.items) }
+        ensures same_links { OnErr result (self.new.links.items ≡ self.old.links.items) }
         ensures same_gone { OnErr result (self.new.gone.items ≡ self.old.gone.items) }
         ensures same_jobs { OnErr result (self.new.jobs.items ≡ self.old.jobs.items) }
         ensures kept_keys { vec_capacity self.old.keys ≤ vec_capacity self.new.keys }
+        ensures kept_links { vec_capacity self.old.links ≤ vec_capacity self.new.links }
         ensures kept_gone { vec_capacity self.old.gone ≤ vec_capacity self.new.gone }
         ensures kept_jobs { vec_capacity self.old.jobs ≤ vec_capacity self.new.jobs }
     {
         make_room(&mut self.keys, keys)?;
+        make_room(&mut self.links, keys)?;
         make_room(&mut self.gone, keys)?;
         make_room(&mut self.jobs, jobs)?;
         self.keys.clear();
+        self.links.clear();
         self.gone.clear();
         self.jobs.clear();
         Ok(())

@@ -1,8 +1,8 @@
-ghost use Rattle.std.specs.Prelude.{◌≡◌, ◌≤◌, ◌<◌, IsTrue, IsSome, IsSomeAnd};
+ghost use Rattle.std.specs.Prelude.{◌≡◌, ◌≤◌, ◌<◌, IsTrue, None, IsSome, IsSomeAnd, IfSome};
 ghost use Rattle.sem_msg.specs.JobRows.{job_of};
 
 use crate::{Job, Jobs, Scratch, Up, VpeList};
-use sem_key::{Key, Kind, OutOfMemory};
+use sem_key::{Key, Kind, OutOfMemory, VPES};
 use std::alloc::Global;
 use std::process::Abort;
 use std::test::Fail;
@@ -26,9 +26,22 @@ pub fn open(
     root: Key,
     up: Option<Up>,
 ) -> Result<u32, OutOfMemory> {
+    open_for(rt, jobs, root, up, None)
+}
+
+// Opens a job for which that VPE waits, if one is given.
+pub fn open_for(
+    rt: &impl Abort,
+    jobs: &mut Jobs,
+    root: Key,
+    up: Option<Up>,
+    waiter: Option<u16>,
+) -> Result<u32, OutOfMemory>
+    requires { IfSome waiter (λ v. v < VPES) }
+{
     jobs.room(1)?;
     assert!(rt; jobs.drawn() < u32::MAX);
-    Ok(jobs.begin(root, up))
+    Ok(jobs.begin(root, up, waiter))
 }
 
 // Whether the job is there.
@@ -60,29 +73,44 @@ pub fn is_done(jobs: &Jobs, job: u32) -> bool
 
 // Whether one token more can be out for the job.
 fn can_have_more(jobs: &Jobs, job: u32) -> bool
-    ensures { IsTrue result → IsSomeAnd (job_of jobs.now.jobs job) (λ x. x.count < 18446744073709551615) }
+    ensures { IsTrue result → IfSome (job_of jobs.now.jobs job) (λ x. x.count < 18446744073709551615) }
 {
     match jobs.get(job) {
         Some(open) => open.outstanding < u64::MAX,
+        None => true,
+    }
+}
+
+// Whether the job is there and no other job waits for it.
+fn can_keep(jobs: &Jobs, job: u32) -> bool
+    ensures { IsTrue result → IsSomeAnd (job_of jobs.now.jobs job) (λ x. x.up ≡ None) }
+{
+    match jobs.get(job) {
+        Some(open) => open.up.is_none(),
         None => false,
     }
 }
 
-// Raises the count of a job that is there.
+// Whether the job is there and keeps its root.
+pub fn keeps(jobs: &Jobs, job: u32) -> bool {
+    jobs.get(job).is_some_and(|open| open.keep)
+}
+
+// Raises the count of a job.
 pub fn add(rt: &impl Abort, jobs: &mut Jobs, job: u32) {
     assert!(rt; can_have_more(jobs, job));
     jobs.add_outstanding(job);
 }
 
-// Lets another job wait for a job that is there.
-pub fn set_up(rt: &impl Abort, jobs: &mut Jobs, job: u32, up: Up) {
-    assert!(rt; is_open(jobs, job));
-    jobs.set_up(job, up);
+// Lets a job for which no other job waits keep its root.
+pub fn keep(rt: &impl Abort, jobs: &mut Jobs, job: u32) {
+    assert!(rt; can_keep(jobs, job));
+    jobs.keep(job);
 }
 
 // Lets the VPE wait for a job that is there.
 pub fn wait(rt: &impl Abort, jobs: &mut Jobs, job: u32, vpe: u16)
-    requires { vpe < 128 }
+    requires { vpe < VPES }
 {
     assert!(rt; is_open(jobs, job));
     jobs.wait(job, vpe);
@@ -176,11 +204,65 @@ fn the_job_that_was_told_last_waits(rt: HostRuntime) -> Result<(), Fail> {
     let above = open(&rt, &mut jobs, root(1), None)?;
     let job = open(&rt, &mut jobs, root(2), Some(Up::Local { job: above }))?;
     let elsewhere = Up::Remote { kernel: 3, job: 9 };
-    set_up(&rt, &mut jobs, job, elsewhere);
+    jobs.set_up(job, elsewhere);
+    jobs.set_up(7, elsewhere);
     let (_, _, _, up, _) = shown(rt.alloc(), &jobs, job)?;
     assert_eq!(rt; up, Some(elsewhere));
     let (_, _, _, up, _) = shown(rt.alloc(), &jobs, above)?;
     assert_eq!(rt; up, None);
+    Ok(())
+}
+
+#[test]
+fn a_vpe_can_wait_from_the_beginning(rt: HostRuntime) -> Result<(), Fail> {
+    let mut jobs = Jobs::new(rt.alloc())?;
+    let job = open_for(&rt, &mut jobs, root(1), None, Some(127))?;
+    wait(&rt, &mut jobs, job, 3);
+    let (_, _, _, _, vpes) = shown(rt.alloc(), &jobs, job)?;
+    assert_eq!(rt; vpes.as_slice(), [3, 127].as_slice());
+    Ok(())
+}
+
+#[test]
+fn a_job_keeps_its_root_until_it_gives_up(rt: HostRuntime) -> Result<(), Fail> {
+    let mut jobs = Jobs::new(rt.alloc())?;
+    let one = open(&rt, &mut jobs, root(1), None)?;
+    let two = open(&rt, &mut jobs, root(2), None)?;
+    assert!(rt; !keeps(&jobs, one));
+    keep(&rt, &mut jobs, one);
+    keep(&rt, &mut jobs, two);
+    assert!(rt; keeps(&jobs, one) && keeps(&jobs, two));
+    jobs.give_up(one);
+    jobs.give_up(7);
+    assert!(rt; !keeps(&jobs, one) && keeps(&jobs, two));
+    jobs.set_up(two, Up::Local { job: one });
+    assert!(rt; !keeps(&jobs, two), "another job waits for it");
+    Ok(())
+}
+
+#[test]
+fn the_last_token_that_comes_back_tells_the_job(rt: HostRuntime) -> Result<(), Fail> {
+    let mut jobs = Jobs::new(rt.alloc())?;
+    let job = open(&rt, &mut jobs, root(1), None)?;
+    add(&rt, &mut jobs, job);
+    add(&rt, &mut jobs, job);
+    assert_eq!(rt; jobs.token_back(job), None, "one is still out");
+    assert_eq!(rt; jobs.token_back(job), Some(job));
+    assert_eq!(rt; jobs.token_back(job), Some(job), "none was out");
+    assert!(rt; is_done(&jobs, job));
+    assert_eq!(rt; jobs.token_back(7), None, "it is not there");
+    Ok(())
+}
+
+#[test]
+fn a_job_is_taken_out_once(rt: HostRuntime) -> Result<(), Fail> {
+    let mut jobs = Jobs::new(rt.alloc())?;
+    let one = open(&rt, &mut jobs, root(1), None)?;
+    let two = open(&rt, &mut jobs, root(2), None)?;
+    assert_eq!(rt; jobs.take(one).map(|job| job.root), Some(root(1)));
+    assert!(rt; jobs.take(one).is_none());
+    assert_eq!(rt; jobs.len(), 1);
+    assert!(rt; is_open(&jobs, two));
     Ok(())
 }
 
@@ -309,10 +391,13 @@ fn working_space_is_empty_and_has_room(rt: HostRuntime) -> Result<(), Fail> {
     scratch.room(2, 1)?;
     scratch.keys.push_reserved(root(1));
     scratch.keys.push_reserved(root(2));
+    scratch.links.push_reserved(root(3));
     scratch.gone.push_reserved((root(1), 9));
     scratch.room(3, 0)?;
-    assert!(rt; scratch.keys.is_empty() && scratch.gone.is_empty() && scratch.jobs.is_empty());
-    assert!(rt; scratch.keys.capacity() >= 3 && scratch.gone.capacity() >= 3);
+    assert!(rt; scratch.keys.is_empty() && scratch.links.is_empty());
+    assert!(rt; scratch.gone.is_empty() && scratch.jobs.is_empty());
+    assert!(rt; scratch.keys.capacity() >= 3 && scratch.links.capacity() >= 3);
+    assert!(rt; scratch.gone.capacity() >= 3);
     Ok(())
 }
 
@@ -323,14 +408,16 @@ fn after_want_of_memory_the_working_space_is_as_before(rt: HostRuntime) -> Resul
     let mut scratch = Scratch::new(rt.alloc());
     scratch.room(1, 1)?;
     scratch.keys.push_reserved(root(1));
+    scratch.links.push_reserved(root(3));
     scratch.gone.push_reserved((root(2), 9));
     if let Some(job) = jobs.get(id) {
         scratch.jobs.push_reserved(job);
     }
     for (keys, jobs) in [(usize::MAX, 1), (1, usize::MAX), (1000, 1000)] {
-        // With `rt try --test --fail-alloc N` there is no memory for one of the last three here, N from 5 to 7.
+        // With `rt try --test --fail-alloc N` there is no memory for one of the last four here, N from 6 to 9.
         if scratch.room(keys, jobs).is_err() {
             assert_eq!(rt; scratch.keys.as_slice(), [root(1)].as_slice());
+            assert_eq!(rt; scratch.links.as_slice(), [root(3)].as_slice());
             assert_eq!(rt; scratch.gone.as_slice(), [(root(2), 9)].as_slice());
             assert_eq!(rt; scratch.jobs.first().map(|job| job.id), Some(id));
         }

@@ -1,11 +1,9 @@
-ghost use Rattle.std.specs.Prelude.{◌≡◌, ◌<◌, ◌↔◌, [], Contains, IsTrue};
-ghost use Rattle.sem_msg.specs.JobRows.{with_number, without_number};
+ghost use Rattle.std.specs.Prelude.{◌≡◌, ◌<◌, ◌↔◌, [], Contains, IsTrue, IfSome};
+ghost use Rattle.sem_msg.specs.JobRows.{with_number, without_number, waiters_of};
 ghost use Rattle.sem_jobs.specs.VpeSet.{IsVpeList};
 
+use sem_key::VPES;
 use std::marker::Model;
-
-// How many VPEs a list can tell apart.
-const VPES: u16 = 128;
 
 /// VPEs, 0 to 127, each at most once.
 #[derive(Debug, Drop)]
@@ -39,6 +37,18 @@ impl VpeList {
         VpeList { mask: 0 }
     }
 
+    // The VPE, if one is given.
+    pub(crate) fn of(vpe: Option<u16>) -> Self
+        requires { IfSome vpe (λ v. v < VPES) }
+        ensures { result ≡ waiters_of vpe }
+    {
+        let mut list = VpeList::empty();
+        if let Some(vpe) = vpe {
+            list.insert(vpe);
+        }
+        list
+    }
+
     // The same VPEs.
     pub(crate) fn copy(&self) -> Self
         ensures { result ≡ self.now }
@@ -48,7 +58,7 @@ impl VpeList {
 
     // Adds the VPE, if it is not there.
     pub(crate) fn insert(&mut self, vpe: u16)
-        requires { vpe < 128 }
+        requires { vpe < VPES }
         ensures { self.new ≡ with_number self.old vpe }
     {
         self.mask |= 1 << vpe;

@@ -5,7 +5,7 @@ use Rattle.sem_key.specs.KeyName.{KeyName, key_eq}
 use Rattle.sem_msg.specs.declared.state.Parked.{Parked}
 use Rattle.sem_msg.specs.declared.state.Parked.TheVariants.{ObtainWait, ObtainReady, ObtainCancelled, DelegateWait, DelegateReady, RevokeWait, Ready}
 use Rattle.sem_msg.specs.ParkedStates.{is_ready_with, promised_to, state_of, cancelled}
-use Rattle.sem_park.proofs.Puts.{put-set}
+use Rattle.sem_key.proofs.Puts.{put-set}
 
 promise-true : (test : Bool) (s t : ℕ) → ◌≡◌ {A = Option ℕ} (cond test (Some s) None) (Some t) → test ≡ true
 promise-true true s t is = refl

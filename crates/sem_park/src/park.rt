@@ -1,19 +1,15 @@
 ghost use Rattle.std.specs.Prelude.{◌≡◌, ◌<◌, ◌≤◌, length, replicate, None, Some};
-ghost use Rattle.sem_key.specs.KeyName.{key_eq};
 ghost use Rattle.sem_msg.specs.ParkedStates.{state_of, parked_as, unparked, promised_to, cancelled};
 ghost use Rattle.sem_park.specs.Parks.{IsPark};
 
-use sem_key::Key;
+use sem_key::{Key, VPES, same_key};
 use sem_msg::Parked;
 use std::marker::Model;
 
-/// How many VPEs there can be.
-const VPES: usize = 64;
-
-/// For each VPE, 0 to 63, the state in which its call waits, if it has one.
+/// For each VPE, 0 to 127, the state in which its call waits, if it has one.
 #[derive(Clone, Copy, Debug)]
 pub struct Park {
-    states: [Option<Parked>; VPES],
+    states: [Option<Parked>; VPES as usize],
 }
 
 impl Model for Park {
@@ -33,17 +29,17 @@ impl Model for Park {
 impl Park {
     /// No call of any VPE waits.
     pub fn new() -> Self
-        ensures none { result ≡ replicate 64 None }
+        ensures none { result ≡ replicate VPES None }
         ensures park { IsPark result }
     {
         Park {
-            states: [None; VPES],
+            states: [None; VPES as usize],
         }
     }
 
-    /// The state in which the call of the VPE waits; none where it has no such call. The VPE is 0 to 63.
+    /// The state in which the call of the VPE waits; none where it has no such call. The VPE is 0 to 127.
     pub fn state(&self, vpe: u16) -> Option<Parked>
-        requires { vpe < 64 }
+        requires { vpe < VPES }
         ensures state { result ≡ state_of self.now vpe }
         ensures park { IsPark self.now }
     {
@@ -51,18 +47,18 @@ impl Park {
         self.states[place]
     }
 
-    /// Lets the call of the VPE wait in that state, in place of the one before. The VPE is 0 to 63.
+    /// Lets the call of the VPE wait in that state, in place of the one before. The VPE is 0 to 127.
     pub fn park(&mut self, vpe: u16, state: Parked)
-        requires { vpe < 64 }
+        requires { vpe < VPES }
         ensures states { self.new ≡ parked_as self.old vpe state }
         ensures park { IsPark self.new }
     {
         self.states[usize::from(vpe)] = Some(state);
     }
 
-    /// No call of the VPE waits any more. The VPE is 0 to 63.
+    /// No call of the VPE waits any more. The VPE is 0 to 127.
     pub fn clear(&mut self, vpe: u16)
-        requires { vpe < 64 }
+        requires { vpe < VPES }
         ensures states { self.new ≡ unparked self.old vpe }
         ensures park { IsPark self.new }
     {
@@ -94,17 +90,7 @@ fn selector_for(state: &Option<Parked>, key: &Key) -> Option<u8>
                 sel,
                 ..
             },
-        ) => is_same(ready, key).then_some(*sel),
+        ) => same_key(ready, key).then_some(*sel),
         _ => None,
     }
-}
-
-// Whether the keys are the same.
-fn is_same(one: &Key, other: &Key) -> bool
-    ensures { result ≡ key_eq one.now other.now }
-{
-    one.pe == other.pe
-        && one.vpe == other.vpe
-        && one.kind.number() == other.kind.number()
-        && one.number == other.number
 }

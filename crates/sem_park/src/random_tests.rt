@@ -5,12 +5,12 @@ use crate::tests::{key, ready};
 use crate::{Park, Parked};
 use rand_core::utils::NextWord;
 use rand_pcg::Lcg64Xsh32;
-use sem_key::Key;
+use sem_key::{Key, VPES};
 use std::process::Abort;
 use std::test::Fail;
 
-// How many VPEs have calls here, the last ones of all.
-const VPES: u8 = 4;
+// The first VPE that has calls here; they are the last ones of all.
+const FIRST: u8 = 124;
 
 // A call that waits.
 #[derive(Debug, Drop)]
@@ -21,14 +21,14 @@ struct Row {
 
 // One of these VPEs, by the words of a generator.
 fn drawn_vpe(words: &mut Lcg64Xsh32) -> u8
-    ensures { result ≤ 63 }
+    ensures { result < VPES }
 {
-    (60 + words.next_word() % u32::from(VPES)) as u8
+    FIRST + (words.next_word() % 4) as u8
 }
 
 // A key of the VPE.
 fn drawn_key(vpe: u8, words: &mut Lcg64Xsh32) -> Key
-    requires { vpe ≤ 63 }
+    requires { vpe < VPES }
     ensures { result.vpe ≡ vpe }
 {
     key(vpe, words.next_word() % 2)
@@ -36,7 +36,7 @@ fn drawn_key(vpe: u8, words: &mut Lcg64Xsh32) -> Key
 
 // A state for a call of the VPE.
 fn drawn_state(vpe: u8, words: &mut Lcg64Xsh32) -> Parked
-    requires { vpe ≤ 63 }
+    requires { vpe < VPES }
 {
     let number = words.next_word();
     let key = drawn_key(vpe, words);
@@ -94,7 +94,7 @@ fn try_cancel(rt: &impl Abort, park: &mut Park, rows: &mut Vec<Row>, words: &mut
 
 // All is as in the rows.
 fn compare(rt: &impl Abort, park: &Park, rows: &[Row]) {
-    for vpe in 0..64 {
+    for vpe in 0..VPES as u8 {
         let state = place_of(rows, vpe).map(|at| rows[at].state);
         assert_eq!(rt; park.state(u16::from(vpe)), state);
     }

@@ -1,13 +1,13 @@
-ghost use Rattle.std.specs.Prelude.{◌≡◌, ◌≤◌};
+ghost use Rattle.std.specs.Prelude.{◌≡◌, ◌<◌, ◌≤◌};
 
 use crate::{Park, Parked};
-use sem_key::{Key, Kind, Object};
+use sem_key::{Key, Kind, Object, VPES};
 use std::process::Abort;
 use std::test::Fail;
 
 // The key of a memory of that VPE, which runs on the PE of its number.
 pub fn key(vpe: u8, number: u32) -> Key
-    requires vpe_in_range { vpe ≤ 63 }
+    requires vpe_in_range { vpe < VPES }
     requires number_in_range { number ≤ 4095 }
     ensures vpe_of { result.vpe ≡ vpe }
 {
@@ -36,7 +36,7 @@ pub fn ready(key: Key, sel: u8) -> Parked {
 #[test]
 fn no_call_waits_at_first(rt: HostRuntime) {
     let park = Park::new();
-    for vpe in 0..64 {
+    for vpe in 0..VPES {
         assert!(rt; park.state(vpe).is_none(), "of VPE {vpe}");
     }
 }
@@ -44,12 +44,12 @@ fn no_call_waits_at_first(rt: HostRuntime) {
 #[test]
 fn a_vpe_has_the_state_that_was_parked_last(rt: HostRuntime) {
     let mut park = Park::new();
-    park.park(63, Parked::ObtainWait { number: 9, sel: 4 });
+    park.park(127, Parked::ObtainWait { number: 9, sel: 4 });
     park.park(0, Parked::RevokeWait { job: 7 });
-    park.park(63, Parked::Ready { code: 15 });
-    assert_eq!(rt; park.state(63), Some(Parked::Ready { code: 15 }));
+    park.park(127, Parked::Ready { code: 15 });
+    assert_eq!(rt; park.state(127), Some(Parked::Ready { code: 15 }));
     assert_eq!(rt; park.state(0), Some(Parked::RevokeWait { job: 7 }));
-    assert_eq!(rt; park.state(62), None);
+    assert_eq!(rt; park.state(126), None);
 }
 
 #[test]

@@ -6,12 +6,13 @@ use Rattle.std.proofs.lemmas.Bool.{cases_eq}
 use Rattle.std.proofs.lemmas.Bool.Decides.{nat_tests}
 use Rattle.std.proofs.lemmas.List.{get_or-map, map-set, length-map}
 use Rattle.sem_key.specs.Lists.{put}
+use Rattle.sem_msg.specs.declared.limits.TheConstants.{ASKS}
 use Rattle.sem_msg.specs.declared.state.Ask.{Ask}
 use Rattle.sem_msg.specs.Rows.{VpeRow, no_vpe}
 use Rattle.sem_msg.specs.VpeRows.{row, with_row}
 use Rattle.sem_vpe.specs.VpeTable.{VpeTable, IsOurs, IsVpeRow, IsVpeTable}
 use Rattle.sem_vpe.specs.Stored.{plain}
-use Rattle.sem_vpe.proofs.Puts.{get_or-put_same, get_or-put_other, put-set, length-put}
+use Rattle.sem_key.proofs.Puts.{get_or-put_same, get_or-put_other, put-set, length-put}
 
 -- what is marked is in the list
 pub marked-within : (marks : List Bool) (v : ℕ) → IsTrue (get_or marks v false) → v < length marks
@@ -73,6 +74,6 @@ module _ (places : List (Option VpeRow)) (v at : ℕ) (place : Option VpeRow) (k
   pub table-kept : IsVpeRow new → IsVpeTable (plain (set places at (Some new)))
   table-kept is_row = rw written (table-put (plain places) v new valid ours is_row)
 
--- an ask for which there is room is appended
-pub asked-here : (r new : VpeRow) (a : Ask) → length r.asks < 64 → new ≡ record r { asks = r.asks ++ a ∷ [] } → new ≡ record r { asks = if nat_lt (length r.asks) 64 then r.asks ++ a ∷ [] else r.asks }
-asked-here r new a room is = let fits : nat_lt (length r.asks) 64 ≡ true = grind (arith, nat_tests) in rw fits is
+-- an ask is appended where there is room for it
+pub appended-here : (r new : VpeRow) (a : Ask) → new ≡ record r { asks = if nat_lt (length r.asks) ASKS then r.asks ++ a ∷ [] else r.asks } → length r.asks < ASKS → new.asks ≡ r.asks ++ a ∷ []
+appended-here r new a is room = let fits : nat_lt (length r.asks) ASKS ≡ true = grind (arith, nat_tests) in rw fits at (ap (λ (x : VpeRow). x.asks) is)

@@ -1,32 +1,17 @@
 -- What a kernel keeps of its VPEs at the start ("State" in docs/machine.md).
-use Rattle.std.specs.Prelude.{◌≡◌, ◌≢◌, ℕ, ◌+◌, ◌==◌, ◌≤◌, ◌↔◌, true, All, [], length, slice_get, IsSome, map, Option, Some, None, unwrap_or, is_some, replicate, if◌then◌else◌}
+use Rattle.std.specs.Prelude.{◌≡◌, ◌≢◌, ℕ, ◌<◌, ◌≤◌, ◌↔◌, true, All, [], length, slice_get, IsSome, map, Option, Some, unwrap_or, is_some}
 use Rattle.std.specs.List.{range_with_len}
-use Rattle.std.specs.Option.{option_and_then, option_map}
-use Rattle.sem_key.specs.Lists.{put, in_turn}
+use Rattle.std.specs.Option.{option_map}
+use Rattle.sem_key.specs.declared.limits.TheConstants.{PES, VPES}
+use Rattle.sem_msg.specs.declared.limits.TheConstants.{SELECTORS}
 use Rattle.sem_msg.specs.declared.setup.Root.{Root}
 use Rattle.sem_msg.specs.declared.setup.VpeDecl.{VpeDecl}
 use Rattle.sem_msg.specs.declared.state.Slot.TheVariants.{Free, Held}
 use Rattle.sem_msg.specs.Rows.{VpeRow, no_vpe}
 use Rattle.sem_msg.specs.Setup.{Setup, root_key}
-use Rattle.sem_msg.specs.Lookups.{decl, pe_owner}
-use Rattle.sem_msg.specs.VpeRows.{row, slot, is_alive}
+use Rattle.sem_msg.specs.Lookups.{own_decl}
+use Rattle.sem_msg.specs.VpeRows.{start_row, row, slot, is_alive}
 use Rattle.sem_vpe.specs.VpeTable.{VpeTable, IsOurs}
-
--- the declaration of a VPE that is on a PE of kernel i
-abbrev pub own_decl : Setup → ℕ → ℕ → Option VpeDecl
-own_decl T i v = option_and_then (λ d. if pe_owner T d.pe == i then Some d else None) (decl T v)
-
--- a VPE with nothing yet: alive, with 256 free selectors
-abbrev pub new_vpe : VpeRow
-new_vpe = record no_vpe { alive = true; slots = replicate 256 Free }
-
--- a root: its selector is held, under a number that is drawn for it
-abbrev pub root_added : VpeDecl → Root → VpeRow → VpeRow
-root_added d r x = record x { slots = put Free x.slots r.sel (Held (root_key d x.next_number r)); next_number = x.next_number + 1 }
-
--- a VPE with its roots and services, in the order of their lines
-unfoldable pub start_row : VpeDecl → VpeRow
-start_row d = in_turn (root_added d) d.roots new_vpe
 
 -- what is kept of a VPE at the start, if it belongs to kernel i
 abbrev pub start_place : Setup → ℕ → ℕ → Option VpeRow
@@ -36,15 +21,15 @@ start_place T i v = option_map start_row (own_decl T i v)
 unfoldable pub start_table : Setup → ℕ → VpeTable
 start_table T i =
     record {
-      ours = map (λ v. is_some (start_place T i v)) (range_with_len 0 64);
-      rows = map (λ v. unwrap_or (start_place T i v) no_vpe) (range_with_len 0 64);
+      ours = map (λ v. is_some (start_place T i v)) (range_with_len 0 VPES);
+      rows = map (λ v. unwrap_or (start_place T i v) no_vpe) (range_with_len 0 VPES);
     }
 
 -- a declaration in its ranges, with no more roots than there are selectors
 pub record IsStartable (d : VpeDecl) : Type 0 where
-  pub vpe : d.vpe ≤ 63
-  pub pe : d.pe ≤ 63
-  pub few_roots : length d.roots ≤ 256
+  pub vpe : d.vpe < VPES
+  pub pe : d.pe < PES
+  pub few_roots : length d.roots ≤ SELECTORS
 
 -- The table, read VPE by VPE: what a kernel has at the start is what the setup declares on its PEs.
 pub record IsAsDeclared (T : Setup) (i : ℕ) (t : VpeTable) : Type 0 where

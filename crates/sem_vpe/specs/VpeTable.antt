@@ -1,5 +1,7 @@
 -- What a kernel keeps of its VPEs as contracts see it ("State" in docs/machine.md).
-use Rattle.std.specs.Prelude.{◌≡◌, ℕ, ◌≤◌, Bool, false, IsTrue, List, [], length, slice_index_or, None}
+use Rattle.std.specs.Prelude.{◌≡◌, ℕ, ◌≤◌, Bool, false, IsTrue, List, length, slice_index_or}
+use Rattle.sem_key.specs.declared.limits.TheConstants.{VPES, NUMBERS}
+use Rattle.sem_msg.specs.declared.limits.TheConstants.{SELECTORS, ASKS}
 use Rattle.sem_msg.specs.Rows.{VpeRow, no_vpe}
 use Rattle.sem_msg.specs.VpeRows.{row}
 
@@ -15,18 +17,16 @@ IsOurs t v = IsTrue (slice_index_or t.ours v false)
 
 -- What is always kept.
 
--- 256 selectors, at most 4,096 numbers and 64 asks, and a count of calls in 32 bits; parked calls and endpoints are kept elsewhere
+-- all selectors, no more numbers and asks than there can be, and a count of calls in 32 bits
 pub record IsVpeRow (r : VpeRow) : Type 0 where
-  pub selectors : length r.slots ≡ 256
-  pub few_numbers : r.next_number ≤ 4096
+  pub selectors : length r.slots ≡ SELECTORS
+  pub few_numbers : r.next_number ≤ NUMBERS
   pub few_calls : r.next_call ≤ 4294967295
-  pub few_asks : length r.asks ≤ 64
-  pub none_parked : r.parked ≡ None
-  pub no_endpoints : r.endpoints ≡ []
+  pub few_asks : length r.asks ≤ ASKS
 
--- 64 places: such a row for each VPE of this kernel, and nothing for the others
+-- a place for each VPE: such a row for each VPE of this kernel, and nothing for the others
 pub record IsVpeTable (t : VpeTable) : Type 0 where
-  pub marks : length t.ours ≡ 64
-  pub places : length t.rows ≡ 64
+  pub marks : length t.ours ≡ VPES
+  pub places : length t.rows ≡ VPES
   pub kept : (v : ℕ) → IsOurs t v → IsVpeRow (row t.rows v)
   pub nothing_kept : (v : ℕ) → slice_index_or t.ours v false ≡ false → row t.rows v ≡ no_vpe

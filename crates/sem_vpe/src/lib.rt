@@ -2,6 +2,7 @@
 //! what they are asked.
 #![tactic(auto)]
 
+mod fault;
 mod queue;
 #[cfg(test)]
 mod random_tests;
@@ -10,7 +11,7 @@ mod tests;
 mod vpe;
 mod vpes;
 
+pub use fault::{Numbers, Occupied};
 pub use sem_key::OutOfMemory;
 pub use sem_msg::{Ask, Slot};
-pub use vpe::{Numbers, Occupied};
 pub use vpes::Vpes;

@@ -1,25 +1,26 @@
 // Calls in an order that a generator draws, beside plain rows.
 use crate::tests::{
     advance, alive, ask, asks, at_start, draw, end, fill, front_ask, key, next_ask, next_call,
-    offer, promise, question, release, selector,
+    next_number, offer, promise, question, release, selector,
 };
 use crate::{Ask, Numbers, Occupied, Slot, Vpes};
 use rand_core::utils::NextWord;
 use rand_pcg::Lcg64Xsh32;
-use sem_key::Kind;
+use sem_key::{Kind, NUMBERS};
+use sem_msg::{ASKS, SELECTORS};
 use std::alloc::{AllocError, Global};
 use std::process::Abort;
 use std::test::Fail;
 
 // How many selectors the calls are about; so they meet again.
-const SELECTORS: u32 = 24;
+const MET: u32 = 24;
 
 // A VPE.
 #[derive(Debug, Drop)]
 struct Row {
     vpe: u16,
     alive: bool,
-    slots: [Slot; 256],
+    slots: [Slot; SELECTORS],
     next_number: u32,
     next_call: u32,
     // Those of `ask_of`, the oldest first.
@@ -37,7 +38,7 @@ fn ask_of(sel: u8) -> Ask {
 
 // A selector.
 fn drawn(words: &mut Lcg64Xsh32) -> u8 {
-    (words.next_word() % SELECTORS) as u8
+    (words.next_word() % MET) as u8
 }
 
 // Promises a selector, or finds it taken.
@@ -70,7 +71,7 @@ fn try_release(rt: &impl Abort, vpes: &mut Vpes, row: &mut Row, words: &mut Lcg6
 
 // Draws a number, or finds none left.
 fn try_draw(rt: &impl Abort, vpes: &mut Vpes, row: &mut Row) {
-    let wanted = if row.next_number < 4096 {
+    let wanted = if row.next_number < NUMBERS {
         Ok(row.next_number)
     } else {
         Err(Numbers)
@@ -81,7 +82,7 @@ fn try_draw(rt: &impl Abort, vpes: &mut Vpes, row: &mut Row) {
     }
 }
 
-// Asks, where there is room.
+// Asks; nothing is asked where there is no room.
 fn try_ask(
     rt: &impl Abort,
     vpes: &mut Vpes,
@@ -89,8 +90,8 @@ fn try_ask(
     words: &mut Lcg64Xsh32,
 ) -> Result<(), AllocError> {
     let sel = (words.next_word() % 256) as u8;
-    if row.asks.len() < 64 {
-        ask(rt, vpes, row.vpe, ask_of(sel));
+    ask(rt, vpes, row.vpe, ask_of(sel));
+    if row.asks.len() < ASKS {
         row.asks.push(sel)?;
     }
     Ok(())
@@ -116,6 +117,7 @@ fn try_advance(rt: &impl Abort, vpes: &mut Vpes, row: &mut Row) {
 fn compare(rt: &impl Abort, vpes: &Vpes, row: &Row) {
     assert_eq!(rt; alive(rt, vpes, row.vpe), row.alive);
     assert_eq!(rt; next_call(rt, vpes, row.vpe), row.next_call);
+    assert_eq!(rt; next_number(rt, vpes, row.vpe), row.next_number);
     assert_eq!(rt; asks(rt, vpes, row.vpe), row.asks.len());
     let front = row.asks.first().map(|sel| ask_of(*sel));
     assert_eq!(rt; front_ask(rt, vpes, row.vpe), front);
@@ -129,7 +131,7 @@ fn compare(rt: &impl Abort, vpes: &Vpes, row: &Row) {
 
 // A VPE at the start. VPE 2 has three roots, and no other has any.
 fn start_row(alloc: Global, vpe: u16) -> Row {
-    let mut slots = [Slot::Free; 256];
+    let mut slots = [Slot::Free; SELECTORS];
     let mut next_number = 0;
     if vpe == 2 {
         slots[7] = Slot::Held(key(Kind::Mem, 0));
@@ -172,7 +174,7 @@ fn calls_in_any_order_do_as_with_plain_rows(rt: HostRuntime) -> Result<(), Fail>
     let mut vpes = at_start(rt.alloc(), 1)?;
     let mut rows = Vec::new(rt.alloc());
     rows.push(start_row(rt.alloc(), 2))?;
-    rows.push(start_row(rt.alloc(), 60))?;
+    rows.push(start_row(rt.alloc(), 127))?;
     for turn in 0..500 {
         for row in rows.iter_mut() {
             call(&rt, &mut vpes, row, &mut words)?;

@@ -1,9 +1,10 @@
 ghost use Rattle.std.specs.Prelude.{◌≡◌, ◌≤◌, IfOk};
+ghost use Rattle.sem_vpe.specs.VpeTable.{IsOurs};
 
 use crate::{Ask, Numbers, Occupied, Slot, Vpes};
-use sem_key::{Key, Kind, Membership, Object, OutOfMemory, Place};
+use sem_key::{Key, Kind, Membership, Object, OutOfMemory, Place, VPES};
 use sem_msg::{
-    Calls, Denies, Kills, Offers, Root, Seq, Service, Services, Setup, Target, VpeDecl, Vpes0,
+    Calls, Code, Denies, Kills, Offers, Root, Seq, Service, Services, Setup, Target, VpeDecl, Vpes0,
 };
 use std::alloc::Global;
 use std::ops::Range;
@@ -59,7 +60,7 @@ pub fn offer(sel: u8) -> Ask {
     }
 }
 
-// Kernel 1 has VPE 2, with three roots, and VPE 60, which holds nothing. Kernel 0 has VPE 4.
+// Kernel 1 has VPE 2, with three roots, and VPE 127, which holds nothing. Kernel 0 has VPE 4.
 pub fn two_kernels(alloc: Global) -> Result<Setup, Fail> {
     let mut owners = Membership::empty(2);
     owners.set(3, 1)?;
@@ -104,7 +105,7 @@ pub fn two_kernels(alloc: Global) -> Result<Setup, Fail> {
         calls: Calls::new(alloc),
     })?;
     vpes.push(VpeDecl {
-        vpe: 60,
+        vpe: 127,
         pe: 9,
         roots: Seq::new(alloc),
         calls: Calls::new(alloc),
@@ -115,6 +116,8 @@ pub fn two_kernels(alloc: Global) -> Result<Setup, Fail> {
         key: key(Kind::Serv, 2),
     })?;
     Ok(Setup {
+        version: 2,
+        window: 4,
         kernels: 2,
         owners,
         vpes,
@@ -146,6 +149,11 @@ pub fn selector(rt: &impl Abort, vpes: &Vpes, vpe: u16, sel: u8) -> Slot {
 pub fn next_call(rt: &impl Abort, vpes: &Vpes, vpe: u16) -> u32 {
     assert!(rt; vpes.is_ours(vpe));
     vpes.next_call(vpe)
+}
+
+pub fn next_number(rt: &impl Abort, vpes: &Vpes, vpe: u16) -> u32 {
+    assert!(rt; vpes.is_ours(vpe));
+    vpes.next_number(vpe)
 }
 
 pub fn asks(rt: &impl Abort, vpes: &Vpes, vpe: u16) -> usize {
@@ -180,7 +188,6 @@ pub fn draw(rt: &impl Abort, vpes: &mut Vpes, vpe: u16) -> Result<u32, Numbers> 
 
 pub fn ask(rt: &impl Abort, vpes: &mut Vpes, vpe: u16, question: Ask) {
     assert!(rt; vpes.is_ours(vpe));
-    assert!(rt; vpes.asks(vpe) < 64);
     vpes.ask(vpe, question);
 }
 
@@ -218,10 +225,10 @@ fn take_all(rt: &impl Abort, vpes: &mut Vpes, sels: Range<u8>) {
 #[test]
 fn the_vpes_of_a_kernel_start_with_their_roots(rt: HostRuntime) -> Result<(), Fail> {
     let mut vpes = at_start(rt.alloc(), 1)?;
-    for vpe in 0..70 {
-        assert_eq!(rt; vpes.is_ours(vpe), vpe == 2 || vpe == 60, "VPE {vpe}");
+    for vpe in 0..VPES {
+        assert_eq!(rt; vpes.is_ours(vpe), vpe == 2 || vpe == 127, "VPE {vpe}");
     }
-    for vpe in [2, 60] {
+    for vpe in [2, 127] {
         assert!(rt; alive(&rt, &vpes, vpe));
         assert_eq!(rt; next_call(&rt, &vpes, vpe), 0);
         assert_eq!(rt; asks(&rt, &vpes, vpe), 0);
@@ -235,10 +242,16 @@ fn the_vpes_of_a_kernel_start_with_their_roots(rt: HostRuntime) -> Result<(), Fa
             _ => Slot::Free,
         };
         assert_eq!(rt; selector(&rt, &vpes, 2, sel), held, "selector {sel}");
-        assert_eq!(rt; selector(&rt, &vpes, 60, sel), Slot::Free, "selector {sel}");
+        assert_eq!(rt;
+            selector(&rt, &vpes, 127, sel),
+            Slot::Free,
+            "selector {sel}"
+        );
     }
+    assert_eq!(rt; next_number(&rt, &vpes, 2), 3);
+    assert_eq!(rt; next_number(&rt, &vpes, 127), 0);
     assert_eq!(rt; draw(&rt, &mut vpes, 2), Ok(3));
-    assert_eq!(rt; draw(&rt, &mut vpes, 60), Ok(0));
+    assert_eq!(rt; next_number(&rt, &vpes, 2), 4);
     Ok(())
 }
 
@@ -246,7 +259,7 @@ fn the_vpes_of_a_kernel_start_with_their_roots(rt: HostRuntime) -> Result<(), Fa
 fn each_kernel_has_its_own_vpes(rt: HostRuntime) -> Result<(), Fail> {
     let vpes = at_start(rt.alloc(), 0)?;
     let none = at_start(rt.alloc(), 2)?;
-    for vpe in 0..70 {
+    for vpe in 0..VPES {
         assert_eq!(rt; vpes.is_ours(vpe), vpe == 4, "VPE {vpe}");
         assert!(rt; !none.is_ours(vpe), "VPE {vpe}");
     }
@@ -269,7 +282,7 @@ fn a_selector_is_promised_filled_and_released(rt: HostRuntime) -> Result<(), Fai
     release(&rt, &mut vpes, 2, 8);
     assert_eq!(rt; selector(&rt, &vpes, 2, 8), Slot::Free);
     assert_eq!(rt; selector(&rt, &vpes, 2, 7), Slot::Held(key(Kind::Mem, 0)));
-    assert_eq!(rt; selector(&rt, &vpes, 60, 8), Slot::Free);
+    assert_eq!(rt; selector(&rt, &vpes, 127, 8), Slot::Free);
     Ok(())
 }
 
@@ -281,21 +294,40 @@ fn numbers_run_out_after_4096(rt: HostRuntime) -> Result<(), Fail> {
     }
     assert_eq!(rt; draw(&rt, &mut vpes, 2), Err(Numbers));
     assert_eq!(rt; draw(&rt, &mut vpes, 2), Err(Numbers));
-    assert_eq!(rt; draw(&rt, &mut vpes, 60), Ok(0));
+    assert_eq!(rt; draw(&rt, &mut vpes, 127), Ok(0));
+    Ok(())
+}
+
+// A selector that is promised and drawn a number for.
+fn taken(vpes: &mut Vpes, vpe: u16, sel: u8) -> Result<u32, Code>
+    requires { IsOurs vpes.old vpe }
+{
+    vpes.promise(vpe, sel)?;
+    Ok(vpes.draw(vpe)?)
+}
+
+#[test]
+fn faults_are_told_by_their_codes(rt: HostRuntime) -> Result<(), Fail> {
+    let mut vpes = at_start(rt.alloc(), 1)?;
+    assert!(rt; vpes.is_ours(2));
+    assert_eq!(rt; taken(&mut vpes, 2, 7), Err(Code::Occupied));
+    assert_eq!(rt; Code::from(Numbers), Code::Numbers);
     Ok(())
 }
 
 #[test]
-fn sixty_four_asks_wait_in_their_order(rt: HostRuntime) -> Result<(), Fail> {
+fn a_hundred_and_twenty_eight_asks_wait_in_their_order(rt: HostRuntime) -> Result<(), Fail> {
     let mut vpes = at_start(rt.alloc(), 1)?;
-    ask_all(&rt, &mut vpes, 0..64);
-    assert_eq!(rt; asks(&rt, &vpes, 2), 64);
+    ask_all(&rt, &mut vpes, 0..128);
+    assert_eq!(rt; asks(&rt, &vpes, 2), 128);
+    ask(&rt, &mut vpes, 2, question(200));
+    assert_eq!(rt; asks(&rt, &vpes, 2), 128, "there is no room for it");
     take_all(&rt, &mut vpes, 0..40);
     // These wrap round the end of the queue.
-    ask_all(&rt, &mut vpes, 64..104);
-    assert_eq!(rt; asks(&rt, &vpes, 2), 64);
-    assert_eq!(rt; asks(&rt, &vpes, 60), 0);
-    take_all(&rt, &mut vpes, 40..104);
+    ask_all(&rt, &mut vpes, 128..168);
+    assert_eq!(rt; asks(&rt, &vpes, 2), 128);
+    assert_eq!(rt; asks(&rt, &vpes, 127), 0);
+    take_all(&rt, &mut vpes, 40..168);
     assert_eq!(rt; asks(&rt, &vpes, 2), 0);
     assert_eq!(rt; next_ask(&rt, &mut vpes, 2), None);
     Ok(())
@@ -308,9 +340,9 @@ fn a_dead_vpe_keeps_all_but_its_life(rt: HostRuntime) -> Result<(), Fail> {
     advance(&rt, &mut vpes, 2);
     advance(&rt, &mut vpes, 2);
     end(&rt, &mut vpes, 2);
-    assert!(rt; !alive(&rt, &vpes, 2) && alive(&rt, &vpes, 60));
+    assert!(rt; !alive(&rt, &vpes, 2) && alive(&rt, &vpes, 127));
     assert_eq!(rt; next_call(&rt, &vpes, 2), 2);
-    assert_eq!(rt; next_call(&rt, &vpes, 60), 0);
+    assert_eq!(rt; next_call(&rt, &vpes, 127), 0);
     assert_eq!(rt; front_ask(&rt, &vpes, 2), Some(offer(5)));
     assert_eq!(rt;
         selector(&rt, &vpes, 2, 200),
@@ -322,7 +354,7 @@ fn a_dead_vpe_keeps_all_but_its_life(rt: HostRuntime) -> Result<(), Fail> {
 #[test]
 fn after_want_of_memory_the_vpes_can_be_made_anew(rt: HostRuntime) -> Result<(), Fail> {
     let setup = two_kernels(rt.alloc())?;
-    // With `rt try --test --fail-alloc N` and N from 5 to 13 there is no memory here at first.
+    // With `rt try --test --fail-alloc N` and N from 5 to 14 there is no memory here at first.
     let first = Vpes::new(rt.alloc(), &setup, 1);
     let mut vpes = match first {
         Ok(vpes) => vpes,
@@ -330,6 +362,6 @@ fn after_want_of_memory_the_vpes_can_be_made_anew(rt: HostRuntime) -> Result<(),
     };
     assert_eq!(rt; selector(&rt, &vpes, 2, 7), Slot::Held(key(Kind::Mem, 0)));
     assert_eq!(rt; draw(&rt, &mut vpes, 2), Ok(3));
-    assert_eq!(rt; selector(&rt, &vpes, 60, 7), Slot::Free);
+    assert_eq!(rt; selector(&rt, &vpes, 127, 7), Slot::Free);
     Ok(())
 }

@@ -1,37 +1,17 @@
-ghost use Rattle.std.specs.Prelude.{◌≡◌, ◌+◌, ◌<◌, ◌≤◌, ◌↔◌, [], ◌∷◌, ◌++◌, length, drop, slice_get, slice_index_or, IsTrue, IfOk, IsErr, OnOk, OnErr, false};
+ghost use Rattle.std.specs.Prelude.{◌≡◌, ◌+◌, ◌<◌, ◌≤◌, ◌↔◌, [], ◌∷◌, ◌++◌, length, drop, slice_get, slice_index_or, IsTrue, IfOk, IsErr, OnOk, OnErr, false, nat_lt, if◌then◌else◌};
 ghost use Rattle.sem_key.specs.Lists.{put};
 ghost use Rattle.sem_msg.specs.declared.state.Slot.TheVariants.{Free, Held, Promised};
-ghost use Rattle.sem_key.specs.ObjectRanges.{object_kind};
-ghost use Rattle.sem_msg.specs.VpeRows.{is_taken};
+ghost use Rattle.sem_msg.specs.VpeRows.{is_taken, root_held, start_row};
 ghost use Rattle.sem_vpe.specs.VpeTable.{IsVpeRow};
-ghost use Rattle.sem_vpe.specs.Starting.{IsStartable, root_added, start_row};
+ghost use Rattle.sem_vpe.specs.Starting.{IsStartable};
 
+use crate::fault::{Numbers, Occupied};
 use crate::queue;
 use circular_buffer::HeapCircularBuffer;
-use sem_key::{Key, Kind, Object, OutOfMemory};
-use sem_msg::{Ask, Root, Slot, VpeDecl};
+use sem_key::{Key, NUMBERS, OutOfMemory, PES, VPES};
+use sem_msg::{ASKS, Ask, Root, SELECTORS, Slot, VpeDecl};
 use std::alloc::Global;
 use std::marker::Model;
-use thiserror::Error;
-
-/// How many selectors a VPE has.
-const SELECTORS: usize = 256;
-
-/// How many asks can wait for a VPE.
-const ASKS: usize = 64;
-
-/// How many numbers a VPE can draw for its keys.
-const NUMBERS: u32 = 4096;
-
-/// The selector is held or promised.
-#[derive(Clone, Copy, Debug, PartialEq, Eq, Error)]
-#[error("the selector is held or promised")]
-pub struct Occupied;
-
-/// All numbers of the VPE were drawn.
-#[derive(Clone, Copy, Debug, PartialEq, Eq, Error)]
-#[error("all numbers of the VPE were drawn")]
-pub struct Numbers;
 
 /// What is kept of a VPE of this kernel. None of its calls but `new` takes memory.
 #[derive(Debug, Drop)]
@@ -46,15 +26,16 @@ pub struct Vpe {
 }
 
 impl Model for Vpe {
-    ghost use Rattle.std.specs.Prelude.{◌≡◌, None, []};
+    ghost use Rattle.std.specs.Prelude.{◌≡◌};
+    ghost use Rattle.sem_msg.specs.declared.limits.TheConstants.{ASKS};
     ghost use Rattle.sem_msg.specs.Rows.{VpeRow};
     ghost use Rattle.sem_vpe.specs.VpeTable.{IsVpeRow};
 
     ghost Value = { VpeRow };
 
-    ghost view = { λ v. record { alive = v.alive; slots = v.slots.items; next_number = v.next_number; next_call = v.next_call; asks = v.asks.items; parked = None; endpoints = [] } };
+    ghost view = { λ v. record { alive = v.alive; slots = v.slots.items; next_number = v.next_number; next_call = v.next_call; asks = v.asks.items } };
 
-    ghost invariant = { λ v. IsVpeRow (record { alive = v.alive; slots = v.slots.items; next_number = v.next_number; next_call = v.next_call; asks = v.asks.items; parked = None; endpoints = [] }) × (v.asks.capacity ≡ 64) };
+    ghost invariant = { λ v. IsVpeRow (record { alive = v.alive; slots = v.slots.items; next_number = v.next_number; next_call = v.next_call; asks = v.asks.items }) × (v.asks.capacity ≡ ASKS) };
 }
 
 impl Vpe {
@@ -98,10 +79,17 @@ impl Vpe {
         self.next_call
     }
 
+    /// How many numbers were drawn.
+    pub fn next_number(&self) -> u32
+        ensures { result ≡ self.now.next_number }
+    {
+        self.next_number
+    }
+
     /// How many asks wait.
     pub fn asks(&self) -> usize
         ensures asks { result ≡ length self.now.asks }
-        ensures few { result ≤ 64 }
+        ensures few { result ≤ ASKS }
     {
         self.asks.len()
     }
@@ -139,9 +127,9 @@ impl Vpe {
 
     /// Draws the next number.
     pub fn draw(&mut self) -> Result<u32, Numbers>
-        ensures numbers { IsErr result ↔ (4096 ≤ self.old.next_number) }
+        ensures numbers { IsErr result ↔ (NUMBERS ≤ self.old.next_number) }
         ensures number { IfOk result (λ number. number ≡ self.old.next_number) }
-        ensures in_range { IfOk result (λ number. number ≤ 4095) }
+        ensures in_range { IfOk result (λ number. number < NUMBERS) }
         ensures ok { OnOk result (self.new ≡ record self.old { next_number = self.old.next_number + 1 }) }
         ensures err { OnErr result (self.new ≡ self.old) }
         ensures row { IsVpeRow self.new }
@@ -154,13 +142,14 @@ impl Vpe {
         Ok(number)
     }
 
-    /// Appends an ask, for which there is room.
+    /// Appends an ask, unless as many wait already as can.
     pub fn ask(&mut self, ask: &Ask)
-        requires { length self.old.asks < 64 }
-        ensures asks { self.new ≡ record self.old { asks = self.old.asks ++ ask.now ∷ [] } }
+        ensures asks { self.new ≡ record self.old { asks = (if nat_lt (length self.old.asks) ASKS then self.old.asks ++ ask.now ∷ [] else self.old.asks) } }
         ensures row { IsVpeRow self.new }
     {
-        queue::append(&mut self.asks, ask);
+        if self.asks.len() < ASKS {
+            queue::append(&mut self.asks, ask);
+        }
     }
 
     /// Takes the oldest ask out.
@@ -191,32 +180,19 @@ impl Vpe {
 
     // Holds a root at its selector, under the next number.
     fn add_root(&mut self, decl: &VpeDecl, root: &Root)
-        requires vpe { decl.now.vpe ≤ 63 }
-        requires pe { decl.now.pe ≤ 63 }
-        requires number { self.old.next_number < 4096 }
-        ensures root { self.new ≡ root_added decl.now root.now self.old }
+        requires vpe { decl.now.vpe < VPES }
+        requires pe { decl.now.pe < PES }
+        requires number { self.old.next_number < NUMBERS }
+        ensures root { self.new ≡ root_held decl.now root.now self.old }
         ensures row { IsVpeRow self.new }
     {
         let key = Key {
             pe: decl.pe,
             vpe: decl.vpe,
-            kind: kind_of(&root.object),
+            kind: root.object.kind(),
             number: self.next_number,
         };
         self.slots[usize::from(root.sel)] = Slot::Held(key);
         self.next_number += 1;
-    }
-}
-
-// The kind of the capabilities with such an object.
-fn kind_of(object: &Object) -> Kind
-    ensures { result ≡ object_kind object.now }
-{
-    match object {
-        Object::Mem { .. } => Kind::Mem,
-        Object::Recv { .. } => Kind::Recv,
-        Object::Send { .. } => Kind::Send,
-        Object::Serv { .. } => Kind::Serv,
-        Object::Sess { .. } => Kind::Sess,
     }
 }

@@ -1,17 +1,15 @@
-ghost use Rattle.std.specs.Prelude.{◌≡◌, ◌<◌, ◌≤◌, ◌↔◌, [], ◌∷◌, ◌++◌, ◌==◌, length, find, slice_get, slice_index_or, option_copied, false, IsTrue, IfOk, IfSome, IsErr, OnOk, OnErr};
+ghost use Rattle.std.specs.Prelude.{◌≡◌, ◌<◌, ◌≤◌, ◌↔◌, [], ◌∷◌, ◌++◌, length, slice_get, slice_index_or, false, IsTrue, IfOk, IfSome, IsErr, OnOk, OnErr};
 ghost use Rattle.sem_msg.specs.declared.state.Slot.TheVariants.{Held};
 ghost use Rattle.sem_msg.specs.VpeRows.{row, is_alive, slot as slot_lem, is_taken, call_counted, drawn, with_slot, promised, freed, asked, ask_taken, died};
 ghost use Rattle.sem_vpe.specs.VpeTable.{IsOurs, IsVpeRow, IsVpeTable};
-ghost use Rattle.sem_vpe.specs.Starting.{own_decl as own_decl_lem, IsStartable, IsAsDeclared, start_place, start_table};
+ghost use Rattle.sem_vpe.specs.Starting.{IsAsDeclared, start_place, start_table};
 
-use crate::vpe::{Numbers, Occupied, Vpe};
-use sem_key::{Key, OutOfMemory};
-use sem_msg::{Ask, Setup, Slot, VpeDecl, Vpes0};
+use crate::fault::{Numbers, Occupied};
+use crate::vpe::Vpe;
+use sem_key::{Key, NUMBERS, OutOfMemory, VPES};
+use sem_msg::{ASKS, Ask, Setup, Slot};
 use std::alloc::Global;
 use std::marker::Model;
-
-/// How many VPEs there can be.
-const VPES: u16 = 64;
 
 /// What a kernel keeps of its VPEs. A call about a VPE asks that it belongs to this kernel.
 #[derive(Debug, Drop)]
@@ -72,11 +70,19 @@ impl Vpes {
         self.kept(vpe).next_call()
     }
 
-    /// How many asks wait for the VPE, at most 64.
+    /// How many numbers were drawn for the keys of the VPE.
+    pub fn next_number(&self, vpe: u16) -> u32
+        requires { IsOurs self.now vpe }
+        ensures { result ≡ (row self.now.rows vpe).next_number }
+    {
+        self.kept(vpe).next_number()
+    }
+
+    /// How many asks wait for the VPE, at most 128.
     pub fn asks(&self, vpe: u16) -> usize
         requires { IsOurs self.now vpe }
         ensures asks { result ≡ length (row self.now.rows vpe).asks }
-        ensures few { result ≤ 64 }
+        ensures few { result ≤ ASKS }
     {
         self.kept(vpe).asks()
     }
@@ -127,9 +133,9 @@ impl Vpes {
     /// Draws the next number, 0 to 4095. Nothing changes where all 4,096 were drawn. Takes no memory.
     pub fn draw(&mut self, vpe: u16) -> Result<u32, Numbers>
         requires { IsOurs self.old vpe }
-        ensures numbers { IsErr result ↔ (4096 ≤ (row self.old.rows vpe).next_number) }
+        ensures numbers { IsErr result ↔ (NUMBERS ≤ (row self.old.rows vpe).next_number) }
         ensures number { IfOk result (λ number. number ≡ (row self.old.rows vpe).next_number) }
-        ensures in_range { IfOk result (λ number. number ≤ 4095) }
+        ensures in_range { IfOk result (λ number. number < NUMBERS) }
         ensures ok { OnOk result (self.new ≡ record self.old { rows = drawn vpe self.old.rows }) }
         ensures err { OnErr result (self.new ≡ self.old) }
     {
@@ -139,14 +145,11 @@ impl Vpes {
         kept.draw()
     }
 
-    /// Appends an ask to those that wait for the VPE. Takes no memory.
-    ///
-    /// Fewer than 64 asks wait.
+    /// Appends an ask to those that wait for the VPE, unless 128 wait. Takes no memory.
     pub fn ask(&mut self, vpe: u16, ask: Ask)
-        requires ours { IsOurs self.old vpe }
-        requires room { length (row self.old.rows vpe).asks < 64 }
+        requires { IsOurs self.old vpe }
         ensures asked { self.new ≡ record self.old { rows = asked vpe ask self.old.rows } }
-        ensures appended { (row self.new.rows vpe).asks ≡ (row self.old.rows vpe).asks ++ ask ∷ [] }
+        ensures appended { length (row self.old.rows vpe).asks < ASKS → (row self.new.rows vpe).asks ≡ (row self.old.rows vpe).asks ++ ask ∷ [] }
     {
         let Some(kept) = &mut self.places[usize::from(vpe)] else {
             unreachable!()
@@ -220,28 +223,8 @@ fn started(alloc: Global, setup: &Setup, kernel: u32, vpe: u16) -> Result<Option
     ensures place { IfOk result (λ place. place ≡ start_place setup.now kernel vpe) }
     ensures row { IfOk result (λ place. IfSome place IsVpeRow) }
 {
-    match own_decl(setup, kernel, vpe) {
+    match setup.own_decl(kernel, vpe) {
         Some(decl) => Ok(Some(Vpe::new(alloc, decl)?)),
         None => Ok(None),
     }
-}
-
-// The declaration of a VPE, if it is on a PE of the kernel.
-fn own_decl(setup: &Setup, kernel: u32, vpe: u16) -> Option<&VpeDecl>
-    ensures decl { option_copied result ≡ own_decl_lem setup.now kernel vpe }
-    ensures valid { IfSome (option_copied result) IsStartable }
-{
-    let decl = declaration(&setup.vpes, vpe)?;
-    if setup.owners.owner(decl.pe) == Some(kernel) {
-        Some(decl)
-    } else {
-        None
-    }
-}
-
-// The declaration of a VPE.
-fn declaration(vpes: &Vpes0, vpe: u16) -> Option<&VpeDecl>
-    ensures { option_copied result ≡ find (λ d. d.vpe == vpe) vpes.now }
-{
-    vpes.as_slice().iter().find(|decl| decl.vpe == vpe)
 }

@@ -1,15 +1,16 @@
-use Rattle.std.proofs.Common.{◌≡◌, ℕ, ◌<◌, ◌≤◌, ◌≢◌, List, [], ◌∷◌, None, replicate, refl, ◌∙◌, ap, subst, arith}
+use Rattle.std.proofs.Common.{◌≡◌, ℕ, ◌<◌, ◌≤◌, ◌≢◌, List, [], ◌∷◌, None, replicate, refl, inr, ◌∙◌, ap, subst, arith}
 use Rattle.std.specs.List.{AllPairs}
 use Rattle.std.specs.Option.{IsSome}
 use Rattle.std.proofs.lemmas.List.Elements.{All-cons, All-nil}
 use Rattle.std.proofs.lemmas.List.Kept.{AllPairs-cons}
+use Rattle.sem_key.specs.declared.limits.TheConstants.{PES, VPES}
 use Rattle.sem_key.specs.MembershipTable.{MembershipTable, IsMembership, owner_at, with_owner}
 use Rattle.sem_msg.specs.declared.setup.VpeDecl.{VpeDecl}
 use Rattle.sem_msg.specs.Setup.{Setup, IsSetup, IsVpeDecl, services_from}
 use Rattle.sem_dtu.proofs.tests.three_vpes.Goals as goal
 
 abbrev owners : MembershipTable
-owners = with_owner (with_owner (with_owner (record { kernels = 2; owners = replicate 64 None }) 5 0) 6 1) 8 0
+owners = with_owner (with_owner (with_owner (record { kernels = 2; owners = replicate PES None }) 5 0) 6 1) 8 0
 
 abbrev plain_vpe : ℕ → ℕ → VpeDecl
 plain_vpe vpe pe = record { vpe = vpe; pe = pe; roots = []; calls = [] }
@@ -21,15 +22,15 @@ abbrev second : VpeDecl
 second = plain_vpe 4 6
 
 abbrev third : VpeDecl
-third = plain_vpe 7 8
+third = plain_vpe 127 8
 
 abbrev vpes : List VpeDecl
 vpes = first ∷ second ∷ third ∷ []
 
 abbrev setup : Setup
-setup = record { kernels = 2; owners = owners; vpes = vpes; services = []; offers = []; denies = []; kills = [] }
+setup = record { version = 2; window = 4; kernels = 2; owners = owners; vpes = vpes; services = []; offers = []; denies = []; kills = [] }
 
-is_vpe : (vpe pe : ℕ) → vpe ≤ 63 → pe ≤ 63 → IsSome (owner_at owners pe) → IsVpeDecl setup (plain_vpe vpe pe)
+is_vpe : (vpe pe : ℕ) → vpe < VPES → pe < PES → IsSome (owner_at owners pe) → IsVpeDecl setup (plain_vpe vpe pe)
 is_vpe vpe pe few_vpes few_pes owned = record {
   vpe = few_vpes;
   pe = few_pes;
@@ -53,6 +54,8 @@ module _ (R : VpeDecl → VpeDecl → Type 0) where
 is_setup : IsMembership owners → IsSetup setup
 unfolding services_from
 is_setup membership = record {
+  versioned = inr refl;
+  windowed = (omega arith, omega arith);
   some_kernel = omega arith;
   few_kernels = omega arith;
   membership = membership;
@@ -60,7 +63,7 @@ is_setup membership = record {
   vpes =
       All-cons (IsVpeDecl setup) first (second ∷ third ∷ []) (is_vpe 3 5 (omega arith) (omega arith) refl)
       (All-cons (IsVpeDecl setup) second (third ∷ []) (is_vpe 4 6 (omega arith) (omega arith) refl)
-      (All-cons (IsVpeDecl setup) third [] (is_vpe 7 8 (omega arith) (omega arith) refl) (All-nil (IsVpeDecl setup))));
+      (All-cons (IsVpeDecl setup) third [] (is_vpe 127 8 (omega arith) (omega arith) refl) (All-nil (IsVpeDecl setup))));
   vpes_rise = in_pairs (λ a b. a.vpe < b.vpe) (omega arith) (omega arith) (omega arith);
   pes_differ = in_pairs (λ a b. a.pe ≢ b.pe) (omega arith) (omega arith) (omega arith);
   services_rise = λ i j d lt within. absurd (omega arith);

@@ -1,9 +1,10 @@
-use Rattle.std.proofs.Common.{◌≢◌, ◌<◌, [], ◌∷◌, None, Some, replicate, refl, arith, rules}
+use Rattle.std.proofs.Common.{◌≢◌, ◌<◌, [], ◌∷◌, None, Some, replicate, refl, inr, arith, rules}
 use Rattle.std.specs.List.{All, AllPairs, slice_set}
 use Rattle.std.proofs.lemmas.List.Elements.{All-cons, All-nil}
 use Rattle.std.proofs.lemmas.List.Kept.{AllPairs-cons}
 use Rattle.sem_key.specs.declared.key.Kind.TheVariants.{Serv as ServKind}
 use Rattle.sem_key.specs.declared.object.Object.TheVariants.{Mem, Recv, Serv}
+use Rattle.sem_key.specs.declared.limits.TheConstants.{PES, VPES}
 use Rattle.sem_key.specs.MembershipTable.{MembershipTable, IsMembership}
 use Rattle.sem_msg.specs.declared.setup.Root.{Root}
 use Rattle.sem_msg.specs.declared.setup.Service.{Service}
@@ -13,7 +14,7 @@ use Rattle.sem_msg.specs.Setup.{Setup, IsSetup, IsRoot, IsVpeDecl, services_from
 use Rattle.sem_vpe.proofs.tests.two_kernels.Goals as goal
 
 abbrev owners : MembershipTable
-owners = record { kernels = 2; owners = slice_set (slice_set (slice_set (replicate 64 None) 3 (Some 1)) 5 (Some 0)) 9 (Some 1) }
+owners = record { kernels = 2; owners = slice_set (slice_set (slice_set (replicate PES None) 3 (Some 1)) 5 (Some 0)) 9 (Some 1) }
 
 abbrev memory : Root
 memory = record { sel = 7; object = Mem 4096 512 3 }
@@ -34,13 +35,13 @@ abbrev second : VpeDecl
 second = record { vpe = 4; pe = 5; roots = other_memory ∷ []; calls = [] }
 
 abbrev third : VpeDecl
-third = record { vpe = 60; pe = 9; roots = []; calls = [] }
+third = record { vpe = 127; pe = 9; roots = []; calls = [] }
 
 abbrev service : Service
 service = record { name = 9; key = record { pe = 3; vpe = 2; kind = ServKind; number = 2 } }
 
 abbrev setup : Setup
-setup = record { kernels = 2; owners = owners; vpes = first ∷ second ∷ third ∷ []; services = service ∷ []; offers = []; denies = []; kills = [] }
+setup = record { version = 2; window = 4; kernels = 2; owners = owners; vpes = first ∷ second ∷ third ∷ []; services = service ∷ []; offers = []; denies = []; kills = [] }
 
 all_three : {X : Type 0} (P : X → Type 0) (a b c : X) → P a → P b → P c → All P (a ∷ b ∷ c ∷ [])
 all_three P a b c pa pb pc = All-cons P a (b ∷ c ∷ []) pa (All-cons P b (c ∷ []) pb (All-cons P c [] pc (All-nil P)))
@@ -57,7 +58,7 @@ first_is = record {
   owned = search rules;
   selectors_differ = pairs_three (λ (a b : Root). a.sel ≢ b.sel) memory receiver server (omega arith) (omega arith) (omega arith);
   roots = all_three IsRoot memory receiver server (record { selector = omega arith; kind = tt; ranges = search rules }) (record { selector = omega arith; kind = tt; ranges = search rules }) (record { selector = omega arith; kind = tt; ranges = search rules });
-  calls = All-nil IsValidCall;
+  calls = All-nil (IsValidCall VPES);
 }
 
 second_is : IsVpeDecl setup second
@@ -67,7 +68,7 @@ second_is = record {
   owned = search rules;
   selectors_differ = λ i j d lt within. absurd (omega arith);
   roots = All-cons IsRoot other_memory [] (record { selector = omega arith; kind = tt; ranges = search rules }) (All-nil IsRoot);
-  calls = All-nil IsValidCall;
+  calls = All-nil (IsValidCall VPES);
 }
 
 third_is : IsVpeDecl setup third
@@ -77,12 +78,14 @@ third_is = record {
   owned = search rules;
   selectors_differ = λ i j d lt within. absurd (omega arith);
   roots = All-nil IsRoot;
-  calls = All-nil IsValidCall;
+  calls = All-nil (IsValidCall VPES);
 }
 
 is_setup : IsMembership owners → IsSetup setup
 unfolding services_from
 is_setup membership = record {
+  versioned = inr refl;
+  windowed = (omega arith, omega arith);
   some_kernel = omega arith;
   few_kernels = omega arith;
   membership = membership;

@@ -20,7 +20,7 @@ pub returns-clause-children : goal.returns-clause-children
 returns-clause-children c =
     let caps : c.args.self.now.caps ≡ plain c.self.inside.rising.items = sym (ap (λ (s : CapStore). s.caps) c.self.view_is) in
     let here : slice_get (keys_of (plain c.self.inside.rising.items)) c.in-Ok.at ≡ Some c.args.key = rw caps at c.in-Ok.ensures.found in
-    rw (caps, cap_of-row c.self.inside.rising.items c.self.invariant.keys c.args.key c.in-Ok.at c.index-cap.result.now here c.index-cap.ensures) (ap Some c.as_slice.ensures.keys)
+    rw (caps, cap_of-row c.self.inside.rising.items c.self.invariant.0.keys c.args.key c.in-Ok.at c.index-cap.result.now here c.index-cap.ensures) (ap Some c.as_slice.ensures.keys)
 
 pub returns-clause-rising : goal.returns-clause-rising
 returns-clause-rising c = rw c.as_slice.ensures.keys c.as_slice.ensures.rising

@@ -8,7 +8,7 @@ use Rattle.sem_caps.proofs.caps.Caps.get.Goals as goal
 pub returns-in-Ok-clause-cap : goal.returns-in-Ok-clause-cap
 returns-in-Ok-clause-cap c =
     let caps : c.args.self.now.caps ≡ plain c.self.inside.rising.items = sym (ap (λ (s : CapStore). s.caps) c.self.view_is) in
-    rw caps (sym (cap_of-row _ c.self.invariant.keys c.args.key c.in-Ok.at c.index.result.now (rw caps at c.in-Ok.ensures.found) c.index.ensures))
+    rw caps (sym (cap_of-row _ c.self.invariant.0.keys c.args.key c.in-Ok.at c.index.result.now (rw caps at c.in-Ok.ensures.found) c.index.ensures))
 
 -- the key is not there
 pub returns-in-Err-clause-cap : goal.returns-in-Err-clause-cap

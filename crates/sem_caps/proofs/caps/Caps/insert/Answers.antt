@@ -5,12 +5,13 @@ use Rattle.sem_key.specs.CapList.{keys_of}
 use Rattle.sem_caps.specs.CapStore.{CapStore}
 use Rattle.sem_caps.specs.Stored.{plain}
 use Rattle.sem_caps.proofs.RisingCaps.{cap_of-held}
+use Rattle.sem_caps.proofs.Links.{counted-insert}
 use Rattle.sem_caps.proofs.Inserted.{fresh_row, plain-fresh, stored-insert}
 use Rattle.sem_caps.proofs.caps.Caps.insert.Goals as goal
 
 -- the key is not held
 pub unreachable-requires : goal.unreachable-requires
-unreachable-requires c = cap_of-held c.args.self.now.caps (rw (← c.self.view_is) c.self.invariant.keys) c.args.key c.in_default.field-0 c.in_default.ensures.found c.requires.absent
+unreachable-requires c = cap_of-held c.args.self.now.caps (rw (← c.self.view_is) c.self.invariant.0.keys) c.args.key c.in_default.field-0 c.in_default.ensures.found c.requires.absent
 
 -- the capability goes into its gap
 pub invariant_of-self : goal.invariant_of-self
@@ -19,7 +20,10 @@ invariant_of-self c =
     let gap : IsGapFor (keys_of (plain c.self.inside.rising.items)) c.args.key c.in-Err.at = rw caps at c.in-Err.ensures.absent in
     let new = fresh_row c.args.key c.args.parent c.args.selector c.args.object c.new-children.result in
     let edited : c.insert.new.self.items ≡ insert c.self.inside.rising.items c.in-Err.at new = search rules in
-    rw edited (stored-insert c.self.inside.rising.items new c.in-Err.at gap c.self.inside.child_room c.search.ensures.valid c.self.invariant)
+    rw edited (
+      stored-insert c.self.inside.rising.items new c.in-Err.at gap c.self.inside.child_room c.search.ensures.valid c.self.invariant.0,
+      counted-insert c.self.inside.rising.items c.in-Err.at new c.self.inside.links c.new-children.ensures c.self.invariant.1,
+    )
 
 pub returns-clause-caps : goal.returns-clause-caps
 returns-clause-caps c =

@@ -5,7 +5,8 @@ use Rattle.sem_key.specs.CapList.{keys_of}
 use Rattle.sem_caps.specs.CapStore.{CapStore}
 use Rattle.sem_caps.specs.Stored.{plain}
 use Rattle.sem_caps.proofs.RisingCaps.{in_range-row, cap_of-gap}
-use Rattle.sem_caps.proofs.Edited.{same_caps, changed-row, stored-set}
+use Rattle.sem_caps.proofs.Edited.{same_caps, changed-row, stored-set, plain-read, within}
+use Rattle.sem_caps.proofs.Links.{counted-same}
 use Rattle.sem_caps.proofs.caps.Caps.mark.Goals as goal
 
 -- the capability is held
@@ -22,10 +23,16 @@ pub invariant_of-self : goal.invariant_of-self
 invariant_of-self c =
     let caps : c.args.self.now.caps ≡ plain c.self.inside.rising.items = sym (ap (λ (s : CapStore). s.caps) c.self.view_is) in
     let here : slice_get (keys_of (plain c.self.inside.rising.items)) c.in-Ok.at ≡ Some c.args.key = rw caps at c.in-Ok.ensures.found in
-    stored-set c.self.inside.rising.items c.self.invariant.keys c.args.key c.in-Ok.at here c.index_mut-cap.result.now c.index_mut-cap.ensures.value _ c.self.inside.child_room refl (omega arith) c.self.invariant
+    let rows = c.self.inside.rising.items in
+    let row = c.index_mut-cap.result.now in
+    let read = plain-read rows c.self.invariant.0.keys c.args.key c.in-Ok.at here row c.index_mut-cap.ensures.value in
+    let there = within rows c.self.invariant.0.keys c.args.key c.in-Ok.at here row c.index_mut-cap.ensures.value in (
+      stored-set rows c.self.invariant.0.keys c.args.key c.in-Ok.at here row c.index_mut-cap.ensures.value _ c.self.inside.child_room refl (omega arith) c.self.invariant.0,
+      counted-same rows c.in-Ok.at row _ c.self.inside.links there read c.self.invariant.1 refl,
+    )
 
 pub returns : goal.returns
 returns c =
     let caps : c.args.self.now.caps ≡ plain c.self.inside.rising.items = sym (ap (λ (s : CapStore). s.caps) c.self.view_is) in
     let here : slice_get (keys_of (plain c.self.inside.rising.items)) c.in-Ok.at ≡ Some c.args.key = rw caps at c.in-Ok.ensures.found in
-    rw (← c.self.view_is) (same_caps _ _ _ _ (changed-row c.self.inside.rising.items c.self.invariant.keys c.args.key c.in-Ok.at here c.index_mut-cap.result.now c.index_mut-cap.ensures.value _ (λ (x : Capability). record x { mark = Some c.args.job }) refl))
+    rw (← c.self.view_is) (same_caps _ _ _ _ (changed-row c.self.inside.rising.items c.self.invariant.0.keys c.args.key c.in-Ok.at here c.index_mut-cap.result.now c.index_mut-cap.ensures.value _ (λ (x : Capability). record x { mark = Some c.args.job }) refl))

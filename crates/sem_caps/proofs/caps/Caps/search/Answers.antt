@@ -10,7 +10,7 @@ pub returns : goal.returns
 returns c =
     let facts = c.binary_search_by_key.ensures in
     let by_word = facts.position (λ (x : Cap). packed x.key) (answers_always _ _ _ (λ f a r g called. search rules)) in
-    let parts = searched _ (rw c.deref.ensures.value c.self.invariant.keys) c.args.key c.pack.ensures.valid _ facts.bound (rw c.pack.ensures.word at by_word) in
+    let parts = searched _ (rw c.deref.ensures.value c.self.invariant.0.keys) c.args.key c.pack.ensures.valid _ facts.bound (rw c.pack.ensures.word at by_word) in
     record {
       found = rw (← c.self.view_is, ← c.deref.ensures.value) parts.found;
       absent = rw (← c.self.view_is, ← c.deref.ensures.value) parts.absent;

@@ -1,7 +1,7 @@
-use Rattle.std.proofs.Common.{◌≡◌, ◌+◌, sym, ap}
+use Rattle.std.proofs.Common.{◌≡◌, ◌+◌, refl, sym, ap}
 use Rattle.sem_msg.specs.Rows.{JobRow}
 use Rattle.sem_jobs.specs.JobStore.{JobStore, IsPlaceOf}
-use Rattle.sem_jobs.proofs.JobPlaces.{same_jobs, ids-set, found, changed}
+use Rattle.sem_jobs.proofs.JobPlaces.{same_jobs, ids-set, found, changed, changed-absent}
 use Rattle.sem_jobs.proofs.jobs.Jobs.add_outstanding.Goals as goal
 
 -- not too many tokens are out
@@ -23,3 +23,7 @@ returns c =
     let jobs : c.args.self.now.jobs ≡ c.self.inside.rising.items = sym (ap (λ (s : JobStore). s.jobs) c.self.view_is) in
     let place : IsPlaceOf c.self.inside.rising.items c.args.job c.in-Some.at = rw jobs at c.in-Some.ensures.place in
     rw (← c.self.view_is) (same_jobs _ _ _ _ (changed c.self.inside.rising.items c.self.inside.next c.self.invariant c.args.job c.in-Some.at place c.index_mut-open.result.now c.raise.new.self (λ (x : JobRow). record x { count = x.count + 1 }) c.index_mut-open.ensures.value c.raise.ensures))
+
+-- there is no such job
+pub returns-in_default : goal.returns-in_default
+returns-in_default c = same_jobs _ _ _ _ (sym (changed-absent c.args.job (λ (x : JobRow). record x { count = x.count + 1 }) c.args.self.now.jobs (c.in_default.ensures.absent refl)))

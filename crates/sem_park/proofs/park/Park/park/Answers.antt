@@ -1,5 +1,5 @@
 use Rattle.std.proofs.Common.{◌<◌, length, None, Some, sym, arith}
-use Rattle.sem_park.proofs.Puts.{put-set}
+use Rattle.sem_key.proofs.Puts.{put-set}
 use Rattle.sem_park.proofs.park.Park.park.Goals as goal
 
 pub returns-clause-states : goal.returns-clause-states

@@ -1,6 +1,6 @@
 use Rattle.std.proofs.Common.{◌<◌, length, refl, arith}
 use Rattle.sem_msg.specs.declared.state.Slot.TheVariants.{Free}
-use Rattle.sem_vpe.proofs.Puts.{put-set}
+use Rattle.sem_key.proofs.Puts.{put-set}
 use Rattle.sem_vpe.proofs.vpe.Vpe.set.Goals as goal
 
 -- the selector is in the list

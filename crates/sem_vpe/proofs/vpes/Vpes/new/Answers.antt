@@ -11,7 +11,7 @@ loop-vpe-preserved c = record {
   rows = rw c.in_ok-push.ensures.items (rows-more c.loop-vpe.places.items c.in_ok-started.field-0 c.loop-vpe.invariant.rows c.in_ok-started.ensures.row);
 }
 
--- all 64 places were made
+-- all places were made
 pub invariant_of-result : goal.invariant_of-result
 invariant_of-result c =
     let long : length c.loop-vpe.places.items ≡ c.loop-vpe.vpe = ap length c.loop-vpe.invariant.places ∙ length-map-range_with_len (start_place c.args.setup.now c.args.kernel) 0 c.loop-vpe.vpe in
