@@ -1,7 +1,7 @@
 -- Each change of a side keeps a fact about the keys and places that it carries, where what is new has it.
-use Rattle.sem_machine.specs.Revokes.{has_key}
-use Rattle.sem_machine.proofs.KeyTests.{key_eq-true}
-use Rattle.std.proofs.Common.{true, refl, ◌≡◌, ℕ, zero, suc, Bool, not, if◌then◌else◌, List, [], ◌∷◌, ◌++◌, map, drop, get_or, length, slice_get, Option, Some, None, sym, subst}
+use Rattle.sem_key.specs.Region.{has_key}
+use Rattle.sem_key.proofs.KeyTests.{key_eq-true}
+use Rattle.std.proofs.Common.{true, ◌≡◌, ℕ, zero, suc, Bool, not, if◌then◌else◌, List, [], ◌∷◌, ◌++◌, drop, get_or, length, slice_get, Option, Some, None, sym, subst}
 use Rattle.std.specs.List.{All, filter, list_any}
 use Rattle.std.specs.Option.{option_map}
 use Rattle.std.specs.Prelude.{nat_lt}
@@ -13,15 +13,17 @@ use Rattle.sem_key.specs.KeyName.{KeyName, key_eq, key_lt}
 use Rattle.sem_key.specs.Lists.{change, put}
 use Rattle.sem_key.specs.KeyList.{with_key, without_key}
 use Rattle.sem_key.specs.Capability.{Capability}
-use Rattle.sem_key.specs.CapList.{is_marked_by}
+use Rattle.sem_key.specs.CapList.{is_marked_by, restored}
+use Rattle.sem_msg.specs.declared.limits.TheConstants.{ASKS}
 use Rattle.sem_msg.specs.declared.message.Message.{Message}
 use Rattle.sem_msg.specs.declared.state.Ask.{Ask}
 use Rattle.sem_msg.specs.declared.state.Parked.{Parked}
 use Rattle.sem_msg.specs.declared.state.Slot.{Slot}
 use Rattle.sem_msg.specs.Rows.{Endpoint, VpeRow, no_vpe}
-use Rattle.sem_msg.specs.EndpointRows.{unbound_from}
+use Rattle.sem_msg.specs.EndpointRows.{unbound_from, all_unbound_from}
 use Rattle.sem_machine.specs.Sides.{linked, unlinked, mark_all, parked, Side, no_side, row, endpoint, outbox, with_slot, parked_as, unparked, with_endpoint, unbind_all, cap_added, caps_removed, send, sent, with_inbox}
-use Rattle.sem_machine.proofs.Members.{found}
+use Rattle.sem_key.proofs.Members.{found}
+use Rattle.sem_safety.specs.Seen.{endpoints}
 use Rattle.sem_safety.proofs.Layers.{Facts, InEndpoint, Brings, BringsFrom, Awaits, AsksFor, IsLayer}
 
 -- Lists.
@@ -55,10 +57,11 @@ pub record InCap (F : Facts) (c : Capability) : Type 0 where
   pub mark : (j : ℕ) → c.mark ≡ Some j → F.doomed c.key
 
 -- the facts of what a row carries; a side and a world likewise
-pub record InRow (F : Facts) (r : VpeRow) : Type 0 where
-  pub parked : Awaits F r.parked
-  pub asks : All (AsksFor F) r.asks
-  pub endpoints : All (InEndpoint F) r.endpoints
+abbrev pub InRow : Facts → VpeRow → Type 0
+InRow F r = All (AsksFor F) r.asks
+
+abbrev pub InEndpoints : Facts → List (Option Endpoint) → Type 0
+InEndpoints F es = All (InEndpoint F) es
 
 abbrev pub BringsAll : Facts → List Message → Type 0
 BringsAll F ms = All (Brings F) ms
@@ -66,6 +69,8 @@ BringsAll F ms = All (Brings F) ms
 pub record InSide (F : Facts) (s : Side) : Type 0 where
   pub caps : All (InCap F) s.caps
   pub rows : All (InRow F) s.vpes
+  pub parks : All (Awaits F) s.parks
+  pub endpoints : All (InEndpoints F) s.endpoints
   pub inbox : BringsFrom F s.inbox
   pub outs : All (BringsAll F) s.outs
 
@@ -76,37 +81,46 @@ pub record InWorld (F : Facts) (W : World) : Type 0 where
 module _ (F : Facts) where
   -- nothing
   pub no_vpe-in : InRow F no_vpe
-  no_vpe-in = record { parked = tt; asks = All-nil (AsksFor F); endpoints = All-nil (InEndpoint F) }
+  no_vpe-in = All-nil (AsksFor F)
 
   pub no_side-in : InSide F no_side
-  no_side-in = record { caps = All-nil (InCap F); rows = All-nil (InRow F); inbox = tt; outs = All-nil (BringsAll F) }
+  no_side-in = record { caps = All-nil (InCap F); rows = All-nil (InRow F); parks = All-nil (Awaits F); endpoints = All-nil (InEndpoints F); inbox = tt; outs = All-nil (BringsAll F) }
 
   module _ (s : Side) (is : InSide F s) where
     pub row-in : (v : ℕ) → InRow F (row s v)
     row-in v = All-read (InRow F) no_vpe s.vpes v no_vpe-in is.rows
 
+    pub parked-in : (v : ℕ) → Awaits F (parked s v)
+    parked-in v = All-read (Awaits F) None s.parks v tt is.parks
+
+    endpoints-in : (v : ℕ) → InEndpoints F (endpoints s v)
+    endpoints-in v = All-read (InEndpoints F) [] s.endpoints v (All-nil (InEndpoint F)) is.endpoints
+
     pub endpoint-in : (v ep : ℕ) → InEndpoint F (endpoint s v ep)
-    endpoint-in v ep = All-read (InEndpoint F) None (row s v).endpoints ep tt (row-in v).endpoints
+    endpoint-in v ep = All-read (InEndpoint F) None (endpoints s v) ep tt (endpoints-in v)
 
     -- another row
     pub put_row-in : (v : ℕ) (r : VpeRow) → InRow F r → InSide F (record s { vpes = put no_vpe s.vpes v r })
-    put_row-in v r here = record { caps = is.caps; rows = All-put (InRow F) no_vpe s.vpes v r no_vpe-in here is.rows; inbox = is.inbox; outs = is.outs }
+    put_row-in v r here = record { caps = is.caps; rows = All-put (InRow F) no_vpe s.vpes v r no_vpe-in here is.rows; parks = is.parks; endpoints = is.endpoints; inbox = is.inbox; outs = is.outs }
 
-    -- another row in which the same is parked and bound
-    pub plain_row-in : (v : ℕ) (r : VpeRow) → r.parked ≡ (row s v).parked → r.endpoints ≡ (row s v).endpoints → All (AsksFor F) r.asks → InSide F (record s { vpes = put no_vpe s.vpes v r })
-    plain_row-in v r parked endpoints asks = put_row-in v r (record { parked = subst (Awaits F) (sym parked) (row-in v).parked; asks = asks; endpoints = subst (All (InEndpoint F)) (sym endpoints) (row-in v).endpoints })
+    -- another parked call, or none, and other endpoints of a VPE
+    put_park-in : (v : ℕ) (p : Option Parked) → Awaits F p → InSide F (record s { parks = put None s.parks v p })
+    put_park-in v p here = record { caps = is.caps; rows = is.rows; parks = All-put (Awaits F) None s.parks v p tt here is.parks; endpoints = is.endpoints; inbox = is.inbox; outs = is.outs }
+
+    pub put_endpoints-in : (v : ℕ) (es : List (Option Endpoint)) → InEndpoints F es → InSide F (record s { endpoints = put [] s.endpoints v es })
+    put_endpoints-in v es here = record { caps = is.caps; rows = is.rows; parks = is.parks; endpoints = All-put (InEndpoints F) [] s.endpoints v es (All-nil (InEndpoint F)) here is.endpoints; inbox = is.inbox; outs = is.outs }
 
     pub with_slot-in : (v sel : ℕ) (state : Slot) → InSide F (with_slot v sel state s)
-    with_slot-in v sel state = put_row-in v _ (record { parked = (row-in v).parked; asks = (row-in v).asks; endpoints = (row-in v).endpoints })
+    with_slot-in v sel state = put_row-in v _ (row-in v)
 
     pub parked_as-in : (v : ℕ) (p : Parked) → Awaits F (Some p) → InSide F (parked_as v p s)
-    parked_as-in v p here = put_row-in v _ (record { parked = here; asks = (row-in v).asks; endpoints = (row-in v).endpoints })
+    parked_as-in v p here = put_park-in v (Some p) here
 
     pub unparked-in : (v : ℕ) → InSide F (unparked v s)
-    unparked-in v = put_row-in v _ (record { parked = tt; asks = (row-in v).asks; endpoints = (row-in v).endpoints })
+    unparked-in v = put_park-in v None tt
 
     pub with_endpoint-in : (v ep : ℕ) (e : Option Endpoint) → InEndpoint F e → InSide F (with_endpoint v ep e s)
-    with_endpoint-in v ep e here = put_row-in v _ (record { parked = (row-in v).parked; asks = (row-in v).asks; endpoints = All-put (InEndpoint F) None (row s v).endpoints ep e tt here (row-in v).endpoints })
+    with_endpoint-in v ep e here = put_endpoints-in v (put None (endpoints s v) ep e) (All-put (InEndpoint F) None (endpoints s v) ep e tt here (endpoints-in v))
 
     unbound-in : (ks : List KeyName) (e : Option Endpoint) → InEndpoint F e → InEndpoint F (unbound_from ks e)
     unbound-in ks None here = tt
@@ -115,7 +129,9 @@ module _ (F : Facts) where
     pub unbind_all-in : (ks : List KeyName) → InSide F (unbind_all ks s)
     unbind_all-in ks = record {
       caps = is.caps;
-      rows = All-map (InRow F) (λ (r : VpeRow). record r { endpoints = map {A = Option Endpoint} (unbound_from ks) r.endpoints }) s.vpes (All-weaker (InRow F) (λ r. InRow F (record r { endpoints = map {A = Option Endpoint} (unbound_from ks) r.endpoints })) (λ r here. record { parked = here.parked; asks = here.asks; endpoints = All-map (InEndpoint F) (unbound_from ks) r.endpoints (All-weaker (InEndpoint F) (λ e. InEndpoint F (unbound_from ks e)) (unbound-in ks) r.endpoints here.endpoints) }) s.vpes is.rows);
+      rows = is.rows;
+      parks = is.parks;
+      endpoints = All-map (InEndpoints F) (all_unbound_from ks) s.endpoints (All-weaker (InEndpoints F) (λ es. InEndpoints F (all_unbound_from ks es)) (λ es here. All-map (InEndpoint F) (unbound_from ks) es (All-weaker (InEndpoint F) (λ e. InEndpoint F (unbound_from ks e)) (unbound-in ks) es here)) s.endpoints is.endpoints);
       inbox = is.inbox;
       outs = is.outs;
     }
@@ -127,6 +143,8 @@ module _ (F : Facts) where
         record {
           caps = All-append (InCap F) (filter (λ x. key_lt x.key c.key) s.caps) (c ∷ filter (λ x. not (key_lt x.key c.key)) s.caps) (All-filter (λ x. key_lt x.key c.key) (InCap F) s.caps is.caps) (All-cons (InCap F) c (filter (λ x. not (key_lt x.key c.key)) s.caps) new (All-filter (λ x. not (key_lt x.key c.key)) (InCap F) s.caps is.caps));
           rows = is.rows;
+          parks = is.parks;
+          endpoints = is.endpoints;
           inbox = is.inbox;
           outs = is.outs;
         }
@@ -135,7 +153,7 @@ module _ (F : Facts) where
         no-mark o j none some = absurd cc
 
     caps_changed-in : (test : Capability → Bool) (f : Capability → Capability) → ((c : Capability) → test c ≡ true → InCap F c → InCap F (f c)) → InSide F (record s { caps = change test f s.caps })
-    caps_changed-in test f keeps = record { caps = All-change (InCap F) test f s.caps keeps is.caps; rows = is.rows; inbox = is.inbox; outs = is.outs }
+    caps_changed-in test f keeps = record { caps = All-change (InCap F) test f s.caps keeps is.caps; rows = is.rows; parks = is.parks; endpoints = is.endpoints; inbox = is.inbox; outs = is.outs }
 
     pub linked-in : (p k : KeyName) → F.link p k → InSide F (linked p k s)
     linked-in p k here = caps_changed-in (λ c. key_eq c.key p) (λ c. record c { children = with_key c.children k }) (λ c same before. record {
@@ -158,18 +176,25 @@ module _ (F : Facts) where
       mark = λ m marked. doomed c.key among;
     })
 
+    pub restored-in : (k : KeyName) → InSide F (record s { caps = restored s.caps k })
+    restored-in k = caps_changed-in (λ c. key_eq c.key k) (λ c. record c { children = []; mark = None }) (λ c same before. record {
+      key = before.key;
+      links = All-nil (F.link c.key);
+      mark = λ j marked. absurd cc;
+    })
+
     pub caps_removed-in : (j : ℕ) → InSide F (caps_removed j s)
-    caps_removed-in j = record { caps = All-filter (λ c. not (is_marked_by j c)) (InCap F) s.caps is.caps; rows = is.rows; inbox = is.inbox; outs = is.outs }
+    caps_removed-in j = record { caps = All-filter (λ c. not (is_marked_by j c)) (InCap F) s.caps is.caps; rows = is.rows; parks = is.parks; endpoints = is.endpoints; inbox = is.inbox; outs = is.outs }
 
     -- messages
     pub send-in : (j : ℕ) (m : Message) → Brings F m → InSide F (send j m s)
-    send-in j m here = record { caps = is.caps; rows = is.rows; inbox = is.inbox; outs = All-put (BringsAll F) [] s.outs j (outbox s j ++ m ∷ []) (All-nil (Brings F)) (All-append (Brings F) (outbox s j) (m ∷ []) (All-read (BringsAll F) [] s.outs j (All-nil (Brings F)) is.outs) (All-cons (Brings F) m [] here (All-nil (Brings F)))) is.outs }
+    send-in j m here = record { caps = is.caps; rows = is.rows; parks = is.parks; endpoints = is.endpoints; inbox = is.inbox; outs = All-put (BringsAll F) [] s.outs j (outbox s j ++ m ∷ []) (All-nil (Brings F)) (All-append (Brings F) (outbox s j) (m ∷ []) (All-read (BringsAll F) [] s.outs j (All-nil (Brings F)) is.outs) (All-cons (Brings F) m [] here (All-nil (Brings F)))) is.outs }
 
     pub sent-in : (j : ℕ) → InSide F (sent j s)
-    sent-in j = record { caps = is.caps; rows = is.rows; inbox = is.inbox; outs = All-put (BringsAll F) [] s.outs j (drop 1 (outbox s j)) (All-nil (Brings F)) (All-drop_one (Brings F) (outbox s j) (All-read (BringsAll F) [] s.outs j (All-nil (Brings F)) is.outs)) is.outs }
+    sent-in j = record { caps = is.caps; rows = is.rows; parks = is.parks; endpoints = is.endpoints; inbox = is.inbox; outs = All-put (BringsAll F) [] s.outs j (drop 1 (outbox s j)) (All-nil (Brings F)) (All-drop_one (Brings F) (outbox s j) (All-read (BringsAll F) [] s.outs j (All-nil (Brings F)) is.outs)) is.outs }
 
     pub with_inbox-in : (message : Option (ℕ × Message)) → BringsFrom F message → InSide F (with_inbox message s)
-    with_inbox-in message here = record { caps = is.caps; rows = is.rows; inbox = here; outs = is.outs }
+    with_inbox-in message here = record { caps = is.caps; rows = is.rows; parks = is.parks; endpoints = is.endpoints; inbox = here; outs = is.outs }
 
   -- a ring of an endpoint changed
   ring-in : (e : Option Endpoint) → InEndpoint F e → (f : List ℕ → List ℕ) → InEndpoint F (option_map {T = Endpoint} (λ x. record x { ring = f x.ring }) e)
@@ -184,27 +209,28 @@ module _ (F : Facts) where
   pub carried : ((p k : KeyName) → F.link p k → F.doomed p → F.doomed k) → IsLayer F (InSide F)
   carried spread = record {
     kept = record {
-      keeps_counted = λ s is v. plain_row-in s is v _ refl refl (row-in s is v).asks;
-      keeps_drawn = λ s is v. plain_row-in s is v _ refl refl (row-in s is v).asks;
+      keeps_counted = λ s is v. put_row-in s is v _ (row-in s is v);
+      keeps_drawn = λ s is v. put_row-in s is v _ (row-in s is v);
       keeps_slot = λ s is v sel state of_vpe. with_slot-in s is v sel state;
       keeps_parked = λ s is v p here. parked_as-in s is v p here;
       keeps_unparked = λ s is v. unparked-in s is v;
-      keeps_asked = λ s is v a here. plain_row-in s is v _ refl refl (cond_both (nat_lt (length (row s v).asks) 64) ((row s v).asks ++ a ∷ []) (row s v).asks (All (AsksFor F)) (λ _. All-append (AsksFor F) (row s v).asks (a ∷ []) (row-in s is v).asks (All-cons (AsksFor F) a [] here (All-nil (AsksFor F)))) (λ _. (row-in s is v).asks));
-      keeps_taken = λ s is v. plain_row-in s is v _ refl refl (All-drop_one (AsksFor F) (row s v).asks (row-in s is v).asks);
-      keeps_buried = λ s is v. plain_row-in s is v _ refl refl (All-nil (AsksFor F));
+      keeps_asked = λ s is v a here. put_row-in s is v _ (cond_both (nat_lt (length (row s v).asks) ASKS) ((row s v).asks ++ a ∷ []) (row s v).asks (All (AsksFor F)) (λ _. All-append (AsksFor F) (row s v).asks (a ∷ []) (row-in s is v) (All-cons (AsksFor F) a [] here (All-nil (AsksFor F)))) (λ _. (row-in s is v)));
+      keeps_taken = λ s is v. put_row-in s is v _ (All-drop_one (AsksFor F) (row s v).asks (row-in s is v));
+      keeps_buried = λ s is v. put_row-in s is v _ (All-nil (AsksFor F));
       keeps_bound = λ s is v ep src c held unmarked here. with_endpoint-in s is v ep (Some (record { key = c.key; object = c.object; ring = [] })) here;
       keeps_rung = λ s is v ep f. with_endpoint-in s is v ep (option_map {T = Endpoint} (λ x. record x { ring = f x.ring }) (endpoint s v ep)) (ring-in (endpoint s v ep) (endpoint-in s is v ep) f);
       keeps_added = λ s is c here childless unmarked. cap_added-in s is c here childless unmarked;
       keeps_linked = λ s is p k here. linked-in s is p k here;
       keeps_unlinked = λ s is p k. unlinked-in s is p k;
       keeps_marked = λ s is ks j doomed. unbind_all-in (mark_all ks j s) (marked-in s is ks j doomed) ks;
+      keeps_restored = λ s is k. restored-in s is k;
       keeps_removed = λ s is j. caps_removed-in s is j;
-      keeps_pending_added = λ s is p. record { caps = is.caps; rows = is.rows; inbox = is.inbox; outs = is.outs };
-      keeps_pending_removed = λ s is k. record { caps = is.caps; rows = is.rows; inbox = is.inbox; outs = is.outs };
-      keeps_opened = λ s is root up waiters. record { caps = is.caps; rows = is.rows; inbox = is.inbox; outs = is.outs };
-      keeps_changed = λ s is j f. record { caps = is.caps; rows = is.rows; inbox = is.inbox; outs = is.outs };
-      keeps_unwaited = λ s is v. record { caps = is.caps; rows = is.rows; inbox = is.inbox; outs = is.outs };
-      keeps_closed = λ s is j. record { caps = is.caps; rows = is.rows; inbox = is.inbox; outs = is.outs };
+      keeps_pending_added = λ s is p. record { caps = is.caps; rows = is.rows; parks = is.parks; endpoints = is.endpoints; inbox = is.inbox; outs = is.outs };
+      keeps_pending_removed = λ s is k. record { caps = is.caps; rows = is.rows; parks = is.parks; endpoints = is.endpoints; inbox = is.inbox; outs = is.outs };
+      keeps_opened = λ s is root up waiters keep. record { caps = is.caps; rows = is.rows; parks = is.parks; endpoints = is.endpoints; inbox = is.inbox; outs = is.outs };
+      keeps_changed = λ s is j f same. record { caps = is.caps; rows = is.rows; parks = is.parks; endpoints = is.endpoints; inbox = is.inbox; outs = is.outs };
+      keeps_left = λ s is j v. record { caps = is.caps; rows = is.rows; parks = is.parks; endpoints = is.endpoints; inbox = is.inbox; outs = is.outs };
+      keeps_closed = λ s is j. record { caps = is.caps; rows = is.rows; parks = is.parks; endpoints = is.endpoints; inbox = is.inbox; outs = is.outs };
       keeps_send = λ s is j m here. send-in s is j m here;
       keeps_sent = λ s is j. sent-in s is j;
       keeps_inbox = λ s is message here. with_inbox-in s is message here;
@@ -212,7 +238,7 @@ module _ (F : Facts) where
       spreads = spread;
     };
     of_cap = λ s is k c held. (All-contains (InCap F) s.caps c is.caps (found (λ x. key_eq x.key k) s.caps c held).0).key;
-    of_call = λ s is v. (row-in s is v).parked;
+    of_call = λ s is v. parked-in s is v;
     of_inbox = λ s is. is.inbox;
-    of_ask = λ s is v a there. first_ask (row s v).asks (row-in s is v).asks a there;
+    of_ask = λ s is v a there. first_ask (row s v).asks (row-in s is v) a there;
   }

@@ -17,20 +17,20 @@ use Rattle.sem_msg.specs.declared.entry.Detail.TheVariants.{Called, Nothing}
 use Rattle.sem_msg.specs.declared.entry.Entry.{Entry}
 use Rattle.sem_msg.specs.declared.message.Message.{Message}
 use Rattle.sem_msg.specs.declared.message.Message.TheVariants.{ObtainOk, Ack}
-use Rattle.sem_msg.specs.declared.state.Slot.TheVariants.{Held}
 use Rattle.sem_msg.specs.Rows.{VpeRow, no_vpe}
 use Rattle.sem_msg.specs.Setup.{Setup, root_key}
 use Rattle.sem_msg.specs.Lookups.{pe_owner}
-use Rattle.sem_machine.specs.Sides.{Side, no_side, row, cap, outbox, with_row, with_slot, cap_added}
+use Rattle.sem_machine.specs.Sides.{Side, no_side, row, cap, outbox, with_row, cap_added}
 use Rattle.sem_machine.specs.Steps.{Step}
-use Rattle.sem_machine.specs.Machine.{World, side, link, with_side, with_link, start, start_side, empty_side, new_vpe, root_added, vpe_added, local_step, local_entry, input_of, link_moved, after, entry_of}
+use Rattle.sem_msg.specs.VpeRows.{new_vpe, root_held}
+use Rattle.sem_machine.specs.Machine.{World, side, link, with_side, with_link, start, start_side, empty_side, root_added, vpe_added, local_step, local_entry, input_of, link_moved, after, entry_of, vpe_fresh}
 use Rattle.sem_machine.specs.Schedules.{IsRun, IsSchedule, run, world_after}
 use Rattle.sem_machine.specs.Journals.{grants, root_keys_from, root_keys, made, ends}
 use Rattle.sem_machine.specs.Living.{way, fetched_from, InFlight}
 use Rattle.sem_machine.specs.Safety.{IsInUse}
-use Rattle.sem_machine.proofs.Members.{Contains-head, Contains-tail, Contains-nil, Contains-cons_cases, Contains-map, found}
-use Rattle.sem_machine.proofs.KeyTests.{key_eq-true}
-use Rattle.sem_safety.proofs.Carrying.{InCap, InRow, BringsAll, InSide, InWorld, All-put, All-read, All-drop_one, no_vpe-in, no_side-in, row-in, endpoint-in, put_row-in, with_slot-in, cap_added-in, carried}
+use Rattle.sem_key.proofs.Members.{Contains-head, Contains-tail, Contains-nil, Contains-cons_cases, Contains-map, found}
+use Rattle.sem_key.proofs.KeyTests.{key_eq-true}
+use Rattle.sem_safety.proofs.Carrying.{InCap, InRow, InEndpoints, BringsAll, InSide, InWorld, All-put, All-read, All-drop_one, no_vpe-in, no_side-in, row-in, parked-in, endpoint-in, put_row-in, put_endpoints-in, cap_added-in, carried}
 use Rattle.sem_safety.proofs.FirstNumbers.{with_row-same, root-next}
 use Rattle.sem_safety.proofs.Layers.{Facts, facts, Brings, BringsIn, BringsFrom, Awaits, AsksFor, InEndpoint, InGrant, InCut}
 use Rattle.sem_safety.proofs.Onwards.{AnyPlace}
@@ -118,9 +118,7 @@ module _ (F : Facts) where
   root_added-in d r s is here =
       let k : KeyName = root_key d (row s d.vpe).next_number r in
       let c : Capability = record { key = k; parent = None; children = []; mark = None; selector = r.sel; object = r.object } in
-      let t : Side = with_slot d.vpe r.sel (Held k) (cap_added c s) in
-      let kept : InSide F t = with_slot-in F (cap_added c s) (cap_added-in F s is c here refl refl) d.vpe r.sel (Held k) in
-      put_row-in F t kept d.vpe _ (record { parked = (row-in F t kept d.vpe).parked; asks = (row-in F t kept d.vpe).asks; endpoints = (row-in F t kept d.vpe).endpoints })
+      put_row-in F (cap_added c s) (cap_added-in F s is c here refl refl) d.vpe (root_held d r (row s d.vpe)) (row-in F s is d.vpe)
 
   roots-in : (d : VpeDecl) (rs : List Root) (n : ℕ) (s : Side) → InSide F s → (row s d.vpe).next_number ≡ n → ((k : KeyName) → Contains (root_keys_from d n rs) k → F.key k) → InSide F (in_turn (root_added d) rs s)
   unfolding in_turn root_keys_from
@@ -132,7 +130,7 @@ module _ (F : Facts) where
       (λ k among. each k (Contains-tail (root_key d n r) (root_keys_from d (n + 1) rs) k among))
 
   vpe_added-in : (d : VpeDecl) (s : Side) → InSide F s → ((k : KeyName) → Contains (root_keys_from d 0 d.roots) k → F.key k) → InSide F (vpe_added d s)
-  vpe_added-in d s is each = roots-in d d.roots 0 (with_row d.vpe (λ v. new_vpe) s) (put_row-in F s is d.vpe new_vpe (record { parked = tt; asks = All-nil (AsksFor F); endpoints = All-replicate (InEndpoint F) 16 None tt })) (ap (λ (x : VpeRow). x.next_number) (with_row-same d.vpe (λ v. new_vpe) s)) each
+  vpe_added-in d s is each = roots-in d d.roots 0 (vpe_fresh d s) (put_endpoints-in F (with_row d.vpe (λ v. new_vpe) s) (put_row-in F s is d.vpe new_vpe (All-nil (AsksFor F))) d.vpe (replicate 16 None) (All-replicate (InEndpoint F) 16 None tt)) (ap (λ (x : VpeRow). x.next_number) (with_row-same d.vpe (λ v. new_vpe) s)) each
 
   vpes-in : (p : VpeDecl → Bool) (ds : List VpeDecl) (s : Side) → InSide F s → ((k : KeyName) → Contains (flat_map (λ d. root_keys_from d 0 d.roots) ds) k → F.key k) → InSide F (in_turn vpe_added (filter p ds) s)
   unfolding in_turn
@@ -147,7 +145,9 @@ module _ (F : Facts) where
   unfolding start_side
   side_started-in T i each = vpes-in (λ d. pe_owner T d.pe == i) T.vpes (empty_side T) (record {
     caps = All-nil (InCap F);
-    rows = All-replicate (InRow F) 64 no_vpe (no_vpe-in F);
+    rows = All-replicate (InRow F) 128 no_vpe (no_vpe-in F);
+    parks = All-replicate (Awaits F) 128 None tt;
+    endpoints = All-replicate (InEndpoints F) 128 [] (All-nil (InEndpoint F));
     inbox = tt;
     outs = All-replicate (BringsAll F) T.kernels [] (All-nil (Brings F));
   }) each
@@ -184,7 +184,7 @@ module _ (F : Facts) where
   used-in W is k (inl (inl (i, some))) = held-in W is k i (cap (side W i) k) refl some
   used-in W is k (inl (inr (inl granted))) = flight-in W is (ObtainOk granted.parent k granted.object) granted.arriving
   used-in W is k (inl (inr (inr (inl acknowledged)))) = flight-in W is (Ack k true) acknowledged
-  used-in W is k (inl (inr (inr (inr installing)))) = subst (Awaits F) installing.ready (row-in F (side W installing.kernel) (side-in W is installing.kernel) installing.vpe).parked
+  used-in W is k (inl (inr (inr (inr installing)))) = subst (Awaits F) installing.ready (parked-in F (side W installing.kernel) (side-in W is installing.kernel) installing.vpe)
   used-in W is k (inr (v, n, binds)) = subst F.key binds.to_key (subst (InEndpoint F) binds.at_endpoint (endpoint-in F (side W binds.kernel) (side-in W is binds.kernel) v n))
 
 -- A run.

@@ -7,10 +7,10 @@ use Rattle.sem_key.specs.KeyName.{KeyName, key_eq}
 use Rattle.sem_key.specs.KeyList.{with_key}
 use Rattle.sem_key.specs.Lists.{in_turn}
 use Rattle.sem_key.specs.Capability.{Capability}
-use Rattle.sem_machine.specs.Revokes.{has_key, linked_from, next_reached, grow, region, children_of}
-use Rattle.sem_machine.proofs.KeyTests.{key_eq-true, Contains-from_has_key}
-use Rattle.sem_machine.proofs.Members.{found, Contains-head, Contains-tail, Contains-nil, Contains-from_filter, Contains-from_map, Contains-from_flat_map}
-use Rattle.sem_safety.proofs.KeySets.{with_key-from}
+use Rattle.sem_key.specs.Region.{has_key, linked_from, next_reached, grow, region, children_of}
+use Rattle.sem_key.proofs.KeyTests.{key_eq-true, Contains-from_has_key}
+use Rattle.sem_key.proofs.Members.{found, Contains-head, Contains-tail, Contains-nil, Contains-from_filter, Contains-from_map, Contains-from_flat_map}
+use Rattle.sem_key.proofs.KeySets.{with_key-from}
 
 module _ (G : KeyName → KeyName → Type 0) (M : KeyName → Type 0) (spreads : (p k : KeyName) → G p k → M p → M k) (caps : List Capability) (links : (c : Capability) → Contains caps c → (k : KeyName) → Contains c.children k → G c.key k) where
   -- these keys have the fact

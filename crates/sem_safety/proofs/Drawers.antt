@@ -9,7 +9,7 @@ use Rattle.sem_msg.specs.Setup.{Setup}
 use Rattle.sem_msg.specs.Lookups.{kernel_of}
 use Rattle.sem_machine.specs.Sides.{Side, no_side}
 use Rattle.sem_machine.specs.Machine.{World, side, with_side, after, is_enabled, is_locally_enabled, is_allowed}
-use Rattle.sem_machine.proofs.Puts.{get_or-put_same}
+use Rattle.sem_key.proofs.Puts.{get_or-put_same}
 use Rattle.sem_safety.proofs.KeptSteps.{MayDraw}
 use Rattle.sem_safety.proofs.CarryingWorlds.{stepped}
 use Rattle.sem_safety.proofs.GoingOn.{moved-sides}

@@ -21,12 +21,14 @@ use Rattle.sem_msg.specs.declared.setup.VpeDecl.{VpeDecl}
 use Rattle.sem_msg.specs.Rows.{VpeRow}
 use Rattle.sem_msg.specs.Setup.{Setup, IsSetup, IsVpeDecl, root_key}
 use Rattle.sem_msg.specs.Lookups.{pe_owner, kernel_of}
-use Rattle.sem_machine.specs.Sides.{Side, no_side, row, cap, with_row}
-use Rattle.sem_machine.specs.Machine.{side, start, start_side, empty_side, new_vpe, root_added, vpe_added}
+use Rattle.sem_machine.specs.Sides.{Side, no_side, row, cap}
+use Rattle.sem_msg.specs.VpeRows.{new_vpe}
+use Rattle.sem_machine.specs.Machine.{side, start, start_side, empty_side, root_added, vpe_added, vpe_fresh}
 use Rattle.sem_machine.specs.Journals.{root_keys_from, root_keys}
-use Rattle.sem_machine.proofs.Members.{AllPairs-map, Contains-nil, Contains-cons_cases, Contains-filter, Contains-from_flat_map, find_none, list_any-some}
-use Rattle.sem_machine.proofs.KeyTests.{key_eq-true, key_eq-from}
-use Rattle.sem_machine.proofs.Finds.{held, held-with_cap_same, held-with_cap_other, with_cap-rises}
+use Rattle.sem_key.proofs.Members.{AllPairs-map, Contains-nil, Contains-cons_cases, Contains-filter, Contains-from_flat_map, find_none, list_any-some}
+use Rattle.sem_key.proofs.KeyTests.{key_eq-true, key_eq-from}
+use Rattle.sem_key.proofs.Finds.{held, held-with_cap_same, held-with_cap_other, with_cap-rises}
+use Rattle.sem_msg.proofs.Declared.{most_vpes-le}
 use Rattle.sem_safety.proofs.FirstNumbers.{with_row-same, root-next, find-decl, owner-is}
 
 -- a capability that nothing was made from, that was made from nothing and that nobody revokes
@@ -45,7 +47,7 @@ next s v = (row s v).next_number
 
 -- the side with an empty place for the VPE
 abbrev opened : VpeDecl → Side → Side
-opened d s = with_row d.vpe (λ v. new_vpe) s
+opened d s = vpe_fresh d s
 
 -- no number was drawn there
 opened-next : (d : VpeDecl) (s : Side) → next (opened d s) d.vpe ≡ 0
@@ -90,7 +92,7 @@ abbrev IsBegun : Side → Type 0
 IsBegun s = IsRising (map (λ (c : Capability). c.key) s.caps) × All (λ (c : Capability). IsValidKey c.key) s.caps
 
 -- a root that is added is new, since those that its VPE has are numbered below it
-roots-begun : (d : VpeDecl) (rs : List Root) (n : ℕ) (s : Side) → d.pe ≤ 63 → d.vpe ≤ 63 → n + length rs ≤ 4096 → next s d.vpe ≡ n → All (λ (c : Capability). c.key.vpe ≡ d.vpe → c.key.number < n) s.caps → IsBegun s → IsBegun (in_turn (root_added d) rs s)
+roots-begun : (d : VpeDecl) (rs : List Root) (n : ℕ) (s : Side) → d.pe < 128 → d.vpe < 128 → n + length rs ≤ 4096 → next s d.vpe ≡ n → All (λ (c : Capability). c.key.vpe ≡ d.vpe → c.key.number < n) s.caps → IsBegun s → IsBegun (in_turn (root_added d) rs s)
 unfolding in_turn
 roots-begun d [] n s pe vpe room number below is = is
 roots-begun d (r ∷ rs) n s pe vpe room number below (rises, valid) =
@@ -119,7 +121,7 @@ vpes-begun T (d ∷ ds) s declared rise above is =
     let here : IsVpeDecl T d = All-head (IsVpeDecl T) d ds declared in
     vpes-begun T ds (vpe_added d s) (All-tail (IsVpeDecl T) d ds declared) (AllPairs-parts Before d ds rise).1
     (λ k e within. vpe-all (λ (c : Capability). c.key.vpe < (get_or ds k e).vpe) d s (λ n r. (AllPairs-parts Before d ds rise).0 k e within) (All-tail (λ (x : VpeDecl). All (λ (c : Capability). c.key.vpe < x.vpe) s.caps) d ds above k e within))
-    (roots-begun d d.roots 0 (opened d s) here.pe here.vpe (omega (arith, roots-few T d here)) (opened-next d s)
+    (roots-begun d d.roots 0 (opened d s) (let few = most_vpes-le T.version in let pe = here.pe in omega arith) (let few = most_vpes-le T.version in let vpe = here.vpe in omega arith) (omega (arith, roots-few T d here)) (opened-next d s)
     (λ k e within same. let lower = All-head (λ (x : VpeDecl). All (λ (c : Capability). c.key.vpe < x.vpe) s.caps) d ds above k e within in absurd (omega (arith, lower, same))) is)
 
 begun : (T : Setup) (i : ℕ) → IsSetup T → IsBegun (start_side T i)

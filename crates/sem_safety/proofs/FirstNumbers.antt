@@ -11,18 +11,17 @@ use Rattle.std.proofs.Common.{eq-eqb}
 use Rattle.sem_key.specs.KeyName.{KeyName}
 use Rattle.sem_key.specs.Lists.{in_turn}
 use Rattle.sem_key.specs.MembershipTable.{owner_at}
-use Rattle.sem_key.specs.Capability.{Capability}
 use Rattle.sem_msg.specs.declared.setup.Root.{Root}
 use Rattle.sem_msg.specs.declared.setup.VpeDecl.{VpeDecl}
-use Rattle.sem_msg.specs.declared.state.Slot.TheVariants.{Held}
 use Rattle.sem_msg.specs.Rows.{VpeRow, no_vpe}
 use Rattle.sem_msg.specs.Setup.{Setup, IsSetup, IsVpeDecl, root_key}
 use Rattle.sem_msg.specs.Lookups.{pe_owner, kernel_of}
-use Rattle.sem_machine.specs.Sides.{Side, no_side, row, with_row, with_slot, cap_added}
-use Rattle.sem_machine.specs.Machine.{side, start, start_side, empty_side, new_vpe, root_added, vpe_added}
+use Rattle.sem_machine.specs.Sides.{Side, no_side, row, with_row}
+use Rattle.sem_msg.specs.VpeRows.{new_vpe, root_held}
+use Rattle.sem_machine.specs.Machine.{side, start, start_side, empty_side, root_added, vpe_added, vpe_fresh}
 use Rattle.sem_machine.specs.Journals.{root_keys_from, root_keys}
-use Rattle.sem_machine.proofs.Members.{Contains-nil, Contains-cons_cases, Contains-filter, Contains-from_flat_map}
-use Rattle.sem_machine.proofs.Puts.{get_or-put_same, get_or-put_other}
+use Rattle.sem_key.proofs.Members.{Contains-nil, Contains-cons_cases, Contains-filter, Contains-from_flat_map}
+use Rattle.sem_key.proofs.Puts.{get_or-put_same, get_or-put_other}
 
 -- The first of a list, of which all pairs are so, and the others.
 
@@ -41,18 +40,10 @@ with_row-other : (v : ℕ) (f : VpeRow → VpeRow) (s : Side) (w : ℕ) → (w �
 with_row-other v f s w other = get_or-put_other no_vpe s.vpes v w (f (row s v)) other
 
 pub root-next : (d : VpeDecl) (r : Root) (s : Side) → (row (root_added d r s) d.vpe).next_number ≡ (row s d.vpe).next_number + 1
-root-next d r s =
-    let k : KeyName = root_key d (row s d.vpe).next_number r in
-    let c : Capability = record { key = k; parent = None; children = []; mark = None; selector = r.sel; object = r.object } in
-    ap (λ (x : VpeRow). x.next_number) (with_row-same d.vpe (λ v. record v { next_number = v.next_number + 1 }) (with_slot d.vpe r.sel (Held k) (cap_added c s)))
-    ∙ ap (λ (x : VpeRow). x.next_number + 1) (get_or-put_same no_vpe s.vpes d.vpe _)
+root-next d r s = ap (λ (x : VpeRow). x.next_number) (get_or-put_same no_vpe s.vpes d.vpe (root_held d r (row s d.vpe)))
 
 root-other : (d : VpeDecl) (r : Root) (s : Side) (w : ℕ) → (w ≡ d.vpe → ⊥) → row (root_added d r s) w ≡ row s w
-root-other d r s w other =
-    let k : KeyName = root_key d (row s d.vpe).next_number r in
-    let c : Capability = record { key = k; parent = None; children = []; mark = None; selector = r.sel; object = r.object } in
-    with_row-other d.vpe (λ v. record v { next_number = v.next_number + 1 }) (with_slot d.vpe r.sel (Held k) (cap_added c s)) w other
-    ∙ get_or-put_other no_vpe s.vpes d.vpe w _ other
+root-other d r s w other = get_or-put_other no_vpe s.vpes d.vpe w (root_held d r (row s d.vpe)) other
 
 roots-next : (d : VpeDecl) (rs : List Root) (s : Side) → (row (in_turn (root_added d) rs s) d.vpe).next_number ≡ (row s d.vpe).next_number + length rs
 unfolding in_turn
@@ -66,12 +57,12 @@ roots-other d (r ∷ rs) s w other = roots-other d rs (root_added d r s) w other
 
 vpe-next : (d : VpeDecl) (s : Side) → (row (vpe_added d s) d.vpe).next_number ≡ length d.roots
 vpe-next d s =
-    let fresh : (row (with_row d.vpe (λ v. new_vpe) s) d.vpe).next_number ≡ 0 = ap (λ (x : VpeRow). x.next_number) (with_row-same d.vpe (λ v. new_vpe) s) in
-    let roots = roots-next d d.roots (with_row d.vpe (λ v. new_vpe) s) in
+    let fresh : (row (vpe_fresh d s) d.vpe).next_number ≡ 0 = ap (λ (x : VpeRow). x.next_number) (with_row-same d.vpe (λ v. new_vpe) s) in
+    let roots = roots-next d d.roots (vpe_fresh d s) in
     omega (arith, fresh, roots)
 
 vpe-other : (d : VpeDecl) (s : Side) (w : ℕ) → (w ≡ d.vpe → ⊥) → row (vpe_added d s) w ≡ row s w
-vpe-other d s w other = roots-other d d.roots (with_row d.vpe (λ v. new_vpe) s) w other ∙ with_row-other d.vpe (λ v. new_vpe) s w other
+vpe-other d s w other = roots-other d d.roots (vpe_fresh d s) w other ∙ with_row-other d.vpe (λ v. new_vpe) s w other
 
 vpes-other : (ds : List VpeDecl) (s : Side) (w : ℕ) → All (λ (x : VpeDecl). w < x.vpe) ds → row (in_turn vpe_added ds s) w ≡ row s w
 unfolding in_turn

@@ -13,7 +13,7 @@ use Rattle.sem_machine.specs.Sides.{Side, no_side, outbox, is_alive}
 use Rattle.sem_machine.specs.Steps.{Step}
 use Rattle.sem_machine.specs.Machine.{World, start, side, link, with_side, with_link, local_step, input_of, link_moved, after, entry_of, is_enabled}
 use Rattle.sem_machine.specs.Schedules.{IsRun, run, world_after}
-use Rattle.sem_machine.proofs.Puts.{get_or-put_same, get_or-put_other}
+use Rattle.sem_key.proofs.Puts.{get_or-put_same, get_or-put_other}
 use Rattle.sem_safety.proofs.Layers.{facts, InGrant, InCut}
 use Rattle.sem_safety.specs.Onward.{IsOnward, IsOnwardWorld}
 use Rattle.sem_safety.proofs.Onwards.{Any, AnyPlace, any_input, onward-same, onward-next, onward}

@@ -10,8 +10,8 @@ use Rattle.std.proofs.lemmas.Option.{same_Some}
 use Rattle.sem_key.specs.KeyName.{KeyName, key_eq}
 use Rattle.sem_machine.specs.Journals.{parent_in, line_in}
 use Rattle.sem_machine.specs.Safety.{IsLineage}
-use Rattle.sem_machine.proofs.KeyTests.{key_eq-same, key_eq-true}
-use Rattle.sem_machine.proofs.Members.{found, find_none, Contains-head, Contains-tail, Contains-nil, Contains-cons_cases, Contains-map}
+use Rattle.sem_key.proofs.KeyTests.{key_eq-same, key_eq-true}
+use Rattle.sem_key.proofs.Members.{found, find_none, Contains-head, Contains-tail, Contains-nil, Contains-cons_cases, Contains-map}
 use Rattle.sem_safety.specs.Growth.{grown, IsGrown, no_grants, granted_next}
 
 -- a parent is that of a grant

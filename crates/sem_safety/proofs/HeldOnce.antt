@@ -12,10 +12,10 @@ use Rattle.sem_machine.specs.Sides.{Side, no_side, cap}
 use Rattle.sem_machine.specs.Machine.{World, side}
 use Rattle.sem_machine.specs.Schedules.{IsSchedule, world_after}
 use Rattle.sem_machine.specs.Living.{HoldsCap}
-use Rattle.sem_machine.proofs.KeyTests.{key_eq-same, key_eq-true, key_eq-from}
-use Rattle.sem_machine.proofs.Members.{found}
+use Rattle.sem_key.proofs.KeyTests.{key_eq-same, key_eq-true, key_eq-from}
+use Rattle.sem_key.proofs.Members.{found}
 use Rattle.sem_safety.specs.Seen.{AreDistinct}
-use Rattle.sem_safety.proofs.Lives.{at_cap, at_side}
+use Rattle.sem_safety.proofs.Lives.{all_held, at_cap, at_side}
 use Rattle.sem_safety.proofs.LiveWorlds.{lives-once}
 use Rattle.sem_safety.proofs.SoundWorlds.{held-once}
 use Rattle.sem_safety.proofs.Weighing.{weigh-among}
@@ -35,11 +35,11 @@ weigh-two w d none (x ∷ xs) (suc i) zero apart = let all = sum_by-cons w x xs 
 weigh-two w d none (x ∷ xs) (suc i) (suc j) apart = let all = sum_by-cons w x xs in let rest = weigh-two w d none xs i j (λ same. apart (ap suc same)) in omega (arith, all, rest)
 
 -- what is held weighs
-held-weighs : (k : KeyName) (s : Side) (c : Capability) → cap s k ≡ Some c → 1 ≤ at_side k s
+held-weighs : (k : KeyName) (s : Side) (c : Capability) → cap s k ≡ Some c → 1 ≤ at_side k all_held s
 held-weighs k s c held =
     let there = found (λ x. key_eq x.key k) s.caps c held in
-    let one : at_cap k c ≡ 1 = cond-true (key_eq c.key k) 1 0 there.1 in
-    let among = weigh-among (at_cap k) s.caps c there.0 in
+    let one : at_cap k all_held c ≡ 1 = cond-true (key_eq c.key k) 1 0 there.1 in
+    let among = weigh-among (at_cap k all_held) s.caps c there.0 in
     omega (arith, one, among)
 
 pub one-kernel : (T : Setup) → IsSetup T → (J : List Entry) → IsSchedule T J → (i j : ℕ) (k : KeyName) (c d : Capability) → HoldsCap (world_after T J) i k c → HoldsCap (world_after T J) j k d → i ≡ j
@@ -47,10 +47,10 @@ one-kernel T valid J runs i j k c d first second = elim (cases_eq i j) [
   | inl same ↦ same
   | inr apart ↦
       let W : World = world_after T J in
-      let once = lives-once k T valid J runs in
+      let once = lives-once k all_held T valid J runs in
       let one = held-weighs k (side W i) c first in
       let two = held-weighs k (side W j) d second in
-      let both = weigh-two (at_side k) no_side refl W.sides i j apart in
+      let both = weigh-two (at_side k all_held) no_side refl W.sides i j apart in
       absurd (omega (arith, once, one, two, both))
 ]
 
@@ -60,16 +60,16 @@ keys-distinct T valid J runs i = λ a b d before within. elim (cases_Bool (key_e
   | inl same ↦ absurd (twice (side (world_after T J) i).caps a b d before within same (λ k. held-once k T valid J runs i))
 ]
   where
-    twice : (cs : List Capability) (a b : ℕ) (d : Capability) → a < b → b < length cs → key_eq (get_or cs a d).key (get_or cs b d).key ≡ true → ((k : KeyName) → sum_by (at_cap k) cs ≤ 1) → ⊥
+    twice : (cs : List Capability) (a b : ℕ) (d : Capability) → a < b → b < length cs → key_eq (get_or cs a d).key (get_or cs b d).key ≡ true → ((k : KeyName) → sum_by (at_cap k all_held) cs ≤ 1) → ⊥
     twice [] a b d before within same once = omega (arith, within)
     twice (c ∷ cs) zero zero d before within same once = omega (arith, before)
     twice (c ∷ cs) (suc a) zero d before within same once = omega (arith, before)
     twice (c ∷ cs) zero (suc b) d before within same once =
         let k : KeyName = c.key in
-        let all = sum_by-cons (at_cap k) c cs in
-        let one : at_cap k c ≡ 1 = cond-true (key_eq c.key k) 1 0 (key_eq-same k) in
-        let two : at_cap k (get_or cs b d) ≡ 1 = cond-true (key_eq (get_or cs b d).key k) 1 0 (key_eq-from (get_or cs b d).key k (sym (key_eq-true c.key (get_or cs b d).key same))) in
-        let among = weigh-among (at_cap k) cs (get_or cs b d) (Contains-get_or cs b d (omega (arith, within))) in
+        let all = sum_by-cons (at_cap k all_held) c cs in
+        let one : at_cap k all_held c ≡ 1 = cond-true (key_eq c.key k) 1 0 (key_eq-same k) in
+        let two : at_cap k all_held (get_or cs b d) ≡ 1 = cond-true (key_eq (get_or cs b d).key k) 1 0 (key_eq-from (get_or cs b d).key k (sym (key_eq-true c.key (get_or cs b d).key same))) in
+        let among = weigh-among (at_cap k all_held) cs (get_or cs b d) (Contains-get_or cs b d (omega (arith, within))) in
         let most = once k in
         omega (arith, all, one, two, among, most)
-    twice (c ∷ cs) (suc a) (suc b) d before within same once = twice cs a b d (omega (arith, before)) (omega (arith, within)) same (λ k. let all = sum_by-cons (at_cap k) c cs in let most = once k in omega (arith, all, most))
+    twice (c ∷ cs) (suc a) (suc b) d before within same once = twice cs a b d (omega (arith, before)) (omega (arith, within)) same (λ k. let all = sum_by-cons (at_cap k all_held) c cs in let most = once k in omega (arith, all, most))

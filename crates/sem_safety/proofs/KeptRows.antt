@@ -1,6 +1,6 @@
 -- Calls and the ends of VPEs keep a layer.
 use Rattle.std.proofs.lemmas.Bool.{eqb-true}
-use Rattle.sem_machine.proofs.Members.{Contains-from_filter}
+use Rattle.sem_key.proofs.Members.{Contains-from_filter}
 use Rattle.std.proofs.Common.{true, is_some, sym, ◌∙◌, ap, if◌then◌else◌, refl, ◌≡◌, ℕ, ◌<◌, ◌≤◌, ◌++◌, Bool, false, List, [], ◌∷◌, Option, Some, None, arith}
 use Rattle.std.specs.Prelude.{◌==◌}
 use Rattle.std.specs.Option.{option_map_or}
@@ -13,7 +13,7 @@ use Rattle.sem_key.specs.PlaceName.{PlaceName}
 use Rattle.sem_key.specs.Lists.{in_turn}
 use Rattle.sem_key.specs.Capability.{Capability}
 use Rattle.sem_msg.specs.declared.call.Call.{Call}
-use Rattle.sem_msg.specs.declared.call.Call.TheVariants.{Derive, Gate, Obtain, Delegate, OpenSession, AskOffer, Revoke, Bind, Read, Write, Send as SendCall, Credit, Exit}
+use Rattle.sem_msg.specs.declared.call.Call.TheVariants.{Derive, Gate, Obtain, Delegate, OpenSession, AskOffer, Revoke, Bind, Read, Write, Send as SendCall, Credit, Exit, Clear}
 use Rattle.sem_msg.specs.declared.message.Target.{Target}
 use Rattle.sem_msg.specs.declared.message.Target.TheVariants.{Sel as SelTarget, Serv as ServTarget, Offer as OfferTarget}
 use Rattle.sem_msg.specs.declared.message.Message.TheVariants.{ObtainReq, ObtainNo, DelegateReq, DelegateNo, Ack, Orphan}
@@ -26,33 +26,35 @@ use Rattle.sem_msg.specs.declared.state.Slot.{Slot}
 use Rattle.sem_msg.specs.declared.state.Slot.TheVariants.{Free, Held, Promised}
 use Rattle.sem_msg.specs.Setup.{Setup}
 use Rattle.sem_msg.specs.Lookups.{kernel_of, owner_of, place_owner, service_named}
-use Rattle.sem_machine.specs.Codes.{NoCap, NoService, BadKind, Dead}
+use Rattle.sem_msg.specs.declared.code.Code.{Code}
+use Rattle.sem_msg.specs.Codes.{code_number}
+use Rattle.sem_msg.specs.declared.code.Code.TheVariants.{NoCap, NoService, BadKind, Dead}
 use Rattle.sem_machine.specs.Sides.{is_marked, Side, row, cap, cap_in, own, slot, endpoint, parked, drawn, promised, parked_as, unparked, asked, buried, linked, send}
 use Rattle.sem_machine.specs.Steps.{Step, answer, unless}
 use Rattle.sem_machine.specs.Asks.{target_vpe, asker, is_unawaited, promise_freed, call_refused, refusal_sent, ask_refused}
 use Rattle.sem_machine.specs.Revokes.{begin}
-use Rattle.sem_machine.specs.Endpoints.{memory_tests, send_tests, credit_tests}
+use Rattle.sem_msg.specs.Uses.{memory_tests, send_tests, credit_tests}
 use Rattle.sem_machine.specs.Ends.{ask_ended, call_ended, revoked_if_left, ended}
-use Rattle.sem_machine.specs.Calls.{next_key, next_place, child_made, with_held, derive_tests, narrowed, gate_tests, ask_made, obtain_tests, open_tests, offer_tests, delegate_tests, offer_made, bind_tests, call_row}
+use Rattle.sem_machine.specs.Calls.{own_tests, next_key, next_place, child_made, with_held, derive_tests, narrowed, gate_tests, ask_made, obtain_tests, open_tests, offer_tests, delegate_tests, offer_made, bind_tests, call_row}
 use Rattle.sem_safety.proofs.Layers.{InGrant}
 use Rattle.sem_safety.specs.Onward.{IsOnward}
 use Rattle.sem_safety.proofs.Onwards.{onward-same, onward, drawn-below}
 use Rattle.sem_safety.proofs.Layers.{Facts, InCut, IsKept, in_turn-keeps, in_turn-keeps_each}
-use Rattle.sem_safety.proofs.KeptRevokes.{option-keeps, installed-in, freed-in, ready-in, begin-in, begun-in}
+use Rattle.sem_safety.proofs.KeptRevokes.{option-keeps, installed-in, freed-in, ready-in, begin-in, begun-in, cleared-in}
 
 -- what is so of each refusal and of the step that is done is so of the row
-pub unless-keeps : (P : Step → Type 0) (tests : List (Bool × ℕ)) (refuse : ℕ → Step) (done : Step) → ((code : ℕ) → P (refuse code)) → P done → P (unless tests refuse done)
+pub unless-keeps : (P : Step → Type 0) (tests : List (Bool × Code)) (refuse : Code → Step) (done : Step) → ((code : Code) → P (refuse code)) → P done → P (unless tests refuse done)
 unfolding unless
 unless-keeps P [] refuse done each here = here
 unless-keeps P (test ∷ tests) refuse done each here = cond_both test.0 (refuse test.1) (unless tests refuse done) P (λ _. each test.1) (λ _. unless-keeps P tests refuse done each here)
 
 -- no test holds
-abbrev pub Passed : List (Bool × ℕ) → Type 0
+abbrev pub Passed : List (Bool × Code) → Type 0
 Passed [] = Unit {0}
 Passed (test ∷ tests) = (test.0 ≡ false) × Passed tests
 
 -- and of the step that is done it may be known that no test held
-pub unless-passed : (P : Step → Type 0) (tests : List (Bool × ℕ)) (refuse : ℕ → Step) (done : Step) → ((code : ℕ) → P (refuse code)) → (Passed tests → P done) → P (unless tests refuse done)
+pub unless-passed : (P : Step → Type 0) (tests : List (Bool × Code)) (refuse : Code → Step) (done : Step) → ((code : Code) → P (refuse code)) → (Passed tests → P done) → P (unless tests refuse done)
 unfolding unless
 unless-passed P [] refuse done each here = here tt
 unless-passed P (test ∷ tests) refuse done each here = from test.0 refl (unless-passed P tests refuse done each)
@@ -93,38 +95,38 @@ module _ (F : Facts) (D : ℕ → Type 0) (P : Side → Type 0) (L : IsKept F P)
   promise_freed-in (Some (RevokeWait j)) v s is = is
   promise_freed-in (Some (Ready code)) v s is = is
 
-  pub call_refused-in : (code v : ℕ) (s : Side) → P s → P (call_refused code v s)
-  call_refused-in code v s is = ready-in F P L (promise_freed (parked s v) v s) (promise_freed-in (parked s v) v s is) code v
+  pub call_refused-in : (number v : ℕ) (s : Side) → P s → P (call_refused number v s)
+  call_refused-in number v s is = ready-in F P L (promise_freed (parked s v) v s) (promise_freed-in (parked s v) v s is) number v
 
-  refusal_sent-in : (T : Setup) (code : ℕ) (a : Ask) (s : Side) → P s → P (refusal_sent T code a s)
-  refusal_sent-in T code (ObtainAsk place target) s is = L.keeps_send s is (place_owner T place) (ObtainNo place code) tt
-  refusal_sent-in T code (DelegateAsk parent object sel) s is = L.keeps_send s is (owner_of T parent) (DelegateNo parent code) tt
+  refusal_sent-in : (T : Setup) (code : Code) (a : Ask) (s : Side) → P s → P (refusal_sent T code a s)
+  refusal_sent-in T code (ObtainAsk place target) s is = L.keeps_send s is (place_owner T place) (ObtainNo place (code_number code)) tt
+  refusal_sent-in T code (DelegateAsk parent object sel) s is = L.keeps_send s is (owner_of T parent) (DelegateNo parent (code_number code)) tt
 
-  pub ask_refused-in : (T : Setup) (i code : ℕ) (a : Ask) (s : Side) → P s → P (ask_refused T i code a s)
-  ask_refused-in T i code a s is = cond_both (kernel_of T (asker a) == i) (call_refused code (asker a) s) (refusal_sent T code a s) P (λ _. call_refused-in code (asker a) s is) (λ _. refusal_sent-in T code a s is)
+  pub ask_refused-in : (T : Setup) (i : ℕ) (code : Code) (a : Ask) (s : Side) → P s → P (ask_refused T i code a s)
+  ask_refused-in T i code a s is = cond_both (kernel_of T (asker a) == i) (call_refused (code_number code) (asker a) s) (refusal_sent T code a s) P (λ _. call_refused-in (code_number code) (asker a) s is) (λ _. refusal_sent-in T code a s is)
 
   -- The end of a VPE.
-  ask_ended-in : (T : Setup) (i : ℕ) (a : Ask) (s : Side) → P s → P (ask_ended T i a s)
+  pub ask_ended-in : (T : Setup) (i : ℕ) (a : Ask) (s : Side) → P s → P (ask_ended T i a s)
   ask_ended-in T i a s is = cond_both (is_unawaited T i s a) s (ask_refused T i Dead a s) P (λ _. is) (λ _. ask_refused-in T i Dead a s is)
 
-  call_ended-in : (T : Setup) (p : Option Parked) (v : ℕ) (s : Side) → P s → P (call_ended T p v s)
+  pub call_ended-in : (T : Setup) (p : Option Parked) (v : ℕ) (s : Side) → P s → P (call_ended T p v s)
   call_ended-in T None v s is = is
   call_ended-in T (Some (ObtainWait number sel)) v s is = is
   call_ended-in T (Some (ObtainReady key parent object sel)) v s is = L.keeps_send s is (owner_of T parent) (Orphan parent key) tt
   call_ended-in T (Some ObtainCancelled) v s is = is
   call_ended-in T (Some (DelegateWait parent)) v s is = is
   call_ended-in T (Some (DelegateReady parent key)) v s is = L.keeps_send s is (owner_of T key) (Ack key false) tt
-  call_ended-in T (Some (RevokeWait j)) v s is = L.keeps_unwaited s is v
+  call_ended-in T (Some (RevokeWait j)) v s is = L.keeps_left s is j v
   call_ended-in T (Some (Ready code)) v s is = is
 
   -- the capability, revoked if it is there and not marked
   abbrev revoked_if_there : Setup → ℕ → KeyName → Option Capability → Side → Side
   revoked_if_there T i k None s = s
-  revoked_if_there T i k (Some c) s = option_map_or (λ m. s) c.mark (begin T i k None [] s)
+  revoked_if_there T i k (Some c) s = option_map_or (λ m. s) c.mark (begin T i k None [] false s)
 
-  revoked_if_there-in : (T : Setup) (i : ℕ) (k : KeyName) (o : Option Capability) (s : Side) → P s → F.doomed k → P (revoked_if_there T i k o s)
+  pub revoked_if_there-in : (T : Setup) (i : ℕ) (k : KeyName) (o : Option Capability) (s : Side) → P s → F.doomed k → P (revoked_if_there T i k o s)
   revoked_if_there-in T i k None s is doomed = is
-  revoked_if_there-in T i k (Some c) s is doomed = option-keeps P (λ (m : ℕ). s) c.mark (begin T i k None [] s) (λ m marked. is) (begin-in F P L T i k None [] s is doomed)
+  revoked_if_there-in T i k (Some c) s is doomed = option-keeps P (λ (m : ℕ). s) c.mark (begin T i k None [] false s) (λ m marked. is) (begin-in F P L T i k None [] false s is doomed)
 
   pub ended-in : (T : Setup) (i v : ℕ) (s : Side) → P s → ((k : KeyName) → k.vpe ≡ v → F.doomed k) → P (ended T i v s)
   unfolding ended
@@ -182,4 +184,5 @@ module _ (F : Facts) (D : ℕ → Type 0) (P : Side → Type 0) (L : IsKept F P)
   call_row-keeps T i s v (Write ep off len) may is dies caps = unless-keeps (Keeps s) (memory_tests 2 off len (endpoint s v ep)) _ _ (λ code _. is) (λ _. is)
   call_row-keeps T i s v (SendCall ep len) may is dies caps = unless-keeps (Keeps s) (send_tests (endpoint s v ep)) _ _ (λ code _. is) (λ _. L.keeps_rung s is v ep (λ ring. ring ++ len ∷ []))
   call_row-keeps T i s v (Credit ep) may is dies caps = unless-keeps (Keeps s) (credit_tests (endpoint s v ep)) _ _ (λ code _. is) (λ _. L.keeps_rung s is v ep _)
+  call_row-keeps T i s v (Clear src) may is dies caps = unless-keeps (Keeps s) (own_tests (own s v src)) _ _ (λ code _. is) (with_held-keeps (own s v src) _ s is (λ c held hand. cleared-in F P L T i v c.key s is hand.2))
   call_row-keeps T i s v Exit may is dies caps = λ _. ended-in T i v s is (dies refl)

@@ -21,7 +21,8 @@ use Rattle.sem_msg.specs.declared.state.Pending.{Pending}
 use Rattle.sem_msg.specs.declared.state.Slot.TheVariants.{Promised}
 use Rattle.sem_msg.specs.Setup.{Setup}
 use Rattle.sem_msg.specs.Lookups.{kernel_of, owner_of, place_owner, denies}
-use Rattle.sem_machine.specs.Codes.{Done, Dead, Refused}
+use Rattle.sem_msg.specs.Codes.{code_number}
+use Rattle.sem_msg.specs.declared.code.Code.TheVariants.{Ok as OkCode, Dead, Refused}
 use Rattle.sem_machine.specs.Sides.{Side, row, cap, parked, pending, is_alive, drawn, promised, parked_as, unparked, asked, ask_taken, call_counted, linked, installed, pending_added, pending_removed, send, with_inbox}
 use Rattle.sem_machine.specs.Steps.{plain}
 use Rattle.sem_machine.specs.Asks.{target_vpe, asker, is_unawaited, ask_refused, call_refused}
@@ -69,7 +70,7 @@ Dies F T s (Kill v) = (k : KeyName) → k.vpe ≡ v → F.doomed k
 module _ (F : Facts) (D : ℕ → Type 0) (P : Side → Type 0) (L : IsKept F P) where
   -- Upcalls.
   pub given_here-in : (k p : KeyName) (object : Object) (state : Option Parked) (s : Side) → P s → F.key k → P (given_here k p object state s)
-  given_here-in k p object (Some (ObtainWait number sel)) s is here = ready-in F P L (installed k (Some p) sel object s) (installed-in F P L s is k (Some p) sel object here) Done k.vpe
+  given_here-in k p object (Some (ObtainWait number sel)) s is here = ready-in F P L (installed k (Some p) sel object s) (installed-in F P L s is k (Some p) sel object here) (code_number OkCode) k.vpe
   given_here-in k p object None s is here = is
   given_here-in k p object (Some (ObtainReady key parent object' sel)) s is here = is
   given_here-in k p object (Some ObtainCancelled) s is here = is
@@ -95,7 +96,7 @@ module _ (F : Facts) (D : ℕ → Type 0) (P : Side → Type 0) (L : IsKept F P)
       let here = hand.0.0 in
       let k : KeyName = next_key T s v parent.kind in
       let linking : Side = linked parent k (drawn v s) in
-      ready-in F P L (installed k (Some parent) sel object linking) (installed-in F P L linking (L.keeps_linked (drawn v s) (L.keeps_drawn s is v) parent k hand.0.1) k (Some parent) sel object here) Done parent.vpe
+      ready-in F P L (installed k (Some parent) sel object linking) (installed-in F P L linking (L.keeps_linked (drawn v s) (L.keeps_drawn s is v) parent k hand.0.1) k (Some parent) sel object here) (code_number OkCode) parent.vpe
 
   delegate_prepared-keeps : (T : Setup) (v : ℕ) (parent : KeyName) (object : Object) (sel : ℕ) (s : Side) → D v → P s → Keeps F D P L s (delegate_prepared T v parent object sel s)
   delegate_prepared-keeps T v parent object sel s may is = λ hand.
@@ -169,7 +170,7 @@ module _ (F : Facts) (D : ℕ → Type 0) (P : Side → Type 0) (L : IsKept F P)
   delegate_resumed-keeps T parent key (Some c) s is = granted-keeps T parent key c.mark s is
 
   resumed-keeps : (T : Setup) (p : Option Parked) (s : Side) → P s → Awaits F p → Keeps F D P L s (resumed T p s)
-  resumed-keeps T (Some (Ready code)) s is here = λ _. is
+  resumed-keeps T (Some (Ready number)) s is here = λ _. is
   resumed-keeps T (Some (ObtainReady key parent object sel)) s is here = λ _. installed-in F P L s is key (Some parent) sel object here
   resumed-keeps T (Some ObtainCancelled) s is here = λ _. is
   resumed-keeps T (Some (DelegateReady parent key)) s is here = delegate_resumed-keeps T parent key (cap s parent) s is

@@ -1,11 +1,12 @@
 -- A layer: what is so of a side, together with what is so of the keys that the side carries, and that each named change keeps it. The rows of the machine are composed of these changes, so each row keeps every layer.
 use Rattle.std.specs.List.{Contains}
-use Rattle.sem_machine.specs.Revokes.{has_key}
-use Rattle.sem_machine.proofs.Members.{Contains-head, Contains-tail}
-use Rattle.std.proofs.Common.{◌≡◌, ℕ, true, false, List, [], ◌∷◌, Option, Some, None, slice_get}
+use Rattle.sem_key.specs.Region.{has_key}
+use Rattle.sem_key.proofs.Members.{Contains-head, Contains-tail}
+use Rattle.std.proofs.Common.{◌≡◌, ℕ, Bool, true, false, List, [], ◌∷◌, Option, Some, None, slice_get}
 use Rattle.sem_key.specs.KeyName.{KeyName}
 use Rattle.sem_key.specs.Lists.{in_turn}
 use Rattle.sem_key.specs.Capability.{Capability}
+use Rattle.sem_key.specs.CapList.{restored}
 use Rattle.sem_msg.specs.declared.message.Message.{Message}
 use Rattle.sem_msg.specs.declared.message.Message.TheVariants.{ObtainReq, ObtainOk, ObtainNo, DelegateReq, DelegatePrepared, DelegateNo, Ack, Orphan, RevokeReq, RevokeDone, Unlink}
 use Rattle.sem_msg.specs.declared.state.Ask.{Ask}
@@ -18,7 +19,7 @@ use Rattle.sem_msg.specs.declared.state.Slot.TheVariants.{Free, Held, Promised}
 use Rattle.sem_msg.specs.declared.state.Up.{Up}
 use Rattle.sem_msg.specs.Rows.{Endpoint, JobRow}
 use Rattle.sem_machine.specs.Sides.{Side, own, row, cap, parked, call_counted, drawn, with_slot, parked_as, unparked, asked, ask_taken, buried, with_endpoint, unbind_all, cap_added, linked, unlinked, mark_all, caps_removed, pending_added, pending_removed, job_opened, job_changed, job_removed, send, sent, with_inbox}
-use Rattle.sem_machine.specs.Revokes.{waiter_removed}
+use Rattle.sem_machine.specs.Revokes.{waiter_left}
 use Rattle.sem_machine.specs.Endpoints.{with_ring}
 
 -- What is so of the keys that are in use or come to be, of the numbers that a VPE has drawn for keys that are not in use yet, of a parent that leads to a child, and of keys that a job may mark.
@@ -123,13 +124,14 @@ pub record IsKept (F : Facts) (P : Side → Type 0) : Type 0 where
   pub keeps_linked : (s : Side) → P s → (p k : KeyName) → F.link p k → P (linked p k s)
   pub keeps_unlinked : (s : Side) → P s → (p k : KeyName) → P (unlinked p k s)
   pub keeps_marked : (s : Side) → P s → (ks : List KeyName) (j : ℕ) → ((k : KeyName) → has_key ks k ≡ true → F.doomed k) → P (unbind_all ks (mark_all ks j s))
+  pub keeps_restored : (s : Side) → P s → (k : KeyName) → P (record s { caps = restored s.caps k })
   pub keeps_removed : (s : Side) → P s → (j : ℕ) → P (caps_removed j s)
   -- pending delegations and jobs
   pub keeps_pending_added : (s : Side) → P s → (p : Pending) → P (pending_added p s)
   pub keeps_pending_removed : (s : Side) → P s → (k : KeyName) → P (pending_removed k s)
-  pub keeps_opened : (s : Side) → P s → (root : KeyName) (up : Option Up) (waiters : List ℕ) → P (job_opened root up waiters s)
-  pub keeps_changed : (s : Side) → P s → (j : ℕ) (f : JobRow → JobRow) → P (job_changed j f s)
-  pub keeps_unwaited : (s : Side) → P s → (v : ℕ) → P (waiter_removed v s)
+  pub keeps_opened : (s : Side) → P s → (root : KeyName) (up : Option Up) (waiters : List ℕ) (keep : Bool) → P (job_opened root up waiters keep s)
+  pub keeps_changed : (s : Side) → P s → (j : ℕ) (f : JobRow → JobRow) → ((x : JobRow) → ((f x).id ≡ x.id) × ((f x).root ≡ x.root)) → P (job_changed j f s)
+  pub keeps_left : (s : Side) → P s → (j v : ℕ) → P (waiter_left j v s)
   pub keeps_closed : (s : Side) → P s → (j : ℕ) → P (job_removed j s)
   -- messages
   pub keeps_send : (s : Side) → P s → (j : ℕ) (m : Message) → Brings F m → P (send j m s)

@@ -3,7 +3,6 @@ pub mod Worlds
 pub mod Noted
 pub mod GrownLines
 pub mod Counted
-pub mod KeySets
 pub mod Doomed
 pub mod Layers
 pub mod Onwards

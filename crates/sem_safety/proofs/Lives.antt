@@ -1,9 +1,8 @@
 -- The places in which a key is live: held capabilities, an ObtainOk or an accepting Ack in flight, and calls that are ready to install it.
 -- Each change of a side adds no such place but those that it is handed.
-use Rattle.std.proofs.Common.{◌≡◌, ℕ, ◌+◌, ◌≤◌, Bool, true, false, not, List, [], ◌∷◌, ◌++◌, length, map, drop, Option, Some, None, slice_get, refl, ap, arith}
-use Rattle.std.specs.Prelude.{nat_lt, if◌then◌else◌}
+use Rattle.std.proofs.Common.{◌≡◌, ℕ, ◌+◌, ◌≤◌, Bool, true, false, not, List, [], ◌∷◌, ◌++◌, drop, Option, Some, None, is_some, slice_get, refl, arith}
+use Rattle.std.specs.Prelude.{if◌then◌else◌}
 use Rattle.std.specs.List.{filter, sum_by, list_any}
-use Rattle.std.specs.Option.{option_map}
 use Rattle.std.proofs.lemmas.Bool.{cond_both}
 use Rattle.std.proofs.lemmas.List.Sums.{sum_by-cons, sum_by-append, sum_by_push}
 use Rattle.sem_key.specs.KeyName.{KeyName, key_eq, key_lt}
@@ -15,21 +14,22 @@ use Rattle.sem_msg.specs.declared.message.Message.{Message}
 use Rattle.sem_msg.specs.declared.message.Message.TheVariants.{ObtainReq, ObtainOk, ObtainNo, DelegateReq, DelegatePrepared, DelegateNo, Ack, Orphan, RevokeReq, RevokeDone, Unlink}
 use Rattle.sem_msg.specs.declared.state.Parked.{Parked}
 use Rattle.sem_msg.specs.declared.state.Parked.TheVariants.{ObtainWait, ObtainReady, ObtainCancelled, DelegateWait, DelegateReady, RevokeWait, Ready}
-use Rattle.sem_msg.specs.declared.state.Slot.TheVariants.{Free}
-use Rattle.sem_msg.specs.Rows.{Endpoint, VpeRow, no_vpe}
-use Rattle.sem_msg.specs.EndpointRows.{unbound_from}
-use Rattle.sem_machine.specs.Sides.{Side, row, endpoint, outbox, cap_added, send, sent, parked_as, unparked, with_inbox}
+use Rattle.sem_machine.specs.Sides.{Side, outbox, cap_added, send, sent, parked_as, unparked, with_inbox, parked}
 use Rattle.sem_safety.proofs.Layers.{Facts, facts, Brings, BringsFrom, Awaits, IsKept}
 use Rattle.sem_safety.proofs.Onwards.{AnyPlace}
 use Rattle.sem_safety.proofs.Weighing.{of_option, weigh-put, weigh-drop, weigh-map, weigh-parts, weigh-filter}
+
+-- all held capabilities, and those with a parent
+abbrev pub all_held : Option KeyName → Bool
+all_held p = true
+
+abbrev pub with_parent : Option KeyName → Bool
+with_parent p = is_some p
 
 module _ (k0 : KeyName) where
   -- one, if it is that key
   abbrev pub at_key : KeyName → ℕ
   at_key k = if key_eq k k0 then 1 else 0
-
-  abbrev pub at_cap : Capability → ℕ
-  at_cap c = at_key c.key
 
   abbrev pub at_message : Message → ℕ
   at_message (ObtainReq place target) = 0
@@ -55,18 +55,12 @@ module _ (k0 : KeyName) where
   at_parked (Some (RevokeWait job)) = 0
   at_parked (Some (Ready code)) = 0
 
-  abbrev pub at_row : VpeRow → ℕ
-  at_row r = at_parked r.parked
-
   abbrev pub at_inbox : Option (ℕ × Message) → ℕ
   at_inbox None = 0
   at_inbox (Some m) = at_message m.1
 
   abbrev pub at_messages : List Message → ℕ
   at_messages ms = sum_by at_message ms
-
-  abbrev pub at_side : Side → ℕ
-  at_side s = sum_by at_cap s.caps + (sum_by at_row s.vpes + (at_inbox s.inbox + sum_by at_messages s.outs))
 
   abbrev pub at_grant : Option (KeyName × KeyName) → ℕ
   at_grant None = 0
@@ -107,79 +101,87 @@ module _ (k0 : KeyName) where
   parked-none (Some (RevokeWait job)) here = refl
   parked-none (Some (Ready code)) here = refl
 
-  -- Rows.
+-- counts tells which held capabilities are counted, by their parents
+module _ (k0 : KeyName) (counts : Option KeyName → Bool) where
+  abbrev pub at_cap : Capability → ℕ
+  at_cap c = if counts c.parent then at_key k0 c.key else 0
 
-  pub lives-row : (s : Side) (v : ℕ) (r : VpeRow) → at_side (record s { vpes = put no_vpe s.vpes v r }) + at_row (row s v) ≡ at_side s + at_row r
-  lives-row s v r = let rows = weigh-put at_row no_vpe refl s.vpes v r in omega (arith, rows)
+  abbrev pub at_side : Side → ℕ
+  at_side s = sum_by at_cap s.caps + (sum_by (at_parked k0) s.parks + (at_inbox k0 s.inbox + sum_by (at_messages k0) s.outs))
 
-  -- the parked call stays
-  pub lives-same : (s : Side) (v : ℕ) (r : VpeRow) → r.parked ≡ (row s v).parked → at_side (record s { vpes = put no_vpe s.vpes v r }) ≤ at_side s
-  lives-same s v r same = let rows = lives-row s v r in let weight = ap at_parked same in omega (arith, rows, weight)
+  pub cap-less : (c : Capability) → at_cap c ≤ at_key k0 c.key
+  cap-less c = cond_both (counts c.parent) (at_key k0 c.key) 0 (λ n. n ≤ at_key k0 c.key) (λ _. omega arith) (λ _. omega arith)
 
-  pub lives-parked : (s : Side) (v : ℕ) (p : Parked) → at_side (parked_as v p s) ≤ at_side s + at_parked (Some p)
-  lives-parked s v p = let rows = lives-row s v (record (row s v) { parked = Some p }) in omega (arith, rows)
+  -- Parked calls.
 
-  pub lives-unparked : (s : Side) (v : ℕ) → at_side (unparked v s) + at_parked (row s v).parked ≡ at_side s
-  lives-unparked s v = let rows = lives-row s v (record (row s v) { parked = None }) in omega (arith, rows)
+  pub lives-park : (s : Side) (v : ℕ) (p : Option Parked) → at_side (record s { parks = put None s.parks v p }) + (at_parked k0) (parked s v) ≡ at_side s + (at_parked k0) p
+  lives-park s v p = let calls = weigh-put (at_parked k0) None refl s.parks v p in omega (arith, calls)
+
+  pub lives-parked : (s : Side) (v : ℕ) (p : Parked) → at_side (parked_as v p s) ≤ at_side s + (at_parked k0) (Some p)
+  lives-parked s v p = let calls = lives-park s v (Some p) in omega (arith, calls)
+
+  pub lives-unparked : (s : Side) (v : ℕ) → at_side (unparked v s) + (at_parked k0) (parked s v) ≡ at_side s
+  lives-unparked s v = let calls = lives-park s v None in omega (arith, calls)
 
   -- Capabilities.
 
-  pub lives-added : (s : Side) (c : Capability) → at_side (cap_added c s) ≡ at_side s + at_key c.key
+  pub lives-added : (s : Side) (c : Capability) → at_side (cap_added c s) ≡ at_side s + at_cap c
   lives-added s c =
       let parts = weigh-parts at_cap (λ x. key_lt x.key c.key) s.caps in
       let joined = sum_by-append at_cap (filter (λ x. key_lt x.key c.key) s.caps) (c ∷ filter (λ x. not (key_lt x.key c.key)) s.caps) in
       let first = sum_by-cons at_cap c (filter (λ x. not (key_lt x.key c.key)) s.caps) in
       omega (arith, parts, joined, first)
 
-  lives-changed : (s : Side) (test : Capability → Bool) (f : Capability → Capability) → ((c : Capability) → (f c).key ≡ c.key) → at_side (record s { caps = change test f s.caps }) ≡ at_side s
+  lives-changed : (s : Side) (test : Capability → Bool) (f : Capability → Capability) → ((c : Capability) → at_cap (f c) ≡ at_cap c) → at_side (record s { caps = change test f s.caps }) ≡ at_side s
   lives-changed s test f keeps =
-      let caps = weigh-map at_cap (λ x. if test x then f x else x) (λ x. cond_both (test x) (f x) x (λ y. at_cap y ≡ at_cap x) (λ _. ap at_key (keeps x)) (λ _. refl)) s.caps in
+      let caps = weigh-map at_cap (λ x. if test x then f x else x) (λ x. cond_both (test x) (f x) x (λ y. at_cap y ≡ at_cap x) (λ _. keeps x) (λ _. refl)) s.caps in
       omega (arith, caps)
 
   -- Messages.
 
-  pub lives-send : (s : Side) (j : ℕ) (m : Message) → at_side (send j m s) ≡ at_side s + at_message m
+  pub lives-send : (s : Side) (j : ℕ) (m : Message) → at_side (send j m s) ≡ at_side s + (at_message k0) m
   lives-send s j m =
-      let outs = weigh-put at_messages [] refl s.outs j (outbox s j ++ m ∷ []) in
-      let push = sum_by_push at_message (outbox s j) m in
+      let outs = weigh-put (at_messages k0) [] refl s.outs j (outbox s j ++ m ∷ []) in
+      let push = sum_by_push (at_message k0) (outbox s j) m in
       omega (arith, outs, push)
 
-  pub lives-sent : (s : Side) (j : ℕ) → at_side (sent j s) + of_option at_message (slice_get (outbox s j) 0) ≡ at_side s
+  pub lives-sent : (s : Side) (j : ℕ) → at_side (sent j s) + of_option (at_message k0) (slice_get (outbox s j) 0) ≡ at_side s
   lives-sent s j =
-      let outs = weigh-put at_messages [] refl s.outs j (drop 1 (outbox s j)) in
-      let front = weigh-drop at_message (outbox s j) in
+      let outs = weigh-put (at_messages k0) [] refl s.outs j (drop 1 (outbox s j)) in
+      let front = weigh-drop (at_message k0) (outbox s j) in
       omega (arith, outs, front)
 
-  pub lives-inbox : (s : Side) (message : Option (ℕ × Message)) → at_side (with_inbox message s) + at_inbox s.inbox ≡ at_side s + at_inbox message
+  pub lives-inbox : (s : Side) (message : Option (ℕ × Message)) → at_side (with_inbox message s) + (at_inbox k0) s.inbox ≡ at_side s + (at_inbox k0) message
   lives-inbox s message = omega arith
 
   -- No change adds a place of this key, where all that it is handed is of others.
-  pub lives : (m : ℕ) → IsKept OtherKeys (λ s. at_side s ≤ m)
+  pub lives : (m : ℕ) → IsKept (OtherKeys k0) (λ s. at_side s ≤ m)
   lives m = record {
-    keeps_counted = λ s is v. let new = lives-same s v (record (row s v) { next_call = (row s v).next_call + 1 }) refl in omega (arith, is, new);
-    keeps_drawn = λ s is v. let new = lives-same s v (record (row s v) { next_number = (row s v).next_number + 1 }) refl in omega (arith, is, new);
-    keeps_slot = λ s is v sel state of_vpe. let new = lives-same s v (record (row s v) { slots = put Free (row s v).slots sel state }) refl in omega (arith, is, new);
-    keeps_parked = λ s is v p here. let new = lives-parked s v p in let none = parked-none (Some p) here in omega (arith, is, new, none);
+    keeps_counted = λ s is v. is;
+    keeps_drawn = λ s is v. is;
+    keeps_slot = λ s is v sel state of_vpe. is;
+    keeps_parked = λ s is v p here. let new = lives-parked s v p in let none = (parked-none k0) (Some p) here in omega (arith, is, new, none);
     keeps_unparked = λ s is v. let new = lives-unparked s v in omega (arith, is, new);
-    keeps_asked = λ s is v a here. let new = lives-same s v (record (row s v) { asks = if nat_lt (length (row s v).asks) 64 then (row s v).asks ++ a ∷ [] else (row s v).asks }) refl in omega (arith, is, new);
-    keeps_taken = λ s is v. let new = lives-same s v (record (row s v) { asks = drop 1 (row s v).asks }) refl in omega (arith, is, new);
-    keeps_buried = λ s is v. let new = lives-same s v (record (row s v) { alive = false; asks = [] }) refl in omega (arith, is, new);
-    keeps_bound = λ s is v ep src c held unmarked here. let new = lives-same s v (record (row s v) { endpoints = put None (row s v).endpoints ep (Some (record { key = c.key; object = c.object; ring = [] })) }) refl in omega (arith, is, new);
-    keeps_rung = λ s is v ep f. let new = lives-same s v (record (row s v) { endpoints = put None (row s v).endpoints ep (option_map {T = Endpoint} (λ x. record x { ring = f x.ring }) (endpoint s v ep)) }) refl in omega (arith, is, new);
-    keeps_added = λ s is c here childless unmarked. let new = lives-added s c in omega (arith, is, new, here);
+    keeps_asked = λ s is v a here. is;
+    keeps_taken = λ s is v. is;
+    keeps_buried = λ s is v. is;
+    keeps_bound = λ s is v ep src c held unmarked here. is;
+    keeps_rung = λ s is v ep f. is;
+    keeps_added = λ s is c here childless unmarked. let new = lives-added s c in let less = cap-less c in omega (arith, is, new, here, less);
     keeps_linked = λ s is p k here. let new = lives-changed s (λ c. key_eq c.key p) (λ c. record c { children = with_key c.children k }) (λ c. refl) in omega (arith, is, new);
     keeps_unlinked = λ s is p k. let new = lives-changed s (λ c. key_eq c.key p) (λ c. record c { children = without_key c.children k }) (λ c. refl) in omega (arith, is, new);
-    keeps_marked = λ s is ks j here. let new = lives-changed s (λ c. list_any (key_eq c.key) ks) (λ c. record c { mark = Some j }) (λ c. refl) in let rows = weigh-map at_row (λ (r : VpeRow). record r { endpoints = map {A = Option Endpoint} (unbound_from ks) r.endpoints }) (λ r. refl) s.vpes in omega (arith, is, new, rows);
+    keeps_marked = λ s is ks j here. let new = lives-changed s (λ c. list_any (key_eq c.key) ks) (λ c. record c { mark = Some j }) (λ c. refl) in omega (arith, is, new);
+    keeps_restored = λ s is k. let new = lives-changed s (λ c. key_eq c.key k) (λ c. record c { children = []; mark = None }) (λ c. refl) in omega (arith, is, new);
     keeps_removed = λ s is j. let new = weigh-filter at_cap (λ c. not (is_marked_by j c)) s.caps in omega (arith, is, new);
     keeps_pending_added = λ s is p. is;
     keeps_pending_removed = λ s is k. is;
-    keeps_opened = λ s is root up waiters. is;
-    keeps_changed = λ s is j f. is;
-    keeps_unwaited = λ s is v. is;
+    keeps_opened = λ s is root up waiters keep. is;
+    keeps_changed = λ s is j f same. is;
+    keeps_left = λ s is j v. is;
     keeps_closed = λ s is j. is;
-    keeps_send = λ s is j msg here. let new = lives-send s j msg in let none = message-none msg here in omega (arith, is, new, none);
+    keeps_send = λ s is j msg here. let new = lives-send s j msg in let none = (message-none k0) msg here in omega (arith, is, new, none);
     keeps_sent = λ s is j. let new = lives-sent s j in omega (arith, is, new);
-    keeps_inbox = λ s is message here. let new = lives-inbox s message in let none = inbox-none message here in omega (arith, is, new, none);
+    keeps_inbox = λ s is message here. let new = lives-inbox s message in let none = (inbox-none k0) message here in omega (arith, is, new, none);
     of_link = λ s is c among k child. tt;
     spreads = λ p k here doomed. tt;
   }

@@ -12,8 +12,8 @@ use Rattle.sem_machine.specs.Machine.{side, start}
 use Rattle.sem_machine.specs.Schedules.{IsSchedule, world_after}
 use Rattle.sem_machine.specs.Journals.{grants, root_keys, made, line, ends, has_ended}
 use Rattle.sem_machine.specs.Living.{InFlight}
-use Rattle.sem_machine.proofs.KeyTests.{key_eq-true}
-use Rattle.sem_machine.proofs.Members.{found, Contains-map, list_any-at}
+use Rattle.sem_key.proofs.KeyTests.{key_eq-true}
+use Rattle.sem_key.proofs.Members.{found, Contains-map, list_any-at}
 use Rattle.sem_safety.specs.Causes.{IsCut, HasCutAncestor}
 use Rattle.sem_safety.specs.Growth.{IsGrown}
 use Rattle.sem_safety.proofs.Carrying.{InCap, InWorld}

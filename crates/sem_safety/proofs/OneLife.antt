@@ -9,18 +9,18 @@ use Rattle.sem_key.specs.KeyName.{KeyName}
 use Rattle.sem_key.specs.Capability.{Capability}
 use Rattle.sem_msg.specs.declared.setup.Root.{Root}
 use Rattle.sem_msg.specs.declared.setup.VpeDecl.{VpeDecl}
-use Rattle.sem_msg.specs.declared.state.Slot.TheVariants.{Held}
 use Rattle.sem_msg.specs.declared.entry.Entry.{Entry}
 use Rattle.sem_msg.specs.declared.message.Message.{Message}
 use Rattle.sem_msg.specs.Rows.{no_vpe}
 use Rattle.sem_msg.specs.Setup.{Setup, IsSetup, root_key}
 use Rattle.sem_msg.specs.Lookups.{pe_owner, kernel_of}
-use Rattle.sem_machine.specs.Sides.{Side, row, with_slot, cap_added}
-use Rattle.sem_machine.specs.Machine.{World, side, start, start_side, empty_side, new_vpe, root_added, vpe_added, local_entry, after, entry_of}
+use Rattle.sem_machine.specs.Sides.{Side, row, cap_added}
+use Rattle.sem_msg.specs.VpeRows.{new_vpe, root_held}
+use Rattle.sem_machine.specs.Machine.{World, side, start, start_side, empty_side, root_added, vpe_added, local_entry, after, entry_of}
 use Rattle.sem_machine.specs.Schedules.{IsSchedule, world_after}
 use Rattle.sem_machine.specs.Journals.{grants, root_keys_from, root_keys, made}
 use Rattle.sem_machine.specs.Safety.{lineage, sound_grants}
-use Rattle.sem_machine.proofs.Members.{Contains-head, Contains-from_map}
+use Rattle.sem_key.proofs.Members.{Contains-head, Contains-from_map}
 use Rattle.sem_safety.specs.Growth.{IsGrown}
 use Rattle.sem_safety.specs.NewGrants.{AreNew}
 use Rattle.sem_safety.proofs.CarryingWorlds.{stepped, used-made}
@@ -31,7 +31,7 @@ use Rattle.sem_safety.proofs.Layers.{in_turn-keeps}
 use Rattle.sem_safety.proofs.NewGrants.{with_grant, without_grant, new-grown, new-sound}
 use Rattle.sem_safety.proofs.SettledWorlds.{few-grants}
 use Rattle.sem_safety.proofs.Weighing.{weigh-among, weigh-none, weigh-replicate}
-use Rattle.sem_safety.proofs.Tokens.{of_key, of_messages, of_row, of_side, side-lighter, weighed}
+use Rattle.sem_safety.proofs.Tokens.{of_key, of_messages, of_parked, of_row, of_side, side-lighter, weighed}
 use Rattle.sem_safety.proofs.TokenWorlds.{of_world, of_links, IsOnce, with_granted, event-once}
 
 AllPairs-first : {X : Type 0} (S : X → X → Type 0) (x : X) (xs : List X) → AllPairs S (x ∷ xs) → All (S x) xs × AllPairs S xs
@@ -123,7 +123,9 @@ module _ (v0 n0 : ℕ) where
       let k : KeyName = root_key d (row s d.vpe).next_number r in
       let c : Capability = record { key = k; parent = None; children = []; mark = None; selector = r.sel; object = r.object } in
       let added : Side = cap_added c s in
-      L.keeps_drawn (with_slot d.vpe r.sel (Held k) added) (L.keeps_slot added (L.keeps_added s is c tt refl refl) d.vpe r.sel (Held k) refl) d.vpe
+      let kept : None' added = L.keeps_added s is c tt refl refl in
+      let rooted = side-lighter v0 n0 added d.vpe (root_held d r (row s d.vpe)) (omega arith) in
+      omega (arith, kept, rooted)
 
   vpe-none : (d : VpeDecl) (s : Side) → None' s → None' (vpe_added d s)
   vpe-none d s is =
@@ -133,9 +135,10 @@ module _ (v0 n0 : ℕ) where
   side-none : (T : Setup) (i : ℕ) → of_side v0 n0 (start_side T i) ≡ 0
   unfolding start_side
   side-none T i =
-      let rows = weigh-replicate (of_row v0 n0) 64 no_vpe refl in
+      let rows = weigh-replicate (of_row v0 n0) 128 no_vpe refl in
+      let calls = weigh-replicate (of_parked v0 n0) 128 None refl in
       let outs = weigh-replicate (of_messages v0 n0) T.kernels [] refl in
-      let empty : None' (empty_side T) = omega (arith, rows, outs) in
+      let empty : None' (empty_side T) = omega (arith, rows, calls, outs) in
       let all = in_turn-keeps None' vpe_added vpe-none (filter (λ d. pe_owner T d.pe == i) T.vpes) (empty_side T) empty in
       omega (arith, all)
 

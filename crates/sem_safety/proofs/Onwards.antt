@@ -1,5 +1,5 @@
 -- What only goes on is a layer: numbers, ids and calls that are counted, and death.
-use Rattle.std.proofs.Common.{◌≡◌, ℕ, ◌+◌, ◌≤◌, ◌<◌, true, false, List, Option, Some, None, refl, sym, ◌∙◌, ap, subst, inl, inr, ◌⊎◌, arith}
+use Rattle.std.proofs.Common.{◌≡◌, ℕ, ◌+◌, ◌≤◌, ◌<◌, true, false, Option, Some, None, refl, sym, ◌∙◌, ap, subst, inl, inr, ◌⊎◌, arith}
 use Rattle.std.proofs.lemmas.Bool.{cases_eq}
 use Rattle.sem_key.specs.KeyName.{KeyName}
 use Rattle.sem_key.specs.Lists.{put}
@@ -10,10 +10,9 @@ use Rattle.sem_msg.specs.declared.state.Ask.TheVariants.{Obtain as ObtainAsk, De
 use Rattle.sem_msg.specs.declared.state.Parked.{Parked}
 use Rattle.sem_msg.specs.declared.state.Parked.TheVariants.{ObtainWait, ObtainReady, ObtainCancelled, DelegateWait, DelegateReady, RevokeWait, Ready}
 use Rattle.sem_msg.specs.Rows.{VpeRow, no_vpe}
-use Rattle.sem_machine.specs.Sides.{mark_all, drawn, Side, row, parked, unbind_all}
-use Rattle.sem_machine.proofs.Puts.{get_or-put_same, get_or-put_other}
+use Rattle.sem_machine.specs.Sides.{drawn, Side, row, parked}
+use Rattle.sem_key.proofs.Puts.{get_or-put_same, get_or-put_other}
 use Rattle.sem_safety.specs.Onward.{IsOnward}
-use Rattle.sem_safety.proofs.Updates.{seen-unbind_all}
 use Rattle.sem_safety.proofs.Layers.{facts, Brings, BringsIn, BringsFrom, Awaits, AsksFor, IsLayer}
 
 -- no fact about keys is needed
@@ -92,9 +91,6 @@ put-onward s v r here = by_rows s (record s { vpes = put no_vpe s.vpes v r }) (�
     by_place w (inl same) = subst (λ n. IsOnwardRow (row s n) (row (record s { vpes = put no_vpe s.vpes v r }) n)) (sym same) (subst (IsOnwardRow (row s v)) (sym (get_or-put_same no_vpe s.vpes v r)) here)
     by_place w (inr other) = subst (IsOnwardRow (row s w)) (sym (get_or-put_other no_vpe s.vpes v w r other)) (row-same (row s w))
 
-unbound-onward : (s : Side) (ks : List KeyName) → IsOnward s (unbind_all ks s)
-unbound-onward s ks = by_rows s (unbind_all ks s) (λ w. subst (IsOnwardRow (row s w)) (sym (ap (λ x. x.row w) (seen-unbind_all ks s))) (record { numbers = omega arith; calls = omega arith; dead = λ alive. alive })) (omega arith)
-
 module _ (z : Side) where
   -- another row
   kept_row : (s : Side) → IsOnward z s → (v : ℕ) (r : VpeRow) → IsOnwardRow (row s v) r → IsOnward z (record s { vpes = put no_vpe s.vpes v r })
@@ -110,23 +106,24 @@ module _ (z : Side) where
       keeps_counted = λ s is v. kept_row s is v _ (record { numbers = omega arith; calls = omega arith; dead = λ lives. lives });
       keeps_drawn = λ s is v. kept_row s is v _ (record { numbers = omega arith; calls = omega arith; dead = λ lives. lives });
       keeps_slot = λ s is v sel state of_vpe. kept_plain s is v _ refl refl refl;
-      keeps_parked = λ s is v p here. kept_plain s is v _ refl refl refl;
-      keeps_unparked = λ s is v. kept_plain s is v _ refl refl refl;
+      keeps_parked = λ s is v p here. record { numbers = is.numbers; calls = is.calls; dead = is.dead; ids = is.ids };
+      keeps_unparked = λ s is v. record { numbers = is.numbers; calls = is.calls; dead = is.dead; ids = is.ids };
       keeps_asked = λ s is v a here. kept_plain s is v _ refl refl refl;
       keeps_taken = λ s is v. kept_plain s is v _ refl refl refl;
       keeps_buried = λ s is v. kept_row s is v _ (record { numbers = omega arith; calls = omega arith; dead = λ lives. absurd cc });
-      keeps_bound = λ s is v ep src c held unmarked here. kept_plain s is v _ refl refl refl;
-      keeps_rung = λ s is v ep f. kept_plain s is v _ refl refl refl;
+      keeps_bound = λ s is v ep src c held unmarked here. record { numbers = is.numbers; calls = is.calls; dead = is.dead; ids = is.ids };
+      keeps_rung = λ s is v ep f. record { numbers = is.numbers; calls = is.calls; dead = is.dead; ids = is.ids };
       keeps_added = λ s is c here childless unmarked. record { numbers = is.numbers; calls = is.calls; dead = is.dead; ids = is.ids };
       keeps_linked = λ s is p k here. record { numbers = is.numbers; calls = is.calls; dead = is.dead; ids = is.ids };
       keeps_unlinked = λ s is p k. record { numbers = is.numbers; calls = is.calls; dead = is.dead; ids = is.ids };
-      keeps_marked = λ s is ks j here. onward-next z (mark_all ks j s) (unbind_all ks (mark_all ks j s)) (record { numbers = is.numbers; calls = is.calls; dead = is.dead; ids = is.ids }) (unbound-onward (mark_all ks j s) ks);
+      keeps_marked = λ s is ks j here. record { numbers = is.numbers; calls = is.calls; dead = is.dead; ids = is.ids };
+      keeps_restored = λ s is k. record { numbers = is.numbers; calls = is.calls; dead = is.dead; ids = is.ids };
       keeps_removed = λ s is j. record { numbers = is.numbers; calls = is.calls; dead = is.dead; ids = is.ids };
       keeps_pending_added = λ s is p. record { numbers = is.numbers; calls = is.calls; dead = is.dead; ids = is.ids };
       keeps_pending_removed = λ s is k. record { numbers = is.numbers; calls = is.calls; dead = is.dead; ids = is.ids };
-      keeps_opened = λ s is root up waiters. record { numbers = is.numbers; calls = is.calls; dead = is.dead; ids = let ids = is.ids in omega arith };
-      keeps_changed = λ s is j f. record { numbers = is.numbers; calls = is.calls; dead = is.dead; ids = is.ids };
-      keeps_unwaited = λ s is v. record { numbers = is.numbers; calls = is.calls; dead = is.dead; ids = is.ids };
+      keeps_opened = λ s is root up waiters keep. record { numbers = is.numbers; calls = is.calls; dead = is.dead; ids = let ids = is.ids in omega arith };
+      keeps_changed = λ s is j f same. record { numbers = is.numbers; calls = is.calls; dead = is.dead; ids = is.ids };
+      keeps_left = λ s is j v. record { numbers = is.numbers; calls = is.calls; dead = is.dead; ids = is.ids };
       keeps_closed = λ s is j. record { numbers = is.numbers; calls = is.calls; dead = is.dead; ids = is.ids };
       keeps_send = λ s is j m here. record { numbers = is.numbers; calls = is.calls; dead = is.dead; ids = is.ids };
       keeps_sent = λ s is j. record { numbers = is.numbers; calls = is.calls; dead = is.dead; ids = is.ids };

@@ -10,7 +10,7 @@ use Rattle.sem_key.specs.KeyName.{KeyName, key_eq}
 use Rattle.sem_key.specs.PlaceName.{PlaceName}
 use Rattle.sem_key.specs.Capability.{Capability}
 use Rattle.sem_msg.specs.declared.call.Call.{Call}
-use Rattle.sem_msg.specs.declared.call.Call.TheVariants.{Derive, Gate, Obtain, Delegate, OpenSession, AskOffer, Revoke, Bind, Read, Write, Send as SendCall, Credit, Exit}
+use Rattle.sem_msg.specs.declared.call.Call.TheVariants.{Derive, Gate, Obtain, Delegate, OpenSession, AskOffer, Revoke, Bind, Read, Write, Send as SendCall, Credit, Exit, Clear}
 use Rattle.sem_msg.specs.declared.event.Act.{Act}
 use Rattle.sem_msg.specs.declared.event.Act.TheVariants.{Call as Calls, Fetch, Handle, Upcall, Resume, Flush, Kill}
 use Rattle.sem_msg.specs.declared.event.Event.{Event}
@@ -27,20 +27,21 @@ use Rattle.sem_msg.specs.declared.state.Slot.{Slot}
 use Rattle.sem_msg.specs.declared.state.Slot.TheVariants.{Free, Held, Promised}
 use Rattle.sem_msg.specs.Setup.{Setup}
 use Rattle.sem_msg.specs.Lookups.{kernel_of, denies, offered, service_named}
-use Rattle.sem_machine.specs.Codes.{NoCap, NoService, BadKind}
+use Rattle.sem_msg.specs.declared.code.Code.{Code}
+use Rattle.sem_msg.specs.declared.code.Code.TheVariants.{NoCap, NoService, BadKind}
 use Rattle.sem_machine.specs.Sides.{Side, row, cap, cap_in, own, slot, endpoint, parked, is_marked, call_counted, unparked, ask_taken}
 use Rattle.sem_machine.specs.Steps.{Step, plain, answer, unless}
 use Rattle.sem_machine.specs.Asks.{asker, is_unawaited}
-use Rattle.sem_machine.specs.Endpoints.{memory_tests, send_tests, credit_tests}
-use Rattle.sem_machine.specs.Calls.{destination_tests, child_made, narrowed, derive_tests, gate_tests, ask_made, obtain_tests, open_tests, offer_tests, delegate_tests, bind_tests, call_row}
+use Rattle.sem_msg.specs.Uses.{memory_tests, send_tests, credit_tests}
+use Rattle.sem_machine.specs.Calls.{own_tests, destination_tests, child_made, narrowed, derive_tests, gate_tests, ask_made, obtain_tests, open_tests, offer_tests, delegate_tests, bind_tests, call_row}
 use Rattle.sem_machine.specs.Upcalls.{source, source_tests, child_given, obtain_consent, parent_tests, delegate_consent, consented, ask_decided, upcall_row}
 use Rattle.sem_machine.specs.Resumes.{delegate_granted, delegate_resumed, resumed, resume_row}
 use Rattle.sem_machine.specs.Machine.{World, side, next_call, local_step, local_entry, input_of, entry_of, start}
 use Rattle.sem_machine.specs.Schedules.{IsSchedule, world_after}
 use Rattle.sem_machine.specs.Journals.{made}
 use Rattle.sem_machine.specs.Safety.{HoldsUnmarked}
-use Rattle.sem_machine.proofs.Members.{found}
-use Rattle.sem_machine.proofs.KeyTests.{key_eq-true}
+use Rattle.sem_key.proofs.Members.{found}
+use Rattle.sem_key.proofs.KeyTests.{key_eq-true}
 use Rattle.sem_safety.proofs.Layers.{facts}
 use Rattle.sem_safety.proofs.KeptRevokes.{option-keeps}
 use Rattle.sem_safety.proofs.Onwards.{AnyPlace}
@@ -60,12 +61,12 @@ GrantsBelow s x = IsBelow s x.outcome.grant
 
 -- Tests that were passed.
 
-abbrev Passed : List (Bool × ℕ) → Type 0
+abbrev Passed : List (Bool × Code) → Type 0
 Passed [] = Unit {0}
 Passed (test ∷ tests) = (test.0 ≡ false) × Passed tests
 
 -- what is so of each refusal, and where all tests were passed of the step that is done, is so of the row
-unless-passed : (P : Step → Type 0) (tests : List (Bool × ℕ)) (refuse : ℕ → Step) (done : Step) → ((code : ℕ) → P (refuse code)) → (Passed tests → P done) → P (unless tests refuse done)
+unless-passed : (P : Step → Type 0) (tests : List (Bool × Code)) (refuse : Code → Step) (done : Step) → ((code : Code) → P (refuse code)) → (Passed tests → P done) → P (unless tests refuse done)
 unfolding unless
 unless-passed P [] refuse done each here = here tt
 unless-passed P (test ∷ tests) refuse done each here = cond_both test.0 (refuse test.1) (unless tests refuse done) P (λ _. each test.1) (λ passed. unless-passed P tests refuse done each (λ rest. here (passed, rest)))
@@ -123,6 +124,7 @@ call_row-below T i s v (Write ep off len) = unless-passed (GrantsBelow s) (memor
 call_row-below T i s v (SendCall ep len) = unless-passed (GrantsBelow s) (send_tests (endpoint s v ep)) _ _ (λ code. nothing s) (λ _. nothing s)
 call_row-below T i s v (Credit ep) = unless-passed (GrantsBelow s) (credit_tests (endpoint s v ep)) _ _ (λ code. nothing s) (λ _. nothing s)
 call_row-below T i s v Exit = nothing s
+call_row-below T i s v (Clear src) = unless-passed (GrantsBelow s) (own_tests (own s v src)) _ _ (λ code. nothing s) (λ _. option-keeps (GrantsBelow s) _ (own s v src) (answer NoCap s) (λ p held. nothing s) (nothing s))
 
 -- Upcalls.
 

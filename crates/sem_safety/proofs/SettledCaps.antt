@@ -9,14 +9,14 @@ use Rattle.std.proofs.lemmas.Option.{same_Some}
 use Rattle.sem_key.specs.KeyName.{KeyName, IsValidKey, key_eq}
 use Rattle.sem_key.specs.KeyList.{with_key, without_key}
 use Rattle.sem_key.specs.Capability.{Capability}
-use Rattle.sem_machine.specs.Revokes.{Reached}
-use Rattle.sem_machine.specs.Revokes.Reached.{at_root, by_link}
+use Rattle.sem_key.specs.Region.{Reached}
+use Rattle.sem_key.specs.Region.Reached.{at_root, by_link}
 use Rattle.sem_machine.specs.Journals.{parent_in, line_in}
-use Rattle.sem_machine.proofs.KeyTests.{key_eq-true, Contains-from_has_key, has_key-from_Contains}
-use Rattle.sem_machine.proofs.Members.{Contains-head, Contains-tail, Contains-nil, Contains-cons_cases, Contains-filter, Contains-from_filter, Contains-map}
+use Rattle.sem_key.proofs.KeyTests.{key_eq-true, Contains-from_has_key, has_key-from_Contains}
+use Rattle.sem_key.proofs.Members.{Contains-head, Contains-tail, Contains-nil, Contains-cons_cases, Contains-filter, Contains-from_filter, Contains-map}
 use Rattle.sem_safety.specs.Settled.{IsUncut, IsSettled}
 use Rattle.sem_safety.specs.Growth.{grown, IsGrown, no_grants, granted_next}
-use Rattle.sem_safety.proofs.KeySets.{with_key-has, with_key-keeps, with_key-from}
+use Rattle.sem_key.proofs.KeySets.{with_key-has, with_key-keeps, with_key-from}
 use Rattle.sem_safety.proofs.GrownLines.{parent-granted, parent-more, parent-new, grown-more, grown-keeps, parent-grown, line-stays, line-new, line-enough, line-self, line-above}
 
 -- the look-up of a key

@@ -11,12 +11,12 @@ use Rattle.sem_key.specs.KeyList.{IsRising, with_key}
 use Rattle.sem_key.specs.Lists.{change}
 use Rattle.sem_key.specs.Capability.{Capability}
 use Rattle.sem_key.specs.CapList.{with_cap}
-use Rattle.sem_machine.specs.Revokes.{has_key, region}
-use Rattle.sem_machine.specs.Revokes.Reached.{at_root}
-use Rattle.sem_machine.proofs.Finds.{held-with_cap_same, held-with_cap_other, held-change_same, held-change_other, with_cap-rises}
-use Rattle.sem_machine.proofs.KeyTests.{key_eq-same, key_eq-true}
-use Rattle.sem_machine.proofs.Members.{not_found, find_none, Contains-from_map, Contains-from_filter, AllPairs-map, AllPairs-from_map}
-use Rattle.sem_machine.proofs.Regions.{region-exact}
+use Rattle.sem_key.specs.Region.{has_key, region}
+use Rattle.sem_key.specs.Region.Reached.{at_root}
+use Rattle.sem_key.proofs.Finds.{held-with_cap_same, held-with_cap_other, held-change_same, held-change_other, with_cap-rises}
+use Rattle.sem_key.proofs.KeyTests.{key_eq-same, key_eq-true}
+use Rattle.sem_key.proofs.Members.{not_found, find_none, Contains-from_map, Contains-from_filter, AllPairs-map, AllPairs-from_map}
+use Rattle.sem_key.proofs.Regions.{region-exact}
 use Rattle.sem_safety.specs.Growth.{grown}
 use Rattle.sem_safety.specs.Settled.{IsSettled}
 use Rattle.sem_safety.proofs.SettledCaps.{look, link_gone, settled-derived, settled-cut, settled-unlinked}

@@ -10,8 +10,8 @@ use Rattle.sem_machine.specs.Sides.{Side, no_side, cap}
 use Rattle.sem_machine.specs.Machine.{side, start, start_side}
 use Rattle.sem_machine.specs.Schedules.{IsRun, IsSchedule}
 use Rattle.sem_machine.specs.Journals.{root_keys}
-use Rattle.sem_machine.proofs.KeyTests.{key_eq-true}
-use Rattle.sem_machine.proofs.Members.{found, Contains-nil}
+use Rattle.sem_key.proofs.KeyTests.{key_eq-true}
+use Rattle.sem_key.proofs.Members.{found, Contains-nil}
 use Rattle.sem_safety.specs.Growth.{grown, no_grants}
 use Rattle.sem_safety.proofs.CarryingWorlds.{used-made}
 use Rattle.sem_safety.proofs.FirstCaps.{IsFirst, first-bare, first-valid, first-rises, root-held}

@@ -11,7 +11,7 @@ use Rattle.sem_machine.specs.Sides.{Side, no_side, parked}
 use Rattle.sem_machine.specs.Steps.{Step}
 use Rattle.sem_machine.specs.Machine.{World, side, with_side, local_step, input_of, after}
 use Rattle.sem_machine.specs.Schedules.{run}
-use Rattle.sem_machine.proofs.Puts.{get_or-put_same, get_or-put_other}
+use Rattle.sem_key.proofs.Puts.{get_or-put_same, get_or-put_other}
 use Rattle.sem_safety.proofs.CarryingWorlds.{stepped}
 use Rattle.sem_safety.proofs.GoingOn.{AnyVpe, may_act, any_grant, any_cut, any_end, moved-sides}
 use Rattle.sem_safety.proofs.KeptSteps.{Takes, local_step-kept}

@@ -12,19 +12,23 @@ use Rattle.sem_msg.specs.declared.setup.VpeDecl.{VpeDecl}
 use Rattle.sem_msg.specs.declared.state.Slot.{Slot}
 use Rattle.sem_msg.specs.declared.state.Slot.TheVariants.{Free, Held}
 use Rattle.sem_msg.specs.Rows.{Endpoint, VpeRow, no_vpe}
-use Rattle.sem_msg.specs.Setup.{Setup, IsSetup, root_key}
+use Rattle.sem_msg.specs.Setup.{Setup, IsSetup}
 use Rattle.sem_msg.specs.Lookups.{pe_owner}
-use Rattle.sem_machine.specs.Sides.{Side, no_side, row, slot, endpoint, with_slot, cap_added}
-use Rattle.sem_machine.specs.Machine.{side, start, start_side, empty_side, new_vpe, root_added, vpe_added}
+use Rattle.sem_machine.specs.Sides.{Side, no_side, row, with_row, slot, endpoint, with_slot, cap_added}
+use Rattle.sem_key.specs.Lists.{put}
+use Rattle.sem_key.proofs.Puts.{get_or-put_same}
+use Rattle.sem_msg.specs.VpeRows.{new_vpe, next_root, root_held}
+use Rattle.sem_machine.specs.Machine.{side, start, start_side, empty_side, root_added, vpe_added}
 use Rattle.sem_machine.specs.Schedules.{IsSchedule, world_after}
 use Rattle.sem_machine.specs.Safety.{sound_endpoints}
-use Rattle.sem_machine.proofs.KeyTests.{key_eq-from}
-use Rattle.sem_machine.proofs.Members.{Contains-nil, Contains-cons_cases}
+use Rattle.sem_key.proofs.KeyTests.{key_eq-from}
+use Rattle.sem_key.proofs.Members.{Contains-nil, Contains-cons_cases}
+use Rattle.sem_safety.specs.Seen.{endpoints}
 use Rattle.sem_safety.proofs.Layers.{in_turn-keeps}
-use Rattle.sem_safety.proofs.Lives.{at_cap}
+use Rattle.sem_safety.proofs.Lives.{all_held, at_cap}
 use Rattle.sem_safety.proofs.LiveWorlds.{lives-once, world-side}
 use Rattle.sem_safety.proofs.SideLayers.{run-kept}
-use Rattle.sem_safety.proofs.SoundEndpoints.{IsSoundSide, with_sound_row, sound}
+use Rattle.sem_safety.proofs.SoundEndpoints.{IsSoundSide, with_sound_row, with_sound_endpoints, sound}
 use Rattle.sem_safety.proofs.Weighing.{weigh-among}
 
 -- The start.
@@ -44,23 +48,29 @@ not-bound o e (inl none) some = absurd cc
 not-bound o e (inr none) some = absurd cc
 
 empty-row : (T : Setup) (v : ℕ) → row (empty_side T) v ≡ no_vpe
-empty-row T v = elim (read-same 64 v no_vpe no_vpe) [ inl same ↦ same | inr same ↦ same ]
+empty-row T v = elim (read-same 128 v no_vpe no_vpe) [ inl same ↦ same | inr same ↦ same ]
+
+empty-endpoints : (T : Setup) (v : ℕ) → endpoints (empty_side T) v ≡ []
+empty-endpoints T v = elim (read-same 128 v [] []) [ inl same ↦ same | inr same ↦ same ]
 
 empty-sound : (T : Setup) → IsSoundSide (empty_side T)
 empty-sound T = record {
   own_slots = λ v sel k at. absurd (not-held (slot (empty_side T) v sel) k (inl (ap (λ (r : VpeRow). get_or r.slots sel Free) (empty-row T v))) at);
-  own_keys = λ v ep e at. absurd (not-bound (endpoint (empty_side T) v ep) e (inl (ap (λ (r : VpeRow). get_or r.endpoints ep None) (empty-row T v))) at);
-  bound = λ v ep e at. absurd (not-bound (endpoint (empty_side T) v ep) e (inl (ap (λ (r : VpeRow). get_or r.endpoints ep None) (empty-row T v))) at);
+  own_keys = λ v ep e at. absurd (not-bound (endpoint (empty_side T) v ep) e (inl (ap (λ es. get_or es ep None) (empty-endpoints T v))) at);
+  bound = λ v ep e at. absurd (not-bound (endpoint (empty_side T) v ep) e (inl (ap (λ es. get_or es ep None) (empty-endpoints T v))) at);
 }
 
 root-sound : (d : VpeDecl) (r : Root) (s : Side) → IsSoundSide s → IsSoundSide (root_added d r s)
 root-sound d r s is =
-    let k : KeyName = root_key d (row s d.vpe).next_number r in
+    let k : KeyName = next_root d r (row s d.vpe) in
     let c : Capability = record { key = k; parent = None; children = []; mark = None; selector = r.sel; object = r.object } in
-    sound.keeps_drawn (with_slot d.vpe r.sel (Held k) (cap_added c s)) (sound.keeps_slot (cap_added c s) (sound.keeps_added s is c tt refl refl) d.vpe r.sel (Held k) refl) d.vpe
+    let t : Side = cap_added c s in
+    let kept : IsSoundSide t = sound.keeps_added s is c tt refl refl in
+    let held : IsSoundSide (with_slot d.vpe r.sel (Held k) t) = sound.keeps_slot t kept d.vpe r.sel (Held k) refl in
+    with_sound_row t kept d.vpe (root_held d r (row s d.vpe)) (λ sel q at. held.own_slots d.vpe sel q (ap (λ (x : VpeRow). get_or x.slots sel Free) (get_or-put_same no_vpe t.vpes d.vpe (record (row t d.vpe) { slots = put Free (row t d.vpe).slots r.sel (Held k) })) ∙ at))
 
 vpe-sound : (d : VpeDecl) (s : Side) → IsSoundSide s → IsSoundSide (vpe_added d s)
-vpe-sound d s is = in_turn-keeps IsSoundSide (root_added d) (root-sound d) d.roots _ (with_sound_row s is d.vpe new_vpe (λ sel k at. absurd (not-held (get_or (replicate 256 Free) sel Free) k (read-same 256 sel Free Free) at)) (λ ep e at. absurd (not-bound (get_or (replicate 16 None) ep None) e (read-same 16 ep None None) at)))
+vpe-sound d s is = in_turn-keeps IsSoundSide (root_added d) (root-sound d) d.roots _ (with_sound_endpoints (with_row d.vpe (λ v. new_vpe) s) (with_sound_row s is d.vpe new_vpe (λ sel k at. absurd (not-held (get_or (replicate 256 Free) sel Free) k (read-same 256 sel Free Free) at))) d.vpe (replicate 16 None) (λ ep e at. absurd (not-bound (get_or (replicate 16 None) ep None) e (read-same 16 ep None None) at)))
 
 side-sound : (T : Setup) (i : ℕ) → IsSoundSide (start_side T i)
 unfolding start_side
@@ -69,7 +79,7 @@ side-sound T i = in_turn-keeps IsSoundSide vpe_added vpe-sound (filter (λ d. pe
 no_side-sound : IsSoundSide no_side
 no_side-sound = record { own_slots = λ v sel k at. absurd cc; own_keys = λ v ep e at. absurd cc; bound = λ v ep e at. absurd cc }
 
-start-sound : (T : Setup) (i : ℕ) → IsSoundSide (side (start T) i)
+pub start-sound : (T : Setup) (i : ℕ) → IsSoundSide (side (start T) i)
 unfolding start
 start-sound T i = from (range_with_len 0 T.kernels) i
   where
@@ -80,17 +90,17 @@ start-sound T i = from (range_with_len 0 T.kernels) i
 
 -- A key that is held once is found.
 
-one-found : (k : KeyName) (cs : List Capability) (c : Capability) → c.key ≡ k → Contains cs c → sum_by (at_cap k) cs ≤ 1 → find (λ x. key_eq x.key k) cs ≡ Some c
+one-found : (k : KeyName) (cs : List Capability) (c : Capability) → c.key ≡ k → Contains cs c → sum_by (at_cap k all_held) cs ≤ 1 → find (λ x. key_eq x.key k) cs ≡ Some c
 one-found k [] c same among once = absurd (Contains-nil c among)
 one-found k (x ∷ xs) c same among once =
-    let all = sum_by-cons (at_cap k) x xs in
-    let here : at_cap k c ≡ 1 = cond-true (key_eq c.key k) 1 0 (key_eq-from c.key k same) in
+    let all = sum_by-cons (at_cap k all_held) x xs in
+    let here : at_cap k all_held c ≡ 1 = cond-true (key_eq c.key k) 1 0 (key_eq-from c.key k same) in
     elim (cases_Bool (key_eq x.key k)) [
       | inl pass ↦ elim (Contains-cons_cases x xs c among) [
         | inl first ↦ cond-true (key_eq x.key k) (Some x) (find (λ x. key_eq x.key k) xs) pass ∙ ap Some first
         | inr rest ↦
-            let one : at_cap k x ≡ 1 = cond-true (key_eq x.key k) 1 0 pass in
-            let more = weigh-among (at_cap k) xs c rest in
+            let one : at_cap k all_held x ≡ 1 = cond-true (key_eq x.key k) 1 0 pass in
+            let more = weigh-among (at_cap k all_held) xs c rest in
             absurd (omega (arith, all, here, one, more, once))
       ]
       | inr fail ↦ elim (Contains-cons_cases x xs c among) [
@@ -100,10 +110,10 @@ one-found k (x ∷ xs) c same among once =
     ]
 
 -- a kernel holds a key once
-pub held-once : (k : KeyName) (T : Setup) → IsSetup T → (J : List Entry) → IsSchedule T J → (i : ℕ) → sum_by (at_cap k) (side (world_after T J) i).caps ≤ 1
+pub held-once : (k : KeyName) (T : Setup) → IsSetup T → (J : List Entry) → IsSchedule T J → (i : ℕ) → sum_by (at_cap k all_held) (side (world_after T J) i).caps ≤ 1
 held-once k T valid J runs i =
-    let once = lives-once k T valid J runs in
-    let part = world-side k (world_after T J) i no_side in
+    let once = lives-once k all_held T valid J runs in
+    let part = world-side k all_held (world_after T J) i no_side in
     omega (arith, once, part)
 
 pub all-endpoints : (T : Setup) → IsSetup T → (J : List Entry) → IsSchedule T J → sound_endpoints T J

@@ -8,10 +8,9 @@ use Rattle.sem_key.specs.declared.object.Object.TheVariants.{Send}
 use Rattle.sem_key.specs.ObjectRanges.{object_kind}
 use Rattle.sem_key.specs.KeyName.{KeyName}
 use Rattle.sem_key.specs.PlaceName.{PlaceName, keyed}
-use Rattle.sem_key.specs.Lists.{put}
 use Rattle.sem_key.specs.Capability.{Capability}
 use Rattle.sem_msg.specs.declared.call.Call.{Call}
-use Rattle.sem_msg.specs.declared.call.Call.TheVariants.{Derive, Gate, Obtain, Delegate, OpenSession, AskOffer, Revoke, Bind, Read, Write, Send as SendCall, Credit, Exit}
+use Rattle.sem_msg.specs.declared.call.Call.TheVariants.{Derive, Gate, Obtain, Delegate, OpenSession, AskOffer, Revoke, Bind, Read, Write, Send as SendCall, Credit, Exit, Clear}
 use Rattle.sem_msg.specs.declared.message.Message.{Message}
 use Rattle.sem_msg.specs.declared.message.Message.TheVariants.{ObtainReq, ObtainOk, ObtainNo, DelegateReq, DelegatePrepared, DelegateNo, Ack, Orphan, RevokeReq, RevokeDone, Unlink}
 use Rattle.sem_msg.specs.declared.message.Target.{Target}
@@ -28,28 +27,31 @@ use Rattle.sem_msg.specs.declared.state.Slot.TheVariants.{Promised}
 use Rattle.sem_msg.specs.Rows.{VpeRow, no_vpe}
 use Rattle.sem_msg.specs.Setup.{Setup}
 use Rattle.sem_msg.specs.Lookups.{kernel_of, owner_of, place_owner, service_named, denies}
-use Rattle.sem_machine.specs.Codes.{Done, Dead, NoCap, NoService, BadKind, Refused, Revoking, Gone}
+use Rattle.sem_msg.specs.declared.code.Code.{Code}
+use Rattle.sem_msg.specs.Codes.{code_number}
+use Rattle.sem_msg.specs.declared.code.Code.TheVariants.{Ok as OkCode, Dead, NoCap, NoService, BadKind, Refused, Revoking, Gone}
 use Rattle.sem_machine.specs.Sides.{Side, row, cap, own, endpoint, parked, is_alive, call_counted, drawn, promised, parked_as, unparked, asked, ask_taken, linked, installed, send, with_inbox, pending_added, with_endpoint}
-use Rattle.sem_machine.specs.Steps.{Step, plain, answer, cutting, asking}
+use Rattle.sem_machine.specs.Steps.{Step, plain, replied, answer, cutting, asking}
 use Rattle.sem_machine.specs.Asks.{target_vpe, asker, is_unawaited, ask_refused}
-use Rattle.sem_machine.specs.Endpoints.{memory_tests, send_tests, credit_tests, message_rung, message_credited}
-use Rattle.sem_machine.specs.Calls.{next_key, next_place, child_made, narrowed, with_held, derive_tests, gate_tests, destination_tests, ask_made, obtain_tests, open_tests, offer_tests, delegate_tests, offer_made, bind_tests, call_row}
+use Rattle.sem_msg.specs.Uses.{memory_tests, send_tests, credit_tests}
+use Rattle.sem_machine.specs.Endpoints.{message_rung, message_credited}
+use Rattle.sem_machine.specs.Calls.{own_tests, next_key, next_place, child_made, narrowed, with_held, derive_tests, gate_tests, destination_tests, ask_made, obtain_tests, open_tests, offer_tests, delegate_tests, offer_made, bind_tests, call_row}
 use Rattle.sem_machine.specs.Upcalls.{source, source_tests, given, given_kind, given_here, child_given, obtain_consent, parent_tests, delegate_here, delegate_prepared, delegate_consent, consented, ask_decided, upcall_row}
-use Rattle.sem_machine.specs.Revokes.{revoke_begun}
+use Rattle.sem_machine.specs.Revokes.{clear_begun, revoke_begun}
 use Rattle.sem_machine.specs.Ends.{ended}
 use Rattle.sem_machine.specs.Handles.{is_stray, handle_row, handled}
 use Rattle.sem_machine.specs.Resumes.{ack_sent, delegate_granted, delegate_resumed, resumed, resume_row}
 use Rattle.sem_machine.specs.Machine.{next_call, local_step}
-use Rattle.sem_machine.proofs.Puts.{get_or-put_same}
+use Rattle.sem_key.proofs.Puts.{get_or-put_same}
 use Rattle.sem_safety.specs.Onward.{IsOnward}
 use Rattle.sem_safety.proofs.Onwards.{Any, AnyPlace, onward-same, onward, drawn-below}
-use Rattle.sem_safety.proofs.KeptRevokes.{option-keeps, installed-in, ready-in, begun-in}
+use Rattle.sem_safety.proofs.KeptRevokes.{option-keeps, installed-in, ready-in, begun-in, cleared-in}
 use Rattle.sem_safety.proofs.KeptRows.{unless-keeps, ask_refused-in, ended-in}
 use Rattle.sem_safety.proofs.KeptSteps.{given_here-in, handled-in}
 use Rattle.sem_safety.proofs.GoingOn.{AnyVpe}
 use Rattle.sem_safety.proofs.Layers.{facts, IsKept}
 use Rattle.sem_safety.proofs.Weighing.{of_option}
-use Rattle.sem_safety.proofs.Tokens.{side-lighter, at_place, of_key, of_message, of_parked, of_ask, of_inbox, of_side, of_grant, Others, side-parked, side-unparked, side-asked, side-taken, side-send, side-inbox, weighed}
+use Rattle.sem_safety.proofs.Tokens.{at_place, of_key, of_message, of_parked, of_ask, of_inbox, of_side, of_grant, Others, side-parked, side-unparked, side-asked, side-taken, side-send, side-inbox, weighed}
 
 module _ (v0 n0 : ℕ) where
   -- one, if the VPE draws that number in the step
@@ -125,15 +127,16 @@ module _ (v0 n0 : ℕ) where
     call_row-within T i s v (OpenSession dst name) is = unless-keeps (Within m s v) (open_tests T i s v dst name) _ _ (λ code. light m s v (answer code s) is refl) (option-keeps (Within m s v) (λ (x : Service). ask_made T i v dst (ServTarget x.key) s) (service_named T name) (answer NoService s) (λ x there. ask_made-within T i v dst (ServTarget x.key) s is) (light m s v (answer NoService s) is refl))
     call_row-within T i s v (AskOffer dst session index) is = unless-keeps (Within m s v) (offer_tests T i s v dst session) _ _ (λ code. light m s v (answer code s) is refl) (option-keeps (Within m s v) (λ (k : KeyName). ask_made T i v dst (OfferTarget k index) s) _ (answer BadKind s) (λ k there. ask_made-within T i v dst (OfferTarget k index) s is) (light m s v (answer BadKind s) is refl))
     call_row-within T i s v (Revoke src) is = with_held-within (own s v src) _ s v is (λ c held. light m s v (cutting c.key (plain (revoke_begun T i v c.key c.mark s))) (begun-in (Others v0 n0) (Few m) L T i v c.key c.mark s is tt) refl)
-    call_row-within T i s v (Bind ep src) is = unless-keeps (Within m s v) (bind_tests s v src) _ _ (λ code. light m s v (answer code s) is refl) (with_held-within (own s v src) _ s v is (λ c held. light m s v (answer Done (with_endpoint v ep (Some (record { key = c.key; object = c.object; ring = [] })) s)) (let new = side-lighter v0 n0 s v (record (row s v) { endpoints = put None (row s v).endpoints ep (Some (record { key = c.key; object = c.object; ring = [] })) }) (omega arith) in omega (arith, is, new)) refl))
-    call_row-within T i s v (Read ep off len) is = unless-keeps (Within m s v) (memory_tests 1 off len (endpoint s v ep)) _ _ (λ code. light m s v (answer code s) is refl) (light m s v (answer Done s) is refl)
-    call_row-within T i s v (Write ep off len) is = unless-keeps (Within m s v) (memory_tests 2 off len (endpoint s v ep)) _ _ (λ code. light m s v (answer code s) is refl) (light m s v (answer Done s) is refl)
-    call_row-within T i s v (SendCall ep len) is = unless-keeps (Within m s v) (send_tests (endpoint s v ep)) _ _ (λ code. light m s v (answer code s) is refl) (light m s v (answer Done (message_rung v ep len s)) (L.keeps_rung s is v ep (λ ring. ring ++ len ∷ [])) refl)
-    call_row-within T i s v (Credit ep) is = unless-keeps (Within m s v) (credit_tests (endpoint s v ep)) _ _ (λ code. light m s v (answer code s) is refl) (light m s v (answer Done (message_credited v ep s)) (L.keeps_rung s is v ep (λ ring. drop 1 ring)) refl)
-    call_row-within T i s v Exit is = light m s v (answer Done (ended T i v s)) (ended-in (Others v0 n0) AnyVpe (Few m) L T i v s is (λ k same. tt)) refl
+    call_row-within T i s v (Bind ep src) is = unless-keeps (Within m s v) (bind_tests s v src) _ _ (λ code. light m s v (answer code s) is refl) (with_held-within (own s v src) _ s v is (λ c held. light m s v (answer OkCode (with_endpoint v ep (Some (record { key = c.key; object = c.object; ring = [] })) s)) is refl))
+    call_row-within T i s v (Read ep off len) is = unless-keeps (Within m s v) (memory_tests 1 off len (endpoint s v ep)) _ _ (λ code. light m s v (answer code s) is refl) (light m s v (answer OkCode s) is refl)
+    call_row-within T i s v (Write ep off len) is = unless-keeps (Within m s v) (memory_tests 2 off len (endpoint s v ep)) _ _ (λ code. light m s v (answer code s) is refl) (light m s v (answer OkCode s) is refl)
+    call_row-within T i s v (SendCall ep len) is = unless-keeps (Within m s v) (send_tests (endpoint s v ep)) _ _ (λ code. light m s v (answer code s) is refl) (light m s v (answer OkCode (message_rung v ep len s)) (L.keeps_rung s is v ep (λ ring. ring ++ len ∷ [])) refl)
+    call_row-within T i s v (Credit ep) is = unless-keeps (Within m s v) (credit_tests (endpoint s v ep)) _ _ (λ code. light m s v (answer code s) is refl) (light m s v (answer OkCode (message_credited v ep s)) (L.keeps_rung s is v ep (λ ring. drop 1 ring)) refl)
+    call_row-within T i s v (Clear src) is = unless-keeps (Within m s v) (own_tests (own s v src)) _ _ (λ code. light m s v (answer code s) is refl) (with_held-within (own s v src) _ s v is (λ c held. light m s v (cutting c.key (plain (clear_begun T i v c.key s))) (cleared-in (Others v0 n0) (Few m) L T i v c.key s is tt) refl))
+    call_row-within T i s v Exit is = light m s v (answer OkCode (ended T i v s)) (ended-in (Others v0 n0) AnyVpe (Few m) L T i v s is (λ k same. tt)) refl
 
     -- Upcalls, from the side without the ask.
-    refused-few : (T : Setup) (i code : ℕ) (a : Ask) (s : Side) → Few m s → Few m (ask_refused T i code a s)
+    refused-few : (T : Setup) (i : ℕ) (code : Code) (a : Ask) (s : Side) → Few m s → Few m (ask_refused T i code a s)
     refused-few T i code a s is = ask_refused-in (Others v0 n0) AnyVpe (Few m) L T i code a s is
 
     delegate_here-within : (T : Setup) (v : ℕ) (parent : KeyName) (object : Object) (sel : ℕ) (s : Side) → Few m s → Within m s v (delegate_here T v parent object sel s)
@@ -141,10 +144,10 @@ module _ (v0 n0 : ℕ) where
         let k : KeyName = next_key T s v parent.kind in
         let x : Step = delegate_here T v parent object sel s in
         let linking : Side = linked parent k (drawn v s) in
-        let few : Few m x.side = ready-in (Others v0 n0) (Few m) L (installed k (Some parent) sel object linking) (installed-in (Others v0 n0) (Few m) L linking (L.keeps_linked (drawn v s) (L.keeps_drawn s is v) parent k tt) k (Some parent) sel object tt) Done parent.vpe in
+        let few : Few m x.side = ready-in (Others v0 n0) (Few m) L (installed k (Some parent) sel object linking) (installed-in (Others v0 n0) (Few m) L linking (L.keeps_linked (drawn v s) (L.keeps_drawn s is v) parent k tt) k (Some parent) sel object tt) (code_number OkCode) parent.vpe in
         let same : of_grant v0 n0 x.outcome.grant ≡ at_place v0 n0 v (row s v).next_number = refl in
         let O = (onward (drawn v s)).kept in
-        heavy m s v x (omega (arith, few, same)) (drawn-below v s x.side (ready-in (facts Any AnyPlace) (IsOnward (drawn v s)) O (installed k (Some parent) sel object linking) (installed-in (facts Any AnyPlace) (IsOnward (drawn v s)) O linking (O.keeps_linked (drawn v s) (onward-same (drawn v s)) parent k tt) k (Some parent) sel object tt) Done parent.vpe))
+        heavy m s v x (omega (arith, few, same)) (drawn-below v s x.side (ready-in (facts Any AnyPlace) (IsOnward (drawn v s)) O (installed k (Some parent) sel object linking) (installed-in (facts Any AnyPlace) (IsOnward (drawn v s)) O linking (O.keeps_linked (drawn v s) (onward-same (drawn v s)) parent k tt) k (Some parent) sel object tt) (code_number OkCode) parent.vpe))
 
     delegate_prepared-within : (T : Setup) (v : ℕ) (parent : KeyName) (object : Object) (sel : ℕ) (s : Side) → Few m s → Within m s v (delegate_prepared T v parent object sel s)
     delegate_prepared-within T v parent object sel s is =
@@ -238,8 +241,8 @@ module _ (v0 n0 : ℕ) where
 
     resumed-within : (T : Setup) (p : Option Parked) (s : Side) (v : ℕ) → of_side v0 n0 s + of_parked v0 n0 p ≤ m → Within m s v (resumed T p s)
     resumed-within T (Some (DelegateReady parent key)) s v is = delegate_resumed-within T parent key (cap s parent) s v is
-    resumed-within T (Some (Ready code)) s v is = light m s v (answer code s) (let few : of_side v0 n0 s + 0 ≤ m = is in omega (arith, few)) refl
-    resumed-within T (Some (ObtainReady key parent object sel)) s v is = light m s v (answer Done (installed key (Some parent) sel object s)) (installed-in (Others v0 n0) (Few m) K s (let few : of_side v0 n0 s + 0 ≤ m = is in omega (arith, few)) key (Some parent) sel object tt) refl
+    resumed-within T (Some (Ready number)) s v is = light m s v (replied number s) (let few : of_side v0 n0 s + 0 ≤ m = is in omega (arith, few)) refl
+    resumed-within T (Some (ObtainReady key parent object sel)) s v is = light m s v (answer OkCode (installed key (Some parent) sel object s)) (installed-in (Others v0 n0) (Few m) K s (let few : of_side v0 n0 s + 0 ≤ m = is in omega (arith, few)) key (Some parent) sel object tt) refl
     resumed-within T (Some ObtainCancelled) s v is = light m s v (answer Gone s) (let few : of_side v0 n0 s + 0 ≤ m = is in omega (arith, few)) refl
     resumed-within T None s v is = light m s v (plain s) (let few : of_side v0 n0 s + 0 ≤ m = is in omega (arith, few)) refl
     resumed-within T (Some (ObtainWait number sel)) s v is = light m s v (plain s) (let few : of_side v0 n0 s + 0 ≤ m = is in omega (arith, few)) refl

@@ -1,13 +1,13 @@
 -- The tokens of a place: an ask, an ObtainReq or a DelegatePrepared in flight, or a call that is ready to grant, which name it for a key that is not made yet.
 -- Each change of a side adds no token but those that it is handed.
-use Rattle.std.proofs.Common.{◌≡◌, ℕ, ◌+◌, ◌≤◌, ◌&&◌, true, false, List, [], ◌∷◌, ◌++◌, length, map, drop, Option, Some, None, slice_get, refl, arith}
+use Rattle.std.proofs.Common.{◌≡◌, ℕ, ◌+◌, ◌≤◌, ◌&&◌, true, false, List, [], ◌∷◌, ◌++◌, length, drop, Option, Some, None, slice_get, refl, arith}
 use Rattle.std.specs.Prelude.{◌==◌, nat_lt, if◌then◌else◌}
 use Rattle.std.specs.List.{sum_by}
-use Rattle.std.specs.Option.{option_map}
 use Rattle.std.proofs.lemmas.Bool.{cond_both}
 use Rattle.std.proofs.lemmas.List.Sums.{sum_by_push}
 use Rattle.sem_key.specs.KeyName.{KeyName}
 use Rattle.sem_key.specs.Lists.{put}
+use Rattle.sem_msg.specs.declared.limits.TheConstants.{ASKS}
 use Rattle.sem_msg.specs.declared.message.Message.{Message}
 use Rattle.sem_msg.specs.declared.message.Message.TheVariants.{ObtainReq, ObtainOk, ObtainNo, DelegateReq, DelegatePrepared, DelegateNo, Ack, Orphan, RevokeReq, RevokeDone, Unlink}
 use Rattle.sem_msg.specs.declared.state.Ask.{Ask}
@@ -15,12 +15,11 @@ use Rattle.sem_msg.specs.declared.state.Ask.TheVariants.{Obtain as ObtainAsk, De
 use Rattle.sem_msg.specs.declared.state.Parked.{Parked}
 use Rattle.sem_msg.specs.declared.state.Parked.TheVariants.{ObtainWait, ObtainReady, ObtainCancelled, DelegateWait, DelegateReady, RevokeWait, Ready}
 use Rattle.sem_msg.specs.declared.state.Slot.TheVariants.{Free}
-use Rattle.sem_msg.specs.Rows.{Endpoint, VpeRow, no_vpe}
-use Rattle.sem_msg.specs.EndpointRows.{unbound_from}
-use Rattle.sem_machine.specs.Sides.{Side, row, endpoint, outbox, send, sent, asked, ask_taken, parked_as, unparked, with_inbox}
+use Rattle.sem_msg.specs.Rows.{VpeRow, no_vpe}
+use Rattle.sem_machine.specs.Sides.{Side, row, outbox, send, sent, asked, ask_taken, parked_as, unparked, with_inbox, parked}
 use Rattle.sem_safety.proofs.Layers.{Facts, facts, Brings, BringsFrom, Awaits, AsksFor, IsKept}
 use Rattle.sem_safety.proofs.Onwards.{Any}
-use Rattle.sem_safety.proofs.Weighing.{of_option, weigh-put, weigh-drop, weigh-map}
+use Rattle.sem_safety.proofs.Weighing.{of_option, weigh-put, weigh-drop}
 
 module _ (v0 n0 : ℕ) where
   -- one, if it is that place
@@ -58,7 +57,7 @@ module _ (v0 n0 : ℕ) where
   of_ask (DelegateAsk parent object sel) = 0
 
   abbrev pub of_row : VpeRow → ℕ
-  of_row r = of_parked r.parked + sum_by of_ask r.asks
+  of_row r = sum_by of_ask r.asks
 
   abbrev pub of_inbox : Option (ℕ × Message) → ℕ
   of_inbox None = 0
@@ -68,7 +67,7 @@ module _ (v0 n0 : ℕ) where
   of_messages ms = sum_by of_message ms
 
   abbrev pub of_side : Side → ℕ
-  of_side s = sum_by of_row s.vpes + (of_inbox s.inbox + sum_by of_messages s.outs)
+  of_side s = sum_by of_row s.vpes + (sum_by of_parked s.parks + (of_inbox s.inbox + sum_by of_messages s.outs))
 
   abbrev pub of_grant : Option (KeyName × KeyName) → ℕ
   of_grant None = 0
@@ -127,21 +126,25 @@ module _ (v0 n0 : ℕ) where
   pub side-lighter : (s : Side) (v : ℕ) (r : VpeRow) → of_row r ≤ of_row (row s v) → of_side (record s { vpes = put no_vpe s.vpes v r }) ≤ of_side s
   side-lighter s v r less = let rows = side-row s v r in omega (arith, rows, less)
 
+  -- a parked call, or none, comes in for another
+  side-park : (s : Side) (v : ℕ) (p : Option Parked) → of_side (record s { parks = put None s.parks v p }) + of_parked (parked s v) ≡ of_side s + of_parked p
+  side-park s v p = let calls = weigh-put of_parked None refl s.parks v p in omega (arith, calls)
+
   -- a parked call comes in for another, or for none
   pub side-parked : (s : Side) (v : ℕ) (p : Parked) → of_side (parked_as v p s) ≤ of_side s + of_parked (Some p)
-  side-parked s v p = let rows = side-row s v (record (row s v) { parked = Some p }) in omega (arith, rows)
+  side-parked s v p = let calls = side-park s v (Some p) in omega (arith, calls)
 
   -- a parked call is taken out
-  pub side-unparked : (s : Side) (v : ℕ) → of_side (unparked v s) + of_parked (row s v).parked ≡ of_side s
-  side-unparked s v = let rows = side-row s v (record (row s v) { parked = None }) in omega (arith, rows)
+  pub side-unparked : (s : Side) (v : ℕ) → of_side (unparked v s) + of_parked (parked s v) ≡ of_side s
+  side-unparked s v = let calls = side-park s v None in omega (arith, calls)
 
   -- an ask, if there is room for it
   pub side-asked : (s : Side) (v : ℕ) (a : Ask) → of_side (asked v a s) ≤ of_side s + of_ask a
   side-asked s v a =
       let asks : List Ask = (row s v).asks in
-      let more : List Ask = if nat_lt (length asks) 64 then asks ++ a ∷ [] else asks in
+      let more : List Ask = if nat_lt (length asks) ASKS then asks ++ a ∷ [] else asks in
       let push = sum_by_push of_ask asks a in
-      let sum : sum_by of_ask more ≤ sum_by of_ask asks + of_ask a = cond_both (nat_lt (length asks) 64) (asks ++ a ∷ []) asks (λ xs. sum_by of_ask xs ≤ sum_by of_ask asks + of_ask a) (λ _. omega (arith, push)) (λ _. omega arith) in
+      let sum : sum_by of_ask more ≤ sum_by of_ask asks + of_ask a = cond_both (nat_lt (length asks) ASKS) (asks ++ a ∷ []) asks (λ xs. sum_by of_ask xs ≤ sum_by of_ask asks + of_ask a) (λ _. omega (arith, push)) (λ _. omega arith) in
       let rows = side-row s v (record (row s v) { asks = more }) in
       omega (arith, rows, sum)
 
@@ -180,18 +183,19 @@ module _ (v0 n0 : ℕ) where
     keeps_asked = λ s is v a here. let new = side-asked s v a in let none = ask-none a here in omega (arith, is, new, none);
     keeps_taken = λ s is v. let new = side-taken s v in omega (arith, is, new);
     keeps_buried = λ s is v. let new = side-lighter s v (record (row s v) { alive = false; asks = [] }) (omega arith) in omega (arith, is, new);
-    keeps_bound = λ s is v ep src c held unmarked here. let new = side-lighter s v (record (row s v) { endpoints = put None (row s v).endpoints ep (Some (record { key = c.key; object = c.object; ring = [] })) }) (omega arith) in omega (arith, is, new);
-    keeps_rung = λ s is v ep f. let new = side-lighter s v (record (row s v) { endpoints = put None (row s v).endpoints ep (option_map {T = Endpoint} (λ x. record x { ring = f x.ring }) (endpoint s v ep)) }) (omega arith) in omega (arith, is, new);
+    keeps_bound = λ s is v ep src c held unmarked here. is;
+    keeps_rung = λ s is v ep f. is;
     keeps_added = λ s is c here childless unmarked. is;
     keeps_linked = λ s is p k here. is;
     keeps_unlinked = λ s is p k. is;
-    keeps_marked = λ s is ks j here. let new = weigh-map of_row (λ (r : VpeRow). record r { endpoints = map {A = Option Endpoint} (unbound_from ks) r.endpoints }) (λ r. refl) s.vpes in omega (arith, is, new);
+    keeps_marked = λ s is ks j here. is;
+    keeps_restored = λ s is k. is;
     keeps_removed = λ s is j. is;
     keeps_pending_added = λ s is p. is;
     keeps_pending_removed = λ s is k. is;
-    keeps_opened = λ s is root up waiters. is;
-    keeps_changed = λ s is j f. is;
-    keeps_unwaited = λ s is v. is;
+    keeps_opened = λ s is root up waiters keep. is;
+    keeps_changed = λ s is j f same. is;
+    keeps_left = λ s is j v. is;
     keeps_closed = λ s is j. is;
     keeps_send = λ s is j msg here. let new = side-send s j msg in let none = message-none msg here in omega (arith, is, new, none);
     keeps_sent = λ s is j. let new = side-sent s j in omega (arith, is, new);

@@ -10,16 +10,18 @@ use Rattle.sem_key.specs.Lists.{change, put}
 use Rattle.sem_key.specs.Capability.{Capability}
 use Rattle.sem_key.specs.CapList.{is_marked_by}
 use Rattle.sem_msg.specs.declared.message.Message.{Message}
+use Rattle.sem_msg.specs.declared.state.Parked.{Parked}
 use Rattle.sem_msg.specs.declared.state.Pending.{Pending}
 use Rattle.sem_msg.specs.declared.state.Up.{Up}
-use Rattle.sem_msg.specs.Rows.{JobRow, VpeRow, no_vpe}
-use Rattle.sem_machine.specs.Sides.{Side, row, cap, job, pending, outbox, with_row, unbind_all, cap_added, cap_changed, mark_all, caps_removed, pending_added, pending_removed, job_opened, job_changed, job_removed, send, sent, with_inbox}
-use Rattle.sem_machine.specs.Revokes.{has_key}
-use Rattle.sem_machine.proofs.Finds.{held-with_cap_same, held-with_cap_other}
-use Rattle.sem_machine.proofs.KeyTests.{key_eq-true, key_eq-from}
-use Rattle.sem_machine.proofs.Members.{find_none, Contains-from_filter}
-use Rattle.sem_machine.proofs.Puts.{get_or-put_same, get_or-put_other}
-use Rattle.sem_safety.specs.Seen.{seen, at, at_key, row_unbound, caps_changed, if_kept, AreDistinct}
+use Rattle.sem_msg.specs.Rows.{Endpoint, JobRow, VpeRow, no_vpe}
+use Rattle.sem_msg.specs.EndpointRows.{with_endpoint_in, all_unbound_from}
+use Rattle.sem_machine.specs.Sides.{Side, row, cap, job, pending, outbox, parked, with_row, with_endpoint, parked_as, unparked, unbind_all, cap_added, cap_changed, mark_all, caps_removed, pending_added, pending_removed, job_opened, job_changed, job_removed, send, sent, with_inbox}
+use Rattle.sem_key.specs.Region.{has_key}
+use Rattle.sem_key.proofs.Finds.{held-with_cap_same, held-with_cap_other}
+use Rattle.sem_key.proofs.KeyTests.{key_eq-true, key_eq-from}
+use Rattle.sem_key.proofs.Members.{find_none, Contains-from_filter}
+use Rattle.sem_key.proofs.Puts.{get_or-put_same, get_or-put_other}
+use Rattle.sem_safety.specs.Seen.{seen, at, at_key, endpoints, caps_changed, if_kept, AreDistinct}
 
 -- functions that are equal at each place are equal
 pub ext : {A B : Type 0} (f g : A → B) → ((x : A) → f x ≡ g x) → f ≡ g
@@ -40,14 +42,25 @@ reads-put d xs i x = ext _ _ (read-put d xs i x)
 pub seen-with_row : (v : ℕ) (f : VpeRow → VpeRow) (s : Side) → seen (with_row v f s) ≡ record (seen s) { row = at v (f (row s v)) (row s) }
 seen-with_row v f s = ap (λ (rows : ℕ → VpeRow). record (seen s) { row = rows }) (reads-put no_vpe s.vpes v (f (row s v)))
 
--- all rows changed in the same way, which leaves a VPE of which nothing is kept
-reads-map : {X : Type 0} (d : X) (f : X → X) (xs : List X) (i : ℕ) → f d ≡ d → get_or (map f xs) i d ≡ f (get_or xs i d)
+-- Endpoints and parked calls.
+
+-- all changed in the same way, which leaves what is read past the end
+pub reads-map : {X : Type 0} (d : X) (f : X → X) (xs : List X) (i : ℕ) → f d ≡ d → get_or (map f xs) i d ≡ f (get_or xs i d)
 reads-map d f [] i same = sym same
 reads-map d f (x ∷ xs) zero same = refl
 reads-map d f (x ∷ xs) (suc i) same = reads-map d f xs i same
 
-pub seen-unbind_all : (ks : List KeyName) (s : Side) → seen (unbind_all ks s) ≡ record (seen s) { row = λ v. row_unbound ks (row s v) }
-seen-unbind_all ks s = ap (λ (rows : ℕ → VpeRow). record (seen s) { row = rows }) (ext _ _ (λ v. reads-map no_vpe (row_unbound ks) s.vpes v refl))
+pub seen-unbind_all : (ks : List KeyName) (s : Side) → seen (unbind_all ks s) ≡ record (seen s) { endpoints = λ v. all_unbound_from ks (endpoints s v) }
+seen-unbind_all ks s = ap (λ (rows : ℕ → List (Option Endpoint)). record (seen s) { endpoints = rows }) (ext _ _ (λ v. reads-map [] (all_unbound_from ks) s.endpoints v refl))
+
+pub seen-with_endpoint : (v ep : ℕ) (e : Option Endpoint) (s : Side) → seen (with_endpoint v ep e s) ≡ record (seen s) { endpoints = at v (with_endpoint_in (endpoints s v) ep e) (endpoints s) }
+seen-with_endpoint v ep e s = ap (λ (rows : ℕ → List (Option Endpoint)). record (seen s) { endpoints = rows }) (reads-put [] s.endpoints v (with_endpoint_in (endpoints s v) ep e))
+
+pub seen-parked_as : (v : ℕ) (p : Parked) (s : Side) → seen (parked_as v p s) ≡ record (seen s) { parked = at v (Some p) (parked s) }
+seen-parked_as v p s = ap (λ (calls : ℕ → Option Parked). record (seen s) { parked = calls }) (reads-put None s.parks v (Some p))
+
+pub seen-unparked : (v : ℕ) (s : Side) → seen (unparked v s) ≡ record (seen s) { parked = at v None (parked s) }
+seen-unparked v s = ap (λ (calls : ℕ → Option Parked). record (seen s) { parked = calls }) (reads-put None s.parks v None)
 
 -- Capabilities.
 
@@ -132,8 +145,8 @@ seen-pending_removed k s = ap (λ (ps : KeyName → Option Pending). record (see
 
 -- Jobs.
 
-pub seen-job_opened : (root : KeyName) (up : Option Up) (waiters : List ℕ) (s : Side) → seen (job_opened root up waiters s) ≡ record (seen s) { job = λ j. option_or (job s j) (if s.next_job == j then Some (record { id = s.next_job; root = root; up = up; waiters = waiters; count = 0 }) else None); next_job = s.next_job + 1 }
-seen-job_opened root up waiters s = ap (λ (jobs : ℕ → Option JobRow). record (seen s) { job = jobs; next_job = s.next_job + 1 }) (ext _ _ (λ j. find-last (λ x. x.id == j) s.jobs (record { id = s.next_job; root = root; up = up; waiters = waiters; count = 0 })))
+pub seen-job_opened : (root : KeyName) (up : Option Up) (waiters : List ℕ) (keep : Bool) (s : Side) → seen (job_opened root up waiters keep s) ≡ record (seen s) { job = λ j. option_or (job s j) (if s.next_job == j then Some (record { id = s.next_job; root = root; up = up; waiters = waiters; count = 0; keep = keep }) else None); next_job = s.next_job + 1 }
+seen-job_opened root up waiters keep s = ap (λ (jobs : ℕ → Option JobRow). record (seen s) { job = jobs; next_job = s.next_job + 1 }) (ext _ _ (λ j. find-last (λ x. x.id == j) s.jobs (record { id = s.next_job; root = root; up = up; waiters = waiters; count = 0; keep = keep })))
 
 find-job_changed : (j : ℕ) (f : JobRow → JobRow) (q : ℕ) (xs : List JobRow) → ((x : JobRow) → (f x).id ≡ x.id) → find (λ x. x.id == q) (change (λ x. x.id == j) f xs) ≡ (if q == j then option_map f (find (λ x. x.id == q) xs) else find (λ x. x.id == q) xs)
 find-job_changed j f q [] keeps = sym (cond_both (q == j) None None (λ o. o ≡ None) (λ _. refl) (λ _. refl))

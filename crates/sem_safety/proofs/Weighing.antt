@@ -5,7 +5,7 @@ use Rattle.std.proofs.lemmas.Bool.{cases_Bool, cond-true, cond-false}
 use Rattle.std.specs.Option.{option_map_or}
 use Rattle.std.proofs.lemmas.List.Sums.{sum_by-cons}
 use Rattle.sem_key.specs.Lists.{put}
-use Rattle.sem_machine.proofs.Members.{Contains-nil, Contains-head, Contains-tail, Contains-cons_cases}
+use Rattle.sem_key.proofs.Members.{Contains-nil, Contains-head, Contains-tail, Contains-cons_cases}
 
 module _ {X : Type 0} (w : X → ℕ) where
   -- the weight of what may be there

@@ -1,4 +1,4 @@
--- How many messages of a kind are in flight ("Counts" in docs/proof.md).
+-- How many messages of a kind are in flight.
 use Rattle.std.specs.Prelude.{ℕ, zero, suc, ◌+◌, Bool, count_by, if◌then◌else◌}
 use Rattle.sem_msg.specs.declared.message.Message.{Message}
 use Rattle.sem_machine.specs.Machine.{World}

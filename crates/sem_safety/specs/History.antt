@@ -1,31 +1,34 @@
 -- What a proof keeps of a journal so far ("Histories" in docs/proof.md).
-use Rattle.std.specs.Prelude.{ℕ, ◌+◌, ◌==◌, Bool, false, not, ◌&&◌, List, [], ◌∷◌, ◌++◌, filter, map, fold, Option, Some, None, option_to_list}
+use Rattle.std.specs.Prelude.{ℕ, ◌+◌, ◌==◌, Bool, false, not, ◌&&◌, List, [], ◌∷◌, ◌++◌, filter, flat_map, fold, Option, Some, None, option_to_list}
 use Rattle.std.specs.Option.{option_map_or}
 use Rattle.sem_key.specs.KeyName.{KeyName}
-use Rattle.sem_msg.specs.declared.call.Call.TheVariants.{Revoke, Exit}
+use Rattle.sem_msg.specs.declared.call.Call.TheVariants.{Exit}
 use Rattle.sem_msg.specs.declared.event.Act.{Act}
 use Rattle.sem_msg.specs.declared.event.Act.TheVariants.{Call as Calls, Kill}
 use Rattle.sem_msg.specs.declared.entry.Detail.{Detail}
 use Rattle.sem_msg.specs.declared.entry.Detail.TheVariants.{Called}
 use Rattle.sem_msg.specs.declared.entry.Entry.{Entry}
+use Rattle.sem_machine.specs.Journals.{cut_off}
 
 pub record History : Type 0 where
   -- each a parent and its child, in their order
   pub grants : List (KeyName × KeyName)
-  -- the keys at which revokes began
+  -- the keys at which revokes and clears began
   pub cuts : List KeyName
+  -- what they cut off
+  pub cut : List KeyName
   -- the VPEs that have ended
   pub ended : List ℕ
-  -- the revokes that are not answered yet: the VPE and the key
-  pub waiting : List (ℕ × KeyName)
-  -- the keys whose revoke was answered with success
+  -- the calls that are not answered yet: the VPE and the keys that it cut off
+  pub waiting : List (ℕ × List KeyName)
+  -- the keys that were cut off by calls which were answered with success
   pub answered : List KeyName
   -- how many entries there are
   pub entries : ℕ
 
 -- before the first entry
 abbrev pub no_history : History
-no_history = record { grants = []; cuts = []; ended = []; waiting = []; answered = []; entries = 0 }
+no_history = record { grants = []; cuts = []; cut = []; ended = []; waiting = []; answered = []; entries = 0 }
 
 -- the VPE that ends by an act, if one does: it is killed, or calls `exit`
 abbrev pub ended_by : Act → Detail → Option ℕ
@@ -33,10 +36,14 @@ ended_by (Kill w) detail = Some w
 ended_by (Calls w) (Called index Exit) = Some w
 ended_by act detail = None
 
--- the revoke that begins with an entry, if one does
-abbrev pub revoke_by : Act → Detail → Option KeyName → List (ℕ × KeyName)
-revoke_by (Calls v) (Called index (Revoke src)) (Some k) = (v, k) ∷ []
-revoke_by act detail cut' = []
+-- what an entry cuts off, by the grants before it
+abbrev pub cut_at : List (KeyName × KeyName) → Entry → List KeyName
+cut_at gs e = option_map_or (cut_off gs e.detail) e.cut []
+
+-- the call that begins with an act, if one does, and cuts off these keys
+abbrev pub call_by : Act → List KeyName → List (ℕ × List KeyName)
+call_by (Calls v) ks = (v, ks) ∷ []
+call_by act ks = []
 
 -- whether the entry replies to the VPE, and whether with success
 abbrev pub replies_to : Entry → ℕ → Bool
@@ -50,9 +57,10 @@ abbrev pub note : History → Entry → History
 note h e = record {
   grants = h.grants ++ option_to_list e.grant;
   cuts = h.cuts ++ option_to_list e.cut;
+  cut = h.cut ++ cut_at h.grants e;
   ended = h.ended ++ option_to_list (ended_by e.event.act e.detail);
-  waiting = filter (λ w. not (replies_to e w.0)) h.waiting ++ revoke_by e.event.act e.detail e.cut;
-  answered = h.answered ++ map (λ w. w.1) (filter (λ w. replies_to e w.0 && succeeds e) h.waiting);
+  waiting = filter (λ w. not (replies_to e w.0)) h.waiting ++ call_by e.event.act (cut_at h.grants e);
+  answered = h.answered ++ flat_map (λ w. w.1) (filter (λ w. replies_to e w.0 && succeeds e) h.waiting);
   entries = h.entries + 1;
 }
 

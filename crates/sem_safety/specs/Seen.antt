@@ -1,13 +1,13 @@
 -- What is observed of a side and of a world: functions read off them. Facts about schedules are stated over these ("Observations" in docs/proof.md).
-use Rattle.std.specs.Prelude.{◌≡◌, ℕ, ◌==◌, Bool, false, List, map, Option, Some, None, AllPairs, if◌then◌else◌}
+use Rattle.std.specs.Prelude.{◌≡◌, ℕ, ◌==◌, Bool, false, List, [], slice_index_or, Option, Some, None, AllPairs, if◌then◌else◌}
 use Rattle.std.specs.Option.{option_map, option_and_then}
 use Rattle.sem_key.specs.KeyName.{KeyName, key_eq}
 use Rattle.sem_key.specs.Capability.{Capability}
 use Rattle.sem_msg.specs.declared.message.Message.{Message}
+use Rattle.sem_msg.specs.declared.state.Parked.{Parked}
 use Rattle.sem_msg.specs.declared.state.Pending.{Pending}
 use Rattle.sem_msg.specs.Rows.{JobRow, Endpoint, VpeRow}
-use Rattle.sem_msg.specs.EndpointRows.{unbound_from}
-use Rattle.sem_machine.specs.Sides.{Side, cap, row, pending, job, outbox}
+use Rattle.sem_machine.specs.Sides.{Side, cap, row, parked, pending, job, outbox}
 use Rattle.sem_machine.specs.Machine.{World, side, link}
 
 -- what is seen of a side
@@ -16,6 +16,10 @@ pub record Seen : Type 0 where
   pub cap : KeyName → Option Capability
   -- what is kept of a VPE
   pub row : ℕ → VpeRow
+  -- the endpoints of a VPE
+  pub endpoints : ℕ → List (Option Endpoint)
+  -- the state in which the call of a VPE is parked
+  pub parked : ℕ → Option Parked
   -- the pending delegation of a key
   pub pending : KeyName → Option Pending
   -- the open job of an id
@@ -25,8 +29,12 @@ pub record Seen : Type 0 where
   -- the messages that wait to be sent to a kernel
   pub outbox : ℕ → List Message
 
+-- the endpoints of a VPE
+abbrev pub endpoints : Side → ℕ → List (Option Endpoint)
+endpoints s v = slice_index_or s.endpoints v []
+
 abbrev pub seen : Side → Seen
-seen s = record { cap = cap s; row = row s; pending = pending s; job = job s; next_job = s.next_job; inbox = s.inbox; outbox = outbox s }
+seen s = record { cap = cap s; row = row s; endpoints = endpoints s; parked = parked s; pending = pending s; job = job s; next_job = s.next_job; inbox = s.inbox; outbox = outbox s }
 
 -- what is seen of a world
 pub record Observed : Type 0 where
@@ -46,10 +54,6 @@ at i x f j = if j == i then x else f j
 -- the function with another value at one key
 abbrev pub at_key : {X : Type 0} → KeyName → X → (KeyName → X) → KeyName → X
 at_key k x f q = if key_eq q k then x else f q
-
--- the row with no endpoint bound to one of these keys
-abbrev pub row_unbound : List KeyName → VpeRow → VpeRow
-row_unbound ks r = record r { endpoints = map {A = Option Endpoint} (unbound_from ks) r.endpoints }
 
 -- the capabilities whose keys pass a test, changed
 abbrev pub caps_changed : (KeyName → Bool) → (Capability → Capability) → (KeyName → Option Capability) → KeyName → Option Capability

@@ -2,6 +2,8 @@
 use Rattle.std.specs.Prelude.{◌≡◌, ℕ, List, length, filter_map, Contains, Option, Some, None, IsSome}
 use Rattle.sem_key.specs.KeyName.{KeyName, IsValidKey}
 use Rattle.sem_key.specs.Capability.{Capability}
+use Rattle.sem_msg.specs.declared.call.Call.TheVariants.{Revoke}
+use Rattle.sem_msg.specs.declared.entry.Detail.TheVariants.{Called}
 use Rattle.sem_msg.specs.declared.entry.Entry.{Entry}
 use Rattle.sem_msg.specs.Setup.{Setup}
 use Rattle.sem_machine.specs.Sides.{cap}
@@ -28,6 +30,10 @@ pub record IsSettled (roots : List KeyName) (gs : List (KeyName × KeyName)) (cs
   pub there : (k : KeyName) → IsSome (held k) → Contains (grown roots gs) k
   pub uncut : (k : KeyName) → IsSome (held k) → IsUncut gs cs k
   pub kept : (k : KeyName) → Contains (grown roots gs) k → IsUncut gs cs k → IsSome (held k)
+
+-- each entry that cuts at a key is the call of a revoke
+abbrev pub OnlyRevokes : List Entry → Type 0
+OnlyRevokes J = (e : Entry) → Contains J e → (k : KeyName) → e.cut ≡ Some k → (index : ℕ) × (src : ℕ) × (e.detail ≡ Called index (Revoke src))
 
 -- kernel i is settled after a journal
 abbrev pub IsSettledAfter : Setup → List Entry → ℕ → Type 0

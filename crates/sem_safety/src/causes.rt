@@ -10,7 +10,7 @@ ghost use Rattle.sem_machine.specs.Living.{HoldsCap, InFlight};
 ghost use Rattle.sem_safety.specs.Causes.{HasCutAncestor};
 
 /// After every schedule of every setup each link of a held capability is a grant. What a job has marked has an ancestor at which
-/// a revoke began or whose VPE ended, and so has each made key that a kernel asks another to revoke.
+/// a revoke or a clear began or whose VPE ended, and so has each made key that a kernel asks another to revoke.
 pub fn marks_have_a_cause()
     ensures links { (T : Setup) → IsSetup T → (J : List Entry) → IsSchedule T J → (i : ℕ) (p k : KeyName) (c : Capability) → HoldsCap (world_after T J) i p c → Contains c.children k → Contains (grants J) (p, k) }
     ensures marks { (T : Setup) → IsSetup T → (J : List Entry) → IsSchedule T J → (i : ℕ) (k : KeyName) (c : Capability) (j : ℕ) → HoldsCap (world_after T J) i k c → c.mark ≡ Some j → HasCutAncestor J k }

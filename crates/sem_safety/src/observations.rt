@@ -1,23 +1,28 @@
-ghost use Rattle.std.specs.Prelude.{◌≡◌, ◌==◌, ◌+◌, ℕ, not, List, [], ◌∷◌, ◌++◌, drop, Option, Some, None, if◌then◌else◌};
+ghost use Rattle.std.specs.Prelude.{Bool, ◌≡◌, ◌==◌, ◌+◌, ℕ, not, List, [], ◌∷◌, ◌++◌, drop, Option, Some, None, if◌then◌else◌};
 ghost use Rattle.std.specs.Option.{option_map, option_or};
 ghost use Rattle.sem_key.specs.KeyName.{KeyName, key_eq};
 ghost use Rattle.sem_key.specs.Capability.{Capability};
 ghost use Rattle.sem_key.specs.CapList.{is_marked_by};
 ghost use Rattle.sem_msg.specs.declared.message.Message.{Message};
+ghost use Rattle.sem_msg.specs.declared.state.Parked.{Parked};
 ghost use Rattle.sem_msg.specs.declared.state.Pending.{Pending};
 ghost use Rattle.sem_msg.specs.declared.state.Up.{Up};
-ghost use Rattle.sem_msg.specs.Rows.{JobRow, VpeRow};
-ghost use Rattle.sem_machine.specs.Sides.{Side, cap, row, pending, job, outbox, with_row, unbind_all, cap_added, cap_changed, mark_all, caps_removed, pending_added, pending_removed, job_opened, job_changed, job_removed, send, sent, with_inbox};
-ghost use Rattle.sem_machine.specs.Revokes.{has_key};
+ghost use Rattle.sem_msg.specs.Rows.{Endpoint, JobRow, VpeRow};
+ghost use Rattle.sem_msg.specs.EndpointRows.{with_endpoint_in, all_unbound_from};
+ghost use Rattle.sem_machine.specs.Sides.{Side, cap, row, pending, job, outbox, parked, with_row, with_endpoint, parked_as, unparked, unbind_all, cap_added, cap_changed, mark_all, caps_removed, pending_added, pending_removed, job_opened, job_changed, job_removed, send, sent, with_inbox, parked};
+ghost use Rattle.sem_key.specs.Region.{has_key};
 ghost use Rattle.sem_machine.specs.Machine.{World, side, link, with_side, with_link};
 ghost use Rattle.sem_machine.specs.Living.{way};
-ghost use Rattle.sem_safety.specs.Seen.{seen, observed, at, at_key, row_unbound, caps_changed, if_kept, AreDistinct};
+ghost use Rattle.sem_safety.specs.Seen.{seen, observed, at, at_key, endpoints, caps_changed, if_kept, AreDistinct};
 
 /// How each change of a side shows in what is seen of it; nothing else of it changes.
 pub fn changes_are_seen()
-    // All changes of what is kept of one VPE: calls, numbers, selectors, asks, parked calls, the end, endpoints.
+    // All changes of what is kept of one VPE: calls, numbers, selectors, asks, the end. Its endpoints and its parked call are kept apart.
     ensures row { (v : ℕ) (f : VpeRow → VpeRow) (s : Side) → seen (with_row v f s) ≡ record (seen s) { row = at v (f (row s v)) (row s) } }
-    ensures unbound { (ks : List KeyName) (s : Side) → seen (unbind_all ks s) ≡ record (seen s) { row = λ v. row_unbound ks (row s v) } }
+    ensures unbound { (ks : List KeyName) (s : Side) → seen (unbind_all ks s) ≡ record (seen s) { endpoints = λ v. all_unbound_from ks (endpoints s v) } }
+    ensures endpoint { (v ep : ℕ) (e : Option Endpoint) (s : Side) → seen (with_endpoint v ep e s) ≡ record (seen s) { endpoints = at v (with_endpoint_in (endpoints s v) ep e) (endpoints s) } }
+    ensures parked { (v : ℕ) (p : Parked) (s : Side) → seen (parked_as v p s) ≡ record (seen s) { parked = at v (Some p) (parked s) } }
+    ensures unparked { (v : ℕ) (s : Side) → seen (unparked v s) ≡ record (seen s) { parked = at v None (parked s) } }
 
     // Capabilities. A link is a change of the parent, and what is installed is added.
     ensures cap_added { (c : Capability) (s : Side) → seen (cap_added c s) ≡ record (seen s) { cap = at_key c.key (Some c) (cap s) } }
@@ -30,7 +35,7 @@ pub fn changes_are_seen()
     ensures pending_removed { (k : KeyName) (s : Side) → seen (pending_removed k s) ≡ record (seen s) { pending = at_key k None (pending s) } }
 
     // Jobs.
-    ensures job_opened { (root : KeyName) (up : Option Up) (waiters : List ℕ) (s : Side) → seen (job_opened root up waiters s) ≡ record (seen s) { job = λ j. option_or (job s j) (if s.next_job == j then Some (record { id = s.next_job; root = root; up = up; waiters = waiters; count = 0 }) else None); next_job = s.next_job + 1 } }
+    ensures job_opened { (root : KeyName) (up : Option Up) (waiters : List ℕ) (keep : Bool) (s : Side) → seen (job_opened root up waiters keep s) ≡ record (seen s) { job = λ j. option_or (job s j) (if s.next_job == j then Some (record { id = s.next_job; root = root; up = up; waiters = waiters; count = 0; keep = keep }) else None); next_job = s.next_job + 1 } }
     ensures job_changed { (j : ℕ) (f : JobRow → JobRow) (s : Side) → ((x : JobRow) → (f x).id ≡ x.id) → seen (job_changed j f s) ≡ record (seen s) { job = λ q. if q == j then option_map f (job s q) else job s q } }
     ensures job_removed { (j : ℕ) (s : Side) → seen (job_removed j s) ≡ record (seen s) { job = at j None (job s) } }
 

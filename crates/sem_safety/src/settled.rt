@@ -6,7 +6,7 @@ ghost use Rattle.sem_key.specs.KeyList.{with_key, without_key};
 ghost use Rattle.sem_key.specs.Capability.{Capability};
 ghost use Rattle.sem_msg.specs.declared.entry.Entry.{Entry};
 ghost use Rattle.sem_msg.specs.Setup.{Setup};
-ghost use Rattle.sem_machine.specs.Revokes.{Reached};
+ghost use Rattle.sem_key.specs.Region.{Reached};
 ghost use Rattle.sem_machine.specs.Sides.{cap};
 ghost use Rattle.sem_machine.specs.Machine.{side};
 ghost use Rattle.sem_machine.specs.Schedules.{IsSchedule, world_after};
@@ -14,7 +14,7 @@ ghost use Rattle.sem_machine.specs.Journals.{grants, root_keys};
 ghost use Rattle.sem_machine.specs.Safety.{IsInUse, lineage, revoked_is_gone, sound_grants, nothing_lost};
 ghost use Rattle.sem_safety.specs.Growth.{grown, IsGrown};
 ghost use Rattle.sem_safety.specs.NewGrants.{AreNew};
-ghost use Rattle.sem_safety.specs.Settled.{IsSettled, IsSettledAfter};
+ghost use Rattle.sem_safety.specs.Settled.{IsSettled, IsSettledAfter, OnlyRevokes};
 
 /// Where each grant of a schedule is of a key that was never made before, the grants grow key by key, and are sound.
 pub fn new_grants_are_sound()
@@ -30,10 +30,11 @@ pub fn settled_stays_settled()
     ensures unlinked { (roots : List KeyName) (gs : List (KeyName × KeyName)) (cs : List KeyName) (held now : KeyName → Option Capability) → IsSettled roots gs cs held → (p r : KeyName) → held r ≡ None → now p ≡ option_map (λ (c : Capability). record c { children = without_key c.children r }) (held p) → ((q : KeyName) → key_eq p q ≡ false → now q ≡ held q) → IsSettled roots gs cs now }
 {}
 
-/// Where a kernel is settled after a journal, and no key is in use but those that it holds: each key in use derives from a
-/// root by grants, none has an ancestor whose revoke was answered, and what was made and not cut is live.
+/// Where a kernel is settled after a journal, and no key is in use but those that it holds, each key in use derives from a root
+/// by grants. Where nothing was cleared, none of them has an ancestor whose revoke was answered, and what was made and not cut
+/// is live.
 pub fn settled_is_safe()
     ensures lineage { (T : Setup) (J : List Entry) (i : ℕ) → IsSettledAfter T J i → ((k : KeyName) → IsInUse (world_after T J) k → IsSome (cap (side (world_after T J) i) k)) → lineage T J }
-    ensures revoked_is_gone { (T : Setup) (J : List Entry) (i : ℕ) → IsSettledAfter T J i → ((k : KeyName) → IsInUse (world_after T J) k → IsSome (cap (side (world_after T J) i) k)) → revoked_is_gone T J }
-    ensures nothing_lost { (T : Setup) (J : List Entry) (i : ℕ) → IsSettledAfter T J i → nothing_lost T J }
+    ensures revoked_is_gone { (T : Setup) (J : List Entry) (i : ℕ) → IsSettledAfter T J i → ((k : KeyName) → IsInUse (world_after T J) k → IsSome (cap (side (world_after T J) i) k)) → OnlyRevokes J → revoked_is_gone T J }
+    ensures nothing_lost { (T : Setup) (J : List Entry) (i : ℕ) → IsSettledAfter T J i → OnlyRevokes J → nothing_lost T J }
 {}

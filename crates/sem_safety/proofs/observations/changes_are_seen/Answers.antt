@@ -1,4 +1,4 @@
-use Rattle.sem_safety.proofs.Updates.{seen-with_row, seen-unbind_all, seen-cap_added, seen-cap_changed, seen-mark_all, seen-caps_removed, seen-pending_added, seen-pending_removed, seen-job_opened, seen-job_changed, seen-job_removed, seen-send, seen-sent, seen-with_inbox}
+use Rattle.sem_safety.proofs.Updates.{seen-with_row, seen-unbind_all, seen-with_endpoint, seen-parked_as, seen-unparked, seen-cap_added, seen-cap_changed, seen-mark_all, seen-caps_removed, seen-pending_added, seen-pending_removed, seen-job_opened, seen-job_changed, seen-job_removed, seen-send, seen-sent, seen-with_inbox}
 use Rattle.sem_safety.proofs.observations.changes_are_seen.Goals as goal
 
 pub returns-clause-row : goal.returns-clause-row
@@ -6,6 +6,15 @@ returns-clause-row c = seen-with_row
 
 pub returns-clause-unbound : goal.returns-clause-unbound
 returns-clause-unbound c = seen-unbind_all
+
+pub returns-clause-endpoint : goal.returns-clause-endpoint
+returns-clause-endpoint c = seen-with_endpoint
+
+pub returns-clause-parked : goal.returns-clause-parked
+returns-clause-parked c = seen-parked_as
+
+pub returns-clause-unparked : goal.returns-clause-unparked
+returns-clause-unparked c = seen-unparked
 
 pub returns-clause-cap_added : goal.returns-clause-cap_added
 returns-clause-cap_added c = seen-cap_added

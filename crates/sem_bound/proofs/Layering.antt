@@ -1,0 +1,160 @@
+-- Two layers that the bound needs: the ids of the jobs rise, and a key of a root has no parent.
+use Rattle.std.proofs.Common.{◌≡◌, ℕ, zero, suc, ◌+◌, ◌<◌, Bool, false, not, ◌&&◌, List, [], ◌∷◌, ◌++◌, length, map, get_or, Some, None, refl, sym, ap, ◌∙◌, arith}
+use Rattle.std.specs.Prelude.{◌==◌, if◌then◌else◌}
+use Rattle.std.specs.List.{Contains, All, list_any}
+use Rattle.std.proofs.lemmas.Bool.{cond_both}
+use Rattle.std.proofs.lemmas.List.Kept.{AllPairs-filter}
+use Rattle.std.proofs.lemmas.List.Elements.{All-append, All-cons, All-nil, All-filter, All-map, All-weaker}
+use Rattle.sem_key.specs.KeyName.{KeyName, key_eq}
+use Rattle.sem_key.specs.KeyList.{with_key, without_key}
+use Rattle.sem_key.specs.Lists.{change}
+use Rattle.sem_key.specs.Capability.{Capability}
+use Rattle.sem_key.specs.CapList.{is_marked_by, with_mark}
+use Rattle.sem_msg.specs.Rows.{JobRow}
+use Rattle.sem_msg.specs.JobRows.{without_number}
+use Rattle.sem_machine.specs.Sides.{Side}
+use Rattle.sem_key.proofs.Members.{AllPairs-map, Contains-from_filter, Contains-from_map}
+use Rattle.sem_safety.specs.Seen.{AreDistinct}
+use Rattle.sem_safety.proofs.Layers.{facts, IsKept}
+use Rattle.sem_safety.proofs.Onwards.{Any, AnyPlace}
+use Rattle.sem_bound.proofs.Weights.{IdsRise}
+
+-- Ids.
+
+pub record HasIds (s : Side) : Type 0 where
+  pub rise : IdsRise s.jobs
+  pub drawn : All (λ (x : JobRow). x.id < s.next_job) s.jobs
+
+-- a change that leaves the ids
+rise-map : (f : JobRow → JobRow) → ((x : JobRow) → (f x).id ≡ x.id) → (xs : List JobRow) → IdsRise xs → IdsRise (map f xs)
+rise-map f same xs rise = AllPairs-map (λ a b. a.id < b.id) f xs (λ i j d lt within. let one = same (get_or xs i d) in let two = same (get_or xs j d) in let below = rise i j d lt within in omega (arith, one, two, below))
+
+drawn-map : (n : ℕ) (f : JobRow → JobRow) → ((x : JobRow) → (f x).id ≡ x.id) → (xs : List JobRow) → All (λ (x : JobRow). x.id < n) xs → All (λ (x : JobRow). x.id < n) (map f xs)
+drawn-map n f same xs drawn = All-map (λ (x : JobRow). x.id < n) f xs (All-weaker (λ (x : JobRow). x.id < n) (λ x. (f x).id < n) (λ x below. let one = same x in omega (arith, one, below)) xs drawn)
+
+rise-push : (xs : List JobRow) (x : JobRow) → IdsRise xs → All (λ (y : JobRow). y.id < x.id) xs → IdsRise (xs ++ x ∷ [])
+rise-push [] x rise below = λ i j d lt within. absurd (omega (arith, lt, within))
+rise-push (y ∷ ys) x rise below = from (rise-push ys x (λ i j d lt within. rise (suc i) (suc j) d (omega (arith, lt)) (omega (arith, within))) (λ k d within. below (suc k) d (omega (arith, within))))
+  where
+    first : (j : ℕ) (zs : List JobRow) (d : JobRow) → ((k : ℕ) → k < length zs → y.id < (get_or zs k d).id) → j < length (zs ++ x ∷ []) → y.id < x.id → y.id < (get_or (zs ++ x ∷ []) j d).id
+    first zero [] d each within last = last
+    first (suc j) [] d each within last = absurd (omega (arith, within))
+    first zero (z ∷ zs) d each within last = each zero (omega arith)
+    first (suc j) (z ∷ zs) d each within last = first j zs d (λ k lt. each (suc k) (omega (arith, lt))) (omega (arith, within)) last
+
+    from : IdsRise (ys ++ x ∷ []) → IdsRise (y ∷ (ys ++ x ∷ []))
+    from rest zero zero d lt within = absurd (omega (arith, lt))
+    from rest zero (suc j) d lt within = first j ys d (λ k in_ys. rise zero (suc k) d (omega arith) (omega (arith, in_ys))) (omega (arith, within)) (below zero d (omega arith))
+    from rest (suc i) zero d lt within = absurd (omega (arith, lt))
+    from rest (suc i) (suc j) d lt within = rest i j d (omega (arith, lt)) (omega (arith, within))
+
+ids-changed : (s : Side) → HasIds s → (j : ℕ) (f : JobRow → JobRow) → ((x : JobRow) → ((f x).id ≡ x.id) × ((f x).root ≡ x.root)) → HasIds (record s { jobs = change (λ x. x.id == j) f s.jobs })
+ids-changed s is j f same =
+    let g : JobRow → JobRow = λ x. if x.id == j then f x else x in
+    let keeps : (x : JobRow) → (g x).id ≡ x.id = λ x. cond_both (x.id == j) (f x) x (λ (y : JobRow). y.id ≡ x.id) (λ _. (same x).0) (λ _. refl) in
+    record { rise = rise-map g keeps s.jobs is.rise; drawn = drawn-map s.next_job g keeps s.jobs is.drawn }
+
+pub ids : IsKept (facts Any AnyPlace) HasIds
+ids = record {
+  keeps_counted = λ s is v. record { rise = is.rise; drawn = is.drawn };
+  keeps_drawn = λ s is v. record { rise = is.rise; drawn = is.drawn };
+  keeps_slot = λ s is v sel state of_vpe. record { rise = is.rise; drawn = is.drawn };
+  keeps_parked = λ s is v p here. record { rise = is.rise; drawn = is.drawn };
+  keeps_unparked = λ s is v. record { rise = is.rise; drawn = is.drawn };
+  keeps_asked = λ s is v a here. record { rise = is.rise; drawn = is.drawn };
+  keeps_taken = λ s is v. record { rise = is.rise; drawn = is.drawn };
+  keeps_buried = λ s is v. record { rise = is.rise; drawn = is.drawn };
+  keeps_bound = λ s is v ep src c held unmarked here. record { rise = is.rise; drawn = is.drawn };
+  keeps_rung = λ s is v ep f. record { rise = is.rise; drawn = is.drawn };
+  keeps_added = λ s is c here childless unmarked. record { rise = is.rise; drawn = is.drawn };
+  keeps_linked = λ s is p k here. record { rise = is.rise; drawn = is.drawn };
+  keeps_unlinked = λ s is p k. record { rise = is.rise; drawn = is.drawn };
+  keeps_marked = λ s is ks j here. record { rise = is.rise; drawn = is.drawn };
+  keeps_restored = λ s is k. record { rise = is.rise; drawn = is.drawn };
+  keeps_removed = λ s is j. record { rise = is.rise; drawn = is.drawn };
+  keeps_pending_added = λ s is p. record { rise = is.rise; drawn = is.drawn };
+  keeps_pending_removed = λ s is k. record { rise = is.rise; drawn = is.drawn };
+  keeps_opened = λ s is root up waiters keep. record {
+    rise = rise-push s.jobs (record { id = s.next_job; root = root; up = up; waiters = waiters; count = 0; keep = keep }) is.rise is.drawn;
+    drawn = All-append (λ (x : JobRow). x.id < s.next_job + 1) s.jobs (record { id = s.next_job; root = root; up = up; waiters = waiters; count = 0; keep = keep } ∷ [])
+        (All-weaker (λ (x : JobRow). x.id < s.next_job) (λ (x : JobRow). x.id < s.next_job + 1) (λ x below. omega (arith, below)) s.jobs is.drawn)
+        (All-cons (λ (x : JobRow). x.id < s.next_job + 1) (record { id = s.next_job; root = root; up = up; waiters = waiters; count = 0; keep = keep }) [] (omega arith) (All-nil (λ (x : JobRow). x.id < s.next_job + 1)));
+  };
+  keeps_changed = λ s is j f same. ids-changed s is j f same;
+  keeps_left = λ s is j v. record {
+    rise = rise-map (λ (x : JobRow). record x { waiters = without_number x.waiters v; keep = x.keep && not ((x.id == j) && (x.root.vpe == v)) }) (λ x. refl) s.jobs is.rise;
+    drawn = drawn-map s.next_job (λ (x : JobRow). record x { waiters = without_number x.waiters v; keep = x.keep && not ((x.id == j) && (x.root.vpe == v)) }) (λ x. refl) s.jobs is.drawn;
+  };
+  keeps_closed = λ s is j. record { rise = AllPairs-filter (λ a b. a.id < b.id) (λ x. not (x.id == j)) s.jobs is.rise; drawn = All-filter (λ (x : JobRow). not (x.id == j)) (λ (x : JobRow). x.id < s.next_job) s.jobs is.drawn };
+  keeps_send = λ s is j msg here. record { rise = is.rise; drawn = is.drawn };
+  keeps_sent = λ s is j. record { rise = is.rise; drawn = is.drawn };
+  keeps_inbox = λ s is message here. record { rise = is.rise; drawn = is.drawn };
+  of_link = λ s is c among k child. tt;
+  spreads = λ p k here doomed. tt;
+}
+
+-- Keys.
+
+-- Distinct keys stay distinct as long as no capability comes: the fact that each capability that comes would have to have has no key.
+abbrev pub NoKey : KeyName → Type 0
+NoKey k = ⊥
+
+distinct-changed : (cs : List Capability) (test : Capability → Bool) (f : Capability → Capability) → ((c : Capability) → (f c).key ≡ c.key) → AreDistinct cs → AreDistinct (change test f cs)
+distinct-changed cs test f same distinct =
+    let g : Capability → Capability = λ c. if test c then f c else c in
+    let keeps : (c : Capability) → (g c).key ≡ c.key = λ c. cond_both (test c) (f c) c (λ (x : Capability). x.key ≡ c.key) (λ _. same c) (λ _. refl) in
+    AllPairs-map (λ (a b : Capability). key_eq a.key b.key ≡ false) g cs (λ i j d lt within. (ap (λ k. key_eq k (g (get_or cs j d)).key) (keeps (get_or cs i d)) ∙ ap (key_eq (get_or cs i d).key) (keeps (get_or cs j d))) ∙ distinct i j d lt within)
+
+-- Roots.
+
+module _ (rooted : KeyName → Bool) where
+  -- a capability that has a parent has no key of a root
+  abbrev pub BelowRoots : Side → Type 0
+  BelowRoots s = (c : Capability) → Contains s.caps c → (p : KeyName) → c.parent ≡ Some p → rooted c.key ≡ false
+
+  below-changed : (s : Side) (test : Capability → Bool) (f : Capability → Capability) → ((c : Capability) → ((f c).key ≡ c.key) × ((f c).parent ≡ c.parent)) → BelowRoots s → BelowRoots (record s { caps = change test f s.caps })
+  below-changed s test f same is = λ c among p parent.
+      let origin = Contains-from_map (λ (x : Capability). if test x then f x else x) s.caps c among in
+      let d : Capability = origin.0 in
+      let back : ((if test d then f d else d).key ≡ d.key) × ((if test d then f d else d).parent ≡ d.parent) = cond_both (test d) (f d) d (λ (y : Capability). (y.key ≡ d.key) × (y.parent ≡ d.parent)) (λ _. same d) (λ _. (refl, refl)) in
+      let key : c.key ≡ d.key = ap (λ (x : Capability). x.key) (sym origin.2) ∙ back.0 in
+      let of_d : d.parent ≡ Some p = sym back.1 ∙ (ap (λ (x : Capability). x.parent) origin.2 ∙ parent) in
+      ap rooted key ∙ is d origin.1 p of_d
+
+  -- what a step needs as long as no capability comes: keys stay distinct too
+  abbrev pub IsCalm : Side → Type 0
+  IsCalm s = BelowRoots s × AreDistinct s.caps
+
+  calm-changed : (s : Side) (test : Capability → Bool) (f : Capability → Capability) → ((c : Capability) → ((f c).key ≡ c.key) × ((f c).parent ≡ c.parent)) → IsCalm s → IsCalm (record s { caps = change test f s.caps })
+  calm-changed s test f same is = (below-changed s test f same is.0, distinct-changed s.caps test f (λ c. (same c).0) is.1)
+
+  pub calm : IsKept (facts NoKey AnyPlace) IsCalm
+  calm = record {
+    keeps_counted = λ s is v. is;
+    keeps_drawn = λ s is v. is;
+    keeps_slot = λ s is v sel state of_vpe. is;
+    keeps_parked = λ s is v p here. is;
+    keeps_unparked = λ s is v. is;
+    keeps_asked = λ s is v a here. is;
+    keeps_taken = λ s is v. is;
+    keeps_buried = λ s is v. is;
+    keeps_bound = λ s is v ep src c held unmarked here. is;
+    keeps_rung = λ s is v ep f. is;
+    keeps_added = λ s is c here childless unmarked. absurd here;
+    keeps_linked = λ s is p k here. calm-changed s (λ c. key_eq c.key p) (λ c. record c { children = with_key c.children k }) (λ c. (refl, refl)) is;
+    keeps_unlinked = λ s is p k. calm-changed s (λ c. key_eq c.key p) (λ c. record c { children = without_key c.children k }) (λ c. (refl, refl)) is;
+    keeps_marked = λ s is ks j here. calm-changed s (λ c. list_any (key_eq c.key) ks) (with_mark j) (λ c. (refl, refl)) is;
+    keeps_restored = λ s is k. calm-changed s (λ c. key_eq c.key k) (λ c. record c { children = []; mark = None }) (λ c. (refl, refl)) is;
+    keeps_removed = λ s is j. (λ c among p parent. is.0 c (Contains-from_filter (λ (x : Capability). not (is_marked_by j x)) s.caps c among).0 p parent, AllPairs-filter (λ (a b : Capability). key_eq a.key b.key ≡ false) (λ c. not (is_marked_by j c)) s.caps is.1);
+    keeps_pending_added = λ s is p. is;
+    keeps_pending_removed = λ s is k. is;
+    keeps_opened = λ s is root up waiters keep. is;
+    keeps_changed = λ s is j f same. is;
+    keeps_left = λ s is j v. is;
+    keeps_closed = λ s is j. is;
+    keeps_send = λ s is j msg here. is;
+    keeps_sent = λ s is j. is;
+    keeps_inbox = λ s is message here. is;
+    of_link = λ s is c among k child. tt;
+    spreads = λ p k here doomed. tt;
+  }

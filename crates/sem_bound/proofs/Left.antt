@@ -1,0 +1,239 @@
+-- The calls and the kills of a setup that are left: each call and each kill takes one, and no event gives any back.
+use Rattle.std.proofs.Common.{◌≡◌, ℕ, ◌+◌, ◌-◌, ◌≤◌, ◌&&◌, true, false, List, [], ◌∷◌, ◌++◌, length, Option, Some, None, is_some, is_none, refl, sym, ◌∙◌, ap, subst, inl, inr, arith, append-nil, append_assoc}
+use Rattle.std.specs.Prelude.{◌==◌, nat_lt, if◌then◌else◌}
+use Rattle.std.specs.List.{Contains, find, sum_by}
+use Rattle.std.specs.Option.{option_map, option_map_or}
+use Rattle.std.proofs.lemmas.Bool.{cases_Bool, and_parts, cond_both, cond-true, cond-false, eqb-true, false_from_ne_true}
+use Rattle.std.proofs.lemmas.List.Sums.{sum_by-cons, sum_by_push}
+use Rattle.std.proofs.lemmas.Option.{slice_get_within}
+use Rattle.sem_key.specs.Lists.{in_turn}
+use Rattle.sem_msg.specs.declared.call.Call.{Call}
+use Rattle.sem_msg.specs.declared.entry.Entry.{Entry}
+use Rattle.sem_msg.specs.declared.event.Act.{Act}
+use Rattle.sem_msg.specs.declared.event.Act.TheVariants.{Call as Calls, Fetch, Handle, Upcall, Resume, Flush, Kill}
+use Rattle.sem_msg.specs.declared.event.Event.{Event}
+use Rattle.sem_msg.specs.declared.message.Message.{Message}
+use Rattle.sem_msg.specs.declared.setup.VpeDecl.{VpeDecl}
+use Rattle.sem_msg.specs.declared.state.Ask.{Ask}
+use Rattle.sem_msg.specs.Rows.{VpeRow, no_vpe}
+use Rattle.sem_msg.specs.Setup.{Setup, call_count, kill_count}
+use Rattle.sem_msg.specs.Journal.{kill_number}
+use Rattle.sem_msg.specs.Lookups.{decl, calls_of, kernel_of}
+use Rattle.sem_machine.specs.Sides.{Side, row, cap, parked, is_alive, call_counted, buried, unparked}
+use Rattle.sem_machine.specs.Steps.{Step, plain}
+use Rattle.sem_machine.specs.Calls.{call_row}
+use Rattle.sem_machine.specs.Ends.{ask_ended, call_ended, revoked_if_left, keys_of, ended}
+use Rattle.sem_machine.specs.Machine.{World, side, start, next_call, local_step, input_of, after, event, is_enabled, is_locally_enabled}
+use Rattle.sem_machine.specs.Schedules.{IsSchedule, world_after}
+use Rattle.sem_machine.specs.Seeded.{is_call, is_kill}
+use Rattle.sem_key.proofs.Members.{found, Contains-cons_cases}
+use Rattle.sem_key.proofs.Puts.{get_or-put_same}
+use Rattle.sem_safety.specs.Onward.{IsOnward}
+use Rattle.sem_safety.proofs.Drawers.{side-after}
+use Rattle.sem_safety.proofs.GoingOn.{AnyVpe, any_grant, any_cut, after-onward, run-append, entry-enabled}
+use Rattle.sem_safety.proofs.KeptRows.{ask_ended-in, call_ended-in, revoked_if_there-in, call_row-keeps}
+use Rattle.sem_safety.proofs.Layers.{facts, in_turn-keeps}
+use Rattle.sem_safety.proofs.LiveWorlds.{sum-le}
+use Rattle.sem_safety.proofs.Onwards.{Any, AnyPlace, onward-same, onward}
+use Rattle.sem_bound.specs.Counts.{calls_made, kills_made}
+
+-- where no weight is greater and one is less, the sum is less
+sum-less : {X : Type 0} (w u : X → ℕ) → ((x : X) → w x ≤ u x) → (xs : List X) (x : X) → Contains xs x → w x + 1 ≤ u x → sum_by w xs + 1 ≤ sum_by u xs
+sum-less w u less [] x (k, within, same) one = absurd (omega (arith, within))
+sum-less w u less (y ∷ ys) x among one =
+    let new = sum_by-cons w y ys in
+    let old = sum_by-cons u y ys in
+    elim (Contains-cons_cases y ys x among) [
+      | inl same ↦
+          let here : w y + 1 ≤ u y = subst (λ z. w z + 1 ≤ u z) (sym same) one in
+          let rest = sum-le w u less ys in
+          omega (arith, new, old, here, rest)
+      | inr later ↦
+          let here = less y in
+          let rest = sum-less w u less ys x later one in
+          omega (arith, new, old, here, rest)
+    ]
+
+module _ (T : Setup) where
+  -- what is read of a VPE at its kernel
+  abbrev vpe_row : World → ℕ → VpeRow
+  vpe_row W v = row (side W (kernel_of T v)) v
+
+  abbrev call_left : World → VpeDecl → ℕ
+  call_left W d = length d.calls - (vpe_row W d.vpe).next_call
+
+  abbrev pub calls_left : World → ℕ
+  calls_left W = sum_by (call_left W) T.vpes
+
+  abbrev kill_left : World → ℕ × ℕ → ℕ
+  kill_left W k = if (vpe_row W k.0).alive then 1 else 0
+
+  abbrev pub kills_left : World → ℕ
+  kills_left W = sum_by (kill_left W) T.kills
+
+  -- No event gives any back.
+  call-less : (W : World) (e : Event) (d : VpeDecl) → call_left (after T W e) d ≤ call_left W d
+  call-less W e d = let on = ((after-onward T W e).sides (kernel_of T d.vpe)).calls d.vpe in omega (arith, on)
+
+  kill-less : (W : World) (e : Event) (k : ℕ × ℕ) → kill_left (after T W e) k ≤ kill_left W k
+  kill-less W e k = elim (cases_Bool (vpe_row (after T W e) k.0).alive) [
+    | inl lives ↦
+        let before : kill_left W k ≡ 1 = cond-true (vpe_row W k.0).alive 1 0 (((after-onward T W e).sides (kernel_of T k.0)).dead k.0 lives) in
+        let now : kill_left (after T W e) k ≡ 1 = cond-true (vpe_row (after T W e) k.0).alive 1 0 lives in
+        omega (arith, before, now)
+    | inr dead ↦ let now : kill_left (after T W e) k ≡ 0 = cond-false (vpe_row (after T W e) k.0).alive 1 0 dead in omega (arith, now)
+  ]
+
+  -- A call takes one.
+  counted-on : (i : ℕ) (s : Side) (v : ℕ) (c : Call) → IsOnward (call_counted v s) (call_row T i (call_counted v s) v c).side
+  counted-on i s v c =
+      let t : Side = call_counted v s in
+      let x : Step = call_row T i t v c in
+      call_row-keeps (facts Any AnyPlace) AnyVpe (IsOnward t) (onward t).kept T i t v c tt (onward-same t) (λ exit k same. tt) (λ k p held. tt) (any_grant x.outcome.grant, λ w n may low below. tt, any_cut x.outcome.cut)
+
+  called-more : (i : ℕ) (s : Side) (v : ℕ) (input : Option Message) → is_some (next_call T s v) ≡ true → (row s v).next_call + 1 ≤ (row (local_step T i s (Calls v) input).side v).next_call
+  unfolding local_step
+  called-more i s v input some = from (next_call T s v) some
+    where
+      from : (o : Option Call) → is_some o ≡ true → (row s v).next_call + 1 ≤ (row (option_map_or (call_row T i (call_counted v s) v) o (plain s)).side v).next_call
+      from None some = absurd cc
+      from (Some c) some =
+          let on = (counted-on i s v c).calls v in
+          let one : (row (call_counted v s) v).next_call ≡ (row s v).next_call + 1 = ap (λ (r : VpeRow). r.next_call) (get_or-put_same no_vpe s.vpes v (record (row s v) { next_call = (row s v).next_call + 1 })) in
+          omega (arith, on, one)
+
+  pub call-takes : (W : World) (i v : ℕ) → is_enabled T W (event i (Calls v)) ≡ true → calls_left (after T W (event i (Calls v))) + 1 ≤ calls_left W
+  unfolding is_enabled is_locally_enabled
+  call-takes W i v enabled =
+      let s : Side = side W i in
+      let e : Event = event i (Calls v) in
+      let here = (and_parts ((kernel_of T v == i) && (is_alive s v && (is_none (parked s v) && is_some (next_call T s v)))) _ (and_parts (nat_lt i T.kernels) _ enabled).1).0 in
+      let two = and_parts (kernel_of T v == i) (is_alive s v && (is_none (parked s v) && is_some (next_call T s v))) here in
+      let kernel : kernel_of T v ≡ i = eqb-true (kernel_of T v) i two.0 in
+      let three = and_parts (is_alive s v) (is_none (parked s v) && is_some (next_call T s v)) two.1 in
+      let some = (and_parts (is_none (parked s v)) (is_some (next_call T s v)) three.1).1 in
+      let more = called-more i s v (input_of W i (Calls v)) some in
+      let now : (row (side (after T W e) i) v).next_call ≡ (row (local_step T i s (Calls v) (input_of W i (Calls v))).side v).next_call = ap (λ (t : Side). (row t v).next_call) (side-after T W e) in
+      let takes : (row s v).next_call + 1 ≤ (row (side (after T W e) i) v).next_call = omega (arith, more, now) in
+      by_decl (decl T v) refl (next_call T s v) refl some (subst (λ j. (row (side W j) v).next_call + 1 ≤ (row (side (after T W e) j) v).next_call) (sym kernel) takes) (ap (λ j. (row (side W j) v).next_call) kernel)
+    where
+      by_decl : (o : Option VpeDecl) → decl T v ≡ o → (p : Option Call) → next_call T (side W i) v ≡ p → is_some p ≡ true → (vpe_row W v).next_call + 1 ≤ (vpe_row (after T W (event i (Calls v))) v).next_call → (vpe_row W v).next_call ≡ (row (side W i) v).next_call → calls_left (after T W (event i (Calls v))) + 1 ≤ calls_left W
+      by_decl None none (Some c) next some takes same =
+          let calls : calls_of T v ≡ [] = ap (λ (x : Option VpeDecl). option_map_or (λ (d : VpeDecl). d.calls) x []) none in
+          let within = slice_get_within (calls_of T v) (row (side W i) v).next_call c next in
+          let few = ap length calls in
+          let zero' : length {A = Call} [] ≡ 0 = refl in
+          absurd (omega (arith, within, few, zero'))
+      by_decl (Some d) found' (Some c) next some takes same =
+          let there = found (λ (x : VpeDecl). x.vpe == v) T.vpes d found' in
+          let at : d.vpe ≡ v = eqb-true d.vpe v there.1 in
+          let calls : calls_of T v ≡ d.calls = ap (λ (x : Option VpeDecl). option_map_or (λ (y : VpeDecl). y.calls) x []) found' in
+          let within = slice_get_within (calls_of T v) (row (side W i) v).next_call c next in
+          let count = ap length calls in
+          let moved : (vpe_row W d.vpe).next_call + 1 ≤ (vpe_row (after T W (event i (Calls v))) d.vpe).next_call = subst (λ w. (vpe_row W w).next_call + 1 ≤ (vpe_row (after T W (event i (Calls v))) w).next_call) (sym at) takes in
+          let before : (vpe_row W d.vpe).next_call ≡ (vpe_row W v).next_call = ap (λ w. (vpe_row W w).next_call) at in
+          sum-less (call_left (after T W (event i (Calls v)))) (call_left W) (call-less W (event i (Calls v))) T.vpes d there.0 (omega (arith, moved, before, same, within, count))
+      by_decl o at None next some takes same = absurd cc
+
+  -- A kill takes one.
+  ended-on : (i v : ℕ) (s : Side) → IsOnward (buried v s) (ended T i v s)
+  unfolding ended
+  ended-on i v s =
+      let F = facts Any AnyPlace in
+      let P : Side → Type 0 = IsOnward (buried v s) in
+      let L = (onward (buried v s)).kept in
+      let asks : List Ask = (row s v).asks in
+      let answered : Side = in_turn (ask_ended T i) asks (buried v s) in
+      let left : Side = call_ended T (parked answered v) v (unparked v answered) in
+      let told : P answered = in_turn-keeps P (ask_ended T i) (λ a t here. ask_ended-in F AnyVpe P L T i a t here) asks (buried v s) (onward-same (buried v s)) in
+      let gone : P left = call_ended-in F AnyVpe P L T (parked answered v) v (unparked v answered) (L.keeps_unparked answered told v) in
+      in_turn-keeps P (revoked_if_left T i) (λ k t here. revoked_if_there-in F AnyVpe P L T i k (cap t k) t here tt) (keys_of left v) left gone
+
+  killed-dead : (i v : ℕ) (s : Side) → (row (ended T i v s) v).alive ≡ false
+  killed-dead i v s = false_from_ne_true (row (ended T i v s) v).alive (λ lives.
+      let before = (ended-on i v s).dead v lives in
+      let dead : (row (buried v s) v).alive ≡ false = ap (λ (r : VpeRow). r.alive) (get_or-put_same no_vpe s.vpes v (record (row s v) { alive = false; asks = [] })) in
+      absurd (cc (before, dead)))
+
+  pub kill-takes : (W : World) (i v : ℕ) → is_enabled T W (event i (Kill v)) ≡ true → kills_left (after T W (event i (Kill v))) + 1 ≤ kills_left W
+  unfolding is_enabled is_locally_enabled local_step
+  kill-takes W i v enabled =
+      let s : Side = side W i in
+      let e : Event = event i (Kill v) in
+      let here = (and_parts ((kernel_of T v == i) && (is_alive s v && is_some (kill_number T v))) _ (and_parts (nat_lt i T.kernels) _ enabled).1).0 in
+      let two = and_parts (kernel_of T v == i) (is_alive s v && is_some (kill_number T v)) here in
+      let kernel : kernel_of T v ≡ i = eqb-true (kernel_of T v) i two.0 in
+      let three = and_parts (is_alive s v) (is_some (kill_number T v)) two.1 in
+      let before : (vpe_row W v).alive ≡ true = ap (λ j. (row (side W j) v).alive) kernel ∙ three.0 in
+      let now : (vpe_row (after T W e) v).alive ≡ false = ap (λ j. (row (side (after T W e) j) v).alive) kernel ∙ (ap (λ (t : Side). (row t v).alive) (side-after T W e) ∙ killed-dead i v s) in
+      by_kill (find (λ k. k.0 == v) T.kills) refl three.1 before now
+    where
+      by_kill : (o : Option (ℕ × ℕ)) → find (λ k. k.0 == v) T.kills ≡ o → is_some (option_map {T = ℕ × ℕ} (λ k. k.1) o) ≡ true → (vpe_row W v).alive ≡ true → (vpe_row (after T W (event i (Kill v))) v).alive ≡ false → kills_left (after T W (event i (Kill v))) + 1 ≤ kills_left W
+      by_kill None none some before now = absurd cc
+      by_kill (Some k) found' some before now =
+          let there = found (λ (x : ℕ × ℕ). x.0 == v) T.kills k found' in
+          let at : k.0 ≡ v = eqb-true k.0 v there.1 in
+          let one : kill_left W k ≡ 1 = cond-true (vpe_row W k.0).alive 1 0 (ap (λ w. (vpe_row W w).alive) at ∙ before) in
+          let none : kill_left (after T W (event i (Kill v))) k ≡ 0 = cond-false (vpe_row (after T W (event i (Kill v))) k.0).alive 1 0 (ap (λ w. (vpe_row (after T W (event i (Kill v))) w).alive) at ∙ now) in
+          sum-less (kill_left (after T W (event i (Kill v)))) (kill_left W) (kill-less W (event i (Kill v))) T.kills k there.0 (omega (arith, one, none))
+
+  -- An event takes what it counts for.
+  abbrev call_one : Act → ℕ
+  call_one a = if is_call a then 1 else 0
+
+  abbrev kill_one : Act → ℕ
+  kill_one a = if is_kill a then 1 else 0
+
+  calls-after : (W : World) (i : ℕ) (a : Act) → is_enabled T W (event i a) ≡ true → calls_left (after T W (event i a)) + call_one a ≤ calls_left W
+  calls-after W i (Calls v) enabled = call-takes W i v enabled
+  calls-after W i (Fetch j) enabled = let less = sum-le (call_left (after T W (event i (Fetch j)))) (call_left W) (call-less W (event i (Fetch j))) T.vpes in omega (arith, less)
+  calls-after W i Handle enabled = let less = sum-le (call_left (after T W (event i Handle))) (call_left W) (call-less W (event i Handle)) T.vpes in omega (arith, less)
+  calls-after W i (Upcall v) enabled = let less = sum-le (call_left (after T W (event i (Upcall v)))) (call_left W) (call-less W (event i (Upcall v))) T.vpes in omega (arith, less)
+  calls-after W i (Resume v) enabled = let less = sum-le (call_left (after T W (event i (Resume v)))) (call_left W) (call-less W (event i (Resume v))) T.vpes in omega (arith, less)
+  calls-after W i (Flush j) enabled = let less = sum-le (call_left (after T W (event i (Flush j)))) (call_left W) (call-less W (event i (Flush j))) T.vpes in omega (arith, less)
+  calls-after W i (Kill v) enabled = let less = sum-le (call_left (after T W (event i (Kill v)))) (call_left W) (call-less W (event i (Kill v))) T.vpes in omega (arith, less)
+
+  kills-after : (W : World) (i : ℕ) (a : Act) → is_enabled T W (event i a) ≡ true → kills_left (after T W (event i a)) + kill_one a ≤ kills_left W
+  kills-after W i (Kill v) enabled = kill-takes W i v enabled
+  kills-after W i (Calls v) enabled = let less = sum-le (kill_left (after T W (event i (Calls v)))) (kill_left W) (kill-less W (event i (Calls v))) T.kills in omega (arith, less)
+  kills-after W i (Fetch j) enabled = let less = sum-le (kill_left (after T W (event i (Fetch j)))) (kill_left W) (kill-less W (event i (Fetch j))) T.kills in omega (arith, less)
+  kills-after W i Handle enabled = let less = sum-le (kill_left (after T W (event i Handle))) (kill_left W) (kill-less W (event i Handle)) T.kills in omega (arith, less)
+  kills-after W i (Upcall v) enabled = let less = sum-le (kill_left (after T W (event i (Upcall v)))) (kill_left W) (kill-less W (event i (Upcall v))) T.kills in omega (arith, less)
+  kills-after W i (Resume v) enabled = let less = sum-le (kill_left (after T W (event i (Resume v)))) (kill_left W) (kill-less W (event i (Resume v))) T.kills in omega (arith, less)
+  kills-after W i (Flush j) enabled = let less = sum-le (kill_left (after T W (event i (Flush j)))) (kill_left W) (kill-less W (event i (Flush j))) T.kills in omega (arith, less)
+
+  -- A schedule.
+  calls-first : calls_left (start T) ≤ call_count T
+  calls-first = sum-le (call_left (start T)) (λ d. length d.calls) (λ d. omega arith) T.vpes
+
+  kills-first : kills_left (start T) ≤ kill_count T
+  kills-first = from T.kills
+    where
+      from : (ks : List (ℕ × ℕ)) → sum_by (kill_left (start T)) ks ≤ length ks
+      from [] = omega arith
+      from (k ∷ ks) =
+          let all = sum_by-cons (kill_left (start T)) k ks in
+          let rest = from ks in
+          let one : kill_left (start T) k ≤ 1 = cond_both (vpe_row (start T) k.0).alive 1 0 (λ n. n ≤ 1) (λ _. omega arith) (λ _. omega arith) in
+          omega (arith, all, rest, one)
+
+  abbrev Within : List Entry → Type 0
+  Within J = (calls_made J + calls_left (world_after T J) ≤ call_count T) × (kills_made J + kills_left (world_after T J) ≤ kill_count T)
+
+  pub few-made : (J : List Entry) → IsSchedule T J → Within J
+  few-made J runs = from [] J refl (let calls = calls-first in omega (arith, calls), let kills = kills-first in omega (arith, kills))
+    where
+      from : (before later : List Entry) → J ≡ before ++ later → Within before → Within J
+      from before [] parts is = subst Within (sym (parts ∙ append-nil before)) is
+      from before (e ∷ es) parts is =
+          let W : World = world_after T before in
+          let at = entry-enabled T before (start T) e es (subst (IsSchedule T) parts runs) in
+          let calls = calls-after W e.event.kernel e.event.act at.1 in
+          let kills = kills-after W e.event.kernel e.event.act at.1 in
+          let called = ap calls_left (sym (run-append T before (e ∷ []) (start T))) in
+          let killed = ap kills_left (sym (run-append T before (e ∷ []) (start T))) in
+          let one = sum_by_push (λ (x : Entry). call_one x.event.act) before e in
+          let two = sum_by_push (λ (x : Entry). kill_one x.event.act) before e in
+          let first = is.0 in
+          let second = is.1 in
+          from (before ++ e ∷ []) es (parts ∙ sym (append_assoc before (e ∷ []) es)) (omega (arith, calls, called, one, first), omega (arith, kills, killed, two, second))

@@ -1,0 +1,87 @@
+-- What an idle world is like, and the facts of a schedule from which it follows ("Idle worlds" in docs/proof.md).
+use Rattle.std.specs.Prelude.{◌≡◌, ◌≢◌, ℕ, true, ◌⊎◌, ◌↔◌, List, [], Contains, Option, Some, None}
+use Rattle.sem_key.specs.KeyName.{KeyName}
+use Rattle.sem_key.specs.Capability.{Capability}
+use Rattle.sem_msg.specs.declared.entry.Entry.{Entry}
+use Rattle.sem_msg.specs.declared.message.Message.{Message}
+use Rattle.sem_msg.specs.declared.state.Parked.{Parked}
+use Rattle.sem_msg.specs.declared.state.Parked.TheVariants.{ObtainWait, ObtainReady, ObtainCancelled, DelegateWait, DelegateReady, RevokeWait, Ready}
+use Rattle.sem_msg.specs.declared.state.Pending.{Pending}
+use Rattle.sem_msg.specs.declared.state.Up.{Up}
+use Rattle.sem_msg.specs.declared.state.Up.TheVariants.{Local, Remote}
+use Rattle.sem_msg.specs.Rows.{JobRow}
+use Rattle.sem_msg.specs.Setup.{Setup}
+use Rattle.sem_machine.specs.Sides.{row, parked, pending, job}
+use Rattle.sem_machine.specs.Resumes.{can_resume}
+use Rattle.sem_machine.specs.Machine.{World, side}
+use Rattle.sem_machine.specs.Journals.{grants, forest, cut_from, has_ended}
+use Rattle.sem_machine.specs.Living.{InFlight, HoldsCap, IsHeld, IsLive}
+use Rattle.sem_machine.specs.Safety.{nothing_lost}
+
+-- the key was cut off: a revoke began at it, a clear at its parent, or its VPE ended
+abbrev pub IsCutOff : List Entry → KeyName → Type 0
+IsCutOff J k = Contains (cut_from [] J) k ⊎ (has_ended J k.vpe ≡ true)
+
+-- a call that waits for the answer to an ask
+abbrev pub IsExchange : Parked → Type 0
+IsExchange (ObtainWait number sel) = Unit {0}
+IsExchange (ObtainReady key parent object sel) = ⊥
+IsExchange ObtainCancelled = ⊥
+IsExchange (DelegateWait parent) = Unit {0}
+IsExchange (DelegateReady parent key) = ⊥
+IsExchange (RevokeWait job) = ⊥
+IsExchange (Ready code) = ⊥
+
+-- something that an idle world has not: a message, an ask, or a parked call that can go on
+pub data IsStirring (W : World) : Type 0 where
+  by_message : (m : Message) → InFlight W m → IsStirring W
+  by_ask : (i v : ℕ) → (row (side W i) v).asks ≢ [] → IsStirring W
+  by_call : (i v : ℕ) → can_resume (parked (side W i) v) ≡ true → IsStirring W
+
+-- an `up` of a job of kernel i' names job j of kernel i
+abbrev pub Names : Option Up → ℕ → ℕ → ℕ → Type 0
+Names None i' i j = ⊥
+Names (Some (Local n)) i' i j = (i' ≡ i) × (n ≡ j)
+Names (Some (Remote kernel n)) i' i j = (kernel ≡ i) × (n ≡ j)
+
+-- kernel i holds the parent of the key, marked by job j
+pub record HasMarkedParent (J : List Entry) (W : World) (i j : ℕ) (k : KeyName) : Type 0 where
+  pub parent : KeyName
+  pub granted : Contains (grants J) (parent, k)
+  pub capability : Capability
+  pub held : HoldsCap W i parent capability
+  pub marked : capability.mark ≡ Some j
+
+-- a job is waited for by one that is open below it
+pub record HasJobBelow (W : World) (i j : ℕ) : Type 0 where
+  pub kernel : ℕ
+  pub id : ℕ
+  pub below : JobRow
+  pub open_below : job (side W kernel) id ≡ Some below
+  pub names : Names below.up kernel i j
+
+pub record AreResting (T : Setup) (J : List Entry) (W : World) : Type 0 where
+  -- exchanges
+  pub owed : (i v : ℕ) (p : Parked) → parked (side W i) v ≡ Some p → IsExchange p → IsStirring W
+  pub pendings : (i : ℕ) (k : KeyName) (p : Pending) → pending (side W i) k ≡ Some p → IsStirring W
+  -- jobs
+  pub counted : (i j : ℕ) (x : JobRow) → job (side W i) j ≡ Some x → IsStirring W ⊎ HasJobBelow W i j
+  pub above : (i' n : ℕ) (y : JobRow) → job (side W i') n ≡ Some y → (i j : ℕ) → Names y.up i' i j → HasMarkedParent J W i j y.root
+  -- marks: the key is the root of the job, or the parent has the mark too
+  pub marks : (i : ℕ) (k : KeyName) (c : Capability) (j : ℕ) (x : JobRow) → HoldsCap W i k c → c.mark ≡ Some j → job (side W i) j ≡ Some x → (k ≡ x.root) ⊎ HasMarkedParent J W i j k
+  -- links and parents
+  pub lead : (i : ℕ) (p k : KeyName) (c : Capability) → HoldsCap W i p c → c.mark ≡ None → Contains c.children k → IsLive W k ⊎ IsStirring W
+  pub parents : (i : ℕ) (p k : KeyName) (c : Capability) → HoldsCap W i k c → Contains (grants J) (p, k) → c.parent ≡ Some p
+  pub linked : (p k : KeyName) → Contains (grants J) (p, k) → IsLive W k → IsHeld W p
+  -- what is cut off is marked as long as it is held, or its kernel will be told; what is in the forest is live
+  pub cut : (i : ℕ) (k : KeyName) (c : Capability) → HoldsCap W i k c → IsCutOff J k → ((j : ℕ) × (c.mark ≡ Some j)) ⊎ IsStirring W
+  pub kept : nothing_lost T J
+
+-- what an idle world is like
+pub record IsAtRest (T : Setup) (J : List Entry) (W : World) : Type 0 where
+  pub unparked : (i v : ℕ) → parked (side W i) v ≡ None
+  pub no_jobs : (i j : ℕ) → job (side W i) j ≡ None
+  pub no_marks : (i : ℕ) (k : KeyName) (c : Capability) → HoldsCap W i k c → c.mark ≡ None
+  pub no_pendings : (i : ℕ) (k : KeyName) → pending (side W i) k ≡ None
+  pub links : (i : ℕ) (p k : KeyName) (c : Capability) → HoldsCap W i p c → Contains c.children k → (j : ℕ) × (d : Capability) × HoldsCap W j k d × (d.parent ≡ Some p)
+  pub held : (k : KeyName) → IsHeld W k ↔ Contains (forest T J) k
