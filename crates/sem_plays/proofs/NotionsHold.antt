@@ -1,0 +1,113 @@
+-- The notions, by computation.
+use Rattle.std.proofs.Common.{refl}
+use Rattle.sem_key.specs.Lists.{in_turn}
+use Rattle.sem_machine.specs.Journals.{root_keys_from, cut_from, answered_from}
+use Rattle.sem_plays.specs.ClearIsOneJob
+use Rattle.sem_plays.specs.ClearOfNoChild
+use Rattle.sem_plays.specs.ClearTakesBack
+use Rattle.sem_plays.specs.ClearedThreeTimes
+use Rattle.sem_plays.specs.ClearerIsKilled
+use Rattle.sem_plays.specs.ClearingIsToldInTurn
+use Rattle.sem_plays.specs.GivenAfterClear
+use Rattle.sem_plays.specs.KilledAfterClear
+use Rattle.sem_plays.specs.KilledRevoker
+use Rattle.sem_plays.specs.RevokeTakesClear
+use Rattle.sem_plays.specs.TwoRevokesMeet
+use Rattle.sem_plays.specs.WaiterOfClearIsKilled
+use Rattle.sem_plays.specs.Notions.{clear_is_one_job_cut, clear_is_one_job_answered, clear_of_no_child_cut, clear_of_no_child_answered, clear_takes_back_cut, clear_takes_back_answered, cleared_three_times_cut, cleared_three_times_answered, clearer_is_killed_cut, clearer_is_killed_answered, clearing_is_told_in_turn_cut, clearing_is_told_in_turn_answered, given_after_clear_cut, given_after_clear_answered, killed_after_clear_cut, killed_after_clear_answered, killed_revoker_cut, killed_revoker_answered, revoke_takes_clear_cut, revoke_takes_clear_answered, two_revokes_meet_cut, two_revokes_meet_answered, waiter_of_clear_is_killed_cut, waiter_of_clear_is_killed_answered}
+
+pub clear_is_one_job_cut_holds : clear_is_one_job_cut
+unfolding ClearIsOneJob.trace ClearIsOneJob.journal in_turn root_keys_from cut_from
+clear_is_one_job_cut_holds = refl
+
+pub clear_is_one_job_answered_holds : clear_is_one_job_answered
+unfolding ClearIsOneJob.journal cut_from answered_from
+clear_is_one_job_answered_holds = refl
+
+pub clear_of_no_child_cut_holds : clear_of_no_child_cut
+unfolding ClearOfNoChild.trace ClearOfNoChild.journal in_turn root_keys_from cut_from
+clear_of_no_child_cut_holds = refl
+
+pub clear_of_no_child_answered_holds : clear_of_no_child_answered
+unfolding ClearOfNoChild.journal cut_from answered_from
+clear_of_no_child_answered_holds = refl
+
+pub clear_takes_back_cut_holds : clear_takes_back_cut
+unfolding ClearTakesBack.trace ClearTakesBack.journal in_turn root_keys_from cut_from
+clear_takes_back_cut_holds = refl
+
+pub clear_takes_back_answered_holds : clear_takes_back_answered
+unfolding ClearTakesBack.journal cut_from answered_from
+clear_takes_back_answered_holds = refl
+
+pub cleared_three_times_cut_holds : cleared_three_times_cut
+unfolding ClearedThreeTimes.trace ClearedThreeTimes.journal in_turn root_keys_from cut_from
+cleared_three_times_cut_holds = refl
+
+pub cleared_three_times_answered_holds : cleared_three_times_answered
+unfolding ClearedThreeTimes.journal cut_from answered_from
+cleared_three_times_answered_holds = refl
+
+pub clearer_is_killed_cut_holds : clearer_is_killed_cut
+unfolding ClearerIsKilled.trace ClearerIsKilled.journal in_turn root_keys_from cut_from
+clearer_is_killed_cut_holds = refl
+
+pub clearer_is_killed_answered_holds : clearer_is_killed_answered
+unfolding ClearerIsKilled.journal cut_from answered_from
+clearer_is_killed_answered_holds = refl
+
+pub clearing_is_told_in_turn_cut_holds : clearing_is_told_in_turn_cut
+unfolding ClearingIsToldInTurn.trace ClearingIsToldInTurn.journal in_turn root_keys_from cut_from
+clearing_is_told_in_turn_cut_holds = refl
+
+pub clearing_is_told_in_turn_answered_holds : clearing_is_told_in_turn_answered
+unfolding ClearingIsToldInTurn.journal cut_from answered_from
+clearing_is_told_in_turn_answered_holds = refl
+
+pub given_after_clear_cut_holds : given_after_clear_cut
+unfolding GivenAfterClear.trace GivenAfterClear.journal in_turn root_keys_from cut_from
+given_after_clear_cut_holds = refl
+
+pub given_after_clear_answered_holds : given_after_clear_answered
+unfolding GivenAfterClear.journal cut_from answered_from
+given_after_clear_answered_holds = refl
+
+pub killed_after_clear_cut_holds : killed_after_clear_cut
+unfolding KilledAfterClear.trace KilledAfterClear.journal in_turn root_keys_from cut_from
+killed_after_clear_cut_holds = refl
+
+pub killed_after_clear_answered_holds : killed_after_clear_answered
+unfolding KilledAfterClear.journal cut_from answered_from
+killed_after_clear_answered_holds = refl
+
+pub killed_revoker_cut_holds : killed_revoker_cut
+unfolding KilledRevoker.trace KilledRevoker.journal in_turn root_keys_from cut_from
+killed_revoker_cut_holds = refl
+
+pub killed_revoker_answered_holds : killed_revoker_answered
+unfolding KilledRevoker.journal cut_from answered_from
+killed_revoker_answered_holds = refl
+
+pub revoke_takes_clear_cut_holds : revoke_takes_clear_cut
+unfolding RevokeTakesClear.trace RevokeTakesClear.journal in_turn root_keys_from cut_from
+revoke_takes_clear_cut_holds = refl
+
+pub revoke_takes_clear_answered_holds : revoke_takes_clear_answered
+unfolding RevokeTakesClear.journal cut_from answered_from
+revoke_takes_clear_answered_holds = refl
+
+pub two_revokes_meet_cut_holds : two_revokes_meet_cut
+unfolding TwoRevokesMeet.trace TwoRevokesMeet.journal in_turn root_keys_from cut_from
+two_revokes_meet_cut_holds = refl
+
+pub two_revokes_meet_answered_holds : two_revokes_meet_answered
+unfolding TwoRevokesMeet.journal cut_from answered_from
+two_revokes_meet_answered_holds = refl
+
+pub waiter_of_clear_is_killed_cut_holds : waiter_of_clear_is_killed_cut
+unfolding WaiterOfClearIsKilled.trace WaiterOfClearIsKilled.journal in_turn root_keys_from cut_from
+waiter_of_clear_is_killed_cut_holds = refl
+
+pub waiter_of_clear_is_killed_answered_holds : waiter_of_clear_is_killed_answered
+unfolding WaiterOfClearIsKilled.journal cut_from answered_from
+waiter_of_clear_is_killed_answered_holds = refl

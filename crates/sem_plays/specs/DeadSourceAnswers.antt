@@ -1,0 +1,72 @@
+-- A dead VPE is answered for.
+use Rattle.std.specs.Prelude.{◌≡◌, true, Some, None, List, [], ◌∷◌}
+use Rattle.sem_key.specs.declared.object.Object.TheVariants.{Mem}
+use Rattle.sem_msg.specs.declared.message.Target.TheVariants.{Sel as SelTarget}
+use Rattle.sem_msg.specs.declared.message.Message.TheVariants.{ObtainReq, ObtainNo}
+use Rattle.sem_msg.specs.declared.call.Call.TheVariants.{Obtain}
+use Rattle.sem_msg.specs.declared.event.Act.TheVariants.{Call as Calls, Fetch, Handle, Resume, Flush, Kill}
+use Rattle.sem_msg.specs.declared.event.Event.{Event}
+use Rattle.sem_msg.specs.declared.entry.Detail.TheVariants.{Called, Carried, Nothing}
+use Rattle.sem_msg.specs.declared.entry.Entry.{Entry}
+use Rattle.sem_msg.specs.Setup.{Setup}
+use Rattle.sem_machine.specs.Machine.{event}
+use Rattle.sem_plays.specs.Words.{place, reply, entry, owners, root, vpe}
+use Rattle.sem_plays.specs.Played.{Played, played}
+
+unfoldable pub trace : Setup
+trace = record {
+  version = 1;
+  window = 4;
+  kernels = 2;
+  owners = owners 2 (Some 0 ∷ Some 1 ∷ []);
+  vpes =
+      vpe 0 0 (root 0 (Mem 0 4096 7) ∷ []) []
+      ∷ vpe 1 1 [] (Obtain 5 0 0 ∷ [])
+      ∷ [];
+  services = [];
+  offers = [];
+  denies = [];
+  kills = (0, 0) ∷ [];
+}
+
+unfoldable pub events : List Event
+events =
+    event 0 (Kill 0)
+    ∷ event 1 (Calls 1)
+    ∷ event 1 (Flush 0)
+    ∷ event 0 (Fetch 1)
+    ∷ event 0 Handle
+    ∷ event 0 (Flush 1)
+    ∷ event 1 (Fetch 0)
+    ∷ event 1 Handle
+    ∷ event 1 (Resume 1)
+    ∷ []
+
+unfoldable pub journal : List Entry
+journal =
+    entry 0 (Kill 0) Nothing None None None
+    ∷ entry 1 (Calls 1) (Called 0 (Obtain 5 0 0)) None None None
+    ∷ entry 1 (Flush 0) (Carried 0 (ObtainReq (place 1 1 0) (SelTarget 0 0))) None None None
+    ∷ entry 0 (Fetch 1) (Carried 1 (ObtainReq (place 1 1 0) (SelTarget 0 0))) None None None
+    ∷ entry 0 Handle (Carried 1 (ObtainReq (place 1 1 0) (SelTarget 0 0))) None None None
+    ∷ entry 0 (Flush 1) (Carried 1 (ObtainNo (place 1 1 0) 2)) None None None
+    ∷ entry 1 (Fetch 0) (Carried 0 (ObtainNo (place 1 1 0) 2)) None None None
+    ∷ entry 1 Handle (Carried 0 (ObtainNo (place 1 1 0) 2)) None None None
+    ∷ entry 1 (Resume 1) Nothing None None (reply 1 2)
+    ∷ []
+
+unfoldable pub outcome : Played
+outcome = record {
+  entries = journal;
+  all_enabled = true;
+  left = [];
+  made = 1;
+  cut = 1;
+  held = [];
+  is_forest = true;
+  is_linked = true;
+  is_clean = true;
+}
+
+abbrev pub dead_source_answers : Type 0
+dead_source_answers = played trace events ≡ outcome
