@@ -14,9 +14,9 @@ use Rattle.sem_trace.specs.Places.{Fills, Fails, number_place}
 use Rattle.sem_msg.specs.declared.event.Act.{Act}
 use Rattle.sem_msg.specs.declared.entry.Detail.{Detail}
 use Rattle.sem_msg.specs.declared.entry.Entry.{Entry}
-use Rattle.sem_journal.specs.declared.outcome.Outcome.{Outcome}
+use Rattle.sem_journal.specs.declared.shown.Shown.{Shown}
 use Rattle.sem_journal.specs.EntryText.{act_words, detail_words, entry_words}
-use Rattle.sem_journal.specs.Outcomes.{outcome_words}
+use Rattle.sem_journal.specs.ShownWords.{shown_words}
 use Rattle.sem_journal.specs.EntryForms.{kernel, event_form, behind_event, entry_form, has_long_memory, entry_fault}
 
 -- nothing stands behind the last place
@@ -93,8 +93,8 @@ event_fault kernels words rest range cause least most fills fails =
     rw (behind_kernel kernels words rest range least most fills, fails (behind_event (drop (length (event_form kernels rest)) rest))) refl
 
 -- what is wrong with an entry behind its event
-pub outcome_fault : (kernels : ℕ) (words rest behind : List (List ℕ)) (range : Range) → range.least ≡ 0 → range.most ≡ kernels - 1 → Fills (number_place range ∷ []) words rest → Fills (event_form kernels rest) rest behind → form_fault (entry_form kernels words) words ≡ form_fault (behind_event behind) behind
-outcome_fault kernels words rest behind range least most fills event =
+pub shown_fault : (kernels : ℕ) (words rest behind : List (List ℕ)) (range : Range) → range.least ≡ 0 → range.most ≡ kernels - 1 → Fills (number_place range ∷ []) words rest → Fills (event_form kernels rest) rest behind → form_fault (entry_form kernels words) words ≡ form_fault (behind_event behind) behind
+shown_fault kernels words rest behind range least most fills event =
     rw (behind_kernel kernels words rest range least most fills, behind_filled (event_form kernels rest) rest behind event) (event (behind_event behind))
 
 pub fault_behind : (kernels : ℕ) (words : List (List ℕ)) (cause : Cause) → form_fault (entry_form kernels words) words ≡ Some cause → entry_fault kernels words ≡ Some cause
@@ -110,8 +110,8 @@ unfolding entry_fault
 no_fault kernels words fits short = rw (fits, short) refl
 
 -- the entry that these are the parts of
-abbrev pub entry : ℕ → Act → Detail → Outcome → Entry
-entry k act detail outcome = record { event = record { kernel = k; act = act }; detail = detail; grant = outcome.grant; cut = outcome.cut; reply = outcome.reply }
+abbrev pub entry : ℕ → Act → Detail → Shown → Entry
+entry k act detail shown = record { event = record { kernel = k; act = act }; detail = detail; grant = shown.grant; cut = shown.cut; reply = shown.reply }
 
-pub entry_is : (k : ℕ) (act : Act) (detail : Detail) (outcome : Outcome) (rest behind : List (List ℕ)) → rest ≡ act_words act ++ detail_words detail ++ behind → behind ≡ outcome_words outcome → decimal k ∷ rest ≡ entry_words (entry k act detail outcome)
-entry_is k act detail outcome rest behind rest_is behind_is = rw (rest_is, behind_is) (simp append_assoc)
+pub entry_is : (k : ℕ) (act : Act) (detail : Detail) (shown : Shown) (rest behind : List (List ℕ)) → rest ≡ act_words act ++ detail_words detail ++ behind → behind ≡ shown_words shown → decimal k ∷ rest ≡ entry_words (entry k act detail shown)
+entry_is k act detail shown rest behind rest_is behind_is = rw (rest_is, behind_is) (simp append_assoc)

@@ -1,7 +1,5 @@
 pub mod LinesJoined
 pub mod WordChoices
-pub mod Decimals
-pub mod PlainText
 pub mod LongMemory
 pub mod EntryParts
 pub mod TextInLines

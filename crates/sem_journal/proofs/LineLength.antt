@@ -3,10 +3,10 @@ use Rattle.std.proofs.Common.{◌≡◌, ℕ, ◌+◌, ◌≤◌, Bool, true, fa
 use Rattle.std.proofs.lemmas.Fmt.{length-decimal-le}
 use Rattle.sem_key.specs.declared.object.Object.{Object}
 use Rattle.sem_key.specs.declared.object.Object.TheVariants.{Mem, Recv, Send, Serv, Sess}
-use Rattle.sem_key.specs.KeyName.{KeyName, IsValidKey, kind_number}
-use Rattle.sem_key.specs.PlaceName.{PlaceName, IsValidPlace}
+use Rattle.sem_key.specs.KeyName.{KeyName, kind_number}
+use Rattle.sem_key.specs.PlaceName.{PlaceName}
 use Rattle.sem_msg.specs.declared.call.Call.{Call}
-use Rattle.sem_msg.specs.declared.call.Call.TheVariants.{Derive, Gate, Obtain, Delegate, OpenSession, AskOffer, Revoke, Bind, Read, Write, Send as SendCall, Credit, Exit}
+use Rattle.sem_msg.specs.declared.call.Call.TheVariants.{Derive, Gate, Obtain, Delegate, OpenSession, AskOffer, Revoke, Bind, Read, Write, Send as SendCall, Credit, Exit, Clear}
 use Rattle.sem_msg.specs.Calls.{IsValidCall}
 use Rattle.sem_msg.specs.declared.message.Target.{Target}
 use Rattle.sem_msg.specs.declared.message.Target.TheVariants.{Sel as SelTarget, Serv as ServTarget, Offer as OfferTarget}
@@ -21,10 +21,12 @@ use Rattle.sem_msg.specs.declared.entry.Detail.TheVariants.{Called, Carried, Ask
 use Rattle.sem_msg.specs.declared.entry.Reply.{Reply}
 use Rattle.sem_msg.specs.declared.entry.Entry.{Entry}
 use Rattle.sem_text.specs.Lines.{behind_blanks, line}
+use Rattle.sem_trace.specs.Ranges.{IsKeyInText, IsPlaceInText}
+use Rattle.sem_trace.specs.declared.limits.TheConstants.{NODES, MOST_KERNELS}
 use Rattle.sem_trace.specs.Words.{key_word, place_word, object_words, call_words}
 use Rattle.sem_journal.specs.EntryText.{target_words, yes_or_no, message_words, act_words, consent_word, detail_words, grant_words, cut_words, reply_words, entry_words}
 use Rattle.sem_journal.specs.EntryRanges.{ObjectFits, TargetFits, MessageFits, EventFits, GrantFits, CutFits, ReplyFits, EntryFits}
-use Rattle.sem_journal.proofs.PlainText.{width}
+use Rattle.sem_reader.proofs.PlainText.{width}
 use Rattle.sem_journal.proofs.PrintedPlaces.{kind_most}
 
 -- numbers by their ranges
@@ -43,7 +45,7 @@ four n small = length-decimal-le 4 n (omega arith) (omega arith) (omega arith)
 ten : (n : ℕ) → n ≤ 4294967295 → length (decimal n) ≤ 10
 ten n small = length-decimal-le 10 n (omega arith) (omega arith) (omega arith)
 
-key_short : (k : KeyName) → IsValidKey k → length (key_word k) ≤ 12
+key_short : (k : KeyName) → IsKeyInText k → length (key_word k) ≤ 12
 key_short k valid =
     let pe = two k.pe (omega (arith, valid.0)) in
     let vpe = two k.vpe (omega (arith, valid.1)) in
@@ -52,7 +54,7 @@ key_short k valid =
     let all : length (key_word k) ≡ length (decimal k.pe) + (1 + length (decimal k.vpe)) + (1 + length (decimal (kind_number k.kind))) + (1 + length (decimal k.number)) = rw (length-append, length-append, length-append) (omega arith) in
     omega arith
 
-place_short : (p : PlaceName) → IsValidPlace p → length (place_word p) ≤ 10
+place_short : (p : PlaceName) → IsPlaceInText p → length (place_word p) ≤ 10
 place_short p valid =
     let pe = two p.pe (omega (arith, valid.0)) in
     let vpe = two p.vpe (omega (arith, valid.1)) in
@@ -71,7 +73,7 @@ object_short (Send gate label credits) fits = omega (arith, key_short gate fits.
 object_short (Serv name) fits = omega (arith, three name (omega (arith, fits)))
 object_short (Sess service ident) fits = omega (arith, key_short service fits.0, two ident (omega (arith, fits.1)))
 
-call_short : (c : Call) → IsValidCall c → width (call_words c) ≤ 45
+call_short : (c : Call) → IsValidCall NODES c → width (call_words c) ≤ 45
 call_short (Derive src dst off len rights) valid = omega (arith, three src (omega (arith, valid.0)), three dst (omega (arith, valid.1)), ten off valid.2, ten len valid.3, one rights (omega (arith, valid.4)))
 call_short (Gate src dst label credits) valid = omega (arith, three src (omega (arith, valid.0)), three dst (omega (arith, valid.1)), ten label valid.2, two credits (omega (arith, valid.4)))
 call_short (Obtain dst vpe src) valid = omega (arith, three dst (omega (arith, valid.0)), two vpe (omega (arith, valid.1)), three src (omega (arith, valid.2)))
@@ -85,6 +87,7 @@ call_short (Write ep off len) valid = omega (arith, two ep (omega (arith, valid.
 call_short (SendCall ep len) valid = omega (arith, two ep (omega (arith, valid.0)), ten len valid.1)
 call_short (Credit ep) valid = omega (arith, two ep (omega (arith, valid)))
 call_short Exit valid = omega arith
+call_short (Clear src) valid = omega (arith, three src (omega (arith, valid)))
 
 target_short : (t : Target) → TargetFits t → width (target_words t) ≤ 24
 target_short (SelTarget vpe sel) fits = omega (arith, two vpe (omega (arith, fits.0)), three sel (omega (arith, fits.1)))
@@ -114,7 +117,7 @@ message_short (RevokeReq key job) fits = omega (arith, key_short key fits.0, ten
 message_short (RevokeDone job) fits = omega (arith, ten job fits)
 message_short (Unlink parent key) fits = omega (arith, key_short parent fits.0, key_short key fits.1)
 
-event_short : (kernels : ℕ) (act : Act) (detail : Detail) → kernels ≤ 16 → EventFits kernels act detail → width (act_words act) + width (detail_words detail) ≤ 78
+event_short : (kernels : ℕ) (act : Act) (detail : Detail) → kernels ≤ MOST_KERNELS → EventFits kernels act detail → width (act_words act) + width (detail_words detail) ≤ 78
 event_short kernels (Calls v) (Called index call) few fits = omega (arith, two v (omega (arith, fits.0)), ten index fits.1, call_short call fits.2)
 event_short kernels (Fetch from) (Carried peer message) few fits = omega (arith, two peer (omega (arith, fits.1)), message_short message fits.2)
 event_short kernels Handle (Carried peer message) few fits = omega (arith, two peer (omega (arith, fits.0)), message_short message fits.1)
@@ -168,7 +171,7 @@ length-behind (w ∷ ws) = let rest = length-behind ws in omega (arith, length-a
 length-line : (w : List ℕ) (ws : List (List ℕ)) → length (line (w ∷ ws)) ≡ width (w ∷ ws)
 length-line w ws = omega (arith, length-append (w ++ behind_blanks ws) (10 ∷ []), length-append w (behind_blanks ws), length-behind ws)
 
-pub short_line : (kernels : ℕ) (e : Entry) → kernels ≤ 16 → EntryFits kernels e → length (line (entry_words e)) ≤ 161
+pub short_line : (kernels : ℕ) (e : Entry) → kernels ≤ MOST_KERNELS → EntryFits kernels e → length (line (entry_words e)) ≤ 161
 short_line kernels e few fits =
     let kernel : length (decimal e.event.kernel) ≤ 2 = two e.event.kernel (omega (arith, fits.kernel)) in
     let event = event_short kernels e.event.act e.detail few fits.event in

@@ -18,9 +18,9 @@ use Rattle.sem_text.specs.Number.{is_digit, number_value}
 use Rattle.sem_journal.specs.EntryText.{message_words, act_words, detail_words, grant_words, cut_words, reply_words, entry_words}
 use Rattle.sem_journal.specs.EntryForms.{has_long_memory}
 use Rattle.sem_journal.specs.EntryRanges.{MessageFits, EventFits}
-use Rattle.sem_journal.specs.Outcomes.{carries_long}
-use Rattle.sem_journal.proofs.Decimals.{digits-decimal}
-use Rattle.sem_journal.proofs.PlainText.{and-left}
+use Rattle.sem_journal.specs.ShownWords.{carries_long}
+use Rattle.sem_reader.proofs.Decimals.{digits-decimal}
+use Rattle.sem_reader.proofs.PlainText.{and-left}
 
 -- a number is no name: names begin with a letter
 abbrev first_byte : List ℕ → ℕ

@@ -4,10 +4,10 @@ use Rattle.sem_key.specs.declared.object.Object.{Object}
 use Rattle.sem_key.specs.declared.object.Object.TheVariants.{Mem, Recv, Send, Serv, Sess}
 use Rattle.sem_key.specs.declared.key.Kind.{Kind}
 use Rattle.sem_key.specs.declared.key.Kind.TheVariants.{Mem as MemKind, Recv as RecvKind, Send as SendKind, Serv as ServKind, Sess as SessKind}
-use Rattle.sem_key.specs.KeyName.{KeyName, IsValidKey, kind_number}
-use Rattle.sem_key.specs.PlaceName.{PlaceName, IsValidPlace}
+use Rattle.sem_key.specs.KeyName.{KeyName, kind_number}
+use Rattle.sem_key.specs.PlaceName.{PlaceName}
 use Rattle.sem_msg.specs.declared.call.Call.{Call}
-use Rattle.sem_msg.specs.declared.call.Call.TheVariants.{Derive, Gate, Obtain, Delegate, OpenSession, AskOffer, Revoke, Bind, Read, Write, Send as SendCall, Credit, Exit}
+use Rattle.sem_msg.specs.declared.call.Call.TheVariants.{Derive, Gate, Obtain, Delegate, OpenSession, AskOffer, Revoke, Bind, Read, Write, Send as SendCall, Credit, Exit, Clear}
 use Rattle.sem_msg.specs.Calls.{IsValidCall}
 use Rattle.sem_msg.specs.declared.message.Target.{Target}
 use Rattle.sem_msg.specs.declared.message.Target.TheVariants.{Sel as SelTarget, Serv as ServTarget, Offer as OfferTarget}
@@ -22,6 +22,8 @@ use Rattle.sem_msg.specs.declared.entry.Detail.TheVariants.{Called, Carried, Ask
 use Rattle.sem_msg.specs.declared.entry.Reply.{Reply}
 use Rattle.sem_msg.specs.declared.entry.Entry.{Entry}
 use Rattle.sem_text.specs.Number.{number_value}
+use Rattle.sem_trace.specs.Ranges.{IsKeyInText, IsPlaceInText}
+use Rattle.sem_trace.specs.declared.limits.TheConstants.{NODES, MOST_KERNELS}
 use Rattle.sem_trace.specs.Places.{Fills}
 use Rattle.sem_trace.specs.Words.{key_word, place_word, object_words, call_words}
 use Rattle.sem_trace.specs.Declarations.{call_from}
@@ -47,11 +49,11 @@ kind_of_number SessKind = refl
 kind_read : (kind : Kind) → kind_from (number_value (decimal (kind_number kind))) ≡ kind
 kind_read kind = ap kind_from (small (kind_number kind) (omega (arith, kind_most kind))) ∙ kind_of_number kind
 
-key_read : (k : KeyName) → IsValidKey k → key_from (key_word k) ≡ k
+key_read : (k : KeyName) → IsKeyInText k → key_from (key_word k) ≡ k
 unfolding key_from
 key_read k valid = rw (key_parts k valid, small k.pe (omega (arith, valid.0)), small k.vpe (omega (arith, valid.1)), small k.number (omega (arith, valid.2)), kind_read k.kind) refl
 
-place_read : (p : PlaceName) → IsValidPlace p → place_from (place_word p) ≡ p
+place_read : (p : PlaceName) → IsPlaceInText p → place_from (place_word p) ≡ p
 unfolding place_from
 place_read p valid = rw (place_parts p valid, small p.pe (omega (arith, valid.0)), small p.vpe (omega (arith, valid.1)), small p.number (omega (arith, valid.2))) refl
 
@@ -77,7 +79,7 @@ target_read (SelTarget vpe sel) rest fits = rw (small vpe (omega (arith, fits.0)
 target_read (ServTarget service) rest fits = rw (key_read service fits) refl
 target_read (OfferTarget service index) rest fits = rw (key_read service fits.0, small index (omega (arith, fits.1))) refl
 
-call_read : (c : Call) (rest : List (List ℕ)) → IsValidCall c → call_from (call_words c ++ rest) ≡ c
+call_read : (c : Call) (rest : List (List ℕ)) → IsValidCall NODES c → call_from (call_words c ++ rest) ≡ c
 unfolding call_from
 call_read (Derive src dst off len rights) rest valid = rw (small src (omega (arith, valid.0)), small dst (omega (arith, valid.1)), small off (omega (arith, valid.2)), small len (omega (arith, valid.3)), small rights (omega (arith, valid.4))) refl
 call_read (Gate src dst label credits) rest valid = rw (small src (omega (arith, valid.0)), small dst (omega (arith, valid.1)), small label (omega (arith, valid.2)), small credits (omega (arith, valid.4))) refl
@@ -92,6 +94,7 @@ call_read (Write ep off len) rest valid = rw (small ep (omega (arith, valid.0)),
 call_read (SendCall ep len) rest valid = rw (small ep (omega (arith, valid.0)), small len (omega (arith, valid.1))) refl
 call_read (Credit ep) rest valid = rw (small ep (omega (arith, valid))) refl
 call_read Exit rest valid = refl
+call_read (Clear src) rest valid = rw (small src (omega (arith, valid))) refl
 
 message_read : (m : Message) (rest : List (List ℕ)) → MessageFits m → message_from (message_words m ++ rest) ≡ m
 unfolding message_from
@@ -115,7 +118,7 @@ consent_read kernel name asker No rest = refl
 consent_read kernel name asker Dropped rest = refl
 
 -- the act and its detail
-event_read : (kernels : ℕ) (act : Act) (detail : Detail) (rest : List (List ℕ)) → kernels ≤ 16 → EventFits kernels act detail → (act_from (act_words act ++ detail_words detail ++ rest) ≡ act) × (detail_from (act_words act ++ detail_words detail ++ rest) ≡ detail)
+event_read : (kernels : ℕ) (act : Act) (detail : Detail) (rest : List (List ℕ)) → kernels ≤ MOST_KERNELS → EventFits kernels act detail → (act_from (act_words act ++ detail_words detail ++ rest) ≡ act) × (detail_from (act_words act ++ detail_words detail ++ rest) ≡ detail)
 unfolding act_from detail_from
 event_read kernels (Calls v) (Called index call) rest few fits = (rw (small v (omega (arith, fits.0))) refl, rw (small index fits.1, call_read call rest fits.2) refl)
 event_read kernels (Fetch from) (Carried peer message) rest few fits = (rw (fits.0, small peer (omega (arith, fits.1))) refl, rw (small peer (omega (arith, fits.1)), message_read message rest fits.2) refl)
@@ -165,7 +168,7 @@ reply_read (Some r) fits = rw (small r.vpe (omega (arith, fits.0)), small r.code
 reply_read None fits = refl
 
 -- an entry by its parts
-parts_read : (kernels : ℕ) (e : Entry) (rest behind : List (List ℕ)) → kernels ≤ 16 → EntryFits kernels e → rest ≡ act_words e.event.act ++ detail_words e.detail ++ behind → behind ≡ grant_words e.grant ++ cut_words e.cut ++ reply_words e.reply → entry_from kernels (decimal e.event.kernel ∷ rest) ≡ e
+parts_read : (kernels : ℕ) (e : Entry) (rest behind : List (List ℕ)) → kernels ≤ MOST_KERNELS → EntryFits kernels e → rest ≡ act_words e.event.act ++ detail_words e.detail ++ behind → behind ≡ grant_words e.grant ++ cut_words e.cut ++ reply_words e.reply → entry_from kernels (decimal e.event.kernel ∷ rest) ≡ e
 unfolding entry_from past_event
 parts_read kernels e rest behind few fits rest_is behind_is =
     let event : Fills (event_form kernels rest) rest behind = rw rest_is (λ more. (event_filled kernels e.event.act e.detail (omega (arith, fits.kernel)) few fits.event (record { is = refl })).is) in
@@ -178,8 +181,8 @@ parts_read kernels e rest behind few fits rest_is behind_is =
     let reply = reply_read e.reply fits.reply in
     rw (past, act, detail, small e.event.kernel (omega (arith, fits.kernel)), behind_is, grant.0, grant.1, cut.0, cut.1, reply) refl
 
-entry_told : (kernels : ℕ) (e : Entry) → kernels ≤ 16 → EntryFits kernels e → entry_from kernels (entry_words e) ≡ e
+entry_told : (kernels : ℕ) (e : Entry) → kernels ≤ MOST_KERNELS → EntryFits kernels e → entry_from kernels (entry_words e) ≡ e
 entry_told kernels e few fits = ap (entry_from kernels) (words_are e) ∙ parts_read kernels e _ _ few fits refl refl
 
-pub one_entry : (kernels : ℕ) (e f : Entry) → EntryFits kernels e → EntryFits kernels f → kernels ≤ 16 → entry_words e ≡ entry_words f → e ≡ f
+pub one_entry : (kernels : ℕ) (e f : Entry) → EntryFits kernels e → EntryFits kernels f → kernels ≤ MOST_KERNELS → entry_words e ≡ entry_words f → e ≡ f
 one_entry kernels e f e_fits f_fits few same = sym (entry_told kernels e few e_fits) ∙ (ap (entry_from kernels) same ∙ entry_told kernels f few f_fits)

@@ -4,10 +4,10 @@ use Rattle.std.specs.List.{list_all}
 use Rattle.std.proofs.lemmas.List.Folds.{list_all-append}
 use Rattle.sem_key.specs.declared.object.Object.{Object}
 use Rattle.sem_key.specs.declared.object.Object.TheVariants.{Mem, Recv, Send, Serv, Sess}
-use Rattle.sem_key.specs.KeyName.{KeyName, IsValidKey, kind_number}
-use Rattle.sem_key.specs.PlaceName.{PlaceName, IsValidPlace}
+use Rattle.sem_key.specs.KeyName.{KeyName, kind_number}
+use Rattle.sem_key.specs.PlaceName.{PlaceName}
 use Rattle.sem_msg.specs.declared.call.Call.{Call}
-use Rattle.sem_msg.specs.declared.call.Call.TheVariants.{Derive, Gate, Obtain, Delegate, OpenSession, AskOffer, Revoke, Bind, Read, Write, Send as SendCall, Credit, Exit}
+use Rattle.sem_msg.specs.declared.call.Call.TheVariants.{Derive, Gate, Obtain, Delegate, OpenSession, AskOffer, Revoke, Bind, Read, Write, Send as SendCall, Credit, Exit, Clear}
 use Rattle.sem_msg.specs.Calls.{IsValidCall}
 use Rattle.sem_msg.specs.declared.message.Target.{Target}
 use Rattle.sem_msg.specs.declared.message.Target.TheVariants.{Sel as SelTarget, Serv as ServTarget, Offer as OfferTarget}
@@ -20,11 +20,13 @@ use Rattle.sem_msg.specs.declared.entry.Detail.{Detail}
 use Rattle.sem_msg.specs.declared.entry.Detail.TheVariants.{Called, Carried, Asked, Nothing}
 use Rattle.sem_msg.specs.declared.entry.Reply.{Reply}
 use Rattle.sem_msg.specs.declared.entry.Entry.{Entry}
+use Rattle.sem_trace.specs.Ranges.{IsKeyInText, IsPlaceInText}
+use Rattle.sem_trace.specs.declared.limits.TheConstants.{NODES, MOST_KERNELS}
 use Rattle.sem_trace.specs.TextLines.{is_word}
 use Rattle.sem_trace.specs.Words.{key_word, place_word, object_words, call_words}
 use Rattle.sem_journal.specs.EntryText.{target_words, message_words, act_words, detail_words, grant_words, cut_words, reply_words, entry_words}
 use Rattle.sem_journal.specs.EntryRanges.{ObjectFits, TargetFits, MessageFits, EventFits, GrantFits, CutFits, ReplyFits, EntryFits}
-use Rattle.sem_journal.proofs.PlainText.{is_plain, is_plain_word, are_plain, and-left, and-right, plain-decimal}
+use Rattle.sem_reader.proofs.PlainText.{is_plain, is_plain_word, are_plain, and-left, and-right, plain-decimal}
 use Rattle.sem_journal.proofs.PrintedPlaces.{kind_most}
 use Rattle.sem_journal.proofs.PrintedEntries.{words_are}
 
@@ -59,22 +61,22 @@ with_number word n plain fits =
     let all : list_all is_plain (word ++ 46 ∷ decimal n) ≡ true = list_all-append is_plain word (46 ∷ decimal n) ∙ both (list_all is_plain word) (list_all is_plain (46 ∷ decimal n)) bytes digits in
     both (is_word (word ++ 46 ∷ decimal n)) (list_all is_plain (word ++ 46 ∷ decimal n)) (longer_word word (46 ∷ decimal n) (and-left (is_word word) _ plain)) all
 
-key_plain : (k : KeyName) → IsValidKey k → is_plain_word (key_word k) ≡ true
+key_plain : (k : KeyName) → IsKeyInText k → is_plain_word (key_word k) ≡ true
 key_plain k valid =
     with_number (decimal k.pe ++ 46 ∷ decimal k.vpe ++ 46 ∷ decimal (kind_number k.kind)) k.number
     (with_number (decimal k.pe ++ 46 ∷ decimal k.vpe) (kind_number k.kind)
     (with_number (decimal k.pe) k.vpe (number_plain k.pe (omega (arith, valid.0))) (omega (arith, valid.1)))
     (omega (arith, kind_most k.kind))) (omega (arith, valid.2))
 
-place_plain : (p : PlaceName) → IsValidPlace p → is_plain_word (place_word p) ≡ true
+place_plain : (p : PlaceName) → IsPlaceInText p → is_plain_word (place_word p) ≡ true
 place_plain p valid =
     with_number (decimal p.pe ++ 46 ∷ decimal p.vpe) p.number
     (with_number (decimal p.pe) p.vpe (number_plain p.pe (omega (arith, valid.0))) (omega (arith, valid.1))) (omega (arith, valid.2))
 
-key : {words : List (List ℕ)} (k : KeyName) → IsValidKey k → ArePlain words → ArePlain (key_word k ∷ words)
+key : {words : List (List ℕ)} (k : KeyName) → IsKeyInText k → ArePlain words → ArePlain (key_word k ∷ words)
 key k valid rest = name (key_plain k valid) rest
 
-place : {words : List (List ℕ)} (p : PlaceName) → IsValidPlace p → ArePlain words → ArePlain (place_word p ∷ words)
+place : {words : List (List ℕ)} (p : PlaceName) → IsPlaceInText p → ArePlain words → ArePlain (place_word p ∷ words)
 place p valid rest = name (place_plain p valid) rest
 
 pub object_plain : {rest : List (List ℕ)} (o : Object) → ObjectFits o → ArePlain rest → ArePlain (object_words o ++ rest)
@@ -84,7 +86,7 @@ object_plain (Send gate label credits) fits behind = name refl (key gate fits.0 
 object_plain (Serv name') fits behind = name refl (number name' (omega (arith, fits)) behind)
 object_plain (Sess service ident) fits behind = name refl (key service fits.0 (number ident (omega (arith, fits.1)) behind))
 
-call_plain : {rest : List (List ℕ)} (c : Call) → IsValidCall c → ArePlain rest → ArePlain (call_words c ++ rest)
+call_plain : {rest : List (List ℕ)} (c : Call) → IsValidCall NODES c → ArePlain rest → ArePlain (call_words c ++ rest)
 call_plain (Derive src dst off len rights) valid behind = name refl (number src (omega (arith, valid.0)) (number dst (omega (arith, valid.1)) (number off (omega (arith, valid.2)) (number len (omega (arith, valid.3)) (number rights (omega (arith, valid.4)) behind)))))
 call_plain (Gate src dst label credits) valid behind = name refl (number src (omega (arith, valid.0)) (number dst (omega (arith, valid.1)) (number label (omega (arith, valid.2)) (number credits (omega (arith, valid.4)) behind))))
 call_plain (Obtain dst vpe src) valid behind = name refl (number dst (omega (arith, valid.0)) (number vpe (omega (arith, valid.1)) (number src (omega (arith, valid.2)) behind)))
@@ -98,6 +100,7 @@ call_plain (Write ep off len) valid behind = name refl (number ep (omega (arith,
 call_plain (SendCall ep len) valid behind = name refl (number ep (omega (arith, valid.0)) (number len (omega (arith, valid.1)) behind))
 call_plain (Credit ep) valid behind = name refl (number ep (omega (arith, valid)) behind)
 call_plain Exit valid behind = name refl behind
+call_plain (Clear src) valid behind = name refl (number src (omega (arith, valid)) behind)
 
 target_plain : {rest : List (List ℕ)} (t : Target) → TargetFits t → ArePlain rest → ArePlain (target_words t ++ rest)
 target_plain (SelTarget vpe sel) fits behind = name refl (number vpe (omega (arith, fits.0)) (number sel (omega (arith, fits.1)) behind))
@@ -120,7 +123,7 @@ message_plain {rest} (DelegateReq parent object vpe sel) fits behind =
     let more : ArePlain (decimal vpe ∷ decimal sel ∷ rest) = number vpe (omega (arith, fits.2)) (number sel (omega (arith, fits.3)) behind) in
     rw (append_assoc (object_words object) (decimal vpe ∷ decimal sel ∷ []) rest) (name refl (key parent fits.0 (object_plain object fits.1 more)))
 
-event_plain : {rest : List (List ℕ)} (kernels : ℕ) (act : Act) (detail : Detail) → kernels ≤ 16 → EventFits kernels act detail → ArePlain rest → ArePlain (act_words act ++ detail_words detail ++ rest)
+event_plain : {rest : List (List ℕ)} (kernels : ℕ) (act : Act) (detail : Detail) → kernels ≤ MOST_KERNELS → EventFits kernels act detail → ArePlain rest → ArePlain (act_words act ++ detail_words detail ++ rest)
 event_plain kernels (Calls v) (Called index call) few fits behind = name refl (number v (omega (arith, fits.0)) (number index (omega (arith, fits.1)) (call_plain call fits.2 behind)))
 event_plain kernels (Fetch from) (Carried peer message) few fits behind = name refl (number peer (omega (arith, fits.1)) (message_plain message fits.2 behind))
 event_plain kernels Handle (Carried peer message) few fits behind = name refl (number peer (omega (arith, fits.0)) (message_plain message fits.1 behind))
@@ -161,11 +164,11 @@ cut_plain None fits behind = behind
 cut_plain (Some k) fits behind = name refl (key k fits behind)
 
 -- what stands behind an event
-outcome_plain : (grant : Option (KeyName × KeyName)) (cut : Option KeyName) (r : Option Reply) → GrantFits grant → CutFits cut → ReplyFits r → ArePlain (grant_words grant ++ cut_words cut ++ reply_words r)
-outcome_plain None cut r grant_fits cut_fits fits = cut_plain cut cut_fits (reply_plain r fits)
-outcome_plain (Some g) cut r grant_fits cut_fits fits = name refl (key g.0 grant_fits.0 (key g.1 grant_fits.1 (cut_plain cut cut_fits (reply_plain r fits))))
+shown_plain : (grant : Option (KeyName × KeyName)) (cut : Option KeyName) (r : Option Reply) → GrantFits grant → CutFits cut → ReplyFits r → ArePlain (grant_words grant ++ cut_words cut ++ reply_words r)
+shown_plain None cut r grant_fits cut_fits fits = cut_plain cut cut_fits (reply_plain r fits)
+shown_plain (Some g) cut r grant_fits cut_fits fits = name refl (key g.0 grant_fits.0 (key g.1 grant_fits.1 (cut_plain cut cut_fits (reply_plain r fits))))
 
-pub printed_words : (kernels : ℕ) (e : Entry) → kernels ≤ 16 → EntryFits kernels e → are_plain (entry_words e) ≡ true
+pub printed_words : (kernels : ℕ) (e : Entry) → kernels ≤ MOST_KERNELS → EntryFits kernels e → are_plain (entry_words e) ≡ true
 printed_words kernels e few fits =
-    let outcome : ArePlain (grant_words e.grant ++ cut_words e.cut ++ reply_words e.reply) = outcome_plain e.grant e.cut e.reply fits.grant fits.cut fits.reply in
-    ap are_plain (words_are e) ∙ (number e.event.kernel (omega (arith, fits.kernel)) (event_plain kernels e.event.act e.detail few fits.event outcome)).plain
+    let shown : ArePlain (grant_words e.grant ++ cut_words e.cut ++ reply_words e.reply) = shown_plain e.grant e.cut e.reply fits.grant fits.cut fits.reply in
+    ap are_plain (words_are e) ∙ (number e.event.kernel (omega (arith, fits.kernel)) (event_plain kernels e.event.act e.detail few fits.event shown)).plain

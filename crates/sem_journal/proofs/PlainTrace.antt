@@ -8,7 +8,7 @@ use Rattle.sem_key.specs.declared.object.Object.{Object}
 use Rattle.sem_key.specs.declared.object.Object.TheVariants.{Mem, Recv, Send, Serv, Sess}
 use Rattle.sem_key.specs.KeyName.{KeyName, kind_number}
 use Rattle.sem_msg.specs.declared.call.Call.{Call}
-use Rattle.sem_msg.specs.declared.call.Call.TheVariants.{Derive, Gate, Obtain, Delegate, OpenSession, AskOffer, Revoke, Bind, Read, Write, Send as SendCall, Credit, Exit}
+use Rattle.sem_msg.specs.declared.call.Call.TheVariants.{Derive, Gate, Obtain, Delegate, OpenSession, AskOffer, Revoke, Bind, Read, Write, Send as SendCall, Credit, Exit, Clear}
 use Rattle.sem_msg.specs.declared.setup.VpeDecl.{VpeDecl}
 use Rattle.sem_msg.specs.Setup.{Setup}
 use Rattle.sem_text.specs.Lines.{line}
@@ -17,7 +17,7 @@ use Rattle.sem_trace.specs.TextLines.{is_word}
 use Rattle.sem_trace.specs.Words.{key_word, call_words}
 use Rattle.sem_trace.specs.TraceText.{pe_line, vpe_line, root_line_of, root_line, offer_line, deny_line, kill_line, trace_lines}
 use Rattle.sem_journal.specs.ReportRefusal.{is_end_line, trace_section}
-use Rattle.sem_journal.proofs.PlainText.{is_plain, is_plain_word, are_plain, and-left, and-right}
+use Rattle.sem_reader.proofs.PlainText.{is_plain, is_plain_word, are_plain, and-left, and-right}
 use Rattle.sem_journal.proofs.WholeText.{both, decimal_plain, words_line}
 
 -- a line of a trace that does not end it
@@ -94,6 +94,7 @@ call_inner v (Write ep off len) = rw (decimal_plain v, decimal_plain ep, decimal
 call_inner v (SendCall ep len) = rw (decimal_plain v, decimal_plain ep, decimal_plain len) refl
 call_inner v (Credit ep) = rw (decimal_plain v, decimal_plain ep) refl
 call_inner v Exit = rw (decimal_plain v) refl
+call_inner v (Clear src) = rw (decimal_plain v, decimal_plain src) refl
 
 pub all_inner : (T : Setup) → list_all is_inner (inner_lines T) ≡ true
 all_inner T =

@@ -5,9 +5,11 @@ use Rattle.std.specs.List.{All}
 use Rattle.std.specs.Str.{bytes_eq}
 use Rattle.std.proofs.lemmas.Fmt.{length-decimal-le}
 use Rattle.std.proofs.lemmas.Slice.Eq.{bytes_eq-Decides}
-use Rattle.sem_key.specs.KeyName.{KeyName, IsValidKey, kind_number}
+use Rattle.sem_key.specs.KeyName.{KeyName, kind_number}
 use Rattle.sem_msg.specs.declared.entry.Entry.{Entry}
 use Rattle.sem_text.specs.Lines.{line}
+use Rattle.sem_trace.specs.Ranges.{IsKeyInText}
+use Rattle.sem_trace.specs.declared.limits.TheConstants.{MOST_KERNELS}
 use Rattle.sem_trace.specs.Words.{key_word}
 use Rattle.sem_trace.specs.Forms.{form_fault}
 use Rattle.sem_trace.specs.TextLines.{bytes_fault}
@@ -17,7 +19,7 @@ use Rattle.sem_journal.specs.EntryRanges.{EntryFits}
 use Rattle.sem_journal.specs.ReportText.{held_line}
 use Rattle.sem_journal.specs.WholeLines.{content}
 use Rattle.sem_journal.specs.ReportRefusal.{Form, words_in, report_line_fault, forms_fault, report_form, name_form, count_form, held_form}
-use Rattle.sem_journal.proofs.PlainText.{is_plain_word, are_plain, bare, bytes_fit}
+use Rattle.sem_reader.proofs.PlainText.{is_plain_word, are_plain, bare, bytes_fit}
 use Rattle.sem_journal.proofs.PrintedPlaces.{Leaves, a_name, a_number, a_key, kind_most}
 use Rattle.sem_journal.proofs.PrintedEntries.{entry_read}
 use Rattle.sem_journal.proofs.PlainEntries.{printed_words}
@@ -77,7 +79,7 @@ count_fine name n plain short small =
     let all : length (line (name ∷ decimal n ∷ [])) ≡ length name + (1 + length (decimal n)) + 1 = rw (length-append, length-append, length-append) (omega arith) in
     printed_fine (count_form name) (name ∷ decimal n ∷ []) (rw (plain, decimal_plain n) refl) (omega (arith, all, ten n small)) (a_name (rw same refl) (a_number n (omega arith) small (omega arith) filled)).is refl
 
-key_short : (k : KeyName) → IsValidKey k → length (key_word k) ≤ 43
+key_short : (k : KeyName) → IsKeyInText k → length (key_word k) ≤ 43
 key_short k valid =
     let pe = ten k.pe (omega (arith, valid.0)) in
     let vpe = ten k.vpe (omega (arith, valid.1)) in
@@ -86,14 +88,14 @@ key_short k valid =
     let all : length (key_word k) ≡ length (decimal k.pe) + (1 + length (decimal k.vpe)) + (1 + length (decimal (kind_number k.kind))) + (1 + length (decimal k.number)) = rw (length-append, length-append, length-append) (omega arith) in
     omega arith
 
-pub held_fine : (h : KeyName × ℕ) → IsValidKey h.0 × (h.1 ≤ 255) → report_line_fault held_form (line (held_line h)) ≡ None
+pub held_fine : (h : KeyName × ℕ) → IsKeyInText h.0 × (h.1 ≤ 255) → report_line_fault held_form (line (held_line h)) ≡ None
 unfolding has_long_memory
 held_fine h fits =
     let small : h.1 ≤ 255 = fits.1 in
     let all : length (line (held_line h)) ≡ 3 + (1 + length (key_word h.0) + (1 + length (decimal h.1))) + 1 = rw (length-append, length-append, length-append) (omega (arith, length-append (decimal h.1) [])) in
     printed_fine held_form (held_line h) (rw (key_plain h.0, decimal_plain h.1) refl) (omega (arith, all, key_short h.0 fits.0, ten h.1 (omega arith))) (a_name refl (a_key h.0 fits.0 (a_number h.1 (omega arith) small (omega arith) filled))).is refl
 
-pub entry_fine : (kernels : ℕ) (e : Entry) → 1 ≤ kernels → kernels ≤ 16 → EntryFits kernels e → report_line_fault (entry_form kernels) (line (entry_words e)) ≡ None
+pub entry_fine : (kernels : ℕ) (e : Entry) → 1 ≤ kernels → kernels ≤ MOST_KERNELS → EntryFits kernels e → report_line_fault (entry_form kernels) (line (entry_words e)) ≡ None
 entry_fine kernels e some few fits =
     let good = entry_words_good kernels (entry_words e) (entry_read kernels e some few fits) in
     printed_fine (entry_form kernels) (entry_words e) (printed_words kernels e few fits) (omega (arith, short_line kernels e few fits)) good.0 good.1

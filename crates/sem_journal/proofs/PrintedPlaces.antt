@@ -1,22 +1,25 @@
 -- What is printed of numbers, keys, calls and objects fills its places.
-use Rattle.std.proofs.Common.{◌≡◌, ℕ, ◌<◌, ◌≤◌, ◌^◌, ◌==◌, true, false, List, [], ◌∷◌, ◌++◌, map, Option, None, refl, ap, ◌∙◌, arith, decimal, append_assoc, le-leb}
+use Rattle.std.proofs.Common.{◌-◌, ◌≡◌, ℕ, ◌<◌, ◌≤◌, ◌^◌, ◌==◌, true, false, List, [], ◌∷◌, ◌++◌, map, Option, None, refl, ap, ◌∙◌, arith, decimal, append_assoc, le-leb}
 use Rattle.std.specs.List.{list_all, list_any, All}
 use Rattle.std.specs.Str.{bytes_eq}
 use Rattle.std.proofs.lemmas.Bool.Decides.{nat_tests}
 use Rattle.std.proofs.lemmas.List.Splits.{slice_split_none, slice_split_at}
 use Rattle.std.proofs.lemmas.List.Elements.{All-nil, All-cons}
+use Rattle.sem_key.specs.declared.limits.TheConstants.{NUMBERS}
 use Rattle.sem_key.specs.declared.object.Object.{Object}
 use Rattle.sem_key.specs.declared.object.Object.TheVariants.{Mem, Recv, Send, Serv, Sess}
 use Rattle.sem_key.specs.declared.key.Kind.{Kind}
 use Rattle.sem_key.specs.declared.key.Kind.TheVariants.{Mem as MemKind, Recv as RecvKind, Send as SendKind, Serv as ServKind, Sess as SessKind}
-use Rattle.sem_key.specs.KeyName.{KeyName, IsValidKey, kind_number}
-use Rattle.sem_key.specs.PlaceName.{PlaceName, IsValidPlace}
+use Rattle.sem_key.specs.KeyName.{KeyName, kind_number}
+use Rattle.sem_key.specs.PlaceName.{PlaceName}
 use Rattle.sem_msg.specs.declared.call.Call.{Call}
-use Rattle.sem_msg.specs.declared.call.Call.TheVariants.{Derive, Gate, Obtain, Delegate, OpenSession, AskOffer, Revoke, Bind, Read, Write, Send as SendCall, Credit, Exit}
+use Rattle.sem_msg.specs.declared.call.Call.TheVariants.{Derive, Gate, Obtain, Delegate, OpenSession, AskOffer, Revoke, Bind, Read, Write, Send as SendCall, Credit, Exit, Clear}
 use Rattle.sem_msg.specs.Calls.{IsValidCall}
 use Rattle.sem_msg.specs.declared.message.Target.{Target}
 use Rattle.sem_msg.specs.declared.message.Target.TheVariants.{Sel as SelTarget, Serv as ServTarget, Offer as OfferTarget}
 use Rattle.sem_text.specs.Number.{is_digit, number_value}
+use Rattle.sem_trace.specs.Ranges.{IsKeyInText, IsPlaceInText}
+use Rattle.sem_trace.specs.declared.limits.TheConstants.{NODES}
 use Rattle.sem_trace.specs.declared.fault.Cause.{Cause}
 use Rattle.sem_trace.specs.Words.{key_word, place_word, object_words, call_words}
 use Rattle.sem_trace.specs.Forms.{Place, place_fault, form_fault, parts_of, are_numbers, are_within, choice, word_at, key, key_place, calls}
@@ -24,8 +27,8 @@ use Rattle.sem_trace.specs.Forms.Place.{Word, Number, Dotted}
 use Rattle.sem_journal.specs.EntryText.{target_words}
 use Rattle.sem_journal.specs.EntryForms.{objects, targets}
 use Rattle.sem_journal.specs.EntryRanges.{ObjectFits, TargetFits}
-use Rattle.sem_journal.proofs.Decimals.{digits-decimal, is_number-decimal}
-use Rattle.sem_journal.proofs.PlainText.{and-left, and-right}
+use Rattle.sem_reader.proofs.Decimals.{digits-decimal, is_number-decimal}
+use Rattle.sem_reader.proofs.PlainText.{and-left, and-right}
 
 pub value : (n : ℕ) → n < 2 ^ 64 → number_value (decimal n) ≡ n
 value n fits = (digits-decimal n fits).1
@@ -67,12 +70,12 @@ place_numbers p = p.pe ∷ p.vpe ∷ p.number ∷ []
 regroup : (a b c d : List ℕ) → a ++ 46 ∷ b ++ 46 ∷ c ++ 46 ∷ d ≡ a ++ (46 ∷ (b ++ (46 ∷ (c ++ (46 ∷ d)))))
 regroup a b c d = simp append_assoc
 
-pub key_parts : (k : KeyName) → IsValidKey k → parts_of (key_word k) ≡ map decimal (key_numbers k)
+pub key_parts : (k : KeyName) → IsKeyInText k → parts_of (key_word k) ≡ map decimal (key_numbers k)
 key_parts k valid =
     ap parts_of (regroup (decimal k.pe) (decimal k.vpe) (decimal (kind_number k.kind)) (decimal k.number))
     ∙ first_part k.pe _ _ (omega (arith, valid.0)) (first_part k.vpe _ _ (omega (arith, valid.1)) (first_part (kind_number k.kind) _ _ (omega (arith, kind_most k.kind)) (one_part k.number (omega (arith, valid.2)))))
 
-pub place_parts : (p : PlaceName) → IsValidPlace p → parts_of (place_word p) ≡ map decimal (place_numbers p)
+pub place_parts : (p : PlaceName) → IsPlaceInText p → parts_of (place_word p) ≡ map decimal (place_numbers p)
 place_parts p valid =
     ap parts_of (append_assoc (decimal p.pe) (46 ∷ decimal p.vpe) (46 ∷ decimal p.number))
     ∙ first_part p.pe _ _ (omega (arith, valid.0)) (first_part p.vpe _ _ (omega (arith, valid.1)) (one_part p.number (omega (arith, valid.2))))
@@ -101,15 +104,15 @@ printed_within (range ∷ ranges) (n ∷ ns) within = rw (value n within.2, le-l
 dotted : (ranges : List (ℕ × ℕ)) (ns word : List ℕ) → parts_of word ≡ map decimal ns → AreIn ranges ns → place_fault (Dotted ranges) word ≡ None
 dotted ranges ns word parts within = rw (parts, printed_numbers ranges ns within, printed_within ranges ns within) refl
 
-key_fits : (k : KeyName) → IsValidKey k → place_fault key (key_word k) ≡ None
+key_fits : (k : KeyName) → IsKeyInText k → place_fault key (key_word k) ≡ None
 key_fits k valid =
-    dotted ((0, 63) ∷ (0, 63) ∷ (1, 5) ∷ (0, 4095) ∷ []) (key_numbers k) (key_word k) (key_parts k valid)
-    (omega arith, valid.0, omega (arith, valid.0), (omega arith, valid.1, omega (arith, valid.1), (kind_least k.kind, kind_most k.kind, omega (arith, kind_most k.kind), (omega arith, valid.2, omega (arith, valid.2), tt))))
+    dotted ((0, NODES - 1) ∷ (0, NODES - 1) ∷ (1, 5) ∷ (0, NUMBERS - 1) ∷ []) (key_numbers k) (key_word k) (key_parts k valid)
+    (omega arith, omega (arith, valid.0), omega (arith, valid.0), (omega arith, omega (arith, valid.1), omega (arith, valid.1), (kind_least k.kind, kind_most k.kind, omega (arith, kind_most k.kind), (omega arith, omega (arith, valid.2), omega (arith, valid.2), tt))))
 
-place_fits : (p : PlaceName) → IsValidPlace p → place_fault key_place (place_word p) ≡ None
+place_fits : (p : PlaceName) → IsPlaceInText p → place_fault key_place (place_word p) ≡ None
 place_fits p valid =
-    dotted ((0, 63) ∷ (0, 63) ∷ (0, 4095) ∷ []) (place_numbers p) (place_word p) (place_parts p valid)
-    (omega arith, valid.0, omega (arith, valid.0), (omega arith, valid.1, omega (arith, valid.1), (omega arith, valid.2, omega (arith, valid.2), tt)))
+    dotted ((0, NODES - 1) ∷ (0, NODES - 1) ∷ (0, NUMBERS - 1) ∷ []) (place_numbers p) (place_word p) (place_parts p valid)
+    (omega arith, omega (arith, valid.0), omega (arith, valid.0), (omega arith, omega (arith, valid.1), omega (arith, valid.1), (omega arith, omega (arith, valid.2), omega (arith, valid.2), tt)))
 
 number_fits : (least most n : ℕ) → least ≤ n → n ≤ most → n < 2 ^ 64 → place_fault (Number least most) (decimal n) ≡ None
 number_fits least most n low high fits = rw (is_number-decimal n fits, value n fits, le-leb least n low, le-leb n most high) refl
@@ -129,39 +132,40 @@ a_name {names} {places} {word} among rest = filled {place = Word names} {word = 
 pub a_number : {least most : ℕ} {places : List Place} {words : List (List ℕ)} {o : Option Cause} (n : ℕ) → least ≤ n → n ≤ most → n < 2 ^ 64 → Leaves places words o → Leaves (Number least most ∷ places) (decimal n ∷ words) o
 a_number {least} {most} n low high fits rest = filled (number_fits least most n low high fits) rest
 
-pub a_key : {places : List Place} {words : List (List ℕ)} {o : Option Cause} (k : KeyName) → IsValidKey k → Leaves places words o → Leaves (key ∷ places) (key_word k ∷ words) o
+pub a_key : {places : List Place} {words : List (List ℕ)} {o : Option Cause} (k : KeyName) → IsKeyInText k → Leaves places words o → Leaves (key ∷ places) (key_word k ∷ words) o
 a_key k valid rest = filled {place = key} (key_fits k valid) rest
 
-pub a_place : {places : List Place} {words : List (List ℕ)} {o : Option Cause} (p : PlaceName) → IsValidPlace p → Leaves places words o → Leaves (key_place ∷ places) (place_word p ∷ words) o
+pub a_place : {places : List Place} {words : List (List ℕ)} {o : Option Cause} (p : PlaceName) → IsPlaceInText p → Leaves places words o → Leaves (key_place ∷ places) (place_word p ∷ words) o
 a_place p valid rest = filled {place = key_place} (place_fits p valid) rest
 
 -- what is printed fills the places, whatever places and words follow
 pub object_filled : {more : List Place} {rest : List (List ℕ)} {c : Option Cause} (o : Object) → ObjectFits o → Leaves more rest c → Leaves (choice objects (word_at (object_words o ++ rest) 0) ++ more) (object_words o ++ rest) c
 unfolding objects
-object_filled (Mem base len rights) fits behind = a_name refl (a_number base (omega arith) fits.0 (omega (arith, fits.0)) (a_number len (omega arith) fits.1 (omega (arith, fits.1)) (a_number rights (omega arith) fits.2 (omega (arith, fits.2)) behind)))
+object_filled (Mem base len rights) fits behind = a_name refl (a_number base (omega arith) (omega (arith, fits.0)) (omega (arith, fits.0)) (a_number len (omega arith) (omega (arith, fits.1)) (omega (arith, fits.1)) (a_number rights (omega arith) (omega (arith, fits.2)) (omega (arith, fits.2)) behind)))
 object_filled (Recv slots) fits behind = a_name refl (a_number slots fits.0 fits.1 (omega (arith, fits.1)) behind)
-object_filled (Send gate label credits) fits behind = a_name refl (a_key gate fits.0 (a_number label (omega arith) fits.1 (omega (arith, fits.1)) (a_number credits fits.2 fits.3 (omega (arith, fits.3)) behind)))
-object_filled (Serv name) fits behind = a_name refl (a_number name (omega arith) fits (omega (arith, fits)) behind)
-object_filled (Sess service ident) fits behind = a_name refl (a_key service fits.0 (a_number ident (omega arith) fits.1 (omega (arith, fits.1)) behind))
+object_filled (Send gate label credits) fits behind = a_name refl (a_key gate fits.0 (a_number label (omega arith) (omega (arith, fits.1)) (omega (arith, fits.1)) (a_number credits fits.2 fits.3 (omega (arith, fits.3)) behind)))
+object_filled (Serv name) fits behind = a_name refl (a_number name (omega arith) (omega (arith, fits)) (omega (arith, fits)) behind)
+object_filled (Sess service ident) fits behind = a_name refl (a_key service fits.0 (a_number ident (omega arith) (omega (arith, fits.1)) (omega (arith, fits.1)) behind))
 
-pub call_filled : {more : List Place} {rest : List (List ℕ)} {o : Option Cause} (c : Call) → IsValidCall c → Leaves more rest o → Leaves (choice calls (word_at (call_words c ++ rest) 0) ++ more) (call_words c ++ rest) o
+pub call_filled : {more : List Place} {rest : List (List ℕ)} {o : Option Cause} (c : Call) → IsValidCall NODES c → Leaves more rest o → Leaves (choice calls (word_at (call_words c ++ rest) 0) ++ more) (call_words c ++ rest) o
 unfolding calls
-call_filled (Derive src dst off len rights) valid behind = a_name refl (a_number src (omega arith) valid.0 (omega (arith, valid.0)) (a_number dst (omega arith) valid.1 (omega (arith, valid.1)) (a_number off (omega arith) valid.2 (omega (arith, valid.2)) (a_number len (omega arith) valid.3 (omega (arith, valid.3)) (a_number rights (omega arith) valid.4 (omega (arith, valid.4)) behind)))))
-call_filled (Gate src dst label credits) valid behind = a_name refl (a_number src (omega arith) valid.0 (omega (arith, valid.0)) (a_number dst (omega arith) valid.1 (omega (arith, valid.1)) (a_number label (omega arith) valid.2 (omega (arith, valid.2)) (a_number credits valid.3 valid.4 (omega (arith, valid.4)) behind))))
-call_filled (Obtain dst vpe src) valid behind = a_name refl (a_number dst (omega arith) valid.0 (omega (arith, valid.0)) (a_number vpe (omega arith) valid.1 (omega (arith, valid.1)) (a_number src (omega arith) valid.2 (omega (arith, valid.2)) behind)))
-call_filled (Delegate src vpe dst) valid behind = a_name refl (a_number src (omega arith) valid.0 (omega (arith, valid.0)) (a_number vpe (omega arith) valid.1 (omega (arith, valid.1)) (a_number dst (omega arith) valid.2 (omega (arith, valid.2)) behind)))
-call_filled (OpenSession dst name) valid behind = a_name refl (a_number dst (omega arith) valid.0 (omega (arith, valid.0)) (a_number name (omega arith) valid.1 (omega (arith, valid.1)) behind))
-call_filled (AskOffer dst session index) valid behind = a_name refl (a_number dst (omega arith) valid.0 (omega (arith, valid.0)) (a_number session (omega arith) valid.1 (omega (arith, valid.1)) (a_number index (omega arith) valid.2 (omega (arith, valid.2)) behind)))
-call_filled (Revoke src) valid behind = a_name refl (a_number src (omega arith) valid (omega (arith, valid)) behind)
-call_filled (Bind ep src) valid behind = a_name refl (a_number ep (omega arith) valid.0 (omega (arith, valid.0)) (a_number src (omega arith) valid.1 (omega (arith, valid.1)) behind))
-call_filled (Read ep off len) valid behind = a_name refl (a_number ep (omega arith) valid.0 (omega (arith, valid.0)) (a_number off (omega arith) valid.1 (omega (arith, valid.1)) (a_number len (omega arith) valid.2 (omega (arith, valid.2)) behind)))
-call_filled (Write ep off len) valid behind = a_name refl (a_number ep (omega arith) valid.0 (omega (arith, valid.0)) (a_number off (omega arith) valid.1 (omega (arith, valid.1)) (a_number len (omega arith) valid.2 (omega (arith, valid.2)) behind)))
-call_filled (SendCall ep len) valid behind = a_name refl (a_number ep (omega arith) valid.0 (omega (arith, valid.0)) (a_number len (omega arith) valid.1 (omega (arith, valid.1)) behind))
-call_filled (Credit ep) valid behind = a_name refl (a_number ep (omega arith) valid (omega (arith, valid)) behind)
+call_filled (Derive src dst off len rights) valid behind = a_name refl (a_number src (omega arith) (omega (arith, valid.0)) (omega (arith, valid.0)) (a_number dst (omega arith) (omega (arith, valid.1)) (omega (arith, valid.1)) (a_number off (omega arith) (omega (arith, valid.2)) (omega (arith, valid.2)) (a_number len (omega arith) (omega (arith, valid.3)) (omega (arith, valid.3)) (a_number rights (omega arith) (omega (arith, valid.4)) (omega (arith, valid.4)) behind)))))
+call_filled (Gate src dst label credits) valid behind = a_name refl (a_number src (omega arith) (omega (arith, valid.0)) (omega (arith, valid.0)) (a_number dst (omega arith) (omega (arith, valid.1)) (omega (arith, valid.1)) (a_number label (omega arith) (omega (arith, valid.2)) (omega (arith, valid.2)) (a_number credits valid.3 valid.4 (omega (arith, valid.4)) behind))))
+call_filled (Obtain dst vpe src) valid behind = a_name refl (a_number dst (omega arith) (omega (arith, valid.0)) (omega (arith, valid.0)) (a_number vpe (omega arith) (omega (arith, valid.1)) (omega (arith, valid.1)) (a_number src (omega arith) (omega (arith, valid.2)) (omega (arith, valid.2)) behind)))
+call_filled (Delegate src vpe dst) valid behind = a_name refl (a_number src (omega arith) (omega (arith, valid.0)) (omega (arith, valid.0)) (a_number vpe (omega arith) (omega (arith, valid.1)) (omega (arith, valid.1)) (a_number dst (omega arith) (omega (arith, valid.2)) (omega (arith, valid.2)) behind)))
+call_filled (OpenSession dst name) valid behind = a_name refl (a_number dst (omega arith) (omega (arith, valid.0)) (omega (arith, valid.0)) (a_number name (omega arith) (omega (arith, valid.1)) (omega (arith, valid.1)) behind))
+call_filled (AskOffer dst session index) valid behind = a_name refl (a_number dst (omega arith) (omega (arith, valid.0)) (omega (arith, valid.0)) (a_number session (omega arith) (omega (arith, valid.1)) (omega (arith, valid.1)) (a_number index (omega arith) (omega (arith, valid.2)) (omega (arith, valid.2)) behind)))
+call_filled (Revoke src) valid behind = a_name refl (a_number src (omega arith) (omega (arith, valid)) (omega (arith, valid)) behind)
+call_filled (Bind ep src) valid behind = a_name refl (a_number ep (omega arith) (omega (arith, valid.0)) (omega (arith, valid.0)) (a_number src (omega arith) (omega (arith, valid.1)) (omega (arith, valid.1)) behind))
+call_filled (Read ep off len) valid behind = a_name refl (a_number ep (omega arith) (omega (arith, valid.0)) (omega (arith, valid.0)) (a_number off (omega arith) (omega (arith, valid.1)) (omega (arith, valid.1)) (a_number len (omega arith) (omega (arith, valid.2)) (omega (arith, valid.2)) behind)))
+call_filled (Write ep off len) valid behind = a_name refl (a_number ep (omega arith) (omega (arith, valid.0)) (omega (arith, valid.0)) (a_number off (omega arith) (omega (arith, valid.1)) (omega (arith, valid.1)) (a_number len (omega arith) (omega (arith, valid.2)) (omega (arith, valid.2)) behind)))
+call_filled (SendCall ep len) valid behind = a_name refl (a_number ep (omega arith) (omega (arith, valid.0)) (omega (arith, valid.0)) (a_number len (omega arith) (omega (arith, valid.1)) (omega (arith, valid.1)) behind))
+call_filled (Credit ep) valid behind = a_name refl (a_number ep (omega arith) (omega (arith, valid)) (omega (arith, valid)) behind)
 call_filled Exit valid behind = a_name refl behind
+call_filled (Clear src) valid behind = a_name refl (a_number src (omega arith) (omega (arith, valid)) (omega (arith, valid)) behind)
 
 pub target_filled : {more : List Place} {rest : List (List ℕ)} {o : Option Cause} (t : Target) → TargetFits t → Leaves more rest o → Leaves (choice targets (word_at (target_words t ++ rest) 0) ++ more) (target_words t ++ rest) o
 unfolding targets
-target_filled (SelTarget vpe sel) fits behind = a_name refl (a_number vpe (omega arith) fits.0 (omega (arith, fits.0)) (a_number sel (omega arith) fits.1 (omega (arith, fits.1)) behind))
+target_filled (SelTarget vpe sel) fits behind = a_name refl (a_number vpe (omega arith) (omega (arith, fits.0)) (omega (arith, fits.0)) (a_number sel (omega arith) (omega (arith, fits.1)) (omega (arith, fits.1)) behind))
 target_filled (ServTarget service) fits behind = a_name refl (a_key service fits behind)
-target_filled (OfferTarget service index) fits behind = a_name refl (a_key service fits.0 (a_number index (omega arith) fits.1 (omega (arith, fits.1)) behind))
+target_filled (OfferTarget service index) fits behind = a_name refl (a_key service fits.0 (a_number index (omega arith) (omega (arith, fits.1)) (omega (arith, fits.1)) behind))

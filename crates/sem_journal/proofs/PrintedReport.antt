@@ -10,12 +10,13 @@ use Rattle.std.proofs.lemmas.List.Folds.{list_all-append}
 use Rattle.std.proofs.lemmas.Slice.Eq.{bytes_eq-Decides}
 use Rattle.sem_key.specs.KeyName.{KeyName}
 use Rattle.sem_msg.specs.declared.entry.Entry.{Entry}
-use Rattle.sem_msg.specs.Setup.{Setup, IsSetup}
+use Rattle.sem_msg.specs.Setup.{Setup}
 use Rattle.sem_text.specs.Lines.{line, text}
+use Rattle.sem_trace.specs.declared.limits.TheConstants.{MOST_KERNELS}
 use Rattle.sem_trace.specs.TextLines.{lines_of}
 use Rattle.sem_trace.specs.Refusal.{lines_refusal, refusal}
 use Rattle.sem_trace.specs.Standing.{Stands, Declare}
-use Rattle.sem_trace.specs.TraceText.{canonical, trace_lines}
+use Rattle.sem_trace.specs.TraceText.{canonical, trace_lines, TraceFits}
 use Rattle.sem_journal.specs.EntryForms.{entry_form}
 use Rattle.sem_journal.specs.EntryText.{entry_words}
 use Rattle.sem_journal.specs.EntryRanges.{EntryFits}
@@ -23,7 +24,7 @@ use Rattle.sem_journal.specs.ReportText.{held_line, audit_lines, journal_lines, 
 use Rattle.sem_journal.specs.ReportRanges.{ReportFits}
 use Rattle.sem_journal.specs.WholeLines.{whole_lines}
 use Rattle.sem_journal.specs.ReportRefusal.{count_at, report_form, name_form, count_form, held_form, audit_forms, forms_behind, trace_section, trace_refusal, setup_in, first_difference, report_refusal}
-use Rattle.sem_journal.proofs.PlainText.{are_plain}
+use Rattle.sem_reader.proofs.PlainText.{are_plain}
 use Rattle.sem_journal.proofs.PrintedPlaces.{value}
 use Rattle.sem_journal.proofs.PlainEntries.{printed_words}
 use Rattle.sem_journal.proofs.TraceInReport.{section_spelled, section_declares}
@@ -65,10 +66,14 @@ audit_plain made cut held =
     let keys : list_all are_plain (map held_line held) ≡ true = plain_map held_line held (λ k h within. held_plain (slice_index_or held k h)) in
     rw (decimal_plain made, decimal_plain cut, decimal_plain (length held)) (plain_append (map held_line held) ((codes "end" ∷ []) ∷ []) keys refl)
 
-journal_plain : (kernels : ℕ) (J : List Entry) → kernels ≤ 16 → All (EntryFits kernels) J → list_all are_plain (journal_lines J) ≡ true
+-- a trace tells few kernels
+pub few_kernels : (T : Setup) → TraceFits T → T.kernels ≤ MOST_KERNELS
+few_kernels T fits = rw fits.version at fits.setup.few_kernels
+
+journal_plain : (kernels : ℕ) (J : List Entry) → kernels ≤ MOST_KERNELS → All (EntryFits kernels) J → list_all are_plain (journal_lines J) ≡ true
 journal_plain kernels J few fits = rw (decimal_plain (length J)) (plain_map entry_words J (λ k e within. printed_words kernels (slice_index_or J k e) few (fits k e within)))
 
-pub report_whole : (T : Setup) (J : List Entry) (made cut : ℕ) (held : List (KeyName × ℕ)) → T.kernels ≤ 16 → All (EntryFits T.kernels) J → whole_lines (report_text T J made cut held) ≡ line (codes "semper" ∷ codes "report" ∷ codes "1" ∷ []) ∷ (map line (trace_lines T) ++ behind_whole J made cut held)
+pub report_whole : (T : Setup) (J : List Entry) (made cut : ℕ) (held : List (KeyName × ℕ)) → T.kernels ≤ MOST_KERNELS → All (EntryFits T.kernels) J → whole_lines (report_text T J made cut held) ≡ line (codes "semper" ∷ codes "report" ∷ codes "1" ∷ []) ∷ (map line (trace_lines T) ++ behind_whole J made cut held)
 report_whole T J made cut held few fits =
     let first : List (List ℕ) = codes "semper" ∷ codes "report" ∷ codes "1" ∷ [] in
     let grouped : report_lines T J made cut held ≡ first ∷ (trace_lines T ++ (journal_lines J ++ audit_lines made cut held)) = ap (λ (ls : List (List (List ℕ))). first ∷ ls) (append_assoc (trace_lines T) (journal_lines J) (audit_lines made cut held)) in
@@ -107,7 +112,7 @@ behind_fine T J made cut held fits =
     (fine_more _ _ _ _ (count_fine (codes "made") made refl (omega arith) fits.few_made)
     (fine_more _ _ _ _ (count_fine (codes "cut") cut refl (omega arith) fits.few_cut)
     (fine_more _ _ _ _ (count_fine (codes "held") (length held) refl (omega arith) fits.few_held) keys))) in
-    let entries = fine_each entry_words (entry_form T.kernels) J _ _ (λ k e within. entry_fine T.kernels (slice_index_or J k e) fits.setup.some_kernel fits.setup.few_kernels (fits.entries k e within)) audit in
+    let entries = fine_each entry_words (entry_form T.kernels) J _ _ (λ k e within. entry_fine T.kernels (slice_index_or J k e) fits.trace.setup.some_kernel (few_kernels T fits.trace) (fits.entries k e within)) audit in
     let all : AreFine (count_form (codes "journal") ∷ (replicate (length J) (entry_form T.kernels) ++ audit_forms (length held))) (behind_whole J made cut held) = fine_more _ _ _ _ (count_fine (codes "journal") (length J) refl (omega arith) fits.few_entries) entries in
     λ n. rw (forms_printed T.kernels J made cut held fits.few_entries fits.few_held) (all n)
 
@@ -137,12 +142,12 @@ trace_read T stands = section_declares (canonical T) (map line (trace_lines T)) 
 trace_fine : (T : Setup) → Stands (canonical T) T → trace_refusal (map line (trace_lines T)) ≡ None
 trace_fine T stands = section_spelled (canonical T) (canonical T) (map line (trace_lines T)) T None (trace_whole T) (declares T stands) refl (sym (same_lines 2 (whole_lines (canonical T))))
 
-pub report_read : ((T : Setup) → IsSetup T → Stands (canonical T) T) → (T : Setup) (J : List Entry) (made cut : ℕ) (held : List (KeyName × ℕ)) → ReportFits T J made cut held → length (report_text T J made cut held) ≤ 134217728 → report_refusal (report_text T J made cut held) ≡ None
+pub report_read : ((T : Setup) → TraceFits T → Stands (canonical T) T) → (T : Setup) (J : List Entry) (made cut : ℕ) (held : List (KeyName × ℕ)) → ReportFits T J made cut held → length (report_text T J made cut held) ≤ 134217728 → report_refusal (report_text T J made cut held) ≡ None
 report_read stands T J made cut held fits short =
     let behind : List (List ℕ) = behind_whole J made cut held in
     let section : List (List ℕ) = map line (trace_lines T) in
-    let whole = report_whole T J made cut held fits.setup.few_kernels fits.entries in
-    let standing : Stands (canonical T) T = stands T fits.setup in
+    let whole = report_whole T J made cut held (few_kernels T fits.trace) fits.entries in
+    let standing : Stands (canonical T) T = stands T fits.trace in
     let is : trace_section (section ++ behind) ≡ section = section_printed T behind in
     let headed : IsHeaded (report_text T J made cut held) (section ++ behind) = record {
       short = short;

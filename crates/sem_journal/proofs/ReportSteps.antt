@@ -5,8 +5,9 @@ use Rattle.std.specs.List.{All}
 use Rattle.std.proofs.lemmas.List.Elements.{All-nil, All-cons, All-append}
 use Rattle.std.proofs.lemmas.Grind.{flat_map-append}
 use Rattle.sem_msg.specs.declared.entry.Entry.{Entry}
-use Rattle.sem_journal.specs.declared.audit.Held.{Held}
-use Rattle.sem_journal.specs.AuditList.{held_pairs}
+use Rattle.sem_msg.specs.declared.audit.Held.{Held}
+use Rattle.sem_msg.specs.Audits.{held_pairs}
+use Rattle.sem_journal.specs.ReportRanges.{HeldFits}
 use Rattle.sem_journal.specs.ReportText.{held_line, journal_lines}
 use Rattle.sem_journal.specs.EntryForms.{entry_form}
 use Rattle.sem_journal.specs.EntryText.{entry_words}
@@ -73,6 +74,9 @@ entries_count kernels n text behind before after one count = rw (one.added, leng
 -- a key more
 pub keys_read : (held : Held) (before after : List Held) (all rest behind : List ℕ) → all ≡ text (map held_line (held_pairs before)) ++ rest → rest ≡ line (held_line (held.key, held.sel)) ++ behind → after ≡ before ++ held ∷ [] → all ≡ text (map held_line (held_pairs after)) ++ behind
 keys_read held before after all rest behind so_far one added = rw (added, map-append) (text_more held_line (held_pairs before) (held.key, held.sel) all rest behind so_far one)
+
+pub keys_fit : (held : Held) (before after : List Held) → All HeldFits (held_pairs before) → HeldFits (held.key, held.sel) → after ≡ before ++ held ∷ [] → All HeldFits (held_pairs after)
+keys_fit held before after so_far one added = rw (added, map-append) (All-append HeldFits (held_pairs before) ((held.key, held.sel) ∷ []) so_far (All-cons HeldFits (held.key, held.sel) [] one (All-nil HeldFits)))
 
 -- the lines behind one more
 pub drop_more : (lines rest behind : List (List ℕ)) (i : ℕ) → rest ≡ drop i lines → behind ≡ drop 1 rest → behind ≡ drop (i + 1) lines

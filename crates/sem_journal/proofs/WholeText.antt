@@ -9,7 +9,7 @@ use Rattle.sem_text.specs.Lines.{behind_blanks, line, text}
 use Rattle.sem_trace.specs.TextLines.{is_word, words_of}
 use Rattle.sem_journal.specs.WholeLines.{whole_lines, content}
 use Rattle.sem_journal.specs.ReportRefusal.{words_in}
-use Rattle.sem_journal.proofs.PlainText.{is_plain, is_plain_word, are_plain, and-left, and-right, bare, words_printed}
+use Rattle.sem_reader.proofs.PlainText.{is_plain, is_plain_word, are_plain, and-left, and-right, bare, words_printed}
 
 pub both : (a b : Bool) → a ≡ true → b ≡ true → (a && b) ≡ true
 both a b first second = rw (first, second) refl

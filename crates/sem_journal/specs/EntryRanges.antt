@@ -2,8 +2,7 @@
 use Rattle.std.specs.Prelude.{◌≡◌, ℕ, ◌≤◌, ◌<◌, false, Option, IfSome}
 use Rattle.sem_key.specs.declared.object.Object.{Object}
 use Rattle.sem_key.specs.declared.object.Object.TheVariants.{Mem, Recv, Send, Serv, Sess}
-use Rattle.sem_key.specs.KeyName.{KeyName, IsValidKey}
-use Rattle.sem_key.specs.PlaceName.{IsValidPlace}
+use Rattle.sem_key.specs.KeyName.{KeyName}
 use Rattle.sem_msg.specs.Calls.{IsSelector, IsWord, IsValidCall}
 use Rattle.sem_msg.specs.declared.message.Target.{Target}
 use Rattle.sem_msg.specs.declared.message.Target.TheVariants.{Sel as SelTarget, Serv as ServTarget, Offer as OfferTarget}
@@ -15,12 +14,10 @@ use Rattle.sem_msg.specs.declared.entry.Detail.{Detail}
 use Rattle.sem_msg.specs.declared.entry.Detail.TheVariants.{Called, Carried, Asked, Nothing}
 use Rattle.sem_msg.specs.declared.entry.Reply.{Reply}
 use Rattle.sem_msg.specs.declared.entry.Entry.{Entry}
+use Rattle.sem_trace.specs.declared.limits.TheConstants.{NODES}
+use Rattle.sem_trace.specs.Ranges.{IsNode, IsKeyInText, IsPlaceInText}
 use Rattle.sem_journal.specs.EntryText.{entry_words}
 use Rattle.sem_journal.specs.EntryForms.{has_long_memory}
-
--- a VPE
-abbrev pub IsNode : ℕ → Type 0
-IsNode n = n ≤ 63
 
 abbrev pub IsCode : ℕ → Type 0
 IsCode code = code ≤ 15
@@ -28,32 +25,32 @@ IsCode code = code ≤ 15
 abbrev pub ObjectFits : Object → Type 0
 ObjectFits (Mem base len rights) = IsWord base × IsWord len × (rights ≤ 7)
 ObjectFits (Recv slots) = (1 ≤ slots) × (slots ≤ 64)
-ObjectFits (Send gate label credits) = IsValidKey gate × IsWord label × (1 ≤ credits) × (credits ≤ 64)
+ObjectFits (Send gate label credits) = IsKeyInText gate × IsWord label × (1 ≤ credits) × (credits ≤ 64)
 ObjectFits (Serv name) = name ≤ 255
-ObjectFits (Sess service ident) = IsValidKey service × IsNode ident
+ObjectFits (Sess service ident) = IsKeyInText service × IsNode ident
 
 abbrev pub TargetFits : Target → Type 0
 TargetFits (SelTarget vpe sel) = IsNode vpe × IsSelector sel
-TargetFits (ServTarget service) = IsValidKey service
-TargetFits (OfferTarget service index) = IsValidKey service × (index ≤ 255)
+TargetFits (ServTarget service) = IsKeyInText service
+TargetFits (OfferTarget service index) = IsKeyInText service × (index ≤ 255)
 
 -- the kinds of keys need not agree with the objects
 abbrev pub MessageFits : Message → Type 0
-MessageFits (ObtainReq place target) = IsValidPlace place × TargetFits target
-MessageFits (ObtainOk parent key object) = IsValidKey parent × IsValidKey key × ObjectFits object
-MessageFits (ObtainNo place code) = IsValidPlace place × IsCode code
-MessageFits (DelegateReq parent object vpe sel) = IsValidKey parent × ObjectFits object × IsNode vpe × IsSelector sel
-MessageFits (DelegatePrepared parent key) = IsValidKey parent × IsValidKey key
-MessageFits (DelegateNo parent code) = IsValidKey parent × IsCode code
-MessageFits (Ack key accepted) = IsValidKey key
-MessageFits (Orphan parent key) = IsValidKey parent × IsValidKey key
-MessageFits (RevokeReq key job) = IsValidKey key × IsWord job
+MessageFits (ObtainReq place target) = IsPlaceInText place × TargetFits target
+MessageFits (ObtainOk parent key object) = IsKeyInText parent × IsKeyInText key × ObjectFits object
+MessageFits (ObtainNo place code) = IsPlaceInText place × IsCode code
+MessageFits (DelegateReq parent object vpe sel) = IsKeyInText parent × ObjectFits object × IsNode vpe × IsSelector sel
+MessageFits (DelegatePrepared parent key) = IsKeyInText parent × IsKeyInText key
+MessageFits (DelegateNo parent code) = IsKeyInText parent × IsCode code
+MessageFits (Ack key accepted) = IsKeyInText key
+MessageFits (Orphan parent key) = IsKeyInText parent × IsKeyInText key
+MessageFits (RevokeReq key job) = IsKeyInText key × IsWord job
 MessageFits (RevokeDone job) = IsWord job
-MessageFits (Unlink parent key) = IsValidKey parent × IsValidKey key
+MessageFits (Unlink parent key) = IsKeyInText parent × IsKeyInText key
 
 -- the act and what it was about belong together, where there are so many kernels; the kernel of a fetch or a flush is told with its message
 abbrev pub EventFits : ℕ → Act → Detail → Type 0
-EventFits kernels (Calls v) (Called index call) = IsNode v × IsWord index × IsValidCall call
+EventFits kernels (Calls v) (Called index call) = IsNode v × IsWord index × IsValidCall NODES call
 EventFits kernels (Fetch from) (Carried peer message) = (from ≡ peer) × (peer < kernels) × MessageFits message
 EventFits kernels Handle (Carried peer message) = (peer < kernels) × MessageFits message
 EventFits kernels (Upcall v) (Asked asker answer) = IsNode v × IsNode asker
@@ -67,10 +64,10 @@ abbrev pub ReplyFits : Option Reply → Type 0
 ReplyFits reply = IfSome reply (λ r. IsNode r.vpe × IsCode r.code)
 
 abbrev pub CutFits : Option KeyName → Type 0
-CutFits cut = IfSome cut IsValidKey
+CutFits cut = IfSome cut IsKeyInText
 
 abbrev pub GrantFits : Option (KeyName × KeyName) → Type 0
-GrantFits grant = IfSome grant (λ g. IsValidKey g.0 × IsValidKey g.1)
+GrantFits grant = IfSome grant (λ g. IsKeyInText g.0 × IsKeyInText g.1)
 
 -- an entry that a report with so many kernels can tell
 pub record EntryFits (kernels : ℕ) (e : Entry) : Type 0 where

@@ -1,9 +1,8 @@
 pub mod EntryText
 pub mod ReportText
-pub mod AuditList
 pub mod EntryForms
 pub mod EntryRanges
-pub mod Outcomes
+pub mod ShownWords
 pub mod WholeLines
 pub mod ReportRefusal
 pub mod ReadsReport

@@ -1,8 +1,8 @@
 // The words of a line, read from the left.
 ghost use Rattle.std.specs.Prelude.{◌≡◌, ℕ, ◌<◌, ◌≤◌, List, [], ◌∷◌, ◌++◌, length, map, take, decimal, slice_index, IfOk, IfErr, OnOk, Some, MatchOption};
-ghost use Rattle.sem_key.specs.KeyName.{IsValidKey};
-ghost use Rattle.sem_key.specs.PlaceName.{IsValidPlace};
 ghost use Rattle.sem_msg.specs.Calls.{IsValidCall};
+ghost use Rattle.sem_trace.specs.Ranges.{IsKeyInText, IsPlaceInText};
+ghost use Rattle.sem_trace.specs.declared.limits.TheConstants.{NODES};
 ghost use Rattle.sem_trace.specs.TextLines.{words_of};
 ghost use Rattle.sem_trace.specs.Words.{key_word, place_word, call_words};
 ghost use Rattle.sem_trace.specs.Forms.{Place as FormPlace, form_fault, choice, word_at, calls, key as key_lem, key_place};
@@ -72,7 +72,7 @@ impl<'a> Words<'a> {
         ensures ok { OnOk result (Fills (key_lem ∷ []) (words_of self.old.rest.now) (words_of self.new.rest.now)) }
         ensures err { IfErr result (Fails (key_lem ∷ []) (words_of self.old.rest.now)) }
         ensures printed { IfOk result (λ k. words_of self.old.rest.now ≡ key_word k ∷ words_of self.new.rest.now) }
-        ensures valid { IfOk result IsValidKey }
+        ensures valid { IfOk result IsKeyInText }
     {
         match first_key(self.rest) {
             Ok((key, rest)) => {
@@ -88,8 +88,8 @@ impl<'a> Words<'a> {
         ensures ok { OnOk result (Fills (key_lem ∷ key_lem ∷ []) (words_of self.old.rest.now) (words_of self.new.rest.now)) }
         ensures err { IfErr result (Fails (key_lem ∷ key_lem ∷ []) (words_of self.old.rest.now)) }
         ensures printed { IfOk result (λ p. words_of self.old.rest.now ≡ key_word p.0 ∷ key_word p.1 ∷ words_of self.new.rest.now) }
-        ensures first { IfOk result (λ p. IsValidKey p.0) }
-        ensures second { IfOk result (λ p. IsValidKey p.1) }
+        ensures first { IfOk result (λ p. IsKeyInText p.0) }
+        ensures second { IfOk result (λ p. IsKeyInText p.1) }
     {
         let first = self.key()?;
         let second = self.key()?;
@@ -101,7 +101,7 @@ impl<'a> Words<'a> {
         ensures ok { OnOk result (Fills (key_place ∷ []) (words_of self.old.rest.now) (words_of self.new.rest.now)) }
         ensures err { IfErr result (Fails (key_place ∷ []) (words_of self.old.rest.now)) }
         ensures printed { IfOk result (λ p. words_of self.old.rest.now ≡ place_word p ∷ words_of self.new.rest.now) }
-        ensures valid { IfOk result IsValidPlace }
+        ensures valid { IfOk result IsPlaceInText }
     {
         match first_place(self.rest) {
             Ok((place, rest)) => {
@@ -117,7 +117,7 @@ impl<'a> Words<'a> {
         ensures ok { OnOk result (Fills (choice calls (word_at (words_of self.old.rest.now) 0)) (words_of self.old.rest.now) (words_of self.new.rest.now)) }
         ensures err { IfErr result (Fails (choice calls (word_at (words_of self.old.rest.now) 0)) (words_of self.old.rest.now)) }
         ensures printed { IfOk result (λ call. words_of self.old.rest.now ≡ call_words call ++ words_of self.new.rest.now) }
-        ensures valid { IfOk result IsValidCall }
+        ensures valid { IfOk result (IsValidCall NODES) }
     {
         let (call, rest) = first_call(self.rest)?;
         self.rest = rest;

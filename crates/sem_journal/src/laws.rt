@@ -4,6 +4,7 @@ ghost use Rattle.sem_key.specs.KeyName.{KeyName};
 ghost use Rattle.sem_msg.specs.declared.entry.Entry.{Entry};
 ghost use Rattle.sem_msg.specs.Setup.{Setup as SetupRecord};
 ghost use Rattle.sem_text.specs.Lines.{line};
+ghost use Rattle.sem_trace.specs.declared.limits.TheConstants.{MOST_KERNELS};
 ghost use Rattle.sem_journal.specs.EntryText.{entry_words};
 ghost use Rattle.sem_journal.specs.EntryForms.{entry_fault};
 ghost use Rattle.sem_journal.specs.EntryRanges.{EntryFits};
@@ -13,17 +14,17 @@ ghost use Rattle.sem_journal.specs.ReportRanges.{ReportFits};
 
 /// The line of an entry has at most 160 bytes and the line end.
 pub fn entry_lines_are_short()
-    ensures { (kernels : ℕ) (e : Entry) → kernels ≤ 16 → EntryFits kernels e → length (line (entry_words e)) ≤ 161 }
+    ensures { (kernels : ℕ) (e : Entry) → kernels ≤ MOST_KERNELS → EntryFits kernels e → length (line (entry_words e)) ≤ 161 }
 {}
 
 /// The words that are printed of an entry have no fault.
 pub fn entries_are_read()
-    ensures { (kernels : ℕ) (e : Entry) → 1 ≤ kernels → kernels ≤ 16 → EntryFits kernels e → entry_fault kernels (entry_words e) ≡ None }
+    ensures { (kernels : ℕ) (e : Entry) → 1 ≤ kernels → kernels ≤ MOST_KERNELS → EntryFits kernels e → entry_fault kernels (entry_words e) ≡ None }
 {}
 
 /// The words that are printed tell one entry.
 pub fn one_entry()
-    ensures { (kernels : ℕ) (e f : Entry) → EntryFits kernels e → EntryFits kernels f → kernels ≤ 16 → entry_words e ≡ entry_words f → e ≡ f }
+    ensures { (kernels : ℕ) (e f : Entry) → EntryFits kernels e → EntryFits kernels f → kernels ≤ MOST_KERNELS → entry_words e ≡ entry_words f → e ≡ f }
 {}
 
 /// The text that is printed of a report is not refused, where it has at most 134217728 bytes.

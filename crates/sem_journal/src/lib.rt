@@ -1,14 +1,12 @@
 //! The texts of entries and reports.
 #![tactic(auto)]
 
-mod audit;
 mod cursor;
 mod entry;
 mod laws;
 mod lines;
 #[cfg(test)]
 mod long_tests;
-mod outcome;
 mod read_entries;
 mod read_message;
 #[cfg(test)]
@@ -18,10 +16,10 @@ mod report_lines;
 mod report_reader;
 #[cfg(test)]
 mod report_tests;
+mod shown;
 #[cfg(test)]
 mod tests;
 
-pub use audit::{Audit, Held, HeldList};
 pub use entry::{
     print_entry, push_act, push_consent, push_cut, push_detail, push_entry, push_grant,
     push_message, push_reply, push_target,

@@ -7,18 +7,18 @@ ghost use Rattle.sem_trace.specs.Forms.Place.{Word};
 ghost use Rattle.sem_trace.specs.Places.{Fills, Fails};
 ghost use Rattle.sem_journal.specs.EntryText.{message_words, act_words, consent_word, detail_words, cut_words, reply_words, entry_words};
 ghost use Rattle.sem_journal.specs.EntryForms.{kernel as kernel_lem, code as code_lem, message_form, event_form, behind_cut, behind_grant, behind_event, entry_fault};
-ghost use Rattle.sem_journal.specs.Outcomes.{outcome_words, OutcomeFits, is_long as is_long_lem, carries_long as carries_long_lem};
+ghost use Rattle.sem_journal.specs.ShownWords.{shown_words, ShownFits, is_long as is_long_lem, carries_long as carries_long_lem};
 ghost use Rattle.sem_journal.specs.EntryRanges.{MessageFits, EventFits, ReplyFits, CutFits, EntryFits};
 
 use crate::cursor::Words;
-use crate::outcome::Outcome;
 use crate::read_message::CODE;
+use crate::shown::Shown;
 use sem_key::{Key, Object};
 use sem_msg::{Act, Consent, Detail, Entry, Event, Message, Reply};
 use sem_trace::{Cause, NODE, Range, WORD, is, no_more};
 
 // Nothing came of it.
-const NOTHING: Outcome = Outcome {
+const NOTHING: Shown = Shown {
     grant: None,
     cut: None,
     reply: None,
@@ -258,14 +258,14 @@ impl Words<'_> {
     }
 
     // What stands behind the name of a grant.
-    fn grant(&mut self) -> Result<Outcome, Cause>
+    fn grant(&mut self) -> Result<Shown, Cause>
         ensures fault { form_fault (key_lem ∷ key_lem ∷ behind_grant (drop 2 (words_of self.old.rest.now))) (words_of self.old.rest.now) ≡ result_err result }
-        ensures printed { IfOk result (λ o. codes "grant" ∷ words_of self.old.rest.now ≡ outcome_words o) }
-        ensures fits { IfOk result OutcomeFits }
+        ensures printed { IfOk result (λ o. codes "grant" ∷ words_of self.old.rest.now ≡ shown_words o) }
+        ensures fits { IfOk result ShownFits }
     {
         let (parent, child) = self.two_keys()?;
         let (cut, reply) = self.behind_grant()?;
-        Ok(Outcome {
+        Ok(Shown {
             grant: Some((parent, child)),
             cut,
             reply,
@@ -273,10 +273,10 @@ impl Words<'_> {
     }
 
     // What stands behind an event.
-    fn outcome(&mut self) -> Result<Outcome, Cause>
+    fn shown(&mut self) -> Result<Shown, Cause>
         ensures fault { form_fault (behind_event (words_of self.old.rest.now)) (words_of self.old.rest.now) ≡ result_err result }
-        ensures printed { IfOk result (λ o. words_of self.old.rest.now ≡ outcome_words o) }
-        ensures fits { IfOk result OutcomeFits }
+        ensures printed { IfOk result (λ o. words_of self.old.rest.now ≡ shown_words o) }
+        ensures fits { IfOk result ShownFits }
     {
         let Some(name) = self.next_word() else {
             return Ok(NOTHING);
@@ -285,14 +285,14 @@ impl Words<'_> {
             self.grant()
         } else if is(name, b"cut") {
             let (key, reply) = self.cut()?;
-            Ok(Outcome {
+            Ok(Shown {
                 cut: Some(key),
                 reply,
                 ..NOTHING
             })
         } else if is(name, b"reply") {
             let reply = self.reply()?;
-            Ok(Outcome {
+            Ok(Shown {
                 reply: Some(reply),
                 ..NOTHING
             })
@@ -335,7 +335,7 @@ pub fn read_entry(line: &[u8], kernels: u32) -> Result<Entry, Cause>
     let mut words = Words { rest: line };
     let kernel = words.number(kernel_range(kernels))?;
     let (act, detail) = words.event(kernels)?;
-    let outcome = words.outcome()?;
+    let shown = words.shown()?;
     if carries_long(&detail) {
         return Err(Cause::OutOfRange);
     }
@@ -345,8 +345,8 @@ pub fn read_entry(line: &[u8], kernels: u32) -> Result<Entry, Cause>
             act,
         },
         detail,
-        grant: outcome.grant,
-        cut: outcome.cut,
-        reply: outcome.reply,
+        grant: shown.grant,
+        cut: shown.cut,
+        reply: shown.reply,
     })
 }

@@ -62,6 +62,8 @@ fn each_event_message_object_and_target_is_read_as_it_is_printed(
         "0 kill 63",
         "0 call 63 4294967295 exit reply 63 15",
         "0 resume 0 grant 0.0.1.0 1.1.1.0 cut 0.0.1.0 reply 0 0",
+        "0 call 0 1 clear 0 cut 0.0.1.0",
+        "1 call 1 0 clear 255 reply 1 3",
     ] {
         let out = read_and_printed(rt.alloc(), line.as_bytes(), 16)?;
         let Ok(out) = out else {
@@ -115,6 +117,15 @@ fn a_line_that_tells_no_entry_is_refused_at_its_leftmost_bad_word(rt: HostRuntim
         ("0 call 0 4294967296 exit", Cause::OutOfRange),
         ("0 call 0 0 rev", Cause::UnknownWord),
         ("0 call 0 0 exit 0", Cause::UnknownWord),
+        ("0 call 0 0 clear", Cause::Missing),
+        ("0 call 0 0 cleared 0", Cause::UnknownWord),
+        ("0 call 0 0 clear 0x0", Cause::BadNumber),
+        ("0 call 0 0 clear 256", Cause::OutOfRange),
+        ("0 call 64 0 clear 0", Cause::OutOfRange),
+        ("0 call 0 0 clear 0 0", Cause::UnknownWord),
+        ("0 call 0 0 clear 0 cut", Cause::Missing),
+        ("0 call 0 0 clear 0 cut 0.0.1", Cause::BadNumber),
+        ("0 call 0 0 clear 0 reply 0 3 0", Cause::TooMany),
         ("0 flush 2 revoke-done 0", Cause::OutOfRange),
         ("0 flush 1 revoke-done", Cause::Missing),
         ("0 flush 1 revoke", Cause::UnknownWord),

@@ -4,14 +4,13 @@ ghost use Rattle.std.specs.Prelude.{◌≡◌, [], ◌∷◌, ◌++◌, length, 
 ghost use Rattle.std.specs.Option.{option_to_list};
 ghost use Rattle.sem_key.specs.KeyName.{KeyName};
 ghost use Rattle.sem_text.specs.Lines.{line, text};
-ghost use Rattle.sem_journal.specs.AuditList.{held_pairs};
+ghost use Rattle.sem_msg.specs.Audits.{held_pairs};
 ghost use Rattle.sem_journal.specs.EntryText.{entry_words};
 ghost use Rattle.sem_journal.specs.ReportText.{held_line, audit_lines, report_text};
 
-use crate::audit::{Audit, Held, HeldList};
 use crate::entry::push_entry;
 use sem_key::OutOfMemory;
-use sem_msg::{Journal, Setup};
+use sem_msg::{Audit, Held, HeldList, Journal, Setup};
 use sem_trace::{push_key_word, push_line, push_number_word, push_trace};
 use std::alloc::Global;
 

@@ -15,15 +15,15 @@ ghost use Rattle.sem_journal.specs.ReportText.{held_line as held_words_lem};
 ghost use Rattle.sem_journal.specs.WholeLines.{content as content_lem};
 ghost use Rattle.sem_journal.specs.ReportRefusal.{words_in, report_line_fault, report_form, name_form, count_form, held_form};
 ghost use Rattle.sem_journal.specs.ReadsReport.{Because};
+ghost use Rattle.sem_journal.specs.ReportRanges.{HeldFits};
 
-use crate::audit::Held;
 use crate::cursor::Words;
 use crate::entry::push_entry;
 use crate::lines::{Line, same};
 use crate::read_entries::read_entry;
 use crate::report::push_held;
 use sem_key::OutOfMemory;
-use sem_msg::Entry;
+use sem_msg::{Entry, Held};
 use sem_trace::{BYTE, Cause, WORD, bytes_fault, fixed, no_more, push_line};
 
 /// Why a line is not read.
@@ -102,6 +102,7 @@ fn count_words(words: &[u8], name: &[u8]) -> Result<u64, Cause>
 fn held_words(words: &[u8]) -> Result<Held, Cause>
     ensures fault { form_fault (held_form (words_of words.now)) (words_of words.now) ≡ result_err result }
     ensures printed { IfOk result (λ held. words_of words.now ≡ held_words_lem (held.key, held.sel)) }
+    ensures fits { IfOk result (λ held. HeldFits (held.key, held.sel)) }
 {
     let mut words = Words {
         rest: fixed(words, b"key")?,
@@ -153,6 +154,7 @@ pub fn held_line(line: &Line, printed: &mut Vec<u8>) -> Result<Held, LineError>
     ensures ok { OnOk result (report_line_fault held_form line.now.whole.now ≡ None) }
     ensures err { IfErr result (Because (report_line_fault held_form line.now.whole.now)) }
     ensures read { IfOk result (λ held. line.now.whole.now ≡ line_lem (held_words_lem (held.key, held.sel))) }
+    ensures fits { IfOk result (λ held. HeldFits (held.key, held.sel)) }
 {
     is_text(line)?;
     let held = held_words(line.content)?;

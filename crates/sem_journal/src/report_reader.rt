@@ -3,8 +3,8 @@ ghost use Rattle.std.specs.Prelude.{◌≡◌, ◌+◌, ◌≤◌, [], ◌∷◌
 ghost use Rattle.sem_text.specs.Lines.{line as line_lem, text};
 ghost use Rattle.sem_trace.specs.declared.fault.TraceError.TheVariants.{Refused as RefusedText};
 ghost use Rattle.sem_trace.specs.Standing.{IsWhy};
-ghost use Rattle.sem_trace.specs.TraceText.{canonical};
-ghost use Rattle.sem_journal.specs.AuditList.{held_pairs};
+ghost use Rattle.sem_trace.specs.TraceText.{canonical, TraceFits};
+ghost use Rattle.sem_msg.specs.Audits.{held_pairs};
 ghost use Rattle.sem_journal.specs.EntryForms.{entry_form};
 ghost use Rattle.sem_journal.specs.EntryRanges.{EntryFits};
 ghost use Rattle.sem_journal.specs.EntryText.{entry_words};
@@ -12,11 +12,11 @@ ghost use Rattle.sem_journal.specs.ReportText.{held_line as held_words_lem, jour
 ghost use Rattle.sem_journal.specs.WholeLines.{whole_lines, content as content_lem};
 ghost use Rattle.sem_journal.specs.ReportRefusal.{report_form, name_form, count_form, held_form, audit_forms, count_at, fault_of, forms_fault, forms_behind, trace_section, trace_refusal, setup_in, report_refusal};
 ghost use Rattle.sem_journal.specs.ReadsReport.{Follows, Stops, NextLine, OneEntry, IsMissing, IsRefused, IsBelow, later, at_line as at_line_lem};
+ghost use Rattle.sem_journal.specs.ReportRanges.{HeldFits, ReportFits};
 
-use crate::audit::{Audit, Held, HeldList};
 use crate::lines::{Line, first_difference, next_whole_line, split_section};
 use crate::report_lines::{LineError, count_line, entry_line, header_line, held_line, name_line};
-use sem_msg::{Entry, Journal, Setup};
+use sem_msg::{Audit, Entry, Held, HeldList, Journal, Setup};
 use sem_reader::read_section;
 use sem_trace::{Cause, TraceError, TraceFault, bytes_fault, push_trace};
 use std::alloc::Global;
@@ -136,6 +136,7 @@ impl<'a> Lines<'a> {
         ensures ok { OnOk result (Follows (held_form ∷ []) (self.old.number + 1) (whole_lines self.old.rest.now) (self.new.number + 1) (whole_lines self.new.rest.now)) }
         ensures err { IfErr result (Stops (held_form ∷ []) (self.old.number + 1) (whole_lines self.old.rest.now)) }
         ensures read { IfOk result (λ held. self.old.rest.now ≡ line_lem (held_words_lem (held.key, held.sel)) ++ self.new.rest.now) }
+        ensures fits { IfOk result (λ held. HeldFits (held.key, held.sel)) }
         ensures room { self.new.number + length self.new.rest.now ≤ 1000000000 }
     {
         let line = self.next()?;
@@ -211,6 +212,7 @@ impl<'a> Lines<'a> {
         ensures err { IfErr result (Stops (replicate number held_form) (self.old.number + 1) (whole_lines self.old.rest.now)) }
         ensures read { IfOk result (λ held. self.old.rest.now ≡ text (map held_words_lem (held_pairs held)) ++ self.new.rest.now) }
         ensures count { IfOk result (λ held. length held ≡ number) }
+        ensures fits { IfOk result (λ held. All HeldFits (held_pairs held)) }
         ensures room { self.new.number + length self.new.rest.now ≤ 1000000000 }
     {
         let mut keys = HeldList::new(alloc);
@@ -233,6 +235,7 @@ impl<'a> Lines<'a> {
         ensures made { IfOk result (λ a. a.made ≤ 4294967295) }
         ensures cut { IfOk result (λ a. a.cut ≤ 4294967295) }
         ensures held { IfOk result (λ a. length a.held ≤ 4294967295) }
+        ensures keys { IfOk result (λ a. All HeldFits (held_pairs a.held)) }
         ensures room { self.new.number + length self.new.rest.now ≤ 1000000000 }
     {
         self.name(b"audit")?;
@@ -267,6 +270,7 @@ impl<'a> Lines<'a> {
         ensures ok { OnOk result (trace_refusal (trace_section (whole_lines self.old.rest.now)) ≡ None) }
         ensures err { IfErr result (IsWhy (trace_refusal (trace_section (whole_lines self.old.rest.now)))) }
         ensures declared { IfOk result (λ T. T ≡ setup_in (trace_section (whole_lines self.old.rest.now))) }
+        ensures fits { IfOk result TraceFits }
         ensures read { IfOk result (λ T. self.old.rest.now ≡ canonical T ++ self.new.rest.now) }
         ensures behind { OnOk result (whole_lines self.new.rest.now ≡ drop (length (trace_section (whole_lines self.old.rest.now))) (whole_lines self.old.rest.now)) }
         ensures number { OnOk result (self.new.number ≡ 1 + length (trace_section (whole_lines self.old.rest.now))) }
@@ -302,6 +306,7 @@ impl<'a> Lines<'a> {
         ensures made { IfOk result (λ p. p.1.made ≤ 4294967295) }
         ensures cut { IfOk result (λ p. p.1.cut ≤ 4294967295) }
         ensures held { IfOk result (λ p. length p.1.held ≤ 4294967295) }
+        ensures keys { IfOk result (λ p. All HeldFits (held_pairs p.1.held)) }
         ensures room { self.new.number + length self.new.rest.now ≤ 1000000000 }
     {
         let number = self.count(b"journal")?;
@@ -321,11 +326,7 @@ pub fn read_report(alloc: Global, bytes: &[u8]) -> Result<(Setup, Journal, Audit
     // Where it is refused, it is refused so.
     ensures refused { IfErr result (IsWhy (report_refusal bytes.now)) }
     // What is told is in its ranges.
-    ensures entries { IfOk result (λ r. All (EntryFits r.0.kernels) r.1.entries) }
-    ensures entry_count { IfOk result (λ r. length r.1.entries ≤ 4294967295) }
-    ensures made { IfOk result (λ r. r.2.made ≤ 4294967295) }
-    ensures cut { IfOk result (λ r. r.2.cut ≤ 4294967295) }
-    ensures held_count { IfOk result (λ r. length r.2.held ≤ 4294967295) }
+    ensures fits { IfOk result (λ r. ReportFits r.0 r.1.entries r.2.made r.2.cut (held_pairs r.2.held)) }
 {
     if bytes.len() > REPORT_BYTES {
         return Err(refused(0, Cause::InputTooLong));

@@ -1,8 +1,8 @@
-use crate::{Audit, Held, HeldList, print_entry, print_report};
+use crate::{print_entry, print_report};
 use sem_key::{Key, Kind, Membership, Object, OutOfMemory, Place};
 use sem_msg::{
-    Act, Call, Consent, Denies, Detail, Entry, Event, Journal, Kills, Message, Offers, Reply,
-    Services, Setup, Target, Vpes0,
+    Act, Audit, Call, Consent, Denies, Detail, Entry, Event, Held, HeldList, Journal, Kills,
+    Message, Offers, Reply, Services, Setup, Target, Vpes0,
 };
 use std::alloc::Global;
 use std::test::Fail;
@@ -180,6 +180,8 @@ fn an_act_with_nothing_more_is_told_alone(rt: HostRuntime) -> Result<(), Fail> {
 // One kernel, and no VPE.
 fn no_vpes(alloc: Global) -> Setup {
     Setup {
+        version: 1,
+        window: 4,
         kernels: 1,
         owners: Membership::empty(1),
         vpes: Vpes0::new(alloc),

@@ -2,6 +2,7 @@
 use Rattle.std.proofs.Common.{◌≡◌, ℕ, zero, suc, ◌+◌, ◌*◌, ◌≤◌, false, List, [], length, get_or, None, replicate, refl, ap, ◌∙◌, arith}
 use Rattle.std.proofs.lemmas.List.{length-replicate}
 use Rattle.sem_key.specs.MembershipTable.{MembershipTable}
+use Rattle.sem_trace.specs.declared.limits.TheConstants.{MOST_KERNELS}
 use Rattle.sem_trace.specs.Earlier.{owner_in, pe_in, is_taken, roots_in, calls_in, has_service, offer_in, is_denied, kill_in, call_number}
 use Rattle.sem_reader.specs.declared.tables.Tables.{Tables}
 use Rattle.sem_reader.specs.Tells.{Tells}
@@ -20,7 +21,7 @@ entry table n x i is = rw is (same_all n x i)
 pub size : {X : Type 0} (table : List X) (n : ℕ) (x : X) → table ≡ replicate n x → length table ≡ n
 size table n x is = ap length is ∙ length-replicate n x
 
-pub tells_nothing : (kernels : ℕ) (t : Tables) (a b c d e f g h i : ℕ) → 1 ≤ kernels → kernels ≤ 16 → t.owners ≡ record { kernels = kernels; owners = replicate a None } → t.pes ≡ replicate b None → t.taken ≡ replicate c false → t.roots.items ≡ replicate d [] → t.calls.items ≡ replicate e [] → t.call_number ≡ 0 → t.named ≡ replicate f false → t.offers.items ≡ replicate g None → t.denied.items ≡ replicate h false → t.kills ≡ replicate i None → Tells kernels [] t
+pub tells_nothing : (kernels : ℕ) (t : Tables) (a b c d e f g h i : ℕ) → 1 ≤ kernels → kernels ≤ MOST_KERNELS → t.owners ≡ record { kernels = kernels; owners = replicate a None } → t.pes ≡ replicate b None → t.taken ≡ replicate c false → t.roots.items ≡ replicate d [] → t.calls.items ≡ replicate e [] → t.call_number ≡ 0 → t.named ≡ replicate f false → t.offers.items ≡ replicate g None → t.denied.items ≡ replicate h false → t.kills ≡ replicate i None → Tells kernels [] t
 unfolding owner_in pe_in is_taken roots_in calls_in has_service offer_in is_denied kill_in call_number
 tells_nothing kernels t a b c d e f g h i some few owners pes taken roots calls count named offers denied kills = record {
   some = some;

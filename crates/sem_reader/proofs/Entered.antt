@@ -2,10 +2,12 @@
 use Rattle.std.proofs.Common.{◌≡◌, ℕ, ◌+◌, ◌*◌, ◌<◌, ◌≤◌, ◌↔◌, Bool, true, false, true≢false, ◌||◌, List, [], ◌∷◌, ◌++◌, length, get_or, set, Some, None, Result, Ok, Err, refl, ap, sym, ◌∙◌, add-zero, arith, leb-false, length-set, eq-eqb, ne_eqb}
 use Rattle.std.specs.Option.{is_some, IsSome}
 use Rattle.std.specs.Result.{IsErr, OnOk}
+use Rattle.sem_key.specs.declared.limits.TheConstants.{PES}
 use Rattle.sem_key.specs.MembershipTable.{MembershipTable, owner_at, with_owner}
 use Rattle.sem_key.specs.declared.object.Object.TheVariants.{Mem, Recv, Serv}
 use Rattle.sem_msg.specs.declared.call.Call.{Call}
 use Rattle.sem_msg.specs.declared.setup.Root.{Root}
+use Rattle.sem_trace.specs.declared.limits.TheConstants.{NODES}
 use Rattle.sem_trace.specs.declared.declaration.Declaration.{Declaration}
 use Rattle.sem_trace.specs.declared.declaration.Declaration.TheVariants.{Kernels, Pe, Vpe, Memory, Receive, Service, Offer, Deny, Kill, Call as Calls, End}
 use Rattle.sem_trace.specs.Earlier.{owner_in, pe_in, is_taken, roots_in, calls_in, has_service, offer_in, is_denied, kill_in, call_number}
@@ -49,9 +51,9 @@ enter_end kernels ds t told fault =
       kill = λ u. told.kill u ∙ sym (kill_in-same ds End u refl);
     }
 
-pub enter_pe : (kernels : ℕ) (ds : List Declaration) (t : Tables) (p k : ℕ) (owners : MembershipTable) → Tells kernels ds t → IsInRange kernels (Pe p k) → context_fault ds (Pe p k) ≡ None → length owners.owners ≡ 64 → owners ≡ with_owner t.owners p k → Tells kernels (ds ++ (Pe p k) ∷ []) (record t { owners = owners })
+pub enter_pe : (kernels : ℕ) (ds : List Declaration) (t : Tables) (p k : ℕ) (owners : MembershipTable) → Tells kernels ds t → IsInRange kernels (Pe p k) → context_fault ds (Pe p k) ≡ None → length owners.owners ≡ PES → owners ≡ with_owner t.owners p k → Tells kernels (ds ++ (Pe p k) ∷ []) (record t { owners = owners })
 enter_pe kernels ds t p k owners told ranges fault size is =
-    let node : p ≤ 63 = ranges.0 in
+    let node : p < NODES = ranges.0 in
     let same : length owners.owners ≡ length t.owners.owners = ap (λ (m : MembershipTable). length m.owners) is ∙ length-set t.owners.owners p (Some k) in
     let within : p < length t.owners.owners = omega arith in
     let none : owner_in ds p ≡ None = is_none _ (no_fault ds (Pe p k) fault).2 in
@@ -75,8 +77,8 @@ enter_pe kernels ds t p k owners told ranges fault size is =
 
 pub enter_vpe : (kernels : ℕ) (ds : List Declaration) (t : Tables) (v p : ℕ) → Tells kernels ds t → IsInRange kernels (Vpe v p) → context_fault ds (Vpe v p) ≡ None → length t.pes ≡ 64 → length t.taken ≡ 64 → Tells kernels (ds ++ (Vpe v p) ∷ []) (record t { pes = set t.pes v (Some p); taken = set t.taken p true })
 enter_vpe kernels ds t v p told ranges fault size in_size =
-    let node : v ≤ 63 = ranges.0 in
-    let on : p ≤ 63 = ranges.1 in
+    let node : v < NODES = ranges.0 in
+    let on : p < NODES = ranges.1 in
     let within : v < length t.pes = omega arith in
     let in_taken : p < length t.taken = omega arith in
     let twice : (is_some (pe_in ds v) || is_taken ds p) ≡ false = (no_fault ds (Vpe v p) fault).2 in
@@ -101,7 +103,7 @@ enter_vpe kernels ds t v p told ranges fault size in_size =
 
 pub enter_memory : (kernels : ℕ) (ds : List Declaration) (t : Tables) (v s base len rights : ℕ) (after : Tables) → Tells kernels ds t → IsInRange kernels (Memory v s base len rights) → context_fault ds (Memory v s base len rights) ≡ None → length t.roots.items ≡ 64 → after.roots.items ≡ set t.roots.items v (get_or t.roots.items v [] ++ (record { sel = s; object = Mem base len rights }) ∷ []) → Tells kernels (ds ++ (Memory v s base len rights) ∷ []) (record t { roots = after.roots })
 enter_memory kernels ds t v s base len rights after told ranges fault size is =
-    let node : v ≤ 63 = ranges.0 in
+    let node : v < NODES = ranges.0 in
     let within : v < length t.roots.items = omega arith in
     record {
       some = told.some;
@@ -123,7 +125,7 @@ enter_memory kernels ds t v s base len rights after told ranges fault size is =
 
 pub enter_receive : (kernels : ℕ) (ds : List Declaration) (t : Tables) (v s slots : ℕ) (after : Tables) → Tells kernels ds t → IsInRange kernels (Receive v s slots) → context_fault ds (Receive v s slots) ≡ None → length t.roots.items ≡ 64 → after.roots.items ≡ set t.roots.items v (get_or t.roots.items v [] ++ (record { sel = s; object = Recv slots }) ∷ []) → Tells kernels (ds ++ (Receive v s slots) ∷ []) (record t { roots = after.roots })
 enter_receive kernels ds t v s slots after told ranges fault size is =
-    let node : v ≤ 63 = ranges.0 in
+    let node : v < NODES = ranges.0 in
     let within : v < length t.roots.items = omega arith in
     record {
       some = told.some;
@@ -145,7 +147,7 @@ enter_receive kernels ds t v s slots after told ranges fault size is =
 
 pub enter_service : (kernels : ℕ) (ds : List Declaration) (t : Tables) (v s name : ℕ) (after : Tables) → Tells kernels ds t → IsInRange kernels (Service v s name) → context_fault ds (Service v s name) ≡ None → length t.roots.items ≡ 64 → length t.named ≡ 256 → after.roots.items ≡ set t.roots.items v (get_or t.roots.items v [] ++ (record { sel = s; object = Serv name }) ∷ []) → Tells kernels (ds ++ (Service v s name) ∷ []) (record t { roots = after.roots; named = set t.named name true })
 enter_service kernels ds t v s name after told ranges fault size named_size is =
-    let node : v ≤ 63 = ranges.0 in
+    let node : v < NODES = ranges.0 in
     let within : v < length t.roots.items = omega arith in
     let small : name ≤ 255 = ranges.2 in
     let in_named : name < length t.named = omega arith in
@@ -193,8 +195,8 @@ enter_offer kernels ds t name index s after told ranges fault size is =
 
 pub enter_deny : (kernels : ℕ) (ds : List Declaration) (t : Tables) (v asker : ℕ) (after : Tables) → Tells kernels ds t → IsInRange kernels (Deny v asker) → context_fault ds (Deny v asker) ≡ None → length t.denied.items ≡ 4096 → after.denied.items ≡ set t.denied.items (v * 64 + asker) true → Tells kernels (ds ++ (Deny v asker) ∷ []) (record t { denied = after.denied })
 enter_deny kernels ds t v asker after told ranges fault size is =
-    let few : v ≤ 63 = ranges.0 in
-    let small : asker ≤ 63 = ranges.1 in
+    let few : v < NODES = ranges.0 in
+    let small : asker < NODES = ranges.1 in
     let within : v * 64 + asker < length t.denied.items = omega arith in
     record {
       some = told.some;
@@ -216,7 +218,7 @@ enter_deny kernels ds t v asker after told ranges fault size is =
 
 pub enter_kill : (kernels : ℕ) (ds : List Declaration) (t : Tables) (v replies : ℕ) → Tells kernels ds t → IsInRange kernels (Kill v replies) → context_fault ds (Kill v replies) ≡ None → length t.kills ≡ 64 → Tells kernels (ds ++ (Kill v replies) ∷ []) (record t { kills = set t.kills v (Some replies) })
 enter_kill kernels ds t v replies told ranges fault size =
-    let node : v ≤ 63 = ranges.0 in
+    let node : v < NODES = ranges.0 in
     let within : v < length t.kills = omega arith in
     let none : kill_in ds v ≡ None = is_none _ (no_fault ds (Kill v replies) fault).2 in
     record {
@@ -239,7 +241,7 @@ enter_kill kernels ds t v replies told ranges fault size =
 
 pub enter_call : (kernels : ℕ) (ds : List Declaration) (t : Tables) (v : ℕ) (call : Call) (after : Tables) → Tells kernels ds t → IsInRange kernels (Calls v call) → context_fault ds (Calls v call) ≡ None → length t.calls.items ≡ 64 → after.calls.items ≡ set t.calls.items v (get_or t.calls.items v [] ++ call ∷ []) → Tells kernels (ds ++ (Calls v call) ∷ []) (record t { calls = after.calls; call_number = t.call_number + 1 })
 enter_call kernels ds t v call after told ranges fault size is =
-    let node : v ≤ 63 = ranges.0 in
+    let node : v < NODES = ranges.0 in
     let within : v < length t.calls.items = omega arith in
     let few : call_number ds < 20000 = leb-false _ _ (no_fault ds (Calls v call) fault).3 in
     record {

@@ -11,12 +11,13 @@ use Rattle.sem_key.specs.KeyName.{KeyName}
 use Rattle.sem_msg.specs.declared.setup.Root.{Root}
 use Rattle.sem_msg.specs.declared.setup.Service.{Service as ServiceData}
 use Rattle.sem_msg.specs.declared.setup.VpeDecl.{VpeDecl}
-use Rattle.sem_msg.specs.Setup.{Setup, IsSetup, IsRoot, IsVpeDecl, ComesBefore, offer_place, root_key, services_from, service_with, declared_services}
+use Rattle.sem_msg.specs.Setup.{Setup, IsRoot, IsVpeDecl, ComesBefore, offer_place, root_key, services_from, service_with, declared_services}
+use Rattle.sem_trace.specs.TraceText.{TraceFits}
 use Rattle.sem_trace.specs.declared.declaration.Declaration.{Declaration}
 use Rattle.sem_trace.specs.declared.declaration.Declaration.TheVariants.{Pe, Vpe, Memory, Receive, Service, Offer, Deny, Kill}
 use Rattle.sem_trace.specs.Earlier.{said_owner, said_pe, says_on, said_root, says_service, said_offer, says_deny, said_kill}
 use Rattle.sem_reader.proofs.Enumerated.{here, pairs_nil, joins, pairs_joined, in_range, range_rises}
-use Rattle.sem_reader.proofs.Sections.{root_says, root_decl, pe_decls, vpe_decl, offer_decl, deny_decl, kill_decl, section, said_by, rank, in_map, pairs_mapped, enumerate_rises, in_pe, root_rank, ranked}
+use Rattle.sem_reader.proofs.Sections.{root_says, root_decl, pe_decls, vpe_decl, offer_decl, deny_decl, kill_decl, section, said_by, rank, in_map, pairs_mapped, enumerate_rises, in_pe, root_rank, ranked, as_read}
 
 -- two lines say nothing that is one thing
 pub record Differ (a b : Declaration) : Type 0 where
@@ -278,11 +279,11 @@ pub record Has (T : Setup) (d : VpeDecl) (i n : ℕ) : Type 0 where
   pub at : slice_get d.roots i ≡ Some root
   pub serves : root.object ≡ Serv n
 
-pub has_once : (T : Setup) → IsSetup T → (d e : VpeDecl) (i j n : ℕ) → Has T d i n → Has T e j n → (d.vpe ≡ e.vpe) × (i ≡ j)
-has_once T setup d e i j n a b =
+pub has_once : (T : Setup) → TraceFits (as_read T) → (d e : VpeDecl) (i j n : ℕ) → Has T d i n → Has T e j n → (d.vpe ≡ e.vpe) × (i ≡ j)
+has_once T fits d e i j n a b =
     let s : Contains (declared_services T) (keyed n (root_key d (0 + i) a.root)) = joins (λ (x : VpeDecl). services_from x 0 x.roots) T.vpes d _ a.declared (has_service_key d 0 d.roots i n a.root a.at a.serves) in
     let t : Contains (declared_services T) (keyed n (root_key e (0 + j) b.root)) = joins (λ (x : VpeDecl). services_from x 0 x.roots) T.vpes e _ b.declared (has_service_key e 0 e.roots j n b.root b.at b.serves) in
-    let same = one_of_name T.services setup.services_rise _ _ ((setup.services _).1 s) ((setup.services _).1 t) refl in
+    let same = one_of_name T.services fits.setup.services_rise _ _ ((fits.setup.services _).1 s) ((fits.setup.services _).1 t) refl in
     let number : 0 + i ≡ 0 + j = ap (λ (x : ServiceData). x.key.number) same in
     (ap (λ (x : ServiceData). x.key.vpe) same, omega arith)
 
@@ -299,66 +300,66 @@ one_pe p None = pairs_nil Differ
 one_pe p (Some k) = λ i j d lt within. absurd (omega arith)
 
 -- two roots of the setup in their order
-roots_apart : (T : Setup) → IsSetup T → (d e : VpeDecl) (i j : ℕ) (r s : Root) → Contains T.vpes d → Contains T.vpes e → slice_get d.roots i ≡ Some r → slice_get e.roots j ≡ Some s → IsRoot r → ((d.vpe ≡ e.vpe) × (i ≡ j) → ⊥) → (d.vpe ≡ e.vpe → r.sel ≡ s.sel → ⊥) → Differ (root_decl d.vpe r) (root_decl e.vpe s)
-roots_apart T setup d e i j r s declared declared' at at' valid other sel =
+roots_apart : (T : Setup) → TraceFits (as_read T) → (d e : VpeDecl) (i j : ℕ) (r s : Root) → Contains T.vpes d → Contains T.vpes e → slice_get d.roots i ≡ Some r → slice_get e.roots j ≡ Some s → IsRoot r → ((d.vpe ≡ e.vpe) × (i ≡ j) → ⊥) → (d.vpe ≡ e.vpe → r.sel ≡ s.sel → ⊥) → Differ (root_decl d.vpe r) (root_decl e.vpe s)
+roots_apart T fits d e i j r s declared declared' at at' valid other sel =
     differ_root (root_decl d.vpe r) (root_decl e.vpe s) (root_ranked d.vpe r valid)
     (λ v x y a b same. let m = said_of_root v d.vpe r x a in let n = said_of_root v e.vpe s y b in sel (m.0 ∙ sym n.0) (m.1 ∙ (same ∙ sym n.1)))
-    (λ n a b. other (has_once T setup d e i j n (record { declared = declared; root = r; at = at; serves = service_of_root n d.vpe r a }) (record { declared = declared'; root = s; at = at'; serves = service_of_root n e.vpe s b })))
+    (λ n a b. other (has_once T fits d e i j n (record { declared = declared; root = r; at = at; serves = service_of_root n d.vpe r a }) (record { declared = declared'; root = s; at = at'; serves = service_of_root n e.vpe s b })))
 
 pub place_of : {X : Type 0} (xs : List X) (x : X) → Contains xs x → (i : ℕ) × (slice_get xs i ≡ Some x)
 place_of xs x (i, lt, is) = (i, at_place xs i x lt ∙ ap Some is)
 
 -- each section by itself
-pub pairs_differ : (T : Setup) → IsSetup T → (k : ℕ) → AllPairs Differ (section T k)
-pairs_differ T setup zero =
+pub pairs_differ : (T : Setup) → TraceFits (as_read T) → (k : ℕ) → AllPairs Differ (section T k)
+pairs_differ T fits zero =
     pairs_joined pe_decls (λ (x y : ℕ × Option ℕ). x.0 < y.0) Differ (enumerate_from 0 T.owners.owners) (enumerate_rises 0 T.owners.owners)
     (λ x within. one_pe x.0 x.1)
     (λ x y e f less a b.
     let m = in_pe x.0 x.1 e a in
     let n = in_pe y.0 y.1 f b in
     rw (m.2, n.2) (pe_apart x.0 m.0 y.0 n.0 (λ same. let l : x.0 < y.0 = less in absurd (omega arith))))
-pairs_differ T setup (suc zero) = pairs_mapped vpe_decl Differ T.vpes (λ i j d lt within. vpe_apart _ _ _ _ (λ same. let l = setup.vpes_rise i j d lt within in absurd (omega arith)) (setup.pes_differ i j d lt within))
-pairs_differ T setup (suc (suc zero)) =
+pairs_differ T fits (suc zero) = pairs_mapped vpe_decl Differ T.vpes (λ i j d lt within. vpe_apart _ _ _ _ (λ same. let l = fits.setup.vpes_rise i j d lt within in absurd (omega arith)) (fits.setup.pes_differ i j d lt within))
+pairs_differ T fits (suc (suc zero)) =
     pairs_joined (λ (d : VpeDecl). map (root_decl d.vpe) d.roots) (λ (a b : VpeDecl). Contains T.vpes a × Contains T.vpes b × (a.vpe < b.vpe)) Differ T.vpes
-    (λ i j d lt within. (Contains-get_or T.vpes i d (omega arith), Contains-get_or T.vpes j d within, setup.vpes_rise i j d lt within))
+    (λ i j d lt within. (Contains-get_or T.vpes i d (omega arith), Contains-get_or T.vpes j d within, fits.setup.vpes_rise i j d lt within))
     (λ d declared.
-    let v = All-contains (IsVpeDecl T) T.vpes d setup.vpes declared in
+    let v = All-contains (IsVpeDecl (as_read T)) T.vpes d fits.setup.vpes declared in
     pairs_mapped (root_decl d.vpe) Differ d.roots (λ i j x lt within.
-    roots_apart T setup d d i j (get_or d.roots i x) (get_or d.roots j x) declared declared (at_place d.roots i x (omega arith)) (at_place d.roots j x within) (v.roots i x (omega arith)) (λ same. let e : i ≡ j = same.1 in absurd (omega arith)) (λ same. v.selectors_differ i j x lt within)))
+    roots_apart T fits d d i j (get_or d.roots i x) (get_or d.roots j x) declared declared (at_place d.roots i x (omega arith)) (at_place d.roots j x within) (v.roots i x (omega arith)) (λ same. let e : i ≡ j = same.1 in absurd (omega arith)) (λ same. v.selectors_differ i j x lt within)))
     (λ d e a b cross within within'.
-    let v = All-contains (IsVpeDecl T) T.vpes d setup.vpes cross.0 in
+    let v = All-contains (IsVpeDecl (as_read T)) T.vpes d fits.setup.vpes cross.0 in
     let m = in_map (root_decl d.vpe) d.roots a within in
     let n = in_map (root_decl e.vpe) e.roots b within' in
     let x = place_of d.roots m.0 m.1 in
     let y = place_of e.roots n.0 n.1 in
     let less : d.vpe < e.vpe = cross.2 in
-    rw (← m.2, ← n.2) (roots_apart T setup d e x.0 y.0 m.0 n.0 cross.0 cross.1 x.1 y.1 (All-contains IsRoot d.roots m.0 v.roots m.1) (λ same. let f : d.vpe ≡ e.vpe = same.0 in absurd (omega arith)) (λ same sel. absurd (omega arith))))
-pairs_differ T setup (suc (suc (suc zero))) = pairs_mapped offer_decl Differ T.offers (λ i j d lt within. offer_apart _ _ _ _ _ _ (before_differs (offer_place (get_or T.offers i d)) (offer_place (get_or T.offers j d)) (setup.offers_rise i j d lt within)))
-pairs_differ T setup (suc (suc (suc (suc zero)))) = pairs_mapped deny_decl Differ T.denies (λ i j d lt within. deny_apart _ _ _ _ (before_differs (get_or T.denies i d) (get_or T.denies j d) (setup.denies_rise i j d lt within)))
-pairs_differ T setup (suc (suc (suc (suc (suc zero))))) = pairs_mapped kill_decl Differ T.kills (λ i j d lt within. kill_apart _ _ _ _ (λ same. let l = setup.kills_rise i j d lt within in absurd (omega arith)))
-pairs_differ T setup (suc (suc (suc (suc (suc (suc zero)))))) = λ i j d lt within.
+    rw (← m.2, ← n.2) (roots_apart T fits d e x.0 y.0 m.0 n.0 cross.0 cross.1 x.1 y.1 (All-contains IsRoot d.roots m.0 v.roots m.1) (λ same. let f : d.vpe ≡ e.vpe = same.0 in absurd (omega arith)) (λ same sel. absurd (omega arith))))
+pairs_differ T fits (suc (suc (suc zero))) = pairs_mapped offer_decl Differ T.offers (λ i j d lt within. offer_apart _ _ _ _ _ _ (before_differs (offer_place (get_or T.offers i d)) (offer_place (get_or T.offers j d)) (fits.setup.offers_rise i j d lt within)))
+pairs_differ T fits (suc (suc (suc (suc zero)))) = pairs_mapped deny_decl Differ T.denies (λ i j d lt within. deny_apart _ _ _ _ (before_differs (get_or T.denies i d) (get_or T.denies j d) (fits.setup.denies_rise i j d lt within)))
+pairs_differ T fits (suc (suc (suc (suc (suc zero))))) = pairs_mapped kill_decl Differ T.kills (λ i j d lt within. kill_apart _ _ _ _ (λ same. let l = fits.setup.kills_rise i j d lt within in absurd (omega arith)))
+pairs_differ T fits (suc (suc (suc (suc (suc (suc zero)))))) = λ i j d lt within.
     let x = Contains-get_or (section T 6) i d (omega arith) in
-    differ_other _ _ (ranked T setup 6 (omega arith) _ x)
-pairs_differ T setup (suc (suc (suc (suc (suc (suc (suc k))))))) = λ i j d lt within. absurd (omega arith)
+    differ_other _ _ (ranked T fits 6 (omega arith) _ x)
+pairs_differ T fits (suc (suc (suc (suc (suc (suc (suc k))))))) = λ i j d lt within. absurd (omega arith)
 
 -- a line stands before another
 pub record Precedes (a b : Declaration) : Type 0 where
   pub differ : Differ a b
   pub order : rank a ≤ rank b
 
-pub in_order : (T : Setup) → IsSetup T → AllPairs Precedes (said_by T)
+pub in_order : (T : Setup) → TraceFits (as_read T) → AllPairs Precedes (said_by T)
 unfolding said_by
-in_order T setup =
+in_order T fits =
     pairs_joined (section T) (λ (k l : ℕ). (l < 8) × (k < l)) Precedes (range_with_len 0 8)
     (λ i j d lt within. let r = in_range 0 8 (get_or (range_with_len 0 8) j d) (Contains-get_or (range_with_len 0 8) j d within) in (omega arith, range_rises 0 8 i j d lt within))
     (λ k within.
     let r = in_range 0 8 k within in
     λ i j d lt inside.
-    let x = ranked T setup k (omega arith) _ (Contains-get_or (section T k) i d (omega arith)) in
-    let y = ranked T setup k (omega arith) _ (Contains-get_or (section T k) j d inside) in
-    record { differ = pairs_differ T setup k i j d lt inside; order = omega arith })
+    let x = ranked T fits k (omega arith) _ (Contains-get_or (section T k) i d (omega arith)) in
+    let y = ranked T fits k (omega arith) _ (Contains-get_or (section T k) j d inside) in
+    record { differ = pairs_differ T fits k i j d lt inside; order = omega arith })
     (λ k l a b small within within'.
-    let x = ranked T setup k (let s : l < 8 = small.0 in let t : k < l = small.1 in omega arith) a within in
-    let y = ranked T setup l small.0 b within' in
+    let x = ranked T fits k (let s : l < 8 = small.0 in let t : k < l = small.1 in omega arith) a within in
+    let y = ranked T fits l small.0 b within' in
     let t : k < l = small.1 in
     record { differ = differ_ranks a b (λ same. absurd (omega arith)); order = omega arith })

@@ -1,5 +1,5 @@
 -- What a printed setup says is accepted, line by line.
-use Rattle.std.proofs.Common.{◌≡◌, ◌≢◌, ℕ, zero, suc, ◌+◌, ◌<◌, ◌≤◌, ◌==◌, Bool, true, false, cond, not, true≢false, ◌&&◌, ◌||◌, List, [], ◌∷◌, ◌++◌, length, map, get_or, Option, Some, None, refl, ap, sym, ◌∙◌, subst, arith, inl, inr, eqb-true, eq-eqb, le-ltb}
+use Rattle.std.proofs.Common.{◌≡◌, ◌≢◌, ℕ, zero, suc, ◌+◌, ◌<◌, ◌≤◌, ◌==◌, Bool, true, false, cond, not, true≢false, ◌&&◌, ◌||◌, List, [], ◌∷◌, ◌++◌, length, map, Option, Some, None, refl, ap, sym, ◌∙◌, subst, arith, inl, inr, eqb-true, eq-eqb, le-ltb}
 use Rattle.std.specs.List.{AllPairs, Contains, filter_map, flat_map, list_any, range_with_len, slice_get, sum_by}
 use Rattle.std.specs.Option.{option_or, is_some, IsSome}
 use Rattle.std.proofs.lemmas.Bool.{false_from_ne_true, lt-leb}
@@ -16,7 +16,9 @@ use Rattle.sem_msg.specs.declared.setup.Service.{Service as ServiceData}
 use Rattle.sem_msg.specs.declared.setup.Offer.{Offer as OfferData}
 use Rattle.sem_msg.specs.declared.setup.VpeDecl.{VpeDecl}
 use Rattle.sem_msg.specs.Calls.{IsValidCall, IsWord}
-use Rattle.sem_msg.specs.Setup.{Setup, IsSetup, IsRoot, IsVpeDecl, IsOffer, IsDeclared, services_from, call_count}
+use Rattle.sem_msg.specs.Setup.{Setup, IsRoot, IsVpeDecl, IsOffer, IsDeclared, services_from, call_count}
+use Rattle.sem_trace.specs.TraceText.{TraceFits}
+use Rattle.sem_trace.specs.declared.limits.TheConstants.{NODES}
 use Rattle.sem_trace.specs.declared.declaration.Declaration.{Declaration}
 use Rattle.sem_trace.specs.declared.declaration.Declaration.TheVariants.{Kernels, Pe, Vpe, Memory, Receive, Service, Offer, Deny, Kill, Call as Calls, End}
 use Rattle.sem_trace.specs.Earlier.{first_some, said_owner, owner_in, said_pe, pe_in, says_on, is_taken, said_root, roots_in, holds_at, says_service, has_service, said_offer, offer_in, says_deny, is_denied, said_kill, kill_in, is_call, call_number}
@@ -25,7 +27,7 @@ use Rattle.sem_trace.specs.Ranges.{IsInRange}
 use Rattle.sem_reader.specs.Accepted.{AreAccepted}
 use Rattle.sem_reader.proofs.Enumerated.{in_cons, in_nil, here, there, pairs_head, pairs_tail, given, joined, joins}
 use Rattle.sem_reader.proofs.PrintedLines.{IsSaid}
-use Rattle.sem_reader.proofs.Sections.{ranked, root_says, root_decl, vpe_decl, offer_decl, deny_decl, kill_decl, section, said_by, rank, in_map, map_has, in_pes, has_pe, in_roots, has_section}
+use Rattle.sem_reader.proofs.Sections.{ranked, root_says, root_decl, vpe_decl, offer_decl, deny_decl, kill_decl, section, said_by, rank, in_map, map_has, in_pes, has_pe, in_roots, has_section, as_read}
 use Rattle.sem_reader.proofs.SetupIs.{service_of_root}
 use Rattle.sem_reader.proofs.Precedes.{Differ, Precedes, in_order}
 
@@ -192,21 +194,14 @@ some_value : (o : Option ℕ) → IsSome o → (k : ℕ) × (o ≡ Some k)
 some_value None some = absurd (true≢false (sym some))
 some_value (Some k) some = (k, refl)
 
-within_table : (xs : List (Option ℕ)) (i k : ℕ) → get_or xs i None ≡ Some k → i < length xs
-within_table [] i k some = absurd (none-some k some)
-within_table (x ∷ xs) zero k some = omega arith
-within_table (x ∷ xs) (suc i) k some = let r = within_table xs i k some in omega arith
+printed_pe : (T : Setup) → TraceFits (as_read T) → (p k : ℕ) → owner_at T.owners p ≡ Some k → IsPrinted T (Pe p k)
+printed_pe T fits p k owned =
+    let below : k < T.owners.kernels = fits.setup.membership.owners_exist p k owned in
+    record { said = tt; ranges = (fits.owned p (rw owned refl), rw fits.setup.same_kernels at below); short = refl; needs = λ before there'. refl }
 
-printed_pe : (T : Setup) → IsSetup T → (p k : ℕ) → owner_at T.owners p ≡ Some k → IsPrinted T (Pe p k)
-printed_pe T setup p k owned =
-    let small = within_table T.owners.owners p k owned in
-    let all : length T.owners.owners ≡ 64 = setup.membership.all_pes in
-    let below : k < T.owners.kernels = setup.membership.owners_exist p k owned in
-    record { said = tt; ranges = (omega arith, rw setup.same_kernels at below); short = refl; needs = λ before there'. refl }
-
-printed_vpe : (T : Setup) → IsSetup T → (d : VpeDecl) → Contains T.vpes d → IsPrinted T (vpe_decl d)
-printed_vpe T setup d within =
-    let v = All-contains (IsVpeDecl T) T.vpes d setup.vpes within in
+printed_vpe : (T : Setup) → TraceFits (as_read T) → (d : VpeDecl) → Contains T.vpes d → IsPrinted T (vpe_decl d)
+printed_vpe T fits d within =
+    let v = All-contains (IsVpeDecl (as_read T)) T.vpes d fits.setup.vpes within in
     let k = some_value (owner_at T.owners d.pe) v.owned in
     record {
       said = tt;
@@ -215,19 +210,19 @@ printed_vpe T setup d within =
       needs = λ before there'. has_owner before d.pe k.0 (there' (Pe d.pe k.0) (has_section T (Pe d.pe k.0) 0 (omega arith) (has_pe T d.pe k.0 k.1)) (omega arith));
     }
 
-printed_root : (T : Setup) → IsSetup T → (v s : ℕ) (o : Object) → v ≤ 63 → IsDeclared T v → IsRoot (record { sel = s; object = o }) → IsPrinted T (root_says v s o)
-printed_root T setup v s (Mem b l g) small declared valid =
+printed_root : (T : Setup) → TraceFits (as_read T) → (v s : ℕ) (o : Object) → v < NODES → IsDeclared T v → IsRoot (record { sel = s; object = o }) → IsPrinted T (root_says v s o)
+printed_root T fits v s (Mem b l g) small declared valid =
     let line = has_line T v declared in
     let r = valid.ranges in
     record { said = tt; ranges = (small, valid.selector, r.0, r.1, r.2); short = le-ltb 4294967296 (b + l) r.3; needs = λ before there'. has_vpe before v line.0 (there' (Vpe v line.0) line.1 (omega arith)) }
-printed_root T setup v s (Recv n) small declared valid =
+printed_root T fits v s (Recv n) small declared valid =
     let line = has_line T v declared in
     record { said = tt; ranges = (small, valid.selector, valid.ranges.0, valid.ranges.1); short = refl; needs = λ before there'. has_vpe before v line.0 (there' (Vpe v line.0) line.1 (omega arith)) }
-printed_root T setup v s (Serv n) small declared valid =
+printed_root T fits v s (Serv n) small declared valid =
     let line = has_line T v declared in
     record { said = tt; ranges = (small, valid.selector, valid.ranges); short = refl; needs = λ before there'. has_vpe before v line.0 (there' (Vpe v line.0) line.1 (omega arith)) }
-printed_root T setup v s (Send g l c) small declared valid = absurd valid.kind
-printed_root T setup v s (Sess k i) small declared valid = absurd valid.kind
+printed_root T fits v s (Send g l c) small declared valid = absurd valid.kind
+printed_root T fits v s (Sess k i) small declared valid = absurd valid.kind
 
 pub get_contains : {X : Type 0} (xs : List X) (i : ℕ) (x : X) → slice_get xs i ≡ Some x → Contains xs x
 get_contains [] i x some = absurd (none-some x some)
@@ -235,20 +230,20 @@ get_contains (y ∷ ys) zero x some = subst (Contains (y ∷ ys)) (same_Some y x
 get_contains (y ∷ ys) (suc i) x some = there y ys x (get_contains ys i x some)
 
 -- a service of the setup has its line
-service_line : (T : Setup) → IsSetup T → (s : ServiceData) → Contains T.services s → (v t : ℕ) × Contains (said_by T) (Service v t s.name) × (s.name ≤ 255)
-service_line T setup s within =
-    let j = joined (λ (d : VpeDecl). services_from d 0 d.roots) T.vpes s ((setup.services s).0 within) in
+service_line : (T : Setup) → TraceFits (as_read T) → (s : ServiceData) → Contains T.services s → (v t : ℕ) × Contains (said_by T) (Service v t s.name) × (s.name ≤ 255)
+service_line T fits s within =
+    let j = joined (λ (d : VpeDecl). services_from d 0 d.roots) T.vpes s ((fits.setup.services s).0 within) in
     let o = service_of_root j.from 0 j.from.roots s j.has in
-    let v = All-contains (IsVpeDecl T) T.vpes j.from setup.vpes j.within in
+    let v = All-contains (IsVpeDecl (as_read T)) T.vpes j.from fits.setup.vpes j.within in
     let held : Contains j.from.roots o.root = get_contains j.from.roots o.place o.root o.at in
     let valid = All-contains IsRoot j.from.roots o.root v.roots held in
     let line : Contains (said_by T) (root_decl j.from.vpe o.root) = has_section T _ 2 (omega arith) (joins (λ (d : VpeDecl). map (root_decl d.vpe) d.roots) T.vpes j.from (root_decl j.from.vpe o.root) j.within (map_has (root_decl j.from.vpe) j.from.roots o.root held)) in
     (j.from.vpe, o.root.sel, subst (λ (x : Object). Contains (said_by T) (root_says j.from.vpe o.root.sel x)) o.serves line, subst IsValidObject o.serves valid.ranges)
 
-printed_offer : (T : Setup) → IsSetup T → (o : OfferData) → IsOffer T o → IsPrinted T (offer_decl o)
-printed_offer T setup o valid =
+printed_offer : (T : Setup) → TraceFits (as_read T) → (o : OfferData) → IsOffer (as_read T) o → IsPrinted T (offer_decl o)
+printed_offer T fits o valid =
     let s : ServiceData = valid.declared.1 in
-    let line = service_line T setup s (valid.declared.0, valid.declared.2, valid.declared.3) in
+    let line = service_line T fits s (valid.declared.0, valid.declared.2, valid.declared.3) in
     let name : s.name ≡ o.name = valid.declared.4 in
     let small : s.name ≤ 255 = line.3 in
     let at : Contains (said_by T) (Service line.0 line.1 o.name) = subst (λ (n : ℕ). Contains (said_by T) (Service line.0 line.1 n)) name line.2 in
@@ -259,37 +254,37 @@ printed_offer T setup o valid =
       needs = λ before there'. has_name before line.0 line.1 o.name (there' (Service line.0 line.1 o.name) at (omega arith));
     }
 
-declared_small : (T : Setup) → IsSetup T → (v : ℕ) → IsDeclared T v → v ≤ 63
-declared_small T setup v (k, d, lt, at, is) = let small : d.vpe ≤ 63 = (All-contains (IsVpeDecl T) T.vpes d setup.vpes (k, lt, at)).vpe in omega arith
+declared_small : (T : Setup) → TraceFits (as_read T) → (v : ℕ) → IsDeclared T v → v < NODES
+declared_small T fits v (k, d, lt, at, is) = let small : d.vpe < NODES = (All-contains (IsVpeDecl (as_read T)) T.vpes d fits.setup.vpes (k, lt, at)).vpe in omega arith
 
-printed_deny : (T : Setup) → IsSetup T → (p : ℕ × ℕ) → IsDeclared T p.0 × IsDeclared T p.1 → IsPrinted T (deny_decl p)
-printed_deny T setup p declared =
+printed_deny : (T : Setup) → TraceFits (as_read T) → (p : ℕ × ℕ) → IsDeclared T p.0 × IsDeclared T p.1 → IsPrinted T (deny_decl p)
+printed_deny T fits p declared =
     let first = has_line T p.0 declared.0 in
     let second = has_line T p.1 declared.1 in
     record {
       said = tt;
-      ranges = (declared_small T setup p.0 declared.0, declared_small T setup p.1 declared.1);
+      ranges = (declared_small T fits p.0 declared.0, declared_small T fits p.1 declared.1);
       short = refl;
       needs = λ before there'. or_false_both _ _ (has_vpe before p.0 first.0 (there' (Vpe p.0 first.0) first.1 (omega arith))) (has_vpe before p.1 second.0 (there' (Vpe p.1 second.0) second.1 (omega arith)));
     }
 
-printed_kill : (T : Setup) → IsSetup T → (p : ℕ × ℕ) → IsDeclared T p.0 × IsWord p.1 → IsPrinted T (kill_decl p)
-printed_kill T setup p declared =
+printed_kill : (T : Setup) → TraceFits (as_read T) → (p : ℕ × ℕ) → IsDeclared T p.0 × IsWord p.1 → IsPrinted T (kill_decl p)
+printed_kill T fits p declared =
     let first = has_line T p.0 declared.0 in
     record {
       said = tt;
-      ranges = (declared_small T setup p.0 declared.0, declared.1);
+      ranges = (declared_small T fits p.0 declared.0, declared.1);
       short = refl;
       needs = λ before there'. has_vpe before p.0 first.0 (there' (Vpe p.0 first.0) first.1 (omega arith));
     }
 
-printed_call : (T : Setup) → IsSetup T → (d : VpeDecl) (c : Call) → Contains T.vpes d → Contains d.calls c → IsPrinted T (Calls d.vpe c)
-printed_call T setup d c within held =
-    let v = All-contains (IsVpeDecl T) T.vpes d setup.vpes within in
+printed_call : (T : Setup) → TraceFits (as_read T) → (d : VpeDecl) (c : Call) → Contains T.vpes d → Contains d.calls c → IsPrinted T (Calls d.vpe c)
+printed_call T fits d c within held =
+    let v = All-contains (IsVpeDecl (as_read T)) T.vpes d fits.setup.vpes within in
     let line = has_line T d.vpe (is_declared T d within) in
     record {
       said = tt;
-      ranges = (v.vpe, All-contains IsValidCall d.calls c v.calls held);
+      ranges = (v.vpe, All-contains (IsValidCall NODES) d.calls c v.calls held);
       short = refl;
       needs = λ before there'. has_vpe before d.vpe line.0 (there' (Vpe d.vpe line.0) line.1 (omega arith));
     }
@@ -297,29 +292,29 @@ printed_call T setup d c within held =
 printed_end : (T : Setup) → IsPrinted T End
 printed_end T = record { said = tt; ranges = tt; short = refl; needs = λ before there'. refl }
 
-in_one_section : (T : Setup) → IsSetup T → (k : ℕ) (d : Declaration) → Contains (section T k) d → IsPrinted T d
-in_one_section T setup zero d within = let p = in_pes T d within in rw p.2 (printed_pe T setup p.0 p.1 p.3)
-in_one_section T setup (suc zero) d within = let m = in_map vpe_decl T.vpes d within in subst (IsPrinted T) m.2 (printed_vpe T setup m.0 m.1)
-in_one_section T setup (suc (suc zero)) d within =
-    let r = in_roots T setup d within in
-    let v = All-contains (IsVpeDecl T) T.vpes r.vpe setup.vpes r.declared in
-    subst (IsPrinted T) r.is (printed_root T setup r.vpe.vpe r.root.sel r.root.object v.vpe (is_declared T r.vpe r.declared) r.valid)
-in_one_section T setup (suc (suc (suc zero))) d within = let m = in_map offer_decl T.offers d within in subst (IsPrinted T) m.2 (printed_offer T setup m.0 (All-contains (IsOffer T) T.offers m.0 setup.offers m.1))
-in_one_section T setup (suc (suc (suc (suc zero)))) d within = let m = in_map deny_decl T.denies d within in subst (IsPrinted T) m.2 (printed_deny T setup m.0 (All-contains (λ (p : ℕ × ℕ). IsDeclared T p.0 × IsDeclared T p.1) T.denies m.0 setup.denies m.1))
-in_one_section T setup (suc (suc (suc (suc (suc zero))))) d within = let m = in_map kill_decl T.kills d within in subst (IsPrinted T) m.2 (printed_kill T setup m.0 (All-contains (λ (p : ℕ × ℕ). IsDeclared T p.0 × IsWord p.1) T.kills m.0 setup.kills m.1))
-in_one_section T setup (suc (suc (suc (suc (suc (suc zero)))))) d within =
+in_one_section : (T : Setup) → TraceFits (as_read T) → (k : ℕ) (d : Declaration) → Contains (section T k) d → IsPrinted T d
+in_one_section T fits zero d within = let p = in_pes T d within in rw p.2 (printed_pe T fits p.0 p.1 p.3)
+in_one_section T fits (suc zero) d within = let m = in_map vpe_decl T.vpes d within in subst (IsPrinted T) m.2 (printed_vpe T fits m.0 m.1)
+in_one_section T fits (suc (suc zero)) d within =
+    let r = in_roots T fits d within in
+    let v = All-contains (IsVpeDecl (as_read T)) T.vpes r.vpe fits.setup.vpes r.declared in
+    subst (IsPrinted T) r.is (printed_root T fits r.vpe.vpe r.root.sel r.root.object v.vpe (is_declared T r.vpe r.declared) r.valid)
+in_one_section T fits (suc (suc (suc zero))) d within = let m = in_map offer_decl T.offers d within in subst (IsPrinted T) m.2 (printed_offer T fits m.0 (All-contains (IsOffer (as_read T)) T.offers m.0 fits.setup.offers m.1))
+in_one_section T fits (suc (suc (suc (suc zero)))) d within = let m = in_map deny_decl T.denies d within in subst (IsPrinted T) m.2 (printed_deny T fits m.0 (All-contains (λ (p : ℕ × ℕ). IsDeclared T p.0 × IsDeclared T p.1) T.denies m.0 fits.setup.denies m.1))
+in_one_section T fits (suc (suc (suc (suc (suc zero))))) d within = let m = in_map kill_decl T.kills d within in subst (IsPrinted T) m.2 (printed_kill T fits m.0 (All-contains (λ (p : ℕ × ℕ). IsDeclared T p.0 × IsWord p.1) T.kills m.0 fits.setup.kills m.1))
+in_one_section T fits (suc (suc (suc (suc (suc (suc zero)))))) d within =
     let j = joined (λ (e : VpeDecl). map (Calls e.vpe) e.calls) T.vpes d within in
     let m = in_map (Calls j.from.vpe) j.from.calls d j.has in
-    subst (IsPrinted T) m.2 (printed_call T setup j.from m.0 j.within m.1)
-in_one_section T setup (suc (suc (suc (suc (suc (suc (suc k))))))) d within =
+    subst (IsPrinted T) m.2 (printed_call T fits j.from m.0 j.within m.1)
+in_one_section T fits (suc (suc (suc (suc (suc (suc (suc k))))))) d within =
     elim (in_cons End [] d within) [
       | inl is ↦ subst (IsPrinted T) is (printed_end T)
       | inr none ↦ absurd (in_nil d none)
     ]
 
-pub printed : (T : Setup) → IsSetup T → (d : Declaration) → Contains (said_by T) d → IsPrinted T d
+pub printed : (T : Setup) → TraceFits (as_read T) → (d : Declaration) → Contains (said_by T) d → IsPrinted T d
 unfolding said_by
-printed T setup d within = let j = joined (section T) (range_with_len 0 8) d within in in_one_section T setup j.from d j.has
+printed T fits d within = let j = joined (section T) (range_with_len 0 8) d within in in_one_section T fits j.from d j.has
 
 -- how many calls there are
 abbrev weight : Declaration → ℕ
@@ -341,17 +336,17 @@ calls_of_vpes : (vpes : List VpeDecl) → sum_by weight (flat_map (λ d. map (Ca
 calls_of_vpes [] = refl
 calls_of_vpes (d ∷ ds) = rw (sum_by-append weight (map (Calls d.vpe) d.calls) (flat_map (λ (x : VpeDecl). map (Calls x.vpe) x.calls) ds), calls_of_vpe d.vpe d.calls, calls_of_vpes ds, sum_by-cons (λ (x : VpeDecl). length x.calls) d ds) refl
 
-few_calls : (T : Setup) → IsSetup T → call_number (said_by T) ≤ 20000
+few_calls : (T : Setup) → TraceFits (as_read T) → call_number (said_by T) ≤ 20000
 unfolding said_by call_number
-few_calls T setup =
-    let a = no_calls (section T 0) (λ e within same. let r = ranked T setup 0 (omega arith) e within in absurd (omega arith)) in
-    let b = no_calls (section T 1) (λ e within same. let r = ranked T setup 1 (omega arith) e within in absurd (omega arith)) in
-    let c = no_calls (section T 2) (λ e within same. let r = ranked T setup 2 (omega arith) e within in absurd (omega arith)) in
-    let d = no_calls (section T 3) (λ e within same. let r = ranked T setup 3 (omega arith) e within in absurd (omega arith)) in
-    let g = no_calls (section T 4) (λ e within same. let r = ranked T setup 4 (omega arith) e within in absurd (omega arith)) in
-    let h = no_calls (section T 5) (λ e within same. let r = ranked T setup 5 (omega arith) e within in absurd (omega arith)) in
+few_calls T fits =
+    let a = no_calls (section T 0) (λ e within same. let r = ranked T fits 0 (omega arith) e within in absurd (omega arith)) in
+    let b = no_calls (section T 1) (λ e within same. let r = ranked T fits 1 (omega arith) e within in absurd (omega arith)) in
+    let c = no_calls (section T 2) (λ e within same. let r = ranked T fits 2 (omega arith) e within in absurd (omega arith)) in
+    let d = no_calls (section T 3) (λ e within same. let r = ranked T fits 3 (omega arith) e within in absurd (omega arith)) in
+    let g = no_calls (section T 4) (λ e within same. let r = ranked T fits 4 (omega arith) e within in absurd (omega arith)) in
+    let h = no_calls (section T 5) (λ e within same. let r = ranked T fits 5 (omega arith) e within in absurd (omega arith)) in
     let i = calls_of_vpes T.vpes in
-    let few : call_count T ≤ 20000 = setup.few_calls in
+    let few : call_count T ≤ 20000 = fits.setup.few_calls in
     rw (sum_by-append, a, sum_by-append, b, sum_by-append, c, sum_by-append, d, sum_by-append, g, sum_by-append, h, sum_by-append, i) (omega arith)
 
 call_before : (before after : List Declaration) (d : Declaration) → is_call d ≡ true → call_number (before ++ d ∷ after) ≤ 20000 → call_number before < 20000
@@ -371,12 +366,12 @@ unfolding context_fault
 fits_context before d a b c e = rw (a, b, c, e) refl
 
 -- what the setup says is accepted
-pub all_accepted : (T : Setup) → IsSetup T → AreAccepted T.kernels (said_by T)
-all_accepted T setup before after d is =
+pub all_accepted : (T : Setup) → TraceFits (as_read T) → AreAccepted T.kernels (said_by T)
+all_accepted T fits before after d is =
     let within : Contains (said_by T) d = subst (λ (xs : List Declaration). Contains xs d) (sym is) (Contains-append_right before (d ∷ after) d (here d after)) in
-    let p = printed T setup d within in
-    let order : AllPairs Precedes (before ++ d ∷ after) = subst (AllPairs Precedes) is (in_order T setup) in
+    let p = printed T fits d within in
+    let order : AllPairs Precedes (before ++ d ∷ after) = subst (AllPairs Precedes) is (in_order T fits) in
     let other : (e : Declaration) → Contains before e → Differ e d = λ e inside. (pairs_middle Precedes before after d e order inside).differ in
     let needed : (e : Declaration) → Contains (said_by T) e → rank e < rank d → Contains before e = λ e inside lower. earlier before after d e order (subst (λ (xs : List Declaration). Contains xs e) is inside) lower in
-    let few : call_number (before ++ d ∷ after) ≤ 20000 = subst (λ (xs : List Declaration). call_number xs ≤ 20000) is (few_calls T setup) in
+    let few : call_number (before ++ d ∷ after) ≤ 20000 = subst (λ (xs : List Declaration). call_number xs ≤ 20000) is (few_calls T fits) in
     (p.ranges, fits_context before d p.short (p.needs before needed) (not_twice before d p.said other) (not_too_many before d (λ call. call_before before after d call few)))

@@ -3,8 +3,9 @@ use Rattle.std.proofs.Common.{◌≡◌, ℕ, ◌-◌, ◌<◌, ◌≤◌, ◌^�
 use Rattle.std.specs.Prelude.{codes}
 use Rattle.sem_text.specs.Number.{number_value}
 use Rattle.sem_msg.specs.declared.call.Call.{Call}
-use Rattle.sem_msg.specs.declared.call.Call.TheVariants.{Derive, Gate, Obtain, Delegate, OpenSession, AskOffer, Revoke, Bind, Read, Write, Send as SendCall, Credit, Exit}
+use Rattle.sem_msg.specs.declared.call.Call.TheVariants.{Derive, Gate, Obtain, Delegate, OpenSession, AskOffer, Revoke, Bind, Read, Write, Send as SendCall, Credit, Exit, Clear}
 use Rattle.sem_msg.specs.Calls.{IsValidCall}
+use Rattle.sem_trace.specs.declared.limits.TheConstants.{NODES, MOST_KERNELS}
 use Rattle.sem_trace.specs.declared.declaration.Declaration.{Declaration}
 use Rattle.sem_trace.specs.declared.declaration.Declaration.TheVariants.{Kernels, Pe, Vpe, Memory, Receive, Service, Offer, Deny, Kill, Call as Calls, End}
 use Rattle.sem_trace.specs.Words.{call_words}
@@ -101,127 +102,137 @@ call_exit : (ws : List (List ℕ)) → form_fault (choice calls (codes "exit")) 
 unfolding form_fault calls
 call_exit ws = refl
 
+call_clear : (ws : List (List ℕ)) → form_fault (choice calls (codes "clear")) (codes "clear" ∷ ws) ≡ form_fault (byte ∷ []) ws
+unfolding form_fault calls
+call_clear ws = refl
+
 -- a call as it is printed
-pub call_fits : (c : Call) → IsValidCall c → form_fault (choice calls (word_at (call_words c) 0)) (call_words c) ≡ None
+pub call_fits : (c : Call) → IsValidCall NODES c → form_fault (choice calls (word_at (call_words c) 0)) (call_words c) ≡ None
 call_fits (Derive src dst off len rights) valid =
-    let high0 : src ≤ 255 = valid.0 in
-    let high1 : dst ≤ 255 = valid.1 in
+    let high0 : src < 256 = valid.0 in
+    let high1 : dst < 256 = valid.1 in
     let high2 : off ≤ 4294967295 = valid.2 in
     let high3 : len ≤ 4294967295 = valid.3 in
     let high4 : rights ≤ 7 = valid.4 in
     call_derive _ ∙ (fill 0 255 src _ _ (omega arith) (omega arith) (omega arith) ∙ (fill 0 255 dst _ _ (omega arith) (omega arith) (omega arith) ∙ (fill 0 4294967295 off _ _ (omega arith) (omega arith) (omega arith) ∙ (fill 0 4294967295 len _ _ (omega arith) (omega arith) (omega arith) ∙ (fill 0 7 rights _ _ (omega arith) (omega arith) (omega arith) ∙ (filled))))))
 call_fits (Gate src dst label credits) valid =
-    let high0 : src ≤ 255 = valid.0 in
-    let high1 : dst ≤ 255 = valid.1 in
+    let high0 : src < 256 = valid.0 in
+    let high1 : dst < 256 = valid.1 in
     let high2 : label ≤ 4294967295 = valid.2 in
     let low3 : 1 ≤ credits = valid.3 in
     let high3 : credits ≤ 64 = valid.4 in
     call_gate _ ∙ (fill 0 255 src _ _ (omega arith) (omega arith) (omega arith) ∙ (fill 0 255 dst _ _ (omega arith) (omega arith) (omega arith) ∙ (fill 0 4294967295 label _ _ (omega arith) (omega arith) (omega arith) ∙ (fill 1 64 credits _ _ (omega arith) (omega arith) (omega arith) ∙ (filled)))))
 call_fits (Obtain dst vpe src) valid =
-    let high0 : dst ≤ 255 = valid.0 in
-    let high1 : vpe ≤ 63 = valid.1 in
-    let high2 : src ≤ 255 = valid.2 in
+    let high0 : dst < 256 = valid.0 in
+    let high1 : vpe < NODES = valid.1 in
+    let high2 : src < 256 = valid.2 in
     call_obtain _ ∙ (fill 0 255 dst _ _ (omega arith) (omega arith) (omega arith) ∙ (fill 0 63 vpe _ _ (omega arith) (omega arith) (omega arith) ∙ (fill 0 255 src _ _ (omega arith) (omega arith) (omega arith) ∙ (filled))))
 call_fits (Delegate src vpe dst) valid =
-    let high0 : src ≤ 255 = valid.0 in
-    let high1 : vpe ≤ 63 = valid.1 in
-    let high2 : dst ≤ 255 = valid.2 in
+    let high0 : src < 256 = valid.0 in
+    let high1 : vpe < NODES = valid.1 in
+    let high2 : dst < 256 = valid.2 in
     call_delegate _ ∙ (fill 0 255 src _ _ (omega arith) (omega arith) (omega arith) ∙ (fill 0 63 vpe _ _ (omega arith) (omega arith) (omega arith) ∙ (fill 0 255 dst _ _ (omega arith) (omega arith) (omega arith) ∙ (filled))))
 call_fits (OpenSession dst name) valid =
-    let high0 : dst ≤ 255 = valid.0 in
+    let high0 : dst < 256 = valid.0 in
     let high1 : name ≤ 255 = valid.1 in
     call_open _ ∙ (fill 0 255 dst _ _ (omega arith) (omega arith) (omega arith) ∙ (fill 0 255 name _ _ (omega arith) (omega arith) (omega arith) ∙ (filled)))
 call_fits (AskOffer dst session index) valid =
-    let high0 : dst ≤ 255 = valid.0 in
-    let high1 : session ≤ 255 = valid.1 in
+    let high0 : dst < 256 = valid.0 in
+    let high1 : session < 256 = valid.1 in
     let high2 : index ≤ 255 = valid.2 in
     call_ask _ ∙ (fill 0 255 dst _ _ (omega arith) (omega arith) (omega arith) ∙ (fill 0 255 session _ _ (omega arith) (omega arith) (omega arith) ∙ (fill 0 255 index _ _ (omega arith) (omega arith) (omega arith) ∙ (filled))))
 call_fits (Revoke src) valid =
-    let high0 : src ≤ 255 = valid in
+    let high0 : src < 256 = valid in
     call_revoke _ ∙ (fill 0 255 src _ _ (omega arith) (omega arith) (omega arith) ∙ (filled))
 call_fits (Bind ep src) valid =
-    let high0 : ep ≤ 15 = valid.0 in
-    let high1 : src ≤ 255 = valid.1 in
+    let high0 : ep < 16 = valid.0 in
+    let high1 : src < 256 = valid.1 in
     call_bind _ ∙ (fill 0 15 ep _ _ (omega arith) (omega arith) (omega arith) ∙ (fill 0 255 src _ _ (omega arith) (omega arith) (omega arith) ∙ (filled)))
 call_fits (Read ep off len) valid =
-    let high0 : ep ≤ 15 = valid.0 in
+    let high0 : ep < 16 = valid.0 in
     let high1 : off ≤ 4294967295 = valid.1 in
     let high2 : len ≤ 4294967295 = valid.2 in
     call_read _ ∙ (fill 0 15 ep _ _ (omega arith) (omega arith) (omega arith) ∙ (fill 0 4294967295 off _ _ (omega arith) (omega arith) (omega arith) ∙ (fill 0 4294967295 len _ _ (omega arith) (omega arith) (omega arith) ∙ (filled))))
 call_fits (Write ep off len) valid =
-    let high0 : ep ≤ 15 = valid.0 in
+    let high0 : ep < 16 = valid.0 in
     let high1 : off ≤ 4294967295 = valid.1 in
     let high2 : len ≤ 4294967295 = valid.2 in
     call_write _ ∙ (fill 0 15 ep _ _ (omega arith) (omega arith) (omega arith) ∙ (fill 0 4294967295 off _ _ (omega arith) (omega arith) (omega arith) ∙ (fill 0 4294967295 len _ _ (omega arith) (omega arith) (omega arith) ∙ (filled))))
 call_fits (SendCall ep len) valid =
-    let high0 : ep ≤ 15 = valid.0 in
+    let high0 : ep < 16 = valid.0 in
     let high1 : len ≤ 4294967295 = valid.1 in
     call_send _ ∙ (fill 0 15 ep _ _ (omega arith) (omega arith) (omega arith) ∙ (fill 0 4294967295 len _ _ (omega arith) (omega arith) (omega arith) ∙ (filled)))
 call_fits (Credit ep) valid =
-    let high0 : ep ≤ 15 = valid in
+    let high0 : ep < 16 = valid in
     call_credit _ ∙ (fill 0 15 ep _ _ (omega arith) (omega arith) (omega arith) ∙ (filled))
 call_fits Exit valid =
     call_exit _ ∙ (filled)
+call_fits (Clear src) valid =
+    let high0 : src < 256 = valid in
+    call_clear _ ∙ (fill 0 255 src _ _ (omega arith) (omega arith) (omega arith) ∙ (filled))
 
-pub call_says : (c : Call) → IsValidCall c → call_from (call_words c) ≡ c
+pub call_says : (c : Call) → IsValidCall NODES c → call_from (call_words c) ≡ c
 unfolding call_from
 call_says (Derive src dst off len rights) valid =
-    let high0 : src ≤ 255 = valid.0 in
-    let high1 : dst ≤ 255 = valid.1 in
+    let high0 : src < 256 = valid.0 in
+    let high1 : dst < 256 = valid.1 in
     let high2 : off ≤ 4294967295 = valid.2 in
     let high3 : len ≤ 4294967295 = valid.3 in
     let high4 : rights ≤ 7 = valid.4 in
     rw (value src (omega arith), value dst (omega arith), value off (omega arith), value len (omega arith), value rights (omega arith)) refl
 call_says (Gate src dst label credits) valid =
-    let high0 : src ≤ 255 = valid.0 in
-    let high1 : dst ≤ 255 = valid.1 in
+    let high0 : src < 256 = valid.0 in
+    let high1 : dst < 256 = valid.1 in
     let high2 : label ≤ 4294967295 = valid.2 in
     let high3 : credits ≤ 64 = valid.4 in
     rw (value src (omega arith), value dst (omega arith), value label (omega arith), value credits (omega arith)) refl
 call_says (Obtain dst vpe src) valid =
-    let high0 : dst ≤ 255 = valid.0 in
-    let high1 : vpe ≤ 63 = valid.1 in
-    let high2 : src ≤ 255 = valid.2 in
+    let high0 : dst < 256 = valid.0 in
+    let high1 : vpe < NODES = valid.1 in
+    let high2 : src < 256 = valid.2 in
     rw (value dst (omega arith), value vpe (omega arith), value src (omega arith)) refl
 call_says (Delegate src vpe dst) valid =
-    let high0 : src ≤ 255 = valid.0 in
-    let high1 : vpe ≤ 63 = valid.1 in
-    let high2 : dst ≤ 255 = valid.2 in
+    let high0 : src < 256 = valid.0 in
+    let high1 : vpe < NODES = valid.1 in
+    let high2 : dst < 256 = valid.2 in
     rw (value src (omega arith), value vpe (omega arith), value dst (omega arith)) refl
 call_says (OpenSession dst name) valid =
-    let high0 : dst ≤ 255 = valid.0 in
+    let high0 : dst < 256 = valid.0 in
     let high1 : name ≤ 255 = valid.1 in
     rw (value dst (omega arith), value name (omega arith)) refl
 call_says (AskOffer dst session index) valid =
-    let high0 : dst ≤ 255 = valid.0 in
-    let high1 : session ≤ 255 = valid.1 in
+    let high0 : dst < 256 = valid.0 in
+    let high1 : session < 256 = valid.1 in
     let high2 : index ≤ 255 = valid.2 in
     rw (value dst (omega arith), value session (omega arith), value index (omega arith)) refl
 call_says (Revoke src) valid =
-    let high0 : src ≤ 255 = valid in
+    let high0 : src < 256 = valid in
     rw (value src (omega arith)) refl
 call_says (Bind ep src) valid =
-    let high0 : ep ≤ 15 = valid.0 in
-    let high1 : src ≤ 255 = valid.1 in
+    let high0 : ep < 16 = valid.0 in
+    let high1 : src < 256 = valid.1 in
     rw (value ep (omega arith), value src (omega arith)) refl
 call_says (Read ep off len) valid =
-    let high0 : ep ≤ 15 = valid.0 in
+    let high0 : ep < 16 = valid.0 in
     let high1 : off ≤ 4294967295 = valid.1 in
     let high2 : len ≤ 4294967295 = valid.2 in
     rw (value ep (omega arith), value off (omega arith), value len (omega arith)) refl
 call_says (Write ep off len) valid =
-    let high0 : ep ≤ 15 = valid.0 in
+    let high0 : ep < 16 = valid.0 in
     let high1 : off ≤ 4294967295 = valid.1 in
     let high2 : len ≤ 4294967295 = valid.2 in
     rw (value ep (omega arith), value off (omega arith), value len (omega arith)) refl
 call_says (SendCall ep len) valid =
-    let high0 : ep ≤ 15 = valid.0 in
+    let high0 : ep < 16 = valid.0 in
     let high1 : len ≤ 4294967295 = valid.1 in
     rw (value ep (omega arith), value len (omega arith)) refl
 call_says (Credit ep) valid =
-    let high0 : ep ≤ 15 = valid in
+    let high0 : ep < 16 = valid in
     rw (value ep (omega arith)) refl
 call_says Exit valid = refl
+call_says (Clear src) valid =
+    let high0 : src < 256 = valid in
+    rw (value src (omega arith)) refl
 
 -- the first word of a line
 line_kernels : (k : ℕ) (ws : List (List ℕ)) → form_fault (form k (codes "kernels" ∷ ws)) (codes "kernels" ∷ ws) ≡ form_fault (Number 1 16 ∷ []) ws
@@ -273,96 +284,96 @@ unfolding form_fault objects
 object_recv ws = refl
 
 -- a line as it is printed has its form
-pub line_fits : (k : ℕ) (d : Declaration) → 1 ≤ k → k ≤ 16 → IsInRange k d → IsSaid d → form_fault (form k (spelled d)) (spelled d) ≡ None
+pub line_fits : (k : ℕ) (d : Declaration) → 1 ≤ k → k ≤ MOST_KERNELS → IsInRange k d → IsSaid d → form_fault (form k (spelled d)) (spelled d) ≡ None
 line_fits k (Kernels n) some few ranges said = absurd said
 line_fits k (Pe p j) some few ranges said =
-    let a : p ≤ 63 = ranges.0 in
+    let a : p < NODES = ranges.0 in
     let b : j < k = ranges.1 in
     line_pe k _ ∙ (fill 0 63 p _ _ (omega arith) (omega arith) (omega arith) ∙ (fill 0 (k - 1) j _ _ (omega arith) (omega arith) (omega arith) ∙ filled))
 line_fits k (Vpe v p) some few ranges said =
-    let a : v ≤ 63 = ranges.0 in
-    let b : p ≤ 63 = ranges.1 in
+    let a : v < NODES = ranges.0 in
+    let b : p < NODES = ranges.1 in
     line_vpe k _ ∙ (fill 0 63 v _ _ (omega arith) (omega arith) (omega arith) ∙ (fill 0 63 p _ _ (omega arith) (omega arith) (omega arith) ∙ filled))
 line_fits k (Memory v s b l g) some few ranges said =
-    let a : v ≤ 63 = ranges.0 in
-    let c : s ≤ 255 = ranges.1 in
+    let a : v < NODES = ranges.0 in
+    let c : s < 256 = ranges.1 in
     let d : b ≤ 4294967295 = ranges.2 in
     let e : l ≤ 4294967295 = ranges.3 in
     let f : g ≤ 7 = ranges.4 in
     line_root k _ ∙ (fill 0 63 v _ _ (omega arith) (omega arith) (omega arith) ∙ (fill 0 255 s _ _ (omega arith) (omega arith) (omega arith) ∙ (object_mem _ ∙ (fill 0 4294967295 b _ _ (omega arith) (omega arith) (omega arith) ∙ (fill 0 4294967295 l _ _ (omega arith) (omega arith) (omega arith) ∙ (fill 0 7 g _ _ (omega arith) (omega arith) (omega arith) ∙ filled))))))
 line_fits k (Receive v s n) some few ranges said =
-    let a : v ≤ 63 = ranges.0 in
-    let c : s ≤ 255 = ranges.1 in
+    let a : v < NODES = ranges.0 in
+    let c : s < 256 = ranges.1 in
     let d : 1 ≤ n = ranges.2 in
     let e : n ≤ 64 = ranges.3 in
     line_root k _ ∙ (fill 0 63 v _ _ (omega arith) (omega arith) (omega arith) ∙ (fill 0 255 s _ _ (omega arith) (omega arith) (omega arith) ∙ (object_recv _ ∙ (fill 1 64 n _ _ (omega arith) (omega arith) (omega arith) ∙ filled))))
 line_fits k (Service v s n) some few ranges said =
-    let a : v ≤ 63 = ranges.0 in
-    let c : s ≤ 255 = ranges.1 in
+    let a : v < NODES = ranges.0 in
+    let c : s < 256 = ranges.1 in
     let d : n ≤ 255 = ranges.2 in
     line_service k _ ∙ (fill 0 63 v _ _ (omega arith) (omega arith) (omega arith) ∙ (fill 0 255 s _ _ (omega arith) (omega arith) (omega arith) ∙ (fill 0 255 n _ _ (omega arith) (omega arith) (omega arith) ∙ filled)))
 line_fits k (Offer n i s) some few ranges said =
     let a : n ≤ 255 = ranges.0 in
     let c : i ≤ 255 = ranges.1 in
-    let d : s ≤ 255 = ranges.2 in
+    let d : s < 256 = ranges.2 in
     line_offer k _ ∙ (fill 0 255 n _ _ (omega arith) (omega arith) (omega arith) ∙ (fill 0 255 i _ _ (omega arith) (omega arith) (omega arith) ∙ (fill 0 255 s _ _ (omega arith) (omega arith) (omega arith) ∙ filled)))
 line_fits k (Deny v w) some few ranges said =
-    let a : v ≤ 63 = ranges.0 in
-    let c : w ≤ 63 = ranges.1 in
+    let a : v < NODES = ranges.0 in
+    let c : w < NODES = ranges.1 in
     line_deny k _ ∙ (fill 0 63 v _ _ (omega arith) (omega arith) (omega arith) ∙ (fill 0 63 w _ _ (omega arith) (omega arith) (omega arith) ∙ filled))
 line_fits k (Kill v n) some few ranges said =
-    let a : v ≤ 63 = ranges.0 in
+    let a : v < NODES = ranges.0 in
     let c : n ≤ 4294967295 = ranges.1 in
     line_kill k _ ∙ (fill 0 63 v _ _ (omega arith) (omega arith) (omega arith) ∙ (fill 0 4294967295 n _ _ (omega arith) (omega arith) (omega arith) ∙ filled))
 line_fits k (Calls v c) some few ranges said =
-    let a : v ≤ 63 = ranges.0 in
+    let a : v < NODES = ranges.0 in
     line_call k _ ∙ (fill 0 63 v _ _ (omega arith) (omega arith) (omega arith) ∙ call_fits c ranges.1)
 line_fits k End some few ranges said = line_end k [] ∙ filled
 
 -- and says what was printed
-pub line_says : (k : ℕ) (d : Declaration) → k ≤ 16 → IsInRange k d → IsSaid d → declaration (spelled d) ≡ d
+pub line_says : (k : ℕ) (d : Declaration) → k ≤ MOST_KERNELS → IsInRange k d → IsSaid d → declaration (spelled d) ≡ d
 unfolding declaration root_from
 line_says k (Kernels n) few ranges said = absurd said
 line_says k (Pe p j) few ranges said =
-    let a : p ≤ 63 = ranges.0 in
+    let a : p < NODES = ranges.0 in
     let b : j < k = ranges.1 in
     rw (value p (omega arith), value j (omega arith)) refl
 line_says k (Vpe v p) few ranges said =
-    let a : v ≤ 63 = ranges.0 in
-    let b : p ≤ 63 = ranges.1 in
+    let a : v < NODES = ranges.0 in
+    let b : p < NODES = ranges.1 in
     rw (value v (omega arith), value p (omega arith)) refl
 line_says k (Memory v s b l g) few ranges said =
-    let a : v ≤ 63 = ranges.0 in
-    let c : s ≤ 255 = ranges.1 in
+    let a : v < NODES = ranges.0 in
+    let c : s < 256 = ranges.1 in
     let d : b ≤ 4294967295 = ranges.2 in
     let e : l ≤ 4294967295 = ranges.3 in
     let f : g ≤ 7 = ranges.4 in
     rw (value v (omega arith), value s (omega arith), value b (omega arith), value l (omega arith), value g (omega arith)) refl
 line_says k (Receive v s n) few ranges said =
-    let a : v ≤ 63 = ranges.0 in
-    let c : s ≤ 255 = ranges.1 in
+    let a : v < NODES = ranges.0 in
+    let c : s < 256 = ranges.1 in
     let e : n ≤ 64 = ranges.3 in
     rw (value v (omega arith), value s (omega arith), value n (omega arith)) refl
 line_says k (Service v s n) few ranges said =
-    let a : v ≤ 63 = ranges.0 in
-    let c : s ≤ 255 = ranges.1 in
+    let a : v < NODES = ranges.0 in
+    let c : s < 256 = ranges.1 in
     let d : n ≤ 255 = ranges.2 in
     rw (value v (omega arith), value s (omega arith), value n (omega arith)) refl
 line_says k (Offer n i s) few ranges said =
     let a : n ≤ 255 = ranges.0 in
     let c : i ≤ 255 = ranges.1 in
-    let d : s ≤ 255 = ranges.2 in
+    let d : s < 256 = ranges.2 in
     rw (value n (omega arith), value i (omega arith), value s (omega arith)) refl
 line_says k (Deny v w) few ranges said =
-    let a : v ≤ 63 = ranges.0 in
-    let c : w ≤ 63 = ranges.1 in
+    let a : v < NODES = ranges.0 in
+    let c : w < NODES = ranges.1 in
     rw (value v (omega arith), value w (omega arith)) refl
 line_says k (Kill v n) few ranges said =
-    let a : v ≤ 63 = ranges.0 in
+    let a : v < NODES = ranges.0 in
     let c : n ≤ 4294967295 = ranges.1 in
     rw (value v (omega arith), value n (omega arith)) refl
 line_says k (Calls v c) few ranges said =
-    let a : v ≤ 63 = ranges.0 in
+    let a : v < NODES = ranges.0 in
     rw (value v (omega arith), call_says c ranges.1) refl
 line_says k End few ranges said = refl
 
@@ -375,8 +386,8 @@ second_word : (ws : List (List ℕ)) → form_fault second_form (codes "kernels"
 unfolding form_fault second_form
 second_word ws = refl
 
-pub second_fits : (k : ℕ) → 1 ≤ k → k ≤ 16 → form_fault second_form (codes "kernels" ∷ decimal k ∷ []) ≡ None
+pub second_fits : (k : ℕ) → 1 ≤ k → k ≤ MOST_KERNELS → form_fault second_form (codes "kernels" ∷ decimal k ∷ []) ≡ None
 second_fits k some few = second_word _ ∙ (fill 1 16 k _ _ some few (omega arith) ∙ filled)
 
-pub second_says : (k : ℕ) → k ≤ 16 → number_at (codes "kernels" ∷ decimal k ∷ []) 1 ≡ k
+pub second_says : (k : ℕ) → k ≤ MOST_KERNELS → number_at (codes "kernels" ∷ decimal k ∷ []) 1 ≡ k
 second_says k few = value k (omega arith)

@@ -2,6 +2,7 @@
 use Rattle.std.proofs.Common.{◌≡◌, ℕ, ◌≤◌, Bool, true, false, cond, List, [], ◌∷◌, ◌++◌, map, Some, None, replicate, refl, ap, sym, subst, ◌∙◌, inl, inr}
 use Rattle.std.proofs.lemmas.Bool.{cases_Bool}
 use Rattle.sem_key.specs.MembershipTable.{MembershipTable}
+use Rattle.sem_trace.specs.declared.limits.TheConstants.{MOST_KERNELS}
 use Rattle.sem_trace.specs.declared.fault.Cause.{Cause}
 use Rattle.sem_trace.specs.declared.fault.Cause.TheVariants.{TooMany}
 use Rattle.sem_trace.specs.declared.declaration.Declaration.{Declaration}
@@ -26,7 +27,7 @@ unfolding owner_in
 owner_in-none p = refl
 
 -- so many kernels, and nothing is declared
-pub tells_kernels : (kernels n : ℕ) (t : Tables) (owners : MembershipTable) → 1 ≤ kernels → kernels ≤ 16 → owners ≡ record { kernels = kernels; owners = replicate n None } → Tells 1 [] t → Tells kernels [] (record t { owners = owners })
+pub tells_kernels : (kernels n : ℕ) (t : Tables) (owners : MembershipTable) → 1 ≤ kernels → kernels ≤ MOST_KERNELS → owners ≡ record { kernels = kernels; owners = replicate n None } → Tells 1 [] t → Tells kernels [] (record t { owners = owners })
 tells_kernels kernels n t owners some few is told = record {
   some = some;
   few = few;
@@ -57,7 +58,7 @@ first_refused stage lines words t cause at fault read =
     let start : IsReadTo Start lines t = subst (λ (s : Stage). IsReadTo s lines t) at read in
     rw start.0 fault
 
-pub second_line : (stage : Stage) (lines : List (List (List ℕ))) (words : List (List ℕ)) (t : Tables) (kernels n : ℕ) (owners : MembershipTable) → stage ≡ Named → IsReadTo stage lines t → form_fault second_form words ≡ None → kernels ≡ number_at words 1 → 1 ≤ kernels → kernels ≤ 16 → owners ≡ record { kernels = kernels; owners = replicate n None } → (words_fault lines words ≡ None) × IsReadTo Open (lines ++ words ∷ []) (record t { owners = owners })
+pub second_line : (stage : Stage) (lines : List (List (List ℕ))) (words : List (List ℕ)) (t : Tables) (kernels n : ℕ) (owners : MembershipTable) → stage ≡ Named → IsReadTo stage lines t → form_fault second_form words ≡ None → kernels ≡ number_at words 1 → 1 ≤ kernels → kernels ≤ MOST_KERNELS → owners ≡ record { kernels = kernels; owners = replicate n None } → (words_fault lines words ≡ None) × IsReadTo Open (lines ++ words ∷ []) (record t { owners = owners })
 unfolding words_fault is_ended
 second_line stage lines words t kernels n owners at read fits is some few empty =
     let named : IsReadTo Named lines t = subst (λ (s : Stage). IsReadTo s lines t) at read in

@@ -9,7 +9,9 @@ use Rattle.sem_key.specs.MembershipTable.{owner_at}
 use Rattle.sem_msg.specs.declared.setup.Root.{Root}
 use Rattle.sem_msg.specs.declared.setup.Offer.{Offer as OfferData}
 use Rattle.sem_msg.specs.declared.setup.VpeDecl.{VpeDecl}
-use Rattle.sem_msg.specs.Setup.{Setup, IsSetup, IsRootObject, IsRoot, IsVpeDecl}
+use Rattle.sem_msg.specs.Setup.{Setup, IsRootObject, IsRoot, IsVpeDecl}
+use Rattle.sem_trace.specs.TraceText.{TraceFits}
+use Rattle.sem_trace.specs.declared.limits.TheConstants.{WINDOW}
 use Rattle.sem_trace.specs.declared.declaration.Declaration.{Declaration}
 use Rattle.sem_trace.specs.declared.declaration.Declaration.TheVariants.{Kernels, Pe, Vpe, Memory, Receive, Service, Offer, Deny, Kill, Call as Calls, End}
 use Rattle.sem_reader.proofs.Enumerated.{in_cons, in_nil, here, there, all_in, pairs_cons, pairs_nil, pairs_head, pairs_tail, joined, joins, in_range, range_has}
@@ -39,6 +41,10 @@ deny_decl p = Deny p.0 p.1
 
 abbrev pub kill_decl : ℕ × ℕ → Declaration
 kill_decl p = Kill p.0 p.1
+
+-- the setup as it is read from its text
+abbrev pub as_read : Setup → Setup
+as_read T = record T { version = 1; window = WINDOW }
 
 -- the sections of the text
 abbrev pub section : Setup → ℕ → List Declaration
@@ -157,39 +163,39 @@ pub record IsRootLine (T : Setup) (e : Declaration) : Type 0 where
   pub valid : IsRoot root
   pub is : root_decl vpe.vpe root ≡ e
 
-pub in_roots : (T : Setup) → IsSetup T → (e : Declaration) → Contains (section T 2) e → IsRootLine T e
-in_roots T setup e within =
+pub in_roots : (T : Setup) → TraceFits (as_read T) → (e : Declaration) → Contains (section T 2) e → IsRootLine T e
+in_roots T fits e within =
     let j = joined (λ (d : VpeDecl). map (root_decl d.vpe) d.roots) T.vpes e within in
     let m = in_map (root_decl j.from.vpe) j.from.roots e j.has in
-    let d = All-contains (IsVpeDecl T) T.vpes j.from setup.vpes j.within in
+    let d = All-contains (IsVpeDecl (as_read T)) T.vpes j.from fits.setup.vpes j.within in
     record { vpe = j.from; declared = j.within; root = m.0; held = m.1; valid = All-contains IsRoot j.from.roots m.0 d.roots m.1; is = m.2 }
 
 -- each line has the rank of its section
-pub ranked : (T : Setup) → IsSetup T → (k : ℕ) → k < 8 → (e : Declaration) → Contains (section T k) e → rank e ≡ k
-ranked T setup zero small e within = let p = in_pes T e within in rw p.2 refl
-ranked T setup (suc zero) small e within = let m = in_map vpe_decl T.vpes e within in rw (← m.2) refl
-ranked T setup (suc (suc zero)) small e within = let r = in_roots T setup e within in rw (← r.is) (root_rank r.vpe.vpe r.root r.valid.kind)
-ranked T setup (suc (suc (suc zero))) small e within = let m = in_map offer_decl T.offers e within in rw (← m.2) refl
-ranked T setup (suc (suc (suc (suc zero)))) small e within = let m = in_map deny_decl T.denies e within in rw (← m.2) refl
-ranked T setup (suc (suc (suc (suc (suc zero))))) small e within = let m = in_map kill_decl T.kills e within in rw (← m.2) refl
-ranked T setup (suc (suc (suc (suc (suc (suc zero)))))) small e within =
+pub ranked : (T : Setup) → TraceFits (as_read T) → (k : ℕ) → k < 8 → (e : Declaration) → Contains (section T k) e → rank e ≡ k
+ranked T fits zero small e within = let p = in_pes T e within in rw p.2 refl
+ranked T fits (suc zero) small e within = let m = in_map vpe_decl T.vpes e within in rw (← m.2) refl
+ranked T fits (suc (suc zero)) small e within = let r = in_roots T fits e within in rw (← r.is) (root_rank r.vpe.vpe r.root r.valid.kind)
+ranked T fits (suc (suc (suc zero))) small e within = let m = in_map offer_decl T.offers e within in rw (← m.2) refl
+ranked T fits (suc (suc (suc (suc zero)))) small e within = let m = in_map deny_decl T.denies e within in rw (← m.2) refl
+ranked T fits (suc (suc (suc (suc (suc zero))))) small e within = let m = in_map kill_decl T.kills e within in rw (← m.2) refl
+ranked T fits (suc (suc (suc (suc (suc (suc zero)))))) small e within =
     let j = joined (λ (d : VpeDecl). map (Calls d.vpe) d.calls) T.vpes e within in
     let m = in_map (Calls j.from.vpe) j.from.calls e j.has in
     rw (← m.2) refl
-ranked T setup (suc (suc (suc (suc (suc (suc (suc zero))))))) small e within =
+ranked T fits (suc (suc (suc (suc (suc (suc (suc zero))))))) small e within =
     elim (in_cons End [] e within) [
       | inl is ↦ rw (← is) refl
       | inr none ↦ absurd (in_nil e none)
     ]
-ranked T setup (suc (suc (suc (suc (suc (suc (suc (suc k)))))))) small e within = absurd (omega arith)
+ranked T fits (suc (suc (suc (suc (suc (suc (suc (suc k)))))))) small e within = absurd (omega arith)
 
 -- a line stands in the section of its rank
-pub in_section : (T : Setup) → IsSetup T → (e : Declaration) (k : ℕ) → Contains (said_by T) e → rank e ≡ k → Contains (section T k) e
+pub in_section : (T : Setup) → TraceFits (as_read T) → (e : Declaration) (k : ℕ) → Contains (said_by T) e → rank e ≡ k → Contains (section T k) e
 unfolding said_by
-in_section T setup e k within is =
+in_section T fits e k within is =
     let j = joined (section T) (range_with_len 0 8) e within in
     let r = in_range 0 8 j.from j.within in
-    let same : j.from ≡ k = sym (ranked T setup j.from (omega arith) e j.has) ∙ is in
+    let same : j.from ≡ k = sym (ranked T fits j.from (omega arith) e j.has) ∙ is in
     subst (λ (n : ℕ). Contains (section T n) e) same j.has
 
 pub has_section : (T : Setup) (e : Declaration) (k : ℕ) → k < 8 → Contains (section T k) e → Contains (said_by T) e

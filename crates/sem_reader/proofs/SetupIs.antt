@@ -10,6 +10,7 @@ use Rattle.std.proofs.lemmas.Map.Steps.{length-le_from_distinct_below}
 use Rattle.std.proofs.lemmas.Map.Made.{IsDistinct-from_AllPairs}
 use Rattle.std.proofs.lemmas.Bool.Decides.{Decides-eqb}
 use Rattle.std.proofs.lemmas.List.{length-map}
+use Rattle.sem_key.specs.declared.limits.TheConstants.{PES}
 use Rattle.sem_key.specs.declared.object.Object.{Object}
 use Rattle.sem_key.specs.declared.object.Object.TheVariants.{Mem, Recv, Send, Serv, Sess}
 use Rattle.sem_key.specs.KeyName.{KeyName}
@@ -21,6 +22,8 @@ use Rattle.sem_msg.specs.declared.setup.Offer.{Offer as OfferData}
 use Rattle.sem_msg.specs.declared.setup.VpeDecl.{VpeDecl}
 use Rattle.sem_msg.specs.Calls.{IsWord}
 use Rattle.sem_msg.specs.Setup.{Setup, IsSetup, IsVpeDecl, IsRoot, IsOffer, IsDeclared, ComesBefore, offer_place, services_from, service_with, root_key}
+use Rattle.sem_trace.specs.TraceText.{TraceFits}
+use Rattle.sem_trace.specs.declared.limits.TheConstants.{NODES, MOST_KERNELS, WINDOW}
 use Rattle.sem_trace.specs.declared.declaration.Declaration.{Declaration}
 use Rattle.sem_trace.specs.declared.declaration.Declaration.TheVariants.{Call as Calls}
 use Rattle.sem_trace.specs.Earlier.{owner_in, pe_in, roots_in, said_call, calls_in, vpe_in, offer_in, is_denied, kill_in, call_number, is_call}
@@ -34,18 +37,18 @@ use Rattle.sem_reader.proofs.Sound as sound
 
 -- what a VPE of the setup is
 pub record IsVpeOf (ds : List Declaration) (d : VpeDecl) : Type 0 where
-  pub vpe : d.vpe ≤ 63
+  pub vpe : d.vpe < NODES
   pub pe : pe_in ds d.vpe ≡ Some d.pe
   pub roots : d.roots ≡ roots_in ds d.vpe
   pub calls : d.calls ≡ calls_in ds d.vpe
 
-said_vpe : (ds : List Declaration) (v : ℕ) (d : VpeDecl) (o : Option ℕ) → v ≤ 63 → pe_in ds v ≡ o → option_map (λ p. record { vpe = v; pe = p; roots = roots_in ds v; calls = calls_in ds v }) o ≡ Some d → IsVpeOf ds d × (v ≡ d.vpe)
+said_vpe : (ds : List Declaration) (v : ℕ) (d : VpeDecl) (o : Option ℕ) → v < NODES → pe_in ds v ≡ o → option_map (λ p. record { vpe = v; pe = p; roots = roots_in ds v; calls = calls_in ds v }) o ≡ Some d → IsVpeOf ds d × (v ≡ d.vpe)
 said_vpe ds v d None small on some = absurd (none-some d some)
 said_vpe ds v d (Some p) small on some =
     let is : record { vpe = v; pe = p; roots = roots_in ds v; calls = calls_in ds v } ≡ d = same_Some _ d some in
     subst (λ (e : VpeDecl). IsVpeOf ds e × (v ≡ e.vpe)) is (record { vpe = small; pe = on; roots = refl; calls = refl }, refl)
 
-vpe_is : (ds : List Declaration) (v : ℕ) (d : VpeDecl) → v ≤ 63 → vpe_in ds v ≡ Some d → IsVpeOf ds d × (v ≡ d.vpe)
+vpe_is : (ds : List Declaration) (v : ℕ) (d : VpeDecl) → v < NODES → vpe_in ds v ≡ Some d → IsVpeOf ds d × (v ≡ d.vpe)
 unfolding vpe_in
 vpe_is ds v d small some = said_vpe ds v d (pe_in ds v) small refl some
 
@@ -61,7 +64,7 @@ pub vpe_of : (ds : List Declaration) (d : VpeDecl) → Contains (vpes_of ds) d �
 unfolding vpes_of numbers
 vpe_of ds d within =
     let g = given (vpe_in ds) (range_with_len 0 64) d within in
-    let small : g.from ≤ 63 = let r = in_range 0 64 g.from g.within in omega arith in
+    let small : g.from < NODES = let r = in_range 0 64 g.from g.within in omega arith in
     (vpe_is ds g.from d small g.gives).0
 
 pub vpes_rise : (ds : List Declaration) → AllPairs (λ a b. a.vpe < b.vpe) (vpes_of ds)
@@ -88,7 +91,7 @@ selectors_below : (roots : List Root) → All IsRoot roots → (q : ℕ) → lis
 selectors_below [] all q some = absurd (true≢false (sym some))
 selectors_below (r ∷ rs) all q some =
     elim (or_cases (eqb q r.sel) _ some) [
-      | inl same ↦ let is : q ≡ r.sel = eqb-true q r.sel same in let sel : r.sel ≤ 255 = (All-head IsRoot r rs all).selector in omega arith
+      | inl same ↦ let is : q ≡ r.sel = eqb-true q r.sel same in let sel : r.sel < 256 = (All-head IsRoot r rs all).selector in omega arith
       | inr rest ↦ selectors_below rs (All-tail IsRoot r rs all) q rest
     ]
 
@@ -419,58 +422,60 @@ few_calls kernels ds accepted =
 
 -- the table of owners
 abbrev owners : ℕ → List Declaration → MembershipTable
-owners kernels ds = record { kernels = kernels; owners = map (owner_in ds) (numbers 64) }
+owners kernels ds = record { kernels = kernels; owners = map (owner_in ds) (numbers PES) }
 
-owners_are : (kernels : ℕ) (ds : List Declaration) → 1 ≤ kernels → kernels ≤ 16 → AreAccepted kernels ds → IsMembership (owners kernels ds)
+owners_are : (kernels : ℕ) (ds : List Declaration) → 1 ≤ kernels → kernels ≤ MOST_KERNELS → AreAccepted kernels ds → IsMembership (owners kernels ds)
 unfolding numbers
 owners_are kernels ds some few accepted = record {
   some_kernel = some;
-  few_kernels = few;
-  all_pes = rw length-map (length-range 0 64);
+  few_kernels = omega arith;
+  all_pes = rw length-map (length-range 0 PES);
   owners_exist = λ pe kernel owned.
       let e : 0 + pe ≡ pe = omega arith in
-      let said : owner_in ds pe ≡ Some kernel = rw e at (in_table (owner_in ds) 0 64 pe kernel owned) in
+      let said : owner_in ds pe ≡ Some kernel = rw e at (in_table (owner_in ds) 0 PES pe kernel owned) in
       sound.owners_exist kernels ds accepted pe kernel said;
 }
 
-owned_in : (kernels : ℕ) (ds : List Declaration) (p : ℕ) → p ≤ 63 → IsSome (owner_in ds p) → IsSome (owner_at (owners kernels ds) p)
+owned_in : (kernels : ℕ) (ds : List Declaration) (p : ℕ) → p < NODES → IsSome (owner_in ds p) → IsSome (owner_at (owners kernels ds) p)
 unfolding numbers
 owned_in kernels ds p small some =
     let e : 0 + p ≡ p = omega arith in
-    let same : get_or (map (owner_in ds) (range_with_len 0 64)) p None ≡ owner_in ds p = rw e at (table_has (owner_in ds) 0 64 p (omega arith)) in
+    let same : get_or (map (owner_in ds) (range_with_len 0 PES)) p None ≡ owner_in ds p = rw e at (table_has (owner_in ds) 0 PES p (omega arith)) in
     rw same some
 
 -- an element, as `Any` has it
 any_in : {X : Type 0} (P : X → Type 0) (xs : List X) (x : X) → Contains xs x → P x → Any P xs
 any_in P xs x (k, lt, is) holds = (k, x, lt, is, holds)
 
-vpe_is_declared : (kernels : ℕ) (ds : List Declaration) (T : Setup) (d : VpeDecl) → AreAccepted kernels ds → T.owners ≡ owners kernels ds → Contains (vpes_of ds) d → IsVpeDecl T d
-vpe_is_declared kernels ds T d accepted table within =
+vpe_is_declared : (kernels : ℕ) (ds : List Declaration) (T : Setup) (d : VpeDecl) → AreAccepted kernels ds → T.version ≡ 1 → T.owners ≡ owners kernels ds → Contains (vpes_of ds) d → IsVpeDecl T d
+vpe_is_declared kernels ds T d accepted first table within =
     let v = vpe_of ds d within in
     let placed = sound.placed kernels ds accepted d.vpe d.pe v.pe in
     let r = sound.roots kernels ds accepted d.vpe in
     record {
-      vpe = v.vpe;
-      pe = placed.pe;
+      vpe = rw first v.vpe;
+      pe = rw first placed.pe;
       owned = rw table (owned_in kernels ds d.pe placed.pe placed.owned);
       selectors_differ = rw v.roots r.differ;
       roots = rw v.roots r.valid;
-      calls = rw v.calls (sound.calls kernels ds accepted d.vpe);
+      calls = rw (first, v.calls) (sound.calls kernels ds accepted d.vpe);
     }
 
 -- what accepted lines declare is a setup
-pub setup_is : (kernels : ℕ) (ds : List Declaration) → 1 ≤ kernels → kernels ≤ 16 → AreAccepted kernels ds → IsSetup (setup_of kernels ds)
+pub setup_is : (kernels : ℕ) (ds : List Declaration) → 1 ≤ kernels → kernels ≤ MOST_KERNELS → AreAccepted kernels ds → IsSetup (setup_of kernels ds)
 unfolding setup_of
 setup_is kernels ds some few accepted =
     let rise : AllPairs (λ (a b : VpeDecl). a.vpe < b.vpe) (vpes_of ds) = vpes_rise ds in
     let served : AllPairs (λ (a b : ServiceData). a.name < b.name) (services_of (vpes_of ds)) = services_rise (vpes_of ds) in
     let apart = sound.apart kernels ds accepted in
     record {
+      versioned = inl refl;
+      windowed = (omega arith, omega arith);
       some_kernel = some;
       few_kernels = few;
       membership = owners_are kernels ds some few accepted;
       same_kernels = refl;
-      vpes = all_in (IsVpeDecl (setup_of kernels ds)) (vpes_of ds) (λ d within. vpe_is_declared kernels ds (setup_of kernels ds) d accepted refl within);
+      vpes = all_in (IsVpeDecl (setup_of kernels ds)) (vpes_of ds) (λ d within. vpe_is_declared kernels ds (setup_of kernels ds) d accepted refl refl within);
       vpes_rise = rise;
       pes_differ = λ i j d lt within same.
           let a = vpe_of ds (get_or (vpes_of ds) i d) (Contains-get_or (vpes_of ds) i d (omega arith)) in
@@ -499,8 +504,22 @@ setup_is kernels ds some few accepted =
       few_calls = few_calls kernels ds accepted;
     }
 
+-- a trace can tell it
+owned_small : (kernels : ℕ) (ds : List Declaration) → AreAccepted kernels ds → (p : ℕ) → IsSome (owner_at (owners kernels ds) p) → p < NODES
+unfolding numbers
+owned_small kernels ds accepted p some =
+    let e : 0 + p ≡ p = omega arith in
+    elim (sound.some_or_none (owner_at (owners kernels ds) p)) [
+      | inl none ↦ absurd (true≢false (sym (rw none at some)))
+      | inr owned ↦ sound.owners_small kernels ds accepted p owned.0 (rw e at (in_table (owner_in ds) 0 PES p owned.0 owned.1))
+    ]
+
+pub trace_fits : (kernels : ℕ) (ds : List Declaration) → 1 ≤ kernels → kernels ≤ MOST_KERNELS → AreAccepted kernels ds → TraceFits (setup_of kernels ds)
+unfolding setup_of
+trace_fits kernels ds some few accepted = record { setup = setup_is kernels ds some few accepted; version = refl; owned = owned_small kernels ds accepted }
+
 abbrev pub made_setup : ℕ → MembershipTable → List VpeDecl → List ServiceData → List OfferData → List (ℕ × ℕ) → List (ℕ × ℕ) → Setup
-made_setup k table vpes services offers denies kills = record { kernels = k; owners = table; vpes = vpes; services = services; offers = offers; denies = denies; kills = kills }
+made_setup k table vpes services offers denies kills = record { version = 1; window = WINDOW; kernels = k; owners = table; vpes = vpes; services = services; offers = offers; denies = denies; kills = kills }
 
 abbrev table_of : ℕ → List (Option ℕ) → MembershipTable
 table_of k list = record { kernels = k; owners = list }
@@ -509,9 +528,9 @@ same_owners : (k kernels : ℕ) (a b : List (Option ℕ)) → k ≡ kernels → 
 same_owners k kernels a b number list = rw (number, list) refl
 
 -- what the code makes of its tables is that setup
-pub same_setup : (kernels k : ℕ) (ds : List Declaration) (table : MembershipTable) (vpes : List VpeDecl) (services : List ServiceData) (offers : List OfferData) (denies kills : List (ℕ × ℕ)) → length table.owners ≡ 64 → table.kernels ≡ kernels → ((p : ℕ) → owner_at table p ≡ owner_in ds p) → k ≡ table.kernels → vpes ≡ vpes_of ds → services ≡ services_of vpes → offers ≡ offers_of ds services → denies ≡ denies_of ds vpes → kills ≡ kills_of ds vpes → made_setup k table vpes services offers denies kills ≡ setup_of kernels ds
+pub same_setup : (kernels k : ℕ) (ds : List Declaration) (table : MembershipTable) (vpes : List VpeDecl) (services : List ServiceData) (offers : List OfferData) (denies kills : List (ℕ × ℕ)) → length table.owners ≡ PES → table.kernels ≡ kernels → ((p : ℕ) → owner_at table p ≡ owner_in ds p) → k ≡ table.kernels → vpes ≡ vpes_of ds → services ≡ services_of vpes → offers ≡ offers_of ds services → denies ≡ denies_of ds vpes → kills ≡ kills_of ds vpes → made_setup k table vpes services offers denies kills ≡ setup_of kernels ds
 unfolding setup_of numbers
 same_setup kernels k ds table vpes services offers denies kills long number tells is v s o d l =
-    let list : table.owners ≡ map (owner_in ds) (range_with_len 0 64) = same_table (owner_in ds) table.owners 0 64 long (λ i. tells i ∙ (let e : i ≡ 0 + i = omega arith in ap (owner_in ds) e)) in
-    let whole : table ≡ owners kernels ds = same_owners table.kernels kernels table.owners (map (owner_in ds) (range_with_len 0 64)) number list in
+    let list : table.owners ≡ map (owner_in ds) (range_with_len 0 PES) = same_table (owner_in ds) table.owners 0 PES long (λ i. tells i ∙ (let e : i ≡ 0 + i = omega arith in ap (owner_in ds) e)) in
+    let whole : table ≡ owners kernels ds = same_owners table.kernels kernels table.owners (map (owner_in ds) (range_with_len 0 PES)) number list in
     rw (is, number, whole, l, d, o, s, v) refl

@@ -12,6 +12,7 @@ use Rattle.sem_msg.specs.declared.call.Call.{Call}
 use Rattle.sem_msg.specs.declared.setup.Root.{Root}
 use Rattle.sem_msg.specs.Calls.{IsWord, IsValidCall}
 use Rattle.sem_msg.specs.Setup.{IsRoot}
+use Rattle.sem_trace.specs.declared.limits.TheConstants.{NODES}
 use Rattle.sem_trace.specs.declared.declaration.Declaration.{Declaration}
 use Rattle.sem_trace.specs.declared.declaration.Declaration.TheVariants.{Pe, Vpe, Memory, Receive, Service, Offer, Kill, Call as Calls}
 use Rattle.sem_trace.specs.Earlier.{said_owner, owner_in, said_pe, pe_in, is_taken, said_root, roots_in, holds_at, said_call, calls_in, has_service, said_offer, offer_in, said_kill, kill_in, call_number, is_call}
@@ -32,7 +33,7 @@ module _ (kernels : ℕ) (P : List Declaration → Type 0) (none : P []) (more :
   pub by_lines : (ds : List Declaration) → AreAccepted kernels ds → P ds
   by_lines ds accepted = from_front [] ds accepted none
 
-some_or_none : {X : Type 0} (o : Option X) → (o ≡ None) ⊎ ((x : X) × (o ≡ Some x))
+pub some_or_none : {X : Type 0} (o : Option X) → (o ≡ None) ⊎ ((x : X) × (o ≡ Some x))
 some_or_none None = inl refl
 some_or_none (Some x) = inr (x, refl)
 
@@ -83,6 +84,20 @@ owners_exist kernels = by_lines kernels (λ ds. (p kernel : ℕ) → owner_in ds
       | inr new ↦ said_owner_range kernels p d kernel ranges new.1
     ])
 
+-- each PE that has an owner is one of which a text can speak
+said_owner_small : (kernels p : ℕ) (d : Declaration) (kernel : ℕ) → IsInRange kernels d → said_owner p d ≡ Some kernel → p < NODES
+said_owner_small kernels p (Pe q k) kernel ranges some = let same = if_same q p k kernel some in rw (← same.0) ranges.0
+said_owner_small kernels p d kernel ranges some = absurd (none-some kernel some)
+
+pub owners_small : (kernels : ℕ) (ds : List Declaration) → AreAccepted kernels ds → (p kernel : ℕ) → owner_in ds p ≡ Some kernel → p < NODES
+owners_small kernels = by_lines kernels (λ ds. (p kernel : ℕ) → owner_in ds p ≡ Some kernel → p < NODES)
+    (λ p kernel some. absurd (nobody p kernel some))
+    (λ ds d so_far ranges fault p kernel some.
+    elim (or_last (owner_in ds p) (said_owner p d) kernel (sym (owner_in-more ds d p) ∙ some)) [
+      | inl old ↦ so_far p kernel old
+      | inr new ↦ said_owner_small kernels p d kernel ranges new.1
+    ])
+
 -- a VPE is declared by its line
 said_vpe : (v : ℕ) (d : Declaration) (p : ℕ) → said_pe v d ≡ Some p → d ≡ Vpe v p
 said_vpe v (Vpe w q) p some = let same = if_same w v q p some in rw (same.0, same.1) refl
@@ -94,8 +109,8 @@ no_vpe v x some = none-some x some
 
 -- the PE of a VPE is a PE that has an owner, and is taken
 pub record IsPlaced (ds : List Declaration) (v p : ℕ) : Type 0 where
-  pub vpe : v ≤ 63
-  pub pe : p ≤ 63
+  pub vpe : v < NODES
+  pub pe : p < NODES
   pub owned : IsSome (owner_in ds p)
   pub taken : is_taken ds p ≡ true
 
@@ -232,21 +247,21 @@ roots kernels = by_lines kernels (λ ds. (v : ℕ) → AreRoots (roots_in ds v))
     (one_root_more kernels)
 
 -- the calls of a VPE are calls
-said_call_is : (kernels : ℕ) (v : ℕ) (d : Declaration) (call : Call) → IsInRange kernels d → said_call v d ≡ Some call → IsValidCall call
-said_call_is kernels v (Calls w c) call ranges some = subst IsValidCall (if_same w v c call some).1 ranges.1
+said_call_is : (kernels : ℕ) (v : ℕ) (d : Declaration) (call : Call) → IsInRange kernels d → said_call v d ≡ Some call → IsValidCall NODES call
+said_call_is kernels v (Calls w c) call ranges some = subst (IsValidCall NODES) (if_same w v c call some).1 ranges.1
 said_call_is kernels v d call ranges some = absurd (none-some call some)
 
 no_calls : (v : ℕ) → calls_in [] v ≡ []
 unfolding calls_in
 no_calls v = refl
 
-pub calls : (kernels : ℕ) (ds : List Declaration) → AreAccepted kernels ds → (v : ℕ) → All IsValidCall (calls_in ds v)
-calls kernels = by_lines kernels (λ ds. (v : ℕ) → All IsValidCall (calls_in ds v))
-    (λ v. rw (no_calls v) (All-nil IsValidCall))
+pub calls : (kernels : ℕ) (ds : List Declaration) → AreAccepted kernels ds → (v : ℕ) → All (IsValidCall NODES) (calls_in ds v)
+calls kernels = by_lines kernels (λ ds. (v : ℕ) → All (IsValidCall NODES) (calls_in ds v))
+    (λ v. rw (no_calls v) (All-nil (IsValidCall NODES)))
     (λ ds d so_far ranges fault v.
     elim (some_or_none (said_call v d)) [
       | inl none ↦ rw (calls_in-same ds d v none) (so_far v)
-      | inr some ↦ rw (calls_in-new ds d v some.0 some.1) (All-push IsValidCall (calls_in ds v) some.0 (so_far v) (said_call_is kernels v d some.0 ranges some.1))
+      | inr some ↦ rw (calls_in-new ds d v some.0 some.1) (All-push (IsValidCall NODES) (calls_in ds v) some.0 (so_far v) (said_call_is kernels v d some.0 ranges some.1))
     ])
 
 -- the selectors of offers, and the numbers of kills
@@ -255,7 +270,7 @@ if_both true true x y some = same_Some x y some
 if_both true false x y some = absurd (none-some y some)
 if_both false b x y some = absurd (none-some y some)
 
-said_offer_range : (kernels name index : ℕ) (d : Declaration) (s : ℕ) → IsInRange kernels d → said_offer name index d ≡ Some s → s ≤ 255
+said_offer_range : (kernels name index : ℕ) (d : Declaration) (s : ℕ) → IsInRange kernels d → said_offer name index d ≡ Some s → s < 256
 said_offer_range kernels name index (Offer n i t) s ranges some = rw (← if_both (n == name) (i == index) t s some) ranges.2
 said_offer_range kernels name index d s ranges some = absurd (none-some s some)
 
@@ -263,8 +278,8 @@ no_offer : (name index s : ℕ) → offer_in [] name index ≡ Some s → ⊥
 unfolding offer_in
 no_offer name index s some = none-some s some
 
-pub offers : (kernels : ℕ) (ds : List Declaration) → AreAccepted kernels ds → (name index s : ℕ) → offer_in ds name index ≡ Some s → s ≤ 255
-offers kernels = by_lines kernels (λ ds. (name index s : ℕ) → offer_in ds name index ≡ Some s → s ≤ 255)
+pub offers : (kernels : ℕ) (ds : List Declaration) → AreAccepted kernels ds → (name index s : ℕ) → offer_in ds name index ≡ Some s → s < 256
+offers kernels = by_lines kernels (λ ds. (name index s : ℕ) → offer_in ds name index ≡ Some s → s < 256)
     (λ name index s some. absurd (no_offer name index s some))
     (λ ds d so_far ranges fault name index s some.
     elim (or_last (offer_in ds name index) (said_offer name index d) s (sym (offer_in-more ds d name index) ∙ some)) [

@@ -5,12 +5,14 @@ use Rattle.std.specs.List.{AllPairs, Contains, list_all, filter, range_with_len}
 use Rattle.std.proofs.lemmas.Bool.{cases_eq}
 use Rattle.std.proofs.lemmas.List.{length-map}
 use Rattle.std.proofs.lemmas.List.Elements.{Contains-get_or, Contains-append_left, Contains-append_right}
-use Rattle.sem_msg.specs.Setup.{Setup, IsSetup}
+use Rattle.sem_msg.specs.Versions.{IsWindow}
+use Rattle.sem_msg.specs.Setup.{Setup}
 use Rattle.sem_text.specs.Lines.{text}
+use Rattle.sem_trace.specs.declared.limits.TheConstants.{WINDOW}
 use Rattle.sem_trace.specs.declared.fault.TraceFault.{TraceFault}
 use Rattle.sem_trace.specs.declared.declaration.Declaration.{Declaration}
 use Rattle.sem_trace.specs.declared.declaration.Declaration.TheVariants.{End}
-use Rattle.sem_trace.specs.TraceText.{canonical}
+use Rattle.sem_trace.specs.TraceText.{canonical, TraceFits}
 use Rattle.sem_trace.specs.TextLines.{lines_of, words_of, is_significant, significant, bytes_fault}
 use Rattle.sem_trace.specs.Forms.{form, form_fault, first_form, second_form}
 use Rattle.sem_trace.specs.Declarations.{number_at, declaration}
@@ -21,7 +23,7 @@ use Rattle.sem_trace.specs.Standing.{setup_of, Stands}
 use Rattle.sem_reader.proofs.Enumerated.{in_cons, here, there, all_in, pairs_joined, in_range, range_rises}
 use Rattle.sem_reader.proofs.PlainText.{are_plain, width, bare, words_printed, lines_printed, bytes_fit, length-bare, length-text}
 use Rattle.sem_reader.proofs.PrintedLines.{spelled, line_fits, line_says, first_fits, second_fits, second_says}
-use Rattle.sem_reader.proofs.Sections.{section, said_by, rank, in_map, ranked, has_section}
+use Rattle.sem_reader.proofs.Sections.{section, said_by, rank, in_map, ranked, has_section, as_read}
 use Rattle.sem_reader.proofs.Printed.{printed, pairs_middle, any_there, all_accepted}
 use Rattle.sem_reader.proofs.Canonical.{same_whole}
 use Rattle.sem_reader.proofs.Written.{IsShort, line_short, kernels_short, first_short, line_significant, all_lines, trace_is, few_lines}
@@ -48,17 +50,17 @@ record IsGood (ws : List (List ℕ)) : Type 0 where
   pub short : IsShort 64 ws
   pub says : is_significant ws ≡ true
 
-good_line : (T : Setup) → IsSetup T → (ws : List (List ℕ)) → Contains (all_lines T) ws → IsGood ws
-good_line T setup ws within =
+good_line : (T : Setup) → TraceFits (as_read T) → (ws : List (List ℕ)) → Contains (all_lines T) ws → IsGood ws
+good_line T fits ws within =
     elim (in_cons (codes "semper" ∷ codes "trace" ∷ codes "1" ∷ []) ((codes "kernels" ∷ decimal T.kernels ∷ []) ∷ map spelled (said_by T)) ws within) [
       | inl is ↦ subst IsGood is (record { short = first_short; says = refl })
       | inr later ↦
           elim (in_cons (codes "kernels" ∷ decimal T.kernels ∷ []) (map spelled (said_by T)) ws later) [
-            | inl is ↦ subst IsGood is (record { short = kernels_short T.kernels setup.few_kernels; says = refl })
+            | inl is ↦ subst IsGood is (record { short = kernels_short T.kernels fits.setup.few_kernels; says = refl })
             | inr rest ↦
                 let m = in_map spelled (said_by T) ws rest in
-                let p = printed T setup m.0 m.1 in
-                subst IsGood m.2 (record { short = line_short T.kernels m.0 setup.few_kernels p.ranges p.said; says = line_significant m.0 p.said })
+                let p = printed T fits m.0 m.1 in
+                subst IsGood m.2 (record { short = line_short T.kernels m.0 fits.setup.few_kernels p.ranges p.said; says = line_significant m.0 p.said })
           ]
     ]
 
@@ -101,21 +103,21 @@ no_fault ls i lt good fine =
     (line_good (take i ls) w (bare w) (bytes_fit w g.short.plain (omega arith)) (words_printed w g.short.plain) g.says fine)
 
 -- the last line is the only one that ends the text
-ends_section : (T : Setup) → IsSetup T → (k : ℕ) → k < 8 → AllPairs (λ a b. rank a ≢ 7) (section T k)
-ends_section T setup k small i j d lt within =
-    let x = ranked T setup k small (get_or (section T k) i d) (Contains-get_or (section T k) i d (omega arith)) in
+ends_section : (T : Setup) → TraceFits (as_read T) → (k : ℕ) → k < 8 → AllPairs (λ a b. rank a ≢ 7) (section T k)
+ends_section T fits k small i j d lt within =
+    let x = ranked T fits k small (get_or (section T k) i d) (Contains-get_or (section T k) i d (omega arith)) in
     elim (cases_eq k 7) [
       | inl is ↦ let one : length (section T k) ≡ 1 = ap (λ (n : ℕ). length (section T n)) is in absurd (omega arith)
       | inr other ↦ λ same. other (sym x ∙ same)
     ]
 
-ends_last : (T : Setup) → IsSetup T → AllPairs (λ a b. rank a ≢ 7) (said_by T)
+ends_last : (T : Setup) → TraceFits (as_read T) → AllPairs (λ a b. rank a ≢ 7) (said_by T)
 unfolding said_by
-ends_last T setup =
+ends_last T fits =
     pairs_joined (section T) (λ (k l : ℕ). (l < 8) × (k < l)) (λ (a b : Declaration). rank a ≢ 7) (range_with_len 0 8)
     (λ i j d lt within. let r = in_range 0 8 (get_or (range_with_len 0 8) j d) (Contains-get_or (range_with_len 0 8) j d within) in (omega arith, range_rises 0 8 i j d lt within))
-    (λ k within. let r = in_range 0 8 k within in ends_section T setup k (omega arith))
-    (λ k l a b less within within'. let s : l < 8 = less.0 in let t : k < l = less.1 in let x = ranked T setup k (omega arith) a within in λ same. absurd (omega arith))
+    (λ k within. let r = in_range 0 8 k within in ends_section T fits k (omega arith))
+    (λ k l a b less within within'. let s : l < 8 = less.0 in let t : k < l = less.1 in let x = ranked T fits k (omega arith) a within in λ same. absurd (omega arith))
 
 not_end : (e : Declaration) → rank e ≢ 7 → is_end e ≡ false
 not_end End other = absurd (other refl)
@@ -127,28 +129,28 @@ not_ended [] other = refl
 not_ended (d ∷ ds) other = rw (not_end d (other d (here d ds)), not_ended ds (λ e within. other e (there d ds e within))) refl
 
 -- the words of printed lines say what was printed
-says_all : (T : Setup) → IsSetup T → (ds : List Declaration) → ((e : Declaration) → Contains ds e → Contains (said_by T) e) → map declaration (map spelled ds) ≡ ds
-says_all T setup [] within = refl
-says_all T setup (d ∷ ds) within =
-    let p = printed T setup d (within d (here d ds)) in
-    rw (line_says T.kernels d setup.few_kernels p.ranges p.said, says_all T setup ds (λ e inside. within e (there d ds e inside))) refl
+says_all : (T : Setup) → TraceFits (as_read T) → (ds : List Declaration) → ((e : Declaration) → Contains ds e → Contains (said_by T) e) → map declaration (map spelled ds) ≡ ds
+says_all T fits [] within = refl
+says_all T fits (d ∷ ds) within =
+    let p = printed T fits d (within d (here d ds)) in
+    rw (line_says T.kernels d fits.setup.few_kernels p.ranges p.said, says_all T fits ds (λ e inside. within e (there d ds e inside))) refl
 
 steps : (first second : List (List ℕ)) (earlier : List (List (List ℕ))) (ws : List (List ℕ)) (ds : List Declaration) (k : ℕ) (d : Declaration) → map declaration earlier ≡ ds → is_ended ds ≡ false → number_at second 1 ≡ k → form_fault (form k ws) ws ≡ None → declaration ws ≡ d → context_fault ds d ≡ None → words_fault (first ∷ second ∷ earlier) ws ≡ None
 unfolding words_fault
 steps first second earlier ws ds k d a b c e f g = rw (a, b, c, e, f, g) refl
 
-later_fits : (T : Setup) → IsSetup T → (before after : List Declaration) (d : Declaration) → said_by T ≡ before ++ d ∷ after → words_fault ((codes "semper" ∷ codes "trace" ∷ codes "1" ∷ []) ∷ (codes "kernels" ∷ decimal T.kernels ∷ []) ∷ map spelled before) (spelled d) ≡ None
-later_fits T setup before after d is =
+later_fits : (T : Setup) → TraceFits (as_read T) → (before after : List Declaration) (d : Declaration) → said_by T ≡ before ++ d ∷ after → words_fault ((codes "semper" ∷ codes "trace" ∷ codes "1" ∷ []) ∷ (codes "kernels" ∷ decimal T.kernels ∷ []) ∷ map spelled before) (spelled d) ≡ None
+later_fits T fits before after d is =
     let in_all : (e : Declaration) → Contains (before ++ d ∷ after) e → Contains (said_by T) e = λ e inside. subst (λ (xs : List Declaration). Contains xs e) (sym is) inside in
-    let p = printed T setup d (in_all d (Contains-append_right before (d ∷ after) d (here d after))) in
-    let order : AllPairs (λ (a b : Declaration). rank a ≢ 7) (before ++ d ∷ after) = subst (AllPairs (λ (a b : Declaration). rank a ≢ 7)) is (ends_last T setup) in
+    let p = printed T fits d (in_all d (Contains-append_right before (d ∷ after) d (here d after))) in
+    let order : AllPairs (λ (a b : Declaration). rank a ≢ 7) (before ++ d ∷ after) = subst (AllPairs (λ (a b : Declaration). rank a ≢ 7)) is (ends_last T fits) in
     steps (codes "semper" ∷ codes "trace" ∷ codes "1" ∷ []) (codes "kernels" ∷ decimal T.kernels ∷ []) (map spelled before) (spelled d) before T.kernels d
-    (says_all T setup before (λ e inside. in_all e (Contains-append_left before (d ∷ after) e inside)))
+    (says_all T fits before (λ e inside. in_all e (Contains-append_left before (d ∷ after) e inside)))
     (not_ended before (λ e inside. pairs_middle (λ (a b : Declaration). rank a ≢ 7) before after d e order inside))
-    (second_says T.kernels setup.few_kernels)
-    (line_fits T.kernels d setup.some_kernel setup.few_kernels p.ranges p.said)
-    (line_says T.kernels d setup.few_kernels p.ranges p.said)
-    (all_accepted T setup before after d is).1
+    (second_says T.kernels fits.setup.few_kernels)
+    (line_fits T.kernels d fits.setup.some_kernel fits.setup.few_kernels p.ranges p.said)
+    (line_says T.kernels d fits.setup.few_kernels p.ranges p.said)
+    (all_accepted T fits before after d is).1
 
 first_line : (ws : List (List ℕ)) → form_fault first_form ws ≡ None → words_fault [] ws ≡ None
 unfolding words_fault
@@ -158,13 +160,13 @@ second_line : (first ws : List (List ℕ)) → form_fault second_form ws ≡ Non
 unfolding words_fault
 second_line first ws fits = fits
 
-words_fit : (T : Setup) → IsSetup T → (i : ℕ) → i < length (all_lines T) → words_fault (take i (all_lines T)) (slice_index_or (all_lines T) i []) ≡ None
-words_fit T setup zero lt = first_line (codes "semper" ∷ codes "trace" ∷ codes "1" ∷ []) first_fits
-words_fit T setup (suc zero) lt = second_line (codes "semper" ∷ codes "trace" ∷ codes "1" ∷ []) (codes "kernels" ∷ decimal T.kernels ∷ []) (second_fits T.kernels setup.some_kernel setup.few_kernels)
-words_fit T setup (suc (suc j)) lt =
+words_fit : (T : Setup) → TraceFits (as_read T) → (i : ℕ) → i < length (all_lines T) → words_fault (take i (all_lines T)) (slice_index_or (all_lines T) i []) ≡ None
+words_fit T fits zero lt = first_line (codes "semper" ∷ codes "trace" ∷ codes "1" ∷ []) first_fits
+words_fit T fits (suc zero) lt = second_line (codes "semper" ∷ codes "trace" ∷ codes "1" ∷ []) (codes "kernels" ∷ decimal T.kernels ∷ []) (second_fits T.kernels fits.setup.some_kernel fits.setup.few_kernels)
+words_fit T fits (suc (suc j)) lt =
     let less : j < length (said_by T) = omega (arith, length-map (said_by T) spelled) in
     let s = parted (said_by T) j End less in
-    let fine = later_fits T setup (take j (said_by T)) s.0 (slice_index_or (said_by T) j End) s.1 in
+    let fine = later_fits T fits (take j (said_by T)) s.0 (slice_index_or (said_by T) j End) s.1 in
     ap (λ (e : List (List (List ℕ))). words_fault ((codes "semper" ∷ codes "trace" ∷ codes "1" ∷ []) ∷ (codes "kernels" ∷ decimal T.kernels ∷ []) ∷ e) (slice_index_or (map spelled (said_by T)) j [])) (take_map spelled j (said_by T))
     ∙ (ap (λ (ws : List (List ℕ)). words_fault ((codes "semper" ∷ codes "trace" ∷ codes "1" ∷ []) ∷ (codes "kernels" ∷ decimal T.kernels ∷ []) ∷ map spelled (take j (said_by T))) ws) (index_map spelled (said_by T) j End [] less) ∙ fine)
 
@@ -193,20 +195,29 @@ ended : (T : Setup) → is_ended (said_by T) ≡ true
 unfolding is_ended
 ended T = any_there is_end (said_by T) End (has_section T End 7 (omega arith) (here End [])) refl
 
-pub stands : (T : Setup) → IsSetup T → Stands (canonical T) T
-stands T setup =
-    let good = good_line T setup in
-    let are : lines_of (canonical T) ≡ map bare (all_lines T) = ap (λ (ls : List (List (List ℕ))). lines_of (text ls)) (trace_is T setup) ∙ lines_printed (all_lines T) (all_plain (all_lines T) good) in
-    let length_is : length (canonical T) ≡ length (text (all_lines T)) = ap (λ (ls : List (List (List ℕ))). length (text ls)) (trace_is T setup) in
-    let few = few_lines T setup in
+as_read_stands : (T : Setup) → TraceFits (as_read T) → Stands (canonical T) (as_read T)
+as_read_stands T fits =
+    let good = good_line T fits in
+    let are : lines_of (canonical T) ≡ map bare (all_lines T) = ap (λ (ls : List (List (List ℕ))). lines_of (text ls)) (trace_is T fits) ∙ lines_printed (all_lines T) (all_plain (all_lines T) good) in
+    let length_is : length (canonical T) ≡ length (text (all_lines T)) = ap (λ (ls : List (List (List ℕ))). length (text ls)) (trace_is T fits) in
+    let few = few_lines T fits in
     let long = length-text (all_lines T) (all_in (λ (ws : List (List ℕ)). width ws ≤ 64) (all_lines T) (λ ws within. (good ws within).short.narrow)) in
     let short : length (canonical T) ≤ 8388608 = omega arith in
     let two = behind_two (map bare (all_lines T)) (codes "semper" ∷ codes "trace" ∷ codes "1" ∷ []) (codes "kernels" ∷ decimal T.kernels ∷ []) (map spelled (said_by T)) (all_said (all_lines T) good) in
-    let kernels : T.kernels ≡ kernels_of (lines_of (canonical T)) = sym (second_says T.kernels setup.few_kernels) ∙ (two.0 ∙ ap (λ (l : List (List ℕ)). kernels_of l) (sym are)) in
-    let said : said_by T ≡ declarations_of (map bare (all_lines T)) = sym (says_all T setup (said_by T) (λ e within. within)) ∙ two.1 in
-    let first : first_fault (map bare (all_lines T)) ≡ None = no_first (map bare (all_lines T)) (λ i lt. no_fault (all_lines T) i (let l = length-map (all_lines T) bare in omega arith) good (words_fit T setup i (let l = length-map (all_lines T) bare in omega arith))) in
+    let kernels : T.kernels ≡ kernels_of (lines_of (canonical T)) = sym (second_says T.kernels fits.setup.few_kernels) ∙ (two.0 ∙ ap (λ (l : List (List ℕ)). kernels_of l) (sym are)) in
+    let said : said_by T ≡ declarations_of (map bare (all_lines T)) = sym (says_all T fits (said_by T) (λ e within. within)) ∙ two.1 in
+    let first : first_fault (map bare (all_lines T)) ≡ None = no_first (map bare (all_lines T)) (λ i lt. no_fault (all_lines T) i (let l = length-map (all_lines T) bare in omega arith) good (words_fit T fits i (let l = length-map (all_lines T) bare in omega arith))) in
     let last : end_fault (map bare (all_lines T)) ≡ None = no_missing (map bare (all_lines T)) (ap (λ (ds : List Declaration). is_ended ds) (sym said) ∙ ended T) in
     record {
       accepted = not_refused (canonical T) (map bare (all_lines T)) short are first last;
-      declared = same_whole T setup ∙ (ap (λ (k : ℕ). setup_of k (said_by T)) kernels ∙ ap (setup_of (kernels_of (lines_of (canonical T)))) (said ∙ ap (λ (l : List (List ℕ)). declarations_of l) (sym are)));
+      declared = same_whole T fits ∙ (ap (λ (k : ℕ). setup_of k (said_by T)) kernels ∙ ap (setup_of (kernels_of (lines_of (canonical T)))) (said ∙ ap (λ (l : List (List ℕ)). declarations_of l) (sym are)));
     }
+
+as_read_same : (T : Setup) (version window : ℕ) → version ≡ T.version → window ≡ T.window → record T { version = version; window = window } ≡ T
+as_read_same T version window v w = rw (v, w) refl
+
+pub stands : (T : Setup) → TraceFits T → Stands (canonical T) T
+stands T fits =
+    let windowed : IsWindow 1 T.window = rw fits.version at fits.setup.windowed in
+    let same : as_read T ≡ T = as_read_same T 1 WINDOW (sym fits.version) (omega arith) in
+    subst (λ (S : Setup). Stands (canonical T) S) same (as_read_stands T (subst TraceFits (sym same) fits))

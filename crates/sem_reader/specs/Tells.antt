@@ -1,7 +1,10 @@
 -- What the tables of the reader tell of the lines so far.
 use Rattle.std.specs.Prelude.{◌≡◌, ℕ, ◌+◌, ◌*◌, ◌<◌, ◌≤◌, false, List, [], length, None, slice_index_or}
+use Rattle.sem_key.specs.declared.limits.TheConstants.{PES}
 use Rattle.sem_key.specs.MembershipTable.{owner_at}
+use Rattle.sem_msg.specs.declared.limits.TheConstants.{SELECTORS}
 use Rattle.sem_msg.specs.declared.setup.VpeDecl.{VpeDecl}
+use Rattle.sem_trace.specs.declared.limits.TheConstants.{NODES, MOST_KERNELS}
 use Rattle.sem_trace.specs.declared.declaration.Declaration.{Declaration}
 use Rattle.sem_trace.specs.Earlier.{owner_in, pe_in, is_taken, roots_in, calls_in, has_service, offer_in, is_denied, kill_in, call_number}
 use Rattle.sem_reader.specs.declared.tables.Tables.{Tables}
@@ -9,16 +12,16 @@ use Rattle.sem_reader.specs.Accepted.{AreAccepted}
 
 -- each table is as long as there are numbers
 pub record HasSizes (t : Tables) : Type 0 where
-  pub owners : length t.owners.owners ≡ 64
-  pub roots : length t.roots.items ≡ 64
-  pub calls : length t.calls.items ≡ 64
+  pub owners : length t.owners.owners ≡ PES
+  pub roots : length t.roots.items ≡ NODES
+  pub calls : length t.calls.items ≡ NODES
   pub offers : length t.offers.items ≡ 65536
-  pub denied : length t.denied.items ≡ 4096
+  pub denied : length t.denied.items ≡ NODES * NODES
 
 -- the tables tell what so many kernels and these lines declare
 pub record Tells (kernels : ℕ) (ds : List Declaration) (t : Tables) : Type 0 where
   pub some : 1 ≤ kernels
-  pub few : kernels ≤ 16
+  pub few : kernels ≤ MOST_KERNELS
   pub accepted : AreAccepted kernels ds
   pub number : t.owners.kernels ≡ kernels
   pub owner : (p : ℕ) → owner_at t.owners p ≡ owner_in ds p
@@ -30,7 +33,7 @@ pub record Tells (kernels : ℕ) (ds : List Declaration) (t : Tables) : Type 0 w
   pub few_calls : t.call_number ≤ 20000
   pub named : (name : ℕ) → slice_index_or t.named name false ≡ has_service ds name
   pub offer : (name index : ℕ) → index < 256 → slice_index_or t.offers.items (name * 256 + index) None ≡ offer_in ds name index
-  pub denied : (v asker : ℕ) → asker < 64 → slice_index_or t.denied.items (v * 64 + asker) false ≡ is_denied ds v asker
+  pub denied : (v asker : ℕ) → asker < NODES → slice_index_or t.denied.items (v * NODES + asker) false ≡ is_denied ds v asker
   pub kill : (v : ℕ) → slice_index_or t.kills v None ≡ kill_in ds v
 
 -- the tables tell what some lines declare
@@ -41,6 +44,6 @@ pub record IsTold (t : Tables) : Type 0 where
 
 -- the numbers of a VPE are in range, and it holds no more than there are selectors
 pub record IsPlainVpe (d : VpeDecl) : Type 0 where
-  pub vpe : d.vpe ≤ 63
-  pub pe : d.pe ≤ 63
-  pub few_roots : length d.roots ≤ 256
+  pub vpe : d.vpe < NODES
+  pub pe : d.pe < NODES
+  pub few_roots : length d.roots ≤ SELECTORS

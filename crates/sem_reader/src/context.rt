@@ -1,5 +1,6 @@
 // What is wrong with a line because of the lines before it.
-ghost use Rattle.std.specs.Prelude.{◌≡◌, ℕ, ◌≤◌, List, is_none};
+ghost use Rattle.std.specs.Prelude.{◌≡◌, ℕ, ◌<◌, ◌≤◌, List, is_none};
+ghost use Rattle.sem_trace.specs.declared.limits.TheConstants.{NODES};
 ghost use Rattle.sem_trace.specs.declared.declaration.Declaration.{Declaration as DeclarationData};
 ghost use Rattle.sem_trace.specs.Earlier.{pe_in, roots_in, holds_at};
 ghost use Rattle.sem_trace.specs.Context.{is_too_long as is_too_long_lem, is_undeclared as is_undeclared_lem, is_twice as is_twice_lem, is_call_too_many as is_call_too_many_lem, context_fault};
@@ -33,7 +34,7 @@ fn is_too_long(d: &Declaration) -> bool
 impl Tables {
     // Whether no line declares the VPE.
     fn is_unknown(&self, vpe: u16) -> bool
-        requires { vpe ≤ 63 }
+        requires { vpe < NODES }
         ensures { (kernels : ℕ) (ds : List DeclarationData) → Tells kernels ds self.now → result ≡ is_none (pe_in ds vpe) }
     {
         self.pes[usize::from(vpe)].is_none()
@@ -41,7 +42,7 @@ impl Tables {
 
     // Whether the VPE holds something at the selector.
     fn holds_at(&self, vpe: u16, sel: u8) -> bool
-        requires vpe { vpe ≤ 63 }
+        requires vpe { vpe < NODES }
         requires sizes { HasSizes self.now }
         ensures { (kernels : ℕ) (ds : List DeclarationData) → Tells kernels ds self.now → result ≡ holds_at (roots_in ds vpe) sel }
     {

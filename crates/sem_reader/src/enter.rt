@@ -1,5 +1,6 @@
 // A line that is accepted is entered into the tables.
 ghost use Rattle.std.specs.Prelude.{◌≡◌, ℕ, ◌<◌, ◌≤◌, Some, List, [], ◌∷◌, ◌++◌, ◌+◌, ◌*◌, true, None, length, slice_index_or, slice_set, OnOk};
+ghost use Rattle.sem_trace.specs.declared.limits.TheConstants.{NODES};
 ghost use Rattle.sem_trace.specs.declared.declaration.Declaration.{Declaration as DeclarationData};
 ghost use Rattle.sem_trace.specs.Context.{context_fault};
 ghost use Rattle.sem_trace.specs.Ranges.{IsInRange};
@@ -36,10 +37,10 @@ fn put_offer(offers: &mut Vec<Option<u8>>, name: u8, index: u8, sel: u8)
 
 // Writes that the VPE denies the other.
 fn put_deny(denied: &mut Vec<bool>, vpe: u16, asker: u16)
-    requires vpe { vpe ≤ 63 }
-    requires asker { asker ≤ 63 }
-    requires size { length denied.old.items ≡ 4096 }
-    ensures { denied.new.items ≡ slice_set denied.old.items (vpe * 64 + asker) true }
+    requires vpe { vpe < NODES }
+    requires asker { asker < NODES }
+    requires size { length denied.old.items ≡ NODES * NODES }
+    ensures { denied.new.items ≡ slice_set denied.old.items (vpe * NODES + asker) true }
 {
     denied[usize::from(vpe) * NODES + usize::from(asker)] = true;
 }

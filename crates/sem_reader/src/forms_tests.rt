@@ -12,7 +12,7 @@ const BASE: &str =
     "semper trace 1\nkernels 2\npe 0 0\npe 1 1\nvpe 0 0\nroot 0 0 mem 0 4096 7\nservice 0 2 9\n";
 
 // A line of each form, and for each of its numbers the first above its range.
-const FORMS: [(&str, &[&str]); 21] = [
+const FORMS: [(&str, &[&str]); 22] = [
     ("pe 5 1", &["64", "2"]),
     ("vpe 1 1", &["64", "64"]),
     (
@@ -49,6 +49,7 @@ const FORMS: [(&str, &[&str]); 21] = [
     ("call 0 send 1 16", &["64", "16", "4294967296"]),
     ("call 0 credit 1", &["64", "16"]),
     ("call 0 exit", &["64"]),
+    ("call 0 clear 255", &["64", "256"]),
 ];
 
 // Sees that the line is refused behind the seven.

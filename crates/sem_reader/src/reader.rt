@@ -1,4 +1,5 @@
 ghost use Rattle.std.specs.Prelude.{◌≡◌, ◌≤◌, if◌then◌else◌, [], IfOk, IfErr, OnOk};
+ghost use Rattle.sem_trace.specs.TraceText.{TraceFits};
 ghost use Rattle.sem_trace.specs.TextLines.{lines_of, words_of};
 ghost use Rattle.sem_trace.specs.Refusal.{first_fault, lines_refusal, refusal};
 ghost use Rattle.sem_trace.specs.Standing.{Declare, Stands, IsWhy};
@@ -182,6 +183,7 @@ fn read_lines(alloc: Global, bytes: &[u8]) -> Result<(Reader, u64), TraceError>
 /// The setup that the lines of the text declare, however many bytes they are. They are refused at the first bad one.
 pub fn read_section(alloc: Global, bytes: &[u8]) -> Result<Setup, TraceError>
     ensures declared { IfOk result (Declare (lines_of bytes.now)) }
+    ensures fits { IfOk result TraceFits }
     ensures refused { IfErr result (IsWhy (lines_refusal (lines_of bytes.now))) }
 {
     let (reader, lines) = read_lines(alloc, bytes)?;
@@ -198,6 +200,8 @@ pub fn read_section(alloc: Global, bytes: &[u8]) -> Result<Setup, TraceError>
 pub fn read_trace(alloc: Global, bytes: &[u8]) -> Result<Setup, TraceError>
     // What is read is what the text stands for, and then it is not refused.
     ensures stands { IfOk result (Stands bytes.now) }
+    // A trace can tell what is read.
+    ensures fits { IfOk result TraceFits }
     // Where it is refused, it is refused so.
     ensures refused { IfErr result (IsWhy (refusal bytes.now)) }
 {

@@ -1,6 +1,9 @@
 // The setup that the tables tell.
-ghost use Rattle.std.specs.Prelude.{◌≡◌, ℕ, ◌≤◌, ◌++◌, List, All, filter_map, option_map, option_to_list, IfOk, OnOk};
+ghost use Rattle.std.specs.Prelude.{◌≡◌, ℕ, ◌<◌, ◌≤◌, ◌++◌, List, All, filter_map, option_map, option_to_list, IfOk, OnOk};
+ghost use Rattle.sem_key.specs.declared.limits.TheConstants.{NUMBERS};
 ghost use Rattle.sem_msg.specs.Setup.{services_from, service_with as service_with_lem};
+ghost use Rattle.sem_trace.specs.TraceText.{TraceFits};
+ghost use Rattle.sem_trace.specs.declared.limits.TheConstants.{NODES};
 ghost use Rattle.sem_trace.specs.declared.declaration.Declaration.{Declaration as DeclarationData};
 ghost use Rattle.sem_trace.specs.Earlier.{vpe_in, kill_in};
 ghost use Rattle.sem_trace.specs.Refusal.{numbers};
@@ -11,6 +14,7 @@ ghost use Rattle.sem_key.specs.ObjectRanges.{object_kind};
 use crate::tables::{BYTES, NODES, Tables};
 use sem_key::{Key, Kind, Object, OutOfMemory};
 use sem_msg::{Denies, Kills, Offer, Offers, Seq, Service, Services, Setup, VpeDecl, Vpes0};
+use sem_trace::WINDOW;
 use std::alloc::Global;
 
 // Appends the item, if there is one.
@@ -25,9 +29,9 @@ fn push_some<T: Drop>(list: &mut Seq<T>, item: Option<T>) -> Result<(), OutOfMem
 
 // The service that the root at that place is, if it is one.
 fn service_with(pe: u8, vpe: u16, number: u32, object: &Object) -> Option<Service>
-    requires pe { pe ≤ 63 }
-    requires vpe { vpe ≤ 63 }
-    requires number { number ≤ 4095 }
+    requires pe { pe < NODES }
+    requires vpe { vpe < NODES }
+    requires number { number < NUMBERS }
     ensures { option_to_list result ≡ service_with_lem object.now (record { pe = pe; vpe = vpe; kind = object_kind object.now; number = number }) }
 {
     match object {
@@ -97,7 +101,7 @@ impl Tables {
     // The VPE with all that is declared of it.
     #[tactic(auto, unfolding(sem_trace::specs::Earlier::vpe_in))]
     fn vpe(&self, alloc: Global, vpe: u16) -> Result<Option<VpeDecl>, OutOfMemory>
-        requires vpe { vpe ≤ 63 }
+        requires vpe { vpe < NODES }
         requires sizes { HasSizes self.now }
         ensures { (kernels : ℕ) (ds : List DeclarationData) → Tells kernels ds self.now → IfOk result (λ found. found ≡ vpe_in ds vpe) }
     {
@@ -158,8 +162,8 @@ impl Tables {
 
     // The pair, if the VPE denies the other.
     fn deny(&self, vpe: u16, asker: u16) -> Option<(u16, u16)>
-        requires vpe { vpe ≤ 63 }
-        requires asker { asker ≤ 63 }
+        requires vpe { vpe < NODES }
+        requires asker { asker < NODES }
         requires sizes { HasSizes self.now }
         ensures { (kernels : ℕ) (ds : List DeclarationData) → Tells kernels ds self.now → result ≡ deny_of_lem ds vpe asker }
     {
@@ -169,7 +173,7 @@ impl Tables {
     // Appends the pairs of the VPE and those that it denies.
     fn push_denies(&self, denies: &mut Denies, vpe: u16, vpes: &Vpes0) -> Result<(), OutOfMemory>
         requires sizes { HasSizes self.now }
-        requires vpe { vpe ≤ 63 }
+        requires vpe { vpe < NODES }
         requires plain { All IsPlainVpe vpes.now }
         ensures ok { (kernels : ℕ) (ds : List DeclarationData) → Tells kernels ds self.now → OnOk result (denies.new ≡ denies.old ++ filter_map (λ e. deny_of_lem ds vpe e.vpe) vpes.now) }
     {
@@ -194,7 +198,7 @@ impl Tables {
 
     // The kill of the VPE, if it is killed.
     fn kill(&self, vpe: u16) -> Option<(u16, u64)>
-        requires { vpe ≤ 63 }
+        requires { vpe < NODES }
         ensures { (kernels : ℕ) (ds : List DeclarationData) → Tells kernels ds self.now → result ≡ option_map (λ replies. (vpe, replies)) (kill_in ds vpe) }
     {
         let replies = self.kills[usize::from(vpe)]?;
@@ -217,7 +221,8 @@ impl Tables {
     pub(crate) fn setup(&self, alloc: Global) -> Result<Setup, OutOfMemory>
         requires sizes { HasSizes self.now }
         requires told { IsTold self.now }
-        ensures { (kernels : ℕ) (ds : List DeclarationData) → Tells kernels ds self.now → IfOk result (λ setup. setup ≡ setup_of kernels ds) }
+        ensures setup { (kernels : ℕ) (ds : List DeclarationData) → Tells kernels ds self.now → IfOk result (λ setup. setup ≡ setup_of kernels ds) }
+        ensures fits { IfOk result TraceFits }
     {
         let vpes = self.vpes(alloc)?;
         let services = services_of(alloc, &vpes)?;
@@ -225,6 +230,8 @@ impl Tables {
         let denies = self.denies_of(alloc, &vpes)?;
         let kills = self.kills_of(alloc, &vpes)?;
         Ok(Setup {
+            version: 1,
+            window: WINDOW,
             kernels: self.owners.kernels(),
             owners: self.owners,
             vpes,

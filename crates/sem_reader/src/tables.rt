@@ -1,13 +1,14 @@
 // What the lines so far declare, in tables by number.
 ghost use Rattle.std.specs.Prelude.{◌≡◌, ◌≤◌, [], None, false, replicate, IfOk};
+ghost use Rattle.sem_trace.specs.declared.limits.TheConstants.{NODES, MOST_KERNELS};
 ghost use Rattle.sem_reader.specs.Tells.{Tells, HasSizes};
 
 use sem_key::{Membership, OutOfMemory};
 use sem_msg::{Calls, Roots};
 use std::alloc::Global;
 
-/// How many PEs, and how many VPEs, there can be.
-pub(crate) const NODES: usize = 64;
+/// How many PEs, and how many VPEs, a text can speak of.
+pub(crate) const NODES: usize = sem_trace::NODES as usize;
 
 /// How many selectors, names and indexes there can be.
 pub(crate) const BYTES: usize = 256;
@@ -39,7 +40,7 @@ pub(crate) struct Tables {
 
 // Empty lists of roots for all VPEs.
 fn no_roots(alloc: Global) -> Result<Vec<Roots>, OutOfMemory>
-    ensures { IfOk result (λ lists. lists.items ≡ replicate 64 []) }
+    ensures { IfOk result (λ lists. lists.items ≡ replicate NODES []) }
 {
     let mut lists = Vec::new(alloc);
     for _ in 0..NODES {
@@ -50,7 +51,7 @@ fn no_roots(alloc: Global) -> Result<Vec<Roots>, OutOfMemory>
 
 // Empty lists of calls for all VPEs.
 fn no_calls(alloc: Global) -> Result<Vec<Calls>, OutOfMemory>
-    ensures { IfOk result (λ lists. lists.items ≡ replicate 64 []) }
+    ensures { IfOk result (λ lists. lists.items ≡ replicate NODES []) }
 {
     let mut lists = Vec::new(alloc);
     for _ in 0..NODES {
@@ -85,7 +86,7 @@ impl Tables {
     /// Nothing is declared but so many kernels.
     pub(crate) fn new(alloc: Global, kernels: u32) -> Result<Tables, OutOfMemory>
         requires some { 1 ≤ kernels }
-        requires few { kernels ≤ 16 }
+        requires few { kernels ≤ MOST_KERNELS }
         ensures tells { IfOk result (Tells kernels []) }
         ensures sizes { IfOk result HasSizes }
     {

@@ -35,7 +35,7 @@ pub(crate) fn refuses(
 }
 
 const ALL: &str =
-    "semper trace 1\nkernels 2\npe 0 0\npe 1 1\nvpe 0 0\nvpe 1 1\nroot 0 0 mem 0 4096 7\nroot 0 1 recv 64\nservice 0 2 9\noffer 9 0 0\noffer 9 1 1\ndeny 0 1\ndeny 1 1\nkill 1 4294967295\ncall 0 derive 0 3 0 1024 1\ncall 0 gate 1 4 77 64\ncall 0 obtain 5 1 0\ncall 0 delegate 0 1 1\ncall 1 open 0 9\ncall 1 ask 1 0 0\ncall 1 revoke 0\ncall 1 bind 0 1\ncall 1 read 0 1 2\ncall 1 write 15 3 4\ncall 1 send 1 16\ncall 1 credit 1\ncall 1 exit\nend\n";
+    "semper trace 1\nkernels 2\npe 0 0\npe 1 1\nvpe 0 0\nvpe 1 1\nroot 0 0 mem 0 4096 7\nroot 0 1 recv 64\nservice 0 2 9\noffer 9 0 0\noffer 9 1 1\ndeny 0 1\ndeny 1 1\nkill 1 4294967295\ncall 0 derive 0 3 0 1024 1\ncall 0 gate 1 4 77 64\ncall 0 obtain 5 1 0\ncall 0 delegate 0 1 1\ncall 1 open 0 9\ncall 1 ask 1 0 0\ncall 1 revoke 0\ncall 1 bind 0 1\ncall 1 read 0 1 2\ncall 1 write 15 3 4\ncall 1 send 1 16\ncall 1 credit 1\ncall 1 clear 0\ncall 1 exit\nend\n";
 
 #[test]
 fn each_form_is_read_back(rt: HostRuntime) -> Result<(), Fail> {
@@ -167,6 +167,12 @@ fn each_cause_is_told_of_the_other_lines(rt: HostRuntime) -> Result<(), Fail> {
         ("call 0 bind 0 b", Cause::BadNumber),
         ("call 0 bind 16 0", Cause::OutOfRange),
         ("call 0 exit 0", Cause::TooMany),
+        ("call 0 clear", Cause::Missing),
+        ("call 0 cleared 0", Cause::UnknownWord),
+        ("call 0 clear 00", Cause::BadNumber),
+        ("call 0 clear 256", Cause::OutOfRange),
+        ("call 0 clear 0 0", Cause::TooMany),
+        ("call 1 clear 0", Cause::Undeclared),
         ("call 1 exit", Cause::Undeclared),
         ("kernels", Cause::Missing),
         ("kernels x", Cause::BadNumber),

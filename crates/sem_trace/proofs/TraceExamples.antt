@@ -93,8 +93,10 @@ small =
 
 abbrev declared : Setup
 declared = record {
+  version = 1;
+  window = 4;
   kernels = 1;
-  owners = record { kernels = 1; owners = Some 0 ∷ replicate 63 None };
+  owners = record { kernels = 1; owners = Some 0 ∷ replicate 127 None };
   vpes = record {
     vpe = 0;
     pe = 0;

@@ -2,7 +2,7 @@
 use Rattle.std.specs.Prelude.{ℕ, List, drop, codes, Bool, if◌then◌else◌}
 use Rattle.std.specs.Str.{bytes_eq}
 use Rattle.sem_msg.specs.declared.call.Call.{Call}
-use Rattle.sem_msg.specs.declared.call.Call.TheVariants.{Derive, Gate, Obtain, Delegate, OpenSession, AskOffer, Revoke, Bind, Read, Write, Send, Credit, Exit}
+use Rattle.sem_msg.specs.declared.call.Call.TheVariants.{Derive, Gate, Obtain, Delegate, OpenSession, AskOffer, Revoke, Bind, Read, Write, Send, Credit, Exit, Clear}
 use Rattle.sem_text.specs.Number.{number_value}
 use Rattle.sem_trace.specs.Forms.{word_at}
 use Rattle.sem_trace.specs.declared.declaration.Declaration.{Declaration}
@@ -33,7 +33,8 @@ call_from words =
     else (if is (codes "write") then Write (n 1) (n 2) (n 3)
     else (if is (codes "send") then Send (n 1) (n 2)
     else (if is (codes "credit") then Credit (n 1)
-    else Exit)))))))))))
+    else (if is (codes "clear") then Clear (n 1)
+    else Exit))))))))))))
 
 -- the root of words that stand behind `root`
 unfoldable pub root_from : List (List ℕ) → Declaration

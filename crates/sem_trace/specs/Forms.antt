@@ -3,7 +3,10 @@ use Rattle.std.specs.Prelude.{ℕ, ◌-◌, ◌==◌, nat_le, Bool, true, false,
 use Rattle.std.specs.List.{list_any, slice_split}
 use Rattle.std.specs.Option.{option_or}
 use Rattle.std.specs.Str.{bytes_eq}
+use Rattle.sem_key.specs.declared.limits.TheConstants.{NUMBERS}
+use Rattle.sem_msg.specs.declared.limits.TheConstants.{ENDPOINTS}
 use Rattle.sem_text.specs.Number.{is_number, number_value}
+use Rattle.sem_trace.specs.declared.limits.TheConstants.{NODES, MOST_KERNELS}
 use Rattle.sem_trace.specs.declared.fault.Cause.{Cause}
 use Rattle.sem_trace.specs.declared.fault.Cause.TheVariants.{UnknownWord, BadNumber, OutOfRange, Missing, TooMany}
 
@@ -73,14 +76,14 @@ up_to most = Number 0 most
 
 -- a PE, or a VPE
 abbrev pub node : Place
-node = up_to 63
+node = up_to (NODES - 1)
 
 -- a selector, or the name of a service, or an index
 abbrev pub byte : Place
 byte = up_to 255
 
 abbrev pub endpoint : Place
-endpoint = up_to 15
+endpoint = up_to (ENDPOINTS - 1)
 
 abbrev pub rights : Place
 rights = up_to 7
@@ -95,11 +98,11 @@ word = up_to 4294967295
 
 -- a key: its PE, its VPE, its kind and its number
 abbrev pub key : Place
-key = Dotted ((0, 63) ∷ (0, 63) ∷ (1, 5) ∷ (0, 4095) ∷ [])
+key = Dotted ((0, NODES - 1) ∷ (0, NODES - 1) ∷ (1, 5) ∷ (0, NUMBERS - 1) ∷ [])
 
 -- a place: a PE, a VPE and a number
 abbrev pub key_place : Place
-key_place = Dotted ((0, 63) ∷ (0, 63) ∷ (0, 4095) ∷ [])
+key_place = Dotted ((0, NODES - 1) ∷ (0, NODES - 1) ∷ (0, NUMBERS - 1) ∷ [])
 
 -- the objects that a line `root` declares
 unfoldable pub objects : Table
@@ -123,12 +126,13 @@ calls =
     ∷ (codes "send", endpoint ∷ word ∷ [])
     ∷ (codes "credit", endpoint ∷ [])
     ∷ (codes "exit", [])
+    ∷ (codes "clear", byte ∷ [])
     ∷ []
 
 -- the lines behind the second, where there are so many kernels
 unfoldable pub lines : ℕ → List (List ℕ) → Table
 lines kernels words =
-    (codes "kernels", Number 1 16 ∷ [])
+    (codes "kernels", Number 1 MOST_KERNELS ∷ [])
     ∷ (codes "pe", node ∷ up_to (kernels - 1) ∷ [])
     ∷ (codes "vpe", node ∷ node ∷ [])
     ∷ (codes "root", node ∷ byte ∷ choice objects (word_at words 3))
@@ -146,7 +150,7 @@ first_form = Word (codes "semper" ∷ []) ∷ Word (codes "trace" ∷ []) ∷ Wo
 
 -- the second line
 unfoldable pub second_form : List Place
-second_form = Word (codes "kernels" ∷ []) ∷ Number 1 16 ∷ []
+second_form = Word (codes "kernels" ∷ []) ∷ Number 1 MOST_KERNELS ∷ []
 
 -- a line behind the second
 unfoldable pub form : ℕ → List (List ℕ) → List Place

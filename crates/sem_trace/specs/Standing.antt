@@ -1,9 +1,11 @@
 -- The setup that lines declare, and for which setup a text stands ("The trace" in docs/texts.md).
 use Rattle.std.specs.Prelude.{◌≡◌, ℕ, ◌==◌, List, map, filter_map, flat_map, find, Option, Some, None, option_map, if◌then◌else◌}
+use Rattle.sem_key.specs.declared.limits.TheConstants.{PES}
 use Rattle.sem_msg.specs.declared.setup.Service.{Service}
 use Rattle.sem_msg.specs.declared.setup.Offer.{Offer}
 use Rattle.sem_msg.specs.declared.setup.VpeDecl.{VpeDecl}
 use Rattle.sem_msg.specs.Setup.{Setup, services_from}
+use Rattle.sem_trace.specs.declared.limits.TheConstants.{NODES, WINDOW}
 use Rattle.sem_trace.specs.declared.declaration.Declaration.{Declaration}
 use Rattle.sem_trace.specs.declared.fault.TraceFault.{TraceFault}
 use Rattle.sem_trace.specs.declared.fault.TraceError.{TraceError}
@@ -14,7 +16,7 @@ use Rattle.sem_trace.specs.Refusal.{numbers, kernels_of, declarations_of, lines_
 
 -- the VPEs that are declared, by number
 unfoldable pub vpes_of : List Declaration → List VpeDecl
-vpes_of ds = filter_map (vpe_in ds) (numbers 64)
+vpes_of ds = filter_map (vpe_in ds) (numbers NODES)
 
 -- the services among the roots, VPE by VPE
 abbrev pub services_among : List VpeDecl → List Service
@@ -51,8 +53,10 @@ kills_of ds vpes = filter_map (λ d. option_map (λ replies. (d.vpe, replies)) (
 -- the setup of so many kernels with what is declared
 unfoldable pub setup_of : ℕ → List Declaration → Setup
 setup_of kernels ds = record {
+  version = 1;
+  window = WINDOW;
   kernels = kernels;
-  owners = record { kernels = kernels; owners = map (owner_in ds) (numbers 64) };
+  owners = record { kernels = kernels; owners = map (owner_in ds) (numbers PES) };
   vpes = vpes_of ds;
   services = services_of (vpes_of ds);
   offers = offers_of ds (services_of (vpes_of ds));

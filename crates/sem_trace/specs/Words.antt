@@ -5,7 +5,7 @@ use Rattle.sem_key.specs.declared.object.Object.TheVariants.{Mem, Recv, Send, Se
 use Rattle.sem_key.specs.KeyName.{KeyName, kind_number}
 use Rattle.sem_key.specs.PlaceName.{PlaceName}
 use Rattle.sem_msg.specs.declared.call.Call.{Call}
-use Rattle.sem_msg.specs.declared.call.Call.TheVariants.{Derive, Gate, Obtain, Delegate, OpenSession, AskOffer, Revoke, Bind, Read, Write, Send as SendCall, Credit, Exit}
+use Rattle.sem_msg.specs.declared.call.Call.TheVariants.{Derive, Gate, Obtain, Delegate, OpenSession, AskOffer, Revoke, Bind, Read, Write, Send as SendCall, Credit, Exit, Clear}
 
 -- numbers with points (byte 46) between
 abbrev pub key_word : KeyName → List ℕ
@@ -35,3 +35,4 @@ call_words (Write ep off len) = codes "write" ∷ decimal ep ∷ decimal off ∷
 call_words (SendCall ep len) = codes "send" ∷ decimal ep ∷ decimal len ∷ []
 call_words (Credit ep) = codes "credit" ∷ decimal ep ∷ []
 call_words Exit = codes "exit" ∷ []
+call_words (Clear src) = codes "clear" ∷ decimal src ∷ []

@@ -1,7 +1,8 @@
 // The call of a line, from its name on.
 ghost use Rattle.std.specs.Prelude.{◌≡◌, [], ◌∷◌, ◌++◌, codes, IfOk, IfErr};
 ghost use Rattle.sem_msg.specs.Calls.{IsValidCall};
-ghost use Rattle.sem_msg.specs.declared.call.Call.TheVariants.{Derive, Gate, Obtain, Delegate, OpenSession, AskOffer, Revoke, Bind, Read, Write, Send, Credit, Exit};
+ghost use Rattle.sem_msg.specs.declared.call.Call.TheVariants.{Derive, Gate, Obtain, Delegate, OpenSession, AskOffer, Revoke, Bind, Read, Write, Send, Credit, Exit, Clear};
+ghost use Rattle.sem_trace.specs.declared.limits.TheConstants.{NODES};
 ghost use Rattle.sem_trace.specs.TextLines.{words_of};
 ghost use Rattle.sem_trace.specs.Forms.{calls as calls_lem, choice, word_at, byte, node, endpoint, rights as rights_lem, slots, word};
 ghost use Rattle.sem_trace.specs.Places.{Fills, Fails};
@@ -17,7 +18,7 @@ pub fn first_call(words: &[u8]) -> Result<(Call, &[u8]), Cause>
     ensures ok { IfOk result (λ p. Fills (choice calls_lem (word_at (words_of words.now) 0)) (words_of words.now) (words_of p.1.now)) }
     ensures err { IfErr result (Fails (choice calls_lem (word_at (words_of words.now) 0)) (words_of words.now)) }
     ensures value { IfOk result (λ p. p.0 ≡ call_from (words_of words.now)) }
-    ensures valid { IfOk result (λ p. IsValidCall p.0) }
+    ensures valid { IfOk result (λ p. IsValidCall NODES p.0) }
     ensures printed { IfOk result (λ p. words_of words.now ≡ call_words p.0 ++ words_of p.1.now) }
 {
     let (name, rest) = first_word(words)?;
@@ -47,6 +48,8 @@ pub fn first_call(words: &[u8]) -> Result<(Call, &[u8]), Cause>
         credit(rest)
     } else if is(name, b"exit") {
         Ok((Call::Exit, rest))
+    } else if is(name, b"clear") {
+        clear(rest)
     } else {
         Err(Cause::UnknownWord)
     }
@@ -56,7 +59,7 @@ fn derive(words: &[u8]) -> Result<(Call, &[u8]), Cause>
     ensures ok { IfOk result (λ p. Fills (byte ∷ byte ∷ word ∷ word ∷ rights_lem ∷ []) (words_of words.now) (words_of p.1.now)) }
     ensures err { IfErr result (Fails (byte ∷ byte ∷ word ∷ word ∷ rights_lem ∷ []) (words_of words.now)) }
     ensures value { let n = number_at (words_of words.now) in IfOk result (λ p. p.0 ≡ Derive (n 0) (n 1) (n 2) (n 3) (n 4)) }
-    ensures valid { IfOk result (λ p. IsValidCall p.0) }
+    ensures valid { IfOk result (λ p. IsValidCall NODES p.0) }
     ensures printed { IfOk result (λ p. codes "derive" ∷ words_of words.now ≡ call_words p.0 ++ words_of p.1.now) }
 {
     let ([src, dst, off, len, rights], rest) = first_numbers(
@@ -77,7 +80,7 @@ fn gate(words: &[u8]) -> Result<(Call, &[u8]), Cause>
     ensures ok { IfOk result (λ p. Fills (byte ∷ byte ∷ word ∷ slots ∷ []) (words_of words.now) (words_of p.1.now)) }
     ensures err { IfErr result (Fails (byte ∷ byte ∷ word ∷ slots ∷ []) (words_of words.now)) }
     ensures value { let n = number_at (words_of words.now) in IfOk result (λ p. p.0 ≡ Gate (n 0) (n 1) (n 2) (n 3)) }
-    ensures valid { IfOk result (λ p. IsValidCall p.0) }
+    ensures valid { IfOk result (λ p. IsValidCall NODES p.0) }
     ensures printed { IfOk result (λ p. codes "gate" ∷ words_of words.now ≡ call_words p.0 ++ words_of p.1.now) }
 {
     let ([src, dst, label, credits, ..], rest) = first_numbers(words, &[BYTE, BYTE, WORD, SLOTS])?;
@@ -94,7 +97,7 @@ fn obtain(words: &[u8]) -> Result<(Call, &[u8]), Cause>
     ensures ok { IfOk result (λ p. Fills (byte ∷ node ∷ byte ∷ []) (words_of words.now) (words_of p.1.now)) }
     ensures err { IfErr result (Fails (byte ∷ node ∷ byte ∷ []) (words_of words.now)) }
     ensures value { let n = number_at (words_of words.now) in IfOk result (λ p. p.0 ≡ Obtain (n 0) (n 1) (n 2)) }
-    ensures valid { IfOk result (λ p. IsValidCall p.0) }
+    ensures valid { IfOk result (λ p. IsValidCall NODES p.0) }
     ensures printed { IfOk result (λ p. codes "obtain" ∷ words_of words.now ≡ call_words p.0 ++ words_of p.1.now) }
 {
     let ([dst, vpe, src, ..], rest) = first_numbers(words, &[BYTE, NODE, BYTE])?;
@@ -110,7 +113,7 @@ fn delegate(words: &[u8]) -> Result<(Call, &[u8]), Cause>
     ensures ok { IfOk result (λ p. Fills (byte ∷ node ∷ byte ∷ []) (words_of words.now) (words_of p.1.now)) }
     ensures err { IfErr result (Fails (byte ∷ node ∷ byte ∷ []) (words_of words.now)) }
     ensures value { let n = number_at (words_of words.now) in IfOk result (λ p. p.0 ≡ Delegate (n 0) (n 1) (n 2)) }
-    ensures valid { IfOk result (λ p. IsValidCall p.0) }
+    ensures valid { IfOk result (λ p. IsValidCall NODES p.0) }
     ensures printed { IfOk result (λ p. codes "delegate" ∷ words_of words.now ≡ call_words p.0 ++ words_of p.1.now) }
 {
     let ([src, vpe, dst, ..], rest) = first_numbers(words, &[BYTE, NODE, BYTE])?;
@@ -126,7 +129,7 @@ fn open_session(words: &[u8]) -> Result<(Call, &[u8]), Cause>
     ensures ok { IfOk result (λ p. Fills (byte ∷ byte ∷ []) (words_of words.now) (words_of p.1.now)) }
     ensures err { IfErr result (Fails (byte ∷ byte ∷ []) (words_of words.now)) }
     ensures value { let n = number_at (words_of words.now) in IfOk result (λ p. p.0 ≡ OpenSession (n 0) (n 1)) }
-    ensures valid { IfOk result (λ p. IsValidCall p.0) }
+    ensures valid { IfOk result (λ p. IsValidCall NODES p.0) }
     ensures printed { IfOk result (λ p. codes "open" ∷ words_of words.now ≡ call_words p.0 ++ words_of p.1.now) }
 {
     let ([dst, name, ..], rest) = first_numbers(words, &[BYTE, BYTE])?;
@@ -141,7 +144,7 @@ fn ask_offer(words: &[u8]) -> Result<(Call, &[u8]), Cause>
     ensures ok { IfOk result (λ p. Fills (byte ∷ byte ∷ byte ∷ []) (words_of words.now) (words_of p.1.now)) }
     ensures err { IfErr result (Fails (byte ∷ byte ∷ byte ∷ []) (words_of words.now)) }
     ensures value { let n = number_at (words_of words.now) in IfOk result (λ p. p.0 ≡ AskOffer (n 0) (n 1) (n 2)) }
-    ensures valid { IfOk result (λ p. IsValidCall p.0) }
+    ensures valid { IfOk result (λ p. IsValidCall NODES p.0) }
     ensures printed { IfOk result (λ p. codes "ask" ∷ words_of words.now ≡ call_words p.0 ++ words_of p.1.now) }
 {
     let ([dst, session, index, ..], rest) = first_numbers(words, &[BYTE, BYTE, BYTE])?;
@@ -157,7 +160,7 @@ fn revoke(words: &[u8]) -> Result<(Call, &[u8]), Cause>
     ensures ok { IfOk result (λ p. Fills (byte ∷ []) (words_of words.now) (words_of p.1.now)) }
     ensures err { IfErr result (Fails (byte ∷ []) (words_of words.now)) }
     ensures value { let n = number_at (words_of words.now) in IfOk result (λ p. p.0 ≡ Revoke (n 0)) }
-    ensures valid { IfOk result (λ p. IsValidCall p.0) }
+    ensures valid { IfOk result (λ p. IsValidCall NODES p.0) }
     ensures printed { IfOk result (λ p. codes "revoke" ∷ words_of words.now ≡ call_words p.0 ++ words_of p.1.now) }
 {
     let ([src, ..], rest) = first_numbers(words, &[BYTE])?;
@@ -168,7 +171,7 @@ fn bind(words: &[u8]) -> Result<(Call, &[u8]), Cause>
     ensures ok { IfOk result (λ p. Fills (endpoint ∷ byte ∷ []) (words_of words.now) (words_of p.1.now)) }
     ensures err { IfErr result (Fails (endpoint ∷ byte ∷ []) (words_of words.now)) }
     ensures value { let n = number_at (words_of words.now) in IfOk result (λ p. p.0 ≡ Bind (n 0) (n 1)) }
-    ensures valid { IfOk result (λ p. IsValidCall p.0) }
+    ensures valid { IfOk result (λ p. IsValidCall NODES p.0) }
     ensures printed { IfOk result (λ p. codes "bind" ∷ words_of words.now ≡ call_words p.0 ++ words_of p.1.now) }
 {
     let ([ep, src, ..], rest) = first_numbers(words, &[ENDPOINT, BYTE])?;
@@ -183,7 +186,7 @@ fn read(words: &[u8]) -> Result<(Call, &[u8]), Cause>
     ensures ok { IfOk result (λ p. Fills (endpoint ∷ word ∷ word ∷ []) (words_of words.now) (words_of p.1.now)) }
     ensures err { IfErr result (Fails (endpoint ∷ word ∷ word ∷ []) (words_of words.now)) }
     ensures value { let n = number_at (words_of words.now) in IfOk result (λ p. p.0 ≡ Read (n 0) (n 1) (n 2)) }
-    ensures valid { IfOk result (λ p. IsValidCall p.0) }
+    ensures valid { IfOk result (λ p. IsValidCall NODES p.0) }
     ensures printed { IfOk result (λ p. codes "read" ∷ words_of words.now ≡ call_words p.0 ++ words_of p.1.now) }
 {
     let ([ep, off, len, ..], rest) = first_numbers(words, &[ENDPOINT, WORD, WORD])?;
@@ -199,7 +202,7 @@ fn write(words: &[u8]) -> Result<(Call, &[u8]), Cause>
     ensures ok { IfOk result (λ p. Fills (endpoint ∷ word ∷ word ∷ []) (words_of words.now) (words_of p.1.now)) }
     ensures err { IfErr result (Fails (endpoint ∷ word ∷ word ∷ []) (words_of words.now)) }
     ensures value { let n = number_at (words_of words.now) in IfOk result (λ p. p.0 ≡ Write (n 0) (n 1) (n 2)) }
-    ensures valid { IfOk result (λ p. IsValidCall p.0) }
+    ensures valid { IfOk result (λ p. IsValidCall NODES p.0) }
     ensures printed { IfOk result (λ p. codes "write" ∷ words_of words.now ≡ call_words p.0 ++ words_of p.1.now) }
 {
     let ([ep, off, len, ..], rest) = first_numbers(words, &[ENDPOINT, WORD, WORD])?;
@@ -215,7 +218,7 @@ fn send(words: &[u8]) -> Result<(Call, &[u8]), Cause>
     ensures ok { IfOk result (λ p. Fills (endpoint ∷ word ∷ []) (words_of words.now) (words_of p.1.now)) }
     ensures err { IfErr result (Fails (endpoint ∷ word ∷ []) (words_of words.now)) }
     ensures value { let n = number_at (words_of words.now) in IfOk result (λ p. p.0 ≡ Send (n 0) (n 1)) }
-    ensures valid { IfOk result (λ p. IsValidCall p.0) }
+    ensures valid { IfOk result (λ p. IsValidCall NODES p.0) }
     ensures printed { IfOk result (λ p. codes "send" ∷ words_of words.now ≡ call_words p.0 ++ words_of p.1.now) }
 {
     let ([ep, len, ..], rest) = first_numbers(words, &[ENDPOINT, WORD])?;
@@ -230,9 +233,20 @@ fn credit(words: &[u8]) -> Result<(Call, &[u8]), Cause>
     ensures ok { IfOk result (λ p. Fills (endpoint ∷ []) (words_of words.now) (words_of p.1.now)) }
     ensures err { IfErr result (Fails (endpoint ∷ []) (words_of words.now)) }
     ensures value { let n = number_at (words_of words.now) in IfOk result (λ p. p.0 ≡ Credit (n 0)) }
-    ensures valid { IfOk result (λ p. IsValidCall p.0) }
+    ensures valid { IfOk result (λ p. IsValidCall NODES p.0) }
     ensures printed { IfOk result (λ p. codes "credit" ∷ words_of words.now ≡ call_words p.0 ++ words_of p.1.now) }
 {
     let ([ep, ..], rest) = first_numbers(words, &[ENDPOINT])?;
     Ok((Call::Credit { ep: ep as u8 }, rest))
+}
+
+fn clear(words: &[u8]) -> Result<(Call, &[u8]), Cause>
+    ensures ok { IfOk result (λ p. Fills (byte ∷ []) (words_of words.now) (words_of p.1.now)) }
+    ensures err { IfErr result (Fails (byte ∷ []) (words_of words.now)) }
+    ensures value { let n = number_at (words_of words.now) in IfOk result (λ p. p.0 ≡ Clear (n 0)) }
+    ensures valid { IfOk result (λ p. IsValidCall NODES p.0) }
+    ensures printed { IfOk result (λ p. codes "clear" ∷ words_of words.now ≡ call_words p.0 ++ words_of p.1.now) }
+{
+    let ([src, ..], rest) = first_numbers(words, &[BYTE])?;
+    Ok((Call::Clear { src: src as u8 }, rest))
 }

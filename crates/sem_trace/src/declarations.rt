@@ -2,6 +2,7 @@
 ghost use Rattle.std.specs.Prelude.{◌≡◌, ℕ, ◌≤◌, ◌-◌, [], drop, ◌∷◌, IfOk};
 ghost use Rattle.std.specs.Result.{result_err};
 ghost use Rattle.sem_trace.specs.declared.declaration.Declaration.TheVariants.{Kernels, Pe, Vpe, Memory, Receive, Service, Offer, Deny, Kill, Call as Calls, End};
+ghost use Rattle.sem_trace.specs.declared.limits.TheConstants.{MOST_KERNELS};
 ghost use Rattle.sem_trace.specs.TextLines.{words_of};
 ghost use Rattle.sem_trace.specs.Forms.Place.{Number};
 ghost use Rattle.sem_trace.specs.Forms.{form_fault, first_form, second_form, form, objects, calls, choice, word_at, up_to, byte, node, word, rights as rights_lem, slots as slots_lem};
@@ -33,7 +34,7 @@ pub fn read_second(line: &[u8]) -> Result<u32, Cause>
     ensures fault { form_fault second_form (words_of line.now) ≡ result_err result }
     ensures value { IfOk result (λ kernels. kernels ≡ number_at (words_of line.now) 1) }
     ensures least { IfOk result (λ kernels. 1 ≤ kernels) }
-    ensures most { IfOk result (λ kernels. kernels ≤ 16) }
+    ensures most { IfOk result (λ kernels. kernels ≤ MOST_KERNELS) }
 {
     let rest = fixed(line, b"kernels")?;
     let [kernels, ..] = numbers(rest, &[KERNELS])?;
@@ -74,7 +75,7 @@ pub fn read_declaration(line: &[u8], kernels: u32) -> Result<Declaration, Cause>
 }
 
 fn kernels_line(words: &[u8]) -> Result<Declaration, Cause>
-    ensures fault { form_fault (Number 1 16 ∷ []) (words_of words.now) ≡ result_err result }
+    ensures fault { form_fault (Number 1 MOST_KERNELS ∷ []) (words_of words.now) ≡ result_err result }
     ensures value { let n = number_at (words_of words.now) in IfOk result (λ d. d ≡ Kernels (n 0)) }
     ensures ranges { (kernels : ℕ) → IfOk result (IsInRange kernels) }
 {

@@ -2,18 +2,18 @@
 ghost use Rattle.std.specs.Prelude.{◌≡◌, ℕ, ◌≤◌, ◌==◌, true, false, length, List, [], ◌∷◌, decimal, IfOk, IfErr, MatchOption};
 ghost use Rattle.std.specs.List.{position_or_len};
 ghost use Rattle.std.specs.Result.{result_err};
-ghost use Rattle.sem_key.specs.KeyName.{IsValidKey, kind_number};
-ghost use Rattle.sem_key.specs.PlaceName.{IsValidPlace};
+ghost use Rattle.sem_key.specs.KeyName.{kind_number};
 ghost use Rattle.sem_trace.specs.TextLines.{words_of};
 ghost use Rattle.sem_trace.specs.Words.{key_word, place_word};
 ghost use Rattle.sem_trace.specs.Forms.{place_fault, parts_of, are_numbers, is_between, key as key_lem, key_place};
 ghost use Rattle.sem_text.specs.Number.{is_number as is_number_lem};
 ghost use Rattle.sem_trace.specs.declared.fault.Cause.TheVariants.{BadNumber, OutOfRange};
+ghost use Rattle.sem_trace.specs.Ranges.{IsKeyInText, IsPlaceInText};
 ghost use Rattle.sem_trace.specs.Places.{Fills, Fails, IsWithin, bounds};
 
 use crate::fault::Cause;
 use crate::forms::{NODE, Range, first_word, number_in};
-use sem_key::{Key, Kind, Place};
+use sem_key::{Key, Kind, NUMBERS, Place};
 use sem_text::{NumberFault, number};
 
 /// The number of a kind.
@@ -22,7 +22,7 @@ const KIND: Range = Range { least: 1, most: 5 };
 /// A number that a VPE has drawn.
 const DRAWN: Range = Range {
     least: 0,
-    most: 4095,
+    most: NUMBERS as u64 - 1,
 };
 
 // How many bytes come before the first point, or in all.
@@ -116,6 +116,7 @@ fn kind(number: u64) -> Kind
 fn key(word: &[u8]) -> Result<Key, Cause>
     ensures fault { place_fault key_lem word.now ≡ result_err result }
     ensures printed { IfOk result (λ k. word.now ≡ key_word k) }
+    ensures told { IfOk result IsKeyInText }
 {
     let (pe, rest) = first_part(word)?;
     let (vpe, rest) = first_part(rest)?;
@@ -134,6 +135,7 @@ fn key(word: &[u8]) -> Result<Key, Cause>
 fn place(word: &[u8]) -> Result<Place, Cause>
     ensures fault { place_fault key_place word.now ≡ result_err result }
     ensures printed { IfOk result (λ p. word.now ≡ place_word p) }
+    ensures told { IfOk result IsPlaceInText }
 {
     let (pe, rest) = first_part(word)?;
     let (vpe, rest) = first_part(rest)?;
@@ -150,7 +152,7 @@ pub fn first_key(words: &[u8]) -> Result<(Key, &[u8]), Cause>
     ensures ok { IfOk result (λ p. Fills (key_lem ∷ []) (words_of words.now) (words_of p.1.now)) }
     ensures err { IfErr result (Fails (key_lem ∷ []) (words_of words.now)) }
     ensures printed { IfOk result (λ p. words_of words.now ≡ key_word p.0 ∷ words_of p.1.now) }
-    ensures valid { IfOk result (λ p. IsValidKey p.0) }
+    ensures told { IfOk result (λ p. IsKeyInText p.0) }
 {
     let (word, rest) = first_word(words)?;
     Ok((key(word)?, rest))
@@ -161,7 +163,7 @@ pub fn first_place(words: &[u8]) -> Result<(Place, &[u8]), Cause>
     ensures ok { IfOk result (λ p. Fills (key_place ∷ []) (words_of words.now) (words_of p.1.now)) }
     ensures err { IfErr result (Fails (key_place ∷ []) (words_of words.now)) }
     ensures printed { IfOk result (λ p. words_of words.now ≡ place_word p.0 ∷ words_of p.1.now) }
-    ensures valid { IfOk result (λ p. IsValidPlace p.0) }
+    ensures told { IfOk result (λ p. IsPlaceInText p.0) }
 {
     let (word, rest) = first_word(words)?;
     Ok((place(word)?, rest))

@@ -10,7 +10,9 @@ ghost use Rattle.sem_trace.specs.Declarations.{number_at};
 ghost use Rattle.sem_trace.specs.Places.{Fills, Fails, number_place, least_at, most_at, IsWithin};
 
 use crate::fault::Cause;
+use crate::limits::{MOST_KERNELS, NODES};
 use crate::text_lines::next_word;
+use sem_msg::ENDPOINTS;
 use sem_text::{NumberFault, number};
 
 /// Which numbers can stand in a place.
@@ -21,7 +23,10 @@ pub struct Range {
 }
 
 /// A PE, or a VPE.
-pub const NODE: Range = Range { least: 0, most: 63 };
+pub const NODE: Range = Range {
+    least: 0,
+    most: NODES as u64 - 1,
+};
 
 /// A selector, or the name of a service, or an index.
 pub const BYTE: Range = Range {
@@ -30,7 +35,10 @@ pub const BYTE: Range = Range {
 };
 
 /// An endpoint.
-pub const ENDPOINT: Range = Range { least: 0, most: 15 };
+pub const ENDPOINT: Range = Range {
+    least: 0,
+    most: ENDPOINTS as u64 - 1,
+};
 
 /// Rights, as a mask.
 pub const RIGHTS: Range = Range { least: 0, most: 7 };
@@ -45,7 +53,10 @@ pub const WORD: Range = Range {
 };
 
 /// How many kernels there are.
-pub const KERNELS: Range = Range { least: 1, most: 16 };
+pub const KERNELS: Range = Range {
+    least: 1,
+    most: MOST_KERNELS as u64,
+};
 
 /// The most numbers that stand side by side.
 const MOST_NUMBERS: usize = 5;

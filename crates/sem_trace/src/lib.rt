@@ -7,6 +7,7 @@ mod declarations;
 mod dotted;
 mod fault;
 mod forms;
+mod limits;
 mod print;
 #[cfg(test)]
 mod tests;
@@ -22,6 +23,7 @@ pub use forms::{
     BYTE, ENDPOINT, KERNELS, NODE, RIGHTS, Range, SLOTS, WORD, first_number, first_numbers,
     first_word, fixed, is, no_more, numbers,
 };
+pub use limits::{MOST_KERNELS, NODES, WINDOW};
 pub use print::{print_trace, push_line, push_start, push_trace};
 pub use text_lines::{bytes_fault, is_significant, next_line, next_word};
 pub use words::{

@@ -3,17 +3,15 @@
 ghost use Rattle.std.specs.Prelude.{◌≡◌, ℕ, [], ◌∷◌, ◌++◌, length, map, flat_map, codes, decimal, OnOk, OnErr};
 ghost use Rattle.std.specs.List.{enumerate_from};
 ghost use Rattle.sem_key.specs.MembershipTable.{owner_at};
+ghost use Rattle.sem_key.specs.declared.limits.TheConstants.{PES};
 ghost use Rattle.sem_text.specs.Lines.{behind_blanks, line, text};
 ghost use Rattle.sem_trace.specs.Words.{call_words};
 ghost use Rattle.sem_trace.specs.TraceText.{pe_line, vpe_line, root_line, offer_line, deny_line, kill_line, trace_lines, canonical};
 
 use crate::words::{push_call, push_numbers, push_object};
-use sem_key::{Membership, Object, OutOfMemory};
+use sem_key::{Membership, Object, OutOfMemory, PES};
 use sem_msg::{Calls, Denies, Kills, Offers, Root, Roots, Setup, Vpes0};
 use std::alloc::Global;
-
-/// The most PEs that there can be.
-const PES: u8 = 64;
 
 /// Appends the first words of a line: the name, and the numbers, each behind a blank.
 pub fn push_start(out: &mut Vec<u8>, name: &[u8], values: &[u64]) -> Result<(), OutOfMemory>
@@ -43,11 +41,11 @@ fn push_owner(out: &mut Vec<u8>, owners: &Membership, pe: u8) -> Result<(), OutO
 
 // Appends a line for each PE that a kernel owns.
 fn push_owners(out: &mut Vec<u8>, owners: &Membership) -> Result<(), OutOfMemory>
-    requires { length owners.now.owners ≡ 64 }
+    requires { length owners.now.owners ≡ PES }
     ensures ok { OnOk result (out.new.items ≡ out.old.items ++ text (flat_map pe_line (enumerate_from 0 owners.now.owners))) }
 {
     for pe in 0..PES {
-        push_owner(out, owners, pe)?;
+        push_owner(out, owners, pe as u8)?;
     }
     Ok(())
 }

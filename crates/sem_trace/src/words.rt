@@ -179,5 +179,6 @@ pub fn push_call(out: &mut Vec<u8>, call: &Call) -> Result<(), OutOfMemory>
         Call::Send { ep, len } => push_named(out, b"send", &[u64::from(*ep), u64::from(*len)]),
         Call::Credit { ep } => push_named(out, b"credit", &[u64::from(*ep)]),
         Call::Exit => push_word(out, b"exit"),
+        Call::Clear { src } => push_named(out, b"clear", &[u64::from(*src)]),
     }
 }

@@ -5,7 +5,7 @@ use Rattle.sem_msg.specs.declared.entry.Entry.{Entry}
 use Rattle.sem_journal.specs.EntryText.{entry_words}
 use Rattle.sem_journal.specs.EntryForms.{has_long_memory}
 use Rattle.sem_journal.proofs.LongMemory.{long_entry}
-use Rattle.sem_journal.proofs.EntryParts.{entry, entry_is, kernel_fault, event_fault, outcome_fault, fault_behind, long_fault, no_fault}
+use Rattle.sem_journal.proofs.EntryParts.{entry, entry_is, kernel_fault, event_fault, shown_fault, fault_behind, long_fault, no_fault}
 use Rattle.sem_journal.proofs.read_entries.read_entry.Goals as goal
 
 pub returns-in_err-kernel-clause-fault : goal.returns-in_err-kernel-clause-fault
@@ -18,33 +18,33 @@ returns-in_err-act-clause-fault c =
     let p = err_from_is_err_and c.from_residual-in_err-act.result c.from_residual-in_err-act.ensures.1 in
     rw (p.1, p.2) (event_fault c.args.kernels (words_of c.args.line.now) _ c.kernel_range.result _ c.kernel_range.ensures.least c.kernel_range.ensures.most c.in_ok-kernel.ensures.ok c.in_err-act.ensures.err)
 
-pub returns-in_err-outcome-clause-fault : goal.returns-in_err-outcome-clause-fault
-returns-in_err-outcome-clause-fault c =
-    let p = err_from_is_err_and c.from_residual-in_err-outcome.result c.from_residual-in_err-outcome.ensures.1 in
-    rw (p.1, p.2) (fault_behind c.args.kernels (words_of c.args.line.now) _ (outcome_fault c.args.kernels (words_of c.args.line.now) _ _ c.kernel_range.result c.kernel_range.ensures.least c.kernel_range.ensures.most c.in_ok-kernel.ensures.ok c.in_ok-act.ensures.ok ∙ c.in_err-outcome.ensures.fault))
+pub returns-in_err-shown-clause-fault : goal.returns-in_err-shown-clause-fault
+returns-in_err-shown-clause-fault c =
+    let p = err_from_is_err_and c.from_residual-in_err-shown.result c.from_residual-in_err-shown.ensures.1 in
+    rw (p.1, p.2) (fault_behind c.args.kernels (words_of c.args.line.now) _ (shown_fault c.args.kernels (words_of c.args.line.now) _ _ c.kernel_range.result c.kernel_range.ensures.least c.kernel_range.ensures.most c.in_ok-kernel.ensures.ok c.in_ok-act.ensures.ok ∙ c.in_err-shown.ensures.fault))
 
 pub returns-then-carries_long-clause-fault : goal.returns-then-carries_long-clause-fault
 returns-then-carries_long-clause-fault c =
-    let e : Entry = entry c.in_ok-kernel.kernel c.in_ok-act.act c.in_ok-act.detail c.in_ok-outcome.outcome in
-    let words : words_of c.args.line.now ≡ entry_words e = c.in_ok-kernel.ensures.printed ∙ entry_is c.in_ok-kernel.kernel c.in_ok-act.act c.in_ok-act.detail c.in_ok-outcome.outcome _ _ c.in_ok-act.ensures.printed c.in_ok-outcome.ensures.printed in
-    let fits = outcome_fault c.args.kernels (words_of c.args.line.now) _ _ c.kernel_range.result c.kernel_range.ensures.least c.kernel_range.ensures.most c.in_ok-kernel.ensures.ok c.in_ok-act.ensures.ok ∙ c.in_ok-outcome.ensures.fault in
+    let e : Entry = entry c.in_ok-kernel.kernel c.in_ok-act.act c.in_ok-act.detail c.in_ok-shown.shown in
+    let words : words_of c.args.line.now ≡ entry_words e = c.in_ok-kernel.ensures.printed ∙ entry_is c.in_ok-kernel.kernel c.in_ok-act.act c.in_ok-act.detail c.in_ok-shown.shown _ _ c.in_ok-act.ensures.printed c.in_ok-shown.ensures.printed in
+    let fits = shown_fault c.args.kernels (words_of c.args.line.now) _ _ c.kernel_range.result c.kernel_range.ensures.least c.kernel_range.ensures.most c.in_ok-kernel.ensures.ok c.in_ok-act.ensures.ok ∙ c.in_ok-shown.ensures.fault in
     long_fault c.args.kernels (words_of c.args.line.now) fits (ap has_long_memory words ∙ (long_entry c.args.kernels e c.in_ok-act.ensures.fits ∙ sym c.if-carries_long.ensures))
 
 pub returns-clause-fault : goal.returns-clause-fault
 returns-clause-fault c =
-    let e : Entry = entry c.in_ok-kernel.kernel c.in_ok-act.act c.in_ok-act.detail c.in_ok-outcome.outcome in
-    let words : words_of c.args.line.now ≡ entry_words e = c.in_ok-kernel.ensures.printed ∙ entry_is c.in_ok-kernel.kernel c.in_ok-act.act c.in_ok-act.detail c.in_ok-outcome.outcome _ _ c.in_ok-act.ensures.printed c.in_ok-outcome.ensures.printed in
-    let fits = outcome_fault c.args.kernels (words_of c.args.line.now) _ _ c.kernel_range.result c.kernel_range.ensures.least c.kernel_range.ensures.most c.in_ok-kernel.ensures.ok c.in_ok-act.ensures.ok ∙ c.in_ok-outcome.ensures.fault in
+    let e : Entry = entry c.in_ok-kernel.kernel c.in_ok-act.act c.in_ok-act.detail c.in_ok-shown.shown in
+    let words : words_of c.args.line.now ≡ entry_words e = c.in_ok-kernel.ensures.printed ∙ entry_is c.in_ok-kernel.kernel c.in_ok-act.act c.in_ok-act.detail c.in_ok-shown.shown _ _ c.in_ok-act.ensures.printed c.in_ok-shown.ensures.printed in
+    let fits = shown_fault c.args.kernels (words_of c.args.line.now) _ _ c.kernel_range.result c.kernel_range.ensures.least c.kernel_range.ensures.most c.in_ok-kernel.ensures.ok c.in_ok-act.ensures.ok ∙ c.in_ok-shown.ensures.fault in
     no_fault c.args.kernels (words_of c.args.line.now) fits (ap has_long_memory words ∙ (long_entry c.args.kernels e c.in_ok-act.ensures.fits ∙ sym c.if-carries_long.ensures))
 
 pub returns-clause-fits : goal.returns-clause-fits
 returns-clause-fits c =
-    let e : Entry = entry c.in_ok-kernel.kernel c.in_ok-act.act c.in_ok-act.detail c.in_ok-outcome.outcome in
+    let e : Entry = entry c.in_ok-kernel.kernel c.in_ok-act.act c.in_ok-act.detail c.in_ok-shown.shown in
     record {
       kernel = omega (arith, c.kernel_range.ensures.most, c.in_ok-kernel.ensures.within.most, c.requires);
       event = c.in_ok-act.ensures.fits;
-      grant = c.in_ok-outcome.ensures.fits.grant;
-      cut = c.in_ok-outcome.ensures.fits.cut;
-      reply = c.in_ok-outcome.ensures.fits.reply;
+      grant = c.in_ok-shown.ensures.fits.grant;
+      cut = c.in_ok-shown.ensures.fits.cut;
+      reply = c.in_ok-shown.ensures.fits.reply;
       memory = long_entry c.args.kernels e c.in_ok-act.ensures.fits ∙ sym c.if-carries_long.ensures;
     }

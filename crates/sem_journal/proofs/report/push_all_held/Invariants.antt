@@ -1,6 +1,6 @@
 use Rattle.std.proofs.Common.{◌≡◌, ◌++◌, map, take}
 use Rattle.sem_text.specs.Lines.{text}
-use Rattle.sem_journal.specs.AuditList.{held_pairs}
+use Rattle.sem_msg.specs.Audits.{held_pairs}
 use Rattle.sem_journal.specs.ReportText.{held_line}
 use Rattle.sem_journal.proofs.report.push_all_held.Given as goal
 

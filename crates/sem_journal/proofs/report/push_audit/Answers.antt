@@ -1,7 +1,7 @@
 use Rattle.std.proofs.Common.{◌≡◌, length, sym, ◌∙◌}
 use Rattle.std.proofs.lemmas.List.{length-map}
-use Rattle.sem_journal.specs.declared.audit.Held.{Held}
-use Rattle.sem_journal.specs.AuditList.{held_pairs}
+use Rattle.sem_msg.specs.declared.audit.Held.{Held}
+use Rattle.sem_msg.specs.Audits.{held_pairs}
 use Rattle.sem_journal.proofs.LinesJoined.{OnOk-then, text-audit}
 use Rattle.sem_journal.proofs.report.push_audit.Goals as goal
 

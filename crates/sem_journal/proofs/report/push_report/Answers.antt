@@ -1,4 +1,4 @@
-use Rattle.sem_journal.specs.AuditList.{held_pairs}
+use Rattle.sem_msg.specs.Audits.{held_pairs}
 use Rattle.sem_journal.proofs.LinesJoined.{OnOk-then, text-report}
 use Rattle.sem_journal.proofs.report.push_report.Goals as goal
 

@@ -3,7 +3,7 @@ use Rattle.std.proofs.lemmas.Result.{err_from_is_err_and}
 use Rattle.sem_text.specs.Lines.{line}
 use Rattle.sem_journal.specs.EntryForms.{has_long_memory}
 use Rattle.sem_journal.specs.ReportRefusal.{count_form, words_in}
-use Rattle.sem_journal.proofs.Decimals.{digits-decimal}
+use Rattle.sem_reader.proofs.Decimals.{digits-decimal}
 use Rattle.sem_journal.proofs.LineForms.{bytes_bad, words_bad, spelling_bad, line_good}
 use Rattle.sem_journal.proofs.report_lines.count_line.Goals as goal
 

@@ -1,8 +1,11 @@
-use Rattle.std.proofs.Common.{◌≡◌, ap, ◌∙◌, arith}
+use Rattle.std.proofs.Common.{◌≡◌, ℕ, ap, ◌∙◌, arith}
 use Rattle.std.proofs.lemmas.Result.{err_from_is_err_and}
+use Rattle.std.proofs.lemmas.List.{length-map}
+use Rattle.sem_key.specs.KeyName.{KeyName}
+use Rattle.sem_msg.specs.declared.audit.Held.{Held}
 use Rattle.sem_msg.specs.Setup.{Setup}
 use Rattle.sem_journal.specs.WholeLines.{whole_lines}
-use Rattle.sem_journal.specs.AuditList.{held_pairs}
+use Rattle.sem_msg.specs.Audits.{held_pairs}
 use Rattle.sem_journal.proofs.WholeReport.{IsHeaded, IsTraced, too_long, header_refused, trace_refused, behind_refused, behind_last, last_refused, report_is}
 use Rattle.sem_journal.proofs.report_reader.read_report.Goals as goal
 
@@ -45,3 +48,16 @@ returns-clause-accepted c =
     let traced : IsTraced (whole_lines c.header.new.self.rest.now) (whole_lines c.trace.new.self.rest.now) c.in_ok-setup.setup c.trace.new.self.number = record { trace = c.in_ok-setup.ensures.ok; declared = c.in_ok-setup.ensures.declared; rest = c.in_ok-setup.ensures.behind; number = c.in_ok-setup.ensures.number } in
     let same : c.setup.inside.kernels ≡ c.in_ok-setup.setup.kernels = ap (λ (T : Setup). T.kernels) c.setup.view_is in
     behind_last c.args.bytes.now _ _ _ c.in_ok-setup.setup _ _ headed traced (rw same at c.in_ok-journal.ensures.ok) ∙ c.in_ok-finish.ensures.ok
+
+pub returns-clause-fits : goal.returns-clause-fits
+returns-clause-fits c =
+    let same : c.setup.inside.kernels ≡ c.in_ok-setup.setup.kernels = ap (λ (T : Setup). T.kernels) c.setup.view_is in
+    record {
+      trace = c.in_ok-setup.ensures.fits;
+      entries = rw same at c.in_ok-journal.ensures.fits;
+      few_entries = c.in_ok-journal.ensures.entries;
+      few_made = c.in_ok-journal.ensures.made;
+      few_cut = c.in_ok-journal.ensures.cut;
+      few_held = omega (arith, c.in_ok-journal.ensures.held, length-map {B = KeyName × ℕ} c.in_ok-journal.audit.held (λ (h : Held). (h.key, h.sel)));
+      keys = c.in_ok-journal.ensures.keys;
+    }

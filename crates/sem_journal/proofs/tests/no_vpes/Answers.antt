@@ -1,13 +1,13 @@
-use Rattle.std.proofs.Common.{◌≡◌, ℕ, zero, suc, [], Option, None, replicate, get_or, refl, arith}
+use Rattle.std.proofs.Common.{inl, ◌≡◌, ℕ, zero, suc, [], Option, None, replicate, get_or, refl, arith}
 use Rattle.sem_key.specs.MembershipTable.{MembershipTable}
 use Rattle.sem_msg.specs.Setup.{Setup, IsSetup}
 use Rattle.sem_journal.proofs.tests.no_vpes.Goals as goal
 
 abbrev owners : MembershipTable
-owners = record { kernels = 1; owners = replicate 64 None }
+owners = record { kernels = 1; owners = replicate 128 None }
 
 abbrev setup : Setup
-setup = record { kernels = 1; owners = owners; vpes = []; services = []; offers = []; denies = []; kills = [] }
+setup = record { version = 1; window = 4; kernels = 1; owners = owners; vpes = []; services = []; offers = []; denies = []; kills = [] }
 
 no_owner : (n pe : ℕ) → get_or {A = Option ℕ} (replicate n None) pe None ≡ None
 no_owner zero pe = refl
@@ -16,9 +16,11 @@ no_owner (suc n) (suc pe) = no_owner n pe
 
 is_setup : IsSetup setup
 is_setup = record {
+  versioned = inl refl;
+  windowed = (omega arith, omega arith);
   some_kernel = omega arith;
   few_kernels = omega arith;
-  membership = record { some_kernel = omega arith; few_kernels = omega arith; all_pes = refl; owners_exist = λ pe kernel owned. let none = no_owner 64 pe in absurd (cc) };
+  membership = record { some_kernel = omega arith; few_kernels = omega arith; all_pes = refl; owners_exist = λ pe kernel owned. let none = no_owner 128 pe in absurd (cc) };
   same_kernels = refl;
   vpes = λ k d lt. absurd (omega arith);
   vpes_rise = λ i j d lt within. absurd (omega arith);

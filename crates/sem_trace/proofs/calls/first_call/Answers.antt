@@ -195,6 +195,21 @@ returns-then-is-13-clause-value c = rw (c.in_ok-name.ensures.ok, c.if-is-13.ensu
 pub returns-then-is-13-clause-printed : goal.returns-then-is-13-clause-printed
 returns-then-is-13-clause-printed c = rw (c.in_ok-name.ensures.ok, c.if-is-13.ensures.0 refl) refl
 
-pub returns-else-is-13-clause-err : goal.returns-else-is-13-clause-err
+pub returns-then-is-14-clause-ok : goal.returns-then-is-14-clause-ok
 unfolding form_fault calls
-returns-else-is-13-clause-err c = rw (c.in_ok-name.ensures.ok, differs _ _ c.if-is.ensures, differs _ _ c.if-is-2.ensures, differs _ _ c.if-is-3.ensures, differs _ _ c.if-is-4.ensures, differs _ _ c.if-is-5.ensures, differs _ _ c.if-is-6.ensures, differs _ _ c.if-is-7.ensures, differs _ _ c.if-is-8.ensures, differs _ _ c.if-is-9.ensures, differs _ _ c.if-is-10.ensures, differs _ _ c.if-is-11.ensures, differs _ _ c.if-is-12.ensures, differs _ _ c.if-is-13.ensures) (λ more. refl)
+returns-then-is-14-clause-ok c = rw (c.in_ok-name.ensures.ok, c.if-is-14.ensures.0 refl) c.clear.ensures.ok
+
+pub returns-then-is-14-clause-err : goal.returns-then-is-14-clause-err
+unfolding form_fault calls
+returns-then-is-14-clause-err c = rw (c.in_ok-name.ensures.ok, c.if-is-14.ensures.0 refl) c.clear.ensures.err
+
+pub returns-then-is-14-clause-value : goal.returns-then-is-14-clause-value
+unfolding call_from
+returns-then-is-14-clause-value c = rw (c.in_ok-name.ensures.ok, c.if-is-14.ensures.0 refl) c.clear.ensures.value
+
+pub returns-then-is-14-clause-printed : goal.returns-then-is-14-clause-printed
+returns-then-is-14-clause-printed c = rw (c.in_ok-name.ensures.ok, c.if-is-14.ensures.0 refl) c.clear.ensures.printed
+
+pub returns-else-is-14-clause-err : goal.returns-else-is-14-clause-err
+unfolding form_fault calls
+returns-else-is-14-clause-err c = rw (c.in_ok-name.ensures.ok, differs _ _ c.if-is.ensures, differs _ _ c.if-is-2.ensures, differs _ _ c.if-is-3.ensures, differs _ _ c.if-is-4.ensures, differs _ _ c.if-is-5.ensures, differs _ _ c.if-is-6.ensures, differs _ _ c.if-is-7.ensures, differs _ _ c.if-is-8.ensures, differs _ _ c.if-is-9.ensures, differs _ _ c.if-is-10.ensures, differs _ _ c.if-is-11.ensures, differs _ _ c.if-is-12.ensures, differs _ _ c.if-is-13.ensures, differs _ _ c.if-is-14.ensures) (λ more. refl)

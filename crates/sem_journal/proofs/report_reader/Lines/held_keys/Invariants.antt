@@ -1,6 +1,8 @@
 use Rattle.std.proofs.Common.{◌≡◌, ◌+◌, ◌≤◌, ◌++◌, length, map, replicate}
+use Rattle.std.specs.List.{All}
 use Rattle.sem_text.specs.Lines.{text}
-use Rattle.sem_journal.specs.AuditList.{held_pairs}
+use Rattle.sem_msg.specs.Audits.{held_pairs}
+use Rattle.sem_journal.specs.ReportRanges.{HeldFits}
 use Rattle.sem_journal.specs.ReportText.{held_line}
 use Rattle.sem_journal.specs.WholeLines.{whole_lines}
 use Rattle.sem_journal.specs.ReportRefusal.{held_form}
@@ -14,4 +16,5 @@ invariant-loop l = record {
   follows : Follows (replicate l.counter held_form) (l.initial.self.number + 1) (whole_lines l.initial.self.rest.now) (l.self.number + 1) (whole_lines l.self.rest.now);
   read : l.initial.self.rest.now ≡ text (map held_line (held_pairs l.keys)) ++ l.self.rest.now;
   count : length l.keys ≡ l.counter;
+  fits : All HeldFits (held_pairs l.keys);
 }

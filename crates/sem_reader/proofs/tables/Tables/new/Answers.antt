@@ -5,7 +5,7 @@ use Rattle.sem_reader.proofs.tables.Tables.new.Goals as goal
 
 pub returns-clause-tells : goal.returns-clause-tells
 returns-clause-tells c =
-    tells_nothing c.args.kernels _ 64 64 64 64 64 256 65536 4096 64 c.requires.some c.requires.few c.empty.ensures.empty refl refl c.in_ok-no_roots.ensures c.in_ok-no_calls.ensures refl refl c.in_ok-no_offers.ensures c.in_ok-no_denies.ensures refl
+    tells_nothing c.args.kernels _ 128 64 64 64 64 256 65536 4096 64 c.requires.some c.requires.few c.empty.ensures.empty refl refl c.in_ok-no_roots.ensures c.in_ok-no_calls.ensures refl refl c.in_ok-no_offers.ensures c.in_ok-no_denies.ensures refl
 
 pub returns-clause-sizes : goal.returns-clause-sizes
 returns-clause-sizes c = record {

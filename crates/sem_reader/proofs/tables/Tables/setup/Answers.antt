@@ -1,4 +1,4 @@
-use Rattle.sem_reader.proofs.SetupIs.{plain_vpes, setup_is, same_setup}
+use Rattle.sem_reader.proofs.SetupIs.{plain_vpes, setup_is, trace_fits, same_setup}
 use Rattle.sem_reader.proofs.tables.Tables.setup.Goals as goal
 
 pub services_of-requires : goal.services_of-requires
@@ -16,4 +16,9 @@ invariant_of-result c =
     rw (same_setup _ c.kernels.result c.requires.told.ds c.args.self.now.owners c.in_ok-vpes.vpes c.in_ok-services.services c.in_ok-offers.offers c.in_ok-denies.denies c.in_ok-kills.kills c.requires.sizes.owners told.number told.owner c.kernels.ensures.number (c.in_ok-vpes.ensures _ _ told) c.in_ok-services.ensures (c.in_ok-offers.ensures _ _ told) (c.in_ok-denies.ensures _ _ told) (c.in_ok-kills.ensures _ _ told)) (setup_is _ _ told.some told.few told.accepted)
 
 pub returns : goal.returns
-returns c kernels ds told = same_setup kernels c.kernels.result ds c.args.self.now.owners c.in_ok-vpes.vpes c.in_ok-services.services c.in_ok-offers.offers c.in_ok-denies.denies c.in_ok-kills.kills c.requires.sizes.owners told.number told.owner c.kernels.ensures.number (c.in_ok-vpes.ensures _ _ told) c.in_ok-services.ensures (c.in_ok-offers.ensures _ _ told) (c.in_ok-denies.ensures _ _ told) (c.in_ok-kills.ensures _ _ told)
+returns c = record {
+  setup = λ kernels ds told. same_setup kernels c.kernels.result ds c.args.self.now.owners c.in_ok-vpes.vpes c.in_ok-services.services c.in_ok-offers.offers c.in_ok-denies.denies c.in_ok-kills.kills c.requires.sizes.owners told.number told.owner c.kernels.ensures.number (c.in_ok-vpes.ensures _ _ told) c.in_ok-services.ensures (c.in_ok-offers.ensures _ _ told) (c.in_ok-denies.ensures _ _ told) (c.in_ok-kills.ensures _ _ told);
+  fits =
+      let told = c.requires.told.tells in
+      rw (same_setup _ c.kernels.result c.requires.told.ds c.args.self.now.owners c.in_ok-vpes.vpes c.in_ok-services.services c.in_ok-offers.offers c.in_ok-denies.denies c.in_ok-kills.kills c.requires.sizes.owners told.number told.owner c.kernels.ensures.number (c.in_ok-vpes.ensures _ _ told) c.in_ok-services.ensures (c.in_ok-offers.ensures _ _ told) (c.in_ok-denies.ensures _ _ told) (c.in_ok-kills.ensures _ _ told)) (trace_fits _ _ told.some told.few told.accepted);
+}

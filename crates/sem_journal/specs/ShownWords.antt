@@ -5,14 +5,14 @@ use Rattle.sem_key.specs.declared.object.Object.TheVariants.{Mem}
 use Rattle.sem_msg.specs.declared.message.Message.TheVariants.{ObtainOk, DelegateReq}
 use Rattle.sem_msg.specs.declared.entry.Detail.{Detail}
 use Rattle.sem_msg.specs.declared.entry.Detail.TheVariants.{Carried}
-use Rattle.sem_journal.specs.declared.outcome.Outcome.{Outcome}
+use Rattle.sem_journal.specs.declared.shown.Shown.{Shown}
 use Rattle.sem_journal.specs.EntryText.{grant_words, cut_words, reply_words}
 use Rattle.sem_journal.specs.EntryRanges.{GrantFits, CutFits, ReplyFits}
 
-abbrev pub outcome_words : Outcome → List (List ℕ)
-outcome_words o = grant_words o.grant ++ cut_words o.cut ++ reply_words o.reply
+abbrev pub shown_words : Shown → List (List ℕ)
+shown_words o = grant_words o.grant ++ cut_words o.cut ++ reply_words o.reply
 
-pub record OutcomeFits (o : Outcome) : Type 0 where
+pub record ShownFits (o : Shown) : Type 0 where
   pub grant : GrantFits o.grant
   pub cut : CutFits o.cut
   pub reply : ReplyFits o.reply

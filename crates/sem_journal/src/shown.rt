@@ -3,7 +3,7 @@ use sem_msg::Reply;
 
 /// What came of an event: what was granted, cut and replied.
 #[derive(Clone, Copy, Debug)]
-pub struct Outcome {
+pub struct Shown {
     pub grant: Option<(Key, Key)>,
     pub cut: Option<Key>,
     pub reply: Option<Reply>,

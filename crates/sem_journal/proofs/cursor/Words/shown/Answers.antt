@@ -3,7 +3,7 @@ use Rattle.std.proofs.lemmas.Result.{err_from_is_err_and}
 use Rattle.sem_trace.specs.Forms.{form_fault}
 use Rattle.sem_journal.specs.EntryForms.{behind_event}
 use Rattle.sem_journal.proofs.WordChoices.{differs}
-use Rattle.sem_journal.proofs.cursor.Words.outcome.Goals as goal
+use Rattle.sem_journal.proofs.cursor.Words.shown.Goals as goal
 
 pub returns-in_default-clause-fault : goal.returns-in_default-clause-fault
 unfolding form_fault behind_event
