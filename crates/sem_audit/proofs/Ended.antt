@@ -1,7 +1,7 @@
 -- The VPEs that have ended.
 use Rattle.std.proofs.Common.{◌≡◌, ℕ, Bool, false, List, [], ◌∷◌, ◌++◌, Option, Some, None, refl, ap}
 use Rattle.std.specs.Prelude.{◌==◌, ◌||◌}
-use Rattle.std.specs.List.{cons_option, filter, filter_map, list_any}
+use Rattle.std.specs.List.{cons_option, filter, list_any}
 use Rattle.std.specs.Option.{option_map_or}
 use Rattle.sem_key.specs.KeyName.{KeyName}
 use Rattle.sem_key.specs.KeyList.{key_set}
@@ -11,7 +11,7 @@ use Rattle.sem_msg.specs.declared.event.Act.TheVariants.{Call as Calls, Kill}
 use Rattle.sem_msg.specs.declared.entry.Detail.{Detail}
 use Rattle.sem_msg.specs.declared.entry.Detail.TheVariants.{Called}
 use Rattle.sem_msg.specs.declared.entry.Entry.{Entry}
-use Rattle.sem_machine.specs.Journals.{ends, has_ended}
+use Rattle.sem_machine.specs.Journals.{ends, has_ended, cut_from}
 use Rattle.sem_audit.specs.Ending.{ended_by, ended_in, with_keys}
 use Rattle.sem_audit.proofs.Reading.{with_keys-append}
 
@@ -35,7 +35,7 @@ pub ended_keys-is : (J : List Entry) (ks : List KeyName) → filter (λ k. list_
 ended_keys-is J [] = refl
 ended_keys-is J (k ∷ ks) = rw (has_ended-is J k.vpe, ended_keys-is J ks) refl
 
--- the keys of the revokes and then those of the VPEs that have ended, added to no keys, are the cut
-pub cut-gathered : (J : List Entry) (made : List KeyName) (vpes : List ℕ) (none revoked all : List KeyName) → none ≡ [] → revoked ≡ with_keys none (filter_map (λ (e : Entry). e.cut) J) → vpes ≡ ended_in J → all ≡ with_keys revoked (filter (λ k. list_any (λ w. w == k.vpe) vpes) made) → all ≡ key_set (filter_map (λ (e : Entry). e.cut) J ++ filter (λ k. has_ended J k.vpe) made)
+-- what was cut off and then the keys of the VPEs that have ended, added to no keys, are the cut
+pub cut-gathered : (J : List Entry) (made : List KeyName) (vpes : List ℕ) (none revoked all : List KeyName) → none ≡ [] → revoked ≡ with_keys none (cut_from [] J) → vpes ≡ ended_in J → all ≡ with_keys revoked (filter (λ k. list_any (λ w. w == k.vpe) vpes) made) → all ≡ key_set (cut_from [] J ++ filter (λ k. has_ended J k.vpe) made)
 cut-gathered J made vpes none revoked all empty first ended rest =
-    rw (with_keys-append [] (filter_map (λ (e : Entry). e.cut) J) (filter (λ k. has_ended J k.vpe) made), ← ended_keys-is J made, ← ended, ← empty, ← first) rest
+    rw (with_keys-append [] (cut_from [] J) (filter (λ k. has_ended J k.vpe) made), ← ended_keys-is J made, ← ended, ← empty, ← first) rest

@@ -11,11 +11,11 @@ use Rattle.sem_key.specs.Lists.{in_turn}
 use Rattle.sem_key.specs.Capability.{Capability}
 use Rattle.sem_key.proofs.Filtered.{filter-front, filter-back}
 use Rattle.sem_key.specs.CapList.{with_cap}
-use Rattle.sem_journal.specs.declared.audit.Held.{Held}
-use Rattle.sem_journal.specs.AuditList.{held_pairs}
+use Rattle.sem_msg.specs.declared.audit.Held.{Held}
+use Rattle.sem_msg.specs.Audits.{held_pairs}
 use Rattle.sem_machine.specs.Sides.{Side}
 use Rattle.sem_machine.specs.Machine.{World}
-use Rattle.sem_machine.proofs.InTurns.{in_turn-append}
+use Rattle.sem_key.proofs.InTurns.{in_turn-append}
 use Rattle.sem_audit.specs.HeldKeys.{held}
 use Rattle.sem_audit.specs.Holding.{holding, IsInOrder, with_held, with_caps}
 

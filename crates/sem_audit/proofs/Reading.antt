@@ -6,7 +6,7 @@ use Rattle.std.proofs.lemmas.List.Elements.{filter_more}
 use Rattle.sem_key.specs.KeyName.{KeyName}
 use Rattle.sem_key.specs.KeyList.{with_key}
 use Rattle.sem_key.specs.Lists.{in_turn}
-use Rattle.sem_machine.proofs.InTurns.{in_turn-append}
+use Rattle.sem_key.proofs.InTurns.{in_turn-append}
 use Rattle.sem_audit.specs.Ending.{with_keys}
 
 take-suc-read : {X : Type 0} (xs : List X) (i : ℕ) → take (suc i) xs ≡ take i xs ++ option_to_list (slice_get xs i)

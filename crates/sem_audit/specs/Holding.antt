@@ -4,7 +4,7 @@ use Rattle.std.specs.List.Sorted.{IsNonDecreasingBy}
 use Rattle.sem_key.specs.KeyName.{packed, key_lt}
 use Rattle.sem_key.specs.Lists.{in_turn}
 use Rattle.sem_key.specs.Capability.{Capability}
-use Rattle.sem_journal.specs.declared.audit.Held.{Held}
+use Rattle.sem_msg.specs.declared.audit.Held.{Held}
 
 -- the key of a capability with its selector
 abbrev pub holding : Capability → Held

@@ -1,15 +1,14 @@
 ghost use Rattle.std.specs.Prelude.{◌≡◌, length, IfOk};
-ghost use Rattle.sem_journal.specs.AuditList.{held_pairs};
+ghost use Rattle.sem_msg.specs.Audits.{held_pairs};
 ghost use Rattle.sem_machine.specs.Journals.{made as made_lem, cut};
 ghost use Rattle.sem_audit.specs.HeldKeys.{held};
 
 use crate::cuts::cut_among;
 use crate::holds::held_list;
 use crate::makes::made_keys;
-use sem_journal::Audit;
 use sem_key::OutOfMemory;
 use sem_model::World;
-use sem_msg::{Journal, Setup};
+use sem_msg::{Audit, Journal, Setup};
 use std::alloc::Global;
 
 /// The audit of a journal after which the kernels are in that world.

@@ -1,16 +1,16 @@
-ghost use Rattle.std.specs.Prelude.{◌≡◌, ◌++◌, ◌==◌, slice_get, filter, filter_map, IfOk, OnOk};
+ghost use Rattle.std.specs.Prelude.{◌≡◌, ◌++◌, ◌==◌, [], slice_get, filter, IfOk, OnOk};
 ghost use Rattle.std.specs.List.{list_any};
-ghost use Rattle.std.specs.Option.{option_to_list};
+ghost use Rattle.std.specs.Option.{option_map_or, option_to_list};
 ghost use Rattle.sem_key.specs.KeyList.{key_set, with_key};
-ghost use Rattle.sem_machine.specs.Journals.{has_ended, cut};
+ghost use Rattle.sem_machine.specs.Journals.{children_in, cut_off, cut_from, has_ended, cut};
 ghost use Rattle.sem_audit.specs.Ending.{ended_by as ended_by_lem, ended_in, with_keys};
 
 use crate::makes::made_keys;
-use sem_key::{Key, Keys, OutOfMemory};
+use sem_key::{Key, Keys, OutOfMemory, same_key};
 use sem_msg::{Act, Call, Detail, Entry, Journal, Setup};
 use std::alloc::Global;
 
-/// The keys that a revoke began to cut off, and the keys of the VPEs that have ended; each once.
+/// What revokes and clears cut off, and the keys of the VPEs that have ended; each once.
 pub fn cut_keys(alloc: Global, setup: &Setup, journal: &Journal) -> Result<Keys, OutOfMemory>
     ensures { IfOk result (λ keys. keys.keys ≡ cut setup.now journal.now.entries) }
 {
@@ -20,34 +20,65 @@ pub fn cut_keys(alloc: Global, setup: &Setup, journal: &Journal) -> Result<Keys,
 
 // The cut, where these are the keys that were made.
 pub fn cut_among(alloc: Global, made: &[Key], journal: &Journal) -> Result<Keys, OutOfMemory>
-    ensures { IfOk result (λ keys. keys.keys ≡ key_set (filter_map (λ e. e.cut) journal.now.entries ++ filter (λ k. has_ended journal.now.entries k.vpe) made.now)) }
+    ensures { IfOk result (λ keys. keys.keys ≡ key_set (cut_from [] journal.now.entries ++ filter (λ k. has_ended journal.now.entries k.vpe) made.now)) }
 {
     let mut keys = Keys::new(alloc);
-    add_revoked(&mut keys, journal)?;
+    add_cut_off(alloc, &mut keys, journal.as_slice())?;
     let ended = ended_vpes(alloc, journal)?;
     add_ended(&mut keys, made, &ended)?;
     Ok(keys)
 }
 
-// Adds the keys that a revoke began to cut off.
-fn add_revoked(keys: &mut Keys, journal: &Journal) -> Result<(), OutOfMemory>
-    ensures { OnOk result (keys.new.keys ≡ with_keys keys.old.keys (filter_map (λ e. e.cut) journal.now.entries)) }
+// Adds what the entries of a journal cut off.
+fn add_cut_off(alloc: Global, keys: &mut Keys, entries: &[Entry]) -> Result<(), OutOfMemory>
+    ensures { OnOk result (keys.new.keys ≡ with_keys keys.old.keys (cut_from [] entries.now)) }
 {
-    for at in 0..journal.len() {
-        add_revoked_at(keys, journal, at)?;
+    let mut granted = Vec::new(alloc);
+    for entry in entries {
+        add_cut_off_by(keys, &granted, entry)?;
+        push_grant(&mut granted, entry)?;
     }
     Ok(())
 }
 
-// Adds the key that a revoke began to cut off in the entry at that place, if there is one.
-fn add_revoked_at(keys: &mut Keys, journal: &Journal, at: usize) -> Result<(), OutOfMemory>
-    ensures { OnOk result (keys.new.keys ≡ with_keys keys.old.keys (filter_map (λ e. e.cut) (option_to_list (slice_get journal.now.entries at)))) }
+// Adds what the entry cuts off, where these grants were before it.
+fn add_cut_off_by(keys: &mut Keys, granted: &[(Key, Key)], entry: &Entry) -> Result<(), OutOfMemory>
+    ensures { OnOk result (keys.new.keys ≡ with_keys keys.old.keys (option_map_or (cut_off granted.now entry.now.detail) entry.now.cut [])) }
 {
-    let Some(entry) = journal.get(at) else {
+    let Some(key) = entry.cut else {
         return Ok(());
     };
-    if let Some(key) = entry.cut {
-        add(keys, key)?;
+    match entry.detail {
+        Detail::Called {
+            call: Call::Revoke { .. },
+            ..
+        } => add(keys, key),
+        Detail::Called {
+            call: Call::Clear { .. },
+            ..
+        } => add_children(keys, granted, key),
+        _ => Ok(()),
+    }
+}
+
+// Adds the keys that were granted below the parent.
+fn add_children(keys: &mut Keys, granted: &[(Key, Key)], parent: Key) -> Result<(), OutOfMemory>
+    ensures { OnOk result (keys.new.keys ≡ with_keys keys.old.keys (children_in granted.now parent)) }
+{
+    for (above, child) in granted {
+        if same_key(above, &parent) {
+            add(keys, *child)?;
+        }
+    }
+    Ok(())
+}
+
+// Appends the grant of the entry, if there is one.
+fn push_grant(granted: &mut Vec<(Key, Key)>, entry: &Entry) -> Result<(), OutOfMemory>
+    ensures { OnOk result (granted.new.items ≡ granted.old.items ++ option_to_list entry.now.grant) }
+{
+    if let Some(grant) = entry.grant {
+        granted.push(grant)?;
     }
     Ok(())
 }

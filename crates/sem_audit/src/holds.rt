@@ -1,11 +1,11 @@
 ghost use Rattle.std.specs.Prelude.{◌≡◌, [], flat_map, IfOk, OnOk};
-ghost use Rattle.sem_journal.specs.AuditList.{held_pairs};
+ghost use Rattle.sem_msg.specs.Audits.{held_pairs};
 ghost use Rattle.sem_audit.specs.HeldKeys.{held};
 ghost use Rattle.sem_audit.specs.Holding.{IsInOrder, with_held, with_caps};
 
-use sem_journal::{Held, HeldList};
 use sem_key::{OutOfMemory, pack};
 use sem_model::{Capability, Side, World};
+use sem_msg::{Held, HeldList};
 use std::alloc::Global;
 
 /// The keys that the kernels hold with the selectors at which they stand, in rising key order.

@@ -1,9 +1,10 @@
-ghost use Rattle.std.specs.Prelude.{◌≡◌, ◌≤◌, ◌++◌, length, map, slice_get, IfOk, OnOk};
+ghost use Rattle.std.specs.Prelude.{◌≡◌, ◌≤◌, ◌<◌, ◌++◌, length, map, slice_get, IfOk, OnOk};
 ghost use Rattle.std.specs.Option.{option_to_list};
-ghost use Rattle.sem_key.specs.ObjectRanges.{object_kind};
+ghost use Rattle.sem_key.specs.declared.limits.TheConstants.{PES, VPES};
+ghost use Rattle.sem_msg.specs.declared.limits.TheConstants.{SELECTORS};
 ghost use Rattle.sem_machine.specs.Journals.{grants, root_keys_from, root_keys as root_keys_lem, made};
 
-use sem_key::{Key, Kind, Object, OutOfMemory};
+use sem_key::{Key, OutOfMemory};
 use sem_msg::{Journal, Setup, VpeDecl};
 use std::alloc::Global;
 
@@ -29,33 +30,20 @@ fn root_keys(alloc: Global, setup: &Setup) -> Result<Vec<Key>, OutOfMemory>
 
 // Appends the keys of the roots of a VPE, which are numbered from 0.
 fn push_roots(keys: &mut Vec<Key>, decl: &VpeDecl) -> Result<(), OutOfMemory>
-    requires vpe { decl.now.vpe ≤ 63 }
-    requires pe { decl.now.pe ≤ 63 }
-    requires few { length decl.now.roots ≤ 256 }
+    requires vpe { decl.now.vpe < VPES }
+    requires pe { decl.now.pe < PES }
+    requires few { length decl.now.roots ≤ SELECTORS }
     ensures { OnOk result (keys.new.items ≡ keys.old.items ++ root_keys_from decl.now 0 decl.now.roots) }
 {
     for (number, root) in decl.roots.as_slice().iter().enumerate() {
         keys.push(Key {
             pe: decl.pe,
             vpe: decl.vpe,
-            kind: kind_of(&root.object),
+            kind: root.object.kind(),
             number: number as u32,
         })?;
     }
     Ok(())
-}
-
-// The kind of the capabilities with such an object.
-fn kind_of(object: &Object) -> Kind
-    ensures { result ≡ object_kind object.now }
-{
-    match object {
-        Object::Mem { .. } => Kind::Mem,
-        Object::Recv { .. } => Kind::Recv,
-        Object::Send { .. } => Kind::Send,
-        Object::Serv { .. } => Kind::Serv,
-        Object::Sess { .. } => Kind::Sess,
-    }
 }
 
 // Appends the children of the grants.

@@ -4,9 +4,8 @@ ghost use Rattle.sem_model.specs.Built.{IsBuilt};
 
 use crate::audit;
 use crate::tests::one_vpe;
-use sem_journal::Audit;
 use sem_model::{boot, step};
-use sem_msg::{Act, Event, Journal, Setup};
+use sem_msg::{Act, Audit, Event, Journal, Setup};
 use std::alloc::Global;
 use std::test::Fail;
 

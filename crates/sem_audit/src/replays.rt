@@ -1,5 +1,5 @@
 ghost use Rattle.std.specs.Prelude.{◌≡◌, true, length, IfOk, OnOk};
-ghost use Rattle.sem_journal.specs.AuditList.{held_pairs};
+ghost use Rattle.sem_msg.specs.Audits.{held_pairs};
 ghost use Rattle.sem_machine.specs.Journals.{made, cut};
 ghost use Rattle.sem_machine.specs.Machine.{is_enabled, after};
 ghost use Rattle.sem_machine.specs.Schedules.{IsSchedule, world_after};
@@ -7,10 +7,9 @@ ghost use Rattle.sem_model.specs.Built.{IsBuilt};
 ghost use Rattle.sem_audit.specs.HeldKeys.{held};
 
 use crate::audits::audit_of;
-use sem_journal::Audit;
 use sem_key::OutOfMemory;
 use sem_model::{StepError, World, boot, step};
-use sem_msg::{Event, Journal, Setup};
+use sem_msg::{Audit, Event, Journal, Setup};
 use std::alloc::Global;
 
 /// The audit of a journal that the machine can make: it goes through the events once more.

@@ -3,12 +3,11 @@ ghost use Rattle.sem_model.specs.Built.{IsBuilt};
 
 use crate::holds::found_held;
 use crate::{audit_of, cut_keys, held_list, made_keys};
-use sem_journal::{Audit, Held, HeldList};
 use sem_key::{Key, Kind, Membership, Object};
 use sem_model::{Capability, Side, boot};
 use sem_msg::{
-    Act, Call, Calls, Denies, Detail, Entry, Event, Journal, Kills, Offers, Reply, Root, Roots,
-    Services, Setup, VpeDecl, Vpes0,
+    Act, Audit, Call, Calls, Denies, Detail, Entry, Event, Held, HeldList, Journal, Kills, Offers,
+    Reply, Root, Roots, Services, Setup, VpeDecl, Vpes0,
 };
 use std::alloc::Global;
 use std::process::Abort;
@@ -70,6 +69,8 @@ pub fn one_vpe(alloc: Global) -> Result<Setup, Fail>
         calls,
     })?;
     Ok(Setup {
+        version: 1,
+        window: 4,
         kernels: 1,
         owners,
         vpes,
@@ -111,6 +112,11 @@ fn revoked(src: u8, key: Key) -> Entry {
     called(1, Call::Revoke { src }, None, Some(key))
 }
 
+// The VPE clears what stands at a selector, where that key stands.
+fn cleared(src: u8, key: Key) -> Entry {
+    called(1, Call::Clear { src }, None, Some(key))
+}
+
 // The VPE ends.
 fn exited() -> Entry {
     called(2, Call::Exit, None, None)
@@ -144,6 +150,8 @@ fn holder(alloc: Global, key: Key, selector: u8) -> Result<Side, Fail> {
     Ok(Side {
         caps,
         vpes: Vec::new(alloc),
+        endpoints: Vec::new(alloc),
+        parks: Vec::new(alloc),
         pendings: Vec::new(alloc),
         jobs: Vec::new(alloc),
         next_job: 0,
@@ -211,6 +219,18 @@ fn roots_and_then_the_children_of_grants_are_made(rt: HostRuntime) -> Result<(),
 fn what_is_revoked_and_what_an_ended_vpe_had_is_cut_once(rt: HostRuntime) -> Result<(), Fail> {
     let child_first = [derived(), revoked(1, CHILD), exited()];
     expect_cut(&rt, rt.alloc(), &child_first, &[ROOT, CHILD])
+}
+
+#[test]
+fn a_clear_cuts_what_was_granted_below_its_key_before(rt: HostRuntime) -> Result<(), Fail> {
+    let later = called(2, Call::Credit { ep: 0 }, Some((ROOT, OTHER)), None);
+    expect_cut(&rt, rt.alloc(), &[derived(), cleared(1, CHILD)], &[])?;
+    expect_cut(
+        &rt,
+        rt.alloc(),
+        &[derived(), cleared(0, ROOT), later],
+        &[CHILD],
+    )
 }
 
 #[test]

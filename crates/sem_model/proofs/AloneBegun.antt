@@ -1,36 +1,24 @@
 -- A revoke that meets no other job and leaves its kernel nowhere ends in the step of its call: that the VPE was parked to wait is seen no more.
 use Rattle.std.proofs.Common.{◌≡◌, ℕ, zero, suc, ◌+◌, not, List, [], ◌∷◌, get_or, Option, Some, None, refl, ◌∙◌, ap}
 use Rattle.std.specs.List.{All, filter}
-use Rattle.std.proofs.lemmas.List.Elements.{All-cons, All-head, All-tail, All-nil}
+use Rattle.std.proofs.lemmas.List.Elements.{All-cons, All-head, All-tail}
 use Rattle.sem_key.specs.KeyName.{KeyName}
-use Rattle.sem_key.specs.Lists.{in_turn, put}
+use Rattle.sem_key.specs.Lists.{put}
 use Rattle.sem_key.specs.Capability.{Capability}
 use Rattle.sem_msg.specs.declared.state.Parked.{Parked}
 use Rattle.sem_msg.specs.declared.state.Parked.TheVariants.{RevokeWait, Ready}
-use Rattle.sem_msg.specs.declared.state.Slot.TheVariants.{Free}
-use Rattle.sem_msg.specs.Rows.{VpeRow, no_vpe}
 use Rattle.sem_msg.specs.Setup.{Setup}
-use Rattle.sem_machine.specs.Codes.{Done}
-use Rattle.sem_machine.specs.Sides.{Side, cap, row, freed, ready, parked_as}
-use Rattle.sem_machine.specs.Revokes.{has_key, region, revoke_begun}
+use Rattle.sem_msg.specs.declared.code.Code.TheVariants.{Ok as OkCode}
+use Rattle.sem_msg.specs.Codes.{code_number}
+use Rattle.sem_machine.specs.Sides.{Side, cap, ready, parked_as}
+use Rattle.sem_key.specs.Region.{has_key, region}
+use Rattle.sem_machine.specs.Revokes.{revoke_begun}
 use Rattle.sem_model.specs.Alone.{IsAlone, all_freed, left_by, revoked_alone}
 use Rattle.sem_model.proofs.AloneRevoke.{begin-alone}
 
 -- the list with what stands at place i changed
 abbrev changed_at : {X : Type 0} → X → (X → X) → ℕ → List X → List X
 changed_at d f i xs = put d xs i (f (get_or xs i d))
-
--- two changes that may be made in either order of one element may be made so of a list, at any two places
-changed_at-swap : {X : Type 0} (d : X) (f g : X → X) (i j : ℕ) (xs : List X) → ((x : X) → f (g x) ≡ g (f x)) → changed_at d f i (changed_at d g j xs) ≡ changed_at d g j (changed_at d f i xs)
-unfolding put
-changed_at-swap d f g zero zero [] swap = ap (λ x. x ∷ []) (swap d)
-changed_at-swap d f g zero (suc j) [] swap = refl
-changed_at-swap d f g (suc i) zero [] swap = refl
-changed_at-swap d f g (suc i) (suc j) [] swap = ap (λ xs. d ∷ xs) (changed_at-swap d f g i j [] swap)
-changed_at-swap d f g zero zero (y ∷ ys) swap = ap (λ x. x ∷ ys) (swap y)
-changed_at-swap d f g zero (suc j) (y ∷ ys) swap = refl
-changed_at-swap d f g (suc i) zero (y ∷ ys) swap = refl
-changed_at-swap d f g (suc i) (suc j) (y ∷ ys) swap = ap (λ xs. y ∷ xs) (changed_at-swap d f g i j ys swap)
 
 -- a change is not seen behind one that overwrites it
 changed_at-over : {X : Type 0} (d : X) (f g : X → X) (i : ℕ) (xs : List X) → ((x : X) → f (g x) ≡ f x) → changed_at d f i (changed_at d g i xs) ≡ changed_at d f i xs
@@ -55,10 +43,6 @@ module _ {X : Type 0} (P : X → Type 0) where
   All-read d (y ∷ ys) zero other all = All-head P y ys all
   All-read d (y ∷ ys) (suc i) other all = All-read d ys i other (All-tail P y ys all)
 
--- no endpoint of a VPE is bound
-abbrev Unbound : VpeRow → Type 0
-Unbound r = All (λ e. e ≡ None) r.endpoints
-
 -- a kernel stays alone when a call is parked
 parked-alone : (T : Setup) (i v : ℕ) (p : Parked) (s : Side) → IsAlone T i s → IsAlone T i (parked_as v p s)
 parked-alone T i v p s alone = record {
@@ -66,25 +50,12 @@ parked-alone T i v p s alone = record {
   unmarked = alone.unmarked;
   local_children = alone.local_children;
   local_parents = alone.local_parents;
-  unbound = All-put Unbound no_vpe s.vpes v (record (row s v) { parked = Some p }) none (All-read Unbound no_vpe s.vpes v none alone.unbound) alone.unbound;
+  unbound = alone.unbound;
 }
-  where
-    none : Unbound no_vpe
-    none = All-nil (λ e. e ≡ None)
-
--- a selector is freed in the same way whether a call is parked before or after
-freed-parked : (w sel v : ℕ) (p : Parked) (s : Side) → freed w sel (parked_as v p s) ≡ parked_as v p (freed w sel s)
-freed-parked w sel v p s = ap (λ (vpes : List VpeRow). record s { vpes = vpes }) (changed_at-swap no_vpe (λ (r : VpeRow). record r { slots = put Free r.slots sel Free }) (λ (r : VpeRow). record r { parked = Some p }) w v s.vpes (λ r. refl))
-
--- and so are all selectors
-all_freed-parked : (cs : List Capability) (v : ℕ) (p : Parked) (s : Side) → all_freed cs (parked_as v p s) ≡ parked_as v p (all_freed cs s)
-unfolding in_turn
-all_freed-parked [] v p s = refl
-all_freed-parked (c ∷ cs) v p s = ap (all_freed cs) (freed-parked c.key.vpe c.selector v p s) ∙ all_freed-parked cs v p (freed c.key.vpe c.selector s)
 
 -- where the call will end with a code, it is not seen in which state it was parked before
 ready-parked : (code v : ℕ) (p : Parked) (s : Side) → ready code v (parked_as v p s) ≡ ready code v s
-ready-parked code v p s = ap (λ (vpes : List VpeRow). record s { vpes = vpes }) (changed_at-over no_vpe (λ (r : VpeRow). record r { parked = Some (Ready code) }) (λ (r : VpeRow). record r { parked = Some p }) v s.vpes (λ r. refl))
+ready-parked code v p s = ap (λ (parks : List (Option Parked)). record s { parks = parks }) (changed_at-over None (λ _. Some (Ready code)) (λ _. Some p) v s.parks (λ r. refl))
 
 -- what is left of a side x when the region of a root is gone and an id was drawn
 abbrev without_region : KeyName → Side → Side → Side
@@ -94,8 +65,7 @@ without_region root s x = record x { caps = filter (λ c. not (has_key (region s
 revoked-parked : (root : KeyName) (parent : Option KeyName) (v : ℕ) (p : Parked) (s : Side) → revoked_alone root parent v (parked_as v p s) ≡ revoked_alone root parent v s
 revoked-parked root parent v p s =
     let gone : List Capability = filter (λ c. has_key (region s.caps root) c.key) s.caps in
-    ap (λ x. left_by parent root (ready Done v (without_region root s x))) (all_freed-parked gone v p s)
-    ∙ ap (left_by parent root) (ready-parked Done v p (without_region root s (all_freed gone s)))
+    ap (left_by parent root) (ready-parked (code_number OkCode) v p (without_region root s (all_freed gone s)))
 
 -- a revoke of a VPE that meets no other job and leaves its kernel nowhere ends in its own step
 pub revoke_begun-alone : (T : Setup) (i : ℕ) (k : KeyName) (c : Capability) (v : ℕ) (s : Side) → IsAlone T i s → cap s k ≡ Some c → revoke_begun T i v k None s ≡ revoked_alone k c.parent v s

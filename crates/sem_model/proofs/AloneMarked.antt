@@ -7,8 +7,9 @@ use Rattle.std.proofs.lemmas.List.Elements.{All-head, All-tail, All-contains}
 use Rattle.sem_key.specs.KeyName.{KeyName, key_eq}
 use Rattle.sem_key.specs.Capability.{Capability}
 use Rattle.sem_key.specs.CapList.{is_marked_by}
-use Rattle.sem_machine.specs.Revokes.{has_key, other_marker}
-use Rattle.sem_machine.proofs.Members.{found}
+use Rattle.sem_key.specs.Region.{has_key}
+use Rattle.sem_machine.specs.Revokes.{other_marker}
+use Rattle.sem_key.proofs.Members.{found}
 
 abbrev pub IsUnmarked : Capability → Type 0
 IsUnmarked c = c.mark ≡ None

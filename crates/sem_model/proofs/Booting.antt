@@ -1,45 +1,49 @@
 -- How far the making of a world at the start has come.
-use Rattle.std.proofs.Common.{◌≡◌, ◌≢◌, ℕ, zero, suc, ◌+◌, ◌<◌, ◌≤◌, true, false, cond, eqb, List, [], ◌∷◌, ◌++◌, length, take, map, replicate, get_or, set, Option, Some, None, refl, sym, ◌∙◌, ap, subst, arith, length-set, get_or-set_same, append-nil}
+use Rattle.std.proofs.Common.{◌≡◌, ◌≢◌, ℕ, ◌+◌, ◌<◌, ◌≤◌, true, false, cond, eqb, List, [], ◌∷◌, ◌++◌, length, take, map, replicate, get_or, set, Option, None, refl, sym, ◌∙◌, ap, subst, arith, length-set, get_or-set_same, append-nil}
 use Rattle.std.specs.List.{filter, range_with_len, AllPairs, All, Contains}
-use Rattle.std.specs.Option.{option_eq}
-use Rattle.std.specs.Prelude.{◌==◌, nat_eq, unwrap_or}
+use Rattle.std.specs.Prelude.{◌==◌}
 use Rattle.std.proofs.lemmas.List.{take_all, take_more, get_or_read, length-replicate, length-map, get_or-map, replicate_more}
 use Rattle.std.proofs.lemmas.List.Elements.{filter_more}
 use Rattle.std.proofs.lemmas.List.FromFn.{map-range_with_len_more}
 use Rattle.std.proofs.lemmas.Map.Steps.{length-le_from_distinct_below}
 use Rattle.std.proofs.lemmas.Map.Made.{IsDistinct-from_AllPairs}
-use Rattle.std.proofs.lemmas.Bool.Decides.{nat_tests, Decides-eqb}
+use Rattle.std.proofs.lemmas.Bool.Decides.{Decides-eqb}
 use Rattle.std.proofs.lemmas.Bool.{eqb-true}
 use Rattle.sem_key.specs.declared.object.Object.TheVariants.{Mem}
 use Rattle.sem_key.specs.Lists.{put, in_turn}
 use Rattle.sem_key.specs.Capability.{Capability}
-use Rattle.sem_key.specs.MembershipTable.{owner_at}
 use Rattle.sem_key.specs.CapList.{with_cap}
 use Rattle.sem_msg.specs.declared.message.Message.{Message}
 use Rattle.sem_msg.specs.declared.setup.Root.{Root}
 use Rattle.sem_msg.specs.declared.setup.VpeDecl.{VpeDecl}
 use Rattle.sem_msg.specs.declared.state.Slot.TheVariants.{Free, Held}
-use Rattle.sem_msg.specs.Rows.{VpeRow, no_vpe}
+use Rattle.sem_key.specs.declared.limits.TheConstants.{VPES}
+use Rattle.sem_msg.specs.declared.limits.TheConstants.{SELECTORS}
+use Rattle.sem_msg.specs.EndpointRows.{no_endpoint_bound}
+use Rattle.sem_msg.specs.VpeRows.{new_vpe, root_held}
+use Rattle.sem_msg.specs.Rows.{VpeRow, no_vpe, Endpoint}
 use Rattle.sem_msg.specs.Setup.{Setup, IsSetup, IsRoot, IsVpeDecl, root_key}
-use Rattle.sem_msg.specs.Lookups.{pe_owner}
+use Rattle.sem_msg.specs.Lookups.{runs_on, pe_owner}
 use Rattle.sem_machine.specs.Sides.{Side, row}
-use Rattle.sem_machine.specs.Machine.{new_vpe, root_added, vpe_added, empty_side, start_side, start}
+use Rattle.sem_machine.specs.Machine.{root_added, vpe_added, empty_side, start_side, start}
 use Rattle.sem_model.specs.ModelWorld.{booted}
-use Rattle.sem_machine.proofs.InTurns.{in_turn-append}
-use Rattle.sem_machine.proofs.Members.{AllPairs-map, list_any-some}
-use Rattle.sem_machine.proofs.Puts.{get_or-put_same, put-set}
+use Rattle.sem_key.proofs.InTurns.{in_turn-append}
+use Rattle.sem_key.proofs.Members.{AllPairs-map, list_any-some}
+use Rattle.sem_key.proofs.Puts.{get_or-put_same, put-set}
 
 -- the first roots of a VPE were added
 pub record IsAdding (d : VpeDecl) (before now : Side) (done : ℕ) : Type 0 where
   pub added : now ≡ in_turn (root_added d) (take done d.roots) before
-  pub places : length now.vpes ≡ 64
-  pub selectors : length (row now d.vpe).slots ≡ 256
+  pub places : length now.vpes ≡ VPES
+  pub rows : length now.endpoints ≡ VPES
+  pub selectors : length (row now d.vpe).slots ≡ SELECTORS
   pub number : (row now d.vpe).next_number ≡ done
 
 -- the VPEs of kernel i among the first were added
 pub record IsStarting (T : Setup) (i : ℕ) (now : Side) (done : ℕ) : Type 0 where
-  pub added : now ≡ in_turn vpe_added (filter (λ d. pe_owner T d.pe == i) (take done T.vpes)) (empty_side T)
-  pub places : length now.vpes ≡ 64
+  pub added : now ≡ in_turn vpe_added (filter (runs_on T i) (take done T.vpes)) (empty_side T)
+  pub places : length now.vpes ≡ VPES
+  pub rows : length now.endpoints ≡ VPES
 
 -- the sides and the links of the first kernels were made
 pub record IsBooting (T : Setup) (sides : List Side) (links : List (List (List Message))) (done : ℕ) : Type 0 where
@@ -47,13 +51,6 @@ pub record IsBooting (T : Setup) (sides : List Side) (links : List (List (List M
   pub links_made : links ≡ replicate done (replicate T.kernels [])
 
 -- Writes at a place.
-
-put-put : {X : Type 0} (d : X) (xs : List X) (i : ℕ) (x y : X) → put d (put d xs i x) i y ≡ put d xs i y
-unfolding put
-put-put d [] zero x y = refl
-put-put d [] (suc i) x y = ap (λ zs. d ∷ zs) (put-put d [] i x y)
-put-put d (z ∷ zs) zero x y = refl
-put-put d (z ∷ zs) (suc i) x y = ap (λ ys. z ∷ ys) (put-put d zs i x y)
 
 length-put : {X : Type 0} (d : X) (xs : List X) (i : ℕ) (x : X) → i < length xs → length (put d xs i x) ≡ length xs
 length-put d xs i x within = rw (put-set d xs i x within) (length-set xs i x)
@@ -63,34 +60,29 @@ length-put d xs i x within = rw (put-set d xs i x within) (length-set xs i x)
 abbrev root_cap : VpeDecl → Root → ℕ → Capability
 root_cap d r n = record { key = root_key d n r; parent = None; children = []; mark = None; selector = r.sel; object = r.object }
 
-abbrev with_root : VpeDecl → Root → VpeRow → VpeRow
-with_root d r x = record x { slots = put Free x.slots r.sel (Held (root_key d x.next_number r)); next_number = x.next_number + 1 }
-
 -- a root that is added writes one row and one capability
-root_added-is : (d : VpeDecl) (r : Root) (s : Side) → root_added d r s ≡ record s { caps = with_cap s.caps (root_cap d r (row s d.vpe).next_number); vpes = put no_vpe s.vpes d.vpe (with_root d r (row s d.vpe)) }
-root_added-is d r s = rw (get_or-put_same, put-put) refl
+root_added-is : (d : VpeDecl) (r : Root) (s : Side) → root_added d r s ≡ record s { caps = with_cap s.caps (root_cap d r (row s d.vpe).next_number); vpes = put no_vpe s.vpes d.vpe (root_held d r (row s d.vpe)) }
+root_added-is d r s = refl
 
 -- what the writes of a root make
-pub root_added-written : (d : VpeDecl) (r : Root) (s : Side) (held new : VpeRow) (caps : List Capability) → d.vpe < length s.vpes → r.sel < length (row s d.vpe).slots → held ≡ get_or s.vpes d.vpe held → new ≡ record held { slots = set held.slots r.sel (Held (root_key d held.next_number r)); next_number = held.next_number + 1 } → caps ≡ with_cap s.caps (root_cap d r held.next_number) → record s { caps = caps; vpes = set s.vpes d.vpe new } ≡ root_added d r s
+pub root_added-written : (d : VpeDecl) (r : Root) (s : Side) (held new : VpeRow) (caps : List Capability) → d.vpe < length s.vpes → r.sel < length (row s d.vpe).slots → held ≡ get_or s.vpes d.vpe held → new ≡ root_held d r held → caps ≡ with_cap s.caps (root_cap d r held.next_number) → record s { caps = caps; vpes = set s.vpes d.vpe new } ≡ root_added d r s
 root_added-written d r s held new caps within selector found new_is caps_is =
     let is : held ≡ row s d.vpe = get_or_read s.vpes d.vpe held within found no_vpe in
-    let room : r.sel < length held.slots = rw is selector in
-    let row_is : new ≡ with_root d r held = rw (put-set Free held.slots r.sel (Held (root_key d held.next_number r)) room) new_is in
-    rw (root_added-is d r s, ← is, put-set no_vpe s.vpes d.vpe (with_root d r held) within, caps_is, row_is) refl
+    rw (root_added-is d r s, ← is, put-set no_vpe s.vpes d.vpe (root_held d r held) within, caps_is, new_is) refl
 
 -- Adding a VPE.
 
 -- at most as many roots as there are selectors
-pub roots-few : (d : VpeDecl) → AllPairs (λ a b. a.sel ≢ b.sel) d.roots → All IsRoot d.roots → length d.roots ≤ 256
+pub roots-few : (d : VpeDecl) → AllPairs (λ a b. a.sel ≢ b.sel) d.roots → All IsRoot d.roots → length d.roots ≤ SELECTORS
 roots-few d differ roots =
     let sels : List ℕ = map (λ (r : Root). r.sel) d.roots in
     let distinct = IsDistinct-from_AllPairs Decides-eqb sels (AllPairs-map (λ a b. a ≢ b) (λ (r : Root). r.sel) d.roots differ) in
-    rw (length-map d.roots (λ (r : Root). r.sel)) at (length-le_from_distinct_below sels 256 distinct (λ q among. below d.roots roots q (list_any-some (eqb q) sels among)))
+    rw (length-map d.roots (λ (r : Root). r.sel)) at (length-le_from_distinct_below sels SELECTORS distinct (λ q among. below d.roots roots q (list_any-some (eqb q) sels among)))
   where
     none : Root
     none = record { sel = 0; object = Mem 0 0 0 }
 
-    below : (rs : List Root) → All IsRoot rs → (q : ℕ) → (x : ℕ) × Contains (map (λ (r : Root). r.sel) rs) x × (eqb q x ≡ true) → q < 256
+    below : (rs : List Root) → All IsRoot rs → (q : ℕ) → (x : ℕ) × Contains (map (λ (r : Root). r.sel) rs) x × (eqb q x ≡ true) → q < SELECTORS
     below rs roots q (x, (k, within, same), is) =
         let inside : k < length rs = rw (length-map rs (λ (r : Root). r.sel)) at within in
         let at_k = get_or-map (λ (r : Root). r.sel) rs k none x inside in
@@ -99,26 +91,27 @@ roots-few d differ roots =
         omega (arith, at_k, same, root.selector, is_x)
 
 -- so it is with a VPE that a setup declares
-pub roots-few_declared : (T : Setup) (i : ℕ) (d : VpeDecl) → IsSetup T → i < length T.vpes → d ≡ get_or T.vpes i d → length d.roots ≤ 256
+pub roots-few_declared : (T : Setup) (i : ℕ) (d : VpeDecl) → IsSetup T → i < length T.vpes → d ≡ get_or T.vpes i d → length d.roots ≤ SELECTORS
 roots-few_declared T i d valid within found =
     let declared : IsVpeDecl T d = subst (IsVpeDecl T) (sym found) (valid.vpes i d within) in
     roots-few d declared.selectors_differ declared.roots
 
 -- a VPE with nothing yet
-pub IsAdding-none : (d : VpeDecl) (s : Side) (x : VpeRow) → length s.vpes ≡ 64 → d.vpe ≤ 63 → x ≡ new_vpe → IsAdding d (record s { vpes = set s.vpes d.vpe x }) (record s { vpes = set s.vpes d.vpe x }) 0
+pub IsAdding-none : (d : VpeDecl) (s : Side) (x : VpeRow) (es : List (Option Endpoint)) → length s.vpes ≡ VPES → length s.endpoints ≡ VPES → d.vpe < VPES → x ≡ new_vpe → IsAdding d (record s { vpes = set s.vpes d.vpe x; endpoints = set s.endpoints d.vpe es }) (record s { vpes = set s.vpes d.vpe x; endpoints = set s.endpoints d.vpe es }) 0
 unfolding in_turn
-IsAdding-none d s x places known fresh =
+IsAdding-none d s x es places rows known fresh =
     let within : d.vpe < length s.vpes = omega arith in
     let is : get_or (set s.vpes d.vpe x) d.vpe no_vpe ≡ new_vpe = get_or-set_same s.vpes d.vpe x no_vpe within ∙ fresh in
     record {
       added = refl;
       places = length-set s.vpes d.vpe x ∙ places;
-      selectors = rw is (length-replicate 256 Free);
+      rows = length-set s.endpoints d.vpe es ∙ rows;
+      selectors = rw is (length-replicate SELECTORS Free);
       number = rw is refl;
     }
 
 -- one more root
-pub IsAdding-more : (d : VpeDecl) (before now new : Side) (done : ℕ) (r : Root) → IsAdding d before now done → d.vpe ≤ 63 → done < length d.roots → r ≡ get_or d.roots done r → All IsRoot d.roots → new ≡ root_added d r now → IsAdding d before new (done + 1)
+pub IsAdding-more : (d : VpeDecl) (before now new : Side) (done : ℕ) (r : Root) → IsAdding d before now done → d.vpe < VPES → done < length d.roots → r ≡ get_or d.roots done r → All IsRoot d.roots → new ≡ root_added d r now → IsAdding d before new (done + 1)
 unfolding in_turn
 IsAdding-more d before now new done r so_far known more found roots is =
     let root = roots done r more in
@@ -127,45 +120,39 @@ IsAdding-more d before now new done r so_far known more found roots is =
     let e = is ∙ root_added-is d r now in
     record {
       added = rw (take_more d.roots done r more, in_turn-append, ← found, ← so_far.added) is;
-      places = rw (e, length-put no_vpe now.vpes d.vpe (with_root d r (row now d.vpe)) within) so_far.places;
+      places = rw (e, length-put no_vpe now.vpes d.vpe (root_held d r (row now d.vpe)) within) so_far.places;
+      rows = rw e so_far.rows;
       selectors = rw (e, get_or-put_same, length-put Free (row now d.vpe).slots r.sel (Held (root_key d (row now d.vpe).next_number r)) room) so_far.selectors;
       number = rw (e, get_or-put_same) (ap (λ n. n + 1) so_far.number);
     }
 
 -- all roots
-pub IsAdding-all : (d : VpeDecl) (s : Side) (x : VpeRow) (now : Side) (done : ℕ) → length s.vpes ≡ 64 → d.vpe ≤ 63 → x ≡ new_vpe → IsAdding d (record s { vpes = set s.vpes d.vpe x }) now done → length d.roots ≤ done → now ≡ vpe_added d s
-IsAdding-all d s x now done places known fresh so_far all =
+pub IsAdding-all : (d : VpeDecl) (s : Side) (x : VpeRow) (es : List (Option Endpoint)) (now : Side) (done : ℕ) → length s.vpes ≡ VPES → length s.endpoints ≡ VPES → d.vpe < VPES → x ≡ new_vpe → es ≡ no_endpoint_bound → IsAdding d (record s { vpes = set s.vpes d.vpe x; endpoints = set s.endpoints d.vpe es }) now done → length d.roots ≤ done → now ≡ vpe_added d s
+IsAdding-all d s x es now done places rows known fresh unbound so_far all =
     let within : d.vpe < length s.vpes = omega arith in
-    rw (put-set no_vpe s.vpes d.vpe new_vpe within, ← fresh, ← take_all done d.roots all) so_far.added
+    let within' : d.vpe < length s.endpoints = omega arith in
+    rw (put-set no_vpe s.vpes d.vpe new_vpe within, put-set [] s.endpoints d.vpe no_endpoint_bound within', ← fresh, ← unbound, ← take_all done d.roots all) so_far.added
 
 -- Making a side.
-
--- whether a kernel owns a PE
-owns : (o : Option ℕ) (kernels i : ℕ) → i < kernels → option_eq nat_eq o (Some i) ≡ (unwrap_or o kernels == i)
-owns None kernels i known = grind (arith, nat_tests)
-owns (Some k) kernels i known = refl
-
-pub pe_owner-is : (T : Setup) (pe i : ℕ) → i < T.kernels → option_eq nat_eq (owner_at T.owners pe) (Some i) ≡ (pe_owner T pe == i)
-pe_owner-is T pe i known = owns (owner_at T.owners pe) T.kernels i known
 
 -- a side with nothing yet
 pub IsStarting-none : (T : Setup) (i : ℕ) (s : Side) → s ≡ empty_side T → IsStarting T i s 0
 unfolding in_turn
-IsStarting-none T i s empty = record { added = empty; places = rw empty (length-replicate 64 no_vpe) }
+IsStarting-none T i s empty = record { added = empty; places = rw empty (length-replicate VPES no_vpe); rows = rw empty (length-replicate {A = List (Option Endpoint)} VPES []) }
 
 -- one more declaration
 module _ (T : Setup) (i : ℕ) (now : Side) (done : ℕ) (d : VpeDecl) (so_far : IsStarting T i now done) (more : done < length T.vpes) (found : d ≡ get_or T.vpes done d) where
-  next : filter (λ d. pe_owner T d.pe == i) (take (done + 1) T.vpes) ≡ filter (λ d. pe_owner T d.pe == i) (take done T.vpes) ++ cond (pe_owner T d.pe == i) (d ∷ []) []
-  next = rw (← found) at (filter_more (λ d. pe_owner T d.pe == i) T.vpes done d more)
+  next : filter (runs_on T i) (take (done + 1) T.vpes) ≡ filter (runs_on T i) (take done T.vpes) ++ cond (pe_owner T d.pe == i) (d ∷ []) []
+  next = rw (← found) at (filter_more (runs_on T i) T.vpes done d more)
 
   -- of this kernel
-  pub IsStarting-more : (new : Side) → (pe_owner T d.pe == i) ≡ true → new ≡ vpe_added d now → length new.vpes ≡ 64 → IsStarting T i new (done + 1)
+  pub IsStarting-more : (new : Side) → (pe_owner T d.pe == i) ≡ true → new ≡ vpe_added d now → length new.vpes ≡ VPES → length new.endpoints ≡ VPES → IsStarting T i new (done + 1)
   unfolding in_turn
-  IsStarting-more new own is places = record { added = rw (next, own, in_turn-append, ← so_far.added) is; places = places }
+  IsStarting-more new own is places rows = record { added = rw (next, own, in_turn-append, ← so_far.added) is; places = places; rows = rows }
 
   -- of another
   pub IsStarting-skip : (pe_owner T d.pe == i) ≡ false → IsStarting T i now (done + 1)
-  IsStarting-skip other = record { added = rw (next, other, append-nil) so_far.added; places = so_far.places }
+  IsStarting-skip other = record { added = rw (next, other, append-nil) so_far.added; places = so_far.places; rows = so_far.rows }
 
 -- all declarations
 pub IsStarting-all : (T : Setup) (i : ℕ) (now : Side) (done : ℕ) → IsStarting T i now done → length T.vpes ≤ done → now ≡ start_side T i

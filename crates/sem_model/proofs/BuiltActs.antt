@@ -15,14 +15,17 @@ use Rattle.sem_msg.specs.Calls.{IsValidCall}
 use Rattle.sem_msg.specs.Setup.{Setup, IsSetup, IsVpeDecl}
 use Rattle.sem_msg.specs.Lookups.{kernel_of}
 use Rattle.sem_machine.specs.Sides.{Side, row, parked, is_alive, call_counted, unparked}
-use Rattle.sem_machine.specs.Steps.{Step, answer, plain}
+use Rattle.sem_machine.specs.Steps.{Step, replied, plain}
 use Rattle.sem_machine.specs.Calls.{call_row}
 use Rattle.sem_machine.specs.Resumes.{can_resume}
 use Rattle.sem_machine.specs.Machine.{next_call, is_locally_enabled, local_step}
+use Rattle.sem_key.specs.declared.limits.TheConstants.{VPES}
+use Rattle.sem_msg.specs.Versions.{most_vpes}
+use Rattle.sem_msg.proofs.Declared.{most_vpes-le}
 use Rattle.sem_model.specs.Acting.{can_act, reply_number}
 use Rattle.sem_model.specs.Built.{IsBuilt, IsBuiltCall}
 use Rattle.sem_model.specs.BuiltWorld.{IsReadyAtMost, parked_number, IsCounted, IsBuiltSide}
-use Rattle.sem_model.proofs.CalmRows.{row-calm}
+use Rattle.sem_model.proofs.CalmRows.{state-ready}
 use Rattle.sem_model.proofs.BuiltSides.{IsKept, IsCallDone, counted-kept, unparked-kept, call-done}
 use Rattle.sem_model.proofs.OneVpe.{IsOnly, only-vpe, only-calls, only-all, all-only}
 use Rattle.sem_model.proofs.Resuming.{resume_row-ready}
@@ -30,7 +33,7 @@ use Rattle.sem_model.proofs.Resuming.{resume_row-ready}
 -- VPE v, the only one, whose calls are these, has a next call
 pub record HasNext (T : Setup) (v : ℕ) (s : Side) (call : Call) : Type 0 where
   pub next : next_call T s v ≡ Some call
-  pub valid : IsValidCall call
+  pub valid : IsValidCall (most_vpes T.version) call
   pub built : IsBuiltCall call
 
 module _ (T : Setup) (v : ℕ) (d : VpeDecl) (only : IsOnly T v d) where
@@ -39,7 +42,9 @@ module _ (T : Setup) (v : ℕ) (d : VpeDecl) (only : IsOnly T v d) where
   kept-side s is =
       let counted : IsCounted s d = only-all T v d only (IsCounted s) is.counted in
       record {
-        rows = record { places = is.places; calm = is.calm; selectors = rw only.number at counted.selectors; calls = refl; parked = refl };
+        rows = record { places = is.places; calm = is.calm; selectors = rw only.number at counted.selectors; calls = refl };
+        unbound = is.unbound;
+        parks = record { places = is.parked_places; ready = is.ready; parked = refl };
         caps = is.caps;
         no_jobs = is.no_jobs;
         no_message = is.no_message;
@@ -50,6 +55,9 @@ module _ (T : Setup) (v : ℕ) (d : VpeDecl) (only : IsOnly T v d) where
   side-kept n p s few is = record {
     places = is.rows.places;
     calm = is.rows.calm;
+    unbound = is.unbound;
+    parked_places = is.parks.places;
+    ready = is.parks.ready;
     caps = is.caps;
     no_jobs = is.no_jobs;
     no_message = is.no_message;
@@ -69,12 +77,17 @@ module _ (T : Setup) (v : ℕ) (d : VpeDecl) (only : IsOnly T v d) where
       let calls : All IsBuiltCall d.calls = only-all T v d only (λ x. All IsBuiltCall x.calls) built.calls in
       record {
         next = next;
-        valid = subst IsValidCall same (declared.calls (row s v).next_call call within);
+        valid = subst (IsValidCall (most_vpes T.version)) same (declared.calls (row s v).next_call call within);
         built = subst IsBuiltCall same (calls (row s v).next_call call within);
       }
 
-  pub placed-only : IsSetup T → v ≤ 63
-  placed-only valid = let declared : IsVpeDecl T d = only-all T v d only (IsVpeDecl T) valid.vpes in rw only.number at declared.vpe
+  pub placed-only : IsSetup T → v < VPES
+  placed-only valid =
+      let declared : IsVpeDecl T d = only-all T v d only (IsVpeDecl T) valid.vpes in
+      let at = declared.vpe in
+      let most = most_vpes-le T.version in
+      let same = only.number in
+      omega (arith, at, most, same)
 
 -- what a parked call that can go on waits for, where calls are parked only to end with a code
 pub ready-code : (p : Option Parked) → IsReadyAtMost p → can_resume p ≡ true → (code : ℕ) × (p ≡ Some (Ready code))
@@ -98,7 +111,7 @@ none-only (Some x) is = absurd (true≢false (sym is))
 
 -- so many replies and the parked call are not more than the calls of a VPE
 abbrev pub IsRepliedAt : ℕ → Side → VpeDecl → Type 0
-IsRepliedAt replies s d = replies + parked_number (row s d.vpe).parked ≤ (row s d.vpe).next_call
+IsRepliedAt replies s d = replies + parked_number (parked s d.vpe) ≤ (row s d.vpe).next_call
 
 abbrev pub AreReplied : Setup → ℕ → Side → Type 0
 AreReplied T replies s = All (IsRepliedAt replies s) T.vpes
@@ -146,10 +159,10 @@ module _ (T : Setup) (v : ℕ) (s : Side) (valid : IsSetup T) (built : IsBuilt T
       rw (call-step can) (record {
         kernel = side-kept T v d can.only n done.waits _ few done.kept_so;
         replied = λ replies before.
-            let at : replies + parked_number (row s d.vpe).parked ≤ (row s d.vpe).next_call = only-all T v d can.only (IsRepliedAt replies s) before in
+            let at : replies + parked_number (parked s d.vpe) ≤ (row s d.vpe).next_call = only-all T v d can.only (IsRepliedAt replies s) before in
             let at_v : replies + parked_number (parked s v) ≤ (row s v).next_call = rw can.only.number at at in
             let free : replies + 0 ≤ (row s v).next_call = rw can.free at at_v in
-            all-only T v d can.only (IsRepliedAt (replies + reply_number (call_row T 0 (call_counted v s) v can.call).outcome) (call_row T 0 (call_counted v s) v can.call).side) (rw (can.only.number, done.kept_so.rows.parked, done.kept_so.rows.calls) (omega (arith, done.once, free)));
+            all-only T v d can.only (IsRepliedAt (replies + reply_number (call_row T 0 (call_counted v s) v can.call).outcome) (call_row T 0 (call_counted v s) v can.call).side) (rw (can.only.number, done.kept_so.parks.parked, done.kept_so.rows.calls) (omega (arith, done.once, free)));
       })
 
   -- A call that goes on.
@@ -164,10 +177,10 @@ module _ (T : Setup) (v : ℕ) (s : Side) (valid : IsSetup T) (built : IsBuilt T
   can_go_on test =
       let own = and_parts (kernel_of T v == 0) (can_resume (parked s v)) test in
       let only = only-vpe T v built own.0 in
-      let ready = ready-code (parked s v) (row-calm s.vpes v is.calm).parked own.1 in
+      let ready = ready-code (parked s v) (state-ready s.parks v is.ready) own.1 in
       record { decl = only.0; only = only.1; code = ready.0; ready = ready.1 }
 
-  pub resume-step : (can : CanGoOn) → local_step T 0 s (Resume v) None ≡ answer can.code (unparked v s)
+  pub resume-step : (can : CanGoOn) → local_step T 0 s (Resume v) None ≡ replied can.code (unparked v s)
   unfolding local_step
   resume-step can = resume_row-ready T s v can.code can.ready
 
@@ -181,10 +194,10 @@ module _ (T : Setup) (v : ℕ) (s : Side) (valid : IsSetup T) (built : IsBuilt T
       rw (resume-step can) (record {
         kernel = side-kept T v d can.only (row s v).next_call None (unparked v s) few left;
         replied = λ replies before.
-            let at : replies + parked_number (row s d.vpe).parked ≤ (row s d.vpe).next_call = only-all T v d can.only (IsRepliedAt replies s) before in
+            let at : replies + parked_number (parked s d.vpe) ≤ (row s d.vpe).next_call = only-all T v d can.only (IsRepliedAt replies s) before in
             let at_v : replies + parked_number (parked s v) ≤ (row s v).next_call = rw can.only.number at at in
             let one : replies + 1 ≤ (row s v).next_call = rw can.ready at at_v in
-            all-only T v d can.only (IsRepliedAt (replies + 1) (unparked v s)) (rw (can.only.number, left.rows.parked, left.rows.calls) (omega (arith, one)));
+            all-only T v d can.only (IsRepliedAt (replies + 1) (unparked v s)) (rw (can.only.number, left.parks.parked, left.rows.calls) (omega (arith, one)));
       })
 
 pub acted : (T : Setup) (s : Side) (a : Act) → IsSetup T → IsBuilt T → IsBuiltSide T s → can_act T s a ≡ true → IsActed T s (local_step T 0 s a None)

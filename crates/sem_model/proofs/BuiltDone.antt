@@ -1,5 +1,5 @@
 -- What an act of the one kernel of a built setup does to the capabilities that it holds, and what it shows of that.
-use Rattle.std.proofs.Common.{◌≡◌, ℕ, ◌≤◌, true, not, [], Option, Some, None, refl, sym, ap, subst, inl, inr, arith, true≢false, ◌⊎◌}
+use Rattle.std.proofs.Common.{◌≡◌, ℕ, true, not, [], Option, Some, None, refl, sym, ap, subst, inl, inr, arith, true≢false, ◌⊎◌, ◌<◌}
 use Rattle.std.specs.List.{filter}
 use Rattle.sem_key.specs.declared.object.Object.{Object}
 use Rattle.sem_key.specs.ObjectRanges.{object_kind}
@@ -9,22 +9,25 @@ use Rattle.sem_key.specs.Lists.{change}
 use Rattle.sem_key.specs.Capability.{Capability}
 use Rattle.sem_key.specs.CapList.{with_cap}
 use Rattle.sem_msg.specs.declared.call.Call.{Call}
-use Rattle.sem_msg.specs.declared.call.Call.TheVariants.{Derive, Gate, Obtain, Delegate, OpenSession, AskOffer, Revoke, Bind, Read, Write, Send as SendCall, Credit, Exit}
+use Rattle.sem_msg.specs.declared.call.Call.TheVariants.{Derive, Gate, Obtain, Delegate, OpenSession, AskOffer, Revoke, Bind, Read, Write, Send as SendCall, Credit, Exit, Clear}
 use Rattle.sem_msg.specs.declared.event.Act.{Act}
 use Rattle.sem_msg.specs.declared.event.Act.TheVariants.{Call as Calls, Fetch, Handle, Upcall, Resume, Flush, Kill}
 use Rattle.sem_msg.specs.declared.setup.VpeDecl.{VpeDecl}
 use Rattle.sem_msg.specs.Setup.{Setup, IsSetup, IsVpeDecl}
-use Rattle.sem_machine.specs.Codes.{NoCap}
+use Rattle.sem_msg.specs.declared.code.Code.TheVariants.{NoCap}
+use Rattle.sem_msg.specs.Codes.{code_number}
 use Rattle.sem_machine.specs.Sides.{Side, cap, own, call_counted}
-use Rattle.sem_machine.specs.Steps.{Step, answer, unless}
+use Rattle.sem_machine.specs.Steps.{Step, answer, first_code, unless}
 use Rattle.sem_machine.specs.Calls.{next_key, narrowed, derive_tests, derive_row, revoke_row, call_row}
-use Rattle.sem_machine.specs.Revokes.{has_key, region}
+use Rattle.sem_key.specs.Region.{has_key, region}
 use Rattle.sem_machine.specs.Machine.{local_step}
+use Rattle.sem_key.specs.declared.limits.TheConstants.{VPES}
+use Rattle.sem_msg.specs.declared.code.Code.{Code}
+use Rattle.sem_msg.proofs.Declared.{most_vpes-le}
 use Rattle.sem_model.specs.Acting.{can_act}
 use Rattle.sem_model.specs.Alone.{revoked_alone}
 use Rattle.sem_model.specs.Built.{IsBuilt, IsBuiltCall}
 use Rattle.sem_model.specs.BuiltWorld.{IsBuiltSide}
-use Rattle.sem_model.specs.Refusal.{first_code}
 use Rattle.sem_model.specs.Revoking.{caps_left}
 use Rattle.sem_model.proofs.BuiltActs.{CanCall, can_call, call-counted, call-step, can_go_on, resume-step}
 use Rattle.sem_model.proofs.BuiltSides.{IsKept, alone-kept}
@@ -64,10 +67,10 @@ pub record IsDone (s : Side) (x : Step) : Type 0 where
   pub did : HasStayed s x ⊎ (HasChild s x ⊎ HasRevoked s x)
   pub outs : x.side.outs ≡ s.outs
 
-answered : (code : ℕ) (s : Side) (x : Step) → answer code s ≡ x → IsDone s x
+answered : (code : Code) (s : Side) (x : Step) → answer code s ≡ x → IsDone s x
 answered code s x same = subst (IsDone s) same (record { did = inl (record { caps = refl; grant = refl; cut = refl }); outs = refl })
 
-module _ (T : Setup) (v : ℕ) (d : VpeDecl) (only : IsOnly T v d) (n : ℕ) (s : Side) (is : IsKept T v n None s) (declared : IsVpeDecl T d) (placed : v ≤ 63) where
+module _ (T : Setup) (v : ℕ) (d : VpeDecl) (only : IsOnly T v d) (n : ℕ) (s : Side) (is : IsKept T v n None s) (declared : IsVpeDecl T d) (placed : v < VPES) where
   derived : (src dst off len rights : ℕ) → IsDone s (derive_row T s v src dst off len rights)
   unfolding unless
   derived src dst off len rights = from (own s v src) refl
@@ -76,14 +79,15 @@ module _ (T : Setup) (v : ℕ) (d : VpeDecl) (only : IsOnly T v d) (n : ℕ) (s 
       from None none = answered NoCap s (derive_row T s v src dst off len rights) (rw none refl)
       from (Some c) held = first (first_code (derive_tests s v src dst off len rights)) refl
         where
-          first : (f : Option ℕ) → first_code (derive_tests s v src dst off len rights) ≡ f → IsDone s (derive_row T s v src dst off len rights)
-          first (Some code) refused = answered code s (derive_row T s v src dst off len rights) (derive-refused T s v src dst off len rights code (record { asked = None; grant = None; cut = None; reply = Some code }) (sym refused) refl)
+          first : (f : Option Code) → first_code (derive_tests s v src dst off len rights) ≡ f → IsDone s (derive_row T s v src dst off len rights)
+          first (Some code) refused = answered code s (derive_row T s v src dst off len rights) (derive-refused T s v src dst off len rights code (record { asked = None; grant = None; cut = None; reply = Some (code_number code) }) (sym refused) refl)
           first None passed =
               let object : Object = narrowed off len rights c.object in
               let k : KeyName = next_key T s v (object_kind object) in
               let number = derive-number s v src dst off len rights passed in
               let pe = only-pe T v d only in
-              let valid : IsValidKey k = (omega (arith, pe, declared.pe), placed, omega (arith, number)) in
+              let most = most_vpes-le T.version in
+              let valid : IsValidKey k = (omega (arith, pe, most, declared.pe), placed, omega (arith, number)) in
               subst (IsDone s) (sym (derive-done T s v src dst off len rights c (sym passed) (sym held))) (record {
                 did = inr (inl (record { parent = c; child = child_cap k c.key dst object; held = own-found s v src c held; valid = valid; unmarked = refl; childless = refl; grant = refl; cut = refl; caps = refl }));
                 outs = refl;
@@ -93,7 +97,7 @@ module _ (T : Setup) (v : ℕ) (d : VpeDecl) (only : IsOnly T v d) (n : ℕ) (s 
   revoked src = from (own s v src) refl
     where
       from : (o : Option Capability) → own s v src ≡ o → IsDone s (revoke_row T 0 s v src)
-      from None none = answered NoCap s (revoke_row T 0 s v src) (revoke-none T 0 s v src (record { asked = None; grant = None; cut = None; reply = Some NoCap }) (sym none) refl)
+      from None none = answered NoCap s (revoke_row T 0 s v src) (revoke-none T 0 s v src (record { asked = None; grant = None; cut = None; reply = Some (code_number NoCap) }) (sym none) refl)
       from (Some c) held =
           let written = revoked_alone-written c.key v s c.parent in
           subst (IsDone s) (revoke-some T 0 s (revoked_alone c.key c.parent v s) v src c (alone-kept T v n None s is) (sym held) refl) (record {
@@ -116,13 +120,14 @@ module _ (T : Setup) (v : ℕ) (d : VpeDecl) (only : IsOnly T v d) (n : ℕ) (s 
   called (SendCall ep len) built = absurd built
   called (Credit ep) built = absurd built
   called Exit built = absurd built
+  called (Clear src) built = absurd built
 
 module _ (T : Setup) (s : Side) (valid : IsSetup T) (built : IsBuilt T) (is : IsBuiltSide T s) where
   -- a call, seen from the side before it was counted
   called-done : (v : ℕ) → (can : CanCall T v s valid built is) → IsDone s (local_step T 0 s (Calls v) None)
   called-done v can =
       let declared : IsVpeDecl T can.decl = only-all T v can.decl can.only (IsVpeDecl T) valid.vpes in
-      let placed : v ≤ 63 = let at = declared.vpe in let same = can.only.number in omega (arith, at, same) in
+      let placed : v < VPES = let at = declared.vpe in let most = most_vpes-le T.version in let same = can.only.number in omega (arith, at, most, same) in
       let done : IsDone (call_counted v s) (call_row T 0 (call_counted v s) v can.call) = called T v can.decl can.only _ (call_counted v s) (call-counted T v s valid built is can) declared placed can.call can.has.built in
       subst (IsDone s) (sym (call-step T v s valid built is can)) (record { did = from done.did; outs = done.outs })
     where

@@ -3,6 +3,7 @@ use Rattle.std.proofs.Common.{◌≡◌, ℕ, zero, suc, List, [], ◌∷◌, �
 use Rattle.std.specs.List.{All, Contains}
 use Rattle.sem_key.specs.declared.object.Object.{Object}
 use Rattle.sem_key.specs.KeyName.{KeyName}
+use Rattle.std.proofs.lemmas.List.Elements.{All-nil}
 use Rattle.sem_msg.specs.declared.entry.Entry.{Entry}
 use Rattle.sem_msg.specs.declared.message.Message.{Message}
 use Rattle.sem_msg.specs.declared.state.Parked.{Parked}
@@ -14,14 +15,15 @@ use Rattle.sem_machine.specs.Machine.{World, side, link, start}
 use Rattle.sem_machine.specs.Schedules.{IsSchedule, world_after}
 use Rattle.sem_machine.specs.Living.{way, fetched_from, InFlight}
 use Rattle.sem_machine.specs.Safety.{IsInUse, revoked_is_gone, nothing_lost}
-use Rattle.sem_machine.proofs.Members.{Contains-nil}
+use Rattle.sem_key.proofs.Members.{Contains-nil}
 use Rattle.sem_safety.specs.Settled.{IsSettledAfter}
 use Rattle.sem_safety.proofs.FirstCaps.{first-outs}
 use Rattle.sem_safety.proofs.SettledWorlds.{settled-gone, settled-nothing_lost}
+use Rattle.sem_model.proofs.BuiltCuts.{schedule-revokes}
 use Rattle.sem_model.specs.Built.{IsBuilt}
-use Rattle.sem_model.specs.BuiltWorld.{IsReadyAtMost, IsCalm}
+use Rattle.sem_model.specs.BuiltWorld.{IsReadyAtMost, IsBuiltSide}
 use Rattle.sem_model.proofs.AloneBegun.{All-read}
-use Rattle.sem_model.proofs.CalmRows.{row-calm}
+use Rattle.sem_model.proofs.CalmRows.{state-ready}
 use Rattle.sem_model.proofs.BuiltSchedules.{IsSettledWorld, schedule-built, schedule-settled}
 
 -- there is nothing behind the only element of a list
@@ -54,8 +56,8 @@ module _ (T : Setup) (valid : IsSetup T) (built : IsBuilt T) (J : List Entry) (r
   one : length W.sides ≡ 1
   one = (schedule-built T valid built J runs).one_side
 
-  calm : All IsCalm (side W 0).vpes
-  calm = (schedule-built T valid built J runs).kernel.calm
+  kernel : IsBuiltSide T (side W 0)
+  kernel = (schedule-built T valid built J runs).kernel
 
   other : (i : ℕ) → side W (suc i) ≡ no_side
   other i = beyond W.sides no_side i one
@@ -79,11 +81,11 @@ module _ (T : Setup) (valid : IsSetup T) (built : IsBuilt T) (J : List Entry) (r
   no-message m (i, j, among) = Contains-nil m (subst (λ ms. Contains ms m) (no-way i j) among)
 
   no-ready : (i v : ℕ) (k q : KeyName) (o : Object) (sel : ℕ) → parked (side W i) v ≡ Some (ObtainReady k q o sel) → ⊥
-  no-ready zero v k q o sel ready = not-ready (parked (side W 0) v) (row-calm (side W 0).vpes v calm).parked k q o sel ready
+  no-ready zero v k q o sel ready = not-ready (parked (side W 0) v) (state-ready (side W 0).parks v kernel.ready) k q o sel ready
   no-ready (suc i) v k q o sel ready = not-ready None tt k q o sel (sym (ap (λ (s : Side). parked s v) (other i)) ∙ ready)
 
   unbound : (i v n : ℕ) → endpoint (side W i) v n ≡ None
-  unbound zero v n = All-read (λ (e : Option Endpoint). e ≡ None) None _ n refl (row-calm (side W 0).vpes v calm).unbound
+  unbound zero v n = All-read (λ (e : Option Endpoint). e ≡ None) None _ n refl (All-read (λ (es : List (Option Endpoint)). All (λ e. e ≡ None) es) [] (side W 0).endpoints v (All-nil (λ (e : Option Endpoint). e ≡ None)) kernel.unbound)
   unbound (suc i) v n = ap (λ (s : Side). endpoint s v n) (other i)
 
   none-bound : (i v n : ℕ) (e : Endpoint) → endpoint (side W i) v n ≡ Some e → ⊥
@@ -108,7 +110,7 @@ module _ (T : Setup) (valid : IsSetup T) (built : IsBuilt T) (J : List Entry) (r
   settled = is.settled.settled
 
   pub built-gone : revoked_is_gone T J
-  built-gone = settled-gone T J 0 settled only-held
+  built-gone = settled-gone T J 0 settled only-held (schedule-revokes T valid built J runs)
 
   pub built-nothing_lost : nothing_lost T J
-  built-nothing_lost = settled-nothing_lost T J 0 settled
+  built-nothing_lost = settled-nothing_lost T J 0 settled (schedule-revokes T valid built J runs)

@@ -10,11 +10,11 @@ use Rattle.sem_msg.specs.declared.entry.Entry.{Entry}
 use Rattle.sem_msg.specs.Setup.{Setup, IsSetup}
 use Rattle.sem_machine.specs.Sides.{Side, no_side}
 use Rattle.sem_machine.specs.Steps.{Step}
-use Rattle.sem_machine.specs.Revokes.{has_key, region}
+use Rattle.sem_key.specs.Region.{has_key, region}
 use Rattle.sem_machine.specs.Machine.{World, side, event, start, start_side, local_step, local_entry, after, entry_of, is_enabled}
 use Rattle.sem_machine.specs.Schedules.{IsRun, IsSchedule, run, world_after}
 use Rattle.sem_machine.specs.Journals.{grants, root_keys, made}
-use Rattle.sem_machine.proofs.Puts.{get_or-put_same}
+use Rattle.sem_key.proofs.Puts.{get_or-put_same}
 use Rattle.sem_safety.proofs.GoingOn.{run-append, entry-enabled}
 use Rattle.sem_safety.proofs.NewGrants.{with_grant, without_grant}
 use Rattle.sem_safety.proofs.OneLife.{all-new}
@@ -37,7 +37,7 @@ entry-shows T W e here can =
     (sym (ap (λ (x : Entry). x.grant) same), sym (ap (λ (x : Entry). x.cut) same))
 
 module _ (T : Setup) (valid : IsSetup T) (built : IsBuilt T) where
-  abbrev IsWorld : World → Type 0
+  abbrev pub IsWorld : World → Type 0
   IsWorld W = IsBuiltWorld (record { setup = T; world = W })
 
   -- an enabled event of the world: the step of the one kernel
@@ -47,7 +47,7 @@ module _ (T : Setup) (valid : IsSetup T) (built : IsBuilt T) where
     pub moved : after T W e ≡ with_step (local_step T 0 (side W 0) e.act None) W
     pub done : IsDone (side W 0) (local_step T 0 (side W 0) e.act None)
 
-  enabled-step : (W : World) (e : Event) → IsWorld W → is_enabled T W e ≡ true → IsStep W e
+  pub enabled-step : (W : World) (e : Event) → IsWorld W → is_enabled T W e ≡ true → IsStep W e
   enabled-step W e is test =
       let parts = enabled-parts T W e built is.kernel test in
       record {

@@ -18,12 +18,12 @@ use Rattle.sem_msg.specs.declared.setup.VpeDecl.{VpeDecl}
 use Rattle.sem_msg.specs.Setup.{Setup}
 use Rattle.sem_msg.specs.Journal.{kill_number}
 use Rattle.sem_msg.specs.Lookups.{kernel_of}
-use Rattle.sem_machine.specs.declared.Outcome.{Outcome}
+use Rattle.sem_msg.specs.declared.entry.Outcome.{Outcome}
 use Rattle.sem_machine.specs.Resumes.{can_resume}
 use Rattle.sem_machine.specs.Sides.{Side, no_side, row, parked, is_alive}
 use Rattle.sem_machine.specs.Steps.{Step}
 use Rattle.sem_machine.specs.Machine.{World, side, event, local_step, is_other_kernel, is_locally_enabled, is_allowed, is_enabled, kernel_events, enabled, after, entry_of, local_entry, input_of, next_call}
-use Rattle.sem_machine.proofs.Puts.{get_or-put_same, put-set}
+use Rattle.sem_key.proofs.Puts.{get_or-put_same, put-set}
 use Rattle.sem_model.specs.Acting.{can_act, reply_number}
 use Rattle.sem_model.specs.Built.{IsBuilt}
 use Rattle.sem_model.specs.BuiltWorld.{IsBuiltSide, IsBuiltWorld, IsReplied, parked_number}
@@ -221,7 +221,7 @@ few-replies T W own is =
     let replied : IsReplied W only.0 = only-all T own.0 only.0 only.1 (IsReplied W) is.replied in
     let calls = vpe-few T own.0 (side W 0) is.built is.kernel own.1 is.valid in
     let at : IsReplied W only.0 = replied in
-    let here : W.replies + parked_number (row (side W 0) own.0).parked ≤ (row (side W 0) own.0).next_call = rw only.1.number at at in
+    let here : W.replies + parked_number (parked (side W 0) own.0) ≤ (row (side W 0) own.0).next_call = rw only.1.number at at in
     omega (arith, here, calls)
 
 -- What the code did in a step. M' is the world as its fields are read, and s its side.

@@ -17,17 +17,17 @@ use Rattle.sem_msg.specs.Rows.{VpeRow, no_vpe}
 use Rattle.sem_msg.specs.Setup.{Setup, IsSetup, call_count}
 use Rattle.sem_msg.specs.Lookups.{kernel_of, is_declared}
 use Rattle.sem_machine.specs.Resumes.{can_resume, resume_row}
-use Rattle.sem_machine.specs.declared.Outcome.{Outcome}
+use Rattle.sem_msg.specs.declared.entry.Outcome.{Outcome}
 use Rattle.sem_machine.specs.Calls.{derive_row, revoke_row, call_row}
 use Rattle.sem_machine.specs.Machine.{event, next_call, is_locally_enabled, local_step, local_entry}
 use Rattle.sem_machine.specs.Sides.{Side, row, parked, is_alive, call_counted}
-use Rattle.sem_machine.proofs.Puts.{put-set}
+use Rattle.sem_key.proofs.Puts.{put-set}
 use Rattle.sem_model.specs.Alone.{IsAlone}
 use Rattle.sem_model.specs.Built.{IsBuilt, IsBuiltCall}
 use Rattle.sem_model.specs.BuiltWorld.{IsBuiltSide, IsCounted, IsOwnCap}
 use Rattle.sem_model.proofs.BuiltActs.{kept-side, side-kept, placed-only, next-within, CanCall, can_call, call-step, call-counted, ready-code}
 use Rattle.sem_model.proofs.BuiltSides.{IsKept, alone-kept}
-use Rattle.sem_model.proofs.CalmRows.{row-calm}
+use Rattle.sem_model.proofs.CalmRows.{state-ready}
 use Rattle.sem_model.proofs.Children.{row-read}
 use Rattle.sem_model.proofs.OneVpe.{IsOnly, only-vpe, only-declared, only-is_declared, only-all}
 
@@ -38,12 +38,16 @@ module _ (T : Setup) (v : ℕ) (s : Side) (built : IsBuilt T) (is : IsBuiltSide 
   only : IsOnly T v d
   only = (only-vpe T v built (eq-eqb (kernel_of T v) 0 own)).1
 
-  kept : IsKept T v (row s v).next_call (row s v).parked s
+  kept : IsKept T v (row s v).next_call (parked s v) s
   kept = kept-side T v d only s is
 
   -- the VPE has a row
   pub vpe-placed : IsSetup T → v < length s.vpes
   vpe-placed valid = omega (arith, placed-only T v d only valid, is.places)
+
+  -- and its call has a place
+  pub call-placed : IsSetup T → v < length s.parks
+  call-placed valid = omega (arith, placed-only T v d only valid, is.parked_places)
 
   -- it has each selector
   pub vpe-selector : (selector : ℕ) → selector ≤ 255 → selector < length (row s v).slots
@@ -60,7 +64,7 @@ module _ (T : Setup) (v : ℕ) (s : Side) (built : IsBuilt T) (is : IsBuiltSide 
       each c cap = let same = only-declared T v d only c.key.vpe cap.declared in rw same (omega (arith, cap.selector, kept.rows.selectors))
 
   pub vpe-alone : IsAlone T 0 s
-  vpe-alone = alone-kept T v (row s v).next_call (row s v).parked s kept
+  vpe-alone = alone-kept T v (row s v).next_call (parked s v) s kept
 
   -- it makes no more calls than there can be
   pub vpe-few : IsSetup T → (row s v).next_call ≤ 20000
@@ -125,7 +129,7 @@ module _ (T : Setup) (v : ℕ) (s : Side) (built : IsBuilt T) (is : IsBuiltSide 
   -- a call is parked, and its code is there
   pub resume-ready : (code : ℕ) × (parked s v ≡ Some (Ready code))
   unfolding is_locally_enabled
-  resume-ready = ready-code (parked s v) (row-calm s.vpes v is.calm).parked (and_parts (kernel_of T v == 0) (can_resume (parked s v)) test).1
+  resume-ready = ready-code (parked s v) (state-ready s.parks v is.ready) (and_parts (kernel_of T v == 0) (can_resume (parked s v)) test).1
 
 pub local_step-resume : (T : Setup) (v : ℕ) (s : Side) → local_step T 0 s (Resume v) None ≡ resume_row T s v
 unfolding local_step

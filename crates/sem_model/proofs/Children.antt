@@ -11,10 +11,11 @@ use Rattle.sem_key.specs.CapList.{with_cap}
 use Rattle.sem_msg.specs.declared.state.Slot.TheVariants.{Free, Held}
 use Rattle.sem_msg.specs.Rows.{VpeRow, no_vpe}
 use Rattle.sem_msg.specs.Setup.{Setup}
-use Rattle.sem_machine.specs.Codes.{Done}
+use Rattle.sem_msg.specs.declared.code.Code.TheVariants.{Ok as OkCode}
+use Rattle.sem_msg.specs.Codes.{code_number}
 use Rattle.sem_machine.specs.Sides.{Side, row}
 use Rattle.sem_machine.specs.Calls.{next_key, child_made}
-use Rattle.sem_machine.proofs.Puts.{get_or-put_same, put-set}
+use Rattle.sem_key.proofs.Puts.{get_or-put_same, put-set}
 
 put-put : {X : Type 0} (d : X) (xs : List X) (i : ℕ) (x y : X) → put d (put d xs i x) i y ≡ put d xs i y
 unfolding put
@@ -37,13 +38,13 @@ abbrev pub row_with_child : KeyName → ℕ → VpeRow → VpeRow
 row_with_child k dst r = record r { slots = set r.slots dst (Held k); next_number = r.next_number + 1 }
 
 -- it writes the capabilities and one row
-pub child_made-is : (T : Setup) (v dst : ℕ) (object : Object) (parent : KeyName) (s : Side) → v < length s.vpes → dst < length (row s v).slots → child_made T v dst object parent s ≡ record { side = record s { caps = caps_with_child (next_key T s v (object_kind object)) parent dst object s.caps; vpes = set s.vpes v (row_with_child (next_key T s v (object_kind object)) dst (row s v)) }; outcome = record { asked = None; grant = Some (parent, next_key T s v (object_kind object)); cut = None; reply = Some Done } }
+pub child_made-is : (T : Setup) (v dst : ℕ) (object : Object) (parent : KeyName) (s : Side) → v < length s.vpes → dst < length (row s v).slots → child_made T v dst object parent s ≡ record { side = record s { caps = caps_with_child (next_key T s v (object_kind object)) parent dst object s.caps; vpes = set s.vpes v (row_with_child (next_key T s v (object_kind object)) dst (row s v)) }; outcome = record { asked = None; grant = Some (parent, next_key T s v (object_kind object)); cut = None; reply = Some (code_number OkCode) } }
 child_made-is T v dst object parent s vpe selector =
     let k : KeyName = next_key T s v (object_kind object) in
     rw (get_or-put_same, put-put, put-set no_vpe s.vpes v (record (row s v) { slots = put Free (row s v).slots dst (Held k); next_number = (row s v).next_number + 1 }) vpe, put-set Free (row s v).slots dst (Held k) selector) refl
 
 -- what is written is a child made
-pub child_made-from : (T : Setup) (v dst : ℕ) (object : Object) (parent : KeyName) (s s' : Side) (k : KeyName) (caps : List Capability) (i : ℕ) (before now : VpeRow) → v < length s.vpes → dst < length (row s v).slots → s' ≡ s → k ≡ next_key T s v (object_kind object) → caps ≡ caps_with_child k parent dst object s.caps → i ≡ v → before ≡ row s v → now ≡ row_with_child k dst before → record { side = record s' { caps = caps; vpes = set s'.vpes i now }; outcome = record { asked = None; grant = Some (parent, k); cut = None; reply = Some Done } } ≡ child_made T v dst object parent s
+pub child_made-from : (T : Setup) (v dst : ℕ) (object : Object) (parent : KeyName) (s s' : Side) (k : KeyName) (caps : List Capability) (i : ℕ) (before now : VpeRow) → v < length s.vpes → dst < length (row s v).slots → s' ≡ s → k ≡ next_key T s v (object_kind object) → caps ≡ caps_with_child k parent dst object s.caps → i ≡ v → before ≡ row s v → now ≡ row_with_child k dst before → record { side = record s' { caps = caps; vpes = set s'.vpes i now }; outcome = record { asked = None; grant = Some (parent, k); cut = None; reply = Some (code_number OkCode) } } ≡ child_made T v dst object parent s
 child_made-from T v dst object parent s s' k caps i before now vpe selector same key with at was is = rw (child_made-is T v dst object parent s vpe selector, same, with, at, is, was, key) refl
 
 -- what is read at the VPE's place is its row

@@ -6,13 +6,14 @@ use Rattle.sem_key.specs.Capability.{Capability}
 use Rattle.sem_msg.specs.declared.state.Slot.{Slot}
 use Rattle.sem_msg.specs.declared.state.Slot.TheVariants.{Free, Held, Promised}
 use Rattle.sem_msg.specs.Setup.{Setup}
-use Rattle.sem_machine.specs.declared.Outcome.{Outcome}
-use Rattle.sem_machine.specs.Codes.{NoCap}
+use Rattle.sem_msg.specs.declared.entry.Outcome.{Outcome}
+use Rattle.sem_msg.specs.declared.code.Code.TheVariants.{NoCap}
+use Rattle.sem_msg.specs.Codes.{code_number}
 use Rattle.sem_machine.specs.Sides.{Side, cap, cap_in, own, slot}
 use Rattle.sem_machine.specs.Revokes.{revoke_begun}
 use Rattle.sem_machine.specs.Calls.{revoke_row}
-use Rattle.sem_machine.proofs.KeyTests.{key_eq-true}
-use Rattle.sem_machine.proofs.Members.{found}
+use Rattle.sem_key.proofs.KeyTests.{key_eq-true}
+use Rattle.sem_key.proofs.Members.{found}
 use Rattle.sem_model.specs.Alone.{IsAlone, revoked_alone}
 use Rattle.sem_model.proofs.AloneBegun.{revoke_begun-alone}
 
@@ -26,7 +27,7 @@ own-found s v sel c held = from (slot s v sel) held
     from Promised none = cc
 
 -- where nothing stands at the selector
-pub revoke-none : (T : Setup) (i : ℕ) (s : Side) (v src : ℕ) (o : Outcome) → None ≡ own s v src → o ≡ record { asked = None; grant = None; cut = None; reply = Some NoCap } → record { side = s; outcome = o } ≡ revoke_row T i s v src
+pub revoke-none : (T : Setup) (i : ℕ) (s : Side) (v src : ℕ) (o : Outcome) → None ≡ own s v src → o ≡ record { asked = None; grant = None; cut = None; reply = Some (code_number NoCap) } → record { side = s; outcome = o } ≡ revoke_row T i s v src
 revoke-none T i s v src o none shown = rw (← none, shown) refl
 
 -- where a capability stands there

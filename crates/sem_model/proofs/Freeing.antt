@@ -1,5 +1,5 @@
 -- What is kept of VPEs when selectors are freed one after the other.
-use Rattle.std.proofs.Common.{◌≡◌, ◌≢◌, ℕ, ◌+◌, ◌<◌, Bool, true, false, List, [], ◌∷◌, ◌++◌, length, get_or, set, take, refl, sym, ◌∙◌, ap, subst, inl, inr, arith, Some}
+use Rattle.std.proofs.Common.{◌≡◌, ◌≢◌, ℕ, ◌+◌, ◌<◌, Bool, true, false, List, [], ◌∷◌, ◌++◌, length, get_or, set, take, refl, sym, ◌∙◌, ap, subst, inl, inr, arith}
 use Rattle.std.specs.List.{All, filter}
 use Rattle.std.proofs.lemmas.Bool.{cases_eq, cases_lt, cond-true, cond-false}
 use Rattle.std.proofs.lemmas.List.{length-set, take_more, get_or_default, get_or_past}
@@ -7,14 +7,11 @@ use Rattle.std.proofs.lemmas.List.Elements.{filter-append}
 use Rattle.sem_key.specs.Lists.{put, in_turn}
 use Rattle.sem_key.specs.Capability.{Capability}
 use Rattle.sem_msg.specs.declared.state.Slot.TheVariants.{Free}
-use Rattle.sem_msg.specs.declared.state.Parked.TheVariants.{Ready}
 use Rattle.sem_msg.specs.Rows.{VpeRow, no_vpe}
 use Rattle.sem_msg.specs.VpeRows.{row as row_of, freed as slot_freed}
-use Rattle.sem_machine.specs.Sides.{Side}
-use Rattle.sem_machine.proofs.Puts.{get_or-put_same, get_or-put_other, put-set}
-use Rattle.sem_machine.proofs.InTurns.{in_turn-append}
-use Rattle.sem_model.specs.Alone.{all_freed}
-use Rattle.sem_model.specs.Revoking.{slots_freed, row_ready}
+use Rattle.sem_key.proofs.Puts.{get_or-put_same, get_or-put_other, put-set}
+use Rattle.sem_key.proofs.InTurns.{in_turn-append}
+use Rattle.sem_model.specs.Revoking.{slots_freed}
 
 -- what is read within the rows is the row of the VPE
 pub row_of-read : (rows : List VpeRow) (v i : ℕ) (r : VpeRow) → i ≡ v → v < length rows → r ≡ get_or rows i r → r ≡ row_of rows v
@@ -33,12 +30,6 @@ slot_freed-set v selector rows r is_row within room =
     put-set no_vpe rows v _ within
     ∙ (ap (λ (x : VpeRow). set rows v (record x { slots = put Free x.slots selector Free })) (sym is_row)
     ∙ ap (λ slots. set rows v (record r { slots = slots })) (put-set Free r.slots selector Free room))
-
--- within the rows, a call goes on by one write of a slice
-pub row_ready-set : (code v : ℕ) (rows : List VpeRow) (r : VpeRow) → r ≡ row_of rows v → v < length rows → row_ready code v rows ≡ set rows v (record r { parked = Some (Ready code) })
-row_ready-set code v rows r is_row within =
-    put-set no_vpe rows v _ within
-    ∙ ap (λ (x : VpeRow). set rows v (record x { parked = Some (Ready code) })) (sym is_row)
 
 -- the rows are as many as those, and each has as many selectors
 pub record IsSameShape (rows before : List VpeRow) : Type 0 where
@@ -96,9 +87,3 @@ module _ (p : Capability → Bool) (caps : List Capability) (rows : List VpeRow)
   slots_freed-fail fail =
       ap (λ cs. slots_freed cs rows) (parted ∙ ap (λ cs. filter p (take i caps) ++ cs) (cond-false (p c) (c ∷ []) [] fail))
       ∙ in_turn-append (λ (c : Capability) rows. slot_freed c.key.vpe c.selector rows) (filter p (take i caps)) [] rows
-
--- of a side, freeing selectors writes the rows of VPEs alone
-pub all_freed-rows : (cs : List Capability) (s : Side) → all_freed cs s ≡ record s { vpes = slots_freed cs s.vpes }
-unfolding in_turn
-all_freed-rows [] s = refl
-all_freed-rows (c ∷ cs) s = all_freed-rows cs (record s { vpes = slot_freed c.key.vpe c.selector s.vpes })

@@ -6,7 +6,6 @@ pub mod AloneRevoke
 pub mod Booting
 pub mod Children
 pub mod Cutting
-pub mod Declared
 pub mod Freeing
 pub mod Parted
 pub mod Refusing
@@ -23,6 +22,7 @@ pub mod BuiltStart
 pub mod Calling
 pub mod BuiltDone
 pub mod BuiltSchedules
+pub mod BuiltCuts
 pub mod BuiltSafety
 pub mod SampleSetup
 pub mod SampleRuns

@@ -7,7 +7,7 @@ use Rattle.std.proofs.lemmas.List.Elements.{All-contains, All-cons, All-nil}
 use Rattle.sem_msg.specs.declared.setup.VpeDecl.{VpeDecl}
 use Rattle.sem_msg.specs.Setup.{Setup}
 use Rattle.sem_msg.specs.Lookups.{decl, pe_owner, pe_of, kernel_of, calls_of, is_declared}
-use Rattle.sem_machine.proofs.Members.{found, list_any-some, Contains-head, Contains-cons_cases, Contains-nil}
+use Rattle.sem_key.proofs.Members.{found, list_any-some, Contains-head, Contains-cons_cases, Contains-nil}
 use Rattle.sem_model.specs.Built.{IsBuilt}
 
 -- VPE v is the only one, it is declared so, and the one kernel owns its PE

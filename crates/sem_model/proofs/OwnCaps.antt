@@ -1,5 +1,5 @@
 -- Capabilities of one kernel that nobody else knows of stay so when a child is made, and when some are removed.
-use Rattle.std.proofs.Common.{◌≡◌, ℕ, ◌≤◌, Bool, true, not, List, ◌∷◌, Option, Some, None, refl, if◌then◌else◌}
+use Rattle.std.proofs.Common.{◌≡◌, ℕ, Bool, true, not, List, ◌∷◌, Option, Some, None, refl, if◌then◌else◌, ◌<◌}
 use Rattle.std.specs.List.{All, filter}
 use Rattle.std.proofs.lemmas.Bool.{cond_both}
 use Rattle.std.proofs.lemmas.List.Elements.{All-append, All-cons, All-nil, All-filter, All-map, All-weaker}
@@ -11,6 +11,7 @@ use Rattle.sem_key.specs.Capability.{Capability}
 use Rattle.sem_key.specs.CapList.{with_cap}
 use Rattle.sem_msg.specs.Setup.{Setup}
 use Rattle.sem_msg.specs.Lookups.{is_declared, is_local}
+use Rattle.sem_msg.specs.declared.limits.TheConstants.{SELECTORS}
 use Rattle.sem_model.specs.BuiltWorld.{IsOwnCap}
 use Rattle.sem_model.specs.Revoking.{child_left, caps_left}
 use Rattle.sem_model.proofs.AloneLists.{All-with_key}
@@ -52,7 +53,7 @@ module _ (T : Setup) where
   }
 
   -- a child of one of them
-  own-child : (k parent : KeyName) (dst : ℕ) (object : Object) → Local k → Local parent → is_declared T k.vpe ≡ true → dst ≤ 255 → IsOwnCap T (child_cap k parent dst object)
+  own-child : (k parent : KeyName) (dst : ℕ) (object : Object) → Local k → Local parent → is_declared T k.vpe ≡ true → dst < SELECTORS → IsOwnCap T (child_cap k parent dst object)
   own-child k parent dst object here there known within = record {
     unmarked = refl;
     selector = within;
@@ -62,7 +63,7 @@ module _ (T : Setup) where
     local_children = All-nil Local;
   }
 
-  pub own-with_child : (k parent : KeyName) (dst : ℕ) (object : Object) (cs : List Capability) → Local k → Local parent → is_declared T k.vpe ≡ true → dst ≤ 255 → All (IsOwnCap T) cs → All (IsOwnCap T) (caps_with_child k parent dst object cs)
+  pub own-with_child : (k parent : KeyName) (dst : ℕ) (object : Object) (cs : List Capability) → Local k → Local parent → is_declared T k.vpe ≡ true → dst < SELECTORS → All (IsOwnCap T) cs → All (IsOwnCap T) (caps_with_child k parent dst object cs)
   own-with_child k parent dst object cs here there known within own =
       All-with_cap (IsOwnCap T) (change (λ c. key_eq c.key parent) (λ c. record c { children = with_key c.children k }) cs) (child_cap k parent dst object)
       (All-change (IsOwnCap T) (λ c. key_eq c.key parent) (λ c. record c { children = with_key c.children k }) cs (own-linked k here) own)

@@ -5,7 +5,7 @@ use Rattle.std.specs.Option.{option_map, option_map_or}
 use Rattle.std.proofs.lemmas.Bool.{cases_Bool}
 use Rattle.sem_key.specs.KeyName.{KeyName, key_eq}
 use Rattle.sem_key.specs.Capability.{Capability}
-use Rattle.sem_machine.specs.Revokes.{has_key, linked_from, next_reached, grow}
+use Rattle.sem_key.specs.Region.{has_key, linked_from, next_reached, grow}
 use Rattle.sem_model.specs.RegionTests.{leads_from}
 
 -- a key is in two lists exactly if it is in one of them

@@ -5,7 +5,7 @@ use Rattle.sem_msg.specs.declared.event.Act.{Act}
 use Rattle.sem_msg.specs.declared.event.Act.TheVariants.{Call as Calls, Fetch, Handle, Upcall, Resume, Flush, Kill}
 use Rattle.sem_msg.specs.Setup.{Setup}
 use Rattle.sem_machine.specs.Sides.{Side}
-use Rattle.sem_machine.specs.declared.Outcome.{Outcome}
+use Rattle.sem_msg.specs.declared.entry.Outcome.{Outcome}
 use Rattle.sem_machine.specs.Machine.{is_locally_enabled}
 
 -- whether the act is a call that its VPE can make, or a parked call that can go on

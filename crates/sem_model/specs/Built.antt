@@ -2,7 +2,7 @@
 use Rattle.std.specs.Prelude.{◌≡◌, ℕ, ◌≤◌, true, [], length, filter, All, Option, is_some}
 use Rattle.sem_key.specs.declared.key.Kind.TheVariants.{Mem as MemKind}
 use Rattle.sem_msg.specs.declared.call.Call.{Call}
-use Rattle.sem_msg.specs.declared.call.Call.TheVariants.{Derive, Gate, Obtain, Delegate, OpenSession, AskOffer, Revoke, Bind, Read, Write, Send as SendCall, Credit, Exit}
+use Rattle.sem_msg.specs.declared.call.Call.TheVariants.{Derive, Gate, Obtain, Delegate, OpenSession, AskOffer, Revoke, Bind, Read, Write, Send as SendCall, Credit, Exit, Clear}
 use Rattle.sem_msg.specs.declared.setup.Root.{Root}
 use Rattle.sem_msg.specs.Setup.{Setup}
 use Rattle.sem_machine.specs.Calls.{is_of}
@@ -22,6 +22,7 @@ IsBuiltCall (Write ep off len) = ⊥
 IsBuiltCall (SendCall ep len) = ⊥
 IsBuiltCall (Credit ep) = ⊥
 IsBuiltCall Exit = ⊥
+IsBuiltCall (Clear src) = ⊥
 
 -- a root that is memory
 abbrev pub IsMemoryRoot : Root → Type 0

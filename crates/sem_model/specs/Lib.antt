@@ -3,8 +3,6 @@ pub mod Alone
 pub mod Built
 pub mod BuiltWorld
 pub mod ModelWorld
-pub mod Placed
-pub mod Refusal
 pub mod RegionTests
 pub mod Revoking
 pub mod Sample

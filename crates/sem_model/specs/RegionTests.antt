@@ -3,7 +3,7 @@ use Rattle.std.specs.Prelude.{Bool, ◌&&◌, not, List}
 use Rattle.std.specs.Option.{is_none}
 use Rattle.sem_key.specs.KeyName.{KeyName}
 use Rattle.sem_key.specs.Capability.{Capability}
-use Rattle.sem_machine.specs.Revokes.{has_key, linked_from}
+use Rattle.sem_key.specs.Region.{has_key, linked_from}
 
 -- whether the capability is an unmarked one of these keys that leads to the key
 abbrev pub leads_from : List KeyName → KeyName → Capability → Bool

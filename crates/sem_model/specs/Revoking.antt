@@ -1,21 +1,16 @@
--- What is kept of VPEs by number, with selectors freed and a call gone on ("Revocation" in docs/machine.md).
-use Rattle.std.specs.Prelude.{ℕ, List, Option, Some, None}
+-- What is kept of VPEs by number, with selectors freed ("Revocation" in docs/machine.md).
+use Rattle.std.specs.Prelude.{List, Option, Some, None}
 use Rattle.sem_key.specs.KeyName.{KeyName}
 use Rattle.sem_key.specs.KeyList.{without_key}
 use Rattle.sem_key.specs.Lists.{in_turn}
 use Rattle.sem_key.specs.Capability.{Capability}
 use Rattle.sem_key.specs.CapList.{unlinked}
-use Rattle.sem_msg.specs.declared.state.Parked.TheVariants.{Ready}
 use Rattle.sem_msg.specs.Rows.{VpeRow}
-use Rattle.sem_msg.specs.VpeRows.{with_row, freed}
+use Rattle.sem_msg.specs.VpeRows.{freed}
 
 -- the rows with the selectors of these capabilities free
 abbrev pub slots_freed : List Capability → List VpeRow → List VpeRow
 slots_freed cs rows = in_turn (λ c rows. freed c.key.vpe c.selector rows) cs rows
-
--- the rows where the call of the VPE will end with that code
-abbrev pub row_ready : ℕ → ℕ → List VpeRow → List VpeRow
-row_ready code v rows = with_row v (λ r. record r { parked = Some (Ready code) }) rows
 
 -- the capability leads to the child no more
 abbrev pub child_left : KeyName → Capability → Capability

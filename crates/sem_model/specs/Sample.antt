@@ -2,6 +2,7 @@
 use Rattle.std.specs.Prelude.{ℕ, List, [], ◌∷◌, Option, Some, None, replicate}
 use Rattle.std.specs.List.{slice_set}
 use Rattle.sem_key.specs.declared.key.Kind.TheVariants.{Mem as MemKind}
+use Rattle.sem_key.specs.declared.limits.TheConstants.{PES}
 use Rattle.sem_key.specs.declared.object.Object.TheVariants.{Mem}
 use Rattle.sem_key.specs.KeyName.{KeyName}
 use Rattle.sem_msg.specs.declared.call.Call.TheVariants.{Derive, Revoke}
@@ -23,8 +24,10 @@ sample_vpe = record { vpe = 0; pe = 0; roots = sample_root ∷ []; calls = Deriv
 
 unfoldable pub sample : Setup
 sample = record {
+  version = 1;
+  window = 4;
   kernels = 1;
-  owners = record { kernels = 1; owners = slice_set (replicate 64 None) 0 (Some 0) };
+  owners = record { kernels = 1; owners = slice_set (replicate PES None) 0 (Some 0) };
   vpes = sample_vpe ∷ [];
   services = [];
   offers = [];

@@ -1,7 +1,6 @@
 use crate::tests::{first_side, memory, one_vpe};
-use crate::{Part, Side, derive, has_selector, is_declared, resume, revoke, selectors_fit};
-use sem_machine::Outcome;
-use sem_msg::{Setup, Slot};
+use crate::{Part, Side, derive, has_selector, resume, revoke, selectors_fit};
+use sem_msg::{Outcome, Setup, Slot};
 use std::alloc::Global;
 use std::process::Abort;
 use std::test::Fail;
@@ -16,7 +15,7 @@ fn derived(
     part: Part,
 ) -> Result<Outcome, Fail> {
     let (src, dst) = selectors;
-    assert!(rt; is_declared(setup, 0));
+    assert!(rt; setup.is_declared(0));
     assert!(rt; !side.vpes.is_empty());
     assert!(rt; has_selector(side, 0, src));
     assert!(rt; has_selector(side, 0, dst));

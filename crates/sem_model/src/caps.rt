@@ -1,24 +1,13 @@
 ghost use Rattle.std.specs.Prelude.{◌≡◌, ◌<◌, length, find, option_copied, IfOk};
 ghost use Rattle.sem_key.specs.KeyName.{key_eq};
-ghost use Rattle.sem_key.specs.ObjectRanges.{object_kind};
 ghost use Rattle.sem_key.specs.CapList.{with_cap};
 ghost use Rattle.sem_machine.specs.Sides.{own, row};
 
 use crate::state::{Capability, Side};
-use sem_key::{Key, Kind, Object, OutOfMemory, pack};
+use sem_key::{Key, OutOfMemory, pack, same_key};
 use sem_msg::Slot;
 use std::alloc::Global;
 use std::mem;
-
-// Whether the keys are the same.
-pub fn same_key(one: &Key, other: &Key) -> bool
-    ensures { result ≡ key_eq one.now other.now }
-{
-    one.pe == other.pe
-        && one.vpe == other.vpe
-        && one.kind.number() == other.kind.number()
-        && one.number == other.number
-}
 
 // The capability of that key.
 pub fn find_cap<'a>(caps: &'a [Capability], key: &Key) -> Option<&'a Capability>
@@ -60,17 +49,4 @@ pub fn add_cap(
     before.append(&mut behind)?;
     *caps = before;
     Ok(())
-}
-
-// The kind of the capabilities with such an object.
-pub fn kind_of(object: &Object) -> Kind
-    ensures { result ≡ object_kind object.now }
-{
-    match object {
-        Object::Mem { .. } => Kind::Mem,
-        Object::Recv { .. } => Kind::Recv,
-        Object::Send { .. } => Kind::Send,
-        Object::Serv { .. } => Kind::Serv,
-        Object::Sess { .. } => Kind::Sess,
-    }
 }

@@ -9,15 +9,13 @@ ghost use Rattle.sem_msg.specs.Lookups.{is_declared};
 ghost use Rattle.sem_machine.specs.Calls.{narrowed as narrowed_lem, next_key as next_key_lem, child_made, derive_row};
 ghost use Rattle.sem_machine.specs.Sides.{row};
 
-use crate::caps::{add_cap, kind_of, own_cap};
+use crate::caps::{add_cap, own_cap};
 use crate::links::link;
 use crate::outcomes::answered;
-use crate::refusals::{DONE, NO_CAP, derive_refusal};
-use crate::setups::pe_of;
+use crate::refusals::derive_refusal;
 use crate::state::{Capability, Side, Vpe};
 use sem_key::{Key, Object, OutOfMemory};
-use sem_machine::Outcome;
-use sem_msg::{Setup, Slot};
+use sem_msg::{Code, Outcome, Setup, Slot};
 use std::alloc::Global;
 
 /// A part of a memory: where it begins in it, how long it is, and with which rights.
@@ -49,7 +47,7 @@ pub fn derive(
         return Ok(answered(code));
     }
     let Some(parent) = own_cap(side, vpe, src) else {
-        return Ok(answered(NO_CAP));
+        return Ok(answered(Code::NoCap));
     };
     let key = parent.key;
     let object = narrowed(part, &parent.object);
@@ -77,12 +75,11 @@ fn next_key(setup: &Setup, side: &Side, vpe: u16, object: &Object) -> Key
     requires number { (row side.now vpe).next_number < 4096 }
     ensures { result ≡ next_key_lem setup.now side.now vpe (object_kind object.now) }
 {
-    let pe = pe_of(setup, vpe);
     let number = side.vpes[usize::from(vpe)].next_number;
     Key {
-        pe,
+        pe: setup.pe_of(vpe),
         vpe,
-        kind: kind_of(object),
+        kind: object.kind(),
         number,
     }
 }
@@ -134,7 +131,7 @@ fn make_child(
         asked: None,
         grant: Some((parent, key)),
         cut: None,
-        reply: Some(DONE),
+        reply: Some(Code::Ok.number()),
     })
 }
 

@@ -5,7 +5,7 @@ ghost use Rattle.sem_machine.specs.Resumes.{can_resume};
 ghost use Rattle.sem_machine.specs.Machine.{is_locally_enabled, is_enabled as is_enabled_lem, enabled as enabled_lem, event as event_lem};
 ghost use Rattle.sem_model.specs.Acting.{can_act as can_act_lem};
 
-use crate::setups::{kernel_of, next_call};
+use crate::setups::next_call;
 use crate::state::{Side, World};
 use sem_key::OutOfMemory;
 use sem_msg::{Act, Event, Parked, Setup, VpeDecl};
@@ -91,16 +91,33 @@ fn can_act(setup: &Setup, side: &Side, act: Act) -> bool
 fn can_call(setup: &Setup, side: &Side, vpe: u16) -> bool
     ensures { result ≡ is_locally_enabled setup.now 0 side.now (Calls vpe) }
 {
-    kernel_of(setup, vpe) == 0 && is_free(side, vpe) && next_call(setup, side, vpe).is_some()
+    setup.kernel_of(vpe) == 0 && is_free(side, vpe) && next_call(setup, side, vpe).is_some()
 }
 
 // Whether the VPE is alive, and no call of it is parked.
 fn is_free(side: &Side, vpe: u16) -> bool
     ensures { result ≡ (is_alive side.now vpe && is_none (parked side.now vpe)) }
 {
+    is_living(side, vpe) && is_unparked(side, vpe)
+}
+
+// Whether the VPE is alive.
+fn is_living(side: &Side, vpe: u16) -> bool
+    ensures { result ≡ is_alive side.now vpe }
+{
     side.vpes
         .get(usize::from(vpe))
-        .is_some_and(|held| held.alive && held.parked.is_none())
+        .is_some_and(|held| held.alive)
+}
+
+// Whether no call of the VPE is parked.
+fn is_unparked(side: &Side, vpe: u16) -> bool
+    ensures { result ≡ is_none (parked side.now vpe) }
+{
+    match side.parks.get(usize::from(vpe)) {
+        Some(state) => state.is_none(),
+        None => true,
+    }
 }
 
 // Whether a parked call of the VPE can go on.
@@ -108,15 +125,15 @@ fn is_free(side: &Side, vpe: u16) -> bool
 fn can_go_on(setup: &Setup, side: &Side, vpe: u16) -> bool
     ensures { result ≡ is_locally_enabled setup.now 0 side.now (Resume vpe) }
 {
-    kernel_of(setup, vpe) == 0 && is_ready(side, vpe)
+    setup.kernel_of(vpe) == 0 && is_ready(side, vpe)
 }
 
 // Whether what the VPE waits for is there.
 fn is_ready(side: &Side, vpe: u16) -> bool
     ensures { result ≡ can_resume (parked side.now vpe) }
 {
-    match side.vpes.get(usize::from(vpe)) {
-        Some(held) => ends(&held.parked),
+    match side.parks.get(usize::from(vpe)) {
+        Some(state) => ends(state),
         None => false,
     }
 }

@@ -29,7 +29,6 @@ pub use enabling::{enabled, is_enabled};
 pub use resumes::resume;
 pub use revokes::revoke;
 pub use selectors::{has_selector, selectors_fit};
-pub use setups::is_declared;
 pub use starts::boot;
 pub use state::{Bound, Capability, Job, Links, Outbox, Side, Vpe, World};
 pub use steps::{StepError, step};

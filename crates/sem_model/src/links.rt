@@ -3,9 +3,8 @@ ghost use Rattle.sem_key.specs.KeyName.{key_eq, key_lt};
 ghost use Rattle.sem_key.specs.KeyList.{with_key};
 ghost use Rattle.sem_key.specs.Lists.{change};
 
-use crate::caps::same_key;
 use crate::state::Capability;
-use sem_key::{Key, OutOfMemory, pack};
+use sem_key::{Key, OutOfMemory, pack, same_key};
 use std::alloc::Global;
 
 // The keys that come before the key.

@@ -2,12 +2,11 @@ ghost use Rattle.std.specs.Prelude.{◌≡◌, ◌&&◌, List, [], ◌∷◌, le
 ghost use Rattle.std.specs.List.{list_any};
 ghost use Rattle.std.specs.Option.{option_map, is_none};
 ghost use Rattle.sem_key.specs.Capability.{Capability as CapabilityValue};
-ghost use Rattle.sem_machine.specs.Revokes.{has_key as has_key_lem, linked_from, next_reached as next_reached_lem, grow, region as region_lem};
+ghost use Rattle.sem_key.specs.Region.{has_key as has_key_lem, linked_from, next_reached as next_reached_lem, grow, region as region_lem};
 ghost use Rattle.sem_model.specs.RegionTests.{leads_from, reached_next};
 
-use crate::caps::same_key;
 use crate::state::Capability;
-use sem_key::{Key, OutOfMemory};
+use sem_key::{Key, OutOfMemory, same_key};
 use std::alloc::Global;
 
 // Whether the keys have the key.

@@ -1,21 +1,23 @@
 ghost use Rattle.std.specs.Prelude.{◌≡◌, ℕ, ◌<◌, ◌+◌, ◌^◌, not, length, filter, All, IfOk, OnErr};
 ghost use Rattle.sem_key.specs.CapList.{unlinked as caps_unlinked};
+ghost use Rattle.sem_msg.specs.declared.state.Parked.TheVariants.{Ready};
+ghost use Rattle.sem_msg.specs.declared.code.Code.TheVariants.{Ok as OkCode};
+ghost use Rattle.sem_msg.specs.Codes.{code_number};
+ghost use Rattle.sem_msg.specs.ParkedStates.{parked_as};
 ghost use Rattle.sem_msg.specs.Setup.{Setup};
 ghost use Rattle.sem_msg.specs.VpeRows.{row as row_of, freed as slot_freed};
 ghost use Rattle.sem_machine.specs.Sides.{row};
 ghost use Rattle.sem_machine.specs.Calls.{revoke_row};
-ghost use Rattle.sem_machine.specs.Revokes.{has_key as has_key_lem};
+ghost use Rattle.sem_key.specs.Region.{has_key as has_key_lem};
 ghost use Rattle.sem_model.specs.Alone.{IsAlone, revoked_alone};
-ghost use Rattle.sem_model.specs.Revoking.{slots_freed, row_ready, child_left, caps_left};
+ghost use Rattle.sem_model.specs.Revoking.{slots_freed, child_left, caps_left};
 
-use crate::caps::{own_cap, same_key};
+use crate::caps::own_cap;
 use crate::outcomes::answered;
-use crate::refusals::{DONE, NO_CAP};
 use crate::regions::{has_key, region};
 use crate::state::{Capability, Side, Vpe};
-use sem_key::{Key, OutOfMemory};
-use sem_machine::Outcome;
-use sem_msg::{Parked, Slot};
+use sem_key::{Key, OutOfMemory, same_key};
+use sem_msg::{Code, Outcome, Parked, Slot};
 use std::alloc::Global;
 
 // Frees a selector of a VPE.
@@ -40,13 +42,13 @@ fn free_all(vpes: &mut Vec<Vpe>, caps: &[Capability], keys: &[Key])
     }
 }
 
-// The waiting call of the VPE will end with that code.
-fn wake(vpes: &mut Vec<Vpe>, vpe: u16, code: u8)
-    requires { vpe < length vpes.old.items }
-    ensures { vpes.new.items ≡ row_ready code vpe vpes.old.items }
+// The waiting call of the VPE will succeed.
+fn wake(parks: &mut Vec<Option<Parked>>, vpe: u16)
+    requires { vpe < length parks.old.items }
+    ensures { parks.new.items ≡ parked_as parks.old.items vpe (Ready (code_number OkCode)) }
 {
-    let row = &mut vpes[usize::from(vpe)];
-    row.parked = Some(Parked::Ready { code });
+    let code = Code::Ok.number();
+    parks[usize::from(vpe)] = Some(Parked::Ready { code });
 }
 
 // Takes out the capabilities of these keys.
@@ -87,6 +89,7 @@ fn leave_parent(caps: &mut Vec<Capability>, parent: Option<Key>, child: &Key)
 /// memory the side is as before.
 pub fn revoke(alloc: Global, side: &mut Side, vpe: u16, src: u8) -> Result<Outcome, OutOfMemory>
     requires vpe { vpe < length side.old.vpes }
+    requires call { vpe < length side.old.parks }
     requires source { src < length (row side.old vpe).slots }
     requires selectors { All (λ c. c.selector < length (row side.old c.key.vpe).slots) side.old.caps }
     requires ids { side.old.next_job + 1 < 2 ^ 32 }
@@ -94,7 +97,7 @@ pub fn revoke(alloc: Global, side: &mut Side, vpe: u16, src: u8) -> Result<Outco
     ensures unchanged { OnErr result (side.new ≡ side.old) }
 {
     let Some(root) = own_cap(side, vpe, src) else {
-        return Ok(answered(NO_CAP));
+        return Ok(answered(Code::NoCap));
     };
     let key = root.key;
     let parent = root.parent;
@@ -118,6 +121,7 @@ fn revoke_alone(
     vpe: u16,
 ) -> Result<(), OutOfMemory>
     requires vpe { vpe < length side.old.vpes }
+    requires call { vpe < length side.old.parks }
     requires selectors { All (λ c. c.selector < length (row side.old c.key.vpe).slots) side.old.caps }
     requires ids { side.old.next_job + 1 < 2 ^ 32 }
     ensures revoked { IfOk result (λ _. side.new ≡ revoked_alone root parent vpe side.old) }
@@ -127,7 +131,7 @@ fn revoke_alone(
     free_all(&mut side.vpes, &side.caps, &keys);
     remove_all(&mut side.caps, &keys);
     side.next_job += 1;
-    wake(&mut side.vpes, vpe, DONE);
+    wake(&mut side.parks, vpe);
     leave_parent(&mut side.caps, parent, &root);
     Ok(())
 }

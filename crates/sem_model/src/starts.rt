@@ -3,27 +3,21 @@ ghost use Rattle.sem_key.specs.ObjectRanges.{object_kind};
 ghost use Rattle.sem_key.specs.CapList.{with_cap};
 ghost use Rattle.sem_msg.specs.declared.state.Slot.TheVariants.{Held};
 ghost use Rattle.sem_msg.specs.Setup.{IsRoot, root_key};
+ghost use Rattle.sem_key.specs.declared.limits.TheConstants.{NUMBERS, PES, VPES};
+ghost use Rattle.sem_msg.specs.declared.limits.TheConstants.{SELECTORS};
 ghost use Rattle.sem_msg.specs.Rows.{no_vpe};
 ghost use Rattle.sem_machine.specs.Sides.{row};
-ghost use Rattle.sem_machine.specs.Machine.{new_vpe, empty_side, root_added, vpe_added, start_side};
+ghost use Rattle.sem_msg.specs.EndpointRows.{no_endpoint_bound};
+ghost use Rattle.sem_msg.specs.VpeRows.{new_vpe, next_root, root_held};
+ghost use Rattle.sem_machine.specs.Machine.{root_added, vpe_added, start_side};
 ghost use Rattle.sem_model.specs.Built.{IsBuilt};
 ghost use Rattle.sem_model.specs.ModelWorld.{booted};
 
-use crate::caps::{add_cap, kind_of};
-use crate::state::{Bound, Capability, Links, Outbox, Side, Vpe, World};
-use sem_key::{Key, Kind, Object, OutOfMemory, pack};
-use sem_msg::{Root, Setup, Slot, VpeDecl};
+use crate::caps::add_cap;
+use crate::state::{Bound, Capability, Endpoints, Links, Outbox, Side, Vpe, World};
+use sem_key::{Key, OutOfMemory, VPES};
+use sem_msg::{ENDPOINTS, Root, SELECTORS, Setup, Slot, VpeDecl};
 use std::alloc::Global;
-use std::mem;
-
-/// How many VPEs there can be.
-const VPES: usize = 64;
-
-/// How many selectors a VPE has.
-const SELECTORS: usize = 256;
-
-/// How many endpoints a VPE has.
-const ENDPOINTS: usize = 16;
 
 /// The world of the setup at the start.
 pub fn boot(alloc: Global, setup: &Setup) -> Result<World, OutOfMemory>
@@ -54,6 +48,8 @@ pub fn started_side(alloc: Global, setup: &Setup, kernel: u32) -> Result<Side, O
     let mut side = Side {
         caps: Vec::new(alloc),
         vpes: absent_vpes(alloc)?,
+        endpoints: no_endpoints(alloc)?,
+        parks: Vec::from_array(alloc, [None; VPES as usize])?,
         pendings: Vec::new(alloc),
         jobs: Vec::new(alloc),
         next_job: 0,
@@ -61,7 +57,7 @@ pub fn started_side(alloc: Global, setup: &Setup, kernel: u32) -> Result<Side, O
         outs: empty_boxes(alloc, setup.kernels)?,
     };
     for decl in setup.vpes.as_slice() {
-        if setup.owners.owner(decl.pe) == Some(kernel) {
+        if setup.pe_owner(decl.pe) == kernel {
             add_vpe(alloc, &mut side, decl)?;
         }
     }
@@ -83,7 +79,7 @@ fn empty_boxes(alloc: Global, kernels: u32) -> Result<Vec<Outbox>, OutOfMemory>
 
 // Nothing is kept of any VPE.
 fn absent_vpes(alloc: Global) -> Result<Vec<Vpe>, OutOfMemory>
-    ensures { IfOk result (λ vpes. vpes.items ≡ replicate 64 no_vpe) }
+    ensures { IfOk result (λ vpes. vpes.items ≡ replicate VPES no_vpe) }
 {
     let mut vpes = Vec::new(alloc);
     for _ in 0..VPES {
@@ -93,11 +89,22 @@ fn absent_vpes(alloc: Global) -> Result<Vec<Vpe>, OutOfMemory>
             next_number: 0,
             next_call: 0,
             asks: Vec::new(alloc),
-            parked: None,
-            endpoints: Vec::new(alloc),
         })?;
     }
     Ok(vpes)
+}
+
+// No endpoint of any VPE.
+fn no_endpoints(alloc: Global) -> Result<Vec<Endpoints>, OutOfMemory>
+    ensures { IfOk result (λ rows. rows.items ≡ replicate VPES []) }
+{
+    let mut rows = Vec::new(alloc);
+    for _ in 0..VPES {
+        rows.push(Endpoints {
+            bound: Vec::new(alloc),
+        })?;
+    }
+    Ok(rows)
 }
 
 // A VPE that holds nothing yet.
@@ -110,14 +117,12 @@ fn fresh_vpe(alloc: Global) -> Result<Vpe, OutOfMemory>
         next_number: 0,
         next_call: 0,
         asks: Vec::new(alloc),
-        parked: None,
-        endpoints: unbound_endpoints(alloc)?,
     })
 }
 
 // All endpoints of a VPE, unbound.
 fn unbound_endpoints(alloc: Global) -> Result<Vec<Option<Bound>>, OutOfMemory>
-    ensures { IfOk result (λ endpoints. endpoints.items ≡ replicate 16 None) }
+    ensures { IfOk result (λ endpoints. endpoints.items ≡ no_endpoint_bound) }
 {
     let mut endpoints = Vec::new(alloc);
     for _ in 0..ENDPOINTS {
@@ -128,15 +133,21 @@ fn unbound_endpoints(alloc: Global) -> Result<Vec<Option<Bound>>, OutOfMemory>
 
 // Adds a VPE with its roots and services, in the order of their lines.
 fn add_vpe(alloc: Global, side: &mut Side, decl: &VpeDecl) -> Result<(), OutOfMemory>
-    requires vpe { decl.now.vpe ≤ 63 }
-    requires pe { decl.now.pe ≤ 63 }
+    requires vpe { decl.now.vpe < VPES }
+    requires pe { decl.now.pe < PES }
     requires roots { All IsRoot decl.now.roots }
-    requires few { length decl.now.roots ≤ 256 }
-    requires places { length side.old.vpes ≡ 64 }
+    requires few { length decl.now.roots ≤ SELECTORS }
+    requires places { length side.old.vpes ≡ VPES }
+    requires rows { length side.old.endpoints ≡ VPES }
     ensures added { IfOk result (λ _. side.new ≡ vpe_added decl.now side.old) }
-    ensures places { IfOk result (λ _. length side.new.vpes ≡ 64) }
+    ensures places { IfOk result (λ _. length side.new.vpes ≡ VPES) }
+    ensures rows { IfOk result (λ _. length side.new.endpoints ≡ VPES) }
 {
-    side.vpes[usize::from(decl.vpe)] = fresh_vpe(alloc)?;
+    let place = usize::from(decl.vpe);
+    side.vpes[place] = fresh_vpe(alloc)?;
+    side.endpoints[place] = Endpoints {
+        bound: unbound_endpoints(alloc)?,
+    };
     for root in decl.roots.as_slice() {
         add_root(alloc, side, decl, root)?;
     }
@@ -145,12 +156,12 @@ fn add_vpe(alloc: Global, side: &mut Side, decl: &VpeDecl) -> Result<(), OutOfMe
 
 // Adds a root under the next number of its VPE.
 fn add_root(alloc: Global, side: &mut Side, decl: &VpeDecl, root: &Root) -> Result<(), OutOfMemory>
-    requires vpe { decl.now.vpe ≤ 63 }
-    requires pe { decl.now.pe ≤ 63 }
-    requires selector { root.now.sel ≤ 255 }
-    requires places { length side.old.vpes ≡ 64 }
-    requires selectors { length (row side.old decl.now.vpe).slots ≡ 256 }
-    requires number { (row side.old decl.now.vpe).next_number < 4096 }
+    requires vpe { decl.now.vpe < VPES }
+    requires pe { decl.now.pe < PES }
+    requires selector { root.now.sel < SELECTORS }
+    requires places { length side.old.vpes ≡ VPES }
+    requires selectors { length (row side.old decl.now.vpe).slots ≡ SELECTORS }
+    requires number { (row side.old decl.now.vpe).next_number < NUMBERS }
     ensures added { IfOk result (λ _. side.new ≡ root_added decl.now root.now side.old) }
 {
     let key = hold_root(&mut side.vpes[usize::from(decl.vpe)], decl, root);
@@ -168,19 +179,18 @@ fn add_root(alloc: Global, side: &mut Side, decl: &VpeDecl, root: &Root) -> Resu
 
 // Draws the next number of a VPE for a root, and holds the root's key at its selector.
 fn hold_root(held: &mut Vpe, decl: &VpeDecl, root: &Root) -> Key
-    requires vpe { decl.now.vpe ≤ 63 }
-    requires pe { decl.now.pe ≤ 63 }
-    requires selector { root.now.sel ≤ 255 }
-    requires selectors { length held.old.slots ≡ 256 }
-    requires number { held.old.next_number < 4096 }
-    ensures key { result ≡ root_key decl.now held.old.next_number root.now }
-    ensures held { held.new
-        ≡ record held.old { slots = slice_set held.old.slots root.now.sel (Held (root_key decl.now held.old.next_number root.now)); next_number = held.old.next_number + 1 } }
+    requires vpe { decl.now.vpe < VPES }
+    requires pe { decl.now.pe < PES }
+    requires selector { root.now.sel < SELECTORS }
+    requires selectors { length held.old.slots ≡ SELECTORS }
+    requires number { held.old.next_number < NUMBERS }
+    ensures key { result ≡ next_root decl.now root.now held.old }
+    ensures held { held.new ≡ root_held decl.now root.now held.old }
 {
     let key = Key {
         pe: decl.pe,
         vpe: decl.vpe,
-        kind: kind_of(&root.object),
+        kind: root.object.kind(),
         number: held.next_number,
     };
     held.slots[usize::from(root.sel)] = Slot::Held(key);

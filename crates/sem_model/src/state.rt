@@ -40,6 +40,21 @@ impl Model for Bound {
     ghost view = { λ b. record { key = b.key; object = b.object; ring = b.ring.items } };
 }
 
+/// The endpoints of a VPE.
+#[derive(Debug, Drop)]
+pub struct Endpoints {
+    pub bound: Vec<Option<Bound>>,
+}
+
+impl Model for Endpoints {
+    ghost use Rattle.std.specs.Prelude.{List, Option};
+    ghost use Rattle.sem_msg.specs.Rows.{Endpoint};
+
+    ghost Value = { List (Option Endpoint) };
+
+    ghost view = { λ e. e.bound.items };
+}
+
 /// What a kernel keeps of a VPE.
 #[derive(Debug, Drop)]
 pub struct Vpe {
@@ -48,8 +63,6 @@ pub struct Vpe {
     pub next_number: u32,
     pub next_call: u32,
     pub asks: Vec<Ask>,
-    pub parked: Option<Parked>,
-    pub endpoints: Vec<Option<Bound>>,
 }
 
 impl Model for Vpe {
@@ -57,7 +70,7 @@ impl Model for Vpe {
 
     ghost Value = { VpeRow };
 
-    ghost view = { λ v. record { alive = v.alive; slots = v.slots.items; next_number = v.next_number; next_call = v.next_call; asks = v.asks.items; parked = v.parked; endpoints = v.endpoints.items } };
+    ghost view = { λ v. record { alive = v.alive; slots = v.slots.items; next_number = v.next_number; next_call = v.next_call; asks = v.asks.items } };
 }
 
 /// A job.
@@ -68,6 +81,7 @@ pub struct Job {
     pub up: Option<Up>,
     pub waiters: Vec<u16>,
     pub count: u64,
+    pub keep: bool,
 }
 
 impl Model for Job {
@@ -75,7 +89,7 @@ impl Model for Job {
 
     ghost Value = { JobRow };
 
-    ghost view = { λ j. record { id = j.id; root = j.root; up = j.up; waiters = j.waiters.items; count = j.count } };
+    ghost view = { λ j. record { id = j.id; root = j.root; up = j.up; waiters = j.waiters.items; count = j.count; keep = j.keep } };
 }
 
 /// The messages for one kernel.
@@ -98,6 +112,8 @@ impl Model for Outbox {
 pub struct Side {
     pub caps: Vec<Capability>,
     pub vpes: Vec<Vpe>,
+    pub endpoints: Vec<Endpoints>,
+    pub parks: Vec<Option<Parked>>,
     pub pendings: Vec<Pending>,
     pub jobs: Vec<Job>,
     pub next_job: u32,
@@ -110,7 +126,7 @@ impl Model for Side {
 
     ghost Value = { Side };
 
-    ghost view = { λ s. record { caps = s.caps.items; vpes = s.vpes.items; pendings = s.pendings.items; jobs = s.jobs.items; next_job = s.next_job; inbox = s.inbox; outs = s.outs.items } };
+    ghost view = { λ s. record { caps = s.caps.items; vpes = s.vpes.items; endpoints = s.endpoints.items; parks = s.parks.items; pendings = s.pendings.items; jobs = s.jobs.items; next_job = s.next_job; inbox = s.inbox; outs = s.outs.items } };
 }
 
 impl Clone for Capability {
@@ -144,6 +160,18 @@ impl Clone for Bound {
     }
 }
 
+impl Clone for Endpoints {
+    ghost use Rattle.std.specs.Prelude.{◌≡◌};
+
+    ghost is_clone = { λ source copy. copy ≡ source };
+
+    fn clone(&self) -> Result<Self, AllocError> {
+        Ok(Endpoints {
+            bound: self.bound.clone()?,
+        })
+    }
+}
+
 impl Clone for Vpe {
     ghost use Rattle.std.specs.Prelude.{◌≡◌};
 
@@ -156,8 +184,6 @@ impl Clone for Vpe {
             next_number: self.next_number,
             next_call: self.next_call,
             asks: self.asks.clone()?,
-            parked: self.parked,
-            endpoints: self.endpoints.clone()?,
         })
     }
 }
@@ -174,6 +200,7 @@ impl Clone for Job {
             up: self.up,
             waiters: self.waiters.clone()?,
             count: self.count,
+            keep: self.keep,
         })
     }
 }
@@ -199,6 +226,8 @@ impl Clone for Side {
         Ok(Side {
             caps: self.caps.clone()?,
             vpes: self.vpes.clone()?,
+            endpoints: self.endpoints.clone()?,
+            parks: self.parks.clone()?,
             pendings: self.pendings.clone()?,
             jobs: self.jobs.clone()?,
             next_job: self.next_job,

@@ -5,7 +5,7 @@ ghost use Rattle.sem_msg.specs.declared.event.Act.TheVariants.{Call as Calls, Re
 ghost use Rattle.sem_msg.specs.Setup.{IsSetup};
 ghost use Rattle.sem_msg.specs.Lookups.{kernel_of};
 ghost use Rattle.sem_machine.specs.Calls.{call_row};
-ghost use Rattle.sem_machine.specs.Sides.{row, call_counted};
+ghost use Rattle.sem_machine.specs.Sides.{row, call_counted, parked};
 ghost use Rattle.sem_machine.specs.Machine.{next_call as next_call_lem, is_locally_enabled, is_enabled as is_enabled_lem, local_step, local_entry, after, entry_of, event};
 ghost use Rattle.sem_model.specs.Acting.{can_act, reply_number as reply_number_lem};
 ghost use Rattle.sem_model.specs.Built.{IsBuilt, IsBuiltCall};
@@ -18,8 +18,7 @@ use crate::revokes::revoke;
 use crate::setups::{calls_made, next_call};
 use crate::state::{Side, World};
 use sem_key::OutOfMemory;
-use sem_machine::Outcome;
-use sem_msg::{Act, Call, Detail, Entry, Event, Reply, Setup};
+use sem_msg::{Act, Call, Detail, Entry, Event, Outcome, Reply, Setup};
 use std::alloc::Global;
 use thiserror::Error;
 

@@ -42,6 +42,8 @@ pub fn one_vpe(alloc: Global) -> Result<Setup, Fail>
         calls,
     })?;
     Ok(Setup {
+        version: 1,
+        window: 4,
         kernels: 1,
         owners,
         vpes,
@@ -98,7 +100,7 @@ fn a_side_starts_with_nothing_to_do(rt: HostRuntime) -> Result<(), Fail> {
     let side = world.sides.first().ok_or("no side")?;
     assert_eq!(rt;
         (side.caps.len(), side.vpes.len(), side.outs.len()),
-        (1, 64, 1)
+        (1, 128, 1)
     );
     assert_eq!(rt; (side.pendings.len(), side.jobs.len()), (0, 0));
     assert_eq!(rt; (side.next_job, side.inbox), (0, None));
@@ -132,12 +134,15 @@ fn a_declared_vpe_starts_alive(rt: HostRuntime) -> Result<(), Fail> {
     let vpe = side.vpes.first().ok_or("no VPE")?;
     assert!(rt; vpe.alive);
     assert_eq!(rt; (vpe.next_number, vpe.next_call), (1, 0));
-    assert_eq!(rt; (vpe.slots.len(), vpe.endpoints.len()), (256, 16));
+    assert_eq!(rt; vpe.slots.len(), 256);
     assert_eq!(rt;
         (vpe.slots.get(0).copied(), vpe.slots.get(1).copied()),
         (Some(Slot::Held(memory())), Some(Slot::Free))
     );
-    assert_eq!(rt; (vpe.asks.len(), vpe.parked), (0, None));
+    assert_eq!(rt; vpe.asks.len(), 0);
+    let endpoints = side.endpoints.first().ok_or("no endpoints")?;
+    assert_eq!(rt; endpoints.bound.len(), 16);
+    assert!(rt; side.parks.iter().all(|state| state.is_none()));
     Ok(())
 }
 
@@ -147,6 +152,8 @@ fn a_vpe_that_is_not_declared_starts_absent(rt: HostRuntime) -> Result<(), Fail>
     let side = world.sides.first().ok_or("no side")?;
     let vpe = side.vpes.get(1).ok_or("no VPE")?;
     assert!(rt; !vpe.alive);
-    assert_eq!(rt; (vpe.slots.len(), vpe.endpoints.len()), (0, 0));
+    assert_eq!(rt; vpe.slots.len(), 0);
+    let endpoints = side.endpoints.get(1).ok_or("no endpoints")?;
+    assert_eq!(rt; endpoints.bound.len(), 0);
     Ok(())
 }

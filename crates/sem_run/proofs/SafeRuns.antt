@@ -14,7 +14,7 @@ use Rattle.sem_safety.proofs.SoundWorlds.{all-endpoints}
 use Rattle.sem_safety.proofs.OneLife.{all-lineage, all-sound}
 use Rattle.sem_model.proofs.BuiltSafety.{built-gone, built-nothing_lost}
 use Rattle.sem_run.specs.declared.statuses.Status.{Status}
-use Rattle.sem_run.specs.declared.statuses.Status.TheVariants.{Done, Usage, Refused, ReadFault, WriteFault, Memory, Stuck, Spent, NotBuilt}
+use Rattle.sem_run.specs.declared.statuses.Status.TheVariants.{Done, Usage, TraceRefused, ReadFault, WriteFault, Memory, Stuck, Spent, NotBuilt}
 use Rattle.sem_run.specs.Ends.{ReadsTrace, RunsSeeded, IsPartOfRun, IsSafeRun, IsOfRun, WouldEnd}
 use Rattle.sem_run.proofs.Running.{entry_of-event, picked-enabled}
 
@@ -58,7 +58,7 @@ module _ (words : List (List ℕ)) (before after' : Option (List ℕ)) (faults f
   pub would-safe : (status : Status) → WouldEnd words before after' faults faults' J text status → IsOfRun status J → IsSafeRun before after' J
   would-safe Done ends of_run = seeded-safe words before after' J ends.setup ends.seed ends.run
   would-safe Usage ends of_run = absurd of_run
-  would-safe Refused ends of_run = absurd of_run
+  would-safe TraceRefused ends of_run = absurd of_run
   would-safe ReadFault ends of_run = absurd of_run
   would-safe WriteFault ends of_run = absurd ends
   would-safe Memory ends of_run = part-safe before after' J ends.part of_run
@@ -70,7 +70,7 @@ module _ (words : List (List ℕ)) (before after' : Option (List ℕ)) (faults f
   pub unwritten-safe : (status : Status) → WouldEnd words before after' faults faults' J text status → J ≢ [] → IsSafeRun before after' J
   unwritten-safe Done ends some = would-safe Done ends tt
   unwritten-safe Usage ends some = absurd (some ends.no_journal)
-  unwritten-safe Refused ends some = absurd (some ends.no_journal)
+  unwritten-safe TraceRefused ends some = absurd (some ends.no_journal)
   unwritten-safe ReadFault ends some = absurd (some ends.no_journal)
   unwritten-safe WriteFault ends some = absurd ends
   unwritten-safe Memory ends some = would-safe Memory ends some

@@ -10,7 +10,7 @@ use Rattle.sem_msg.specs.Lookups.{decl, kernel_of}
 use Rattle.sem_machine.specs.Sides.{is_alive, no_side}
 use Rattle.sem_machine.specs.Machine.{side}
 use Rattle.sem_machine.specs.Schedules.{world_after}
-use Rattle.sem_machine.proofs.Members.{found}
+use Rattle.sem_key.proofs.Members.{found}
 use Rattle.sem_model.specs.BuiltWorld.{IsBuiltWorld}
 use Rattle.sem_model.specs.ModelWorld.{ModelWorld}
 use Rattle.sem_run.specs.Runs.{IsRunTo, IsUnanswered}

@@ -17,7 +17,7 @@ use Rattle.sem_audit.specs.HeldKeys.{report}
 use Rattle.sem_run.specs.declared.forms.Command.{Command}
 use Rattle.sem_run.specs.declared.forms.Command.TheVariants.{Run, Threads, Check, Generate, Soak}
 use Rattle.sem_run.specs.declared.statuses.Status.{Status}
-use Rattle.sem_run.specs.declared.statuses.Status.TheVariants.{Done, Usage, Refused, ReadFault, WriteFault, Memory, Stuck, Spent, NotBuilt}
+use Rattle.sem_run.specs.declared.statuses.Status.TheVariants.{Done, Usage, TraceRefused, ReadFault, WriteFault, Memory, Stuck, Spent, NotBuilt}
 use Rattle.sem_run.specs.Commands.{command_of}
 use Rattle.sem_run.specs.Messages.{usage_line, not_built_line, refused_line, stuck_line, spent_line}
 use Rattle.sem_run.specs.Runs.{IsStuck, IsSpent}
@@ -109,7 +109,7 @@ pub record IsSafeRun (before after : Option (List ℕ)) (J : List Entry) : Type 
 abbrev pub IsOfRun : Status → List Entry → Type 0
 IsOfRun Done J = Unit {0}
 IsOfRun Usage J = ⊥
-IsOfRun Refused J = ⊥
+IsOfRun TraceRefused J = ⊥
 IsOfRun ReadFault J = ⊥
 IsOfRun WriteFault J = J ≢ []
 IsOfRun Memory J = J ≢ []
@@ -152,7 +152,7 @@ pub record EndsNotBuilt (words : List (List ℕ)) (before : Option (List ℕ)) (
 abbrev pub WouldEnd : List (List ℕ) → Option (List ℕ) → Option (List ℕ) → ℕ → ℕ → List Entry → List ℕ → Status → Type 0
 WouldEnd words before after faults faults' J text Done = EndsDone words before after J text
 WouldEnd words before after faults faults' J text Usage = EndsUsage words J text
-WouldEnd words before after faults faults' J text Refused = EndsRefused words before faults faults' J text
+WouldEnd words before after faults faults' J text TraceRefused = EndsRefused words before faults faults' J text
 WouldEnd words before after faults faults' J text ReadFault = EndsReadFault words faults faults' J text
 WouldEnd words before after faults faults' J text WriteFault = ⊥
 WouldEnd words before after faults faults' J text Memory = EndsMemory before after J text
@@ -164,7 +164,7 @@ WouldEnd words before after faults faults' J text NotBuilt = EndsNotBuilt words 
 abbrev pub RunEnds : Setup → ℕ → List Entry → List ℕ → Status → Type 0
 RunEnds T seed J text Done = (J ≡ seeded T seed) × IsComplete T J × (text ≡ report T J)
 RunEnds T seed J text Usage = ⊥
-RunEnds T seed J text Refused = ⊥
+RunEnds T seed J text TraceRefused = ⊥
 RunEnds T seed J text ReadFault = ⊥
 RunEnds T seed J text WriteFault = ⊥
 RunEnds T seed J text Memory = ⊥

@@ -1,4 +1,4 @@
-ghost use Rattle.std.specs.Prelude.{◌≡◌, ◌≢◌, ◌⊎◌, List, ℕ, [], Some, None, map, string_bytes};
+ghost use Rattle.std.specs.Prelude.{◌≡◌, ◌≢◌, ◌⊎◌, List, ℕ, false, [], Some, None, map, string_bytes};
 ghost use Rattle.sem_msg.specs.Setup.{Setup};
 ghost use Rattle.sem_io.specs.Count.{Rose};
 ghost use Rattle.sem_io.specs.SinkBytes.{Appends};
@@ -6,10 +6,11 @@ ghost use Rattle.sem_trace.specs.declared.fault.TraceFault.{TraceFault};
 ghost use Rattle.sem_trace.specs.Refusal.{refusal};
 ghost use Rattle.sem_trace.specs.Standing.{Stands};
 ghost use Rattle.sem_model.specs.Built.{IsBuilt};
+ghost use Rattle.sem_run.specs.declared.forms.Command.{Command as CommandData};
 ghost use Rattle.sem_run.specs.declared.forms.Command.TheVariants.{Run};
 ghost use Rattle.sem_run.specs.declared.statuses.Status.{Status as StatusData};
 ghost use Rattle.sem_run.specs.Commands.{command_of};
-ghost use Rattle.sem_run.specs.Ends.{EndsDone, EndsUsage, EndsRefused, EndsNotBuilt, EndsReadFault, EndsMemory, EndsStuck, EndsSpent, IsNotBuilt, IsOfRun, IsSafeRun, WouldEnd, Writes, WritesPrefix};
+ghost use Rattle.sem_run.specs.Ends.{is_built, EndsDone, EndsUsage, EndsRefused, EndsNotBuilt, EndsReadFault, EndsMemory, EndsStuck, EndsSpent, IsUnbuilt, IsOfRun, IsSafeRun, WouldEnd, Writes, WritesPrefix};
 
 use crate::responses::respond;
 use crate::statuses::Status;
@@ -34,7 +35,7 @@ pub fn semper_alone<S: Source, K: Sink>(
 
     // Why each other status comes, with the text that was written and the journal.
     ensures usage { result ≡ Status.Usage → Writes (K.written out.old) (K.written out.new) (λ text. EndsUsage (map string_bytes words.now) journal.new.entries text) }
-    ensures refused { result ≡ Status.Refused → Writes (K.written out.old) (K.written out.new) (λ text. EndsRefused (map string_bytes words.now) (S.left input.old) (S.faults input.old) (S.faults input.new) journal.new.entries text) }
+    ensures refused { result ≡ Status.TraceRefused → Writes (K.written out.old) (K.written out.new) (λ text. EndsRefused (map string_bytes words.now) (S.left input.old) (S.faults input.old) (S.faults input.new) journal.new.entries text) }
     ensures not_built { result ≡ Status.NotBuilt → Writes (K.written out.old) (K.written out.new) (λ text. EndsNotBuilt (map string_bytes words.now) (S.left input.old) (S.faults input.old) (S.faults input.new) journal.new.entries text) }
     ensures read_fault { result ≡ Status.ReadFault → Writes (K.written out.old) (K.written out.new) (λ text. EndsReadFault (map string_bytes words.now) (S.faults input.old) (S.faults input.new) journal.new.entries text) }
     ensures memory { result ≡ Status.Memory → Writes (K.written out.old) (K.written out.new) (λ text. EndsMemory (S.left input.old) (S.left input.new) journal.new.entries text) }
@@ -48,12 +49,14 @@ pub fn semper_alone<S: Source, K: Sink>(
     // Safety: what a run leaves, whole or cut short, is a schedule of the trace, and safe.
     ensures safe { IsOfRun result journal.new.entries → IsSafeRun (S.left input.old) (S.left input.new) journal.new.entries }
 
-    // Exactly: words that are no command, and what is not built, are told so, unless memory was wanting or a count of faults rose.
+    // Exactly: words that are no command, a command that is not built, and a trace that cannot be run yet, are told so, unless
+    // memory was wanting or a count of faults rose. A command that is not built reads nothing.
     ensures usage_exactly { command_of (map string_bytes words.now) ≡ None → (result ≡ Status.Usage) ⊎ ((result ≡ Status.WriteFault) ⊎ (result ≡ Status.Memory)) }
-    ensures not_built_exactly { IsNotBuilt (map string_bytes words.now) (S.left input.old) → S.left input.old ≢ None → (result ≡ Status.NotBuilt) ⊎ ((result ≡ Status.ReadFault) ⊎ ((result ≡ Status.WriteFault) ⊎ (result ≡ Status.Memory))) }
+    ensures not_built_exactly { (asked : CommandData) → command_of (map string_bytes words.now) ≡ Some asked → is_built asked ≡ false → (result ≡ Status.NotBuilt) ⊎ ((result ≡ Status.WriteFault) ⊎ (result ≡ Status.Memory)) }
+    ensures unbuilt_exactly { (seed : ℕ) → command_of (map string_bytes words.now) ≡ Some (Run seed) → S.left input.old ≢ None → IsUnbuilt (S.left input.old) → (result ≡ Status.NotBuilt) ⊎ ((result ≡ Status.ReadFault) ⊎ ((result ≡ Status.WriteFault) ⊎ (result ≡ Status.Memory))) }
 
     // What is no trace is refused, at its first bad line with its cause, unless memory was wanting or a count of faults rose.
-    ensures refused_exactly { (bytes : List ℕ) (seed : ℕ) (fault : TraceFault) → command_of (map string_bytes words.now) ≡ Some (Run seed) → S.left input.old ≡ Some bytes → refusal bytes ≡ Some fault → (result ≡ Status.Refused) ⊎ ((result ≡ Status.ReadFault) ⊎ ((result ≡ Status.WriteFault) ⊎ (result ≡ Status.Memory))) }
+    ensures refused_exactly { (bytes : List ℕ) (seed : ℕ) (fault : TraceFault) → command_of (map string_bytes words.now) ≡ Some (Run seed) → S.left input.old ≡ Some bytes → refusal bytes ≡ Some fault → (result ≡ Status.TraceRefused) ⊎ ((result ≡ Status.ReadFault) ⊎ ((result ≡ Status.WriteFault) ⊎ (result ≡ Status.Memory))) }
 
     // A trace that can be run is run, unless memory was wanting or a count of faults rose.
     ensures runs { (bytes : List ℕ) (T : Setup) (seed : ℕ) → command_of (map string_bytes words.now) ≡ Some (Run seed) → S.left input.old ≡ Some bytes → Stands bytes T → IsBuilt T → (result ≡ Status.Done) ⊎ ((result ≡ Status.Stuck) ⊎ ((result ≡ Status.Spent) ⊎ ((result ≡ Status.ReadFault) ⊎ ((result ≡ Status.WriteFault) ⊎ (result ≡ Status.Memory))))) }

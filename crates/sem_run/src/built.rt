@@ -2,11 +2,8 @@ ghost use Rattle.std.specs.Prelude.{◌≡◌, ◌≤◌, ◌↔◌, [], length,
 ghost use Rattle.sem_key.specs.MembershipTable.{IsMembership};
 ghost use Rattle.sem_model.specs.Built.{IsBuilt, IsBuiltCall, IsMemoryRoot};
 
-use sem_key::{Membership, Object};
+use sem_key::{Membership, Object, PES};
 use sem_msg::{Call, Root, Setup, VpeDecl};
-
-/// How many PEs there can be.
-const PES: u8 = 64;
 
 /// Whether the setup is one that can be run today: one kernel, at most one PE and one VPE, memory for its roots, and no calls
 /// but derive and revoke.
@@ -42,7 +39,7 @@ fn owned_pes(owners: &Membership) -> usize
     ensures { result ≡ length (filter (λ owner. is_some owner) owners.now.owners) }
 {
     let mut count = 0;
-    for pe in 0..PES {
+    for pe in 0..PES as u8 {
         if owners.owner(pe).is_some() {
             count += 1;
         }

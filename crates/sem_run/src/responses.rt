@@ -106,7 +106,7 @@ fn run_trace<S: Source>(
         Reading::Runs(setup) => Ok(run_setup(alloc, &setup, seed, journal, text)?),
         Reading::Faulty(fault) => {
             push_refused(text, &fault)?;
-            Ok(Status::Refused)
+            Ok(Status::TraceRefused)
         }
         Reading::Unbuilt => {
             text.extend_from_slice(not_built())?;

@@ -37,6 +37,8 @@ fn one_vpe(alloc: Global) -> Result<Setup, Fail> {
         calls,
     })?;
     Ok(Setup {
+        version: 1,
+        window: 4,
         kernels: 1,
         owners,
         vpes,

@@ -9,7 +9,7 @@ pub enum Status {
     /// The words are no command.
     Usage,
     /// The input is no trace.
-    Refused,
+    TraceRefused,
     /// The input could not be read.
     ReadFault,
     /// The output could not be written.
@@ -32,7 +32,7 @@ impl Status {
         match self {
             Status::Done => 0,
             Status::Usage => 1,
-            Status::Refused => 2,
+            Status::TraceRefused => 2,
             Status::ReadFault => 3,
             Status::WriteFault => 4,
             Status::Memory => 5,

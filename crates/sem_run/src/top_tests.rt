@@ -192,7 +192,7 @@ fn what_is_no_trace_is_refused_at_its_first_bad_line(rt: HostRuntime) -> Result<
     check(
         &rt,
         &nothing,
-        Status::Refused,
+        Status::TraceRefused,
         "trace refused: line 1: Missing\n",
         0,
     );
@@ -216,7 +216,7 @@ fn what_is_no_trace_is_refused_at_its_first_bad_line(rt: HostRuntime) -> Result<
         let trace = with_line(rt.alloc(), number, line)?;
         let written = format!(in rt.alloc(); "trace refused: {told}\n")?;
         let answer = answer(rt.alloc(), "run 0", trace.as_str())?;
-        check(&rt, &answer, Status::Refused, written.as_str(), 0);
+        check(&rt, &answer, Status::TraceRefused, written.as_str(), 0);
     }
     Ok(())
 }

@@ -2,7 +2,7 @@ use Rattle.std.proofs.Common.{◌≡◌, rules}
 use Rattle.std.specs.List.{insert}
 use Rattle.std.proofs.lemmas.List.Sorted.{IsPartitionPoint-from_clause, IsPartitionedBy-ltb}
 use Rattle.sem_key.specs.KeyName.{packed, key_lt}
-use Rattle.sem_journal.specs.declared.audit.Held.{Held}
+use Rattle.sem_msg.specs.declared.audit.Held.{Held}
 use Rattle.sem_audit.proofs.Order.{IsPlaceFor, insert-with_held, insert-in_order}
 use Rattle.sem_audit.proofs.holds.add_held.Goals as goal
 

@@ -1,7 +1,7 @@
 use Rattle.std.proofs.Common.{◌≡◌, List}
 use Rattle.std.proofs.lemmas.Result.{IfOk-weaker}
-use Rattle.sem_journal.specs.declared.audit.Held.{Held}
-use Rattle.sem_journal.specs.AuditList.{held_pairs}
+use Rattle.sem_msg.specs.declared.audit.Held.{Held}
+use Rattle.sem_msg.specs.Audits.{held_pairs}
 use Rattle.sem_model.specs.contracts.state.World.{the_view}
 use Rattle.sem_audit.specs.HeldKeys.{held}
 use Rattle.sem_audit.proofs.Order.{held-is}

@@ -1,5 +1,5 @@
 use Rattle.std.proofs.Common.{rules, arith, ◌≡◌, ◌∙◌, sym, ap, ℕ, suc, ◌+◌, ◌-◌, ◌∷◌, length, Some, None}
-use Rattle.sem_machine.specs.Revokes.{grow}
+use Rattle.sem_key.specs.Region.{grow}
 use Rattle.sem_model.proofs.RegionSteps.{next_key, grow-next, grow-none, grow-zero}
 use Rattle.sem_model.proofs.regions.reached_from.Goals.{else-loop-turn-test, then-loop-turn-test+in_default}
 use Rattle.sem_model.proofs.regions.reached_from.Goals as goal

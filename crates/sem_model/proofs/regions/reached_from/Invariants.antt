@@ -1,5 +1,5 @@
 use Rattle.std.proofs.Common.{◌≡◌, [], ◌∷◌, length, ◌-◌}
-use Rattle.sem_machine.specs.Revokes.{grow}
+use Rattle.sem_key.specs.Region.{grow}
 use Rattle.sem_model.proofs.regions.reached_from.Given as goal
 
 -- the turns that are left lead to what all turns lead to

@@ -3,7 +3,7 @@ use Rattle.sem_key.specs.Lists.{in_turn}
 use Rattle.sem_key.specs.Capability.{Capability}
 use Rattle.sem_msg.specs.VpeRows.{freed as slot_freed}
 use Rattle.sem_model.specs.declared.state.Vpe.{Vpe}
-use Rattle.sem_machine.specs.Revokes.{has_key}
+use Rattle.sem_key.specs.Region.{has_key}
 use Rattle.sem_model.proofs.Freeing.{IsSameShape-same, IsSameShape-freed, selector-within, slots_freed-pass, slots_freed-fail}
 use Rattle.sem_model.proofs.revokes.free_all.Goals.{then-has_key, else-has_key}
 use Rattle.sem_model.proofs.revokes.free_all.Goals as goal

@@ -1,7 +1,7 @@
 use Rattle.std.proofs.Common.{◌≡◌, take}
 use Rattle.std.specs.List.{filter}
 use Rattle.sem_key.specs.Capability.{Capability}
-use Rattle.sem_machine.specs.Revokes.{has_key}
+use Rattle.sem_key.specs.Region.{has_key}
 use Rattle.sem_model.specs.Revoking.{slots_freed}
 use Rattle.sem_model.proofs.Freeing.{IsSameShape}
 use Rattle.sem_model.proofs.revokes.free_all.Given as goal

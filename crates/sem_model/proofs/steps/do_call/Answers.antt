@@ -1,6 +1,6 @@
 use Rattle.std.proofs.Common.{arith}
 use Rattle.std.proofs.lemmas.Result.{IfOk-weaker}
-use Rattle.sem_model.proofs.Calling.{vpe-selector, vpe-declared, caps-selectors, vpe-alone, vpe-few, vpe-jobs, call_row-derive, call_row-revoke}
+use Rattle.sem_model.proofs.Calling.{call-placed, vpe-selector, vpe-declared, caps-selectors, vpe-alone, vpe-few, vpe-jobs, call_row-derive, call_row-revoke}
 use Rattle.sem_model.proofs.steps.do_call.Goals as goal
 
 pub derive-requires-clause-declared : goal.derive-requires-clause-declared
@@ -11,6 +11,9 @@ derive-requires-clause-source c = vpe-selector c.args.setup.now c.args.vpe c.arg
 
 pub derive-requires-clause-destination : goal.derive-requires-clause-destination
 derive-requires-clause-destination c = vpe-selector c.args.setup.now c.args.vpe c.args.side.now c.requires.built c.requires.kernel c.requires.own c.in-Derive.dst (omega arith)
+
+pub revoke-requires-clause-call : goal.revoke-requires-clause-call
+revoke-requires-clause-call c = call-placed c.args.setup.now c.args.vpe c.args.side.now c.requires.built c.requires.kernel c.requires.own c.requires.valid
 
 pub revoke-requires-clause-source : goal.revoke-requires-clause-source
 revoke-requires-clause-source c = vpe-selector c.args.setup.now c.args.vpe c.args.side.now c.requires.built c.requires.kernel c.requires.own c.in-Revoke.src (omega arith)

@@ -1,8 +1,8 @@
-use Rattle.sem_model.proofs.Calling.{resume-own, resume-ready, local_step-resume, vpe-placed}
+use Rattle.sem_model.proofs.Calling.{resume-own, resume-ready, local_step-resume, call-placed}
 use Rattle.sem_model.proofs.steps.go_on.Goals as goal
 
 pub resume-requires : goal.resume-requires
-resume-requires c = vpe-placed c.args.setup.now c.args.vpe c.args.side.now c.requires.built c.requires.kernel (resume-own c.args.setup.now c.args.vpe c.args.side.now c.requires.built c.requires.kernel c.requires.enabled) c.requires.valid
+resume-requires c = call-placed c.args.setup.now c.args.vpe c.args.side.now c.requires.built c.requires.kernel (resume-own c.args.setup.now c.args.vpe c.args.side.now c.requires.built c.requires.kernel c.requires.enabled) c.requires.valid
 
 -- a call is ready
 pub unreachable-requires : goal.unreachable-requires
