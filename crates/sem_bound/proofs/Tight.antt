@@ -1,5 +1,5 @@
 -- The bound is reached: a schedule of one call and two kills has 23 entries.
-use Rattle.std.proofs.Common.{◌≡◌, ℕ, zero, suc, ◌+◌, ◌*◌, ◌<◌, true, List, [], ◌∷◌, length, Option, Some, None, replicate, get_or, refl, sym, ap, subst, arith, rules, inl}
+use Rattle.std.proofs.Common.{◌≡◌, ℕ, zero, suc, ◌+◌, ◌*◌, ◌<◌, true, List, [], ◌∷◌, length, Option, Some, None, replicate, get_or, refl, sym, ap, subst, arith, rules, inl, IsSome}
 use Rattle.std.specs.List.{slice_set, AllPairs}
 use Rattle.std.specs.Prelude.{◌≢◌}
 use Rattle.std.proofs.lemmas.Bool.{and_parts}
@@ -69,6 +69,14 @@ owner_exists zero kernel owned = let same : 0 ≡ kernel = cc in omega arith
 owner_exists (suc zero) kernel owned = let same : 1 ≡ kernel = cc in omega arith
 owner_exists (suc (suc pe)) kernel owned = let none = no_owner 126 pe in absurd (cc)
 
+owned_first : (pe : ℕ) → IsSome (get_or owners pe None) → pe < 64
+owned_first zero some = omega arith
+owned_first (suc zero) some = omega arith
+owned_first (suc (suc pe)) some = absurd (nobody (subst IsSome (no_owner 126 pe) some))
+  where
+    nobody : IsSome {T = ℕ} None → ⊥
+    nobody some = absurd cc
+
 is_giver : IsVpeDecl costly giver
 unfolding costly
 is_giver = record {
@@ -108,6 +116,7 @@ costly-setup = record {
   few_kernels = omega arith;
   membership = record { some_kernel = omega arith; few_kernels = omega arith; all_pes = refl; owners_exist = owner_exists };
   same_kernels = refl;
+  owned_pes = owned_first;
   vpes = All-cons (IsVpeDecl costly) giver (getter ∷ []) is_giver (All-cons (IsVpeDecl costly) getter [] is_getter (All-nil (IsVpeDecl costly)));
   vpes_rise = two-pairs (λ (a b : VpeDecl). a.vpe < b.vpe) giver getter (omega arith);
   pes_differ = two-pairs (λ (a b : VpeDecl). a.pe ≢ b.pe) giver getter (λ same. omega (arith, same));

@@ -78,6 +78,7 @@ module _ (T : Setup) (valid : IsSetup T) (first : T.version ≡ 1) where
         few_kernels = omega (arith, few, kernels);
         membership = valid.membership;
         same_kernels = valid.same_kernels;
+        owned_pes = λ pe some. let below = valid.owned_pes pe some in let most = vpes-first in omega (arith, below, most);
         vpes = All-weaker (IsVpeDecl T) (IsVpeDecl (record T { version = 2 })) decl-second T.vpes valid.vpes;
         vpes_rise = valid.vpes_rise;
         pes_differ = valid.pes_differ;

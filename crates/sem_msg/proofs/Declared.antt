@@ -1,6 +1,9 @@
 -- What a setup keeps of a declared VPE.
-use Rattle.std.proofs.Common.{◌≡◌, ℕ, ◌≤◌, true, Option, Some, None, IfSome, refl, sym, ◌∙◌, subst, true≢false, arith}
+use Rattle.std.proofs.Common.{◌≡◌, ℕ, zero, suc, ◌<◌, ◌≤◌, true, List, [], ◌∷◌, length, get_or, Option, Some, None, IfSome, refl, sym, ◌∙◌, subst, true≢false, arith}
 use Rattle.std.specs.Prelude.{◌==◌}
+use Rattle.std.specs.Option.{IsSome}
+use Rattle.sem_key.specs.declared.limits.TheConstants.{PES}
+use Rattle.sem_key.specs.MembershipTable.{MembershipTable, IsMembership, owner_at}
 use Rattle.std.proofs.lemmas.Bool.{eqb-true, cond_both}
 use Rattle.sem_key.proofs.Members.{found, not_found, list_any-some}
 use Rattle.sem_msg.specs.declared.setup.VpeDecl.{VpeDecl}
@@ -11,6 +14,19 @@ use Rattle.sem_msg.specs.Lookups.{decl, is_declared, IsPlaced}
 -- in either version there are at most 128 VPEs, and as many PEs
 pub most_vpes-le : (version : ℕ) → most_vpes version ≤ 128
 most_vpes-le version = cond_both (version == 1) 64 128 (λ n. n ≤ 128) (λ _. omega arith) (λ _. omega arith)
+
+-- what is read of a list is within it
+there-within : (xs : List (Option ℕ)) (i : ℕ) → IsSome (get_or xs i None) → i < length xs
+there-within [] i some = absurd cc
+there-within (x ∷ xs) zero some = omega arith
+there-within (x ∷ xs) (suc i) some = let rest = there-within xs i some in omega (arith, rest)
+
+-- a PE that has an owner is one of the table
+pub owned-within : (m : MembershipTable) → IsMembership m → (pe : ℕ) → IsSome (owner_at m pe) → pe < PES
+owned-within m is pe some =
+    let within = there-within m.owners pe some in
+    let all = is.all_pes in
+    omega (arith, within, all)
 
 -- a declared VPE has a declaration
 pub declared-some : (T : Setup) (v : ℕ) → is_declared T v ≡ true → (d : VpeDecl) × (decl T v ≡ Some d)

@@ -1,9 +1,10 @@
 -- A setup with one kernel and one VPE, which has one root, a memory: that it is a setup.
-use Rattle.std.proofs.Common.{◌≡◌, ℕ, zero, suc, ◌<◌, ◌≤◌, List, [], ◌∷◌, length, Option, Some, None, replicate, get_or, refl, inl, arith, rules}
+use Rattle.std.proofs.Common.{◌≡◌, ℕ, zero, suc, ◌<◌, ◌≤◌, List, [], ◌∷◌, length, Option, Some, None, replicate, get_or, refl, subst, inl, arith, rules}
 use Rattle.std.specs.List.{slice_set, All}
+use Rattle.std.specs.Option.{IsSome}
 use Rattle.std.proofs.lemmas.List.Elements.{All-cons, All-nil}
 use Rattle.sem_key.specs.declared.limits.TheConstants.{PES}
-use Rattle.sem_key.specs.MembershipTable.{MembershipTable}
+use Rattle.sem_key.specs.MembershipTable.{MembershipTable, owner_at}
 use Rattle.sem_key.specs.declared.object.Object.TheVariants.{Mem}
 use Rattle.sem_msg.specs.declared.limits.TheConstants.{CALLS}
 use Rattle.sem_msg.specs.declared.call.Call.{Call}
@@ -42,6 +43,13 @@ owner_exists : (pe kernel : ℕ) → get_or one_owner.owners pe None ≡ Some ke
 owner_exists zero kernel owned = let same : 0 ≡ kernel = cc in omega arith
 owner_exists (suc pe) kernel owned = let none = no_owner 127 pe in absurd (cc)
 
+owned_first : (pe : ℕ) → IsSome (owner_at one_owner pe) → pe < 64
+owned_first zero some = omega arith
+owned_first (suc pe) some = absurd (nobody (subst IsSome (no_owner 127 pe) some))
+  where
+    nobody : IsSome {T = ℕ} None → ⊥
+    nobody some = absurd cc
+
 module _ (calls : List Call) (valid : All (IsValidCall 64) calls) (few : length calls ≤ CALLS) where
   is_vpe : IsVpeDecl (one_vpe calls) (only_vpe calls)
   is_vpe = record {
@@ -62,6 +70,7 @@ module _ (calls : List Call) (valid : All (IsValidCall 64) calls) (few : length 
     few_kernels = omega arith;
     membership = record { some_kernel = omega arith; few_kernels = omega arith; all_pes = refl; owners_exist = owner_exists };
     same_kernels = refl;
+    owned_pes = owned_first;
     vpes = All-cons (IsVpeDecl (one_vpe calls)) (only_vpe calls) [] is_vpe (All-nil (IsVpeDecl (one_vpe calls)));
     vpes_rise = λ i j d lt within. absurd (omega arith);
     pes_differ = λ i j d lt within. absurd (omega arith);

@@ -95,6 +95,7 @@ pub record IsSetup (T : Setup) : Type 0 where
   pub few_kernels : T.kernels ≤ most_kernels T.version
   pub membership : IsMembership T.owners
   pub same_kernels : T.owners.kernels ≡ T.kernels
+  pub owned_pes : (pe : ℕ) → IsSome (owner_at T.owners pe) → pe < most_vpes T.version
   -- the VPEs, each once, in rising order, on PEs of their own
   pub vpes : All (IsVpeDecl T) T.vpes
   pub vpes_rise : AllPairs (λ a b. a.vpe < b.vpe) T.vpes

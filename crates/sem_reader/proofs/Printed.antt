@@ -197,7 +197,7 @@ some_value (Some k) some = (k, refl)
 printed_pe : (T : Setup) → TraceFits (as_read T) → (p k : ℕ) → owner_at T.owners p ≡ Some k → IsPrinted T (Pe p k)
 printed_pe T fits p k owned =
     let below : k < T.owners.kernels = fits.setup.membership.owners_exist p k owned in
-    record { said = tt; ranges = (fits.owned p (rw owned refl), rw fits.setup.same_kernels at below); short = refl; needs = λ before there'. refl }
+    record { said = tt; ranges = (fits.setup.owned_pes p (rw owned refl), rw fits.setup.same_kernels at below); short = refl; needs = λ before there'. refl }
 
 printed_vpe : (T : Setup) → TraceFits (as_read T) → (d : VpeDecl) → Contains T.vpes d → IsPrinted T (vpe_decl d)
 printed_vpe T fits d within =

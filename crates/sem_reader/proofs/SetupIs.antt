@@ -461,6 +461,16 @@ vpe_is_declared kernels ds T d accepted first table within =
       calls = rw (first, v.calls) (sound.calls kernels ds accepted d.vpe);
     }
 
+-- a PE that has an owner is one of which a text can speak
+owned_small : (kernels : ℕ) (ds : List Declaration) → AreAccepted kernels ds → (p : ℕ) → IsSome (owner_at (owners kernels ds) p) → p < NODES
+unfolding numbers
+owned_small kernels ds accepted p some =
+    let e : 0 + p ≡ p = omega arith in
+    elim (sound.some_or_none (owner_at (owners kernels ds) p)) [
+      | inl none ↦ absurd (true≢false (sym (rw none at some)))
+      | inr owned ↦ sound.owners_small kernels ds accepted p owned.0 (rw e at (in_table (owner_in ds) 0 PES p owned.0 owned.1))
+    ]
+
 -- what accepted lines declare is a setup
 pub setup_is : (kernels : ℕ) (ds : List Declaration) → 1 ≤ kernels → kernels ≤ MOST_KERNELS → AreAccepted kernels ds → IsSetup (setup_of kernels ds)
 unfolding setup_of
@@ -475,6 +485,7 @@ setup_is kernels ds some few accepted =
       few_kernels = few;
       membership = owners_are kernels ds some few accepted;
       same_kernels = refl;
+      owned_pes = owned_small kernels ds accepted;
       vpes = all_in (IsVpeDecl (setup_of kernels ds)) (vpes_of ds) (λ d within. vpe_is_declared kernels ds (setup_of kernels ds) d accepted refl refl within);
       vpes_rise = rise;
       pes_differ = λ i j d lt within same.
@@ -505,18 +516,9 @@ setup_is kernels ds some few accepted =
     }
 
 -- a trace can tell it
-owned_small : (kernels : ℕ) (ds : List Declaration) → AreAccepted kernels ds → (p : ℕ) → IsSome (owner_at (owners kernels ds) p) → p < NODES
-unfolding numbers
-owned_small kernels ds accepted p some =
-    let e : 0 + p ≡ p = omega arith in
-    elim (sound.some_or_none (owner_at (owners kernels ds) p)) [
-      | inl none ↦ absurd (true≢false (sym (rw none at some)))
-      | inr owned ↦ sound.owners_small kernels ds accepted p owned.0 (rw e at (in_table (owner_in ds) 0 PES p owned.0 owned.1))
-    ]
-
 pub trace_fits : (kernels : ℕ) (ds : List Declaration) → 1 ≤ kernels → kernels ≤ MOST_KERNELS → AreAccepted kernels ds → TraceFits (setup_of kernels ds)
 unfolding setup_of
-trace_fits kernels ds some few accepted = record { setup = setup_is kernels ds some few accepted; version = refl; owned = owned_small kernels ds accepted }
+trace_fits kernels ds some few accepted = record { setup = setup_is kernels ds some few accepted; version = refl }
 
 abbrev pub made_setup : ℕ → MembershipTable → List VpeDecl → List ServiceData → List OfferData → List (ℕ × ℕ) → List (ℕ × ℕ) → Setup
 made_setup k table vpes services offers denies kills = record { version = 1; window = WINDOW; kernels = k; owners = table; vpes = vpes; services = services; offers = offers; denies = denies; kills = kills }

@@ -1,15 +1,13 @@
 -- The canonical text of a setup ("The trace" in docs/texts.md): its lines, each a list of words.
-use Rattle.std.specs.Prelude.{◌≡◌, ℕ, ◌<◌, List, [], ◌∷◌, ◌++◌, map, flat_map, codes, decimal, Option, Some, None, IsSome}
+use Rattle.std.specs.Prelude.{◌≡◌, ℕ, List, [], ◌∷◌, ◌++◌, map, flat_map, codes, decimal, Option, Some, None}
 use Rattle.std.specs.List.{enumerate_from}
 use Rattle.sem_key.specs.declared.object.Object.{Object}
 use Rattle.sem_key.specs.declared.object.Object.TheVariants.{Serv}
-use Rattle.sem_key.specs.MembershipTable.{owner_at}
 use Rattle.sem_msg.specs.declared.setup.Root.{Root}
 use Rattle.sem_msg.specs.declared.setup.Offer.{Offer}
 use Rattle.sem_msg.specs.declared.setup.VpeDecl.{VpeDecl}
 use Rattle.sem_msg.specs.Setup.{Setup, IsSetup}
 use Rattle.sem_text.specs.Lines.{text}
-use Rattle.sem_trace.specs.declared.limits.TheConstants.{NODES}
 use Rattle.sem_trace.specs.Words.{object_words, call_words}
 
 abbrev pub pe_line : ℕ × Option ℕ → List (List (List ℕ))
@@ -53,8 +51,7 @@ trace_lines T =
 abbrev pub canonical : Setup → List ℕ
 canonical T = text (trace_lines T)
 
--- a setup that a trace can tell: it is of version 1, and each PE that has an owner is one of which a text can speak; a trace of version 2 is not read yet
+-- a setup that a trace can tell: it is of version 1, since a trace of version 2 is not read yet
 pub record TraceFits (T : Setup) : Type 0 where
   pub setup : IsSetup T
   pub version : T.version ≡ 1
-  pub owned : (p : ℕ) → IsSome (owner_at T.owners p) → p < NODES

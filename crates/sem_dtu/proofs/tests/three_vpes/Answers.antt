@@ -6,6 +6,7 @@ use Rattle.std.proofs.lemmas.List.Kept.{AllPairs-cons}
 use Rattle.sem_key.specs.declared.limits.TheConstants.{PES, VPES}
 use Rattle.sem_key.specs.MembershipTable.{MembershipTable, IsMembership, owner_at, with_owner}
 use Rattle.sem_msg.specs.declared.setup.VpeDecl.{VpeDecl}
+use Rattle.sem_msg.proofs.Declared.{owned-within}
 use Rattle.sem_msg.specs.Setup.{Setup, IsSetup, IsVpeDecl, services_from}
 use Rattle.sem_dtu.proofs.tests.three_vpes.Goals as goal
 
@@ -60,6 +61,7 @@ is_setup membership = record {
   few_kernels = omega arith;
   membership = membership;
   same_kernels = refl;
+  owned_pes = owned-within owners membership;
   vpes =
       All-cons (IsVpeDecl setup) first (second ∷ third ∷ []) (is_vpe 3 5 (omega arith) (omega arith) refl)
       (All-cons (IsVpeDecl setup) second (third ∷ []) (is_vpe 4 6 (omega arith) (omega arith) refl)

@@ -1,4 +1,5 @@
-use Rattle.std.proofs.Common.{inl, ◌≡◌, ℕ, zero, suc, [], Option, None, replicate, get_or, refl, arith}
+use Rattle.std.proofs.Common.{inl, ◌≡◌, ℕ, zero, suc, [], Option, None, replicate, get_or, refl, subst, arith}
+use Rattle.std.specs.Option.{IsSome}
 use Rattle.sem_key.specs.MembershipTable.{MembershipTable}
 use Rattle.sem_msg.specs.Setup.{Setup, IsSetup}
 use Rattle.sem_journal.proofs.tests.no_vpes.Goals as goal
@@ -14,6 +15,9 @@ no_owner zero pe = refl
 no_owner (suc n) zero = refl
 no_owner (suc n) (suc pe) = no_owner n pe
 
+nobody : IsSome {T = ℕ} None → ⊥
+nobody some = absurd cc
+
 is_setup : IsSetup setup
 is_setup = record {
   versioned = inl refl;
@@ -22,6 +26,7 @@ is_setup = record {
   few_kernels = omega arith;
   membership = record { some_kernel = omega arith; few_kernels = omega arith; all_pes = refl; owners_exist = λ pe kernel owned. let none = no_owner 128 pe in absurd (cc) };
   same_kernels = refl;
+  owned_pes = λ pe some. absurd (nobody (subst IsSome (no_owner 128 pe) some));
   vpes = λ k d lt. absurd (omega arith);
   vpes_rise = λ i j d lt within. absurd (omega arith);
   pes_differ = λ i j d lt within. absurd (omega arith);

@@ -10,6 +10,7 @@ use Rattle.sem_msg.specs.declared.setup.Root.{Root}
 use Rattle.sem_msg.specs.declared.setup.Service.{Service}
 use Rattle.sem_msg.specs.declared.setup.VpeDecl.{VpeDecl}
 use Rattle.sem_msg.specs.Calls.{IsValidCall}
+use Rattle.sem_msg.proofs.Declared.{owned-within}
 use Rattle.sem_msg.specs.Setup.{Setup, IsSetup, IsRoot, IsVpeDecl, services_from}
 use Rattle.sem_vpe.proofs.tests.two_kernels.Goals as goal
 
@@ -90,6 +91,7 @@ is_setup membership = record {
   few_kernels = omega arith;
   membership = membership;
   same_kernels = refl;
+  owned_pes = owned-within owners membership;
   vpes = all_three (IsVpeDecl setup) first second third first_is second_is third_is;
   vpes_rise = pairs_three (λ (a b : VpeDecl). a.vpe < b.vpe) first second third (omega arith) (omega arith) (omega arith);
   pes_differ = pairs_three (λ (a b : VpeDecl). a.pe ≢ b.pe) first second third (omega arith) (omega arith) (omega arith);
