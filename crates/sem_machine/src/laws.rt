@@ -59,7 +59,7 @@ pub fn region_is_exact()
 
 /// A setup of version 1 is one of version 2 too, with a window of 4, and has the same schedules then: the machine reads the window
 /// of a setup, and never its version.
-pub fn versions_run_the_same()
+pub fn same_runs()
     ensures window { (T : Setup) → IsSetup T → T.version ≡ 1 → T.window ≡ 4 }
     ensures setup { (T : Setup) → IsSetup T → T.version ≡ 1 → IsSetup (record T { version = 2 }) }
     ensures same { (T : Setup) (J : List Entry) → T.version ≡ 1 → (IsSchedule T J ↔ IsSchedule (record T { version = 2 }) J) }

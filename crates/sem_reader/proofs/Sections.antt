@@ -11,7 +11,7 @@ use Rattle.sem_msg.specs.declared.setup.Offer.{Offer as OfferData}
 use Rattle.sem_msg.specs.declared.setup.VpeDecl.{VpeDecl}
 use Rattle.sem_msg.specs.Setup.{Setup, IsRootObject, IsRoot, IsVpeDecl}
 use Rattle.sem_trace.specs.TraceText.{TraceFits}
-use Rattle.sem_trace.specs.declared.limits.TheConstants.{WINDOW}
+use Rattle.sem_trace.specs.declared.limits.TheConstants.{LINK_WINDOW}
 use Rattle.sem_trace.specs.declared.declaration.Declaration.{Declaration}
 use Rattle.sem_trace.specs.declared.declaration.Declaration.TheVariants.{Kernels, Pe, Vpe, Memory, Receive, Service, Offer, Deny, Kill, Call as Calls, End}
 use Rattle.sem_reader.proofs.Enumerated.{in_cons, in_nil, here, there, all_in, pairs_cons, pairs_nil, pairs_head, pairs_tail, joined, joins, in_range, range_has}
@@ -44,7 +44,7 @@ kill_decl p = Kill p.0 p.1
 
 -- the setup as it is read from its text
 abbrev pub as_read : Setup → Setup
-as_read T = record T { version = 1; window = WINDOW }
+as_read T = record T { version = 1; window = LINK_WINDOW }
 
 -- the sections of the text
 abbrev pub section : Setup → ℕ → List Declaration

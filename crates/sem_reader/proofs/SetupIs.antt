@@ -23,7 +23,7 @@ use Rattle.sem_msg.specs.declared.setup.VpeDecl.{VpeDecl}
 use Rattle.sem_msg.specs.Calls.{IsWord}
 use Rattle.sem_msg.specs.Setup.{Setup, IsSetup, IsVpeDecl, IsRoot, IsOffer, IsDeclared, ComesBefore, offer_place, services_from, service_with, root_key}
 use Rattle.sem_trace.specs.TraceText.{TraceFits}
-use Rattle.sem_trace.specs.declared.limits.TheConstants.{NODES, MOST_KERNELS, WINDOW}
+use Rattle.sem_trace.specs.declared.limits.TheConstants.{NODES, MOST_KERNELS, LINK_WINDOW}
 use Rattle.sem_trace.specs.declared.declaration.Declaration.{Declaration}
 use Rattle.sem_trace.specs.declared.declaration.Declaration.TheVariants.{Call as Calls}
 use Rattle.sem_trace.specs.Earlier.{owner_in, pe_in, roots_in, said_call, calls_in, vpe_in, offer_in, is_denied, kill_in, call_number, is_call}
@@ -521,7 +521,7 @@ unfolding setup_of
 trace_fits kernels ds some few accepted = record { setup = setup_is kernels ds some few accepted; version = refl }
 
 abbrev pub made_setup : ℕ → MembershipTable → List VpeDecl → List ServiceData → List OfferData → List (ℕ × ℕ) → List (ℕ × ℕ) → Setup
-made_setup k table vpes services offers denies kills = record { version = 1; window = WINDOW; kernels = k; owners = table; vpes = vpes; services = services; offers = offers; denies = denies; kills = kills }
+made_setup k table vpes services offers denies kills = record { version = 1; window = LINK_WINDOW; kernels = k; owners = table; vpes = vpes; services = services; offers = offers; denies = denies; kills = kills }
 
 abbrev table_of : ℕ → List (Option ℕ) → MembershipTable
 table_of k list = record { kernels = k; owners = list }

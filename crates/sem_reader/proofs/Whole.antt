@@ -8,7 +8,7 @@ use Rattle.std.proofs.lemmas.List.Elements.{Contains-get_or, Contains-append_lef
 use Rattle.sem_msg.specs.Versions.{IsWindow}
 use Rattle.sem_msg.specs.Setup.{Setup}
 use Rattle.sem_text.specs.Lines.{text}
-use Rattle.sem_trace.specs.declared.limits.TheConstants.{WINDOW}
+use Rattle.sem_trace.specs.declared.limits.TheConstants.{LINK_WINDOW}
 use Rattle.sem_trace.specs.declared.fault.TraceFault.{TraceFault}
 use Rattle.sem_trace.specs.declared.declaration.Declaration.{Declaration}
 use Rattle.sem_trace.specs.declared.declaration.Declaration.TheVariants.{End}
@@ -219,5 +219,5 @@ as_read_same T version window v w = rw (v, w) refl
 pub stands : (T : Setup) → TraceFits T → Stands (canonical T) T
 stands T fits =
     let windowed : IsWindow 1 T.window = rw fits.version at fits.setup.windowed in
-    let same : as_read T ≡ T = as_read_same T 1 WINDOW (sym fits.version) (omega arith) in
+    let same : as_read T ≡ T = as_read_same T 1 LINK_WINDOW (sym fits.version) (omega arith) in
     subst (λ (S : Setup). Stands (canonical T) S) same (as_read_stands T (subst TraceFits (sym same) fits))

@@ -14,7 +14,7 @@ ghost use Rattle.sem_key.specs.ObjectRanges.{object_kind};
 use crate::tables::{BYTES, NODES, Tables};
 use sem_key::{Key, Kind, Object, OutOfMemory};
 use sem_msg::{Denies, Kills, Offer, Offers, Seq, Service, Services, Setup, VpeDecl, Vpes0};
-use sem_trace::WINDOW;
+use sem_trace::LINK_WINDOW;
 use std::alloc::Global;
 
 // Appends the item, if there is one.
@@ -231,7 +231,7 @@ impl Tables {
         let kills = self.kills_of(alloc, &vpes)?;
         Ok(Setup {
             version: 1,
-            window: WINDOW,
+            window: LINK_WINDOW,
             kernels: self.owners.kernels(),
             owners: self.owners,
             vpes,

@@ -5,7 +5,7 @@ use Rattle.sem_msg.specs.declared.setup.Service.{Service}
 use Rattle.sem_msg.specs.declared.setup.Offer.{Offer}
 use Rattle.sem_msg.specs.declared.setup.VpeDecl.{VpeDecl}
 use Rattle.sem_msg.specs.Setup.{Setup, services_from}
-use Rattle.sem_trace.specs.declared.limits.TheConstants.{NODES, WINDOW}
+use Rattle.sem_trace.specs.declared.limits.TheConstants.{NODES, LINK_WINDOW}
 use Rattle.sem_trace.specs.declared.declaration.Declaration.{Declaration}
 use Rattle.sem_trace.specs.declared.fault.TraceFault.{TraceFault}
 use Rattle.sem_trace.specs.declared.fault.TraceError.{TraceError}
@@ -54,7 +54,7 @@ kills_of ds vpes = filter_map (λ d. option_map (λ replies. (d.vpe, replies)) (
 unfoldable pub setup_of : ℕ → List Declaration → Setup
 setup_of kernels ds = record {
   version = 1;
-  window = WINDOW;
+  window = LINK_WINDOW;
   kernels = kernels;
   owners = record { kernels = kernels; owners = map (owner_in ds) (numbers PES) };
   vpes = vpes_of ds;

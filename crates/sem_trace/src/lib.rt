@@ -23,7 +23,7 @@ pub use forms::{
     BYTE, ENDPOINT, KERNELS, NODE, RIGHTS, Range, SLOTS, WORD, first_number, first_numbers,
     first_word, fixed, is, no_more, numbers,
 };
-pub use limits::{MOST_KERNELS, NODES, WINDOW};
+pub use limits::{LINK_WINDOW, MOST_KERNELS, NODES};
 pub use print::{print_trace, push_line, push_start, push_trace};
 pub use text_lines::{bytes_fault, is_significant, next_line, next_word};
 pub use words::{

@@ -5,4 +5,4 @@ pub const NODES: u16 = 64;
 pub const MOST_KERNELS: u32 = 16;
 
 /// How many messages a link of a setup that is read holds.
-pub const WINDOW: u32 = 4;
+pub const LINK_WINDOW: u32 = 4;

@@ -1,6 +1,6 @@
 use Rattle.std.proofs.Common.{subst, sym}
 use Rattle.sem_machine.proofs.Versions.{window-four, setup-second, runs-same}
-use Rattle.sem_machine.proofs.laws.versions_run_the_same.Goals as goal
+use Rattle.sem_machine.proofs.laws.same_runs.Goals as goal
 
 pub returns : goal.returns
 returns c = record {
