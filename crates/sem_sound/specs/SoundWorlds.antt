@@ -1,0 +1,20 @@
+-- What is so of the messages that a kernel fetches, and of all kernels together ("Soundness" in docs/proof.md).
+use Rattle.std.specs.Prelude.{ℕ, ◌<◌, Contains, Option, Some, None}
+use Rattle.sem_msg.specs.declared.message.Message.{Message}
+use Rattle.sem_msg.specs.declared.event.Act.{Act}
+use Rattle.sem_msg.specs.declared.event.Act.TheVariants.{Fetch}
+use Rattle.sem_msg.specs.Message.{Fits}
+use Rattle.sem_msg.specs.Setup.{Setup}
+use Rattle.sem_machine.specs.Machine.{World, side, link}
+use Rattle.sem_machine.specs.Sound.{IsSound}
+
+-- what a fetch takes out of a link fits
+abbrev pub IsSoundInput : Act → Option Message → Type 0
+IsSoundInput (Fetch from) None = Unit {0}
+IsSoundInput (Fetch from) (Some m) = Fits m
+IsSoundInput act input = Unit {0}
+
+-- the sides of all kernels are sound, and what is in the links fits
+pub record IsSoundWorld (T : Setup) (W : World) : Type 0 where
+  pub sides : (i : ℕ) → i < T.kernels → IsSound T i (side W i)
+  pub links : (i j : ℕ) (m : Message) → Contains (link W i j) m → Fits m
