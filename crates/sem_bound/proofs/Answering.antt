@@ -27,8 +27,8 @@ use Rattle.sem_machine.specs.Upcalls.{source, source_tests, given, given_kind, g
 use Rattle.sem_machine.specs.Handles.{is_stray, obtain_ready, acknowledged, handle_row, handled}
 use Rattle.sem_machine.specs.Resumes.{can_resume, delegate_granted, delegate_resumed, resumed}
 use Rattle.sem_safety.specs.Seen.{AreDistinct}
-use Rattle.sem_safety.proofs.KeptRevokes.{option-keeps}
-use Rattle.sem_safety.proofs.KeptRows.{unless-keeps}
+use Rattle.sem_machine.proofs.Folds.{option-keeps}
+use Rattle.sem_machine.proofs.FirstCodes.{unless-keeps}
 use Rattle.sem_bound.proofs.Weights.{IdsRise, besides, of_parked, of_ask, of_side, side-drawn, side-slot, side-parked, side-asked, side-send, side-linked, side-unlinked}
 use Rattle.sem_bound.proofs.Layering.{IsCalm}
 use Rattle.sem_bound.proofs.Beginning.{requested-costs, done-lighter}

@@ -35,7 +35,8 @@ use Rattle.sem_key.proofs.Puts.{get_or-put_same}
 use Rattle.sem_safety.specs.Onward.{IsOnward}
 use Rattle.sem_safety.proofs.GoingOn.{AnyVpe}
 use Rattle.sem_safety.proofs.KeptRows.{ask_ended-in}
-use Rattle.sem_safety.proofs.Layers.{facts, in_turn-keeps}
+use Rattle.sem_safety.proofs.Layers.{facts}
+use Rattle.sem_machine.proofs.Folds.{in_turn-keeps}
 use Rattle.sem_safety.proofs.Onwards.{Any, AnyPlace, onward-same, onward}
 use Rattle.sem_bound.proofs.Weights.{IdsRise}
 use Rattle.sem_bound.proofs.Finishing.{done-among, next-among}

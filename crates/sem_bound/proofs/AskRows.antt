@@ -40,8 +40,8 @@ use Rattle.sem_machine.specs.Resumes.{delegate_granted, delegate_resumed, resume
 use Rattle.sem_key.proofs.KeyTests.{key_eq-true}
 use Rattle.sem_key.proofs.Members.{found}
 use Rattle.sem_key.proofs.Puts.{get_or-put_same}
-use Rattle.sem_safety.proofs.KeptRevokes.{option-keeps}
-use Rattle.sem_safety.proofs.KeptRows.{unless-keeps}
+use Rattle.sem_machine.proofs.Folds.{option-keeps}
+use Rattle.sem_machine.proofs.FirstCodes.{unless-keeps}
 use Rattle.sem_safety.proofs.SoundEndpoints.{IsSoundSide}
 use Rattle.sem_bound.proofs.Weights.{IdsRise}
 use Rattle.sem_bound.proofs.AskWeights.{here, of_message, of_ask, of_side, free_at, side-drawn, side-slot, side-endpoint, side-rung, side-waiting, parked-costs, side-asked, side-send}

@@ -24,9 +24,10 @@ use Rattle.sem_machine.specs.Revokes.{waiter_left}
 use Rattle.sem_machine.specs.Endpoints.{with_ring}
 use Rattle.sem_key.proofs.Members.{Contains-filter}
 use Rattle.sem_key.proofs.Puts.{get_or-put_same, get_or-put_other}
-use Rattle.sem_safety.proofs.Weighing.{of_option, weigh-put, weigh-drop, weigh-map, weigh-parts, weigh-filter, weigh-among}
-use Rattle.sem_bound.proofs.Lengths.{weigh-map_less, apart-lighter, below-not_above}
-use Rattle.sem_bound.proofs.Weights.{IdsRise, change-once}
+use Rattle.sem_machine.proofs.Weighing.{of_option, weigh-put, weigh-drop, weigh-map, weigh-parts, weigh-filter, weigh-among}
+use Rattle.sem_machine.proofs.Lengths.{weigh-map_less, apart-lighter, below-not_above}
+use Rattle.sem_bound.proofs.Weights.{IdsRise}
+use Rattle.sem_machine.proofs.Weighing.{change-once}
 
 -- whether a call in that state waits for something
 abbrev pub waits : Option Parked → Bool

@@ -30,12 +30,12 @@ use Rattle.sem_machine.specs.Machine.{World, side, link, with_side, with_link, s
 use Rattle.sem_machine.specs.Schedules.{IsSchedule, world_after}
 use Rattle.sem_key.proofs.Puts.{get_or-put_same}
 use Rattle.sem_safety.proofs.GoingOn.{run-append, entry-enabled}
-use Rattle.sem_safety.proofs.KeptRevokes.{option-keeps}
+use Rattle.sem_machine.proofs.Folds.{option-keeps}
 use Rattle.sem_safety.proofs.LiveWorlds.{sum-le, sum-of_map, owned-once}
 use Rattle.sem_safety.proofs.SideLayers.{run-kept}
 use Rattle.sem_safety.proofs.SoundEndpoints.{IsSoundSide, sound}
 use Rattle.sem_safety.proofs.SoundWorlds.{start-sound}
-use Rattle.sem_safety.proofs.Weighing.{of_option, weigh-put, weigh-drop, weigh-replicate}
+use Rattle.sem_machine.proofs.Weighing.{of_option, weigh-put, weigh-drop, weigh-replicate}
 use Rattle.sem_bound.proofs.Weights.{IdsRise}
 use Rattle.sem_bound.proofs.Layering.{HasIds, ids}
 use Rattle.sem_bound.proofs.Bound.{start-ids}

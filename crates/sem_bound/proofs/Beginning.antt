@@ -22,10 +22,11 @@ use Rattle.sem_key.specs.Region.{has_key, linked_from, next_reached, grow, regio
 use Rattle.sem_machine.specs.Revokes.{clear_begun, count_raised, count_lowered, with_up, other_marker, adopted, request_or_adopt, settled, opened, begin, revoke_begun, ready_freed, obtain_cancelled, request_begun, revoke_requested, revoke_done}
 use Rattle.sem_key.proofs.KeyTests.{key_eq-same, key_eq-true, has_key-from_Contains}
 use Rattle.sem_key.proofs.Members.{found, Contains-filter, Contains-map}
-use Rattle.sem_safety.proofs.Layers.{facts, in_turn-keeps}
+use Rattle.sem_safety.proofs.Layers.{facts}
+use Rattle.sem_machine.proofs.Folds.{in_turn-keeps}
 use Rattle.sem_safety.proofs.Onwards.{AnyPlace}
 use Rattle.sem_safety.proofs.KeptRevokes.{request-in}
-use Rattle.sem_bound.proofs.Lengths.{key_set-shorter}
+use Rattle.sem_machine.proofs.Lengths.{key_set-shorter}
 use Rattle.sem_bound.proofs.Weights.{IdsRise, of_parked, of_key, of_keep, key-most, of_up, of_cap, of_side, taken, side-slot, side-parked, side-reparked, side-send, side-opened, side-marked, taken-weighs, side-counted_up, side-counted_down, side-up_local, side-up_remote, side-waiting}
 use Rattle.sem_bound.proofs.Layering.{NoKey, IsCalm, calm}
 use Rattle.sem_bound.proofs.Finishing.{settled-lighter}

@@ -14,7 +14,7 @@ use Rattle.sem_machine.specs.Journals.{root_keys}
 use Rattle.sem_key.specs.Region.{has_key}
 use Rattle.sem_key.proofs.KeyTests.{has_key-from_Contains}
 use Rattle.sem_safety.proofs.HeldOnce.{keys-distinct}
-use Rattle.sem_safety.proofs.Layers.{in_turn-keeps}
+use Rattle.sem_machine.proofs.Folds.{in_turn-keeps}
 use Rattle.sem_safety.proofs.SideLayers.{run-kept}
 use Rattle.sem_bound.specs.Counts.{calls_made, kills_made}
 use Rattle.sem_bound.proofs.Layering.{HasIds, ids}

@@ -23,7 +23,8 @@ use Rattle.sem_machine.specs.Sides.{Side, row, cap, parked, ready, unparked, bur
 use Rattle.sem_machine.specs.Asks.{asker, is_unawaited, promise_freed, call_refused, refusal_sent, ask_refused}
 use Rattle.sem_machine.specs.Revokes.{begin}
 use Rattle.sem_machine.specs.Ends.{ask_ended, call_ended, revoked_if_left, keys_of, ended}
-use Rattle.sem_safety.proofs.Layers.{facts, in_turn-keeps}
+use Rattle.sem_safety.proofs.Layers.{facts}
+use Rattle.sem_machine.proofs.Folds.{in_turn-keeps}
 use Rattle.sem_safety.proofs.Onwards.{AnyPlace}
 use Rattle.sem_safety.proofs.GoingOn.{AnyVpe}
 use Rattle.sem_safety.proofs.KeptRevokes.{begin-in}

@@ -26,7 +26,8 @@ use Rattle.sem_machine.specs.Revokes.{root_spared, selectors_freed, swept, woken
 use Rattle.sem_key.proofs.KeyTests.{key_eq-true}
 use Rattle.sem_key.proofs.Members.{found}
 use Rattle.sem_safety.specs.Seen.{AreDistinct}
-use Rattle.sem_safety.proofs.Layers.{facts, in_turn-keeps}
+use Rattle.sem_safety.proofs.Layers.{facts}
+use Rattle.sem_machine.proofs.Folds.{in_turn-keeps}
 use Rattle.sem_safety.proofs.Onwards.{AnyPlace}
 use Rattle.sem_safety.proofs.KeptRevokes.{closed-in}
 use Rattle.sem_bound.proofs.Weights.{of_key, of_keep, of_up, side-spared, of_side, side-slot, side-parked, side-removed, side-unlinked, side-send, side-counted_down, side-closed, id-weighs}

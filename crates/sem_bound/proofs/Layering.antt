@@ -1,9 +1,10 @@
 -- Two layers that the bound needs: the ids of the jobs rise, and a key of a root has no parent.
-use Rattle.std.proofs.Common.{◌≡◌, ℕ, zero, suc, ◌+◌, ◌<◌, Bool, false, not, ◌&&◌, List, [], ◌∷◌, ◌++◌, length, map, get_or, Some, None, refl, sym, ap, ◌∙◌, arith}
+use Rattle.std.proofs.Common.{◌≡◌, ℕ, ◌+◌, ◌<◌, Bool, false, not, ◌&&◌, List, [], ◌∷◌, map, get_or, Some, None, refl, sym, ap, ◌∙◌, arith}
 use Rattle.std.specs.Prelude.{◌==◌, if◌then◌else◌}
 use Rattle.std.specs.List.{Contains, All, list_any}
 use Rattle.std.proofs.lemmas.Bool.{cond_both}
 use Rattle.std.proofs.lemmas.List.Kept.{AllPairs-filter}
+use Rattle.std.proofs.lemmas.List.Quantifiers.{all_pairs_push}
 use Rattle.std.proofs.lemmas.List.Elements.{All-append, All-cons, All-nil, All-filter, All-map, All-weaker}
 use Rattle.sem_key.specs.KeyName.{KeyName, key_eq}
 use Rattle.sem_key.specs.KeyList.{with_key, without_key}
@@ -32,22 +33,6 @@ rise-map f same xs rise = AllPairs-map (λ a b. a.id < b.id) f xs (λ i j d lt w
 drawn-map : (n : ℕ) (f : JobRow → JobRow) → ((x : JobRow) → (f x).id ≡ x.id) → (xs : List JobRow) → All (λ (x : JobRow). x.id < n) xs → All (λ (x : JobRow). x.id < n) (map f xs)
 drawn-map n f same xs drawn = All-map (λ (x : JobRow). x.id < n) f xs (All-weaker (λ (x : JobRow). x.id < n) (λ x. (f x).id < n) (λ x below. let one = same x in omega (arith, one, below)) xs drawn)
 
-rise-push : (xs : List JobRow) (x : JobRow) → IdsRise xs → All (λ (y : JobRow). y.id < x.id) xs → IdsRise (xs ++ x ∷ [])
-rise-push [] x rise below = λ i j d lt within. absurd (omega (arith, lt, within))
-rise-push (y ∷ ys) x rise below = from (rise-push ys x (λ i j d lt within. rise (suc i) (suc j) d (omega (arith, lt)) (omega (arith, within))) (λ k d within. below (suc k) d (omega (arith, within))))
-  where
-    first : (j : ℕ) (zs : List JobRow) (d : JobRow) → ((k : ℕ) → k < length zs → y.id < (get_or zs k d).id) → j < length (zs ++ x ∷ []) → y.id < x.id → y.id < (get_or (zs ++ x ∷ []) j d).id
-    first zero [] d each within last = last
-    first (suc j) [] d each within last = absurd (omega (arith, within))
-    first zero (z ∷ zs) d each within last = each zero (omega arith)
-    first (suc j) (z ∷ zs) d each within last = first j zs d (λ k lt. each (suc k) (omega (arith, lt))) (omega (arith, within)) last
-
-    from : IdsRise (ys ++ x ∷ []) → IdsRise (y ∷ (ys ++ x ∷ []))
-    from rest zero zero d lt within = absurd (omega (arith, lt))
-    from rest zero (suc j) d lt within = first j ys d (λ k in_ys. rise zero (suc k) d (omega arith) (omega (arith, in_ys))) (omega (arith, within)) (below zero d (omega arith))
-    from rest (suc i) zero d lt within = absurd (omega (arith, lt))
-    from rest (suc i) (suc j) d lt within = rest i j d (omega (arith, lt)) (omega (arith, within))
-
 ids-changed : (s : Side) → HasIds s → (j : ℕ) (f : JobRow → JobRow) → ((x : JobRow) → ((f x).id ≡ x.id) × ((f x).root ≡ x.root)) → HasIds (record s { jobs = change (λ x. x.id == j) f s.jobs })
 ids-changed s is j f same =
     let g : JobRow → JobRow = λ x. if x.id == j then f x else x in
@@ -75,7 +60,7 @@ ids = record {
   keeps_pending_added = λ s is p. record { rise = is.rise; drawn = is.drawn };
   keeps_pending_removed = λ s is k. record { rise = is.rise; drawn = is.drawn };
   keeps_opened = λ s is root up waiters keep. record {
-    rise = rise-push s.jobs (record { id = s.next_job; root = root; up = up; waiters = waiters; count = 0; keep = keep }) is.rise is.drawn;
+    rise = all_pairs_push (λ a b. a.id < b.id) s.jobs (record { id = s.next_job; root = root; up = up; waiters = waiters; count = 0; keep = keep }) is.rise is.drawn;
     drawn = All-append (λ (x : JobRow). x.id < s.next_job + 1) s.jobs (record { id = s.next_job; root = root; up = up; waiters = waiters; count = 0; keep = keep } ∷ [])
         (All-weaker (λ (x : JobRow). x.id < s.next_job) (λ (x : JobRow). x.id < s.next_job + 1) (λ x below. omega (arith, below)) s.jobs is.drawn)
         (All-cons (λ (x : JobRow). x.id < s.next_job + 1) (record { id = s.next_job; root = root; up = up; waiters = waiters; count = 0; keep = keep }) [] (omega arith) (All-nil (λ (x : JobRow). x.id < s.next_job + 1)));

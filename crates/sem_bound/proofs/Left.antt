@@ -32,7 +32,8 @@ use Rattle.sem_safety.specs.Onward.{IsOnward}
 use Rattle.sem_safety.proofs.Drawers.{side-after}
 use Rattle.sem_safety.proofs.GoingOn.{AnyVpe, any_grant, any_cut, after-onward, run-append, entry-enabled}
 use Rattle.sem_safety.proofs.KeptRows.{ask_ended-in, call_ended-in, revoked_if_there-in, call_row-keeps}
-use Rattle.sem_safety.proofs.Layers.{facts, in_turn-keeps}
+use Rattle.sem_safety.proofs.Layers.{facts}
+use Rattle.sem_machine.proofs.Folds.{in_turn-keeps}
 use Rattle.sem_safety.proofs.LiveWorlds.{sum-le}
 use Rattle.sem_safety.proofs.Onwards.{Any, AnyPlace, onward-same, onward}
 use Rattle.sem_bound.specs.Counts.{calls_made, kills_made}

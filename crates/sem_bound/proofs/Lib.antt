@@ -1,4 +1,3 @@
-pub mod Lengths
 pub mod Weights
 pub mod Layering
 pub mod Finishing

@@ -31,8 +31,8 @@ use Rattle.sem_key.specs.Region.{region, children_of}
 use Rattle.sem_machine.specs.Revokes.{count_raised, with_up, other_marker, adopted, request_or_adopt, selectors_freed, root_spared, swept, woken, parent_left, left_parent, up_told, closed_here, closed, finish, settled, opened, begin}
 use Rattle.sem_key.proofs.Members.{Contains-head, Contains-tail, Contains-nil, Contains-cons_cases, Contains-filter, Contains-from_filter, Contains-map, Contains-from_map}
 use Rattle.sem_key.proofs.Puts.{get_or-put_same, get_or-put_other}
-use Rattle.sem_safety.proofs.KeptRevokes.{closed_here-late}
-use Rattle.sem_safety.proofs.Layers.{in_turn-keeps}
+use Rattle.sem_machine.proofs.Late.{closed_here-late}
+use Rattle.sem_machine.proofs.Folds.{in_turn-keeps}
 use Rattle.sem_bound.proofs.Weights.{IdsRise}
 use Rattle.sem_bound.proofs.Layering.{HasIds, ids}
 use Rattle.sem_bound.proofs.Finishing.{done-among, next-among}

@@ -51,8 +51,8 @@ use Rattle.sem_key.proofs.Puts.{get_or-put_same, get_or-put_other}
 use Rattle.sem_safety.proofs.CarryingWorlds.{stepped}
 use Rattle.sem_safety.proofs.FirstCaps.{IsFirst, first-bare}
 use Rattle.sem_safety.proofs.GoingOn.{moved-sides}
-use Rattle.sem_safety.proofs.KeptRevokes.{option-keeps}
-use Rattle.sem_safety.proofs.Layers.{in_turn-keeps}
+use Rattle.sem_machine.proofs.Folds.{option-keeps}
+use Rattle.sem_machine.proofs.Folds.{in_turn-keeps}
 use Rattle.sem_bound.proofs.Layering.{ids}
 use Rattle.sem_bound.proofs.Bound.{bare, side-ids}
 use Rattle.sem_bound.proofs.Skeleton.{CallLeaves, call_row-by, ConsentLeaves, decided-by, HandleLeaves, handled-by}

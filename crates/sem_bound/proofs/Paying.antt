@@ -31,9 +31,9 @@ use Rattle.sem_machine.specs.Journals.{root_keys_from, root_keys}
 use Rattle.sem_key.proofs.Members.{Contains-from_filter, Contains-flat_map, Contains-from_map}
 use Rattle.sem_safety.specs.Seen.{AreDistinct}
 use Rattle.sem_safety.proofs.GoingOn.{run-append, entry-enabled}
-use Rattle.sem_safety.proofs.FirstNumbers.{with_row-same, root-next}
-use Rattle.sem_safety.proofs.KeptRevokes.{option-keeps}
-use Rattle.sem_safety.proofs.Weighing.{of_option, weigh-put, weigh-drop, weigh-none, weigh-replicate}
+use Rattle.sem_machine.proofs.FirstNumbers.{with_row-same, root-next}
+use Rattle.sem_machine.proofs.Folds.{option-keeps}
+use Rattle.sem_machine.proofs.Weighing.{of_option, weigh-put, weigh-drop, weigh-none, weigh-replicate}
 use Rattle.sem_machine.specs.Seeded.{is_call, is_kill}
 use Rattle.sem_bound.specs.Counts.{calls_made, kills_made}
 use Rattle.sem_bound.proofs.Weights.{IdsRise, besides, in_outbox, in_link, of_inbox, of_ask, of_parked, of_row, of_outbox, of_key, of_side, side-row, side-counted, side-taken, side-unparked, side-lighter, side-added, side-inbox, side-sent}

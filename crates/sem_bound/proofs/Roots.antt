@@ -12,7 +12,7 @@ use Rattle.sem_machine.specs.Schedules.{IsSchedule, world_after}
 use Rattle.sem_machine.specs.Journals.{grants, root_keys}
 use Rattle.sem_key.specs.Region.{has_key}
 use Rattle.sem_key.proofs.KeyTests.{key_eq-same, Contains-from_has_key}
-use Rattle.sem_safety.proofs.Weighing.{weigh-among, weigh-none}
+use Rattle.sem_machine.proofs.Weighing.{weigh-among, weigh-none}
 use Rattle.sem_safety.proofs.Tokens.{of_key}
 use Rattle.sem_safety.proofs.OneLife.{schedule-once}
 use Rattle.sem_safety.proofs.Lives.{with_parent, at_key, at_cap}

@@ -33,8 +33,8 @@ use Rattle.sem_machine.specs.Upcalls.{source, source_tests, child_given, parent_
 use Rattle.sem_machine.specs.Handles.{is_stray, obtain_ready, acknowledged, handle_row, handled}
 use Rattle.sem_machine.specs.Revokes.{clear_begun, revoke_begun, revoke_requested, revoke_done}
 use Rattle.sem_machine.specs.Ends.{ended}
-use Rattle.sem_safety.proofs.KeptRevokes.{option-keeps}
-use Rattle.sem_safety.proofs.KeptRows.{unless-keeps, unless-passed, unmarked-own}
+use Rattle.sem_machine.proofs.Folds.{option-keeps}
+use Rattle.sem_machine.proofs.FirstCodes.{unless-keeps, unless-passed, unmarked-own}
 
 -- the leaves of the calls of VPE v of kernel i on a side
 pub record CallLeaves (P : Step → Type 0) (T : Setup) (i v : ℕ) (s : Side) : Type 0 where

@@ -1,5 +1,6 @@
 -- What each part of a side weighs for the bound, and what each change of a side does to the weight.
-use Rattle.std.proofs.Common.{◌≡◌, ℕ, zero, suc, ◌+◌, ◌*◌, ◌-◌, ◌<◌, ◌≤◌, Bool, true, false, not, ◌&&◌, List, [], ◌∷◌, ◌++◌, length, drop, get_or, Option, Some, None, is_some, is_none, slice_get, refl, sym, ap, subst, ◌∙◌, inl, inr, arith, eq-eqb}
+use Rattle.sem_machine.proofs.Weighing.{change-once, change-less}
+use Rattle.std.proofs.Common.{◌≡◌, ℕ, ◌+◌, ◌*◌, ◌-◌, ◌<◌, ◌≤◌, Bool, true, false, not, ◌&&◌, List, [], ◌∷◌, ◌++◌, length, drop, get_or, Option, Some, None, is_some, is_none, slice_get, refl, sym, ap, ◌∙◌, inl, inr, arith, eq-eqb}
 use Rattle.std.specs.Prelude.{◌==◌, nat_lt, if◌then◌else◌}
 use Rattle.std.specs.List.{Contains, AllPairs, filter, flat_map, sum_by, list_any}
 use Rattle.std.proofs.lemmas.Bool.{cases_Bool, cond-true, cond-false, cond_both, eqb-true, ne_eqb, false_from_ne_true, and_parts, and_from}
@@ -29,8 +30,8 @@ use Rattle.sem_machine.specs.Endpoints.{with_ring}
 use Rattle.sem_key.proofs.KeyTests.{key_eq-true, key_eq-from}
 use Rattle.sem_key.proofs.Members.{Contains-head, Contains-tail, Contains-filter, Contains-from_filter}
 use Rattle.sem_safety.specs.Seen.{AreDistinct}
-use Rattle.sem_safety.proofs.Weighing.{of_option, weigh-put, weigh-drop, weigh-parts, weigh-filter, weigh-among}
-use Rattle.sem_bound.proofs.Lengths.{with_key-longer, without_key-shorter, with_number-longer, without_number-shorter, weigh-map_less}
+use Rattle.sem_machine.proofs.Weighing.{of_option, weigh-put, weigh-drop, weigh-parts, weigh-filter, weigh-among}
+use Rattle.sem_machine.proofs.Lengths.{with_key-longer, without_key-shorter, with_number-longer, without_number-shorter, weigh-map_less}
 
 -- what a message weighs besides its way
 abbrev pub besides : Message → ℕ
@@ -78,45 +79,6 @@ of_row r = sum_by of_ask r.asks
 
 abbrev pub of_outbox : List Message → ℕ
 of_outbox ms = sum_by in_outbox ms
-
--- Lists of which at most one element passes a test.
-
-pairs-head : {X : Type 0} (S : X → X → Type 0) (x : X) (xs : List X) → AllPairs S (x ∷ xs) → (y : X) → Contains xs y → S x y
-pairs-head S x xs pairs y (k, within, same) = subst (S x) same (pairs zero (suc k) y (omega arith) (omega arith))
-
-pairs-tail : {X : Type 0} (S : X → X → Type 0) (x : X) (xs : List X) → AllPairs S (x ∷ xs) → AllPairs S xs
-pairs-tail S x xs pairs = λ i j d lt within. pairs (suc i) (suc j) d (omega arith) (omega arith)
-
-module _ {X : Type 0} (w : X → ℕ) (test : X → Bool) (f : X → X) where
-  change-none : (xs : List X) → ((x : X) → Contains xs x → test x ≡ false) → sum_by w (change test f xs) ≡ sum_by w xs
-  change-none [] none = refl
-  change-none (x ∷ xs) none =
-      let rest = change-none xs (λ y among. none y (Contains-tail x xs y among)) in
-      let new = sum_by-cons w (if test x then f x else x) (change test f xs) in
-      let old = sum_by-cons w x xs in
-      let here : w (if test x then f x else x) ≡ w x = ap w (cond-false (test x) (f x) x (none x (Contains-head x xs))) in
-      omega (arith, rest, new, old, here)
-
-  -- one element at most grows by d
-  pub change-once : (d : ℕ) (xs : List X) → AllPairs (λ a b. test a ≡ true → test b ≡ false) xs → ((x : X) → test x ≡ true → w (f x) ≤ w x + d) → sum_by w (change test f xs) ≤ sum_by w xs + d
-  change-once d [] pairs more = omega arith
-  change-once d (x ∷ xs) pairs more =
-      let new = sum_by-cons w (if test x then f x else x) (change test f xs) in
-      let old = sum_by-cons w x xs in
-      elim (cases_Bool (test x)) [
-        | inl pass ↦
-            let here : w (if test x then f x else x) ≡ w (f x) = ap w (cond-true (test x) (f x) x pass) in
-            let grown = more x pass in
-            let rest = change-none xs (λ y among. pairs-head (λ a b. test a ≡ true → test b ≡ false) x xs pairs y among pass) in
-            omega (arith, new, old, here, grown, rest)
-        | inr fail ↦
-            let here : w (if test x then f x else x) ≡ w x = ap w (cond-false (test x) (f x) x fail) in
-            let rest = change-once d xs (pairs-tail (λ a b. test a ≡ true → test b ≡ false) x xs pairs) more in
-            omega (arith, new, old, here, rest)
-      ]
-
-  change-less : (xs : List X) → ((x : X) → w (f x) ≤ w x) → sum_by w (change test f xs) ≤ sum_by w xs
-  change-less xs less = weigh-map_less w (λ x. if test x then f x else x) (λ x. cond_both (test x) (f x) x (λ y. w y ≤ w x) (λ _. less x) (λ _. omega arith)) xs
 
 -- jobs by rising id
 abbrev pub IdsRise : List JobRow → Type 0

@@ -1,3 +1,9 @@
 pub mod EnabledList
 pub mod FirstCodes
 pub mod Versions
+pub mod Folds
+pub mod Lengths
+pub mod Weighing
+pub mod Doomed
+pub mod FirstNumbers
+pub mod Late

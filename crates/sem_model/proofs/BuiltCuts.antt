@@ -17,8 +17,8 @@ use Rattle.sem_machine.specs.Machine.{World, side, start, local_step, local_entr
 use Rattle.sem_machine.specs.Schedules.{IsRun, IsSchedule}
 use Rattle.sem_key.proofs.Members.{Contains-nil, Contains-cons_cases}
 use Rattle.sem_safety.specs.Settled.{OnlyRevokes}
-use Rattle.sem_safety.proofs.KeptRevokes.{option-keeps}
-use Rattle.sem_safety.proofs.KeptRows.{unless-keeps}
+use Rattle.sem_machine.proofs.Folds.{option-keeps}
+use Rattle.sem_machine.proofs.FirstCodes.{unless-keeps}
 use Rattle.sem_model.specs.Acting.{can_act}
 use Rattle.sem_model.specs.Built.{IsBuilt, IsBuiltCall}
 use Rattle.sem_model.specs.BuiltWorld.{IsBuiltSide}

@@ -31,7 +31,7 @@ use Rattle.sem_machine.specs.Safety.{IsInUse}
 use Rattle.sem_key.proofs.Members.{Contains-head, Contains-tail, Contains-nil, Contains-cons_cases, Contains-map, found}
 use Rattle.sem_key.proofs.KeyTests.{key_eq-true}
 use Rattle.sem_safety.proofs.Carrying.{InCap, InRow, InEndpoints, BringsAll, InSide, InWorld, All-put, All-read, All-drop_one, no_vpe-in, no_side-in, row-in, parked-in, endpoint-in, put_row-in, put_endpoints-in, cap_added-in, carried}
-use Rattle.sem_safety.proofs.FirstNumbers.{with_row-same, root-next}
+use Rattle.sem_machine.proofs.FirstNumbers.{with_row-same, root-next}
 use Rattle.sem_safety.proofs.Layers.{Facts, facts, Brings, BringsIn, BringsFrom, Awaits, AsksFor, InEndpoint, InGrant, InCut}
 use Rattle.sem_safety.proofs.Onwards.{AnyPlace}
 use Rattle.sem_safety.proofs.GoingOn.{AnyVpe, may_act}

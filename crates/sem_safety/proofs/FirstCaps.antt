@@ -29,7 +29,7 @@ use Rattle.sem_key.proofs.Members.{AllPairs-map, Contains-nil, Contains-cons_cas
 use Rattle.sem_key.proofs.KeyTests.{key_eq-true, key_eq-from}
 use Rattle.sem_key.proofs.Finds.{held, held-with_cap_same, held-with_cap_other, with_cap-rises}
 use Rattle.sem_msg.proofs.Declared.{most_vpes-le}
-use Rattle.sem_safety.proofs.FirstNumbers.{with_row-same, root-next, find-decl, owner-is}
+use Rattle.sem_machine.proofs.FirstNumbers.{with_row-same, root-next, find-decl, owner-is}
 
 -- a capability that nothing was made from, that was made from nothing and that nobody revokes
 pub record IsFirst (c : Capability) : Type 0 where

@@ -18,7 +18,7 @@ use Rattle.sem_safety.specs.Seen.{AreDistinct}
 use Rattle.sem_safety.proofs.Lives.{all_held, at_cap, at_side}
 use Rattle.sem_safety.proofs.LiveWorlds.{lives-once}
 use Rattle.sem_safety.proofs.SoundWorlds.{held-once}
-use Rattle.sem_safety.proofs.Weighing.{weigh-among}
+use Rattle.sem_machine.proofs.Weighing.{weigh-among}
 
 -- an element weighs no more than all
 pub weigh-at : {X : Type 0} (w : X → ℕ) (d : X) → w d ≡ 0 → (xs : List X) (i : ℕ) → w (get_or xs i d) ≤ sum_by w xs

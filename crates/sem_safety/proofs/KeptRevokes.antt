@@ -1,7 +1,6 @@
 -- What a revoke does keeps a layer.
-use Rattle.std.proofs.Common.{Bool, true, false, if◌then◌else◌, refl, ◌≡◌, ℕ, zero, suc, ◌+◌, ◌-◌, List, [], ◌∷◌, length, Option, Some, None, refl}
+use Rattle.std.proofs.Common.{Bool, true, false, refl, ◌≡◌, ℕ, zero, suc, ◌+◌, ◌-◌, List, [], ◌∷◌, length, Option, Some, None, refl}
 use Rattle.std.specs.List.{filter}
-use Rattle.std.specs.Option.{option_map_or}
 use Rattle.std.proofs.lemmas.Bool.{cond_both}
 use Rattle.sem_key.specs.declared.object.Object.{Object}
 use Rattle.sem_key.specs.KeyName.{KeyName}
@@ -26,28 +25,9 @@ use Rattle.sem_machine.specs.Sides.{Side, cap, job, parked, freed, ready, parked
 use Rattle.sem_key.specs.Region.{has_key}
 use Rattle.sem_key.specs.Region.{region, children_of}
 use Rattle.sem_machine.specs.Revokes.{count_raised, count_lowered, with_up, adopted, other_marker, request_or_adopt, selectors_freed, swept, woken, parent_left, left_parent, root_spared, up_told, closed_here, closed, finish, settled, opened, begin, revoke_begun, clear_begun, ready_freed, obtain_cancelled, request_begun, revoke_requested, revoke_done}
-use Rattle.sem_safety.proofs.Layers.{Facts, IsKept, in_turn-keeps, in_turn-keeps_each}
-use Rattle.sem_safety.proofs.Doomed.{region-doomed, children-doomed}
-
--- what is so of both is so of what an option picks
-pub option-keeps : {X Y : Type 0} (P : Y → Type 0) (f : X → Y) (o : Option X) (y : Y) → ((x : X) → o ≡ Some x → P (f x)) → P y → P (option_map_or f o y)
-option-keeps P f None y some none = none
-option-keeps P f (Some x) y some none = some x refl
-
--- A job may be taken out before or after it is closed here: all else that is done then writes no job.
-late : (b : Bool) (f : Side → Side) (s t : Side) → (if b then f s else f t) ≡ f (if b then s else t)
-late true f s t = refl
-late false f s t = refl
-
-left-late : (T : Setup) (i id count : ℕ) (root : KeyName) (up : Option Up) (waiters : List ℕ) (keep : Bool) (o : Option KeyName) (j : ℕ) (s : Side) → parent_left T i (record { id = id; root = root; up = up; waiters = waiters; count = count; keep = keep }) o (job_removed j s) ≡ job_removed j (parent_left T i (record { id = id; root = root; up = up; waiters = waiters; count = count; keep = keep }) o s)
-left-late T i id count root up waiters keep None j s = refl
-left-late T i id count root None waiters keep (Some p) j s = late (is_local T i p) (job_removed j) (unlinked p root s) (send (owner_of T p) (Unlink p root) s)
-left-late T i id count root (Some (Local n)) waiters keep (Some p) j s = late (is_local T i p) (job_removed j) (unlinked p root s) (send (owner_of T p) (Unlink p root) s)
-left-late T i id count root (Some (Remote kernel n)) waiters keep (Some p) j s = late (is_local T i p) (job_removed j) (unlinked p root s) s
-
-pub closed_here-late : (T : Setup) (i : ℕ) (x : JobRow) (j : ℕ) (s : Side) → closed_here T i x (job_removed j s) ≡ job_removed j (closed_here T i x s)
-unfolding closed_here
-closed_here-late T i x j s = left-late T i x.id x.count x.root x.up x.waiters x.keep (left_parent s x) j (woken x.waiters (swept x s))
+use Rattle.sem_safety.proofs.Layers.{Facts, IsKept}
+use Rattle.sem_machine.proofs.Folds.{in_turn-keeps, in_turn-keeps_each}
+use Rattle.sem_machine.proofs.Doomed.{region-doomed, children-doomed}
 
 module _ (F : Facts) (P : Side → Type 0) (L : IsKept F P) where
   -- Small changes.

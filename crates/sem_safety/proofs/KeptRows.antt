@@ -1,7 +1,8 @@
 -- Calls and the ends of VPEs keep a layer.
+use Rattle.sem_machine.proofs.FirstCodes.{unless-keeps, unless-passed, unmarked-own}
 use Rattle.std.proofs.lemmas.Bool.{eqb-true}
 use Rattle.sem_key.proofs.Members.{Contains-from_filter}
-use Rattle.std.proofs.Common.{true, is_some, sym, ◌∙◌, ap, if◌then◌else◌, refl, ◌≡◌, ℕ, ◌<◌, ◌≤◌, ◌++◌, Bool, false, List, [], ◌∷◌, Option, Some, None, arith}
+use Rattle.std.proofs.Common.{refl, ◌≡◌, ℕ, ◌<◌, ◌≤◌, ◌++◌, false, [], ◌∷◌, Option, Some, None, arith}
 use Rattle.std.specs.Prelude.{◌==◌}
 use Rattle.std.specs.Option.{option_map_or}
 use Rattle.std.proofs.lemmas.Bool.{cond_both}
@@ -29,8 +30,8 @@ use Rattle.sem_msg.specs.Lookups.{kernel_of, owner_of, place_owner, service_name
 use Rattle.sem_msg.specs.declared.code.Code.{Code}
 use Rattle.sem_msg.specs.Codes.{code_number}
 use Rattle.sem_msg.specs.declared.code.Code.TheVariants.{NoCap, NoService, BadKind, Dead}
-use Rattle.sem_machine.specs.Sides.{is_marked, Side, row, cap, cap_in, own, slot, endpoint, parked, drawn, promised, parked_as, unparked, asked, buried, linked, send}
-use Rattle.sem_machine.specs.Steps.{Step, answer, unless}
+use Rattle.sem_machine.specs.Sides.{Side, row, cap, cap_in, own, slot, endpoint, parked, drawn, promised, parked_as, unparked, asked, buried, linked, send}
+use Rattle.sem_machine.specs.Steps.{Step, answer}
 use Rattle.sem_machine.specs.Asks.{target_vpe, asker, is_unawaited, promise_freed, call_refused, refusal_sent, ask_refused}
 use Rattle.sem_machine.specs.Revokes.{begin}
 use Rattle.sem_msg.specs.Uses.{memory_tests, send_tests, credit_tests}
@@ -39,37 +40,10 @@ use Rattle.sem_machine.specs.Calls.{own_tests, next_key, next_place, child_made,
 use Rattle.sem_safety.proofs.Layers.{InGrant}
 use Rattle.sem_safety.specs.Onward.{IsOnward}
 use Rattle.sem_safety.proofs.Onwards.{onward-same, onward, drawn-below}
-use Rattle.sem_safety.proofs.Layers.{Facts, InCut, IsKept, in_turn-keeps, in_turn-keeps_each}
-use Rattle.sem_safety.proofs.KeptRevokes.{option-keeps, installed-in, freed-in, ready-in, begin-in, begun-in, cleared-in}
-
--- what is so of each refusal and of the step that is done is so of the row
-pub unless-keeps : (P : Step → Type 0) (tests : List (Bool × Code)) (refuse : Code → Step) (done : Step) → ((code : Code) → P (refuse code)) → P done → P (unless tests refuse done)
-unfolding unless
-unless-keeps P [] refuse done each here = here
-unless-keeps P (test ∷ tests) refuse done each here = cond_both test.0 (refuse test.1) (unless tests refuse done) P (λ _. each test.1) (λ _. unless-keeps P tests refuse done each here)
-
--- no test holds
-abbrev pub Passed : List (Bool × Code) → Type 0
-Passed [] = Unit {0}
-Passed (test ∷ tests) = (test.0 ≡ false) × Passed tests
-
--- and of the step that is done it may be known that no test held
-pub unless-passed : (P : Step → Type 0) (tests : List (Bool × Code)) (refuse : Code → Step) (done : Step) → ((code : Code) → P (refuse code)) → (Passed tests → P done) → P (unless tests refuse done)
-unfolding unless
-unless-passed P [] refuse done each here = here tt
-unless-passed P (test ∷ tests) refuse done each here = from test.0 refl (unless-passed P tests refuse done each)
-  where
-    from : (b : Bool) → test.0 ≡ b → ((Passed tests → P done) → P (unless tests refuse done)) → P (if b then refuse test.1 else unless tests refuse done)
-    from true holds rest = each test.1
-    from false fails rest = rest (λ passed. here (fails, passed))
-
--- an own capability that is not being revoked
-pub unmarked-own : (o : Option Capability) (c : Capability) → o ≡ Some c → is_marked o ≡ false → c.mark ≡ None
-unmarked-own o c held test = none c.mark (sym (ap is_marked held) ∙ test)
-  where
-    none : (m : Option ℕ) → is_some m ≡ false → m ≡ None
-    none None h = refl
-    none (Some j) h = absurd cc
+use Rattle.sem_safety.proofs.Layers.{Facts, InCut, IsKept}
+use Rattle.sem_machine.proofs.Folds.{in_turn-keeps, in_turn-keeps_each}
+use Rattle.sem_machine.proofs.Folds.{option-keeps}
+use Rattle.sem_safety.proofs.KeptRevokes.{installed-in, freed-in, ready-in, begin-in, begun-in, cleared-in}
 
 module _ (F : Facts) (D : ℕ → Type 0) (P : Side → Type 0) (L : IsKept F P) where
   -- what is known of a step of the side s: the grant, the numbers that are drawn in it, and the key that it cuts have the facts

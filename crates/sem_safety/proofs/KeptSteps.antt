@@ -34,8 +34,10 @@ use Rattle.sem_machine.specs.Machine.{next_call, local_step}
 use Rattle.sem_safety.specs.Onward.{IsOnward}
 use Rattle.sem_safety.proofs.Onwards.{onward-same, onward, drawn-below}
 use Rattle.sem_safety.proofs.Layers.{Facts, Brings, BringsIn, BringsFrom, Awaits, InGrant, InCut, IsKept, IsLayer}
-use Rattle.sem_safety.proofs.KeptRevokes.{option-keeps, freed-in, installed-in, ready-in, requested-in, done-in}
-use Rattle.sem_safety.proofs.KeptRows.{unless-keeps, Keeps, keeps-later, call_refused-in, ask_refused-in, ended-in, call_row-keeps}
+use Rattle.sem_machine.proofs.Folds.{option-keeps}
+use Rattle.sem_safety.proofs.KeptRevokes.{freed-in, installed-in, ready-in, requested-in, done-in}
+use Rattle.sem_machine.proofs.FirstCodes.{unless-keeps}
+use Rattle.sem_safety.proofs.KeptRows.{Keeps, keeps-later, call_refused-in, ask_refused-in, ended-in, call_row-keeps}
 
 -- of the VPE that may draw a number by an act
 abbrev pub MayDraw : (ℕ → Type 0) → Act → Type 0

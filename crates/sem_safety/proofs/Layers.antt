@@ -1,10 +1,8 @@
 -- A layer: what is so of a side, together with what is so of the keys that the side carries, and that each named change keeps it. The rows of the machine are composed of these changes, so each row keeps every layer.
 use Rattle.std.specs.List.{Contains}
 use Rattle.sem_key.specs.Region.{has_key}
-use Rattle.sem_key.proofs.Members.{Contains-head, Contains-tail}
-use Rattle.std.proofs.Common.{◌≡◌, ℕ, Bool, true, false, List, [], ◌∷◌, Option, Some, None, slice_get}
+use Rattle.std.proofs.Common.{◌≡◌, ℕ, Bool, true, false, List, [], Option, Some, None, slice_get}
 use Rattle.sem_key.specs.KeyName.{KeyName}
-use Rattle.sem_key.specs.Lists.{in_turn}
 use Rattle.sem_key.specs.Capability.{Capability}
 use Rattle.sem_key.specs.CapList.{restored}
 use Rattle.sem_msg.specs.declared.message.Message.{Message}
@@ -94,19 +92,7 @@ IsOwnSlot v Free = Unit {0}
 IsOwnSlot v (Held k) = k.vpe ≡ v
 IsOwnSlot v Promised = Unit {0}
 
--- what each keeps, all in turn keep
-pub in_turn-keeps : {X S : Type 0} (P : S → Type 0) (f : X → S → S) → ((x : X) (s : S) → P s → P (f x s)) → (xs : List X) (s : S) → P s → P (in_turn f xs s)
-unfolding in_turn
-in_turn-keeps P f keeps [] s is = is
-in_turn-keeps P f keeps (x ∷ xs) s is = in_turn-keeps P f keeps xs (f x s) (keeps x s is)
-
 -- Each named change of a side keeps it.
--- the same, where each is one of the list
-pub in_turn-keeps_each : {X S : Type 0} (P : S → Type 0) (f : X → S → S) (xs : List X) → ((x : X) → Contains xs x → (s : S) → P s → P (f x s)) → (s : S) → P s → P (in_turn f xs s)
-unfolding in_turn
-in_turn-keeps_each P f [] keeps s is = is
-in_turn-keeps_each P f (x ∷ xs) keeps s is = in_turn-keeps_each P f xs (λ y among. keeps y (Contains-tail x xs y among)) (f x s) (keeps x (Contains-head x xs) s is)
-
 pub record IsKept (F : Facts) (P : Side → Type 0) : Type 0 where
   -- what is kept of a VPE
   pub keeps_counted : (s : Side) → P s → (v : ℕ) → P (call_counted v s)

@@ -3,7 +3,6 @@ pub mod Worlds
 pub mod Noted
 pub mod GrownLines
 pub mod Counted
-pub mod Doomed
 pub mod Layers
 pub mod Onwards
 pub mod Carrying
@@ -14,14 +13,12 @@ pub mod CarryingWorlds
 pub mod Parents
 pub mod GoingOn
 pub mod Drawers
-pub mod FirstNumbers
 pub mod SettledCaps
 pub mod NewGrants
 pub mod SettledWorlds
 pub mod SettledLists
 pub mod FirstCaps
 pub mod SettledStart
-pub mod Weighing
 pub mod Tokens
 pub mod TokenRows
 pub mod TokenWorlds

@@ -41,8 +41,10 @@ use Rattle.sem_machine.specs.Ends.{ended}
 use Rattle.sem_machine.specs.Handles.{is_stray, obtain_ready, acknowledged, handle_row, handled}
 use Rattle.sem_machine.specs.Resumes.{ack_sent, delegate_granted, delegate_resumed, resumed, resume_row}
 use Rattle.sem_machine.specs.Machine.{next_call, local_step}
-use Rattle.sem_safety.proofs.KeptRevokes.{option-keeps, ready-in, begun-in, cleared-in}
-use Rattle.sem_safety.proofs.KeptRows.{unless-keeps, ask_refused-in, ended-in}
+use Rattle.sem_machine.proofs.Folds.{option-keeps}
+use Rattle.sem_safety.proofs.KeptRevokes.{ready-in, begun-in, cleared-in}
+use Rattle.sem_machine.proofs.FirstCodes.{unless-keeps}
+use Rattle.sem_safety.proofs.KeptRows.{ask_refused-in, ended-in}
 use Rattle.sem_safety.proofs.KeptSteps.{handled-in}
 use Rattle.sem_safety.proofs.GoingOn.{AnyVpe}
 use Rattle.sem_msg.specs.Lookups.{kernel_of, owner_of, place_owner, service_named, denies}

@@ -25,13 +25,13 @@ use Rattle.sem_machine.specs.Schedules.{IsSchedule, world_after}
 use Rattle.sem_machine.specs.Journals.{grants, root_keys_from, root_keys}
 use Rattle.sem_key.proofs.KeyTests.{key_eq-true}
 use Rattle.sem_safety.proofs.CarryingWorlds.{stepped}
-use Rattle.sem_safety.proofs.FirstNumbers.{with_row-same, root-next}
+use Rattle.sem_machine.proofs.FirstNumbers.{with_row-same, root-next}
 use Rattle.sem_safety.proofs.GoingOn.{run-append, entry-enabled}
 use Rattle.sem_safety.proofs.NewGrants.{with_grant, without_grant}
 use Rattle.sem_safety.proofs.OneLife.{schedule-once}
 use Rattle.sem_safety.proofs.Tokens.{of_key}
 use Rattle.sem_safety.proofs.TokenWorlds.{with_granted}
-use Rattle.sem_safety.proofs.Weighing.{of_option, weigh-put, weigh-drop, weigh-replicate}
+use Rattle.sem_machine.proofs.Weighing.{of_option, weigh-put, weigh-drop, weigh-replicate}
 use Rattle.sem_safety.proofs.Lives.{at_key, at_message, at_messages, at_parked, at_inbox, at_side, at_grant, lives-inbox, lives-sent, lives-added, lives}
 use Rattle.sem_safety.proofs.LiveRows.{step-within}
 

@@ -17,7 +17,7 @@ use Rattle.sem_msg.specs.declared.state.Parked.TheVariants.{ObtainWait, ObtainRe
 use Rattle.sem_machine.specs.Sides.{Side, outbox, cap_added, send, sent, parked_as, unparked, with_inbox, parked}
 use Rattle.sem_safety.proofs.Layers.{Facts, facts, Brings, BringsFrom, Awaits, IsKept}
 use Rattle.sem_safety.proofs.Onwards.{AnyPlace}
-use Rattle.sem_safety.proofs.Weighing.{of_option, weigh-put, weigh-drop, weigh-map, weigh-parts, weigh-filter}
+use Rattle.sem_machine.proofs.Weighing.{of_option, weigh-put, weigh-drop, weigh-map, weigh-parts, weigh-filter}
 
 -- all held capabilities, and those with a parent
 abbrev pub all_held : Option KeyName → Bool

@@ -43,7 +43,7 @@ use Rattle.sem_machine.specs.Safety.{HoldsUnmarked}
 use Rattle.sem_key.proofs.Members.{found}
 use Rattle.sem_key.proofs.KeyTests.{key_eq-true}
 use Rattle.sem_safety.proofs.Layers.{facts}
-use Rattle.sem_safety.proofs.KeptRevokes.{option-keeps}
+use Rattle.sem_machine.proofs.Folds.{option-keeps}
 use Rattle.sem_safety.proofs.Onwards.{AnyPlace}
 use Rattle.sem_safety.proofs.GoingOn.{entry-enabled}
 use Rattle.sem_safety.proofs.CarryingWorlds.{used-in, world_after-in}

@@ -24,12 +24,12 @@ use Rattle.sem_machine.specs.Safety.{sound_endpoints}
 use Rattle.sem_key.proofs.KeyTests.{key_eq-from}
 use Rattle.sem_key.proofs.Members.{Contains-nil, Contains-cons_cases}
 use Rattle.sem_safety.specs.Seen.{endpoints}
-use Rattle.sem_safety.proofs.Layers.{in_turn-keeps}
+use Rattle.sem_machine.proofs.Folds.{in_turn-keeps}
 use Rattle.sem_safety.proofs.Lives.{all_held, at_cap}
 use Rattle.sem_safety.proofs.LiveWorlds.{lives-once, world-side}
 use Rattle.sem_safety.proofs.SideLayers.{run-kept}
 use Rattle.sem_safety.proofs.SoundEndpoints.{IsSoundSide, with_sound_row, with_sound_endpoints, sound}
-use Rattle.sem_safety.proofs.Weighing.{weigh-among}
+use Rattle.sem_machine.proofs.Weighing.{weigh-among}
 
 -- The start.
 

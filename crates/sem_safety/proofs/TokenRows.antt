@@ -45,12 +45,14 @@ use Rattle.sem_machine.specs.Machine.{next_call, local_step}
 use Rattle.sem_key.proofs.Puts.{get_or-put_same}
 use Rattle.sem_safety.specs.Onward.{IsOnward}
 use Rattle.sem_safety.proofs.Onwards.{Any, AnyPlace, onward-same, onward, drawn-below}
-use Rattle.sem_safety.proofs.KeptRevokes.{option-keeps, installed-in, ready-in, begun-in, cleared-in}
-use Rattle.sem_safety.proofs.KeptRows.{unless-keeps, ask_refused-in, ended-in}
+use Rattle.sem_machine.proofs.Folds.{option-keeps}
+use Rattle.sem_safety.proofs.KeptRevokes.{installed-in, ready-in, begun-in, cleared-in}
+use Rattle.sem_machine.proofs.FirstCodes.{unless-keeps}
+use Rattle.sem_safety.proofs.KeptRows.{ask_refused-in, ended-in}
 use Rattle.sem_safety.proofs.KeptSteps.{given_here-in, handled-in}
 use Rattle.sem_safety.proofs.GoingOn.{AnyVpe}
 use Rattle.sem_safety.proofs.Layers.{facts, IsKept}
-use Rattle.sem_safety.proofs.Weighing.{of_option}
+use Rattle.sem_machine.proofs.Weighing.{of_option}
 use Rattle.sem_safety.proofs.Tokens.{at_place, of_key, of_message, of_parked, of_ask, of_inbox, of_side, of_grant, Others, side-parked, side-unparked, side-asked, side-taken, side-send, side-inbox, weighed}
 
 module _ (v0 n0 : ℕ) where

@@ -17,7 +17,7 @@ use Rattle.sem_safety.proofs.CarryingWorlds.{stepped}
 use Rattle.sem_safety.proofs.GoingOn.{after-onward}
 use Rattle.sem_safety.proofs.KeptSteps.{MayDraw}
 use Rattle.sem_safety.proofs.Drawers.{may_draw, side-after}
-use Rattle.sem_safety.proofs.Weighing.{of_option, weigh-put, weigh-drop}
+use Rattle.sem_machine.proofs.Weighing.{of_option, weigh-put, weigh-drop}
 use Rattle.sem_safety.proofs.Tokens.{of_key, of_message, of_messages, of_inbox, of_side, of_grant, side-inbox, side-sent}
 use Rattle.sem_safety.proofs.TokenRows.{drawing, call-within, upcall-within, resume-few, kill-few, handle-few, drawing-cases, drawing-one}
 

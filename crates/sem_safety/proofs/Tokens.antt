@@ -19,7 +19,7 @@ use Rattle.sem_msg.specs.Rows.{VpeRow, no_vpe}
 use Rattle.sem_machine.specs.Sides.{Side, row, outbox, send, sent, asked, ask_taken, parked_as, unparked, with_inbox, parked}
 use Rattle.sem_safety.proofs.Layers.{Facts, facts, Brings, BringsFrom, Awaits, AsksFor, IsKept}
 use Rattle.sem_safety.proofs.Onwards.{Any}
-use Rattle.sem_safety.proofs.Weighing.{of_option, weigh-put, weigh-drop}
+use Rattle.sem_machine.proofs.Weighing.{of_option, weigh-put, weigh-drop}
 
 module _ (v0 n0 : ℕ) where
   -- one, if it is that place

@@ -34,8 +34,8 @@ use Rattle.sem_machine.specs.Asks.{asker, waits_for, is_unawaited, ask_refused}
 use Rattle.sem_machine.specs.Calls.{next_key, destination_tests}
 use Rattle.sem_machine.specs.Upcalls.{source, source_tests, given, given_kind, given_here, child_given, obtain_consent, parent_tests, delegate_here, delegate_prepared, delegate_consent, consented, ask_decided}
 use Rattle.sem_machine.specs.Resumes.{can_resume, delegate_granted, delegate_resumed, resumed}
-use Rattle.sem_safety.proofs.KeptRevokes.{option-keeps}
-use Rattle.sem_safety.proofs.KeptRows.{Passed}
+use Rattle.sem_machine.proofs.Folds.{option-keeps}
+use Rattle.sem_machine.proofs.FirstCodes.{Passed}
 use Rattle.sem_sound.proofs.Named.{declared-kernel, declared-below}
 use Rattle.sem_sound.proofs.Changing.{drawn-sound, promised-sound}
 use Rattle.sem_sound.proofs.Holding.{cap-among, linked-sound, pending_added-sound, send-sound}

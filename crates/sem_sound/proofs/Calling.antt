@@ -40,8 +40,8 @@ use Rattle.sem_msg.specs.Uses.{memory_tests, send_tests, credit_tests, rung, cre
 use Rattle.sem_machine.specs.Calls.{object_passes, is_of, stays_at_home, is_wider, next_key, next_place, with_held, destination_tests, derive_tests, narrowed, gate_tests, ask_made, obtain_tests, open_tests, session_service, offer_tests, delegate_tests, offer_made, bind_tests, own_tests, call_row}
 use Rattle.sem_key.proofs.Puts.{get_or-put_same}
 use Rattle.sem_key.proofs.Members.{found}
-use Rattle.sem_safety.proofs.KeptRevokes.{option-keeps}
-use Rattle.sem_safety.proofs.KeptRows.{Passed, unless-keeps, unless-passed, unmarked-own}
+use Rattle.sem_machine.proofs.Folds.{option-keeps}
+use Rattle.sem_machine.proofs.FirstCodes.{Passed, unless-keeps, unless-passed, unmarked-own}
 use Rattle.sem_sound.proofs.Named.{declared-kernel, declared-below, own-declared}
 use Rattle.sem_sound.proofs.Changing.{drawn-sound, promised-sound, parked-taking, asked-sound, endpoint-sound, local-place}
 use Rattle.sem_sound.proofs.Holding.{cap-among, linked-sound, installed-sound, send-sound}

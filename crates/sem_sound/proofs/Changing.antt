@@ -22,7 +22,7 @@ use Rattle.sem_machine.specs.Sound.{IsSoundCall, IsSoundAsk, bit, kept, keeps_nu
 use Rattle.sem_machine.specs.Sides.{Side, row, slot, parked, call_counted, drawn, with_slot, asked, ask_taken, buried, with_endpoint}
 use Rattle.sem_key.proofs.Puts.{get_or-put_same, get_or-put_other}
 use Rattle.sem_key.proofs.Members.{Contains-nil, Contains-tail}
-use Rattle.sem_safety.proofs.Weighing.{weigh-put}
+use Rattle.sem_machine.proofs.Weighing.{weigh-put}
 use Rattle.sem_sound.proofs.Named.{kernel-vpe}
 use Rattle.sem_sound.proofs.Counts.{bit-most, in_hand-same, in_hand-other, in_hand-here, length-put}
 

@@ -11,7 +11,7 @@ use Rattle.sem_key.specs.CapList.{with_cap}
 use Rattle.sem_key.specs.Lists.{put}
 use Rattle.sem_key.proofs.Members.{Contains-nil, Contains-head, Contains-tail, Contains-cons_cases}
 use Rattle.sem_key.proofs.Puts.{put-set}
-use Rattle.sem_safety.proofs.Weighing.{weigh-parts, weigh-among}
+use Rattle.sem_machine.proofs.Weighing.{weigh-parts, weigh-among}
 use Rattle.sem_machine.specs.Sound.{bit, in_hand}
 
 pub bit-most : (b : Bool) → bit b ≤ 1

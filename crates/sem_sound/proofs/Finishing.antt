@@ -11,7 +11,7 @@ use Rattle.std.proofs.lemmas.List.{length-map}
 use Rattle.sem_key.specs.KeyName.{KeyName}
 use Rattle.sem_key.specs.Lists.{change}
 use Rattle.sem_key.specs.Capability.{Capability}
-use Rattle.sem_safety.proofs.KeptRevokes.{closed_here-late}
+use Rattle.sem_machine.proofs.Late.{closed_here-late}
 use Rattle.sem_msg.specs.declared.message.Message.TheVariants.{RevokeDone, Unlink}
 use Rattle.sem_msg.specs.declared.state.Parked.TheVariants.{RevokeWait, Ready}
 use Rattle.sem_msg.specs.declared.state.Up.{Up}
@@ -27,8 +27,8 @@ use Rattle.sem_machine.specs.Sides.{Side, cap, job, parked, unlinked, job_remove
 use Rattle.sem_machine.specs.Revokes.{swept, woken, parent_left, left_parent, up_told, closed, finish, settled, closed_here}
 use Rattle.sem_key.proofs.Puts.{get_or-put_same, get_or-put_other}
 use Rattle.sem_key.proofs.Members.{found, Contains-nil, Contains-cons_cases, Contains-filter, Contains-map}
-use Rattle.sem_safety.proofs.Layers.{in_turn-keeps_each}
-use Rattle.sem_bound.proofs.Lengths.{apart-shorter, weigh-map_less}
+use Rattle.sem_machine.proofs.Folds.{in_turn-keeps_each}
+use Rattle.sem_machine.proofs.Lengths.{apart-shorter, weigh-map_less}
 use Rattle.sem_sound.proofs.Named.{named-owner}
 use Rattle.sem_sound.proofs.Changing.{parked-same}
 use Rattle.sem_sound.proofs.Holding.{cap-among, unlinked-sound, send-sound}

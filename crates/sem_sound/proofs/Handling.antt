@@ -24,7 +24,7 @@ use Rattle.sem_machine.specs.Asks.{target_vpe, is_obtain_wait, is_delegate_wait,
 use Rattle.sem_machine.specs.Handles.{is_key_declared, is_place_declared, is_target_declared, is_object_declared, is_here, lives_without, is_stray, obtain_ready, acknowledged, handle_row, handled}
 use Rattle.sem_key.proofs.KeyTests.{key_eq-true}
 use Rattle.sem_key.proofs.Members.{found}
-use Rattle.sem_safety.proofs.KeptRevokes.{option-keeps}
+use Rattle.sem_machine.proofs.Folds.{option-keeps}
 use Rattle.sem_sound.proofs.Named.{declared-kernel}
 use Rattle.sem_sound.proofs.Changing.{asked-sound, freed-sound, number-dropped, selector-dropped}
 use Rattle.sem_sound.proofs.Holding.{unlinked-sound, installed-sound, pending_removed-sound, send-sound}

@@ -27,8 +27,8 @@ use Rattle.sem_key.proofs.Finds.{with_cap-rises}
 use Rattle.sem_key.proofs.Puts.{get_or-put_same, get_or-put_other}
 use Rattle.sem_key.proofs.Members.{found, find_none, Contains-head, Contains-tail, Contains-cons_cases, Contains-filter, Contains-from_filter, Contains-map, Contains-from_map}
 use Rattle.sem_key.proofs.KeySets.{with_key-from}
-use Rattle.sem_safety.proofs.Weighing.{weigh-put, weigh-map, weigh-parts, weigh-filter, weigh-among}
-use Rattle.sem_bound.proofs.Lengths.{apart-shorter}
+use Rattle.sem_machine.proofs.Weighing.{weigh-put, weigh-map, weigh-parts, weigh-filter, weigh-among}
+use Rattle.sem_machine.proofs.Lengths.{apart-shorter}
 use Rattle.sem_sound.proofs.Named.{declared-kernel}
 use Rattle.sem_sound.proofs.Counts.{bit-most, in_hand-here, length-put, added-sum, one-alone, only-one}
 use Rattle.sem_sound.proofs.Rising.{with_key-rises, mapped-rises}

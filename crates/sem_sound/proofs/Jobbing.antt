@@ -1,7 +1,7 @@
 -- Changes of jobs keep a side sound.
-use Rattle.sem_safety.proofs.Weighing.{weigh-filter}
+use Rattle.sem_machine.proofs.Weighing.{weigh-filter}
 use Rattle.sem_sound.proofs.Counts.{bit-most}
-use Rattle.sem_bound.proofs.Lengths.{weigh-map_less}
+use Rattle.sem_machine.proofs.Lengths.{weigh-map_less}
 use Rattle.std.proofs.Common.{◌≡◌, ◌≢◌, ℕ, zero, suc, ◌+◌, ◌-◌, ◌<◌, ◌≤◌, ◌⊎◌, Bool, true, false, not, List, [], ◌∷◌, map, get_or, Option, Some, None, refl, sym, ap, subst, ◌∙◌, inl, inr, arith, eq-eqb, ◌&&◌}
 use Rattle.std.specs.Prelude.{◌==◌, nat_lt, if◌then◌else◌}
 use Rattle.std.specs.List.{AllPairs, Contains, filter}

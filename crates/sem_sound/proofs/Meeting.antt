@@ -20,8 +20,8 @@ use Rattle.sem_machine.specs.Sides.{Side, row, cap, job_opened, mark_all, unbind
 use Rattle.sem_key.specs.Region.{region, children_of, linked_from}
 use Rattle.sem_machine.specs.Revokes.{other_marker, adopted, with_up, count_raised, request_or_adopt}
 use Rattle.sem_key.proofs.Members.{found, Contains-from_map}
-use Rattle.sem_safety.proofs.Doomed.{region-doomed, children-doomed}
-use Rattle.sem_safety.proofs.Weighing.{weigh-among}
+use Rattle.sem_machine.proofs.Doomed.{region-doomed, children-doomed}
+use Rattle.sem_machine.proofs.Weighing.{weigh-among}
 use Rattle.sem_sound.proofs.Rising.{key_set-rises, keys-few}
 use Rattle.sem_sound.proofs.Holding.{cap-among}
 use Rattle.sem_sound.proofs.Opening.{next-job}

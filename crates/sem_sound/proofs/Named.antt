@@ -13,7 +13,7 @@ use Rattle.sem_msg.specs.declared.setup.VpeDecl.{VpeDecl}
 use Rattle.sem_msg.specs.Setup.{Setup, IsSetup, IsVpeDecl}
 use Rattle.sem_msg.specs.Lookups.{decl, pe_of, pe_owner, owner_of, is_local, kernel_of, is_declared_at}
 use Rattle.sem_key.proofs.Members.{found}
-use Rattle.sem_safety.proofs.FirstNumbers.{owner-is}
+use Rattle.sem_machine.proofs.FirstNumbers.{owner-is}
 
 -- the kernel of a VPE that is declared with a PE is the owner of the PE
 pub declared-kernel : (T : Setup) (pe v : ℕ) → is_declared_at T pe v ≡ true → kernel_of T v ≡ pe_owner T pe

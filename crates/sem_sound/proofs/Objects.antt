@@ -27,7 +27,7 @@ use Rattle.sem_msg.specs.Lookups.{decl, is_declared, is_declared_at, kernel_of, 
 use Rattle.sem_machine.specs.Sound.{IsSoundObject}
 use Rattle.sem_machine.specs.Calls.{is_of, stays_at_home, is_wider, narrowed}
 use Rattle.sem_key.proofs.Members.{found, not_found, list_any-some, Contains-nil, Contains-cons_cases, Contains-from_flat_map}
-use Rattle.sem_safety.proofs.FirstNumbers.{find-decl}
+use Rattle.sem_machine.proofs.FirstNumbers.{find-decl}
 use Rattle.sem_sound.proofs.Named.{decl-owner}
 
 -- what is not a service and no session may be delegated

@@ -29,10 +29,10 @@ use Rattle.sem_key.specs.Region.{has_key, next_reached, grow, region, children_o
 use Rattle.sem_machine.specs.Revokes.{count_raised, with_up, other_marker, adopted, request_or_adopt, begin, opened}
 use Rattle.sem_key.proofs.KeyTests.{key_eq-same, has_key-from_Contains, Contains-from_has_key}
 use Rattle.sem_key.proofs.Members.{found, Contains-cons_cases, Contains-filter, Contains-from_filter, Contains-map, Contains-from_map}
-use Rattle.sem_safety.proofs.Doomed.{region-doomed, children-doomed}
-use Rattle.sem_safety.proofs.Layers.{in_turn-keeps_each}
-use Rattle.sem_safety.proofs.Weighing.{weigh-map, weigh-among}
-use Rattle.sem_bound.proofs.Layering.{ids}
+use Rattle.sem_machine.proofs.Doomed.{region-doomed, children-doomed}
+use Rattle.sem_machine.proofs.Folds.{in_turn-keeps_each}
+use Rattle.sem_machine.proofs.Weighing.{weigh-map, weigh-among}
+use Rattle.std.proofs.lemmas.List.Quantifiers.{all_pairs_push}
 use Rattle.sem_sound.proofs.Rising.{mapped-rises}
 use Rattle.sem_sound.proofs.Named.{named-owner}
 use Rattle.sem_sound.proofs.Holding.{one-cap, cap-among, send-sound}
@@ -191,7 +191,7 @@ module _ (T : Setup) (valid : IsSetup T) (i : ℕ) (few : i < T.kernels) where
       ups = λ x among. elim (Contains-push_cases s.jobs x0 x among) [ inl before ↦ is.ups x before | inr same ↦ subst (λ (y : JobRow). IsSoundUp T i y.up) same sound_up ];
       waiters_rise = λ x among. elim (Contains-push_cases s.jobs x0 x among) [ inl before ↦ is.waiters_rise x before | inr same ↦ subst (λ (y : JobRow). AllPairs (λ v w. v < w) y.waiters) same rise ];
       ids_drawn = λ x among. elim (Contains-push_cases s.jobs x0 x among) [ inl before ↦ (let below = is.ids_drawn x before in omega (arith, below)) | inr same ↦ (let id : s.next_job ≡ x.id = ap (λ (y : JobRow). y.id) same in omega (arith, id)) ];
-      jobs_rise = (ids.keeps_opened s (record { rise = is.jobs_rise; drawn = λ k e within. is.ids_drawn (get_or s.jobs k e) (Contains-get_or s.jobs k e within) }) root up ws keep).rise;
+      jobs_rise = all_pairs_push (λ (a b : JobRow). a.id < b.id) s.jobs x0 is.jobs_rise (λ k e within. is.ids_drawn (get_or s.jobs k e) (Contains-get_or s.jobs k e within));
       outs = is.outs;
       inbox = is.inbox;
       places = is.places;

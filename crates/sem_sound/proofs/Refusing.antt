@@ -1,16 +1,17 @@
 -- Refused asks, and the end of a VPE, keep a side sound.
-use Rattle.std.proofs.Common.{◌≡◌, ◌≢◌, ℕ, ◌<◌, ◌≤◌, ◌&&◌, Bool, true, false, not, List, [], Option, Some, None, refl, sym, ap, subst, ◌∙◌, arith, eq-eqb}
+use Rattle.std.proofs.Common.{inl, inr, ◌≡◌, ◌≢◌, ℕ, ◌<◌, ◌≤◌, ◌&&◌, Bool, true, false, not, List, [], Option, Some, None, refl, sym, ap, subst, ◌∙◌, arith, eq-eqb, get_or}
 use Rattle.std.specs.Prelude.{◌==◌}
 use Rattle.std.specs.List.{Contains}
 use Rattle.std.specs.Option.{option_map_or}
-use Rattle.std.proofs.lemmas.Bool.{cond_both, eqb-true, eqb-false, and_from, not-true, false_from_ne_true, true_from_ne_false}
+use Rattle.std.proofs.lemmas.Bool.{cond_both, eqb-true, eqb-false, and_from, not-true, true_from_ne_false, cases_eq}
 use Rattle.std.proofs.lemmas.Option.{same_Some}
 use Rattle.sem_key.specs.KeyName.{KeyName}
-use Rattle.sem_key.specs.Lists.{in_turn}
+use Rattle.sem_key.specs.Lists.{in_turn, put}
 use Rattle.sem_key.specs.Capability.{Capability}
 use Rattle.sem_msg.specs.declared.message.Message.TheVariants.{ObtainNo, DelegateNo, Ack, Orphan}
 use Rattle.sem_msg.specs.declared.state.Ask.{Ask}
 use Rattle.sem_msg.specs.declared.state.Ask.TheVariants.{Obtain as ObtainAsk, Delegate as DelegateAsk}
+use Rattle.sem_msg.specs.declared.state.Slot.TheVariants.{Free}
 use Rattle.sem_msg.specs.declared.state.Parked.{Parked}
 use Rattle.sem_msg.specs.declared.state.Parked.TheVariants.{ObtainWait, ObtainReady, ObtainCancelled, DelegateWait, DelegateReady, RevokeWait, Ready}
 use Rattle.sem_msg.specs.Rows.{JobRow, VpeRow, no_vpe}
@@ -22,16 +23,13 @@ use Rattle.sem_msg.specs.declared.code.Code.{Code}
 use Rattle.sem_msg.specs.declared.code.Code.TheVariants.{Dead}
 use Rattle.sem_msg.specs.Codes.{code_number}
 use Rattle.sem_machine.specs.Sound.{IsSoundCall, IsSoundAsk, kept, IsSound}
-use Rattle.sem_machine.specs.Sides.{Side, row, cap, parked, unparked, buried, ready}
+use Rattle.sem_machine.specs.Sides.{Side, row, cap, parked, unparked, buried, ready, freed}
 use Rattle.sem_machine.specs.Asks.{asker, waits_for, is_unawaited, promise_freed, call_refused, refusal_sent, ask_refused}
 use Rattle.sem_machine.specs.Revokes.{waiter_left, begin}
 use Rattle.sem_machine.specs.Ends.{ask_ended, call_ended, revoked_if_left, keys_of, ended}
-use Rattle.sem_key.proofs.Puts.{get_or-put_same}
+use Rattle.sem_key.proofs.Puts.{get_or-put_same, get_or-put_other}
 use Rattle.sem_key.proofs.Members.{Contains-nil, Contains-from_filter, Contains-from_map}
-use Rattle.sem_safety.specs.Onward.{IsOnward}
-use Rattle.sem_safety.proofs.Layers.{facts, in_turn-keeps, in_turn-keeps_each}
-use Rattle.sem_safety.proofs.Onwards.{Any, AnyPlace, onward-same, onward}
-use Rattle.sem_safety.proofs.KeptRows.{ask_ended-in}
+use Rattle.sem_machine.proofs.Folds.{in_turn-keeps, in_turn-keeps_each}
 use Rattle.sem_sound.proofs.Named.{declared-kernel, declared-below}
 use Rattle.sem_sound.proofs.Changing.{buried-sound, parked-same, parked-giving, number-dropped, selector-dropped}
 use Rattle.sem_sound.proofs.Holding.{send-sound}
@@ -105,6 +103,35 @@ module _ (T : Setup) (valid : IsSetup T) (i : ℕ) (few : i < T.kernels) where
 
   -- The end of a VPE.
 
+  abbrev IsDead : ℕ → Side → Type 0
+  IsDead v t = (row t v).alive ≡ false
+
+  -- an ask that is answered brings no VPE back
+  ask_ended-dead : (v : ℕ) (a : Ask) (s : Side) → IsDead v s → IsDead v (ask_ended T i a s)
+  ask_ended-dead v a s dead = cond_both (is_unawaited T i s a) s (ask_refused T i Dead a s) (IsDead v) (λ _. dead) (λ _. cond_both (kernel_of T (asker a) == i) (call_refused (code_number Dead) (asker a) s) (refusal_sent T Dead a s) (IsDead v) (λ _. refused (parked s (asker a))) (λ _. told a))
+    where
+      slot-freed : (w sel : ℕ) → IsDead v (freed w sel s)
+      slot-freed w sel =
+          let r : VpeRow = record (row s w) { slots = put Free (row s w).slots sel Free } in
+          elim (cases_eq v w) [
+            | inl same ↦ ap (λ (x : VpeRow). x.alive) (ap (λ u. get_or (put no_vpe s.vpes w r) u no_vpe) same ∙ get_or-put_same no_vpe s.vpes w r) ∙ subst (λ u. (row s u).alive ≡ false) same dead
+            | inr other ↦ ap (λ (x : VpeRow). x.alive) (get_or-put_other no_vpe s.vpes w v r other) ∙ dead
+          ]
+
+      refused : (p : Option Parked) → IsDead v (promise_freed p (asker a) s)
+      refused None = dead
+      refused (Some (ObtainWait number sel)) = slot-freed (asker a) sel
+      refused (Some (ObtainReady key parent object sel)) = dead
+      refused (Some ObtainCancelled) = dead
+      refused (Some (DelegateWait parent)) = dead
+      refused (Some (DelegateReady parent key)) = dead
+      refused (Some (RevokeWait j)) = dead
+      refused (Some (Ready code)) = dead
+
+      told : (b : Ask) → IsDead v (refusal_sent T Dead b s)
+      told (ObtainAsk place target) = dead
+      told (DelegateAsk parent object sel) = dead
+
   ask_ended-sound : (a : Ask) → IsSoundAsk T a → (s : Side) → IsSound T i s → IsSound T i (ask_ended T i a s)
   ask_ended-sound a sound s is = cond_both (is_unawaited T i s a) s (ask_refused T i Dead a s) (IsSound T i) (λ _. is) (λ awaited. ask_refused-sound s is Dead a sound (omega arith, omega arith) (λ local. is-waiting a (parked s (asker a)) (awaited-waits T i s a awaited local)))
 
@@ -169,10 +196,6 @@ module _ (T : Setup) (valid : IsSetup T) (i : ℕ) (few : i < T.kernels) where
       let answered : Side = in_turn (ask_ended T i) asks (buried v s) in
       let left : Side = call_ended T (parked answered v) v (unparked v answered) in
       let answered-sound : IsSound T i answered = in_turn-keeps_each (IsSound T i) (ask_ended T i) asks (λ a among t here. ask_ended-sound a ((is.rows v).asks a among) t here) (buried v s) (buried-sound T valid i few None None None None s is v local) in
-      let on : IsOnward (buried v s) answered = in_turn-keeps (IsOnward (buried v s)) (ask_ended T i) (λ a t here. ask_ended-in (facts Any AnyPlace) (λ w. Unit {0}) (IsOnward (buried v s)) (onward (buried v s)).kept T i a t here) asks (buried v s) (onward-same (buried v s)) in
-      let dead : (row answered v).alive ≡ false = false_from_ne_true (row answered v).alive (λ lives. clash (sym (ap (λ (r : VpeRow). r.alive) (get_or-put_same no_vpe s.vpes v (record (row s v) { alive = false; asks = [] }))) ∙ on.dead v lives)) in
+      let dead : (row answered v).alive ≡ false = in_turn-keeps (IsDead v) (ask_ended T i) (λ a t here. ask_ended-dead v a t here) asks (buried v s) (ap (λ (r : VpeRow). r.alive) (get_or-put_same no_vpe s.vpes v (record (row s v) { alive = false; asks = [] }))) in
       let left-sound : IsSound T i left = call_ended-sound answered answered-sound v local dead (parked answered v) refl in
       in_turn-keeps (IsSound T i) (revoked_if_left T i) (λ k t here. revoked-sound k (cap t k) t refl here) (keys_of left v) left left-sound
-    where
-      clash : false ≡ true → ⊥
-      clash none = cc

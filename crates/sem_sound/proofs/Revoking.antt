@@ -19,7 +19,7 @@ use Rattle.sem_msg.specs.Message.{IsJobId}
 use Rattle.sem_msg.specs.ParkedStates.{is_ready_with}
 use Rattle.sem_msg.specs.Setup.{Setup, IsSetup}
 use Rattle.sem_msg.specs.Lookups.{kernel_of}
-use Rattle.sem_safety.proofs.Weighing.{weigh-put}
+use Rattle.sem_machine.proofs.Weighing.{weigh-put}
 use Rattle.sem_machine.specs.Sound.{IsSoundCall, kept, IsSoundCap, IsSound, bit, one_if, ids_owed, ids_paid}
 use Rattle.sem_machine.specs.Sides.{Side, row, cap, job, parked, with_row, with_slot, freed, parked_as, installed}
 use Rattle.sem_machine.specs.Revokes.{count_lowered, settled, revoke_begun, clear_begun, ready_freed, obtain_cancelled, request_begun, revoke_requested, revoke_done}

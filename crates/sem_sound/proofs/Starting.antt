@@ -32,9 +32,9 @@ use Rattle.sem_key.specs.declared.limits.TheConstants.{VPES, NUMBERS}
 use Rattle.sem_msg.specs.declared.limits.TheConstants.{SELECTORS, ENDPOINTS}
 use Rattle.sem_key.proofs.Puts.{get_or-put_same, get_or-put_other}
 use Rattle.sem_key.proofs.Members.{Contains-nil, Contains-head, Contains-tail, Contains-from_filter}
-use Rattle.sem_safety.proofs.FirstNumbers.{find-decl, root-next}
-use Rattle.sem_safety.proofs.Layers.{in_turn-keeps}
-use Rattle.sem_safety.proofs.Weighing.{weigh-put, weigh-replicate}
+use Rattle.sem_machine.proofs.FirstNumbers.{find-decl, root-next}
+use Rattle.sem_machine.proofs.Folds.{in_turn-keeps}
+use Rattle.sem_machine.proofs.Weighing.{weigh-put, weigh-replicate}
 use Rattle.sem_sound.proofs.Counts.{length-put}
 use Rattle.sem_sound.proofs.Changing.{local-place, by_row, drawn-sound}
 use Rattle.sem_sound.proofs.Holding.{installed-sound}

@@ -1,6 +1,6 @@
 -- What a job has marked is swept: removed, and its selectors are free.
 use Rattle.sem_msg.specs.declared.state.Up.{Up}
-use Rattle.sem_bound.proofs.Weights.{change-once}
+use Rattle.sem_machine.proofs.Weighing.{change-once}
 use Rattle.sem_key.proofs.KeyTests.{key_eq-true}
 use Rattle.sem_key.specs.declared.limits.TheConstants.{VPES}
 use Rattle.std.proofs.Common.{◌≡◌, ◌≢◌, ℕ, ◌+◌, ◌<◌, ◌≤◌, ◌⊎◌, Bool, true, false, not, ◌&&◌, List, [], ◌∷◌, length, get_or, Option, Some, None, is_none, refl, sym, ap, subst, ◌∙◌, inl, inr, arith, map}
@@ -23,7 +23,7 @@ use Rattle.sem_machine.specs.Sides.{Side, row, slot}
 use Rattle.sem_machine.specs.Revokes.{swept, all_freed}
 use Rattle.sem_key.proofs.Puts.{get_or-put_same, get_or-put_other}
 use Rattle.sem_key.proofs.Members.{Contains-nil, Contains-head, Contains-tail, Contains-cons_cases, Contains-filter, Contains-from_filter, AllPairs-from_map, Contains-map, Contains-from_map}
-use Rattle.sem_safety.proofs.Weighing.{weigh-put, weigh-filter, weigh-map}
+use Rattle.sem_machine.proofs.Weighing.{weigh-put, weigh-filter, weigh-map}
 use Rattle.sem_machine.specs.Sound.{bit, one_if, is_promised, IsSoundCap, IsSoundRow, IsSoundBut, IsMarkedRoot, ids_owed, ids_paid}
 use Rattle.sem_sound.proofs.Counts.{length-put}
 use Rattle.sem_sound.proofs.Rising.{filtered-rises, mapped-rises}

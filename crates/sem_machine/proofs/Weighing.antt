@@ -1,10 +1,12 @@
 -- Sums over lists, and what a write at one place does to them.
-use Rattle.std.proofs.Common.{Bool, not, inl, inr, ap, ◌≡◌, ℕ, zero, suc, ◌+◌, ◌≤◌, List, [], ◌∷◌, map, drop, get_or, replicate, Option, slice_get, refl, arith}
-use Rattle.std.specs.List.{Contains, filter, sum_by}
-use Rattle.std.proofs.lemmas.Bool.{cases_Bool, cond-true, cond-false}
+use Rattle.std.proofs.Common.{true, false, subst, Bool, not, inl, inr, ap, ◌≡◌, ℕ, zero, suc, ◌+◌, ◌≤◌, List, [], ◌∷◌, map, drop, get_or, replicate, Option, slice_get, refl, arith}
+use Rattle.std.specs.List.{AllPairs, Contains, filter, sum_by}
+use Rattle.std.specs.Prelude.{if◌then◌else◌}
+use Rattle.std.proofs.lemmas.Bool.{cases_Bool, cond-true, cond-false, cond_both}
 use Rattle.std.specs.Option.{option_map_or}
 use Rattle.std.proofs.lemmas.List.Sums.{sum_by-cons}
-use Rattle.sem_key.specs.Lists.{put}
+use Rattle.sem_key.specs.Lists.{change, put}
+use Rattle.sem_machine.proofs.Lengths.{weigh-map_less}
 use Rattle.sem_key.proofs.Members.{Contains-nil, Contains-head, Contains-tail, Contains-cons_cases}
 
 module _ {X : Type 0} (w : X → ℕ) where
@@ -98,3 +100,42 @@ module _ {X : Type 0} (w : X → ℕ) where
 
   pub weigh-filter : (p : X → Bool) (xs : List X) → sum_by w (filter p xs) ≤ sum_by w xs
   weigh-filter p xs = let parts = weigh-parts p xs in omega (arith, parts)
+
+-- Lists of which at most one element passes a test.
+
+pairs-head : {X : Type 0} (S : X → X → Type 0) (x : X) (xs : List X) → AllPairs S (x ∷ xs) → (y : X) → Contains xs y → S x y
+pairs-head S x xs pairs y (k, within, same) = subst (S x) same (pairs zero (suc k) y (omega arith) (omega arith))
+
+pairs-tail : {X : Type 0} (S : X → X → Type 0) (x : X) (xs : List X) → AllPairs S (x ∷ xs) → AllPairs S xs
+pairs-tail S x xs pairs = λ i j d lt within. pairs (suc i) (suc j) d (omega arith) (omega arith)
+
+module _ {X : Type 0} (w : X → ℕ) (test : X → Bool) (f : X → X) where
+  change-none : (xs : List X) → ((x : X) → Contains xs x → test x ≡ false) → sum_by w (change test f xs) ≡ sum_by w xs
+  change-none [] none = refl
+  change-none (x ∷ xs) none =
+      let rest = change-none xs (λ y among. none y (Contains-tail x xs y among)) in
+      let new = sum_by-cons w (if test x then f x else x) (change test f xs) in
+      let old = sum_by-cons w x xs in
+      let here : w (if test x then f x else x) ≡ w x = ap w (cond-false (test x) (f x) x (none x (Contains-head x xs))) in
+      omega (arith, rest, new, old, here)
+
+  -- one element at most grows by d
+  pub change-once : (d : ℕ) (xs : List X) → AllPairs (λ a b. test a ≡ true → test b ≡ false) xs → ((x : X) → test x ≡ true → w (f x) ≤ w x + d) → sum_by w (change test f xs) ≤ sum_by w xs + d
+  change-once d [] pairs more = omega arith
+  change-once d (x ∷ xs) pairs more =
+      let new = sum_by-cons w (if test x then f x else x) (change test f xs) in
+      let old = sum_by-cons w x xs in
+      elim (cases_Bool (test x)) [
+        | inl pass ↦
+            let here : w (if test x then f x else x) ≡ w (f x) = ap w (cond-true (test x) (f x) x pass) in
+            let grown = more x pass in
+            let rest = change-none xs (λ y among. pairs-head (λ a b. test a ≡ true → test b ≡ false) x xs pairs y among pass) in
+            omega (arith, new, old, here, grown, rest)
+        | inr fail ↦
+            let here : w (if test x then f x else x) ≡ w x = ap w (cond-false (test x) (f x) x fail) in
+            let rest = change-once d xs (pairs-tail (λ a b. test a ≡ true → test b ≡ false) x xs pairs) more in
+            omega (arith, new, old, here, rest)
+      ]
+
+  pub change-less : (xs : List X) → ((x : X) → w (f x) ≤ w x) → sum_by w (change test f xs) ≤ sum_by w xs
+  change-less xs less = weigh-map_less w (λ x. if test x then f x else x) (λ x. cond_both (test x) (f x) x (λ y. w y ≤ w x) (λ _. less x) (λ _. omega arith)) xs
