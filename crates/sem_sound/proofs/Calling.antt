@@ -23,6 +23,7 @@ use Rattle.sem_msg.specs.declared.setup.Service.{Service}
 use Rattle.sem_msg.specs.declared.state.Ask.TheVariants.{Obtain as ObtainAsk, Delegate as DelegateAsk}
 use Rattle.sem_msg.specs.declared.state.Slot.{Slot}
 use Rattle.sem_msg.specs.declared.state.Slot.TheVariants.{Free, Held, Promised}
+use Rattle.sem_msg.specs.declared.state.Parked.{Parked}
 use Rattle.sem_msg.specs.declared.state.Parked.TheVariants.{ObtainWait, DelegateWait, RevokeWait}
 use Rattle.sem_msg.specs.Rows.{VpeRow, Endpoint, no_vpe}
 use Rattle.sem_msg.specs.Message.{IsValidTarget, IsServiceKey, IsDelegable}
@@ -31,10 +32,10 @@ use Rattle.sem_msg.specs.Versions.{most_vpes}
 use Rattle.sem_msg.specs.Setup.{Setup, IsSetup}
 use Rattle.sem_msg.specs.Lookups.{pe_of, kernel_of, is_declared, is_declared_at, service_named}
 use Rattle.sem_msg.specs.VpeRows.{is_taken}
-use Rattle.sem_msg.specs.declared.code.Code.TheVariants.{NoCap, NoService, BadKind}
-use Rattle.sem_machine.specs.Sound.{IsNamed, IsLocalName, IsSoundObject, IsTargetNamed, IsSoundCall, kept, IsSoundEndpoint, IsSound, ids_owed, ids_paid}
+use Rattle.sem_msg.specs.declared.code.Code.TheVariants.{Ok as OkCode, NoCap, NoService, BadKind}
+use Rattle.sem_machine.specs.Sound.{IsNamed, IsLocalName, IsSoundObject, IsTargetNamed, IsSoundCall, kept, IsSoundEndpoint, IsSound, ids_owed, ids_paid, one_if}
 use Rattle.sem_machine.specs.Sides.{Side, row, slot, cap, cap_in, own, endpoint, parked, drawn, promised, parked_as, asked, linked, installed, with_endpoint, send}
-use Rattle.sem_machine.specs.Steps.{Step, answer}
+use Rattle.sem_machine.specs.Steps.{Step, answer, plain}
 use Rattle.sem_machine.specs.Asks.{target_vpe}
 use Rattle.sem_msg.specs.Uses.{memory_tests, send_tests, credit_tests, rung, credited, ring_changed}
 use Rattle.sem_machine.specs.Calls.{object_passes, is_of, stays_at_home, is_wider, next_key, next_place, with_held, destination_tests, derive_tests, narrowed, gate_tests, ask_made, obtain_tests, open_tests, session_service, offer_tests, delegate_tests, offer_made, bind_tests, own_tests, call_row}
@@ -45,6 +46,9 @@ use Rattle.sem_machine.proofs.FirstCodes.{Passed, unless-keeps, unless-passed, u
 use Rattle.sem_sound.proofs.Named.{declared-kernel, declared-below, own-declared}
 use Rattle.sem_sound.proofs.Changing.{drawn-sound, promised-sound, parked-taking, asked-sound, endpoint-sound, local-place}
 use Rattle.sem_sound.proofs.Holding.{cap-among, linked-sound, installed-sound, send-sound}
+use Rattle.sem_sound.proofs.Parking.{NoMoreBut, one-most, parked-but, unparked-but}
+use Rattle.sem_machine.specs.Revokes.{revoke_begun, clear_begun}
+use Rattle.sem_machine.specs.Ends.{ended}
 use Rattle.sem_sound.proofs.Jobbing.{waits-not}
 use Rattle.sem_sound.proofs.Revoking.{begun-sound, cleared-sound, reparked-sound}
 use Rattle.sem_sound.proofs.Refusing.{ended-sound}
@@ -64,6 +68,10 @@ drawn-parked s v = refl
 
 promised-parked : (s : Side) (v sel : ℕ) → parked (promised v sel s) v ≡ parked s v
 promised-parked s v sel = refl
+
+-- a step that answers the call of v or parks it, and parks no other
+abbrev pub Answered : ℕ → Side → Step → Type 0
+Answered v s x = NoMoreBut v s x.side × (one_if x.outcome.reply + one_if (parked x.side v) ≤ 1)
 
 module _ (T : Setup) (valid : IsSetup T) (i : ℕ) (few : i < T.kernels) where
   -- The key that a VPE draws next.
@@ -96,7 +104,15 @@ module _ (T : Setup) (valid : IsSetup T) (i : ℕ) (few : i < T.kernels) where
 
     module _ (v : ℕ) (local : kernel_of T v ≡ i) (idle : parked s v ≡ None) where
       abbrev Keeps : Step → Type 0
-      Keeps x = IsSound T i x.side
+      Keeps x = IsSound T i x.side × Answered v s x
+
+      -- the call is answered
+      replied-now : Answered v s (answer OkCode s)
+      replied-now = ((λ w other. omega arith), let none = ap (λ (o : Option Parked). one_if o) idle in omega (arith, none))
+
+      -- the call is parked
+      parked-now : (p : Parked) → Answered v s (plain (parked_as v p s))
+      parked-now p = (parked-but s v (Some p), let most = one-most (parked (parked_as v p s) v) in omega (arith, most))
 
       -- the destination is free and a number is left
       abbrev Ready : ℕ → Type 0
@@ -106,7 +122,7 @@ module _ (T : Setup) (valid : IsSetup T) (i : ℕ) (few : i < T.kernels) where
       destination dst passed = (free-slot (slot s v dst) passed.0, leb-false NUMBERS (row s v).next_number passed.1.0)
 
       held-step : (o : Option Capability) (f : Capability → Step) → ((c : Capability) → o ≡ Some c → Keeps (f c)) → Keeps (with_held o f s)
-      held-step o f each = option-keeps Keeps f o (answer NoCap s) each is
+      held-step o f each = option-keeps Keeps f o (answer NoCap s) each (is, replied-now)
 
       passes : (test : Object → Bool) (o : Option Capability) (c : Capability) → o ≡ Some c → (b : Bool) → object_passes test o ≡ b → test c.object ≡ b
       passes test o c held b at = sym (ap (object_passes test) held) ∙ at
@@ -127,9 +143,9 @@ module _ (T : Setup) (valid : IsSetup T) (i : ℕ) (few : i < T.kernels) where
           let unparked' : parked promising v ≡ None = promised-parked (drawn v s) v dst ∙ (drawn-parked s v ∙ idle) in
           let waits : IsSound T i waiting = parked-taking T valid i few None None promising v local (Some (ObtainWait n dst)) (λ q same. subst (IsSoundCall T i v) (same_Some (ObtainWait n dst) q same) selector) n dst promises (waits-not T i (Some (v, n)) (Some (v, dst)) None None promising promises v (λ j wait. absurd (clash j (sym unparked' ∙ wait)))) (ap kept unparked') refl in
           let place_valid : IsValidPlace place = (at.1, omega (arith, vpe), omega (arith, below)) in
-          cond_both (kernel_of T w == i) (asked w (ObtainAsk place target) waiting) (send (kernel_of T w) (ObtainReq place target) waiting) (IsSound T i)
-          (λ here. asked-sound T valid i few None None None None waiting waits w (eqb-true (kernel_of T w) i here) (ObtainAsk place target) ((place_valid, at.0), target_valid, target_named))
-          (λ remote. send-sound T valid i few None None None None waiting waits (kernel_of T w) (ObtainReq place target) ((place_valid, target_valid), kernel, eqb-false (kernel_of T w) i remote))
+          cond_both (kernel_of T w == i) (asked w (ObtainAsk place target) waiting) (send (kernel_of T w) (ObtainReq place target) waiting) (λ t. IsSound T i t × Answered v s (plain t))
+          (λ here. (asked-sound T valid i few None None None None waiting waits w (eqb-true (kernel_of T w) i here) (ObtainAsk place target) ((place_valid, at.0), target_valid, target_named), parked-now (ObtainWait place.number dst)))
+          (λ remote. (send-sound T valid i few None None None None waiting waits (kernel_of T w) (ObtainReq place target) ((place_valid, target_valid), kernel, eqb-false (kernel_of T w) i remote), parked-now (ObtainWait place.number dst)))
         where
           clash : (j : ℕ) → None ≡ Some (RevokeWait j) → ⊥
           clash j none = cc
@@ -142,9 +158,9 @@ module _ (T : Setup) (valid : IsSetup T) (i : ℕ) (few : i < T.kernels) where
           let other = declared-vpe T valid w declared in
           let waits : IsSound T i waiting = reparked-sound T valid i few s is v local None idle (λ j none. absurd cc) (Some (DelegateWait p.key)) (λ q same. subst (IsSoundCall T i v) (same_Some (DelegateWait p.key) q same) (there.1, sound.own)) refl in
           let gives = subst IsDelegable (sym sound.kind) (delegable p.object away) in
-          cond_both (kernel_of T w == i) (asked w (DelegateAsk p.key p.object dst) waiting) (send (kernel_of T w) (DelegateReq p.key p.object w dst) waiting) (IsSound T i)
-          (λ here. asked-sound T valid i few None None None None waiting waits w (eqb-true (kernel_of T w) i here) (DelegateAsk p.key p.object dst) (sound.own.0, sound.object, sound.kind, gives, selector))
-          (λ remote. send-sound T valid i few None None None None waiting waits (kernel_of T w) (DelegateReq p.key p.object w dst) ((sound.own.0.0, sound.object.0, sound.kind, gives, other.1, selector), other.0, eqb-false (kernel_of T w) i remote))
+          cond_both (kernel_of T w == i) (asked w (DelegateAsk p.key p.object dst) waiting) (send (kernel_of T w) (DelegateReq p.key p.object w dst) waiting) (λ t. IsSound T i t × Answered v s (plain t))
+          (λ here. (asked-sound T valid i few None None None None waiting waits w (eqb-true (kernel_of T w) i here) (DelegateAsk p.key p.object dst) (sound.own.0, sound.object, sound.kind, gives, selector), parked-now (DelegateWait p.key)))
+          (λ remote. (send-sound T valid i few None None None None waiting waits (kernel_of T w) (DelegateReq p.key p.object w dst) ((sound.own.0.0, sound.object.0, sound.kind, gives, other.1, selector), other.0, eqb-false (kernel_of T w) i remote), parked-now (DelegateWait p.key)))
 
       session-target : (session : ℕ) (k : KeyName) → option_and_then (λ c. session_service c.object) (own s v session) ≡ Some k → IsServiceKey k × (is_declared_at T k.pe k.vpe ≡ true)
       session-target session k at = from (own s v session) refl at
@@ -168,41 +184,44 @@ module _ (T : Setup) (valid : IsSetup T) (i : ℕ) (few : i < T.kernels) where
           from None at x none = absurd cc
           from (Some b) at x some = let e = is.endpoints v ep b at in subst (IsSoundEndpoint T i v) (same_Some (record b { ring = f b.ring }) x some) (record { own = e.own; vpe = e.vpe; kind = e.kind; object = e.object; bindable = e.bindable })
 
-      pub call_row-sound : ids_owed s + 1 ≤ ids_paid s → (c : Call) → IsValidCall (most_vpes T.version) c → IsSound T i (call_row T i s v c).side
+      pub call_row-sound : ids_owed s + 1 ≤ ids_paid s → (c : Call) → IsValidCall (most_vpes T.version) c → IsSound T i (call_row T i s v c).side × Answered v s (call_row T i s v c)
       unfolding call_row
-      call_row-sound pays (Derive src dst off len rights) valid_call = unless-passed Keeps (derive_tests s v src dst off len rights) _ _ (λ code. is) (λ passed. held-step (own s v src) _ (λ p held.
+      call_row-sound pays (Derive src dst off len rights) valid_call = unless-passed Keeps (derive_tests s v src dst off len rights) _ _ (λ code. (is, replied-now)) (λ passed. held-step (own s v src) _ (λ p held.
           let there = own-among v src p held in
           let sound = is.caps p there.0 in
           let ready = destination dst passed.1.1.1.1 in
           let mem = passes (is_of MemKind) (own s v src) p held true (not-false (object_passes (is_of MemKind) (own s v src)) passed.1.1.0) in
           let narrow = passes (is_wider off len rights) (own s v src) p held false passed.1.1.1.0 in
-          child-sound s is v local ready.1 dst valid_call.1 ready.0 (narrowed off len rights p.object) (narrowed-sound T off len rights p.object sound.object mem narrow valid_call.2 valid_call.3 valid_call.4) p.key sound.own.0 (object_kind (narrowed off len rights p.object)) refl))
-      call_row-sound pays (Gate src dst label credits) valid_call = unless-passed Keeps (gate_tests s v src dst credits) _ _ (λ code. is) (λ passed. held-step (own s v src) _ (λ p held.
+          (child-sound s is v local ready.1 dst valid_call.1 ready.0 (narrowed off len rights p.object) (narrowed-sound T off len rights p.object sound.object mem narrow valid_call.2 valid_call.3 valid_call.4) p.key sound.own.0 (object_kind (narrowed off len rights p.object)) refl, replied-now)))
+      call_row-sound pays (Gate src dst label credits) valid_call = unless-passed Keeps (gate_tests s v src dst credits) _ _ (λ code. (is, replied-now)) (λ passed. held-step (own s v src) _ (λ p held.
           let there = own-among v src p held in
           let sound = is.caps p there.0 in
           let ready = destination dst passed.1.1.1.1 in
           let recv = passes (is_of RecvKind) (own s v src) p held true (not-false (object_passes (is_of RecvKind) (own s v src)) passed.1.1.0) in
-          child-sound s is v local ready.1 dst valid_call.1 ready.0 (Send p.key label credits) ((sound.own.0.0, sound.kind ∙ recv-kind p.object recv, valid_call.2, valid_call.3, valid_call.4), sound.own.0) p.key sound.own.0 (object_kind (Send p.key label credits)) refl))
-      call_row-sound pays (Obtain dst w src) valid_call = unless-passed Keeps (obtain_tests T i s v dst w) _ _ (λ code. is) (λ passed.
+          (child-sound s is v local ready.1 dst valid_call.1 ready.0 (Send p.key label credits) ((sound.own.0.0, sound.kind ∙ recv-kind p.object recv, valid_call.2, valid_call.3, valid_call.4), sound.own.0) p.key sound.own.0 (object_kind (Send p.key label credits)) refl, replied-now)))
+      call_row-sound pays (Obtain dst w src) valid_call = unless-passed Keeps (obtain_tests T i s v dst w) _ _ (λ code. (is, replied-now)) (λ passed.
           let declared = declared-vpe T valid w (not-false (is_declared T w) passed.1.0) in
           ask_made-sound dst (SelTarget w src) valid_call.0 (destination dst passed.1.1.1) (declared.1, valid_call.2) tt declared.0)
-      call_row-sound pays (Delegate src w dst) valid_call = unless-passed Keeps (delegate_tests T i s v src w) _ _ (λ code. is) (λ passed. held-step (own s v src) _ (λ p held.
+      call_row-sound pays (Delegate src w dst) valid_call = unless-passed Keeps (delegate_tests T i s v src w) _ _ (λ code. (is, replied-now)) (λ passed. held-step (own s v src) _ (λ p held.
           offer_made-sound w dst p src held (passes stays_at_home (own s v src) p held false passed.1.1.1.1.0) valid_call.2 (not-false (is_declared T w) passed.1.0)))
-      call_row-sound pays (OpenSession dst name) valid_call = unless-passed Keeps (open_tests T i s v dst name) _ _ (λ code. is) (λ passed. option-keeps Keeps (λ (x : Service). ask_made T i v dst (ServTarget x.key) s) (service_named T name) (answer NoService s) (λ x there.
+      call_row-sound pays (OpenSession dst name) valid_call = unless-passed Keeps (open_tests T i s v dst name) _ _ (λ code. (is, replied-now)) (λ passed. option-keeps Keeps (λ (x : Service). ask_made T i v dst (ServTarget x.key) s) (service_named T name) (answer NoService s) (λ x there.
           let named = service-named T valid x (found (λ (y : Service). y.name == name) T.services x there).0 in
-          ask_made-sound dst (ServTarget x.key) valid_call.0 (destination dst passed.1.1.1) named.0 (named.0.0, named.1) (subst (λ k. k < T.kernels) (sym (declared-kernel T x.key.pe x.key.vpe named.1)) (declared-below T valid x.key.pe x.key.vpe named.1))) is)
-      call_row-sound pays (AskOffer dst session index) valid_call = unless-passed Keeps (offer_tests T i s v dst session) _ _ (λ code. is) (λ passed. option-keeps Keeps (λ (k : KeyName). ask_made T i v dst (OfferTarget k index) s) (option_and_then (λ c. session_service c.object) (own s v session)) (answer BadKind s) (λ k there.
+          ask_made-sound dst (ServTarget x.key) valid_call.0 (destination dst passed.1.1.1) named.0 (named.0.0, named.1) (subst (λ k. k < T.kernels) (sym (declared-kernel T x.key.pe x.key.vpe named.1)) (declared-below T valid x.key.pe x.key.vpe named.1))) (is, replied-now))
+      call_row-sound pays (AskOffer dst session index) valid_call = unless-passed Keeps (offer_tests T i s v dst session) _ _ (λ code. (is, replied-now)) (λ passed. option-keeps Keeps (λ (k : KeyName). ask_made T i v dst (OfferTarget k index) s) (option_and_then (λ c. session_service c.object) (own s v session)) (answer BadKind s) (λ k there.
           let named = session-target session k there in
-          ask_made-sound dst (OfferTarget k index) valid_call.0 (destination dst passed.1.1.1.1) (named.0, valid_call.2) (named.0.0, named.1) (subst (λ q. q < T.kernels) (sym (declared-kernel T k.pe k.vpe named.1)) (declared-below T valid k.pe k.vpe named.1))) is)
-      call_row-sound pays (Revoke src) valid_call = held-step (own s v src) _ (λ c held. begun-sound T valid i few s is v local idle c.key c.mark c (own-among v src c held).2 refl)
-      call_row-sound pays (Bind ep src) valid_call = unless-passed Keeps (bind_tests s v src) _ _ (λ code. is) (λ passed. held-step (own s v src) _ (λ c held.
+          ask_made-sound dst (OfferTarget k index) valid_call.0 (destination dst passed.1.1.1.1) (named.0, valid_call.2) (named.0.0, named.1) (subst (λ q. q < T.kernels) (sym (declared-kernel T k.pe k.vpe named.1)) (declared-below T valid k.pe k.vpe named.1))) (is, replied-now))
+      call_row-sound pays (Revoke src) valid_call = held-step (own s v src) _ (λ c held. let begun = begun-sound T valid i few s is v local idle c.key c.mark c (own-among v src c held).2 refl in (begun.0, (begun.1, let most = one-most (parked (revoke_begun T i v c.key c.mark s) v) in omega (arith, most))))
+      call_row-sound pays (Bind ep src) valid_call = unless-passed Keeps (bind_tests s v src) _ _ (λ code. (is, replied-now)) (λ passed. held-step (own s v src) _ (λ c held.
           let there = own-among v src c held in
           let sound = is.caps c there.0 in
           let bound : Endpoint = record { key = c.key; object = c.object; ring = [] } in
-          endpoint-sound T valid i few None None None None s is v local ep (Some bound) (λ x same. subst (IsSoundEndpoint T i v) (same_Some bound x same) (record { own = sound.own; vpe = there.1; kind = sound.kind; object = sound.object; bindable = passes stays_at_home (own s v src) c held false passed.1.1.0 }))))
-      call_row-sound pays (Read ep off len) valid_call = unless-keeps Keeps (memory_tests 1 off len (endpoint s v ep)) _ _ (λ code. is) is
-      call_row-sound pays (Write ep off len) valid_call = unless-keeps Keeps (memory_tests 2 off len (endpoint s v ep)) _ _ (λ code. is) is
-      call_row-sound pays (SendCall ep len) valid_call = unless-keeps Keeps (send_tests (endpoint s v ep)) _ _ (λ code. is) (ring-sound ep (rung len))
-      call_row-sound pays (Credit ep) valid_call = unless-keeps Keeps (credit_tests (endpoint s v ep)) _ _ (λ code. is) (ring-sound ep credited)
-      call_row-sound pays (Clear src) valid_call = unless-passed Keeps (own_tests (own s v src)) _ _ (λ code. is) (λ passed. held-step (own s v src) _ (λ c held. cleared-sound T valid i few s is pays v local idle c.key c (own-among v src c held).2 (unmarked-own (own s v src) c held passed.1.0)))
-      call_row-sound pays Exit valid_call = ended-sound T valid i few s is v local
+          (endpoint-sound T valid i few None None None None s is v local ep (Some bound) (λ x same. subst (IsSoundEndpoint T i v) (same_Some bound x same) (record { own = sound.own; vpe = there.1; kind = sound.kind; object = sound.object; bindable = passes stays_at_home (own s v src) c held false passed.1.1.0 })), replied-now)))
+      call_row-sound pays (Read ep off len) valid_call = unless-keeps Keeps (memory_tests 1 off len (endpoint s v ep)) _ _ (λ code. (is, replied-now)) (is, replied-now)
+      call_row-sound pays (Write ep off len) valid_call = unless-keeps Keeps (memory_tests 2 off len (endpoint s v ep)) _ _ (λ code. (is, replied-now)) (is, replied-now)
+      call_row-sound pays (SendCall ep len) valid_call = unless-keeps Keeps (send_tests (endpoint s v ep)) _ _ (λ code. (is, replied-now)) (ring-sound ep (rung len), replied-now)
+      call_row-sound pays (Credit ep) valid_call = unless-keeps Keeps (credit_tests (endpoint s v ep)) _ _ (λ code. (is, replied-now)) (ring-sound ep credited, replied-now)
+      call_row-sound pays (Clear src) valid_call = unless-passed Keeps (own_tests (own s v src)) _ _ (λ code. (is, replied-now)) (λ passed. held-step (own s v src) _ (λ c held. let begun = cleared-sound T valid i few s is pays v local idle c.key c (own-among v src c held).2 (unmarked-own (own s v src) c held passed.1.0) in (begun.0, (begun.1, let most = one-most (parked (clear_begun T i v c.key s) v) in omega (arith, most)))))
+      call_row-sound pays Exit valid_call =
+          let ends = ended-sound T valid i few s is v local in
+          let unparks = unparked-but s (ended T i v s) v ends.1 in
+          (ends.0, (unparks.0, let none = unparks.1 in omega (arith, none)))

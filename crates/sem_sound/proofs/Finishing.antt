@@ -32,6 +32,7 @@ use Rattle.sem_machine.proofs.Lengths.{apart-shorter, weigh-map_less}
 use Rattle.sem_sound.proofs.Named.{named-owner}
 use Rattle.sem_sound.proofs.Changing.{parked-same}
 use Rattle.sem_sound.proofs.Holding.{cap-among, unlinked-sound, send-sound}
+use Rattle.sem_sound.proofs.Parking.{NoMore, no-more, chained, is-one, closed-no_more}
 use Rattle.sem_sound.proofs.Jobbing.{parked-local, waits-not, lowered-sound, undone, removed-sound, jobs-mapped}
 use Rattle.sem_sound.proofs.Sweeping.{swept-sound}
 
@@ -237,16 +238,18 @@ module _ (T : Setup) (valid : IsSetup T) (i : ℕ) (few : i < T.kernels) where
   next-fine (Some (Local j)) s is = done-fine j s is
   next-fine (Some (Remote kernel j)) s is = is
 
-  finish-sound : (n : ℕ) (o : Option JobRow) (s : Side) → Fine o s → length s.jobs ≤ n → IsSound T i (finish T i n o s)
+  finish-sound : (n : ℕ) (o : Option JobRow) (s : Side) → Fine o s → length s.jobs ≤ n → IsSound T i (finish T i n o s) × NoMore s (finish T i n o s)
   unfolding finish
-  finish-sound zero None s fine short = fine
+  finish-sound zero None s fine short = (fine, no-more s)
   finish-sound zero (Some x) s fine short = let some = contains-some s.jobs x fine.1 in absurd (omega (arith, some, short))
-  finish-sound (suc n) None s fine short = fine
+  finish-sound (suc n) None s fine short = (fine, no-more s)
   finish-sound (suc n) (Some x) s fine short =
       let s2 : Side = closed T i x s in
       let one = closed-sound x s fine.0 fine.1 in
       let less = one.1 in
-      finish-sound n (next_done x.up s2.jobs) s2 (next-fine x.up s2 one.0) (omega (arith, less, short))
+      let rest = finish-sound n (next_done x.up s2.jobs) s2 (next-fine x.up s2 one.0) (omega (arith, less, short)) in
+      let woken = closed-no_more T i x s (λ v in_waiters. is-one s v (RevokeWait x.id) (fine.0.waiters x v fine.1 (λ none. absurd cc) in_waiters)) in
+      (rest.0, chained s s2 (finish T i n (next_done x.up s2.jobs) s2) woken rest.1)
 
-  pub settled-sound : (j : ℕ) (s : Side) → IsSoundBut T i None None None (Some j) 0 s → IsSound T i (settled T i j s)
+  pub settled-sound : (j : ℕ) (s : Side) → IsSoundBut T i None None None (Some j) 0 s → IsSound T i (settled T i j s) × NoMore s (settled T i j s)
   settled-sound j s is = finish-sound (length s.jobs) (if_done (job s j)) s (done-fine j s is) (omega arith)

@@ -23,7 +23,7 @@ use Rattle.sem_msg.specs.EndpointRows.{unbound_from, all_unbound_from}
 use Rattle.sem_msg.specs.Message.{IsJobId}
 use Rattle.sem_msg.specs.Setup.{Setup, IsSetup}
 use Rattle.sem_msg.specs.Lookups.{owner_of, is_local, decl, calls_of}
-use Rattle.sem_machine.specs.Sound.{IsNamed, IsSoundUp, bit, ids_paid, IsOpen, IsMarkedRoot, IsSoundCap, IsSoundBut, IsSound, ids_owed}
+use Rattle.sem_machine.specs.Sound.{IsNamed, IsSoundUp, bit, ids_paid, IsOpen, IsMarkedRoot, IsSoundCap, IsSoundBut, IsSound, ids_owed, one_if}
 use Rattle.sem_machine.specs.Sides.{Side, slot, cap, parked, mark_all, unbind_all, job_opened, send, endpoint}
 use Rattle.sem_key.specs.Region.{has_key, next_reached, grow, region, children_of}
 use Rattle.sem_machine.specs.Revokes.{count_raised, with_up, other_marker, adopted, request_or_adopt, begin, opened}
@@ -37,7 +37,9 @@ use Rattle.sem_sound.proofs.Rising.{mapped-rises}
 use Rattle.sem_sound.proofs.Named.{named-owner}
 use Rattle.sem_sound.proofs.Holding.{one-cap, cap-among, send-sound}
 use Rattle.sem_sound.proofs.Jobbing.{raised-sound, up-sound}
+use Rattle.sem_sound.proofs.Parking.{NoMore, opened-parks}
 use Rattle.sem_sound.proofs.Finishing.{settled-sound}
+use Rattle.sem_msg.specs.declared.state.Parked.{Parked}
 
 -- Ids fit.
 
@@ -271,11 +273,18 @@ module _ (T : Setup) (valid : IsSetup T) (i : ℕ) (few : i < T.kernels) where
         adopts None = here
         adopts (Some m) = raised-sound T i None None None (Some j) (with_up (Local j) m t) (up-sound T i None None None (Some j) t here (Local j) m id-fits) j
 
-    pub begin-sound : IsSound T i (begin T i root up ws keep s)
+    opened-sound : IsSoundBut T i None None None (Some j) 0 (opened T i root up ws keep s)
     unfolding opened
-    begin-sound =
+    opened-sound =
         let links : (c : Capability) → Contains s.caps c → (k : KeyName) → Contains c.children k → IsNamed T k = λ c among k child. (is.caps c among).children k child in
         let root-named : IsNamed T root = subst (IsNamed T) r-among.1 (is.caps r r-among.0).own.0 in
         let region-named = region-doomed (λ q k. IsNamed T k) (IsNamed T) (λ q k g m. g) s.caps links root root-named in
         let named = children-doomed (λ q k. IsNamed T k) (IsNamed T) (λ q k g m. g) s.caps links ks region-named in
-        settled-sound T valid i few j _ (in_turn-keeps_each (IsSoundBut T i None None None (Some j) 0) (request_or_adopt T i j) (children_of s.caps ks) (λ k among t here. requested-sound k (named k among) t here) marked_side marked-sound)
+        in_turn-keeps_each (IsSoundBut T i None None None (Some j) 0) (request_or_adopt T i j) (children_of s.caps ks) (λ k among t here. requested-sound k (named k among) t here) marked_side marked-sound
+
+    pub begin-sound : IsSound T i (begin T i root up ws keep s) × NoMore s (begin T i root up ws keep s)
+    begin-sound =
+        let o : Side = opened T i root up ws keep s in
+        let ends = settled-sound T valid i few j o opened-sound in
+        let same = opened-parks T i root up ws keep s in
+        (ends.0, λ w. let now = ends.1 w in let before = ap (λ (ps : List (Option Parked)). one_if (get_or ps w None)) same in omega (arith, now, before))

@@ -22,7 +22,7 @@ use Rattle.sem_msg.specs.JobRows.{without_number}
 use Rattle.sem_msg.specs.declared.code.Code.{Code}
 use Rattle.sem_msg.specs.declared.code.Code.TheVariants.{Dead}
 use Rattle.sem_msg.specs.Codes.{code_number}
-use Rattle.sem_machine.specs.Sound.{IsSoundCall, IsSoundAsk, kept, IsSound}
+use Rattle.sem_machine.specs.Sound.{IsSoundCall, IsSoundAsk, kept, IsSound, one_if}
 use Rattle.sem_machine.specs.Sides.{Side, row, cap, parked, unparked, buried, ready, freed}
 use Rattle.sem_machine.specs.Asks.{asker, waits_for, is_unawaited, promise_freed, call_refused, refusal_sent, ask_refused}
 use Rattle.sem_machine.specs.Revokes.{waiter_left, begin}
@@ -34,6 +34,7 @@ use Rattle.sem_sound.proofs.Named.{declared-kernel, declared-below}
 use Rattle.sem_sound.proofs.Changing.{buried-sound, parked-same, parked-giving, number-dropped, selector-dropped}
 use Rattle.sem_sound.proofs.Holding.{send-sound}
 use Rattle.sem_sound.proofs.Jobbing.{parked-local, waits-not, leaving-sound}
+use Rattle.sem_sound.proofs.Parking.{NoMore, no-more, chained, is-one, parked-again, unparked-both}
 use Rattle.sem_sound.proofs.Opening.{begin-sound}
 use Rattle.sem_sound.proofs.Revoking.{released-sound, reparked-sound, slack-of}
 
@@ -74,15 +75,18 @@ awaited-waits T i s a awaited local = true_from_ne_false (waits_for a (parked s 
     clash no' yes' = cc
 
 module _ (T : Setup) (valid : IsSetup T) (i : ℕ) (few : i < T.kernels) where
-  pub call_refused-sound : (s : Side) → IsSound T i s → (code v : ℕ) → code ≤ 15 → IsWaiting (parked s v) → IsSound T i (call_refused code v s)
+  pub call_refused-sound : (s : Side) → IsSound T i s → (code v : ℕ) → code ≤ 15 → IsWaiting (parked s v) → IsSound T i (call_refused code v s) × NoMore s (call_refused code v s)
   call_refused-sound s is code v small waiting = from (parked s v) refl waiting
     where
       sound : (x : Parked) → Some (Ready code) ≡ Some x → IsSoundCall T i v x
       sound x same = subst (IsSoundCall T i v) (same_Some (Ready code) x same) small
 
-      from : (p : Option Parked) → parked s v ≡ p → IsWaiting p → IsSound T i (ready code v (promise_freed p v s))
-      from (Some (ObtainWait number sel)) at waits = released-sound T valid i few s is v (ObtainWait number sel) at number sel refl (Some (Ready code)) sound refl
-      from (Some (DelegateWait parent)) at waits = reparked-sound T valid i few s is v (parked-local T i None None None None s is v (DelegateWait parent) at) (Some (DelegateWait parent)) at (λ j none. absurd cc) (Some (Ready code)) sound refl
+      again : (p : Parked) → parked s v ≡ Some p → NoMore s (ready code v s)
+      again p at = parked-again s v (Some (Ready code)) (let was = is-one s v p at in omega (arith, was))
+
+      from : (p : Option Parked) → parked s v ≡ p → IsWaiting p → IsSound T i (ready code v (promise_freed p v s)) × NoMore s (ready code v (promise_freed p v s))
+      from (Some (ObtainWait number sel)) at waits = (released-sound T valid i few s is v (ObtainWait number sel) at number sel refl (Some (Ready code)) sound refl, again (ObtainWait number sel) at)
+      from (Some (DelegateWait parent)) at waits = (reparked-sound T valid i few s is v (parked-local T i None None None None s is v (DelegateWait parent) at) (Some (DelegateWait parent)) at (λ j none. absurd cc) (Some (Ready code)) sound refl, again (DelegateWait parent) at)
       from None at waits = absurd waits
       from (Some (ObtainReady key parent object sel)) at waits = absurd waits
       from (Some ObtainCancelled) at waits = absurd waits
@@ -94,12 +98,12 @@ module _ (T : Setup) (valid : IsSetup T) (i : ℕ) (few : i < T.kernels) where
   pub other-owner : (pe v : ℕ) → is_declared_at T pe v ≡ true → (kernel_of T v ≡ i → ⊥) → (pe_owner T pe < T.kernels) × (pe_owner T pe ≢ i)
   other-owner pe v declared remote = (declared-below T valid pe v declared, λ same. remote (declared-kernel T pe v declared ∙ same))
 
-  pub refusal_sent-sound : (s : Side) → IsSound T i s → (code : Code) (a : Ask) → IsSoundAsk T a → IsRefusal (code_number code) → (kernel_of T (asker a) ≡ i → ⊥) → IsSound T i (refusal_sent T code a s)
-  refusal_sent-sound s is code (ObtainAsk place target) sound refusal remote = let to = other-owner place.pe place.vpe sound.0.1 remote in send-sound T valid i few None None None None s is (place_owner T place) (ObtainNo place (code_number code)) ((sound.0.0, refusal), to.0, to.1)
-  refusal_sent-sound s is code (DelegateAsk parent object sel) sound refusal remote = let to = other-owner parent.pe parent.vpe sound.0.1 remote in send-sound T valid i few None None None None s is (owner_of T parent) (DelegateNo parent (code_number code)) ((sound.0.0, refusal), to.0, to.1)
+  pub refusal_sent-sound : (s : Side) → IsSound T i s → (code : Code) (a : Ask) → IsSoundAsk T a → IsRefusal (code_number code) → (kernel_of T (asker a) ≡ i → ⊥) → IsSound T i (refusal_sent T code a s) × NoMore s (refusal_sent T code a s)
+  refusal_sent-sound s is code (ObtainAsk place target) sound refusal remote = let to = other-owner place.pe place.vpe sound.0.1 remote in (send-sound T valid i few None None None None s is (place_owner T place) (ObtainNo place (code_number code)) ((sound.0.0, refusal), to.0, to.1), no-more s)
+  refusal_sent-sound s is code (DelegateAsk parent object sel) sound refusal remote = let to = other-owner parent.pe parent.vpe sound.0.1 remote in (send-sound T valid i few None None None None s is (owner_of T parent) (DelegateNo parent (code_number code)) ((sound.0.0, refusal), to.0, to.1), no-more s)
 
-  pub ask_refused-sound : (s : Side) → IsSound T i s → (code : Code) (a : Ask) → IsSoundAsk T a → IsRefusal (code_number code) → (kernel_of T (asker a) ≡ i → IsWaiting (parked s (asker a))) → IsSound T i (ask_refused T i code a s)
-  ask_refused-sound s is code a sound refusal waits = cond_both (kernel_of T (asker a) == i) (call_refused (code_number code) (asker a) s) (refusal_sent T code a s) (IsSound T i) (λ local. call_refused-sound s is (code_number code) (asker a) refusal.1 (waits (eqb-true (kernel_of T (asker a)) i local))) (λ remote. refusal_sent-sound s is code a sound refusal (eqb-false (kernel_of T (asker a)) i remote))
+  pub ask_refused-sound : (s : Side) → IsSound T i s → (code : Code) (a : Ask) → IsSoundAsk T a → IsRefusal (code_number code) → (kernel_of T (asker a) ≡ i → IsWaiting (parked s (asker a))) → IsSound T i (ask_refused T i code a s) × NoMore s (ask_refused T i code a s)
+  ask_refused-sound s is code a sound refusal waits = cond_both (kernel_of T (asker a) == i) (call_refused (code_number code) (asker a) s) (refusal_sent T code a s) (λ t. IsSound T i t × NoMore s t) (λ local. call_refused-sound s is (code_number code) (asker a) refusal.1 (waits (eqb-true (kernel_of T (asker a)) i local))) (λ remote. refusal_sent-sound s is code a sound refusal (eqb-false (kernel_of T (asker a)) i remote))
 
   -- The end of a VPE.
 
@@ -132,8 +136,8 @@ module _ (T : Setup) (valid : IsSetup T) (i : ℕ) (few : i < T.kernels) where
       told (ObtainAsk place target) = dead
       told (DelegateAsk parent object sel) = dead
 
-  ask_ended-sound : (a : Ask) → IsSoundAsk T a → (s : Side) → IsSound T i s → IsSound T i (ask_ended T i a s)
-  ask_ended-sound a sound s is = cond_both (is_unawaited T i s a) s (ask_refused T i Dead a s) (IsSound T i) (λ _. is) (λ awaited. ask_refused-sound s is Dead a sound (omega arith, omega arith) (λ local. is-waiting a (parked s (asker a)) (awaited-waits T i s a awaited local)))
+  ask_ended-sound : (a : Ask) → IsSoundAsk T a → (s : Side) → IsSound T i s → IsSound T i (ask_ended T i a s) × NoMore s (ask_ended T i a s)
+  ask_ended-sound a sound s is = cond_both (is_unawaited T i s a) s (ask_refused T i Dead a s) (λ t. IsSound T i t × NoMore s t) (λ _. (is, no-more s)) (λ awaited. ask_refused-sound s is Dead a sound (omega arith, omega arith) (λ local. is-waiting a (parked s (asker a)) (awaited-waits T i s a awaited local)))
 
   -- what the parked call of a dead VPE leaves
   call_ended-sound : (s : Side) → IsSound T i s → (v : ℕ) → kernel_of T v ≡ i → (row s v).alive ≡ false → (p : Option Parked) → parked s v ≡ p → IsSound T i (call_ended T p v (unparked v s))
@@ -181,21 +185,33 @@ module _ (T : Setup) (valid : IsSetup T) (i : ℕ) (few : i < T.kernels) where
   revoked_if_there i k None s = s
   revoked_if_there i k (Some c) s = option_map_or (λ m. s) c.mark (begin T i k None [] false s)
 
-  revoked-sound : (k : KeyName) (o : Option Capability) (s : Side) → cap s k ≡ o → IsSound T i s → IsSound T i (revoked_if_there i k o s)
-  revoked-sound k None s held is = is
+  revoked-sound : (k : KeyName) (o : Option Capability) (s : Side) → cap s k ≡ o → IsSound T i s → IsSound T i (revoked_if_there i k o s) × NoMore s (revoked_if_there i k o s)
+  revoked-sound k None s held is = (is, no-more s)
   revoked-sound k (Some c) s held is = by_mark c.mark refl
     where
-      by_mark : (mark : Option ℕ) → c.mark ≡ mark → IsSound T i (option_map_or (λ n. s) mark (begin T i k None [] false s))
-      by_mark (Some n) marked = is
+      by_mark : (mark : Option ℕ) → c.mark ≡ mark → IsSound T i (option_map_or (λ n. s) mark (begin T i k None [] false s)) × NoMore s (option_map_or (λ n. s) mark (begin T i k None [] false s))
+      by_mark (Some n) marked = (is, no-more s)
       by_mark None unmarked = begin-sound T valid i few s is k None [] false c held unmarked tt (λ a b e lt within. absurd (omega (arith, lt, within))) (λ w none. absurd (Contains-nil w none)) (slack-of T valid i few s is)
 
-  pub ended-sound : (s : Side) → IsSound T i s → (v : ℕ) → kernel_of T v ≡ i → IsSound T i (ended T i v s)
+  -- what is done with the parked call of a dead VPE parks none
+  call_ended-parks : (q : Option Parked) (v : ℕ) (t : Side) → (call_ended T q v t).parks ≡ t.parks
+  call_ended-parks None v t = refl
+  call_ended-parks (Some (ObtainWait number sel)) v t = refl
+  call_ended-parks (Some (ObtainReady key parent object sel)) v t = refl
+  call_ended-parks (Some ObtainCancelled) v t = refl
+  call_ended-parks (Some (DelegateWait parent)) v t = refl
+  call_ended-parks (Some (DelegateReady parent key)) v t = refl
+  call_ended-parks (Some (RevokeWait j)) v t = refl
+  call_ended-parks (Some (Ready code)) v t = refl
+
+  pub ended-sound : (s : Side) → IsSound T i s → (v : ℕ) → kernel_of T v ≡ i → IsSound T i (ended T i v s) × NoMore (unparked v s) (ended T i v s)
   unfolding ended
   ended-sound s is v local =
       let asks : List Ask = (row s v).asks in
       let answered : Side = in_turn (ask_ended T i) asks (buried v s) in
       let left : Side = call_ended T (parked answered v) v (unparked v answered) in
-      let answered-sound : IsSound T i answered = in_turn-keeps_each (IsSound T i) (ask_ended T i) asks (λ a among t here. ask_ended-sound a ((is.rows v).asks a among) t here) (buried v s) (buried-sound T valid i few None None None None s is v local) in
+      let answered-sound : IsSound T i answered × NoMore s answered = in_turn-keeps_each (λ t. IsSound T i t × NoMore s t) (ask_ended T i) asks (λ a among t here. let step = ask_ended-sound a ((is.rows v).asks a among) t here.0 in (step.0, chained s t (ask_ended T i a t) here.1 step.1)) (buried v s) (buried-sound T valid i few None None None None s is v local, no-more s) in
       let dead : (row answered v).alive ≡ false = in_turn-keeps (IsDead v) (ask_ended T i) (λ a t here. ask_ended-dead v a t here) asks (buried v s) (ap (λ (r : VpeRow). r.alive) (get_or-put_same no_vpe s.vpes v (record (row s v) { alive = false; asks = [] }))) in
-      let left-sound : IsSound T i left = call_ended-sound answered answered-sound v local dead (parked answered v) refl in
-      in_turn-keeps (IsSound T i) (revoked_if_left T i) (λ k t here. revoked-sound k (cap t k) t refl here) (keys_of left v) left left-sound
+      let left-sound : IsSound T i left = call_ended-sound answered answered-sound.0 v local dead (parked answered v) refl in
+      let left-parks : NoMore (unparked v s) left = λ w. let less = unparked-both s answered v answered-sound.1 w in let same = ap (λ (ps : List (Option Parked)). one_if (get_or ps w None)) (call_ended-parks (parked answered v) v (unparked v answered)) in omega (arith, less, same) in
+      in_turn-keeps (λ t. IsSound T i t × NoMore (unparked v s) t) (revoked_if_left T i) (λ k t here. let step = revoked-sound k (cap t k) t refl here.0 in (step.0, chained (unparked v s) t (revoked_if_there i k (cap t k) t) here.1 step.1)) (keys_of left v) left (left-sound, left-parks)

@@ -28,6 +28,7 @@ use Rattle.sem_key.proofs.Members.{Contains-nil, Contains-cons_cases}
 use Rattle.sem_sound.proofs.Changing.{parked-same, parked-giving, freed-sound, number-dropped}
 use Rattle.sem_sound.proofs.Holding.{cap-among, send-sound, installed-sound}
 use Rattle.sem_sound.proofs.Jobbing.{parked-local, waits-not, up-sound, waiting-sound, lowered-sound}
+use Rattle.sem_sound.proofs.Parking.{NoMore, NoMoreBut, no-more, is-one, parked-again, parked-but}
 use Rattle.sem_sound.proofs.Finishing.{settled-sound}
 use Rattle.sem_sound.proofs.Opening.{next-job, begin-sound}
 
@@ -78,15 +79,19 @@ module _ (T : Setup) (valid : IsSetup T) (i : ℕ) (few : i < T.kernels) where
   pub slack-of : (s : Side) → IsSound T i s → ids_owed s + bit false ≤ ids_paid s
   slack-of s is = let before = is.ids in omega (arith, before)
 
+  -- what begins for a call that is parked now parks no other
+  also : (s : Side) (v : ℕ) (p : Parked) (t : Side) → IsSound T i t × NoMore (parked_as v p s) t → IsSound T i t × NoMoreBut v s t
+  also s v p t both = (both.0, λ w other. let now = both.1 w in let before = parked-but s v (Some p) w other in omega (arith, now, before))
+
   waits-now : (s : Side) (v j : ℕ) → parked (parked_as v (RevokeWait j) s) v ≡ Some (RevokeWait j)
   waits-now s v j = get_or-put_same None s.parks v (Some (RevokeWait j))
 
-  pub begun-sound : (s : Side) → IsSound T i s → (v : ℕ) → kernel_of T v ≡ i → parked s v ≡ None → (k : KeyName) (mark : Option ℕ) (c : Capability) → cap s k ≡ Some c → c.mark ≡ mark → IsSound T i (revoke_begun T i v k mark s)
+  pub begun-sound : (s : Side) → IsSound T i s → (v : ℕ) → kernel_of T v ≡ i → parked s v ≡ None → (k : KeyName) (mark : Option ℕ) (c : Capability) → cap s k ≡ Some c → c.mark ≡ mark → IsSound T i (revoke_begun T i v k mark s) × NoMoreBut v s (revoke_begun T i v k mark s)
   begun-sound s is v local free k None c held unmarked =
       let small = next-job T valid i None None None None s is in
       let waiting : Side = parked_as v (RevokeWait s.next_job) s in
       let parks : IsSound T i waiting = reparked-sound s is v local None free (λ j none. absurd cc) (Some (RevokeWait s.next_job)) (λ x same. subst (IsSoundCall T i v) (same_Some (RevokeWait s.next_job) x same) (omega (arith, small))) refl in
-      begin-sound T valid i few waiting parks k None (v ∷ []) false c held unmarked tt (λ a b e lt within. absurd (omega (arith, lt, within))) (λ w in_ws. elim (Contains-cons_cases v [] w in_ws) [ inl same ↦ subst (λ x. parked waiting x ≡ Some (RevokeWait s.next_job)) same (waits-now s v s.next_job) | inr none ↦ absurd (Contains-nil w none) ]) (slack-of waiting parks)
+      also s v (RevokeWait s.next_job) (revoke_begun T i v k None s) (begin-sound T valid i few waiting parks k None (v ∷ []) false c held unmarked tt (λ a b e lt within. absurd (omega (arith, lt, within))) (λ w in_ws. elim (Contains-cons_cases v [] w in_ws) [ inl same ↦ subst (λ x. parked waiting x ≡ Some (RevokeWait s.next_job)) same (waits-now s v s.next_job) | inr none ↦ absurd (Contains-nil w none) ]) (slack-of waiting parks))
   begun-sound s is v local free k (Some j) c held marked =
       let small = next-job T valid i None None None None s is in
       let x = (is.marker c j (cap-among T valid i few None None None None s is k c held).0 marked).0 in
@@ -94,48 +99,48 @@ module _ (T : Setup) (valid : IsSetup T) (i : ℕ) (few : i < T.kernels) where
       let id = x.2 in
       let waiting : Side = parked_as v (RevokeWait j) s in
       let parks : IsSound T i waiting = reparked-sound s is v local None free (λ j none. absurd cc) (Some (RevokeWait j)) (λ y same. subst (IsSoundCall T i v) (same_Some (RevokeWait j) y same) (omega (arith, small, below, id))) refl in
-      waiting-sound T i None None None None waiting parks j v (waits-now s v j)
+      (waiting-sound T i None None None None waiting parks j v (waits-now s v j), parked-but s v (Some (RevokeWait j)))
 
   -- a clear is paid for by the call
-  pub cleared-sound : (s : Side) → IsSound T i s → ids_owed s + 1 ≤ ids_paid s → (v : ℕ) → kernel_of T v ≡ i → parked s v ≡ None → (k : KeyName) (c : Capability) → cap s k ≡ Some c → c.mark ≡ None → IsSound T i (clear_begun T i v k s)
+  pub cleared-sound : (s : Side) → IsSound T i s → ids_owed s + 1 ≤ ids_paid s → (v : ℕ) → kernel_of T v ≡ i → parked s v ≡ None → (k : KeyName) (c : Capability) → cap s k ≡ Some c → c.mark ≡ None → IsSound T i (clear_begun T i v k s) × NoMoreBut v s (clear_begun T i v k s)
   cleared-sound s is slack v local free k c held unmarked =
       let small = next-job T valid i None None None None s is in
       let waiting : Side = parked_as v (RevokeWait s.next_job) s in
       let parks : IsSound T i waiting = reparked-sound s is v local None free (λ j none. absurd cc) (Some (RevokeWait s.next_job)) (λ x same. subst (IsSoundCall T i v) (same_Some (RevokeWait s.next_job) x same) (omega (arith, small))) refl in
       let weight = weigh-put (λ (p : Option Parked). one_if (kept p)) None refl s.parks v (Some (RevokeWait s.next_job)) in
       let none = ap (λ (p : Option Parked). one_if (kept p)) free in
-      begin-sound T valid i few waiting parks k None (v ∷ []) true c held unmarked tt (λ a b e lt within. absurd (omega (arith, lt, within))) (λ w in_ws. elim (Contains-cons_cases v [] w in_ws) [ inl same ↦ subst (λ x. parked waiting x ≡ Some (RevokeWait s.next_job)) same (waits-now s v s.next_job) | inr none' ↦ absurd (Contains-nil w none') ]) (omega (arith, slack, weight, none))
+      also s v (RevokeWait s.next_job) (clear_begun T i v k s) (begin-sound T valid i few waiting parks k None (v ∷ []) true c held unmarked tt (λ a b e lt within. absurd (omega (arith, lt, within))) (λ w in_ws. elim (Contains-cons_cases v [] w in_ws) [ inl same ↦ subst (λ x. parked waiting x ≡ Some (RevokeWait s.next_job)) same (waits-now s v s.next_job) | inr none' ↦ absurd (Contains-nil w none') ]) (omega (arith, slack, weight, none)))
 
   -- A request: begin, wait, or cancel.
   module _ (s : Side) (is : IsSound T i s) where
-    cancelled-sound : (k : KeyName) → IsSound T i (obtain_cancelled k s)
+    cancelled-sound : (k : KeyName) → IsSound T i (obtain_cancelled k s) × NoMore s (obtain_cancelled k s)
     cancelled-sound k = from (parked s k.vpe) refl
       where
-        from : (p : Option Parked) → parked s k.vpe ≡ p → IsSound T i (if is_ready_with k p then parked_as k.vpe ObtainCancelled (ready_freed p k.vpe s) else s)
-        from None at = is
-        from (Some (ObtainReady key parent object sel)) at = cond_both (is_ready_with k (Some (ObtainReady key parent object sel))) (parked_as k.vpe ObtainCancelled (freed k.vpe sel s)) s (IsSound T i) (λ _. released-sound s is k.vpe (ObtainReady key parent object sel) at key.number sel refl (Some ObtainCancelled) (λ x same. subst (IsSoundCall T i k.vpe) (same_Some ObtainCancelled x same) tt) refl) (λ _. is)
-        from (Some (ObtainWait number sel)) at = is
-        from (Some ObtainCancelled) at = is
-        from (Some (DelegateWait parent)) at = is
-        from (Some (DelegateReady parent key)) at = is
-        from (Some (RevokeWait j)) at = is
-        from (Some (Ready code)) at = is
+        from : (p : Option Parked) → parked s k.vpe ≡ p → IsSound T i (if is_ready_with k p then parked_as k.vpe ObtainCancelled (ready_freed p k.vpe s) else s) × NoMore s (if is_ready_with k p then parked_as k.vpe ObtainCancelled (ready_freed p k.vpe s) else s)
+        from None at = (is, no-more s)
+        from (Some (ObtainReady key parent object sel)) at = cond_both (is_ready_with k (Some (ObtainReady key parent object sel))) (parked_as k.vpe ObtainCancelled (freed k.vpe sel s)) s (λ t. IsSound T i t × NoMore s t) (λ _. (released-sound s is k.vpe (ObtainReady key parent object sel) at key.number sel refl (Some ObtainCancelled) (λ x same. subst (IsSoundCall T i k.vpe) (same_Some ObtainCancelled x same) tt) refl, parked-again s k.vpe (Some ObtainCancelled) (let was = is-one s k.vpe (ObtainReady key parent object sel) at in omega (arith, was)))) (λ _. (is, no-more s))
+        from (Some (ObtainWait number sel)) at = (is, no-more s)
+        from (Some ObtainCancelled) at = (is, no-more s)
+        from (Some (DelegateWait parent)) at = (is, no-more s)
+        from (Some (DelegateReady parent key)) at = (is, no-more s)
+        from (Some (RevokeWait j)) at = (is, no-more s)
+        from (Some (Ready code)) at = (is, no-more s)
 
-    request-sound : (from j : ℕ) → from < T.kernels → from ≢ i → IsJobId j → (k : KeyName) (mark : Option ℕ) (c : Capability) → cap s k ≡ Some c → c.mark ≡ mark → IsSound T i (request_begun T i from j k mark s)
+    request-sound : (from j : ℕ) → from < T.kernels → from ≢ i → IsJobId j → (k : KeyName) (mark : Option ℕ) (c : Capability) → cap s k ≡ Some c → c.mark ≡ mark → IsSound T i (request_begun T i from j k mark s) × NoMore s (request_begun T i from j k mark s)
     request-sound from j kernel other id k None c held unmarked = begin-sound T valid i few s is k (Some (Remote from j)) [] false c held unmarked (kernel, other, id) (λ a b e lt within. absurd (omega (arith, lt, within))) (λ w none. absurd (Contains-nil w none)) (slack-of s is)
-    request-sound from j kernel other id k (Some m) c held marked = up-sound T i None None None None s is (Remote from j) m (kernel, other, id)
+    request-sound from j kernel other id k (Some m) c held marked = (up-sound T i None None None None s is (Remote from j) m (kernel, other, id), no-more s)
 
-    pub requested-sound : (from j : ℕ) → from < T.kernels → from ≢ i → IsJobId j → (k : KeyName) (o : Option Capability) → cap s k ≡ o → IsSound T i (revoke_requested T i from j k o s)
+    pub requested-sound : (from j : ℕ) → from < T.kernels → from ≢ i → IsJobId j → (k : KeyName) (o : Option Capability) → cap s k ≡ o → IsSound T i (revoke_requested T i from j k o s) × NoMore s (revoke_requested T i from j k o s)
     requested-sound from j kernel other id k (Some c) held = request-sound from j kernel other id k c.mark c held refl
-    requested-sound from j kernel other id k None none = send-sound T valid i few None None None None (obtain_cancelled k s) (cancelled-sound k) from (RevokeDone j) (id, kernel, other)
+    requested-sound from j kernel other id k None none = let cancels = cancelled-sound k in (send-sound T valid i few None None None None (obtain_cancelled k s) cancels.0 from (RevokeDone j) (id, kernel, other), cancels.1)
 
-    pub done-sound : (j : ℕ) → IsSound T i (revoke_done T i j s)
+    pub done-sound : (j : ℕ) → IsSound T i (revoke_done T i j s) × NoMore s (revoke_done T i j s)
     done-sound j = by_job (job s j) s is
       where
         settled_if_there : Setup → ℕ → ℕ → Option JobRow → Side → Side
         settled_if_there T i j None s = s
         settled_if_there T i j (Some x) s = settled T i j (count_lowered j s)
 
-        by_job : (o : Option JobRow) (t : Side) → IsSound T i t → IsSound T i (settled_if_there T i j o t)
-        by_job None t here = here
+        by_job : (o : Option JobRow) (t : Side) → IsSound T i t → IsSound T i (settled_if_there T i j o t) × NoMore t (settled_if_there T i j o t)
+        by_job None t here = (here, no-more t)
         by_job (Some x) t here = settled-sound T valid i few j (count_lowered j t) (lowered-sound T i None None None t here j)

@@ -1,5 +1,5 @@
 -- Every act that is locally enabled keeps a side sound.
-use Rattle.std.proofs.Common.{◌≡◌, ◌≢◌, ℕ, ◌<◌, ◌&&◌, true, not, List, [], Option, Some, None, is_none, is_some, slice_get, refl, subst, arith}
+use Rattle.std.proofs.Common.{◌≡◌, ◌≢◌, ℕ, ◌+◌, sym, ◌<◌, ◌≤◌, ◌&&◌, true, not, List, [], Option, Some, None, is_none, is_some, slice_get, refl, subst, arith, ◌∙◌}
 use Rattle.std.specs.Prelude.{◌==◌, nat_lt}
 use Rattle.std.specs.List.{Contains}
 use Rattle.std.specs.Option.{option_map, option_map_or}
@@ -17,21 +17,24 @@ use Rattle.sem_msg.specs.Calls.{IsValidCall}
 use Rattle.sem_msg.specs.Versions.{most_vpes}
 use Rattle.sem_msg.specs.Setup.{Setup, IsSetup, IsVpeDecl}
 use Rattle.sem_msg.specs.Lookups.{decl, kernel_of, calls_of}
-use Rattle.sem_machine.specs.Sides.{Side, row, parked, is_alive, call_counted, ask_taken, with_inbox}
-use Rattle.sem_machine.specs.Steps.{plain}
+use Rattle.sem_machine.specs.Sides.{Side, row, parked, is_alive, call_counted, ask_taken, with_inbox, unparked}
+use Rattle.sem_machine.specs.Steps.{plain, Step}
 use Rattle.sem_machine.specs.Calls.{call_row}
 use Rattle.sem_machine.specs.Upcalls.{ask_decided, upcall_row}
-use Rattle.sem_machine.specs.Resumes.{can_resume, resume_row}
+use Rattle.sem_machine.specs.Resumes.{can_resume, resumed, resume_row}
 use Rattle.sem_machine.specs.Handles.{handled}
 use Rattle.sem_machine.specs.Machine.{next_call, local_step, is_locally_enabled, is_other_kernel}
 use Rattle.sem_key.proofs.Members.{found}
-use Rattle.sem_machine.specs.Sound.{IsSoundMessage, IsSound}
-use Rattle.sem_sound.specs.SoundWorlds.{IsSoundInput}
-use Rattle.sem_sound.proofs.Changing.{counted-sound, counted-pays, taken-sound}
+use Rattle.sem_machine.specs.Sound.{IsSoundMessage, IsSound, one_if, bit}
+use Rattle.sem_sound.specs.SoundWorlds.{IsSoundInput, parked_calls}
+use Rattle.sem_machine.specs.Seeded.{is_call}
+use Rattle.sem_machine.specs.Ends.{ended}
+use Rattle.sem_sound.proofs.Changing.{local-place, counted-sound, counted-pays, taken-sound}
 use Rattle.sem_sound.proofs.Holding.{sent-sound, inbox-sound}
 use Rattle.sem_sound.proofs.Refusing.{ended-sound}
 use Rattle.sem_sound.proofs.Calling.{call_row-sound}
-use Rattle.sem_sound.proofs.Answering.{decided-sound, resumed-sound}
+use Rattle.sem_sound.proofs.Answering.{Unanswered, decided-sound, resumed-sound}
+use Rattle.sem_sound.proofs.Parking.{NoMore, chained, unparked-but, unparked-no_more, sums-less, sums-but}
 use Rattle.sem_sound.proofs.Handling.{handled-sound}
 
 first-among : (xs : List Ask) (a : Ask) → slice_get xs 0 ≡ Some a → Contains xs a
@@ -53,7 +56,18 @@ module _ (T : Setup) (valid : IsSetup T) (i : ℕ) (few : i < T.kernels) where
           All-contains (IsValidCall (most_vpes T.version)) d.calls c declared.calls (n, slice_get_within d.calls n c at, get_or_from_slice_get d.calls n c c at)
 
   module _ (s : Side) (is : IsSound T i s) where
-    called-sound : (v : ℕ) (input : Option Message) → is_locally_enabled T i s (Calls v) ≡ true → IsSound T i (local_step T i s (Calls v) input).side
+    -- the side after it is sound, and what is answered and parked was parked before, or called now
+    abbrev Kept : Act → Step → Type 0
+    Kept act x = IsSound T i x.side × (one_if x.outcome.reply + parked_calls x.side ≤ parked_calls s + bit (is_call act))
+
+    fewer : (t : Side) → IsSound T i t → NoMore s t → parked_calls t ≤ parked_calls s
+    fewer t there less = sums-less (λ (p : Option Parked). one_if p) None t.parks s.parks (there.park_places ∙ sym is.park_places) less
+
+    -- where nobody is answered
+    quiet : (act : Act) (x : Step) → IsSound T i x.side × NoMore s x.side → one_if x.outcome.reply ≡ 0 → Kept act x
+    quiet act x both none = (both.0, let less = fewer x.side both.0 both.1 in omega (arith, less, none))
+
+    called-sound : (v : ℕ) (input : Option Message) → is_locally_enabled T i s (Calls v) ≡ true → Kept (Calls v) (local_step T i s (Calls v) input)
     unfolding local_step is_locally_enabled
     called-sound v input enabled =
         let one = and_parts (kernel_of T v == i) (is_alive s v && (is_none (parked s v) && is_some (next_call T s v))) enabled in
@@ -61,32 +75,59 @@ module _ (T : Setup) (valid : IsSetup T) (i : ℕ) (few : i < T.kernels) where
         let three = and_parts (is_none (parked s v)) (is_some (next_call T s v)) two.1 in
         from (eqb-true (kernel_of T v) i one.0) (none-is (parked s v) three.0) (next_call T s v) refl
       where
-        from : kernel_of T v ≡ i → parked s v ≡ None → (o : Option Call) → next_call T s v ≡ o → IsSound T i (option_map_or (call_row T i (call_counted v s) v) o (plain s)).side
-        from local idle None at = is
+        from : kernel_of T v ≡ i → parked s v ≡ None → (o : Option Call) → next_call T s v ≡ o → Kept (Calls v) (option_map_or (call_row T i (call_counted v s) v) o (plain s))
+        from local idle None at = (is, omega arith)
         from local idle (Some c) at =
             let t : Side = call_counted v s in
             let counted = counted-sound T valid i few None None None None s is v local (slice_get_within (calls_of T v) (row s v).next_call c at) in
             let still : parked t v ≡ None = idle in
-            call_row-sound T valid i few t counted v local still (counted-pays T valid i few None None None None s is v local) c (call-valid v (row s v).next_call c at)
+            let x : Step = call_row T i t v c in
+            let done = call_row-sound T valid i few t counted v local still (counted-pays T valid i few None None None None s is v local) c (call-valid v (row s v).next_call c at) in
+            let place = local-place T valid i few v local in
+            let long = is.park_places in
+            let here = done.1.1 in
+            let all = sums-but (λ (p : Option Parked). one_if p) None (one_if x.outcome.reply) 1 x.side.parks s.parks v (done.0.park_places ∙ sym is.park_places) (omega (arith, place, long)) done.1.0 (omega (arith, here)) in
+            (done.0, omega (arith, all))
 
-    upcalled-sound : (v : ℕ) → kernel_of T v ≡ i → IsSound T i (upcall_row T i s v).side
+    upcalled-sound : (v : ℕ) → kernel_of T v ≡ i → Kept (Upcall v) (upcall_row T i s v)
     unfolding upcall_row
     upcalled-sound v local = from (slice_get (row s v).asks 0) refl
       where
-        from : (o : Option Ask) → slice_get (row s v).asks 0 ≡ o → IsSound T i (option_map_or (λ a. ask_decided T i v a (ask_taken v s)) o (plain s)).side
-        from None at = is
-        from (Some a) at = decided-sound T valid i few (ask_taken v s) (taken-sound T valid i few None None None None s is v local) v local a ((is.rows v).asks a (first-among (row s v).asks a at))
+        from : (o : Option Ask) → slice_get (row s v).asks 0 ≡ o → Kept (Upcall v) (option_map_or (λ a. ask_decided T i v a (ask_taken v s)) o (plain s))
+        from None at = (is, omega arith)
+        from (Some a) at = decides a (decided-sound T valid i few (ask_taken v s) (taken-sound T valid i few None None None None s is v local) v local a ((is.rows v).asks a (first-among (row s v).asks a at)))
+          where
+            decides : (a : Ask) → IsSound T i (ask_decided T i v a (ask_taken v s)).side × Unanswered (ask_taken v s) (ask_decided T i v a (ask_taken v s)) → Kept (Upcall v) (ask_decided T i v a (ask_taken v s))
+            decides a done = quiet (Upcall v) (ask_decided T i v a (ask_taken v s)) (done.0, done.1.0) done.1.1
 
-    went-on : (v : ℕ) → kernel_of T v ≡ i → can_resume (parked s v) ≡ true → IsSound T i (resume_row T s v).side
+    went-on : (v : ℕ) → kernel_of T v ≡ i → can_resume (parked s v) ≡ true → Kept (Resume v) (resume_row T s v)
     unfolding resume_row
-    went-on v local can = resumed-sound T valid i few s is v local (parked s v) refl can
+    went-on v local can =
+        let x : Step = resumed T (parked s v) (unparked v s) in
+        let done = resumed-sound T valid i few s is v local (parked s v) refl can in
+        let unparks = unparked-but s x.side v done.1 in
+        let none = unparks.1 in
+        let was = can-one (parked s v) can in
+        let place = local-place T valid i few v local in
+        let long = is.park_places in
+        let all = sums-but (λ (p : Option Parked). one_if p) None 1 0 x.side.parks s.parks v (done.0.park_places ∙ sym is.park_places) (omega (arith, place, long)) unparks.0 (omega (arith, none, was)) in
+        let most = reply-most x.outcome.reply in
+        (done.0, omega (arith, all, most))
+      where
+        can-one : (p : Option Parked) → can_resume p ≡ true → one_if p ≡ 1
+        can-one None can = absurd cc
+        can-one (Some p) can = refl
 
-    pub step-sound : (act : Act) → is_locally_enabled T i s act ≡ true → (input : Option Message) → IsSoundInput act input → IsSound T i (local_step T i s act input).side
+        reply-most : (o : Option ℕ) → one_if o ≤ 1
+        reply-most None = omega arith
+        reply-most (Some n) = omega arith
+
+    pub step-sound : (act : Act) → is_locally_enabled T i s act ≡ true → (input : Option Message) → IsSoundInput act input → Kept act (local_step T i s act input)
     unfolding local_step is_locally_enabled
     step-sound (Calls v) enabled input fits = called-sound v input enabled
     step-sound (Fetch from) enabled input fits =
         let other = and_parts (nat_lt from T.kernels) (not (from == i)) (and_parts (is_other_kernel T i from) (is_none s.inbox) enabled).0 in
-        inbox-sound T valid i few None None None None s is (option_map {U = ℕ × Message} (λ m. (from, m)) input) (fetched input fits (ltb-true from T.kernels other.0) (eqb-false from i (not-true (from == i) other.1)))
+        (inbox-sound T valid i few None None None None s is (option_map {U = ℕ × Message} (λ m. (from, m)) input) (fetched input fits (ltb-true from T.kernels other.0) (eqb-false from i (not-true (from == i) other.1))), omega arith)
       where
         fetched : (o : Option Message) → IsSoundInput (Fetch from) o → from < T.kernels → from ≢ i → (k : ℕ) (m : Message) → option_map {U = ℕ × Message} (λ x. (from, x)) o ≡ Some (k, m) → IsSoundMessage T i k m
         fetched None fits' kernel other k m none = absurd cc
@@ -95,14 +136,16 @@ module _ (T : Setup) (valid : IsSetup T) (i : ℕ) (few : i < T.kernels) where
             subst (λ q. IsSoundMessage T i q m) parts.0 (subst (IsSoundMessage T i from) parts.1 (fits', kernel, other))
     step-sound Handle enabled input fits = from s.inbox refl
       where
-        from : (o : Option (ℕ × Message)) → s.inbox ≡ o → IsSound T i (option_map_or (λ m. handled T i (with_inbox None s) m.0 m.1) o s)
-        from None at = is
-        from (Some (k, m)) at = handled-sound T valid i few (with_inbox None s) (inbox-sound T valid i few None None None None s is None (λ q x none. absurd cc)) k m (is.inbox k m at)
+        from : (o : Option (ℕ × Message)) → s.inbox ≡ o → Kept Handle (plain (option_map_or (λ m. handled T i (with_inbox None s) m.0 m.1) o s))
+        from None at = (is, omega arith)
+        from (Some (k, m)) at = quiet Handle (plain (handled T i (with_inbox None s) k m)) (handled-sound T valid i few (with_inbox None s) (inbox-sound T valid i few None None None None s is None (λ q x none. absurd cc)) k m (is.inbox k m at)) refl
     step-sound (Upcall v) enabled input fits = upcalled-sound v (eqb-true (kernel_of T v) i (and_parts (kernel_of T v == i) (is_alive s v && is_some (slice_get (row s v).asks 0)) enabled).0)
     step-sound (Resume v) enabled input fits =
         let both = and_parts (kernel_of T v == i) (can_resume (parked s v)) enabled in
         went-on v (eqb-true (kernel_of T v) i both.0) both.1
     step-sound (Flush to) enabled input fits =
         let other = and_parts (nat_lt to T.kernels) (not (to == i)) (and_parts (is_other_kernel T i to) _ enabled).0 in
-        sent-sound T valid i few None None None None s is to (ltb-true to T.kernels other.0)
-    step-sound (Kill v) enabled input fits = ended-sound T valid i few s is v (eqb-true (kernel_of T v) i (and_parts (kernel_of T v == i) _ enabled).0)
+        (sent-sound T valid i few None None None None s is to (ltb-true to T.kernels other.0), omega arith)
+    step-sound (Kill v) enabled input fits =
+        let ends = ended-sound T valid i few s is v (eqb-true (kernel_of T v) i (and_parts (kernel_of T v == i) _ enabled).0) in
+        quiet (Kill v) (plain (ended T i v s)) (ends.0, chained s (unparked v s) (ended T i v s) (unparked-no_more s v) ends.1) refl

@@ -1,12 +1,14 @@
 -- What is so of the messages that a kernel fetches, and of all kernels together ("Soundness" in docs/proof.md).
-use Rattle.std.specs.Prelude.{ℕ, ◌<◌, Contains, Option, Some, None}
+use Rattle.std.specs.Prelude.{ℕ, ◌<◌, ◌≤◌, length, sum_by, Contains, Option, Some, None}
+use Rattle.sem_msg.specs.declared.state.Parked.{Parked}
 use Rattle.sem_msg.specs.declared.message.Message.{Message}
 use Rattle.sem_msg.specs.declared.event.Act.{Act}
 use Rattle.sem_msg.specs.declared.event.Act.TheVariants.{Fetch}
 use Rattle.sem_msg.specs.Message.{Fits}
 use Rattle.sem_msg.specs.Setup.{Setup}
 use Rattle.sem_machine.specs.Machine.{World, side, link}
-use Rattle.sem_machine.specs.Sound.{IsSound}
+use Rattle.sem_machine.specs.Sides.{Side}
+use Rattle.sem_machine.specs.Sound.{one_if, IsSound}
 
 -- what a fetch takes out of a link fits
 abbrev pub IsSoundInput : Act → Option Message → Type 0
@@ -14,7 +16,15 @@ IsSoundInput (Fetch from) None = Unit {0}
 IsSoundInput (Fetch from) (Some m) = Fits m
 IsSoundInput act input = Unit {0}
 
--- the sides of all kernels are sound, and what is in the links fits
+-- the sides of all kernels are sound; what is in the links fits, and is no more than the window of the setup
 pub record IsSoundWorld (T : Setup) (W : World) : Type 0 where
   pub sides : (i : ℕ) → i < T.kernels → IsSound T i (side W i)
   pub links : (i j : ℕ) (m : Message) → Contains (link W i j) m → Fits m
+  pub windows : (i j : ℕ) → length (link W i j) ≤ T.window
+
+-- how many calls are parked
+abbrev pub parked_calls : Side → ℕ
+parked_calls s = sum_by (λ (p : Option Parked). one_if p) s.parks
+
+abbrev pub calls_parked : World → ℕ
+calls_parked W = sum_by parked_calls W.sides
