@@ -25,6 +25,7 @@ fn derived(
 // What a revoke by VPE 0 shows.
 fn revoked(rt: &impl Abort, alloc: Global, side: &mut Side, src: u8) -> Result<Outcome, Fail> {
     assert!(rt; !side.vpes.is_empty());
+    assert!(rt; !side.parks.is_empty());
     assert!(rt; has_selector(side, 0, src));
     assert!(rt; selectors_fit(side));
     assert!(rt; side.next_job < 100);
@@ -33,7 +34,7 @@ fn revoked(rt: &impl Abort, alloc: Global, side: &mut Side, src: u8) -> Result<O
 
 // The code with which the call of VPE 0 that is ready ends.
 fn resumed(rt: &impl Abort, side: &mut Side) -> Option<u8> {
-    assert!(rt; !side.vpes.is_empty());
+    assert!(rt; !side.parks.is_empty());
     resume(side, 0).and_then(|outcome| outcome.reply)
 }
 
