@@ -108,7 +108,7 @@ module _ (T : Setup) (valid : IsSetup T) (i : ℕ) (few : i < T.kernels) where
 
       -- the call is answered
       replied-now : Answered v s (answer OkCode s)
-      replied-now = ((λ w other. omega arith), let none = ap (λ (o : Option Parked). one_if o) idle in omega (arith, none))
+      replied-now = (((λ w other. omega arith), (λ fit. fit)), let none = ap (λ (o : Option Parked). one_if o) idle in omega (arith, none))
 
       -- the call is parked
       parked-now : (p : Parked) → Answered v s (plain (parked_as v p s))

@@ -1,29 +1,14 @@
 -- What the calls of the stores want of a sound side: ids, calls and counts that fit.
-use Rattle.std.proofs.Common.{◌≡◌, ℕ, ◌+◌, ◌<◌, ◌≤◌, Bool, false, List, [], ◌∷◌, length, Option, Some, None, refl, sym, ap, subst, ◌∙◌, inl, inr, arith}
-use Rattle.std.specs.Prelude.{◌==◌, if◌then◌else◌}
-use Rattle.std.specs.List.{Contains}
+use Rattle.std.proofs.Common.{◌≡◌, ℕ, ◌<◌, ◌≤◌, [], length, Option, Some, None, refl, arith}
+use Rattle.std.specs.Prelude.{◌==◌}
 use Rattle.std.specs.Option.{option_map_or}
-use Rattle.std.proofs.lemmas.Bool.{cond_both}
-use Rattle.std.proofs.lemmas.List.Elements.{Contains-push_cases}
-use Rattle.sem_key.specs.KeyName.{KeyName}
-use Rattle.sem_key.specs.Lists.{in_turn, change}
-use Rattle.sem_key.specs.Capability.{Capability}
-use Rattle.sem_msg.specs.declared.message.Message.TheVariants.{RevokeReq}
 use Rattle.sem_msg.specs.declared.setup.VpeDecl.{VpeDecl}
-use Rattle.sem_msg.specs.declared.state.Up.{Up}
-use Rattle.sem_msg.specs.declared.state.Up.TheVariants.{Local}
-use Rattle.sem_msg.specs.Rows.{JobRow}
 use Rattle.sem_msg.specs.Setup.{Setup, IsSetup, call_count}
-use Rattle.sem_msg.specs.Lookups.{decl, owner_of, is_local}
-use Rattle.sem_machine.specs.Sound.{IsNamed, IsSound}
-use Rattle.sem_machine.specs.Sides.{Side, row, cap, job_opened, mark_all, unbind_all, send}
-use Rattle.sem_key.specs.Region.{region, children_of, linked_from}
-use Rattle.sem_machine.specs.Revokes.{other_marker, adopted, with_up, count_raised, request_or_adopt}
-use Rattle.sem_key.proofs.Members.{found, Contains-from_map}
-use Rattle.sem_machine.proofs.Doomed.{region-doomed, children-doomed}
+use Rattle.sem_msg.specs.Lookups.{decl}
+use Rattle.sem_machine.specs.Sound.{IsSound}
+use Rattle.sem_machine.specs.Sides.{Side, row}
+use Rattle.sem_key.proofs.Members.{found}
 use Rattle.sem_machine.proofs.Weighing.{weigh-among}
-use Rattle.sem_sound.proofs.Rising.{key_set-rises, keys-few}
-use Rattle.sem_sound.proofs.Holding.{cap-among}
 use Rattle.sem_sound.proofs.Opening.{next-job}
 
 module _ (T : Setup) (valid : IsSetup T) (i : ℕ) (few : i < T.kernels) (s : Side) (is : IsSound T i s) where
@@ -40,56 +25,3 @@ module _ (T : Setup) (valid : IsSetup T) (i : ℕ) (few : i < T.kernels) (s : Si
       from : (o : Option VpeDecl) → decl T v ≡ o → length (option_map_or (λ d. d.calls) o []) ≤ call_count T
       from None none = omega arith
       from (Some d) there = weigh-among (λ (x : VpeDecl). length x.calls) T.vpes d (found (λ (x : VpeDecl). x.vpe == v) T.vpes d there).0
-
-  -- the children of a region are named, and fewer than a count can be
-  pub children-named : (root : KeyName) (c : Capability) → cap s root ≡ Some c → (k : KeyName) → Contains (children_of s.caps (region s.caps root)) k → IsNamed T k
-  children-named root c held k among =
-      let at = cap-among T valid i few None None None None s is root c held in
-      let links : (d : Capability) → Contains s.caps d → (q : KeyName) → Contains d.children q → IsNamed T q = λ d in_caps q child. (is.caps d in_caps).children q child in
-      let region-named = region-doomed (λ q r. IsNamed T r) (IsNamed T) (λ q r g m. g) s.caps links root (subst (IsNamed T) at.1 (is.caps c at.0).own.0) in
-      children-doomed (λ q r. IsNamed T r) (IsNamed T) (λ q r g m. g) s.caps links (region s.caps root) region-named k among
-
-  pub children-fit : (root : KeyName) (c : Capability) → cap s root ≡ Some c → length (children_of s.caps (region s.caps root)) ≤ 9223372036854775808
-  children-fit root c held = keys-few (children_of s.caps (region s.caps root)) (key_set-rises (linked_from s.caps (region s.caps root))) (λ k among. (children-named root c held k among).0)
-
--- Counts.
-
--- each job of that id has so many tokens out at most
-abbrev Few : ℕ → ℕ → Side → Type 0
-Few j m t = (x : JobRow) → Contains t.jobs x → x.id ≡ j → x.count ≤ m
-
-changed-few : (j m n q : ℕ) (f : JobRow → JobRow) → ((x : JobRow) → ((f x).id ≡ x.id) × ((f x).count ≤ x.count + n)) → (t : Side) → Few j m t → Few j (m + n) (record t { jobs = change (λ x. x.id == q) f t.jobs })
-changed-few j m n q f more t is x among id =
-    let g : JobRow → JobRow = λ y. if y.id == q then f y else y in
-    let o = Contains-from_map g t.jobs x among in
-    let both : ((g o.0).id ≡ o.0.id) × ((g o.0).count ≤ o.0.count + n) = cond_both (o.0.id == q) (f o.0) o.0 (λ (y : JobRow). (y.id ≡ o.0.id) × (y.count ≤ o.0.count + n)) (λ _. more o.0) (λ _. (refl, omega arith)) in
-    let before = is o.0 o.1 (sym both.0 ∙ (ap (λ (y : JobRow). y.id) o.2 ∙ id)) in
-    let count : (g o.0).count ≡ x.count = ap (λ (y : JobRow). y.count) o.2 in
-    let grown = both.1 in
-    omega (arith, before, count, grown)
-
-request-few : (T : Setup) (i j m : ℕ) (k : KeyName) (t : Side) → Few j m t → Few j (m + 1) (request_or_adopt T i j k t)
-request-few T i j m k t is = cond_both (is_local T i k) (adopted j (other_marker j (cap t k)) t) (count_raised j (send (owner_of T k) (RevokeReq k j) t)) (Few j (m + 1)) (λ _. adopts (other_marker j (cap t k))) (λ _. changed-few j m 1 j (λ x. record x { count = x.count + 1 }) (λ x. (refl, omega arith)) (send (owner_of T k) (RevokeReq k j) t) is)
-  where
-    adopts : (o : Option ℕ) → Few j (m + 1) (adopted j o t)
-    adopts None = λ x among id. let before = is x among id in omega (arith, before)
-    adopts (Some q) = changed-few j m 1 j (λ x. record x { count = x.count + 1 }) (λ x. (refl, omega arith)) (with_up (Local j) q t) (λ x among id. let same = changed-few j m 0 q (λ y. record y { up = Some (Local j); keep = false }) (λ y. (refl, omega arith)) t is x among id in omega (arith, same))
-
-requests-few : (T : Setup) (i j m : ℕ) (ks : List KeyName) (t : Side) → Few j m t → Few j (m + length ks) (in_turn (request_or_adopt T i j) ks t)
-unfolding in_turn
-requests-few T i j m [] t is = λ x among id. let before = is x among id in omega (arith, before)
-requests-few T i j m (k ∷ ks) t is = λ x among id. let all = requests-few T i j (m + 1) ks (request_or_adopt T i j k t) (request-few T i j m k t is) x among id in omega (arith, all)
-
--- a job is opened and its region marked
-abbrev pub opened : Side → KeyName → Option Up → List ℕ → Bool → Side
-opened s root up ws keep = unbind_all (region s.caps root) (mark_all (region s.caps root) s.next_job (job_opened root up ws keep s))
-
--- while a job is opened, it has no more tokens out than children were settled
-pub counts-fit : (T : Setup) (i : ℕ) (s : Side) → IsSound T i s → (root : KeyName) (up : Option Up) (ws : List ℕ) (keep : Bool) (settled : List KeyName) (x : JobRow) → Contains (in_turn (request_or_adopt T i s.next_job) settled (opened s root up ws keep)).jobs x → x.id ≡ s.next_job → x.count ≤ length settled
-counts-fit T i s is root up ws keep settled x among id = let all = requests-few T i s.next_job 0 settled (opened s root up ws keep) first x among id in omega (arith, all)
-  where
-    first : Few s.next_job 0 (opened s root up ws keep)
-    first y in_jobs same = elim (Contains-push_cases s.jobs (record { id = s.next_job; root = root; up = up; waiters = ws; count = 0; keep = keep }) y in_jobs) [
-      | inl before ↦ let below = is.ids_drawn y before in absurd (omega (arith, below, same))
-      | inr new ↦ let none : 0 ≡ y.count = ap (λ (z : JobRow). z.count) new in omega (arith, none)
-    ]

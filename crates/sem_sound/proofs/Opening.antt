@@ -38,6 +38,7 @@ use Rattle.sem_sound.proofs.Named.{named-owner}
 use Rattle.sem_sound.proofs.Holding.{one-cap, cap-among, send-sound}
 use Rattle.sem_sound.proofs.Jobbing.{raised-sound, up-sound}
 use Rattle.sem_sound.proofs.Parking.{NoMore, opened-parks}
+use Rattle.sem_sound.proofs.Counting.{opened-fit}
 use Rattle.sem_sound.proofs.Finishing.{settled-sound}
 use Rattle.sem_msg.specs.declared.state.Parked.{Parked}
 
@@ -287,4 +288,4 @@ module _ (T : Setup) (valid : IsSetup T) (i : ℕ) (few : i < T.kernels) where
         let o : Side = opened T i root up ws keep s in
         let ends = settled-sound T valid i few j o opened-sound in
         let same = opened-parks T i root up ws keep s in
-        (ends.0, λ w. let now = ends.1 w in let before = ap (λ (ps : List (Option Parked)). one_if (get_or ps w None)) same in omega (arith, now, before))
+        (ends.0, ((λ w. let now = ends.1.0 w in let before = ap (λ (ps : List (Option Parked)). one_if (get_or ps w None)) same in omega (arith, now, before)), (λ fit. ends.1.1 (opened-fit T valid i few s is root up ws keep r held' fit))))

@@ -34,7 +34,8 @@ use Rattle.sem_sound.proofs.Named.{declared-kernel, declared-below}
 use Rattle.sem_sound.proofs.Changing.{buried-sound, parked-same, parked-giving, number-dropped, selector-dropped}
 use Rattle.sem_sound.proofs.Holding.{send-sound}
 use Rattle.sem_sound.proofs.Jobbing.{parked-local, waits-not, leaving-sound}
-use Rattle.sem_sound.proofs.Parking.{NoMore, no-more, chained, is-one, parked-again, unparked-both}
+use Rattle.sem_sound.proofs.Parking.{NoMore, no-more, chained, is-one, parked-again, unparked-both, mapped-fit}
+use Rattle.sem_sound.specs.SoundWorlds.{CountsFit}
 use Rattle.sem_sound.proofs.Opening.{begin-sound}
 use Rattle.sem_sound.proofs.Revoking.{released-sound, reparked-sound, slack-of}
 
@@ -204,6 +205,16 @@ module _ (T : Setup) (valid : IsSetup T) (i : ℕ) (few : i < T.kernels) where
   call_ended-parks (Some (RevokeWait j)) v t = refl
   call_ended-parks (Some (Ready code)) v t = refl
 
+  call_ended-fit : (q : Option Parked) (v : ℕ) (t : Side) → CountsFit t → CountsFit (call_ended T q v t)
+  call_ended-fit None v t fit = fit
+  call_ended-fit (Some (ObtainWait number sel)) v t fit = fit
+  call_ended-fit (Some (ObtainReady key parent object sel)) v t fit = fit
+  call_ended-fit (Some ObtainCancelled) v t fit = fit
+  call_ended-fit (Some (DelegateWait parent)) v t fit = fit
+  call_ended-fit (Some (DelegateReady parent key)) v t fit = fit
+  call_ended-fit (Some (RevokeWait j)) v t fit = mapped-fit t (λ (x : JobRow). record x { waiters = without_number x.waiters v; keep = x.keep && not ((x.id == j) && (x.root.vpe == v)) }) (λ x. omega arith) fit
+  call_ended-fit (Some (Ready code)) v t fit = fit
+
   pub ended-sound : (s : Side) → IsSound T i s → (v : ℕ) → kernel_of T v ≡ i → IsSound T i (ended T i v s) × NoMore (unparked v s) (ended T i v s)
   unfolding ended
   ended-sound s is v local =
@@ -213,5 +224,5 @@ module _ (T : Setup) (valid : IsSetup T) (i : ℕ) (few : i < T.kernels) where
       let answered-sound : IsSound T i answered × NoMore s answered = in_turn-keeps_each (λ t. IsSound T i t × NoMore s t) (ask_ended T i) asks (λ a among t here. let step = ask_ended-sound a ((is.rows v).asks a among) t here.0 in (step.0, chained s t (ask_ended T i a t) here.1 step.1)) (buried v s) (buried-sound T valid i few None None None None s is v local, no-more s) in
       let dead : (row answered v).alive ≡ false = in_turn-keeps (IsDead v) (ask_ended T i) (λ a t here. ask_ended-dead v a t here) asks (buried v s) (ap (λ (r : VpeRow). r.alive) (get_or-put_same no_vpe s.vpes v (record (row s v) { alive = false; asks = [] }))) in
       let left-sound : IsSound T i left = call_ended-sound answered answered-sound.0 v local dead (parked answered v) refl in
-      let left-parks : NoMore (unparked v s) left = λ w. let less = unparked-both s answered v answered-sound.1 w in let same = ap (λ (ps : List (Option Parked)). one_if (get_or ps w None)) (call_ended-parks (parked answered v) v (unparked v answered)) in omega (arith, less, same) in
+      let left-parks : NoMore (unparked v s) left = ((λ w. let less = (unparked-both s answered v answered-sound.1).0 w in let same = ap (λ (ps : List (Option Parked)). one_if (get_or ps w None)) (call_ended-parks (parked answered v) v (unparked v answered)) in omega (arith, less, same)), (λ fit. call_ended-fit (parked answered v) v (unparked v answered) (answered-sound.1.1 fit))) in
       in_turn-keeps (λ t. IsSound T i t × NoMore (unparked v s) t) (revoked_if_left T i) (λ k t here. let step = revoked-sound k (cap t k) t refl here.0 in (step.0, chained (unparked v s) t (revoked_if_there i k (cap t k) t) here.1 step.1)) (keys_of left v) left (left-sound, left-parks)

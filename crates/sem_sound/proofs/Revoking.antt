@@ -28,7 +28,8 @@ use Rattle.sem_key.proofs.Members.{Contains-nil, Contains-cons_cases}
 use Rattle.sem_sound.proofs.Changing.{parked-same, parked-giving, freed-sound, number-dropped}
 use Rattle.sem_sound.proofs.Holding.{cap-among, send-sound, installed-sound}
 use Rattle.sem_sound.proofs.Jobbing.{parked-local, waits-not, up-sound, waiting-sound, lowered-sound}
-use Rattle.sem_sound.proofs.Parking.{NoMore, NoMoreBut, no-more, is-one, parked-again, parked-but}
+use Rattle.sem_sound.proofs.Parking.{NoMore, NoMoreBut, no-more, chained, is-one, parked-again, parked-but, changed-fit, lowered-no_more}
+use Rattle.sem_msg.specs.JobRows.{with_number}
 use Rattle.sem_sound.proofs.Finishing.{settled-sound}
 use Rattle.sem_sound.proofs.Opening.{next-job, begin-sound}
 
@@ -81,7 +82,7 @@ module _ (T : Setup) (valid : IsSetup T) (i : ℕ) (few : i < T.kernels) where
 
   -- what begins for a call that is parked now parks no other
   also : (s : Side) (v : ℕ) (p : Parked) (t : Side) → IsSound T i t × NoMore (parked_as v p s) t → IsSound T i t × NoMoreBut v s t
-  also s v p t both = (both.0, λ w other. let now = both.1 w in let before = parked-but s v (Some p) w other in omega (arith, now, before))
+  also s v p t both = (both.0, ((λ w other. let now = both.1.0 w in let before = (parked-but s v (Some p)).0 w other in omega (arith, now, before)), both.1.1))
 
   waits-now : (s : Side) (v j : ℕ) → parked (parked_as v (RevokeWait j) s) v ≡ Some (RevokeWait j)
   waits-now s v j = get_or-put_same None s.parks v (Some (RevokeWait j))
@@ -99,7 +100,7 @@ module _ (T : Setup) (valid : IsSetup T) (i : ℕ) (few : i < T.kernels) where
       let id = x.2 in
       let waiting : Side = parked_as v (RevokeWait j) s in
       let parks : IsSound T i waiting = reparked-sound s is v local None free (λ j none. absurd cc) (Some (RevokeWait j)) (λ y same. subst (IsSoundCall T i v) (same_Some (RevokeWait j) y same) (omega (arith, small, below, id))) refl in
-      (waiting-sound T i None None None None waiting parks j v (waits-now s v j), parked-but s v (Some (RevokeWait j)))
+      (waiting-sound T i None None None None waiting parks j v (waits-now s v j), ((parked-but s v (Some (RevokeWait j))).0, changed-fit waiting j (λ y. record y { waiters = with_number y.waiters v }) (λ y. omega arith)))
 
   -- a clear is paid for by the call
   pub cleared-sound : (s : Side) → IsSound T i s → ids_owed s + 1 ≤ ids_paid s → (v : ℕ) → kernel_of T v ≡ i → parked s v ≡ None → (k : KeyName) (c : Capability) → cap s k ≡ Some c → c.mark ≡ None → IsSound T i (clear_begun T i v k s) × NoMoreBut v s (clear_begun T i v k s)
@@ -128,7 +129,7 @@ module _ (T : Setup) (valid : IsSetup T) (i : ℕ) (few : i < T.kernels) where
 
     request-sound : (from j : ℕ) → from < T.kernels → from ≢ i → IsJobId j → (k : KeyName) (mark : Option ℕ) (c : Capability) → cap s k ≡ Some c → c.mark ≡ mark → IsSound T i (request_begun T i from j k mark s) × NoMore s (request_begun T i from j k mark s)
     request-sound from j kernel other id k None c held unmarked = begin-sound T valid i few s is k (Some (Remote from j)) [] false c held unmarked (kernel, other, id) (λ a b e lt within. absurd (omega (arith, lt, within))) (λ w none. absurd (Contains-nil w none)) (slack-of s is)
-    request-sound from j kernel other id k (Some m) c held marked = (up-sound T i None None None None s is (Remote from j) m (kernel, other, id), no-more s)
+    request-sound from j kernel other id k (Some m) c held marked = (up-sound T i None None None None s is (Remote from j) m (kernel, other, id), ((no-more s).0, changed-fit s m (λ y. record y { up = Some (Remote from j); keep = false }) (λ y. omega arith)))
 
     pub requested-sound : (from j : ℕ) → from < T.kernels → from ≢ i → IsJobId j → (k : KeyName) (o : Option Capability) → cap s k ≡ o → IsSound T i (revoke_requested T i from j k o s) × NoMore s (revoke_requested T i from j k o s)
     requested-sound from j kernel other id k (Some c) held = request-sound from j kernel other id k c.mark c held refl
@@ -143,4 +144,4 @@ module _ (T : Setup) (valid : IsSetup T) (i : ℕ) (few : i < T.kernels) where
 
         by_job : (o : Option JobRow) (t : Side) → IsSound T i t → IsSound T i (settled_if_there T i j o t) × NoMore t (settled_if_there T i j o t)
         by_job None t here = (here, no-more t)
-        by_job (Some x) t here = settled-sound T valid i few j (count_lowered j t) (lowered-sound T i None None None t here j)
+        by_job (Some x) t here = let ends = settled-sound T valid i few j (count_lowered j t) (lowered-sound T i None None None t here j) in (ends.0, chained t (count_lowered j t) (settled T i j (count_lowered j t)) (lowered-no_more t j) ends.1)

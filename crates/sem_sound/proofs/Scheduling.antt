@@ -21,7 +21,7 @@ use Rattle.sem_machine.specs.Schedules.{IsRun, IsSchedule, run, world_after}
 use Rattle.sem_key.proofs.Puts.{get_or-put_same, get_or-put_other}
 use Rattle.sem_key.proofs.Members.{Contains-nil, Contains-head, Contains-tail, Contains-from_map}
 use Rattle.sem_machine.specs.Sound.{IsSound, bit, one_if}
-use Rattle.sem_sound.specs.SoundWorlds.{IsSoundInput, IsSoundWorld, parked_calls, calls_parked}
+use Rattle.sem_sound.specs.SoundWorlds.{IsSoundInput, IsSoundWorld, CountsFit, parked_calls, calls_parked}
 use Rattle.std.specs.Prelude.{count_by}
 use Rattle.std.proofs.lemmas.List.{length_push}
 use Rattle.std.proofs.lemmas.List.Sums.{sum_by-cons}
@@ -141,6 +141,7 @@ module _ (T : Setup) (valid : IsSetup T) where
         let V : World = link_moved i (side W i) e.act (with_side i x W) in
         let same : V.sides ≡ put no_side W.sides i x = moved-sides i (side W i) e.act (with_side i x W) in
         let paid = both.1 in
+        let fits = both.2 (is.counts i few) in
         let all = ap (sum_by parked_calls) same in
         let sides = weigh-put parked_calls no_side refl W.sides i x in
         let replies = moved-replies i (side W i) e.act (with_side i x W) in
@@ -149,6 +150,10 @@ module _ (T : Setup) (valid : IsSetup T) where
             sides = λ j kernel. subst (λ (ss : List Side). IsSound T j (get_or ss j no_side)) (sym same) (elim (cases_eq j i) [
               | inl at ↦ subst (λ k. IsSound T k (get_or (put no_side W.sides i x) k no_side)) (sym at) (subst (IsSound T i) (sym (get_or-put_same no_side W.sides i x)) steps)
               | inr other ↦ subst (IsSound T j) (sym (get_or-put_other no_side W.sides i j x other)) (is.sides j kernel)
+            ]);
+            counts = λ j kernel. subst (λ (ss : List Side). CountsFit (get_or ss j no_side)) (sym same) (elim (cases_eq j i) [
+              | inl at ↦ subst (λ k. CountsFit (get_or (put no_side W.sides i x) k no_side)) (sym at) (subst CountsFit (sym (get_or-put_same no_side W.sides i x)) fits)
+              | inr other ↦ subst CountsFit (sym (get_or-put_other no_side W.sides i j x other)) (is.counts j kernel)
             ]);
             links = λ a b. (moved-links i few x e.act here.1 a b).0;
             windows = λ a b. (moved-links i few x e.act here.1 a b).1;
@@ -170,10 +175,16 @@ module _ (T : Setup) (valid : IsSetup T) where
       inner (suc k) (suc j) among = inner k j among
   no-links (suc n) (suc i) j m among = no-links n i j m among
 
+  -- at the start no job is open
+  start-jobs : (i : ℕ) → (start_side T i).jobs ≡ []
+  unfolding start_side
+  start-jobs i = in_turn-keeps (λ s. s.jobs ≡ []) vpe_added (λ d s here. in_turn-keeps (λ t. t.jobs ≡ []) (root_added d) (λ r t same. same) d.roots (vpe_fresh d s) here) (own_vpes T i) (empty_side T) refl
+
   start-world : IsSoundWorld T (start T)
   unfolding start
   start-world = record {
     sides = λ i few. subst (IsSound T i) (sym (get_or-map-range_with_len (start_side T) 0 T.kernels i i no_side few (omega arith))) (start-sound T valid i few);
+    counts = λ i few. subst CountsFit (sym (get_or-map-range_with_len (start_side T) 0 T.kernels i i no_side few (omega arith))) (λ x among. absurd (Contains-nil x (subst (λ xs. Contains xs x) (start-jobs i) among)));
     links = λ a b m among. absurd (no-links T.kernels a b m among);
     windows = λ a b. empty (link (start T) a b) (λ m among. no-links T.kernels a b m among);
   }

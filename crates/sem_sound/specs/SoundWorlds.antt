@@ -4,6 +4,7 @@ use Rattle.sem_msg.specs.declared.state.Parked.{Parked}
 use Rattle.sem_msg.specs.declared.message.Message.{Message}
 use Rattle.sem_msg.specs.declared.event.Act.{Act}
 use Rattle.sem_msg.specs.declared.event.Act.TheVariants.{Fetch}
+use Rattle.sem_msg.specs.Rows.{JobRow}
 use Rattle.sem_msg.specs.Message.{Fits}
 use Rattle.sem_msg.specs.Setup.{Setup}
 use Rattle.sem_machine.specs.Machine.{World, side, link}
@@ -16,9 +17,14 @@ IsSoundInput (Fetch from) None = Unit {0}
 IsSoundInput (Fetch from) (Some m) = Fits m
 IsSoundInput act input = Unit {0}
 
--- the sides of all kernels are sound; what is in the links fits, and is no more than the window of the setup
+-- no job has more tokens out than its count can tell, by far
+abbrev pub CountsFit : Side → Type 0
+CountsFit s = (x : JobRow) → Contains s.jobs x → x.count ≤ 9223372036854775808
+
+-- the sides of all kernels are sound, and counts fit; what is in the links fits, and is no more than the window of the setup
 pub record IsSoundWorld (T : Setup) (W : World) : Type 0 where
   pub sides : (i : ℕ) → i < T.kernels → IsSound T i (side W i)
+  pub counts : (i : ℕ) → i < T.kernels → CountsFit (side W i)
   pub links : (i j : ℕ) (m : Message) → Contains (link W i j) m → Fits m
   pub windows : (i j : ℕ) → length (link W i j) ≤ T.window
 
