@@ -21,7 +21,7 @@ use Rattle.sem_machine.specs.Schedules.{IsRun, IsSchedule, run, world_after}
 use Rattle.sem_key.proofs.Puts.{get_or-put_same, get_or-put_other}
 use Rattle.sem_key.proofs.Members.{Contains-nil, Contains-head, Contains-tail, Contains-from_map}
 use Rattle.sem_machine.specs.Sound.{IsSound, bit, one_if}
-use Rattle.sem_sound.specs.SoundWorlds.{IsSoundInput, IsSoundWorld, CountsFit, parked_calls, calls_parked}
+use Rattle.sem_sound.specs.SoundWorlds.{IsSoundInput, IsSoundWorld, CountsFit, parked_calls, all_parked_calls}
 use Rattle.std.specs.Prelude.{count_by}
 use Rattle.std.proofs.lemmas.List.{length_push}
 use Rattle.std.proofs.lemmas.List.Sums.{sum_by-cons}
@@ -127,7 +127,7 @@ module _ (T : Setup) (valid : IsSetup T) where
     fetched-fits i (Flush j) = tt
     fetched-fits i (Kill v) = tt
 
-    pub after-sound : (e : Event) → is_enabled T W e ≡ true → IsSoundWorld T (after T W e) × ((after T W e).replies + calls_parked (after T W e) ≤ W.replies + calls_parked W + bit (is_call e.act))
+    pub after-sound : (e : Event) → is_enabled T W e ≡ true → IsSoundWorld T (after T W e) × ((after T W e).replies + all_parked_calls (after T W e) ≤ W.replies + all_parked_calls W + bit (is_call e.act))
     unfolding after is_enabled
     after-sound e enabled =
         let i : ℕ = e.kernel in
@@ -200,11 +200,11 @@ module _ (T : Setup) (valid : IsSetup T) where
       let parks = in_turn-keeps (λ s. s.parks ≡ replicate VPES None) vpe_added (λ d s here. in_turn-keeps (λ t. t.parks ≡ replicate VPES None) (root_added d) (λ r t same. same) d.roots (vpe_fresh d s) here) (own_vpes T i) (empty_side T) refl in
       ap (sum_by (λ (p : Option Parked). one_if p)) parks ∙ weigh-replicate (λ (p : Option Parked). one_if p) VPES None refl
 
-  start-parked : calls_parked (start T) ≡ 0
+  start-parked : all_parked_calls (start T) ≡ 0
   unfolding start
   start-parked = weigh-none parked_calls (map (start_side T) (range_with_len 0 T.kernels)) (λ s among. let from = Contains-from_map (start_side T) (range_with_len 0 T.kernels) s among in ap parked_calls (sym from.2) ∙ start-parks from.0)
 
-  run-sound : (J : List Entry) (W : World) → IsSoundWorld T W → IsRun T W J → IsSoundWorld T (run T W J) × ((run T W J).replies + calls_parked (run T W J) ≤ W.replies + calls_parked W + count_by (λ e. is_call e.event.act) J)
+  run-sound : (J : List Entry) (W : World) → IsSoundWorld T W → IsRun T W J → IsSoundWorld T (run T W J) × ((run T W J).replies + all_parked_calls (run T W J) ≤ W.replies + all_parked_calls W + count_by (λ e. is_call e.event.act) J)
   unfolding IsRun
   run-sound [] W is runs = (is, omega arith)
   run-sound (e ∷ es) W is runs =
@@ -218,6 +218,6 @@ module _ (T : Setup) (valid : IsSetup T) where
   pub schedule-sound : (J : List Entry) → IsSchedule T J → IsSoundWorld T (world_after T J)
   schedule-sound J runs = (run-sound J (start T) start-world runs).0
 
-  pub schedule-paid : (J : List Entry) → IsSchedule T J → (world_after T J).replies + calls_parked (world_after T J) ≤ count_by (λ e. is_call e.event.act) J
+  pub schedule-paid : (J : List Entry) → IsSchedule T J → (world_after T J).replies + all_parked_calls (world_after T J) ≤ count_by (λ e. is_call e.event.act) J
   unfolding start
   schedule-paid J runs = let all = (run-sound J (start T) start-world runs).1 in let none = start-parked in omega (arith, all, none)

@@ -1,4 +1,4 @@
--- What is so of the messages that a kernel fetches, and of all kernels together ("Soundness" in docs/proof.md).
+-- What is so of the messages that a kernel fetches, and of all kernels together ("Sound stores" in docs/proof.md).
 use Rattle.std.specs.Prelude.{ℕ, ◌<◌, ◌≤◌, length, sum_by, Contains, Option, Some, None}
 use Rattle.sem_msg.specs.declared.state.Parked.{Parked}
 use Rattle.sem_msg.specs.declared.message.Message.{Message}
@@ -17,7 +17,7 @@ IsSoundInput (Fetch from) None = Unit {0}
 IsSoundInput (Fetch from) (Some m) = Fits m
 IsSoundInput act input = Unit {0}
 
--- no job has more tokens out than its count can tell, by far
+-- no job has more tokens out than its count of 64 bits can tell
 abbrev pub CountsFit : Side → Type 0
 CountsFit s = (x : JobRow) → Contains s.jobs x → x.count ≤ 9223372036854775808
 
@@ -28,9 +28,9 @@ pub record IsSoundWorld (T : Setup) (W : World) : Type 0 where
   pub links : (i j : ℕ) (m : Message) → Contains (link W i j) m → Fits m
   pub windows : (i j : ℕ) → length (link W i j) ≤ T.window
 
--- how many calls are parked
+-- how many calls are parked, at a side and in a world
 abbrev pub parked_calls : Side → ℕ
 parked_calls s = sum_by (λ (p : Option Parked). one_if p) s.parks
 
-abbrev pub calls_parked : World → ℕ
-calls_parked W = sum_by parked_calls W.sides
+abbrev pub all_parked_calls : World → ℕ
+all_parked_calls W = sum_by parked_calls W.sides

@@ -14,14 +14,14 @@ ghost use Rattle.sem_machine.specs.Revokes.{request_or_adopt};
 ghost use Rattle.sem_machine.specs.Machine.{start_side, local_step, is_locally_enabled};
 ghost use Rattle.sem_machine.specs.Schedules.{IsSchedule, world_after};
 ghost use Rattle.sem_machine.specs.Sound.{IsSound};
-ghost use Rattle.sem_sound.specs.SoundWorlds.{IsSoundInput, IsSoundWorld, calls_parked};
+ghost use Rattle.sem_sound.specs.SoundWorlds.{IsSoundInput, IsSoundWorld, all_parked_calls};
 ghost use Rattle.sem_machine.specs.Seeded.{is_call};
 
 /// What a kernel keeps of its side is sound at the start, and after every act that is locally enabled, whatever fitting messages it fetches.
 pub fn stores_stay_sound()
     ensures start { (T : Setup) → IsSetup T → (i : ℕ) → i < T.kernels → IsSound T i (start_side T i) }
     ensures step { (T : Setup) → IsSetup T → (i : ℕ) → i < T.kernels → (s : Side) → IsSound T i s → (act : Act) → is_locally_enabled T i s act ≡ true → (input : Option Message) → IsSoundInput act input → IsSound T i (local_step T i s act input).side }
-    ensures answered { (T : Setup) → IsSetup T → (J : List Entry) → IsSchedule T J → (world_after T J).replies + calls_parked (world_after T J) ≤ count_by (λ e. is_call e.event.act) J }
+    ensures answered { (T : Setup) → IsSetup T → (J : List Entry) → IsSchedule T J → (world_after T J).replies + all_parked_calls (world_after T J) ≤ count_by (λ e. is_call e.event.act) J }
     ensures schedules { (T : Setup) → IsSetup T → (J : List Entry) → IsSchedule T J → IsSoundWorld T (world_after T J) }
 {}
 
