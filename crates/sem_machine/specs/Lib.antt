@@ -15,3 +15,4 @@ pub mod Living
 pub mod Safety
 pub mod Seeded
 pub mod Sound
+pub mod Stores

@@ -1,5 +1,5 @@
 -- The machine: the sides of all kernels and the links between them, the events, and the step of each ("Events" in docs/machine.md).
-use Rattle.std.specs.Prelude.{ℕ, ◌+◌, ◌==◌, nat_lt, nat_le, Bool, true, false, not, ◌&&◌, List, [], ◌∷◌, ◌++◌, length, map, filter, flat_map, drop, slice_get, slice_index_or, Option, None, is_none, is_some, replicate}
+use Rattle.std.specs.Prelude.{ℕ, ◌+◌, ◌==◌, nat_lt, Bool, true, not, ◌&&◌, List, [], ◌∷◌, ◌++◌, length, map, filter, flat_map, drop, slice_get, slice_index_or, Option, None, is_none, is_some, replicate}
 use Rattle.std.specs.List.{range_with_len}
 use Rattle.std.specs.Option.{option_map, option_map_or}
 use Rattle.sem_key.specs.declared.limits.TheConstants.{VPES}
@@ -16,6 +16,7 @@ use Rattle.sem_msg.specs.declared.entry.Entry.{Entry}
 use Rattle.sem_msg.specs.declared.setup.Root.{Root}
 use Rattle.sem_msg.specs.declared.setup.VpeDecl.{VpeDecl}
 use Rattle.sem_msg.specs.Rows.{no_vpe}
+use Rattle.sem_msg.specs.Fabric.{link_in, link_put, is_due}
 use Rattle.sem_msg.specs.Setup.{Setup}
 use Rattle.sem_msg.specs.VpeRows.{new_vpe, next_root, root_held}
 use Rattle.sem_msg.specs.EndpointRows.{no_endpoint_bound}
@@ -74,13 +75,13 @@ side W i = slice_index_or W.sides i no_side
 
 -- the link from kernel i to kernel j
 abbrev pub link : World → ℕ → ℕ → List Message
-link W i j = slice_index_or (slice_index_or W.links i []) j []
+link W i j = link_in W.links i j
 
 abbrev pub with_side : ℕ → Side → World → World
 with_side i s W = record W { sides = put no_side W.sides i s }
 
 abbrev pub with_link : ℕ → ℕ → List Message → World → World
-with_link i j messages W = record W { links = put [] W.links i (put [] (slice_index_or W.links i []) j messages) }
+with_link i j messages W = record W { links = link_put i j messages W.links }
 
 -- The step of one side.
 
@@ -152,7 +153,7 @@ is_allowed T W i (Upcall v) = true
 is_allowed T W i Handle = true
 is_allowed T W i (Fetch j) = is_some (slice_get (link W j i) 0)
 is_allowed T W i (Flush j) = nat_lt (length (link W i j)) T.window
-is_allowed T W i (Kill v) = option_map_or (λ n. nat_le n W.replies) (kill_number T v) false
+is_allowed T W i (Kill v) = is_due T W.replies v
 
 unfoldable pub is_enabled : Setup → World → Event → Bool
 is_enabled T W e = nat_lt e.kernel T.kernels && (is_locally_enabled T e.kernel (side W e.kernel) e.act && is_allowed T W e.kernel e.act)

@@ -14,3 +14,4 @@ pub mod EndpointRows
 pub mod Uses
 pub mod JobRows
 pub mod ParkedStates
+pub mod Fabric

@@ -1,8 +1,9 @@
 -- The outboxes of a kernel as contracts see them ("State" in docs/machine.md).
-use Rattle.std.specs.Prelude.{ℕ, ◌≤◌, List, [], map, slice_index_or, All}
+use Rattle.std.specs.Prelude.{◌≡◌, ℕ, ◌≤◌, List, [], length, map, slice_index_or, All}
 use Rattle.sem_key.specs.Lists.{put}
 use Rattle.sem_msg.specs.declared.message.Message.{Message}
 use Rattle.sem_msg.specs.Message.{Fits}
+use Rattle.sem_msg.specs.Setup.{Setup}
 
 pub record OutboxList : Type 0 where
   -- for each kernel the messages that wait to be sent to it
@@ -34,3 +35,7 @@ HaveRoom rows spare = All (λ row. spare ≤ row.spare) rows
 -- all messages fit
 abbrev pub AllFit : List (List Message) → Type 0
 AllFit boxes = All (λ messages. All Fits messages) boxes
+
+-- there are messages for each kernel of the setup
+abbrev pub HasBoxes : Setup → OutboxList → Type 0
+HasBoxes T outs = length outs.boxes ≡ T.kernels

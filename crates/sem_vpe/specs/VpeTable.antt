@@ -4,6 +4,8 @@ use Rattle.sem_key.specs.declared.limits.TheConstants.{VPES, NUMBERS}
 use Rattle.sem_msg.specs.declared.limits.TheConstants.{SELECTORS, ASKS}
 use Rattle.sem_msg.specs.Rows.{VpeRow, no_vpe}
 use Rattle.sem_msg.specs.VpeRows.{row}
+use Rattle.sem_msg.specs.Setup.{Setup}
+use Rattle.sem_msg.specs.Lookups.{kernel_of}
 
 pub record VpeTable : Type 0 where
   -- by number, whether the VPE belongs to this kernel
@@ -14,6 +16,10 @@ pub record VpeTable : Type 0 where
 -- the VPE belongs to this kernel
 abbrev pub IsOurs : VpeTable → ℕ → Type 0
 IsOurs t v = IsTrue (slice_index_or t.ours v false)
+
+-- the VPEs of kernel i belong to it
+abbrev pub AreOurs : Setup → ℕ → VpeTable → Type 0
+AreOurs T i t = (v : ℕ) → kernel_of T v ≡ i → IsOurs t v
 
 -- What is always kept.
 

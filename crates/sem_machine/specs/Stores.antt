@@ -1,0 +1,29 @@
+-- A side with what a store holds in its place: so the calls that work on some of the stores of a kernel are said to do a row of the machine.
+use Rattle.std.specs.Prelude.{ℕ, List, Option}
+use Rattle.sem_key.specs.Capability.{Capability}
+use Rattle.sem_msg.specs.declared.message.Message.{Message}
+use Rattle.sem_msg.specs.declared.state.Parked.{Parked}
+use Rattle.sem_msg.specs.declared.state.Pending.{Pending}
+use Rattle.sem_msg.specs.Rows.{JobRow, Endpoint, VpeRow}
+use Rattle.sem_machine.specs.Sides.{Side}
+
+abbrev pub with_caps : List Capability → Side → Side
+with_caps caps s = record s { caps = caps }
+
+abbrev pub with_vpes : List VpeRow → Side → Side
+with_vpes rows s = record s { vpes = rows }
+
+abbrev pub with_endpoints : List (List (Option Endpoint)) → Side → Side
+with_endpoints rows s = record s { endpoints = rows }
+
+abbrev pub with_parks : List (Option Parked) → Side → Side
+with_parks states s = record s { parks = states }
+
+abbrev pub with_pendings : List Pending → Side → Side
+with_pendings pendings s = record s { pendings = pendings }
+
+abbrev pub with_jobs : List JobRow → ℕ → Side → Side
+with_jobs jobs next s = record s { jobs = jobs; next_job = next }
+
+abbrev pub with_outs : List (List Message) → Side → Side
+with_outs boxes s = record s { outs = boxes }
