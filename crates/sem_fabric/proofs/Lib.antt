@@ -1,0 +1,5 @@
+pub mod Messages
+pub mod LinkRows
+pub mod FabricRows
+pub mod Entries
+pub mod Starts

@@ -1,0 +1,170 @@
+ghost use Rattle.std.specs.Prelude.{◌≡◌, ◌≢◌, ◌↔◌, ◌<◌, true, false, [], ◌∷◌, ◌++◌, length, drop, nat_le, slice_get, slice_index_or, IsOk, IfOk, IfErr, IfSome, OnOk, OnErr, MatchOption};
+ghost use Rattle.sem_msg.specs.Message.{Fits};
+ghost use Rattle.sem_msg.specs.Journal.{replies as replies_in};
+ghost use Rattle.sem_msg.specs.Fabric.{link_in, relinked, entered};
+ghost use Rattle.sem_fabric.specs.Fabrics.{new_fabric, placed};
+
+use crate::row::Row;
+use sem_key::OutOfMemory;
+use sem_msg::{Entry, Journal, Kills, Message, Setup};
+use std::alloc::Global;
+use std::marker::Model;
+
+/// The links between all kernels, and the journal of the run. None of its calls but `new` and
+/// `reserve` takes memory.
+#[derive(Debug, Drop)]
+pub struct Fabric {
+    kernels: u32,
+    window: u32,
+    kills: Kills,
+    journal: Journal,
+    // How many replies the journal has.
+    replies: u64,
+    // By sender.
+    rows: Vec<Row>,
+    // By kernel, whether it has a place in the journal.
+    places: Vec<bool>,
+}
+
+impl Model for Fabric {
+    ghost use Rattle.std.specs.Prelude.{◌≡◌, ◌≤◌, length, map, count_by, All};
+    ghost use Rattle.sem_msg.specs.Journal.{replies as replies_in};
+    ghost use Rattle.sem_msg.specs.Fabric.{FabricValue, IsSquare};
+
+    ghost Value = { FabricValue };
+
+    ghost view = { λ f. record {
+      kernels = f.kernels;
+      window = f.window;
+      kills = f.kills;
+      journal = f.journal.entries;
+      links = map (λ r. r.links) f.rows.items;
+      places = f.places.items;
+    } };
+
+    ghost invariant = { λ f.
+        IsSquare f.kernels (map (λ r. r.links) f.rows.items)
+        × All (λ r. r.window ≡ f.window) f.rows.items
+        × (length f.places.items ≡ f.kernels)
+        × (count_by (λ b. b) f.places.items ≤ f.journal.spare)
+        × (f.replies ≡ length (replies_in f.journal.entries)) };
+}
+
+impl Fabric {
+    /// The fabric at the start of a run: its links are empty, and no kernel has a place. The journal
+    /// is to be empty; after want of memory it is dropped.
+    pub fn new(alloc: Global, setup: &Setup, journal: Journal) -> Result<Self, OutOfMemory>
+        requires { journal.entries ≡ [] }
+        ensures { IfOk result (λ fabric. fabric ≡ new_fabric setup.now) }
+    {
+        let mut rows = Vec::new(alloc);
+        for _ in 0..setup.kernels {
+            rows.push(Row::new(alloc, setup.kernels, setup.window)?)?;
+        }
+        let mut places = Vec::new(alloc);
+        places.resize(setup.kernels as usize, false)?;
+        Ok(Fabric {
+            kernels: setup.kernels,
+            window: setup.window,
+            kills: setup.kills.copy(alloc)?,
+            journal,
+            replies: 0,
+            rows,
+            places,
+        })
+    }
+
+    /// Gives the kernel one place in the journal, unless it has one.
+    pub fn reserve(&mut self, kernel: u32) -> Result<(), OutOfMemory>
+        requires { kernel < self.old.kernels }
+        ensures ok { OnOk result (self.new ≡ placed kernel self.old) }
+        ensures err { OnErr result (self.new ≡ self.old) }
+        ensures place { OnOk result (slice_index_or self.new.places kernel false ≡ true) }
+        ensures free { slice_index_or self.old.places kernel false ≡ true → IsOk result }
+    {
+        if self.places[kernel as usize] {
+            return Ok(());
+        }
+        let count = self.places.iter().filter(|place| **place).count();
+        self.journal.room(count + 1)?;
+        self.places[kernel as usize] = true;
+        Ok(())
+    }
+
+    /// Appends the entry to the journal, at the place that its kernel has there. The place is used up.
+    pub fn enter(&mut self, entry: Entry)
+        requires kernel { entry.event.kernel < self.old.kernels }
+        requires place { slice_index_or self.old.places entry.event.kernel false ≡ true }
+        ensures { self.new ≡ entered entry self.old }
+    {
+        self.places[entry.event.kernel as usize] = false;
+        self.journal.push(entry);
+        if entry.reply.is_some() {
+            self.replies += 1;
+        }
+    }
+
+    /// Takes the oldest message out of a link; none where the link is empty.
+    pub fn fetch(&mut self, to: u32, from: u32) -> Option<Message>
+        requires kernels { (from < self.old.kernels) × (to < self.old.kernels) }
+        requires other { from ≢ to }
+        ensures front { result ≡ slice_get (link_in self.old.links from to) 0 }
+        ensures value { self.new ≡ relinked from to (drop 1 (link_in self.old.links from to)) self.old }
+        ensures fits { IfSome result Fits }
+    {
+        self.rows[from as usize].pop(to)
+    }
+
+    /// The oldest message in a link; none where the link is empty.
+    pub fn peek(&self, to: u32, from: u32) -> Option<Message>
+        requires kernels { (from < self.now.kernels) × (to < self.now.kernels) }
+        requires other { from ≢ to }
+        ensures front { result ≡ slice_get (link_in self.now.links from to) 0 }
+        ensures fits { IfSome result Fits }
+    {
+        self.rows[from as usize].front(to)
+    }
+
+    /// Appends the message to a link. It comes back where the link holds as many messages as the
+    /// window, and nothing changes then.
+    pub fn flush(&mut self, from: u32, to: u32, message: Message) -> Result<(), Message>
+        requires kernels { (from < self.old.kernels) × (to < self.old.kernels) }
+        requires other { from ≢ to }
+        requires fits { Fits message }
+        ensures variant { IsOk result ↔ (length (link_in self.old.links from to) < self.old.window) }
+        ensures ok { OnOk result (self.new ≡ relinked from to (link_in self.old.links from to ++ message ∷ []) self.old) }
+        ensures err { IfErr result (λ back. (back ≡ message) × (self.new ≡ self.old)) }
+    {
+        self.rows[from as usize].push(to, message)
+    }
+
+    /// Whether the link holds as many messages as the window, so that `flush` would give one back.
+    pub fn full(&self, from: u32, to: u32) -> bool
+        requires kernels { (from < self.now.kernels) × (to < self.now.kernels) }
+        requires other { from ≢ to }
+        ensures { result ≡ nat_le self.now.window (length (link_in self.now.links from to)) }
+    {
+        self.rows[from as usize].is_full(to)
+    }
+
+    /// The journal.
+    pub fn journal(&self) -> &Journal
+        ensures { result.now.entries ≡ self.now.journal }
+    {
+        &self.journal
+    }
+
+    /// How many replies the journal has.
+    pub fn replies(&self) -> u64
+        ensures { result ≡ length (replies_in self.now.journal) }
+    {
+        self.replies
+    }
+
+    /// The journal alone.
+    pub fn into_journal(self) -> Journal
+        ensures { result.entries ≡ self.journal }
+    {
+        self.journal
+    }
+}

@@ -1,0 +1,12 @@
+//! What kernels share: a link for each ordered pair of them, and the journal of the run.
+#![tactic(auto)]
+
+mod fabric;
+mod laws;
+mod link;
+mod row;
+#[cfg(test)]
+mod tests;
+
+pub use fabric::Fabric;
+pub use laws::entries_keep_agreement;

@@ -1,0 +1,41 @@
+ghost use Rattle.std.specs.Prelude.{◌≡◌, ◌<◌, ◌%◌};
+ghost use Rattle.rand_pcg.specs.Lcg.{increment_of, started};
+ghost use Rattle.rand_pcg.specs.Pcg.{multiplier_64, pcg32};
+
+use rand_core::utils::NextWord;
+use rand_pcg::Lcg64Xsh32;
+use std::marker::Model;
+
+/// The words of a seed, of which each is drawn once, in their order.
+#[derive(Debug, Drop)]
+pub struct Draws {
+    words: Lcg64Xsh32,
+}
+
+impl Model for Draws {
+    ghost use Rattle.rand_pcg.specs.Lcg.{Lcg};
+
+    ghost Value = { Lcg };
+
+    ghost view = { λ d. d.words };
+}
+
+impl Draws {
+    /// The words of that seed, all of which are still to be drawn.
+    pub fn new(seed: u64) -> Draws
+        ensures { result ≡ started 64 multiplier_64 seed (increment_of 64 1) }
+    {
+        Draws {
+            words: Lcg64Xsh32::new(seed, 1),
+        }
+    }
+
+    /// A number below `n`, which is at least 1: the remainder of the next word. Takes no memory.
+    pub fn pick(&mut self, n: u32) -> u32
+        requires positive { 0 < n }
+        ensures number { result ≡ (pcg32 self.old).0 % n }
+        ensures draws { self.new ≡ (pcg32 self.old).1 }
+    {
+        self.words.next_word() % n
+    }
+}

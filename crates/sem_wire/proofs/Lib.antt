@@ -1,0 +1,10 @@
+pub mod SameRows
+pub mod Words
+pub mod Steps
+pub mod Faults
+pub mod Inverses
+pub mod Objects
+pub mod Decoded
+pub mod Encoded
+pub mod Spellings
+pub mod Records

@@ -1,0 +1,183 @@
+ghost use Rattle.std.specs.Prelude.{◌≡◌};
+ghost use Rattle.sem_key.specs.KeyName.{packed};
+ghost use Rattle.sem_msg.specs.Message.{Fits};
+ghost use Rattle.sem_msg.specs.declared.message.Message.TheVariants.{ObtainReq};
+ghost use Rattle.sem_wire.specs.Records.{blank, place_word as place_word_lem, record_of, rows_of as rows_of_lem, with_object as with_object_lem};
+
+use crate::rows::{RECORD, Rows, spell};
+use sem_key::{Key, Kind, Object, Place, keyed, pack};
+use sem_msg::{Message, Target};
+
+/// The record of a message, which fits.
+pub fn encode(message: &Message) -> [u8; RECORD]
+    requires { Fits message.now }
+    ensures { result ≡ record_of message.now }
+{
+    spell(&rows_of(message))
+}
+
+// Rows with nothing in them but the number of the message.
+fn tagged(tag: u8) -> Rows
+    ensures { result ≡ record blank { tag = tag } }
+{
+    Rows {
+        tag,
+        form: 0,
+        vpe: 0,
+        index: 0,
+        after_index: 0,
+        first: 0,
+        second: 0,
+        job: 0,
+        kind: 0,
+        after_kind: 0,
+        main: 0,
+        more: 0,
+        last: 0,
+        after_last: 0,
+    }
+}
+
+// The word of a place: that of a key, with 0 where the kind is.
+fn place_word(place: Place) -> u64
+    ensures { result ≡ place_word_lem place }
+{
+    pack(keyed(place, Kind::Mem)) - (1 << 32)
+}
+
+// The numbers of the message.
+fn rows_of(message: &Message) -> Rows
+    ensures rows { result ≡ rows_of_lem message.now }
+    ensures gap { result.after_kind ≡ 0 }
+{
+    match *message {
+        Message::ObtainReq { place, target } => obtain_req(place, target),
+        Message::ObtainOk {
+            parent,
+            key,
+            object,
+        } => Rows {
+            first: pack(parent),
+            second: pack(key),
+            ..with_object(&object, tagged(2))
+        },
+        Message::ObtainNo { place, code } => Rows {
+            form: code,
+            first: place_word(place),
+            ..tagged(3)
+        },
+        Message::DelegateReq {
+            parent,
+            object,
+            vpe,
+            sel,
+        } => Rows {
+            vpe,
+            index: u16::from(sel),
+            first: pack(parent),
+            ..with_object(&object, tagged(4))
+        },
+        Message::DelegatePrepared { parent, key } => two_keys(5, parent, key),
+        Message::DelegateNo { parent, code } => Rows {
+            form: code,
+            first: pack(parent),
+            ..tagged(6)
+        },
+        Message::Ack { key, yes } => Rows {
+            form: u8::from(yes),
+            first: pack(key),
+            ..tagged(7)
+        },
+        Message::Orphan { parent, key } => two_keys(8, parent, key),
+        Message::RevokeReq { key, job } => Rows {
+            first: pack(key),
+            job,
+            ..tagged(9)
+        },
+        Message::RevokeDone { job } => Rows { job, ..tagged(10) },
+        Message::Unlink { parent, key } => two_keys(11, parent, key),
+    }
+}
+
+// The numbers of a request for a capability.
+fn obtain_req(place: Place, target: Target) -> Rows
+    ensures rows { result ≡ rows_of_lem (ObtainReq place target) }
+    ensures gap { result.after_kind ≡ 0 }
+{
+    let rows = Rows {
+        first: place_word(place),
+        ..tagged(1)
+    };
+    match target {
+        Target::Sel { vpe, sel } => Rows {
+            form: 1,
+            vpe,
+            index: u16::from(sel),
+            ..rows
+        },
+        Target::Serv { service } => Rows {
+            form: 2,
+            second: pack(service),
+            ..rows
+        },
+        Target::Offer { service, index } => Rows {
+            form: 3,
+            index: u16::from(index),
+            second: pack(service),
+            ..rows
+        },
+    }
+}
+
+// The numbers of a message that has a parent and a key.
+fn two_keys(tag: u8, parent: Key, key: Key) -> Rows
+    ensures { result ≡ record blank { tag = tag; first = packed parent; second = packed key } }
+{
+    Rows {
+        first: pack(parent),
+        second: pack(key),
+        ..tagged(tag)
+    }
+}
+
+// The rows with the numbers of the object in theirs.
+fn with_object(object: &Object, rows: Rows) -> Rows
+    ensures { result ≡ with_object_lem object.now rows }
+{
+    match *object {
+        Object::Mem { base, len, rights } => Rows {
+            kind: 1,
+            main: u64::from(base),
+            more: u64::from(len),
+            last: u64::from(rights),
+            ..rows
+        },
+        Object::Recv { slots } => Rows {
+            kind: 2,
+            main: u64::from(slots),
+            ..rows
+        },
+        Object::Send {
+            gate,
+            label,
+            credits,
+        } => Rows {
+            kind: 3,
+            main: pack(gate),
+            more: u64::from(label),
+            last: u64::from(credits),
+            ..rows
+        },
+        Object::Serv { name } => Rows {
+            kind: 4,
+            main: u64::from(name),
+            ..rows
+        },
+        Object::Sess { service, ident } => Rows {
+            kind: 5,
+            main: pack(service),
+            more: u64::from(ident),
+            ..rows
+        },
+    }
+}
