@@ -3,7 +3,3 @@ pub mod ReportText
 pub mod EntryForms
 pub mod EntryRanges
 pub mod ShownWords
-pub mod WholeLines
-pub mod ReportRefusal
-pub mod ReadsReport
-pub mod ReportRanges

@@ -1,5 +1,5 @@
-// What is said of an entry, as words. After want of memory each of these functions but `print_entry`
-// may have appended a part.
+// What is said of an entry, as words. After want of memory each of these functions but
+// `print_entry` may have appended a part.
 ghost use Rattle.std.specs.Prelude.{◌≡◌, [], ◌∷◌, ◌++◌, decimal, OnOk, OnErr};
 ghost use Rattle.sem_text.specs.Lines.{behind_blanks, line};
 ghost use Rattle.sem_trace.specs.Words.{key_word, object_words};
@@ -16,7 +16,8 @@ use std::alloc::Global;
 
 // Appends the name and two keys, each behind a blank.
 fn push_keys(out: &mut Vec<u8>, name: &[u8], parent: &Key, key: &Key) -> Result<(), OutOfMemory>
-    ensures ok { OnOk result (out.new.items ≡ out.old.items ++ behind_blanks (name.now ∷ key_word parent.now ∷ key_word key.now ∷ [])) }
+    ensures ok { OnOk result (out.new.items ≡ out.old.items
+        ++ behind_blanks (name.now ∷ key_word parent.now ∷ key_word key.now ∷ [])) }
 {
     push_word(out, name)?;
     push_key_word(out, parent)?;
@@ -30,7 +31,8 @@ fn push_numbered_key(
     key: &Key,
     number: u64,
 ) -> Result<(), OutOfMemory>
-    ensures ok { OnOk result (out.new.items ≡ out.old.items ++ behind_blanks (name.now ∷ key_word key.now ∷ decimal number ∷ [])) }
+    ensures ok { OnOk result (out.new.items ≡ out.old.items
+        ++ behind_blanks (name.now ∷ key_word key.now ∷ decimal number ∷ [])) }
 {
     push_word(out, name)?;
     push_key_word(out, key)?;
@@ -46,7 +48,8 @@ fn push_delegation(
     vpe: u16,
     sel: u8,
 ) -> Result<(), OutOfMemory>
-    ensures ok { OnOk result (out.new.items ≡ out.old.items ++ behind_blanks (name.now ∷ key_word parent.now ∷ object_words object.now ++ decimal vpe ∷ decimal sel ∷ [])) }
+    ensures ok { OnOk result (out.new.items ≡ out.old.items ++ behind_blanks (name.now
+        ∷ key_word parent.now ∷ object_words object.now ++ decimal vpe ∷ decimal sel ∷ [])) }
 {
     push_word(out, name)?;
     push_key_word(out, parent)?;
@@ -56,7 +59,8 @@ fn push_delegation(
 
 /// Appends the words of the target, each behind a blank.
 pub fn push_target(out: &mut Vec<u8>, target: &Target) -> Result<(), OutOfMemory>
-    ensures ok { OnOk result (out.new.items ≡ out.old.items ++ behind_blanks (target_words target.now)) }
+    ensures ok { OnOk result
+        (out.new.items ≡ out.old.items ++ behind_blanks (target_words target.now)) }
 {
     match target {
         Target::Sel { vpe, sel } => push_named(out, b"sel", &[u64::from(*vpe), u64::from(*sel)]),
@@ -85,7 +89,8 @@ fn push_yes_or_no(out: &mut Vec<u8>, yes: bool) -> Result<(), OutOfMemory>
 
 /// Appends the words of the message, each behind a blank.
 pub fn push_message(out: &mut Vec<u8>, message: &Message) -> Result<(), OutOfMemory>
-    ensures ok { OnOk result (out.new.items ≡ out.old.items ++ behind_blanks (message_words message.now)) }
+    ensures ok { OnOk result
+        (out.new.items ≡ out.old.items ++ behind_blanks (message_words message.now)) }
 {
     match message {
         Message::ObtainReq { place, target } => {
@@ -132,7 +137,8 @@ pub fn push_message(out: &mut Vec<u8>, message: &Message) -> Result<(), OutOfMem
     }
 }
 
-/// Appends the words of the act, each behind a blank. The kernel of a fetch or a flush is not among them.
+/// Appends the words of the act, each behind a blank. The kernel of a fetch or a flush is not
+/// among them.
 pub fn push_act(out: &mut Vec<u8>, act: &Act) -> Result<(), OutOfMemory>
     ensures ok { OnOk result (out.new.items ≡ out.old.items ++ behind_blanks (act_words act.now)) }
 {
@@ -160,7 +166,8 @@ pub fn push_consent(out: &mut Vec<u8>, answer: &Consent) -> Result<(), OutOfMemo
 
 /// Appends the words that say what an event was about, each behind a blank.
 pub fn push_detail(out: &mut Vec<u8>, detail: &Detail) -> Result<(), OutOfMemory>
-    ensures ok { OnOk result (out.new.items ≡ out.old.items ++ behind_blanks (detail_words detail.now)) }
+    ensures ok { OnOk result
+        (out.new.items ≡ out.old.items ++ behind_blanks (detail_words detail.now)) }
 {
     match detail {
         Detail::Called { index, call } => {
@@ -181,7 +188,8 @@ pub fn push_detail(out: &mut Vec<u8>, detail: &Detail) -> Result<(), OutOfMemory
 
 /// Appends the words of the grant, each behind a blank; nothing where there is none.
 pub fn push_grant(out: &mut Vec<u8>, grant: &Option<(Key, Key)>) -> Result<(), OutOfMemory>
-    ensures ok { OnOk result (out.new.items ≡ out.old.items ++ behind_blanks (grant_words grant.now)) }
+    ensures ok { OnOk result
+        (out.new.items ≡ out.old.items ++ behind_blanks (grant_words grant.now)) }
 {
     match grant {
         Some((parent, child)) => push_keys(out, b"grant", parent, child),
@@ -204,7 +212,8 @@ pub fn push_cut(out: &mut Vec<u8>, cut: &Option<Key>) -> Result<(), OutOfMemory>
 
 /// Appends the words of the reply, each behind a blank; nothing where there is none.
 pub fn push_reply(out: &mut Vec<u8>, reply: &Option<Reply>) -> Result<(), OutOfMemory>
-    ensures ok { OnOk result (out.new.items ≡ out.old.items ++ behind_blanks (reply_words reply.now)) }
+    ensures ok { OnOk result
+        (out.new.items ≡ out.old.items ++ behind_blanks (reply_words reply.now)) }
 {
     match reply {
         Some(reply) => push_named(

@@ -1,9 +1,6 @@
-use crate::{print_entry, print_report};
-use sem_key::{Key, Kind, Membership, Object, OutOfMemory, Place};
-use sem_msg::{
-    Act, Audit, Call, Consent, Denies, Detail, Entry, Event, Held, HeldList, Journal, Kills,
-    Message, Offers, Reply, Services, Setup, Target, Vpes0,
-};
+use crate::print_entry;
+use sem_key::{Key, Kind, Object, OutOfMemory, Place};
+use sem_msg::{Act, Call, Consent, Detail, Entry, Event, Message, Reply, Target};
 use std::alloc::Global;
 use std::test::Fail;
 
@@ -174,50 +171,5 @@ fn an_act_with_nothing_more_is_told_alone(rt: HostRuntime) -> Result<(), Fail> {
         printed(rt.alloc(), &kill)?.as_slice(),
         b"1 kill 1\n".as_slice()
     );
-    Ok(())
-}
-
-// One kernel, and no VPE.
-fn no_vpes(alloc: Global) -> Setup {
-    Setup {
-        version: 1,
-        window: 4,
-        kernels: 1,
-        owners: Membership::empty(1),
-        vpes: Vpes0::new(alloc),
-        services: Services::new(alloc),
-        offers: Offers::new(alloc),
-        denies: Denies::new(alloc),
-        kills: Kills::new(alloc),
-    }
-}
-
-#[test]
-fn a_report_tells_the_trace_the_journal_and_the_audit(rt: HostRuntime) -> Result<(), Fail> {
-    let mut journal = Journal::new(rt.alloc());
-    journal.room(1)?;
-    journal.push(Entry {
-        event: Event {
-            kernel: 0,
-            act: Act::Kill { vpe: 5 },
-        },
-        detail: Detail::Nothing,
-        grant: None,
-        cut: None,
-        reply: None,
-    });
-    let mut held = HeldList::new(rt.alloc());
-    held.push(Held { key: OTHER, sel: 9 })?;
-    let audit = Audit {
-        made: 3,
-        cut: 2,
-        held,
-    };
-    let mut out = Vec::new(rt.alloc());
-    out.extend_from_slice(b"before\n")?;
-    print_report(rt.alloc(), &no_vpes(rt.alloc()), &journal, &audit, &mut out)?;
-    let wanted =
-        b"before\nsemper report 1\nsemper trace 1\nkernels 1\nend\njournal 1\n0 kill 5\naudit\nmade 3\ncut 2\nheld 1\nkey 1.1.1.0 9\nend\n";
-    assert_eq!(rt; out.as_slice(), wanted.as_slice());
     Ok(())
 }

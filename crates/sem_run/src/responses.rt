@@ -19,11 +19,11 @@ use crate::runs::{RunError, run_seeded};
 use crate::statuses::Status;
 use sem_audit::audit_of;
 use sem_io::{ReadError, Source, read_all};
-use sem_journal::print_report;
 use sem_key::OutOfMemory;
 use sem_model::World;
 use sem_msg::{Journal, Setup};
 use sem_reader::read_trace;
+use sem_report::print_report;
 use sem_trace::{TraceError, TraceFault};
 use std::alloc::Global;
 

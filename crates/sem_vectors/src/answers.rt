@@ -1,9 +1,9 @@
 //! How the tests ask what is read, refused and run.
 
 use sem_io::{MemSink, MemSource};
-use sem_journal::read_report;
 use sem_msg::Journal;
 use sem_reader::read_trace;
+use sem_report::read_report;
 use sem_run::{Status, semper_alone};
 use sem_trace::{Cause, TraceError};
 use std::alloc::Global;

@@ -3,7 +3,7 @@
 //!
 //! What refuses them is looked at later: the replay of the journal, and the comparison of the audit.
 
-use sem_journal::read_report;
+use sem_report::read_report;
 use std::test::Fail;
 
 const REPORT_29: &[u8] = b"semper report 1

@@ -1,4 +1,4 @@
-use Rattle.sem_journal.proofs.LinesJoined.{line-entry}
+use Rattle.sem_journal.proofs.EntryLine.{line-entry}
 use Rattle.sem_journal.proofs.entry.push_entry.Goals as goal
 
 pub returns : goal.returns

@@ -1,5 +1,0 @@
-use Rattle.sem_journal.proofs.OneReport.{one_report}
-use Rattle.sem_journal.proofs.laws.one_report.Goals as goal
-
-pub returns : goal.returns
-returns c = one_report c.canonical_stands.ensures

@@ -1,5 +1,0 @@
-use Rattle.sem_journal.proofs.PrintedReport.{report_read}
-use Rattle.sem_journal.proofs.laws.reports_are_read.Goals as goal
-
-pub returns : goal.returns
-returns c = report_read c.canonical_stands.ensures

@@ -1,0 +1,11 @@
+pub mod LinesJoined
+pub mod TextInLines
+pub mod LineForms
+pub mod ReportSteps
+pub mod TraceInReport
+pub mod WholeReport
+pub mod OneReport
+pub mod PlainTrace
+pub mod PrintedLines
+pub mod PrintedReport
+pub mod WholeText

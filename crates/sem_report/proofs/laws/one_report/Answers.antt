@@ -1,0 +1,5 @@
+use Rattle.sem_report.proofs.OneReport.{one_report}
+use Rattle.sem_report.proofs.laws.one_report.Goals as goal
+
+pub returns : goal.returns
+returns c = one_report c.canonical_stands.ensures

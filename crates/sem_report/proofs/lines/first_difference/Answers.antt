@@ -1,0 +1,21 @@
+use Rattle.std.proofs.Common.{sym, arith}
+use Rattle.sem_report.proofs.TextInLines.{shorter}
+use Rattle.sem_report.proofs.LineForms.{shorter_differs, both_end, longer_differs, line_differs, line_same}
+use Rattle.sem_report.proofs.lines.first_difference.Goals as goal
+
+pub returns-in-Some-next_whole_line : goal.returns-in-Some-next_whole_line
+returns-in-Some-next_whole_line c = shorter_differs _ _ _ _ _ _ _ _ c.loop-line.invariant.same c.in_default.ensures.lines c.in-Some-next_whole_line.ensures.lines
+
+pub returns-in-None : goal.returns-in-None
+returns-in-None c = both_end _ _ _ _ _ _ c.loop-line.invariant.same c.in_default.ensures.lines c.in-None.ensures.lines
+
+pub returns-in_default-next_whole_line : goal.returns-in_default-next_whole_line
+returns-in_default-next_whole_line c = longer_differs _ _ _ _ _ _ _ _ c.loop-line.invariant.same c.in-Some.ensures.lines c.in_default-next_whole_line.ensures.lines
+
+pub returns-then-not-same : goal.returns-then-not-same
+returns-then-not-same c = line_differs _ _ _ _ _ _ _ _ _ _ c.loop-line.invariant.same c.in-Some.ensures.lines c.in-Some-next_whole_line-2.ensures.lines (sym c.if-not-same.ensures)
+
+pub loop-line-preserved : goal.loop-line-preserved
+loop-line-preserved c =
+    let less = shorter _ _ _ c.in-Some.ensures.text c.in-Some.ensures.some in
+    record { room = omega (arith, c.loop-line.invariant.room, less); same = line_same _ _ _ _ _ _ _ _ _ _ c.loop-line.invariant.same c.in-Some.ensures.lines c.in-Some-next_whole_line-2.ensures.lines (sym c.if-not-same.ensures) }

@@ -1,0 +1,4 @@
+pub mod WholeLines
+pub mod ReportRefusal
+pub mod ReadsReport
+pub mod ReportRanges

@@ -1,0 +1,120 @@
+-- Which texts are refused as reports, at which line and why ("The report" in docs/texts.md).
+use Rattle.std.specs.Prelude.{ℕ, ◌+◌, nat_lt, Bool, List, [], ◌∷◌, ◌++◌, length, take, drop, map, codes, replicate, slice_index_or, Option, Some, None, option_map, if◌then◌else◌}
+use Rattle.std.specs.Option.{option_or}
+use Rattle.std.specs.Str.{bytes_eq}
+use Rattle.sem_msg.specs.Setup.{Setup}
+use Rattle.sem_text.specs.Lines.{line}
+use Rattle.sem_trace.specs.declared.fault.Cause.{Cause}
+use Rattle.sem_trace.specs.declared.fault.Cause.TheVariants.{OutOfRange, Missing, TooMany, InputTooLong, NotCanonical}
+use Rattle.sem_trace.specs.declared.fault.TraceFault.{TraceFault}
+use Rattle.sem_trace.specs.TextLines.{words_of, bytes_fault}
+use Rattle.sem_trace.specs.Forms.{Place, form_fault, byte, word, key}
+use Rattle.sem_trace.specs.Forms.Place.{Word}
+use Rattle.sem_trace.specs.Declarations.{stands_at, number_at}
+use Rattle.sem_trace.specs.Refusal.{lines_refusal, kernels_of, declarations_of}
+use Rattle.sem_trace.specs.Standing.{setup_of}
+use Rattle.sem_trace.specs.TraceText.{canonical}
+use Rattle.sem_journal.specs.EntryForms.{entry_form, has_long_memory}
+use Rattle.sem_report.specs.WholeLines.{whole_lines, content}
+
+-- the words of a line
+abbrev pub words_in : List ℕ → List (List ℕ)
+words_in line = words_of (content line)
+
+-- what words of a line can stand in its places
+abbrev pub Form : Type 0
+Form = List (List ℕ) → List Place
+
+-- what is wrong with a line of that form: with its bytes, its words, the memory that it tells, or its spelling
+unfoldable pub report_line_fault : Form → List ℕ → Option Cause
+report_line_fault form whole =
+    let words : List (List ℕ) = words_in whole in
+    option_or (bytes_fault (content whole))
+    (option_or (form_fault (form words) words)
+    (if has_long_memory words then Some OutOfRange
+    else (if bytes_eq whole (line words) then None else Some NotCanonical)))
+
+abbrev pub fault_of : ℕ → Cause → TraceFault
+fault_of n cause = record { line = n; cause = cause }
+
+-- the first fault of lines of these forms, the first of which has that number
+unfoldable pub forms_fault : ℕ → List Form → List (List ℕ) → Option TraceFault
+forms_fault n [] [] = None
+forms_fault n [] (whole ∷ lines) = option_map (fault_of n) (option_or (bytes_fault (content whole)) (Some TooMany))
+forms_fault n (form ∷ forms) [] = Some (fault_of n Missing)
+forms_fault n (form ∷ forms) (whole ∷ lines) = option_or (option_map (fault_of n) (report_line_fault form whole)) (forms_fault (n + 1) forms lines)
+
+-- the first line
+abbrev pub report_form : Form
+report_form words = Word (codes "semper" ∷ []) ∷ Word (codes "report" ∷ []) ∷ Word (codes "1" ∷ []) ∷ []
+
+-- a line of one word
+abbrev pub name_form : List ℕ → Form
+name_form name words = Word (name ∷ []) ∷ []
+
+-- a line of a word and a number
+abbrev pub count_form : List ℕ → Form
+count_form name words = Word (name ∷ []) ∷ word ∷ []
+
+-- the line of a key that is held
+abbrev pub held_form : Form
+held_form words = Word (codes "key" ∷ []) ∷ key ∷ byte ∷ []
+
+-- the number that a line tells
+abbrev pub count_at : List (List ℕ) → ℕ → ℕ
+count_at lines i = number_at (words_in (slice_index_or lines i [])) 1
+
+-- the lines of the audit, where so many keys are held, and the last line
+abbrev pub audit_forms : ℕ → List Form
+audit_forms held = name_form (codes "audit") ∷ count_form (codes "made") ∷ count_form (codes "cut") ∷ count_form (codes "held") ∷ replicate held held_form ++ name_form (codes "end") ∷ []
+
+-- the lines behind the trace: how many entries, each of them, and the audit, which says in its fourth line how many keys are held
+unfoldable pub forms_behind : ℕ → List (List ℕ) → List Form
+forms_behind kernels lines =
+    let entries : ℕ = count_at lines 0 in
+    count_form (codes "journal") ∷ replicate entries (entry_form kernels) ++ audit_forms (count_at lines (entries + 4))
+
+-- whether the first word of a line is `end`
+abbrev pub is_end_line : List ℕ → Bool
+is_end_line whole = stands_at (words_in whole) 0 (codes "end")
+
+-- the trace: the lines up to the first that ends it
+unfoldable pub trace_section : List (List ℕ) → List (List ℕ)
+trace_section [] = []
+trace_section (whole ∷ lines) = if is_end_line whole then whole ∷ [] else whole ∷ trace_section lines
+
+-- the setup that the lines of a trace declare
+abbrev pub setup_in : List (List ℕ) → Setup
+setup_in section = setup_of (kernels_of (map content section)) (declarations_of (map content section))
+
+-- a fault of the trace: its lines follow the first line of the report
+abbrev pub line_later : TraceFault → TraceFault
+line_later fault = record { line = fault.line + 1; cause = fault.cause }
+
+-- the number of the first line in which two texts differ, where the first lines have that number
+unfoldable pub first_difference : ℕ → List (List ℕ) → List (List ℕ) → Option ℕ
+first_difference n [] [] = None
+first_difference n [] (other ∷ others) = Some n
+first_difference n (whole ∷ lines) [] = Some n
+first_difference n (whole ∷ lines) (other ∷ others) = if bytes_eq whole other then first_difference (n + 1) lines others else Some n
+
+-- the first line in which the trace differs from the canonical text; it begins with the second line of the report
+abbrev pub spelling_fault : List (List ℕ) → Setup → Option TraceFault
+spelling_fault section T = option_map (λ n. fault_of n NotCanonical) (first_difference 2 section (whole_lines (canonical T)))
+
+-- the refusal of a trace: that of its lines, and then the first line of another spelling
+abbrev pub trace_refusal : List (List ℕ) → Option TraceFault
+trace_refusal section = option_or (option_map line_later (lines_refusal (map content section))) (spelling_fault section (setup_in section))
+
+-- the refusal of the lines behind the first: that of the trace, and then that of the lines behind it
+unfoldable pub refusal_behind : List (List ℕ) → Option TraceFault
+refusal_behind lines =
+    let section : List (List ℕ) = trace_section lines in
+    let behind : List (List ℕ) = drop (length section) lines in
+    option_or (trace_refusal section) (forms_fault (2 + length section) (forms_behind (setup_in section).kernels behind) behind)
+
+-- the refusal of a text as a report, if it is refused
+unfoldable pub report_refusal : List ℕ → Option TraceFault
+report_refusal bytes =
+    if nat_lt 134217728 (length bytes) then Some (fault_of 0 InputTooLong)
+    else option_or (forms_fault 1 (report_form ∷ []) (take 1 (whole_lines bytes))) (refusal_behind (drop 1 (whole_lines bytes)))

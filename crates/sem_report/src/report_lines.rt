@@ -1,0 +1,221 @@
+// The lines of a report, each against its form and its canonical spelling.
+ghost use Rattle.std.specs.Prelude.{◌≡◌, ◌≤◌, [], ◌∷◌, codes, decimal, None, Some, IfOk, IfErr, OnOk, if◌then◌else◌};
+ghost use Rattle.std.specs.Result.{result_err};
+ghost use Rattle.std.specs.Str.{bytes_eq};
+ghost use Rattle.sem_text.specs.Lines.{line as line_lem};
+ghost use Rattle.sem_trace.specs.TextLines.{words_of, bytes_fault as bytes_fault_lem};
+ghost use Rattle.sem_trace.specs.Forms.{form_fault};
+ghost use Rattle.sem_trace.specs.Declarations.{number_at};
+ghost use Rattle.sem_trace.specs.declared.fault.Cause.TheVariants.{NotCanonical};
+ghost use Rattle.sem_report.specs.declared.report_lines.LineError.TheVariants.{Refused, Memory};
+ghost use Rattle.sem_journal.specs.EntryForms.{entry_form};
+ghost use Rattle.sem_journal.specs.EntryRanges.{EntryFits};
+ghost use Rattle.sem_journal.specs.EntryText.{entry_words};
+ghost use Rattle.sem_journal.specs.ReportText.{held_line as held_words_lem};
+ghost use Rattle.sem_report.specs.WholeLines.{content as content_lem};
+ghost use Rattle.sem_report.specs.ReportRefusal.{words_in, report_line_fault, report_form, name_form, count_form, held_form};
+ghost use Rattle.sem_report.specs.ReadsReport.{Because};
+ghost use Rattle.sem_report.specs.ReportRanges.{HeldFits};
+
+use crate::lines::{Line, same};
+use crate::report::push_held;
+use sem_journal::{Words, push_entry, read_entry};
+use sem_key::OutOfMemory;
+use sem_msg::{Entry, Held};
+use sem_trace::{BYTE, Cause, WORD, bytes_fault, fixed, no_more, push_line};
+
+/// Why a line is not read.
+#[derive(Clone, Copy, Debug)]
+pub enum LineError {
+    Refused(Cause),
+    Memory,
+}
+
+impl From<Cause> for LineError {
+    ghost from_gives = { λ cause e. e ≡ Refused cause };
+
+    fn from(cause: Cause) -> LineError {
+        LineError::Refused(cause)
+    }
+}
+
+impl From<OutOfMemory> for LineError {
+    ghost from_gives = { λ _ e. e ≡ Memory };
+
+    fn from(_: OutOfMemory) -> LineError {
+        LineError::Memory
+    }
+}
+
+// Sees that the line is short and is text.
+fn is_text(line: &Line) -> Result<(), Cause>
+    requires { line.now.content.now ≡ content_lem line.now.whole.now }
+    ensures { bytes_fault_lem (content_lem line.now.whole.now) ≡ result_err result }
+{
+    match bytes_fault(line.content) {
+        Some(cause) => Err(cause),
+        None => Ok(()),
+    }
+}
+
+// Sees that the line is spelled as it is printed.
+fn is_canonical(line: &Line, printed: &[u8]) -> Result<(), Cause>
+    ensures { (if bytes_eq line.now.whole.now printed.now then None else Some NotCanonical)
+        ≡ result_err result }
+{
+    if same(line.whole, printed) {
+        Ok(())
+    } else {
+        Err(Cause::NotCanonical)
+    }
+}
+
+// The word is the only one.
+#[tactic(auto, using(sem_journal::proofs::EntryParts::nothing_more))]
+fn name_words(words: &[u8], name: &[u8]) -> Result<(), Cause>
+    ensures fault { form_fault (name_form name.now (words_of words.now)) (words_of words.now)
+        ≡ result_err result }
+    ensures printed { OnOk result (words_of words.now ≡ name.now ∷ []) }
+{
+    let rest = fixed(words, name)?;
+    no_more(rest)?;
+    Ok(())
+}
+
+// The number behind the word.
+#[tactic(auto, using(sem_journal::proofs::EntryParts::nothing_more))]
+fn count_words(words: &[u8], name: &[u8]) -> Result<u64, Cause>
+    ensures fault { form_fault (count_form name.now (words_of words.now)) (words_of words.now)
+        ≡ result_err result }
+    ensures printed { IfOk result (λ n. words_of words.now ≡ name.now ∷ decimal n ∷ []) }
+    ensures small { IfOk result (λ n. n ≤ 4294967295) }
+{
+    let mut words = Words {
+        rest: fixed(words, name)?,
+    };
+    let number = words.number(WORD)?;
+    no_more(words.rest)?;
+    Ok(number)
+}
+
+// The key that is held, and its selector.
+#[tactic(auto, using(sem_journal::proofs::EntryParts::nothing_more))]
+fn held_words(words: &[u8]) -> Result<Held, Cause>
+    ensures fault { form_fault (held_form (words_of words.now)) (words_of words.now)
+        ≡ result_err result }
+    ensures printed { IfOk result
+        (λ held. words_of words.now ≡ held_words_lem (held.key, held.sel)) }
+    ensures fits { IfOk result (λ held. HeldFits (held.key, held.sel)) }
+{
+    let mut words = Words {
+        rest: fixed(words, b"key")?,
+    };
+    let key = words.key()?;
+    let sel = words.number(BYTE)?;
+    no_more(words.rest)?;
+    Ok(Held {
+        key,
+        sel: sel as u8,
+    })
+}
+
+/// Reads a line of one word. What was printed before means nothing.
+pub fn name_line(line: &Line, name: &[u8], printed: &mut Vec<u8>) -> Result<(), LineError>
+    requires { line.now.content.now ≡ content_lem line.now.whole.now }
+    ensures ok { OnOk result (report_line_fault (name_form name.now) line.now.whole.now ≡ None) }
+    ensures err { IfErr result
+        (Because (report_line_fault (name_form name.now) line.now.whole.now)) }
+    ensures read { OnOk result (line.now.whole.now ≡ line_lem (name.now ∷ [])) }
+{
+    is_text(line)?;
+    name_words(line.content, name)?;
+    printed.clear();
+    push_line(printed, name, &[])?;
+    is_canonical(line, printed)?;
+    Ok(())
+}
+
+/// Reads a line of a word and a number, at most 4294967295. What was printed before means nothing.
+pub fn count_line(line: &Line, name: &[u8], printed: &mut Vec<u8>) -> Result<u64, LineError>
+    requires { line.now.content.now ≡ content_lem line.now.whole.now }
+    ensures ok { OnOk result (report_line_fault (count_form name.now) line.now.whole.now ≡ None) }
+    ensures err { IfErr result
+        (Because (report_line_fault (count_form name.now) line.now.whole.now)) }
+    ensures read { IfOk result (λ n. line.now.whole.now ≡ line_lem (name.now ∷ decimal n ∷ [])) }
+    ensures number { IfOk result (λ n. number_at (words_in line.now.whole.now) 1 ≡ n) }
+    ensures small { IfOk result (λ n. n ≤ 4294967295) }
+{
+    is_text(line)?;
+    let number = count_words(line.content, name)?;
+    printed.clear();
+    push_line(printed, name, &[number])?;
+    is_canonical(line, printed)?;
+    Ok(number)
+}
+
+/// Reads the line of a key that is held. What was printed before means nothing.
+pub fn held_line(line: &Line, printed: &mut Vec<u8>) -> Result<Held, LineError>
+    requires { line.now.content.now ≡ content_lem line.now.whole.now }
+    ensures ok { OnOk result (report_line_fault held_form line.now.whole.now ≡ None) }
+    ensures err { IfErr result (Because (report_line_fault held_form line.now.whole.now)) }
+    ensures read { IfOk result
+        (λ held. line.now.whole.now ≡ line_lem (held_words_lem (held.key, held.sel))) }
+    ensures fits { IfOk result (λ held. HeldFits (held.key, held.sel)) }
+{
+    is_text(line)?;
+    let held = held_words(line.content)?;
+    printed.clear();
+    push_held(printed, &held)?;
+    is_canonical(line, printed)?;
+    Ok(held)
+}
+
+/// Reads the line of an entry, where there are so many kernels. What was printed before means
+/// nothing.
+pub fn entry_line(line: &Line, kernels: u32, printed: &mut Vec<u8>) -> Result<Entry, LineError>
+    requires content { line.now.content.now ≡ content_lem line.now.whole.now }
+    requires kernels { 1 ≤ kernels }
+    ensures ok { OnOk result (report_line_fault (entry_form kernels) line.now.whole.now ≡ None) }
+    ensures err { IfErr result
+        (Because (report_line_fault (entry_form kernels) line.now.whole.now)) }
+    ensures read { IfOk result (λ e. line.now.whole.now ≡ line_lem (entry_words e)) }
+    ensures fits { IfOk result (EntryFits kernels) }
+{
+    is_text(line)?;
+    let entry = read_entry(line.content, kernels)?;
+    printed.clear();
+    push_entry(printed, &entry)?;
+    is_canonical(line, printed)?;
+    Ok(entry)
+}
+
+// Sees that the words are those of the first line.
+#[tactic(auto, using(sem_journal::proofs::EntryParts::nothing_more))]
+fn header_words(words: &[u8]) -> Result<(), Cause>
+    ensures fault { form_fault (report_form (words_of words.now)) (words_of words.now)
+        ≡ result_err result }
+    ensures printed { OnOk result
+        (words_of words.now ≡ codes "semper" ∷ codes "report" ∷ codes "1" ∷ []) }
+{
+    let rest = fixed(words, b"semper")?;
+    let rest = fixed(rest, b"report")?;
+    let rest = fixed(rest, b"1")?;
+    no_more(rest)?;
+    Ok(())
+}
+
+/// Reads the first line. What was printed before means nothing.
+pub fn header_line(line: &Line, printed: &mut Vec<u8>) -> Result<(), LineError>
+    requires { line.now.content.now ≡ content_lem line.now.whole.now }
+    ensures ok { OnOk result (report_line_fault report_form line.now.whole.now ≡ None) }
+    ensures err { IfErr result (Because (report_line_fault report_form line.now.whole.now)) }
+    ensures read { OnOk result
+        (line.now.whole.now ≡ line_lem (codes "semper" ∷ codes "report" ∷ codes "1" ∷ [])) }
+{
+    is_text(line)?;
+    header_words(line.content)?;
+    printed.clear();
+    push_line(printed, b"semper report 1", &[])?;
+    is_canonical(line, printed)?;
+    Ok(())
+}

@@ -1,0 +1,404 @@
+// Reports, read line by line.
+ghost use Rattle.std.specs.Prelude.{◌≡◌, ◌+◌, ◌≤◌, [], ◌∷◌, ◌++◌, length, take, drop, map, replicate, All, codes, decimal, None, IfOk, IfErr, OnOk};
+ghost use Rattle.sem_text.specs.Lines.{line as line_lem, text};
+ghost use Rattle.sem_trace.specs.declared.fault.TraceError.TheVariants.{Refused as RefusedText};
+ghost use Rattle.sem_trace.specs.Standing.{IsWhy};
+ghost use Rattle.sem_trace.specs.TraceText.{canonical, TraceFits};
+ghost use Rattle.sem_msg.specs.Audits.{held_pairs};
+ghost use Rattle.sem_journal.specs.EntryForms.{entry_form};
+ghost use Rattle.sem_journal.specs.EntryRanges.{EntryFits};
+ghost use Rattle.sem_journal.specs.EntryText.{entry_words};
+ghost use Rattle.sem_journal.specs.ReportText.{held_line as held_words_lem, journal_lines, audit_lines, report_text};
+ghost use Rattle.sem_report.specs.WholeLines.{whole_lines, content as content_lem};
+ghost use Rattle.sem_report.specs.ReportRefusal.{report_form, name_form, count_form, held_form, audit_forms, count_at, fault_of, forms_fault, forms_behind, trace_section, trace_refusal, setup_in, report_refusal};
+ghost use Rattle.sem_report.specs.ReadsReport.{Follows, Stops, NextLine, OneEntry, IsMissing, IsRefused, IsBelow, later, at_line as at_line_lem};
+ghost use Rattle.sem_report.specs.ReportRanges.{HeldFits, ReportFits};
+
+use crate::lines::{Line, first_difference, next_whole_line, split_section};
+use crate::report_lines::{LineError, count_line, entry_line, header_line, held_line, name_line};
+use sem_msg::{Audit, Entry, Held, HeldList, Journal, Setup};
+use sem_reader::read_section;
+use sem_trace::{Cause, TraceError, TraceFault, bytes_fault, push_trace};
+use std::alloc::Global;
+
+/// The most bytes of a report.
+const REPORT_BYTES: usize = 134217728;
+
+// The lines of a report that are not read yet, how many are, and what was printed of the last one.
+#[derive(Drop)]
+struct Lines<'a> {
+    rest: &'a [u8],
+    number: u64,
+    printed: Vec<u8>,
+}
+
+// The refusal of the line of that number.
+fn refused(line: u64, cause: Cause) -> TraceError
+    ensures { result ≡ RefusedText (fault_of line cause) }
+{
+    TraceError::Refused(TraceFault { line, cause })
+}
+
+// Why a report is not read, where that line of it is not.
+fn at_line(line: u64, e: LineError) -> TraceError
+    ensures { result ≡ at_line_lem line e }
+{
+    match e {
+        LineError::Refused(cause) => refused(line, cause),
+        LineError::Memory => TraceError::Memory,
+    }
+}
+
+// Why a report is not read, where its trace is not read so: the trace begins one line later.
+fn line_later(e: TraceError) -> TraceError
+    requires { IsBelow 500000002 e }
+    ensures { result ≡ later e }
+{
+    match e {
+        TraceError::Refused(fault) => refused(fault.line + 1, fault.cause),
+        TraceError::Memory => TraceError::Memory,
+    }
+}
+
+impl<'a> Lines<'a> {
+    // The next line.
+    fn next(&mut self) -> Result<Line<'a>, TraceError>
+        requires { self.old.number + length self.old.rest.now ≤ 1000000000 }
+        ensures ok { IfOk result (λ l. NextLine self.old.number self.old.rest.now l.whole.now
+            self.new.number self.new.rest.now) }
+        ensures err { IfErr result
+            (IsMissing (self.old.number + 1) (whole_lines self.old.rest.now)) }
+        ensures content { IfOk result (λ l. l.content.now ≡ content_lem l.whole.now) }
+        ensures room { self.new.number + length self.new.rest.now ≤ 1000000000 }
+    {
+        match next_whole_line(self.rest) {
+            Some((line, behind)) => {
+                self.rest = behind;
+                self.number += 1;
+                Ok(line)
+            }
+            None => Err(refused(self.number + 1, Cause::Missing)),
+        }
+    }
+
+    // Reads the first line.
+    fn header(&mut self) -> Result<(), TraceError>
+        requires start { self.old.number ≡ 0 }
+        requires room { length self.old.rest.now ≤ 999999999 }
+        ensures ok { OnOk result
+            (forms_fault 1 (report_form ∷ []) (take 1 (whole_lines self.old.rest.now)) ≡ None) }
+        ensures err { IfErr result
+            (IsWhy (forms_fault 1 (report_form ∷ []) (take 1 (whole_lines self.old.rest.now)))) }
+        ensures read { OnOk result (self.old.rest.now
+            ≡ line_lem (codes "semper" ∷ codes "report" ∷ codes "1" ∷ []) ++ self.new.rest.now) }
+        ensures behind { OnOk result
+            (whole_lines self.new.rest.now ≡ drop 1 (whole_lines self.old.rest.now)) }
+        ensures number { OnOk result (self.new.number ≡ 1) }
+    {
+        let line = self.next()?;
+        match header_line(&line, &mut self.printed) {
+            Ok(()) => Ok(()),
+            Err(e) => Err(at_line(self.number, e)),
+        }
+    }
+
+    // Reads a line of one word.
+    fn name(&mut self, name: &[u8]) -> Result<(), TraceError>
+        requires room { self.old.number + length self.old.rest.now ≤ 1000000000 }
+        ensures ok { OnOk result (Follows (name_form name.now ∷ []) (self.old.number + 1)
+            (whole_lines self.old.rest.now) (self.new.number + 1)
+            (whole_lines self.new.rest.now)) }
+        ensures err { IfErr result (Stops (name_form name.now ∷ []) (self.old.number + 1)
+            (whole_lines self.old.rest.now)) }
+        ensures read { OnOk result
+            (self.old.rest.now ≡ line_lem (name.now ∷ []) ++ self.new.rest.now) }
+        ensures behind { OnOk result
+            (whole_lines self.new.rest.now ≡ drop 1 (whole_lines self.old.rest.now)) }
+        ensures room { self.new.number + length self.new.rest.now ≤ 1000000000 }
+    {
+        let line = self.next()?;
+        match name_line(&line, name, &mut self.printed) {
+            Ok(()) => Ok(()),
+            Err(e) => Err(at_line(self.number, e)),
+        }
+    }
+
+    // Reads a line of a word and a number.
+    fn count(&mut self, name: &[u8]) -> Result<u64, TraceError>
+        requires room { self.old.number + length self.old.rest.now ≤ 1000000000 }
+        ensures ok { OnOk result (Follows (count_form name.now ∷ []) (self.old.number + 1)
+            (whole_lines self.old.rest.now) (self.new.number + 1)
+            (whole_lines self.new.rest.now)) }
+        ensures err { IfErr result (Stops (count_form name.now ∷ []) (self.old.number + 1)
+            (whole_lines self.old.rest.now)) }
+        ensures read { IfOk result
+            (λ n. self.old.rest.now ≡ line_lem (name.now ∷ decimal n ∷ []) ++ self.new.rest.now) }
+        ensures behind { OnOk result
+            (whole_lines self.new.rest.now ≡ drop 1 (whole_lines self.old.rest.now)) }
+        ensures room { self.new.number + length self.new.rest.now ≤ 1000000000 }
+        ensures small { IfOk result (λ n. n ≤ 4294967295) }
+        ensures count { IfOk result (λ n. count_at (whole_lines self.old.rest.now) 0 ≡ n) }
+    {
+        let line = self.next()?;
+        match count_line(&line, name, &mut self.printed) {
+            Ok(number) => Ok(number),
+            Err(e) => Err(at_line(self.number, e)),
+        }
+    }
+
+    // Reads the line of a key that is held.
+    fn held(&mut self) -> Result<Held, TraceError>
+        requires room { self.old.number + length self.old.rest.now ≤ 1000000000 }
+        ensures ok { OnOk result (Follows (held_form ∷ []) (self.old.number + 1)
+            (whole_lines self.old.rest.now) (self.new.number + 1)
+            (whole_lines self.new.rest.now)) }
+        ensures err { IfErr result
+            (Stops (held_form ∷ []) (self.old.number + 1) (whole_lines self.old.rest.now)) }
+        ensures read { IfOk result (λ held. self.old.rest.now
+            ≡ line_lem (held_words_lem (held.key, held.sel)) ++ self.new.rest.now) }
+        ensures fits { IfOk result (λ held. HeldFits (held.key, held.sel)) }
+        ensures room { self.new.number + length self.new.rest.now ≤ 1000000000 }
+    {
+        let line = self.next()?;
+        match held_line(&line, &mut self.printed) {
+            Ok(held) => Ok(held),
+            Err(e) => Err(at_line(self.number, e)),
+        }
+    }
+
+    // Reads the line of an entry.
+    fn entry(&mut self, kernels: u32) -> Result<Entry, TraceError>
+        requires room { self.old.number + length self.old.rest.now ≤ 1000000000 }
+        requires kernels { 1 ≤ kernels }
+        ensures ok { OnOk result (Follows (entry_form kernels ∷ []) (self.old.number + 1)
+            (whole_lines self.old.rest.now) (self.new.number + 1)
+            (whole_lines self.new.rest.now)) }
+        ensures err { IfErr result (Stops (entry_form kernels ∷ []) (self.old.number + 1)
+            (whole_lines self.old.rest.now)) }
+        ensures read { IfOk result
+            (λ e. self.old.rest.now ≡ line_lem (entry_words e) ++ self.new.rest.now) }
+        ensures behind { OnOk result
+            (whole_lines self.new.rest.now ≡ drop 1 (whole_lines self.old.rest.now)) }
+        ensures room { self.new.number + length self.new.rest.now ≤ 1000000000 }
+        ensures fits { IfOk result (EntryFits kernels) }
+    {
+        let line = self.next()?;
+        match entry_line(&line, kernels, &mut self.printed) {
+            Ok(entry) => Ok(entry),
+            Err(e) => Err(at_line(self.number, e)),
+        }
+    }
+
+    // Reads the line of an entry, and appends the entry.
+    fn append_entry(&mut self, kernels: u32, journal: &mut Journal) -> Result<(), TraceError>
+        requires room { self.old.number + length self.old.rest.now ≤ 1000000000 }
+        requires kernels { 1 ≤ kernels }
+        ensures ok { OnOk result (Follows (entry_form kernels ∷ []) (self.old.number + 1)
+            (whole_lines self.old.rest.now) (self.new.number + 1)
+            (whole_lines self.new.rest.now)) }
+        ensures err { IfErr result (Stops (entry_form kernels ∷ []) (self.old.number + 1)
+            (whole_lines self.old.rest.now)) }
+        ensures read { OnOk result (OneEntry kernels self.old.rest.now self.new.rest.now
+            journal.old.entries journal.new.entries) }
+        ensures behind { OnOk result
+            (whole_lines self.new.rest.now ≡ drop 1 (whole_lines self.old.rest.now)) }
+        ensures room { self.new.number + length self.new.rest.now ≤ 1000000000 }
+    {
+        if journal.room(1).is_err() {
+            return Err(TraceError::Memory);
+        }
+        match self.entry(kernels) {
+            Ok(entry) => {
+                journal.push(entry);
+                Ok(())
+            }
+            Err(e) => Err(e),
+        }
+    }
+
+    // Reads the lines of so many entries.
+    fn entries(&mut self, alloc: Global, number: u64, kernels: u32) -> Result<Journal, TraceError>
+        requires room { self.old.number + length self.old.rest.now ≤ 1000000000 }
+        requires kernels { 1 ≤ kernels }
+        ensures ok { OnOk result (Follows (replicate number (entry_form kernels))
+            (self.old.number + 1) (whole_lines self.old.rest.now) (self.new.number + 1)
+            (whole_lines self.new.rest.now)) }
+        ensures err { IfErr result (Stops (replicate number (entry_form kernels))
+            (self.old.number + 1) (whole_lines self.old.rest.now)) }
+        ensures read { IfOk result
+            (λ j. self.old.rest.now ≡ text (map entry_words j.entries) ++ self.new.rest.now) }
+        ensures count { IfOk result (λ j. length j.entries ≡ number) }
+        ensures fits { IfOk result (λ j. All (EntryFits kernels) j.entries) }
+        ensures behind { OnOk result
+            (whole_lines self.new.rest.now ≡ drop number (whole_lines self.old.rest.now)) }
+        ensures room { self.new.number + length self.new.rest.now ≤ 1000000000 }
+    {
+        let mut journal = Journal::new(alloc);
+        for _ in 0..number {
+            self.append_entry(kernels, &mut journal)?;
+        }
+        Ok(journal)
+    }
+
+    // Reads the lines of so many keys that are held.
+    fn held_keys(&mut self, alloc: Global, number: u64) -> Result<HeldList, TraceError>
+        requires { self.old.number + length self.old.rest.now ≤ 1000000000 }
+        ensures ok { OnOk result (Follows (replicate number held_form) (self.old.number + 1)
+            (whole_lines self.old.rest.now) (self.new.number + 1)
+            (whole_lines self.new.rest.now)) }
+        ensures err { IfErr result (Stops (replicate number held_form) (self.old.number + 1)
+            (whole_lines self.old.rest.now)) }
+        ensures read { IfOk result (λ held. self.old.rest.now
+            ≡ text (map held_words_lem (held_pairs held)) ++ self.new.rest.now) }
+        ensures count { IfOk result (λ held. length held ≡ number) }
+        ensures fits { IfOk result (λ held. All HeldFits (held_pairs held)) }
+        ensures room { self.new.number + length self.new.rest.now ≤ 1000000000 }
+    {
+        let mut keys = HeldList::new(alloc);
+        for _ in 0..number {
+            let held = self.held()?;
+            match keys.push(held) {
+                Ok(()) => {}
+                Err(_) => return Err(TraceError::Memory),
+            }
+        }
+        Ok(keys)
+    }
+
+    // Reads the lines of the audit, with the last line.
+    fn audit(&mut self, alloc: Global) -> Result<Audit, TraceError>
+        requires { self.old.number + length self.old.rest.now ≤ 1000000000 }
+        ensures ok { OnOk result
+            (Follows (audit_forms (count_at (whole_lines self.old.rest.now) 3))
+            (self.old.number + 1) (whole_lines self.old.rest.now) (self.new.number + 1)
+            (whole_lines self.new.rest.now)) }
+        ensures err { IfErr result
+            (Stops (audit_forms (count_at (whole_lines self.old.rest.now) 3)) (self.old.number + 1)
+            (whole_lines self.old.rest.now)) }
+        ensures read { IfOk result (λ a. self.old.rest.now
+            ≡ text (audit_lines a.made a.cut (held_pairs a.held)) ++ self.new.rest.now) }
+        ensures made { IfOk result (λ a. a.made ≤ 4294967295) }
+        ensures cut { IfOk result (λ a. a.cut ≤ 4294967295) }
+        ensures held { IfOk result (λ a. length a.held ≤ 4294967295) }
+        ensures keys { IfOk result (λ a. All HeldFits (held_pairs a.held)) }
+        ensures room { self.new.number + length self.new.rest.now ≤ 1000000000 }
+    {
+        self.name(b"audit")?;
+        let made = self.count(b"made")?;
+        let cut = self.count(b"cut")?;
+        let number = self.count(b"held")?;
+        let held = self.held_keys(alloc, number)?;
+        self.name(b"end")?;
+        Ok(Audit { made, cut, held })
+    }
+
+    // Sees that there is no line more.
+    fn finish(&self) -> Result<(), TraceError>
+        requires { self.now.number + length self.now.rest.now ≤ 1000000000 }
+        ensures ok { OnOk result
+            (forms_fault (self.now.number + 1) [] (whole_lines self.now.rest.now) ≡ None) }
+        ensures err { IfErr result
+            (IsRefused (forms_fault (self.now.number + 1) [] (whole_lines self.now.rest.now))) }
+        ensures nothing { OnOk result (self.now.rest.now ≡ []) }
+    {
+        match next_whole_line(self.rest) {
+            None => Ok(()),
+            Some((line, _)) => {
+                let cause = bytes_fault(line.content).unwrap_or(Cause::TooMany);
+                Err(refused(self.number + 1, cause))
+            }
+        }
+    }
+
+    // Reads the lines of the trace, which follow the first line.
+    fn trace(&mut self, alloc: Global) -> Result<Setup, TraceError>
+        requires start { self.old.number ≡ 1 }
+        requires room { length self.old.rest.now ≤ 500000000 }
+        ensures ok { OnOk result
+            (trace_refusal (trace_section (whole_lines self.old.rest.now)) ≡ None) }
+        ensures err { IfErr result
+            (IsWhy (trace_refusal (trace_section (whole_lines self.old.rest.now)))) }
+        ensures declared { IfOk result
+            (λ T. T ≡ setup_in (trace_section (whole_lines self.old.rest.now))) }
+        ensures fits { IfOk result TraceFits }
+        ensures read { IfOk result (λ T. self.old.rest.now ≡ canonical T ++ self.new.rest.now) }
+        ensures behind { OnOk result (whole_lines self.new.rest.now
+            ≡ drop (length (trace_section (whole_lines self.old.rest.now)))
+            (whole_lines self.old.rest.now)) }
+        ensures number { OnOk result
+            (self.new.number ≡ 1 + length (trace_section (whole_lines self.old.rest.now))) }
+        ensures room { OnOk result (self.new.number + length self.new.rest.now ≤ 1000000000) }
+    {
+        let (section, behind, number) = split_section(self.rest);
+        let setup = match read_section(alloc, section) {
+            Ok(setup) => setup,
+            Err(e) => return Err(line_later(e)),
+        };
+        self.printed.clear();
+        match push_trace(&mut self.printed, &setup) {
+            Ok(()) => {}
+            Err(_) => return Err(TraceError::Memory),
+        }
+        if let Some(line) = first_difference(section, &self.printed, 2) {
+            return Err(refused(line, Cause::NotCanonical));
+        }
+        self.rest = behind;
+        self.number += number;
+        Ok(setup)
+    }
+
+    // Reads the lines behind the trace but for what is behind the last one.
+    fn behind(&mut self, alloc: Global, kernels: u32) -> Result<(Journal, Audit), TraceError>
+        requires room { self.old.number + length self.old.rest.now ≤ 1000000000 }
+        requires kernels { 1 ≤ kernels }
+        ensures ok { OnOk result (Follows (forms_behind kernels (whole_lines self.old.rest.now))
+            (self.old.number + 1) (whole_lines self.old.rest.now) (self.new.number + 1)
+            (whole_lines self.new.rest.now)) }
+        ensures err { IfErr result (Stops (forms_behind kernels (whole_lines self.old.rest.now))
+            (self.old.number + 1) (whole_lines self.old.rest.now)) }
+        ensures read { IfOk result (λ p. self.old.rest.now ≡ text (journal_lines p.0.entries)
+            ++ text (audit_lines p.1.made p.1.cut (held_pairs p.1.held)) ++ self.new.rest.now) }
+        ensures fits { IfOk result (λ p. All (EntryFits kernels) p.0.entries) }
+        ensures entries { IfOk result (λ p. length p.0.entries ≤ 4294967295) }
+        ensures made { IfOk result (λ p. p.1.made ≤ 4294967295) }
+        ensures cut { IfOk result (λ p. p.1.cut ≤ 4294967295) }
+        ensures held { IfOk result (λ p. length p.1.held ≤ 4294967295) }
+        ensures keys { IfOk result (λ p. All HeldFits (held_pairs p.1.held)) }
+        ensures room { self.new.number + length self.new.rest.now ≤ 1000000000 }
+    {
+        let number = self.count(b"journal")?;
+        let journal = self.entries(alloc, number, kernels)?;
+        let audit = self.audit(alloc)?;
+        Ok((journal, audit))
+    }
+}
+
+/// The setup, the journal and the audit that the text of a report tells. The text is refused at
+/// its first bad line. Only the text is tested: whether the entries are those of a run, and the
+/// audit theirs, is not.
+pub fn read_report(alloc: Global, bytes: &[u8]) -> Result<(Setup, Journal, Audit), TraceError>
+    // What is read is what the text tells: it is printed so.
+    ensures read { IfOk result
+        (λ r. bytes.now ≡ report_text r.0 r.1.entries r.2.made r.2.cut (held_pairs r.2.held)) }
+    // Then it is not refused.
+    ensures accepted { OnOk result (report_refusal bytes.now ≡ None) }
+    // Where it is refused, it is refused so.
+    ensures refused { IfErr result (IsWhy (report_refusal bytes.now)) }
+    // What is told is in its ranges.
+    ensures fits { IfOk result
+        (λ r. ReportFits r.0 r.1.entries r.2.made r.2.cut (held_pairs r.2.held)) }
+{
+    if bytes.len() > REPORT_BYTES {
+        return Err(refused(0, Cause::InputTooLong));
+    }
+    let mut lines = Lines {
+        rest: bytes,
+        number: 0,
+        printed: Vec::new(alloc),
+    };
+    lines.header()?;
+    let setup = lines.trace(alloc)?;
+    let (journal, audit) = lines.behind(alloc, setup.kernels)?;
+    lines.finish()?;
+    Ok((setup, journal, audit))
+}
