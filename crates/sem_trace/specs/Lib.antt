@@ -3,6 +3,7 @@ pub mod TraceText
 pub mod TextLines
 pub mod Forms
 pub mod Places
+pub mod Readers
 pub mod Ranges
 pub mod Declarations
 pub mod Earlier

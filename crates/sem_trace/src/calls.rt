@@ -1,71 +1,58 @@
 // The call of a line, from its name on.
-ghost use Rattle.std.specs.Prelude.{◌≡◌, [], ◌∷◌, ◌++◌, codes, IfOk, IfErr};
-ghost use Rattle.sem_msg.specs.Calls.{IsValidCall};
-ghost use Rattle.sem_msg.specs.declared.call.Call.TheVariants.{Derive, Gate, Obtain, Delegate, OpenSession, AskOffer, Revoke, Bind, Read, Write, Send, Credit, Exit, Clear};
-ghost use Rattle.sem_trace.specs.declared.limits.TheConstants.{NODES};
-ghost use Rattle.sem_trace.specs.TextLines.{words_of};
-ghost use Rattle.sem_trace.specs.Forms.{calls as calls_lem, choice, word_at, byte, node, endpoint, rights as rights_lem, slots, word};
-ghost use Rattle.sem_trace.specs.Places.{Fills, Fails};
-ghost use Rattle.sem_trace.specs.Words.{call_words};
-ghost use Rattle.sem_trace.specs.Declarations.{number_at, call_from};
+#![tactic(auto, unfolding(crate::specs::Forms::form_fault, crate::specs::Forms::calls, crate::specs::Declarations::call_from))]
 
+ghost use Rattle.std.specs.Prelude.{◌∷◌, codes};
+ghost use Rattle.sem_trace.specs.Readers.{ReadsCall};
+
+use crate::cursor::Words;
 use crate::fault::Cause;
-use crate::forms::{BYTE, ENDPOINT, NODE, RIGHTS, SLOTS, WORD, first_numbers, first_word, is};
+use crate::forms::{BYTE, ENDPOINT, NODE, RIGHTS, SLOTS, WORD, is};
 use sem_msg::Call;
 
-/// The call in the first places, from its name on, and the words behind it. Takes no memory.
-pub fn first_call(words: &[u8]) -> Result<(Call, &[u8]), Cause>
-    ensures ok { IfOk result (λ p. Fills (choice calls_lem (word_at (words_of words.now) 0)) (words_of words.now) (words_of p.1.now)) }
-    ensures err { IfErr result (Fails (choice calls_lem (word_at (words_of words.now) 0)) (words_of words.now)) }
-    ensures value { IfOk result (λ p. p.0 ≡ call_from (words_of words.now)) }
-    ensures valid { IfOk result (λ p. IsValidCall NODES p.0) }
-    ensures printed { IfOk result (λ p. words_of words.now ≡ call_words p.0 ++ words_of p.1.now) }
-{
-    let (name, rest) = first_word(words)?;
-    if is(name, b"derive") {
-        derive(rest)
-    } else if is(name, b"gate") {
-        gate(rest)
-    } else if is(name, b"obtain") {
-        obtain(rest)
-    } else if is(name, b"delegate") {
-        delegate(rest)
-    } else if is(name, b"open") {
-        open_session(rest)
-    } else if is(name, b"ask") {
-        ask_offer(rest)
-    } else if is(name, b"revoke") {
-        revoke(rest)
-    } else if is(name, b"bind") {
-        bind(rest)
-    } else if is(name, b"read") {
-        read(rest)
-    } else if is(name, b"write") {
-        write(rest)
-    } else if is(name, b"send") {
-        send(rest)
-    } else if is(name, b"credit") {
-        credit(rest)
-    } else if is(name, b"exit") {
-        Ok((Call::Exit, rest))
-    } else if is(name, b"clear") {
-        clear(rest)
-    } else {
-        Err(Cause::UnknownWord)
+impl Words<'_> {
+    /// The next words, a call from its name on. Takes no memory.
+    pub fn call(&mut self) -> Result<Call, Cause>
+        ensures { ReadsCall self.old self.new result }
+    {
+        let name = self.word()?;
+        if is(name, b"derive") {
+            derive(self)
+        } else if is(name, b"gate") {
+            gate(self)
+        } else if is(name, b"obtain") {
+            obtain(self)
+        } else if is(name, b"delegate") {
+            delegate(self)
+        } else if is(name, b"open") {
+            open_session(self)
+        } else if is(name, b"ask") {
+            ask_offer(self)
+        } else if is(name, b"revoke") {
+            revoke(self)
+        } else if is(name, b"bind") {
+            bind(self)
+        } else if is(name, b"read") {
+            read(self)
+        } else if is(name, b"write") {
+            write(self)
+        } else if is(name, b"send") {
+            send(self)
+        } else if is(name, b"credit") {
+            credit(self)
+        } else if is(name, b"exit") {
+            Ok(Call::Exit)
+        } else if is(name, b"clear") {
+            clear(self)
+        } else {
+            Err(Cause::UnknownWord)
+        }
     }
 }
 
-fn derive(words: &[u8]) -> Result<(Call, &[u8]), Cause>
-    ensures ok { IfOk result (λ p. Fills (byte ∷ byte ∷ word ∷ word ∷ rights_lem ∷ []) (words_of words.now) (words_of p.1.now)) }
-    ensures err { IfErr result (Fails (byte ∷ byte ∷ word ∷ word ∷ rights_lem ∷ []) (words_of words.now)) }
-    ensures value { let n = number_at (words_of words.now) in IfOk result (λ p. p.0 ≡ Derive (n 0) (n 1) (n 2) (n 3) (n 4)) }
-    ensures valid { IfOk result (λ p. IsValidCall NODES p.0) }
-    ensures printed { IfOk result (λ p. codes "derive" ∷ words_of words.now ≡ call_words p.0 ++ words_of p.1.now) }
+fn derive(words: &mut Words<'_>) -> Result<Call, Cause>
+    ensures { ReadsCall (codes "derive" ∷ words.old) words.new result }
 {
-    let ([src, dst, off, len, rights], rest) = first_numbers(
-        words,
-        &[BYTE, BYTE, WORD, WORD, RIGHTS],
-    )?;
+    let [src, dst, off, len, rights] = words.numbers(&[BYTE, BYTE, WORD, WORD, RIGHTS])?;
     let call = Call::Derive {
         src: src as u8,
         dst: dst as u8,
@@ -73,180 +60,132 @@ fn derive(words: &[u8]) -> Result<(Call, &[u8]), Cause>
         len: len as u32,
         rights: rights as u8,
     };
-    Ok((call, rest))
+    Ok(call)
 }
 
-fn gate(words: &[u8]) -> Result<(Call, &[u8]), Cause>
-    ensures ok { IfOk result (λ p. Fills (byte ∷ byte ∷ word ∷ slots ∷ []) (words_of words.now) (words_of p.1.now)) }
-    ensures err { IfErr result (Fails (byte ∷ byte ∷ word ∷ slots ∷ []) (words_of words.now)) }
-    ensures value { let n = number_at (words_of words.now) in IfOk result (λ p. p.0 ≡ Gate (n 0) (n 1) (n 2) (n 3)) }
-    ensures valid { IfOk result (λ p. IsValidCall NODES p.0) }
-    ensures printed { IfOk result (λ p. codes "gate" ∷ words_of words.now ≡ call_words p.0 ++ words_of p.1.now) }
+fn gate(words: &mut Words<'_>) -> Result<Call, Cause>
+    ensures { ReadsCall (codes "gate" ∷ words.old) words.new result }
 {
-    let ([src, dst, label, credits, ..], rest) = first_numbers(words, &[BYTE, BYTE, WORD, SLOTS])?;
+    let [src, dst, label, credits, ..] = words.numbers(&[BYTE, BYTE, WORD, SLOTS])?;
     let call = Call::Gate {
         src: src as u8,
         dst: dst as u8,
         label: label as u32,
         credits: credits as u8,
     };
-    Ok((call, rest))
+    Ok(call)
 }
 
-fn obtain(words: &[u8]) -> Result<(Call, &[u8]), Cause>
-    ensures ok { IfOk result (λ p. Fills (byte ∷ node ∷ byte ∷ []) (words_of words.now) (words_of p.1.now)) }
-    ensures err { IfErr result (Fails (byte ∷ node ∷ byte ∷ []) (words_of words.now)) }
-    ensures value { let n = number_at (words_of words.now) in IfOk result (λ p. p.0 ≡ Obtain (n 0) (n 1) (n 2)) }
-    ensures valid { IfOk result (λ p. IsValidCall NODES p.0) }
-    ensures printed { IfOk result (λ p. codes "obtain" ∷ words_of words.now ≡ call_words p.0 ++ words_of p.1.now) }
+fn obtain(words: &mut Words<'_>) -> Result<Call, Cause>
+    ensures { ReadsCall (codes "obtain" ∷ words.old) words.new result }
 {
-    let ([dst, vpe, src, ..], rest) = first_numbers(words, &[BYTE, NODE, BYTE])?;
+    let [dst, vpe, src, ..] = words.numbers(&[BYTE, NODE, BYTE])?;
     let call = Call::Obtain {
         dst: dst as u8,
         vpe: vpe as u16,
         src: src as u8,
     };
-    Ok((call, rest))
+    Ok(call)
 }
 
-fn delegate(words: &[u8]) -> Result<(Call, &[u8]), Cause>
-    ensures ok { IfOk result (λ p. Fills (byte ∷ node ∷ byte ∷ []) (words_of words.now) (words_of p.1.now)) }
-    ensures err { IfErr result (Fails (byte ∷ node ∷ byte ∷ []) (words_of words.now)) }
-    ensures value { let n = number_at (words_of words.now) in IfOk result (λ p. p.0 ≡ Delegate (n 0) (n 1) (n 2)) }
-    ensures valid { IfOk result (λ p. IsValidCall NODES p.0) }
-    ensures printed { IfOk result (λ p. codes "delegate" ∷ words_of words.now ≡ call_words p.0 ++ words_of p.1.now) }
+fn delegate(words: &mut Words<'_>) -> Result<Call, Cause>
+    ensures { ReadsCall (codes "delegate" ∷ words.old) words.new result }
 {
-    let ([src, vpe, dst, ..], rest) = first_numbers(words, &[BYTE, NODE, BYTE])?;
+    let [src, vpe, dst, ..] = words.numbers(&[BYTE, NODE, BYTE])?;
     let call = Call::Delegate {
         src: src as u8,
         vpe: vpe as u16,
         dst: dst as u8,
     };
-    Ok((call, rest))
+    Ok(call)
 }
 
-fn open_session(words: &[u8]) -> Result<(Call, &[u8]), Cause>
-    ensures ok { IfOk result (λ p. Fills (byte ∷ byte ∷ []) (words_of words.now) (words_of p.1.now)) }
-    ensures err { IfErr result (Fails (byte ∷ byte ∷ []) (words_of words.now)) }
-    ensures value { let n = number_at (words_of words.now) in IfOk result (λ p. p.0 ≡ OpenSession (n 0) (n 1)) }
-    ensures valid { IfOk result (λ p. IsValidCall NODES p.0) }
-    ensures printed { IfOk result (λ p. codes "open" ∷ words_of words.now ≡ call_words p.0 ++ words_of p.1.now) }
+fn open_session(words: &mut Words<'_>) -> Result<Call, Cause>
+    ensures { ReadsCall (codes "open" ∷ words.old) words.new result }
 {
-    let ([dst, name, ..], rest) = first_numbers(words, &[BYTE, BYTE])?;
+    let [dst, name, ..] = words.numbers(&[BYTE, BYTE])?;
     let call = Call::OpenSession {
         dst: dst as u8,
         name: name as u8,
     };
-    Ok((call, rest))
+    Ok(call)
 }
 
-fn ask_offer(words: &[u8]) -> Result<(Call, &[u8]), Cause>
-    ensures ok { IfOk result (λ p. Fills (byte ∷ byte ∷ byte ∷ []) (words_of words.now) (words_of p.1.now)) }
-    ensures err { IfErr result (Fails (byte ∷ byte ∷ byte ∷ []) (words_of words.now)) }
-    ensures value { let n = number_at (words_of words.now) in IfOk result (λ p. p.0 ≡ AskOffer (n 0) (n 1) (n 2)) }
-    ensures valid { IfOk result (λ p. IsValidCall NODES p.0) }
-    ensures printed { IfOk result (λ p. codes "ask" ∷ words_of words.now ≡ call_words p.0 ++ words_of p.1.now) }
+fn ask_offer(words: &mut Words<'_>) -> Result<Call, Cause>
+    ensures { ReadsCall (codes "ask" ∷ words.old) words.new result }
 {
-    let ([dst, session, index, ..], rest) = first_numbers(words, &[BYTE, BYTE, BYTE])?;
+    let [dst, session, index, ..] = words.numbers(&[BYTE, BYTE, BYTE])?;
     let call = Call::AskOffer {
         dst: dst as u8,
         session: session as u8,
         index: index as u8,
     };
-    Ok((call, rest))
+    Ok(call)
 }
 
-fn revoke(words: &[u8]) -> Result<(Call, &[u8]), Cause>
-    ensures ok { IfOk result (λ p. Fills (byte ∷ []) (words_of words.now) (words_of p.1.now)) }
-    ensures err { IfErr result (Fails (byte ∷ []) (words_of words.now)) }
-    ensures value { let n = number_at (words_of words.now) in IfOk result (λ p. p.0 ≡ Revoke (n 0)) }
-    ensures valid { IfOk result (λ p. IsValidCall NODES p.0) }
-    ensures printed { IfOk result (λ p. codes "revoke" ∷ words_of words.now ≡ call_words p.0 ++ words_of p.1.now) }
+fn revoke(words: &mut Words<'_>) -> Result<Call, Cause>
+    ensures { ReadsCall (codes "revoke" ∷ words.old) words.new result }
 {
-    let ([src, ..], rest) = first_numbers(words, &[BYTE])?;
-    Ok((Call::Revoke { src: src as u8 }, rest))
+    let [src, ..] = words.numbers(&[BYTE])?;
+    Ok(Call::Revoke { src: src as u8 })
 }
 
-fn bind(words: &[u8]) -> Result<(Call, &[u8]), Cause>
-    ensures ok { IfOk result (λ p. Fills (endpoint ∷ byte ∷ []) (words_of words.now) (words_of p.1.now)) }
-    ensures err { IfErr result (Fails (endpoint ∷ byte ∷ []) (words_of words.now)) }
-    ensures value { let n = number_at (words_of words.now) in IfOk result (λ p. p.0 ≡ Bind (n 0) (n 1)) }
-    ensures valid { IfOk result (λ p. IsValidCall NODES p.0) }
-    ensures printed { IfOk result (λ p. codes "bind" ∷ words_of words.now ≡ call_words p.0 ++ words_of p.1.now) }
+fn bind(words: &mut Words<'_>) -> Result<Call, Cause>
+    ensures { ReadsCall (codes "bind" ∷ words.old) words.new result }
 {
-    let ([ep, src, ..], rest) = first_numbers(words, &[ENDPOINT, BYTE])?;
+    let [ep, src, ..] = words.numbers(&[ENDPOINT, BYTE])?;
     let call = Call::Bind {
         ep: ep as u8,
         src: src as u8,
     };
-    Ok((call, rest))
+    Ok(call)
 }
 
-fn read(words: &[u8]) -> Result<(Call, &[u8]), Cause>
-    ensures ok { IfOk result (λ p. Fills (endpoint ∷ word ∷ word ∷ []) (words_of words.now) (words_of p.1.now)) }
-    ensures err { IfErr result (Fails (endpoint ∷ word ∷ word ∷ []) (words_of words.now)) }
-    ensures value { let n = number_at (words_of words.now) in IfOk result (λ p. p.0 ≡ Read (n 0) (n 1) (n 2)) }
-    ensures valid { IfOk result (λ p. IsValidCall NODES p.0) }
-    ensures printed { IfOk result (λ p. codes "read" ∷ words_of words.now ≡ call_words p.0 ++ words_of p.1.now) }
+fn read(words: &mut Words<'_>) -> Result<Call, Cause>
+    ensures { ReadsCall (codes "read" ∷ words.old) words.new result }
 {
-    let ([ep, off, len, ..], rest) = first_numbers(words, &[ENDPOINT, WORD, WORD])?;
+    let [ep, off, len, ..] = words.numbers(&[ENDPOINT, WORD, WORD])?;
     let call = Call::Read {
         ep: ep as u8,
         off: off as u32,
         len: len as u32,
     };
-    Ok((call, rest))
+    Ok(call)
 }
 
-fn write(words: &[u8]) -> Result<(Call, &[u8]), Cause>
-    ensures ok { IfOk result (λ p. Fills (endpoint ∷ word ∷ word ∷ []) (words_of words.now) (words_of p.1.now)) }
-    ensures err { IfErr result (Fails (endpoint ∷ word ∷ word ∷ []) (words_of words.now)) }
-    ensures value { let n = number_at (words_of words.now) in IfOk result (λ p. p.0 ≡ Write (n 0) (n 1) (n 2)) }
-    ensures valid { IfOk result (λ p. IsValidCall NODES p.0) }
-    ensures printed { IfOk result (λ p. codes "write" ∷ words_of words.now ≡ call_words p.0 ++ words_of p.1.now) }
+fn write(words: &mut Words<'_>) -> Result<Call, Cause>
+    ensures { ReadsCall (codes "write" ∷ words.old) words.new result }
 {
-    let ([ep, off, len, ..], rest) = first_numbers(words, &[ENDPOINT, WORD, WORD])?;
+    let [ep, off, len, ..] = words.numbers(&[ENDPOINT, WORD, WORD])?;
     let call = Call::Write {
         ep: ep as u8,
         off: off as u32,
         len: len as u32,
     };
-    Ok((call, rest))
+    Ok(call)
 }
 
-fn send(words: &[u8]) -> Result<(Call, &[u8]), Cause>
-    ensures ok { IfOk result (λ p. Fills (endpoint ∷ word ∷ []) (words_of words.now) (words_of p.1.now)) }
-    ensures err { IfErr result (Fails (endpoint ∷ word ∷ []) (words_of words.now)) }
-    ensures value { let n = number_at (words_of words.now) in IfOk result (λ p. p.0 ≡ Send (n 0) (n 1)) }
-    ensures valid { IfOk result (λ p. IsValidCall NODES p.0) }
-    ensures printed { IfOk result (λ p. codes "send" ∷ words_of words.now ≡ call_words p.0 ++ words_of p.1.now) }
+fn send(words: &mut Words<'_>) -> Result<Call, Cause>
+    ensures { ReadsCall (codes "send" ∷ words.old) words.new result }
 {
-    let ([ep, len, ..], rest) = first_numbers(words, &[ENDPOINT, WORD])?;
+    let [ep, len, ..] = words.numbers(&[ENDPOINT, WORD])?;
     let call = Call::Send {
         ep: ep as u8,
         len: len as u32,
     };
-    Ok((call, rest))
+    Ok(call)
 }
 
-fn credit(words: &[u8]) -> Result<(Call, &[u8]), Cause>
-    ensures ok { IfOk result (λ p. Fills (endpoint ∷ []) (words_of words.now) (words_of p.1.now)) }
-    ensures err { IfErr result (Fails (endpoint ∷ []) (words_of words.now)) }
-    ensures value { let n = number_at (words_of words.now) in IfOk result (λ p. p.0 ≡ Credit (n 0)) }
-    ensures valid { IfOk result (λ p. IsValidCall NODES p.0) }
-    ensures printed { IfOk result (λ p. codes "credit" ∷ words_of words.now ≡ call_words p.0 ++ words_of p.1.now) }
+fn credit(words: &mut Words<'_>) -> Result<Call, Cause>
+    ensures { ReadsCall (codes "credit" ∷ words.old) words.new result }
 {
-    let ([ep, ..], rest) = first_numbers(words, &[ENDPOINT])?;
-    Ok((Call::Credit { ep: ep as u8 }, rest))
+    let [ep, ..] = words.numbers(&[ENDPOINT])?;
+    Ok(Call::Credit { ep: ep as u8 })
 }
 
-fn clear(words: &[u8]) -> Result<(Call, &[u8]), Cause>
-    ensures ok { IfOk result (λ p. Fills (byte ∷ []) (words_of words.now) (words_of p.1.now)) }
-    ensures err { IfErr result (Fails (byte ∷ []) (words_of words.now)) }
-    ensures value { let n = number_at (words_of words.now) in IfOk result (λ p. p.0 ≡ Clear (n 0)) }
-    ensures valid { IfOk result (λ p. IsValidCall NODES p.0) }
-    ensures printed { IfOk result (λ p. codes "clear" ∷ words_of words.now ≡ call_words p.0 ++ words_of p.1.now) }
+fn clear(words: &mut Words<'_>) -> Result<Call, Cause>
+    ensures { ReadsCall (codes "clear" ∷ words.old) words.new result }
 {
-    let ([src, ..], rest) = first_numbers(words, &[BYTE])?;
-    Ok((Call::Clear { src: src as u8 }, rest))
+    let [src, ..] = words.numbers(&[BYTE])?;
+    Ok(Call::Clear { src: src as u8 })
 }

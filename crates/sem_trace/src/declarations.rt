@@ -1,30 +1,31 @@
 // What a line says, from its first word on.
-ghost use Rattle.std.specs.Prelude.{◌≡◌, ℕ, ◌≤◌, ◌-◌, [], drop, ◌∷◌, IfOk};
+#![tactic(auto, unfolding(crate::specs::Forms::form_fault, crate::specs::Forms::form, crate::specs::Forms::lines, crate::specs::Declarations::declaration))]
+
+ghost use Rattle.std.specs.Prelude.{◌≡◌, ℕ, ◌≤◌, ◌∷◌, [], codes, IfOk};
 ghost use Rattle.std.specs.Result.{result_err};
-ghost use Rattle.sem_trace.specs.declared.declaration.Declaration.TheVariants.{Kernels, Pe, Vpe, Memory, Receive, Service, Offer, Deny, Kill, Call as Calls, End};
+ghost use Rattle.sem_trace.specs.declared.declaration.Declaration.TheVariants.{Memory, Receive};
 ghost use Rattle.sem_trace.specs.declared.limits.TheConstants.{MOST_KERNELS};
 ghost use Rattle.sem_trace.specs.TextLines.{words_of};
-ghost use Rattle.sem_trace.specs.Forms.Place.{Number};
-ghost use Rattle.sem_trace.specs.Forms.{form_fault, first_form, second_form, form, objects, calls, choice, word_at, up_to, byte, node, word, rights as rights_lem, slots as slots_lem};
-ghost use Rattle.sem_trace.specs.Declarations.{number_at, call_from, root_from, declaration as declaration_lem};
+ghost use Rattle.sem_trace.specs.Forms.{form_fault, first_form, second_form, word, rights as rights_lem, slots as slots_lem};
+ghost use Rattle.sem_trace.specs.Declarations.{number_at};
 ghost use Rattle.sem_trace.specs.Ranges.{IsNode, IsInRange};
+ghost use Rattle.sem_trace.specs.Readers.{ReadsLine};
 
-use crate::calls::first_call;
+use crate::cursor::Words;
 use crate::declaration::Declaration;
 use crate::fault::Cause;
-use crate::forms::{
-    BYTE, KERNELS, NODE, RIGHTS, Range, SLOTS, WORD, first_numbers, first_word, fixed, is, no_more,
-    numbers,
-};
+use crate::forms::{BYTE, KERNELS, NODE, RIGHTS, Range, SLOTS, WORD, is};
 
 /// Sees that the line is the first of a trace. Takes no memory.
 #[tactic(auto, unfolding(crate::specs::Forms::first_form))]
 pub fn read_first(line: &[u8]) -> Result<(), Cause>
     ensures { form_fault first_form (words_of line.now) ≡ result_err result }
 {
-    let rest = fixed(line, b"semper")?;
-    let rest = fixed(rest, b"trace")?;
-    no_more(fixed(rest, b"1")?)
+    let mut words = Words::of(line);
+    words.fixed(b"semper")?;
+    words.fixed(b"trace")?;
+    words.fixed(b"1")?;
+    words.no_more()
 }
 
 /// How many kernels the line says that there are, where it is the second of a trace. Takes no
@@ -36,73 +37,67 @@ pub fn read_second(line: &[u8]) -> Result<u32, Cause>
     ensures least { IfOk result (λ kernels. 1 ≤ kernels) }
     ensures most { IfOk result (λ kernels. kernels ≤ MOST_KERNELS) }
 {
-    let rest = fixed(line, b"kernels")?;
-    let [kernels, ..] = numbers(rest, &[KERNELS])?;
+    let mut words = Words::of(line);
+    words.fixed(b"kernels")?;
+    let [kernels, ..] = words.last_numbers(&[KERNELS])?;
     Ok(kernels as u32)
 }
 
 /// What the line says behind the second, where there are so many kernels. Takes no memory.
 pub fn read_declaration(line: &[u8], kernels: u32) -> Result<Declaration, Cause>
     requires { 1 ≤ kernels }
-    ensures fault { form_fault (form kernels (words_of line.now)) (words_of line.now) ≡ result_err result }
-    ensures value { IfOk result (λ d. d ≡ declaration_lem (words_of line.now)) }
-    ensures ranges { IfOk result (IsInRange kernels) }
+    ensures { ReadsLine kernels (words_of line.now) result }
 {
-    let (name, rest) = first_word(line)?;
+    let mut words = Words::of(line);
+    let name = words.word()?;
     if is(name, b"kernels") {
-        kernels_line(rest)
+        kernels_line(&mut words)
     } else if is(name, b"pe") {
-        pe_line(rest, kernels)
+        pe_line(&mut words, kernels)
     } else if is(name, b"vpe") {
-        vpe_line(rest)
+        vpe_line(&mut words)
     } else if is(name, b"root") {
-        root_line(rest)
+        root_line(&mut words)
     } else if is(name, b"service") {
-        service_line(rest)
+        service_line(&mut words)
     } else if is(name, b"offer") {
-        offer_line(rest)
+        offer_line(&mut words)
     } else if is(name, b"deny") {
-        deny_line(rest)
+        deny_line(&mut words)
     } else if is(name, b"kill") {
-        kill_line(rest)
+        kill_line(&mut words)
     } else if is(name, b"call") {
-        call_line(rest)
+        call_line(&mut words)
     } else if is(name, b"end") {
-        end_line(rest)
+        end_line(&mut words)
     } else {
         Err(Cause::UnknownWord)
     }
 }
 
-fn kernels_line(words: &[u8]) -> Result<Declaration, Cause>
-    ensures fault { form_fault (Number 1 MOST_KERNELS ∷ []) (words_of words.now) ≡ result_err result }
-    ensures value { let n = number_at (words_of words.now) in IfOk result (λ d. d ≡ Kernels (n 0)) }
-    ensures ranges { (kernels : ℕ) → IfOk result (IsInRange kernels) }
+fn kernels_line(words: &mut Words<'_>) -> Result<Declaration, Cause>
+    ensures { (kernels : ℕ) → ReadsLine kernels (codes "kernels" ∷ words.old) result }
 {
-    let [kernels, ..] = numbers(words, &[KERNELS])?;
+    let [kernels, ..] = words.last_numbers(&[KERNELS])?;
     Ok(Declaration::Kernels {
         kernels: kernels as u32,
     })
 }
 
-fn vpe_line(words: &[u8]) -> Result<Declaration, Cause>
-    ensures fault { form_fault (node ∷ node ∷ []) (words_of words.now) ≡ result_err result }
-    ensures value { let n = number_at (words_of words.now) in IfOk result (λ d. d ≡ Vpe (n 0) (n 1)) }
-    ensures ranges { (kernels : ℕ) → IfOk result (IsInRange kernels) }
+fn vpe_line(words: &mut Words<'_>) -> Result<Declaration, Cause>
+    ensures { (kernels : ℕ) → ReadsLine kernels (codes "vpe" ∷ words.old) result }
 {
-    let [vpe, pe, ..] = numbers(words, &[NODE, NODE])?;
+    let [vpe, pe, ..] = words.last_numbers(&[NODE, NODE])?;
     Ok(Declaration::Vpe {
         vpe: vpe as u16,
         pe: pe as u8,
     })
 }
 
-fn service_line(words: &[u8]) -> Result<Declaration, Cause>
-    ensures fault { form_fault (node ∷ byte ∷ byte ∷ []) (words_of words.now) ≡ result_err result }
-    ensures value { let n = number_at (words_of words.now) in IfOk result (λ d. d ≡ Service (n 0) (n 1) (n 2)) }
-    ensures ranges { (kernels : ℕ) → IfOk result (IsInRange kernels) }
+fn service_line(words: &mut Words<'_>) -> Result<Declaration, Cause>
+    ensures { (kernels : ℕ) → ReadsLine kernels (codes "service" ∷ words.old) result }
 {
-    let [vpe, sel, name, ..] = numbers(words, &[NODE, BYTE, BYTE])?;
+    let [vpe, sel, name, ..] = words.last_numbers(&[NODE, BYTE, BYTE])?;
     Ok(Declaration::Service {
         vpe: vpe as u16,
         sel: sel as u8,
@@ -110,12 +105,10 @@ fn service_line(words: &[u8]) -> Result<Declaration, Cause>
     })
 }
 
-fn offer_line(words: &[u8]) -> Result<Declaration, Cause>
-    ensures fault { form_fault (byte ∷ byte ∷ byte ∷ []) (words_of words.now) ≡ result_err result }
-    ensures value { let n = number_at (words_of words.now) in IfOk result (λ d. d ≡ Offer (n 0) (n 1) (n 2)) }
-    ensures ranges { (kernels : ℕ) → IfOk result (IsInRange kernels) }
+fn offer_line(words: &mut Words<'_>) -> Result<Declaration, Cause>
+    ensures { (kernels : ℕ) → ReadsLine kernels (codes "offer" ∷ words.old) result }
 {
-    let [name, index, sel, ..] = numbers(words, &[BYTE, BYTE, BYTE])?;
+    let [name, index, sel, ..] = words.last_numbers(&[BYTE, BYTE, BYTE])?;
     Ok(Declaration::Offer {
         name: name as u8,
         index: index as u8,
@@ -123,54 +116,48 @@ fn offer_line(words: &[u8]) -> Result<Declaration, Cause>
     })
 }
 
-fn deny_line(words: &[u8]) -> Result<Declaration, Cause>
-    ensures fault { form_fault (node ∷ node ∷ []) (words_of words.now) ≡ result_err result }
-    ensures value { let n = number_at (words_of words.now) in IfOk result (λ d. d ≡ Deny (n 0) (n 1)) }
-    ensures ranges { (kernels : ℕ) → IfOk result (IsInRange kernels) }
+fn deny_line(words: &mut Words<'_>) -> Result<Declaration, Cause>
+    ensures { (kernels : ℕ) → ReadsLine kernels (codes "deny" ∷ words.old) result }
 {
-    let [vpe, asker, ..] = numbers(words, &[NODE, NODE])?;
+    let [vpe, asker, ..] = words.last_numbers(&[NODE, NODE])?;
     Ok(Declaration::Deny {
         vpe: vpe as u16,
         asker: asker as u16,
     })
 }
 
-fn kill_line(words: &[u8]) -> Result<Declaration, Cause>
-    ensures fault { form_fault (node ∷ word ∷ []) (words_of words.now) ≡ result_err result }
-    ensures value { let n = number_at (words_of words.now) in IfOk result (λ d. d ≡ Kill (n 0) (n 1)) }
-    ensures ranges { (kernels : ℕ) → IfOk result (IsInRange kernels) }
+fn kill_line(words: &mut Words<'_>) -> Result<Declaration, Cause>
+    ensures { (kernels : ℕ) → ReadsLine kernels (codes "kill" ∷ words.old) result }
 {
-    let [vpe, replies, ..] = numbers(words, &[NODE, WORD])?;
+    let [vpe, replies, ..] = words.last_numbers(&[NODE, WORD])?;
     Ok(Declaration::Kill {
         vpe: vpe as u16,
         replies,
     })
 }
 
-fn pe_line(words: &[u8], kernels: u32) -> Result<Declaration, Cause>
+fn pe_line(words: &mut Words<'_>, kernels: u32) -> Result<Declaration, Cause>
     requires { 1 ≤ kernels }
-    ensures fault { form_fault (node ∷ up_to (kernels - 1) ∷ []) (words_of words.now) ≡ result_err result }
-    ensures value { let n = number_at (words_of words.now) in IfOk result (λ d. d ≡ Pe (n 0) (n 1)) }
-    ensures ranges { IfOk result (IsInRange kernels) }
+    ensures { ReadsLine kernels (codes "pe" ∷ words.old) result }
 {
     let last = Range {
         least: 0,
         most: u64::from(kernels) - 1,
     };
-    let [pe, kernel, ..] = numbers(words, &[NODE, last])?;
+    let [pe, kernel, ..] = words.last_numbers(&[NODE, last])?;
     Ok(Declaration::Pe {
         pe: pe as u8,
         kernel: kernel as u32,
     })
 }
 
-fn memory(vpe: u16, sel: u8, words: &[u8]) -> Result<Declaration, Cause>
+fn memory(vpe: u16, sel: u8, words: &mut Words<'_>) -> Result<Declaration, Cause>
     requires { IsNode vpe }
-    ensures fault { form_fault (word ∷ word ∷ rights_lem ∷ []) (words_of words.now) ≡ result_err result }
-    ensures value { let n = number_at (words_of words.now) in IfOk result (λ d. d ≡ Memory vpe sel (n 0) (n 1) (n 2)) }
+    ensures fault { form_fault (word ∷ word ∷ rights_lem ∷ []) words.old ≡ result_err result }
+    ensures value { let n = number_at words.old in IfOk result (λ d. d ≡ Memory vpe sel (n 0) (n 1) (n 2)) }
     ensures ranges { (kernels : ℕ) → IfOk result (IsInRange kernels) }
 {
-    let [base, len, rights, ..] = numbers(words, &[WORD, WORD, RIGHTS])?;
+    let [base, len, rights, ..] = words.last_numbers(&[WORD, WORD, RIGHTS])?;
     Ok(Declaration::Memory {
         vpe,
         sel,
@@ -180,13 +167,13 @@ fn memory(vpe: u16, sel: u8, words: &[u8]) -> Result<Declaration, Cause>
     })
 }
 
-fn receive(vpe: u16, sel: u8, words: &[u8]) -> Result<Declaration, Cause>
+fn receive(vpe: u16, sel: u8, words: &mut Words<'_>) -> Result<Declaration, Cause>
     requires { IsNode vpe }
-    ensures fault { form_fault (slots_lem ∷ []) (words_of words.now) ≡ result_err result }
-    ensures value { let n = number_at (words_of words.now) in IfOk result (λ d. d ≡ Receive vpe sel (n 0)) }
+    ensures fault { form_fault (slots_lem ∷ []) words.old ≡ result_err result }
+    ensures value { let n = number_at words.old in IfOk result (λ d. d ≡ Receive vpe sel (n 0)) }
     ensures ranges { (kernels : ℕ) → IfOk result (IsInRange kernels) }
 {
-    let [slots, ..] = numbers(words, &[SLOTS])?;
+    let [slots, ..] = words.last_numbers(&[SLOTS])?;
     Ok(Declaration::Receive {
         vpe,
         sel,
@@ -194,40 +181,35 @@ fn receive(vpe: u16, sel: u8, words: &[u8]) -> Result<Declaration, Cause>
     })
 }
 
-fn root_line(words: &[u8]) -> Result<Declaration, Cause>
-    ensures fault { form_fault (node ∷ byte ∷ choice objects (word_at (words_of words.now) 2)) (words_of words.now) ≡ result_err result }
-    ensures value { IfOk result (λ d. d ≡ root_from (words_of words.now)) }
-    ensures ranges { (kernels : ℕ) → IfOk result (IsInRange kernels) }
+fn root_line(words: &mut Words<'_>) -> Result<Declaration, Cause>
+    ensures { (kernels : ℕ) → ReadsLine kernels (codes "root" ∷ words.old) result }
 {
-    let ([vpe, sel, ..], rest) = first_numbers(words, &[NODE, BYTE])?;
-    let (name, rest) = first_word(rest)?;
+    let [vpe, sel, ..] = words.numbers(&[NODE, BYTE])?;
+    let name = words.word()?;
     if is(name, b"mem") {
-        memory(vpe as u16, sel as u8, rest)
+        memory(vpe as u16, sel as u8, words)
     } else if is(name, b"recv") {
-        receive(vpe as u16, sel as u8, rest)
+        receive(vpe as u16, sel as u8, words)
     } else {
         Err(Cause::UnknownWord)
     }
 }
 
-fn call_line(words: &[u8]) -> Result<Declaration, Cause>
-    ensures fault { form_fault (node ∷ choice calls (word_at (words_of words.now) 1)) (words_of words.now) ≡ result_err result }
-    ensures value { IfOk result (λ d. d ≡ Calls (number_at (words_of words.now) 0) (call_from (drop 1 (words_of words.now)))) }
-    ensures ranges { (kernels : ℕ) → IfOk result (IsInRange kernels) }
+fn call_line(words: &mut Words<'_>) -> Result<Declaration, Cause>
+    ensures { (kernels : ℕ) → ReadsLine kernels (codes "call" ∷ words.old) result }
 {
-    let ([vpe, ..], rest) = first_numbers(words, &[NODE])?;
-    let (call, rest) = first_call(rest)?;
-    no_more(rest)?;
+    let [vpe, ..] = words.numbers(&[NODE])?;
+    let call = words.call()?;
+    words.no_more()?;
     Ok(Declaration::Call {
         vpe: vpe as u16,
         call,
     })
 }
 
-fn end_line(words: &[u8]) -> Result<Declaration, Cause>
-    ensures fault { form_fault [] (words_of words.now) ≡ result_err result }
-    ensures value { IfOk result (λ d. d ≡ End) }
+fn end_line(words: &mut Words<'_>) -> Result<Declaration, Cause>
+    ensures { (kernels : ℕ) → ReadsLine kernels (codes "end" ∷ words.old) result }
 {
-    no_more(words)?;
+    words.no_more()?;
     Ok(Declaration::End)
 }

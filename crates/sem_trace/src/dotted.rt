@@ -3,16 +3,16 @@ ghost use Rattle.std.specs.Prelude.{◌≡◌, ℕ, ◌≤◌, ◌==◌, true, f
 ghost use Rattle.std.specs.List.{position_or_len};
 ghost use Rattle.std.specs.Result.{result_err};
 ghost use Rattle.sem_key.specs.KeyName.{kind_number};
-ghost use Rattle.sem_trace.specs.TextLines.{words_of};
 ghost use Rattle.sem_trace.specs.Words.{key_word, place_word};
 ghost use Rattle.sem_trace.specs.Forms.{place_fault, parts_of, are_numbers, is_between, key as key_lem, key_place};
 ghost use Rattle.sem_text.specs.Number.{is_number as is_number_lem};
 ghost use Rattle.sem_trace.specs.declared.fault.Cause.TheVariants.{BadNumber, OutOfRange};
 ghost use Rattle.sem_trace.specs.Ranges.{IsKeyInText, IsPlaceInText};
-ghost use Rattle.sem_trace.specs.Places.{Fills, Fails, IsWithin, bounds};
+ghost use Rattle.sem_trace.specs.Places.{Reads, IsWithin, bounds};
 
+use crate::cursor::Words;
 use crate::fault::Cause;
-use crate::forms::{NODE, Range, first_word, number_in};
+use crate::forms::{NODE, Range, number_in};
 use sem_key::{Key, Kind, NUMBERS, Place};
 use sem_text::{NumberFault, number};
 
@@ -147,24 +147,22 @@ fn place(word: &[u8]) -> Result<Place, Cause>
     })
 }
 
-/// The key in the first place, and the words behind it. Takes no memory.
-pub fn first_key(words: &[u8]) -> Result<(Key, &[u8]), Cause>
-    ensures ok { IfOk result (λ p. Fills (key_lem ∷ []) (words_of words.now) (words_of p.1.now)) }
-    ensures err { IfErr result (Fails (key_lem ∷ []) (words_of words.now)) }
-    ensures printed { IfOk result (λ p. words_of words.now ≡ key_word p.0 ∷ words_of p.1.now) }
-    ensures told { IfOk result (λ p. IsKeyInText p.0) }
-{
-    let (word, rest) = first_word(words)?;
-    Ok((key(word)?, rest))
-}
+impl Words<'_> {
+    /// The next word, a key. Takes no memory.
+    pub fn key(&mut self) -> Result<Key, Cause>
+        ensures reads { Reads (key_lem ∷ []) (λ k. key_word k ∷ []) self.old self.new result }
+        ensures told { IfOk result IsKeyInText }
+    {
+        let word = self.word()?;
+        key(word)
+    }
 
-/// The place of a key in the first place, and the words behind it. Takes no memory.
-pub fn first_place(words: &[u8]) -> Result<(Place, &[u8]), Cause>
-    ensures ok { IfOk result (λ p. Fills (key_place ∷ []) (words_of words.now) (words_of p.1.now)) }
-    ensures err { IfErr result (Fails (key_place ∷ []) (words_of words.now)) }
-    ensures printed { IfOk result (λ p. words_of words.now ≡ place_word p.0 ∷ words_of p.1.now) }
-    ensures told { IfOk result (λ p. IsPlaceInText p.0) }
-{
-    let (word, rest) = first_word(words)?;
-    Ok((place(word)?, rest))
+    /// The next word, the place of a key. Takes no memory.
+    pub fn place(&mut self) -> Result<Place, Cause>
+        ensures reads { Reads (key_place ∷ []) (λ p. place_word p ∷ []) self.old self.new result }
+        ensures told { IfOk result IsPlaceInText }
+    {
+        let word = self.word()?;
+        place(word)
+    }
 }

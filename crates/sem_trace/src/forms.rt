@@ -1,17 +1,16 @@
 // The places of a line, read from the left.
-ghost use Rattle.std.specs.Prelude.{◌≡◌, ℕ, ◌+◌, ◌<◌, ◌≤◌, List, [], ◌∷◌, ◌++◌, map, length, take, drop, decimal, slice_index, slice_index_or, IfOk, IfErr, Some, None};
+ghost use Rattle.std.specs.Prelude.{◌≡◌, ℕ, ◌<◌, ◌≤◌, [], ◌∷◌, map, length, take, drop, decimal, slice_index, IfOk, OnOk};
 ghost use Rattle.std.specs.Bool.{Decides};
 ghost use Rattle.std.specs.Result.{result_err};
 ghost use Rattle.sem_text.specs.Number.{number_value};
-ghost use Rattle.sem_trace.specs.TextLines.{words_of};
-ghost use Rattle.sem_trace.specs.Forms.{Place, place_fault, form_fault};
+ghost use Rattle.sem_trace.specs.Forms.{place_fault, form_fault};
 ghost use Rattle.sem_trace.specs.Forms.Place.{Word};
 ghost use Rattle.sem_trace.specs.Declarations.{number_at};
-ghost use Rattle.sem_trace.specs.Places.{Fills, Fails, number_place, least_at, most_at, IsWithin};
+ghost use Rattle.sem_trace.specs.Places.{Reads, AreNumbers, number_place, IsWithin};
 
+use crate::cursor::Words;
 use crate::fault::Cause;
 use crate::limits::{MOST_KERNELS, NODES};
-use crate::text_lines::next_word;
 use sem_msg::ENDPOINTS;
 use sem_text::{NumberFault, number};
 
@@ -82,85 +81,51 @@ pub fn is(word: &[u8], name: &[u8]) -> bool
     word == name
 }
 
-/// Nothing stands behind the last place. Takes no memory.
-pub fn no_more(words: &[u8]) -> Result<(), Cause>
-    ensures { form_fault [] (words_of words.now) ≡ result_err result }
-{
-    match next_word(words) {
-        Some(_) => Err(Cause::TooMany),
-        None => Ok(()),
+impl Words<'_> {
+    /// Sees that the next word is that one. Takes no memory.
+    pub fn fixed(&mut self, name: &[u8]) -> Result<(), Cause>
+        ensures { Reads (Word (name.now ∷ []) ∷ []) (λ _. name.now ∷ []) self.old self.new result }
+    {
+        let word = self.word()?;
+        if word == name {
+            Ok(())
+        } else {
+            Err(Cause::UnknownWord)
+        }
     }
-}
 
-/// The word in the first place, and the words behind it. Takes no memory.
-pub fn first_word(words: &[u8]) -> Result<(&[u8], &[u8]), Cause>
-    ensures ok { IfOk result (λ p. words_of words.now ≡ p.0.now ∷ words_of p.1.now) }
-    ensures err { IfErr result (λ cause. (place : Place) (places : List Place) → form_fault (place ∷ places) (words_of words.now) ≡ Some cause) }
-{
-    next_word(words).ok_or(Cause::Missing)
-}
-
-/// Sees that the word stands in the first place, and gives the words behind it. Takes no memory.
-pub fn fixed<'a>(words: &'a [u8], name: &[u8]) -> Result<&'a [u8], Cause>
-    ensures ok { IfOk result (λ rest. Fills (Word (name.now ∷ []) ∷ []) (words_of words.now) (words_of rest.now)) }
-    ensures err { IfErr result (Fails (Word (name.now ∷ []) ∷ []) (words_of words.now)) }
-    ensures behind { IfOk result (λ rest. words_of rest.now ≡ drop 1 (words_of words.now)) }
-    ensures printed { IfOk result (λ rest. words_of words.now ≡ name.now ∷ words_of rest.now) }
-{
-    let (word, rest) = first_word(words)?;
-    if word == name {
-        Ok(rest)
-    } else {
-        Err(Cause::UnknownWord)
+    /// The next word, a number of that range. Takes no memory.
+    pub fn number(&mut self, range: Range) -> Result<u64, Cause>
+        ensures reads { Reads (number_place range ∷ []) (λ n. decimal n ∷ []) self.old self.new result }
+        ensures value { IfOk result (λ n. n ≡ number_at self.old 0) }
+        ensures within { IfOk result (IsWithin range) }
+    {
+        let word = self.word()?;
+        number_in(word, range)
     }
-}
 
-/// The number in the first place, and the words behind it. Takes no memory.
-pub fn first_number(words: &[u8], range: Range) -> Result<(u64, &[u8]), Cause>
-    ensures ok { IfOk result (λ p. Fills (number_place range ∷ []) (words_of words.now) (words_of p.1.now)) }
-    ensures err { IfErr result (Fails (number_place range ∷ []) (words_of words.now)) }
-    ensures value { IfOk result (λ p. p.0 ≡ number_at (words_of words.now) 0) }
-    ensures within { IfOk result (λ p. IsWithin range p.0) }
-    ensures printed { IfOk result (λ p. words_of words.now ≡ decimal p.0 ∷ words_of p.1.now) }
-    ensures behind { IfOk result (λ p. words_of p.1.now ≡ drop 1 (words_of words.now)) }
-{
-    let (word, rest) = first_word(words)?;
-    Ok((number_in(word, range)?, rest))
-}
-
-/// The numbers in the first places, 5 at most, and the words behind them. Takes no memory.
-pub fn first_numbers<'a>(
-    words: &'a [u8],
-    ranges: &[Range],
-) -> Result<([u64; MOST_NUMBERS], &'a [u8]), Cause>
-    requires { length ranges.now ≤ 5 }
-    ensures ok { IfOk result (λ p. Fills (map number_place ranges.now) (words_of words.now) (words_of p.1.now)) }
-    ensures err { IfErr result (Fails (map number_place ranges.now) (words_of words.now)) }
-    ensures values { IfOk result (λ p. (i : ℕ) → i < length ranges.now → slice_index p.0 i ≡ number_at (words_of words.now) i) }
-    ensures least { IfOk result (λ p. (i : ℕ) → i < length ranges.now → least_at ranges.now i ≤ slice_index p.0 i) }
-    ensures most { IfOk result (λ p. (i : ℕ) → i < length ranges.now → slice_index p.0 i ≤ most_at ranges.now i) }
-    ensures behind { IfOk result (λ p. words_of p.1.now ≡ drop (length ranges.now) (words_of words.now)) }
-    ensures printed { IfOk result (λ p. words_of words.now ≡ map decimal (take (length ranges.now) p.0) ++ words_of p.1.now) }
-{
-    let mut values = [0; MOST_NUMBERS];
-    let mut rest = words;
-    for (place, range) in ranges.iter().enumerate() {
-        let (value, after) = first_number(rest, *range)?;
-        values[place] = value;
-        rest = after;
+    /// The next words, numbers of those ranges, 5 at most. Takes no memory.
+    pub fn numbers(&mut self, ranges: &[Range]) -> Result<[u64; MOST_NUMBERS], Cause>
+        requires { length ranges.now ≤ 5 }
+        ensures reads { Reads (map number_place ranges.now) (λ ns. map decimal (take (length ranges.now) ns)) self.old self.new result }
+        ensures numbers { IfOk result (AreNumbers ranges.now self.old) }
+        ensures behind { OnOk result (self.new ≡ drop (length ranges.now) self.old) }
+    {
+        let mut values = [0; MOST_NUMBERS];
+        for (place, range) in ranges.iter().enumerate() {
+            values[place] = self.number(*range)?;
+        }
+        Ok(values)
     }
-    Ok((values, rest))
-}
 
-/// The numbers in all places, 5 at most. Takes no memory.
-pub fn numbers(words: &[u8], ranges: &[Range]) -> Result<[u64; MOST_NUMBERS], Cause>
-    requires { length ranges.now ≤ 5 }
-    ensures fault { form_fault (map number_place ranges.now) (words_of words.now) ≡ result_err result }
-    ensures values { IfOk result (λ values. (i : ℕ) → i < length ranges.now → slice_index values i ≡ number_at (words_of words.now) i) }
-    ensures least { IfOk result (λ values. (i : ℕ) → i < length ranges.now → least_at ranges.now i ≤ slice_index values i) }
-    ensures most { IfOk result (λ values. (i : ℕ) → i < length ranges.now → slice_index values i ≤ most_at ranges.now i) }
-{
-    let (values, rest) = first_numbers(words, ranges)?;
-    no_more(rest)?;
-    Ok(values)
+    /// The last words, numbers of those ranges, 5 at most. Takes no memory.
+    pub fn last_numbers(&mut self, ranges: &[Range]) -> Result<[u64; MOST_NUMBERS], Cause>
+        requires { length ranges.now ≤ 5 }
+        ensures fault { form_fault (map number_place ranges.now) self.old ≡ result_err result }
+        ensures numbers { IfOk result (AreNumbers ranges.now self.old) }
+    {
+        let values = self.numbers(ranges)?;
+        self.no_more()?;
+        Ok(values)
+    }
 }

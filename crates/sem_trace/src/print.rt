@@ -8,7 +8,7 @@ ghost use Rattle.sem_text.specs.Lines.{behind_blanks, line, text};
 ghost use Rattle.sem_trace.specs.Words.{call_words};
 ghost use Rattle.sem_trace.specs.TraceText.{pe_line, vpe_line, root_line, offer_line, deny_line, kill_line, trace_lines, canonical};
 
-use crate::words::{push_call, push_numbers, push_object};
+use crate::push::{push_call, push_numbers, push_object};
 use sem_key::{Membership, Object, OutOfMemory, PES};
 use sem_msg::{Calls, Denies, Kills, Offers, Root, Roots, Setup, Vpes0};
 use std::alloc::Global;

@@ -1,7 +1,7 @@
 use Rattle.std.proofs.Common.{◌≡◌, ◌++◌, map, take}
 use Rattle.std.specs.Prelude.{decimal}
 use Rattle.sem_text.specs.Lines.{behind_blanks}
-use Rattle.sem_trace.proofs.words.push_numbers.Given as goal
+use Rattle.sem_trace.proofs.push.push_numbers.Given as goal
 
 -- the numbers so far were appended
 abbrev pub invariant-loop-value : goal.invariant-loop-value

@@ -1,0 +1,68 @@
+// The words of a line, read from the left.
+ghost use Rattle.std.specs.Prelude.{◌≡◌, [], ◌∷◌, MatchOption, IfOk, IfErr};
+ghost use Rattle.std.specs.Result.{result_err};
+ghost use Rattle.sem_trace.specs.TextLines.{words_of};
+ghost use Rattle.sem_trace.specs.Forms.{Place, form_fault};
+ghost use Rattle.sem_trace.specs.Places.{Fails};
+
+use crate::fault::Cause;
+use crate::text_lines::next_word;
+use std::marker::Model;
+
+/// The words of a line that are not read yet. Which these are after an error is not said.
+#[derive(Drop)]
+pub struct Words<'a> {
+    line: &'a [u8],
+}
+
+impl<'a> Model for Words<'a> {
+    ghost use Rattle.std.specs.Prelude.{ℕ, List};
+    ghost use Rattle.sem_trace.specs.TextLines.{words_of};
+
+    ghost Value = { List (List ℕ) };
+
+    ghost view = { λ w. words_of w.line.now };
+}
+
+impl<'a> Words<'a> {
+    /// All words of the line.
+    pub fn of(line: &'a [u8]) -> Words<'a>
+        ensures { result ≡ words_of line.now }
+    {
+        Words { line }
+    }
+
+    /// What is left of the line.
+    pub fn rest(&self) -> &'a [u8]
+        ensures { self.now ≡ words_of result.now }
+    {
+        self.line
+    }
+
+    /// The next word; none where no word is left. Takes no memory.
+    pub fn next_word(&mut self) -> Option<&'a [u8]>
+        ensures { MatchOption result ((self.old ≡ []) × (self.new ≡ [])) (λ word. self.old ≡ word.now ∷ self.new) }
+    {
+        let (word, rest) = next_word(self.line)?;
+        self.line = rest;
+        Some(word)
+    }
+
+    /// The next word. Takes no memory.
+    pub fn word(&mut self) -> Result<&'a [u8], Cause>
+        ensures ok { IfOk result (λ word. self.old ≡ word.now ∷ self.new) }
+        ensures err { IfErr result (λ cause. (place : Place) → Fails (place ∷ []) self.old cause) }
+    {
+        self.next_word().ok_or(Cause::Missing)
+    }
+
+    /// No word is left. Takes no memory.
+    pub fn no_more(&self) -> Result<(), Cause>
+        ensures { form_fault [] self.now ≡ result_err result }
+    {
+        match next_word(self.line) {
+            Some(_) => Err(Cause::TooMany),
+            None => Ok(()),
+        }
+    }
+}
