@@ -91,7 +91,7 @@ if_both a b c d x y some =
       | inr other ↦ let e : None ≡ Some y = rw other at some in absurd (none-some y e)
     ]
 
-same_both : (m n : ℕ) → ((m == m) && (n == n)) ≡ true
+pub same_both : (m n : ℕ) → ((m == m) && (n == n)) ≡ true
 same_both m n = rw (eq-eqb m m refl, eq-eqb n n refl) refl
 
 -- the numbers of a line
@@ -154,7 +154,7 @@ first_found h (x ∷ xs) y some =
       | inr rest ↦ let r = first_found h xs y rest.1 in (r.0, there x xs r.0 r.1, r.2)
     ]
 
-any_found : {X : Type 0} (p : X → Bool) (xs : List X) → list_any p xs ≡ true → (x : X) × Contains xs x × (p x ≡ true)
+pub any_found : {X : Type 0} (p : X → Bool) (xs : List X) → list_any p xs ≡ true → (x : X) × Contains xs x × (p x ≡ true)
 any_found p [] some = absurd (true≢false (sym some))
 any_found p (x ∷ xs) some =
     elim (or_cases (p x) (list_any p xs) some) [
@@ -382,11 +382,11 @@ same_services T fits =
     (λ z within. (iff z).1 (subst (λ (vs : List VpeDecl). Contains (services_among vs) z) v ((fits.setup.services z).0 within)))
     (λ z within. (fits.setup.services z).1 (subst (λ (vs : List VpeDecl). Contains (services_among vs) z) (sym v) ((iff z).0 within))))
 
-pair_self : (a : ℕ × ℕ) → ComesBefore a a → ⊥
+pub pair_self : (a : ℕ × ℕ) → ComesBefore a a → ⊥
 pair_self a (inl less) = absurd (omega arith)
 pair_self a (inr less) = let l : a.1 < a.1 = less.1 in absurd (omega arith)
 
-pair_other : (a b : ℕ × ℕ) → ComesBefore a b → ComesBefore b a → ⊥
+pub pair_other : (a b : ℕ × ℕ) → ComesBefore a b → ComesBefore b a → ⊥
 pair_other a b (inl less) (inl more) = absurd (omega arith)
 pair_other a b (inl less) (inr more) = let e : b.0 ≡ a.0 = more.0 in absurd (omega arith)
 pair_other a b (inr less) (inl more) = let e : a.0 ≡ b.0 = less.0 in absurd (omega arith)
@@ -436,7 +436,7 @@ offer_told T fits o within =
     let same = one_offer T fits (offers' o.name o.index s.0) o (offer_said T fits o.name o.index s.0 s.1) within refl refl in
     s.1 ∙ ap (λ (x : OfferData). Some x.sel) same
 
-offer_made : (ds : List Declaration) (o : OfferData) → offer_in ds o.name o.index ≡ Some o.sel → offer_of ds o.name o.index ≡ Some o
+pub offer_made : (ds : List Declaration) (o : OfferData) → offer_in ds o.name o.index ≡ Some o.sel → offer_of ds o.name o.index ≡ Some o
 offer_made ds o told = rw told refl
 
 offer_to : (T : Setup) → TraceFits (as_read T) → (o : OfferData) → Contains T.offers o → Contains (offers_of (said_by T) T.services) o
@@ -472,10 +472,10 @@ deny_told : (T : Setup) → TraceFits (as_read T) → (p : ℕ × ℕ) → Conta
 unfolding is_denied
 deny_told T fits p within = any_there (says_deny p.0 p.1) (said_by T) (deny_decl p) (has_section T (deny_decl p) 4 (omega arith) (map_has deny_decl T.denies p within)) (same_both p.0 p.1)
 
-deny_made : (ds : List Declaration) (v w : ℕ) → is_denied ds v w ≡ true → deny_of ds v w ≡ Some (v, w)
+pub deny_made : (ds : List Declaration) (v w : ℕ) → is_denied ds v w ≡ true → deny_of ds v w ≡ Some (v, w)
 deny_made ds v w told = rw told refl
 
-deny_kept : (ds : List Declaration) (v w : ℕ) (p : ℕ × ℕ) → deny_of ds v w ≡ Some p → (is_denied ds v w ≡ true) × (v ≡ p.0) × (w ≡ p.1)
+pub deny_kept : (ds : List Declaration) (v w : ℕ) (p : ℕ × ℕ) → deny_of ds v w ≡ Some p → (is_denied ds v w ≡ true) × (v ≡ p.0) × (w ≡ p.1)
 deny_kept ds v w p some =
     elim (cases_Bool (is_denied ds v w)) [
       | inl told ↦ let e : Some (pair v w) ≡ Some p = rw told at some in let s = same_Some (pair v w) p e in (told, ap (λ (q : ℕ × ℕ). q.0) s, ap (λ (q : ℕ × ℕ). q.1) s)

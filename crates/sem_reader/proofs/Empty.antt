@@ -1,10 +1,13 @@
 -- The tables where nothing is declared.
-use Rattle.std.proofs.Common.{◌≡◌, ℕ, zero, suc, ◌+◌, ◌*◌, ◌≤◌, false, List, [], length, get_or, None, replicate, refl, ap, ◌∙◌, arith}
+use Rattle.std.proofs.Common.{◌≡◌, ℕ, zero, suc, ◌≤◌, false, List, [], length, get_or, None, replicate, refl, ap, ◌∙◌, arith}
+use Rattle.std.specs.List.{list_any}
+use Rattle.std.specs.Map.{lookup}
 use Rattle.std.proofs.lemmas.List.{length-replicate}
 use Rattle.sem_key.specs.MembershipTable.{MembershipTable}
 use Rattle.sem_trace.specs.declared.limits.TheConstants.{MOST_KERNELS}
 use Rattle.sem_trace.specs.Earlier.{owner_in, pe_in, is_taken, roots_in, calls_in, has_service, offer_in, is_denied, kill_in, call_number}
 use Rattle.sem_reader.specs.declared.tables.Tables.{Tables}
+use Rattle.sem_reader.specs.Pairs.{is_same_pair}
 use Rattle.sem_reader.specs.Tells.{Tells}
 use Rattle.sem_reader.proofs.OneMore.{accepted_none}
 
@@ -21,9 +24,9 @@ entry table n x i is = rw is (same_all n x i)
 pub size : {X : Type 0} (table : List X) (n : ℕ) (x : X) → table ≡ replicate n x → length table ≡ n
 size table n x is = ap length is ∙ length-replicate n x
 
-pub tells_nothing : (kernels : ℕ) (t : Tables) (a b c d e f g h i : ℕ) → 1 ≤ kernels → kernels ≤ MOST_KERNELS → t.owners ≡ record { kernels = kernels; owners = replicate a None } → t.pes ≡ replicate b None → t.taken ≡ replicate c false → t.roots.items ≡ replicate d [] → t.calls.items ≡ replicate e [] → t.call_number ≡ 0 → t.named ≡ replicate f false → t.offers.items ≡ replicate g None → t.denied.items ≡ replicate h false → t.kills ≡ replicate i None → Tells kernels [] t
+pub tells_nothing : (kernels : ℕ) (t : Tables) (a b c d e f i : ℕ) → 1 ≤ kernels → kernels ≤ MOST_KERNELS → t.owners ≡ record { kernels = kernels; owners = replicate a None } → t.pes ≡ replicate b None → t.taken ≡ replicate c false → t.roots.items ≡ replicate d [] → t.calls.items ≡ replicate e [] → t.call_number ≡ 0 → t.named ≡ replicate f false → t.offers.entries ≡ [] → t.denied.keys ≡ [] → t.kills ≡ replicate i None → Tells kernels [] t
 unfolding owner_in pe_in is_taken roots_in calls_in has_service offer_in is_denied kill_in call_number
-tells_nothing kernels t a b c d e f g h i some few owners pes taken roots calls count named offers denied kills = record {
+tells_nothing kernels t a b c d e f i some few owners pes taken roots calls count named offers denied kills = record {
   some = some;
   few = few;
   accepted = accepted_none kernels;
@@ -36,7 +39,7 @@ tells_nothing kernels t a b c d e f g h i some few owners pes taken roots calls 
   count = count;
   few_calls = omega arith;
   named = λ n. entry t.named f false n named;
-  offer = λ n m below. entry t.offers.items g None (n * 256 + m) offers;
-  denied = λ v a below. entry t.denied.items h false (v * 64 + a) denied;
+  offer = λ n m. ap (lookup (is_same_pair (n, m))) offers;
+  denied = λ v a. ap (list_any (is_same_pair (v, a))) denied;
   kill = λ v. entry t.kills i None v kills;
 }

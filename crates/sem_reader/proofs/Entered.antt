@@ -1,5 +1,5 @@
 -- The tables after a line was entered.
-use Rattle.std.proofs.Common.{◌≡◌, ℕ, ◌+◌, ◌*◌, ◌<◌, ◌≤◌, ◌↔◌, Bool, true, false, true≢false, ◌||◌, List, [], ◌∷◌, ◌++◌, length, get_or, set, Some, None, Result, Ok, Err, refl, ap, sym, ◌∙◌, add-zero, arith, leb-false, length-set, eq-eqb, ne_eqb}
+use Rattle.std.proofs.Common.{◌≡◌, ℕ, ◌+◌, ◌<◌, ◌≤◌, ◌↔◌, Bool, true, false, true≢false, cond, inl, inr, ◌&&◌, ◌==◌, Option, eqb-true, ◌||◌, List, [], ◌∷◌, ◌++◌, length, get_or, set, Some, None, Result, Ok, Err, refl, ap, sym, ◌∙◌, add-zero, arith, leb-false, length-set, eq-eqb, ne_eqb}
 use Rattle.std.specs.Option.{is_some, IsSome}
 use Rattle.std.specs.Result.{IsErr, OnOk}
 use Rattle.sem_key.specs.declared.limits.TheConstants.{PES}
@@ -14,8 +14,12 @@ use Rattle.sem_trace.specs.Earlier.{owner_in, pe_in, is_taken, roots_in, calls_i
 use Rattle.sem_trace.specs.Context.{context_fault}
 use Rattle.sem_trace.specs.Ranges.{IsInRange}
 use Rattle.sem_reader.specs.declared.tables.Tables.{Tables}
+use Rattle.std.proofs.lemmas.Bool.{cases_Bool}
+use Rattle.indexmap.specs.IndexMap as map
+use Rattle.indexmap.specs.IndexSet.{contains, Updates}
+use Rattle.sem_reader.specs.Pairs.{is_same_pair}
 use Rattle.sem_reader.specs.Tells.{Tells}
-use Rattle.sem_reader.proofs.OneMore.{no_fault, accepted_more, same_number, other_number, is_none, table_set, table_set_pair, same_pair, other_pair, owner_in-same, owner_in-new, pe_in-same, pe_in-new, is_taken-same, is_taken-new, roots_in-same, roots_in-new, calls_in-same, calls_in-new, has_service-same, has_service-new, offer_in-same, offer_in-new, is_denied-same, is_denied-new, kill_in-same, kill_in-new, call_number-more}
+use Rattle.sem_reader.proofs.OneMore.{no_fault, accepted_more, same_number, other_number, is_none, table_set, owner_in-same, owner_in-new, pe_in-same, pe_in-new, is_taken-same, is_taken-new, roots_in-same, roots_in-new, calls_in-same, calls_in-new, has_service-same, has_service-new, offer_in-same, offer_in-new, is_denied-same, is_denied-new, kill_in-same, kill_in-new, call_number-more}
 
 -- a call that can only fail where the PE has an owner
 pub owner_set : {A E : Type 0} (r : Result A E) (old new : MembershipTable) (p kernel : ℕ) → (IsErr r ↔ IsSome (owner_at old p)) → OnOk r (new ≡ with_owner old p kernel) → owner_at old p ≡ None → new ≡ with_owner old p kernel
@@ -46,8 +50,8 @@ enter_end kernels ds t told fault =
       count = told.count ∙ sym (call_number-more ds End ∙ add-zero (call_number ds));
       few_calls = told.few_calls;
       named = λ m. told.named m ∙ sym (has_service-same ds End m refl);
-      offer = λ m i below. told.offer m i below ∙ sym (offer_in-same ds End m i refl);
-      denied = λ u w below. told.denied u w below ∙ sym (is_denied-same ds End u w refl);
+      offer = λ m i. told.offer m i ∙ sym (offer_in-same ds End m i refl);
+      denied = λ u w. told.denied u w ∙ sym (is_denied-same ds End u w refl);
       kill = λ u. told.kill u ∙ sym (kill_in-same ds End u refl);
     }
 
@@ -70,8 +74,8 @@ enter_pe kernels ds t p k owners told ranges fault size is =
       count = told.count ∙ sym (call_number-more ds (Pe p k) ∙ add-zero (call_number ds));
       few_calls = told.few_calls;
       named = λ m. told.named m ∙ sym (has_service-same ds (Pe p k) m refl);
-      offer = λ m i below. told.offer m i below ∙ sym (offer_in-same ds (Pe p k) m i refl);
-      denied = λ u w below. told.denied u w below ∙ sym (is_denied-same ds (Pe p k) u w refl);
+      offer = λ m i. told.offer m i ∙ sym (offer_in-same ds (Pe p k) m i refl);
+      denied = λ u w. told.denied u w ∙ sym (is_denied-same ds (Pe p k) u w refl);
       kill = λ u. told.kill u ∙ sym (kill_in-same ds (Pe p k) u refl);
     }
 
@@ -96,8 +100,8 @@ enter_vpe kernels ds t v p told ranges fault size in_size =
       count = told.count ∙ sym (call_number-more ds (Vpe v p) ∙ add-zero (call_number ds));
       few_calls = told.few_calls;
       named = λ m. told.named m ∙ sym (has_service-same ds (Vpe v p) m refl);
-      offer = λ m i below. told.offer m i below ∙ sym (offer_in-same ds (Vpe v p) m i refl);
-      denied = λ u w below. told.denied u w below ∙ sym (is_denied-same ds (Vpe v p) u w refl);
+      offer = λ m i. told.offer m i ∙ sym (offer_in-same ds (Vpe v p) m i refl);
+      denied = λ u w. told.denied u w ∙ sym (is_denied-same ds (Vpe v p) u w refl);
       kill = λ u. told.kill u ∙ sym (kill_in-same ds (Vpe v p) u refl);
     }
 
@@ -118,8 +122,8 @@ enter_memory kernels ds t v s base len rights after told ranges fault size is =
       count = told.count ∙ sym (call_number-more ds (Memory v s base len rights) ∙ add-zero (call_number ds));
       few_calls = told.few_calls;
       named = λ m. told.named m ∙ sym (has_service-same ds (Memory v s base len rights) m refl);
-      offer = λ m i below. told.offer m i below ∙ sym (offer_in-same ds (Memory v s base len rights) m i refl);
-      denied = λ u w below. told.denied u w below ∙ sym (is_denied-same ds (Memory v s base len rights) u w refl);
+      offer = λ m i. told.offer m i ∙ sym (offer_in-same ds (Memory v s base len rights) m i refl);
+      denied = λ u w. told.denied u w ∙ sym (is_denied-same ds (Memory v s base len rights) u w refl);
       kill = λ u. told.kill u ∙ sym (kill_in-same ds (Memory v s base len rights) u refl);
     }
 
@@ -140,8 +144,8 @@ enter_receive kernels ds t v s slots after told ranges fault size is =
       count = told.count ∙ sym (call_number-more ds (Receive v s slots) ∙ add-zero (call_number ds));
       few_calls = told.few_calls;
       named = λ m. told.named m ∙ sym (has_service-same ds (Receive v s slots) m refl);
-      offer = λ m i below. told.offer m i below ∙ sym (offer_in-same ds (Receive v s slots) m i refl);
-      denied = λ u w below. told.denied u w below ∙ sym (is_denied-same ds (Receive v s slots) u w refl);
+      offer = λ m i. told.offer m i ∙ sym (offer_in-same ds (Receive v s slots) m i refl);
+      denied = λ u w. told.denied u w ∙ sym (is_denied-same ds (Receive v s slots) u w refl);
       kill = λ u. told.kill u ∙ sym (kill_in-same ds (Receive v s slots) u refl);
     }
 
@@ -164,17 +168,29 @@ enter_service kernels ds t v s name after told ranges fault size named_size is =
       count = told.count ∙ sym (call_number-more ds (Service v s name) ∙ add-zero (call_number ds));
       few_calls = told.few_calls;
       named = table_set t.named name true false (has_service ds) (has_service (ds ++ (Service v s name) ∷ [])) in_named told.named (has_service-new ds (Service v s name) name (eq-eqb name name refl)) (λ u other. has_service-same ds (Service v s name) u (ne_eqb name u (λ e. other (sym e))));
-      offer = λ m i below. told.offer m i below ∙ sym (offer_in-same ds (Service v s name) m i refl);
-      denied = λ u w below. told.denied u w below ∙ sym (is_denied-same ds (Service v s name) u w refl);
+      offer = λ m i. told.offer m i ∙ sym (offer_in-same ds (Service v s name) m i refl);
+      denied = λ u w. told.denied u w ∙ sym (is_denied-same ds (Service v s name) u w refl);
       kill = λ u. told.kill u ∙ sym (kill_in-same ds (Service v s name) u refl);
     }
 
-pub enter_offer : (kernels : ℕ) (ds : List Declaration) (t : Tables) (name index s : ℕ) (after : Tables) → Tells kernels ds t → IsInRange kernels (Offer name index s) → context_fault ds (Offer name index s) ≡ None → length t.offers.items ≡ 65536 → after.offers.items ≡ set t.offers.items (name * 256 + index) (Some s) → Tells kernels (ds ++ (Offer name index s) ∷ []) (record t { offers = after.offers })
-enter_offer kernels ds t name index s after told ranges fault size is =
+both_true : (a b : Bool) → (a && b) ≡ true → (a ≡ true) × (b ≡ true)
+both_true true b some = (refl, some)
+both_true false b some = absurd (true≢false (sym some))
+
+-- an offer is this one, or was there
+one_offered : (was : Option ℕ) (ds : List Declaration) (name index s m i : ℕ) → offer_in ds name index ≡ None → was ≡ offer_in ds m i → cond (is_same_pair (name, index) (m, i)) (Some s) was ≡ offer_in (ds ++ Offer name index s ∷ []) m i
+one_offered was ds name index s m i none told =
+    elim (cases_Bool (is_same_pair (name, index) (m, i))) [
+      | inl same ↦
+          let both = both_true (name == m) (index == i) same in
+          let still : offer_in ds m i ≡ None = rw (← eqb-true name m both.0, ← eqb-true index i both.1) none in
+          rw same (sym (offer_in-new ds (Offer name index s) m i s still (rw same refl)))
+      | inr other ↦ rw other (told ∙ sym (offer_in-same ds (Offer name index s) m i (rw other refl)))
+    ]
+
+pub enter_offer : (kernels : ℕ) (ds : List Declaration) (t : Tables) (name index s : ℕ) (after : Tables) → Tells kernels ds t → IsInRange kernels (Offer name index s) → context_fault ds (Offer name index s) ≡ None → map.Updates is_same_pair t.offers after.offers (name, index) (Some s) → Tells kernels (ds ++ (Offer name index s) ∷ []) (record t { offers = after.offers })
+enter_offer kernels ds t name index s after told ranges fault is =
     let none : offer_in ds name index ≡ None = is_none _ (no_fault ds (Offer name index s) fault).2 in
-    let few : name ≤ 255 = ranges.0 in
-    let small : index ≤ 255 = ranges.1 in
-    let within : name * 256 + index < length t.offers.items = omega arith in
     record {
       some = told.some;
       few = told.few;
@@ -188,16 +204,21 @@ enter_offer kernels ds t name index s after told ranges fault size is =
       count = told.count ∙ sym (call_number-more ds (Offer name index s) ∙ add-zero (call_number ds));
       few_calls = told.few_calls;
       named = λ m. told.named m ∙ sym (has_service-same ds (Offer name index s) m refl);
-      offer = rw is (table_set_pair t.offers.items 256 name index (Some s) None (offer_in ds) (offer_in (ds ++ (Offer name index s) ∷ [])) within (λ u v below e. (omega arith, omega arith)) told.offer (offer_in-new ds (Offer name index s) name index s none (rw (same_pair name index) refl)) (λ u v other. offer_in-same ds (Offer name index s) u v (rw (other_pair name index u v other) refl)));
-      denied = λ u w below. told.denied u w below ∙ sym (is_denied-same ds (Offer name index s) u w refl);
+      offer = λ m i. is.0 (m, i) ∙ one_offered (map.get is_same_pair t.offers (m, i)) ds name index s m i none (told.offer m i);
+      denied = λ u w. told.denied u w ∙ sym (is_denied-same ds (Offer name index s) u w refl);
       kill = λ u. told.kill u ∙ sym (kill_in-same ds (Offer name index s) u refl);
     }
 
-pub enter_deny : (kernels : ℕ) (ds : List Declaration) (t : Tables) (v asker : ℕ) (after : Tables) → Tells kernels ds t → IsInRange kernels (Deny v asker) → context_fault ds (Deny v asker) ≡ None → length t.denied.items ≡ 4096 → after.denied.items ≡ set t.denied.items (v * 64 + asker) true → Tells kernels (ds ++ (Deny v asker) ∷ []) (record t { denied = after.denied })
-enter_deny kernels ds t v asker after told ranges fault size is =
-    let few : v < NODES = ranges.0 in
-    let small : asker < NODES = ranges.1 in
-    let within : v * 64 + asker < length t.denied.items = omega arith in
+-- a pair is denied where it is this one, or was
+one_denied : (was : Bool) (ds : List Declaration) (v asker u w : ℕ) → was ≡ is_denied ds u w → cond (is_same_pair (v, asker) (u, w)) true was ≡ is_denied (ds ++ Deny v asker ∷ []) u w
+one_denied was ds v asker u w told =
+    elim (cases_Bool (is_same_pair (v, asker) (u, w))) [
+      | inl same ↦ rw same (sym (is_denied-new ds (Deny v asker) u w same))
+      | inr other ↦ rw other (told ∙ sym (is_denied-same ds (Deny v asker) u w other))
+    ]
+
+pub enter_deny : (kernels : ℕ) (ds : List Declaration) (t : Tables) (v asker : ℕ) (after : Tables) → Tells kernels ds t → IsInRange kernels (Deny v asker) → context_fault ds (Deny v asker) ≡ None → Updates is_same_pair t.denied after.denied (v, asker) true → Tells kernels (ds ++ (Deny v asker) ∷ []) (record t { denied = after.denied })
+enter_deny kernels ds t v asker after told ranges fault is =
     record {
       some = told.some;
       few = told.few;
@@ -211,8 +232,8 @@ enter_deny kernels ds t v asker after told ranges fault size is =
       count = told.count ∙ sym (call_number-more ds (Deny v asker) ∙ add-zero (call_number ds));
       few_calls = told.few_calls;
       named = λ m. told.named m ∙ sym (has_service-same ds (Deny v asker) m refl);
-      offer = λ m i below. told.offer m i below ∙ sym (offer_in-same ds (Deny v asker) m i refl);
-      denied = rw is (table_set_pair t.denied.items 64 v asker true false (is_denied ds) (is_denied (ds ++ (Deny v asker) ∷ [])) within (λ u a below e. (omega arith, omega arith)) told.denied (is_denied-new ds (Deny v asker) v asker (same_pair v asker)) (λ u a other. is_denied-same ds (Deny v asker) u a (other_pair v asker u a other)));
+      offer = λ m i. told.offer m i ∙ sym (offer_in-same ds (Deny v asker) m i refl);
+      denied = λ u w. is.0 (u, w) ∙ one_denied (contains is_same_pair t.denied (u, w)) ds v asker u w (told.denied u w);
       kill = λ u. told.kill u ∙ sym (kill_in-same ds (Deny v asker) u refl);
     }
 
@@ -234,8 +255,8 @@ enter_kill kernels ds t v replies told ranges fault size =
       count = told.count ∙ sym (call_number-more ds (Kill v replies) ∙ add-zero (call_number ds));
       few_calls = told.few_calls;
       named = λ m. told.named m ∙ sym (has_service-same ds (Kill v replies) m refl);
-      offer = λ m i below. told.offer m i below ∙ sym (offer_in-same ds (Kill v replies) m i refl);
-      denied = λ u w below. told.denied u w below ∙ sym (is_denied-same ds (Kill v replies) u w refl);
+      offer = λ m i. told.offer m i ∙ sym (offer_in-same ds (Kill v replies) m i refl);
+      denied = λ u w. told.denied u w ∙ sym (is_denied-same ds (Kill v replies) u w refl);
       kill = table_set t.kills v (Some replies) None (kill_in ds) (kill_in (ds ++ (Kill v replies) ∷ [])) within told.kill (kill_in-new ds (Kill v replies) v replies none (same_number v _ _)) (λ u other. kill_in-same ds (Kill v replies) u (other_number v u _ _ other));
     }
 
@@ -257,7 +278,7 @@ enter_call kernels ds t v call after told ranges fault size is =
       count = rw (call_number-more ds (Calls v call), told.count) refl;
       few_calls = let count : t.call_number ≡ call_number ds = told.count in omega arith;
       named = λ m. told.named m ∙ sym (has_service-same ds (Calls v call) m refl);
-      offer = λ m i below. told.offer m i below ∙ sym (offer_in-same ds (Calls v call) m i refl);
-      denied = λ u w below. told.denied u w below ∙ sym (is_denied-same ds (Calls v call) u w refl);
+      offer = λ m i. told.offer m i ∙ sym (offer_in-same ds (Calls v call) m i refl);
+      denied = λ u w. told.denied u w ∙ sym (is_denied-same ds (Calls v call) u w refl);
       kill = λ u. told.kill u ∙ sym (kill_in-same ds (Calls v call) u refl);
     }

@@ -15,5 +15,7 @@ pub mod Sections
 pub mod Precedes
 pub mod Printed
 pub mod Canonical
+pub mod DeniesSorted
+pub mod OffersSorted
 pub mod Written
 pub mod Whole

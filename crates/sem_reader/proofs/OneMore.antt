@@ -1,5 +1,5 @@
 -- What is declared where one line more is said.
-use Rattle.std.proofs.Common.{◌≡◌, ℕ, ◌+◌, ◌<◌, ◌==◌, ◌⊎◌, inl, inr, Bool, true, false, cond, ◌||◌, ◌&&◌, ◌*◌, List, [], ◌∷◌, ◌++◌, length, get_or, set, Option, Some, None, true≢false, subst, refl, ap, sym, ◌∙◌, eq-eqb, ne_eqb}
+use Rattle.std.proofs.Common.{◌≡◌, ℕ, ◌+◌, ◌<◌, ◌==◌, ◌⊎◌, inl, inr, Bool, true, false, cond, ◌||◌, ◌&&◌, List, [], ◌∷◌, ◌++◌, length, get_or, set, Option, Some, None, true≢false, subst, refl, ap, sym, ◌∙◌, eq-eqb, ne_eqb}
 use Rattle.std.specs.List.{filter_map, list_any, cons_option}
 use Rattle.std.specs.Option.{option_or, is_some}
 use Rattle.std.proofs.lemmas.Bool.{cases_eq}
@@ -230,24 +230,6 @@ accepted_more kernels ds d accepted ranges fault before after e is =
 pub accepted_none : (kernels : ℕ) → AreAccepted kernels []
 accepted_none kernels [] after d is = absurd (cons_nil d after (sym is))
 accepted_none kernels (x ∷ xs) after d is = absurd (cons_nil x (xs ++ d ∷ after) (sym is))
-
--- a table by two numbers in which one entry is written
-pub table_set_pair : {Y : Type 0} (table : List Y) (w a b : ℕ) (x d : Y) (f g : ℕ → ℕ → Y) → a * w + b < length table → ((u v : ℕ) → v < w → u * w + v ≡ a * w + b → (u ≡ a) × (v ≡ b)) → ((u v : ℕ) → v < w → get_or table (u * w + v) d ≡ f u v) → g a b ≡ x → ((u v : ℕ) → ((u ≡ a) × (v ≡ b) → ⊥) → g u v ≡ f u v) → (u v : ℕ) → v < w → get_or (set table (a * w + b) x) (u * w + v) d ≡ g u v
-table_set_pair table w a b x d f g within apart tells here others u v below =
-    elim (cases_eq (u * w + v) (a * w + b)) [
-      | inl same ↦ let at = apart u v below same in rw (same, get_or-set_same table (a * w + b) x d within, at.0, at.1) (sym here)
-      | inr other ↦ rw (get_or-set_other table (a * w + b) (u * w + v) x d other) (tells u v below ∙ sym (others u v (λ at. other (rw (at.0, at.1) refl))))
-    ]
-
-pub same_pair : (m n : ℕ) → ((m == m) && (n == n)) ≡ true
-same_pair m n = rw (eq-eqb m m refl, eq-eqb n n refl) refl
-
-pub other_pair : (a b u v : ℕ) → ((u ≡ a) × (v ≡ b) → ⊥) → ((a == u) && (b == v)) ≡ false
-other_pair a b u v other =
-    elim (cases_eq a u) [
-      | inl same ↦ rw (ne_eqb b v (λ e. other (sym same, sym e))) (and_false (a == u))
-      | inr apart ↦ rw (ne_eqb a u apart) refl
-    ]
 
 pub owner_in-more : (ds : List Declaration) (d : Declaration) (p : ℕ) → owner_in (ds ++ d ∷ []) p ≡ option_or (owner_in ds p) (said_owner p d)
 unfolding owner_in

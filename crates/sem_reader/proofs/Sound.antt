@@ -1,7 +1,7 @@
 -- What holds of lines that are accepted one after another.
 use Rattle.std.proofs.Common.{◌≡◌, ◌≢◌, ℕ, zero, suc, ◌+◌, ◌<◌, ◌≤◌, ◌==◌, ◌⊎◌, Bool, true, false, not, cond, true≢false, ◌||◌, ◌&&◌, List, [], ◌∷◌, ◌++◌, length, get_or, Option, Some, None, refl, ap, sym, ◌∙◌, subst, arith, append_assoc, append-nil, eqb-true, eq-eqb, ltb-false, leb-false, inl, inr}
 use Rattle.std.specs.List.{All, AllPairs, slice_get}
-use Rattle.std.specs.Option.{option_or, is_some, IsSome}
+use Rattle.std.specs.Option.{option_or, is_some, is_none, IsSome}
 use Rattle.std.proofs.lemmas.Bool.{cases_Bool}
 use Rattle.std.proofs.lemmas.Option.{none-some, same_Some}
 use Rattle.std.proofs.lemmas.List.Elements.{All-nil, All-push}
@@ -14,12 +14,12 @@ use Rattle.sem_msg.specs.Calls.{IsWord, IsValidCall}
 use Rattle.sem_msg.specs.Setup.{IsRoot}
 use Rattle.sem_trace.specs.declared.limits.TheConstants.{NODES}
 use Rattle.sem_trace.specs.declared.declaration.Declaration.{Declaration}
-use Rattle.sem_trace.specs.declared.declaration.Declaration.TheVariants.{Pe, Vpe, Memory, Receive, Service, Offer, Kill, Call as Calls}
-use Rattle.sem_trace.specs.Earlier.{said_owner, owner_in, said_pe, pe_in, is_taken, said_root, roots_in, holds_at, said_call, calls_in, has_service, said_offer, offer_in, said_kill, kill_in, call_number, is_call}
+use Rattle.sem_trace.specs.declared.declaration.Declaration.TheVariants.{Pe, Vpe, Memory, Receive, Service, Offer, Deny, Kill, Call as Calls}
+use Rattle.sem_trace.specs.Earlier.{said_owner, owner_in, said_pe, pe_in, is_taken, said_root, roots_in, holds_at, said_call, calls_in, says_service, has_service, said_offer, offer_in, says_deny, is_denied, said_kill, kill_in, call_number, is_call}
 use Rattle.sem_trace.specs.Context.{context_fault}
 use Rattle.sem_trace.specs.Ranges.{IsInRange}
 use Rattle.sem_reader.specs.Accepted.{AreAccepted}
-use Rattle.sem_reader.proofs.OneMore.{no_fault, is_taken-new, roots_in-same, roots_in-new, calls_in-same, calls_in-new, has_service-new, call_number-more, is_taken-kept, has_service-kept, offer_in-more, owner_in-more, pe_in-more, kill_in-more}
+use Rattle.sem_reader.proofs.OneMore.{no_fault, is_denied-same, has_service-same, is_taken-new, roots_in-same, roots_in-new, calls_in-same, calls_in-new, has_service-new, call_number-more, is_taken-kept, has_service-kept, offer_in-more, owner_in-more, pe_in-more, kill_in-more}
 
 -- what holds of no lines, and of one more where it holds of those before it, holds of accepted lines
 module _ (kernels : ℕ) (P : List Declaration → Type 0) (none : P []) (more : (ds : List Declaration) (d : Declaration) → P ds → IsInRange kernels d → context_fault ds d ≡ None → P (ds ++ d ∷ [])) where
@@ -424,3 +424,115 @@ pub named : (kernels : ℕ) (ds : List Declaration) → AreAccepted kernels ds �
 named kernels = by_lines kernels AreNamed
     (record { named = λ v i name serves. absurd (no_server v i name serves); once = λ v i w j name serves serves'. absurd (no_server v i name serves); small = λ v i name serves. absurd (no_server v i name serves) })
     (one_service_more kernels)
+
+-- the VPEs of a denied pair are declared
+both_true : (a b : Bool) → (a && b) ≡ true → (a ≡ true) × (b ≡ true)
+both_true true b some = (refl, some)
+both_true false b some = absurd (true≢false (sym some))
+
+says_declared : (ds : List Declaration) (d : Declaration) (v w : ℕ) → says_deny v w d ≡ true → context_fault ds d ≡ None → IsSome (pe_in ds v) × IsSome (pe_in ds w)
+says_declared ds (Deny a b) v w says fault =
+    let none = (no_fault ds (Deny a b) fault).1 in
+    let same = both_true (a == v) (b == w) says in
+    let first : IsSome (pe_in ds a) = not_none (pe_in ds a) (and_left (is_none (pe_in ds a)) (is_none (pe_in ds b)) none) in
+    let second : IsSome (pe_in ds b) = not_none (pe_in ds b) (or_right (is_none (pe_in ds a)) (is_none (pe_in ds b)) none) in
+    (subst (λ (n : ℕ). IsSome (pe_in ds n)) (eqb-true a v same.0) first, subst (λ (n : ℕ). IsSome (pe_in ds n)) (eqb-true b w same.1) second)
+says_declared ds d v w says fault = absurd (true≢false (sym says))
+
+nobody_denied : (v w : ℕ) → is_denied [] v w ≡ true → ⊥
+unfolding is_denied
+nobody_denied v w some = true≢false (sym some)
+
+still_declared : (ds : List Declaration) (d : Declaration) (v : ℕ) → IsSome (pe_in ds v) → IsSome (pe_in (ds ++ d ∷ []) v)
+still_declared ds d v some = rw (pe_in-more ds d v) (some_or (pe_in ds v) (said_pe v d) some)
+
+pub denied : (kernels : ℕ) (ds : List Declaration) → AreAccepted kernels ds → (v w : ℕ) → is_denied ds v w ≡ true → IsSome (pe_in ds v) × IsSome (pe_in ds w)
+denied kernels = by_lines kernels (λ ds. (v w : ℕ) → is_denied ds v w ≡ true → IsSome (pe_in ds v) × IsSome (pe_in ds w))
+    (λ v w some. absurd (nobody_denied v w some))
+    (λ ds d so_far ranges fault v w some.
+    let both : IsSome (pe_in ds v) × IsSome (pe_in ds w) =
+    elim (cases_Bool (says_deny v w d)) [
+      | inl says ↦ says_declared ds d v w says fault
+      | inr other ↦ so_far v w (sym (is_denied-same ds d v w other) ∙ some)
+    ]
+    in
+    (still_declared ds d v both.0, still_declared ds d w both.1))
+
+-- what is offered has a service and a small index
+said_offer_declared : (kernels : ℕ) (ds : List Declaration) (d : Declaration) (name index s : ℕ) → IsInRange kernels d → context_fault ds d ≡ None → said_offer name index d ≡ Some s → (has_service ds name ≡ true) × (index ≤ 255)
+said_offer_declared kernels ds (Offer n i t) name index s ranges fault some =
+    elim (cases_Bool ((n == name) && (i == index))) [
+      | inl same ↦
+          let both = both_true (n == name) (i == index) same in
+          let small : i ≤ 255 = ranges.1 in
+          (subst (λ (m : ℕ). has_service ds m ≡ true) (eqb-true n name both.0) (not_false (has_service ds n) (no_fault ds (Offer n i t) fault).1), subst (λ (j : ℕ). j ≤ 255) (eqb-true i index both.1) small)
+      | inr other ↦ let e : None ≡ Some s = rw other at some in absurd (none-some s e)
+    ]
+  where
+    not_false : (b : Bool) → not b ≡ false → b ≡ true
+    not_false true no' = refl
+    not_false false no' = absurd (true≢false no')
+said_offer_declared kernels ds d name index s ranges fault some = absurd (none-some s some)
+
+pub offer_declared : (kernels : ℕ) (ds : List Declaration) → AreAccepted kernels ds → (name index s : ℕ) → offer_in ds name index ≡ Some s → (has_service ds name ≡ true) × (index ≤ 255)
+offer_declared kernels = by_lines kernels (λ ds. (name index s : ℕ) → offer_in ds name index ≡ Some s → (has_service ds name ≡ true) × (index ≤ 255))
+    (λ name index s some. absurd (no_offer name index s some))
+    (λ ds d so_far ranges fault name index s some.
+    let both : (has_service ds name ≡ true) × (index ≤ 255) =
+    elim (or_last (offer_in ds name index) (said_offer name index d) s (sym (offer_in-more ds d name index) ∙ some)) [
+      | inl old ↦ so_far name index s old
+      | inr new ↦ said_offer_declared kernels ds d name index s ranges fault new.1
+    ]
+    in
+    (has_service-kept ds d name both.0, both.1))
+
+-- a service that is named is one of the roots of a VPE that is declared
+pub record IsServedBy (ds : List Declaration) (name : ℕ) : Type 0 where
+  pub vpe : ℕ
+  pub place : ℕ
+  pub serves : Serves ds vpe place name
+  pub declared : IsSome (pe_in ds vpe)
+
+get_kept : {X : Type 0} (xs ys : List X) (x : X) (i : ℕ) → slice_get xs i ≡ Some x → slice_get (xs ++ ys) i ≡ Some x
+get_kept [] ys x i some = absurd (none-some x some)
+get_kept (z ∷ zs) ys x zero some = some
+get_kept (z ∷ zs) ys x (suc i) some = get_kept zs ys x i some
+
+get_end : {X : Type 0} (xs : List X) (x : X) → slice_get (xs ++ x ∷ []) (length xs) ≡ Some x
+get_end [] x = refl
+get_end (z ∷ zs) x = get_end zs x
+
+still_serves : (ds : List Declaration) (d : Declaration) (v i name : ℕ) → Serves ds v i name → Serves (ds ++ d ∷ []) v i name
+still_serves ds d v i name serves =
+    elim (some_or_none (said_root v d)) [
+      | inl none ↦ record { root = serves.root; at = rw (roots_in-same ds d v none) serves.at; is = serves.is }
+      | inr some ↦ record { root = serves.root; at = rw (roots_in-new ds d v some.0 some.1) (get_kept (roots_in ds v) (some.0 ∷ []) serves.root i serves.at); is = serves.is }
+    ]
+
+now_serves : (ds : List Declaration) (d : Declaration) (name : ℕ) → says_service name d ≡ true → context_fault ds d ≡ None → IsServedBy (ds ++ d ∷ []) name
+now_serves ds (Service v s n) name says fault =
+    let root : Root = record { sel = s; object = Serv n } in
+    let said : said_root v (Service v s n) ≡ Some root = rw (eq-eqb v v refl) refl in
+    let there' : IsSome (pe_in ds v) = not_none (pe_in ds v) (no_fault ds (Service v s n) fault).1 in
+    record {
+      vpe = v;
+      place = length (roots_in ds v);
+      serves = record { root = root; at = rw (roots_in-new ds (Service v s n) v root said) (get_end (roots_in ds v) root); is = ap Serv (eqb-true n name says) };
+      declared = still_declared ds (Service v s n) v there';
+    }
+now_serves ds d name says fault = absurd (true≢false (sym says))
+
+no_name : (name : ℕ) → has_service [] name ≡ true → ⊥
+unfolding has_service
+no_name name some = true≢false (sym some)
+
+pub served_by : (kernels : ℕ) (ds : List Declaration) → AreAccepted kernels ds → (name : ℕ) → has_service ds name ≡ true → IsServedBy ds name
+served_by kernels = by_lines kernels (λ ds. (name : ℕ) → has_service ds name ≡ true → IsServedBy ds name)
+    (λ name some. absurd (no_name name some))
+    (λ ds d so_far ranges fault name some.
+    elim (cases_Bool (says_service name d)) [
+      | inl says ↦ now_serves ds d name says fault
+      | inr other ↦
+          let old = so_far name (sym (has_service-same ds d name other) ∙ some) in
+          record { vpe = old.vpe; place = old.place; serves = still_serves ds d old.vpe old.place name old.serves; declared = still_declared ds d old.vpe old.declared }
+    ])

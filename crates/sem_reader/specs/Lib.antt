@@ -1,3 +1,4 @@
 pub mod Accepted
+pub mod Pairs
 pub mod Tells
 pub mod Reads

@@ -1,5 +1,7 @@
 -- What the tables of the reader tell of the lines so far.
-use Rattle.std.specs.Prelude.{◌≡◌, ℕ, ◌+◌, ◌*◌, ◌<◌, ◌≤◌, false, List, [], length, None, slice_index_or}
+use Rattle.std.specs.Prelude.{◌≡◌, ℕ, ◌<◌, ◌≤◌, false, List, [], length, None, slice_index_or}
+use Rattle.indexmap.specs.IndexMap.{get}
+use Rattle.indexmap.specs.IndexSet.{contains}
 use Rattle.sem_key.specs.declared.limits.TheConstants.{PES}
 use Rattle.sem_key.specs.MembershipTable.{owner_at}
 use Rattle.sem_msg.specs.declared.limits.TheConstants.{SELECTORS}
@@ -8,6 +10,7 @@ use Rattle.sem_trace.specs.declared.limits.TheConstants.{NODES, MOST_KERNELS}
 use Rattle.sem_trace.specs.declared.declaration.Declaration.{Declaration}
 use Rattle.sem_trace.specs.Earlier.{owner_in, pe_in, is_taken, roots_in, calls_in, has_service, offer_in, is_denied, kill_in, call_number}
 use Rattle.sem_reader.specs.declared.tables.Tables.{Tables}
+use Rattle.sem_reader.specs.Pairs.{is_same_pair}
 use Rattle.sem_reader.specs.Accepted.{AreAccepted}
 
 -- each table is as long as there are numbers
@@ -15,8 +18,6 @@ pub record HasSizes (t : Tables) : Type 0 where
   pub owners : length t.owners.owners ≡ PES
   pub roots : length t.roots.items ≡ NODES
   pub calls : length t.calls.items ≡ NODES
-  pub offers : length t.offers.items ≡ 65536
-  pub denied : length t.denied.items ≡ NODES * NODES
 
 -- the tables tell what so many kernels and these lines declare
 pub record Tells (kernels : ℕ) (ds : List Declaration) (t : Tables) : Type 0 where
@@ -32,8 +33,8 @@ pub record Tells (kernels : ℕ) (ds : List Declaration) (t : Tables) : Type 0 w
   pub count : t.call_number ≡ call_number ds
   pub few_calls : t.call_number ≤ 20000
   pub named : (name : ℕ) → slice_index_or t.named name false ≡ has_service ds name
-  pub offer : (name index : ℕ) → index < 256 → slice_index_or t.offers.items (name * 256 + index) None ≡ offer_in ds name index
-  pub denied : (v asker : ℕ) → asker < NODES → slice_index_or t.denied.items (v * NODES + asker) false ≡ is_denied ds v asker
+  pub offer : (name index : ℕ) → get is_same_pair t.offers (name, index) ≡ offer_in ds name index
+  pub denied : (v asker : ℕ) → contains is_same_pair t.denied (v, asker) ≡ is_denied ds v asker
   pub kill : (v : ℕ) → slice_index_or t.kills v None ≡ kill_in ds v
 
 -- the tables tell what some lines declare

@@ -7,7 +7,7 @@ ghost use Rattle.sem_trace.specs.Context.{is_too_long as is_too_long_lem, is_und
 ghost use Rattle.sem_trace.specs.Ranges.{IsInRange};
 ghost use Rattle.sem_reader.specs.Tells.{Tells, HasSizes};
 
-use crate::tables::{BYTES, NODES, Tables};
+use crate::tables::Tables;
 use sem_msg::Root;
 use sem_trace::{Cause, Declaration};
 
@@ -85,12 +85,8 @@ impl Tables {
             Declaration::Service { vpe, sel, name } => {
                 self.holds_at(vpe, sel) || self.named[usize::from(name)]
             }
-            Declaration::Offer { name, index, .. } => {
-                self.offers[usize::from(name) * BYTES + usize::from(index)].is_some()
-            }
-            Declaration::Deny { vpe, asker } => {
-                self.denied[usize::from(vpe) * NODES + usize::from(asker)]
-            }
+            Declaration::Offer { name, index, .. } => { self.offers.contains_key(&(name, index)) }
+            Declaration::Deny { vpe, asker } => self.denied.contains(&(vpe, asker)),
             Declaration::Kill { vpe, .. } => self.kills[usize::from(vpe)].is_some(),
             Declaration::Call { .. } | Declaration::End => false,
         }

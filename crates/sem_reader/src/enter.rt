@@ -4,9 +4,13 @@ ghost use Rattle.sem_trace.specs.declared.limits.TheConstants.{NODES};
 ghost use Rattle.sem_trace.specs.declared.declaration.Declaration.{Declaration as DeclarationData};
 ghost use Rattle.sem_trace.specs.Context.{context_fault};
 ghost use Rattle.sem_trace.specs.Ranges.{IsInRange};
+ghost use Rattle.indexmap.specs.IndexMap as map;
+ghost use Rattle.indexmap.specs.IndexSet.{Updates};
+ghost use Rattle.sem_reader.specs.Pairs.{is_same_pair};
 ghost use Rattle.sem_reader.specs.Tells.{Tells, HasSizes};
 
-use crate::tables::{BYTES, NODES, Tables};
+use crate::tables::Tables;
+use indexmap::{IndexMap, IndexSet};
 use sem_key::{Object, OutOfMemory};
 use sem_msg::{Call, Calls, Root, Roots};
 use sem_trace::Declaration;
@@ -27,22 +31,25 @@ fn push_call(lists: &mut Vec<Calls>, vpe: u16, call: Call) -> Result<(), OutOfMe
     lists[usize::from(vpe)].push(call)
 }
 
-// Writes what the service of that name offers under the index.
-fn put_offer(offers: &mut Vec<Option<u8>>, name: u8, index: u8, sel: u8)
-    requires { length offers.old.items ≡ 65536 }
-    ensures { offers.new.items ≡ slice_set offers.old.items (name * 256 + index) (Some sel) }
+// Notes what the service of that name offers under the index.
+fn put_offer(
+    offers: &mut IndexMap<(u8, u8), u8>,
+    name: u8,
+    index: u8,
+    sel: u8,
+) -> Result<(), OutOfMemory>
+    ensures ok { OnOk result (map.Updates is_same_pair offers.old offers.new (name, index) (Some sel)) }
 {
-    offers[usize::from(name) * BYTES + usize::from(index)] = Some(sel);
+    offers.insert((name, index), sel)?;
+    Ok(())
 }
 
-// Writes that the VPE denies the other.
-fn put_deny(denied: &mut Vec<bool>, vpe: u16, asker: u16)
-    requires vpe { vpe < NODES }
-    requires asker { asker < NODES }
-    requires size { length denied.old.items ≡ NODES * NODES }
-    ensures { denied.new.items ≡ slice_set denied.old.items (vpe * NODES + asker) true }
+// Notes that the VPE denies the other.
+fn put_deny(denied: &mut IndexSet<(u16, u16)>, vpe: u16, asker: u16) -> Result<(), OutOfMemory>
+    ensures ok { OnOk result (Updates is_same_pair denied.old denied.new (vpe, asker) true) }
 {
-    denied[usize::from(vpe) * NODES + usize::from(asker)] = true;
+    denied.insert((vpe, asker))?;
+    Ok(())
 }
 
 impl Tables {
@@ -79,9 +86,9 @@ impl Tables {
                 self.named[usize::from(name)] = true;
             }
             Declaration::Offer { name, index, sel } => {
-                put_offer(&mut self.offers, name, index, sel);
+                put_offer(&mut self.offers, name, index, sel)?;
             }
-            Declaration::Deny { vpe, asker } => put_deny(&mut self.denied, vpe, asker),
+            Declaration::Deny { vpe, asker } => put_deny(&mut self.denied, vpe, asker)?,
             Declaration::Kill { vpe, replies } => self.kills[usize::from(vpe)] = Some(replies),
             Declaration::Call { vpe, call } => {
                 push_call(&mut self.calls, vpe, call)?;

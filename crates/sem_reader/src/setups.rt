@@ -1,5 +1,5 @@
 // The setup that the tables tell.
-ghost use Rattle.std.specs.Prelude.{◌≡◌, ℕ, ◌<◌, ◌≤◌, ◌++◌, List, All, filter_map, option_map, option_to_list, IfOk, OnOk};
+ghost use Rattle.std.specs.Prelude.{map as list_map, ◌≡◌, ℕ, ◌<◌, ◌≤◌, ◌++◌, List, All, filter_map, option_map, option_to_list, IfOk, OnOk};
 ghost use Rattle.sem_key.specs.declared.limits.TheConstants.{NUMBERS};
 ghost use Rattle.sem_msg.specs.Setup.{services_from, service_with as service_with_lem};
 ghost use Rattle.sem_trace.specs.TraceText.{TraceFits};
@@ -7,11 +7,16 @@ ghost use Rattle.sem_trace.specs.declared.limits.TheConstants.{NODES};
 ghost use Rattle.sem_trace.specs.declared.declaration.Declaration.{Declaration as DeclarationData};
 ghost use Rattle.sem_trace.specs.Earlier.{vpe_in, kill_in};
 ghost use Rattle.sem_trace.specs.Refusal.{numbers};
-ghost use Rattle.sem_trace.specs.Standing.{vpes_of, services_among as services_among_lem, named as named_lem, services_of as services_of_lem, offer_of as offer_of_lem, offers_of, deny_of as deny_of_lem, denies_of, kills_of, setup_of};
+ghost use Rattle.sem_trace.specs.Standing.{vpes_of, services_among as services_among_lem, named as named_lem, services_of as services_of_lem, offers_of, denies_of, kills_of, setup_of};
+ghost use Rattle.std.specs.List.Sorted.{IsPermutation, IsSorted};
+ghost use Rattle.indexmap.specs.IndexMap as map;
+ghost use Rattle.indexmap.specs.IndexSet.{IsUnique};
+ghost use Rattle.sem_reader.specs.Pairs.{is_same_pair, compare_pairs, compare_entries, offer_with};
 ghost use Rattle.sem_reader.specs.Tells.{Tells, HasSizes, IsTold, IsPlainVpe};
 ghost use Rattle.sem_key.specs.ObjectRanges.{object_kind};
 
 use crate::tables::{BYTES, NODES, Tables};
+use indexmap::{IndexMap, IndexSet};
 use sem_key::{Key, Kind, Object, OutOfMemory};
 use sem_msg::{Denies, Kills, Offer, Offers, Seq, Service, Services, Setup, VpeDecl, Vpes0};
 use sem_trace::LINK_WINDOW;
@@ -97,6 +102,60 @@ fn services_of(alloc: Global, vpes: &Vpes0) -> Result<Services, OutOfMemory>
     Ok(services)
 }
 
+// The pairs, by both parts.
+fn sorted_pairs(alloc: Global, pairs: &IndexSet<(u16, u16)>) -> Result<Vec<(u16, u16)>, OutOfMemory>
+    ensures same { IfOk result (λ sorted. IsPermutation pairs.now.keys sorted.items) }
+    ensures rise { IfOk result (λ sorted. IsSorted compare_pairs sorted.items) }
+    ensures apart { IsUnique is_same_pair pairs.now }
+{
+    let mut sorted = Vec::from_slice(alloc, pairs.as_slice())?;
+    sorted.sort()?;
+    Ok(sorted)
+}
+
+// A list of the pairs.
+fn denies_from(alloc: Global, pairs: &[(u16, u16)]) -> Result<Denies, OutOfMemory>
+    ensures { IfOk result (λ denies. denies ≡ pairs.now) }
+{
+    let mut denies = Denies::new(alloc);
+    for pair in pairs {
+        denies.push(*pair)?;
+    }
+    Ok(denies)
+}
+
+// The offers, by name and index.
+fn sorted_offers(
+    alloc: Global,
+    offers: &IndexMap<(u8, u8), u8>,
+) -> Result<Vec<((u8, u8), u8)>, OutOfMemory>
+    ensures same { IfOk result (λ sorted. IsPermutation offers.now.entries sorted.items) }
+    ensures rise { IfOk result (λ sorted. IsSorted compare_entries sorted.items) }
+    ensures apart { map.IsUnique is_same_pair offers.now }
+{
+    let mut sorted = Vec::new(alloc);
+    for (place, sel) in offers.iter() {
+        sorted.push((*place, *sel))?;
+    }
+    sorted.sort()?;
+    Ok(sorted)
+}
+
+// A list of the offers.
+fn offers_from(alloc: Global, entries: &[((u8, u8), u8)]) -> Result<Offers, OutOfMemory>
+    ensures { IfOk result (λ offers. offers ≡ list_map offer_with entries.now) }
+{
+    let mut offers = Offers::new(alloc);
+    for ((name, index), sel) in entries {
+        offers.push(Offer {
+            name: *name,
+            index: *index,
+            sel: *sel,
+        })?;
+    }
+    Ok(offers)
+}
+
 impl Tables {
     // The VPE with all that is declared of it.
     #[tactic(auto, unfolding(sem_trace::specs::Earlier::vpe_in))]
@@ -128,72 +187,20 @@ impl Tables {
         Ok(vpes)
     }
 
-    // What the service of that name offers under the index, if anything.
-    fn offer(&self, name: u8, index: u8) -> Option<Offer>
-        requires { HasSizes self.now }
-        ensures { (kernels : ℕ) (ds : List DeclarationData) → Tells kernels ds self.now → result ≡ offer_of_lem ds name index }
+    // The offers, by name and index.
+    fn offers(&self, alloc: Global) -> Result<Offers, OutOfMemory>
+        ensures { (kernels : ℕ) (ds : List DeclarationData) → Tells kernels ds self.now → IfOk result (λ offers. offers ≡ offers_of ds (services_of_lem (vpes_of ds))) }
     {
-        let sel = self.offers[usize::from(name) * BYTES + usize::from(index)]?;
-        Some(Offer { name, index, sel })
+        let entries = sorted_offers(alloc, &self.offers)?;
+        offers_from(alloc, &entries)
     }
 
-    // Appends the offers of the service of that name, by index.
-    fn push_offers(&self, offers: &mut Offers, name: u8) -> Result<(), OutOfMemory>
-        requires { HasSizes self.now }
-        ensures ok { (kernels : ℕ) (ds : List DeclarationData) → Tells kernels ds self.now → OnOk result (offers.new ≡ offers.old ++ filter_map (offer_of_lem ds name) (numbers 256)) }
+    // The denied pairs, by both.
+    fn denies(&self, alloc: Global) -> Result<Denies, OutOfMemory>
+        ensures { (kernels : ℕ) (ds : List DeclarationData) → Tells kernels ds self.now → IfOk result (λ denies. denies ≡ denies_of ds (vpes_of ds)) }
     {
-        for index in 0..BYTES {
-            push_some(offers, self.offer(name, index as u8))?;
-        }
-        Ok(())
-    }
-
-    // The offers of these services, by name and index.
-    fn offers_of(&self, alloc: Global, services: &Services) -> Result<Offers, OutOfMemory>
-        requires { HasSizes self.now }
-        ensures { (kernels : ℕ) (ds : List DeclarationData) → Tells kernels ds self.now → IfOk result (λ offers. offers ≡ offers_of ds services.now) }
-    {
-        let mut offers = Offers::new(alloc);
-        for service in services.as_slice() {
-            self.push_offers(&mut offers, service.name)?;
-        }
-        Ok(offers)
-    }
-
-    // The pair, if the VPE denies the other.
-    fn deny(&self, vpe: u16, asker: u16) -> Option<(u16, u16)>
-        requires vpe { vpe < NODES }
-        requires asker { asker < NODES }
-        requires sizes { HasSizes self.now }
-        ensures { (kernels : ℕ) (ds : List DeclarationData) → Tells kernels ds self.now → result ≡ deny_of_lem ds vpe asker }
-    {
-        self.denied[usize::from(vpe) * NODES + usize::from(asker)].then_some((vpe, asker))
-    }
-
-    // Appends the pairs of the VPE and those that it denies.
-    fn push_denies(&self, denies: &mut Denies, vpe: u16, vpes: &Vpes0) -> Result<(), OutOfMemory>
-        requires sizes { HasSizes self.now }
-        requires vpe { vpe < NODES }
-        requires plain { All IsPlainVpe vpes.now }
-        ensures ok { (kernels : ℕ) (ds : List DeclarationData) → Tells kernels ds self.now → OnOk result (denies.new ≡ denies.old ++ filter_map (λ e. deny_of_lem ds vpe e.vpe) vpes.now) }
-    {
-        for asker in vpes.as_slice() {
-            push_some(denies, self.deny(vpe, asker.vpe))?;
-        }
-        Ok(())
-    }
-
-    // The denied pairs of these VPEs, by both.
-    fn denies_of(&self, alloc: Global, vpes: &Vpes0) -> Result<Denies, OutOfMemory>
-        requires sizes { HasSizes self.now }
-        requires plain { All IsPlainVpe vpes.now }
-        ensures { (kernels : ℕ) (ds : List DeclarationData) → Tells kernels ds self.now → IfOk result (λ denies. denies ≡ denies_of ds vpes.now) }
-    {
-        let mut denies = Denies::new(alloc);
-        for declared in vpes.as_slice() {
-            self.push_denies(&mut denies, declared.vpe, vpes)?;
-        }
-        Ok(denies)
+        let pairs = sorted_pairs(alloc, &self.denied)?;
+        denies_from(alloc, &pairs)
     }
 
     // The kill of the VPE, if it is killed.
@@ -226,8 +233,8 @@ impl Tables {
     {
         let vpes = self.vpes(alloc)?;
         let services = services_of(alloc, &vpes)?;
-        let offers = self.offers_of(alloc, &services)?;
-        let denies = self.denies_of(alloc, &vpes)?;
+        let offers = self.offers(alloc)?;
+        let denies = self.denies(alloc)?;
         let kills = self.kills_of(alloc, &vpes)?;
         Ok(Setup {
             version: 1,

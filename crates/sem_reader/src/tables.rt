@@ -1,8 +1,9 @@
-// What the lines so far declare, in tables by number.
+// What the lines so far declare, by number.
 ghost use Rattle.std.specs.Prelude.{◌≡◌, ◌≤◌, [], None, false, replicate, IfOk};
 ghost use Rattle.sem_trace.specs.declared.limits.TheConstants.{NODES, MOST_KERNELS};
 ghost use Rattle.sem_reader.specs.Tells.{Tells, HasSizes};
 
+use indexmap::{IndexMap, IndexSet};
 use sem_key::{Membership, OutOfMemory};
 use sem_msg::{Calls, Roots};
 use std::alloc::Global;
@@ -31,9 +32,9 @@ pub(crate) struct Tables {
     /// Which names have a service.
     pub named: [bool; BYTES],
     /// What is offered, by name and index.
-    pub offers: Vec<Option<u8>>,
-    /// Which VPE denies which, by both.
-    pub denied: Vec<bool>,
+    pub offers: IndexMap<(u8, u8), u8>,
+    /// Which VPE denies which.
+    pub denied: IndexSet<(u16, u16)>,
     /// After how many replies each VPE is killed.
     pub kills: [Option<u64>; NODES],
 }
@@ -60,28 +61,6 @@ fn no_calls(alloc: Global) -> Result<Vec<Calls>, OutOfMemory>
     Ok(lists)
 }
 
-// A table of so many names and indexes without an offer.
-fn no_offers(alloc: Global, size: usize) -> Result<Vec<Option<u8>>, OutOfMemory>
-    ensures { IfOk result (λ table. table.items ≡ replicate size None) }
-{
-    let mut table = Vec::new(alloc);
-    for _ in 0..size {
-        table.push(None)?;
-    }
-    Ok(table)
-}
-
-// A table of so many pairs, none of them denied.
-fn no_denies(alloc: Global, size: usize) -> Result<Vec<bool>, OutOfMemory>
-    ensures { IfOk result (λ table. table.items ≡ replicate size false) }
-{
-    let mut table = Vec::new(alloc);
-    for _ in 0..size {
-        table.push(false)?;
-    }
-    Ok(table)
-}
-
 impl Tables {
     /// Nothing is declared but so many kernels.
     pub(crate) fn new(alloc: Global, kernels: u32) -> Result<Tables, OutOfMemory>
@@ -98,8 +77,8 @@ impl Tables {
             calls: no_calls(alloc)?,
             call_number: 0,
             named: [false; BYTES],
-            offers: no_offers(alloc, BYTES * BYTES)?,
-            denied: no_denies(alloc, NODES * NODES)?,
+            offers: IndexMap::new(alloc),
+            denied: IndexSet::new(alloc),
             kills: [None; NODES],
         })
     }

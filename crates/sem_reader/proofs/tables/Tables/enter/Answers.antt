@@ -35,15 +35,15 @@ returns-in_ok-push_root-in-Service-clause-ok c kernels ds told fault =
     let ranges = subst (λ (k : ℕ). IsInRange k c.args.d) told.number c.requires.range in
     rw (c.in-Service.is, c.from-in-Service.ensures) (enter_service kernels ds c.args.self.now c.in-Service.vpe c.in-Service.sel c.in-Service.name (record c.args.self.now { roots = c.push_root-in-Service.new.lists }) told (rw c.in-Service.is at ranges) (rw c.in-Service.is at fault) c.requires.sizes.roots (omega arith) c.in_ok-push_root-in-Service.ensures.ok)
 
-pub returns-in-Offer-clause-ok : goal.returns-in-Offer-clause-ok
-returns-in-Offer-clause-ok c kernels ds told fault =
+pub returns-in_ok-put_offer-in-Offer-clause-ok : goal.returns-in_ok-put_offer-in-Offer-clause-ok
+returns-in_ok-put_offer-in-Offer-clause-ok c kernels ds told fault =
     let ranges = subst (λ (k : ℕ). IsInRange k c.args.d) told.number c.requires.range in
-    rw c.in-Offer.is (enter_offer kernels ds c.args.self.now c.in-Offer.name c.in-Offer.index c.in-Offer.sel (record c.args.self.now { offers = c.put_offer.new.offers }) told (rw c.in-Offer.is at ranges) (rw c.in-Offer.is at fault) c.requires.sizes.offers c.put_offer.ensures)
+    rw c.in-Offer.is (enter_offer kernels ds c.args.self.now c.in-Offer.name c.in-Offer.index c.in-Offer.sel (record c.args.self.now { offers = c.put_offer.new.offers }) told (rw c.in-Offer.is at ranges) (rw c.in-Offer.is at fault) c.in_ok-put_offer-in-Offer.ensures.ok)
 
-pub returns-in-Deny-clause-ok : goal.returns-in-Deny-clause-ok
-returns-in-Deny-clause-ok c kernels ds told fault =
+pub returns-in_ok-put_deny-in-Deny-clause-ok : goal.returns-in_ok-put_deny-in-Deny-clause-ok
+returns-in_ok-put_deny-in-Deny-clause-ok c kernels ds told fault =
     let ranges = subst (λ (k : ℕ). IsInRange k c.args.d) told.number c.requires.range in
-    rw c.in-Deny.is (enter_deny kernels ds c.args.self.now c.in-Deny.vpe c.in-Deny.asker (record c.args.self.now { denied = c.put_deny.new.denied }) told (rw c.in-Deny.is at ranges) (rw c.in-Deny.is at fault) c.requires.sizes.denied c.put_deny.ensures)
+    rw c.in-Deny.is (enter_deny kernels ds c.args.self.now c.in-Deny.vpe c.in-Deny.asker (record c.args.self.now { denied = c.put_deny.new.denied }) told (rw c.in-Deny.is at ranges) (rw c.in-Deny.is at fault) c.in_ok-put_deny-in-Deny.ensures.ok)
 
 pub returns-in-Kill-clause-ok : goal.returns-in-Kill-clause-ok
 returns-in-Kill-clause-ok c kernels ds told fault =

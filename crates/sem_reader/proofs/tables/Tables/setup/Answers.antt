@@ -1,11 +1,10 @@
+use Rattle.std.proofs.Common.{ap, sym, ◌∙◌}
+use Rattle.sem_trace.specs.Standing.{services_of, offers_of, denies_of}
 use Rattle.sem_reader.proofs.SetupIs.{plain_vpes, setup_is, trace_fits, same_setup}
 use Rattle.sem_reader.proofs.tables.Tables.setup.Goals as goal
 
 pub services_of-requires : goal.services_of-requires
 services_of-requires c = rw (c.in_ok-vpes.ensures _ _ c.requires.told.tells) (plain_vpes _ _ c.requires.told.tells.accepted)
-
-pub denies_of-requires-clause-plain : goal.denies_of-requires-clause-plain
-denies_of-requires-clause-plain c = rw (c.in_ok-vpes.ensures _ _ c.requires.told.tells) (plain_vpes _ _ c.requires.told.tells.accepted)
 
 pub kills_of-requires : goal.kills_of-requires
 kills_of-requires c = rw (c.in_ok-vpes.ensures _ _ c.requires.told.tells) (plain_vpes _ _ c.requires.told.tells.accepted)
@@ -13,12 +12,12 @@ kills_of-requires c = rw (c.in_ok-vpes.ensures _ _ c.requires.told.tells) (plain
 pub invariant_of-result : goal.invariant_of-result
 invariant_of-result c =
     let told = c.requires.told.tells in
-    rw (same_setup _ c.kernels.result c.requires.told.ds c.args.self.now.owners c.in_ok-vpes.vpes c.in_ok-services.services c.in_ok-offers.offers c.in_ok-denies.denies c.in_ok-kills.kills c.requires.sizes.owners told.number told.owner c.kernels.ensures.number (c.in_ok-vpes.ensures _ _ told) c.in_ok-services.ensures (c.in_ok-offers.ensures _ _ told) (c.in_ok-denies.ensures _ _ told) (c.in_ok-kills.ensures _ _ told)) (setup_is _ _ told.some told.few told.accepted)
+    rw (same_setup _ c.kernels.result c.requires.told.ds c.args.self.now.owners c.in_ok-vpes.vpes c.in_ok-services.services c.in_ok-offers.offers c.in_ok-denies.denies c.in_ok-kills.kills c.requires.sizes.owners told.number told.owner c.kernels.ensures.number (c.in_ok-vpes.ensures _ _ told) c.in_ok-services.ensures (c.in_ok-offers.ensures _ _ told ∙ ap (offers_of _) (sym (c.in_ok-services.ensures ∙ ap services_of (c.in_ok-vpes.ensures _ _ told)))) (c.in_ok-denies.ensures _ _ told ∙ ap (denies_of _) (sym (c.in_ok-vpes.ensures _ _ told))) (c.in_ok-kills.ensures _ _ told)) (setup_is _ _ told.some told.few told.accepted)
 
 pub returns : goal.returns
 returns c = record {
-  setup = λ kernels ds told. same_setup kernels c.kernels.result ds c.args.self.now.owners c.in_ok-vpes.vpes c.in_ok-services.services c.in_ok-offers.offers c.in_ok-denies.denies c.in_ok-kills.kills c.requires.sizes.owners told.number told.owner c.kernels.ensures.number (c.in_ok-vpes.ensures _ _ told) c.in_ok-services.ensures (c.in_ok-offers.ensures _ _ told) (c.in_ok-denies.ensures _ _ told) (c.in_ok-kills.ensures _ _ told);
+  setup = λ kernels ds told. same_setup kernels c.kernels.result ds c.args.self.now.owners c.in_ok-vpes.vpes c.in_ok-services.services c.in_ok-offers.offers c.in_ok-denies.denies c.in_ok-kills.kills c.requires.sizes.owners told.number told.owner c.kernels.ensures.number (c.in_ok-vpes.ensures _ _ told) c.in_ok-services.ensures (c.in_ok-offers.ensures _ _ told ∙ ap (offers_of _) (sym (c.in_ok-services.ensures ∙ ap services_of (c.in_ok-vpes.ensures _ _ told)))) (c.in_ok-denies.ensures _ _ told ∙ ap (denies_of _) (sym (c.in_ok-vpes.ensures _ _ told))) (c.in_ok-kills.ensures _ _ told);
   fits =
       let told = c.requires.told.tells in
-      rw (same_setup _ c.kernels.result c.requires.told.ds c.args.self.now.owners c.in_ok-vpes.vpes c.in_ok-services.services c.in_ok-offers.offers c.in_ok-denies.denies c.in_ok-kills.kills c.requires.sizes.owners told.number told.owner c.kernels.ensures.number (c.in_ok-vpes.ensures _ _ told) c.in_ok-services.ensures (c.in_ok-offers.ensures _ _ told) (c.in_ok-denies.ensures _ _ told) (c.in_ok-kills.ensures _ _ told)) (trace_fits _ _ told.some told.few told.accepted);
+      rw (same_setup _ c.kernels.result c.requires.told.ds c.args.self.now.owners c.in_ok-vpes.vpes c.in_ok-services.services c.in_ok-offers.offers c.in_ok-denies.denies c.in_ok-kills.kills c.requires.sizes.owners told.number told.owner c.kernels.ensures.number (c.in_ok-vpes.ensures _ _ told) c.in_ok-services.ensures (c.in_ok-offers.ensures _ _ told ∙ ap (offers_of _) (sym (c.in_ok-services.ensures ∙ ap services_of (c.in_ok-vpes.ensures _ _ told)))) (c.in_ok-denies.ensures _ _ told ∙ ap (denies_of _) (sym (c.in_ok-vpes.ensures _ _ told))) (c.in_ok-kills.ensures _ _ told)) (trace_fits _ _ told.some told.few told.accepted);
 }
