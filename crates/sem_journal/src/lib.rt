@@ -1,7 +1,6 @@
 //! The lines of entries, printed and read, and what the text of a report is.
 #![tactic(auto)]
 
-mod cursor;
 mod entry;
 mod laws;
 mod read_entries;
@@ -12,7 +11,6 @@ mod shown;
 #[cfg(test)]
 mod tests;
 
-pub use cursor::Words;
 pub use entry::{
     print_entry, push_act, push_consent, push_cut, push_detail, push_entry, push_grant,
     push_message, push_reply, push_target,

@@ -6,16 +6,15 @@ ghost use Rattle.sem_trace.specs.Forms.{form_fault, choice, word_at, node, word,
 ghost use Rattle.sem_trace.specs.Forms.Place.{Word};
 ghost use Rattle.sem_trace.specs.Places.{Fills, Fails};
 ghost use Rattle.sem_journal.specs.EntryText.{message_words, act_words, consent_word, detail_words, cut_words, reply_words, entry_words};
-ghost use Rattle.sem_journal.specs.EntryForms.{kernel as kernel_lem, code as code_lem, message_form, event_form, behind_cut, behind_grant, behind_event, entry_fault};
+ghost use Rattle.sem_journal.specs.EntryForms.{kernel as kernel_lem, code as code_lem, message_form, event_form, behind_cut as behind_cut_lem, behind_grant as behind_grant_lem, behind_event, entry_fault};
 ghost use Rattle.sem_journal.specs.ShownWords.{shown_words, ShownFits, is_long as is_long_lem, carries_long as carries_long_lem};
 ghost use Rattle.sem_journal.specs.EntryRanges.{MessageFits, EventFits, ReplyFits, CutFits, EntryFits};
 
-use crate::cursor::Words;
-use crate::read_message::CODE;
+use crate::read_message::{CODE, message, two_keys};
 use crate::shown::Shown;
 use sem_key::{Key, Object};
 use sem_msg::{Act, Consent, Detail, Entry, Event, Message, Reply};
-use sem_trace::{Cause, NODE, Range, WORD, is, no_more};
+use sem_trace::{Cause, NODE, Range, WORD, Words, is};
 
 // Nothing came of it.
 const NOTHING: Shown = Shown {
@@ -36,269 +35,267 @@ fn kernel_range(kernels: u32) -> Range
     }
 }
 
-impl Words<'_> {
-    fn call_event(&mut self) -> Result<(Act, Detail), Cause>
-        ensures ok { OnOk result (Fills (node ∷ word ∷ choice calls (word_at (words_of self.old.rest.now) 2)) (words_of self.old.rest.now) (words_of self.new.rest.now)) }
-        ensures err { IfErr result (Fails (node ∷ word ∷ choice calls (word_at (words_of self.old.rest.now) 2)) (words_of self.old.rest.now)) }
-        ensures printed { IfOk result (λ p. codes "call" ∷ words_of self.old.rest.now ≡ act_words p.0 ++ detail_words p.1 ++ words_of self.new.rest.now) }
-        ensures fits { (kernels : ℕ) → IfOk result (λ p. EventFits kernels p.0 p.1) }
-    {
-        let [vpe, index, ..] = self.numbers(&[NODE, WORD])?;
-        let call = self.call()?;
-        let act = Act::Call { vpe: vpe as u16 };
-        let detail = Detail::Called {
-            index: index as u32,
-            call,
-        };
-        Ok((act, detail))
-    }
+fn call_event(words: &mut Words<'_>) -> Result<(Act, Detail), Cause>
+    ensures ok { OnOk result (Fills (node ∷ word ∷ choice calls (word_at words.old 2)) words.old words.new) }
+    ensures err { IfErr result (Fails (node ∷ word ∷ choice calls (word_at words.old 2)) words.old) }
+    ensures printed { IfOk result (λ p. codes "call" ∷ words.old ≡ act_words p.0 ++ detail_words p.1 ++ words.new) }
+    ensures fits { (kernels : ℕ) → IfOk result (λ p. EventFits kernels p.0 p.1) }
+{
+    let [vpe, index, ..] = words.numbers(&[NODE, WORD])?;
+    let call = words.call()?;
+    let act = Act::Call { vpe: vpe as u16 };
+    let detail = Detail::Called {
+        index: index as u32,
+        call,
+    };
+    Ok((act, detail))
+}
 
-    // A message, behind its other kernel.
-    fn carried(&mut self, kernels: u32) -> Result<(u32, Message), Cause>
-        requires { 1 ≤ kernels }
-        ensures ok { OnOk result (Fills (kernel_lem kernels ∷ message_form (drop 1 (words_of self.old.rest.now))) (words_of self.old.rest.now) (words_of self.new.rest.now)) }
-        ensures err { IfErr result (Fails (kernel_lem kernels ∷ message_form (drop 1 (words_of self.old.rest.now))) (words_of self.old.rest.now)) }
-        ensures printed { IfOk result (λ p. words_of self.old.rest.now ≡ decimal p.0 ∷ message_words p.1 ++ words_of self.new.rest.now) }
-        ensures peer { IfOk result (λ p. p.0 < kernels) }
-        ensures fits { IfOk result (λ p. MessageFits p.1) }
-    {
-        let peer = self.number(kernel_range(kernels))?;
-        let message = self.message()?;
-        Ok((peer as u32, message))
-    }
+// A message, behind its other kernel.
+fn carried(words: &mut Words<'_>, kernels: u32) -> Result<(u32, Message), Cause>
+    requires { 1 ≤ kernels }
+    ensures ok { OnOk result (Fills (kernel_lem kernels ∷ message_form (drop 1 words.old)) words.old words.new) }
+    ensures err { IfErr result (Fails (kernel_lem kernels ∷ message_form (drop 1 words.old)) words.old) }
+    ensures printed { IfOk result (λ p. words.old ≡ decimal p.0 ∷ message_words p.1 ++ words.new) }
+    ensures peer { IfOk result (λ p. p.0 < kernels) }
+    ensures fits { IfOk result (λ p. MessageFits p.1) }
+{
+    let peer = words.number(kernel_range(kernels))?;
+    let message = message(words)?;
+    Ok((peer as u32, message))
+}
 
-    fn fetch_event(&mut self, kernels: u32) -> Result<(Act, Detail), Cause>
-        requires { 1 ≤ kernels }
-        ensures ok { OnOk result (Fills (kernel_lem kernels ∷ message_form (drop 1 (words_of self.old.rest.now))) (words_of self.old.rest.now) (words_of self.new.rest.now)) }
-        ensures err { IfErr result (Fails (kernel_lem kernels ∷ message_form (drop 1 (words_of self.old.rest.now))) (words_of self.old.rest.now)) }
-        ensures printed { IfOk result (λ p. codes "fetch" ∷ words_of self.old.rest.now ≡ act_words p.0 ++ detail_words p.1 ++ words_of self.new.rest.now) }
-        ensures fits { IfOk result (λ p. EventFits kernels p.0 p.1) }
-    {
-        let (peer, message) = self.carried(kernels)?;
-        Ok((Act::Fetch { from: peer }, Detail::Carried { peer, message }))
-    }
+fn fetch_event(words: &mut Words<'_>, kernels: u32) -> Result<(Act, Detail), Cause>
+    requires { 1 ≤ kernels }
+    ensures ok { OnOk result (Fills (kernel_lem kernels ∷ message_form (drop 1 words.old)) words.old words.new) }
+    ensures err { IfErr result (Fails (kernel_lem kernels ∷ message_form (drop 1 words.old)) words.old) }
+    ensures printed { IfOk result (λ p. codes "fetch" ∷ words.old ≡ act_words p.0 ++ detail_words p.1 ++ words.new) }
+    ensures fits { IfOk result (λ p. EventFits kernels p.0 p.1) }
+{
+    let (peer, message) = carried(words, kernels)?;
+    Ok((Act::Fetch { from: peer }, Detail::Carried { peer, message }))
+}
 
-    fn handle_event(&mut self, kernels: u32) -> Result<(Act, Detail), Cause>
-        requires { 1 ≤ kernels }
-        ensures ok { OnOk result (Fills (kernel_lem kernels ∷ message_form (drop 1 (words_of self.old.rest.now))) (words_of self.old.rest.now) (words_of self.new.rest.now)) }
-        ensures err { IfErr result (Fails (kernel_lem kernels ∷ message_form (drop 1 (words_of self.old.rest.now))) (words_of self.old.rest.now)) }
-        ensures printed { IfOk result (λ p. codes "handle" ∷ words_of self.old.rest.now ≡ act_words p.0 ++ detail_words p.1 ++ words_of self.new.rest.now) }
-        ensures fits { IfOk result (λ p. EventFits kernels p.0 p.1) }
-    {
-        let (peer, message) = self.carried(kernels)?;
-        Ok((Act::Handle, Detail::Carried { peer, message }))
-    }
+fn handle_event(words: &mut Words<'_>, kernels: u32) -> Result<(Act, Detail), Cause>
+    requires { 1 ≤ kernels }
+    ensures ok { OnOk result (Fills (kernel_lem kernels ∷ message_form (drop 1 words.old)) words.old words.new) }
+    ensures err { IfErr result (Fails (kernel_lem kernels ∷ message_form (drop 1 words.old)) words.old) }
+    ensures printed { IfOk result (λ p. codes "handle" ∷ words.old ≡ act_words p.0 ++ detail_words p.1 ++ words.new) }
+    ensures fits { IfOk result (λ p. EventFits kernels p.0 p.1) }
+{
+    let (peer, message) = carried(words, kernels)?;
+    Ok((Act::Handle, Detail::Carried { peer, message }))
+}
 
-    fn flush_event(&mut self, kernels: u32) -> Result<(Act, Detail), Cause>
-        requires { 1 ≤ kernels }
-        ensures ok { OnOk result (Fills (kernel_lem kernels ∷ message_form (drop 1 (words_of self.old.rest.now))) (words_of self.old.rest.now) (words_of self.new.rest.now)) }
-        ensures err { IfErr result (Fails (kernel_lem kernels ∷ message_form (drop 1 (words_of self.old.rest.now))) (words_of self.old.rest.now)) }
-        ensures printed { IfOk result (λ p. codes "flush" ∷ words_of self.old.rest.now ≡ act_words p.0 ++ detail_words p.1 ++ words_of self.new.rest.now) }
-        ensures fits { IfOk result (λ p. EventFits kernels p.0 p.1) }
-    {
-        let (peer, message) = self.carried(kernels)?;
-        Ok((Act::Flush { to: peer }, Detail::Carried { peer, message }))
-    }
+fn flush_event(words: &mut Words<'_>, kernels: u32) -> Result<(Act, Detail), Cause>
+    requires { 1 ≤ kernels }
+    ensures ok { OnOk result (Fills (kernel_lem kernels ∷ message_form (drop 1 words.old)) words.old words.new) }
+    ensures err { IfErr result (Fails (kernel_lem kernels ∷ message_form (drop 1 words.old)) words.old) }
+    ensures printed { IfOk result (λ p. codes "flush" ∷ words.old ≡ act_words p.0 ++ detail_words p.1 ++ words.new) }
+    ensures fits { IfOk result (λ p. EventFits kernels p.0 p.1) }
+{
+    let (peer, message) = carried(words, kernels)?;
+    Ok((Act::Flush { to: peer }, Detail::Carried { peer, message }))
+}
 
-    // The answer to an ask.
-    fn consent(&mut self) -> Result<Consent, Cause>
-        ensures ok { OnOk result (Fills (Word (codes "yes" ∷ codes "no" ∷ codes "drop" ∷ []) ∷ []) (words_of self.old.rest.now) (words_of self.new.rest.now)) }
-        ensures err { IfErr result (Fails (Word (codes "yes" ∷ codes "no" ∷ codes "drop" ∷ []) ∷ []) (words_of self.old.rest.now)) }
-        ensures printed { IfOk result (λ answer. words_of self.old.rest.now ≡ consent_word answer ∷ words_of self.new.rest.now) }
-    {
-        let answer = self.word()?;
-        if is(answer, b"yes") {
-            Ok(Consent::Yes)
-        } else if is(answer, b"no") {
-            Ok(Consent::No)
-        } else if is(answer, b"drop") {
-            Ok(Consent::Dropped)
-        } else {
-            Err(Cause::UnknownWord)
-        }
+// The answer to an ask.
+fn consent(words: &mut Words<'_>) -> Result<Consent, Cause>
+    ensures ok { OnOk result (Fills (Word (codes "yes" ∷ codes "no" ∷ codes "drop" ∷ []) ∷ []) words.old words.new) }
+    ensures err { IfErr result (Fails (Word (codes "yes" ∷ codes "no" ∷ codes "drop" ∷ []) ∷ []) words.old) }
+    ensures printed { IfOk result (λ answer. words.old ≡ consent_word answer ∷ words.new) }
+{
+    let answer = words.word()?;
+    if is(answer, b"yes") {
+        Ok(Consent::Yes)
+    } else if is(answer, b"no") {
+        Ok(Consent::No)
+    } else if is(answer, b"drop") {
+        Ok(Consent::Dropped)
+    } else {
+        Err(Cause::UnknownWord)
     }
+}
 
-    fn upcall_event(&mut self) -> Result<(Act, Detail), Cause>
-        ensures ok { OnOk result (Fills (node ∷ node ∷ Word (codes "yes" ∷ codes "no" ∷ codes "drop" ∷ []) ∷ []) (words_of self.old.rest.now) (words_of self.new.rest.now)) }
-        ensures err { IfErr result (Fails (node ∷ node ∷ Word (codes "yes" ∷ codes "no" ∷ codes "drop" ∷ []) ∷ []) (words_of self.old.rest.now)) }
-        ensures printed { IfOk result (λ p. codes "upcall" ∷ words_of self.old.rest.now ≡ act_words p.0 ++ detail_words p.1 ++ words_of self.new.rest.now) }
-        ensures fits { (kernels : ℕ) → IfOk result (λ p. EventFits kernels p.0 p.1) }
-    {
-        let [vpe, asker, ..] = self.numbers(&[NODE, NODE])?;
-        let answer = self.consent()?;
-        let act = Act::Upcall { vpe: vpe as u16 };
-        let detail = Detail::Asked {
-            asker: asker as u16,
-            answer,
-        };
-        Ok((act, detail))
+fn upcall_event(words: &mut Words<'_>) -> Result<(Act, Detail), Cause>
+    ensures ok { OnOk result (Fills (node ∷ node ∷ Word (codes "yes" ∷ codes "no" ∷ codes "drop" ∷ []) ∷ []) words.old words.new) }
+    ensures err { IfErr result (Fails (node ∷ node ∷ Word (codes "yes" ∷ codes "no" ∷ codes "drop" ∷ []) ∷ []) words.old) }
+    ensures printed { IfOk result (λ p. codes "upcall" ∷ words.old ≡ act_words p.0 ++ detail_words p.1 ++ words.new) }
+    ensures fits { (kernels : ℕ) → IfOk result (λ p. EventFits kernels p.0 p.1) }
+{
+    let [vpe, asker, ..] = words.numbers(&[NODE, NODE])?;
+    let answer = consent(words)?;
+    let act = Act::Upcall { vpe: vpe as u16 };
+    let detail = Detail::Asked {
+        asker: asker as u16,
+        answer,
+    };
+    Ok((act, detail))
+}
+
+fn resume_event(words: &mut Words<'_>) -> Result<(Act, Detail), Cause>
+    ensures ok { OnOk result (Fills (node ∷ []) words.old words.new) }
+    ensures err { IfErr result (Fails (node ∷ []) words.old) }
+    ensures printed { IfOk result (λ p. codes "resume" ∷ words.old ≡ act_words p.0 ++ detail_words p.1 ++ words.new) }
+    ensures fits { (kernels : ℕ) → IfOk result (λ p. EventFits kernels p.0 p.1) }
+{
+    let vpe = words.number(NODE)?;
+    Ok((Act::Resume { vpe: vpe as u16 }, Detail::Nothing))
+}
+
+fn kill_event(words: &mut Words<'_>) -> Result<(Act, Detail), Cause>
+    ensures ok { OnOk result (Fills (node ∷ []) words.old words.new) }
+    ensures err { IfErr result (Fails (node ∷ []) words.old) }
+    ensures printed { IfOk result (λ p. codes "kill" ∷ words.old ≡ act_words p.0 ++ detail_words p.1 ++ words.new) }
+    ensures fits { (kernels : ℕ) → IfOk result (λ p. EventFits kernels p.0 p.1) }
+{
+    let vpe = words.number(NODE)?;
+    Ok((Act::Kill { vpe: vpe as u16 }, Detail::Nothing))
+}
+
+// The next words, which are an event.
+fn event(words: &mut Words<'_>, kernels: u32) -> Result<(Act, Detail), Cause>
+    requires { 1 ≤ kernels }
+    ensures ok { OnOk result (Fills (event_form kernels words.old) words.old words.new) }
+    ensures err { IfErr result (Fails (event_form kernels words.old) words.old) }
+    ensures printed { IfOk result (λ p. words.old ≡ act_words p.0 ++ detail_words p.1 ++ words.new) }
+    ensures fits { IfOk result (λ p. EventFits kernels p.0 p.1) }
+{
+    let name = words.word()?;
+    if is(name, b"call") {
+        call_event(words)
+    } else if is(name, b"fetch") {
+        fetch_event(words, kernels)
+    } else if is(name, b"handle") {
+        handle_event(words, kernels)
+    } else if is(name, b"upcall") {
+        upcall_event(words)
+    } else if is(name, b"resume") {
+        resume_event(words)
+    } else if is(name, b"flush") {
+        flush_event(words, kernels)
+    } else if is(name, b"kill") {
+        kill_event(words)
+    } else {
+        Err(Cause::UnknownWord)
     }
+}
 
-    fn resume_event(&mut self) -> Result<(Act, Detail), Cause>
-        ensures ok { OnOk result (Fills (node ∷ []) (words_of self.old.rest.now) (words_of self.new.rest.now)) }
-        ensures err { IfErr result (Fails (node ∷ []) (words_of self.old.rest.now)) }
-        ensures printed { IfOk result (λ p. codes "resume" ∷ words_of self.old.rest.now ≡ act_words p.0 ++ detail_words p.1 ++ words_of self.new.rest.now) }
-        ensures fits { (kernels : ℕ) → IfOk result (λ p. EventFits kernels p.0 p.1) }
-    {
-        let vpe = self.number(NODE)?;
-        Ok((Act::Resume { vpe: vpe as u16 }, Detail::Nothing))
+// The two numbers of a reply.
+fn reply_numbers(words: &mut Words<'_>) -> Result<Reply, Cause>
+    ensures ok { OnOk result (Fills (node ∷ code_lem ∷ []) words.old words.new) }
+    ensures err { IfErr result (Fails (node ∷ code_lem ∷ []) words.old) }
+    ensures printed { IfOk result (λ r. codes "reply" ∷ words.old ≡ reply_words (Some r) ++ words.new) }
+    ensures fits { IfOk result (λ r. ReplyFits (Some r)) }
+{
+    let [vpe, code, ..] = words.numbers(&[NODE, CODE])?;
+    Ok(Reply {
+        vpe: vpe as u16,
+        code: code as u8,
+    })
+}
+
+// What stands behind the name of a reply.
+fn reply(words: &mut Words<'_>) -> Result<Reply, Cause>
+    ensures fault { form_fault (node ∷ code_lem ∷ []) words.old ≡ result_err result }
+    ensures printed { IfOk result (λ r. codes "reply" ∷ words.old ≡ reply_words (Some r)) }
+    ensures fits { IfOk result (λ r. ReplyFits (Some r)) }
+{
+    let reply = reply_numbers(words)?;
+    words.no_more()?;
+    Ok(reply)
+}
+
+// What stands behind a cut.
+fn behind_cut(words: &mut Words<'_>) -> Result<Option<Reply>, Cause>
+    ensures fault { form_fault (behind_cut_lem words.old) words.old ≡ result_err result }
+    ensures printed { IfOk result (λ r. words.old ≡ reply_words r) }
+    ensures fits { IfOk result ReplyFits }
+{
+    let Some(name) = words.next_word() else {
+        return Ok(None);
+    };
+    if is(name, b"reply") {
+        let reply = reply(words)?;
+        Ok(Some(reply))
+    } else {
+        Err(Cause::UnknownWord)
     }
+}
 
-    fn kill_event(&mut self) -> Result<(Act, Detail), Cause>
-        ensures ok { OnOk result (Fills (node ∷ []) (words_of self.old.rest.now) (words_of self.new.rest.now)) }
-        ensures err { IfErr result (Fails (node ∷ []) (words_of self.old.rest.now)) }
-        ensures printed { IfOk result (λ p. codes "kill" ∷ words_of self.old.rest.now ≡ act_words p.0 ++ detail_words p.1 ++ words_of self.new.rest.now) }
-        ensures fits { (kernels : ℕ) → IfOk result (λ p. EventFits kernels p.0 p.1) }
-    {
-        let vpe = self.number(NODE)?;
-        Ok((Act::Kill { vpe: vpe as u16 }, Detail::Nothing))
+// What stands behind the name of a cut.
+fn cut(words: &mut Words<'_>) -> Result<(Key, Option<Reply>), Cause>
+    ensures fault { form_fault (key_lem ∷ behind_cut_lem (drop 1 words.old)) words.old ≡ result_err result }
+    ensures printed { IfOk result (λ p. codes "cut" ∷ words.old ≡ cut_words (Some p.0) ++ reply_words p.1) }
+    ensures cut { IfOk result (λ p. CutFits (Some p.0)) }
+    ensures reply { IfOk result (λ p. ReplyFits p.1) }
+{
+    let key = words.key()?;
+    let reply = behind_cut(words)?;
+    Ok((key, reply))
+}
+
+// What stands behind a grant.
+fn behind_grant(words: &mut Words<'_>) -> Result<(Option<Key>, Option<Reply>), Cause>
+    ensures fault { form_fault (behind_grant_lem words.old) words.old ≡ result_err result }
+    ensures printed { IfOk result (λ p. words.old ≡ cut_words p.0 ++ reply_words p.1) }
+    ensures cut { IfOk result (λ p. CutFits p.0) }
+    ensures reply { IfOk result (λ p. ReplyFits p.1) }
+{
+    let Some(name) = words.next_word() else {
+        return Ok((None, None));
+    };
+    if is(name, b"cut") {
+        let (key, reply) = cut(words)?;
+        Ok((Some(key), reply))
+    } else if is(name, b"reply") {
+        let reply = reply(words)?;
+        Ok((None, Some(reply)))
+    } else {
+        Err(Cause::UnknownWord)
     }
+}
 
-    // The next words, which are an event.
-    fn event(&mut self, kernels: u32) -> Result<(Act, Detail), Cause>
-        requires { 1 ≤ kernels }
-        ensures ok { OnOk result (Fills (event_form kernels (words_of self.old.rest.now)) (words_of self.old.rest.now) (words_of self.new.rest.now)) }
-        ensures err { IfErr result (Fails (event_form kernels (words_of self.old.rest.now)) (words_of self.old.rest.now)) }
-        ensures printed { IfOk result (λ p. words_of self.old.rest.now ≡ act_words p.0 ++ detail_words p.1 ++ words_of self.new.rest.now) }
-        ensures fits { IfOk result (λ p. EventFits kernels p.0 p.1) }
-    {
-        let name = self.word()?;
-        if is(name, b"call") {
-            self.call_event()
-        } else if is(name, b"fetch") {
-            self.fetch_event(kernels)
-        } else if is(name, b"handle") {
-            self.handle_event(kernels)
-        } else if is(name, b"upcall") {
-            self.upcall_event()
-        } else if is(name, b"resume") {
-            self.resume_event()
-        } else if is(name, b"flush") {
-            self.flush_event(kernels)
-        } else if is(name, b"kill") {
-            self.kill_event()
-        } else {
-            Err(Cause::UnknownWord)
-        }
-    }
+// What stands behind the name of a grant.
+fn grant(words: &mut Words<'_>) -> Result<Shown, Cause>
+    ensures fault { form_fault (key_lem ∷ key_lem ∷ behind_grant_lem (drop 2 words.old)) words.old ≡ result_err result }
+    ensures printed { IfOk result (λ o. codes "grant" ∷ words.old ≡ shown_words o) }
+    ensures fits { IfOk result ShownFits }
+{
+    let (parent, child) = two_keys(words)?;
+    let (cut, reply) = behind_grant(words)?;
+    Ok(Shown {
+        grant: Some((parent, child)),
+        cut,
+        reply,
+    })
+}
 
-    // The two numbers of a reply.
-    fn reply_numbers(&mut self) -> Result<Reply, Cause>
-        ensures ok { OnOk result (Fills (node ∷ code_lem ∷ []) (words_of self.old.rest.now) (words_of self.new.rest.now)) }
-        ensures err { IfErr result (Fails (node ∷ code_lem ∷ []) (words_of self.old.rest.now)) }
-        ensures printed { IfOk result (λ r. codes "reply" ∷ words_of self.old.rest.now ≡ reply_words (Some r) ++ words_of self.new.rest.now) }
-        ensures fits { IfOk result (λ r. ReplyFits (Some r)) }
-    {
-        let [vpe, code, ..] = self.numbers(&[NODE, CODE])?;
-        Ok(Reply {
-            vpe: vpe as u16,
-            code: code as u8,
-        })
-    }
-
-    // What stands behind the name of a reply.
-    fn reply(&mut self) -> Result<Reply, Cause>
-        ensures fault { form_fault (node ∷ code_lem ∷ []) (words_of self.old.rest.now) ≡ result_err result }
-        ensures printed { IfOk result (λ r. codes "reply" ∷ words_of self.old.rest.now ≡ reply_words (Some r)) }
-        ensures fits { IfOk result (λ r. ReplyFits (Some r)) }
-    {
-        let reply = self.reply_numbers()?;
-        no_more(self.rest)?;
-        Ok(reply)
-    }
-
-    // What stands behind a cut.
-    fn behind_cut(&mut self) -> Result<Option<Reply>, Cause>
-        ensures fault { form_fault (behind_cut (words_of self.old.rest.now)) (words_of self.old.rest.now) ≡ result_err result }
-        ensures printed { IfOk result (λ r. words_of self.old.rest.now ≡ reply_words r) }
-        ensures fits { IfOk result ReplyFits }
-    {
-        let Some(name) = self.next_word() else {
-            return Ok(None);
-        };
-        if is(name, b"reply") {
-            let reply = self.reply()?;
-            Ok(Some(reply))
-        } else {
-            Err(Cause::UnknownWord)
-        }
-    }
-
-    // What stands behind the name of a cut.
-    fn cut(&mut self) -> Result<(Key, Option<Reply>), Cause>
-        ensures fault { form_fault (key_lem ∷ behind_cut (drop 1 (words_of self.old.rest.now))) (words_of self.old.rest.now) ≡ result_err result }
-        ensures printed { IfOk result (λ p. codes "cut" ∷ words_of self.old.rest.now ≡ cut_words (Some p.0) ++ reply_words p.1) }
-        ensures cut { IfOk result (λ p. CutFits (Some p.0)) }
-        ensures reply { IfOk result (λ p. ReplyFits p.1) }
-    {
-        let key = self.key()?;
-        let reply = self.behind_cut()?;
-        Ok((key, reply))
-    }
-
-    // What stands behind a grant.
-    fn behind_grant(&mut self) -> Result<(Option<Key>, Option<Reply>), Cause>
-        ensures fault { form_fault (behind_grant (words_of self.old.rest.now)) (words_of self.old.rest.now) ≡ result_err result }
-        ensures printed { IfOk result (λ p. words_of self.old.rest.now ≡ cut_words p.0 ++ reply_words p.1) }
-        ensures cut { IfOk result (λ p. CutFits p.0) }
-        ensures reply { IfOk result (λ p. ReplyFits p.1) }
-    {
-        let Some(name) = self.next_word() else {
-            return Ok((None, None));
-        };
-        if is(name, b"cut") {
-            let (key, reply) = self.cut()?;
-            Ok((Some(key), reply))
-        } else if is(name, b"reply") {
-            let reply = self.reply()?;
-            Ok((None, Some(reply)))
-        } else {
-            Err(Cause::UnknownWord)
-        }
-    }
-
-    // What stands behind the name of a grant.
-    fn grant(&mut self) -> Result<Shown, Cause>
-        ensures fault { form_fault (key_lem ∷ key_lem ∷ behind_grant (drop 2 (words_of self.old.rest.now))) (words_of self.old.rest.now) ≡ result_err result }
-        ensures printed { IfOk result (λ o. codes "grant" ∷ words_of self.old.rest.now ≡ shown_words o) }
-        ensures fits { IfOk result ShownFits }
-    {
-        let (parent, child) = self.two_keys()?;
-        let (cut, reply) = self.behind_grant()?;
+// What stands behind an event.
+fn shown(words: &mut Words<'_>) -> Result<Shown, Cause>
+    ensures fault { form_fault (behind_event words.old) words.old ≡ result_err result }
+    ensures printed { IfOk result (λ o. words.old ≡ shown_words o) }
+    ensures fits { IfOk result ShownFits }
+{
+    let Some(name) = words.next_word() else {
+        return Ok(NOTHING);
+    };
+    if is(name, b"grant") {
+        grant(words)
+    } else if is(name, b"cut") {
+        let (key, reply) = cut(words)?;
         Ok(Shown {
-            grant: Some((parent, child)),
-            cut,
+            cut: Some(key),
             reply,
+            ..NOTHING
         })
-    }
-
-    // What stands behind an event.
-    fn shown(&mut self) -> Result<Shown, Cause>
-        ensures fault { form_fault (behind_event (words_of self.old.rest.now)) (words_of self.old.rest.now) ≡ result_err result }
-        ensures printed { IfOk result (λ o. words_of self.old.rest.now ≡ shown_words o) }
-        ensures fits { IfOk result ShownFits }
-    {
-        let Some(name) = self.next_word() else {
-            return Ok(NOTHING);
-        };
-        if is(name, b"grant") {
-            self.grant()
-        } else if is(name, b"cut") {
-            let (key, reply) = self.cut()?;
-            Ok(Shown {
-                cut: Some(key),
-                reply,
-                ..NOTHING
-            })
-        } else if is(name, b"reply") {
-            let reply = self.reply()?;
-            Ok(Shown {
-                reply: Some(reply),
-                ..NOTHING
-            })
-        } else {
-            Err(Cause::UnknownWord)
-        }
+    } else if is(name, b"reply") {
+        let reply = reply(words)?;
+        Ok(Shown {
+            reply: Some(reply),
+            ..NOTHING
+        })
+    } else {
+        Err(Cause::UnknownWord)
     }
 }
 
@@ -332,10 +329,10 @@ pub fn read_entry(line: &[u8], kernels: u32) -> Result<Entry, Cause>
     ensures printed { IfOk result (λ e. words_of line.now ≡ entry_words e) }
     ensures fits { IfOk result (EntryFits kernels) }
 {
-    let mut words = Words { rest: line };
+    let mut words = Words::of(line);
     let kernel = words.number(kernel_range(kernels))?;
-    let (act, detail) = words.event(kernels)?;
-    let shown = words.shown()?;
+    let (act, detail) = event(&mut words, kernels)?;
+    let shown = shown(&mut words)?;
     if carries_long(&detail) {
         return Err(Cause::OutOfRange);
     }

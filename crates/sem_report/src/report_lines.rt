@@ -19,10 +19,10 @@ ghost use Rattle.sem_report.specs.ReportRanges.{HeldFits};
 
 use crate::lines::{Line, same};
 use crate::report::push_held;
-use sem_journal::{Words, push_entry, read_entry};
+use sem_journal::{push_entry, read_entry};
 use sem_key::OutOfMemory;
 use sem_msg::{Entry, Held};
-use sem_trace::{BYTE, Cause, WORD, bytes_fault, fixed, no_more, push_line};
+use sem_trace::{BYTE, Cause, WORD, Words, bytes_fault, push_line};
 
 /// Why a line is not read.
 #[derive(Clone, Copy, Debug)]
@@ -77,9 +77,9 @@ fn name_words(words: &[u8], name: &[u8]) -> Result<(), Cause>
         ≡ result_err result }
     ensures printed { OnOk result (words_of words.now ≡ name.now ∷ []) }
 {
-    let rest = fixed(words, name)?;
-    no_more(rest)?;
-    Ok(())
+    let mut words = Words::of(words);
+    words.fixed(name)?;
+    words.no_more()
 }
 
 // The number behind the word.
@@ -90,11 +90,10 @@ fn count_words(words: &[u8], name: &[u8]) -> Result<u64, Cause>
     ensures printed { IfOk result (λ n. words_of words.now ≡ name.now ∷ decimal n ∷ []) }
     ensures small { IfOk result (λ n. n ≤ 4294967295) }
 {
-    let mut words = Words {
-        rest: fixed(words, name)?,
-    };
+    let mut words = Words::of(words);
+    words.fixed(name)?;
     let number = words.number(WORD)?;
-    no_more(words.rest)?;
+    words.no_more()?;
     Ok(number)
 }
 
@@ -107,12 +106,11 @@ fn held_words(words: &[u8]) -> Result<Held, Cause>
         (λ held. words_of words.now ≡ held_words_lem (held.key, held.sel)) }
     ensures fits { IfOk result (λ held. HeldFits (held.key, held.sel)) }
 {
-    let mut words = Words {
-        rest: fixed(words, b"key")?,
-    };
+    let mut words = Words::of(words);
+    words.fixed(b"key")?;
     let key = words.key()?;
     let sel = words.number(BYTE)?;
-    no_more(words.rest)?;
+    words.no_more()?;
     Ok(Held {
         key,
         sel: sel as u8,
@@ -197,11 +195,11 @@ fn header_words(words: &[u8]) -> Result<(), Cause>
     ensures printed { OnOk result
         (words_of words.now ≡ codes "semper" ∷ codes "report" ∷ codes "1" ∷ []) }
 {
-    let rest = fixed(words, b"semper")?;
-    let rest = fixed(rest, b"report")?;
-    let rest = fixed(rest, b"1")?;
-    no_more(rest)?;
-    Ok(())
+    let mut words = Words::of(words);
+    words.fixed(b"semper")?;
+    words.fixed(b"report")?;
+    words.fixed(b"1")?;
+    words.no_more()
 }
 
 /// Reads the first line. What was printed before means nothing.

@@ -32,13 +32,6 @@ impl<'a> Words<'a> {
         Words { line }
     }
 
-    /// What is left of the line.
-    pub fn rest(&self) -> &'a [u8]
-        ensures { self.now ≡ words_of result.now }
-    {
-        self.line
-    }
-
     /// The next word; none where no word is left. Takes no memory.
     pub fn next_word(&mut self) -> Option<&'a [u8]>
         ensures { MatchOption result ((self.old ≡ []) × (self.new ≡ [])) (λ word. self.old ≡ word.now ∷ self.new) }

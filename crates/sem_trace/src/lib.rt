@@ -7,7 +7,6 @@ mod declaration;
 mod declarations;
 mod dotted;
 mod fault;
-mod firsts;
 mod forms;
 mod limits;
 mod print;
@@ -20,9 +19,6 @@ pub use cursor::Words;
 pub use declaration::Declaration;
 pub use declarations::{read_declaration, read_first, read_second};
 pub use fault::{Cause, TraceError, TraceFault};
-pub use firsts::{
-    first_call, first_key, first_number, first_numbers, first_place, first_word, fixed, no_more,
-};
 pub use forms::{BYTE, ENDPOINT, KERNELS, NODE, RIGHTS, Range, SLOTS, WORD, is};
 pub use limits::{LINK_WINDOW, MOST_KERNELS, NODES};
 pub use print::{print_trace, push_line, push_start, push_trace};

@@ -1,12 +1,12 @@
 use Rattle.std.proofs.Common.{refl}
-use Rattle.sem_trace.specs.Forms.{form_fault}
+use Rattle.sem_trace.specs.Forms.{choice, word_at, form_fault}
 use Rattle.sem_journal.specs.EntryForms.{objects}
-use Rattle.sem_journal.proofs.WordChoices.{differs}
-use Rattle.sem_journal.proofs.cursor.Words.object.Goals as goal
+use Rattle.sem_journal.proofs.WordChoices.{differs, chosen}
+use Rattle.sem_journal.proofs.read_message.object.Goals as goal
 
 pub returns-then-is-clause-ok : goal.returns-then-is-clause-ok
 unfolding form_fault objects
-returns-then-is-clause-ok c = rw (c.in_ok-name.ensures.ok, c.if-is.ensures.0 refl) c.memory.ensures.ok
+returns-then-is-clause-ok c = chosen _ (λ ws. choice objects (word_at ws 0)) _ _ _ _ _ c.in_ok-name.ensures.ok (c.if-is.ensures.0 refl) c.memory.ensures.ok
 
 pub returns-then-is-clause-err : goal.returns-then-is-clause-err
 unfolding form_fault objects
@@ -14,7 +14,7 @@ returns-then-is-clause-err c = rw (c.in_ok-name.ensures.ok, c.if-is.ensures.0 re
 
 pub returns-then-is-2-clause-ok : goal.returns-then-is-2-clause-ok
 unfolding form_fault objects
-returns-then-is-2-clause-ok c = rw (c.in_ok-name.ensures.ok, c.if-is-2.ensures.0 refl) c.receive_gate.ensures.ok
+returns-then-is-2-clause-ok c = chosen _ (λ ws. choice objects (word_at ws 0)) _ _ _ _ _ c.in_ok-name.ensures.ok (c.if-is-2.ensures.0 refl) c.receive_gate.ensures.ok
 
 pub returns-then-is-2-clause-err : goal.returns-then-is-2-clause-err
 unfolding form_fault objects
@@ -22,7 +22,7 @@ returns-then-is-2-clause-err c = rw (c.in_ok-name.ensures.ok, c.if-is-2.ensures.
 
 pub returns-then-is-3-clause-ok : goal.returns-then-is-3-clause-ok
 unfolding form_fault objects
-returns-then-is-3-clause-ok c = rw (c.in_ok-name.ensures.ok, c.if-is-3.ensures.0 refl) c.send_gate.ensures.ok
+returns-then-is-3-clause-ok c = chosen _ (λ ws. choice objects (word_at ws 0)) _ _ _ _ _ c.in_ok-name.ensures.ok (c.if-is-3.ensures.0 refl) c.send_gate.ensures.ok
 
 pub returns-then-is-3-clause-err : goal.returns-then-is-3-clause-err
 unfolding form_fault objects
@@ -30,7 +30,7 @@ returns-then-is-3-clause-err c = rw (c.in_ok-name.ensures.ok, c.if-is-3.ensures.
 
 pub returns-then-is-4-clause-ok : goal.returns-then-is-4-clause-ok
 unfolding form_fault objects
-returns-then-is-4-clause-ok c = rw (c.in_ok-name.ensures.ok, c.if-is-4.ensures.0 refl) c.service.ensures.ok
+returns-then-is-4-clause-ok c = chosen _ (λ ws. choice objects (word_at ws 0)) _ _ _ _ _ c.in_ok-name.ensures.ok (c.if-is-4.ensures.0 refl) c.service.ensures.ok
 
 pub returns-then-is-4-clause-err : goal.returns-then-is-4-clause-err
 unfolding form_fault objects
@@ -38,7 +38,7 @@ returns-then-is-4-clause-err c = rw (c.in_ok-name.ensures.ok, c.if-is-4.ensures.
 
 pub returns-then-is-5-clause-ok : goal.returns-then-is-5-clause-ok
 unfolding form_fault objects
-returns-then-is-5-clause-ok c = rw (c.in_ok-name.ensures.ok, c.if-is-5.ensures.0 refl) c.session.ensures.ok
+returns-then-is-5-clause-ok c = chosen _ (λ ws. choice objects (word_at ws 0)) _ _ _ _ _ c.in_ok-name.ensures.ok (c.if-is-5.ensures.0 refl) c.session.ensures.ok
 
 pub returns-then-is-5-clause-err : goal.returns-then-is-5-clause-err
 unfolding form_fault objects

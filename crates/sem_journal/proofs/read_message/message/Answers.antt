@@ -2,12 +2,12 @@ use Rattle.std.proofs.Common.{refl}
 use Rattle.std.proofs.lemmas.Result.{err_from_is_err_and}
 use Rattle.sem_trace.specs.Forms.{form_fault}
 use Rattle.sem_journal.specs.EntryForms.{messages, message_form}
-use Rattle.sem_journal.proofs.WordChoices.{differs}
-use Rattle.sem_journal.proofs.cursor.Words.message.Goals as goal
+use Rattle.sem_journal.proofs.WordChoices.{differs, chosen}
+use Rattle.sem_journal.proofs.read_message.message.Goals as goal
 
 pub returns-then-is-clause-ok : goal.returns-then-is-clause-ok
 unfolding form_fault messages message_form
-returns-then-is-clause-ok c = rw (c.in_ok-name.ensures.ok, c.if-is.ensures.0 refl) c.obtain_request.ensures.ok
+returns-then-is-clause-ok c = chosen _ message_form _ _ _ _ _ c.in_ok-name.ensures.ok (c.if-is.ensures.0 refl) c.obtain_request.ensures.ok
 
 pub returns-then-is-clause-err : goal.returns-then-is-clause-err
 unfolding form_fault messages message_form
@@ -15,7 +15,7 @@ returns-then-is-clause-err c = rw (c.in_ok-name.ensures.ok, c.if-is.ensures.0 re
 
 pub returns-then-is-2-clause-ok : goal.returns-then-is-2-clause-ok
 unfolding form_fault messages message_form
-returns-then-is-2-clause-ok c = rw (c.in_ok-name.ensures.ok, c.if-is-2.ensures.0 refl) c.obtain_ok.ensures.ok
+returns-then-is-2-clause-ok c = chosen _ message_form _ _ _ _ _ c.in_ok-name.ensures.ok (c.if-is-2.ensures.0 refl) c.obtain_ok.ensures.ok
 
 pub returns-then-is-2-clause-err : goal.returns-then-is-2-clause-err
 unfolding form_fault messages message_form
@@ -23,7 +23,7 @@ returns-then-is-2-clause-err c = rw (c.in_ok-name.ensures.ok, c.if-is-2.ensures.
 
 pub returns-then-is-3-clause-ok : goal.returns-then-is-3-clause-ok
 unfolding form_fault messages message_form
-returns-then-is-3-clause-ok c = rw (c.in_ok-name.ensures.ok, c.if-is-3.ensures.0 refl) c.obtain_no.ensures.ok
+returns-then-is-3-clause-ok c = chosen _ message_form _ _ _ _ _ c.in_ok-name.ensures.ok (c.if-is-3.ensures.0 refl) c.obtain_no.ensures.ok
 
 pub returns-then-is-3-clause-err : goal.returns-then-is-3-clause-err
 unfolding form_fault messages message_form
@@ -31,7 +31,7 @@ returns-then-is-3-clause-err c = rw (c.in_ok-name.ensures.ok, c.if-is-3.ensures.
 
 pub returns-then-is-4-clause-ok : goal.returns-then-is-4-clause-ok
 unfolding form_fault messages message_form
-returns-then-is-4-clause-ok c = rw (c.in_ok-name.ensures.ok, c.if-is-4.ensures.0 refl) c.delegate_request.ensures.ok
+returns-then-is-4-clause-ok c = chosen _ message_form _ _ _ _ _ c.in_ok-name.ensures.ok (c.if-is-4.ensures.0 refl) c.delegate_request.ensures.ok
 
 pub returns-then-is-4-clause-err : goal.returns-then-is-4-clause-err
 unfolding form_fault messages message_form
@@ -39,7 +39,7 @@ returns-then-is-4-clause-err c = rw (c.in_ok-name.ensures.ok, c.if-is-4.ensures.
 
 pub returns-then-is-5-clause-ok : goal.returns-then-is-5-clause-ok
 unfolding form_fault messages message_form
-returns-then-is-5-clause-ok c = rw (c.in_ok-name.ensures.ok, c.if-is-5.ensures.0 refl) c.delegate_prepared.ensures.ok
+returns-then-is-5-clause-ok c = chosen _ message_form _ _ _ _ _ c.in_ok-name.ensures.ok (c.if-is-5.ensures.0 refl) c.delegate_prepared.ensures.ok
 
 pub returns-then-is-5-clause-err : goal.returns-then-is-5-clause-err
 unfolding form_fault messages message_form
@@ -47,7 +47,7 @@ returns-then-is-5-clause-err c = rw (c.in_ok-name.ensures.ok, c.if-is-5.ensures.
 
 pub returns-then-is-6-clause-ok : goal.returns-then-is-6-clause-ok
 unfolding form_fault messages message_form
-returns-then-is-6-clause-ok c = rw (c.in_ok-name.ensures.ok, c.if-is-6.ensures.0 refl) c.delegate_no.ensures.ok
+returns-then-is-6-clause-ok c = chosen _ message_form _ _ _ _ _ c.in_ok-name.ensures.ok (c.if-is-6.ensures.0 refl) c.delegate_no.ensures.ok
 
 pub returns-then-is-6-clause-err : goal.returns-then-is-6-clause-err
 unfolding form_fault messages message_form
@@ -55,7 +55,7 @@ returns-then-is-6-clause-err c = rw (c.in_ok-name.ensures.ok, c.if-is-6.ensures.
 
 pub returns-then-is-7-clause-ok : goal.returns-then-is-7-clause-ok
 unfolding form_fault messages message_form
-returns-then-is-7-clause-ok c = rw (c.in_ok-name.ensures.ok, c.if-is-7.ensures.0 refl) c.ack.ensures.ok
+returns-then-is-7-clause-ok c = chosen _ message_form _ _ _ _ _ c.in_ok-name.ensures.ok (c.if-is-7.ensures.0 refl) c.ack.ensures.ok
 
 pub returns-then-is-7-clause-err : goal.returns-then-is-7-clause-err
 unfolding form_fault messages message_form
@@ -63,7 +63,7 @@ returns-then-is-7-clause-err c = rw (c.in_ok-name.ensures.ok, c.if-is-7.ensures.
 
 pub returns-then-is-8-clause-ok : goal.returns-then-is-8-clause-ok
 unfolding form_fault messages message_form
-returns-then-is-8-clause-ok c = rw (c.in_ok-name.ensures.ok, c.if-is-8.ensures.0 refl) c.orphan.ensures.ok
+returns-then-is-8-clause-ok c = chosen _ message_form _ _ _ _ _ c.in_ok-name.ensures.ok (c.if-is-8.ensures.0 refl) c.orphan.ensures.ok
 
 pub returns-then-is-8-clause-err : goal.returns-then-is-8-clause-err
 unfolding form_fault messages message_form
@@ -71,7 +71,7 @@ returns-then-is-8-clause-err c = rw (c.in_ok-name.ensures.ok, c.if-is-8.ensures.
 
 pub returns-then-is-9-clause-ok : goal.returns-then-is-9-clause-ok
 unfolding form_fault messages message_form
-returns-then-is-9-clause-ok c = rw (c.in_ok-name.ensures.ok, c.if-is-9.ensures.0 refl) c.revoke_request.ensures.ok
+returns-then-is-9-clause-ok c = chosen _ message_form _ _ _ _ _ c.in_ok-name.ensures.ok (c.if-is-9.ensures.0 refl) c.revoke_request.ensures.ok
 
 pub returns-then-is-9-clause-err : goal.returns-then-is-9-clause-err
 unfolding form_fault messages message_form
@@ -79,7 +79,7 @@ returns-then-is-9-clause-err c = rw (c.in_ok-name.ensures.ok, c.if-is-9.ensures.
 
 pub returns-then-is-10-clause-ok : goal.returns-then-is-10-clause-ok
 unfolding form_fault messages message_form
-returns-then-is-10-clause-ok c = rw (c.in_ok-name.ensures.ok, c.if-is-10.ensures.0 refl) c.revoke_done.ensures.ok
+returns-then-is-10-clause-ok c = chosen _ message_form _ _ _ _ _ c.in_ok-name.ensures.ok (c.if-is-10.ensures.0 refl) c.revoke_done.ensures.ok
 
 pub returns-then-is-10-clause-err : goal.returns-then-is-10-clause-err
 unfolding form_fault messages message_form
@@ -87,7 +87,7 @@ returns-then-is-10-clause-err c = rw (c.in_ok-name.ensures.ok, c.if-is-10.ensure
 
 pub returns-then-is-11-clause-ok : goal.returns-then-is-11-clause-ok
 unfolding form_fault messages message_form
-returns-then-is-11-clause-ok c = rw (c.in_ok-name.ensures.ok, c.if-is-11.ensures.0 refl) c.unlink.ensures.ok
+returns-then-is-11-clause-ok c = chosen _ message_form _ _ _ _ _ c.in_ok-name.ensures.ok (c.if-is-11.ensures.0 refl) c.unlink.ensures.ok
 
 pub returns-then-is-11-clause-err : goal.returns-then-is-11-clause-err
 unfolding form_fault messages message_form

@@ -3,11 +3,11 @@ use Rattle.std.proofs.lemmas.Result.{err_from_is_err_and}
 use Rattle.sem_trace.specs.Forms.{form_fault}
 use Rattle.sem_journal.specs.EntryForms.{behind_grant}
 use Rattle.sem_journal.proofs.WordChoices.{differs}
-use Rattle.sem_journal.proofs.cursor.Words.behind_grant.Goals as goal
+use Rattle.sem_journal.proofs.read_entries.behind_grant.Goals as goal
 
 pub returns-in_default-clause-fault : goal.returns-in_default-clause-fault
 unfolding form_fault behind_grant
-returns-in_default-clause-fault c = rw (c.in_default.ensures) refl
+returns-in_default-clause-fault c = rw (c.in_default.ensures.0) refl
 
 pub returns-in_err-key-clause-fault : goal.returns-in_err-key-clause-fault
 unfolding form_fault behind_grant

@@ -3,11 +3,11 @@ use Rattle.std.proofs.lemmas.Result.{err_from_is_err_and}
 use Rattle.sem_trace.specs.Forms.{form_fault}
 use Rattle.sem_journal.specs.EntryForms.{behind_event}
 use Rattle.sem_journal.proofs.WordChoices.{differs}
-use Rattle.sem_journal.proofs.cursor.Words.shown.Goals as goal
+use Rattle.sem_journal.proofs.read_entries.shown.Goals as goal
 
 pub returns-in_default-clause-fault : goal.returns-in_default-clause-fault
 unfolding form_fault behind_event
-returns-in_default-clause-fault c = rw (c.in_default.ensures) refl
+returns-in_default-clause-fault c = rw (c.in_default.ensures.0) refl
 
 pub returns-then-is-clause-fault : goal.returns-then-is-clause-fault
 unfolding form_fault behind_event

@@ -2,12 +2,12 @@ use Rattle.std.proofs.Common.{refl}
 use Rattle.std.proofs.lemmas.Result.{err_from_is_err_and}
 use Rattle.sem_trace.specs.Forms.{form_fault}
 use Rattle.sem_journal.specs.EntryForms.{events, event_form}
-use Rattle.sem_journal.proofs.WordChoices.{differs}
-use Rattle.sem_journal.proofs.cursor.Words.event.Goals as goal
+use Rattle.sem_journal.proofs.WordChoices.{differs, chosen}
+use Rattle.sem_journal.proofs.read_entries.event.Goals as goal
 
 pub returns-then-is-clause-ok : goal.returns-then-is-clause-ok
 unfolding form_fault events event_form
-returns-then-is-clause-ok c = rw (c.in_ok-name.ensures.ok, c.if-is.ensures.0 refl) c.call_event.ensures.ok
+returns-then-is-clause-ok c = chosen _ (event_form c.args.kernels) _ _ _ _ _ c.in_ok-name.ensures.ok (c.if-is.ensures.0 refl) c.call_event.ensures.ok
 
 pub returns-then-is-clause-err : goal.returns-then-is-clause-err
 unfolding form_fault events event_form
@@ -15,7 +15,7 @@ returns-then-is-clause-err c = rw (c.in_ok-name.ensures.ok, c.if-is.ensures.0 re
 
 pub returns-then-is-2-clause-ok : goal.returns-then-is-2-clause-ok
 unfolding form_fault events event_form
-returns-then-is-2-clause-ok c = rw (c.in_ok-name.ensures.ok, c.if-is-2.ensures.0 refl) c.fetch_event.ensures.ok
+returns-then-is-2-clause-ok c = chosen _ (event_form c.args.kernels) _ _ _ _ _ c.in_ok-name.ensures.ok (c.if-is-2.ensures.0 refl) c.fetch_event.ensures.ok
 
 pub returns-then-is-2-clause-err : goal.returns-then-is-2-clause-err
 unfolding form_fault events event_form
@@ -23,7 +23,7 @@ returns-then-is-2-clause-err c = rw (c.in_ok-name.ensures.ok, c.if-is-2.ensures.
 
 pub returns-then-is-3-clause-ok : goal.returns-then-is-3-clause-ok
 unfolding form_fault events event_form
-returns-then-is-3-clause-ok c = rw (c.in_ok-name.ensures.ok, c.if-is-3.ensures.0 refl) c.handle_event.ensures.ok
+returns-then-is-3-clause-ok c = chosen _ (event_form c.args.kernels) _ _ _ _ _ c.in_ok-name.ensures.ok (c.if-is-3.ensures.0 refl) c.handle_event.ensures.ok
 
 pub returns-then-is-3-clause-err : goal.returns-then-is-3-clause-err
 unfolding form_fault events event_form
@@ -31,7 +31,7 @@ returns-then-is-3-clause-err c = rw (c.in_ok-name.ensures.ok, c.if-is-3.ensures.
 
 pub returns-then-is-4-clause-ok : goal.returns-then-is-4-clause-ok
 unfolding form_fault events event_form
-returns-then-is-4-clause-ok c = rw (c.in_ok-name.ensures.ok, c.if-is-4.ensures.0 refl) c.upcall_event.ensures.ok
+returns-then-is-4-clause-ok c = chosen _ (event_form c.args.kernels) _ _ _ _ _ c.in_ok-name.ensures.ok (c.if-is-4.ensures.0 refl) c.upcall_event.ensures.ok
 
 pub returns-then-is-4-clause-err : goal.returns-then-is-4-clause-err
 unfolding form_fault events event_form
@@ -39,7 +39,7 @@ returns-then-is-4-clause-err c = rw (c.in_ok-name.ensures.ok, c.if-is-4.ensures.
 
 pub returns-then-is-5-clause-ok : goal.returns-then-is-5-clause-ok
 unfolding form_fault events event_form
-returns-then-is-5-clause-ok c = rw (c.in_ok-name.ensures.ok, c.if-is-5.ensures.0 refl) c.resume_event.ensures.ok
+returns-then-is-5-clause-ok c = chosen _ (event_form c.args.kernels) _ _ _ _ _ c.in_ok-name.ensures.ok (c.if-is-5.ensures.0 refl) c.resume_event.ensures.ok
 
 pub returns-then-is-5-clause-err : goal.returns-then-is-5-clause-err
 unfolding form_fault events event_form
@@ -47,7 +47,7 @@ returns-then-is-5-clause-err c = rw (c.in_ok-name.ensures.ok, c.if-is-5.ensures.
 
 pub returns-then-is-6-clause-ok : goal.returns-then-is-6-clause-ok
 unfolding form_fault events event_form
-returns-then-is-6-clause-ok c = rw (c.in_ok-name.ensures.ok, c.if-is-6.ensures.0 refl) c.flush_event.ensures.ok
+returns-then-is-6-clause-ok c = chosen _ (event_form c.args.kernels) _ _ _ _ _ c.in_ok-name.ensures.ok (c.if-is-6.ensures.0 refl) c.flush_event.ensures.ok
 
 pub returns-then-is-6-clause-err : goal.returns-then-is-6-clause-err
 unfolding form_fault events event_form
@@ -55,7 +55,7 @@ returns-then-is-6-clause-err c = rw (c.in_ok-name.ensures.ok, c.if-is-6.ensures.
 
 pub returns-then-is-7-clause-ok : goal.returns-then-is-7-clause-ok
 unfolding form_fault events event_form
-returns-then-is-7-clause-ok c = rw (c.in_ok-name.ensures.ok, c.if-is-7.ensures.0 refl) c.kill_event.ensures.ok
+returns-then-is-7-clause-ok c = chosen _ (event_form c.args.kernels) _ _ _ _ _ c.in_ok-name.ensures.ok (c.if-is-7.ensures.0 refl) c.kill_event.ensures.ok
 
 pub returns-then-is-7-clause-err : goal.returns-then-is-7-clause-err
 unfolding form_fault events event_form
