@@ -1,0 +1,144 @@
+ghost use Rattle.std.specs.Prelude.{◌≡◌, ◌<◌, ◌≤◌, ◌+◌, true, Some};
+ghost use Rattle.sem_key.specs.ObjectRanges.{object_kind};
+ghost use Rattle.sem_key.specs.declared.object.Object.TheVariants.{Send};
+ghost use Rattle.sem_msg.specs.Lookups.{is_declared};
+ghost use Rattle.sem_msg.specs.VpeRows.{row, slot};
+ghost use Rattle.sem_vpe.specs.VpeTable.{IsOurs};
+ghost use Rattle.sem_machine.specs.Sides.{Side};
+ghost use Rattle.sem_machine.specs.Calls.{child_made, derive_row, gate_row, narrowed as narrowed_lem};
+ghost use Rattle.sem_own.specs.Holding.{holding, IsNextFree, HasChildRoom};
+
+use crate::outcomes::answered;
+use crate::refusals::{derive_refusal, gate_refusal, own_cap};
+use sem_caps::Caps;
+use sem_key::{Key, Object};
+use sem_msg::{Code, Outcome, Setup};
+use sem_vpe::Vpes;
+
+/// A part of a memory: where it begins in it, how long it is, and with which rights.
+#[derive(Clone, Copy, Debug, PartialEq, Eq)]
+pub struct Part {
+    pub off: u32,
+    pub len: u32,
+    pub rights: u8,
+}
+
+/// The call `derive`: the VPE derives that part of the memory at `src`, to stand at `dst`.
+pub fn derive_call(
+    setup: &Setup,
+    vpe: u16,
+    src: u8,
+    dst: u8,
+    part: &Part,
+    caps: &mut Caps,
+    vpes: &mut Vpes,
+) -> Outcome
+    requires declared { is_declared setup.now vpe ≡ true }
+    requires ours { IsOurs vpes.old vpe }
+    requires free { IsNextFree setup.now caps.old vpes.old vpe }
+    requires child_room { HasChildRoom caps.old (slot vpes.old.rows vpe src) }
+    requires spare { 0 < caps.old.spare }
+    ensures row { (s : Side) → record { side = holding caps.new vpes.new s; outcome = result } ≡ derive_row setup.now (holding caps.old vpes.old s) vpe src dst part.now.off part.now.len part.now.rights }
+    ensures ours { vpes.new.ours ≡ vpes.old.ours }
+    ensures spare { caps.old.spare ≤ caps.new.spare + 1 }
+{
+    if let Some(code) = derive_refusal(caps, vpes, vpe, src, dst, part) {
+        return answered(code);
+    }
+    let Some(parent) = own_cap(caps, vpes, vpe, src) else {
+        return answered(Code::NoCap);
+    };
+    let key = parent.key;
+    let object = narrowed(part, &parent.object);
+    make_child(setup, vpe, dst, object, key, caps, vpes)
+}
+
+/// The call `gate`: the VPE makes a send gate for the receive gate at `src`, to stand at `dst`.
+pub fn gate_call(
+    setup: &Setup,
+    vpe: u16,
+    src: u8,
+    dst: u8,
+    label: u32,
+    credits: u8,
+    caps: &mut Caps,
+    vpes: &mut Vpes,
+) -> Outcome
+    requires declared { is_declared setup.now vpe ≡ true }
+    requires ours { IsOurs vpes.old vpe }
+    requires free { IsNextFree setup.now caps.old vpes.old vpe }
+    requires child_room { HasChildRoom caps.old (slot vpes.old.rows vpe src) }
+    requires spare { 0 < caps.old.spare }
+    ensures row { (s : Side) → record { side = holding caps.new vpes.new s; outcome = result } ≡ gate_row setup.now (holding caps.old vpes.old s) vpe src dst label credits }
+    ensures ours { vpes.new.ours ≡ vpes.old.ours }
+    ensures spare { caps.old.spare ≤ caps.new.spare + 1 }
+{
+    if let Some(code) = gate_refusal(caps, vpes, vpe, src, dst, credits) {
+        return answered(code);
+    }
+    let Some(parent) = own_cap(caps, vpes, vpe, src) else {
+        return answered(Code::NoCap);
+    };
+    let key = parent.key;
+    let object = Object::Send {
+        gate: key,
+        label,
+        credits,
+    };
+    make_child(setup, vpe, dst, object, key, caps, vpes)
+}
+
+// That part of the object.
+fn narrowed(part: &Part, object: &Object) -> Object
+    ensures { result ≡ narrowed_lem part.now.off part.now.len part.now.rights object.now }
+{
+    match object {
+        Object::Mem { base, .. } => Object::Mem {
+            base: base.wrapping_add(part.off),
+            len: part.len,
+            rights: part.rights,
+        },
+        other => *other,
+    }
+}
+
+// Makes a child with that object below a capability of the VPE itself.
+fn make_child(
+    setup: &Setup,
+    vpe: u16,
+    dst: u8,
+    object: Object,
+    parent: Key,
+    caps: &mut Caps,
+    vpes: &mut Vpes,
+) -> Outcome
+    requires declared { is_declared setup.now vpe ≡ true }
+    requires ours { IsOurs vpes.old vpe }
+    requires number { (row vpes.old.rows vpe).next_number < 4096 }
+    requires free { IsNextFree setup.now caps.old vpes.old vpe }
+    requires child_room { caps.old.child_room ≡ Some parent }
+    requires spare { 0 < caps.old.spare }
+    ensures row { (s : Side) → record { side = holding caps.new vpes.new s; outcome = result } ≡ child_made setup.now vpe dst object parent (holding caps.old vpes.old s) }
+    ensures ours { vpes.new.ours ≡ vpes.old.ours }
+    ensures spare { caps.old.spare ≤ caps.new.spare + 1 }
+{
+    let pe = setup.pe_of(vpe);
+    let Ok(number) = vpes.draw(vpe) else {
+        unreachable!()
+    };
+    let key = Key {
+        pe,
+        vpe,
+        kind: object.kind(),
+        number,
+    };
+    caps.link(parent, key);
+    caps.insert(key, Some(parent), dst, object);
+    vpes.fill(vpe, dst, key);
+    Outcome {
+        asked: None,
+        grant: Some((parent, key)),
+        cut: None,
+        reply: Some(Code::Ok.number()),
+    }
+}

@@ -1,0 +1,10 @@
+//! The calls that a kernel does by what its own VPEs hold: derives, gates, and the use of endpoints.
+#![tactic(auto)]
+
+mod children;
+mod endpoints;
+mod outcomes;
+mod refusals;
+
+pub use children::{Part, derive_call, gate_call};
+pub use endpoints::{bind_call, credit_call, read_call, send_call, write_call};
