@@ -18,14 +18,7 @@ use sem_vpe::Vpes;
 
 /// The call `bind`: the VPE binds an endpoint to the capability at `src`. What it was bound to before,
 /// with the messages that were sent through it, is forgotten.
-pub fn bind_call(
-    vpe: u16,
-    ep: u8,
-    src: u8,
-    caps: &Caps,
-    vpes: &Vpes,
-    dtus: &mut Dtus,
-) -> Outcome
+pub fn bind_call(vpe: u16, ep: u8, src: u8, caps: &Caps, vpes: &Vpes, dtus: &mut Dtus) -> Outcome
     requires vpe { IsOurVpe vpes.now vpe }
     requires ours { IsOurs dtus.old vpe }
     requires ep { ep < ENDPOINTS }
