@@ -1,5 +1,5 @@
 -- What a row of tests says where one holds, and where none does.
-use Rattle.std.proofs.Common.{◌≡◌, ℕ, ◌<◌, true, false, [], ◌∷◌, not, Bool, List, Option, Some, None, refl, sym, ap, ◌∙◌, inl, inr}
+use Rattle.std.proofs.Common.{◌≡◌, ℕ, ◌<◌, [], ◌∷◌, not, Bool, List, Option, Some, None, refl, sym, ap, ◌∙◌, inl, inr}
 use Rattle.std.specs.Prelude.{nat_le, is_none}
 use Rattle.std.specs.Option.{option_map}
 use Rattle.std.proofs.lemmas.Bool.{leb-false}
@@ -21,7 +21,7 @@ use Rattle.sem_msg.specs.declared.entry.Outcome.{Outcome}
 use Rattle.sem_msg.specs.declared.code.Code.{Code}
 use Rattle.sem_msg.specs.Codes.{code_number}
 use Rattle.sem_msg.specs.declared.code.Code.TheVariants.{NoCap, Revoking, Occupied, Numbers, BadKind, Wider}
-use Rattle.sem_caps.specs.CapStore.{CapStore, held_key}
+use Rattle.sem_caps.specs.CapStore.{CapStore}
 use Rattle.sem_machine.specs.Sides.{Side, row, own, slot, cap_in, is_marked}
 use Rattle.sem_machine.specs.Steps.{Step, first_code, unless}
 use Rattle.sem_machine.proofs.FirstCodes.{unless-first, none-at}

@@ -7,16 +7,15 @@ use Rattle.sem_msg.specs.declared.code.Code.{Code}
 use Rattle.sem_msg.specs.declared.code.Code.TheVariants.{Ok as OkCode}
 use Rattle.sem_msg.specs.declared.entry.Outcome.{Outcome}
 use Rattle.sem_msg.specs.Codes.{code_number}
-use Rattle.sem_msg.specs.Rows.{Endpoint}
 use Rattle.sem_dtu.specs.declared.op.Op.{Op}
 use Rattle.sem_dtu.specs.EndpointTable.{EndpointTable}
 use Rattle.sem_dtu.specs.Uses.{use_tests, refusal, use_done}
 use Rattle.sem_machine.specs.Sides.{Side, own, endpoint, with_endpoint}
-use Rattle.sem_machine.specs.Steps.{Step, answer, first_code, unless}
+use Rattle.sem_machine.specs.Steps.{Step, answer, first_code}
 use Rattle.sem_machine.specs.Calls.{bind_tests, bind_row}
 use Rattle.sem_machine.specs.Stores.{with_endpoints}
 use Rattle.sem_machine.proofs.FirstCodes.{unless-first}
-use Rattle.sem_own.specs.Holding.{use_row}
+use Rattle.sem_own.specs.Using.{use_row}
 
 -- the first code is that of the first test that is found to hold
 first-found : (tests : List (Bool × Code)) → first_code tests ≡ option_map (λ test. test.1) (find (λ test. test.0) tests)

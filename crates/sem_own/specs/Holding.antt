@@ -1,7 +1,6 @@
 -- What the calls ask of the stores.
-use Rattle.std.specs.Prelude.{◌≡◌, ℕ, Option, Some, None}
+use Rattle.std.specs.Prelude.{◌≡◌, ℕ, Some, None}
 use Rattle.sem_key.specs.declared.key.Kind.{Kind}
-use Rattle.sem_key.specs.KeyName.{KeyName}
 use Rattle.sem_key.specs.CapList.{cap_of}
 use Rattle.sem_msg.specs.declared.state.Slot.{Slot}
 use Rattle.sem_msg.specs.declared.state.Slot.TheVariants.{Free, Held, Promised}
@@ -10,12 +9,8 @@ use Rattle.sem_msg.specs.Lookups.{pe_of}
 use Rattle.sem_msg.specs.VpeRows.{row}
 use Rattle.sem_caps.specs.CapStore.{CapStore, held_key}
 use Rattle.sem_vpe.specs.VpeTable.{VpeTable}
-use Rattle.sem_msg.specs.declared.code.Code.TheVariants.{Ok as OkCode}
-use Rattle.sem_dtu.specs.declared.op.Op.{Op}
-use Rattle.sem_dtu.specs.Uses.{use_tests, use_done}
-use Rattle.sem_machine.specs.Sides.{Side, endpoint}
-use Rattle.sem_machine.specs.Steps.{Step, answer, unless}
-use Rattle.sem_machine.specs.Stores.{with_caps, with_vpes, with_endpoints}
+use Rattle.sem_machine.specs.Sides.{Side}
+use Rattle.sem_machine.specs.Stores.{with_caps, with_vpes}
 
 -- the side with these capabilities and VPEs
 abbrev pub holding : CapStore → VpeTable → Side → Side
@@ -30,7 +25,3 @@ abbrev pub HasChildRoom : CapStore → Slot → Type 0
 HasChildRoom caps Free = Unit {0}
 HasChildRoom caps (Held k) = caps.child_room ≡ held_key caps.caps (Some k)
 HasChildRoom caps Promised = Unit {0}
-
--- the row of a call that uses an endpoint
-abbrev pub use_row : Op → ℕ → ℕ → Side → Step
-use_row op v ep s = unless (use_tests op (endpoint s v ep)) (λ code. answer code s) (answer OkCode (with_endpoints (use_done op v ep s.endpoints) s))

@@ -7,7 +7,8 @@ ghost use Rattle.sem_dtu.specs.declared.op.Op.TheVariants.{Read, Write, Send as 
 ghost use Rattle.sem_machine.specs.Sides.{Side, no_side, own};
 ghost use Rattle.sem_machine.specs.Calls.{bind_row, credit_row, memory_row, send_row};
 ghost use Rattle.sem_machine.specs.Stores.{with_endpoints};
-ghost use Rattle.sem_own.specs.Holding.{holding, use_row};
+ghost use Rattle.sem_own.specs.Holding.{holding};
+ghost use Rattle.sem_own.specs.Using.{use_row};
 
 use crate::outcomes::answered;
 use crate::refusals::{bind_refusal, own_cap};

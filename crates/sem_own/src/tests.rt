@@ -44,6 +44,8 @@ const OTHER: u8 = 10;
 // The rights of a memory.
 const READ: u8 = 1;
 
+const WRITE: u8 = 2;
+
 // The numbers of the replies.
 const OK: u8 = 0;
 
@@ -53,9 +55,13 @@ const REVOKING: u8 = 4;
 
 const OCCUPIED: u8 = 6;
 
+const NUMBERS_USED: u8 = 7;
+
 const BAD_KIND: u8 = 8;
 
 const WIDER: u8 = 9;
+
+const UNBOUND: u8 = 12;
 
 const RIGHTS_FAULT: u8 = 13;
 
@@ -375,6 +381,28 @@ fn promise(kept: &mut Kept, sel: u8) -> bool {
     kept.vpes.promise(VPE, sel).is_ok()
 }
 
+// Draws a number, where one is left.
+fn draw(kept: &mut Kept) -> bool {
+    kept.vpes.draw(VPE).is_ok()
+}
+
+// Draws numbers, until that one is drawn next.
+fn draw_up_to(rt: &impl Abort, kept: &mut Kept, number: u32) {
+    for _ in next_number(kept)..number {
+        assert!(rt; draw(kept));
+    }
+}
+
+// The last key of a memory that the VPE can draw.
+fn last_key() -> Key {
+    Key {
+        pe: 3,
+        vpe: VPE,
+        kind: Kind::Mem,
+        number: 4095,
+    }
+}
+
 // Whether the capability is held without a mark.
 fn is_unmarked(caps: &Caps, key: Key) -> bool
     ensures { IsTrue result → IsSomeAnd (cap_of caps.now.caps key) (λ c. c.mark ≡ None) }
@@ -391,6 +419,12 @@ fn mark(rt: &impl Abort, kept: &mut Kept, key: Key) {
     kept.caps.mark(key, 5);
 }
 
+// The children of a capability that is held.
+fn children<'a>(rt: &impl Abort, kept: &'a Kept, key: Key) -> &'a [Key] {
+    assert!(rt; kept.caps.get(key).is_some());
+    kept.caps.children_sorted(key)
+}
+
 // An answer with that number, and nothing else.
 fn replied(number: u8) -> Outcome {
     Outcome {
@@ -401,9 +435,30 @@ fn replied(number: u8) -> Outcome {
     }
 }
 
+// The child of the parent was granted.
+fn granted(parent: Key, child: Key) -> Outcome {
+    Outcome {
+        asked: None,
+        grant: Some((parent, child)),
+        cut: None,
+        reply: Some(OK),
+    }
+}
+
 // A part of a memory.
 fn part(off: u32, len: u32, rights: u8) -> Part {
     Part { off, len, rights }
+}
+
+// The capability is held, below that parent, at that selector, with that object.
+fn assert_child(rt: &impl Abort, kept: &Kept, key: Key, parent: Key, sel: u8, object: Object) {
+    assert_eq!(rt; selector(kept, sel), Slot::Held(key));
+    let Some(cap) = kept.caps.get(key) else {
+        panic!(rt; "it is held");
+    };
+    assert_eq!(rt; (cap.parent, cap.mark), (Some(parent), None));
+    assert_eq!(rt; (cap.selector, cap.object), (sel, object));
+    assert!(rt; cap.children.as_slice().is_empty());
 }
 
 // Only the roots are held, and that number is drawn next.
@@ -414,6 +469,35 @@ fn assert_roots_only(rt: &impl Abort, kept: &Kept, number: u32) {
     assert_eq!(rt; selector(kept, OTHER), Slot::Promised);
     assert_eq!(rt; selector(kept, MEMORY), Slot::Held(key(Kind::Mem, 0)));
     assert_eq!(rt; selector(kept, RECEIVER), Slot::Held(key(Kind::Recv, 1)));
+}
+
+#[test]
+fn a_part_of_a_memory_is_derived_below_it(rt: HostRuntime) -> Result<(), Fail> {
+    let mut kept = at_start(&rt, rt.alloc())?;
+    let root = key(Kind::Mem, 0);
+    let child = key(Kind::Mem, 3);
+    let answer = derive(&rt, &mut kept, MEMORY, FREE, &part(100, 412, READ))?;
+    assert_eq!(rt; answer, granted(root, child));
+    let object = Object::Mem {
+        base: 4196,
+        len: 412,
+        rights: READ,
+    };
+    assert_child(&rt, &kept, child, root, FREE, object);
+    assert_eq!(rt; children(&rt, &kept, root), [child].as_slice());
+    assert_eq!(rt; next_number(&kept), 4);
+    let grandchild = key(Kind::Mem, 4);
+    let answer = derive(&rt, &mut kept, FREE, OTHER, &part(412, 0, 0))?;
+    assert_eq!(rt; answer, granted(child, grandchild));
+    let object = Object::Mem {
+        base: 4608,
+        len: 0,
+        rights: 0,
+    };
+    assert_child(&rt, &kept, grandchild, child, OTHER, object);
+    assert_eq!(rt; children(&rt, &kept, child), [grandchild].as_slice());
+    assert_eq!(rt; children(&rt, &kept, root), [child].as_slice());
+    Ok(())
 }
 
 #[test]
@@ -446,6 +530,67 @@ fn a_derive_is_refused_by_the_first_reason_and_changes_nothing(
         assert_eq!(rt; answer, replied(REVOKING), "{src} {dst}");
         assert_roots_only(&rt, &kept, 3);
     }
+    Ok(())
+}
+
+// The roots and one child are held, and the other selector is free.
+fn assert_one_child(rt: &impl Abort, kept: &Kept) {
+    assert_eq!(rt; (kept.caps.len(), kept.caps.child_links()), (4, 1));
+    assert_eq!(rt; selector(kept, OTHER), Slot::Free);
+}
+
+// No child can be made at that selector, for that reason.
+fn assert_no_child(rt: &impl Abort, kept: &mut Kept, dst: u8, code: u8) -> Result<(), OutOfMemory> {
+    let derived = derive(rt, kept, MEMORY, dst, &part(0, 1, 0))?;
+    assert_eq!(rt; derived, replied(code));
+    let gated = gate(rt, kept, RECEIVER, dst, 0, 1)?;
+    assert_eq!(rt; gated, replied(code));
+    Ok(())
+}
+
+#[test]
+fn the_last_number_is_drawn_for_a_child_and_no_other_is_left(rt: HostRuntime) -> Result<(), Fail> {
+    let mut kept = at_start(&rt, rt.alloc())?;
+    draw_up_to(&rt, &mut kept, 4095);
+    let answer = derive(&rt, &mut kept, MEMORY, FREE, &part(0, 1, 0))?;
+    assert_eq!(rt; answer, granted(key(Kind::Mem, 0), last_key()));
+    assert_eq!(rt; next_number(&kept), 4096);
+    assert_no_child(&rt, &mut kept, FREE, OCCUPIED)?;
+    assert_no_child(&rt, &mut kept, OTHER, NUMBERS_USED)?;
+    assert_one_child(&rt, &kept);
+    Ok(())
+}
+
+#[test]
+fn a_wider_child_is_refused_before_the_numbers_are_asked(rt: HostRuntime) -> Result<(), Fail> {
+    let mut kept = at_start(&rt, rt.alloc())?;
+    draw_up_to(&rt, &mut kept, 4096);
+    let answer = derive(&rt, &mut kept, MEMORY, OTHER, &part(0, 513, 0))?;
+    assert_eq!(rt; answer, replied(WIDER));
+    let answer = gate(&rt, &mut kept, RECEIVER, OTHER, 0, 9)?;
+    assert_eq!(rt; answer, replied(WIDER));
+    assert_no_child(&rt, &mut kept, OTHER, NUMBERS_USED)?;
+    Ok(())
+}
+
+#[test]
+fn a_send_gate_stands_below_its_receive_gate(rt: HostRuntime) -> Result<(), Fail> {
+    let mut kept = at_start(&rt, rt.alloc())?;
+    let receiver = key(Kind::Recv, 1);
+    for (sel, number, label, credits) in [(FREE, 3, 77, 8), (OTHER, 4, LAST, 1)] {
+        let child = key(Kind::Send, number);
+        let answer = gate(&rt, &mut kept, RECEIVER, sel, label, credits)?;
+        assert_eq!(rt; answer, granted(receiver, child));
+        let object = Object::Send {
+            gate: receiver,
+            label,
+            credits,
+        };
+        assert_child(&rt, &kept, child, receiver, sel, object);
+    }
+    let both = [key(Kind::Send, 3), key(Kind::Send, 4)];
+    assert_eq!(rt; children(&rt, &kept, receiver), both.as_slice());
+    assert_eq!(rt; next_number(&kept), 5);
     Ok(())
 }
 
@@ -499,6 +644,25 @@ fn memory_is_bound_and_read_and_written_within_it(rt: HostRuntime) -> Result<(),
         assert_eq!(rt; answer, replied(code), "write {off} {len}");
     }
     assert_eq!(rt; bound(&kept, 0), Some(key(Kind::Mem, 0)));
+    Ok(())
+}
+
+#[test]
+fn memory_is_read_or_written_by_the_right_alone(rt: HostRuntime) -> Result<(), Fail> {
+    for (rights, is_read, is_written) in [
+        (0, RIGHTS_FAULT, RIGHTS_FAULT),
+        (READ, OK, RIGHTS_FAULT),
+        (WRITE, RIGHTS_FAULT, OK),
+    ] {
+        let mut kept = at_start(&rt, rt.alloc())?;
+        let answer = derive(&rt, &mut kept, MEMORY, FREE, &part(0, 8, rights))?;
+        assert_eq!(rt; answer.reply, Some(OK));
+        assert_eq!(rt; bind(&rt, &mut kept, 15, FREE), replied(OK));
+        assert_eq!(rt; read(&mut kept, 15, 0, 8), replied(is_read));
+        assert_eq!(rt; write(&mut kept, 15, 0, 8), replied(is_written));
+        assert_eq!(rt; send(&mut kept, 15, 0), replied(RIGHTS_FAULT));
+        assert_eq!(rt; credit(&mut kept, 15), replied(RIGHTS_FAULT));
+    }
     Ok(())
 }
 
@@ -559,5 +723,28 @@ fn a_session_is_not_bound(rt: HostRuntime) -> Result<(), Fail> {
     fill(&mut kept, FREE, key(Kind::Sess, 3));
     assert_eq!(rt; bind(&rt, &mut kept, 0, FREE), replied(BAD_KIND));
     assert_eq!(rt; bound(&kept, 0), None);
+    Ok(())
+}
+
+// Each use of the endpoint is refused, for that reason.
+fn assert_no_use(rt: &impl Abort, kept: &mut Kept, ep: u8, code: u8)
+    requires { ep < ENDPOINTS }
+{
+    assert_eq!(rt; read(kept, ep, 0, LAST), replied(code));
+    assert_eq!(rt; write(kept, ep, 0, LAST), replied(code));
+    assert_eq!(rt; send(kept, ep, 0), replied(code));
+    assert_eq!(rt; credit(kept, ep), replied(code));
+}
+
+#[test]
+fn what_is_not_bound_refuses_all_and_a_receive_gate_allows_nothing(
+    rt: HostRuntime,
+) -> Result<(), Fail> {
+    let mut kept = at_start(&rt, rt.alloc())?;
+    assert_eq!(rt; bind(&rt, &mut kept, 3, RECEIVER), replied(OK));
+    assert_no_use(&rt, &mut kept, 2, UNBOUND);
+    assert_eq!(rt; bound(&kept, 2), None);
+    assert_no_use(&rt, &mut kept, 3, RIGHTS_FAULT);
+    assert_eq!(rt; bound(&kept, 3), Some(key(Kind::Recv, 1)));
     Ok(())
 }

@@ -1,4 +1,4 @@
-use Rattle.std.proofs.Common.{◌≡◌, Some, refl, sym, ap, ◌∙◌}
+use Rattle.std.proofs.Common.{refl, sym, ◌∙◌}
 use Rattle.sem_key.specs.Capability.{capability_of}
 use Rattle.sem_machine.specs.Sides.{no_side, slot}
 use Rattle.sem_machine.specs.Calls.{gate_tests}

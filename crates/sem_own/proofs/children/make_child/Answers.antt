@@ -1,4 +1,4 @@
-use Rattle.std.proofs.Common.{◌≡◌, None, sym, ap, ◌∙◌}
+use Rattle.std.proofs.Common.{◌≡◌, ap, ◌∙◌}
 use Rattle.sem_key.specs.KeyName.{KeyName}
 use Rattle.sem_key.specs.CapList.{cap_of}
 use Rattle.sem_msg.specs.Lookups.{pe_of}

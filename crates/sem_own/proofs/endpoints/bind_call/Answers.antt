@@ -1,4 +1,4 @@
-use Rattle.std.proofs.Common.{◌≡◌, Some, sym, ◌∙◌}
+use Rattle.std.proofs.Common.{sym, ◌∙◌}
 use Rattle.sem_key.specs.Capability.{capability_of}
 use Rattle.sem_machine.specs.Calls.{bind_tests}
 use Rattle.sem_machine.specs.Stores.{with_endpoints}

@@ -1,6 +1,5 @@
-use Rattle.std.proofs.Common.{◌≡◌, Some, ap, ◌∙◌}
+use Rattle.std.proofs.Common.{Some, ap, ◌∙◌}
 use Rattle.sem_own.proofs.Using.{use-passed, use-refused}
-use Rattle.sem_dtu.specs.Uses.{fault_code}
 use Rattle.sem_own.proofs.endpoints.used.Goals as goal
 
 pub returns-in-Ok-clause-row : goal.returns-in-Ok-clause-row
