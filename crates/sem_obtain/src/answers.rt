@@ -1,0 +1,138 @@
+ghost use Rattle.std.specs.Prelude.{◌≡◌, ◌≢◌, ℕ, ◌<◌, ◌≤◌, ◌+◌};
+ghost use Rattle.sem_msg.specs.declared.message.Message.TheVariants.{ObtainNo, ObtainOk, ObtainReq, Orphan};
+ghost use Rattle.sem_msg.specs.Lookups.{kernel_of as kernel_of_lem, owner_of as owner_of_lem, place_owner as place_owner_lem};
+ghost use Rattle.sem_msg.specs.Message.{Fits, IsRefusal};
+ghost use Rattle.sem_msg.specs.Outboxes.{HasBoxes};
+ghost use Rattle.sem_vpe.specs.VpeTable.{AreOurs};
+ghost use Rattle.sem_msg.specs.Codes.{code_number};
+ghost use Rattle.sem_machine.specs.Asks.{target_vpe as target_vpe_lem};
+ghost use Rattle.sem_machine.specs.Sides.{Side};
+ghost use Rattle.sem_machine.specs.Handles.{handle_row};
+ghost use Rattle.sem_machine.specs.Stores.{with_vpes, with_parks, with_outs};
+ghost use Rattle.sem_obtain.specs.Asking.{asking};
+
+use sem_key::{Key, Object, Place};
+use sem_msg::{Ask, Code, Message, Outboxes, Parked, Setup, Target};
+use sem_park::Park;
+use sem_vpe::Vpes;
+
+// The message that the parent has a child which nobody holds.
+fn orphaned(parent: Key, key: Key) -> Message
+    ensures message { result ≡ Orphan parent key }
+    ensures fits { Fits result }
+{
+    Message::Orphan { parent, key }
+}
+
+/// An answer to an asking call: the call is ready to install the capability, or, where its VPE is dead,
+/// the kernel of the parent is told. Takes no memory.
+#[tactic(auto, unfolding(sem_machine::specs::Handles::handle_row))]
+pub fn obtain_answer(
+    setup: &Setup,
+    kernel: u32,
+    parent: Key,
+    key: Key,
+    object: Object,
+    vpes: &Vpes,
+    park: &mut Park,
+    outs: &mut Outboxes,
+)
+    requires home { AreOurs setup.now kernel vpes.now }
+    requires vpe { kernel_of_lem setup.now key.vpe ≡ kernel }
+    requires owner { owner_of_lem setup.now parent < setup.now.kernels }
+    requires boxes { HasBoxes setup.now outs.old }
+    requires spare { 0 < outs.old.spare }
+    ensures row { (from : ℕ) (s : Side) → asking vpes.now park.new outs.new s ≡ handle_row setup.now kernel (asking vpes.now park.old outs.old s) from (ObtainOk parent key object) }
+    ensures boxes { HasBoxes setup.now outs.new }
+    ensures spare { outs.old.spare ≤ outs.new.spare + 1 }
+{
+    if !vpes.alive(key.vpe) {
+        outs.send(setup.owner_of(parent), orphaned(parent, key));
+        return;
+    }
+    if let Some(Parked::ObtainWait { sel, .. }) = park.state(key.vpe) {
+        let state = Parked::ObtainReady {
+            key,
+            parent,
+            object,
+            sel,
+        };
+        park.park(key.vpe, state);
+    }
+}
+
+/// An asking call is refused: its promise is free, and it will be answered with the code. Takes no memory.
+#[tactic(auto, unfolding(sem_machine::specs::Handles::handle_row))]
+pub fn obtain_refused(
+    setup: &Setup,
+    kernel: u32,
+    place: Place,
+    code: u8,
+    vpes: &mut Vpes,
+    park: &mut Park,
+)
+    requires home { AreOurs setup.now kernel vpes.old }
+    requires vpe { kernel_of_lem setup.now place.vpe ≡ kernel }
+    ensures row { (from : ℕ) (s : Side) → with_vpes vpes.new.rows (with_parks park.new s) ≡ handle_row setup.now kernel (with_vpes vpes.old.rows (with_parks park.old s)) from (ObtainNo place code) }
+    ensures ours { vpes.new.ours ≡ vpes.old.ours }
+{
+    if !vpes.alive(place.vpe) {
+        return;
+    }
+    if let Some(Parked::ObtainWait { sel, .. }) = park.state(place.vpe) {
+        vpes.release(place.vpe, sel);
+    }
+    park.park(place.vpe, Parked::Ready { code });
+}
+
+// The message that an asking call is refused.
+fn refusal(place: Place, code: Code) -> Message
+    requires { IsRefusal (code_number code) }
+    ensures message { result ≡ ObtainNo place (code_number code) }
+    ensures fits { Fits result }
+{
+    Message::ObtainNo {
+        place,
+        code: code.number(),
+    }
+}
+
+/// A request from another kernel: the VPE of the target is asked, or, where it is dead, the kernel of the
+/// asker is told. Takes no memory.
+#[tactic(auto, unfolding(sem_machine::specs::Handles::handle_row))]
+pub fn obtain_request(
+    setup: &Setup,
+    kernel: u32,
+    place: Place,
+    target: Target,
+    vpes: &mut Vpes,
+    outs: &mut Outboxes,
+)
+    requires home { AreOurs setup.now kernel vpes.old }
+    requires vpe { kernel_of_lem setup.now (target_vpe_lem target) ≡ kernel }
+    requires other { kernel_of_lem setup.now place.vpe ≢ kernel }
+    requires owner { place_owner_lem setup.now place < setup.now.kernels }
+    requires boxes { HasBoxes setup.now outs.old }
+    requires spare { 0 < outs.old.spare }
+    ensures row { (from : ℕ) (s : Side) → with_vpes vpes.new.rows (with_outs outs.new.boxes s) ≡ handle_row setup.now kernel (with_vpes vpes.old.rows (with_outs outs.old.boxes s)) from (ObtainReq place target) }
+    ensures ours { vpes.new.ours ≡ vpes.old.ours }
+    ensures boxes { HasBoxes setup.now outs.new }
+    ensures spare { outs.old.spare ≤ outs.new.spare + 1 }
+{
+    let vpe = target_vpe(&target);
+    if vpes.alive(vpe) {
+        vpes.ask(vpe, Ask::Obtain { place, target });
+    } else {
+        outs.send(setup.place_owner(place), refusal(place, Code::Dead));
+    }
+}
+
+// The VPE of a target: the named one, or that of the service.
+fn target_vpe(target: &Target) -> u16
+    ensures { result ≡ target_vpe_lem target.now }
+{
+    match target {
+        Target::Sel { vpe, .. } => *vpe,
+        Target::Serv { service } | Target::Offer { service, .. } => service.vpe,
+    }
+}

@@ -1,0 +1,84 @@
+ghost use Rattle.std.specs.Prelude.{◌≡◌, ◌<◌, ◌≤◌, ◌+◌, true, None};
+ghost use Rattle.sem_key.specs.declared.limits.TheConstants.{VPES};
+ghost use Rattle.sem_msg.specs.declared.message.Message.TheVariants.{ObtainReq};
+ghost use Rattle.sem_msg.specs.Lookups.{is_declared, kernel_of as kernel_of_lem};
+ghost use Rattle.sem_msg.specs.Message.{Fits, IsValidTarget};
+ghost use Rattle.sem_msg.specs.Outboxes.{HasBoxes};
+ghost use Rattle.sem_vpe.specs.VpeTable.{AreOurs};
+ghost use Rattle.sem_machine.specs.Asks.{target_vpe as target_vpe_lem};
+ghost use Rattle.sem_machine.specs.Sides.{Side, no_side};
+ghost use Rattle.sem_machine.specs.Steps.{first_code, plain};
+ghost use Rattle.sem_machine.specs.Calls.{ask_made, destination_tests};
+ghost use Rattle.sem_machine.specs.Stores.{with_vpes};
+ghost use Rattle.sem_obtain.specs.Asking.{asking};
+
+use sem_key::Place;
+use sem_msg::{Ask, Message, Outboxes, Parked, Setup, Target};
+use sem_park::Park;
+use sem_vpe::Vpes;
+
+// The kernel of a declared VPE.
+pub fn kernel_of(setup: &Setup, vpe: u16) -> u32
+    requires { is_declared setup.now vpe ≡ true }
+    ensures kernel { result ≡ kernel_of_lem setup.now vpe }
+    ensures below { result < setup.now.kernels }
+    ensures vpe { vpe < VPES }
+{
+    let kernel = setup.kernel_of(vpe);
+    if kernel >= setup.kernels {
+        unreachable!()
+    }
+    kernel
+}
+
+// The message that asks for a capability.
+fn request(place: Place, target: Target) -> Message
+    requires { IsValidTarget target }
+    ensures message { result ≡ ObtainReq place target }
+    ensures fits { Fits result }
+{
+    Message::ObtainReq { place, target }
+}
+
+// The VPE draws a number, promises the destination and waits; the other VPE, that of the target, is asked.
+pub fn make_ask(
+    setup: &Setup,
+    kernel: u32,
+    vpe: u16,
+    dst: u8,
+    other: u16,
+    target: Target,
+    vpes: &mut Vpes,
+    park: &mut Park,
+    outs: &mut Outboxes,
+)
+    requires home { AreOurs setup.now kernel vpes.old }
+    requires vpe { kernel_of_lem setup.now vpe ≡ kernel }
+    requires declared { is_declared setup.now vpe ≡ true }
+    requires other { other ≡ target_vpe_lem target }
+    requires asked { is_declared setup.now other ≡ true }
+    requires target { IsValidTarget target }
+    requires free { first_code (destination_tests (with_vpes vpes.old.rows no_side) vpe dst) ≡ None }
+    requires boxes { HasBoxes setup.now outs.old }
+    requires spare { 0 < outs.old.spare }
+    ensures row { (s : Side) → plain (asking vpes.new park.new outs.new s) ≡ ask_made setup.now kernel vpe dst target (asking vpes.old park.old outs.old s) }
+    ensures ours { vpes.new.ours ≡ vpes.old.ours }
+    ensures boxes { HasBoxes setup.now outs.new }
+    ensures spare { outs.old.spare ≤ outs.new.spare + 1 }
+{
+    let pe = setup.pe_of(vpe);
+    let Ok(number) = vpes.draw(vpe) else {
+        unreachable!()
+    };
+    let Ok(()) = vpes.promise(vpe, dst) else {
+        unreachable!()
+    };
+    park.park(vpe, Parked::ObtainWait { number, sel: dst });
+    let place = Place { pe, vpe, number };
+    let owner = kernel_of(setup, other);
+    if owner == kernel {
+        vpes.ask(other, Ask::Obtain { place, target });
+    } else {
+        outs.send(owner, request(place, target));
+    }
+}

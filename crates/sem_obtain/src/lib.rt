@@ -1,0 +1,17 @@
+//! The calls by which a VPE asks another one for a capability, and what becomes of them.
+#![tactic(auto)]
+
+mod answers;
+mod asks;
+mod calls;
+mod links;
+mod outcomes;
+mod refusals;
+mod resumes;
+#[cfg(test)]
+mod tests;
+
+pub use answers::{obtain_answer, obtain_refused, obtain_request};
+pub use calls::obtain_call;
+pub use links::{orphan, unlink};
+pub use resumes::obtain_resume;
