@@ -52,8 +52,8 @@ object_from words =
     else Sess (key_from (word_at words 1)) (n 2))))
 
 -- the words behind an object
-unfoldable pub behind_object : List (List ℕ) → List (List ℕ)
-behind_object words = drop (length (choice objects (word_at words 0))) words
+unfoldable pub behind_object : ℕ → List (List ℕ) → List (List ℕ)
+behind_object version words = drop (length (choice (objects version) (word_at words 0))) words
 
 unfoldable pub target_from : List (List ℕ) → Target
 target_from words =
@@ -63,12 +63,12 @@ target_from words =
     else (if is (codes "serv") then ServTarget (key_from (word_at words 1))
     else OfferTarget (key_from (word_at words 1)) (n 2))
 
-unfoldable pub message_from : List (List ℕ) → Message
-message_from words =
+unfoldable pub message_from : ℕ → List (List ℕ) → Message
+message_from version words =
     let is : List ℕ → Bool = stands_at words 0 in
     let n : ℕ → ℕ = number_at words in
     let k : ℕ → KeyName = λ i. key_from (word_at words i) in
-    let more : List (List ℕ) = behind_object (drop 2 words) in
+    let more : List (List ℕ) = behind_object version (drop 2 words) in
     if is (codes "obtain-req") then ObtainReq (place_from (word_at words 1)) (target_from (drop 2 words))
     else (if is (codes "obtain-ok") then ObtainOk (k 1) (k 2) (object_from (drop 3 words))
     else (if is (codes "obtain-no") then ObtainNo (place_from (word_at words 1)) (n 2)
@@ -99,14 +99,14 @@ consent_from words i =
     else (if stands_at words i (codes "no") then No
     else Dropped)
 
-unfoldable pub detail_from : List (List ℕ) → Detail
-detail_from words =
+unfoldable pub detail_from : ℕ → List (List ℕ) → Detail
+detail_from version words =
     let is : List ℕ → Bool = stands_at words 0 in
     let n : ℕ → ℕ = number_at words in
     if is (codes "call") then Called (n 2) (call_from (drop 3 words))
     else (if is (codes "upcall") then Asked (n 2) (consent_from words 3)
     else (if is (codes "resume") || is (codes "kill") then Nothing
-    else Carried (n 1) (message_from (drop 2 words))))
+    else Carried (n 1) (message_from version (drop 2 words))))
 
 -- a grant and the words behind it, where it stands there; so below
 unfoldable pub grant_from : List (List ℕ) → Option (KeyName × KeyName)
@@ -125,16 +125,16 @@ unfoldable pub reply_from : List (List ℕ) → Option Reply
 reply_from words = if stands_at words 0 (codes "reply") then Some (record { vpe = number_at words 1; code = number_at words 2 }) else None
 
 -- the words behind the event
-unfoldable pub past_event : ℕ → List (List ℕ) → List (List ℕ)
-past_event kernels words = drop (length (event_form kernels words)) words
+unfoldable pub past_event : (version kernels : ℕ) → List (List ℕ) → List (List ℕ)
+past_event version kernels words = drop (length (event_form version kernels words)) words
 
-unfoldable pub entry_from : ℕ → List (List ℕ) → Entry
-entry_from kernels words =
+unfoldable pub entry_from : (version kernels : ℕ) → List (List ℕ) → Entry
+entry_from version kernels words =
     let event : List (List ℕ) = drop 1 words in
-    let more : List (List ℕ) = past_event kernels event in
+    let more : List (List ℕ) = past_event version kernels event in
     record {
       event = record { kernel = number_at words 0; act = act_from event };
-      detail = detail_from event;
+      detail = detail_from version event;
       grant = grant_from more;
       cut = cut_from (past_grant more);
       reply = reply_from (past_cut (past_grant more));

@@ -1,5 +1,5 @@
 -- The faults of an entry, part by part.
-use Rattle.std.proofs.Common.{◌≡◌, ℕ, ◌+◌, ◌-◌, true, false, List, [], ◌∷◌, ◌++◌, length, drop, map, Option, Some, None, refl, sym, ◌∙◌, drop-drop, inl, inr, decimal, append_assoc}
+use Rattle.std.proofs.Common.{◌≡◌, ℕ, ◌+◌, true, false, List, [], ◌∷◌, ◌++◌, length, drop, map, Option, Some, None, refl, sym, ◌∙◌, drop-drop, inl, inr, decimal, append_assoc}
 use Rattle.std.specs.Option.{option_or}
 use Rattle.std.proofs.lemmas.Bool.{cases_Bool}
 use Rattle.std.proofs.lemmas.Option.{none-some}
@@ -7,10 +7,9 @@ use Rattle.std.proofs.lemmas.Slice.Eq.{bytes_eq-Decides}
 use Rattle.std.specs.Str.{bytes_eq}
 use Rattle.sem_trace.specs.declared.fault.Cause.{Cause}
 use Rattle.sem_trace.specs.declared.fault.Cause.TheVariants.{OutOfRange, UnknownWord, TooMany, Missing}
-use Rattle.sem_trace.specs.declared.forms.Range.{Range}
 use Rattle.sem_trace.specs.Forms.{Place, place_fault, form_fault}
 use Rattle.sem_trace.specs.Forms.Place.{Word}
-use Rattle.sem_trace.specs.Places.{Fills, Fails, number_place}
+use Rattle.sem_trace.specs.Places.{Fills, Fails}
 use Rattle.sem_msg.specs.declared.event.Act.{Act}
 use Rattle.sem_msg.specs.declared.entry.Detail.{Detail}
 use Rattle.sem_msg.specs.declared.entry.Entry.{Entry}
@@ -26,13 +25,13 @@ nothing_more [] fits = refl
 nothing_more (word ∷ words) fits = absurd (none-some TooMany (sym fits))
 
 -- places for just these words
-abbrev exactly : List (List ℕ) → List Place
+abbrev pub exactly : List (List ℕ) → List Place
 exactly words = map (λ word. Word (word ∷ [])) words
 
 same_bytes : (word : List ℕ) → bytes_eq word word ≡ true
 same_bytes word = (bytes_eq-Decides word word).1 refl
 
-exactly_fits : (words : List (List ℕ)) → form_fault (exactly words) words ≡ None
+pub exactly_fits : (words : List (List ℕ)) → form_fault (exactly words) words ≡ None
 unfolding form_fault
 exactly_fits [] = refl
 exactly_fits (word ∷ words) = rw (same_bytes word) (exactly_fits words)
@@ -47,7 +46,7 @@ the_word name word fits = elim (cases_Bool (bytes_eq word name)) [
   | inr other ↦ absurd (none-some UnknownWord (sym (rw other at fits)))
 ]
 
-exactly_is : (words others : List (List ℕ)) → form_fault (exactly words) others ≡ None → others ≡ words
+pub exactly_is : (words others : List (List ℕ)) → form_fault (exactly words) others ≡ None → others ≡ words
 unfolding form_fault
 exactly_is [] [] fits = refl
 exactly_is [] (word ∷ others) fits = absurd (none-some TooMany (sym fits))
@@ -69,45 +68,43 @@ pub behind_filled : (places : List Place) (words rest : List (List ℕ)) → Fil
 behind_filled places words rest fills = rest_is places words rest (fills (exactly rest) ∙ exactly_fits rest)
 
 -- an entry whose kernel is wrong
-pub kernel_fault : (kernels : ℕ) (words : List (List ℕ)) (range : Range) (cause : Cause) → range.least ≡ 0 → range.most ≡ kernels - 1 → Fails (number_place range ∷ []) words cause → entry_fault kernels words ≡ Some cause
+pub kernel_fault : (version kernels : ℕ) (words : List (List ℕ)) (cause : Cause) → Fails (kernel kernels ∷ []) words cause → entry_fault version kernels words ≡ Some cause
 unfolding entry_fault entry_form
-kernel_fault kernels words range cause least most fails =
-    let fails' : Fails (kernel kernels ∷ []) words cause = rw (least, most) at fails in
-    rw (fails' (event_form kernels (drop 1 words) ++ behind_event (drop (1 + length (event_form kernels (drop 1 words))) words))) refl
+kernel_fault version kernels words cause fails =
+    rw (fails (event_form version kernels (drop 1 words) ++ behind_event version (drop (1 + length (event_form version kernels (drop 1 words))) words))) refl
 
 -- the words of an entry behind its kernel
-pub behind_kernel : (kernels : ℕ) (words rest : List (List ℕ)) (range : Range) → range.least ≡ 0 → range.most ≡ kernels - 1 → Fills (number_place range ∷ []) words rest → form_fault (entry_form kernels words) words ≡ form_fault (event_form kernels rest ++ behind_event (drop (length (event_form kernels rest)) rest)) rest
+pub behind_kernel : (version kernels : ℕ) (words rest : List (List ℕ)) → Fills (kernel kernels ∷ []) words rest → form_fault (entry_form version kernels words) words ≡ form_fault (event_form version kernels rest ++ behind_event version (drop (length (event_form version kernels rest)) rest)) rest
 unfolding entry_form
-behind_kernel kernels words rest range least most fills =
-    let fills' : Fills (kernel kernels ∷ []) words rest = rw (least, most) at fills in
-    let behind : drop 1 words ≡ rest = behind_filled (kernel kernels ∷ []) words rest fills' in
-    rw (drop_behind (length (event_form kernels (drop 1 words))) words, behind) (fills' (event_form kernels rest ++ behind_event (drop (length (event_form kernels rest)) rest)))
+behind_kernel version kernels words rest fills =
+    let behind : drop 1 words ≡ rest = behind_filled (kernel kernels ∷ []) words rest fills in
+    rw (drop_behind (length (event_form version kernels (drop 1 words))) words, behind) (fills (event_form version kernels rest ++ behind_event version (drop (length (event_form version kernels rest)) rest)))
   where
     drop_behind : (n : ℕ) (words : List (List ℕ)) → drop (1 + n) words ≡ drop n (drop 1 words)
     drop_behind n words = sym (drop-drop n 1 words)
 
 -- an entry whose event is wrong
-pub event_fault : (kernels : ℕ) (words rest : List (List ℕ)) (range : Range) (cause : Cause) → range.least ≡ 0 → range.most ≡ kernels - 1 → Fills (number_place range ∷ []) words rest → Fails (event_form kernels rest) rest cause → entry_fault kernels words ≡ Some cause
+pub event_fault : (version kernels : ℕ) (words rest : List (List ℕ)) (cause : Cause) → Fills (kernel kernels ∷ []) words rest → Fails (event_form version kernels rest) rest cause → entry_fault version kernels words ≡ Some cause
 unfolding entry_fault
-event_fault kernels words rest range cause least most fills fails =
-    rw (behind_kernel kernels words rest range least most fills, fails (behind_event (drop (length (event_form kernels rest)) rest))) refl
+event_fault version kernels words rest cause fills fails =
+    rw (behind_kernel version kernels words rest fills, fails (behind_event version (drop (length (event_form version kernels rest)) rest))) refl
 
 -- what is wrong with an entry behind its event
-pub shown_fault : (kernels : ℕ) (words rest behind : List (List ℕ)) (range : Range) → range.least ≡ 0 → range.most ≡ kernels - 1 → Fills (number_place range ∷ []) words rest → Fills (event_form kernels rest) rest behind → form_fault (entry_form kernels words) words ≡ form_fault (behind_event behind) behind
-shown_fault kernels words rest behind range least most fills event =
-    rw (behind_kernel kernels words rest range least most fills, behind_filled (event_form kernels rest) rest behind event) (event (behind_event behind))
+pub shown_fault : (version kernels : ℕ) (words rest behind : List (List ℕ)) → Fills (kernel kernels ∷ []) words rest → Fills (event_form version kernels rest) rest behind → form_fault (entry_form version kernels words) words ≡ form_fault (behind_event version behind) behind
+shown_fault version kernels words rest behind fills event =
+    rw (behind_kernel version kernels words rest fills, behind_filled (event_form version kernels rest) rest behind event) (event (behind_event version behind))
 
-pub fault_behind : (kernels : ℕ) (words : List (List ℕ)) (cause : Cause) → form_fault (entry_form kernels words) words ≡ Some cause → entry_fault kernels words ≡ Some cause
+pub fault_behind : (version kernels : ℕ) (words : List (List ℕ)) (cause : Cause) → form_fault (entry_form version kernels words) words ≡ Some cause → entry_fault version kernels words ≡ Some cause
 unfolding entry_fault
-fault_behind kernels words cause fault = rw fault refl
+fault_behind version kernels words cause fault = rw fault refl
 
-pub long_fault : (kernels : ℕ) (words : List (List ℕ)) → form_fault (entry_form kernels words) words ≡ None → has_long_memory words ≡ true → entry_fault kernels words ≡ Some OutOfRange
+pub long_fault : (version kernels : ℕ) (words : List (List ℕ)) → form_fault (entry_form version kernels words) words ≡ None → has_long_memory words ≡ true → entry_fault version kernels words ≡ Some OutOfRange
 unfolding entry_fault
-long_fault kernels words fits long = rw (fits, long) refl
+long_fault version kernels words fits long = rw (fits, long) refl
 
-pub no_fault : (kernels : ℕ) (words : List (List ℕ)) → form_fault (entry_form kernels words) words ≡ None → has_long_memory words ≡ false → entry_fault kernels words ≡ None
+pub no_fault : (version kernels : ℕ) (words : List (List ℕ)) → form_fault (entry_form version kernels words) words ≡ None → has_long_memory words ≡ false → entry_fault version kernels words ≡ None
 unfolding entry_fault
-no_fault kernels words fits short = rw (fits, short) refl
+no_fault version kernels words fits short = rw (fits, short) refl
 
 -- the entry that these are the parts of
 abbrev pub entry : ℕ → Act → Detail → Shown → Entry

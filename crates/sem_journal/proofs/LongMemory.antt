@@ -21,6 +21,7 @@ use Rattle.sem_journal.specs.EntryRanges.{MessageFits, EventFits}
 use Rattle.sem_journal.specs.ShownWords.{carries_long}
 use Rattle.sem_reader.proofs.Decimals.{digits-decimal}
 use Rattle.sem_reader.proofs.PlainText.{and-left}
+use Rattle.sem_journal.proofs.PrintedPlaces.{small}
 
 -- a number is no name: names begin with a letter
 abbrev first_byte : List ℕ → ℕ
@@ -45,27 +46,27 @@ or-no false = refl
 value_is : (n : ℕ) → n ≤ 4294967295 → number_value (decimal n) ≡ n
 value_is n small = (digits-decimal n (omega arith)).1
 
-long_message : (kernel name peer : List ℕ) (p : ℕ) (m : Message) (g : Option (KeyName × KeyName)) (k : Option KeyName) (r : Option Reply) → MessageFits m → has_long_memory (kernel ∷ name ∷ peer ∷ message_words m ++ grant_words g ++ cut_words k ++ reply_words r) ≡ carries_long (Carried p m)
+long_message : (version : ℕ) (kernel name peer : List ℕ) (p : ℕ) (m : Message) (g : Option (KeyName × KeyName)) (k : Option KeyName) (r : Option Reply) → MessageFits version m → has_long_memory (kernel ∷ name ∷ peer ∷ message_words m ++ grant_words g ++ cut_words k ++ reply_words r) ≡ carries_long (Carried p m)
 unfolding has_long_memory
-long_message kernel name peer p (ObtainReq place target) g k r fits = refl
-long_message kernel name peer p (ObtainOk parent key (Mem base len rights)) g k r fits = rw (value_is base (omega (arith, fits.2.0)), value_is len (omega (arith, fits.2.1))) (or-no (nat_lt 4294967296 (base + len)))
-long_message kernel name peer p (ObtainOk parent key (Recv slots)) g k r fits = refl
-long_message kernel name peer p (ObtainOk parent key (Send gate label credits)) g k r fits = refl
-long_message kernel name peer p (ObtainOk parent key (Serv name')) g k r fits = refl
-long_message kernel name peer p (ObtainOk parent key (Sess service ident)) g k r fits = refl
-long_message kernel name peer p (ObtainNo place code) g k r fits = refl
-long_message kernel name peer p (DelegateReq parent (Mem base len rights) vpe sel) g k r fits = rw (value_is base (omega (arith, fits.1.0)), value_is len (omega (arith, fits.1.1))) refl
-long_message kernel name peer p (DelegateReq parent (Recv slots) vpe sel) g k r fits = refl
-long_message kernel name peer p (DelegateReq parent (Send gate label credits) vpe sel) g k r fits = refl
-long_message kernel name peer p (DelegateReq parent (Serv name') vpe sel) g k r fits = refl
-long_message kernel name peer p (DelegateReq parent (Sess service ident) vpe sel) g k r fits = refl
-long_message kernel name peer p (DelegatePrepared parent key) g k r fits = refl
-long_message kernel name peer p (DelegateNo parent code) g k r fits = refl
-long_message kernel name peer p (Ack key accepted) g k r fits = refl
-long_message kernel name peer p (Orphan parent key) g k r fits = refl
-long_message kernel name peer p (RevokeReq key job) g k r fits = refl
-long_message kernel name peer p (RevokeDone job) g k r fits = refl
-long_message kernel name peer p (Unlink parent key) g k r fits = refl
+long_message version kernel name peer p (ObtainReq place target) g k r fits = refl
+long_message version kernel name peer p (ObtainOk parent key (Mem base len rights)) g k r fits = rw (value_is base (omega (arith, fits.2.0)), value_is len (omega (arith, fits.2.1))) (or-no (nat_lt 4294967296 (base + len)))
+long_message version kernel name peer p (ObtainOk parent key (Recv slots)) g k r fits = refl
+long_message version kernel name peer p (ObtainOk parent key (Send gate label credits)) g k r fits = refl
+long_message version kernel name peer p (ObtainOk parent key (Serv name')) g k r fits = refl
+long_message version kernel name peer p (ObtainOk parent key (Sess service ident)) g k r fits = refl
+long_message version kernel name peer p (ObtainNo place code) g k r fits = refl
+long_message version kernel name peer p (DelegateReq parent (Mem base len rights) vpe sel) g k r fits = rw (value_is base (omega (arith, fits.1.0)), value_is len (omega (arith, fits.1.1))) refl
+long_message version kernel name peer p (DelegateReq parent (Recv slots) vpe sel) g k r fits = refl
+long_message version kernel name peer p (DelegateReq parent (Send gate label credits) vpe sel) g k r fits = refl
+long_message version kernel name peer p (DelegateReq parent (Serv name') vpe sel) g k r fits = refl
+long_message version kernel name peer p (DelegateReq parent (Sess service ident) vpe sel) g k r fits = refl
+long_message version kernel name peer p (DelegatePrepared parent key) g k r fits = refl
+long_message version kernel name peer p (DelegateNo parent code) g k r fits = refl
+long_message version kernel name peer p (Ack key accepted) g k r fits = refl
+long_message version kernel name peer p (Orphan parent key) g k r fits = refl
+long_message version kernel name peer p (RevokeReq key job) g k r fits = refl
+long_message version kernel name peer p (RevokeDone job) g k r fits = refl
+long_message version kernel name peer p (Unlink parent key) g k r fits = refl
 
 no_message : (a b c : List ℕ) (g : Option (KeyName × KeyName)) (k : Option KeyName) (r : Option Reply) → has_long_memory (a ∷ b ∷ c ∷ grant_words g ++ cut_words k ++ reply_words r) ≡ false
 unfolding has_long_memory
@@ -74,37 +75,37 @@ no_message a b c None (Some k) r = refl
 no_message a b c None None (Some r) = refl
 no_message a b c None None None = refl
 
-long_event : (kernels kernel : ℕ) (act : Act) (detail : Detail) (g : Option (KeyName × KeyName)) (k : Option KeyName) (r : Option Reply) → EventFits kernels act detail → has_long_memory (decimal kernel ∷ act_words act ++ detail_words detail ++ grant_words g ++ cut_words k ++ reply_words r) ≡ carries_long detail
+long_event : (version kernels kernel : ℕ) (act : Act) (detail : Detail) (g : Option (KeyName × KeyName)) (k : Option KeyName) (r : Option Reply) → EventFits version kernels act detail → has_long_memory (decimal kernel ∷ act_words act ++ detail_words detail ++ grant_words g ++ cut_words k ++ reply_words r) ≡ carries_long detail
 unfolding has_long_memory
-long_event kernels kernel (Calls v) (Called index call) g k r fits = rw (no_name index (codes "obtain-ok") (omega (arith, fits.1)) (omega arith), no_name index (codes "delegate-req") (omega (arith, fits.1)) (omega arith)) refl
-long_event kernels kernel (Fetch from) (Carried peer message) g k r fits = long_message (decimal kernel) (codes "fetch") (decimal peer) peer message g k r fits.2
-long_event kernels kernel Handle (Carried peer message) g k r fits = long_message (decimal kernel) (codes "handle") (decimal peer) peer message g k r fits.1
-long_event kernels kernel (Upcall v) (Asked asker answer) g k r fits = rw (no_name asker (codes "obtain-ok") (omega (arith, fits.1)) (omega arith), no_name asker (codes "delegate-req") (omega (arith, fits.1)) (omega arith)) refl
-long_event kernels kernel (Resume v) Nothing g k r fits = no_message (decimal kernel) (codes "resume") (decimal v) g k r
-long_event kernels kernel (Flush to) (Carried peer message) g k r fits = long_message (decimal kernel) (codes "flush") (decimal peer) peer message g k r fits.2
-long_event kernels kernel (Kill v) Nothing g k r fits = no_message (decimal kernel) (codes "kill") (decimal v) g k r
-long_event kernels kernel (Calls v) (Carried peer message) g k r fits = absurd fits
-long_event kernels kernel (Calls v) (Asked asker answer) g k r fits = absurd fits
-long_event kernels kernel (Calls v) Nothing g k r fits = absurd fits
-long_event kernels kernel (Fetch from) (Called index call) g k r fits = absurd fits
-long_event kernels kernel (Fetch from) (Asked asker answer) g k r fits = absurd fits
-long_event kernels kernel (Fetch from) Nothing g k r fits = absurd fits
-long_event kernels kernel Handle (Called index call) g k r fits = absurd fits
-long_event kernels kernel Handle (Asked asker answer) g k r fits = absurd fits
-long_event kernels kernel Handle Nothing g k r fits = absurd fits
-long_event kernels kernel (Upcall v) (Called index call) g k r fits = absurd fits
-long_event kernels kernel (Upcall v) (Carried peer message) g k r fits = absurd fits
-long_event kernels kernel (Upcall v) Nothing g k r fits = absurd fits
-long_event kernels kernel (Resume v) (Called index call) g k r fits = absurd fits
-long_event kernels kernel (Resume v) (Carried peer message) g k r fits = absurd fits
-long_event kernels kernel (Resume v) (Asked asker answer) g k r fits = absurd fits
-long_event kernels kernel (Flush to) (Called index call) g k r fits = absurd fits
-long_event kernels kernel (Flush to) (Asked asker answer) g k r fits = absurd fits
-long_event kernels kernel (Flush to) Nothing g k r fits = absurd fits
-long_event kernels kernel (Kill v) (Called index call) g k r fits = absurd fits
-long_event kernels kernel (Kill v) (Carried peer message) g k r fits = absurd fits
-long_event kernels kernel (Kill v) (Asked asker answer) g k r fits = absurd fits
+long_event version kernels kernel (Calls v) (Called index call) g k r fits = rw (no_name index (codes "obtain-ok") (omega (arith, fits.1)) (omega arith), no_name index (codes "delegate-req") (omega (arith, fits.1)) (omega arith)) refl
+long_event version kernels kernel (Fetch from) (Carried peer message) g k r fits = long_message version (decimal kernel) (codes "fetch") (decimal peer) peer message g k r fits.2
+long_event version kernels kernel Handle (Carried peer message) g k r fits = long_message version (decimal kernel) (codes "handle") (decimal peer) peer message g k r fits.1
+long_event version kernels kernel (Upcall v) (Asked asker answer) g k r fits = rw (no_name asker (codes "obtain-ok") (small version asker fits.1) (omega arith), no_name asker (codes "delegate-req") (small version asker fits.1) (omega arith)) refl
+long_event version kernels kernel (Resume v) Nothing g k r fits = no_message (decimal kernel) (codes "resume") (decimal v) g k r
+long_event version kernels kernel (Flush to) (Carried peer message) g k r fits = long_message version (decimal kernel) (codes "flush") (decimal peer) peer message g k r fits.2
+long_event version kernels kernel (Kill v) Nothing g k r fits = no_message (decimal kernel) (codes "kill") (decimal v) g k r
+long_event version kernels kernel (Calls v) (Carried peer message) g k r fits = absurd fits
+long_event version kernels kernel (Calls v) (Asked asker answer) g k r fits = absurd fits
+long_event version kernels kernel (Calls v) Nothing g k r fits = absurd fits
+long_event version kernels kernel (Fetch from) (Called index call) g k r fits = absurd fits
+long_event version kernels kernel (Fetch from) (Asked asker answer) g k r fits = absurd fits
+long_event version kernels kernel (Fetch from) Nothing g k r fits = absurd fits
+long_event version kernels kernel Handle (Called index call) g k r fits = absurd fits
+long_event version kernels kernel Handle (Asked asker answer) g k r fits = absurd fits
+long_event version kernels kernel Handle Nothing g k r fits = absurd fits
+long_event version kernels kernel (Upcall v) (Called index call) g k r fits = absurd fits
+long_event version kernels kernel (Upcall v) (Carried peer message) g k r fits = absurd fits
+long_event version kernels kernel (Upcall v) Nothing g k r fits = absurd fits
+long_event version kernels kernel (Resume v) (Called index call) g k r fits = absurd fits
+long_event version kernels kernel (Resume v) (Carried peer message) g k r fits = absurd fits
+long_event version kernels kernel (Resume v) (Asked asker answer) g k r fits = absurd fits
+long_event version kernels kernel (Flush to) (Called index call) g k r fits = absurd fits
+long_event version kernels kernel (Flush to) (Asked asker answer) g k r fits = absurd fits
+long_event version kernels kernel (Flush to) Nothing g k r fits = absurd fits
+long_event version kernels kernel (Kill v) (Called index call) g k r fits = absurd fits
+long_event version kernels kernel (Kill v) (Carried peer message) g k r fits = absurd fits
+long_event version kernels kernel (Kill v) (Asked asker answer) g k r fits = absurd fits
 
 -- whether an entry carries such memory
-pub long_entry : (kernels : ℕ) (e : Entry) → EventFits kernels e.event.act e.detail → has_long_memory (entry_words e) ≡ carries_long e.detail
-long_entry kernels e fits = long_event kernels e.event.kernel e.event.act e.detail e.grant e.cut e.reply fits
+pub long_entry : (version kernels : ℕ) (e : Entry) → EventFits version kernels e.event.act e.detail → has_long_memory (entry_words e) ≡ carries_long e.detail
+long_entry version kernels e fits = long_event version kernels e.event.kernel e.event.act e.detail e.grant e.cut e.reply fits

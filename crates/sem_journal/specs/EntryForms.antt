@@ -15,77 +15,91 @@ code = up_to 15
 abbrev pub kernel : ℕ → Place
 kernel kernels = up_to (kernels - 1)
 
--- the objects that a message can carry
-unfoldable pub objects : Table
-objects =
+-- the objects that a message can carry, in a report of that version
+unfoldable pub objects : ℕ → Table
+objects version =
     (codes "mem", word ∷ word ∷ rights ∷ [])
     ∷ (codes "recv", slots ∷ [])
-    ∷ (codes "send", key ∷ word ∷ slots ∷ [])
+    ∷ (codes "send", key version ∷ word ∷ slots ∷ [])
     ∷ (codes "serv", byte ∷ [])
-    ∷ (codes "sess", key ∷ node ∷ [])
+    ∷ (codes "sess", key version ∷ node version ∷ [])
     ∷ []
 
-unfoldable pub targets : Table
-targets =
-    (codes "sel", node ∷ byte ∷ [])
-    ∷ (codes "serv", key ∷ [])
-    ∷ (codes "offer", key ∷ byte ∷ [])
+unfoldable pub targets : ℕ → Table
+targets version =
+    (codes "sel", node version ∷ byte ∷ [])
+    ∷ (codes "serv", key version ∷ [])
+    ∷ (codes "offer", key version ∷ byte ∷ [])
     ∷ []
 
 -- messages, from their name on
-unfoldable pub messages : List (List ℕ) → Table
-messages words =
-    (codes "obtain-req", key_place ∷ choice targets (word_at words 2))
-    ∷ (codes "obtain-ok", key ∷ key ∷ choice objects (word_at words 3))
-    ∷ (codes "obtain-no", key_place ∷ code ∷ [])
-    ∷ (codes "delegate-req", key ∷ choice objects (word_at words 2) ++ node ∷ byte ∷ [])
-    ∷ (codes "delegate-prepared", key ∷ key ∷ [])
-    ∷ (codes "delegate-no", key ∷ code ∷ [])
-    ∷ (codes "ack", key ∷ Word (codes "yes" ∷ codes "no" ∷ []) ∷ [])
-    ∷ (codes "orphan", key ∷ key ∷ [])
-    ∷ (codes "revoke-req", key ∷ word ∷ [])
+unfoldable pub messages : ℕ → List (List ℕ) → Table
+messages version words =
+    (codes "obtain-req", key_place version ∷ choice (targets version) (word_at words 2))
+    ∷ (codes "obtain-ok", key version ∷ key version ∷ choice (objects version) (word_at words 3))
+    ∷ (codes "obtain-no", key_place version ∷ code ∷ [])
+    ∷ (codes "delegate-req", key version ∷ choice (objects version) (word_at words 2) ++ node version ∷ byte ∷ [])
+    ∷ (codes "delegate-prepared", key version ∷ key version ∷ [])
+    ∷ (codes "delegate-no", key version ∷ code ∷ [])
+    ∷ (codes "ack", key version ∷ Word (codes "yes" ∷ codes "no" ∷ []) ∷ [])
+    ∷ (codes "orphan", key version ∷ key version ∷ [])
+    ∷ (codes "revoke-req", key version ∷ word ∷ [])
     ∷ (codes "revoke-done", word ∷ [])
-    ∷ (codes "unlink", key ∷ key ∷ [])
+    ∷ (codes "unlink", key version ∷ key version ∷ [])
     ∷ []
 
-unfoldable pub message_form : List (List ℕ) → List Place
-message_form words = choice (messages words) (word_at words 0)
+unfoldable pub message_form : ℕ → List (List ℕ) → List Place
+message_form version words = choice (messages version words) (word_at words 0)
 
--- events, from their name on
-unfoldable pub events : ℕ → List (List ℕ) → Table
-events kernels words =
-    (codes "call", node ∷ word ∷ choice calls (word_at words 3))
-    ∷ (codes "fetch", kernel kernels ∷ message_form (drop 2 words))
-    ∷ (codes "handle", kernel kernels ∷ message_form (drop 2 words))
-    ∷ (codes "upcall", node ∷ node ∷ Word (codes "yes" ∷ codes "no" ∷ codes "drop" ∷ []) ∷ [])
-    ∷ (codes "resume", node ∷ [])
-    ∷ (codes "flush", kernel kernels ∷ message_form (drop 2 words))
-    ∷ (codes "kill", node ∷ [])
+-- events, from their name on, where there are so many kernels
+unfoldable pub events : (version kernels : ℕ) → List (List ℕ) → Table
+events version kernels words =
+    (codes "call", node version ∷ word ∷ choice (calls version) (word_at words 3))
+    ∷ (codes "fetch", kernel kernels ∷ message_form version (drop 2 words))
+    ∷ (codes "handle", kernel kernels ∷ message_form version (drop 2 words))
+    ∷ (codes "upcall", node version ∷ node version ∷ Word (codes "yes" ∷ codes "no" ∷ codes "drop" ∷ []) ∷ [])
+    ∷ (codes "resume", node version ∷ [])
+    ∷ (codes "flush", kernel kernels ∷ message_form version (drop 2 words))
+    ∷ (codes "kill", node version ∷ [])
     ∷ []
 
-unfoldable pub event_form : ℕ → List (List ℕ) → List Place
-event_form kernels words = choice (events kernels words) (word_at words 0)
+unfoldable pub event_form : (version kernels : ℕ) → List (List ℕ) → List Place
+event_form version kernels words = choice (events version kernels words) (word_at words 0)
 
 -- one of these, where there is a word
 abbrev pub if_more : Table → List (List ℕ) → List Place
 if_more table [] = []
 if_more table (word ∷ words) = choice table word
 
--- what can stand behind a cut, behind a grant, and behind an event
-unfoldable pub behind_cut : List (List ℕ) → List Place
-behind_cut words = if_more ((codes "reply", node ∷ code ∷ []) ∷ []) words
+-- what was replied
+abbrev pub reply_row : ℕ → List ℕ × List Place
+reply_row version = (codes "reply", node version ∷ code ∷ [])
 
-unfoldable pub behind_grant : List (List ℕ) → List Place
-behind_grant words = if_more ((codes "cut", key ∷ behind_cut (drop 2 words)) ∷ (codes "reply", node ∷ code ∷ []) ∷ []) words
+-- what can stand behind a cut
+unfoldable pub behind_cut : ℕ → List (List ℕ) → List Place
+behind_cut version words = if_more (reply_row version ∷ []) words
 
-unfoldable pub behind_event : List (List ℕ) → List Place
-behind_event words = if_more ((codes "grant", key ∷ key ∷ behind_grant (drop 3 words)) ∷ (codes "cut", key ∷ behind_cut (drop 2 words)) ∷ (codes "reply", node ∷ code ∷ []) ∷ []) words
+-- what was cut, and what stands behind it
+abbrev pub cut_row : ℕ → List (List ℕ) → List ℕ × List Place
+cut_row version words = (codes "cut", key version ∷ behind_cut version (drop 2 words))
 
--- an entry, where there are so many kernels: its kernel, its event, and what stands behind that
-unfoldable pub entry_form : ℕ → List (List ℕ) → List Place
-entry_form kernels words =
-    let event : List Place = event_form kernels (drop 1 words) in
-    kernel kernels ∷ event ++ behind_event (drop (1 + length event) words)
+-- what can stand behind a grant
+unfoldable pub behind_grant : ℕ → List (List ℕ) → List Place
+behind_grant version words = if_more (cut_row version words ∷ reply_row version ∷ []) words
+
+-- what was granted, and what stands behind it
+abbrev pub grant_row : ℕ → List (List ℕ) → List ℕ × List Place
+grant_row version words = (codes "grant", key version ∷ key version ∷ behind_grant version (drop 3 words))
+
+-- what can stand behind an event
+unfoldable pub behind_event : ℕ → List (List ℕ) → List Place
+behind_event version words = if_more (grant_row version words ∷ cut_row version words ∷ reply_row version ∷ []) words
+
+-- an entry of a report of that version, where there are so many kernels: its kernel, its event, and what stands behind that
+unfoldable pub entry_form : (version kernels : ℕ) → List (List ℕ) → List Place
+entry_form version kernels words =
+    let event : List Place = event_form version kernels (drop 1 words) in
+    kernel kernels ∷ event ++ behind_event version (drop (1 + length event) words)
 
 -- whether memory stands at a place and ends past 2 ^ 32
 abbrev pub is_long_at : List (List ℕ) → ℕ → Bool
@@ -96,5 +110,5 @@ unfoldable pub has_long_memory : List (List ℕ) → Bool
 has_long_memory words = (stands_at words 3 (codes "obtain-ok") && is_long_at words 6) || (stands_at words 3 (codes "delegate-req") && is_long_at words 5)
 
 -- what is wrong with the words of an entry
-unfoldable pub entry_fault : ℕ → List (List ℕ) → Option Cause
-entry_fault kernels words = option_or (form_fault (entry_form kernels words) words) (if has_long_memory words then Some OutOfRange else None)
+unfoldable pub entry_fault : (version kernels : ℕ) → List (List ℕ) → Option Cause
+entry_fault version kernels words = option_or (form_fault (entry_form version kernels words) words) (if has_long_memory words then Some OutOfRange else None)

@@ -3,3 +3,4 @@ pub mod ReportText
 pub mod EntryForms
 pub mod EntryRanges
 pub mod ShownWords
+pub mod Readers

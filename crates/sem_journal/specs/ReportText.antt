@@ -27,7 +27,7 @@ journal_lines J = (codes "journal" ∷ decimal (length J) ∷ []) ∷ map entry_
 
 abbrev pub report_lines : Setup → List Entry → ℕ → ℕ → List (KeyName × ℕ) → List (List (List ℕ))
 report_lines T J made cut held =
-    (codes "semper" ∷ codes "report" ∷ codes "1" ∷ [])
+    (codes "semper" ∷ codes "report" ∷ decimal T.version ∷ [])
     ∷ trace_lines T
     ++ journal_lines J
     ++ audit_lines made cut held

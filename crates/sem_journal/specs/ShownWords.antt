@@ -12,10 +12,10 @@ use Rattle.sem_journal.specs.EntryRanges.{GrantFits, CutFits, ReplyFits}
 abbrev pub shown_words : Shown → List (List ℕ)
 shown_words o = grant_words o.grant ++ cut_words o.cut ++ reply_words o.reply
 
-pub record ShownFits (o : Shown) : Type 0 where
-  pub grant : GrantFits o.grant
-  pub cut : CutFits o.cut
-  pub reply : ReplyFits o.reply
+pub record ShownFits (version : ℕ) (o : Shown) : Type 0 where
+  pub grant : GrantFits version o.grant
+  pub cut : CutFits version o.cut
+  pub reply : ReplyFits version o.reply
 
 -- memory that ends past 2 ^ 32
 abbrev pub is_long : Object → Bool

@@ -1,20 +1,21 @@
 // Entries, read from the left.
-ghost use Rattle.std.specs.Prelude.{◌≡◌, ℕ, ◌-◌, ◌<◌, ◌≤◌, [], ◌∷◌, ◌++◌, drop, codes, decimal, Some, IfOk, IfErr, OnOk};
+#![tactic(auto, unfolding(sem_trace::specs::Forms::form_fault, crate::specs::EntryForms::events, crate::specs::EntryForms::event_form, crate::specs::EntryForms::behind_cut, crate::specs::EntryForms::behind_grant, crate::specs::EntryForms::behind_event))]
+
+ghost use Rattle.std.specs.Prelude.{◌≡◌, ℕ, ◌≤◌, ◌∷◌, codes, IfOk};
 ghost use Rattle.std.specs.Result.{result_err};
 ghost use Rattle.sem_trace.specs.TextLines.{words_of};
-ghost use Rattle.sem_trace.specs.Forms.{form_fault, choice, word_at, node, word, key as key_lem, calls};
-ghost use Rattle.sem_trace.specs.Forms.Place.{Word};
-ghost use Rattle.sem_trace.specs.Places.{Fills, Fails};
-ghost use Rattle.sem_journal.specs.EntryText.{message_words, act_words, consent_word, detail_words, cut_words, reply_words, entry_words};
-ghost use Rattle.sem_journal.specs.EntryForms.{kernel as kernel_lem, code as code_lem, message_form, event_form, behind_cut as behind_cut_lem, behind_grant as behind_grant_lem, behind_event, entry_fault};
-ghost use Rattle.sem_journal.specs.ShownWords.{shown_words, ShownFits, is_long as is_long_lem, carries_long as carries_long_lem};
-ghost use Rattle.sem_journal.specs.EntryRanges.{MessageFits, EventFits, ReplyFits, CutFits, EntryFits};
+ghost use Rattle.sem_journal.specs.EntryText.{entry_words};
+ghost use Rattle.sem_trace.specs.Places.{number_place};
+ghost use Rattle.sem_journal.specs.EntryForms.{kernel as kernel_lem, entry_fault};
+ghost use Rattle.sem_journal.specs.ShownWords.{is_long as is_long_lem, carries_long as carries_long_lem};
+ghost use Rattle.sem_journal.specs.EntryRanges.{EntryFits};
+ghost use Rattle.sem_journal.specs.Readers.{ReadsKernel, ReadsConsent, ReadsEvent, ReadsCarried, ReadsReply, ReadsCut, ReadsBehindCut, ReadsBehindGrant, ReadsShown};
 
-use crate::read_message::{CODE, message, two_keys};
+use crate::read_message::{CODE, message, two_keys, vpe};
 use crate::shown::Shown;
 use sem_key::{Key, Object};
 use sem_msg::{Act, Consent, Detail, Entry, Event, Message, Reply};
-use sem_trace::{Cause, NODE, Range, WORD, Words, is};
+use sem_trace::{Cause, Range, WORD, Words, is};
 
 // Nothing came of it.
 const NOTHING: Shown = Shown {
@@ -26,8 +27,7 @@ const NOTHING: Shown = Shown {
 // One of so many kernels.
 fn kernel_range(kernels: u32) -> Range
     requires { 1 ≤ kernels }
-    ensures least { result.least ≡ 0 }
-    ensures most { result.most ≡ kernels - 1 }
+    ensures { number_place result ≡ kernel_lem kernels }
 {
     Range {
         least: 0,
@@ -35,15 +35,23 @@ fn kernel_range(kernels: u32) -> Range
     }
 }
 
-fn call_event(words: &mut Words<'_>) -> Result<(Act, Detail), Cause>
-    ensures ok { OnOk result (Fills (node ∷ word ∷ choice calls (word_at words.old 2)) words.old words.new) }
-    ensures err { IfErr result (Fails (node ∷ word ∷ choice calls (word_at words.old 2)) words.old) }
-    ensures printed { IfOk result (λ p. codes "call" ∷ words.old ≡ act_words p.0 ++ detail_words p.1 ++ words.new) }
-    ensures fits { (kernels : ℕ) → IfOk result (λ p. EventFits kernels p.0 p.1) }
+// The next word, which is one of so many kernels.
+fn kernel(words: &mut Words<'_>, kernels: u32) -> Result<u32, Cause>
+    requires { 1 ≤ kernels }
+    ensures { ReadsKernel kernels words.old words.new result }
 {
-    let [vpe, index, ..] = words.numbers(&[NODE, WORD])?;
-    let call = words.call()?;
-    let act = Act::Call { vpe: vpe as u16 };
+    let kernel = words.number(kernel_range(kernels))?;
+    Ok(kernel as u32)
+}
+
+fn call_event(words: &mut Words<'_>, version: u8) -> Result<(Act, Detail), Cause>
+    ensures { (kernels : ℕ)
+        → ReadsEvent version kernels (codes "call" ∷ words.old) words.new result }
+{
+    let vpe = vpe(words, version)?;
+    let index = words.number(WORD)?;
+    let call = words.call(version)?;
+    let act = Act::Call { vpe };
     let detail = Detail::Called {
         index: index as u32,
         call,
@@ -52,57 +60,42 @@ fn call_event(words: &mut Words<'_>) -> Result<(Act, Detail), Cause>
 }
 
 // A message, behind its other kernel.
-fn carried(words: &mut Words<'_>, kernels: u32) -> Result<(u32, Message), Cause>
+fn carried(words: &mut Words<'_>, version: u8, kernels: u32) -> Result<(u32, Message), Cause>
     requires { 1 ≤ kernels }
-    ensures ok { OnOk result (Fills (kernel_lem kernels ∷ message_form (drop 1 words.old)) words.old words.new) }
-    ensures err { IfErr result (Fails (kernel_lem kernels ∷ message_form (drop 1 words.old)) words.old) }
-    ensures printed { IfOk result (λ p. words.old ≡ decimal p.0 ∷ message_words p.1 ++ words.new) }
-    ensures peer { IfOk result (λ p. p.0 < kernels) }
-    ensures fits { IfOk result (λ p. MessageFits p.1) }
+    ensures { ReadsCarried version kernels words.old words.new result }
 {
-    let peer = words.number(kernel_range(kernels))?;
-    let message = message(words)?;
-    Ok((peer as u32, message))
+    let peer = kernel(words, kernels)?;
+    let message = message(words, version)?;
+    Ok((peer, message))
 }
 
-fn fetch_event(words: &mut Words<'_>, kernels: u32) -> Result<(Act, Detail), Cause>
+fn fetch_event(words: &mut Words<'_>, version: u8, kernels: u32) -> Result<(Act, Detail), Cause>
     requires { 1 ≤ kernels }
-    ensures ok { OnOk result (Fills (kernel_lem kernels ∷ message_form (drop 1 words.old)) words.old words.new) }
-    ensures err { IfErr result (Fails (kernel_lem kernels ∷ message_form (drop 1 words.old)) words.old) }
-    ensures printed { IfOk result (λ p. codes "fetch" ∷ words.old ≡ act_words p.0 ++ detail_words p.1 ++ words.new) }
-    ensures fits { IfOk result (λ p. EventFits kernels p.0 p.1) }
+    ensures { ReadsEvent version kernels (codes "fetch" ∷ words.old) words.new result }
 {
-    let (peer, message) = carried(words, kernels)?;
+    let (peer, message) = carried(words, version, kernels)?;
     Ok((Act::Fetch { from: peer }, Detail::Carried { peer, message }))
 }
 
-fn handle_event(words: &mut Words<'_>, kernels: u32) -> Result<(Act, Detail), Cause>
+fn handle_event(words: &mut Words<'_>, version: u8, kernels: u32) -> Result<(Act, Detail), Cause>
     requires { 1 ≤ kernels }
-    ensures ok { OnOk result (Fills (kernel_lem kernels ∷ message_form (drop 1 words.old)) words.old words.new) }
-    ensures err { IfErr result (Fails (kernel_lem kernels ∷ message_form (drop 1 words.old)) words.old) }
-    ensures printed { IfOk result (λ p. codes "handle" ∷ words.old ≡ act_words p.0 ++ detail_words p.1 ++ words.new) }
-    ensures fits { IfOk result (λ p. EventFits kernels p.0 p.1) }
+    ensures { ReadsEvent version kernels (codes "handle" ∷ words.old) words.new result }
 {
-    let (peer, message) = carried(words, kernels)?;
+    let (peer, message) = carried(words, version, kernels)?;
     Ok((Act::Handle, Detail::Carried { peer, message }))
 }
 
-fn flush_event(words: &mut Words<'_>, kernels: u32) -> Result<(Act, Detail), Cause>
+fn flush_event(words: &mut Words<'_>, version: u8, kernels: u32) -> Result<(Act, Detail), Cause>
     requires { 1 ≤ kernels }
-    ensures ok { OnOk result (Fills (kernel_lem kernels ∷ message_form (drop 1 words.old)) words.old words.new) }
-    ensures err { IfErr result (Fails (kernel_lem kernels ∷ message_form (drop 1 words.old)) words.old) }
-    ensures printed { IfOk result (λ p. codes "flush" ∷ words.old ≡ act_words p.0 ++ detail_words p.1 ++ words.new) }
-    ensures fits { IfOk result (λ p. EventFits kernels p.0 p.1) }
+    ensures { ReadsEvent version kernels (codes "flush" ∷ words.old) words.new result }
 {
-    let (peer, message) = carried(words, kernels)?;
+    let (peer, message) = carried(words, version, kernels)?;
     Ok((Act::Flush { to: peer }, Detail::Carried { peer, message }))
 }
 
 // The answer to an ask.
 fn consent(words: &mut Words<'_>) -> Result<Consent, Cause>
-    ensures ok { OnOk result (Fills (Word (codes "yes" ∷ codes "no" ∷ codes "drop" ∷ []) ∷ []) words.old words.new) }
-    ensures err { IfErr result (Fails (Word (codes "yes" ∷ codes "no" ∷ codes "drop" ∷ []) ∷ []) words.old) }
-    ensures printed { IfOk result (λ answer. words.old ≡ consent_word answer ∷ words.new) }
+    ensures { ReadsConsent words.old words.new result }
 {
     let answer = words.word()?;
     if is(answer, b"yes") {
@@ -116,106 +109,79 @@ fn consent(words: &mut Words<'_>) -> Result<Consent, Cause>
     }
 }
 
-fn upcall_event(words: &mut Words<'_>) -> Result<(Act, Detail), Cause>
-    ensures ok { OnOk result (Fills (node ∷ node ∷ Word (codes "yes" ∷ codes "no" ∷ codes "drop" ∷ []) ∷ []) words.old words.new) }
-    ensures err { IfErr result (Fails (node ∷ node ∷ Word (codes "yes" ∷ codes "no" ∷ codes "drop" ∷ []) ∷ []) words.old) }
-    ensures printed { IfOk result (λ p. codes "upcall" ∷ words.old ≡ act_words p.0 ++ detail_words p.1 ++ words.new) }
-    ensures fits { (kernels : ℕ) → IfOk result (λ p. EventFits kernels p.0 p.1) }
+fn upcall_event(words: &mut Words<'_>, version: u8) -> Result<(Act, Detail), Cause>
+    ensures { (kernels : ℕ)
+        → ReadsEvent version kernels (codes "upcall" ∷ words.old) words.new result }
 {
-    let [vpe, asker, ..] = words.numbers(&[NODE, NODE])?;
+    let asked = vpe(words, version)?;
+    let asker = vpe(words, version)?;
     let answer = consent(words)?;
-    let act = Act::Upcall { vpe: vpe as u16 };
-    let detail = Detail::Asked {
-        asker: asker as u16,
-        answer,
-    };
-    Ok((act, detail))
+    Ok((Act::Upcall { vpe: asked }, Detail::Asked { asker, answer }))
 }
 
-fn resume_event(words: &mut Words<'_>) -> Result<(Act, Detail), Cause>
-    ensures ok { OnOk result (Fills (node ∷ []) words.old words.new) }
-    ensures err { IfErr result (Fails (node ∷ []) words.old) }
-    ensures printed { IfOk result (λ p. codes "resume" ∷ words.old ≡ act_words p.0 ++ detail_words p.1 ++ words.new) }
-    ensures fits { (kernels : ℕ) → IfOk result (λ p. EventFits kernels p.0 p.1) }
+fn resume_event(words: &mut Words<'_>, version: u8) -> Result<(Act, Detail), Cause>
+    ensures { (kernels : ℕ)
+        → ReadsEvent version kernels (codes "resume" ∷ words.old) words.new result }
 {
-    let vpe = words.number(NODE)?;
-    Ok((Act::Resume { vpe: vpe as u16 }, Detail::Nothing))
+    let vpe = vpe(words, version)?;
+    Ok((Act::Resume { vpe }, Detail::Nothing))
 }
 
-fn kill_event(words: &mut Words<'_>) -> Result<(Act, Detail), Cause>
-    ensures ok { OnOk result (Fills (node ∷ []) words.old words.new) }
-    ensures err { IfErr result (Fails (node ∷ []) words.old) }
-    ensures printed { IfOk result (λ p. codes "kill" ∷ words.old ≡ act_words p.0 ++ detail_words p.1 ++ words.new) }
-    ensures fits { (kernels : ℕ) → IfOk result (λ p. EventFits kernels p.0 p.1) }
+fn kill_event(words: &mut Words<'_>, version: u8) -> Result<(Act, Detail), Cause>
+    ensures { (kernels : ℕ)
+        → ReadsEvent version kernels (codes "kill" ∷ words.old) words.new result }
 {
-    let vpe = words.number(NODE)?;
-    Ok((Act::Kill { vpe: vpe as u16 }, Detail::Nothing))
+    let vpe = vpe(words, version)?;
+    Ok((Act::Kill { vpe }, Detail::Nothing))
 }
 
 // The next words, which are an event.
-fn event(words: &mut Words<'_>, kernels: u32) -> Result<(Act, Detail), Cause>
+fn event(words: &mut Words<'_>, version: u8, kernels: u32) -> Result<(Act, Detail), Cause>
     requires { 1 ≤ kernels }
-    ensures ok { OnOk result (Fills (event_form kernels words.old) words.old words.new) }
-    ensures err { IfErr result (Fails (event_form kernels words.old) words.old) }
-    ensures printed { IfOk result (λ p. words.old ≡ act_words p.0 ++ detail_words p.1 ++ words.new) }
-    ensures fits { IfOk result (λ p. EventFits kernels p.0 p.1) }
+    ensures { ReadsEvent version kernels words.old words.new result }
 {
     let name = words.word()?;
     if is(name, b"call") {
-        call_event(words)
+        call_event(words, version)
     } else if is(name, b"fetch") {
-        fetch_event(words, kernels)
+        fetch_event(words, version, kernels)
     } else if is(name, b"handle") {
-        handle_event(words, kernels)
+        handle_event(words, version, kernels)
     } else if is(name, b"upcall") {
-        upcall_event(words)
+        upcall_event(words, version)
     } else if is(name, b"resume") {
-        resume_event(words)
+        resume_event(words, version)
     } else if is(name, b"flush") {
-        flush_event(words, kernels)
+        flush_event(words, version, kernels)
     } else if is(name, b"kill") {
-        kill_event(words)
+        kill_event(words, version)
     } else {
         Err(Cause::UnknownWord)
     }
 }
 
-// The two numbers of a reply.
-fn reply_numbers(words: &mut Words<'_>) -> Result<Reply, Cause>
-    ensures ok { OnOk result (Fills (node ∷ code_lem ∷ []) words.old words.new) }
-    ensures err { IfErr result (Fails (node ∷ code_lem ∷ []) words.old) }
-    ensures printed { IfOk result (λ r. codes "reply" ∷ words.old ≡ reply_words (Some r) ++ words.new) }
-    ensures fits { IfOk result (λ r. ReplyFits (Some r)) }
+// What stands behind the name of a reply.
+fn reply(words: &mut Words<'_>, version: u8) -> Result<Reply, Cause>
+    ensures { ReadsReply version words.old result }
 {
-    let [vpe, code, ..] = words.numbers(&[NODE, CODE])?;
+    let vpe = vpe(words, version)?;
+    let code = words.number(CODE)?;
+    words.no_more()?;
     Ok(Reply {
-        vpe: vpe as u16,
+        vpe,
         code: code as u8,
     })
 }
 
-// What stands behind the name of a reply.
-fn reply(words: &mut Words<'_>) -> Result<Reply, Cause>
-    ensures fault { form_fault (node ∷ code_lem ∷ []) words.old ≡ result_err result }
-    ensures printed { IfOk result (λ r. codes "reply" ∷ words.old ≡ reply_words (Some r)) }
-    ensures fits { IfOk result (λ r. ReplyFits (Some r)) }
-{
-    let reply = reply_numbers(words)?;
-    words.no_more()?;
-    Ok(reply)
-}
-
 // What stands behind a cut.
-fn behind_cut(words: &mut Words<'_>) -> Result<Option<Reply>, Cause>
-    ensures fault { form_fault (behind_cut_lem words.old) words.old ≡ result_err result }
-    ensures printed { IfOk result (λ r. words.old ≡ reply_words r) }
-    ensures fits { IfOk result ReplyFits }
+fn behind_cut(words: &mut Words<'_>, version: u8) -> Result<Option<Reply>, Cause>
+    ensures { ReadsBehindCut version words.old result }
 {
     let Some(name) = words.next_word() else {
         return Ok(None);
     };
     if is(name, b"reply") {
-        let reply = reply(words)?;
+        let reply = reply(words, version)?;
         Ok(Some(reply))
     } else {
         Err(Cause::UnknownWord)
@@ -223,32 +189,26 @@ fn behind_cut(words: &mut Words<'_>) -> Result<Option<Reply>, Cause>
 }
 
 // What stands behind the name of a cut.
-fn cut(words: &mut Words<'_>) -> Result<(Key, Option<Reply>), Cause>
-    ensures fault { form_fault (key_lem ∷ behind_cut_lem (drop 1 words.old)) words.old ≡ result_err result }
-    ensures printed { IfOk result (λ p. codes "cut" ∷ words.old ≡ cut_words (Some p.0) ++ reply_words p.1) }
-    ensures cut { IfOk result (λ p. CutFits (Some p.0)) }
-    ensures reply { IfOk result (λ p. ReplyFits p.1) }
+fn cut(words: &mut Words<'_>, version: u8) -> Result<(Key, Option<Reply>), Cause>
+    ensures { ReadsCut version words.old result }
 {
-    let key = words.key()?;
-    let reply = behind_cut(words)?;
+    let key = words.key(version)?;
+    let reply = behind_cut(words, version)?;
     Ok((key, reply))
 }
 
 // What stands behind a grant.
-fn behind_grant(words: &mut Words<'_>) -> Result<(Option<Key>, Option<Reply>), Cause>
-    ensures fault { form_fault (behind_grant_lem words.old) words.old ≡ result_err result }
-    ensures printed { IfOk result (λ p. words.old ≡ cut_words p.0 ++ reply_words p.1) }
-    ensures cut { IfOk result (λ p. CutFits p.0) }
-    ensures reply { IfOk result (λ p. ReplyFits p.1) }
+fn behind_grant(words: &mut Words<'_>, version: u8) -> Result<(Option<Key>, Option<Reply>), Cause>
+    ensures { ReadsBehindGrant version words.old result }
 {
     let Some(name) = words.next_word() else {
         return Ok((None, None));
     };
     if is(name, b"cut") {
-        let (key, reply) = cut(words)?;
+        let (key, reply) = cut(words, version)?;
         Ok((Some(key), reply))
     } else if is(name, b"reply") {
-        let reply = reply(words)?;
+        let reply = reply(words, version)?;
         Ok((None, Some(reply)))
     } else {
         Err(Cause::UnknownWord)
@@ -256,13 +216,11 @@ fn behind_grant(words: &mut Words<'_>) -> Result<(Option<Key>, Option<Reply>), C
 }
 
 // What stands behind the name of a grant.
-fn grant(words: &mut Words<'_>) -> Result<Shown, Cause>
-    ensures fault { form_fault (key_lem ∷ key_lem ∷ behind_grant_lem (drop 2 words.old)) words.old ≡ result_err result }
-    ensures printed { IfOk result (λ o. codes "grant" ∷ words.old ≡ shown_words o) }
-    ensures fits { IfOk result ShownFits }
+fn grant(words: &mut Words<'_>, version: u8) -> Result<Shown, Cause>
+    ensures { ReadsShown version (codes "grant" ∷ words.old) result }
 {
-    let (parent, child) = two_keys(words)?;
-    let (cut, reply) = behind_grant(words)?;
+    let (parent, child) = two_keys(words, version)?;
+    let (cut, reply) = behind_grant(words, version)?;
     Ok(Shown {
         grant: Some((parent, child)),
         cut,
@@ -271,25 +229,23 @@ fn grant(words: &mut Words<'_>) -> Result<Shown, Cause>
 }
 
 // What stands behind an event.
-fn shown(words: &mut Words<'_>) -> Result<Shown, Cause>
-    ensures fault { form_fault (behind_event words.old) words.old ≡ result_err result }
-    ensures printed { IfOk result (λ o. words.old ≡ shown_words o) }
-    ensures fits { IfOk result ShownFits }
+fn shown(words: &mut Words<'_>, version: u8) -> Result<Shown, Cause>
+    ensures { ReadsShown version words.old result }
 {
     let Some(name) = words.next_word() else {
         return Ok(NOTHING);
     };
     if is(name, b"grant") {
-        grant(words)
+        grant(words, version)
     } else if is(name, b"cut") {
-        let (key, reply) = cut(words)?;
+        let (key, reply) = cut(words, version)?;
         Ok(Shown {
             cut: Some(key),
             reply,
             ..NOTHING
         })
     } else if is(name, b"reply") {
-        let reply = reply(words)?;
+        let reply = reply(words, version)?;
         Ok(Shown {
             reply: Some(reply),
             ..NOTHING
@@ -322,25 +278,23 @@ fn carries_long(detail: &Detail) -> bool
     }
 }
 
-/// The entry that the words of a line tell, where there are so many kernels, at least 1. Takes no memory.
-pub fn read_entry(line: &[u8], kernels: u32) -> Result<Entry, Cause>
+/// The entry that the words of a line tell in a report of the version, where there are so many
+/// kernels, at least 1. Takes no memory.
+pub fn read_entry(line: &[u8], version: u8, kernels: u32) -> Result<Entry, Cause>
     requires { 1 ≤ kernels }
-    ensures fault { entry_fault kernels (words_of line.now) ≡ result_err result }
+    ensures fault { entry_fault version kernels (words_of line.now) ≡ result_err result }
     ensures printed { IfOk result (λ e. words_of line.now ≡ entry_words e) }
-    ensures fits { IfOk result (EntryFits kernels) }
+    ensures fits { IfOk result (EntryFits version kernels) }
 {
     let mut words = Words::of(line);
-    let kernel = words.number(kernel_range(kernels))?;
-    let (act, detail) = event(&mut words, kernels)?;
-    let shown = shown(&mut words)?;
+    let kernel = kernel(&mut words, kernels)?;
+    let (act, detail) = event(&mut words, version, kernels)?;
+    let shown = shown(&mut words, version)?;
     if carries_long(&detail) {
         return Err(Cause::OutOfRange);
     }
     Ok(Entry {
-        event: Event {
-            kernel: kernel as u32,
-            act,
-        },
+        event: Event { kernel, act },
         detail,
         grant: shown.grant,
         cut: shown.cut,

@@ -9,11 +9,12 @@ use std::test::Fail;
 fn read_and_printed(
     alloc: Global,
     line: &[u8],
+    version: u8,
     kernels: u32,
 ) -> Result<Result<Vec<u8>, Cause>, Fail>
     requires { 1 ≤ kernels }
 {
-    match read_entry(line, kernels) {
+    match read_entry(line, version, kernels) {
         Ok(entry) => {
             let mut out = Vec::new(alloc);
             print_entry(alloc, &entry, &mut out)?;
@@ -65,7 +66,26 @@ fn each_event_message_object_and_target_is_read_as_it_is_printed(
         "0 call 0 1 clear 0 cut 0.0.1.0",
         "1 call 1 0 clear 255 reply 1 3",
     ] {
-        let out = read_and_printed(rt.alloc(), line.as_bytes(), 16)?;
+        let out = read_and_printed(rt.alloc(), line.as_bytes(), 1, 16)?;
+        let Ok(out) = out else {
+            assert!(rt; false, "{line:?} is read");
+            continue;
+        };
+        assert!(rt; out.len() == line.len() + 1, "{line:?} is printed so");
+        assert_eq!(rt; &out[..line.len()], line.as_bytes(), "{line:?}");
+    }
+    Ok(())
+}
+
+#[test]
+fn version_two_names_the_vpes_up_to_127(rt: HostRuntime) -> Result<(), Fail> {
+    for line in [
+        "31 call 127 0 obtain 5 64 0",
+        "31 flush 0 obtain-req 127.127.4095 sel 127 255",
+        "0 handle 31 obtain-ok 0.0.5.0 127.127.5.4095 sess 127.127.4.4095 127",
+        "0 upcall 127 64 yes grant 127.127.1.4095 64.64.1.0 cut 127.64.1.0 reply 127 15",
+    ] {
+        let out = read_and_printed(rt.alloc(), line.as_bytes(), 2, 32)?;
         let Ok(out) = out else {
             assert!(rt; false, "{line:?} is read");
             continue;
@@ -77,10 +97,10 @@ fn each_event_message_object_and_target_is_read_as_it_is_printed(
 }
 
 // Why the line tells no entry.
-fn refusal(line: &[u8], kernels: u32) -> Option<Cause>
+fn refusal(line: &[u8], version: u8, kernels: u32) -> Option<Cause>
     requires { 1 ≤ kernels }
 {
-    match read_entry(line, kernels) {
+    match read_entry(line, version, kernels) {
         Ok(_) => None,
         Err(cause) => Some(cause),
     }
@@ -148,6 +168,35 @@ fn a_line_that_tells_no_entry_is_refused_at_its_leftmost_bad_word(rt: HostRuntim
             Cause::TooMany,
         ),
     ] {
-        assert_eq!(rt; refusal(line.as_bytes(), 2), Some(cause), "{line:?}");
+        assert_eq!(rt; refusal(line.as_bytes(), 1, 2), Some(cause), "{line:?}");
+    }
+}
+
+#[test]
+fn a_vpe_is_out_of_range_by_the_version(rt: HostRuntime) {
+    for (line, one, two) in [
+        ("0 kill 63", None, None),
+        ("0 kill 64", Some(Cause::OutOfRange), None),
+        ("0 kill 127", Some(Cause::OutOfRange), None),
+        (
+            "0 kill 128",
+            Some(Cause::OutOfRange),
+            Some(Cause::OutOfRange),
+        ),
+        ("0 kill 0 cut 0.64.1.0", Some(Cause::OutOfRange), None),
+        (
+            "0 kill 0 cut 128.0.1.0",
+            Some(Cause::OutOfRange),
+            Some(Cause::OutOfRange),
+        ),
+        (
+            "0 flush 0 obtain-no 127.0.0 0",
+            Some(Cause::OutOfRange),
+            None,
+        ),
+        ("0 call 0 0 delegate 0 127 0", Some(Cause::OutOfRange), None),
+    ] {
+        assert_eq!(rt; refusal(line.as_bytes(), 1, 2), one, "{line:?}");
+        assert_eq!(rt; refusal(line.as_bytes(), 2, 2), two, "{line:?}");
     }
 }

@@ -1,11 +1,10 @@
 -- The tables where nothing is declared.
-use Rattle.std.proofs.Common.{◌≡◌, ℕ, zero, suc, ◌≤◌, false, List, [], length, get_or, None, replicate, refl, ap, ◌∙◌, arith}
+use Rattle.std.proofs.Common.{◌≡◌, ℕ, zero, suc, inl, false, List, [], length, get_or, None, replicate, refl, ap, ◌∙◌, arith}
 use Rattle.std.specs.List.{list_any}
 use Rattle.std.specs.Map.{lookup}
 use Rattle.std.proofs.lemmas.List.{length-replicate}
 use Rattle.sem_key.specs.MembershipTable.{MembershipTable}
-use Rattle.sem_trace.specs.declared.limits.TheConstants.{MOST_KERNELS}
-use Rattle.sem_trace.specs.Earlier.{owner_in, pe_in, is_taken, roots_in, calls_in, has_service, offer_in, is_denied, kill_in, call_number}
+use Rattle.sem_trace.specs.Earlier.{window_in, owner_in, pe_in, is_taken, roots_in, calls_in, has_service, offer_in, is_denied, kill_in, call_number}
 use Rattle.sem_reader.specs.declared.tables.Tables.{Tables}
 use Rattle.sem_reader.specs.Pairs.{is_same_pair}
 use Rattle.sem_reader.specs.Tells.{Tells}
@@ -24,12 +23,15 @@ entry table n x i is = rw is (same_all n x i)
 pub size : {X : Type 0} (table : List X) (n : ℕ) (x : X) → table ≡ replicate n x → length table ≡ n
 size table n x is = ap length is ∙ length-replicate n x
 
-pub tells_nothing : (kernels : ℕ) (t : Tables) (a b c d e f i : ℕ) → 1 ≤ kernels → kernels ≤ MOST_KERNELS → t.owners ≡ record { kernels = kernels; owners = replicate a None } → t.pes ≡ replicate b None → t.taken ≡ replicate c false → t.roots.items ≡ replicate d [] → t.calls.items ≡ replicate e [] → t.call_number ≡ 0 → t.named ≡ replicate f false → t.offers.entries ≡ [] → t.denied.keys ≡ [] → t.kills ≡ replicate i None → Tells kernels [] t
-unfolding owner_in pe_in is_taken roots_in calls_in has_service offer_in is_denied kill_in call_number
-tells_nothing kernels t a b c d e f i some few owners pes taken roots calls count named offers denied kills = record {
-  some = some;
-  few = few;
-  accepted = accepted_none kernels;
+pub tells_nothing : (t : Tables) (a b c d e f i : ℕ) → t.version ≡ 1 → t.window ≡ None → t.owners ≡ record { kernels = 1; owners = replicate a None } → t.pes ≡ replicate b None → t.taken ≡ replicate c false → t.roots.items ≡ replicate d [] → t.calls.items ≡ replicate e [] → t.call_number ≡ 0 → t.named ≡ replicate f false → t.offers.entries ≡ [] → t.denied.keys ≡ [] → t.kills ≡ replicate i None → Tells 1 1 [] t
+unfolding window_in owner_in pe_in is_taken roots_in calls_in has_service offer_in is_denied kill_in call_number
+tells_nothing t a b c d e f i version window owners pes taken roots calls count named offers denied kills = record {
+  versions = inl refl;
+  some = omega arith;
+  few = omega arith;
+  accepted = accepted_none 1 1;
+  same_version = version;
+  window = window;
   number = ap (λ (m : MembershipTable). m.kernels) owners;
   owner = λ p. entry t.owners.owners a None p (ap (λ (m : MembershipTable). m.owners) owners);
   pe = λ v. entry t.pes b None v pes;

@@ -101,19 +101,19 @@ served_root d n (q ∷ rs) (suc i) r name at is =
     (rest.0, Contains-append_right (service_with q.object (root_key d n q)) (services_from d (n + 1) rs) rest.0 rest.1, rest.2)
 
 -- a name that has a service has one of the setup
-has_named : (kernels : ℕ) (ds : List Declaration) → AreAccepted kernels ds → (name : ℕ) → has_service ds name ≡ true → (s : ServiceData) × Contains (services_of (vpes_of ds)) s × (s.name ≡ name)
-has_named kernels ds accepted name some =
-    let by' = served_by kernels ds accepted name some in
-    let d = in_vpes kernels ds accepted by'.vpe by'.declared in
+has_named : (version kernels : ℕ) (ds : List Declaration) → AreAccepted version kernels ds → (name : ℕ) → has_service ds name ≡ true → (s : ServiceData) × Contains (services_of (vpes_of ds)) s × (s.name ≡ name)
+has_named version kernels ds accepted name some =
+    let by' = served_by version kernels ds accepted name some in
+    let d = in_vpes version kernels ds accepted by'.vpe by'.declared in
     let roots : d.0.roots ≡ roots_in ds by'.vpe = (vpe_of ds d.0 d.1).roots ∙ ap (roots_in ds) d.2 in
     let s = served_root d.0 0 d.0.roots by'.place by'.serves.root name (ap (λ (rs : List Root). slice_get rs by'.place) roots ∙ by'.serves.at) by'.serves.is in
-    (s.0, (services_same kernels ds accepted s.0).1 (joins (λ (d : VpeDecl). services_from d 0 d.roots) (vpes_of ds) d.0 s.0 d.1 s.1), s.2)
+    (s.0, (services_same version kernels ds accepted s.0).1 (joins (λ (d : VpeDecl). services_from d 0 d.roots) (vpes_of ds) d.0 s.0 d.1 s.1), s.2)
 
-to_setup : (kernels : ℕ) (ds : List Declaration) → AreAccepted kernels ds → (o : OfferData) → offer_in ds o.name o.index ≡ Some o.sel → Contains (offers_of ds (services_of (vpes_of ds))) o
+to_setup : (version kernels : ℕ) (ds : List Declaration) → AreAccepted version kernels ds → (o : OfferData) → offer_in ds o.name o.index ≡ Some o.sel → Contains (offers_of ds (services_of (vpes_of ds))) o
 unfolding offers_of numbers
-to_setup kernels ds accepted o some =
-    let both = offer_declared kernels ds accepted o.name o.index o.sel some in
-    let s = has_named kernels ds accepted o.name both.0 in
+to_setup version kernels ds accepted o some =
+    let both = offer_declared version kernels ds accepted o.name o.index o.sel some in
+    let s = has_named version kernels ds accepted o.name both.0 in
     let small : o.index ≤ 255 = both.1 in
     let inside : Contains (filter_map (offer_of ds o.name) (range_with_len 0 256)) o = gives (offer_of ds o.name) (range_with_len 0 256) o.index o (range_has 0 256 o.index (omega arith) (omega arith)) (offer_made ds o some) in
     joins (λ (x : ServiceData). filter_map (offer_of ds x.name) (range_with_len 0 256)) (services_of (vpes_of ds)) s.0 o s.1 (subst (λ (n : ℕ). Contains (filter_map (offer_of ds n) (range_with_len 0 256)) o) (sym s.2) inside)
@@ -123,8 +123,8 @@ mapped [] = refl
 mapped (e ∷ es) = ap (λ (os : List OfferData). offer_with e ∷ os) (mapped es)
 
 -- the sorted entries are the offers of the setup
-pub offers_are : (kernels : ℕ) (ds : List Declaration) (entries sorted : List Entry) → AreAccepted kernels ds → ((name index : ℕ) → lookup (is_same_pair (name, index)) entries ≡ offer_in ds name index) → IsDistinct is_same_pair (keys_of entries) → IsPermutation entries sorted → IsSorted compare_entries sorted → map offer_with sorted ≡ offers_of ds (services_of (vpes_of ds))
-offers_are kernels ds entries sorted accepted has apart same rise =
+pub offers_are : (version kernels : ℕ) (ds : List Declaration) (entries sorted : List Entry) → AreAccepted version kernels ds → ((name index : ℕ) → lookup (is_same_pair (name, index)) entries ≡ offer_in ds name index) → IsDistinct is_same_pair (keys_of entries) → IsPermutation entries sorted → IsSorted compare_entries sorted → map offer_with sorted ≡ offers_of ds (services_of (vpes_of ds))
+offers_are version kernels ds entries sorted accepted has apart same rise =
     let made : Entry → OfferData = offer_with in
     let places : IsDistinct is_same_place sorted = IsDistinct-IsPermutation is_same_place (λ a b. flips a.0 b.0) entries sorted same (entries_apart entries apart) in
     let ordered : AllPairs (λ a b. ComesBefore (offer_place a) (offer_place b)) (filter_map (λ (e : Entry). Some (offer_with e)) sorted) =
@@ -137,7 +137,7 @@ offers_are kernels ds entries sorted accepted has apart same rise =
     let is : offer_with e ≡ o = same_Some (offer_with e) o g.gives in
     let found : lookup (is_same_pair e.0) entries ≡ Some e.1 = lookup-from_Contains pairs_equal e.0 e.1 entries apart (Contains-permutation sorted entries e (IsPermutation-sym entries sorted same) g.within) in
     let some : offer_in ds e.0.0 e.0.1 ≡ Some e.1 = sym (has e.0.0 e.0.1) ∙ found in
-    subst (Contains (offers_of ds (services_of (vpes_of ds)))) is (to_setup kernels ds accepted (offer_with e) some))
+    subst (Contains (offers_of ds (services_of (vpes_of ds)))) is (to_setup version kernels ds accepted (offer_with e) some))
     (λ o within.
     let of = offer_of_setup ds (services_of (vpes_of ds)) o within in
     let e : Entry = ((o.name, o.index), o.sel) in

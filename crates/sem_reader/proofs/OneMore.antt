@@ -7,7 +7,7 @@ use Rattle.std.proofs.lemmas.Option.{none-some}
 use Rattle.std.proofs.lemmas.List.Sums.{sum_by_push}
 use Rattle.std.proofs.lemmas.List.{get_or-set_same, get_or-set_other}
 use Rattle.sem_trace.specs.declared.declaration.Declaration.{Declaration}
-use Rattle.sem_trace.specs.Earlier.{first_some, said_owner, owner_in, said_pe, pe_in, says_on, is_taken, said_root, roots_in, said_call, calls_in, says_service, has_service, said_offer, offer_in, says_deny, is_denied, said_kill, kill_in, is_call, call_number, is_end, is_ended}
+use Rattle.sem_trace.specs.Earlier.{first_some, said_window, window_in, said_owner, owner_in, said_pe, pe_in, says_on, is_taken, said_root, roots_in, said_call, calls_in, says_service, has_service, said_offer, offer_in, says_deny, is_denied, said_kill, kill_in, is_call, call_number, is_end, is_ended}
 use Rattle.sem_msg.specs.declared.call.Call.{Call}
 use Rattle.sem_msg.specs.declared.setup.Root.{Root}
 use Rattle.sem_trace.specs.Ranges.{IsInRange}
@@ -127,6 +127,14 @@ pub pe_in-new : (ds : List Declaration) (d : Declaration) (v x : ℕ) → pe_in 
 unfolding pe_in
 pe_in-new ds d v x none some = first_new (said_pe v) ds d x none some
 
+pub window_in-same : (ds : List Declaration) (d : Declaration) → said_window d ≡ None → window_in (ds ++ d ∷ []) ≡ window_in ds
+unfolding window_in
+window_in-same ds d nothing = first_same said_window ds d nothing
+
+pub window_in-new : (ds : List Declaration) (d : Declaration) (x : ℕ) → window_in ds ≡ None → said_window d ≡ Some x → window_in (ds ++ d ∷ []) ≡ Some x
+unfolding window_in
+window_in-new ds d x none some = first_new said_window ds d x none some
+
 pub kill_in-same : (ds : List Declaration) (d : Declaration) (v : ℕ) → said_kill v d ≡ None → kill_in (ds ++ d ∷ []) v ≡ kill_in ds v
 unfolding kill_in
 kill_in-same ds d v nothing = first_same (said_kill v) ds d nothing
@@ -220,16 +228,16 @@ last_or_before (x ∷ xs) (y ∷ ys) after d e is =
     ]
 
 -- a line more with which nothing is wrong
-pub accepted_more : (kernels : ℕ) (ds : List Declaration) (d : Declaration) → AreAccepted kernels ds → IsInRange kernels d → context_fault ds d ≡ None → AreAccepted kernels (ds ++ d ∷ [])
-accepted_more kernels ds d accepted ranges fault before after e is =
+pub accepted_more : (version kernels : ℕ) (ds : List Declaration) (d : Declaration) → AreAccepted version kernels ds → IsInRange version kernels d → context_fault ds d ≡ None → AreAccepted version kernels (ds ++ d ∷ [])
+accepted_more version kernels ds d accepted ranges fault before after e is =
     elim (last_or_before ds before after d e is) [
-      | inl last ↦ (subst (IsInRange kernels) last.1 ranges, rw (← last.0, ← last.1) fault)
+      | inl last ↦ (subst (IsInRange version kernels) last.1 ranges, rw (← last.0, ← last.1) fault)
       | inr earlier ↦ accepted before earlier.0 e earlier.1
     ]
 
-pub accepted_none : (kernels : ℕ) → AreAccepted kernels []
-accepted_none kernels [] after d is = absurd (cons_nil d after (sym is))
-accepted_none kernels (x ∷ xs) after d is = absurd (cons_nil x (xs ++ d ∷ after) (sym is))
+pub accepted_none : (version kernels : ℕ) → AreAccepted version kernels []
+accepted_none version kernels [] after d is = absurd (cons_nil d after (sym is))
+accepted_none version kernels (x ∷ xs) after d is = absurd (cons_nil x (xs ++ d ∷ after) (sym is))
 
 pub owner_in-more : (ds : List Declaration) (d : Declaration) (p : ℕ) → owner_in (ds ++ d ∷ []) p ≡ option_or (owner_in ds p) (said_owner p d)
 unfolding owner_in
@@ -238,6 +246,10 @@ owner_in-more ds d p = first_more (said_owner p) ds d
 pub pe_in-more : (ds : List Declaration) (d : Declaration) (v : ℕ) → pe_in (ds ++ d ∷ []) v ≡ option_or (pe_in ds v) (said_pe v d)
 unfolding pe_in
 pe_in-more ds d v = first_more (said_pe v) ds d
+
+pub window_in-more : (ds : List Declaration) (d : Declaration) → window_in (ds ++ d ∷ []) ≡ option_or (window_in ds) (said_window d)
+unfolding window_in
+window_in-more ds d = first_more said_window ds d
 
 pub kill_in-more : (ds : List Declaration) (d : Declaration) (v : ℕ) → kill_in (ds ++ d ∷ []) v ≡ option_or (kill_in ds v) (said_kill v d)
 unfolding kill_in

@@ -144,11 +144,11 @@ pub length-bare : (ws : List (List ℕ)) → length (bare ws) ≤ width ws
 length-bare [] = omega arith
 length-bare (w ∷ ws) = let rest = length-behind ws in omega (arith, length-append w (behind_blanks ws))
 
-pub length-text : (ls : List (List (List ℕ))) → All (λ ws. width ws ≤ 64) ls → length (text ls) ≤ 65 * length ls
+pub length-text : (ls : List (List (List ℕ))) → All (λ ws. width ws ≤ 60) ls → length (text ls) ≤ 61 * length ls
 length-text [] short = omega arith
 length-text (l ∷ ls) short =
-    let first : width l ≤ 64 = short zero l (omega arith) in
+    let first : width l ≤ 60 = short zero l (omega arith) in
     let bare_ = length-bare l in
-    let rest : length (text ls) ≤ 65 * length ls = length-text ls (λ k d within. short (suc k) d (omega arith)) in
+    let rest : length (text ls) ≤ 61 * length ls = length-text ls (λ k d within. short (suc k) d (omega arith)) in
     let whole : length (line l ++ text ls) ≡ length (bare l ++ 10 ∷ text ls) = ap (λ (bs : List ℕ). length bs) (line_is l (text ls)) in
     omega (arith, length-append (bare l) (10 ∷ text ls))

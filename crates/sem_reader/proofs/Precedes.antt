@@ -11,16 +11,16 @@ use Rattle.sem_key.specs.KeyName.{KeyName}
 use Rattle.sem_msg.specs.declared.setup.Root.{Root}
 use Rattle.sem_msg.specs.declared.setup.Service.{Service as ServiceData}
 use Rattle.sem_msg.specs.declared.setup.VpeDecl.{VpeDecl}
-use Rattle.sem_msg.specs.Setup.{Setup, IsRoot, IsVpeDecl, ComesBefore, offer_place, root_key, services_from, service_with, declared_services}
-use Rattle.sem_trace.specs.TraceText.{TraceFits}
+use Rattle.sem_msg.specs.Setup.{Setup, IsSetup, IsRoot, IsVpeDecl, ComesBefore, offer_place, root_key, services_from, service_with, declared_services}
 use Rattle.sem_trace.specs.declared.declaration.Declaration.{Declaration}
-use Rattle.sem_trace.specs.declared.declaration.Declaration.TheVariants.{Pe, Vpe, Memory, Receive, Service, Offer, Deny, Kill}
-use Rattle.sem_trace.specs.Earlier.{said_owner, said_pe, says_on, said_root, says_service, said_offer, says_deny, said_kill}
-use Rattle.sem_reader.proofs.Enumerated.{here, pairs_nil, joins, pairs_joined, in_range, range_rises}
-use Rattle.sem_reader.proofs.Sections.{root_says, root_decl, pe_decls, vpe_decl, offer_decl, deny_decl, kill_decl, section, said_by, rank, in_map, pairs_mapped, enumerate_rises, in_pe, root_rank, ranked, as_read}
+use Rattle.sem_trace.specs.declared.declaration.Declaration.TheVariants.{Window, Pe, Vpe, Memory, Receive, Service, Offer, Deny, Kill}
+use Rattle.sem_trace.specs.Earlier.{said_window, said_owner, said_pe, says_on, said_root, says_service, said_offer, says_deny, said_kill}
+use Rattle.sem_reader.proofs.Enumerated.{here, pairs_nil, pairs_append, joins, pairs_joined, in_range, range_rises}
+use Rattle.sem_reader.proofs.Sections.{root_says, root_decl, pe_decls, window_decls, all_pes, in_window, in_pes, vpe_decl, offer_decl, deny_decl, kill_decl, section, said_by, rank, in_map, pairs_mapped, enumerate_rises, in_pe, root_rank, ranked}
 
 -- two lines say nothing that is one thing
 pub record Differ (a b : Declaration) : Type 0 where
+  pub window : (m n : ℕ) → said_window a ≡ Some m → said_window b ≡ Some n → ⊥
   pub pe : (p k j : ℕ) → said_owner p a ≡ Some k → said_owner p b ≡ Some j → ⊥
   pub vpe : (v p q : ℕ) → said_pe v a ≡ Some p → said_pe v b ≡ Some q → ⊥
   pub on : (p : ℕ) → says_on p a ≡ true → says_on p b ≡ true → ⊥
@@ -31,6 +31,10 @@ pub record Differ (a b : Declaration) : Type 0 where
   pub kill : (v m n : ℕ) → said_kill v a ≡ Some m → said_kill v b ≡ Some n → ⊥
 
 -- of which rank a line is that says something
+rank_window : (e : Declaration) (n : ℕ) → said_window e ≡ Some n → rank e ≡ 0
+rank_window (Window m) n some = refl
+rank_window e n some = absurd (none-some n some)
+
 rank_owner : (p : ℕ) (e : Declaration) (k : ℕ) → said_owner p e ≡ Some k → rank e ≡ 0
 rank_owner p (Pe q j) k some = refl
 rank_owner p e k some = absurd (none-some k some)
@@ -68,6 +72,7 @@ rank_kill v e n some = absurd (none-some n some)
 -- lines of different ranks
 pub differ_ranks : (a b : Declaration) → rank a ≢ rank b → Differ a b
 differ_ranks a b other = record {
+  window = λ m n x y. other (rank_window a m x ∙ sym (rank_window b n y));
   pe = λ p k j x y. other (rank_owner p a k x ∙ sym (rank_owner p b j y));
   vpe = λ v p q x y. other (rank_pe v a p x ∙ sym (rank_pe v b q y));
   on = λ p x y. other (rank_on p a x ∙ sym (rank_on p b y));
@@ -82,8 +87,9 @@ apart : (m n k : ℕ) → k ≡ m → k ≡ n → m ≢ n → ⊥
 apart m n k a b other = other (sym a ∙ b)
 
 -- two lines of rank 0
-differ_pe : (a b : Declaration) → rank a ≡ 0 → ((p k j : ℕ) → said_owner p a ≡ Some k → said_owner p b ≡ Some j → ⊥) → Differ a b
-differ_pe a b is own_pe = record {
+differ_pe : (a b : Declaration) → rank a ≡ 0 → ((m n : ℕ) → said_window a ≡ Some m → said_window b ≡ Some n → ⊥) → ((p k j : ℕ) → said_owner p a ≡ Some k → said_owner p b ≡ Some j → ⊥) → Differ a b
+differ_pe a b is own_window own_pe = record {
+  window = own_window;
   pe = own_pe;
   vpe = λ v p q x y. apart 0 1 (rank a) is (rank_pe v a p x) (λ e. absurd (omega arith));
   on = λ p x y. apart 0 1 (rank a) is (rank_on p a x) (λ e. absurd (omega arith));
@@ -97,6 +103,7 @@ differ_pe a b is own_pe = record {
 -- two lines of rank 1
 differ_vpe : (a b : Declaration) → rank a ≡ 1 → ((v p q : ℕ) → said_pe v a ≡ Some p → said_pe v b ≡ Some q → ⊥) → ((p : ℕ) → says_on p a ≡ true → says_on p b ≡ true → ⊥) → Differ a b
 differ_vpe a b is own_vpe own_on = record {
+  window = λ m n x y. apart 1 0 (rank a) is (rank_window a m x) (λ e. absurd (omega arith));
   pe = λ p k j x y. apart 1 0 (rank a) is (rank_owner p a k x) (λ e. absurd (omega arith));
   vpe = own_vpe;
   on = own_on;
@@ -110,6 +117,7 @@ differ_vpe a b is own_vpe own_on = record {
 -- two lines of rank 2
 differ_root : (a b : Declaration) → rank a ≡ 2 → ((v : ℕ) (r s : Root) → said_root v a ≡ Some r → said_root v b ≡ Some s → r.sel ≡ s.sel → ⊥) → ((n : ℕ) → says_service n a ≡ true → says_service n b ≡ true → ⊥) → Differ a b
 differ_root a b is own_root own_service = record {
+  window = λ m n x y. apart 2 0 (rank a) is (rank_window a m x) (λ e. absurd (omega arith));
   pe = λ p k j x y. apart 2 0 (rank a) is (rank_owner p a k x) (λ e. absurd (omega arith));
   vpe = λ v p q x y. apart 2 1 (rank a) is (rank_pe v a p x) (λ e. absurd (omega arith));
   on = λ p x y. apart 2 1 (rank a) is (rank_on p a x) (λ e. absurd (omega arith));
@@ -123,6 +131,7 @@ differ_root a b is own_root own_service = record {
 -- two lines of rank 3
 differ_offer : (a b : Declaration) → rank a ≡ 3 → ((n i s t : ℕ) → said_offer n i a ≡ Some s → said_offer n i b ≡ Some t → ⊥) → Differ a b
 differ_offer a b is own_offer = record {
+  window = λ m n x y. apart 3 0 (rank a) is (rank_window a m x) (λ e. absurd (omega arith));
   pe = λ p k j x y. apart 3 0 (rank a) is (rank_owner p a k x) (λ e. absurd (omega arith));
   vpe = λ v p q x y. apart 3 1 (rank a) is (rank_pe v a p x) (λ e. absurd (omega arith));
   on = λ p x y. apart 3 1 (rank a) is (rank_on p a x) (λ e. absurd (omega arith));
@@ -136,6 +145,7 @@ differ_offer a b is own_offer = record {
 -- two lines of rank 4
 differ_deny : (a b : Declaration) → rank a ≡ 4 → ((v w : ℕ) → says_deny v w a ≡ true → says_deny v w b ≡ true → ⊥) → Differ a b
 differ_deny a b is own_deny = record {
+  window = λ m n x y. apart 4 0 (rank a) is (rank_window a m x) (λ e. absurd (omega arith));
   pe = λ p k j x y. apart 4 0 (rank a) is (rank_owner p a k x) (λ e. absurd (omega arith));
   vpe = λ v p q x y. apart 4 1 (rank a) is (rank_pe v a p x) (λ e. absurd (omega arith));
   on = λ p x y. apart 4 1 (rank a) is (rank_on p a x) (λ e. absurd (omega arith));
@@ -149,6 +159,7 @@ differ_deny a b is own_deny = record {
 -- two lines of rank 5
 differ_kill : (a b : Declaration) → rank a ≡ 5 → ((v m n : ℕ) → said_kill v a ≡ Some m → said_kill v b ≡ Some n → ⊥) → Differ a b
 differ_kill a b is own_kill = record {
+  window = λ m n x y. apart 5 0 (rank a) is (rank_window a m x) (λ e. absurd (omega arith));
   pe = λ p k j x y. apart 5 0 (rank a) is (rank_owner p a k x) (λ e. absurd (omega arith));
   vpe = λ v p q x y. apart 5 1 (rank a) is (rank_pe v a p x) (λ e. absurd (omega arith));
   on = λ p x y. apart 5 1 (rank a) is (rank_on p a x) (λ e. absurd (omega arith));
@@ -162,6 +173,7 @@ differ_kill a b is own_kill = record {
 -- two lines of rank 6
 differ_other : (a b : Declaration) → rank a ≡ 6 → Differ a b
 differ_other a b is = record {
+  window = λ m n x y. apart 6 0 (rank a) is (rank_window a m x) (λ e. absurd (omega arith));
   pe = λ p k j x y. apart 6 0 (rank a) is (rank_owner p a k x) (λ e. absurd (omega arith));
   vpe = λ v p q x y. apart 6 1 (rank a) is (rank_pe v a p x) (λ e. absurd (omega arith));
   on = λ p x y. apart 6 1 (rank a) is (rank_on p a x) (λ e. absurd (omega arith));
@@ -194,7 +206,11 @@ if_both a b c d x y some =
     ]
 
 pe_apart : (p k q j : ℕ) → p ≢ q → Differ (Pe p k) (Pe q j)
-pe_apart p k q j other = differ_pe (Pe p k) (Pe q j) refl (λ x m n a b. other ((if_same p x k m a).0 ∙ sym (if_same q x j n b).0))
+pe_apart p k q j other = differ_pe (Pe p k) (Pe q j) refl (λ m n a b. absurd (none-some m a)) (λ x m n a b. other ((if_same p x k m a).0 ∙ sym (if_same q x j n b).0))
+
+-- the line of the window and one of a PE
+window_apart : (w q j : ℕ) → Differ (Window w) (Pe q j)
+window_apart w q j = differ_pe (Window w) (Pe q j) refl (λ m n a b. absurd (none-some n b)) (λ x m n a b. absurd (none-some m a))
 
 vpe_apart : (v p w q : ℕ) → v ≢ w → p ≢ q → Differ (Vpe v p) (Vpe w q)
 vpe_apart v p w q other on = differ_vpe (Vpe v p) (Vpe w q) refl (λ x m n a b. other ((if_same v x p m a).0 ∙ sym (if_same w x q n b).0)) (λ x a b. on (eqb-true p x a ∙ sym (eqb-true q x b)))
@@ -279,11 +295,11 @@ pub record Has (T : Setup) (d : VpeDecl) (i n : ℕ) : Type 0 where
   pub at : slice_get d.roots i ≡ Some root
   pub serves : root.object ≡ Serv n
 
-pub has_once : (T : Setup) → TraceFits (as_read T) → (d e : VpeDecl) (i j n : ℕ) → Has T d i n → Has T e j n → (d.vpe ≡ e.vpe) × (i ≡ j)
+pub has_once : (T : Setup) → IsSetup T → (d e : VpeDecl) (i j n : ℕ) → Has T d i n → Has T e j n → (d.vpe ≡ e.vpe) × (i ≡ j)
 has_once T fits d e i j n a b =
     let s : Contains (declared_services T) (keyed n (root_key d (0 + i) a.root)) = joins (λ (x : VpeDecl). services_from x 0 x.roots) T.vpes d _ a.declared (has_service_key d 0 d.roots i n a.root a.at a.serves) in
     let t : Contains (declared_services T) (keyed n (root_key e (0 + j) b.root)) = joins (λ (x : VpeDecl). services_from x 0 x.roots) T.vpes e _ b.declared (has_service_key e 0 e.roots j n b.root b.at b.serves) in
-    let same = one_of_name T.services fits.setup.services_rise _ _ ((fits.setup.services _).1 s) ((fits.setup.services _).1 t) refl in
+    let same = one_of_name T.services fits.services_rise _ _ ((fits.services _).1 s) ((fits.services _).1 t) refl in
     let number : 0 + i ≡ 0 + j = ap (λ (x : ServiceData). x.key.number) same in
     (ap (λ (x : ServiceData). x.key.vpe) same, omega arith)
 
@@ -300,7 +316,7 @@ one_pe p None = pairs_nil Differ
 one_pe p (Some k) = λ i j d lt within. absurd (omega arith)
 
 -- two roots of the setup in their order
-roots_apart : (T : Setup) → TraceFits (as_read T) → (d e : VpeDecl) (i j : ℕ) (r s : Root) → Contains T.vpes d → Contains T.vpes e → slice_get d.roots i ≡ Some r → slice_get e.roots j ≡ Some s → IsRoot r → ((d.vpe ≡ e.vpe) × (i ≡ j) → ⊥) → (d.vpe ≡ e.vpe → r.sel ≡ s.sel → ⊥) → Differ (root_decl d.vpe r) (root_decl e.vpe s)
+roots_apart : (T : Setup) → IsSetup T → (d e : VpeDecl) (i j : ℕ) (r s : Root) → Contains T.vpes d → Contains T.vpes e → slice_get d.roots i ≡ Some r → slice_get e.roots j ≡ Some s → IsRoot r → ((d.vpe ≡ e.vpe) × (i ≡ j) → ⊥) → (d.vpe ≡ e.vpe → r.sel ≡ s.sel → ⊥) → Differ (root_decl d.vpe r) (root_decl e.vpe s)
 roots_apart T fits d e i j r s declared declared' at at' valid other sel =
     differ_root (root_decl d.vpe r) (root_decl e.vpe s) (root_ranked d.vpe r valid)
     (λ v x y a b same. let m = said_of_root v d.vpe r x a in let n = said_of_root v e.vpe s y b in sel (m.0 ∙ sym n.0) (m.1 ∙ (same ∙ sym n.1)))
@@ -310,33 +326,41 @@ pub place_of : {X : Type 0} (xs : List X) (x : X) → Contains xs x → (i : ℕ
 place_of xs x (i, lt, is) = (i, at_place xs i x lt ∙ ap Some is)
 
 -- each section by itself
-pub pairs_differ : (T : Setup) → TraceFits (as_read T) → (k : ℕ) → AllPairs Differ (section T k)
+pub pairs_differ : (T : Setup) → IsSetup T → (k : ℕ) → AllPairs Differ (section T k)
 pairs_differ T fits zero =
-    pairs_joined pe_decls (λ (x y : ℕ × Option ℕ). x.0 < y.0) Differ (enumerate_from 0 T.owners.owners) (enumerate_rises 0 T.owners.owners)
+    pairs_append Differ (window_decls T) (all_pes T)
+    (elim (cases_Bool (T.version == 1)) [
+      | inl one ↦ rw one (pairs_nil Differ)
+      | inr other ↦ rw other (λ i j d lt within. absurd (omega arith))
+    ])
+    (pairs_joined pe_decls (λ (x y : ℕ × Option ℕ). x.0 < y.0) Differ (enumerate_from 0 T.owners.owners) (enumerate_rises 0 T.owners.owners)
     (λ x within. one_pe x.0 x.1)
     (λ x y e f less a b.
     let m = in_pe x.0 x.1 e a in
     let n = in_pe y.0 y.1 f b in
-    rw (m.2, n.2) (pe_apart x.0 m.0 y.0 n.0 (λ same. let l : x.0 < y.0 = less in absurd (omega arith))))
-pairs_differ T fits (suc zero) = pairs_mapped vpe_decl Differ T.vpes (λ i j d lt within. vpe_apart _ _ _ _ (λ same. let l = fits.setup.vpes_rise i j d lt within in absurd (omega arith)) (fits.setup.pes_differ i j d lt within))
+    rw (m.2, n.2) (pe_apart x.0 m.0 y.0 n.0 (λ same. let l : x.0 < y.0 = less in absurd (omega arith)))))
+    (λ a b within within'.
+    let n = in_pes T b within' in
+    rw (in_window T a within, n.2) (window_apart T.window n.0 n.1))
+pairs_differ T fits (suc zero) = pairs_mapped vpe_decl Differ T.vpes (λ i j d lt within. vpe_apart _ _ _ _ (λ same. let l = fits.vpes_rise i j d lt within in absurd (omega arith)) (fits.pes_differ i j d lt within))
 pairs_differ T fits (suc (suc zero)) =
     pairs_joined (λ (d : VpeDecl). map (root_decl d.vpe) d.roots) (λ (a b : VpeDecl). Contains T.vpes a × Contains T.vpes b × (a.vpe < b.vpe)) Differ T.vpes
-    (λ i j d lt within. (Contains-get_or T.vpes i d (omega arith), Contains-get_or T.vpes j d within, fits.setup.vpes_rise i j d lt within))
+    (λ i j d lt within. (Contains-get_or T.vpes i d (omega arith), Contains-get_or T.vpes j d within, fits.vpes_rise i j d lt within))
     (λ d declared.
-    let v = All-contains (IsVpeDecl (as_read T)) T.vpes d fits.setup.vpes declared in
+    let v = All-contains (IsVpeDecl T) T.vpes d fits.vpes declared in
     pairs_mapped (root_decl d.vpe) Differ d.roots (λ i j x lt within.
     roots_apart T fits d d i j (get_or d.roots i x) (get_or d.roots j x) declared declared (at_place d.roots i x (omega arith)) (at_place d.roots j x within) (v.roots i x (omega arith)) (λ same. let e : i ≡ j = same.1 in absurd (omega arith)) (λ same. v.selectors_differ i j x lt within)))
     (λ d e a b cross within within'.
-    let v = All-contains (IsVpeDecl (as_read T)) T.vpes d fits.setup.vpes cross.0 in
+    let v = All-contains (IsVpeDecl T) T.vpes d fits.vpes cross.0 in
     let m = in_map (root_decl d.vpe) d.roots a within in
     let n = in_map (root_decl e.vpe) e.roots b within' in
     let x = place_of d.roots m.0 m.1 in
     let y = place_of e.roots n.0 n.1 in
     let less : d.vpe < e.vpe = cross.2 in
     rw (← m.2, ← n.2) (roots_apart T fits d e x.0 y.0 m.0 n.0 cross.0 cross.1 x.1 y.1 (All-contains IsRoot d.roots m.0 v.roots m.1) (λ same. let f : d.vpe ≡ e.vpe = same.0 in absurd (omega arith)) (λ same sel. absurd (omega arith))))
-pairs_differ T fits (suc (suc (suc zero))) = pairs_mapped offer_decl Differ T.offers (λ i j d lt within. offer_apart _ _ _ _ _ _ (before_differs (offer_place (get_or T.offers i d)) (offer_place (get_or T.offers j d)) (fits.setup.offers_rise i j d lt within)))
-pairs_differ T fits (suc (suc (suc (suc zero)))) = pairs_mapped deny_decl Differ T.denies (λ i j d lt within. deny_apart _ _ _ _ (before_differs (get_or T.denies i d) (get_or T.denies j d) (fits.setup.denies_rise i j d lt within)))
-pairs_differ T fits (suc (suc (suc (suc (suc zero))))) = pairs_mapped kill_decl Differ T.kills (λ i j d lt within. kill_apart _ _ _ _ (λ same. let l = fits.setup.kills_rise i j d lt within in absurd (omega arith)))
+pairs_differ T fits (suc (suc (suc zero))) = pairs_mapped offer_decl Differ T.offers (λ i j d lt within. offer_apart _ _ _ _ _ _ (before_differs (offer_place (get_or T.offers i d)) (offer_place (get_or T.offers j d)) (fits.offers_rise i j d lt within)))
+pairs_differ T fits (suc (suc (suc (suc zero)))) = pairs_mapped deny_decl Differ T.denies (λ i j d lt within. deny_apart _ _ _ _ (before_differs (get_or T.denies i d) (get_or T.denies j d) (fits.denies_rise i j d lt within)))
+pairs_differ T fits (suc (suc (suc (suc (suc zero))))) = pairs_mapped kill_decl Differ T.kills (λ i j d lt within. kill_apart _ _ _ _ (λ same. let l = fits.kills_rise i j d lt within in absurd (omega arith)))
 pairs_differ T fits (suc (suc (suc (suc (suc (suc zero)))))) = λ i j d lt within.
     let x = Contains-get_or (section T 6) i d (omega arith) in
     differ_other _ _ (ranked T fits 6 (omega arith) _ x)
@@ -347,7 +371,7 @@ pub record Precedes (a b : Declaration) : Type 0 where
   pub differ : Differ a b
   pub order : rank a ≤ rank b
 
-pub in_order : (T : Setup) → TraceFits (as_read T) → AllPairs Precedes (said_by T)
+pub in_order : (T : Setup) → IsSetup T → AllPairs Precedes (said_by T)
 unfolding said_by
 in_order T fits =
     pairs_joined (section T) (λ (k l : ℕ). (l < 8) × (k < l)) Precedes (range_with_len 0 8)

@@ -2,7 +2,7 @@
 use Rattle.std.proofs.Common.{◌≡◌, ◌≢◌, ℕ, zero, suc, ◌+◌, ◌<◌, ◌≤◌, ◌==◌, Bool, true, false, cond, not, true≢false, ◌&&◌, ◌||◌, List, [], ◌∷◌, ◌++◌, length, map, Option, Some, None, refl, ap, sym, ◌∙◌, subst, arith, inl, inr, eqb-true, eq-eqb, le-ltb}
 use Rattle.std.specs.List.{AllPairs, Contains, filter_map, flat_map, list_any, range_with_len, slice_get, sum_by}
 use Rattle.std.specs.Option.{option_or, is_some, IsSome}
-use Rattle.std.proofs.lemmas.Bool.{false_from_ne_true, lt-leb}
+use Rattle.std.proofs.lemmas.Bool.{cases_Bool, false_from_ne_true, lt-leb}
 use Rattle.std.proofs.lemmas.Option.{none-some, same_Some}
 use Rattle.std.proofs.lemmas.List.Elements.{All-contains, Contains-append_right, Contains-append_cases}
 use Rattle.std.proofs.lemmas.List.Sums.{sum_by-cons, sum_by-append}
@@ -16,18 +16,17 @@ use Rattle.sem_msg.specs.declared.setup.Service.{Service as ServiceData}
 use Rattle.sem_msg.specs.declared.setup.Offer.{Offer as OfferData}
 use Rattle.sem_msg.specs.declared.setup.VpeDecl.{VpeDecl}
 use Rattle.sem_msg.specs.Calls.{IsValidCall, IsWord}
-use Rattle.sem_msg.specs.Setup.{Setup, IsRoot, IsVpeDecl, IsOffer, IsDeclared, services_from, call_count}
-use Rattle.sem_trace.specs.TraceText.{TraceFits}
-use Rattle.sem_trace.specs.declared.limits.TheConstants.{NODES}
+use Rattle.sem_msg.specs.Setup.{Setup, IsSetup, IsRoot, IsVpeDecl, IsOffer, IsDeclared, services_from, call_count}
+use Rattle.sem_msg.specs.Versions.{most_vpes}
 use Rattle.sem_trace.specs.declared.declaration.Declaration.{Declaration}
-use Rattle.sem_trace.specs.declared.declaration.Declaration.TheVariants.{Kernels, Pe, Vpe, Memory, Receive, Service, Offer, Deny, Kill, Call as Calls, End}
-use Rattle.sem_trace.specs.Earlier.{first_some, said_owner, owner_in, said_pe, pe_in, says_on, is_taken, said_root, roots_in, holds_at, says_service, has_service, said_offer, offer_in, says_deny, is_denied, said_kill, kill_in, is_call, call_number}
+use Rattle.sem_trace.specs.declared.declaration.Declaration.TheVariants.{Kernels, Window, Pe, Vpe, Memory, Receive, Service, Offer, Deny, Kill, Call as Calls, End}
+use Rattle.sem_trace.specs.Earlier.{first_some, said_window, window_in, said_owner, owner_in, said_pe, pe_in, says_on, is_taken, said_root, roots_in, holds_at, says_service, has_service, said_offer, offer_in, says_deny, is_denied, said_kill, kill_in, is_call, call_number}
 use Rattle.sem_trace.specs.Context.{context_fault, is_too_long, is_undeclared, is_twice, is_call_too_many}
-use Rattle.sem_trace.specs.Ranges.{IsInRange}
+use Rattle.sem_trace.specs.Ranges.{IsNode, IsInRange}
 use Rattle.sem_reader.specs.Accepted.{AreAccepted}
 use Rattle.sem_reader.proofs.Enumerated.{in_cons, in_nil, here, there, pairs_head, pairs_tail, given, joined, joins}
 use Rattle.sem_reader.proofs.PrintedLines.{IsSaid}
-use Rattle.sem_reader.proofs.Sections.{ranked, root_says, root_decl, vpe_decl, offer_decl, deny_decl, kill_decl, section, said_by, rank, in_map, map_has, in_pes, has_pe, in_roots, has_section, as_read}
+use Rattle.sem_reader.proofs.Sections.{ranked, root_says, root_decl, vpe_decl, offer_decl, deny_decl, kill_decl, section, said_by, rank, in_map, map_has, window_decls, all_pes, in_pes, has_pe, in_roots, has_section}
 use Rattle.sem_reader.proofs.SetupIs.{service_of_root}
 use Rattle.sem_reader.proofs.Precedes.{Differ, Precedes, in_order}
 
@@ -92,6 +91,10 @@ or_false_both a b x y = rw (x, y) refl
 AreOther : List Declaration → Declaration → Type 0
 AreOther before d = (e : Declaration) → Contains before e → Differ e d
 
+no_window : (before : List Declaration) (w : ℕ) → ((e : Declaration) → Contains before e → Differ e (Window w)) → window_in before ≡ None
+unfolding window_in
+no_window before w other = first_none said_window before (λ e within. none_from (said_window e) (λ n some. (other e within).window n w some refl))
+
 no_owner : (before : List Declaration) (p k : ℕ) → ((e : Declaration) → Contains before e → Differ e (Pe p k)) → owner_in before p ≡ None
 unfolding owner_in
 no_owner before p k other = first_none (said_owner p) before (λ e within. none_from (said_owner p e) (λ j some. (other e within).pe p j k some (same_if p _ _)))
@@ -127,18 +130,19 @@ unfolding kill_in
 not_killed before v n other = first_none (said_kill v) before (λ e within. none_from (said_kill v e) (λ m some. (other e within).kill v m n some (same_if v _ _)))
 
 -- so no line comes twice
-not_twice : (before : List Declaration) (d : Declaration) → IsSaid d → ((e : Declaration) → Contains before e → Differ e d) → is_twice before d ≡ false
-not_twice before (Kernels n) said other = absurd said
-not_twice before (Pe p k) said other = not_some _ (no_owner before p k other)
-not_twice before (Vpe v p) said other = or_false_both _ _ (not_some _ (no_vpe before v p other)) (not_taken before v p other)
-not_twice before (Memory v s b l g) said other = not_held before (Memory v s b l g) v (record { sel = s; object = Mem b l g }) (same_if v _ _) other
-not_twice before (Receive v s n) said other = not_held before (Receive v s n) v (record { sel = s; object = Recv n }) (same_if v _ _) other
-not_twice before (Service v s n) said other = or_false_both _ _ (not_held before (Service v s n) v (record { sel = s; object = Serv n }) (same_if v _ _) other) (not_served before v s n other)
-not_twice before (Offer n i s) said other = not_some _ (not_offered before n i s other)
-not_twice before (Deny v w) said other = not_denied before v w other
-not_twice before (Kill v n) said other = not_some _ (not_killed before v n other)
-not_twice before (Calls v c) said other = refl
-not_twice before End said other = refl
+not_twice : (T : Setup) (before : List Declaration) (d : Declaration) → IsSaid T.version d → ((e : Declaration) → Contains before e → Differ e d) → is_twice before d ≡ false
+not_twice T before (Kernels n) said other = absurd said
+not_twice T before (Window w) said other = not_some _ (no_window before w other)
+not_twice T before (Pe p k) said other = not_some _ (no_owner before p k other)
+not_twice T before (Vpe v p) said other = or_false_both _ _ (not_some _ (no_vpe before v p other)) (not_taken before v p other)
+not_twice T before (Memory v s b l g) said other = not_held before (Memory v s b l g) v (record { sel = s; object = Mem b l g }) (same_if v _ _) other
+not_twice T before (Receive v s n) said other = not_held before (Receive v s n) v (record { sel = s; object = Recv n }) (same_if v _ _) other
+not_twice T before (Service v s n) said other = or_false_both _ _ (not_held before (Service v s n) v (record { sel = s; object = Serv n }) (same_if v _ _) other) (not_served before v s n other)
+not_twice T before (Offer n i s) said other = not_some _ (not_offered before n i s other)
+not_twice T before (Deny v w) said other = not_denied before v w other
+not_twice T before (Kill v n) said other = not_some _ (not_killed before v n other)
+not_twice T before (Calls v c) said other = refl
+not_twice T before End said other = refl
 
 -- what lines before declare
 has_owner : (before : List Declaration) (p k : ℕ) → Contains before (Pe p k) → not (is_some (owner_in before p)) ≡ false
@@ -185,8 +189,8 @@ is_declared T d (k, lt, at) = (k, d, lt, at, refl)
 
 -- what holds of a line of the setup
 pub record IsPrinted (T : Setup) (d : Declaration) : Type 0 where
-  pub said : IsSaid d
-  pub ranges : IsInRange T.kernels d
+  pub said : IsSaid T.version d
+  pub ranges : IsInRange T.version T.kernels d
   pub short : is_too_long d ≡ false
   pub needs : (before : List Declaration) → ((e : Declaration) → Contains (said_by T) e → rank e < rank d → Contains before e) → is_undeclared before d ≡ false
 
@@ -194,14 +198,24 @@ some_value : (o : Option ℕ) → IsSome o → (k : ℕ) × (o ≡ Some k)
 some_value None some = absurd (true≢false (sym some))
 some_value (Some k) some = (k, refl)
 
-printed_pe : (T : Setup) → TraceFits (as_read T) → (p k : ℕ) → owner_at T.owners p ≡ Some k → IsPrinted T (Pe p k)
-printed_pe T fits p k owned =
-    let below : k < T.owners.kernels = fits.setup.membership.owners_exist p k owned in
-    record { said = tt; ranges = (fits.setup.owned_pes p (rw owned refl), rw fits.setup.same_kernels at below); short = refl; needs = λ before there'. refl }
+printed_window : (T : Setup) → IsSetup T → (d : Declaration) → Contains (window_decls T) d → IsPrinted T d
+printed_window T fits d within =
+    elim (cases_Bool (T.version == 1)) [
+      | inl one ↦ absurd (in_nil d (rw one at within))
+      | inr other ↦ elim (in_cons (Window T.window) [] d (rw other at within)) [
+        | inl is ↦ subst (IsPrinted T) is (record { said = other; ranges = fits.windowed; short = refl; needs = λ before there'. refl })
+        | inr none ↦ absurd (in_nil d none)
+      ]
+    ]
 
-printed_vpe : (T : Setup) → TraceFits (as_read T) → (d : VpeDecl) → Contains T.vpes d → IsPrinted T (vpe_decl d)
+printed_pe : (T : Setup) → IsSetup T → (p k : ℕ) → owner_at T.owners p ≡ Some k → IsPrinted T (Pe p k)
+printed_pe T fits p k owned =
+    let below : k < T.owners.kernels = fits.membership.owners_exist p k owned in
+    record { said = tt; ranges = (fits.owned_pes p (rw owned refl), rw fits.same_kernels at below); short = refl; needs = λ before there'. refl }
+
+printed_vpe : (T : Setup) → IsSetup T → (d : VpeDecl) → Contains T.vpes d → IsPrinted T (vpe_decl d)
 printed_vpe T fits d within =
-    let v = All-contains (IsVpeDecl (as_read T)) T.vpes d fits.setup.vpes within in
+    let v = All-contains (IsVpeDecl T) T.vpes d fits.vpes within in
     let k = some_value (owner_at T.owners d.pe) v.owned in
     record {
       said = tt;
@@ -210,7 +224,7 @@ printed_vpe T fits d within =
       needs = λ before there'. has_owner before d.pe k.0 (there' (Pe d.pe k.0) (has_section T (Pe d.pe k.0) 0 (omega arith) (has_pe T d.pe k.0 k.1)) (omega arith));
     }
 
-printed_root : (T : Setup) → TraceFits (as_read T) → (v s : ℕ) (o : Object) → v < NODES → IsDeclared T v → IsRoot (record { sel = s; object = o }) → IsPrinted T (root_says v s o)
+printed_root : (T : Setup) → IsSetup T → (v s : ℕ) (o : Object) → IsNode T.version v → IsDeclared T v → IsRoot (record { sel = s; object = o }) → IsPrinted T (root_says v s o)
 printed_root T fits v s (Mem b l g) small declared valid =
     let line = has_line T v declared in
     let r = valid.ranges in
@@ -230,17 +244,17 @@ get_contains (y ∷ ys) zero x some = subst (Contains (y ∷ ys)) (same_Some y x
 get_contains (y ∷ ys) (suc i) x some = there y ys x (get_contains ys i x some)
 
 -- a service of the setup has its line
-service_line : (T : Setup) → TraceFits (as_read T) → (s : ServiceData) → Contains T.services s → (v t : ℕ) × Contains (said_by T) (Service v t s.name) × (s.name ≤ 255)
+service_line : (T : Setup) → IsSetup T → (s : ServiceData) → Contains T.services s → (v t : ℕ) × Contains (said_by T) (Service v t s.name) × (s.name ≤ 255)
 service_line T fits s within =
-    let j = joined (λ (d : VpeDecl). services_from d 0 d.roots) T.vpes s ((fits.setup.services s).0 within) in
+    let j = joined (λ (d : VpeDecl). services_from d 0 d.roots) T.vpes s ((fits.services s).0 within) in
     let o = service_of_root j.from 0 j.from.roots s j.has in
-    let v = All-contains (IsVpeDecl (as_read T)) T.vpes j.from fits.setup.vpes j.within in
+    let v = All-contains (IsVpeDecl T) T.vpes j.from fits.vpes j.within in
     let held : Contains j.from.roots o.root = get_contains j.from.roots o.place o.root o.at in
     let valid = All-contains IsRoot j.from.roots o.root v.roots held in
     let line : Contains (said_by T) (root_decl j.from.vpe o.root) = has_section T _ 2 (omega arith) (joins (λ (d : VpeDecl). map (root_decl d.vpe) d.roots) T.vpes j.from (root_decl j.from.vpe o.root) j.within (map_has (root_decl j.from.vpe) j.from.roots o.root held)) in
     (j.from.vpe, o.root.sel, subst (λ (x : Object). Contains (said_by T) (root_says j.from.vpe o.root.sel x)) o.serves line, subst IsValidObject o.serves valid.ranges)
 
-printed_offer : (T : Setup) → TraceFits (as_read T) → (o : OfferData) → IsOffer (as_read T) o → IsPrinted T (offer_decl o)
+printed_offer : (T : Setup) → IsSetup T → (o : OfferData) → IsOffer T o → IsPrinted T (offer_decl o)
 printed_offer T fits o valid =
     let s : ServiceData = valid.declared.1 in
     let line = service_line T fits s (valid.declared.0, valid.declared.2, valid.declared.3) in
@@ -254,10 +268,10 @@ printed_offer T fits o valid =
       needs = λ before there'. has_name before line.0 line.1 o.name (there' (Service line.0 line.1 o.name) at (omega arith));
     }
 
-declared_small : (T : Setup) → TraceFits (as_read T) → (v : ℕ) → IsDeclared T v → v < NODES
-declared_small T fits v (k, d, lt, at, is) = let small : d.vpe < NODES = (All-contains (IsVpeDecl (as_read T)) T.vpes d fits.setup.vpes (k, lt, at)).vpe in omega arith
+declared_small : (T : Setup) → IsSetup T → (v : ℕ) → IsDeclared T v → IsNode T.version v
+declared_small T fits v (k, d, lt, at, is) = subst (IsNode T.version) is (All-contains (IsVpeDecl T) T.vpes d fits.vpes (k, lt, at)).vpe
 
-printed_deny : (T : Setup) → TraceFits (as_read T) → (p : ℕ × ℕ) → IsDeclared T p.0 × IsDeclared T p.1 → IsPrinted T (deny_decl p)
+printed_deny : (T : Setup) → IsSetup T → (p : ℕ × ℕ) → IsDeclared T p.0 × IsDeclared T p.1 → IsPrinted T (deny_decl p)
 printed_deny T fits p declared =
     let first = has_line T p.0 declared.0 in
     let second = has_line T p.1 declared.1 in
@@ -268,7 +282,7 @@ printed_deny T fits p declared =
       needs = λ before there'. or_false_both _ _ (has_vpe before p.0 first.0 (there' (Vpe p.0 first.0) first.1 (omega arith))) (has_vpe before p.1 second.0 (there' (Vpe p.1 second.0) second.1 (omega arith)));
     }
 
-printed_kill : (T : Setup) → TraceFits (as_read T) → (p : ℕ × ℕ) → IsDeclared T p.0 × IsWord p.1 → IsPrinted T (kill_decl p)
+printed_kill : (T : Setup) → IsSetup T → (p : ℕ × ℕ) → IsDeclared T p.0 × IsWord p.1 → IsPrinted T (kill_decl p)
 printed_kill T fits p declared =
     let first = has_line T p.0 declared.0 in
     record {
@@ -278,13 +292,13 @@ printed_kill T fits p declared =
       needs = λ before there'. has_vpe before p.0 first.0 (there' (Vpe p.0 first.0) first.1 (omega arith));
     }
 
-printed_call : (T : Setup) → TraceFits (as_read T) → (d : VpeDecl) (c : Call) → Contains T.vpes d → Contains d.calls c → IsPrinted T (Calls d.vpe c)
+printed_call : (T : Setup) → IsSetup T → (d : VpeDecl) (c : Call) → Contains T.vpes d → Contains d.calls c → IsPrinted T (Calls d.vpe c)
 printed_call T fits d c within held =
-    let v = All-contains (IsVpeDecl (as_read T)) T.vpes d fits.setup.vpes within in
+    let v = All-contains (IsVpeDecl T) T.vpes d fits.vpes within in
     let line = has_line T d.vpe (is_declared T d within) in
     record {
       said = tt;
-      ranges = (v.vpe, All-contains (IsValidCall NODES) d.calls c v.calls held);
+      ranges = (v.vpe, All-contains (IsValidCall (most_vpes T.version)) d.calls c v.calls held);
       short = refl;
       needs = λ before there'. has_vpe before d.vpe line.0 (there' (Vpe d.vpe line.0) line.1 (omega arith));
     }
@@ -292,16 +306,20 @@ printed_call T fits d c within held =
 printed_end : (T : Setup) → IsPrinted T End
 printed_end T = record { said = tt; ranges = tt; short = refl; needs = λ before there'. refl }
 
-in_one_section : (T : Setup) → TraceFits (as_read T) → (k : ℕ) (d : Declaration) → Contains (section T k) d → IsPrinted T d
-in_one_section T fits zero d within = let p = in_pes T d within in rw p.2 (printed_pe T fits p.0 p.1 p.3)
+in_one_section : (T : Setup) → IsSetup T → (k : ℕ) (d : Declaration) → Contains (section T k) d → IsPrinted T d
+in_one_section T fits zero d within =
+    elim (Contains-append_cases (window_decls T) (all_pes T) d within) [
+      | inl window ↦ printed_window T fits d window
+      | inr pe ↦ let p = in_pes T d pe in rw p.2 (printed_pe T fits p.0 p.1 p.3)
+    ]
 in_one_section T fits (suc zero) d within = let m = in_map vpe_decl T.vpes d within in subst (IsPrinted T) m.2 (printed_vpe T fits m.0 m.1)
 in_one_section T fits (suc (suc zero)) d within =
     let r = in_roots T fits d within in
-    let v = All-contains (IsVpeDecl (as_read T)) T.vpes r.vpe fits.setup.vpes r.declared in
+    let v = All-contains (IsVpeDecl T) T.vpes r.vpe fits.vpes r.declared in
     subst (IsPrinted T) r.is (printed_root T fits r.vpe.vpe r.root.sel r.root.object v.vpe (is_declared T r.vpe r.declared) r.valid)
-in_one_section T fits (suc (suc (suc zero))) d within = let m = in_map offer_decl T.offers d within in subst (IsPrinted T) m.2 (printed_offer T fits m.0 (All-contains (IsOffer (as_read T)) T.offers m.0 fits.setup.offers m.1))
-in_one_section T fits (suc (suc (suc (suc zero)))) d within = let m = in_map deny_decl T.denies d within in subst (IsPrinted T) m.2 (printed_deny T fits m.0 (All-contains (λ (p : ℕ × ℕ). IsDeclared T p.0 × IsDeclared T p.1) T.denies m.0 fits.setup.denies m.1))
-in_one_section T fits (suc (suc (suc (suc (suc zero))))) d within = let m = in_map kill_decl T.kills d within in subst (IsPrinted T) m.2 (printed_kill T fits m.0 (All-contains (λ (p : ℕ × ℕ). IsDeclared T p.0 × IsWord p.1) T.kills m.0 fits.setup.kills m.1))
+in_one_section T fits (suc (suc (suc zero))) d within = let m = in_map offer_decl T.offers d within in subst (IsPrinted T) m.2 (printed_offer T fits m.0 (All-contains (IsOffer T) T.offers m.0 fits.offers m.1))
+in_one_section T fits (suc (suc (suc (suc zero)))) d within = let m = in_map deny_decl T.denies d within in subst (IsPrinted T) m.2 (printed_deny T fits m.0 (All-contains (λ (p : ℕ × ℕ). IsDeclared T p.0 × IsDeclared T p.1) T.denies m.0 fits.denies m.1))
+in_one_section T fits (suc (suc (suc (suc (suc zero))))) d within = let m = in_map kill_decl T.kills d within in subst (IsPrinted T) m.2 (printed_kill T fits m.0 (All-contains (λ (p : ℕ × ℕ). IsDeclared T p.0 × IsWord p.1) T.kills m.0 fits.kills m.1))
 in_one_section T fits (suc (suc (suc (suc (suc (suc zero)))))) d within =
     let j = joined (λ (e : VpeDecl). map (Calls e.vpe) e.calls) T.vpes d within in
     let m = in_map (Calls j.from.vpe) j.from.calls d j.has in
@@ -312,7 +330,7 @@ in_one_section T fits (suc (suc (suc (suc (suc (suc (suc k))))))) d within =
       | inr none ↦ absurd (in_nil d none)
     ]
 
-pub printed : (T : Setup) → TraceFits (as_read T) → (d : Declaration) → Contains (said_by T) d → IsPrinted T d
+pub printed : (T : Setup) → IsSetup T → (d : Declaration) → Contains (said_by T) d → IsPrinted T d
 unfolding said_by
 printed T fits d within = let j = joined (section T) (range_with_len 0 8) d within in in_one_section T fits j.from d j.has
 
@@ -336,7 +354,7 @@ calls_of_vpes : (vpes : List VpeDecl) → sum_by weight (flat_map (λ d. map (Ca
 calls_of_vpes [] = refl
 calls_of_vpes (d ∷ ds) = rw (sum_by-append weight (map (Calls d.vpe) d.calls) (flat_map (λ (x : VpeDecl). map (Calls x.vpe) x.calls) ds), calls_of_vpe d.vpe d.calls, calls_of_vpes ds, sum_by-cons (λ (x : VpeDecl). length x.calls) d ds) refl
 
-few_calls : (T : Setup) → TraceFits (as_read T) → call_number (said_by T) ≤ 20000
+few_calls : (T : Setup) → IsSetup T → call_number (said_by T) ≤ 20000
 unfolding said_by call_number
 few_calls T fits =
     let a = no_calls (section T 0) (λ e within same. let r = ranked T fits 0 (omega arith) e within in absurd (omega arith)) in
@@ -346,7 +364,7 @@ few_calls T fits =
     let g = no_calls (section T 4) (λ e within same. let r = ranked T fits 4 (omega arith) e within in absurd (omega arith)) in
     let h = no_calls (section T 5) (λ e within same. let r = ranked T fits 5 (omega arith) e within in absurd (omega arith)) in
     let i = calls_of_vpes T.vpes in
-    let few : call_count T ≤ 20000 = fits.setup.few_calls in
+    let few : call_count T ≤ 20000 = fits.few_calls in
     rw (sum_by-append, a, sum_by-append, b, sum_by-append, c, sum_by-append, d, sum_by-append, g, sum_by-append, h, sum_by-append, i) (omega arith)
 
 call_before : (before after : List Declaration) (d : Declaration) → is_call d ≡ true → call_number (before ++ d ∷ after) ≤ 20000 → call_number before < 20000
@@ -366,7 +384,7 @@ unfolding context_fault
 fits_context before d a b c e = rw (a, b, c, e) refl
 
 -- what the setup says is accepted
-pub all_accepted : (T : Setup) → TraceFits (as_read T) → AreAccepted T.kernels (said_by T)
+pub all_accepted : (T : Setup) → IsSetup T → AreAccepted T.version T.kernels (said_by T)
 all_accepted T fits before after d is =
     let within : Contains (said_by T) d = subst (λ (xs : List Declaration). Contains xs d) (sym is) (Contains-append_right before (d ∷ after) d (here d after)) in
     let p = printed T fits d within in
@@ -374,4 +392,4 @@ all_accepted T fits before after d is =
     let other : (e : Declaration) → Contains before e → Differ e d = λ e inside. (pairs_middle Precedes before after d e order inside).differ in
     let needed : (e : Declaration) → Contains (said_by T) e → rank e < rank d → Contains before e = λ e inside lower. earlier before after d e order (subst (λ (xs : List Declaration). Contains xs e) is inside) lower in
     let few : call_number (before ++ d ∷ after) ≤ 20000 = subst (λ (xs : List Declaration). call_number xs ≤ 20000) is (few_calls T fits) in
-    (p.ranges, fits_context before d p.short (p.needs before needed) (not_twice before d p.said other) (not_too_many before d (λ call. call_before before after d call few)))
+    (p.ranges, fits_context before d p.short (p.needs before needed) (not_twice T before d p.said other) (not_too_many before d (λ call. call_before before after d call few)))

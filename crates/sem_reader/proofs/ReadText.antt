@@ -14,11 +14,11 @@ use Rattle.sem_trace.specs.declared.declaration.Declaration.{Declaration}
 use Rattle.sem_trace.specs.TextLines.{lines_of, words_of, is_significant, significant}
 use Rattle.sem_trace.specs.Declarations.{declaration}
 use Rattle.sem_trace.specs.Earlier.{first_some, is_ended}
-use Rattle.sem_trace.specs.Refusal.{lines_refusal, line_fault, numbers, fault_at, first_fault, kernels_of, declarations_of, end_fault, refusal}
+use Rattle.sem_trace.specs.Refusal.{lines_refusal, line_fault, numbers, fault_at, first_fault, version_of, kernels_of, declarations_of, end_fault, refusal}
 use Rattle.sem_trace.specs.Standing.{Declare, setup_of, Stands, IsWhy}
 use Rattle.sem_msg.specs.Setup.{Setup}
 use Rattle.sem_reader.specs.declared.reader.Stage.{Stage}
-use Rattle.sem_reader.specs.declared.reader.Stage.TheVariants.{Start, Named, Open, Ended}
+use Rattle.sem_reader.specs.declared.reader.Stage.TheVariants.{Start, Named, Counted, Open, Ended}
 use Rattle.sem_reader.specs.declared.reader.LineError.{LineError}
 use Rattle.sem_reader.specs.declared.reader.LineError.TheVariants.{Refused as LineRefused, Memory as LineMemory}
 use Rattle.sem_reader.specs.declared.reader.Reader.{Reader}
@@ -32,6 +32,7 @@ use Rattle.sem_reader.proofs.MoreItems.{numbers-more, numbers-none}
 pub few_calls : (stage : Stage) (lines : List (List (List ℕ))) (t : Tables) → IsReadTo stage lines t → t.call_number ≤ 20000
 few_calls Start lines t read = read.1.few_calls
 few_calls Named lines t read = read.2.few_calls
+few_calls Counted lines t read = read.tells.few_calls
 few_calls Open lines t read = read.tells.few_calls
 few_calls Ended lines t read = read.tells.few_calls
 
@@ -82,7 +83,7 @@ unfolding lines_of
 no_lines = refl
 
 -- nothing is read yet
-pub read_nothing : (bytes : List ℕ) (r : Reader) → r.stage ≡ Start → Tells 1 [] r.tables → HasSizes r.tables → IsReadUpTo bytes bytes 0 r
+pub read_nothing : (bytes : List ℕ) (r : Reader) → r.stage ≡ Start → Tells 1 1 [] r.tables → HasSizes r.tables → IsReadUpTo bytes bytes 0 r
 read_nothing bytes r at told sizes = record {
   before = [];
   lines = refl;
@@ -179,6 +180,7 @@ unfinished : (stage : Stage) (lines : List (List (List ℕ))) (t : Tables) → (
 unfolding is_ended
 unfinished Start lines t other read = rw read.0 refl
 unfinished Named lines t other read = rw read.1 refl
+unfinished Counted lines t other read = rw read.are read.said
 unfinished Open lines t other read = rw read.are read.said
 unfinished Ended lines t other read = absurd (other refl)
 
@@ -191,18 +193,18 @@ no_end bytes number r whole other =
     rw (no_first_fault bytes number r whole, read, count) refl
 
 -- a text that is read to its end
-pub whole_text : (bytes : List ℕ) (number : ℕ) (r : Reader) (T : Setup) → IsReadUpTo bytes [] number r → r.stage ≡ Ended → ((kernels : ℕ) (ds : List Declaration) → Tells kernels ds r.tables → T ≡ setup_of kernels ds) → Declare (lines_of bytes) T
-unfolding end_fault declarations_of kernels_of
+pub whole_text : (bytes : List ℕ) (number : ℕ) (r : Reader) (T : Setup) → IsReadUpTo bytes [] number r → r.stage ≡ Ended → ((version kernels : ℕ) (ds : List Declaration) → Tells version kernels ds r.tables → T ≡ setup_of version kernels ds) → Declare (lines_of bytes) T
+unfolding end_fault declarations_of version_of kernels_of
 whole_text bytes number r T whole at is =
-    let opened : IsOpened (significant whole.before) r.tables true = subst (λ (s : Stage). IsReadTo s (significant whole.before) r.tables) at whole.read in
+    let opened : IsOpened (significant whole.before) r.tables false true = subst (λ (s : Stage). IsReadTo s (significant whole.before) r.tables) at whole.read in
     let are : significant (lines_of bytes) ≡ opened.first ∷ opened.second ∷ opened.earlier = ap significant (sym (all_lines bytes number r whole)) ∙ opened.are in
     record {
       accepted = rw (no_first_fault bytes number r whole, are, opened.said) refl;
-      declared = rw are (is _ _ opened.tells);
+      declared = rw are (is _ _ _ opened.tells);
     }
 
 -- the reader at the end tells some lines
 pub told : (bytes : List ℕ) (number : ℕ) (r : Reader) → IsReadUpTo bytes [] number r → r.stage ≡ Ended → IsTold r.tables
 told bytes number r whole at =
-    let opened : IsOpened (significant whole.before) r.tables true = subst (λ (s : Stage). IsReadTo s (significant whole.before) r.tables) at whole.read in
-    record { kernels = _; ds = _; tells = opened.tells }
+    let opened : IsOpened (significant whole.before) r.tables false true = subst (λ (s : Stage). IsReadTo s (significant whole.before) r.tables) at whole.read in
+    record { version = _; kernels = _; ds = _; tells = opened.tells }

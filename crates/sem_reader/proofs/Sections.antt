@@ -1,19 +1,18 @@
 -- What the lines of a printed setup say, section by section.
-use Rattle.std.proofs.Common.{◌≡◌, ℕ, zero, suc, ◌+◌, ◌<◌, ◌≤◌, List, [], ◌∷◌, map, get_or, Option, Some, None, refl, ap, sym, ◌∙◌, subst, arith, inl, inr}
+use Rattle.std.proofs.Common.{◌≡◌, ℕ, zero, suc, ◌+◌, ◌<◌, ◌≤◌, ◌==◌, ◌⊎◌, cond, List, [], ◌∷◌, ◌++◌, map, get_or, Option, Some, None, refl, ap, sym, ◌∙◌, subst, arith, inl, inr}
 use Rattle.std.specs.List.{AllPairs, Contains, flat_map, enumerate_from, range_with_len}
 use Rattle.std.proofs.lemmas.Option.{none-some}
-use Rattle.std.proofs.lemmas.List.Elements.{All-contains}
+use Rattle.std.proofs.lemmas.Bool.{cases_Bool}
+use Rattle.std.proofs.lemmas.List.Elements.{All-contains, Contains-append_cases, Contains-append_right}
 use Rattle.sem_key.specs.declared.object.Object.{Object}
 use Rattle.sem_key.specs.declared.object.Object.TheVariants.{Mem, Recv, Send, Serv, Sess}
 use Rattle.sem_key.specs.MembershipTable.{owner_at}
 use Rattle.sem_msg.specs.declared.setup.Root.{Root}
 use Rattle.sem_msg.specs.declared.setup.Offer.{Offer as OfferData}
 use Rattle.sem_msg.specs.declared.setup.VpeDecl.{VpeDecl}
-use Rattle.sem_msg.specs.Setup.{Setup, IsRootObject, IsRoot, IsVpeDecl}
-use Rattle.sem_trace.specs.TraceText.{TraceFits}
-use Rattle.sem_trace.specs.declared.limits.TheConstants.{LINK_WINDOW}
+use Rattle.sem_msg.specs.Setup.{Setup, IsSetup, IsRootObject, IsRoot, IsVpeDecl}
 use Rattle.sem_trace.specs.declared.declaration.Declaration.{Declaration}
-use Rattle.sem_trace.specs.declared.declaration.Declaration.TheVariants.{Kernels, Pe, Vpe, Memory, Receive, Service, Offer, Deny, Kill, Call as Calls, End}
+use Rattle.sem_trace.specs.declared.declaration.Declaration.TheVariants.{Kernels, Window, Pe, Vpe, Memory, Receive, Service, Offer, Deny, Kill, Call as Calls, End}
 use Rattle.sem_reader.proofs.Enumerated.{in_cons, in_nil, here, there, all_in, pairs_cons, pairs_nil, pairs_head, pairs_tail, joined, joins, in_range, range_has}
 
 -- what the line of a root says
@@ -42,13 +41,16 @@ deny_decl p = Deny p.0 p.1
 abbrev pub kill_decl : ℕ × ℕ → Declaration
 kill_decl p = Kill p.0 p.1
 
--- the setup as it is read from its text
-abbrev pub as_read : Setup → Setup
-as_read T = record T { version = 1; window = LINK_WINDOW }
+-- what the line of the window says, in version 2
+abbrev pub window_decls : Setup → List Declaration
+window_decls T = cond (T.version == 1) [] (Window T.window ∷ [])
+
+abbrev pub all_pes : Setup → List Declaration
+all_pes T = flat_map pe_decls (enumerate_from 0 T.owners.owners)
 
 -- the sections of the text
 abbrev pub section : Setup → ℕ → List Declaration
-section T zero = flat_map pe_decls (enumerate_from 0 T.owners.owners)
+section T zero = window_decls T ++ all_pes T
 section T (suc zero) = map vpe_decl T.vpes
 section T (suc (suc zero)) = flat_map (λ d. map (root_decl d.vpe) d.roots) T.vpes
 section T (suc (suc (suc zero))) = map offer_decl T.offers
@@ -64,6 +66,7 @@ said_by T = flat_map (section T) (range_with_len 0 8)
 -- the section to which a line belongs
 abbrev pub rank : Declaration → ℕ
 rank (Kernels n) = 8
+rank (Window w) = 0
 rank (Pe p k) = 0
 rank (Vpe v p) = 1
 rank (Memory v s b l g) = 2
@@ -129,7 +132,7 @@ in_pe p (Some k) e within =
     ]
 
 -- a line that declares a PE
-pub in_pes : (T : Setup) (e : Declaration) → Contains (section T 0) e → (p k : ℕ) × (e ≡ Pe p k) × (owner_at T.owners p ≡ Some k)
+pub in_pes : (T : Setup) (e : Declaration) → Contains (all_pes T) e → (p k : ℕ) × (e ≡ Pe p k) × (owner_at T.owners p ≡ Some k)
 in_pes T e within =
     let j = joined pe_decls (enumerate_from 0 T.owners.owners) e within in
     let i = in_enumerate 0 T.owners.owners j.from j.within in
@@ -137,11 +140,30 @@ in_pes T e within =
     let zero_ : i.0 ≡ j.from.0 = (let e : 0 + i.0 ≡ i.0 = omega arith in sym (i.1 ∙ e)) in
     (j.from.0, s.0, s.2, ap (λ (n : ℕ). get_or T.owners.owners n None) (sym zero_) ∙ (i.2 ∙ s.1))
 
+-- the line of the window
+pub in_window : (T : Setup) (e : Declaration) → Contains (window_decls T) e → e ≡ Window T.window
+in_window T e within =
+    elim (cases_Bool (T.version == 1)) [
+      | inl one ↦ absurd (in_nil e (rw one at within))
+      | inr other ↦ elim (in_cons (Window T.window) [] e (rw other at within)) [
+        | inl is ↦ sym is
+        | inr none ↦ absurd (in_nil e none)
+      ]
+    ]
+
+-- a line of the first section
+pub in_first : (T : Setup) (e : Declaration) → Contains (section T 0) e → (e ≡ Window T.window) ⊎ ((p k : ℕ) × (e ≡ Pe p k) × (owner_at T.owners p ≡ Some k))
+in_first T e within =
+    elim (Contains-append_cases (window_decls T) (all_pes T) e within) [
+      | inl window ↦ inl (in_window T e window)
+      | inr pe ↦ inr (in_pes T e pe)
+    ]
+
 pub has_pe : (T : Setup) (p k : ℕ) → owner_at T.owners p ≡ Some k → Contains (section T 0) (Pe p k)
 has_pe T p k owned =
     let e : 0 + p ≡ p = omega arith in
     let at : Contains (enumerate_from 0 T.owners.owners) (p, Some k) = subst (λ (n : ℕ). Contains (enumerate_from 0 T.owners.owners) (n, Some k)) e (enumerate_has 0 T.owners.owners p k owned) in
-    joins pe_decls (enumerate_from 0 T.owners.owners) (p, Some k) (Pe p k) at (here (Pe p k) [])
+    Contains-append_right (window_decls T) (all_pes T) (Pe p k) (joins pe_decls (enumerate_from 0 T.owners.owners) (p, Some k) (Pe p k) at (here (Pe p k) []))
 
 -- the line of a root is one of a root
 object_rank : (v s : ℕ) (o : Object) → IsRootObject o → rank (root_says v s o) ≡ 2
@@ -163,16 +185,20 @@ pub record IsRootLine (T : Setup) (e : Declaration) : Type 0 where
   pub valid : IsRoot root
   pub is : root_decl vpe.vpe root ≡ e
 
-pub in_roots : (T : Setup) → TraceFits (as_read T) → (e : Declaration) → Contains (section T 2) e → IsRootLine T e
+pub in_roots : (T : Setup) → IsSetup T → (e : Declaration) → Contains (section T 2) e → IsRootLine T e
 in_roots T fits e within =
     let j = joined (λ (d : VpeDecl). map (root_decl d.vpe) d.roots) T.vpes e within in
     let m = in_map (root_decl j.from.vpe) j.from.roots e j.has in
-    let d = All-contains (IsVpeDecl (as_read T)) T.vpes j.from fits.setup.vpes j.within in
+    let d = All-contains (IsVpeDecl T) T.vpes j.from fits.vpes j.within in
     record { vpe = j.from; declared = j.within; root = m.0; held = m.1; valid = All-contains IsRoot j.from.roots m.0 d.roots m.1; is = m.2 }
 
 -- each line has the rank of its section
-pub ranked : (T : Setup) → TraceFits (as_read T) → (k : ℕ) → k < 8 → (e : Declaration) → Contains (section T k) e → rank e ≡ k
-ranked T fits zero small e within = let p = in_pes T e within in rw p.2 refl
+pub ranked : (T : Setup) → IsSetup T → (k : ℕ) → k < 8 → (e : Declaration) → Contains (section T k) e → rank e ≡ k
+ranked T fits zero small e within =
+    elim (in_first T e within) [
+      | inl window ↦ rw window refl
+      | inr p ↦ rw p.2 refl
+    ]
 ranked T fits (suc zero) small e within = let m = in_map vpe_decl T.vpes e within in rw (← m.2) refl
 ranked T fits (suc (suc zero)) small e within = let r = in_roots T fits e within in rw (← r.is) (root_rank r.vpe.vpe r.root r.valid.kind)
 ranked T fits (suc (suc (suc zero))) small e within = let m = in_map offer_decl T.offers e within in rw (← m.2) refl
@@ -190,7 +216,7 @@ ranked T fits (suc (suc (suc (suc (suc (suc (suc zero))))))) small e within =
 ranked T fits (suc (suc (suc (suc (suc (suc (suc (suc k)))))))) small e within = absurd (omega arith)
 
 -- a line stands in the section of its rank
-pub in_section : (T : Setup) → TraceFits (as_read T) → (e : Declaration) (k : ℕ) → Contains (said_by T) e → rank e ≡ k → Contains (section T k) e
+pub in_section : (T : Setup) → IsSetup T → (e : Declaration) (k : ℕ) → Contains (said_by T) e → rank e ≡ k → Contains (section T k) e
 unfolding said_by
 in_section T fits e k within is =
     let j = joined (section T) (range_with_len 0 8) e within in

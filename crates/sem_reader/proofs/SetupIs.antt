@@ -1,7 +1,7 @@
 -- What accepted lines declare is a setup.
 use Rattle.std.proofs.Common.{◌≡◌, ◌≢◌, ℕ, zero, suc, ◌+◌, ◌<◌, ◌≤◌, ◌==◌, ◌⊎◌, ◌↔◌, Bool, true, false, cond, true≢false, List, [], ◌∷◌, ◌++◌, length, map, get_or, Option, Some, None, refl, ap, sym, ◌∙◌, subst, arith, inl, inr, eqb-true, eq-eqb, ne_eqb, length-append, eqb, ◌||◌}
 use Rattle.std.specs.List.{All, AllPairs, Any, Contains, filter_map, list_any, cons_option, range_with_len, slice_get, sum_by}
-use Rattle.std.specs.Option.{option_map, IsSome}
+use Rattle.std.specs.Option.{option_map, option_map_or, IsSome}
 use Rattle.std.proofs.lemmas.Bool.{cases_Bool, cases_eq}
 use Rattle.std.proofs.lemmas.Option.{none-some, same_Some}
 use Rattle.std.proofs.lemmas.List.Elements.{All-head, All-tail, Contains-append_cases, Contains-get_or}
@@ -10,7 +10,9 @@ use Rattle.std.proofs.lemmas.Map.Steps.{length-le_from_distinct_below}
 use Rattle.std.proofs.lemmas.Map.Made.{IsDistinct-from_AllPairs}
 use Rattle.std.proofs.lemmas.Bool.Decides.{Decides-eqb}
 use Rattle.std.proofs.lemmas.List.{length-map}
-use Rattle.sem_key.specs.declared.limits.TheConstants.{PES}
+use Rattle.sem_key.specs.declared.limits.TheConstants.{PES, VPES, KERNELS}
+use Rattle.sem_msg.specs.Versions.{most_vpes, most_kernels, least_window, most_window, IsWindow}
+use Rattle.sem_trace.proofs.Nodes.{node_small, few_kernels as most_few}
 use Rattle.sem_key.specs.declared.object.Object.{Object}
 use Rattle.sem_key.specs.declared.object.Object.TheVariants.{Mem, Recv, Send, Serv, Sess}
 use Rattle.sem_key.specs.KeyName.{KeyName}
@@ -22,13 +24,12 @@ use Rattle.sem_msg.specs.declared.setup.Offer.{Offer as OfferData}
 use Rattle.sem_msg.specs.declared.setup.VpeDecl.{VpeDecl}
 use Rattle.sem_msg.specs.Calls.{IsWord}
 use Rattle.sem_msg.specs.Setup.{Setup, IsSetup, IsVpeDecl, IsRoot, IsOffer, IsDeclared, ComesBefore, offer_place, services_from, service_with, root_key}
-use Rattle.sem_trace.specs.TraceText.{TraceFits}
-use Rattle.sem_trace.specs.declared.limits.TheConstants.{NODES, MOST_KERNELS, LINK_WINDOW}
+use Rattle.sem_trace.specs.declared.limits.TheConstants.{LINK_WINDOW}
 use Rattle.sem_trace.specs.declared.declaration.Declaration.{Declaration}
 use Rattle.sem_trace.specs.declared.declaration.Declaration.TheVariants.{Call as Calls}
-use Rattle.sem_trace.specs.Earlier.{owner_in, pe_in, roots_in, said_call, calls_in, vpe_in, offer_in, is_denied, kill_in, call_number, is_call}
+use Rattle.sem_trace.specs.Earlier.{window_in, owner_in, pe_in, roots_in, said_call, calls_in, vpe_in, offer_in, is_denied, kill_in, call_number, is_call}
 use Rattle.sem_trace.specs.Refusal.{numbers}
-use Rattle.sem_trace.specs.Standing.{vpes_of, services_among, named, services_of, offer_of, offers_of, deny_of, denies_of, kills_of, setup_of}
+use Rattle.sem_trace.specs.Standing.{window_of, vpes_of, services_among, named, services_of, offer_of, offers_of, deny_of, denies_of, kills_of, setup_of}
 use Rattle.sem_reader.specs.Accepted.{AreAccepted}
 use Rattle.sem_reader.specs.Tells.{IsPlainVpe}
 use Rattle.sem_reader.proofs.OneMore.{calls_in-same, calls_in-new, call_number-more}
@@ -37,18 +38,18 @@ use Rattle.sem_reader.proofs.Sound as sound
 
 -- what a VPE of the setup is
 pub record IsVpeOf (ds : List Declaration) (d : VpeDecl) : Type 0 where
-  pub vpe : d.vpe < NODES
+  pub vpe : d.vpe < VPES
   pub pe : pe_in ds d.vpe ≡ Some d.pe
   pub roots : d.roots ≡ roots_in ds d.vpe
   pub calls : d.calls ≡ calls_in ds d.vpe
 
-said_vpe : (ds : List Declaration) (v : ℕ) (d : VpeDecl) (o : Option ℕ) → v < NODES → pe_in ds v ≡ o → option_map (λ p. record { vpe = v; pe = p; roots = roots_in ds v; calls = calls_in ds v }) o ≡ Some d → IsVpeOf ds d × (v ≡ d.vpe)
+said_vpe : (ds : List Declaration) (v : ℕ) (d : VpeDecl) (o : Option ℕ) → v < VPES → pe_in ds v ≡ o → option_map (λ p. record { vpe = v; pe = p; roots = roots_in ds v; calls = calls_in ds v }) o ≡ Some d → IsVpeOf ds d × (v ≡ d.vpe)
 said_vpe ds v d None small on some = absurd (none-some d some)
 said_vpe ds v d (Some p) small on some =
     let is : record { vpe = v; pe = p; roots = roots_in ds v; calls = calls_in ds v } ≡ d = same_Some _ d some in
     subst (λ (e : VpeDecl). IsVpeOf ds e × (v ≡ e.vpe)) is (record { vpe = small; pe = on; roots = refl; calls = refl }, refl)
 
-vpe_is : (ds : List Declaration) (v : ℕ) (d : VpeDecl) → v < NODES → vpe_in ds v ≡ Some d → IsVpeOf ds d × (v ≡ d.vpe)
+vpe_is : (ds : List Declaration) (v : ℕ) (d : VpeDecl) → v < VPES → vpe_in ds v ≡ Some d → IsVpeOf ds d × (v ≡ d.vpe)
 unfolding vpe_in
 vpe_is ds v d small some = said_vpe ds v d (pe_in ds v) small refl some
 
@@ -63,13 +64,13 @@ vpe_number ds v d some = number v 0 (pe_in ds v) (roots_in ds v) (calls_in ds v)
 pub vpe_of : (ds : List Declaration) (d : VpeDecl) → Contains (vpes_of ds) d → IsVpeOf ds d
 unfolding vpes_of numbers
 vpe_of ds d within =
-    let g = given (vpe_in ds) (range_with_len 0 64) d within in
-    let small : g.from < NODES = let r = in_range 0 64 g.from g.within in omega arith in
+    let g = given (vpe_in ds) (range_with_len 0 128) d within in
+    let small : g.from < VPES = let r = in_range 0 128 g.from g.within in omega arith in
     (vpe_is ds g.from d small g.gives).0
 
 pub vpes_rise : (ds : List Declaration) → AllPairs (λ a b. a.vpe < b.vpe) (vpes_of ds)
 unfolding vpes_of numbers
-vpes_rise ds = pairs_given (vpe_in ds) (λ (v w : ℕ). v < w) (λ (a b : VpeDecl). a.vpe < b.vpe) (range_with_len 0 64) (range_rises 0 64) (λ v w a b less some some'. rw (← vpe_number ds v a some, ← vpe_number ds w b some') less)
+vpes_rise ds = pairs_given (vpe_in ds) (λ (v w : ℕ). v < w) (λ (a b : VpeDecl). a.vpe < b.vpe) (range_with_len 0 128) (range_rises 0 128) (λ v w a b less some some'. rw (← vpe_number ds v a some, ← vpe_number ds w b some') less)
 
 or_cases : (a b : Bool) → (a || b) ≡ true → (a ≡ true) ⊎ (b ≡ true)
 or_cases true b some = inl refl
@@ -101,13 +102,13 @@ few_roots roots all differ =
     let long : length (map (λ (r : Root). r.sel) roots) ≤ 256 = length-le_from_distinct_below (map (λ (r : Root). r.sel) roots) 256 (IsDistinct-from_AllPairs Decides-eqb (map (λ (r : Root). r.sel) roots) apart) (selectors_below roots all) in
     rw length-map at long
 
-pub plain_vpes : (kernels : ℕ) (ds : List Declaration) → AreAccepted kernels ds → All IsPlainVpe (vpes_of ds)
-plain_vpes kernels ds accepted = all_in IsPlainVpe (vpes_of ds) (λ d within.
+pub plain_vpes : (version kernels : ℕ) (ds : List Declaration) → AreAccepted version kernels ds → All IsPlainVpe (vpes_of ds)
+plain_vpes version kernels ds accepted = all_in IsPlainVpe (vpes_of ds) (λ d within.
     let v = vpe_of ds d within in
-    let r = sound.roots kernels ds accepted d.vpe in
+    let r = sound.roots version kernels ds accepted d.vpe in
     record {
       vpe = v.vpe;
-      pe = (sound.placed kernels ds accepted d.vpe d.pe v.pe).pe;
+      pe = node_small version d.pe (sound.placed version kernels ds accepted d.vpe d.pe v.pe).pe;
       few_roots = rw v.roots (few_roots (roots_in ds d.vpe) r.valid r.differ);
     })
 
@@ -185,9 +186,9 @@ same_vpe ds a b va vb same =
     vpe_parts a.vpe b.vpe a.pe b.pe a.roots b.roots a.calls b.calls same pe roots calls
 
 -- two services of the setup with one name are one
-same_service : (kernels : ℕ) (ds : List Declaration) → AreAccepted kernels ds → (s t : ServiceData) → IsServed ds (vpes_of ds) s → IsServed ds (vpes_of ds) t → s.name ≡ t.name → s ≡ t
-same_service kernels ds accepted s t a b name =
-    let once = (sound.named kernels ds accepted).once a.vpe.vpe a.service.place b.vpe.vpe b.service.place t.name (subst (sound.Serves ds a.vpe.vpe a.service.place) name a.serves) b.serves in
+same_service : (version kernels : ℕ) (ds : List Declaration) → AreAccepted version kernels ds → (s t : ServiceData) → IsServed ds (vpes_of ds) s → IsServed ds (vpes_of ds) t → s.name ≡ t.name → s ≡ t
+same_service version kernels ds accepted s t a b name =
+    let once = (sound.named version kernels ds accepted).once a.vpe.vpe a.service.place b.vpe.vpe b.service.place t.name (subst (sound.Serves ds a.vpe.vpe a.service.place) name a.serves) b.serves in
     let vpe : a.vpe ≡ b.vpe = same_vpe ds a.vpe b.vpe (vpe_of ds a.vpe a.declared) (vpe_of ds b.vpe b.declared) once.0 in
     let at : slice_get b.vpe.roots b.service.place ≡ Some a.service.root = subst (λ (d : VpeDecl). slice_get d.roots b.service.place ≡ Some a.service.root) vpe (subst (λ (i : ℕ). slice_get a.vpe.roots i ≡ Some a.service.root) once.1 a.service.at) in
     let root : a.service.root ≡ b.service.root = same_Some a.service.root b.service.root (sym at ∙ b.service.at) in
@@ -224,14 +225,14 @@ pub services_rise : (vpes : List VpeDecl) → AllPairs (λ a b. a.name < b.name)
 unfolding services_of numbers
 services_rise vpes = pairs_given (named (services_among vpes)) (λ (m n : ℕ). m < n) (λ (a b : ServiceData). a.name < b.name) (range_with_len 0 256) (range_rises 0 256) (λ m n a b less some some'. rw ((found_name (services_among vpes) m a some).1, (found_name (services_among vpes) n b some').1) less)
 
-pub services_same : (kernels : ℕ) (ds : List Declaration) → AreAccepted kernels ds → (s : ServiceData) → Contains (services_of (vpes_of ds)) s ↔ Contains (services_among (vpes_of ds)) s
+pub services_same : (version kernels : ℕ) (ds : List Declaration) → AreAccepted version kernels ds → (s : ServiceData) → Contains (services_of (vpes_of ds)) s ↔ Contains (services_among (vpes_of ds)) s
 unfolding services_of numbers
-services_same kernels ds accepted s = (
+services_same version kernels ds accepted s = (
   λ within. let g = given (named (services_among (vpes_of ds))) (range_with_len 0 256) s within in (found_name (services_among (vpes_of ds)) g.from s g.gives).0,
   λ within.
       let a = service_served ds s within in
-      let small : s.name ≤ 255 = (sound.named kernels ds accepted).small a.vpe.vpe a.service.place s.name a.serves in
-      gives (named (services_among (vpes_of ds))) (range_with_len 0 256) s.name s (range_has 0 256 s.name (omega arith) (omega arith)) (finds_name (services_among (vpes_of ds)) s within (λ t within' same. same_service kernels ds accepted t s (service_served ds t within') a same)),
+      let small : s.name ≤ 255 = (sound.named version kernels ds accepted).small a.vpe.vpe a.service.place s.name a.serves in
+      gives (named (services_among (vpes_of ds))) (range_with_len 0 256) s.name s (range_has 0 256 s.name (omega arith) (omega arith)) (finds_name (services_among (vpes_of ds)) s within (λ t within' same. same_service version kernels ds accepted t s (service_served ds t within') a same)),
 )
 
 -- an offer of the setup
@@ -388,8 +389,8 @@ unfolding total calls_at calls_in call_number
 no_calls a zero = omega arith
 no_calls a (suc n) = let rest : total (calls_at []) (a + 1) n ≤ call_number [] = no_calls (a + 1) n in omega arith
 
-calls_counted : (kernels : ℕ) (ds : List Declaration) → AreAccepted kernels ds → (a n : ℕ) → total (calls_at ds) a n ≤ call_number ds
-calls_counted kernels = sound.by_lines kernels (λ ds. (a n : ℕ) → total (calls_at ds) a n ≤ call_number ds)
+calls_counted : (version kernels : ℕ) (ds : List Declaration) → AreAccepted version kernels ds → (a n : ℕ) → total (calls_at ds) a n ≤ call_number ds
+calls_counted version kernels = sound.by_lines version kernels (λ ds. (a n : ℕ) → total (calls_at ds) a n ≤ call_number ds)
     no_calls
     (λ ds d so_far ranges fault a n.
     let more = call_more ds d a n in
@@ -412,34 +413,35 @@ unfolding total vpe_in
 sum_vpes ds a zero = omega arith
 sum_vpes ds a (suc n) = sum_option ds a (vpe_in ds a) (filter_map (vpe_in ds) (range_with_len (a + 1) n)) (total (calls_at ds) (a + 1) n) (λ d some. vpe_calls a (pe_in ds a) (roots_in ds a) (calls_in ds a) d some) (sum_vpes ds (a + 1) n)
 
-few_calls : (kernels : ℕ) (ds : List Declaration) → AreAccepted kernels ds → sum_by (λ (d : VpeDecl). length d.calls) (vpes_of ds) ≤ 20000
+few_calls : (version kernels : ℕ) (ds : List Declaration) → AreAccepted version kernels ds → sum_by (λ (d : VpeDecl). length d.calls) (vpes_of ds) ≤ 20000
 unfolding vpes_of numbers
-few_calls kernels ds accepted =
-    let a : sum_by (λ (d : VpeDecl). length d.calls) (filter_map (vpe_in ds) (range_with_len 0 64)) ≤ total (calls_at ds) 0 64 = sum_vpes ds 0 64 in
-    let b : total (calls_at ds) 0 64 ≤ call_number ds = calls_counted kernels ds accepted 0 64 in
-    let c : call_number ds ≤ 20000 = sound.few_calls kernels ds accepted in
+few_calls version kernels ds accepted =
+    let a : sum_by (λ (d : VpeDecl). length d.calls) (filter_map (vpe_in ds) (range_with_len 0 128)) ≤ total (calls_at ds) 0 128 = sum_vpes ds 0 128 in
+    let b : total (calls_at ds) 0 128 ≤ call_number ds = calls_counted version kernels ds accepted 0 128 in
+    let c : call_number ds ≤ 20000 = sound.few_calls version kernels ds accepted in
     omega arith
 
 -- the table of owners
 abbrev owners : ℕ → List Declaration → MembershipTable
 owners kernels ds = record { kernels = kernels; owners = map (owner_in ds) (numbers PES) }
 
-owners_are : (kernels : ℕ) (ds : List Declaration) → 1 ≤ kernels → kernels ≤ MOST_KERNELS → AreAccepted kernels ds → IsMembership (owners kernels ds)
+owners_are : (version kernels : ℕ) (ds : List Declaration) → 1 ≤ kernels → kernels ≤ most_kernels version → AreAccepted version kernels ds → IsMembership (owners kernels ds)
 unfolding numbers
-owners_are kernels ds some few accepted = record {
+owners_are version kernels ds some few accepted = record {
   some_kernel = some;
-  few_kernels = omega arith;
+  few_kernels = let most : most_kernels version ≤ KERNELS = most_few version in omega arith;
   all_pes = rw length-map (length-range 0 PES);
   owners_exist = λ pe kernel owned.
       let e : 0 + pe ≡ pe = omega arith in
       let said : owner_in ds pe ≡ Some kernel = rw e at (in_table (owner_in ds) 0 PES pe kernel owned) in
-      sound.owners_exist kernels ds accepted pe kernel said;
+      sound.owners_exist version kernels ds accepted pe kernel said;
 }
 
-owned_in : (kernels : ℕ) (ds : List Declaration) (p : ℕ) → p < NODES → IsSome (owner_in ds p) → IsSome (owner_at (owners kernels ds) p)
+owned_in : (version kernels : ℕ) (ds : List Declaration) (p : ℕ) → p < most_vpes version → IsSome (owner_in ds p) → IsSome (owner_at (owners kernels ds) p)
 unfolding numbers
-owned_in kernels ds p small some =
+owned_in version kernels ds p small some =
     let e : 0 + p ≡ p = omega arith in
+    let below : p < VPES = node_small version p small in
     let same : get_or (map (owner_in ds) (range_with_len 0 PES)) p None ≡ owner_in ds p = rw e at (table_has (owner_in ds) 0 PES p (omega arith)) in
     rw same some
 
@@ -447,46 +449,55 @@ owned_in kernels ds p small some =
 any_in : {X : Type 0} (P : X → Type 0) (xs : List X) (x : X) → Contains xs x → P x → Any P xs
 any_in P xs x (k, lt, is) holds = (k, x, lt, is, holds)
 
-vpe_is_declared : (kernels : ℕ) (ds : List Declaration) (T : Setup) (d : VpeDecl) → AreAccepted kernels ds → T.version ≡ 1 → T.owners ≡ owners kernels ds → Contains (vpes_of ds) d → IsVpeDecl T d
-vpe_is_declared kernels ds T d accepted first table within =
+vpe_is_declared : (version kernels : ℕ) (ds : List Declaration) (T : Setup) (d : VpeDecl) → AreAccepted version kernels ds → T.version ≡ version → T.owners ≡ owners kernels ds → Contains (vpes_of ds) d → IsVpeDecl T d
+vpe_is_declared version kernels ds T d accepted first table within =
     let v = vpe_of ds d within in
-    let placed = sound.placed kernels ds accepted d.vpe d.pe v.pe in
-    let r = sound.roots kernels ds accepted d.vpe in
+    let placed = sound.placed version kernels ds accepted d.vpe d.pe v.pe in
+    let r = sound.roots version kernels ds accepted d.vpe in
     record {
-      vpe = rw first v.vpe;
+      vpe = rw first placed.vpe;
       pe = rw first placed.pe;
-      owned = rw table (owned_in kernels ds d.pe placed.pe placed.owned);
+      owned = rw table (owned_in version kernels ds d.pe placed.pe placed.owned);
       selectors_differ = rw v.roots r.differ;
       roots = rw v.roots r.valid;
-      calls = rw (first, v.calls) (sound.calls kernels ds accepted d.vpe);
+      calls = rw (first, v.calls) (sound.calls version kernels ds accepted d.vpe);
     }
 
 -- a PE that has an owner is one of which a text can speak
-owned_small : (kernels : ℕ) (ds : List Declaration) → AreAccepted kernels ds → (p : ℕ) → IsSome (owner_at (owners kernels ds) p) → p < NODES
+owned_small : (version kernels : ℕ) (ds : List Declaration) → AreAccepted version kernels ds → (p : ℕ) → IsSome (owner_at (owners kernels ds) p) → p < most_vpes version
 unfolding numbers
-owned_small kernels ds accepted p some =
+owned_small version kernels ds accepted p some =
     let e : 0 + p ≡ p = omega arith in
     elim (sound.some_or_none (owner_at (owners kernels ds) p)) [
       | inl none ↦ absurd (true≢false (sym (rw none at some)))
-      | inr owned ↦ sound.owners_small kernels ds accepted p owned.0 (rw e at (in_table (owner_in ds) 0 PES p owned.0 owned.1))
+      | inr owned ↦ sound.owners_small version kernels ds accepted p owned.0 (rw e at (in_table (owner_in ds) 0 PES p owned.0 owned.1))
+    ]
+
+-- a window is told, or else 4, which both versions have
+window_fits : (version : ℕ) (told : Option ℕ) → ((n : ℕ) → told ≡ Some n → IsWindow version n) → IsWindow version (option_map_or (λ n. n) told LINK_WINDOW)
+window_fits version (Some n) each = each n refl
+window_fits version None each =
+    elim (cases_Bool (version == 1)) [
+      | inl one ↦ let least : least_window version ≡ 4 = rw one refl in let most : most_window version ≡ 4 = rw one refl in (omega arith, omega arith)
+      | inr other ↦ let least : least_window version ≡ 1 = rw other refl in let most : most_window version ≡ 32 = rw other refl in (omega arith, omega arith)
     ]
 
 -- what accepted lines declare is a setup
-pub setup_is : (kernels : ℕ) (ds : List Declaration) → 1 ≤ kernels → kernels ≤ MOST_KERNELS → AreAccepted kernels ds → IsSetup (setup_of kernels ds)
+pub setup_is : (version kernels : ℕ) (ds : List Declaration) → (version ≡ 1) ⊎ (version ≡ 2) → 1 ≤ kernels → kernels ≤ most_kernels version → AreAccepted version kernels ds → IsSetup (setup_of version kernels ds)
 unfolding setup_of
-setup_is kernels ds some few accepted =
+setup_is version kernels ds versions some few accepted =
     let rise : AllPairs (λ (a b : VpeDecl). a.vpe < b.vpe) (vpes_of ds) = vpes_rise ds in
     let served : AllPairs (λ (a b : ServiceData). a.name < b.name) (services_of (vpes_of ds)) = services_rise (vpes_of ds) in
-    let apart = sound.apart kernels ds accepted in
+    let apart = sound.apart version kernels ds accepted in
     record {
-      versioned = inl refl;
-      windowed = (omega arith, omega arith);
+      versioned = versions;
+      windowed = window_fits version (window_in ds) (sound.windows version kernels ds accepted);
       some_kernel = some;
       few_kernels = few;
-      membership = owners_are kernels ds some few accepted;
+      membership = owners_are version kernels ds some few accepted;
       same_kernels = refl;
-      owned_pes = owned_small kernels ds accepted;
-      vpes = all_in (IsVpeDecl (setup_of kernels ds)) (vpes_of ds) (λ d within. vpe_is_declared kernels ds (setup_of kernels ds) d accepted refl refl within);
+      owned_pes = owned_small version kernels ds accepted;
+      vpes = all_in (IsVpeDecl (setup_of version kernels ds)) (vpes_of ds) (λ d within. vpe_is_declared version kernels ds (setup_of version kernels ds) d accepted refl refl within);
       vpes_rise = rise;
       pes_differ = λ i j d lt within same.
           let a = vpe_of ds (get_or (vpes_of ds) i d) (Contains-get_or (vpes_of ds) i d (omega arith)) in
@@ -495,33 +506,28 @@ setup_is kernels ds some few accepted =
           let e = apart.apart (get_or (vpes_of ds) i d).vpe (get_or (vpes_of ds) j d).vpe (get_or (vpes_of ds) j d).pe (a.pe ∙ ap Some same) b.pe in
           absurd (omega arith);
       services_rise = served;
-      services = services_same kernels ds accepted;
-      offers = all_in (IsOffer (setup_of kernels ds)) (offers_of ds (services_of (vpes_of ds))) (λ o within.
+      services = services_same version kernels ds accepted;
+      offers = all_in (IsOffer (setup_of version kernels ds)) (offers_of ds (services_of (vpes_of ds))) (λ o within.
           let is = offer_of_setup ds (services_of (vpes_of ds)) o within in
           record {
             index = is.index;
-            selector = sound.offers kernels ds accepted o.name o.index o.sel is.offered;
+            selector = sound.offers version kernels ds accepted o.name o.index o.sel is.offered;
             declared = any_in (λ (s : ServiceData). s.name ≡ o.name) (services_of (vpes_of ds)) is.service is.declared is.name;
           });
       offers_rise = offers_rise ds (services_of (vpes_of ds)) served;
-      denies = all_in (λ (p : ℕ × ℕ). IsDeclared (setup_of kernels ds) p.0 × IsDeclared (setup_of kernels ds) p.1) (denies_of ds (vpes_of ds)) (λ p within.
+      denies = all_in (λ (p : ℕ × ℕ). IsDeclared (setup_of version kernels ds) p.0 × IsDeclared (setup_of version kernels ds) p.1) (denies_of ds (vpes_of ds)) (λ p within.
           let is = deny_of_setup ds (vpes_of ds) p within in
           (any_in (λ (d : VpeDecl). d.vpe ≡ p.0) (vpes_of ds) is.first is.has_first (ap (λ (q : ℕ × ℕ). q.0) is.is), any_in (λ (d : VpeDecl). d.vpe ≡ p.1) (vpes_of ds) is.second is.has_second (ap (λ (q : ℕ × ℕ). q.1) is.is)));
       denies_rise = denies_rise ds (vpes_of ds) rise;
-      kills = all_in (λ (p : ℕ × ℕ). IsDeclared (setup_of kernels ds) p.0 × IsWord p.1) (kills_of ds (vpes_of ds)) (λ p within.
+      kills = all_in (λ (p : ℕ × ℕ). IsDeclared (setup_of version kernels ds) p.0 × IsWord p.1) (kills_of ds (vpes_of ds)) (λ p within.
           let is = kill_of_setup ds (vpes_of ds) p within in
-          (any_in (λ (d : VpeDecl). d.vpe ≡ p.0) (vpes_of ds) is.vpe is.declared is.is, sound.kills kernels ds accepted is.vpe.vpe p.1 is.killed));
+          (any_in (λ (d : VpeDecl). d.vpe ≡ p.0) (vpes_of ds) is.vpe is.declared is.is, sound.kills version kernels ds accepted is.vpe.vpe p.1 is.killed));
       kills_rise = kills_rise ds (vpes_of ds) rise;
-      few_calls = few_calls kernels ds accepted;
+      few_calls = few_calls version kernels ds accepted;
     }
 
--- a trace can tell it
-pub trace_fits : (kernels : ℕ) (ds : List Declaration) → 1 ≤ kernels → kernels ≤ MOST_KERNELS → AreAccepted kernels ds → TraceFits (setup_of kernels ds)
-unfolding setup_of
-trace_fits kernels ds some few accepted = record { setup = setup_is kernels ds some few accepted; version = refl }
-
-abbrev pub made_setup : ℕ → MembershipTable → List VpeDecl → List ServiceData → List OfferData → List (ℕ × ℕ) → List (ℕ × ℕ) → Setup
-made_setup k table vpes services offers denies kills = record { version = 1; window = LINK_WINDOW; kernels = k; owners = table; vpes = vpes; services = services; offers = offers; denies = denies; kills = kills }
+abbrev pub made_setup : (version window k : ℕ) → MembershipTable → List VpeDecl → List ServiceData → List OfferData → List (ℕ × ℕ) → List (ℕ × ℕ) → Setup
+made_setup version window k table vpes services offers denies kills = record { version = version; window = window; kernels = k; owners = table; vpes = vpes; services = services; offers = offers; denies = denies; kills = kills }
 
 abbrev table_of : ℕ → List (Option ℕ) → MembershipTable
 table_of k list = record { kernels = k; owners = list }
@@ -530,9 +536,9 @@ same_owners : (k kernels : ℕ) (a b : List (Option ℕ)) → k ≡ kernels → 
 same_owners k kernels a b number list = rw (number, list) refl
 
 -- what the code makes of its tables is that setup
-pub same_setup : (kernels k : ℕ) (ds : List Declaration) (table : MembershipTable) (vpes : List VpeDecl) (services : List ServiceData) (offers : List OfferData) (denies kills : List (ℕ × ℕ)) → length table.owners ≡ PES → table.kernels ≡ kernels → ((p : ℕ) → owner_at table p ≡ owner_in ds p) → k ≡ table.kernels → vpes ≡ vpes_of ds → services ≡ services_of vpes → offers ≡ offers_of ds services → denies ≡ denies_of ds vpes → kills ≡ kills_of ds vpes → made_setup k table vpes services offers denies kills ≡ setup_of kernels ds
+pub same_setup : (version kernels k window : ℕ) (ds : List Declaration) (table : MembershipTable) (vpes : List VpeDecl) (services : List ServiceData) (offers : List OfferData) (denies kills : List (ℕ × ℕ)) → window ≡ window_of ds → length table.owners ≡ PES → table.kernels ≡ kernels → ((p : ℕ) → owner_at table p ≡ owner_in ds p) → k ≡ table.kernels → vpes ≡ vpes_of ds → services ≡ services_of vpes → offers ≡ offers_of ds services → denies ≡ denies_of ds vpes → kills ≡ kills_of ds vpes → made_setup version window k table vpes services offers denies kills ≡ setup_of version kernels ds
 unfolding setup_of numbers
-same_setup kernels k ds table vpes services offers denies kills long number tells is v s o d l =
+same_setup version kernels k window ds table vpes services offers denies kills told long number tells is v s o d l =
     let list : table.owners ≡ map (owner_in ds) (range_with_len 0 PES) = same_table (owner_in ds) table.owners 0 PES long (λ i. tells i ∙ (let e : i ≡ 0 + i = omega arith in ap (owner_in ds) e)) in
     let whole : table ≡ owners kernels ds = same_owners table.kernels kernels table.owners (map (owner_in ds) (range_with_len 0 PES)) number list in
-    rw (is, number, whole, l, d, o, s, v) refl
+    rw (told, is, number, whole, l, d, o, s, v) refl

@@ -12,25 +12,25 @@ use Rattle.sem_msg.specs.declared.call.Call.{Call}
 use Rattle.sem_msg.specs.declared.setup.Root.{Root}
 use Rattle.sem_msg.specs.Calls.{IsWord, IsValidCall}
 use Rattle.sem_msg.specs.Setup.{IsRoot}
-use Rattle.sem_trace.specs.declared.limits.TheConstants.{NODES}
+use Rattle.sem_msg.specs.Versions.{most_vpes, IsWindow}
 use Rattle.sem_trace.specs.declared.declaration.Declaration.{Declaration}
-use Rattle.sem_trace.specs.declared.declaration.Declaration.TheVariants.{Pe, Vpe, Memory, Receive, Service, Offer, Deny, Kill, Call as Calls}
-use Rattle.sem_trace.specs.Earlier.{said_owner, owner_in, said_pe, pe_in, is_taken, said_root, roots_in, holds_at, said_call, calls_in, says_service, has_service, said_offer, offer_in, says_deny, is_denied, said_kill, kill_in, call_number, is_call}
+use Rattle.sem_trace.specs.declared.declaration.Declaration.TheVariants.{Window, Pe, Vpe, Memory, Receive, Service, Offer, Deny, Kill, Call as Calls}
+use Rattle.sem_trace.specs.Earlier.{said_window, window_in, said_owner, owner_in, said_pe, pe_in, is_taken, said_root, roots_in, holds_at, said_call, calls_in, says_service, has_service, said_offer, offer_in, says_deny, is_denied, said_kill, kill_in, call_number, is_call}
 use Rattle.sem_trace.specs.Context.{context_fault}
 use Rattle.sem_trace.specs.Ranges.{IsInRange}
 use Rattle.sem_reader.specs.Accepted.{AreAccepted}
-use Rattle.sem_reader.proofs.OneMore.{no_fault, is_denied-same, has_service-same, is_taken-new, roots_in-same, roots_in-new, calls_in-same, calls_in-new, has_service-new, call_number-more, is_taken-kept, has_service-kept, offer_in-more, owner_in-more, pe_in-more, kill_in-more}
+use Rattle.sem_reader.proofs.OneMore.{window_in-more, no_fault, is_denied-same, has_service-same, is_taken-new, roots_in-same, roots_in-new, calls_in-same, calls_in-new, has_service-new, call_number-more, is_taken-kept, has_service-kept, offer_in-more, owner_in-more, pe_in-more, kill_in-more}
 
 -- what holds of no lines, and of one more where it holds of those before it, holds of accepted lines
-module _ (kernels : ℕ) (P : List Declaration → Type 0) (none : P []) (more : (ds : List Declaration) (d : Declaration) → P ds → IsInRange kernels d → context_fault ds d ≡ None → P (ds ++ d ∷ [])) where
-  from_front : (before after : List Declaration) → AreAccepted kernels (before ++ after) → P before → P (before ++ after)
+module _ (version kernels : ℕ) (P : List Declaration → Type 0) (none : P []) (more : (ds : List Declaration) (d : Declaration) → P ds → IsInRange version kernels d → context_fault ds d ≡ None → P (ds ++ d ∷ [])) where
+  from_front : (before after : List Declaration) → AreAccepted version kernels (before ++ after) → P before → P (before ++ after)
   from_front before [] accepted so_far = subst P (sym (append-nil before)) so_far
   from_front before (d ∷ after) accepted so_far =
-      let here : IsInRange kernels d × (context_fault before d ≡ None) = accepted before after d refl in
+      let here : IsInRange version kernels d × (context_fault before d ≡ None) = accepted before after d refl in
       let whole : (before ++ d ∷ []) ++ after ≡ before ++ d ∷ after = append_assoc before (d ∷ []) after in
-      subst P whole (from_front (before ++ d ∷ []) after (subst (AreAccepted kernels) (sym whole) accepted) (more before d so_far here.0 here.1))
+      subst P whole (from_front (before ++ d ∷ []) after (subst (AreAccepted version kernels) (sym whole) accepted) (more before d so_far here.0 here.1))
 
-  pub by_lines : (ds : List Declaration) → AreAccepted kernels ds → P ds
+  pub by_lines : (ds : List Declaration) → AreAccepted version kernels ds → P ds
   by_lines ds accepted = from_front [] ds accepted none
 
 pub some_or_none : {X : Type 0} (o : Option X) → (o ≡ None) ⊎ ((x : X) × (o ≡ Some x))
@@ -67,35 +67,35 @@ or_right true b none = absurd (true≢false none)
 or_right false b none = none
 
 -- each owner is one of the kernels
-said_owner_range : (kernels p : ℕ) (d : Declaration) (kernel : ℕ) → IsInRange kernels d → said_owner p d ≡ Some kernel → kernel < kernels
-said_owner_range kernels p (Pe q k) kernel ranges some = let same = if_same q p k kernel some in rw (← same.1) ranges.1
-said_owner_range kernels p d kernel ranges some = absurd (none-some kernel some)
+said_owner_range : (version kernels p : ℕ) (d : Declaration) (kernel : ℕ) → IsInRange version kernels d → said_owner p d ≡ Some kernel → kernel < kernels
+said_owner_range version kernels p (Pe q k) kernel ranges some = let same = if_same q p k kernel some in rw (← same.1) ranges.1
+said_owner_range version kernels p d kernel ranges some = absurd (none-some kernel some)
 
 nobody : (p x : ℕ) → owner_in [] p ≡ Some x → ⊥
 unfolding owner_in
 nobody p x some = none-some x some
 
-pub owners_exist : (kernels : ℕ) (ds : List Declaration) → AreAccepted kernels ds → (p kernel : ℕ) → owner_in ds p ≡ Some kernel → kernel < kernels
-owners_exist kernels = by_lines kernels (λ ds. (p kernel : ℕ) → owner_in ds p ≡ Some kernel → kernel < kernels)
+pub owners_exist : (version kernels : ℕ) (ds : List Declaration) → AreAccepted version kernels ds → (p kernel : ℕ) → owner_in ds p ≡ Some kernel → kernel < kernels
+owners_exist version kernels = by_lines version kernels (λ ds. (p kernel : ℕ) → owner_in ds p ≡ Some kernel → kernel < kernels)
     (λ p kernel some. absurd (nobody p kernel some))
     (λ ds d so_far ranges fault p kernel some.
     elim (or_last (owner_in ds p) (said_owner p d) kernel (sym (owner_in-more ds d p) ∙ some)) [
       | inl old ↦ so_far p kernel old
-      | inr new ↦ said_owner_range kernels p d kernel ranges new.1
+      | inr new ↦ said_owner_range version kernels p d kernel ranges new.1
     ])
 
 -- each PE that has an owner is one of which a text can speak
-said_owner_small : (kernels p : ℕ) (d : Declaration) (kernel : ℕ) → IsInRange kernels d → said_owner p d ≡ Some kernel → p < NODES
-said_owner_small kernels p (Pe q k) kernel ranges some = let same = if_same q p k kernel some in rw (← same.0) ranges.0
-said_owner_small kernels p d kernel ranges some = absurd (none-some kernel some)
+said_owner_small : (version kernels p : ℕ) (d : Declaration) (kernel : ℕ) → IsInRange version kernels d → said_owner p d ≡ Some kernel → p < most_vpes version
+said_owner_small version kernels p (Pe q k) kernel ranges some = let same = if_same q p k kernel some in rw (← same.0) ranges.0
+said_owner_small version kernels p d kernel ranges some = absurd (none-some kernel some)
 
-pub owners_small : (kernels : ℕ) (ds : List Declaration) → AreAccepted kernels ds → (p kernel : ℕ) → owner_in ds p ≡ Some kernel → p < NODES
-owners_small kernels = by_lines kernels (λ ds. (p kernel : ℕ) → owner_in ds p ≡ Some kernel → p < NODES)
+pub owners_small : (version kernels : ℕ) (ds : List Declaration) → AreAccepted version kernels ds → (p kernel : ℕ) → owner_in ds p ≡ Some kernel → p < most_vpes version
+owners_small version kernels = by_lines version kernels (λ ds. (p kernel : ℕ) → owner_in ds p ≡ Some kernel → p < most_vpes version)
     (λ p kernel some. absurd (nobody p kernel some))
     (λ ds d so_far ranges fault p kernel some.
     elim (or_last (owner_in ds p) (said_owner p d) kernel (sym (owner_in-more ds d p) ∙ some)) [
       | inl old ↦ so_far p kernel old
-      | inr new ↦ said_owner_small kernels p d kernel ranges new.1
+      | inr new ↦ said_owner_small version kernels p d kernel ranges new.1
     ])
 
 -- a VPE is declared by its line
@@ -108,22 +108,22 @@ unfolding pe_in
 no_vpe v x some = none-some x some
 
 -- the PE of a VPE is a PE that has an owner, and is taken
-pub record IsPlaced (ds : List Declaration) (v p : ℕ) : Type 0 where
-  pub vpe : v < NODES
-  pub pe : p < NODES
+pub record IsPlaced (version : ℕ) (ds : List Declaration) (v p : ℕ) : Type 0 where
+  pub vpe : v < most_vpes version
+  pub pe : p < most_vpes version
   pub owned : IsSome (owner_in ds p)
   pub taken : is_taken ds p ≡ true
 
-still_placed : (ds : List Declaration) (d : Declaration) (v p : ℕ) → IsPlaced ds v p → IsPlaced (ds ++ d ∷ []) v p
-still_placed ds d v p placed = record {
+still_placed : (version : ℕ) (ds : List Declaration) (d : Declaration) (v p : ℕ) → IsPlaced version ds v p → IsPlaced version (ds ++ d ∷ []) v p
+still_placed version ds d v p placed = record {
   vpe = placed.vpe;
   pe = placed.pe;
   owned = rw (owner_in-more ds d p) (some_or (owner_in ds p) (said_owner p d) placed.owned);
   taken = is_taken-kept ds d p placed.taken;
 }
 
-new_placed : (kernels : ℕ) (ds : List Declaration) (v p : ℕ) → IsInRange kernels (Vpe v p) → context_fault ds (Vpe v p) ≡ None → IsPlaced (ds ++ Vpe v p ∷ []) v p
-new_placed kernels ds v p ranges fault =
+new_placed : (version kernels : ℕ) (ds : List Declaration) (v p : ℕ) → IsInRange version kernels (Vpe v p) → context_fault ds (Vpe v p) ≡ None → IsPlaced version (ds ++ Vpe v p ∷ []) v p
+new_placed version kernels ds v p ranges fault =
     let owned : IsSome (owner_in ds p) = not_none (owner_in ds p) (no_fault ds (Vpe v p) fault).1 in
     record {
       vpe = ranges.0;
@@ -132,15 +132,15 @@ new_placed kernels ds v p ranges fault =
       taken = is_taken-new ds (Vpe v p) p (eq-eqb p p refl);
     }
 
-pub placed : (kernels : ℕ) (ds : List Declaration) → AreAccepted kernels ds → (v p : ℕ) → pe_in ds v ≡ Some p → IsPlaced ds v p
-placed kernels = by_lines kernels (λ ds. (v p : ℕ) → pe_in ds v ≡ Some p → IsPlaced ds v p)
+pub placed : (version kernels : ℕ) (ds : List Declaration) → AreAccepted version kernels ds → (v p : ℕ) → pe_in ds v ≡ Some p → IsPlaced version ds v p
+placed version kernels = by_lines version kernels (λ ds. (v p : ℕ) → pe_in ds v ≡ Some p → IsPlaced version ds v p)
     (λ v p some. absurd (no_vpe v p some))
     (λ ds d so_far ranges fault v p some.
     elim (or_last (pe_in ds v) (said_pe v d) p (sym (pe_in-more ds d v) ∙ some)) [
-      | inl old ↦ still_placed ds d v p (so_far v p old)
+      | inl old ↦ still_placed version ds d v p (so_far v p old)
       | inr new ↦
           let is : d ≡ Vpe v p = said_vpe v d p new.1 in
-          rw is (new_placed kernels ds v p (rw is at ranges) (rw is at fault))
+          rw is (new_placed version kernels ds v p (rw is at ranges) (rw is at fault))
     ])
 
 vpe_number : Declaration → ℕ
@@ -156,8 +156,8 @@ pub record AreApart (ds : List Declaration) : Type 0 where
   pub on : (v p : ℕ) → pe_in ds v ≡ Some p → is_taken ds p ≡ true
   pub apart : (v w p : ℕ) → pe_in ds v ≡ Some p → pe_in ds w ≡ Some p → v ≡ w
 
-one_vpe_more : (kernels : ℕ) (ds : List Declaration) (d : Declaration) → AreApart ds → IsInRange kernels d → context_fault ds d ≡ None → AreApart (ds ++ d ∷ [])
-one_vpe_more kernels ds d so_far ranges fault =
+one_vpe_more : (version kernels : ℕ) (ds : List Declaration) (d : Declaration) → AreApart ds → IsInRange version kernels d → context_fault ds d ≡ None → AreApart (ds ++ d ∷ [])
+one_vpe_more version kernels ds d so_far ranges fault =
     let told = λ (v p : ℕ) (some : pe_in (ds ++ d ∷ []) v ≡ Some p). or_last (pe_in ds v) (said_pe v d) p (sym (pe_in-more ds d v) ∙ some) in
     let free : (v p : ℕ) → said_pe v d ≡ Some p → is_taken ds p ≡ false = λ v p new. let is : d ≡ Vpe v p = said_vpe v d p new in or_right _ _ (no_fault ds (Vpe v p) (rw is at fault)).2 in
     record {
@@ -179,41 +179,41 @@ one_vpe_more kernels ds d so_far ranges fault =
           ];
     }
 
-pub apart : (kernels : ℕ) (ds : List Declaration) → AreAccepted kernels ds → AreApart ds
-apart kernels = by_lines kernels AreApart
+pub apart : (version kernels : ℕ) (ds : List Declaration) → AreAccepted version kernels ds → AreApart ds
+apart version kernels = by_lines version kernels AreApart
     (record { on = λ v p some. absurd (no_vpe v p some); apart = λ v w p some some'. absurd (no_vpe v p some) })
-    (one_vpe_more kernels)
+    (one_vpe_more version kernels)
 
 -- a root that a line declares is one, and nothing stood at its selector
 pub record IsNewRoot (ds : List Declaration) (v : ℕ) (r : Root) : Type 0 where
   pub valid : IsRoot r
   pub free : holds_at (roots_in ds v) r.sel ≡ false
 
-new_memory : (kernels : ℕ) (ds : List Declaration) (v s b l g : ℕ) → IsInRange kernels (Memory v s b l g) → context_fault ds (Memory v s b l g) ≡ None → IsNewRoot ds v (record { sel = s; object = Mem b l g })
-new_memory kernels ds v s b l g ranges fault =
+new_memory : (version kernels : ℕ) (ds : List Declaration) (v s b l g : ℕ) → IsInRange version kernels (Memory v s b l g) → context_fault ds (Memory v s b l g) ≡ None → IsNewRoot ds v (record { sel = s; object = Mem b l g })
+new_memory version kernels ds v s b l g ranges fault =
     let tests = no_fault ds (Memory v s b l g) fault in
     let short : b + l ≤ 4294967296 = ltb-false 4294967296 (b + l) tests.0 in
     record { valid = record { selector = ranges.1; kind = tt; ranges = (ranges.2, ranges.3, ranges.4, short) }; free = tests.2 }
 
-new_receive : (kernels : ℕ) (ds : List Declaration) (v s n : ℕ) → IsInRange kernels (Receive v s n) → context_fault ds (Receive v s n) ≡ None → IsNewRoot ds v (record { sel = s; object = Recv n })
-new_receive kernels ds v s n ranges fault =
+new_receive : (version kernels : ℕ) (ds : List Declaration) (v s n : ℕ) → IsInRange version kernels (Receive v s n) → context_fault ds (Receive v s n) ≡ None → IsNewRoot ds v (record { sel = s; object = Recv n })
+new_receive version kernels ds v s n ranges fault =
     record { valid = record { selector = ranges.1; kind = tt; ranges = (ranges.2, ranges.3) }; free = (no_fault ds (Receive v s n) fault).2 }
 
-new_service : (kernels : ℕ) (ds : List Declaration) (v s n : ℕ) → IsInRange kernels (Service v s n) → context_fault ds (Service v s n) ≡ None → IsNewRoot ds v (record { sel = s; object = Serv n })
-new_service kernels ds v s n ranges fault =
+new_service : (version kernels : ℕ) (ds : List Declaration) (v s n : ℕ) → IsInRange version kernels (Service v s n) → context_fault ds (Service v s n) ≡ None → IsNewRoot ds v (record { sel = s; object = Serv n })
+new_service version kernels ds v s n ranges fault =
     record { valid = record { selector = ranges.1; kind = tt; ranges = ranges.2 }; free = and_left _ _ (no_fault ds (Service v s n) fault).2 }
 
-new_root : (kernels : ℕ) (ds : List Declaration) (d : Declaration) (v : ℕ) (r : Root) → IsInRange kernels d → context_fault ds d ≡ None → said_root v d ≡ Some r → IsNewRoot ds v r
-new_root kernels ds (Memory w s b l g) v r ranges fault some =
+new_root : (version kernels : ℕ) (ds : List Declaration) (d : Declaration) (v : ℕ) (r : Root) → IsInRange version kernels d → context_fault ds d ≡ None → said_root v d ≡ Some r → IsNewRoot ds v r
+new_root version kernels ds (Memory w s b l g) v r ranges fault some =
     let same = if_same w v (record { sel = s; object = Mem b l g }) r some in
-    subst (λ (x : ℕ). IsNewRoot ds x r) same.0 (subst (IsNewRoot ds w) same.1 (new_memory kernels ds w s b l g ranges fault))
-new_root kernels ds (Receive w s n) v r ranges fault some =
+    subst (λ (x : ℕ). IsNewRoot ds x r) same.0 (subst (IsNewRoot ds w) same.1 (new_memory version kernels ds w s b l g ranges fault))
+new_root version kernels ds (Receive w s n) v r ranges fault some =
     let same = if_same w v (record { sel = s; object = Recv n }) r some in
-    subst (λ (x : ℕ). IsNewRoot ds x r) same.0 (subst (IsNewRoot ds w) same.1 (new_receive kernels ds w s n ranges fault))
-new_root kernels ds (Service w s n) v r ranges fault some =
+    subst (λ (x : ℕ). IsNewRoot ds x r) same.0 (subst (IsNewRoot ds w) same.1 (new_receive version kernels ds w s n ranges fault))
+new_root version kernels ds (Service w s n) v r ranges fault some =
     let same = if_same w v (record { sel = s; object = Serv n }) r some in
-    subst (λ (x : ℕ). IsNewRoot ds x r) same.0 (subst (IsNewRoot ds w) same.1 (new_service kernels ds w s n ranges fault))
-new_root kernels ds d v r ranges fault some = absurd (none-some r some)
+    subst (λ (x : ℕ). IsNewRoot ds x r) same.0 (subst (IsNewRoot ds w) same.1 (new_service version kernels ds w s n ranges fault))
+new_root version kernels ds d v r ranges fault some = absurd (none-some r some)
 
 not_held : (roots : List Root) (s : ℕ) → holds_at roots s ≡ false → (k : ℕ) (d : Root) → k < length roots → (get_or roots k d).sel ≢ s
 not_held [] s free k d within = absurd (omega arith)
@@ -229,39 +229,39 @@ pub record AreRoots (roots : List Root) : Type 0 where
   pub valid : All IsRoot roots
   pub differ : AllPairs (λ a b. a.sel ≢ b.sel) roots
 
-one_root_more : (kernels : ℕ) (ds : List Declaration) (d : Declaration) → ((v : ℕ) → AreRoots (roots_in ds v)) → IsInRange kernels d → context_fault ds d ≡ None → (v : ℕ) → AreRoots (roots_in (ds ++ d ∷ []) v)
-one_root_more kernels ds d so_far ranges fault v =
+one_root_more : (version kernels : ℕ) (ds : List Declaration) (d : Declaration) → ((v : ℕ) → AreRoots (roots_in ds v)) → IsInRange version kernels d → context_fault ds d ≡ None → (v : ℕ) → AreRoots (roots_in (ds ++ d ∷ []) v)
+one_root_more version kernels ds d so_far ranges fault v =
     elim (some_or_none (said_root v d)) [
       | inl none ↦ rw (roots_in-same ds d v none) (so_far v)
       | inr some ↦
-          let new = new_root kernels ds d v some.0 ranges fault some.1 in
+          let new = new_root version kernels ds d v some.0 ranges fault some.1 in
           rw (roots_in-new ds d v some.0 some.1) (record {
             valid = All-push IsRoot (roots_in ds v) some.0 (so_far v).valid new.valid;
             differ = all_pairs_push (λ (a b : Root). a.sel ≢ b.sel) (roots_in ds v) some.0 (so_far v).differ (not_held (roots_in ds v) some.0.sel new.free);
           })
     ]
 
-pub roots : (kernels : ℕ) (ds : List Declaration) → AreAccepted kernels ds → (v : ℕ) → AreRoots (roots_in ds v)
-roots kernels = by_lines kernels (λ ds. (v : ℕ) → AreRoots (roots_in ds v))
+pub roots : (version kernels : ℕ) (ds : List Declaration) → AreAccepted version kernels ds → (v : ℕ) → AreRoots (roots_in ds v)
+roots version kernels = by_lines version kernels (λ ds. (v : ℕ) → AreRoots (roots_in ds v))
     (λ v. rw (no_roots v) (record { valid = All-nil IsRoot; differ = λ i j d lt within. absurd (omega arith) }))
-    (one_root_more kernels)
+    (one_root_more version kernels)
 
 -- the calls of a VPE are calls
-said_call_is : (kernels : ℕ) (v : ℕ) (d : Declaration) (call : Call) → IsInRange kernels d → said_call v d ≡ Some call → IsValidCall NODES call
-said_call_is kernels v (Calls w c) call ranges some = subst (IsValidCall NODES) (if_same w v c call some).1 ranges.1
-said_call_is kernels v d call ranges some = absurd (none-some call some)
+said_call_is : (version kernels : ℕ) (v : ℕ) (d : Declaration) (call : Call) → IsInRange version kernels d → said_call v d ≡ Some call → IsValidCall (most_vpes version) call
+said_call_is version kernels v (Calls w c) call ranges some = subst (IsValidCall (most_vpes version)) (if_same w v c call some).1 ranges.1
+said_call_is version kernels v d call ranges some = absurd (none-some call some)
 
 no_calls : (v : ℕ) → calls_in [] v ≡ []
 unfolding calls_in
 no_calls v = refl
 
-pub calls : (kernels : ℕ) (ds : List Declaration) → AreAccepted kernels ds → (v : ℕ) → All (IsValidCall NODES) (calls_in ds v)
-calls kernels = by_lines kernels (λ ds. (v : ℕ) → All (IsValidCall NODES) (calls_in ds v))
-    (λ v. rw (no_calls v) (All-nil (IsValidCall NODES)))
+pub calls : (version kernels : ℕ) (ds : List Declaration) → AreAccepted version kernels ds → (v : ℕ) → All (IsValidCall (most_vpes version)) (calls_in ds v)
+calls version kernels = by_lines version kernels (λ ds. (v : ℕ) → All (IsValidCall (most_vpes version)) (calls_in ds v))
+    (λ v. rw (no_calls v) (All-nil (IsValidCall (most_vpes version))))
     (λ ds d so_far ranges fault v.
     elim (some_or_none (said_call v d)) [
       | inl none ↦ rw (calls_in-same ds d v none) (so_far v)
-      | inr some ↦ rw (calls_in-new ds d v some.0 some.1) (All-push (IsValidCall NODES) (calls_in ds v) some.0 (so_far v) (said_call_is kernels v d some.0 ranges some.1))
+      | inr some ↦ rw (calls_in-new ds d v some.0 some.1) (All-push (IsValidCall (most_vpes version)) (calls_in ds v) some.0 (so_far v) (said_call_is version kernels v d some.0 ranges some.1))
     ])
 
 -- the selectors of offers, and the numbers of kills
@@ -270,38 +270,56 @@ if_both true true x y some = same_Some x y some
 if_both true false x y some = absurd (none-some y some)
 if_both false b x y some = absurd (none-some y some)
 
-said_offer_range : (kernels name index : ℕ) (d : Declaration) (s : ℕ) → IsInRange kernels d → said_offer name index d ≡ Some s → s < 256
-said_offer_range kernels name index (Offer n i t) s ranges some = rw (← if_both (n == name) (i == index) t s some) ranges.2
-said_offer_range kernels name index d s ranges some = absurd (none-some s some)
+said_offer_range : (version kernels name index : ℕ) (d : Declaration) (s : ℕ) → IsInRange version kernels d → said_offer name index d ≡ Some s → s < 256
+said_offer_range version kernels name index (Offer n i t) s ranges some = rw (← if_both (n == name) (i == index) t s some) ranges.2
+said_offer_range version kernels name index d s ranges some = absurd (none-some s some)
 
 no_offer : (name index s : ℕ) → offer_in [] name index ≡ Some s → ⊥
 unfolding offer_in
 no_offer name index s some = none-some s some
 
-pub offers : (kernels : ℕ) (ds : List Declaration) → AreAccepted kernels ds → (name index s : ℕ) → offer_in ds name index ≡ Some s → s < 256
-offers kernels = by_lines kernels (λ ds. (name index s : ℕ) → offer_in ds name index ≡ Some s → s < 256)
+pub offers : (version kernels : ℕ) (ds : List Declaration) → AreAccepted version kernels ds → (name index s : ℕ) → offer_in ds name index ≡ Some s → s < 256
+offers version kernels = by_lines version kernels (λ ds. (name index s : ℕ) → offer_in ds name index ≡ Some s → s < 256)
     (λ name index s some. absurd (no_offer name index s some))
     (λ ds d so_far ranges fault name index s some.
     elim (or_last (offer_in ds name index) (said_offer name index d) s (sym (offer_in-more ds d name index) ∙ some)) [
       | inl old ↦ so_far name index s old
-      | inr new ↦ said_offer_range kernels name index d s ranges new.1
+      | inr new ↦ said_offer_range version kernels name index d s ranges new.1
     ])
 
-said_kill_range : (kernels v : ℕ) (d : Declaration) (n : ℕ) → IsInRange kernels d → said_kill v d ≡ Some n → IsWord n
-said_kill_range kernels v (Kill w m) n ranges some = rw (← (if_same w v m n some).1) ranges.1
-said_kill_range kernels v d n ranges some = absurd (none-some n some)
+said_kill_range : (version kernels v : ℕ) (d : Declaration) (n : ℕ) → IsInRange version kernels d → said_kill v d ≡ Some n → IsWord n
+said_kill_range version kernels v (Kill w m) n ranges some = rw (← (if_same w v m n some).1) ranges.1
+said_kill_range version kernels v d n ranges some = absurd (none-some n some)
 
 no_kill : (v n : ℕ) → kill_in [] v ≡ Some n → ⊥
 unfolding kill_in
 no_kill v n some = none-some n some
 
-pub kills : (kernels : ℕ) (ds : List Declaration) → AreAccepted kernels ds → (v n : ℕ) → kill_in ds v ≡ Some n → IsWord n
-kills kernels = by_lines kernels (λ ds. (v n : ℕ) → kill_in ds v ≡ Some n → IsWord n)
+pub kills : (version kernels : ℕ) (ds : List Declaration) → AreAccepted version kernels ds → (v n : ℕ) → kill_in ds v ≡ Some n → IsWord n
+kills version kernels = by_lines version kernels (λ ds. (v n : ℕ) → kill_in ds v ≡ Some n → IsWord n)
     (λ v n some. absurd (no_kill v n some))
     (λ ds d so_far ranges fault v n some.
     elim (or_last (kill_in ds v) (said_kill v d) n (sym (kill_in-more ds d v) ∙ some)) [
       | inl old ↦ so_far v n old
-      | inr new ↦ said_kill_range kernels v d n ranges new.1
+      | inr new ↦ said_kill_range version kernels v d n ranges new.1
+    ])
+
+-- a window that is told is one of the version
+said_window_range : (version kernels : ℕ) (d : Declaration) (n : ℕ) → IsInRange version kernels d → said_window d ≡ Some n → IsWindow version n
+said_window_range version kernels (Window w) n ranges some = subst (IsWindow version) (same_Some w n some) ranges
+said_window_range version kernels d n ranges some = absurd (none-some n some)
+
+no_window : (n : ℕ) → window_in [] ≡ Some n → ⊥
+unfolding window_in
+no_window n some = none-some n some
+
+pub windows : (version kernels : ℕ) (ds : List Declaration) → AreAccepted version kernels ds → (n : ℕ) → window_in ds ≡ Some n → IsWindow version n
+windows version kernels = by_lines version kernels (λ ds. (n : ℕ) → window_in ds ≡ Some n → IsWindow version n)
+    (λ n some. absurd (no_window n some))
+    (λ ds d so_far ranges fault n some.
+    elim (or_last (window_in ds) (said_window d) n (sym (window_in-more ds d) ∙ some)) [
+      | inl old ↦ so_far n old
+      | inr new ↦ said_window_range version kernels d n ranges new.1
     ])
 
 -- there are few calls
@@ -313,8 +331,8 @@ no_call : call_number [] ≡ 0
 unfolding call_number
 no_call = refl
 
-pub few_calls : (kernels : ℕ) (ds : List Declaration) → AreAccepted kernels ds → call_number ds ≤ 20000
-few_calls kernels = by_lines kernels (λ ds. call_number ds ≤ 20000) (rw no_call (omega arith))
+pub few_calls : (version kernels : ℕ) (ds : List Declaration) → AreAccepted version kernels ds → call_number ds ≤ 20000
+few_calls version kernels = by_lines version kernels (λ ds. call_number ds ≤ 20000) (rw no_call (omega arith))
     (λ ds d so_far ranges fault. rw (call_number-more ds d) (call_fits ds d so_far fault))
 
 -- a service that a VPE has at a place of its roots
@@ -391,8 +409,8 @@ pub record AreNamed (ds : List Declaration) : Type 0 where
   pub once : (v i w j name : ℕ) → Serves ds v i name → Serves ds w j name → (v ≡ w) × (i ≡ j)
   pub small : (v i name : ℕ) → Serves ds v i name → name ≤ 255
 
-one_service_more : (kernels : ℕ) (ds : List Declaration) (d : Declaration) → AreNamed ds → IsInRange kernels d → context_fault ds d ≡ None → AreNamed (ds ++ d ∷ [])
-one_service_more kernels ds d so_far ranges fault =
+one_service_more : (version kernels : ℕ) (ds : List Declaration) (d : Declaration) → AreNamed ds → IsInRange version kernels d → context_fault ds d ≡ None → AreNamed (ds ++ d ∷ [])
+one_service_more version kernels ds d so_far ranges fault =
     let free : (v s name : ℕ) → d ≡ Service v s name → has_service ds name ≡ false = λ v s name is. or_right _ _ (no_fault ds (Service v s name) (rw is at fault)).2 in
     record {
       named = λ v i name serves.
@@ -416,14 +434,14 @@ one_service_more kernels ds d so_far ranges fault =
       small = λ v i name serves.
           elim (served ds d v i name serves) [
             | inl old ↦ so_far.small v i name old
-            | inr new ↦ let r : IsInRange kernels (Service v new.0 name) = rw new.1 at ranges in r.2
+            | inr new ↦ let r : IsInRange version kernels (Service v new.0 name) = rw new.1 at ranges in r.2
           ];
     }
 
-pub named : (kernels : ℕ) (ds : List Declaration) → AreAccepted kernels ds → AreNamed ds
-named kernels = by_lines kernels AreNamed
+pub named : (version kernels : ℕ) (ds : List Declaration) → AreAccepted version kernels ds → AreNamed ds
+named version kernels = by_lines version kernels AreNamed
     (record { named = λ v i name serves. absurd (no_server v i name serves); once = λ v i w j name serves serves'. absurd (no_server v i name serves); small = λ v i name serves. absurd (no_server v i name serves) })
-    (one_service_more kernels)
+    (one_service_more version kernels)
 
 -- the VPEs of a denied pair are declared
 both_true : (a b : Bool) → (a && b) ≡ true → (a ≡ true) × (b ≡ true)
@@ -446,8 +464,8 @@ nobody_denied v w some = true≢false (sym some)
 still_declared : (ds : List Declaration) (d : Declaration) (v : ℕ) → IsSome (pe_in ds v) → IsSome (pe_in (ds ++ d ∷ []) v)
 still_declared ds d v some = rw (pe_in-more ds d v) (some_or (pe_in ds v) (said_pe v d) some)
 
-pub denied : (kernels : ℕ) (ds : List Declaration) → AreAccepted kernels ds → (v w : ℕ) → is_denied ds v w ≡ true → IsSome (pe_in ds v) × IsSome (pe_in ds w)
-denied kernels = by_lines kernels (λ ds. (v w : ℕ) → is_denied ds v w ≡ true → IsSome (pe_in ds v) × IsSome (pe_in ds w))
+pub denied : (version kernels : ℕ) (ds : List Declaration) → AreAccepted version kernels ds → (v w : ℕ) → is_denied ds v w ≡ true → IsSome (pe_in ds v) × IsSome (pe_in ds w)
+denied version kernels = by_lines version kernels (λ ds. (v w : ℕ) → is_denied ds v w ≡ true → IsSome (pe_in ds v) × IsSome (pe_in ds w))
     (λ v w some. absurd (nobody_denied v w some))
     (λ ds d so_far ranges fault v w some.
     let both : IsSome (pe_in ds v) × IsSome (pe_in ds w) =
@@ -459,8 +477,8 @@ denied kernels = by_lines kernels (λ ds. (v w : ℕ) → is_denied ds v w ≡ t
     (still_declared ds d v both.0, still_declared ds d w both.1))
 
 -- what is offered has a service and a small index
-said_offer_declared : (kernels : ℕ) (ds : List Declaration) (d : Declaration) (name index s : ℕ) → IsInRange kernels d → context_fault ds d ≡ None → said_offer name index d ≡ Some s → (has_service ds name ≡ true) × (index ≤ 255)
-said_offer_declared kernels ds (Offer n i t) name index s ranges fault some =
+said_offer_declared : (version kernels : ℕ) (ds : List Declaration) (d : Declaration) (name index s : ℕ) → IsInRange version kernels d → context_fault ds d ≡ None → said_offer name index d ≡ Some s → (has_service ds name ≡ true) × (index ≤ 255)
+said_offer_declared version kernels ds (Offer n i t) name index s ranges fault some =
     elim (cases_Bool ((n == name) && (i == index))) [
       | inl same ↦
           let both = both_true (n == name) (i == index) same in
@@ -472,16 +490,16 @@ said_offer_declared kernels ds (Offer n i t) name index s ranges fault some =
     not_false : (b : Bool) → not b ≡ false → b ≡ true
     not_false true no' = refl
     not_false false no' = absurd (true≢false no')
-said_offer_declared kernels ds d name index s ranges fault some = absurd (none-some s some)
+said_offer_declared version kernels ds d name index s ranges fault some = absurd (none-some s some)
 
-pub offer_declared : (kernels : ℕ) (ds : List Declaration) → AreAccepted kernels ds → (name index s : ℕ) → offer_in ds name index ≡ Some s → (has_service ds name ≡ true) × (index ≤ 255)
-offer_declared kernels = by_lines kernels (λ ds. (name index s : ℕ) → offer_in ds name index ≡ Some s → (has_service ds name ≡ true) × (index ≤ 255))
+pub offer_declared : (version kernels : ℕ) (ds : List Declaration) → AreAccepted version kernels ds → (name index s : ℕ) → offer_in ds name index ≡ Some s → (has_service ds name ≡ true) × (index ≤ 255)
+offer_declared version kernels = by_lines version kernels (λ ds. (name index s : ℕ) → offer_in ds name index ≡ Some s → (has_service ds name ≡ true) × (index ≤ 255))
     (λ name index s some. absurd (no_offer name index s some))
     (λ ds d so_far ranges fault name index s some.
     let both : (has_service ds name ≡ true) × (index ≤ 255) =
     elim (or_last (offer_in ds name index) (said_offer name index d) s (sym (offer_in-more ds d name index) ∙ some)) [
       | inl old ↦ so_far name index s old
-      | inr new ↦ said_offer_declared kernels ds d name index s ranges fault new.1
+      | inr new ↦ said_offer_declared version kernels ds d name index s ranges fault new.1
     ]
     in
     (has_service-kept ds d name both.0, both.1))
@@ -526,8 +544,8 @@ no_name : (name : ℕ) → has_service [] name ≡ true → ⊥
 unfolding has_service
 no_name name some = true≢false (sym some)
 
-pub served_by : (kernels : ℕ) (ds : List Declaration) → AreAccepted kernels ds → (name : ℕ) → has_service ds name ≡ true → IsServedBy ds name
-served_by kernels = by_lines kernels (λ ds. (name : ℕ) → has_service ds name ≡ true → IsServedBy ds name)
+pub served_by : (version kernels : ℕ) (ds : List Declaration) → AreAccepted version kernels ds → (name : ℕ) → has_service ds name ≡ true → IsServedBy ds name
+served_by version kernels = by_lines version kernels (λ ds. (name : ℕ) → has_service ds name ≡ true → IsServedBy ds name)
     (λ name some. absurd (no_name name some))
     (λ ds d so_far ranges fault name some.
     elim (cases_Bool (says_service name d)) [

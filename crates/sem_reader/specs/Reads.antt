@@ -6,29 +6,31 @@ use Rattle.sem_trace.specs.declared.fault.TraceError.TheVariants.{Refused as Ref
 use Rattle.sem_trace.specs.TextLines.{lines_of, words_of, is_significant, significant}
 use Rattle.sem_trace.specs.Declarations.{number_at, declaration}
 use Rattle.sem_trace.specs.Earlier.{first_some, is_ended}
-use Rattle.sem_trace.specs.Refusal.{words_fault, line_fault, numbers, fault_at}
+use Rattle.sem_trace.specs.Refusal.{version_in, is_third, words_fault, line_fault, numbers, fault_at}
 use Rattle.sem_reader.specs.declared.reader.Stage.{Stage}
-use Rattle.sem_reader.specs.declared.reader.Stage.TheVariants.{Start, Named, Open, Ended}
+use Rattle.sem_reader.specs.declared.reader.Stage.TheVariants.{Start, Named, Counted, Open, Ended}
 use Rattle.sem_reader.specs.declared.reader.LineError.{LineError}
 use Rattle.sem_reader.specs.declared.reader.LineError.TheVariants.{Refused, Memory}
 use Rattle.sem_reader.specs.declared.reader.Reader.{Reader}
 use Rattle.sem_reader.specs.declared.tables.Tables.{Tables}
 use Rattle.sem_reader.specs.Tells.{Tells, HasSizes}
 
--- behind the second line
-pub record IsOpened (lines : List (List (List ℕ))) (t : Tables) (ended : Bool) : Type 0 where
+-- behind the second line: whether the third line of version 2 comes next, and whether the last line was read
+pub record IsOpened (lines : List (List (List ℕ))) (t : Tables) (third ended : Bool) : Type 0 where
   pub first : List (List ℕ)
   pub second : List (List ℕ)
   pub earlier : List (List (List ℕ))
   pub are : lines ≡ first ∷ second ∷ earlier
-  pub tells : Tells (number_at second 1) (map declaration earlier) t
+  pub tells : Tells (version_in first) (number_at second 1) (map declaration earlier) t
+  pub due : is_third (version_in first) earlier ≡ third
   pub said : is_ended (map declaration earlier) ≡ ended
 
 abbrev pub IsReadTo : Stage → List (List (List ℕ)) → Tables → Type 0
-IsReadTo Start lines t = (lines ≡ []) × Tells 1 [] t
-IsReadTo Named lines t = (first : List (List ℕ)) × (lines ≡ first ∷ []) × Tells 1 [] t
-IsReadTo Open lines t = IsOpened lines t false
-IsReadTo Ended lines t = IsOpened lines t true
+IsReadTo Start lines t = (lines ≡ []) × Tells 1 1 [] t
+IsReadTo Named lines t = (first : List (List ℕ)) × (lines ≡ first ∷ []) × Tells (version_in first) 1 [] t
+IsReadTo Counted lines t = IsOpened lines t true false
+IsReadTo Open lines t = IsOpened lines t false false
+IsReadTo Ended lines t = IsOpened lines t false true
 
 -- the reader has read these lines, and nothing was wrong with any
 abbrev pub IsRead : List (List (List ℕ)) → Reader → Type 0

@@ -1,14 +1,14 @@
 -- What the tables of the reader tell of the lines so far.
-use Rattle.std.specs.Prelude.{◌≡◌, ℕ, ◌<◌, ◌≤◌, false, List, [], length, None, slice_index_or}
+use Rattle.std.specs.Prelude.{◌≡◌, ℕ, ◌<◌, ◌≤◌, ◌⊎◌, false, List, [], length, None, slice_index_or}
 use Rattle.indexmap.specs.IndexMap.{get}
 use Rattle.indexmap.specs.IndexSet.{contains}
-use Rattle.sem_key.specs.declared.limits.TheConstants.{PES}
+use Rattle.sem_key.specs.declared.limits.TheConstants.{PES, VPES}
 use Rattle.sem_key.specs.MembershipTable.{owner_at}
 use Rattle.sem_msg.specs.declared.limits.TheConstants.{SELECTORS}
 use Rattle.sem_msg.specs.declared.setup.VpeDecl.{VpeDecl}
-use Rattle.sem_trace.specs.declared.limits.TheConstants.{NODES, MOST_KERNELS}
+use Rattle.sem_msg.specs.Versions.{most_kernels}
 use Rattle.sem_trace.specs.declared.declaration.Declaration.{Declaration}
-use Rattle.sem_trace.specs.Earlier.{owner_in, pe_in, is_taken, roots_in, calls_in, has_service, offer_in, is_denied, kill_in, call_number}
+use Rattle.sem_trace.specs.Earlier.{window_in, owner_in, pe_in, is_taken, roots_in, calls_in, has_service, offer_in, is_denied, kill_in, call_number}
 use Rattle.sem_reader.specs.declared.tables.Tables.{Tables}
 use Rattle.sem_reader.specs.Pairs.{is_same_pair}
 use Rattle.sem_reader.specs.Accepted.{AreAccepted}
@@ -16,14 +16,17 @@ use Rattle.sem_reader.specs.Accepted.{AreAccepted}
 -- each table is as long as there are numbers
 pub record HasSizes (t : Tables) : Type 0 where
   pub owners : length t.owners.owners ≡ PES
-  pub roots : length t.roots.items ≡ NODES
-  pub calls : length t.calls.items ≡ NODES
+  pub roots : length t.roots.items ≡ VPES
+  pub calls : length t.calls.items ≡ VPES
 
--- the tables tell what so many kernels and these lines declare
-pub record Tells (kernels : ℕ) (ds : List Declaration) (t : Tables) : Type 0 where
+-- the tables tell what so many kernels and these lines declare, in a text of that version
+pub record Tells (version kernels : ℕ) (ds : List Declaration) (t : Tables) : Type 0 where
+  pub versions : (version ≡ 1) ⊎ (version ≡ 2)
   pub some : 1 ≤ kernels
-  pub few : kernels ≤ MOST_KERNELS
-  pub accepted : AreAccepted kernels ds
+  pub few : kernels ≤ most_kernels version
+  pub accepted : AreAccepted version kernels ds
+  pub same_version : t.version ≡ version
+  pub window : t.window ≡ window_in ds
   pub number : t.owners.kernels ≡ kernels
   pub owner : (p : ℕ) → owner_at t.owners p ≡ owner_in ds p
   pub pe : (v : ℕ) → slice_index_or t.pes v None ≡ pe_in ds v
@@ -39,12 +42,13 @@ pub record Tells (kernels : ℕ) (ds : List Declaration) (t : Tables) : Type 0 w
 
 -- the tables tell what some lines declare
 pub record IsTold (t : Tables) : Type 0 where
+  pub version : ℕ
   pub kernels : ℕ
   pub ds : List Declaration
-  pub tells : Tells kernels ds t
+  pub tells : Tells version kernels ds t
 
 -- the numbers of a VPE are in range, and it holds no more than there are selectors
 pub record IsPlainVpe (d : VpeDecl) : Type 0 where
-  pub vpe : d.vpe < NODES
-  pub pe : d.pe < NODES
+  pub vpe : d.vpe < VPES
+  pub pe : d.pe < VPES
   pub few_roots : length d.roots ≤ SELECTORS

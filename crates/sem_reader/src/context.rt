@@ -1,6 +1,6 @@
 // What is wrong with a line because of the lines before it.
 ghost use Rattle.std.specs.Prelude.{◌≡◌, ℕ, ◌<◌, ◌≤◌, List, is_none};
-ghost use Rattle.sem_trace.specs.declared.limits.TheConstants.{NODES};
+ghost use Rattle.sem_key.specs.declared.limits.TheConstants.{VPES};
 ghost use Rattle.sem_trace.specs.declared.declaration.Declaration.{Declaration as DeclarationData};
 ghost use Rattle.sem_trace.specs.Earlier.{pe_in, roots_in, holds_at};
 ghost use Rattle.sem_trace.specs.Context.{is_too_long as is_too_long_lem, is_undeclared as is_undeclared_lem, is_twice as is_twice_lem, is_call_too_many as is_call_too_many_lem, context_fault};
@@ -34,28 +34,31 @@ fn is_too_long(d: &Declaration) -> bool
 impl Tables {
     // Whether no line declares the VPE.
     fn is_unknown(&self, vpe: u16) -> bool
-        requires { vpe < NODES }
-        ensures { (kernels : ℕ) (ds : List DeclarationData) → Tells kernels ds self.now → result ≡ is_none (pe_in ds vpe) }
+        requires { vpe < VPES }
+        ensures { (version kernels : ℕ) (ds : List DeclarationData) → Tells version kernels ds self.now → result ≡ is_none (pe_in ds vpe) }
     {
         self.pes[usize::from(vpe)].is_none()
     }
 
     // Whether the VPE holds something at the selector.
     fn holds_at(&self, vpe: u16, sel: u8) -> bool
-        requires vpe { vpe < NODES }
+        requires vpe { vpe < VPES }
         requires sizes { HasSizes self.now }
-        ensures { (kernels : ℕ) (ds : List DeclarationData) → Tells kernels ds self.now → result ≡ holds_at (roots_in ds vpe) sel }
+        ensures { (version kernels : ℕ) (ds : List DeclarationData) → Tells version kernels ds self.now → result ≡ holds_at (roots_in ds vpe) sel }
     {
         holds(self.roots[usize::from(vpe)].as_slice(), sel)
     }
 
     // Whether the line speaks of what no line declares.
     fn is_undeclared(&self, d: &Declaration) -> bool
-        requires { IsInRange self.now.owners.kernels d.now }
-        ensures { (kernels : ℕ) (ds : List DeclarationData) → Tells kernels ds self.now → result ≡ is_undeclared_lem ds d.now }
+        requires { IsInRange self.now.version self.now.owners.kernels d.now }
+        ensures { (version kernels : ℕ) (ds : List DeclarationData) → Tells version kernels ds self.now → result ≡ is_undeclared_lem ds d.now }
     {
         match *d {
-            Declaration::Kernels { .. } | Declaration::Pe { .. } | Declaration::End => false,
+            Declaration::Kernels { .. }
+            | Declaration::Window { .. }
+            | Declaration::Pe { .. }
+            | Declaration::End => false,
             Declaration::Vpe { pe, .. } => self.owners.owner(pe).is_none(),
             Declaration::Memory { vpe, .. }
             | Declaration::Receive { vpe, .. }
@@ -69,12 +72,13 @@ impl Tables {
 
     // Whether a line says that already.
     fn is_twice(&self, d: &Declaration) -> bool
-        requires range { IsInRange self.now.owners.kernels d.now }
+        requires range { IsInRange self.now.version self.now.owners.kernels d.now }
         requires sizes { HasSizes self.now }
-        ensures { (kernels : ℕ) (ds : List DeclarationData) → Tells kernels ds self.now → result ≡ is_twice_lem ds d.now }
+        ensures { (version kernels : ℕ) (ds : List DeclarationData) → Tells version kernels ds self.now → result ≡ is_twice_lem ds d.now }
     {
         match *d {
             Declaration::Kernels { .. } => true,
+            Declaration::Window { .. } => self.window.is_some(),
             Declaration::Pe { pe, .. } => self.owners.owner(pe).is_some(),
             Declaration::Vpe { vpe, pe } => {
                 self.pes[usize::from(vpe)].is_some() || self.taken[usize::from(pe)]
@@ -94,7 +98,7 @@ impl Tables {
 
     // Whether it is one call more than there may be.
     fn is_call_too_many(&self, d: &Declaration) -> bool
-        ensures { (kernels : ℕ) (ds : List DeclarationData) → Tells kernels ds self.now → result ≡ is_call_too_many_lem ds d.now }
+        ensures { (version kernels : ℕ) (ds : List DeclarationData) → Tells version kernels ds self.now → result ≡ is_call_too_many_lem ds d.now }
     {
         match d {
             Declaration::Call { .. } => self.call_number >= MOST_CALLS,
@@ -105,9 +109,9 @@ impl Tables {
     /// What is wrong with the line because of the lines so far. Takes no memory.
     #[tactic(auto, unfolding(sem_trace::specs::Context::context_fault))]
     pub(crate) fn fault(&self, d: &Declaration) -> Option<Cause>
-        requires range { IsInRange self.now.owners.kernels d.now }
+        requires range { IsInRange self.now.version self.now.owners.kernels d.now }
         requires sizes { HasSizes self.now }
-        ensures { (kernels : ℕ) (ds : List DeclarationData) → Tells kernels ds self.now → result ≡ context_fault ds d.now }
+        ensures { (version kernels : ℕ) (ds : List DeclarationData) → Tells version kernels ds self.now → result ≡ context_fault ds d.now }
     {
         if is_too_long(d) {
             Some(Cause::OutOfRange)

@@ -1,6 +1,6 @@
 // A line that is accepted is entered into the tables.
 ghost use Rattle.std.specs.Prelude.{◌≡◌, ℕ, ◌<◌, ◌≤◌, Some, List, [], ◌∷◌, ◌++◌, ◌+◌, ◌*◌, true, None, length, slice_index_or, slice_set, OnOk};
-ghost use Rattle.sem_trace.specs.declared.limits.TheConstants.{NODES};
+ghost use Rattle.sem_key.specs.declared.limits.TheConstants.{VPES};
 ghost use Rattle.sem_trace.specs.declared.declaration.Declaration.{Declaration as DeclarationData};
 ghost use Rattle.sem_trace.specs.Context.{context_fault};
 ghost use Rattle.sem_trace.specs.Ranges.{IsInRange};
@@ -55,14 +55,15 @@ fn put_deny(denied: &mut IndexSet<(u16, u16)>, vpe: u16, asker: u16) -> Result<(
 impl Tables {
     /// Enters what a line says with which nothing is wrong.
     pub(crate) fn enter(&mut self, d: Declaration) -> Result<(), OutOfMemory>
-        requires range { IsInRange self.old.owners.kernels d }
+        requires range { IsInRange self.old.version self.old.owners.kernels d }
         requires sizes { HasSizes self.old }
         requires few { self.old.call_number ≤ 20000 }
-        ensures ok { OnOk result ((kernels : ℕ) (ds : List DeclarationData) → Tells kernels ds self.old → context_fault ds d ≡ None → Tells kernels (ds ++ d ∷ []) self.new) }
+        ensures ok { OnOk result ((version kernels : ℕ) (ds : List DeclarationData) → Tells version kernels ds self.old → context_fault ds d ≡ None → Tells version kernels (ds ++ d ∷ []) self.new) }
         ensures sizes { OnOk result (HasSizes self.new) }
     {
         match d {
             Declaration::Kernels { .. } => {}
+            Declaration::Window { window } => self.window = Some(window),
             Declaration::End => {}
             Declaration::Pe { pe, kernel } => {
                 let _ = self.owners.set(pe, kernel);

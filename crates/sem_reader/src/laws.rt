@@ -3,7 +3,7 @@ ghost use Rattle.std.specs.Prelude.{◌≡◌, ℕ, ◌⊎◌, List, Some};
 ghost use Rattle.sem_msg.specs.Setup.{Setup as SetupRecord, IsSetup};
 ghost use Rattle.sem_trace.specs.declared.fault.TraceFault.{TraceFault};
 ghost use Rattle.sem_trace.specs.Refusal.{refusal};
-ghost use Rattle.sem_trace.specs.TraceText.{canonical, TraceFits};
+ghost use Rattle.sem_trace.specs.TraceText.{canonical};
 ghost use Rattle.sem_trace.specs.Standing.{Stands};
 
 /// Each text stands for exactly one setup or has exactly one refusal, and never both.
@@ -14,7 +14,7 @@ pub fn one_reading()
     ensures never_both { (bytes : List ℕ) (T : SetupRecord) (fault : TraceFault) → Stands bytes T → refusal bytes ≡ Some fault → ⊥ }
 {}
 
-/// The canonical text of a setup that a trace can tell is not refused, and stands for that setup.
+/// The canonical text of a setup is not refused, and stands for that setup.
 pub fn canonical_stands()
-    ensures { (T : SetupRecord) → TraceFits T → Stands (canonical T) T }
+    ensures { (T : SetupRecord) → IsSetup T → Stands (canonical T) T }
 {}

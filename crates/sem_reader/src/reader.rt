@@ -1,5 +1,4 @@
-ghost use Rattle.std.specs.Prelude.{◌≡◌, ◌≤◌, if◌then◌else◌, [], IfOk, IfErr, OnOk};
-ghost use Rattle.sem_trace.specs.TraceText.{TraceFits};
+ghost use Rattle.std.specs.Prelude.{◌≡◌, ◌≤◌, ◌==◌, if◌then◌else◌, [], IfOk, IfErr, OnOk};
 ghost use Rattle.sem_trace.specs.TextLines.{lines_of, words_of};
 ghost use Rattle.sem_trace.specs.Refusal.{first_fault, lines_refusal, refusal};
 ghost use Rattle.sem_trace.specs.Standing.{Declare, Stands, IsWhy};
@@ -14,7 +13,7 @@ use sem_key::{Membership, OutOfMemory};
 use sem_msg::Setup;
 use sem_trace::{
     Cause, Declaration, TraceError, TraceFault, bytes_fault, is_significant, next_line,
-    read_declaration, read_first, read_second,
+    read_declaration, read_first, read_second, read_third,
 };
 use std::alloc::Global;
 
@@ -26,6 +25,7 @@ const TRACE_BYTES: usize = 8388608;
 enum Stage {
     Start,
     Named,
+    Counted,
     Open,
     Ended,
 }
@@ -60,7 +60,18 @@ struct Reader {
     tables: Tables,
 }
 
-// Where the reader is after a line behind the second.
+// Where the reader is behind the second line of a text of the version.
+fn stage_behind(version: u8) -> Stage
+    ensures { result ≡ (if version == 1 then Stage.Open else Stage.Counted) }
+{
+    if version == 1 {
+        Stage::Open
+    } else {
+        Stage::Counted
+    }
+}
+
+// Where the reader is after a line behind those that come first.
 fn stage_after(d: &Declaration) -> Stage
     ensures { result ≡ (if is_end d.now then Stage.Ended else Stage.Open) }
 {
@@ -79,7 +90,7 @@ impl Reader {
         ensures err { IfErr result (Refuses (words_of line.now) self.old) }
         ensures sizes { OnOk result (HasSizes self.new.tables) }
     {
-        read_first(line)?;
+        self.tables.version = read_first(line)?;
         self.stage = Stage::Named;
         Ok(())
     }
@@ -92,8 +103,23 @@ impl Reader {
         ensures err { IfErr result (Refuses (words_of line.now) self.old) }
         ensures sizes { OnOk result (HasSizes self.new.tables) }
     {
-        let kernels = read_second(line)?;
+        let kernels = read_second(line, self.tables.version)?;
         self.tables.owners = Membership::empty(kernels);
+        self.stage = stage_behind(self.tables.version);
+        Ok(())
+    }
+
+    // Reads the third line of version 2.
+    fn third(&mut self, line: &[u8]) -> Result<(), LineError>
+        requires stage { self.old.stage ≡ Stage.Counted }
+        requires sizes { HasSizes self.old.tables }
+        requires few { self.old.tables.call_number ≤ 20000 }
+        ensures ok { OnOk result (Accepts (words_of line.now) self.old self.new) }
+        ensures err { IfErr result (Stops (Refuses (words_of line.now) self.old)) }
+        ensures sizes { OnOk result (HasSizes self.new.tables) }
+    {
+        let d = read_third(line, self.tables.version)?;
+        self.tables.enter(d)?;
         self.stage = Stage::Open;
         Ok(())
     }
@@ -107,7 +133,7 @@ impl Reader {
         ensures err { IfErr result (Stops (Refuses (words_of line.now) self.old)) }
         ensures sizes { OnOk result (HasSizes self.new.tables) }
     {
-        let d = read_declaration(line, self.tables.owners.kernels())?;
+        let d = read_declaration(line, self.tables.version, self.tables.owners.kernels())?;
         if let Some(cause) = self.tables.fault(&d) {
             return Err(LineError::Refused(cause));
         }
@@ -133,6 +159,7 @@ impl Reader {
         match self.stage {
             Stage::Start => Ok(self.first(line)?),
             Stage::Named => Ok(self.second(line)?),
+            Stage::Counted => self.third(line),
             Stage::Open => self.open(line),
             Stage::Ended => Err(LineError::Refused(Cause::TooMany)),
         }
@@ -161,7 +188,7 @@ fn read_lines(alloc: Global, bytes: &[u8]) -> Result<(Reader, u64), TraceError>
     ensures read { IfOk result (λ r. IsReadUpTo bytes.now [] r.1 r.0) }
     ensures refused { IfErr result (IsWhy (first_fault (lines_of bytes.now))) }
 {
-    let Ok(tables) = Tables::new(alloc, 1) else {
+    let Ok(tables) = Tables::new(alloc) else {
         return Err(TraceError::Memory);
     };
     let mut reader = Reader {
@@ -183,7 +210,6 @@ fn read_lines(alloc: Global, bytes: &[u8]) -> Result<(Reader, u64), TraceError>
 /// The setup that the lines of the text declare, however many bytes they are. They are refused at the first bad one.
 pub fn read_section(alloc: Global, bytes: &[u8]) -> Result<Setup, TraceError>
     ensures declared { IfOk result (Declare (lines_of bytes.now)) }
-    ensures fits { IfOk result TraceFits }
     ensures refused { IfErr result (IsWhy (lines_refusal (lines_of bytes.now))) }
 {
     let (reader, lines) = read_lines(alloc, bytes)?;
@@ -200,8 +226,6 @@ pub fn read_section(alloc: Global, bytes: &[u8]) -> Result<Setup, TraceError>
 pub fn read_trace(alloc: Global, bytes: &[u8]) -> Result<Setup, TraceError>
     // What is read is what the text stands for, and then it is not refused.
     ensures stands { IfOk result (Stands bytes.now) }
-    // A trace can tell what is read.
-    ensures fits { IfOk result TraceFits }
     // Where it is refused, it is refused so.
     ensures refused { IfErr result (IsWhy (refusal bytes.now)) }
 {

@@ -2,8 +2,7 @@
 ghost use Rattle.std.specs.Prelude.{map as list_map, ◌≡◌, ℕ, ◌<◌, ◌≤◌, ◌++◌, List, All, filter_map, option_map, option_to_list, IfOk, OnOk};
 ghost use Rattle.sem_key.specs.declared.limits.TheConstants.{NUMBERS};
 ghost use Rattle.sem_msg.specs.Setup.{services_from, service_with as service_with_lem};
-ghost use Rattle.sem_trace.specs.TraceText.{TraceFits};
-ghost use Rattle.sem_trace.specs.declared.limits.TheConstants.{NODES};
+ghost use Rattle.sem_key.specs.declared.limits.TheConstants.{VPES as VPES_LEM};
 ghost use Rattle.sem_trace.specs.declared.declaration.Declaration.{Declaration as DeclarationData};
 ghost use Rattle.sem_trace.specs.Earlier.{vpe_in, kill_in};
 ghost use Rattle.sem_trace.specs.Refusal.{numbers};
@@ -15,7 +14,7 @@ ghost use Rattle.sem_reader.specs.Pairs.{is_same_pair, compare_pairs, compare_en
 ghost use Rattle.sem_reader.specs.Tells.{Tells, HasSizes, IsTold, IsPlainVpe};
 ghost use Rattle.sem_key.specs.ObjectRanges.{object_kind};
 
-use crate::tables::{BYTES, NODES, Tables};
+use crate::tables::{BYTES, Tables, VPES};
 use indexmap::{IndexMap, IndexSet};
 use sem_key::{Key, Kind, Object, OutOfMemory};
 use sem_msg::{Denies, Kills, Offer, Offers, Seq, Service, Services, Setup, VpeDecl, Vpes0};
@@ -34,8 +33,8 @@ fn push_some<T: Drop>(list: &mut Seq<T>, item: Option<T>) -> Result<(), OutOfMem
 
 // The service that the root at that place is, if it is one.
 fn service_with(pe: u8, vpe: u16, number: u32, object: &Object) -> Option<Service>
-    requires pe { pe < NODES }
-    requires vpe { vpe < NODES }
+    requires pe { pe < VPES_LEM }
+    requires vpe { vpe < VPES_LEM }
     requires number { number < NUMBERS }
     ensures { option_to_list result ≡ service_with_lem object.now (record { pe = pe; vpe = vpe; kind = object_kind object.now; number = number }) }
 {
@@ -160,9 +159,9 @@ impl Tables {
     // The VPE with all that is declared of it.
     #[tactic(auto, unfolding(sem_trace::specs::Earlier::vpe_in))]
     fn vpe(&self, alloc: Global, vpe: u16) -> Result<Option<VpeDecl>, OutOfMemory>
-        requires vpe { vpe < NODES }
+        requires vpe { vpe < VPES_LEM }
         requires sizes { HasSizes self.now }
-        ensures { (kernels : ℕ) (ds : List DeclarationData) → Tells kernels ds self.now → IfOk result (λ found. found ≡ vpe_in ds vpe) }
+        ensures { (version kernels : ℕ) (ds : List DeclarationData) → Tells version kernels ds self.now → IfOk result (λ found. found ≡ vpe_in ds vpe) }
     {
         let Some(pe) = self.pes[usize::from(vpe)] else {
             return Ok(None);
@@ -178,10 +177,10 @@ impl Tables {
     // The VPEs that are declared, by number.
     fn vpes(&self, alloc: Global) -> Result<Vpes0, OutOfMemory>
         requires { HasSizes self.now }
-        ensures { (kernels : ℕ) (ds : List DeclarationData) → Tells kernels ds self.now → IfOk result (λ vpes. vpes ≡ vpes_of ds) }
+        ensures { (version kernels : ℕ) (ds : List DeclarationData) → Tells version kernels ds self.now → IfOk result (λ vpes. vpes ≡ vpes_of ds) }
     {
         let mut vpes = Vpes0::new(alloc);
-        for vpe in 0..NODES {
+        for vpe in 0..VPES {
             push_some(&mut vpes, self.vpe(alloc, vpe as u16)?)?;
         }
         Ok(vpes)
@@ -189,7 +188,7 @@ impl Tables {
 
     // The offers, by name and index.
     fn offers(&self, alloc: Global) -> Result<Offers, OutOfMemory>
-        ensures { (kernels : ℕ) (ds : List DeclarationData) → Tells kernels ds self.now → IfOk result (λ offers. offers ≡ offers_of ds (services_of_lem (vpes_of ds))) }
+        ensures { (version kernels : ℕ) (ds : List DeclarationData) → Tells version kernels ds self.now → IfOk result (λ offers. offers ≡ offers_of ds (services_of_lem (vpes_of ds))) }
     {
         let entries = sorted_offers(alloc, &self.offers)?;
         offers_from(alloc, &entries)
@@ -197,7 +196,7 @@ impl Tables {
 
     // The denied pairs, by both.
     fn denies(&self, alloc: Global) -> Result<Denies, OutOfMemory>
-        ensures { (kernels : ℕ) (ds : List DeclarationData) → Tells kernels ds self.now → IfOk result (λ denies. denies ≡ denies_of ds (vpes_of ds)) }
+        ensures { (version kernels : ℕ) (ds : List DeclarationData) → Tells version kernels ds self.now → IfOk result (λ denies. denies ≡ denies_of ds (vpes_of ds)) }
     {
         let pairs = sorted_pairs(alloc, &self.denied)?;
         denies_from(alloc, &pairs)
@@ -205,8 +204,8 @@ impl Tables {
 
     // The kill of the VPE, if it is killed.
     fn kill(&self, vpe: u16) -> Option<(u16, u64)>
-        requires { vpe < NODES }
-        ensures { (kernels : ℕ) (ds : List DeclarationData) → Tells kernels ds self.now → result ≡ option_map (λ replies. (vpe, replies)) (kill_in ds vpe) }
+        requires { vpe < VPES_LEM }
+        ensures { (version kernels : ℕ) (ds : List DeclarationData) → Tells version kernels ds self.now → result ≡ option_map (λ replies. (vpe, replies)) (kill_in ds vpe) }
     {
         let replies = self.kills[usize::from(vpe)]?;
         Some((vpe, replies))
@@ -215,7 +214,7 @@ impl Tables {
     // The kills of these VPEs, by VPE.
     fn kills_of(&self, alloc: Global, vpes: &Vpes0) -> Result<Kills, OutOfMemory>
         requires { All IsPlainVpe vpes.now }
-        ensures { (kernels : ℕ) (ds : List DeclarationData) → Tells kernels ds self.now → IfOk result (λ kills. kills ≡ kills_of ds vpes.now) }
+        ensures { (version kernels : ℕ) (ds : List DeclarationData) → Tells version kernels ds self.now → IfOk result (λ kills. kills ≡ kills_of ds vpes.now) }
     {
         let mut kills = Kills::new(alloc);
         for declared in vpes.as_slice() {
@@ -228,8 +227,7 @@ impl Tables {
     pub(crate) fn setup(&self, alloc: Global) -> Result<Setup, OutOfMemory>
         requires sizes { HasSizes self.now }
         requires told { IsTold self.now }
-        ensures setup { (kernels : ℕ) (ds : List DeclarationData) → Tells kernels ds self.now → IfOk result (λ setup. setup ≡ setup_of kernels ds) }
-        ensures fits { IfOk result TraceFits }
+        ensures setup { (version kernels : ℕ) (ds : List DeclarationData) → Tells version kernels ds self.now → IfOk result (λ setup. setup ≡ setup_of version kernels ds) }
     {
         let vpes = self.vpes(alloc)?;
         let services = services_of(alloc, &vpes)?;
@@ -237,8 +235,8 @@ impl Tables {
         let denies = self.denies(alloc)?;
         let kills = self.kills_of(alloc, &vpes)?;
         Ok(Setup {
-            version: 1,
-            window: LINK_WINDOW,
+            version: self.version,
+            window: self.window.unwrap_or(LINK_WINDOW),
             kernels: self.owners.kernels(),
             owners: self.owners,
             vpes,

@@ -1,6 +1,6 @@
 // What the lines so far declare, by number.
-ghost use Rattle.std.specs.Prelude.{◌≡◌, ◌≤◌, [], None, false, replicate, IfOk};
-ghost use Rattle.sem_trace.specs.declared.limits.TheConstants.{NODES, MOST_KERNELS};
+ghost use Rattle.std.specs.Prelude.{◌≡◌, [], replicate, IfOk};
+ghost use Rattle.sem_key.specs.declared.limits.TheConstants.{VPES as VPES_LEM};
 ghost use Rattle.sem_reader.specs.Tells.{Tells, HasSizes};
 
 use indexmap::{IndexMap, IndexSet};
@@ -9,7 +9,7 @@ use sem_msg::{Calls, Roots};
 use std::alloc::Global;
 
 /// How many PEs, and how many VPEs, a text can speak of.
-pub(crate) const NODES: usize = sem_trace::NODES as usize;
+pub(crate) const VPES: usize = sem_key::VPES as usize;
 
 /// How many selectors, names and indexes there can be.
 pub(crate) const BYTES: usize = 256;
@@ -17,12 +17,16 @@ pub(crate) const BYTES: usize = 256;
 /// What is declared so far.
 #[derive(Drop)]
 pub(crate) struct Tables {
+    /// The version of the text.
+    pub version: u8,
+    /// How many messages a link holds, if it is told.
+    pub window: Option<u32>,
     /// Which kernel owns which PE.
     pub owners: Membership,
     /// The PE of each VPE.
-    pub pes: [Option<u8>; NODES],
+    pub pes: [Option<u8>; VPES],
     /// Which PEs have a VPE.
-    pub taken: [bool; NODES],
+    pub taken: [bool; VPES],
     /// What each VPE holds at the start.
     pub roots: Vec<Roots>,
     /// The calls of each VPE.
@@ -36,15 +40,15 @@ pub(crate) struct Tables {
     /// Which VPE denies which.
     pub denied: IndexSet<(u16, u16)>,
     /// After how many replies each VPE is killed.
-    pub kills: [Option<u64>; NODES],
+    pub kills: [Option<u64>; VPES],
 }
 
 // Empty lists of roots for all VPEs.
 fn no_roots(alloc: Global) -> Result<Vec<Roots>, OutOfMemory>
-    ensures { IfOk result (λ lists. lists.items ≡ replicate NODES []) }
+    ensures { IfOk result (λ lists. lists.items ≡ replicate VPES_LEM []) }
 {
     let mut lists = Vec::new(alloc);
-    for _ in 0..NODES {
+    for _ in 0..VPES {
         lists.push(Roots::new(alloc))?;
     }
     Ok(lists)
@@ -52,34 +56,34 @@ fn no_roots(alloc: Global) -> Result<Vec<Roots>, OutOfMemory>
 
 // Empty lists of calls for all VPEs.
 fn no_calls(alloc: Global) -> Result<Vec<Calls>, OutOfMemory>
-    ensures { IfOk result (λ lists. lists.items ≡ replicate NODES []) }
+    ensures { IfOk result (λ lists. lists.items ≡ replicate VPES_LEM []) }
 {
     let mut lists = Vec::new(alloc);
-    for _ in 0..NODES {
+    for _ in 0..VPES {
         lists.push(Calls::new(alloc))?;
     }
     Ok(lists)
 }
 
 impl Tables {
-    /// Nothing is declared but so many kernels.
-    pub(crate) fn new(alloc: Global, kernels: u32) -> Result<Tables, OutOfMemory>
-        requires some { 1 ≤ kernels }
-        requires few { kernels ≤ MOST_KERNELS }
-        ensures tells { IfOk result (Tells kernels []) }
+    /// Nothing is declared but one kernel, in a text of version 1.
+    pub(crate) fn new(alloc: Global) -> Result<Tables, OutOfMemory>
+        ensures tells { IfOk result (Tells 1 1 []) }
         ensures sizes { IfOk result HasSizes }
     {
         Ok(Tables {
-            owners: Membership::empty(kernels),
-            pes: [None; NODES],
-            taken: [false; NODES],
+            version: 1,
+            window: None,
+            owners: Membership::empty(1),
+            pes: [None; VPES],
+            taken: [false; VPES],
             roots: no_roots(alloc)?,
             calls: no_calls(alloc)?,
             call_number: 0,
             named: [false; BYTES],
             offers: IndexMap::new(alloc),
             denied: IndexSet::new(alloc),
-            kills: [None; NODES],
+            kills: [None; VPES],
         })
     }
 }

@@ -48,6 +48,76 @@ fn each_form_is_read_back(rt: HostRuntime) -> Result<(), Fail> {
     Ok(())
 }
 
+const ALL_OF_TWO: &str =
+    "semper trace 2\nkernels 32\nwindow 32\npe 0 31\npe 127 0\nvpe 0 0\nvpe 127 127\nroot 127 0 mem 0 4096 7\ndeny 127 0\nkill 127 3\ncall 0 obtain 5 127 0\ncall 127 delegate 0 0 1\nend\n";
+
+#[test]
+fn a_trace_of_version_2_is_read_back(rt: HostRuntime) -> Result<(), Fail> {
+    let found = reads(rt.alloc(), ALL_OF_TWO.as_bytes())?;
+    let is_read = found.is_ok();
+    assert!(rt; is_read);
+    if let Ok(printed) = found {
+        assert_eq!(rt; printed.as_slice(), ALL_OF_TWO.as_bytes());
+    }
+    Ok(())
+}
+
+#[test]
+fn each_cause_is_told_of_the_first_lines_of_each_version(rt: HostRuntime) -> Result<(), Fail> {
+    for (text, line, cause) in [
+        ("semper trace 3\n", 1, Cause::UnknownWord),
+        ("semper trace 02\n", 1, Cause::UnknownWord),
+        ("semper trace 2 2\n", 1, Cause::TooMany),
+        ("semper trace 1\nkernels 17\n", 2, Cause::OutOfRange),
+        ("semper trace 2\nkernels 33\n", 2, Cause::OutOfRange),
+        ("semper trace 2\nwindow 4\n", 2, Cause::UnknownWord),
+        (
+            "semper trace 1\nkernels 1\nwindow 4\n",
+            3,
+            Cause::UnknownWord,
+        ),
+        ("semper trace 2\nkernels 1\n", 3, Cause::Missing),
+        ("semper trace 2\nkernels 1\nend\n", 3, Cause::UnknownWord),
+        ("semper trace 2\nkernels 1\npe 0 0\n", 3, Cause::UnknownWord),
+        ("semper trace 2\nkernels 1\nwindow\n", 3, Cause::Missing),
+        ("semper trace 2\nkernels 1\nwindow x\n", 3, Cause::BadNumber),
+        (
+            "semper trace 2\nkernels 1\nwindow 0\n",
+            3,
+            Cause::OutOfRange,
+        ),
+        (
+            "semper trace 2\nkernels 1\nwindow 33\n",
+            3,
+            Cause::OutOfRange,
+        ),
+        ("semper trace 2\nkernels 1\nwindow 4 4\n", 3, Cause::TooMany),
+        (
+            "semper trace 2\nkernels 1\nwindow 4\nwindow 33\n",
+            4,
+            Cause::OutOfRange,
+        ),
+        (
+            "semper trace 2\nkernels 1\nwindow 4\nwindow 5\n",
+            4,
+            Cause::Twice,
+        ),
+        (
+            "semper trace 2\nkernels 1\nwindow 4\nkernels 1\n",
+            4,
+            Cause::Twice,
+        ),
+        (
+            "semper trace 2\nkernels 1\nwindow 4\nend\nwindow 4\n",
+            5,
+            Cause::TooMany,
+        ),
+    ] {
+        refuses(&rt, rt.alloc(), text.as_bytes(), line, cause)?;
+    }
+    Ok(())
+}
+
 #[test]
 fn a_text_above_the_limit_is_refused_at_line_0(rt: HostRuntime) -> Result<(), Fail> {
     let text = vec![in rt.alloc(); b'\n'; 8388609]?;

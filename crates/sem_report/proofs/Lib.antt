@@ -9,3 +9,4 @@ pub mod PlainTrace
 pub mod PrintedLines
 pub mod PrintedReport
 pub mod WholeText
+pub mod TraceHead

@@ -63,10 +63,10 @@ spelled whole printed good = elim (cases_Bool (bytes_eq whole printed)) [
 ]
 
 -- the fault of an entry is that of its words or of its memory
-pub entry_words_bad : (kernels : ℕ) (whole : List ℕ) (cause : Cause) → bytes_fault (content whole) ≡ None → entry_fault kernels (words_in whole) ≡ Some cause → report_line_fault (entry_form kernels) whole ≡ Some cause
+pub entry_words_bad : (version kernels : ℕ) (whole : List ℕ) (cause : Cause) → bytes_fault (content whole) ≡ None → entry_fault version kernels (words_in whole) ≡ Some cause → report_line_fault (entry_form version kernels) whole ≡ Some cause
 unfolding report_line_fault entry_fault
-entry_words_bad kernels whole cause text bad =
-    elim (cases_Option (form_fault (entry_form kernels (words_in whole)) (words_in whole))) [
+entry_words_bad version kernels whole cause text bad =
+    elim (cases_Option (form_fault (entry_form version kernels (words_in whole)) (words_in whole))) [
       | inl none ↦ elim (cases_Bool (has_long_memory (words_in whole))) [
         | inl long ↦ rw (text, none, long) (rw (none, long) at bad)
         | inr short ↦ absurd (none-some cause (rw (none, short) at bad))
@@ -74,10 +74,10 @@ entry_words_bad kernels whole cause text bad =
       | inr some ↦ rw (text, some.1) (rw some.1 at bad)
     ]
 
-pub entry_words_good : (kernels : ℕ) (words : List (List ℕ)) → entry_fault kernels words ≡ None → (form_fault (entry_form kernels words) words ≡ None) × (has_long_memory words ≡ false)
+pub entry_words_good : (version kernels : ℕ) (words : List (List ℕ)) → entry_fault version kernels words ≡ None → (form_fault (entry_form version kernels words) words ≡ None) × (has_long_memory words ≡ false)
 unfolding entry_fault
-entry_words_good kernels words good =
-    elim (cases_Option (form_fault (entry_form kernels words) words)) [
+entry_words_good version kernels words good =
+    elim (cases_Option (form_fault (entry_form version kernels words) words)) [
       | inl none ↦ elim (cases_Bool (has_long_memory words)) [
         | inl long ↦ absurd (none-some OutOfRange (sym (rw (none, long) at good)))
         | inr short ↦ (none, short)

@@ -45,5 +45,5 @@ text-parts first xs ys zs before a b c after at_first at_xs at_ys at_zs =
     rw (at_zs, at_ys, at_xs, at_first) (simp (flat_map-append, append_assoc))
 
 -- the text of a report, in four pieces
-pub text-report : (T : Setup) (J : List Entry) (made cut : ℕ) (held : List (KeyName × ℕ)) (before a b c after : List ℕ) → a ≡ before ++ line (codes "semper" ∷ codes "report" ∷ codes "1" ∷ []) → b ≡ a ++ text (trace_lines T) → c ≡ b ++ text ((codes "journal" ∷ decimal (length J) ∷ []) ∷ map entry_words J) → after ≡ c ++ text (audit_lines made cut held) → after ≡ before ++ report_text T J made cut held
-text-report T J made cut held = text-parts (codes "semper" ∷ codes "report" ∷ codes "1" ∷ []) (trace_lines T) ((codes "journal" ∷ decimal (length J) ∷ []) ∷ map entry_words J) (audit_lines made cut held)
+pub text-report : (T : Setup) (J : List Entry) (made cut : ℕ) (held : List (KeyName × ℕ)) (before a b c after : List ℕ) → a ≡ before ++ line (codes "semper" ∷ codes "report" ∷ decimal T.version ∷ []) → b ≡ a ++ text (trace_lines T) → c ≡ b ++ text ((codes "journal" ∷ decimal (length J) ∷ []) ∷ map entry_words J) → after ≡ c ++ text (audit_lines made cut held) → after ≡ before ++ report_text T J made cut held
+text-report T J made cut held = text-parts (codes "semper" ∷ codes "report" ∷ decimal T.version ∷ []) (trace_lines T) ((codes "journal" ∷ decimal (length J) ∷ []) ∷ map entry_words J) (audit_lines made cut held)

@@ -1,7 +1,8 @@
 -- The lines of a trace are plain, and none but the last ends it.
-use Rattle.std.proofs.Common.{◌≡◌, ℕ, Bool, true, false, not, ◌&&◌, List, [], ◌∷◌, ◌++◌, map, Option, Some, None, refl, ap, sym, ◌∙◌, append_assoc, true≢false, decimal}
+use Rattle.std.proofs.Common.{◌≡◌, ℕ, ◌==◌, inl, inr, Bool, true, false, not, ◌&&◌, List, [], ◌∷◌, ◌++◌, map, Option, Some, None, refl, ap, sym, ◌∙◌, append_assoc, true≢false, decimal}
 use Rattle.std.specs.Prelude.{codes, flat_map}
 use Rattle.std.specs.List.{list_all, enumerate_from}
+use Rattle.std.proofs.lemmas.Bool.{cases_Bool}
 use Rattle.std.proofs.lemmas.List.{map-append}
 use Rattle.std.proofs.lemmas.List.Folds.{list_all-append}
 use Rattle.sem_key.specs.declared.object.Object.{Object}
@@ -15,7 +16,7 @@ use Rattle.sem_text.specs.Lines.{line}
 use Rattle.sem_trace.specs.Declarations.{stands_at}
 use Rattle.sem_trace.specs.TextLines.{is_word}
 use Rattle.sem_trace.specs.Words.{key_word, call_words}
-use Rattle.sem_trace.specs.TraceText.{pe_line, vpe_line, root_line_of, root_line, offer_line, deny_line, kill_line, trace_lines}
+use Rattle.sem_trace.specs.TraceText.{pe_line, vpe_line, root_line_of, root_line, offer_line, deny_line, kill_line, window_lines, trace_lines}
 use Rattle.sem_report.specs.ReportRefusal.{is_end_line, trace_section}
 use Rattle.sem_reader.proofs.PlainText.{is_plain, is_plain_word, are_plain, and-left, and-right}
 use Rattle.sem_report.proofs.WholeText.{both, decimal_plain, words_line}
@@ -27,9 +28,10 @@ is_inner ws = are_plain ws && not (stands_at ws 0 (codes "end"))
 -- the lines of a trace but the last
 abbrev pub inner_lines : Setup → List (List (List ℕ))
 inner_lines T =
-    (codes "semper" ∷ codes "trace" ∷ codes "1" ∷ [])
+    (codes "semper" ∷ codes "trace" ∷ decimal T.version ∷ [])
     ∷ (codes "kernels" ∷ decimal T.kernels ∷ [])
-    ∷ flat_map pe_line (enumerate_from 0 T.owners.owners)
+    ∷ window_lines T
+    ++ flat_map pe_line (enumerate_from 0 T.owners.owners)
     ++ map vpe_line T.vpes
     ++ flat_map (λ d. map (root_line d.vpe) d.roots) T.vpes
     ++ map offer_line T.offers
@@ -96,6 +98,13 @@ call_inner v (Credit ep) = rw (decimal_plain v, decimal_plain ep) refl
 call_inner v Exit = rw (decimal_plain v) refl
 call_inner v (Clear src) = rw (decimal_plain v, decimal_plain src) refl
 
+window_inner : (T : Setup) → AreInner (window_lines T)
+window_inner T =
+    elim (cases_Bool (T.version == 1)) [
+      | inl one ↦ record { are = rw one refl }
+      | inr other ↦ record { are = rw (other, decimal_plain T.window) refl }
+    ]
+
 pub all_inner : (T : Setup) → list_all is_inner (inner_lines T) ≡ true
 all_inner T =
     let pes = inner_flat pe_line (enumerate_from 0 T.owners.owners) pes_inner in
@@ -105,8 +114,10 @@ all_inner T =
     let denies = inner_map deny_line T.denies (λ d. rw (decimal_plain d.0, decimal_plain d.1) refl) in
     let kills = inner_map kill_line T.kills (λ k. rw (decimal_plain k.0, decimal_plain k.1) refl) in
     let calls = inner_flat (λ (d : VpeDecl). map (λ c. codes "call" ∷ decimal d.vpe ∷ call_words c) d.calls) T.vpes (λ d. inner_map (λ c. codes "call" ∷ decimal d.vpe ∷ call_words c) d.calls (λ c. call_inner d.vpe c)) in
+    let first : is_inner (codes "semper" ∷ codes "trace" ∷ decimal T.version ∷ []) ≡ true = rw (decimal_plain T.version) refl in
     let second : is_inner (codes "kernels" ∷ decimal T.kernels ∷ []) ≡ true = rw (decimal_plain T.kernels) refl in
-    both (is_inner (codes "kernels" ∷ decimal T.kernels ∷ [])) _ second (inner_append (inner_append (inner_append (inner_append (inner_append (inner_append pes vpes) roots) offers) denies) kills) calls).are
+    both (is_inner (codes "semper" ∷ codes "trace" ∷ decimal T.version ∷ [])) _ first
+    (both (is_inner (codes "kernels" ∷ decimal T.kernels ∷ [])) _ second (inner_append (inner_append (inner_append (inner_append (inner_append (inner_append (inner_append (window_inner T) pes) vpes) roots) offers) denies) kills) calls).are)
 
 inner_plain : (ls : List (List (List ℕ))) → list_all is_inner ls ≡ true → list_all are_plain ls ≡ true
 inner_plain [] inner = refl

@@ -1,15 +1,15 @@
 -- The lines behind the trace of a printed report have no fault.
-use Rattle.std.proofs.Common.{◌≡◌, ℕ, zero, suc, ◌+◌, ◌≤◌, true, false, List, [], ◌∷◌, ◌++◌, length, map, replicate, None, refl, ap, arith, decimal, length-append}
+use Rattle.std.proofs.Common.{◌≡◌, ℕ, zero, suc, ◌+◌, ◌≤◌, true, false, List, [], ◌∷◌, ◌++◌, length, map, replicate, None, refl, ap, subst, ◌⊎◌, inl, inr, arith, decimal, length-append}
 use Rattle.std.specs.Prelude.{codes}
 use Rattle.std.specs.List.{All}
 use Rattle.std.specs.Str.{bytes_eq}
-use Rattle.std.proofs.lemmas.Fmt.{length-decimal-le}
+use Rattle.std.proofs.lemmas.Fmt.{length-decimal-le, decimal_digit}
 use Rattle.std.proofs.lemmas.Slice.Eq.{bytes_eq-Decides}
 use Rattle.sem_key.specs.KeyName.{KeyName, kind_number}
 use Rattle.sem_msg.specs.declared.entry.Entry.{Entry}
 use Rattle.sem_text.specs.Lines.{line}
 use Rattle.sem_trace.specs.Ranges.{IsKeyInText}
-use Rattle.sem_trace.specs.declared.limits.TheConstants.{MOST_KERNELS}
+use Rattle.sem_key.specs.declared.limits.TheConstants.{KERNELS}
 use Rattle.sem_trace.specs.Words.{key_word}
 use Rattle.sem_trace.specs.Forms.{form_fault}
 use Rattle.sem_trace.specs.TextLines.{bytes_fault}
@@ -19,6 +19,7 @@ use Rattle.sem_journal.specs.EntryRanges.{EntryFits}
 use Rattle.sem_journal.specs.ReportText.{held_line}
 use Rattle.sem_report.specs.WholeLines.{content}
 use Rattle.sem_report.specs.ReportRefusal.{Form, words_in, report_line_fault, forms_fault, report_form, name_form, count_form, held_form}
+use Rattle.sem_trace.proofs.Nodes.{node_small}
 use Rattle.sem_reader.proofs.PlainText.{is_plain_word, are_plain, bare, bytes_fit}
 use Rattle.sem_journal.proofs.PrintedPlaces.{Leaves, a_name, a_number, a_key, kind_most}
 use Rattle.sem_journal.proofs.PrintedEntries.{entry_read}
@@ -62,9 +63,20 @@ filled = record { is = refl }
 ten : (n : ℕ) → n ≤ 4294967295 → length (decimal n) ≤ 10
 ten n small = length-decimal-le 10 n (omega arith) (omega arith) (omega arith)
 
-pub first_fine : report_line_fault report_form (line (codes "semper" ∷ codes "report" ∷ codes "1" ∷ [])) ≡ None
+abbrev IsFirst : List ℕ → Type 0
+IsFirst version = report_line_fault report_form (line (codes "semper" ∷ codes "report" ∷ version ∷ [])) ≡ None
+
+pub first_fine : (version : ℕ) → (version ≡ 1) ⊎ (version ≡ 2) → IsFirst (decimal version)
 unfolding has_long_memory
-first_fine = printed_fine report_form (codes "semper" ∷ codes "report" ∷ codes "1" ∷ []) refl (omega arith) (a_name refl (a_name refl (a_name refl filled))).is refl
+first_fine version versions =
+    elim versions [
+      | inl one ↦
+          let word : codes "1" ≡ decimal version = rw (one, decimal_digit 1 (omega arith)) refl in
+          subst IsFirst word (printed_fine report_form (codes "semper" ∷ codes "report" ∷ codes "1" ∷ []) refl (omega arith) (a_name refl (a_name refl (a_name refl filled))).is refl)
+      | inr two ↦
+          let word : codes "2" ≡ decimal version = rw (two, decimal_digit 2 (omega arith)) refl in
+          subst IsFirst word (printed_fine report_form (codes "semper" ∷ codes "report" ∷ codes "2" ∷ []) refl (omega arith) (a_name refl (a_name refl (a_name refl filled))).is refl)
+    ]
 
 pub name_fine : (name : List ℕ) → is_plain_word name ≡ true → length name ≤ 20 → report_line_fault (name_form name) (line (name ∷ [])) ≡ None
 unfolding has_long_memory
@@ -79,23 +91,23 @@ count_fine name n plain short small =
     let all : length (line (name ∷ decimal n ∷ [])) ≡ length name + (1 + length (decimal n)) + 1 = rw (length-append, length-append, length-append) (omega arith) in
     printed_fine (count_form name) (name ∷ decimal n ∷ []) (rw (plain, decimal_plain n) refl) (omega (arith, all, ten n small)) (a_name (rw same refl) (a_number n (omega arith) small (omega arith) filled)).is refl
 
-key_short : (k : KeyName) → IsKeyInText k → length (key_word k) ≤ 43
-key_short k valid =
-    let pe = ten k.pe (omega (arith, valid.0)) in
-    let vpe = ten k.vpe (omega (arith, valid.1)) in
+key_short : (version : ℕ) (k : KeyName) → IsKeyInText version k → length (key_word k) ≤ 43
+key_short version k valid =
+    let pe = ten k.pe (omega (arith, node_small version k.pe valid.0)) in
+    let vpe = ten k.vpe (omega (arith, node_small version k.vpe valid.1)) in
     let kind = ten (kind_number k.kind) (omega (arith, kind_most k.kind)) in
     let number = ten k.number (omega (arith, valid.2)) in
     let all : length (key_word k) ≡ length (decimal k.pe) + (1 + length (decimal k.vpe)) + (1 + length (decimal (kind_number k.kind))) + (1 + length (decimal k.number)) = rw (length-append, length-append, length-append) (omega arith) in
     omega arith
 
-pub held_fine : (h : KeyName × ℕ) → IsKeyInText h.0 × (h.1 ≤ 255) → report_line_fault held_form (line (held_line h)) ≡ None
+pub held_fine : (version : ℕ) (h : KeyName × ℕ) → IsKeyInText version h.0 × (h.1 ≤ 255) → report_line_fault (held_form version) (line (held_line h)) ≡ None
 unfolding has_long_memory
-held_fine h fits =
+held_fine version h fits =
     let small : h.1 ≤ 255 = fits.1 in
     let all : length (line (held_line h)) ≡ 3 + (1 + length (key_word h.0) + (1 + length (decimal h.1))) + 1 = rw (length-append, length-append, length-append) (omega (arith, length-append (decimal h.1) [])) in
-    printed_fine held_form (held_line h) (rw (key_plain h.0, decimal_plain h.1) refl) (omega (arith, all, key_short h.0 fits.0, ten h.1 (omega arith))) (a_name refl (a_key h.0 fits.0 (a_number h.1 (omega arith) small (omega arith) filled))).is refl
+    printed_fine (held_form version) (held_line h) (rw (key_plain h.0, decimal_plain h.1) refl) (omega (arith, all, key_short version h.0 fits.0, ten h.1 (omega arith))) (a_name refl (a_key version h.0 fits.0 (a_number h.1 (omega arith) small (omega arith) filled))).is refl
 
-pub entry_fine : (kernels : ℕ) (e : Entry) → 1 ≤ kernels → kernels ≤ MOST_KERNELS → EntryFits kernels e → report_line_fault (entry_form kernels) (line (entry_words e)) ≡ None
-entry_fine kernels e some few fits =
-    let good = entry_words_good kernels (entry_words e) (entry_read kernels e some few fits) in
-    printed_fine (entry_form kernels) (entry_words e) (printed_words kernels e few fits) (omega (arith, short_line kernels e few fits)) good.0 good.1
+pub entry_fine : (version kernels : ℕ) (e : Entry) → 1 ≤ kernels → kernels ≤ KERNELS → EntryFits version kernels e → report_line_fault (entry_form version kernels) (line (entry_words e)) ≡ None
+entry_fine version kernels e some few fits =
+    let good = entry_words_good version kernels (entry_words e) (entry_read version kernels e some few fits) in
+    printed_fine (entry_form version kernels) (entry_words e) (printed_words version kernels e few fits) (omega (arith, short_line version kernels e few fits)) good.0 good.1

@@ -10,23 +10,25 @@ use Rattle.std.proofs.lemmas.List.Folds.{list_all-append}
 use Rattle.std.proofs.lemmas.Slice.Eq.{bytes_eq-Decides}
 use Rattle.sem_key.specs.KeyName.{KeyName}
 use Rattle.sem_msg.specs.declared.entry.Entry.{Entry}
-use Rattle.sem_msg.specs.Setup.{Setup}
+use Rattle.sem_msg.specs.Setup.{Setup, IsSetup}
 use Rattle.sem_text.specs.Lines.{line, text}
-use Rattle.sem_trace.specs.declared.limits.TheConstants.{MOST_KERNELS}
+use Rattle.sem_key.specs.declared.limits.TheConstants.{KERNELS}
 use Rattle.sem_trace.specs.TextLines.{lines_of}
-use Rattle.sem_trace.specs.Refusal.{lines_refusal, refusal}
+use Rattle.sem_trace.specs.Refusal.{version_in, lines_refusal, refusal}
 use Rattle.sem_trace.specs.Standing.{Stands, Declare}
-use Rattle.sem_trace.specs.TraceText.{canonical, trace_lines, TraceFits}
+use Rattle.sem_trace.specs.TraceText.{canonical, trace_lines}
 use Rattle.sem_journal.specs.EntryForms.{entry_form}
 use Rattle.sem_journal.specs.EntryText.{entry_words}
 use Rattle.sem_journal.specs.EntryRanges.{EntryFits}
 use Rattle.sem_journal.specs.ReportText.{held_line, audit_lines, journal_lines, report_lines, report_text}
 use Rattle.sem_report.specs.ReportRanges.{ReportFits}
 use Rattle.sem_report.specs.WholeLines.{whole_lines}
-use Rattle.sem_report.specs.ReportRefusal.{count_at, report_form, name_form, count_form, held_form, audit_forms, forms_behind, trace_section, trace_refusal, setup_in, first_difference, report_refusal}
+use Rattle.sem_report.specs.ReportRefusal.{words_in, count_at, report_form, name_form, count_form, held_form, audit_forms, forms_behind, trace_section, trace_refusal, setup_in, first_difference, report_refusal}
 use Rattle.sem_reader.proofs.PlainText.{are_plain}
 use Rattle.sem_journal.proofs.PrintedPlaces.{value}
 use Rattle.sem_journal.proofs.PlainEntries.{printed_words}
+use Rattle.sem_trace.proofs.Nodes.{few_kernels as few_for}
+use Rattle.sem_report.proofs.TraceHead.{small_version, head_printed}
 use Rattle.sem_report.proofs.TraceInReport.{section_spelled, section_declares}
 use Rattle.sem_report.proofs.WholeReport.{IsHeaded, IsTraced, behind_trace}
 use Rattle.sem_report.proofs.WholeText.{both, decimal_plain, words_line, whole_text}
@@ -67,17 +69,17 @@ audit_plain made cut held =
     rw (decimal_plain made, decimal_plain cut, decimal_plain (length held)) (plain_append (map held_line held) ((codes "end" ∷ []) ∷ []) keys refl)
 
 -- a trace tells few kernels
-pub few_kernels : (T : Setup) → TraceFits T → T.kernels ≤ MOST_KERNELS
-few_kernels T fits = rw fits.version at fits.setup.few_kernels
+pub few_kernels : (T : Setup) → IsSetup T → T.kernels ≤ KERNELS
+few_kernels T setup = omega (arith, setup.few_kernels, few_for T.version)
 
-journal_plain : (kernels : ℕ) (J : List Entry) → kernels ≤ MOST_KERNELS → All (EntryFits kernels) J → list_all are_plain (journal_lines J) ≡ true
-journal_plain kernels J few fits = rw (decimal_plain (length J)) (plain_map entry_words J (λ k e within. printed_words kernels (slice_index_or J k e) few (fits k e within)))
+journal_plain : (version kernels : ℕ) (J : List Entry) → kernels ≤ KERNELS → All (EntryFits version kernels) J → list_all are_plain (journal_lines J) ≡ true
+journal_plain version kernels J few fits = rw (decimal_plain (length J)) (plain_map entry_words J (λ k e within. printed_words version kernels (slice_index_or J k e) few (fits k e within)))
 
-pub report_whole : (T : Setup) (J : List Entry) (made cut : ℕ) (held : List (KeyName × ℕ)) → T.kernels ≤ MOST_KERNELS → All (EntryFits T.kernels) J → whole_lines (report_text T J made cut held) ≡ line (codes "semper" ∷ codes "report" ∷ codes "1" ∷ []) ∷ (map line (trace_lines T) ++ behind_whole J made cut held)
+pub report_whole : (T : Setup) (J : List Entry) (made cut : ℕ) (held : List (KeyName × ℕ)) → T.kernels ≤ KERNELS → All (EntryFits T.version T.kernels) J → whole_lines (report_text T J made cut held) ≡ line (codes "semper" ∷ codes "report" ∷ decimal T.version ∷ []) ∷ (map line (trace_lines T) ++ behind_whole J made cut held)
 report_whole T J made cut held few fits =
-    let first : List (List ℕ) = codes "semper" ∷ codes "report" ∷ codes "1" ∷ [] in
+    let first : List (List ℕ) = codes "semper" ∷ codes "report" ∷ decimal T.version ∷ [] in
     let grouped : report_lines T J made cut held ≡ first ∷ (trace_lines T ++ (journal_lines J ++ audit_lines made cut held)) = ap (λ (ls : List (List (List ℕ))). first ∷ ls) (append_assoc (trace_lines T) (journal_lines J) (audit_lines made cut held)) in
-    let plain : list_all are_plain (first ∷ (trace_lines T ++ (journal_lines J ++ audit_lines made cut held))) ≡ true = plain_append (trace_lines T) _ (trace_plain T) (plain_append (journal_lines J) (audit_lines made cut held) (journal_plain T.kernels J few fits) (audit_plain made cut held)) in
+    let plain : list_all are_plain (first ∷ (trace_lines T ++ (journal_lines J ++ audit_lines made cut held))) ≡ true = both (are_plain first) _ (rw (decimal_plain T.version) refl) (plain_append (trace_lines T) _ (trace_plain T) (plain_append (journal_lines J) (audit_lines made cut held) (journal_plain T.version T.kernels J few fits) (audit_plain made cut held))) in
     ap (λ (ls : List (List (List ℕ))). whole_lines (text ls)) grouped
     ∙ (whole_text (first ∷ (trace_lines T ++ (journal_lines J ++ audit_lines made cut held))) plain
     ∙ ap (λ (ls : List (List ℕ)). line first ∷ ls) (map-append line (trace_lines T) (journal_lines J ++ audit_lines made cut held) ∙ ap (λ (ls : List (List ℕ)). map line (trace_lines T) ++ ls) (behind_is J made cut held)))
@@ -99,22 +101,22 @@ held_count J made cut held few =
     let at : slice_index_or (behind_whole J made cut held) (length J + 4) [] ≡ line (codes "held" ∷ decimal (length held) ∷ []) = ap (λ (i : ℕ). slice_index_or (behind_whole J made cut held) i []) next ∙ past in
     rw (at, words_line (codes "held" ∷ decimal (length held) ∷ []) (rw (decimal_plain (length held)) refl)) (value (length held) (omega arith))
 
-pub forms_printed : (kernels : ℕ) (J : List Entry) (made cut : ℕ) (held : List (KeyName × ℕ)) → length J ≤ 4294967295 → length held ≤ 4294967295 → forms_behind kernels (behind_whole J made cut held) ≡ count_form (codes "journal") ∷ (replicate (length J) (entry_form kernels) ++ audit_forms (length held))
+pub forms_printed : (version kernels : ℕ) (J : List Entry) (made cut : ℕ) (held : List (KeyName × ℕ)) → length J ≤ 4294967295 → length held ≤ 4294967295 → forms_behind version kernels (behind_whole J made cut held) ≡ count_form (codes "journal") ∷ (replicate (length J) (entry_form version kernels) ++ audit_forms version (length held))
 unfolding forms_behind
-forms_printed kernels J made cut held few few_held = rw (journal_count J made cut held few, held_count J made cut held few_held) refl
+forms_printed version kernels J made cut held few few_held = rw (journal_count J made cut held few, held_count J made cut held few_held) refl
 
-behind_fine : (T : Setup) (J : List Entry) (made cut : ℕ) (held : List (KeyName × ℕ)) → ReportFits T J made cut held → AreFine (forms_behind T.kernels (behind_whole J made cut held)) (behind_whole J made cut held)
+behind_fine : (T : Setup) (J : List Entry) (made cut : ℕ) (held : List (KeyName × ℕ)) → ReportFits T J made cut held → AreFine (forms_behind T.version T.kernels (behind_whole J made cut held)) (behind_whole J made cut held)
 behind_fine T J made cut held fits =
     let last : AreFine (name_form (codes "end") ∷ []) (line (codes "end" ∷ []) ∷ []) = fine_more _ [] _ [] (name_fine (codes "end") refl (omega arith)) fine_none in
-    let keys : AreFine (replicate (length held) held_form ++ name_form (codes "end") ∷ []) (map line (map held_line held) ++ line (codes "end" ∷ []) ∷ []) = fine_each held_line held_form held _ _ (λ k h within. held_fine (slice_index_or held k h) (fits.keys k h within)) last in
-    let audit : AreFine (audit_forms (length held)) (audit_whole made cut held) =
+    let keys : AreFine (replicate (length held) (held_form T.version) ++ name_form (codes "end") ∷ []) (map line (map held_line held) ++ line (codes "end" ∷ []) ∷ []) = fine_each held_line (held_form T.version) held _ _ (λ k h within. held_fine T.version (slice_index_or held k h) (fits.keys k h within)) last in
+    let audit : AreFine (audit_forms T.version (length held)) (audit_whole made cut held) =
     fine_more _ _ _ _ (name_fine (codes "audit") refl (omega arith))
     (fine_more _ _ _ _ (count_fine (codes "made") made refl (omega arith) fits.few_made)
     (fine_more _ _ _ _ (count_fine (codes "cut") cut refl (omega arith) fits.few_cut)
     (fine_more _ _ _ _ (count_fine (codes "held") (length held) refl (omega arith) fits.few_held) keys))) in
-    let entries = fine_each entry_words (entry_form T.kernels) J _ _ (λ k e within. entry_fine T.kernels (slice_index_or J k e) fits.trace.setup.some_kernel (few_kernels T fits.trace) (fits.entries k e within)) audit in
-    let all : AreFine (count_form (codes "journal") ∷ (replicate (length J) (entry_form T.kernels) ++ audit_forms (length held))) (behind_whole J made cut held) = fine_more _ _ _ _ (count_fine (codes "journal") (length J) refl (omega arith) fits.few_entries) entries in
-    λ n. rw (forms_printed T.kernels J made cut held fits.few_entries fits.few_held) (all n)
+    let entries = fine_each entry_words (entry_form T.version T.kernels) J _ _ (λ k e within. entry_fine T.version T.kernels (slice_index_or J k e) fits.trace.some_kernel (few_kernels T fits.trace) (fits.entries k e within)) audit in
+    let all : AreFine (count_form (codes "journal") ∷ (replicate (length J) (entry_form T.version T.kernels) ++ audit_forms T.version (length held))) (behind_whole J made cut held) = fine_more _ _ _ _ (count_fine (codes "journal") (length J) refl (omega arith) fits.few_entries) entries in
+    λ n. rw (forms_printed T.version T.kernels J made cut held fits.few_entries fits.few_held) (all n)
 
 -- the trace
 same_lines : (n : ℕ) (ls : List (List ℕ)) → first_difference n ls ls ≡ None
@@ -139,25 +141,30 @@ trace_whole T = whole_text (trace_lines T) (trace_plain T)
 pub trace_read : (T : Setup) → Stands (canonical T) T → T ≡ setup_in (map line (trace_lines T))
 trace_read T stands = section_declares (canonical T) (map line (trace_lines T)) T (trace_whole T) (declares T stands)
 
-trace_fine : (T : Setup) → Stands (canonical T) T → trace_refusal (map line (trace_lines T)) ≡ None
-trace_fine T stands = section_spelled (canonical T) (canonical T) (map line (trace_lines T)) T None (trace_whole T) (declares T stands) refl (sym (same_lines 2 (whole_lines (canonical T))))
+trace_fine : (T : Setup) → IsSetup T → Stands (canonical T) T → trace_refusal T.version (map line (trace_lines T)) ≡ None
+trace_fine T setup stands = section_spelled T.version (canonical T) (canonical T) (map line (trace_lines T)) T None (trace_whole T) (declares T stands) (head_printed T setup.versioned) refl (sym (same_lines 2 (whole_lines (canonical T))))
 
-pub report_read : ((T : Setup) → TraceFits T → Stands (canonical T) T) → (T : Setup) (J : List Entry) (made cut : ℕ) (held : List (KeyName × ℕ)) → ReportFits T J made cut held → length (report_text T J made cut held) ≤ 134217728 → report_refusal (report_text T J made cut held) ≡ None
+-- the version that the first line tells
+first_told : (T : Setup) → IsSetup T → version_in (words_in (line (codes "semper" ∷ codes "report" ∷ decimal T.version ∷ []))) ≡ T.version
+first_told T setup = ap version_in (words_line (codes "semper" ∷ codes "report" ∷ decimal T.version ∷ []) (rw (decimal_plain T.version) refl)) ∙ value T.version (small_version T.version setup.versioned)
+
+pub report_read : ((T : Setup) → IsSetup T → Stands (canonical T) T) → (T : Setup) (J : List Entry) (made cut : ℕ) (held : List (KeyName × ℕ)) → ReportFits T J made cut held → length (report_text T J made cut held) ≤ 134217728 → report_refusal (report_text T J made cut held) ≡ None
 report_read stands T J made cut held fits short =
     let behind : List (List ℕ) = behind_whole J made cut held in
     let section : List (List ℕ) = map line (trace_lines T) in
     let whole = report_whole T J made cut held (few_kernels T fits.trace) fits.entries in
     let standing : Stands (canonical T) T = stands T fits.trace in
     let is : trace_section (section ++ behind) ≡ section = section_printed T behind in
-    let headed : IsHeaded (report_text T J made cut held) (section ++ behind) = record {
+    let headed : IsHeaded T.version (report_text T J made cut held) (section ++ behind) = record {
       short = short;
-      header = rw whole (fine_more report_form [] _ [] first_fine fine_none 1);
+      header = rw whole (fine_more report_form [] _ [] (first_fine T.version fits.trace.versioned) fine_none 1);
+      told = rw whole (first_told T fits.trace);
       behind = rw whole refl;
     } in
-    let traced : IsTraced (section ++ behind) behind T (1 + length section) = record {
-      trace = rw is (trace_fine T standing);
+    let traced : IsTraced T.version (section ++ behind) behind T (1 + length section) = record {
+      trace = rw is (trace_fine T fits.trace standing);
       declared = rw is (trace_read T standing);
       rest = rw is (sym (drop-append_seam section behind));
       number = rw is refl;
     } in
-    behind_trace (report_text T J made cut held) (section ++ behind) behind T (1 + length section) headed traced ∙ behind_fine T J made cut held fits (1 + length section + 1)
+    behind_trace T.version (report_text T J made cut held) (section ++ behind) behind T (1 + length section) headed traced ∙ behind_fine T J made cut held fits (1 + length section + 1)

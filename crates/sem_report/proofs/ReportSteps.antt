@@ -23,9 +23,10 @@ use Rattle.sem_trace.specs.TextLines.{bytes_fault}
 use Rattle.std.specs.Option.{option_or, option_map}
 use Rattle.std.specs.Prelude.{unwrap_or, codes}
 use Rattle.sem_trace.specs.Declarations.{number_at}
+use Rattle.sem_trace.specs.Refusal.{version_in}
 use Rattle.sem_trace.specs.Standing.{IsWhy}
 use Rattle.sem_report.specs.WholeLines.{whole_lines, content}
-use Rattle.sem_report.specs.ReportRefusal.{Form, report_form, count_form, audit_forms, forms_behind, words_in, count_at, report_line_fault, forms_fault, fault_of}
+use Rattle.sem_report.specs.ReportRefusal.{Form, report_form, report_version, count_form, audit_forms, forms_behind, words_in, count_at, report_line_fault, forms_fault, fault_of}
 use Rattle.sem_report.specs.ReadsReport.{Because, Follows, Stops, NextLine, OneEntry, IsMissing, at_line}
 
 pub missing_stops : (form : Form) (n : ℕ) (lines : List (List ℕ)) (e : TraceError) → IsMissing n lines e → Stops (form ∷ []) n lines e
@@ -62,21 +63,21 @@ pub text_more : {X : Type 0} (words : X → List (List ℕ)) (xs : List X) (x : 
 text_more words xs x all rest behind so_far one = so_far ∙ (rw (one, map-append, flat_map-append, append-nil) (sym (append_assoc (text (map words xs)) (line (words x)) behind)))
 
 -- an entry more
-pub entries_fit : (kernels : ℕ) (text behind : List ℕ) (before after : List Entry) → OneEntry kernels text behind before after → All (EntryFits kernels) before → All (EntryFits kernels) after
-entries_fit kernels text behind before after one fits = subst (All (EntryFits kernels)) (sym one.added) (All-append (EntryFits kernels) before (one.entry ∷ []) fits (All-cons (EntryFits kernels) one.entry [] one.fits (All-nil (EntryFits kernels))))
+pub entries_fit : (version kernels : ℕ) (text behind : List ℕ) (before after : List Entry) → OneEntry version kernels text behind before after → All (EntryFits version kernels) before → All (EntryFits version kernels) after
+entries_fit version kernels text behind before after one fits = subst (All (EntryFits version kernels)) (sym one.added) (All-append (EntryFits version kernels) before (one.entry ∷ []) fits (All-cons (EntryFits version kernels) one.entry [] one.fits (All-nil (EntryFits version kernels))))
 
-pub entries_read : (kernels : ℕ) (all rest behind : List ℕ) (before after : List Entry) → OneEntry kernels rest behind before after → all ≡ text (map entry_words before) ++ rest → all ≡ text (map entry_words after) ++ behind
-entries_read kernels all rest behind before after one so_far = rw one.added (text_more entry_words before one.entry all rest behind so_far one.parts)
+pub entries_read : (version kernels : ℕ) (all rest behind : List ℕ) (before after : List Entry) → OneEntry version kernels rest behind before after → all ≡ text (map entry_words before) ++ rest → all ≡ text (map entry_words after) ++ behind
+entries_read version kernels all rest behind before after one so_far = rw one.added (text_more entry_words before one.entry all rest behind so_far one.parts)
 
-pub entries_count : (kernels n : ℕ) (text behind : List ℕ) (before after : List Entry) → OneEntry kernels text behind before after → length before ≡ n → length after ≡ n + 1
-entries_count kernels n text behind before after one count = rw (one.added, length-append, count) refl
+pub entries_count : (version kernels n : ℕ) (text behind : List ℕ) (before after : List Entry) → OneEntry version kernels text behind before after → length before ≡ n → length after ≡ n + 1
+entries_count version kernels n text behind before after one count = rw (one.added, length-append, count) refl
 
 -- a key more
 pub keys_read : (held : Held) (before after : List Held) (all rest behind : List ℕ) → all ≡ text (map held_line (held_pairs before)) ++ rest → rest ≡ line (held_line (held.key, held.sel)) ++ behind → after ≡ before ++ held ∷ [] → all ≡ text (map held_line (held_pairs after)) ++ behind
 keys_read held before after all rest behind so_far one added = rw (added, map-append) (text_more held_line (held_pairs before) (held.key, held.sel) all rest behind so_far one)
 
-pub keys_fit : (held : Held) (before after : List Held) → All HeldFits (held_pairs before) → HeldFits (held.key, held.sel) → after ≡ before ++ held ∷ [] → All HeldFits (held_pairs after)
-keys_fit held before after so_far one added = rw (added, map-append) (All-append HeldFits (held_pairs before) ((held.key, held.sel) ∷ []) so_far (All-cons HeldFits (held.key, held.sel) [] one (All-nil HeldFits)))
+pub keys_fit : (version : ℕ) (held : Held) (before after : List Held) → All (HeldFits version) (held_pairs before) → HeldFits version (held.key, held.sel) → after ≡ before ++ held ∷ [] → All (HeldFits version) (held_pairs after)
+keys_fit version held before after so_far one added = rw (added, map-append) (All-append (HeldFits version) (held_pairs before) ((held.key, held.sel) ∷ []) so_far (All-cons (HeldFits version) (held.key, held.sel) [] one (All-nil (HeldFits version))))
 
 -- the lines behind one more
 pub drop_more : (lines rest behind : List (List ℕ)) (i : ℕ) → rest ≡ drop i lines → behind ≡ drop 1 rest → behind ≡ drop (i + 1) lines
@@ -125,13 +126,16 @@ unfolding forms_fault
 first_bad n m text whole behind (Refused cause) start next because = rw (next.lines, because, next.number, start) refl
 first_bad n m text whole behind Memory start next because = tt
 
+pub first_told : (n m version : ℕ) (text whole behind : List ℕ) → NextLine n text whole m behind → version_in (words_in whole) ≡ version → report_version (whole_lines text) ≡ version
+first_told n m version text whole behind next told = rw next.lines told
+
 -- The lines behind the trace.
 pub count_further : (i k n : ℕ) (lines rest : List (List ℕ)) → rest ≡ drop i lines → i + k ≡ n → count_at lines n ≡ count_at rest k
 count_further i k n lines rest is same = ap (λ (whole : List ℕ). number_at (words_in whole) 1) (ap (λ (j : ℕ). get_or lines j []) (sym same) ∙ (sym (get_or-drop i lines k []) ∙ ap (λ (ls : List (List ℕ)). get_or ls k []) (sym is)))
 
-pub forms_are : (kernels number held : ℕ) (lines : List (List ℕ)) → count_at lines 0 ≡ number → count_at lines (number + 4) ≡ held → forms_behind kernels lines ≡ count_form (codes "journal") ∷ (replicate number (entry_form kernels) ++ audit_forms held)
+pub forms_are : (version kernels number held : ℕ) (lines : List (List ℕ)) → count_at lines 0 ≡ number → count_at lines (number + 4) ≡ held → forms_behind version kernels lines ≡ count_form (codes "journal") ∷ (replicate number (entry_form version kernels) ++ audit_forms version held)
 unfolding forms_behind
-forms_are kernels number held lines is is' = rw (is, is') refl
+forms_are version kernels number held lines is is' = rw (is, is') refl
 
 pub drop_entries : (number : ℕ) (lines rest behind : List (List ℕ)) → rest ≡ drop 1 lines → behind ≡ drop number rest → behind ≡ drop (number + 1) lines
 drop_entries number lines rest behind one more = more ∙ (ap (drop number) one ∙ (drop-drop number 1 lines ∙ ap (λ (n : ℕ). drop n lines) (omega arith)))

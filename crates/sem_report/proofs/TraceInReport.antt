@@ -1,5 +1,5 @@
 -- The trace in a report.
-use Rattle.std.proofs.Common.{◌≡◌, ℕ, zero, suc, ◌+◌, ◌≤◌, ◌==◌, List, [], ◌∷◌, length, map, Option, Some, None, refl, ap, sym, ◌∙◌, arith, eqb-true, inl, inr}
+use Rattle.std.proofs.Common.{◌≡◌, ℕ, zero, suc, ◌+◌, ◌≤◌, ◌==◌, List, [], ◌∷◌, length, map, Option, Some, None, refl, ap, sym, ◌∙◌, arith, eqb-true, ◌⊎◌, inl, inr}
 use Rattle.std.specs.List.{range_with_len, onto_first, flat_map}
 use Rattle.std.specs.Option.{option_map}
 use Rattle.std.specs.Str.{bytes_eq}
@@ -16,13 +16,14 @@ use Rattle.sem_trace.specs.declared.fault.TraceError.{TraceError}
 use Rattle.sem_trace.specs.declared.fault.TraceError.TheVariants.{Refused as RefusedText, Memory as NoMemory}
 use Rattle.sem_trace.specs.TextLines.{lines_of}
 use Rattle.sem_trace.specs.Earlier.{first_some, is_ended}
-use Rattle.sem_trace.specs.Refusal.{fault_at, first_fault, end_fault, lines_refusal, numbers, declarations_of, kernels_of}
+use Rattle.sem_trace.specs.Refusal.{fault_at, first_fault, end_fault, lines_refusal, numbers, declarations_of, version_of, kernels_of}
 use Rattle.sem_trace.specs.Standing.{Declare, IsWhy, setup_of}
 use Rattle.sem_trace.specs.TraceText.{canonical}
 use Rattle.sem_report.specs.WholeLines.{whole_lines, content}
-use Rattle.sem_report.specs.ReportRefusal.{trace_refusal, first_difference, setup_in, fault_of}
+use Rattle.sem_report.specs.ReportRefusal.{head_fault, trace_refusal, first_difference, setup_in, fault_of}
 use Rattle.sem_report.specs.ReadsReport.{IsBelow, later}
 use Rattle.sem_report.proofs.TextInLines.{lines-whole}
+use Rattle.sem_report.proofs.TraceHead.{version_told}
 
 -- the number of a refused line is at most one more than there are lines
 some_below : (n : ℕ) (h : ℕ → Option TraceFault) (from count : ℕ) (fault : TraceFault) → ((i : ℕ) (f : TraceFault) → h i ≡ Some f → f.line ≡ i + 1) → from + count ≤ n → first_some h (range_with_len from count) ≡ Some fault → fault.line ≤ n
@@ -97,20 +98,29 @@ section_below section lines (RefusedText fault) is short why =
     omega (arith, whole-short section)
 section_below section lines NoMemory is short why = tt
 
-pub section_refused : (section : List ℕ) (lines : List (List ℕ)) (e : TraceError) → whole_lines section ≡ lines → IsWhy (lines_refusal (lines_of section)) e → IsWhy (trace_refusal lines) (later e)
-section_refused section lines (RefusedText fault) is why = rw (rw (section_lines section lines is) at why) refl
-section_refused section lines NoMemory is why = tt
+pub section_refused : (version : ℕ) (section : List ℕ) (lines : List (List ℕ)) (e : TraceError) → whole_lines section ≡ lines → head_fault version 2 (map content lines) ≡ None → IsWhy (lines_refusal (lines_of section)) e → IsWhy (trace_refusal version lines) (later e)
+section_refused version section lines (RefusedText fault) is head why = rw (head, rw (section_lines section lines is) at why) refl
+section_refused version section lines NoMemory is head why = tt
 
 pub section_declares : (section : List ℕ) (lines : List (List ℕ)) (T : Setup) → whole_lines section ≡ lines → Declare (lines_of section) T → T ≡ setup_in lines
-section_declares section lines T is declare = declare.declared ∙ ap (λ (ls : List (List ℕ)). setup_of (kernels_of ls) (declarations_of ls)) (section_lines section lines is)
+section_declares section lines T is declare = declare.declared ∙ ap (λ (ls : List (List ℕ)). setup_of (version_of ls) (kernels_of ls) (declarations_of ls)) (section_lines section lines is)
+
+-- the section of a trace whose first line is wrong, or tells the version
+pub head_refused : (version : ℕ) (lines : List (List ℕ)) (fault : TraceFault) → head_fault version 2 (map content lines) ≡ Some fault → trace_refusal version lines ≡ Some fault
+head_refused version lines fault head = rw head refl
+
+pub section_version : (version : ℕ) (section : List ℕ) (lines : List (List ℕ)) (T : Setup) → (version ≡ 1) ⊎ (version ≡ 2) → whole_lines section ≡ lines → head_fault version 2 (map content lines) ≡ None → Declare (lines_of section) T → T.version ≡ version
+unfolding setup_of
+section_version version section lines T versions is head declare =
+    ap (λ (S : Setup). S.version) declare.declared ∙ version_told version 2 (lines_of section) versions (rw (section_lines section lines is) head) declare.accepted
 
 -- the spelling of the section of a trace, which is printed so
-pub section_spelled : (section printed : List ℕ) (lines : List (List ℕ)) (T : Setup) (o : Option ℕ) → whole_lines section ≡ lines → Declare (lines_of section) T → printed ≡ canonical T → o ≡ first_difference 2 (whole_lines section) (whole_lines printed) → trace_refusal lines ≡ option_map (λ n. fault_of n NotCanonical) o
-section_spelled section printed lines T o is declare text found =
+pub section_spelled : (version : ℕ) (section printed : List ℕ) (lines : List (List ℕ)) (T : Setup) (o : Option ℕ) → whole_lines section ≡ lines → Declare (lines_of section) T → head_fault version 2 (map content lines) ≡ None → printed ≡ canonical T → o ≡ first_difference 2 (whole_lines section) (whole_lines printed) → trace_refusal version lines ≡ option_map (λ n. fault_of n NotCanonical) o
+section_spelled version section printed lines T o is declare head text found =
     let fine : lines_refusal (map content lines) ≡ None = rw (section_lines section lines is) at declare.accepted in
     let same : T ≡ setup_in lines = section_declares section lines T is declare in
     let difference : first_difference 2 lines (whole_lines (canonical (setup_in lines))) ≡ o = sym (found ∙ (rw (is, text, same) refl)) in
-    rw (fine, difference) refl
+    rw (head, fine, difference) refl
 
 -- two texts without a difference are the same
 no_difference : (n : ℕ) (lines others : List (List ℕ)) → first_difference n lines others ≡ None → lines ≡ others

@@ -43,12 +43,12 @@ abbrev pub at_line : ℕ → LineError → TraceError
 at_line n (Refused cause) = RefusedText (fault_of n cause)
 at_line n Memory = NoMemory
 
--- the first line of a text is that of an entry, which comes to the end of a list
-pub record OneEntry (kernels : ℕ) (text behind : List ℕ) (before after : List Entry) : Type 0 where
+-- the first line of a text is that of an entry of a report of that version, which comes to the end of a list
+pub record OneEntry (version kernels : ℕ) (text behind : List ℕ) (before after : List Entry) : Type 0 where
   pub entry : Entry
   pub parts : text ≡ line (entry_words entry) ++ behind
   pub added : after ≡ before ++ entry ∷ []
-  pub fits : EntryFits kernels entry
+  pub fits : EntryFits version kernels entry
 
 -- a text is refused so
 abbrev pub IsRefused : Option TraceFault → TraceError → Type 0

@@ -12,6 +12,7 @@ mod report_reader;
 mod report_tests;
 #[cfg(test)]
 mod tests;
+mod trace_head;
 
 pub use laws::{one_report, reports_are_read};
 pub use report::print_report;

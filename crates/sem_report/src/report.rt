@@ -81,6 +81,14 @@ fn push_audit(out: &mut Vec<u8>, audit: &Audit) -> Result<(), OutOfMemory>
     push_line(out, b"end", &[])
 }
 
+// Appends the first line.
+fn push_header(out: &mut Vec<u8>, setup: &Setup) -> Result<(), OutOfMemory>
+    ensures ok { OnOk result (out.new.items ≡ out.old.items
+        ++ line (codes "semper report" ∷ decimal setup.now.version ∷ [])) }
+{
+    push_line(out, b"semper report", &[u64::from(setup.version)])
+}
+
 // Appends the text of the report.
 fn push_report(
     out: &mut Vec<u8>,
@@ -92,7 +100,7 @@ fn push_report(
         ++ report_text setup.now journal.now.entries audit.now.made audit.now.cut
         (held_pairs audit.now.held)) }
 {
-    push_line(out, b"semper report 1", &[])?;
+    push_header(out, setup)?;
     push_trace(out, setup)?;
     push_journal(out, journal)?;
     push_audit(out, audit)

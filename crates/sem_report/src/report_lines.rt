@@ -1,11 +1,12 @@
 // The lines of a report, each against its form and its canonical spelling.
-ghost use Rattle.std.specs.Prelude.{◌≡◌, ◌≤◌, [], ◌∷◌, codes, decimal, None, Some, IfOk, IfErr, OnOk, if◌then◌else◌};
+ghost use Rattle.std.specs.Prelude.{◌≡◌, ◌≤◌, ◌⊎◌, [], ◌∷◌, codes, decimal, None, Some, IfOk, IfErr, OnOk, if◌then◌else◌};
 ghost use Rattle.std.specs.Result.{result_err};
 ghost use Rattle.std.specs.Str.{bytes_eq};
 ghost use Rattle.sem_text.specs.Lines.{line as line_lem};
 ghost use Rattle.sem_trace.specs.TextLines.{words_of, bytes_fault as bytes_fault_lem};
 ghost use Rattle.sem_trace.specs.Forms.{form_fault};
 ghost use Rattle.sem_trace.specs.Declarations.{number_at};
+ghost use Rattle.sem_trace.specs.Refusal.{version_in};
 ghost use Rattle.sem_trace.specs.declared.fault.Cause.TheVariants.{NotCanonical};
 ghost use Rattle.sem_report.specs.declared.report_lines.LineError.TheVariants.{Refused, Memory};
 ghost use Rattle.sem_journal.specs.EntryForms.{entry_form};
@@ -97,18 +98,18 @@ fn count_words(words: &[u8], name: &[u8]) -> Result<u64, Cause>
     Ok(number)
 }
 
-// The key that is held, and its selector.
+// The key that is held, and its selector, in a report of the version.
 #[tactic(auto, using(sem_journal::proofs::EntryParts::nothing_more))]
-fn held_words(words: &[u8]) -> Result<Held, Cause>
-    ensures fault { form_fault (held_form (words_of words.now)) (words_of words.now)
+fn held_words(words: &[u8], version: u8) -> Result<Held, Cause>
+    ensures fault { form_fault (held_form version (words_of words.now)) (words_of words.now)
         ≡ result_err result }
     ensures printed { IfOk result
         (λ held. words_of words.now ≡ held_words_lem (held.key, held.sel)) }
-    ensures fits { IfOk result (λ held. HeldFits (held.key, held.sel)) }
+    ensures fits { IfOk result (λ held. HeldFits version (held.key, held.sel)) }
 {
     let mut words = Words::of(words);
     words.fixed(b"key")?;
-    let key = words.key()?;
+    let key = words.key(version)?;
     let sel = words.number(BYTE)?;
     words.no_more()?;
     Ok(Held {
@@ -151,69 +152,81 @@ pub fn count_line(line: &Line, name: &[u8], printed: &mut Vec<u8>) -> Result<u64
     Ok(number)
 }
 
-/// Reads the line of a key that is held. What was printed before means nothing.
-pub fn held_line(line: &Line, printed: &mut Vec<u8>) -> Result<Held, LineError>
+/// Reads the line of a key that is held, in a report of the version. What was printed before means
+/// nothing.
+pub fn held_line(line: &Line, version: u8, printed: &mut Vec<u8>) -> Result<Held, LineError>
     requires { line.now.content.now ≡ content_lem line.now.whole.now }
-    ensures ok { OnOk result (report_line_fault held_form line.now.whole.now ≡ None) }
-    ensures err { IfErr result (Because (report_line_fault held_form line.now.whole.now)) }
+    ensures ok { OnOk result (report_line_fault (held_form version) line.now.whole.now ≡ None) }
+    ensures err { IfErr result
+        (Because (report_line_fault (held_form version) line.now.whole.now)) }
     ensures read { IfOk result
         (λ held. line.now.whole.now ≡ line_lem (held_words_lem (held.key, held.sel))) }
-    ensures fits { IfOk result (λ held. HeldFits (held.key, held.sel)) }
+    ensures fits { IfOk result (λ held. HeldFits version (held.key, held.sel)) }
 {
     is_text(line)?;
-    let held = held_words(line.content)?;
+    let held = held_words(line.content, version)?;
     printed.clear();
     push_held(printed, &held)?;
     is_canonical(line, printed)?;
     Ok(held)
 }
 
-/// Reads the line of an entry, where there are so many kernels. What was printed before means
-/// nothing.
-pub fn entry_line(line: &Line, kernels: u32, printed: &mut Vec<u8>) -> Result<Entry, LineError>
+/// Reads the line of an entry, in a report of the version, where there are so many kernels. What
+/// was printed before means nothing.
+pub fn entry_line(
+    line: &Line,
+    version: u8,
+    kernels: u32,
+    printed: &mut Vec<u8>,
+) -> Result<Entry, LineError>
     requires content { line.now.content.now ≡ content_lem line.now.whole.now }
     requires kernels { 1 ≤ kernels }
-    ensures ok { OnOk result (report_line_fault (entry_form kernels) line.now.whole.now ≡ None) }
+    ensures ok { OnOk result
+        (report_line_fault (entry_form version kernels) line.now.whole.now ≡ None) }
     ensures err { IfErr result
-        (Because (report_line_fault (entry_form kernels) line.now.whole.now)) }
+        (Because (report_line_fault (entry_form version kernels) line.now.whole.now)) }
     ensures read { IfOk result (λ e. line.now.whole.now ≡ line_lem (entry_words e)) }
-    ensures fits { IfOk result (EntryFits kernels) }
+    ensures fits { IfOk result (EntryFits version kernels) }
 {
     is_text(line)?;
-    let entry = read_entry(line.content, kernels)?;
+    let entry = read_entry(line.content, version, kernels)?;
     printed.clear();
     push_entry(printed, &entry)?;
     is_canonical(line, printed)?;
     Ok(entry)
 }
 
-// Sees that the words are those of the first line.
+// The version that the words of the first line tell.
 #[tactic(auto, using(sem_journal::proofs::EntryParts::nothing_more))]
-fn header_words(words: &[u8]) -> Result<(), Cause>
+fn header_words(words: &[u8]) -> Result<u8, Cause>
     ensures fault { form_fault (report_form (words_of words.now)) (words_of words.now)
         ≡ result_err result }
-    ensures printed { OnOk result
-        (words_of words.now ≡ codes "semper" ∷ codes "report" ∷ codes "1" ∷ []) }
+    ensures printed { IfOk result
+        (λ v. words_of words.now ≡ codes "semper" ∷ codes "report" ∷ decimal v ∷ []) }
+    ensures versions { IfOk result (λ v. (v ≡ 1) ⊎ (v ≡ 2)) }
 {
     let mut words = Words::of(words);
     words.fixed(b"semper")?;
     words.fixed(b"report")?;
-    words.fixed(b"1")?;
-    words.no_more()
+    let version = words.version()?;
+    words.no_more()?;
+    Ok(version)
 }
 
-/// Reads the first line. What was printed before means nothing.
-pub fn header_line(line: &Line, printed: &mut Vec<u8>) -> Result<(), LineError>
+/// Reads the first line, which tells the version. What was printed before means nothing.
+pub fn header_line(line: &Line, printed: &mut Vec<u8>) -> Result<u8, LineError>
     requires { line.now.content.now ≡ content_lem line.now.whole.now }
     ensures ok { OnOk result (report_line_fault report_form line.now.whole.now ≡ None) }
     ensures err { IfErr result (Because (report_line_fault report_form line.now.whole.now)) }
-    ensures read { OnOk result
-        (line.now.whole.now ≡ line_lem (codes "semper" ∷ codes "report" ∷ codes "1" ∷ [])) }
+    ensures read { IfOk result (λ v. line.now.whole.now
+        ≡ line_lem (codes "semper" ∷ codes "report" ∷ decimal v ∷ [])) }
+    ensures version { IfOk result (λ v. version_in (words_in line.now.whole.now) ≡ v) }
+    ensures versions { IfOk result (λ v. (v ≡ 1) ⊎ (v ≡ 2)) }
 {
     is_text(line)?;
-    header_words(line.content)?;
+    let version = header_words(line.content)?;
     printed.clear();
-    push_line(printed, b"semper report 1", &[])?;
+    push_line(printed, b"semper report", &[u64::from(version)])?;
     is_canonical(line, printed)?;
-    Ok(())
+    Ok(version)
 }

@@ -1,21 +1,22 @@
 // Reports, read line by line.
-ghost use Rattle.std.specs.Prelude.{◌≡◌, ◌+◌, ◌≤◌, [], ◌∷◌, ◌++◌, length, take, drop, map, replicate, All, codes, decimal, None, IfOk, IfErr, OnOk};
+ghost use Rattle.std.specs.Prelude.{◌≡◌, ◌+◌, ◌≤◌, ◌⊎◌, [], ◌∷◌, ◌++◌, length, take, drop, map, replicate, All, codes, decimal, None, IfOk, IfErr, OnOk};
 ghost use Rattle.sem_text.specs.Lines.{line as line_lem, text};
 ghost use Rattle.sem_trace.specs.declared.fault.TraceError.TheVariants.{Refused as RefusedText};
 ghost use Rattle.sem_trace.specs.Standing.{IsWhy};
-ghost use Rattle.sem_trace.specs.TraceText.{canonical, TraceFits};
+ghost use Rattle.sem_trace.specs.TraceText.{canonical};
 ghost use Rattle.sem_msg.specs.Audits.{held_pairs};
 ghost use Rattle.sem_journal.specs.EntryForms.{entry_form};
 ghost use Rattle.sem_journal.specs.EntryRanges.{EntryFits};
 ghost use Rattle.sem_journal.specs.EntryText.{entry_words};
 ghost use Rattle.sem_journal.specs.ReportText.{held_line as held_words_lem, journal_lines, audit_lines, report_text};
 ghost use Rattle.sem_report.specs.WholeLines.{whole_lines, content as content_lem};
-ghost use Rattle.sem_report.specs.ReportRefusal.{report_form, name_form, count_form, held_form, audit_forms, count_at, fault_of, forms_fault, forms_behind, trace_section, trace_refusal, setup_in, report_refusal};
+ghost use Rattle.sem_report.specs.ReportRefusal.{report_form, report_version, name_form, count_form, held_form, audit_forms, count_at, fault_of, forms_fault, forms_behind, trace_section, trace_refusal, setup_in, report_refusal};
 ghost use Rattle.sem_report.specs.ReadsReport.{Follows, Stops, NextLine, OneEntry, IsMissing, IsRefused, IsBelow, later, at_line as at_line_lem};
 ghost use Rattle.sem_report.specs.ReportRanges.{HeldFits, ReportFits};
 
 use crate::lines::{Line, first_difference, next_whole_line, split_section};
 use crate::report_lines::{LineError, count_line, entry_line, header_line, held_line, name_line};
+use crate::trace_head::head_fault;
 use sem_msg::{Audit, Entry, Held, HeldList, Journal, Setup};
 use sem_reader::read_section;
 use sem_trace::{Cause, TraceError, TraceFault, bytes_fault, push_trace};
@@ -81,23 +82,25 @@ impl<'a> Lines<'a> {
         }
     }
 
-    // Reads the first line.
-    fn header(&mut self) -> Result<(), TraceError>
+    // Reads the first line, which tells the version.
+    fn header(&mut self) -> Result<u8, TraceError>
         requires start { self.old.number ≡ 0 }
         requires room { length self.old.rest.now ≤ 999999999 }
         ensures ok { OnOk result
             (forms_fault 1 (report_form ∷ []) (take 1 (whole_lines self.old.rest.now)) ≡ None) }
         ensures err { IfErr result
             (IsWhy (forms_fault 1 (report_form ∷ []) (take 1 (whole_lines self.old.rest.now)))) }
-        ensures read { OnOk result (self.old.rest.now
-            ≡ line_lem (codes "semper" ∷ codes "report" ∷ codes "1" ∷ []) ++ self.new.rest.now) }
+        ensures read { IfOk result (λ v. self.old.rest.now
+            ≡ line_lem (codes "semper" ∷ codes "report" ∷ decimal v ∷ []) ++ self.new.rest.now) }
+        ensures version { IfOk result (λ v. report_version (whole_lines self.old.rest.now) ≡ v) }
+        ensures versions { IfOk result (λ v. (v ≡ 1) ⊎ (v ≡ 2)) }
         ensures behind { OnOk result
             (whole_lines self.new.rest.now ≡ drop 1 (whole_lines self.old.rest.now)) }
         ensures number { OnOk result (self.new.number ≡ 1) }
     {
         let line = self.next()?;
         match header_line(&line, &mut self.printed) {
-            Ok(()) => Ok(()),
+            Ok(version) => Ok(version),
             Err(e) => Err(at_line(self.number, e)),
         }
     }
@@ -147,58 +150,63 @@ impl<'a> Lines<'a> {
     }
 
     // Reads the line of a key that is held.
-    fn held(&mut self) -> Result<Held, TraceError>
+    fn held(&mut self, version: u8) -> Result<Held, TraceError>
         requires room { self.old.number + length self.old.rest.now ≤ 1000000000 }
-        ensures ok { OnOk result (Follows (held_form ∷ []) (self.old.number + 1)
+        ensures ok { OnOk result (Follows (held_form version ∷ []) (self.old.number + 1)
             (whole_lines self.old.rest.now) (self.new.number + 1)
             (whole_lines self.new.rest.now)) }
         ensures err { IfErr result
-            (Stops (held_form ∷ []) (self.old.number + 1) (whole_lines self.old.rest.now)) }
+            (Stops (held_form version ∷ []) (self.old.number + 1) (whole_lines self.old.rest.now)) }
         ensures read { IfOk result (λ held. self.old.rest.now
             ≡ line_lem (held_words_lem (held.key, held.sel)) ++ self.new.rest.now) }
-        ensures fits { IfOk result (λ held. HeldFits (held.key, held.sel)) }
+        ensures fits { IfOk result (λ held. HeldFits version (held.key, held.sel)) }
         ensures room { self.new.number + length self.new.rest.now ≤ 1000000000 }
     {
         let line = self.next()?;
-        match held_line(&line, &mut self.printed) {
+        match held_line(&line, version, &mut self.printed) {
             Ok(held) => Ok(held),
             Err(e) => Err(at_line(self.number, e)),
         }
     }
 
     // Reads the line of an entry.
-    fn entry(&mut self, kernels: u32) -> Result<Entry, TraceError>
+    fn entry(&mut self, version: u8, kernels: u32) -> Result<Entry, TraceError>
         requires room { self.old.number + length self.old.rest.now ≤ 1000000000 }
         requires kernels { 1 ≤ kernels }
-        ensures ok { OnOk result (Follows (entry_form kernels ∷ []) (self.old.number + 1)
+        ensures ok { OnOk result (Follows (entry_form version kernels ∷ []) (self.old.number + 1)
             (whole_lines self.old.rest.now) (self.new.number + 1)
             (whole_lines self.new.rest.now)) }
-        ensures err { IfErr result (Stops (entry_form kernels ∷ []) (self.old.number + 1)
+        ensures err { IfErr result (Stops (entry_form version kernels ∷ []) (self.old.number + 1)
             (whole_lines self.old.rest.now)) }
         ensures read { IfOk result
             (λ e. self.old.rest.now ≡ line_lem (entry_words e) ++ self.new.rest.now) }
         ensures behind { OnOk result
             (whole_lines self.new.rest.now ≡ drop 1 (whole_lines self.old.rest.now)) }
         ensures room { self.new.number + length self.new.rest.now ≤ 1000000000 }
-        ensures fits { IfOk result (EntryFits kernels) }
+        ensures fits { IfOk result (EntryFits version kernels) }
     {
         let line = self.next()?;
-        match entry_line(&line, kernels, &mut self.printed) {
+        match entry_line(&line, version, kernels, &mut self.printed) {
             Ok(entry) => Ok(entry),
             Err(e) => Err(at_line(self.number, e)),
         }
     }
 
     // Reads the line of an entry, and appends the entry.
-    fn append_entry(&mut self, kernels: u32, journal: &mut Journal) -> Result<(), TraceError>
+    fn append_entry(
+        &mut self,
+        version: u8,
+        kernels: u32,
+        journal: &mut Journal,
+    ) -> Result<(), TraceError>
         requires room { self.old.number + length self.old.rest.now ≤ 1000000000 }
         requires kernels { 1 ≤ kernels }
-        ensures ok { OnOk result (Follows (entry_form kernels ∷ []) (self.old.number + 1)
+        ensures ok { OnOk result (Follows (entry_form version kernels ∷ []) (self.old.number + 1)
             (whole_lines self.old.rest.now) (self.new.number + 1)
             (whole_lines self.new.rest.now)) }
-        ensures err { IfErr result (Stops (entry_form kernels ∷ []) (self.old.number + 1)
+        ensures err { IfErr result (Stops (entry_form version kernels ∷ []) (self.old.number + 1)
             (whole_lines self.old.rest.now)) }
-        ensures read { OnOk result (OneEntry kernels self.old.rest.now self.new.rest.now
+        ensures read { OnOk result (OneEntry version kernels self.old.rest.now self.new.rest.now
             journal.old.entries journal.new.entries) }
         ensures behind { OnOk result
             (whole_lines self.new.rest.now ≡ drop 1 (whole_lines self.old.rest.now)) }
@@ -207,7 +215,7 @@ impl<'a> Lines<'a> {
         if journal.room(1).is_err() {
             return Err(TraceError::Memory);
         }
-        match self.entry(kernels) {
+        match self.entry(version, kernels) {
             Ok(entry) => {
                 journal.push(entry);
                 Ok(())
@@ -217,46 +225,52 @@ impl<'a> Lines<'a> {
     }
 
     // Reads the lines of so many entries.
-    fn entries(&mut self, alloc: Global, number: u64, kernels: u32) -> Result<Journal, TraceError>
+    fn entries(
+        &mut self,
+        alloc: Global,
+        number: u64,
+        version: u8,
+        kernels: u32,
+    ) -> Result<Journal, TraceError>
         requires room { self.old.number + length self.old.rest.now ≤ 1000000000 }
         requires kernels { 1 ≤ kernels }
-        ensures ok { OnOk result (Follows (replicate number (entry_form kernels))
+        ensures ok { OnOk result (Follows (replicate number (entry_form version kernels))
             (self.old.number + 1) (whole_lines self.old.rest.now) (self.new.number + 1)
             (whole_lines self.new.rest.now)) }
-        ensures err { IfErr result (Stops (replicate number (entry_form kernels))
+        ensures err { IfErr result (Stops (replicate number (entry_form version kernels))
             (self.old.number + 1) (whole_lines self.old.rest.now)) }
         ensures read { IfOk result
             (λ j. self.old.rest.now ≡ text (map entry_words j.entries) ++ self.new.rest.now) }
         ensures count { IfOk result (λ j. length j.entries ≡ number) }
-        ensures fits { IfOk result (λ j. All (EntryFits kernels) j.entries) }
+        ensures fits { IfOk result (λ j. All (EntryFits version kernels) j.entries) }
         ensures behind { OnOk result
             (whole_lines self.new.rest.now ≡ drop number (whole_lines self.old.rest.now)) }
         ensures room { self.new.number + length self.new.rest.now ≤ 1000000000 }
     {
         let mut journal = Journal::new(alloc);
         for _ in 0..number {
-            self.append_entry(kernels, &mut journal)?;
+            self.append_entry(version, kernels, &mut journal)?;
         }
         Ok(journal)
     }
 
     // Reads the lines of so many keys that are held.
-    fn held_keys(&mut self, alloc: Global, number: u64) -> Result<HeldList, TraceError>
+    fn held_keys(&mut self, alloc: Global, number: u64, version: u8) -> Result<HeldList, TraceError>
         requires { self.old.number + length self.old.rest.now ≤ 1000000000 }
-        ensures ok { OnOk result (Follows (replicate number held_form) (self.old.number + 1)
-            (whole_lines self.old.rest.now) (self.new.number + 1)
+        ensures ok { OnOk result (Follows (replicate number (held_form version))
+            (self.old.number + 1) (whole_lines self.old.rest.now) (self.new.number + 1)
             (whole_lines self.new.rest.now)) }
-        ensures err { IfErr result (Stops (replicate number held_form) (self.old.number + 1)
-            (whole_lines self.old.rest.now)) }
+        ensures err { IfErr result (Stops (replicate number (held_form version))
+            (self.old.number + 1) (whole_lines self.old.rest.now)) }
         ensures read { IfOk result (λ held. self.old.rest.now
             ≡ text (map held_words_lem (held_pairs held)) ++ self.new.rest.now) }
         ensures count { IfOk result (λ held. length held ≡ number) }
-        ensures fits { IfOk result (λ held. All HeldFits (held_pairs held)) }
+        ensures fits { IfOk result (λ held. All (HeldFits version) (held_pairs held)) }
         ensures room { self.new.number + length self.new.rest.now ≤ 1000000000 }
     {
         let mut keys = HeldList::new(alloc);
         for _ in 0..number {
-            let held = self.held()?;
+            let held = self.held(version)?;
             match keys.push(held) {
                 Ok(()) => {}
                 Err(_) => return Err(TraceError::Memory),
@@ -266,28 +280,28 @@ impl<'a> Lines<'a> {
     }
 
     // Reads the lines of the audit, with the last line.
-    fn audit(&mut self, alloc: Global) -> Result<Audit, TraceError>
+    fn audit(&mut self, alloc: Global, version: u8) -> Result<Audit, TraceError>
         requires { self.old.number + length self.old.rest.now ≤ 1000000000 }
         ensures ok { OnOk result
-            (Follows (audit_forms (count_at (whole_lines self.old.rest.now) 3))
+            (Follows (audit_forms version (count_at (whole_lines self.old.rest.now) 3))
             (self.old.number + 1) (whole_lines self.old.rest.now) (self.new.number + 1)
             (whole_lines self.new.rest.now)) }
         ensures err { IfErr result
-            (Stops (audit_forms (count_at (whole_lines self.old.rest.now) 3)) (self.old.number + 1)
-            (whole_lines self.old.rest.now)) }
+            (Stops (audit_forms version (count_at (whole_lines self.old.rest.now) 3))
+            (self.old.number + 1) (whole_lines self.old.rest.now)) }
         ensures read { IfOk result (λ a. self.old.rest.now
             ≡ text (audit_lines a.made a.cut (held_pairs a.held)) ++ self.new.rest.now) }
         ensures made { IfOk result (λ a. a.made ≤ 4294967295) }
         ensures cut { IfOk result (λ a. a.cut ≤ 4294967295) }
         ensures held { IfOk result (λ a. length a.held ≤ 4294967295) }
-        ensures keys { IfOk result (λ a. All HeldFits (held_pairs a.held)) }
+        ensures keys { IfOk result (λ a. All (HeldFits version) (held_pairs a.held)) }
         ensures room { self.new.number + length self.new.rest.now ≤ 1000000000 }
     {
         self.name(b"audit")?;
         let made = self.count(b"made")?;
         let cut = self.count(b"cut")?;
         let number = self.count(b"held")?;
-        let held = self.held_keys(alloc, number)?;
+        let held = self.held_keys(alloc, number, version)?;
         self.name(b"end")?;
         Ok(Audit { made, cut, held })
     }
@@ -310,17 +324,18 @@ impl<'a> Lines<'a> {
         }
     }
 
-    // Reads the lines of the trace, which follow the first line.
-    fn trace(&mut self, alloc: Global) -> Result<Setup, TraceError>
+    // Reads the lines of the trace, which follow the first line and have its version.
+    fn trace(&mut self, alloc: Global, version: u8) -> Result<Setup, TraceError>
+        requires version { (version ≡ 1) ⊎ (version ≡ 2) }
         requires start { self.old.number ≡ 1 }
         requires room { length self.old.rest.now ≤ 500000000 }
         ensures ok { OnOk result
-            (trace_refusal (trace_section (whole_lines self.old.rest.now)) ≡ None) }
+            (trace_refusal version (trace_section (whole_lines self.old.rest.now)) ≡ None) }
         ensures err { IfErr result
-            (IsWhy (trace_refusal (trace_section (whole_lines self.old.rest.now)))) }
+            (IsWhy (trace_refusal version (trace_section (whole_lines self.old.rest.now)))) }
         ensures declared { IfOk result
             (λ T. T ≡ setup_in (trace_section (whole_lines self.old.rest.now))) }
-        ensures fits { IfOk result TraceFits }
+        ensures version { IfOk result (λ T. T.version ≡ version) }
         ensures read { IfOk result (λ T. self.old.rest.now ≡ canonical T ++ self.new.rest.now) }
         ensures behind { OnOk result (whole_lines self.new.rest.now
             ≡ drop (length (trace_section (whole_lines self.old.rest.now)))
@@ -330,6 +345,9 @@ impl<'a> Lines<'a> {
         ensures room { OnOk result (self.new.number + length self.new.rest.now ≤ 1000000000) }
     {
         let (section, behind, number) = split_section(self.rest);
+        if let Some(fault) = head_fault(section, version, 2) {
+            return Err(TraceError::Refused(fault));
+        }
         let setup = match read_section(alloc, section) {
             Ok(setup) => setup,
             Err(e) => return Err(line_later(e)),
@@ -348,27 +366,34 @@ impl<'a> Lines<'a> {
     }
 
     // Reads the lines behind the trace but for what is behind the last one.
-    fn behind(&mut self, alloc: Global, kernels: u32) -> Result<(Journal, Audit), TraceError>
+    fn behind(
+        &mut self,
+        alloc: Global,
+        version: u8,
+        kernels: u32,
+    ) -> Result<(Journal, Audit), TraceError>
         requires room { self.old.number + length self.old.rest.now ≤ 1000000000 }
         requires kernels { 1 ≤ kernels }
-        ensures ok { OnOk result (Follows (forms_behind kernels (whole_lines self.old.rest.now))
+        ensures ok { OnOk result
+            (Follows (forms_behind version kernels (whole_lines self.old.rest.now))
             (self.old.number + 1) (whole_lines self.old.rest.now) (self.new.number + 1)
             (whole_lines self.new.rest.now)) }
-        ensures err { IfErr result (Stops (forms_behind kernels (whole_lines self.old.rest.now))
+        ensures err { IfErr result
+            (Stops (forms_behind version kernels (whole_lines self.old.rest.now))
             (self.old.number + 1) (whole_lines self.old.rest.now)) }
         ensures read { IfOk result (λ p. self.old.rest.now ≡ text (journal_lines p.0.entries)
             ++ text (audit_lines p.1.made p.1.cut (held_pairs p.1.held)) ++ self.new.rest.now) }
-        ensures fits { IfOk result (λ p. All (EntryFits kernels) p.0.entries) }
+        ensures fits { IfOk result (λ p. All (EntryFits version kernels) p.0.entries) }
         ensures entries { IfOk result (λ p. length p.0.entries ≤ 4294967295) }
         ensures made { IfOk result (λ p. p.1.made ≤ 4294967295) }
         ensures cut { IfOk result (λ p. p.1.cut ≤ 4294967295) }
         ensures held { IfOk result (λ p. length p.1.held ≤ 4294967295) }
-        ensures keys { IfOk result (λ p. All HeldFits (held_pairs p.1.held)) }
+        ensures keys { IfOk result (λ p. All (HeldFits version) (held_pairs p.1.held)) }
         ensures room { self.new.number + length self.new.rest.now ≤ 1000000000 }
     {
         let number = self.count(b"journal")?;
-        let journal = self.entries(alloc, number, kernels)?;
-        let audit = self.audit(alloc)?;
+        let journal = self.entries(alloc, number, version, kernels)?;
+        let audit = self.audit(alloc, version)?;
         Ok((journal, audit))
     }
 }
@@ -396,9 +421,9 @@ pub fn read_report(alloc: Global, bytes: &[u8]) -> Result<(Setup, Journal, Audit
         number: 0,
         printed: Vec::new(alloc),
     };
-    lines.header()?;
-    let setup = lines.trace(alloc)?;
-    let (journal, audit) = lines.behind(alloc, setup.kernels)?;
+    let version = lines.header()?;
+    let setup = lines.trace(alloc, version)?;
+    let (journal, audit) = lines.behind(alloc, version, setup.kernels)?;
     lines.finish()?;
     Ok((setup, journal, audit))
 }

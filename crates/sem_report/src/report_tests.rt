@@ -54,6 +54,37 @@ key 1.1.1.0 5
 end
 ";
 
+// The same in version 2, where both VPEs and both kernels have the numbers farthest apart.
+const FAR_PAIR: &[u8] = b"semper report 2
+semper trace 2
+kernels 32
+window 32
+pe 0 0
+pe 127 31
+vpe 0 0
+vpe 127 127
+root 0 0 mem 0 4096 7
+call 127 obtain 5 0 0
+end
+journal 9
+31 call 127 0 obtain 5 0 0
+31 flush 0 obtain-req 127.127.0 sel 0 0
+0 fetch 31 obtain-req 127.127.0 sel 0 0
+0 handle 31 obtain-req 127.127.0 sel 0 0
+0 upcall 0 127 yes grant 0.0.1.0 127.127.1.0
+0 flush 31 obtain-ok 0.0.1.0 127.127.1.0 mem 0 4096 7
+31 fetch 0 obtain-ok 0.0.1.0 127.127.1.0 mem 0 4096 7
+31 handle 0 obtain-ok 0.0.1.0 127.127.1.0 mem 0 4096 7
+31 resume 127 reply 127 0
+audit
+made 2
+cut 0
+held 2
+key 0.0.1.0 0
+key 127.127.1.0 5
+end
+";
+
 // The refused line of the text, if it is refused.
 fn refused_line(alloc: Global, text: &[u8]) -> Option<(u64, Cause)> {
     match read_report(alloc, text) {
@@ -78,7 +109,7 @@ fn replaced(alloc: Global, text: &[u8], part: &[u8], by: &[u8]) -> Result<Vec<u8
 
 #[test]
 fn a_report_is_read_as_it_is_printed(rt: HostRuntime) -> Result<(), Fail> {
-    for (text, entries, held) in [(REPORT, 3, 0), (PAIR, 9, 2)] {
+    for (text, entries, held) in [(REPORT, 3, 0), (PAIR, 9, 2), (FAR_PAIR, 9, 2)] {
         let Ok((setup, journal, audit)) = read_report(rt.alloc(), text) else {
             assert!(rt; false, "the report is read");
             return Ok(());
@@ -137,7 +168,9 @@ fn a_report_that_is_cut_is_refused_where_it_ends(rt: HostRuntime) -> Result<(), 
 fn a_report_is_refused_at_its_first_bad_line(rt: HostRuntime) -> Result<(), Fail> {
     for (part, by, line, cause) in [
         // The first line.
-        ("report 1", "report 2", 1, Cause::UnknownWord),
+        ("report 1", "report 3", 1, Cause::UnknownWord),
+        ("report 1", "report 2 1", 1, Cause::TooMany),
+        ("report 1", "report  2", 1, Cause::NotCanonical),
         (
             "semper report 1",
             " semper report 1",
@@ -184,6 +217,83 @@ fn a_report_is_refused_at_its_first_bad_line(rt: HostRuntime) -> Result<(), Fail
         let text = replaced(rt.alloc(), REPORT, part.as_bytes(), by.as_bytes())?;
         assert_eq!(rt;
             refused_line(rt.alloc(), &text),
+            Some((line, cause)),
+            "{by:?} for {part:?}"
+        );
+    }
+    Ok(())
+}
+
+#[test]
+fn the_trace_in_a_report_has_the_version_of_the_report(rt: HostRuntime) -> Result<(), Fail> {
+    for (text, part, by, line, cause) in [
+        (REPORT, "report 1", "report 2", 2, Cause::UnknownWord),
+        (REPORT, "trace 1", "trace 2", 2, Cause::UnknownWord),
+        (FAR_PAIR, "report 2", "report 1", 2, Cause::UnknownWord),
+        (FAR_PAIR, "trace 2", "trace 1", 2, Cause::UnknownWord),
+        // The first bad place of the line is told.
+        (REPORT, "trace 1", "trace 2 1", 2, Cause::UnknownWord),
+        (REPORT, "trace 1", "trace 1 2", 2, Cause::TooMany),
+        (REPORT, "trace 1", "trace", 2, Cause::Missing),
+        (REPORT, "semper trace 1", "\x7f", 2, Cause::NotText),
+        // What is wrong behind it is not told.
+        (
+            REPORT,
+            "trace 1\nkernels 1",
+            "trace 2\nkernels 99",
+            2,
+            Cause::UnknownWord,
+        ),
+        // A line that says nothing is passed over, and then it is told itself.
+        (
+            REPORT,
+            "semper trace 1",
+            "# more\nsemper trace 2",
+            3,
+            Cause::UnknownWord,
+        ),
+        (
+            REPORT,
+            "semper trace 1",
+            "# more\nsemper trace 1",
+            2,
+            Cause::NotCanonical,
+        ),
+        // Version 2 says how many messages a link holds.
+        (
+            REPORT,
+            "report 1\nsemper trace 1",
+            "report 2\nsemper trace 2",
+            4,
+            Cause::UnknownWord,
+        ),
+        // The numbers behind the trace go as far as the version allows.
+        (REPORT, "0.0.1.1", "0.64.1.1", 11, Cause::OutOfRange),
+        (
+            FAR_PAIR,
+            "31 resume 127",
+            "31 resume 128",
+            21,
+            Cause::OutOfRange,
+        ),
+        (
+            FAR_PAIR,
+            "31 resume 127",
+            "32 resume 127",
+            21,
+            Cause::OutOfRange,
+        ),
+        (
+            FAR_PAIR,
+            "key 0.0.1.0",
+            "key 0.128.1.0",
+            26,
+            Cause::OutOfRange,
+        ),
+    ] {
+        let changed = replaced(rt.alloc(), text, part.as_bytes(), by.as_bytes())?;
+        assert_eq!(rt;
+            refused_line(rt.alloc(), &changed),
             Some((line, cause)),
             "{by:?} for {part:?}"
         );

@@ -5,3 +5,4 @@ pub mod Replies
 pub mod Running
 pub mod Unanswered
 pub mod SafeRuns
+pub mod Ending

@@ -5,3 +5,4 @@ pub mod PlaceSteps
 pub mod WordReads
 pub mod CallLine
 pub mod PrintedNumbers
+pub mod Nodes

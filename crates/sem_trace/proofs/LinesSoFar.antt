@@ -7,7 +7,7 @@ use Rattle.std.specs.Prelude.{map, codes, decimal}
 use Rattle.sem_msg.specs.declared.setup.VpeDecl.{VpeDecl}
 use Rattle.sem_msg.specs.Setup.{Setup}
 use Rattle.sem_trace.specs.Words.{call_words}
-use Rattle.sem_trace.specs.TraceText.{pe_line, vpe_line, root_line, offer_line, deny_line, kill_line, trace_lines}
+use Rattle.sem_trace.specs.TraceText.{pe_line, vpe_line, root_line, offer_line, deny_line, kill_line, window_lines, trace_lines}
 use Rattle.sem_text.specs.Lines.{line, text}
 
 -- `now` ends with the lines of the elements before place i; with those of the element there, they are the lines of one more
@@ -27,22 +27,22 @@ text-enumerate-more f xs i d before now after within so_far more =
     let index : 0 + i ≡ i = omega arith in
     rw (add-one, enumerate-suc xs 0 i d within, index, flat_map-append, flat_map-append) (grind (arith, common_steps, append_assoc))
 
--- a text of a first line, a second with two parts, four parts more and one more, and a last line
-text-parts : (first second last : List (List ℕ)) (pes vpes roots offers denies kills calls : List (List (List ℕ))) (before a b c d after : List ℕ) → a ≡ before ++ line first → b ≡ a ++ text (second ∷ pes ++ vpes) → c ≡ b ++ text (roots ++ offers ++ denies ++ kills) → d ≡ c ++ text calls → after ≡ d ++ line last → after ≡ before ++ text (first ∷ second ∷ pes ++ vpes ++ roots ++ offers ++ denies ++ kills ++ calls ++ last ∷ [])
-text-parts first second last pes vpes roots offers denies kills calls before a b c d after opened members terms made closed =
+-- a text of a first line, a second with three parts, four parts more and one more, and a last line
+text-parts : (first second last : List (List ℕ)) (windows pes vpes roots offers denies kills calls : List (List (List ℕ))) (before a b c d after : List ℕ) → a ≡ before ++ line first → b ≡ a ++ text (second ∷ windows ++ pes ++ vpes) → c ≡ b ++ text (roots ++ offers ++ denies ++ kills) → d ≡ c ++ text calls → after ≡ d ++ line last → after ≡ before ++ text (first ∷ second ∷ windows ++ pes ++ vpes ++ roots ++ offers ++ denies ++ kills ++ calls ++ last ∷ [])
+text-parts first second last windows pes vpes roots offers denies kills calls before a b c d after opened members terms made closed =
     rw (closed, made, terms, members, opened) (simp (flat_map-append, append_assoc, append-nil))
 
 -- the canonical text of a setup, in five pieces
 pub text-trace : (T : Setup) (before a b c d after : List ℕ) →
-    a ≡ before ++ line (codes "semper" ∷ codes "trace" ∷ codes "1" ∷ []) →
-    b ≡ a ++ text ((codes "kernels" ∷ decimal T.kernels ∷ []) ∷ flat_map pe_line (enumerate_from 0 T.owners.owners) ++ map vpe_line T.vpes) →
+    a ≡ before ++ line (codes "semper trace" ∷ decimal T.version ∷ []) →
+    b ≡ a ++ text ((codes "kernels" ∷ decimal T.kernels ∷ []) ∷ window_lines T ++ flat_map pe_line (enumerate_from 0 T.owners.owners) ++ map vpe_line T.vpes) →
     c ≡ b ++ text (flat_map (λ d. map (root_line d.vpe) d.roots) T.vpes ++ map offer_line T.offers ++ map deny_line T.denies ++ map kill_line T.kills) →
     d ≡ c ++ text (flat_map (λ d. map (λ c. codes "call" ∷ decimal d.vpe ∷ call_words c) d.calls) T.vpes) →
     after ≡ d ++ line (codes "end" ∷ []) →
     after ≡ before ++ text (trace_lines T)
 text-trace T before a b c d after opened members terms made closed =
-    text-parts (codes "semper" ∷ codes "trace" ∷ codes "1" ∷ []) (codes "kernels" ∷ decimal T.kernels ∷ []) (codes "end" ∷ [])
-    (flat_map pe_line (enumerate_from 0 T.owners.owners)) (map vpe_line T.vpes)
+    text-parts (codes "semper" ∷ codes "trace" ∷ decimal T.version ∷ []) (codes "kernels" ∷ decimal T.kernels ∷ []) (codes "end" ∷ [])
+    (window_lines T) (flat_map pe_line (enumerate_from 0 T.owners.owners)) (map vpe_line T.vpes)
     (flat_map (λ (d : VpeDecl). map (root_line d.vpe) d.roots) T.vpes) (map offer_line T.offers) (map deny_line T.denies) (map kill_line T.kills)
     (flat_map (λ (d : VpeDecl). map (λ c. codes "call" ∷ decimal d.vpe ∷ call_words c) d.calls) T.vpes)
     before a b c d after opened members terms made closed

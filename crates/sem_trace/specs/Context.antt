@@ -3,8 +3,8 @@ use Rattle.std.specs.Prelude.{◌+◌, nat_lt, nat_le, Bool, true, false, not, �
 use Rattle.sem_trace.specs.declared.fault.Cause.{Cause}
 use Rattle.sem_trace.specs.declared.fault.Cause.TheVariants.{OutOfRange, Undeclared, Twice, TooMany}
 use Rattle.sem_trace.specs.declared.declaration.Declaration.{Declaration}
-use Rattle.sem_trace.specs.declared.declaration.Declaration.TheVariants.{Kernels, Pe, Vpe, Memory, Receive, Service, Offer, Deny, Kill, Call, End}
-use Rattle.sem_trace.specs.Earlier.{owner_in, pe_in, is_taken, roots_in, holds_at, has_service, offer_in, is_denied, kill_in, call_number}
+use Rattle.sem_trace.specs.declared.declaration.Declaration.TheVariants.{Kernels, Window, Pe, Vpe, Memory, Receive, Service, Offer, Deny, Kill, Call, End}
+use Rattle.sem_trace.specs.Earlier.{window_in, owner_in, pe_in, is_taken, roots_in, holds_at, has_service, offer_in, is_denied, kill_in, call_number}
 
 -- memory that ends past 2 ^ 32
 abbrev pub is_too_long : Declaration → Bool
@@ -14,6 +14,7 @@ is_too_long d = false
 -- whether the line speaks of a PE, a VPE or a service that no earlier line declares
 abbrev pub is_undeclared : List Declaration → Declaration → Bool
 is_undeclared earlier (Kernels kernels) = false
+is_undeclared earlier (Window window) = false
 is_undeclared earlier (Pe p kernel) = false
 is_undeclared earlier (Vpe v p) = is_none (owner_in earlier p)
 is_undeclared earlier (Memory v s base len rights) = is_none (pe_in earlier v)
@@ -25,9 +26,10 @@ is_undeclared earlier (Kill v replies) = is_none (pe_in earlier v)
 is_undeclared earlier (Call v call) = is_none (pe_in earlier v)
 is_undeclared earlier End = false
 
--- whether an earlier line says that already: the number of kernels, a PE, a VPE, a VPE on that PE, something at that selector, a service of that name, an offer under that index, a denied pair, a kill
+-- whether an earlier line says that already: the number of kernels, the window, a PE, a VPE, a VPE on that PE, something at that selector, a service of that name, an offer under that index, a denied pair, a kill
 abbrev pub is_twice : List Declaration → Declaration → Bool
 is_twice earlier (Kernels kernels) = true
+is_twice earlier (Window window) = is_some (window_in earlier)
 is_twice earlier (Pe p kernel) = is_some (owner_in earlier p)
 is_twice earlier (Vpe v p) = is_some (pe_in earlier v) || is_taken earlier p
 is_twice earlier (Memory v s base len rights) = holds_at (roots_in earlier v) s

@@ -6,7 +6,7 @@ use Rattle.sem_msg.specs.declared.call.Call.TheVariants.{Derive, Gate, Obtain, D
 use Rattle.sem_text.specs.Number.{number_value}
 use Rattle.sem_trace.specs.Forms.{word_at}
 use Rattle.sem_trace.specs.declared.declaration.Declaration.{Declaration}
-use Rattle.sem_trace.specs.declared.declaration.Declaration.TheVariants.{Kernels, Pe, Vpe, Memory, Receive, Service, Offer, Deny, Kill, Call as Calls, End}
+use Rattle.sem_trace.specs.declared.declaration.Declaration.TheVariants.{Kernels, Window, Pe, Vpe, Memory, Receive, Service, Offer, Deny, Kill, Call as Calls, End}
 
 -- whether that word stands at the place
 abbrev pub stands_at : List (List ℕ) → ℕ → List ℕ → Bool
@@ -56,4 +56,5 @@ declaration words =
     else (if is (codes "deny") then Deny (n 1) (n 2)
     else (if is (codes "kill") then Kill (n 1) (n 2)
     else (if is (codes "call") then Calls (n 1) (call_from (drop 2 words))
-    else End))))))))
+    else (if is (codes "window") then Window (n 1)
+    else End)))))))))

@@ -7,12 +7,20 @@ use Rattle.sem_msg.specs.declared.call.Call.{Call}
 use Rattle.sem_msg.specs.declared.setup.Root.{Root}
 use Rattle.sem_msg.specs.declared.setup.VpeDecl.{VpeDecl}
 use Rattle.sem_trace.specs.declared.declaration.Declaration.{Declaration}
-use Rattle.sem_trace.specs.declared.declaration.Declaration.TheVariants.{Pe, Vpe, Memory, Receive, Service, Offer, Deny, Kill, Call as Calls, End}
+use Rattle.sem_trace.specs.declared.declaration.Declaration.TheVariants.{Window, Pe, Vpe, Memory, Receive, Service, Offer, Deny, Kill, Call as Calls, End}
 
 -- the first that h gives
 abbrev pub first_some : {X Y : Type 0} → (X → Option Y) → List X → Option Y
 first_some h [] = None
 first_some h (x ∷ xs) = option_or (h x) (first_some h xs)
+
+-- how many messages a link holds
+abbrev pub said_window : Declaration → Option ℕ
+said_window (Window window) = Some window
+said_window d = None
+
+unfoldable pub window_in : List Declaration → Option ℕ
+window_in ds = first_some said_window ds
 
 -- the kernel that owns a PE
 abbrev pub said_owner : ℕ → Declaration → Option ℕ

@@ -5,8 +5,8 @@ use Rattle.std.specs.Option.{option_or}
 use Rattle.std.specs.Str.{bytes_eq}
 use Rattle.sem_key.specs.declared.limits.TheConstants.{NUMBERS}
 use Rattle.sem_msg.specs.declared.limits.TheConstants.{ENDPOINTS}
+use Rattle.sem_msg.specs.Versions.{most_kernels, most_vpes, least_window, most_window}
 use Rattle.sem_text.specs.Number.{is_number, number_value}
-use Rattle.sem_trace.specs.declared.limits.TheConstants.{NODES, MOST_KERNELS}
 use Rattle.sem_trace.specs.declared.fault.Cause.{Cause}
 use Rattle.sem_trace.specs.declared.fault.Cause.TheVariants.{UnknownWord, BadNumber, OutOfRange, Missing, TooMany}
 
@@ -74,9 +74,9 @@ choice table word = Word (map (λ row. row.0) table) ∷ behind table word
 abbrev pub up_to : ℕ → Place
 up_to most = Number 0 most
 
--- a PE, or a VPE
-abbrev pub node : Place
-node = up_to (NODES - 1)
+-- a PE, or a VPE, in a text of that version
+abbrev pub node : ℕ → Place
+node version = up_to (most_vpes version - 1)
 
 -- a selector, or the name of a service, or an index
 abbrev pub byte : Place
@@ -96,13 +96,21 @@ slots = Number 1 64
 abbrev pub word : Place
 word = up_to 4294967295
 
+-- how many kernels there are
+abbrev pub kernel_count : ℕ → Place
+kernel_count version = Number 1 (most_kernels version)
+
+-- how many messages a link holds
+abbrev pub window : ℕ → Place
+window version = Number (least_window version) (most_window version)
+
 -- a key: its PE, its VPE, its kind and its number
-abbrev pub key : Place
-key = Dotted ((0, NODES - 1) ∷ (0, NODES - 1) ∷ (1, 5) ∷ (0, NUMBERS - 1) ∷ [])
+abbrev pub key : ℕ → Place
+key version = Dotted ((0, most_vpes version - 1) ∷ (0, most_vpes version - 1) ∷ (1, 5) ∷ (0, NUMBERS - 1) ∷ [])
 
 -- a place: a PE, a VPE and a number
-abbrev pub key_place : Place
-key_place = Dotted ((0, NODES - 1) ∷ (0, NODES - 1) ∷ (0, NUMBERS - 1) ∷ [])
+abbrev pub key_place : ℕ → Place
+key_place version = Dotted ((0, most_vpes version - 1) ∷ (0, most_vpes version - 1) ∷ (0, NUMBERS - 1) ∷ [])
 
 -- the objects that a line `root` declares
 unfoldable pub objects : Table
@@ -111,12 +119,12 @@ objects =
     ∷ (codes "recv", slots ∷ [])
     ∷ []
 
-unfoldable pub calls : Table
-calls =
+unfoldable pub calls : ℕ → Table
+calls version =
     (codes "derive", byte ∷ byte ∷ word ∷ word ∷ rights ∷ [])
     ∷ (codes "gate", byte ∷ byte ∷ word ∷ slots ∷ [])
-    ∷ (codes "obtain", byte ∷ node ∷ byte ∷ [])
-    ∷ (codes "delegate", byte ∷ node ∷ byte ∷ [])
+    ∷ (codes "obtain", byte ∷ node version ∷ byte ∷ [])
+    ∷ (codes "delegate", byte ∷ node version ∷ byte ∷ [])
     ∷ (codes "open", byte ∷ byte ∷ [])
     ∷ (codes "ask", byte ∷ byte ∷ byte ∷ [])
     ∷ (codes "revoke", byte ∷ [])
@@ -129,29 +137,37 @@ calls =
     ∷ (codes "clear", byte ∷ [])
     ∷ []
 
+-- the line that version 2 has beside those of version 1
+abbrev pub window_line : ℕ → Table
+window_line version = if version == 1 then [] else (codes "window", window version ∷ []) ∷ []
+
 -- the lines behind the second, where there are so many kernels
-unfoldable pub lines : ℕ → List (List ℕ) → Table
-lines kernels words =
-    (codes "kernels", Number 1 MOST_KERNELS ∷ [])
-    ∷ (codes "pe", node ∷ up_to (kernels - 1) ∷ [])
-    ∷ (codes "vpe", node ∷ node ∷ [])
-    ∷ (codes "root", node ∷ byte ∷ choice objects (word_at words 3))
-    ∷ (codes "service", node ∷ byte ∷ byte ∷ [])
+unfoldable pub lines : (version kernels : ℕ) → List (List ℕ) → Table
+lines version kernels words =
+    (codes "kernels", kernel_count version ∷ [])
+    ∷ (codes "pe", node version ∷ up_to (kernels - 1) ∷ [])
+    ∷ (codes "vpe", node version ∷ node version ∷ [])
+    ∷ (codes "root", node version ∷ byte ∷ choice objects (word_at words 3))
+    ∷ (codes "service", node version ∷ byte ∷ byte ∷ [])
     ∷ (codes "offer", byte ∷ byte ∷ byte ∷ [])
-    ∷ (codes "deny", node ∷ node ∷ [])
-    ∷ (codes "kill", node ∷ word ∷ [])
-    ∷ (codes "call", node ∷ choice calls (word_at words 2))
+    ∷ (codes "deny", node version ∷ node version ∷ [])
+    ∷ (codes "kill", node version ∷ word ∷ [])
+    ∷ (codes "call", node version ∷ choice (calls version) (word_at words 2))
     ∷ (codes "end", [])
-    ∷ []
+    ∷ window_line version
 
 -- the first line
 unfoldable pub first_form : List Place
-first_form = Word (codes "semper" ∷ []) ∷ Word (codes "trace" ∷ []) ∷ Word (codes "1" ∷ []) ∷ []
+first_form = Word (codes "semper" ∷ []) ∷ Word (codes "trace" ∷ []) ∷ Word (codes "1" ∷ codes "2" ∷ []) ∷ []
 
 -- the second line
-unfoldable pub second_form : List Place
-second_form = Word (codes "kernels" ∷ []) ∷ Number 1 MOST_KERNELS ∷ []
+unfoldable pub second_form : ℕ → List Place
+second_form version = Word (codes "kernels" ∷ []) ∷ kernel_count version ∷ []
+
+-- the third line of version 2
+unfoldable pub third_form : ℕ → List Place
+third_form version = Word (codes "window" ∷ []) ∷ window version ∷ []
 
 -- a line behind the second
-unfoldable pub form : ℕ → List (List ℕ) → List Place
-form kernels words = choice (lines kernels words) (word_at words 0)
+unfoldable pub form : (version kernels : ℕ) → List (List ℕ) → List Place
+form version kernels words = choice (lines version kernels words) (word_at words 0)

@@ -3,33 +3,34 @@ use Rattle.std.specs.Prelude.{ℕ, ◌<◌, ◌≤◌}
 use Rattle.sem_key.specs.declared.limits.TheConstants.{NUMBERS, SLOTS, RIGHTS}
 use Rattle.sem_key.specs.KeyName.{KeyName}
 use Rattle.sem_key.specs.PlaceName.{PlaceName}
+use Rattle.sem_msg.specs.Versions.{most_vpes, IsWindow}
 use Rattle.sem_msg.specs.Calls.{IsSelector, IsWord, IsValidCall}
-use Rattle.sem_trace.specs.declared.limits.TheConstants.{NODES}
 use Rattle.sem_trace.specs.declared.declaration.Declaration.{Declaration}
-use Rattle.sem_trace.specs.declared.declaration.Declaration.TheVariants.{Kernels, Pe, Vpe, Memory, Receive, Service, Offer, Deny, Kill, Call, End}
+use Rattle.sem_trace.specs.declared.declaration.Declaration.TheVariants.{Kernels, Window, Pe, Vpe, Memory, Receive, Service, Offer, Deny, Kill, Call, End}
 
--- a PE, or a VPE, of which a text can speak
-abbrev pub IsNode : ℕ → Type 0
-IsNode n = n < NODES
+-- a PE, or a VPE, of which a text of that version can speak
+abbrev pub IsNode : ℕ → ℕ → Type 0
+IsNode version n = n < most_vpes version
 
 -- a key of such a PE and such a VPE
-abbrev pub IsKeyInText : KeyName → Type 0
-IsKeyInText k = IsNode k.pe × IsNode k.vpe × (k.number < NUMBERS)
+abbrev pub IsKeyInText : ℕ → KeyName → Type 0
+IsKeyInText version k = IsNode version k.pe × IsNode version k.vpe × (k.number < NUMBERS)
 
 -- the place of such a key
-abbrev pub IsPlaceInText : PlaceName → Type 0
-IsPlaceInText p = IsNode p.pe × IsNode p.vpe × (p.number < NUMBERS)
+abbrev pub IsPlaceInText : ℕ → PlaceName → Type 0
+IsPlaceInText version p = IsNode version p.pe × IsNode version p.vpe × (p.number < NUMBERS)
 
 -- the numbers are in the ranges of their places, where there are so many kernels
-abbrev pub IsInRange : ℕ → Declaration → Type 0
-IsInRange kernels (Kernels n) = Unit {0}
-IsInRange kernels (Pe p kernel) = IsNode p × (kernel < kernels)
-IsInRange kernels (Vpe v p) = IsNode v × IsNode p
-IsInRange kernels (Memory v s base len rights) = IsNode v × IsSelector s × IsWord base × IsWord len × (rights ≤ RIGHTS)
-IsInRange kernels (Receive v s slots) = IsNode v × IsSelector s × (1 ≤ slots) × (slots ≤ SLOTS)
-IsInRange kernels (Service v s name) = IsNode v × IsSelector s × (name ≤ 255)
-IsInRange kernels (Offer name index s) = (name ≤ 255) × (index ≤ 255) × IsSelector s
-IsInRange kernels (Deny v asker) = IsNode v × IsNode asker
-IsInRange kernels (Kill v replies) = IsNode v × IsWord replies
-IsInRange kernels (Call v call) = IsNode v × IsValidCall NODES call
-IsInRange kernels End = Unit {0}
+abbrev pub IsInRange : (version kernels : ℕ) → Declaration → Type 0
+IsInRange version kernels (Kernels n) = Unit {0}
+IsInRange version kernels (Window n) = IsWindow version n
+IsInRange version kernels (Pe p kernel) = IsNode version p × (kernel < kernels)
+IsInRange version kernels (Vpe v p) = IsNode version v × IsNode version p
+IsInRange version kernels (Memory v s base len rights) = IsNode version v × IsSelector s × IsWord base × IsWord len × (rights ≤ RIGHTS)
+IsInRange version kernels (Receive v s slots) = IsNode version v × IsSelector s × (1 ≤ slots) × (slots ≤ SLOTS)
+IsInRange version kernels (Service v s name) = IsNode version v × IsSelector s × (name ≤ 255)
+IsInRange version kernels (Offer name index s) = (name ≤ 255) × (index ≤ 255) × IsSelector s
+IsInRange version kernels (Deny v asker) = IsNode version v × IsNode version asker
+IsInRange version kernels (Kill v replies) = IsNode version v × IsWord replies
+IsInRange version kernels (Call v call) = IsNode version v × IsValidCall (most_vpes version) call
+IsInRange version kernels End = Unit {0}

@@ -1,5 +1,5 @@
 -- Which texts are refused, at which line and why ("The trace" in docs/texts.md).
-use Rattle.std.specs.Prelude.{ℕ, ◌+◌, nat_lt, List, [], ◌∷◌, length, take, drop, map, slice_index_or, Option, Some, None, option_map, if◌then◌else◌}
+use Rattle.std.specs.Prelude.{ℕ, ◌+◌, ◌==◌, nat_lt, Bool, false, not, List, [], ◌∷◌, length, take, drop, map, slice_index_or, Option, Some, None, option_map, if◌then◌else◌}
 use Rattle.std.specs.List.{range_with_len}
 use Rattle.std.specs.Option.{option_or}
 use Rattle.sem_trace.specs.declared.fault.Cause.{Cause}
@@ -7,18 +7,32 @@ use Rattle.sem_trace.specs.declared.fault.Cause.TheVariants.{Missing, TooMany, I
 use Rattle.sem_trace.specs.declared.fault.TraceFault.{TraceFault}
 use Rattle.sem_trace.specs.declared.declaration.Declaration.{Declaration}
 use Rattle.sem_trace.specs.TextLines.{lines_of, words_of, is_significant, significant, bytes_fault}
-use Rattle.sem_trace.specs.Forms.{form_fault, first_form, second_form, form}
+use Rattle.sem_trace.specs.Forms.{form_fault, first_form, second_form, third_form, form}
 use Rattle.sem_trace.specs.Declarations.{number_at, declaration}
 use Rattle.sem_trace.specs.Earlier.{first_some, is_ended}
 use Rattle.sem_trace.specs.Context.{context_fault}
 
+-- the version that the first line tells
+abbrev pub version_in : List (List ℕ) → ℕ
+version_in first = number_at first 2
+
+-- whether a line behind the second is the third of version 2, which says how many messages a link holds
+abbrev pub is_third : ℕ → List (List (List ℕ)) → Bool
+is_third version [] = not (version == 1)
+is_third version (line ∷ earlier) = false
+
+-- what is wrong with the words of a line behind the second, and behind those of the earlier lines behind it
+unfoldable pub body_fault : (version kernels : ℕ) → List (List (List ℕ)) → List (List ℕ) → Option Cause
+body_fault version kernels earlier words =
+    if is_third version earlier then form_fault (third_form version) words
+    else (if is_ended (map declaration earlier) then Some TooMany
+    else option_or (form_fault (form version kernels words) words) (context_fault (map declaration earlier) (declaration words)))
+
 -- what is wrong with the words of a line, behind the words of the earlier lines that say something
 unfoldable pub words_fault : List (List (List ℕ)) → List (List ℕ) → Option Cause
 words_fault [] words = form_fault first_form words
-words_fault (first ∷ []) words = form_fault second_form words
-words_fault (first ∷ second ∷ earlier) words =
-    if is_ended (map declaration earlier) then Some TooMany
-    else option_or (form_fault (form (number_at second 1) words) words) (context_fault (map declaration earlier) (declaration words))
+words_fault (first ∷ []) words = form_fault (second_form (version_in first)) words
+words_fault (first ∷ second ∷ earlier) words = body_fault (version_in first) (number_at second 1) earlier words
 
 -- what is wrong with a line behind such lines
 unfoldable pub line_fault : List (List (List ℕ)) → List ℕ → Option Cause
@@ -35,6 +49,10 @@ fault_at lines i = option_map (λ cause. record { line = i + 1; cause = cause })
 -- the first fault of a line
 unfoldable pub first_fault : List (List ℕ) → Option TraceFault
 first_fault lines = first_some (fault_at lines) (numbers (length lines))
+
+-- the version that the lines tell
+unfoldable pub version_of : List (List ℕ) → ℕ
+version_of lines = version_in (slice_index_or (significant lines) 0 [])
 
 -- how many kernels the lines declare
 unfoldable pub kernels_of : List (List ℕ) → ℕ

@@ -1,22 +1,23 @@
 -- The setup that lines declare, and for which setup a text stands ("The trace" in docs/texts.md).
 use Rattle.std.specs.Prelude.{◌≡◌, ℕ, ◌==◌, List, map, filter_map, flat_map, find, Option, Some, None, option_map, if◌then◌else◌}
-use Rattle.sem_key.specs.declared.limits.TheConstants.{PES}
+use Rattle.std.specs.Option.{option_map_or}
+use Rattle.sem_key.specs.declared.limits.TheConstants.{PES, VPES}
 use Rattle.sem_msg.specs.declared.setup.Service.{Service}
 use Rattle.sem_msg.specs.declared.setup.Offer.{Offer}
 use Rattle.sem_msg.specs.declared.setup.VpeDecl.{VpeDecl}
 use Rattle.sem_msg.specs.Setup.{Setup, services_from}
-use Rattle.sem_trace.specs.declared.limits.TheConstants.{NODES, LINK_WINDOW}
+use Rattle.sem_trace.specs.declared.limits.TheConstants.{LINK_WINDOW}
 use Rattle.sem_trace.specs.declared.declaration.Declaration.{Declaration}
 use Rattle.sem_trace.specs.declared.fault.TraceFault.{TraceFault}
 use Rattle.sem_trace.specs.declared.fault.TraceError.{TraceError}
 use Rattle.sem_trace.specs.declared.fault.TraceError.TheVariants.{Refused, Memory}
 use Rattle.sem_trace.specs.TextLines.{lines_of}
-use Rattle.sem_trace.specs.Earlier.{owner_in, vpe_in, offer_in, is_denied, kill_in}
-use Rattle.sem_trace.specs.Refusal.{numbers, kernels_of, declarations_of, lines_refusal, refusal}
+use Rattle.sem_trace.specs.Earlier.{window_in, owner_in, vpe_in, offer_in, is_denied, kill_in}
+use Rattle.sem_trace.specs.Refusal.{numbers, version_of, kernels_of, declarations_of, lines_refusal, refusal}
 
 -- the VPEs that are declared, by number
 unfoldable pub vpes_of : List Declaration → List VpeDecl
-vpes_of ds = filter_map (vpe_in ds) (numbers NODES)
+vpes_of ds = filter_map (vpe_in ds) (numbers VPES)
 
 -- the services among the roots, VPE by VPE
 abbrev pub services_among : List VpeDecl → List Service
@@ -50,11 +51,15 @@ denies_of ds vpes = flat_map (λ d. filter_map (λ e. deny_of ds d.vpe e.vpe) vp
 unfoldable pub kills_of : List Declaration → List VpeDecl → List (ℕ × ℕ)
 kills_of ds vpes = filter_map (λ d. option_map (λ replies. (d.vpe, replies)) (kill_in ds d.vpe)) vpes
 
--- the setup of so many kernels with what is declared
-unfoldable pub setup_of : ℕ → List Declaration → Setup
-setup_of kernels ds = record {
-  version = 1;
-  window = LINK_WINDOW;
+-- how many messages a link holds: what is declared, or else 4
+abbrev pub window_of : List Declaration → ℕ
+window_of ds = option_map_or (λ n. n) (window_in ds) LINK_WINDOW
+
+-- the setup of that version and so many kernels with what is declared
+unfoldable pub setup_of : (version kernels : ℕ) → List Declaration → Setup
+setup_of version kernels ds = record {
+  version = version;
+  window = window_of ds;
   kernels = kernels;
   owners = record { kernels = kernels; owners = map (owner_in ds) (numbers PES) };
   vpes = vpes_of ds;
@@ -67,12 +72,12 @@ setup_of kernels ds = record {
 -- the lines are not refused, and they declare the setup
 pub record Declare (lines : List (List ℕ)) (T : Setup) : Type 0 where
   pub accepted : lines_refusal lines ≡ None
-  pub declared : T ≡ setup_of (kernels_of lines) (declarations_of lines)
+  pub declared : T ≡ setup_of (version_of lines) (kernels_of lines) (declarations_of lines)
 
 -- the text is not refused, and its lines declare the setup
 pub record Stands (bytes : List ℕ) (T : Setup) : Type 0 where
   pub accepted : refusal bytes ≡ None
-  pub declared : T ≡ setup_of (kernels_of (lines_of bytes)) (declarations_of (lines_of bytes))
+  pub declared : T ≡ setup_of (version_of (lines_of bytes)) (kernels_of (lines_of bytes)) (declarations_of (lines_of bytes))
 
 -- why a text is not read: it is refused so, or memory is wanted
 abbrev pub IsWhy : Option TraceFault → TraceError → Type 0

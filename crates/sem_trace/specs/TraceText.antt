@@ -1,12 +1,12 @@
 -- The canonical text of a setup ("The trace" in docs/texts.md): its lines, each a list of words.
-use Rattle.std.specs.Prelude.{◌≡◌, ℕ, List, [], ◌∷◌, ◌++◌, map, flat_map, codes, decimal, Option, Some, None}
+use Rattle.std.specs.Prelude.{ℕ, ◌==◌, List, [], ◌∷◌, ◌++◌, map, flat_map, codes, decimal, Option, Some, None, if◌then◌else◌}
 use Rattle.std.specs.List.{enumerate_from}
 use Rattle.sem_key.specs.declared.object.Object.{Object}
 use Rattle.sem_key.specs.declared.object.Object.TheVariants.{Serv}
 use Rattle.sem_msg.specs.declared.setup.Root.{Root}
 use Rattle.sem_msg.specs.declared.setup.Offer.{Offer}
 use Rattle.sem_msg.specs.declared.setup.VpeDecl.{VpeDecl}
-use Rattle.sem_msg.specs.Setup.{Setup, IsSetup}
+use Rattle.sem_msg.specs.Setup.{Setup}
 use Rattle.sem_text.specs.Lines.{text}
 use Rattle.sem_trace.specs.Words.{object_words, call_words}
 
@@ -34,11 +34,16 @@ deny_line d = codes "deny" ∷ decimal d.0 ∷ decimal d.1 ∷ []
 abbrev pub kill_line : ℕ × ℕ → List (List ℕ)
 kill_line k = codes "kill" ∷ decimal k.0 ∷ decimal k.1 ∷ []
 
+-- version 2 tells the window
+abbrev pub window_lines : Setup → List (List (List ℕ))
+window_lines T = if T.version == 1 then [] else (codes "window" ∷ decimal T.window ∷ []) ∷ []
+
 abbrev pub trace_lines : Setup → List (List (List ℕ))
 trace_lines T =
-    (codes "semper" ∷ codes "trace" ∷ codes "1" ∷ [])
+    (codes "semper" ∷ codes "trace" ∷ decimal T.version ∷ [])
     ∷ (codes "kernels" ∷ decimal T.kernels ∷ [])
-    ∷ flat_map pe_line (enumerate_from 0 T.owners.owners)
+    ∷ window_lines T
+    ++ flat_map pe_line (enumerate_from 0 T.owners.owners)
     ++ map vpe_line T.vpes
     ++ flat_map (λ d. map (root_line d.vpe) d.roots) T.vpes
     ++ map offer_line T.offers
@@ -50,8 +55,3 @@ trace_lines T =
 -- the canonical text
 abbrev pub canonical : Setup → List ℕ
 canonical T = text (trace_lines T)
-
--- a setup that a trace can tell: it is of version 1, since a trace of version 2 is not read yet
-pub record TraceFits (T : Setup) : Type 0 where
-  pub setup : IsSetup T
-  pub version : T.version ≡ 1

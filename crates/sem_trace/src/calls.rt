@@ -1,18 +1,18 @@
 // The call of a line, from its name on.
 #![tactic(auto, unfolding(crate::specs::Forms::form_fault, crate::specs::Forms::calls, crate::specs::Declarations::call_from))]
 
-ghost use Rattle.std.specs.Prelude.{◌∷◌, codes};
+ghost use Rattle.std.specs.Prelude.{ℕ, ◌∷◌, codes};
 ghost use Rattle.sem_trace.specs.Readers.{ReadsCall};
 
 use crate::cursor::Words;
 use crate::fault::Cause;
-use crate::forms::{BYTE, ENDPOINT, NODE, RIGHTS, SLOTS, WORD, is};
+use crate::forms::{BYTE, ENDPOINT, RIGHTS, SLOTS, WORD, is, node};
 use sem_msg::Call;
 
 impl Words<'_> {
-    /// The next words, a call from its name on. Takes no memory.
-    pub fn call(&mut self) -> Result<Call, Cause>
-        ensures { ReadsCall self.old self.new result }
+    /// The next words, a call of a text of the version, from its name on. Takes no memory.
+    pub fn call(&mut self, version: u8) -> Result<Call, Cause>
+        ensures { ReadsCall version self.old self.new result }
     {
         let name = self.word()?;
         if is(name, b"derive") {
@@ -20,9 +20,9 @@ impl Words<'_> {
         } else if is(name, b"gate") {
             gate(self)
         } else if is(name, b"obtain") {
-            obtain(self)
+            obtain(self, version)
         } else if is(name, b"delegate") {
-            delegate(self)
+            delegate(self, version)
         } else if is(name, b"open") {
             open_session(self)
         } else if is(name, b"ask") {
@@ -50,7 +50,7 @@ impl Words<'_> {
 }
 
 fn derive(words: &mut Words<'_>) -> Result<Call, Cause>
-    ensures { ReadsCall (codes "derive" ∷ words.old) words.new result }
+    ensures { (version : ℕ) → ReadsCall version (codes "derive" ∷ words.old) words.new result }
 {
     let [src, dst, off, len, rights] = words.numbers(&[BYTE, BYTE, WORD, WORD, RIGHTS])?;
     let call = Call::Derive {
@@ -64,7 +64,7 @@ fn derive(words: &mut Words<'_>) -> Result<Call, Cause>
 }
 
 fn gate(words: &mut Words<'_>) -> Result<Call, Cause>
-    ensures { ReadsCall (codes "gate" ∷ words.old) words.new result }
+    ensures { (version : ℕ) → ReadsCall version (codes "gate" ∷ words.old) words.new result }
 {
     let [src, dst, label, credits, ..] = words.numbers(&[BYTE, BYTE, WORD, SLOTS])?;
     let call = Call::Gate {
@@ -76,10 +76,10 @@ fn gate(words: &mut Words<'_>) -> Result<Call, Cause>
     Ok(call)
 }
 
-fn obtain(words: &mut Words<'_>) -> Result<Call, Cause>
-    ensures { ReadsCall (codes "obtain" ∷ words.old) words.new result }
+fn obtain(words: &mut Words<'_>, version: u8) -> Result<Call, Cause>
+    ensures { ReadsCall version (codes "obtain" ∷ words.old) words.new result }
 {
-    let [dst, vpe, src, ..] = words.numbers(&[BYTE, NODE, BYTE])?;
+    let [dst, vpe, src, ..] = words.numbers(&[BYTE, node(version), BYTE])?;
     let call = Call::Obtain {
         dst: dst as u8,
         vpe: vpe as u16,
@@ -88,10 +88,10 @@ fn obtain(words: &mut Words<'_>) -> Result<Call, Cause>
     Ok(call)
 }
 
-fn delegate(words: &mut Words<'_>) -> Result<Call, Cause>
-    ensures { ReadsCall (codes "delegate" ∷ words.old) words.new result }
+fn delegate(words: &mut Words<'_>, version: u8) -> Result<Call, Cause>
+    ensures { ReadsCall version (codes "delegate" ∷ words.old) words.new result }
 {
-    let [src, vpe, dst, ..] = words.numbers(&[BYTE, NODE, BYTE])?;
+    let [src, vpe, dst, ..] = words.numbers(&[BYTE, node(version), BYTE])?;
     let call = Call::Delegate {
         src: src as u8,
         vpe: vpe as u16,
@@ -101,7 +101,7 @@ fn delegate(words: &mut Words<'_>) -> Result<Call, Cause>
 }
 
 fn open_session(words: &mut Words<'_>) -> Result<Call, Cause>
-    ensures { ReadsCall (codes "open" ∷ words.old) words.new result }
+    ensures { (version : ℕ) → ReadsCall version (codes "open" ∷ words.old) words.new result }
 {
     let [dst, name, ..] = words.numbers(&[BYTE, BYTE])?;
     let call = Call::OpenSession {
@@ -112,7 +112,7 @@ fn open_session(words: &mut Words<'_>) -> Result<Call, Cause>
 }
 
 fn ask_offer(words: &mut Words<'_>) -> Result<Call, Cause>
-    ensures { ReadsCall (codes "ask" ∷ words.old) words.new result }
+    ensures { (version : ℕ) → ReadsCall version (codes "ask" ∷ words.old) words.new result }
 {
     let [dst, session, index, ..] = words.numbers(&[BYTE, BYTE, BYTE])?;
     let call = Call::AskOffer {
@@ -124,14 +124,14 @@ fn ask_offer(words: &mut Words<'_>) -> Result<Call, Cause>
 }
 
 fn revoke(words: &mut Words<'_>) -> Result<Call, Cause>
-    ensures { ReadsCall (codes "revoke" ∷ words.old) words.new result }
+    ensures { (version : ℕ) → ReadsCall version (codes "revoke" ∷ words.old) words.new result }
 {
     let [src, ..] = words.numbers(&[BYTE])?;
     Ok(Call::Revoke { src: src as u8 })
 }
 
 fn bind(words: &mut Words<'_>) -> Result<Call, Cause>
-    ensures { ReadsCall (codes "bind" ∷ words.old) words.new result }
+    ensures { (version : ℕ) → ReadsCall version (codes "bind" ∷ words.old) words.new result }
 {
     let [ep, src, ..] = words.numbers(&[ENDPOINT, BYTE])?;
     let call = Call::Bind {
@@ -142,7 +142,7 @@ fn bind(words: &mut Words<'_>) -> Result<Call, Cause>
 }
 
 fn read(words: &mut Words<'_>) -> Result<Call, Cause>
-    ensures { ReadsCall (codes "read" ∷ words.old) words.new result }
+    ensures { (version : ℕ) → ReadsCall version (codes "read" ∷ words.old) words.new result }
 {
     let [ep, off, len, ..] = words.numbers(&[ENDPOINT, WORD, WORD])?;
     let call = Call::Read {
@@ -154,7 +154,7 @@ fn read(words: &mut Words<'_>) -> Result<Call, Cause>
 }
 
 fn write(words: &mut Words<'_>) -> Result<Call, Cause>
-    ensures { ReadsCall (codes "write" ∷ words.old) words.new result }
+    ensures { (version : ℕ) → ReadsCall version (codes "write" ∷ words.old) words.new result }
 {
     let [ep, off, len, ..] = words.numbers(&[ENDPOINT, WORD, WORD])?;
     let call = Call::Write {
@@ -166,7 +166,7 @@ fn write(words: &mut Words<'_>) -> Result<Call, Cause>
 }
 
 fn send(words: &mut Words<'_>) -> Result<Call, Cause>
-    ensures { ReadsCall (codes "send" ∷ words.old) words.new result }
+    ensures { (version : ℕ) → ReadsCall version (codes "send" ∷ words.old) words.new result }
 {
     let [ep, len, ..] = words.numbers(&[ENDPOINT, WORD])?;
     let call = Call::Send {
@@ -177,14 +177,14 @@ fn send(words: &mut Words<'_>) -> Result<Call, Cause>
 }
 
 fn credit(words: &mut Words<'_>) -> Result<Call, Cause>
-    ensures { ReadsCall (codes "credit" ∷ words.old) words.new result }
+    ensures { (version : ℕ) → ReadsCall version (codes "credit" ∷ words.old) words.new result }
 {
     let [ep, ..] = words.numbers(&[ENDPOINT])?;
     Ok(Call::Credit { ep: ep as u8 })
 }
 
 fn clear(words: &mut Words<'_>) -> Result<Call, Cause>
-    ensures { ReadsCall (codes "clear" ∷ words.old) words.new result }
+    ensures { (version : ℕ) → ReadsCall version (codes "clear" ∷ words.old) words.new result }
 {
     let [src, ..] = words.numbers(&[BYTE])?;
     Ok(Call::Clear { src: src as u8 })

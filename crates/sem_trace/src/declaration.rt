@@ -7,6 +7,10 @@ pub enum Declaration {
     Kernels {
         kernels: u32,
     },
+    /// How many messages a link holds.
+    Window {
+        window: u32,
+    },
     /// A kernel owns the PE.
     Pe {
         pe: u8,

@@ -12,7 +12,7 @@ ghost use Rattle.sem_trace.specs.Places.{Reads, IsWithin, bounds};
 
 use crate::cursor::Words;
 use crate::fault::Cause;
-use crate::forms::{NODE, Range, number_in};
+use crate::forms::{Range, node, number_in};
 use sem_key::{Key, Kind, NUMBERS, Place};
 use sem_text::{NumberFault, number};
 
@@ -111,58 +111,60 @@ fn kind(number: u64) -> Kind
     }
 }
 
-// The key that the word is.
+// The key that the word is, in a text of the version.
 #[tactic(auto, unfolding(crate::specs::Forms::are_numbers, crate::specs::Forms::are_within))]
-fn key(word: &[u8]) -> Result<Key, Cause>
-    ensures fault { place_fault key_lem word.now ≡ result_err result }
+fn key(word: &[u8], version: u8) -> Result<Key, Cause>
+    ensures fault { place_fault (key_lem version) word.now ≡ result_err result }
     ensures printed { IfOk result (λ k. word.now ≡ key_word k) }
-    ensures told { IfOk result IsKeyInText }
+    ensures told { IfOk result (IsKeyInText version) }
 {
     let (pe, rest) = first_part(word)?;
     let (vpe, rest) = first_part(rest)?;
     let (kind_number, rest) = first_part(rest)?;
     let number = last_part(rest)?;
+    let node = node(version);
     Ok(Key {
-        pe: part_in(pe, NODE)? as u8,
-        vpe: part_in(vpe, NODE)? as u16,
+        pe: part_in(pe, node)? as u8,
+        vpe: part_in(vpe, node)? as u16,
         kind: kind(part_in(kind_number, KIND)?),
         number: part_in(number, DRAWN)? as u32,
     })
 }
 
-// The place that the word is.
+// The place that the word is, in a text of the version.
 #[tactic(auto, unfolding(crate::specs::Forms::are_numbers, crate::specs::Forms::are_within))]
-fn place(word: &[u8]) -> Result<Place, Cause>
-    ensures fault { place_fault key_place word.now ≡ result_err result }
+fn place(word: &[u8], version: u8) -> Result<Place, Cause>
+    ensures fault { place_fault (key_place version) word.now ≡ result_err result }
     ensures printed { IfOk result (λ p. word.now ≡ place_word p) }
-    ensures told { IfOk result IsPlaceInText }
+    ensures told { IfOk result (IsPlaceInText version) }
 {
     let (pe, rest) = first_part(word)?;
     let (vpe, rest) = first_part(rest)?;
     let number = last_part(rest)?;
+    let node = node(version);
     Ok(Place {
-        pe: part_in(pe, NODE)? as u8,
-        vpe: part_in(vpe, NODE)? as u16,
+        pe: part_in(pe, node)? as u8,
+        vpe: part_in(vpe, node)? as u16,
         number: part_in(number, DRAWN)? as u32,
     })
 }
 
 impl Words<'_> {
-    /// The next word, a key. Takes no memory.
-    pub fn key(&mut self) -> Result<Key, Cause>
-        ensures reads { Reads (key_lem ∷ []) (λ k. key_word k ∷ []) self.old self.new result }
-        ensures told { IfOk result IsKeyInText }
+    /// The next word, a key of a text of the version. Takes no memory.
+    pub fn key(&mut self, version: u8) -> Result<Key, Cause>
+        ensures reads { Reads (key_lem version ∷ []) (λ k. key_word k ∷ []) self.old self.new result }
+        ensures told { IfOk result (IsKeyInText version) }
     {
         let word = self.word()?;
-        key(word)
+        key(word, version)
     }
 
-    /// The next word, the place of a key. Takes no memory.
-    pub fn place(&mut self) -> Result<Place, Cause>
-        ensures reads { Reads (key_place ∷ []) (λ p. place_word p ∷ []) self.old self.new result }
-        ensures told { IfOk result IsPlaceInText }
+    /// The next word, the place of a key, in a text of the version. Takes no memory.
+    pub fn place(&mut self, version: u8) -> Result<Place, Cause>
+        ensures reads { Reads (key_place version ∷ []) (λ p. place_word p ∷ []) self.old self.new result }
+        ensures told { IfOk result (IsPlaceInText version) }
     {
         let word = self.word()?;
-        place(word)
+        place(word, version)
     }
 }

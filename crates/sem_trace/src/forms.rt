@@ -3,15 +3,17 @@ ghost use Rattle.std.specs.Prelude.{◌≡◌, ℕ, ◌<◌, ◌≤◌, [], ◌�
 ghost use Rattle.std.specs.Bool.{Decides};
 ghost use Rattle.std.specs.Result.{result_err};
 ghost use Rattle.sem_text.specs.Number.{number_value};
-ghost use Rattle.sem_trace.specs.Forms.{place_fault, form_fault};
+ghost use Rattle.sem_key.specs.declared.limits.TheConstants.{VPES, KERNELS};
+ghost use Rattle.sem_msg.specs.declared.limits.TheConstants.{WINDOW as WINDOW_LEM};
+ghost use Rattle.sem_trace.specs.Forms.{place_fault, form_fault, node as node_lem, kernel_count as kernel_count_lem, window as window_lem};
 ghost use Rattle.sem_trace.specs.Forms.Place.{Word};
 ghost use Rattle.sem_trace.specs.Declarations.{number_at};
 ghost use Rattle.sem_trace.specs.Places.{Reads, AreNumbers, number_place, IsWithin};
 
 use crate::cursor::Words;
 use crate::fault::Cause;
-use crate::limits::{MOST_KERNELS, NODES};
-use sem_msg::ENDPOINTS;
+use crate::limits::{most_kernels, most_vpes};
+use sem_msg::{ENDPOINTS, WINDOW};
 use sem_text::{NumberFault, number};
 
 /// Which numbers can stand in a place.
@@ -20,12 +22,6 @@ pub struct Range {
     pub least: u64,
     pub most: u64,
 }
-
-/// A PE, or a VPE.
-pub const NODE: Range = Range {
-    least: 0,
-    most: NODES as u64 - 1,
-};
 
 /// A selector, or the name of a service, or an index.
 pub const BYTE: Range = Range {
@@ -51,14 +47,45 @@ pub const WORD: Range = Range {
     most: 4294967295,
 };
 
-/// How many kernels there are.
-pub const KERNELS: Range = Range {
-    least: 1,
-    most: MOST_KERNELS as u64,
-};
-
 /// The most numbers that stand side by side.
 const MOST_NUMBERS: usize = 5;
+
+/// A PE, or a VPE, in a text of the version.
+pub fn node(version: u8) -> Range
+    ensures range { number_place result ≡ node_lem version }
+    ensures most { result.most < VPES }
+{
+    Range {
+        least: 0,
+        most: u64::from(most_vpes(version)) - 1,
+    }
+}
+
+/// How many kernels there are, in a text of the version.
+pub fn kernel_count(version: u8) -> Range
+    ensures range { number_place result ≡ kernel_count_lem version }
+    ensures most { result.most ≤ KERNELS }
+{
+    Range {
+        least: 1,
+        most: u64::from(most_kernels(version)),
+    }
+}
+
+/// How many messages a link holds, in a text of the version.
+pub fn window(version: u8) -> Range
+    ensures range { number_place result ≡ window_lem version }
+    ensures most { result.most ≤ WINDOW_LEM }
+{
+    if version == 1 {
+        Range { least: 4, most: 4 }
+    } else {
+        Range {
+            least: 1,
+            most: u64::from(WINDOW),
+        }
+    }
+}
 
 // The number that the word is, if it can stand in that place.
 pub(crate) fn number_in(word: &[u8], range: Range) -> Result<u64, Cause>

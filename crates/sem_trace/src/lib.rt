@@ -17,10 +17,10 @@ mod text_lines;
 
 pub use cursor::Words;
 pub use declaration::Declaration;
-pub use declarations::{read_declaration, read_first, read_second};
+pub use declarations::{read_declaration, read_first, read_second, read_third};
 pub use fault::{Cause, TraceError, TraceFault};
-pub use forms::{BYTE, ENDPOINT, KERNELS, NODE, RIGHTS, Range, SLOTS, WORD, is};
-pub use limits::{LINK_WINDOW, MOST_KERNELS, NODES};
+pub use forms::{BYTE, ENDPOINT, RIGHTS, Range, SLOTS, WORD, is, node};
+pub use limits::{LINK_WINDOW, most_kernels, most_vpes};
 pub use print::{print_trace, push_line, push_start, push_trace};
 pub use push::{
     push_call, push_key, push_key_word, push_named, push_number_word, push_numbers, push_object,

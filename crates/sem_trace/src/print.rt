@@ -6,7 +6,7 @@ ghost use Rattle.sem_key.specs.MembershipTable.{owner_at};
 ghost use Rattle.sem_key.specs.declared.limits.TheConstants.{PES};
 ghost use Rattle.sem_text.specs.Lines.{behind_blanks, line, text};
 ghost use Rattle.sem_trace.specs.Words.{call_words};
-ghost use Rattle.sem_trace.specs.TraceText.{pe_line, vpe_line, root_line, offer_line, deny_line, kill_line, trace_lines, canonical};
+ghost use Rattle.sem_trace.specs.TraceText.{pe_line, vpe_line, root_line, offer_line, deny_line, kill_line, window_lines, trace_lines, canonical};
 
 use crate::push::{push_call, push_numbers, push_object};
 use sem_key::{Membership, Object, OutOfMemory, PES};
@@ -154,11 +154,30 @@ fn push_all_calls(out: &mut Vec<u8>, vpes: &Vpes0) -> Result<(), OutOfMemory>
     Ok(())
 }
 
+// Appends the line that tells the version.
+fn push_first(out: &mut Vec<u8>, setup: &Setup) -> Result<(), OutOfMemory>
+    ensures ok { OnOk result (out.new.items ≡ out.old.items ++ line (codes "semper trace" ∷ decimal setup.now.version ∷ [])) }
+{
+    push_line(out, b"semper trace", &[u64::from(setup.version)])
+}
+
+// Appends the line that tells the window, in version 2.
+fn push_window(out: &mut Vec<u8>, setup: &Setup) -> Result<(), OutOfMemory>
+    ensures ok { OnOk result (out.new.items ≡ out.old.items ++ text (window_lines setup.now)) }
+{
+    if setup.version == 1 {
+        Ok(())
+    } else {
+        push_line(out, b"window", &[u64::from(setup.window)])
+    }
+}
+
 // Appends the lines that say which kernels, PEs and VPEs there are.
 fn push_members(out: &mut Vec<u8>, setup: &Setup) -> Result<(), OutOfMemory>
-    ensures ok { OnOk result (out.new.items ≡ out.old.items ++ text ((codes "kernels" ∷ decimal setup.now.kernels ∷ []) ∷ flat_map pe_line (enumerate_from 0 setup.now.owners.owners) ++ map vpe_line setup.now.vpes)) }
+    ensures ok { OnOk result (out.new.items ≡ out.old.items ++ text ((codes "kernels" ∷ decimal setup.now.kernels ∷ []) ∷ window_lines setup.now ++ flat_map pe_line (enumerate_from 0 setup.now.owners.owners) ++ map vpe_line setup.now.vpes)) }
 {
     push_line(out, b"kernels", &[u64::from(setup.kernels)])?;
+    push_window(out, setup)?;
     push_owners(out, &setup.owners)?;
     push_vpes(out, &setup.vpes)
 }
@@ -177,7 +196,7 @@ fn push_terms(out: &mut Vec<u8>, setup: &Setup) -> Result<(), OutOfMemory>
 pub fn push_trace(out: &mut Vec<u8>, setup: &Setup) -> Result<(), OutOfMemory>
     ensures ok { OnOk result (out.new.items ≡ out.old.items ++ text (trace_lines setup.now)) }
 {
-    push_line(out, b"semper trace 1", &[])?;
+    push_first(out, setup)?;
     push_members(out, setup)?;
     push_terms(out, setup)?;
     push_all_calls(out, &setup.vpes)?;

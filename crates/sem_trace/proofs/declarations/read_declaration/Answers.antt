@@ -1,4 +1,5 @@
-use Rattle.std.proofs.Common.{refl, sym, ◌∙◌}
+use Rattle.std.proofs.Common.{◌==◌, inl, inr, refl, sym, ◌∙◌}
+use Rattle.std.proofs.lemmas.Bool.{cases_Bool}
 use Rattle.std.proofs.lemmas.Result.{err_from_is_err_and}
 use Rattle.sem_trace.specs.Forms.{form_fault, lines, form}
 use Rattle.sem_trace.proofs.PlaceSteps.{differs}
@@ -26,7 +27,7 @@ pub returns-then-is-5 : goal.returns-then-is-5
 returns-then-is-5 c = rw (sym c.of-words.ensures ∙ c.in_ok-name.ensures.ok, c.if-is-5.ensures.0 refl) (c.service_line.ensures c.args.kernels)
 
 pub returns-then-is-6 : goal.returns-then-is-6
-returns-then-is-6 c = rw (sym c.of-words.ensures ∙ c.in_ok-name.ensures.ok, c.if-is-6.ensures.0 refl) (c.offer_line.ensures c.args.kernels)
+returns-then-is-6 c = rw (sym c.of-words.ensures ∙ c.in_ok-name.ensures.ok, c.if-is-6.ensures.0 refl) (c.offer_line.ensures c.args.version c.args.kernels)
 
 pub returns-then-is-7 : goal.returns-then-is-7
 returns-then-is-7 c = rw (sym c.of-words.ensures ∙ c.in_ok-name.ensures.ok, c.if-is-7.ensures.0 refl) (c.deny_line.ensures c.args.kernels)
@@ -38,8 +39,14 @@ pub returns-then-is-9 : goal.returns-then-is-9
 returns-then-is-9 c = rw (sym c.of-words.ensures ∙ c.in_ok-name.ensures.ok, c.if-is-9.ensures.0 refl) (c.call_line.ensures c.args.kernels)
 
 pub returns-then-is-10 : goal.returns-then-is-10
-returns-then-is-10 c = rw (sym c.of-words.ensures ∙ c.in_ok-name.ensures.ok, c.if-is-10.ensures.0 refl) (c.end_line.ensures c.args.kernels)
+returns-then-is-10 c = rw (sym c.of-words.ensures ∙ c.in_ok-name.ensures.ok, c.if-is-10.ensures.0 refl) (c.end_line.ensures c.args.version c.args.kernels)
 
-pub returns-else-is-10 : goal.returns-else-is-10
+pub returns-then-is-11 : goal.returns-then-is-11
+returns-then-is-11 c = rw (sym c.of-words.ensures ∙ c.in_ok-name.ensures.ok, c.if-is-11.ensures.0 refl) (c.window_line.ensures c.args.kernels)
+
+pub returns-else-is-11 : goal.returns-else-is-11
 unfolding form_fault form lines
-returns-else-is-10 c = record { fault = rw (sym c.of-words.ensures ∙ c.in_ok-name.ensures.ok, differs _ _ c.if-is.ensures, differs _ _ c.if-is-2.ensures, differs _ _ c.if-is-3.ensures, differs _ _ c.if-is-4.ensures, differs _ _ c.if-is-5.ensures, differs _ _ c.if-is-6.ensures, differs _ _ c.if-is-7.ensures, differs _ _ c.if-is-8.ensures, differs _ _ c.if-is-9.ensures, differs _ _ c.if-is-10.ensures) refl; value = tt; ranges = tt }
+returns-else-is-11 c = elim (cases_Bool (c.args.version == 1)) [
+  | inl one ↦ record { fault = rw (sym c.of-words.ensures ∙ c.in_ok-name.ensures.ok, differs _ _ c.if-is.ensures, differs _ _ c.if-is-2.ensures, differs _ _ c.if-is-3.ensures, differs _ _ c.if-is-4.ensures, differs _ _ c.if-is-5.ensures, differs _ _ c.if-is-6.ensures, differs _ _ c.if-is-7.ensures, differs _ _ c.if-is-8.ensures, differs _ _ c.if-is-9.ensures, differs _ _ c.if-is-10.ensures, one) refl; value = tt; ranges = tt }
+  | inr other ↦ record { fault = rw (sym c.of-words.ensures ∙ c.in_ok-name.ensures.ok, differs _ _ c.if-is.ensures, differs _ _ c.if-is-2.ensures, differs _ _ c.if-is-3.ensures, differs _ _ c.if-is-4.ensures, differs _ _ c.if-is-5.ensures, differs _ _ c.if-is-6.ensures, differs _ _ c.if-is-7.ensures, differs _ _ c.if-is-8.ensures, differs _ _ c.if-is-9.ensures, differs _ _ c.if-is-10.ensures, other, differs _ _ c.if-is-11.ensures) refl; value = tt; ranges = tt }
+]

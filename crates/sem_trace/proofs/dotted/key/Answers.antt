@@ -1,6 +1,7 @@
-use Rattle.std.proofs.Common.{◌≡◌, [], ◌∷◌, refl, ◌∙◌, decimal}
+use Rattle.std.proofs.Common.{◌-◌, ◌≡◌, [], ◌∷◌, refl, ◌∙◌, decimal}
 use Rattle.sem_key.specs.KeyName.{kind_number}
 use Rattle.std.proofs.lemmas.Result.{err_from_is_err_and}
+use Rattle.sem_msg.specs.Versions.{most_vpes}
 use Rattle.sem_trace.specs.Forms.{parts_of, are_numbers}
 use Rattle.sem_trace.proofs.PrintedNumbers.{joined, in_row4}
 use Rattle.sem_trace.proofs.dotted.key.Goals as goal
@@ -8,13 +9,13 @@ use Rattle.sem_trace.proofs.dotted.key.Goals as goal
 pub returns-in_err-pe-clause-fault : goal.returns-in_err-pe-clause-fault
 returns-in_err-pe-clause-fault c =
     let p = err_from_is_err_and c.from_residual.result c.from_residual.ensures.1 in
-    rw (p.1, p.2, c.in_err-pe.ensures.cause, c.in_err-pe.ensures.err (0, 63) (0, 63) ((1, 5) ∷ (0, 4095) ∷ [])) refl
+    rw (p.1, p.2, c.in_err-pe.ensures.cause, c.in_err-pe.ensures.err (0, most_vpes c.args.version - 1) (0, most_vpes c.args.version - 1) ((1, 5) ∷ (0, 4095) ∷ [])) refl
 
 pub returns-in_err-vpe-clause-fault : goal.returns-in_err-vpe-clause-fault
 unfolding are_numbers
 returns-in_err-vpe-clause-fault c =
     let p = err_from_is_err_and c.from_residual-in_err-vpe.result c.from_residual-in_err-vpe.ensures.1 in
-    rw (p.1, p.2, c.in_err-vpe.ensures.cause, c.in_ok-pe.ensures.parts, c.in_ok-pe.ensures.number, c.in_err-vpe.ensures.err (0, 63) (1, 5) ((0, 4095) ∷ [])) refl
+    rw (p.1, p.2, c.in_err-vpe.ensures.cause, c.in_ok-pe.ensures.parts, c.in_ok-pe.ensures.number, c.in_err-vpe.ensures.err (0, most_vpes c.args.version - 1) (1, 5) ((0, 4095) ∷ [])) refl
 
 pub returns-in_err-kind_number-clause-fault : goal.returns-in_err-kind_number-clause-fault
 unfolding are_numbers

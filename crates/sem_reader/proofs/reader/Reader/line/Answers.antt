@@ -27,6 +27,12 @@ returns-in_ok-first-in-Start-clause-ok c lines read = said lines _ (λ (ls : Lis
 pub returns-in_ok-second-in-Named-clause-ok : goal.returns-in_ok-second-in-Named-clause-ok
 returns-in_ok-second-in-Named-clause-ok c lines read = said lines _ (λ (ls : List (List (List ℕ))). IsRead ls c.second.new.self) (sym c.in_default.ensures) (sym c.if-not-is_significant.ensures) (c.in_ok-second-in-Named.ensures.ok lines read)
 
+pub returns-in-Counted-clause-ok : goal.returns-in-Counted-clause-ok
+returns-in-Counted-clause-ok c = on_ok_weaker c.third.result (λ accepts lines read. said lines _ (λ (ls : List (List (List ℕ))). IsRead ls c.third.new.self) (sym c.in_default.ensures) (sym c.if-not-is_significant.ensures) (accepts lines read)) c.third.ensures.ok
+
+pub returns-in-Counted-clause-err : goal.returns-in-Counted-clause-err
+returns-in-Counted-clause-err c = IfErr-weaker c.third.result (Stops (Refuses (words_of c.args.line.now) c.args.self.now)) (Stops (RefusesLine c.args.line.now c.args.self.now)) (λ e stops. stops_weaker _ _ (λ cause refuses lines read. refused lines _ cause (sym c.in_default.ensures) (sym c.if-not-is_significant.ensures) (refuses lines read)) e stops) c.third.ensures.err
+
 pub returns-in-Open-clause-ok : goal.returns-in-Open-clause-ok
 returns-in-Open-clause-ok c = on_ok_weaker c.open.result (λ accepts lines read. said lines _ (λ (ls : List (List (List ℕ))). IsRead ls c.open.new.self) (sym c.in_default.ensures) (sym c.if-not-is_significant.ensures) (accepts lines read)) c.open.ensures.ok
 

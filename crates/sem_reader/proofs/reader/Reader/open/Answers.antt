@@ -11,10 +11,10 @@ returns-in_err-d-clause-err c =
 pub returns-in-Some-clause-err : goal.returns-in-Some-clause-err
 returns-in-Some-clause-err c lines read =
     let o = opened _ lines c.args.self.now.tables c.requires.stage read in
-    open_refused lines _ c.args.self.now.tables _ _ _ o c.kernels.ensures.number c.in_ok-d.ensures.fault c.in_ok-d.ensures.value (sym (c.in-Some.ensures _ _ o.tells))
+    open_refused lines _ c.args.self.now.tables _ _ _ o c.kernels.ensures.number c.in_ok-d.ensures.fault c.in_ok-d.ensures.value (sym (c.in-Some.ensures _ _ _ o.tells))
 
 pub returns-clause-ok : goal.returns-clause-ok
 returns-clause-ok c lines read =
     let o = opened _ lines c.args.self.now.tables c.requires.stage read in
-    let accepted = sym (c.in_default.ensures _ _ o.tells) in
-    rw c.stage_after-self.ensures (open_line lines _ c.args.self.now.tables c.enter.new.self _ c.in_ok-d.d o c.kernels.ensures.number c.in_ok-d.ensures.fault c.in_ok-d.ensures.value accepted (c.in_ok-enter.ensures.ok _ _ o.tells accepted))
+    let accepted = sym (c.in_default.ensures _ _ _ o.tells) in
+    rw c.stage_after-self.ensures (open_line lines _ c.args.self.now.tables c.enter.new.self _ c.in_ok-d.d o c.kernels.ensures.number c.in_ok-d.ensures.fault c.in_ok-d.ensures.value accepted (c.in_ok-enter.ensures.ok _ _ _ o.tells accepted))

@@ -7,13 +7,13 @@ use Rattle.sem_reader.proofs.MoreItems.{numbers-none, more_number}
 use Rattle.sem_reader.proofs.tables.Tables.vpes.Goals as goal
 
 pub loop-vpe-init : goal.loop-vpe-init
-loop-vpe-init c kernels ds told = rw (numbers-none) c.new-vpes.ensures
+loop-vpe-init c version kernels ds told = rw (numbers-none) c.new-vpes.ensures
 
 pub loop-vpe-preserved : goal.loop-vpe-preserved
-loop-vpe-preserved c kernels ds told = more_number (vpe_in ds) c.loop-vpe.vpe _ [] _ _ (c.loop-vpe.invariant kernels ds told) c.in_ok-push_some.ensures.ok (c.in_ok-vpe.ensures kernels ds told)
+loop-vpe-preserved c version kernels ds told = more_number (vpe_in ds) c.loop-vpe.vpe _ [] _ _ (c.loop-vpe.invariant version kernels ds told) c.in_ok-push_some.ensures.ok (c.in_ok-vpe.ensures version kernels ds told)
 
 pub returns : goal.returns
 unfolding vpes_of
-returns c kernels ds told =
-    let all : c.loop-vpe.vpe ≡ 64 = omega arith in
-    c.loop-vpe.invariant kernels ds told ∙ ap (λ (n : ℕ). filter_map (vpe_in ds) (numbers n)) all
+returns c version kernels ds told =
+    let all : c.loop-vpe.vpe ≡ 128 = omega arith in
+    c.loop-vpe.invariant version kernels ds told ∙ ap (λ (n : ℕ). filter_map (vpe_in ds) (numbers n)) all

@@ -8,4 +8,4 @@ use Rattle.sem_reader.proofs.tables.Tables.vpes.Given as goal
 
 -- the VPEs of the numbers so far
 abbrev pub invariant-loop-vpe : goal.invariant-loop-vpe
-invariant-loop-vpe l = (kernels : ℕ) (ds : List Declaration) → Tells kernels ds l.self → l.vpes ≡ filter_map (vpe_in ds) (numbers l.vpe)
+invariant-loop-vpe l = (version kernels : ℕ) (ds : List Declaration) → Tells version kernels ds l.self → l.vpes ≡ filter_map (vpe_in ds) (numbers l.vpe)

@@ -24,7 +24,7 @@ returns-in_err-held-clause-err c =
     (follows_both (count_form (codes "made") ∷ []) (count_form (codes "cut") ∷ count_form (codes "held") ∷ []) _ _ _ _ _ _ c.in_ok-made.ensures.ok
     (follows_both (count_form (codes "cut") ∷ []) (count_form (codes "held") ∷ []) _ _ _ _ _ _ c.in_ok-cut.ensures.ok c.in_ok-number.ensures.ok)) in
     let p = err_from_is_err_and c.from_residual-in_err-held.result c.from_residual-in_err-held.ensures.1 in
-    rw (p.1, p.2, held) (stops_behind four (replicate c.in_ok-number.number held_form ++ end) _ _ _ _ _ first (stops_before (replicate c.in_ok-number.number held_form) end _ _ _ c.in_err-held.ensures.err))
+    rw (p.1, p.2, held) (stops_behind four (replicate c.in_ok-number.number (held_form c.args.version) ++ end) _ _ _ _ _ first (stops_before (replicate c.in_ok-number.number (held_form c.args.version)) end _ _ _ c.in_err-held.ensures.err))
 
 pub returns-in_err-name-2-clause-err : goal.returns-in_err-name-2-clause-err
 returns-in_err-name-2-clause-err c =
@@ -37,7 +37,7 @@ returns-in_err-name-2-clause-err c =
     (follows_both (count_form (codes "made") ∷ []) (count_form (codes "cut") ∷ count_form (codes "held") ∷ []) _ _ _ _ _ _ c.in_ok-made.ensures.ok
     (follows_both (count_form (codes "cut") ∷ []) (count_form (codes "held") ∷ []) _ _ _ _ _ _ c.in_ok-cut.ensures.ok c.in_ok-number.ensures.ok)) in
     let p = err_from_is_err_and c.from_residual-in_err-name-2.result c.from_residual-in_err-name-2.ensures.1 in
-    rw (p.1, p.2, held) (stops_behind four (replicate c.in_ok-number.number held_form ++ end) _ _ _ _ _ first (stops_behind (replicate c.in_ok-number.number held_form) end _ _ _ _ _ c.in_ok-held.ensures.ok c.in_err-name-2.ensures.err))
+    rw (p.1, p.2, held) (stops_behind four (replicate c.in_ok-number.number (held_form c.args.version) ++ end) _ _ _ _ _ first (stops_behind (replicate c.in_ok-number.number (held_form c.args.version)) end _ _ _ _ _ c.in_ok-held.ensures.ok c.in_err-name-2.ensures.err))
 
 pub returns-clause-ok : goal.returns-clause-ok
 returns-clause-ok c =
@@ -49,4 +49,4 @@ returns-clause-ok c =
     follows_both (name_form (codes "audit") ∷ []) (count_form (codes "made") ∷ count_form (codes "cut") ∷ count_form (codes "held") ∷ []) _ _ _ _ _ _ c.in_ok-name.ensures.ok
     (follows_both (count_form (codes "made") ∷ []) (count_form (codes "cut") ∷ count_form (codes "held") ∷ []) _ _ _ _ _ _ c.in_ok-made.ensures.ok
     (follows_both (count_form (codes "cut") ∷ []) (count_form (codes "held") ∷ []) _ _ _ _ _ _ c.in_ok-cut.ensures.ok c.in_ok-number.ensures.ok)) in
-    rw held (follows_both four (replicate c.in_ok-number.number held_form ++ end) _ _ _ _ _ _ first (follows_both (replicate c.in_ok-number.number held_form) end _ _ _ _ _ _ c.in_ok-held.ensures.ok c.in_ok-name-2.ensures.ok))
+    rw held (follows_both four (replicate c.in_ok-number.number (held_form c.args.version) ++ end) _ _ _ _ _ _ first (follows_both (replicate c.in_ok-number.number (held_form c.args.version)) end _ _ _ _ _ _ c.in_ok-held.ensures.ok c.in_ok-name-2.ensures.ok))

@@ -1,5 +1,5 @@
 use Rattle.std.proofs.lemmas.Result.{err_from_is_err_and}
-use Rattle.sem_report.proofs.ReportSteps.{first_missing, first_good, first_bad}
+use Rattle.sem_report.proofs.ReportSteps.{first_missing, first_good, first_bad, first_told}
 use Rattle.sem_report.proofs.report_reader.Lines.header.Goals as goal
 
 pub returns-in_err-line-clause-err : goal.returns-in_err-line-clause-err
@@ -12,3 +12,6 @@ returns-in-Ok-clause-ok c = first_good _ _ _ _ _ c.in_ok-line.ensures.ok c.in-Ok
 
 pub returns-in-Err-clause-err : goal.returns-in-Err-clause-err
 returns-in-Err-clause-err c = rw c.at_line.ensures (first_bad _ _ _ _ _ _ c.requires.start c.in_ok-line.ensures.ok c.in-Err.ensures.err)
+
+pub returns-in-Ok-clause-version : goal.returns-in-Ok-clause-version
+returns-in-Ok-clause-version c = first_told _ _ _ _ _ _ c.in_ok-line.ensures.ok c.in-Ok.ensures.version
