@@ -1,3 +1,5 @@
 pub mod Placed
 pub mod Refusing
 pub mod Ending
+pub mod Services
+pub mod Granting

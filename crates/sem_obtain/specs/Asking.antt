@@ -1,21 +1,69 @@
 -- What the calls ask of the stores.
-use Rattle.std.specs.Prelude.{◌≡◌, ℕ, List, Option, Some, None}
+use Rattle.std.specs.Prelude.{◌≡◌, ℕ, ◌==◌, Bool, true, not, ◌&&◌, List, Option, Some, None, if◌then◌else◌}
+use Rattle.sem_key.specs.declared.key.Kind.{Kind}
+use Rattle.sem_key.specs.declared.object.Object.{Object}
+use Rattle.sem_key.specs.KeyName.{KeyName}
+use Rattle.sem_key.specs.PlaceName.{PlaceName, keyed}
+use Rattle.sem_key.specs.ObjectRanges.{object_kind, IsValidObject}
+use Rattle.sem_key.specs.Capability.{Capability}
 use Rattle.sem_key.specs.CapList.{cap_of}
+use Rattle.sem_msg.specs.declared.message.Message.TheVariants.{ObtainOk}
+use Rattle.sem_msg.specs.declared.entry.Consent.{Consent}
+use Rattle.sem_msg.specs.declared.entry.Consent.TheVariants.{Yes, No, Dropped}
 use Rattle.sem_msg.specs.declared.state.Parked.{Parked}
 use Rattle.sem_msg.specs.declared.state.Parked.TheVariants.{ObtainReady, ObtainCancelled}
+use Rattle.sem_msg.specs.Setup.{Setup}
+use Rattle.sem_msg.specs.Lookups.{kernel_of, owner_of, denies}
+use Rattle.sem_msg.specs.ParkedStates.{state_of}
 use Rattle.sem_msg.specs.Outboxes.{OutboxList}
 use Rattle.sem_caps.specs.CapStore.{CapStore}
 use Rattle.sem_vpe.specs.VpeTable.{VpeTable}
-use Rattle.sem_machine.specs.Sides.{Side}
+use Rattle.sem_machine.specs.Sides.{Side, parked, linked, send}
+use Rattle.sem_machine.specs.Asks.{is_obtain_wait}
+use Rattle.sem_machine.specs.Upcalls.{given_here}
 use Rattle.sem_machine.specs.Stores.{with_caps, with_vpes, with_parks, with_outs}
 
 -- the side with these VPEs, waiting calls and outboxes
 abbrev pub asking : VpeTable → List (Option Parked) → OutboxList → Side → Side
 asking vpes park outs s = with_vpes vpes.rows (with_parks park (with_outs outs.boxes s))
 
+-- the side with these capabilities and VPEs
+abbrev pub holding : CapStore → VpeTable → Side → Side
+holding caps vpes s = with_caps caps.caps (with_vpes vpes.rows s)
+
 -- the side with these capabilities, VPEs and waiting calls
 abbrev pub installing : CapStore → VpeTable → List (Option Parked) → Side → Side
 installing caps vpes park s = with_caps caps.caps (with_vpes vpes.rows (with_parks park s))
+
+-- the side with these capabilities, VPEs, waiting calls and outboxes
+abbrev pub giving : CapStore → VpeTable → List (Option Parked) → OutboxList → Side → Side
+giving caps vpes park outs s = with_caps caps.caps (asking vpes park outs s)
+
+-- whether the asker is of kernel i and does not wait for the answer
+abbrev pub is_unawaited : Setup → ℕ → List (Option Parked) → PlaceName → Bool
+is_unawaited T i park place = (kernel_of T place.vpe == i) && not (is_obtain_wait place.number (state_of park place.vpe))
+
+-- the answer of v: the ask is dropped if nobody of kernel i waits for it, else denied as declared
+abbrev pub answer_to : Setup → ℕ → ℕ → List (Option Parked) → PlaceName → Consent
+answer_to T i v park place = if is_unawaited T i park place then Dropped else if denies T v place.vpe then No else Yes
+
+-- the parent gets a child of that key and object, which goes to the VPE of the key
+abbrev pub child_sent : Setup → ℕ → KeyName → KeyName → Object → Side → Side
+child_sent T i parent key object s =
+    let linking : Side = linked parent key s in
+    if kernel_of T key.vpe == i
+    then given_here key parent object (parked linking key.vpe) linking
+    else send (owner_of T key) (ObtainOk parent key object) linking
+
+-- a capability of which a child can be given: there is room, and its object is of its kind
+pub record IsGivable (caps : CapStore) (c : Capability) : Type 0 where
+  pub child_room : caps.child_room ≡ Some c.key
+  pub object : IsValidObject c.object
+  pub kind : c.key.kind ≡ object_kind c.object
+
+-- no capability has the number of the place, if the call for which it was drawn waits
+abbrev pub IsFree : CapStore → List (Option Parked) → PlaceName → Type 0
+IsFree caps park place = is_obtain_wait place.number (state_of park place.vpe) ≡ true → (kind : Kind) → cap_of caps.caps (keyed place kind) ≡ None
 
 -- a call in that state of the VPE can end: what it would install is a key of the VPE that is not held
 abbrev pub CanEnd : CapStore → ℕ → Option Parked → Type 0

@@ -11,6 +11,7 @@ ghost use Rattle.sem_machine.specs.Handles.{handle_row};
 ghost use Rattle.sem_machine.specs.Stores.{with_vpes, with_parks, with_outs};
 ghost use Rattle.sem_obtain.specs.Asking.{asking};
 
+use crate::ends::{refuse_call, send_refusal};
 use sem_key::{Key, Object, Place};
 use sem_msg::{Ask, Code, Message, Outboxes, Parked, Setup, Target};
 use sem_park::Park;
@@ -76,24 +77,8 @@ pub fn obtain_refused(
     ensures row { (from : ℕ) (s : Side) → with_vpes vpes.new.rows (with_parks park.new s) ≡ handle_row setup.now kernel (with_vpes vpes.old.rows (with_parks park.old s)) from (ObtainNo place code) }
     ensures ours { vpes.new.ours ≡ vpes.old.ours }
 {
-    if !vpes.alive(place.vpe) {
-        return;
-    }
-    if let Some(Parked::ObtainWait { sel, .. }) = park.state(place.vpe) {
-        vpes.release(place.vpe, sel);
-    }
-    park.park(place.vpe, Parked::Ready { code });
-}
-
-// The message that an asking call is refused.
-fn refusal(place: Place, code: Code) -> Message
-    requires { IsRefusal (code_number code) }
-    ensures message { result ≡ ObtainNo place (code_number code) }
-    ensures fits { Fits result }
-{
-    Message::ObtainNo {
-        place,
-        code: code.number(),
+    if vpes.alive(place.vpe) {
+        refuse_call(place.vpe, code, vpes, park);
     }
 }
 
@@ -123,7 +108,7 @@ pub fn obtain_request(
     if vpes.alive(vpe) {
         vpes.ask(vpe, Ask::Obtain { place, target });
     } else {
-        outs.send(setup.place_owner(place), refusal(place, Code::Dead));
+        send_refusal(setup, place, Code::Dead, outs);
     }
 }
 

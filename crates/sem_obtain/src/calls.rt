@@ -1,17 +1,22 @@
-ghost use Rattle.std.specs.Prelude.{◌≡◌, ◌<◌, ◌≤◌, ◌+◌, true};
+ghost use Rattle.std.specs.Prelude.{◌≡◌, ◌<◌, ◌≤◌, ◌+◌, true, IfSome};
 ghost use Rattle.sem_msg.specs.Lookups.{is_declared, kernel_of as kernel_of_lem};
-ghost use Rattle.sem_msg.specs.declared.message.Target.TheVariants.{Sel as SelTarget};
+ghost use Rattle.sem_msg.specs.declared.message.Target.TheVariants.{Offer as OfferTarget, Sel as SelTarget, Serv as ServTarget};
+ghost use Rattle.sem_key.specs.declared.key.Kind.TheVariants.{Serv as ServKind};
 ghost use Rattle.sem_msg.specs.Message.{IsValidTarget};
 ghost use Rattle.sem_msg.specs.Outboxes.{HasBoxes};
 ghost use Rattle.sem_vpe.specs.VpeTable.{AreOurs};
-ghost use Rattle.sem_machine.specs.Sides.{Side};
-ghost use Rattle.sem_machine.specs.Calls.{obtain_row};
-ghost use Rattle.sem_obtain.specs.Asking.{asking};
+ghost use Rattle.sem_machine.specs.Sides.{Side, no_side, own};
+ghost use Rattle.sem_machine.specs.Sound.{IsSoundObject};
+ghost use Rattle.sem_machine.specs.Calls.{obtain_row, offer_row, open_row};
+ghost use Rattle.sem_obtain.specs.Asking.{asking, giving, holding};
 
 use crate::asks::{kernel_of, make_ask};
+use crate::lookups::{service_key, session_service};
 use crate::outcomes::{answered, nothing};
-use crate::refusals::obtain_refusal;
-use sem_msg::{Outboxes, Outcome, Setup, Target};
+use crate::refusals::{obtain_refusal, offer_refusal, open_refusal};
+use sem_caps::Caps;
+use sem_key::Key;
+use sem_msg::{Code, Outboxes, Outcome, Setup, Target};
 use sem_park::Park;
 use sem_vpe::Vpes;
 
@@ -54,4 +59,111 @@ fn selector(setup: &Setup, vpe: u16, sel: u8) -> Target
 {
     let _ = kernel_of(setup, vpe);
     Target::Sel { vpe, sel }
+}
+
+/// The call `open`: the VPE asks for a session with the service of that name, to stand at `dst`. It
+/// waits, unless it is refused at once. Takes no memory.
+pub fn open_call(
+    setup: &Setup,
+    kernel: u32,
+    vpe: u16,
+    dst: u8,
+    name: u8,
+    vpes: &mut Vpes,
+    park: &mut Park,
+    outs: &mut Outboxes,
+) -> Outcome
+    requires home { AreOurs setup.now kernel vpes.old }
+    requires vpe { kernel_of_lem setup.now vpe ≡ kernel }
+    requires declared { is_declared setup.now vpe ≡ true }
+    requires boxes { HasBoxes setup.now outs.old }
+    requires spare { 0 < outs.old.spare }
+    ensures row { (s : Side) → record { side = asking vpes.new park.new outs.new s; outcome = result } ≡ open_row setup.now kernel (asking vpes.old park.old outs.old s) vpe dst name }
+    ensures ours { vpes.new.ours ≡ vpes.old.ours }
+    ensures boxes { HasBoxes setup.now outs.new }
+    ensures spare { outs.old.spare ≤ outs.new.spare + 1 }
+{
+    if let Some(code) = open_refusal(setup, kernel, vpe, dst, name, vpes) {
+        return answered(code);
+    }
+    let Some(service) = service_key(setup, name) else {
+        return answered(Code::NoService);
+    };
+    let target = session_with(service);
+    make_ask(
+        setup,
+        kernel,
+        vpe,
+        dst,
+        service.vpe,
+        target,
+        vpes,
+        park,
+        outs,
+    );
+    nothing()
+}
+
+/// The call `ask`: the VPE asks for what the service of its session offers under an index, to stand
+/// at `dst`. It waits, unless it is refused at once. Takes no memory.
+pub fn offer_call(
+    setup: &Setup,
+    kernel: u32,
+    vpe: u16,
+    dst: u8,
+    session: u8,
+    index: u8,
+    caps: &Caps,
+    vpes: &mut Vpes,
+    park: &mut Park,
+    outs: &mut Outboxes,
+) -> Outcome
+    requires home { AreOurs setup.now kernel vpes.old }
+    requires vpe { kernel_of_lem setup.now vpe ≡ kernel }
+    requires declared { is_declared setup.now vpe ≡ true }
+    requires session { IfSome (own (holding caps.now vpes.old no_side) vpe session) (λ c. IsSoundObject setup.now c.object) }
+    requires boxes { HasBoxes setup.now outs.old }
+    requires spare { 0 < outs.old.spare }
+    ensures row { (s : Side) → record { side = giving caps.now vpes.new park.new outs.new s; outcome = result } ≡ offer_row setup.now kernel (giving caps.now vpes.old park.old outs.old s) vpe dst session index }
+    ensures ours { vpes.new.ours ≡ vpes.old.ours }
+    ensures boxes { HasBoxes setup.now outs.new }
+    ensures spare { outs.old.spare ≤ outs.new.spare + 1 }
+{
+    if let Some(code) = offer_refusal(setup, kernel, vpe, dst, session, caps, vpes) {
+        return answered(code);
+    }
+    let Some(service) = session_service(caps, vpes, vpe, session) else {
+        return answered(Code::BadKind);
+    };
+    let target = offer_of(service, index);
+    make_ask(
+        setup,
+        kernel,
+        vpe,
+        dst,
+        service.vpe,
+        target,
+        vpes,
+        park,
+        outs,
+    );
+    nothing()
+}
+
+// A session with the service of that key, as a target.
+fn session_with(service: Key) -> Target
+    requires { service.kind ≡ ServKind }
+    ensures target { result ≡ ServTarget service }
+    ensures valid { IsValidTarget result }
+{
+    Target::Serv { service }
+}
+
+// What the service of that key offers under the index, as a target.
+fn offer_of(service: Key, index: u8) -> Target
+    requires { service.kind ≡ ServKind }
+    ensures target { result ≡ OfferTarget service index }
+    ensures valid { IsValidTarget result }
+{
+    Target::Offer { service, index }
 }

@@ -4,14 +4,18 @@
 mod answers;
 mod asks;
 mod calls;
+mod ends;
 mod links;
+mod lookups;
 mod outcomes;
 mod refusals;
 mod resumes;
 #[cfg(test)]
 mod tests;
+mod upcalls;
 
 pub use answers::{obtain_answer, obtain_refused, obtain_request};
-pub use calls::obtain_call;
+pub use calls::{obtain_call, offer_call, open_call};
 pub use links::{orphan, unlink};
 pub use resumes::obtain_resume;
+pub use upcalls::obtain_upcall;

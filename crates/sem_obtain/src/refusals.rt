@@ -1,12 +1,18 @@
-ghost use Rattle.std.specs.Prelude.{◌≡◌};
+ghost use Rattle.std.specs.Prelude.{◌≡◌, IfSome};
+ghost use Rattle.sem_msg.specs.Codes.{code_number};
+ghost use Rattle.sem_msg.specs.Message.{IsRefusal};
 ghost use Rattle.sem_vpe.specs.VpeTable.{AreOurs, IsOurs};
 ghost use Rattle.sem_machine.specs.Sides.{no_side};
 ghost use Rattle.sem_machine.specs.Steps.{first_code};
-ghost use Rattle.sem_machine.specs.Calls.{destination_tests, is_local_dead as is_local_dead_lem, obtain_tests};
+ghost use Rattle.sem_machine.specs.Calls.{destination_tests, is_local_dead as is_local_dead_lem, obtain_tests, offer_tests, open_tests};
 ghost use Rattle.sem_machine.specs.Stores.{with_vpes};
+ghost use Rattle.sem_machine.specs.Upcalls.{source as source_lem, source_tests};
+ghost use Rattle.sem_obtain.specs.Asking.{holding};
 
-use sem_key::NUMBERS;
-use sem_msg::{Code, Setup, Slot};
+use crate::lookups::{own_cap, service_key, source};
+use sem_caps::Caps;
+use sem_key::{NUMBERS, Object};
+use sem_msg::{Code, Setup, Slot, Target};
 use sem_vpe::Vpes;
 
 // Why the selector can't be the destination of a new capability.
@@ -52,4 +58,81 @@ pub fn obtain_refusal(
         return Some(Code::Dead);
     }
     destination_refusal(vpes, vpe, dst)
+}
+
+// Why the VPE can't open a session with the service of that name.
+pub fn open_refusal(
+    setup: &Setup,
+    kernel: u32,
+    vpe: u16,
+    dst: u8,
+    name: u8,
+    vpes: &Vpes,
+) -> Option<Code>
+    requires home { AreOurs setup.now kernel vpes.now }
+    requires ours { IsOurs vpes.now vpe }
+    ensures { result ≡ first_code (open_tests setup.now kernel (with_vpes vpes.now.rows no_side) vpe dst name) }
+{
+    let Some(service) = service_key(setup, name) else {
+        return Some(Code::NoService);
+    };
+    if service.vpe == vpe {
+        return Some(Code::SelfExchange);
+    }
+    if is_local_dead(setup, kernel, vpes, service.vpe) {
+        return Some(Code::Dead);
+    }
+    destination_refusal(vpes, vpe, dst)
+}
+
+// Why the VPE can't ask for what the service of that session offers.
+pub fn offer_refusal(
+    setup: &Setup,
+    kernel: u32,
+    vpe: u16,
+    dst: u8,
+    session: u8,
+    caps: &Caps,
+    vpes: &Vpes,
+) -> Option<Code>
+    requires home { AreOurs setup.now kernel vpes.now }
+    requires ours { IsOurs vpes.now vpe }
+    ensures { result ≡ first_code (offer_tests setup.now kernel (holding caps.now vpes.now no_side) vpe dst session) }
+{
+    let Some(cap) = own_cap(caps, vpes, vpe, session) else {
+        return Some(Code::NoCap);
+    };
+    if cap.mark.is_some() {
+        return Some(Code::Revoking);
+    }
+    let Object::Sess { service, .. } = cap.object else {
+        return Some(Code::BadKind);
+    };
+    if is_local_dead(setup, kernel, vpes, service.vpe) {
+        return Some(Code::Dead);
+    }
+    destination_refusal(vpes, vpe, dst)
+}
+
+// Why the VPE can't give what it is asked for.
+pub fn source_refusal(
+    setup: &Setup,
+    vpe: u16,
+    target: &Target,
+    caps: &Caps,
+    vpes: &Vpes,
+) -> Option<Code>
+    requires { IsOurs vpes.now vpe }
+    ensures code { result ≡ first_code (source_tests target.now (source_lem setup.now (holding caps.now vpes.now no_side) vpe target.now)) }
+    ensures refusal { IfSome result (λ code. IsRefusal (code_number code)) }
+{
+    let Some(cap) = source(setup, vpe, target, caps, vpes) else {
+        return Some(Code::NoCap);
+    };
+    match (target, &cap.object) {
+        _ if cap.mark.is_some() => Some(Code::Revoking),
+        (Target::Serv { .. }, _) => None,
+        (_, Object::Serv { .. } | Object::Sess { .. }) => Some(Code::BadKind),
+        _ => None,
+    }
 }

@@ -46,7 +46,7 @@ pub fn obtain_resume(vpe: u16, caps: &mut Caps, vpes: &mut Vpes, park: &mut Park
 }
 
 // The capability is held at the selector of its VPE.
-fn install(key: Key, parent: Key, object: Object, sel: u8, caps: &mut Caps, vpes: &mut Vpes)
+pub fn install(key: Key, parent: Key, object: Object, sel: u8, caps: &mut Caps, vpes: &mut Vpes)
     requires ours { IsOurs vpes.old key.vpe }
     requires absent { cap_of caps.old.caps key ≡ None }
     requires spare { 0 < caps.old.spare }

@@ -1,22 +1,30 @@
-ghost use Rattle.std.specs.Prelude.{◌≡◌, ◌≢◌, false, ◌<◌, IsTrue};
-ghost use Rattle.sem_msg.specs.Lookups.{kernel_of, owner_of, place_owner};
+ghost use Rattle.std.specs.Prelude.{◌≡◌, ◌≢◌, [], ◌∷◌, ◌<◌, ◌≤◌, IsTrue, IfOk, IfSome, OnOk, Some, None};
+ghost use Rattle.sem_key.specs.CapList.{cap_of};
+ghost use Rattle.sem_key.specs.ObjectRanges.{object_kind, IsValidObject};
+ghost use Rattle.sem_msg.specs.Lookups.{is_declared_at as is_declared_at_lem, kernel_of, owner_of, place_owner};
+ghost use Rattle.sem_msg.specs.Message.{IsValidTarget};
 ghost use Rattle.sem_msg.specs.ParkedStates.{state_of};
-ghost use Rattle.sem_obtain.specs.Asking.{CanEnd};
+ghost use Rattle.sem_vpe.specs.VpeTable.{IsOurs};
+ghost use Rattle.sem_machine.specs.Sides.{no_side, own};
+ghost use Rattle.sem_machine.specs.Sound.{IsSoundObject};
+ghost use Rattle.sem_machine.specs.Upcalls.{source as source_lem};
+ghost use Rattle.sem_obtain.specs.Asking.{holding, CanEnd, IsFree, IsGivable};
 
+use crate::lookups::{own_cap, source};
 use crate::{
-    obtain_answer, obtain_call, obtain_refused, obtain_request, obtain_resume, orphan, unlink,
+    obtain_answer, obtain_call, obtain_refused, obtain_request, obtain_resume, obtain_upcall,
+    offer_call, open_call, orphan, unlink,
 };
 use sem_caps::Caps;
-use sem_key::{Key, Kind, Membership, Object, OutOfMemory, Place};
+use sem_key::{ADDRESSES, Key, Kind, Membership, Object, OutOfMemory, Place, RIGHTS, VPES, keyed};
 use sem_msg::{
-    Ask, Calls, Denies, Kills, Message, Offers, Outboxes, Outcome, Parked, Root, Seq, Services,
-    Setup, Slot, Target, VpeDecl, Vpes0,
+    Ask, Calls, Consent, Denies, Kills, Message, Offers, Outboxes, Outcome, Parked, Root, Seq,
+    Service, Services, Setup, Slot, Target, VpeDecl, Vpes0,
 };
 use sem_park::Park;
 use sem_vpe::Vpes;
 use std::alloc::Global;
 use std::marker::Model;
-use std::process::Abort;
 use std::test::Fail;
 
 // The VPE that asks, of kernel 0, and one beside it.
@@ -24,8 +32,25 @@ const ASKER: u16 = 2;
 
 const NEIGHBOUR: u16 = 3;
 
-// A VPE of kernel 1.
+// A VPE of kernel 1. The neighbour denies what it asks.
 const OTHER: u16 = 4;
+
+// The services of the asker and of the other VPE, each at this selector, and a name of none.
+const OWN_SERVICE: u8 = 8;
+
+const OTHER_SERVICE: u8 = 9;
+
+const NO_SERVICE: u8 = 10;
+
+const SERVICE: u8 = 0;
+
+// Where the memory of the neighbour stands.
+const MEMORY: u8 = 7;
+
+// Where a session of the asker stands in some tests, and a selector at which nothing stands.
+const SESSION: u8 = 20;
+
+const FREE: u8 = 30;
 
 // What kernel 0 keeps, as far as the calls are about it.
 #[derive(Debug, Drop)]
@@ -51,6 +76,101 @@ impl Model for Kept {
     ghost invariant = { λ s. (is_declared s.setup 2 ≡ true) × (kernel_of s.setup 2 ≡ 0) × AreOurs s.setup 0 s.vpes × HasBoxes s.setup s.outs };
 }
 
+// What happens in a test.
+#[derive(Clone, Copy, Debug)]
+enum Step {
+    // The asker calls `obtain` for what stands where the neighbour has its memory, or opens a session.
+    Obtain(u16),
+    Open(u8),
+    // It holds a session with the service of the other VPE, and asks by what stands at a selector.
+    Session,
+    Ask(u8),
+    // Its call is answered by kernel 1, or refused by it, and ends.
+    Answer,
+    Refuse,
+    Resume,
+    // It dies.
+    End,
+    // Kernel 1 requests a session with its service, and it is asked.
+    Request,
+    Serve,
+    // The neighbour is asked for its memory by the asker, or by the other VPE.
+    Give,
+    Deny,
+}
+
+// What is seen then: what the last step shows, the selector at which the asker wants a capability,
+// its waiting call, what it is asked, and the oldest message for kernel 1.
+#[derive(Clone, Copy, Debug, PartialEq, Eq)]
+struct Seen {
+    outcome: Outcome,
+    slot: Slot,
+    parked: Option<Parked>,
+    asked: Option<Ask>,
+    message: Option<Message>,
+}
+
+// What a test relies on.
+fn check(holds: bool) -> Result<(), Fail>
+    ensures { OnOk result (IsTrue holds) }
+{
+    if holds {
+        Ok(())
+    } else {
+        Err(Fail::new("the test cannot go on"))
+    }
+}
+
+// The key of a service.
+fn service(pe: u8, vpe: u16) -> Key
+    requires pe { pe < VPES }
+    requires vpe { vpe < VPES }
+    ensures { result ≡ record { pe = pe; vpe = vpe; kind = Kind.Serv; number = 0 } }
+{
+    Key {
+        pe,
+        vpe,
+        kind: Kind::Serv,
+        number: 0,
+    }
+}
+
+fn serves(name: u8) -> Object
+    ensures { result ≡ Object.Serv name }
+{
+    Object::Serv { name }
+}
+
+fn memory() -> Object
+    ensures { result ≡ Object.Mem 4096 512 3 }
+{
+    Object::Mem {
+        base: 4096,
+        len: 512,
+        rights: 3,
+    }
+}
+
+// A VPE with one root and no calls.
+fn declared(
+    alloc: Global,
+    vpe: u16,
+    pe: u8,
+    sel: u8,
+    object: Object,
+) -> Result<VpeDecl, OutOfMemory>
+    ensures { IfOk result (λ d. d ≡ record { vpe = vpe; pe = pe; roots = record { sel = sel; object = object } ∷ []; calls = [] }) }
+{
+    let mut roots = Seq::new(alloc);
+    roots.push(Root { sel, object })?;
+    Ok(VpeDecl {
+        vpe,
+        pe,
+        roots,
+        calls: Calls::new(alloc),
+    })
+}
+
 // Two kernels, the first with two VPEs and the second with one.
 fn two_kernels(alloc: Global) -> Result<Setup, Fail> {
     let mut owners = Membership::empty(2);
@@ -58,43 +178,57 @@ fn two_kernels(alloc: Global) -> Result<Setup, Fail> {
     owners.set(5, 0)?;
     owners.set(6, 1)?;
     let mut vpes = Vpes0::new(alloc);
-    vpes.push(VpeDecl {
-        vpe: ASKER,
-        pe: 1,
-        roots: Seq::new(alloc),
-        calls: Calls::new(alloc),
+    vpes.push(declared(alloc, ASKER, 1, SERVICE, serves(OWN_SERVICE))?)?;
+    vpes.push(declared(alloc, NEIGHBOUR, 5, MEMORY, memory())?)?;
+    vpes.push(declared(alloc, OTHER, 6, SERVICE, serves(OTHER_SERVICE))?)?;
+    let mut services = Services::new(alloc);
+    services.push(Service {
+        name: OWN_SERVICE,
+        key: service(1, ASKER),
     })?;
-    vpes.push(VpeDecl {
-        vpe: NEIGHBOUR,
-        pe: 5,
-        roots: Seq::new(alloc),
-        calls: Calls::new(alloc),
+    services.push(Service {
+        name: OTHER_SERVICE,
+        key: service(6, OTHER),
     })?;
-    vpes.push(VpeDecl {
-        vpe: OTHER,
-        pe: 6,
-        roots: Seq::new(alloc),
-        calls: Calls::new(alloc),
-    })?;
+    let mut denies = Denies::new(alloc);
+    denies.push((NEIGHBOUR, OTHER))?;
     Ok(Setup {
         version: 2,
         window: 4,
         kernels: 2,
         owners,
         vpes,
-        services: Services::new(alloc),
+        services,
         offers: Offers::new(alloc),
-        denies: Denies::new(alloc),
+        denies,
         kills: Kills::new(alloc),
     })
 }
 
-// What kernel 0 keeps at the start, without its roots.
+// Inserts a capability that is not held and has no parent.
+fn put(caps: &mut Caps, key: Key, sel: u8, object: Object) -> Result<(), Fail> {
+    caps.room(1, None)?;
+    if caps.get(key).is_some() {
+        return Err(Fail::new("the key is held"));
+    }
+    caps.insert(key, None, sel, object);
+    Ok(())
+}
+
+// The capabilities of kernel 0 at the start.
+fn roots(alloc: Global) -> Result<Caps, Fail> {
+    let mut caps = Caps::new(alloc)?;
+    put(&mut caps, service(1, ASKER), SERVICE, serves(OWN_SERVICE))?;
+    put(&mut caps, root(), MEMORY, memory())?;
+    Ok(caps)
+}
+
+// What kernel 0 keeps at the start.
 fn at_start(alloc: Global) -> Result<Kept, Fail> {
     let setup = two_kernels(alloc)?;
     let vpes = Vpes::new(alloc, &setup, 0)?;
     let outs = Outboxes::new(alloc, setup.kernels)?;
-    let caps = Caps::new(alloc)?;
+    let caps = roots(alloc)?;
     if !setup.is_declared(ASKER) {
         return Err(Fail::new("the VPE is declared"));
     }
@@ -110,11 +244,104 @@ fn at_start(alloc: Global) -> Result<Kept, Fail> {
     })
 }
 
-// The call `obtain` of the asker, for which there is room.
-fn obtain(kept: &mut Kept, dst: u8, other: u16, src: u8) -> Result<Outcome, OutOfMemory> {
+// The oldest message for kernel 1.
+fn front(kept: &Kept) -> Option<Message> {
+    if kept.setup.kernels < 2 {
+        return None;
+    }
+    kept.outs.front(1)
+}
+
+fn look(kept: &Kept, outcome: Outcome) -> Seen {
+    Seen {
+        outcome,
+        slot: kept.vpes.selector(ASKER, FREE),
+        parked: kept.park.state(ASKER),
+        asked: kept.vpes.front_ask(ASKER),
+        message: front(kept),
+    }
+}
+
+// The call `obtain` of the asker.
+fn obtain(kept: &mut Kept, other: u16) -> Result<Outcome, OutOfMemory> {
     kept.outs.room(1)?;
     let (vpes, park, outs) = (&mut kept.vpes, &mut kept.park, &mut kept.outs);
-    Ok(obtain_call(&kept.setup, 0, ASKER, dst, other, src, vpes, park, outs))
+    Ok(obtain_call(&kept.setup, 0, ASKER, FREE, other, MEMORY, vpes, park, outs))
+}
+
+// Its call `open`.
+fn open_session(kept: &mut Kept, name: u8) -> Result<Outcome, OutOfMemory> {
+    kept.outs.room(1)?;
+    let (vpes, park, outs) = (&mut kept.vpes, &mut kept.park, &mut kept.outs);
+    Ok(open_call(&kept.setup, 0, ASKER, FREE, name, vpes, park, outs))
+}
+
+// Whether the VPE of the key is declared, with its PE.
+fn is_named(setup: &Setup, key: Key) -> bool
+    ensures { result ≡ is_declared_at_lem setup.now key.pe key.vpe }
+{
+    match setup.decl(key.vpe) {
+        Some(decl) => decl.pe == key.pe,
+        None => false,
+    }
+}
+
+// Whether the object is a service or a session, with what a kernel keeps of it.
+fn is_sound(setup: &Setup, object: Object) -> bool
+    ensures { IsTrue result → IsSoundObject setup.now object }
+{
+    match object {
+        Object::Serv { .. } => true,
+        Object::Sess { service, ident } => {
+            service.kind == Kind::Serv && ident < VPES && is_named(setup, service)
+        }
+        _ => false,
+    }
+}
+
+// The same of what stands at a selector of the asker, if anything does.
+fn has_sound_object(setup: &Setup, caps: &Caps, vpes: &Vpes, sel: u8) -> bool
+    requires { IsOurs vpes.now ASKER }
+    ensures { IsTrue result → IfSome (own (holding caps.now vpes.now no_side) ASKER sel) (λ c. IsSoundObject setup.now c.object) }
+{
+    match own_cap(caps, vpes, ASKER, sel) {
+        Some(cap) => is_sound(setup, cap.object),
+        None => true,
+    }
+}
+
+// Its call `ask`.
+fn ask(kept: &mut Kept, session: u8, index: u8) -> Result<Outcome, Fail> {
+    kept.outs.room(1)?;
+    check(has_sound_object(&kept.setup, &kept.caps, &kept.vpes, session))?;
+    let (vpes, park, outs) = (&mut kept.vpes, &mut kept.park, &mut kept.outs);
+    let caps = &kept.caps;
+    Ok(offer_call(
+        &kept.setup,
+        0,
+        ASKER,
+        FREE,
+        session,
+        index,
+        caps,
+        vpes,
+        park,
+        outs,
+    ))
+}
+
+// The asker has a session with the service of the other VPE.
+fn hold_session(kept: &mut Kept) -> Result<(), Fail> {
+    let service = service(6, OTHER);
+    let ident = ASKER;
+    put(
+        &mut kept.caps,
+        session(),
+        SESSION,
+        Object::Sess { service, ident },
+    )?;
+    kept.vpes.fill(ASKER, SESSION, session());
+    Ok(())
 }
 
 // Whether the kernel that owns the key is one.
@@ -133,32 +360,45 @@ fn has_place_owner(setup: &Setup, place: Place) -> bool
 
 // Whether the VPE belongs to kernel 0.
 fn is_ours(setup: &Setup, vpe: u16) -> bool
-    ensures yes { IsTrue result → kernel_of setup.now vpe ≡ 0 }
-    ensures no { result ≡ false → kernel_of setup.now vpe ≢ 0 }
+    ensures { IsTrue result → kernel_of setup.now vpe ≡ 0 }
 {
     setup.kernel_of(vpe) == 0
 }
 
+// The same of the VPE of a key and of a place, and whether that of a place does not.
+fn is_local(setup: &Setup, key: Key) -> bool
+    ensures { IsTrue result → kernel_of setup.now key.vpe ≡ 0 }
+{
+    setup.kernel_of(key.vpe) == 0
+}
+
+fn is_local_place(setup: &Setup, place: Place) -> bool
+    ensures { IsTrue result → kernel_of setup.now place.vpe ≡ 0 }
+{
+    setup.kernel_of(place.vpe) == 0
+}
+
+fn is_remote(setup: &Setup, place: Place) -> bool
+    ensures { IsTrue result → kernel_of setup.now place.vpe ≢ 0 }
+{
+    setup.kernel_of(place.vpe) != 0
+}
+
 // An answer to the asker.
-fn answer(
-    rt: &impl Abort,
-    kept: &mut Kept,
-    parent: Key,
-    key: Key,
-    object: Object,
-) -> Result<(), OutOfMemory> {
+fn answer(kept: &mut Kept, parent: Key, key: Key, object: Object) -> Result<(), Fail> {
     kept.outs.room(1)?;
-    assert!(rt; has_owner(&kept.setup, parent));
-    assert!(rt; is_ours(&kept.setup, key.vpe));
+    check(has_owner(&kept.setup, parent))?;
+    check(is_local(&kept.setup, key))?;
     let (park, outs) = (&mut kept.park, &mut kept.outs);
     obtain_answer(&kept.setup, 0, parent, key, object, &kept.vpes, park, outs);
     Ok(())
 }
 
 // A refusal of what the asker asked.
-fn refuse(rt: &impl Abort, kept: &mut Kept, place: Place, code: u8) {
-    assert!(rt; is_ours(&kept.setup, place.vpe));
+fn refuse(kept: &mut Kept, place: Place, code: u8) -> Result<(), Fail> {
+    check(is_local_place(&kept.setup, place))?;
     obtain_refused(&kept.setup, 0, place, code, &mut kept.vpes, &mut kept.park);
+    Ok(())
 }
 
 // Whether what the asker would install is a key of its own that is not held.
@@ -174,66 +414,131 @@ fn can_end(caps: &Caps, park: &Park) -> bool
 }
 
 // The asker's call ends.
-fn resume(rt: &impl Abort, kept: &mut Kept) -> Result<Outcome, OutOfMemory> {
+fn resume(kept: &mut Kept) -> Result<Outcome, Fail> {
     kept.caps.room(1, None)?;
-    assert!(rt; can_end(&kept.caps, &kept.park));
+    check(can_end(&kept.caps, &kept.park))?;
     Ok(obtain_resume(ASKER, &mut kept.caps, &mut kept.vpes, &mut kept.park))
 }
 
-// A request for what stands at that selector of a VPE of kernel 0.
-fn request(
-    rt: &impl Abort,
-    kept: &mut Kept,
-    place: Place,
-    vpe: u16,
-    sel: u8,
-) -> Result<(), OutOfMemory> {
+// A request for a session with the service of the asker.
+fn request(kept: &mut Kept, place: Place) -> Result<(), Fail> {
     kept.outs.room(1)?;
-    assert!(rt; has_place_owner(&kept.setup, place));
-    assert!(rt; !is_ours(&kept.setup, place.vpe));
-    assert!(rt; is_ours(&kept.setup, vpe));
-    let target = Target::Sel { vpe, sel };
+    check(has_place_owner(&kept.setup, place))?;
+    check(is_remote(&kept.setup, place))?;
     let (vpes, outs) = (&mut kept.vpes, &mut kept.outs);
-    obtain_request(&kept.setup, 0, place, target, vpes, outs);
+    obtain_request(&kept.setup, 0, place, own_service(), vpes, outs);
     Ok(())
 }
 
-// The asker dies.
-fn end(kept: &mut Kept) {
-    kept.vpes.end(ASKER);
+// Whether no capability of that key is held.
+fn is_absent(caps: &Caps, key: Key) -> bool
+    ensures { IsTrue result → cap_of caps.now.caps key ≡ None }
+{
+    caps.get(key).is_none()
 }
 
-// What the asker is asked first.
-fn front_ask(kept: &Kept) -> Option<Ask> {
-    kept.vpes.front_ask(ASKER)
+// Whether no capability has the number of the place.
+fn is_free(caps: &Caps, park: &Park, place: Place) -> bool
+    ensures { IsTrue result → IsFree caps.now park.now place }
+{
+    is_absent(caps, keyed(place, Kind::Mem))
+        && is_absent(caps, keyed(place, Kind::Recv))
+        && is_absent(caps, keyed(place, Kind::Send))
+        && is_absent(caps, keyed(place, Kind::Serv))
+        && is_absent(caps, keyed(place, Kind::Sess))
 }
 
-// The parent is held.
-fn held(rt: &impl Abort, alloc: Global) -> Result<Caps, OutOfMemory> {
-    let mut caps = Caps::new(alloc)?;
-    caps.room(1, None)?;
-    assert!(rt; caps.get(parent()).is_none());
-    caps.insert(parent(), None, 7, memory());
-    Ok(caps)
+// Whether the target's numbers are in their ranges, and its key is that of a service.
+fn is_valid(target: Target) -> bool
+    ensures { IsTrue result → IsValidTarget target }
+{
+    match target {
+        Target::Sel { vpe, .. } => vpe < VPES,
+        Target::Serv { service } | Target::Offer { service, .. } => service.kind == Kind::Serv,
+    }
 }
 
-// The child is one of the parent, which is held.
-fn link(rt: &impl Abort, caps: &mut Caps, parent: Key, child: Key) -> Result<(), OutOfMemory> {
-    assert!(rt; caps.get(parent).is_some());
-    caps.room(0, Some(parent))?;
-    caps.link(parent, child);
-    Ok(())
+// Whether the object is a memory or a service with that kind of key.
+fn is_of_kind(object: Object, kind: Kind) -> bool
+    ensures { IsTrue result → IsValidObject object × (kind ≡ object_kind object) }
+{
+    match (object, kind) {
+        (Object::Mem { base, len, rights }, Kind::Mem) => {
+            rights <= RIGHTS && u64::from(base) + u64::from(len) <= ADDRESSES
+        }
+        (Object::Serv { .. }, Kind::Serv) => true,
+        _ => false,
+    }
 }
 
-// What the selector of the asker is.
-fn selector(kept: &Kept, sel: u8) -> Slot {
-    kept.vpes.selector(ASKER, sel)
+// Makes room for one more capability, and for a child of that one, which is held.
+fn room_below(caps: &mut Caps, parent: Key) -> Result<(), Fail>
+    ensures child_room { OnOk result (caps.new.child_room ≡ Some parent) }
+    ensures caps { caps.new.caps ≡ caps.old.caps }
+    ensures spare { OnOk result (1 ≤ caps.new.spare) }
+{
+    if caps.get(parent).is_none() {
+        return Err(Fail::new("the parent is held"));
+    }
+    Ok(caps.room(1, Some(parent))?)
 }
 
-// The oldest message that waits for that kernel.
-fn front(rt: &impl Abort, kept: &Kept, to: u32) -> Option<Message> {
-    assert!(rt; to < kept.setup.kernels);
-    kept.outs.front(to)
+// Makes room for what the VPE gives, if it has what it is asked for.
+fn make_room(
+    setup: &Setup,
+    vpe: u16,
+    target: &Target,
+    caps: &mut Caps,
+    vpes: &Vpes,
+) -> Result<(), Fail>
+    requires { IsOurs vpes.now vpe }
+    ensures source { OnOk result (IfSome (source_lem setup.now (holding caps.new vpes.now no_side) vpe target.now) (IsGivable caps.new)) }
+    ensures spare { OnOk result (1 ≤ caps.new.spare) }
+{
+    let Some(cap) = source(setup, vpe, target, caps, vpes) else {
+        return Ok(caps.room(1, None)?);
+    };
+    let key = cap.key;
+    check(is_of_kind(cap.object, key.kind))?;
+    room_below(caps, key)
+}
+
+// The VPE of kernel 0 is asked.
+fn upcall(kept: &mut Kept, vpe: u16, place: Place, target: Target) -> Result<Outcome, Fail> {
+    kept.outs.room(1)?;
+    check(is_ours(&kept.setup, vpe))?;
+    check(has_place_owner(&kept.setup, place))?;
+    check(is_valid(target))?;
+    make_room(&kept.setup, vpe, &target, &mut kept.caps, &kept.vpes)?;
+    check(is_free(&kept.caps, &kept.park, place))?;
+    let (caps, vpes, park) = (&mut kept.caps, &mut kept.vpes, &mut kept.park);
+    let outs = &mut kept.outs;
+    Ok(obtain_upcall(&kept.setup, 0, vpe, place, target, caps, vpes, park, outs))
+}
+
+// The key of the memory of the neighbour.
+fn root() -> Key {
+    Key {
+        pe: 5,
+        vpe: NEIGHBOUR,
+        kind: Kind::Mem,
+        number: 0,
+    }
+}
+
+fn own_service() -> Target
+    ensures { result ≡ Target.Serv (record { pe = 1; vpe = 2; kind = Kind.Serv; number = 0 }) }
+{
+    Target::Serv {
+        service: service(1, ASKER),
+    }
+}
+
+fn its_memory() -> Target {
+    Target::Sel {
+        vpe: NEIGHBOUR,
+        sel: MEMORY,
+    }
 }
 
 // A key of a memory of the VPE of kernel 1.
@@ -246,21 +551,12 @@ fn parent() -> Key {
     }
 }
 
-// The place of the asker's first number, and the key that stands there.
+// The place that the asker draws first, behind its root.
 fn place() -> Place {
     Place {
         pe: 1,
         vpe: ASKER,
-        number: 0,
-    }
-}
-
-fn child() -> Key {
-    Key {
-        pe: 1,
-        vpe: ASKER,
-        kind: Kind::Mem,
-        number: 0,
+        number: 1,
     }
 }
 
@@ -273,11 +569,12 @@ fn other_place() -> Place {
     }
 }
 
-fn memory() -> Object {
-    Object::Mem {
-        base: 4096,
-        len: 512,
-        rights: 3,
+fn session() -> Key {
+    Key {
+        pe: 1,
+        vpe: ASKER,
+        kind: Kind::Sess,
+        number: 70,
     }
 }
 
@@ -299,107 +596,321 @@ fn replied(number: u8) -> Outcome {
     }
 }
 
-#[test]
-fn a_vpe_obtains_from_another_kernel(rt: HostRuntime) -> Result<(), Fail> {
-    let mut kept = at_start(rt.alloc())?;
-    assert_eq!(rt; obtain(&mut kept, 9, OTHER, 7)?, no_reply());
-    assert_eq!(rt; selector(&kept, 9), Slot::Promised);
-    assert_eq!(rt;
-        kept.park.state(ASKER),
-        Some(Parked::ObtainWait { number: 0, sel: 9 })
-    );
-    let target = Target::Sel { vpe: OTHER, sel: 7 };
+// The answer to an ask, and what it granted.
+fn shown(asker: u16, consent: Consent, grant: Option<(Key, Key)>) -> Outcome {
+    Outcome {
+        asked: Some((asker, consent)),
+        grant,
+        ..no_reply()
+    }
+}
+
+// Nothing is shown, nothing waits, nothing is sent, and the selector is free.
+fn quiet() -> Seen {
+    Seen {
+        outcome: no_reply(),
+        slot: Slot::Free,
+        parked: None,
+        asked: None,
+        message: None,
+    }
+}
+
+// The asker waits, and the target is asked by a message.
+fn waiting(target: Target) -> Seen {
     let place = place();
-    assert_eq!(rt;
-        front(&rt, &kept, 1),
-        Some(Message::ObtainReq { place, target })
-    );
-    answer(&rt, &mut kept, parent(), child(), memory())?;
-    assert_eq!(rt; resume(&rt, &mut kept)?, replied(0));
-    assert_eq!(rt; selector(&kept, 9), Slot::Held(child()));
-    assert_eq!(rt; kept.park.state(ASKER), None);
+    Seen {
+        slot: Slot::Promised,
+        parked: Some(Parked::ObtainWait {
+            number: 1,
+            sel: FREE,
+        }),
+        message: Some(Message::ObtainReq { place, target }),
+        ..quiet()
+    }
+}
+
+// The step is done.
+fn act(kept: &mut Kept, step: Step) -> Result<Outcome, Fail> {
+    match step {
+        Step::Obtain(other) => return Ok(obtain(kept, other)?),
+        Step::Open(name) => return Ok(open_session(kept, name)?),
+        Step::Session => hold_session(kept)?,
+        Step::Ask(session) => return ask(kept, session, 3),
+        Step::Answer => answer(kept, parent(), keyed(place(), Kind::Mem), memory())?,
+        Step::Refuse => refuse(kept, place(), 5)?,
+        Step::Resume => return resume(kept),
+        Step::End => kept.vpes.end(ASKER),
+        Step::Request => request(kept, other_place())?,
+        Step::Serve => return upcall(kept, ASKER, other_place(), own_service()),
+        Step::Give => return upcall(kept, NEIGHBOUR, place(), its_memory()),
+        Step::Deny => return upcall(kept, NEIGHBOUR, other_place(), its_memory()),
+    }
+    Ok(no_reply())
+}
+
+// What is seen after these steps.
+fn after(alloc: Global, steps: &[Step]) -> Result<Seen, Fail> {
+    let mut kept = at_start(alloc)?;
+    let mut outcome = no_reply();
+    for step in steps {
+        outcome = act(&mut kept, *step)?;
+    }
+    Ok(look(&kept, outcome))
+}
+
+// A memory leads to a child, which is not held.
+fn linked(alloc: Global) -> Result<Caps, Fail> {
+    let mut caps = roots(alloc)?;
+    let held = root();
+    room_below(&mut caps, held)?;
+    caps.link(held, parent());
+    Ok(caps)
+}
+
+#[test]
+fn an_obtain_asks_another_vpe_by_a_message(rt: HostRuntime) -> Result<(), Fail> {
+    let seen = after(rt.alloc(), &[Step::Obtain(OTHER)])?;
+    let target = Target::Sel {
+        vpe: OTHER,
+        sel: MEMORY,
+    };
+    let wanted = Seen {
+        outcome: no_reply(),
+        ..waiting(target)
+    };
+    assert_eq!(rt; seen, wanted);
     Ok(())
 }
 
 #[test]
-fn a_refused_asker_is_answered_and_its_selector_is_free(rt: HostRuntime) -> Result<(), Fail> {
-    let mut kept = at_start(rt.alloc())?;
-    assert_eq!(rt; obtain(&mut kept, 9, NEIGHBOUR, 7)?, no_reply());
-    assert_eq!(rt; selector(&kept, 9), Slot::Promised);
-    refuse(&rt, &mut kept, place(), 5);
-    assert_eq!(rt; selector(&kept, 9), Slot::Free);
-    assert_eq!(rt; kept.park.state(ASKER), Some(Parked::Ready { code: 5 }));
+fn an_obtain_from_itself_is_refused(rt: HostRuntime) -> Result<(), Fail> {
+    let seen = after(rt.alloc(), &[Step::Obtain(ASKER)])?;
+    let wanted = Seen {
+        outcome: replied(15),
+        ..quiet()
+    };
+    assert_eq!(rt; seen, wanted);
     Ok(())
 }
 
 #[test]
-fn an_obtain_from_itself_or_from_nobody_is_refused(rt: HostRuntime) -> Result<(), Fail> {
-    let mut kept = at_start(rt.alloc())?;
-    assert_eq!(rt; obtain(&mut kept, 9, ASKER, 7)?, replied(15));
-    assert_eq!(rt; obtain(&mut kept, 9, 99, 7)?, replied(1));
-    assert_eq!(rt; selector(&kept, 9), Slot::Free);
+fn an_obtain_from_nobody_is_refused(rt: HostRuntime) -> Result<(), Fail> {
+    let seen = after(rt.alloc(), &[Step::Obtain(99)])?;
+    let wanted = Seen {
+        outcome: replied(1),
+        ..quiet()
+    };
+    assert_eq!(rt; seen, wanted);
     Ok(())
 }
 
 #[test]
 fn an_obtain_to_a_promised_selector_is_refused(rt: HostRuntime) -> Result<(), Fail> {
-    let mut kept = at_start(rt.alloc())?;
-    assert_eq!(rt; obtain(&mut kept, 9, OTHER, 7)?, no_reply());
-    assert_eq!(rt; obtain(&mut kept, 9, NEIGHBOUR, 7)?, replied(6));
+    let seen = after(rt.alloc(), &[Step::Obtain(OTHER), Step::Obtain(NEIGHBOUR)])?;
+    let target = Target::Sel {
+        vpe: OTHER,
+        sel: MEMORY,
+    };
+    let wanted = Seen {
+        outcome: replied(6),
+        ..waiting(target)
+    };
+    assert_eq!(rt; seen, wanted);
+    Ok(())
+}
+
+#[test]
+fn a_refused_asker_is_answered_and_its_selector_is_free(rt: HostRuntime) -> Result<(), Fail> {
+    let seen = after(rt.alloc(), &[Step::Obtain(NEIGHBOUR), Step::Refuse])?;
+    let parked = Some(Parked::Ready { code: 5 });
+    let wanted = Seen { parked, ..quiet() };
+    assert_eq!(rt; seen, wanted);
+    Ok(())
+}
+
+#[test]
+fn an_answered_obtain_is_installed(rt: HostRuntime) -> Result<(), Fail> {
+    let seen = after(
+        rt.alloc(),
+        &[Step::Obtain(NEIGHBOUR), Step::Answer, Step::Resume],
+    )?;
+    let slot = Slot::Held(keyed(place(), Kind::Mem));
+    let wanted = Seen {
+        slot,
+        outcome: replied(0),
+        ..quiet()
+    };
+    assert_eq!(rt; seen, wanted);
+    Ok(())
+}
+
+#[test]
+fn an_open_asks_the_vpe_of_the_service(rt: HostRuntime) -> Result<(), Fail> {
+    let seen = after(rt.alloc(), &[Step::Open(OTHER_SERVICE)])?;
+    let service = service(6, OTHER);
+    let wanted = Seen {
+        outcome: no_reply(),
+        ..waiting(Target::Serv { service })
+    };
+    assert_eq!(rt; seen, wanted);
+    Ok(())
+}
+
+#[test]
+fn an_open_of_no_service_is_refused(rt: HostRuntime) -> Result<(), Fail> {
+    let seen = after(rt.alloc(), &[Step::Open(NO_SERVICE)])?;
+    let wanted = Seen {
+        outcome: replied(10),
+        ..quiet()
+    };
+    assert_eq!(rt; seen, wanted);
+    Ok(())
+}
+
+#[test]
+fn an_open_of_its_own_service_is_refused(rt: HostRuntime) -> Result<(), Fail> {
+    let seen = after(rt.alloc(), &[Step::Open(OWN_SERVICE)])?;
+    let wanted = Seen {
+        outcome: replied(15),
+        ..quiet()
+    };
+    assert_eq!(rt; seen, wanted);
+    Ok(())
+}
+
+#[test]
+fn an_ask_is_for_an_offer_of_the_service_of_a_session(rt: HostRuntime) -> Result<(), Fail> {
+    let seen = after(rt.alloc(), &[Step::Session, Step::Ask(SESSION)])?;
+    let target = Target::Offer {
+        service: service(6, OTHER),
+        index: 3,
+    };
+    let wanted = Seen {
+        outcome: no_reply(),
+        ..waiting(target)
+    };
+    assert_eq!(rt; seen, wanted);
+    Ok(())
+}
+
+#[test]
+fn an_ask_without_a_session_is_refused(rt: HostRuntime) -> Result<(), Fail> {
+    let seen = after(rt.alloc(), &[Step::Ask(SERVICE)])?;
+    let wanted = Seen {
+        outcome: replied(8),
+        ..quiet()
+    };
+    assert_eq!(rt; seen, wanted);
+    Ok(())
+}
+
+#[test]
+fn a_child_is_installed_for_a_vpe_of_the_same_kernel(rt: HostRuntime) -> Result<(), Fail> {
+    let seen = after(rt.alloc(), &[Step::Obtain(NEIGHBOUR), Step::Give])?;
+    let child = keyed(place(), Kind::Mem);
+    let granted = Seen {
+        slot: Slot::Held(child),
+        parked: Some(Parked::Ready { code: 0 }),
+        outcome: shown(ASKER, Consent::Yes, Some((root(), child))),
+        ..quiet()
+    };
+    assert_eq!(rt; seen, granted);
+    Ok(())
+}
+
+#[test]
+fn a_child_is_sent_to_another_kernel(rt: HostRuntime) -> Result<(), Fail> {
+    let seen = after(rt.alloc(), &[Step::Serve])?;
+    let (parent, key) = (service(1, ASKER), keyed(other_place(), Kind::Sess));
+    let object = Object::Sess {
+        service: service(1, ASKER),
+        ident: OTHER,
+    };
+    let granted = Seen {
+        message: Some(Message::ObtainOk {
+            parent,
+            key,
+            object,
+        }),
+        outcome: shown(OTHER, Consent::Yes, Some((parent, key))),
+        ..quiet()
+    };
+    assert_eq!(rt; seen, granted);
+    Ok(())
+}
+
+#[test]
+fn an_ask_is_denied(rt: HostRuntime) -> Result<(), Fail> {
+    let seen = after(rt.alloc(), &[Step::Deny])?;
+    let place = other_place();
+    let denied = Seen {
+        message: Some(Message::ObtainNo { place, code: 5 }),
+        outcome: shown(OTHER, Consent::No, None),
+        ..quiet()
+    };
+    assert_eq!(rt; seen, denied);
+    Ok(())
+}
+
+#[test]
+fn an_ask_that_nobody_waits_for_is_dropped(rt: HostRuntime) -> Result<(), Fail> {
+    let seen = after(rt.alloc(), &[Step::Give])?;
+    let dropped = Seen {
+        outcome: shown(ASKER, Consent::Dropped, None),
+        ..quiet()
+    };
+    assert_eq!(rt; seen, dropped);
     Ok(())
 }
 
 #[test]
 fn a_request_asks_a_vpe_that_lives(rt: HostRuntime) -> Result<(), Fail> {
-    let mut kept = at_start(rt.alloc())?;
-    let place = other_place();
-    request(&rt, &mut kept, place, ASKER, 7)?;
-    let target = Target::Sel { vpe: ASKER, sel: 7 };
-    assert_eq!(rt; front_ask(&kept), Some(Ask::Obtain { place, target }));
-    assert_eq!(rt; front(&rt, &kept, 1), None);
+    let seen = after(rt.alloc(), &[Step::Request])?;
+    let asked = Some(Ask::Obtain {
+        place: other_place(),
+        target: own_service(),
+    });
+    let wanted = Seen { asked, ..quiet() };
+    assert_eq!(rt; seen, wanted);
     Ok(())
 }
 
 #[test]
 fn a_request_to_a_dead_vpe_is_refused(rt: HostRuntime) -> Result<(), Fail> {
-    let mut kept = at_start(rt.alloc())?;
-    end(&mut kept);
+    let seen = after(rt.alloc(), &[Step::End, Step::Request])?;
     let place = other_place();
-    request(&rt, &mut kept, place, ASKER, 7)?;
-    assert_eq!(rt;
-        front(&rt, &kept, 1),
-        Some(Message::ObtainNo { place, code: 2 })
-    );
+    let message = Some(Message::ObtainNo { place, code: 2 });
+    let wanted = Seen { message, ..quiet() };
+    assert_eq!(rt; seen, wanted);
     Ok(())
 }
 
 #[test]
 fn an_answer_to_a_dead_asker_leaves_an_orphan(rt: HostRuntime) -> Result<(), Fail> {
-    let mut kept = at_start(rt.alloc())?;
-    end(&mut kept);
-    answer(&rt, &mut kept, parent(), child(), memory())?;
-    let (parent, key) = (parent(), child());
-    assert_eq!(rt; front(&rt, &kept, 1), Some(Message::Orphan { parent, key }));
+    let seen = after(rt.alloc(), &[Step::End, Step::Answer])?;
+    let (parent, key) = (parent(), keyed(place(), Kind::Mem));
+    let message = Some(Message::Orphan { parent, key });
+    let wanted = Seen { message, ..quiet() };
+    assert_eq!(rt; seen, wanted);
     Ok(())
 }
 
 #[test]
 fn an_orphan_is_no_child(rt: HostRuntime) -> Result<(), Fail> {
-    let mut caps = held(&rt, rt.alloc())?;
-    link(&rt, &mut caps, parent(), child())?;
+    let mut caps = linked(rt.alloc())?;
     assert_eq!(rt; caps.child_links(), 1);
-    orphan(parent(), child(), &mut caps);
+    orphan(root(), parent(), &mut caps);
     assert_eq!(rt; caps.child_links(), 0);
     Ok(())
 }
 
 #[test]
 fn a_child_that_is_gone_is_no_child(rt: HostRuntime) -> Result<(), Fail> {
-    let mut caps = held(&rt, rt.alloc())?;
-    link(&rt, &mut caps, parent(), child())?;
-    unlink(child(), parent(), &mut caps);
+    let mut caps = linked(rt.alloc())?;
+    unlink(parent(), root(), &mut caps);
     assert_eq!(rt; caps.child_links(), 1);
-    unlink(parent(), child(), &mut caps);
+    unlink(root(), parent(), &mut caps);
     assert_eq!(rt; caps.child_links(), 0);
     Ok(())
 }

@@ -1,4 +1,4 @@
-use Rattle.std.proofs.Common.{◌≡◌, ℕ, [], ◌<◌, Bool, true, false, Option, Some, None, List, length, replicate, sym, ◌∙◌, ap, subst, refl, eq-eqb, rules, arith}
+use Rattle.std.proofs.Common.{◌≡◌, ℕ, ◌<◌, Bool, true, Option, Some, None, sym, ◌∙◌, ap, subst, eq-eqb, rules, arith}
 use Rattle.std.proofs.lemmas.Grind.{common_steps}
 use Rattle.std.specs.Prelude.{if◌then◌else◌}
 use Rattle.std.specs.Option.{IsSome, option_map_or, option_and_then}

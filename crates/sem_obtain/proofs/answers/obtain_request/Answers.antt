@@ -1,7 +1,0 @@
-use Rattle.std.proofs.Common.{arith}
-use Rattle.sem_obtain.proofs.Placed.{boxes-sent}
-use Rattle.sem_obtain.proofs.answers.obtain_request.Goals as goal
-
--- there are as many outboxes after a message was sent
-pub returns-else-alive-clause-boxes : goal.returns-else-alive-clause-boxes
-returns-else-alive-clause-boxes c = boxes-sent c.args.setup.now c.args.outs.now c.send.new.self c.place_owner.result _ (omega (arith, c.place_owner.ensures, c.requires.owner, c.requires.boxes)) c.send.ensures.boxes c.requires.boxes

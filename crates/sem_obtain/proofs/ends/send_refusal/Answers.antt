@@ -1,0 +1,7 @@
+use Rattle.std.proofs.Common.{arith}
+use Rattle.sem_obtain.proofs.Placed.{boxes-sent}
+use Rattle.sem_obtain.proofs.ends.send_refusal.Goals as goal
+
+-- there are as many outboxes after a message was sent
+pub returns-clause-boxes : goal.returns-clause-boxes
+returns-clause-boxes c = boxes-sent c.args.setup.now c.args.outs.now c.send.new.self c.place_owner.result _ (omega (arith, c.place_owner.ensures, c.requires.owner, c.requires.boxes)) c.send.ensures.boxes c.requires.boxes

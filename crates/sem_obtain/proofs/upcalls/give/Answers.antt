@@ -1,0 +1,30 @@
+use Rattle.std.proofs.Common.{◌≡◌, ap, ◌∙◌, rules, arith}
+use Rattle.sem_key.specs.CapList.{cap_of}
+use Rattle.sem_msg.specs.Lookups.{kernel_of}
+use Rattle.sem_msg.specs.ParkedStates.{state_of}
+use Rattle.sem_caps.specs.CapStore.{CapStore}
+use Rattle.sem_machine.specs.Upcalls.{given_here}
+use Rattle.sem_machine.specs.Stores.{with_outs}
+use Rattle.sem_obtain.specs.Asking.{giving, installing}
+use Rattle.sem_obtain.proofs.Placed.{boxes-sent}
+use Rattle.sem_obtain.proofs.Granting.{absent-linked, child-here}
+use Rattle.sem_obtain.proofs.upcalls.give.Goals as goal
+
+-- the key is not held after the link either
+pub give_here-requires-clause-absent : goal.give_here-requires-clause-absent
+give_here-requires-clause-absent c =
+    let here : kernel_of c.args.setup.now c.args.key.vpe ≡ c.args.kernel = search rules in
+    ap (λ (store : CapStore). cap_of store.caps c.args.key) c.link.ensures ∙ absent-linked c.args.caps.now.caps c.args.parent c.args.key c.args.key (c.requires.free here)
+
+-- the asker is of this kernel
+pub returns-then-kernel_of-kernel-clause-row : goal.returns-then-kernel_of-kernel-clause-row
+returns-then-kernel_of-kernel-clause-row c s =
+    let here : kernel_of c.args.setup.now c.args.key.vpe ≡ c.args.kernel = search rules in
+    let t = with_outs c.args.outs.now.boxes s in
+    c.give_here.ensures.row t
+    ∙ ap (λ (store : CapStore). given_here c.args.key c.args.parent c.args.object (state_of c.args.park.now c.args.key.vpe) (installing store c.args.vpes.now c.args.park.now t)) c.link.ensures
+    ∙ child-here c.args.setup.now c.args.kernel c.args.parent c.args.key c.args.object (giving c.args.caps.now c.args.vpes.now c.args.park.now c.args.outs.now s) here
+
+-- there are as many outboxes after a message was sent
+pub returns-else-kernel_of-kernel-clause-boxes : goal.returns-else-kernel_of-kernel-clause-boxes
+returns-else-kernel_of-kernel-clause-boxes c = boxes-sent c.args.setup.now c.args.outs.now c.send.new.self c.owner_of.result _ (omega (arith, c.owner_of.ensures, c.requires.owner, c.requires.boxes)) c.send.ensures.boxes c.requires.boxes

@@ -1,0 +1,120 @@
+ghost use Rattle.std.specs.Prelude.{◌≡◌, true, option_copied, find, IfSome};
+ghost use Rattle.std.specs.Option.{option_and_then, option_map};
+ghost use Rattle.sem_key.specs.KeyName.{key_eq};
+ghost use Rattle.sem_key.specs.Capability.{capability_of};
+ghost use Rattle.sem_key.specs.declared.key.Kind.TheVariants.{Serv as ServKind};
+ghost use Rattle.sem_msg.specs.Lookups.{is_declared, denies as denies_lem, offer_named as offer_named_lem, offered as offered_lem, service_named as service_named_lem};
+ghost use Rattle.sem_vpe.specs.VpeTable.{IsOurs};
+ghost use Rattle.sem_machine.specs.Sides.{no_side, own};
+ghost use Rattle.sem_machine.specs.Calls.{session_service as session_service_lem};
+ghost use Rattle.sem_machine.specs.Upcalls.{source as source_lem};
+ghost use Rattle.sem_obtain.specs.Asking.{holding};
+
+use sem_caps::Caps;
+use sem_key::{Cap, Key, Object, same_key};
+use sem_msg::{Service, Setup, Slot, Target};
+use sem_vpe::Vpes;
+
+// The service of that name.
+fn service_named(setup: &Setup, name: u8) -> Option<&Service>
+    ensures { option_copied result ≡ service_named_lem setup.now name }
+{
+    setup
+        .services
+        .as_slice()
+        .iter()
+        .find(|service| service.name == name)
+}
+
+// The key of the service of that name. Its VPE is declared.
+pub fn service_key(setup: &Setup, name: u8) -> Option<Key>
+    ensures key { result ≡ option_map (λ s. s.key) (service_named_lem setup.now name) }
+    ensures declared { IfSome result (λ k. (is_declared setup.now k.vpe ≡ true) × (k.kind ≡ ServKind)) }
+{
+    // So that the proof knows what a setup keeps.
+    let _ = &setup.services;
+    let service = service_named(setup, name)?;
+    Some(service.key)
+}
+
+// Whether the VPE refuses what the asker asks.
+pub fn denies(setup: &Setup, vpe: u16, asker: u16) -> bool
+    ensures { result ≡ denies_lem setup.now vpe asker }
+{
+    setup
+        .denies
+        .as_slice()
+        .iter()
+        .any(|pair| pair.0 == vpe && pair.1 == asker)
+}
+
+// The service of that key.
+fn service_of(setup: &Setup, key: Key) -> Option<&Service>
+    ensures { option_copied result ≡ find (λ s. key_eq s.key key) setup.now.services }
+{
+    setup
+        .services
+        .as_slice()
+        .iter()
+        .find(|service| same_key(&service.key, &key))
+}
+
+// The selector that a service of that name offers under an index.
+fn offer_named(setup: &Setup, index: u8, name: u8) -> Option<u8>
+    ensures { result ≡ offer_named_lem setup.now index name }
+{
+    let mut offers = setup.offers.as_slice().iter();
+    let offer = offers.find(|offer| offer.name == name && offer.index == index)?;
+    Some(offer.sel)
+}
+
+// The selector that the service of that key offers under an index.
+fn offered(setup: &Setup, key: Key, index: u8) -> Option<u8>
+    ensures { result ≡ offered_lem setup.now key index }
+{
+    let service = service_of(setup, key)?;
+    offer_named(setup, index, service.name)
+}
+
+// The capability at a selector of the VPE.
+pub fn own_cap<'a>(caps: &'a Caps, vpes: &Vpes, vpe: u16, sel: u8) -> Option<&'a Cap>
+    requires { IsOurs vpes.now vpe }
+    ensures { option_map capability_of (option_copied result) ≡ own (holding caps.now vpes.now no_side) vpe sel }
+{
+    match vpes.selector(vpe, sel) {
+        Slot::Held(key) => caps.get(key),
+        Slot::Free | Slot::Promised => None,
+    }
+}
+
+// The service of the session at a selector of the VPE.
+pub fn session_service(caps: &Caps, vpes: &Vpes, vpe: u16, sel: u8) -> Option<Key>
+    requires { IsOurs vpes.now vpe }
+    ensures { result ≡ option_and_then (λ c. session_service_lem c.object) (own (holding caps.now vpes.now no_side) vpe sel) }
+{
+    match own_cap(caps, vpes, vpe, sel)?.object {
+        Object::Sess { service, .. } => Some(service),
+        _ => None,
+    }
+}
+
+// What the VPE is asked for: what stands at its selector, its service, or what its service offers.
+pub fn source<'a>(
+    setup: &Setup,
+    vpe: u16,
+    target: &Target,
+    caps: &'a Caps,
+    vpes: &Vpes,
+) -> Option<&'a Cap>
+    requires { IsOurs vpes.now vpe }
+    ensures { option_map capability_of (option_copied result) ≡ source_lem setup.now (holding caps.now vpes.now no_side) vpe target.now }
+{
+    match target {
+        Target::Sel { sel, .. } => own_cap(caps, vpes, vpe, *sel),
+        Target::Serv { service } => caps.get(*service),
+        Target::Offer { service, index } => {
+            let sel = offered(setup, *service, *index)?;
+            own_cap(caps, vpes, vpe, sel)
+        }
+    }
+}

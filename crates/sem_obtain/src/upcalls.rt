@@ -1,0 +1,231 @@
+ghost use Rattle.std.specs.Prelude.{◌≡◌, ◌<◌, ◌≤◌, ◌+◌, None, IfSome};
+ghost use Rattle.sem_key.specs.declared.key.Kind.{Kind};
+ghost use Rattle.sem_key.specs.CapList.{cap_of};
+ghost use Rattle.sem_key.specs.Capability.{capability_of};
+ghost use Rattle.sem_key.specs.ObjectRanges.{object_kind, IsValidObject};
+ghost use Rattle.sem_key.specs.PlaceName.{keyed as keyed_lem};
+ghost use Rattle.sem_msg.specs.declared.message.Message.TheVariants.{ObtainOk};
+ghost use Rattle.sem_msg.specs.declared.state.Ask.TheVariants.{Obtain as ObtainAsk};
+ghost use Rattle.sem_msg.specs.Lookups.{kernel_of as kernel_of_lem, owner_of as owner_of_lem, place_owner as place_owner_lem};
+ghost use Rattle.sem_msg.specs.Message.{Fits, IsValidTarget};
+ghost use Rattle.sem_msg.specs.Outboxes.{HasBoxes};
+ghost use Rattle.sem_msg.specs.ParkedStates.{state_of};
+ghost use Rattle.sem_vpe.specs.VpeTable.{AreOurs, IsOurs};
+ghost use Rattle.sem_machine.specs.Asks.{is_obtain_wait};
+ghost use Rattle.sem_machine.specs.Sides.{Side, no_side};
+ghost use Rattle.sem_machine.specs.Upcalls.{ask_decided, given as given_lem, given_here, obtain_consent, source as source_lem};
+ghost use Rattle.sem_obtain.specs.Asking.{answer_to, is_unawaited as is_unawaited_lem, child_sent, giving, holding, installing, IsFree, IsGivable};
+
+use crate::ends::refuse_ask;
+use crate::lookups::{denies, source};
+use crate::outcomes::asked;
+use crate::refusals::source_refusal;
+use crate::resumes::install;
+use sem_caps::Caps;
+use sem_key::{Cap, Key, Object, Place, keyed};
+use sem_msg::{Code, Consent, Message, Outboxes, Outcome, Parked, Setup, Target};
+use sem_park::Park;
+use sem_vpe::Vpes;
+
+/// The VPE is asked for the capability at one of its selectors, for a session with its service, or
+/// for what its service offers. The child that it gives is installed, or, where the asker is of
+/// another kernel, sent there. It may deny, or have nothing to give. Where the asker is of this
+/// kernel and waits no more, nothing is done. Takes no memory.
+pub fn obtain_upcall(
+    setup: &Setup,
+    kernel: u32,
+    vpe: u16,
+    place: Place,
+    target: Target,
+    caps: &mut Caps,
+    vpes: &mut Vpes,
+    park: &mut Park,
+    outs: &mut Outboxes,
+) -> Outcome
+    requires home { AreOurs setup.now kernel vpes.old }
+    requires vpe { kernel_of_lem setup.now vpe ≡ kernel }
+    requires owner { place_owner_lem setup.now place < setup.now.kernels }
+    requires target { IsValidTarget target }
+    requires source { IfSome (source_lem setup.now (holding caps.old vpes.old no_side) vpe target) (IsGivable caps.old) }
+    requires free { IsFree caps.old park.old place }
+    requires spare { 0 < caps.old.spare }
+    requires boxes { HasBoxes setup.now outs.old }
+    requires messages { 0 < outs.old.spare }
+    ensures row { (s : Side) → record { side = giving caps.new vpes.new park.new outs.new s; outcome = result } ≡ ask_decided setup.now kernel vpe (ObtainAsk place target) (giving caps.old vpes.old park.old outs.old s) }
+    ensures ours { vpes.new.ours ≡ vpes.old.ours }
+    ensures spare { caps.old.spare ≤ caps.new.spare + 1 }
+    ensures boxes { HasBoxes setup.now outs.new }
+    ensures messages { outs.old.spare ≤ outs.new.spare + 1 }
+{
+    match answer(setup, kernel, vpe, place, park) {
+        Consent::Dropped => asked(place.vpe, Consent::Dropped, None),
+        Consent::No => {
+            refuse_ask(setup, kernel, place, Code::Refused, vpes, park, outs);
+            asked(place.vpe, Consent::No, None)
+        }
+        Consent::Yes => {
+            let grant = consent(setup, kernel, vpe, place, target, caps, vpes, park, outs);
+            asked(place.vpe, Consent::Yes, grant)
+        }
+    }
+}
+
+// What the VPE answers.
+fn answer(setup: &Setup, kernel: u32, vpe: u16, place: Place, park: &Park) -> Consent
+    ensures { result ≡ answer_to setup.now kernel vpe park.now place }
+{
+    if is_unawaited(setup, kernel, place, park) {
+        Consent::Dropped
+    } else if denies(setup, vpe, place.vpe) {
+        Consent::No
+    } else {
+        Consent::Yes
+    }
+}
+
+// Whether the asker is of this kernel and does not wait for the answer.
+fn is_unawaited(setup: &Setup, kernel: u32, place: Place, park: &Park) -> bool
+    ensures { result ≡ is_unawaited_lem setup.now kernel park.now place }
+{
+    setup.kernel_of(place.vpe) == kernel && !waits_with(place.number, &park.state(place.vpe))
+}
+
+// Whether an asking call with that number waits.
+fn waits_with(number: u32, state: &Option<Parked>) -> bool
+    ensures { result ≡ is_obtain_wait number state.now }
+{
+    match state {
+        Some(
+            Parked::ObtainWait {
+                number: waiting,
+                ..
+            },
+        ) => *waiting == number,
+        _ => false,
+    }
+}
+
+// The VPE gives what it is asked for, unless it can't. The parent and the child are returned.
+fn consent(
+    setup: &Setup,
+    kernel: u32,
+    vpe: u16,
+    place: Place,
+    target: Target,
+    caps: &mut Caps,
+    vpes: &mut Vpes,
+    park: &mut Park,
+    outs: &mut Outboxes,
+) -> Option<(Key, Key)>
+    requires home { AreOurs setup.now kernel vpes.old }
+    requires vpe { kernel_of_lem setup.now vpe ≡ kernel }
+    requires owner { place_owner_lem setup.now place < setup.now.kernels }
+    requires target { IsValidTarget target }
+    requires source { IfSome (source_lem setup.now (holding caps.old vpes.old no_side) vpe target) (IsGivable caps.old) }
+    requires free { (kind : Kind) → kernel_of_lem setup.now place.vpe ≡ kernel → cap_of caps.old.caps (keyed_lem place kind) ≡ None }
+    requires spare { 0 < caps.old.spare }
+    requires boxes { HasBoxes setup.now outs.old }
+    requires messages { 0 < outs.old.spare }
+    ensures row { (s : Side) → record { side = giving caps.new vpes.new park.new outs.new s; outcome = record { asked = None; grant = result; cut = None; reply = None } } ≡ obtain_consent setup.now kernel vpe place target (giving caps.old vpes.old park.old outs.old s) }
+    ensures ours { vpes.new.ours ≡ vpes.old.ours }
+    ensures spare { caps.old.spare ≤ caps.new.spare + 1 }
+    ensures boxes { HasBoxes setup.now outs.new }
+    ensures messages { outs.old.spare ≤ outs.new.spare + 1 }
+{
+    if let Some(code) = source_refusal(setup, vpe, &target, caps, vpes) {
+        refuse_ask(setup, kernel, place, code, vpes, park, outs);
+        return None;
+    }
+    let cap = source(setup, vpe, &target, caps, vpes)?;
+    let parent = cap.key;
+    let object = given(&target, place.vpe, cap);
+    let key = keyed(place, object.kind());
+    give(setup, kernel, parent, key, object, caps, vpes, park, outs);
+    Some((parent, key))
+}
+
+// The object of the child: that of the source, or a session of the asker with the service.
+fn given(target: &Target, asker: u16, cap: &Cap) -> Object
+    ensures { result ≡ given_lem target.now asker (capability_of cap.now) }
+{
+    match target {
+        Target::Serv { service } => Object::Sess {
+            service: *service,
+            ident: asker,
+        },
+        Target::Sel { .. } | Target::Offer { .. } => cap.object,
+    }
+}
+
+// The parent gets the child, which goes to the VPE of its key.
+fn give(
+    setup: &Setup,
+    kernel: u32,
+    parent: Key,
+    key: Key,
+    object: Object,
+    caps: &mut Caps,
+    vpes: &mut Vpes,
+    park: &mut Park,
+    outs: &mut Outboxes,
+)
+    requires home { AreOurs setup.now kernel vpes.old }
+    requires owner { owner_of_lem setup.now key < setup.now.kernels }
+    requires object { IsValidObject object }
+    requires kind { key.kind ≡ object_kind object }
+    requires child_room { caps.old.child_room ≡ Some parent }
+    requires free { kernel_of_lem setup.now key.vpe ≡ kernel → cap_of caps.old.caps key ≡ None }
+    requires spare { 0 < caps.old.spare }
+    requires boxes { HasBoxes setup.now outs.old }
+    requires messages { 0 < outs.old.spare }
+    ensures row { (s : Side) → giving caps.new vpes.new park.new outs.new s ≡ child_sent setup.now kernel parent key object (giving caps.old vpes.old park.old outs.old s) }
+    ensures ours { vpes.new.ours ≡ vpes.old.ours }
+    ensures spare { caps.old.spare ≤ caps.new.spare + 1 }
+    ensures boxes { HasBoxes setup.now outs.new }
+    ensures messages { outs.old.spare ≤ outs.new.spare + 1 }
+{
+    caps.link(parent, key);
+    if setup.kernel_of(key.vpe) == kernel {
+        give_here(parent, key, object, caps, vpes, park);
+    } else {
+        outs.send(setup.owner_of(key), granted(parent, key, object));
+    }
+}
+
+// The child is installed at the selector that the waiting call was promised, and the call will
+// succeed.
+fn give_here(
+    parent: Key,
+    key: Key,
+    object: Object,
+    caps: &mut Caps,
+    vpes: &mut Vpes,
+    park: &mut Park,
+)
+    requires ours { IsOurs vpes.old key.vpe }
+    requires absent { cap_of caps.old.caps key ≡ None }
+    requires spare { 0 < caps.old.spare }
+    ensures row { (s : Side) → installing caps.new vpes.new park.new s ≡ given_here key parent object (state_of park.old key.vpe) (installing caps.old vpes.old park.old s) }
+    ensures ours { vpes.new.ours ≡ vpes.old.ours }
+    ensures spare { caps.old.spare ≤ caps.new.spare + 1 }
+{
+    if let Some(Parked::ObtainWait { sel, .. }) = park.state(key.vpe) {
+        install(key, parent, object, sel, caps, vpes);
+        let code = Code::Ok.number();
+        park.park(key.vpe, Parked::Ready { code });
+    }
+}
+
+// The message that a child is granted.
+fn granted(parent: Key, key: Key, object: Object) -> Message
+    requires object { IsValidObject object }
+    requires kind { key.kind ≡ object_kind object }
+    ensures message { result ≡ ObtainOk parent key object }
+    ensures fits { Fits result }
+{
+    Message::ObtainOk {
+        parent,
+        key,
+        object,
+    }
+}
