@@ -1,0 +1,2 @@
+pub mod Delegating
+pub mod PendingStore

@@ -1,0 +1,101 @@
+ghost use Rattle.std.specs.Prelude.{◌≡◌, ◌<◌, ◌≤◌, ◌+◌, true, IfSome};
+ghost use Rattle.sem_key.specs.declared.limits.TheConstants.{VPES};
+ghost use Rattle.sem_key.specs.Capability.{capability_of};
+ghost use Rattle.sem_msg.specs.Lookups.{is_declared, kernel_of as kernel_of_lem};
+ghost use Rattle.sem_msg.specs.Message.{IsDelegable};
+ghost use Rattle.sem_msg.specs.Outboxes.{HasBoxes};
+ghost use Rattle.sem_vpe.specs.VpeTable.{AreOurs};
+ghost use Rattle.sem_machine.specs.Sides.{Side, no_side, own};
+ghost use Rattle.sem_machine.specs.Steps.{plain};
+ghost use Rattle.sem_machine.specs.Calls.{delegate_row, offer_made};
+ghost use Rattle.sem_machine.specs.Stores.{with_caps};
+ghost use Rattle.sem_delegate.specs.Delegating.{IsOfKind, offering, owning};
+
+use crate::messages::request;
+use crate::outcomes::{answered, nothing};
+use crate::refusals::{delegate_refusal, own_cap};
+use crate::setups::kernel_of;
+use sem_caps::Caps;
+use sem_key::Cap;
+use sem_msg::{Ask, Code, Outboxes, Outcome, Parked, Setup};
+use sem_park::Park;
+use sem_vpe::Vpes;
+
+/// The call `delegate`: the VPE offers the capability at its selector `src` to another one, to
+/// stand at the selector `dst` of that one. It waits, unless it is refused at once. Takes no
+/// memory.
+pub fn delegate_call(
+    setup: &Setup,
+    kernel: u32,
+    vpe: u16,
+    src: u8,
+    other: u16,
+    dst: u8,
+    caps: &Caps,
+    vpes: &mut Vpes,
+    park: &mut Park,
+    outs: &mut Outboxes,
+) -> Outcome
+    requires home { AreOurs setup.now kernel vpes.old }
+    requires vpe { kernel_of_lem setup.now vpe ≡ kernel }
+    requires declared { is_declared setup.now vpe ≡ true }
+    requires valid { IfSome (own (owning caps.now vpes.old no_side) vpe src) IsOfKind }
+    requires boxes { HasBoxes setup.now outs.old }
+    requires spare { 0 < outs.old.spare }
+    ensures row { (s : Side) → record { side = with_caps caps.now.caps (offering vpes.new park.new outs.new s); outcome = result } ≡ delegate_row setup.now kernel (with_caps caps.now.caps (offering vpes.old park.old outs.old s)) vpe src other dst }
+    ensures ours { vpes.new.ours ≡ vpes.old.ours }
+    ensures boxes { HasBoxes setup.now outs.new }
+    ensures spare { outs.old.spare ≤ outs.new.spare + 1 }
+{
+    // So that the proof knows that the VPE has a place.
+    let _ = kernel_of(setup, vpe);
+    if let Some(code) = delegate_refusal(setup, kernel, vpe, src, other, caps, vpes) {
+        return answered(code);
+    }
+    let Some(cap) = own_cap(caps, vpes, vpe, src) else {
+        return answered(Code::NoCap);
+    };
+    make_offer(setup, kernel, vpe, other, dst, cap, vpes, park, outs);
+    nothing()
+}
+
+// The VPE waits; the other VPE is asked to take the capability.
+fn make_offer(
+    setup: &Setup,
+    kernel: u32,
+    vpe: u16,
+    other: u16,
+    dst: u8,
+    cap: &Cap,
+    vpes: &mut Vpes,
+    park: &mut Park,
+    outs: &mut Outboxes,
+)
+    requires home { AreOurs setup.now kernel vpes.old }
+    requires vpe { vpe < VPES }
+    requires asked { is_declared setup.now other ≡ true }
+    requires valid { IsOfKind (capability_of cap.now) }
+    requires delegable { IsDelegable cap.now.key.kind }
+    requires boxes { HasBoxes setup.now outs.old }
+    requires spare { 0 < outs.old.spare }
+    ensures row { (s : Side) → plain (offering vpes.new park.new outs.new s) ≡ offer_made setup.now kernel vpe other dst (capability_of cap.now) (offering vpes.old park.old outs.old s) }
+    ensures ours { vpes.new.ours ≡ vpes.old.ours }
+    ensures boxes { HasBoxes setup.now outs.new }
+    ensures spare { outs.old.spare ≤ outs.new.spare + 1 }
+{
+    let (parent, object) = (cap.key, cap.object);
+    park.park(vpe, Parked::DelegateWait { parent });
+    let owner = kernel_of(setup, other);
+    if owner == kernel {
+        vpes.ask(
+            other,
+            Ask::Delegate {
+                parent,
+                object,
+                sel: dst,
+            },
+        );
+    } else {
+        outs.send(owner, request(parent, object, other, dst));
+    }
+}

@@ -1,0 +1,113 @@
+ghost use Rattle.std.specs.Prelude.{◌≡◌, ◌<◌, ◌≤◌, ◌+◌, ◌++◌, true, None};
+ghost use Rattle.sem_key.specs.CapList.{cap_of};
+ghost use Rattle.sem_msg.specs.declared.entry.Consent.TheVariants.{Yes};
+ghost use Rattle.sem_msg.specs.declared.state.Ask.TheVariants.{Delegate as DelegateAsk};
+ghost use Rattle.sem_msg.specs.Lookups.{is_declared, kernel_of as kernel_of_lem};
+ghost use Rattle.sem_msg.specs.ParkedStates.{state_of};
+ghost use Rattle.sem_vpe.specs.VpeTable.{IsOurs};
+ghost use Rattle.sem_machine.specs.Asks.{is_delegate_wait};
+ghost use Rattle.sem_machine.specs.Sides.{Side, no_side};
+ghost use Rattle.sem_machine.specs.Steps.{asking, first_code};
+ghost use Rattle.sem_machine.specs.Calls.{destination_tests};
+ghost use Rattle.sem_machine.specs.Stores.{with_vpes};
+ghost use Rattle.sem_machine.specs.Upcalls.{ask_decided, delegate_here, parent_tests};
+ghost use Rattle.sem_delegate.specs.Delegating.{HasRoomFor, IsNextFree, installing};
+
+use crate::answers::end_waiting;
+use crate::keys::draw_key;
+use crate::outcomes::asked;
+use crate::refusals::consent_refusal;
+use crate::setups::denies;
+use sem_caps::Caps;
+use sem_key::{Key, Object, same_key};
+use sem_msg::{Code, Consent, Outcome, Parked, Setup};
+use sem_park::Park;
+use sem_vpe::Vpes;
+
+// Whether a delegate of the capability waits.
+fn is_awaited(park: &Park, parent: Key) -> bool
+    ensures { result ≡ is_delegate_wait parent (state_of park.now parent.vpe) }
+{
+    let state = park.state(parent.vpe);
+    match &state {
+        Some(Parked::DelegateWait { parent: offered }) => same_key(offered, &parent),
+        _ => false,
+    }
+}
+
+// The VPE decides on an offer of a VPE of the same kernel.
+pub fn decide_here(
+    setup: &Setup,
+    kernel: u32,
+    vpe: u16,
+    parent: Key,
+    object: Object,
+    sel: u8,
+    caps: &mut Caps,
+    vpes: &mut Vpes,
+    park: &mut Park,
+) -> Outcome
+    requires here { kernel_of_lem setup.now parent.vpe ≡ kernel }
+    requires declared { is_declared setup.now vpe ≡ true }
+    requires ours { IsOurs vpes.old vpe }
+    requires free { IsNextFree setup.now caps.old vpes.old vpe }
+    requires child_room { HasRoomFor caps.old parent }
+    requires spare { 0 < caps.old.spare }
+    ensures row { (s : Side) → record { side = installing caps.new vpes.new park.new s; outcome = result } ≡ ask_decided setup.now kernel vpe (DelegateAsk parent object sel) (installing caps.old vpes.old park.old s) }
+    ensures ours { vpes.new.ours ≡ vpes.old.ours }
+    ensures spare { caps.old.spare ≤ caps.new.spare + 1 }
+{
+    let asker = parent.vpe;
+    if !is_awaited(park, parent) {
+        return asked(asker, Consent::Dropped);
+    }
+    if denies(setup, vpe, asker) {
+        end_waiting(parent, Code::Refused.number(), park);
+        return asked(asker, Consent::No);
+    }
+    if let Some(code) = consent_refusal(caps, vpes, vpe, parent, sel) {
+        end_waiting(parent, code.number(), park);
+        return asked(asker, Consent::Yes);
+    }
+    take_child(setup, vpe, parent, object, sel, caps, vpes, park)
+}
+
+// The VPE takes a child of the capability of a VPE of the same kernel, whose delegate succeeds.
+fn take_child(
+    setup: &Setup,
+    vpe: u16,
+    parent: Key,
+    object: Object,
+    sel: u8,
+    caps: &mut Caps,
+    vpes: &mut Vpes,
+    park: &mut Park,
+) -> Outcome
+    requires declared { is_declared setup.now vpe ≡ true }
+    requires ours { IsOurs vpes.old vpe }
+    requires tests { first_code (parent_tests (cap_of caps.old.caps parent) ++ destination_tests (with_vpes vpes.old.rows no_side) vpe sel) ≡ None }
+    requires free { IsNextFree setup.now caps.old vpes.old vpe }
+    requires child_room { HasRoomFor caps.old parent }
+    requires spare { 0 < caps.old.spare }
+    ensures row { (s : Side) → record { side = installing caps.new vpes.new park.new s; outcome = result } ≡ asking parent.vpe Yes (delegate_here setup.now vpe parent object sel (installing caps.old vpes.old park.old s)) }
+    ensures ours { vpes.new.ours ≡ vpes.old.ours }
+    ensures spare { caps.old.spare ≤ caps.new.spare + 1 }
+{
+    let key = draw_key(setup, vpe, parent.kind, vpes);
+    caps.link(parent, key);
+    caps.insert(key, Some(parent), sel, object);
+    vpes.fill(vpe, sel, key);
+    let asker = parent.vpe;
+    park.park(
+        asker,
+        Parked::Ready {
+            code: Code::Ok.number(),
+        },
+    );
+    Outcome {
+        asked: Some((asker, Consent::Yes)),
+        grant: Some((parent, key)),
+        cut: None,
+        reply: None,
+    }
+}

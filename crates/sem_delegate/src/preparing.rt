@@ -1,0 +1,96 @@
+ghost use Rattle.std.specs.Prelude.{◌≡◌, ◌≢◌, ◌<◌, ◌≤◌, ◌+◌, true, None};
+ghost use Rattle.sem_msg.specs.declared.state.Ask.TheVariants.{Delegate as DelegateAsk};
+ghost use Rattle.sem_msg.specs.Lookups.{is_declared, kernel_of as kernel_of_lem, owner_of as owner_of_lem};
+ghost use Rattle.sem_msg.specs.Outboxes.{HasBoxes};
+ghost use Rattle.sem_vpe.specs.VpeTable.{IsOurs};
+ghost use Rattle.sem_machine.specs.Sides.{Side, no_side};
+ghost use Rattle.sem_machine.specs.Steps.{first_code, plain};
+ghost use Rattle.sem_machine.specs.Calls.{destination_tests};
+ghost use Rattle.sem_machine.specs.Stores.{with_vpes};
+ghost use Rattle.sem_machine.specs.Upcalls.{ask_decided, delegate_prepared};
+ghost use Rattle.sem_delegate.specs.Delegating.{preparing};
+
+use crate::keys::draw_key;
+use crate::messages::{prepared, refusal, tell_owner};
+use crate::outcomes::asked;
+use crate::pendings::Pendings;
+use crate::refusals::destination_refusal;
+use crate::setups::denies;
+use sem_key::{Key, Object};
+use sem_msg::{Code, Consent, Outboxes, Outcome, Pending, Setup};
+use sem_vpe::Vpes;
+
+// The VPE decides on an offer of a VPE of another kernel.
+pub fn decide_elsewhere(
+    setup: &Setup,
+    kernel: u32,
+    vpe: u16,
+    parent: Key,
+    object: Object,
+    sel: u8,
+    vpes: &mut Vpes,
+    pendings: &mut Pendings,
+    outs: &mut Outboxes,
+) -> Outcome
+    requires other { kernel_of_lem setup.now parent.vpe ≢ kernel }
+    requires declared { is_declared setup.now vpe ≡ true }
+    requires ours { IsOurs vpes.old vpe }
+    requires owner { owner_of_lem setup.now parent < setup.now.kernels }
+    requires boxes { HasBoxes setup.now outs.old }
+    requires pendings_spare { 0 < pendings.old.spare }
+    requires spare { 0 < outs.old.spare }
+    ensures row { (s : Side) → record { side = preparing vpes.new pendings.new outs.new s; outcome = result } ≡ ask_decided setup.now kernel vpe (DelegateAsk parent object sel) (preparing vpes.old pendings.old outs.old s) }
+    ensures ours { vpes.new.ours ≡ vpes.old.ours }
+    ensures boxes { HasBoxes setup.now outs.new }
+    ensures pendings_spare { pendings.old.spare ≤ pendings.new.spare + 1 }
+    ensures spare { outs.old.spare ≤ outs.new.spare + 1 }
+{
+    let asker = parent.vpe;
+    if denies(setup, vpe, asker) {
+        tell_owner(setup, parent, refusal(parent, Code::Refused), outs);
+        return asked(asker, Consent::No);
+    }
+    if let Some(code) = destination_refusal(vpes, vpe, sel) {
+        tell_owner(setup, parent, refusal(parent, code), outs);
+        return asked(asker, Consent::Yes);
+    }
+    prepare(setup, vpe, parent, object, sel, vpes, pendings, outs);
+    asked(asker, Consent::Yes)
+}
+
+// The child is prepared, and the kernel of the delegator is told.
+fn prepare(
+    setup: &Setup,
+    vpe: u16,
+    parent: Key,
+    object: Object,
+    sel: u8,
+    vpes: &mut Vpes,
+    pendings: &mut Pendings,
+    outs: &mut Outboxes,
+)
+    requires declared { is_declared setup.now vpe ≡ true }
+    requires ours { IsOurs vpes.old vpe }
+    requires free { first_code (destination_tests (with_vpes vpes.old.rows no_side) vpe sel) ≡ None }
+    requires owner { owner_of_lem setup.now parent < setup.now.kernels }
+    requires boxes { HasBoxes setup.now outs.old }
+    requires pendings_spare { 0 < pendings.old.spare }
+    requires spare { 0 < outs.old.spare }
+    ensures row { (s : Side) → plain (preparing vpes.new pendings.new outs.new s) ≡ delegate_prepared setup.now vpe parent object sel (preparing vpes.old pendings.old outs.old s) }
+    ensures ours { vpes.new.ours ≡ vpes.old.ours }
+    ensures boxes { HasBoxes setup.now outs.new }
+    ensures pendings_spare { pendings.old.spare ≤ pendings.new.spare + 1 }
+    ensures spare { outs.old.spare ≤ outs.new.spare + 1 }
+{
+    let key = draw_key(setup, vpe, parent.kind, vpes);
+    let Ok(()) = vpes.promise(vpe, sel) else {
+        unreachable!()
+    };
+    pendings.add(Pending {
+        key,
+        parent,
+        object,
+        sel,
+    });
+    tell_owner(setup, parent, prepared(parent, key), outs);
+}

@@ -1,0 +1,106 @@
+ghost use Rattle.std.specs.Prelude.{◌≡◌, ◌++◌, IfSome, option_copied};
+ghost use Rattle.std.specs.Option.{option_map};
+ghost use Rattle.sem_key.specs.Capability.{capability_of};
+ghost use Rattle.sem_key.specs.CapList.{cap_of};
+ghost use Rattle.sem_msg.specs.Codes.{code_number};
+ghost use Rattle.sem_msg.specs.Message.{IsRefusal};
+ghost use Rattle.sem_vpe.specs.VpeTable.{AreOurs, IsOurs};
+ghost use Rattle.sem_machine.specs.Sides.{no_side, own};
+ghost use Rattle.sem_machine.specs.Steps.{first_code};
+ghost use Rattle.sem_machine.specs.Calls.{delegate_tests, destination_tests, is_local_dead as is_local_dead_lem};
+ghost use Rattle.sem_machine.specs.Stores.{with_vpes};
+ghost use Rattle.sem_machine.specs.Upcalls.{parent_tests};
+ghost use Rattle.sem_delegate.specs.Delegating.{owning};
+
+use sem_caps::Caps;
+use sem_key::{Cap, Key, NUMBERS, Object};
+use sem_msg::{Code, Setup, Slot};
+use sem_vpe::Vpes;
+
+// The capability at a selector of the VPE.
+pub fn own_cap<'a>(caps: &'a Caps, vpes: &Vpes, vpe: u16, sel: u8) -> Option<&'a Cap>
+    requires { IsOurs vpes.now vpe }
+    ensures { option_map capability_of (option_copied result) ≡ own (owning caps.now vpes.now no_side) vpe sel }
+{
+    match vpes.selector(vpe, sel) {
+        Slot::Held(key) => caps.get(key),
+        Slot::Free | Slot::Promised => None,
+    }
+}
+
+// Why the selector can't be the destination of a new capability.
+pub fn destination_refusal(vpes: &Vpes, vpe: u16, sel: u8) -> Option<Code>
+    requires { IsOurs vpes.now vpe }
+    ensures code { result ≡ first_code (destination_tests (with_vpes vpes.now.rows no_side) vpe sel) }
+    ensures refusal { IfSome result (λ code. IsRefusal (code_number code)) }
+{
+    match vpes.selector(vpe, sel) {
+        Slot::Held(_) | Slot::Promised => Some(Code::Occupied),
+        Slot::Free if vpes.next_number(vpe) >= NUMBERS => Some(Code::Numbers),
+        Slot::Free => None,
+    }
+}
+
+// Whether the VPE belongs to this kernel and is dead.
+fn is_local_dead(setup: &Setup, kernel: u32, vpes: &Vpes, vpe: u16) -> bool
+    requires { AreOurs setup.now kernel vpes.now }
+    ensures { result ≡ is_local_dead_lem setup.now kernel (with_vpes vpes.now.rows no_side) vpe }
+{
+    setup.kernel_of(vpe) == kernel && !vpes.alive(vpe)
+}
+
+// Why the VPE can't delegate what stands at `src` to the other one.
+pub fn delegate_refusal(
+    setup: &Setup,
+    kernel: u32,
+    vpe: u16,
+    src: u8,
+    other: u16,
+    caps: &Caps,
+    vpes: &Vpes,
+) -> Option<Code>
+    requires home { AreOurs setup.now kernel vpes.now }
+    requires ours { IsOurs vpes.now vpe }
+    ensures { result ≡ first_code (delegate_tests setup.now kernel (owning caps.now vpes.now no_side) vpe src other) }
+{
+    if other == vpe {
+        return Some(Code::SelfExchange);
+    }
+    if !setup.is_declared(other) {
+        return Some(Code::NoVpe);
+    }
+    let Some(cap) = own_cap(caps, vpes, vpe, src) else {
+        return Some(Code::NoCap);
+    };
+    if cap.mark.is_some() {
+        return Some(Code::Revoking);
+    }
+    match cap.object {
+        Object::Serv { .. } | Object::Sess { .. } => Some(Code::BadKind),
+        _ if is_local_dead(setup, kernel, vpes, other) => Some(Code::Dead),
+        _ => None,
+    }
+}
+
+// Why the capability of that key can't get a child.
+pub fn parent_refusal(caps: &Caps, parent: Key) -> Option<Code>
+    ensures { result ≡ first_code (parent_tests (cap_of caps.now.caps parent)) }
+{
+    match caps.get(parent) {
+        None => Some(Code::Gone),
+        Some(cap) if cap.mark.is_some() => Some(Code::Revoking),
+        Some(_) => None,
+    }
+}
+
+// Why the capability of that key can't get a child at the selector of the VPE.
+pub fn consent_refusal(caps: &Caps, vpes: &Vpes, vpe: u16, parent: Key, sel: u8) -> Option<Code>
+    requires { IsOurs vpes.now vpe }
+    ensures { result ≡ first_code (parent_tests (cap_of caps.now.caps parent) ++ destination_tests (with_vpes vpes.now.rows no_side) vpe sel) }
+{
+    match caps.get(parent) {
+        None => Some(Code::Gone),
+        Some(held) if held.mark.is_none() => destination_refusal(vpes, vpe, sel),
+        Some(_) => Some(Code::Revoking),
+    }
+}

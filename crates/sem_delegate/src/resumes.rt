@@ -1,0 +1,91 @@
+ghost use Rattle.std.specs.Prelude.{◌≡◌, ◌<◌, ◌≤◌, ◌+◌};
+ghost use Rattle.sem_key.specs.declared.limits.TheConstants.{VPES};
+ghost use Rattle.sem_key.specs.CapList.{cap_of};
+ghost use Rattle.sem_msg.specs.Lookups.{owner_of as owner_of_lem};
+ghost use Rattle.sem_msg.specs.Outboxes.{HasBoxes};
+ghost use Rattle.sem_msg.specs.ParkedStates.{state_of};
+ghost use Rattle.sem_msg.specs.Setup.{Setup as SetupOf};
+ghost use Rattle.sem_machine.specs.Sides.{Side};
+ghost use Rattle.sem_machine.specs.Resumes.{delegate_resumed, resume_row};
+ghost use Rattle.sem_machine.specs.Stores.{with_caps, with_outs, with_parks};
+ghost use Rattle.sem_delegate.specs.Delegating.{CanGrant, HasCode, HasRoomFor, resuming};
+
+use crate::messages::{acknowledgement, tell_owner};
+use crate::outcomes::answered;
+use crate::refusals::parent_refusal;
+use sem_caps::Caps;
+use sem_key::Key;
+use sem_msg::{Code, Outboxes, Outcome, Parked, Setup};
+use sem_park::Park;
+
+/// A delegate whose answer is there ends: the child is granted, or, where the parent is being
+/// revoked or is gone, it is refused; the kernel of the child is told. Takes no memory.
+#[tactic(auto, unfolding(sem_machine::specs::Resumes::resume_row))]
+pub fn delegate_resume(
+    setup: &Setup,
+    vpe: u16,
+    caps: &mut Caps,
+    park: &mut Park,
+    outs: &mut Outboxes,
+) -> Outcome
+    requires vpe { vpe < VPES }
+    requires waits { CanGrant setup.now caps.old (state_of park.old vpe) }
+    requires boxes { HasBoxes setup.now outs.old }
+    requires spare { 0 < outs.old.spare }
+    ensures row { (s : Side) → record { side = resuming caps.new park.new outs.new s; outcome = result } ≡ resume_row setup.now (resuming caps.old park.old outs.old s) vpe }
+    ensures boxes { HasBoxes setup.now outs.new }
+    ensures caps_spare { caps.new.spare ≡ caps.old.spare }
+    ensures spare { outs.old.spare ≤ outs.new.spare + 1 }
+{
+    let state = park.state(vpe);
+    park.clear(vpe);
+    let Some(Parked::DelegateReady { parent, key }) = &state else {
+        unreachable!()
+    };
+    grant(setup, *parent, *key, caps, outs)
+}
+
+// The child is granted, unless the parent is marked or not held; its kernel is told.
+fn grant(setup: &Setup, parent: Key, key: Key, caps: &mut Caps, outs: &mut Outboxes) -> Outcome
+    requires room { HasRoomFor caps.old parent }
+    requires owner { owner_of_lem setup.now key < setup.now.kernels }
+    requires boxes { HasBoxes setup.now outs.old }
+    requires spare { 0 < outs.old.spare }
+    ensures row { (s : Side) → record { side = with_caps caps.new.caps (with_outs outs.new.boxes s); outcome = result } ≡ delegate_resumed setup.now parent key (cap_of caps.old.caps parent) (with_caps caps.old.caps (with_outs outs.old.boxes s)) }
+    ensures boxes { HasBoxes setup.now outs.new }
+    ensures caps_spare { caps.new.spare ≡ caps.old.spare }
+    ensures spare { outs.old.spare ≤ outs.new.spare + 1 }
+{
+    if let Some(code) = parent_refusal(caps, parent) {
+        tell_owner(setup, key, acknowledgement(key, false), outs);
+        return answered(code);
+    }
+    caps.link(parent, key);
+    tell_owner(setup, key, acknowledgement(key, true), outs);
+    Outcome {
+        asked: None,
+        grant: Some((parent, key)),
+        cut: None,
+        reply: Some(Code::Ok.number()),
+    }
+}
+
+/// A call that has its code ends, and is answered with it. Takes no memory.
+#[tactic(auto, unfolding(sem_machine::specs::Resumes::resume_row))]
+pub fn ready_resume(vpe: u16, park: &mut Park) -> Outcome
+    requires vpe { vpe < VPES }
+    requires ready { HasCode (state_of park.old vpe) }
+    ensures row { (T : SetupOf) (s : Side) → record { side = with_parks park.new s; outcome = result } ≡ resume_row T (with_parks park.old s) vpe }
+{
+    let state = park.state(vpe);
+    park.clear(vpe);
+    let Some(Parked::Ready { code }) = &state else {
+        unreachable!()
+    };
+    Outcome {
+        asked: None,
+        grant: None,
+        cut: None,
+        reply: Some(*code),
+    }
+}

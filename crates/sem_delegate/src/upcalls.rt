@@ -1,0 +1,60 @@
+ghost use Rattle.std.specs.Prelude.{◌≡◌, ◌<◌, ◌≤◌, ◌+◌, true};
+ghost use Rattle.sem_msg.specs.declared.state.Ask.TheVariants.{Delegate as DelegateAsk};
+ghost use Rattle.sem_msg.specs.Lookups.{is_declared, kernel_of as kernel_of_lem, owner_of as owner_of_lem};
+ghost use Rattle.sem_msg.specs.Outboxes.{HasBoxes};
+ghost use Rattle.sem_vpe.specs.VpeTable.{AreOurs};
+ghost use Rattle.sem_machine.specs.Sides.{Side};
+ghost use Rattle.sem_machine.specs.Upcalls.{ask_decided};
+ghost use Rattle.sem_delegate.specs.Delegating.{HasRoomFor, IsNextFree, consenting};
+
+use crate::consents::decide_here;
+use crate::pendings::Pendings;
+use crate::preparing::decide_elsewhere;
+use sem_caps::Caps;
+use sem_key::{Key, Object};
+use sem_msg::{Outboxes, Outcome, Setup};
+use sem_park::Park;
+use sem_vpe::Vpes;
+
+/// A VPE was asked to take a child of the capability `parent`, to stand at the selector `sel`, and
+/// the ask was just taken out. It is dropped where nobody waits for it any more; it is denied as
+/// the setup says; else, unless a test refuses it, the child is installed at once, or, where the
+/// delegator is a VPE of another kernel, it is prepared and that kernel is told. Takes no memory.
+pub fn delegate_upcall(
+    setup: &Setup,
+    kernel: u32,
+    vpe: u16,
+    parent: Key,
+    object: Object,
+    sel: u8,
+    caps: &mut Caps,
+    vpes: &mut Vpes,
+    park: &mut Park,
+    pendings: &mut Pendings,
+    outs: &mut Outboxes,
+) -> Outcome
+    requires home { AreOurs setup.now kernel vpes.old }
+    requires vpe { kernel_of_lem setup.now vpe ≡ kernel }
+    requires declared { is_declared setup.now vpe ≡ true }
+    requires owner { owner_of_lem setup.now parent < setup.now.kernels }
+    requires free { IsNextFree setup.now caps.old vpes.old vpe }
+    requires child_room { HasRoomFor caps.old parent }
+    requires boxes { HasBoxes setup.now outs.old }
+    requires caps_spare { 0 < caps.old.spare }
+    requires pendings_spare { 0 < pendings.old.spare }
+    requires spare { 0 < outs.old.spare }
+    ensures row { (s : Side) → record { side = consenting caps.new vpes.new park.new pendings.new outs.new s; outcome = result } ≡ ask_decided setup.now kernel vpe (DelegateAsk parent object sel) (consenting caps.old vpes.old park.old pendings.old outs.old s) }
+    ensures ours { vpes.new.ours ≡ vpes.old.ours }
+    ensures boxes { HasBoxes setup.now outs.new }
+    ensures caps_spare { caps.old.spare ≤ caps.new.spare + 1 }
+    ensures pendings_spare { pendings.old.spare ≤ pendings.new.spare + 1 }
+    ensures spare { outs.old.spare ≤ outs.new.spare + 1 }
+{
+    if setup.kernel_of(parent.vpe) == kernel {
+        decide_here(setup, kernel, vpe, parent, object, sel, caps, vpes, park)
+    } else {
+        decide_elsewhere(
+            setup, kernel, vpe, parent, object, sel, vpes, pendings, outs,
+        )
+    }
+}
