@@ -78,15 +78,11 @@ first_bad : {Y : Type 0} (h : ℕ → Option Y) (n k : ℕ) (y : Y) → first_so
 unfolding numbers
 first_bad h n k y none bad = let e : 0 + n ≡ n = omega arith in rw (range-append 0 n (suc k), e) (first_append h (range_with_len 0 n) _ none ∙ (rw bad refl))
 
-no_lines : lines_of [] ≡ []
-unfolding lines_of
-no_lines = refl
-
 -- nothing is read yet
-pub read_nothing : (bytes : List ℕ) (r : Reader) → r.stage ≡ Start → Tells 1 1 [] r.tables → HasSizes r.tables → IsReadUpTo bytes bytes 0 r
-read_nothing bytes r at told sizes = record {
+pub read_nothing : (bytes : List ℕ) (lines : List (List ℕ)) (r : Reader) → lines ≡ lines_of bytes → length lines ≤ length bytes → r.stage ≡ Start → Tells 1 1 [] r.tables → HasSizes r.tables → IsReadUpTo bytes lines 0 r
+read_nothing bytes lines r are few at told sizes = record {
   before = [];
-  lines = refl;
+  lines = sym are;
   count = refl;
   fine = rw numbers-none refl;
   read = subst (λ (s : Stage). IsReadTo s [] r.tables) (sym at) (refl, told);
@@ -95,12 +91,13 @@ read_nothing bytes r at told sizes = record {
 }
 
 -- one line more is read
-pub read_more : (bytes rest line behind : List ℕ) (number : ℕ) (old new : Reader) → (so_far : IsReadUpTo bytes rest number old) → lines_of rest ≡ line ∷ lines_of behind → length behind < length rest → (line_fault (significant so_far.before) line ≡ None) × IsRead (with_line (significant so_far.before) line) new → HasSizes new.tables → IsReadUpTo bytes behind (number + 1) new
-read_more bytes rest line behind number old new so_far next shorter accepted sizes =
-    let whole : lines_of bytes ≡ so_far.before ++ line ∷ lines_of behind = so_far.lines ∙ ap (λ (ls : List (List ℕ)). so_far.before ++ ls) next in
+pub read_more : (bytes line : List ℕ) (left behind : List (List ℕ)) (number : ℕ) (old new : Reader) → (so_far : IsReadUpTo bytes left number old) → left ≡ line ∷ behind → (line_fault (significant so_far.before) line ≡ None) × IsRead (with_line (significant so_far.before) line) new → HasSizes new.tables → IsReadUpTo bytes behind (number + 1) new
+read_more bytes line left behind number old new so_far next accepted sizes =
+    let whole : lines_of bytes ≡ so_far.before ++ line ∷ behind = so_far.lines ∙ ap (λ (ls : List (List ℕ)). so_far.before ++ ls) next in
     let count : number ≡ length so_far.before = so_far.count in
-    let room : number + length rest ≤ length bytes = so_far.room in
-    let here : fault_at (lines_of bytes) number ≡ None = rw count (fault_here (lines_of bytes) so_far.before (lines_of behind) line whole ∙ (rw accepted.0 refl)) in
+    let room : number + length left ≤ length bytes = so_far.room in
+    let one : length left ≡ suc (length behind) = ap length next in
+    let here : fault_at (lines_of bytes) number ≡ None = rw count (fault_here (lines_of bytes) so_far.before behind line whole ∙ (rw accepted.0 refl)) in
     record {
       before = so_far.before ++ line ∷ [];
       lines = whole ∙ (rw append_assoc refl);
@@ -112,35 +109,27 @@ read_more bytes rest line behind number old new so_far next shorter accepted siz
     }
 
 -- a line is refused
-pub read_refused : (bytes rest line behind : List ℕ) (number : ℕ) (old : Reader) (cause : Cause) → (so_far : IsReadUpTo bytes rest number old) → lines_of rest ≡ line ∷ lines_of behind → line_fault (significant so_far.before) line ≡ Some cause → first_fault (lines_of bytes) ≡ Some (record { line = number + 1; cause = cause })
+pub read_refused : (bytes line : List ℕ) (left behind : List (List ℕ)) (number : ℕ) (old : Reader) (cause : Cause) → (so_far : IsReadUpTo bytes left number old) → left ≡ line ∷ behind → line_fault (significant so_far.before) line ≡ Some cause → first_fault (lines_of bytes) ≡ Some (record { line = number + 1; cause = cause })
 unfolding first_fault
-read_refused bytes rest line behind number old cause so_far next fault =
-    let whole : lines_of bytes ≡ so_far.before ++ line ∷ lines_of behind = so_far.lines ∙ ap (λ (ls : List (List ℕ)). so_far.before ++ ls) next in
+read_refused bytes line left behind number old cause so_far next fault =
+    let whole : lines_of bytes ≡ so_far.before ++ line ∷ behind = so_far.lines ∙ ap (λ (ls : List (List ℕ)). so_far.before ++ ls) next in
     let count : number ≡ length so_far.before = so_far.count in
-    let here : fault_at (lines_of bytes) number ≡ Some (record { line = number + 1; cause = cause }) = rw count (fault_here (lines_of bytes) so_far.before (lines_of behind) line whole ∙ (rw fault refl)) in
-    let long : length (lines_of bytes) ≡ number + suc (length (lines_of behind)) = ap length whole ∙ (length-append so_far.before (line ∷ lines_of behind) ∙ (rw count refl)) in
-    rw long (first_bad (fault_at (lines_of bytes)) number (length (lines_of behind)) _ so_far.fine here)
+    let here : fault_at (lines_of bytes) number ≡ Some (record { line = number + 1; cause = cause }) = rw count (fault_here (lines_of bytes) so_far.before behind line whole ∙ (rw fault refl)) in
+    let long : length (lines_of bytes) ≡ number + suc (length behind) = ap length whole ∙ (length-append so_far.before (line ∷ behind) ∙ (rw count refl)) in
+    rw long (first_bad (fault_at (lines_of bytes)) number (length behind) _ so_far.fine here)
 
 -- a line is not read
-pub read_stops : (bytes rest line behind : List ℕ) (number : ℕ) (old : Reader) (e : LineError) → (so_far : IsReadUpTo bytes rest number old) → lines_of rest ≡ line ∷ lines_of behind → Stops (λ cause. line_fault (significant so_far.before) line ≡ Some cause) e → IsWhy (first_fault (lines_of bytes)) (at_line (number + 1) e)
-read_stops bytes rest line behind number old (LineRefused cause) so_far next stops = read_refused bytes rest line behind number old cause so_far next stops
-read_stops bytes rest line behind number old LineMemory so_far next stops = tt
+pub read_stops : (bytes line : List ℕ) (left behind : List (List ℕ)) (number : ℕ) (old : Reader) (e : LineError) → (so_far : IsReadUpTo bytes left number old) → left ≡ line ∷ behind → Stops (λ cause. line_fault (significant so_far.before) line ≡ Some cause) e → IsWhy (first_fault (lines_of bytes)) (at_line (number + 1) e)
+read_stops bytes line left behind number old (LineRefused cause) so_far next stops = read_refused bytes line left behind number old cause so_far next stops
+read_stops bytes line left behind number old LineMemory so_far next stops = tt
 
 -- all lines are read
-pub read_all : (bytes rest : List ℕ) (number : ℕ) (r : Reader) → IsReadUpTo bytes rest number r → lines_of rest ≡ [] → IsReadUpTo bytes [] number r
-read_all bytes rest number r so_far none = record {
-  before = so_far.before;
-  lines = so_far.lines ∙ ap (λ (ls : List (List ℕ)). so_far.before ++ ls) (none ∙ sym no_lines);
-  count = so_far.count;
-  fine = so_far.fine;
-  read = so_far.read;
-  sizes = so_far.sizes;
-  room = let room : number + length rest ≤ length bytes = so_far.room in omega arith;
-}
+pub read_all : (bytes : List ℕ) (left : List (List ℕ)) (number : ℕ) (r : Reader) → IsReadUpTo bytes left number r → left ≡ [] → IsReadUpTo bytes [] number r
+read_all bytes left number r so_far none = subst (λ (ls : List (List ℕ)). IsReadUpTo bytes ls number r) none so_far
 
 -- what is read at the end are the lines of the text
 pub all_lines : (bytes : List ℕ) (number : ℕ) (r : Reader) → (whole : IsReadUpTo bytes [] number r) → whole.before ≡ lines_of bytes
-all_lines bytes number r whole = sym (whole.lines ∙ (rw (no_lines, append-nil) refl))
+all_lines bytes number r whole = sym (whole.lines ∙ (rw append-nil refl))
 
 pub no_first_fault : (bytes : List ℕ) (number : ℕ) (r : Reader) → IsReadUpTo bytes [] number r → first_fault (lines_of bytes) ≡ None
 unfolding first_fault

@@ -60,15 +60,15 @@ Stops refuses Memory = Unit {0}
 abbrev pub RefusesLine : List ℕ → Reader → Cause → Type 0
 RefusesLine line old cause = (lines : List (List (List ℕ))) → IsRead lines old → line_fault lines line ≡ Some cause
 
--- The lines of a text are read up to a rest of it, and nothing was wrong with any of them.
-pub record IsReadUpTo (bytes rest : List ℕ) (number : ℕ) (r : Reader) : Type 0 where
+-- The lines of a text are read but for those that are left, and nothing was wrong with any of them.
+pub record IsReadUpTo (bytes : List ℕ) (left : List (List ℕ)) (number : ℕ) (r : Reader) : Type 0 where
   pub before : List (List ℕ)
-  pub lines : lines_of bytes ≡ before ++ lines_of rest
+  pub lines : lines_of bytes ≡ before ++ left
   pub count : number ≡ length before
   pub fine : first_some (fault_at (lines_of bytes)) (numbers number) ≡ None
   pub read : IsRead (significant before) r
   pub sizes : HasSizes r.tables
-  pub room : number + length rest ≤ length bytes
+  pub room : number + length left ≤ length bytes
 
 -- why a text is not read, where that line of it is not
 abbrev pub at_line : ℕ → LineError → TraceError

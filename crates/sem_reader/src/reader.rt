@@ -12,7 +12,7 @@ use crate::tables::Tables;
 use sem_key::{Membership, OutOfMemory};
 use sem_msg::Setup;
 use sem_trace::{
-    Cause, Declaration, TraceError, TraceFault, bytes_fault, is_significant, next_line,
+    Cause, Declaration, Lines, TraceError, TraceFault, bytes_fault, is_significant,
     read_declaration, read_first, read_second, read_third,
 };
 use std::alloc::Global;
@@ -195,13 +195,12 @@ fn read_lines(alloc: Global, bytes: &[u8]) -> Result<(Reader, u64), TraceError>
         stage: Stage::Start,
         tables,
     };
-    let mut rest = bytes;
+    let mut lines = Lines::of(bytes);
     let mut number = 0;
-    while let Some((line, behind)) = next_line(rest) {
+    while let Some(line) = lines.next_line() {
         number += 1;
-        match reader.line(line) {
-            Ok(()) => rest = behind,
-            Err(e) => return Err(at_line(number, e)),
+        if let Err(e) = reader.line(line) {
+            return Err(at_line(number, e));
         }
     }
     Ok((reader, number))

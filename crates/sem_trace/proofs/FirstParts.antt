@@ -1,5 +1,5 @@
 -- The first line of a text and the first word of a line.
-use Rattle.std.proofs.Common.{◌≡◌, ◌≢◌, ℕ, ◌+◌, ◌<◌, ◌≤◌, ◌==◌, ◌⊎◌, inl, inr, Bool, true, false, cond, not, true≢false, min, List, [], ◌∷◌, length, take, drop, Some, None, ap, sym, ◌∙◌, refl, arith, drop-drop, one-add, length-drop, length-take, eq-eqb, eqb-true}
+use Rattle.std.proofs.Common.{◌≡◌, ◌≢◌, ℕ, suc, ◌+◌, ◌<◌, ◌≤◌, ◌==◌, ◌⊎◌, inl, inr, Bool, true, false, cond, not, true≢false, min, List, [], ◌∷◌, length, take, drop, Some, None, ap, sym, ◌∙◌, refl, arith, drop-drop, one-add, length-drop, length-take, eq-eqb, eqb-true}
 use Rattle.std.specs.List.{filter, slice_split, prefix_len, position_or_len}
 use Rattle.std.proofs.lemmas.Bool.{cases_Bool}
 use Rattle.std.proofs.lemmas.List.{drop_all, drop_min, drop-take}
@@ -161,3 +161,22 @@ no_line (b ∷ bs) found =
     let n : ℕ = 0 + position_or_len (λ b. b == 10) (b ∷ bs) in
     let none : 0 ≡ length (b ∷ bs) = eqb-true _ _ (none_cond (0 == length (b ∷ bs)) (n, min (n + 1) (length (b ∷ bs))) found) in
     absurd (omega arith)
+
+-- a first line that goes on
+goes_on : (x n : ℕ) (part : List ℕ) (parts : List (List ℕ)) → length (without_empty_last (part ∷ parts)) ≤ n → length (without_empty_last ((x ∷ part) ∷ parts)) ≤ suc n
+goes_on x n [] [] few = omega arith
+goes_on x n (b ∷ bs) [] few = omega arith
+goes_on x n [] (p ∷ parts) few = omega arith
+goes_on x n (b ∷ bs) (p ∷ parts) few = omega arith
+
+-- there are no more lines than bytes
+pub few_lines : (text : List ℕ) → length (lines_of text) ≤ length text
+unfolding lines_of
+few_lines [] = omega arith
+few_lines (x ∷ xs) =
+    let split = split_is_cons (λ b. b == 10) xs in
+    let rest : length (without_empty_last (slice_split (λ b. b == 10) xs)) ≤ length xs = few_lines xs in
+    elim (cases_Bool (x == 10)) [
+      | inl ends ↦ rw (ends, split.2) (let r : length (without_empty_last (split.0 ∷ split.1)) ≤ length xs = rw split.2 at rest in omega arith)
+      | inr other ↦ rw (other, split.2) (goes_on x (length xs) split.0 split.1 (rw split.2 at rest))
+    ]

@@ -1,13 +1,47 @@
-// The words of a line, read from the left.
-ghost use Rattle.std.specs.Prelude.{◌≡◌, [], ◌∷◌, MatchOption, IfOk, IfErr};
+// The lines of a text and the words of a line, read from the front.
+ghost use Rattle.std.specs.Prelude.{◌≡◌, ◌≤◌, [], ◌∷◌, length, MatchOption, IfOk, IfErr};
 ghost use Rattle.std.specs.Result.{result_err};
-ghost use Rattle.sem_trace.specs.TextLines.{words_of};
+ghost use Rattle.sem_trace.specs.TextLines.{lines_of, words_of};
 ghost use Rattle.sem_trace.specs.Forms.{Place, form_fault};
 ghost use Rattle.sem_trace.specs.Places.{Fails};
 
 use crate::fault::Cause;
-use crate::text_lines::next_word;
+use crate::text_lines::{next_line, next_word};
 use std::marker::Model;
+
+/// The lines of a text that are not read yet, each without its line end.
+#[derive(Drop)]
+pub struct Lines<'a> {
+    text: &'a [u8],
+}
+
+impl<'a> Model for Lines<'a> {
+    ghost use Rattle.std.specs.Prelude.{ℕ, List};
+    ghost use Rattle.sem_trace.specs.TextLines.{lines_of};
+
+    ghost Value = { List (List ℕ) };
+
+    ghost view = { λ l. lines_of l.text.now };
+}
+
+impl<'a> Lines<'a> {
+    /// All lines of the text. They are no more than its bytes.
+    pub fn of(text: &'a [u8]) -> Lines<'a>
+        ensures lines { result ≡ lines_of text.now }
+        ensures few { length result ≤ length text.now }
+    {
+        Lines { text }
+    }
+
+    /// The next line; none where no line is left. Takes no memory.
+    pub fn next_line(&mut self) -> Option<&'a [u8]>
+        ensures { MatchOption result ((self.old ≡ []) × (self.new ≡ [])) (λ line. self.old ≡ line.now ∷ self.new) }
+    {
+        let (line, rest) = next_line(self.text)?;
+        self.text = rest;
+        Some(line)
+    }
+}
 
 /// The words of a line that are not read yet. Which these are after an error is not said.
 #[derive(Drop)]

@@ -15,7 +15,7 @@ mod push;
 mod tests;
 mod text_lines;
 
-pub use cursor::Words;
+pub use cursor::{Lines, Words};
 pub use declaration::Declaration;
 pub use declarations::{read_declaration, read_first, read_second, read_third};
 pub use fault::{Cause, TraceError, TraceFault};
@@ -26,4 +26,4 @@ pub use push::{
     push_call, push_key, push_key_word, push_named, push_number_word, push_numbers, push_object,
     push_place, push_place_word, push_word,
 };
-pub use text_lines::{bytes_fault, is_significant, next_line, next_word};
+pub use text_lines::{bytes_fault, is_significant, next_word};

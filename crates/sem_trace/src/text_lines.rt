@@ -1,5 +1,5 @@
 // Lines of a text and words of a line, from the front.
-ghost use Rattle.std.specs.Prelude.{◌≡◌, ◌<◌, length, MatchOption, IfSome, ◌∷◌, []};
+ghost use Rattle.std.specs.Prelude.{◌≡◌, MatchOption, ◌∷◌, []};
 ghost use Rattle.std.specs.List.{list_all};
 ghost use Rattle.sem_trace.specs.TextLines.{lines_of, words_of, is_text as is_text_lem, is_significant as is_significant_lem, bytes_fault as bytes_fault_lem};
 
@@ -11,8 +11,7 @@ const LINE_BYTES: usize = 255;
 
 /// The first line, and the text behind it; none where there is no text. Takes no memory.
 pub fn next_line(text: &[u8]) -> Option<(&[u8], &[u8])>
-    ensures lines { MatchOption result (lines_of text.now ≡ []) (λ p. lines_of text.now ≡ p.0.now ∷ lines_of p.1.now) }
-    ensures shorter { IfSome result (λ p. length p.1.now < length text.now) }
+    ensures { MatchOption result (lines_of text.now ≡ []) (λ p. lines_of text.now ≡ p.0.now ∷ lines_of p.1.now) }
 {
     let (end, next) = line_at(text, 0)?;
     let (line, _) = text.split_at(end);
