@@ -12,8 +12,8 @@ use std::test::Fail;
 struct Version {
     // Lines behind which each line below may stand.
     base: &'static str,
-    // How many lines these are.
-    lines: u64,
+    // The number of such a line.
+    line: u64,
     // The first number that is no PE and no VPE.
     nodes: &'static str,
 }
@@ -21,12 +21,12 @@ struct Version {
 const VERSIONS: [Version; 2] = [
     Version {
         base: "semper trace 1\nkernels 2\npe 0 0\npe 1 1\nvpe 0 0\nroot 0 0 mem 0 4096 7\nservice 0 2 9\n",
-        lines: 7,
+        line: 8,
         nodes: "64",
     },
     Version {
         base: "semper trace 2\nkernels 2\nwindow 1\npe 0 0\npe 1 1\nvpe 0 0\nroot 0 0 mem 0 4096 7\nservice 0 2 9\n",
-        lines: 8,
+        line: 9,
         nodes: "128",
     },
 ];
@@ -93,7 +93,7 @@ fn refuses_line(
     cause: Cause,
 ) -> Result<(), Fail> {
     let text = text_with(alloc, version, line)?;
-    refuses(rt, alloc, &text, version.lines + 1, cause)
+    refuses(rt, alloc, &text, version.line, cause)
 }
 
 // The line with another word at a place.
