@@ -1,4 +1,4 @@
-ghost use Rattle.std.specs.Prelude.{◌≡◌, ◌≢◌, [], ◌∷◌, ◌<◌, ◌≤◌, IsTrue, IfOk, IfSome, OnOk, Some, None};
+ghost use Rattle.std.specs.Prelude.{◌≡◌, ◌≢◌, [], ◌∷◌, ◌<◌, ◌≤◌, IsTrue, IfOk, IfSome, IsSomeAnd, OnOk, Some, None};
 ghost use Rattle.sem_key.specs.CapList.{cap_of};
 ghost use Rattle.sem_key.specs.ObjectRanges.{object_kind, IsValidObject};
 ghost use Rattle.sem_msg.specs.Lookups.{is_declared_at as is_declared_at_lem, kernel_of, owner_of, place_owner};
@@ -16,7 +16,9 @@ use crate::{
     offer_call, open_call, orphan, unlink,
 };
 use sem_caps::Caps;
-use sem_key::{ADDRESSES, Key, Kind, Membership, Object, OutOfMemory, Place, RIGHTS, VPES, keyed};
+use sem_key::{
+    ADDRESSES, Key, Kind, Membership, NUMBERS, Object, OutOfMemory, Place, RIGHTS, VPES, keyed,
+};
 use sem_msg::{
     Ask, Calls, Consent, Denies, Kills, Message, Offers, Outboxes, Outcome, Parked, Root, Seq,
     Service, Services, Setup, Slot, Target, VpeDecl, Vpes0,
@@ -82,15 +84,22 @@ enum Step {
     // The asker calls `obtain` for what stands where the neighbour has its memory, or opens a session.
     Obtain(u16),
     Open(u8),
-    // It holds a session with the service of the other VPE, and asks by what stands at a selector.
+    // It holds a session with the service of the other VPE, which a job marks, and asks by what
+    // stands at a selector.
     Session,
+    Mark,
     Ask(u8),
-    // Its call is answered by kernel 1, or refused by it, and ends.
+    // Its call is answered by kernel 1, or refused by it, and what it was answered is revoked; it
+    // ends.
     Answer,
     Refuse,
+    Cancel,
     Resume,
-    // It dies.
+    // It has no numbers left.
+    Draw,
+    // It dies, or the neighbour.
     End,
+    EndNeighbour,
     // Kernel 1 requests a session with its service, and it is asked.
     Request,
     Serve,
@@ -341,6 +350,50 @@ fn hold_session(kept: &mut Kept) -> Result<(), Fail> {
         Object::Sess { service, ident },
     )?;
     kept.vpes.fill(ASKER, SESSION, session());
+    Ok(())
+}
+
+// A job marks the session.
+fn mark_session(kept: &mut Kept) -> Result<(), Fail> {
+    let key = session();
+    check(is_unmarked(&kept.caps, key))?;
+    kept.caps.mark(key, 0);
+    Ok(())
+}
+
+// Whether the capability of the key is held, and no job marks it.
+fn is_unmarked(caps: &Caps, key: Key) -> bool
+    ensures { IsTrue result → IsSomeAnd (cap_of caps.now.caps key) (λ c. c.mark ≡ None) }
+{
+    match caps.get(key) {
+        Some(cap) => cap.mark.is_none(),
+        None => false,
+    }
+}
+
+// What the asker's call would install is revoked.
+fn cancel(kept: &mut Kept) {
+    if let Some(sel) = kept.park.cancel(keyed(place(), Kind::Mem)) {
+        kept.vpes.release(ASKER, sel);
+    }
+}
+
+// The asker draws a number.
+fn draw(kept: &mut Kept) -> bool {
+    kept.vpes.draw(ASKER).is_ok()
+}
+
+// It draws all that it can.
+fn draw_all(kept: &mut Kept) {
+    for _ in 0..NUMBERS {
+        let _ = draw(kept);
+    }
+}
+
+// The neighbour dies.
+fn end_neighbour(kept: &mut Kept) -> Result<(), Fail> {
+    check(is_ours(&kept.setup, NEIGHBOUR))?;
+    kept.vpes.end(NEIGHBOUR);
     Ok(())
 }
 
@@ -636,11 +689,15 @@ fn act(kept: &mut Kept, step: Step) -> Result<Outcome, Fail> {
         Step::Obtain(other) => return Ok(obtain(kept, other)?),
         Step::Open(name) => return Ok(open_session(kept, name)?),
         Step::Session => hold_session(kept)?,
+        Step::Mark => mark_session(kept)?,
         Step::Ask(session) => return ask(kept, session, 3),
         Step::Answer => answer(kept, parent(), keyed(place(), Kind::Mem), memory())?,
         Step::Refuse => refuse(kept, place(), 5)?,
+        Step::Cancel => cancel(kept),
+        Step::Draw => draw_all(kept),
         Step::Resume => return resume(kept),
         Step::End => kept.vpes.end(ASKER),
+        Step::EndNeighbour => end_neighbour(kept)?,
         Step::Request => request(kept, other_place())?,
         Step::Serve => return upcall(kept, ASKER, other_place(), own_service()),
         Step::Give => return upcall(kept, NEIGHBOUR, place(), its_memory()),
@@ -715,6 +772,61 @@ fn an_obtain_to_a_promised_selector_is_refused(rt: HostRuntime) -> Result<(), Fa
     let wanted = Seen {
         outcome: replied(6),
         ..waiting(target)
+    };
+    assert_eq!(rt; seen, wanted);
+    Ok(())
+}
+
+#[test]
+fn an_obtain_to_a_held_selector_is_refused(rt: HostRuntime) -> Result<(), Fail> {
+    let steps = [Step::Obtain(NEIGHBOUR), Step::Give, Step::Obtain(OTHER)];
+    let seen = after(rt.alloc(), &steps)?;
+    let wanted = Seen {
+        slot: Slot::Held(keyed(place(), Kind::Mem)),
+        parked: Some(Parked::Ready { code: 0 }),
+        outcome: replied(6),
+        ..quiet()
+    };
+    assert_eq!(rt; seen, wanted);
+    Ok(())
+}
+
+#[test]
+fn an_obtain_from_a_dead_vpe_of_the_kernel_is_refused(rt: HostRuntime) -> Result<(), Fail> {
+    let seen = after(rt.alloc(), &[Step::EndNeighbour, Step::Obtain(NEIGHBOUR)])?;
+    let wanted = Seen {
+        outcome: replied(2),
+        ..quiet()
+    };
+    assert_eq!(rt; seen, wanted);
+    Ok(())
+}
+
+#[test]
+fn an_obtain_without_a_number_left_is_refused(rt: HostRuntime) -> Result<(), Fail> {
+    let seen = after(rt.alloc(), &[Step::Draw, Step::Obtain(OTHER)])?;
+    let wanted = Seen {
+        outcome: replied(7),
+        ..quiet()
+    };
+    assert_eq!(rt; seen, wanted);
+    Ok(())
+}
+
+#[test]
+fn an_obtain_of_what_was_revoked_is_gone(rt: HostRuntime) -> Result<(), Fail> {
+    let seen = after(
+        rt.alloc(),
+        &[
+            Step::Obtain(NEIGHBOUR),
+            Step::Answer,
+            Step::Cancel,
+            Step::Resume,
+        ],
+    )?;
+    let wanted = Seen {
+        outcome: replied(11),
+        ..quiet()
     };
     assert_eq!(rt; seen, wanted);
     Ok(())
@@ -799,6 +911,28 @@ fn an_ask_without_a_session_is_refused(rt: HostRuntime) -> Result<(), Fail> {
     let seen = after(rt.alloc(), &[Step::Ask(SERVICE)])?;
     let wanted = Seen {
         outcome: replied(8),
+        ..quiet()
+    };
+    assert_eq!(rt; seen, wanted);
+    Ok(())
+}
+
+#[test]
+fn an_ask_by_what_is_not_held_is_refused(rt: HostRuntime) -> Result<(), Fail> {
+    let seen = after(rt.alloc(), &[Step::Ask(SESSION)])?;
+    let wanted = Seen {
+        outcome: replied(3),
+        ..quiet()
+    };
+    assert_eq!(rt; seen, wanted);
+    Ok(())
+}
+
+#[test]
+fn an_ask_by_a_session_that_is_being_revoked_is_refused(rt: HostRuntime) -> Result<(), Fail> {
+    let seen = after(rt.alloc(), &[Step::Session, Step::Mark, Step::Ask(SESSION)])?;
+    let wanted = Seen {
+        outcome: replied(4),
         ..quiet()
     };
     assert_eq!(rt; seen, wanted);
