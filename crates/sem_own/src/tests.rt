@@ -1,4 +1,4 @@
-ghost use Rattle.std.specs.Prelude.{◌≡◌, true, ◌≤◌, ◌<◌, IsTrue, IfOk, IfSome, IsSomeAnd, OnOk, None};
+ghost use Rattle.std.specs.Prelude.{◌≡◌, true, ◌≤◌, ◌<◌, IsTrue, IfSome, IsSomeAnd, OnOk, None};
 ghost use Rattle.sem_key.specs.CapList.{cap_of};
 ghost use Rattle.sem_key.specs.ObjectRanges.{IsValidObject};
 ghost use Rattle.sem_msg.specs.Lookups.{is_declared, pe_of};
@@ -14,64 +14,37 @@ use crate::{
 use sem_caps::Caps;
 use sem_dtu::Dtus;
 use sem_key::{
-    ADDRESSES, Cap, Key, Kind, Membership, NUMBERS, Object, OutOfMemory, RIGHTS, SLOTS, VPES,
+    ADDRESSES, Key, Kind, Membership, NUMBERS, Object, OutOfMemory, RIGHTS, SLOTS, VPES,
 };
-use sem_msg::{
-    Calls, Denies, ENDPOINTS, Kills, Offers, Outcome, Root, Seq, Service, Services, Setup, Slot,
-    VpeDecl, Vpes0,
-};
+use sem_msg::{Calls, Denies, Kills, Offers, Outcome, Seq, Services, Setup, Slot, VpeDecl, Vpes0};
 use sem_vpe::Vpes;
 use std::alloc::Global;
 use std::marker::Model;
-use std::process::Abort;
 use std::test::Fail;
 
 // The VPE that makes the calls.
 const VPE: u16 = 2;
 
-// The selectors at which its roots stand.
+// The selectors at which it has a memory, a receive gate and a service.
 const MEMORY: u8 = 7;
 
 const RECEIVER: u8 = 200;
 
 const SERVICE: u8 = 0;
 
-// Selectors at which nothing stands at the start.
+// Selectors at which nothing stands at the start. What becomes of the first is seen.
 const FREE: u8 = 9;
 
 const OTHER: u8 = 10;
 
-// The rights of a memory.
-const READ: u8 = 1;
-
-const WRITE: u8 = 2;
-
-// The numbers of the replies.
-const OK: u8 = 0;
-
-const NO_CAP: u8 = 3;
-
-const REVOKING: u8 = 4;
-
-const OCCUPIED: u8 = 6;
-
-const NUMBERS_USED: u8 = 7;
-
-const BAD_KIND: u8 = 8;
-
-const WIDER: u8 = 9;
-
-const UNBOUND: u8 = 12;
-
-const RIGHTS_FAULT: u8 = 13;
-
-const RANGE: u8 = 14;
+// The endpoint that is bound and used.
+const ENDPOINT: u8 = 15;
 
 // The last byte that there is.
 const LAST: u32 = 4294967295;
 
 // What a kernel keeps, as far as the calls are about it.
-#[derive(Debug, Drop)]
+#[derive(Drop)]
 struct Kept {
     setup: Setup,
     caps: Caps,
@@ -93,63 +66,65 @@ impl Model for Kept {
     ghost invariant = { λ s. (is_declared s.setup 2 ≡ true) × IsOurVpe s.vpes 2 × IsOurs s.dtus 2 };
 }
 
-// The list of these items.
-fn listed<T: Copy>(alloc: Global, items: &[T]) -> Result<Seq<T>, OutOfMemory>
-    ensures { IfOk result (λ list. list ≡ items.now) }
-{
-    let mut list = Seq::new(alloc);
-    for item in items {
-        list.push(*item)?;
-    }
-    Ok(list)
+// What happens in a test.
+#[derive(Clone, Copy, Debug)]
+enum Step {
+    // The VPE derives a part of what stands at the first selector, to stand at the second.
+    Derive(u8, u8, Part),
+    // It makes a gate with so many credits for what stands at the first selector, to stand at the second.
+    Gate(u8, u8, u8),
+    // It binds its endpoint to what stands at the selector.
+    Bind(u8),
+    // It uses the endpoint.
+    Read(u32, u32),
+    Write(u32, u32),
+    Send(u32),
+    Credit,
+    // A job marks what stands at the selector.
+    Mark(u8),
+    // The free selector is promised, or has a session.
+    Promise,
+    Session,
+    // Numbers are drawn until that one is drawn next.
+    Draw(u32),
 }
 
-// A key of the VPE.
-fn key(kind: Kind, number: u32) -> Key
-    requires { number ≤ 4095 }
-    ensures { result ≡ record { pe = 3; vpe = 2; kind = kind; number = number } }
+// What is seen then: what the last step shows, the number that is drawn next, how many capabilities are held and how
+// many lead from a parent to a child, what the free selector is, the parent and the object of what stands there, and
+// the key to which the endpoint is bound.
+#[derive(Clone, Copy, Debug, PartialEq, Eq)]
+struct Seen {
+    outcome: Outcome,
+    number: u32,
+    held: usize,
+    links: usize,
+    slot: Slot,
+    parent: Option<Key>,
+    object: Option<Object>,
+    bound: Option<Key>,
+}
+
+// What a test relies on.
+fn check(holds: bool) -> Result<(), Fail>
+    ensures { OnOk result (IsTrue holds) }
 {
-    Key {
-        pe: 3,
-        vpe: VPE,
-        kind,
-        number,
+    if holds {
+        Ok(())
+    } else {
+        Err(Fail::new("the test cannot go on"))
     }
 }
 
-// One kernel with one VPE, which has a memory, a receive gate and a service.
+// One kernel with one VPE.
 fn one_kernel(alloc: Global) -> Result<Setup, Fail> {
     let mut owners = Membership::empty(1);
     owners.set(3, 0)?;
-    let roots = [
-        Root {
-            sel: MEMORY,
-            object: Object::Mem {
-                base: 4096,
-                len: 512,
-                rights: 3,
-            },
-        },
-        Root {
-            sel: RECEIVER,
-            object: Object::Recv { slots: 8 },
-        },
-        Root {
-            sel: SERVICE,
-            object: Object::Serv { name: 9 },
-        },
-    ];
     let mut vpes = Vpes0::new(alloc);
     vpes.push(VpeDecl {
         vpe: VPE,
         pe: 3,
-        roots: listed(alloc, &roots)?,
+        roots: Seq::new(alloc),
         calls: Calls::new(alloc),
-    })?;
-    let mut services = Services::new(alloc);
-    services.push(Service {
-        name: 9,
-        key: key(Kind::Serv, 2),
     })?;
     Ok(Setup {
         version: 2,
@@ -157,55 +132,55 @@ fn one_kernel(alloc: Global) -> Result<Setup, Fail> {
         kernels: 1,
         owners,
         vpes,
-        services,
+        services: Services::new(alloc),
         offers: Offers::new(alloc),
         denies: Denies::new(alloc),
         kills: Kills::new(alloc),
     })
 }
 
-// Inserts a capability that is not held and has no parent.
-fn put(
-    rt: &impl Abort,
-    caps: &mut Caps,
-    key: Key,
-    sel: u8,
-    object: Object,
-) -> Result<(), OutOfMemory> {
-    caps.room(1, None)?;
-    assert!(rt; caps.get(key).is_none());
-    caps.insert(key, None, sel, object);
-    Ok(())
-}
-
-// What the kernel keeps at the start.
-fn at_start(rt: &impl Abort, alloc: Global) -> Result<Kept, Fail> {
+// What the kernel keeps before the VPE has anything.
+fn at_start(alloc: Global) -> Result<Kept, Fail> {
     let setup = one_kernel(alloc)?;
     let vpes = Vpes::new(alloc, &setup, 0)?;
     let dtus = Dtus::new(alloc, &setup, 0)?;
+    let caps = Caps::new(alloc)?;
     if !setup.is_declared(VPE) {
         return Err(Fail::new("the VPE is declared"));
     }
     if !setup.is_own(0, VPE) {
         return Err(Fail::new("the VPE belongs to the kernel"));
     }
-    let mut caps = Caps::new(alloc)?;
-    let memory = Object::Mem {
-        base: 4096,
-        len: 512,
-        rights: 3,
-    };
-    put(rt, &mut caps, key(Kind::Mem, 0), MEMORY, memory)?;
-    let receiver = Object::Recv { slots: 8 };
-    put(rt, &mut caps, key(Kind::Recv, 1), RECEIVER, receiver)?;
-    let service = Object::Serv { name: 9 };
-    put(rt, &mut caps, key(Kind::Serv, 2), SERVICE, service)?;
     Ok(Kept {
         setup,
         caps,
         vpes,
         dtus,
     })
+}
+
+// Inserts a capability that is not held and has no parent.
+fn put(caps: &mut Caps, key: Key, sel: u8, object: Object) -> Result<(), Fail> {
+    caps.room(1, None)?;
+    if caps.get(key).is_some() {
+        return Err(Fail::new("the key is held"));
+    }
+    caps.insert(key, None, sel, object);
+    Ok(())
+}
+
+// The VPE has the capability at that selector.
+fn hold(kept: &mut Kept, key: Key, sel: u8, object: Object) -> Result<(), Fail> {
+    put(&mut kept.caps, key, sel, object)?;
+    kept.vpes.fill(VPE, sel, key);
+    Ok(())
+}
+
+// The VPE has its memory, its receive gate and its service.
+fn hold_roots(kept: &mut Kept) -> Result<(), Fail> {
+    hold(kept, memory_key(), MEMORY, memory(4096, 512, 3))?;
+    hold(kept, receiver_key(), RECEIVER, Object::Recv { slots: 8 })?;
+    hold(kept, service_key(), SERVICE, Object::Serv { name: 9 })
 }
 
 // Whether no capability of that key is held.
@@ -238,7 +213,7 @@ fn is_next_free(setup: &Setup, caps: &Caps, vpes: &Vpes) -> bool
 {
     if vpes.next_number(VPE) >= NUMBERS {
         // No key has such a number, so none that is held.
-        let _ = caps.get(key(Kind::Mem, 0));
+        let _ = caps.get(memory_key());
         return true;
     }
     is_absent(caps, next_key(setup, vpes, Kind::Mem))
@@ -262,32 +237,23 @@ fn make_room(caps: &mut Caps, vpes: &Vpes, sel: u8) -> Result<(), OutOfMemory>
 }
 
 // The call `derive`, for which there is room.
-fn derive(
-    rt: &impl Abort,
-    kept: &mut Kept,
-    src: u8,
-    dst: u8,
-    part: &Part,
-) -> Result<Outcome, OutOfMemory> {
+fn derive(kept: &mut Kept, src: u8, dst: u8, part: &Part) -> Result<Outcome, Fail> {
     make_room(&mut kept.caps, &kept.vpes, src)?;
-    assert!(rt; is_next_free(&kept.setup, &kept.caps, &kept.vpes));
+    if !is_next_free(&kept.setup, &kept.caps, &kept.vpes) {
+        return Err(Fail::new("the next number is held"));
+    }
     let (caps, vpes) = (&mut kept.caps, &mut kept.vpes);
     Ok(derive_call(&kept.setup, VPE, src, dst, part, caps, vpes))
 }
 
 // The call `gate`, for which there is room.
-fn gate(
-    rt: &impl Abort,
-    kept: &mut Kept,
-    src: u8,
-    dst: u8,
-    label: u32,
-    credits: u8,
-) -> Result<Outcome, OutOfMemory> {
+fn gate(kept: &mut Kept, src: u8, dst: u8, credits: u8) -> Result<Outcome, Fail> {
     make_room(&mut kept.caps, &kept.vpes, src)?;
-    assert!(rt; is_next_free(&kept.setup, &kept.caps, &kept.vpes));
+    if !is_next_free(&kept.setup, &kept.caps, &kept.vpes) {
+        return Err(Fail::new("the next number is held"));
+    }
     let (caps, vpes) = (&mut kept.caps, &mut kept.vpes);
-    Ok(gate_call(&kept.setup, VPE, src, dst, label, credits, caps, vpes))
+    Ok(gate_call(&kept.setup, VPE, src, dst, LAST, credits, caps, vpes))
 }
 
 // Whether the numbers of the object are in their ranges.
@@ -319,88 +285,9 @@ fn has_valid_object(caps: &Caps, vpes: &Vpes, sel: u8) -> bool
 }
 
 // The call `bind`.
-fn bind(rt: &impl Abort, kept: &mut Kept, ep: u8, src: u8) -> Outcome
-    requires { ep < ENDPOINTS }
-{
-    assert!(rt; has_valid_object(&kept.caps, &kept.vpes, src));
-    bind_call(VPE, ep, src, &kept.caps, &kept.vpes, &mut kept.dtus)
-}
-
-// The call `read`.
-fn read(kept: &mut Kept, ep: u8, off: u32, len: u32) -> Outcome
-    requires { ep < ENDPOINTS }
-{
-    read_call(VPE, ep, off, len, &mut kept.dtus)
-}
-
-// The call `write`.
-fn write(kept: &mut Kept, ep: u8, off: u32, len: u32) -> Outcome
-    requires { ep < ENDPOINTS }
-{
-    write_call(VPE, ep, off, len, &mut kept.dtus)
-}
-
-// The call `send`.
-fn send(kept: &mut Kept, ep: u8, len: u32) -> Outcome
-    requires { ep < ENDPOINTS }
-{
-    send_call(VPE, ep, len, &mut kept.dtus)
-}
-
-// The call `credit`.
-fn credit(kept: &mut Kept, ep: u8) -> Outcome
-    requires { ep < ENDPOINTS }
-{
-    credit_call(VPE, ep, &mut kept.dtus)
-}
-
-// The key to which the endpoint is bound.
-fn bound(kept: &Kept, ep: u8) -> Option<Key>
-    requires { ep < ENDPOINTS }
-{
-    kept.dtus.bound(VPE, ep)
-}
-
-// What the selector is.
-fn selector(kept: &Kept, sel: u8) -> Slot {
-    kept.vpes.selector(VPE, sel)
-}
-
-// The number that is drawn next.
-fn next_number(kept: &Kept) -> u32 {
-    kept.vpes.next_number(VPE)
-}
-
-// The selector holds that capability.
-fn fill(kept: &mut Kept, sel: u8, key: Key) {
-    kept.vpes.fill(VPE, sel, key);
-}
-
-// The selector is promised, where it is free.
-fn promise(kept: &mut Kept, sel: u8) -> bool {
-    kept.vpes.promise(VPE, sel).is_ok()
-}
-
-// Draws a number, where one is left.
-fn draw(kept: &mut Kept) -> bool {
-    kept.vpes.draw(VPE).is_ok()
-}
-
-// Draws numbers, until that one is drawn next.
-fn draw_up_to(rt: &impl Abort, kept: &mut Kept, number: u32) {
-    for _ in next_number(kept)..number {
-        assert!(rt; draw(kept));
-    }
-}
-
-// The last key of a memory that the VPE can draw.
-fn last_key() -> Key {
-    Key {
-        pe: 3,
-        vpe: VPE,
-        kind: Kind::Mem,
-        number: 4095,
-    }
+fn bind(kept: &mut Kept, src: u8) -> Result<Outcome, Fail> {
+    check(has_valid_object(&kept.caps, &kept.vpes, src))?;
+    Ok(bind_call(VPE, ENDPOINT, src, &kept.caps, &kept.vpes, &mut kept.dtus))
 }
 
 // Whether the capability is held without a mark.
@@ -413,35 +300,66 @@ fn is_unmarked(caps: &Caps, key: Key) -> bool
     }
 }
 
-// A job marks the capability.
-fn mark(rt: &impl Abort, kept: &mut Kept, key: Key) {
-    assert!(rt; is_unmarked(&kept.caps, key));
+// A job marks what stands at the selector.
+fn mark(kept: &mut Kept, sel: u8) -> Result<(), Fail> {
+    let Slot::Held(key) = kept.vpes.selector(VPE, sel) else {
+        return Err(Fail::new("nothing stands there"));
+    };
+    check(is_unmarked(&kept.caps, key))?;
     kept.caps.mark(key, 5);
+    Ok(())
 }
 
-// The children of a capability that is held.
-fn children<'a>(rt: &impl Abort, kept: &'a Kept, key: Key) -> &'a [Key] {
-    assert!(rt; kept.caps.get(key).is_some());
-    kept.caps.children_sorted(key)
+// Draws numbers, until that one is drawn next.
+fn draw_up_to(kept: &mut Kept, number: u32) -> Result<(), Fail> {
+    for _ in kept.vpes.next_number(VPE)..number {
+        check(kept.vpes.draw(VPE).is_ok())?;
+    }
+    Ok(())
 }
 
-// An answer with that number, and nothing else.
-fn replied(number: u8) -> Outcome {
-    Outcome {
-        asked: None,
-        grant: None,
-        cut: None,
-        reply: Some(number),
+// The keys of what the VPE has at the start.
+fn memory_key() -> Key {
+    key(Kind::Mem, 70)
+}
+
+fn receiver_key() -> Key {
+    key(Kind::Recv, 71)
+}
+
+fn service_key() -> Key {
+    key(Kind::Serv, 72)
+}
+
+// A key of the VPE.
+fn key(kind: Kind, number: u32) -> Key
+    requires { number ≤ 4095 }
+{
+    Key {
+        pe: 3,
+        vpe: VPE,
+        kind,
+        number,
     }
 }
 
-// The child of the parent was granted.
-fn granted(parent: Key, child: Key) -> Outcome {
-    Outcome {
-        asked: None,
-        grant: Some((parent, child)),
-        cut: None,
-        reply: Some(OK),
+fn memory(base: u32, len: u32, rights: u8) -> Object {
+    Object::Mem { base, len, rights }
+}
+
+fn send_gate(credits: u8) -> Object {
+    Object::Send {
+        gate: receiver_key(),
+        label: LAST,
+        credits,
+    }
+}
+
+// A session with the service of the VPE.
+fn session() -> Object {
+    Object::Sess {
+        service: service_key(),
+        ident: VPE,
     }
 }
 
@@ -450,301 +368,648 @@ fn part(off: u32, len: u32, rights: u8) -> Part {
     Part { off, len, rights }
 }
 
-// The capability is held, below that parent, at that selector, with that object.
-fn assert_child(rt: &impl Abort, kept: &Kept, key: Key, parent: Key, sel: u8, object: Object) {
-    assert_eq!(rt; selector(kept, sel), Slot::Held(key));
-    let Some(cap) = kept.caps.get(key) else {
-        panic!(rt; "it is held");
-    };
-    assert_eq!(rt; (cap.parent, cap.mark), (Some(parent), None));
-    assert_eq!(rt; (cap.selector, cap.object), (sel, object));
-    assert!(rt; cap.children.as_slice().is_empty());
+// No reply, and nothing else.
+fn no_reply() -> Outcome {
+    Outcome {
+        asked: None,
+        grant: None,
+        cut: None,
+        reply: None,
+    }
 }
 
-// Only the roots are held, and that number is drawn next.
-fn assert_roots_only(rt: &impl Abort, kept: &Kept, number: u32) {
-    assert_eq!(rt; (kept.caps.len(), kept.caps.child_links()), (3, 0));
-    assert_eq!(rt; next_number(kept), number);
-    assert_eq!(rt; selector(kept, FREE), Slot::Free);
-    assert_eq!(rt; selector(kept, OTHER), Slot::Promised);
-    assert_eq!(rt; selector(kept, MEMORY), Slot::Held(key(Kind::Mem, 0)));
-    assert_eq!(rt; selector(kept, RECEIVER), Slot::Held(key(Kind::Recv, 1)));
+// A reply with that number, and nothing else.
+fn replied(number: u8) -> Outcome {
+    Outcome {
+        reply: Some(number),
+        ..no_reply()
+    }
+}
+
+// The child of the parent was granted.
+fn granted(parent: Key, child: Key) -> Outcome {
+    Outcome {
+        grant: Some((parent, child)),
+        ..replied(0)
+    }
+}
+
+// The VPE has what it has at the start, and nothing is shown.
+fn quiet() -> Seen {
+    Seen {
+        outcome: no_reply(),
+        number: 0,
+        held: 3,
+        links: 0,
+        slot: Slot::Free,
+        parent: None,
+        object: None,
+        bound: None,
+    }
+}
+
+// The call was refused for that reason, and nothing changed.
+fn refused(number: u8) -> Seen {
+    Seen {
+        outcome: replied(number),
+        ..quiet()
+    }
+}
+
+// A first child was granted, and stands at the free selector.
+fn one_child(parent: Key, child: Key, object: Object) -> Seen {
+    Seen {
+        outcome: granted(parent, child),
+        number: 1,
+        held: 4,
+        links: 1,
+        slot: Slot::Held(child),
+        parent: Some(parent),
+        object: Some(object),
+        bound: None,
+    }
+}
+
+fn look(kept: &Kept, outcome: Outcome) -> Seen {
+    let (parent, object) = match own_cap(&kept.caps, &kept.vpes, VPE, FREE) {
+        Some(cap) => (cap.parent, Some(cap.object)),
+        None => (None, None),
+    };
+    Seen {
+        outcome,
+        number: kept.vpes.next_number(VPE),
+        held: kept.caps.len(),
+        links: kept.caps.child_links(),
+        slot: kept.vpes.selector(VPE, FREE),
+        parent,
+        object,
+        bound: kept.dtus.bound(VPE, ENDPOINT),
+    }
+}
+
+// The step is done.
+fn act(kept: &mut Kept, step: Step) -> Result<Outcome, Fail> {
+    match step {
+        Step::Derive(src, dst, part) => return derive(kept, src, dst, &part),
+        Step::Gate(src, dst, credits) => return gate(kept, src, dst, credits),
+        Step::Bind(src) => return bind(kept, src),
+        Step::Read(off, len) => return Ok(read_call(VPE, ENDPOINT, off, len, &mut kept.dtus)),
+        Step::Write(off, len) => return Ok(write_call(VPE, ENDPOINT, off, len, &mut kept.dtus)),
+        Step::Send(len) => return Ok(send_call(VPE, ENDPOINT, len, &mut kept.dtus)),
+        Step::Credit => return Ok(credit_call(VPE, ENDPOINT, &mut kept.dtus)),
+        Step::Mark(sel) => mark(kept, sel)?,
+        Step::Promise => check(kept.vpes.promise(VPE, FREE).is_ok())?,
+        Step::Session => hold(kept, key(Kind::Sess, 73), FREE, session())?,
+        Step::Draw(number) => draw_up_to(kept, number)?,
+    }
+    Ok(no_reply())
+}
+
+// What is seen after these steps.
+fn after(alloc: Global, steps: &[Step]) -> Result<Seen, Fail> {
+    let mut kept = at_start(alloc)?;
+    hold_roots(&mut kept)?;
+    let mut outcome = no_reply();
+    for step in steps {
+        outcome = act(&mut kept, *step)?;
+    }
+    Ok(look(&kept, outcome))
+}
+
+// The number of the last reply.
+fn reply(alloc: Global, steps: &[Step]) -> Result<Option<u8>, Fail> {
+    let seen = Seen {
+        number: 0,
+        ..after(alloc, steps)?
+    };
+    Ok(seen.outcome.reply)
 }
 
 #[test]
 fn a_part_of_a_memory_is_derived_below_it(rt: HostRuntime) -> Result<(), Fail> {
-    let mut kept = at_start(&rt, rt.alloc())?;
-    let root = key(Kind::Mem, 0);
-    let child = key(Kind::Mem, 3);
-    let answer = derive(&rt, &mut kept, MEMORY, FREE, &part(100, 412, READ))?;
-    assert_eq!(rt; answer, granted(root, child));
-    let object = Object::Mem {
-        base: 4196,
-        len: 412,
-        rights: READ,
+    let seen = after(rt.alloc(), &[Step::Derive(MEMORY, FREE, part(100, 412, 1))])?;
+    let child = key(Kind::Mem, 0);
+    let wanted = Seen {
+        links: 1,
+        ..one_child(memory_key(), child, memory(4196, 412, 1))
     };
-    assert_child(&rt, &kept, child, root, FREE, object);
-    assert_eq!(rt; children(&rt, &kept, root), [child].as_slice());
-    assert_eq!(rt; next_number(&kept), 4);
-    let grandchild = key(Kind::Mem, 4);
-    let answer = derive(&rt, &mut kept, FREE, OTHER, &part(412, 0, 0))?;
-    assert_eq!(rt; answer, granted(child, grandchild));
-    let object = Object::Mem {
-        base: 4608,
-        len: 0,
-        rights: 0,
+    assert_eq!(rt; seen, wanted);
+    Ok(())
+}
+
+#[test]
+fn a_part_of_a_part_is_derived_below_that(rt: HostRuntime) -> Result<(), Fail> {
+    let seen = after(
+        rt.alloc(),
+        &[
+            Step::Derive(MEMORY, OTHER, part(100, 412, 1)),
+            Step::Derive(OTHER, FREE, part(412, 0, 0)),
+        ],
+    )?;
+    let (parent, child) = (key(Kind::Mem, 0), key(Kind::Mem, 1));
+    let wanted = Seen {
+        number: 2,
+        held: 5,
+        links: 2,
+        ..one_child(parent, child, memory(4608, 0, 0))
     };
-    assert_child(&rt, &kept, grandchild, child, OTHER, object);
-    assert_eq!(rt; children(&rt, &kept, child), [grandchild].as_slice());
-    assert_eq!(rt; children(&rt, &kept, root), [child].as_slice());
+    assert_eq!(rt; seen, wanted);
     Ok(())
 }
 
 #[test]
-fn a_derive_is_refused_by_the_first_reason_and_changes_nothing(
-    rt: HostRuntime,
-) -> Result<(), Fail> {
-    let mut kept = at_start(&rt, rt.alloc())?;
-    assert!(rt; promise(&mut kept, OTHER));
-    for (src, dst, part, code) in [
-        (FREE, MEMORY, part(0, 513, 3), NO_CAP),
-        (OTHER, MEMORY, part(0, 513, 3), NO_CAP),
-        (RECEIVER, MEMORY, part(0, 0, 0), BAD_KIND),
-        (SERVICE, FREE, part(0, 0, 0), BAD_KIND),
-        (MEMORY, MEMORY, part(0, 513, 3), WIDER),
-        (MEMORY, FREE, part(512, 1, 3), WIDER),
-        (MEMORY, FREE, part(513, 0, 3), WIDER),
-        (MEMORY, FREE, part(LAST, LAST, 3), WIDER),
-        (MEMORY, OTHER, part(0, 512, 4 + READ), WIDER),
-        (MEMORY, RECEIVER, part(0, 512, 3), OCCUPIED),
-        (MEMORY, OTHER, part(0, 512, 3), OCCUPIED),
-    ] {
-        let answer = derive(&rt, &mut kept, src, dst, &part)?;
-        assert_eq!(rt; answer, replied(code), "{src} {dst} {part:?}");
-        assert_roots_only(&rt, &kept, 3);
-    }
-    mark(&rt, &mut kept, key(Kind::Mem, 0));
-    mark(&rt, &mut kept, key(Kind::Recv, 1));
-    for (src, dst) in [(MEMORY, FREE), (RECEIVER, FREE), (MEMORY, OTHER)] {
-        let answer = derive(&rt, &mut kept, src, dst, &part(0, 513, 3))?;
-        assert_eq!(rt; answer, replied(REVOKING), "{src} {dst}");
-        assert_roots_only(&rt, &kept, 3);
-    }
-    Ok(())
-}
-
-// The roots and one child are held, and the other selector is free.
-fn assert_one_child(rt: &impl Abort, kept: &Kept) {
-    assert_eq!(rt; (kept.caps.len(), kept.caps.child_links()), (4, 1));
-    assert_eq!(rt; selector(kept, OTHER), Slot::Free);
-}
-
-// No child can be made at that selector, for that reason.
-fn assert_no_child(rt: &impl Abort, kept: &mut Kept, dst: u8, code: u8) -> Result<(), OutOfMemory> {
-    let derived = derive(rt, kept, MEMORY, dst, &part(0, 1, 0))?;
-    assert_eq!(rt; derived, replied(code));
-    let gated = gate(rt, kept, RECEIVER, dst, 0, 1)?;
-    assert_eq!(rt; gated, replied(code));
+fn a_derive_of_nothing_is_refused(rt: HostRuntime) -> Result<(), Fail> {
+    let seen = after(rt.alloc(), &[Step::Derive(FREE, MEMORY, part(0, 513, 3))])?;
+    let wanted = Seen {
+        outcome: replied(3),
+        ..quiet()
+    };
+    assert_eq!(rt; seen, wanted);
     Ok(())
 }
 
 #[test]
-fn the_last_number_is_drawn_for_a_child_and_no_other_is_left(rt: HostRuntime) -> Result<(), Fail> {
-    let mut kept = at_start(&rt, rt.alloc())?;
-    draw_up_to(&rt, &mut kept, 4095);
-    let answer = derive(&rt, &mut kept, MEMORY, FREE, &part(0, 1, 0))?;
-    assert_eq!(rt; answer, granted(key(Kind::Mem, 0), last_key()));
-    assert_eq!(rt; next_number(&kept), 4096);
-    assert_no_child(&rt, &mut kept, FREE, OCCUPIED)?;
-    assert_no_child(&rt, &mut kept, OTHER, NUMBERS_USED)?;
-    assert_one_child(&rt, &kept);
+fn a_derive_of_a_promise_is_refused(rt: HostRuntime) -> Result<(), Fail> {
+    let seen = after(
+        rt.alloc(),
+        &[Step::Promise, Step::Derive(FREE, MEMORY, part(0, 513, 3))],
+    )?;
+    let wanted = Seen {
+        slot: Slot::Promised,
+        ..refused(3)
+    };
+    assert_eq!(rt; seen, wanted);
     Ok(())
 }
 
 #[test]
-fn a_wider_child_is_refused_before_the_numbers_are_asked(rt: HostRuntime) -> Result<(), Fail> {
-    let mut kept = at_start(&rt, rt.alloc())?;
-    draw_up_to(&rt, &mut kept, 4096);
-    let answer = derive(&rt, &mut kept, MEMORY, OTHER, &part(0, 513, 0))?;
-    assert_eq!(rt; answer, replied(WIDER));
-    let answer = gate(&rt, &mut kept, RECEIVER, OTHER, 0, 9)?;
-    assert_eq!(rt; answer, replied(WIDER));
-    assert_no_child(&rt, &mut kept, OTHER, NUMBERS_USED)?;
+fn a_derive_of_what_is_marked_is_refused_first(rt: HostRuntime) -> Result<(), Fail> {
+    let seen = after(
+        rt.alloc(),
+        &[
+            Step::Mark(RECEIVER),
+            Step::Derive(RECEIVER, MEMORY, part(0, 513, 3)),
+        ],
+    )?;
+    let wanted = Seen {
+        outcome: replied(4),
+        ..quiet()
+    };
+    assert_eq!(rt; seen, wanted);
+    Ok(())
+}
+
+#[test]
+fn a_derive_of_a_gate_is_refused(rt: HostRuntime) -> Result<(), Fail> {
+    let seen = after(rt.alloc(), &[Step::Derive(RECEIVER, MEMORY, part(0, 0, 0))])?;
+    let wanted = Seen {
+        outcome: replied(8),
+        ..quiet()
+    };
+    assert_eq!(rt; seen, wanted);
+    Ok(())
+}
+
+#[test]
+fn a_derive_past_the_end_is_refused(rt: HostRuntime) -> Result<(), Fail> {
+    let seen = after(rt.alloc(), &[Step::Derive(MEMORY, MEMORY, part(0, 513, 3))])?;
+    let wanted = Seen {
+        outcome: replied(9),
+        ..quiet()
+    };
+    assert_eq!(rt; seen, wanted);
+    Ok(())
+}
+
+#[test]
+fn a_derive_from_past_the_end_is_refused(rt: HostRuntime) -> Result<(), Fail> {
+    let seen = after(rt.alloc(), &[Step::Derive(MEMORY, FREE, part(513, 0, 3))])?;
+    let wanted = Seen {
+        outcome: replied(9),
+        ..quiet()
+    };
+    assert_eq!(rt; seen, wanted);
+    Ok(())
+}
+
+#[test]
+fn a_derive_past_the_last_byte_is_refused(rt: HostRuntime) -> Result<(), Fail> {
+    let seen = after(
+        rt.alloc(),
+        &[Step::Derive(MEMORY, FREE, part(LAST, LAST, 3))],
+    )?;
+    let wanted = Seen {
+        outcome: replied(9),
+        ..quiet()
+    };
+    assert_eq!(rt; seen, wanted);
+    Ok(())
+}
+
+#[test]
+fn a_derive_with_another_right_is_refused(rt: HostRuntime) -> Result<(), Fail> {
+    let seen = after(rt.alloc(), &[Step::Derive(MEMORY, MEMORY, part(0, 512, 5))])?;
+    let wanted = Seen {
+        outcome: replied(9),
+        ..quiet()
+    };
+    assert_eq!(rt; seen, wanted);
+    Ok(())
+}
+
+#[test]
+fn a_derive_to_a_selector_that_is_held_is_refused(rt: HostRuntime) -> Result<(), Fail> {
+    let seen = after(
+        rt.alloc(),
+        &[Step::Derive(MEMORY, RECEIVER, part(0, 512, 3))],
+    )?;
+    let wanted = Seen {
+        outcome: replied(6),
+        ..quiet()
+    };
+    assert_eq!(rt; seen, wanted);
+    Ok(())
+}
+
+#[test]
+fn a_derive_to_a_promised_selector_is_refused(rt: HostRuntime) -> Result<(), Fail> {
+    let seen = after(
+        rt.alloc(),
+        &[Step::Promise, Step::Derive(MEMORY, FREE, part(0, 512, 3))],
+    )?;
+    let wanted = Seen {
+        slot: Slot::Promised,
+        ..refused(6)
+    };
+    assert_eq!(rt; seen, wanted);
+    Ok(())
+}
+
+#[test]
+fn the_last_number_is_drawn_for_a_child(rt: HostRuntime) -> Result<(), Fail> {
+    let seen = after(
+        rt.alloc(),
+        &[Step::Draw(4095), Step::Derive(MEMORY, FREE, part(0, 1, 0))],
+    )?;
+    let child = key(Kind::Mem, 4095);
+    let wanted = Seen {
+        number: 4096,
+        ..one_child(memory_key(), child, memory(4096, 1, 0))
+    };
+    assert_eq!(rt; seen, wanted);
+    Ok(())
+}
+
+#[test]
+fn a_derive_without_a_number_is_refused(rt: HostRuntime) -> Result<(), Fail> {
+    let seen = after(
+        rt.alloc(),
+        &[Step::Draw(4096), Step::Derive(MEMORY, FREE, part(0, 1, 0))],
+    )?;
+    let wanted = Seen {
+        number: 4096,
+        ..refused(7)
+    };
+    assert_eq!(rt; seen, wanted);
+    Ok(())
+}
+
+#[test]
+fn a_gate_without_a_number_is_refused(rt: HostRuntime) -> Result<(), Fail> {
+    let seen = after(
+        rt.alloc(),
+        &[Step::Draw(4096), Step::Gate(RECEIVER, FREE, 1)],
+    )?;
+    let wanted = Seen {
+        number: 4096,
+        ..refused(7)
+    };
+    assert_eq!(rt; seen, wanted);
+    Ok(())
+}
+
+#[test]
+fn the_numbers_are_asked_last(rt: HostRuntime) -> Result<(), Fail> {
+    let steps = [
+        Step::Draw(4096),
+        Step::Derive(MEMORY, MEMORY, part(0, 1, 0)),
+    ];
+    assert_eq!(rt; reply(rt.alloc(), &steps)?, Some(6));
+    let steps = [Step::Draw(4096), Step::Gate(RECEIVER, FREE, 9)];
+    assert_eq!(rt; reply(rt.alloc(), &steps)?, Some(9));
     Ok(())
 }
 
 #[test]
 fn a_send_gate_stands_below_its_receive_gate(rt: HostRuntime) -> Result<(), Fail> {
-    let mut kept = at_start(&rt, rt.alloc())?;
-    let receiver = key(Kind::Recv, 1);
-    for (sel, number, label, credits) in [(FREE, 3, 77, 8), (OTHER, 4, LAST, 1)] {
-        let child = key(Kind::Send, number);
-        let answer = gate(&rt, &mut kept, RECEIVER, sel, label, credits)?;
-        assert_eq!(rt; answer, granted(receiver, child));
-        let object = Object::Send {
-            gate: receiver,
-            label,
-            credits,
-        };
-        assert_child(&rt, &kept, child, receiver, sel, object);
-    }
-    let both = [key(Kind::Send, 3), key(Kind::Send, 4)];
-    assert_eq!(rt; children(&rt, &kept, receiver), both.as_slice());
-    assert_eq!(rt; next_number(&kept), 5);
+    let seen = after(rt.alloc(), &[Step::Gate(RECEIVER, FREE, 8)])?;
+    let child = key(Kind::Send, 0);
+    let wanted = Seen {
+        links: 1,
+        ..one_child(receiver_key(), child, send_gate(8))
+    };
+    assert_eq!(rt; seen, wanted);
     Ok(())
 }
 
 #[test]
-fn a_gate_is_refused_by_the_first_reason_and_changes_nothing(rt: HostRuntime) -> Result<(), Fail> {
-    let mut kept = at_start(&rt, rt.alloc())?;
-    assert!(rt; promise(&mut kept, OTHER));
-    for (src, dst, credits, code) in [
-        (FREE, MEMORY, 9, NO_CAP),
-        (OTHER, MEMORY, 9, NO_CAP),
-        (MEMORY, RECEIVER, 9, BAD_KIND),
-        (SERVICE, FREE, 1, BAD_KIND),
-        (RECEIVER, FREE, 9, WIDER),
-        (RECEIVER, MEMORY, 9, WIDER),
-        (RECEIVER, MEMORY, 8, OCCUPIED),
-        (RECEIVER, OTHER, 8, OCCUPIED),
-    ] {
-        let answer = gate(&rt, &mut kept, src, dst, 5, credits)?;
-        assert_eq!(rt; answer, replied(code), "{src} {dst} {credits}");
-        assert_roots_only(&rt, &kept, 3);
-    }
-    mark(&rt, &mut kept, key(Kind::Mem, 0));
-    mark(&rt, &mut kept, key(Kind::Recv, 1));
-    for (src, dst) in [(RECEIVER, FREE), (MEMORY, FREE), (RECEIVER, OTHER)] {
-        let answer = gate(&rt, &mut kept, src, dst, 5, 9)?;
-        assert_eq!(rt; answer, replied(REVOKING), "{src} {dst}");
-        assert_roots_only(&rt, &kept, 3);
-    }
+fn a_second_send_gate_stands_beside_the_first(rt: HostRuntime) -> Result<(), Fail> {
+    let seen = after(
+        rt.alloc(),
+        &[
+            Step::Gate(RECEIVER, OTHER, 8),
+            Step::Gate(RECEIVER, FREE, 1),
+        ],
+    )?;
+    let child = key(Kind::Send, 1);
+    let wanted = Seen {
+        number: 2,
+        held: 5,
+        links: 2,
+        ..one_child(receiver_key(), child, send_gate(1))
+    };
+    assert_eq!(rt; seen, wanted);
     Ok(())
 }
 
 #[test]
-fn memory_is_bound_and_read_and_written_within_it(rt: HostRuntime) -> Result<(), Fail> {
-    let mut kept = at_start(&rt, rt.alloc())?;
-    assert_eq!(rt; bind(&rt, &mut kept, 0, MEMORY), replied(OK));
-    assert_eq!(rt; bound(&kept, 0), Some(key(Kind::Mem, 0)));
-    assert_eq!(rt; bound(&kept, 1), None);
-    for (off, len, code) in [
-        (0, 0, OK),
-        (0, 512, OK),
-        (511, 1, OK),
-        (512, 0, OK),
-        (0, 513, RANGE),
-        (512, 1, RANGE),
-        (513, 0, RANGE),
-        (LAST, LAST, RANGE),
-    ] {
-        let answer = read(&mut kept, 0, off, len);
-        assert_eq!(rt; answer, replied(code), "read {off} {len}");
-        let answer = write(&mut kept, 0, off, len);
-        assert_eq!(rt; answer, replied(code), "write {off} {len}");
-    }
-    assert_eq!(rt; bound(&kept, 0), Some(key(Kind::Mem, 0)));
+fn a_gate_for_nothing_is_refused(rt: HostRuntime) -> Result<(), Fail> {
+    let seen = after(rt.alloc(), &[Step::Gate(FREE, MEMORY, 9)])?;
+    let wanted = Seen {
+        outcome: replied(3),
+        ..quiet()
+    };
+    assert_eq!(rt; seen, wanted);
     Ok(())
 }
 
 #[test]
-fn memory_is_read_or_written_by_the_right_alone(rt: HostRuntime) -> Result<(), Fail> {
-    for (rights, is_read, is_written) in [
-        (0, RIGHTS_FAULT, RIGHTS_FAULT),
-        (READ, OK, RIGHTS_FAULT),
-        (WRITE, RIGHTS_FAULT, OK),
-    ] {
-        let mut kept = at_start(&rt, rt.alloc())?;
-        let answer = derive(&rt, &mut kept, MEMORY, FREE, &part(0, 8, rights))?;
-        assert_eq!(rt; answer.reply, Some(OK));
-        assert_eq!(rt; bind(&rt, &mut kept, 15, FREE), replied(OK));
-        assert_eq!(rt; read(&mut kept, 15, 0, 8), replied(is_read));
-        assert_eq!(rt; write(&mut kept, 15, 0, 8), replied(is_written));
-        assert_eq!(rt; send(&mut kept, 15, 0), replied(RIGHTS_FAULT));
-        assert_eq!(rt; credit(&mut kept, 15), replied(RIGHTS_FAULT));
-    }
+fn a_gate_for_what_is_marked_is_refused_first(rt: HostRuntime) -> Result<(), Fail> {
+    let seen = after(
+        rt.alloc(),
+        &[Step::Mark(MEMORY), Step::Gate(MEMORY, RECEIVER, 9)],
+    )?;
+    let wanted = Seen {
+        outcome: replied(4),
+        ..quiet()
+    };
+    assert_eq!(rt; seen, wanted);
     Ok(())
 }
 
 #[test]
-fn a_gate_sends_up_to_its_credits_and_a_new_binding_has_no_messages(
-    rt: HostRuntime,
-) -> Result<(), Fail> {
-    let mut kept = at_start(&rt, rt.alloc())?;
-    let answer = gate(&rt, &mut kept, RECEIVER, FREE, 77, 2)?;
-    assert_eq!(rt; answer.reply, Some(OK));
-    for _ in 0..2 {
-        assert_eq!(rt; bind(&rt, &mut kept, 4, FREE), replied(OK));
-        assert_eq!(rt; bound(&kept, 4), Some(key(Kind::Send, 3)));
-        assert_eq!(rt; credit(&mut kept, 4), replied(RANGE), "none was sent");
-        assert_eq!(rt; send(&mut kept, 4, 70), replied(OK));
-        assert_eq!(rt; send(&mut kept, 4, LAST), replied(OK));
-        assert_eq!(rt; send(&mut kept, 4, 0), replied(RANGE), "no credit is left");
-        assert_eq!(rt; read(&mut kept, 4, 0, 0), replied(RIGHTS_FAULT));
-        assert_eq!(rt; write(&mut kept, 4, 0, 0), replied(RIGHTS_FAULT));
-        assert_eq!(rt; credit(&mut kept, 4), replied(OK));
-        assert_eq!(rt; send(&mut kept, 4, 1), replied(OK));
-        assert_eq!(rt; send(&mut kept, 4, 0), replied(RANGE));
-    }
+fn a_gate_for_a_memory_is_refused(rt: HostRuntime) -> Result<(), Fail> {
+    let seen = after(rt.alloc(), &[Step::Gate(MEMORY, RECEIVER, 9)])?;
+    let wanted = Seen {
+        outcome: replied(8),
+        ..quiet()
+    };
+    assert_eq!(rt; seen, wanted);
     Ok(())
 }
 
 #[test]
-fn a_bind_is_refused_by_the_first_reason_and_changes_nothing(rt: HostRuntime) -> Result<(), Fail> {
-    let mut kept = at_start(&rt, rt.alloc())?;
-    assert!(rt; promise(&mut kept, OTHER));
-    assert_eq!(rt; bind(&rt, &mut kept, 1, RECEIVER), replied(OK));
-    for (src, code) in [(FREE, NO_CAP), (OTHER, NO_CAP), (SERVICE, BAD_KIND)] {
-        for ep in [0, 1] {
-            assert_eq!(rt; bind(&rt, &mut kept, ep, src), replied(code), "{src}");
-        }
-    }
-    mark(&rt, &mut kept, key(Kind::Mem, 0));
-    mark(&rt, &mut kept, key(Kind::Serv, 2));
-    for src in [MEMORY, SERVICE] {
-        for ep in [0, 1] {
-            let answer = bind(&rt, &mut kept, ep, src);
-            assert_eq!(rt; answer, replied(REVOKING), "{src}");
-        }
-    }
-    assert_eq!(rt; bound(&kept, 0), None);
-    assert_eq!(rt; bound(&kept, 1), Some(key(Kind::Recv, 1)));
+fn a_gate_with_more_credits_than_slots_is_refused(rt: HostRuntime) -> Result<(), Fail> {
+    let seen = after(rt.alloc(), &[Step::Gate(RECEIVER, MEMORY, 9)])?;
+    let wanted = Seen {
+        outcome: replied(9),
+        ..quiet()
+    };
+    assert_eq!(rt; seen, wanted);
+    Ok(())
+}
+
+#[test]
+fn a_gate_to_a_selector_that_is_held_is_refused(rt: HostRuntime) -> Result<(), Fail> {
+    let seen = after(rt.alloc(), &[Step::Gate(RECEIVER, MEMORY, 8)])?;
+    let wanted = Seen {
+        outcome: replied(6),
+        ..quiet()
+    };
+    assert_eq!(rt; seen, wanted);
+    Ok(())
+}
+
+#[test]
+fn a_memory_is_bound(rt: HostRuntime) -> Result<(), Fail> {
+    let seen = after(rt.alloc(), &[Step::Bind(MEMORY)])?;
+    let wanted = Seen {
+        bound: Some(memory_key()),
+        ..refused(0)
+    };
+    assert_eq!(rt; seen, wanted);
+    Ok(())
+}
+
+#[test]
+fn a_bind_to_nothing_is_refused(rt: HostRuntime) -> Result<(), Fail> {
+    let seen = after(rt.alloc(), &[Step::Bind(FREE)])?;
+    let wanted = Seen {
+        outcome: replied(3),
+        ..quiet()
+    };
+    assert_eq!(rt; seen, wanted);
+    Ok(())
+}
+
+#[test]
+fn a_bind_to_what_is_marked_is_refused_first(rt: HostRuntime) -> Result<(), Fail> {
+    let seen = after(rt.alloc(), &[Step::Mark(SERVICE), Step::Bind(SERVICE)])?;
+    let wanted = Seen {
+        outcome: replied(4),
+        ..quiet()
+    };
+    assert_eq!(rt; seen, wanted);
+    Ok(())
+}
+
+#[test]
+fn a_refused_bind_keeps_what_is_bound(rt: HostRuntime) -> Result<(), Fail> {
+    let seen = after(rt.alloc(), &[Step::Bind(RECEIVER), Step::Bind(SERVICE)])?;
+    let wanted = Seen {
+        bound: Some(receiver_key()),
+        ..refused(8)
+    };
+    assert_eq!(rt; seen, wanted);
     Ok(())
 }
 
 #[test]
 fn a_session_is_not_bound(rt: HostRuntime) -> Result<(), Fail> {
-    let mut kept = at_start(&rt, rt.alloc())?;
-    let session = Object::Sess {
-        service: key(Kind::Serv, 2),
-        ident: 2,
-    };
-    put(&rt, &mut kept.caps, key(Kind::Sess, 3), FREE, session)?;
-    fill(&mut kept, FREE, key(Kind::Sess, 3));
-    assert_eq!(rt; bind(&rt, &mut kept, 0, FREE), replied(BAD_KIND));
-    assert_eq!(rt; bound(&kept, 0), None);
+    let steps = [Step::Session, Step::Bind(FREE)];
+    assert_eq!(rt; reply(rt.alloc(), &steps)?, Some(8));
     Ok(())
 }
 
-// Each use of the endpoint is refused, for that reason.
-fn assert_no_use(rt: &impl Abort, kept: &mut Kept, ep: u8, code: u8)
-    requires { ep < ENDPOINTS }
-{
-    assert_eq!(rt; read(kept, ep, 0, LAST), replied(code));
-    assert_eq!(rt; write(kept, ep, 0, LAST), replied(code));
-    assert_eq!(rt; send(kept, ep, 0), replied(code));
-    assert_eq!(rt; credit(kept, ep), replied(code));
+#[test]
+fn memory_is_read_within_it(rt: HostRuntime) -> Result<(), Fail> {
+    let steps = [Step::Bind(MEMORY), Step::Read(511, 1)];
+    assert_eq!(rt; reply(rt.alloc(), &steps)?, Some(0));
+    let steps = [Step::Bind(MEMORY), Step::Read(512, 1)];
+    assert_eq!(rt; reply(rt.alloc(), &steps)?, Some(14));
+    let steps = [Step::Bind(MEMORY), Step::Read(LAST, LAST)];
+    assert_eq!(rt; reply(rt.alloc(), &steps)?, Some(14));
+    Ok(())
 }
 
 #[test]
-fn what_is_not_bound_refuses_all_and_a_receive_gate_allows_nothing(
-    rt: HostRuntime,
-) -> Result<(), Fail> {
-    let mut kept = at_start(&rt, rt.alloc())?;
-    assert_eq!(rt; bind(&rt, &mut kept, 3, RECEIVER), replied(OK));
-    assert_no_use(&rt, &mut kept, 2, UNBOUND);
-    assert_eq!(rt; bound(&kept, 2), None);
-    assert_no_use(&rt, &mut kept, 3, RIGHTS_FAULT);
-    assert_eq!(rt; bound(&kept, 3), Some(key(Kind::Recv, 1)));
+fn memory_is_written_within_it(rt: HostRuntime) -> Result<(), Fail> {
+    let steps = [Step::Bind(MEMORY), Step::Write(0, 512)];
+    assert_eq!(rt; reply(rt.alloc(), &steps)?, Some(0));
+    let steps = [Step::Bind(MEMORY), Step::Write(0, 513)];
+    assert_eq!(rt; reply(rt.alloc(), &steps)?, Some(14));
+    let steps = [Step::Bind(MEMORY), Step::Write(513, 0)];
+    assert_eq!(rt; reply(rt.alloc(), &steps)?, Some(14));
+    Ok(())
+}
+
+#[test]
+fn memory_with_the_right_to_read_is_only_read(rt: HostRuntime) -> Result<(), Fail> {
+    let steps = [
+        Step::Derive(MEMORY, FREE, part(0, 8, 1)),
+        Step::Bind(FREE),
+        Step::Read(0, 8),
+    ];
+    assert_eq!(rt; reply(rt.alloc(), &steps)?, Some(0));
+    let steps = [
+        Step::Derive(MEMORY, FREE, part(0, 8, 1)),
+        Step::Bind(FREE),
+        Step::Write(0, 9),
+    ];
+    assert_eq!(rt; reply(rt.alloc(), &steps)?, Some(13));
+    Ok(())
+}
+
+#[test]
+fn memory_with_the_right_to_write_is_only_written(rt: HostRuntime) -> Result<(), Fail> {
+    let steps = [
+        Step::Derive(MEMORY, FREE, part(0, 8, 2)),
+        Step::Bind(FREE),
+        Step::Write(0, 8),
+    ];
+    assert_eq!(rt; reply(rt.alloc(), &steps)?, Some(0));
+    let steps = [
+        Step::Derive(MEMORY, FREE, part(0, 8, 2)),
+        Step::Bind(FREE),
+        Step::Read(0, 9),
+    ];
+    assert_eq!(rt; reply(rt.alloc(), &steps)?, Some(13));
+    Ok(())
+}
+
+#[test]
+fn memory_sends_nothing(rt: HostRuntime) -> Result<(), Fail> {
+    let steps = [Step::Bind(MEMORY), Step::Send(0)];
+    assert_eq!(rt; reply(rt.alloc(), &steps)?, Some(13));
+    let steps = [Step::Bind(MEMORY), Step::Credit];
+    assert_eq!(rt; reply(rt.alloc(), &steps)?, Some(13));
+    Ok(())
+}
+
+#[test]
+fn what_is_not_bound_is_not_used(rt: HostRuntime) -> Result<(), Fail> {
+    let steps = [Step::Read(0, LAST)];
+    assert_eq!(rt; reply(rt.alloc(), &steps)?, Some(12));
+    let steps = [Step::Write(0, LAST)];
+    assert_eq!(rt; reply(rt.alloc(), &steps)?, Some(12));
+    let steps = [Step::Send(0)];
+    assert_eq!(rt; reply(rt.alloc(), &steps)?, Some(12));
+    let steps = [Step::Credit];
+    assert_eq!(rt; reply(rt.alloc(), &steps)?, Some(12));
+    Ok(())
+}
+
+#[test]
+fn a_receive_gate_allows_nothing(rt: HostRuntime) -> Result<(), Fail> {
+    let steps = [Step::Bind(RECEIVER), Step::Read(0, LAST)];
+    assert_eq!(rt; reply(rt.alloc(), &steps)?, Some(13));
+    let steps = [Step::Bind(RECEIVER), Step::Write(0, LAST)];
+    assert_eq!(rt; reply(rt.alloc(), &steps)?, Some(13));
+    let steps = [Step::Bind(RECEIVER), Step::Send(0)];
+    assert_eq!(rt; reply(rt.alloc(), &steps)?, Some(13));
+    let steps = [Step::Bind(RECEIVER), Step::Credit];
+    assert_eq!(rt; reply(rt.alloc(), &steps)?, Some(13));
+    Ok(())
+}
+
+#[test]
+fn a_send_gate_is_no_memory(rt: HostRuntime) -> Result<(), Fail> {
+    let steps = [
+        Step::Gate(RECEIVER, FREE, 1),
+        Step::Bind(FREE),
+        Step::Read(0, 0),
+    ];
+    assert_eq!(rt; reply(rt.alloc(), &steps)?, Some(13));
+    let steps = [
+        Step::Gate(RECEIVER, FREE, 1),
+        Step::Bind(FREE),
+        Step::Write(0, 0),
+    ];
+    assert_eq!(rt; reply(rt.alloc(), &steps)?, Some(13));
+    Ok(())
+}
+
+#[test]
+fn a_gate_sends_up_to_its_credits(rt: HostRuntime) -> Result<(), Fail> {
+    let steps = [
+        Step::Gate(RECEIVER, FREE, 1),
+        Step::Bind(FREE),
+        Step::Send(LAST),
+    ];
+    assert_eq!(rt; reply(rt.alloc(), &steps)?, Some(0));
+    let steps = [
+        Step::Gate(RECEIVER, FREE, 1),
+        Step::Bind(FREE),
+        Step::Send(70),
+        Step::Send(0),
+    ];
+    assert_eq!(rt; reply(rt.alloc(), &steps)?, Some(14));
+    Ok(())
+}
+
+#[test]
+fn a_credit_is_taken_back_where_a_message_was_sent(rt: HostRuntime) -> Result<(), Fail> {
+    let steps = [
+        Step::Gate(RECEIVER, FREE, 1),
+        Step::Bind(FREE),
+        Step::Credit,
+    ];
+    assert_eq!(rt; reply(rt.alloc(), &steps)?, Some(14));
+    let steps = [
+        Step::Gate(RECEIVER, FREE, 1),
+        Step::Bind(FREE),
+        Step::Send(70),
+        Step::Credit,
+    ];
+    assert_eq!(rt; reply(rt.alloc(), &steps)?, Some(0));
+    let steps = [
+        Step::Gate(RECEIVER, FREE, 1),
+        Step::Bind(FREE),
+        Step::Send(70),
+        Step::Credit,
+        Step::Send(0),
+    ];
+    assert_eq!(rt; reply(rt.alloc(), &steps)?, Some(0));
+    Ok(())
+}
+
+#[test]
+fn a_new_binding_has_no_messages(rt: HostRuntime) -> Result<(), Fail> {
+    let steps = [
+        Step::Gate(RECEIVER, FREE, 1),
+        Step::Bind(FREE),
+        Step::Send(70),
+        Step::Bind(FREE),
+        Step::Credit,
+    ];
+    assert_eq!(rt; reply(rt.alloc(), &steps)?, Some(14));
+    let steps = [
+        Step::Gate(RECEIVER, FREE, 1),
+        Step::Bind(FREE),
+        Step::Send(70),
+        Step::Bind(FREE),
+        Step::Send(70),
+    ];
+    assert_eq!(rt; reply(rt.alloc(), &steps)?, Some(0));
     Ok(())
 }

@@ -1,14 +1,11 @@
-use Rattle.std.proofs.Common.{◌≢◌, ◌<◌, [], ◌∷◌, None, Some, replicate, refl, inr, arith, rules}
-use Rattle.std.specs.List.{All, AllPairs, slice_set}
+use Rattle.std.proofs.Common.{◌≡◌, ℕ, List, [], ◌∷◌, None, Some, replicate, refl, sym, subst, inr, arith, rules}
+use Rattle.std.specs.List.{slice_set}
 use Rattle.std.proofs.lemmas.List.Elements.{All-cons, All-nil}
-use Rattle.std.proofs.lemmas.List.Kept.{AllPairs-cons}
-use Rattle.sem_key.specs.declared.key.Kind.TheVariants.{Serv as ServKind}
-use Rattle.sem_key.specs.declared.object.Object.TheVariants.{Mem, Recv, Serv}
 use Rattle.sem_key.specs.declared.limits.TheConstants.{PES, VPES}
 use Rattle.sem_key.specs.MembershipTable.{MembershipTable, IsMembership}
-use Rattle.sem_msg.specs.declared.setup.Root.{Root}
-use Rattle.sem_msg.specs.declared.setup.Service.{Service}
 use Rattle.sem_msg.specs.declared.setup.VpeDecl.{VpeDecl}
+use Rattle.sem_msg.specs.declared.setup.Service.{Service}
+use Rattle.sem_msg.specs.declared.setup.Offer.{Offer}
 use Rattle.sem_msg.specs.Calls.{IsValidCall}
 use Rattle.sem_msg.proofs.Declared.{owned-within}
 use Rattle.sem_msg.specs.Setup.{Setup, IsSetup, IsRoot, IsVpeDecl, services_from}
@@ -17,39 +14,19 @@ use Rattle.sem_own.proofs.tests.one_kernel.Goals as goal
 abbrev owners : MembershipTable
 owners = record { kernels = 1; owners = slice_set (replicate PES None) 3 (Some 0) }
 
-abbrev memory : Root
-memory = record { sel = 7; object = Mem 4096 512 3 }
-
-abbrev receiver : Root
-receiver = record { sel = 200; object = Recv 8 }
-
-abbrev server : Root
-server = record { sel = 0; object = Serv 9 }
-
 abbrev vpe : VpeDecl
-vpe = record { vpe = 2; pe = 3; roots = memory ∷ receiver ∷ server ∷ []; calls = [] }
-
-abbrev service : Service
-service = record { name = 9; key = record { pe = 3; vpe = 2; kind = ServKind; number = 2 } }
+vpe = record { vpe = 2; pe = 3; roots = []; calls = [] }
 
 abbrev setup : Setup
-setup = record { version = 2; window = 4; kernels = 1; owners = owners; vpes = vpe ∷ []; services = service ∷ []; offers = []; denies = []; kills = [] }
-
-all_three : {X : Type 0} (P : X → Type 0) (a b c : X) → P a → P b → P c → All P (a ∷ b ∷ c ∷ [])
-all_three P a b c pa pb pc = All-cons P a (b ∷ c ∷ []) pa (All-cons P b (c ∷ []) pb (All-cons P c [] pc (All-nil P)))
-
-pairs_three : {X : Type 0} (R : X → X → Type 0) (a b c : X) → R a b → R a c → R b c → AllPairs R (a ∷ b ∷ c ∷ [])
-pairs_three R a b c ab ac bc =
-    AllPairs-cons R a (b ∷ c ∷ []) (All-cons (R a) b (c ∷ []) ab (All-cons (R a) c [] ac (All-nil (R a))))
-    (AllPairs-cons R b (c ∷ []) (All-cons (R b) c [] bc (All-nil (R b))) (λ i j d lt within. absurd (omega arith)))
+setup = record { version = 2; window = 4; kernels = 1; owners = owners; vpes = vpe ∷ []; services = []; offers = []; denies = []; kills = [] }
 
 vpe_is : IsVpeDecl setup vpe
 vpe_is = record {
   vpe = omega arith;
   pe = omega arith;
   owned = search rules;
-  selectors_differ = pairs_three (λ (a b : Root). a.sel ≢ b.sel) memory receiver server (omega arith) (omega arith) (omega arith);
-  roots = all_three IsRoot memory receiver server (record { selector = omega arith; kind = tt; ranges = search rules }) (record { selector = omega arith; kind = tt; ranges = search rules }) (record { selector = omega arith; kind = tt; ranges = search rules });
+  selectors_differ = λ i j d lt within. absurd (omega arith);
+  roots = All-nil IsRoot;
   calls = All-nil (IsValidCall VPES);
 }
 
@@ -77,7 +54,16 @@ is_setup membership = record {
   few_calls = omega arith;
 }
 
+-- a setup with these parts
+made : (m : MembershipTable) (vs : List VpeDecl) (ss : List Service) (os : List Offer) (ds ks : List (ℕ × ℕ)) → m ≡ owners → vs ≡ vpe ∷ [] → ss ≡ [] → os ≡ [] → ds ≡ [] → ks ≡ [] → IsMembership m
+    → IsSetup (record { version = 2; window = 4; kernels = 1; owners = m; vpes = vs; services = ss; offers = os; denies = ds; kills = ks })
+made m vs ss os ds ks owned listed no_service no_offer no_deny no_kill valid =
+    let same : setup ≡ record { version = 2; window = 4; kernels = 1; owners = m; vpes = vs; services = ss; offers = os; denies = ds; kills = ks } =
+    λ i. record { version = 2; window = 4; kernels = 1; owners = sym owned i; vpes = sym listed i; services = sym no_service i; offers = sym no_offer i; denies = sym no_deny i; kills = sym no_kill i } in
+    subst IsSetup same (is_setup (subst IsMembership owned valid))
+
 pub invariant_of-result : goal.invariant_of-result
 invariant_of-result c =
-    let membership : IsMembership owners = rw (c.in_ok-set.ensures.ok, c.empty-owners.ensures.empty) at c.in_ok-set.ensures.table in
-    rw (c.in_ok-set.ensures.ok, c.empty-owners.ensures.empty, c.in_ok-push.ensures.ok, c.new-vpes.ensures, c.in_ok-listed.ensures, c.new.ensures, c.in_ok-push-2.ensures.ok, c.new-services.ensures, c.key.ensures, c.new-2.ensures, c.new-3.ensures, c.new-4.ensures) (is_setup membership)
+    let owned : c.set.new.self ≡ owners = rw (c.in_ok-set.ensures.ok, c.empty-owners.ensures.empty) refl in
+    let listed : c.push.new.self ≡ vpe ∷ [] = rw (c.in_ok-push.ensures.ok, c.new-vpes.ensures, c.new.ensures, c.new-2.ensures) refl in
+    made c.set.new.self c.push.new.self c.new-3.result c.new-4.result c.new-5.result c.new-6.result owned listed c.new-3.ensures c.new-4.ensures c.new-5.ensures c.new-6.ensures c.in_ok-set.ensures.table
