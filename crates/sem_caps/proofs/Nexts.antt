@@ -118,3 +118,8 @@ module _ (rows : List Cap) (is_list : IsKeyList (keys_of (plain rows))) (vpe : �
           let f = found is_of _ k (rising-rest _ is_list above from first) (sym is) in
           let there = from_rest _ is_list above from first k f.0 in
           (record { held = there.0; of_vpe = grind (arith, nat_tests, f.1); is_above = there.1 }, λ q key. f.2 q (in_rest _ is_list above from first q key.held key.is_above) (eq-eqb q.vpe vpe key.of_vpe))
+
+-- the keys of the capabilities as contracts see them
+pub plain-keys : (rows : List Cap) → map (λ (r : Cap). r.key) rows ≡ keys_of (plain rows)
+plain-keys [] = refl
+plain-keys (r ∷ rows) = ap (λ (ks : List KeyName). r.key ∷ ks) (plain-keys rows)

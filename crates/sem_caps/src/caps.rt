@@ -1,4 +1,4 @@
-ghost use Rattle.std.specs.Prelude.{◌≡◌, ◌↔◌, ◌+◌, ◌<◌, ◌≤◌, ◌==◌, ◌++◌, [], length, map, find, vec_len, vec_capacity, None, Some, IsTrue, IsSome, IsSomeAnd, IfSome, IfOk, IfErr, Contains, OnOk, OnErr, slice_get, option_copied, option_map};
+ghost use Rattle.std.specs.Prelude.{◌≡◌, ◌↔◌, ◌+◌, ◌<◌, ◌≤◌, ◌==◌, ◌++◌, [], length, map, filter, find, vec_len, vec_capacity, None, Some, IsTrue, IsSome, IsSomeAnd, IfSome, IfOk, IfErr, Contains, OnOk, OnErr, slice_get, option_copied, option_map};
 ghost use Rattle.sem_key.specs.Capability.{capability_of};
 ghost use Rattle.sem_key.specs.KeyList.{IsRising, IsGapFor};
 ghost use Rattle.sem_key.specs.KeyName.{IsValidKey};
@@ -186,6 +186,17 @@ impl Caps {
         first_of(&self.rising[from..], vpe)
     }
 
+    /// Appends the keys of that VPE that are held to `keys`, in rising key order. Takes no memory.
+    ///
+    /// `keys` has room for as many keys as there are capabilities.
+    pub fn append_keys_of(&self, vpe: u16, keys: &mut Vec<Key>)
+        requires { vec_len keys.old + length self.now.caps ≤ vec_capacity keys.old }
+        ensures keys { keys.new.items ≡ keys.old.items ++ filter (λ k. k.vpe == vpe) (keys_of self.now.caps) }
+        ensures capacity { vec_capacity keys.new ≡ vec_capacity keys.old }
+    {
+        append_keys(&self.rising, vpe, keys);
+    }
+
     /// Removes all capabilities that the job has marked, and appends the key and the selector of each to `gone`, in rising
     /// key order. Where the capability with room for a child is among them, there is room for no child after it. Takes no
     /// memory.
@@ -289,6 +300,19 @@ fn has_mark(cap: &Cap, job: u32) -> bool
     ensures { result ≡ is_marked_by job (capability_of cap.now) }
 {
     cap.mark == Some(job)
+}
+
+// Appends the key of each capability of the VPE.
+fn append_keys(caps: &[Cap], vpe: u16, keys: &mut Vec<Key>)
+    requires { vec_len keys.old + length caps.now ≤ vec_capacity keys.old }
+    ensures items { keys.new.items ≡ keys.old.items ++ filter (λ k. k.vpe == vpe) (map (λ c. c.key) caps.now) }
+    ensures capacity { vec_capacity keys.new ≡ vec_capacity keys.old }
+{
+    for cap in caps {
+        if cap.key.vpe == vpe {
+            keys.push_reserved(cap.key);
+        }
+    }
 }
 
 // Appends the key and the selector of each capability that the job has marked.

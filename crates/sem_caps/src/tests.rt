@@ -117,6 +117,25 @@ fn the_keys_of_a_vpe_follow_each_other(rt: HostRuntime) -> Result<(), Fail> {
     Ok(())
 }
 
+// The keys of a VPE, appended to no keys.
+fn listed(alloc: Global, caps: &Caps, vpe: u16) -> Result<Vec<Key>, Fail> {
+    let mut keys = Vec::new(alloc);
+    keys.reserve(caps.len())?;
+    caps.append_keys_of(vpe, &mut keys);
+    Ok(keys)
+}
+
+#[test]
+fn the_keys_of_a_vpe_are_listed_in_key_order(rt: HostRuntime) -> Result<(), Fail> {
+    let mut caps = Caps::new(rt.alloc())?;
+    for (vpe, number) in [(2, 0), (1, 7), (3, 9), (1, 2)] {
+        put(&rt, &mut caps, key(vpe, number), None, 0)?;
+    }
+    let keys = listed(rt.alloc(), &caps, 1)?;
+    assert_eq!(rt; keys.as_slice(), [key(1, 2), key(1, 7)].as_slice());
+    Ok(())
+}
+
 #[test]
 fn a_link_stands_once_until_it_is_taken_away(rt: HostRuntime) -> Result<(), Fail> {
     let mut caps = Caps::new(rt.alloc())?;

@@ -3,7 +3,9 @@ use Rattle.std.proofs.Common.{◌≡◌, ◌∙◌, ℕ, Bool, true, false, List
 use Rattle.std.specs.Prelude.{if◌then◌else◌}
 use Rattle.std.proofs.lemmas.Bool.{cond_both}
 use Rattle.sem_key.specs.Capability.{Capability}
-use Rattle.sem_machine.specs.Sides.{is_marked}
+use Rattle.sem_msg.specs.Codes.{code_number}
+use Rattle.sem_msg.specs.declared.entry.Outcome.{Outcome}
+use Rattle.sem_machine.specs.Sides.{Side, is_marked}
 use Rattle.std.specs.Option.{option_map_or}
 use Rattle.sem_msg.specs.declared.code.Code.{Code}
 use Rattle.sem_machine.specs.Steps.{Step, first_code, unless}
@@ -14,6 +16,15 @@ unfolding unless
 unless-first [] refuse done = refl
 unless-first ((true, code) ∷ tests) refuse done = refl
 unless-first ((false, code) ∷ tests) refuse done = unless-first tests refuse done
+
+-- a row that is refused
+pub row-refused : (s : Side) (tests : List (Bool × Code)) (done : Step) (code : Code) (o : Outcome) → Some code ≡ first_code tests → o ≡ record { asked = None; grant = None; cut = None; reply = Some (code_number code) }
+    → record { side = s; outcome = o } ≡ unless tests (λ code. record { side = s; outcome = record { asked = None; grant = None; cut = None; reply = Some (code_number code) } }) done
+row-refused s tests done code o first shown = rw (unless-first tests, ← first, shown) refl
+
+-- a row that is not refused
+pub row-done : (tests : List (Bool × Code)) (refuse : Code → Step) (done : Step) → None ≡ first_code tests → unless tests refuse done ≡ done
+row-done tests refuse done none = rw (unless-first tests refuse done, ← none) refl
 
 -- where no test holds, each does not
 pub none-at : (before : List (Bool × Code)) (holds : Bool) (code : Code) (behind : List (Bool × Code)) → first_code (before ++ (holds, code) ∷ behind) ≡ None → holds ≡ false

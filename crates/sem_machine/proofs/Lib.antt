@@ -7,3 +7,4 @@ pub mod Weighing
 pub mod Doomed
 pub mod FirstNumbers
 pub mod Late
+pub mod Placed

@@ -112,6 +112,10 @@ finish T i (suc n) (Some x) s = let s2 = closed T i x s in finish T i n (next_do
 abbrev pub settled : Setup → ℕ → ℕ → Side → Side
 settled T i j s = finish T i (length s.jobs) (if_done (job s j)) s
 
+-- the job of that id, if one is named, is finished
+abbrev pub finished : Setup → ℕ → Option ℕ → Side → Side
+finished T i o s = finish T i (length s.jobs) (option_and_then (job s) o) s
+
 -- a job is opened: its region is marked and unbound, what was made from the region elsewhere is asked for
 unfoldable pub opened : Setup → ℕ → KeyName → Option Up → List ℕ → Bool → Side → Side
 opened T i root up waiters keep s =
