@@ -1,5 +1,3 @@
-pub mod Placed
 pub mod Refusing
 pub mod Deciding
-pub mod Linking
 pub mod Removing

@@ -1,24 +1,16 @@
 -- What a row of tests says where one holds, and where none does.
-use Rattle.std.proofs.Common.{◌≡◌, ℕ, ◌<◌, [], ◌∷◌, Bool, List, Some, None, refl, ◌∙◌}
+use Rattle.std.proofs.Common.{◌≡◌, ℕ, ◌<◌, [], ◌∷◌, Some, None, refl, ◌∙◌}
 use Rattle.std.specs.Prelude.{nat_le}
 use Rattle.std.proofs.lemmas.Bool.{leb-false}
 use Rattle.sem_key.specs.declared.limits.TheConstants.{NUMBERS}
 use Rattle.sem_key.specs.Capability.{Capability}
 use Rattle.sem_msg.specs.Setup.{Setup}
 use Rattle.sem_msg.specs.VpeRows.{is_taken}
-use Rattle.sem_msg.specs.Codes.{code_number}
-use Rattle.sem_msg.specs.declared.code.Code.{Code}
 use Rattle.sem_msg.specs.declared.code.Code.TheVariants.{Occupied, Numbers}
-use Rattle.sem_msg.specs.declared.entry.Outcome.{Outcome}
 use Rattle.sem_machine.specs.Sides.{Side, row, slot, own}
-use Rattle.sem_machine.specs.Steps.{Step, first_code, unless}
+use Rattle.sem_machine.specs.Steps.{first_code}
 use Rattle.sem_machine.specs.Calls.{delegate_row, delegate_tests, destination_tests, offer_made}
 use Rattle.sem_machine.proofs.FirstCodes.{unless-first, none-at}
-
--- a row that is refused
-pub row-refused : (s : Side) (tests : List (Bool × Code)) (done : Step) (code : Code) (o : Outcome) → Some code ≡ first_code tests → o ≡ record { asked = None; grant = None; cut = None; reply = Some (code_number code) }
-    → record { side = s; outcome = o } ≡ unless tests (λ code. record { side = s; outcome = record { asked = None; grant = None; cut = None; reply = Some (code_number code) } }) done
-row-refused s tests done code o first shown = rw (unless-first tests, ← first, shown) refl
 
 -- a delegate that is not refused, of a capability that is held
 pub delegate-done : (T : Setup) (i : ℕ) (s : Side) (v src w dst : ℕ) (p : Capability) → None ≡ first_code (delegate_tests T i s v src w) → Some p ≡ own s v src → delegate_row T i s v src w dst ≡ offer_made T i v w dst p s

@@ -1,15 +1,11 @@
 -- What a VPE gives that consents.
-use Rattle.std.proofs.Common.{◌≡◌, ℕ, Bool, List, Option, Some, None, true, false, refl, sym, ap, ◌∙◌, inl, inr, eq-eqb}
+use Rattle.std.proofs.Common.{◌≡◌, ℕ, Bool, List, Option, Some, None, true, false, refl, sym, ap, ◌∙◌, eq-eqb}
 use Rattle.std.specs.Prelude.{if◌then◌else◌}
-use Rattle.std.specs.Option.{option_map}
-use Rattle.std.proofs.lemmas.Bool.{cases_Bool, not-false}
-use Rattle.sem_key.specs.KeyName.{KeyName, key_eq}
-use Rattle.sem_key.specs.KeyList.{with_key}
+use Rattle.std.proofs.lemmas.Bool.{not-false}
+use Rattle.sem_key.specs.KeyName.{KeyName}
 use Rattle.sem_key.specs.PlaceName.{PlaceName, keyed}
 use Rattle.sem_key.specs.ObjectRanges.{object_kind}
 use Rattle.sem_key.specs.Capability.{Capability}
-use Rattle.sem_key.specs.CapList.{cap_of, linked}
-use Rattle.sem_key.proofs.Finds.{held-change_same, held-change_other}
 use Rattle.sem_key.specs.declared.object.Object.{Object}
 use Rattle.sem_msg.specs.declared.code.Code.{Code}
 use Rattle.sem_msg.specs.declared.code.Code.TheVariants.{Ok as OkCode, Refused}
@@ -101,10 +97,3 @@ given-waiting s caps caps' vpes vpes' park park' k p o number sel waits ready ro
     row (with_parks park' s)
     ∙ (λ i. installed k (Some p) sel o (with_caps caps.caps (with_vpes vpes.rows (with_parks (ready i) s))))
     ∙ ap (λ (state : Option Parked). given_here k p o state (installing caps vpes park s)) (sym waits)
-
--- a key that is absent stays absent where a child is linked
-pub absent-linked : (cs : List Capability) (parent child k : KeyName) → cap_of cs k ≡ None → cap_of (linked cs parent child) k ≡ None
-absent-linked cs parent child k absent = elim (cases_Bool (key_eq parent k)) [
-  | inl same ↦ held-change_same (λ c. record c { children = with_key c.children child }) (λ c. refl) parent k cs same ∙ ap (λ (o : Option Capability). option_map (λ (c : Capability). record c { children = with_key c.children child }) o) absent
-  | inr other ↦ held-change_other (λ c. record c { children = with_key c.children child }) (λ c. refl) parent k cs other ∙ absent
-]

@@ -1,4 +1,3 @@
-pub mod Placed
 pub mod Refusing
 pub mod Ending
 pub mod Services

@@ -1,5 +1,5 @@
 -- What a row of tests says where one holds, and where none does.
-use Rattle.std.proofs.Common.{◌≡◌, ℕ, true, [], ◌∷◌, not, Bool, List, Option, Some, None, refl, sym, ap, ◌∙◌}
+use Rattle.std.proofs.Common.{◌≡◌, ℕ, true, [], ◌∷◌, not, Option, Some, None, refl, sym, ap, ◌∙◌}
 use Rattle.std.specs.Prelude.{◌==◌, is_none}
 use Rattle.std.specs.Option.{option_map, option_map_or, option_and_then}
 use Rattle.std.proofs.lemmas.Bool.{not-false}
@@ -7,26 +7,14 @@ use Rattle.sem_msg.specs.Setup.{Setup}
 use Rattle.sem_msg.specs.declared.setup.Service.{Service}
 use Rattle.sem_msg.specs.declared.message.Target.TheVariants.{Serv as ServTarget, Offer as OfferTarget}
 use Rattle.sem_msg.specs.Lookups.{is_declared, service_named}
-use Rattle.sem_msg.specs.Codes.{code_number}
-use Rattle.sem_msg.specs.declared.code.Code.{Code}
 use Rattle.sem_msg.specs.declared.code.Code.TheVariants.{NoVpe, Dead, NoCap, Revoking, BadKind, NoService, SelfExchange}
-use Rattle.sem_msg.specs.declared.entry.Outcome.{Outcome}
 use Rattle.sem_key.specs.declared.key.Kind.TheVariants.{Sess as SessKind}
 use Rattle.sem_key.specs.KeyName.{KeyName}
 use Rattle.sem_key.specs.Capability.{Capability}
 use Rattle.sem_machine.specs.Sides.{Side, own, is_marked}
-use Rattle.sem_machine.specs.Steps.{Step, answer, first_code, unless}
+use Rattle.sem_machine.specs.Steps.{answer, first_code}
 use Rattle.sem_machine.specs.Calls.{ask_made, obtain_tests, open_tests, open_row, offer_tests, offer_row, destination_tests, is_local_dead, is_service_dead, is_of, object_passes, service_passes, session_service}
 use Rattle.sem_machine.proofs.FirstCodes.{unless-first, none-at, none-behind}
-
--- a row that is refused
-pub row-refused : (s : Side) (tests : List (Bool × Code)) (done : Step) (code : Code) (o : Outcome) → Some code ≡ first_code tests → o ≡ record { asked = None; grant = None; cut = None; reply = Some (code_number code) }
-    → record { side = s; outcome = o } ≡ unless tests (λ code. record { side = s; outcome = record { asked = None; grant = None; cut = None; reply = Some (code_number code) } }) done
-row-refused s tests done code o first shown = rw (unless-first tests, ← first, shown) refl
-
--- a row that is not refused
-pub row-done : (tests : List (Bool × Code)) (refuse : Code → Step) (done : Step) → None ≡ first_code tests → unless tests refuse done ≡ done
-row-done tests refuse done none = rw (unless-first tests refuse done, ← none) refl
 
 -- who is asked by an obtain that is not refused is declared, and the destination is free
 pub obtain-declared : (T : Setup) (i : ℕ) (s : Side) (v dst w : ℕ) → None ≡ first_code (obtain_tests T i s v dst w) → is_declared T w ≡ true

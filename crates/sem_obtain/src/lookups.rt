@@ -98,7 +98,8 @@ pub fn session_service(caps: &Caps, vpes: &Vpes, vpe: u16, sel: u8) -> Option<Ke
     }
 }
 
-// What the VPE is asked for: what stands at its selector, its service, or what its service offers.
+/// What the VPE is asked for: what stands at its selector, its service, or what its service offers.
+/// None where there is no such capability. The VPE is of this kernel. Takes no memory.
 pub fn source<'a>(
     setup: &Setup,
     vpe: u16,

@@ -1,7 +1,7 @@
-ghost use Rattle.std.specs.Prelude.{◌≡◌, ◌≢◌, [], ◌∷◌, ◌<◌, ◌≤◌, IsTrue, IfOk, IfSome, IsSomeAnd, OnOk, Some, None};
+ghost use Rattle.std.specs.Prelude.{◌≡◌, ◌≢◌, [], ◌∷◌, true, ◌<◌, ◌≤◌, IsTrue, IfOk, IfSome, IsSomeAnd, OnOk, Some, None};
 ghost use Rattle.sem_key.specs.CapList.{cap_of};
 ghost use Rattle.sem_key.specs.ObjectRanges.{object_kind, IsValidObject};
-ghost use Rattle.sem_msg.specs.Lookups.{is_declared_at as is_declared_at_lem, kernel_of, owner_of, place_owner};
+ghost use Rattle.sem_msg.specs.Lookups.{is_declared, is_declared_at as is_declared_at_lem, kernel_of, owner_of, place_owner};
 ghost use Rattle.sem_msg.specs.Message.{IsValidTarget};
 ghost use Rattle.sem_msg.specs.ParkedStates.{state_of};
 ghost use Rattle.sem_vpe.specs.VpeTable.{IsOurs};
@@ -81,14 +81,15 @@ impl Model for Kept {
 // What happens in a test.
 #[derive(Clone, Copy, Debug)]
 enum Step {
-    // The asker calls `obtain` for what stands where the neighbour has its memory, or opens a session.
+    // The asker calls `obtain` for what stands where the neighbour has its memory. A VPE opens a
+    // session with the service of that name.
     Obtain(u16),
-    Open(u8),
-    // It holds a session with the service of the other VPE, which a job marks, and asks by what
-    // stands at a selector.
-    Session,
-    Mark,
+    Open(u16, u8),
+    // The asker holds a session with that service, and asks by what stands at a selector. A job
+    // marks the capability.
+    Session(Key),
     Ask(u8),
+    Mark(Key),
     // Its call is answered by kernel 1, or refused by it, and what it was answered is revoked; it
     // ends.
     Answer,
@@ -100,12 +101,10 @@ enum Step {
     // It dies, or the neighbour.
     End,
     EndNeighbour,
-    // Kernel 1 requests a session with its service, and it is asked.
+    // Kernel 1 requests a session with its service.
     Request,
-    Serve,
-    // The neighbour is asked for its memory by the asker, or by the other VPE.
-    Give,
-    Deny,
+    // A VPE is asked by that of the place.
+    Upcall(u16, Place, Target),
 }
 
 // What is seen then: what the last step shows, the selector at which the asker wants a capability,
@@ -278,11 +277,20 @@ fn obtain(kept: &mut Kept, other: u16) -> Result<Outcome, OutOfMemory> {
     Ok(obtain_call(&kept.setup, 0, ASKER, FREE, other, MEMORY, vpes, park, outs))
 }
 
-// Its call `open`.
-fn open_session(kept: &mut Kept, name: u8) -> Result<Outcome, OutOfMemory> {
+// Whether there is such a VPE.
+fn is_there(setup: &Setup, vpe: u16) -> bool
+    ensures { IsTrue result → is_declared setup.now vpe ≡ true }
+{
+    setup.is_declared(vpe)
+}
+
+// The call `open` of a VPE of kernel 0.
+fn open_session(kept: &mut Kept, vpe: u16, name: u8) -> Result<Outcome, Fail> {
     kept.outs.room(1)?;
+    check(is_there(&kept.setup, vpe))?;
+    check(is_ours(&kept.setup, vpe))?;
     let (vpes, park, outs) = (&mut kept.vpes, &mut kept.park, &mut kept.outs);
-    Ok(open_call(&kept.setup, 0, ASKER, FREE, name, vpes, park, outs))
+    Ok(open_call(&kept.setup, 0, vpe, FREE, name, vpes, park, outs))
 }
 
 // Whether the VPE of the key is declared, with its PE.
@@ -319,7 +327,7 @@ fn has_sound_object(setup: &Setup, caps: &Caps, vpes: &Vpes, sel: u8) -> bool
     }
 }
 
-// Its call `ask`.
+// The call `ask` of the asker.
 fn ask(kept: &mut Kept, session: u8, index: u8) -> Result<Outcome, Fail> {
     kept.outs.room(1)?;
     check(has_sound_object(&kept.setup, &kept.caps, &kept.vpes, session))?;
@@ -339,9 +347,8 @@ fn ask(kept: &mut Kept, session: u8, index: u8) -> Result<Outcome, Fail> {
     ))
 }
 
-// The asker has a session with the service of the other VPE.
-fn hold_session(kept: &mut Kept) -> Result<(), Fail> {
-    let service = service(6, OTHER);
+// The asker has a session with the service.
+fn hold_session(kept: &mut Kept, service: Key) -> Result<(), Fail> {
     let ident = ASKER;
     put(
         &mut kept.caps,
@@ -353,9 +360,8 @@ fn hold_session(kept: &mut Kept) -> Result<(), Fail> {
     Ok(())
 }
 
-// A job marks the session.
-fn mark_session(kept: &mut Kept) -> Result<(), Fail> {
-    let key = session();
+// A job marks the capability.
+fn mark(kept: &mut Kept, key: Key) -> Result<(), Fail> {
     check(is_unmarked(&kept.caps, key))?;
     kept.caps.mark(key, 0);
     Ok(())
@@ -511,15 +517,18 @@ fn is_valid(target: Target) -> bool
     }
 }
 
-// Whether the object is a memory or a service with that kind of key.
-fn is_of_kind(object: Object, kind: Kind) -> bool
-    ensures { IsTrue result → IsValidObject object × (kind ≡ object_kind object) }
+// Whether the object is a memory, a service or a session with that kind of key.
+fn is_of_kind(object: &Object, kind: Kind) -> bool
+    ensures { IsTrue result → IsValidObject object.now × (kind ≡ object_kind object.now) }
 {
-    match (object, kind) {
-        (Object::Mem { base, len, rights }, Kind::Mem) => {
-            rights <= RIGHTS && u64::from(base) + u64::from(len) <= ADDRESSES
+    match (kind, object) {
+        (Kind::Mem, Object::Mem { base, len, rights }) => {
+            *rights <= RIGHTS && u64::from(*base) + u64::from(*len) <= ADDRESSES
         }
-        (Object::Serv { .. }, Kind::Serv) => true,
+        (Kind::Serv, Object::Serv { name }) => *name < u8::MAX,
+        (Kind::Sess, Object::Sess { service, ident }) => {
+            service.kind == Kind::Serv && *ident < VPES
+        }
         _ => false,
     }
 }
@@ -552,7 +561,7 @@ fn make_room(
         return Ok(caps.room(1, None)?);
     };
     let key = cap.key;
-    check(is_of_kind(cap.object, key.kind))?;
+    check(is_of_kind(&cap.object, key.kind))?;
     room_below(caps, key)
 }
 
@@ -592,6 +601,16 @@ fn its_memory() -> Target {
         vpe: NEIGHBOUR,
         sel: MEMORY,
     }
+}
+
+// The neighbour is asked for its memory by the asker.
+fn give() -> Step {
+    Step::Upcall(NEIGHBOUR, place(), its_memory())
+}
+
+// A VPE is asked by that of kernel 1.
+fn ask_from_afar(vpe: u16, target: Target) -> Step {
+    Step::Upcall(vpe, other_place(), target)
 }
 
 // A key of a memory of the VPE of kernel 1.
@@ -683,14 +702,33 @@ fn waiting(target: Target) -> Seen {
     }
 }
 
+// The call of the asker will be answered with the code, and its selector is free.
+fn refused_here(code: u8) -> Seen {
+    Seen {
+        parked: Some(Parked::Ready { code }),
+        outcome: shown(ASKER, Consent::Yes, None),
+        ..quiet()
+    }
+}
+
+// The kernel of the VPE that asks from afar is told the code.
+fn refused_there(code: u8) -> Seen {
+    let place = other_place();
+    Seen {
+        message: Some(Message::ObtainNo { place, code }),
+        outcome: shown(OTHER, Consent::Yes, None),
+        ..quiet()
+    }
+}
+
 // The step is done.
 fn act(kept: &mut Kept, step: Step) -> Result<Outcome, Fail> {
     match step {
         Step::Obtain(other) => return Ok(obtain(kept, other)?),
-        Step::Open(name) => return Ok(open_session(kept, name)?),
-        Step::Session => hold_session(kept)?,
-        Step::Mark => mark_session(kept)?,
+        Step::Open(vpe, name) => return open_session(kept, vpe, name),
+        Step::Session(service) => hold_session(kept, service)?,
         Step::Ask(session) => return ask(kept, session, 3),
+        Step::Mark(key) => mark(kept, key)?,
         Step::Answer => answer(kept, parent(), keyed(place(), Kind::Mem), memory())?,
         Step::Refuse => refuse(kept, place(), 5)?,
         Step::Cancel => cancel(kept),
@@ -699,9 +737,7 @@ fn act(kept: &mut Kept, step: Step) -> Result<Outcome, Fail> {
         Step::End => kept.vpes.end(ASKER),
         Step::EndNeighbour => end_neighbour(kept)?,
         Step::Request => request(kept, other_place())?,
-        Step::Serve => return upcall(kept, ASKER, other_place(), own_service()),
-        Step::Give => return upcall(kept, NEIGHBOUR, place(), its_memory()),
-        Step::Deny => return upcall(kept, NEIGHBOUR, other_place(), its_memory()),
+        Step::Upcall(vpe, place, target) => return upcall(kept, vpe, place, target),
     }
     Ok(no_reply())
 }
@@ -779,7 +815,7 @@ fn an_obtain_to_a_promised_selector_is_refused(rt: HostRuntime) -> Result<(), Fa
 
 #[test]
 fn an_obtain_to_a_held_selector_is_refused(rt: HostRuntime) -> Result<(), Fail> {
-    let steps = [Step::Obtain(NEIGHBOUR), Step::Give, Step::Obtain(OTHER)];
+    let steps = [Step::Obtain(NEIGHBOUR), give(), Step::Obtain(OTHER)];
     let seen = after(rt.alloc(), &steps)?;
     let wanted = Seen {
         slot: Slot::Held(keyed(place(), Kind::Mem)),
@@ -859,7 +895,7 @@ fn an_answered_obtain_is_installed(rt: HostRuntime) -> Result<(), Fail> {
 
 #[test]
 fn an_open_asks_the_vpe_of_the_service(rt: HostRuntime) -> Result<(), Fail> {
-    let seen = after(rt.alloc(), &[Step::Open(OTHER_SERVICE)])?;
+    let seen = after(rt.alloc(), &[Step::Open(ASKER, OTHER_SERVICE)])?;
     let service = service(6, OTHER);
     let wanted = Seen {
         outcome: no_reply(),
@@ -871,7 +907,7 @@ fn an_open_asks_the_vpe_of_the_service(rt: HostRuntime) -> Result<(), Fail> {
 
 #[test]
 fn an_open_of_no_service_is_refused(rt: HostRuntime) -> Result<(), Fail> {
-    let seen = after(rt.alloc(), &[Step::Open(NO_SERVICE)])?;
+    let seen = after(rt.alloc(), &[Step::Open(ASKER, NO_SERVICE)])?;
     let wanted = Seen {
         outcome: replied(10),
         ..quiet()
@@ -882,7 +918,7 @@ fn an_open_of_no_service_is_refused(rt: HostRuntime) -> Result<(), Fail> {
 
 #[test]
 fn an_open_of_its_own_service_is_refused(rt: HostRuntime) -> Result<(), Fail> {
-    let seen = after(rt.alloc(), &[Step::Open(OWN_SERVICE)])?;
+    let seen = after(rt.alloc(), &[Step::Open(ASKER, OWN_SERVICE)])?;
     let wanted = Seen {
         outcome: replied(15),
         ..quiet()
@@ -892,8 +928,23 @@ fn an_open_of_its_own_service_is_refused(rt: HostRuntime) -> Result<(), Fail> {
 }
 
 #[test]
+fn an_open_of_a_service_of_a_dead_vpe_is_refused(rt: HostRuntime) -> Result<(), Fail> {
+    let steps = [Step::End, Step::Open(NEIGHBOUR, OWN_SERVICE)];
+    let seen = after(rt.alloc(), &steps)?;
+    let wanted = Seen {
+        outcome: replied(2),
+        ..quiet()
+    };
+    assert_eq!(rt; seen, wanted);
+    Ok(())
+}
+
+#[test]
 fn an_ask_is_for_an_offer_of_the_service_of_a_session(rt: HostRuntime) -> Result<(), Fail> {
-    let seen = after(rt.alloc(), &[Step::Session, Step::Ask(SESSION)])?;
+    let seen = after(
+        rt.alloc(),
+        &[Step::Session(service(6, OTHER)), Step::Ask(SESSION)],
+    )?;
     let target = Target::Offer {
         service: service(6, OTHER),
         index: 3,
@@ -930,7 +981,12 @@ fn an_ask_by_what_is_not_held_is_refused(rt: HostRuntime) -> Result<(), Fail> {
 
 #[test]
 fn an_ask_by_a_session_that_is_being_revoked_is_refused(rt: HostRuntime) -> Result<(), Fail> {
-    let seen = after(rt.alloc(), &[Step::Session, Step::Mark, Step::Ask(SESSION)])?;
+    let steps = [
+        Step::Session(service(6, OTHER)),
+        Step::Mark(session()),
+        Step::Ask(SESSION),
+    ];
+    let seen = after(rt.alloc(), &steps)?;
     let wanted = Seen {
         outcome: replied(4),
         ..quiet()
@@ -940,8 +996,24 @@ fn an_ask_by_a_session_that_is_being_revoked_is_refused(rt: HostRuntime) -> Resu
 }
 
 #[test]
+fn an_ask_of_a_service_of_a_dead_vpe_is_refused(rt: HostRuntime) -> Result<(), Fail> {
+    let steps = [
+        Step::Session(service(5, NEIGHBOUR)),
+        Step::EndNeighbour,
+        Step::Ask(SESSION),
+    ];
+    let seen = after(rt.alloc(), &steps)?;
+    let wanted = Seen {
+        outcome: replied(2),
+        ..quiet()
+    };
+    assert_eq!(rt; seen, wanted);
+    Ok(())
+}
+
+#[test]
 fn a_child_is_installed_for_a_vpe_of_the_same_kernel(rt: HostRuntime) -> Result<(), Fail> {
-    let seen = after(rt.alloc(), &[Step::Obtain(NEIGHBOUR), Step::Give])?;
+    let seen = after(rt.alloc(), &[Step::Obtain(NEIGHBOUR), give()])?;
     let child = keyed(place(), Kind::Mem);
     let granted = Seen {
         slot: Slot::Held(child),
@@ -955,7 +1027,7 @@ fn a_child_is_installed_for_a_vpe_of_the_same_kernel(rt: HostRuntime) -> Result<
 
 #[test]
 fn a_child_is_sent_to_another_kernel(rt: HostRuntime) -> Result<(), Fail> {
-    let seen = after(rt.alloc(), &[Step::Serve])?;
+    let seen = after(rt.alloc(), &[ask_from_afar(ASKER, own_service())])?;
     let (parent, key) = (service(1, ASKER), keyed(other_place(), Kind::Sess));
     let object = Object::Sess {
         service: service(1, ASKER),
@@ -975,8 +1047,88 @@ fn a_child_is_sent_to_another_kernel(rt: HostRuntime) -> Result<(), Fail> {
 }
 
 #[test]
+fn an_upcall_where_nothing_stands_refuses(rt: HostRuntime) -> Result<(), Fail> {
+    let target = Target::Sel {
+        vpe: NEIGHBOUR,
+        sel: FREE,
+    };
+    let steps = [
+        Step::Obtain(NEIGHBOUR),
+        Step::Upcall(NEIGHBOUR, place(), target),
+    ];
+    let seen = after(rt.alloc(), &steps)?;
+    let wanted = Seen {
+        message: None,
+        ..refused_here(3)
+    };
+    assert_eq!(rt; seen, wanted);
+    Ok(())
+}
+
+#[test]
+fn an_upcall_for_what_is_not_offered_refuses(rt: HostRuntime) -> Result<(), Fail> {
+    let target = Target::Offer {
+        service: service(1, ASKER),
+        index: 3,
+    };
+    let seen = after(rt.alloc(), &[ask_from_afar(ASKER, target)])?;
+    let wanted = Seen {
+        parked: None,
+        ..refused_there(3)
+    };
+    assert_eq!(rt; seen, wanted);
+    Ok(())
+}
+
+#[test]
+fn an_upcall_for_what_is_being_revoked_refuses(rt: HostRuntime) -> Result<(), Fail> {
+    let steps = [Step::Mark(root()), Step::Obtain(NEIGHBOUR), give()];
+    let seen = after(rt.alloc(), &steps)?;
+    let wanted = Seen {
+        message: None,
+        ..refused_here(4)
+    };
+    assert_eq!(rt; seen, wanted);
+    Ok(())
+}
+
+#[test]
+fn an_upcall_for_a_service_by_its_selector_refuses(rt: HostRuntime) -> Result<(), Fail> {
+    let target = Target::Sel {
+        vpe: ASKER,
+        sel: SERVICE,
+    };
+    let seen = after(rt.alloc(), &[ask_from_afar(ASKER, target)])?;
+    let wanted = Seen {
+        parked: None,
+        ..refused_there(8)
+    };
+    assert_eq!(rt; seen, wanted);
+    Ok(())
+}
+
+#[test]
+fn an_upcall_for_a_session_by_its_selector_refuses(rt: HostRuntime) -> Result<(), Fail> {
+    let target = Target::Sel {
+        vpe: ASKER,
+        sel: SESSION,
+    };
+    let steps = [
+        Step::Session(service(6, OTHER)),
+        ask_from_afar(ASKER, target),
+    ];
+    let seen = after(rt.alloc(), &steps)?;
+    let wanted = Seen {
+        parked: None,
+        ..refused_there(8)
+    };
+    assert_eq!(rt; seen, wanted);
+    Ok(())
+}
+
+#[test]
 fn an_ask_is_denied(rt: HostRuntime) -> Result<(), Fail> {
-    let seen = after(rt.alloc(), &[Step::Deny])?;
+    let seen = after(rt.alloc(), &[ask_from_afar(NEIGHBOUR, its_memory())])?;
     let place = other_place();
     let denied = Seen {
         message: Some(Message::ObtainNo { place, code: 5 }),
@@ -989,7 +1141,7 @@ fn an_ask_is_denied(rt: HostRuntime) -> Result<(), Fail> {
 
 #[test]
 fn an_ask_that_nobody_waits_for_is_dropped(rt: HostRuntime) -> Result<(), Fail> {
-    let seen = after(rt.alloc(), &[Step::Give])?;
+    let seen = after(rt.alloc(), &[give()])?;
     let dropped = Seen {
         outcome: shown(ASKER, Consent::Dropped, None),
         ..quiet()

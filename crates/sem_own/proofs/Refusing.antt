@@ -1,37 +1,25 @@
 -- What a row of tests says where one holds, and where none does.
-use Rattle.std.proofs.Common.{◌≡◌, ℕ, ◌<◌, [], ◌∷◌, not, Bool, List, Option, Some, None, refl, sym, ap, ◌∙◌, inl, inr}
+use Rattle.std.proofs.Common.{◌≡◌, ℕ, ◌<◌, [], ◌∷◌, not, Option, Some, None, refl, sym, ap, ◌∙◌}
 use Rattle.std.specs.Prelude.{nat_le, is_none}
-use Rattle.std.specs.Option.{option_map}
 use Rattle.std.proofs.lemmas.Bool.{leb-false}
-use Rattle.std.proofs.lemmas.Bool.{cases_Bool}
 use Rattle.sem_key.specs.declared.key.Kind.TheVariants.{Mem as MemKind, Recv as RecvKind}
 use Rattle.sem_key.specs.declared.object.Object.TheVariants.{Send}
-use Rattle.sem_key.specs.KeyName.{KeyName, key_eq}
+use Rattle.sem_key.specs.KeyName.{key_eq}
 use Rattle.sem_key.specs.Capability.{Capability}
-use Rattle.sem_key.specs.CapList.{cap_of, linked}
-use Rattle.sem_key.specs.KeyList.{with_key}
+use Rattle.sem_key.specs.CapList.{cap_of}
 use Rattle.sem_key.proofs.KeyTests.{key_eq-true}
 use Rattle.sem_key.proofs.Members.{found}
-use Rattle.sem_key.proofs.Finds.{held-change_same, held-change_other}
 use Rattle.sem_msg.specs.Setup.{Setup}
 use Rattle.sem_msg.specs.VpeRows.{is_taken}
 use Rattle.sem_msg.specs.declared.state.Slot.{Slot}
 use Rattle.sem_msg.specs.declared.state.Slot.TheVariants.{Free, Held, Promised}
-use Rattle.sem_msg.specs.declared.entry.Outcome.{Outcome}
-use Rattle.sem_msg.specs.declared.code.Code.{Code}
-use Rattle.sem_msg.specs.Codes.{code_number}
 use Rattle.sem_msg.specs.declared.code.Code.TheVariants.{NoCap, Revoking, Occupied, Numbers, BadKind, Wider}
 use Rattle.sem_caps.specs.CapStore.{CapStore}
 use Rattle.sem_machine.specs.Sides.{Side, row, own, slot, cap_in, is_marked}
-use Rattle.sem_machine.specs.Steps.{Step, first_code, unless}
+use Rattle.sem_machine.specs.Steps.{first_code}
 use Rattle.sem_machine.proofs.FirstCodes.{unless-first, none-at}
 use Rattle.sem_machine.specs.Calls.{derive_tests, derive_row, gate_tests, gate_row, child_made, narrowed, object_passes, is_of, is_wider, exceeds_slots}
 use Rattle.sem_own.specs.Holding.{HasChildRoom}
-
--- a row that is refused
-pub row-refused : (s : Side) (tests : List (Bool × Code)) (done : Step) (code : Code) (o : Outcome) → Some code ≡ first_code tests → o ≡ record { asked = None; grant = None; cut = None; reply = Some (code_number code) }
-    → record { side = s; outcome = o } ≡ unless tests (λ code. record { side = s; outcome = record { asked = None; grant = None; cut = None; reply = Some (code_number code) } }) done
-row-refused s tests done code o first shown = rw (unless-first tests, ← first, shown) refl
 
 -- a row that is not refused, on a capability that is held
 pub derive-done : (T : Setup) (s : Side) (v src dst off len rights : ℕ) (p : Capability) → None ≡ first_code (derive_tests s v src dst off len rights) → Some p ≡ own s v src → derive_row T s v src dst off len rights ≡ child_made T v dst (narrowed off len rights p.object) p.key s
@@ -59,10 +47,3 @@ child-room caps s (Held k) p same held room =
     let there : cap_of caps.caps k ≡ Some p = ap (λ cs. cap_of cs k) (sym same) ∙ sym held in
     let key : p.key ≡ k = key_eq-true p.key k (found (λ c. key_eq c.key k) caps.caps p there).1 in
     room ∙ rw (there, key) refl
-
--- a key that is absent stays absent where a child is linked
-pub absent-linked : (cs : List Capability) (parent child k : KeyName) → cap_of cs k ≡ None → cap_of (linked cs parent child) k ≡ None
-absent-linked cs parent child k absent = elim (cases_Bool (key_eq parent k)) [
-  | inl same ↦ held-change_same (λ c. record c { children = with_key c.children child }) (λ c. refl) parent k cs same ∙ ap (λ (o : Option Capability). option_map (λ (c : Capability). record c { children = with_key c.children child }) o) absent
-  | inr other ↦ held-change_other (λ c. record c { children = with_key c.children child }) (λ c. refl) parent k cs other ∙ absent
-]

@@ -274,7 +274,7 @@ module _ (T : Setup) (valid : IsSetup T) (i : ℕ) (few : i < T.kernels) where
         adopts None = here
         adopts (Some m) = raised-sound T i None None None (Some j) (with_up (Local j) m t) (up-sound T i None None None (Some j) t here (Local j) m id-fits) j
 
-    opened-sound : IsSoundBut T i None None None (Some j) 0 (opened T i root up ws keep s)
+    pub opened-sound : IsSoundBut T i None None None (Some j) 0 (opened T i root up ws keep s)
     unfolding opened
     opened-sound =
         let links : (c : Capability) → Contains s.caps c → (k : KeyName) → Contains c.children k → IsNamed T k = λ c among k child. (is.caps c among).children k child in

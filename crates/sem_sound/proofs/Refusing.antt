@@ -26,7 +26,7 @@ use Rattle.sem_machine.specs.Sound.{IsSoundCall, IsSoundAsk, kept, IsSound, one_
 use Rattle.sem_machine.specs.Sides.{Side, row, cap, parked, unparked, buried, ready, freed}
 use Rattle.sem_machine.specs.Asks.{asker, waits_for, is_unawaited, promise_freed, call_refused, refusal_sent, ask_refused}
 use Rattle.sem_machine.specs.Revokes.{waiter_left, begin}
-use Rattle.sem_machine.specs.Ends.{ask_ended, call_ended, revoked_if_left, keys_of, ended}
+use Rattle.sem_machine.specs.Ends.{ask_ended, call_ended, ended_but_held, revoked_if_left, keys_of, ended}
 use Rattle.sem_key.proofs.Puts.{get_or-put_same, get_or-put_other}
 use Rattle.sem_key.proofs.Members.{Contains-nil, Contains-from_filter, Contains-from_map}
 use Rattle.sem_machine.proofs.Folds.{in_turn-keeps, in_turn-keeps_each}
@@ -182,11 +182,11 @@ module _ (T : Setup) (valid : IsSetup T) (i : ℕ) (few : i < T.kernels) where
               eqb-false v v (not-true (v == v) (Contains-from_filter (λ w. not (w == v)) o.0.waiters v still).1) refl
       from (Some (Ready code)) at = out (Some (Ready code)) at (λ j none. absurd cc) refl
 
-  abbrev revoked_if_there : ℕ → KeyName → Option Capability → Side → Side
+  abbrev pub revoked_if_there : ℕ → KeyName → Option Capability → Side → Side
   revoked_if_there i k None s = s
   revoked_if_there i k (Some c) s = option_map_or (λ m. s) c.mark (begin T i k None [] false s)
 
-  revoked-sound : (k : KeyName) (o : Option Capability) (s : Side) → cap s k ≡ o → IsSound T i s → IsSound T i (revoked_if_there i k o s) × NoMore s (revoked_if_there i k o s)
+  pub revoked-sound : (k : KeyName) (o : Option Capability) (s : Side) → cap s k ≡ o → IsSound T i s → IsSound T i (revoked_if_there i k o s) × NoMore s (revoked_if_there i k o s)
   revoked-sound k None s held is = (is, no-more s)
   revoked-sound k (Some c) s held is = by_mark c.mark refl
     where
@@ -215,14 +215,20 @@ module _ (T : Setup) (valid : IsSetup T) (i : ℕ) (few : i < T.kernels) where
   call_ended-fit (Some (RevokeWait j)) v t fit = mapped-fit t (λ (x : JobRow). record x { waiters = without_number x.waiters v; keep = x.keep && not ((x.id == j) && (x.root.vpe == v)) }) (λ x. omega arith) fit
   call_ended-fit (Some (Ready code)) v t fit = fit
 
+  -- a VPE ends, but for what it holds
+  pub ended_but_held-sound : (s : Side) → IsSound T i s → (v : ℕ) → kernel_of T v ≡ i → IsSound T i (ended_but_held T i v s) × NoMore (unparked v s) (ended_but_held T i v s)
+  ended_but_held-sound s is v local =
+      let asks : List Ask = (row s v).asks in
+      let answered : Side = in_turn (ask_ended T i) asks (buried v s) in
+      let answered-sound : IsSound T i answered × NoMore s answered = in_turn-keeps_each (λ t. IsSound T i t × NoMore s t) (ask_ended T i) asks (λ a among t here. let step = ask_ended-sound a ((is.rows v).asks a among) t here.0 in (step.0, chained s t (ask_ended T i a t) here.1 step.1)) (buried v s) (buried-sound T valid i few None None None None s is v local, no-more s) in
+      let dead : (row answered v).alive ≡ false = in_turn-keeps (IsDead v) (ask_ended T i) (λ a t here. ask_ended-dead v a t here) asks (buried v s) (ap (λ (r : VpeRow). r.alive) (get_or-put_same no_vpe s.vpes v (record (row s v) { alive = false; asks = [] }))) in
+      let left-sound : IsSound T i (ended_but_held T i v s) = call_ended-sound answered answered-sound.0 v local dead (parked answered v) refl in
+      let left-parks : NoMore (unparked v s) (ended_but_held T i v s) = ((λ w. let less = (unparked-both s answered v answered-sound.1).0 w in let same = ap (λ (ps : List (Option Parked)). one_if (get_or ps w None)) (call_ended-parks (parked answered v) v (unparked v answered)) in omega (arith, less, same)), (λ fit. call_ended-fit (parked answered v) v (unparked v answered) (answered-sound.1.1 fit))) in
+      (left-sound, left-parks)
+
+  -- and what it holds is revoked
   pub ended-sound : (s : Side) → IsSound T i s → (v : ℕ) → kernel_of T v ≡ i → IsSound T i (ended T i v s) × NoMore (unparked v s) (ended T i v s)
   unfolding ended
   ended-sound s is v local =
-      let asks : List Ask = (row s v).asks in
-      let answered : Side = in_turn (ask_ended T i) asks (buried v s) in
-      let left : Side = call_ended T (parked answered v) v (unparked v answered) in
-      let answered-sound : IsSound T i answered × NoMore s answered = in_turn-keeps_each (λ t. IsSound T i t × NoMore s t) (ask_ended T i) asks (λ a among t here. let step = ask_ended-sound a ((is.rows v).asks a among) t here.0 in (step.0, chained s t (ask_ended T i a t) here.1 step.1)) (buried v s) (buried-sound T valid i few None None None None s is v local, no-more s) in
-      let dead : (row answered v).alive ≡ false = in_turn-keeps (IsDead v) (ask_ended T i) (λ a t here. ask_ended-dead v a t here) asks (buried v s) (ap (λ (r : VpeRow). r.alive) (get_or-put_same no_vpe s.vpes v (record (row s v) { alive = false; asks = [] }))) in
-      let left-sound : IsSound T i left = call_ended-sound answered answered-sound.0 v local dead (parked answered v) refl in
-      let left-parks : NoMore (unparked v s) left = ((λ w. let less = (unparked-both s answered v answered-sound.1).0 w in let same = ap (λ (ps : List (Option Parked)). one_if (get_or ps w None)) (call_ended-parks (parked answered v) v (unparked v answered)) in omega (arith, less, same)), (λ fit. call_ended-fit (parked answered v) v (unparked v answered) (answered-sound.1.1 fit))) in
-      in_turn-keeps (λ t. IsSound T i t × NoMore (unparked v s) t) (revoked_if_left T i) (λ k t here. let step = revoked-sound k (cap t k) t refl here.0 in (step.0, chained (unparked v s) t (revoked_if_there i k (cap t k) t) here.1 step.1)) (keys_of left v) left (left-sound, left-parks)
+      let left : Side = ended_but_held T i v s in
+      in_turn-keeps (λ t. IsSound T i t × NoMore (unparked v s) t) (revoked_if_left T i) (λ k t here. let step = revoked-sound k (cap t k) t refl here.0 in (step.0, chained (unparked v s) t (revoked_if_there i k (cap t k) t) here.1 step.1)) (keys_of left v) left (ended_but_held-sound s is v local)

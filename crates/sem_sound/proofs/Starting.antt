@@ -43,7 +43,7 @@ use Rattle.sem_msg.proofs.Declared.{most_vpes-le}
 use Rattle.sem_sound.proofs.Objects.{few-roots, decl-at}
 use Rattle.sem_sound.proofs.Calling.{drawn-slot}
 
-get_or-replicate : {X : Type 0} (n : ℕ) (x : X) (k : ℕ) → get_or (replicate n x) k x ≡ x
+pub get_or-replicate : {X : Type 0} (n : ℕ) (x : X) (k : ℕ) → get_or (replicate n x) k x ≡ x
 get_or-replicate zero x k = refl
 get_or-replicate (suc n) x zero = refl
 get_or-replicate (suc n) x (suc k) = get_or-replicate n x k

@@ -40,13 +40,13 @@ use Rattle.sem_sound.proofs.Handling.{handled-sound}
 first-among : (xs : List Ask) (a : Ask) → slice_get xs 0 ≡ Some a → Contains xs a
 first-among xs a at = (0, slice_get_within xs 0 a at, get_or_from_slice_get xs 0 a a at)
 
-none-is : (o : Option Parked) → is_none o ≡ true → o ≡ None
+pub none-is : (o : Option Parked) → is_none o ≡ true → o ≡ None
 none-is None none = refl
 none-is (Some p) none = absurd cc
 
 module _ (T : Setup) (valid : IsSetup T) (i : ℕ) (few : i < T.kernels) where
   -- the calls of a VPE are in their ranges
-  call-valid : (v n : ℕ) (c : Call) → slice_get (calls_of T v) n ≡ Some c → IsValidCall (most_vpes T.version) c
+  pub call-valid : (v n : ℕ) (c : Call) → slice_get (calls_of T v) n ≡ Some c → IsValidCall (most_vpes T.version) c
   call-valid v n c at = from (decl T v) refl at
     where
       from : (o : Option VpeDecl) → decl T v ≡ o → slice_get (option_map_or (λ d. d.calls) o []) n ≡ Some c → IsValidCall (most_vpes T.version) c

@@ -3,7 +3,8 @@ use Rattle.sem_key.specs.Capability.{capability_of}
 use Rattle.sem_machine.specs.Calls.{delegate_tests}
 use Rattle.sem_machine.specs.Stores.{with_caps}
 use Rattle.sem_delegate.specs.Delegating.{offering}
-use Rattle.sem_delegate.proofs.Refusing.{row-refused, delegate-done}
+use Rattle.sem_machine.proofs.FirstCodes.{row-refused}
+use Rattle.sem_delegate.proofs.Refusing.{delegate-done}
 use Rattle.sem_delegate.proofs.calls.delegate_call.Goals as goal
 
 -- the first test that holds

@@ -1,5 +1,5 @@
 use Rattle.std.proofs.Common.{arith}
-use Rattle.sem_delegate.proofs.Placed.{boxes-sent}
+use Rattle.sem_machine.proofs.Placed.{boxes-sent}
 use Rattle.sem_delegate.proofs.calls.make_offer.Goals as goal
 
 -- there are as many outboxes after a message was sent

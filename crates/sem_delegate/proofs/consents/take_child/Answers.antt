@@ -2,7 +2,7 @@ use Rattle.std.proofs.Common.{ap, ◌∙◌}
 use Rattle.sem_key.specs.KeyName.{KeyName}
 use Rattle.sem_key.specs.CapList.{cap_of}
 use Rattle.sem_caps.specs.CapStore.{CapStore}
-use Rattle.sem_delegate.proofs.Linking.{absent-linked}
+use Rattle.sem_key.proofs.Finds.{absent-linked}
 use Rattle.sem_delegate.proofs.consents.take_child.Goals as goal
 
 -- the number was not drawn before

@@ -1,15 +1,13 @@
-use Rattle.std.proofs.Common.{◌≡◌, ◌≢◌, ℕ, ◌<◌, List, [], ◌∷◌, None, Some, replicate, refl, sym, subst, inr, arith, rules}
+use Rattle.std.proofs.Common.{◌≢◌, ℕ, ◌<◌, [], ◌∷◌, None, Some, replicate, refl, inr, arith, rules}
 use Rattle.std.specs.List.{All, AllPairs, slice_set}
 use Rattle.std.proofs.lemmas.List.Elements.{All-cons, All-nil}
 use Rattle.std.proofs.lemmas.List.Kept.{AllPairs-cons}
 use Rattle.sem_key.specs.declared.limits.TheConstants.{PES, VPES}
 use Rattle.sem_key.specs.MembershipTable.{MembershipTable, IsMembership}
 use Rattle.sem_msg.specs.declared.setup.VpeDecl.{VpeDecl}
-use Rattle.sem_msg.specs.declared.setup.Service.{Service}
-use Rattle.sem_msg.specs.declared.setup.Offer.{Offer}
 use Rattle.sem_msg.specs.Calls.{IsValidCall}
 use Rattle.sem_msg.proofs.Declared.{owned-within}
-use Rattle.sem_msg.specs.Setup.{Setup, IsSetup, IsRoot, IsVpeDecl, services_from}
+use Rattle.sem_msg.specs.Setup.{Setup, IsSetup, IsRoot, IsVpeDecl, IsDeclared, ComesBefore, services_from}
 use Rattle.sem_delegate.proofs.tests.two_kernels.Goals as goal
 
 abbrev owners : MembershipTable
@@ -25,7 +23,10 @@ abbrev third : VpeDecl
 third = record { vpe = 4; pe = 6; roots = []; calls = [] }
 
 abbrev setup : Setup
-setup = record { version = 2; window = 4; kernels = 2; owners = owners; vpes = first ∷ second ∷ third ∷ []; services = []; offers = []; denies = []; kills = [] }
+setup = record { version = 2; window = 4; kernels = 2; owners = owners; vpes = first ∷ second ∷ third ∷ []; services = []; offers = []; denies = (3, 2) ∷ (3, 4) ∷ []; kills = [] }
+
+abbrev IsDenied : ℕ × ℕ → Type 0
+IsDenied d = IsDeclared setup d.0 × IsDeclared setup d.1
 
 all_three : {X : Type 0} (P : X → Type 0) (a b c : X) → P a → P b → P c → All P (a ∷ b ∷ c ∷ [])
 all_three P a b c pa pb pc = All-cons P a (b ∷ c ∷ []) pa (All-cons P b (c ∷ []) pb (All-cons P c [] pc (All-nil P)))
@@ -82,23 +83,32 @@ is_setup membership = record {
   services = λ s. (λ h. h, λ h. h);
   offers = λ k d lt. absurd (omega arith);
   offers_rise = λ i j d lt within. absurd (omega arith);
-  denies = λ k d lt. absurd (omega arith);
-  denies_rise = λ i j d lt within. absurd (omega arith);
+  denies = All-cons IsDenied (3, 2) ((3, 4) ∷ []) ((1, second, omega arith, refl, refl), (0, first, omega arith, refl, refl)) (All-cons IsDenied (3, 4) [] ((1, second, omega arith, refl, refl), (2, third, omega arith, refl, refl)) (All-nil IsDenied));
+  denies_rise = AllPairs-cons ComesBefore (3, 2) ((3, 4) ∷ []) (All-cons (ComesBefore (3, 2)) (3, 4) [] (inr (refl, omega arith)) (All-nil (ComesBefore (3, 2)))) (λ i j d lt within. absurd (omega arith));
   kills = λ k d lt. absurd (omega arith);
   kills_rise = λ i j d lt within. absurd (omega arith);
   few_calls = omega arith;
 }
 
--- a setup with these parts
-made : (m : MembershipTable) (vs : List VpeDecl) (ss : List Service) (os : List Offer) (ds ks : List (ℕ × ℕ)) → m ≡ owners → vs ≡ first ∷ second ∷ third ∷ [] → ss ≡ [] → os ≡ [] → ds ≡ [] → ks ≡ [] → IsMembership m
-    → IsSetup (record { version = 2; window = 4; kernels = 2; owners = m; vpes = vs; services = ss; offers = os; denies = ds; kills = ks })
-made m vs ss os ds ks owned listed no_service no_offer no_deny no_kill valid =
-    let same : setup ≡ record { version = 2; window = 4; kernels = 2; owners = m; vpes = vs; services = ss; offers = os; denies = ds; kills = ks } =
-    λ i. record { version = 2; window = 4; kernels = 2; owners = sym owned i; vpes = sym listed i; services = sym no_service i; offers = sym no_offer i; denies = sym no_deny i; kills = sym no_kill i } in
-    subst IsSetup same (is_setup (subst IsMembership owned valid))
-
 pub invariant_of-result : goal.invariant_of-result
 invariant_of-result c =
-    let owned : c.set-3.new.self ≡ owners = rw (c.in_ok-set-3.ensures.ok, c.in_ok-set-2.ensures.ok, c.in_ok-set.ensures.ok, c.empty-owners.ensures.empty) refl in
-    let listed : c.push-3.new.self ≡ first ∷ second ∷ third ∷ [] = rw (c.in_ok-push-3.ensures.ok, c.in_ok-push-2.ensures.ok, c.in_ok-push.ensures.ok, c.new-vpes.ensures, c.new.ensures, c.new-2.ensures, c.new-3.ensures, c.new-4.ensures, c.new-5.ensures, c.new-6.ensures) refl in
-    made c.set-3.new.self c.push-3.new.self c.new-7.result c.new-8.result c.new-9.result c.new-10.result owned listed c.new-7.ensures c.new-8.ensures c.new-9.ensures c.new-10.ensures c.in_ok-set-3.ensures.table
+    let membership : IsMembership owners = rw (c.in_ok-set-3.ensures.ok, c.in_ok-set-2.ensures.ok, c.in_ok-set.ensures.ok, c.empty-owners.ensures.empty) at c.in_ok-set-3.ensures.table in
+    rw (
+      c.in_ok-set-3.ensures.ok,
+      c.in_ok-set-2.ensures.ok,
+      c.in_ok-set.ensures.ok,
+      c.empty-owners.ensures.empty,
+      c.in_ok-push-3.ensures.ok,
+      c.in_ok-push-2.ensures.ok,
+      c.in_ok-push.ensures.ok,
+      c.new-vpes.ensures,
+      c.declared.ensures,
+      c.declared-2.ensures,
+      c.declared-3.ensures,
+      c.in_ok-push-5.ensures.ok,
+      c.in_ok-push-4.ensures.ok,
+      c.new-denies.ensures,
+      c.new.ensures,
+      c.new-2.ensures,
+      c.new-3.ensures,
+    ) (is_setup membership)

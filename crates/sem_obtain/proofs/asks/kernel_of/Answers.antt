@@ -1,6 +1,6 @@
 use Rattle.std.proofs.Common.{◌≤◌, subst, arith}
 use Rattle.sem_msg.specs.Setup.{IsSetup}
-use Rattle.sem_obtain.proofs.Placed.{declared-below, declared-vpe}
+use Rattle.sem_machine.proofs.Placed.{declared-below, declared-vpe}
 use Rattle.sem_obtain.proofs.asks.kernel_of.Goals as goal
 
 -- a declared VPE has a kernel

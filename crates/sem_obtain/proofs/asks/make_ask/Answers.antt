@@ -7,7 +7,7 @@ use Rattle.sem_msg.specs.Rows.{VpeRow, no_vpe}
 use Rattle.sem_msg.specs.VpeRows.{row, slot, is_taken, drawn}
 use Rattle.sem_msg.specs.declared.code.Code.TheVariants.{Occupied, Numbers}
 use Rattle.sem_machine.proofs.FirstCodes.{none-at}
-use Rattle.sem_obtain.proofs.Placed.{boxes-sent}
+use Rattle.sem_machine.proofs.Placed.{boxes-sent}
 use Rattle.sem_obtain.proofs.asks.make_ask.Goals as goal
 
 -- the destination is free also after a number was drawn

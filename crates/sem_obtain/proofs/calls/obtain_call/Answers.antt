@@ -1,7 +1,7 @@
 use Rattle.std.proofs.Common.{sym, ap, ◌∙◌}
 use Rattle.sem_machine.specs.Calls.{ask_made, obtain_tests}
 use Rattle.sem_obtain.specs.Asking.{asking}
-use Rattle.sem_obtain.proofs.Refusing.{row-refused, row-done}
+use Rattle.sem_machine.proofs.FirstCodes.{row-refused, row-done}
 use Rattle.sem_obtain.proofs.calls.obtain_call.Goals as goal
 
 -- the first test that holds

@@ -5,7 +5,8 @@ use Rattle.sem_machine.specs.Sides.{no_side, own}
 use Rattle.sem_machine.specs.Calls.{ask_made, offer_tests}
 use Rattle.sem_machine.specs.Stores.{with_caps}
 use Rattle.sem_obtain.specs.Asking.{giving, holding}
-use Rattle.sem_obtain.proofs.Refusing.{row-refused, offer-done, offer-free}
+use Rattle.sem_machine.proofs.FirstCodes.{row-refused}
+use Rattle.sem_obtain.proofs.Refusing.{offer-done, offer-free}
 use Rattle.sem_obtain.proofs.Services.{session-declared}
 use Rattle.sem_obtain.proofs.calls.offer_call.Goals as goal
 

@@ -5,7 +5,8 @@ use Rattle.sem_machine.specs.Sides.{no_side}
 use Rattle.sem_machine.specs.Calls.{ask_made, open_tests}
 use Rattle.sem_machine.specs.Stores.{with_vpes}
 use Rattle.sem_obtain.specs.Asking.{asking}
-use Rattle.sem_obtain.proofs.Refusing.{row-refused, open-done, open-free}
+use Rattle.sem_machine.proofs.FirstCodes.{row-refused}
+use Rattle.sem_obtain.proofs.Refusing.{open-done, open-free}
 use Rattle.sem_obtain.proofs.calls.open_call.Goals as goal
 
 -- the first test that holds

@@ -6,8 +6,9 @@ use Rattle.sem_caps.specs.CapStore.{CapStore}
 use Rattle.sem_machine.specs.Upcalls.{given_here}
 use Rattle.sem_machine.specs.Stores.{with_outs}
 use Rattle.sem_obtain.specs.Asking.{giving, installing}
-use Rattle.sem_obtain.proofs.Placed.{boxes-sent}
-use Rattle.sem_obtain.proofs.Granting.{absent-linked, child-here}
+use Rattle.sem_machine.proofs.Placed.{boxes-sent}
+use Rattle.sem_key.proofs.Finds.{absent-linked}
+use Rattle.sem_obtain.proofs.Granting.{child-here}
 use Rattle.sem_obtain.proofs.upcalls.give.Goals as goal
 
 -- the key is not held after the link either

@@ -3,7 +3,8 @@ use Rattle.sem_key.specs.Capability.{capability_of}
 use Rattle.sem_machine.specs.Sides.{no_side, slot}
 use Rattle.sem_machine.specs.Calls.{derive_tests, child_made}
 use Rattle.sem_own.specs.Holding.{holding}
-use Rattle.sem_own.proofs.Refusing.{row-refused, derive-done, derive-number, child-room}
+use Rattle.sem_machine.proofs.FirstCodes.{row-refused}
+use Rattle.sem_own.proofs.Refusing.{derive-done, derive-number, child-room}
 use Rattle.sem_own.proofs.children.derive_call.Goals as goal
 
 -- the first test that holds

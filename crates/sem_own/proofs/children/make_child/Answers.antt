@@ -4,7 +4,7 @@ use Rattle.sem_key.specs.CapList.{cap_of}
 use Rattle.sem_msg.specs.Lookups.{pe_of}
 use Rattle.sem_msg.specs.VpeRows.{row}
 use Rattle.sem_caps.specs.CapStore.{CapStore}
-use Rattle.sem_own.proofs.Refusing.{absent-linked}
+use Rattle.sem_key.proofs.Finds.{absent-linked}
 use Rattle.sem_own.proofs.children.make_child.Goals as goal
 
 -- the number was not drawn before

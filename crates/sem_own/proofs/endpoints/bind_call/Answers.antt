@@ -3,7 +3,7 @@ use Rattle.sem_key.specs.Capability.{capability_of}
 use Rattle.sem_machine.specs.Calls.{bind_tests}
 use Rattle.sem_machine.specs.Stores.{with_endpoints}
 use Rattle.sem_own.specs.Holding.{holding}
-use Rattle.sem_own.proofs.Refusing.{row-refused}
+use Rattle.sem_machine.proofs.FirstCodes.{row-refused}
 use Rattle.sem_own.proofs.Using.{bind-done}
 use Rattle.sem_own.proofs.endpoints.bind_call.Goals as goal
 
