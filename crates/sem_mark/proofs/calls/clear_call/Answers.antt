@@ -1,0 +1,36 @@
+use Rattle.std.proofs.Common.{◌≡◌, true, [], ◌∷◌, length, None, sym, ap, ◌∙◌}
+use Rattle.std.proofs.lemmas.Option.{same_Some}
+use Rattle.sem_key.specs.KeyName.{KeyName}
+use Rattle.sem_key.specs.Capability.{Capability, capability_of}
+use Rattle.sem_msg.specs.declared.state.Parked.TheVariants.{RevokeWait}
+use Rattle.sem_machine.specs.Sides.{Side, parked_as}
+use Rattle.sem_machine.specs.Calls.{own_tests}
+use Rattle.sem_machine.specs.Sides
+use Rattle.sem_machine.specs.Revokes.{opened}
+use Rattle.sem_machine.specs.Stores.{with_vpes}
+use Rattle.sem_machine.proofs.FirstCodes.{row-refused}
+use Rattle.sem_mark.specs.Marking.{revoking}
+use Rattle.sem_mark.proofs.Begun.{finish-none, clear-done}
+use Rattle.sem_mark.proofs.calls.clear_call.Goals as goal
+
+-- the first test that holds
+pub returns-in-Some-clause-row : goal.returns-in-Some-clause-row
+returns-in-Some-clause-row c s =
+    let side : Side = revoking c.args.caps.now c.args.vpes.now c.args.dtus.now c.args.jobs.now c.args.park.now c.args.outs.now s in
+    ap (λ (x : Side). record { side = x; outcome = c.answered.result }) (finish-none c.args.setup.now c.args.kernel (length side.jobs) side)
+    ∙ row-refused side (own_tests (Sides.own side c.args.vpe c.args.sel)) _ c.in-Some.code c.answered.result c.in-Some.ensures c.answered.ensures
+
+-- no test holds
+pub returns-clause-row : goal.returns-clause-row
+returns-clause-row c s =
+    let side : Side = revoking c.args.caps.now c.args.vpes.now c.args.dtus.now c.args.jobs.now c.args.park.now c.args.outs.now s in
+    (λ i. record { side = c.begin_call-done.ensures.row (with_vpes c.args.vpes.now.rows s) i; outcome = c.cut.ensures i })
+    ∙ sym (clear-done c.args.setup.now c.args.kernel side c.args.vpe c.args.sel (capability_of c.in-Some-own_cap.cap.now) c.in_default.ensures c.in-Some-own_cap.ensures)
+
+pub returns-clause-opened : goal.returns-clause-opened
+returns-clause-opened c is d held s =
+    let same : capability_of c.in-Some-own_cap.cap.now ≡ d = same_Some _ _ (c.in-Some-own_cap.ensures ∙ held) in
+    let key = ap (λ (x : Capability). x.key) same in
+    let side : Side = revoking c.args.caps.now c.args.vpes.now c.args.dtus.now c.args.jobs.now c.args.park.now c.args.outs.now s in
+    c.begin_call-done.ensures.opened (with_vpes c.args.vpes.now.rows s)
+    ∙ ap (λ (k : KeyName). opened c.args.setup.now c.args.kernel k None (c.args.vpe ∷ []) true (parked_as c.args.vpe (RevokeWait c.args.jobs.now.next) side)) key

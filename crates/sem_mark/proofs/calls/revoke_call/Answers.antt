@@ -1,0 +1,47 @@
+use Rattle.std.proofs.Common.{◌≡◌, ℕ, false, [], ◌∷◌, length, None, sym, ap, ◌∙◌}
+use Rattle.std.proofs.lemmas.Option.{same_Some}
+use Rattle.sem_key.specs.KeyName.{KeyName}
+use Rattle.sem_key.specs.Capability.{Capability, capability_of}
+use Rattle.sem_msg.specs.declared.state.Parked.TheVariants.{RevokeWait}
+use Rattle.sem_machine.specs.Sides.{Side, parked_as}
+use Rattle.sem_machine.specs.Revokes.{opened, waiter_added}
+use Rattle.sem_machine.specs.Stores.{with_vpes}
+use Rattle.sem_mark.specs.Marking.{revoking}
+use Rattle.sem_mark.proofs.Begun.{finish-none, revoke-none, revoke-marked, revoke-open}
+use Rattle.sem_mark.proofs.calls.revoke_call.Goals as goal
+
+-- nothing is held
+pub returns-in_default-clause-row : goal.returns-in_default-clause-row
+returns-in_default-clause-row c s =
+    let side : Side = revoking c.args.caps.now c.args.vpes.now c.args.dtus.now c.args.jobs.now c.args.park.now c.args.outs.now s in
+    (λ i. record { side = finish-none c.args.setup.now c.args.kernel (length side.jobs) side i; outcome = c.answered.ensures i })
+    ∙ sym (revoke-none c.args.setup.now c.args.kernel side c.args.vpe c.args.sel c.in_default.ensures)
+
+-- a job has marked it
+pub returns-in-Some-mark-clause-row : goal.returns-in-Some-mark-clause-row
+returns-in-Some-mark-clause-row c s =
+    let T = c.args.setup.now in
+    let v = c.args.vpe in
+    let j : ℕ = c.in-Some-mark.job in
+    let side : Side = revoking c.args.caps.now c.args.vpes.now c.args.dtus.now c.args.jobs.now c.args.park.now c.args.outs.now s in
+    let after : Side = revoking c.args.caps.now c.args.vpes.now c.args.dtus.now c.wait.new.self c.park.new.self c.args.outs.now s in
+    let waits : after ≡ waiter_added j v (parked_as v (RevokeWait j) side) =
+    λ i. revoking c.args.caps.now c.args.vpes.now c.args.dtus.now (c.wait.ensures i) (c.park.ensures.states i) c.args.outs.now s in
+    let whole = finish-none T c.args.kernel (length after.jobs) after ∙ waits in
+    (λ i. record { side = whole i; outcome = c.cut.ensures i })
+    ∙ sym (revoke-marked T c.args.kernel side v c.args.sel (capability_of c.in-Some.cap.now) j c.in-Some.ensures c.in-Some-mark.is)
+
+-- no job has marked it
+pub returns-clause-row : goal.returns-clause-row
+returns-clause-row c s =
+    let side : Side = revoking c.args.caps.now c.args.vpes.now c.args.dtus.now c.args.jobs.now c.args.park.now c.args.outs.now s in
+    (λ i. record { side = c.begin_call-done.ensures.row (with_vpes c.args.vpes.now.rows s) i; outcome = c.cut-2.ensures i })
+    ∙ sym (revoke-open c.args.setup.now c.args.kernel side c.args.vpe c.args.sel (capability_of c.in-Some.cap.now) c.in-Some.ensures c.in_default-mark.is)
+
+pub returns-clause-opened : goal.returns-clause-opened
+returns-clause-opened c is d held s =
+    let same : capability_of c.in-Some.cap.now ≡ d = same_Some _ _ (c.in-Some.ensures ∙ held) in
+    let key = ap (λ (x : Capability). x.key) same in
+    let side : Side = revoking c.args.caps.now c.args.vpes.now c.args.dtus.now c.args.jobs.now c.args.park.now c.args.outs.now s in
+    c.begin_call-done.ensures.opened (with_vpes c.args.vpes.now.rows s)
+    ∙ ap (λ (k : KeyName). opened c.args.setup.now c.args.kernel k None (c.args.vpe ∷ []) false (parked_as c.args.vpe (RevokeWait c.args.jobs.now.next) side)) key
