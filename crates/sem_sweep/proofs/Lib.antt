@@ -1,0 +1,5 @@
+pub mod Swept
+pub mod Lowered
+pub mod Leaving
+pub mod Unasked
+pub mod Keeping

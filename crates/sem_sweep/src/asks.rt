@@ -1,0 +1,158 @@
+ghost use Rattle.std.specs.Prelude.{◌≡◌, ℕ, ◌<◌, ◌≤◌, ◌+◌, All, length};
+ghost use Rattle.sem_key.specs.declared.limits.TheConstants.{VPES};
+ghost use Rattle.sem_key.specs.Lists.{in_turn};
+ghost use Rattle.sem_key.specs.declared.object.Object.{Object as ObjectOf};
+ghost use Rattle.sem_msg.specs.declared.code.Code.TheVariants.{Dead};
+ghost use Rattle.sem_msg.specs.declared.message.Target.{Target};
+ghost use Rattle.sem_msg.specs.declared.state.Ask.TheVariants.{Obtain as ObtainAsk, Delegate as DelegateAsk};
+ghost use Rattle.sem_msg.specs.Codes.{code_number};
+ghost use Rattle.sem_msg.specs.Lookups.{kernel_of as kernel_of_lem, owner_of as owner_of_lem, place_owner as place_owner_lem};
+ghost use Rattle.sem_msg.specs.Outboxes.{HasBoxes};
+ghost use Rattle.sem_msg.specs.ParkedStates.{parked_as, state_of};
+ghost use Rattle.sem_msg.specs.declared.state.Parked.TheVariants.{Ready};
+ghost use Rattle.sem_msg.specs.VpeRows.{row};
+ghost use Rattle.sem_vpe.specs.VpeTable.{AreOurs, IsOurs};
+ghost use Rattle.sem_machine.specs.Asks.{call_refused, is_delegate_wait};
+ghost use Rattle.sem_machine.specs.Ends.{ask_ended};
+ghost use Rattle.sem_machine.specs.Sides.{Side};
+ghost use Rattle.sem_machine.specs.Stores.{with_outs, with_parks, with_vpes};
+ghost use Rattle.sem_sweep.specs.Sweeping.{CanOwe, HasAsker, answering, obtain_ended, unasked};
+
+use crate::messages::{obtain_refusal, offer_refusal, tell, tell_owner};
+use sem_key::{Key, Place, same_key};
+use sem_msg::{Ask, Code, Outboxes, Parked, Setup};
+use sem_park::Park;
+use sem_vpe::Vpes;
+
+// The asks of the dead VPE are taken out and answered, oldest first.
+pub fn answer_asks(
+    setup: &Setup,
+    kernel: u32,
+    vpe: u16,
+    vpes: &mut Vpes,
+    park: &mut Park,
+    outs: &mut Outboxes,
+)
+    requires home { AreOurs setup.now kernel vpes.old }
+    requires ours { IsOurs vpes.old vpe }
+    requires asks { All (HasAsker setup.now) (row vpes.old.rows vpe).asks }
+    requires owes { CanOwe setup.now (state_of park.old vpe) }
+    requires boxes { HasBoxes setup.now outs.old }
+    requires spare { length (row vpes.old.rows vpe).asks ≤ outs.old.spare }
+    ensures row { (s : Side) → answering vpes.new park.new outs.new s ≡ in_turn (ask_ended setup.now kernel) (row vpes.old.rows vpe).asks (unasked vpe (answering vpes.old park.old outs.old s)) }
+    ensures owes { CanOwe setup.now (state_of park.new vpe) }
+    ensures ours { vpes.new.ours ≡ vpes.old.ours }
+    ensures boxes { HasBoxes setup.now outs.new }
+    ensures spare { outs.old.spare ≤ outs.new.spare + length (row vpes.old.rows vpe).asks }
+{
+    while let Some(ask) = vpes.next_ask(vpe) {
+        end_ask(setup, kernel, &ask, vpes, park, outs);
+    }
+}
+
+// An ask of the dead VPE is answered, or dropped where nobody of this kernel waits for it.
+fn end_ask(
+    setup: &Setup,
+    kernel: u32,
+    ask: &Ask,
+    vpes: &mut Vpes,
+    park: &mut Park,
+    outs: &mut Outboxes,
+)
+    requires home { AreOurs setup.now kernel vpes.old }
+    requires asker { HasAsker setup.now ask.now }
+    requires boxes { HasBoxes setup.now outs.old }
+    requires spare { 0 < outs.old.spare }
+    ensures row { (s : Side) → answering vpes.new park.new outs.new s ≡ ask_ended setup.now kernel ask.now (answering vpes.old park.old outs.old s) }
+    ensures ours { vpes.new.ours ≡ vpes.old.ours }
+    ensures boxes { HasBoxes setup.now outs.new }
+    ensures spare { outs.old.spare ≤ outs.new.spare + 1 }
+{
+    match ask {
+        Ask::Obtain { place, .. } => end_obtain(setup, kernel, *place, vpes, park, outs),
+        Ask::Delegate { parent, .. } => end_offer(setup, kernel, *parent, park, outs),
+    }
+}
+
+// The ask of an obtaining call is answered: its kernel is told, or the call here, if it waits, is
+// refused.
+fn end_obtain(
+    setup: &Setup,
+    kernel: u32,
+    place: Place,
+    vpes: &mut Vpes,
+    park: &mut Park,
+    outs: &mut Outboxes,
+)
+    requires home { AreOurs setup.now kernel vpes.old }
+    requires owner { place_owner_lem setup.now place < setup.now.kernels }
+    requires boxes { HasBoxes setup.now outs.old }
+    requires spare { 0 < outs.old.spare }
+    ensures row { (target : Target) (s : Side) → answering vpes.new park.new outs.new s ≡ ask_ended setup.now kernel (ObtainAsk place target) (answering vpes.old park.old outs.old s) }
+    ensures ours { vpes.new.ours ≡ vpes.old.ours }
+    ensures boxes { HasBoxes setup.now outs.new }
+    ensures spare { outs.old.spare ≤ outs.new.spare + 1 }
+{
+    if setup.kernel_of(place.vpe) == kernel {
+        end_obtain_here(place, vpes, park);
+    } else {
+        tell(setup, setup.place_owner(place), obtain_refusal(place), outs);
+    }
+}
+
+// The obtaining call of that place, if it waits, will end with the code of a dead VPE, and what it
+// was promised is free.
+fn end_obtain_here(place: Place, vpes: &mut Vpes, park: &mut Park)
+    requires ours { IsOurs vpes.old place.vpe }
+    ensures row { (s : Side) → with_vpes vpes.new.rows (with_parks park.new s) ≡ obtain_ended place (with_vpes vpes.old.rows (with_parks park.old s)) }
+    ensures ours { vpes.new.ours ≡ vpes.old.ours }
+{
+    let Some(Parked::ObtainWait { number, sel }) = park.state(place.vpe) else {
+        return;
+    };
+    if number == place.number {
+        let vpe = place.vpe;
+        vpes.release(vpe, sel);
+        refuse(vpe, park);
+    }
+}
+
+// The waiting call of the VPE will end with the code of a dead VPE.
+fn refuse(vpe: u16, park: &mut Park)
+    requires { vpe < VPES }
+    ensures { park.new ≡ parked_as park.old vpe (Ready (code_number Dead)) }
+{
+    park.park(
+        vpe,
+        Parked::Ready {
+            code: Code::Dead.number(),
+        },
+    );
+}
+
+// Whether a delegate of the capability waits.
+fn is_offered(parent: Key, park: &Park) -> bool
+    ensures { result ≡ is_delegate_wait parent (state_of park.now parent.vpe) }
+{
+    let state = park.state(parent.vpe);
+    match &state {
+        Some(Parked::DelegateWait { parent: offered }) => same_key(offered, &parent),
+        _ => false,
+    }
+}
+
+// The ask of a delegate is answered: its kernel is told, or the call here, if it waits, is refused.
+fn end_offer(setup: &Setup, kernel: u32, parent: Key, park: &mut Park, outs: &mut Outboxes)
+    requires owner { owner_of_lem setup.now parent < setup.now.kernels }
+    requires boxes { HasBoxes setup.now outs.old }
+    requires spare { 0 < outs.old.spare }
+    ensures row { (object : ObjectOf) (sel : ℕ) (s : Side) → with_parks park.new (with_outs outs.new.boxes s) ≡ ask_ended setup.now kernel (DelegateAsk parent object sel) (with_parks park.old (with_outs outs.old.boxes s)) }
+    ensures boxes { HasBoxes setup.now outs.new }
+    ensures spare { outs.old.spare ≤ outs.new.spare + 1 }
+{
+    if setup.kernel_of(parent.vpe) != kernel {
+        tell_owner(setup, parent, offer_refusal(parent), outs);
+    } else if is_offered(parent, park) {
+        refuse(parent.vpe, park);
+    }
+}

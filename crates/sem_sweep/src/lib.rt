@@ -1,0 +1,14 @@
+//! How revocation comes to an end: what a finished job sweeps and who is told, and the end of a VPE.
+#![tactic(auto)]
+
+mod asks;
+mod ends;
+mod messages;
+mod sweeps;
+#[cfg(test)]
+mod tests;
+mod tokens;
+
+pub use ends::end_vpe;
+pub use sweeps::sweep;
+pub use tokens::revoke_done;
