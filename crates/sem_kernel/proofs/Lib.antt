@@ -1,0 +1,17 @@
+pub mod Meets
+pub mod Asked
+pub mod Expected
+pub mod Enabled
+pub mod FewJobs
+pub mod Openings
+pub mod Lengths
+pub mod Shrinking
+pub mod Leavings
+pub mod Boots
+pub mod StartSides
+pub mod Nexts
+pub mod Entries
+pub mod Peers
+pub mod Happened
+pub mod Doing
+pub mod Beginning

@@ -1,0 +1,20 @@
+use Rattle.sem_kernel.proofs.Nexts.{does-call, does-handle, does-upcall, does-resume, does-flush, does-kill}
+use Rattle.sem_kernel.proofs.stores.Stores.act.Goals as goal
+
+pub returns-in-Call : goal.returns-in-Call
+returns-in-Call c = does-call c.args.setup.now c.args.kernel c.args.self.now c.args.input.now _ _ _ c.in-Call.vpe c.args.act c.in-Call.is c.call_next.ensures
+
+pub returns-in-Handle : goal.returns-in-Handle
+returns-in-Handle c = does-handle c.args.setup.now c.args.kernel c.args.self.now c.args.input.now _ _ _ 0 c.args.act c.in-Handle.is c.handle_next.ensures
+
+pub returns-in-Upcall : goal.returns-in-Upcall
+returns-in-Upcall c = does-upcall c.args.setup.now c.args.kernel c.args.self.now c.args.input.now _ _ _ c.in-Upcall.vpe c.args.act c.in-Upcall.is c.be_asked.ensures
+
+pub returns-in-Resume : goal.returns-in-Resume
+returns-in-Resume c = does-resume c.args.setup.now c.args.kernel c.args.self.now c.args.input.now _ _ _ c.in-Resume.vpe c.args.act c.in-Resume.is c.go_on.ensures
+
+pub returns-in-Flush : goal.returns-in-Flush
+returns-in-Flush c = does-flush c.args.setup.now c.args.kernel c.args.self.now c.args.input.now _ _ _ c.in-Flush.to c.args.act c.in-Flush.is c.flush.ensures
+
+pub returns-in-Kill : goal.returns-in-Kill
+returns-in-Kill c = does-kill c.args.setup.now c.args.kernel c.args.self.now c.args.input.now _ _ _ c.in-Kill.vpe c.args.act c.in-Kill.is c.kill.ensures

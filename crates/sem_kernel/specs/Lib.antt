@@ -1,0 +1,6 @@
+pub mod KernelStores
+pub mod Rooms
+pub mod Ending
+pub mod Acting
+pub mod KernelValue
+pub mod Worlds

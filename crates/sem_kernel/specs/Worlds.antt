@@ -1,0 +1,107 @@
+-- The world that kernels and their fabric are, and what an act does to the fabric.
+use Rattle.std.specs.Prelude.{◌≡◌, ◌≢◌, ℕ, ◌<◌, nat_lt, Bool, true, ◌&&◌, List, ◌∷◌, [], ◌++◌, length, map, drop, slice_get, slice_index_or, Option, None, is_some}
+use Rattle.std.specs.Option.{option_map_or}
+use Rattle.sem_msg.specs.declared.message.Message.{Message}
+use Rattle.sem_msg.specs.declared.event.Act.{Act}
+use Rattle.sem_msg.specs.declared.event.Act.TheVariants.{Call as Calls, Fetch, Handle, Upcall, Resume, Flush, Kill}
+use Rattle.sem_msg.specs.declared.entry.Entry.{Entry}
+use Rattle.sem_msg.specs.Journal.{replies}
+use Rattle.sem_msg.specs.Setup.{Setup, IsSetup}
+use Rattle.sem_msg.specs.Fabric.{FabricValue, link_in, relinked}
+use Rattle.sem_machine.specs.Sides.{Side, outbox}
+use Rattle.sem_machine.specs.Sound.{IsSound}
+use Rattle.sem_machine.specs.Machine.{World, start_side, is_locally_enabled, local_step, local_entry}
+use Rattle.sem_kernel.specs.KernelValue.{KernelValue, is_timely}
+
+-- the sides of the kernels, the links of the fabric, and how many replies its journal has
+abbrev pub world_of : List KernelValue → FabricValue → World
+world_of ks f =
+    record {
+      sides = map (λ k. k.side) ks;
+      links = f.links;
+      replies = length (replies f.journal);
+    }
+
+-- it is kernel i of the setup, and what it keeps is sound
+pub record IsKernelOf (T : Setup) (i : ℕ) (k : KernelValue) : Type 0 where
+  pub setup : k.setup ≡ T
+  pub id : k.id ≡ i
+  pub sound : IsSound T i k.side
+
+-- the fabric is one of the setup
+pub record IsFabricOf (T : Setup) (f : FabricValue) : Type 0 where
+  pub kernels : f.kernels ≡ T.kernels
+  pub window : f.window ≡ T.window
+  pub kills : f.kills ≡ T.kills
+
+-- they are all kernels of the setup, each at the place of its number, and the fabric between them
+pub record AreKernelsOf (T : Setup) (ks : List KernelValue) (f : FabricValue) : Type 0 where
+  pub many : length ks ≡ T.kernels
+  pub each : (i : ℕ) (d : KernelValue) → i < T.kernels → IsKernelOf T i (slice_index_or ks i d)
+  pub fabric : IsFabricOf T f
+
+-- One kernel and the fabric.
+
+-- whether the links allow an act of kernel i: a fetch finds a message, a flush finds a link with room
+abbrev pub is_passable : FabricValue → ℕ → Act → Bool
+is_passable f i (Calls v) = true
+is_passable f i (Resume v) = true
+is_passable f i (Upcall v) = true
+is_passable f i Handle = true
+is_passable f i (Fetch j) = is_some (slice_get (link_in f.links j i) 0)
+is_passable f i (Flush j) = nat_lt (length (link_in f.links i j)) f.window
+is_passable f i (Kill v) = true
+
+-- the message that an act of kernel i takes out of a link
+abbrev pub taken : FabricValue → ℕ → Act → Option Message
+taken f i (Fetch j) = slice_get (link_in f.links j i) 0
+taken f i act = None
+
+-- the fabric once the message of an act of kernel i is carried: out of a link for a fetch, into one for a flush
+abbrev pub carried : ℕ → Side → Act → FabricValue → FabricValue
+carried i s (Fetch j) f = relinked j i (drop 1 (link_in f.links j i)) f
+carried i s (Flush j) f = option_map_or (λ m. relinked i j (link_in f.links i j ++ m ∷ []) f) (slice_get (outbox s j) 0) f
+carried i s act f = f
+
+-- an act that names no other kernel, or one of n
+abbrev pub NamesPeer : ℕ → ℕ → Act → Type 0
+NamesPeer n i (Fetch j) = (j < n) × (j ≢ i)
+NamesPeer n i (Flush j) = (j < n) × (j ≢ i)
+NamesPeer n i act = Unit {0}
+
+-- whether the kernel can do the act with that fabric, as far as its side, the replies and the links tell
+abbrev pub can_do : KernelValue → FabricValue → Act → Bool
+can_do k f act = (is_locally_enabled k.setup k.id k.side act && is_timely k.setup (length (replies f.journal)) act) && is_passable f k.id act
+
+-- the kernel can do the act with that fabric: both are of one setup, and its side and the links allow it
+pub record CanDo (k : KernelValue) (f : FabricValue) (act : Act) : Type 0 where
+  pub setup : IsSetup k.setup
+  pub few : k.id < k.setup.kernels
+  pub sound : IsSound k.setup k.id k.side
+  pub fabric : IsFabricOf k.setup f
+  pub enabled : is_locally_enabled k.setup k.id k.side act ≡ true
+  pub passes : is_passable f k.id act ≡ true
+
+-- the kernel k did the act with the fabric f, and they became l and g: the entry of the act is in the journal
+pub record HasDone (k : KernelValue) (f : FabricValue) (act : Act) (l : KernelValue) (g : FabricValue) (e : Entry) : Type 0 where
+  pub entry : e ≡ local_entry k.setup k.id k.side act (taken f k.id act)
+  pub kernel : l ≡ record k { side = (local_step k.setup k.id k.side act (taken f k.id act)).side; ready = None }
+  pub sound : IsSound k.setup k.id l.side
+  pub links : g.links ≡ (carried k.id k.side act f).links
+  pub journal : g.journal ≡ f.journal ++ e ∷ []
+  pub fabric : IsFabricOf k.setup g
+
+-- nothing was done with the kernel k and the fabric f: but for the act that is ready, l and g are as they were
+pub record HasNotDone (k : KernelValue) (f : FabricValue) (l : KernelValue) (g : FabricValue) : Type 0 where
+  pub kernel : l ≡ record k { ready = l.ready }
+  pub fabric : g ≡ f
+
+-- The world with its setup.
+
+pub record WorldValue : Type 0 where
+  pub setup : Setup
+  pub world : World
+
+-- kernel i at the start
+abbrev pub booted : Setup → ℕ → KernelValue
+booted T i = record { setup = T; id = i; side = start_side T i; ready = None }

@@ -1,0 +1,175 @@
+// The acts of a kernel on its stores.
+ghost use Rattle.std.specs.Prelude.{◌≡◌, true, None};
+ghost use Rattle.std.specs.Option.{option_map_or};
+ghost use Rattle.sem_msg.specs.declared.event.Act.TheVariants.{Call as Calls, Fetch, Handle, Upcall, Resume, Flush, Kill};
+ghost use Rattle.sem_msg.specs.declared.entry.Detail.TheVariants.{Carried, Nothing};
+ghost use Rattle.sem_machine.specs.Machine.{asked_detail as asked_detail_lem, is_locally_enabled};
+ghost use Rattle.sem_kernel.specs.KernelStores.{side_of, AreSound};
+ghost use Rattle.sem_kernel.specs.Acting.{DoesAct};
+ghost use Rattle.sem_kernel.specs.Rooms.{IsReady};
+
+use crate::stores::Stores;
+use sem_msg::{Act, Detail, Message, Outcome, Setup};
+
+impl Stores {
+    // Does the act, an enabled one for which there is room. A fetch is handed its message. Gives what
+    // its entry tells beside the act.
+    pub fn act(
+        &mut self,
+        setup: &Setup,
+        kernel: u32,
+        act: Act,
+        input: &Option<Message>,
+    ) -> (Detail, Outcome)
+        requires are { AreSound setup.now kernel self.old }
+        requires enabled { is_locally_enabled setup.now kernel (side_of self.old) act ≡ true }
+        requires ready { IsReady setup.now act self.old }
+        ensures { DoesAct setup.now kernel self.old act input.now self.new result.0 result.1 }
+    {
+        match act {
+            Act::Call { vpe } => self.call_next(setup, kernel, vpe),
+            Act::Fetch { from } => self.fetch(setup, kernel, from, input),
+            Act::Handle => self.handle_next(setup, kernel),
+            Act::Upcall { vpe } => self.be_asked(setup, kernel, vpe),
+            Act::Resume { vpe } => self.go_on(setup, kernel, vpe),
+            Act::Flush { to } => self.flush(setup, kernel, to),
+            Act::Kill { vpe } => self.kill(setup, kernel, vpe),
+        }
+    }
+
+    // The VPE makes its next call.
+    fn call_next(&mut self, setup: &Setup, kernel: u32, vpe: u16) -> (Detail, Outcome)
+        requires are { AreSound setup.now kernel self.old }
+        requires enabled { is_locally_enabled setup.now kernel (side_of self.old) (Calls vpe) ≡ true }
+        requires ready { IsReady setup.now (Calls vpe) self.old }
+        ensures { DoesAct setup.now kernel self.old (Calls vpe) None self.new result.0 result.1 }
+    {
+        let index = self.vpes.next_call(vpe);
+        let Some(call) = self.next_call(setup, kernel, vpe) else {
+            unreachable!()
+        };
+        self.vpes.advance(vpe);
+        let outcome = self.call(setup, kernel, vpe, call);
+        (Detail::Called { index, call }, outcome)
+    }
+
+    // The message in the inbox is handled.
+    fn handle_next(&mut self, setup: &Setup, kernel: u32) -> (Detail, Outcome)
+        requires are { AreSound setup.now kernel self.old }
+        requires enabled { is_locally_enabled setup.now kernel (side_of self.old) Handle ≡ true }
+        requires ready { IsReady setup.now Handle self.old }
+        ensures { DoesAct setup.now kernel self.old Handle None self.new result.0 result.1 }
+    {
+        let inbox = self.inbox;
+        self.inbox = None;
+        let Some((from, message)) = &inbox else {
+            unreachable!()
+        };
+        self.receive(setup, kernel, *from, message);
+        let detail = Detail::Carried {
+            peer: *from,
+            message: *message,
+        };
+        (detail, nothing())
+    }
+
+    // The VPE is killed.
+    fn kill(&mut self, setup: &Setup, kernel: u32, vpe: u16) -> (Detail, Outcome)
+        requires are { AreSound setup.now kernel self.old }
+        requires enabled { is_locally_enabled setup.now kernel (side_of self.old) (Kill vpe) ≡ true }
+        requires ready { IsReady setup.now (Kill vpe) self.old }
+        ensures { DoesAct setup.now kernel self.old (Kill vpe) None self.new result.0 result.1 }
+    {
+        self.end(setup, kernel, vpe);
+        (Detail::Nothing, nothing())
+    }
+
+    // The message goes to the inbox.
+    #[tactic(auto, unfolding(sem_machine::specs::Machine::local_step))]
+    fn fetch(
+        &mut self,
+        setup: &Setup,
+        kernel: u32,
+        from: u32,
+        input: &Option<Message>,
+    ) -> (Detail, Outcome)
+        requires { AreSound setup.now kernel self.old }
+        ensures { DoesAct setup.now kernel self.old (Fetch from) input.now self.new result.0 result.1 }
+    {
+        self.inbox = match input {
+            Some(message) => Some((from, *message)),
+            None => None,
+        };
+        (carried(from, input), nothing())
+    }
+
+    // The next message for a kernel leaves.
+    #[tactic(auto, unfolding(sem_machine::specs::Machine::local_step))]
+    fn flush(&mut self, setup: &Setup, kernel: u32, to: u32) -> (Detail, Outcome)
+        requires are { AreSound setup.now kernel self.old }
+        requires enabled { is_locally_enabled setup.now kernel (side_of self.old) (Flush to) ≡ true }
+        ensures { DoesAct setup.now kernel self.old (Flush to) None self.new result.0 result.1 }
+    {
+        let message = self.outs.pop(to);
+        (carried(to, &message), nothing())
+    }
+
+    // The VPE is asked.
+    #[tactic(auto, unfolding(sem_machine::specs::Machine::local_step))]
+    fn be_asked(&mut self, setup: &Setup, kernel: u32, vpe: u16) -> (Detail, Outcome)
+        requires are { AreSound setup.now kernel self.old }
+        requires enabled { is_locally_enabled setup.now kernel (side_of self.old) (Upcall vpe) ≡ true }
+        requires ready { IsReady setup.now (Upcall vpe) self.old }
+        ensures { DoesAct setup.now kernel self.old (Upcall vpe) None self.new result.0 result.1 }
+    {
+        let outcome = self.upcall(setup, kernel, vpe);
+        (asked_detail(&outcome), outcome)
+    }
+
+    // The waiting call of the VPE ends.
+    #[tactic(auto, unfolding(sem_machine::specs::Machine::local_step))]
+    fn go_on(&mut self, setup: &Setup, kernel: u32, vpe: u16) -> (Detail, Outcome)
+        requires are { AreSound setup.now kernel self.old }
+        requires enabled { is_locally_enabled setup.now kernel (side_of self.old) (Resume vpe) ≡ true }
+        requires ready { IsReady setup.now (Resume vpe) self.old }
+        ensures { DoesAct setup.now kernel self.old (Resume vpe) None self.new result.0 result.1 }
+    {
+        let outcome = self.resume(setup, kernel, vpe);
+        (Detail::Nothing, outcome)
+    }
+}
+
+// Nothing is shown.
+pub fn nothing() -> Outcome
+    ensures { result ≡ record { asked = None; grant = None; cut = None; reply = None } }
+{
+    Outcome {
+        asked: None,
+        grant: None,
+        cut: None,
+        reply: None,
+    }
+}
+
+// The message that was carried, if there was one.
+fn carried(peer: u32, message: &Option<Message>) -> Detail
+    ensures { result ≡ option_map_or (λ m. Carried peer m) message.now Nothing }
+{
+    match message {
+        Some(message) => Detail::Carried {
+            peer,
+            message: *message,
+        },
+        None => Detail::Nothing,
+    }
+}
+
+// Who was asked, if anybody was, and the answer.
+fn asked_detail(outcome: &Outcome) -> Detail
+    ensures { result ≡ asked_detail_lem outcome.now }
+{
+    match outcome.asked {
+        Some((asker, answer)) => Detail::Asked { asker, answer },
+        None => Detail::Nothing,
+    }
+}

@@ -1,0 +1,54 @@
+// What an act of a kernel asks of the fabric.
+ghost use Rattle.std.specs.Prelude.{◌≡◌, ◌<◌, ◌&&◌, true};
+ghost use Rattle.sem_msg.specs.declared.event.Act.TheVariants.{Flush};
+ghost use Rattle.sem_machine.specs.Machine.{is_locally_enabled};
+ghost use Rattle.sem_kernel.specs.KernelValue.{is_timely, IsInput};
+ghost use Rattle.sem_kernel.specs.Worlds.{is_passable as is_passable_lem, taken, carried, NamesPeer, CanDo};
+
+use crate::kernel::Kernel;
+use sem_fabric::Fabric;
+use sem_msg::{Act, Message};
+
+// Whether the links allow the act of the kernel.
+pub fn is_passable(fabric: &Fabric, kernel: u32, act: Act) -> bool
+    requires kernel { kernel < fabric.now.kernels }
+    requires peer { NamesPeer fabric.now.kernels kernel act }
+    ensures { result ≡ is_passable_lem fabric.now kernel act }
+{
+    match act {
+        Act::Fetch { from } => fabric.peek(kernel, from).is_some(),
+        Act::Flush { to } => !fabric.full(kernel, to),
+        _ => true,
+    }
+}
+
+// Carries the message of the act: a fetch takes the oldest one out of a link and gives it, a flush
+// moves the oldest one that waits into a link.
+pub fn carry(kernel: &Kernel, fabric: &mut Fabric, act: Act) -> Option<Message>
+    requires { CanDo kernel.now fabric.old act }
+    ensures taken { result ≡ taken fabric.old kernel.now.id act }
+    ensures input { IsInput act result }
+    ensures carried { fabric.new ≡ carried kernel.now.id kernel.now.side act fabric.old }
+{
+    match act {
+        Act::Fetch { from } => fabric.fetch(kernel.id(), from),
+        Act::Flush { to } => {
+            send(kernel, fabric, to);
+            None
+        }
+        _ => None,
+    }
+}
+
+// The oldest message that waits for the kernel `to` goes into its link.
+fn send(kernel: &Kernel, fabric: &mut Fabric, to: u32)
+    requires { CanDo kernel.now fabric.old (Flush to) }
+    ensures { fabric.new ≡ carried kernel.now.id kernel.now.side (Flush to) fabric.old }
+{
+    let Some(message) = kernel.front(to) else {
+        unreachable!()
+    };
+    let Ok(()) = fabric.flush(kernel.id(), to, message) else {
+        unreachable!()
+    };
+}

@@ -1,0 +1,88 @@
+// Which acts of a kernel are enabled, as far as its stores tell.
+ghost use Rattle.std.specs.Prelude.{◌≡◌, true, is_some, slice_get};
+ghost use Rattle.std.specs.Option.{option_map};
+ghost use Rattle.sem_msg.specs.Journal.{kill_number as kill_number_lem};
+ghost use Rattle.sem_msg.specs.Lookups.{kernel_of as kernel_of_lem};
+ghost use Rattle.sem_machine.specs.Machine.{is_locally_enabled, is_other_kernel as is_other_kernel_lem, next_call as next_call_lem};
+ghost use Rattle.sem_machine.specs.Resumes.{can_resume as can_resume_lem};
+ghost use Rattle.sem_machine.specs.Sides.{is_alive, outbox, parked, row};
+ghost use Rattle.sem_kernel.specs.KernelStores.{side_of, AreStoresOf, AreSound};
+
+use crate::stores::Stores;
+use sem_msg::{Act, Call, Parked, Setup};
+
+impl Stores {
+    // Whether the act is enabled, as far as the stores tell.
+    #[tactic(auto, unfolding(sem_machine::specs::Machine::is_locally_enabled))]
+    pub fn is_enabled(&self, setup: &Setup, kernel: u32, act: Act) -> bool
+        requires { AreSound setup.now kernel self.now }
+        ensures { result ≡ is_locally_enabled setup.now kernel (side_of self.now) act }
+    {
+        match act {
+            Act::Call { vpe } => {
+                setup.kernel_of(vpe) == kernel
+                    && self.vpes.alive(vpe)
+                    && self.park.state(vpe).is_none()
+                    && self.next_call(setup, kernel, vpe).is_some()
+            }
+            Act::Resume { vpe } => {
+                setup.kernel_of(vpe) == kernel && can_resume(&self.park.state(vpe))
+            }
+            Act::Upcall { vpe } => {
+                setup.kernel_of(vpe) == kernel
+                    && self.vpes.alive(vpe)
+                    && self.vpes.front_ask(vpe).is_some()
+            }
+            Act::Handle => self.inbox.is_some(),
+            Act::Fetch { from } => { is_other_kernel(setup, kernel, from) && self.inbox.is_none() }
+            Act::Flush { to } => {
+                is_other_kernel(setup, kernel, to) && self.outs.front(to).is_some()
+            }
+            Act::Kill { vpe } => {
+                setup.kernel_of(vpe) == kernel
+                    && self.vpes.alive(vpe)
+                    && kill_number(setup, vpe).is_some()
+            }
+        }
+    }
+
+    // The call that the VPE, one of this kernel, makes next.
+    pub fn next_call(&self, setup: &Setup, kernel: u32, vpe: u16) -> Option<Call>
+        requires stores { AreStoresOf setup.now kernel self.now }
+        requires here { kernel_of_lem setup.now vpe ≡ kernel }
+        ensures { result ≡ next_call_lem setup.now (side_of self.now) vpe }
+    {
+        let decl = setup.decl(vpe)?;
+        decl.calls.get(self.vpes.next_call(vpe) as usize).copied()
+    }
+}
+
+// Whether it is another kernel of the setup.
+fn is_other_kernel(setup: &Setup, kernel: u32, other: u32) -> bool
+    ensures { result ≡ is_other_kernel_lem setup.now kernel other }
+{
+    other < setup.kernels && other != kernel
+}
+
+// Whether a call in that state can go on.
+fn can_resume(state: &Option<Parked>) -> bool
+    ensures { result ≡ can_resume_lem state.now }
+{
+    matches!(
+        state,
+        Some(
+            Parked::ObtainReady { .. }
+                | Parked::ObtainCancelled
+                | Parked::DelegateReady { .. }
+                | Parked::Ready { .. }
+        )
+    )
+}
+
+// After how many replies the VPE is killed, if it is.
+pub fn kill_number(setup: &Setup, vpe: u16) -> Option<u64>
+    ensures { result ≡ kill_number_lem setup.now vpe }
+{
+    let kill = setup.kills.as_slice().iter().find(|kill| kill.0 == vpe)?;
+    Some(kill.1)
+}

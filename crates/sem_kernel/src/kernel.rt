@@ -1,0 +1,163 @@
+ghost use Rattle.std.specs.Prelude.{◌≡◌, ◌<◌, ◌&&◌, true, Some, None, slice_get, IfOk, OnOk, OnErr};
+ghost use Rattle.std.specs.Option.{option_map};
+ghost use Rattle.sem_msg.specs.Fabric.{is_due as is_due_lem};
+ghost use Rattle.sem_machine.specs.Sides.{outbox};
+ghost use Rattle.sem_machine.specs.Machine.{start_side, is_locally_enabled, local_step, local_entry, replied_vpe as replied_vpe_lem};
+ghost use Rattle.sem_kernel.specs.KernelValue.{is_timely as is_timely_lem, IsInput};
+
+use crate::enabling::kill_number;
+use crate::stores::Stores;
+use sem_key::OutOfMemory;
+use sem_msg::{Act, Entry, Event, Message, Reply, Setup};
+use std::alloc::Global;
+use std::marker::Model;
+
+/// A kernel of a setup, with all that it keeps.
+#[derive(Debug, Drop)]
+pub struct Kernel {
+    setup: Setup,
+    id: u32,
+    stores: Stores,
+    // The act for which there is room.
+    ready: Option<Act>,
+}
+
+impl Model for Kernel {
+    ghost use Rattle.sem_kernel.specs.KernelStores.{side_of};
+    ghost use Rattle.sem_kernel.specs.KernelValue.{KernelValue, IsKernel};
+
+    ghost Value = { KernelValue };
+
+    ghost view = { λ k. record { setup = k.setup; id = k.id; side = side_of k.stores; ready = k.ready } };
+
+    ghost invariant = { λ k. IsKernel k.setup k.id k.stores k.ready };
+}
+
+impl Kernel {
+    /// The kernel of that number at the start. It keeps a copy of the setup.
+    ///
+    /// The number is below that of the setup's kernels.
+    pub fn boot(alloc: Global, setup: &Setup, id: u32) -> Result<Self, OutOfMemory>
+        requires { id < setup.now.kernels }
+        ensures { IfOk result (λ k. k ≡ record { setup = setup.now; id = id; side = start_side setup.now id; ready = None }) }
+    {
+        // So that the proof knows what a setup keeps.
+        let _ = &setup.vpes;
+        let stores = Stores::boot(alloc, setup, id)?;
+        Ok(Kernel {
+            setup: setup.copy(alloc)?,
+            id,
+            stores,
+            ready: None,
+        })
+    }
+
+    /// Its number. Takes no memory.
+    pub fn id(&self) -> u32
+        ensures { result ≡ self.now.id }
+    {
+        self.id
+    }
+
+    /// Whether the act is enabled, as far as the kernel can tell where there were so many replies:
+    /// of a fetch it does not know the link, and of a flush not whether the link has room. Takes no
+    /// memory.
+    pub fn enabled(&self, act: Act, replies: u64) -> bool
+        ensures { result ≡ (is_locally_enabled self.now.setup self.now.id self.now.side act && is_timely_lem self.now.setup replies act) }
+    {
+        self.stores.is_enabled(&self.setup, self.id, act) && is_timely(&self.setup, replies, act)
+    }
+
+    /// The oldest message that waits to be sent to the kernel `to`; none where none waits. Takes no
+    /// memory.
+    ///
+    /// `to` is below the number of the setup's kernels.
+    pub fn front(&self, to: u32) -> Option<Message>
+        requires { to < self.now.setup.kernels }
+        ensures { result ≡ slice_get (outbox self.now.side to) 0 }
+    {
+        self.stores.outs.front(to)
+    }
+
+    /// Makes room for all that the step of the act can need, so that it takes no memory; the act is
+    /// ready then. After want of memory all is as before.
+    pub fn room(&mut self, act: Act) -> Result<(), OutOfMemory>
+        ensures ok { OnOk result (self.new ≡ record self.old { ready = Some act }) }
+        ensures err { OnErr result (self.new ≡ self.old) }
+    {
+        if self.stores.is_enabled(&self.setup, self.id, act) {
+            self.stores.room(&self.setup, self.id, act)?;
+        }
+        self.ready = Some(act);
+        Ok(())
+    }
+
+    /// Does the act, and gives its entry. No act is ready then. Takes no memory.
+    ///
+    /// The act is enabled, as far as the side of the kernel tells, and ready. A fetch is handed the
+    /// message that it takes out of the link, and no other act any.
+    pub fn step(&mut self, act: Act, input: Option<Message>) -> Entry
+        requires enabled { is_locally_enabled self.old.setup self.old.id self.old.side act ≡ true }
+        requires ready { self.old.ready ≡ Some act }
+        requires input { IsInput act input }
+        ensures step { self.new ≡ record self.old { side = (local_step self.old.setup self.old.id self.old.side act input).side; ready = None } }
+        ensures entry { result ≡ local_entry self.old.setup self.old.id self.old.side act input }
+    {
+        let (detail, outcome) = self.stores.act(&self.setup, self.id, act, &input);
+        self.ready = None;
+        Entry {
+            event: Event {
+                kernel: self.id,
+                act,
+            },
+            detail,
+            grant: outcome.grant,
+            cut: outcome.cut,
+            reply: reply_of(act, outcome.reply),
+        }
+    }
+}
+
+// Whether the act comes in time: a kill waits for its number of replies.
+fn is_timely(setup: &Setup, replies: u64, act: Act) -> bool
+    ensures { result ≡ is_timely_lem setup.now replies act }
+{
+    match act {
+        Act::Kill { vpe } => is_due(setup, replies, vpe),
+        _ => true,
+    }
+}
+
+// Whether the VPE is to be killed after so many replies.
+fn is_due(setup: &Setup, replies: u64, vpe: u16) -> bool
+    ensures { result ≡ is_due_lem setup.now replies vpe }
+{
+    match kill_number(setup, vpe) {
+        Some(number) => number <= replies,
+        None => false,
+    }
+}
+
+// The reply with that code to the VPE whose call the act answers.
+fn reply_of(act: Act, code: Option<u8>) -> Option<Reply>
+    ensures { result ≡ option_map (λ n. record { vpe = replied_vpe_lem act; code = n }) code }
+{
+    match code {
+        Some(code) => Some(Reply {
+            vpe: replied_vpe(act),
+            code,
+        }),
+        None => None,
+    }
+}
+
+// The VPE whose call the act answers.
+fn replied_vpe(act: Act) -> u16
+    ensures { result ≡ replied_vpe_lem act }
+{
+    match act {
+        Act::Call { vpe } => vpe,
+        Act::Resume { vpe } => vpe,
+        _ => 0,
+    }
+}

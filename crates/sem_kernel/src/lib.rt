@@ -1,0 +1,26 @@
+//! A kernel with all that it keeps, and its steps; all kernels with their fabric, and their steps.
+#![tactic(auto)]
+
+mod acts;
+mod boot;
+mod calls;
+mod carrying;
+mod enabling;
+mod ends;
+mod handles;
+mod happening;
+mod kernel;
+mod making;
+mod revokes;
+mod rooms;
+mod stores;
+mod strays;
+#[cfg(test)]
+mod tests;
+mod upcalls;
+mod world;
+
+pub use happening::{StepError, happen, is_enabled};
+pub use kernel::Kernel;
+pub use sem_key::OutOfMemory;
+pub use world::World;

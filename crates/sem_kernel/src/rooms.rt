@@ -1,0 +1,194 @@
+// The room that the step of an act needs.
+ghost use Rattle.std.specs.Prelude.{◌≡◌, true, ◌≤◌, ◌<◌, slice_get, length, vec_capacity, OnOk, OnErr};
+ghost use Rattle.std.specs.Option.{option_and_then};
+ghost use Rattle.sem_msg.specs.Lookups.{kernel_of as kernel_of_lem};
+ghost use Rattle.sem_machine.specs.Machine.{is_locally_enabled};
+ghost use Rattle.sem_machine.specs.Sides.{parked, row, slot};
+ghost use Rattle.sem_kernel.specs.KernelStores.{side_of, AreStoresOf, AreSound};
+ghost use Rattle.sem_kernel.specs.Rooms.{IsReady, HasGrown, HasSameStores, HasRoomToRevoke, asked_parent as asked_parent_lem, called_parent as called_parent_lem, resumed_parent as resumed_parent_lem, linked_parent as linked_parent_lem, opens_jobs as opens_jobs_lem, is_revoking as is_revoking_lem, is_request as is_request_lem, ended_asks as ended_asks_lem, slot_key as slot_key_lem};
+
+use crate::stores::Stores;
+use sem_key::{Key, OutOfMemory};
+use sem_msg::{Act, Ask, Call, Message, Parked, Setup, Slot};
+use sem_obtain::source;
+
+impl Stores {
+    // Makes room for all that the step of the act can need. All else stays as it is; after want of
+    // memory there is room for what there was room for.
+    pub fn room(&mut self, setup: &Setup, kernel: u32, act: Act) -> Result<(), OutOfMemory>
+        requires are { AreSound setup.now kernel self.old }
+        requires enabled { is_locally_enabled setup.now kernel (side_of self.old) act ≡ true }
+        ensures same { HasSameStores self.old self.new }
+        ensures ready { OnOk result (IsReady setup.now act self.new) }
+        ensures kept { OnErr result (HasGrown self.old self.new) }
+    {
+        let parent = self.linked_parent(setup, kernel, act);
+        if self.opens_jobs(setup, kernel, act) {
+            let asks = self.ended_asks(setup, kernel, act);
+            self.grow_to_revoke(setup, kernel, asks)?;
+        } else {
+            self.grow(setup, kernel)?;
+        }
+        self.caps.room(1, parent)
+    }
+
+    // Makes room for one more pending delegation and message, and for a message of each job.
+    fn grow(&mut self, setup: &Setup, kernel: u32) -> Result<(), OutOfMemory>
+        requires are { AreSound setup.now kernel self.old }
+        ensures grown { HasGrown self.old self.new }
+        ensures pendings { OnOk result (0 < self.new.pendings.spare) }
+        ensures outs { OnOk result (length self.new.jobs.jobs < self.new.outs.spare) }
+        ensures gone { OnOk result (length self.new.caps.caps ≤ vec_capacity self.new.scratch.gone) }
+    {
+        let (caps, jobs) = (self.caps.len(), self.job_count(setup, kernel));
+        self.pendings.room(1)?;
+        self.scratch.room(caps, 0)?;
+        self.outs.room(jobs + 1)
+    }
+
+    // Makes room for the jobs that can be opened in a step, and for the answers to so many asks.
+    fn grow_to_revoke(&mut self, setup: &Setup, kernel: u32, asks: usize) -> Result<(), OutOfMemory>
+        requires are { AreSound setup.now kernel self.old }
+        requires few { asks ≤ 128 }
+        ensures grown { HasGrown self.old self.new }
+        ensures pendings { OnOk result (0 < self.new.pendings.spare) }
+        ensures revoke { OnOk result (HasRoomToRevoke asks self.new) }
+    {
+        let (caps, links) = (self.caps.len(), self.caps.child_links());
+        let jobs = self.job_count(setup, kernel);
+        self.pendings.room(1)?;
+        self.scratch.room(caps.max(links), 0)?;
+        self.ended.clear();
+        self.ended.reserve(caps)?;
+        self.jobs.room(caps + jobs + 1)?;
+        self.outs.room(asks + links + caps + 2 * jobs + 2)
+    }
+
+    // How many jobs are open.
+    fn job_count(&self, setup: &Setup, kernel: u32) -> usize
+        requires are { AreSound setup.now kernel self.now }
+        ensures count { result ≡ length self.now.jobs.jobs }
+        ensures few { result ≤ 3084288 }
+    {
+        self.jobs.len()
+    }
+
+    // The capability to which the step of the act, an enabled one, may link a child.
+    fn linked_parent(&self, setup: &Setup, kernel: u32, act: Act) -> Option<Key>
+        requires are { AreSound setup.now kernel self.now }
+        requires enabled { is_locally_enabled setup.now kernel (side_of self.now) act ≡ true }
+        ensures { result ≡ linked_parent_lem setup.now (side_of self.now) act }
+    {
+        match act {
+            Act::Call { vpe } => {
+                let call = self.next_call(setup, kernel, vpe)?;
+                self.called_parent(setup, kernel, vpe, call)
+            }
+            Act::Upcall { vpe } => self.asked_parent(setup, kernel, vpe),
+            Act::Resume { vpe } => resumed_parent(&self.park.state(vpe)),
+            Act::Fetch { .. } | Act::Handle | Act::Flush { .. } | Act::Kill { .. } => None,
+        }
+    }
+
+    // The one to which a call may.
+    fn called_parent(&self, setup: &Setup, kernel: u32, vpe: u16, call: Call) -> Option<Key>
+        requires stores { AreStoresOf setup.now kernel self.now }
+        requires here { kernel_of_lem setup.now vpe ≡ kernel }
+        ensures { result ≡ called_parent_lem (side_of self.now) vpe call }
+    {
+        match call {
+            Call::Derive { src, .. } | Call::Gate { src, .. } => {
+                slot_key(&self.vpes.selector(vpe, src))
+            }
+            _ => None,
+        }
+    }
+
+    // The one to which the answer to the oldest ask of the VPE may.
+    fn asked_parent(&self, setup: &Setup, kernel: u32, vpe: u16) -> Option<Key>
+        requires stores { AreStoresOf setup.now kernel self.now }
+        requires here { kernel_of_lem setup.now vpe ≡ kernel }
+        ensures { result ≡ option_and_then (asked_parent_lem setup.now (side_of self.now) vpe) (slice_get (row (side_of self.now) vpe).asks 0) }
+    {
+        let ask = self.vpes.front_ask(vpe);
+        match &ask {
+            Some(Ask::Obtain { target, .. }) => {
+                match source(setup, vpe, target, &self.caps, &self.vpes) {
+                    Some(cap) => Some(cap.key),
+                    None => None,
+                }
+            }
+            Some(Ask::Delegate { parent, .. }) => Some(*parent),
+            None => None,
+        }
+    }
+
+    // Whether the step of the act, an enabled one, may open jobs.
+    fn opens_jobs(&self, setup: &Setup, kernel: u32, act: Act) -> bool
+        requires are { AreSound setup.now kernel self.now }
+        requires enabled { is_locally_enabled setup.now kernel (side_of self.now) act ≡ true }
+        ensures { result ≡ opens_jobs_lem setup.now (side_of self.now) act }
+    {
+        match act {
+            Act::Call { vpe } => match self.next_call(setup, kernel, vpe) {
+                Some(call) => is_revoking(call),
+                None => false,
+            },
+            Act::Handle => match &self.inbox {
+                Some((_, message)) => is_request(message),
+                None => false,
+            },
+            Act::Kill { .. } => true,
+            Act::Fetch { .. } | Act::Upcall { .. } | Act::Resume { .. } | Act::Flush { .. } =>
+                false,
+        }
+    }
+
+    // How many asks it may answer because their VPE ends.
+    fn ended_asks(&self, setup: &Setup, kernel: u32, act: Act) -> usize
+        requires are { AreSound setup.now kernel self.now }
+        requires enabled { is_locally_enabled setup.now kernel (side_of self.now) act ≡ true }
+        ensures asks { result ≡ ended_asks_lem (side_of self.now) act }
+        ensures few { result ≤ 128 }
+    {
+        match act {
+            Act::Call { vpe } => self.vpes.asks(vpe),
+            Act::Kill { vpe } => self.vpes.asks(vpe),
+            _ => 0,
+        }
+    }
+}
+
+// Whether the call may open jobs.
+fn is_revoking(call: Call) -> bool
+    ensures { result ≡ is_revoking_lem call }
+{
+    matches!(call, Call::Revoke { .. } | Call::Clear { .. } | Call::Exit)
+}
+
+// Whether the message may.
+fn is_request(message: &Message) -> bool
+    ensures { result ≡ is_request_lem message.now }
+{
+    matches!(message, Message::RevokeReq { .. })
+}
+
+// The key that a slot holds.
+fn slot_key(slot: &Slot) -> Option<Key>
+    ensures { result ≡ slot_key_lem slot.now }
+{
+    match slot {
+        Slot::Held(key) => Some(*key),
+        Slot::Free | Slot::Promised => None,
+    }
+}
+
+// The capability to which a call in that state may link a child.
+fn resumed_parent(state: &Option<Parked>) -> Option<Key>
+    ensures { result ≡ resumed_parent_lem state.now }
+{
+    match state {
+        Some(Parked::DelegateReady { parent, .. }) => Some(*parent),
+        _ => None,
+    }
+}

@@ -1,0 +1,98 @@
+// The asks of a VPE and its waiting call, on the stores of its kernel.
+ghost use Rattle.std.specs.Prelude.{◌≡◌, true, is_some, slice_get};
+ghost use Rattle.std.specs.Option.{option_and_then};
+ghost use Rattle.sem_msg.specs.Lookups.{kernel_of as kernel_of_lem};
+ghost use Rattle.sem_machine.specs.Sides.{row, parked};
+ghost use Rattle.sem_machine.specs.Upcalls.{upcall_row};
+ghost use Rattle.sem_machine.specs.Resumes.{resume_row, can_resume};
+ghost use Rattle.sem_kernel.specs.KernelStores.{side_of, AreStoresOf, AreSound};
+ghost use Rattle.sem_kernel.specs.Rooms.{HasRoom, asked_parent, resumed_parent};
+ghost use Rattle.sem_kernel.specs.Ending.{ends_obtain as ends_obtain_lem, ends_delegate as ends_delegate_lem};
+
+use crate::stores::Stores;
+use sem_delegate::{delegate_resume, delegate_upcall, ready_resume};
+use sem_msg::{Ask, Outcome, Parked, Setup};
+use sem_obtain::{obtain_resume, obtain_upcall};
+
+impl Stores {
+    // The VPE is asked for its consent by the oldest ask that waits for it, and decides.
+    pub fn upcall(&mut self, setup: &Setup, kernel: u32, vpe: u16) -> Outcome
+        requires are { AreSound setup.now kernel self.old }
+        requires here { kernel_of_lem setup.now vpe ≡ kernel }
+        requires asked { is_some (slice_get (row (side_of self.old) vpe).asks 0) ≡ true }
+        requires room { HasRoom (option_and_then (asked_parent setup.now (side_of self.old) vpe) (slice_get (row (side_of self.old) vpe).asks 0)) self.old }
+        ensures row { record { side = side_of self.new; outcome = result } ≡ upcall_row setup.now kernel (side_of self.old) vpe }
+        ensures stores { AreStoresOf setup.now kernel self.new }
+    {
+        let ask = self.vpes.next_ask(vpe);
+        match &ask {
+            Some(Ask::Obtain { place, target }) => obtain_upcall(
+                setup,
+                kernel,
+                vpe,
+                *place,
+                *target,
+                &mut self.caps,
+                &mut self.vpes,
+                &mut self.park,
+                &mut self.outs,
+            ),
+            Some(
+                Ask::Delegate {
+                    parent,
+                    object,
+                    sel,
+                },
+            ) => delegate_upcall(
+                setup,
+                kernel,
+                vpe,
+                *parent,
+                *object,
+                *sel,
+                &mut self.caps,
+                &mut self.vpes,
+                &mut self.park,
+                &mut self.pendings,
+                &mut self.outs,
+            ),
+            None => unreachable!(),
+        }
+    }
+
+    // The waiting call of the VPE goes on.
+    pub fn resume(&mut self, setup: &Setup, kernel: u32, vpe: u16) -> Outcome
+        requires are { AreSound setup.now kernel self.old }
+        requires here { kernel_of_lem setup.now vpe ≡ kernel }
+        requires can { can_resume (parked (side_of self.old) vpe) ≡ true }
+        requires room { HasRoom (resumed_parent (parked (side_of self.old) vpe)) self.old }
+        ensures row { record { side = side_of self.new; outcome = result } ≡ resume_row setup.now (side_of self.old) vpe }
+        ensures stores { AreStoresOf setup.now kernel self.new }
+    {
+        let state = self.park.state(vpe);
+        if ends_obtain(&state) {
+            return obtain_resume(vpe, &mut self.caps, &mut self.vpes, &mut self.park);
+        }
+        if ends_delegate(&state) {
+            return delegate_resume(setup, vpe, &mut self.caps, &mut self.park, &mut self.outs);
+        }
+        ready_resume(vpe, &mut self.park)
+    }
+}
+
+// Whether a call in that state has the answer to what it asked for.
+fn ends_obtain(state: &Option<Parked>) -> bool
+    ensures { result ≡ ends_obtain_lem state.now }
+{
+    matches!(
+        state,
+        Some(Parked::ObtainReady { .. } | Parked::ObtainCancelled)
+    )
+}
+
+// Whether a call in that state has the answer to what it delegates.
+fn ends_delegate(state: &Option<Parked>) -> bool
+    ensures { result ≡ ends_delegate_lem state.now }
+{
+    matches!(state, Some(Parked::DelegateReady { .. }))
+}

@@ -1,0 +1,76 @@
+ghost use Rattle.std.specs.Prelude.{◌≡◌, ◌↔◌, false, map, IfOk, OnErr, IsErrOf};
+ghost use Rattle.std.specs.List.{range_with_len};
+ghost use Rattle.sem_machine.specs.Machine.{start, is_enabled as is_enabled_lem, after as after_lem, entry_of};
+ghost use Rattle.sem_kernel.specs.Worlds.{booted};
+
+use crate::happening::{StepError, happen, is_enabled};
+use crate::kernel::Kernel;
+use sem_fabric::Fabric;
+use sem_key::OutOfMemory;
+use sem_msg::{Entry, Event, Journal, Setup};
+use std::alloc::Global;
+use std::marker::Model;
+
+/// All kernels of a setup and the fabric between them.
+#[derive(Debug, Drop)]
+pub struct World {
+    setup: Setup,
+    kernels: Vec<Kernel>,
+    fabric: Fabric,
+}
+
+impl Model for World {
+    ghost use Rattle.sem_kernel.specs.Worlds.{world_of, AreKernelsOf, WorldValue};
+
+    ghost Value = { WorldValue };
+
+    ghost view = { λ w. record { setup = w.setup; world = world_of w.kernels.items w.fabric } };
+
+    ghost invariant = { λ w. AreKernelsOf w.setup w.kernels.items w.fabric };
+}
+
+impl World {
+    /// The world of the setup at the start. It keeps a copy of the setup.
+    pub fn boot(alloc: Global, setup: &Setup) -> Result<Self, OutOfMemory>
+        ensures { IfOk result (λ w. w ≡ record { setup = setup.now; world = start setup.now }) }
+    {
+        // So that the proof knows what a setup keeps.
+        let _ = &setup.vpes;
+        let kernels = boot_kernels(alloc, setup)?;
+        let fabric = Fabric::new(alloc, setup, Journal::new(alloc))?;
+        Ok(World {
+            setup: setup.copy(alloc)?,
+            kernels,
+            fabric,
+        })
+    }
+
+    /// Whether the event is enabled. Takes no memory.
+    pub fn is_enabled(&self, event: Event) -> bool
+        ensures { result ≡ is_enabled_lem self.now.setup self.now.world event }
+    {
+        is_enabled(&self.setup, self.kernels.as_slice(), &self.fabric, event)
+    }
+
+    /// The event happens, and makes an entry. An event that is not enabled is refused, and after a
+    /// refusal or want of memory the world is as before.
+    pub fn step(&mut self, event: Event) -> Result<Entry, StepError>
+        ensures not_enabled { IsErrOf result StepError.NotEnabled ↔ (is_enabled_lem self.old.setup self.old.world event ≡ false) }
+        ensures entry { IfOk result (λ entry. entry ≡ entry_of self.old.setup self.old.world event) }
+        ensures after { IfOk result (λ entry. self.new ≡ record { setup = self.old.setup; world = after_lem self.old.setup self.old.world event }) }
+        ensures unchanged { OnErr result (self.new ≡ self.old) }
+    {
+        happen(&self.setup, &mut self.kernels, &mut self.fabric, event)
+    }
+}
+
+// The kernels of the setup at the start, by their numbers.
+fn boot_kernels(alloc: Global, setup: &Setup) -> Result<Vec<Kernel>, OutOfMemory>
+    ensures { IfOk result (λ kernels. kernels.items ≡ map (booted setup.now) (range_with_len 0 setup.now.kernels)) }
+{
+    let mut kernels = Vec::new(alloc);
+    for id in 0..setup.kernels {
+        kernels.push(Kernel::boot(alloc, setup, id)?)?;
+    }
+    Ok(kernels)
+}
