@@ -626,7 +626,10 @@ fn a_kill_waits_for_its_number_of_replies(rt: HostRuntime) -> Result<(), Fail> {
         front: None,
         enabled: true,
     };
-    assert_eq!(rt; after(rt.alloc(), 0, &[Step::Act(call(HOLDER))], kill)?, due);
+    assert_eq!(rt;
+        after(rt.alloc(), 0, &[Step::Act(call(HOLDER))], kill)?,
+        due
+    );
     Ok(())
 }
 
