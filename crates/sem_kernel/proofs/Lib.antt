@@ -15,3 +15,4 @@ pub mod Peers
 pub mod Happened
 pub mod Doing
 pub mod Beginning
+pub mod Listings

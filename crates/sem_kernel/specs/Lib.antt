@@ -4,3 +4,4 @@ pub mod Ending
 pub mod Acting
 pub mod KernelValue
 pub mod Worlds
+pub mod Listing

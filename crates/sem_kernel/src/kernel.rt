@@ -1,7 +1,8 @@
 ghost use Rattle.std.specs.Prelude.{◌≡◌, ◌<◌, ◌&&◌, true, Some, None, slice_get, IfOk, OnOk, OnErr};
 ghost use Rattle.std.specs.Option.{option_map};
 ghost use Rattle.sem_msg.specs.Fabric.{is_due as is_due_lem};
-ghost use Rattle.sem_machine.specs.Sides.{outbox};
+ghost use Rattle.sem_msg.specs.Lookups.{kernel_of};
+ghost use Rattle.sem_machine.specs.Sides.{is_alive, outbox};
 ghost use Rattle.sem_machine.specs.Machine.{start_side, is_locally_enabled, local_step, local_entry, replied_vpe as replied_vpe_lem};
 ghost use Rattle.sem_kernel.specs.KernelValue.{is_timely as is_timely_lem, IsInput};
 
@@ -66,6 +67,14 @@ impl Kernel {
         ensures { result ≡ (is_locally_enabled self.now.setup self.now.id self.now.side act && is_timely_lem self.now.setup replies act) }
     {
         self.stores.is_enabled(&self.setup, self.id, act) && is_timely(&self.setup, replies, act)
+    }
+
+    /// Whether the VPE, one of this kernel, is alive. Takes no memory.
+    pub fn is_alive(&self, vpe: u16) -> bool
+        requires { kernel_of self.now.setup vpe ≡ self.now.id }
+        ensures { result ≡ is_alive self.now.side vpe }
+    {
+        self.stores.vpes.alive(vpe)
     }
 
     /// The oldest message that waits to be sent to the kernel `to`; none where none waits. Takes no

@@ -10,6 +10,7 @@ mod ends;
 mod handles;
 mod happening;
 mod kernel;
+mod listing;
 mod making;
 mod revokes;
 mod rooms;
@@ -22,5 +23,6 @@ mod world;
 
 pub use happening::{StepError, happen, is_enabled};
 pub use kernel::Kernel;
+pub use listing::{append_enabled, enabled_events};
 pub use sem_key::OutOfMemory;
-pub use world::World;
+pub use world::{World, boot_kernels};

@@ -1,10 +1,11 @@
-ghost use Rattle.std.specs.Prelude.{◌≡◌, ◌↔◌, false, map, IfOk, OnErr, IsErrOf};
+ghost use Rattle.std.specs.Prelude.{◌≡◌, ◌↔◌, false, map, IfOk, OnOk, OnErr, IsErrOf};
 ghost use Rattle.std.specs.List.{range_with_len};
-ghost use Rattle.sem_machine.specs.Machine.{start, is_enabled as is_enabled_lem, after as after_lem, entry_of};
+ghost use Rattle.sem_machine.specs.Machine.{start, enabled, is_enabled as is_enabled_lem, after as after_lem, entry_of};
 ghost use Rattle.sem_kernel.specs.Worlds.{booted};
 
 use crate::happening::{StepError, happen, is_enabled};
 use crate::kernel::Kernel;
+use crate::listing::enabled_events;
 use sem_fabric::Fabric;
 use sem_key::OutOfMemory;
 use sem_msg::{Entry, Event, Journal, Setup};
@@ -52,6 +53,13 @@ impl World {
         is_enabled(&self.setup, self.kernels.as_slice(), &self.fabric, event)
     }
 
+    /// Replaces the list by the enabled events, in their order.
+    pub fn enabled_events(&self, out: &mut Vec<Event>) -> Result<(), OutOfMemory>
+        ensures { OnOk result (out.new.items ≡ enabled self.now.setup self.now.world) }
+    {
+        enabled_events(&self.setup, self.kernels.as_slice(), &self.fabric, out)
+    }
+
     /// The event happens, and makes an entry. An event that is not enabled is refused, and after a
     /// refusal or want of memory the world is as before.
     pub fn step(&mut self, event: Event) -> Result<Entry, StepError>
@@ -64,8 +72,8 @@ impl World {
     }
 }
 
-// The kernels of the setup at the start, by their numbers.
-fn boot_kernels(alloc: Global, setup: &Setup) -> Result<Vec<Kernel>, OutOfMemory>
+/// The kernels of the setup at the start, by their numbers.
+pub fn boot_kernels(alloc: Global, setup: &Setup) -> Result<Vec<Kernel>, OutOfMemory>
     ensures { IfOk result (λ kernels. kernels.items ≡ map (booted setup.now) (range_with_len 0 setup.now.kernels)) }
 {
     let mut kernels = Vec::new(alloc);

@@ -1,0 +1,92 @@
+-- What the list of enabled events has after more of its events were tried.
+use Rattle.std.proofs.Common.{◌≡◌, ℕ, ◌+◌, ◌<◌, ◌≤◌, ◌&&◌, Bool, true, false, List, [], ◌∷◌, ◌++◌, length, map, take, get_or, refl, sym, ◌∙◌, ap, arith}
+use Rattle.std.specs.Prelude.{◌==◌, nat_lt}
+use Rattle.std.specs.List.{Contains, filter, flat_map, range_with_len}
+use Rattle.std.specs.Option.{option_map_or}
+use Rattle.std.proofs.lemmas.Bool.{cond-true, cond-false}
+use Rattle.std.proofs.lemmas.List.{append_assoc, append-nil, map-append, map-id, take_more, take_all}
+use Rattle.std.proofs.lemmas.List.Elements.{filter-append}
+use Rattle.std.proofs.lemmas.List.FromFn.{map-range_with_len_more}
+use Rattle.std.proofs.lemmas.Grind.{flat_map-append}
+use Rattle.sem_msg.specs.declared.event.Event.{Event}
+use Rattle.sem_msg.specs.declared.setup.VpeDecl.{VpeDecl}
+use Rattle.sem_msg.specs.Setup.{Setup, IsSetup}
+use Rattle.sem_msg.specs.Lookups.{decl, pe_owner, kernel_of}
+use Rattle.sem_machine.specs.Machine.{World, event, is_enabled, is_locally_enabled, kernel_events, enabled}
+use Rattle.sem_machine.proofs.FirstNumbers.{find-decl}
+use Rattle.sem_kernel.specs.declared.listing.VpeRow.{VpeRow}
+use Rattle.sem_kernel.specs.declared.listing.VpeRow.TheVariants.{Calls, Resumes, Upcalls}
+use Rattle.sem_kernel.specs.Listing.{enabled_among, enabled_of, vpe_act}
+
+-- one number more
+range-more : (n : ℕ) → range_with_len 0 (n + 1) ≡ range_with_len 0 n ++ n ∷ []
+range-more n =
+    sym (map-id (range_with_len 0 (n + 1)))
+    ∙ (map-range_with_len_more (λ k. k) 0 n n (omega arith)
+    ∙ ap (λ ks. ks ++ n ∷ []) (map-id (range_with_len 0 n)))
+
+module _ (T : Setup) (W : World) where
+  -- those of some events, and then those of more
+  pub and-more : (xs ys out new more : List Event) → new ≡ out ++ enabled_among T W xs → more ≡ new ++ enabled_among T W ys → more ≡ out ++ enabled_among T W (xs ++ ys)
+  and-more xs ys out new more first then =
+      then
+      ∙ (ap (λ es. es ++ enabled_among T W ys) first
+      ∙ (append_assoc out (enabled_among T W xs) (enabled_among T W ys)
+      ∙ ap (λ es. out ++ es) (sym (filter-append (is_enabled T W) xs ys))))
+
+  -- an event is tried
+  pub one-enabled : (e : Event) (out : List Event) → is_enabled T W e ≡ true → out ++ e ∷ [] ≡ out ++ enabled_among T W (e ∷ [])
+  one-enabled e out enabled = ap (λ es. out ++ es) (sym (cond-true (is_enabled T W e) (e ∷ []) [] enabled))
+
+  pub one-disabled : (e : Event) (out : List Event) → is_enabled T W e ≡ false → out ≡ out ++ enabled_among T W (e ∷ [])
+  one-disabled e out disabled = sym (ap (λ es. out ++ es) (cond-false (is_enabled T W e) (e ∷ []) [] disabled) ∙ append-nil out)
+
+  -- one more of a row through a list
+  pub row-more : {X : Type 0} (f : X → Event) (xs : List X) (n : ℕ) (x : X) (out now new : List Event) → n < length xs → x ≡ get_or xs n x → now ≡ out ++ enabled_among T W (map f (take n xs)) → new ≡ now ++ enabled_among T W (f x ∷ []) → new ≡ out ++ enabled_among T W (map f (take (n + 1) xs))
+  row-more f xs n x out now new more at so_far is =
+      and-more (map f (take n xs)) (f x ∷ []) out now new so_far is
+      ∙ ap (λ es. out ++ enabled_among T W es) (sym (ap (map f) (take_more xs n x more ∙ ap (λ y. take n xs ++ y ∷ []) (sym at)) ∙ map-append f (take n xs) (x ∷ [])))
+
+  pub row-all : {X : Type 0} (f : X → Event) (xs : List X) (n : ℕ) (out now : List Event) → length xs ≤ n → now ≡ out ++ enabled_among T W (map f (take n xs)) → now ≡ out ++ enabled_among T W (map f xs)
+  row-all f xs n out now all so_far = so_far ∙ ap (λ ys. out ++ enabled_among T W (map f ys)) (take_all n xs all)
+
+  -- one more of a row through the kernels
+  pub peers-more : (f : ℕ → Event) (n : ℕ) (out now new : List Event) → now ≡ out ++ enabled_among T W (map f (range_with_len 0 n)) → new ≡ now ++ enabled_among T W (f n ∷ []) → new ≡ out ++ enabled_among T W (map f (range_with_len 0 (n + 1)))
+  peers-more f n out now new so_far is =
+      and-more (map f (range_with_len 0 n)) (f n ∷ []) out now new so_far is
+      ∙ ap (λ es. out ++ enabled_among T W es) (sym (map-range_with_len_more f 0 n n (omega arith)))
+
+  -- one more kernel
+  pub kernels-more : (n : ℕ) (now new : List Event) → now ≡ enabled_among T W (flat_map (kernel_events T) (range_with_len 0 n)) → new ≡ now ++ enabled_of T W n → new ≡ enabled_among T W (flat_map (kernel_events T) (range_with_len 0 (n + 1)))
+  kernels-more n now new so_far is =
+      is
+      ∙ (ap (λ es. es ++ enabled_of T W n) so_far
+      ∙ sym (ap (λ ns. enabled_among T W (flat_map (kernel_events T) ns)) (range-more n)
+      ∙ (ap (enabled_among T W) (flat_map-append (kernel_events T) (range_with_len 0 n) (n ∷ [])
+      ∙ ap (λ es. flat_map (kernel_events T) (range_with_len 0 n) ++ es) (append-nil (kernel_events T n)))
+      ∙ filter-append (is_enabled T W) (flat_map (kernel_events T) (range_with_len 0 n)) (kernel_events T n))))
+
+  -- all kernels
+  pub kernels-all : (n : ℕ) (now : List Event) → n ≡ T.kernels → now ≡ enabled_among T W (flat_map (kernel_events T) (range_with_len 0 n)) → now ≡ enabled T W
+  unfolding enabled
+  kernels-all n now all so_far = so_far ∙ ap (λ k. enabled_among T W (flat_map (kernel_events T) (range_with_len 0 k))) all
+
+  -- a VPE of another kernel has no event at kernel i
+  pub elsewhere : IsSetup T → (i : ℕ) (row : VpeRow) (d : VpeDecl) → Contains T.vpes d → (pe_owner T d.pe == i) ≡ false → is_enabled T W (event i (vpe_act row d.vpe)) ≡ false
+  unfolding is_enabled is_locally_enabled
+  elsewhere valid i row d among other = from row
+    where
+      none : (kernel_of T d.vpe == i) ≡ false
+      none = ap (λ o. option_map_or (λ (x : VpeDecl). pe_owner T x.pe) o T.kernels == i) (find-decl T.vpes d valid.vpes_rise among) ∙ other
+
+      and-false : (a b : Bool) → b ≡ false → (a && b) ≡ false
+      and-false true b off = off
+      and-false false b off = refl
+
+      first-false : (a b : Bool) → a ≡ false → (a && b) ≡ false
+      first-false a b off = ap (λ c. c && b) off
+
+      from : (r : VpeRow) → is_enabled T W (event i (vpe_act r d.vpe)) ≡ false
+      from Calls = and-false (nat_lt i T.kernels) _ (first-false _ true (first-false (kernel_of T d.vpe == i) _ none))
+      from Resumes = and-false (nat_lt i T.kernels) _ (first-false _ true (first-false (kernel_of T d.vpe == i) _ none))
+      from Upcalls = and-false (nat_lt i T.kernels) _ (first-false _ true (first-false (kernel_of T d.vpe == i) _ none))
