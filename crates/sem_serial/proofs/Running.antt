@@ -1,0 +1,173 @@
+-- A run that goes on by one event at a time.
+use Rattle.std.proofs.Common.{◌≡◌, ℕ, zero, suc, ◌+◌, ◌-◌, ◌<◌, ◌≤◌, ◌%◌, true, List, [], ◌∷◌, ◌++◌, length, map, Option, Some, None, refl, sym, ◌∙◌, ap, subst, arith, length-append, append_assoc, append-nil, inl, inr}
+use Rattle.std.specs.List.{range_with_len}
+use Rattle.std.proofs.lemmas.List.Sums.{fold-append}
+use Rattle.std.proofs.lemmas.Option.{slice_get-get_or, slice_get_within, get_or_from_slice_get}
+use Rattle.rand_pcg.specs.Lcg.{Lcg}
+use Rattle.rand_pcg.specs.Pcg.{pcg32}
+use Rattle.sem_msg.specs.declared.event.Event.{Event}
+use Rattle.sem_msg.specs.declared.entry.Entry.{Entry}
+use Rattle.sem_msg.specs.Setup.{Setup, IsSetup}
+use Rattle.sem_msg.specs.Fabric.{FabricValue}
+use Rattle.sem_machine.specs.Machine.{World, start, after, entry_of, local_entry, enabled, is_enabled}
+use Rattle.sem_machine.specs.Schedules.{IsRun, IsSchedule, run, world_after}
+use Rattle.sem_machine.specs.Living.{IsQuiet}
+use Rattle.sem_machine.specs.Seeded.{drain, entry_limit, picked}
+use Rattle.sem_machine.proofs.EnabledList.{enabled-exact}
+use Rattle.sem_kernel.specs.KernelValue.{KernelValue}
+use Rattle.sem_fabric.specs.Fabrics.{new_fabric}
+use Rattle.sem_kernel.specs.Worlds.{world_of, AreKernelsOf, WorldValue, booted}
+use Rattle.sem_kernel.proofs.Beginning.{boots-together, boots-world}
+use Rattle.sem_serial.specs.Standing.{StandsAt, drained_on}
+use Rattle.sem_serial.specs.Listed.{AreListed}
+use Rattle.sem_serial.specs.Ending.{IsOver}
+
+-- an entry names the event that made it
+pub entry_of-event : (T : Setup) (W : World) (e : Event) → (entry_of T W e).event ≡ e
+unfolding entry_of local_entry
+entry_of-event T W e = refl
+
+-- a run goes on by an event that is enabled after it
+IsRun-push : (T : Setup) (W : World) (J : List Entry) (e : Event) → IsRun T W J → is_enabled T (run T W J) e ≡ true → IsRun T W (J ++ entry_of T (run T W J) e ∷ [])
+unfolding IsRun
+IsRun-push T W [] e is_run test = (subst (λ (x : Event). is_enabled T W x ≡ true) (sym (entry_of-event T W e)) test, ap (λ (x : Event). entry_of T W x) (sym (entry_of-event T W e)), tt)
+IsRun-push T W (x ∷ xs) e is_run test = (is_run.0, is_run.1, IsRun-push T (after T W x.event) xs e is_run.2 test)
+
+pub schedule-push : (T : Setup) (J : List Entry) (e : Event) → IsSchedule T J → is_enabled T (world_after T J) e ≡ true → IsSchedule T (J ++ entry_of T (world_after T J) e ∷ [])
+schedule-push T J e schedule test = IsRun-push T (start T) J e schedule test
+
+pub schedule-empty : (T : Setup) (J : List Entry) → J ≡ [] → IsSchedule T J
+unfolding IsRun
+schedule-empty T J none = subst (IsSchedule T) (sym none) tt
+
+-- the world after one more event
+pub world_after-push : (T : Setup) (J : List Entry) (e : Event) → world_after T (J ++ entry_of T (world_after T J) e ∷ []) ≡ after T (world_after T J) e
+world_after-push T J e =
+    fold-append (λ (V : World) (x : Entry). after T V x.event) (start T) J (entry_of T (world_after T J) e ∷ [])
+    ∙ ap (λ (x : Event). after T (world_after T J) x) (entry_of-event T (world_after T J) e)
+
+-- What a word picks.
+
+-- nothing, only where no event is enabled
+picked-none : (word : ℕ) (es : List Event) → picked word es ≡ None → es ≡ []
+picked-none word [] none = refl
+picked-none word (e ∷ es) none =
+    let within : word % length (e ∷ es) < length (e ∷ es) = omega arith in
+    let some = slice_get-get_or (e ∷ es) (word % length (e ∷ es)) e within in
+    absurd (cc)
+
+pub picked-nothing : (word : ℕ) (es : List Event) → es ≡ [] → picked word es ≡ None
+picked-nothing word es none = ap (picked word) none
+
+-- one of the enabled events
+pub picked-enabled : (T : Setup) (W : World) (word : ℕ) (e : Event) → picked word (enabled T W) ≡ Some e → is_enabled T W e ≡ true
+picked-enabled T W word e some =
+    let within = slice_get_within (enabled T W) (word % length (enabled T W)) e some in
+    (enabled-exact T W e).0 (word % length (enabled T W), within, get_or_from_slice_get (enabled T W) (word % length (enabled T W)) e e some)
+
+-- What the words make.
+
+drain-more : (n : ℕ) (T : Setup) (W : World) (g : Lcg) (e : Event) → 0 < n → picked (pcg32 g).0 (enabled T W) ≡ Some e → drain n T W g ≡ entry_of T W e ∷ drain (n - 1) T (after T W e) (pcg32 g).1
+unfolding drain
+drain-more zero T W g e some_left some = absurd (omega arith)
+drain-more (suc n) T W g e some_left some =
+    let less : suc n - 1 ≡ n = omega arith in
+    rw (some, less) refl
+
+drain-none : (n : ℕ) (T : Setup) (W : World) (g : Lcg) → picked (pcg32 g).0 (enabled T W) ≡ None → drain n T W g ≡ []
+unfolding drain
+drain-none zero T W g none = refl
+drain-none (suc n) T W g none = rw none refl
+
+drain-full : (n : ℕ) (T : Setup) (W : World) (g : Lcg) → n ≡ 0 → drain n T W g ≡ []
+unfolding drain
+drain-full n T W g all = rw all refl
+
+module _ (T : Setup) (J : List Entry) (g : Lcg) where
+  abbrev W : World
+  W = world_after T J
+
+  -- one more event
+  drained-more : (e : Event) → length J < entry_limit T → picked (pcg32 g).0 (enabled T W) ≡ Some e → drained_on T (J ++ entry_of T W e ∷ []) (pcg32 g).1 ≡ drained_on T J g
+  drained-more e left some =
+      let x : Entry = entry_of T W e in
+      let long : length (J ++ x ∷ []) ≡ length J + 1 = length-append J (x ∷ []) in
+      let fewer : entry_limit T - length J - 1 ≡ entry_limit T - length (J ++ x ∷ []) = omega arith in
+      sym (ap (λ es. J ++ es) (drain-more (entry_limit T - length J) T W g e (omega arith) some)
+      ∙ sym (append_assoc J (x ∷ []) (drain (entry_limit T - length J - 1) T (after T W e) (pcg32 g).1))
+      ∙ ap (λ n. (J ++ x ∷ []) ++ drain n T (after T W e) (pcg32 g).1) fewer
+      ∙ ap (λ V. (J ++ x ∷ []) ++ drain (entry_limit T - length (J ++ x ∷ [])) T V (pcg32 g).1) (sym (world_after-push T J e)))
+
+  -- nothing is to come
+  drained-quiet : picked (pcg32 g).0 (enabled T W) ≡ None → J ≡ drained_on T J g
+  drained-quiet none = sym (ap (λ es. J ++ es) (drain-none (entry_limit T - length J) T W g none) ∙ append-nil J)
+
+  drained-full : entry_limit T ≤ length J → J ≡ drained_on T J g
+  drained-full full = sym (ap (λ es. J ++ es) (drain-full (entry_limit T - length J) T W g (omega (arith, full))) ∙ append-nil J)
+
+-- Kernels and a fabric that stand at a schedule.
+module _ (T : Setup) (ks : List KernelValue) (f : FabricValue) (at : StandsAt T ks f) where
+  -- an enabled event happened
+  pub stands-more : (e : Event) → is_enabled T (world_of ks f) e ≡ true → (x : Entry) → x ≡ entry_of T (world_of ks f) e → (ls : List KernelValue) (h : FabricValue) → AreKernelsOf T ls h → world_of ls h ≡ after T (world_of ks f) e → h.journal ≡ f.journal ++ x ∷ [] → StandsAt T ls h
+  stands-more e enabled_e x made ls h together moved entered =
+      let journal : h.journal ≡ f.journal ++ entry_of T (world_after T f.journal) e ∷ [] = entered ∙ ap (λ y. f.journal ++ y ∷ []) (made ∙ ap (λ V. entry_of T V e) at.world) in
+      record {
+        together = together;
+        schedule = subst (IsSchedule T) (sym journal) (schedule-push T f.journal e at.schedule (subst (λ V. is_enabled T V e ≡ true) at.world enabled_e));
+        world = moved ∙ (ap (λ V. after T V e) at.world ∙ (sym (world_after-push T f.journal e) ∙ ap (world_after T) (sym journal)));
+      }
+
+  -- nothing happened
+  pub stands-same : (ls : List KernelValue) (h : FabricValue) → AreKernelsOf T ls h → world_of ls h ≡ world_of ks f → h.journal ≡ f.journal → StandsAt T ls h
+  stands-same ls h together same journal = record {
+    together = together;
+    schedule = subst (IsSchedule T) (sym journal) at.schedule;
+    world = same ∙ (at.world ∙ ap (world_after T) (sym journal));
+  }
+
+  pub over-quiet : enabled T (world_of ks f) ≡ [] → IsOver T f.journal
+  over-quiet quiet = inl (subst (IsQuiet T) at.world quiet)
+
+-- they stand at the empty schedule at the start
+pub stands-at-start : (T : Setup) → IsSetup T → (ks : List KernelValue) → ks ≡ map (booted T) (range_with_len 0 T.kernels) → (f : FabricValue) → f ≡ new_fabric T → StandsAt T ks f
+stands-at-start T valid ks all f new =
+    let empty : f.journal ≡ [] = ap (λ (x : FabricValue). x.journal) new in
+    record {
+      together = boots-together T T refl ks all f new valid;
+      schedule = schedule-empty T f.journal empty;
+      world = ap (λ (x : WorldValue). x.world) (boots-world T T refl ks all f new) ∙ ap (world_after T) (sym empty);
+    }
+
+-- A run that began with a journal and a generator, and has come to others.
+pub record IsDraining (T : Setup) (P : List Entry) (first : Lcg) (ks : List KernelValue) (f : FabricValue) (lists : List (List Event)) (g : Lcg) : Type 0 where
+  pub stand : StandsAt T ks f
+  pub listed : AreListed T (world_of ks f) lists
+  pub to_come : drained_on T f.journal g ≡ drained_on T P first
+
+module _ (T : Setup) (P : List Entry) (first : Lcg) (ks : List KernelValue) (f : FabricValue) (lists : List (List Event)) (g : Lcg) (so_far : IsDraining T P first ks f lists g) where
+  picked-after : (o : Option Event) → picked (pcg32 g).0 (enabled T (world_of ks f)) ≡ o → picked (pcg32 g).0 (enabled T (world_after T f.journal)) ≡ o
+  picked-after o at = ap (λ V. picked (pcg32 g).0 (enabled T V)) (sym so_far.stand.world) ∙ at
+
+  -- where it stands is a part of the run
+  pub part : (J : List Entry) → J ≡ f.journal → (rest : List Entry) × (J ++ rest ≡ drained_on T P first)
+  part J same = (drain (entry_limit T - length f.journal) T (world_after T f.journal) g, ap (λ K. K ++ drain (entry_limit T - length f.journal) T (world_after T f.journal) g) same ∙ so_far.to_come)
+
+  pub quiet-drained : picked (pcg32 g).0 (enabled T (world_of ks f)) ≡ None → f.journal ≡ drained_on T P first
+  quiet-drained none = drained-quiet T f.journal g (picked-after None none) ∙ so_far.to_come
+
+  pub quiet-over : picked (pcg32 g).0 (enabled T (world_of ks f)) ≡ None → IsOver T f.journal
+  quiet-over none = over-quiet T ks f so_far.stand (picked-none (pcg32 g).0 (enabled T (world_of ks f)) none)
+
+  pub full-drained : entry_limit T ≤ length f.journal → f.journal ≡ drained_on T P first
+  full-drained full = drained-full T f.journal g full ∙ so_far.to_come
+
+  -- one more event
+  pub to-come-more : (e : Event) → picked (pcg32 g).0 (enabled T (world_of ks f)) ≡ Some e → length f.journal < entry_limit T → (x : Entry) → x ≡ entry_of T (world_of ks f) e → (J : List Entry) → J ≡ f.journal ++ x ∷ [] → (h : Lcg) → h ≡ (pcg32 g).1 → drained_on T J h ≡ drained_on T P first
+  to-come-more e some left x made J entered h words =
+      ap (λ K. drained_on T K h) (entered ∙ ap (λ y. f.journal ++ y ∷ []) (made ∙ ap (λ V. entry_of T V e) so_far.stand.world))
+      ∙ (ap (drained_on T (f.journal ++ entry_of T (world_after T f.journal) e ∷ [])) words
+      ∙ (drained-more T f.journal g e left (picked-after (Some e) some) ∙ so_far.to_come))
+
+-- a part of a run that is longer by what is to come
+pub part-of : (T : Setup) (P : List Entry) (first : Lcg) (J : List Entry) (g : Lcg) → drained_on T J g ≡ drained_on T P first → (rest : List Entry) × (J ++ rest ≡ drained_on T P first)
+part-of T P first J g to_come = (drain (entry_limit T - length J) T (world_after T J) g, to_come)

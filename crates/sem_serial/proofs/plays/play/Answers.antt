@@ -1,0 +1,28 @@
+use Rattle.std.proofs.Common.{◌∷◌, [], ◌++◌, get_or, Err, ◌∙◌, ap, arith}
+use Rattle.std.proofs.lemmas.List.{get_or_default}
+use Rattle.sem_msg.specs.declared.event.Act.TheVariants.{Call as Calls}
+use Rattle.sem_msg.specs.declared.event.Event.{Event}
+use Rattle.sem_machine.specs.Machine.{is_enabled}
+use Rattle.sem_kernel.specs.declared.happening.StepError.TheVariants.{NotEnabled}
+use Rattle.sem_serial.proofs.Running.{schedule-empty}
+use Rattle.sem_serial.proofs.Played.{playing-start, playing-more, stops, ok-enabled}
+use Rattle.sem_serial.proofs.plays.play.Goals as goal
+
+pub returns-in_err-world-clause-schedule : goal.returns-in_err-world-clause-schedule
+returns-in_err-world-clause-schedule c = schedule-empty c.args.setup.now c.args.journal.now.entries c.requires
+
+pub loop-at-init : goal.loop-at-init
+loop-at-init c = playing-start c.args.setup.now c.args.events.now c.in_ok-world.world c.args.journal.now.entries c.requires c.in_ok-world.ensures
+
+pub returns-in-Err-NotEnabled-clause-not_enabled : goal.returns-in-Err-NotEnabled-clause-not_enabled
+returns-in-Err-NotEnabled-clause-not_enabled c =
+    let l = c.loop-at in
+    let e : Event = get_or c.args.events.now l.at (record { kernel = 0; act = Calls 0 }) in
+    stops c.args.setup.now c.args.events.now l.world l.journal.entries l.at l.invariant e (omega arith) (get_or_default c.args.events.now l.at (record { kernel = 0; act = Calls 0 }) e (omega arith)) (c.in-Err-NotEnabled.ensures.not_enabled.0 (ap Err c.in-Err-NotEnabled.field-0-is)) c.room.new.self.entries c.room.ensures.entries
+
+pub loop-at-preserved : goal.loop-at-preserved
+loop-at-preserved c =
+    let l = c.loop-at in
+    let e : Event = get_or c.args.events.now l.at (record { kernel = 0; act = Calls 0 }) in
+    playing-more c.args.setup.now c.args.events.now l.world l.journal.entries l.at l.invariant e c.in-Ok.entry c.step.new.self c.push.new.self.entries (omega arith) (get_or_default c.args.events.now l.at (record { kernel = 0; act = Calls 0 }) e (omega arith))
+    (ok-enabled c.in-Ok.entry NotEnabled (is_enabled l.world.setup l.world.world e) c.in-Ok.ensures.not_enabled) c.in-Ok.ensures.entry c.in-Ok.ensures.after (c.push.ensures.entries ∙ ap (λ es. es ++ c.in-Ok.entry ∷ []) c.room.ensures.entries)

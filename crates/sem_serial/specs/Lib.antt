@@ -1,0 +1,4 @@
+pub mod Standing
+pub mod Listed
+pub mod Ending
+pub mod Playing

@@ -1,0 +1,124 @@
+ghost use Rattle.std.specs.Prelude.{◌≡◌, ℕ, true, ◌++◌, ◌∷◌, [], List, map, is_some, OnOk, OnErr, IfOk, IsErrOf};
+ghost use Rattle.sem_msg.specs.declared.entry.Entry.{Entry as EntryData};
+ghost use Rattle.sem_machine.specs.Living.{IsComplete};
+ghost use Rattle.sem_machine.specs.Machine.{after, entry_of, is_enabled};
+ghost use Rattle.sem_machine.specs.Seeded.{drained};
+ghost use Rattle.sem_kernel.specs.Worlds.{world_of};
+ghost use Rattle.sem_serial.specs.Standing.{StandsAt, drained_on};
+ghost use Rattle.sem_serial.specs.Listed.{AreListed};
+ghost use Rattle.sem_serial.specs.Ending.{IsOver, IsStuck, IsSpent};
+
+use crate::answers::first_unanswered;
+use crate::faults::RunError;
+use crate::limits::entry_limit;
+use crate::lists::{event_count, list_all, pick, renew};
+use rand_pcg::Lcg64Xsh32;
+use sem_fabric::Fabric;
+use sem_kernel::{Kernel, StepError, happen};
+use sem_key::OutOfMemory;
+use sem_msg::{Event, Setup};
+use std::alloc::Global;
+
+/// Runs on by the words of the seed until no event is enabled: at each step one word picks one of
+/// the enabled events. The kernels and the fabric are those of the setup, and stand at a schedule of
+/// it, which the journal of the fabric is; so they do after an error too, within the same run.
+pub fn drain(
+    alloc: Global,
+    setup: &Setup,
+    kernels: &mut Vec<Kernel>,
+    fabric: &mut Fabric,
+    seed: u64,
+) -> Result<(), RunError>
+    requires { StandsAt setup.now kernels.old.items fabric.old }
+    ensures stand { StandsAt setup.now kernels.new.items fabric.new }
+    ensures drained { ¬ (IsErrOf result RunError.Memory) → fabric.new.journal ≡ drained setup.now fabric.old.journal seed }
+    ensures prefix { (rest : List EntryData) × (fabric.new.journal ++ rest ≡ drained setup.now fabric.old.journal seed) }
+    ensures complete { OnOk result (IsComplete setup.now fabric.new.journal) }
+    ensures stuck { (v : ℕ) → IsErrOf result (RunError.Stuck v) → IsStuck setup.now fabric.new.journal v }
+    ensures spent { (n : ℕ) → IsErrOf result (RunError.Spent n) → IsSpent setup.now fabric.new.journal n }
+{
+    let mut lists = list_all(alloc, setup, kernels.as_slice(), fabric)?;
+    let mut words = Lcg64Xsh32::new(seed, 1);
+    run_on(setup, kernels, fabric, &mut words, &mut lists)?;
+    judge(setup, kernels.as_slice(), fabric, &lists)
+}
+
+// Runs on by the words until no event is enabled or the journal has as many entries as a run can
+// have. The lists are the enabled events.
+fn run_on(
+    setup: &Setup,
+    kernels: &mut Vec<Kernel>,
+    fabric: &mut Fabric,
+    words: &mut Lcg64Xsh32,
+    lists: &mut Vec<Vec<Event>>,
+) -> Result<(), OutOfMemory>
+    requires stand { StandsAt setup.now kernels.old.items fabric.old }
+    requires listed { AreListed setup.now (world_of kernels.old.items fabric.old) (map (λ list. list.items) lists.old.items) }
+    ensures stand { StandsAt setup.now kernels.new.items fabric.new }
+    ensures prefix { (rest : List EntryData) × (fabric.new.journal ++ rest ≡ drained_on setup.now fabric.old.journal words.old) }
+    ensures drained { OnOk result (fabric.new.journal ≡ drained_on setup.now fabric.old.journal words.old) }
+    ensures over { OnOk result (IsOver setup.now fabric.new.journal) }
+    ensures listed { OnOk result (AreListed setup.now (world_of kernels.new.items fabric.new) (map (λ list. list.items) lists.new.items)) }
+{
+    // So that the proof knows what a setup keeps.
+    let _ = &setup.vpes;
+    let limit = entry_limit(setup);
+    while fabric.journal().len() < limit {
+        let Some(event) = pick(lists.as_slice(), words) else {
+            return Ok(());
+        };
+        let replied = make_entry(setup, kernels, fabric, event)?;
+        renew(setup, kernels.as_slice(), fabric, event, replied, lists)?;
+    }
+    Ok(())
+}
+
+// The enabled event happens. Whether it made a reply; after want of memory nothing has happened.
+fn make_entry(
+    setup: &Setup,
+    kernels: &mut Vec<Kernel>,
+    fabric: &mut Fabric,
+    event: Event,
+) -> Result<bool, OutOfMemory>
+    requires stand { StandsAt setup.now kernels.old.items fabric.old }
+    requires enabled { is_enabled setup.now (world_of kernels.old.items fabric.old) event ≡ true }
+    ensures stand { StandsAt setup.now kernels.new.items fabric.new }
+    ensures replied { IfOk result (λ b. b ≡ is_some (entry_of setup.now (world_of kernels.old.items fabric.old) event).reply) }
+    ensures after { OnOk result (world_of kernels.new.items fabric.new ≡ after setup.now (world_of kernels.old.items fabric.old) event) }
+    ensures journal { OnOk result (fabric.new.journal ≡ fabric.old.journal ++ entry_of setup.now (world_of kernels.old.items fabric.old) event ∷ []) }
+    ensures same { OnErr result (fabric.new.journal ≡ fabric.old.journal) }
+{
+    match happen(setup, kernels, fabric, event) {
+        Ok(entry) => Ok(entry.reply.is_some()),
+        Err(StepError::Memory) => Err(OutOfMemory),
+        Err(StepError::NotEnabled) => unreachable!(),
+    }
+}
+
+// Whether a run that is over came to its end.
+fn judge(
+    setup: &Setup,
+    kernels: &[Kernel],
+    fabric: &Fabric,
+    lists: &[Vec<Event>],
+) -> Result<(), RunError>
+    requires stand { StandsAt setup.now kernels.now fabric.now }
+    requires over { IsOver setup.now fabric.now.journal }
+    requires listed { AreListed setup.now (world_of kernels.now fabric.now) (map (λ list. list.items) lists.now) }
+    ensures complete { OnOk result (IsComplete setup.now fabric.now.journal) }
+    ensures stuck { (v : ℕ) → IsErrOf result (RunError.Stuck v) → IsStuck setup.now fabric.now.journal v }
+    ensures spent { (n : ℕ) → IsErrOf result (RunError.Spent n) → IsSpent setup.now fabric.now.journal n }
+    ensures memory { ¬ (IsErrOf result RunError.Memory) }
+{
+    // So that the proof knows what a setup keeps.
+    let _ = &setup.vpes;
+    if event_count(lists) > 0 {
+        return Err(RunError::Spent {
+            entries: fabric.journal().len() as u64,
+        });
+    }
+    match first_unanswered(setup, kernels, fabric) {
+        Some(vpe) => Err(RunError::Stuck { vpe }),
+        None => Ok(()),
+    }
+}

@@ -1,0 +1,27 @@
+// Kernels and their fabric at the start of a run.
+ghost use Rattle.std.specs.Prelude.{◌≡◌, [], IfOk};
+ghost use Rattle.sem_serial.specs.Standing.{StandsAt};
+
+use sem_fabric::Fabric;
+use sem_kernel::{Kernel, boot_kernels};
+use sem_key::OutOfMemory;
+use sem_msg::{Journal, Setup};
+use std::alloc::Global;
+
+/// The kernels of the setup and their fabric at the start. The journal, which is to be empty, goes
+/// into the fabric; after want of memory it is dropped.
+pub fn boot(
+    alloc: Global,
+    setup: &Setup,
+    journal: Journal,
+) -> Result<(Vec<Kernel>, Fabric), OutOfMemory>
+    requires { journal.entries ≡ [] }
+    ensures stand { IfOk result (λ r. StandsAt setup.now r.0.items r.1) }
+    ensures journal { IfOk result (λ r. r.1.journal ≡ []) }
+{
+    // So that the proof knows what a setup keeps.
+    let _ = &setup.vpes;
+    let kernels = boot_kernels(alloc, setup)?;
+    let fabric = Fabric::new(alloc, setup, journal)?;
+    Ok((kernels, fabric))
+}
