@@ -57,6 +57,13 @@ impl Caps {
         }
     }
 
+    /// The capability at that place in rising key order, counted from 0; none past the end.
+    pub fn at(&self, place: usize) -> Option<&Cap>
+        ensures { option_map capability_of (option_copied result) ≡ slice_get self.now.caps place }
+    {
+        self.rising.get(place)
+    }
+
     /// Makes room for `more` capabilities, so that inserting them takes no memory, and for one more child of the capability
     /// `parent`. Where no such capability is given or held, there is room for no child after it. After want of memory there
     /// is room for the same child as before.

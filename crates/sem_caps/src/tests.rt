@@ -102,6 +102,17 @@ fn capabilities_are_found_by_their_keys(rt: HostRuntime) -> Result<(), Fail> {
 }
 
 #[test]
+fn capabilities_stand_in_key_order(rt: HostRuntime) -> Result<(), Fail> {
+    let mut caps = Caps::new(rt.alloc())?;
+    put(&rt, &mut caps, key(2, 0), None, 4)?;
+    put(&rt, &mut caps, key(1, 7), None, 5)?;
+    assert_eq!(rt; caps.at(0).map(|cap| cap.key), Some(key(1, 7)));
+    assert_eq!(rt; caps.at(1).map(|cap| cap.selector), Some(4));
+    assert!(rt; caps.at(2).is_none());
+    Ok(())
+}
+
+#[test]
 fn the_keys_of_a_vpe_follow_each_other(rt: HostRuntime) -> Result<(), Fail> {
     let mut caps = Caps::new(rt.alloc())?;
     for (vpe, number) in [(2, 0), (1, 7), (3, 9), (1, 2)] {

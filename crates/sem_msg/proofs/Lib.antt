@@ -6,3 +6,4 @@ pub mod Moves
 pub mod Agreeing
 pub mod Entering
 pub mod Squares
+pub mod FoundDecls

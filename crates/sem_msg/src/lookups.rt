@@ -12,7 +12,9 @@ impl Setup {
         ensures decl { option_copied result ≡ decl_lem self.now vpe }
         ensures valid { IfSome (option_copied result) (IsVpeDecl self.now) }
     {
-        self.vpes.as_slice().iter().find(|decl| decl.vpe == vpe)
+        let decls = self.vpes.as_slice();
+        let at = decls.binary_search_by_key(&vpe, |decl| decl.vpe).ok()?;
+        Some(&decls[at])
     }
 
     /// The declaration of a VPE of that kernel; none where the kernel has no such VPE.
