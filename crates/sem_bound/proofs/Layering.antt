@@ -48,7 +48,7 @@ ids = record {
   keeps_unparked = λ s is v. record { rise = is.rise; drawn = is.drawn };
   keeps_asked = λ s is v a here. record { rise = is.rise; drawn = is.drawn };
   keeps_taken = λ s is v. record { rise = is.rise; drawn = is.drawn };
-  keeps_buried = λ s is v. record { rise = is.rise; drawn = is.drawn };
+  keeps_buried = λ s is v ends. record { rise = is.rise; drawn = is.drawn };
   keeps_bound = λ s is v ep src c held unmarked here. record { rise = is.rise; drawn = is.drawn };
   keeps_rung = λ s is v ep f. record { rise = is.rise; drawn = is.drawn };
   keeps_added = λ s is c here childless unmarked. record { rise = is.rise; drawn = is.drawn };
@@ -57,7 +57,7 @@ ids = record {
   keeps_marked = λ s is ks j here. record { rise = is.rise; drawn = is.drawn };
   keeps_restored = λ s is k. record { rise = is.rise; drawn = is.drawn };
   keeps_removed = λ s is j. record { rise = is.rise; drawn = is.drawn };
-  keeps_pending_added = λ s is p. record { rise = is.rise; drawn = is.drawn };
+  keeps_pending_added = λ s is p pends. record { rise = is.rise; drawn = is.drawn };
   keeps_pending_removed = λ s is k. record { rise = is.rise; drawn = is.drawn };
   keeps_opened = λ s is root up waiters keep. record {
     rise = all_pairs_push (λ a b. a.id < b.id) s.jobs (record { id = s.next_job; root = root; up = up; waiters = waiters; count = 0; keep = keep }) is.rise is.drawn;
@@ -76,6 +76,11 @@ ids = record {
   keeps_inbox = λ s is message here. record { rise = is.rise; drawn = is.drawn };
   of_link = λ s is c among k child. tt;
   spreads = λ p k here doomed. tt;
+  asks = λ v n calls is. is;
+  offers = λ k o is. tt;
+  prepares = λ parent k object sel offered place handed. (tt, place);
+  acks = λ parent k prepared offered is. is;
+  of_pending = λ s is k p there acked. acked;
 }
 
 -- Keys.
@@ -122,7 +127,7 @@ module _ (rooted : KeyName → Bool) where
     keeps_unparked = λ s is v. is;
     keeps_asked = λ s is v a here. is;
     keeps_taken = λ s is v. is;
-    keeps_buried = λ s is v. is;
+    keeps_buried = λ s is v ends. is;
     keeps_bound = λ s is v ep src c held unmarked here. is;
     keeps_rung = λ s is v ep f. is;
     keeps_added = λ s is c here childless unmarked. absurd here;
@@ -131,7 +136,7 @@ module _ (rooted : KeyName → Bool) where
     keeps_marked = λ s is ks j here. calm-changed s (λ c. list_any (key_eq c.key) ks) (with_mark j) (λ c. (refl, refl)) is;
     keeps_restored = λ s is k. calm-changed s (λ c. key_eq c.key k) (λ c. record c { children = []; mark = None }) (λ c. (refl, refl)) is;
     keeps_removed = λ s is j. (λ c among p parent. is.0 c (Contains-from_filter (λ (x : Capability). not (is_marked_by j x)) s.caps c among).0 p parent, AllPairs-filter (λ (a b : Capability). key_eq a.key b.key ≡ false) (λ c. not (is_marked_by j c)) s.caps is.1);
-    keeps_pending_added = λ s is p. is;
+    keeps_pending_added = λ s is p pends. is;
     keeps_pending_removed = λ s is k. is;
     keeps_opened = λ s is root up waiters keep. is;
     keeps_changed = λ s is j f same. is;
@@ -142,4 +147,9 @@ module _ (rooted : KeyName → Bool) where
     keeps_inbox = λ s is message here. is;
     of_link = λ s is c among k child. tt;
     spreads = λ p k here doomed. tt;
+    asks = λ v n calls is. is;
+    offers = λ k o is. tt;
+    prepares = λ parent k object sel offered place handed. (tt, place);
+    acks = λ parent k prepared offered is. is;
+    of_pending = λ s is k p there acked. acked;
   }

@@ -32,6 +32,7 @@ use Rattle.sem_safety.specs.Onward.{IsOnward}
 use Rattle.sem_safety.proofs.Drawers.{side-after}
 use Rattle.sem_safety.proofs.GoingOn.{AnyVpe, any_grant, any_cut, after-onward, run-append, entry-enabled}
 use Rattle.sem_safety.proofs.KeptRows.{ask_ended-in, call_ended-in, revoked_if_there-in, call_row-keeps}
+use Rattle.sem_safety.proofs.KeptSteps.{blind-call, facts-blind}
 use Rattle.sem_safety.proofs.Layers.{facts}
 use Rattle.sem_machine.proofs.Folds.{in_turn-keeps}
 use Rattle.sem_safety.proofs.LiveWorlds.{sum-le}
@@ -90,7 +91,7 @@ module _ (T : Setup) where
   counted-on i s v c =
       let t : Side = call_counted v s in
       let x : Step = call_row T i t v c in
-      call_row-keeps (facts Any AnyPlace) AnyVpe (IsOnward t) (onward t).kept T i t v c tt (onward-same t) (λ exit k same. tt) (λ k p held. tt) (any_grant x.outcome.grant, λ w n may low below. tt, any_cut x.outcome.cut)
+      call_row-keeps (facts Any AnyPlace) AnyVpe (IsOnward t) (onward t).kept T i t v c tt (onward-same t) (λ exit k same. tt) (λ k p held. tt) (blind-call (facts Any AnyPlace) (facts-blind Any AnyPlace (λ p k. Unit {0}) (λ k. Unit {0})) t v c) (any_grant x.outcome.grant, λ w n may low below. tt, any_cut x.outcome.cut)
 
   called-more : (i : ℕ) (s : Side) (v : ℕ) (input : Option Message) → is_some (next_call T s v) ≡ true → (row s v).next_call + 1 ≤ (row (local_step T i s (Calls v) input).side v).next_call
   unfolding local_step

@@ -88,7 +88,7 @@ first-bare T i = in_turn-keeps (λ (t : Side). All IsFirst t.caps) vpe_added (fi
 -- The order of the keys.
 
 -- the keys rise and are valid
-abbrev IsBegun : Side → Type 0
+abbrev pub IsBegun : Side → Type 0
 IsBegun s = IsRising (map (λ (c : Capability). c.key) s.caps) × All (λ (c : Capability). IsValidKey c.key) s.caps
 
 -- a root that is added is new, since those that its VPE has are numbered below it
@@ -124,7 +124,7 @@ vpes-begun T (d ∷ ds) s declared rise above is =
     (roots-begun d d.roots 0 (opened d s) (let few = most_vpes-le T.version in let pe = here.pe in omega arith) (let few = most_vpes-le T.version in let vpe = here.vpe in omega arith) (omega (arith, roots-few T d here)) (opened-next d s)
     (λ k e within same. let lower = All-head (λ (x : VpeDecl). All (λ (c : Capability). c.key.vpe < x.vpe) s.caps) d ds above k e within in absurd (omega (arith, lower, same))) is)
 
-begun : (T : Setup) (i : ℕ) → IsSetup T → IsBegun (start_side T i)
+pub begun : (T : Setup) (i : ℕ) → IsSetup T → IsBegun (start_side T i)
 unfolding start_side
 begun T i valid =
     vpes-begun T (filter (is_of T i) T.vpes) (empty_side T) (All-filter (is_of T i) (IsVpeDecl T) T.vpes valid.vpes) (AllPairs-filter Before (is_of T i) T.vpes valid.vpes_rise)

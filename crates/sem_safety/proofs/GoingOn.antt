@@ -17,7 +17,7 @@ use Rattle.sem_key.proofs.Puts.{get_or-put_same, get_or-put_other}
 use Rattle.sem_safety.proofs.Layers.{facts, InGrant, InCut}
 use Rattle.sem_safety.specs.Onward.{IsOnward, IsOnwardWorld}
 use Rattle.sem_safety.proofs.Onwards.{Any, AnyPlace, any_input, onward-same, onward-next, onward}
-use Rattle.sem_safety.proofs.KeptSteps.{MayDraw, Dies, local_step-keeps}
+use Rattle.sem_safety.proofs.KeptSteps.{MayDraw, Dies, local_step-keeps, blind-act, facts-blind}
 
 pub any_grant : (g : Option (KeyName × KeyName)) → InGrant (facts Any AnyPlace) g
 any_grant None = tt
@@ -49,7 +49,7 @@ may_act (Flush to) = tt
 may_act (Kill v) = tt
 
 pub local_step-onward : (T : Setup) (i : ℕ) (s : Side) (a : Act) (input : Option Message) → IsOnward s (local_step T i s a input).side
-local_step-onward T i s a input = local_step-keeps (facts Any AnyPlace) AnyVpe (IsOnward s) (onward s) T i s a input (may_act a) (onward-same s) (any_end T s a) (any_input input) (any_grant (local_step T i s a input).outcome.grant, λ v n may below. tt, any_cut (local_step T i s a input).outcome.cut)
+local_step-onward T i s a input = local_step-keeps (facts Any AnyPlace) AnyVpe (IsOnward s) (onward s) T i s a input (may_act a) (onward-same s) (blind-act (facts Any AnyPlace) (facts-blind Any AnyPlace (λ p k. Unit {0}) (λ k. Unit {0})) T s a) (any_end T s a) (any_input input) (any_grant (local_step T i s a input).outcome.grant, λ v n may low below. tt, any_cut (local_step T i s a input).outcome.cut)
 
 -- Worlds.
 

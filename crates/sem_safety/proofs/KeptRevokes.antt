@@ -34,7 +34,7 @@ module _ (F : Facts) (P : Side → Type 0) (L : IsKept F P) where
   pub freed-in : (s : Side) → P s → (v sel : ℕ) → P (freed v sel s)
   freed-in s is v sel = L.keeps_slot s is v sel Free tt
 
-  pub installed-in : (s : Side) → P s → (k : KeyName) (parent : Option KeyName) (sel : ℕ) (object : Object) → F.key k → P (installed k parent sel object s)
+  pub installed-in : (s : Side) → P s → (k : KeyName) (parent : Option KeyName) (sel : ℕ) (object : Object) → F.key k object → P (installed k parent sel object s)
   installed-in s is k parent sel object here = L.keeps_slot (cap_added (record { key = k; parent = parent; children = []; mark = None; selector = sel; object = object }) s) (L.keeps_added s is (record { key = k; parent = parent; children = []; mark = None; selector = sel; object = object }) here refl refl) k.vpe sel (Held k) refl
 
   pub ready-in : (s : Side) → P s → (number v : ℕ) → P (ready number v s)

@@ -123,7 +123,7 @@ module _ (k0 : KeyName) (counts : Option KeyName → Bool) where
     call_row-within T i s v (SendCall ep len) is = unless-keeps (Within m) (send_tests (endpoint s v ep)) _ _ (λ code. light m (answer code s) is) (light m (answer OkCode (message_rung v ep len s)) (L.keeps_rung s is v ep (λ ring. ring ++ len ∷ [])))
     call_row-within T i s v (Credit ep) is = unless-keeps (Within m) (credit_tests (endpoint s v ep)) _ _ (λ code. light m (answer code s) is) (light m (answer OkCode (message_credited v ep s)) (L.keeps_rung s is v ep (λ ring. drop 1 ring)))
     call_row-within T i s v (Clear src) is = unless-keeps (Within m) (own_tests (own s v src)) _ _ (λ code. light m (answer code s) is) (with_held-within (own s v src) _ s is (λ c held. light m (cutting c.key (plain (clear_begun T i v c.key s))) (cleared-in (OtherKeys k0) (Few m) L T i v c.key s is tt)))
-    call_row-within T i s v Exit is = light m (answer OkCode (ended T i v s)) (ended-in (OtherKeys k0) AnyVpe (Few m) L T i v s is (λ k same. tt))
+    call_row-within T i s v Exit is = light m (answer OkCode (ended T i v s)) (ended-in (OtherKeys k0) AnyVpe (Few m) L T i v s is (λ k same. tt) tt)
 
     -- Upcalls.
     refused-few : (T : Setup) (i : ℕ) (code : Code) (a : Ask) (s : Side) → Few m s → Few m (ask_refused T i code a s)
@@ -141,7 +141,7 @@ module _ (k0 : KeyName) (counts : Option KeyName → Bool) where
         let k : KeyName = next_key T s v parent.kind in
         let p : Pending = record { key = k; parent = parent; object = object; sel = sel } in
         let promising : Side = promised v sel (drawn v s) in
-        light m (delegate_prepared T v parent object sel s) (L.keeps_send (pending_added p promising) (L.keeps_pending_added promising (L.keeps_slot (drawn v s) (L.keeps_drawn s is v) v sel Promised tt) p) (owner_of T parent) (DelegatePrepared parent k) tt)
+        light m (delegate_prepared T v parent object sel s) (L.keeps_send (pending_added p promising) (L.keeps_pending_added promising (L.keeps_slot (drawn v s) (L.keeps_drawn s is v) v sel Promised tt) p tt) (owner_of T parent) (DelegatePrepared parent k) tt)
 
     delegate_consent-within : (T : Setup) (i v : ℕ) (parent : KeyName) (object : Object) (sel : ℕ) (s : Side) → Few m s → Within m (delegate_consent T i v parent object sel s)
     delegate_consent-within T i v parent object sel s is =
@@ -271,7 +271,7 @@ module _ (k0 : KeyName) (counts : Option KeyName → Bool) where
   step-within T i s (Resume v) input stays =
       let taken = lives-unparked k0 counts s v in
       resumed-within (at_side k0 counts s) T (parked s v) (unparked v s) (omega (arith, taken))
-  step-within T i s (Kill v) input stays = let m : ℕ = at_side k0 counts s in light m (plain (ended T i v s)) (ended-in (OtherKeys k0) AnyVpe (Few m) (lives k0 counts m) T i v s (omega arith) (λ k same. tt))
+  step-within T i s (Kill v) input stays = let m : ℕ = at_side k0 counts s in light m (plain (ended T i v s)) (ended-in (OtherKeys k0) AnyVpe (Few m) (lives k0 counts m) T i v s (omega arith) (λ k same. tt) tt)
   step-within T i s Handle input stays = light (at_side k0 counts s) (local_step T i s Handle input) (from s.inbox refl)
     where
       from : (o : Option (ℕ × Message)) → s.inbox ≡ o → at_side k0 counts (option_map_or (λ m. handled T i (with_inbox None s) m.0 m.1) o s) ≤ at_side k0 counts s

@@ -254,7 +254,7 @@ module _ (k0 : KeyName) (counts : Option KeyName → Bool) where
       let all = vpes-live (filter (λ d. pe_owner T d.pe == i) T.vpes) (empty_side T) in
       omega (arith, calls, outs, all)
 
-  start-lives : (T : Setup) → at_world (start T) ≤ sum_by at_root (root_keys T)
+  pub start-lives : (T : Setup) → at_world (start T) ≤ sum_by at_root (root_keys T)
   unfolding start
   start-lives T =
       let kernels : List ℕ = range_with_len 0 T.kernels in

@@ -164,7 +164,7 @@ module _ (k0 : KeyName) (counts : Option KeyName → Bool) where
     keeps_unparked = λ s is v. let new = lives-unparked s v in omega (arith, is, new);
     keeps_asked = λ s is v a here. is;
     keeps_taken = λ s is v. is;
-    keeps_buried = λ s is v. is;
+    keeps_buried = λ s is v ends. is;
     keeps_bound = λ s is v ep src c held unmarked here. is;
     keeps_rung = λ s is v ep f. is;
     keeps_added = λ s is c here childless unmarked. let new = lives-added s c in let less = cap-less c in omega (arith, is, new, here, less);
@@ -173,7 +173,7 @@ module _ (k0 : KeyName) (counts : Option KeyName → Bool) where
     keeps_marked = λ s is ks j here. let new = lives-changed s (λ c. list_any (key_eq c.key) ks) (λ c. record c { mark = Some j }) (λ c. refl) in omega (arith, is, new);
     keeps_restored = λ s is k. let new = lives-changed s (λ c. key_eq c.key k) (λ c. record c { children = []; mark = None }) (λ c. refl) in omega (arith, is, new);
     keeps_removed = λ s is j. let new = weigh-filter at_cap (λ c. not (is_marked_by j c)) s.caps in omega (arith, is, new);
-    keeps_pending_added = λ s is p. is;
+    keeps_pending_added = λ s is p pends. is;
     keeps_pending_removed = λ s is k. is;
     keeps_opened = λ s is root up waiters keep. is;
     keeps_changed = λ s is j f same. is;
@@ -184,4 +184,9 @@ module _ (k0 : KeyName) (counts : Option KeyName → Bool) where
     keeps_inbox = λ s is message here. let new = lives-inbox s message in let none = (inbox-none k0) message here in omega (arith, is, new, none);
     of_link = λ s is c among k child. tt;
     spreads = λ p k here doomed. tt;
+    asks = λ v n calls is. is;
+    offers = λ k o is. tt;
+    prepares = λ parent k object sel offered place handed. (tt, place);
+    acks = λ parent k prepared offered is. is;
+    of_pending = λ s is k p there acked. acked;
   }

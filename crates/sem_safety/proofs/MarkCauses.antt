@@ -16,34 +16,36 @@ use Rattle.sem_key.proofs.KeyTests.{key_eq-true}
 use Rattle.sem_key.proofs.Members.{found, Contains-map, list_any-at}
 use Rattle.sem_safety.specs.Causes.{IsCut, HasCutAncestor}
 use Rattle.sem_safety.specs.Growth.{IsGrown}
-use Rattle.sem_safety.proofs.Carrying.{InCap, InWorld}
+use Rattle.sem_safety.proofs.Carrying.{InCap, InWorld, plain-fitting}
 use Rattle.sem_safety.proofs.CarryingWorlds.{chosen, start-in, side-in, flight-in, run-in, each-entry, among-grants, IsFit}
 use Rattle.sem_safety.proofs.GrownLines.{parent-grown, line-self, line-above, line-enough}
-use Rattle.sem_safety.proofs.Layers.{Facts, InGrant, InCut}
+use Rattle.sem_safety.proofs.KeptSteps.{facts-blind}
+use Rattle.sem_safety.proofs.Layers.{Facts, facts_of, InGrant, InCut}
+use Rattle.sem_safety.proofs.Onwards.{AnyPlace}
 use Rattle.sem_safety.proofs.OneLife.{all-grown}
 use Rattle.sem_safety.proofs.SettledCaps.{child-grown, parent-ancestor}
 use Rattle.sem_safety.proofs.SettledWorlds.{few-grants}
 
 module _ (T : Setup) (valid : IsSetup T) (J : List Entry) (runs : IsSchedule T J) where
-  abbrev gs : List (KeyName × KeyName)
+  abbrev pub gs : List (KeyName × KeyName)
   gs = grants J
 
-  grown_so : IsGrown (root_keys T) gs
+  pub grown_so : IsGrown (root_keys T) gs
   grown_so = all-grown T valid J runs
 
   -- where the key was made, it has a cut ancestor
-  abbrev IsDoomed : KeyName → Type 0
+  abbrev pub IsDoomed : KeyName → Type 0
   IsDoomed k = Contains (made T J) k → HasCutAncestor J k
 
-  abbrev causes : Facts
-  causes = record { key = Contains (made T J); place = λ v n. Unit {0}; link = λ p k. Contains gs (p, k); doomed = IsDoomed }
+  abbrev pub causes : Facts
+  causes = facts_of (Contains (made T J)) AnyPlace (λ p k. Contains gs (p, k)) IsDoomed
 
   -- the parent of a grant is an ancestor of its child
-  above : (p k : KeyName) → Contains gs (p, k) → Contains (line J k) p
+  pub above : (p k : KeyName) → Contains gs (p, k) → Contains (line J k) p
   above p k granted = subst (λ ks. Contains ks p) (line-enough (root_keys T) gs grown_so (length gs) (length J) k (omega arith) (few-grants J) (child-grown (root_keys T) gs p k granted)) (parent-ancestor (root_keys T) gs grown_so p k granted)
 
   -- a cut ancestor of a parent is one of its children
-  spread : (p k : KeyName) → Contains gs (p, k) → IsDoomed p → IsDoomed k
+  pub spread : (p k : KeyName) → Contains gs (p, k) → IsDoomed p → IsDoomed k
   spread p k granted doomed there =
       let cause = doomed (parent-grown (root_keys T) gs grown_so p k granted) in
       (cause.0, line-above (root_keys T) gs grown_so (length J) k p cause.0 (few-grants J) there (above p k granted) cause.1, cause.2)
@@ -61,7 +63,7 @@ module _ (T : Setup) (valid : IsSetup T) (J : List Entry) (runs : IsSchedule T J
   cut_so e among None none = tt
   cut_so e among (Some k) some = itself k (inl (chosen (λ (x : Entry). x.cut) J e k among some))
 
-  fit : (e : Entry) → Contains J e → IsFit causes e
+  pub fit : (e : Entry) → Contains J e → IsFit causes e
   fit e among = record {
     granted = granted_so e among e.grant refl;
     cut_so = cut_so e among e.cut refl;
@@ -70,8 +72,8 @@ module _ (T : Setup) (valid : IsSetup T) (J : List Entry) (runs : IsSchedule T J
 
   pub world-caused : InWorld causes (world_after T J)
   world-caused =
-      run-in causes (λ v n. tt) spread T J (start T) runs
-      (start-in causes T (λ k root. Contains-append_left (root_keys T) (map (λ g. g.1) gs) k root))
+      run-in causes (facts-blind (Contains (made T J)) AnyPlace (λ p k. Contains gs (p, k)) IsDoomed) (λ v n. tt) (plain-fitting (Contains (made T J)) AnyPlace (λ p k. Contains gs (p, k)) IsDoomed spread) T J (start T) runs
+      (start-in causes T (λ k root o. Contains-append_left (root_keys T) (map (λ g. g.1) gs) k root))
       (each-entry (IsFit causes) J fit)
 
   -- what a kernel holds

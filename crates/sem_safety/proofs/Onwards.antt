@@ -110,7 +110,7 @@ module _ (z : Side) where
       keeps_unparked = λ s is v. record { numbers = is.numbers; calls = is.calls; dead = is.dead; ids = is.ids };
       keeps_asked = λ s is v a here. kept_plain s is v _ refl refl refl;
       keeps_taken = λ s is v. kept_plain s is v _ refl refl refl;
-      keeps_buried = λ s is v. kept_row s is v _ (record { numbers = omega arith; calls = omega arith; dead = λ lives. absurd cc });
+      keeps_buried = λ s is v ends. kept_row s is v _ (record { numbers = omega arith; calls = omega arith; dead = λ lives. absurd cc });
       keeps_bound = λ s is v ep src c held unmarked here. record { numbers = is.numbers; calls = is.calls; dead = is.dead; ids = is.ids };
       keeps_rung = λ s is v ep f. record { numbers = is.numbers; calls = is.calls; dead = is.dead; ids = is.ids };
       keeps_added = λ s is c here childless unmarked. record { numbers = is.numbers; calls = is.calls; dead = is.dead; ids = is.ids };
@@ -119,7 +119,7 @@ module _ (z : Side) where
       keeps_marked = λ s is ks j here. record { numbers = is.numbers; calls = is.calls; dead = is.dead; ids = is.ids };
       keeps_restored = λ s is k. record { numbers = is.numbers; calls = is.calls; dead = is.dead; ids = is.ids };
       keeps_removed = λ s is j. record { numbers = is.numbers; calls = is.calls; dead = is.dead; ids = is.ids };
-      keeps_pending_added = λ s is p. record { numbers = is.numbers; calls = is.calls; dead = is.dead; ids = is.ids };
+      keeps_pending_added = λ s is p pends. record { numbers = is.numbers; calls = is.calls; dead = is.dead; ids = is.ids };
       keeps_pending_removed = λ s is k. record { numbers = is.numbers; calls = is.calls; dead = is.dead; ids = is.ids };
       keeps_opened = λ s is root up waiters keep. record { numbers = is.numbers; calls = is.calls; dead = is.dead; ids = let ids = is.ids in omega arith };
       keeps_changed = λ s is j f same. record { numbers = is.numbers; calls = is.calls; dead = is.dead; ids = is.ids };
@@ -130,6 +130,11 @@ module _ (z : Side) where
       keeps_inbox = λ s is message here. record { numbers = is.numbers; calls = is.calls; dead = is.dead; ids = is.ids };
       of_link = λ s is c among k child. tt;
       spreads = λ p k here doomed. tt;
+      asks = λ v n calls is. is;
+      offers = λ k o is. tt;
+      prepares = λ parent k object sel offered place handed. (tt, place);
+      acks = λ parent k prepared offered is. is;
+      of_pending = λ s is k p there acked. acked;
     };
     of_cap = λ s is k c held. tt;
     of_call = λ s is v. any_call (parked s v);

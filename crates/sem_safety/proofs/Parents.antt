@@ -42,7 +42,6 @@ use Rattle.sem_machine.specs.Journals.{made}
 use Rattle.sem_machine.specs.Safety.{HoldsUnmarked}
 use Rattle.sem_key.proofs.Members.{found}
 use Rattle.sem_key.proofs.KeyTests.{key_eq-true}
-use Rattle.sem_safety.proofs.Layers.{facts}
 use Rattle.sem_machine.proofs.Folds.{option-keeps}
 use Rattle.sem_safety.proofs.Onwards.{AnyPlace}
 use Rattle.sem_safety.proofs.GoingOn.{entry-enabled}
@@ -204,4 +203,4 @@ pub parent-made : (T : Setup) (J before later : List Entry) (e : Entry) (p k : K
 parent-made T J before later e p k runs parts granted =
     let held = journal-below T J before later e p k runs parts granted in
     let schedule : IsSchedule T before = (entry-enabled T before (start T) e later (subst (IsSchedule T) parts runs)).0 in
-    used-in (facts (Contains (made T before)) AnyPlace) (world_after T before) (world_after-in T before schedule) p (inl (inl (e.event.kernel, subst IsSome (sym held.1) refl)))
+    used-in (Contains (made T before)) AnyPlace (world_after T before) (world_after-in T before schedule) p (inl (inl (e.event.kernel, subst IsSome (sym held.1) refl)))

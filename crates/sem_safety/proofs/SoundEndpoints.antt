@@ -193,7 +193,7 @@ sound = record {
   keeps_unparked = λ s is v. record { own_slots = is.own_slots; own_keys = is.own_keys; bound = is.bound };
   keeps_asked = λ s is v a here. with_same_row s is v _ refl;
   keeps_taken = λ s is v. with_same_row s is v _ refl;
-  keeps_buried = λ s is v. with_same_row s is v _ refl;
+  keeps_buried = λ s is v ends. with_same_row s is v _ refl;
   keeps_bound = λ s is v ep src c held unmarked here. bound_to-own s is v ep src c held unmarked;
   keeps_rung = λ s is v ep f. rung-sound s is v ep f (endpoint s v ep) refl;
   keeps_added = λ s is c here childless unmarked. with_caps s is (with_cap s.caps c) (kept-caps s.caps (with_cap s.caps c) (λ x among free. (x, added-keeps s.caps c x among, refl, free, refl)));
@@ -202,7 +202,7 @@ sound = record {
   keeps_marked = λ s is ks j here. marked-sound ks j s is;
   keeps_restored = λ s is k. with_caps s is _ (kept-caps s.caps _ (changed-keeps s.caps (λ c. key_eq c.key k) (λ c. record c { children = []; mark = None }) (λ c. (refl, λ unmarked. refl, refl))));
   keeps_removed = λ s is j. with_caps s is (filter (λ c. not (is_marked_by j c)) s.caps) (kept-caps s.caps (filter (λ c. not (is_marked_by j c)) s.caps) (λ x among free. (x, removed-keeps s.caps j x among free, refl, free, refl)));
-  keeps_pending_added = λ s is p. record { own_slots = is.own_slots; own_keys = is.own_keys; bound = is.bound };
+  keeps_pending_added = λ s is p pends. record { own_slots = is.own_slots; own_keys = is.own_keys; bound = is.bound };
   keeps_pending_removed = λ s is k. record { own_slots = is.own_slots; own_keys = is.own_keys; bound = is.bound };
   keeps_opened = λ s is root up waiters keep. record { own_slots = is.own_slots; own_keys = is.own_keys; bound = is.bound };
   keeps_changed = λ s is j f same. record { own_slots = is.own_slots; own_keys = is.own_keys; bound = is.bound };
@@ -213,4 +213,9 @@ sound = record {
   keeps_inbox = λ s is message here. record { own_slots = is.own_slots; own_keys = is.own_keys; bound = is.bound };
   of_link = λ s is c among k child. tt;
   spreads = λ p k here doomed. tt;
+  asks = λ v n calls is. is;
+  offers = λ k o is. tt;
+  prepares = λ parent k object sel offered place handed. (tt, place);
+  acks = λ parent k prepared offered is. is;
+  of_pending = λ s is k p there acked. acked;
 }

@@ -135,7 +135,7 @@ module _ (v0 n0 : ℕ) where
     call_row-within T i s v (SendCall ep len) is = unless-keeps (Within m s v) (send_tests (endpoint s v ep)) _ _ (λ code. light m s v (answer code s) is refl) (light m s v (answer OkCode (message_rung v ep len s)) (L.keeps_rung s is v ep (λ ring. ring ++ len ∷ [])) refl)
     call_row-within T i s v (Credit ep) is = unless-keeps (Within m s v) (credit_tests (endpoint s v ep)) _ _ (λ code. light m s v (answer code s) is refl) (light m s v (answer OkCode (message_credited v ep s)) (L.keeps_rung s is v ep (λ ring. drop 1 ring)) refl)
     call_row-within T i s v (Clear src) is = unless-keeps (Within m s v) (own_tests (own s v src)) _ _ (λ code. light m s v (answer code s) is refl) (with_held-within (own s v src) _ s v is (λ c held. light m s v (cutting c.key (plain (clear_begun T i v c.key s))) (cleared-in (Others v0 n0) (Few m) L T i v c.key s is tt) refl))
-    call_row-within T i s v Exit is = light m s v (answer OkCode (ended T i v s)) (ended-in (Others v0 n0) AnyVpe (Few m) L T i v s is (λ k same. tt)) refl
+    call_row-within T i s v Exit is = light m s v (answer OkCode (ended T i v s)) (ended-in (Others v0 n0) AnyVpe (Few m) L T i v s is (λ k same. tt) tt) refl
 
     -- Upcalls, from the side without the ask.
     refused-few : (T : Setup) (i : ℕ) (code : Code) (a : Ask) (s : Side) → Few m s → Few m (ask_refused T i code a s)
@@ -158,9 +158,9 @@ module _ (v0 n0 : ℕ) where
         let p : Pending = record { key = k; parent = parent; object = object; sel = sel } in
         let promising : Side = promised v sel (drawn v s) in
         let preparing : Side = pending_added p promising in
-        let kept : Few m preparing = L.keeps_pending_added promising (L.keeps_slot (drawn v s) (L.keeps_drawn s is v) v sel Promised tt) p in
+        let kept : Few m preparing = L.keeps_pending_added promising (L.keeps_slot (drawn v s) (L.keeps_drawn s is v) v sel Promised tt) p tt in
         let O = (onward (drawn v s)).kept in
-        let after : IsOnward (drawn v s) x.side = O.keeps_send preparing (O.keeps_pending_added promising (O.keeps_slot (drawn v s) (onward-same (drawn v s)) v sel Promised tt) p) (owner_of T parent) (DelegatePrepared parent k) tt in
+        let after : IsOnward (drawn v s) x.side = O.keeps_send preparing (O.keeps_pending_added promising (O.keeps_slot (drawn v s) (onward-same (drawn v s)) v sel Promised tt) p tt) (owner_of T parent) (DelegatePrepared parent k) tt in
         let more : of_side v0 n0 x.side ≡ of_side v0 n0 preparing + at_place v0 n0 v (row s v).next_number = side-send v0 n0 preparing (owner_of T parent) (DelegatePrepared parent k) in
         let none : of_grant v0 n0 x.outcome.grant ≡ 0 = refl in
         heavy m s v x (omega (arith, more, kept, none)) (drawn-below v s x.side after)
@@ -293,7 +293,7 @@ module _ (v0 n0 : ℕ) where
 
   pub kill-few : (T : Setup) (i : ℕ) (s : Side) (v : ℕ) (input : Option Message) → of_side v0 n0 (local_step T i s (Kill v) input).side + of_grant v0 n0 (local_step T i s (Kill v) input).outcome.grant ≤ of_side v0 n0 s
   unfolding local_step
-  kill-few T i s v input = let m : ℕ = of_side v0 n0 s in let few : of_side v0 n0 (ended T i v s) ≤ m = ended-in (Others v0 n0) AnyVpe (Few m) (weighed v0 n0 m) T i v s (omega arith) (λ k same. tt) in omega (arith, few)
+  kill-few T i s v input = let m : ℕ = of_side v0 n0 s in let few : of_side v0 n0 (ended T i v s) ≤ m = ended-in (Others v0 n0) AnyVpe (Few m) (weighed v0 n0 m) T i v s (omega arith) (λ k same. tt) tt in omega (arith, few)
 
   pub handle-few : (T : Setup) (i : ℕ) (s : Side) (input : Option Message) → of_side v0 n0 (local_step T i s Handle input).side + of_grant v0 n0 (local_step T i s Handle input).outcome.grant ≤ of_side v0 n0 s
   unfolding local_step

@@ -182,7 +182,7 @@ module _ (v0 n0 : ℕ) where
     keeps_unparked = λ s is v. let new = side-unparked s v in omega (arith, is, new);
     keeps_asked = λ s is v a here. let new = side-asked s v a in let none = ask-none a here in omega (arith, is, new, none);
     keeps_taken = λ s is v. let new = side-taken s v in omega (arith, is, new);
-    keeps_buried = λ s is v. let new = side-lighter s v (record (row s v) { alive = false; asks = [] }) (omega arith) in omega (arith, is, new);
+    keeps_buried = λ s is v ends. let new = side-lighter s v (record (row s v) { alive = false; asks = [] }) (omega arith) in omega (arith, is, new);
     keeps_bound = λ s is v ep src c held unmarked here. is;
     keeps_rung = λ s is v ep f. is;
     keeps_added = λ s is c here childless unmarked. is;
@@ -191,7 +191,7 @@ module _ (v0 n0 : ℕ) where
     keeps_marked = λ s is ks j here. is;
     keeps_restored = λ s is k. is;
     keeps_removed = λ s is j. is;
-    keeps_pending_added = λ s is p. is;
+    keeps_pending_added = λ s is p pends. is;
     keeps_pending_removed = λ s is k. is;
     keeps_opened = λ s is root up waiters keep. is;
     keeps_changed = λ s is j f same. is;
@@ -202,4 +202,9 @@ module _ (v0 n0 : ℕ) where
     keeps_inbox = λ s is message here. let new = side-inbox s message in let none = inbox-none message here in omega (arith, is, new, none);
     of_link = λ s is c among k child. tt;
     spreads = λ p k here doomed. tt;
+    asks = λ v n calls is. is;
+    offers = λ k o is. tt;
+    prepares = λ parent k object sel offered place handed. (tt, place);
+    acks = λ parent k prepared offered is. is;
+    of_pending = λ s is k p there acked. acked;
   }

@@ -1,0 +1,3 @@
+pub mod Views
+pub mod Scales
+pub mod Revocation

@@ -1,0 +1,78 @@
+ghost use Rattle.std.specs.Prelude.{List};
+ghost use Rattle.sem_msg.specs.declared.entry.Entry.{Entry};
+ghost use Rattle.sem_msg.specs.Setup.{Setup, IsSetup};
+ghost use Rattle.sem_machine.specs.Schedules.{IsSchedule};
+ghost use Rattle.sem_revoke.specs.Revocation.{held_at_home, linked, ancestors_held, orphans_dead, unlinked_dead, asked_below_marks, capability_first, marks_spread, marks_of_jobs, roots_marked, keepers_alone, keepers_waited_for, tokens_counted, waited_below_marks, marked_below_roots, revokers_wait, held_unless_doomed, ready_unless_doomed, given_unless_doomed, marks_doom, requests_doom, forest_spared, born_live, roots_last, near_keys_last, asks_awaited, requests_awaited, flights_go_on, dead_have_ended};
+ghost use Rattle.sem_machine.specs.Safety.{narrowing, revoked_is_gone};
+
+/// After every schedule of every setup the parent of a live key is held and leads to it, so all ancestors of what is in use are
+/// held. What an Orphan or an Unlink names is dead. What a kernel asks another to revoke is below a mark of the job that asks, and
+/// a capability travels before the request to revoke it.
+pub fn revocation_follows_links()
+    ensures homes { (T : Setup) → IsSetup T → (J : List Entry) → IsSchedule T J → held_at_home T J }
+    ensures linked { (T : Setup) → IsSetup T → (J : List Entry) → IsSchedule T J → linked T J }
+    ensures ancestors { (T : Setup) → IsSetup T → (J : List Entry) → IsSchedule T J → ancestors_held T J }
+    ensures orphans { (T : Setup) → IsSetup T → (J : List Entry) → IsSchedule T J → orphans_dead T J }
+    ensures unlinked { (T : Setup) → IsSetup T → (J : List Entry) → IsSchedule T J → unlinked_dead T J }
+    ensures asked { (T : Setup) → IsSetup T → (J : List Entry) → IsSchedule T J → asked_below_marks T J }
+    ensures first { (T : Setup) → IsSetup T → (J : List Entry) → IsSchedule T J → capability_first T J }
+{}
+
+/// After every schedule of every setup marks spread: a live child of a marked capability is marked by the same job, or asked for
+/// by it. A mark is of an open job, and the root of an open job is marked by it; no job waits for one that keeps its root. No more
+/// tokens of a job are out than it counts. The root of a job for which another one waits is the child of what that one has marked,
+/// and so is all that a job has marked but its root.
+pub fn jobs_answer_for_marks()
+    ensures spread { (T : Setup) → IsSetup T → (J : List Entry) → IsSchedule T J → marks_spread T J }
+    ensures marks { (T : Setup) → IsSetup T → (J : List Entry) → IsSchedule T J → marks_of_jobs T J }
+    ensures roots { (T : Setup) → IsSetup T → (J : List Entry) → IsSchedule T J → roots_marked T J }
+    ensures keepers { (T : Setup) → IsSetup T → (J : List Entry) → IsSchedule T J → keepers_alone T J }
+    ensures counted { (T : Setup) → IsSetup T → (J : List Entry) → IsSchedule T J → tokens_counted T J }
+    ensures waited { (T : Setup) → IsSetup T → (J : List Entry) → IsSchedule T J → waited_below_marks T J }
+    ensures below { (T : Setup) → IsSetup T → (J : List Entry) → IsSchedule T J → marked_below_roots T J }
+{}
+
+/// After every schedule of every setup a revoke or a clear that is not answered waits for the job that marks its key, if the key is
+/// held still; the job will wake it, and does not keep what it cuts off. When it may be answered with success, what it cuts off is
+/// dead. A root that is kept is one of a VPE that waits.
+pub fn revokers_wait_for_what_they_revoke()
+    ensures waiting { (T : Setup) → IsSetup T → (J : List Entry) → IsSchedule T J → revokers_wait T J }
+    ensures keepers { (T : Setup) → IsSetup T → (J : List Entry) → IsSchedule T J → keepers_waited_for T J }
+{}
+
+/// Revoked is gone: after every schedule of every setup no ancestor of what is in use was revoked and answered, or was cut off by a
+/// clear that was answered.
+pub fn revoked_keys_are_gone()
+    ensures gone { (T : Setup) → IsSetup T → (J : List Entry) → IsSchedule T J → revoked_is_gone T J }
+{}
+
+/// A live key that was granted grants no more than its parent, which is held: after every schedule of every setup.
+pub fn live_keys_narrow_their_parents()
+    ensures narrowed { (T : Setup) → IsSetup T → (J : List Entry) → IsSchedule T J → narrowing T J }
+{}
+
+/// After every schedule of every setup: what a kernel once held it holds, or the key is doomed, which is to say that an ancestor
+/// of it was cut off or is of a VPE that has ended. What a call of a living VPE is ready to install is live from then on, or
+/// doomed, and so is what a VPE has consented to give. What is marked is doomed, or the root of a job that keeps it; what a
+/// kernel asks another to revoke is doomed, and nothing in the forest is. What is granted is live then. So roots in the forest
+/// are live, and so is what was granted within one kernel.
+pub fn what_is_lost_is_doomed()
+    ensures lasts { (T : Setup) → IsSetup T → (J : List Entry) → IsSchedule T J → held_unless_doomed T J }
+    ensures ready { (T : Setup) → IsSetup T → (J : List Entry) → IsSchedule T J → ready_unless_doomed T J }
+    ensures given { (T : Setup) → IsSetup T → (J : List Entry) → IsSchedule T J → given_unless_doomed T J }
+    ensures marks { (T : Setup) → IsSetup T → (J : List Entry) → IsSchedule T J → marks_doom T J }
+    ensures requests { (T : Setup) → IsSetup T → (J : List Entry) → IsSchedule T J → requests_doom T J }
+    ensures spared { (T : Setup) → IsSetup T → (J : List Entry) → IsSchedule T J → forest_spared T J }
+    ensures born { (T : Setup) → IsSetup T → (J : List Entry) → IsSchedule T J → born_live T J }
+    ensures roots { (T : Setup) → IsSetup T → (J : List Entry) → IsSchedule T J → roots_last T J }
+    ensures near { (T : Setup) → IsSetup T → (J : List Entry) → IsSchedule T J → near_keys_last T J }
+{}
+
+/// After every schedule of every setup: where an ask of an obtain stands in a queue or is on its way, its VPE waits for the answer
+/// to just that one, or is dead. What is in flight stays so until it is handled. A declared VPE that is dead has ended.
+pub fn who_asks_waits()
+    ensures asks { (T : Setup) → IsSetup T → (J : List Entry) → IsSchedule T J → asks_awaited T J }
+    ensures requests { (T : Setup) → IsSetup T → (J : List Entry) → IsSchedule T J → requests_awaited T J }
+    ensures flights { (T : Setup) → IsSetup T → (J : List Entry) → IsSchedule T J → flights_go_on T J }
+    ensures dead { (T : Setup) → IsSetup T → (J : List Entry) → IsSchedule T J → dead_have_ended T J }
+{}
