@@ -85,8 +85,8 @@ impl Fabric {
         if self.places[kernel as usize] {
             return Ok(());
         }
-        let count = self.places.iter().filter(|place| **place).count();
-        self.journal.room(count + 1)?;
+        // There is room for all places at once, so that they need not be counted.
+        self.journal.room(self.places.len())?;
         self.places[kernel as usize] = true;
         Ok(())
     }
@@ -145,6 +145,15 @@ impl Fabric {
         ensures { result ≡ nat_le self.now.window (length (link_in self.now.links from to)) }
     {
         self.rows[from as usize].is_full(to)
+    }
+
+    /// How many messages the link holds.
+    pub fn waiting(&self, from: u32, to: u32) -> usize
+        requires kernels { (from < self.now.kernels) × (to < self.now.kernels) }
+        requires other { from ≢ to }
+        ensures { result ≡ length (link_in self.now.links from to) }
+    {
+        self.rows[from as usize].waiting(to)
     }
 
     /// The journal.

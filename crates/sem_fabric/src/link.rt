@@ -87,4 +87,10 @@ impl Link {
     {
         self.records.capacity() <= self.records.len()
     }
+    /// How many messages there are.
+    pub fn waiting(&self) -> usize
+        ensures { result ≡ length self.now.messages }
+    {
+        self.records.len()
+    }
 }

@@ -75,4 +75,11 @@ impl Row {
     {
         self.links[to as usize].is_full()
     }
+    /// How many messages a link holds.
+    pub fn waiting(&self, to: u32) -> usize
+        requires { to < length self.now.links }
+        ensures { result ≡ length (link_to self.now to) }
+    {
+        self.links[to as usize].waiting()
+    }
 }

@@ -1,6 +1,6 @@
 -- What an event does to kernels and their fabric, and the event of the world that they are.
 use Rattle.std.proofs.Common.{◌≡◌, ℕ, ◌+◌, ◌<◌, ◌≤◌, ◌&&◌, Bool, true, false, List, [], ◌∷◌, ◌++◌, length, map, set, get_or, Option, Some, None, is_some, slice_get, Result, Ok, Err, refl, sym, ◌∙◌, ap, subst, inl, inr, arith, length-set, get_or-set_same, get_or-set_other}
-use Rattle.std.specs.Prelude.{nat_lt, OnErr}
+use Rattle.std.specs.Prelude.{nat_lt, IfOk, OnErr}
 use Rattle.std.specs.Option.{option_map, option_map_or}
 use Rattle.std.proofs.lemmas.Bool.{cases_eq, and_parts, lt-ltb, le-ltb, ltb-true}
 use Rattle.std.proofs.lemmas.List.{get_or-map, map-set, length-map}
@@ -25,7 +25,7 @@ use Rattle.sem_kernel.specs.Worlds.{world_of, IsKernelOf, IsFabricOf, AreKernels
 
 -- With a fabric, whatever the kernels are.
 
-and-true : (b : Bool) → (b && true) ≡ b
+pub and-true : (b : Bool) → (b && true) ≡ b
 and-true true = refl
 and-true false = refl
 
@@ -210,13 +210,22 @@ module _ (T : Setup) (ks : List KernelValue) (f : FabricValue) (are : AreKernels
         (λ j. record { sides = new-sides j; links = new-links j; replies = new-replies j })
         ∙ sym (ap (reply_counted x.outcome) (moved-is f i (side W i) (put no_side W.sides i x.side) W.replies act))
 
--- What is known where a test over the same kernels told that an event is enabled.
-module _ (T : Setup) (ks xs : List KernelValue) (f : FabricValue) (e : Event) (b : Bool) (same : xs ≡ ks) (test : b ≡ is_enabled T (world_of xs f) e) (enabled : b ≡ true) where
-  pub told : is_enabled T (world_of ks f) e ≡ true
-  told = ap (λ (ys : List KernelValue). is_enabled T (world_of ys f) e) (sym same) ∙ (sym test ∙ enabled)
+  -- it was done or it was not
+  pub stepped-together : {E : Type 0} (act : Act) (l : KernelValue) (g : FabricValue) (r : Result Entry E) → IfOk r (HasDone k f act l g) → OnErr r (HasNotDone k f l g) → AreKernelsOf T (set ks i l) g
+  stepped-together act l g (Ok e) ok err = done-together act l g e ok
+  stepped-together act l g (Err x) ok err = not_done-together l g err
 
-  pub told-few : e.kernel < T.kernels
-  told-few = enabled-few T (world_of ks f) e told
+  pub stepped-entry : {E : Type 0} (act : Act) (l : KernelValue) (g : FabricValue) (r : Result Entry E) → IfOk r (HasDone k f act l g) → IfOk r (λ e. e ≡ entry_of T W (record { kernel = i; act = act }))
+  stepped-entry act l g (Ok e) ok = done-entry act l g e ok
+  stepped-entry act l g (Err x) ok = tt
+
+  pub stepped-after : {E : Type 0} (act : Act) (l : KernelValue) (g : FabricValue) (r : Result Entry E) → IfOk r (HasDone k f act l g) → IfOk r (λ e. world_of (set ks i l) g ≡ after T W (record { kernel = i; act = act }))
+  stepped-after act l g (Ok e) ok = done-after act l g e ok
+  stepped-after act l g (Err x) ok = tt
+
+  pub stepped-unchanged : {E : Type 0} (l : KernelValue) (g : FabricValue) (r : Result Entry E) → OnErr r (HasNotDone k f l g) → OnErr r (world_of (set ks i l) g ≡ world_of ks f)
+  stepped-unchanged l g (Ok e) err = tt
+  stepped-unchanged l g (Err x) err = not_done-world l g err
 
 -- what is so is so after an error
 pub on-err : {X E P : Type 0} (r : Result X E) → P → OnErr r P

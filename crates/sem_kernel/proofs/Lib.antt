@@ -16,3 +16,5 @@ pub mod Happened
 pub mod Doing
 pub mod Beginning
 pub mod Listings
+pub mod Owned
+pub mod Passing

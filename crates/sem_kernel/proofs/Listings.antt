@@ -3,11 +3,13 @@ use Rattle.std.proofs.Common.{◌≡◌, ℕ, ◌+◌, ◌<◌, ◌≤◌, ◌&&
 use Rattle.std.specs.Prelude.{◌==◌, nat_lt}
 use Rattle.std.specs.List.{Contains, filter, flat_map, range_with_len}
 use Rattle.std.specs.Option.{option_map_or}
-use Rattle.std.proofs.lemmas.Bool.{cond-true, cond-false}
+use Rattle.std.proofs.lemmas.Bool.{cond-true, cond-false, le-ltb}
 use Rattle.std.proofs.lemmas.List.{append_assoc, append-nil, map-append, map-id, take_more, take_all}
 use Rattle.std.proofs.lemmas.List.Elements.{filter-append}
 use Rattle.std.proofs.lemmas.List.FromFn.{map-range_with_len_more}
 use Rattle.std.proofs.lemmas.Grind.{flat_map-append}
+use Rattle.sem_msg.specs.declared.event.Act.{Act}
+use Rattle.sem_msg.specs.declared.event.Act.TheVariants.{Call as CallAct, Fetch, Handle, Upcall as UpcallAct, Resume as ResumeAct, Flush, Kill}
 use Rattle.sem_msg.specs.declared.event.Event.{Event}
 use Rattle.sem_msg.specs.declared.setup.VpeDecl.{VpeDecl}
 use Rattle.sem_msg.specs.Setup.{Setup, IsSetup}
@@ -17,6 +19,7 @@ use Rattle.sem_machine.proofs.FirstNumbers.{find-decl}
 use Rattle.sem_kernel.specs.declared.listing.VpeRow.{VpeRow}
 use Rattle.sem_kernel.specs.declared.listing.VpeRow.TheVariants.{Calls, Resumes, Upcalls}
 use Rattle.sem_kernel.specs.Listing.{enabled_among, enabled_of, vpe_act}
+use Rattle.sem_kernel.proofs.Happened.{enabled-nowhere}
 
 -- one number more
 range-more : (n : ℕ) → range_with_len 0 (n + 1) ≡ range_with_len 0 n ++ n ∷ []
@@ -70,6 +73,37 @@ module _ (T : Setup) (W : World) where
   pub kernels-all : (n : ℕ) (now : List Event) → n ≡ T.kernels → now ≡ enabled_among T W (flat_map (kernel_events T) (range_with_len 0 n)) → now ≡ enabled T W
   unfolding enabled
   kernels-all n now all so_far = so_far ∙ ap (λ k. enabled_among T W (flat_map (kernel_events T) (range_with_len 0 k))) all
+
+  -- there is no event of a kernel past the last
+  none-both : (xs ys : List Event) → enabled_among T W xs ≡ [] → enabled_among T W ys ≡ [] → enabled_among T W (xs ++ ys) ≡ []
+  none-both xs ys first then = filter-append (is_enabled T W) xs ys ∙ (ap (λ es. es ++ enabled_among T W ys) first ∙ then)
+
+  pub none-kept : {X : Type 0} (f : X → Event) (xs : List X) → ((x : X) → is_enabled T W (f x) ≡ false) → enabled_among T W (map f xs) ≡ []
+  none-kept f [] off = refl
+  none-kept f (x ∷ xs) off = cond-false (is_enabled T W (f x)) (f x ∷ enabled_among T W (map f xs)) (enabled_among T W (map f xs)) (off x) ∙ none-kept f xs off
+
+  pub kernels-none : (i : ℕ) → T.kernels ≤ i → enabled_of T W i ≡ []
+  kernels-none i over =
+      let off : (act : Act) → is_enabled T W (event i act) ≡ false = λ act. sym (enabled-nowhere T W (event i act) over) ∙ le-ltb i T.kernels over in
+      let calls : List Event = map (λ (d : VpeDecl). event i (CallAct d.vpe)) T.vpes in
+      let resumes : List Event = map (λ (d : VpeDecl). event i (ResumeAct d.vpe)) T.vpes in
+      let upcalls : List Event = map (λ (d : VpeDecl). event i (UpcallAct d.vpe)) T.vpes in
+      let fetches : List Event = map (λ j. event i (Fetch j)) (range_with_len 0 T.kernels) in
+      let flushes : List Event = map (λ j. event i (Flush j)) (range_with_len 0 T.kernels) in
+      let kills : List Event = map (λ (d : ℕ × ℕ). event i (Kill d.0)) T.kills in
+      none-both ((((((calls ++ resumes) ++ upcalls) ++ (event i Handle ∷ [])) ++ fetches) ++ flushes)) kills
+      (none-both (((((calls ++ resumes) ++ upcalls) ++ (event i Handle ∷ [])) ++ fetches)) flushes
+      (none-both ((((calls ++ resumes) ++ upcalls) ++ (event i Handle ∷ []))) fetches
+      (none-both (((calls ++ resumes) ++ upcalls)) (event i Handle ∷ [])
+      (none-both ((calls ++ resumes)) upcalls
+      (none-both calls resumes
+      (none-kept (λ (d : VpeDecl). event i (CallAct d.vpe)) T.vpes (λ d. off (CallAct d.vpe)))
+      (none-kept (λ (d : VpeDecl). event i (ResumeAct d.vpe)) T.vpes (λ d. off (ResumeAct d.vpe))))
+      (none-kept (λ (d : VpeDecl). event i (UpcallAct d.vpe)) T.vpes (λ d. off (UpcallAct d.vpe))))
+      (cond-false (is_enabled T W (event i Handle)) (event i Handle ∷ []) [] (off Handle)))
+      (none-kept (λ j. event i (Fetch j)) (range_with_len 0 T.kernels) (λ j. off (Fetch j))))
+      (none-kept (λ j. event i (Flush j)) (range_with_len 0 T.kernels) (λ j. off (Flush j))))
+      (none-kept (λ (d : ℕ × ℕ). event i (Kill d.0)) T.kills (λ d. off (Kill d.0)))
 
   -- a VPE of another kernel has no event at kernel i
   pub elsewhere : IsSetup T → (i : ℕ) (row : VpeRow) (d : VpeDecl) → Contains T.vpes d → (pe_owner T d.pe == i) ≡ false → is_enabled T W (event i (vpe_act row d.vpe)) ≡ false

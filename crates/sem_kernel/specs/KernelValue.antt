@@ -1,5 +1,5 @@
 -- A kernel as contracts see it.
-use Rattle.std.specs.Prelude.{◌≡◌, ℕ, Bool, true, Option, Some, None, IfSome}
+use Rattle.std.specs.Prelude.{◌≡◌, ℕ, Bool, true, List, Option, Some, None, IfSome}
 use Rattle.sem_msg.specs.declared.event.Act.{Act}
 use Rattle.sem_msg.specs.declared.event.Act.TheVariants.{Call as Calls, Fetch, Handle, Upcall, Resume, Flush, Kill}
 use Rattle.sem_msg.specs.declared.message.Message.{Message}
@@ -8,8 +8,10 @@ use Rattle.sem_msg.specs.Fabric.{is_due}
 use Rattle.sem_msg.specs.Setup.{Setup}
 use Rattle.sem_machine.specs.Sides.{Side}
 use Rattle.sem_machine.specs.Machine.{is_locally_enabled}
+use Rattle.sem_kernel.specs.declared.own.OwnVpe.{OwnVpe}
 use Rattle.sem_kernel.specs.declared.stores.Stores.{Stores}
 use Rattle.sem_kernel.specs.KernelStores.{side_of, AreSound}
+use Rattle.sem_kernel.specs.Owning.{own_rows}
 use Rattle.sem_kernel.specs.Rooms.{IsReady}
 
 pub record KernelValue : Type 0 where
@@ -37,7 +39,8 @@ IsInput (Fetch from) (Some m) = Fits m
 IsInput act None = Unit {0}
 IsInput act (Some m) = ⊥
 
--- what a kernel always keeps: its stores are sound, and there is room for the act that is ready, if it is enabled
-pub record IsKernel (T : Setup) (i : ℕ) (x : Stores) (ready : Option Act) : Type 0 where
+-- what a kernel always keeps: its stores are sound, there is room for the act that is ready, if it is enabled, and it knows its VPEs
+pub record IsKernel (T : Setup) (i : ℕ) (x : Stores) (ready : Option Act) (own : List OwnVpe) : Type 0 where
   pub are : AreSound T i x
   pub room : IfSome ready (λ act. is_locally_enabled T i (side_of x) act ≡ true → IsReady T act x)
+  pub known : own ≡ own_rows T i

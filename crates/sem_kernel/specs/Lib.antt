@@ -5,3 +5,4 @@ pub mod Acting
 pub mod KernelValue
 pub mod Worlds
 pub mod Listing
+pub mod Owning

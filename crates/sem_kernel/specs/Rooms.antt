@@ -7,7 +7,7 @@ use Rattle.sem_key.specs.CapList.{link_count}
 use Rattle.sem_msg.specs.declared.call.Call.{Call}
 use Rattle.sem_msg.specs.declared.call.Call.TheVariants.{Derive, Gate, Revoke, Exit, Clear}
 use Rattle.sem_msg.specs.declared.event.Act.{Act}
-use Rattle.sem_msg.specs.declared.event.Act.TheVariants.{Call as Calls, Handle, Upcall, Resume, Kill}
+use Rattle.sem_msg.specs.declared.event.Act.TheVariants.{Call as Calls, Fetch, Handle, Upcall, Resume, Flush, Kill}
 use Rattle.sem_msg.specs.declared.message.Message.{Message}
 use Rattle.sem_msg.specs.declared.message.Message.TheVariants.{RevokeReq}
 use Rattle.sem_msg.specs.declared.state.Ask.{Ask}
@@ -124,9 +124,15 @@ pub record HasGrown (x y : Stores) : Type 0 where
   pub gone : vec_capacity x.scratch.gone ≤ vec_capacity y.scratch.gone
   pub ended : vec_capacity x.ended ≤ vec_capacity y.ended
 
+-- whether an act only moves a message, for which it needs no room
+abbrev pub only_moves : Act → Bool
+only_moves (Fetch from) = true
+only_moves (Flush to) = true
+only_moves act = false
+
 -- room for all that the step of an act can need
 pub record IsReady (T : Setup) (act : Act) (x : Stores) : Type 0 where
-  pub room : HasRoom (linked_parent T (side_of x) act) x
+  pub room : only_moves act ≡ false → HasRoom (linked_parent T (side_of x) act) x
   pub revoke : opens_jobs T (side_of x) act ≡ true → HasRoomToRevoke (ended_asks (side_of x) act) x
 
 -- how many links to children the unmarked capabilities have

@@ -1,13 +1,16 @@
 // Which acts of a kernel are enabled, as far as its stores tell.
-ghost use Rattle.std.specs.Prelude.{◌≡◌, true, is_some, slice_get};
+ghost use Rattle.std.specs.Prelude.{◌≡◌, true, is_some, slice_get, length};
 ghost use Rattle.std.specs.Option.{option_map};
 ghost use Rattle.sem_msg.specs.Journal.{kill_number as kill_number_lem};
-ghost use Rattle.sem_msg.specs.Lookups.{kernel_of as kernel_of_lem};
+ghost use Rattle.sem_msg.specs.Lookups.{kernel_of as kernel_of_lem, calls_of};
 ghost use Rattle.sem_machine.specs.Machine.{is_locally_enabled, is_other_kernel as is_other_kernel_lem, next_call as next_call_lem};
 ghost use Rattle.sem_machine.specs.Resumes.{can_resume as can_resume_lem};
 ghost use Rattle.sem_machine.specs.Sides.{is_alive, outbox, parked, row};
 ghost use Rattle.sem_kernel.specs.KernelStores.{side_of, AreStoresOf, AreSound};
+ghost use Rattle.sem_kernel.specs.Listing.{vpe_act};
 
+use crate::listing::VpeRow;
+use crate::own::OwnVpe;
 use crate::stores::Stores;
 use sem_msg::{Act, Call, Parked, Setup};
 
@@ -44,6 +47,45 @@ impl Stores {
                     && kill_number(setup, vpe).is_some()
             }
         }
+    }
+
+    // Whether the act of the row for a VPE, one of this kernel, is enabled.
+    #[tactic(auto, unfolding(sem_machine::specs::Machine::is_locally_enabled))]
+    pub fn can(&self, setup: &Setup, kernel: u32, row: VpeRow, own: OwnVpe) -> bool
+        requires are { AreSound setup.now kernel self.now }
+        requires here { kernel_of_lem setup.now own.vpe ≡ kernel }
+        requires calls { length (calls_of setup.now own.vpe) ≡ own.calls }
+        ensures { result ≡ is_locally_enabled setup.now kernel (side_of self.now) (vpe_act row own.vpe) }
+    {
+        let vpe = own.vpe;
+        match row {
+            VpeRow::Calls => {
+                self.vpes.alive(vpe)
+                    && self.park.state(vpe).is_none()
+                    && self.has_next_call(setup, kernel, own)
+            }
+            VpeRow::Resumes => can_resume(&self.park.state(vpe)),
+            VpeRow::Upcalls => self.vpes.alive(vpe) && self.is_asked(setup, kernel, vpe),
+        }
+    }
+
+    // Whether a VPE, one of this kernel, makes one more call.
+    fn has_next_call(&self, setup: &Setup, kernel: u32, own: OwnVpe) -> bool
+        requires stores { AreStoresOf setup.now kernel self.now }
+        requires here { kernel_of_lem setup.now own.vpe ≡ kernel }
+        requires calls { length (calls_of setup.now own.vpe) ≡ own.calls }
+        ensures { result ≡ is_some (next_call_lem setup.now (side_of self.now) own.vpe) }
+    {
+        (self.vpes.next_call(own.vpe) as usize) < own.calls
+    }
+
+    // Whether an ask waits for the VPE, one of this kernel.
+    fn is_asked(&self, setup: &Setup, kernel: u32, vpe: u16) -> bool
+        requires stores { AreStoresOf setup.now kernel self.now }
+        requires here { kernel_of_lem setup.now vpe ≡ kernel }
+        ensures { result ≡ is_some (slice_get (row (side_of self.now) vpe).asks 0) }
+    {
+        self.vpes.asks(vpe) > 0
     }
 
     // The call that the VPE, one of this kernel, makes next.

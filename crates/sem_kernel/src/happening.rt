@@ -62,8 +62,30 @@ pub fn happen(
     if !is_enabled(setup, kernels.as_slice(), fabric, event) {
         return Err(StepError::NotEnabled);
     }
+    Ok(happen_enabled(setup, kernels, fabric, event)?)
+}
+
+/// Does the event, an enabled one, on kernels and their fabric, and gives its entry, which stands in
+/// the journal then. After want of memory the world is as before.
+pub fn happen_enabled(
+    setup: &Setup,
+    kernels: &mut Vec<Kernel>,
+    fabric: &mut Fabric,
+    event: Event,
+) -> Result<Entry, OutOfMemory>
+    requires together { AreKernelsOf setup.now kernels.old.items fabric.old }
+    requires enabled { is_enabled_lem setup.now (world_of kernels.old.items fabric.old) event ≡ true }
+    ensures together { AreKernelsOf setup.now kernels.new.items fabric.new }
+    ensures entry { IfOk result (λ entry. entry ≡ entry_of setup.now (world_of kernels.old.items fabric.old) event) }
+    ensures after { IfOk result (λ entry. world_of kernels.new.items fabric.new ≡ after_lem setup.now (world_of kernels.old.items fabric.old) event) }
+    ensures journal { IfOk result (λ entry. fabric.new.journal ≡ fabric.old.journal ++ entry ∷ []) }
+    ensures unchanged { OnErr result (world_of kernels.new.items fabric.new ≡ world_of kernels.old.items fabric.old) }
+    ensures same_journal { OnErr result (fabric.new.journal ≡ fabric.old.journal) }
+{
+    // So that the proof knows what a setup keeps.
+    let _ = &setup.vpes;
     let kernel = &mut kernels[event.kernel as usize];
-    Ok(step(kernel, fabric, event.act)?)
+    step(kernel, fabric, event.act)
 }
 
 // Whether the kernel can do the act with the fabric.
@@ -81,7 +103,7 @@ fn step(kernel: &mut Kernel, fabric: &mut Fabric, act: Act) -> Result<Entry, Out
     ensures ok { IfOk result (HasDone kernel.old fabric.old act kernel.new fabric.new) }
     ensures err { OnErr result (HasNotDone kernel.old fabric.old kernel.new fabric.new) }
 {
-    kernel.room(act)?;
+    kernel.make_room(act)?;
     fabric.reserve(kernel.id())?;
     let input = carry(kernel, fabric, act);
     let entry = kernel.step(act, input);

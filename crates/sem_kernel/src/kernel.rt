@@ -1,14 +1,21 @@
-ghost use Rattle.std.specs.Prelude.{◌≡◌, ◌<◌, ◌&&◌, true, Some, None, slice_get, IfOk, OnOk, OnErr};
+ghost use Rattle.std.specs.Prelude.{◌≡◌, ◌<◌, ◌&&◌, true, Some, None, length, slice_get, is_some, option_copied, IfOk, OnOk, OnErr};
+ghost use Rattle.std.specs.List.{Contains};
 ghost use Rattle.std.specs.Option.{option_map};
+ghost use Rattle.sem_key.specs.Capability.{capability_of};
 ghost use Rattle.sem_msg.specs.Fabric.{is_due as is_due_lem};
 ghost use Rattle.sem_msg.specs.Lookups.{kernel_of};
 ghost use Rattle.sem_machine.specs.Sides.{is_alive, outbox};
 ghost use Rattle.sem_machine.specs.Machine.{start_side, is_locally_enabled, local_step, local_entry, replied_vpe as replied_vpe_lem};
 ghost use Rattle.sem_kernel.specs.KernelValue.{is_timely as is_timely_lem, IsInput};
+ghost use Rattle.sem_kernel.specs.Listing.{vpe_act};
+ghost use Rattle.sem_kernel.specs.Owning.{own_rows};
 
 use crate::enabling::kill_number;
+use crate::listing::VpeRow;
+use crate::own::{OwnVpe, own_vpes};
+use crate::shared::SharedSetup;
 use crate::stores::Stores;
-use sem_key::OutOfMemory;
+use sem_key::{Cap, OutOfMemory};
 use sem_msg::{Act, Entry, Event, Message, Reply, Setup};
 use std::alloc::Global;
 use std::marker::Model;
@@ -16,11 +23,13 @@ use std::marker::Model;
 /// A kernel of a setup, with all that it keeps.
 #[derive(Debug, Drop)]
 pub struct Kernel {
-    setup: Setup,
+    setup: SharedSetup,
     id: u32,
     stores: Stores,
     // The act for which there is room.
     ready: Option<Act>,
+    // Its VPEs, by number.
+    own: Vec<OwnVpe>,
 }
 
 impl Model for Kernel {
@@ -31,7 +40,7 @@ impl Model for Kernel {
 
     ghost view = { λ k. record { setup = k.setup; id = k.id; side = side_of k.stores; ready = k.ready } };
 
-    ghost invariant = { λ k. IsKernel k.setup k.id k.stores k.ready };
+    ghost invariant = { λ k. IsKernel k.setup k.id k.stores k.ready k.own.items };
 }
 
 impl Kernel {
@@ -42,14 +51,25 @@ impl Kernel {
         requires { id < setup.now.kernels }
         ensures { IfOk result (λ k. k ≡ record { setup = setup.now; id = id; side = start_side setup.now id; ready = None }) }
     {
+        Kernel::boot_sharing(alloc, &SharedSetup::new(alloc, setup)?, id)
+    }
+
+    // The kernel of that number at the start, which shares the setup.
+    pub fn boot_sharing(alloc: Global, shared: &SharedSetup, id: u32) -> Result<Self, OutOfMemory>
+        requires { id < shared.now.kernels }
+        ensures { IfOk result (λ k. k ≡ record { setup = shared.now; id = id; side = start_side shared.now id; ready = None }) }
+    {
+        let setup = shared.get();
         // So that the proof knows what a setup keeps.
         let _ = &setup.vpes;
         let stores = Stores::boot(alloc, setup, id)?;
+        let own = own_vpes(alloc, setup, id)?;
         Ok(Kernel {
-            setup: setup.copy(alloc)?,
+            setup: shared.share()?,
             id,
             stores,
             ready: None,
+            own,
         })
     }
 
@@ -66,7 +86,30 @@ impl Kernel {
     pub fn enabled(&self, act: Act, replies: u64) -> bool
         ensures { result ≡ (is_locally_enabled self.now.setup self.now.id self.now.side act && is_timely_lem self.now.setup replies act) }
     {
-        self.stores.is_enabled(&self.setup, self.id, act) && is_timely(&self.setup, replies, act)
+        self.stores.is_enabled(self.setup.get(), self.id, act)
+            && is_timely(self.setup.get(), replies, act)
+    }
+
+    /// Whether a message is in its inbox. Takes no memory.
+    pub fn is_handling(&self) -> bool
+        ensures { result ≡ is_some self.now.side.inbox }
+    {
+        self.stores.inbox.is_some()
+    }
+
+    // Its VPEs, by number.
+    pub(crate) fn own_vpes(&self) -> &[OwnVpe]
+        ensures { result.now ≡ own_rows self.now.setup self.now.id }
+    {
+        &self.own
+    }
+
+    // Whether the act of the row for one of its VPEs is enabled.
+    pub(crate) fn can(&self, row: VpeRow, own: OwnVpe) -> bool
+        requires { Contains (own_rows self.now.setup self.now.id) own }
+        ensures { result ≡ is_locally_enabled self.now.setup self.now.id self.now.side (vpe_act row own.vpe) }
+    {
+        self.stores.can(self.setup.get(), self.id, row, own)
     }
 
     /// Whether the VPE, one of this kernel, is alive. Takes no memory.
@@ -75,6 +118,21 @@ impl Kernel {
         ensures { result ≡ is_alive self.now.side vpe }
     {
         self.stores.vpes.alive(vpe)
+    }
+
+    /// The capability at that place among those that it holds, in rising key order, counted from 0;
+    /// none past the end. Takes no memory.
+    pub fn capability(&self, place: usize) -> Option<&Cap>
+        ensures { option_map capability_of (option_copied result) ≡ slice_get self.now.side.caps place }
+    {
+        self.stores.caps.at(place)
+    }
+
+    /// How many capabilities it holds. Takes no memory.
+    pub fn capability_count(&self) -> usize
+        ensures { result ≡ length self.now.side.caps }
+    {
+        self.stores.caps.len()
     }
 
     /// The oldest message that waits to be sent to the kernel `to`; none where none waits. Takes no
@@ -94,9 +152,20 @@ impl Kernel {
         ensures ok { OnOk result (self.new ≡ record self.old { ready = Some act }) }
         ensures err { OnErr result (self.new ≡ self.old) }
     {
-        if self.stores.is_enabled(&self.setup, self.id, act) {
-            self.stores.room(&self.setup, self.id, act)?;
+        if self.stores.is_enabled(self.setup.get(), self.id, act) {
+            return self.make_room(act);
         }
+        self.ready = Some(act);
+        Ok(())
+    }
+
+    // The same, for an act that is enabled as far as the side of the kernel tells.
+    pub(crate) fn make_room(&mut self, act: Act) -> Result<(), OutOfMemory>
+        requires { is_locally_enabled self.old.setup self.old.id self.old.side act ≡ true }
+        ensures ok { OnOk result (self.new ≡ record self.old { ready = Some act }) }
+        ensures err { OnErr result (self.new ≡ self.old) }
+    {
+        self.stores.room(self.setup.get(), self.id, act)?;
         self.ready = Some(act);
         Ok(())
     }
@@ -112,7 +181,7 @@ impl Kernel {
         ensures step { self.new ≡ record self.old { side = (local_step self.old.setup self.old.id self.old.side act input).side; ready = None } }
         ensures entry { result ≡ local_entry self.old.setup self.old.id self.old.side act input }
     {
-        let (detail, outcome) = self.stores.act(&self.setup, self.id, act, &input);
+        let (detail, outcome) = self.stores.act(self.setup.get(), self.id, act, &input);
         self.ready = None;
         Entry {
             event: Event {

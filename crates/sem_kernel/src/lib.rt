@@ -12,8 +12,10 @@ mod happening;
 mod kernel;
 mod listing;
 mod making;
+mod own;
 mod revokes;
 mod rooms;
+mod shared;
 mod stores;
 mod strays;
 #[cfg(test)]
@@ -21,7 +23,7 @@ mod tests;
 mod upcalls;
 mod world;
 
-pub use happening::{StepError, happen, is_enabled};
+pub use happening::{StepError, happen, happen_enabled, is_enabled};
 pub use kernel::Kernel;
 pub use listing::{append_enabled, enabled_events};
 pub use sem_key::OutOfMemory;

@@ -1,9 +1,9 @@
 // The list of the enabled events of kernels and their fabric.
-ghost use Rattle.std.specs.Prelude.{◌≡◌, ◌++◌, ◌∷◌, [], map, OnOk};
+ghost use Rattle.std.specs.Prelude.{◌≡◌, ◌<◌, ◌++◌, ◌∷◌, [], map, OnOk};
 ghost use Rattle.std.specs.List.{range_with_len};
-ghost use Rattle.sem_msg.specs.declared.event.Act.TheVariants.{Kill};
+ghost use Rattle.sem_msg.specs.declared.event.Act.TheVariants.{Fetch, Handle, Kill};
 ghost use Rattle.sem_machine.specs.Machine.{event, enabled};
-ghost use Rattle.sem_kernel.specs.Worlds.{world_of, AreKernelsOf};
+ghost use Rattle.sem_kernel.specs.Worlds.{world_of, AreKernelsOf, IsFabricOf, can_do};
 ghost use Rattle.sem_kernel.specs.Listing.{enabled_of, enabled_among, vpe_act, peer_act};
 
 use crate::happening::is_enabled;
@@ -14,7 +14,7 @@ use sem_msg::{Act, Event, Setup};
 
 // The rows of events that go through the VPEs.
 #[derive(Clone, Copy)]
-enum VpeRow {
+pub enum VpeRow {
     Calls,
     Resumes,
     Upcalls,
@@ -84,15 +84,30 @@ pub fn append_enabled(
     ensures { OnOk result (out.new.items ≡ out.old.items
         ++ enabled_of setup.now (world_of kernels.now fabric.now) kernel) }
 {
+    if kernel >= setup.kernels {
+        return Ok(());
+    }
+    append_rows(setup, kernels, fabric, kernel, out)
+}
+
+// Appends the enabled events of one kernel of the setup, in their order.
+fn append_rows(
+    setup: &Setup,
+    kernels: &[Kernel],
+    fabric: &Fabric,
+    kernel: u32,
+    out: &mut Vec<Event>,
+) -> Result<(), OutOfMemory>
+    requires together { AreKernelsOf setup.now kernels.now fabric.now }
+    requires few { kernel < setup.now.kernels }
+    ensures { OnOk result (out.new.items ≡ out.old.items
+        ++ enabled_of setup.now (world_of kernels.now fabric.now) kernel) }
+{
     append_vpe_row(setup, kernels, fabric, kernel, VpeRow::Calls, out)?;
     append_vpe_row(setup, kernels, fabric, kernel, VpeRow::Resumes, out)?;
     append_vpe_row(setup, kernels, fabric, kernel, VpeRow::Upcalls, out)?;
-    let handling = Event {
-        kernel,
-        act: Act::Handle,
-    };
-    append_if_enabled(setup, kernels, fabric, handling, out)?;
-    append_peer_row(setup, kernels, fabric, kernel, PeerRow::Fetches, out)?;
+    append_handling(setup, kernels, fabric, kernel, out)?;
+    append_fetches(setup, kernels, fabric, kernel, out)?;
     append_peer_row(setup, kernels, fabric, kernel, PeerRow::Flushes, out)?;
     append_kills(setup, kernels, fabric, kernel, out)
 }
@@ -106,22 +121,67 @@ fn append_vpe_row(
     row: VpeRow,
     out: &mut Vec<Event>,
 ) -> Result<(), OutOfMemory>
-    requires { AreKernelsOf setup.now kernels.now fabric.now }
+    requires together { AreKernelsOf setup.now kernels.now fabric.now }
+    requires few { kernel < setup.now.kernels }
     ensures { OnOk result (out.new.items ≡ out.old.items
         ++ enabled_among setup.now (world_of kernels.now fabric.now)
         (map (λ d. event kernel (vpe_act row d.vpe)) setup.now.vpes)) }
 {
-    for decl in setup.vpes.as_slice() {
-        // A VPE of another kernel has none.
-        if setup.pe_owner(decl.pe) == kernel {
-            let event = Event {
+    // So that the proof knows what a setup keeps.
+    let _ = &setup.vpes;
+    // A VPE of another kernel has none.
+    let this = &kernels[kernel as usize];
+    for own in this.own_vpes() {
+        if this.can(row, *own) {
+            out.push(Event {
                 kernel,
-                act: row.act(decl.vpe),
-            };
-            append_if_enabled(setup, kernels, fabric, event, out)?;
+                act: row.act(own.vpe),
+            })?;
         }
     }
     Ok(())
+}
+
+// Appends the handling of the message in the inbox of the kernel, if there is one.
+fn append_handling(
+    setup: &Setup,
+    kernels: &[Kernel],
+    fabric: &Fabric,
+    kernel: u32,
+    out: &mut Vec<Event>,
+) -> Result<(), OutOfMemory>
+    requires together { AreKernelsOf setup.now kernels.now fabric.now }
+    requires few { kernel < setup.now.kernels }
+    ensures { OnOk result (out.new.items ≡ out.old.items
+        ++ enabled_among setup.now (world_of kernels.now fabric.now) (event kernel Handle ∷ [])) }
+{
+    if kernels[kernel as usize].is_handling() {
+        out.push(Event {
+            kernel,
+            act: Act::Handle,
+        })?;
+    }
+    Ok(())
+}
+
+// Appends the enabled fetches of the kernel. With a message in its inbox it has none.
+fn append_fetches(
+    setup: &Setup,
+    kernels: &[Kernel],
+    fabric: &Fabric,
+    kernel: u32,
+    out: &mut Vec<Event>,
+) -> Result<(), OutOfMemory>
+    requires together { AreKernelsOf setup.now kernels.now fabric.now }
+    requires few { kernel < setup.now.kernels }
+    ensures { OnOk result (out.new.items ≡ out.old.items
+        ++ enabled_among setup.now (world_of kernels.now fabric.now)
+        (map (λ j. event kernel (Fetch j)) (range_with_len 0 setup.now.kernels))) }
+{
+    if kernels[kernel as usize].is_handling() {
+        return Ok(());
+    }
+    append_peer_row(setup, kernels, fabric, kernel, PeerRow::Fetches, out)
 }
 
 // Appends the enabled events of a row that goes through the other kernels.
@@ -133,19 +193,38 @@ fn append_peer_row(
     row: PeerRow,
     out: &mut Vec<Event>,
 ) -> Result<(), OutOfMemory>
-    requires { AreKernelsOf setup.now kernels.now fabric.now }
+    requires together { AreKernelsOf setup.now kernels.now fabric.now }
+    requires few { kernel < setup.now.kernels }
     ensures { OnOk result (out.new.items ≡ out.old.items
         ++ enabled_among setup.now (world_of kernels.now fabric.now)
         (map (λ j. event kernel (peer_act row j)) (range_with_len 0 setup.now.kernels))) }
 {
+    let this = &kernels[kernel as usize];
     for peer in 0..setup.kernels {
-        let event = Event {
-            kernel,
-            act: row.act(peer),
-        };
-        append_if_enabled(setup, kernels, fabric, event, out)?;
+        if can_carry(this, fabric, row, peer) {
+            out.push(Event {
+                kernel,
+                act: row.act(peer),
+            })?;
+        }
     }
     Ok(())
+}
+
+// Whether the kernel can do the act of the row for another one with the fabric.
+fn can_carry(kernel: &Kernel, fabric: &Fabric, row: PeerRow, peer: u32) -> bool
+    requires few { kernel.now.id < kernel.now.setup.kernels }
+    requires peer { peer < kernel.now.setup.kernels }
+    requires fabric { IsFabricOf kernel.now.setup fabric.now }
+    ensures { result ≡ can_do kernel.now fabric.now (peer_act row peer) }
+{
+    if peer == kernel.id() {
+        return false;
+    }
+    match row {
+        PeerRow::Fetches => !kernel.is_handling() && fabric.waiting(peer, kernel.id()) > 0,
+        PeerRow::Flushes => kernel.front(peer).is_some() && !fabric.full(kernel.id(), peer),
+    }
 }
 
 // Appends the enabled kills of the kernel.

@@ -5,7 +5,7 @@ ghost use Rattle.sem_msg.specs.Lookups.{kernel_of as kernel_of_lem};
 ghost use Rattle.sem_machine.specs.Machine.{is_locally_enabled};
 ghost use Rattle.sem_machine.specs.Sides.{parked, row, slot};
 ghost use Rattle.sem_kernel.specs.KernelStores.{side_of, AreStoresOf, AreSound};
-ghost use Rattle.sem_kernel.specs.Rooms.{IsReady, HasGrown, HasSameStores, HasRoomToRevoke, asked_parent as asked_parent_lem, called_parent as called_parent_lem, resumed_parent as resumed_parent_lem, linked_parent as linked_parent_lem, opens_jobs as opens_jobs_lem, is_revoking as is_revoking_lem, is_request as is_request_lem, ended_asks as ended_asks_lem, slot_key as slot_key_lem};
+ghost use Rattle.sem_kernel.specs.Rooms.{IsReady, HasGrown, HasSameStores, HasRoomToRevoke, asked_parent as asked_parent_lem, called_parent as called_parent_lem, resumed_parent as resumed_parent_lem, linked_parent as linked_parent_lem, opens_jobs as opens_jobs_lem, is_revoking as is_revoking_lem, only_moves as only_moves_lem, is_request as is_request_lem, ended_asks as ended_asks_lem, slot_key as slot_key_lem};
 
 use crate::stores::Stores;
 use sem_key::{Key, OutOfMemory};
@@ -22,6 +22,9 @@ impl Stores {
         ensures ready { OnOk result (IsReady setup.now act self.new) }
         ensures kept { OnErr result (HasGrown self.old self.new) }
     {
+        if only_moves(act) {
+            return Ok(());
+        }
         let parent = self.linked_parent(setup, kernel, act);
         if self.opens_jobs(setup, kernel, act) {
             let asks = self.ended_asks(setup, kernel, act);
@@ -157,6 +160,13 @@ impl Stores {
             _ => 0,
         }
     }
+}
+
+// Whether the act only moves a message.
+fn only_moves(act: Act) -> bool
+    ensures { result ≡ only_moves_lem act }
+{
+    matches!(act, Act::Fetch { .. } | Act::Flush { .. })
 }
 
 // Whether the call may open jobs.

@@ -1,11 +1,14 @@
 ghost use Rattle.std.specs.Prelude.{◌≡◌, ◌↔◌, false, map, IfOk, OnOk, OnErr, IsErrOf};
 ghost use Rattle.std.specs.List.{range_with_len};
-ghost use Rattle.sem_machine.specs.Machine.{start, enabled, is_enabled as is_enabled_lem, after as after_lem, entry_of};
+ghost use Rattle.sem_msg.specs.Lookups.{kernel_of};
+ghost use Rattle.sem_machine.specs.Sides.{is_alive as is_alive_lem};
+ghost use Rattle.sem_machine.specs.Machine.{side, start, enabled, is_enabled as is_enabled_lem, after as after_lem, entry_of};
 ghost use Rattle.sem_kernel.specs.Worlds.{booted};
 
 use crate::happening::{StepError, happen, is_enabled};
 use crate::kernel::Kernel;
 use crate::listing::enabled_events;
+use crate::shared::SharedSetup;
 use sem_fabric::Fabric;
 use sem_key::OutOfMemory;
 use sem_msg::{Entry, Event, Journal, Setup};
@@ -46,11 +49,28 @@ impl World {
         })
     }
 
+    /// Its kernels, by their numbers.
+    pub fn kernels(&self) -> &[Kernel]
+        ensures { map (λ k. k.side) result.now ≡ self.now.world.sides }
+    {
+        self.kernels.as_slice()
+    }
+
     /// Whether the event is enabled. Takes no memory.
     pub fn is_enabled(&self, event: Event) -> bool
         ensures { result ≡ is_enabled_lem self.now.setup self.now.world event }
     {
         is_enabled(&self.setup, self.kernels.as_slice(), &self.fabric, event)
+    }
+
+    /// Whether the VPE is alive; one that is not declared is not. Takes no memory.
+    pub fn is_alive(&self, vpe: u16) -> bool
+        ensures { result ≡ is_alive_lem (side self.now.world (kernel_of self.now.setup vpe)) vpe }
+    {
+        match self.kernels.get(self.setup.kernel_of(vpe) as usize) {
+            Some(kernel) => kernel.is_alive(vpe),
+            None => false,
+        }
     }
 
     /// Replaces the list by the enabled events, in their order.
@@ -76,9 +96,10 @@ impl World {
 pub fn boot_kernels(alloc: Global, setup: &Setup) -> Result<Vec<Kernel>, OutOfMemory>
     ensures { IfOk result (λ kernels. kernels.items ≡ map (booted setup.now) (range_with_len 0 setup.now.kernels)) }
 {
+    let shared = SharedSetup::new(alloc, setup)?;
     let mut kernels = Vec::new(alloc);
     for id in 0..setup.kernels {
-        kernels.push(Kernel::boot(alloc, setup, id)?)?;
+        kernels.push(Kernel::boot_sharing(alloc, &shared, id)?)?;
     }
     Ok(kernels)
 }

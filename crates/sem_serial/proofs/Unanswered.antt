@@ -1,11 +1,14 @@
 -- Which VPEs wait for a reply: only declared ones, which stand in rising order.
-use Rattle.std.proofs.Common.{◌≡◌, ℕ, ◌+◌, ◌<◌, ◌≤◌, Bool, true, false, cond, eqb, List, [], ◌∷◌, length, map, get_or, Option, Some, None, refl, sym, ◌∙◌, ap, subst, arith, inl, inr}
+use Rattle.std.proofs.Common.{◌≡◌, ℕ, ◌+◌, ◌<◌, ◌≤◌, Bool, true, false, cond, eqb, List, [], ◌∷◌, length, map, set, take, get_or, Option, Some, None, refl, sym, ◌∙◌, ap, subst, arith, inl, inr, eq-eqb, length-set, get_or-set_same, get_or-set_other}
 use Rattle.std.specs.Prelude.{◌==◌, count_by}
 use Rattle.std.specs.List.{Contains, filter}
 use Rattle.std.specs.Option.{option_map_or}
 use Rattle.std.proofs.lemmas.List.Recursion.{is_count_by}
-use Rattle.std.proofs.lemmas.Bool.{eqb-true, false≢true, cases_lt}
-use Rattle.std.proofs.lemmas.List.{get_or_past, get_or_read, length-map}
+use Rattle.std.proofs.lemmas.Bool.{eqb-true, ne_eqb, false≢true, cases_eq, cases_lt}
+use Rattle.std.proofs.lemmas.List.{get_or_past, get_or_read, length-map, length-take}
+use Rattle.std.proofs.lemmas.List.Sums.{length-filter, count_by-le-length}
+use Rattle.std.proofs.lemmas.List.Filters.{length-filter_more}
+use Rattle.sem_key.specs.declared.limits.TheConstants.{VPES}
 use Rattle.sem_msg.specs.declared.entry.Entry.{Entry}
 use Rattle.sem_msg.specs.declared.entry.Reply.{Reply}
 use Rattle.sem_msg.specs.Journal.{replies}
@@ -21,7 +24,7 @@ use Rattle.sem_key.proofs.Members.{found}
 use Rattle.sem_kernel.specs.KernelValue.{KernelValue}
 use Rattle.sem_kernel.specs.Worlds.{world_of}
 use Rattle.sem_serial.specs.Standing.{StandsAt}
-use Rattle.sem_serial.specs.Ending.{IsUnanswered}
+use Rattle.sem_serial.specs.Ending.{IsUnanswered, AreCounted}
 
 -- whether an entry has a reply to the VPE
 abbrev pub replies_to : ℕ → Entry → Bool
@@ -41,6 +44,56 @@ replied-count J v = sym (is_count_by (λ es. reply_count es v) (replies_to v) re
 
     more : (e : Entry) (es : List Entry) → reply_count (e ∷ es) v ≡ cond (replies_to v e) (1 + reply_count es v) (reply_count es v)
     more e es = from e.reply e es refl
+
+-- one entry more
+module _ (J : List Entry) (n : ℕ) (v : ℕ) where
+  as_filtered : (m : ℕ) → reply_count (take m J) v ≡ length (filter (replies_to v) (take m J))
+  as_filtered m = sym (length-filter (replies_to v) (take m J) ∙ replied-count (take m J) v)
+
+  reply-more : (e : Entry) → n < length J → e ≡ get_or J n e → reply_count (take (n + 1) J) v ≡ reply_count (take n J) v + cond (replies_to v e) 1 0
+  reply-more e within at =
+      as_filtered (n + 1)
+      ∙ (length-filter_more (replies_to v) J n e within
+      ∙ (ap (λ (x : Entry). length (filter (replies_to v) (take n J)) + cond (replies_to v x) 1 0) (sym at)
+      ∙ ap (λ m. m + cond (replies_to v e) 1 0) (sym (as_filtered n))))
+
+  pub reply-few : reply_count (take n J) v ≤ n
+  reply-few =
+      let count = replied-count (take n J) v in
+      let few = count_by-le-length (replies_to v) (take n J) in
+      let long = length-take n J in
+      omega (arith, count, few, long)
+
+module _ (J : List Entry) (n : ℕ) (e : Entry) (counts : List ℕ) (within : n < length J) (at : e ≡ get_or J n e) (so_far : AreCounted (take n J) counts) where
+  -- it has no reply that counts
+  pub counted-same : ((v : ℕ) → v < VPES → replies_to v e ≡ false) → AreCounted (take (n + 1) J) counts
+  counted-same none = (so_far.0, λ v few. so_far.1 v few ∙ sym (reply-more J n v e within at ∙ (ap (λ b. reply_count (take n J) v + cond b 1 0) (none v few) ∙ plus_none (reply_count (take n J) v))))
+    where
+      plus_none : (m : ℕ) → m + 0 ≡ m
+      plus_none m = omega arith
+
+  -- it has a reply to that VPE
+  pub counted-one : (r : Reply) → e.reply ≡ Some r → r.vpe < VPES → AreCounted (take (n + 1) J) (set counts r.vpe (get_or counts r.vpe 0 + 1))
+  counted-one r some few = (
+    length-set counts r.vpe (get_or counts r.vpe 0 + 1) ∙ so_far.0,
+    λ v below. elim (cases_eq v r.vpe) [
+      | inl same ↦
+          let told : replies_to v e ≡ true = ap (λ o. option_map_or (λ (x : Reply). x.vpe == v) o false) some ∙ eq-eqb r.vpe v (sym same) in
+          ap (λ w. get_or (set counts r.vpe (get_or counts r.vpe 0 + 1)) w 0) same
+          ∙ (get_or-set_same counts r.vpe (get_or counts r.vpe 0 + 1) 0 (let long = so_far.0 in omega (arith, few, long))
+          ∙ (ap (λ w. get_or counts w 0 + 1) (sym same)
+          ∙ (ap (λ m. m + 1) (so_far.1 v below)
+          ∙ sym (reply-more J n v e within at ∙ ap (λ b. reply_count (take n J) v + cond b 1 0) told))))
+      | inr other ↦
+          let told : replies_to v e ≡ false = ap (λ o. option_map_or (λ (x : Reply). x.vpe == v) o false) some ∙ ne_eqb r.vpe v (λ same. other (sym same)) in
+          get_or-set_other counts r.vpe v (get_or counts r.vpe 0 + 1) 0 other
+          ∙ (so_far.1 v below
+          ∙ sym (reply-more J n v e within at ∙ (ap (λ b. reply_count (take n J) v + cond b 1 0) told ∙ plus_none (reply_count (take n J) v))))
+    ],
+  )
+    where
+      plus_none : (m : ℕ) → m + 0 ≡ m
+      plus_none m = omega arith
 
 -- none of the first n VPEs waits for a reply
 abbrev pub NoneOf : Setup → List Entry → ℕ → Type 0

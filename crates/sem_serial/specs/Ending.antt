@@ -1,5 +1,6 @@
 -- How a run ends: which VPE still waits for a reply, and when a run is stuck or spent ("Runs" in docs/machine.md).
-use Rattle.std.specs.Prelude.{◌≡◌, ◌≢◌, ℕ, ◌<◌, ◌≤◌, true, List, [], length, ◌⊎◌}
+use Rattle.std.specs.Prelude.{◌≡◌, ◌≢◌, ℕ, ◌<◌, ◌≤◌, true, List, [], length, slice_index_or, ◌⊎◌}
+use Rattle.sem_key.specs.declared.limits.TheConstants.{VPES}
 use Rattle.sem_msg.specs.declared.entry.Entry.{Entry}
 use Rattle.sem_msg.specs.Setup.{Setup}
 use Rattle.sem_msg.specs.Lookups.{kernel_of, calls_of}
@@ -13,6 +14,10 @@ use Rattle.sem_machine.specs.Seeded.{entry_limit}
 pub record IsUnanswered (T : Setup) (J : List Entry) (v : ℕ) : Type 0 where
   pub alive : is_alive (side (world_after T J) (kernel_of T v)) v ≡ true
   pub no_reply : reply_count J v ≢ length (calls_of T v)
+
+-- they are how many replies each VPE has, by its number
+abbrev pub AreCounted : List Entry → List ℕ → Type 0
+AreCounted J counts = (length counts ≡ VPES) × ((v : ℕ) → v < VPES → slice_index_or counts v 0 ≡ reply_count J v)
 
 -- Stuck: no event is enabled after the journal, and a call of the VPE has no reply; it is the least such VPE.
 pub record IsStuck (T : Setup) (J : List Entry) (v : ℕ) : Type 0 where

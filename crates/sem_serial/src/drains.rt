@@ -14,7 +14,7 @@ use crate::limits::entry_limit;
 use crate::lists::{event_count, list_all, pick, renew};
 use rand_pcg::Lcg64Xsh32;
 use sem_fabric::Fabric;
-use sem_kernel::{Kernel, StepError, happen};
+use sem_kernel::{Kernel, happen_enabled};
 use sem_key::OutOfMemory;
 use sem_msg::{Event, Setup};
 use std::alloc::Global;
@@ -39,13 +39,14 @@ pub fn drain(
 {
     let mut lists = list_all(alloc, setup, kernels.as_slice(), fabric)?;
     let mut words = Lcg64Xsh32::new(seed, 1);
-    run_on(setup, kernels, fabric, &mut words, &mut lists)?;
+    run_on(alloc, setup, kernels, fabric, &mut words, &mut lists)?;
     judge(setup, kernels.as_slice(), fabric, &lists)
 }
 
 // Runs on by the words until no event is enabled or the journal has as many entries as a run can
 // have. The lists are the enabled events.
 fn run_on(
+    alloc: Global,
     setup: &Setup,
     kernels: &mut Vec<Kernel>,
     fabric: &mut Fabric,
@@ -68,7 +69,15 @@ fn run_on(
             return Ok(());
         };
         let replied = make_entry(setup, kernels, fabric, event)?;
-        renew(setup, kernels.as_slice(), fabric, event, replied, lists)?;
+        renew(
+            alloc,
+            setup,
+            kernels.as_slice(),
+            fabric,
+            event,
+            replied,
+            lists,
+        )?;
     }
     Ok(())
 }
@@ -88,10 +97,9 @@ fn make_entry(
     ensures journal { OnOk result (fabric.new.journal ≡ fabric.old.journal ++ entry_of setup.now (world_of kernels.old.items fabric.old) event ∷ []) }
     ensures same { OnErr result (fabric.new.journal ≡ fabric.old.journal) }
 {
-    match happen(setup, kernels, fabric, event) {
+    match happen_enabled(setup, kernels, fabric, event) {
         Ok(entry) => Ok(entry.reply.is_some()),
-        Err(StepError::Memory) => Err(OutOfMemory),
-        Err(StepError::NotEnabled) => unreachable!(),
+        Err(error) => Err(error),
     }
 }
 

@@ -9,6 +9,7 @@ mod lists;
 mod plays;
 mod starts;
 
+pub use answers::{call_count, reply_counts};
 pub use drains::drain;
 pub use faults::{PlayError, RunError};
 pub use plays::play;

@@ -1,11 +1,13 @@
 // The enabled events of each kernel, kept from event to event.
-ghost use Rattle.std.specs.Prelude.{◌≡◌, ◌^◌, ◌<◌, List, length, map, slice_get, sum_by, is_some, OnOk, IfOk};
-ghost use Rattle.std.specs.List.{flat_map};
+ghost use Rattle.std.specs.Prelude.{◌≡◌, ◌^◌, ◌<◌, ◌==◌, true, List, length, map, slice_get, slice_set, sum_by, is_some, OnOk, IfOk};
+ghost use Rattle.std.specs.List.{flat_map, list_any};
 ghost use Rattle.rand_pcg.specs.Pcg.{pcg32};
-ghost use Rattle.sem_machine.specs.Machine.{World, after, entry_of};
+ghost use Rattle.sem_msg.specs.Journal.{replies as replies_in};
+ghost use Rattle.sem_machine.specs.Machine.{World, after, entry_of, is_enabled};
 ghost use Rattle.sem_machine.specs.Seeded.{picked};
-ghost use Rattle.sem_kernel.specs.Worlds.{world_of, AreKernelsOf};
-ghost use Rattle.sem_serial.specs.Listed.{AreListed, is_touched as is_touched_lem, is_peer as is_peer_lem};
+ghost use Rattle.sem_kernel.specs.Listing.{enabled_of};
+ghost use Rattle.sem_kernel.specs.Worlds.{world_of, AreKernelsOf, NamesPeer};
+ghost use Rattle.sem_serial.specs.Listed.{AreListed, comes_due as comes_due_lem, touched_peer as touched_peer_lem};
 
 use rand_core::utils::NextWord;
 use rand_pcg::Lcg64Xsh32;
@@ -34,9 +36,10 @@ pub fn list_all(
     Ok(lists)
 }
 
-// Renews the lists of the kernels whose enabled events can be others after the event, which made a
-// reply or not.
+// Renews the lists of the kernels whose enabled events can be others after the event, an enabled
+// one, which made a reply or not.
 pub fn renew(
+    alloc: Global,
     setup: &Setup,
     kernels: &[Kernel],
     fabric: &Fabric,
@@ -45,37 +48,81 @@ pub fn renew(
     lists: &mut Vec<Vec<Event>>,
 ) -> Result<(), OutOfMemory>
     requires together { AreKernelsOf setup.now kernels.now fabric.now }
-    requires happened { (before : World) × (world_of kernels.now fabric.now ≡ after setup.now before event)
+    requires happened { (before : World) × (is_enabled setup.now before event ≡ true)
+        × (world_of kernels.now fabric.now ≡ after setup.now before event)
         × (replied ≡ is_some (entry_of setup.now before event).reply)
         × AreListed setup.now before (map (λ list. list.items) lists.old.items) }
     ensures { OnOk result (AreListed setup.now (world_of kernels.now fabric.now) (map (λ list. list.items) lists.new.items)) }
 {
-    for kernel in 0..setup.kernels {
-        if is_touched(setup, event, replied, kernel) {
-            let list = &mut lists[kernel as usize];
-            list.clear();
-            append_enabled(setup, kernels, fabric, kernel, list)?;
-        }
+    if comes_due(setup, fabric, replied) {
+        *lists = list_all(alloc, setup, kernels, fabric)?;
+        return Ok(());
     }
+    renew_list(setup, kernels, fabric, event.kernel, lists)?;
+    let Some(peer) = touched_peer(setup, kernels, fabric, event) else {
+        return Ok(());
+    };
+    renew_list(setup, kernels, fabric, peer, lists)?;
     Ok(())
 }
 
-// Whether an event can change which events of the kernel are enabled: where it is of that kernel or
-// moves a message of a link to it or from it, and where it made a reply, for which a kill waits.
-fn is_touched(setup: &Setup, event: Event, replied: bool, kernel: u32) -> bool
-    ensures { result ≡ is_touched_lem setup.now event replied kernel }
+// Renews the list of a kernel.
+fn renew_list(
+    setup: &Setup,
+    kernels: &[Kernel],
+    fabric: &Fabric,
+    kernel: u32,
+    lists: &mut Vec<Vec<Event>>,
+) -> Result<(), OutOfMemory>
+    requires together { AreKernelsOf setup.now kernels.now fabric.now }
+    requires kernel { kernel < length lists.old.items }
+    ensures { OnOk result (map (λ list. list.items) lists.new.items ≡ slice_set (map (λ list. list.items) lists.old.items) kernel (enabled_of setup.now (world_of kernels.now fabric.now) kernel)) }
 {
-    event.kernel == kernel || is_peer(event.act, kernel) || (replied && setup.kills.len() > 0)
+    let list = &mut lists[kernel as usize];
+    list.clear();
+    append_enabled(setup, kernels, fabric, kernel, list)?;
+    Ok(())
 }
 
-// Whether the act moves a message out of a link of the kernel, or into one.
-fn is_peer(act: Act, kernel: u32) -> bool
-    ensures { result ≡ is_peer_lem act kernel }
+// Whether a kill comes due with the reply of the last event, if it made one.
+fn comes_due(setup: &Setup, fabric: &Fabric, replied: bool) -> bool
+    ensures { result ≡ comes_due_lem setup.now (length (replies_in fabric.now.journal)) replied }
 {
-    match act {
-        Act::Fetch { from } => from == kernel,
-        Act::Flush { to } => to == kernel,
-        _ => false,
+    replied && is_kill_number(setup, fabric.replies())
+}
+
+// Whether a kill waits for just so many replies.
+fn is_kill_number(setup: &Setup, replies: u64) -> bool
+    ensures { result ≡ list_any (λ k. k.1 == replies) setup.now.kills }
+{
+    setup.kills.as_slice().iter().any(|kill| kill.1 == replies)
+}
+
+// The other kernel whose enabled events can be others after the event, if there is one: a fetch
+// makes room in a link that was full, and a flush is the first message that can be fetched.
+fn touched_peer(setup: &Setup, kernels: &[Kernel], fabric: &Fabric, event: Event) -> Option<u32>
+    requires together { AreKernelsOf setup.now kernels.now fabric.now }
+    requires own { event.kernel < setup.now.kernels }
+    requires peer { NamesPeer setup.now.kernels event.kernel event.act }
+    ensures { result ≡ touched_peer_lem setup.now (world_of kernels.now fabric.now) event.kernel event.act }
+{
+    match event.act {
+        Act::Fetch { from } => {
+            let most = (setup.window as usize).saturating_sub(1);
+            if fabric.waiting(from, event.kernel) < most {
+                None
+            } else {
+                Some(from)
+            }
+        }
+        Act::Flush { to } => {
+            if kernels[to as usize].is_handling() || fabric.waiting(event.kernel, to) > 1 {
+                None
+            } else {
+                Some(to)
+            }
+        }
+        _ => None,
     }
 }
 

@@ -1,32 +1,44 @@
-use Rattle.std.proofs.Common.{◌≡◌, ◌<◌, ◌∙◌, ◌∷◌, [], ◌++◌, false, length, get_or, ap, sym, arith}
-use Rattle.std.specs.Prelude.{◌==◌}
-use Rattle.std.proofs.lemmas.Bool.{ne_eqb}
-use Rattle.sem_msg.specs.Setup.{Setup}
-use Rattle.sem_msg.specs.Lookups.{pe_owner}
-use Rattle.sem_machine.specs.Machine.{event}
+use Rattle.std.proofs.Common.{◌≡◌, ◌<◌, ◌∙◌, List, ◌∷◌, [], ◌++◌, length, get_or, ap, sym, arith}
+use Rattle.std.proofs.lemmas.List.{get_or_default}
+use Rattle.sem_machine.specs.Machine.{event, is_enabled}
+use Rattle.sem_kernel.specs.declared.own.OwnVpe.{OwnVpe}
 use Rattle.sem_kernel.specs.Worlds.{world_of}
-use Rattle.sem_kernel.specs.Listing.{enabled_among, vpe_act}
-use Rattle.sem_kernel.proofs.Listings.{row-more, row-all, one-disabled, elsewhere}
+use Rattle.sem_kernel.specs.Listing.{vpe_act}
+use Rattle.sem_kernel.specs.Owning.{own_rows}
+use Rattle.sem_kernel.proofs.Listings.{row-more, row-all, one-enabled, one-disabled}
+use Rattle.sem_kernel.proofs.Owned.{own-same, own-enough, vpe-told}
 use Rattle.sem_kernel.proofs.listing.append_vpe_row.Goals as goal
-use Rattle.sem_kernel.proofs.listing.append_vpe_row.Goals.{then-pe_owner-kernel+in_ok-append_if_enabled, else-pe_owner-kernel}
+use Rattle.sem_kernel.proofs.listing.append_vpe_row.Goals.{then-can+in_ok-push, else-can}
 
--- an event is tried where the kernel owns the PE of the VPE
-pub loop-decl-preserved : goal.loop-decl-preserved
-loop-decl-preserved c =
+-- one more of its VPEs is tried
+pub loop-own-preserved : goal.loop-own-preserved
+loop-own-preserved c =
     let T = c.args.setup.now in
-    let W = world_of c.args.kernels.now c.args.fabric.now in
-    let d = c.decl-item.result in
-    let now = c.loop-decl.out.items in
-    let items = c.as_slice-decl-items.ensures ∙ ap (λ (S : Setup). S.vpes) c.setup.view_is in
-    let more : c.loop-decl.decl-index < length T.vpes = omega (arith, ap length items) in
-    let found : d ≡ get_or T.vpes c.loop-decl.decl-index d = rw items at c.decl-item.is in
-    let next = row-more T W (λ x. event c.args.kernel (vpe_act c.args.row x.vpe)) T.vpes c.loop-decl.decl-index d c.args.out.now.items now in
-    elim c.if-pe_owner-kernel.branch [
-      | then-pe_owner-kernel+in_ok-append_if_enabled w ↦ rw w.out-is (next w.append_if_enabled.new.out.items more found c.loop-decl.invariant (w.in_ok-append_if_enabled.ensures ∙ ap (λ act. now ++ enabled_among T W (event c.args.kernel act ∷ [])) w.act.ensures))
-      | else-pe_owner-kernel w ↦
-          let other : (pe_owner T d.pe == c.args.kernel) ≡ false = ap (λ n. n == c.args.kernel) (sym c.pe_owner.ensures) ∙ ne_eqb _ _ w.if-pe_owner-kernel.false in
-          rw w.out-is (next now more found c.loop-decl.invariant (one-disabled T W (event c.args.kernel (vpe_act c.args.row d.vpe)) now (elsewhere T W (rw c.setup.view_is at c.setup.invariant) c.args.kernel c.args.row d (c.loop-decl.decl-index, more, sym found) other)))
+    let ks = c.args.kernels.now in
+    let f = c.args.fabric.now in
+    let i = c.args.kernel in
+    let k = c.index-kernels-kernel.result in
+    let W = world_of ks f in
+    let n = c.loop-own.own-index in
+    let now = c.loop-own.out.items in
+    let none : OwnVpe = record { vpe = 0; calls = 0 } in
+    let x : OwnVpe = get_or c.own_vpes-own-items.result.now n none in
+    let items = c.own_vpes-own-items.ensures ∙ own-same T ks f c.requires.together i c.requires.few k c.index-kernels-kernel.is in
+    let more : n < length (own_rows T i) = omega (arith, c.loop-own-test.true, ap length items) in
+    let found : x ≡ get_or (own_rows T i) n x = ap (λ (xs : List OwnVpe). get_or xs n none) items ∙ get_or_default (own_rows T i) n none x more in
+    let told : c.can.result ≡ is_enabled T W (event i (vpe_act c.args.row x.vpe)) = c.can.ensures ∙ vpe-told T ks f c.requires.together i c.requires.few k c.index-kernels-kernel.is c.args.row x.vpe in
+    let next = row-more T W (λ (o : OwnVpe). event i (vpe_act c.args.row o.vpe)) (own_rows T i) n x c.args.out.now.items now in
+    elim c.if-can.branch [
+      | then-can+in_ok-push w ↦ rw w.out-is (next w.push.new.self.items more found c.loop-own.invariant (w.in_ok-push.ensures.items ∙ (ap (λ act. now ++ event i act ∷ []) w.act.ensures ∙ one-enabled T W (event i (vpe_act c.args.row x.vpe)) now (sym told ∙ w.if-can.true))))
+      | else-can w ↦ rw w.out-is (next now more found c.loop-own.invariant (one-disabled T W (event i (vpe_act c.args.row x.vpe)) now (sym told ∙ w.if-can.false)))
     ]
 
+-- the VPEs of other kernels have none
 pub returns : goal.returns
-returns c = row-all c.args.setup.now (world_of c.args.kernels.now c.args.fabric.now) (λ x. event c.args.kernel (vpe_act c.args.row x.vpe)) c.args.setup.now.vpes c.loop-decl.decl-index c.args.out.now.items c.loop-decl.out.items (omega (arith, ap length (c.as_slice-decl-items.ensures ∙ ap (λ (S : Setup). S.vpes) c.setup.view_is))) c.loop-decl.invariant
+returns c =
+    let T = c.args.setup.now in
+    let W = world_of c.args.kernels.now c.args.fabric.now in
+    let i = c.args.kernel in
+    let items = c.own_vpes-own-items.ensures ∙ own-same T c.args.kernels.now c.args.fabric.now c.requires.together i c.requires.few c.index-kernels-kernel.result c.index-kernels-kernel.is in
+    row-all T W (λ (o : OwnVpe). event i (vpe_act c.args.row o.vpe)) (own_rows T i) c.loop-own.own-index c.args.out.now.items c.loop-own.out.items (omega (arith, c.loop-own-test.false, ap length items)) c.loop-own.invariant
+    ∙ ap (λ es. c.args.out.now.items ++ es) (own-enough T W (rw c.setup.view_is at c.setup.invariant) i c.args.row)

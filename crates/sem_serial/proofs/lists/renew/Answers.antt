@@ -1,27 +1,60 @@
-use Rattle.std.proofs.Common.{map, ◌++◌, ◌∙◌, sym, ap, arith}
-use Rattle.sem_msg.specs.Setup.{Setup}
-use Rattle.std.proofs.lemmas.List.{map-set}
+use Rattle.std.proofs.Common.{◌≡◌, ◌<◌, length, map, Some, sym, ◌∙◌, ap, inl, ◌⊎◌, arith}
 use Rattle.sem_kernel.specs.Listing.{enabled_of}
 use Rattle.sem_kernel.specs.Worlds.{world_of}
-use Rattle.sem_serial.proofs.Renewing.{renewing-start, renewing-more, renewing-same, renewing-all}
+use Rattle.sem_kernel.proofs.Happened.{enabled-few}
+use Rattle.sem_serial.specs.Listed.{touched_peer}
+use Rattle.sem_serial.proofs.Renewing.{some-same, none-some, listed-count, renewed-count, enabled-names, peer-few, renewing-start, renewing-one, renewing-all}
 use Rattle.sem_serial.proofs.lists.renew.Goals as goal
-use Rattle.sem_serial.proofs.lists.renew.Goals.{then-is_touched+in_ok-append_enabled, else-is_touched}
 
-pub loop-kernel-init : goal.loop-kernel-init
-loop-kernel-init c =
-    let (before, happened, told, listed) = c.requires.happened in
-    renewing-start c.args.setup.now (world_of c.args.kernels.now c.args.fabric.now) c.args.event c.args.replied 0 (map (λ list. list.items) c.args.lists.now.items) before happened told listed
+pub renew_list-requires-clause-kernel : goal.renew_list-requires-clause-kernel
+renew_list-requires-clause-kernel c =
+    let (before, enabled, happened, told, listed) = c.requires.happened in
+    let few = enabled-few c.args.setup.now before c.args.event enabled in
+    let count = listed-count (λ list. list.items) c.args.setup.now before c.args.lists.now.items listed in
+    omega (arith, few, count)
 
-pub loop-kernel-preserved : goal.loop-kernel-preserved
-loop-kernel-preserved c =
-    elim c.if-is_touched.branch [
-      | then-is_touched+in_ok-append_enabled w ↦
-          let T = c.args.setup.now in
-          let W = world_of c.args.kernels.now c.args.fabric.now in
-          let k = c.loop-kernel.kernel in
-          rw (w.lists-is, map-set (λ list. list.items) c.loop-kernel.lists.items k w.append_enabled.new.out) (renewing-more T W c.args.event c.args.replied k (map (λ list. list.items) c.loop-kernel.lists.items) c.loop-kernel.invariant w.append_enabled.new.out.items (omega (arith, ap (λ (S : Setup). S.kernels) c.setup.view_is)) (w.in_ok-append_enabled.ensures ∙ ap (λ es. es ++ enabled_of T W k) w.clear.ensures.items))
-      | else-is_touched w ↦ rw w.lists-is (renewing-same c.args.setup.now (world_of c.args.kernels.now c.args.fabric.now) c.args.event c.args.replied c.loop-kernel.kernel (map (λ list. list.items) c.loop-kernel.lists.items) c.loop-kernel.invariant (omega (arith, ap (λ (S : Setup). S.kernels) c.setup.view_is)) (sym c.is_touched.ensures ∙ w.if-is_touched.false))
-    ]
+pub touched_peer-requires-clause-own : goal.touched_peer-requires-clause-own
+touched_peer-requires-clause-own c =
+    let (before, enabled, happened, told, listed) = c.requires.happened in
+    enabled-few c.args.setup.now before c.args.event enabled
 
+pub touched_peer-requires-clause-peer : goal.touched_peer-requires-clause-peer
+touched_peer-requires-clause-peer c =
+    let (before, enabled, happened, told, listed) = c.requires.happened in
+    enabled-names c.args.setup.now before c.args.event enabled
+
+-- no other kernel is touched
+pub returns-in_default : goal.returns-in_default
+returns-in_default c =
+    let (before, enabled, happened, told, listed) = c.requires.happened in
+    let T = c.args.setup.now in
+    let W = world_of c.args.kernels.now c.args.fabric.now in
+    let e = c.args.event in
+    let none = sym c.touched_peer.ensures ∙ c.in_default.is in
+    let start = renewing-start T before W e c.args.replied (map (λ list. list.items) c.args.lists.now.items) happened told (sym c.comes_due.ensures ∙ c.if-comes_due.false) listed in
+    renewing-all T W (λ k. touched_peer T W e.kernel e.act ≡ Some k) (map (λ list. list.items) c.renew_list.new.lists.items) (λ k some. none-some (sym none ∙ some))
+    (renewing-one T W (λ k. (k ≡ e.kernel) ⊎ (touched_peer T W e.kernel e.act ≡ Some k)) (λ k. touched_peer T W e.kernel e.act ≡ Some k) e.kernel (map (λ list. list.items) c.args.lists.now.items) (map (λ list. list.items) c.renew_list.new.lists.items) (λ k waits. waits) start (enabled-few T before e enabled) c.in_ok-renew_list.ensures)
+
+pub renew_list-requires-2-clause-kernel : goal.renew_list-requires-2-clause-kernel
+renew_list-requires-2-clause-kernel c =
+    let (before, enabled, happened, told, listed) = c.requires.happened in
+    let T = c.args.setup.now in
+    let W = world_of c.args.kernels.now c.args.fabric.now in
+    let few = peer-few T W c.args.event.kernel c.args.event.act c.in-Some.peer (enabled-names T before c.args.event enabled) (sym c.touched_peer.ensures ∙ c.in-Some.is) in
+    let count = listed-count (λ list. list.items) T before c.args.lists.now.items listed in
+    let same = renewed-count (λ list. list.items) c.args.lists.now.items c.renew_list.new.lists.items c.args.event.kernel (enabled_of T W c.args.event.kernel) c.in_ok-renew_list.ensures in
+    omega (arith, few, count, same)
+
+-- the other kernel's list is renewed too
 pub returns : goal.returns
-returns c = renewing-all c.args.setup.now (world_of c.args.kernels.now c.args.fabric.now) c.args.event c.args.replied c.loop-kernel.kernel (map (λ list. list.items) c.loop-kernel.lists.items) c.loop-kernel.invariant (omega (arith, ap (λ (S : Setup). S.kernels) c.setup.view_is))
+returns c =
+    let (before, enabled, happened, told, listed) = c.requires.happened in
+    let T = c.args.setup.now in
+    let W = world_of c.args.kernels.now c.args.fabric.now in
+    let e = c.args.event in
+    let one = sym c.touched_peer.ensures ∙ c.in-Some.is in
+    let few = peer-few T W e.kernel e.act c.in-Some.peer (enabled-names T before e enabled) one in
+    let start = renewing-start T before W e c.args.replied (map (λ list. list.items) c.args.lists.now.items) happened told (sym c.comes_due.ensures ∙ c.if-comes_due.false) listed in
+    let first = renewing-one T W (λ k. (k ≡ e.kernel) ⊎ (touched_peer T W e.kernel e.act ≡ Some k)) (λ k. touched_peer T W e.kernel e.act ≡ Some k) e.kernel (map (λ list. list.items) c.args.lists.now.items) (map (λ list. list.items) c.renew_list.new.lists.items) (λ k waits. waits) start (enabled-few T before e enabled) c.in_ok-renew_list.ensures in
+    renewing-all T W (λ k. ⊥) (map (λ list. list.items) c.renew_list-2.new.lists.items) (λ k bad. bad)
+    (renewing-one T W (λ k. touched_peer T W e.kernel e.act ≡ Some k) (λ k. ⊥) c.in-Some.peer (map (λ list. list.items) c.renew_list.new.lists.items) (map (λ list. list.items) c.renew_list-2.new.lists.items) (λ k some. inl (some-same (sym some ∙ one))) first few c.in_ok-renew_list-2.ensures)

@@ -1,4 +1,4 @@
-use Rattle.std.proofs.Common.{◌≡◌, ◌∙◌, Option, Some, None, true, ap, sym, subst, rules, arith, length, false, slice_index_or, IsTrue}
+use Rattle.std.proofs.Common.{◌≡◌, ◌∙◌, Option, Some, None, true, ap, sym, subst, rules, arith, length, false, slice_index_or, IsTrue, refl}
 use Rattle.std.specs.Prelude.{is_some}
 use Rattle.sem_msg.specs.declared.call.Call.{Call}
 use Rattle.std.specs.Option.{option_map_or}
@@ -67,7 +67,7 @@ call-outcome-requires-clause-valid c =
 pub call-outcome-requires-clause-room : goal.call-outcome-requires-clause-room
 call-outcome-requires-clause-room c =
     let next : next_call c.args.setup.now (side_of c.args.self.now) c.args.vpe ≡ Some c.in-Some.call = search rules in
-    let room = c.requires.ready.room in
+    let room = c.requires.ready.room refl in
     record {
       caps = room.caps;
       child = room.child ∙ ap (held_key c.args.self.now.caps.caps) (counted-parent_side c.args.setup.now c.requires.are.setup c.args.kernel c.requires.are.is_one (side_of c.args.self.now) c.requires.are.sound c.args.vpe (call-here c.args.setup.now c.args.kernel (side_of c.args.self.now) c.args.vpe c.requires.enabled) c.advance.new.self.rows (ap (λ (t : VpeTable). t.rows) c.advance.ensures) c.in-Some.call next);

@@ -1,0 +1,25 @@
+use Rattle.std.proofs.Common.{arith}
+use Rattle.sem_kernel.specs.Worlds.{world_of}
+use Rattle.sem_kernel.proofs.Happened.{enabled-few, can-do, stepped-together, stepped-entry, stepped-after, stepped-unchanged}
+use Rattle.sem_kernel.proofs.happening.happen_enabled.Goals as goal
+
+pub index_mut-kernel-requires : goal.index_mut-kernel-requires
+index_mut-kernel-requires c =
+    let few = enabled-few c.args.setup.now (world_of c.args.kernels.now.items c.args.fabric.now) c.args.event c.requires.enabled in
+    let many = c.requires.together.many in
+    omega (arith, few, many)
+
+pub step-requires : goal.step-requires
+step-requires c = can-do c.args.setup.now c.args.kernels.now.items c.args.fabric.now c.requires.together c.args.event.kernel (enabled-few c.args.setup.now (world_of c.args.kernels.now.items c.args.fabric.now) c.args.event c.requires.enabled) c.index_mut-kernel.result.now c.index_mut-kernel.ensures.value (rw c.setup.view_is at c.setup.invariant) c.args.event.act c.requires.enabled
+
+pub returns-clause-together : goal.returns-clause-together
+returns-clause-together c = stepped-together c.args.setup.now c.args.kernels.now.items c.args.fabric.now c.requires.together c.args.event.kernel (enabled-few c.args.setup.now (world_of c.args.kernels.now.items c.args.fabric.now) c.args.event c.requires.enabled) c.index_mut-kernel.result.now c.index_mut-kernel.ensures.value c.args.event.act c.step.new.kernel c.step.new.fabric c.step.result c.step.ensures.ok c.step.ensures.err
+
+pub returns-clause-entry : goal.returns-clause-entry
+returns-clause-entry c = stepped-entry c.args.setup.now c.args.kernels.now.items c.args.fabric.now c.requires.together c.args.event.kernel (enabled-few c.args.setup.now (world_of c.args.kernels.now.items c.args.fabric.now) c.args.event c.requires.enabled) c.index_mut-kernel.result.now c.index_mut-kernel.ensures.value c.args.event.act c.step.new.kernel c.step.new.fabric c.step.result c.step.ensures.ok
+
+pub returns-clause-after : goal.returns-clause-after
+returns-clause-after c = stepped-after c.args.setup.now c.args.kernels.now.items c.args.fabric.now c.requires.together c.args.event.kernel (enabled-few c.args.setup.now (world_of c.args.kernels.now.items c.args.fabric.now) c.args.event c.requires.enabled) c.index_mut-kernel.result.now c.index_mut-kernel.ensures.value c.args.event.act c.step.new.kernel c.step.new.fabric c.step.result c.step.ensures.ok
+
+pub returns-clause-unchanged : goal.returns-clause-unchanged
+returns-clause-unchanged c = stepped-unchanged c.args.setup.now c.args.kernels.now.items c.args.fabric.now c.requires.together c.args.event.kernel (enabled-few c.args.setup.now (world_of c.args.kernels.now.items c.args.fabric.now) c.args.event c.requires.enabled) c.index_mut-kernel.result.now c.index_mut-kernel.ensures.value c.step.new.kernel c.step.new.fabric c.step.result c.step.ensures.err
