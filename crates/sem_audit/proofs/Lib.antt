@@ -5,3 +5,4 @@ pub mod CutOff
 pub mod Order
 pub mod Runs
 pub mod Played
+pub mod Upwards

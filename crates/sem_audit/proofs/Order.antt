@@ -1,9 +1,10 @@
 -- What is held, in rising key order.
-use Rattle.std.proofs.Common.{◌≡◌, ◌≤◌, ◌<◌, Bool, true, false, cond, List, [], ◌∷◌, append-nil, ℕ, ◌+◌, length, take, get_or, map, not, refl, sym, ap, arith}
-use Rattle.std.specs.List.{filter, flat_map, insert}
+use Rattle.std.proofs.Common.{◌≡◌, ◌≤◌, ◌<◌, Bool, true, false, cond, List, [], ◌∷◌, append-nil, ℕ, ◌+◌, length, take, get_or, map, not, refl, sym, ◌∙◌, ap, arith}
+use Rattle.std.specs.List.{filter, flat_map, insert, slice_get}
+use Rattle.std.specs.Option.{option_to_list}
 use Rattle.std.specs.List.Sorted.{IsPartitionPoint}
 use Rattle.std.proofs.lemmas.Bool.Decides.{nat_tests}
-use Rattle.std.proofs.lemmas.List.{map-append, take_more}
+use Rattle.std.proofs.lemmas.List.{map-append, take_more, take_all, length-map, get_or-map}
 use Rattle.std.proofs.lemmas.Grind.{flat_map-append}
 use Rattle.std.proofs.lemmas.List.Sorted.{IsNonDecreasingBy-insert}
 use Rattle.sem_key.specs.KeyName.{KeyName, packed, key_lt}
@@ -14,8 +15,9 @@ use Rattle.sem_key.specs.CapList.{with_cap}
 use Rattle.sem_msg.specs.declared.audit.Held.{Held}
 use Rattle.sem_msg.specs.Audits.{held_pairs}
 use Rattle.sem_machine.specs.Sides.{Side}
-use Rattle.sem_machine.specs.Machine.{World}
+use Rattle.sem_kernel.specs.KernelValue.{KernelValue}
 use Rattle.sem_key.proofs.InTurns.{in_turn-append}
+use Rattle.sem_audit.proofs.Reading.{take-read_more}
 use Rattle.sem_audit.specs.HeldKeys.{held}
 use Rattle.sem_audit.specs.Holding.{holding, IsInOrder, with_held, with_caps}
 
@@ -54,15 +56,35 @@ pub with_caps-none : (found : List Held) → with_caps found [] ≡ found
 unfolding in_turn
 with_caps-none found = refl
 
--- what is held of one capability more
-pub with_caps-more : (found now new : List Held) (cs : List Capability) (i : ℕ) (c : Capability) → i < length cs → c ≡ get_or cs i c → now ≡ with_caps found (take i cs) → new ≡ with_held now (holding c) → new ≡ with_caps found (take (i + 1) cs)
+-- what is held of one capability
+pub with_caps-one : (found : List Held) (c : Capability) → with_caps found (c ∷ []) ≡ with_held found (holding c)
 unfolding in_turn
-with_caps-more found now new cs i c more at so_far is = rw (take_more cs i c more, in_turn-append, ← at, ← so_far) is
+with_caps-one found c = refl
+
+-- what is held at one place more
+pub with_caps-more : (found now new : List Held) (cs : List Capability) (i : ℕ) → now ≡ with_caps found (take i cs) → new ≡ with_caps now (option_to_list (slice_get cs i)) → new ≡ with_caps found (take (i + 1) cs)
+with_caps-more found now new cs i so_far is = rw (take-read_more cs i, in_turn-append, ← so_far) is
+
+-- what is held at all places
+pub with_caps-all : (found now : List Held) (cs : List Capability) (i : ℕ) → length cs ≤ i → now ≡ with_caps found (take i cs) → now ≡ with_caps found cs
+with_caps-all found now cs i all so_far = so_far ∙ ap (λ xs. with_caps found xs) (take_all i cs all)
 
 -- what is held at one side more
 pub with_sides-more : (ss : List Side) (i : ℕ) (s : Side) (now new : List Held) → i < length ss → s ≡ get_or ss i s → now ≡ with_caps [] (flat_map (λ (x : Side). x.caps) (take i ss)) → new ≡ with_caps now s.caps → new ≡ with_caps [] (flat_map (λ (x : Side). x.caps) (take (i + 1) ss))
 with_sides-more ss i s now new more at so_far is =
     rw (take_more ss i s more, flat_map-append, in_turn-append, ← at, ← so_far, append-nil) is
+
+-- what is held by one kernel more
+pub with_kernels-more : (ks : List KernelValue) (i : ℕ) (k : KernelValue) (now new : List Held) → i < length ks → k ≡ get_or ks i k → now ≡ with_caps [] (flat_map (λ (s : Side). s.caps) (take i (map (λ (x : KernelValue). x.side) ks))) → new ≡ with_caps now k.side.caps → new ≡ with_caps [] (flat_map (λ (s : Side). s.caps) (take (i + 1) (map (λ (x : KernelValue). x.side) ks)))
+with_kernels-more ks i k now new more at so_far is =
+    with_sides-more (map (λ (x : KernelValue). x.side) ks) i k.side now new
+    (rw (length-map ks (λ (x : KernelValue). x.side)) more)
+    (ap (λ (x : KernelValue). x.side) at ∙ sym (get_or-map (λ (x : KernelValue). x.side) ks i k k.side more))
+    so_far is
+
+-- what is held by all kernels
+pub with_kernels-all : (ks : List KernelValue) (i : ℕ) (now : List Held) → length ks ≤ i → now ≡ with_caps [] (flat_map (λ (s : Side). s.caps) (take i (map (λ (x : KernelValue). x.side) ks))) → now ≡ with_caps [] (flat_map (λ (s : Side). s.caps) (map (λ (x : KernelValue). x.side) ks))
+with_kernels-all ks i now all so_far = so_far ∙ ap (λ ss. with_caps [] (flat_map (λ (s : Side). s.caps) ss)) (take_all i (map (λ (x : KernelValue). x.side) ks) (rw (length-map ks (λ (x : KernelValue). x.side)) all))
 
 -- so it is with capabilities that are put at their places in turn
 pub with_caps-is : (cs found : List Capability) → with_caps (map holding found) cs ≡ map holding (in_turn (λ c found. with_cap found c) cs found)
@@ -74,6 +96,6 @@ holding-pairs : (cs : List Capability) → held_pairs (map holding cs) ≡ map (
 holding-pairs [] = refl
 holding-pairs (c ∷ cs) = ap (λ ps. (c.key, c.selector) ∷ ps) (holding-pairs cs)
 
--- the list with what all capabilities of a world hold tells what is held in it
-pub held-is : (W : World) (hs : List Held) → hs ≡ with_caps [] (flat_map (λ (s : Side). s.caps) W.sides) → held_pairs hs ≡ held W
-held-is W hs is = rw (is, with_caps-is (flat_map (λ (s : Side). s.caps) W.sides) [], holding-pairs) refl
+-- the list with what all sides hold tells what is held
+pub held-is : (ss : List Side) (hs : List Held) → hs ≡ with_caps [] (flat_map (λ (s : Side). s.caps) ss) → held_pairs hs ≡ held ss
+held-is ss hs is = rw (is, with_caps-is (flat_map (λ (s : Side). s.caps) ss) [], holding-pairs) refl

@@ -5,7 +5,7 @@ use Rattle.sem_msg.specs.declared.event.Event.{Event}
 use Rattle.sem_msg.specs.Setup.{Setup}
 use Rattle.sem_machine.specs.Machine.{World, start, after, entry_of, local_entry, is_enabled}
 use Rattle.sem_machine.specs.Schedules.{IsRun, IsSchedule, run, world_after}
-use Rattle.sem_model.specs.ModelWorld.{ModelWorld, booted}
+use Rattle.sem_kernel.specs.Worlds.{WorldValue}
 
 run-push : (T : Setup) (W : World) (J : List Entry) (e : Entry) → run T W (J ++ e ∷ []) ≡ after T (run T W J) e.event
 run-push T W [] e = refl
@@ -17,11 +17,11 @@ IsRun-push T W [] e is_run enabled makes = (enabled, makes, tt)
 IsRun-push T W (x ∷ xs) e is_run enabled makes = (is_run.0, is_run.1, IsRun-push T (after T W x.event) xs e is_run.2 enabled makes)
 
 -- a schedule, and the world to which it leads
-pub record HasPlayed (T : Setup) (J : List Entry) (now : ModelWorld) : Type 0 where
+pub record HasPlayed (T : Setup) (J : List Entry) (now : WorldValue) : Type 0 where
   pub schedule : IsSchedule T J
   pub world : now ≡ record { setup = T; world = world_after T J }
 
-pub HasPlayed-none : (T : Setup) (J : List Entry) (now : ModelWorld) → J ≡ [] → now ≡ booted T → HasPlayed T J now
+pub HasPlayed-none : (T : Setup) (J : List Entry) (now : WorldValue) → J ≡ [] → now ≡ record { setup = T; world = start T } → HasPlayed T J now
 unfolding IsRun
 HasPlayed-none T J now empty begun = record { schedule = rw empty tt; world = rw empty begun }
 
@@ -31,7 +31,7 @@ unfolding entry_of local_entry
 entry_of-event T W event = refl
 
 -- one step more
-pub HasPlayed-more : (T : Setup) (J J' : List Entry) (now new : ModelWorld) (event : Event) (e : Entry) → HasPlayed T J now → is_enabled now.setup now.world event ≡ true → e ≡ entry_of now.setup now.world event → new ≡ record { setup = now.setup; world = after now.setup now.world event } → J' ≡ J ++ e ∷ [] → HasPlayed T J' new
+pub HasPlayed-more : (T : Setup) (J J' : List Entry) (now new : WorldValue) (event : Event) (e : Entry) → HasPlayed T J now → is_enabled now.setup now.world event ≡ true → e ≡ entry_of now.setup now.world event → new ≡ record { setup = now.setup; world = after now.setup now.world event } → J' ≡ J ++ e ∷ [] → HasPlayed T J' new
 HasPlayed-more T J J' now new event e so_far enabled makes is longer =
     let same : e.event ≡ event = ap (λ (x : Entry). x.event) makes ∙ entry_of-event now.setup now.world event in
     let at_now : is_enabled T (world_after T J) event ≡ true = rw so_far.world at enabled in

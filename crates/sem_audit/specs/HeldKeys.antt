@@ -7,18 +7,18 @@ use Rattle.sem_key.specs.CapList.{with_cap}
 use Rattle.sem_msg.specs.declared.entry.Entry.{Entry}
 use Rattle.sem_msg.specs.Setup.{Setup}
 use Rattle.sem_journal.specs.ReportText.{report_text}
-use Rattle.sem_machine.specs.Machine.{World}
+use Rattle.sem_machine.specs.Sides.{Side}
 use Rattle.sem_machine.specs.Schedules.{world_after}
 use Rattle.sem_machine.specs.Journals.{made, cut}
 
--- the capabilities of all kernels, in rising key order
-abbrev pub all_caps : World → List Capability
-all_caps W = in_turn (λ c found. with_cap found c) (flat_map (λ s. s.caps) W.sides) []
+-- the capabilities of all sides, in rising key order
+abbrev pub all_caps : List Side → List Capability
+all_caps ss = in_turn (λ c found. with_cap found c) (flat_map (λ s. s.caps) ss) []
 
--- the keys that the kernels hold with the selectors at which they stand, in rising key order
-abbrev pub held : World → List (KeyName × ℕ)
-held W = map (λ c. (c.key, c.selector)) (all_caps W)
+-- the keys that are held with the selectors at which they stand, in rising key order
+abbrev pub held : List Side → List (KeyName × ℕ)
+held ss = map (λ c. (c.key, c.selector)) (all_caps ss)
 
 -- the text of the report of a journal: with how many keys it made and cut, and what is held after it
 abbrev pub report : Setup → List Entry → List ℕ
-report T J = report_text T J (length (made T J)) (length (cut T J)) (held (world_after T J))
+report T J = report_text T J (length (made T J)) (length (cut T J)) (held (world_after T J).sides)

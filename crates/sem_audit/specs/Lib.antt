@@ -1,3 +1,4 @@
 pub mod HeldKeys
 pub mod Holding
 pub mod Ending
+pub mod Straying

@@ -1,4 +1,4 @@
-ghost use Rattle.std.specs.Prelude.{◌≡◌, length, IfOk};
+ghost use Rattle.std.specs.Prelude.{◌≡◌, length, map, IfOk};
 ghost use Rattle.sem_msg.specs.Audits.{held_pairs};
 ghost use Rattle.sem_machine.specs.Journals.{made as made_lem, cut};
 ghost use Rattle.sem_audit.specs.HeldKeys.{held};
@@ -6,27 +6,27 @@ ghost use Rattle.sem_audit.specs.HeldKeys.{held};
 use crate::cuts::cut_among;
 use crate::holds::held_list;
 use crate::makes::made_keys;
+use sem_kernel::Kernel;
 use sem_key::OutOfMemory;
-use sem_model::World;
 use sem_msg::{Audit, Journal, Setup};
 use std::alloc::Global;
 
-/// The audit of a journal after which the kernels are in that world.
+/// The audit of a journal, and what these kernels hold.
 pub fn audit_of(
     alloc: Global,
     setup: &Setup,
     journal: &Journal,
-    world: &World,
+    kernels: &[Kernel],
 ) -> Result<Audit, OutOfMemory>
     ensures made { IfOk result (λ audit. audit.made ≡ length (made_lem setup.now journal.now.entries)) }
     ensures cut { IfOk result (λ audit. audit.cut ≡ length (cut setup.now journal.now.entries)) }
-    ensures held { IfOk result (λ audit. held_pairs audit.held ≡ held world.now.world) }
+    ensures held { IfOk result (λ audit. held_pairs audit.held ≡ held (map (λ k. k.side) kernels.now)) }
 {
     let made = made_keys(alloc, setup, journal)?;
     let cut = cut_among(alloc, &made, journal)?;
     Ok(Audit {
         made: made.len() as u64,
         cut: cut.as_slice().len() as u64,
-        held: held_list(alloc, world)?,
+        held: held_list(alloc, kernels)?,
     })
 }

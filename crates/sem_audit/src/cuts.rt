@@ -74,7 +74,7 @@ fn add_children(keys: &mut Keys, granted: &[(Key, Key)], parent: Key) -> Result<
 }
 
 // Appends the grant of the entry, if there is one.
-fn push_grant(granted: &mut Vec<(Key, Key)>, entry: &Entry) -> Result<(), OutOfMemory>
+pub fn push_grant(granted: &mut Vec<(Key, Key)>, entry: &Entry) -> Result<(), OutOfMemory>
     ensures { OnOk result (granted.new.items ≡ granted.old.items ++ option_to_list entry.now.grant) }
 {
     if let Some(grant) = entry.grant {

@@ -9,6 +9,7 @@ mod makes;
 #[cfg(test)]
 mod replay_tests;
 mod replays;
+mod strays;
 #[cfg(test)]
 mod tests;
 
@@ -17,3 +18,4 @@ pub use cuts::cut_keys;
 pub use holds::held_list;
 pub use makes::made_keys;
 pub use replays::audit;
+pub use strays::{answered, stray};

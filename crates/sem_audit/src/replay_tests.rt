@@ -1,23 +1,21 @@
 ghost use Rattle.std.specs.Prelude.{IfOk};
 ghost use Rattle.sem_machine.specs.Schedules.{IsSchedule};
-ghost use Rattle.sem_model.specs.Built.{IsBuilt};
 
 use crate::audit;
-use crate::tests::one_vpe;
-use sem_model::{boot, step};
+use crate::tests::{ONE_VPE, setup_of};
+use sem_kernel::World;
 use sem_msg::{Act, Audit, Event, Journal, Setup};
 use std::alloc::Global;
 use std::test::Fail;
 
 // The journal of these events.
 fn played(alloc: Global, setup: &Setup, events: &[Event]) -> Result<Journal, Fail>
-    requires { IsBuilt setup.now }
     ensures { IfOk result (λ journal. IsSchedule setup.now journal.entries) }
 {
-    let mut world = boot(alloc, setup)?;
+    let mut world = World::boot(alloc, setup)?;
     let mut journal = Journal::new(alloc);
     for event in events {
-        let Ok(entry) = step(alloc, &mut world, *event) else {
+        let Ok(entry) = world.step(*event) else {
             return Err(Fail::from("no step"));
         };
         journal.room(1)?;
@@ -28,7 +26,7 @@ fn played(alloc: Global, setup: &Setup, events: &[Event]) -> Result<Journal, Fai
 
 // The audit of the journal of these acts.
 fn audited(alloc: Global, acts: &[Event]) -> Result<Audit, Fail> {
-    let setup = one_vpe(alloc)?;
+    let setup = setup_of(alloc, ONE_VPE)?;
     let journal = played(alloc, &setup, acts)?;
     Ok(audit(alloc, &setup, &journal)?)
 }

@@ -3,49 +3,46 @@ ghost use Rattle.sem_msg.specs.Audits.{held_pairs};
 ghost use Rattle.sem_machine.specs.Journals.{made, cut};
 ghost use Rattle.sem_machine.specs.Machine.{is_enabled, after};
 ghost use Rattle.sem_machine.specs.Schedules.{IsSchedule, world_after};
-ghost use Rattle.sem_model.specs.Built.{IsBuilt};
 ghost use Rattle.sem_audit.specs.HeldKeys.{held};
 
 use crate::audits::audit_of;
+use sem_kernel::{StepError, World};
 use sem_key::OutOfMemory;
-use sem_model::{StepError, World, boot, step};
 use sem_msg::{Audit, Event, Journal, Setup};
 use std::alloc::Global;
 
 /// The audit of a journal that the machine can make: it goes through the events once more.
 pub fn audit(alloc: Global, setup: &Setup, journal: &Journal) -> Result<Audit, OutOfMemory>
-    requires built { IsBuilt setup.now }
-    requires schedule { IsSchedule setup.now journal.now.entries }
+    requires { IsSchedule setup.now journal.now.entries }
     ensures made { IfOk result (λ audit. audit.made ≡ length (made setup.now journal.now.entries)) }
     ensures cut { IfOk result (λ audit. audit.cut ≡ length (cut setup.now journal.now.entries)) }
-    ensures held { IfOk result (λ audit. held_pairs audit.held ≡ held (world_after setup.now journal.now.entries)) }
+    ensures held { IfOk result (λ audit. held_pairs audit.held ≡ held (world_after setup.now journal.now.entries).sides) }
 {
     let world = replayed(alloc, setup, journal)?;
-    audit_of(alloc, setup, journal, &world)
+    audit_of(alloc, setup, journal, world.kernels())
 }
 
 // The world after the events of the journal.
 fn replayed(alloc: Global, setup: &Setup, journal: &Journal) -> Result<World, OutOfMemory>
-    requires built { IsBuilt setup.now }
-    requires schedule { IsSchedule setup.now journal.now.entries }
+    requires { IsSchedule setup.now journal.now.entries }
     ensures { IfOk result (λ world. world ≡ record { setup = setup.now; world = world_after setup.now journal.now.entries }) }
 {
-    let mut world = boot(alloc, setup)?;
+    let mut world = World::boot(alloc, setup)?;
     for at in 0..journal.len() {
         let Some(entry) = journal.get(at) else {
             unreachable!()
         };
-        go_on(alloc, &mut world, entry.event)?;
+        go_on(&mut world, entry.event)?;
     }
     Ok(world)
 }
 
 // Takes the step of an event that is enabled.
-fn go_on(alloc: Global, world: &mut World, event: Event) -> Result<(), OutOfMemory>
+fn go_on(world: &mut World, event: Event) -> Result<(), OutOfMemory>
     requires { is_enabled world.old.setup world.old.world event ≡ true }
     ensures { OnOk result (world.new ≡ record { setup = world.old.setup; world = after world.old.setup world.old.world event }) }
 {
-    match step(alloc, world, event) {
+    match world.step(event) {
         Ok(_) => Ok(()),
         Err(StepError::Memory) => Err(OutOfMemory),
         Err(StepError::NotEnabled) => unreachable!(),

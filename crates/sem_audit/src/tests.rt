@@ -1,14 +1,8 @@
-ghost use Rattle.std.specs.Prelude.{IfOk};
-ghost use Rattle.sem_model.specs.Built.{IsBuilt};
-
-use crate::holds::found_held;
-use crate::{audit_of, cut_keys, held_list, made_keys};
-use sem_key::{Key, Kind, Membership, Object};
-use sem_model::{Capability, Side, boot};
-use sem_msg::{
-    Act, Audit, Call, Calls, Denies, Detail, Entry, Event, Held, HeldList, Journal, Kills, Offers,
-    Reply, Root, Roots, Services, Setup, VpeDecl, Vpes0,
-};
+use crate::{answered, audit_of, cut_keys, held_list, made_keys, stray};
+use sem_kernel::boot_kernels;
+use sem_key::{Key, Kind};
+use sem_msg::{Act, Audit, Call, Detail, Entry, Event, Held, HeldList, Journal, Reply, Setup};
+use sem_reader::read_trace;
 use std::alloc::Global;
 use std::process::Abort;
 use std::test::Fail;
@@ -38,47 +32,19 @@ const OTHER: Key = Key {
 };
 
 // One kernel, and one VPE with memory that it derives from and then revokes.
-pub fn one_vpe(alloc: Global) -> Result<Setup, Fail>
-    ensures { IfOk result IsBuilt }
-{
-    let mut owners = Membership::empty(1);
-    owners.set(0, 0)?;
-    let mut roots = Roots::new(alloc);
-    roots.push(Root {
-        sel: 0,
-        object: Object::Mem {
-            base: 0,
-            len: 4096,
-            rights: 7,
-        },
-    })?;
-    let mut calls = Calls::new(alloc);
-    calls.push(Call::Derive {
-        src: 0,
-        dst: 1,
-        off: 0,
-        len: 1024,
-        rights: 1,
-    })?;
-    calls.push(Call::Revoke { src: 0 })?;
-    let mut vpes = Vpes0::new(alloc);
-    vpes.push(VpeDecl {
-        vpe: 0,
-        pe: 0,
-        roots,
-        calls,
-    })?;
-    Ok(Setup {
-        version: 1,
-        window: 4,
-        kernels: 1,
-        owners,
-        vpes,
-        services: Services::new(alloc),
-        offers: Offers::new(alloc),
-        denies: Denies::new(alloc),
-        kills: Kills::new(alloc),
-    })
+pub const ONE_VPE: &str =
+    "semper trace 1\nkernels 1\npe 0 0\nvpe 0 0\nroot 0 0 mem 0 4096 7\ncall 0 derive 0 1 0 1024 1\ncall 0 revoke 0\nend\n";
+
+// Two kernels, each with a VPE that has memory; the first kernel has the VPE with the greater keys.
+const TWO_KERNELS: &str =
+    "semper trace 1\nkernels 2\npe 0 1\npe 1 0\nvpe 0 0\nvpe 1 1\nroot 0 2 mem 0 4096 7\nroot 1 7 mem 0 4096 7\nend\n";
+
+// The setup that the text stands for.
+pub fn setup_of(alloc: Global, text: &str) -> Result<Setup, Fail> {
+    match read_trace(alloc, text.as_bytes()) {
+        Ok(setup) => Ok(setup),
+        Err(_) => Err(Fail::from("no trace")),
+    }
 }
 
 // The entry of a call of the VPE that succeeds.
@@ -132,34 +98,6 @@ fn journal_of(alloc: Global, entries: &[Entry]) -> Result<Journal, Fail> {
     Ok(journal)
 }
 
-// A kernel that holds a memory and nothing else.
-fn holder(alloc: Global, key: Key, selector: u8) -> Result<Side, Fail> {
-    let mut caps = Vec::new(alloc);
-    caps.push(Capability {
-        key,
-        parent: None,
-        children: Vec::new(alloc),
-        mark: None,
-        selector,
-        object: Object::Mem {
-            base: 0,
-            len: 4096,
-            rights: 7,
-        },
-    })?;
-    Ok(Side {
-        caps,
-        vpes: Vec::new(alloc),
-        endpoints: Vec::new(alloc),
-        parks: Vec::new(alloc),
-        pendings: Vec::new(alloc),
-        jobs: Vec::new(alloc),
-        next_job: 0,
-        inbox: None,
-        outs: Vec::new(alloc),
-    })
-}
-
 // The made keys of a journal are these.
 fn expect_made(
     rt: &impl Abort,
@@ -167,7 +105,7 @@ fn expect_made(
     entries: &[Entry],
     keys: &[Key],
 ) -> Result<(), Fail> {
-    let setup = one_vpe(alloc)?;
+    let setup = setup_of(alloc, ONE_VPE)?;
     let journal = journal_of(alloc, entries)?;
     let made = made_keys(alloc, &setup, &journal)?;
     assert_eq!(rt; made.as_slice(), keys);
@@ -176,38 +114,26 @@ fn expect_made(
 
 // The cut of a journal is these keys.
 fn expect_cut(rt: &impl Abort, alloc: Global, entries: &[Entry], keys: &[Key]) -> Result<(), Fail> {
-    let setup = one_vpe(alloc)?;
+    let setup = setup_of(alloc, ONE_VPE)?;
     let journal = journal_of(alloc, entries)?;
     let cut = cut_keys(alloc, &setup, &journal)?;
     assert_eq!(rt; cut.as_slice(), keys);
     Ok(())
 }
 
-// This is held by these kernels.
-fn expect_held(
-    rt: &impl Abort,
-    alloc: Global,
-    sides: &[Side],
-    expected: &[Held],
-) -> Result<(), Fail> {
-    let held = found_held(alloc, sides)?;
-    assert_eq!(rt; held.as_slice(), expected);
-    Ok(())
-}
-
 // What is held at the start.
-fn held_at_start(alloc: Global) -> Result<HeldList, Fail> {
-    let setup = one_vpe(alloc)?;
-    let world = boot(alloc, &setup)?;
-    Ok(held_list(alloc, &world)?)
+fn held_at_start(alloc: Global, text: &str) -> Result<HeldList, Fail> {
+    let setup = setup_of(alloc, text)?;
+    let kernels = boot_kernels(alloc, &setup)?;
+    Ok(held_list(alloc, &kernels)?)
 }
 
-// The audit of a journal, with the world at the start.
+// The audit of a journal, with the kernels at the start.
 fn audited(alloc: Global, entries: &[Entry]) -> Result<Audit, Fail> {
-    let setup = one_vpe(alloc)?;
+    let setup = setup_of(alloc, ONE_VPE)?;
     let journal = journal_of(alloc, entries)?;
-    let world = boot(alloc, &setup)?;
-    Ok(audit_of(alloc, &setup, &journal, &world)?)
+    let kernels = boot_kernels(alloc, &setup)?;
+    Ok(audit_of(alloc, &setup, &journal, &kernels)?)
 }
 
 #[test]
@@ -240,12 +166,11 @@ fn only_the_root_of_a_revoke_is_cut(rt: HostRuntime) -> Result<(), Fail> {
 
 #[test]
 fn what_all_kernels_hold_is_listed_in_rising_key_order(rt: HostRuntime) -> Result<(), Fail> {
-    let mut sides = Vec::new(rt.alloc());
-    sides.push(holder(rt.alloc(), OTHER, 7)?)?;
-    sides.push(holder(rt.alloc(), CHILD, 1)?)?;
-    let child = Held { key: CHILD, sel: 1 };
+    let held = held_at_start(rt.alloc(), TWO_KERNELS)?;
+    let root = Held { key: ROOT, sel: 2 };
     let other = Held { key: OTHER, sel: 7 };
-    expect_held(&rt, rt.alloc(), &sides, &[child, other])
+    assert_eq!(rt; held.as_slice(), [root, other].as_slice());
+    Ok(())
 }
 
 #[test]
@@ -260,8 +185,20 @@ fn an_audit_counts_the_made_and_the_cut_and_lists_the_held(rt: HostRuntime) -> R
 }
 
 #[test]
-fn a_root_is_held_at_its_selector(rt: HostRuntime) -> Result<(), Fail> {
-    let held = held_at_start(rt.alloc())?;
-    assert_eq!(rt; held.as_slice(), [Held { key: ROOT, sel: 0 }].as_slice());
+fn what_a_revoke_cut_off_is_stray_as_long_as_it_is_held(rt: HostRuntime) -> Result<(), Fail> {
+    let setup = setup_of(rt.alloc(), ONE_VPE)?;
+    let kernels = boot_kernels(rt.alloc(), &setup)?;
+    for (entries, replies, strays) in [
+        (&[][..], 0, 0),
+        // The child of the grant is not held at the start.
+        (&[derived()][..], 1, 1),
+        // Its root was cut off, and is held.
+        (&[derived(), revoked(0, ROOT)][..], 2, 1),
+        (&[derived(), revoked(1, CHILD)][..], 2, 0),
+    ] {
+        let journal = journal_of(rt.alloc(), entries)?;
+        assert_eq!(rt; answered(&journal), replies);
+        assert_eq!(rt; stray(rt.alloc(), &setup, &journal, &kernels)?, strays);
+    }
     Ok(())
 }

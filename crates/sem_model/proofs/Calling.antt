@@ -1,4 +1,4 @@
--- What the code needs to know of the kernel of a built setup when its VPE makes a call, and what it has done then.
+-- What the code needs to know of the kernel of a small setup when its VPE makes a call, and what it has done then.
 use Rattle.std.proofs.Common.{◌≡◌, ℕ, ◌+◌, ◌<◌, ◌≤◌, true, length, get_or, set, Some, None, refl, sym, ◌∙◌, ap, subst, arith, eq-eqb, is_none, is_some, ◌&&◌}
 use Rattle.std.specs.Prelude.{◌==◌, ◌≢◌}
 use Rattle.std.specs.List.{All, sum_by}
@@ -23,20 +23,20 @@ use Rattle.sem_machine.specs.Machine.{event, next_call, is_locally_enabled, loca
 use Rattle.sem_machine.specs.Sides.{Side, row, parked, is_alive, call_counted}
 use Rattle.sem_key.proofs.Puts.{put-set}
 use Rattle.sem_model.specs.Alone.{IsAlone}
-use Rattle.sem_model.specs.Built.{IsBuilt, IsBuiltCall}
-use Rattle.sem_model.specs.BuiltWorld.{IsBuiltSide, IsCounted, IsOwnCap}
-use Rattle.sem_model.proofs.BuiltActs.{kept-side, side-kept, placed-only, next-within, CanCall, can_call, call-step, call-counted, ready-code}
-use Rattle.sem_model.proofs.BuiltSides.{IsKept, alone-kept}
+use Rattle.sem_model.specs.Small.{IsSmall, IsSmallCall}
+use Rattle.sem_model.specs.SmallWorld.{IsSmallSide, IsCounted, IsOwnCap}
+use Rattle.sem_model.proofs.SmallActs.{kept-side, side-kept, placed-only, next-within, CanCall, can_call, call-step, call-counted, ready-code}
+use Rattle.sem_model.proofs.SmallSides.{IsKept, alone-kept}
 use Rattle.sem_model.proofs.CalmRows.{state-ready}
 use Rattle.sem_model.proofs.Children.{row-read}
 use Rattle.sem_model.proofs.OneVpe.{IsOnly, only-vpe, only-declared, only-is_declared, only-all}
 
-module _ (T : Setup) (v : ℕ) (s : Side) (built : IsBuilt T) (is : IsBuiltSide T s) (own : kernel_of T v ≡ 0) where
+module _ (T : Setup) (v : ℕ) (s : Side) (small : IsSmall T) (is : IsSmallSide T s) (own : kernel_of T v ≡ 0) where
   abbrev d : VpeDecl
-  d = (only-vpe T v built (eq-eqb (kernel_of T v) 0 own)).0
+  d = (only-vpe T v small (eq-eqb (kernel_of T v) 0 own)).0
 
   only : IsOnly T v d
-  only = (only-vpe T v built (eq-eqb (kernel_of T v) 0 own)).1
+  only = (only-vpe T v small (eq-eqb (kernel_of T v) 0 own)).1
 
   kept : IsKept T v (row s v).next_call (parked s v) s
   kept = kept-side T v d only s is
@@ -93,9 +93,9 @@ unfolding call_row
 call_row-revoke T i s v src = refl
 
 -- Where the VPE can make a call, what is so before and after it is counted.
-module _ (T : Setup) (v : ℕ) (s : Side) (valid : IsSetup T) (built : IsBuilt T) (is : IsBuiltSide T s) (test : is_locally_enabled T 0 s (Calls v) ≡ true) where
-  can : CanCall T v s valid built is
-  can = can_call T v s valid built is test
+module _ (T : Setup) (v : ℕ) (s : Side) (valid : IsSetup T) (small : IsSmall T) (is : IsSmallSide T s) (test : is_locally_enabled T 0 s (Calls v) ≡ true) where
+  can : CanCall T v s valid small is
+  can = can_call T v s valid small is test
 
   pub call-own : kernel_of T v ≡ 0
   unfolding is_locally_enabled
@@ -105,23 +105,23 @@ module _ (T : Setup) (v : ℕ) (s : Side) (valid : IsSetup T) (built : IsBuilt T
   pub call-next : next_call T s v ≢ None
   call-next none = cc (can.has.next)
 
-  pub call-built : (call : Call) → next_call T s v ≡ Some call → IsBuiltCall call
-  call-built call next = subst IsBuiltCall (same_Some can.call call (sym can.has.next ∙ next)) can.has.built
+  pub call-small : (call : Call) → next_call T s v ≡ Some call → IsSmallCall call
+  call-small call next = subst IsSmallCall (same_Some can.call call (sym can.has.next ∙ next)) can.has.small
 
   pub call-step_is : (call : Call) → next_call T s v ≡ Some call → local_step T 0 s (Calls v) None ≡ call_row T 0 (call_counted v s) v call
-  call-step_is call next = call-step T v s valid built is can ∙ ap (call_row T 0 (call_counted v s) v) (same_Some can.call call (sym can.has.next ∙ next))
+  call-step_is call next = call-step T v s valid small is can ∙ ap (call_row T 0 (call_counted v s) v) (same_Some can.call call (sym can.has.next ∙ next))
 
   counted : IsKept T v ((row s v).next_call + 1) None (call_counted v s)
-  counted = call-counted T v s valid built is can
+  counted = call-counted T v s valid small is can
 
-  pub counted-side : IsBuiltSide T (call_counted v s)
+  pub counted-side : IsSmallSide T (call_counted v s)
   counted-side = side-kept T v can.decl can.only ((row s v).next_call + 1) None (call_counted v s) (omega (arith, next-within T v can.decl can.only s can.call can.has.next)) counted
 
   pub counted-jobs : s.next_job < (row (call_counted v s) v).next_call
   counted-jobs = omega (arith, counted.rows.calls, (kept-side T v can.decl can.only s is).jobs)
 
 -- Where a parked call of the VPE can go on.
-module _ (T : Setup) (v : ℕ) (s : Side) (built : IsBuilt T) (is : IsBuiltSide T s) (test : is_locally_enabled T 0 s (Resume v) ≡ true) where
+module _ (T : Setup) (v : ℕ) (s : Side) (small : IsSmall T) (is : IsSmallSide T s) (test : is_locally_enabled T 0 s (Resume v) ≡ true) where
   pub resume-own : kernel_of T v ≡ 0
   unfolding is_locally_enabled
   resume-own = eqb-true (kernel_of T v) 0 (and_parts (kernel_of T v == 0) (can_resume (parked s v)) test).0

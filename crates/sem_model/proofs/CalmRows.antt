@@ -1,4 +1,4 @@
--- The rows of VPEs of which one makes calls, and what the calls of a built setup write of them.
+-- The rows of VPEs of which one makes calls, and what the calls of a small setup write of them.
 use Rattle.std.proofs.Common.{◌≡◌, ℕ, zero, suc, ◌≤◌, List, [], ◌∷◌, length, Option, None, refl, sym, subst, inl, inr, arith}
 use Rattle.std.specs.List.{All}
 use Rattle.std.proofs.lemmas.Bool.{cases_eq}
@@ -12,7 +12,7 @@ use Rattle.sem_msg.specs.declared.state.Parked.{Parked}
 use Rattle.sem_msg.specs.Rows.{VpeRow, no_vpe}
 use Rattle.sem_msg.specs.VpeRows.{row as row_of, freed as slot_freed}
 use Rattle.sem_key.proofs.Puts.{get_or-put_same, get_or-put_other}
-use Rattle.sem_model.specs.BuiltWorld.{IsCalm, IsReadyAtMost}
+use Rattle.sem_model.specs.SmallWorld.{IsCalm, IsReadyAtMost}
 use Rattle.sem_model.specs.Revoking.{slots_freed}
 use Rattle.sem_model.proofs.AloneBegun.{All-put, All-read}
 

@@ -1,4 +1,4 @@
--- A built setup has at most one VPE: what is so of one that its kernel has.
+-- A small setup has at most one VPE: what is so of one that its kernel has.
 use Rattle.std.proofs.Common.{◌≡◌, ℕ, ◌≤◌, true, eqb, List, [], ◌∷◌, length, Option, Some, None, refl, sym, ◌∙◌, ap, subst, arith, inl, inr, eq-eqb}
 use Rattle.std.specs.List.{All, Contains}
 use Rattle.std.specs.Option.{option_map_or}
@@ -8,7 +8,7 @@ use Rattle.sem_msg.specs.declared.setup.VpeDecl.{VpeDecl}
 use Rattle.sem_msg.specs.Setup.{Setup}
 use Rattle.sem_msg.specs.Lookups.{decl, pe_owner, pe_of, kernel_of, calls_of, is_declared}
 use Rattle.sem_key.proofs.Members.{found, list_any-some, Contains-head, Contains-cons_cases, Contains-nil}
-use Rattle.sem_model.specs.Built.{IsBuilt}
+use Rattle.sem_model.specs.Small.{IsSmall}
 
 -- VPE v is the only one, it is declared so, and the one kernel owns its PE
 pub record IsOnly (T : Setup) (v : ℕ) (d : VpeDecl) : Type 0 where
@@ -27,14 +27,14 @@ single (y ∷ []) x few within = elim (Contains-cons_cases y [] x within) [
 single (y ∷ z ∷ zs) x few within = absurd (omega arith)
 
 -- a VPE of the kernel is the only one
-pub only-vpe : (T : Setup) (v : ℕ) → IsBuilt T → eqb (kernel_of T v) 0 ≡ true → (d : VpeDecl) × IsOnly T v d
-only-vpe T v built own = from (decl T v) refl (eqb-true (kernel_of T v) 0 own)
+pub only-vpe : (T : Setup) (v : ℕ) → IsSmall T → eqb (kernel_of T v) 0 ≡ true → (d : VpeDecl) × IsOnly T v d
+only-vpe T v small own = from (decl T v) refl (eqb-true (kernel_of T v) 0 own)
   where
     from : (o : Option VpeDecl) → decl T v ≡ o → option_map_or (λ d. pe_owner T d.pe) o T.kernels ≡ 0 → (d : VpeDecl) × IsOnly T v d
-    from None none at_end = absurd (omega (arith, built.one_kernel))
+    from None none at_end = absurd (omega (arith, small.one_kernel))
     from (Some d) some at_0 =
         let there = found (λ d. eqb d.vpe v) T.vpes d some in
-        (d, record { vpes = single T.vpes d built.one_vpe there.0; number = eqb-true d.vpe v there.1; declaration = some; owner = at_0 })
+        (d, record { vpes = single T.vpes d small.one_vpe there.0; number = eqb-true d.vpe v there.1; declaration = some; owner = at_0 })
 
 module _ (T : Setup) (v : ℕ) (d : VpeDecl) (only : IsOnly T v d) where
   -- no other is declared

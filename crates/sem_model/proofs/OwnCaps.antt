@@ -12,7 +12,7 @@ use Rattle.sem_key.specs.CapList.{with_cap}
 use Rattle.sem_msg.specs.Setup.{Setup}
 use Rattle.sem_msg.specs.Lookups.{is_declared, is_local}
 use Rattle.sem_msg.specs.declared.limits.TheConstants.{SELECTORS}
-use Rattle.sem_model.specs.BuiltWorld.{IsOwnCap}
+use Rattle.sem_model.specs.SmallWorld.{IsOwnCap}
 use Rattle.sem_model.specs.Revoking.{child_left, caps_left}
 use Rattle.sem_model.proofs.AloneLists.{All-with_key}
 use Rattle.sem_model.proofs.Children.{child_cap, caps_with_child}

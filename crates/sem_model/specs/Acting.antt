@@ -1,4 +1,4 @@
--- What the kernel of a built setup can do ("What is built" in docs/machine.md).
+-- What the kernel of a small setup can do ("Small setups" in docs/proof.md).
 use Rattle.std.specs.Prelude.{ℕ, Bool, false}
 use Rattle.std.specs.Option.{option_map_or}
 use Rattle.sem_msg.specs.declared.event.Act.{Act}

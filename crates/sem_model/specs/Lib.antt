@@ -1,8 +1,7 @@
 pub mod Acting
 pub mod Alone
-pub mod Built
-pub mod BuiltWorld
+pub mod Small
+pub mod SmallWorld
 pub mod ModelWorld
-pub mod RegionTests
 pub mod Revoking
 pub mod Sample

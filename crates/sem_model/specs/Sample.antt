@@ -1,4 +1,4 @@
--- A schedule of a setup that can be run: two derives, one below the other, a revoke of the first, and its answer. The laws of safety speak of it.
+-- A schedule of a small setup: two derives, one below the other, a revoke of the first, and its answer. The laws of safety speak of it.
 use Rattle.std.specs.Prelude.{ℕ, List, [], ◌∷◌, Option, Some, None, replicate}
 use Rattle.std.specs.List.{slice_set}
 use Rattle.sem_key.specs.declared.key.Kind.TheVariants.{Mem as MemKind}

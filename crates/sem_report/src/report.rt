@@ -121,5 +121,10 @@ pub fn print_report(
 {
     let mut report = Vec::new(alloc);
     push_report(&mut report, setup, journal, audit)?;
+    // A long text need not be copied where nothing is before it.
+    if out.is_empty() {
+        *out = report;
+        return Ok(());
+    }
     out.extend_from_slice(&report)
 }

@@ -11,11 +11,7 @@ use Rattle.sem_trace.specs.Refusal.{refusal}
 use Rattle.sem_trace.specs.Standing.{Stands, IsWhy}
 use Rattle.sem_trace.specs.declared.fault.TraceError.{TraceError}
 use Rattle.sem_trace.specs.declared.fault.TraceError.TheVariants.{Refused as RefusedText}
-use Rattle.sem_run.specs.declared.responses.Reading.{Reading}
-use Rattle.sem_run.specs.declared.responses.Reading.TheVariants.{Runs, Unbuilt}
-use Rattle.sem_run.specs.Readings.{IsReading}
-use Rattle.sem_model.specs.Built.{IsBuilt}
-use Rattle.sem_run.specs.Ends.{ReadsTrace, IsRefused, IsUnbuilt}
+use Rattle.sem_run.specs.Ends.{Given, ReadsTrace}
 
 -- the first bytes of what was left were read, one more than a trace may have
 abbrev pub IsRead : Option (List ℕ) → List ℕ → Type 0
@@ -39,10 +35,6 @@ same-refusal bytes read is = elim (cases_lt 8388608 (length read)) [
       too-long bytes more ∙ sym (too-long read long)
 ]
 
-pub reads-refused : (left : Option (List ℕ)) (read : List ℕ) (fault : TraceFault) → IsRead left read → refusal read ≡ Some fault → IsRefused left fault
-reads-refused None read fault is refused = tt
-reads-refused (Some bytes) read fault is refused = same-refusal bytes read is ∙ refused
-
 clash : (o : Option TraceFault) (fault : TraceFault) → o ≡ None → o ≡ Some fault → ⊥
 clash o fault none some = absurd cc
 
@@ -53,36 +45,26 @@ short read accepted = elim (cases_lt 8388608 (length read)) [
   | inl long ↦ absurd (clash (refusal read) (record { line = 0; cause = InputTooLong }) accepted (too-long read long))
 ]
 
-pub reads-unbuilt : (left : Option (List ℕ)) (read : List ℕ) (T : Setup) → IsRead left read → Stands read T → (IsBuilt T → ⊥) → IsUnbuilt left
-reads-unbuilt None read T is stands other = tt
-reads-unbuilt (Some bytes) read T is stands other = (T, subst (λ text. Stands text T) (all-read bytes read is (short read stands.accepted)) stands, other)
-
 no-rest : (read rest : List ℕ) → read ≡ take (8388608 + 1) (read ++ rest) → length read ≤ 8388608 → rest ≡ []
 no-rest read [] is few = refl
 no-rest read (b ∷ rest) is few = absurd (omega (arith, few, ap length (all-read (read ++ b ∷ rest) read is few), length-append read (b ∷ rest)))
 
--- where it stands for a setup that can be run, it was read to its end
-pub reads-trace : (left left' : Option (List ℕ)) (read : List ℕ) (T : Setup) → IsRead left read → Takes left left' read → Stands read T → IsSetup T → IsBuilt T → ReadsTrace left left' T
-reads-trace left left' read T is taken stands valid built = record {
-  valid = valid;
-  built = built;
-  text = read;
-  taken = taken;
-  stands = stands;
-  to_end = at_end left' taken is;
-}
-  where
-    at_end : (after : Option (List ℕ)) → Takes left after read → IsRead left read → IfSome after (λ rest. rest ≡ [])
-    at_end None taken is = tt
-    at_end (Some rest) taken is = let all : IsRead (Some (read ++ rest)) read = rw taken at is in no-rest read rest all (short read stands.accepted)
+-- it is refused for what the reader told
+pub reads-refused : (left : Option (List ℕ)) (read given : List ℕ) (fault : TraceFault) (why : TraceError) → IsRead left read → given ≡ read → IsWhy (refusal given) why → why ≡ RefusedText fault → IfSome left (λ bytes. refusal bytes ≡ Some fault)
+reads-refused None read given fault why is same refused told = tt
+reads-refused (Some bytes) read given fault why is same refused told = same-refusal bytes read is ∙ (ap refusal (sym same) ∙ subst (IsWhy (refusal given)) told refused)
 
--- What the reader answered.
-
-pub reading-runs : (left left' : Option (List ℕ)) (read given : List ℕ) (T : Setup) (reading : Reading) → IsRead left read → Takes left left' read → given ≡ read → Stands given T → IsSetup T → IsBuilt T → reading ≡ Runs T → IsReading left left' reading
-reading-runs left left' read given T reading is taken same stands valid built told = subst (IsReading left left') (sym told) (reads-trace left left' read T is taken (subst (λ text. Stands text T) same stands) valid built)
-
-pub reading-unbuilt : (left left' : Option (List ℕ)) (read given : List ℕ) (T : Setup) (reading : Reading) → IsRead left read → given ≡ read → Stands given T → (IsBuilt T → ⊥) → reading ≡ Unbuilt → IsReading left left' reading
-reading-unbuilt left left' read given T reading is same stands other told = subst (IsReading left left') (sym told) (reads-unbuilt left read T is (subst (λ text. Stands text T) same stands) other)
-
-pub reading-faulty : (left : Option (List ℕ)) (read given : List ℕ) (fault : TraceFault) (why : TraceError) → IsRead left read → given ≡ read → IsWhy (refusal given) why → why ≡ RefusedText fault → IsRefused left fault
-reading-faulty left read given fault why is same refused told = reads-refused left read fault is (ap refusal (sym same) ∙ subst (IsWhy (refusal given)) told refused)
+module _ (g : Given) (read : List ℕ) (is : IsRead g.before read) where
+  -- where it stands for a setup, it was read to its end
+  pub reads-trace : (T : Setup) → Takes g.before g.after read → Stands read T → IsSetup T → ReadsTrace g T
+  reads-trace T taken stands valid = record {
+    valid = valid;
+    text = read;
+    taken = taken;
+    stands = stands;
+    to_end = at_end g.before g.after taken is;
+  }
+    where
+      at_end : (left after : Option (List ℕ)) → Takes left after read → IsRead left read → IfSome after (λ rest. rest ≡ [])
+      at_end left None taken first = tt
+      at_end left (Some rest) taken first = let all : IsRead (Some (read ++ rest)) read = rw taken at first in no-rest read rest all (short read stands.accepted)

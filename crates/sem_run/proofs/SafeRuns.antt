@@ -12,11 +12,13 @@ use Rattle.sem_machine.specs.Schedules.{IsRun, IsSchedule}
 use Rattle.sem_machine.specs.Seeded.{drain, entry_limit, picked, generator_of, seeded}
 use Rattle.sem_safety.proofs.SoundWorlds.{all-endpoints}
 use Rattle.sem_safety.proofs.OneLife.{all-lineage, all-sound}
-use Rattle.sem_model.proofs.BuiltSafety.{built-gone, built-nothing_lost}
-use Rattle.sem_run.specs.declared.statuses.Status.{Status}
-use Rattle.sem_run.specs.declared.statuses.Status.TheVariants.{Done, Usage, TraceRefused, ReadFault, WriteFault, Memory, Stuck, Spent, NotBuilt}
-use Rattle.sem_run.specs.Ends.{ReadsTrace, RunsSeeded, IsPartOfRun, IsSafeRun, IsOfRun, WouldEnd}
-use Rattle.sem_run.proofs.Running.{entry_of-event, picked-enabled}
+use Rattle.sem_revoke.proofs.Serving.{all-gone}
+use Rattle.sem_revoke.proofs.Narrowness.{all-narrowing}
+use Rattle.sem_model.proofs.SmallSafety.{small-nothing_lost}
+use Rattle.sem_serial.proofs.Running.{entry_of-event, picked-enabled}
+use Rattle.sem_cli.specs.declared.statuses.Status.{Status}
+use Rattle.sem_cli.specs.declared.statuses.Status.TheVariants.{Done, Usage, TraceRefused, ReadFault, WriteFault, Memory, Stuck, Spent, NotBuilt}
+use Rattle.sem_run.specs.Ends.{Given, ReadsTrace, RunsSeeded, IsPartOfRun, IsSafeRun, IsOfRun, WouldEnd}
 
 -- what the words make is a run
 drain-run : (n : ℕ) (T : Setup) (W : World) (g : Lcg) → IsRun T W (drain n T W g)
@@ -33,47 +35,49 @@ drain-run (suc n) T W g = by_pick (picked (pcg32 g).0 (enabled T W)) refl (λ e.
 seeded-schedule : (T : Setup) (seed : ℕ) → IsSchedule T (seeded T seed)
 seeded-schedule T seed = drain-run (entry_limit T - length {A = Entry} []) T (start T) (generator_of seed)
 
--- a schedule of what can be run is safe
-schedule-safe : (before after' : Option (List ℕ)) (J : List Entry) (T : Setup) → ReadsTrace before after' T → IsSchedule T J → IsSafeRun before after' J
-schedule-safe before after' J T trace runs = record {
-  setup = T;
-  trace = trace;
-  schedule = runs;
-  lineage = all-lineage T trace.valid J runs;
-  revoked_is_gone = built-gone T trace.valid trace.built J runs;
-  sound_grants = all-sound T trace.valid J runs;
-  nothing_lost = built-nothing_lost T trace.valid trace.built J runs;
-  sound_endpoints = all-endpoints T trace.valid J runs;
-}
+module _ (g : Given) (J : List Entry) where
+  -- a schedule of the setup that was read is safe
+  schedule-safe : (T : Setup) → ReadsTrace g T → IsSchedule T J → IsSafeRun g J
+  schedule-safe T trace runs = record {
+    setup = T;
+    trace = trace;
+    schedule = runs;
+    lineage = all-lineage T trace.valid J runs;
+    sound_grants = all-sound T trace.valid J runs;
+    sound_endpoints = all-endpoints T trace.valid J runs;
+    revoked_is_gone = all-gone T trace.valid J runs;
+    narrowing = all-narrowing T trace.valid J runs;
+    nothing_lost = λ small. small-nothing_lost T trace.valid small J runs;
+  }
 
-seeded-safe : (words : List (List ℕ)) (before after' : Option (List ℕ)) (J : List Entry) (T : Setup) (seed : ℕ) → RunsSeeded words before after' J T seed → IsSafeRun before after' J
-seeded-safe words before after' J T seed run = schedule-safe before after' J T run.trace (subst (IsSchedule T) (sym run.seeded) (seeded-schedule T seed))
+  seeded-safe : (T : Setup) (seed : ℕ) → RunsSeeded g J T seed → IsSafeRun g J
+  seeded-safe T seed run = schedule-safe T run.trace (subst (IsSchedule T) (sym run.seeded) (seeded-schedule T seed))
 
-part-safe : (before after' : Option (List ℕ)) (J : List Entry) → IsPartOfRun before after' J → J ≢ [] → IsSafeRun before after' J
-part-safe before after' J (inl empty) some = absurd (some empty)
-part-safe before after' J (inr (T, trace, runs)) some = schedule-safe before after' J T trace runs
+  part-safe : IsPartOfRun g J → J ≢ [] → IsSafeRun g J
+  part-safe (inl empty) some = absurd (some empty)
+  part-safe (inr (T, trace, runs)) some = schedule-safe T trace runs
 
-module _ (words : List (List ℕ)) (before after' : Option (List ℕ)) (faults faults' : ℕ) (J : List Entry) (text : List ℕ) where
-  -- a run that would end so left a safe schedule
-  pub would-safe : (status : Status) → WouldEnd words before after' faults faults' J text status → IsOfRun status J → IsSafeRun before after' J
-  would-safe Done ends of_run = seeded-safe words before after' J ends.setup ends.seed ends.run
-  would-safe Usage ends of_run = absurd of_run
-  would-safe TraceRefused ends of_run = absurd of_run
-  would-safe ReadFault ends of_run = absurd of_run
-  would-safe WriteFault ends of_run = absurd ends
-  would-safe Memory ends of_run = part-safe before after' J ends.part of_run
-  would-safe Stuck ends of_run = seeded-safe words before after' J ends.setup ends.seed ends.run
-  would-safe Spent ends of_run = seeded-safe words before after' J ends.setup ends.seed ends.run
-  would-safe NotBuilt ends of_run = absurd of_run
+  module _ (text : List ℕ) where
+    -- a run that would end so left a safe schedule
+    pub would-safe : (status : Status) → WouldEnd g J text status → IsOfRun status J → IsSafeRun g J
+    would-safe Done ends of_run = seeded-safe ends.setup ends.seed ends.run
+    would-safe Usage ends of_run = absurd of_run
+    would-safe TraceRefused ends of_run = absurd of_run
+    would-safe ReadFault ends of_run = absurd of_run
+    would-safe WriteFault ends of_run = absurd ends
+    would-safe Memory ends of_run = part-safe ends.part of_run
+    would-safe Stuck ends of_run = seeded-safe ends.setup ends.seed ends.run
+    would-safe Spent ends of_run = seeded-safe ends.setup ends.seed ends.run
+    would-safe NotBuilt ends of_run = absurd of_run
 
-  -- and so did one whose text could not be written
-  pub unwritten-safe : (status : Status) → WouldEnd words before after' faults faults' J text status → J ≢ [] → IsSafeRun before after' J
-  unwritten-safe Done ends some = would-safe Done ends tt
-  unwritten-safe Usage ends some = absurd (some ends.no_journal)
-  unwritten-safe TraceRefused ends some = absurd (some ends.no_journal)
-  unwritten-safe ReadFault ends some = absurd (some ends.no_journal)
-  unwritten-safe WriteFault ends some = absurd ends
-  unwritten-safe Memory ends some = would-safe Memory ends some
-  unwritten-safe Stuck ends some = would-safe Stuck ends tt
-  unwritten-safe Spent ends some = would-safe Spent ends tt
-  unwritten-safe NotBuilt ends some = absurd (some ends.no_journal)
+    -- and so did one whose text could not be written
+    pub unwritten-safe : (status : Status) → WouldEnd g J text status → J ≢ [] → IsSafeRun g J
+    unwritten-safe Done ends some = would-safe Done ends tt
+    unwritten-safe Usage ends some = absurd (some ends.no_journal)
+    unwritten-safe TraceRefused ends some = absurd (some ends.no_journal)
+    unwritten-safe ReadFault ends some = absurd (some ends.no_journal)
+    unwritten-safe WriteFault ends some = absurd ends
+    unwritten-safe Memory ends some = would-safe Memory ends some
+    unwritten-safe Stuck ends some = would-safe Stuck ends tt
+    unwritten-safe Spent ends some = would-safe Spent ends tt
+    unwritten-safe NotBuilt ends some = absurd (some ends.no_journal)

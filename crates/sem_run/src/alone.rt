@@ -1,25 +1,25 @@
-ghost use Rattle.std.specs.Prelude.{◌≡◌, ◌≢◌, ◌⊎◌, List, ℕ, false, [], Some, None, map, string_bytes};
+ghost use Rattle.std.specs.Prelude.{◌≡◌, ◌⊎◌, List, ℕ, false, [], Some, None, map, string_bytes};
 ghost use Rattle.sem_msg.specs.Setup.{Setup};
 ghost use Rattle.sem_io.specs.Count.{Rose};
-ghost use Rattle.sem_io.specs.SinkBytes.{Appends};
 ghost use Rattle.sem_trace.specs.declared.fault.TraceFault.{TraceFault};
 ghost use Rattle.sem_trace.specs.Refusal.{refusal};
 ghost use Rattle.sem_trace.specs.Standing.{Stands};
-ghost use Rattle.sem_model.specs.Built.{IsBuilt};
-ghost use Rattle.sem_run.specs.declared.forms.Command.{Command as CommandData};
-ghost use Rattle.sem_run.specs.declared.forms.Command.TheVariants.{Run};
-ghost use Rattle.sem_run.specs.declared.statuses.Status.{Status as StatusData};
-ghost use Rattle.sem_run.specs.Commands.{command_of};
-ghost use Rattle.sem_run.specs.Ends.{is_built, EndsDone, EndsUsage, EndsRefused, EndsNotBuilt, EndsReadFault, EndsMemory, EndsStuck, EndsSpent, IsUnbuilt, IsOfRun, IsSafeRun, WouldEnd, Writes, WritesPrefix};
+ghost use Rattle.sem_cli.specs.declared.forms.Command.{Command as CommandData};
+ghost use Rattle.sem_cli.specs.declared.forms.Command.TheVariants.{Run};
+ghost use Rattle.sem_cli.specs.declared.statuses.Status.{Status as StatusData};
+ghost use Rattle.sem_cli.specs.Commands.{command_of};
+ghost use Rattle.sem_run.specs.Ends.{is_built, EndsDone, EndsUsage, EndsRefused, EndsNotBuilt, EndsReadFault, EndsMemory, EndsStuck, EndsSpent, IsOfRun, IsSafeRun, WouldEnd, Writes, WritesPrefix};
 
 use crate::responses::respond;
-use crate::statuses::Status;
+use sem_cli::Status;
 use sem_io::{Failed, Sink, Source, write_all};
 use sem_msg::Journal;
 use std::alloc::Global;
 
-/// Does what the words ask for: reads the input, writes to the sink, leaves the journal of the run, and waits for nobody.
-/// The status tells how it ended.
+/// Does what the words ask for: reads the input, writes to the sink, leaves the journal of the run,
+/// and waits for nobody. The status tells how it ended.
+///
+/// The journal is empty.
 pub fn semper_alone<S: Source, K: Sink>(
     alloc: Global,
     words: &[String],
@@ -31,35 +31,34 @@ pub fn semper_alone<S: Source, K: Sink>(
 
     // The seeded run: the journal is the seeded one of the trace that was read to its end, it is complete, and its report was
     // written and nothing else.
-    ensures done { result ≡ Status.Done → Writes (K.written out.old) (K.written out.new) (λ text. EndsDone (map string_bytes words.now) (S.left input.old) (S.left input.new) journal.new.entries text) }
+    ensures done { result ≡ Status.Done → Writes (K.written out.old) (K.written out.new) (EndsDone (record { words = map string_bytes words.now; before = S.left input.old; after = S.left input.new; faults_before = S.faults input.old; faults_after = S.faults input.new }) journal.new.entries) }
 
     // Why each other status comes, with the text that was written and the journal.
-    ensures usage { result ≡ Status.Usage → Writes (K.written out.old) (K.written out.new) (λ text. EndsUsage (map string_bytes words.now) journal.new.entries text) }
-    ensures refused { result ≡ Status.TraceRefused → Writes (K.written out.old) (K.written out.new) (λ text. EndsRefused (map string_bytes words.now) (S.left input.old) (S.faults input.old) (S.faults input.new) journal.new.entries text) }
-    ensures not_built { result ≡ Status.NotBuilt → Writes (K.written out.old) (K.written out.new) (λ text. EndsNotBuilt (map string_bytes words.now) (S.left input.old) (S.faults input.old) (S.faults input.new) journal.new.entries text) }
-    ensures read_fault { result ≡ Status.ReadFault → Writes (K.written out.old) (K.written out.new) (λ text. EndsReadFault (map string_bytes words.now) (S.faults input.old) (S.faults input.new) journal.new.entries text) }
-    ensures memory { result ≡ Status.Memory → Writes (K.written out.old) (K.written out.new) (λ text. EndsMemory (S.left input.old) (S.left input.new) journal.new.entries text) }
-    ensures stuck { result ≡ Status.Stuck → Writes (K.written out.old) (K.written out.new) (λ text. EndsStuck (map string_bytes words.now) (S.left input.old) (S.left input.new) journal.new.entries text) }
-    ensures spent { result ≡ Status.Spent → Writes (K.written out.old) (K.written out.new) (λ text. EndsSpent (map string_bytes words.now) (S.left input.old) (S.left input.new) journal.new.entries text) }
+    ensures usage { result ≡ Status.Usage → Writes (K.written out.old) (K.written out.new) (EndsUsage (record { words = map string_bytes words.now; before = S.left input.old; after = S.left input.new; faults_before = S.faults input.old; faults_after = S.faults input.new }) journal.new.entries) }
+    ensures refused { result ≡ Status.TraceRefused → Writes (K.written out.old) (K.written out.new) (EndsRefused (record { words = map string_bytes words.now; before = S.left input.old; after = S.left input.new; faults_before = S.faults input.old; faults_after = S.faults input.new }) journal.new.entries) }
+    ensures not_built { result ≡ Status.NotBuilt → Writes (K.written out.old) (K.written out.new) (EndsNotBuilt (record { words = map string_bytes words.now; before = S.left input.old; after = S.left input.new; faults_before = S.faults input.old; faults_after = S.faults input.new }) journal.new.entries) }
+    ensures read_fault { result ≡ Status.ReadFault → Writes (K.written out.old) (K.written out.new) (EndsReadFault (record { words = map string_bytes words.now; before = S.left input.old; after = S.left input.new; faults_before = S.faults input.old; faults_after = S.faults input.new }) journal.new.entries) }
+    ensures memory { result ≡ Status.Memory → Writes (K.written out.old) (K.written out.new) (EndsMemory (record { words = map string_bytes words.now; before = S.left input.old; after = S.left input.new; faults_before = S.faults input.old; faults_after = S.faults input.new }) journal.new.entries) }
+    ensures stuck { result ≡ Status.Stuck → Writes (K.written out.old) (K.written out.new) (EndsStuck (record { words = map string_bytes words.now; before = S.left input.old; after = S.left input.new; faults_before = S.faults input.old; faults_after = S.faults input.new }) journal.new.entries) }
+    ensures spent { result ≡ Status.Spent → Writes (K.written out.old) (K.written out.new) (EndsSpent (record { words = map string_bytes words.now; before = S.left input.old; after = S.left input.new; faults_before = S.faults input.old; faults_after = S.faults input.new }) journal.new.entries) }
 
     // A write that failed: the journal is as with the status whose text was being written.
     ensures write_fault { result ≡ Status.WriteFault → Rose (K.faults out.old) (K.faults out.new) }
-    ensures prefix { result ≡ Status.WriteFault → (status : StatusData) × WritesPrefix (K.written out.old) (K.written out.new) (λ text. WouldEnd (map string_bytes words.now) (S.left input.old) (S.left input.new) (S.faults input.old) (S.faults input.new) journal.new.entries text status) }
+    ensures prefix { result ≡ Status.WriteFault → (status : StatusData) × WritesPrefix (K.written out.old) (K.written out.new) (λ text. WouldEnd (record { words = map string_bytes words.now; before = S.left input.old; after = S.left input.new; faults_before = S.faults input.old; faults_after = S.faults input.new }) journal.new.entries text status) }
 
     // Safety: what a run leaves, whole or cut short, is a schedule of the trace, and safe.
-    ensures safe { IsOfRun result journal.new.entries → IsSafeRun (S.left input.old) (S.left input.new) journal.new.entries }
+    ensures safe { IsOfRun result journal.new.entries → IsSafeRun (record { words = map string_bytes words.now; before = S.left input.old; after = S.left input.new; faults_before = S.faults input.old; faults_after = S.faults input.new }) journal.new.entries }
 
-    // Exactly: words that are no command, a command that is not built, and a trace that cannot be run yet, are told so, unless
-    // memory was wanting or a count of faults rose. A command that is not built reads nothing.
+    // Exactly: words that are no command, and a command that is not built, are told so, unless memory was wanting or the count of
+    // the sink's faults rose. Neither reads anything.
     ensures usage_exactly { command_of (map string_bytes words.now) ≡ None → (result ≡ Status.Usage) ⊎ ((result ≡ Status.WriteFault) ⊎ (result ≡ Status.Memory)) }
     ensures not_built_exactly { (asked : CommandData) → command_of (map string_bytes words.now) ≡ Some asked → is_built asked ≡ false → (result ≡ Status.NotBuilt) ⊎ ((result ≡ Status.WriteFault) ⊎ (result ≡ Status.Memory)) }
-    ensures unbuilt_exactly { (seed : ℕ) → command_of (map string_bytes words.now) ≡ Some (Run seed) → S.left input.old ≢ None → IsUnbuilt (S.left input.old) → (result ≡ Status.NotBuilt) ⊎ ((result ≡ Status.ReadFault) ⊎ ((result ≡ Status.WriteFault) ⊎ (result ≡ Status.Memory))) }
 
     // What is no trace is refused, at its first bad line with its cause, unless memory was wanting or a count of faults rose.
     ensures refused_exactly { (bytes : List ℕ) (seed : ℕ) (fault : TraceFault) → command_of (map string_bytes words.now) ≡ Some (Run seed) → S.left input.old ≡ Some bytes → refusal bytes ≡ Some fault → (result ≡ Status.TraceRefused) ⊎ ((result ≡ Status.ReadFault) ⊎ ((result ≡ Status.WriteFault) ⊎ (result ≡ Status.Memory))) }
 
-    // A trace that can be run is run, unless memory was wanting or a count of faults rose.
-    ensures runs { (bytes : List ℕ) (T : Setup) (seed : ℕ) → command_of (map string_bytes words.now) ≡ Some (Run seed) → S.left input.old ≡ Some bytes → Stands bytes T → IsBuilt T → (result ≡ Status.Done) ⊎ ((result ≡ Status.Stuck) ⊎ ((result ≡ Status.Spent) ⊎ ((result ≡ Status.ReadFault) ⊎ ((result ≡ Status.WriteFault) ⊎ (result ≡ Status.Memory))))) }
+    // Every trace is run, unless memory was wanting or a count of faults rose.
+    ensures runs { (bytes : List ℕ) (T : Setup) (seed : ℕ) → command_of (map string_bytes words.now) ≡ Some (Run seed) → S.left input.old ≡ Some bytes → Stands bytes T → (result ≡ Status.Done) ⊎ ((result ≡ Status.Stuck) ⊎ ((result ≡ Status.Spent) ⊎ ((result ≡ Status.ReadFault) ⊎ ((result ≡ Status.WriteFault) ⊎ (result ≡ Status.Memory))))) }
 {
     let mut text = Vec::new(alloc);
     let status = respond(alloc, words, input, journal, &mut text);

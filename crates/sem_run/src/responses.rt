@@ -2,28 +2,17 @@ ghost use Rattle.std.specs.Prelude.{◌≡◌, ◌++◌, List, ℕ, [], Some, No
 ghost use Rattle.sem_io.specs.Count.{Rose};
 ghost use Rattle.sem_io.specs.declared.transfer.ReadError.TheVariants.{Fault, Memory as NoMemory};
 ghost use Rattle.sem_machine.specs.Schedules.{IsSchedule};
-ghost use Rattle.sem_model.specs.Built.{IsBuilt};
-ghost use Rattle.sem_audit.specs.HeldKeys.{report};
-ghost use Rattle.sem_run.specs.declared.forms.Command.TheVariants.{Run};
-ghost use Rattle.sem_run.specs.declared.statuses.Status.TheVariants.{ReadFault, Memory};
-ghost use Rattle.sem_run.specs.Commands.{command_of};
+ghost use Rattle.sem_cli.specs.declared.forms.Command.TheVariants.{Run};
+ghost use Rattle.sem_cli.specs.declared.statuses.Status.TheVariants.{ReadFault, Memory};
+ghost use Rattle.sem_cli.specs.Commands.{command_of};
+ghost use Rattle.sem_run.specs.Ends.{IsPartOfRun, EndsReadFault, WouldEnd};
 ghost use Rattle.sem_run.specs.Readings.{IsReading};
-ghost use Rattle.sem_run.specs.Ends.{IsPartOfRun, EndsReadFault, EndsMemory, RunEnds, WouldEnd};
-ghost use Rattle.sem_run.specs.Runs.{run_to};
 
-use crate::built::is_built;
-use crate::commands::command;
-use crate::forms::Command;
-use crate::messages::{not_built, push_refused, push_spent, push_stuck, usage};
-use crate::runs::{RunError, run_seeded};
-use crate::statuses::Status;
-use sem_audit::audit_of;
+use crate::runs::run_setup;
+use sem_cli::{Command, Status, command, not_built, push_refused, usage};
 use sem_io::{ReadError, Source, read_all};
-use sem_key::OutOfMemory;
-use sem_model::World;
 use sem_msg::{Journal, Setup};
 use sem_reader::read_trace;
-use sem_report::print_report;
 use sem_trace::{TraceError, TraceFault};
 use std::alloc::Global;
 
@@ -40,7 +29,7 @@ pub fn respond<S: Source>(
 ) -> Status
     requires journal { journal.old.entries ≡ [] }
     requires text { text.old.items ≡ [] }
-    ensures { WouldEnd (map string_bytes words.now) (S.left input.old) (S.left input.new) (S.faults input.old) (S.faults input.new) journal.new.entries text.new.items result }
+    ensures { WouldEnd (record { words = map string_bytes words.now; before = S.left input.old; after = S.left input.new; faults_before = S.faults input.old; faults_after = S.faults input.new }) journal.new.entries text.new.items result }
 {
     match carry_out(alloc, words, input, journal, text) {
         Ok(status) => status,
@@ -65,9 +54,9 @@ fn carry_out<S: Source>(
 ) -> Result<Status, ReadError>
     requires journal { journal.old.entries ≡ [] }
     requires text { text.old.items ≡ [] }
-    ensures ok { IfOk result (λ status. WouldEnd (map string_bytes words.now) (S.left input.old) (S.left input.new) (S.faults input.old) (S.faults input.new) journal.new.entries text.new.items status) }
-    ensures fault { IsErrOf result ReadError.Fault → EndsReadFault (map string_bytes words.now) (S.faults input.old) (S.faults input.new) journal.new.entries [] }
-    ensures memory { IsErrOf result ReadError.Memory → IsPartOfRun (S.left input.old) (S.left input.new) journal.new.entries }
+    ensures ok { IfOk result (WouldEnd (record { words = map string_bytes words.now; before = S.left input.old; after = S.left input.new; faults_before = S.faults input.old; faults_after = S.faults input.new }) journal.new.entries text.new.items) }
+    ensures fault { IsErrOf result ReadError.Fault → EndsReadFault (record { words = map string_bytes words.now; before = S.left input.old; after = S.left input.new; faults_before = S.faults input.old; faults_after = S.faults input.new }) journal.new.entries [] }
+    ensures memory { IsErrOf result ReadError.Memory → IsPartOfRun (record { words = map string_bytes words.now; before = S.left input.old; after = S.left input.new; faults_before = S.faults input.old; faults_after = S.faults input.new }) journal.new.entries }
 {
     match command(words) {
         None => {
@@ -97,93 +86,41 @@ fn run_trace<S: Source>(
 ) -> Result<Status, ReadError>
     requires journal { journal.old.entries ≡ [] }
     requires text { text.old.items ≡ [] }
-    ensures ok { IfOk result (λ status. (words : List (List ℕ)) → command_of words ≡ Some (Run seed) → WouldEnd words (S.left input.old) (S.left input.new) (S.faults input.old) (S.faults input.new) journal.new.entries text.new.items status) }
+    ensures ok { IfOk result (λ status. (words : List (List ℕ)) → command_of words ≡ Some (Run seed) → WouldEnd (record { words = words; before = S.left input.old; after = S.left input.new; faults_before = S.faults input.old; faults_after = S.faults input.new }) journal.new.entries text.new.items status) }
     ensures fault { IsErrOf result ReadError.Fault → Rose (S.faults input.old) (S.faults input.new) }
     ensures unread { IsErrOf result ReadError.Fault → journal.new.entries ≡ [] }
-    ensures memory { IsErrOf result ReadError.Memory → IsPartOfRun (S.left input.old) (S.left input.new) journal.new.entries }
+    ensures memory { IsErrOf result ReadError.Memory → (words : List (List ℕ)) → IsPartOfRun (record { words = words; before = S.left input.old; after = S.left input.new; faults_before = S.faults input.old; faults_after = S.faults input.new }) journal.new.entries }
 {
     match read_setup(alloc, input)? {
-        Reading::Runs(setup) => Ok(run_setup(alloc, &setup, seed, journal, text)?),
+        Reading::Trace(setup) => Ok(run_setup(alloc, &setup, seed, journal, text)?),
         Reading::Faulty(fault) => {
             push_refused(text, &fault)?;
             Ok(Status::TraceRefused)
         }
-        Reading::Unbuilt => {
-            text.extend_from_slice(not_built())?;
-            Ok(Status::NotBuilt)
-        }
     }
 }
 
-// What an input is: a trace that can be run, no trace, or a trace that cannot be run yet.
+// What an input is: a trace, or none.
 #[derive(Drop)]
 enum Reading {
-    Runs(Setup),
+    Trace(Setup),
     Faulty(TraceFault),
-    Unbuilt,
 }
 
 // What the input is, read to its end or to one byte more than a trace may have.
 fn read_setup<S: Source>(alloc: Global, input: &mut S) -> Result<Reading, ReadError>
-    ensures reads { IfOk result (IsReading (S.left input.old) (S.left input.new)) }
+    ensures reads { IfOk result (λ reading. (words : List (List ℕ)) → IsReading (record { words = words; before = S.left input.old; after = S.left input.new; faults_before = S.faults input.old; faults_after = S.faults input.new }) reading) }
     ensures quiet { OnOk result (S.faults input.new ≡ S.faults input.old) }
     ensures fault { IsErrOf result ReadError.Fault → Rose (S.faults input.old) (S.faults input.new) }
 {
     let bytes = read_all(alloc, input, MOST_BYTES)?;
     match read_trace(alloc, &bytes) {
-        Ok(setup) => Ok(if is_built(&setup) {
-            Reading::Runs(setup)
-        } else {
-            Reading::Unbuilt
-        }),
+        Ok(setup) => {
+            // So that the proof knows what a setup keeps.
+            let _ = &setup.vpes;
+            Ok(Reading::Trace(setup))
+        }
         Err(TraceError::Refused(fault)) => Ok(Reading::Faulty(fault)),
         Err(TraceError::Memory) => Err(ReadError::Memory),
     }
-}
-
-// Runs the setup, and makes the report or the line that tells why the run ended early. After want of memory the text means
-// nothing.
-fn run_setup(
-    alloc: Global,
-    setup: &Setup,
-    seed: u64,
-    journal: &mut Journal,
-    text: &mut Vec<u8>,
-) -> Result<Status, OutOfMemory>
-    requires built { IsBuilt setup.now }
-    requires journal { journal.old.entries ≡ [] }
-    requires text { text.old.items ≡ [] }
-    ensures ok { IfOk result (λ status. RunEnds setup.now seed journal.new.entries text.new.items status) }
-    ensures err { OnErr result (IsSchedule setup.now journal.new.entries) }
-{
-    match run_seeded(alloc, setup, seed, journal) {
-        Ok(world) => {
-            push_report(alloc, setup, journal, &world, text)?;
-            Ok(Status::Done)
-        }
-        Err(RunError::Stuck { vpe }) => {
-            push_stuck(text, vpe)?;
-            Ok(Status::Stuck)
-        }
-        Err(RunError::Spent { entries }) => {
-            push_spent(text, entries)?;
-            Ok(Status::Spent)
-        }
-        Err(RunError::Memory) => Err(OutOfMemory),
-    }
-}
-
-// Appends the report of a journal after which the kernels are in that world.
-fn push_report(
-    alloc: Global,
-    setup: &Setup,
-    journal: &Journal,
-    world: &World,
-    text: &mut Vec<u8>,
-) -> Result<(), OutOfMemory>
-    requires { world.now ≡ run_to setup.now journal.now.entries }
-    ensures { OnOk result (text.new.items ≡ text.old.items ++ report setup.now journal.now.entries) }
-{
-    let audit = audit_of(alloc, setup, journal, world)?;
-    print_report(alloc, setup, journal, &audit, text)
 }

@@ -1,4 +1,5 @@
-use crate::{Status, semper_alone};
+use crate::semper_alone;
+use sem_cli::Status;
 use sem_io::{MemSink, MemSource};
 use sem_msg::Journal;
 use std::alloc::Global;
@@ -137,7 +138,7 @@ fn a_source_that_fails_leaves_nothing_written(rt: HostRuntime) -> Result<(), Fai
 
 #[test]
 fn other_words_get_the_usage(rt: HostRuntime) -> Result<(), Fail> {
-    for line in ["run", "run 01", "gen 0 65 1", ""] {
+    for line in ["run", "run 01", "gen 0 129 1", ""] {
         let answer = answer(rt.alloc(), line, "")?;
         check(&rt, &answer, Status::Usage, USAGE, 0);
     }
@@ -150,13 +151,25 @@ fn what_is_not_built_is_told_so(rt: HostRuntime) -> Result<(), Fail> {
         let answer = answer(rt.alloc(), line, "")?;
         check(&rt, &answer, Status::NotBuilt, "not built\n", 0);
     }
-    for input in [
-        "semper trace 1\nkernels 2\npe 0 0\npe 1 1\nend\n",
-        "semper trace 1\nkernels 1\npe 0 0\nvpe 0 0\ncall 0 exit\nend\n",
-        "semper trace 1\nkernels 1\npe 0 0\nvpe 0 0\nservice 0 0 7\nend\n",
+    Ok(())
+}
+
+#[test]
+fn traces_with_kernels_calls_and_services_are_run(rt: HostRuntime) -> Result<(), Fail> {
+    for (input, entries) in [
+        ("semper trace 1\nkernels 2\npe 0 0\npe 1 1\nend\n", 0),
+        (
+            "semper trace 1\nkernels 1\npe 0 0\nvpe 0 0\ncall 0 exit\nend\n",
+            1,
+        ),
+        (
+            "semper trace 2\nkernels 1\nwindow 1\npe 0 0\nvpe 0 0\nservice 0 0 7\nend\n",
+            0,
+        ),
     ] {
         let answer = answer(rt.alloc(), "run 0", input)?;
-        check(&rt, &answer, Status::NotBuilt, "not built\n", 0);
+        assert_eq!(rt; answer.status, Status::Done);
+        assert_eq!(rt; answer.entries, entries);
     }
     Ok(())
 }

@@ -1,10 +1,11 @@
 //! How the tests ask what is read, refused and run.
 
+use sem_cli::Status;
 use sem_io::{MemSink, MemSource};
 use sem_msg::Journal;
 use sem_reader::read_trace;
 use sem_report::read_report;
-use sem_run::{Status, semper_alone};
+use sem_run::semper_alone;
 use sem_trace::{Cause, TraceError};
 use std::alloc::Global;
 use std::test::Fail;

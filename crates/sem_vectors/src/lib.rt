@@ -27,3 +27,13 @@ mod refused_traces_b;
 mod refused_traces_c;
 #[cfg(test)]
 mod refused_traces_d;
+#[cfg(test)]
+mod whole_runs_a;
+#[cfg(test)]
+mod whole_runs_b;
+#[cfg(test)]
+mod whole_runs_c;
+#[cfg(test)]
+mod whole_runs_d;
+#[cfg(test)]
+mod whole_runs_e;

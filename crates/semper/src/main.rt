@@ -1,9 +1,10 @@
 //! The program: its words, standard input and standard output, and its exit status.
 #![tactic(auto)]
 
+use sem_cli::Status;
 use sem_io::{ReadSource, WriteSink};
 use sem_msg::Journal;
-use sem_run::{Status, semper_alone};
+use sem_run::semper_alone;
 use std::alloc::AllocError as OutOfMemory;
 use std::env;
 use std::io::ErrorKind;

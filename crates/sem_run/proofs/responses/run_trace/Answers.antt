@@ -1,7 +1,24 @@
+use Rattle.std.proofs.Common.{inr, rules}
 use Rattle.sem_run.proofs.Ending.{run_ends}
 use Rattle.sem_run.proofs.responses.run_trace.Goals as goal
 
 -- a run of the setup that was read
-pub returns-in_ok-run_setup-in-Runs-clause-ok : goal.returns-in_ok-run_setup-in-Runs-clause-ok
-returns-in_ok-run_setup-in-Runs-clause-ok g c words is =
-    run_ends words c.args.seed _ _ _ _ _ _ _ _ is (rw c.in-Runs.is at c.in_ok-setup.ensures.reads) c.in_ok-run_setup-in-Runs.ensures.ok
+pub returns-in_ok-run_setup-in-Trace-clause-ok : goal.returns-in_ok-run_setup-in-Trace-clause-ok
+returns-in_ok-run_setup-in-Trace-clause-ok g c words is =
+    run_ends _ c.args.seed _ _ _ _ is (rw c.in-Trace.is at c.in_ok-setup.ensures.reads words) c.in_ok-run_setup-in-Trace.ensures.ok
+
+-- a part of it
+pub returns-in_err-run_setup-in-Trace-clause-memory : goal.returns-in_err-run_setup-in-Trace-clause-memory
+returns-in_err-run_setup-in-Trace-clause-memory g c _ words = inr (c.in-Trace.setup, (rw c.in-Trace.is at c.in_ok-setup.ensures.reads words), c.run_setup.ensures.schedule)
+
+-- what was read is refused
+pub returns-in_ok-push_refused-in-Faulty-clause-ok : goal.returns-in_ok-push_refused-in-Faulty-clause-ok
+returns-in_ok-push_refused-in-Faulty-clause-ok g c words is = record {
+  seed = c.args.seed;
+  command = is;
+  fault = c.in-Faulty.fault;
+  refused = rw c.in-Faulty.is at c.in_ok-setup.ensures.reads words;
+  quiet = c.in_ok-setup.ensures.quiet;
+  no_journal = c.requires.journal;
+  told = search rules;
+}

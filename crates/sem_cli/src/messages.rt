@@ -1,0 +1,86 @@
+ghost use Rattle.std.specs.Prelude.{◌≡◌, ◌++◌, ◌∷◌, [], decimal, OnOk};
+ghost use Rattle.sem_text.specs.Lines.{line};
+ghost use Rattle.sem_cli.specs.Messages.{usage_line, not_built_line, stuck_line, spent_line, cause_name as cause_name_lem, refused_line};
+
+use sem_key::OutOfMemory;
+use sem_text::push_number;
+use sem_trace::{Cause, TraceFault};
+
+/// The line that tells which words are a command.
+pub fn usage() -> &'static [u8]
+    ensures { result.now ≡ usage_line }
+{
+    b"usage: semper run SEED | threads SEED | check | gen SEED VPES CALLS | soak SEED VPES CALLS\n"
+}
+
+/// The line that tells that the command is not built yet.
+pub fn not_built() -> &'static [u8]
+    ensures { result.now ≡ not_built_line }
+{
+    b"not built\n"
+}
+
+/// Appends the line that tells which VPE waits. After want of memory it may have appended a part.
+pub fn push_stuck(out: &mut Vec<u8>, vpe: u16) -> Result<(), OutOfMemory>
+    ensures ok { OnOk result (out.new.items ≡ out.old.items ++ stuck_line vpe) }
+{
+    push_counted(out, b"stuck:", b"vpe", u64::from(vpe))
+}
+
+/// Appends the line that tells how many entries there are. After want of memory it may have appended
+/// a part.
+pub fn push_spent(out: &mut Vec<u8>, entries: u64) -> Result<(), OutOfMemory>
+    ensures ok { OnOk result (out.new.items ≡ out.old.items ++ spent_line entries) }
+{
+    push_counted(out, b"spent:", b"entries", entries)
+}
+
+// Appends the line of two words and a number.
+fn push_counted(
+    out: &mut Vec<u8>,
+    first: &[u8],
+    second: &[u8],
+    count: u64,
+) -> Result<(), OutOfMemory>
+    ensures ok { OnOk result (out.new.items ≡ out.old.items ++ line (first.now ∷ second.now ∷ decimal count ∷ [])) }
+{
+    out.extend_from_slice(first)?;
+    out.push(b' ')?;
+    out.extend_from_slice(second)?;
+    out.push(b' ')?;
+    push_number(out, count)?;
+    out.push(b'\n')?;
+    Ok(())
+}
+
+/// Appends the line that tells which line of a trace is bad, and why. After want of memory it may
+/// have appended a part.
+pub fn push_refused(out: &mut Vec<u8>, fault: &TraceFault) -> Result<(), OutOfMemory>
+    ensures ok { OnOk result (out.new.items ≡ out.old.items ++ refused_line fault.now) }
+{
+    out.extend_from_slice(b"trace refused: line ")?;
+    push_number(out, fault.line)?;
+    out.extend_from_slice(b": ")?;
+    out.extend_from_slice(cause_name(fault.cause))?;
+    out.push(b'\n')?;
+    Ok(())
+}
+
+// The name of a cause.
+fn cause_name(cause: Cause) -> &'static [u8]
+    ensures { result.now ≡ cause_name_lem cause }
+{
+    match cause {
+        Cause::NotText => b"NotText",
+        Cause::UnknownWord => b"UnknownWord",
+        Cause::BadNumber => b"BadNumber",
+        Cause::OutOfRange => b"OutOfRange",
+        Cause::Twice => b"Twice",
+        Cause::Undeclared => b"Undeclared",
+        Cause::Missing => b"Missing",
+        Cause::TooMany => b"TooMany",
+        Cause::LineTooLong => b"LineTooLong",
+        Cause::InputTooLong => b"InputTooLong",
+        Cause::NotCanonical => b"NotCanonical",
+    }
+}

@@ -1,0 +1,44 @@
+ghost use Rattle.std.specs.Prelude.{◌≡◌};
+ghost use Rattle.sem_cli.specs.Statuses.{status_number};
+
+/// How a run of the program ended.
+#[derive(Clone, Copy, Debug, PartialEq, Eq)]
+pub enum Status {
+    /// All that was asked for is done.
+    Done,
+    /// The words are no command.
+    Usage,
+    /// The input is no trace.
+    TraceRefused,
+    /// The input could not be read.
+    ReadFault,
+    /// The output could not be written.
+    WriteFault,
+    /// Memory was refused.
+    Memory,
+    /// The world is quiet, and a living VPE has an unanswered call.
+    Stuck,
+    /// The run has as many entries as it may have, and an event is enabled.
+    Spent,
+    /// The command is not built yet.
+    NotBuilt,
+}
+
+impl Status {
+    /// The exit status of the program.
+    pub fn number(self) -> u8
+        ensures { result ≡ status_number self }
+    {
+        match self {
+            Status::Done => 0,
+            Status::Usage => 1,
+            Status::TraceRefused => 2,
+            Status::ReadFault => 3,
+            Status::WriteFault => 4,
+            Status::Memory => 5,
+            Status::Stuck => 6,
+            Status::Spent => 7,
+            Status::NotBuilt => 10,
+        }
+    }
+}

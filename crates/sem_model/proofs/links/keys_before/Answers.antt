@@ -1,9 +1,0 @@
-use Rattle.std.proofs.Common.{rules, ◌∙◌, ap}
-use Rattle.std.specs.List.{filter}
-use Rattle.std.proofs.lemmas.Fn.{filter_same}
-use Rattle.sem_key.specs.KeyName.{KeyName, key_lt}
-use Rattle.sem_model.proofs.links.keys_before.Goals as goal
-
--- what is kept comes before the key
-pub returns : goal.returns
-returns c = filter_same _ _ _ (λ x b f' k. search rules) _ _ c.retain.ensures.filtered ∙ ap (filter (λ (q : KeyName). key_lt q c.args.key)) (search rules)
