@@ -1,0 +1,80 @@
+ghost use Rattle.std.specs.Prelude.{◌≡◌, ℕ, Option, None, IfOk, IsErrOf};
+ghost use Rattle.sem_msg.specs.declared.entry.Entry.{Entry as EntryData};
+ghost use Rattle.sem_machine.specs.Living.{IsComplete};
+ghost use Rattle.sem_check.specs.Replays.{IsWorldAfter, DiffersAt, next_made, world_value};
+ghost use Rattle.sem_check.specs.Verdicts.{GoesOn, WaitsForever};
+
+use crate::answers::first_unanswered;
+use crate::entries::make_entry;
+use crate::faults::CheckError;
+use crate::follows::follow;
+use sem_kernel::World;
+use sem_key::OutOfMemory;
+use sem_msg::{Entry, Journal, Setup};
+use std::alloc::Global;
+
+/// Whether the journal is a complete schedule of the setup: then the world after it, else the first
+/// thing that is wrong with it.
+pub fn check(alloc: Global, setup: &Setup, journal: &Journal) -> Result<World, CheckError>
+    ensures complete { IfOk result (λ world. IsComplete setup.now journal.now.entries) }
+    ensures world { IfOk result (λ world. world ≡ world_value setup.now journal.now.entries) }
+    ensures differs { (n : ℕ) (entered : EntryData) (replayed : Option EntryData) → IsErrOf result (CheckError.Differs n entered replayed)
+        → DiffersAt setup.now journal.now.entries n entered replayed }
+    ensures incomplete { (n : ℕ) (next : EntryData) → IsErrOf result (CheckError.Incomplete n next) → GoesOn setup.now journal.now.entries n next }
+    ensures stuck { (v : ℕ) → IsErrOf result (CheckError.Stuck v) → WaitsForever setup.now journal.now.entries v }
+{
+    let mut world = World::boot(alloc, setup)?;
+    let entries = journal.as_slice();
+    match follow(&mut world, entries)? {
+        None => judge(alloc, setup, world, entries),
+        Some(difference) => Err(CheckError::Differs {
+            entry: difference.entry as u64,
+            entered: difference.entered,
+            replayed: difference.replayed,
+        }),
+    }
+}
+
+// Whether the entries, which are a schedule with that world after it, are a complete one.
+fn judge(
+    alloc: Global,
+    setup: &Setup,
+    mut world: World,
+    entries: &[Entry],
+) -> Result<World, CheckError>
+    requires { IsWorldAfter setup.now entries.now world }
+    ensures complete { IfOk result (λ last. IsComplete setup.now entries.now) }
+    ensures world { IfOk result (λ last. last ≡ world_value setup.now entries.now) }
+    ensures differs { (n : ℕ) (entered : EntryData) (replayed : Option EntryData) → ¬ IsErrOf result (CheckError.Differs n entered replayed) }
+    ensures incomplete { (n : ℕ) (next : EntryData) → IsErrOf result (CheckError.Incomplete n next) → GoesOn setup.now entries.now n next }
+    ensures stuck { (v : ℕ) → IsErrOf result (CheckError.Stuck v) → WaitsForever setup.now entries.now v }
+{
+    match next_entry(alloc, &mut world) {
+        Ok(None) => {}
+        Ok(Some(next)) => {
+            return Err(CheckError::Incomplete {
+                entry: entries.len() as u64,
+                next,
+            });
+        }
+        Err(OutOfMemory) => return Err(CheckError::Memory),
+    }
+    match first_unanswered(setup, &world, entries) {
+        Some(vpe) => Err(CheckError::Stuck { vpe }),
+        None => Ok(world),
+    }
+}
+
+// The entry that the first of the enabled events makes. Where no event is enabled the world is as
+// before.
+fn next_entry(alloc: Global, world: &mut World) -> Result<Option<Entry>, OutOfMemory>
+    ensures next { IfOk result (λ next. next ≡ next_made world.old.setup world.old.world) }
+    ensures same { IfOk result (λ next. next ≡ None → world.new ≡ world.old) }
+{
+    let mut events = Vec::new(alloc);
+    world.enabled_events(&mut events)?;
+    match events.first() {
+        Some(event) => make_entry(world, *event),
+        None => Ok(None),
+    }
+}

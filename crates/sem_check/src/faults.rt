@@ -1,0 +1,44 @@
+// Why a journal is no complete schedule.
+ghost use Rattle.std.specs.Prelude.{◌≡◌};
+
+use sem_key::OutOfMemory;
+use sem_msg::Entry;
+use thiserror::Error;
+
+/// Why a journal is not known to be a complete schedule.
+#[derive(Clone, Copy, Debug, PartialEq, Eq, Error)]
+pub enum CheckError {
+    /// The first entry, counted from 0, that is not the one that its event makes; and the one that
+    /// it makes, none where the event is not enabled.
+    #[error("entry {entry} is not the one that its event makes")]
+    Differs {
+        entry: u64,
+        entered: Entry,
+        replayed: Option<Entry>,
+    },
+    /// An event is enabled after so many entries, which are all; and the entry that the first such
+    /// event makes.
+    #[error("an event is enabled after {entry} entries")]
+    Incomplete {
+        entry: u64,
+        next: Entry,
+    },
+    /// No event is enabled, and a call of this VPE, which is alive, has no reply; it is the least
+    /// such VPE.
+    #[error("a call of VPE {vpe} has no reply")]
+    Stuck {
+        vpe: u16,
+    },
+    #[error("out of memory")]
+    Memory,
+}
+
+impl From<OutOfMemory> for CheckError {
+    ghost use Rattle.sem_check.specs.declared.faults.CheckError.TheVariants.{Memory};
+
+    ghost from_gives = { λ _ e. e ≡ Memory };
+
+    fn from(_error: OutOfMemory) -> Self {
+        CheckError::Memory
+    }
+}

@@ -1,0 +1,19 @@
+//! Journals held against the machine: whether one is a complete schedule, and how far one is a
+//! schedule.
+#![tactic(auto)]
+
+mod answers;
+mod checks;
+mod entries;
+mod faults;
+mod follows;
+mod laws;
+mod messages;
+mod replays;
+#[cfg(test)]
+mod tests;
+
+pub use checks::check;
+pub use faults::CheckError;
+pub use laws::a_journal_has_one_verdict;
+pub use replays::replay;

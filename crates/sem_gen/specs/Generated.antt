@@ -1,0 +1,86 @@
+-- The setup that a seed generates ("The generator" in docs/machine.md).
+use Rattle.std.specs.Prelude.{ℕ, ◌+◌, ◌*◌, ◌/◌, ◌%◌, ◌==◌, nat_lt, List, [], ◌∷◌, map, Option, Some, None, if◌then◌else◌}
+use Rattle.std.specs.List.{range_with_len}
+use Rattle.rand_pcg.specs.Lcg.{Lcg, advance, started, increment_of}
+use Rattle.rand_pcg.specs.Pcg.{multiplier_64, pcg32}
+use Rattle.sem_key.specs.declared.limits.TheConstants.{PES, RIGHTS}
+use Rattle.sem_key.specs.declared.object.Object.TheVariants.{Mem}
+use Rattle.sem_msg.specs.declared.call.Call.{Call}
+use Rattle.sem_msg.specs.declared.call.Call.TheVariants.{Derive, Obtain, Delegate, Revoke}
+use Rattle.sem_msg.specs.declared.setup.Root.{Root}
+use Rattle.sem_msg.specs.declared.setup.VpeDecl.{VpeDecl}
+use Rattle.sem_msg.specs.Setup.{Setup}
+
+-- the generator of a seed at its start
+abbrev pub generator_of : ℕ → Lcg
+generator_of seed = started 64 multiplier_64 seed (increment_of 64 1)
+
+-- word m of a generator, counted from 0
+unfoldable pub word_at : Lcg → ℕ → ℕ
+word_at g m = (pcg32 (advance 64 multiplier_64 m g)).0
+
+-- word m of a seed, counted from 0
+abbrev pub words_of : ℕ → ℕ → ℕ
+words_of seed m = word_at (generator_of seed) m
+
+-- the selector, 1 to 15, at which a call puts a capability or which it revokes
+abbrev pub target_of : ℕ → ℕ
+target_of x = 1 + (x / 4) % 15
+
+-- the selector, 0 to 15, of the capability that a call derives, obtains or delegates
+abbrev pub source_of : ℕ → ℕ
+source_of x = (x / 256) % 16
+
+-- the other VPE of a call, one of so many
+abbrev pub peer_of : ℕ → ℕ → ℕ
+peer_of vpes x = (x / 65536) % vpes
+
+-- the call that word x stands for, where there are so many VPEs
+abbrev pub call_of : ℕ → ℕ → Call
+call_of vpes x =
+    if x % 4 == 0 then Derive (source_of x) (target_of x) 0 (x / 65536) RIGHTS
+    else if x % 4 == 1 then Obtain (target_of x) (peer_of vpes x) (source_of x)
+    else if x % 4 == 2 then Delegate (source_of x) (peer_of vpes x) (target_of x)
+    else Revoke (target_of x)
+
+-- a VPE holds 65536 bytes of memory of its own, with all rights, at selector 0
+abbrev pub roots_of : ℕ → List Root
+roots_of v = record { sel = 0; object = Mem (v * 65536) 65536 RIGHTS } ∷ []
+
+-- the calls of VPE v, where each has so many: one for each word, after the words of the VPEs before it
+abbrev pub calls_of : ℕ → ℕ → ℕ → ℕ → List Call
+calls_of seed vpes calls v = map (λ m. call_of vpes (words_of seed m)) (range_with_len (v * calls) calls)
+
+-- VPE v runs on PE v
+abbrev pub vpe_of : ℕ → ℕ → ℕ → ℕ → VpeDecl
+vpe_of seed vpes calls v = record { vpe = v; pe = v; roots = roots_of v; calls = calls_of seed vpes calls v }
+
+-- PE p belongs to kernel p mod kernels, where there is a VPE on it
+abbrev pub pe_owner_of : ℕ → ℕ → ℕ → Option ℕ
+pe_owner_of kernels vpes p = if nat_lt p vpes then Some (p % kernels) else None
+
+-- the owners of all PEs
+unfoldable pub owners_of : ℕ → ℕ → List (Option ℕ)
+owners_of kernels vpes = map (pe_owner_of kernels vpes) (range_with_len 0 PES)
+
+-- one kernel for each four VPEs
+abbrev pub kernels_of : ℕ → ℕ
+kernels_of vpes = (vpes + 3) / 4
+
+-- the first version that has room for so many VPEs
+abbrev pub version_of : ℕ → ℕ
+version_of vpes = if nat_lt 64 vpes then 2 else 1
+
+-- the setup of so many VPEs with so many calls each
+unfoldable pub generated : ℕ → ℕ → ℕ → Setup
+generated seed vpes calls = record {
+  version = version_of vpes;
+  window = 4;
+  kernels = kernels_of vpes;
+  owners = record { kernels = kernels_of vpes; owners = owners_of (kernels_of vpes) vpes };
+  vpes = map (vpe_of seed vpes calls) (range_with_len 0 vpes);
+  services = [];
+  offers = [];
+  denies = [];
+  kills = [];
+}
