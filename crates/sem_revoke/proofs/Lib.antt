@@ -46,3 +46,5 @@ pub mod Dying
 pub mod Ways
 pub mod Obtained
 pub mod Consents
+pub mod Delegations
+pub mod DelegationRows

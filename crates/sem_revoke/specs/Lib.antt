@@ -1,3 +1,4 @@
 pub mod Views
 pub mod Scales
+pub mod Delegations
 pub mod Revocation
