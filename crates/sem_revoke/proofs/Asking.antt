@@ -381,7 +381,7 @@ module _ (T : Setup) (valid : IsSetup T) (J : List Entry) (runs : IsSchedule T J
             let Q = quiet-event T valid J runs before e later parts v no_key (Unit {0}) (Some (ObtainWait n there.0)) None
             (record { park = inl now; life = inr tt; waiters = λ x among w. tt; asks = λ u a among who. tt; pend = λ p none. absurd cc })
             (λ u act same. let none = calls-unparked T valid J runs before e later parts u act in waiting (parked s u) none (ap (parked s) same ∙ now))
-            (λ u act same. tt) (λ u act same. tt) (λ from m full one. tt) (λ from accepted full x none. absurd cc) (λ from k j' full ready same. tt) in
+            (λ u act same. tt) (λ u act same. tt) (λ from m full one. tt) (λ from accepted act full x none. absurd cc) (λ from k j' full ready same. tt) in
             elim Q.park [
               | inl same ↦ (there.0, ap (λ (u : Side). parked u v) (at-i j here') ∙ same)
               | inr (quiet, touched) ↦ absurd (true≢false (sym (ap (λ (u : Side). waits (parked u v)) (sym (at-i j here')) ∙ busy) ∙ quiet))

@@ -45,7 +45,7 @@ use Rattle.sem_revoke.proofs.Obtained.{flight-about, obtained-lasts}
 use Rattle.sem_revoke.proofs.ReadyCalls.{here-one}
 use Rattle.sem_revoke.proofs.Revoking.{shown}
 
-installed-held : (k : KeyName) (parent : Option KeyName) (sel : ℕ) (object : Object) (t : Side) → cap (installed k parent sel object t) k ≡ Some (fresh k parent sel object)
+pub installed-held : (k : KeyName) (parent : Option KeyName) (sel : ℕ) (object : Object) (t : Side) → cap (installed k parent sel object t) k ≡ Some (fresh k parent sel object)
 installed-held k parent sel object t = ap (λ (z : Seen). z.cap k) (seen-cap_added (fresh k parent sel object) t) ∙ cond-true (key_eq k k) (Some (fresh k parent sel object)) (cap t k) (key_eq-same k)
 
 given-held : (k p : KeyName) (object : Object) (number : ℕ) (state : Option Parked) (t : Side) → is_obtain_wait number state ≡ true → (c : Capability) × (cap (given_here k p object state t) k ≡ Some c)

@@ -12,10 +12,9 @@ use Rattle.sem_key.proofs.Puts.{get_or-put_same}
 use Rattle.sem_msg.specs.declared.call.Call.{Call}
 use Rattle.sem_msg.specs.declared.code.Code.TheVariants.{Ok as OkCode, Dead}
 use Rattle.sem_msg.specs.Codes.{code_number}
-use Rattle.sem_msg.specs.declared.event.Act.TheVariants.{Call as Calls, Handle, Upcall, Resume, Kill}
+use Rattle.sem_msg.specs.declared.event.Act.TheVariants.{Call as Calls, Handle, Resume, Kill}
 use Rattle.sem_msg.specs.declared.message.Message.{Message}
 use Rattle.sem_msg.specs.declared.message.Message.TheVariants.{ObtainReq, ObtainOk, ObtainNo, DelegateReq, DelegatePrepared, DelegateNo, Ack, Orphan, RevokeReq, RevokeDone, Unlink}
-use Rattle.sem_msg.specs.declared.message.Target.{Target}
 use Rattle.sem_msg.specs.declared.state.Ask.{Ask}
 use Rattle.sem_msg.specs.declared.state.Ask.TheVariants.{Obtain as ObtainAsk, Delegate as DelegateAsk}
 use Rattle.sem_msg.specs.declared.state.Parked.{Parked}

@@ -48,3 +48,5 @@ pub mod Obtained
 pub mod Consents
 pub mod Delegations
 pub mod DelegationRows
+pub mod DelegationWorlds
+pub mod Granted

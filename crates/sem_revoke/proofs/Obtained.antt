@@ -49,7 +49,7 @@ use Rattle.sem_revoke.proofs.ReadyCalls.{here-one, ready-lasts}
 use Rattle.sem_revoke.proofs.Waits.{parked-here}
 use Rattle.sem_revoke.proofs.Ways.{goes}
 
-or-false : (a b : Bool) → a ≡ false → b ≡ false → (a || b) ≡ false
+pub or-false : (a b : Bool) → a ≡ false → b ≡ false → (a || b) ≡ false
 or-false true b no' is = absurd (true≢false no')
 or-false false b no' is = is
 
@@ -78,7 +78,7 @@ flight-about W v a b m among some =
     positive x y more = omega (arith, more)
 
 -- the kernel of a VPE owns its keys
-kernel-owner : (T : Setup) (k : KeyName) → is_key_declared T k ≡ true → kernel_of T k.vpe ≡ owner_of T k
+pub kernel-owner : (T : Setup) (k : KeyName) → is_key_declared T k ≡ true → kernel_of T k.vpe ≡ owner_of T k
 kernel-owner T k declared = from (decl T k.vpe) declared
   where
     from : (o : Option VpeDecl) → option_map_or (λ (d : VpeDecl). d.pe == k.pe) o false ≡ true → option_map_or (λ (d : VpeDecl). pe_owner T d.pe) o T.kernels ≡ owner_of T k
@@ -108,6 +108,17 @@ declared-as T k declared = from (decl T k.vpe) refl declared
     from : (o : Option VpeDecl) → decl T k.vpe ≡ o → option_map_or (λ (d : VpeDecl). d.pe == k.pe) o false ≡ true → (d : VpeDecl) × Contains T.vpes d × (d.vpe ≡ k.vpe) × (pe_owner T d.pe ≡ owner_of T k)
     from None is none = absurd cc
     from (Some d) is same = let there = found (λ (x : VpeDecl). x.vpe == k.vpe) T.vpes d is in (d, there.0, eqb-true d.vpe k.vpe there.1, ap (pe_owner T) (eqb-true d.pe k.pe same))
+
+-- a key of a VPE that is dead is doomed
+pub dead-doomed : (T : Setup) → IsSetup T → (J : List Entry) → IsSchedule T J → (before later : List Entry) → J ≡ before ++ later → IsSchedule T before → (k : KeyName) (i : ℕ)
+    → is_key_declared T k ≡ true → owner_of T k ≡ i → is_alive (side (world_after T before) i) k.vpe ≡ false → IsDoomed J k
+dead-doomed T valid J runs before later parts begun k i declared home dead =
+    let W : World = world_after T before in
+    let d = declared-as T k declared in
+    let down : is_alive (side W (pe_owner T d.0.pe)) d.0.vpe ≡ false = ap (λ n. is_alive (side W n) d.0.vpe) (d.3 ∙ home) ∙ (ap (is_alive (side W i)) d.2 ∙ dead) in
+    let ended = dead-ended T valid before begun d.0 d.1 down in
+    let x = list_any-some (λ (x : Entry). ends d.0.vpe x.event.act x.detail) before ended in
+    (k, line-self (length J) (grants J) k, inr (ap (has_ended J) (sym d.2) ∙ list_any-at (λ (y : Entry). ends d.0.vpe y.event.act y.detail) J x.0 (subst (λ ys. Contains ys x.0) (sym parts) (Contains-append_left before later x.0 x.1)) x.2))
 
 -- An event.
 module _ (T : Setup) (valid : IsSetup T) (J : List Entry) (runs : IsSchedule T J) (before : List Entry) (e : Entry) (later : List Entry) (parts : J ≡ before ++ e ∷ later) (p k : KeyName) (o : Object) where
@@ -151,18 +162,10 @@ module _ (T : Setup) (valid : IsSetup T) (J : List Entry) (runs : IsSchedule T J
       let dob = narrowed-named T o p narrow.parent.object (narrow.narrower o (as_granted p flight)) parent.object.1 dp in
       let away : (kernel_of T p.vpe == i) ≡ false = ne_eqb (kernel_of T p.vpe) i (λ same. msg.2 (sym place.0 ∙ (sym (kernel-owner T p dp) ∙ same))) in
       elim (cases_Bool (is_alive s k.vpe)) [
-        | inr dead ↦ inr (over dk place.1 dead)
+        | inr dead ↦ inr (dead-doomed T valid J runs before (e ∷ later) parts begun k i dk place.1 dead)
         | inl alive ↦ inl (ready home dk dp dob away alive (q (ap (λ n. is_alive (side W n) k.vpe) home ∙ alive)))
       ]
     where
-      over : is_key_declared T k ≡ true → owner_of T k ≡ i → is_alive s k.vpe ≡ false → IsDoomed J k
-      over declared home dead =
-          let d = declared-as T k declared in
-          let down : is_alive (side W (pe_owner T d.0.pe)) d.0.vpe ≡ false = ap (λ n. is_alive (side W n) d.0.vpe) (d.3 ∙ home) ∙ (ap (is_alive s) d.2 ∙ dead) in
-          let ended = dead-ended T valid before begun d.0 d.1 down in
-          let x = list_any-some (λ (x : Entry). ends d.0.vpe x.event.act x.detail) before ended in
-          (k, line-self (length J) (grants J) k, inr (ap (has_ended J) (sym d.2) ∙ list_any-at (λ (y : Entry). ends d.0.vpe y.event.act y.detail) J x.0 (subst (λ ys. Contains ys x.0) (sym parts) (Contains-append_left before (e ∷ later) x.0 x.1)) x.2))
-
       ready : kernel_of T k.vpe ≡ i → is_key_declared T k ≡ true → is_key_declared T p ≡ true → is_object_declared T o ≡ true → (kernel_of T p.vpe == i) ≡ false → is_alive s k.vpe ≡ true
           → (sel : ℕ) × (parked (side W (kernel_of T k.vpe)) k.vpe ≡ Some (ObtainWait k.number sel)) → (sel : ℕ) × (parked (side V i) k.vpe ≡ Some (ObtainReady k p o sel)) × (is_alive (side V i) k.vpe ≡ true)
       ready home dk dp dob away alive (sel, there) =

@@ -136,16 +136,16 @@ module _ (T : Setup) (valid : IsSetup T) (J : List Entry) (runs : IsSchedule T J
       → ((u : ℕ) → e.event.act ≡ Resume u → u ≡ v → Touched)
       → ((u : ℕ) → e.event.act ≡ Kill u → u ≡ v → Touched)
       → ((from : ℕ) (m : Message) → s.inbox ≡ Some (from, m) → 1 ≤ of_message v m → Touched)
-      → ((from : ℕ) (accepted : Bool) → s.inbox ≡ Some (from, Ack k0 accepted) → (x : Pending) → d ≡ Some x → ⊥)
+      → ((from : ℕ) (accepted : Bool) → e.event.act ≡ Handle → s.inbox ≡ Some (from, Ack k0 accepted) → (x : Pending) → d ≡ Some x → ⊥)
       → ((from : ℕ) (k : KeyName) (j : ℕ) → s.inbox ≡ Some (from, RevokeReq k j) → is_ready_with k (parked s k.vpe) ≡ true → k.vpe ≡ v → Touched)
       → Quiet v k0 Touched q d (stepped T W e.event).side
   unfolding local_step
   quiet-event v k0 Touched q d Q calls resumes kills tokens settles cancels = by e.event.act refl
     where
-      inbox : (o : Option (ℕ × Message)) → s.inbox ≡ o → Quiet v k0 Touched q d (option_map_or (λ m. handled T i (with_inbox None s) m.0 m.1) o s)
-      inbox None none = Q
-      inbox (Some (from, m)) full = quiet-handled v k0 Touched q d T i (with_inbox None s) from m (tokens from m full)
-          (λ accepted is. settles from accepted (full ∙ ap (λ z. Some (from, z)) is))
+      inbox : e.event.act ≡ Handle → (o : Option (ℕ × Message)) → s.inbox ≡ o → Quiet v k0 Touched q d (option_map_or (λ m. handled T i (with_inbox None s) m.0 m.1) o s)
+      inbox act None none = Q
+      inbox act (Some (from, m)) full = quiet-handled v k0 Touched q d T i (with_inbox None s) from m (tokens from m full)
+          (λ accepted is. settles from accepted act (full ∙ ap (λ z. Some (from, z)) is))
           (λ k j is. cancels from k j (full ∙ ap (λ z. Some (from, z)) is))
           (record { park = Q.park; life = Q.life; waiters = Q.waiters; asks = Q.asks; pend = Q.pend })
 
@@ -158,7 +158,7 @@ module _ (T : Setup) (valid : IsSetup T) (J : List Entry) (runs : IsSchedule T J
       by (Upcall u) act = quiet-upcall v k0 Touched q d T i u s Q
       by (Resume u) act = quiet-resume v k0 Touched q d T u s (resumes u act) Q
       by (Kill u) act = quiet-ended v k0 Touched q d T i u s (kills u act) Q
-      by Handle act = inbox s.inbox refl
+      by Handle act = inbox act s.inbox refl
       by (Fetch j) act = record { park = Q.park; life = Q.life; waiters = Q.waiters; asks = Q.asks; pend = Q.pend }
       by (Flush j) act = record { park = Q.park; life = Q.life; waiters = Q.waiters; asks = Q.asks; pend = Q.pend }
 
@@ -214,7 +214,7 @@ module _ (T : Setup) (valid : IsSetup T) (J : List Entry) (runs : IsSchedule T J
         (λ u act same. inr (act ∙ ap Resume same))
         (λ u act same. inl (k, line-self (length J) (grants J) k, inr (ap (has_ended J) call.1.0 ∙ killed-ended v (act ∙ ap Kill same))))
         (λ from m full one. let weighs : of_inbox v s.inbox ≡ of_message v m = ap (of_inbox v) full in absurd (omega (arith, frees, most, part, one, weighs)))
-        (λ from accepted full x none. absurd cc)
+        (λ from accepted act full x none. absurd cc)
         (λ from k' j full ready same. inl (subst (IsDoomed J) (cancelled k' (ap (is_ready_with k') (sym (ap (parked s) same ∙ there)) ∙ ready)) (asked-doomed T valid J runs before (e ∷ later) parts k' j (from, i, fetched from (RevokeReq k' j) full))))
         in
         elim Q.park [

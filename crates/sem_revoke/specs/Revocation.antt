@@ -134,6 +134,12 @@ given_unless_doomed T J =
     (before : List Entry) (e : Entry) (later : List Entry) (u : ℕ) (p k : KeyName) → J ≡ before ++ e ∷ later → e.event.act ≡ Upcall u → e.grant ≡ Some (p, k)
     → IsLive (world_after T J) k ⊎ IsDoomed J k
 
+-- and so is all that is granted
+abbrev pub granted_unless_doomed : Setup → List Entry → Type 0
+granted_unless_doomed T J =
+    (before : List Entry) (e : Entry) (later : List Entry) (p k : KeyName) → J ≡ before ++ e ∷ later → e.grant ≡ Some (p, k)
+    → IsLive (world_after T J) k ⊎ IsDoomed J k
+
 -- what is marked is doomed, or the root of a job that keeps it
 abbrev pub marks_doom : Setup → List Entry → Type 0
 marks_doom T J =

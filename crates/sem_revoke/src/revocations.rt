@@ -2,8 +2,9 @@ ghost use Rattle.std.specs.Prelude.{List};
 ghost use Rattle.sem_msg.specs.declared.entry.Entry.{Entry};
 ghost use Rattle.sem_msg.specs.Setup.{Setup, IsSetup};
 ghost use Rattle.sem_machine.specs.Schedules.{IsSchedule};
-ghost use Rattle.sem_revoke.specs.Revocation.{held_at_home, linked, ancestors_held, orphans_dead, unlinked_dead, asked_below_marks, capability_first, marks_spread, marks_of_jobs, roots_marked, keepers_alone, keepers_waited_for, tokens_counted, waited_below_marks, marked_below_roots, revokers_wait, held_unless_doomed, ready_unless_doomed, given_unless_doomed, marks_doom, requests_doom, forest_spared, born_live, roots_last, near_keys_last, asks_awaited, requests_awaited, flights_go_on, dead_have_ended};
-ghost use Rattle.sem_machine.specs.Safety.{narrowing, revoked_is_gone};
+ghost use Rattle.sem_revoke.specs.Revocation.{held_at_home, linked, ancestors_held, orphans_dead, unlinked_dead, asked_below_marks, capability_first, marks_spread, marks_of_jobs, roots_marked, keepers_alone, keepers_waited_for, tokens_counted, waited_below_marks, marked_below_roots, revokers_wait, held_unless_doomed, ready_unless_doomed, given_unless_doomed, granted_unless_doomed, marks_doom, requests_doom, forest_spared, born_live, roots_last, near_keys_last, asks_awaited, requests_awaited, flights_go_on, dead_have_ended};
+ghost use Rattle.sem_revoke.specs.Delegations.{one_token_each, tokens_pend};
+ghost use Rattle.sem_machine.specs.Safety.{narrowing, nothing_lost, revoked_is_gone};
 
 /// After every schedule of every setup the parent of a live key is held and leads to it, so all ancestors of what is in use are
 /// held. What an Orphan or an Unlink names is dead. What a kernel asks another to revoke is below a mark of the job that asks, and
@@ -53,13 +54,14 @@ pub fn live_keys_narrow_their_parents()
 
 /// After every schedule of every setup: what a kernel once held it holds, or the key is doomed, which is to say that an ancestor
 /// of it was cut off or is of a VPE that has ended. What a call of a living VPE is ready to install is live from then on, or
-/// doomed, and so is what a VPE has consented to give. What is marked is doomed, or the root of a job that keeps it; what a
-/// kernel asks another to revoke is doomed, and nothing in the forest is. What is granted is live then. So roots in the forest
-/// are live, and so is what was granted within one kernel.
+/// doomed, and so is what a VPE has consented to give, and all that is granted. What is marked is doomed, or the root of a job
+/// that keeps it; what a kernel asks another to revoke is doomed, and nothing in the forest is. What is granted is live then. So
+/// roots in the forest are live, and so is what was granted within one kernel.
 pub fn what_is_lost_is_doomed()
     ensures lasts { (T : Setup) → IsSetup T → (J : List Entry) → IsSchedule T J → held_unless_doomed T J }
     ensures ready { (T : Setup) → IsSetup T → (J : List Entry) → IsSchedule T J → ready_unless_doomed T J }
     ensures given { (T : Setup) → IsSetup T → (J : List Entry) → IsSchedule T J → given_unless_doomed T J }
+    ensures granted { (T : Setup) → IsSetup T → (J : List Entry) → IsSchedule T J → granted_unless_doomed T J }
     ensures marks { (T : Setup) → IsSetup T → (J : List Entry) → IsSchedule T J → marks_doom T J }
     ensures requests { (T : Setup) → IsSetup T → (J : List Entry) → IsSchedule T J → requests_doom T J }
     ensures spared { (T : Setup) → IsSetup T → (J : List Entry) → IsSchedule T J → forest_spared T J }
@@ -75,4 +77,18 @@ pub fn who_asks_waits()
     ensures requests { (T : Setup) → IsSetup T → (J : List Entry) → IsSchedule T J → requests_awaited T J }
     ensures flights { (T : Setup) → IsSetup T → (J : List Entry) → IsSchedule T J → flights_go_on T J }
     ensures dead { (T : Setup) → IsSetup T → (J : List Entry) → IsSchedule T J → dead_have_ended T J }
+{}
+
+/// After every schedule of every setup: of a delegation to another kernel there is one message in flight, its `DelegatePrepared`
+/// or its `Ack`, or one call that is ready to grant it, and no more of all these together. While there is one, the kernel of the
+/// child has the delegation pending.
+pub fn delegations_have_one_token()
+    ensures one { (T : Setup) → IsSetup T → (J : List Entry) → IsSchedule T J → one_token_each T J }
+    ensures pends { (T : Setup) → IsSetup T → (J : List Entry) → IsSchedule T J → tokens_pend T J }
+{}
+
+/// Nothing is lost: after every schedule of every setup each key of the forest is live, which is to say each key that was made and
+/// of which no ancestor was cut off or is of a VPE that has ended.
+pub fn nothing_is_lost()
+    ensures kept { (T : Setup) → IsSetup T → (J : List Entry) → IsSchedule T J → nothing_lost T J }
 {}

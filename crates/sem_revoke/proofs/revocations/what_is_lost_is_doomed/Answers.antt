@@ -2,6 +2,7 @@ use Rattle.sem_revoke.proofs.Births.{born-live, near-lasts}
 use Rattle.sem_revoke.proofs.Consents.{given-lasts}
 use Rattle.sem_revoke.proofs.Dooming.{mark-doomed, request-doomed}
 use Rattle.sem_revoke.proofs.Forests.{forest-spared, root-not-lost}
+use Rattle.sem_revoke.proofs.Granted.{granted-lasts}
 use Rattle.sem_revoke.proofs.Lasting.{held-lasts}
 use Rattle.sem_revoke.proofs.ReadyCalls.{ready-lasts}
 use Rattle.sem_revoke.proofs.revocations.what_is_lost_is_doomed.Goals as goal
@@ -14,6 +15,9 @@ returns-clause-ready c = ready-lasts
 
 pub returns-clause-given : goal.returns-clause-given
 returns-clause-given c = given-lasts
+
+pub returns-clause-granted : goal.returns-clause-granted
+returns-clause-granted c = granted-lasts
 
 pub returns-clause-marks : goal.returns-clause-marks
 returns-clause-marks c = mark-doomed
