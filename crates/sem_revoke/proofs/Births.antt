@@ -1,10 +1,10 @@
 -- A key that is granted is alive: held, or sent. So one that is granted within a kernel is held, and is not lost.
-use Rattle.std.proofs.Common.{◌≡◌, ℕ, ◌≤◌, Bool, true, false, not, ◌&&◌, List, [], ◌∷◌, ◌++◌, map, get_or, Option, Some, None, slice_get, refl, sym, ap, ◌∙◌, subst, inl, inr, arith, append_assoc}
+use Rattle.std.proofs.Common.{◌≡◌, ℕ, ◌≤◌, Bool, true, false, not, ◌&&◌, List, [], ◌∷◌, ◌++◌, get_or, Option, Some, None, slice_get, refl, sym, ap, ◌∙◌, subst, inl, inr, arith, append_assoc}
 use Rattle.std.specs.Prelude.{◌==◌}
 use Rattle.std.specs.List.{Contains, filter, sum_by}
 use Rattle.std.proofs.lemmas.Bool.{cond_both, cond-true}
 use Rattle.std.proofs.lemmas.Option.{same_Some}
-use Rattle.std.proofs.lemmas.List.Elements.{Contains-append_cases, Contains-append_right}
+use Rattle.std.proofs.lemmas.List.Elements.{Contains-append_right}
 use Rattle.std.proofs.lemmas.List.Sums.{sum_by-cons, sum_by-append}
 use Rattle.sem_key.specs.declared.object.Object.{Object}
 use Rattle.sem_key.specs.declared.object.Object.TheVariants.{Send as SendObject}
@@ -40,11 +40,10 @@ use Rattle.sem_machine.specs.Resumes.{delegate_granted, delegate_resumed, resume
 use Rattle.sem_machine.specs.Revokes.{revoke_begun, clear_begun}
 use Rattle.sem_machine.specs.Machine.{World, side, start, with_side, next_call, local_step, input_of, after}
 use Rattle.sem_machine.specs.Schedules.{IsSchedule, world_after}
-use Rattle.sem_machine.specs.Journals.{grants, root_keys, forest}
-use Rattle.sem_machine.specs.Safety.{nothing_lost}
+use Rattle.sem_machine.specs.Journals.{grants, forest}
 use Rattle.sem_machine.specs.Living.{IsLive}
 use Rattle.sem_key.proofs.KeyTests.{key_eq-same}
-use Rattle.sem_key.proofs.Members.{Contains-head, Contains-from_map}
+use Rattle.sem_key.proofs.Members.{Contains-head}
 use Rattle.sem_key.proofs.Puts.{get_or-put_same}
 use Rattle.sem_safety.proofs.CarryingWorlds.{among-grants, stepped}
 use Rattle.sem_safety.proofs.GoingOn.{entry-enabled, run-prefix, run-append, moved-sides}
@@ -57,7 +56,7 @@ use Rattle.sem_revoke.proofs.Alive.{weighs-live}
 use Rattle.sem_revoke.proofs.Worlds.{weighs-alive}
 use Rattle.sem_revoke.proofs.Events.{Par, Made}
 use Rattle.sem_revoke.proofs.Readying.{schedule-fit, schedule-homes}
-use Rattle.sem_revoke.proofs.Forests.{granted-at, held-not-lost, root-not-lost, forest-spared}
+use Rattle.sem_revoke.proofs.Forests.{granted-at, held-not-lost}
 use Rattle.sem_revoke.proofs.Revoking.{shown}
 
 -- what a step grants is alive at its side
@@ -229,13 +228,3 @@ module _ (T : Setup) (valid : IsSetup T) (J : List Entry) (runs : IsSchedule T J
 
   pub near-lasts : (p k : KeyName) → Contains (grants J) (p, k) → owner_of T p ≡ owner_of T k → Contains (forest T J) k → IsLive (world_after T J) k
   near-lasts p k granted near in_forest = let at = granted-at (λ (e : Entry). e.grant) J (p, k) granted in near-not-lost at.0 at.2 at.1 p k at.3 at.4 near in_forest
-
-  -- where no grant goes from one kernel to another, nothing is lost
-  pub near-nothing_lost : ((p k : KeyName) → Contains (grants J) (p, k) → owner_of T p ≡ owner_of T k) → nothing_lost T J
-  near-nothing_lost near k in_forest = elim (Contains-append_cases (root_keys T) (map (λ (g : KeyName × KeyName). g.1) (grants J)) k (forest-spared T valid J runs k in_forest).0) [
-    | inl root ↦ root-not-lost T valid J runs k root in_forest
-    | inr child ↦
-        let at = Contains-from_map (λ (g : KeyName × KeyName). g.1) (grants J) k child in
-        let here : Contains (forest T J) at.0.1 = subst (Contains (forest T J)) (sym at.2) in_forest in
-        subst (IsLive (world_after T J)) at.2 (near-lasts at.0.0 at.0.1 at.1 (near at.0.0 at.0.1 at.1) here)
-  ]

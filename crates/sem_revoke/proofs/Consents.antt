@@ -3,15 +3,14 @@ use Rattle.std.proofs.Common.{◌≡◌, ◌⊎◌, ℕ, ◌++◌, Bool, true, f
 use Rattle.std.specs.Prelude.{◌==◌}
 use Rattle.std.specs.List.{Contains}
 use Rattle.std.specs.Option.{IsSome}
-use Rattle.std.proofs.lemmas.Bool.{cond_both, cond-true}
+use Rattle.std.proofs.lemmas.Bool.{cond_both}
 use Rattle.std.proofs.lemmas.Option.{same_Some, slice_get_within, get_or_from_slice_get}
 use Rattle.std.proofs.lemmas.List.Elements.{Contains-append_right}
 use Rattle.sem_key.specs.declared.object.Object.{Object}
-use Rattle.sem_key.specs.KeyName.{KeyName, key_eq}
+use Rattle.sem_key.specs.KeyName.{KeyName}
 use Rattle.sem_key.specs.PlaceName.{PlaceName, keyed}
 use Rattle.sem_key.specs.Capability.{Capability}
 use Rattle.sem_key.specs.CapList.{fresh}
-use Rattle.sem_key.proofs.KeyTests.{key_eq-same}
 use Rattle.sem_key.proofs.Members.{Contains-head}
 use Rattle.sem_key.proofs.Puts.{get_or-put_same}
 use Rattle.sem_msg.specs.declared.entry.Entry.{Entry}
@@ -24,7 +23,7 @@ use Rattle.sem_msg.specs.declared.state.Parked.{Parked}
 use Rattle.sem_msg.specs.declared.state.Parked.TheVariants.{ObtainWait, ObtainReady, ObtainCancelled, DelegateWait, DelegateReady, RevokeWait, Ready}
 use Rattle.sem_msg.specs.Setup.{Setup, IsSetup}
 use Rattle.sem_msg.specs.Lookups.{kernel_of, denies, place_owner}
-use Rattle.sem_machine.specs.Sides.{Side, row, cap, outbox, parked, ask_taken, drawn, installed, linked, send}
+use Rattle.sem_machine.specs.Sides.{Side, row, cap, outbox, parked, ask_taken, drawn, linked, send}
 use Rattle.sem_machine.specs.Steps.{Step, plain}
 use Rattle.sem_machine.specs.Asks.{asker, is_unawaited, is_obtain_wait, ask_refused}
 use Rattle.sem_machine.specs.Calls.{next_key, destination_tests}
@@ -36,17 +35,12 @@ use Rattle.sem_machine.proofs.Folds.{option-keeps}
 use Rattle.sem_machine.proofs.FirstCodes.{unless-keeps}
 use Rattle.sem_safety.proofs.CarryingWorlds.{stepped, among-grants}
 use Rattle.sem_safety.proofs.GoingOn.{entry-enabled}
-use Rattle.sem_safety.proofs.Updates.{seen-cap_added}
-use Rattle.sem_safety.specs.Seen.{Seen}
 use Rattle.sem_revoke.specs.Revocation.{IsDoomed}
 use Rattle.sem_revoke.proofs.Asking.{Waits, asks-awaited, all-awaited, waits-on}
 use Rattle.sem_revoke.proofs.Lasting.{all-caused, side-here, held-lasts}
 use Rattle.sem_revoke.proofs.Obtained.{flight-about, obtained-lasts}
-use Rattle.sem_revoke.proofs.ReadyCalls.{here-one}
+use Rattle.sem_revoke.proofs.ReadyCalls.{here-one, installed-held}
 use Rattle.sem_revoke.proofs.Revoking.{shown}
-
-pub installed-held : (k : KeyName) (parent : Option KeyName) (sel : ℕ) (object : Object) (t : Side) → cap (installed k parent sel object t) k ≡ Some (fresh k parent sel object)
-installed-held k parent sel object t = ap (λ (z : Seen). z.cap k) (seen-cap_added (fresh k parent sel object) t) ∙ cond-true (key_eq k k) (Some (fresh k parent sel object)) (cap t k) (key_eq-same k)
 
 given-held : (k p : KeyName) (object : Object) (number : ℕ) (state : Option Parked) (t : Side) → is_obtain_wait number state ≡ true → (c : Capability) × (cap (given_here k p object state t) k ≡ Some c)
 given-held k p object number None t waits = absurd cc

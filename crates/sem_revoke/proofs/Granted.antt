@@ -43,11 +43,12 @@ use Rattle.sem_bound.proofs.Skeleton.{call_row-by}
 use Rattle.sem_revoke.specs.Delegations.{of_key, of_inbox, of_side}
 use Rattle.sem_revoke.specs.Revocation.{IsDoomed}
 use Rattle.sem_revoke.proofs.Arriving.{schedule-revokes}
-use Rattle.sem_revoke.proofs.Consents.{given-lasts, installed-held}
+use Rattle.sem_revoke.proofs.Consents.{given-lasts}
 use Rattle.sem_revoke.proofs.DelegationWorlds.{schedule-one}
 use Rattle.sem_revoke.proofs.Forests.{granted-at, root-not-lost, forest-spared}
 use Rattle.sem_revoke.proofs.Lasting.{all-caused, at, side-here, held-lasts}
 use Rattle.sem_revoke.proofs.Obtained.{or-false, kernel-owner, dead-doomed}
+use Rattle.sem_revoke.proofs.ReadyCalls.{installed-held}
 use Rattle.sem_revoke.proofs.Readying.{schedule-tidy}
 use Rattle.sem_revoke.proofs.Revoking.{shown}
 use Rattle.sem_revoke.proofs.Ways.{goes}

@@ -104,6 +104,10 @@ ask-weighs v s u a among who =
     let is : of_ask v a ≡ 1 = ap (here v) who ∙ here-one v in
     omega (arith, one, all, is)
 
+-- what is installed is held
+pub installed-held : (k : KeyName) (parent : Option KeyName) (sel : ℕ) (object : Object) (t : Side) → cap (installed k parent sel object t) k ≡ Some (fresh k parent sel object)
+installed-held k parent sel object t = ap (λ (z : Seen). z.cap k) (seen-cap_added (fresh k parent sel object) t) ∙ cond-true (key_eq k k) (Some (fresh k parent sel object)) (cap t k) (key_eq-same k)
+
 -- An event.
 module _ (T : Setup) (valid : IsSetup T) (J : List Entry) (runs : IsSchedule T J) (before : List Entry) (e : Entry) (later : List Entry) (parts : J ≡ before ++ e ∷ later) where
   abbrev W : World
@@ -174,10 +178,6 @@ module _ (T : Setup) (valid : IsSetup T) (J : List Entry) (runs : IsSchedule T J
   -- a VPE that is killed has ended
   killed-ended : (v : ℕ) → e.event.act ≡ Kill v → has_ended J v ≡ true
   killed-ended v act = list_any-at (λ (x : Entry). ends v x.event.act x.detail) J e (subst (λ xs. Contains xs e) (sym parts) (Contains-append_right before (e ∷ later) e (Contains-head e later))) (ap (λ a. ends v a e.detail) act ∙ eq-eqb v v refl)
-
-  -- what is installed is held
-  installed-held : (k : KeyName) (parent : Option KeyName) (sel : ℕ) (object : Object) (t : Side) → cap (installed k parent sel object t) k ≡ Some (fresh k parent sel object)
-  installed-held k parent sel object t = ap (λ (z : Seen). z.cap k) (seen-cap_added (fresh k parent sel object) t) ∙ cond-true (key_eq k k) (Some (fresh k parent sel object)) (cap t k) (key_eq-same k)
 
   resumed-held : (v : ℕ) (k parent : KeyName) (object : Object) (sel : ℕ) → e.event.act ≡ Resume v → parked s v ≡ Some (ObtainReady k parent object sel) → cap (stepped T W e.event).side k ≡ Some (fresh k (Some parent) sel object)
   unfolding local_step resume_row
