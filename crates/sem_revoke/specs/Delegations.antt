@@ -13,11 +13,13 @@ use Rattle.sem_machine.specs.Sides.{Side, pending}
 use Rattle.sem_machine.specs.Machine.{World, side}
 use Rattle.sem_machine.specs.Schedules.{world_after}
 
+-- how many tokens there are of the delegation of a key
 module _ (k0 : KeyName) where
   -- one, if it is that key
   abbrev pub of_key : KeyName → ℕ
   of_key k = if key_eq k k0 then 1 else 0
 
+  -- an Ack counts, whether it accepts or not
   abbrev pub of_message : Message → ℕ
   of_message (DelegatePrepared parent key) = of_key key
   of_message (Ack key accepted) = of_key key
@@ -43,10 +45,10 @@ module _ (k0 : KeyName) where
   abbrev pub of_world : World → ℕ
   of_world W = sum_by of_side W.sides + of_links W.links
 
--- a delegation has one token at most
+-- each delegation has one token at most
 abbrev pub one_token_each : Setup → List Entry → Type 0
 one_token_each T J = (k : KeyName) → of_world k (world_after T J) ≤ 1
 
--- the owner of its key has it pending while it has one
+-- and while it has one, the owner of its key has it pending
 abbrev pub tokens_pend : Setup → List Entry → Type 0
 tokens_pend T J = (k : KeyName) → 1 ≤ of_world k (world_after T J) → (p : Pending) × (pending (side (world_after T J) (owner_of T k)) k ≡ Some p)

@@ -79,9 +79,9 @@ pub fn who_asks_waits()
     ensures dead { (T : Setup) → IsSetup T → (J : List Entry) → IsSchedule T J → dead_have_ended T J }
 {}
 
-/// After every schedule of every setup: of a delegation to another kernel there is one message in flight, its `DelegatePrepared`
-/// or its `Ack`, or one call that is ready to grant it, and no more of all these together. While there is one, the kernel of the
-/// child has the delegation pending.
+/// After every schedule of every setup: of a delegation to another kernel at most one of these is there: a `DelegatePrepared` of it
+/// in flight, an `Ack` of it in flight, and a call that is ready to grant it. While one is there, the kernel of the child has the
+/// delegation pending.
 pub fn delegations_have_one_token()
     ensures one { (T : Setup) → IsSetup T → (J : List Entry) → IsSchedule T J → one_token_each T J }
     ensures pends { (T : Setup) → IsSetup T → (J : List Entry) → IsSchedule T J → tokens_pend T J }
