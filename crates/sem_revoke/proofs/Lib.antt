@@ -50,3 +50,4 @@ pub mod Delegations
 pub mod DelegationRows
 pub mod DelegationWorlds
 pub mod Granted
+pub mod Safe

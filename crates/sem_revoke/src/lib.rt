@@ -3,6 +3,7 @@
 //! key is lost but for a cause. Each law is the contract of a function that does nothing.
 #![tactic(auto)]
 
+pub mod laws;
 mod revocations;
 
 pub use revocations::{

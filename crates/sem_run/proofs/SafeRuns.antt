@@ -10,11 +10,7 @@ use Rattle.sem_msg.specs.Setup.{Setup}
 use Rattle.sem_machine.specs.Machine.{World, start, after, entry_of, enabled, is_enabled}
 use Rattle.sem_machine.specs.Schedules.{IsRun, IsSchedule}
 use Rattle.sem_machine.specs.Seeded.{drain, entry_limit, picked, generator_of, seeded}
-use Rattle.sem_safety.proofs.SoundWorlds.{all-endpoints}
-use Rattle.sem_safety.proofs.OneLife.{all-lineage, all-sound}
-use Rattle.sem_revoke.proofs.Serving.{all-gone}
-use Rattle.sem_revoke.proofs.Narrowness.{all-narrowing}
-use Rattle.sem_model.proofs.SmallSafety.{small-nothing_lost}
+use Rattle.sem_revoke.proofs.Safe.{all-safe}
 use Rattle.sem_serial.proofs.Running.{entry_of-event, picked-enabled}
 use Rattle.sem_cli.specs.declared.statuses.Status.{Status}
 use Rattle.sem_cli.specs.declared.statuses.Status.TheVariants.{Done, Usage, TraceRefused, ReadFault, WriteFault, Memory, Stuck, Spent, NotBuilt}
@@ -42,12 +38,7 @@ module _ (g : Given) (J : List Entry) where
     setup = T;
     trace = trace;
     schedule = runs;
-    lineage = all-lineage T trace.valid J runs;
-    sound_grants = all-sound T trace.valid J runs;
-    sound_endpoints = all-endpoints T trace.valid J runs;
-    revoked_is_gone = all-gone T trace.valid J runs;
-    narrowing = all-narrowing T trace.valid J runs;
-    nothing_lost = λ small. small-nothing_lost T trace.valid small J runs;
+    safe = all-safe T trace.valid J runs;
   }
 
   seeded-safe : (T : Setup) (seed : ℕ) → RunsSeeded g J T seed → IsSafeRun g J

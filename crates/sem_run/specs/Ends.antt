@@ -11,8 +11,7 @@ use Rattle.sem_trace.specs.Standing.{Stands}
 use Rattle.sem_machine.specs.Schedules.{IsSchedule}
 use Rattle.sem_machine.specs.Seeded.{seeded}
 use Rattle.sem_machine.specs.Living.{IsComplete}
-use Rattle.sem_machine.specs.Safety.{lineage, revoked_is_gone, sound_grants, nothing_lost, sound_endpoints, narrowing}
-use Rattle.sem_model.specs.Small.{IsSmall}
+use Rattle.sem_machine.specs.Safety.{IsSafe}
 use Rattle.sem_serial.specs.Ending.{IsStuck, IsSpent}
 use Rattle.sem_audit.specs.HeldKeys.{report}
 use Rattle.sem_cli.specs.declared.forms.Command.{Command}
@@ -156,17 +155,12 @@ WritesPrefix written written' P = (text : List ℕ) × P text × AppendsPrefix w
 
 -- Safety.
 
--- Safety: the journal is a schedule of the setup that was read, and after it the sentences of safety hold; that nothing is lost is known of small setups alone.
+-- Safety: the journal is a schedule of the setup that was read, and after it the six sentences of safety hold.
 pub record IsSafeRun (g : Given) (J : List Entry) : Type 0 where
   pub setup : Setup
   pub trace : ReadsTrace g setup
   pub schedule : IsSchedule setup J
-  pub lineage : lineage setup J
-  pub sound_grants : sound_grants setup J
-  pub sound_endpoints : sound_endpoints setup J
-  pub revoked_is_gone : revoked_is_gone setup J
-  pub narrowing : narrowing setup J
-  pub nothing_lost : IsSmall setup → nothing_lost setup J
+  pub safe : IsSafe setup J
 
 -- whether a run left the journal: with statuses 0, 6 and 7 always, with 4 and 5 where it is not empty
 abbrev pub IsOfRun : Status → List Entry → Type 0
