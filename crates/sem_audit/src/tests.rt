@@ -184,21 +184,33 @@ fn an_audit_counts_the_made_and_the_cut_and_lists_the_held(rt: HostRuntime) -> R
     Ok(())
 }
 
-#[test]
-fn what_a_revoke_cut_off_is_stray_as_long_as_it_is_held(rt: HostRuntime) -> Result<(), Fail> {
-    let setup = setup_of(rt.alloc(), ONE_VPE)?;
-    let kernels = boot_kernels(rt.alloc(), &setup)?;
-    for (entries, replies, strays) in [
-        (&[][..], 0, 0),
-        // The child of the grant is not held at the start.
-        (&[derived()][..], 1, 1),
-        // Its root was cut off, and is held.
-        (&[derived(), revoked(0, ROOT)][..], 2, 1),
-        (&[derived(), revoked(1, CHILD)][..], 2, 0),
-    ] {
-        let journal = journal_of(rt.alloc(), entries)?;
-        assert_eq!(rt; answered(&journal), replies);
-        assert_eq!(rt; stray(rt.alloc(), &setup, &journal, &kernels)?, strays);
-    }
+// How many keys are stray after a journal, with the kernels at the start.
+fn strays_at_start(alloc: Global, setup: &Setup, journal: &Journal) -> Result<u64, Fail> {
+    let kernels = boot_kernels(alloc, setup)?;
+    Ok(stray(alloc, setup, journal, &kernels)?)
+}
+
+// A journal of these entries has so many replies, and so many stray keys at the start.
+fn expect_strays(
+    rt: &impl Abort,
+    alloc: Global,
+    entries: &[Entry],
+    expected: (u64, u64),
+) -> Result<(), Fail> {
+    let setup = setup_of(alloc, ONE_VPE)?;
+    let journal = journal_of(alloc, entries)?;
+    let strays = strays_at_start(alloc, &setup, &journal)?;
+    assert_eq!(rt; (answered(&journal), strays), expected);
     Ok(())
+}
+
+#[test]
+fn what_was_granted_and_is_not_held_is_stray(rt: HostRuntime) -> Result<(), Fail> {
+    expect_strays(&rt, rt.alloc(), &[derived()], (1, 1))
+}
+
+#[test]
+fn what_was_cut_off_and_is_held_is_stray(rt: HostRuntime) -> Result<(), Fail> {
+    expect_strays(&rt, rt.alloc(), &[derived(), revoked(0, ROOT)], (2, 1))?;
+    expect_strays(&rt, rt.alloc(), &[derived(), revoked(1, CHILD)], (2, 0))
 }
