@@ -29,7 +29,8 @@ use Rattle.sem_machine.specs.Resumes.{can_resume, delegate_granted, delegate_res
 use Rattle.sem_safety.specs.Seen.{AreDistinct}
 use Rattle.sem_machine.proofs.Folds.{option-keeps}
 use Rattle.sem_machine.proofs.FirstCodes.{unless-keeps}
-use Rattle.sem_bound.proofs.Weights.{IdsRise, besides, of_parked, of_ask, of_side, side-drawn, side-slot, side-parked, side-asked, side-send, side-linked, side-unlinked}
+use Rattle.sem_safety.proofs.JobIds.{IdsRise}
+use Rattle.sem_bound.proofs.Weights.{besides, of_parked, of_ask, of_side, side-drawn, side-slot, side-parked, side-asked, side-send, side-linked, side-unlinked}
 use Rattle.sem_bound.proofs.Layering.{IsCalm}
 use Rattle.sem_bound.proofs.Beginning.{requested-costs, done-lighter}
 use Rattle.sem_bound.proofs.Ending.{call_refused-costs, ask_refused-costs}

@@ -27,7 +27,8 @@ use Rattle.sem_machine.proofs.Folds.{in_turn-keeps}
 use Rattle.sem_safety.proofs.Onwards.{AnyPlace}
 use Rattle.sem_safety.proofs.KeptRevokes.{request-in}
 use Rattle.sem_machine.proofs.Lengths.{key_set-shorter}
-use Rattle.sem_bound.proofs.Weights.{IdsRise, of_parked, of_key, of_keep, key-most, of_up, of_cap, of_side, taken, side-slot, side-parked, side-reparked, side-send, side-opened, side-marked, taken-weighs, side-counted_up, side-counted_down, side-up_local, side-up_remote, side-waiting}
+use Rattle.sem_safety.proofs.JobIds.{IdsRise}
+use Rattle.sem_bound.proofs.Weights.{of_parked, of_key, of_keep, key-most, of_up, of_cap, of_side, taken, side-slot, side-parked, side-reparked, side-send, side-opened, side-marked, taken-weighs, side-counted_up, side-counted_down, side-up_local, side-up_remote, side-waiting}
 use Rattle.sem_bound.proofs.Layering.{NoKey, IsCalm, calm}
 use Rattle.sem_bound.proofs.Finishing.{settled-lighter}
 

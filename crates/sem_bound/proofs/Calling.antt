@@ -24,11 +24,12 @@ use Rattle.sem_machine.specs.Calls.{next_key, next_place, child_made, ask_made, 
 use Rattle.sem_key.proofs.KeyTests.{key_eq-true}
 use Rattle.sem_key.proofs.Members.{found}
 use Rattle.sem_safety.specs.Seen.{AreDistinct}
-use Rattle.sem_bound.proofs.Weights.{IdsRise, of_side, key-most, side-drawn, side-slot, side-endpoint, side-rung, side-parked, side-asked, side-send, side-added, side-linked}
+use Rattle.sem_safety.proofs.JobIds.{IdsRise}
+use Rattle.sem_bound.proofs.Weights.{of_side, key-most, side-drawn, side-slot, side-endpoint, side-rung, side-parked, side-asked, side-send, side-added, side-linked}
 use Rattle.sem_bound.proofs.Layering.{IsCalm}
 use Rattle.sem_bound.proofs.Beginning.{begun-costs, cleared-costs}
 use Rattle.sem_bound.proofs.Ending.{ended-lighter}
-use Rattle.sem_bound.proofs.Skeleton.{CallLeaves, call_row-by}
+use Rattle.sem_safety.proofs.Skeleton.{CallLeaves, call_row-by}
 
 module _ (rooted : KeyName → Bool) where
   -- a new capability costs three

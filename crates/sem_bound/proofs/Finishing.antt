@@ -1,10 +1,9 @@
 -- Closing a job makes a side no heavier, and so does finishing one after the other: the job pays for its waiters, for the job above it, and for the parent of its root.
-use Rattle.std.proofs.Common.{◌≡◌, ℕ, zero, suc, ◌+◌, ◌≤◌, Bool, true, false, List, [], ◌∷◌, length, Option, Some, None, refl, sym, ap, ◌∙◌, subst, inl, inr, arith}
-use Rattle.std.specs.Prelude.{◌==◌, if◌then◌else◌}
+use Rattle.std.proofs.Common.{◌≡◌, ℕ, zero, suc, ◌+◌, ◌≤◌, Bool, true, false, List, [], ◌∷◌, length, Option, Some, None, refl, sym, ap, ◌∙◌, arith}
+use Rattle.std.specs.Prelude.{if◌then◌else◌}
 use Rattle.std.specs.List.{Contains}
 use Rattle.std.specs.Option.{option_and_then}
-use Rattle.std.proofs.lemmas.Bool.{cases_Bool, cond-true, cond-false, cond_both}
-use Rattle.std.proofs.lemmas.Option.{same_Some}
+use Rattle.std.proofs.lemmas.Bool.{cond-false, cond_both}
 use Rattle.sem_key.specs.KeyName.{KeyName, key_eq}
 use Rattle.sem_key.specs.Lists.{in_turn}
 use Rattle.sem_key.specs.Capability.{Capability}
@@ -32,6 +31,7 @@ use Rattle.sem_safety.proofs.Onwards.{AnyPlace}
 use Rattle.sem_safety.proofs.KeptRevokes.{closed-in}
 use Rattle.sem_bound.proofs.Weights.{of_key, of_keep, of_up, side-spared, of_side, side-slot, side-parked, side-removed, side-unlinked, side-send, side-counted_down, side-closed, id-weighs}
 use Rattle.sem_bound.proofs.Layering.{NoKey, IsCalm, calm}
+use Rattle.sem_safety.proofs.JobIds.{done-among, next-among}
 
 module _ (rooted : KeyName → Bool) where
   -- no heavier than m
@@ -122,23 +122,6 @@ module _ (rooted : KeyName → Bool) where
       omega (arith, w1, w2, w3, w4, out, pays, parts)
 
   -- The chain.
-  pub done-among : (s : Side) (j : ℕ) (y : JobRow) → if_done (job s j) ≡ Some y → Contains s.jobs y
-  done-among s j y done = from (job s j) refl done
-    where
-      from : (o : Option JobRow) → job s j ≡ o → if_done o ≡ Some y → Contains s.jobs y
-      from None none done = absurd cc
-      from (Some x) some done =
-          let there = found (λ (z : JobRow). z.id == j) s.jobs x some in
-          elim (cases_Bool (x.count == 0)) [
-            | inl zero' ↦ subst (Contains s.jobs) (same_Some x y (sym (cond-true (x.count == 0) (Some x) None zero') ∙ done)) there.0
-            | inr more ↦ let none : None ≡ Some y = sym (cond-false (x.count == 0) (Some x) None more) ∙ done in absurd cc
-          ]
-
-  pub next-among : (up : Option Up) (s : Side) (y : JobRow) → next_done up s.jobs ≡ Some y → Contains s.jobs y
-  next-among None s y next = absurd cc
-  next-among (Some (Local j)) s y next = done-among s j y next
-  next-among (Some (Remote kernel j)) s y next = absurd cc
-
   pub finish-lighter : (T : Setup) (i n : ℕ) (o : Option JobRow) (s : Side) → IsCalm rooted s → ((x : JobRow) → o ≡ Some x → Contains s.jobs x) → of_side rooted (finish T i n o s) ≤ of_side rooted s
   unfolding finish
   finish-lighter T i zero o s below' among = omega arith

@@ -1,87 +1,19 @@
 -- Two layers that the bound needs: the ids of the jobs rise, and a key of a root has no parent.
-use Rattle.std.proofs.Common.{◌≡◌, ℕ, ◌+◌, ◌<◌, Bool, false, not, ◌&&◌, List, [], ◌∷◌, map, get_or, Some, None, refl, sym, ap, ◌∙◌, arith}
-use Rattle.std.specs.Prelude.{◌==◌, if◌then◌else◌}
-use Rattle.std.specs.List.{Contains, All, list_any}
+use Rattle.std.proofs.Common.{◌≡◌, Bool, false, not, List, [], get_or, Some, None, refl, sym, ap, ◌∙◌}
+use Rattle.std.specs.Prelude.{if◌then◌else◌}
+use Rattle.std.specs.List.{Contains, list_any}
 use Rattle.std.proofs.lemmas.Bool.{cond_both}
 use Rattle.std.proofs.lemmas.List.Kept.{AllPairs-filter}
-use Rattle.std.proofs.lemmas.List.Quantifiers.{all_pairs_push}
-use Rattle.std.proofs.lemmas.List.Elements.{All-append, All-cons, All-nil, All-filter, All-map, All-weaker}
 use Rattle.sem_key.specs.KeyName.{KeyName, key_eq}
 use Rattle.sem_key.specs.KeyList.{with_key, without_key}
 use Rattle.sem_key.specs.Lists.{change}
 use Rattle.sem_key.specs.Capability.{Capability}
 use Rattle.sem_key.specs.CapList.{is_marked_by, with_mark}
-use Rattle.sem_msg.specs.Rows.{JobRow}
-use Rattle.sem_msg.specs.JobRows.{without_number}
 use Rattle.sem_machine.specs.Sides.{Side}
 use Rattle.sem_key.proofs.Members.{AllPairs-map, Contains-from_filter, Contains-from_map}
 use Rattle.sem_safety.specs.Seen.{AreDistinct}
 use Rattle.sem_safety.proofs.Layers.{facts, IsKept}
-use Rattle.sem_safety.proofs.Onwards.{Any, AnyPlace}
-use Rattle.sem_bound.proofs.Weights.{IdsRise}
-
--- Ids.
-
-pub record HasIds (s : Side) : Type 0 where
-  pub rise : IdsRise s.jobs
-  pub drawn : All (λ (x : JobRow). x.id < s.next_job) s.jobs
-
--- a change that leaves the ids
-rise-map : (f : JobRow → JobRow) → ((x : JobRow) → (f x).id ≡ x.id) → (xs : List JobRow) → IdsRise xs → IdsRise (map f xs)
-rise-map f same xs rise = AllPairs-map (λ a b. a.id < b.id) f xs (λ i j d lt within. let one = same (get_or xs i d) in let two = same (get_or xs j d) in let below = rise i j d lt within in omega (arith, one, two, below))
-
-drawn-map : (n : ℕ) (f : JobRow → JobRow) → ((x : JobRow) → (f x).id ≡ x.id) → (xs : List JobRow) → All (λ (x : JobRow). x.id < n) xs → All (λ (x : JobRow). x.id < n) (map f xs)
-drawn-map n f same xs drawn = All-map (λ (x : JobRow). x.id < n) f xs (All-weaker (λ (x : JobRow). x.id < n) (λ x. (f x).id < n) (λ x below. let one = same x in omega (arith, one, below)) xs drawn)
-
-ids-changed : (s : Side) → HasIds s → (j : ℕ) (f : JobRow → JobRow) → ((x : JobRow) → ((f x).id ≡ x.id) × ((f x).root ≡ x.root)) → HasIds (record s { jobs = change (λ x. x.id == j) f s.jobs })
-ids-changed s is j f same =
-    let g : JobRow → JobRow = λ x. if x.id == j then f x else x in
-    let keeps : (x : JobRow) → (g x).id ≡ x.id = λ x. cond_both (x.id == j) (f x) x (λ (y : JobRow). y.id ≡ x.id) (λ _. (same x).0) (λ _. refl) in
-    record { rise = rise-map g keeps s.jobs is.rise; drawn = drawn-map s.next_job g keeps s.jobs is.drawn }
-
-pub ids : IsKept (facts Any AnyPlace) HasIds
-ids = record {
-  keeps_counted = λ s is v. record { rise = is.rise; drawn = is.drawn };
-  keeps_drawn = λ s is v. record { rise = is.rise; drawn = is.drawn };
-  keeps_slot = λ s is v sel state of_vpe. record { rise = is.rise; drawn = is.drawn };
-  keeps_parked = λ s is v p here. record { rise = is.rise; drawn = is.drawn };
-  keeps_unparked = λ s is v. record { rise = is.rise; drawn = is.drawn };
-  keeps_asked = λ s is v a here. record { rise = is.rise; drawn = is.drawn };
-  keeps_taken = λ s is v. record { rise = is.rise; drawn = is.drawn };
-  keeps_buried = λ s is v ends. record { rise = is.rise; drawn = is.drawn };
-  keeps_bound = λ s is v ep src c held unmarked here. record { rise = is.rise; drawn = is.drawn };
-  keeps_rung = λ s is v ep f. record { rise = is.rise; drawn = is.drawn };
-  keeps_added = λ s is c here childless unmarked. record { rise = is.rise; drawn = is.drawn };
-  keeps_linked = λ s is p k here. record { rise = is.rise; drawn = is.drawn };
-  keeps_unlinked = λ s is p k. record { rise = is.rise; drawn = is.drawn };
-  keeps_marked = λ s is ks j here. record { rise = is.rise; drawn = is.drawn };
-  keeps_restored = λ s is k. record { rise = is.rise; drawn = is.drawn };
-  keeps_removed = λ s is j. record { rise = is.rise; drawn = is.drawn };
-  keeps_pending_added = λ s is p pends. record { rise = is.rise; drawn = is.drawn };
-  keeps_pending_removed = λ s is k. record { rise = is.rise; drawn = is.drawn };
-  keeps_opened = λ s is root up waiters keep. record {
-    rise = all_pairs_push (λ a b. a.id < b.id) s.jobs (record { id = s.next_job; root = root; up = up; waiters = waiters; count = 0; keep = keep }) is.rise is.drawn;
-    drawn = All-append (λ (x : JobRow). x.id < s.next_job + 1) s.jobs (record { id = s.next_job; root = root; up = up; waiters = waiters; count = 0; keep = keep } ∷ [])
-        (All-weaker (λ (x : JobRow). x.id < s.next_job) (λ (x : JobRow). x.id < s.next_job + 1) (λ x below. omega (arith, below)) s.jobs is.drawn)
-        (All-cons (λ (x : JobRow). x.id < s.next_job + 1) (record { id = s.next_job; root = root; up = up; waiters = waiters; count = 0; keep = keep }) [] (omega arith) (All-nil (λ (x : JobRow). x.id < s.next_job + 1)));
-  };
-  keeps_changed = λ s is j f same. ids-changed s is j f same;
-  keeps_left = λ s is j v. record {
-    rise = rise-map (λ (x : JobRow). record x { waiters = without_number x.waiters v; keep = x.keep && not ((x.id == j) && (x.root.vpe == v)) }) (λ x. refl) s.jobs is.rise;
-    drawn = drawn-map s.next_job (λ (x : JobRow). record x { waiters = without_number x.waiters v; keep = x.keep && not ((x.id == j) && (x.root.vpe == v)) }) (λ x. refl) s.jobs is.drawn;
-  };
-  keeps_closed = λ s is j. record { rise = AllPairs-filter (λ a b. a.id < b.id) (λ x. not (x.id == j)) s.jobs is.rise; drawn = All-filter (λ (x : JobRow). not (x.id == j)) (λ (x : JobRow). x.id < s.next_job) s.jobs is.drawn };
-  keeps_send = λ s is j msg here. record { rise = is.rise; drawn = is.drawn };
-  keeps_sent = λ s is j. record { rise = is.rise; drawn = is.drawn };
-  keeps_inbox = λ s is message here. record { rise = is.rise; drawn = is.drawn };
-  of_link = λ s is c among k child. tt;
-  spreads = λ p k here doomed. tt;
-  asks = λ v n calls is. is;
-  offers = λ k o is. tt;
-  prepares = λ parent k object sel offered place handed. (tt, place);
-  acks = λ parent k prepared offered is. is;
-  of_pending = λ s is k p there acked. acked;
-}
+use Rattle.sem_safety.proofs.Onwards.{AnyPlace}
 
 -- Keys.
 

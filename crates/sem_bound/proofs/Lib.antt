@@ -11,12 +11,3 @@ pub mod Bound
 pub mod Left
 pub mod Spent
 pub mod Tight
-pub mod AskWeights
-pub mod AskRevokes
-pub mod AskRows
-pub mod AskWorlds
-pub mod FewAsks
-pub mod Resting
-pub mod Skeleton
-pub mod Open
-pub mod OpenRows

@@ -36,7 +36,8 @@ use Rattle.sem_machine.proofs.Folds.{option-keeps}
 use Rattle.sem_machine.proofs.Weighing.{of_option, weigh-put, weigh-drop, weigh-none, weigh-replicate}
 use Rattle.sem_machine.specs.Seeded.{is_call, is_kill}
 use Rattle.sem_bound.specs.Counts.{calls_made, kills_made}
-use Rattle.sem_bound.proofs.Weights.{IdsRise, besides, in_outbox, in_link, of_inbox, of_ask, of_parked, of_row, of_outbox, of_key, of_side, side-row, side-counted, side-taken, side-unparked, side-lighter, side-added, side-inbox, side-sent}
+use Rattle.sem_safety.proofs.JobIds.{IdsRise}
+use Rattle.sem_bound.proofs.Weights.{besides, in_outbox, in_link, of_inbox, of_ask, of_parked, of_row, of_outbox, of_key, of_side, side-row, side-counted, side-taken, side-unparked, side-lighter, side-added, side-inbox, side-sent}
 use Rattle.sem_bound.proofs.Layering.{IsCalm}
 use Rattle.sem_bound.proofs.Ending.{ended-lighter}
 use Rattle.sem_bound.proofs.Calling.{call_row-costs}

@@ -1,5 +1,5 @@
 -- What each part of a side weighs for the bound, and what each change of a side does to the weight.
-use Rattle.sem_machine.proofs.Weighing.{change-once, change-less}
+use Rattle.sem_machine.proofs.Weighing.{change-once, change-less, of_option, weigh-put, weigh-drop, weigh-parts, weigh-filter, weigh-among}
 use Rattle.std.proofs.Common.{◌≡◌, ℕ, ◌+◌, ◌*◌, ◌-◌, ◌<◌, ◌≤◌, Bool, true, false, not, ◌&&◌, List, [], ◌∷◌, ◌++◌, length, drop, get_or, Option, Some, None, is_some, is_none, slice_get, refl, sym, ap, ◌∙◌, inl, inr, arith, eq-eqb}
 use Rattle.std.specs.Prelude.{◌==◌, nat_lt, if◌then◌else◌}
 use Rattle.std.specs.List.{Contains, AllPairs, filter, flat_map, sum_by, list_any}
@@ -30,8 +30,8 @@ use Rattle.sem_machine.specs.Endpoints.{with_ring}
 use Rattle.sem_key.proofs.KeyTests.{key_eq-true, key_eq-from}
 use Rattle.sem_key.proofs.Members.{Contains-head, Contains-tail, Contains-filter, Contains-from_filter}
 use Rattle.sem_safety.specs.Seen.{AreDistinct}
-use Rattle.sem_machine.proofs.Weighing.{of_option, weigh-put, weigh-drop, weigh-parts, weigh-filter, weigh-among}
 use Rattle.sem_machine.proofs.Lengths.{with_key-longer, without_key-shorter, with_number-longer, without_number-shorter, weigh-map_less}
+use Rattle.sem_safety.proofs.JobIds.{IdsRise}
 
 -- what a message weighs besides its way
 abbrev pub besides : Message → ℕ
@@ -79,10 +79,6 @@ of_row r = sum_by of_ask r.asks
 
 abbrev pub of_outbox : List Message → ℕ
 of_outbox ms = sum_by in_outbox ms
-
--- jobs by rising id
-abbrev pub IdsRise : List JobRow → Type 0
-IdsRise xs = AllPairs (λ a b. a.id < b.id) xs
 
 -- rooted tells of which keys the capability has no parent
 module _ (rooted : KeyName → Bool) where

@@ -3,5 +3,3 @@
 #![tactic(auto)]
 
 pub mod bounds;
-pub mod exchanges;
-pub mod idle;

@@ -19,7 +19,7 @@ use Rattle.sem_machine.specs.Schedules.{IsSchedule, world_after}
 use Rattle.sem_machine.specs.Journals.{grants}
 use Rattle.sem_machine.specs.Living.{HoldsCap}
 use Rattle.sem_machine.proofs.Weighing.{weigh-among}
-use Rattle.sem_bound.specs.Resting.{Names, HasMarkedParent}
+use Rattle.sem_revoke.specs.Resting.{Names, HasMarkedParent}
 use Rattle.sem_revoke.specs.Scales.{names, asking}
 use Rattle.sem_revoke.specs.Views.{Under}
 use Rattle.sem_revoke.proofs.Events.{Par, Made}

@@ -49,8 +49,8 @@ use Rattle.sem_safety.proofs.HeldOnce.{weigh-at}
 use Rattle.sem_safety.proofs.KeptRows.{CallGives}
 use Rattle.sem_safety.proofs.KeptSteps.{Dies, AskGives, ActGives}
 use Rattle.sem_safety.proofs.Layers.{Facts, Brings, BringsFrom, Awaits, AsksFor, InEndpoint, InGrant, InCut}
-use Rattle.sem_bound.proofs.AskWeights.{waits, free, of_message, of_messages, of_ask, of_asks, of_inbox, of_job, of_side}
-use Rattle.sem_bound.proofs.AskWorlds.{of_links}
+use Rattle.sem_safety.proofs.AskWeights.{waits, free, of_message, of_messages, of_ask, of_asks, of_inbox, of_job, of_side}
+use Rattle.sem_safety.proofs.AskWorlds.{of_links}
 use Rattle.sem_revoke.proofs.Lasting.{all-caused, side-here, side-other, call-step}
 use Rattle.sem_revoke.proofs.ReadyCalls.{single, here-one, calls-unparked, quiet-event}
 use Rattle.sem_revoke.proofs.Waits.{parked-here}

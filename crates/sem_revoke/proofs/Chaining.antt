@@ -29,7 +29,7 @@ use Rattle.sem_safety.proofs.Updates.{seen-cap_changed, seen-caps_removed, seen-
 use Rattle.sem_machine.proofs.Weighing.{weigh-none, weigh-put}
 use Rattle.sem_safety.proofs.Lives.{at_side, at_cap, at_parked, lives-parked, lives-send}
 use Rattle.sem_sound.proofs.Rising.{filtered-rises}
-use Rattle.sem_bound.proofs.Layering.{ids}
+use Rattle.sem_safety.proofs.JobIds.{ids}
 use Rattle.sem_revoke.specs.Views.{Hand, free_hand, token, closing}
 use Rattle.sem_revoke.specs.Scales.{of_side, one_if, names, asking, naming, counting, noticing, straying}
 use Rattle.sem_revoke.proofs.Keeping.{HoldsOn, holds-same, fit-on, keep, Sweeps, keep_swept, fit-swept, not-gone}

@@ -24,7 +24,7 @@ use Rattle.sem_safety.proofs.Updates.{seen-cap_changed}
 use Rattle.sem_machine.proofs.Weighing.{weigh-none}
 use Rattle.sem_safety.proofs.Lives.{at_side, at_cap}
 use Rattle.sem_safety.proofs.LiveWorlds.{sum-le}
-use Rattle.sem_bound.proofs.Layering.{HasIds, ids}
+use Rattle.sem_safety.proofs.JobIds.{HasIds, ids}
 use Rattle.sem_sound.proofs.Rising.{mapped-rises}
 use Rattle.sem_revoke.specs.Views.{Hand, free_hand, token}
 use Rattle.sem_revoke.specs.Scales.{Scale, sum_from, of_messages, of_inbox, of_side, of_world, one_if, names, asking, naming, counting, noticing, straying, asking_message, token_message}

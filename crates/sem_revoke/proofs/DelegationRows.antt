@@ -34,7 +34,7 @@ use Rattle.sem_machine.specs.Machine.{next_call, local_step}
 use Rattle.sem_machine.proofs.Folds.{option-keeps}
 use Rattle.sem_safety.specs.Onward.{IsOnward}
 use Rattle.sem_safety.proofs.Onwards.{onward-same, onward, drawn-below}
-use Rattle.sem_bound.proofs.Skeleton.{call_row-by, decided-by, handled-by}
+use Rattle.sem_safety.proofs.Skeleton.{call_row-by, decided-by, handled-by}
 use Rattle.sem_revoke.specs.Delegations.{of_key, of_message, of_parked, of_inbox, of_side}
 use Rattle.sem_revoke.proofs.Delegations.{Few, side-parked, side-unparked, side-send, side-inbox, few-send, few-park, few-ready, few-refused, few-ask_refused, few-ended, few-revoked, few-cleared, few-requested, few-done}
 

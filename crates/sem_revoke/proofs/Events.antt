@@ -25,11 +25,10 @@ use Rattle.sem_key.proofs.Members.{found, Contains-head, Contains-cons_cases, Co
 use Rattle.sem_key.proofs.Puts.{get_or-put_same, get_or-put_other}
 use Rattle.sem_safety.specs.Growth.{grown, IsGrown}
 use Rattle.sem_safety.specs.Growth.IsGrown.{no_grants, granted_next}
-use Rattle.sem_safety.proofs.GrownLines.{parent-grown}
-use Rattle.sem_safety.proofs.SettledCaps.{parent-is, child-grown}
+use Rattle.sem_safety.proofs.GrownLines.{parent-grown, parent-is, child-grown}
 use Rattle.sem_safety.proofs.Lives.{all_held, at_key, at_grant}
 use Rattle.sem_safety.proofs.LiveWorlds.{at_world}
-use Rattle.sem_bound.proofs.Layering.{HasIds}
+use Rattle.sem_safety.proofs.JobIds.{HasIds}
 use Rattle.sem_revoke.specs.Views.{free_hand, IsFit, Revokes, IsCaused}
 use Rattle.sem_revoke.specs.Scales.{Scale, sum_from, of_messages, of_side, of_inbox, of_world, asking, naming, counting, noticing, straying}
 use Rattle.sem_revoke.proofs.Scaling.{world-side}

@@ -3,7 +3,7 @@ use Rattle.sem_safety.proofs.CarryingWorlds.{used-made}
 use Rattle.sem_revoke.proofs.Worlds.{caps-some}
 use Rattle.sem_revoke.proofs.Lasting.{grants-on, held-lasts}
 use Rattle.sem_revoke.specs.Revocation.{IsDoomed}
-use Rattle.sem_bound.specs.Resting.{IsCutOff}
+use Rattle.sem_revoke.specs.Resting.{IsCutOff}
 use Rattle.sem_msg.specs.declared.call.Call.TheVariants.{Derive, Gate, Obtain, Delegate, OpenSession, AskOffer, Revoke, Bind, Read, Write, Send as SendCall, Credit, Exit, Clear}
 use Rattle.std.specs.Option.{option_map_or, IsSome}
 use Rattle.sem_msg.specs.declared.entry.Detail.TheVariants.{Called, Carried, Asked, Nothing}

@@ -39,7 +39,7 @@ use Rattle.sem_machine.proofs.Weighing.{weigh-among}
 use Rattle.sem_safety.proofs.CarryingWorlds.{among-grants}
 use Rattle.sem_safety.proofs.HeldOnce.{weigh-at}
 use Rattle.sem_safety.proofs.Lives.{at_message}
-use Rattle.sem_bound.proofs.Skeleton.{call_row-by}
+use Rattle.sem_safety.proofs.Skeleton.{call_row-by}
 use Rattle.sem_revoke.specs.Delegations.{of_key, of_inbox, of_side}
 use Rattle.sem_revoke.specs.Revocation.{IsDoomed}
 use Rattle.sem_revoke.proofs.Arriving.{schedule-revokes}

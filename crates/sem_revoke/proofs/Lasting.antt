@@ -35,17 +35,15 @@ use Rattle.sem_key.proofs.Members.{list_any-at, Contains-map, Contains-filter, C
 use Rattle.sem_safety.proofs.CarryingWorlds.{stepped, Ends, entry-dies}
 use Rattle.sem_safety.proofs.Drawers.{side-after}
 use Rattle.sem_safety.proofs.GoingOn.{entry-enabled, moved-sides, run-append, run-prefix}
-use Rattle.sem_safety.proofs.GrownLines.{line-self, line-above}
+use Rattle.sem_safety.proofs.GrownLines.{line-self, line-above, child-grown, few-grants}
 use Rattle.sem_safety.proofs.KeptSteps.{Dies}
 use Rattle.sem_safety.proofs.Layers.{facts_of}
 use Rattle.sem_safety.proofs.MarkCauses.{above}
 use Rattle.sem_safety.proofs.OneLife.{all-grown, all-new}
 use Rattle.sem_safety.proofs.Onwards.{Any, AnyPlace}
 use Rattle.sem_safety.proofs.Parents.{local_step-below}
-use Rattle.sem_safety.proofs.SettledCaps.{child-grown}
-use Rattle.sem_safety.proofs.SettledWorlds.{few-grants}
 use Rattle.sem_safety.specs.Growth.{IsGrown}
-use Rattle.sem_bound.specs.Resting.{IsCutOff}
+use Rattle.sem_revoke.specs.Resting.{IsCutOff}
 use Rattle.sem_revoke.specs.Revocation.{IsDoomed}
 use Rattle.sem_revoke.specs.Views.{IsCaused}
 use Rattle.sem_revoke.proofs.Arriving.{no-late, schedule-revokes}

@@ -51,3 +51,6 @@ pub mod DelegationRows
 pub mod DelegationWorlds
 pub mod Granted
 pub mod Safe
+pub mod Open
+pub mod OpenRows
+pub mod IdleWorlds

@@ -1,5 +1,5 @@
 -- What the layers say of live keys: the parent of a live key is held and leads to it, notices are of the dead, and gifts come before requests.
-use Rattle.std.proofs.Common.{◌≡◌, ℕ, ◌+◌, ◌≤◌, ◌++◌, true, ◌&&◌, List, [], ◌∷◌, Some, None, refl, sym, ap, ◌∙◌, inl, inr, arith, eq-eqb}
+use Rattle.std.proofs.Common.{IsSome, ◌≡◌, ℕ, ◌+◌, ◌≤◌, ◌++◌, true, ◌&&◌, List, [], ◌∷◌, Some, None, refl, sym, ap, ◌∙◌, inl, inr, arith, eq-eqb, Option}
 use Rattle.std.specs.Prelude.{◌==◌}
 use Rattle.std.specs.List.{Contains}
 use Rattle.std.proofs.lemmas.Bool.{cases_eq, cond-true, and_from}
@@ -19,7 +19,6 @@ use Rattle.sem_machine.specs.Living.{fetched_from, way, InFlight, HoldsCap, IsLi
 use Rattle.sem_machine.specs.Schedules.{IsSchedule, world_after}
 use Rattle.sem_machine.specs.Journals.{grants}
 use Rattle.sem_key.proofs.KeyTests.{key_eq-same, Contains-from_has_key}
-use Rattle.sem_safety.proofs.SettledCaps.{some-cap}
 use Rattle.sem_machine.proofs.Weighing.{weigh-among}
 use Rattle.sem_safety.proofs.HeldOnce.{weigh-at}
 use Rattle.sem_safety.proofs.Lives.{at_key, at_message, at_messages, at_parked, at_side}
@@ -34,6 +33,10 @@ use Rattle.sem_revoke.proofs.Readying.{schedule-homes}
 use Rattle.sem_revoke.proofs.Ordering.{late, late-rest, way-gifts, inbox-part, outs-part, link-part, fetched-le}
 use Rattle.sem_revoke.proofs.Arriving.{schedule-revokes}
 use Rattle.sem_safety.proofs.OneLife.{all-grown}
+
+some-cap : (o : Option Capability) → IsSome o → (x : Capability) × (o ≡ Some x)
+some-cap None some = absurd cc
+some-cap (Some x) some = (x, refl)
 
 -- a gift in flight is on its way
 flight-coming : (k : KeyName) (W : World) (m : Message) → InFlight W m → at_message k m ≡ 1 → 1 ≤ at_world k on_its_way W

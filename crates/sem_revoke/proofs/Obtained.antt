@@ -36,8 +36,8 @@ use Rattle.sem_safety.proofs.GrownLines.{line-self}
 use Rattle.sem_safety.proofs.HeldOnce.{weigh-at}
 use Rattle.sem_safety.proofs.Lives.{at_message}
 use Rattle.sem_sound.proofs.Scheduling.{schedule-sound}
-use Rattle.sem_bound.proofs.AskWeights.{here, of_message, of_messages, of_inbox}
-use Rattle.sem_bound.proofs.AskWorlds.{of_links}
+use Rattle.sem_safety.proofs.AskWeights.{here, of_message, of_messages, of_inbox}
+use Rattle.sem_safety.proofs.AskWorlds.{of_links}
 use Rattle.sem_revoke.specs.Revocation.{IsDoomed}
 use Rattle.sem_revoke.proofs.Arriving.{schedule-revokes}
 use Rattle.sem_revoke.proofs.Asking.{Waits, rest, HasAbout, waits-on, all-awaited}

@@ -24,7 +24,7 @@ use Rattle.sem_safety.specs.Seen.{Seen}
 use Rattle.sem_key.proofs.KeySets.{with_key-from, key_set-has}
 use Rattle.sem_safety.proofs.Updates.{seen-mark_all, seen-job_opened}
 use Rattle.sem_safety.proofs.Lives.{at_side, lives}
-use Rattle.sem_bound.proofs.Layering.{ids}
+use Rattle.sem_safety.proofs.JobIds.{ids}
 use Rattle.sem_revoke.proofs.Closing.{changed-rises}
 use Rattle.sem_revoke.specs.Views.{Hand, IsAlone, IsCaused, free_hand, children}
 use Rattle.sem_revoke.specs.Scales.{one_if, names, asking, naming, counting, noticing, straying}

@@ -17,7 +17,7 @@ use Rattle.sem_key.proofs.Puts.{get_or-put_same, get_or-put_other}
 use Rattle.sem_safety.proofs.HeldOnce.{weigh-at}
 use Rattle.sem_safety.proofs.Lives.{at_message, at_messages, at_inbox, at_side}
 use Rattle.sem_safety.proofs.LiveWorlds.{at_world}
-use Rattle.sem_safety.proofs.SettledCaps.{child-grown}
+use Rattle.sem_safety.proofs.GrownLines.{child-grown}
 use Rattle.sem_revoke.specs.Scales.{Scale, sum_from, of_messages, of_inbox, of_side, of_world, one_if, asking, asking_message}
 use Rattle.sem_revoke.proofs.Viewing.{on_its_way}
 use Rattle.sem_revoke.proofs.Events.{Par, Made, IsReady, Losing, Holds}

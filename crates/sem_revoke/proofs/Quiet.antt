@@ -4,7 +4,6 @@ use Rattle.std.proofs.Common.{◌≡◌, ◌⊎◌, ℕ, zero, suc, ◌+◌, ◌
 use Rattle.std.specs.Prelude.{◌==◌, if◌then◌else◌}
 use Rattle.std.specs.List.{Contains}
 use Rattle.std.proofs.lemmas.Bool.{cases_Bool, cases_eq, cond_both, cond-true, cond-false, false_from_ne_true}
-use Rattle.std.proofs.lemmas.Option.{same_Some}
 use Rattle.std.proofs.lemmas.List.Elements.{Contains-append_cases}
 use Rattle.sem_key.specs.declared.object.Object.{Object}
 use Rattle.sem_key.specs.KeyName.{KeyName, key_eq}
@@ -13,7 +12,7 @@ use Rattle.sem_key.specs.Capability.{Capability}
 use Rattle.sem_key.specs.CapList.{marked_by, fresh}
 use Rattle.sem_key.specs.Region.{region, children_of}
 use Rattle.sem_key.proofs.KeyTests.{key_eq-true}
-use Rattle.sem_key.proofs.Members.{Contains-nil, Contains-cons_cases, Contains-from_filter, Contains-from_map, found, Contains-tail}
+use Rattle.sem_key.proofs.Members.{Contains-nil, Contains-cons_cases, Contains-from_filter, Contains-from_map, Contains-tail}
 use Rattle.sem_key.proofs.Puts.{get_or-put_same, get_or-put_other}
 use Rattle.sem_msg.specs.declared.code.Code.{Code}
 use Rattle.sem_msg.specs.declared.code.Code.TheVariants.{Ok as OkCode, Dead}
@@ -31,7 +30,7 @@ use Rattle.sem_msg.specs.declared.state.Slot.TheVariants.{Free, Held}
 use Rattle.sem_msg.specs.declared.state.Up.{Up}
 use Rattle.sem_msg.specs.declared.state.Up.TheVariants.{Local, Remote}
 use Rattle.sem_msg.specs.Rows.{JobRow, VpeRow, no_vpe}
-use Rattle.sem_msg.specs.JobRows.{if_done, next_done, job_of, with_number, without_number}
+use Rattle.sem_msg.specs.JobRows.{if_done, next_done, with_number, without_number}
 use Rattle.sem_msg.specs.VpeRows
 use Rattle.sem_msg.specs.Setup.{Setup}
 use Rattle.sem_msg.specs.Lookups.{owner_of, place_owner, is_local, kernel_of}
@@ -40,7 +39,8 @@ use Rattle.sem_machine.specs.Asks.{asker, is_unawaited, promise_freed, call_refu
 use Rattle.sem_machine.specs.Revokes.{count_raised, count_lowered, with_up, other_marker, adopted, request_or_adopt, root_spared, selectors_freed, all_freed, swept, woken, parent_left, up_told, left_parent, closed_here, closed, finish, settled, opened, begin, waiter_left, revoke_begun, clear_begun, ready_freed, obtain_cancelled, request_begun, revoke_requested, revoke_done}
 use Rattle.sem_machine.specs.Ends.{ask_ended, call_ended, revoked_if_left, keys_of, ended}
 use Rattle.sem_machine.proofs.Folds.{in_turn-keeps, in_turn-keeps_each, option-keeps}
-use Rattle.sem_bound.proofs.AskWeights.{waits}
+use Rattle.sem_safety.proofs.JobIds.{done-among, next-among}
+use Rattle.sem_safety.proofs.AskWeights.{waits}
 use Rattle.sem_revoke.proofs.Rowing.{settled_if_there, revoked_if_there}
 use Rattle.sem_revoke.proofs.Waits.{parked-here, parked-other}
 
@@ -207,31 +207,16 @@ module _ (v : ℕ) (k0 : KeyName) (Touched : Type 0) (q : Option Parked) (d : Op
       let one : Quiet gone = quiet-jobs t Q gone.jobs (λ y there. Q.waiters y (Contains-from_filter (λ (z : JobRow). not (z.id == x.id)) t.jobs y there).0) in
       quiet-told x.up (closed_here T i x gone) (quiet-left T i x.id x.count x.root x.up x.waiters x.keep (left_parent gone x) (woken x.waiters (swept x gone)) (quiet-woken x.waiters (swept x gone) (Q.waiters x among) (quiet-swept x gone one)))
 
-  done-among : (xs : List JobRow) (j : ℕ) (y : JobRow) → if_done (job_of xs j) ≡ Some y → Contains xs y
-  done-among xs j y done = from (job_of xs j) refl done
-    where
-      from : (o : Option JobRow) → job_of xs j ≡ o → if_done o ≡ Some y → Contains xs y
-      from None none is = absurd cc
-      from (Some x) some is = elim (cases_Bool (x.count == 0)) [
-        | inl pass ↦ subst (Contains xs) (same_Some x y (sym (cond-true (x.count == 0) (Some x) None pass) ∙ is)) (found (λ (z : JobRow). z.id == j) xs x some).0
-        | inr fail ↦ let none : None ≡ Some y = sym (cond-false (x.count == 0) (Some x) None fail) ∙ is in absurd cc
-      ]
-
-  next-among : (up : Option Up) (xs : List JobRow) (y : JobRow) → next_done up xs ≡ Some y → Contains xs y
-  next-among None xs y next = absurd cc
-  next-among (Some (Local j)) xs y next = done-among xs j y next
-  next-among (Some (Remote kernel j)) xs y next = absurd cc
-
   quiet-finish : (T : Setup) (i n : ℕ) (o : Option JobRow) (t : Side) → ((x : JobRow) → o ≡ Some x → Contains t.jobs x) → Quiet t → Quiet (finish T i n o t)
   unfolding finish
   quiet-finish T i zero o t among Q = Q
   quiet-finish T i (suc n) None t among Q = Q
   quiet-finish T i (suc n) (Some x) t among Q =
       let t2 : Side = closed T i x t in
-      quiet-finish T i n (next_done x.up t2.jobs) t2 (λ y next. next-among x.up t2.jobs y next) (quiet-closed T i x t (among x refl) Q)
+      quiet-finish T i n (next_done x.up t2.jobs) t2 (λ y next. next-among x.up t2 y next) (quiet-closed T i x t (among x refl) Q)
 
   quiet-settled : (T : Setup) (i j : ℕ) (t : Side) → Quiet t → Quiet (settled T i j t)
-  quiet-settled T i j t Q = quiet-finish T i (length t.jobs) (if_done (job t j)) t (λ x done. done-among t.jobs j x done) Q
+  quiet-settled T i j t Q = quiet-finish T i (length t.jobs) (if_done (job t j)) t (λ x done. done-among t j x done) Q
 
   -- A job begins.
 

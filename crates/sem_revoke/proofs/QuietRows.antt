@@ -31,8 +31,8 @@ use Rattle.sem_machine.specs.Upcalls.{given, given_kind, given_here, ask_decided
 use Rattle.sem_machine.specs.Handles.{obtain_ready, acknowledged, handled}
 use Rattle.sem_machine.specs.Resumes.{delegate_granted, delegate_resumed, resumed, resume_row}
 use Rattle.sem_machine.proofs.Folds.{option-keeps}
-use Rattle.sem_bound.proofs.AskWeights.{here, of_message}
-use Rattle.sem_bound.proofs.Skeleton.{call_row-by, decided-by, handled-by}
+use Rattle.sem_safety.proofs.AskWeights.{here, of_message}
+use Rattle.sem_safety.proofs.Skeleton.{call_row-by, decided-by, handled-by}
 use Rattle.sem_revoke.proofs.Quiet.{Quiet, quiet-send, quiet-caps, quiet-park, quiet-slot, quiet-drawn, quiet-asked, quiet-taken, quiet-installed, quiet-added, quiet-removed, quiet-ready, quiet-ask_refused, quiet-refused, quiet-ended, quiet-revoked, quiet-cleared, quiet-requested, quiet-done}
 
 module _ (v : ℕ) (k0 : KeyName) (Touched : Type 0) (q : Option Parked) (d : Option Pending) where

@@ -54,8 +54,8 @@ use Rattle.sem_safety.proofs.SoundEndpoints.{IsSoundSide, sound}
 use Rattle.sem_safety.proofs.SoundWorlds.{start-sound}
 use Rattle.sem_safety.proofs.Updates.{seen-cap_added}
 use Rattle.sem_safety.specs.Seen.{Seen}
-use Rattle.sem_bound.proofs.AskWeights.{free, here, of_message, of_ask, of_asks, of_inbox, of_job, of_side}
-use Rattle.sem_bound.proofs.AskWorlds.{of_world, world-side, one-exchange}
+use Rattle.sem_safety.proofs.AskWeights.{free, here, of_message, of_ask, of_asks, of_inbox, of_job, of_side}
+use Rattle.sem_safety.proofs.AskWorlds.{of_world, world-side, one-exchange}
 use Rattle.sem_revoke.proofs.Quiet.{Quiet, quiet-row, quiet-ended}
 use Rattle.sem_revoke.proofs.QuietRows.{quiet-call, quiet-upcall, quiet-resume, quiet-handled}
 

@@ -31,13 +31,12 @@ use Rattle.sem_safety.proofs.GoingOn.{moved-sides, run-append, entry-enabled}
 use Rattle.sem_safety.proofs.MarkCauses.{link-granted}
 use Rattle.sem_safety.proofs.OneLife.{all-new, all-grown, made-drawn}
 use Rattle.sem_safety.proofs.Parents.{local_step-below}
-use Rattle.sem_safety.proofs.SettledCaps.{child-grown}
+use Rattle.sem_safety.proofs.GrownLines.{child-grown}
 use Rattle.sem_safety.proofs.SideLayers.{run-kept}
 use Rattle.sem_machine.proofs.Weighing.{weigh-none}
 use Rattle.sem_safety.proofs.Lives.{all_held, at_key, at_side, at_grant}
 use Rattle.sem_safety.proofs.LiveWorlds.{at_world, at_root, world-side, after-lives, schedule-lives, lives-once}
-use Rattle.sem_bound.proofs.Layering.{HasIds, ids}
-use Rattle.sem_bound.proofs.Bound.{start-ids}
+use Rattle.sem_safety.proofs.JobIds.{HasIds, ids, start-ids}
 use Rattle.sem_sound.proofs.Named.{declared-below, declared-kernel}
 use Rattle.sem_sound.proofs.Scheduling.{schedule-sound}
 use Rattle.sem_revoke.specs.Views.{IsFit}

@@ -33,7 +33,7 @@ use Rattle.sem_key.proofs.KeyTests.{key_eq-same, key_eq-true, key_eq-from}
 use Rattle.sem_machine.proofs.Folds.{in_turn-keeps, in_turn-keeps_each}
 use Rattle.sem_machine.proofs.Weighing.{weigh-map}
 use Rattle.sem_safety.proofs.Lives.{at_parked, lives-parked, lives-unparked, lives-inbox}
-use Rattle.sem_bound.proofs.Layering.{HasIds, ids}
+use Rattle.sem_safety.proofs.JobIds.{HasIds, ids}
 use Rattle.sem_revoke.specs.Views.{Hand, IsCaused, free_hand, token, request}
 use Rattle.sem_revoke.specs.Scales.{Scale, of_side, of_inbox, one_if, names, asking, naming, counting, noticing, straying, asking_message, token_message}
 use Rattle.sem_revoke.proofs.Keeping.{holds-same, same-mark, cases_Option, not-gone}

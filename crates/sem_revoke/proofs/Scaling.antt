@@ -15,7 +15,7 @@ use Rattle.sem_machine.specs.Sides.{Side, no_side, outbox, job, job_opened, job_
 use Rattle.sem_machine.specs.Machine.{World, side, link, with_side, with_link}
 use Rattle.sem_key.proofs.Members.{Contains-head, Contains-tail}
 use Rattle.sem_machine.proofs.Weighing.{of_option, weigh-drop}
-use Rattle.sem_bound.proofs.Weights.{IdsRise}
+use Rattle.sem_safety.proofs.JobIds.{IdsRise}
 use Rattle.sem_revoke.specs.Scales.{Scale, sum_from, of_messages, of_inbox, of_side, of_world}
 
 -- Sums by place.

@@ -22,14 +22,13 @@ use Rattle.sem_msg.specs.declared.state.Parked.{Parked}
 use Rattle.sem_msg.specs.declared.state.Parked.TheVariants.{ObtainWait, ObtainReady, ObtainCancelled, DelegateWait, DelegateReady, RevokeWait, Ready}
 use Rattle.sem_msg.specs.Rows.{JobRow}
 use Rattle.sem_msg.specs.Setup.{Setup, IsSetup}
-use Rattle.sem_msg.specs.Lookups.{kernel_of, owner_of}
+use Rattle.sem_msg.specs.Lookups.{kernel_of, owner_of, service_named, denies}
 use Rattle.sem_msg.specs.declared.code.Code.TheVariants.{NoCap, NoService, BadKind}
 use Rattle.sem_machine.specs.Sides.{Side, no_side, row, cap, cap_in, own, slot, endpoint, parked, is_alive, call_counted, ask_taken, unparked, with_inbox, sent}
 use Rattle.sem_machine.specs.Steps.{Step, plain, answer, cutting}
 use Rattle.sem_machine.specs.Calls.{own_tests, destination_tests, derive_tests, gate_tests, ask_made, obtain_tests, open_tests, offer_tests, delegate_tests, bind_tests, call_row}
 use Rattle.sem_msg.specs.Uses.{memory_tests, send_tests, credit_tests}
 use Rattle.sem_machine.specs.Revokes.{revoke_begun, clear_begun}
-use Rattle.sem_msg.specs.Lookups.{service_named, denies}
 use Rattle.sem_msg.specs.declared.message.Target.TheVariants.{Serv as ServTarget, Offer as OfferTarget}
 use Rattle.sem_machine.proofs.Folds.{option-keeps}
 use Rattle.sem_machine.proofs.FirstCodes.{unless-keeps}
@@ -43,18 +42,17 @@ use Rattle.sem_machine.specs.Resumes.{can_resume, delegate_granted, delegate_res
 use Rattle.sem_machine.specs.Handles.{handled}
 use Rattle.sem_machine.specs.Machine.{World, side, with_side, input_of, start, local_step, local_entry, next_call, detail_of, replied_vpe, after, entry_of, is_enabled, is_locally_enabled}
 use Rattle.sem_machine.specs.Schedules.{IsSchedule, world_after}
-use Rattle.sem_machine.specs.Journals.{grants, root_keys, made, answered}
+use Rattle.sem_machine.specs.Journals.{grants, root_keys, made, answered, cut_off}
 use Rattle.sem_machine.specs.Safety.{revoked_is_gone}
 use Rattle.sem_key.proofs.KeyTests.{key_eq-same, key_eq-true, Contains-from_has_key, has_key-from_Contains}
 use Rattle.sem_key.proofs.Members.{found, Contains-nil, Contains-cons_cases, Contains-from_filter, Contains-map, Contains-from_map, Contains-from_flat_map}
 use Rattle.sem_key.proofs.Puts.{get_or-put_other}
 use Rattle.sem_safety.specs.History.{History, no_history, note, history, cut_at, call_by, replies_to, succeeds}
-use Rattle.sem_machine.specs.Journals.{cut_off}
 use Rattle.sem_machine.specs.Sound.{IsSound}
 use Rattle.sem_msg.specs.declared.state.Slot.{Slot}
 use Rattle.sem_msg.specs.declared.state.Slot.TheVariants.{Free, Held, Promised}
 use Rattle.sem_key.proofs.Regions.{find-at}
-use Rattle.sem_safety.proofs.SettledCaps.{child-grown}
+use Rattle.sem_safety.proofs.GrownLines.{child-grown}
 use Rattle.sem_revoke.specs.Views.{Alive}
 use Rattle.sem_safety.proofs.CarryingWorlds.{stepped}
 use Rattle.sem_safety.proofs.Drawers.{side-after}

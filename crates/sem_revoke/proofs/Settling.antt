@@ -16,7 +16,7 @@ use Rattle.sem_key.specs.Region.{has_key}
 use Rattle.sem_machine.specs.Revokes.{count_raised, with_up, other_marker, adopted, request_or_adopt}
 use Rattle.sem_key.proofs.KeyTests.{key_eq-same, key_eq-true, key_eq-from}
 use Rattle.sem_safety.proofs.Lives.{lives-send}
-use Rattle.sem_bound.proofs.Layering.{HasIds, ids}
+use Rattle.sem_safety.proofs.JobIds.{HasIds, ids}
 use Rattle.sem_revoke.specs.Views.{free_hand, children, Caught}
 use Rattle.sem_revoke.specs.Scales.{of_side, one_if, names, asking, naming, counting, noticing, straying}
 use Rattle.sem_revoke.proofs.Keeping.{holds-same, same-mark}

@@ -25,7 +25,7 @@ use Rattle.sem_safety.proofs.Updates.{seen-job_changed, seen-send}
 use Rattle.sem_machine.proofs.Weighing.{weigh-among}
 use Rattle.sem_safety.proofs.Lives.{at_message, at_parked, at_side, lives-send}
 use Rattle.sem_safety.proofs.LiveWorlds.{at_world}
-use Rattle.sem_bound.proofs.Layering.{HasIds}
+use Rattle.sem_safety.proofs.JobIds.{HasIds}
 use Rattle.sem_revoke.specs.Views.{View, Hand, IsAlone, IsCaused, Alive, Gone, Marked, Under, Caught, IsFit, Revokes}
 use Rattle.sem_revoke.specs.Scales.{Scale, of_side, of_world, one_if, asking, naming, counting, noticing, straying, asking_message, token_message, notice_message, stray_message}
 use Rattle.sem_revoke.proofs.Keeping.{HoldsOn, holds-same, fit-on, keep}

@@ -31,8 +31,9 @@ use Rattle.sem_key.specs.Region.{has_key, region, children_of}
 use Rattle.sem_machine.specs.Revokes.{count_raised, count_lowered, with_up, other_marker, adopted, request_or_adopt, spared, swept, woken, parent_left, left_parent, waiter_left, up_told, closed, finish, settled, begin, ready_freed, obtain_cancelled, request_begun, revoke_requested, revoke_done, closed_here, opened}
 use Rattle.sem_msg.specs.JobRows.{if_done, next_done}
 use Rattle.sem_machine.specs.Ends.{call_ended, revoked_if_left}
-use Rattle.sem_key.proofs.Members.{Contains-nil, Contains-cons_cases, Contains-filter, Contains-from_filter, Contains-from_map, found}
+use Rattle.sem_key.proofs.Members.{Contains-nil, Contains-cons_cases, Contains-filter, Contains-from_filter, Contains-from_map}
 use Rattle.sem_key.proofs.Regions.{reached_cap, region-exact}
+use Rattle.sem_safety.proofs.JobIds.{done-among, next-among}
 use Rattle.sem_safety.specs.Seen.{Seen, at}
 use Rattle.sem_machine.proofs.Folds.{in_turn-keeps}
 use Rattle.sem_safety.proofs.Updates.{seen-mark_all, seen-cap_changed}
@@ -438,23 +439,6 @@ module _ (pend : ℕ → KeyName → KeyName → Type 0) where
   waiting-closed T i x s among R =
       subst (λ t. Waiting None (up_told x.up t)) (sym (closed_here-late T i x x.id s))
       (waiting-told x.up (job_removed x.id (closed_here T i x s)) (waiting-without x (closed_here T i x s) (waiting-closed_here T i x s among R)))
-
-  done-among : (s : Side) (j : ℕ) (y : JobRow) → if_done (job s j) ≡ Some y → Contains s.jobs y
-  done-among s j y done = from (job s j) refl done
-    where
-      from : (o : Option JobRow) → job s j ≡ o → if_done o ≡ Some y → Contains s.jobs y
-      from None none done = absurd cc
-      from (Some x) some done =
-          let there = found (λ (z : JobRow). z.id == j) s.jobs x some in
-          elim (cases_Bool (x.count == 0)) [
-            | inl zero' ↦ subst (Contains s.jobs) (same_Some x y (sym (cond-true (x.count == 0) (Some x) None zero') ∙ done)) there.0
-            | inr more ↦ let none : None ≡ Some y = sym (cond-false (x.count == 0) (Some x) None more) ∙ done in absurd cc
-          ]
-
-  next-among : (up : Option Up) (s : Side) (y : JobRow) → next_done up s.jobs ≡ Some y → Contains s.jobs y
-  next-among None s y next = absurd cc
-  next-among (Some (Local j)) s y next = done-among s j y next
-  next-among (Some (Remote kernel j)) s y next = absurd cc
 
   waiting-finish : (T : Setup) (i n : ℕ) (o : Option JobRow) (s : Side) → ((x : JobRow) → o ≡ Some x → Contains s.jobs x) → Waiting None s → Waiting None (finish T i n o s)
   unfolding finish

@@ -18,7 +18,7 @@ use Rattle.sem_key.proofs.Puts.{get_or-put_same, get_or-put_other}
 use Rattle.sem_machine.proofs.Weighing.{weigh-among, weigh-none}
 use Rattle.sem_safety.proofs.Lives.{all_held, at_cap, at_side}
 use Rattle.sem_safety.proofs.LiveWorlds.{at_world, world-side}
-use Rattle.sem_bound.proofs.Layering.{HasIds}
+use Rattle.sem_safety.proofs.JobIds.{HasIds}
 use Rattle.sem_revoke.specs.Views.{View, free_hand, Alive, Gone, Marked, Under, Leads, IsFit, Revokes, IsCaused}
 use Rattle.sem_revoke.specs.Scales.{of_world, asking, naming, counting, noticing, straying}
 use Rattle.sem_revoke.proofs.Keeping.{HoldsOn, holds-same, fit-on, keep, cases_Option}

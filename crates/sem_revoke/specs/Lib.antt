@@ -2,3 +2,4 @@ pub mod Views
 pub mod Scales
 pub mod Delegations
 pub mod Revocation
+pub mod Resting

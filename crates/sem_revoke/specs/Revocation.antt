@@ -21,7 +21,7 @@ use Rattle.sem_machine.specs.Schedules.{world_after}
 use Rattle.sem_machine.specs.Journals.{grants, root_keys, made, line, has_ended, forest}
 use Rattle.sem_machine.specs.Living.{way, InFlight, HoldsCap, IsLive}
 use Rattle.sem_machine.specs.Safety.{IsInUse}
-use Rattle.sem_bound.specs.Resting.{IsCutOff, Names, HasMarkedParent}
+use Rattle.sem_revoke.specs.Resting.{IsCutOff, Names, HasMarkedParent}
 use Rattle.sem_safety.specs.History.{history}
 use Rattle.sem_revoke.specs.Scales.{of_world, asking, naming, counting}
 

@@ -3,9 +3,11 @@
 //! key is lost but for a cause. Each law is the contract of a function that does nothing.
 #![tactic(auto)]
 
+mod idle;
 pub mod laws;
 mod revocations;
 
+pub use idle::idle_worlds_rest;
 pub use revocations::{
     delegations_have_one_token, jobs_answer_for_marks, live_keys_narrow_their_parents,
     nothing_is_lost, revocation_follows_links, revoked_keys_are_gone,

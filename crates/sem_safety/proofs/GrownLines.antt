@@ -7,8 +7,9 @@ use Rattle.std.proofs.lemmas.List.{length-append, map-append}
 use Rattle.std.proofs.lemmas.List.Elements.{Contains-append_left, Contains-append_right, Contains-append_cases}
 use Rattle.std.proofs.lemmas.List.Folds.{find-append}
 use Rattle.std.proofs.lemmas.Option.{same_Some}
+use Rattle.sem_msg.specs.declared.entry.Entry.{Entry}
 use Rattle.sem_key.specs.KeyName.{KeyName, key_eq}
-use Rattle.sem_machine.specs.Journals.{parent_in, line_in}
+use Rattle.sem_machine.specs.Journals.{parent_in, line_in, grants}
 use Rattle.sem_machine.specs.Safety.{IsLineage}
 use Rattle.sem_key.proofs.KeyTests.{key_eq-same, key_eq-true}
 use Rattle.sem_key.proofs.Members.{found, find_none, Contains-head, Contains-tail, Contains-nil, Contains-cons_cases, Contains-map}
@@ -193,3 +194,45 @@ line-above roots _ (granted_next gs p c before parent new) (suc n) k a b enough 
             subst (λ ks. Contains ks b) (sym line_c) (Contains-tail c (line_in n gs p) b (line-above roots gs before n p a b few parent higher above))
       ]
 ]
+
+-- what was granted is among the grown keys
+pub child-grown : (roots : List KeyName) (gs : List (KeyName × KeyName)) (p k : KeyName) → Contains gs (p, k) → Contains (grown roots gs) k
+child-grown roots gs p k there = Contains-append_right roots (map (λ (g : KeyName × KeyName). g.1) gs) k (Contains-map (λ (g : KeyName × KeyName). g.1) gs (p, k) there)
+
+-- a key has one parent at most
+pub parent-is : (roots : List KeyName) (gs : List (KeyName × KeyName)) → IsGrown roots gs → (p k : KeyName) → Contains gs (p, k) → parent_in gs k ≡ Some p
+parent-is roots _ no_grants p k there = absurd (Contains-nil (p, k) there)
+parent-is roots _ (granted_next gs q c before parent new) p k there = elim (Contains-append_cases gs ((q, c) ∷ []) (p, k) there) [
+  | inl earlier ↦
+      let apart : key_eq c k ≡ false = false_from_ne_true (key_eq c k) (λ same. new (subst (Contains (grown roots gs)) (sym (key_eq-true c k same)) (child-grown roots gs p k earlier))) in
+      parent-more gs q c k apart ∙ parent-is roots gs before p k earlier
+  | inr last ↦ elim (Contains-cons_cases (q, c) [] (p, k) last) [
+    | inl same ↦
+        let child : c ≡ k = ap (λ (g : KeyName × KeyName). g.1) same in
+        let above : q ≡ p = ap (λ (g : KeyName × KeyName). g.0) same in
+        subst (λ x. parent_in (gs ++ (q, c) ∷ []) x ≡ Some p) child (parent-new roots gs q c new ∙ ap Some above)
+    | inr rest ↦ absurd (Contains-nil (p, k) rest)
+  ]
+]
+
+-- a parent is an ancestor
+pub parent-ancestor : (roots : List KeyName) (gs : List (KeyName × KeyName)) → IsGrown roots gs → (p k : KeyName) → Contains gs (p, k) → Contains (line_in (length gs) gs k) p
+unfolding line_in
+parent-ancestor roots gs is p k there = from (length gs) (some-grant gs there)
+  where
+    some-grant : (hs : List (KeyName × KeyName)) → Contains hs (p, k) → 1 ≤ length hs
+    some-grant [] none = absurd (Contains-nil (p, k) none)
+    some-grant (h ∷ hs) some = omega arith
+
+    from : (n : ℕ) → 1 ≤ n → Contains (line_in n gs k) p
+    from zero few = absurd (omega (arith, few))
+    from (suc n) few = Contains-tail k _ p (subst (λ o. Contains (option_map_or (line_in n gs) o []) p) (sym (parent-is roots gs is p k there)) (line-self n gs p))
+
+-- no more grants than entries
+pub few-grants : (J : List Entry) → length (grants J) ≤ length J
+few-grants [] = omega arith
+few-grants (e ∷ es) = from e.grant refl (few-grants es)
+  where
+    from : (o : Option (KeyName × KeyName)) → e.grant ≡ o → length (grants es) ≤ length es → length (grants (e ∷ es)) ≤ suc (length es)
+    from None none rest = rw none (omega (arith, rest))
+    from (Some g) some rest = rw some (omega (arith, rest))

@@ -13,12 +13,8 @@ pub mod CarryingWorlds
 pub mod Parents
 pub mod GoingOn
 pub mod Drawers
-pub mod SettledCaps
 pub mod NewGrants
-pub mod SettledWorlds
-pub mod SettledLists
 pub mod FirstCaps
-pub mod SettledStart
 pub mod Tokens
 pub mod TokenRows
 pub mod TokenWorlds
@@ -31,3 +27,10 @@ pub mod SoundEndpoints
 pub mod SideLayers
 pub mod SoundWorlds
 pub mod HeldOnce
+pub mod JobIds
+pub mod Skeleton
+pub mod AskWeights
+pub mod AskRevokes
+pub mod AskRows
+pub mod AskWorlds
+pub mod FewAsks

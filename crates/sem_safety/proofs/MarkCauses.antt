@@ -18,13 +18,11 @@ use Rattle.sem_safety.specs.Causes.{IsCut, HasCutAncestor}
 use Rattle.sem_safety.specs.Growth.{IsGrown}
 use Rattle.sem_safety.proofs.Carrying.{InCap, InWorld, plain-fitting}
 use Rattle.sem_safety.proofs.CarryingWorlds.{chosen, start-in, side-in, flight-in, run-in, each-entry, among-grants, IsFit}
-use Rattle.sem_safety.proofs.GrownLines.{parent-grown, line-self, line-above, line-enough}
+use Rattle.sem_safety.proofs.GrownLines.{parent-grown, line-self, line-above, line-enough, child-grown, parent-ancestor, few-grants}
 use Rattle.sem_safety.proofs.KeptSteps.{facts-blind}
 use Rattle.sem_safety.proofs.Layers.{Facts, facts_of, InGrant, InCut}
 use Rattle.sem_safety.proofs.Onwards.{AnyPlace}
 use Rattle.sem_safety.proofs.OneLife.{all-grown}
-use Rattle.sem_safety.proofs.SettledCaps.{child-grown, parent-ancestor}
-use Rattle.sem_safety.proofs.SettledWorlds.{few-grants}
 
 module _ (T : Setup) (valid : IsSetup T) (J : List Entry) (runs : IsSchedule T J) where
   abbrev pub gs : List (KeyName × KeyName)

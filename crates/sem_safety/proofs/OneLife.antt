@@ -26,10 +26,9 @@ use Rattle.sem_safety.specs.NewGrants.{AreNew}
 use Rattle.sem_safety.proofs.CarryingWorlds.{stepped, used-made}
 use Rattle.sem_machine.proofs.FirstNumbers.{root-drawn}
 use Rattle.sem_safety.proofs.GoingOn.{run-append, run-prefix, entry-enabled}
-use Rattle.sem_safety.proofs.GrownLines.{line-is_lineage}
+use Rattle.sem_safety.proofs.GrownLines.{line-is_lineage, few-grants}
 use Rattle.sem_machine.proofs.Folds.{in_turn-keeps}
 use Rattle.sem_safety.proofs.NewGrants.{with_grant, without_grant, new-grown, new-sound}
-use Rattle.sem_safety.proofs.SettledWorlds.{few-grants}
 use Rattle.sem_machine.proofs.Weighing.{weigh-among, weigh-none, weigh-replicate}
 use Rattle.sem_safety.proofs.Tokens.{of_key, of_messages, of_parked, of_row, of_side, side-lighter, weighed}
 use Rattle.sem_safety.proofs.TokenWorlds.{of_world, of_links, IsOnce, with_granted, event-once}

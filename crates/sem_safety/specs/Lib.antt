@@ -3,6 +3,5 @@ pub mod History
 pub mod Growth
 pub mod Counts
 pub mod Onward
-pub mod Settled
 pub mod NewGrants
 pub mod Causes

@@ -1,24 +1,24 @@
 //! The proof of safety, as far as it goes: what is observed of a world, how each change that the machine makes shows in it, what
 //! is kept of a journal, the lines of keys, that what is in use was made, that what is dead stays dead, that each key is made
 //! once and live in one place, that marks have a cause; so lineage, sound grants and sound endpoints hold of every schedule.
-//! What is settled is safe, and stays settled where a revoke goes at once. Each law is the contract of a function that does
-//! nothing.
+//! Each VPE has one exchange under way at most. Each law is the contract of a function that does nothing.
 #![tactic(auto)]
 
 mod causes;
 mod drawn;
+mod exchanges;
 mod grants;
 mod histories;
 mod lines;
 mod observations;
 mod once;
 mod onward;
-mod settled;
 mod uses;
 
 pub use causes::marks_have_a_cause;
 pub use drawn::made_keys_were_drawn;
-pub use grants::grants_are_below_what_is_held;
+pub use exchanges::asks_are_few;
+pub use grants::{grants_are_below_what_is_held, new_grants_are_sound};
 pub use histories::histories_tell_journals;
 pub use lines::lines_lead_to_roots;
 pub use observations::{changes_are_seen, messages_keep_their_way, worlds_are_observed};
@@ -26,5 +26,4 @@ pub use once::{
     each_key_is_held_once, each_key_is_made_once, grants_lines_and_endpoints_are_sound,
 };
 pub use onward::what_is_dead_stays_dead;
-pub use settled::{new_grants_are_sound, settled_is_safe, settled_stays_settled};
 pub use uses::what_is_used_was_made;
