@@ -54,3 +54,4 @@ pub mod Safe
 pub mod Open
 pub mod OpenRows
 pub mod IdleWorlds
+pub mod SampleRuns

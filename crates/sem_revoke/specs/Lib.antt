@@ -3,3 +3,4 @@ pub mod Scales
 pub mod Delegations
 pub mod Revocation
 pub mod Resting
+pub mod Sample

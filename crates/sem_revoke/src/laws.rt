@@ -1,12 +1,35 @@
 //! The law of safety, as the contract of a function that does nothing.
 
-ghost use Rattle.std.specs.Prelude.{List};
+ghost use Rattle.std.specs.Prelude.{◌≡◌, List, [], ◌∷◌, Contains};
 ghost use Rattle.sem_msg.specs.declared.entry.Entry.{Entry};
 ghost use Rattle.sem_msg.specs.Setup.{Setup, IsSetup};
-ghost use Rattle.sem_machine.specs.Schedules.{IsSchedule};
-ghost use Rattle.sem_machine.specs.Safety.{IsSafe};
+ghost use Rattle.sem_machine.specs.Schedules.{IsSchedule, world_after};
+ghost use Rattle.sem_machine.specs.Journals.{line, answered, forest};
+ghost use Rattle.sem_machine.specs.Living.{IsOnItsWay, Binds};
+ghost use Rattle.sem_machine.specs.Safety.{IsInUse, IsSafe};
+ghost use Rattle.sem_revoke.specs.Sample.{sample, memory_key, derived_key, obtained_key, to_grant, to_bind, to_revoke, to_clear, sample_journal};
 
 /// Every schedule of every setup is safe, and so is every prefix of it, which is a schedule too: the six sentences hold after it.
 pub fn safe()
     ensures safe { (T : Setup) → IsSetup T → (J : List Entry) → IsSchedule T J → IsSafe T J }
+{}
+
+/// What `safe` speaks of is there: a setup of two kernels, with a schedule of it, and prefixes of that. First a part of a memory,
+/// which kernel 0 grants to a VPE of kernel 1, is on its way. Then it is held, and an endpoint is bound to it. Its parent is
+/// revoked, and when that is answered the part is in use no more. The memory is obtained, and cleared; when that is answered, what
+/// was obtained is gone, and the memory is there.
+pub fn safe_speaks_of_schedules()
+    ensures setup { IsSetup sample }
+    ensures grant { IsSchedule sample (sample_journal to_grant) }
+    ensures bind { IsSchedule sample (sample_journal to_bind) }
+    ensures revoke { IsSchedule sample (sample_journal to_revoke) }
+    ensures clear { IsSchedule sample (sample_journal to_clear) }
+    ensures on_its_way { IsOnItsWay (world_after sample (sample_journal to_grant)) (obtained_key 0) }
+    ensures line { line (sample_journal to_grant) (obtained_key 0) ≡ obtained_key 0 ∷ derived_key ∷ memory_key ∷ [] }
+    ensures bound { Binds (world_after sample (sample_journal to_bind)) 1 0 (obtained_key 0) }
+    ensures revoked { Contains (answered (sample_journal to_revoke)) derived_key }
+    ensures gone { ¬ IsInUse (world_after sample (sample_journal to_revoke)) (obtained_key 0) }
+    ensures cleared { Contains (answered (sample_journal to_clear)) (obtained_key 1) }
+    ensures gone_too { ¬ IsInUse (world_after sample (sample_journal to_clear)) (obtained_key 1) }
+    ensures kept { Contains (forest sample (sample_journal to_clear)) memory_key }
 {}

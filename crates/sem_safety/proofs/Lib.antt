@@ -34,3 +34,4 @@ pub mod AskRevokes
 pub mod AskRows
 pub mod AskWorlds
 pub mod FewAsks
+pub mod Walking

@@ -5,3 +5,4 @@ pub mod Counts
 pub mod Onward
 pub mod NewGrants
 pub mod Causes
+pub mod Walks

@@ -1,5 +1,6 @@
 ghost use Rattle.std.specs.Prelude.{◌≡◌, ℕ, [], length, map, take, OnOk, IfOk, IsErrOf};
 ghost use Rattle.sem_machine.specs.Schedules.{IsSchedule, world_after};
+ghost use Rattle.sem_machine.specs.Safety.{IsSafe};
 ghost use Rattle.sem_serial.specs.Playing.{events_of, StopsAt};
 
 use crate::faults::PlayError;
@@ -8,7 +9,8 @@ use sem_msg::{Event, Journal, Setup};
 use std::alloc::Global;
 
 /// Runs the given events of the setup from its start, until one is not enabled. The journal, which
-/// is to be empty, gets the entries; so it does after an error. The world after them.
+/// is to be empty, gets the entries; so it does after an error. It is a schedule, and safe. The world
+/// after them.
 pub fn play(
     alloc: Global,
     setup: &Setup,
@@ -17,11 +19,14 @@ pub fn play(
 ) -> Result<World, PlayError>
     requires { journal.old.entries ≡ [] }
     ensures schedule { IsSchedule setup.now journal.new.entries }
+    ensures safe { IsSafe setup.now journal.new.entries }
     ensures events { events_of journal.new.entries ≡ take (length journal.new.entries) events.now }
     ensures all { OnOk result (events_of journal.new.entries ≡ events.now) }
     ensures world { IfOk result (λ world. world ≡ record { setup = setup.now; world = world_after setup.now journal.new.entries }) }
     ensures not_enabled { (at : ℕ) → IsErrOf result (PlayError.NotEnabled at) → StopsAt setup.now events.now journal.new.entries at }
 {
+    // So that the proof knows what a setup keeps.
+    let _ = &setup.vpes;
     let mut world = World::boot(alloc, setup)?;
     for (at, event) in events.iter().enumerate() {
         journal.room(1)?;

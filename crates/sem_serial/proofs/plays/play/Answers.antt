@@ -1,9 +1,11 @@
-use Rattle.std.proofs.Common.{◌∷◌, [], ◌++◌, get_or, Err, ◌∙◌, ap, arith}
+use Rattle.std.proofs.Common.{◌∷◌, [], ◌++◌, get_or, Err, sym, ◌∙◌, ap, subst, arith}
 use Rattle.std.proofs.lemmas.List.{get_or_default}
 use Rattle.sem_msg.specs.declared.event.Act.TheVariants.{Call as Calls}
 use Rattle.sem_msg.specs.declared.event.Event.{Event}
 use Rattle.sem_machine.specs.Machine.{is_enabled}
+use Rattle.sem_machine.specs.Schedules.{IsSchedule}
 use Rattle.sem_kernel.specs.declared.happening.StepError.TheVariants.{NotEnabled}
+use Rattle.sem_revoke.proofs.Safe.{all-safe}
 use Rattle.sem_serial.proofs.Running.{schedule-empty}
 use Rattle.sem_serial.proofs.Played.{playing-start, playing-more, stops, ok-enabled}
 use Rattle.sem_serial.proofs.plays.play.Goals as goal
@@ -26,3 +28,19 @@ loop-at-preserved c =
     let e : Event = get_or c.args.events.now l.at (record { kernel = 0; act = Calls 0 }) in
     playing-more c.args.setup.now c.args.events.now l.world l.journal.entries l.at l.invariant e c.in-Ok.entry c.step.new.self c.push.new.self.entries (omega arith) (get_or_default c.args.events.now l.at (record { kernel = 0; act = Calls 0 }) e (omega arith))
     (ok-enabled c.in-Ok.entry NotEnabled (is_enabled l.world.setup l.world.world e) c.in-Ok.ensures.not_enabled) c.in-Ok.ensures.entry c.in-Ok.ensures.after (c.push.ensures.entries ∙ ap (λ es. es ++ c.in-Ok.entry ∷ []) c.room.ensures.entries)
+
+-- a schedule is safe
+pub returns-in_err-world-clause-safe : goal.returns-in_err-world-clause-safe
+returns-in_err-world-clause-safe c = all-safe c.args.setup.now c.setup.invariant c.args.journal.now.entries (schedule-empty c.args.setup.now c.args.journal.now.entries c.requires)
+
+pub returns-in_err-room-clause-safe : goal.returns-in_err-room-clause-safe
+returns-in_err-room-clause-safe c = all-safe c.args.setup.now c.setup.invariant c.room.new.self.entries (subst (IsSchedule c.args.setup.now) (sym c.room.ensures.entries) c.loop-at.invariant.schedule)
+
+pub returns-in-Err-NotEnabled-clause-safe : goal.returns-in-Err-NotEnabled-clause-safe
+returns-in-Err-NotEnabled-clause-safe c = all-safe c.args.setup.now c.setup.invariant c.room.new.self.entries (subst (IsSchedule c.args.setup.now) (sym c.room.ensures.entries) c.loop-at.invariant.schedule)
+
+pub returns-in-Err-Memory-clause-safe : goal.returns-in-Err-Memory-clause-safe
+returns-in-Err-Memory-clause-safe c = all-safe c.args.setup.now c.setup.invariant c.room.new.self.entries (subst (IsSchedule c.args.setup.now) (sym c.room.ensures.entries) c.loop-at.invariant.schedule)
+
+pub returns-clause-safe : goal.returns-clause-safe
+returns-clause-safe c = all-safe c.args.setup.now c.setup.invariant c.loop-at.journal.entries c.loop-at.invariant.schedule
