@@ -55,3 +55,4 @@ pub mod Open
 pub mod OpenRows
 pub mod IdleWorlds
 pub mod SampleRuns
+pub mod Objects

@@ -1,7 +1,10 @@
 ghost use Rattle.std.specs.Prelude.{List};
+ghost use Rattle.sem_key.specs.KeyName.{KeyName};
+ghost use Rattle.sem_key.specs.declared.object.Object.{Object};
 ghost use Rattle.sem_msg.specs.declared.entry.Entry.{Entry};
 ghost use Rattle.sem_msg.specs.Setup.{Setup, IsSetup};
-ghost use Rattle.sem_machine.specs.Schedules.{IsSchedule};
+ghost use Rattle.sem_machine.specs.Schedules.{IsSchedule, world_after};
+ghost use Rattle.sem_machine.specs.Living.{IsLive, HasObject};
 ghost use Rattle.sem_revoke.specs.Revocation.{held_at_home, linked, ancestors_held, orphans_dead, unlinked_dead, asked_below_marks, capability_first, marks_spread, marks_of_jobs, roots_marked, keepers_alone, keepers_waited_for, tokens_counted, waited_below_marks, marked_below_roots, revokers_wait, held_unless_doomed, ready_unless_doomed, given_unless_doomed, granted_unless_doomed, marks_doom, requests_doom, forest_spared, born_live, roots_last, near_keys_last, asks_awaited, requests_awaited, flights_go_on, dead_have_ended};
 ghost use Rattle.sem_revoke.specs.Delegations.{one_token_each, tokens_pend};
 ghost use Rattle.sem_machine.specs.Safety.{narrowing, nothing_lost, revoked_is_gone};
@@ -47,8 +50,10 @@ pub fn revoked_keys_are_gone()
     ensures gone { (T : Setup) → IsSetup T → (J : List Entry) → IsSchedule T J → revoked_is_gone T J }
 {}
 
-/// A live key that was granted grants no more than its parent, which is held: after every schedule of every setup.
+/// A live key has an object, and one that was granted grants no more than its parent, which is held: after every schedule of every
+/// setup.
 pub fn live_keys_narrow_their_parents()
+    ensures object { (T : Setup) → IsSetup T → (J : List Entry) → IsSchedule T J → (k : KeyName) → IsLive (world_after T J) k → (object : Object) × HasObject (world_after T J) k object }
     ensures narrowed { (T : Setup) → IsSetup T → (J : List Entry) → IsSchedule T J → narrowing T J }
 {}
 

@@ -1,4 +1,4 @@
--- Grants of keys that were never made before ("Settled capabilities" in docs/proof.md).
+-- Grants of keys that were never made before ("Each key is made once" in docs/proof.md).
 use Rattle.std.specs.Prelude.{◌≡◌, List, ◌∷◌, ◌++◌, Contains, Some}
 use Rattle.sem_key.specs.KeyName.{KeyName}
 use Rattle.sem_msg.specs.declared.entry.Entry.{Entry}
