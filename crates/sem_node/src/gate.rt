@@ -1,0 +1,13 @@
+/// What is called before each step of a kernel, and may hold the kernel's thread up.
+pub trait Gate {
+    /// The kernel is to do an act of that number (`act_number`).
+    fn before(&self, kernel: u32, act: u8);
+}
+
+/// It holds nobody up.
+#[derive(Drop)]
+pub struct OpenGate;
+
+impl Gate for OpenGate {
+    fn before(&self, _kernel: u32, _act: u8) {}
+}

@@ -1,0 +1,218 @@
+// All kernels of a setup in threads, and what they are afterwards.
+ghost use Rattle.std.specs.Prelude.{◌≡◌, ◌<◌, List, [], map, length, vec_len, All, IfOk, None};
+ghost use Rattle.std.specs.List.{AllZip, range_with_len};
+ghost use Rattle.std.specs.List.Sorted.{IsPermutation, IsNonDecreasingBy};
+ghost use Rattle.sem_machine.specs.Schedules.{IsSchedule, world_after};
+ghost use Rattle.sem_fabric.specs.Fabrics.{new_fabric};
+ghost use Rattle.sem_kernel.specs.Worlds.{world_of, AreKernelsOf, booted as booted_lem};
+ghost use Rattle.sem_parts.specs.Standing.{StandAt};
+ghost use Rattle.sem_node.specs.Running.{HasRun};
+ghost use Rattle.sem_node.specs.Ending.{HaveRun};
+
+use crate::cell::{Caller, KernelCell};
+use crate::gate::Gate;
+use crate::node::{Node, Run};
+use sem_fabric::Fabric;
+use sem_kernel::Kernel;
+use sem_key::OutOfMemory;
+use sem_msg::Setup;
+use sem_turn::{Opened, Pass, Passes, RunName};
+use std::alloc::Global;
+use std::marker::{Brand, PhantomData};
+use std::sync::{Condvar, Mutex, Wait};
+use std::thread;
+use std::thread::Threads;
+
+// The VPEs of the kernel.
+fn callers_of<N: RunName>(
+    alloc: Global,
+    setup: &Setup,
+    id: u32,
+) -> Result<Vec<Caller<N>>, OutOfMemory>
+    requires { setup.now ≡ N.setup }
+{
+    let mut callers = Vec::new(alloc);
+    for decl in setup.vpes.as_slice() {
+        let kernel = setup.kernel_of(decl.vpe);
+        if kernel == id {
+            callers.push(Caller {
+                kernel,
+                vpe: decl.vpe,
+                calls: decl.calls.len(),
+                of: PhantomData,
+            })?;
+        }
+    }
+    Ok(callers)
+}
+
+// The VPEs of the kernel that are to be killed.
+fn kills_of(alloc: Global, setup: &Setup, id: u32) -> Result<Vec<u16>, OutOfMemory> {
+    let mut kills = Vec::new(alloc);
+    for kill in setup.kills.as_slice() {
+        if setup.kernel_of(kill.0) == id {
+            kills.push(kill.0)?;
+        }
+    }
+    Ok(kills)
+}
+
+// The kernel with its pass, for its threads.
+fn node_of<N: RunName>(
+    alloc: Global,
+    setup: &Setup,
+    kernel: Kernel,
+    pass: Pass<N>,
+) -> Result<Node<N>, OutOfMemory>
+    requires setup { setup.now ≡ N.setup }
+    requires run { HasRun N.setup kernel pass }
+    requires free { pass.taken ≡ None }
+{
+    let id = kernel.id();
+    let callers = callers_of(alloc, setup, id)?;
+    let kills = kills_of(alloc, setup, id)?;
+    Ok(Node {
+        cell: Mutex::new(KernelCell::new(kernel, pass)),
+        changed: Condvar::new(),
+        callers,
+        kills,
+        kernels: setup.kernels,
+    })
+}
+
+// All kernels with their passes.
+fn nodes_of<N: RunName>(
+    alloc: Global,
+    setup: &Setup,
+    mut kernels: Vec<Kernel>,
+    mut passes: Passes<N>,
+) -> Result<Vec<Node<N>>, OutOfMemory>
+    requires setup { setup.now ≡ N.setup }
+    requires run { AllZip (HasRun N.setup) kernels.items passes }
+    requires free { All (λ p. p.taken ≡ None) passes }
+    ensures { IfOk result (λ nodes. vec_len nodes ≡ vec_len kernels) }
+{
+    let mut nodes = Vec::new(alloc);
+    while let Some(kernel) = kernels.pop() {
+        let Some(pass) = passes.pop() else {
+            unreachable!()
+        };
+        nodes.push(node_of(alloc, setup, kernel, pass)?)?;
+    }
+    Ok(nodes)
+}
+
+// The kernels and their passes, out of their locks.
+fn taken_out<N: RunName>(
+    alloc: Global,
+    mut nodes: Vec<Node<N>>,
+) -> Result<(Vec<Kernel>, Passes<N>), OutOfMemory>
+    ensures run { IfOk result (λ r. AllZip (HasRun N.setup) r.0.items r.1) }
+    ensures free { IfOk result (λ r. All (λ p. p.taken ≡ None) r.1) }
+    ensures count { IfOk result (λ r. length r.1 ≡ vec_len nodes) }
+{
+    let mut kernels = Vec::new(alloc);
+    let mut passes = Passes::new(alloc);
+    while let Some(node) = nodes.pop() {
+        let Node {
+            cell,
+            changed: _,
+            callers: _,
+            kills: _,
+            kernels: _,
+        } = node;
+        let (kernel, pass) = cell.into_inner().into_parts();
+        kernels.push(kernel)?;
+        passes.push(pass)?;
+    }
+    Ok((kernels, passes))
+}
+
+// A lock tells only what its type says, so the kernels come out of them in no known order.
+fn put_in_order(kernels: &mut Vec<Kernel>)
+    ensures same { IsPermutation kernels.old.items kernels.new.items }
+    ensures order { IsNonDecreasingBy (λ k. k.id) kernels.new.items }
+{
+    kernels.sort_unstable_by_key(|kernel| kernel.id());
+}
+
+// Stops the run, and wakes all that wait.
+fn halt<N: RunName, R: Wait>(rt: &R, run: &Run<N>, nodes: &[Node<N>]) {
+    run.stop();
+    for node in nodes {
+        node.wake(rt);
+    }
+}
+
+// A dispatcher for each kernel, and a thread for each VPE. All have ended when it returns.
+fn run_all<N: RunName + Send + Sync, R: Threads + Wait + Sync, G: Gate + Sync>(
+    rt: &R,
+    run: &Run<N>,
+    nodes: &[Node<N>],
+    gate: &G,
+) {
+    thread::scope(thread::scope_env(), rt, |scope| {
+        for node in nodes {
+            if scope.spawn(move || node.dispatch(rt, run, gate)).is_err() {
+                halt(rt, run, nodes);
+            }
+            for caller in &node.callers {
+                let made = scope.spawn(move || node.call(rt, run, gate, caller));
+                if made.is_err() {
+                    halt(rt, run, nodes);
+                }
+            }
+        }
+    });
+}
+
+// The run under a name that stands for the table.
+fn run_named<N: RunName + Send + Sync, R: Threads + Wait + Sync, G: Gate + Sync>(
+    rt: &R,
+    alloc: Global,
+    setup: &Setup,
+    opened: Opened,
+    kernels: Vec<Kernel>,
+    gate: &G,
+) -> Result<(Vec<Kernel>, Fabric), OutOfMemory>
+    requires named { (opened.table ≡ N.table) × (opened.setup ≡ N.setup) }
+    requires setup { opened.setup ≡ setup.now }
+    requires booted { kernels.items ≡ map (booted_lem setup.now) (range_with_len 0 setup.now.kernels) }
+    ensures { IfOk result (λ r. HaveRun setup.now r.0.items r.1) }
+{
+    // So that the proof knows what a setup keeps.
+    let _ = &setup.vpes;
+    let (turn, first) = opened.named::<N>();
+    let passes = turn.split(alloc, first, setup.kernels)?;
+    let nodes = nodes_of(alloc, setup, kernels, passes)?;
+    let run = Run::new(turn, setup.vpes.len() as u64);
+    run_all(rt, &run, nodes.as_slice(), gate);
+    let (mut kernels, passes) = taken_out(alloc, nodes)?;
+    let fabric = run.into_turn().close(passes);
+    put_in_order(&mut kernels);
+    Ok((kernels, fabric))
+}
+
+/// Runs each kernel in threads of its own: one that does all but the calls, and one for each VPE,
+/// which makes the VPE's calls. It may wait. After want of memory the kernels and the fabric are
+/// dropped; else they come back, with no thread left. They may stand anywhere in the run.
+///
+/// The kernels are those of the setup at the start, in order, and the fabric is a new one of it.
+pub fn run_threads<R: Threads + Wait + Sync, G: Gate + Sync>(
+    rt: &R,
+    alloc: Global,
+    setup: &Setup,
+    kernels: Vec<Kernel>,
+    fabric: Fabric,
+    gate: &G,
+) -> Result<(Vec<Kernel>, Fabric), OutOfMemory>
+    requires kernels { kernels.items ≡ map (booted_lem setup.now) (range_with_len 0 setup.now.kernels) }
+    requires fabric { fabric ≡ new_fabric setup.now }
+    ensures together { IfOk result (λ r. AreKernelsOf setup.now r.0.items r.1) }
+    ensures schedule { IfOk result (λ r. IsSchedule setup.now r.1.journal) }
+    ensures world { IfOk result (λ r. world_of r.0.items r.1 ≡ world_after setup.now r.1.journal) }
+    ensures parts { IfOk result (λ r. StandAt setup.now (map (λ k. k.side) r.0.items) r.1) }
+{
+    let opened = Opened::new(alloc, setup, fabric)?;
+    run_named::<Brand, R, G>(rt, alloc, setup, opened, kernels, gate)
+}

@@ -1,0 +1,16 @@
+-- A setup of two kernels that have nothing to do.
+use Rattle.std.specs.Prelude.{[], None, replicate}
+use Rattle.sem_msg.specs.Setup.{Setup}
+
+unfoldable pub lonely : Setup
+lonely = record {
+  version = 1;
+  window = 4;
+  kernels = 2;
+  owners = record { kernels = 2; owners = replicate 128 None };
+  vpes = [];
+  services = [];
+  offers = [];
+  denies = [];
+  kills = [];
+}

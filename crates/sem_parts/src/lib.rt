@@ -1,0 +1,8 @@
+//! What a journal is to the kernels alone: the law of the parts, and kernels with a fabric that
+//! stand at a schedule.
+#![tactic(auto)]
+
+pub mod fetches;
+pub mod parts;
+pub mod standing;
+pub mod steps;

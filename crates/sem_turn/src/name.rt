@@ -1,0 +1,20 @@
+use std::marker::Brand;
+
+/// The name of a run. It stands for one table and one setup, which the type of each value that has
+/// the name keeps.
+pub trait RunName {
+    ghost use Rattle.atomic_table.specs.Seated.{TableId};
+    ghost use Rattle.sem_msg.specs.Setup.{Setup};
+
+    ghost table: { TableId };
+
+    ghost setup: { Setup };
+}
+
+impl RunName for Brand {
+    ghost use Rattle.sem_turn.specs.Names.{no_table, no_setup};
+
+    ghost table = { no_table };
+
+    ghost setup = { no_setup };
+}
