@@ -3,10 +3,9 @@ use Rattle.std.proofs.Common.{◌≡◌, ℕ, ◌+◌, ◌-◌, ◌≤◌, ◌&&
 use Rattle.std.specs.Prelude.{◌==◌, nat_lt, if◌then◌else◌}
 use Rattle.std.specs.List.{Contains, find, sum_by}
 use Rattle.std.specs.Option.{option_map, option_map_or}
-use Rattle.std.proofs.lemmas.Bool.{cases_Bool, and_parts, cond_both, cond-true, cond-false, eqb-true, false_from_ne_true}
+use Rattle.std.proofs.lemmas.Bool.{cases_Bool, and_parts, cond_both, cond-true, cond-false, eqb-true}
 use Rattle.std.proofs.lemmas.List.Sums.{sum_by-cons, sum_by_push}
 use Rattle.std.proofs.lemmas.Option.{slice_get_within}
-use Rattle.sem_key.specs.Lists.{in_turn}
 use Rattle.sem_msg.specs.declared.call.Call.{Call}
 use Rattle.sem_msg.specs.declared.entry.Entry.{Entry}
 use Rattle.sem_msg.specs.declared.event.Act.{Act}
@@ -14,15 +13,13 @@ use Rattle.sem_msg.specs.declared.event.Act.TheVariants.{Call as Calls, Fetch, H
 use Rattle.sem_msg.specs.declared.event.Event.{Event}
 use Rattle.sem_msg.specs.declared.message.Message.{Message}
 use Rattle.sem_msg.specs.declared.setup.VpeDecl.{VpeDecl}
-use Rattle.sem_msg.specs.declared.state.Ask.{Ask}
 use Rattle.sem_msg.specs.Rows.{VpeRow, no_vpe}
 use Rattle.sem_msg.specs.Setup.{Setup, call_count, kill_count}
 use Rattle.sem_msg.specs.Journal.{kill_number}
 use Rattle.sem_msg.specs.Lookups.{decl, calls_of, kernel_of}
-use Rattle.sem_machine.specs.Sides.{Side, row, cap, parked, is_alive, call_counted, buried, unparked}
+use Rattle.sem_machine.specs.Sides.{Side, row, parked, is_alive, call_counted}
 use Rattle.sem_machine.specs.Steps.{Step, plain}
 use Rattle.sem_machine.specs.Calls.{call_row}
-use Rattle.sem_machine.specs.Ends.{ask_ended, call_ended, revoked_if_left, keys_of, ended}
 use Rattle.sem_machine.specs.Machine.{World, side, start, next_call, local_step, input_of, after, event, is_enabled, is_locally_enabled}
 use Rattle.sem_machine.specs.Schedules.{IsSchedule, world_after}
 use Rattle.sem_machine.specs.Seeded.{is_call, is_kill}
@@ -31,12 +28,12 @@ use Rattle.sem_key.proofs.Puts.{get_or-put_same}
 use Rattle.sem_safety.specs.Onward.{IsOnward}
 use Rattle.sem_safety.proofs.Drawers.{side-after}
 use Rattle.sem_safety.proofs.GoingOn.{AnyVpe, any_grant, any_cut, after-onward, run-append, entry-enabled}
-use Rattle.sem_safety.proofs.KeptRows.{ask_ended-in, call_ended-in, revoked_if_there-in, call_row-keeps}
+use Rattle.sem_safety.proofs.KeptRows.{call_row-keeps}
 use Rattle.sem_safety.proofs.KeptSteps.{blind-call, facts-blind}
 use Rattle.sem_safety.proofs.Layers.{facts}
-use Rattle.sem_machine.proofs.Folds.{in_turn-keeps}
 use Rattle.sem_safety.proofs.LiveWorlds.{sum-le}
 use Rattle.sem_safety.proofs.Onwards.{Any, AnyPlace, onward-same, onward}
+use Rattle.sem_safety.proofs.EndedVpes.{killed-dead}
 use Rattle.sem_bound.specs.Counts.{calls_made, kills_made}
 
 -- where no weight is greater and one is less, the sum is less
@@ -138,25 +135,6 @@ module _ (T : Setup) where
       by_decl o at None next some takes same = absurd cc
 
   -- A kill takes one.
-  ended-on : (i v : ℕ) (s : Side) → IsOnward (buried v s) (ended T i v s)
-  unfolding ended
-  ended-on i v s =
-      let F = facts Any AnyPlace in
-      let P : Side → Type 0 = IsOnward (buried v s) in
-      let L = (onward (buried v s)).kept in
-      let asks : List Ask = (row s v).asks in
-      let answered : Side = in_turn (ask_ended T i) asks (buried v s) in
-      let left : Side = call_ended T (parked answered v) v (unparked v answered) in
-      let told : P answered = in_turn-keeps P (ask_ended T i) (λ a t here. ask_ended-in F AnyVpe P L T i a t here) asks (buried v s) (onward-same (buried v s)) in
-      let gone : P left = call_ended-in F AnyVpe P L T (parked answered v) v (unparked v answered) (L.keeps_unparked answered told v) in
-      in_turn-keeps P (revoked_if_left T i) (λ k t here. revoked_if_there-in F AnyVpe P L T i k (cap t k) t here tt) (keys_of left v) left gone
-
-  killed-dead : (i v : ℕ) (s : Side) → (row (ended T i v s) v).alive ≡ false
-  killed-dead i v s = false_from_ne_true (row (ended T i v s) v).alive (λ lives.
-      let before = (ended-on i v s).dead v lives in
-      let dead : (row (buried v s) v).alive ≡ false = ap (λ (r : VpeRow). r.alive) (get_or-put_same no_vpe s.vpes v (record (row s v) { alive = false; asks = [] })) in
-      absurd (cc (before, dead)))
-
   pub kill-takes : (W : World) (i v : ℕ) → is_enabled T W (event i (Kill v)) ≡ true → kills_left (after T W (event i (Kill v))) + 1 ≤ kills_left W
   unfolding is_enabled is_locally_enabled local_step
   kill-takes W i v enabled =
@@ -167,7 +145,7 @@ module _ (T : Setup) where
       let kernel : kernel_of T v ≡ i = eqb-true (kernel_of T v) i two.0 in
       let three = and_parts (is_alive s v) (is_some (kill_number T v)) two.1 in
       let before : (vpe_row W v).alive ≡ true = ap (λ j. (row (side W j) v).alive) kernel ∙ three.0 in
-      let now : (vpe_row (after T W e) v).alive ≡ false = ap (λ j. (row (side (after T W e) j) v).alive) kernel ∙ (ap (λ (t : Side). (row t v).alive) (side-after T W e) ∙ killed-dead i v s) in
+      let now : (vpe_row (after T W e) v).alive ≡ false = ap (λ j. (row (side (after T W e) j) v).alive) kernel ∙ (ap (λ (t : Side). (row t v).alive) (side-after T W e) ∙ killed-dead T i v s) in
       by_kill (find (λ k. k.0 == v) T.kills) refl three.1 before now
     where
       by_kill : (o : Option (ℕ × ℕ)) → find (λ k. k.0 == v) T.kills ≡ o → is_some (option_map {T = ℕ × ℕ} (λ k. k.1) o) ≡ true → (vpe_row W v).alive ≡ true → (vpe_row (after T W (event i (Kill v))) v).alive ≡ false → kills_left (after T W (event i (Kill v))) + 1 ≤ kills_left W

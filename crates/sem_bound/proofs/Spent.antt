@@ -1,26 +1,17 @@
 -- No run is spent: after as many entries as a run can have nothing is enabled.
-use Rattle.std.proofs.Common.{◌≡◌, ◌+◌, ◌*◌, ◌≤◌, true, List, [], ◌∷◌, ◌++◌, length, refl, sym, ap, subst, arith}
+use Rattle.std.proofs.Common.{◌≡◌, ◌+◌, ◌*◌, ◌≤◌, List, [], ◌∷◌, ◌++◌, length, refl, sym, subst, arith}
 use Rattle.std.specs.List.{Contains, filter}
 use Rattle.sem_msg.specs.declared.entry.Entry.{Entry}
 use Rattle.sem_msg.specs.declared.event.Event.{Event}
 use Rattle.sem_msg.specs.Setup.{Setup, IsSetup, call_count, kill_count}
-use Rattle.sem_machine.specs.Machine.{World, start, after, entry_of, local_entry, is_enabled, enabled, all_events}
-use Rattle.sem_machine.specs.Schedules.{IsRun, IsSchedule, run, world_after}
+use Rattle.sem_machine.specs.Machine.{World, after, entry_of, is_enabled, enabled, all_events}
+use Rattle.sem_machine.specs.Schedules.{IsSchedule, run, world_after}
 use Rattle.sem_machine.specs.Living.{IsQuiet}
 use Rattle.sem_machine.specs.Seeded.{entry_limit, entry_bound}
 use Rattle.sem_key.proofs.Members.{Contains-head, Contains-from_filter}
+use Rattle.sem_safety.proofs.Pushing.{schedule-push}
 use Rattle.sem_bound.proofs.Bound.{bounded}
 use Rattle.sem_bound.proofs.Left.{few-made}
-
-event-of : (T : Setup) (W : World) (e : Event) → (entry_of T W e).event ≡ e
-unfolding entry_of local_entry
-event-of T W e = refl
-
--- a run goes on with what is enabled
-run-more : (T : Setup) (W : World) (J : List Entry) (e : Event) → IsRun T W J → is_enabled T (run T W J) e ≡ true → IsRun T W (J ++ entry_of T (run T W J) e ∷ [])
-unfolding IsRun
-run-more T W [] e runs allowed = (subst (λ f. is_enabled T W f ≡ true) (sym (event-of T W e)) allowed, ap (entry_of T W) (sym (event-of T W e)), tt)
-run-more T W (x ∷ xs) e runs allowed = (runs.0, runs.1, run-more T (after T W x.event) xs e runs.2 allowed)
 
 -- in terms of the setup
 pub limited : (T : Setup) → IsSetup T → (J : List Entry) → IsSchedule T J → length J ≤ 21 * call_count T + kill_count T
@@ -51,6 +42,6 @@ never-spent T valid J runs full = from (enabled T (world_after T J)) refl
         let W : World = world_after T J in
         let among : Contains (filter (is_enabled T W) (all_events T)) e = subst (λ xs. Contains xs e) (sym same) (Contains-head e es) in
         let allowed = (Contains-from_filter (is_enabled T W) (all_events T) e among).1 in
-        let few = within-limit T valid (J ++ entry_of T W e ∷ []) (run-more T (start T) J e runs allowed) in
+        let few = within-limit T valid (J ++ entry_of T W e ∷ []) (schedule-push T J e runs allowed) in
         let more = longer J (entry_of T W e) in
         absurd (omega (arith, few, more, full))

@@ -19,7 +19,7 @@ use Rattle.sem_key.proofs.Members.{not_found, Contains-head, Contains-tail}
 use Rattle.sem_safety.proofs.Lives.{all_held, at_key, at_cap, at_side, at_message, at_messages, at_inbox, at_parked}
 use Rattle.sem_safety.proofs.LiveWorlds.{at_world}
 
-some-at : {X : Type 0} (w : X → ℕ) (d : X) (xs : List X) → 1 ≤ sum_by w xs → (i : ℕ) × (1 ≤ w (get_or xs i d))
+pub some-at : {X : Type 0} (w : X → ℕ) (d : X) (xs : List X) → 1 ≤ sum_by w xs → (i : ℕ) × (1 ≤ w (get_or xs i d))
 some-at w d [] some = absurd (omega (arith, some))
 some-at w d (x ∷ xs) some = elim (cases_eq (w x) 0) [
   | inl none ↦ let all = sum_by-cons w x xs in let rest = some-at w d xs (omega (arith, all, some, none)) in (suc rest.0, rest.1)
@@ -30,7 +30,7 @@ some-at w d (x ∷ xs) some = elim (cases_eq (w x) 0) [
     positive zero never = absurd (never refl)
     positive (suc n) never = omega arith
 
-some-in : {X : Type 0} (w : X → ℕ) (xs : List X) → 1 ≤ sum_by w xs → (x : X) × Contains xs x × (1 ≤ w x)
+pub some-in : {X : Type 0} (w : X → ℕ) (xs : List X) → 1 ≤ sum_by w xs → (x : X) × Contains xs x × (1 ≤ w x)
 some-in w [] some = absurd (omega (arith, some))
 some-in w (x ∷ xs) some = elim (cases_eq (w x) 0) [
   | inl none ↦ let all = sum_by-cons w x xs in let rest = some-in w xs (omega (arith, all, some, none)) in (rest.0, Contains-tail x xs rest.0 rest.1, rest.2)

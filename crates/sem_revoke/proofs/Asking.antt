@@ -99,7 +99,7 @@ sides-split v (s ∷ ss) =
     omega (arith, one, two, three, more)
 
 -- a living VPE of which something is about waits
-about-waits : (T : Setup) → IsSetup T → (J : List Entry) → IsSchedule T J → (v j : ℕ) → HasAbout (world_after T J) v → is_alive (side (world_after T J) j) v ≡ true → waits (parked (side (world_after T J) j) v) ≡ true
+pub about-waits : (T : Setup) → IsSetup T → (J : List Entry) → IsSchedule T J → (v j : ℕ) → HasAbout (world_after T J) v → is_alive (side (world_after T J) j) v ≡ true → waits (parked (side (world_after T J) j) v) ≡ true
 about-waits T valid J runs v j some alive =
     let W : World = world_after T J in
     let most = single T valid J runs v in

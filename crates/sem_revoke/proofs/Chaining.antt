@@ -305,7 +305,7 @@ module _ (C : Scene) where
 
   told-closing : (x : JobRow) (s : Side) (j : ℕ) (p : KeyName) → x.keep ≡ false → Closing x s → Closing x (send j (Unlink p x.root) s)
   told-closing x s j p leaves K = record {
-    row = row-sent C (closing i x.id) (closing i x.id) s j (Unlink p x.root) (λ k a b. refl) (λ k. refl) refl (λ a b. omega arith) (λ a b k alive care. care) (λ a n loose. loose)
+    row = row-sent C (closing i x.id) (closing i x.id) s j (Unlink p x.root) (λ k a b. refl) (λ k. refl) refl (λ a b. refl) (λ a b k alive care. care) (λ a b k care. care) (λ a n loose. loose)
         (λ k more. let same : x.root ≡ k = key_eq-true x.root k (one-more (key_eq x.root k) more) in subst (λ z. IsGone C s z × C.made z) same (K.gone leaves)) K.row;
     open_ = K.open_;
     gone = λ _. let gifts = lives-send x.root on_its_way s j (Unlink p x.root) in let is = K.gone leaves in let zero' = is.0.1 in ((is.0.0, omega (arith, gifts, zero')), is.1);
@@ -406,6 +406,7 @@ module _ (C : Scene) where
           (λ k m y (c, held, marked) open_. (y, job-stays (owner C k) m y (λ (here, same). K.clean k c (sym (hold-here C s k here) ∙ held) (marked ∙ ap Some same)) open_, refl))
           (λ a m y open_. let was = job-was a m y open_ in (y, was.0, refl, λ is. is, λ loose. was.1 loose))
           (λ a b. let sum = side-removed (naming a b) i s x.id x K.row.ids.rise K.open_ in let count = removed-count a b in let is = K.row.revokes.counted a b in omega (arith, sum, count, is))
+          (λ k a b. let sum = removed-asks k a b in let most = K.row.revokes.single.0 k a b in omega (arith, sum, most), λ k a b care. absurd care)
           (λ k more. let sum = side-removed (noticing k) i s x.id x K.row.ids.rise K.open_ in inl (omega (arith, sum, more)))
           (let sum = side-removed (straying (owner C)) i s x.id x K.row.ids.rise K.open_ in let is = K.row.revokes.placed in omega (arith, sum, is));
       rises = K.row.rises;
@@ -430,9 +431,9 @@ module _ (C : Scene) where
       row-lowered C s j x.0 x.1 R
 
   told-row : (up : Option Up) (s : Side) → Row C (above i up) s → Row C free_hand (up_told up s)
-  told-row None s R = rehand C (above i None) free_hand s (λ k a b alive under care. absurd care) (λ a m loose. loose) (λ a b. omega arith) R
+  told-row None s R = rehand C (above i None) free_hand s (λ k a b alive under care. absurd care) (λ k a b care. care) (λ a m loose. loose) (λ a b. refl) R
   told-row (Some (Local j)) s R = row-back s j R
-  told-row (Some (Remote kernel j)) s R = row-sent C (above i (Some (Remote kernel j))) free_hand s kernel (RevokeDone j) (λ k a b. refl) (λ k. refl) refl (λ a b. omega arith) (λ a b k alive care. care) (λ a m loose. loose) (λ k more. absurd (omega (arith, more))) R
+  told-row (Some (Remote kernel j)) s R = row-sent C (above i (Some (Remote kernel j))) free_hand s kernel (RevokeDone j) (λ k a b. refl) (λ k. refl) refl (λ a b. omega arith) (λ a b k alive care. care) (λ a b k care. care) (λ a m loose. loose) (λ k more. absurd (omega (arith, more))) R
 
   -- what the job marked is swept
   row-swept : (x : JobRow) (s : Side) → job s x.id ≡ Some x → x.count ≡ 0 → Row C free_hand s → (b : Bool) → x.keep ≡ b → Closing x (caps_removed x.id (selectors_freed x.id (record s { caps = spared b x.root s.caps })))
@@ -456,7 +457,7 @@ module _ (C : Scene) where
       (told-row x.up (job_removed x.id (closed_here C.setup i x s)) (row-without x (closed_here C.setup i x s) (row-closed_here x s open_ done R) done))
 
   -- The chain.
-  done-is : (s : Side) (j : ℕ) (y : JobRow) → if_done (job s j) ≡ Some y → (job s y.id ≡ Some y) × (y.count ≡ 0)
+  pub done-is : (s : Side) (j : ℕ) (y : JobRow) → if_done (job s j) ≡ Some y → (job s y.id ≡ Some y) × (y.count ≡ 0)
   done-is s j y done = from (job s j) refl done
     where
       from : (o : Option JobRow) → job s j ≡ o → if_done o ≡ Some y → (job s y.id ≡ Some y) × (y.count ≡ 0)
@@ -469,7 +470,7 @@ module _ (C : Scene) where
         | inr more ↦ let none : None ≡ Some y = sym (cond-false (x.count == 0) (Some x) None more) ∙ done in absurd cc
       ]
 
-  next-is : (up : Option Up) (s : Side) (y : JobRow) → next_done up s.jobs ≡ Some y → (job s y.id ≡ Some y) × (y.count ≡ 0)
+  pub next-is : (up : Option Up) (s : Side) (y : JobRow) → next_done up s.jobs ≡ Some y → (job s y.id ≡ Some y) × (y.count ≡ 0)
   next-is None s y next = absurd cc
   next-is (Some (Local j)) s y next = done-is s j y next
   next-is (Some (Remote kernel j)) s y next = absurd cc

@@ -30,7 +30,7 @@ use Rattle.sem_revoke.specs.Views.{Hand, free_hand, token}
 use Rattle.sem_revoke.specs.Scales.{Scale, sum_from, of_messages, of_inbox, of_side, of_world, one_if, names, asking, naming, counting, noticing, straying, asking_message, token_message}
 use Rattle.sem_revoke.proofs.Keeping.{HoldsOn, holds-same, cases_Option, not-gone}
 use Rattle.sem_revoke.proofs.Scaling.{side-changed, side-removed}
-use Rattle.sem_revoke.proofs.Viewing.{on_its_way, Rises, Scene, owner, elsewhere, view, IsAlive, IsGone, Row, hold-here, hold-away, job-id, no-roots, changed-roots, step}
+use Rattle.sem_revoke.proofs.Viewing.{on_its_way, Rises, Scene, owner, elsewhere, view, IsAlive, IsGone, Row, hold-here, hold-away, job-id, no-roots, changed-roots, step, one-true}
 
 -- Keys that rise, where no capability changes its key, and where some go.
 pub changed-rises : (test : Capability → Bool) (f : Capability → Capability) → ((c : Capability) → (f c).key ≡ c.key) → (cs : List Capability) → Rises cs → Rises (change test f cs)
@@ -90,9 +90,9 @@ asking-token k a b from to (RevokeDone j) = omega arith
 asking-token k a b from to (Unlink parent key) = omega arith
 
 -- counts
-lowered-count : (t : Bool) (n : ℕ) → (if t then n else 0) ≤ (if t then n - 1 else 0) + one_if t
-lowered-count true n = omega arith
-lowered-count false n = omega arith
+lowered-count : (t : Bool) (n : ℕ) → 1 ≤ n → (if t then n else 0) ≡ (if t then n - 1 else 0) + one_if t
+lowered-count true n some = omega (arith, some)
+lowered-count false n some = refl
 
 module _ (C : Scene) where
   abbrev i : ℕ
@@ -181,16 +181,25 @@ module _ (C : Scene) where
       (λ a b.
       let tokens = side-changed (naming a b) i s j lower x R.ids.rise open_ in
       let counts = side-changed (counting a b) i s j lower x R.ids.rise open_ in
-      let less = lowered-count ((i == a) && (x.id == b)) x.count in
+      let less = lowered-count ((i == a) && (x.id == b)) x.count some in
       let id : one_if ((i == a) && (x.id == b)) ≡ one_if ((i == a) && (j == b)) = ap (λ n. one_if ((i == a) && (n == b))) (job-id C s j x open_) in
       let is = R.revokes.counted a b in
       omega (arith, tokens, counts, less, id, is))
+      (λ k a b. let same = side-changed (asking k a b) i s j lower x R.ids.rise open_ in let most = R.revokes.single.0 k a b in omega (arith, same, most), λ k a b care. absurd care)
       (λ k more. let same = side-changed (noticing k) i s j lower x R.ids.rise open_ in inl (omega (arith, same, more)))
       (let same = side-changed (straying (owner C)) i s j lower x R.ids.rise open_ in let is = R.revokes.placed in omega (arith, same, is))
       R
     where
       lower : JobRow → JobRow
       lower x = record x { count = x.count - 1 }
+
+      -- the token that is in the hand is counted
+      some : 1 ≤ x.count
+      some =
+          let is = R.revokes.counted i j in
+          let count = open-count s j x R.ids open_ in
+          let one = one-true ((i == i) && (j == j)) (and_from (i == i) (j == j) (eq-eqb i i refl) (eq-eqb j j refl)) in
+          omega (arith, is, count, one)
 
   -- The parent of a key that is gone leads to it no more.
   module _ (s : Side) (p k : KeyName) where
@@ -279,6 +288,7 @@ module _ (C : Scene) where
           (λ q a b more. inl more)
           (λ a n loose. loose)
           R.revokes.counted
+          R.revokes.single
           (λ q more. inl more)
           R.revokes.placed
           R

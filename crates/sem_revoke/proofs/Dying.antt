@@ -183,7 +183,7 @@ module _ (v : ℕ) (Ended : Type 0) where
   ask-gives T s w (DelegateAsk parent object sel) = (λ k is. tt, tt)
 
   -- who ends by an act
-  abbrev ActEnds : Setup → Side → Act → Type 0
+  abbrev pub ActEnds : Setup → Side → Act → Type 0
   ActEnds T s (Calls w) = next_call T s w ≡ Some Exit → w ≡ v → Ended
   ActEnds T s (Kill w) = w ≡ v → Ended
   ActEnds T s (Fetch j) = Unit {0}

@@ -2,6 +2,7 @@
 use Rattle.std.proofs.Common.{◌≡◌, ◌⊎◌, ℕ, ◌++◌, true, false, not, List, [], ◌∷◌, map, Option, Some, None, is_none, append-nil, append_assoc, refl, sym, ap, ◌∙◌, subst, inl, inr, arith, eq-eqb}
 use Rattle.std.specs.List.{Contains}
 use Rattle.std.specs.Option.{option_map_or, IsSome}
+use Rattle.std.specs.Prelude.{if◌then◌else◌}
 use Rattle.std.proofs.lemmas.Bool.{cases_Bool, cond-true, cond-false}
 use Rattle.std.proofs.lemmas.Option.{same_Some}
 use Rattle.std.proofs.lemmas.List.Elements.{Contains-append_left, Contains-append_right, Contains-append_cases, filter_map-append}
@@ -18,13 +19,13 @@ use Rattle.sem_msg.specs.declared.entry.Entry.{Entry}
 use Rattle.sem_msg.specs.declared.event.Act.{Act}
 use Rattle.sem_msg.specs.declared.event.Act.TheVariants.{Call as Calls, Fetch, Handle, Upcall, Resume, Flush, Kill}
 use Rattle.sem_msg.specs.declared.message.Message.{Message}
-use Rattle.sem_msg.specs.declared.message.Message.TheVariants.{Ack}
+use Rattle.sem_msg.specs.declared.message.Message.TheVariants.{Ack, Orphan}
 use Rattle.sem_msg.specs.declared.state.Parked.{Parked}
 use Rattle.sem_msg.specs.declared.state.Parked.TheVariants.{ObtainWait, ObtainReady, ObtainCancelled, DelegateWait, DelegateReady, RevokeWait, Ready}
 use Rattle.sem_msg.specs.declared.state.Pending.{Pending}
 use Rattle.sem_msg.specs.Setup.{Setup, IsSetup}
 use Rattle.sem_msg.specs.Lookups.{owner_of, kernel_of}
-use Rattle.sem_machine.specs.Sides.{Side, no_side, cap, outbox, parked, pending, is_alive, call_counted, drawn, installed, linked, unparked, pending_removed, with_inbox}
+use Rattle.sem_machine.specs.Sides.{Side, no_side, cap, outbox, parked, pending, is_alive, call_counted, drawn, installed, linked, unparked, pending_removed, send, with_inbox}
 use Rattle.sem_machine.specs.Steps.{Step, plain}
 use Rattle.sem_machine.specs.Calls.{next_key, child_made, call_row}
 use Rattle.sem_machine.specs.Handles.{is_key_declared, is_here, is_stray, acknowledged, handle_row, handled}
@@ -69,7 +70,7 @@ child-holds T v dst object parent s p k some =
     subst (λ (g : KeyName × KeyName). Held (child_made T v dst object parent s).side g.1) (same_Some (parent, k0) (p, k) some)
     (fresh k0 (Some parent) dst object, installed-held k0 (Some parent) dst object (linked parent k0 (drawn v s)))
 
-call-holds : (T : Setup) (i v : ℕ) (s : Side) (c : Call) → Holds (call_row T i s v c)
+pub call-holds : (T : Setup) (i v : ℕ) (s : Side) (c : Call) → Holds (call_row T i s v c)
 call-holds T i v s c = call_row-by Holds T i v s (record {
   answered = λ code p k some. absurd cc;
   child = λ src dst object q held. child-holds T v dst object q.key s;
@@ -88,7 +89,7 @@ call-holds T i v s c = call_row-by Holds T i v s (record {
 abbrev Acks : Setup → Step → Type 0
 Acks T x = (p k : KeyName) → ◌≡◌ {A = Option (KeyName × KeyName)} x.outcome.grant (Some (p, k)) → Contains (outbox x.side (owner_of T k)) (Ack k true)
 
-resume-acks : (T : Setup) (s : Side) (v : ℕ) → Acks T (resume_row T s v)
+pub resume-acks : (T : Setup) (s : Side) (v : ℕ) → Acks T (resume_row T s v)
 unfolding resume_row
 resume-acks T s v = by (parked s v)
   where
@@ -147,10 +148,11 @@ module _ (T : Setup) (valid : IsSetup T) (J : List Entry) (runs : IsSchedule T J
   shows : (a : Act) → e.event.act ≡ a → ◌≡◌ {A = Option (KeyName × KeyName)} (step-of a).outcome.grant e.grant
   shows a act = ap (λ n. (step-of n).outcome.grant) (sym act) ∙ sym (shown T W e (at T valid J runs before e later parts).2)
 
-  -- the Ack stands in the inbox: the key is installed, or its VPE has ended
-  handled-ack : (p k : KeyName) (a : ℕ) → Contains (grants before) (p, k) → s.inbox ≡ Some (a, Ack k true) → e.event.act ≡ Handle → Contains (way W a i) (Ack k true) → Held (side V i) k ⊎ IsDoomed J k
+  -- the Ack stands in the inbox: the key is installed, or its VPE is dead, and an orphan is sent
+  pub ack-handled : (p k : KeyName) (a : ℕ) → Contains (grants before) (p, k) → s.inbox ≡ Some (a, Ack k true) → e.event.act ≡ Handle → Contains (way W a i) (Ack k true)
+      → ((c : Capability) × (cap (side V i) k ≡ Some c)) ⊎ ((is_key_declared T k ≡ true) × (owner_of T k ≡ i) × (is_alive s k.vpe ≡ false) × (q : Pending) × (pending s k ≡ Some q) × (side V i ≡ send (owner_of T q.parent) (Orphan q.parent k) (pending_removed k (with_inbox None s))))
   unfolding local_step handle_row
-  handled-ack p k a granted full act among =
+  ack-handled p k a granted full act among =
       let m : Message = Ack k true in
       let weighs = weigh-among (at_message k) (way W a i) m among in
       let one : at_message k m ≡ 1 = cond-true (key_eq k k) 1 0 (key_eq-same k) in
@@ -161,21 +163,36 @@ module _ (T : Setup) (valid : IsSetup T) (J : List Entry) (runs : IsSchedule T J
       let token : of_key k k ≡ 1 = one in
       let part = weigh-at (of_side k) no_side refl W.sides i in
       let pends = (schedule-one k T valid before begun).pends (omega (arith, inbox, token, part)) in
+      let there : pending s k ≡ Some pends.0 = ap (λ n. pending (side W n) k) (sym place.1) ∙ pends.1 in
       elim (cases_Bool (is_alive s k.vpe)) [
-        | inr dead ↦ inr (dead-doomed T valid J runs before (e ∷ later) parts begun k i declared place.1 dead)
-        | inl alive ↦ inl (installs declared home pends.0 (ap (λ n. pending (side W n) k) (sym place.1) ∙ pends.1) alive)
+        | inr dead ↦ inr (declared, place.1, dead, pends.0, there, step-is declared home pends.0 there ∙ cond-false (is_alive u k.vpe) (held pends.0) (send (owner_of T pends.0.parent) (Orphan pends.0.parent k) (pending_removed k u)) dead)
+        | inl alive ↦
+            let now' = step-is declared home pends.0 there ∙ cond-true (is_alive u k.vpe) (held pends.0) (send (owner_of T pends.0.parent) (Orphan pends.0.parent k) (pending_removed k u)) alive in
+            inl (fresh k (Some pends.0.parent) pends.0.sel pends.0.object, ap (λ (x : Side). cap x k) now' ∙ installed-held k (Some pends.0.parent) pends.0.sel pends.0.object (pending_removed k u))
       ]
     where
-      installs : is_key_declared T k ≡ true → kernel_of T k.vpe ≡ i → (q : Pending) → pending s k ≡ Some q → is_alive s k.vpe ≡ true → Held (side V i) k
-      installs declared home q pends alive =
-          let u : Side = with_inbox None s in
+      u : Side
+      u = with_inbox None s
+
+      held : Pending → Side
+      held q = installed k (Some q.parent) q.sel q.object (pending_removed k u)
+
+      -- it is no stray
+      step-is : is_key_declared T k ≡ true → kernel_of T k.vpe ≡ i → (q : Pending) → pending s k ≡ Some q
+          → side V i ≡ (if is_alive u k.vpe then held q else send (owner_of T q.parent) (Orphan q.parent k) (pending_removed k u))
+      step-is declared home q pends =
           let m : Message = Ack k true in
           let stray : is_stray T i u m ≡ false = or-false (not (is_key_declared T k)) _ (ap not declared) (or-false (not (is_here T i k.vpe)) _ (ap not (eq-eqb (kernel_of T k.vpe) i home)) (ap is_none pends)) in
-          let held : Side = installed k (Some q.parent) q.sel q.object (pending_removed k u) in
-          let step : (step-of Handle).side ≡ held =
-          ap (λ x. option_map_or (λ y. handled T i (with_inbox None s) y.0 y.1) x s) full
-          ∙ (cond-false (is_stray T i u m) u (handle_row T i u a m) stray ∙ (ap (λ o. option_map_or (acknowledged T k true u) o u) pends ∙ cond-true (is_alive u k.vpe) held _ alive)) in
-          (fresh k (Some q.parent) q.sel q.object, ap (λ (x : Side). cap x k) (now Handle act ∙ step) ∙ installed-held k (Some q.parent) q.sel q.object (pending_removed k u))
+          now Handle act
+          ∙ (ap (λ x. option_map_or (λ y. handled T i (with_inbox None s) y.0 y.1) x s) full
+          ∙ (cond-false (is_stray T i u m) u (handle_row T i u a m) stray ∙ ap (λ o. option_map_or (acknowledged T k true u) o u) pends))
+
+  handled-ack : (p k : KeyName) (a : ℕ) → Contains (grants before) (p, k) → s.inbox ≡ Some (a, Ack k true) → e.event.act ≡ Handle → Contains (way W a i) (Ack k true)
+      → Held (side V i) k ⊎ IsDoomed J k
+  handled-ack p k a granted full act among = elim (ack-handled p k a granted full act among) [
+    | inl held ↦ inl held
+    | inr (declared, home, dead, q, there, gone) ↦ inr (dead-doomed T valid J runs before (e ∷ later) parts begun k i declared home dead)
+  ]
 
   held-live : (j : ℕ) (k : KeyName) → Held (side V j) k → IsLive (world_after T J) k ⊎ IsDoomed J k
   held-live j k (c, held) = elim (held-lasts T valid J runs (before ++ e ∷ []) later j k c next held) [

@@ -7,7 +7,7 @@ use Rattle.sem_key.specs.Capability.{Capability}
 use Rattle.sem_key.specs.CapList.{with_mark}
 use Rattle.sem_msg.specs.Rows.{JobRow}
 use Rattle.sem_key.specs.Region.{has_key}
-use Rattle.sem_revoke.specs.Views.{View, Hand, free_hand, closing, IsAlone, Alive, Gone, Marked, Under, Caught, IsFit, Revokes}
+use Rattle.sem_revoke.specs.Views.{View, Hand, free_hand, closing, IsAlone, Alive, Gone, Marked, Under, Caught, IsFit, Revokes, IsSingle}
 
 -- an option is there or not
 pub cases_Option : {X : Type 0} (o : Option X) → ((x : X) × (o ≡ Some x)) ⊎ (o ≡ None)
@@ -73,11 +73,12 @@ module _ (owner : KeyName → ℕ) (G : KeyName → KeyName → Type 0) (one : (
         → ((k : KeyName) (a b : ℕ) → 1 ≤ U.asked k a b → (1 ≤ V.asked k a b) ⊎ Under owner G M V k a b)
         → ((k : KeyName) (n : ℕ) (x : JobRow) → Marked owner G M V k n → V.job (owner k) n ≡ Some x → (y : JobRow) × (U.job (owner k) n ≡ Some y) × (y.root ≡ x.root))
         → ((a n : ℕ) (y : JobRow) → U.job a n ≡ Some y → (x : JobRow) × (V.job a n ≡ Some x) × (x.root ≡ y.root) × (IsAlone x → IsAlone y) × (h.loose a n → h'.loose a n))
-        → ((a b : ℕ) → U.tokens a b + h'.owed a b ≤ U.count a b)
+        → ((a b : ℕ) → U.tokens a b + h'.owed a b ≡ U.count a b)
+        → IsSingle owner G M h' U
         → ((k : KeyName) → 1 ≤ U.notices k → (1 ≤ V.notices k) ⊎ (Gone owner G M U k × M k))
         → U.misplaced ≡ 0
         → Revokes owner G M h' U
-    keep h h' fit R caught' asking' marks' roots' counted' noticed' placed' = record {
+    keep h h' fit R caught' asking' marks' roots' counted' single' noticed' placed' = record {
       linked = λ p k granted alive. let d = R.linked p k granted (alive-back k alive) in let e = H.on p d.0 d.1 in (e.0, e.1, e.3 k alive d.2);
       caught = λ p k e n held marked child alive.
           let d = H.back p e held in
@@ -97,6 +98,7 @@ module _ (owner : KeyName → ℕ) (G : KeyName → KeyName → Type 0) (one : (
           ];
       alone = λ a n y open_. let x = roots' a n y open_ in x.3 (R.alone a n x.0 x.1);
       counted = counted';
+      single = single';
       noticed = λ k more. elim (noticed' k more) [ inl before ↦ (let is = R.noticed k before in (gone-on k is.0, is.1)) | inr new ↦ new ];
       placed = placed';
     }
@@ -124,10 +126,11 @@ module _ (owner : KeyName → ℕ) (G : KeyName → KeyName → Type 0) (one : (
     pub asked_on : (k : KeyName) (a b : ℕ) → V.asked k a b ≤ U.asked k a b
     pub cared : (k : KeyName) (a b : ℕ) → h.cares a b k → 1 ≤ U.asked k a b
     pub asked_back : (k : KeyName) (a b : ℕ) → 1 ≤ U.asked k a b → (1 ≤ V.asked k a b) ⊎ Under owner G M V k a b
-    pub counts : (a b : ℕ) → U.tokens a b ≤ U.count a b
+    pub counts : (a b : ℕ) → U.tokens a b ≡ U.count a b
     pub notices : (k : KeyName) → U.notices k ≤ V.notices k
     pub misplaced : U.misplaced ≡ 0
     pub tight : (a b : ℕ) → h.loose a b → ⊥
+    pub once : (k : KeyName) (a b : ℕ) → U.asked k a b ≤ 1
 
   module _ (h : Hand) (i j : ℕ) (root : KeyName) (region : KeyName → Bool) (child : KeyName → Bool) (V U : View) (B : Begins h i j root region child V U) where
     opened-on : (p : KeyName) (d : Capability) → V.hold p ≡ Some d → (e : Capability) × (U.hold p ≡ Some e) × (e.children ≡ d.children) × ((n : ℕ) → d.mark ≡ Some n → e.mark ≡ Some n)
@@ -173,8 +176,8 @@ module _ (owner : KeyName → ℕ) (G : KeyName → KeyName → Type 0) (one : (
       made = λ k alive. fit.made k (opened-alive k alive);
     }
 
-    pub keep_begun : (h' : Hand) → ((k : KeyName) → child k ≡ true → h'.cares i j k) → ((a b : ℕ) → h'.owed a b ≡ 0) → IsFit owner G M V → Revokes owner G M h V → Revokes owner G M h' U
-    keep_begun h' cares owes fit R = record {
+    pub keep_begun : (h' : Hand) → ((k : KeyName) → child k ≡ true → h'.cares i j k) → ((a b : ℕ) → h'.owed a b ≡ 0) → ((k : KeyName) (a b : ℕ) → h'.cares a b k → U.asked k a b ≡ 0) → IsFit owner G M V → Revokes owner G M h V → Revokes owner G M h' U
+    keep_begun h' cares owes unasked fit R = record {
       linked = λ p k granted alive. let d = R.linked p k granted (opened-alive k alive) in let e = opened-on p d.0 d.1 in (e.0, e.1, ap (λ ks. has_key ks k) e.2 ∙ d.2);
       caught = λ p k e n held marked among alive.
           let d = opened-back p e held in
@@ -211,6 +214,7 @@ module _ (owner : KeyName → ℕ) (G : KeyName → KeyName → Type 0) (one : (
       ];
       alone = λ a n x open_. elim (B.jobs_back a n x open_) [ inl before ↦ R.alone a n x before | inr (at, job, is_root, alone) ↦ alone ];
       counted = λ a b. let few = B.counts a b in let none = owes a b in omega (arith, few, none);
+      single = (B.once, unasked);
       noticed = λ k more. let less = B.notices k in let is = R.noticed k (omega (arith, more, less)) in (opened-gone k is.0, is.1);
       placed = B.misplaced;
     }
@@ -229,7 +233,7 @@ module _ (owner : KeyName → ℕ) (G : KeyName → KeyName → Type 0) (one : (
     pub none : (k : KeyName) → V.asked k i n ≡ 0
     pub asked_on : (k : KeyName) (a b : ℕ) → U.asked k a b ≡ V.asked k a b
     pub jobs_on : (a m : ℕ) → U.job a m ≡ V.job a m
-    pub counts : (a b : ℕ) → U.tokens a b ≤ U.count a b
+    pub counts : (a b : ℕ) → U.tokens a b ≡ U.count a b
     pub notices : (k : KeyName) → U.notices k ≤ V.notices k
     pub misplaced : U.misplaced ≡ 0
 
@@ -295,6 +299,7 @@ module _ (owner : KeyName → ℕ) (G : KeyName → KeyName → Type 0) (one : (
       ];
       alone = λ a m x open_. R.alone a m x (sym (S.jobs_on a m) ∙ open_);
       counted = λ a b. let few = S.counts a b in omega (arith, few);
+      single = (λ k a b. let same = S.asked_on k a b in let most = R.single.0 k a b in omega (arith, same, most), λ k a b care. absurd care);
       noticed = λ k more. let less = S.notices k in let is = R.noticed k (omega (arith, more, less)) in (swept-gone k is.0, is.1);
       placed = S.misplaced;
     }

@@ -32,6 +32,12 @@ pub mod Narrowed
 pub mod Narrowness
 pub mod Losing
 pub mod Lasting
+mod Leading
+mod LeadingRows
+mod LeadingJobs
+mod LeadingEvents
+mod LeadingWays
+mod LeadingWorlds
 pub mod Dooming
 pub mod Firsts
 pub mod Forests
@@ -50,9 +56,40 @@ pub mod Delegations
 pub mod DelegationRows
 pub mod DelegationWorlds
 pub mod Granted
+pub mod JobTokens
+pub mod Steady
+pub mod Addressed
+pub mod Moving
+pub mod AddressedWorlds
+pub mod Exchanges
+pub mod ExchangeRows
+pub mod ExchangeMessages
+pub mod ExchangeWorlds
+pub mod Owing
+pub mod Pendings
+pub mod PendingWorlds
+pub mod PendingOwed
+pub mod AckedParents
+pub mod Parenting
+pub mod Parents
+pub mod IdleJobs
+pub mod Straight
+pub mod Unasked
+pub mod UnaskedWorlds
+pub mod Quieting
+pub mod Completing
+pub mod Cuts
+pub mod Parkers
+pub mod DeadCaps
+pub mod DeadCapsRows
+pub mod DeadCapsWorlds
+pub mod Ended
+pub mod IdleForest
+pub mod IdleRest
 pub mod Safe
 pub mod Open
 pub mod OpenRows
-pub mod IdleWorlds
 pub mod SampleRuns
 pub mod Objects
+pub mod ParkedCalls
+pub mod Replying

@@ -38,5 +38,5 @@ module _ (T : Setup) (valid : IsSetup T) (J : List Entry) (runs : IsSchedule T J
   pub keepers-alone : (i n : ℕ) (x : JobRow) → job (side (world_after T J) i) n ≡ Some x → x.keep ≡ true → x.up ≡ None
   keepers-alone i n x open_ = (holds T valid J runs).alone i n x open_
 
-  pub tokens-counted : (a b : ℕ) → of_world (naming a b) (world_after T J) ≤ of_world (counting a b) (world_after T J)
+  pub tokens-counted : (a b : ℕ) → of_world (naming a b) (world_after T J) ≡ of_world (counting a b) (world_after T J)
   tokens-counted a b = let is = (holds T valid J runs).counted a b in omega (arith, is)

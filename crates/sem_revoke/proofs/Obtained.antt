@@ -1,6 +1,6 @@
 -- What an ObtainOk brings is not lost: its VPE waits for it, or has ended.
 use Rattle.std.proofs.Common.{◌≡◌, ◌⊎◌, ℕ, ◌+◌, ◌≤◌, ◌++◌, Bool, true, false, not, ◌&&◌, ◌||◌, List, [], ◌∷◌, get_or, Option, Some, None, append-nil, append_assoc, refl, sym, ap, ◌∙◌, subst, inl, inr, arith, eq-eqb, length}
-use Rattle.std.specs.Prelude.{◌==◌}
+use Rattle.std.specs.Prelude.{◌==◌, if◌then◌else◌}
 use Rattle.std.specs.List.{Contains, sum_by}
 use Rattle.std.specs.Option.{option_map_or}
 use Rattle.std.proofs.lemmas.Bool.{cases_Bool, cond-true, cond-false, and_parts, ne_eqb, eqb-true, true≢false}
@@ -16,12 +16,12 @@ use Rattle.sem_key.proofs.Members.{found, list_any-some, list_any-at}
 use Rattle.sem_msg.specs.declared.entry.Entry.{Entry}
 use Rattle.sem_msg.specs.declared.event.Act.TheVariants.{Handle}
 use Rattle.sem_msg.specs.declared.message.Message.{Message}
-use Rattle.sem_msg.specs.declared.message.Message.TheVariants.{ObtainOk}
+use Rattle.sem_msg.specs.declared.message.Message.TheVariants.{ObtainOk, Orphan}
 use Rattle.sem_msg.specs.declared.setup.VpeDecl.{VpeDecl}
 use Rattle.sem_msg.specs.declared.state.Parked.TheVariants.{ObtainWait, ObtainReady}
 use Rattle.sem_msg.specs.Setup.{Setup, IsSetup}
 use Rattle.sem_msg.specs.Lookups.{decl, pe_owner, owner_of, kernel_of}
-use Rattle.sem_machine.specs.Sides.{Side, no_side, cap, parked, is_alive, outbox, with_inbox}
+use Rattle.sem_machine.specs.Sides.{Side, no_side, cap, parked, is_alive, outbox, send, with_inbox}
 use Rattle.sem_machine.specs.Asks.{is_obtain_wait}
 use Rattle.sem_machine.specs.Handles.{is_key_declared, is_object_declared, is_here, lives_without, is_stray, obtain_ready, handle_row, handled}
 use Rattle.sem_machine.specs.Machine.{World, side, link, local_step, input_of}
@@ -31,7 +31,6 @@ use Rattle.sem_machine.specs.Living.{way, fetched_from, InFlight, IsLive}
 use Rattle.sem_machine.specs.Living.HasObject.{as_granted}
 use Rattle.sem_machine.specs.Sound.{IsObjectNamed}
 use Rattle.sem_machine.proofs.Weighing.{weigh-among}
-use Rattle.sem_safety.proofs.CarryingWorlds.{stepped}
 use Rattle.sem_safety.proofs.GrownLines.{line-self}
 use Rattle.sem_safety.proofs.HeldOnce.{weigh-at}
 use Rattle.sem_safety.proofs.Lives.{at_message}
@@ -140,11 +139,11 @@ module _ (T : Setup) (valid : IsSetup T) (J : List Entry) (runs : IsSchedule T J
   begun : IsSchedule T before
   begun = (at T valid J runs before e later parts).0
 
-  -- it stands in the inbox: the VPE is ready to install it, or has ended
-  handled-ok : (a : ℕ) → Contains (grants before) (p, k) → s.inbox ≡ Some (a, m) → e.event.act ≡ Handle → Contains (way W a i) m → Waits T W k.vpe k.number
-      → ((sel : ℕ) × (parked (side V i) k.vpe ≡ Some (ObtainReady k p o sel)) × (is_alive (side V i) k.vpe ≡ true)) ⊎ IsDoomed J k
+  -- it stands in the inbox: the VPE is ready to install it, or is dead, and an orphan is sent
+  pub ok-handled : (a : ℕ) → Contains (grants before) (p, k) → s.inbox ≡ Some (a, m) → e.event.act ≡ Handle → Contains (way W a i) m → Waits T W k.vpe k.number
+      → ((sel : ℕ) × (parked (side V i) k.vpe ≡ Some (ObtainReady k p o sel)) × (is_alive (side V i) k.vpe ≡ true)) ⊎ ((is_key_declared T k ≡ true) × (owner_of T k ≡ i) × (is_alive s k.vpe ≡ false) × (side V i ≡ send (owner_of T p) (Orphan p k) (with_inbox None s)))
   unfolding local_step handle_row
-  handled-ok a granted full act among q =
+  ok-handled a granted full act among q =
       let world = schedule-sound T valid before begun in
       let here-sound = world.sides i (enabled-low T W e.event (at T valid J runs before e later parts).1) in
       let msg = here-sound.inbox a m full in
@@ -162,25 +161,47 @@ module _ (T : Setup) (valid : IsSetup T) (J : List Entry) (runs : IsSchedule T J
       let dob = narrowed-named T o p narrow.parent.object (narrow.narrower o (as_granted p flight)) parent.object.1 dp in
       let away : (kernel_of T p.vpe == i) ≡ false = ne_eqb (kernel_of T p.vpe) i (λ same. msg.2 (sym place.0 ∙ (sym (kernel-owner T p dp) ∙ same))) in
       elim (cases_Bool (is_alive s k.vpe)) [
-        | inr dead ↦ inr (dead-doomed T valid J runs before (e ∷ later) parts begun k i dk place.1 dead)
+        | inr dead ↦ inr (dk, place.1, dead, gone home dk dp dob away dead)
         | inl alive ↦ inl (ready home dk dp dob away alive (q (ap (λ n. is_alive (side W n) k.vpe) home ∙ alive)))
       ]
     where
-      ready : kernel_of T k.vpe ≡ i → is_key_declared T k ≡ true → is_key_declared T p ≡ true → is_object_declared T o ≡ true → (kernel_of T p.vpe == i) ≡ false → is_alive s k.vpe ≡ true
-          → (sel : ℕ) × (parked (side W (kernel_of T k.vpe)) k.vpe ≡ Some (ObtainWait k.number sel)) → (sel : ℕ) × (parked (side V i) k.vpe ≡ Some (ObtainReady k p o sel)) × (is_alive (side V i) k.vpe ≡ true)
-      ready home dk dp dob away alive (sel, there) =
-          let u : Side = with_inbox None s in
-          let now : parked s k.vpe ≡ Some (ObtainWait k.number sel) = ap (λ n. parked (side W n) k.vpe) (sym home) ∙ there in
-          let waits : is_obtain_wait k.number (parked s k.vpe) ≡ true = ap (is_obtain_wait k.number) now ∙ eq-eqb k.number k.number refl in
-          let busy : lives_without (is_obtain_wait k.number) u k.vpe ≡ false = ap (λ b. is_alive s k.vpe && not b) waits ∙ ap (λ b. b && false) alive in
+      u : Side
+      u = with_inbox None s
+
+      -- it is no stray
+      step-is : kernel_of T k.vpe ≡ i → is_key_declared T k ≡ true → is_key_declared T p ≡ true → is_object_declared T o ≡ true → (kernel_of T p.vpe == i) ≡ false
+          → lives_without (is_obtain_wait k.number) u k.vpe ≡ false
+          → side V i ≡ (if is_alive u k.vpe then obtain_ready p k o (parked u k.vpe) u else send (owner_of T p) (Orphan p k) u)
+      step-is home dk dp dob away busy =
           let stray : is_stray T i u m ≡ false =
           or-false (not (is_key_declared T p)) _ (ap not dp) (or-false (not (is_key_declared T k)) _ (ap not dk) (or-false (not (is_object_declared T o)) _ (ap not dob)
           (or-false (not (is_here T i k.vpe)) _ (ap not (eq-eqb (kernel_of T k.vpe) i home)) (or-false (is_here T i p.vpe) _ away busy)))) in
-          let step : (stepped T W e.event).side ≡ obtain_ready p k o (Some (ObtainWait k.number sel)) u =
-          ap (λ n. (local_step T i s n (input_of W i n)).side) act ∙ (ap (λ x. option_map_or (λ y. handled T i (with_inbox None s) y.0 y.1) x s) full
-          ∙ (cond-false (is_stray T i u m) u (handle_row T i u a m) stray ∙ (cond-true (is_alive u k.vpe) (obtain_ready p k o (parked u k.vpe) u) _ alive ∙ ap (λ x. obtain_ready p k o x u) now))) in
-          let v : side V i ≡ obtain_ready p k o (Some (ObtainWait k.number sel)) u = side-here T valid J runs before e later parts (all-caused T valid J runs before (e ∷ later) parts) i refl ∙ step in
+          side-here T valid J runs before e later parts (all-caused T valid J runs before (e ∷ later) parts) i refl
+          ∙ (ap (λ n. (local_step T i s n (input_of W i n)).side) act ∙ (ap (λ x. option_map_or (λ y. handled T i (with_inbox None s) y.0 y.1) x s) full ∙ cond-false (is_stray T i u m) u (handle_row T i u a m) stray))
+
+      gone : kernel_of T k.vpe ≡ i → is_key_declared T k ≡ true → is_key_declared T p ≡ true → is_object_declared T o ≡ true → (kernel_of T p.vpe == i) ≡ false
+          → is_alive s k.vpe ≡ false → side V i ≡ send (owner_of T p) (Orphan p k) u
+      gone home dk dp dob away dead =
+          step-is home dk dp dob away (ap (λ b. b && not (is_obtain_wait k.number (parked s k.vpe))) dead)
+          ∙ cond-false (is_alive u k.vpe) (obtain_ready p k o (parked u k.vpe) u) (send (owner_of T p) (Orphan p k) u) dead
+
+      ready : kernel_of T k.vpe ≡ i → is_key_declared T k ≡ true → is_key_declared T p ≡ true → is_object_declared T o ≡ true → (kernel_of T p.vpe == i) ≡ false
+          → is_alive s k.vpe ≡ true
+          → (sel : ℕ) × (parked (side W (kernel_of T k.vpe)) k.vpe ≡ Some (ObtainWait k.number sel)) → (sel : ℕ) × (parked (side V i) k.vpe ≡ Some (ObtainReady k p o sel)) × (is_alive (side V i) k.vpe ≡ true)
+      ready home dk dp dob away alive (sel, there) =
+          let now : parked s k.vpe ≡ Some (ObtainWait k.number sel) = ap (λ n. parked (side W n) k.vpe) (sym home) ∙ there in
+          let waits : is_obtain_wait k.number (parked s k.vpe) ≡ true = ap (is_obtain_wait k.number) now ∙ eq-eqb k.number k.number refl in
+          let busy : lives_without (is_obtain_wait k.number) u k.vpe ≡ false = ap (λ b. is_alive s k.vpe && not b) waits ∙ ap (λ b. b && false) alive in
+          let v : side V i ≡ obtain_ready p k o (Some (ObtainWait k.number sel)) u =
+          step-is home dk dp dob away busy ∙ (cond-true (is_alive u k.vpe) (obtain_ready p k o (parked u k.vpe) u) _ alive ∙ ap (λ x. obtain_ready p k o x u) now) in
           (sel, ap (λ (x : Side). parked x k.vpe) v ∙ parked-here u k.vpe (Some (ObtainReady k p o sel)), ap (λ (x : Side). is_alive x k.vpe) v ∙ alive)
+
+  handled-ok : (a : ℕ) → Contains (grants before) (p, k) → s.inbox ≡ Some (a, m) → e.event.act ≡ Handle → Contains (way W a i) m → Waits T W k.vpe k.number
+      → ((sel : ℕ) × (parked (side V i) k.vpe ≡ Some (ObtainReady k p o sel)) × (is_alive (side V i) k.vpe ≡ true)) ⊎ IsDoomed J k
+  handled-ok a granted full act among q = elim (ok-handled a granted full act among q) [
+    | inl ready ↦ inl ready
+    | inr (declared, home, dead, gone) ↦ inr (dead-doomed T valid J runs before (e ∷ later) parts begun k i declared home dead)
+  ]
 
 -- Along the journal.
 pub obtained-lasts : (T : Setup) → IsSetup T → (J : List Entry) → IsSchedule T J → (before later : List Entry) (p k : KeyName) (o : Object) → J ≡ before ++ later → Contains (grants before) (p, k)

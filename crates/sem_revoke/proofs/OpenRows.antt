@@ -431,7 +431,7 @@ start-open T i = from (range_with_len 0 T.kernels) i
 pub all-open : (T : Setup) (J : List Entry) (i : ℕ) → IsOpen (side (world_after T J) i)
 all-open T J i = run-open T J (start T) (start-open T) i
 
--- in the words of AreResting
+-- a job that is named is there
 job-there : (s : Side) (j : ℕ) → HasJob s.jobs j → (x : JobRow) × (job s j ≡ Some x)
 job-there s j (y, among, id) = from s.jobs among
   where

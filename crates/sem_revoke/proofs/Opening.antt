@@ -1,13 +1,13 @@
 -- A job begins: its region is marked, and the children of that come into the hand.
-use Rattle.std.proofs.Common.{◌≡◌, ◌⊎◌, ℕ, ◌≤◌, ◌<◌, Bool, is_none, true, false, ◌&&◌, List, [], ◌∷◌, Option, Some, None, refl, sym, ap, ◌∙◌, subst, inl, inr, arith, eq-eqb}
+use Rattle.std.proofs.Common.{◌≡◌, ◌⊎◌, ℕ, ◌<◌, Bool, is_none, true, false, ◌&&◌, List, [], ◌∷◌, Option, Some, None, refl, sym, ap, ◌∙◌, subst, inl, inr, arith, eq-eqb}
 use Rattle.std.specs.Prelude.{◌==◌, if◌then◌else◌}
 use Rattle.std.specs.List.{Contains, filter, list_any}
 use Rattle.std.specs.Option.{option_map, option_or}
-use Rattle.std.proofs.lemmas.Bool.{cases_Bool, cases_eq, cond-true, cond-false, eqb-true, and_parts, and_from, true≢false}
+use Rattle.std.proofs.lemmas.Bool.{cases_Bool, cases_eq, false_from_ne_true, cond-true, cond-false, eqb-true, and_parts, and_from, true≢false}
 use Rattle.std.proofs.lemmas.Option.{same_Some}
 use Rattle.std.proofs.lemmas.List.Elements.{All-contains}
-use Rattle.sem_key.specs.KeyName.{KeyName, IsValidKey, key_eq}
-use Rattle.sem_key.specs.KeyList.{with_key, key_set}
+use Rattle.sem_key.specs.KeyName.{KeyName, IsValidKey, key_eq, packed}
+use Rattle.sem_key.specs.KeyList.{with_key, key_set, IsRising}
 use Rattle.sem_key.specs.Lists.{in_turn}
 use Rattle.sem_key.specs.Capability.{Capability}
 use Rattle.sem_key.specs.CapList.{with_mark}
@@ -29,9 +29,10 @@ use Rattle.sem_revoke.proofs.Closing.{changed-rises}
 use Rattle.sem_revoke.specs.Views.{Hand, IsAlone, IsCaused, free_hand, children}
 use Rattle.sem_revoke.specs.Scales.{one_if, names, asking, naming, counting, noticing, straying}
 use Rattle.sem_revoke.proofs.Keeping.{Begins, keep_begun, fit-begun, cases_Option}
-use Rattle.sem_revoke.proofs.Scaling.{side-opened}
+use Rattle.sem_revoke.proofs.Scaling.{side-opened, pairs-head, pairs-tail}
 use Rattle.sem_revoke.proofs.Viewing.{on_its_way, Scene, one-true, one-false, owner, view, IsUnder, Row, hold-here, job-here, job-away}
-use Rattle.sem_revoke.proofs.Settling.{Settling, settle-all, settled-all}
+use Rattle.sem_revoke.proofs.Settling.{Settling, settle-all, settled-all, AreApart}
+use Rattle.sem_sound.proofs.Rising.{key_set-rises}
 
 -- What is linked from unmarked capabilities: each child of one whose key is among these.
 linked : (caps : List Capability) (ks : List KeyName) (p : Capability) (k : KeyName) → Contains caps p → p.mark ≡ None → has_key ks p.key ≡ true → has_key p.children k ≡ true → has_key (linked_from caps ks) k ≡ true
@@ -65,6 +66,19 @@ set-from (q ∷ qs) there k among = elim (set-from qs (with_key there q) k among
 
 pub key_set-from : (ks : List KeyName) (k : KeyName) → Contains (key_set ks) k → Contains ks k
 key_set-from ks k among = elim (set-from ks [] k among) [ inl none ↦ absurd (Contains-nil k none) | inr there ↦ there ]
+
+-- nothing, either way
+nothing : (t : Bool) → ◌≡◌ {A = ℕ} (if t then 0 else 0) 0
+nothing true = refl
+nothing false = refl
+
+-- what rises stands there once each
+rising-apart : (ks : List KeyName) → IsRising ks → AreApart ks
+rising-apart [] rises = tt
+rising-apart (k ∷ ks) rises = (
+  false_from_ne_true (has_key ks k) (λ has. let below : packed k < packed k = pairs-head (λ a b. packed a < packed b) k ks rises k (Contains-from_has_key ks k has) in omega (arith, below)),
+  rising-apart ks (pairs-tail (λ a b. packed a < packed b) k ks rises),
+)
 
 module _ (C : Scene) (h : Hand) (root : KeyName) (up : Option Up) (waiters : List ℕ) (keep : Bool) (alone_new : keep ≡ true → up ≡ None) (caused_new : (keep ≡ false → C.lost root) × ((k : KeyName) → C.parent root k → C.lost k)) (s : Side) (R : Row C h s) where
   abbrev i : ℕ
@@ -180,7 +194,8 @@ module _ (C : Scene) (h : Hand) (root : KeyName) (up : Option Up) (waiters : Lis
   module _ (c : Capability) (held : cap s root ≡ Some c) (unmarked : c.mark ≡ None)
       (tight : (a b : ℕ) → h.loose a b → ⊥)
       (cares : (k : KeyName) (a b : ℕ) → h.cares a b k → (key_eq root k && names i up a b) ≡ true)
-      (owed : (a b : ℕ) → one_if (names i up a b) ≤ h.owed a b)
+      (cared : (k : KeyName) (a b : ℕ) → (key_eq root k && names i up a b) ≡ true → h.cares a b k)
+      (owed : (a b : ℕ) → one_if (names i up a b) ≡ h.owed a b)
       (above : (a b : ℕ) → names i up a b ≡ true → IsUnder C s root a b) where
     root-in : has_key ks root ≡ true
     root-in = in-region root (at_root c held unmarked)
@@ -220,10 +235,18 @@ module _ (C : Scene) (h : Hand) (root : KeyName) (up : Option Up) (waiters : Lis
           let count = side-opened (counting a b) i s root up waiters keep in
           let is = R.revokes.counted a b in
           let few = owed a b in
-          omega (arith, sum, count, is, few);
+          let none = nothing ((i == a) && (j == b)) in
+          omega (arith, sum, count, is, few, none);
       notices = λ k. let sum = side-opened (noticing k) i s root up waiters keep in omega (arith, sum);
       misplaced = let sum = side-opened (straying (owner C)) i s root up waiters keep in let is = R.revokes.placed in omega (arith, sum, is);
       tight = tight;
+      once = λ k a b.
+          let sum = side-opened (asking k a b) i s root up waiters keep in
+          let most = R.revokes.single.0 k a b in
+          elim (cases_Bool (key_eq root k && names i up a b)) [
+            | inl pass ↦ let none = R.revokes.single.1 k a b (cared k a b pass) in let one = one-true (key_eq root k && names i up a b) pass in omega (arith, sum, none, one)
+            | inr fail ↦ let one = one-false (key_eq root k && names i up a b) fail in omega (arith, sum, most, one)
+          ];
     }
       where
         new-under : (k : KeyName) (a b : ℕ) → (key_eq root k && names i up a b) ≡ true → IsUnder C s k a b
@@ -233,7 +256,7 @@ module _ (C : Scene) (h : Hand) (root : KeyName) (up : Option Up) (waiters : Lis
     settling = record {
       row = record {
         fit = fit-begun (owner C) C.parent C.one_parent C.made h i j root (has_key ks) (has_key kids) (view C s) (view C marked) begins R.fit;
-        revokes = keep_begun (owner C) C.parent C.one_parent C.made h i j root (has_key ks) (has_key kids) (view C s) (view C marked) begins (children i j kids) (λ k has. (refl, refl, has)) (λ a b. refl) R.fit R.revokes;
+        revokes = keep_begun (owner C) C.parent C.one_parent C.made h i j root (has_key ks) (has_key kids) (view C s) (view C marked) begins (children i j kids) (λ k has. (refl, refl, has)) (λ a b. refl) unasked R.fit R.revokes;
         rises = changed-rises (λ c. list_any (key_eq c.key) ks) (with_mark j) (λ c. refl) s.caps R.rises;
         ids = ids.keeps_marked opened (ids.keeps_opened s R.ids root up waiters keep) ks j (λ q has. tt);
         homes = homes;
@@ -251,6 +274,7 @@ module _ (C : Scene) (h : Hand) (root : KeyName) (up : Option Up) (waiters : Lis
         ];
       };
       open_ = (new, job-new);
+      distinct = rising-apart kids (key_set-rises (linked_from s.caps ks));
       under = λ k has. let p = kid-from k has in let q = here p.0.key p.3 in (p.0.key, granted p.0 k p.1 p.4, q.3, (with_mark j q.0, hold-here C marked p.0.key q.3 ∙ in-marked p.0.key q.0 p.3 q.1, refl));
       closed = λ k d has at held' none. elim (cases_Bool (has_key ks k)) [
         | inl inside ↦
@@ -266,6 +290,21 @@ module _ (C : Scene) (h : Hand) (root : KeyName) (up : Option Up) (waiters : Lis
       ];
     }
       where
+        -- nothing is asked for the new job yet, since none is below a mark of it
+        unasked-now : (k : KeyName) → (view C marked).asked k i j ≡ 0
+        unasked-now k = elim (cases_eq ((view C marked).asked k i j) 0) [
+          | inl none ↦ none
+          | inr some ↦
+              let under : IsUnder C s k i j = elim (begins.asked_back k i j (omega (arith, some))) [ inl before ↦ R.revokes.asking k i j before | inr is ↦ is ] in
+              let open_ = R.revokes.marks under.0 j under.3 in
+              let there : job s j ≡ Some open_.0 = sym (job-here C s j) ∙ (ap (λ a. (view C s).job a j) (sym under.2) ∙ open_.1) in
+              let no' : None ≡ Some open_.0 = sym fresh ∙ there in
+              absurd cc
+        ]
+
+        unasked : (k : KeyName) (a b : ℕ) → (a ≡ i) × (b ≡ j) × (has_key kids k ≡ true) → (view C marked).asked k a b ≡ 0
+        unasked k a b (at, job', has) = ap (λ c. (view C marked).asked k c b) at ∙ (ap ((view C marked).asked k i) job' ∙ unasked-now k)
+
         homes : (k : KeyName) (d : Capability) → cap marked k ≡ Some d → owner C k ≡ i
         homes k d held' = elim (cases_Bool (has_key ks k)) [
           | inl inside ↦ (here k inside).3

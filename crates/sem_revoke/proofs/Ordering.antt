@@ -118,7 +118,7 @@ from-here : {X : Type 0} (f : ℕ → X → ℕ) (d : X) → ((n : ℕ) → f n 
 from-here f d none xs i = let at = from-at f d none 0 xs i in let same : f (0 + i) (get_or xs i d) ≡ f i (get_or xs i d) = ap (λ m. f m (get_or xs i d)) (omega arith) in omega (arith, at, same)
 
 module _ (S : Scale) (W : World) where
-  side-part : (b : ℕ) → of_side S b (side W b) ≤ of_world S W
+  pub side-part : (b : ℕ) → of_side S b (side W b) ≤ of_world S W
   side-part b = let at = from-here (of_side S) no_side (λ n. refl) W.sides b in omega (arith, at)
 
   pub inbox-part : (b : ℕ) → of_inbox S b (side W b).inbox ≤ of_world S W

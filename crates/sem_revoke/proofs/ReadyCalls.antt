@@ -179,7 +179,7 @@ module _ (T : Setup) (valid : IsSetup T) (J : List Entry) (runs : IsSchedule T J
   killed-ended : (v : ℕ) → e.event.act ≡ Kill v → has_ended J v ≡ true
   killed-ended v act = list_any-at (λ (x : Entry). ends v x.event.act x.detail) J e (subst (λ xs. Contains xs e) (sym parts) (Contains-append_right before (e ∷ later) e (Contains-head e later))) (ap (λ a. ends v a e.detail) act ∙ eq-eqb v v refl)
 
-  resumed-held : (v : ℕ) (k parent : KeyName) (object : Object) (sel : ℕ) → e.event.act ≡ Resume v → parked s v ≡ Some (ObtainReady k parent object sel) → cap (stepped T W e.event).side k ≡ Some (fresh k (Some parent) sel object)
+  pub resumed-held : (v : ℕ) (k parent : KeyName) (object : Object) (sel : ℕ) → e.event.act ≡ Resume v → parked s v ≡ Some (ObtainReady k parent object sel) → cap (stepped T W e.event).side k ≡ Some (fresh k (Some parent) sel object)
   unfolding local_step resume_row
   resumed-held v k parent object sel act there =
       ap (λ a. cap (local_step T i s a (input_of W i a)).side k) act

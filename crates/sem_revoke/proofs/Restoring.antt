@@ -53,7 +53,7 @@ module _ (owner : KeyName → ℕ) (G : KeyName → KeyName → Type 0) (one : (
     pub none : (k : KeyName) → V.asked k i n ≡ 0
     pub asked_on : (k : KeyName) (a b : ℕ) → U.asked k a b ≡ V.asked k a b
     pub jobs_on : (a m : ℕ) → U.job a m ≡ V.job a m
-    pub counts : (a b : ℕ) → U.tokens a b ≤ U.count a b
+    pub counts : (a b : ℕ) → U.tokens a b ≡ U.count a b
     pub notices : (k : KeyName) → U.notices k ≤ V.notices k
     pub misplaced : U.misplaced ≡ 0
 
@@ -165,6 +165,7 @@ module _ (owner : KeyName → ℕ) (G : KeyName → KeyName → Type 0) (one : (
       ];
       alone = λ a m x open_. R.alone a m x (sym (S.jobs_on a m) ∙ open_);
       counted = λ a b. let few = S.counts a b in omega (arith, few);
+      single = (λ k a b. let same = S.asked_on k a b in let most = R.single.0 k a b in omega (arith, same, most), λ k a b care. absurd care);
       noticed = λ k more. let less = S.notices k in let is = R.noticed k (omega (arith, more, less)) in (gone-on k is.0, is.1);
       placed = S.misplaced;
     }

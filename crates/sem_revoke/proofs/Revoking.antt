@@ -38,7 +38,7 @@ use Rattle.sem_safety.proofs.Parents.{local_step-below}
 use Rattle.sem_safety.proofs.Lives.{all_held, at_grant}
 use Rattle.sem_safety.proofs.LiveWorlds.{at_world, after-lives}
 use Rattle.sem_revoke.specs.Views.{Marked}
-use Rattle.sem_revoke.specs.Scales.{Scale, sum_from, of_messages, of_side, of_inbox, of_links, of_world, asking, naming, noticing, straying}
+use Rattle.sem_revoke.specs.Scales.{Scale, sum_from, of_messages, of_side, of_inbox, of_links, of_world, asking, naming, noticing, straying, counting}
 use Rattle.sem_revoke.proofs.Scaling.{from-replicate}
 use Rattle.sem_revoke.proofs.Viewing.{on_its_way}
 use Rattle.sem_revoke.proofs.Closing.{from-none}
@@ -162,7 +162,7 @@ module _ (T : Setup) where
   unfolding start
   links-none S = from-replicate (λ i ls. sum_from (of_messages S i) 0 ls) [] (λ m. refl) 0 T.kernels (replicate T.kernels []) (λ i. from-replicate (of_messages S i) [] (λ m. refl) 0 T.kernels [] (λ m. refl))
 
-  world-none : (S : Scale) → of_world S (start T) ≡ 0
+  pub world-none : (S : Scale) → of_world S (start T) ≡ 0
   world-none S =
       let sides = from-none (of_side S) no_side 0 (start T).sides (λ k. start-each T (λ (s : Side). of_side S (0 + k) s ≡ 0) refl (λ i. side-none S i (0 + k)) k) in
       let links = links-none S in
@@ -189,7 +189,8 @@ module _ (T : Setup) where
     marks = λ k n marked. absurd (no-mark k n marked);
     roots = λ a n x open_. absurd (no-job a n x open_);
     alone = λ a n x open_. absurd (no-job a n x open_);
-    counted = λ a b. let none = world-none (naming a b) in omega (arith, none);
+    counted = λ a b. let none = world-none (naming a b) in let zero' = world-none (counting a b) in omega (arith, none, zero');
+    single = (λ k a b. let none = world-none (asking k a b) in omega (arith, none), λ k a b care. absurd care);
     noticed = λ k more. let none = world-none (noticing k) in absurd (omega (arith, none, more));
     placed = world-none (straying (owner_of T));
   }

@@ -5,7 +5,7 @@ use Rattle.std.proofs.Common.{◌≡◌, ◌≢◌, ◌⊎◌, ℕ, ◌+◌, ◌
 use Rattle.std.specs.Prelude.{◌==◌, if◌then◌else◌}
 use Rattle.std.specs.List.{find}
 use Rattle.std.specs.Option.{option_map, option_map_or}
-use Rattle.std.proofs.lemmas.Bool.{cases_Bool, cases_eq, cond-true, cond_both, eqb-true, and_parts, and_from, true≢false, not-false}
+use Rattle.std.proofs.lemmas.Bool.{cases_Bool, cases_eq, cond-true, cond_both, eqb-true, and_parts, and_from, true≢false, not-false, false_from_ne_true}
 use Rattle.std.proofs.lemmas.Option.{same_Some}
 use Rattle.sem_key.specs.KeyName.{KeyName, key_eq}
 use Rattle.sem_key.specs.Lists.{in_turn, put}
@@ -28,7 +28,7 @@ use Rattle.sem_msg.specs.Codes.{code_number}
 use Rattle.sem_machine.specs.Sides.{Side, row, cap, job, parked, outbox, parked_as, unparked, buried, send, with_inbox}
 use Rattle.sem_machine.specs.Asks.{asker, is_unawaited, promise_freed, call_refused, refusal_sent, ask_refused}
 use Rattle.sem_machine.specs.Revokes.{begin, count_lowered, with_up, waiter_added, waiter_left, revoke_begun, clear_begun, ready_freed, obtain_cancelled, request_begun, revoke_requested, revoke_done, settled, opened}
-use Rattle.sem_machine.specs.Ends.{ask_ended, call_ended, revoked_if_left, keys_of, ended}
+use Rattle.sem_machine.specs.Ends.{ask_ended, call_ended, revoked_if_left, keys_of, ended_but_held, ended}
 use Rattle.sem_key.proofs.KeyTests.{key_eq-same, key_eq-true, key_eq-from}
 use Rattle.sem_machine.proofs.Folds.{in_turn-keeps, in_turn-keeps_each}
 use Rattle.sem_machine.proofs.Weighing.{weigh-map}
@@ -38,9 +38,9 @@ use Rattle.sem_revoke.specs.Views.{Hand, IsCaused, free_hand, token, request}
 use Rattle.sem_revoke.specs.Scales.{Scale, of_side, of_inbox, one_if, names, asking, naming, counting, noticing, straying, asking_message, token_message}
 use Rattle.sem_revoke.proofs.Keeping.{holds-same, same-mark, cases_Option, not-gone}
 use Rattle.sem_revoke.proofs.Scaling.{side-changed, side-inbox}
-use Rattle.sem_revoke.proofs.Viewing.{on_its_way, Scene, one-more, one-true, one-false, owner, view, IsAlive, IsGone, IsMarked, IsUnder, Row, hold-here, job-here, job-weighs, StaysSo, under-lost, same-roots, changed-roots, no-roots, IsSent, step_from, step, rows-changed, row-sent, rehand}
+use Rattle.sem_revoke.proofs.Viewing.{on_its_way, Scene, one-more, one-true, one-false, owner, view, IsAlive, IsGone, IsMarked, IsUnder, Row, hold-here, job-here, job-weighs, StaysSo, under-lost, same-roots, changed-roots, no-roots, IsSent, step_from, step, rows-changed, row-sent}
 use Rattle.sem_revoke.proofs.Opening.{row-opened}
-use Rattle.sem_revoke.proofs.Closing.{row-lowered}
+use Rattle.sem_revoke.proofs.Closing.{row-lowered, counted-open}
 use Rattle.sem_revoke.proofs.Chaining.{freed-row, parked-row, row-settled}
 
 -- a job that is found, where all are changed and keep their ids
@@ -92,6 +92,7 @@ module _ (C : Scene) where
         let count = weigh-map (λ (x : JobRow). if (i == a) && (x.id == b) then x.count else 0) g (λ x. ap (λ n. if (i == a) && (n == b) then (g x).count else 0) (same x).0 ∙ ap (λ c. if (i == a) && (x.id == b) then c else 0) (counts x)) s.jobs in
         let before = R.revokes.counted a b in
         omega (arith, tokens, count, before))
+        (λ k a b. let sum = asked-same k a b in let most = R.revokes.single.0 k a b in omega (arith, sum, most), λ k a b care. let sum = asked-same k a b in let none = R.revokes.single.1 k a b care in omega (arith, sum, none))
         (λ k more. let sum = weigh-map (λ (x : JobRow). 0) g (λ x. refl) s.jobs in inl (omega (arith, sum, more)))
         (let sum = weigh-map (λ (x : JobRow). 0) g (λ x. refl) s.jobs in let before = R.revokes.placed in omega (arith, sum, before))
         R
@@ -131,17 +132,29 @@ module _ (C : Scene) where
   all-lost : (k : KeyName) → C.lost k → {b : Bool} → (b ≡ false → C.lost k) × ((q : KeyName) → C.parent k q → C.lost q)
   all-lost k is = (λ leaves. is, λ q granted. C.lower k q granted is)
 
-  pub row-begun : (root : KeyName) (waiters : List ℕ) (keep : Bool) → (keep ≡ false → C.lost root) × ((k : KeyName) → C.parent root k → C.lost k) → (s : Side) (c : Capability) → cap s root ≡ Some c → c.mark ≡ None → Row C free_hand s → Row C free_hand (begin C.setup i root None waiters keep s)
+  -- a job is opened
+  pub row-opened_at : (root : KeyName) (waiters : List ℕ) (keep : Bool) → (keep ≡ false → C.lost root) × ((k : KeyName) → C.parent root k → C.lost k)
+      → (s : Side) (c : Capability) → cap s root ≡ Some c → c.mark ≡ None → Row C free_hand s → Row C free_hand (opened C.setup i root None waiters keep s)
   unfolding opened
-  row-begun root waiters keep caused s c held unmarked R = row-settled C s.next_job _ (row-opened C free_hand root None waiters keep (λ _. refl) caused s R c held unmarked (λ a b loose. loose) (λ k a b care. absurd care) (λ a b. omega arith) (λ a b no'. absurd cc))
+  row-opened_at root waiters keep caused s c held unmarked R = row-opened C free_hand root None waiters keep (λ _. refl) caused s R c held unmarked (λ a b loose. loose) (λ k a b care. absurd care) (λ k a b pass. let parts = and_parts (key_eq root k) false pass in absurd (true≢false (sym parts.1))) (λ a b. refl) (λ a b no'. absurd cc)
 
-  row-begun_for : (root : KeyName) (from j : ℕ) (s : Side) (c : Capability) → cap s root ≡ Some c → c.mark ≡ None → IsUnder C s root from j → Row C (request root from j) s → Row C free_hand (begin C.setup i root (Some (Remote from j)) [] false s)
+  pub row-begun : (root : KeyName) (waiters : List ℕ) (keep : Bool) → (keep ≡ false → C.lost root) × ((k : KeyName) → C.parent root k → C.lost k)
+      → (s : Side) (c : Capability) → cap s root ≡ Some c → c.mark ≡ None → Row C free_hand s → Row C free_hand (begin C.setup i root None waiters keep s)
+  row-begun root waiters keep caused s c held unmarked R = row-settled C s.next_job (opened C.setup i root None waiters keep s) (row-opened_at root waiters keep caused s c held unmarked R)
+
+  pub row-opened_for : (root : KeyName) (from j : ℕ) (s : Side) (c : Capability) → cap s root ≡ Some c → c.mark ≡ None → IsUnder C s root from j
+      → Row C (request root from j) s → Row C free_hand (opened C.setup i root (Some (Remote from j)) [] false s)
   unfolding opened
-  row-begun_for root from j s c held unmarked under R =
-      row-settled C s.next_job _ (row-opened C (request root from j) root (Some (Remote from j)) [] false (λ no'. absurd cc) (all-lost root (under-lost C (request root from j) s R root from j under)) s R c held unmarked (λ a b loose. loose)
+  row-opened_for root from j s c held unmarked under R =
+      row-opened C (request root from j) root (Some (Remote from j)) [] false (λ no'. absurd cc) (all-lost root (under-lost C (request root from j) s R root from j under)) s R c held unmarked (λ a b loose. loose)
       (λ k a b (at, job', same). and_from (key_eq root k) ((from == a) && (j == b)) (key_eq-from root k (sym same)) (and_from (from == a) (j == b) (eq-eqb from a (sym at)) (eq-eqb j b (sym job'))))
-      (λ a b. omega arith)
-      (λ a b pass. let parts = and_parts (from == a) (j == b) pass in subst (λ c. IsUnder C s root c b) (eqb-true from a parts.0) (subst (λ d. IsUnder C s root from d) (eqb-true j b parts.1) under)))
+      (λ k a b pass. let outer = and_parts (key_eq root k) ((from == a) && (j == b)) pass in let inner = and_parts (from == a) (j == b) outer.1 in (sym (eqb-true from a inner.0), sym (eqb-true j b inner.1), sym (key_eq-true root k outer.0)))
+      (λ a b. refl)
+      (λ a b pass. let parts = and_parts (from == a) (j == b) pass in subst (λ c. IsUnder C s root c b) (eqb-true from a parts.0) (subst (λ d. IsUnder C s root from d) (eqb-true j b parts.1) under))
+
+  row-begun_for : (root : KeyName) (from j : ℕ) (s : Side) (c : Capability) → cap s root ≡ Some c → c.mark ≡ None → IsUnder C s root from j
+      → Row C (request root from j) s → Row C free_hand (begin C.setup i root (Some (Remote from j)) [] false s)
+  row-begun_for root from j s c held unmarked under R = row-settled C s.next_job (opened C.setup i root (Some (Remote from j)) [] false s) (row-opened_for root from j s c held unmarked under R)
 
   pub row-revoked : (v : ℕ) (k : KeyName) (s : Side) (c : Capability) → cap s k ≡ Some c → C.lost k → Row C free_hand s → Row C free_hand (revoke_begun C.setup i v k c.mark s)
   row-revoked v k s c held is_lost R = from c.mark refl
@@ -186,7 +199,9 @@ module _ (C : Scene) where
             let tokens = side-changed (naming a b) i s m f x R.ids.rise open_ in
             let count = side-changed (counting a b) i s m f x R.ids.rise open_ in
             let before = R.revokes.counted a b in
-            omega (arith, tokens, count, before))
+            let none : one_if (names i x.up a b) ≡ 0 = one-false (names i x.up a b) (alone a b) in
+            omega (arith, tokens, count, before, none))
+            (λ q a b. once q a b, λ q a b care. absurd care)
             (λ q more. let sum = side-changed (noticing q) i s m f x R.ids.rise open_ in inl (omega (arith, sum, more)))
             (let sum = side-changed (straying (owner C)) i s m f x R.ids.rise open_ in let before = R.revokes.placed in omega (arith, sum, before))
             R
@@ -197,8 +212,32 @@ module _ (C : Scene) where
             root-lost : (z : JobRow) → job s m ≡ Some z → C.lost z.root
             root-lost z there = subst C.lost (sym (ap (λ (w : JobRow). w.root) (same_Some z x (sym there ∙ open_)) ∙ root)) (under-lost C (request k from j) s R k from j under)
 
+            -- no job waits for it yet
+            alone : (a b : ℕ) → names i x.up a b ≡ false
+            alone a b = false_from_ne_true (names i x.up a b) (λ named.
+                let weighs = job-weighs C (asking k a b) s m x open_ in
+                let one = one-true (key_eq x.root k && names i x.up a b) (and_from (key_eq x.root k) (names i x.up a b) (key_eq-from x.root k root) named) in
+                let asked : 1 ≤ (view C s).asked k a b = omega (arith, weighs, one) in
+                let mark = same-mark (owner C) C.parent C.one_parent C.made (view C s) k a b from j (R.revokes.asking k a b asked) under in
+                let none = R.revokes.single.1 k a b (mark.0, mark.1, refl) in
+                omega (arith, asked, none))
+
             asks : (q : KeyName) (a b : ℕ) → of_side (asking q a b) i t + one_if (key_eq x.root q && names i x.up a b) ≡ of_side (asking q a b) i s + one_if (key_eq x.root q && ((from == a) && (j == b)))
             asks q a b = side-changed (asking q a b) i s m f x R.ids.rise open_
+
+            once : (q : KeyName) (a b : ℕ) → (view C t).asked q a b ≤ 1
+            once q a b =
+                let sum = asks q a b in
+                let most = R.revokes.single.0 q a b in
+                elim (cases_Bool (key_eq x.root q && ((from == a) && (j == b)))) [
+                  | inl pass ↦
+                      let parts = and_parts (key_eq x.root q) ((from == a) && (j == b)) pass in
+                      let at = and_parts (from == a) (j == b) parts.1 in
+                      let none = R.revokes.single.1 q a b (sym (eqb-true from a at.0), sym (eqb-true j b at.1), sym (sym root ∙ key_eq-true x.root q parts.0)) in
+                      let one = one-true (key_eq x.root q && ((from == a) && (j == b))) pass in
+                      omega (arith, sum, none, one)
+                  | inr fail ↦ let one = one-false (key_eq x.root q && ((from == a) && (j == b))) fail in omega (arith, sum, most, one)
+                ]
 
             now : 1 ≤ (view C t).asked k from j
             now =
@@ -242,6 +281,7 @@ module _ (C : Scene) where
     missed gone =
         row-sent C (request k from j) free_hand (obtain_cancelled k s) from (RevokeDone j) (λ q a b. refl) (λ q. refl) refl (λ a b. omega arith)
         (λ a b q alive (at, job', same). not-gone (owner C) C.parent C.one_parent C.made (view C (obtain_cancelled k s)) k gone (subst (IsAlive C (obtain_cancelled k s)) same alive))
+        (λ a b q care. absurd care)
         (λ a n loose. loose) (λ q more. absurd (omega (arith, more))) cancelled
 
     pub row-requested : ((cap s k ≡ None) → IsGone C (obtain_cancelled k s) k) → Row C free_hand (revoke_requested C.setup i from j k (cap s k) s)
@@ -260,7 +300,12 @@ module _ (C : Scene) where
   row-done j s R = from (job s j) refl
     where
       from : (o : Option JobRow) → job s j ≡ o → Row C free_hand (settled_if_there C.setup i j o s)
-      from None none = rehand C (token i j) free_hand s (λ k a b alive under care. absurd care) (λ a n loose. loose) (λ a b. omega arith) R
+      from None none =
+          let is = R.revokes.counted i j in
+          let one = one-true ((i == i) && (j == j)) (and_from (i == i) (j == j) (eq-eqb i i refl) (eq-eqb j j refl)) in
+          let there = counted-open C s j (omega (arith, is, one)) in
+          let no' : None ≡ Some there.0 = sym none ∙ there.1 in
+          absurd cc
       from (Some x) some = row-settled C j (count_lowered j s) (row-lowered C s j x some R)
 
   -- The end of a VPE.
@@ -279,8 +324,8 @@ module _ (C : Scene) where
       freed-promise (Some (Ready code)) v = R
 
       refusal : (a : Ask) → Row C free_hand (refusal_sent C.setup code a s)
-      refusal (ObtainAsk place target) = row-sent C free_hand free_hand s (place_owner C.setup place) (ObtainNo place (code_number code)) (λ k a b. refl) (λ k. refl) refl (λ a b. omega arith) (λ a b k alive care. care) (λ a n loose. loose) (λ k more. absurd (omega (arith, more))) R
-      refusal (DelegateAsk parent object sel) = row-sent C free_hand free_hand s (owner C parent) (DelegateNo parent (code_number code)) (λ k a b. refl) (λ k. refl) refl (λ a b. omega arith) (λ a b k alive care. care) (λ a n loose. loose) (λ k more. absurd (omega (arith, more))) R
+      refusal (ObtainAsk place target) = row-sent C free_hand free_hand s (place_owner C.setup place) (ObtainNo place (code_number code)) (λ k a b. refl) (λ k. refl) refl (λ a b. refl) (λ a b k alive care. care) (λ a b k care. care) (λ a n loose. loose) (λ k more. absurd (omega (arith, more))) R
+      refusal (DelegateAsk parent object sel) = row-sent C free_hand free_hand s (owner C parent) (DelegateNo parent (code_number code)) (λ k a b. refl) (λ k. refl) refl (λ a b. refl) (λ a b k alive care. care) (λ a b k care. care) (λ a n loose. loose) (λ k more. absurd (omega (arith, more))) R
 
   unparked-row : (v : ℕ) (s : Side) → Row C free_hand s → Row C free_hand (unparked v s)
   unparked-row v s R = rows-changed C free_hand s s.vpes s.endpoints (put None s.parks v None) (λ k. let less = lives-unparked k on_its_way s v in omega (arith, less)) R
@@ -316,15 +361,15 @@ module _ (C : Scene) where
       from (Some (ObtainWait number sel)) is = U
       from (Some (ObtainReady key parent object sel)) is =
           let gone = orphan key parent (Some (ObtainReady key parent object sel)) is (cond-true (key_eq key key) 1 0 (key_eq-same key)) in
-          row-sent C free_hand free_hand t (owner C parent) (Orphan parent key) (λ k a b. refl) (λ k. refl) refl (λ a b. omega arith) (λ a b k alive care. care) (λ a n loose. loose)
+          row-sent C free_hand free_hand t (owner C parent) (Orphan parent key) (λ k a b. refl) (λ k. refl) refl (λ a b. refl) (λ a b k alive care. care) (λ a b k care. care) (λ a n loose. loose)
           (λ k more. let same : key ≡ k = key_eq-true key k (one-more (key_eq key k) more) in subst (λ z. IsGone C t z × C.made z) same gone) U
       from (Some ObtainCancelled) is = U
       from (Some (DelegateWait parent)) is = U
-      from (Some (DelegateReady parent key)) is = row-sent C free_hand free_hand t (owner C key) (Ack key false) (λ k a b. refl) (λ k. refl) refl (λ a b. omega arith) (λ a b k alive care. care) (λ a n loose. loose) (λ k more. absurd (omega (arith, more))) U
+      from (Some (DelegateReady parent key)) is = row-sent C free_hand free_hand t (owner C key) (Ack key false) (λ k a b. refl) (λ k. refl) refl (λ a b. refl) (λ a b k alive care. care) (λ a b k care. care) (λ a n loose. loose) (λ k more. absurd (omega (arith, more))) U
       from (Some (RevokeWait j)) is = row-unwaited free_hand j v t ends U
       from (Some (Ready code)) is = U
 
-  row-left : (k : KeyName) (s : Side) → C.lost k → Row C free_hand s → Row C free_hand (revoked_if_left C.setup i k s)
+  pub row-left : (k : KeyName) (s : Side) → C.lost k → Row C free_hand s → Row C free_hand (revoked_if_left C.setup i k s)
   row-left k s is_lost R = from (cap s k) refl
     where
       by_mark : (c : Capability) → cap s k ≡ Some c → (m : Option ℕ) → c.mark ≡ m → Row C free_hand (option_map_or (λ m. s) m (begin C.setup i k None [] false s))
@@ -335,23 +380,27 @@ module _ (C : Scene) where
       from None none = R
       from (Some c) held = by_mark c held c.mark refl
 
-  pub row-ended : (v : ℕ) (s : Side) → ((k : KeyName) → k.vpe ≡ v → C.lost k) → Row C free_hand s → Row C free_hand (ended C.setup i v s)
-  unfolding ended
-  row-ended v s ends R =
+  pub row-ended_but_held : (v : ℕ) (s : Side) → ((k : KeyName) → k.vpe ≡ v → C.lost k) → Row C free_hand s → Row C free_hand (ended_but_held C.setup i v s)
+  row-ended_but_held v s ends R =
       let asks : List Ask = (row s v).asks in
       let dead : Row C free_hand (buried v s) = rows-changed C free_hand s (put no_vpe s.vpes v (record (row s v) { alive = false; asks = [] })) s.endpoints s.parks (λ k. omega arith) R in
       let answered : Side = in_turn (ask_ended C.setup i) asks (buried v s) in
       let told : Row C free_hand answered = in_turn-keeps (Row C free_hand) (ask_ended C.setup i) (λ a t here. cond_both (is_unawaited C.setup i t a) t (ask_refused C.setup i Dead a t) (Row C free_hand) (λ _. here) (λ _. row-refused Dead a t here)) asks (buried v s) dead in
-      let left : Row C free_hand (call_ended C.setup (parked answered v) v (unparked v answered)) = row-call_ended v answered ends told in
-      let last : Side = call_ended C.setup (parked answered v) v (unparked v answered) in
-      in_turn-keeps_each (Row C free_hand) (revoked_if_left C.setup i) (keys_of last v) (λ k among t here. row-left k t (ends k (eqb-true k.vpe v (Contains-from_filter (λ (q : KeyName). q.vpe == v) (CapList.keys_of last.caps) k among).1)) here) last left
+      row-call_ended v answered ends told
+
+  pub row-ended : (v : ℕ) (s : Side) → ((k : KeyName) → k.vpe ≡ v → C.lost k) → Row C free_hand s → Row C free_hand (ended C.setup i v s)
+  unfolding ended
+  row-ended v s ends R =
+      let last : Side = ended_but_held C.setup i v s in
+      in_turn-keeps_each (Row C free_hand) (revoked_if_left C.setup i) (keys_of last v) (λ k among t here. row-left k t (ends k (eqb-true k.vpe v (Contains-from_filter (λ (q : KeyName). q.vpe == v) (CapList.keys_of last.caps) k among).1)) here) last (row-ended_but_held v s ends R)
 
   -- A message is taken out of the inbox.
   pub row-taken : (h : Hand) (s : Side) (from : ℕ) (m : Message) → s.inbox ≡ Some (from, m)
       → ((k : KeyName) (a b : ℕ) → 1 ≤ asking_message k a b from i m → h.cares a b k)
-      → ((a b : ℕ) → h.owed a b ≤ token_message a b from i m)
+      → ((a b : ℕ) → h.owed a b ≡ token_message a b from i m)
+      → ((k : KeyName) (a b : ℕ) → h.cares a b k → 1 ≤ asking_message k a b from i m)
       → Row C free_hand s → Row (record C { before = with_inbox None s }) h (with_inbox None s)
-  row-taken h s from m full cares owed R =
+  row-taken h s from m full cares owed cared R =
       step_from D free_hand h s t
       (holds-same (owner C) C.parent C.one_parent C.made (view C s) (view C t) (λ k. refl) (λ k. let sum = lives-inbox k on_its_way s None in omega (arith, sum)))
       (no-roots D s t refl) R.rises (record { rise = R.ids.rise; drawn = R.ids.drawn }) R.homes here
@@ -365,6 +414,7 @@ module _ (C : Scene) where
       (λ k a b more. let sum = out (asking k a b) in inl (omega (arith, sum, more)))
       (λ a n loose. absurd loose)
       (λ a b. let sum = out (naming a b) in let count = out (counting a b) in let few = owed a b in let before = R.revokes.counted a b in omega (arith, sum, count, few, before))
+      (λ k a b. let sum = out (asking k a b) in let most = R.revokes.single.0 k a b in omega (arith, sum, most), λ k a b care. let sum = out (asking k a b) in let most = R.revokes.single.0 k a b in let some = cared k a b care in omega (arith, sum, most, some))
       (λ k more. let sum = out (noticing k) in inl (omega (arith, sum, more)))
       (let sum = out (straying (owner C)) in let before = R.revokes.placed in omega (arith, sum, before))
       R.caused (λ k c was. inl (c, was)) R.fit R.revokes

@@ -1,13 +1,11 @@
 -- What the sample's journals do, by computation; and what the law of safety then says of them.
-use Rattle.std.proofs.Common.{◌≡◌, ℕ, zero, suc, true, List, [], ◌∷◌, refl, sym, subst, inl, inr, arith, rules, IsSome, None}
+use Rattle.std.proofs.Common.{◌≡◌, ℕ, zero, suc, [], ◌∷◌, refl, sym, subst, inl, inr, arith, rules, IsSome, None}
 use Rattle.std.specs.List.{Contains, All}
 use Rattle.std.proofs.lemmas.List.Elements.{All-cons, All-nil}
 use Rattle.sem_key.specs.Lists.{put, in_turn}
-use Rattle.sem_key.specs.KeyName.{KeyName}
 use Rattle.sem_key.specs.Region.{grow}
 use Rattle.sem_msg.specs.declared.call.Call.{Call}
 use Rattle.sem_msg.specs.declared.call.Call.TheVariants.{Derive, Obtain, Revoke, Clear, Bind}
-use Rattle.sem_msg.specs.declared.entry.Entry.{Entry}
 use Rattle.sem_msg.specs.Calls.{IsValidCall, IsWord}
 use Rattle.sem_msg.specs.Setup.{IsSetup, IsDeclared, services_from}
 use Rattle.sem_machine.specs.Steps.{unless}
@@ -20,7 +18,7 @@ use Rattle.sem_machine.specs.Resumes.{resume_row}
 use Rattle.sem_machine.specs.Machine.{start_side, start, local_step, local_entry, is_locally_enabled, is_enabled, enabled, after, entry_of, side}
 use Rattle.sem_machine.specs.Schedules.{IsSchedule, world_after}
 use Rattle.sem_machine.specs.Journals.{root_keys_from, line_in, line, cut_from, answered_from, answered, forest}
-use Rattle.sem_machine.specs.Living.{IsLive, IsHeld, IsOnItsWay, Binds}
+use Rattle.sem_machine.specs.Living.{IsLive, IsOnItsWay, Binds}
 use Rattle.sem_machine.specs.Sides.{cap}
 use Rattle.sem_machine.specs.Safety.{IsInUse}
 use Rattle.sem_key.proofs.Members.{Contains-head, Contains-tail}

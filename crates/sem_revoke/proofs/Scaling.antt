@@ -57,10 +57,10 @@ module _ {X : Type 0} (f : ℕ → X → ℕ) (d : X) (none : (n : ℕ) → f n 
 -- Jobs.
 
 -- the first of a list of which each two are so, and the others
-pairs-head : {X : Type 0} (S : X → X → Type 0) (x : X) (xs : List X) → AllPairs S (x ∷ xs) → (y : X) → Contains xs y → S x y
+pub pairs-head : {X : Type 0} (S : X → X → Type 0) (x : X) (xs : List X) → AllPairs S (x ∷ xs) → (y : X) → Contains xs y → S x y
 pairs-head S x xs pairs y (k, within, same) = subst (S x) same (pairs zero (suc k) y (omega arith) (omega arith))
 
-pairs-tail : {X : Type 0} (S : X → X → Type 0) (x : X) (xs : List X) → AllPairs S (x ∷ xs) → AllPairs S xs
+pub pairs-tail : {X : Type 0} (S : X → X → Type 0) (x : X) (xs : List X) → AllPairs S (x ∷ xs) → AllPairs S xs
 pairs-tail S x xs pairs = λ i j d lt within. pairs (suc i) (suc j) d (omega arith) (omega arith)
 
 -- a change of what is not there leaves a sum

@@ -46,7 +46,7 @@ module _ (T : Setup) (valid : IsSetup T) (J : List Entry) (runs : IsSchedule T J
           served.0,
           λ x open_. let there = found (λ (y : JobRow). y.id == n) at-home.jobs x open_ in served.1 x there.0 (eqb-true x.id n there.1),
         );
-    ready = λ ready live. ends-dead T valid J runs v k r w (λ c held. (subst (Resting None at-home k r v) ready w.rest) refl c held) (live-alive T valid J runs (Par (grants J)) (Made T (grants J)) k live);
+    ready = λ ready live. ends-dead T valid J runs v k r w (λ c held. (subst (Resting None at-home k r v) ready w.rest).1 c held) (live-alive T valid J runs (Par (grants J)) (Made T (grants J)) k live);
   }
     where
       at-home : Side

@@ -79,7 +79,7 @@ none-of : {X : Type 0} (o : Option X) → is_none o ≡ true → o ≡ None
 none-of None h = refl
 none-of (Some x) h = absurd cc
 
-fold-push : (J : List Entry) (h : History) (e : Entry) → fold note h (J ++ e ∷ []) ≡ note (fold note h J) e
+pub fold-push : (J : List Entry) (h : History) (e : Entry) → fold note h (J ++ e ∷ []) ≡ note (fold note h J) e
 fold-push [] h e = refl
 fold-push (x ∷ J) h e = fold-push J (note h x) e
 
@@ -143,7 +143,7 @@ module _ (T : Setup) (i : ℕ) (s : Side) (gs : List (KeyName × KeyName)) (pend
   act-rest (Kill v) input enabled fresh over acks = only (Kill v) (detail_of T s (Kill v) input (local_step T i s (Kill v) input).outcome) (local_step T i s (Kill v) input).outcome.cut (ended T i v s) (λ w no'. absurd cc) (kill-rest T i s gs pend R apart owns drawn_marks v)
 
 -- a call that goes on is answered, with the code that was ready
-resumed-replies : (T : Setup) (p : Option Parked) (t : Side) → can_resume p ≡ true → (code : ℕ) × (◌≡◌ {A = Option ℕ} (resumed T p t).outcome.reply (Some code)) × ((c : ℕ) → p ≡ Some (Ready c) → code ≡ c)
+pub resumed-replies : (T : Setup) (p : Option Parked) (t : Side) → can_resume p ≡ true → (code : ℕ) × (◌≡◌ {A = Option ℕ} (resumed T p t).outcome.reply (Some code)) × ((c : ℕ) → p ≡ Some (Ready c) → code ≡ c)
 resumed-replies T None t can = absurd cc
 resumed-replies T (Some (ObtainWait number sel)) t can = absurd cc
 resumed-replies T (Some (ObtainReady key parent object sel)) t can = (0, refl, λ c is. absurd cc)
@@ -179,7 +179,7 @@ pub record Tells (T : Setup) (W : World) (e : Entry) : Type 0 where
   pub cut : ◌≡◌ {A = Option KeyName} e.cut (stepped T W e.event).outcome.cut
   pub reply : e.reply ≡ option_map (λ code. record { vpe = replied_vpe e.event.act; code = code }) (stepped T W e.event).outcome.reply
 
-tells : (T : Setup) (W : World) (e : Entry) → e ≡ entry_of T W e.event → Tells T W e
+pub tells : (T : Setup) (W : World) (e : Entry) → e ≡ entry_of T W e.event → Tells T W e
 unfolding entry_of local_entry
 tells T W e made' = record {
   detail = ap (λ (x : Entry). x.detail) made';
@@ -206,7 +206,7 @@ new-wait (Flush j) d cut gs v ks k among cuts = absurd (Contains-nil (v, ks) amo
 new-wait (Kill w) d cut gs v ks k among cuts = absurd (Contains-nil (v, ks) among)
 
 -- what is cut off is the call's own key, or a child of it
-cut-key : (gs : List (KeyName × KeyName)) (d : Detail) (r k : KeyName) → Contains (cut_off gs d r) k → (k ≡ r) ⊎ Contains gs (r, k)
+pub cut-key : (gs : List (KeyName × KeyName)) (d : Detail) (r k : KeyName) → Contains (cut_off gs d r) k → (k ≡ r) ⊎ Contains gs (r, k)
 cut-key gs (Called index (Revoke src)) r k among = elim (Contains-cons_cases r [] k among) [ inl same ↦ inl (sym same) | inr none ↦ absurd (Contains-nil k none) ]
 cut-key gs (Called index (Clear src)) r k among = inr (child-in gs r k among)
 cut-key gs d r k among = absurd (Contains-nil k among)
@@ -236,16 +236,16 @@ pub step-cut : (T : Setup) (i : ℕ) (s : Side) (v : ℕ) (input : Option Messag
 unfolding local_step
 step-cut T i s v input = option-keeps (CutHeld s) (call_row T i (call_counted v s) v) (next_call T s v) (plain s) (λ c there. call-cut T i (call_counted v s) v c) (λ k some. absurd cc)
 
-enabled-call : (T : Setup) (i : ℕ) (s : Side) (v : ℕ) → is_locally_enabled T i s (Calls v) ≡ true → (kernel_of T v ≡ i) × (is_alive s v ≡ true) × (parked s v ≡ None)
+pub enabled-call : (T : Setup) (i : ℕ) (s : Side) (v : ℕ) → is_locally_enabled T i s (Calls v) ≡ true → (kernel_of T v ≡ i) × (is_alive s v ≡ true) × (parked s v ≡ None)
 unfolding is_locally_enabled
 enabled-call T i s v enabled = let one = and_parts (kernel_of T v == i) _ enabled in let two = and_parts (is_alive s v) _ one.1 in (eqb-true (kernel_of T v) i one.0, two.0, none-of (parked s v) (and_parts (is_none (parked s v)) _ two.1).0)
 
-enabled-resume : (T : Setup) (i : ℕ) (s : Side) (v : ℕ) → is_locally_enabled T i s (Resume v) ≡ true → (kernel_of T v ≡ i) × (can_resume (parked s v) ≡ true)
+pub enabled-resume : (T : Setup) (i : ℕ) (s : Side) (v : ℕ) → is_locally_enabled T i s (Resume v) ≡ true → (kernel_of T v ≡ i) × (can_resume (parked s v) ≡ true)
 unfolding is_locally_enabled
 enabled-resume T i s v enabled = let one = and_parts (kernel_of T v == i) _ enabled in (eqb-true (kernel_of T v) i one.0, one.1)
 
 -- which acts reply, and to whom
-abbrev reply_is : ℕ → Option ℕ → Option Reply
+abbrev pub reply_is : ℕ → Option ℕ → Option Reply
 reply_is w o = option_map (λ code. record { vpe = w; code = code }) o
 
 replied-to : (w v : ℕ) (o : Option ℕ) → option_map_or (λ (r : Reply). r.vpe == v) (reply_is w o) false ≡ true → w ≡ v
@@ -267,7 +267,7 @@ upcall-silent T i s v = option-keeps Silent (λ (a : Ask). ask_decided T i v a (
     decided : (a : Ask) (t : Side) → Silent (ask_decided T i v a t)
     decided a t = cond_both (is_unawaited T i t a) _ _ Silent (λ _. refl) (λ _. cond_both (denies T v (asker a)) _ _ Silent (λ _. refl) (λ _. consents a t))
 
-act-replies : (T : Setup) (i : ℕ) (s : Side) (a : Act) (input : Option Message) (v : ℕ) → option_map_or (λ (r : Reply). r.vpe == v) (reply_is (replied_vpe a) (local_step T i s a input).outcome.reply) false ≡ true → (a ≡ Calls v) ⊎ (a ≡ Resume v)
+pub act-replies : (T : Setup) (i : ℕ) (s : Side) (a : Act) (input : Option Message) (v : ℕ) → option_map_or (λ (r : Reply). r.vpe == v) (reply_is (replied_vpe a) (local_step T i s a input).outcome.reply) false ≡ true → (a ≡ Calls v) ⊎ (a ≡ Resume v)
 unfolding local_step
 act-replies T i s (Calls w) input v yes' = inl (ap Calls (replied-to w v (local_step T i s (Calls w) input).outcome.reply yes'))
 act-replies T i s (Resume w) input v yes' = inr (ap Resume (replied-to w v (local_step T i s (Resume w) input).outcome.reply yes'))
@@ -277,7 +277,7 @@ act-replies T i s (Upcall w) input v yes' = absurd (true≢false (sym yes' ∙ a
 act-replies T i s (Flush j) input v yes' = absurd cc
 act-replies T i s (Kill w) input v yes' = absurd cc
 
-resume-step : (T : Setup) (i : ℕ) (s : Side) (v : ℕ) (input : Option Message) → ◌≡◌ {A = Option ℕ} (local_step T i s (Resume v) input).outcome.reply (resumed T (parked s v) (unparked v s)).outcome.reply
+pub resume-step : (T : Setup) (i : ℕ) (s : Side) (v : ℕ) (input : Option Message) → ◌≡◌ {A = Option ℕ} (local_step T i s (Resume v) input).outcome.reply (resumed T (parked s v) (unparked v s)).outcome.reply
 unfolding local_step resume_row
 resume-step T i s v input = refl
 
@@ -526,7 +526,7 @@ module _ (T : Setup) (valid : IsSetup T) where
         gone at (Some (RevokeWait j)) is can code = absurd cc
         gone at (Some (Ready c)) is can code = elim (cases_eq (at_world k all_held W) 0) [
           | inl none ↦ none
-          | inr some ↦ absurd (ends-dead T valid before runs v k r w (λ d held. (subst (Resting None s k r v) is (rest-here at)) (code c refl) d (ap (λ n. cap (side W n) r) (sym at ∙ w.home) ∙ held)) (weighs-alive T W k (Par gs) (Made T gs) (λ a d held. schedule-homes T valid before runs a k d held) (omega (arith, some))))
+          | inr some ↦ absurd (ends-dead T valid before runs v k r w (λ d held. (subst (Resting None s k r v) is (rest-here at)).1 d (ap (λ n. cap (side W n) r) (sym at ∙ w.home) ∙ held)) (weighs-alive T W k (Par gs) (Made T gs) (λ a d held. schedule-homes T valid before runs a k d held) (omega (arith, some))))
         ]
 
     -- a call that waits goes on to do so

@@ -3,7 +3,7 @@ use Rattle.std.proofs.lemmas.Option.{same_Some}
 use Rattle.std.proofs.Common.{◌≡◌, ◌≢◌, ◌⊎◌, ℕ, ◌+◌, ◌≤◌, Bool, true, false, not, ◌&&◌, List, [], ◌∷◌, Option, Some, None, refl, sym, ap, ◌∙◌, subst, inl, inr, arith, eq-eqb}
 use Rattle.std.specs.Prelude.{◌==◌, if◌then◌else◌}
 use Rattle.std.specs.Option.{option_map, option_and_then}
-use Rattle.std.proofs.lemmas.Bool.{cases_Bool, cond-true, cond-false, eqb-true, ne_eqb, eqb-false, and_parts, and_from, or_cases, or_left, or_right, true≢false, not_from_false}
+use Rattle.std.proofs.lemmas.Bool.{cases_Bool, cond-true, cond-false, eqb-true, ne_eqb, eqb-false, and_parts, and_from, or_cases, or_left, or_right, true≢false, not_from_false, false_from_ne_true}
 use Rattle.sem_key.specs.KeyName.{KeyName, key_eq}
 use Rattle.sem_key.specs.Lists.{in_turn}
 use Rattle.sem_key.specs.Capability.{Capability}
@@ -30,6 +30,15 @@ count-one false n = refl
 
 pub count-same : (t u : Bool) (n : ℕ) → t ≡ u → (if t then n else 0) ≡ (if u then n else 0)
 count-same t u n same = ap (λ b. if b then n else 0) same
+
+-- each key stands once among these
+abbrev pub AreApart : List KeyName → Type 0
+AreApart [] = Unit {0}
+AreApart (k ∷ ks) = (has_key ks k ≡ false) × AreApart ks
+
+-- what stands behind the first is another key
+other-first : (k : KeyName) (ks : List KeyName) (q : KeyName) → has_key ks k ≡ false → has_key ks q ≡ true → key_eq k q ≡ false
+other-first k ks q first has = false_from_ne_true (key_eq k q) (λ same. true≢false (sym (ap (has_key ks) (key_eq-true k q same) ∙ has) ∙ first))
 
 module _ (C : Scene) where
   abbrev i : ℕ
@@ -60,7 +69,7 @@ module _ (C : Scene) where
   from-both a b c d one two = and_from (a == c) (b == d) (eq-eqb a c one) (eq-eqb b d two)
 
   -- A request for a remote child.
-  module _ (s : Side) (j : ℕ) (k : KeyName) (ks : List KeyName) (x : JobRow) (open_ : job s j ≡ Some x) (away : owner C k ≡ i → ⊥) (under : IsUnder C s k i j) (R : Row C (children i j (k ∷ ks)) s) where
+  module _ (s : Side) (j : ℕ) (k : KeyName) (ks : List KeyName) (x : JobRow) (open_ : job s j ≡ Some x) (away : owner C k ≡ i → ⊥) (under : IsUnder C s k i j) (first : has_key ks k ≡ false) (R : Row C (children i j (k ∷ ks)) s) where
     abbrev asked_for : Side
     asked_for = send (owner C k) (RevokeReq k j) s
 
@@ -103,10 +112,32 @@ module _ (C : Scene) where
         ])
         (λ a n loose. loose)
         (λ a b. let sum = requested-tokens a b in let more = raised-count asked_for j a b x (record { rise = R.ids.rise; drawn = R.ids.drawn }) open_ in let sent = side-send (counting a b) i s (owner C k) (RevokeReq k j) in let is = R.revokes.counted a b in omega (arith, sum, more, sent, is))
+        (once, unasked)
         (λ q more. let sent = side-send (noticing q) i s (owner C k) (RevokeReq k j) in let raised = side-changed (noticing q) i asked_for j raise x R.ids.rise open_ in inl (omega (arith, sent, raised, more)))
         (let sum = requested-placed in let is = R.revokes.placed in omega (arith, sum, is))
         R
       where
+        once : (q : KeyName) (a b : ℕ) → (view C requested).asked q a b ≤ 1
+        once q a b =
+            let sum = requested-asks q a b in
+            let most = R.revokes.single.0 q a b in
+            elim (cases_Bool (key_eq k q && ((i == a) && (j == b)))) [
+              | inl pass ↦
+                  let parts = and_parts (key_eq k q) ((i == a) && (j == b)) pass in
+                  let at = at-both i j a b parts.1 in
+                  let none = R.revokes.single.1 q a b (sym at.0, sym at.1, or_left (key_eq q k) (has_key ks q) (key_eq-from q k (sym (key_eq-true k q parts.0)))) in
+                  let one = one-true (key_eq k q && ((i == a) && (j == b))) pass in
+                  omega (arith, sum, none, one)
+              | inr fail ↦ let one = one-false (key_eq k q && ((i == a) && (j == b))) fail in omega (arith, sum, most, one)
+            ]
+
+        unasked : (q : KeyName) (a b : ℕ) → (a ≡ i) × (b ≡ j) × (has_key ks q ≡ true) → (view C requested).asked q a b ≡ 0
+        unasked q a b (at, job', has) =
+            let sum = requested-asks q a b in
+            let none = R.revokes.single.1 q a b (at, job', or_right (key_eq q k) (has_key ks q) has) in
+            let zero' : one_if (key_eq k q && ((i == a) && (j == b))) ≡ 0 = ap (λ t. one_if (t && ((i == a) && (j == b)))) (other-first k ks q first has) in
+            omega (arith, sum, none, zero')
+
         caught : (q : KeyName) (a b : ℕ) → (1 ≤ (view C s).asked q a b) ⊎ ((a ≡ i) × (b ≡ j) × (has_key (k ∷ ks) q ≡ true)) → Caught (owner C) C.parent C.made (children i j ks) (view C requested) a b q
         caught q a b (inl more) = let sum = requested-asks q a b in inr (inl (omega (arith, sum, more)))
         caught q a b (inr (at, job', has)) = elim (or_cases (key_eq q k) (has_key ks q) has) [
@@ -118,7 +149,7 @@ module _ (C : Scene) where
         ]
 
   -- A local child that another job has marked: that job is waited for.
-  module _ (s : Side) (j m : ℕ) (k : KeyName) (ks : List KeyName) (y x : JobRow) (open_ : job s j ≡ Some y) (other : job s m ≡ Some x) (apart : j ≢ m) (root : x.root ≡ k) (under : IsUnder C s k i j) (R : Row C (children i j (k ∷ ks)) s) where
+  module _ (s : Side) (j m : ℕ) (k : KeyName) (ks : List KeyName) (y x : JobRow) (open_ : job s j ≡ Some y) (other : job s m ≡ Some x) (apart : j ≢ m) (root : x.root ≡ k) (under : IsUnder C s k i j) (first : has_key ks k ≡ false) (R : Row C (children i j (k ∷ ks)) s) where
     abbrev wait : JobRow → JobRow
     wait z = record z { up = Some (Local j); keep = false }
 
@@ -164,13 +195,46 @@ module _ (C : Scene) where
         (λ a b.
         let sum = adopting-tokens a b in
         let more = raised-count waited j a b y waited-ids waited-open in
-        let first = side-changed (counting a b) i s m wait x R.ids.rise other in
+        let first' = side-changed (counting a b) i s m wait x R.ids.rise other in
         let is = R.revokes.counted a b in
-        omega (arith, sum, more, first, is))
+        let none : one_if (names i x.up a b) ≡ 0 = one-false (names i x.up a b) (alone a b) in
+        omega (arith, sum, more, first', is, none))
+        (once, unasked)
         (λ q more. let first = side-changed (noticing q) i s m wait x R.ids.rise other in let raised = side-changed (noticing q) i waited j raise y waited-ids.rise waited-open in inl (omega (arith, first, raised, more)))
         (let first = side-changed (straying (owner C)) i s m wait x R.ids.rise other in let raised = side-changed (straying (owner C)) i waited j raise y waited-ids.rise waited-open in let is = R.revokes.placed in omega (arith, first, raised, is))
         R
       where
+        -- no job waits for it yet
+        alone : (a b : ℕ) → names i x.up a b ≡ false
+        alone a b = false_from_ne_true (names i x.up a b) (λ named.
+            let weighs = job-weighs C (asking k a b) s m x other in
+            let one = one-true (key_eq x.root k && names i x.up a b) (and_from (key_eq x.root k) (names i x.up a b) (key_eq-from x.root k root) named) in
+            let asked : 1 ≤ (view C s).asked k a b = omega (arith, weighs, one) in
+            let mark = same-mark (owner C) C.parent C.one_parent C.made (view C s) k a b i j (R.revokes.asking k a b asked) under in
+            let none = R.revokes.single.1 k a b (mark.0, mark.1, or_left (key_eq k k) (has_key ks k) (key_eq-same k)) in
+            omega (arith, asked, none))
+
+        once : (q : KeyName) (a b : ℕ) → (view C adopting).asked q a b ≤ 1
+        once q a b =
+            let sum = adopting-asks q a b in
+            let most = R.revokes.single.0 q a b in
+            elim (cases_Bool (key_eq x.root q && ((i == a) && (j == b)))) [
+              | inl pass ↦
+                  let parts = and_parts (key_eq x.root q) ((i == a) && (j == b)) pass in
+                  let at = at-both i j a b parts.1 in
+                  let none = R.revokes.single.1 q a b (sym at.0, sym at.1, or_left (key_eq q k) (has_key ks q) (key_eq-from q k (sym (sym root ∙ key_eq-true x.root q parts.0)))) in
+                  let one = one-true (key_eq x.root q && ((i == a) && (j == b))) pass in
+                  omega (arith, sum, none, one)
+              | inr fail ↦ let one = one-false (key_eq x.root q && ((i == a) && (j == b))) fail in omega (arith, sum, most, one)
+            ]
+
+        unasked : (q : KeyName) (a b : ℕ) → (a ≡ i) × (b ≡ j) × (has_key ks q ≡ true) → (view C adopting).asked q a b ≡ 0
+        unasked q a b (at, job', has) =
+            let sum = adopting-asks q a b in
+            let none = R.revokes.single.1 q a b (at, job', or_right (key_eq q k) (has_key ks q) has) in
+            let zero' : one_if (key_eq x.root q && ((i == a) && (j == b))) ≡ 0 = ap (λ t. one_if (t && ((i == a) && (j == b)))) (ap (λ z. key_eq z q) root ∙ other-first k ks q first has) in
+            omega (arith, sum, none, zero')
+
         -- the root of the job that is waited for is below a mark
         root-lost : (z : JobRow) → job s m ≡ Some z → C.lost z.root
         root-lost z there = subst C.lost (sym (ap (λ (w : JobRow). w.root) (same_Some z x (sym there ∙ other)) ∙ root)) (under-lost C (children i j (k ∷ ks)) s R k i j under)
@@ -209,6 +273,8 @@ module _ (C : Scene) where
     pub under : (k : KeyName) → has_key ks k ≡ true → IsUnder C s k i j
     -- what is held here of them is marked
     pub closed : (k : KeyName) (c : Capability) → has_key ks k ≡ true → owner C k ≡ i → cap s k ≡ Some c → c.mark ≡ None → ⊥
+    -- each stands there once
+    pub distinct : AreApart ks
 
   adopt-one : (s : Side) (j : ℕ) (k : KeyName) (ks : List KeyName) → owner C k ≡ i → Settling j (k ∷ ks) s → (o : Option Capability) → cap s k ≡ o → Settling j ks (adopted j (other_marker j o) s)
   adopt-one s j k ks here S o held = from o held
@@ -229,10 +295,12 @@ module _ (C : Scene) where
                   inl (ap (owner C) is_k ∙ (here ∙ sym at), subst (λ z. IsMarked C s z b) (sym is_k) (subst (IsMarked C s k) (sym job') (marked (subst (IsAlive C s) is_k alive))))
               | inr later ↦ inr (inr (at, job', later))
             ])
-            (λ a n loose. loose) (λ a b. omega arith) S.row;
+            (λ q a b (at, job', has). (at, job', or_right (key_eq q k) (has_key ks q) has))
+            (λ a n loose. loose) (λ a b. refl) S.row;
         open_ = S.open_;
         under = λ q has. S.under q (or_right (key_eq q k) (has_key ks q) has);
         closed = λ q c has. S.closed q c (or_right (key_eq q k) (has_key ks q) has);
+        distinct = S.distinct.1;
       }
 
       -- nothing of a local child is on its way, since its parent is here too
@@ -245,10 +313,11 @@ module _ (C : Scene) where
           let other : job s m ≡ Some job'.0 = sym (job-here C s m) ∙ (ap (λ a. (view C s).job a m) (sym here) ∙ job'.1) in
           let root : job'.0.root ≡ k = elim job'.2 [ inl is ↦ is | inr under' ↦ absurd (apart (same-mark (owner C) C.parent C.one_parent C.made (view C s) k i j (owner C k) m (S.under k first) under').1) ] in
           record {
-            row = row-adopting s j m k ks S.open_.0 job'.0 S.open_.1 other apart root (S.under k first) S.row;
+            row = row-adopting s j m k ks S.open_.0 job'.0 S.open_.1 other apart root (S.under k first) S.distinct.0 S.row;
             open_ = (raise S.open_.0, changed-same (with_up (Local j) m s) j raise S.open_.0 (λ x. (refl, refl)) (changed-other s m (λ z. record z { up = Some (Local j); keep = false }) j (λ x. (refl, refl)) apart ∙ S.open_.1));
             under = λ q has. S.under q (or_right (key_eq q k) (has_key ks q) has);
             closed = λ q c has. S.closed q c (or_right (key_eq q k) (has_key ks q) has);
+            distinct = S.distinct.1;
           }
 
       by_mark : (c : Capability) → cap s k ≡ Some c → (m : Option ℕ) → c.mark ≡ m → Settling j ks (adopted j (option_and_then (λ m. if m == j then None else Some m) m) s)
@@ -273,10 +342,11 @@ module _ (C : Scene) where
   settle-one s j k ks S = elim (cases_Bool (is_local C.setup i k)) [
     | inl here ↦ subst (Settling j ks) (sym (cond-true (is_local C.setup i k) (adopted j (other_marker j (cap s k)) s) (count_raised j (send (owner C k) (RevokeReq k j) s)) here)) (adopt-one s j k ks (eqb-true (owner C k) i here) S (cap s k) refl)
     | inr away ↦ subst (Settling j ks) (sym (cond-false (is_local C.setup i k) (adopted j (other_marker j (cap s k)) s) (count_raised j (send (owner C k) (RevokeReq k j) s)) away)) (record {
-      row = row-requested s j k ks S.open_.0 S.open_.1 (eqb-false (owner C k) i away) (S.under k (or_left (key_eq k k) (has_key ks k) (key_eq-same k))) S.row;
+      row = row-requested s j k ks S.open_.0 S.open_.1 (eqb-false (owner C k) i away) (S.under k (or_left (key_eq k k) (has_key ks k) (key_eq-same k))) S.distinct.0 S.row;
       open_ = (raise S.open_.0, changed-same (send (owner C k) (RevokeReq k j) s) j raise S.open_.0 (λ x. (refl, refl)) S.open_.1);
       under = λ q has. S.under q (or_right (key_eq q k) (has_key ks q) has);
       closed = λ q c has. S.closed q c (or_right (key_eq q k) (has_key ks q) has);
+      distinct = S.distinct.1;
     })
   ]
 
@@ -287,4 +357,4 @@ module _ (C : Scene) where
 
   -- no child is left
   pub settled-all : (j : ℕ) (s : Side) → Settling j [] s → Row C free_hand s
-  settled-all j s S = rehand C (children i j []) free_hand s (λ k a b alive under (at, job', has). absurd cc) (λ a n loose. loose) (λ a b. omega arith) S.row
+  settled-all j s S = rehand C (children i j []) free_hand s (λ k a b alive under (at, job', has). absurd cc) (λ k a b care. absurd care) (λ a n loose. loose) (λ a b. refl) S.row

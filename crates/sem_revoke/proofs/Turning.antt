@@ -32,7 +32,7 @@ use Rattle.sem_machine.specs.Resumes.{resume_row}
 use Rattle.sem_machine.specs.Handles.{is_stray, handle_row, handled, acknowledged, delegation_held, obtain_ready}
 use Rattle.sem_machine.specs.Machine.{World, side, link, with_side, with_link}
 use Rattle.sem_machine.specs.Journals.{root_keys}
-use Rattle.sem_key.proofs.KeyTests.{key_eq-same, key_eq-true}
+use Rattle.sem_key.proofs.KeyTests.{key_eq-same, key_eq-true, key_eq-from}
 use Rattle.sem_key.proofs.Puts.{get_or-put_same, get_or-put_other}
 use Rattle.sem_safety.specs.Growth.{IsGrown}
 use Rattle.sem_machine.proofs.Folds.{option-keeps}
@@ -41,10 +41,10 @@ use Rattle.sem_machine.proofs.Weighing.{of_option, weigh-drop}
 use Rattle.sem_safety.proofs.Lives.{all_held, at_parked, at_side, at_message, at_inbox, at_grant, lives-inbox, lives-unparked}
 use Rattle.sem_safety.proofs.LiveWorlds.{at_world}
 use Rattle.sem_revoke.specs.Views.{free_hand, token, request, IsCaused}
-use Rattle.sem_revoke.specs.Scales.{Scale, sum_from, of_messages, of_side, of_inbox, of_world, one_if, asking, naming, counting, noticing, straying, asking_message, notice_message}
+use Rattle.sem_revoke.specs.Scales.{Scale, sum_from, of_messages, of_side, of_inbox, of_world, one_if, asking, naming, counting, noticing, straying, asking_message, notice_message, token_message}
 use Rattle.sem_revoke.proofs.Keeping.{cases_Option}
 use Rattle.sem_revoke.proofs.Scaling.{world-side, world-link, side-inbox, side-sent}
-use Rattle.sem_revoke.proofs.Viewing.{on_its_way, Scene, one-more, one-true, owner, view, IsGone, Row, hold-here, rows-changed, pendings-row, row-sent}
+use Rattle.sem_revoke.proofs.Viewing.{on_its_way, Scene, one-more, one-true, owner, view, IsGone, IsUnder, Row, hold-here, rows-changed, pendings-row, row-sent}
 use Rattle.sem_revoke.proofs.Closing.{row-unlinked}
 use Rattle.sem_revoke.proofs.Rowing.{row-taken, row-requested, row-done, row-revoked, row-cleared, row-ended}
 use Rattle.sem_revoke.proofs.Growing.{is_plain, IsPlainCall, Grown, grown-start, grown-vpes, call-grown, upcall-grown, resume-grown, Installs, obtain_asked-grown, delegate_asked-grown, obtain_ok-grown, no-grown, delegate_ready-grown, held-installed, dropped-grown}
@@ -106,7 +106,7 @@ module _ (T : Setup) (gs : List (KeyName × KeyName)) (W : World) (R : IsReady T
   Kept t = Facts (plain t) → Holds T gs (with_side i t W) × Sends None (with_inbox None now) t
 
   -- the same, once the message was taken out
-  abbrev there : Scene
+  abbrev pub there : Scene
   there = record here { before = with_inbox None now }
 
   row-sends : (C' : Scene) (t : Side) → Row C' free_hand t → ((k : KeyName) (c : Capability) → cap C'.before k ≡ Some c → ((d : Capability) × (cap t k ≡ Some d)) ⊎ L.lost k) → ((n : ℕ) (x : JobRow) → job t n ≡ Some x → IsCaused (Par gs) L.lost x) → Sends None C'.before t
@@ -140,7 +140,7 @@ module _ (T : Setup) (gs : List (KeyName × KeyName)) (W : World) (R : IsReady T
       let parent : (p k : KeyName) → link_of T gs W R H L i o now now p k → (d : Capability) × (cap now p ≡ Some d) = λ p k is. ((F.below p k is).0, (F.below p k is).1) in
       grown-both o now x F absent parent (call-grown (owner_of T) i now (link_of T gs W R H L i o now now) F.valid absent parent T (call_counted v now) v c quiet (grown-vpes (owner_of T) i now (link_of T gs W R H L i o now now) F.valid absent parent now _ (grown-start (owner_of T) i now (link_of T gs W R H L i o now now) F.valid absent parent valid-now)) (λ p k is. is))
 
-  counted-row : (v : ℕ) → Row here free_hand (call_counted v now)
+  pub counted-row : (v : ℕ) → Row here free_hand (call_counted v now)
   counted-row v = rows-changed here free_hand now _ now.endpoints now.parks (λ k. omega arith) in_row
 
   pub by-call : (v : ℕ) (c : Call) → CallLoses gs L.lost (call_counted v now) v c → Keeps (call_row T i (call_counted v now) v c)
@@ -237,8 +237,8 @@ module _ (T : Setup) (gs : List (KeyName × KeyName)) (W : World) (R : IsReady T
     )
 
     -- the message is taken out, and nothing comes into the hand
-    taken : ((k : KeyName) (a b : ℕ) → asking_message k a b from i m ≡ 0) → Row there free_hand base
-    taken quiet = row-taken here free_hand now from m full (λ k a b more'. let none = quiet k a b in omega (arith, none, more')) (λ a b. omega arith) in_row
+    taken : ((k : KeyName) (a b : ℕ) → asking_message k a b from i m ≡ 0) → ((a b : ℕ) → token_message a b from i m ≡ 0) → Row there free_hand base
+    taken quiet tokenless = row-taken here free_hand now from m full (λ k a b more'. let none = quiet k a b in omega (arith, none, more')) (λ a b. sym (tokenless a b)) (λ k a b care. absurd care) in_row
 
     -- what the message weighs is in the inbox
     weighs : (S : Scale) → S.message from i m ≤ of_side S i now
@@ -267,7 +267,7 @@ module _ (T : Setup) (gs : List (KeyName × KeyName)) (W : World) (R : IsReady T
 
     orphaned : (parent key : KeyName) → at_message key m ≡ 1 → ((k : KeyName) (a b : ℕ) → asking_message k a b from i m ≡ 0) → (t : Side) → Row there free_hand t → ((IsGone there base key × Made T gs key) → IsGone there t key × Made T gs key) → Kept (send (owner here parent) (Orphan parent key) t)
     orphaned parent key one quiet t K moves = by-row (send (owner here parent) (Orphan parent key) t)
-        (row-sent there free_hand free_hand t (owner here parent) (Orphan parent key) (λ k a b. refl) (λ k. refl) refl (λ a b. omega arith) (λ a b k alive care. care) (λ a n loose. loose)
+        (row-sent there free_hand free_hand t (owner here parent) (Orphan parent key) (λ k a b. refl) (λ k. refl) refl (λ a b. refl) (λ a b k alive care. care) (λ a b k care. care) (λ a n loose. loose)
         (λ k more'. let same : key ≡ k = key_eq-true key k (one-more (key_eq key k) more') in subst (λ z. IsGone there t z × Made T gs z) same (moves (lost key one))) K)
 
     -- what the message says that is gone is so
@@ -292,9 +292,10 @@ module _ (T : Setup) (gs : List (KeyName × KeyName)) (W : World) (R : IsReady T
       freed-caps (Some (RevokeWait j)) = refl
       freed-caps (Some (Ready code)) = refl
 
-  by-request : (from : ℕ) (k : KeyName) (j : ℕ) → now.inbox ≡ Some (from, RevokeReq k j) → Row there free_hand (handle_row T i (with_inbox None now) from (RevokeReq k j))
-  unfolding handle_row
-  by-request from k j full =
+  -- a request is in the hand: of a key of this kernel, from another one, which marks its parent
+  pub request-hand : (from : ℕ) (k : KeyName) (j : ℕ) → now.inbox ≡ Some (from, RevokeReq k j)
+      → (owner here k ≡ i) × (from ≢ i) × IsUnder there (with_inbox None now) k from j × Row there (request k from j) (with_inbox None now)
+  request-hand from k j full =
       let w = weighs from (RevokeReq k j) full (straying (owner here)) in
       let none = in_row.revokes.placed in
       let test : ((owner here k == i) && not (owner here k == from)) ≡ true = placed-test ((owner here k == i) && not (owner here k == from)) (omega (arith, w, none)) in
@@ -306,20 +307,32 @@ module _ (T : Setup) (gs : List (KeyName × KeyName)) (W : World) (R : IsReady T
       let under = in_row.revokes.asking k from j (omega (arith, asks, one)) in
       let inhand : Row there (request k from j) (with_inbox None now) = row-taken here (request k from j) now from (RevokeReq k j) full
       (λ q a b more'. let pass = one-more (key_eq k q && ((from == a) && (j == b))) more' in let outer = and_parts (key_eq k q) ((from == a) && (j == b)) pass in let inner = and_parts (from == a) (j == b) outer.1 in (sym (eqb-true from a inner.0), sym (eqb-true j b inner.1), sym (key_eq-true k q outer.0)))
-      (λ a b. omega arith) in_row in
-      row-requested there k from j (with_inbox None now) at away under inhand
-      (λ none'. (
-        hold-here there (obtain_cancelled k (with_inbox None now)) k at ∙ (ap (λ (cs : List Capability). cap_of cs k) (cancelled-caps k (with_inbox None now)) ∙ none'),
-        let late = R.late i from j k full none' in let parts' = gifts-parts there k (obtain_cancelled k (with_inbox None now)) in omega (arith, late, parts'),
-      ))
+      (λ a b. refl)
+      (λ q a b (at', job', same). let one' = one-true (key_eq k q && ((from == a) && (j == b))) (and_from (key_eq k q) ((from == a) && (j == b)) (key_eq-from k q (sym same)) (and_from (from == a) (j == b) (eq-eqb from a (sym at')) (eq-eqb j b (sym job')))) in omega (arith, one'))
+      in_row in
+      (at, away, under, inhand)
     where
       placed-test : (t : Bool) → one_if (not t) ≡ 0 → t ≡ true
       placed-test true none = refl
       placed-test false none = absurd (omega (arith, none))
 
+  by-request : (from : ℕ) (k : KeyName) (j : ℕ) → now.inbox ≡ Some (from, RevokeReq k j) → Row there free_hand (handle_row T i (with_inbox None now) from (RevokeReq k j))
+  unfolding handle_row
+  by-request from k j full =
+      let hand = request-hand from k j full in
+      row-requested there k from j (with_inbox None now) hand.0 hand.1 hand.2 hand.3
+      (λ none'. (
+        hold-here there (obtain_cancelled k (with_inbox None now)) k hand.0 ∙ (ap (λ (cs : List Capability). cap_of cs k) (cancelled-caps k (with_inbox None now)) ∙ none'),
+        let late = R.late i from j k full none' in let parts' = gifts-parts there k (obtain_cancelled k (with_inbox None now)) in omega (arith, late, parts'),
+      ))
+
+  -- a token is in the hand
+  pub token-hand : (from j : ℕ) → now.inbox ≡ Some (from, RevokeDone j) → Row there (token i j) (with_inbox None now)
+  token-hand from j full = row-taken here (token i j) now from (RevokeDone j) full (λ k a b more'. absurd (omega (arith, more'))) (λ a b. refl) (λ k a b care. absurd care) in_row
+
   by-token : (from j : ℕ) → now.inbox ≡ Some (from, RevokeDone j) → Row there free_hand (handle_row T i (with_inbox None now) from (RevokeDone j))
   unfolding handle_row
-  by-token from j full = row-done there j (with_inbox None now) (row-taken here (token i j) now from (RevokeDone j) full (λ k a b more'. absurd (omega (arith, more'))) (λ a b. omega arith) in_row)
+  by-token from j full = row-done there j (with_inbox None now) (token-hand from j full)
 
   by-message : (from : ℕ) (m : Message) → now.inbox ≡ Some (from, m) → Kept (handled T i (with_inbox None now) from m)
   unfolding handle_row
@@ -341,7 +354,7 @@ module _ (T : Setup) (gs : List (KeyName × KeyName)) (W : World) (R : IsReady T
       b = with_inbox None now
 
       K : Row there free_hand b
-      K = taken from m full (λ k a c. refl)
+      K = taken from m full (λ k a c. refl) (λ a c. refl)
   by-message from (ObtainNo place code) full = by-growth from (ObtainNo place code) full refl _ (cond_both (is_stray T i b (ObtainNo place code)) b _ (GrownBy from (ObtainNo place code) full) (λ _. G) (λ _. no-grown (owner_of T) i b _ _ _ _ code place.vpe b G))
     where
       b : Side
@@ -379,7 +392,7 @@ module _ (T : Setup) (gs : List (KeyName × KeyName)) (W : World) (R : IsReady T
       b = with_inbox None now
 
       K : Row there free_hand b
-      K = taken from m full (λ k a c. refl)
+      K = taken from m full (λ k a c. refl) (λ a c. refl)
 
       one : at_message key m ≡ 1
       one = cond-true (key_eq key key) 1 0 (key_eq-same key)
@@ -395,10 +408,10 @@ module _ (T : Setup) (gs : List (KeyName × KeyName)) (W : World) (R : IsReady T
 
       G : GrownBy from (Ack key false) full b
       G = begun from (Ack key false) full
-  by-message from (Orphan parent key) full = by-row _ (row-unlinked there (with_inbox None now) parent key (gone-said from (Orphan parent key) full key (omega (arith, one-true (key_eq key key) (key_eq-same key)))) free_hand (taken from (Orphan parent key) full (λ k a c. refl)))
+  by-message from (Orphan parent key) full = by-row _ (row-unlinked there (with_inbox None now) parent key (gone-said from (Orphan parent key) full key (omega (arith, one-true (key_eq key key) (key_eq-same key)))) free_hand (taken from (Orphan parent key) full (λ k a c. refl) (λ a c. refl)))
   by-message from (RevokeReq key j) full = by-row _ (by-request from key j full)
   by-message from (RevokeDone j) full = by-row _ (by-token from j full)
-  by-message from (Unlink parent key) full = by-row _ (row-unlinked there (with_inbox None now) parent key (gone-said from (Unlink parent key) full key (omega (arith, one-true (key_eq key key) (key_eq-same key)))) free_hand (taken from (Unlink parent key) full (λ k a c. refl)))
+  by-message from (Unlink parent key) full = by-row _ (row-unlinked there (with_inbox None now) parent key (gone-said from (Unlink parent key) full key (omega (arith, one-true (key_eq key key) (key_eq-same key)))) free_hand (taken from (Unlink parent key) full (λ k a c. refl) (λ a c. refl)))
 
   pub by-inbox : (o : Option (ℕ × Message)) → now.inbox ≡ o → Kept (option_map_or (λ m. handled T i (with_inbox None now) m.0 m.1) o now)
   by-inbox None none = λ _. (left T gs W R H L i now in_row, record { inbox = none; sends = λ j. ([], sym (append-nil (outbox now j)), λ k some. absurd (omega (arith, some))); quiet = λ p k none. absurd cc; steady = λ p k none. absurd cc; lasts = λ k c held. inl (c, held); caused = L.caused i })

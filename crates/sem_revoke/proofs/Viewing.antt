@@ -26,7 +26,7 @@ use Rattle.sem_machine.proofs.Weighing.{weigh-among}
 use Rattle.sem_safety.proofs.Lives.{at_message, at_parked, at_side, lives-send}
 use Rattle.sem_safety.proofs.LiveWorlds.{at_world}
 use Rattle.sem_safety.proofs.JobIds.{HasIds}
-use Rattle.sem_revoke.specs.Views.{View, Hand, IsAlone, IsCaused, Alive, Gone, Marked, Under, Caught, IsFit, Revokes}
+use Rattle.sem_revoke.specs.Views.{View, Hand, IsAlone, IsCaused, Alive, Gone, Marked, Under, Caught, IsFit, Revokes, IsSingle}
 use Rattle.sem_revoke.specs.Scales.{Scale, of_side, of_world, one_if, asking, naming, counting, noticing, straying, asking_message, token_message, notice_message, stray_message}
 use Rattle.sem_revoke.proofs.Keeping.{HoldsOn, holds-same, fit-on, keep}
 use Rattle.sem_revoke.proofs.Scaling.{side-send}
@@ -232,18 +232,19 @@ module _ (C : Scene) where
       → ((k : KeyName) (a b : ℕ) → IsAlive t k → IsUnder s k a b → (1 ≤ (view s).asked k a b) ⊎ h.cares a b k → Caught owner C.parent C.made h' (view t) a b k)
       → ((k : KeyName) (a b : ℕ) → 1 ≤ (view t).asked k a b → (1 ≤ (view s).asked k a b) ⊎ IsUnder s k a b)
       → ((a n : ℕ) → h.loose a n → h'.loose a n)
-      → ((a b : ℕ) → (view t).tokens a b + h'.owed a b ≤ (view t).count a b)
+      → ((a b : ℕ) → (view t).tokens a b + h'.owed a b ≡ (view t).count a b)
+      → IsSingle owner C.parent C.made h' (view t)
       → ((k : KeyName) → 1 ≤ (view t).notices k → (1 ≤ (view s).notices k) ⊎ (IsGone t k × C.made k))
       → (view t).misplaced ≡ 0
       → ((n : ℕ) (x : JobRow) → job t n ≡ Some x → IsCaused C.parent C.lost x)
       → ((k : KeyName) (c : Capability) → cap C.before k ≡ Some c → ((d : Capability) × (cap t k ≡ Some d)) ⊎ C.lost k)
       → IsFit owner C.parent C.made (view s) → Revokes owner C.parent C.made h (view s) → Row h' t
-  step_from h h' s t H roots rises ids homes sent caught' asking' loose' counted' noticed' placed' caused lasts fit revokes = record {
+  step_from h h' s t H roots rises ids homes sent caught' asking' loose' counted' single' noticed' placed' caused lasts fit revokes = record {
     fit = fit-on owner C.parent C.one_parent C.made (view s) (view t) H fit;
     revokes = keep owner C.parent C.one_parent C.made (view s) (view t) H h h' fit revokes caught' asking'
         (λ k n x marked open_. roots.on (owner k) n x open_)
         (λ a n y open_. let x = roots.back a n y open_ in (x.0, x.1, x.2, x.3.0, loose' a n))
-        counted' noticed' placed';
+        counted' single' noticed' placed';
     rises = rises;
     ids = ids;
     homes = homes;
@@ -259,12 +260,13 @@ module _ (C : Scene) where
       → ((k : KeyName) (a b : ℕ) → IsAlive t k → IsUnder s k a b → (1 ≤ (view s).asked k a b) ⊎ h.cares a b k → Caught owner C.parent C.made h' (view t) a b k)
       → ((k : KeyName) (a b : ℕ) → 1 ≤ (view t).asked k a b → (1 ≤ (view s).asked k a b) ⊎ IsUnder s k a b)
       → ((a n : ℕ) → h.loose a n → h'.loose a n)
-      → ((a b : ℕ) → (view t).tokens a b + h'.owed a b ≤ (view t).count a b)
+      → ((a b : ℕ) → (view t).tokens a b + h'.owed a b ≡ (view t).count a b)
+      → IsSingle owner C.parent C.made h' (view t)
       → ((k : KeyName) → 1 ≤ (view t).notices k → (1 ≤ (view s).notices k) ⊎ (IsGone t k × C.made k))
       → (view t).misplaced ≡ 0
       → Row h s → Row h' t
-  step h h' s t H roots rises ids homes sent caught' asking' loose' counted' noticed' placed' R =
-      step_from h h' s t H roots rises ids homes sent caught' asking' loose' counted' noticed' placed'
+  step h h' s t H roots rises ids homes sent caught' asking' loose' counted' single' noticed' placed' R =
+      step_from h h' s t H roots rises ids homes sent caught' asking' loose' counted' single' noticed' placed'
       (λ n y open_. let x = roots.back C.kernel n y (job-here t n ∙ open_) in x.3.1 (R.caused n x.0 (sym (job-here s n) ∙ x.1)))
       (λ k c was. elim (R.lasts k c was) [
         | inl (d, held) ↦
@@ -290,6 +292,7 @@ module _ (C : Scene) where
       (λ k a b more. inl more)
       (λ a n loose. loose)
       R.revokes.counted
+      R.revokes.single
       (λ k more. inl more)
       R.revokes.placed
       R
@@ -305,6 +308,7 @@ module _ (C : Scene) where
       (λ k a b more. inl more)
       (λ a n loose. loose)
       R.revokes.counted
+      R.revokes.single
       (λ k more. inl more)
       R.revokes.placed
       R
@@ -314,12 +318,13 @@ module _ (C : Scene) where
       → ((k : KeyName) (a b : ℕ) → asking_message k a b C.kernel j m ≡ 0)
       → ((k : KeyName) → at_message k m ≡ 0)
       → stray_message owner C.kernel j m ≡ 0
-      → ((a b : ℕ) → token_message a b C.kernel j m + h'.owed a b ≤ h.owed a b)
+      → ((a b : ℕ) → token_message a b C.kernel j m + h'.owed a b ≡ h.owed a b)
       → ((a b : ℕ) (k : KeyName) → IsAlive s k → h.cares a b k → h'.cares a b k)
+      → ((a b : ℕ) (k : KeyName) → h'.cares a b k → h.cares a b k)
       → ((a n : ℕ) → h.loose a n → h'.loose a n)
       → ((k : KeyName) → 1 ≤ notice_message k C.kernel j m → IsGone s k × C.made k)
       → Row h s → Row h' (send j m s)
-  row-sent h h' s j m asks gives strays tokens cares loose notices R =
+  row-sent h h' s j m asks gives strays tokens cares cared loose notices R =
       let t : Side = send j m s in
       let H = holds-same owner C.parent C.one_parent C.made (view s) (view t) (λ k. refl) (λ k. let sum = lives-send k on_its_way s j m in let none = gives k in omega (arith, sum, none)) in
       let asked : (k : KeyName) (a b : ℕ) → of_side (asking k a b) C.kernel t ≡ of_side (asking k a b) C.kernel s = λ k a b. let sum = side-send (asking k a b) C.kernel s j m in let none = asks k a b in omega (arith, sum, none) in
@@ -328,6 +333,7 @@ module _ (C : Scene) where
       (λ k a b more. let same = asked k a b in inl (omega (arith, more, same)))
       loose
       (λ a b. let sum = side-send (naming a b) C.kernel s j m in let few = tokens a b in let is = R.revokes.counted a b in let count : of_side (counting a b) C.kernel t ≡ of_side (counting a b) C.kernel s + 0 = side-send (counting a b) C.kernel s j m in omega (arith, sum, few, is, count))
+      (λ k a b. let same = asked k a b in let most = R.revokes.single.0 k a b in omega (arith, same, most), λ k a b care. let same = asked k a b in let none = R.revokes.single.1 k a b (cared a b k care) in omega (arith, same, none))
       (λ k more. let sum = side-send (noticing k) C.kernel s j m in new k sum more)
       (let sum = side-send (straying owner) C.kernel s j m in let is = R.revokes.placed in omega (arith, sum, strays, is))
       R
@@ -350,15 +356,17 @@ module _ (C : Scene) where
   -- the hand changes alone
   pub rehand : (h h' : Hand) (s : Side)
       → ((k : KeyName) (a b : ℕ) → IsAlive s k → IsUnder s k a b → h.cares a b k → Caught owner C.parent C.made h' (view s) a b k)
+      → ((k : KeyName) (a b : ℕ) → h'.cares a b k → h.cares a b k)
       → ((a n : ℕ) → h.loose a n → h'.loose a n)
-      → ((a b : ℕ) → h'.owed a b ≤ h.owed a b)
+      → ((a b : ℕ) → h'.owed a b ≡ h.owed a b)
       → Row h s → Row h' s
-  rehand h h' s cares loose owed R =
+  rehand h h' s cares cared loose owed R =
       step h h' s s (holds-same owner C.parent C.one_parent C.made (view s) (view s) (λ k. refl) (λ k. omega arith)) (no-roots s s refl) R.rises R.ids R.homes R.sent
       (λ k a b alive under before. elim before [ inl more ↦ inr (inl more) | inr care ↦ cares k a b alive under care ])
       (λ k a b more. inl more)
       loose
       (λ a b. let is = R.revokes.counted a b in let few = owed a b in omega (arith, is, few))
+      (R.revokes.single.0, λ k a b care. R.revokes.single.1 k a b (cared k a b care))
       (λ k more. inl more)
       R.revokes.placed
       R

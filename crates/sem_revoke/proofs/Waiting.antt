@@ -326,10 +326,13 @@ module _ (pend : ℕ → KeyName → KeyName → Type 0) where
                 )
           ],
     )
-    rests-swept k r v (Some (Ready code)) is = λ done c held. elim (swept-was r c held) [
-      | inl (before, unmarked) ↦ is done c before
-      | inr (keeps, root, (d, before), childless) ↦ ((is done d before).0, ap (λ xs. has_key xs k) childless)
-    ]
+    rests-swept k r v (Some (Ready code)) is = (
+      is.0,
+      λ c held. elim (swept-was r c held) [
+        | inl (before, unmarked) ↦ is.1 c before
+        | inr (keeps, root, (d, before), childless) ↦ ((is.1 d before).0, ap (λ xs. has_key xs k) childless)
+      ],
+    )
 
     waiting-swept : Waiting (Some x) swept_side
     waiting-swept = record {
@@ -348,7 +351,7 @@ module _ (pend : ℕ → KeyName → KeyName → Type 0) where
   waiting-woken x s own' R = record {
     waiting = record {
       rests = λ v k r pends. elim (woken-at x.waiters s.parks v) [
-        | inl (among, ready) ↦ subst (Resting (Some x) t k r v) (sym ready) (λ done c held. ((subst (Resting (Some x) s k r v) (own' v among) (R.rests v k r pends)).2 x refl refl c held).0)
+        | inl (among, ready) ↦ subst (Resting (Some x) t k r v) (sym ready) (refl, λ c held. ((subst (Resting (Some x) s k r v) (own' v among) (R.rests v k r pends)).2 x refl refl c held).0)
         | inr (others, same) ↦ subst (Resting (Some x) t k r v) (sym same) (resting-on (Some x) s t k r v (parked s v) (same-caps k r s t (λ q. refl)) (same-jobs k r v s t refl) (omega arith) (λ down. down) (R.rests v k r pends))
       ];
       waiters = λ y among open_ v waits. elim (woken-at x.waiters s.parks v) [

@@ -56,7 +56,7 @@ Resting closes s k r v (Some (RevokeWait n)) =
     (n < s.next_job)
     × ((IsClosing closes n → ⊥) → (c : Capability) → cap s r ≡ Some c → IsServed s k r v n c)
     × ((x : JobRow) → closes ≡ Some x → x.id ≡ n → (c : Capability) → cap s r ≡ Some c → Ends k r c × Contains x.waiters v)
-Resting closes s k r v (Some (Ready code)) = code ≡ 0 → (c : Capability) → cap s r ≡ Some c → Ends k r c
+Resting closes s k r v (Some (Ready code)) = (code ≡ 0) × ((c : Capability) → cap s r ≡ Some c → Ends k r c)
 
 -- what a step may do to the capability of r, and to the jobs
 abbrev pub CapsOn : KeyName → KeyName → Side → Side → Type 0
@@ -87,7 +87,7 @@ resting-on closes s t k r v (Some (RevokeWait n)) caps jobs next dead is = (
       (d.2 n served.0, λ y among same. let low = is.0 in let x = jobs y among (omega (arith, low, same)) in x.3 (served.1 x.0 x.1 (x.2 ∙ same))),
   λ x closing same c held. let d = caps c held in let ends = is.2 x closing same d.0 d.1 in ((ends.0.0, d.3 ends.0.1), ends.1),
 )
-resting-on closes s t k r v (Some (Ready code)) caps jobs next dead is = λ done c held. let d = caps c held in let ends = is done d.0 d.1 in (ends.0, d.3 ends.1)
+resting-on closes s t k r v (Some (Ready code)) caps jobs next dead is = (is.0, λ c held. let d = caps c held in let ends = is.1 d.0 d.1 in (ends.0, d.3 ends.1))
 
 -- a state in which a call asks, or is to install, is not at rest
 pub asks-rest : (s : Side) (k r : KeyName) (v : ℕ) (a : Ask) (p : Option Parked) → waits_for a p ≡ true → Resting None s k r v p → ⊥

@@ -63,6 +63,7 @@ module _ (own : KeyName → ℕ) (G : KeyName → KeyName → Type 0) (one : (p 
       (λ k n x marked open_. (x, S.job (own k) n ∙ open_, refl))
       (λ a n y open_. (y, sym (S.job a n) ∙ open_, refl, λ is. is, λ loose. loose))
       (λ a b. let tokens = S.tokens a b in let count = S.count a b in let is = R.counted a b in omega (arith, tokens, count, is))
+      (λ k a b. let same = S.asked k a b in let most = R.single.0 k a b in omega (arith, same, most), λ k a b care. absurd care)
       (λ k more. let same = S.notices k in inl (omega (arith, same, more)))
       (let same = S.misplaced in let is = R.placed in omega (arith, same, is))
 
@@ -273,6 +274,7 @@ module _ (own : KeyName → ℕ) (G G' : KeyName → KeyName → Type 0) (one : 
       roots = λ a n x open_. elim (R.roots a n x (sym (S.job a n) ∙ open_)) [ inl loose ↦ absurd loose | inr (at, marked) ↦ inr (at, marked-on x.root n marked) ];
       alone = λ a n x open_. R.alone a n x (sym (S.job a n) ∙ open_);
       counted = λ a b. let tokens = S.tokens a b in let count = S.count a b in let is = R.counted a b in omega (arith, tokens, count, is);
+      single = (λ k a b. let same = S.asked k a b in let most = R.single.0 k a b in omega (arith, same, most), λ k a b care. absurd care);
       noticed = λ k more.
           let same = S.notices k in
           let is = R.noticed k (omega (arith, same, more)) in

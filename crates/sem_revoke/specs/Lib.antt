@@ -4,3 +4,5 @@ pub mod Delegations
 pub mod Revocation
 pub mod Resting
 pub mod Sample
+pub mod Exchanges
+pub mod Rest

@@ -1,4 +1,4 @@
--- What an idle world is like, and the facts of a schedule from which it follows ("Idle worlds" in docs/proof.md).
+-- What an idle world is like, and words of the facts from which that follows ("Idle worlds" in docs/proof.md).
 use Rattle.std.specs.Prelude.{◌≡◌, ◌≢◌, ℕ, true, ◌⊎◌, ◌↔◌, List, [], Contains, Option, Some, None}
 use Rattle.sem_key.specs.KeyName.{KeyName}
 use Rattle.sem_key.specs.Capability.{Capability}
@@ -6,7 +6,6 @@ use Rattle.sem_msg.specs.declared.entry.Entry.{Entry}
 use Rattle.sem_msg.specs.declared.message.Message.{Message}
 use Rattle.sem_msg.specs.declared.state.Parked.{Parked}
 use Rattle.sem_msg.specs.declared.state.Parked.TheVariants.{ObtainWait, ObtainReady, ObtainCancelled, DelegateWait, DelegateReady, RevokeWait, Ready}
-use Rattle.sem_msg.specs.declared.state.Pending.{Pending}
 use Rattle.sem_msg.specs.declared.state.Up.{Up}
 use Rattle.sem_msg.specs.declared.state.Up.TheVariants.{Local, Remote}
 use Rattle.sem_msg.specs.Rows.{JobRow}
@@ -15,8 +14,7 @@ use Rattle.sem_machine.specs.Sides.{row, parked, pending, job}
 use Rattle.sem_machine.specs.Resumes.{can_resume}
 use Rattle.sem_machine.specs.Machine.{World, side}
 use Rattle.sem_machine.specs.Journals.{grants, forest, cut_from, has_ended}
-use Rattle.sem_machine.specs.Living.{InFlight, HoldsCap, IsHeld, IsLive}
-use Rattle.sem_machine.specs.Safety.{nothing_lost}
+use Rattle.sem_machine.specs.Living.{InFlight, HoldsCap, IsHeld}
 
 -- the key was cut off: a revoke began at it, a clear at its parent, or its VPE ended
 abbrev pub IsCutOff : List Entry → KeyName → Type 0
@@ -59,23 +57,6 @@ pub record HasJobBelow (W : World) (i j : ℕ) : Type 0 where
   pub below : JobRow
   pub open_below : job (side W kernel) id ≡ Some below
   pub names : Names below.up kernel i j
-
-pub record AreResting (T : Setup) (J : List Entry) (W : World) : Type 0 where
-  -- exchanges
-  pub owed : (i v : ℕ) (p : Parked) → parked (side W i) v ≡ Some p → IsExchange p → IsStirring W
-  pub pendings : (i : ℕ) (k : KeyName) (p : Pending) → pending (side W i) k ≡ Some p → IsStirring W
-  -- jobs
-  pub counted : (i j : ℕ) (x : JobRow) → job (side W i) j ≡ Some x → IsStirring W ⊎ HasJobBelow W i j
-  pub above : (i' n : ℕ) (y : JobRow) → job (side W i') n ≡ Some y → (i j : ℕ) → Names y.up i' i j → HasMarkedParent J W i j y.root
-  -- marks: the key is the root of the job, or the parent has the mark too
-  pub marks : (i : ℕ) (k : KeyName) (c : Capability) (j : ℕ) (x : JobRow) → HoldsCap W i k c → c.mark ≡ Some j → job (side W i) j ≡ Some x → (k ≡ x.root) ⊎ HasMarkedParent J W i j k
-  -- links and parents
-  pub lead : (i : ℕ) (p k : KeyName) (c : Capability) → HoldsCap W i p c → c.mark ≡ None → Contains c.children k → IsLive W k ⊎ IsStirring W
-  pub parents : (i : ℕ) (p k : KeyName) (c : Capability) → HoldsCap W i k c → Contains (grants J) (p, k) → c.parent ≡ Some p
-  pub linked : (p k : KeyName) → Contains (grants J) (p, k) → IsLive W k → IsHeld W p
-  -- what is cut off is marked as long as it is held, or its kernel will be told; what is in the forest is live
-  pub cut : (i : ℕ) (k : KeyName) (c : Capability) → HoldsCap W i k c → IsCutOff J k → ((j : ℕ) × (c.mark ≡ Some j)) ⊎ IsStirring W
-  pub kept : nothing_lost T J
 
 -- what an idle world is like
 pub record IsAtRest (T : Setup) (J : List Entry) (W : World) : Type 0 where

@@ -89,9 +89,9 @@ keepers_alone T J = (i n : ℕ) (x : JobRow) → job (side (world_after T J) i) 
 abbrev pub keepers_waited_for : Setup → List Entry → Type 0
 keepers_waited_for T J = (i n : ℕ) (x : JobRow) → job (side (world_after T J) i) n ≡ Some x → x.keep ≡ true → parked (side (world_after T J) i) x.root.vpe ≡ Some (RevokeWait n)
 
--- no more tokens of a job are out than it counts
+-- as many tokens of a job are out as it counts
 abbrev pub tokens_counted : Setup → List Entry → Type 0
-tokens_counted T J = (i n : ℕ) → of_world (naming i n) (world_after T J) ≤ of_world (counting i n) (world_after T J)
+tokens_counted T J = (i n : ℕ) → of_world (naming i n) (world_after T J) ≡ of_world (counting i n) (world_after T J)
 
 -- A call of v that is not answered cuts off k, by its own key r: k itself for a revoke, the parent of k for a clear.
 pub record IsWaiting (T : Setup) (J : List Entry) (v : ℕ) (k r : KeyName) : Type 0 where

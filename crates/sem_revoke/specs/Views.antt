@@ -87,6 +87,10 @@ module _ (owner : KeyName → ℕ) (G : KeyName → KeyName → Type 0) (M : Key
   abbrev pub Caught : Hand → View → ℕ → ℕ → KeyName → Type 0
   Caught h V a b k = ((owner k ≡ a) × Marked V k b) ⊎ ((1 ≤ V.asked k a b) ⊎ h.cares a b k)
 
+  -- a job asks once for a key, and has not asked yet for what the row answers for
+  abbrev pub IsSingle : Hand → View → Type 0
+  IsSingle h V = ((k : KeyName) (a b : ℕ) → V.asked k a b ≤ 1) × ((k : KeyName) (a b : ℕ) → h.cares a b k → V.asked k a b ≡ 0)
+
   -- what is so of every world by the layers before this one
   pub record IsFit (V : View) : Type 0 where
     pub links : (p k : KeyName) → Leads V p k → G p k
@@ -110,7 +114,9 @@ module _ (owner : KeyName → ℕ) (G : KeyName → KeyName → Type 0) (M : Key
     -- no job waits for one that keeps its root
     pub alone : (a n : ℕ) (x : JobRow) → V.job a n ≡ Some x → IsAlone x
     -- a job counts its tokens
-    pub counted : (a b : ℕ) → V.tokens a b + h.owed a b ≤ V.count a b
+    pub counted : (a b : ℕ) → V.tokens a b + h.owed a b ≡ V.count a b
+    -- a job asks once for a key
+    pub single : IsSingle h V
     -- what a notice says is so
     pub noticed : (k : KeyName) → 1 ≤ V.notices k → Gone V k × M k
     pub placed : V.misplaced ≡ 0

@@ -1,12 +1,13 @@
-//! The law of safety, as the contract of a function that does nothing.
+//! The laws of safety and of idle worlds, as contracts of functions that do nothing.
 
 ghost use Rattle.std.specs.Prelude.{◌≡◌, List, [], ◌∷◌, Contains};
 ghost use Rattle.sem_msg.specs.declared.entry.Entry.{Entry};
 ghost use Rattle.sem_msg.specs.Setup.{Setup, IsSetup};
 ghost use Rattle.sem_machine.specs.Schedules.{IsSchedule, world_after};
 ghost use Rattle.sem_machine.specs.Journals.{line, answered, forest};
-ghost use Rattle.sem_machine.specs.Living.{IsOnItsWay, Binds};
+ghost use Rattle.sem_machine.specs.Living.{IsOnItsWay, Binds, IsIdle};
 ghost use Rattle.sem_machine.specs.Safety.{IsInUse, IsSafe};
+ghost use Rattle.sem_revoke.specs.Resting.{IsAtRest};
 ghost use Rattle.sem_revoke.specs.Sample.{sample, memory_key, derived_key, obtained_key, to_grant, to_bind, to_revoke, to_clear, sample_journal};
 
 /// Every schedule of every setup is safe, and so is every prefix of it, which is a schedule too: the six sentences hold after it.
@@ -32,4 +33,10 @@ pub fn safe_speaks_of_schedules()
     ensures cleared { Contains (answered (sample_journal to_clear)) (obtained_key 1) }
     ensures gone_too { ¬ IsInUse (world_after sample (sample_journal to_clear)) (obtained_key 1) }
     ensures kept { Contains (forest sample (sample_journal to_clear)) memory_key }
+{}
+
+/// An idle world after a schedule, of every setup, is at rest: no call is parked, no job is open, nothing is marked, no delegation
+/// is pending, each link leads to a held capability that has the holder of the link as its parent, and the held keys are the forest.
+pub fn idle()
+    ensures rest { (T : Setup) → IsSetup T → (J : List Entry) → IsSchedule T J → IsIdle (world_after T J) → IsAtRest T J (world_after T J) }
 {}

@@ -1,10 +1,14 @@
-ghost use Rattle.std.specs.Prelude.{List};
+ghost use Rattle.std.specs.Prelude.{◌≡◌, ℕ, ◌+◌, true, List, Some, None};
 ghost use Rattle.sem_key.specs.KeyName.{KeyName};
 ghost use Rattle.sem_key.specs.declared.object.Object.{Object};
 ghost use Rattle.sem_msg.specs.declared.entry.Entry.{Entry};
 ghost use Rattle.sem_msg.specs.Setup.{Setup, IsSetup};
 ghost use Rattle.sem_machine.specs.Schedules.{IsSchedule, world_after};
-ghost use Rattle.sem_machine.specs.Living.{IsLive, HasObject};
+ghost use Rattle.sem_machine.specs.Living.{IsLive, HasObject, reply_count};
+ghost use Rattle.sem_machine.specs.Machine.{side};
+ghost use Rattle.sem_machine.specs.Sides.{row, parked, is_alive};
+ghost use Rattle.sem_msg.specs.Lookups.{kernel_of};
+ghost use Rattle.sem_msg.specs.declared.state.Parked.{Parked};
 ghost use Rattle.sem_revoke.specs.Revocation.{held_at_home, linked, ancestors_held, orphans_dead, unlinked_dead, asked_below_marks, capability_first, marks_spread, marks_of_jobs, roots_marked, keepers_alone, keepers_waited_for, tokens_counted, waited_below_marks, marked_below_roots, revokers_wait, held_unless_doomed, ready_unless_doomed, given_unless_doomed, granted_unless_doomed, marks_doom, requests_doom, forest_spared, born_live, roots_last, near_keys_last, asks_awaited, requests_awaited, flights_go_on, dead_have_ended};
 ghost use Rattle.sem_revoke.specs.Delegations.{one_token_each, tokens_pend};
 ghost use Rattle.sem_machine.specs.Safety.{narrowing, nothing_lost, revoked_is_gone};
@@ -23,8 +27,8 @@ pub fn revocation_follows_links()
 {}
 
 /// After every schedule of every setup marks spread: a live child of a marked capability is marked by the same job, or asked for
-/// by it. A mark is of an open job, and the root of an open job is marked by it; no job waits for one that keeps its root. No more
-/// tokens of a job are out than it counts. The root of a job for which another one waits is the child of what that one has marked,
+/// by it. A mark is of an open job, and the root of an open job is marked by it; no job waits for one that keeps its root. As many
+/// tokens of a job are out as it counts. The root of a job for which another one waits is the child of what that one has marked,
 /// and so is all that a job has marked but its root.
 pub fn jobs_answer_for_marks()
     ensures spread { (T : Setup) → IsSetup T → (J : List Entry) → IsSchedule T J → marks_spread T J }
@@ -96,4 +100,11 @@ pub fn delegations_have_one_token()
 /// of which no ancestor was cut off or is of a VPE that has ended.
 pub fn nothing_is_lost()
     ensures kept { (T : Setup) → IsSetup T → (J : List Entry) → IsSchedule T J → nothing_lost T J }
+{}
+
+/// A VPE that is alive after a schedule has as many replies as it made calls, and one less while a call of it is parked: of every
+/// setup.
+pub fn living_vpes_have_their_replies()
+    ensures free { (T : Setup) → IsSetup T → (J : List Entry) → IsSchedule T J → (v : ℕ) → is_alive (side (world_after T J) (kernel_of T v)) v ≡ true → parked (side (world_after T J) (kernel_of T v)) v ≡ None → reply_count J v ≡ (row (side (world_after T J) (kernel_of T v)) v).next_call }
+    ensures parked { (T : Setup) → IsSetup T → (J : List Entry) → IsSchedule T J → (v : ℕ) (p : Parked) → is_alive (side (world_after T J) (kernel_of T v)) v ≡ true → parked (side (world_after T J) (kernel_of T v)) v ≡ Some p → reply_count J v + 1 ≡ (row (side (world_after T J) (kernel_of T v)) v).next_call }
 {}

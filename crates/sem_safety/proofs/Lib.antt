@@ -35,3 +35,5 @@ pub mod AskRows
 pub mod AskWorlds
 pub mod FewAsks
 pub mod Walking
+pub mod EndedVpes
+pub mod Pushing

@@ -11,20 +11,17 @@ use Rattle.sem_msg.specs.declared.event.Event.{Event}
 use Rattle.sem_msg.specs.Calls.{IsValidCall, IsWord}
 use Rattle.sem_msg.specs.declared.setup.VpeDecl.{VpeDecl}
 use Rattle.sem_msg.specs.Setup.{Setup, IsSetup, IsRoot, IsVpeDecl, services_from, IsDeclared}
-use Rattle.sem_machine.specs.Machine.{World, start, local_entry, is_enabled, after, entry_of}
+use Rattle.sem_machine.specs.Machine.{World, start, is_enabled, after, entry_of}
 use Rattle.sem_machine.specs.Schedules.{IsRun, IsSchedule}
+use Rattle.sem_safety.proofs.Pushing.{entry_of-event}
 use Rattle.sem_safety.specs.Walks.{walked, all_enabled, journal_of, the_root, first_vpe, second_vpe, pair}
-
-event-of : (T : Setup) (W : World) (e : Event) → (entry_of T W e).event ≡ e
-unfolding entry_of local_entry
-event-of T W e = refl
 
 walked-runs : (T : Setup) (W : World) (es : List Event) → all_enabled T W es ≡ true → IsRun T W (walked T W es)
 unfolding IsRun walked all_enabled
 walked-runs T W [] all = tt
 walked-runs T W (e ∷ es) all =
     let parts = and_parts (is_enabled T W e) (all_enabled T (after T W e) es) all in
-    let same : (entry_of T W e).event ≡ e = event-of T W e in
+    let same : (entry_of T W e).event ≡ e = entry_of-event T W e in
     (subst (λ f. is_enabled T W f ≡ true) (sym same) parts.0, ap (entry_of T W) (sym same), subst (λ f. IsRun T (after T W f) (walked T (after T W e) es)) (sym same) (walked-runs T (after T W e) es parts.1))
 
 pub journal-schedule : (T : Setup) (es : List Event) → all_enabled T (start T) es ≡ true → IsSchedule T (journal_of T es)
