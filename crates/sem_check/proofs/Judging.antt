@@ -1,19 +1,17 @@
 -- What follows a schedule, if anything does.
-use Rattle.std.proofs.Common.{◌≡◌, ℕ, ◌<◌, true, cond, List, [], ◌∷◌, slice_get, Option, Some, None, refl, sym, ◌∙◌, ap}
+use Rattle.std.proofs.Common.{◌≡◌, true, cond, List, [], ◌∷◌, slice_get, Option, Some, None, refl, sym, ◌∙◌, ap}
 use Rattle.std.specs.Option.{option_map}
 use Rattle.std.proofs.lemmas.Option.{slice_get_within, get_or_from_slice_get, none-some}
 use Rattle.sem_msg.specs.declared.event.Event.{Event}
 use Rattle.sem_msg.specs.declared.entry.Entry.{Entry}
-use Rattle.sem_msg.specs.Setup.{Setup}
+use Rattle.sem_msg.specs.Setup.{Setup, IsSetup}
 use Rattle.sem_machine.specs.Machine.{World, enabled, is_enabled, entry_of}
 use Rattle.sem_machine.specs.Schedules.{world_after}
 use Rattle.sem_machine.specs.Living.{IsQuiet, IsComplete}
 use Rattle.sem_machine.proofs.EnabledList.{enabled-exact}
 use Rattle.sem_kernel.specs.Worlds.{WorldValue}
-use Rattle.sem_serial.specs.Ending.{IsUnanswered}
-use Rattle.sem_serial.proofs.Judged.{is-complete}
+use Rattle.sem_revoke.proofs.Completing.{quiet-complete}
 use Rattle.sem_check.specs.Replays.{entry_made, next_made, IsWorldAfter}
-use Rattle.sem_check.specs.Verdicts.{WaitsForever}
 
 -- the first of the enabled events is enabled
 first-enabled : (T : Setup) (W : World) (e : Event) → slice_get (enabled T W) 0 ≡ Some e → is_enabled T W e ≡ true
@@ -38,11 +36,5 @@ module _ (T : Setup) (J : List Entry) (w : WorldValue) (stands : IsWorldAfter T 
   quiet : IsQuiet T (world_after T J)
   quiet = none-next (entry_of T (world_after T J)) (enabled T (world_after T J)) (none ∙ ap (λ (v : WorldValue). next_made v.setup v.world) stands.world)
 
-  pub waits : (v : ℕ) → IsUnanswered T J v × ((u : ℕ) → u < v → ¬ IsUnanswered T J u) → WaitsForever T J v
-  waits v least = record {
-    schedule = stands.schedule;
-    stuck = record { quiet = quiet; unanswered = least.0; least = least.1 };
-  }
-
-  pub completes : ((v : ℕ) → ¬ IsUnanswered T J v) → IsComplete T J
-  completes answered = is-complete T J stands.schedule quiet answered
+  pub completes : IsSetup T → IsComplete T J
+  completes valid = quiet-complete T valid J stands.schedule quiet

@@ -1,16 +1,15 @@
 -- What is found wrong with a journal excludes all else.
-use Rattle.std.proofs.Common.{◌≡◌, ℕ, ◌≤◌, List, take, slice_get, Option, sym, ◌∙◌, ap, arith, inl, inr}
+use Rattle.std.proofs.Common.{◌≡◌, ℕ, ◌≤◌, List, take, slice_get, Option, sym, ◌∙◌, ap, arith}
 use Rattle.std.specs.Option.{option_map}
-use Rattle.std.proofs.lemmas.Bool.{cases_lt}
 use Rattle.std.proofs.lemmas.Option.{slice_get_within, none-some, same_Some}
 use Rattle.sem_msg.specs.declared.event.Event.{Event}
 use Rattle.sem_msg.specs.declared.entry.Entry.{Entry}
 use Rattle.sem_msg.specs.Setup.{Setup}
 use Rattle.sem_machine.specs.Machine.{entry_of}
 use Rattle.sem_machine.specs.Schedules.{world_after}
-use Rattle.sem_machine.specs.Living.{IsQuiet, IsComplete}
+use Rattle.sem_machine.specs.Living.{IsQuiet}
 use Rattle.sem_check.specs.Replays.{entry_made, DiffersAt}
-use Rattle.sem_check.specs.Verdicts.{GoesOn, WaitsForever}
+use Rattle.sem_check.specs.Verdicts.{GoesOn}
 use Rattle.sem_check.proofs.Longest.{differs-longest}
 
 -- no entry differs before the first that does
@@ -35,16 +34,3 @@ not-quiet T J n x goes quiet = none-some x (sym (ap (λ (es : List Event). optio
 
 pub one-next : (T : Setup) (J : List Entry) (m n : ℕ) (x y : Entry) → GoesOn T J m x → GoesOn T J n y → (m ≡ n) × (x ≡ y)
 one-next T J m n x y first second = (first.counted ∙ sym second.counted, same_Some x y (sym first.next_entry ∙ second.next_entry))
-
-pub not-complete : (T : Setup) (J : List Entry) (v : ℕ) → WaitsForever T J v → IsComplete T J → ⊥
-not-complete T J v waits complete = waits.stuck.unanswered.no_reply (complete.all_answered v waits.stuck.unanswered.alive)
-
-pub one-waiting : (T : Setup) (J : List Entry) (v w : ℕ) → WaitsForever T J v → WaitsForever T J w → v ≡ w
-one-waiting T J v w first second =
-    elim (cases_lt v w) [
-      | inl less ↦ absurd (second.stuck.least v less first.stuck.unanswered)
-      | inr not_less ↦ elim (cases_lt w v) [
-        | inl more ↦ absurd (first.stuck.least w more second.stuck.unanswered)
-        | inr not_more ↦ omega arith
-      ]
-    ]

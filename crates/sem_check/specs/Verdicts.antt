@@ -3,7 +3,6 @@ use Rattle.std.specs.Prelude.{◌≡◌, ℕ, List, length, Some}
 use Rattle.sem_msg.specs.declared.entry.Entry.{Entry}
 use Rattle.sem_msg.specs.Setup.{Setup}
 use Rattle.sem_machine.specs.Schedules.{IsSchedule, world_after}
-use Rattle.sem_serial.specs.Ending.{IsStuck}
 use Rattle.sem_check.specs.Replays.{next_made}
 
 -- the journal is a schedule of n entries, an event is enabled after it, and the first of the enabled events makes that entry
@@ -11,8 +10,3 @@ pub record GoesOn (T : Setup) (J : List Entry) (n : ℕ) (next : Entry) : Type 0
   pub schedule : IsSchedule T J
   pub counted : n ≡ length J
   pub next_entry : next_made T (world_after T J) ≡ Some next
-
--- the journal is a schedule, and the VPE waits after it for a reply that does not come
-pub record WaitsForever (T : Setup) (J : List Entry) (v : ℕ) : Type 0 where
-  pub schedule : IsSchedule T J
-  pub stuck : IsStuck T J v

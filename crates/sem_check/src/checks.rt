@@ -1,10 +1,10 @@
-ghost use Rattle.std.specs.Prelude.{◌≡◌, ℕ, Option, None, IfOk, IsErrOf};
+ghost use Rattle.std.specs.Prelude.{◌≡◌, ◌≤◌, ◌+◌, ◌*◌, ℕ, length, Option, None, OnOk, IfOk, IsErrOf};
+ghost use Rattle.sem_msg.specs.Setup.{call_count, kill_count};
 ghost use Rattle.sem_msg.specs.declared.entry.Entry.{Entry as EntryData};
 ghost use Rattle.sem_machine.specs.Living.{IsComplete};
 ghost use Rattle.sem_check.specs.Replays.{IsWorldAfter, DiffersAt, next_made, world_value};
-ghost use Rattle.sem_check.specs.Verdicts.{GoesOn, WaitsForever};
+ghost use Rattle.sem_check.specs.Verdicts.{GoesOn};
 
-use crate::answers::first_unanswered;
 use crate::entries::make_entry;
 use crate::faults::CheckError;
 use crate::follows::follow;
@@ -14,15 +14,17 @@ use sem_msg::{Entry, Journal, Setup};
 use std::alloc::Global;
 
 /// Whether the journal is a complete schedule of the setup: then the world after it, else the first
-/// thing that is wrong with it.
+/// thing that is wrong with it. A schedule is complete where no event is enabled after it.
 pub fn check(alloc: Global, setup: &Setup, journal: &Journal) -> Result<World, CheckError>
     ensures complete { IfOk result (λ world. IsComplete setup.now journal.now.entries) }
     ensures world { IfOk result (λ world. world ≡ world_value setup.now journal.now.entries) }
     ensures differs { (n : ℕ) (entered : EntryData) (replayed : Option EntryData) → IsErrOf result (CheckError.Differs n entered replayed)
         → DiffersAt setup.now journal.now.entries n entered replayed }
     ensures incomplete { (n : ℕ) (next : EntryData) → IsErrOf result (CheckError.Incomplete n next) → GoesOn setup.now journal.now.entries n next }
-    ensures stuck { (v : ℕ) → IsErrOf result (CheckError.Stuck v) → WaitsForever setup.now journal.now.entries v }
+    ensures few { OnOk result (length journal.now.entries ≤ 21 * call_count setup.now + kill_count setup.now) }
 {
+    // So that the proof knows what a setup keeps.
+    let _ = &setup.vpes;
     let mut world = World::boot(alloc, setup)?;
     let entries = journal.as_slice();
     match follow(&mut world, entries)? {
@@ -47,21 +49,16 @@ fn judge(
     ensures world { IfOk result (λ last. last ≡ world_value setup.now entries.now) }
     ensures differs { (n : ℕ) (entered : EntryData) (replayed : Option EntryData) → ¬ IsErrOf result (CheckError.Differs n entered replayed) }
     ensures incomplete { (n : ℕ) (next : EntryData) → IsErrOf result (CheckError.Incomplete n next) → GoesOn setup.now entries.now n next }
-    ensures stuck { (v : ℕ) → IsErrOf result (CheckError.Stuck v) → WaitsForever setup.now entries.now v }
 {
+    // So that the proof knows what a setup keeps.
+    let _ = &setup.vpes;
     match next_entry(alloc, &mut world) {
-        Ok(None) => {}
-        Ok(Some(next)) => {
-            return Err(CheckError::Incomplete {
-                entry: entries.len() as u64,
-                next,
-            });
-        }
-        Err(OutOfMemory) => return Err(CheckError::Memory),
-    }
-    match first_unanswered(setup, &world, entries) {
-        Some(vpe) => Err(CheckError::Stuck { vpe }),
-        None => Ok(world),
+        Ok(None) => Ok(world),
+        Ok(Some(next)) => Err(CheckError::Incomplete {
+            entry: entries.len() as u64,
+            next,
+        }),
+        Err(OutOfMemory) => Err(CheckError::Memory),
     }
 }
 

@@ -23,12 +23,6 @@ pub enum CheckError {
         entry: u64,
         next: Entry,
     },
-    /// No event is enabled, and a call of this VPE, which is alive, has no reply; it is the least
-    /// such VPE.
-    #[error("a call of VPE {vpe} has no reply")]
-    Stuck {
-        vpe: u16,
-    },
     #[error("out of memory")]
     Memory,
 }

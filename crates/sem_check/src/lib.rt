@@ -2,7 +2,6 @@
 //! schedule.
 #![tactic(auto)]
 
-mod answers;
 mod checks;
 mod entries;
 mod faults;

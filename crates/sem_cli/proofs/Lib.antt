@@ -1,1 +1,3 @@
 pub mod OtherWords
+pub mod Loads
+pub mod Appends

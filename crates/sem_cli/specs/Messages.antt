@@ -12,13 +12,9 @@ usage_line = codes "usage: semper run SEED | threads SEED | check | gen SEED VPE
 abbrev pub not_built_line : List ℕ
 not_built_line = codes "not built" ++ 10 ∷ []
 
--- the first VPE that waits
-abbrev pub stuck_line : ℕ → List ℕ
-stuck_line v = line (codes "stuck:" ∷ codes "vpe" ∷ decimal v ∷ [])
-
--- how many entries there are
-abbrev pub spent_line : ℕ → List ℕ
-spent_line n = line (codes "spent:" ∷ codes "entries" ∷ decimal n ∷ [])
+-- the report is that of a complete schedule
+abbrev pub ok_line : List ℕ
+ok_line = codes "ok" ++ 10 ∷ []
 
 -- the name of a cause
 abbrev pub cause_name : Cause → List ℕ

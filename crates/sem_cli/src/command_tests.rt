@@ -1,4 +1,5 @@
-use crate::{Command, Status, command, not_built, push_spent, push_stuck, usage};
+use crate::{Command, Status, command, not_built, ok, push_differing, push_going_on, usage};
+use sem_msg::{Act, Detail, Entry, Event, Reply};
 use std::process::Abort;
 use std::test::Fail;
 
@@ -99,8 +100,7 @@ fn each_status_has_its_number(rt: HostRuntime) {
         (Status::ReadFault, 3),
         (Status::WriteFault, 4),
         (Status::Memory, 5),
-        (Status::Stuck, 6),
-        (Status::Spent, 7),
+        (Status::ReportRefused, 9),
         (Status::NotBuilt, 10),
     ] {
         assert_eq!(rt; status.number(), want, "of {status:?}");
@@ -110,13 +110,35 @@ fn each_status_has_its_number(rt: HostRuntime) {
 #[test]
 fn messages_are_whole_lines(rt: HostRuntime) -> Result<(), Fail> {
     assert_eq!(rt; not_built(), b"not built\n".as_slice());
+    assert_eq!(rt; ok(), b"ok\n".as_slice());
     let forms = "run SEED | threads SEED | check | gen SEED VPES CALLS | soak SEED VPES CALLS";
     let line = format!(in rt.alloc(); "usage: semper {forms}\n")?;
     assert_eq!(rt; usage(), line.as_bytes());
+    Ok(())
+}
+
+// The entry of a call that goes on and is answered with a code.
+fn resumed(vpe: u16, code: u8) -> Entry {
+    Entry {
+        event: Event {
+            kernel: 0,
+            act: Act::Resume { vpe },
+        },
+        detail: Detail::Nothing,
+        grant: None,
+        cut: None,
+        reply: Some(Reply { vpe, code }),
+    }
+}
+
+#[test]
+fn a_refused_report_is_told_by_its_entry(rt: HostRuntime) -> Result<(), Fail> {
     let mut out = Vec::new(rt.alloc());
-    push_stuck(&mut out, 63)?;
-    push_spent(&mut out, 1000000)?;
-    let want = "stuck: vpe 63\nspent: entries 1000000\n";
+    push_differing(&mut out, 2, &resumed(0, 3), &Some(resumed(0, 0)))?;
+    push_differing(&mut out, 0, &resumed(1, 0), &None)?;
+    push_going_on(&mut out, 7, &resumed(5, 15))?;
+    let want =
+        "report refused: entry 2: entered 0 resume 0 reply 0 3; replayed 0 resume 0 reply 0 0\nreport refused: entry 0: entered 0 resume 1 reply 1 0; replayed not enabled\nreport refused: entry 7: entered end; replayed 0 resume 5 reply 5 15\n";
     assert_eq!(rt; out.as_slice(), want.as_bytes());
     Ok(())
 }

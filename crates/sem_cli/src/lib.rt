@@ -7,9 +7,11 @@ mod command_tests;
 mod commands;
 mod forms;
 mod messages;
+mod refusals;
 mod statuses;
 
 pub use commands::command;
 pub use forms::Command;
-pub use messages::{not_built, push_refused, push_spent, push_stuck, usage};
+pub use messages::{not_built, ok, push_refused, usage};
+pub use refusals::{push_bad_line, push_differing, push_going_on};
 pub use statuses::Status;

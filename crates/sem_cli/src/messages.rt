@@ -1,6 +1,5 @@
-ghost use Rattle.std.specs.Prelude.{◌≡◌, ◌++◌, ◌∷◌, [], decimal, OnOk};
-ghost use Rattle.sem_text.specs.Lines.{line};
-ghost use Rattle.sem_cli.specs.Messages.{usage_line, not_built_line, stuck_line, spent_line, cause_name as cause_name_lem, refused_line};
+ghost use Rattle.std.specs.Prelude.{◌≡◌, ◌++◌, OnOk};
+ghost use Rattle.sem_cli.specs.Messages.{usage_line, not_built_line, ok_line, cause_name as cause_name_lem, refused_line};
 
 use sem_key::OutOfMemory;
 use sem_text::push_number;
@@ -20,37 +19,11 @@ pub fn not_built() -> &'static [u8]
     b"not built\n"
 }
 
-/// Appends the line that tells which VPE waits. After want of memory it may have appended a part.
-pub fn push_stuck(out: &mut Vec<u8>, vpe: u16) -> Result<(), OutOfMemory>
-    ensures ok { OnOk result (out.new.items ≡ out.old.items ++ stuck_line vpe) }
+/// The line that tells that a report is that of a complete schedule.
+pub fn ok() -> &'static [u8]
+    ensures { result.now ≡ ok_line }
 {
-    push_counted(out, b"stuck:", b"vpe", u64::from(vpe))
-}
-
-/// Appends the line that tells how many entries there are. After want of memory it may have appended
-/// a part.
-pub fn push_spent(out: &mut Vec<u8>, entries: u64) -> Result<(), OutOfMemory>
-    ensures ok { OnOk result (out.new.items ≡ out.old.items ++ spent_line entries) }
-{
-    push_counted(out, b"spent:", b"entries", entries)
-}
-
-// Appends the line of two words and a number.
-fn push_counted(
-    out: &mut Vec<u8>,
-    first: &[u8],
-    second: &[u8],
-    count: u64,
-) -> Result<(), OutOfMemory>
-    ensures ok { OnOk result (out.new.items ≡ out.old.items ++ line (first.now ∷ second.now ∷ decimal count ∷ [])) }
-{
-    out.extend_from_slice(first)?;
-    out.push(b' ')?;
-    out.extend_from_slice(second)?;
-    out.push(b' ')?;
-    push_number(out, count)?;
-    out.push(b'\n')?;
-    Ok(())
+    b"ok\n"
 }
 
 /// Appends the line that tells which line of a trace is bad, and why. After want of memory it may
@@ -66,8 +39,8 @@ pub fn push_refused(out: &mut Vec<u8>, fault: &TraceFault) -> Result<(), OutOfMe
     Ok(())
 }
 
-// The name of a cause.
-fn cause_name(cause: Cause) -> &'static [u8]
+/// The name of a cause.
+pub(crate) fn cause_name(cause: Cause) -> &'static [u8]
     ensures { result.now ≡ cause_name_lem cause }
 {
     match cause {

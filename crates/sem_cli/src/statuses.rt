@@ -16,10 +16,8 @@ pub enum Status {
     WriteFault,
     /// Memory was refused.
     Memory,
-    /// The world is quiet, and a living VPE has an unanswered call.
-    Stuck,
-    /// The run has as many entries as it may have, and an event is enabled.
-    Spent,
+    /// The input is not the report of a complete schedule.
+    ReportRefused,
     /// The command is not built yet.
     NotBuilt,
 }
@@ -36,8 +34,7 @@ impl Status {
             Status::ReadFault => 3,
             Status::WriteFault => 4,
             Status::Memory => 5,
-            Status::Stuck => 6,
-            Status::Spent => 7,
+            Status::ReportRefused => 9,
             Status::NotBuilt => 10,
         }
     }

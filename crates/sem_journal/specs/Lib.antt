@@ -1,4 +1,5 @@
 pub mod EntryText
+pub mod SpacedWords
 pub mod ReportText
 pub mod EntryForms
 pub mod EntryRanges

@@ -4,6 +4,7 @@ ghost use Rattle.std.specs.Prelude.{◌≡◌, [], ◌∷◌, ◌++◌, decimal,
 ghost use Rattle.sem_text.specs.Lines.{behind_blanks, line};
 ghost use Rattle.sem_trace.specs.Words.{key_word, object_words};
 ghost use Rattle.sem_journal.specs.EntryText.{target_words, yes_or_no, message_words, act_words, consent_word, detail_words, grant_words, cut_words, reply_words, entry_words, entry_line};
+ghost use Rattle.sem_journal.specs.SpacedWords.{spaced};
 
 use sem_key::{Key, Object, OutOfMemory};
 use sem_msg::{Act, Consent, Detail, Entry, Message, Reply, Target};
@@ -225,16 +226,23 @@ pub fn push_reply(out: &mut Vec<u8>, reply: &Option<Reply>) -> Result<(), OutOfM
     }
 }
 
-/// Appends the line of the entry.
-pub fn push_entry(out: &mut Vec<u8>, entry: &Entry) -> Result<(), OutOfMemory>
-    ensures ok { OnOk result (out.new.items ≡ out.old.items ++ line (entry_words entry.now)) }
+/// Appends the words of the entry, parted by blanks.
+pub fn push_entry_words(out: &mut Vec<u8>, entry: &Entry) -> Result<(), OutOfMemory>
+    ensures ok { OnOk result (out.new.items ≡ out.old.items ++ spaced (entry_words entry.now)) }
 {
     push_number(out, u64::from(entry.event.kernel))?;
     push_act(out, &entry.event.act)?;
     push_detail(out, &entry.detail)?;
     push_grant(out, &entry.grant)?;
     push_cut(out, &entry.cut)?;
-    push_reply(out, &entry.reply)?;
+    push_reply(out, &entry.reply)
+}
+
+/// Appends the line of the entry.
+pub fn push_entry(out: &mut Vec<u8>, entry: &Entry) -> Result<(), OutOfMemory>
+    ensures ok { OnOk result (out.new.items ≡ out.old.items ++ line (entry_words entry.now)) }
+{
+    push_entry_words(out, entry)?;
     Ok(out.push(b'\n')?)
 }
 

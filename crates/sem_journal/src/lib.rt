@@ -12,8 +12,8 @@ mod shown;
 mod tests;
 
 pub use entry::{
-    print_entry, push_act, push_consent, push_cut, push_detail, push_entry, push_grant,
-    push_message, push_reply, push_target,
+    print_entry, push_act, push_consent, push_cut, push_detail, push_entry, push_entry_words,
+    push_grant, push_message, push_reply, push_target,
 };
 pub use laws::{entries_are_read, entry_lines_are_short, one_entry};
 pub use read_entries::read_entry;

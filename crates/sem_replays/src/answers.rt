@@ -2,6 +2,7 @@
 
 use sem_kernel::{StepError, World};
 use sem_msg::{Act, Entry, Event, Journal, Setup};
+use sem_reader::read_trace;
 use sem_report::read_report;
 use sem_serial::{boot, drain, play};
 use std::alloc::Global;
@@ -114,4 +115,28 @@ fn plays_to(alloc: Global, setup: &Setup, entries: &[Entry]) -> Result<bool, Fai
     }
     let mut journal = Journal::new(alloc);
     Ok(play(alloc, setup, &events, &mut journal).is_ok() && journal.as_slice() == entries)
+}
+
+/// Whether the run of the trace ends by the words of each of so many seeds, after so many grants,
+/// with nothing held.
+pub fn ends_empty(alloc: Global, trace: &[u8], seeds: u64, grants: usize) -> bool {
+    match read_trace(alloc, trace) {
+        Ok(setup) => (0..seeds).all(|seed| drains_empty(alloc, &setup, seed, grants)),
+        Err(_) => false,
+    }
+}
+
+fn drains_empty(alloc: Global, setup: &Setup, seed: u64, grants: usize) -> bool {
+    match boot(alloc, setup, Journal::new(alloc)) {
+        Ok(mut start) => {
+            drain(alloc, setup, &mut start.0, &mut start.1, seed).is_ok()
+                && grants_in(start.1.journal().as_slice()) == grants
+                && start.0.iter().all(|kernel| kernel.capability_count() == 0)
+        }
+        Err(_) => false,
+    }
+}
+
+fn grants_in(entries: &[Entry]) -> usize {
+    entries.iter().filter(|entry| entry.grant.is_some()).count()
 }

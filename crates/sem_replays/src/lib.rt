@@ -4,6 +4,8 @@
 #[cfg(test)]
 mod answers;
 #[cfg(test)]
+mod many_seeds;
+#[cfg(test)]
 mod plays_a;
 #[cfg(test)]
 mod plays_b;

@@ -119,7 +119,7 @@ behind_fine T J made cut held fits =
     λ n. rw (forms_printed T.version T.kernels J made cut held fits.few_entries fits.few_held) (all n)
 
 -- the trace
-same_lines : (n : ℕ) (ls : List (List ℕ)) → first_difference n ls ls ≡ None
+pub same_lines : (n : ℕ) (ls : List (List ℕ)) → first_difference n ls ls ≡ None
 unfolding first_difference
 same_lines n [] = refl
 same_lines n (l ∷ ls) = rw ((bytes_eq-Decides l l).1 refl) (same_lines (n + 1) ls)

@@ -134,8 +134,8 @@ no_difference n (line ∷ lines) (other ∷ others) none =
       | inr differ ↦ absurd (none-some n (sym (rw differ at none)))
     ]
 
-pub same_text : (section printed : List ℕ) → None ≡ first_difference 2 (whole_lines section) (whole_lines printed) → section ≡ printed
-same_text section printed none = sym (whole-parts section) ∙ (ap (flat_map (λ (line : List ℕ). line)) (no_difference 2 (whole_lines section) (whole_lines printed) (sym none)) ∙ whole-parts printed)
+pub same_text : (n : ℕ) (section printed : List ℕ) → None ≡ first_difference n (whole_lines section) (whole_lines printed) → section ≡ printed
+same_text n section printed none = sym (whole-parts section) ∙ (ap (flat_map (λ (line : List ℕ). line)) (no_difference n (whole_lines section) (whole_lines printed) (sym none)) ∙ whole-parts printed)
 
 pub section_count : (section : List ℕ) (lines : List (List ℕ)) (number : ℕ) → whole_lines section ≡ lines → number ≡ length lines → number ≤ length section
 section_count section lines number is count = let same : length (whole_lines section) ≡ length lines = ap length is in omega (arith, whole-short section)

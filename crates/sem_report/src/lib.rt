@@ -15,5 +15,6 @@ mod tests;
 mod trace_head;
 
 pub use laws::{one_report, reports_are_read};
+pub use lines::first_difference;
 pub use report::print_report;
 pub use report_reader::read_report;

@@ -1,3 +1,5 @@
 pub mod ReadInput
+pub mod Asked
 pub mod SafeRuns
 pub mod Ending
+pub mod Judging

@@ -10,11 +10,16 @@ use Rattle.sem_msg.specs.Setup.{Setup}
 use Rattle.sem_machine.specs.Machine.{World, start, after, entry_of, enabled, is_enabled}
 use Rattle.sem_machine.specs.Schedules.{IsRun, IsSchedule}
 use Rattle.sem_machine.specs.Seeded.{drain, entry_limit, picked, generator_of, seeded}
+use Rattle.sem_bound.proofs.Spent.{limited}
 use Rattle.sem_revoke.proofs.Safe.{all-safe}
-use Rattle.sem_serial.proofs.Running.{entry_of-event, picked-enabled}
+use Rattle.sem_safety.proofs.Pushing.{entry_of-event}
+use Rattle.sem_serial.proofs.Running.{picked-enabled}
 use Rattle.sem_cli.specs.declared.statuses.Status.{Status}
-use Rattle.sem_cli.specs.declared.statuses.Status.TheVariants.{Done, Usage, TraceRefused, ReadFault, WriteFault, Memory, Stuck, Spent, NotBuilt}
-use Rattle.sem_run.specs.Ends.{Given, ReadsTrace, RunsSeeded, IsPartOfRun, IsSafeRun, IsOfRun, WouldEnd}
+use Rattle.sem_cli.specs.declared.statuses.Status.TheVariants.{Done, Usage, TraceRefused, ReadFault, WriteFault, Memory, ReportRefused, NotBuilt}
+use Rattle.sem_cli.specs.declared.forms.Command.TheVariants.{Run, Check, Generate}
+use Rattle.sem_run.specs.Inputs.{Given, ReadsTrace}
+use Rattle.sem_run.proofs.Asked.{is_run, not-both}
+use Rattle.sem_run.specs.Ends.{RunsSeeded, IsPartOfRun, IsSafeRun, IsOfRun, WouldEnd}
 
 -- what the words make is a run
 drain-run : (n : ℕ) (T : Setup) (W : World) (g : Lcg) → IsRun T W (drain n T W g)
@@ -39,6 +44,7 @@ module _ (g : Given) (J : List Entry) where
     trace = trace;
     schedule = runs;
     safe = all-safe T trace.valid J runs;
+    few = limited T trace.valid J runs;
   }
 
   seeded-safe : (T : Setup) (seed : ℕ) → RunsSeeded g J T seed → IsSafeRun g J
@@ -46,29 +52,31 @@ module _ (g : Given) (J : List Entry) where
 
   part-safe : IsPartOfRun g J → J ≢ [] → IsSafeRun g J
   part-safe (inl empty) some = absurd (some empty)
-  part-safe (inr (T, trace, runs)) some = schedule-safe T trace runs
+  part-safe (inr (T, seed, asked, trace, runs)) some = schedule-safe T trace runs
 
   module _ (text : List ℕ) where
     -- a run that would end so left a safe schedule
-    pub would-safe : (status : Status) → WouldEnd g J text status → IsOfRun status J → IsSafeRun g J
-    would-safe Done ends of_run = seeded-safe ends.setup ends.seed ends.run
+    pub would-safe : (status : Status) → WouldEnd g J text status → IsOfRun g status J → IsSafeRun g J
+    would-safe Done (inl ends) of_run = seeded-safe ends.setup ends.seed ends.run
+    would-safe Done (inr (inl ends)) of_run = absurd (not-both g Check (Run of_run.0) is_run ends.command of_run.1 refl refl)
+    would-safe Done (inr (inr ends)) of_run = absurd (not-both g (Generate ends.seed ends.vpes ends.calls) (Run of_run.0) is_run ends.command of_run.1 refl refl)
     would-safe Usage ends of_run = absurd of_run
     would-safe TraceRefused ends of_run = absurd of_run
     would-safe ReadFault ends of_run = absurd of_run
     would-safe WriteFault ends of_run = absurd ends
     would-safe Memory ends of_run = part-safe ends.part of_run
-    would-safe Stuck ends of_run = seeded-safe ends.setup ends.seed ends.run
-    would-safe Spent ends of_run = seeded-safe ends.setup ends.seed ends.run
+    would-safe ReportRefused ends of_run = absurd of_run
     would-safe NotBuilt ends of_run = absurd of_run
 
     -- and so did one whose text could not be written
     pub unwritten-safe : (status : Status) → WouldEnd g J text status → J ≢ [] → IsSafeRun g J
-    unwritten-safe Done ends some = would-safe Done ends tt
+    unwritten-safe Done (inl ends) some = seeded-safe ends.setup ends.seed ends.run
+    unwritten-safe Done (inr (inl ends)) some = absurd (some ends.no_journal)
+    unwritten-safe Done (inr (inr ends)) some = absurd (some ends.no_journal)
     unwritten-safe Usage ends some = absurd (some ends.no_journal)
     unwritten-safe TraceRefused ends some = absurd (some ends.no_journal)
     unwritten-safe ReadFault ends some = absurd (some ends.no_journal)
     unwritten-safe WriteFault ends some = absurd ends
     unwritten-safe Memory ends some = would-safe Memory ends some
-    unwritten-safe Stuck ends some = would-safe Stuck ends tt
-    unwritten-safe Spent ends some = would-safe Spent ends tt
+    unwritten-safe ReportRefused ends some = absurd (some ends.no_journal)
     unwritten-safe NotBuilt ends some = absurd (some ends.no_journal)

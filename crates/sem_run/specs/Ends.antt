@@ -1,77 +1,65 @@
 -- How the program ends: for each status why it comes, what text is written, and what the journal is ("The command line" in docs/texts.md).
-use Rattle.std.specs.Prelude.{◌≡◌, ◌≢◌, ℕ, ◌⊎◌, Bool, true, false, List, [], Option, Some, None, IfSome}
+use Rattle.std.specs.Prelude.{◌≤◌, ◌+◌, ◌*◌, length, ◌≡◌, ◌≢◌, ℕ, ◌⊎◌, true, false, List, [], Option, None, IfSome}
 use Rattle.sem_msg.specs.declared.entry.Entry.{Entry}
-use Rattle.sem_msg.specs.Setup.{Setup, IsSetup}
+use Rattle.sem_msg.specs.Setup.{Setup, IsSetup, call_count, kill_count}
 use Rattle.sem_io.specs.Count.{Rose}
-use Rattle.sem_io.specs.SourceBytes.{Takes}
 use Rattle.sem_io.specs.SinkBytes.{Appends, AppendsPrefix}
 use Rattle.sem_trace.specs.declared.fault.TraceFault.{TraceFault}
-use Rattle.sem_trace.specs.Refusal.{refusal}
-use Rattle.sem_trace.specs.Standing.{Stands}
+use Rattle.sem_trace.specs.TraceText.{canonical}
+use Rattle.sem_gen.specs.Generated.{generated}
 use Rattle.sem_machine.specs.Schedules.{IsSchedule}
 use Rattle.sem_machine.specs.Seeded.{seeded}
 use Rattle.sem_machine.specs.Living.{IsComplete}
 use Rattle.sem_machine.specs.Safety.{IsSafe}
-use Rattle.sem_serial.specs.Ending.{IsStuck, IsSpent}
 use Rattle.sem_audit.specs.HeldKeys.{report}
 use Rattle.sem_cli.specs.declared.forms.Command.{Command}
-use Rattle.sem_cli.specs.declared.forms.Command.TheVariants.{Run, Threads, Check, Generate, Soak}
+use Rattle.sem_cli.specs.declared.forms.Command.TheVariants.{Run, Check, Generate}
 use Rattle.sem_cli.specs.declared.statuses.Status.{Status}
-use Rattle.sem_cli.specs.declared.statuses.Status.TheVariants.{Done, Usage, TraceRefused, ReadFault, WriteFault, Memory, Stuck, Spent, NotBuilt}
+use Rattle.sem_cli.specs.declared.statuses.Status.TheVariants.{Done, Usage, TraceRefused, ReadFault, WriteFault, Memory, ReportRefused, NotBuilt}
 use Rattle.sem_cli.specs.Commands.{command_of}
-use Rattle.sem_cli.specs.Messages.{usage_line, not_built_line, refused_line, stuck_line, spent_line}
-
--- whether the command is built
-abbrev pub is_built : Command → Bool
-is_built (Run seed) = true
-is_built (Threads seed) = false
-is_built Check = false
-is_built (Generate seed vpes calls) = false
-is_built (Soak seed vpes calls) = false
-
--- What the program is given: its words, and its input before and after the call.
-pub record Given : Type 0 where
-  pub words : List (List ℕ)
-  -- the bytes that are left of the input before and after, where they are known
-  pub before : Option (List ℕ)
-  pub after : Option (List ℕ)
-  -- how many faults the input has had before and after
-  pub faults_before : ℕ
-  pub faults_after : ℕ
-
--- the words are a command that runs a trace by a seed
-abbrev pub AsksToRun : Given → ℕ → Type 0
-AsksToRun g seed = command_of g.words ≡ Some (Run seed)
-
--- The input was read to its end, and stands for a setup.
-pub record ReadsTrace (g : Given) (T : Setup) : Type 0 where
-  pub valid : IsSetup T
-  pub text : List ℕ
-  pub taken : Takes g.before g.after text
-  pub stands : Stands text T
-  pub to_end : IfSome g.after (λ rest. rest ≡ [])
-
--- the input is no trace, and this is its first fault
-abbrev pub IsRefused : Given → TraceFault → Type 0
-IsRefused g fault = IfSome g.before (λ bytes. refusal bytes ≡ Some fault)
-
--- the input has had no fault in the call
-abbrev pub IsQuietlyRead : Given → Type 0
-IsQuietlyRead g = g.faults_after ≡ g.faults_before
+use Rattle.sem_cli.specs.Messages.{usage_line, not_built_line, ok_line, refused_line}
+use Rattle.sem_run.specs.Inputs.{Given, Asks, ReadsAll, ReadsTrace, IsRefused, IsQuietlyRead, is_built, reads_input}
+use Rattle.sem_run.specs.Reports.{IsRefusedReport}
 
 -- the journal is the seeded one of the setup that was read
 pub record RunsSeeded (g : Given) (J : List Entry) (T : Setup) (seed : ℕ) : Type 0 where
-  pub command : AsksToRun g seed
+  pub command : Asks g (Run seed)
   pub trace : ReadsTrace g T
   pub seeded : J ≡ seeded T seed
 
--- Status 0: the journal is complete, and the text is its report.
-pub record EndsDone (g : Given) (J : List Entry) (text : List ℕ) : Type 0 where
+-- Status 0 of a run: the journal is complete, and the text is its report.
+pub record EndsReported (g : Given) (J : List Entry) (text : List ℕ) : Type 0 where
   pub setup : Setup
   pub seed : ℕ
   pub run : RunsSeeded g J setup seed
   pub complete : IsComplete setup J
   pub told : text ≡ report setup J
+
+-- Status 0 of a check: the input is the report of a complete schedule.
+pub record EndsAccepted (g : Given) (J : List Entry) (text : List ℕ) : Type 0 where
+  pub command : Asks g Check
+  pub setup : Setup
+  pub entries : List Entry
+  pub valid : IsSetup setup
+  pub complete : IsComplete setup entries
+  pub input : ReadsAll g (report setup entries)
+  pub no_journal : J ≡ []
+  pub told : text ≡ ok_line
+
+-- Status 0 of `gen`: the text is the canonical one of the generated setup; nothing was read.
+pub record EndsGenerated (g : Given) (J : List Entry) (text : List ℕ) : Type 0 where
+  pub seed : ℕ
+  pub vpes : ℕ
+  pub calls : ℕ
+  pub command : Asks g (Generate seed vpes calls)
+  pub unread : g.after ≡ g.before
+  pub quiet : IsQuietlyRead g
+  pub no_journal : J ≡ []
+  pub told : text ≡ canonical (generated seed vpes calls)
+
+-- Status 0: what the command asks for is done.
+abbrev pub EndsDone : Given → List Entry → List ℕ → Type 0
+EndsDone g J text = EndsReported g J text ⊎ (EndsAccepted g J text ⊎ EndsGenerated g J text)
 
 -- Status 1: the words are no command.
 pub record EndsUsage (g : Given) (J : List Entry) (text : List ℕ) : Type 0 where
@@ -79,10 +67,10 @@ pub record EndsUsage (g : Given) (J : List Entry) (text : List ℕ) : Type 0 whe
   pub no_journal : J ≡ []
   pub told : text ≡ usage_line
 
--- Status 2: a command that reads, and an input that is no trace.
+-- Status 2: a command that reads a trace, and an input that is none.
 pub record EndsRefused (g : Given) (J : List Entry) (text : List ℕ) : Type 0 where
   pub seed : ℕ
-  pub command : AsksToRun g seed
+  pub command : Asks g (Run seed)
   pub fault : TraceFault
   pub refused : IsRefused g fault
   pub quiet : IsQuietlyRead g
@@ -91,43 +79,35 @@ pub record EndsRefused (g : Given) (J : List Entry) (text : List ℕ) : Type 0 w
 
 -- Status 3: a command that reads, and a read that failed.
 pub record EndsReadFault (g : Given) (J : List Entry) (text : List ℕ) : Type 0 where
-  pub seed : ℕ
-  pub command : AsksToRun g seed
+  pub asked : Command
+  pub command : Asks g asked
+  pub reads : reads_input asked ≡ true
   pub fault : Rose g.faults_before g.faults_after
   pub no_journal : J ≡ []
   pub told : text ≡ []
 
--- the journal is empty, or a schedule of the setup that was read
+-- the journal is empty, or the command is a run and the journal a schedule of the setup that was read
 abbrev pub IsPartOfRun : Given → List Entry → Type 0
-IsPartOfRun g J = (J ≡ []) ⊎ ((T : Setup) × ReadsTrace g T × IsSchedule T J)
+IsPartOfRun g J = (J ≡ []) ⊎ ((T : Setup) × (seed : ℕ) × Asks g (Run seed) × ReadsTrace g T × IsSchedule T J)
 
 -- Status 5: memory was wanting.
 pub record EndsMemory (g : Given) (J : List Entry) (text : List ℕ) : Type 0 where
   pub part : IsPartOfRun g J
   pub told : text ≡ []
 
--- Status 6: the world after the seeded journal is quiet, and a living VPE, of which the least is told, has an unanswered call.
-pub record EndsStuck (g : Given) (J : List Entry) (text : List ℕ) : Type 0 where
-  pub setup : Setup
-  pub seed : ℕ
-  pub vpe : ℕ
-  pub run : RunsSeeded g J setup seed
-  pub stuck : IsStuck setup J vpe
-  pub told : text ≡ stuck_line vpe
-
--- Status 7: the seeded journal has as many entries as a run may have, and an event is enabled after it.
-pub record EndsSpent (g : Given) (J : List Entry) (text : List ℕ) : Type 0 where
-  pub setup : Setup
-  pub seed : ℕ
-  pub entries : ℕ
-  pub run : RunsSeeded g J setup seed
-  pub spent : IsSpent setup J entries
-  pub told : text ≡ spent_line entries
+-- Status 9: the input is not the report of a complete schedule, and the text tells why. It is told of some bytes, which are the input where that is known.
+pub record EndsReportRefused (g : Given) (J : List Entry) (text : List ℕ) : Type 0 where
+  pub command : Asks g Check
+  pub bytes : List ℕ
+  pub input : IfSome g.before (λ left. left ≡ bytes)
+  pub refused : IsRefusedReport bytes text
+  pub quiet : IsQuietlyRead g
+  pub no_journal : J ≡ []
 
 -- Status 10: a command that is not built.
 pub record EndsNotBuilt (g : Given) (J : List Entry) (text : List ℕ) : Type 0 where
   pub asked : Command
-  pub command : command_of g.words ≡ Some asked
+  pub command : Asks g asked
   pub not_built : is_built asked ≡ false
   pub quiet : IsQuietlyRead g
   pub no_journal : J ≡ []
@@ -141,8 +121,7 @@ WouldEnd g J text TraceRefused = EndsRefused g J text
 WouldEnd g J text ReadFault = EndsReadFault g J text
 WouldEnd g J text WriteFault = ⊥
 WouldEnd g J text Memory = EndsMemory g J text
-WouldEnd g J text Stuck = EndsStuck g J text
-WouldEnd g J text Spent = EndsSpent g J text
+WouldEnd g J text ReportRefused = EndsReportRefused g J text
 WouldEnd g J text NotBuilt = EndsNotBuilt g J text
 
 -- a text of which something holds was appended
@@ -155,21 +134,21 @@ WritesPrefix written written' P = (text : List ℕ) × P text × AppendsPrefix w
 
 -- Safety.
 
--- Safety: the journal is a schedule of the setup that was read, and after it the six sentences of safety hold.
+-- Safety: the journal is a schedule of the setup that was read, and after it the six sentences of safety hold. It has at most 21 entries for each call of the setup and one for each kill.
 pub record IsSafeRun (g : Given) (J : List Entry) : Type 0 where
   pub setup : Setup
   pub trace : ReadsTrace g setup
   pub schedule : IsSchedule setup J
   pub safe : IsSafe setup J
+  pub few : length J ≤ 21 * call_count setup + kill_count setup
 
--- whether a run left the journal: with statuses 0, 6 and 7 always, with 4 and 5 where it is not empty
-abbrev pub IsOfRun : Status → List Entry → Type 0
-IsOfRun Done J = Unit {0}
-IsOfRun Usage J = ⊥
-IsOfRun TraceRefused J = ⊥
-IsOfRun ReadFault J = ⊥
-IsOfRun WriteFault J = J ≢ []
-IsOfRun Memory J = J ≢ []
-IsOfRun Stuck J = Unit {0}
-IsOfRun Spent J = Unit {0}
-IsOfRun NotBuilt J = ⊥
+-- whether a run left the journal: with status 0 where the words are `run SEED`, with 4 and 5 where it is not empty
+abbrev pub IsOfRun : Given → Status → List Entry → Type 0
+IsOfRun g Done J = (seed : ℕ) × Asks g (Run seed)
+IsOfRun g Usage J = ⊥
+IsOfRun g TraceRefused J = ⊥
+IsOfRun g ReadFault J = ⊥
+IsOfRun g WriteFault J = J ≢ []
+IsOfRun g Memory J = J ≢ []
+IsOfRun g ReportRefused J = ⊥
+IsOfRun g NotBuilt J = ⊥

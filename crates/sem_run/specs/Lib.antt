@@ -1,2 +1,4 @@
+pub mod Inputs
+pub mod Reports
 pub mod Ends
 pub mod Readings

@@ -1,5 +1,5 @@
--- Words of private contracts: what was found of an input, and how a run of a setup ends.
-use Rattle.std.specs.Prelude.{◌≡◌, ℕ, List, length}
+-- Words of private contracts: what was found of an input, and how a run of a setup and a check end.
+use Rattle.std.specs.Prelude.{◌≡◌, ℕ, List, None, length}
 use Rattle.sem_msg.specs.declared.audit.Audit.{Audit}
 use Rattle.sem_msg.specs.declared.entry.Entry.{Entry}
 use Rattle.sem_msg.specs.Audits.{held_pairs}
@@ -8,14 +8,15 @@ use Rattle.sem_machine.specs.Schedules.{world_after}
 use Rattle.sem_machine.specs.Journals.{made, cut}
 use Rattle.sem_machine.specs.Seeded.{seeded}
 use Rattle.sem_machine.specs.Living.{IsComplete}
-use Rattle.sem_serial.specs.Ending.{IsStuck, IsSpent}
+use Rattle.sem_report.specs.ReportRefusal.{report_refusal}
 use Rattle.sem_audit.specs.HeldKeys.{held, report}
 use Rattle.sem_cli.specs.declared.statuses.Status.{Status}
-use Rattle.sem_cli.specs.declared.statuses.Status.TheVariants.{Done, Usage, TraceRefused, ReadFault, WriteFault, Memory, Stuck, Spent, NotBuilt}
-use Rattle.sem_cli.specs.Messages.{stuck_line, spent_line}
+use Rattle.sem_cli.specs.declared.statuses.Status.TheVariants.{Done, Usage, TraceRefused, ReadFault, WriteFault, Memory, ReportRefused, NotBuilt}
+use Rattle.sem_cli.specs.Messages.{ok_line}
 use Rattle.sem_run.specs.declared.responses.Reading.{Reading}
 use Rattle.sem_run.specs.declared.responses.Reading.TheVariants.{Trace, Faulty}
-use Rattle.sem_run.specs.Ends.{Given, ReadsTrace, IsRefused}
+use Rattle.sem_run.specs.Inputs.{Given, ReadsTrace, IsRefused}
+use Rattle.sem_run.specs.Reports.{IsReport, IsRefusedReport}
 
 -- what is said of an input is so
 abbrev pub IsReading : Given → Reading → Type 0
@@ -28,18 +29,13 @@ pub record IsAuditOf (T : Setup) (J : List Entry) (a : Audit) : Type 0 where
   pub cut : a.cut ≡ length (cut T J)
   pub held : held_pairs a.held ≡ held (world_after T J).sides
 
--- what is told of a run of the setup that left the journal: its report, or why it ended early
-abbrev pub IsTold : Setup → List Entry → List ℕ → Status → Type 0
-IsTold T J text Done = IsComplete T J × (text ≡ report T J)
-IsTold T J text Usage = ⊥
-IsTold T J text TraceRefused = ⊥
-IsTold T J text ReadFault = ⊥
-IsTold T J text WriteFault = ⊥
-IsTold T J text Memory = ⊥
-IsTold T J text Stuck = (v : ℕ) × IsStuck T J v × (text ≡ stuck_line v)
-IsTold T J text Spent = (n : ℕ) × IsSpent T J n × (text ≡ spent_line n)
-IsTold T J text NotBuilt = ⊥
-
--- how a run of a setup by a seed ends
-abbrev pub RunEnds : Setup → ℕ → List Entry → List ℕ → Status → Type 0
-RunEnds T seed J text status = (J ≡ seeded T seed) × IsTold T J text status
+-- what is told of the bytes of a report
+abbrev pub IsVerdict : List ℕ → List ℕ → Status → Type 0
+IsVerdict bytes text Done = IsReport bytes × (report_refusal bytes ≡ None) × (text ≡ ok_line)
+IsVerdict bytes text Usage = ⊥
+IsVerdict bytes text TraceRefused = ⊥
+IsVerdict bytes text ReadFault = ⊥
+IsVerdict bytes text WriteFault = ⊥
+IsVerdict bytes text Memory = ⊥
+IsVerdict bytes text ReportRefused = IsRefusedReport bytes text
+IsVerdict bytes text NotBuilt = ⊥

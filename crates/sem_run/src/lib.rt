@@ -2,6 +2,8 @@
 #![tactic(auto)]
 
 mod alone;
+mod checks;
+mod generates;
 mod responses;
 mod runs;
 #[cfg(test)]

@@ -8,6 +8,8 @@ ghost use Rattle.sem_cli.specs.Commands.{command_of};
 ghost use Rattle.sem_run.specs.Ends.{IsPartOfRun, EndsReadFault, WouldEnd};
 ghost use Rattle.sem_run.specs.Readings.{IsReading};
 
+use crate::checks::check_report;
+use crate::generates::push_generated;
 use crate::runs::run_setup;
 use sem_cli::{Command, Status, command, not_built, push_refused, usage};
 use sem_io::{ReadError, Source, read_all};
@@ -64,12 +66,12 @@ fn carry_out<S: Source>(
             Ok(Status::Usage)
         }
         Some(Command::Run { seed }) => run_trace(alloc, seed, input, journal, text),
-        Some(
-            Command::Threads { .. }
-            | Command::Check
-            | Command::Generate { .. }
-            | Command::Soak { .. },
-        ) => {
+        Some(Command::Check) => check_report(alloc, input, text),
+        Some(Command::Generate { seed, vpes, calls }) => {
+            push_generated(alloc, seed, vpes, calls, text)?;
+            Ok(Status::Done)
+        }
+        Some(Command::Threads { .. } | Command::Soak { .. }) => {
             text.extend_from_slice(not_built())?;
             Ok(Status::NotBuilt)
         }
@@ -89,10 +91,13 @@ fn run_trace<S: Source>(
     ensures ok { IfOk result (λ status. (words : List (List ℕ)) → command_of words ≡ Some (Run seed) → WouldEnd (record { words = words; before = S.left input.old; after = S.left input.new; faults_before = S.faults input.old; faults_after = S.faults input.new }) journal.new.entries text.new.items status) }
     ensures fault { IsErrOf result ReadError.Fault → Rose (S.faults input.old) (S.faults input.new) }
     ensures unread { IsErrOf result ReadError.Fault → journal.new.entries ≡ [] }
-    ensures memory { IsErrOf result ReadError.Memory → (words : List (List ℕ)) → IsPartOfRun (record { words = words; before = S.left input.old; after = S.left input.new; faults_before = S.faults input.old; faults_after = S.faults input.new }) journal.new.entries }
+    ensures memory { IsErrOf result ReadError.Memory → (words : List (List ℕ)) → command_of words ≡ Some (Run seed) → IsPartOfRun (record { words = words; before = S.left input.old; after = S.left input.new; faults_before = S.faults input.old; faults_after = S.faults input.new }) journal.new.entries }
 {
     match read_setup(alloc, input)? {
-        Reading::Trace(setup) => Ok(run_setup(alloc, &setup, seed, journal, text)?),
+        Reading::Trace(setup) => {
+            run_setup(alloc, &setup, seed, journal, text)?;
+            Ok(Status::Done)
+        }
         Reading::Faulty(fault) => {
             push_refused(text, &fault)?;
             Ok(Status::TraceRefused)

@@ -147,7 +147,7 @@ fn other_words_get_the_usage(rt: HostRuntime) -> Result<(), Fail> {
 
 #[test]
 fn what_is_not_built_is_told_so(rt: HostRuntime) -> Result<(), Fail> {
-    for line in ["threads 0", "check", "gen 5 1 0", "soak 9 8 100"] {
+    for line in ["threads 0", "soak 9 8 100"] {
         let answer = answer(rt.alloc(), line, "")?;
         check(&rt, &answer, Status::NotBuilt, "not built\n", 0);
     }
@@ -261,5 +261,76 @@ fn a_trace_without_a_vpe_has_an_empty_journal(rt: HostRuntime) -> Result<(), Fai
         "semper report 1\nsemper trace 1\nkernels 1\npe 0 0\nend\njournal 0\naudit\nmade 0\ncut 0\nheld 0\nend\n";
     let answer = answer(rt.alloc(), "run 7", trace)?;
     check(&rt, &answer, Status::Done, report, 0);
+    Ok(())
+}
+
+// The report of the first trace of these tests, with its journal and its audit exchanged.
+fn report_with(alloc: Global, told: &str) -> Result<String, Fail> {
+    Ok(format!(in alloc; "semper report 1\n{DECLARED}{DERIVE_AND_REVOKE}{told}")?)
+}
+
+#[test]
+fn the_report_of_a_run_is_accepted(rt: HostRuntime) -> Result<(), Fail> {
+    let report = report_with(rt.alloc(), DERIVED_AND_REVOKED)?;
+    let answer = answer(rt.alloc(), "check", report.as_str())?;
+    check(&rt, &answer, Status::Done, "ok\n", 0);
+    Ok(())
+}
+
+#[test]
+fn what_is_no_report_is_refused_at_its_first_fault(rt: HostRuntime) -> Result<(), Fail> {
+    let entered =
+        "0 call 0 0 derive 0 1 0 1024 1 grant 0.0.1.0 0.0.1.1 reply 0 0\n0 call 0 1 revoke 0 cut 0.0.1.0\n";
+    let resumed = "0 resume 0 reply 0 0\n";
+    let audit = "audit\nmade 2\ncut 1\nheld 0\nend\n";
+    for (count, rest, told) in [
+        (3, resumed, "line 14: Missing"),
+        (
+            3,
+            "0 resume 0 reply 0 1\naudit\nmade 2\ncut 1\nheld 0\nend\n",
+            "entry 2: entered 0 resume 0 reply 0 1; replayed 0 resume 0 reply 0 0",
+        ),
+        (
+            3,
+            "0 kill 0\naudit\nmade 2\ncut 1\nheld 0\nend\n",
+            "entry 2: entered 0 kill 0; replayed not enabled",
+        ),
+        (
+            2,
+            audit,
+            "entry 2: entered end; replayed 0 resume 0 reply 0 0",
+        ),
+        (
+            3,
+            "0 resume 0 reply 0 0\naudit\nmade 3\ncut 1\nheld 0\nend\n",
+            "line 15: NotCanonical",
+        ),
+    ] {
+        let tail = format!(in rt.alloc(); "journal {count}\n{entered}{rest}")?;
+        let report = report_with(rt.alloc(), tail.as_str())?;
+        let written = format!(in rt.alloc(); "report refused: {told}\n")?;
+        let answer = answer(rt.alloc(), "check", report.as_str())?;
+        check(&rt, &answer, Status::ReportRefused, written.as_str(), 0);
+    }
+    Ok(())
+}
+
+#[test]
+fn a_report_that_cannot_be_read_leaves_nothing_written(rt: HostRuntime) -> Result<(), Fail> {
+    let report = report_with(rt.alloc(), DERIVED_AND_REVOKED)?;
+    let bytes = report.as_bytes().to_vec(rt.alloc())?;
+    let source = MemSource::new(bytes, 64, vec![in rt.alloc(); 2u64]?);
+    let sink = MemSink::new(rt.alloc(), 4096, 64, Vec::new(rt.alloc()))?;
+    let answer = answer_over(rt.alloc(), "check", source, sink)?;
+    check(&rt, &answer, Status::ReadFault, "", 0);
+    Ok(())
+}
+
+#[test]
+fn a_seed_generates_a_trace(rt: HostRuntime) -> Result<(), Fail> {
+    let told =
+        "semper trace 1\nkernels 1\npe 0 0\nvpe 0 0\nroot 0 0 mem 0 65536 7\ncall 0 obtain 3 0 1\ncall 0 delegate 11 0 9\nend\n";
+    let answer = answer(rt.alloc(), "gen 5 1 2", "not read")?;
+    check(&rt, &answer, Status::Done, told, 0);
     Ok(())
 }

@@ -1,19 +1,18 @@
 -- How many events and entries there can be.
-use Rattle.std.proofs.Common.{◌≡◌, ℕ, ◌+◌, ◌*◌, ◌^◌, ◌<◌, ◌≤◌, zero, suc, Bool, List, [], ◌∷◌, ◌++◌, length, map, get_or, refl, sym, ◌∙◌, ap, subst, arith, inl, inr}
+use Rattle.std.proofs.Common.{◌≡◌, ℕ, ◌+◌, ◌^◌, ◌<◌, ◌≤◌, zero, suc, Bool, List, [], ◌∷◌, ◌++◌, length, map, get_or, sym, ◌∙◌, ap, subst, arith, inl, inr}
 use Rattle.std.specs.Prelude.{◌==◌, sum_by}
-use Rattle.std.specs.List.{All, AllPairs, Any, Contains, filter, range_with_len}
+use Rattle.std.specs.List.{All, AllPairs, filter, range_with_len}
 use Rattle.std.proofs.lemmas.Bool.{cases_Bool, cond-true, cond-false, cond_both}
 use Rattle.std.proofs.lemmas.List.{length-append, length-map, get_or-map}
 use Rattle.std.proofs.lemmas.List.Elements.{All-nil, All-cons}
 use Rattle.std.proofs.lemmas.List.Sums.{sum_by-le}
-use Rattle.std.proofs.lemmas.List.FromFn.{length-range_with_len, length-map-range_with_len}
+use Rattle.std.proofs.lemmas.List.FromFn.{length-map-range_with_len}
 use Rattle.sem_key.specs.declared.limits.TheConstants.{VPES}
-use Rattle.sem_msg.specs.declared.limits.TheConstants.{CALLS}
 use Rattle.sem_msg.specs.declared.event.Act.TheVariants.{Call as Calls, Fetch, Handle, Upcall, Resume, Flush, Kill}
 use Rattle.sem_msg.specs.declared.event.Event.{Event}
 use Rattle.sem_msg.specs.declared.setup.VpeDecl.{VpeDecl}
-use Rattle.sem_msg.specs.Setup.{Setup, IsSetup, IsVpeDecl, IsDeclared, call_count, kill_count}
-use Rattle.sem_msg.specs.Versions.{most_kernels, most_vpes}
+use Rattle.sem_msg.specs.Setup.{Setup, IsSetup, IsVpeDecl, IsDeclared, call_count}
+use Rattle.sem_msg.specs.Versions.{most_vpes}
 use Rattle.sem_msg.proofs.Declared.{most_vpes-le}
 use Rattle.sem_machine.specs.Machine.{World, event, is_enabled, kernel_events}
 use Rattle.sem_machine.specs.Seeded.{entry_limit}

@@ -1,5 +1,5 @@
 -- Given events that happen one after another.
-use Rattle.std.proofs.Common.{◌≡◌, ℕ, ◌+◌, ◌<◌, ◌≤◌, Bool, true, false, List, [], ◌∷◌, ◌++◌, length, map, take, get_or, slice_get, Some, Result, Ok, Err, refl, sym, ◌∙◌, ap, subst, arith, length-append}
+use Rattle.std.proofs.Common.{◌≡◌, ℕ, ◌+◌, ◌<◌, ◌≤◌, Bool, true, false, List, [], ◌∷◌, ◌++◌, length, take, get_or, Some, Result, Ok, Err, refl, sym, ◌∙◌, ap, subst, length-append}
 use Rattle.std.specs.Prelude.{◌↔◌, IsErrOf}
 use Rattle.std.proofs.lemmas.Option.{slice_get-get_or}
 use Rattle.std.proofs.lemmas.List.{map-append, take_more, take_all}
@@ -13,7 +13,7 @@ use Rattle.sem_kernel.specs.declared.world.World.{World}
 use Rattle.sem_serial.specs.declared.faults.PlayError.{PlayError}
 use Rattle.sem_serial.specs.declared.faults.PlayError.TheVariants.{NotEnabled, Memory}
 use Rattle.sem_serial.specs.Playing.{events_of, StopsAt}
-use Rattle.sem_serial.proofs.Running.{schedule-push, schedule-empty, world_after-push, entry_of-event}
+use Rattle.sem_safety.proofs.Pushing.{schedule-push, schedule-empty, world_after-push, entry_of-event}
 
 -- the first n events happened, and made the journal
 pub record IsPlaying (T : Setup) (events : List Event) (w : WorldValue) (J : List Entry) (n : ℕ) : Type 0 where

@@ -1,7 +1,6 @@
 -- A run that goes on by one event at a time.
-use Rattle.std.proofs.Common.{◌≡◌, ℕ, zero, suc, ◌+◌, ◌-◌, ◌<◌, ◌≤◌, ◌%◌, true, List, [], ◌∷◌, ◌++◌, length, map, Option, Some, None, refl, sym, ◌∙◌, ap, subst, arith, length-append, append_assoc, append-nil, inl, inr}
+use Rattle.std.proofs.Common.{◌≡◌, ℕ, zero, suc, ◌+◌, ◌-◌, ◌<◌, ◌%◌, true, List, [], ◌∷◌, ◌++◌, length, map, Option, Some, None, refl, sym, ◌∙◌, ap, subst, arith, length-append, append_assoc, append-nil}
 use Rattle.std.specs.List.{range_with_len}
-use Rattle.std.proofs.lemmas.List.Sums.{fold-append}
 use Rattle.std.proofs.lemmas.Option.{slice_get-get_or, slice_get_within, get_or_from_slice_get}
 use Rattle.rand_pcg.specs.Lcg.{Lcg}
 use Rattle.rand_pcg.specs.Pcg.{pcg32}
@@ -9,8 +8,8 @@ use Rattle.sem_msg.specs.declared.event.Event.{Event}
 use Rattle.sem_msg.specs.declared.entry.Entry.{Entry}
 use Rattle.sem_msg.specs.Setup.{Setup, IsSetup}
 use Rattle.sem_msg.specs.Fabric.{FabricValue}
-use Rattle.sem_machine.specs.Machine.{World, start, after, entry_of, local_entry, enabled, is_enabled}
-use Rattle.sem_machine.specs.Schedules.{IsRun, IsSchedule, run, world_after}
+use Rattle.sem_machine.specs.Machine.{World, start, after, entry_of, enabled, is_enabled}
+use Rattle.sem_machine.specs.Schedules.{IsSchedule, run, world_after}
 use Rattle.sem_machine.specs.Living.{IsQuiet}
 use Rattle.sem_machine.specs.Seeded.{drain, entry_limit, picked}
 use Rattle.sem_machine.proofs.EnabledList.{enabled-exact}
@@ -18,33 +17,13 @@ use Rattle.sem_kernel.specs.KernelValue.{KernelValue}
 use Rattle.sem_fabric.specs.Fabrics.{new_fabric}
 use Rattle.sem_kernel.specs.Worlds.{world_of, AreKernelsOf, WorldValue, booted}
 use Rattle.sem_kernel.proofs.Beginning.{boots-together, boots-world}
+use Rattle.sem_safety.proofs.Pushing.{schedule-push, schedule-empty, world_after-push}
 use Rattle.sem_serial.specs.Standing.{StandsAt, drained_on}
 use Rattle.sem_serial.specs.Listed.{AreListed}
-use Rattle.sem_serial.specs.Ending.{IsOver}
 
--- an entry names the event that made it
-pub entry_of-event : (T : Setup) (W : World) (e : Event) → (entry_of T W e).event ≡ e
-unfolding entry_of local_entry
-entry_of-event T W e = refl
-
--- a run goes on by an event that is enabled after it
-IsRun-push : (T : Setup) (W : World) (J : List Entry) (e : Event) → IsRun T W J → is_enabled T (run T W J) e ≡ true → IsRun T W (J ++ entry_of T (run T W J) e ∷ [])
-unfolding IsRun
-IsRun-push T W [] e is_run test = (subst (λ (x : Event). is_enabled T W x ≡ true) (sym (entry_of-event T W e)) test, ap (λ (x : Event). entry_of T W x) (sym (entry_of-event T W e)), tt)
-IsRun-push T W (x ∷ xs) e is_run test = (is_run.0, is_run.1, IsRun-push T (after T W x.event) xs e is_run.2 test)
-
-pub schedule-push : (T : Setup) (J : List Entry) (e : Event) → IsSchedule T J → is_enabled T (world_after T J) e ≡ true → IsSchedule T (J ++ entry_of T (world_after T J) e ∷ [])
-schedule-push T J e schedule test = IsRun-push T (start T) J e schedule test
-
-pub schedule-empty : (T : Setup) (J : List Entry) → J ≡ [] → IsSchedule T J
-unfolding IsRun
-schedule-empty T J none = subst (IsSchedule T) (sym none) tt
-
--- the world after one more event
-pub world_after-push : (T : Setup) (J : List Entry) (e : Event) → world_after T (J ++ entry_of T (world_after T J) e ∷ []) ≡ after T (world_after T J) e
-world_after-push T J e =
-    fold-append (λ (V : World) (x : Entry). after T V x.event) (start T) J (entry_of T (world_after T J) e ∷ [])
-    ∙ ap (λ (x : Event). after T (world_after T J) x) (entry_of-event T (world_after T J) e)
+pub none-left : {X : Type 0} (xs : List X) → length xs ≡ 0 → xs ≡ []
+none-left [] none = refl
+none-left (x ∷ xs) none = absurd (omega (arith, none))
 
 -- What a word picks.
 
@@ -79,10 +58,6 @@ unfolding drain
 drain-none zero T W g none = refl
 drain-none (suc n) T W g none = rw none refl
 
-drain-full : (n : ℕ) (T : Setup) (W : World) (g : Lcg) → n ≡ 0 → drain n T W g ≡ []
-unfolding drain
-drain-full n T W g all = rw all refl
-
 module _ (T : Setup) (J : List Entry) (g : Lcg) where
   abbrev W : World
   W = world_after T J
@@ -101,9 +76,6 @@ module _ (T : Setup) (J : List Entry) (g : Lcg) where
   -- nothing is to come
   drained-quiet : picked (pcg32 g).0 (enabled T W) ≡ None → J ≡ drained_on T J g
   drained-quiet none = sym (ap (λ es. J ++ es) (drain-none (entry_limit T - length J) T W g none) ∙ append-nil J)
-
-  drained-full : entry_limit T ≤ length J → J ≡ drained_on T J g
-  drained-full full = sym (ap (λ es. J ++ es) (drain-full (entry_limit T - length J) T W g (omega (arith, full))) ∙ append-nil J)
 
 -- Kernels and a fabric that stand at a schedule.
 module _ (T : Setup) (ks : List KernelValue) (f : FabricValue) (at : StandsAt T ks f) where
@@ -124,9 +96,6 @@ module _ (T : Setup) (ks : List KernelValue) (f : FabricValue) (at : StandsAt T 
     schedule = subst (IsSchedule T) (sym journal) at.schedule;
     world = same ∙ (at.world ∙ ap (world_after T) (sym journal));
   }
-
-  pub over-quiet : enabled T (world_of ks f) ≡ [] → IsOver T f.journal
-  over-quiet quiet = inl (subst (IsQuiet T) at.world quiet)
 
 -- they stand at the empty schedule at the start
 pub stands-at-start : (T : Setup) → IsSetup T → (ks : List KernelValue) → ks ≡ map (booted T) (range_with_len 0 T.kernels) → (f : FabricValue) → f ≡ new_fabric T → StandsAt T ks f
@@ -155,11 +124,9 @@ module _ (T : Setup) (P : List Entry) (first : Lcg) (ks : List KernelValue) (f :
   pub quiet-drained : picked (pcg32 g).0 (enabled T (world_of ks f)) ≡ None → f.journal ≡ drained_on T P first
   quiet-drained none = drained-quiet T f.journal g (picked-after None none) ∙ so_far.to_come
 
-  pub quiet-over : picked (pcg32 g).0 (enabled T (world_of ks f)) ≡ None → IsOver T f.journal
-  quiet-over none = over-quiet T ks f so_far.stand (picked-none (pcg32 g).0 (enabled T (world_of ks f)) none)
-
-  pub full-drained : entry_limit T ≤ length f.journal → f.journal ≡ drained_on T P first
-  full-drained full = drained-full T f.journal g full ∙ so_far.to_come
+  -- no event is enabled then
+  pub quiet-after : picked (pcg32 g).0 (enabled T (world_of ks f)) ≡ None → IsQuiet T (world_after T f.journal)
+  quiet-after none = subst (IsQuiet T) so_far.stand.world (picked-none (pcg32 g).0 (enabled T (world_of ks f)) none)
 
   -- one more event
   pub to-come-more : (e : Event) → picked (pcg32 g).0 (enabled T (world_of ks f)) ≡ Some e → length f.journal < entry_limit T → (x : Entry) → x ≡ entry_of T (world_of ks f) e → (J : List Entry) → J ≡ f.journal ++ x ∷ [] → (h : Lcg) → h ≡ (pcg32 g).1 → drained_on T J h ≡ drained_on T P first

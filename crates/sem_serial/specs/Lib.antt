@@ -1,4 +1,3 @@
 pub mod Standing
 pub mod Listed
-pub mod Ending
 pub mod Playing

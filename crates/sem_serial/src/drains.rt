@@ -1,17 +1,14 @@
-ghost use Rattle.std.specs.Prelude.{◌≡◌, ℕ, true, ◌++◌, ◌∷◌, [], List, map, is_some, OnOk, OnErr, IfOk, IsErrOf};
+ghost use Rattle.std.specs.Prelude.{◌≡◌, ◌≤◌, true, ◌++◌, ◌∷◌, ◌+◌, ◌*◌, [], List, length, map, is_some, OnOk, OnErr, IfOk};
 ghost use Rattle.sem_msg.specs.declared.entry.Entry.{Entry as EntryData};
+ghost use Rattle.sem_msg.specs.Setup.{call_count, kill_count};
 ghost use Rattle.sem_machine.specs.Living.{IsComplete};
 ghost use Rattle.sem_machine.specs.Machine.{after, entry_of, is_enabled};
 ghost use Rattle.sem_machine.specs.Seeded.{drained};
 ghost use Rattle.sem_kernel.specs.Worlds.{world_of};
 ghost use Rattle.sem_serial.specs.Standing.{StandsAt, drained_on};
 ghost use Rattle.sem_serial.specs.Listed.{AreListed};
-ghost use Rattle.sem_serial.specs.Ending.{IsOver, IsStuck, IsSpent};
 
-use crate::answers::first_unanswered;
-use crate::faults::RunError;
-use crate::limits::entry_limit;
-use crate::lists::{event_count, list_all, pick, renew};
+use crate::lists::{list_all, pick, renew};
 use rand_pcg::Lcg64Xsh32;
 use sem_fabric::Fabric;
 use sem_kernel::{Kernel, happen_enabled};
@@ -21,30 +18,30 @@ use std::alloc::Global;
 
 /// Runs on by the words of the seed until no event is enabled: at each step one word picks one of
 /// the enabled events. The kernels and the fabric are those of the setup, and stand at a schedule of
-/// it, which the journal of the fabric is; so they do after an error too, within the same run.
+/// it, which the journal of the fabric is; so they do after an error too, within the same run. It
+/// ends, since a schedule has at most 21 entries for each call of the setup and one for each kill.
 pub fn drain(
     alloc: Global,
     setup: &Setup,
     kernels: &mut Vec<Kernel>,
     fabric: &mut Fabric,
     seed: u64,
-) -> Result<(), RunError>
+) -> Result<(), OutOfMemory>
     requires { StandsAt setup.now kernels.old.items fabric.old }
     ensures stand { StandsAt setup.now kernels.new.items fabric.new }
-    ensures drained { ¬ (IsErrOf result RunError.Memory) → fabric.new.journal ≡ drained setup.now fabric.old.journal seed }
+    ensures few { length fabric.new.journal ≤ 21 * call_count setup.now + kill_count setup.now }
     ensures prefix { (rest : List EntryData) × (fabric.new.journal ++ rest ≡ drained setup.now fabric.old.journal seed) }
+    ensures drained { OnOk result (fabric.new.journal ≡ drained setup.now fabric.old.journal seed) }
     ensures complete { OnOk result (IsComplete setup.now fabric.new.journal) }
-    ensures stuck { (v : ℕ) → IsErrOf result (RunError.Stuck v) → IsStuck setup.now fabric.new.journal v }
-    ensures spent { (n : ℕ) → IsErrOf result (RunError.Spent n) → IsSpent setup.now fabric.new.journal n }
 {
+    // So that the proof knows what a setup keeps.
+    let _ = &setup.vpes;
     let mut lists = list_all(alloc, setup, kernels.as_slice(), fabric)?;
     let mut words = Lcg64Xsh32::new(seed, 1);
-    run_on(alloc, setup, kernels, fabric, &mut words, &mut lists)?;
-    judge(setup, kernels.as_slice(), fabric, &lists)
+    run_on(alloc, setup, kernels, fabric, &mut words, &mut lists)
 }
 
-// Runs on by the words until no event is enabled or the journal has as many entries as a run can
-// have. The lists are the enabled events.
+// Runs on by the words until no event is enabled. The lists are the enabled events.
 fn run_on(
     alloc: Global,
     setup: &Setup,
@@ -58,16 +55,11 @@ fn run_on(
     ensures stand { StandsAt setup.now kernels.new.items fabric.new }
     ensures prefix { (rest : List EntryData) × (fabric.new.journal ++ rest ≡ drained_on setup.now fabric.old.journal words.old) }
     ensures drained { OnOk result (fabric.new.journal ≡ drained_on setup.now fabric.old.journal words.old) }
-    ensures over { OnOk result (IsOver setup.now fabric.new.journal) }
-    ensures listed { OnOk result (AreListed setup.now (world_of kernels.new.items fabric.new) (map (λ list. list.items) lists.new.items)) }
+    ensures complete { OnOk result (IsComplete setup.now fabric.new.journal) }
 {
     // So that the proof knows what a setup keeps.
     let _ = &setup.vpes;
-    let limit = entry_limit(setup);
-    while fabric.journal().len() < limit {
-        let Some(event) = pick(lists.as_slice(), words) else {
-            return Ok(());
-        };
+    while let Some(event) = pick(lists.as_slice(), words) {
         let replied = make_entry(setup, kernels, fabric, event)?;
         renew(
             alloc,
@@ -100,33 +92,5 @@ fn make_entry(
     match happen_enabled(setup, kernels, fabric, event) {
         Ok(entry) => Ok(entry.reply.is_some()),
         Err(error) => Err(error),
-    }
-}
-
-// Whether a run that is over came to its end.
-fn judge(
-    setup: &Setup,
-    kernels: &[Kernel],
-    fabric: &Fabric,
-    lists: &[Vec<Event>],
-) -> Result<(), RunError>
-    requires stand { StandsAt setup.now kernels.now fabric.now }
-    requires over { IsOver setup.now fabric.now.journal }
-    requires listed { AreListed setup.now (world_of kernels.now fabric.now) (map (λ list. list.items) lists.now) }
-    ensures complete { OnOk result (IsComplete setup.now fabric.now.journal) }
-    ensures stuck { (v : ℕ) → IsErrOf result (RunError.Stuck v) → IsStuck setup.now fabric.now.journal v }
-    ensures spent { (n : ℕ) → IsErrOf result (RunError.Spent n) → IsSpent setup.now fabric.now.journal n }
-    ensures memory { ¬ (IsErrOf result RunError.Memory) }
-{
-    // So that the proof knows what a setup keeps.
-    let _ = &setup.vpes;
-    if event_count(lists) > 0 {
-        return Err(RunError::Spent {
-            entries: fabric.journal().len() as u64,
-        });
-    }
-    match first_unanswered(setup, kernels, fabric) {
-        Some(vpe) => Err(RunError::Stuck { vpe }),
-        None => Ok(()),
     }
 }

@@ -141,7 +141,7 @@ pub fn pick(lists: &[Vec<Event>], words: &mut Lcg64Xsh32) -> Option<Event>
 }
 
 // How many events there are in the lists.
-pub fn event_count(lists: &[Vec<Event>]) -> usize
+fn event_count(lists: &[Vec<Event>]) -> usize
     requires { sum_by (λ list. length list.items) lists.now < 2 ^ 64 }
     ensures { result ≡ sum_by (λ list. length list.items) lists.now }
 {

@@ -3,6 +3,7 @@
 //!
 //! What refuses them is looked at later: the replay of the journal, and the comparison of the audit.
 
+use crate::answers::check_is;
 use sem_report::read_report;
 use std::test::Fail;
 
@@ -206,6 +207,28 @@ fn reference_reports_with_a_later_fault_are_read(rt: HostRuntime) -> Result<(), 
             read_report(rt.alloc(), text).is_ok(),
             "report {name} is read"
         );
+    }
+    Ok(())
+}
+
+#[test]
+fn they_are_refused_by_their_replay_or_their_audit(rt: HostRuntime) -> Result<(), Fail> {
+    for (text, told) in [
+        (REPORT_29, "line 50: NotCanonical"),
+        (
+            REPORT_50,
+            "entry 0: entered 1 call 45 0 send 2 2 reply 45 2; replayed 1 call 45 0 send 2 2 reply 45 12",
+        ),
+        (
+            REPORT_58,
+            "entry 1: entered 0 call 5 0 open 6 1; replayed 0 call 5 0 open 6 1 reply 5 6",
+        ),
+        (
+            REPORT_71,
+            "entry 2: entered 2 fetch 1 obtain-no 3.3.2 3; replayed not enabled",
+        ),
+    ] {
+        assert!(rt; check_is(rt.alloc(), text, told)?, "{told}");
     }
     Ok(())
 }

@@ -1,4 +1,17 @@
+use Rattle.std.proofs.Common.{Result, Ok, Err, ap, subst, rules}
+use Rattle.std.specs.Prelude.{OnOk}
+use Rattle.sem_msg.specs.Setup.{Setup, IsSetup}
+use Rattle.sem_machine.specs.Schedules.{IsSchedule}
+use Rattle.sem_kernel.specs.Worlds.{WorldValue}
+use Rattle.sem_bound.proofs.Spent.{limited}
 use Rattle.sem_check.proofs.checks.check.Goals as goal
 
-pub returns-in-None-clause-stuck : goal.returns-in-None-clause-stuck
-returns-in-None-clause-stuck c = λ v is. rw c.as_slice-entries.ensures at (c.judge.ensures.stuck v is)
+-- what is so at all is so after Ok
+on-ok : {V E X : Type 0} (r : Result V E) → X → OnOk r X
+on-ok (Ok v) x = x
+on-ok (Err e) x = tt
+
+pub returns-in-None-clause-few : goal.returns-in-None-clause-few
+returns-in-None-clause-few c =
+    let stands = rw c.as_slice-entries.ensures at (c.in_ok-follow.ensures.all (search rules)) in
+    on-ok c.judge.result (limited c.args.setup.now (subst IsSetup c.setup.view_is c.setup.invariant) c.args.journal.now.entries (subst (λ (T : Setup). IsSchedule T c.args.journal.now.entries) (ap (λ (w : WorldValue). w.setup) c.in_ok-world.ensures) stands.schedule))

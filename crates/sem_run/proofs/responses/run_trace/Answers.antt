@@ -5,11 +5,11 @@ use Rattle.sem_run.proofs.responses.run_trace.Goals as goal
 -- a run of the setup that was read
 pub returns-in_ok-run_setup-in-Trace-clause-ok : goal.returns-in_ok-run_setup-in-Trace-clause-ok
 returns-in_ok-run_setup-in-Trace-clause-ok g c words is =
-    run_ends _ c.args.seed _ _ _ _ is (rw c.in-Trace.is at c.in_ok-setup.ensures.reads words) c.in_ok-run_setup-in-Trace.ensures.ok
+    run_ends _ c.args.seed _ _ _ is (rw c.in-Trace.is at c.in_ok-setup.ensures.reads words) c.in_ok-run_setup-in-Trace.ensures.seeded c.in_ok-run_setup-in-Trace.ensures.complete c.in_ok-run_setup-in-Trace.ensures.told
 
 -- a part of it
 pub returns-in_err-run_setup-in-Trace-clause-memory : goal.returns-in_err-run_setup-in-Trace-clause-memory
-returns-in_err-run_setup-in-Trace-clause-memory g c _ words = inr (c.in-Trace.setup, (rw c.in-Trace.is at c.in_ok-setup.ensures.reads words), c.run_setup.ensures.schedule)
+returns-in_err-run_setup-in-Trace-clause-memory g c _ words is = inr (c.in-Trace.setup, c.args.seed, is, (rw c.in-Trace.is at c.in_ok-setup.ensures.reads words), c.run_setup.ensures.schedule)
 
 -- what was read is refused
 pub returns-in_ok-push_refused-in-Faulty-clause-ok : goal.returns-in_ok-push_refused-in-Faulty-clause-ok

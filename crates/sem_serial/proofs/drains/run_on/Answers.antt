@@ -1,51 +1,55 @@
-use Rattle.std.proofs.Common.{◌≡◌, ◌<◌, ◌≤◌, ◌∙◌, List, length, map, refl, sym, ap, arith}
+use Rattle.std.proofs.Common.{◌≡◌, ◌<◌, ◌∙◌, true, List, [], ◌∷◌, length, map, length-append, refl, sym, ap, subst, arith}
 use Rattle.std.specs.List.{flat_map}
 use Rattle.rand_pcg.specs.Pcg.{pcg32}
-use Rattle.sem_machine.specs.Machine.{entry_of}
+use Rattle.sem_msg.specs.Setup.{IsSetup}
+use Rattle.sem_machine.specs.Machine.{entry_of, is_enabled}
 use Rattle.sem_machine.specs.Seeded.{entry_limit, picked}
 use Rattle.sem_kernel.specs.KernelValue.{KernelValue}
 use Rattle.sem_kernel.specs.Worlds.{world_of}
 use Rattle.sem_serial.proofs.Counting.{few-listed}
 use Rattle.sem_serial.proofs.Renewing.{together}
-use Rattle.sem_serial.proofs.Running.{picked-enabled, quiet-drained, quiet-over, full-drained, to-come-more, part-of}
+use Rattle.sem_serial.proofs.Running.{picked-enabled, quiet-drained, quiet-after, to-come-more, part-of}
+use Rattle.sem_revoke.proofs.Completing.{quiet-complete}
+use Rattle.sem_serial.proofs.Quieting.{goes-on}
 use Rattle.sem_serial.proofs.drains.run_on.Goals as goal
 
 pub pick-requires : goal.pick-requires
-pick-requires c = rw c.as_slice.ensures.value (few-listed c.args.setup.now (rw c.setup.view_is at c.setup.invariant) (λ list. list.items) (world_of c.loop-alloc.kernels.items c.loop-alloc.fabric) c.loop-alloc.lists.items c.loop-alloc.invariant.listed)
+pick-requires c = rw c.as_slice.ensures.value (few-listed c.args.setup.now (rw c.setup.view_is at c.setup.invariant) (λ list. list.items) (world_of c.loop-event.kernels.items c.loop-event.fabric) c.loop-event.lists.items c.loop-event.invariant.listed)
 
 -- no event is enabled
-pub returns-in_default-clause-drained : goal.returns-in_default-clause-drained
-returns-in_default-clause-drained c =
+pub returns-clause-drained : goal.returns-clause-drained
+returns-clause-drained c =
     let T = c.args.setup.now in
-    let l = c.loop-alloc in
+    let l = c.loop-event in
     let told = sym (c.pick.ensures.event ∙ ap (picked (pcg32 l.words).0) (ap (flat_map (λ list. list.items)) c.as_slice.ensures.value ∙ together (λ list. list.items) T (world_of l.kernels.items l.fabric) l.lists.items l.invariant.listed)) in
     quiet-drained T c.args.fabric.now.journal c.args.words.now l.kernels.items l.fabric (map (λ list. list.items) l.lists.items) l.words l.invariant (told ∙ c.in_default.is)
 
-pub returns-in_default-clause-over : goal.returns-in_default-clause-over
-returns-in_default-clause-over c =
+pub returns-clause-complete : goal.returns-clause-complete
+returns-clause-complete c =
     let T = c.args.setup.now in
-    let l = c.loop-alloc in
+    let l = c.loop-event in
     let told = sym (c.pick.ensures.event ∙ ap (picked (pcg32 l.words).0) (ap (flat_map (λ list. list.items)) c.as_slice.ensures.value ∙ together (λ list. list.items) T (world_of l.kernels.items l.fabric) l.lists.items l.invariant.listed)) in
-    quiet-over T c.args.fabric.now.journal c.args.words.now l.kernels.items l.fabric (map (λ list. list.items) l.lists.items) l.words l.invariant (told ∙ c.in_default.is)
+    quiet-complete T (subst IsSetup c.setup.view_is c.setup.invariant) l.fabric.journal l.invariant.stand.schedule (quiet-after T c.args.fabric.now.journal c.args.words.now l.kernels.items l.fabric (map (λ list. list.items) l.lists.items) l.words l.invariant (told ∙ c.in_default.is))
 
 -- what is picked is enabled
 pub make_entry-requires-clause-enabled : goal.make_entry-requires-clause-enabled
 make_entry-requires-clause-enabled c =
     let T = c.args.setup.now in
-    let l = c.loop-alloc in
+    let l = c.loop-event in
     let told = sym (c.pick.ensures.event ∙ ap (picked (pcg32 l.words).0) (ap (flat_map (λ list. list.items)) c.as_slice.ensures.value ∙ together (λ list. list.items) T (world_of l.kernels.items l.fabric) l.lists.items l.invariant.listed)) in
     picked-enabled T (world_of l.kernels.items l.fabric) (pcg32 l.words).0 c.in-Some.event (told ∙ c.in-Some.is)
 
 -- one more entry
-pub loop-alloc-preserved : goal.loop-alloc-preserved
-loop-alloc-preserved c =
+pub loop-event-preserved : goal.loop-event-preserved
+loop-event-preserved c =
     let T = c.args.setup.now in
-    let l = c.loop-alloc in
+    let l = c.loop-event in
     let told = sym (c.pick.ensures.event ∙ ap (picked (pcg32 l.words).0) (ap (flat_map (λ list. list.items)) c.as_slice.ensures.value ∙ together (λ list. list.items) T (world_of l.kernels.items l.fabric) l.lists.items l.invariant.listed)) in
-    let left : length l.fabric.journal < entry_limit T = omega (arith, c.entry_limit-limit.ensures, c.len.ensures, ap length c.journal.ensures, c.loop-alloc-test.true) in
+    let on = picked-enabled T (world_of l.kernels.items l.fabric) (pcg32 l.words).0 c.in-Some.event (told ∙ c.in-Some.is) in
+    let left : length l.fabric.journal < entry_limit T = goes-on T (subst IsSetup c.setup.view_is c.setup.invariant) l.fabric.journal l.invariant.stand.schedule c.in-Some.event (subst (λ V. is_enabled T V c.in-Some.event ≡ true) l.invariant.stand.world on) in
     record {
       stand = c.make_entry.ensures.stand;
-      listed = rw c.as_slice-in-loop-alloc.ensures.value at c.in_ok-renew.ensures;
+      listed = rw c.as_slice-in-Some.ensures.value at c.in_ok-renew.ensures;
       to_come = to-come-more T c.args.fabric.now.journal c.args.words.now l.kernels.items l.fabric (map (λ list. list.items) l.lists.items) l.words l.invariant c.in-Some.event (told ∙ c.in-Some.is) left (entry_of T (world_of l.kernels.items l.fabric) c.in-Some.event) refl c.make_entry.new.fabric.journal c.in_ok-replied.ensures.journal c.pick.new.words c.pick.ensures.words;
     }
 
@@ -53,29 +57,33 @@ loop-alloc-preserved c =
 pub returns-in_err-renew-clause-prefix : goal.returns-in_err-renew-clause-prefix
 returns-in_err-renew-clause-prefix c =
     let T = c.args.setup.now in
-    let l = c.loop-alloc in
+    let l = c.loop-event in
     let told = sym (c.pick.ensures.event ∙ ap (picked (pcg32 l.words).0) (ap (flat_map (λ list. list.items)) c.as_slice.ensures.value ∙ together (λ list. list.items) T (world_of l.kernels.items l.fabric) l.lists.items l.invariant.listed)) in
-    let left : length l.fabric.journal < entry_limit T = omega (arith, c.entry_limit-limit.ensures, c.len.ensures, ap length c.journal.ensures, c.loop-alloc-test.true) in
+    let on = picked-enabled T (world_of l.kernels.items l.fabric) (pcg32 l.words).0 c.in-Some.event (told ∙ c.in-Some.is) in
+    let left : length l.fabric.journal < entry_limit T = goes-on T (subst IsSetup c.setup.view_is c.setup.invariant) l.fabric.journal l.invariant.stand.schedule c.in-Some.event (subst (λ V. is_enabled T V c.in-Some.event ≡ true) l.invariant.stand.world on) in
     part-of T c.args.fabric.now.journal c.args.words.now c.make_entry.new.fabric.journal c.pick.new.words
     (to-come-more T c.args.fabric.now.journal c.args.words.now l.kernels.items l.fabric (map (λ list. list.items) l.lists.items) l.words l.invariant c.in-Some.event (told ∙ c.in-Some.is) left (entry_of T (world_of l.kernels.items l.fabric) c.in-Some.event) refl c.make_entry.new.fabric.journal c.in_ok-replied.ensures.journal c.pick.new.words c.pick.ensures.words)
-
--- as many entries as a run can have
-pub returns-clause-drained : goal.returns-clause-drained
-returns-clause-drained c =
-    let T = c.args.setup.now in
-    let l = c.loop-alloc in
-    let full : entry_limit T ≤ length l.fabric.journal = omega (arith, c.entry_limit-limit.ensures, c.len.ensures, ap length c.journal.ensures, c.loop-alloc-test.false) in
-    full-drained T c.args.fabric.now.journal c.args.words.now l.kernels.items l.fabric (map (λ list. list.items) l.lists.items) l.words l.invariant full
 
 -- the lists were those before the event
 pub renew-requires-clause-happened : goal.renew-requires-clause-happened
 renew-requires-clause-happened c =
     let T = c.args.setup.now in
-    let l = c.loop-alloc in
+    let l = c.loop-event in
     let told = sym (c.pick.ensures.event ∙ ap (picked (pcg32 l.words).0) (ap (flat_map (λ list. list.items)) c.as_slice.ensures.value ∙ together (λ list. list.items) T (world_of l.kernels.items l.fabric) l.lists.items l.invariant.listed)) in (
       world_of l.kernels.items l.fabric,
       picked-enabled T (world_of l.kernels.items l.fabric) (pcg32 l.words).0 c.in-Some.event (told ∙ c.in-Some.is),
-      ap (λ (ks : List KernelValue). world_of ks c.make_entry.new.fabric) c.as_slice-in-loop-alloc.ensures.value ∙ c.in_ok-replied.ensures.after,
+      ap (λ (ks : List KernelValue). world_of ks c.make_entry.new.fabric) c.as_slice-in-Some.ensures.value ∙ c.in_ok-replied.ensures.after,
       c.in_ok-replied.ensures.replied,
       l.invariant.listed,
     )
+
+-- a schedule is no longer than it can be
+pub loop-event-smaller : goal.loop-event-smaller
+loop-event-smaller c =
+    let T = c.args.setup.now in
+    let l = c.loop-event in
+    let told = sym (c.pick.ensures.event ∙ ap (picked (pcg32 l.words).0) (ap (flat_map (λ list. list.items)) c.as_slice.ensures.value ∙ together (λ list. list.items) T (world_of l.kernels.items l.fabric) l.lists.items l.invariant.listed)) in
+    let on = picked-enabled T (world_of l.kernels.items l.fabric) (pcg32 l.words).0 c.in-Some.event (told ∙ c.in-Some.is) in
+    let left : length l.fabric.journal < entry_limit T = goes-on T (subst IsSetup c.setup.view_is c.setup.invariant) l.fabric.journal l.invariant.stand.schedule c.in-Some.event (subst (λ V. is_enabled T V c.in-Some.event ≡ true) l.invariant.stand.world on) in
+    let long = ap length c.in_ok-replied.ensures.journal ∙ length-append l.fabric.journal (entry_of T (world_of l.kernels.items l.fabric) c.in-Some.event ∷ []) in
+    omega (arith, left, long)

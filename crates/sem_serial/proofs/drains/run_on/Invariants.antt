@@ -1,11 +1,12 @@
 use Rattle.std.proofs.Common.{◌-◌, length, map}
+use Rattle.sem_machine.specs.Seeded.{entry_limit}
 use Rattle.sem_serial.proofs.Running.{IsDraining}
 use Rattle.sem_serial.proofs.drains.run_on.Given as goal
 
 -- the run has come from the journal and the words that it began with
-abbrev pub invariant-loop-alloc : goal.invariant-loop-alloc
-invariant-loop-alloc l = IsDraining l.setup l.initial.fabric.journal l.initial.words l.kernels.items l.fabric (map (λ list. list.items) l.lists.items) l.words
+abbrev pub invariant-loop-event : goal.invariant-loop-event
+invariant-loop-event l = IsDraining l.setup l.initial.fabric.journal l.initial.words l.kernels.items l.fabric (map (λ list. list.items) l.lists.items) l.words
 
 -- the entries that are left
-abbrev pub decreases-loop-alloc : goal.decreases-loop-alloc
-decreases-loop-alloc l = l.limit - length l.fabric.journal
+abbrev pub decreases-loop-event : goal.decreases-loop-event
+decreases-loop-event l = entry_limit l.setup - length l.fabric.journal

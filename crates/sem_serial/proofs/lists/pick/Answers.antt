@@ -2,8 +2,7 @@ use Rattle.std.proofs.Common.{◌≡◌, ℕ, ◌%◌, ◌∙◌, length, slice_
 use Rattle.std.specs.List.{flat_map}
 use Rattle.std.proofs.lemmas.List.Concat.{length-flat_map}
 use Rattle.rand_pcg.specs.Pcg.{pcg32}
-use Rattle.sem_serial.proofs.Running.{picked-nothing}
-use Rattle.sem_serial.proofs.Judged.{none-left}
+use Rattle.sem_serial.proofs.Running.{none-left, picked-nothing}
 use Rattle.sem_serial.proofs.lists.pick.Goals as goal
 
 pub returns-then-count-eq0-clause-event : goal.returns-then-count-eq0-clause-event

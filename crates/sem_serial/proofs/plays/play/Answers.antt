@@ -4,9 +4,10 @@ use Rattle.sem_msg.specs.declared.event.Act.TheVariants.{Call as Calls}
 use Rattle.sem_msg.specs.declared.event.Event.{Event}
 use Rattle.sem_machine.specs.Machine.{is_enabled}
 use Rattle.sem_machine.specs.Schedules.{IsSchedule}
+use Rattle.sem_msg.specs.Setup.{IsSetup}
 use Rattle.sem_kernel.specs.declared.happening.StepError.TheVariants.{NotEnabled}
 use Rattle.sem_revoke.proofs.Safe.{all-safe}
-use Rattle.sem_serial.proofs.Running.{schedule-empty}
+use Rattle.sem_safety.proofs.Pushing.{schedule-empty}
 use Rattle.sem_serial.proofs.Played.{playing-start, playing-more, stops, ok-enabled}
 use Rattle.sem_serial.proofs.plays.play.Goals as goal
 
@@ -31,16 +32,16 @@ loop-at-preserved c =
 
 -- a schedule is safe
 pub returns-in_err-world-clause-safe : goal.returns-in_err-world-clause-safe
-returns-in_err-world-clause-safe c = all-safe c.args.setup.now c.setup.invariant c.args.journal.now.entries (schedule-empty c.args.setup.now c.args.journal.now.entries c.requires)
+returns-in_err-world-clause-safe c = all-safe c.args.setup.now (subst IsSetup c.setup.view_is c.setup.invariant) c.args.journal.now.entries (schedule-empty c.args.setup.now c.args.journal.now.entries c.requires)
 
 pub returns-in_err-room-clause-safe : goal.returns-in_err-room-clause-safe
-returns-in_err-room-clause-safe c = all-safe c.args.setup.now c.setup.invariant c.room.new.self.entries (subst (IsSchedule c.args.setup.now) (sym c.room.ensures.entries) c.loop-at.invariant.schedule)
+returns-in_err-room-clause-safe c = all-safe c.args.setup.now (subst IsSetup c.setup.view_is c.setup.invariant) c.room.new.self.entries (subst (IsSchedule c.args.setup.now) (sym c.room.ensures.entries) c.loop-at.invariant.schedule)
 
 pub returns-in-Err-NotEnabled-clause-safe : goal.returns-in-Err-NotEnabled-clause-safe
-returns-in-Err-NotEnabled-clause-safe c = all-safe c.args.setup.now c.setup.invariant c.room.new.self.entries (subst (IsSchedule c.args.setup.now) (sym c.room.ensures.entries) c.loop-at.invariant.schedule)
+returns-in-Err-NotEnabled-clause-safe c = all-safe c.args.setup.now (subst IsSetup c.setup.view_is c.setup.invariant) c.room.new.self.entries (subst (IsSchedule c.args.setup.now) (sym c.room.ensures.entries) c.loop-at.invariant.schedule)
 
 pub returns-in-Err-Memory-clause-safe : goal.returns-in-Err-Memory-clause-safe
-returns-in-Err-Memory-clause-safe c = all-safe c.args.setup.now c.setup.invariant c.room.new.self.entries (subst (IsSchedule c.args.setup.now) (sym c.room.ensures.entries) c.loop-at.invariant.schedule)
+returns-in-Err-Memory-clause-safe c = all-safe c.args.setup.now (subst IsSetup c.setup.view_is c.setup.invariant) c.room.new.self.entries (subst (IsSchedule c.args.setup.now) (sym c.room.ensures.entries) c.loop-at.invariant.schedule)
 
 pub returns-clause-safe : goal.returns-clause-safe
-returns-clause-safe c = all-safe c.args.setup.now c.setup.invariant c.loop-at.journal.entries c.loop-at.invariant.schedule
+returns-clause-safe c = all-safe c.args.setup.now (subst IsSetup c.setup.view_is c.setup.invariant) c.loop-at.journal.entries c.loop-at.invariant.schedule

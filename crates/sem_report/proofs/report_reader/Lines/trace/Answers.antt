@@ -44,7 +44,7 @@ returns-clause-declared c = section_declares c.split_section-number.result.0.now
 pub returns-clause-read : goal.returns-clause-read
 returns-clause-read c =
     let text : c.deref.result.now ≡ canonical c.in-Ok.setup = c.deref.ensures.value ∙ (c.in-Ok-push_trace.ensures.ok ∙ (rw c.clear.ensures.items refl)) in
-    let same = same_text c.split_section-number.result.0.now c.deref.result.now c.in_default-first_difference.ensures in
+    let same = same_text 2 c.split_section-number.result.0.now c.deref.result.now c.in_default-first_difference.ensures in
     c.split_section-number.ensures.text ∙ ap (λ (front : List ℕ). front ++ c.split_section-number.result.1.now) (same ∙ text)
 
 pub returns-clause-room : goal.returns-clause-room

@@ -1,0 +1,79 @@
+-- The load of a generated trace is one that can be generated.
+use Rattle.std.proofs.Common.{◌≡◌, ℕ, ◌*◌, ◌≤◌, ◌<◌, Bool, true, false, cond, List, [], ◌∷◌, Option, Some, None, Ok, Err, refl, subst}
+use Rattle.std.specs.Prelude.{nat_lt, nat_le, not, ◌&&◌, codes}
+use Rattle.std.specs.Option.{option_map}
+use Rattle.std.specs.Result.{result_ok}
+use Rattle.std.specs.Str.{bytes_eq}
+use Rattle.std.proofs.lemmas.Bool.{and_parts, leb-true, ltb-false}
+use Rattle.std.proofs.lemmas.Option.{none-some, same_Some}
+use Rattle.sem_text.specs.declared.numbers.NumberFault.TheVariants.{Bad, Range}
+use Rattle.sem_text.specs.Number.{is_number, number_value}
+use Rattle.sem_cli.specs.declared.forms.Command.{Command}
+use Rattle.sem_cli.specs.declared.forms.Command.TheVariants.{Run, Threads, Check, Generate, Soak}
+use Rattle.sem_cli.specs.declared.forms.Load.{Load}
+use Rattle.sem_cli.specs.Commands.{command_of, generate, soak, number_to, seed_of, load_from, load_of}
+
+-- a load that can be generated
+abbrev pub CanGenerate : ℕ → ℕ → Type 0
+CanGenerate vpes calls = (1 ≤ vpes) × (vpes ≤ 128) × (vpes * calls ≤ 20000)
+
+-- a number is at most as great as it may be
+number-most : (word : List ℕ) (most n : ℕ) → number_to most word ≡ Some n → n ≤ most
+number-most word most n some = from (is_number word) (nat_lt most (number_value word)) (number_value word) refl some
+  where
+    from : (spelled over : Bool) (value : ℕ) → nat_lt most value ≡ over → result_ok (cond (not spelled) (Err Bad) (cond over (Err Range) (Ok value))) ≡ Some n → n ≤ most
+    from false over value test some = absurd (none-some n some)
+    from true true value test some = absurd (none-some n some)
+    from true false value test some = subst (λ v. v ≤ most) (same_Some value n some) (ltb-false most value test)
+
+-- what the numbers of a load keep
+load-kept : (seed vpes calls : Option ℕ) (load : Load) → ((n : ℕ) → vpes ≡ Some n → n ≤ 128) → load_from seed vpes calls ≡ Some load → CanGenerate load.vpes load.calls
+load-kept None vpes calls load few some = absurd (none-some load some)
+load-kept (Some s) None calls load few some = absurd (none-some load some)
+load-kept (Some s) (Some v) None load few some = absurd (none-some load some)
+load-kept (Some s) (Some v) (Some c) load few some = from (nat_le 1 v && nat_le (v * c) 20000) refl some
+  where
+    from : (b : Bool) → (nat_le 1 v && nat_le (v * c) 20000) ≡ b → cond b (Some (record { seed = s; vpes = v; calls = c })) None ≡ Some load → CanGenerate load.vpes load.calls
+    from false test some = absurd (none-some load some)
+    from true test some =
+        let parts = and_parts (nat_le 1 v) (nat_le (v * c) 20000) test in
+        subst (λ (l : Load). CanGenerate l.vpes l.calls) (same_Some (record { seed = s; vpes = v; calls = c }) load some) (leb-true 1 v parts.0, few v refl, leb-true (v * c) 20000 parts.1)
+
+-- a command that generates has such a load
+abbrev IsLoaded : Option Command → Type 0
+IsLoaded None = Unit {0}
+IsLoaded (Some (Run seed)) = Unit {0}
+IsLoaded (Some (Threads seed)) = Unit {0}
+IsLoaded (Some Check) = Unit {0}
+IsLoaded (Some (Generate seed vpes calls)) = CanGenerate vpes calls
+IsLoaded (Some (Soak seed vpes calls)) = Unit {0}
+
+plain-loaded : (b : Bool) → IsLoaded (cond b (Some Check) None)
+plain-loaded true = tt
+plain-loaded false = tt
+
+seeded-loaded : (a b : Bool) (o : Option ℕ) → IsLoaded (cond a (option_map Run o) (cond b (option_map Threads o) None))
+seeded-loaded true b None = tt
+seeded-loaded true b (Some seed) = tt
+seeded-loaded false true None = tt
+seeded-loaded false true (Some seed) = tt
+seeded-loaded false false o = tt
+
+load-loaded : (a b : Bool) (o : Option Load) → ((load : Load) → o ≡ Some load → CanGenerate load.vpes load.calls) → IsLoaded (cond a (option_map generate o) (cond b (option_map soak o) None))
+load-loaded true b None kept = tt
+load-loaded true b (Some load) kept = kept load refl
+load-loaded false true None kept = tt
+load-loaded false true (Some load) kept = tt
+load-loaded false false o kept = tt
+
+command-loaded : (words : List (List ℕ)) → IsLoaded (command_of words)
+command-loaded [] = tt
+command-loaded (name ∷ []) = plain-loaded (bytes_eq name (codes "check"))
+command-loaded (name ∷ seed ∷ []) = seeded-loaded (bytes_eq name (codes "run")) (bytes_eq name (codes "threads")) (seed_of seed)
+command-loaded (name ∷ seed ∷ vpes ∷ []) = tt
+command-loaded (name ∷ seed ∷ vpes ∷ calls ∷ []) = load-loaded (bytes_eq name (codes "gen")) (bytes_eq name (codes "soak")) (load_of seed vpes calls) (λ load. load-kept (seed_of seed) (number_to 128 vpes) (number_to 20000 calls) load (number-most vpes 128))
+command-loaded (name ∷ seed ∷ vpes ∷ calls ∷ more ∷ words) = tt
+
+-- so has one that words are
+pub can-generate : (words : List (List ℕ)) (seed vpes calls : ℕ) → command_of words ≡ Some (Generate seed vpes calls) → CanGenerate vpes calls
+can-generate words seed vpes calls same = subst IsLoaded same (command-loaded words)

@@ -1,0 +1,72 @@
+// The lines that tell why a report is refused. After want of memory each of these functions may have
+// appended a part.
+ghost use Rattle.std.specs.Prelude.{◌≡◌, ◌++◌, ◌∷◌, [], codes, decimal, OnOk};
+ghost use Rattle.sem_cli.specs.Refusals.{bad_line, bad_entry, replayed_text, differing_line, going_on_line};
+
+use crate::messages::cause_name;
+use sem_journal::push_entry_words;
+use sem_key::OutOfMemory;
+use sem_msg::Entry;
+use sem_text::push_number;
+use sem_trace::TraceFault;
+
+/// Appends the line that tells which line of a report is bad, and why.
+pub fn push_bad_line(out: &mut Vec<u8>, fault: &TraceFault) -> Result<(), OutOfMemory>
+    ensures ok { OnOk result (out.new.items ≡ out.old.items ++ bad_line fault.now) }
+{
+    out.extend_from_slice(b"report refused: line ")?;
+    push_number(out, fault.line)?;
+    out.extend_from_slice(b": ")?;
+    out.extend_from_slice(cause_name(fault.cause))?;
+    out.push(b'\n')?;
+    Ok(())
+}
+
+/// Appends the line that tells which entry is not the one that its event makes, and which one it
+/// makes; none where the event is not enabled.
+pub fn push_differing(
+    out: &mut Vec<u8>,
+    number: u64,
+    entered: &Entry,
+    replayed: &Option<Entry>,
+) -> Result<(), OutOfMemory>
+    ensures ok { OnOk result (out.new.items ≡ out.old.items ++ differing_line number entered.now replayed.now) }
+{
+    push_place(out, number)?;
+    push_entry_words(out, entered)?;
+    out.extend_from_slice(b"; replayed ")?;
+    push_replayed(out, replayed)?;
+    out.push(b'\n')?;
+    Ok(())
+}
+
+/// Appends the line that tells how many entries there are, after which an event is enabled, and the
+/// entry that the first such event makes.
+pub fn push_going_on(out: &mut Vec<u8>, number: u64, next: &Entry) -> Result<(), OutOfMemory>
+    ensures ok { OnOk result (out.new.items ≡ out.old.items ++ going_on_line number next.now) }
+{
+    push_place(out, number)?;
+    out.extend_from_slice(b"end; replayed ")?;
+    push_entry_words(out, next)?;
+    out.push(b'\n')?;
+    Ok(())
+}
+
+// Appends the beginning of a line on an entry.
+fn push_place(out: &mut Vec<u8>, number: u64) -> Result<(), OutOfMemory>
+    ensures ok { OnOk result (out.new.items ≡ out.old.items ++ (codes "report refused: entry " ++ decimal number ++ codes ": entered ")) }
+{
+    out.extend_from_slice(b"report refused: entry ")?;
+    push_number(out, number)?;
+    Ok(out.extend_from_slice(b": entered ")?)
+}
+
+// Appends the entry that an event makes, or that the event is not enabled.
+fn push_replayed(out: &mut Vec<u8>, replayed: &Option<Entry>) -> Result<(), OutOfMemory>
+    ensures ok { OnOk result (out.new.items ≡ out.old.items ++ replayed_text replayed.now) }
+{
+    match replayed {
+        Some(entry) => push_entry_words(out, entry),
+        None => out.extend_from_slice(b"not enabled"),
+    }
+}

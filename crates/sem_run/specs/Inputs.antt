@@ -1,0 +1,61 @@
+-- What the program is given, and what it reads ("The command line" in docs/texts.md).
+use Rattle.std.specs.Prelude.{◌≡◌, ℕ, Bool, true, false, List, [], Option, Some, IfSome}
+use Rattle.sem_msg.specs.Setup.{Setup, IsSetup}
+use Rattle.sem_io.specs.SourceBytes.{Takes}
+use Rattle.sem_trace.specs.declared.fault.TraceFault.{TraceFault}
+use Rattle.sem_trace.specs.Refusal.{refusal}
+use Rattle.sem_trace.specs.Standing.{Stands}
+use Rattle.sem_cli.specs.declared.forms.Command.{Command}
+use Rattle.sem_cli.specs.declared.forms.Command.TheVariants.{Run, Threads, Check, Generate, Soak}
+use Rattle.sem_cli.specs.Commands.{command_of}
+
+-- whether the command is built
+abbrev pub is_built : Command → Bool
+is_built (Run seed) = true
+is_built (Threads seed) = false
+is_built Check = true
+is_built (Generate seed vpes calls) = true
+is_built (Soak seed vpes calls) = false
+
+-- whether the command is built and reads the input
+abbrev pub reads_input : Command → Bool
+reads_input (Run seed) = true
+reads_input (Threads seed) = false
+reads_input Check = true
+reads_input (Generate seed vpes calls) = false
+reads_input (Soak seed vpes calls) = false
+
+-- What the program is given: its words, and its input before and after the call.
+pub record Given : Type 0 where
+  pub words : List (List ℕ)
+  -- the bytes that are left of the input before and after, where they are known
+  pub before : Option (List ℕ)
+  pub after : Option (List ℕ)
+  -- how many faults the input has had before and after
+  pub faults_before : ℕ
+  pub faults_after : ℕ
+
+-- the words are that command
+abbrev pub Asks : Given → Command → Type 0
+Asks g asked = command_of g.words ≡ Some asked
+
+-- the input was read to its end, and is that text
+pub record ReadsAll (g : Given) (text : List ℕ) : Type 0 where
+  pub taken : Takes g.before g.after text
+  pub to_end : IfSome g.after (λ rest. rest ≡ [])
+
+-- The input was read to its end, and stands for a setup.
+pub record ReadsTrace (g : Given) (T : Setup) : Type 0 where
+  pub valid : IsSetup T
+  pub text : List ℕ
+  pub taken : Takes g.before g.after text
+  pub stands : Stands text T
+  pub to_end : IfSome g.after (λ rest. rest ≡ [])
+
+-- the input is no trace, and this is its first fault
+abbrev pub IsRefused : Given → TraceFault → Type 0
+IsRefused g fault = IfSome g.before (λ bytes. refusal bytes ≡ Some fault)
+
+-- the input has had no fault in the call
+abbrev pub IsQuietlyRead : Given → Type 0
+IsQuietlyRead g = g.faults_after ≡ g.faults_before

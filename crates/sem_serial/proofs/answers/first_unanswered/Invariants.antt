@@ -1,6 +1,0 @@
-use Rattle.sem_serial.proofs.Unanswered.{NoneOf}
-use Rattle.sem_serial.proofs.answers.first_unanswered.Given as goal
-
--- none of the first VPEs waits for a reply
-abbrev pub invariant-loop-decl : goal.invariant-loop-decl
-invariant-loop-decl l = NoneOf l.setup l.fabric.journal l.decl-index
