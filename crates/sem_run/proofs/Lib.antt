@@ -3,3 +3,4 @@ pub mod Asked
 pub mod SafeRuns
 pub mod Ending
 pub mod Judging
+pub mod Accepting

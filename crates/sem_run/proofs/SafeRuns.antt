@@ -16,9 +16,9 @@ use Rattle.sem_safety.proofs.Pushing.{entry_of-event}
 use Rattle.sem_serial.proofs.Running.{picked-enabled}
 use Rattle.sem_cli.specs.declared.statuses.Status.{Status}
 use Rattle.sem_cli.specs.declared.statuses.Status.TheVariants.{Done, Usage, TraceRefused, ReadFault, WriteFault, Memory, ReportRefused, NotBuilt}
-use Rattle.sem_cli.specs.declared.forms.Command.TheVariants.{Run, Check, Generate}
+use Rattle.sem_cli.specs.declared.forms.Command.TheVariants.{Check, Generate}
 use Rattle.sem_run.specs.Inputs.{Given, ReadsTrace}
-use Rattle.sem_run.proofs.Asked.{is_run, not-both}
+use Rattle.sem_run.proofs.Asked.{no-run}
 use Rattle.sem_run.specs.Ends.{RunsSeeded, IsPartOfRun, IsSafeRun, IsOfRun, WouldEnd}
 
 -- what the words make is a run
@@ -58,8 +58,9 @@ module _ (g : Given) (J : List Entry) where
     -- a run that would end so left a safe schedule
     pub would-safe : (status : Status) → WouldEnd g J text status → IsOfRun g status J → IsSafeRun g J
     would-safe Done (inl ends) of_run = seeded-safe ends.setup ends.seed ends.run
-    would-safe Done (inr (inl ends)) of_run = absurd (not-both g Check (Run of_run.0) is_run ends.command of_run.1 refl refl)
-    would-safe Done (inr (inr ends)) of_run = absurd (not-both g (Generate ends.seed ends.vpes ends.calls) (Run of_run.0) is_run ends.command of_run.1 refl refl)
+    would-safe Done (inr (inl ends)) of_run = absurd (no-run g Check ends.command refl of_run.0 of_run.1)
+    would-safe Done (inr (inr (inl ends))) of_run = absurd (no-run g (Generate ends.seed ends.vpes ends.calls) ends.command refl of_run.0 of_run.1)
+    would-safe Done (inr (inr (inr ends))) of_run = schedule-safe ends.setup ends.trace ends.complete.schedule
     would-safe Usage ends of_run = absurd of_run
     would-safe TraceRefused ends of_run = absurd of_run
     would-safe ReadFault ends of_run = absurd of_run
@@ -72,7 +73,8 @@ module _ (g : Given) (J : List Entry) where
     pub unwritten-safe : (status : Status) → WouldEnd g J text status → J ≢ [] → IsSafeRun g J
     unwritten-safe Done (inl ends) some = seeded-safe ends.setup ends.seed ends.run
     unwritten-safe Done (inr (inl ends)) some = absurd (some ends.no_journal)
-    unwritten-safe Done (inr (inr ends)) some = absurd (some ends.no_journal)
+    unwritten-safe Done (inr (inr (inl ends))) some = absurd (some ends.no_journal)
+    unwritten-safe Done (inr (inr (inr ends))) some = schedule-safe ends.setup ends.trace ends.complete.schedule
     unwritten-safe Usage ends some = absurd (some ends.no_journal)
     unwritten-safe TraceRefused ends some = absurd (some ends.no_journal)
     unwritten-safe ReadFault ends some = absurd (some ends.no_journal)

@@ -13,12 +13,12 @@ use Rattle.sem_machine.specs.Living.{IsComplete}
 use Rattle.sem_machine.specs.Safety.{IsSafe}
 use Rattle.sem_audit.specs.HeldKeys.{report}
 use Rattle.sem_cli.specs.declared.forms.Command.{Command}
-use Rattle.sem_cli.specs.declared.forms.Command.TheVariants.{Run, Check, Generate}
+use Rattle.sem_cli.specs.declared.forms.Command.TheVariants.{Run, Threads, Check, Generate}
 use Rattle.sem_cli.specs.declared.statuses.Status.{Status}
 use Rattle.sem_cli.specs.declared.statuses.Status.TheVariants.{Done, Usage, TraceRefused, ReadFault, WriteFault, Memory, ReportRefused, NotBuilt}
 use Rattle.sem_cli.specs.Commands.{command_of}
 use Rattle.sem_cli.specs.Messages.{usage_line, not_built_line, ok_line, refused_line}
-use Rattle.sem_run.specs.Inputs.{Given, Asks, ReadsAll, ReadsTrace, IsRefused, IsQuietlyRead, is_built, reads_input}
+use Rattle.sem_run.specs.Inputs.{Given, Asks, AsksRun, ReadsAll, ReadsTrace, IsRefused, IsQuietlyRead, is_alone, reads_input}
 use Rattle.sem_run.specs.Reports.{IsRefusedReport}
 
 -- the journal is the seeded one of the setup that was read
@@ -57,9 +57,18 @@ pub record EndsGenerated (g : Given) (J : List Entry) (text : List ℕ) : Type 0
   pub no_journal : J ≡ []
   pub told : text ≡ canonical (generated seed vpes calls)
 
+-- Status 0 of a run in threads: the journal is complete, and the text is its report.
+pub record EndsThreaded (g : Given) (J : List Entry) (text : List ℕ) : Type 0 where
+  pub setup : Setup
+  pub seed : ℕ
+  pub command : Asks g (Threads seed)
+  pub trace : ReadsTrace g setup
+  pub complete : IsComplete setup J
+  pub told : text ≡ report setup J
+
 -- Status 0: what the command asks for is done.
 abbrev pub EndsDone : Given → List Entry → List ℕ → Type 0
-EndsDone g J text = EndsReported g J text ⊎ (EndsAccepted g J text ⊎ EndsGenerated g J text)
+EndsDone g J text = EndsReported g J text ⊎ (EndsAccepted g J text ⊎ (EndsGenerated g J text ⊎ EndsThreaded g J text))
 
 -- Status 1: the words are no command.
 pub record EndsUsage (g : Given) (J : List Entry) (text : List ℕ) : Type 0 where
@@ -70,7 +79,7 @@ pub record EndsUsage (g : Given) (J : List Entry) (text : List ℕ) : Type 0 whe
 -- Status 2: a command that reads a trace, and an input that is none.
 pub record EndsRefused (g : Given) (J : List Entry) (text : List ℕ) : Type 0 where
   pub seed : ℕ
-  pub command : Asks g (Run seed)
+  pub command : AsksRun g seed
   pub fault : TraceFault
   pub refused : IsRefused g fault
   pub quiet : IsQuietlyRead g
@@ -88,7 +97,7 @@ pub record EndsReadFault (g : Given) (J : List Entry) (text : List ℕ) : Type 0
 
 -- the journal is empty, or the command is a run and the journal a schedule of the setup that was read
 abbrev pub IsPartOfRun : Given → List Entry → Type 0
-IsPartOfRun g J = (J ≡ []) ⊎ ((T : Setup) × (seed : ℕ) × Asks g (Run seed) × ReadsTrace g T × IsSchedule T J)
+IsPartOfRun g J = (J ≡ []) ⊎ ((T : Setup) × (seed : ℕ) × AsksRun g seed × ReadsTrace g T × IsSchedule T J)
 
 -- Status 5: memory was wanting.
 pub record EndsMemory (g : Given) (J : List Entry) (text : List ℕ) : Type 0 where
@@ -104,11 +113,11 @@ pub record EndsReportRefused (g : Given) (J : List Entry) (text : List ℕ) : Ty
   pub quiet : IsQuietlyRead g
   pub no_journal : J ≡ []
 
--- Status 10: a command that is not built.
+-- Status 10: a command that is not built, or not for one thread.
 pub record EndsNotBuilt (g : Given) (J : List Entry) (text : List ℕ) : Type 0 where
   pub asked : Command
   pub command : Asks g asked
-  pub not_built : is_built asked ≡ false
+  pub not_alone : is_alone asked ≡ false
   pub quiet : IsQuietlyRead g
   pub no_journal : J ≡ []
   pub told : text ≡ not_built_line
@@ -142,9 +151,9 @@ pub record IsSafeRun (g : Given) (J : List Entry) : Type 0 where
   pub safe : IsSafe setup J
   pub few : length J ≤ 21 * call_count setup + kill_count setup
 
--- whether a run left the journal: with status 0 where the words are `run SEED`, with 4 and 5 where it is not empty
+-- whether a run left the journal: with status 0 where the words are `run SEED` or `threads SEED`, with 4 and 5 where it is not empty
 abbrev pub IsOfRun : Given → Status → List Entry → Type 0
-IsOfRun g Done J = (seed : ℕ) × Asks g (Run seed)
+IsOfRun g Done J = (seed : ℕ) × AsksRun g seed
 IsOfRun g Usage J = ⊥
 IsOfRun g TraceRefused J = ⊥
 IsOfRun g ReadFault J = ⊥

@@ -1,5 +1,5 @@
 -- What the program is given, and what it reads ("The command line" in docs/texts.md).
-use Rattle.std.specs.Prelude.{◌≡◌, ℕ, Bool, true, false, List, [], Option, Some, IfSome}
+use Rattle.std.specs.Prelude.{◌≡◌, ◌⊎◌, ℕ, Bool, true, false, List, [], Option, Some, IfSome}
 use Rattle.sem_msg.specs.Setup.{Setup, IsSetup}
 use Rattle.sem_io.specs.SourceBytes.{Takes}
 use Rattle.sem_trace.specs.declared.fault.TraceFault.{TraceFault}
@@ -9,18 +9,18 @@ use Rattle.sem_cli.specs.declared.forms.Command.{Command}
 use Rattle.sem_cli.specs.declared.forms.Command.TheVariants.{Run, Threads, Check, Generate, Soak}
 use Rattle.sem_cli.specs.Commands.{command_of}
 
--- whether the command is built
-abbrev pub is_built : Command → Bool
-is_built (Run seed) = true
-is_built (Threads seed) = false
-is_built Check = true
-is_built (Generate seed vpes calls) = true
-is_built (Soak seed vpes calls) = false
+-- whether the command is built for one thread
+abbrev pub is_alone : Command → Bool
+is_alone (Run seed) = true
+is_alone (Threads seed) = false
+is_alone Check = true
+is_alone (Generate seed vpes calls) = true
+is_alone (Soak seed vpes calls) = false
 
 -- whether the command is built and reads the input
 abbrev pub reads_input : Command → Bool
 reads_input (Run seed) = true
-reads_input (Threads seed) = false
+reads_input (Threads seed) = true
 reads_input Check = true
 reads_input (Generate seed vpes calls) = false
 reads_input (Soak seed vpes calls) = false
@@ -38,6 +38,10 @@ pub record Given : Type 0 where
 -- the words are that command
 abbrev pub Asks : Given → Command → Type 0
 Asks g asked = command_of g.words ≡ Some asked
+
+-- the words are a run by that seed, on one thread or in threads
+abbrev pub AsksRun : Given → ℕ → Type 0
+AsksRun g seed = Asks g (Run seed) ⊎ Asks g (Threads seed)
 
 -- the input was read to its end, and is that text
 pub record ReadsAll (g : Given) (text : List ℕ) : Type 0 where

@@ -8,10 +8,11 @@ ghost use Rattle.sem_cli.specs.declared.forms.Command.{Command as CommandData};
 ghost use Rattle.sem_cli.specs.declared.forms.Command.TheVariants.{Run, Check, Generate};
 ghost use Rattle.sem_cli.specs.declared.statuses.Status.{Status as StatusData};
 ghost use Rattle.sem_cli.specs.Commands.{command_of};
-ghost use Rattle.sem_run.specs.Inputs.{is_built};
+ghost use Rattle.sem_run.specs.Inputs.{is_alone};
 ghost use Rattle.sem_run.specs.Reports.{IsReport};
 ghost use Rattle.sem_run.specs.Ends.{EndsDone, EndsUsage, EndsRefused, EndsNotBuilt, EndsReadFault, EndsMemory, EndsReportRefused, IsOfRun, IsSafeRun, WouldEnd, Writes, WritesPrefix};
 
+use crate::accepts::reports_are_accepted;
 use crate::responses::respond;
 use sem_cli::Status;
 use sem_io::{Failed, Sink, Source, write_all};
@@ -50,10 +51,10 @@ pub fn semper_alone<S: Source, K: Sink>(
     // Safety: what a run leaves, whole or cut short, is a schedule of the trace, and safe; it has few entries.
     ensures safe { IsOfRun (record { words = map string_bytes words.now; before = S.left input.old; after = S.left input.new; faults_before = S.faults input.old; faults_after = S.faults input.new }) result journal.new.entries → IsSafeRun (record { words = map string_bytes words.now; before = S.left input.old; after = S.left input.new; faults_before = S.faults input.old; faults_after = S.faults input.new }) journal.new.entries }
 
-    // Exactly: words that are no command, and a command that is not built, are told so, unless memory was wanting or the count of
+    // Exactly: words that are no command, and a command that is not built for one thread, are told so, unless memory was wanting or the count of
     // the sink's faults rose. Neither reads anything.
     ensures usage_exactly { command_of (map string_bytes words.now) ≡ None → (result ≡ Status.Usage) ⊎ ((result ≡ Status.WriteFault) ⊎ (result ≡ Status.Memory)) }
-    ensures not_built_exactly { (asked : CommandData) → command_of (map string_bytes words.now) ≡ Some asked → is_built asked ≡ false → (result ≡ Status.NotBuilt) ⊎ ((result ≡ Status.WriteFault) ⊎ (result ≡ Status.Memory)) }
+    ensures not_built_exactly { (asked : CommandData) → command_of (map string_bytes words.now) ≡ Some asked → is_alone asked ≡ false → (result ≡ Status.NotBuilt) ⊎ ((result ≡ Status.WriteFault) ⊎ (result ≡ Status.Memory)) }
 
     // What is no trace is refused, at its first bad line with its cause, unless memory was wanting or a count of faults rose.
     ensures refused_exactly { (bytes : List ℕ) (seed : ℕ) (fault : TraceFault) → command_of (map string_bytes words.now) ≡ Some (Run seed) → S.left input.old ≡ Some bytes → refusal bytes ≡ Some fault → (result ≡ Status.TraceRefused) ⊎ ((result ≡ Status.ReadFault) ⊎ ((result ≡ Status.WriteFault) ⊎ (result ≡ Status.Memory))) }
@@ -64,9 +65,14 @@ pub fn semper_alone<S: Source, K: Sink>(
     // What is not the report of a complete schedule is refused as such, unless memory was wanting or a count of faults rose.
     ensures refuses { (bytes : List ℕ) → command_of (map string_bytes words.now) ≡ Some Check → S.left input.old ≡ Some bytes → ¬ IsReport bytes → (result ≡ Status.ReportRefused) ⊎ ((result ≡ Status.ReadFault) ⊎ ((result ≡ Status.WriteFault) ⊎ (result ≡ Status.Memory))) }
 
+    // What is the report of a complete schedule is accepted, unless memory was wanting or a count of faults rose. So what a run
+    // writes a check accepts.
+    ensures accepts { (bytes : List ℕ) → command_of (map string_bytes words.now) ≡ Some Check → S.left input.old ≡ Some bytes → IsReport bytes → (result ≡ Status.Done) ⊎ ((result ≡ Status.ReadFault) ⊎ ((result ≡ Status.WriteFault) ⊎ (result ≡ Status.Memory))) }
+
     // Every load is generated, unless memory was wanting or the count of the sink's faults rose.
     ensures generates { (seed vpes calls : ℕ) → command_of (map string_bytes words.now) ≡ Some (Generate seed vpes calls) → (result ≡ Status.Done) ⊎ ((result ≡ Status.WriteFault) ⊎ (result ≡ Status.Memory)) }
 {
+    reports_are_accepted();
     let mut text = Vec::new(alloc);
     let status = respond(alloc, words, input, journal, &mut text);
     match write_all(out, &text) {

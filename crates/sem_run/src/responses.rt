@@ -1,10 +1,12 @@
-ghost use Rattle.std.specs.Prelude.{◌≡◌, ◌++◌, List, ℕ, [], Some, None, IfOk, IfSome, IsErrOf, OnErr, OnOk, map, string_bytes};
+ghost use Rattle.std.specs.Prelude.{◌≡◌, ◌⊎◌, false, ◌++◌, List, ℕ, [], Some, None, IfOk, IfSome, IsErrOf, OnErr, OnOk, map, string_bytes};
 ghost use Rattle.sem_io.specs.Count.{Rose};
 ghost use Rattle.sem_io.specs.declared.transfer.ReadError.TheVariants.{Fault, Memory as NoMemory};
 ghost use Rattle.sem_machine.specs.Schedules.{IsSchedule};
+ghost use Rattle.sem_cli.specs.declared.forms.Command.{Command as CommandData};
 ghost use Rattle.sem_cli.specs.declared.forms.Command.TheVariants.{Run};
-ghost use Rattle.sem_cli.specs.declared.statuses.Status.TheVariants.{ReadFault, Memory};
+ghost use Rattle.sem_cli.specs.declared.statuses.Status.TheVariants.{ReadFault, Memory, NotBuilt};
 ghost use Rattle.sem_cli.specs.Commands.{command_of};
+ghost use Rattle.sem_run.specs.Inputs.{is_alone};
 ghost use Rattle.sem_run.specs.Ends.{IsPartOfRun, EndsReadFault, WouldEnd};
 ghost use Rattle.sem_run.specs.Readings.{IsReading};
 
@@ -31,7 +33,8 @@ pub fn respond<S: Source>(
 ) -> Status
     requires journal { journal.old.entries ≡ [] }
     requires text { text.old.items ≡ [] }
-    ensures { WouldEnd (record { words = map string_bytes words.now; before = S.left input.old; after = S.left input.new; faults_before = S.faults input.old; faults_after = S.faults input.new }) journal.new.entries text.new.items result }
+    ensures ends { WouldEnd (record { words = map string_bytes words.now; before = S.left input.old; after = S.left input.new; faults_before = S.faults input.old; faults_after = S.faults input.new }) journal.new.entries text.new.items result }
+    ensures alone { (asked : CommandData) → command_of (map string_bytes words.now) ≡ Some asked → is_alone asked ≡ false → (result ≡ Status.NotBuilt) ⊎ (result ≡ Status.Memory) }
 {
     match carry_out(alloc, words, input, journal, text) {
         Ok(status) => status,
@@ -59,6 +62,8 @@ fn carry_out<S: Source>(
     ensures ok { IfOk result (WouldEnd (record { words = map string_bytes words.now; before = S.left input.old; after = S.left input.new; faults_before = S.faults input.old; faults_after = S.faults input.new }) journal.new.entries text.new.items) }
     ensures fault { IsErrOf result ReadError.Fault → EndsReadFault (record { words = map string_bytes words.now; before = S.left input.old; after = S.left input.new; faults_before = S.faults input.old; faults_after = S.faults input.new }) journal.new.entries [] }
     ensures memory { IsErrOf result ReadError.Memory → IsPartOfRun (record { words = map string_bytes words.now; before = S.left input.old; after = S.left input.new; faults_before = S.faults input.old; faults_after = S.faults input.new }) journal.new.entries }
+    ensures told { (asked : CommandData) → command_of (map string_bytes words.now) ≡ Some asked → is_alone asked ≡ false → IfOk result (λ status. status ≡ Status.NotBuilt) }
+    ensures unread { (asked : CommandData) → command_of (map string_bytes words.now) ≡ Some asked → is_alone asked ≡ false → IsErrOf result ReadError.Fault → ⊥ }
 {
     match command(words) {
         None => {
@@ -107,13 +112,13 @@ fn run_trace<S: Source>(
 
 // What an input is: a trace, or none.
 #[derive(Drop)]
-enum Reading {
+pub enum Reading {
     Trace(Setup),
     Faulty(TraceFault),
 }
 
 // What the input is, read to its end or to one byte more than a trace may have.
-fn read_setup<S: Source>(alloc: Global, input: &mut S) -> Result<Reading, ReadError>
+pub fn read_setup<S: Source>(alloc: Global, input: &mut S) -> Result<Reading, ReadError>
     ensures reads { IfOk result (λ reading. (words : List (List ℕ)) → IsReading (record { words = words; before = S.left input.old; after = S.left input.new; faults_before = S.faults input.old; faults_after = S.faults input.new }) reading) }
     ensures quiet { OnOk result (S.faults input.new ≡ S.faults input.old) }
     ensures fault { IsErrOf result ReadError.Fault → Rose (S.faults input.old) (S.faults input.new) }

@@ -4,15 +4,27 @@
 use sem_cli::Status;
 use sem_io::{ReadSource, WriteSink};
 use sem_msg::Journal;
-use sem_run::semper_alone;
+use sem_node::OpenGate;
+use sem_run::semper;
 use std::alloc::AllocError as OutOfMemory;
 use std::env;
 use std::io::ErrorKind;
 use std::process::ExitCode;
 
 fn main(rt: HostRuntime) -> ExitCode {
+    let mut input = ReadSource::new(rt.stdin());
+    let mut out = WriteSink::new(rt.stdout());
+    let mut journal = Journal::new(rt.alloc());
     let status = match words(&rt) {
-        Ok(words) => run(&rt, words.as_slice()),
+        Ok(words) => semper(
+            &rt,
+            rt.alloc(),
+            &words,
+            &mut input,
+            &mut out,
+            &OpenGate,
+            &mut journal,
+        ),
         Err(_) => Status::Memory,
     };
     ExitCode::from(status.number())
@@ -25,12 +37,4 @@ fn words(rt: &HostRuntime) -> Result<Vec<String>, OutOfMemory> {
         Err(fault) if fault.kind() == ErrorKind::OutOfMemory => Err(OutOfMemory),
         Err(_) => Ok(Vec::new(rt.alloc())),
     }
-}
-
-// Does what the words ask for, over standard input and standard output.
-fn run(rt: &HostRuntime, words: &[String]) -> Status {
-    let mut input = ReadSource::new(rt.stdin());
-    let mut out = WriteSink::new(rt.stdout());
-    let mut journal = Journal::new(rt.alloc());
-    semper_alone(rt.alloc(), words, &mut input, &mut out, &mut journal)
 }

@@ -1,0 +1,12 @@
+pub mod Near
+pub mod NearRevokes
+pub mod NearCalls
+pub mod NearSteps
+pub mod NearStarts
+pub mod NearWorlds
+pub mod Messages
+pub mod Entries
+pub mod Pigeons
+pub mod Held
+pub mod Audits
+pub mod Bytes
