@@ -3,6 +3,8 @@
 
 mod accepts;
 mod alone;
+#[cfg(test)]
+mod change_tests;
 mod checks;
 mod generates;
 mod responses;
