@@ -1,3 +1,4 @@
 pub mod Drawing
 pub mod Owning
 pub mod Sound
+pub mod Loads

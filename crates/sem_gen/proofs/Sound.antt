@@ -38,7 +38,7 @@ word-small : (g : Lcg) (m : ℕ) → word_at g m < 2 ^ 32
 unfolding word_at
 word-small g m = output-small (advance 64 multiplier_64 m g).state
 
-chosen : {X : Type 0} (P : X → Type 0) (b : Bool) (x y : X) → P x → P y → P (cond b x y)
+pub chosen : {X : Type 0} (P : X → Type 0) (b : Bool) (x y : X) → P x → P y → P (cond b x y)
 chosen P true x y this that = this
 chosen P false x y this that = that
 
@@ -58,7 +58,7 @@ call-valid vpes most x some few small =
     (chosen (IsValidCall most) (x % 4 == 2) delegate revoke (s, p, t) t))
 
 -- what holds of each element of a table holds of all
-all-mapped : {X : Type 0} (P : X → Type 0) (f : ℕ → X) (a n : ℕ) → ((i : ℕ) → i < n → P (f (a + i))) → All P (map f (range_with_len a n))
+pub all-mapped : {X : Type 0} (P : X → Type 0) (f : ℕ → X) (a n : ℕ) → ((i : ℕ) → i < n → P (f (a + i))) → All P (map f (range_with_len a n))
 all-mapped P f a n each k d within =
     let inside : k < n = omega (arith, length-map-range_with_len f a n) in
     let at : get_or (map f (range_with_len a n)) k d ≡ f (a + k) = get_or-map-range_with_len f a n k (a + k) d inside refl in
@@ -148,7 +148,7 @@ no-services seed vpes calls a zero = refl
 no-services seed vpes calls a (suc n) = no-services seed vpes calls (a + 1) n
 
 -- each VPE has so many calls
-call-total : (seed vpes calls a n : ℕ) → sum_by (λ (d : VpeDecl). length d.calls) (map (vpe_of seed vpes calls) (range_with_len a n)) ≡ n * calls
+pub call-total : (seed vpes calls a n : ℕ) → sum_by (λ (d : VpeDecl). length d.calls) (map (vpe_of seed vpes calls) (range_with_len a n)) ≡ n * calls
 call-total seed vpes calls a zero = omega arith
 call-total seed vpes calls a (suc n) =
     let d : VpeDecl = vpe_of seed vpes calls a in

@@ -2,8 +2,10 @@
 #![tactic(auto)]
 
 mod calls;
+mod laws;
 mod setups;
 #[cfg(test)]
 mod tests;
 
+pub use laws::generated_vpes_go_on;
 pub use setups::generate;

@@ -4,10 +4,12 @@
 
 mod sink;
 mod source;
+mod sure;
 #[cfg(test)]
 mod tests;
 mod transfer;
 
 pub use sink::{MemSink, Sink, WriteSink};
 pub use source::{Failed, MemSource, ReadSource, Source};
+pub use sure::{SureSink, SureSource};
 pub use transfer::{ReadError, read_all, write_all};

@@ -1,4 +1,7 @@
-use crate::{Failed, MemSink, MemSource, ReadError, ReadSource, WriteSink, read_all, write_all};
+use crate::{
+    Failed, MemSink, MemSource, ReadError, ReadSource, SureSink, SureSource, WriteSink, read_all,
+    write_all,
+};
 use std::alloc::{AllocError, Global};
 use std::io;
 use std::io::{Cursor, ErrorKind, Read, Write};
@@ -196,5 +199,25 @@ fn a_real_writer_takes_all_or_stops(rt: HostRuntime) -> Result<(), Fail> {
         );
         assert_eq!(rt; sink.failed, 1, "fails: {fails}");
     }
+    Ok(())
+}
+
+#[test]
+fn a_sure_source_gives_all_it_has(rt: HostRuntime) -> Result<(), Fail> {
+    let bytes = counting(rt.alloc(), 5000)?;
+    let mut source = SureSource::new(bytes.clone()?);
+    let read = read_all(rt.alloc(), &mut source, 10_000)?;
+    assert_eq!(rt; read.as_slice(), bytes.as_slice());
+    assert_eq!(rt; source.at, 5000);
+    Ok(())
+}
+
+#[test]
+fn a_sure_sink_counts_what_it_takes(rt: HostRuntime) -> Result<(), Fail> {
+    let bytes = counting(rt.alloc(), 100)?;
+    let mut sink = SureSink::new();
+    write_all(&mut sink, &bytes)?;
+    write_all(&mut sink, &bytes)?;
+    assert_eq!(rt; sink.taken, 200);
     Ok(())
 }
