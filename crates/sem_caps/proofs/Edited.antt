@@ -13,13 +13,14 @@ use Rattle.sem_key.specs.KeyList.{IsKeyList}
 use Rattle.sem_key.specs.Lists.{change}
 use Rattle.sem_key.specs.Capability.{Capability, capability_of}
 use Rattle.sem_key.specs.CapList.{keys_of}
+use Rattle.sem_caps.specs.declared.spot.Spot.{Spot}
 use Rattle.sem_caps.specs.CapStore.{CapStore}
 use Rattle.sem_caps.specs.Stored.{plain, HasChildRoom, IsStored}
 use Rattle.sem_caps.proofs.RisingCaps.{length-plain, in_range-row, key-here, only-here, change-there}
 
 -- stores with the same capabilities, and all else the same
-pub same_caps : (spare : ℕ) (child_room : Option KeyName) (cs cs' : List Capability) → cs ≡ cs' → ◌≡◌ {A = CapStore} (record { caps = cs; spare = spare; child_room = child_room }) (record { caps = cs'; spare = spare; child_room = child_room })
-same_caps spare child_room cs cs' same = ap (λ (xs : List Capability). record { caps = xs; spare = spare; child_room = child_room }) same
+pub same_caps : (spare : ℕ) (child_room : Option KeyName) (places : List Spot) (cs cs' : List Capability) → cs ≡ cs' → ◌≡◌ {A = CapStore} (record { caps = cs; spare = spare; child_room = child_room; places = places }) (record { caps = cs'; spare = spare; child_room = child_room; places = places })
+same_caps spare child_room places cs cs' same = ap (λ (xs : List Capability). record { caps = xs; spare = spare; child_room = child_room; places = places }) same
 
 module _ (rows : List Cap) (is_list : IsKeyList (keys_of (plain rows))) (k : KeyName) (at : ℕ) (here : slice_get (keys_of (plain rows)) at ≡ Some k) (row : Cap) (read : row ≡ get_or rows at row) where
   pub within : at < length rows

@@ -1,6 +1,10 @@
+pub mod Places
 pub mod RisingCaps
 pub mod Edited
 pub mod Inserted
 pub mod Nexts
 pub mod Swept
 pub mod Links
+pub mod Written
+pub mod Added
+pub mod Taken

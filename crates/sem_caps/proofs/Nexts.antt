@@ -1,16 +1,17 @@
 -- The least key above a given one, in a list of rising keys.
-use Rattle.std.proofs.Common.{◌≡◌, ℕ, zero, suc, ◌+◌, ◌-◌, ◌<◌, ◌≤◌, ◌==◌, Bool, true, false, List, [], ◌∷◌, length, take, drop, map, get_or, Option, Some, None, refl, sym, ◌∙◌, ap, subst, inl, inr, eq-eqb, arith}
+use Rattle.std.proofs.Common.{◌≡◌, ℕ, zero, suc, ◌+◌, ◌-◌, ◌<◌, ◌≤◌, ◌==◌, Bool, true, false, List, [], ◌∷◌, length, take, drop, get_or, Option, Some, None, refl, sym, ◌∙◌, ap, subst, inl, inr, eq-eqb, arith}
 use Rattle.std.specs.List.{AllWithin, Contains, find, slice_get}
 use Rattle.std.proofs.lemmas.Bool.{cases_Bool, cases_lt, cond-true, cond-false}
 use Rattle.std.proofs.lemmas.Bool.Decides.{nat_tests}
 use Rattle.std.proofs.lemmas.Option.{same_Some, slice_get_within, get_or_from_slice_get}
 use Rattle.std.proofs.lemmas.List.{get_or-drop, length-drop, drop-map, take_all}
-use Rattle.sem_key.specs.declared.object.Cap.{Cap}
+use Rattle.sem_key.specs.Capability.{Capability}
 use Rattle.sem_key.specs.KeyName.{KeyName, packed}
 use Rattle.sem_key.specs.KeyList.{IsRising, IsKeyList}
 use Rattle.sem_key.specs.CapList.{keys_of}
 use Rattle.sem_caps.specs.CapStore.{IsAbove, IsNextOf}
-use Rattle.sem_caps.specs.Stored.{plain, IsFirstAbove}
+use Rattle.sem_caps.specs.declared.spot.Spot.{Spot}
+use Rattle.sem_caps.specs.Stored.{spot_keys, IsFirstAbove}
 
 -- A search in rising keys.
 
@@ -97,29 +98,19 @@ above-place ks is_list k at here =
         let read : get_or ks at d ≡ k = get_or_from_slice_get ks at k d here in
         omega (arith, ap packed read, is_list.rising at j d (omega arith) lt)
 
--- the keys of what is stored
-keys-rows : (rows : List Cap) → map (λ (c : Cap). c.key) rows ≡ keys_of (plain rows)
-keys-rows [] = refl
-keys-rows (c ∷ rows) = ap (λ ks. c.key ∷ ks) (keys-rows rows)
-
 -- the first key of the VPE among those above the given one is the least
-module _ (rows : List Cap) (is_list : IsKeyList (keys_of (plain rows))) (vpe : ℕ) (above : Option KeyName) (from : ℕ) (first : IsFirstAbove (keys_of (plain rows)) above from) where
+module _ (cs : List Capability) (spots : List Spot) (keys : keys_of cs ≡ spot_keys spots) (is_list : IsKeyList (keys_of cs)) (vpe : ℕ) (above : Option KeyName) (from : ℕ) (first : IsFirstAbove (keys_of cs) above from) where
   abbrev is_of : KeyName → Bool
   is_of k = k.vpe == vpe
 
-  pub next-found : (r : Option KeyName) → r ≡ find (λ k. k.vpe == vpe) (map (λ (c : Cap). c.key) (take (length rows - from) (drop from rows))) → IsNextOf (plain rows) vpe above r
+  pub next-found : (r : Option KeyName) → r ≡ find (λ k. k.vpe == vpe) (spot_keys (take (length spots - from) (drop from spots))) → IsNextOf cs vpe above r
   next-found r is =
-      let rest : take (length rows - from) (drop from rows) ≡ drop from rows = take_all (length rows - from) (drop from rows) (omega (arith, length-drop from rows)) in
-      go r (is ∙ ap (find is_of) (ap (map (λ (c : Cap). c.key)) rest ∙ (sym (drop-map (λ (c : Cap). c.key) from rows) ∙ ap (drop from) (keys-rows rows))))
+      let rest : take (length spots - from) (drop from spots) ≡ drop from spots = take_all (length spots - from) (drop from spots) (omega (arith, length-drop from spots)) in
+      go r (is ∙ ap (find is_of) (ap spot_keys rest ∙ (sym (drop-map (λ (s : Spot). s.key) from spots) ∙ ap (drop from) (sym keys))))
     where
-      go : (r : Option KeyName) → r ≡ find is_of (drop from (keys_of (plain rows))) → IsNextOf (plain rows) vpe above r
+      go : (r : Option KeyName) → r ≡ find is_of (drop from (keys_of cs)) → IsNextOf cs vpe above r
       go None is = λ q key. not_found is_of _ q (sym is) (in_rest _ is_list above from first q key.held key.is_above) (eq-eqb q.vpe vpe key.of_vpe)
       go (Some k) is =
           let f = found is_of _ k (rising-rest _ is_list above from first) (sym is) in
           let there = from_rest _ is_list above from first k f.0 in
           (record { held = there.0; of_vpe = grind (arith, nat_tests, f.1); is_above = there.1 }, λ q key. f.2 q (in_rest _ is_list above from first q key.held key.is_above) (eq-eqb q.vpe vpe key.of_vpe))
-
--- the keys of the capabilities as contracts see them
-pub plain-keys : (rows : List Cap) → map (λ (r : Cap). r.key) rows ≡ keys_of (plain rows)
-plain-keys [] = refl
-plain-keys (r ∷ rows) = ap (λ (ks : List KeyName). r.key ∷ ks) (plain-keys rows)

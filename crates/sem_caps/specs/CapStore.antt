@@ -1,9 +1,10 @@
 -- The capabilities of one kernel as contracts see them ("State" in docs/machine.md).
-use Rattle.std.specs.Prelude.{◌≡◌, ℕ, ◌<◌, ◌≤◌, List, if◌then◌else◌, is_some, Contains, Option, Some, None, IfSome, IsSomeAnd}
-use Rattle.sem_key.specs.KeyName.{KeyName, packed}
+use Rattle.std.specs.Prelude.{◌≡◌, ℕ, ◌<◌, ◌≤◌, List, find, if◌then◌else◌, is_some, Contains, Option, Some, None, IfSome, IsSomeAnd, option_map}
+use Rattle.sem_key.specs.KeyName.{KeyName, packed, key_eq}
 use Rattle.sem_key.specs.KeyList.{IsKeyList}
 use Rattle.sem_key.specs.Capability.{Capability}
 use Rattle.sem_key.specs.CapList.{cap_of, keys_of}
+use Rattle.sem_caps.specs.declared.spot.Spot.{Spot}
 
 pub record CapStore : Type 0 where
   -- the capabilities that are held, in rising key order
@@ -12,6 +13,8 @@ pub record CapStore : Type 0 where
   pub spare : ℕ
   -- the capability to which one more child can be linked without memory
   pub child_room : Option KeyName
+  -- where they lie, each key with the place of its capability, in the same order
+  pub places : List Spot
 
 -- the key, if its capability is held
 abbrev pub held_key : List Capability → Option KeyName → Option KeyName
@@ -45,3 +48,15 @@ key_and_selector c = (c.key, c.selector)
 pub record IsCapStore (s : CapStore) : Type 0 where
   pub keys : IsKeyList (keys_of s.caps)
   pub child_room_held : IfSome s.child_room (Contains (keys_of s.caps))
+
+-- the place of the capability of that key
+abbrev pub place_in : List Spot → KeyName → Option ℕ
+place_in spots k = option_map (λ spot. spot.place) (find (λ spot. key_eq spot.key k) spots)
+
+-- no two capabilities lie at the same place
+abbrev pub PlacesDiffer : List Spot → Type 0
+PlacesDiffer spots = (a b : KeyName) (place : ℕ) → place_in spots a ≡ Some place → place_in spots b ≡ Some place → a ≡ b
+
+-- each capability that is held before and after lies at the same place
+abbrev pub KeepsPlaces : List Spot → List Spot → Type 0
+KeepsPlaces old new = (k : KeyName) (before after : ℕ) → place_in old k ≡ Some before → place_in new k ≡ Some after → after ≡ before

@@ -1,12 +1,42 @@
 -- What a store keeps in its fields.
-use Rattle.std.specs.Prelude.{◌≡◌, ℕ, ◌<◌, ◌≤◌, length, List, map, All, Contains, Option, Some, IfSome}
+use Rattle.std.specs.Prelude.{◌≡◌, ◌≢◌, ℕ, ◌<◌, ◌≤◌, length, List, [], map, All, AllPairs, Contains, Option, Some, None, IfSome, IsSomeAnd}
 use Rattle.std.specs.List.{AllWithin}
+use Rattle.std.specs.Option.{unwrap_or}
+use Rattle.slab.specs.Slab.{Slab, get, slab_len}
 use Rattle.sem_key.specs.declared.object.Cap.{Cap}
+use Rattle.sem_key.specs.declared.object.Object.TheVariants.{Serv}
 use Rattle.sem_key.specs.KeyName.{KeyName}
 use Rattle.sem_key.specs.KeyList.{IsKeyList}
 use Rattle.sem_key.specs.Capability.{Capability, capability_of}
 use Rattle.sem_key.specs.CapList.{keys_of, link_count}
+use Rattle.sem_caps.specs.declared.spot.Spot.{Spot}
 use Rattle.sem_caps.specs.CapStore.{IsAbove}
+
+-- some capability of that key
+abbrev pub blank : KeyName → Cap
+blank k = record { key = k; parent = None; children = record { keys = []; spare = 0 }; mark = None; selector = 0; object = Serv 0 }
+
+-- the keys of the spots
+abbrev pub spot_keys : List Spot → List KeyName
+spot_keys spots = map (λ spot. spot.key) spots
+
+-- the capability to which a spot leads; no spot of a store leads to an empty place
+abbrev pub row_at : Slab Cap → Spot → Cap
+row_at slab spot = unwrap_or (get slab spot.place) (blank spot.key)
+
+-- the capabilities to which the spots lead, in their order
+abbrev pub rows_of : Slab Cap → List Spot → List Cap
+rows_of slab spots = map (row_at slab) spots
+
+-- the spot leads to a capability of its key
+abbrev pub LeadsTo : Slab Cap → Spot → Type 0
+LeadsTo slab spot = IsSomeAnd (get slab spot.place) (λ c. c.key ≡ spot.key)
+
+-- each spot leads to a capability of its key, no two to the same place, and nothing else lies in the slab
+pub record IsPlaced (slab : Slab Cap) (spots : List Spot) : Type 0 where
+  pub leads : All (LeadsTo slab) spots
+  pub apart : AllPairs (λ a b. a.place ≢ b.place) spots
+  pub full : slab_len slab ≡ length spots
 
 -- what is in the store
 abbrev pub plain : List Cap → List Capability

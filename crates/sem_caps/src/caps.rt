@@ -1,20 +1,25 @@
-ghost use Rattle.std.specs.Prelude.{◌≡◌, ◌↔◌, ◌+◌, ◌<◌, ◌≤◌, ◌==◌, ◌++◌, [], length, map, filter, find, vec_len, vec_capacity, None, Some, IsTrue, IsSome, IsSomeAnd, IfSome, IfOk, IfErr, Contains, OnOk, OnErr, slice_get, option_copied, option_map};
+ghost use Rattle.std.specs.Prelude.{◌≡◌, ◌↔◌, ◌+◌, ◌<◌, ◌≤◌, ◌==◌, ◌++◌, [], length, map, filter, vec_len, vec_capacity, None, Some, IsTrue, IsSome, IsSomeAnd, IfOk, IfErr, OnOk, OnErr, slice_get, option_copied, option_map};
 ghost use Rattle.sem_key.specs.Capability.{capability_of};
 ghost use Rattle.sem_key.specs.KeyList.{IsRising, IsGapFor};
 ghost use Rattle.sem_key.specs.KeyName.{IsValidKey};
-ghost use Rattle.sem_key.specs.CapList.{cap_of, keys_of, is_marked_by, marked_by, not_marked_by, fresh, with_cap, linked, unlinked, marked, restored, link_count};
-ghost use Rattle.sem_caps.specs.CapStore.{IsCapStore, held_key, IsNextOf, key_and_selector, IsLinked};
-ghost use Rattle.sem_caps.specs.Stored.{plain, IsFirstAbove, HaveFewChildren, most_keys, most_links};
+ghost use Rattle.sem_key.specs.CapList.{cap_of, keys_of, marked_by, not_marked_by, fresh, with_cap, linked, unlinked, marked, restored, link_count};
+ghost use Rattle.sem_caps.specs.CapStore.{IsCapStore, held_key, IsNextOf, key_and_selector, IsLinked, place_in, PlacesDiffer, KeepsPlaces};
+ghost use Rattle.sem_caps.specs.Stored.{IsFirstAbove, spot_keys};
 
+use crate::rows::{append_keys, child_count, first_of, has_mark, remove_all, take_marked};
+use crate::spot::Spot;
 use sem_key::{Cap, Key, Keys, Object, OutOfMemory, pack};
+use slab::Slab;
 use std::alloc::Global;
 use std::marker::Model;
 
 /// The capabilities of one kernel, each under a key of its own.
 #[derive(Debug, Drop)]
 pub struct Caps {
-    // In rising key order.
-    rising: Vec<Cap>,
+    // Each capability stays at its place for as long as it is held.
+    slab: Slab<Cap>,
+    // Where they lie, in rising key order.
+    spots: Vec<Spot>,
     // The capability whose children have room for one more.
     child_room: Option<Key>,
     // How many links to children there are.
@@ -22,15 +27,15 @@ pub struct Caps {
 }
 
 impl Model for Caps {
-    ghost use Rattle.std.specs.Prelude.{◌-◌, vec_len, vec_capacity};
+    ghost use Rattle.std.specs.Prelude.{◌-◌, min, vec_len, vec_capacity};
     ghost use Rattle.sem_caps.specs.CapStore.{CapStore};
-    ghost use Rattle.sem_caps.specs.Stored.{plain, IsStored, IsCounted};
+    ghost use Rattle.sem_caps.specs.Stored.{plain, rows_of, IsStored, IsCounted, IsPlaced};
 
     ghost Value = { CapStore };
 
-    ghost view = { λ s. record { caps = plain s.rising.items; spare = vec_capacity s.rising - vec_len s.rising; child_room = s.child_room } };
+    ghost view = { λ s. record { caps = plain (rows_of s.slab s.spots.items); spare = min s.slab.capacity (vec_capacity s.spots) - vec_len s.spots; child_room = s.child_room; places = s.spots.items } };
 
-    ghost invariant = { λ s. IsStored s.rising.items s.child_room × IsCounted s.rising.items s.links };
+    ghost invariant = { λ s. IsStored (rows_of s.slab s.spots.items) s.child_room × IsCounted (rows_of s.slab s.spots.items) s.links × IsPlaced s.slab s.spots.items };
 }
 
 impl Caps {
@@ -40,7 +45,8 @@ impl Caps {
         ensures child_room { IfOk result (λ s. s.child_room ≡ None) }
     {
         Ok(Caps {
-            rising: Vec::new(alloc),
+            slab: Slab::new(alloc),
+            spots: Vec::new(alloc),
             child_room: None,
             links: 0,
         })
@@ -51,8 +57,20 @@ impl Caps {
         ensures cap { option_map capability_of (option_copied result) ≡ cap_of self.now.caps key }
         ensures store { IsCapStore self.now }
     {
+        let place = self.place_of(key)?;
+        self.slab.get(place)
+    }
+
+    /// The place in the slab of the capability of that key; none where no such key is held. It is the same for as long as
+    /// the capability is held. Takes no memory.
+    pub fn place_of(&self, key: Key) -> Option<usize>
+        ensures place { result ≡ place_in self.now.places key }
+        ensures held { IsSome result ↔ IsSome (cap_of self.now.caps key) }
+        ensures differ { PlacesDiffer self.now.places }
+        ensures store { IsCapStore self.now }
+    {
         match self.search(key) {
-            Ok(at) => Some(&self.rising[at]),
+            Ok(at) => Some(self.spots[at].place),
             Err(_) => None,
         }
     }
@@ -61,7 +79,8 @@ impl Caps {
     pub fn at(&self, place: usize) -> Option<&Cap>
         ensures { option_map capability_of (option_copied result) ≡ slice_get self.now.caps place }
     {
-        self.rising.get(place)
+        let spot = self.spots.get(place)?;
+        self.slab.get(spot.place)
     }
 
     /// Makes room for `more` capabilities, so that inserting them takes no memory, and for one more child of the capability
@@ -73,8 +92,10 @@ impl Caps {
         ensures caps { self.new.caps ≡ self.old.caps }
         ensures spare { self.old.spare ≤ self.new.spare }
         ensures err { OnErr result (self.new.child_room ≡ self.old.child_room) }
+        ensures places { KeepsPlaces self.old.places self.new.places }
     {
-        self.rising.reserve(more)?;
+        self.slab.reserve(more)?;
+        self.spots.reserve(more)?;
         self.make_child_room(parent)
     }
 
@@ -87,11 +108,12 @@ impl Caps {
         ensures caps { self.new.caps ≡ with_cap self.old.caps (fresh key parent selector object) }
         ensures spare { self.old.spare ≤ self.new.spare + 1 }
         ensures child_room { self.new.child_room ≡ self.old.child_room }
+        ensures places { KeepsPlaces self.old.places self.new.places }
     {
         let Err(at) = self.search(key) else {
             unreachable!()
         };
-        let children = Keys::new(*self.rising.allocator());
+        let children = Keys::new(*self.spots.allocator());
         let cap = Cap {
             key,
             parent,
@@ -100,7 +122,8 @@ impl Caps {
             selector,
             object,
         };
-        self.rising.insert(at, cap).unwrap();
+        let place = self.slab.insert_reserved(cap);
+        self.spots.insert(at, Spot { key, place }).unwrap();
     }
 
     /// The keys of those that were made from that capability, in rising key order.
@@ -111,10 +134,9 @@ impl Caps {
         ensures children { Some result.now ≡ option_map (λ c. c.children) (cap_of self.now.caps key) }
         ensures rising { IsRising result.now }
     {
-        let Ok(at) = self.search(key) else {
+        let Some(cap) = self.get(key) else {
             unreachable!()
         };
-        let cap = &self.rising[at];
         cap.children.as_slice()
     }
 
@@ -126,10 +148,10 @@ impl Caps {
         requires { self.old.child_room ≡ Some parent }
         ensures { self.new ≡ record self.old { caps = linked self.old.caps parent child; child_room = None } }
     {
-        let Ok(at) = self.search(parent) else {
+        let Some(place) = self.place_of(parent) else {
             unreachable!()
         };
-        let cap = &mut self.rising[at];
+        let cap = &mut self.slab[place];
         let before = child_count(cap);
         cap.children.insert(child);
         let after = child_count(cap);
@@ -141,11 +163,12 @@ impl Caps {
     pub fn unlink(&mut self, parent: Key, child: Key) -> bool
         ensures stood { IsTrue result ↔ IsLinked self.old.caps parent child }
         ensures gone { self.new ≡ record self.old { caps = unlinked self.old.caps parent child } }
+        ensures places { KeepsPlaces self.old.places self.new.places }
     {
-        let Ok(at) = self.search(parent) else {
+        let Some(place) = self.place_of(parent) else {
             return false;
         };
-        let cap = &mut self.rising[at];
+        let cap = &mut self.slab[place];
         let before = child_count(cap);
         let stood = cap.children.remove(child);
         let after = child_count(cap);
@@ -160,10 +183,10 @@ impl Caps {
         requires { IsSomeAnd (cap_of self.old.caps key) (λ c. c.mark ≡ None) }
         ensures { self.new ≡ record self.old { caps = marked self.old.caps key job } }
     {
-        let Ok(at) = self.search(key) else {
+        let Some(place) = self.place_of(key) else {
             unreachable!()
         };
-        let cap = &mut self.rising[at];
+        let cap = &mut self.slab[place];
         cap.mark = Some(job);
     }
 
@@ -174,10 +197,10 @@ impl Caps {
         requires { IsSome (cap_of self.old.caps key) }
         ensures { self.new ≡ record self.old { caps = restored self.old.caps key } }
     {
-        let Ok(at) = self.search(key) else {
+        let Some(place) = self.place_of(key) else {
             unreachable!()
         };
-        let cap = &mut self.rising[at];
+        let cap = &mut self.slab[place];
         let before = child_count(cap);
         remove_all(&mut cap.children);
         cap.mark = None;
@@ -190,7 +213,7 @@ impl Caps {
         ensures { IsNextOf self.now.caps vpe above result }
     {
         let from = self.first_above(above);
-        first_of(&self.rising[from..], vpe)
+        first_of(&self.spots[from..], vpe)
     }
 
     /// Appends the keys of that VPE that are held to `keys`, in rising key order. Takes no memory.
@@ -201,7 +224,7 @@ impl Caps {
         ensures keys { keys.new.items ≡ keys.old.items ++ filter (λ k. k.vpe == vpe) (keys_of self.now.caps) }
         ensures capacity { vec_capacity keys.new ≡ vec_capacity keys.old }
     {
-        append_keys(&self.rising, vpe, keys);
+        append_keys(&self.spots, vpe, keys);
     }
 
     /// Removes all capabilities that the job has marked, and appends the key and the selector of each to `gone`, in rising
@@ -216,11 +239,10 @@ impl Caps {
         ensures child_room { self.new.child_room ≡ held_key self.new.caps self.old.child_room }
         ensures spare { self.old.spare ≤ self.new.spare }
         ensures capacity { vec_capacity gone.new ≡ vec_capacity gone.old }
+        ensures places { KeepsPlaces self.old.places self.new.places }
     {
-        append_marked(&self.rising, job, gone);
         self.child_room = self.unmarked_child_room(job);
-        self.rising.retain(|cap| !has_mark(cap, job));
-        self.links = count_links(&self.rising);
+        self.links = take_marked(&mut self.slab, &mut self.spots, self.links, job, gone);
     }
 
     /// How many capabilities are held.
@@ -228,7 +250,7 @@ impl Caps {
         ensures len { result ≡ length self.now.caps }
         ensures few { result ≤ 536870912 }
     {
-        self.rising.len()
+        self.spots.len()
     }
 
     /// How many links to children there are.
@@ -237,7 +259,7 @@ impl Caps {
         ensures few { result ≤ 288230376151711744 }
     {
         // So that the proof knows what is stored.
-        let _ = &self.rising;
+        let _ = &self.spots;
         self.links
     }
 
@@ -250,11 +272,11 @@ impl Caps {
             self.child_room = None;
             return Ok(());
         };
-        let Ok(at) = self.search(key) else {
+        let Some(place) = self.place_of(key) else {
             self.child_room = None;
             return Ok(());
         };
-        let cap = &mut self.rising[at];
+        let cap = &mut self.slab[place];
         cap.children.room(1)?;
         self.child_room = parent;
         Ok(())
@@ -271,105 +293,29 @@ impl Caps {
 
     // The first place from which on the keys are above the given one.
     fn first_above(&self, above: Option<Key>) -> usize
-        ensures { IsFirstAbove (keys_of self.now.caps) above result }
+        ensures { IsFirstAbove (spot_keys self.now.places) above result }
     {
         let Some(key) = above else {
             return 0;
         };
         // So that the proof knows that a place is below the greatest usize.
-        let _ = &self.rising;
+        let _ = &self.spots;
         match self.search(key) {
             Ok(at) => at + 1,
             Err(at) => at,
         }
     }
 
-    // Where the capability of that key is, or where it would go.
+    // Where the key stands in the list, or where it would go.
     fn search(&self, key: Key) -> Result<usize, usize>
-        ensures found { IfOk result (λ at. slice_get (keys_of self.now.caps) at ≡ Some key) }
-        ensures absent { IfErr result (IsGapFor (keys_of self.now.caps) key) }
+        ensures found { IfOk result (λ at. slice_get (spot_keys self.now.places) at ≡ Some key) }
+        ensures absent { IfErr result (IsGapFor (spot_keys self.now.places) key) }
+        ensures same { keys_of self.now.caps ≡ spot_keys self.now.places }
+        ensures store { IsCapStore self.now }
+        ensures differ { PlacesDiffer self.now.places }
         ensures valid { IsValidKey key }
     {
-        self.rising
-            .binary_search_by_key(&pack(key), |cap| pack(cap.key))
+        self.spots
+            .binary_search_by_key(&pack(key), |spot| pack(spot.key))
     }
-}
-
-// The first key of that VPE.
-fn first_of(caps: &[Cap], vpe: u16) -> Option<Key>
-    ensures { result ≡ find (λ k. k.vpe == vpe) (map (λ c. c.key) caps.now) }
-{
-    caps.iter().map(|cap| cap.key).find(|key| key.vpe == vpe)
-}
-
-// Whether the job has marked the capability.
-fn has_mark(cap: &Cap, job: u32) -> bool
-    ensures { result ≡ is_marked_by job (capability_of cap.now) }
-{
-    cap.mark == Some(job)
-}
-
-// Appends the key of each capability of the VPE.
-fn append_keys(caps: &[Cap], vpe: u16, keys: &mut Vec<Key>)
-    requires { vec_len keys.old + length caps.now ≤ vec_capacity keys.old }
-    ensures items { keys.new.items ≡ keys.old.items ++ filter (λ k. k.vpe == vpe) (map (λ c. c.key) caps.now) }
-    ensures capacity { vec_capacity keys.new ≡ vec_capacity keys.old }
-{
-    for cap in caps {
-        if cap.key.vpe == vpe {
-            keys.push_reserved(cap.key);
-        }
-    }
-}
-
-// Appends the key and the selector of each capability that the job has marked.
-fn append_marked(caps: &[Cap], job: u32, gone: &mut Vec<(Key, u8)>)
-    requires { vec_len gone.old + length (marked_by job (plain caps.now)) ≤ vec_capacity gone.old }
-    ensures items { gone.new.items ≡ gone.old.items ++ map key_and_selector (marked_by job (plain caps.now)) }
-    ensures capacity { vec_capacity gone.new ≡ vec_capacity gone.old }
-{
-    for cap in caps {
-        if has_mark(cap, job) {
-            gone.push_reserved((cap.key, cap.selector));
-        }
-    }
-}
-
-// How many children the capability has.
-fn child_count(cap: &Cap) -> usize
-    ensures count { result ≡ length cap.now.children.keys }
-    ensures few { result ≤ most_keys }
-{
-    cap.children.as_slice().len()
-}
-
-// How many links to children there are.
-fn count_links(caps: &[Cap]) -> usize
-    requires caps { length caps.now ≤ most_keys }
-    requires children { HaveFewChildren caps.now }
-    ensures { result ≡ link_count (plain caps.now) }
-{
-    let mut links = 0;
-    for cap in caps {
-        links += child_count(cap);
-    }
-    links
-}
-
-// Takes all keys out, and keeps the room for them.
-fn remove_all(keys: &mut Keys)
-    ensures keys { keys.new.keys ≡ [] }
-    ensures spare { keys.old.spare ≤ keys.new.spare }
-{
-    while let Some(last) = last_of(keys) {
-        keys.remove(last);
-    }
-}
-
-// The last key; none where there are no keys.
-fn last_of(keys: &Keys) -> Option<Key>
-    ensures last { IfSome result (Contains keys.now.keys) }
-    ensures none { result ≡ None → keys.now.keys ≡ [] }
-{
-    keys.as_slice().last().copied()
 }

@@ -3,7 +3,11 @@
 
 mod caps;
 #[cfg(test)]
+mod place_tests;
+#[cfg(test)]
 mod random_tests;
+mod rows;
+mod spot;
 #[cfg(test)]
 mod tests;
 

@@ -242,7 +242,8 @@ fn after_want_of_memory_all_is_as_before(rt: HostRuntime) -> Result<(), Fail> {
     put(&rt, &mut caps, parent, None, 1)?;
     put(&rt, &mut caps, other, Some(parent), 2)?;
     link(&rt, &mut caps, parent, other)?;
-    // With `rt try --test --fail-alloc 3` there is no memory for the list here, and with 4 none for the children.
+    // With `rt try --test --fail-alloc 4` there is no memory for the slab here, with 5 none for the list, and with 6 none
+    // for the children.
     let is_refused = caps.room(100, Some(other)).is_err();
     assert_eq!(rt; caps.len(), 2, "refused: {is_refused}");
     assert_eq!(rt; children(&rt, &caps, parent), [other].as_slice());

@@ -1,38 +1,27 @@
-use Rattle.std.proofs.Common.{◌≡◌, Some, sym, ap, refl, arith, rules}
-use Rattle.std.specs.List.{slice_get}
+use Rattle.std.proofs.Common.{Some, refl, ap, arith}
 use Rattle.sem_key.specs.Capability.{Capability}
-use Rattle.sem_key.specs.CapList.{keys_of}
+use Rattle.sem_key.specs.CapList.{cap_of}
 use Rattle.sem_caps.specs.CapStore.{CapStore}
-use Rattle.sem_caps.specs.Stored.{plain}
-use Rattle.sem_caps.proofs.RisingCaps.{in_range-row, cap_of-gap}
-use Rattle.sem_caps.proofs.Edited.{same_caps, changed-row, stored-set, plain-read, within}
-use Rattle.sem_caps.proofs.Links.{counted-same}
+use Rattle.sem_caps.proofs.Edited.{same_caps}
+use Rattle.sem_caps.proofs.Written.{IsHeldAt, same_place, some-and, contains-place, not-absent, plain-written, placed-written, stored-written, counted_same-written}
 use Rattle.sem_caps.proofs.caps.Caps.mark.Goals as goal
 
 -- the capability is held
 pub unreachable-requires : goal.unreachable-requires
-unreachable-requires c = rw (cap_of-gap _ c.args.key _ c.in_default.ensures.absent) at c.requires
+unreachable-requires c = not-absent c.args.self.now.caps c.args.key c.place_of.result c.place_of.ensures.held c.in_default.is (some-and _ (cap_of c.args.self.now.caps c.args.key) c.requires)
 
 pub index_mut-cap-requires : goal.index_mut-cap-requires
-index_mut-cap-requires c =
-    let caps : c.args.self.now.caps ≡ plain c.self.inside.rising.items = sym (ap (λ (s : CapStore). s.caps) c.self.view_is) in
-    let within = in_range-row c.self.inside.rising.items c.args.key c.in-Ok.at (rw caps at c.in-Ok.ensures.found) in
-    search rules
+index_mut-cap-requires c = contains-place c.self.inside.slab c.self.inside.spots.items c.self.invariant.2 c.args.key c.in-Some.place (same_place c.args.self.now c.self.inside.spots.items c.args.key c.place_of.result c.in-Some.place (ap (λ (s : CapStore). s.places) c.self.view_is) c.place_of.ensures.place c.in-Some.is)
 
 pub invariant_of-self : goal.invariant_of-self
 invariant_of-self c =
-    let caps : c.args.self.now.caps ≡ plain c.self.inside.rising.items = sym (ap (λ (s : CapStore). s.caps) c.self.view_is) in
-    let here : slice_get (keys_of (plain c.self.inside.rising.items)) c.in-Ok.at ≡ Some c.args.key = rw caps at c.in-Ok.ensures.found in
-    let rows = c.self.inside.rising.items in
-    let row = c.index_mut-cap.result.now in
-    let read = plain-read rows c.self.invariant.0.keys c.args.key c.in-Ok.at here row c.index_mut-cap.ensures.value in
-    let there = within rows c.self.invariant.0.keys c.args.key c.in-Ok.at here row c.index_mut-cap.ensures.value in (
-      stored-set rows c.self.invariant.0.keys c.args.key c.in-Ok.at here row c.index_mut-cap.ensures.value _ c.self.inside.child_room refl (omega arith) c.self.invariant.0,
-      counted-same rows c.in-Ok.at row _ c.self.inside.links there read c.self.invariant.1 refl,
+    let held : IsHeldAt c.self.inside.slab c.self.inside.spots.items c.args.key c.in-Some.place c.index_mut-cap.result.now = record { placed = c.self.invariant.2; is_list = c.self.invariant.0.keys; is = same_place c.args.self.now c.self.inside.spots.items c.args.key c.place_of.result c.in-Some.place (ap (λ (s : CapStore). s.places) c.self.view_is) c.place_of.ensures.place c.in-Some.is; value = c.index_mut-cap.ensures.value } in (
+      stored-written held _ c.self.inside.child_room refl (omega arith) c.self.invariant.0,
+      counted_same-written held _ c.self.inside.links c.self.invariant.1 refl,
+      placed-written held _ refl,
     )
 
 pub returns : goal.returns
 returns c =
-    let caps : c.args.self.now.caps ≡ plain c.self.inside.rising.items = sym (ap (λ (s : CapStore). s.caps) c.self.view_is) in
-    let here : slice_get (keys_of (plain c.self.inside.rising.items)) c.in-Ok.at ≡ Some c.args.key = rw caps at c.in-Ok.ensures.found in
-    rw (← c.self.view_is) (same_caps _ _ _ _ (changed-row c.self.inside.rising.items c.self.invariant.0.keys c.args.key c.in-Ok.at here c.index_mut-cap.result.now c.index_mut-cap.ensures.value _ (λ (x : Capability). record x { mark = Some c.args.job }) refl))
+    let held : IsHeldAt c.self.inside.slab c.self.inside.spots.items c.args.key c.in-Some.place c.index_mut-cap.result.now = record { placed = c.self.invariant.2; is_list = c.self.invariant.0.keys; is = same_place c.args.self.now c.self.inside.spots.items c.args.key c.place_of.result c.in-Some.place (ap (λ (s : CapStore). s.places) c.self.view_is) c.place_of.ensures.place c.in-Some.is; value = c.index_mut-cap.ensures.value } in
+    rw (← c.self.view_is) (same_caps _ _ _ _ _ (plain-written held _ (λ (x : Capability). record x { mark = Some c.args.job }) refl))

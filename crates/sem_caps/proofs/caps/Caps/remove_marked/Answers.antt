@@ -1,46 +1,51 @@
-use Rattle.std.proofs.Common.{◌≡◌, not, sym, ap, rules, ◌∙◌}
-use Rattle.std.specs.List.{filter}
-use Rattle.std.proofs.lemmas.Fn.{filter_same}
+use Rattle.std.proofs.Common.{◌≡◌, ◌≤◌, ◌-◌, min, length, not, refl, sym, ◌∙◌, ap, arith, vec_len, vec_capacity}
+use Rattle.std.proofs.lemmas.List.Filters.{length-filter_both}
 use Rattle.sem_key.specs.Capability.{capability_of}
 use Rattle.sem_key.specs.CapList.{is_marked_by, not_marked_by, link_count}
+use Rattle.sem_caps.specs.declared.spot.Spot.{Spot}
 use Rattle.sem_caps.specs.CapStore.{CapStore, held_key}
-use Rattle.sem_caps.specs.Stored.{plain}
+use Rattle.sem_caps.specs.Stored.{plain, row_at, rows_of}
+use Rattle.sem_caps.proofs.Places.{keys-rows}
 use Rattle.sem_caps.proofs.Swept.{plain-filter, stored-swept}
-use Rattle.sem_caps.proofs.Links.{few-swept, caps-swept}
+use Rattle.sem_caps.proofs.Links.{few-swept}
+use Rattle.sem_caps.proofs.Added.{kept-filter}
 use Rattle.sem_caps.proofs.caps.Caps.remove_marked.Goals as goal
 
 -- what is kept is what the job has not marked
 pub invariant_of-self : goal.invariant_of-self
 invariant_of-self c =
-    let kept : c.retain.new.self.items ≡ filter (λ x. not (is_marked_by c.args.job (capability_of x))) c.self.inside.rising.items = filter_same _ _ _ (λ x b f' k. search rules) _ _ c.retain.ensures.filtered in
-    let room : c.unmarked_child_room-self-inside.result ≡ held_key (not_marked_by c.args.job (plain c.self.inside.rising.items)) c.self.inside.child_room = c.unmarked_child_room-self-inside.ensures ∙ sym (ap (λ (s : CapStore). held_key (not_marked_by c.args.job s.caps) s.child_room) c.self.view_is) in
-    let now = c.deref-2.ensures.value ∙ kept in
-    rw (kept, room) (
-      stored-swept c.args.job c.self.inside.rising.items c.self.inside.child_room c.self.invariant.0,
-      record {
-        counted = c.count_links-self-inside.ensures ∙ ap (λ rows. link_count (plain rows)) now;
-        few = few-swept c.args.job c.self.inside.rising.items c.self.invariant.1.few;
-      },
+    let rows = rows_of c.self.inside.slab c.self.inside.spots.items in
+    let room : c.unmarked_child_room-self-inside.result ≡ held_key (not_marked_by c.args.job (plain rows)) c.self.inside.child_room = c.unmarked_child_room-self-inside.ensures ∙ sym (ap (λ (s : CapStore). held_key (not_marked_by c.args.job s.caps) s.child_room) c.self.view_is) in (
+      rw (c.take_marked-self-inside.ensures.rows, room) (stored-swept c.args.job rows c.self.inside.child_room c.self.invariant.0),
+      rw c.take_marked-self-inside.ensures.rows (record {
+        counted = c.take_marked-self-inside.ensures.links ∙ sym (ap link_count (plain-filter c.args.job rows));
+        few = few-swept c.args.job rows c.self.invariant.1.few;
+      }),
+      c.take_marked-self-inside.ensures.placed,
     )
 
 pub returns-clause-caps : goal.returns-clause-caps
 returns-clause-caps c =
-    let kept : c.retain.new.self.items ≡ filter (λ x. not (is_marked_by c.args.job (capability_of x))) c.self.inside.rising.items = filter_same _ _ _ (λ x b f' k. search rules) _ _ c.retain.ensures.filtered in
-    ap plain kept ∙ (plain-filter c.args.job c.self.inside.rising.items ∙ ap (λ (s : CapStore). not_marked_by c.args.job s.caps) c.self.view_is)
+    ap plain c.take_marked-self-inside.ensures.rows
+    ∙ (plain-filter c.args.job (rows_of c.self.inside.slab c.self.inside.spots.items) ∙ ap (λ (s : CapStore). not_marked_by c.args.job s.caps) c.self.view_is)
 
 pub returns-clause-child_room : goal.returns-clause-child_room
 returns-clause-child_room c =
-    let kept : c.retain.new.self.items ≡ filter (λ x. not (is_marked_by c.args.job (capability_of x))) c.self.inside.rising.items = filter_same _ _ _ (λ x b f' k. search rules) _ _ c.retain.ensures.filtered in
-    let left = ap plain kept ∙ (plain-filter c.args.job c.self.inside.rising.items ∙ ap (λ (s : CapStore). not_marked_by c.args.job s.caps) c.self.view_is) in
+    let left = ap plain c.take_marked-self-inside.ensures.rows ∙ (plain-filter c.args.job (rows_of c.self.inside.slab c.self.inside.spots.items) ∙ ap (λ (s : CapStore). not_marked_by c.args.job s.caps) c.self.view_is) in
     c.unmarked_child_room-self-inside.ensures ∙ sym (ap (λ cs. held_key cs c.args.self.now.child_room) left)
 
--- what is kept is counted
-pub count_links-self-inside-requires-clause-caps : goal.count_links-self-inside-requires-clause-caps
-count_links-self-inside-requires-clause-caps c =
-    let kept : c.retain.new.self.items ≡ filter (λ x. not (is_marked_by c.args.job (capability_of x))) c.self.inside.rising.items = filter_same _ _ _ (λ x b f' k. search rules) _ _ c.retain.ensures.filtered in
-    rw (c.deref-2.ensures.value, kept) (caps-swept c.args.job c.self.inside.rising.items c.self.inside.child_room c.self.invariant.0)
+-- no part is smaller, and no more is held
+pub returns-clause-spare : goal.returns-clause-spare
+returns-clause-spare c =
+    let kept = ap length c.take_marked-self-inside.ensures.spots in
+    let both = length-filter_both (λ (s : Spot). is_marked_by c.args.job (capability_of (row_at c.self.inside.slab s))) (λ s. not (is_marked_by c.args.job (capability_of (row_at c.self.inside.slab s)))) (λ s. refl) c.self.inside.spots.items in
+    let fewer : vec_len c.take_marked-self-inside.new.spots ≤ vec_len c.self.inside.spots = omega (arith, c.take_marked-self-inside.new.spots.ok.0, c.self.inside.spots.ok.0) in
+    let old : min c.self.inside.slab.capacity (vec_capacity c.self.inside.spots) - vec_len c.self.inside.spots ≡ c.args.self.now.spare = ap (λ (s : CapStore). s.spare) c.self.view_is in
+    rw (← old, c.take_marked-self-inside.ensures.slab_capacity, c.take_marked-self-inside.ensures.spots_capacity) (omega (arith, fewer))
 
-pub count_links-self-inside-requires-clause-children : goal.count_links-self-inside-requires-clause-children
-count_links-self-inside-requires-clause-children c =
-    let kept : c.retain.new.self.items ≡ filter (λ x. not (is_marked_by c.args.job (capability_of x))) c.self.inside.rising.items = filter_same _ _ _ (λ x b f' k. search rules) _ _ c.retain.ensures.filtered in
-    rw (c.deref-2.ensures.value, kept) (few-swept c.args.job c.self.inside.rising.items c.self.invariant.1.few)
+-- each spot that is left was there before
+pub returns-clause-places : goal.returns-clause-places
+returns-clause-places c =
+    let keys = keys-rows c.self.inside.slab c.self.inside.spots.items c.self.invariant.2.leads in
+    let is_list = rw keys at c.self.invariant.0.keys in
+    rw (← c.self.view_is, c.take_marked-self-inside.ensures.spots) (kept-filter (λ s. not (is_marked_by c.args.job (capability_of (row_at c.self.inside.slab s)))) c.self.inside.spots.items is_list.rising)

@@ -1,5 +1,5 @@
 use Rattle.std.proofs.Common.{◌≤◌, length}
-use Rattle.sem_caps.proofs.caps.remove_all.Given as goal
+use Rattle.sem_caps.proofs.rows.remove_all.Given as goal
 
 -- each turn takes a key out
 abbrev pub decreases-loop-last : goal.decreases-loop-last

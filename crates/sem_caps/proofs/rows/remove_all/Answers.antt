@@ -2,7 +2,7 @@ use Rattle.std.proofs.Common.{◌<◌, ◌≡◌, true, not, length, ap, refl, a
 use Rattle.sem_key.specs.KeyName.{KeyName, key_eq}
 use Rattle.sem_key.proofs.KeyTests.{key_eq-same}
 use Rattle.sem_caps.proofs.Links.{filter-shorter}
-use Rattle.sem_caps.proofs.caps.remove_all.Goals as goal
+use Rattle.sem_caps.proofs.rows.remove_all.Goals as goal
 
 -- the last key was taken out
 pub loop-last-smaller : goal.loop-last-smaller
