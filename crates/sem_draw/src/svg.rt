@@ -1,0 +1,106 @@
+// Elements of an SVG picture. After want of memory each of these functions may have appended a part.
+use crate::OutOfMemory;
+use std::alloc::Global;
+
+/// Where a point is, in pixels from the left and from the top.
+#[derive(Clone, Copy, Debug)]
+pub struct Point {
+    pub x: u64,
+    pub y: u64,
+}
+
+/// Appends the text with the signs of markup written out.
+pub fn push_escaped(out: &mut String, text: &str) -> Result<(), OutOfMemory> {
+    for c in text.chars() {
+        match c {
+            '<' => out.push_str("&lt;")?,
+            '>' => out.push_str("&gt;")?,
+            '&' => out.push_str("&amp;")?,
+            '"' => out.push_str("&quot;")?,
+            _ => out.push(c)?,
+        }
+    }
+    Ok(())
+}
+
+/// Appends the beginning of a picture of that size.
+pub fn push_head(
+    alloc: Global,
+    out: &mut String,
+    size: Point,
+    style: &str,
+) -> Result<(), OutOfMemory> {
+    let (width, height) = (size.x, size.y);
+    let head = format!(in alloc;
+        "<svg xmlns=\"http://www.w3.org/2000/svg\" width=\"{width}\" height=\"{height}\" viewBox=\"0 0 {width} {height}\">\n"
+    )?;
+    out.push_str(head.as_str())?;
+    out.push_str("<style>")?;
+    out.push_str(style)?;
+    out.push_str("</style>\n<rect width=\"100%\" height=\"100%\" fill=\"#ffffff\"/>\n")
+}
+
+/// Appends the end of a picture.
+pub fn push_tail(out: &mut String) -> Result<(), OutOfMemory> {
+    out.push_str("</svg>\n")
+}
+
+/// Appends a line of that class.
+pub fn push_line(
+    alloc: Global,
+    out: &mut String,
+    class: &str,
+    from: Point,
+    to: Point,
+) -> Result<(), OutOfMemory> {
+    let (x1, y1, x2, y2) = (from.x, from.y, to.x, to.y);
+    let line = format!(in alloc;
+        "<line class=\"{class}\" x1=\"{x1}\" y1=\"{y1}\" x2=\"{x2}\" y2=\"{y2}\"/>\n"
+    )?;
+    out.push_str(line.as_str())
+}
+
+/// Appends a text of that class.
+pub fn push_text(
+    alloc: Global,
+    out: &mut String,
+    class: &str,
+    at: Point,
+    text: &str,
+) -> Result<(), OutOfMemory> {
+    let (x, y) = (at.x, at.y);
+    let begin = format!(in alloc; "<text class=\"{class}\" x=\"{x}\" y=\"{y}\">")?;
+    out.push_str(begin.as_str())?;
+    push_escaped(out, text)?;
+    out.push_str("</text>\n")
+}
+
+/// Appends a rectangle of that class, from its upper left corner.
+pub fn push_rect(
+    alloc: Global,
+    out: &mut String,
+    class: &str,
+    at: Point,
+    size: Point,
+) -> Result<(), OutOfMemory> {
+    let (x, y, width, height) = (at.x, at.y, size.x, size.y);
+    let rect = format!(in alloc;
+        "<rect class=\"{class}\" x=\"{x}\" y=\"{y}\" width=\"{width}\" height=\"{height}\" rx=\"3\"/>\n"
+    )?;
+    out.push_str(rect.as_str())
+}
+
+/// Appends a circle of that class.
+pub fn push_circle(
+    alloc: Global,
+    out: &mut String,
+    class: &str,
+    at: Point,
+    radius: u64,
+) -> Result<(), OutOfMemory> {
+    let (x, y) = (at.x, at.y);
+    let circle = format!(in alloc;
+        "<circle class=\"{class}\" cx=\"{x}\" cy=\"{y}\" r=\"{radius}\"/>\n"
+    )?;
+    out.push_str(circle.as_str())
+}
