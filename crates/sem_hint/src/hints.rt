@@ -1,0 +1,302 @@
+// The text that tells why a line is refused.
+use crate::OutOfMemory;
+use crate::causes::{Fault, fault_of};
+use crate::earlier::{twice, undeclared};
+use crate::forms::{Choice, Slot, choice_name, choice_words};
+use crate::places::{Limits, Setting, begin_report, setting_of};
+use crate::words::{Word, lines_of, nearest, text_of, words_of};
+use sem_trace::{Cause, TraceFault};
+use std::alloc::Global;
+
+/// The most bytes of a line that are shown.
+const SHOWN: usize = 100;
+
+// Which bytes of a line are marked, and what is said of them.
+#[derive(Drop)]
+struct Remark {
+    begin: usize,
+    width: usize,
+    text: String,
+}
+
+/// Why the text, a trace or a report, is refused at its line: the line, the word in question under carets, what was wanted
+/// there and the nearest word that can stand there.
+pub fn refusal_text(
+    alloc: Global,
+    text: &[u8],
+    fault: &TraceFault,
+    is_report: bool,
+) -> Result<String, OutOfMemory> {
+    let lines = lines_of(alloc, text)?;
+    let number = fault.line;
+    let place = (number as usize).wrapping_sub(1);
+    let Some(line) = lines.as_slice().get(place).copied() else {
+        return beyond(alloc, fault, lines.len());
+    };
+    let setting = setting_of(alloc, lines.as_slice(), place, is_report)?;
+    let words = words_of(alloc, line)?;
+    let first = setting.trace.unwrap_or(place).min(place);
+    let earlier = &lines.as_slice()[first..place];
+    let remark = remark_of(
+        alloc,
+        fault.cause,
+        &setting,
+        earlier,
+        line,
+        words.as_slice(),
+    )?;
+    let said = remark.text.as_str();
+    let mut out = format!(in alloc; "line {number}")?;
+    push_word_number(alloc, &mut out, words.as_slice(), &remark)?;
+    out.push_str(": ")?;
+    out.push_str(said)?;
+    out.push_str("\n    ")?;
+    push_shown(alloc, &mut out, line, &remark)?;
+    Ok(out)
+}
+
+/// Whether the text begins as a report does.
+pub fn tells_report(alloc: Global, text: &[u8]) -> Result<bool, OutOfMemory> {
+    let lines = lines_of(alloc, text)?;
+    begin_report(alloc, lines.as_slice())
+}
+
+// Why a text is refused at a line that it does not have.
+fn beyond(alloc: Global, fault: &TraceFault, count: usize) -> Result<String, OutOfMemory> {
+    match fault.cause {
+        Cause::InputTooLong => String::from_str(alloc, "the text is longer than it may be\n"),
+        _ => format!(in alloc; "the text ends behind line {count}, before its last line \"end\"\n"),
+    }
+}
+
+// Appends the number of the word that the remark is about, where it is about one.
+fn push_word_number(
+    alloc: Global,
+    out: &mut String,
+    words: &[Word],
+    remark: &Remark,
+) -> Result<(), OutOfMemory> {
+    for (place, word) in words.iter().enumerate() {
+        if word.begin == remark.begin && remark.width == word.text.len() {
+            let number = place.saturating_add(1);
+            out.push_str(format!(in alloc; ", word {number}")?.as_str())?;
+        }
+    }
+    Ok(())
+}
+
+// Appends the line, and carets under what the remark is about.
+fn push_shown(
+    alloc: Global,
+    out: &mut String,
+    line: &[u8],
+    remark: &Remark,
+) -> Result<(), OutOfMemory> {
+    let end = remark.begin.saturating_add(remark.width).saturating_add(8);
+    let last = line.len().min(end.max(SHOWN));
+    let first = last.saturating_sub(SHOWN.saturating_add(remark.width));
+    out.push_str(text_of(alloc, &line[first..last])?.as_str())?;
+    out.push_str("\n    ")?;
+    for _ in first..remark.begin {
+        out.push(' ')?;
+    }
+    for _ in 0..remark.width.max(1).min(SHOWN) {
+        out.push('^')?;
+    }
+    out.push('\n')
+}
+
+// What is said of the line.
+fn remark_of(
+    alloc: Global,
+    cause: Cause,
+    setting: &Setting,
+    earlier: &[&[u8]],
+    line: &[u8],
+    words: &[Word],
+) -> Result<Remark, OutOfMemory> {
+    match cause {
+        Cause::LineTooLong => long_line(alloc, line),
+        Cause::NotText => odd_byte(alloc, line),
+        Cause::NotCanonical => whole(
+            alloc,
+            line,
+            "another spelling than the canonical one: one blank between words and none at the ends, numbers and lines as they are written",
+        ),
+        Cause::Twice => match twice(alloc, earlier, words)? {
+            Some((number, word)) => {
+                let number = number.saturating_add(setting.trace.unwrap_or(0));
+                let text = format!(in alloc; "line {number} says this already")?;
+                Ok(at_word(words, word, text))
+            }
+            None => whole(alloc, line, "an earlier line says this already"),
+        },
+        Cause::Undeclared => match undeclared(alloc, earlier, words)? {
+            Some((word, what)) => {
+                let text = format!(in alloc; "no earlier line declares this {what}")?;
+                Ok(at_word(words, word, text))
+            }
+            None => whole(alloc, line, "no earlier line declares this"),
+        },
+        _ => match fault_of(alloc, setting, words)? {
+            Some(fault) => of_fault(alloc, cause, line, words, (&fault, &setting.limits)),
+            None => of_cause(alloc, line, cause),
+        },
+    }
+}
+
+// A remark on the whole line.
+fn whole(alloc: Global, line: &[u8], text: &str) -> Result<Remark, OutOfMemory> {
+    Ok(Remark {
+        begin: 0,
+        width: line.len(),
+        text: String::from_str(alloc, text)?,
+    })
+}
+
+// A remark on a word.
+fn at_word(words: &[Word], place: usize, text: String) -> Remark {
+    match words.get(place) {
+        Some(word) => Remark {
+            begin: word.begin,
+            width: word.text.len(),
+            text,
+        },
+        None => Remark {
+            begin: 0,
+            width: 1,
+            text,
+        },
+    }
+}
+
+// What is said of a line that is too long.
+fn long_line(alloc: Global, line: &[u8]) -> Result<Remark, OutOfMemory> {
+    let count = line.len();
+    Ok(Remark {
+        begin: 255usize.min(count),
+        width: 1,
+        text: format!(in alloc; "the line has {count} bytes, and 255 are the most")?,
+    })
+}
+
+// What is said of a byte that is no text.
+fn odd_byte(alloc: Global, line: &[u8]) -> Result<Remark, OutOfMemory> {
+    for (at, byte) in line.iter().enumerate() {
+        if *byte != b'\t' && !(b' '..=b'~').contains(byte) {
+            return Ok(Remark {
+                begin: at,
+                width: 1,
+                text: format!(in alloc; "the byte {byte} is neither a tab nor printable ASCII")?,
+            });
+        }
+    }
+    whole(alloc, line, "a byte is neither a tab nor printable ASCII")
+}
+
+// What is said of a line whose words have their form.
+fn of_cause(alloc: Global, line: &[u8], cause: Cause) -> Result<Remark, OutOfMemory> {
+    match cause {
+        Cause::OutOfRange => whole(alloc, line, "the memory ends above 4294967296"),
+        Cause::TooMany => whole(
+            alloc,
+            line,
+            "a line too many: something stands behind \"end\", or it is the call number 20001",
+        ),
+        _ => {
+            let text = format!(in alloc; "{cause}")?;
+            whole(alloc, line, text.as_str())
+        }
+    }
+}
+
+// What is said of a word that departs from the form of its line.
+fn of_fault(
+    alloc: Global,
+    cause: Cause,
+    line: &[u8],
+    words: &[Word],
+    found: (&Fault, &Limits),
+) -> Result<Remark, OutOfMemory> {
+    let (fault, limits) = found;
+    let Some(slot) = fault.wanted else {
+        let text = String::from_str(alloc, "a word too many")?;
+        return Ok(at_word(words, fault.place, text));
+    };
+    let wanted = slot_text(alloc, slot, limits)?;
+    let Some(word) = words.get(fault.place) else {
+        return Ok(Remark {
+            begin: line.len(),
+            width: 1,
+            text: format!(in alloc; "the line ends here; wanted here: {wanted}")?,
+        });
+    };
+    let given = text_of(alloc, word.text)?;
+    let text = match slot {
+        Slot::Choice(choice) => of_choice(alloc, choice, given.as_str())?,
+        Slot::Fixed(_) => format!(in alloc; "\"{given}\" stands where {wanted} belongs")?,
+        _ if cause == Cause::OutOfRange => {
+            format!(in alloc; "\"{given}\" is out of range; wanted here: {wanted}")?
+        }
+        _ => format!(in alloc; "\"{given}\" cannot stand here; wanted here: {wanted}")?,
+    };
+    Ok(at_word(words, fault.place, text))
+}
+
+// What is said of a word that is none of a choice.
+fn of_choice(alloc: Global, choice: Choice, given: &str) -> Result<String, OutOfMemory> {
+    let (name, names) = (choice_name(choice), choice_words(choice));
+    let mut text = format!(in alloc; "\"{given}\" is no {name}")?;
+    match nearest(alloc, given, names)? {
+        Some(near) => text.push_str(format!(in alloc; "; did you mean \"{near}\"?")?.as_str())?,
+        None => {
+            text.push_str("; wanted here: ")?;
+            push_list(&mut text, names)?;
+        }
+    }
+    Ok(text)
+}
+
+// Appends the names with commas between them.
+fn push_list(text: &mut String, names: &[&'static str]) -> Result<(), OutOfMemory> {
+    for (at, name) in names.iter().enumerate() {
+        if at > 0 {
+            text.push_str(", ")?;
+        }
+        text.push_str(name)?;
+    }
+    Ok(())
+}
+
+// What belongs in a place.
+fn slot_text(alloc: Global, slot: Slot, limits: &Limits) -> Result<String, OutOfMemory> {
+    match slot {
+        Slot::Fixed(name) => format!(in alloc; "\"{name}\""),
+        Slot::Number(what, least, most) => {
+            format!(in alloc; "the {what}, from {least} to {most}")
+        }
+        Slot::Node(what) => {
+            let most = limits.node;
+            format!(in alloc; "the {what}, from 0 to {most}")
+        }
+        Slot::Kernels => {
+            let most = limits.kernels;
+            format!(in alloc; "the number of kernels, from 1 to {most}")
+        }
+        Slot::Kernel => {
+            let most = limits.declared.saturating_sub(1);
+            format!(in alloc; "the kernel, from 0 to {most}")
+        }
+        Slot::Key(what) => {
+            format!(in alloc;
+                "the key of the {what}, as PE.VPE.KIND.NUMBER with a kind from 1 to 5"
+            )
+        }
+        Slot::Place => String::from_str(alloc, "a place, as PE.VPE.NUMBER"),
+        Slot::Choice(choice) => {
+            let mut text = String::from_str(alloc, "one of ")?;
+            push_list(&mut text, choice_words(choice))?;
+            Ok(text)
+        }
+    }
+}

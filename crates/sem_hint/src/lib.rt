@@ -1,0 +1,17 @@
+//! Why a line of a trace or a report is refused, in words: which word of it, what was wanted there,
+//! and the nearest word that can stand there.
+#![tactic(auto)]
+
+mod causes;
+mod earlier;
+mod forms;
+mod hints;
+mod places;
+#[cfg(test)]
+mod tests;
+mod words;
+
+pub use hints::{refusal_text, tells_report};
+/// Memory was refused.
+pub use std::alloc::AllocError as OutOfMemory;
+pub use words::key_text;

@@ -1,0 +1,204 @@
+// Which form a line has by its place in a text, and the limits of the text.
+use crate::OutOfMemory;
+use crate::forms::{Choice, Slot};
+use crate::words::{first_word, words_of};
+use sem_text::number;
+use sem_trace::is;
+use std::alloc::Global;
+
+/// What goes by the text of which a line is.
+#[derive(Clone, Copy, Debug)]
+pub struct Limits {
+    /// The greatest number of a PE or a VPE.
+    pub node: u64,
+    /// The greatest number of kernels.
+    pub kernels: u64,
+    /// How many kernels are declared.
+    pub declared: u64,
+}
+
+/// What is known of a line by its place.
+#[derive(Clone, Copy, Debug)]
+pub struct Setting {
+    pub slots: &'static [Slot],
+    pub limits: Limits,
+    /// The number of the first line of the trace, where the line is one of the trace.
+    pub trace: Option<usize>,
+}
+
+/// A number of a report.
+const MANY: u64 = 4_294_967_295;
+
+/// Whether the lines begin as those of a report do.
+pub fn begin_report(alloc: Global, lines: &[&[u8]]) -> Result<bool, OutOfMemory> {
+    for line in lines {
+        let words = words_of(alloc, line)?;
+        match words.as_slice() {
+            [one, two, ..] if is(one.text, b"semper") => return Ok(is(two.text, b"report")),
+            [one, ..] if one.text.first() != Some(&b'#') => return Ok(false),
+            _ => {}
+        }
+    }
+    Ok(false)
+}
+
+/// What is known of the line at that place, counted from 0, of a trace or of a report.
+pub fn setting_of(
+    alloc: Global,
+    lines: &[&[u8]],
+    at: usize,
+    is_report: bool,
+) -> Result<Setting, OutOfMemory> {
+    let limits = limits_of(alloc, lines)?;
+    if !is_report {
+        return Ok(Setting {
+            slots: trace_slots(lines, 0, at, limits.node > 63),
+            limits,
+            trace: Some(0),
+        });
+    }
+    let end = trace_end(lines);
+    let in_trace = at > 0 && at <= end;
+    let slots = if in_trace {
+        trace_slots(lines, 1, at, limits.node > 63)
+    } else {
+        report_slots(alloc, lines, end, at)?
+    };
+    Ok(Setting {
+        slots,
+        limits,
+        trace: if in_trace { Some(1) } else { None },
+    })
+}
+
+// The limits of a text with these lines.
+fn limits_of(alloc: Global, lines: &[&[u8]]) -> Result<Limits, OutOfMemory> {
+    let mut is_second = false;
+    let mut declared = None;
+    for line in lines {
+        let words = words_of(alloc, line)?;
+        match words.as_slice() {
+            [one, _, version, ..] if is(one.text, b"semper") => {
+                is_second = is(version.text, b"2");
+            }
+            [one, count, ..] if is(one.text, b"kernels") && declared.is_none() => {
+                declared = number(count.text, 32).ok();
+            }
+            [one, ..] if is(one.text, b"journal") => break,
+            _ => {}
+        }
+    }
+    let kernels = if is_second { 32 } else { 16 };
+    Ok(Limits {
+        node: if is_second { 127 } else { 63 },
+        kernels,
+        declared: declared.unwrap_or(kernels),
+    })
+}
+
+// The place of the line that ends the trace of a report; that of the last line where none does.
+fn trace_end(lines: &[&[u8]]) -> usize {
+    for (place, line) in lines.iter().enumerate() {
+        if is(first_word(line), b"end") {
+            return place;
+        }
+    }
+    lines.len().saturating_sub(1)
+}
+
+// Whether a line says something.
+fn says(line: &[u8]) -> bool {
+    !matches!(first_word(line), [] | [b'#', ..])
+}
+
+// The form of a line of a trace that begins with the line `first`.
+fn trace_slots(lines: &[&[u8]], first: usize, at: usize, has_window: bool) -> &'static [Slot] {
+    let mut before = 0usize;
+    for (place, line) in lines.iter().enumerate() {
+        if place >= at {
+            break;
+        }
+        if place >= first && says(line) {
+            before = before.saturating_add(1);
+        }
+    }
+    match before {
+        0 => &[
+            Slot::Fixed("semper"),
+            Slot::Fixed("trace"),
+            Slot::Choice(Choice::Version),
+        ],
+        1 => &[Slot::Fixed("kernels"), Slot::Kernels],
+        2 if has_window => &[
+            Slot::Fixed("window"),
+            Slot::Number("number of messages", 1, 32),
+        ],
+        _ => &[Slot::Choice(Choice::Declaration)],
+    }
+}
+
+// The number behind the first word of a line; 0 where there is none.
+fn count_of(alloc: Global, lines: &[&[u8]], at: usize) -> Result<usize, OutOfMemory> {
+    let Some(line) = lines.get(at) else {
+        return Ok(0);
+    };
+    let words = words_of(alloc, line)?;
+    match words.as_slice() {
+        [_, count, ..] => Ok(number(count.text, MANY).map_or(0, |count| count as usize)),
+        _ => Ok(0),
+    }
+}
+
+// The form of a line of a report outside its trace, which ends with the line `end`.
+fn report_slots(
+    alloc: Global,
+    lines: &[&[u8]],
+    end: usize,
+    at: usize,
+) -> Result<&'static [Slot], OutOfMemory> {
+    let entries = count_of(alloc, lines, end.saturating_add(1))?;
+    let audit = end.saturating_add(2).saturating_add(entries);
+    let held = count_of(alloc, lines, audit.saturating_add(3))?;
+    if at == 0 {
+        return Ok(&[
+            Slot::Fixed("semper"),
+            Slot::Fixed("report"),
+            Slot::Choice(Choice::Version),
+        ]);
+    }
+    if at <= end.saturating_add(1) {
+        return Ok(&[
+            Slot::Fixed("journal"),
+            Slot::Number("number of entries", 0, MANY),
+        ]);
+    }
+    if at < audit {
+        return Ok(&[Slot::Kernel, Slot::Choice(Choice::Event)]);
+    }
+    Ok(audit_slots(at.saturating_sub(audit), held))
+}
+
+// The form of a line of an audit that tells of so many held keys.
+fn audit_slots(at: usize, held: usize) -> &'static [Slot] {
+    match at {
+        0 => &[Slot::Fixed("audit")],
+        1 => &[
+            Slot::Fixed("made"),
+            Slot::Number("number of made keys", 0, MANY),
+        ],
+        2 => &[
+            Slot::Fixed("cut"),
+            Slot::Number("number of keys in the cut", 0, MANY),
+        ],
+        3 => &[
+            Slot::Fixed("held"),
+            Slot::Number("number of held keys", 0, MANY),
+        ],
+        _ if at.saturating_sub(4) < held => &[
+            Slot::Fixed("key"),
+            Slot::Key("held key"),
+            Slot::Number("selector", 0, 255),
+        ],
+        _ => &[Slot::Fixed("end")],
+    }
+}
