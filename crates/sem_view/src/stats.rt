@@ -1,0 +1,157 @@
+// What is counted of a report.
+use crate::counts::{count_between, count_code, count_event, count_message};
+use crate::queues::{LinkQueues, ask_queues};
+use sem_key::{Key, OutOfMemory};
+use sem_msg::{Act, Call, Detail, Entry, Journal, Setup};
+use std::alloc::Global;
+
+/// The messages from a kernel to another: how many were sent, and how many were at most on the
+/// link at a time.
+#[derive(Clone, Copy, Debug)]
+pub struct LinkCount {
+    pub from: u32,
+    pub to: u32,
+    pub sent: usize,
+    pub longest: usize,
+}
+
+/// How many asks waited at most for a VPE at a time, of those that it was asked in the end.
+#[derive(Clone, Copy, Debug)]
+pub struct AskCount {
+    pub vpe: u16,
+    pub longest: usize,
+}
+
+/// A revoke or a clear that began: its entry, its VPE, its key, and how many entries later it was
+/// answered; none where it was not.
+#[derive(Clone, Copy, Debug)]
+pub struct RevokeTime {
+    pub entry: usize,
+    pub vpe: u16,
+    pub is_clear: bool,
+    pub key: Key,
+    pub taken: Option<usize>,
+}
+
+/// What is counted of a report. The lists of numbers are by the numbers of events (from 1),
+/// messages (from 1) and codes (from 0).
+#[derive(Debug, Drop)]
+pub struct Stats {
+    pub entries: usize,
+    pub events: Vec<usize>,
+    pub messages: Vec<usize>,
+    pub codes: Vec<usize>,
+    pub links: Vec<LinkCount>,
+    pub asks: Vec<AskCount>,
+    pub revokes: Vec<RevokeTime>,
+}
+
+/// Counts what the journal of the setup tells.
+pub fn stats_of(alloc: Global, setup: &Setup, journal: &Journal) -> Result<Stats, OutOfMemory> {
+    let entries = journal.as_slice();
+    let mut events = Vec::new(alloc);
+    for number in 1..=7 {
+        events.push(count_event(entries, number))?;
+    }
+    let mut messages = Vec::new(alloc);
+    for number in 1..=11 {
+        messages.push(count_message(entries, number))?;
+    }
+    let mut codes = Vec::new(alloc);
+    for code in 0..=15 {
+        codes.push(count_code(entries, code))?;
+    }
+    Ok(Stats {
+        entries: entries.len(),
+        events,
+        messages,
+        codes,
+        links: links_of(alloc, setup, entries)?,
+        asks: asks_of(alloc, setup, entries)?,
+        revokes: revokes_of(alloc, entries)?,
+    })
+}
+
+// What is counted of each link over which a message went.
+fn links_of(
+    alloc: Global,
+    setup: &Setup,
+    entries: &[Entry],
+) -> Result<Vec<LinkCount>, OutOfMemory> {
+    let queues = LinkQueues::of(alloc, setup.kernels, entries)?;
+    let mut links = Vec::new(alloc);
+    for from in 0..setup.kernels {
+        for to in 0..setup.kernels {
+            let longest = queues.longest(from, to);
+            if longest > 0 {
+                links.push(LinkCount {
+                    from,
+                    to,
+                    sent: count_between(entries, from, to),
+                    longest,
+                })?;
+            }
+        }
+    }
+    Ok(links)
+}
+
+// How many asks waited for each VPE that was asked.
+fn asks_of(alloc: Global, setup: &Setup, entries: &[Entry]) -> Result<Vec<AskCount>, OutOfMemory> {
+    let longest = ask_queues(alloc, entries)?;
+    let mut asks = Vec::new(alloc);
+    for decl in setup.vpes.as_slice() {
+        let most = longest.get(usize::from(decl.vpe)).copied().unwrap_or(0);
+        if most > 0 {
+            asks.push(AskCount {
+                vpe: decl.vpe,
+                longest: most,
+            })?;
+        }
+    }
+    Ok(asks)
+}
+
+// The revokes and clears that began, in the order in which they did.
+fn revokes_of(alloc: Global, entries: &[Entry]) -> Result<Vec<RevokeTime>, OutOfMemory> {
+    let mut revokes: Vec<RevokeTime> = Vec::new(alloc);
+    for (at, entry) in entries.iter().enumerate() {
+        match (entry.event.act, entry.detail) {
+            (Act::Call { vpe }, Detail::Called { call, .. }) => {
+                if let (Some(is_clear), Some(key)) = (clears(&call), entry.cut) {
+                    revokes.push(RevokeTime {
+                        entry: at,
+                        vpe,
+                        is_clear,
+                        key,
+                        taken: entry.reply.map(|_| 0),
+                    })?;
+                }
+            }
+            (Act::Resume { vpe }, _) => answer(revokes.as_mut_slice(), vpe, at),
+            _ => {}
+        }
+    }
+    Ok(revokes)
+}
+
+// Whether a call is a clear; none where it is neither that nor a revoke.
+fn clears(call: &Call) -> Option<bool> {
+    match call {
+        Call::Revoke { .. } => Some(false),
+        Call::Clear { .. } => Some(true),
+        _ => None,
+    }
+}
+
+// Notes that the last call of the VPE is answered at that entry, if it is a revoke that waits.
+fn answer(revokes: &mut [RevokeTime], vpe: u16, at: usize) {
+    for revoke in revokes.iter_mut().rev() {
+        if revoke.vpe == vpe {
+            if revoke.taken.is_none() {
+                revoke.taken = Some(at.saturating_sub(revoke.entry));
+            }
+            return;
+        }
+    }
+}

@@ -1,0 +1,149 @@
+// Counts as a table. After want of memory each of these functions may have appended a part.
+use crate::names::{CODES, EVENTS, MESSAGES};
+use crate::stats::{RevokeTime, Stats};
+use sem_hint::key_text;
+use sem_key::OutOfMemory;
+use std::alloc::Global;
+
+/// How many columns stand before the numbers.
+const NAMES: usize = 48;
+
+/// How many columns the numbers have.
+const NUMBERS: usize = 9;
+
+/// The counts as a table.
+pub fn stats_as_text(alloc: Global, stats: &Stats) -> Result<String, OutOfMemory> {
+    let mut out = String::new(alloc);
+    push_count(alloc, &mut out, "entries", stats.entries)?;
+    push_counts(alloc, &mut out, &EVENTS, stats.events.as_slice())?;
+    let sent = total(stats.messages.as_slice());
+    push_count(alloc, &mut out, "messages", sent)?;
+    push_counts(alloc, &mut out, &MESSAGES, stats.messages.as_slice())?;
+    push_links(alloc, &mut out, stats)?;
+    let replies = total(stats.codes.as_slice());
+    push_count(alloc, &mut out, "replies", replies)?;
+    push_counts(alloc, &mut out, &CODES, stats.codes.as_slice())?;
+    push_asks(alloc, &mut out, stats)?;
+    push_revokes(alloc, &mut out, stats)?;
+    Ok(out)
+}
+
+/// The sum of the numbers; the greatest number where it is greater.
+pub fn total(counts: &[usize]) -> usize {
+    let mut sum = 0usize;
+    for count in counts {
+        sum = sum.saturating_add(*count);
+    }
+    sum
+}
+
+// Appends a line with a name and a number.
+fn push_count(
+    alloc: Global,
+    out: &mut String,
+    name: &str,
+    count: usize,
+) -> Result<(), OutOfMemory> {
+    let number = format!(in alloc; "{count}")?;
+    out.push_str(name)?;
+    let written = name.len().saturating_add(number.len());
+    for _ in written..NAMES.saturating_add(NUMBERS) {
+        out.push(' ')?;
+    }
+    out.push_str(number.as_str())?;
+    out.push('\n')
+}
+
+// Appends a line for each name that was counted at all.
+fn push_counts(
+    alloc: Global,
+    out: &mut String,
+    names: &[&'static str],
+    counts: &[usize],
+) -> Result<(), OutOfMemory> {
+    for (name, count) in names.iter().zip(counts.iter()) {
+        if *count > 0 {
+            let name = format!(in alloc; "  {name}")?;
+            push_count(alloc, out, name.as_str(), *count)?;
+        }
+    }
+    Ok(())
+}
+
+// Appends a line for each link over which a message went.
+fn push_links(alloc: Global, out: &mut String, stats: &Stats) -> Result<(), OutOfMemory> {
+    if stats.links.is_empty() {
+        return Ok(());
+    }
+    out.push_str("links, and how many messages were on one at most\n")?;
+    for link in stats.links.as_slice() {
+        let (from, to) = (link.from, link.to);
+        let name = format!(in alloc; "  kernel {from} to {to}")?;
+        push_two(alloc, out, name.as_str(), link.sent, link.longest)?;
+    }
+    Ok(())
+}
+
+// Appends a line with a name and two numbers.
+fn push_two(
+    alloc: Global,
+    out: &mut String,
+    name: &str,
+    count: usize,
+    longest: usize,
+) -> Result<(), OutOfMemory> {
+    push_count(alloc, out, name, count)?;
+    let _ = out.pop();
+    let number = format!(in alloc; "{longest}")?;
+    for _ in number.len()..NUMBERS {
+        out.push(' ')?;
+    }
+    out.push_str(number.as_str())?;
+    out.push('\n')
+}
+
+// Appends a line for each VPE that was asked.
+fn push_asks(alloc: Global, out: &mut String, stats: &Stats) -> Result<(), OutOfMemory> {
+    if stats.asks.is_empty() {
+        return Ok(());
+    }
+    out.push_str("VPEs that were asked, and how many asks waited for one at most\n")?;
+    for ask in stats.asks.as_slice() {
+        let vpe = ask.vpe;
+        let name = format!(in alloc; "  VPE {vpe}")?;
+        push_count(alloc, out, name.as_str(), ask.longest)?;
+    }
+    Ok(())
+}
+
+// Appends a line for each revoke and clear that began.
+fn push_revokes(alloc: Global, out: &mut String, stats: &Stats) -> Result<(), OutOfMemory> {
+    if stats.revokes.is_empty() {
+        return Ok(());
+    }
+    out.push_str("revokes and clears, and how many entries later they were answered\n")?;
+    for revoke in stats.revokes.as_slice() {
+        push_revoke(alloc, out, revoke)?;
+    }
+    Ok(())
+}
+
+// Appends the line of a revoke or a clear.
+fn push_revoke(alloc: Global, out: &mut String, revoke: &RevokeTime) -> Result<(), OutOfMemory> {
+    let (entry, vpe) = (revoke.entry, revoke.vpe);
+    let key = key_text(alloc, &revoke.key)?;
+    let call = call_name(revoke);
+    let name = format!(in alloc; "  entry {entry}: VPE {vpe}, {call} of {key}")?;
+    match revoke.taken {
+        Some(taken) => push_count(alloc, out, name.as_str(), taken),
+        None => {
+            out.push_str(name.as_str())?;
+            out.push_str(" not answered\n")
+        }
+    }
+}
+
+/// The name of the call.
+pub fn call_name(revoke: &RevokeTime) -> &'static str {
+    if revoke.is_clear { "clear" } else { "revoke" }
+}

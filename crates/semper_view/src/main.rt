@@ -1,0 +1,79 @@
+//! The program: its words, standard input, and what it writes on standard output and on standard
+//! error.
+#![tactic(auto)]
+
+mod words;
+
+use crate::words::read_words;
+use clap::error::ErrorKind;
+use sem_draw::{Answer, Ending};
+use sem_io::{ReadError, ReadSource, WriteSink, read_all, write_all};
+use sem_view::{Request, respond};
+use std::alloc::AllocError;
+use std::env;
+use std::process::ExitCode;
+
+/// The most bytes of an input.
+const MOST_BYTES: usize = 134_217_728;
+
+/// How the program ends where it was not able to do what was asked for.
+const FAULT: u8 = 3;
+
+fn main(rt: HostRuntime) -> ExitCode {
+    let words: Vec<String> = match env::args(&rt) {
+        Ok(words) => match words.skip(1).collect(rt.alloc()) {
+            Ok(words) => words,
+            Err(_) => return fault(&rt, "out of memory"),
+        },
+        Err(_) => return fault(&rt, "a word is no text"),
+    };
+    match read_words(rt.alloc(), words.as_slice()) {
+        Ok(request) => answer(&rt, &request),
+        Err(error) => {
+            if error.kind() == ErrorKind::OutOfMemory {
+                return fault(&rt, "out of memory");
+            }
+            if error.print(&rt).is_err() {
+                return ExitCode::from(FAULT);
+            }
+            ExitCode::from(if error.use_stderr() { 2 } else { 0 })
+        }
+    }
+}
+
+// Reads the input, and writes the answer to the request.
+fn answer(rt: &HostRuntime, request: &Request) -> ExitCode {
+    let mut input = ReadSource::new(rt.stdin());
+    let bytes = match read_all(rt.alloc(), &mut input, MOST_BYTES) {
+        Ok(bytes) => bytes,
+        Err(ReadError::Fault) => return fault(rt, "the input could not be read"),
+        Err(ReadError::Memory) => return fault(rt, "out of memory"),
+    };
+    match respond(rt.alloc(), request, bytes.as_slice()) {
+        Ok(answer) => write(rt, &answer),
+        Err(AllocError) => fault(rt, "out of memory"),
+    }
+}
+
+// Writes the answer.
+fn write(rt: &HostRuntime, answer: &Answer) -> ExitCode {
+    let mut out = WriteSink::new(rt.stdout());
+    if write_all(&mut out, answer.out.as_bytes()).is_err() {
+        return fault(rt, "the output could not be written");
+    }
+    let mut error = WriteSink::new(rt.stderr());
+    if write_all(&mut error, answer.error.as_bytes()).is_err() {
+        return ExitCode::from(FAULT);
+    }
+    ExitCode::from(match answer.ending {
+        Ending::Done => 0,
+        Ending::Refused => 1,
+        Ending::WrongWords => 2,
+    })
+}
+
+// Tells why the program could not do what was asked for.
+fn fault(rt: &HostRuntime, text: &str) -> ExitCode {
+    let _ = eprintln!(rt; "semper-view: {text}");
+    ExitCode::from(FAULT)
+}

@@ -1,0 +1,113 @@
+// The words of the command line.
+use clap::{Arg, ArgAction, ArgMatches, Command, Error};
+use sem_draw::Picture;
+use sem_view::Request;
+use std::alloc::{AllocError, Global};
+
+/// A number of an entry, as its place in the help says.
+const NUMBER: &str = "N";
+
+/// What the words ask for, or what is to be told of them: a mistake, the help or the version.
+pub fn read_words(alloc: Global, words: &[String]) -> Result<Request, Error> {
+    let mut texts = Vec::new(alloc);
+    for word in words {
+        texts.push(word.as_str())?;
+    }
+    let matches = command(alloc)?.try_get_matches_from(texts.as_slice())?;
+    Ok(asked(alloc, &matches)?)
+}
+
+// What the matches ask for.
+fn asked(alloc: Global, matches: &ArgMatches<'_>) -> Result<Request, AllocError> {
+    match matches.subcommand() {
+        Some(("chart", chart)) => Ok(Request::Chart {
+            picture: picture(chart),
+            from: chart.get_one::<u64>("from"),
+            to: chart.get_one::<u64>("to"),
+            kernels: kernels(alloc, chart)?,
+        }),
+        Some((_, stats)) => Ok(Request::Stats {
+            is_json: stats.get_flag("json"),
+        }),
+        None => Ok(Request::Stats { is_json: false }),
+    }
+}
+
+// How a picture is to be written.
+fn picture(matches: &ArgMatches<'_>) -> Picture {
+    if matches.get_flag("svg") {
+        Picture::Svg
+    } else if matches.get_flag("ascii") {
+        Picture::Plain
+    } else {
+        Picture::Boxes
+    }
+}
+
+// The kernels that are named; none where all are meant.
+fn kernels(alloc: Global, matches: &ArgMatches<'_>) -> Result<Vec<u32>, AllocError> {
+    let mut kernels = Vec::new(alloc);
+    if let Some(texts) = matches.get_strs("kernels") {
+        for text in texts {
+            if let Ok(number) = text.parse::<u32>() {
+                kernels.push(number)?;
+            }
+        }
+    }
+    Ok(kernels)
+}
+
+// The command line.
+fn command<'a>(alloc: Global) -> Result<Command<'a>, AllocError> {
+    let chart = pictured(
+        alloc,
+        Command::new(alloc, "chart").about("Draw the messages of a report, entry by entry"),
+    )?
+    .arg(number(alloc, "from", "The first entry that is shown"))?
+    .arg(number(alloc, "to", "The last entry that is shown"))?
+    .arg(
+        Arg::new(alloc, "kernels")
+            .long("kernels")
+            .value_name("LIST")
+            .value_delimiter(',')
+            .action(ArgAction::Append)
+            .value_parser(clap::value_parser!(u32))
+            .help("The kernels that are shown, as 0,2"),
+    )?;
+    let stats = Command::new(alloc, "stats")
+        .about("Count the events, messages and replies of a report")
+        .arg(flag(alloc, "json", "Write JSON"))?;
+    Command::new(alloc, "semper-view")
+        .version("1")
+        .no_binary_name(true)
+        .about("Shows what the reports of semper tell. A report is read from standard input.")
+        .subcommand_required(true)
+        .arg_required_else_help(true)
+        .subcommand(chart)?
+        .subcommand(stats)
+}
+
+// The command with the flags of a picture.
+fn pictured<'a>(alloc: Global, command: Command<'a>) -> Result<Command<'a>, AllocError> {
+    command
+        .arg(flag(alloc, "svg", "Write an SVG picture"))?
+        .arg(flag(alloc, "ascii", "Write text without box characters"))
+}
+
+// An option that is a number.
+fn number<'a>(alloc: Global, name: &'a str, help: &'a str) -> Arg<'a> {
+    Arg::new(alloc, name)
+        .long(name)
+        .value_name(NUMBER)
+        .action(ArgAction::Set)
+        .value_parser(clap::value_parser!(u64))
+        .help(help)
+}
+
+// A flag.
+fn flag<'a>(alloc: Global, name: &'a str, help: &'a str) -> Arg<'a> {
+    Arg::new(alloc, name)
+        .long(name)
+        .action(ArgAction::SetTrue)
+        .help(help)
+}
