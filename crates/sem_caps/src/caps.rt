@@ -92,7 +92,7 @@ impl Caps {
         ensures caps { self.new.caps ≡ self.old.caps }
         ensures spare { self.old.spare ≤ self.new.spare }
         ensures err { OnErr result (self.new.child_room ≡ self.old.child_room) }
-        ensures places { KeepsPlaces self.old.places self.new.places }
+        ensures places { self.new.places ≡ self.old.places }
     {
         self.slab.reserve(more)?;
         self.spots.reserve(more)?;

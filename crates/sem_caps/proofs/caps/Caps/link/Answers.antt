@@ -13,19 +13,34 @@ pub unreachable-requires : goal.unreachable-requires
 unreachable-requires c = not-absent c.args.self.now.caps c.args.parent c.place_of.result c.place_of.ensures.held c.in_default.is (room-held c.args.self.now c.args.parent c.place_of.ensures.store c.requires)
 
 pub index_mut-cap-requires : goal.index_mut-cap-requires
-index_mut-cap-requires c = contains-place c.self.inside.slab c.self.inside.spots.items c.self.invariant.2 c.args.parent c.in-Some.place (same_place c.args.self.now c.self.inside.spots.items c.args.parent c.place_of.result c.in-Some.place (ap (λ (s : CapStore). s.places) c.self.view_is) c.place_of.ensures.place c.in-Some.is)
+index_mut-cap-requires c =
+    let listed = ap (λ (s : CapStore). s.places) c.self.view_is in
+    let is = same_place c.args.self.now c.self.inside.spots.items c.args.parent c.place_of.result c.in-Some.place listed c.place_of.ensures.place c.in-Some.is in
+    contains-place c.self.inside.slab c.self.inside.spots.items c.self.invariant.2 c.args.parent c.in-Some.place is
 
 -- it has room for one more child
 pub insert-requires : goal.insert-requires
 insert-requires c =
-    let held : IsHeldAt c.self.inside.slab c.self.inside.spots.items c.args.parent c.in-Some.place c.index_mut-cap.result.now = record { placed = c.self.invariant.2; is_list = c.self.invariant.0.keys; is = same_place c.args.self.now c.self.inside.spots.items c.args.parent c.place_of.result c.in-Some.place (ap (λ (s : CapStore). s.places) c.self.view_is) c.place_of.ensures.place c.in-Some.is; value = c.index_mut-cap.ensures.value } in
+    let listed = ap (λ (s : CapStore). s.places) c.self.view_is in
+    let held : IsHeldAt c.self.inside.slab c.self.inside.spots.items c.args.parent c.in-Some.place c.index_mut-cap.result.now = record {
+      placed = c.self.invariant.2;
+      is_list = c.self.invariant.0.keys;
+      is = same_place c.args.self.now c.self.inside.spots.items c.args.parent c.place_of.result c.in-Some.place listed c.place_of.ensures.place c.in-Some.is;
+      value = c.index_mut-cap.ensures.value;
+    } in
     let room : c.self.inside.child_room ≡ Some c.args.parent = rw (← c.self.view_is) at c.requires in
     room-written held c.self.inside.child_room room c.self.invariant.0
 
 -- the links of the parent are counted anew
 pub overflow_sub-self : goal.overflow_sub-self
 overflow_sub-self c =
-    let held : IsHeldAt c.self.inside.slab c.self.inside.spots.items c.args.parent c.in-Some.place c.index_mut-cap.result.now = record { placed = c.self.invariant.2; is_list = c.self.invariant.0.keys; is = same_place c.args.self.now c.self.inside.spots.items c.args.parent c.place_of.result c.in-Some.place (ap (λ (s : CapStore). s.places) c.self.view_is) c.place_of.ensures.place c.in-Some.is; value = c.index_mut-cap.ensures.value } in
+    let listed = ap (λ (s : CapStore). s.places) c.self.view_is in
+    let held : IsHeldAt c.self.inside.slab c.self.inside.spots.items c.args.parent c.in-Some.place c.index_mut-cap.result.now = record {
+      placed = c.self.invariant.2;
+      is_list = c.self.invariant.0.keys;
+      is = same_place c.args.self.now c.self.inside.spots.items c.args.parent c.place_of.result c.in-Some.place listed c.place_of.ensures.place c.in-Some.is;
+      value = c.index_mut-cap.ensures.value;
+    } in
     let le = links-written held c.self.inside.links c.self.invariant.1 in
     let before = c.child_count-before.ensures.count in
     omega arith
@@ -39,7 +54,13 @@ overflow_add-self c =
 -- and it has no room after it
 pub invariant_of-self : goal.invariant_of-self
 invariant_of-self c =
-    let held : IsHeldAt c.self.inside.slab c.self.inside.spots.items c.args.parent c.in-Some.place c.index_mut-cap.result.now = record { placed = c.self.invariant.2; is_list = c.self.invariant.0.keys; is = same_place c.args.self.now c.self.inside.spots.items c.args.parent c.place_of.result c.in-Some.place (ap (λ (s : CapStore). s.places) c.self.view_is) c.place_of.ensures.place c.in-Some.is; value = c.index_mut-cap.ensures.value } in
+    let listed = ap (λ (s : CapStore). s.places) c.self.view_is in
+    let held : IsHeldAt c.self.inside.slab c.self.inside.spots.items c.args.parent c.in-Some.place c.index_mut-cap.result.now = record {
+      placed = c.self.invariant.2;
+      is_list = c.self.invariant.0.keys;
+      is = same_place c.args.self.now c.self.inside.spots.items c.args.parent c.place_of.result c.in-Some.place listed c.place_of.ensures.place c.in-Some.is;
+      value = c.index_mut-cap.ensures.value;
+    } in
     let le = links-written held c.self.inside.links c.self.invariant.1 in
     let before = c.child_count-before.ensures.count in
     let after = c.child_count-after.ensures.count in (
@@ -50,5 +71,11 @@ invariant_of-self c =
 
 pub returns : goal.returns
 returns c =
-    let held : IsHeldAt c.self.inside.slab c.self.inside.spots.items c.args.parent c.in-Some.place c.index_mut-cap.result.now = record { placed = c.self.invariant.2; is_list = c.self.invariant.0.keys; is = same_place c.args.self.now c.self.inside.spots.items c.args.parent c.place_of.result c.in-Some.place (ap (λ (s : CapStore). s.places) c.self.view_is) c.place_of.ensures.place c.in-Some.is; value = c.index_mut-cap.ensures.value } in
+    let listed = ap (λ (s : CapStore). s.places) c.self.view_is in
+    let held : IsHeldAt c.self.inside.slab c.self.inside.spots.items c.args.parent c.in-Some.place c.index_mut-cap.result.now = record {
+      placed = c.self.invariant.2;
+      is_list = c.self.invariant.0.keys;
+      is = same_place c.args.self.now c.self.inside.spots.items c.args.parent c.place_of.result c.in-Some.place listed c.place_of.ensures.place c.in-Some.is;
+      value = c.index_mut-cap.ensures.value;
+    } in
     rw (← c.self.view_is) (same_caps _ _ _ _ _ (plain-written held _ (λ (x : Capability). record x { children = with_key x.children c.args.child }) (rw c.insert.ensures.keys refl)))

@@ -11,11 +11,20 @@ pub unreachable-requires : goal.unreachable-requires
 unreachable-requires c = not-absent c.args.self.now.caps c.args.key c.place_of.result c.place_of.ensures.held c.in_default.is (some-and _ (cap_of c.args.self.now.caps c.args.key) c.requires)
 
 pub index_mut-cap-requires : goal.index_mut-cap-requires
-index_mut-cap-requires c = contains-place c.self.inside.slab c.self.inside.spots.items c.self.invariant.2 c.args.key c.in-Some.place (same_place c.args.self.now c.self.inside.spots.items c.args.key c.place_of.result c.in-Some.place (ap (λ (s : CapStore). s.places) c.self.view_is) c.place_of.ensures.place c.in-Some.is)
+index_mut-cap-requires c =
+    let listed = ap (λ (s : CapStore). s.places) c.self.view_is in
+    let is = same_place c.args.self.now c.self.inside.spots.items c.args.key c.place_of.result c.in-Some.place listed c.place_of.ensures.place c.in-Some.is in
+    contains-place c.self.inside.slab c.self.inside.spots.items c.self.invariant.2 c.args.key c.in-Some.place is
 
 pub invariant_of-self : goal.invariant_of-self
 invariant_of-self c =
-    let held : IsHeldAt c.self.inside.slab c.self.inside.spots.items c.args.key c.in-Some.place c.index_mut-cap.result.now = record { placed = c.self.invariant.2; is_list = c.self.invariant.0.keys; is = same_place c.args.self.now c.self.inside.spots.items c.args.key c.place_of.result c.in-Some.place (ap (λ (s : CapStore). s.places) c.self.view_is) c.place_of.ensures.place c.in-Some.is; value = c.index_mut-cap.ensures.value } in (
+    let listed = ap (λ (s : CapStore). s.places) c.self.view_is in
+    let held : IsHeldAt c.self.inside.slab c.self.inside.spots.items c.args.key c.in-Some.place c.index_mut-cap.result.now = record {
+      placed = c.self.invariant.2;
+      is_list = c.self.invariant.0.keys;
+      is = same_place c.args.self.now c.self.inside.spots.items c.args.key c.place_of.result c.in-Some.place listed c.place_of.ensures.place c.in-Some.is;
+      value = c.index_mut-cap.ensures.value;
+    } in (
       stored-written held _ c.self.inside.child_room refl (omega arith) c.self.invariant.0,
       counted_same-written held _ c.self.inside.links c.self.invariant.1 refl,
       placed-written held _ refl,
@@ -23,5 +32,11 @@ invariant_of-self c =
 
 pub returns : goal.returns
 returns c =
-    let held : IsHeldAt c.self.inside.slab c.self.inside.spots.items c.args.key c.in-Some.place c.index_mut-cap.result.now = record { placed = c.self.invariant.2; is_list = c.self.invariant.0.keys; is = same_place c.args.self.now c.self.inside.spots.items c.args.key c.place_of.result c.in-Some.place (ap (λ (s : CapStore). s.places) c.self.view_is) c.place_of.ensures.place c.in-Some.is; value = c.index_mut-cap.ensures.value } in
+    let listed = ap (λ (s : CapStore). s.places) c.self.view_is in
+    let held : IsHeldAt c.self.inside.slab c.self.inside.spots.items c.args.key c.in-Some.place c.index_mut-cap.result.now = record {
+      placed = c.self.invariant.2;
+      is_list = c.self.invariant.0.keys;
+      is = same_place c.args.self.now c.self.inside.spots.items c.args.key c.place_of.result c.in-Some.place listed c.place_of.ensures.place c.in-Some.is;
+      value = c.index_mut-cap.ensures.value;
+    } in
     rw (← c.self.view_is) (same_caps _ _ _ _ _ (plain-written held _ (λ (x : Capability). record x { mark = Some c.args.job }) refl))

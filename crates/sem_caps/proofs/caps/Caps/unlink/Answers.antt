@@ -16,12 +16,21 @@ pub returns-in_default-clause-gone : goal.returns-in_default-clause-gone
 returns-in_default-clause-gone c = same_caps _ _ _ _ _ (sym (change-absent c.args.self.now.caps c.args.parent (absent c.args.self.now.caps c.args.parent c.place_of.result c.place_of.ensures.held c.in_default.is) (λ (x : Capability). record x { children = without_key x.children c.args.child })))
 
 pub index_mut-cap-requires : goal.index_mut-cap-requires
-index_mut-cap-requires c = contains-place c.self.inside.slab c.self.inside.spots.items c.self.invariant.2 c.args.parent c.in-Some.place (same_place c.args.self.now c.self.inside.spots.items c.args.parent c.place_of.result c.in-Some.place (ap (λ (s : CapStore). s.places) c.self.view_is) c.place_of.ensures.place c.in-Some.is)
+index_mut-cap-requires c =
+    let listed = ap (λ (s : CapStore). s.places) c.self.view_is in
+    let is = same_place c.args.self.now c.self.inside.spots.items c.args.parent c.place_of.result c.in-Some.place listed c.place_of.ensures.place c.in-Some.is in
+    contains-place c.self.inside.slab c.self.inside.spots.items c.self.invariant.2 c.args.parent c.in-Some.place is
 
 -- its links are counted anew
 pub overflow_sub-self : goal.overflow_sub-self
 overflow_sub-self c =
-    let held : IsHeldAt c.self.inside.slab c.self.inside.spots.items c.args.parent c.in-Some.place c.index_mut-cap.result.now = record { placed = c.self.invariant.2; is_list = c.self.invariant.0.keys; is = same_place c.args.self.now c.self.inside.spots.items c.args.parent c.place_of.result c.in-Some.place (ap (λ (s : CapStore). s.places) c.self.view_is) c.place_of.ensures.place c.in-Some.is; value = c.index_mut-cap.ensures.value } in
+    let listed = ap (λ (s : CapStore). s.places) c.self.view_is in
+    let held : IsHeldAt c.self.inside.slab c.self.inside.spots.items c.args.parent c.in-Some.place c.index_mut-cap.result.now = record {
+      placed = c.self.invariant.2;
+      is_list = c.self.invariant.0.keys;
+      is = same_place c.args.self.now c.self.inside.spots.items c.args.parent c.place_of.result c.in-Some.place listed c.place_of.ensures.place c.in-Some.is;
+      value = c.index_mut-cap.ensures.value;
+    } in
     let le = links-written held c.self.inside.links c.self.invariant.1 in
     let before = c.child_count-before.ensures.count in
     omega arith
@@ -34,7 +43,13 @@ overflow_add-self c =
 
 pub invariant_of-self : goal.invariant_of-self
 invariant_of-self c =
-    let held : IsHeldAt c.self.inside.slab c.self.inside.spots.items c.args.parent c.in-Some.place c.index_mut-cap.result.now = record { placed = c.self.invariant.2; is_list = c.self.invariant.0.keys; is = same_place c.args.self.now c.self.inside.spots.items c.args.parent c.place_of.result c.in-Some.place (ap (λ (s : CapStore). s.places) c.self.view_is) c.place_of.ensures.place c.in-Some.is; value = c.index_mut-cap.ensures.value } in
+    let listed = ap (λ (s : CapStore). s.places) c.self.view_is in
+    let held : IsHeldAt c.self.inside.slab c.self.inside.spots.items c.args.parent c.in-Some.place c.index_mut-cap.result.now = record {
+      placed = c.self.invariant.2;
+      is_list = c.self.invariant.0.keys;
+      is = same_place c.args.self.now c.self.inside.spots.items c.args.parent c.place_of.result c.in-Some.place listed c.place_of.ensures.place c.in-Some.is;
+      value = c.index_mut-cap.ensures.value;
+    } in
     let le = links-written held c.self.inside.links c.self.invariant.1 in
     let before = c.child_count-before.ensures.count in
     let after = c.child_count-after.ensures.count in (
@@ -45,10 +60,22 @@ invariant_of-self c =
 
 pub returns-clause-stood : goal.returns-clause-stood
 returns-clause-stood c =
-    let held : IsHeldAt c.self.inside.slab c.self.inside.spots.items c.args.parent c.in-Some.place c.index_mut-cap.result.now = record { placed = c.self.invariant.2; is_list = c.self.invariant.0.keys; is = same_place c.args.self.now c.self.inside.spots.items c.args.parent c.place_of.result c.in-Some.place (ap (λ (s : CapStore). s.places) c.self.view_is) c.place_of.ensures.place c.in-Some.is; value = c.index_mut-cap.ensures.value } in
+    let listed = ap (λ (s : CapStore). s.places) c.self.view_is in
+    let held : IsHeldAt c.self.inside.slab c.self.inside.spots.items c.args.parent c.in-Some.place c.index_mut-cap.result.now = record {
+      placed = c.self.invariant.2;
+      is_list = c.self.invariant.0.keys;
+      is = same_place c.args.self.now c.self.inside.spots.items c.args.parent c.place_of.result c.in-Some.place listed c.place_of.ensures.place c.in-Some.is;
+      value = c.index_mut-cap.ensures.value;
+    } in
     rw (← c.self.view_is, cap-here held) c.remove-stood.ensures.there
 
 pub returns-clause-gone : goal.returns-clause-gone
 returns-clause-gone c =
-    let held : IsHeldAt c.self.inside.slab c.self.inside.spots.items c.args.parent c.in-Some.place c.index_mut-cap.result.now = record { placed = c.self.invariant.2; is_list = c.self.invariant.0.keys; is = same_place c.args.self.now c.self.inside.spots.items c.args.parent c.place_of.result c.in-Some.place (ap (λ (s : CapStore). s.places) c.self.view_is) c.place_of.ensures.place c.in-Some.is; value = c.index_mut-cap.ensures.value } in
+    let listed = ap (λ (s : CapStore). s.places) c.self.view_is in
+    let held : IsHeldAt c.self.inside.slab c.self.inside.spots.items c.args.parent c.in-Some.place c.index_mut-cap.result.now = record {
+      placed = c.self.invariant.2;
+      is_list = c.self.invariant.0.keys;
+      is = same_place c.args.self.now c.self.inside.spots.items c.args.parent c.place_of.result c.in-Some.place listed c.place_of.ensures.place c.in-Some.is;
+      value = c.index_mut-cap.ensures.value;
+    } in
     rw (← c.self.view_is) (same_caps _ _ _ _ _ (plain-written held _ (λ (x : Capability). record x { children = without_key x.children c.args.child }) (rw c.remove-stood.ensures.keys refl)))
