@@ -6,3 +6,5 @@ pub mod Order
 pub mod Runs
 pub mod Played
 pub mod Upwards
+pub mod Straying
+pub mod Answering

@@ -5,6 +5,7 @@
 mod audits;
 mod cuts;
 mod holds;
+mod laws;
 mod makes;
 #[cfg(test)]
 mod replay_tests;
@@ -16,6 +17,7 @@ mod tests;
 pub use audits::audit_of;
 pub use cuts::cut_keys;
 pub use holds::held_list;
+pub use laws::{all_calls_are_answered, nothing_is_stray};
 pub use makes::made_keys;
 pub use replays::audit;
 pub use strays::{answered, stray};

@@ -21,3 +21,7 @@ module _ {X : Type 0} where
   -- five appends, of which the first is of three pieces
   pub seven-appended : (a b c d e f n l s x t w z : List X) → b ≡ a ++ (n ++ l ++ s) → c ≡ b ++ x → d ≡ c ++ t → e ≡ d ++ w → f ≡ e ++ z → f ≡ a ++ (n ++ l ++ s ++ x ++ t ++ w ++ z)
   seven-appended a b c d e f n l s x t w z h i j k m = rw (m, k, j, i, h) (simp append_assoc)
+
+  -- five appends in a row
+  pub summed : (a b c d e f n l s t w : List X) → b ≡ a ++ n → c ≡ b ++ l → d ≡ c ++ s → e ≡ d ++ t → f ≡ e ++ w → f ≡ a ++ (n ++ l ++ s ++ t ++ w)
+  summed a b c d e f n l s t w h i j k m = rw (m, k, j, i, h) (simp append_assoc)

@@ -39,14 +39,14 @@ load-kept (Some s) (Some v) (Some c) load few some = from (nat_le 1 v && nat_le 
         let parts = and_parts (nat_le 1 v) (nat_le (v * c) 20000) test in
         subst (λ (l : Load). CanGenerate l.vpes l.calls) (same_Some (record { seed = s; vpes = v; calls = c }) load some) (leb-true 1 v parts.0, few v refl, leb-true (v * c) 20000 parts.1)
 
--- a command that generates has such a load
+-- a command that generates a setup has such a load
 abbrev IsLoaded : Option Command → Type 0
 IsLoaded None = Unit {0}
 IsLoaded (Some (Run seed)) = Unit {0}
 IsLoaded (Some (Threads seed)) = Unit {0}
 IsLoaded (Some Check) = Unit {0}
 IsLoaded (Some (Generate seed vpes calls)) = CanGenerate vpes calls
-IsLoaded (Some (Soak seed vpes calls)) = Unit {0}
+IsLoaded (Some (Soak seed vpes calls)) = CanGenerate vpes calls
 
 plain-loaded : (b : Bool) → IsLoaded (cond b (Some Check) None)
 plain-loaded true = tt
@@ -63,7 +63,7 @@ load-loaded : (a b : Bool) (o : Option Load) → ((load : Load) → o ≡ Some l
 load-loaded true b None kept = tt
 load-loaded true b (Some load) kept = kept load refl
 load-loaded false true None kept = tt
-load-loaded false true (Some load) kept = tt
+load-loaded false true (Some load) kept = kept load refl
 load-loaded false false o kept = tt
 
 command-loaded : (words : List (List ℕ)) → IsLoaded (command_of words)
@@ -77,3 +77,6 @@ command-loaded (name ∷ seed ∷ vpes ∷ calls ∷ more ∷ words) = tt
 -- so has one that words are
 pub can-generate : (words : List (List ℕ)) (seed vpes calls : ℕ) → command_of words ≡ Some (Generate seed vpes calls) → CanGenerate vpes calls
 can-generate words seed vpes calls same = subst IsLoaded same (command-loaded words)
+
+pub can-soak : (words : List (List ℕ)) (seed vpes calls : ℕ) → command_of words ≡ Some (Soak seed vpes calls) → CanGenerate vpes calls
+can-soak words seed vpes calls same = subst IsLoaded same (command-loaded words)

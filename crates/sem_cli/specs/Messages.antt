@@ -9,9 +9,6 @@ use Rattle.sem_trace.specs.declared.fault.TraceFault.{TraceFault}
 abbrev pub usage_line : List ℕ
 usage_line = codes "usage: semper run SEED | threads SEED | check | gen SEED VPES CALLS | soak SEED VPES CALLS" ++ 10 ∷ []
 
-abbrev pub not_built_line : List ℕ
-not_built_line = codes "not built" ++ 10 ∷ []
-
 -- the report is that of a complete schedule
 abbrev pub ok_line : List ℕ
 ok_line = codes "ok" ++ 10 ∷ []

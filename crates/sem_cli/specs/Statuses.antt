@@ -1,7 +1,7 @@
 -- The exit statuses of the program ("The command line" in docs/texts.md).
 use Rattle.std.specs.Prelude.{ℕ}
 use Rattle.sem_cli.specs.declared.statuses.Status.{Status}
-use Rattle.sem_cli.specs.declared.statuses.Status.TheVariants.{Done, Usage, TraceRefused, ReadFault, WriteFault, Memory, ReportRefused, NotBuilt}
+use Rattle.sem_cli.specs.declared.statuses.Status.TheVariants.{Done, Usage, TraceRefused, ReadFault, WriteFault, Memory, ReportRefused}
 
 abbrev pub status_number : Status → ℕ
 status_number Done = 0
@@ -11,4 +11,3 @@ status_number ReadFault = 3
 status_number WriteFault = 4
 status_number Memory = 5
 status_number ReportRefused = 9
-status_number NotBuilt = 10

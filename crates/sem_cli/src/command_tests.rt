@@ -1,4 +1,4 @@
-use crate::{Command, Status, command, not_built, ok, push_differing, push_going_on, usage};
+use crate::{Command, Status, command, ok, push_differing, push_going_on, push_summary, usage};
 use sem_msg::{Act, Detail, Entry, Event, Reply};
 use std::process::Abort;
 use std::test::Fail;
@@ -101,7 +101,6 @@ fn each_status_has_its_number(rt: HostRuntime) {
         (Status::WriteFault, 4),
         (Status::Memory, 5),
         (Status::ReportRefused, 9),
-        (Status::NotBuilt, 10),
     ] {
         assert_eq!(rt; status.number(), want, "of {status:?}");
     }
@@ -109,11 +108,19 @@ fn each_status_has_its_number(rt: HostRuntime) {
 
 #[test]
 fn messages_are_whole_lines(rt: HostRuntime) -> Result<(), Fail> {
-    assert_eq!(rt; not_built(), b"not built\n".as_slice());
     assert_eq!(rt; ok(), b"ok\n".as_slice());
     let forms = "run SEED | threads SEED | check | gen SEED VPES CALLS | soak SEED VPES CALLS";
     let line = format!(in rt.alloc(); "usage: semper {forms}\n")?;
     assert_eq!(rt; usage(), line.as_bytes());
+    Ok(())
+}
+
+#[test]
+fn a_summary_is_five_lines(rt: HostRuntime) -> Result<(), Fail> {
+    let mut out = Vec::new(rt.alloc());
+    push_summary(&mut out, 8, 800, 799, 3)?;
+    let lines = "soak 1\nvpes 8\ncalls 800\nanswered 799\nstray 3\n";
+    assert_eq!(rt; out.as_slice(), lines.as_bytes());
     Ok(())
 }
 

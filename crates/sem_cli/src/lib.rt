@@ -9,9 +9,11 @@ mod forms;
 mod messages;
 mod refusals;
 mod statuses;
+mod summaries;
 
 pub use commands::command;
 pub use forms::Command;
-pub use messages::{not_built, ok, push_refused, usage};
+pub use messages::{ok, push_refused, usage};
 pub use refusals::{push_bad_line, push_differing, push_going_on};
 pub use statuses::Status;
+pub use summaries::push_summary;

@@ -1,5 +1,5 @@
 ghost use Rattle.std.specs.Prelude.{◌≡◌, ◌++◌, OnOk};
-ghost use Rattle.sem_cli.specs.Messages.{usage_line, not_built_line, ok_line, cause_name as cause_name_lem, refused_line};
+ghost use Rattle.sem_cli.specs.Messages.{usage_line, ok_line, cause_name as cause_name_lem, refused_line};
 
 use sem_key::OutOfMemory;
 use sem_text::push_number;
@@ -10,13 +10,6 @@ pub fn usage() -> &'static [u8]
     ensures { result.now ≡ usage_line }
 {
     b"usage: semper run SEED | threads SEED | check | gen SEED VPES CALLS | soak SEED VPES CALLS\n"
-}
-
-/// The line that tells that the command is not built yet.
-pub fn not_built() -> &'static [u8]
-    ensures { result.now ≡ not_built_line }
-{
-    b"not built\n"
 }
 
 /// The line that tells that a report is that of a complete schedule.

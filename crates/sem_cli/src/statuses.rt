@@ -18,8 +18,6 @@ pub enum Status {
     Memory,
     /// The input is not the report of a complete schedule.
     ReportRefused,
-    /// The command is not built yet.
-    NotBuilt,
 }
 
 impl Status {
@@ -35,7 +33,6 @@ impl Status {
             Status::WriteFault => 4,
             Status::Memory => 5,
             Status::ReportRefused => 9,
-            Status::NotBuilt => 10,
         }
     }
 }

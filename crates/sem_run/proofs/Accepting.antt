@@ -23,12 +23,12 @@ use Rattle.sem_fits.proofs.Bytes.{short-report}
 use Rattle.sem_cli.specs.declared.forms.Command.{Command}
 use Rattle.sem_cli.specs.declared.forms.Command.TheVariants.{Check}
 use Rattle.sem_cli.specs.declared.statuses.Status.{Status}
-use Rattle.sem_cli.specs.declared.statuses.Status.TheVariants.{Done, Usage, TraceRefused, ReadFault, WriteFault, Memory, ReportRefused, NotBuilt}
-use Rattle.sem_run.specs.Inputs.{Given, Asks, is_alone}
+use Rattle.sem_cli.specs.declared.statuses.Status.TheVariants.{Done, Usage, TraceRefused, ReadFault, WriteFault, Memory, ReportRefused}
+use Rattle.sem_run.specs.Inputs.{Given, Asks}
 use Rattle.sem_run.specs.Reports.{IsReport, TellsReport, IsRefusedReport}
 use Rattle.sem_run.specs.Reports.IsRefusedReport.{BadLine, BadEntry, NotOver, BadAudit}
 use Rattle.sem_run.specs.Ends.{WouldEnd}
-use Rattle.sem_run.proofs.Asked.{not-both, no-run}
+use Rattle.sem_run.proofs.Asked.{no-run}
 
 -- the report of a schedule can be told
 report-fits : (T : Setup) → IsSetup T → (J : List Entry) → IsSchedule T J → ReportFits T J (length (made T J)) (length (cut T J)) (held (world_after T J).sides)
@@ -83,4 +83,3 @@ check-accepts g J text Memory ends refuse bytes asked left r = inr (inr (inr ref
 check-accepts g J text ReportRefused ends refuse bytes asked left r =
     let is : bytes ≡ ends.bytes = subst (λ x. IfSome x (λ left. left ≡ ends.bytes)) left ends.input in
     absurd (refuse ends.bytes text (subst IsReport is r) ends.refused)
-check-accepts g J text NotBuilt ends refuse bytes asked left r = absurd (not-both g ends.asked Check is_alone ends.command asked ends.not_alone refl)

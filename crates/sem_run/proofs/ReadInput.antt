@@ -15,7 +15,7 @@ use Rattle.sem_trace.specs.declared.fault.TraceError.TheVariants.{Refused as Ref
 use Rattle.sem_report.specs.ReportRefusal.{report_refusal}
 use Rattle.sem_cli.specs.declared.forms.Command.TheVariants.{Check}
 use Rattle.sem_cli.specs.declared.statuses.Status.{Status}
-use Rattle.sem_cli.specs.declared.statuses.Status.TheVariants.{Done, Usage, TraceRefused, ReadFault, WriteFault, Memory, ReportRefused, NotBuilt}
+use Rattle.sem_cli.specs.declared.statuses.Status.TheVariants.{Done, Usage, TraceRefused, ReadFault, WriteFault, Memory, ReportRefused}
 use Rattle.sem_run.specs.Inputs.{Given, Asks, ReadsTrace}
 use Rattle.sem_run.specs.Reports.{IsRefusedReport}
 use Rattle.sem_run.specs.Reports.IsRefusedReport.{BadLine, BadEntry, NotOver, BadAudit}
@@ -122,4 +122,3 @@ check-ends g read text Memory asked is taken quiet verdict = absurd verdict
 check-ends g read text ReportRefused asked is taken quiet verdict =
     let told = refused-input g.before read text is verdict in
     record { command = asked; bytes = told.0; input = told.1; refused = told.2; quiet = quiet; no_journal = refl }
-check-ends g read text NotBuilt asked is taken quiet verdict = absurd verdict

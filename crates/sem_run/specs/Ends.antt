@@ -7,18 +7,21 @@ use Rattle.sem_io.specs.SinkBytes.{Appends, AppendsPrefix}
 use Rattle.sem_trace.specs.declared.fault.TraceFault.{TraceFault}
 use Rattle.sem_trace.specs.TraceText.{canonical}
 use Rattle.sem_gen.specs.Generated.{generated}
-use Rattle.sem_machine.specs.Schedules.{IsSchedule}
+use Rattle.sem_msg.specs.Journal.{replies}
+use Rattle.sem_machine.specs.Schedules.{IsSchedule, world_after}
 use Rattle.sem_machine.specs.Seeded.{seeded}
 use Rattle.sem_machine.specs.Living.{IsComplete}
 use Rattle.sem_machine.specs.Safety.{IsSafe}
 use Rattle.sem_audit.specs.HeldKeys.{report}
+use Rattle.sem_audit.specs.Straying.{stray_count}
 use Rattle.sem_cli.specs.declared.forms.Command.{Command}
-use Rattle.sem_cli.specs.declared.forms.Command.TheVariants.{Run, Threads, Check, Generate}
+use Rattle.sem_cli.specs.declared.forms.Command.TheVariants.{Run, Threads, Check, Generate, Soak}
 use Rattle.sem_cli.specs.declared.statuses.Status.{Status}
-use Rattle.sem_cli.specs.declared.statuses.Status.TheVariants.{Done, Usage, TraceRefused, ReadFault, WriteFault, Memory, ReportRefused, NotBuilt}
+use Rattle.sem_cli.specs.declared.statuses.Status.TheVariants.{Done, Usage, TraceRefused, ReadFault, WriteFault, Memory, ReportRefused}
 use Rattle.sem_cli.specs.Commands.{command_of}
-use Rattle.sem_cli.specs.Messages.{usage_line, not_built_line, ok_line, refused_line}
-use Rattle.sem_run.specs.Inputs.{Given, Asks, AsksRun, ReadsAll, ReadsTrace, IsRefused, IsQuietlyRead, is_alone, reads_input}
+use Rattle.sem_cli.specs.Summary.{summary}
+use Rattle.sem_cli.specs.Messages.{usage_line, ok_line, refused_line}
+use Rattle.sem_run.specs.Inputs.{Given, Asks, AsksRun, ReadsAll, ReadsTrace, RunsSetup, IsRefused, IsQuietlyRead, is_run, reads_input}
 use Rattle.sem_run.specs.Reports.{IsRefusedReport}
 
 -- the journal is the seeded one of the setup that was read
@@ -66,9 +69,25 @@ pub record EndsThreaded (g : Given) (J : List Entry) (text : List ℕ) : Type 0 
   pub complete : IsComplete setup J
   pub told : text ≡ report setup J
 
+-- Status 0 of `soak`: the journal is complete for the setup that is generated, it has a reply to each call, no key is stray after it, and the text is the summary that tells so; nothing was read.
+pub record EndsSoaked (g : Given) (J : List Entry) (text : List ℕ) : Type 0 where
+  pub setup : Setup
+  pub seed : ℕ
+  pub vpes : ℕ
+  pub calls : ℕ
+  pub command : Asks g (Soak seed vpes calls)
+  pub made : setup ≡ generated seed vpes calls
+  pub valid : IsSetup setup
+  pub unread : g.after ≡ g.before
+  pub quiet : IsQuietlyRead g
+  pub complete : IsComplete setup J
+  pub all_answered : length (replies J) ≡ vpes * calls
+  pub none_stray : stray_count setup J (world_after setup J).sides ≡ 0
+  pub told : text ≡ summary vpes (vpes * calls) (length (replies J)) (stray_count setup J (world_after setup J).sides)
+
 -- Status 0: what the command asks for is done.
 abbrev pub EndsDone : Given → List Entry → List ℕ → Type 0
-EndsDone g J text = EndsReported g J text ⊎ (EndsAccepted g J text ⊎ (EndsGenerated g J text ⊎ EndsThreaded g J text))
+EndsDone g J text = EndsReported g J text ⊎ (EndsAccepted g J text ⊎ (EndsGenerated g J text ⊎ (EndsThreaded g J text ⊎ EndsSoaked g J text)))
 
 -- Status 1: the words are no command.
 pub record EndsUsage (g : Given) (J : List Entry) (text : List ℕ) : Type 0 where
@@ -95,9 +114,9 @@ pub record EndsReadFault (g : Given) (J : List Entry) (text : List ℕ) : Type 0
   pub no_journal : J ≡ []
   pub told : text ≡ []
 
--- the journal is empty, or the command is a run and the journal a schedule of the setup that was read
+-- the journal is empty, or a schedule of the setup that the command runs
 abbrev pub IsPartOfRun : Given → List Entry → Type 0
-IsPartOfRun g J = (J ≡ []) ⊎ ((T : Setup) × (seed : ℕ) × AsksRun g seed × ReadsTrace g T × IsSchedule T J)
+IsPartOfRun g J = (J ≡ []) ⊎ ((T : Setup) × RunsSetup g T × IsSchedule T J)
 
 -- Status 5: memory was wanting.
 pub record EndsMemory (g : Given) (J : List Entry) (text : List ℕ) : Type 0 where
@@ -113,15 +132,6 @@ pub record EndsReportRefused (g : Given) (J : List Entry) (text : List ℕ) : Ty
   pub quiet : IsQuietlyRead g
   pub no_journal : J ≡ []
 
--- Status 10: a command that is not built, or not for one thread.
-pub record EndsNotBuilt (g : Given) (J : List Entry) (text : List ℕ) : Type 0 where
-  pub asked : Command
-  pub command : Asks g asked
-  pub not_alone : is_alone asked ≡ false
-  pub quiet : IsQuietlyRead g
-  pub no_journal : J ≡ []
-  pub told : text ≡ not_built_line
-
 -- why the program would end with a status, if its text can be written
 abbrev pub WouldEnd : Given → List Entry → List ℕ → Status → Type 0
 WouldEnd g J text Done = EndsDone g J text
@@ -131,7 +141,6 @@ WouldEnd g J text ReadFault = EndsReadFault g J text
 WouldEnd g J text WriteFault = ⊥
 WouldEnd g J text Memory = EndsMemory g J text
 WouldEnd g J text ReportRefused = EndsReportRefused g J text
-WouldEnd g J text NotBuilt = EndsNotBuilt g J text
 
 -- a text of which something holds was appended
 abbrev pub Writes : Option (List ℕ) → Option (List ℕ) → (List ℕ → Type 0) → Type 0
@@ -143,21 +152,20 @@ WritesPrefix written written' P = (text : List ℕ) × P text × AppendsPrefix w
 
 -- Safety.
 
--- Safety: the journal is a schedule of the setup that was read, and after it the six sentences of safety hold. It has at most 21 entries for each call of the setup and one for each kill.
+-- Safety: the journal is a schedule of the setup that the command runs, and after it the six sentences of safety hold. It has at most 21 entries for each call of the setup and one for each kill.
 pub record IsSafeRun (g : Given) (J : List Entry) : Type 0 where
   pub setup : Setup
-  pub trace : ReadsTrace g setup
+  pub runs : RunsSetup g setup
   pub schedule : IsSchedule setup J
   pub safe : IsSafe setup J
   pub few : length J ≤ 21 * call_count setup + kill_count setup
 
--- whether a run left the journal: with status 0 where the words are `run SEED` or `threads SEED`, with 4 and 5 where it is not empty
+-- whether a run left the journal: with status 0 where the command runs a setup, with 4 and 5 where it is not empty
 abbrev pub IsOfRun : Given → Status → List Entry → Type 0
-IsOfRun g Done J = (seed : ℕ) × AsksRun g seed
+IsOfRun g Done J = (asked : Command) × Asks g asked × (is_run asked ≡ true)
 IsOfRun g Usage J = ⊥
 IsOfRun g TraceRefused J = ⊥
 IsOfRun g ReadFault J = ⊥
 IsOfRun g WriteFault J = J ≢ []
 IsOfRun g Memory J = J ≢ []
 IsOfRun g ReportRefused J = ⊥
-IsOfRun g NotBuilt J = ⊥

@@ -8,8 +8,9 @@ use Rattle.sem_trace.specs.Standing.{Stands}
 use Rattle.sem_cli.specs.declared.forms.Command.{Command}
 use Rattle.sem_cli.specs.declared.forms.Command.TheVariants.{Run, Threads, Check, Generate, Soak}
 use Rattle.sem_cli.specs.Commands.{command_of}
+use Rattle.sem_gen.specs.Generated.{generated}
 
--- whether the command is built for one thread
+-- whether one thread does what the command asks for
 abbrev pub is_alone : Command → Bool
 is_alone (Run seed) = true
 is_alone (Threads seed) = false
@@ -17,7 +18,15 @@ is_alone Check = true
 is_alone (Generate seed vpes calls) = true
 is_alone (Soak seed vpes calls) = false
 
--- whether the command is built and reads the input
+-- whether the command runs a setup and leaves its journal
+abbrev pub is_run : Command → Bool
+is_run (Run seed) = true
+is_run (Threads seed) = true
+is_run Check = false
+is_run (Generate seed vpes calls) = false
+is_run (Soak seed vpes calls) = true
+
+-- whether the command reads the input
 abbrev pub reads_input : Command → Bool
 reads_input (Run seed) = true
 reads_input (Threads seed) = true
@@ -55,6 +64,11 @@ pub record ReadsTrace (g : Given) (T : Setup) : Type 0 where
   pub taken : Takes g.before g.after text
   pub stands : Stands text T
   pub to_end : IfSome g.after (λ rest. rest ≡ [])
+
+-- The setup that a command runs: the one that was read, or the one that `soak` generates.
+pub data RunsSetup (g : Given) (T : Setup) : Type 0 where
+  is_read : (seed : ℕ) → AsksRun g seed → ReadsTrace g T → RunsSetup g T
+  is_generated : (seed vpes calls : ℕ) → Asks g (Soak seed vpes calls) → T ≡ generated seed vpes calls → IsSetup T → RunsSetup g T
 
 -- the input is no trace, and this is its first fault
 abbrev pub IsRefused : Given → TraceFault → Type 0

@@ -11,7 +11,7 @@ use Rattle.sem_machine.specs.Living.{IsComplete}
 use Rattle.sem_report.specs.ReportRefusal.{report_refusal}
 use Rattle.sem_audit.specs.HeldKeys.{held, report}
 use Rattle.sem_cli.specs.declared.statuses.Status.{Status}
-use Rattle.sem_cli.specs.declared.statuses.Status.TheVariants.{Done, Usage, TraceRefused, ReadFault, WriteFault, Memory, ReportRefused, NotBuilt}
+use Rattle.sem_cli.specs.declared.statuses.Status.TheVariants.{Done, Usage, TraceRefused, ReadFault, WriteFault, Memory, ReportRefused}
 use Rattle.sem_cli.specs.Messages.{ok_line}
 use Rattle.sem_run.specs.declared.responses.Reading.{Reading}
 use Rattle.sem_run.specs.declared.responses.Reading.TheVariants.{Trace, Faulty}
@@ -38,4 +38,3 @@ IsVerdict bytes text ReadFault = ⊥
 IsVerdict bytes text WriteFault = ⊥
 IsVerdict bytes text Memory = ⊥
 IsVerdict bytes text ReportRefused = IsRefusedReport bytes text
-IsVerdict bytes text NotBuilt = ⊥

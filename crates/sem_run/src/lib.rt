@@ -9,6 +9,7 @@ mod checks;
 mod generates;
 mod responses;
 mod runs;
+mod soaks;
 #[cfg(test)]
 mod thread_tests;
 mod threads;

@@ -1,10 +1,10 @@
-ghost use Rattle.std.specs.Prelude.{◌≡◌, ◌⊎◌, false, ◌++◌, List, ℕ, [], Some, None, IfOk, IfSome, IsErrOf, OnErr, OnOk, map, string_bytes};
+ghost use Rattle.std.specs.Prelude.{◌≡◌, true, ◌++◌, List, ℕ, [], Some, None, IfOk, IfSome, IsErrOf, OnErr, OnOk, map, string_bytes};
 ghost use Rattle.sem_io.specs.Count.{Rose};
 ghost use Rattle.sem_io.specs.declared.transfer.ReadError.TheVariants.{Fault, Memory as NoMemory};
 ghost use Rattle.sem_machine.specs.Schedules.{IsSchedule};
 ghost use Rattle.sem_cli.specs.declared.forms.Command.{Command as CommandData};
 ghost use Rattle.sem_cli.specs.declared.forms.Command.TheVariants.{Run};
-ghost use Rattle.sem_cli.specs.declared.statuses.Status.TheVariants.{ReadFault, Memory, NotBuilt};
+ghost use Rattle.sem_cli.specs.declared.statuses.Status.TheVariants.{ReadFault, Memory};
 ghost use Rattle.sem_cli.specs.Commands.{command_of};
 ghost use Rattle.sem_run.specs.Inputs.{is_alone};
 ghost use Rattle.sem_run.specs.Ends.{IsPartOfRun, EndsReadFault, WouldEnd};
@@ -13,7 +13,7 @@ ghost use Rattle.sem_run.specs.Readings.{IsReading};
 use crate::checks::check_report;
 use crate::generates::push_generated;
 use crate::runs::run_setup;
-use sem_cli::{Command, Status, command, not_built, push_refused, usage};
+use sem_cli::{Command, Status, command, push_refused, usage};
 use sem_io::{ReadError, Source, read_all};
 use sem_msg::{Journal, Setup};
 use sem_reader::read_trace;
@@ -23,7 +23,8 @@ use std::alloc::Global;
 /// The most bytes of a trace.
 const MOST_BYTES: usize = 8_388_608;
 
-// The status with which the program ends if the text can be written, and that text.
+// The status with which the program ends if the text can be written, and that text. One thread does
+// what the words ask for.
 pub fn respond<S: Source>(
     alloc: Global,
     words: &[String],
@@ -33,8 +34,8 @@ pub fn respond<S: Source>(
 ) -> Status
     requires journal { journal.old.entries ≡ [] }
     requires text { text.old.items ≡ [] }
+    requires alone { (asked : CommandData) → command_of (map string_bytes words.now) ≡ Some asked → is_alone asked ≡ true }
     ensures ends { WouldEnd (record { words = map string_bytes words.now; before = S.left input.old; after = S.left input.new; faults_before = S.faults input.old; faults_after = S.faults input.new }) journal.new.entries text.new.items result }
-    ensures alone { (asked : CommandData) → command_of (map string_bytes words.now) ≡ Some asked → is_alone asked ≡ false → (result ≡ Status.NotBuilt) ⊎ (result ≡ Status.Memory) }
 {
     match carry_out(alloc, words, input, journal, text) {
         Ok(status) => status,
@@ -49,8 +50,8 @@ pub fn respond<S: Source>(
     }
 }
 
-// Does what the words ask for. After an error the text means nothing.
-fn carry_out<S: Source>(
+// Does what the words ask for, on one thread. After an error the text means nothing.
+pub fn carry_out<S: Source>(
     alloc: Global,
     words: &[String],
     input: &mut S,
@@ -59,11 +60,10 @@ fn carry_out<S: Source>(
 ) -> Result<Status, ReadError>
     requires journal { journal.old.entries ≡ [] }
     requires text { text.old.items ≡ [] }
+    requires alone { (asked : CommandData) → command_of (map string_bytes words.now) ≡ Some asked → is_alone asked ≡ true }
     ensures ok { IfOk result (WouldEnd (record { words = map string_bytes words.now; before = S.left input.old; after = S.left input.new; faults_before = S.faults input.old; faults_after = S.faults input.new }) journal.new.entries text.new.items) }
     ensures fault { IsErrOf result ReadError.Fault → EndsReadFault (record { words = map string_bytes words.now; before = S.left input.old; after = S.left input.new; faults_before = S.faults input.old; faults_after = S.faults input.new }) journal.new.entries [] }
     ensures memory { IsErrOf result ReadError.Memory → IsPartOfRun (record { words = map string_bytes words.now; before = S.left input.old; after = S.left input.new; faults_before = S.faults input.old; faults_after = S.faults input.new }) journal.new.entries }
-    ensures told { (asked : CommandData) → command_of (map string_bytes words.now) ≡ Some asked → is_alone asked ≡ false → IfOk result (λ status. status ≡ Status.NotBuilt) }
-    ensures unread { (asked : CommandData) → command_of (map string_bytes words.now) ≡ Some asked → is_alone asked ≡ false → IsErrOf result ReadError.Fault → ⊥ }
 {
     match command(words) {
         None => {
@@ -76,10 +76,8 @@ fn carry_out<S: Source>(
             push_generated(alloc, seed, vpes, calls, text)?;
             Ok(Status::Done)
         }
-        Some(Command::Threads { .. } | Command::Soak { .. }) => {
-            text.extend_from_slice(not_built())?;
-            Ok(Status::NotBuilt)
-        }
+        Some(Command::Threads { seed: _ }) => unreachable!(),
+        Some(Command::Soak { .. }) => unreachable!(),
     }
 }
 

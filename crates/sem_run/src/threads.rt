@@ -1,18 +1,18 @@
-// The run of a trace with each kernel in threads of its own, and its report.
-ghost use Rattle.std.specs.Prelude.{◌≡◌, ◌≢◌, List, ℕ, [], Some, IfOk, IsErrOf, OnOk, map, string_bytes};
+// What the words ask for, where it may take threads: the run of a trace with each kernel in threads of its own, and its report.
+ghost use Rattle.std.specs.Prelude.{◌≡◌, List, ℕ, [], Some, IfOk, IsErrOf, OnOk, map, string_bytes};
 ghost use Rattle.sem_io.specs.Count.{Rose};
 ghost use Rattle.sem_io.specs.declared.transfer.ReadError.TheVariants.{Fault, Memory as NoMemory};
 ghost use Rattle.sem_machine.specs.Living.{IsComplete};
 ghost use Rattle.sem_machine.specs.Schedules.{IsSchedule};
 ghost use Rattle.sem_audit.specs.HeldKeys.{report};
 ghost use Rattle.sem_cli.specs.declared.forms.Command.TheVariants.{Threads as InThreads};
-ghost use Rattle.sem_cli.specs.declared.statuses.Status.TheVariants.{NotBuilt};
 ghost use Rattle.sem_cli.specs.Commands.{command_of};
 ghost use Rattle.sem_serial.specs.Standing.{StandsAt};
-ghost use Rattle.sem_run.specs.Ends.{IsPartOfRun, WouldEnd};
+ghost use Rattle.sem_run.specs.Ends.{IsPartOfRun, EndsReadFault, WouldEnd};
 ghost use Rattle.sem_run.specs.Readings.{IsAuditOf};
 
-use crate::responses::{Reading, read_setup, respond};
+use crate::responses::{Reading, carry_out, read_setup};
+use crate::soaks::soak_load;
 use sem_audit::audit_of;
 use sem_cli::{Command, Status, command, push_refused};
 use sem_fabric::Fabric;
@@ -40,12 +40,8 @@ pub fn respond_in_threads<R: Threads + Wait + Sync, S: Source, G: Gate + Sync>(
     requires journal { journal.old.entries ≡ [] }
     requires text { text.old.items ≡ [] }
     ensures ends { WouldEnd (record { words = map string_bytes words.now; before = S.left input.old; after = S.left input.new; faults_before = S.faults input.old; faults_after = S.faults input.new }) journal.new.entries text.new.items result }
-    ensures built { (seed : ℕ) → command_of (map string_bytes words.now) ≡ Some (InThreads seed) → result ≢ Status.NotBuilt }
 {
-    let Some(Command::Threads { seed }) = command(words) else {
-        return respond(alloc, words, input, journal, text);
-    };
-    match thread_trace(rt, alloc, seed, input, gate, journal, text) {
+    match carry_out_in_threads(rt, alloc, words, input, gate, journal, text) {
         Ok(status) => status,
         Err(ReadError::Fault) => {
             text.clear();
@@ -54,6 +50,36 @@ pub fn respond_in_threads<R: Threads + Wait + Sync, S: Source, G: Gate + Sync>(
         Err(ReadError::Memory) => {
             text.clear();
             Status::Memory
+        }
+    }
+}
+
+// Does what the words ask for. After an error the text means nothing.
+fn carry_out_in_threads<R: Threads + Wait + Sync, S: Source, G: Gate + Sync>(
+    rt: &R,
+    alloc: Global,
+    words: &[String],
+    input: &mut S,
+    gate: &G,
+    journal: &mut Journal,
+    text: &mut Vec<u8>,
+) -> Result<Status, ReadError>
+    requires journal { journal.old.entries ≡ [] }
+    requires text { text.old.items ≡ [] }
+    ensures ok { IfOk result (WouldEnd (record { words = map string_bytes words.now; before = S.left input.old; after = S.left input.new; faults_before = S.faults input.old; faults_after = S.faults input.new }) journal.new.entries text.new.items) }
+    ensures fault { IsErrOf result ReadError.Fault → EndsReadFault (record { words = map string_bytes words.now; before = S.left input.old; after = S.left input.new; faults_before = S.faults input.old; faults_after = S.faults input.new }) journal.new.entries [] }
+    ensures memory { IsErrOf result ReadError.Memory → IsPartOfRun (record { words = map string_bytes words.now; before = S.left input.old; after = S.left input.new; faults_before = S.faults input.old; faults_after = S.faults input.new }) journal.new.entries }
+{
+    match command(words) {
+        Some(Command::Threads { seed }) => {
+            thread_trace(rt, alloc, seed, input, gate, journal, text)
+        }
+        Some(Command::Soak { seed, vpes, calls }) => {
+            soak_load(rt, alloc, seed, vpes, calls, gate, journal, text)?;
+            Ok(Status::Done)
+        }
+        None | Some(Command::Run { .. } | Command::Check | Command::Generate { .. }) => {
+            carry_out(alloc, words, input, journal, text)
         }
     }
 }
@@ -71,7 +97,6 @@ fn thread_trace<R: Threads + Wait + Sync, S: Source, G: Gate + Sync>(
     requires journal { journal.old.entries ≡ [] }
     requires text { text.old.items ≡ [] }
     ensures ok { IfOk result (λ status. (words : List (List ℕ)) → command_of words ≡ Some (InThreads seed) → WouldEnd (record { words = words; before = S.left input.old; after = S.left input.new; faults_before = S.faults input.old; faults_after = S.faults input.new }) journal.new.entries text.new.items status) }
-    ensures built { IfOk result (λ status. status ≢ Status.NotBuilt) }
     ensures fault { IsErrOf result ReadError.Fault → Rose (S.faults input.old) (S.faults input.new) }
     ensures unread { IsErrOf result ReadError.Fault → journal.new.entries ≡ [] }
     ensures memory { IsErrOf result ReadError.Memory → (words : List (List ℕ)) → command_of words ≡ Some (InThreads seed) → IsPartOfRun (record { words = words; before = S.left input.old; after = S.left input.new; faults_before = S.faults input.old; faults_after = S.faults input.new }) journal.new.entries }
@@ -132,7 +157,7 @@ fn thread_kernels<R: Threads + Wait + Sync, G: Gate + Sync>(
 }
 
 // The kernels of the setup and their fabric, as their threads leave them.
-fn threaded<R: Threads + Wait + Sync, G: Gate + Sync>(
+pub fn threaded<R: Threads + Wait + Sync, G: Gate + Sync>(
     rt: &R,
     alloc: Global,
     setup: &Setup,

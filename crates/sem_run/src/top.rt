@@ -1,4 +1,4 @@
-ghost use Rattle.std.specs.Prelude.{◌≡◌, ◌≢◌, ◌⊎◌, List, ℕ, false, [], Some, None, map, string_bytes};
+ghost use Rattle.std.specs.Prelude.{◌≡◌, ◌⊎◌, List, ℕ, [], Some, None, map, string_bytes};
 ghost use Rattle.sem_msg.specs.Setup.{Setup};
 ghost use Rattle.sem_io.specs.Count.{Rose};
 ghost use Rattle.sem_trace.specs.declared.fault.TraceFault.{TraceFault};
@@ -8,7 +8,7 @@ ghost use Rattle.sem_cli.specs.declared.forms.Command.TheVariants.{Run, Check, G
 ghost use Rattle.sem_cli.specs.declared.statuses.Status.{Status as StatusData};
 ghost use Rattle.sem_cli.specs.Commands.{command_of};
 ghost use Rattle.sem_run.specs.Reports.{IsReport};
-ghost use Rattle.sem_run.specs.Ends.{EndsDone, EndsUsage, EndsRefused, EndsNotBuilt, EndsReadFault, EndsMemory, EndsReportRefused, IsOfRun, IsSafeRun, WouldEnd, Writes, WritesPrefix};
+ghost use Rattle.sem_run.specs.Ends.{EndsDone, EndsUsage, EndsRefused, EndsReadFault, EndsMemory, EndsReportRefused, IsOfRun, IsSafeRun, WouldEnd, Writes, WritesPrefix};
 
 use crate::accepts::reports_are_accepted;
 use crate::threads::respond_in_threads;
@@ -38,13 +38,13 @@ pub fn semper<R: Threads + Wait + Sync, S: Source, K: Sink, G: Gate + Sync>(
 
     // What was asked for is done. A run: the journal is the seeded one of the trace that was read to its end, it is complete, and
     // its report was written and nothing else. A run in threads: the journal is a complete schedule of the trace, and its report was
-    // written. A check: the input is the report of a complete schedule. `gen`: the trace was written.
+    // written. A check: the input is the report of a complete schedule. `gen`: the trace was written. `soak`: the journal is a
+    // complete schedule of the generated setup, each call is answered, no key is stray, and the summary was written.
     ensures done { result ≡ Status.Done → Writes (K.written out.old) (K.written out.new) (EndsDone (record { words = map string_bytes words.now; before = S.left input.old; after = S.left input.new; faults_before = S.faults input.old; faults_after = S.faults input.new }) journal.new.entries) }
 
     // Why each other status comes, with the text that was written and the journal.
     ensures usage { result ≡ Status.Usage → Writes (K.written out.old) (K.written out.new) (EndsUsage (record { words = map string_bytes words.now; before = S.left input.old; after = S.left input.new; faults_before = S.faults input.old; faults_after = S.faults input.new }) journal.new.entries) }
     ensures refused { result ≡ Status.TraceRefused → Writes (K.written out.old) (K.written out.new) (EndsRefused (record { words = map string_bytes words.now; before = S.left input.old; after = S.left input.new; faults_before = S.faults input.old; faults_after = S.faults input.new }) journal.new.entries) }
-    ensures not_built { result ≡ Status.NotBuilt → Writes (K.written out.old) (K.written out.new) (EndsNotBuilt (record { words = map string_bytes words.now; before = S.left input.old; after = S.left input.new; faults_before = S.faults input.old; faults_after = S.faults input.new }) journal.new.entries) }
     ensures read_fault { result ≡ Status.ReadFault → Writes (K.written out.old) (K.written out.new) (EndsReadFault (record { words = map string_bytes words.now; before = S.left input.old; after = S.left input.new; faults_before = S.faults input.old; faults_after = S.faults input.new }) journal.new.entries) }
     ensures memory { result ≡ Status.Memory → Writes (K.written out.old) (K.written out.new) (EndsMemory (record { words = map string_bytes words.now; before = S.left input.old; after = S.left input.new; faults_before = S.faults input.old; faults_after = S.faults input.new }) journal.new.entries) }
     ensures report_refused { result ≡ Status.ReportRefused → Writes (K.written out.old) (K.written out.new) (EndsReportRefused (record { words = map string_bytes words.now; before = S.left input.old; after = S.left input.new; faults_before = S.faults input.old; faults_after = S.faults input.new }) journal.new.entries) }
@@ -56,11 +56,8 @@ pub fn semper<R: Threads + Wait + Sync, S: Source, K: Sink, G: Gate + Sync>(
     // Safety: what a run leaves, whole or cut short, is a schedule of the trace, and safe; it has few entries.
     ensures safe { IsOfRun (record { words = map string_bytes words.now; before = S.left input.old; after = S.left input.new; faults_before = S.faults input.old; faults_after = S.faults input.new }) result journal.new.entries → IsSafeRun (record { words = map string_bytes words.now; before = S.left input.old; after = S.left input.new; faults_before = S.faults input.old; faults_after = S.faults input.new }) journal.new.entries }
 
-    // Exactly: words that are no command, and the command that is not built, are told so, unless memory was wanting or the count of
-    // the sink's faults rose. Neither reads anything. A run in threads is built.
+    // Exactly: words that are no command are told so, unless memory was wanting or the count of the sink's faults rose.
     ensures usage_exactly { command_of (map string_bytes words.now) ≡ None → (result ≡ Status.Usage) ⊎ ((result ≡ Status.WriteFault) ⊎ (result ≡ Status.Memory)) }
-    ensures not_built_exactly { (seed vpes calls : ℕ) → command_of (map string_bytes words.now) ≡ Some (Soak seed vpes calls) → (result ≡ Status.NotBuilt) ⊎ ((result ≡ Status.WriteFault) ⊎ (result ≡ Status.Memory)) }
-    ensures built { (seed : ℕ) → command_of (map string_bytes words.now) ≡ Some (InThreads seed) → result ≢ Status.NotBuilt }
 
     // What is no trace is refused, at its first bad line with its cause, unless memory was wanting or a count of faults rose.
     ensures refused_exactly { (bytes : List ℕ) (seed : ℕ) (fault : TraceFault) → (command_of (map string_bytes words.now) ≡ Some (Run seed)) ⊎ (command_of (map string_bytes words.now) ≡ Some (InThreads seed)) → S.left input.old ≡ Some bytes → refusal bytes ≡ Some fault → (result ≡ Status.TraceRefused) ⊎ ((result ≡ Status.ReadFault) ⊎ ((result ≡ Status.WriteFault) ⊎ (result ≡ Status.Memory))) }
@@ -77,6 +74,9 @@ pub fn semper<R: Threads + Wait + Sync, S: Source, K: Sink, G: Gate + Sync>(
 
     // Every load is generated, unless memory was wanting or the count of the sink's faults rose.
     ensures generates { (seed vpes calls : ℕ) → command_of (map string_bytes words.now) ≡ Some (Generate seed vpes calls) → (result ≡ Status.Done) ⊎ ((result ≡ Status.WriteFault) ⊎ (result ≡ Status.Memory)) }
+
+    // Every load is soaked, unless memory was wanting or the count of the sink's faults rose.
+    ensures soaks { (seed vpes calls : ℕ) → command_of (map string_bytes words.now) ≡ Some (Soak seed vpes calls) → (result ≡ Status.Done) ⊎ ((result ≡ Status.WriteFault) ⊎ (result ≡ Status.Memory)) }
 {
     reports_are_accepted();
     let mut text = Vec::new(alloc);

@@ -1,10 +1,13 @@
-use crate::semper_alone;
+use crate::semper;
 use sem_cli::Status;
 use sem_io::{MemSink, MemSource};
 use sem_msg::Journal;
+use sem_node::OpenGate;
 use std::alloc::Global;
 use std::process::Abort;
+use std::sync::Wait;
 use std::test::Fail;
+use std::thread::Threads;
 
 // A trace of one VPE with memory, but for its calls and its end.
 const DECLARED: &str = "semper trace 1\nkernels 1\npe 0 0\nvpe 0 0\nroot 0 0 mem 0 4096 7\n";
@@ -35,7 +38,8 @@ struct Ending {
 }
 
 // What it answers over this source and this sink.
-fn answer_over(
+fn answer_over<R: Threads + Wait + Sync>(
+    rt: &R,
     alloc: Global,
     line: &str,
     mut source: MemSource,
@@ -43,7 +47,15 @@ fn answer_over(
 ) -> Result<Ending, Fail> {
     let words = words(alloc, line)?;
     let mut journal = Journal::new(alloc);
-    let status = semper_alone(alloc, &words, &mut source, &mut sink, &mut journal);
+    let status = semper(
+        rt,
+        alloc,
+        &words,
+        &mut source,
+        &mut sink,
+        &OpenGate,
+        &mut journal,
+    );
     Ok(Ending {
         status,
         written: sink.bytes,
@@ -52,11 +64,16 @@ fn answer_over(
 }
 
 // What it answers to these words and this input.
-fn answer(alloc: Global, line: &str, input: &str) -> Result<Ending, Fail> {
+fn answer<R: Threads + Wait + Sync>(
+    rt: &R,
+    alloc: Global,
+    line: &str,
+    input: &str,
+) -> Result<Ending, Fail> {
     let bytes = input.as_bytes().to_vec(alloc)?;
     let source = MemSource::new(bytes, 4096, Vec::new(alloc));
     let sink = MemSink::new(alloc, 10_000_000, 4096, Vec::new(alloc))?;
-    answer_over(alloc, line, source, sink)
+    answer_over(rt, alloc, line, source, sink)
 }
 
 // Asserts the whole answer.
@@ -71,7 +88,7 @@ fn a_derived_capability_goes_with_its_root(rt: HostRuntime) -> Result<(), Fail> 
     let trace = format!(in rt.alloc(); "{DECLARED}{DERIVE_AND_REVOKE}")?;
     let report = format!(in rt.alloc(); "semper report 1\n{trace}{DERIVED_AND_REVOKED}")?;
     for line in ["run 0", "run 1", "run 18446744073709551615"] {
-        let answer = answer(rt.alloc(), line, trace.as_str())?;
+        let answer = answer(&rt, rt.alloc(), line, trace.as_str())?;
         check(&rt, &answer, Status::Done, report.as_str(), 3);
     }
     Ok(())
@@ -84,7 +101,7 @@ fn a_revoked_part_leaves_its_root(rt: HostRuntime) -> Result<(), Fail> {
         "journal 4\n0 call 0 0 derive 0 1 0 1024 1 grant 0.0.1.0 0.0.1.1 reply 0 0\n0 call 0 1 revoke 1 cut 0.0.1.1\n0 resume 0 reply 0 0\n0 call 0 2 revoke 1 reply 0 3\naudit\nmade 2\ncut 1\nheld 1\nkey 0.0.1.0 0\nend\n";
     let trace = format!(in rt.alloc(); "{DECLARED}{calls}")?;
     let report = format!(in rt.alloc(); "semper report 1\n{trace}{told}")?;
-    let answer = answer(rt.alloc(), "run 0", trace.as_str())?;
+    let answer = answer(&rt, rt.alloc(), "run 0", trace.as_str())?;
     check(&rt, &answer, Status::Done, report.as_str(), 4);
     Ok(())
 }
@@ -97,7 +114,7 @@ fn a_vpe_draws_at_most_4096_numbers(rt: HostRuntime) -> Result<(), Fail> {
         trace.push_str("call 0 derive 0 1 0 1 1\ncall 0 revoke 1\n")?;
     }
     trace.push_str("call 0 derive 0 1 0 1 1\nend\n")?;
-    let answer = answer(rt.alloc(), "run 0", trace.as_str())?;
+    let answer = answer(&rt, rt.alloc(), "run 0", trace.as_str())?;
     assert_eq!(rt; answer.status, Status::Done);
     assert_eq!(rt; answer.entries, 12286);
     let end =
@@ -116,7 +133,7 @@ fn a_sink_that_fails_leaves_a_prefix(rt: HostRuntime) -> Result<(), Fail> {
         let source = MemSource::new(bytes, 4096, Vec::new(rt.alloc()));
         let fails = vec![in rt.alloc(); call as u64]?;
         let sink = MemSink::new(rt.alloc(), 4096, 64, fails)?;
-        let answer = answer_over(rt.alloc(), "run 0", source, sink)?;
+        let answer = answer_over(&rt, rt.alloc(), "run 0", source, sink)?;
         assert_eq!(rt; answer.status, Status::WriteFault, "call {call}");
         assert_eq!(rt; answer.written.len(), call * 64);
         assert!(rt; report.as_bytes().starts_with(&answer.written));
@@ -131,7 +148,7 @@ fn a_source_that_fails_leaves_nothing_written(rt: HostRuntime) -> Result<(), Fai
     let bytes = trace.as_bytes().to_vec(rt.alloc())?;
     let source = MemSource::new(bytes, 4096, vec![in rt.alloc(); 0u64]?);
     let sink = MemSink::new(rt.alloc(), 4096, 64, Vec::new(rt.alloc()))?;
-    let answer = answer_over(rt.alloc(), "run 0", source, sink)?;
+    let answer = answer_over(&rt, rt.alloc(), "run 0", source, sink)?;
     check(&rt, &answer, Status::ReadFault, "", 0);
     Ok(())
 }
@@ -139,17 +156,8 @@ fn a_source_that_fails_leaves_nothing_written(rt: HostRuntime) -> Result<(), Fai
 #[test]
 fn other_words_get_the_usage(rt: HostRuntime) -> Result<(), Fail> {
     for line in ["run", "run 01", "gen 0 129 1", ""] {
-        let answer = answer(rt.alloc(), line, "")?;
+        let answer = answer(&rt, rt.alloc(), line, "")?;
         check(&rt, &answer, Status::Usage, USAGE, 0);
-    }
-    Ok(())
-}
-
-#[test]
-fn what_is_not_built_is_told_so(rt: HostRuntime) -> Result<(), Fail> {
-    for line in ["threads 0", "soak 9 8 100"] {
-        let answer = answer(rt.alloc(), line, "")?;
-        check(&rt, &answer, Status::NotBuilt, "not built\n", 0);
     }
     Ok(())
 }
@@ -167,7 +175,7 @@ fn traces_with_kernels_calls_and_services_are_run(rt: HostRuntime) -> Result<(),
             0,
         ),
     ] {
-        let answer = answer(rt.alloc(), "run 0", input)?;
+        let answer = answer(&rt, rt.alloc(), "run 0", input)?;
         assert_eq!(rt; answer.status, Status::Done);
         assert_eq!(rt; answer.entries, entries);
     }
@@ -201,7 +209,7 @@ fn with_line(alloc: Global, number: usize, line: &str) -> Result<String, Fail> {
 
 #[test]
 fn what_is_no_trace_is_refused_at_its_first_bad_line(rt: HostRuntime) -> Result<(), Fail> {
-    let nothing = answer(rt.alloc(), "run 0", "")?;
+    let nothing = answer(&rt, rt.alloc(), "run 0", "")?;
     check(
         &rt,
         &nothing,
@@ -228,7 +236,7 @@ fn what_is_no_trace_is_refused_at_its_first_bad_line(rt: HostRuntime) -> Result<
     ] {
         let trace = with_line(rt.alloc(), number, line)?;
         let written = format!(in rt.alloc(); "trace refused: {told}\n")?;
-        let answer = answer(rt.alloc(), "run 0", trace.as_str())?;
+        let answer = answer(&rt, rt.alloc(), "run 0", trace.as_str())?;
         check(&rt, &answer, Status::TraceRefused, written.as_str(), 0);
     }
     Ok(())
@@ -237,7 +245,7 @@ fn what_is_no_trace_is_refused_at_its_first_bad_line(rt: HostRuntime) -> Result<
 #[test]
 fn the_last_selector_is_a_destination(rt: HostRuntime) -> Result<(), Fail> {
     let trace = with_line(rt.alloc(), 6, "call 0 derive 0 255 0 1024 1")?;
-    let answer = answer(rt.alloc(), "run 0", trace.as_str())?;
+    let answer = answer(&rt, rt.alloc(), "run 0", trace.as_str())?;
     assert_eq!(rt; answer.status, Status::Done);
     assert_eq!(rt; answer.entries, 3);
     Ok(())
@@ -249,7 +257,7 @@ fn another_spelling_of_a_trace_is_run(rt: HostRuntime) -> Result<(), Fail> {
     let report = format!(in rt.alloc(); "semper report 1\n{trace}{DERIVED_AND_REVOKED}")?;
     let spelled =
         "# a derive and a revoke\nsemper\ttrace 1\n\nkernels 1\npe 0  0\nvpe 0 0 \ncall 0 derive 0 1 0 1024 1\nroot 0 0 mem 0 4096 7\ncall 0 revoke 0\nend";
-    let answer = answer(rt.alloc(), "run 0", spelled)?;
+    let answer = answer(&rt, rt.alloc(), "run 0", spelled)?;
     check(&rt, &answer, Status::Done, report.as_str(), 3);
     Ok(())
 }
@@ -259,7 +267,7 @@ fn a_trace_without_a_vpe_has_an_empty_journal(rt: HostRuntime) -> Result<(), Fai
     let trace = "semper trace 1\nkernels 1\npe 0 0\nend\n";
     let report =
         "semper report 1\nsemper trace 1\nkernels 1\npe 0 0\nend\njournal 0\naudit\nmade 0\ncut 0\nheld 0\nend\n";
-    let answer = answer(rt.alloc(), "run 7", trace)?;
+    let answer = answer(&rt, rt.alloc(), "run 7", trace)?;
     check(&rt, &answer, Status::Done, report, 0);
     Ok(())
 }
@@ -272,7 +280,7 @@ fn report_with(alloc: Global, told: &str) -> Result<String, Fail> {
 #[test]
 fn the_report_of_a_run_is_accepted(rt: HostRuntime) -> Result<(), Fail> {
     let report = report_with(rt.alloc(), DERIVED_AND_REVOKED)?;
-    let answer = answer(rt.alloc(), "check", report.as_str())?;
+    let answer = answer(&rt, rt.alloc(), "check", report.as_str())?;
     check(&rt, &answer, Status::Done, "ok\n", 0);
     Ok(())
 }
@@ -309,7 +317,7 @@ fn what_is_no_report_is_refused_at_its_first_fault(rt: HostRuntime) -> Result<()
         let tail = format!(in rt.alloc(); "journal {count}\n{entered}{rest}")?;
         let report = report_with(rt.alloc(), tail.as_str())?;
         let written = format!(in rt.alloc(); "report refused: {told}\n")?;
-        let answer = answer(rt.alloc(), "check", report.as_str())?;
+        let answer = answer(&rt, rt.alloc(), "check", report.as_str())?;
         check(&rt, &answer, Status::ReportRefused, written.as_str(), 0);
     }
     Ok(())
@@ -321,7 +329,7 @@ fn a_report_that_cannot_be_read_leaves_nothing_written(rt: HostRuntime) -> Resul
     let bytes = report.as_bytes().to_vec(rt.alloc())?;
     let source = MemSource::new(bytes, 64, vec![in rt.alloc(); 2u64]?);
     let sink = MemSink::new(rt.alloc(), 4096, 64, Vec::new(rt.alloc()))?;
-    let answer = answer_over(rt.alloc(), "check", source, sink)?;
+    let answer = answer_over(&rt, rt.alloc(), "check", source, sink)?;
     check(&rt, &answer, Status::ReadFault, "", 0);
     Ok(())
 }
@@ -330,7 +338,7 @@ fn a_report_that_cannot_be_read_leaves_nothing_written(rt: HostRuntime) -> Resul
 fn a_seed_generates_a_trace(rt: HostRuntime) -> Result<(), Fail> {
     let told =
         "semper trace 1\nkernels 1\npe 0 0\nvpe 0 0\nroot 0 0 mem 0 65536 7\ncall 0 obtain 3 0 1\ncall 0 delegate 11 0 9\nend\n";
-    let answer = answer(rt.alloc(), "gen 5 1 2", "not read")?;
+    let answer = answer(&rt, rt.alloc(), "gen 5 1 2", "not read")?;
     check(&rt, &answer, Status::Done, told, 0);
     Ok(())
 }

@@ -1,6 +1,6 @@
 //! How the tests ask what is read, refused and run.
 
-use sem_cli::Status;
+use sem_cli::{Command, Status, command};
 use sem_io::{MemSink, MemSource};
 use sem_msg::Journal;
 use sem_reader::read_trace;
@@ -43,7 +43,7 @@ pub fn check_is(alloc: Global, report: &[u8], told: &str) -> Result<bool, Fail> 
     )
 }
 
-// Whether the program, with these words and this input, ends so and writes this text.
+// Whether the program on one thread, with these words and this input, ends so and writes this text.
 fn ends_so(
     alloc: Global,
     line: &str,
@@ -58,6 +58,11 @@ fn ends_so(
     let mut source = MemSource::new(input.to_vec(alloc)?, 4096, Vec::new(alloc));
     let mut sink = MemSink::new(alloc, 10_000_000, 4096, Vec::new(alloc))?;
     let mut journal = Journal::new(alloc);
-    let answer = semper_alone(alloc, &words, &mut source, &mut sink, &mut journal);
+    let answer = match command(&words) {
+        None | Some(Command::Run { .. } | Command::Check | Command::Generate { .. }) => {
+            semper_alone(alloc, &words, &mut source, &mut sink, &mut journal)
+        }
+        Some(Command::Threads { .. } | Command::Soak { .. }) => return Ok(false),
+    };
     Ok(answer == status && sink.bytes.as_slice() == text)
 }
