@@ -204,11 +204,11 @@ fn a_real_writer_takes_all_or_stops(rt: HostRuntime) -> Result<(), Fail> {
 
 #[test]
 fn a_sure_source_gives_all_it_has(rt: HostRuntime) -> Result<(), Fail> {
-    let bytes = counting(rt.alloc(), 5000)?;
+    let bytes = counting(rt.alloc(), 200)?;
     let mut source = SureSource::new(bytes.clone()?);
     let read = read_all(rt.alloc(), &mut source, 10_000)?;
     assert_eq!(rt; read.as_slice(), bytes.as_slice());
-    assert_eq!(rt; source.at, 5000);
+    assert_eq!(rt; source.at, 200);
     Ok(())
 }
 
