@@ -4,7 +4,6 @@ pub mod Ended
 pub mod CutOff
 pub mod Order
 pub mod Runs
-pub mod Played
 pub mod Upwards
 pub mod Straying
 pub mod Answering

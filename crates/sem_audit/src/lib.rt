@@ -7,12 +7,8 @@ mod cuts;
 mod holds;
 mod laws;
 mod makes;
-#[cfg(test)]
-mod replay_tests;
 mod replays;
 mod strays;
-#[cfg(test)]
-mod tests;
 
 pub use audits::audit_of;
 pub use cuts::cut_keys;

@@ -9,8 +9,6 @@ mod follows;
 mod laws;
 mod messages;
 mod replays;
-#[cfg(test)]
-mod tests;
 
 pub use checks::check;
 pub use faults::CheckError;

@@ -2,8 +2,6 @@
 //! ends.
 #![tactic(auto)]
 
-#[cfg(test)]
-mod command_tests;
 mod commands;
 mod forms;
 mod messages;

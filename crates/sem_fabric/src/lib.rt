@@ -5,8 +5,6 @@ mod fabric;
 mod laws;
 mod link;
 mod row;
-#[cfg(test)]
-mod tests;
 
 pub use fabric::Fabric;
 pub use laws::entries_keep_agreement;

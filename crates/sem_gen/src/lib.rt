@@ -4,8 +4,6 @@
 mod calls;
 mod laws;
 mod setups;
-#[cfg(test)]
-mod tests;
 
 pub use laws::generated_vpes_go_on;
 pub use setups::generate;

@@ -5,11 +5,7 @@ mod entry;
 mod laws;
 mod read_entries;
 mod read_message;
-#[cfg(test)]
-mod read_tests;
 mod shown;
-#[cfg(test)]
-mod tests;
 
 pub use entry::{
     print_entry, push_act, push_consent, push_cut, push_detail, push_entry, push_entry_words,

@@ -18,8 +18,6 @@ mod rooms;
 mod shared;
 mod stores;
 mod strays;
-#[cfg(test)]
-mod tests;
 mod upcalls;
 mod world;
 

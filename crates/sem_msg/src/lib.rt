@@ -16,8 +16,6 @@ mod outboxes;
 mod reserved;
 mod setup;
 mod state;
-#[cfg(test)]
-mod tests;
 
 pub use audit::{Audit, Held, HeldList};
 pub use call::Call;

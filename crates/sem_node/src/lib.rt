@@ -7,8 +7,6 @@ mod linking;
 mod looking;
 mod node;
 mod run;
-#[cfg(test)]
-mod tests;
 mod turns;
 
 pub use gate::{Gate, OpenGate};

@@ -3,14 +3,10 @@
 
 mod context;
 mod enter;
-#[cfg(test)]
-mod forms_tests;
 mod laws;
 mod reader;
 mod setups;
 mod tables;
-#[cfg(test)]
-mod tests;
 
 pub use laws::{canonical_stands, one_reading};
 pub use reader::{read_section, read_trace};

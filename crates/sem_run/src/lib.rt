@@ -3,19 +3,13 @@
 
 mod accepts;
 mod alone;
-#[cfg(test)]
-mod change_tests;
 mod checks;
 mod generates;
 mod responses;
 mod runs;
 mod soaks;
-#[cfg(test)]
-mod thread_tests;
 mod threads;
 mod top;
-#[cfg(test)]
-mod top_tests;
 
 pub use alone::semper_alone;
 pub use top::semper;

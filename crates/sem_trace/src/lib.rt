@@ -11,8 +11,6 @@ mod forms;
 mod limits;
 mod print;
 mod push;
-#[cfg(test)]
-mod tests;
 mod text_lines;
 
 pub use cursor::{Lines, Words};

@@ -6,8 +6,6 @@ mod opened;
 mod pass;
 mod passes;
 mod rule;
-#[cfg(test)]
-mod tests;
 mod turn;
 
 pub use name::RunName;

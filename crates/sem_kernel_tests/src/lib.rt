@@ -1,0 +1,18 @@
+//! Tests of kernels and of their world, of what they are linked by, and of what is told of their
+//! journals; nothing that runs.
+#![tactic(auto)]
+
+#[cfg(test)]
+mod audits;
+#[cfg(test)]
+mod checks;
+#[cfg(test)]
+mod generated;
+#[cfg(test)]
+mod kernels;
+#[cfg(test)]
+mod links;
+#[cfg(test)]
+mod messages;
+#[cfg(test)]
+mod replayed_audits;

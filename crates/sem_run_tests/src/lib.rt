@@ -1,0 +1,13 @@
+//! Tests of whole runs, on one thread and in threads; nothing that runs.
+#![tactic(auto)]
+
+#[cfg(test)]
+mod calls;
+#[cfg(test)]
+mod changes;
+#[cfg(test)]
+mod nodes;
+#[cfg(test)]
+mod threads;
+#[cfg(test)]
+mod turns;
