@@ -1,10 +1,10 @@
 ghost use Rattle.sem_msg.specs.Message.{Fits};
 
+use sem_key::{Key, Kind, Membership, Object};
 use sem_msg::{
     Act, Call, Calls, Code, Denies, Detail, Entry, Event, Journal, Kills, Message, Offers,
     Outboxes, Reply, Root, Roots, Seq, Services, Setup, VpeDecl, Vpes0, act_number,
 };
-use sem_key::{Key, Kind, Membership, Object};
 use std::alloc::Global;
 use std::test::Fail;
 

@@ -1,8 +1,8 @@
 ghost use Rattle.std.specs.Prelude.{IfOk};
 ghost use Rattle.sem_machine.specs.Schedules.{IsSchedule};
 
-use sem_audit::audit;
 use crate::audits::{ONE_VPE, setup_of};
+use sem_audit::audit;
 use sem_kernel::World;
 use sem_msg::{Act, Audit, Event, Journal, Setup};
 use std::alloc::Global;

@@ -1,8 +1,8 @@
-use sem_run::semper;
 use sem_cli::Status;
 use sem_io::{MemSink, MemSource};
 use sem_msg::Journal;
 use sem_node::OpenGate;
+use sem_run::semper;
 use std::alloc::Global;
 use std::sync::Wait;
 use std::test::Fail;

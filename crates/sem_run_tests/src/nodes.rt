@@ -1,7 +1,7 @@
-use sem_node::{OpenGate, run_threads};
 use sem_fabric::Fabric;
 use sem_kernel::boot_kernels;
 use sem_msg::Journal;
+use sem_node::{OpenGate, run_threads};
 use sem_reader::read_trace;
 use std::alloc::Global;
 use std::sync::Wait;

@@ -1,8 +1,8 @@
-use sem_run::semper;
 use sem_cli::Status;
 use sem_io::{MemSink, MemSource};
 use sem_msg::{Act, Journal, act_number};
 use sem_node::{Gate, OpenGate};
+use sem_run::semper;
 use std::alloc::Global;
 use std::process::Abort;
 use std::sync::Wait;

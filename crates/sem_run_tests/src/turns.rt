@@ -2,10 +2,10 @@ ghost use Rattle.std.specs.Prelude.{◌≡◌, ◌≤◌, IfOk, None};
 ghost use Rattle.std.specs.Thread.{IsSync};
 ghost use Rattle.sem_msg.specs.declared.event.Act.TheVariants.{Handle};
 
-use sem_turn::{Opened, Pass, Passes, RunName, Turn};
 use sem_fabric::{Fabric, entries_keep_agreement};
 use sem_key::{Membership, OutOfMemory};
 use sem_msg::{Act, Denies, Detail, Entry, Event, Journal, Kills, Offers, Services, Setup, Vpes0};
+use sem_turn::{Opened, Pass, Passes, RunName, Turn};
 use std::alloc::Global;
 use std::marker::Brand;
 use std::sync::Wait;

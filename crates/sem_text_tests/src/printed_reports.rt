@@ -1,9 +1,9 @@
-use sem_report::print_report;
 use sem_key::{Key, Kind, Membership};
 use sem_msg::{
     Act, Audit, Denies, Detail, Entry, Event, Held, HeldList, Journal, Kills, Offers, Services,
     Setup, Vpes0,
 };
+use sem_report::print_report;
 use std::alloc::Global;
 use std::test::Fail;
 

@@ -1,6 +1,6 @@
-use sem_trace::print_trace;
 use sem_key::{Membership, Object};
 use sem_msg::{Call, Calls, Denies, Kills, Offers, Root, Roots, Services, Setup, VpeDecl, Vpes0};
+use sem_trace::print_trace;
 use std::alloc::Global;
 use std::test::Fail;
 

@@ -1,7 +1,7 @@
 // Every form of a line, with each fault that a line can have by its form alone.
 
-use sem_reader::read_trace;
 use crate::read_traces::refuses;
+use sem_reader::read_trace;
 use sem_trace::Cause;
 use std::alloc::Global;
 use std::process::Abort;
