@@ -13,14 +13,13 @@ mod preparing;
 mod refusals;
 mod resumes;
 mod setups;
-#[cfg(test)]
-mod tests;
 mod upcalls;
 
 pub use acks::ack;
 pub use answers::{delegate_prepared, delegate_refused, delegate_request};
 pub use calls::delegate_call;
 pub use pendings::Pendings;
+pub use refusals::own_cap;
 pub use resumes::{delegate_resume, ready_resume};
 pub use sem_msg::Pending;
 pub use upcalls::delegate_upcall;

@@ -6,4 +6,3 @@ pub mod LinkRooms
 pub mod Orders
 pub mod Opened
 pub mod Begun
-pub mod Homes

@@ -11,9 +11,8 @@ mod outcomes;
 mod owned;
 mod region;
 mod requests;
-#[cfg(test)]
-mod tests;
 
 pub use begin::begin_revoke;
 pub use calls::{clear_call, revoke_call};
+pub use owned::own_cap;
 pub use requests::revoke_request;

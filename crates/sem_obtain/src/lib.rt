@@ -10,13 +10,11 @@ mod lookups;
 mod outcomes;
 mod refusals;
 mod resumes;
-#[cfg(test)]
-mod tests;
 mod upcalls;
 
 pub use answers::{obtain_answer, obtain_refused, obtain_request};
 pub use calls::{obtain_call, offer_call, open_call};
 pub use links::{orphan, unlink};
-pub use lookups::source;
+pub use lookups::{own_cap, source};
 pub use resumes::obtain_resume;
 pub use upcalls::obtain_upcall;

@@ -5,8 +5,7 @@ mod children;
 mod endpoints;
 mod outcomes;
 mod refusals;
-#[cfg(test)]
-mod tests;
 
 pub use children::{Part, derive_call, gate_call};
 pub use endpoints::{bind_call, credit_call, read_call, send_call, write_call};
+pub use refusals::own_cap;

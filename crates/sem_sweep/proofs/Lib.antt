@@ -2,4 +2,3 @@ pub mod Swept
 pub mod Lowered
 pub mod Leaving
 pub mod Unasked
-pub mod Keeping

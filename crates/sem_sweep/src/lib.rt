@@ -5,8 +5,6 @@ mod asks;
 mod ends;
 mod messages;
 mod sweeps;
-#[cfg(test)]
-mod tests;
 mod tokens;
 
 pub use ends::end_vpe;
