@@ -1,17 +1,13 @@
--- What a search finds among jobs of rising id, and what a change at that place does.
-use Rattle.std.proofs.Common.{◌≡◌, ℕ, ◌+◌, ◌<◌, ◌==◌, true, false, not, List, [], ◌∷◌, ◌++◌, length, set, get_or, Some, None, IfSome, Result, Ok, Err, option_map, refl, sym, ◌∙◌, ap, inl, inr, arith}
+-- What is found among jobs of rising id, and what a change at that place does.
+use Rattle.std.proofs.Common.{◌≡◌, ℕ, ◌+◌, ◌<◌, ◌==◌, true, false, not, List, [], ◌∷◌, ◌++◌, length, set, get_or, Some, None, option_map, refl, sym, ◌∙◌, ap, arith}
 use Rattle.std.specs.List.{AllWithin, filter, remove}
-use Rattle.std.specs.List.Sorted.{IsSearchInRange, IsBinarySearchResult, IsNonDecreasingBy}
-use Rattle.std.specs.Ordering.{nat_cmp, ordering_index}
-use Rattle.std.specs.Result.{result_ok}
-use Rattle.std.proofs.lemmas.Cmp.{ranked}
-use Rattle.std.proofs.lemmas.List.{get_or-map, length-map}
+use Rattle.std.proofs.lemmas.List.{get_or-map, length-map, map-append}
+use Rattle.std.proofs.lemmas.List.Quantifiers.{all_pairs_push}
 use Rattle.std.proofs.Math.Seq.{map-set_same}
-use Rattle.std.proofs.lemmas.List.Elements.{All-filter}
+use Rattle.std.proofs.lemmas.List.Elements.{All-filter, All-push, All-weaker}
 use Rattle.std.proofs.lemmas.List.Folds.{find-append}
 use Rattle.std.proofs.lemmas.List.Kept.{AllPairs-filter}
 use Rattle.std.proofs.lemmas.Bool.Decides.{nat_tests}
-use Rattle.std.proofs.lemmas.Bool.{cases_lt}
 use Rattle.std.proofs.lemmas.Grind.{common_steps}
 use Rattle.sem_msg.specs.Rows.{JobRow}
 use Rattle.sem_msg.specs.JobRows.{job_of, job_changed, job_removed, waiter_removed, ids_of}
@@ -50,7 +46,7 @@ found-changed j f keeps [] = refl
 found-changed j f keeps (x ∷ xs) = let tail = found-changed j f keeps xs in grind (arith, common_steps, keeps x)
 
 module _ (xs : List JobRow) (next : ℕ) (ids : HasRisingIds (ids_of xs) next) where
-  ids-rise : (i j : ℕ) (d : JobRow) → i < j → j < length xs → (get_or xs i d).id < (get_or xs j d).id
+  pub ids-rise : (i j : ℕ) (d : JobRow) → i < j → j < length xs → (get_or xs i d).id < (get_or xs j d).id
   ids-rise i j d lt within =
       let long = length-ids xs in
       rw (← id-at xs i d 0 (omega arith), ← id-at xs j d 0 within) (ids.rising i j 0 lt (omega arith))
@@ -66,33 +62,19 @@ module _ (xs : List JobRow) (next : ℕ) (ids : HasRisingIds (ids_of xs) next) w
       ids-filter [] = refl
       ids-filter (y ∷ ys) = let tail = ids-filter ys in grind (arith, common_steps, nat_tests)
 
+  -- so do the ids with that of a job under the next id
+  pub ids-opened : (new : JobRow) → new.id ≡ next → HasRisingIds (ids_of (xs ++ new ∷ [])) (next + 1)
+  ids-opened new id = rw (map-append (λ (x : JobRow). x.id) xs (new ∷ [])) (record {
+    rising = all_pairs_push (λ m n. m < n) (ids_of xs) new.id ids.rising (λ k d lt. let less = ids.drawn k d lt in omega arith);
+    drawn = All-push (λ n. n < next + 1) (ids_of xs) new.id (All-weaker (λ n. n < next) (λ n. n < next + 1) (λ n less. omega arith) (ids_of xs) ids.drawn) (omega arith);
+  })
+
   -- a job under the next id is found
   pub found-opened : (new : JobRow) → new.id ≡ next → job_of (xs ++ new ∷ []) next ≡ Some new
   found-opened new id =
       let none : job_of xs next ≡ None = find-none (λ (x : JobRow). x.id == next) xs (λ i d low lt. let long = length-ids xs in let less = ids.drawn i 0 (omega arith) in let is = id-at xs i d 0 lt in grind (arith, nat_tests)) in
       let here : (new.id == next) ≡ true = grind (arith, nat_tests) in
       rw (find-append (λ (x : JobRow). x.id == next) xs (new ∷ []), none, here) refl
-
-  -- A binary search by ids ends at the job, or where it would stand.
-  module _ (j : ℕ) where
-    comparisons-rise : IsNonDecreasingBy (λ (x : JobRow). ordering_index (nat_cmp x.id j)) xs
-    comparisons-rise m n d le within = elim (cases_lt m n) [
-      | inl lt ↦ let rise = ids-rise m n d lt within in grind (arith, nat_tests)
-      | inr ge ↦ let here : m ≡ n = omega arith in let same : get_or xs m d ≡ get_or xs n d = ap (λ k. get_or xs k d) here in rw same (omega arith)
-    ]
-
-    pub searched : (r : Result ℕ ℕ) → IsSearchInRange r (length xs) → IsBinarySearchResult (λ (x : JobRow). nat_cmp x.id j) xs r → record { place : IfSome (result_ok r) (IsPlaceOf xs j); absent : result_ok r ≡ None → job_of xs j ≡ None }
-    searched (Ok at) in_range equal = record {
-      place = record { in_range = in_range; id = λ d. ranked _ _ _ (sym (equal d)) };
-      absent = λ none. absurd cc;
-    }
-    searched (Err at) in_range parted = record {
-      place = tt;
-      absent = λ none. find-none (λ (x : JobRow). x.id == j) xs (λ i d low lt. elim (cases_lt i at) [
-        | inl below ↦ let less : (get_or xs i d).id < j = ranked _ _ _ (sym ((parted comparisons-rise).0 i d low below)) in grind (arith, nat_tests)
-        | inr above ↦ let more : j < (get_or xs i d).id = ranked _ _ _ (sym ((parted comparisons-rise).1 i d above lt)) in grind (arith, nat_tests)
-      ]);
-    }
 
   -- the job is at that place
   module _ (j at : ℕ) (place : IsPlaceOf xs j at) where

@@ -1,3 +1,4 @@
 pub mod VpeSet
 pub mod JobStore
 pub mod Chain
+pub mod Stored

@@ -3,33 +3,39 @@ ghost use Rattle.std.specs.Option.{option_and_then};
 ghost use Rattle.sem_msg.specs.JobRows.{job_of, job_opened, job_removed, count_raised, count_lowered, if_done, told, keep_set, keep_given_up, with_up, waiters_of, waiter_added, waiter_removed};
 ghost use Rattle.sem_jobs.specs.JobStore.{IsJobStore, IsPlaceOf, is_done, new_job};
 ghost use Rattle.sem_jobs.specs.Chain.{next_done, chain, chain_of};
+ghost use Rattle.sem_jobs.specs.Stored.{IsPlaced, rows_of};
 
 use crate::job::Job;
+use crate::spot::IdSpot;
 use crate::vpe_list::VpeList;
 use sem_key::{Key, OutOfMemory, VPES};
 use sem_msg::Up;
+use slab::Slab;
 use std::alloc::Global;
 use std::marker::Model;
 
 /// The open jobs of one kernel, each under an id of its own. Ids are drawn in rising order from 0.
 #[derive(Debug, Drop)]
 pub struct Jobs {
-    // By rising id.
-    rising: Vec<Job>,
+    // Each job stays at its place for as long as it is open.
+    slab: Slab<Job>,
+    // Where they lie, by rising id.
+    spots: Vec<IdSpot>,
     // The id of the next job.
     next: u32,
 }
 
 impl Model for Jobs {
-    ghost use Rattle.std.specs.Prelude.{◌-◌, vec_len, vec_capacity};
+    ghost use Rattle.std.specs.Prelude.{◌-◌, min, vec_len, vec_capacity};
     ghost use Rattle.sem_msg.specs.JobRows.{ids_of};
     ghost use Rattle.sem_jobs.specs.JobStore.{JobStore, HasRisingIds};
+    ghost use Rattle.sem_jobs.specs.Stored.{rows_of, IsPlaced};
 
     ghost Value = { JobStore };
 
-    ghost view = { λ s. record { jobs = s.rising.items; next = s.next; spare = vec_capacity s.rising - vec_len s.rising } };
+    ghost view = { λ s. record { jobs = rows_of s.slab s.spots.items; next = s.next; spare = min s.slab.capacity (vec_capacity s.spots) - vec_len s.spots } };
 
-    ghost invariant = { λ s. HasRisingIds (ids_of s.rising.items) s.next };
+    ghost invariant = { λ s. HasRisingIds (ids_of (rows_of s.slab s.spots.items)) s.next × IsPlaced s.slab s.spots.items };
 }
 
 impl Jobs {
@@ -39,7 +45,8 @@ impl Jobs {
         ensures next { IfOk result (λ store. store.next ≡ 0) }
     {
         Ok(Jobs {
-            rising: Vec::new(alloc),
+            slab: Slab::new(alloc),
+            spots: Vec::new(alloc),
             next: 0,
         })
     }
@@ -51,7 +58,8 @@ impl Jobs {
         ensures jobs { self.new ≡ record self.old { spare = self.new.spare } }
         ensures spare { self.old.spare ≤ self.new.spare }
     {
-        self.rising.reserve(more)
+        self.slab.reserve(more)?;
+        self.spots.reserve(more)
     }
 
     /// The job with that id; none where it is not there.
@@ -59,8 +67,8 @@ impl Jobs {
         ensures job { result ≡ job_of self.now.jobs job }
         ensures store { IsJobStore self.now }
     {
-        let at = self.place_of(job)?;
-        let open = &self.rising[at];
+        let at = self.search(job)?;
+        let open = &self.slab[self.spots[at].place];
         Some(open.copy())
     }
 
@@ -79,7 +87,7 @@ impl Jobs {
         ensures spare { self.old.spare ≤ self.new.spare + 1 }
     {
         let id = self.next;
-        self.rising.push_reserved(Job {
+        let place = self.slab.insert_reserved(Job {
             id,
             root,
             outstanding: 0,
@@ -87,6 +95,7 @@ impl Jobs {
             slots: VpeList::of(waiter),
             keep: false,
         });
+        self.spots.push_reserved(IdSpot { id, place });
         self.next += 1;
         id
     }
@@ -98,10 +107,10 @@ impl Jobs {
         requires { IsSomeAnd (job_of self.old.jobs job) (λ x. x.up ≡ None) }
         ensures { self.new ≡ record self.old { jobs = keep_set job self.old.jobs } }
     {
-        let Some(at) = self.place_of(job) else {
+        let Some(at) = self.search(job) else {
             unreachable!()
         };
-        let open = &mut self.rising[at];
+        let open = &mut self.slab[self.spots[at].place];
         open.keep();
     }
 
@@ -109,10 +118,10 @@ impl Jobs {
     pub fn give_up(&mut self, job: u32)
         ensures { self.new ≡ record self.old { jobs = keep_given_up job self.old.jobs } }
     {
-        let Some(at) = self.place_of(job) else {
+        let Some(at) = self.search(job) else {
             return;
         };
-        let open = &mut self.rising[at];
+        let open = &mut self.slab[self.spots[at].place];
         open.give_up();
     }
 
@@ -123,10 +132,10 @@ impl Jobs {
         requires { IfSome (job_of self.old.jobs job) (λ x. x.count < 18446744073709551615) }
         ensures { self.new ≡ record self.old { jobs = count_raised job self.old.jobs } }
     {
-        let Some(at) = self.place_of(job) else {
+        let Some(at) = self.search(job) else {
             return;
         };
-        let open = &mut self.rising[at];
+        let open = &mut self.slab[self.spots[at].place];
         open.raise();
     }
 
@@ -135,10 +144,10 @@ impl Jobs {
     pub fn set_up(&mut self, job: u32, up: Up)
         ensures { self.new ≡ record self.old { jobs = with_up up job self.old.jobs } }
     {
-        let Some(at) = self.place_of(job) else {
+        let Some(at) = self.search(job) else {
             return;
         };
-        let open = &mut self.rising[at];
+        let open = &mut self.slab[self.spots[at].place];
         open.set_up(up);
     }
 
@@ -150,10 +159,10 @@ impl Jobs {
         requires vpe_in_range { vpe < VPES }
         ensures { self.new ≡ record self.old { jobs = waiter_added job vpe self.old.jobs } }
     {
-        let Some(at) = self.place_of(job) else {
+        let Some(at) = self.search(job) else {
             unreachable!()
         };
-        let open = &mut self.rising[at];
+        let open = &mut self.slab[self.spots[at].place];
         open.wait(vpe);
     }
 
@@ -161,7 +170,7 @@ impl Jobs {
     pub fn leave(&mut self, vpe: u16)
         ensures { self.new ≡ record self.old { jobs = waiter_removed vpe self.old.jobs } }
     {
-        leave_all(&mut self.rising, vpe);
+        leave_all(&mut self.slab, &self.spots, vpe);
     }
 
     /// A token came back to the job. Tells whether it was the last one that was out. Takes no memory.
@@ -172,10 +181,10 @@ impl Jobs {
         ensures last { result ≡ is_done (job_of self.new.jobs job) }
         ensures jobs { self.new ≡ record self.old { jobs = count_lowered job self.old.jobs } }
     {
-        let Some(at) = self.place_of(job) else {
+        let Some(at) = self.search(job) else {
             unreachable!()
         };
-        let open = &mut self.rising[at];
+        let open = &mut self.slab[self.spots[at].place];
         open.lower();
         open.outstanding == 0
     }
@@ -202,8 +211,9 @@ impl Jobs {
         ensures next { self.new.next ≡ self.old.next }
         ensures spare { self.old.spare ≤ self.new.spare }
     {
-        let at = self.place_of(job)?;
-        Some(self.rising.remove(at))
+        let at = self.search(job)?;
+        let spot = self.spots.remove(at);
+        Some(self.slab.remove(spot.place))
     }
 
     /// Finishes the job, and those that are done by that, one after the other: takes each out and appends it to `out`.
@@ -222,7 +232,7 @@ impl Jobs {
         ensures bound { (n : ℕ) → length self.old.jobs ≤ n → chain n (job_of self.old.jobs job) self.old.jobs ≡ chain_of job self.old.jobs }
     {
         // So that the proof knows that the ids rise.
-        let _ = &self.rising;
+        let _ = &self.spots;
         let mut next = Some(job);
         while let Some(id) = next {
             let Some(finished) = self.take(id) else {
@@ -238,7 +248,7 @@ impl Jobs {
     pub fn len(&self) -> usize
         ensures { result ≡ length self.now.jobs }
     {
-        self.rising.len()
+        self.spots.len()
     }
 
     // How many ids were drawn.
@@ -267,22 +277,25 @@ impl Jobs {
         is_last.then_some(job)
     }
 
-    // Where the job is; none where it is not there.
-    fn place_of(&self, job: u32) -> Option<usize>
+    // Where the job stands in the list; none where it is not there.
+    fn search(&self, job: u32) -> Option<usize>
         ensures place { IfSome result (IsPlaceOf self.now.jobs job) }
         ensures absent { result ≡ None → job_of self.now.jobs job ≡ None }
         ensures store { IsJobStore self.now }
     {
-        self.rising.binary_search_by_key(&job, |open| open.id).ok()
+        self.spots.binary_search_by_key(&job, |spot| spot.id).ok()
     }
 }
 
-// Lets the VPE wait for none of the jobs.
-fn leave_all(jobs: &mut Vec<Job>, vpe: u16)
-    ensures jobs { jobs.new.items ≡ waiter_removed vpe jobs.old.items }
-    ensures capacity { vec_capacity jobs.new ≡ vec_capacity jobs.old }
+// Lets the VPE wait for none of the jobs to which the spots lead.
+fn leave_all(slab: &mut Slab<Job>, spots: &[IdSpot], vpe: u16)
+    requires placed { IsPlaced slab.old spots.now }
+    ensures jobs { rows_of slab.new spots.now ≡ waiter_removed vpe (rows_of slab.old spots.now) }
+    ensures placed { IsPlaced slab.new spots.now }
+    ensures capacity { slab.new.capacity ≡ slab.old.capacity }
 {
-    for job in jobs.iter_mut() {
-        job.leave(vpe);
+    for spot in spots {
+        let open = &mut slab[spot.place];
+        open.leave(vpe);
     }
 }

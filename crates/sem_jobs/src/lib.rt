@@ -6,6 +6,7 @@ mod jobs;
 #[cfg(test)]
 mod random_tests;
 mod scratch;
+mod spot;
 #[cfg(test)]
 mod tests;
 mod vpe_list;

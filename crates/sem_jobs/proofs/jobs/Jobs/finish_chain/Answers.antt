@@ -50,4 +50,4 @@ returns-clause-jobs c =
 pub returns-clause-bound : goal.returns-clause-bound
 returns-clause-bound c = λ n few.
     let xs = c.args.self.now.jobs in
-    chain-more n (length xs) c.args.self.now.next (job_of xs c.args.job) xs (rw (← c.self.view_is) c.self.invariant) (there-found xs c.args.job) few (omega arith)
+    chain-more n (length xs) c.args.self.now.next (job_of xs c.args.job) xs (rw (← c.self.view_is) c.self.invariant.0) (there-found xs c.args.job) few (omega arith)

@@ -1,20 +1,33 @@
 use Rattle.std.proofs.Common.{◌≡◌, false, Some, refl, sym, ap}
 use Rattle.sem_msg.specs.Rows.{JobRow}
-use Rattle.sem_jobs.specs.JobStore.{JobStore, IsPlaceOf}
-use Rattle.sem_jobs.proofs.JobPlaces.{same_jobs, ids-set, changed, changed-absent}
+use Rattle.sem_jobs.specs.JobStore.{JobStore}
+use Rattle.sem_jobs.specs.Stored.{rows_of}
+use Rattle.sem_jobs.proofs.JobPlaces.{same_jobs, changed-absent}
+use Rattle.sem_jobs.proofs.Written.{IsOpenAt, changed-written, stored-written}
 use Rattle.sem_jobs.proofs.jobs.Jobs.set_up.Goals as goal
 
--- the ids are the same
+-- the id is the same
 pub invariant_of-self : goal.invariant_of-self
 invariant_of-self c =
-    let ids = ids-set c.self.inside.rising.items c.in-Some.at c.index_mut-open.result.now c.set_up.new.self c.index_mut-open.ensures.value (ap (λ (x : JobRow). x.id) c.set_up.ensures) in
-    rw ids c.self.invariant
+    let jobs : c.args.self.now.jobs ≡ rows_of c.self.inside.slab c.self.inside.spots.items = sym (ap (λ (s : JobStore). s.jobs) c.self.view_is) in
+    let open_at : IsOpenAt c.self.inside.slab c.self.inside.spots.items c.self.inside.next c.args.job c.in-Some.at c.index.result.now c.index_mut-open.result.now = record {
+      stored = c.self.invariant;
+      place = rw jobs at c.in-Some.ensures.place;
+      read = c.index.ensures;
+      value = c.index_mut-open.ensures.value;
+    } in
+    stored-written open_at c.set_up.new.self (ap (λ (x : JobRow). x.id) c.set_up.ensures)
 
 pub returns : goal.returns
 returns c =
-    let jobs : c.args.self.now.jobs ≡ c.self.inside.rising.items = sym (ap (λ (s : JobStore). s.jobs) c.self.view_is) in
-    let place : IsPlaceOf c.self.inside.rising.items c.args.job c.in-Some.at = rw jobs at c.in-Some.ensures.place in
-    rw (← c.self.view_is) (same_jobs _ _ _ _ (changed c.self.inside.rising.items c.self.inside.next c.self.invariant c.args.job c.in-Some.at place c.index_mut-open.result.now c.set_up.new.self (λ (x : JobRow). record x { up = Some c.args.up; keep = false }) c.index_mut-open.ensures.value c.set_up.ensures))
+    let jobs : c.args.self.now.jobs ≡ rows_of c.self.inside.slab c.self.inside.spots.items = sym (ap (λ (s : JobStore). s.jobs) c.self.view_is) in
+    let open_at : IsOpenAt c.self.inside.slab c.self.inside.spots.items c.self.inside.next c.args.job c.in-Some.at c.index.result.now c.index_mut-open.result.now = record {
+      stored = c.self.invariant;
+      place = rw jobs at c.in-Some.ensures.place;
+      read = c.index.ensures;
+      value = c.index_mut-open.ensures.value;
+    } in
+    rw (← c.self.view_is) (same_jobs _ _ _ _ (changed-written open_at c.set_up.new.self (λ (x : JobRow). record x { up = Some c.args.up; keep = false }) c.set_up.ensures))
 
 -- there is no such job
 pub returns-in_default : goal.returns-in_default
