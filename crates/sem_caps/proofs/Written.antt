@@ -12,7 +12,7 @@ use Rattle.sem_key.specs.KeyList.{IsKeyList}
 use Rattle.sem_key.specs.Lists.{change}
 use Rattle.sem_key.specs.Capability.{Capability, capability_of}
 use Rattle.sem_key.specs.CapList.{cap_of, keys_of}
-use Rattle.sem_caps.specs.declared.spot.Spot.{Spot}
+use Rattle.sem_caps.specs.CapStore.{Spot}
 use Rattle.sem_caps.specs.CapStore.{CapStore, IsCapStore, place_in}
 use Rattle.sem_caps.specs.Stored.{plain, row_at, rows_of, IsStored, IsCounted, IsPlaced, most_keys}
 use Rattle.sem_caps.proofs.Places.{spot-found, row-found, leads-here, contains-here, slot-key, row-read, rows-set, placed-set}

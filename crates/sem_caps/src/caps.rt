@@ -70,7 +70,7 @@ impl Caps {
         ensures store { IsCapStore self.now }
     {
         match self.search(key) {
-            Ok(at) => Some(self.spots[at].place),
+            Ok(at) => Some(self.spots[at].place()),
             Err(_) => None,
         }
     }
@@ -80,7 +80,7 @@ impl Caps {
         ensures { option_map capability_of (option_copied result) ≡ slice_get self.now.caps place }
     {
         let spot = self.spots.get(place)?;
-        self.slab.get(spot.place)
+        self.slab.get(spot.place())
     }
 
     /// Makes room for `more` capabilities, so that inserting them takes no memory, and for one more child of the capability
@@ -123,7 +123,7 @@ impl Caps {
             object,
         };
         let place = self.slab.insert_reserved(cap);
-        self.spots.insert(at, Spot { key, place }).unwrap();
+        self.spots.insert(at, Spot::new(key, place)).unwrap();
     }
 
     /// The keys of those that were made from that capability, in rising key order.
@@ -316,6 +316,6 @@ impl Caps {
         ensures valid { IsValidKey key }
     {
         self.spots
-            .binary_search_by_key(&pack(key), |spot| pack(spot.key))
+            .binary_search_by_key(&pack(key), |spot| spot.word())
     }
 }

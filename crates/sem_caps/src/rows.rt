@@ -13,7 +13,7 @@ use slab::Slab;
 pub fn first_of(spots: &[Spot], vpe: u16) -> Option<Key>
     ensures { result ≡ find (λ k. k.vpe == vpe) (map (λ spot. spot.key) spots.now) }
 {
-    spots.iter().map(|spot| spot.key).find(|key| key.vpe == vpe)
+    spots.iter().map(|spot| spot.key()).find(|key| key.vpe == vpe)
 }
 
 // Whether the job has marked the capability.
@@ -30,8 +30,9 @@ pub fn append_keys(spots: &[Spot], vpe: u16, keys: &mut Vec<Key>)
     ensures capacity { vec_capacity keys.new ≡ vec_capacity keys.old }
 {
     for spot in spots {
-        if spot.key.vpe == vpe {
-            keys.push_reserved(spot.key);
+        let key = spot.key();
+        if key.vpe == vpe {
+            keys.push_reserved(key);
         }
     }
 }
@@ -61,8 +62,9 @@ pub fn take_marked(
     let mut kept = 0;
     for at in 0..spots.len() {
         let spot = spots[at];
-        if has_mark(&slab[spot.place], job) {
-            let cap = slab.remove(spot.place);
+        let place = spot.place();
+        if has_mark(&slab[place], job) {
+            let cap = slab.remove(place);
             left -= child_count(&cap);
             gone.push_reserved((cap.key, cap.selector));
         } else {
