@@ -2,7 +2,7 @@ ghost use Rattle.std.specs.Prelude.{◌≡◌, ◌≤◌, ◌<◌, None, IsTrue,
 ghost use Rattle.sem_key.specs.CapList.{cap_of};
 
 use crate::Caps;
-use sem_key::{Key, Kind, Object, OutOfMemory, VPES};
+use sem_key::{Cap, Key, Kind, Object, OutOfMemory, VPES};
 use std::alloc::Global;
 use std::process::Abort;
 use std::test::Fail;
@@ -84,6 +84,13 @@ pub fn children<'a>(rt: &impl Abort, caps: &'a Caps, key: Key) -> &'a [Key] {
     caps.children_sorted(key)
 }
 
+// The capability is as it was put there.
+fn compare_fresh(rt: &impl Abort, cap: &Cap, key: Key, parent: Option<Key>, selector: u8) {
+    assert_eq!(rt; (cap.key, cap.parent), (key, parent));
+    assert_eq!(rt; (cap.mark, cap.selector, cap.object), (None, selector, MEMORY));
+    assert!(rt; cap.children.as_slice().is_empty());
+}
+
 #[test]
 fn capabilities_are_found_by_their_keys(rt: HostRuntime) -> Result<(), Fail> {
     let mut caps = Caps::new(rt.alloc())?;
@@ -95,9 +102,7 @@ fn capabilities_are_found_by_their_keys(rt: HostRuntime) -> Result<(), Fail> {
     let Some(cap) = caps.get(key(1, 7)) else {
         return Err(Fail::new("it is held"));
     };
-    assert_eq!(rt; (cap.key, cap.parent), (key(1, 7), Some(key(2, 0))));
-    assert_eq!(rt; (cap.mark, cap.selector, cap.object), (None, 5, MEMORY));
-    assert!(rt; cap.children.as_slice().is_empty());
+    compare_fresh(&rt, cap, key(1, 7), Some(key(2, 0)), 5);
     Ok(())
 }
 
@@ -118,13 +123,17 @@ fn the_keys_of_a_vpe_follow_each_other(rt: HostRuntime) -> Result<(), Fail> {
     for (vpe, number) in [(2, 0), (1, 7), (3, 9), (1, 2)] {
         put(&rt, &mut caps, key(vpe, number), None, 0)?;
     }
-    assert_eq!(rt; caps.next_of(1, None), Some(key(1, 2)));
-    assert_eq!(rt; caps.next_of(1, Some(key(1, 2))), Some(key(1, 7)));
-    assert_eq!(rt; caps.next_of(1, Some(key(1, 3))), Some(key(1, 7)));
-    assert_eq!(rt; caps.next_of(1, Some(key(1, 7))), None);
-    assert_eq!(rt; caps.next_of(2, Some(key(1, 7))), Some(key(2, 0)));
-    assert_eq!(rt; caps.next_of(2, Some(key(3, 0))), None);
-    assert_eq!(rt; caps.next_of(4, None), None);
+    for (vpe, above, next) in [
+        (1, None, Some(key(1, 2))),
+        (1, Some(key(1, 2)), Some(key(1, 7))),
+        (1, Some(key(1, 3)), Some(key(1, 7))),
+        (1, Some(key(1, 7)), None),
+        (2, Some(key(1, 7)), Some(key(2, 0))),
+        (2, Some(key(3, 0)), None),
+        (4, None, None),
+    ] {
+        assert_eq!(rt; caps.next_of(vpe, above), next);
+    }
     Ok(())
 }
 
@@ -159,32 +168,51 @@ fn a_link_stands_once_until_it_is_taken_away(rt: HostRuntime) -> Result<(), Fail
         children(&rt, &caps, parent),
         [key(8, 1), key(9, 1)].as_slice()
     );
-    assert!(rt; caps.unlink(parent, key(9, 1)), "it stood");
-    assert!(rt; !caps.unlink(parent, key(9, 1)), "it is gone");
-    assert!(rt;
-        !caps.unlink(key(2, 0), key(8, 1)),
-        "there is no such parent"
-    );
+    // It stood, it is gone, and there is no such parent.
+    for (parent, child, stood) in [
+        (parent, key(9, 1), true),
+        (parent, key(9, 1), false),
+        (key(2, 0), key(8, 1), false),
+    ] {
+        assert_eq!(rt; caps.unlink(parent, child), stood);
+    }
     assert_eq!(rt; children(&rt, &caps, parent), [key(8, 1)].as_slice());
     assert_eq!(rt; caps.child_links(), 1);
     Ok(())
 }
 
+// Two capabilities that a job has marked: the first leads to three children, the second to one of them.
+fn two_marked(
+    rt: &impl Abort,
+    alloc: Global,
+    first: Key,
+    second: Key,
+) -> Result<Caps, OutOfMemory> {
+    let mut caps = Caps::new(alloc)?;
+    put(rt, &mut caps, first, Some(key(3, 1)), 9)?;
+    put(rt, &mut caps, second, None, 0)?;
+    for (parent, child) in [
+        (first, key(9, 1)),
+        (first, key(8, 1)),
+        (first, key(9, 2)),
+        (second, key(9, 1)),
+    ] {
+        link(rt, &mut caps, parent, child)?;
+    }
+    for key in [first, second] {
+        mark(rt, &mut caps, key, 7);
+    }
+    Ok(caps)
+}
+
 #[test]
 fn a_restored_capability_has_no_mark_and_no_child(rt: HostRuntime) -> Result<(), Fail> {
-    let mut caps = Caps::new(rt.alloc())?;
     let parent = key(127, 0);
-    put(&rt, &mut caps, parent, Some(key(3, 1)), 9)?;
-    put(&rt, &mut caps, key(1, 0), None, 0)?;
-    for child in [key(9, 1), key(8, 1), key(9, 2)] {
-        link(&rt, &mut caps, parent, child)?;
-    }
-    link(&rt, &mut caps, key(1, 0), key(9, 1))?;
+    let other = key(1, 0);
+    let mut caps = two_marked(&rt, rt.alloc(), parent, other)?;
     assert_eq!(rt; caps.child_links(), 4);
-    mark(&rt, &mut caps, parent, 7);
-    mark(&rt, &mut caps, key(1, 0), 7);
     restore(&rt, &mut caps, parent);
-    assert!(rt; is_unmarked(&caps, parent) && !is_unmarked(&caps, key(1, 0)));
+    assert!(rt; is_unmarked(&caps, parent) && !is_unmarked(&caps, other));
     assert!(rt; children(&rt, &caps, parent).is_empty());
     assert_eq!(rt; (caps.child_links(), caps.len()), (1, 2));
     let Some(cap) = caps.get(parent) else {
@@ -216,20 +244,31 @@ fn what_a_job_has_marked_is_removed_in_key_order(rt: HostRuntime) -> Result<(), 
     Ok(())
 }
 
+// Inserts 4,096 capabilities of one VPE in falling order, and marks each.
+fn put_many_marked(rt: &impl Abort, caps: &mut Caps) -> Result<(), OutOfMemory> {
+    for number in (0..4096).rev() {
+        put(rt, caps, key(5, number), None, 9)?;
+        mark(rt, caps, key(5, number), 3);
+    }
+    Ok(())
+}
+
+// They are all gone, in rising order.
+fn compare_many(rt: &impl Abort, gone: &[(Key, u8)]) {
+    assert_eq!(rt; gone.len(), 4096);
+    for (number, (key, selector)) in gone.iter().enumerate() {
+        assert_eq!(rt; (key.number as usize, *selector), (number, 9));
+    }
+}
+
 #[test]
 fn many_capabilities_are_removed_at_once(rt: HostRuntime) -> Result<(), Fail> {
     let mut caps = Caps::new(rt.alloc())?;
-    for number in (0..4096).rev() {
-        put(&rt, &mut caps, key(5, number), None, 9)?;
-        mark(&rt, &mut caps, key(5, number), 3);
-    }
+    put_many_marked(&rt, &mut caps)?;
     put(&rt, &mut caps, key(4, 0), None, 8)?;
     put(&rt, &mut caps, key(6, 0), None, 8)?;
     let gone = sweep(rt.alloc(), &mut caps, 3)?;
-    assert_eq!(rt; gone.len(), 4096);
-    for (number, (key_gone, selector)) in gone.iter().enumerate() {
-        assert_eq!(rt; (key_gone.number as usize, *selector), (number, 9));
-    }
+    compare_many(&rt, &gone);
     assert_eq!(rt; (caps.next_of(5, None), caps.len()), (None, 2));
     Ok(())
 }

@@ -1,11 +1,10 @@
 use Rattle.std.proofs.Common.{◌+◌, ◌-◌, refl, sym, ap, arith}
 use Rattle.sem_key.specs.Capability.{Capability}
 use Rattle.sem_key.specs.KeyList.{without_key}
-use Rattle.sem_caps.specs.CapStore.{CapStore}
 use Rattle.sem_caps.specs.Stored.{rows_of}
 use Rattle.sem_caps.proofs.Edited.{same_caps}
 use Rattle.sem_caps.proofs.Links.{links-few}
-use Rattle.sem_caps.proofs.Written.{IsHeldAt, same_place, contains-place, absent, change-absent, cap-here, links-written, plain-written, placed-written, stored-written, counted-written}
+use Rattle.sem_caps.proofs.Written.{held-found, contains-found, absent, change-absent, cap-here, links-written, plain-written, placed-written, stored-written, counted-written}
 use Rattle.sem_caps.proofs.caps.Caps.unlink.Goals as goal
 
 -- the parent is not held
@@ -16,21 +15,12 @@ pub returns-in_default-clause-gone : goal.returns-in_default-clause-gone
 returns-in_default-clause-gone c = same_caps _ _ _ _ _ (sym (change-absent c.args.self.now.caps c.args.parent (absent c.args.self.now.caps c.args.parent c.place_of.result c.place_of.ensures.held c.in_default.is) (λ (x : Capability). record x { children = without_key x.children c.args.child })))
 
 pub index_mut-cap-requires : goal.index_mut-cap-requires
-index_mut-cap-requires c =
-    let listed = ap (λ (s : CapStore). s.places) c.self.view_is in
-    let is = same_place c.args.self.now c.self.inside.spots.items c.args.parent c.place_of.result c.in-Some.place listed c.place_of.ensures.place c.in-Some.is in
-    contains-place c.self.inside.slab c.self.inside.spots.items c.self.invariant.2 c.args.parent c.in-Some.place is
+index_mut-cap-requires c = contains-found c.args.parent c.self.invariant c.self.view_is refl c.place_of.ensures.place c.in-Some.is
 
 -- its links are counted anew
 pub overflow_sub-self : goal.overflow_sub-self
 overflow_sub-self c =
-    let listed = ap (λ (s : CapStore). s.places) c.self.view_is in
-    let held : IsHeldAt c.self.inside.slab c.self.inside.spots.items c.args.parent c.in-Some.place c.index_mut-cap.result.now = record {
-      placed = c.self.invariant.2;
-      is_list = c.self.invariant.0.keys;
-      is = same_place c.args.self.now c.self.inside.spots.items c.args.parent c.place_of.result c.in-Some.place listed c.place_of.ensures.place c.in-Some.is;
-      value = c.index_mut-cap.ensures.value;
-    } in
+    let held = held-found c.args.parent c.self.invariant c.self.view_is refl c.place_of.ensures.place c.in-Some.is c.index_mut-cap.ensures.value in
     let le = links-written held c.self.inside.links c.self.invariant.1 in
     let before = c.child_count-before.ensures.count in
     omega arith
@@ -43,13 +33,7 @@ overflow_add-self c =
 
 pub invariant_of-self : goal.invariant_of-self
 invariant_of-self c =
-    let listed = ap (λ (s : CapStore). s.places) c.self.view_is in
-    let held : IsHeldAt c.self.inside.slab c.self.inside.spots.items c.args.parent c.in-Some.place c.index_mut-cap.result.now = record {
-      placed = c.self.invariant.2;
-      is_list = c.self.invariant.0.keys;
-      is = same_place c.args.self.now c.self.inside.spots.items c.args.parent c.place_of.result c.in-Some.place listed c.place_of.ensures.place c.in-Some.is;
-      value = c.index_mut-cap.ensures.value;
-    } in
+    let held = held-found c.args.parent c.self.invariant c.self.view_is refl c.place_of.ensures.place c.in-Some.is c.index_mut-cap.ensures.value in
     let le = links-written held c.self.inside.links c.self.invariant.1 in
     let before = c.child_count-before.ensures.count in
     let after = c.child_count-after.ensures.count in (
@@ -60,22 +44,10 @@ invariant_of-self c =
 
 pub returns-clause-stood : goal.returns-clause-stood
 returns-clause-stood c =
-    let listed = ap (λ (s : CapStore). s.places) c.self.view_is in
-    let held : IsHeldAt c.self.inside.slab c.self.inside.spots.items c.args.parent c.in-Some.place c.index_mut-cap.result.now = record {
-      placed = c.self.invariant.2;
-      is_list = c.self.invariant.0.keys;
-      is = same_place c.args.self.now c.self.inside.spots.items c.args.parent c.place_of.result c.in-Some.place listed c.place_of.ensures.place c.in-Some.is;
-      value = c.index_mut-cap.ensures.value;
-    } in
+    let held = held-found c.args.parent c.self.invariant c.self.view_is refl c.place_of.ensures.place c.in-Some.is c.index_mut-cap.ensures.value in
     rw (← c.self.view_is, cap-here held) c.remove-stood.ensures.there
 
 pub returns-clause-gone : goal.returns-clause-gone
 returns-clause-gone c =
-    let listed = ap (λ (s : CapStore). s.places) c.self.view_is in
-    let held : IsHeldAt c.self.inside.slab c.self.inside.spots.items c.args.parent c.in-Some.place c.index_mut-cap.result.now = record {
-      placed = c.self.invariant.2;
-      is_list = c.self.invariant.0.keys;
-      is = same_place c.args.self.now c.self.inside.spots.items c.args.parent c.place_of.result c.in-Some.place listed c.place_of.ensures.place c.in-Some.is;
-      value = c.index_mut-cap.ensures.value;
-    } in
+    let held = held-found c.args.parent c.self.invariant c.self.view_is refl c.place_of.ensures.place c.in-Some.is c.index_mut-cap.ensures.value in
     rw (← c.self.view_is) (same_caps _ _ _ _ _ (plain-written held _ (λ (x : Capability). record x { children = without_key x.children c.args.child }) (rw c.remove-stood.ensures.keys refl)))
