@@ -13,7 +13,10 @@ use slab::Slab;
 pub fn first_of(spots: &[Spot], vpe: u16) -> Option<Key>
     ensures { result ≡ find (λ k. k.vpe == vpe) (map (λ spot. spot.key) spots.now) }
 {
-    spots.iter().map(|spot| spot.key()).find(|key| key.vpe == vpe)
+    spots
+        .iter()
+        .map(|spot| spot.key())
+        .find(|key| key.vpe == vpe)
 }
 
 // Whether the job has marked the capability.

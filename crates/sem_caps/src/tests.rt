@@ -87,7 +87,10 @@ pub fn children<'a>(rt: &impl Abort, caps: &'a Caps, key: Key) -> &'a [Key] {
 // The capability is as it was put there.
 fn compare_fresh(rt: &impl Abort, cap: &Cap, key: Key, parent: Option<Key>, selector: u8) {
     assert_eq!(rt; (cap.key, cap.parent), (key, parent));
-    assert_eq!(rt; (cap.mark, cap.selector, cap.object), (None, selector, MEMORY));
+    assert_eq!(rt;
+        (cap.mark, cap.selector, cap.object),
+        (None, selector, MEMORY)
+    );
     assert!(rt; cap.children.as_slice().is_empty());
 }
 
