@@ -376,7 +376,7 @@ fn after_want_of_memory_the_jobs_are_as_before(rt: HostRuntime) -> Result<(), Fa
     let job = open(&rt, &mut jobs, root(1), None)?;
     wait(&rt, &mut jobs, job, 5);
     assert!(rt; jobs.room(usize::MAX).is_err());
-    // With `rt try --test --fail-alloc 2` there is no memory here either.
+    // With `rt try --test --fail-alloc 3` and `4` there is no memory here either.
     let is_refused = jobs.room(100).is_err();
     assert_eq!(rt; jobs.len(), 1, "refused: {is_refused}");
     let (id, key, count, up, vpes) = shown(rt.alloc(), &jobs, job)?;
@@ -414,7 +414,7 @@ fn after_want_of_memory_the_working_space_is_as_before(rt: HostRuntime) -> Resul
         scratch.jobs.push_reserved(job);
     }
     for (keys, jobs) in [(usize::MAX, 1), (1, usize::MAX), (1000, 1000)] {
-        // With `rt try --test --fail-alloc N` there is no memory for one of the last four here, N from 6 to 9.
+        // With `rt try --test --fail-alloc N` there is no memory for one of the last four here, N from 7 to 10.
         if scratch.room(keys, jobs).is_err() {
             assert_eq!(rt; scratch.keys.as_slice(), [root(1)].as_slice());
             assert_eq!(rt; scratch.links.as_slice(), [root(3)].as_slice());
