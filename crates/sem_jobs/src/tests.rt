@@ -155,32 +155,71 @@ fn ids(alloc: Global, jobs: &[Job]) -> Result<Vec<u32>, OutOfMemory> {
     Ok(ids)
 }
 
-// The job of that id, and the VPEs that wait for it.
-fn shown(
-    alloc: Global,
-    jobs: &Jobs,
-    job: u32,
-) -> Result<(u32, Key, u64, Option<Up>, Vec<u16>), Fail> {
+// Whether the job is there, of that root, with so many tokens out, and with that job waiting for it.
+fn is_as(jobs: &Jobs, job: u32, root: Key, count: u64, up: Option<Up>) -> bool {
+    match jobs.get(job) {
+        Some(open) => (open.id, open.root, open.outstanding, open.up) == (job, root, count, up),
+        None => false,
+    }
+}
+
+// Whether the job is there, and exactly these VPEs wait for it.
+fn is_awaited_by(alloc: Global, jobs: &Jobs, job: u32, vpes: &[u16]) -> Result<bool, Fail> {
     let Some(open) = jobs.get(job) else {
-        return Err(Fail::new("it is there"));
+        return Ok(false);
     };
-    let vpes = waiters(alloc, &open.slots)?;
-    Ok((open.id, open.root, open.outstanding, open.up, vpes))
+    Ok(waiters(alloc, &open.slots)?.as_slice() == vpes)
+}
+
+// Finishes a job, and tells whether these jobs are finished by that, in their order, with no token out.
+fn finishes(
+    rt: &impl Abort,
+    alloc: Global,
+    jobs: &mut Jobs,
+    job: u32,
+    expected: &[u32],
+) -> Result<bool, Fail> {
+    let gone = finish(rt, alloc, jobs, job)?;
+    let no_token = gone.iter().all(|job| job.outstanding == 0);
+    Ok(no_token && ids(alloc, &gone)?.as_slice() == expected)
+}
+
+// Takes the job out, and tells whether it was there and of that root.
+fn takes(jobs: &mut Jobs, job: u32, root: Key) -> bool {
+    jobs.take(job).is_some_and(|gone| gone.root == root)
+}
+
+// Lets another job wait.
+fn set_up(jobs: &mut Jobs, job: u32, up: Up) {
+    jobs.set_up(job, up);
+}
+
+// Lets a job keep its root no longer.
+fn give_up(jobs: &mut Jobs, job: u32) {
+    jobs.give_up(job);
+}
+
+// Lets the VPE wait for no job.
+fn leave(jobs: &mut Jobs, vpe: u16) {
+    jobs.leave(vpe);
+}
+
+// Takes a token back.
+fn token_back(jobs: &mut Jobs, job: u32) -> Option<u32> {
+    jobs.token_back(job)
 }
 
 #[test]
 fn a_job_begins_with_the_next_id(rt: HostRuntime) -> Result<(), Fail> {
     let mut jobs = Jobs::new(rt.alloc())?;
-    assert!(rt; jobs.get(0).is_none());
+    assert!(rt; !is_open(&jobs, 0));
     let up = Up::Remote { kernel: 15, job: 3 };
     assert_eq!(rt; open(&rt, &mut jobs, root(4), None)?, 0);
     assert_eq!(rt; open(&rt, &mut jobs, root(9), Some(up))?, 1);
-    let (id, key, count, its_up, vpes) = shown(rt.alloc(), &jobs, 1)?;
-    assert_eq!(rt; (id, key, count, its_up), (1, root(9), 0, Some(up)));
-    assert!(rt; vpes.is_empty());
-    let (id, key, count, its_up, _) = shown(rt.alloc(), &jobs, 0)?;
-    assert_eq!(rt; (id, key, count, its_up), (0, root(4), 0, None));
-    assert!(rt; jobs.get(2).is_none());
+    assert!(rt; is_as(&jobs, 1, root(9), 0, Some(up)));
+    assert!(rt; is_awaited_by(rt.alloc(), &jobs, 1, [].as_slice())?);
+    assert!(rt; is_as(&jobs, 0, root(4), 0, None));
+    assert!(rt; !is_open(&jobs, 2));
     Ok(())
 }
 
@@ -204,12 +243,10 @@ fn the_job_that_was_told_last_waits(rt: HostRuntime) -> Result<(), Fail> {
     let above = open(&rt, &mut jobs, root(1), None)?;
     let job = open(&rt, &mut jobs, root(2), Some(Up::Local { job: above }))?;
     let elsewhere = Up::Remote { kernel: 3, job: 9 };
-    jobs.set_up(job, elsewhere);
-    jobs.set_up(7, elsewhere);
-    let (_, _, _, up, _) = shown(rt.alloc(), &jobs, job)?;
-    assert_eq!(rt; up, Some(elsewhere));
-    let (_, _, _, up, _) = shown(rt.alloc(), &jobs, above)?;
-    assert_eq!(rt; up, None);
+    set_up(&mut jobs, job, elsewhere);
+    set_up(&mut jobs, 7, elsewhere);
+    assert!(rt; is_as(&jobs, job, root(2), 0, Some(elsewhere)));
+    assert!(rt; is_as(&jobs, above, root(1), 0, None));
     Ok(())
 }
 
@@ -218,8 +255,7 @@ fn a_vpe_can_wait_from_the_beginning(rt: HostRuntime) -> Result<(), Fail> {
     let mut jobs = Jobs::new(rt.alloc())?;
     let job = open_for(&rt, &mut jobs, root(1), None, Some(127))?;
     wait(&rt, &mut jobs, job, 3);
-    let (_, _, _, _, vpes) = shown(rt.alloc(), &jobs, job)?;
-    assert_eq!(rt; vpes.as_slice(), [3, 127].as_slice());
+    assert!(rt; is_awaited_by(rt.alloc(), &jobs, job, [3, 127].as_slice())?);
     Ok(())
 }
 
@@ -232,10 +268,10 @@ fn a_job_keeps_its_root_until_it_gives_up(rt: HostRuntime) -> Result<(), Fail> {
     keep(&rt, &mut jobs, one);
     keep(&rt, &mut jobs, two);
     assert!(rt; keeps(&jobs, one) && keeps(&jobs, two));
-    jobs.give_up(one);
-    jobs.give_up(7);
+    give_up(&mut jobs, one);
+    give_up(&mut jobs, 7);
     assert!(rt; !keeps(&jobs, one) && keeps(&jobs, two));
-    jobs.set_up(two, Up::Local { job: one });
+    set_up(&mut jobs, two, Up::Local { job: one });
     assert!(rt; !keeps(&jobs, two), "another job waits for it");
     Ok(())
 }
@@ -246,11 +282,11 @@ fn the_last_token_that_comes_back_tells_the_job(rt: HostRuntime) -> Result<(), F
     let job = open(&rt, &mut jobs, root(1), None)?;
     add(&rt, &mut jobs, job);
     add(&rt, &mut jobs, job);
-    assert_eq!(rt; jobs.token_back(job), None, "one is still out");
-    assert_eq!(rt; jobs.token_back(job), Some(job));
-    assert_eq!(rt; jobs.token_back(job), Some(job), "none was out");
+    assert_eq!(rt; token_back(&mut jobs, job), None, "one is still out");
+    assert_eq!(rt; token_back(&mut jobs, job), Some(job));
+    assert_eq!(rt; token_back(&mut jobs, job), Some(job), "none was out");
     assert!(rt; is_done(&jobs, job));
-    assert_eq!(rt; jobs.token_back(7), None, "it is not there");
+    assert_eq!(rt; token_back(&mut jobs, 7), None, "it is not there");
     Ok(())
 }
 
@@ -259,8 +295,8 @@ fn a_job_is_taken_out_once(rt: HostRuntime) -> Result<(), Fail> {
     let mut jobs = Jobs::new(rt.alloc())?;
     let one = open(&rt, &mut jobs, root(1), None)?;
     let two = open(&rt, &mut jobs, root(2), None)?;
-    assert_eq!(rt; jobs.take(one).map(|job| job.root), Some(root(1)));
-    assert!(rt; jobs.take(one).is_none());
+    assert!(rt; takes(&mut jobs, one, root(1)));
+    assert!(rt; !takes(&mut jobs, one, root(1)));
     assert_eq!(rt; jobs.len(), 1);
     assert!(rt; is_open(&jobs, two));
     Ok(())
@@ -276,15 +312,12 @@ fn vpes_wait_until_they_leave_all_jobs(rt: HostRuntime) -> Result<(), Fail> {
     wait(&rt, &mut jobs, one, 64);
     wait(&rt, &mut jobs, one, 127);
     wait(&rt, &mut jobs, two, 127);
-    let (_, _, _, _, vpes) = shown(rt.alloc(), &jobs, one)?;
-    assert_eq!(rt; vpes.as_slice(), [0, 64, 127].as_slice());
-    jobs.leave(63);
-    jobs.leave(128);
-    jobs.leave(127);
-    let (_, _, _, _, vpes) = shown(rt.alloc(), &jobs, one)?;
-    assert_eq!(rt; vpes.as_slice(), [0, 64].as_slice());
-    let (_, _, _, _, vpes) = shown(rt.alloc(), &jobs, two)?;
-    assert!(rt; vpes.is_empty());
+    assert!(rt; is_awaited_by(rt.alloc(), &jobs, one, [0, 64, 127].as_slice())?);
+    leave(&mut jobs, 63);
+    leave(&mut jobs, 128);
+    leave(&mut jobs, 127);
+    assert!(rt; is_awaited_by(rt.alloc(), &jobs, one, [0, 64].as_slice())?);
+    assert!(rt; is_awaited_by(rt.alloc(), &jobs, two, [].as_slice())?);
     Ok(())
 }
 
@@ -308,9 +341,7 @@ fn four_in_a_row(rt: &impl Abort, jobs: &mut Jobs, last_up: Option<Up>) -> Resul
 fn a_chain_is_finished_in_its_order(rt: HostRuntime) -> Result<(), Fail> {
     let mut jobs = Jobs::new(rt.alloc())?;
     four_in_a_row(&rt, &mut jobs, None)?;
-    let gone = finish(&rt, rt.alloc(), &mut jobs, 0)?;
-    assert_eq!(rt; ids(rt.alloc(), &gone)?.as_slice(), [0, 1, 2, 3].as_slice());
-    assert!(rt; gone.iter().all(|job| job.outstanding == 0));
+    assert!(rt; finishes(&rt, rt.alloc(), &mut jobs, 0, [0, 1, 2, 3].as_slice())?);
     assert_eq!(rt; jobs.len(), 0);
     assert_eq!(rt; open(&rt, &mut jobs, root(5), None)?, 4);
     Ok(())
@@ -321,10 +352,9 @@ fn a_chain_ends_at_a_job_that_waits_for_more(rt: HostRuntime) -> Result<(), Fail
     let mut jobs = Jobs::new(rt.alloc())?;
     four_in_a_row(&rt, &mut jobs, None)?;
     add(&rt, &mut jobs, 2);
-    let gone = finish(&rt, rt.alloc(), &mut jobs, 0)?;
-    assert_eq!(rt; ids(rt.alloc(), &gone)?.as_slice(), [0, 1].as_slice());
-    let (_, _, count, _, _) = shown(rt.alloc(), &jobs, 2)?;
-    assert_eq!(rt; (count, jobs.len()), (1, 2));
+    assert!(rt; finishes(&rt, rt.alloc(), &mut jobs, 0, [0, 1].as_slice())?);
+    assert!(rt; is_as(&jobs, 2, root(2), 1, Some(Up::Local { job: 3 })));
+    assert_eq!(rt; jobs.len(), 2);
     Ok(())
 }
 
@@ -338,8 +368,7 @@ fn a_chain_ends_at_a_job_of_another_kernel(rt: HostRuntime) -> Result<(), Fail> 
         job: other,
     });
     let job = open(&rt, &mut jobs, root(2), elsewhere)?;
-    let gone = finish(&rt, rt.alloc(), &mut jobs, job)?;
-    assert_eq!(rt; ids(rt.alloc(), &gone)?.as_slice(), [job].as_slice());
+    assert!(rt; finishes(&rt, rt.alloc(), &mut jobs, job, [job].as_slice())?);
     assert!(rt; has_token(&jobs, other), "it has the same number here");
     Ok(())
 }
@@ -348,11 +377,9 @@ fn a_chain_ends_at_a_job_of_another_kernel(rt: HostRuntime) -> Result<(), Fail> 
 fn a_chain_ends_where_the_next_job_is_not_there(rt: HostRuntime) -> Result<(), Fail> {
     let mut jobs = Jobs::new(rt.alloc())?;
     four_in_a_row(&rt, &mut jobs, Some(Up::Local { job: 7 }))?;
-    let gone = finish(&rt, rt.alloc(), &mut jobs, 0)?;
-    assert_eq!(rt; ids(rt.alloc(), &gone)?.as_slice(), [0, 1, 2, 3].as_slice());
+    assert!(rt; finishes(&rt, rt.alloc(), &mut jobs, 0, [0, 1, 2, 3].as_slice())?);
     let itself = open(&rt, &mut jobs, root(1), Some(Up::Local { job: 4 }))?;
-    let gone = finish(&rt, rt.alloc(), &mut jobs, itself)?;
-    assert_eq!(rt; ids(rt.alloc(), &gone)?.as_slice(), [4].as_slice());
+    assert!(rt; finishes(&rt, rt.alloc(), &mut jobs, itself, [4].as_slice())?);
     Ok(())
 }
 
@@ -361,8 +388,7 @@ fn a_chain_ends_at_a_job_without_a_token(rt: HostRuntime) -> Result<(), Fail> {
     let mut jobs = Jobs::new(rt.alloc())?;
     let above = open(&rt, &mut jobs, root(1), None)?;
     let job = open(&rt, &mut jobs, root(2), Some(Up::Local { job: above }))?;
-    let gone = finish(&rt, rt.alloc(), &mut jobs, job)?;
-    assert_eq!(rt; ids(rt.alloc(), &gone)?.as_slice(), [job].as_slice());
+    assert!(rt; finishes(&rt, rt.alloc(), &mut jobs, job, [job].as_slice())?);
     assert!(rt;
         is_done(&jobs, above),
         "it is there, and finished by nobody"
@@ -379,9 +405,8 @@ fn after_want_of_memory_the_jobs_are_as_before(rt: HostRuntime) -> Result<(), Fa
     // With `rt try --test --fail-alloc 3` and `4` there is no memory here either.
     let is_refused = jobs.room(100).is_err();
     assert_eq!(rt; jobs.len(), 1, "refused: {is_refused}");
-    let (id, key, count, up, vpes) = shown(rt.alloc(), &jobs, job)?;
-    assert_eq!(rt; (id, key, count, up), (job, root(1), 0, None));
-    assert_eq!(rt; vpes.as_slice(), [5].as_slice());
+    assert!(rt; is_as(&jobs, job, root(1), 0, None));
+    assert!(rt; is_awaited_by(rt.alloc(), &jobs, job, [5].as_slice())?);
     Ok(())
 }
 
@@ -401,25 +426,36 @@ fn working_space_is_empty_and_has_room(rt: HostRuntime) -> Result<(), Fail> {
     Ok(())
 }
 
-#[test]
-fn after_want_of_memory_the_working_space_is_as_before(rt: HostRuntime) -> Result<(), Fail> {
-    let mut jobs = Jobs::new(rt.alloc())?;
-    let id = open(&rt, &mut jobs, root(1), None)?;
-    let mut scratch = Scratch::new(rt.alloc());
+// Working space with something in each part: of the jobs, that one.
+fn filled(alloc: Global, jobs: &Jobs, job: u32) -> Result<Scratch, Fail> {
+    let mut scratch = Scratch::new(alloc);
     scratch.room(1, 1)?;
     scratch.keys.push_reserved(root(1));
     scratch.links.push_reserved(root(3));
     scratch.gone.push_reserved((root(2), 9));
-    if let Some(job) = jobs.get(id) {
+    if let Some(job) = jobs.get(job) {
         scratch.jobs.push_reserved(job);
     }
+    Ok(scratch)
+}
+
+// Whether all of that is still in it.
+fn is_filled(scratch: &Scratch, job: u32) -> bool {
+    scratch.keys.as_slice() == [root(1)].as_slice()
+        && scratch.links.as_slice() == [root(3)].as_slice()
+        && scratch.gone.as_slice() == [(root(2), 9)].as_slice()
+        && scratch.jobs.first().is_some_and(|first| first.id == job)
+}
+
+#[test]
+fn after_want_of_memory_the_working_space_is_as_before(rt: HostRuntime) -> Result<(), Fail> {
+    let mut jobs = Jobs::new(rt.alloc())?;
+    let id = open(&rt, &mut jobs, root(1), None)?;
+    let mut scratch = filled(rt.alloc(), &jobs, id)?;
     for (keys, jobs) in [(usize::MAX, 1), (1, usize::MAX), (1000, 1000)] {
         // With `rt try --test --fail-alloc N` there is no memory for one of the last four here, N from 7 to 10.
         if scratch.room(keys, jobs).is_err() {
-            assert_eq!(rt; scratch.keys.as_slice(), [root(1)].as_slice());
-            assert_eq!(rt; scratch.links.as_slice(), [root(3)].as_slice());
-            assert_eq!(rt; scratch.gone.as_slice(), [(root(2), 9)].as_slice());
-            assert_eq!(rt; scratch.jobs.first().map(|job| job.id), Some(id));
+            assert!(rt; is_filled(&scratch, id));
         }
     }
     Ok(())
