@@ -251,8 +251,7 @@ impl Jobs {
         self.spots.len()
     }
 
-    // How many ids were drawn.
-    #[cfg(test)]
+    /// How many ids were drawn.
     pub fn drawn(&self) -> u32
         ensures { result ≡ self.now.next }
     {

@@ -3,12 +3,8 @@
 
 mod job;
 mod jobs;
-#[cfg(test)]
-mod random_tests;
 mod scratch;
 mod spot;
-#[cfg(test)]
-mod tests;
 mod vpe_list;
 
 pub use job::Job;

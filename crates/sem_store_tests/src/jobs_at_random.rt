@@ -1,10 +1,10 @@
 // Calls in an order that a generator draws, beside plain rows in no order.
 ghost use Rattle.std.specs.Prelude.{◌≤◌, ◌<◌, length, IfSome};
 
-use crate::tests::{add, done, finish, keep, open_for, root, wait, waiters};
-use crate::{Job, Jobs, Up};
+use crate::jobs::{add, done, finish, keep, open_for, root, wait, waiters};
 use rand_core::utils::NextWord;
 use rand_pcg::Lcg64Xsh32;
+use sem_jobs::{Job, Jobs, Up};
 use sem_key::{Key, VPES};
 use std::alloc::Global;
 use std::process::Abort;

@@ -1,7 +1,7 @@
 ghost use Rattle.std.specs.Prelude.{◌≡◌, ◌≤◌, ◌<◌, IsTrue, None, IsSome, IsSomeAnd, IfSome};
 ghost use Rattle.sem_msg.specs.JobRows.{job_of};
 
-use crate::{Job, Jobs, Scratch, Up, VpeList};
+use sem_jobs::{Job, Jobs, Scratch, Up, VpeList};
 use sem_key::{Key, Kind, OutOfMemory, VPES};
 use std::alloc::Global;
 use std::process::Abort;

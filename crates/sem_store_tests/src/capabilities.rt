@@ -1,7 +1,7 @@
 ghost use Rattle.std.specs.Prelude.{◌≡◌, ◌≤◌, ◌<◌, None, IsTrue, IsSome, IsSomeAnd};
 ghost use Rattle.sem_key.specs.CapList.{cap_of};
 
-use crate::Caps;
+use sem_caps::Caps;
 use sem_key::{Cap, Key, Kind, Object, OutOfMemory, VPES};
 use std::alloc::Global;
 use std::process::Abort;

@@ -1,7 +1,7 @@
 use Rattle.std.proofs.Common.{◌≤◌, not, length, refl, arith, rules}
 use Rattle.std.proofs.lemmas.List.Filters.{length-filter_both}
 use Rattle.sem_key.specs.CapList.{is_marked_by, marked_by}
-use Rattle.sem_caps.proofs.tests.sweep.Goals as goal
+use Rattle.sem_store_tests.proofs.capabilities.sweep.Goals as goal
 
 -- no more are marked than are held
 pub remove_marked-requires : goal.remove_marked-requires

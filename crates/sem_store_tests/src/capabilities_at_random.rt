@@ -1,10 +1,10 @@
 // Calls in an order that a generator draws, beside plain rows in no order.
 ghost use Rattle.std.specs.Prelude.{◌≤◌, ◌<◌, length, IfSome};
 
-use crate::Caps;
-use crate::tests::{children, key, link, mark, put, restore, sweep};
+use crate::capabilities::{children, key, link, mark, put, restore, sweep};
 use rand_core::utils::NextWord;
 use rand_pcg::Lcg64Xsh32;
+use sem_caps::Caps;
 use sem_key::{Key, pack};
 use std::alloc::Global;
 use std::process::Abort;

@@ -1,8 +1,8 @@
 // Many capabilities in falling order, beside a plain list.
 ghost use Rattle.std.specs.Prelude.{◌≤◌};
 
-use crate::Caps;
-use crate::tests::{key, mark, put, sweep};
+use crate::capabilities::{key, mark, put, sweep};
+use sem_caps::Caps;
 use std::process::Abort;
 use std::test::Fail;
 
