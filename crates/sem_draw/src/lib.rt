@@ -23,4 +23,4 @@ pub use lines::WIDTH;
 pub use std::alloc::AllocError as OutOfMemory;
 pub use tree::{Node, State};
 pub use tree_svg::tree_as_svg;
-pub use tree_text::tree_as_text;
+pub use tree_text::{LEVELS, tree_as_text};

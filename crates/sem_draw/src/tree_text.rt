@@ -4,8 +4,8 @@ use crate::lines::{WIDTH, push_blanks, wrapped};
 use crate::tree::{Node, Visit, walk};
 use std::alloc::Global;
 
-/// The most levels that are drawn; what stands deeper stands below the last of them.
-const LEVELS: usize = 12;
+/// The most levels that are drawn below a root; what stands deeper stands at the last of them.
+pub const LEVELS: usize = 12;
 
 /// The fewest columns that are left to what is said of a node.
 const TEXT: usize = 36;

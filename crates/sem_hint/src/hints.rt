@@ -55,6 +55,17 @@ pub fn refusal_text(
     Ok(out)
 }
 
+/// Why the text, of which a report was wanted, is none.
+pub fn no_report_text(
+    alloc: Global,
+    text: &[u8],
+    fault: &TraceFault,
+) -> Result<String, OutOfMemory> {
+    let mut out = String::from_str(alloc, "the input is no report: ")?;
+    out.push_str(refusal_text(alloc, text, fault, true)?.as_str())?;
+    Ok(out)
+}
+
 /// Whether the text begins as a report does.
 pub fn tells_report(alloc: Global, text: &[u8]) -> Result<bool, OutOfMemory> {
     let lines = lines_of(alloc, text)?;

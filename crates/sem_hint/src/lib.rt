@@ -11,7 +11,7 @@ mod places;
 mod tests;
 mod words;
 
-pub use hints::{refusal_text, tells_report};
+pub use hints::{no_report_text, refusal_text, tells_report};
 /// Memory was refused.
 pub use std::alloc::AllocError as OutOfMemory;
 pub use words::key_text;

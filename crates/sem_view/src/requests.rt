@@ -5,11 +5,11 @@ use crate::stats::stats_of;
 use crate::stats_json::stats_as_json;
 use crate::stats_text::stats_as_text;
 use sem_draw::{Answer, Chart, Ending, Picture, chart_as_svg, chart_as_text, fits};
-use sem_hint::refusal_text;
+use sem_hint::no_report_text;
 use sem_key::OutOfMemory;
 use sem_msg::{Journal, Setup};
 use sem_report::read_report;
-use sem_trace::{TraceError, TraceFault};
+use sem_trace::TraceError;
 use std::alloc::Global;
 
 /// The most rows of a chart.
@@ -34,18 +34,11 @@ pub fn respond(alloc: Global, request: &Request, bytes: &[u8]) -> Result<Answer,
     match read_report(alloc, bytes) {
         Ok((setup, journal, _)) => respond_with(alloc, request, &setup, &journal),
         Err(TraceError::Refused(fault)) => {
-            let text = refused(alloc, bytes, &fault)?;
+            let text = no_report_text(alloc, bytes, &fault)?;
             Ok(Answer::failed(alloc, Ending::Refused, text))
         }
         Err(TraceError::Memory) => Err(OutOfMemory),
     }
-}
-
-// Why the bytes are no report.
-fn refused(alloc: Global, bytes: &[u8], fault: &TraceFault) -> Result<String, OutOfMemory> {
-    let mut text = String::from_str(alloc, "the input is no report: ")?;
-    text.push_str(refusal_text(alloc, bytes, fault, true)?.as_str())?;
-    Ok(text)
 }
 
 // The answer to a request on a report with that setup and journal.

@@ -2,14 +2,18 @@
 //! error.
 #![tactic(auto)]
 
+ghost use Rattle.std.specs.Prelude.{◌≤◌, length};
+
 mod words;
 
-use crate::words::read_words;
+use crate::words::{Asked, read_words};
 use clap::error::ErrorKind;
 use sem_draw::{Answer, Ending};
+use sem_explain::explain;
 use sem_io::{ReadError, ReadSource, WriteSink, read_all, write_all};
-use sem_view::{Request, respond};
-use std::alloc::AllocError;
+use sem_tree::tree;
+use sem_view::respond;
+use std::alloc::{AllocError, Global};
 use std::env;
 use std::process::ExitCode;
 
@@ -28,7 +32,7 @@ fn main(rt: HostRuntime) -> ExitCode {
         Err(_) => return fault(&rt, "a word is no text"),
     };
     match read_words(rt.alloc(), words.as_slice()) {
-        Ok(request) => answer(&rt, &request),
+        Ok(asked) => answer(&rt, &asked),
         Err(error) => {
             if error.kind() == ErrorKind::OutOfMemory {
                 return fault(&rt, "out of memory");
@@ -41,17 +45,28 @@ fn main(rt: HostRuntime) -> ExitCode {
     }
 }
 
-// Reads the input, and writes the answer to the request.
-fn answer(rt: &HostRuntime, request: &Request) -> ExitCode {
+// Reads the input, and writes the answer to what is asked.
+fn answer(rt: &HostRuntime, asked: &Asked) -> ExitCode {
     let mut input = ReadSource::new(rt.stdin());
     let bytes = match read_all(rt.alloc(), &mut input, MOST_BYTES) {
         Ok(bytes) => bytes,
         Err(ReadError::Fault) => return fault(rt, "the input could not be read"),
         Err(ReadError::Memory) => return fault(rt, "out of memory"),
     };
-    match respond(rt.alloc(), request, bytes.as_slice()) {
+    match answer_to(rt.alloc(), asked, bytes.as_slice()) {
         Ok(answer) => write(rt, &answer),
         Err(AllocError) => fault(rt, "out of memory"),
+    }
+}
+
+// The answer to what is asked, with these bytes as the input.
+fn answer_to(alloc: Global, asked: &Asked, bytes: &[u8]) -> Result<Answer, AllocError>
+    requires few { length bytes.now ≤ 134217729 }
+{
+    match asked {
+        Asked::View { request } => respond(alloc, request, bytes),
+        Asked::Tree { request } => tree(alloc, request, bytes),
+        Asked::Explain => explain(alloc, bytes),
     }
 }
 

@@ -1,14 +1,26 @@
 // The words of the command line.
 use clap::{Arg, ArgAction, ArgMatches, Command, Error};
 use sem_draw::Picture;
+use sem_tree::TreeRequest;
 use sem_view::Request;
 use std::alloc::{AllocError, Global};
 
 /// A number of an entry, as its place in the help says.
 const NUMBER: &str = "N";
 
+/// What the words ask for.
+#[derive(Debug, Drop)]
+pub enum Asked {
+    /// A chart or counts.
+    View { request: Request },
+    /// A forest.
+    Tree { request: TreeRequest },
+    /// Why the input is refused.
+    Explain,
+}
+
 /// What the words ask for, or what is to be told of them: a mistake, the help or the version.
-pub fn read_words(alloc: Global, words: &[String]) -> Result<Request, Error> {
+pub fn read_words(alloc: Global, words: &[String]) -> Result<Asked, Error> {
     let mut texts = Vec::new(alloc);
     for word in words {
         texts.push(word.as_str())?;
@@ -18,18 +30,34 @@ pub fn read_words(alloc: Global, words: &[String]) -> Result<Request, Error> {
 }
 
 // What the matches ask for.
-fn asked(alloc: Global, matches: &ArgMatches<'_>) -> Result<Request, AllocError> {
+fn asked(alloc: Global, matches: &ArgMatches<'_>) -> Result<Asked, AllocError> {
     match matches.subcommand() {
-        Some(("chart", chart)) => Ok(Request::Chart {
-            picture: picture(chart),
-            from: chart.get_one::<u64>("from"),
-            to: chart.get_one::<u64>("to"),
-            kernels: kernels(alloc, chart)?,
+        Some(("tree", tree)) => Ok(Asked::Tree {
+            request: TreeRequest {
+                picture: picture(tree),
+                at: tree.get_one::<u64>("at"),
+            },
         }),
-        Some((_, stats)) => Ok(Request::Stats {
-            is_json: stats.get_flag("json"),
+        Some(("explain", _)) => Ok(Asked::Explain),
+        Some((name, view)) => Ok(Asked::View {
+            request: viewed(alloc, name, view)?,
         }),
-        None => Ok(Request::Stats { is_json: false }),
+        None => Ok(Asked::Explain),
+    }
+}
+
+// What the command of that name, one that shows a journal, asks for.
+fn viewed(alloc: Global, name: &str, matches: &ArgMatches<'_>) -> Result<Request, AllocError> {
+    match name {
+        "chart" => Ok(Request::Chart {
+            picture: picture(matches),
+            from: matches.get_one::<u64>("from"),
+            to: matches.get_one::<u64>("to"),
+            kernels: kernels(alloc, matches)?,
+        }),
+        _ => Ok(Request::Stats {
+            is_json: matches.get_flag("json"),
+        }),
     }
 }
 
@@ -59,7 +87,36 @@ fn kernels(alloc: Global, matches: &ArgMatches<'_>) -> Result<Vec<u32>, AllocErr
 
 // The command line.
 fn command<'a>(alloc: Global) -> Result<Command<'a>, AllocError> {
-    let chart = pictured(
+    let stats = Command::new(alloc, "stats")
+        .about("Count the events, messages and replies of a report")
+        .arg(flag(alloc, "json", "Write JSON"))?;
+    let tree = pictured(
+        alloc,
+        Command::new(alloc, "tree").about("Draw the capabilities of a report as a forest"),
+    )?
+    .arg(number(
+        alloc,
+        "at",
+        "After how many entries; after all where it is not given",
+    ))?;
+    let explain = Command::new(alloc, "explain").about(
+        "Tell why a trace or a report is refused, or that it is accepted",
+    );
+    Command::new(alloc, "semper-view")
+        .version("1")
+        .no_binary_name(true)
+        .about("Shows what the reports of semper tell. A report is read from standard input.")
+        .subcommand_required(true)
+        .arg_required_else_help(true)
+        .subcommand(chart(alloc)?)?
+        .subcommand(stats)?
+        .subcommand(tree)?
+        .subcommand(explain)
+}
+
+// The command that draws a chart.
+fn chart<'a>(alloc: Global) -> Result<Command<'a>, AllocError> {
+    pictured(
         alloc,
         Command::new(alloc, "chart").about("Draw the messages of a report, entry by entry"),
     )?
@@ -73,18 +130,7 @@ fn command<'a>(alloc: Global) -> Result<Command<'a>, AllocError> {
             .action(ArgAction::Append)
             .value_parser(clap::value_parser!(u32))
             .help("The kernels that are shown, as 0,2"),
-    )?;
-    let stats = Command::new(alloc, "stats")
-        .about("Count the events, messages and replies of a report")
-        .arg(flag(alloc, "json", "Write JSON"))?;
-    Command::new(alloc, "semper-view")
-        .version("1")
-        .no_binary_name(true)
-        .about("Shows what the reports of semper tell. A report is read from standard input.")
-        .subcommand_required(true)
-        .arg_required_else_help(true)
-        .subcommand(chart)?
-        .subcommand(stats)
+    )
 }
 
 // The command with the flags of a picture.

@@ -1,0 +1,18 @@
+//! The capabilities after the first entries of a report, as a forest.
+#![tactic(auto)]
+
+mod causes;
+mod nodes;
+mod places;
+mod rows;
+mod standings;
+mod takings;
+#[cfg(test)]
+mod tests;
+mod trees;
+mod walks;
+mod words;
+
+pub use rows::{TreeRow, tree_rows};
+pub use takings::takes;
+pub use trees::{KEYS, TreeRequest, tree};

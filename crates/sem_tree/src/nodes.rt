@@ -1,0 +1,159 @@
+// The rows of a forest as nodes that can be drawn.
+use crate::causes::{cause_text, clear_of};
+use crate::places::Places;
+use crate::rows::TreeRow;
+use crate::standings::{Hold, Holds};
+use crate::takings::takings;
+use crate::walks::{Binding, Walk};
+use crate::words::object_text;
+use sem_draw::{LEVELS, Node, State};
+use sem_hint::key_text;
+use sem_key::{Key, Object, OutOfMemory};
+use sem_msg::{Entry, Setup};
+use std::alloc::Global;
+
+/// The nodes of the rows, of which each is one, after these entries.
+pub fn nodes_of(
+    alloc: Global,
+    setup: &Setup,
+    rows: &[TreeRow],
+    entries: &[Entry],
+    walk: &Walk,
+) -> Result<Vec<Node>, OutOfMemory> {
+    let places = Places::of_rows(alloc, rows)?;
+    let taken = takings(alloc, rows, &places, entries)?;
+    let holds = Holds::of_world(alloc, &walk.world)?;
+    let mut depths: Vec<usize> = Vec::new(alloc);
+    let mut nodes = Vec::new(alloc);
+    for (place, row) in rows.iter().enumerate() {
+        let parent = row.parent.and_then(|parent| places.of(parent));
+        let depth = depth_below(depths.as_slice(), parent);
+        let hold = holds.of(row.key);
+        let taker = taken.get(place).copied().flatten();
+        let state = state_of(row.key, hold, walk);
+        let mut text = place_text(alloc, setup, row.key, state, hold)?;
+        push_endpoints(alloc, &mut text, row.key, walk.bindings.as_slice())?;
+        push_cause(alloc, &mut text, entries, row.key, state, taker)?;
+        push_object(alloc, &mut text, walk.objects.get(place))?;
+        push_deep(alloc, &mut text, row, depth)?;
+        nodes.push(Node {
+            parent,
+            name: key_text(alloc, &row.key)?,
+            text,
+            state,
+        })?;
+        depths.push(depth)?;
+    }
+    Ok(nodes)
+}
+
+// How many nodes stand above one with that parent.
+fn depth_below(depths: &[usize], parent: Option<usize>) -> usize {
+    match parent.and_then(|place| depths.get(place)) {
+        Some(depth) => depth.saturating_add(1),
+        None => 0,
+    }
+}
+
+// Appends from what a key was made that stands deeper than text shows.
+fn push_deep(
+    alloc: Global,
+    text: &mut String,
+    row: &TreeRow,
+    depth: usize,
+) -> Result<(), OutOfMemory> {
+    if depth > LEVELS
+        && let Some(parent) = row.parent
+    {
+        text.push_str("; made from ")?;
+        text.push_str(key_text(alloc, &parent)?.as_str())?;
+    }
+    Ok(())
+}
+
+// What has become of a key that is held so.
+fn state_of(key: Key, hold: Option<Hold>, walk: &Walk) -> State {
+    match hold {
+        Some(hold) if hold.is_marked => State::Marked,
+        Some(_) => State::Held,
+        None if walk.is_on_its_way(key) => State::OnItsWay,
+        None => State::Gone,
+    }
+}
+
+// What has become of a key, who has it, and at which selector.
+fn place_text(
+    alloc: Global,
+    setup: &Setup,
+    key: Key,
+    state: State,
+    hold: Option<Hold>,
+) -> Result<String, OutOfMemory> {
+    let vpe = key.vpe;
+    let kernel = setup.kernel_of(vpe);
+    let words = match state {
+        State::Held => "held by",
+        State::Marked => "marked, held by",
+        State::OnItsWay => "on its way to",
+        State::Gone => "gone from",
+    };
+    let mut text = format!(in alloc; "{words} v{vpe} of K{kernel}")?;
+    if let Some(hold) = hold {
+        let selector = hold.selector;
+        text.push_str(format!(in alloc; " at selector {selector}")?.as_str())?;
+    }
+    Ok(text)
+}
+
+// Appends the endpoints that are bound to a key.
+fn push_endpoints(
+    alloc: Global,
+    text: &mut String,
+    key: Key,
+    bindings: &[Binding],
+) -> Result<(), OutOfMemory> {
+    let mut begin = " and endpoint";
+    for bound in bindings {
+        if bound.key == key {
+            let endpoint = bound.endpoint;
+            text.push_str(format!(in alloc; "{begin} {endpoint}")?.as_str())?;
+            begin = ",";
+        }
+    }
+    Ok(())
+}
+
+// Appends what takes the key, if something does: the entry `taker`, or a clear that keeps it.
+fn push_cause(
+    alloc: Global,
+    text: &mut String,
+    entries: &[Entry],
+    key: Key,
+    state: State,
+    taker: Option<usize>,
+) -> Result<(), OutOfMemory> {
+    let (words, cause) = match (taker, state) {
+        (Some(_), State::Gone) => (" by ", taker),
+        (Some(_), _) => (", to go by ", taker),
+        (None, State::Marked) => (", until the end of ", clear_of(entries, key)),
+        (None, _) => return Ok(()),
+    };
+    let Some(number) = cause else {
+        return Ok(());
+    };
+    text.push_str(words)?;
+    text.push_str(cause_text(alloc, entries, number)?.as_str())
+}
+
+// Appends what the key gives its holder.
+fn push_object(
+    alloc: Global,
+    text: &mut String,
+    object: Option<&Object>,
+) -> Result<(), OutOfMemory> {
+    let Some(object) = object else {
+        return Ok(());
+    };
+    text.push_str("; ")?;
+    text.push_str(object_text(alloc, object)?.as_str())
+}

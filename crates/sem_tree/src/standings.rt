@@ -1,0 +1,70 @@
+// What has become of keys.
+use sem_kernel::{Kernel, World};
+use sem_key::{Cap, Key, OutOfMemory, pack, same_key};
+use std::alloc::Global;
+
+/// The most turns of a search among capabilities.
+const TURNS: usize = 64;
+
+/// The capability of the key in the kernel, if it holds it. It holds them in rising key order.
+pub fn held_in(kernel: &Kernel, key: Key) -> Option<&Cap> {
+    let (mut low, mut high) = (0usize, kernel.capability_count());
+    for _ in 0..TURNS {
+        if low >= high {
+            break;
+        }
+        let middle = low.midpoint(high);
+        match kernel.capability(middle) {
+            Some(cap) if pack(cap.key) < pack(key) => low = middle.saturating_add(1),
+            _ => high = middle,
+        }
+    }
+    kernel
+        .capability(low)
+        .filter(|cap| same_key(&cap.key, &key))
+}
+
+/// Where a key is held, and whether it is marked there.
+#[derive(Clone, Copy, Debug)]
+pub struct Hold {
+    pub selector: u8,
+    pub is_marked: bool,
+}
+
+/// What the kernels hold, by key.
+#[derive(Drop)]
+pub struct Holds {
+    // In rising order of the packed words of the keys.
+    sorted: Vec<(u64, Hold)>,
+}
+
+impl Holds {
+    /// What the kernels of the world hold.
+    pub fn of_world(alloc: Global, world: &World) -> Result<Holds, OutOfMemory> {
+        let mut sorted = Vec::new(alloc);
+        for kernel in world.kernels() {
+            for place in 0..kernel.capability_count() {
+                if let Some(cap) = kernel.capability(place) {
+                    sorted.push((pack(cap.key), hold_of(cap)))?;
+                }
+            }
+        }
+        sorted.sort_by_key(|one| one.0)?;
+        Ok(Holds { sorted })
+    }
+
+    /// Where the key is held, if it is.
+    pub fn of(&self, key: Key) -> Option<Hold> {
+        let word = pack(key);
+        let at = self.sorted.binary_search_by_key(&word, |one| one.0).ok()?;
+        self.sorted.get(at).map(|one| one.1)
+    }
+}
+
+// Where a capability stands.
+fn hold_of(cap: &Cap) -> Hold {
+    Hold {
+        selector: cap.selector,
+        is_marked: cap.mark.is_some(),
+    }
+}

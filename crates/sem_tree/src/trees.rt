@@ -1,0 +1,100 @@
+// What is asked for, and what is answered.
+use crate::nodes::nodes_of;
+use crate::rows::tree_rows;
+use crate::walks::Walk;
+use sem_draw::{Answer, Ending, Node, Picture, tree_as_svg, tree_as_text};
+use sem_hint::no_report_text;
+use sem_key::OutOfMemory;
+use sem_msg::{Entry, Journal, Setup};
+use sem_report::read_report;
+use sem_trace::TraceError;
+use std::alloc::Global;
+
+/// The most keys of a forest.
+pub const KEYS: usize = 10_000;
+
+/// What is asked for: the forest after the first `at` entries, or after all of them.
+#[derive(Clone, Copy, Debug)]
+pub struct TreeRequest {
+    pub picture: Picture,
+    pub at: Option<u64>,
+}
+
+/// The answer to the request, with these bytes as the input.
+pub fn tree(alloc: Global, request: &TreeRequest, bytes: &[u8]) -> Result<Answer, OutOfMemory> {
+    match read_report(alloc, bytes) {
+        Ok((setup, journal, _)) => tree_of(alloc, request, &setup, &journal),
+        Err(TraceError::Refused(fault)) => {
+            let text = no_report_text(alloc, bytes, &fault)?;
+            Ok(Answer::failed(alloc, Ending::Refused, text))
+        }
+        Err(TraceError::Memory) => Err(OutOfMemory),
+    }
+}
+
+// The answer to the request on a report with that setup and journal.
+fn tree_of(
+    alloc: Global,
+    request: &TreeRequest,
+    setup: &Setup,
+    journal: &Journal,
+) -> Result<Answer, OutOfMemory> {
+    let all = journal.len() as u64;
+    let at = request.at.unwrap_or(all);
+    if at > all {
+        let text = format!(in alloc; "there are no {at} entries: the report has {all}\n")?;
+        return Ok(Answer::failed(alloc, Ending::WrongWords, text));
+    }
+    let count = at as usize;
+    let entries = &journal.as_slice()[..count];
+    let keys = key_count(setup, entries);
+    if keys > KEYS {
+        let text = format!(in alloc;
+            "the forest would have {keys} keys, and {KEYS} are the most: name fewer entries by --at\n"
+        )?;
+        return Ok(Answer::failed(alloc, Ending::WrongWords, text));
+    }
+    let mut walk = Walk::start(alloc, setup)?;
+    if let Some(number) = first_wrong(&mut walk, setup, entries)? {
+        let text = format!(in alloc;
+            "entry {number} is not the one that the machine makes: semper-view explain tells more\n"
+        )?;
+        return Ok(Answer::failed(alloc, Ending::Refused, text));
+    }
+    let rows = tree_rows(alloc, setup, journal, count)?;
+    let nodes = nodes_of(alloc, setup, rows.as_slice(), entries, &walk)?;
+    Ok(Answer::done(alloc, draw(alloc, nodes.as_slice(), request.picture)?))
+}
+
+// How many keys the setup and the entries make.
+fn key_count(setup: &Setup, entries: &[Entry]) -> usize {
+    let mut count = 0usize;
+    for decl in setup.vpes.as_slice() {
+        count = count.saturating_add(decl.roots.len());
+    }
+    let granted = entries.iter().filter(|entry| entry.grant.is_some());
+    count.saturating_add(granted.count())
+}
+
+// The number of the first entry that is not the one that its event makes, if there is one.
+fn first_wrong(
+    walk: &mut Walk,
+    setup: &Setup,
+    entries: &[Entry],
+) -> Result<Option<usize>, OutOfMemory> {
+    for (number, entry) in entries.iter().enumerate() {
+        if !walk.go_on(setup, entry)? {
+            return Ok(Some(number));
+        }
+    }
+    Ok(None)
+}
+
+// The forest, drawn.
+fn draw(alloc: Global, nodes: &[Node], picture: Picture) -> Result<String, OutOfMemory> {
+    match picture {
+        Picture::Svg => tree_as_svg(alloc, nodes),
+        Picture::Boxes => tree_as_text(alloc, nodes, false),
+        Picture::Plain => tree_as_text(alloc, nodes, true),
+    }
+}
