@@ -1,9 +1,9 @@
 //! Why a trace or a report is refused.
 #![tactic(auto)]
 
-mod explain;
+mod explanations;
 #[cfg(test)]
 mod tests;
 mod texts;
 
-pub use explain::explain;
+pub use explanations::explain;
