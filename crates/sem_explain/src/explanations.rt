@@ -108,8 +108,13 @@ fn explain_journal(
 
 // The audit of a journal that is a complete schedule of the setup, else what is wrong with it.
 fn audit_complete(alloc: Global, setup: &Setup, journal: &Journal) -> Result<Audit, CheckError> {
-    let world = check(alloc, setup, journal)?;
-    Ok(audit_of(alloc, setup, journal, world.kernels())?)
+    match check(alloc, setup, journal) {
+        Ok(world) => match audit_of(alloc, setup, journal, world.kernels()) {
+            Ok(audit) => Ok(audit),
+            Err(OutOfMemory) => Err(CheckError::Memory),
+        },
+        Err(error) => Err(error),
+    }
 }
 
 // Whether the report of a complete schedule has this audit.
