@@ -26,11 +26,11 @@ pub fn read_words(alloc: Global, words: &[String]) -> Result<Asked, Error> {
         texts.push(word.as_str())?;
     }
     let matches = command(alloc)?.try_get_matches_from(texts.as_slice())?;
-    Ok(asked(alloc, &matches)?)
+    Ok(meant(alloc, &matches)?)
 }
 
 // What the matches ask for.
-fn asked(alloc: Global, matches: &ArgMatches<'_>) -> Result<Asked, AllocError> {
+fn meant(alloc: Global, matches: &ArgMatches<'_>) -> Result<Asked, AllocError> {
     match matches.subcommand() {
         Some(("tree", tree)) => Ok(Asked::Tree {
             request: TreeRequest {
