@@ -8,8 +8,6 @@ mod chart_svg;
 mod chart_text;
 mod lines;
 mod svg;
-#[cfg(test)]
-mod tests;
 mod tree;
 mod tree_svg;
 mod tree_text;

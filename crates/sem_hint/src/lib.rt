@@ -7,8 +7,6 @@ mod earlier;
 mod forms;
 mod hints;
 mod places;
-#[cfg(test)]
-mod tests;
 mod words;
 
 pub use hints::{no_report_text, refusal_text, tells_report};

@@ -7,8 +7,6 @@ mod places;
 mod rows;
 mod standings;
 mod takings;
-#[cfg(test)]
-mod tests;
 mod trees;
 mod walks;
 mod words;

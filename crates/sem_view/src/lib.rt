@@ -13,8 +13,6 @@ mod rows;
 mod stats;
 mod stats_json;
 mod stats_text;
-#[cfg(test)]
-mod tests;
 
 pub use charts::{Range, chart_of};
 pub use counts::{count_between, count_code, count_event, count_message, message_number};

@@ -1,7 +1,7 @@
-use crate::{TreeRequest, takes, tree, tree_rows};
 use sem_draw::{Ending, Picture};
 use sem_key::{Key, Kind};
 use sem_report::read_report;
+use sem_tree::{TreeRequest, takes, tree, tree_rows};
 use std::alloc::{AllocError, Global};
 use std::test::Fail;
 

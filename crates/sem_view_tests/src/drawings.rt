@@ -1,4 +1,4 @@
-use crate::{
+use sem_draw::{
     Chart, Family, Lane, Mark, Node, OutOfMemory, Row, State, chart_as_svg, chart_as_text, fits,
     tree_as_svg, tree_as_text,
 };

@@ -1,5 +1,5 @@
-use crate::explain;
 use sem_draw::Ending;
+use sem_explain::explain;
 use std::alloc::{AllocError, Global};
 use std::test::Fail;
 

@@ -1,4 +1,4 @@
-use crate::{refusal_text, tells_report};
+use sem_hint::{refusal_text, tells_report};
 use sem_trace::{Cause, TraceFault};
 use std::test::Fail;
 

@@ -1,6 +1,8 @@
-use crate::{Request, chart_rows, count_between, count_code, count_event, count_message, respond};
 use sem_draw::{Ending, Picture};
 use sem_report::read_report;
+use sem_view::{
+    Request, chart_rows, count_between, count_code, count_event, count_message, respond,
+};
 use std::alloc::{AllocError, Global};
 use std::test::Fail;
 

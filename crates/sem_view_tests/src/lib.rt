@@ -1,0 +1,13 @@
+//! Tests of what shows reports: charts, forests, counts and explanations; nothing that runs.
+#![tactic(auto)]
+
+#[cfg(test)]
+mod drawings;
+#[cfg(test)]
+mod explanations;
+#[cfg(test)]
+mod hints;
+#[cfg(test)]
+mod trees;
+#[cfg(test)]
+mod views;
