@@ -7,8 +7,6 @@ mod endpoint;
 mod fault;
 mod object_tests;
 mod op;
-#[cfg(test)]
-mod random_tests;
 mod row;
 #[cfg(test)]
 mod tests;

@@ -5,8 +5,6 @@
 mod fault;
 mod queue;
 #[cfg(test)]
-mod random_tests;
-#[cfg(test)]
 mod tests;
 mod vpe;
 mod vpes;

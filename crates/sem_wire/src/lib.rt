@@ -9,8 +9,6 @@ mod fault;
 mod laws;
 #[cfg(test)]
 mod message_records;
-#[cfg(test)]
-mod random_tests;
 mod read_messages;
 mod read_objects;
 mod read_rows;
