@@ -19,7 +19,6 @@ pub use acks::ack;
 pub use answers::{delegate_prepared, delegate_refused, delegate_request};
 pub use calls::delegate_call;
 pub use pendings::Pendings;
-pub use refusals::own_cap;
 pub use resumes::{delegate_resume, ready_resume};
 pub use sem_msg::Pending;
 pub use upcalls::delegate_upcall;

@@ -29,11 +29,11 @@ impl Model for Link {
 }
 
 // The message of which the bytes are the record.
-fn message_of(record: &[u8; RECORD]) -> Option<Message>
-    requires { IsRecord record.now }
-    ensures { result ≡ Some (message_of_lem record.now) }
+fn message_of(bytes: &[u8; RECORD]) -> Option<Message>
+    requires { IsRecord bytes.now }
+    ensures { result ≡ Some (message_of_lem bytes.now) }
 {
-    match decode(record) {
+    match decode(bytes) {
         Ok(message) => Some(message),
         Err(_) => None,
     }
@@ -54,8 +54,8 @@ impl Link {
         ensures front { result ≡ slice_get self.now.messages 0 }
         ensures fits { IfSome result Fits }
     {
-        let record = self.records.front()?;
-        message_of(record)
+        let bytes = self.records.front()?;
+        message_of(bytes)
     }
 
     /// Takes out the oldest message; none where the link is empty.
@@ -64,8 +64,8 @@ impl Link {
         ensures value { self.new ≡ relined (drop 1 self.old.messages) self.old }
         ensures fits { IfSome result Fits }
     {
-        let record = self.records.pop_front()?;
-        message_of(&record)
+        let bytes = self.records.pop_front()?;
+        message_of(&bytes)
     }
 
     /// Appends the message; it comes back where the link is full.
@@ -87,6 +87,7 @@ impl Link {
     {
         self.records.capacity() <= self.records.len()
     }
+
     /// How many messages there are.
     pub fn waiting(&self) -> usize
         ensures { result ≡ length self.now.messages }

@@ -14,5 +14,4 @@ mod requests;
 
 pub use begin::begin_revoke;
 pub use calls::{clear_call, revoke_call};
-pub use owned::own_cap;
 pub use requests::revoke_request;

@@ -12,8 +12,8 @@ use sem_key::Cap;
 use sem_msg::{Code, Slot};
 use sem_vpe::Vpes;
 
-/// The capability at a selector of the VPE, which is of this kernel; none where nothing is held
-/// there. Takes no memory.
+// The capability at a selector of the VPE, which is of this kernel; none where nothing is held
+// there.
 pub fn own_cap<'a>(caps: &'a Caps, vpes: &Vpes, vpe: u16, sel: u8) -> Option<&'a Cap>
     requires { IsOurs vpes.now vpe }
     ensures { option_map capability_of (option_copied result) ≡ own (owning caps.now vpes.now no_side) vpe sel }

@@ -15,6 +15,6 @@ mod upcalls;
 pub use answers::{obtain_answer, obtain_refused, obtain_request};
 pub use calls::{obtain_call, offer_call, open_call};
 pub use links::{orphan, unlink};
-pub use lookups::{own_cap, source};
+pub use lookups::source;
 pub use resumes::obtain_resume;
 pub use upcalls::obtain_upcall;

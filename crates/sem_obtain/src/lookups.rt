@@ -76,8 +76,8 @@ fn offered(setup: &Setup, key: Key, index: u8) -> Option<u8>
     offer_named(setup, index, service.name)
 }
 
-/// The capability at a selector of the VPE, which is of this kernel; none where nothing is held
-/// there. Takes no memory.
+// The capability at a selector of the VPE, which is of this kernel; none where nothing is held
+// there.
 pub fn own_cap<'a>(caps: &'a Caps, vpes: &Vpes, vpe: u16, sel: u8) -> Option<&'a Cap>
     requires { IsOurs vpes.now vpe }
     ensures { option_map capability_of (option_copied result) ≡ own (holding caps.now vpes.now no_side) vpe sel }
