@@ -150,6 +150,24 @@ Writes written written' P = (text : List ℕ) × P text × Appends written writt
 abbrev pub WritesPrefix : Option (List ℕ) → Option (List ℕ) → (List ℕ → Type 0) → Type 0
 WritesPrefix written written' P = (text : List ℕ) × P text × AppendsPrefix written written' text
 
+-- Why the program ended with that status, with what it left: the journal, and what was written before and after. With status 4 that is a prefix of the text of some other status, and all else is as that one says.
+abbrev pub Ends : Status → Given → List Entry → Option (List ℕ) → Option (List ℕ) → Type 0
+Ends Done g J written written' = Writes written written' (EndsDone g J)
+Ends Usage g J written written' = Writes written written' (EndsUsage g J)
+Ends TraceRefused g J written written' = Writes written written' (EndsRefused g J)
+Ends ReadFault g J written written' = Writes written written' (EndsReadFault g J)
+Ends WriteFault g J written written' = (status : Status) × WritesPrefix written written' (λ text. WouldEnd g J text status)
+Ends Memory g J written written' = Writes written written' (EndsMemory g J)
+Ends ReportRefused g J written written' = Writes written written' (EndsReportRefused g J)
+
+-- the status is this one, unless a count of faults rose or memory was wanting
+abbrev pub IsOrFails : Status → Status → Type 0
+IsOrFails expected status = (status ≡ expected) ⊎ ((status ≡ ReadFault) ⊎ ((status ≡ WriteFault) ⊎ (status ≡ Memory)))
+
+-- the same, of words by which nothing is read
+abbrev pub IsOrUnwritten : Status → Status → Type 0
+IsOrUnwritten expected status = (status ≡ expected) ⊎ ((status ≡ WriteFault) ⊎ (status ≡ Memory))
+
 -- Safety.
 
 -- Safety: the journal is a schedule of the setup that the command runs, and after it the six sentences of safety hold. It has at most 21 entries for each call of the setup and one for each kill.

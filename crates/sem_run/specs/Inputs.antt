@@ -44,6 +44,10 @@ pub record Given : Type 0 where
   pub faults_before : ℕ
   pub faults_after : ℕ
 
+-- these words, bytes that are left before and after, and faults before and after
+abbrev pub given : List (List ℕ) → Option (List ℕ) → Option (List ℕ) → ℕ → ℕ → Given
+given words before after faults_before faults_after = record { words = words; before = before; after = after; faults_before = faults_before; faults_after = faults_after }
+
 -- the words are that command
 abbrev pub Asks : Given → Command → Type 0
 Asks g asked = command_of g.words ≡ Some asked

@@ -7,6 +7,7 @@ ghost use Rattle.sem_check.specs.Replays.{DiffersAt};
 ghost use Rattle.sem_check.specs.Verdicts.{GoesOn};
 ghost use Rattle.sem_cli.specs.declared.forms.Command.TheVariants.{Check};
 ghost use Rattle.sem_cli.specs.Commands.{command_of};
+ghost use Rattle.sem_run.specs.Inputs.{given};
 ghost use Rattle.sem_run.specs.Ends.{WouldEnd};
 ghost use Rattle.sem_run.specs.Reports.{TellsReport, IsRefusedReport};
 ghost use Rattle.sem_run.specs.Readings.{IsAuditOf, IsVerdict};
@@ -31,7 +32,7 @@ pub fn check_report<S: Source>(
     text: &mut Vec<u8>,
 ) -> Result<Status, ReadError>
     requires { text.old.items ≡ [] }
-    ensures ok { IfOk result (λ status. (words : List (List ℕ)) → command_of words ≡ Some Check → WouldEnd (record { words = words; before = S.left input.old; after = S.left input.new; faults_before = S.faults input.old; faults_after = S.faults input.new }) [] text.new.items status) }
+    ensures ok { IfOk result (λ status. (words : List (List ℕ)) → command_of words ≡ Some Check → WouldEnd (given words (S.left input.old) (S.left input.new) (S.faults input.old) (S.faults input.new)) [] text.new.items status) }
     ensures fault { IsErrOf result ReadError.Fault → Rose (S.faults input.old) (S.faults input.new) }
 {
     let bytes = read_all(alloc, input, REPORT_BYTES)?;

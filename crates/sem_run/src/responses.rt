@@ -6,7 +6,7 @@ ghost use Rattle.sem_cli.specs.declared.forms.Command.{Command as CommandData};
 ghost use Rattle.sem_cli.specs.declared.forms.Command.TheVariants.{Run};
 ghost use Rattle.sem_cli.specs.declared.statuses.Status.TheVariants.{ReadFault, Memory};
 ghost use Rattle.sem_cli.specs.Commands.{command_of};
-ghost use Rattle.sem_run.specs.Inputs.{is_alone};
+ghost use Rattle.sem_run.specs.Inputs.{given, is_alone};
 ghost use Rattle.sem_run.specs.Ends.{IsPartOfRun, EndsReadFault, WouldEnd};
 ghost use Rattle.sem_run.specs.Readings.{IsReading};
 
@@ -35,7 +35,7 @@ pub fn respond<S: Source>(
     requires journal { journal.old.entries ≡ [] }
     requires text { text.old.items ≡ [] }
     requires alone { (asked : CommandData) → command_of (map string_bytes words.now) ≡ Some asked → is_alone asked ≡ true }
-    ensures ends { WouldEnd (record { words = map string_bytes words.now; before = S.left input.old; after = S.left input.new; faults_before = S.faults input.old; faults_after = S.faults input.new }) journal.new.entries text.new.items result }
+    ensures ends { WouldEnd (given (map string_bytes words.now) (S.left input.old) (S.left input.new) (S.faults input.old) (S.faults input.new)) journal.new.entries text.new.items result }
 {
     match carry_out(alloc, words, input, journal, text) {
         Ok(status) => status,
@@ -61,9 +61,9 @@ pub fn carry_out<S: Source>(
     requires journal { journal.old.entries ≡ [] }
     requires text { text.old.items ≡ [] }
     requires alone { (asked : CommandData) → command_of (map string_bytes words.now) ≡ Some asked → is_alone asked ≡ true }
-    ensures ok { IfOk result (WouldEnd (record { words = map string_bytes words.now; before = S.left input.old; after = S.left input.new; faults_before = S.faults input.old; faults_after = S.faults input.new }) journal.new.entries text.new.items) }
-    ensures fault { IsErrOf result ReadError.Fault → EndsReadFault (record { words = map string_bytes words.now; before = S.left input.old; after = S.left input.new; faults_before = S.faults input.old; faults_after = S.faults input.new }) journal.new.entries [] }
-    ensures memory { IsErrOf result ReadError.Memory → IsPartOfRun (record { words = map string_bytes words.now; before = S.left input.old; after = S.left input.new; faults_before = S.faults input.old; faults_after = S.faults input.new }) journal.new.entries }
+    ensures ok { IfOk result (WouldEnd (given (map string_bytes words.now) (S.left input.old) (S.left input.new) (S.faults input.old) (S.faults input.new)) journal.new.entries text.new.items) }
+    ensures fault { IsErrOf result ReadError.Fault → EndsReadFault (given (map string_bytes words.now) (S.left input.old) (S.left input.new) (S.faults input.old) (S.faults input.new)) journal.new.entries [] }
+    ensures memory { IsErrOf result ReadError.Memory → IsPartOfRun (given (map string_bytes words.now) (S.left input.old) (S.left input.new) (S.faults input.old) (S.faults input.new)) journal.new.entries }
 {
     match command(words) {
         None => {
@@ -91,10 +91,10 @@ fn run_trace<S: Source>(
 ) -> Result<Status, ReadError>
     requires journal { journal.old.entries ≡ [] }
     requires text { text.old.items ≡ [] }
-    ensures ok { IfOk result (λ status. (words : List (List ℕ)) → command_of words ≡ Some (Run seed) → WouldEnd (record { words = words; before = S.left input.old; after = S.left input.new; faults_before = S.faults input.old; faults_after = S.faults input.new }) journal.new.entries text.new.items status) }
+    ensures ok { IfOk result (λ status. (words : List (List ℕ)) → command_of words ≡ Some (Run seed) → WouldEnd (given words (S.left input.old) (S.left input.new) (S.faults input.old) (S.faults input.new)) journal.new.entries text.new.items status) }
     ensures fault { IsErrOf result ReadError.Fault → Rose (S.faults input.old) (S.faults input.new) }
     ensures unread { IsErrOf result ReadError.Fault → journal.new.entries ≡ [] }
-    ensures memory { IsErrOf result ReadError.Memory → (words : List (List ℕ)) → command_of words ≡ Some (Run seed) → IsPartOfRun (record { words = words; before = S.left input.old; after = S.left input.new; faults_before = S.faults input.old; faults_after = S.faults input.new }) journal.new.entries }
+    ensures memory { IsErrOf result ReadError.Memory → (words : List (List ℕ)) → command_of words ≡ Some (Run seed) → IsPartOfRun (given words (S.left input.old) (S.left input.new) (S.faults input.old) (S.faults input.new)) journal.new.entries }
 {
     match read_setup(alloc, input)? {
         Reading::Trace(setup) => {
@@ -117,7 +117,7 @@ pub enum Reading {
 
 // What the input is, read to its end or to one byte more than a trace may have.
 pub fn read_setup<S: Source>(alloc: Global, input: &mut S) -> Result<Reading, ReadError>
-    ensures reads { IfOk result (λ reading. (words : List (List ℕ)) → IsReading (record { words = words; before = S.left input.old; after = S.left input.new; faults_before = S.faults input.old; faults_after = S.faults input.new }) reading) }
+    ensures reads { IfOk result (λ reading. (words : List (List ℕ)) → IsReading (given words (S.left input.old) (S.left input.new) (S.faults input.old) (S.faults input.new)) reading) }
     ensures quiet { OnOk result (S.faults input.new ≡ S.faults input.old) }
     ensures fault { IsErrOf result ReadError.Fault → Rose (S.faults input.old) (S.faults input.new) }
 {

@@ -8,6 +8,7 @@ ghost use Rattle.sem_audit.specs.HeldKeys.{report};
 ghost use Rattle.sem_cli.specs.declared.forms.Command.TheVariants.{Threads as InThreads};
 ghost use Rattle.sem_cli.specs.Commands.{command_of};
 ghost use Rattle.sem_serial.specs.Standing.{StandsAt};
+ghost use Rattle.sem_run.specs.Inputs.{given};
 ghost use Rattle.sem_run.specs.Ends.{IsPartOfRun, EndsReadFault, WouldEnd};
 ghost use Rattle.sem_run.specs.Readings.{IsAuditOf};
 
@@ -39,7 +40,7 @@ pub fn respond_in_threads<R: Threads + Wait + Sync, S: Source, G: Gate + Sync>(
 ) -> Status
     requires journal { journal.old.entries ≡ [] }
     requires text { text.old.items ≡ [] }
-    ensures ends { WouldEnd (record { words = map string_bytes words.now; before = S.left input.old; after = S.left input.new; faults_before = S.faults input.old; faults_after = S.faults input.new }) journal.new.entries text.new.items result }
+    ensures ends { WouldEnd (given (map string_bytes words.now) (S.left input.old) (S.left input.new) (S.faults input.old) (S.faults input.new)) journal.new.entries text.new.items result }
 {
     match carry_out_in_threads(rt, alloc, words, input, gate, journal, text) {
         Ok(status) => status,
@@ -66,9 +67,9 @@ fn carry_out_in_threads<R: Threads + Wait + Sync, S: Source, G: Gate + Sync>(
 ) -> Result<Status, ReadError>
     requires journal { journal.old.entries ≡ [] }
     requires text { text.old.items ≡ [] }
-    ensures ok { IfOk result (WouldEnd (record { words = map string_bytes words.now; before = S.left input.old; after = S.left input.new; faults_before = S.faults input.old; faults_after = S.faults input.new }) journal.new.entries text.new.items) }
-    ensures fault { IsErrOf result ReadError.Fault → EndsReadFault (record { words = map string_bytes words.now; before = S.left input.old; after = S.left input.new; faults_before = S.faults input.old; faults_after = S.faults input.new }) journal.new.entries [] }
-    ensures memory { IsErrOf result ReadError.Memory → IsPartOfRun (record { words = map string_bytes words.now; before = S.left input.old; after = S.left input.new; faults_before = S.faults input.old; faults_after = S.faults input.new }) journal.new.entries }
+    ensures ok { IfOk result (WouldEnd (given (map string_bytes words.now) (S.left input.old) (S.left input.new) (S.faults input.old) (S.faults input.new)) journal.new.entries text.new.items) }
+    ensures fault { IsErrOf result ReadError.Fault → EndsReadFault (given (map string_bytes words.now) (S.left input.old) (S.left input.new) (S.faults input.old) (S.faults input.new)) journal.new.entries [] }
+    ensures memory { IsErrOf result ReadError.Memory → IsPartOfRun (given (map string_bytes words.now) (S.left input.old) (S.left input.new) (S.faults input.old) (S.faults input.new)) journal.new.entries }
 {
     match command(words) {
         Some(Command::Threads { seed }) => {
@@ -96,10 +97,10 @@ fn thread_trace<R: Threads + Wait + Sync, S: Source, G: Gate + Sync>(
 ) -> Result<Status, ReadError>
     requires journal { journal.old.entries ≡ [] }
     requires text { text.old.items ≡ [] }
-    ensures ok { IfOk result (λ status. (words : List (List ℕ)) → command_of words ≡ Some (InThreads seed) → WouldEnd (record { words = words; before = S.left input.old; after = S.left input.new; faults_before = S.faults input.old; faults_after = S.faults input.new }) journal.new.entries text.new.items status) }
+    ensures ok { IfOk result (λ status. (words : List (List ℕ)) → command_of words ≡ Some (InThreads seed) → WouldEnd (given words (S.left input.old) (S.left input.new) (S.faults input.old) (S.faults input.new)) journal.new.entries text.new.items status) }
     ensures fault { IsErrOf result ReadError.Fault → Rose (S.faults input.old) (S.faults input.new) }
     ensures unread { IsErrOf result ReadError.Fault → journal.new.entries ≡ [] }
-    ensures memory { IsErrOf result ReadError.Memory → (words : List (List ℕ)) → command_of words ≡ Some (InThreads seed) → IsPartOfRun (record { words = words; before = S.left input.old; after = S.left input.new; faults_before = S.faults input.old; faults_after = S.faults input.new }) journal.new.entries }
+    ensures memory { IsErrOf result ReadError.Memory → (words : List (List ℕ)) → command_of words ≡ Some (InThreads seed) → IsPartOfRun (given words (S.left input.old) (S.left input.new) (S.faults input.old) (S.faults input.new)) journal.new.entries }
 {
     match read_setup(alloc, input)? {
         Reading::Trace(setup) => {
