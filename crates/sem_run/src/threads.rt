@@ -1,18 +1,19 @@
 // What the words ask for, where it may take threads: the run of a trace with each kernel in threads of its own, and its report.
-ghost use Rattle.std.specs.Prelude.{◌≡◌, List, ℕ, [], Some, IfOk, IsErrOf, OnOk, map, string_bytes};
+ghost use Rattle.std.specs.Prelude.{◌≡◌, false, List, ℕ, [], Some, IfOk, IsErrOf, OnOk, map, string_bytes};
 ghost use Rattle.sem_io.specs.Count.{Rose};
 ghost use Rattle.sem_io.specs.declared.transfer.ReadError.TheVariants.{Fault, Memory as NoMemory};
 ghost use Rattle.sem_machine.specs.Living.{IsComplete};
 ghost use Rattle.sem_machine.specs.Schedules.{IsSchedule};
 ghost use Rattle.sem_audit.specs.HeldKeys.{report};
+ghost use Rattle.sem_cli.specs.declared.forms.Command.{Command as CommandData};
 ghost use Rattle.sem_cli.specs.declared.forms.Command.TheVariants.{Threads as InThreads};
 ghost use Rattle.sem_cli.specs.Commands.{command_of};
 ghost use Rattle.sem_serial.specs.Standing.{StandsAt};
-ghost use Rattle.sem_run.specs.Inputs.{given};
+ghost use Rattle.sem_run.specs.Inputs.{given, is_alone};
 ghost use Rattle.sem_run.specs.Ends.{IsPartOfRun, EndsReadFault, WouldEnd};
 ghost use Rattle.sem_run.specs.Readings.{IsAuditOf};
 
-use crate::responses::{Reading, carry_out, read_setup};
+use crate::responses::{Reading, read_setup};
 use crate::soaks::soak_load;
 use sem_audit::audit_of;
 use sem_cli::{Command, Status, command, push_refused};
@@ -28,7 +29,8 @@ use std::alloc::Global;
 use std::sync::Wait;
 use std::thread::Threads;
 
-// The status with which the program ends if the text can be written, and that text.
+// The status with which `threads SEED` or `soak SEED VPES CALLS` ends if the text can be written,
+// and that text.
 pub fn respond_in_threads<R: Threads + Wait + Sync, S: Source, G: Gate + Sync>(
     rt: &R,
     alloc: Global,
@@ -40,6 +42,7 @@ pub fn respond_in_threads<R: Threads + Wait + Sync, S: Source, G: Gate + Sync>(
 ) -> Status
     requires journal { journal.old.entries ≡ [] }
     requires text { text.old.items ≡ [] }
+    requires threads { (asked : CommandData) × (command_of (map string_bytes words.now) ≡ Some asked) × (is_alone asked ≡ false) }
     ensures ends { WouldEnd (given (map string_bytes words.now) (S.left input.old) (S.left input.new) (S.faults input.old) (S.faults input.new)) journal.new.entries text.new.items result }
 {
     match carry_out_in_threads(rt, alloc, words, input, gate, journal, text) {
@@ -55,7 +58,7 @@ pub fn respond_in_threads<R: Threads + Wait + Sync, S: Source, G: Gate + Sync>(
     }
 }
 
-// Does what the words ask for. After an error the text means nothing.
+// Does what such words ask for. After an error the text means nothing.
 fn carry_out_in_threads<R: Threads + Wait + Sync, S: Source, G: Gate + Sync>(
     rt: &R,
     alloc: Global,
@@ -67,6 +70,7 @@ fn carry_out_in_threads<R: Threads + Wait + Sync, S: Source, G: Gate + Sync>(
 ) -> Result<Status, ReadError>
     requires journal { journal.old.entries ≡ [] }
     requires text { text.old.items ≡ [] }
+    requires threads { (asked : CommandData) × (command_of (map string_bytes words.now) ≡ Some asked) × (is_alone asked ≡ false) }
     ensures ok { IfOk result (WouldEnd (given (map string_bytes words.now) (S.left input.old) (S.left input.new) (S.faults input.old) (S.faults input.new)) journal.new.entries text.new.items) }
     ensures fault { IsErrOf result ReadError.Fault → EndsReadFault (given (map string_bytes words.now) (S.left input.old) (S.left input.new) (S.faults input.old) (S.faults input.new)) journal.new.entries [] }
     ensures memory { IsErrOf result ReadError.Memory → IsPartOfRun (given (map string_bytes words.now) (S.left input.old) (S.left input.new) (S.faults input.old) (S.faults input.new)) journal.new.entries }
@@ -80,7 +84,7 @@ fn carry_out_in_threads<R: Threads + Wait + Sync, S: Source, G: Gate + Sync>(
             Ok(Status::Done)
         }
         None | Some(Command::Run { .. } | Command::Check | Command::Generate { .. }) => {
-            carry_out(alloc, words, input, journal, text)
+            unreachable!()
         }
     }
 }

@@ -10,9 +10,9 @@ ghost use Rattle.sem_run.specs.Inputs.{given};
 ghost use Rattle.sem_run.specs.Reports.{IsReport};
 ghost use Rattle.sem_run.specs.Ends.{Ends, IsOfRun, IsOrFails, IsOrUnwritten, IsSafeRun};
 
-use crate::accepts::reports_are_accepted;
+use crate::alone::semper_alone;
 use crate::threads::respond_in_threads;
-use sem_cli::Status;
+use sem_cli::{Command, Status, command};
 use sem_io::{Failed, Sink, Source, write_all};
 use sem_msg::Journal;
 use sem_node::Gate;
@@ -21,8 +21,8 @@ use std::sync::Wait;
 use std::thread::Threads;
 
 /// Does what the words ask for: reads the input, writes to the sink, leaves the journal of the run.
-/// The status tells how it ended. A run in threads may wait; each step of a kernel asks the gate
-/// first.
+/// The status tells how it ended. `threads SEED` and `soak SEED VPES CALLS` may wait, and each step
+/// of a kernel asks the gate first; all other words go to `semper_alone`.
 ///
 /// The journal is empty.
 pub fn semper<R: Threads + Wait + Sync, S: Source, K: Sink, G: Gate + Sync>(
@@ -66,11 +66,17 @@ pub fn semper<R: Threads + Wait + Sync, S: Source, K: Sink, G: Gate + Sync>(
     // Every load is soaked, unless memory was wanting or the count of the sink's faults rose.
     ensures soaks { (seed vpes calls : ℕ) → command_of (map string_bytes words.now) ≡ Some (Soak seed vpes calls) → IsOrUnwritten Status.Done result }
 {
-    reports_are_accepted();
-    let mut text = Vec::new(alloc);
-    let status = respond_in_threads(rt, alloc, words, input, gate, journal, &mut text);
-    match write_all(out, &text) {
-        Ok(()) => status,
-        Err(Failed) => Status::WriteFault,
+    match command(words) {
+        Some(Command::Threads { .. } | Command::Soak { .. }) => {
+            let mut text = Vec::new(alloc);
+            let status = respond_in_threads(rt, alloc, words, input, gate, journal, &mut text);
+            match write_all(out, &text) {
+                Ok(()) => status,
+                Err(Failed) => Status::WriteFault,
+            }
+        }
+        None | Some(Command::Run { .. } | Command::Check | Command::Generate { .. }) => {
+            semper_alone(alloc, words, input, out, journal)
+        }
     }
 }
