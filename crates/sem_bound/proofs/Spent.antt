@@ -9,7 +9,7 @@ use Rattle.sem_machine.specs.Schedules.{IsSchedule, run, world_after}
 use Rattle.sem_machine.specs.Living.{IsQuiet}
 use Rattle.sem_machine.specs.Seeded.{entry_limit, entry_bound}
 use Rattle.sem_key.proofs.Members.{Contains-head, Contains-from_filter}
-use Rattle.sem_safety.proofs.Pushing.{schedule-push}
+use Rattle.sem_machine.proofs.Pushing.{schedule-push}
 use Rattle.sem_bound.proofs.Bound.{bounded}
 use Rattle.sem_bound.proofs.Left.{few-made}
 

@@ -9,7 +9,7 @@ use Rattle.sem_msg.specs.Setup.{Setup}
 use Rattle.sem_machine.specs.Machine.{World, start, after, entry_of, is_enabled}
 use Rattle.sem_machine.specs.Schedules.{IsSchedule, world_after}
 use Rattle.sem_kernel.specs.Worlds.{WorldValue}
-use Rattle.sem_safety.proofs.Pushing.{schedule-push, schedule-empty, world_after-push}
+use Rattle.sem_machine.proofs.Pushing.{schedule-push, schedule-empty, world_after-push}
 use Rattle.sem_check.specs.Replays.{entry_made, world_value, IsWorldAfter, DiffersAt}
 
 -- what an event makes, it makes as one that is enabled

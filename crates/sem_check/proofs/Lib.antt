@@ -1,4 +1,5 @@
 pub mod Following
 pub mod Longest
+pub mod Repeating
 pub mod Judging
 pub mod OneVerdict

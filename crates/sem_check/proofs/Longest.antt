@@ -7,11 +7,10 @@ use Rattle.sem_msg.specs.declared.entry.Entry.{Entry}
 use Rattle.sem_msg.specs.Setup.{Setup}
 use Rattle.sem_machine.specs.Machine.{World, start, after, entry_of, is_enabled}
 use Rattle.sem_machine.specs.Schedules.{IsRun, IsSchedule, run, world_after}
-use Rattle.sem_kernel.specs.Worlds.{WorldValue}
-use Rattle.sem_check.specs.Replays.{entry_made, world_value, IsWorldAfter, DiffersAt, IsLongestSchedule}
+use Rattle.sem_check.specs.Replays.{entry_made, DiffersAt, IsLongestSchedule}
 
 -- what an entry of a run is
-run-at : (T : Setup) (W : World) (J : List Entry) (m n : ℕ) (x : Entry) → IsRun T W (take m J) → n < m → slice_get J n ≡ Some x → (is_enabled T (run T W (take n J)) x.event ≡ true) × (x ≡ entry_of T (run T W (take n J)) x.event)
+pub run-at : (T : Setup) (W : World) (J : List Entry) (m n : ℕ) (x : Entry) → IsRun T W (take m J) → n < m → slice_get J n ≡ Some x → (is_enabled T (run T W (take n J)) x.event ≡ true) × (x ≡ entry_of T (run T W (take n J)) x.event)
 unfolding IsRun
 run-at T W [] m n x is_run less there = absurd (none-some x there)
 run-at T W (y ∷ ys) zero n x is_run less there = absurd (omega arith)
@@ -42,16 +41,6 @@ all-longest T J schedule = record {
   schedule = subst (IsSchedule T) (sym (take_all (length J) J (omega arith))) schedule;
   longest = λ m within schedule. within;
 }
-
-abbrev pub IsReplayed : Setup → List Entry → WorldValue → Type 0
-IsReplayed T J w = (n : ℕ) × IsLongestSchedule T J n × (w ≡ world_value T (take n J))
-
-pub replayed-all : (T : Setup) (J K : List Entry) (w : WorldValue) → K ≡ J → IsWorldAfter T K w → IsReplayed T J w
-replayed-all T J K w same stands =
-    subst (λ (L : List Entry). IsReplayed T L w) same (length K, all-longest T K stands.schedule, stands.world ∙ ap (world_value T) (sym (take_all (length K) K (omega arith))))
-
-pub replayed-part : (T : Setup) (J K : List Entry) (n : ℕ) (x : Entry) (made : Option Entry) (w : WorldValue) → K ≡ J → DiffersAt T K n x made → w ≡ world_value T (take n K) → IsReplayed T J w
-replayed-part T J K n x made w same differs is = subst (λ (L : List Entry). IsReplayed T L w) same (n, differs-longest T K n x made differs, is)
 
 -- what is a schedule differs nowhere
 pub no-difference : (T : Setup) (J : List Entry) (n : ℕ) (x : Entry) (made : Option Entry) → IsSchedule T J → DiffersAt T J n x made → ⊥

@@ -4,7 +4,7 @@ use Rattle.std.specs.Option.{option_map}
 use Rattle.sem_msg.specs.declared.event.Event.{Event}
 use Rattle.sem_msg.specs.declared.entry.Entry.{Entry}
 use Rattle.sem_msg.specs.Setup.{Setup}
-use Rattle.sem_machine.specs.Machine.{World, enabled, is_enabled, entry_of}
+use Rattle.sem_machine.specs.Machine.{World, after, enabled, is_enabled, entry_of}
 use Rattle.sem_machine.specs.Schedules.{IsSchedule, world_after}
 use Rattle.sem_kernel.specs.Worlds.{WorldValue}
 
@@ -15,6 +15,10 @@ entry_made T W e = if is_enabled T W e then Some (entry_of T W e) else None
 -- the entry that the first of the enabled events makes, if one is enabled
 abbrev pub next_made : Setup → World → Option Entry
 next_made T W = option_map (entry_of T W) (slice_get (enabled T W) 0)
+
+-- the world after the event, with its setup
+abbrev pub stepped : WorldValue → Event → WorldValue
+stepped w e = record { setup = w.setup; world = after w.setup w.world e }
 
 -- the world after the journal, with its setup
 abbrev pub world_value : Setup → List Entry → WorldValue
@@ -37,3 +41,9 @@ pub record IsLongestSchedule (T : Setup) (J : List Entry) (n : ℕ) : Type 0 whe
   pub within : n ≤ length J
   pub schedule : IsSchedule T (take n J)
   pub longest : (m : ℕ) → m ≤ length J → IsSchedule T (take m J) → m ≤ n
+
+-- P is the longest prefix of the journal that is a schedule
+pub record IsLongestPrefix (T : Setup) (J P : List Entry) : Type 0 where
+  pub count : ℕ
+  pub longest : IsLongestSchedule T J count
+  pub prefix : P ≡ take count J

@@ -2,8 +2,8 @@ ghost use Rattle.std.specs.Prelude.{◌≡◌, ◌≤◌, ◌+◌, ◌*◌, ℕ,
 ghost use Rattle.sem_msg.specs.Setup.{call_count, kill_count};
 ghost use Rattle.sem_msg.specs.declared.entry.Entry.{Entry as EntryData};
 ghost use Rattle.sem_machine.specs.Living.{IsComplete};
-ghost use Rattle.sem_check.specs.Replays.{IsWorldAfter, DiffersAt, next_made, world_value};
-ghost use Rattle.sem_check.specs.Verdicts.{GoesOn};
+ghost use Rattle.sem_check.specs.Replays.{IsWorldAfter, next_made, world_value};
+ghost use Rattle.sem_check.specs.Verdicts.{TellsDifference, TellsNext};
 
 use crate::entries::make_entry;
 use crate::faults::CheckError;
@@ -18,10 +18,10 @@ use std::alloc::Global;
 pub fn check(alloc: Global, setup: &Setup, journal: &Journal) -> Result<World, CheckError>
     ensures complete { IfOk result (λ world. IsComplete setup.now journal.now.entries) }
     ensures world { IfOk result (λ world. world ≡ world_value setup.now journal.now.entries) }
-    ensures differs { (n : ℕ) (entered : EntryData) (replayed : Option EntryData) → IsErrOf result (CheckError.Differs n entered replayed)
-        → DiffersAt setup.now journal.now.entries n entered replayed }
-    ensures incomplete { (n : ℕ) (next : EntryData) → IsErrOf result (CheckError.Incomplete n next) → GoesOn setup.now journal.now.entries n next }
-    ensures few { OnOk result (length journal.now.entries ≤ 21 * call_count setup.now + kill_count setup.now) }
+    ensures differs { TellsDifference setup.now journal.now.entries result }
+    ensures incomplete { TellsNext setup.now journal.now.entries result }
+    ensures few { OnOk result
+        (length journal.now.entries ≤ 21 * call_count setup.now + kill_count setup.now) }
 {
     // So that the proof knows what a setup keeps.
     let _ = &setup.vpes;
@@ -47,8 +47,9 @@ fn judge(
     requires { IsWorldAfter setup.now entries.now world }
     ensures complete { IfOk result (λ last. IsComplete setup.now entries.now) }
     ensures world { IfOk result (λ last. last ≡ world_value setup.now entries.now) }
-    ensures differs { (n : ℕ) (entered : EntryData) (replayed : Option EntryData) → ¬ IsErrOf result (CheckError.Differs n entered replayed) }
-    ensures incomplete { (n : ℕ) (next : EntryData) → IsErrOf result (CheckError.Incomplete n next) → GoesOn setup.now entries.now n next }
+    ensures differs { (n : ℕ) (entered : EntryData) (replayed : Option EntryData)
+        → ¬ IsErrOf result (CheckError.Differs n entered replayed) }
+    ensures incomplete { TellsNext setup.now entries.now result }
 {
     // So that the proof knows what a setup keeps.
     let _ = &setup.vpes;
@@ -69,7 +70,7 @@ fn next_entry(alloc: Global, world: &mut World) -> Result<Option<Entry>, OutOfMe
     ensures same { IfOk result (λ next. next ≡ None → world.new ≡ world.old) }
 {
     let mut events = Vec::new(alloc);
-    world.enabled_events(&mut events)?;
+    world.enabled_events(alloc, &mut events)?;
     match events.first() {
         Some(event) => make_entry(world, *event),
         None => Ok(None),

@@ -1,7 +1,6 @@
 // Entries that events make, and entries that were entered.
 ghost use Rattle.std.specs.Prelude.{◌≡◌, ◌↔◌, Some, IsSome, IsTrue, IfOk};
-ghost use Rattle.sem_machine.specs.Machine.{after};
-ghost use Rattle.sem_check.specs.Replays.{entry_made};
+ghost use Rattle.sem_check.specs.Replays.{entry_made, stepped};
 
 use crate::messages::same_message;
 use sem_kernel::{StepError, World};
@@ -11,7 +10,7 @@ use sem_msg::{Detail, Entry, Event};
 /// The event happens, if it is enabled. The entry that it makes.
 pub fn make_entry(world: &mut World, event: Event) -> Result<Option<Entry>, OutOfMemory>
     ensures made { IfOk result (λ made. made ≡ entry_made world.old.setup world.old.world event) }
-    ensures after { IfOk result (λ made. IsSome made → world.new ≡ record { setup = world.old.setup; world = after world.old.setup world.old.world event }) }
+    ensures after { IfOk result (λ made. IsSome made → world.new ≡ stepped world.old event) }
 {
     match world.step(event) {
         Ok(entry) => Ok(Some(entry)),
@@ -48,7 +47,9 @@ fn same_event(one: Event, other: Event) -> bool
 
 // Whether the entries have the same grant, the same cut and the same reply.
 fn same_marks(one: &Entry, other: &Entry) -> bool
-    ensures { IsTrue result ↔ (one.now.grant ≡ other.now.grant) × (one.now.cut ≡ other.now.cut) × (one.now.reply ≡ other.now.reply) }
+    ensures { IsTrue result ↔ (one.now.grant ≡ other.now.grant)
+        × (one.now.cut ≡ other.now.cut)
+        × (one.now.reply ≡ other.now.reply) }
 {
     one.grant == other.grant && one.cut == other.cut && one.reply == other.reply
 }

@@ -21,8 +21,10 @@ pub struct Difference {
 /// that differs.
 pub fn follow(world: &mut World, entries: &[Entry]) -> Result<Option<Difference>, OutOfMemory>
     requires { world.old.world ≡ start world.old.setup }
-    ensures all { IfOk result (λ difference. difference ≡ None → IsWorldAfter world.old.setup entries.now world.new) }
-    ensures differs { IfOk result (λ difference. IfSome difference (λ d. DiffersAt world.old.setup entries.now d.entry d.entered d.replayed)) }
+    ensures all { IfOk result
+        (λ difference. difference ≡ None → IsWorldAfter world.old.setup entries.now world.new) }
+    ensures differs { IfOk result (λ difference. IfSome difference
+        (λ d. DiffersAt world.old.setup entries.now d.entry d.entered d.replayed)) }
 {
     for (entry, entered) in entries.iter().enumerate() {
         let replayed = match make_entry(world, entered.event) {

@@ -11,9 +11,14 @@ ghost use Rattle.sem_check.specs.Verdicts.{GoesOn};
 /// A journal has one verdict: no entry of a schedule differs, a schedule with a quiet world after
 /// it does not go on; and there is one fault of each kind at most.
 pub fn a_journal_has_one_verdict()
-    ensures schedule { (T : SetupRecord) (J : List EntryData) (n : ℕ) (x : EntryData) (a : Option EntryData) → DiffersAt T J n x a → ¬ IsSchedule T J }
-    ensures quiet { (T : SetupRecord) (J : List EntryData) (n : ℕ) (x : EntryData) → GoesOn T J n x → ¬ IsQuiet T (world_after T J) }
-    ensures one_difference { (T : SetupRecord) (J : List EntryData) (m n : ℕ) (x y : EntryData) (a b : Option EntryData)
+    ensures schedule { (T : SetupRecord) (J : List EntryData)
+        (n : ℕ) (x : EntryData) (a : Option EntryData)
+        → DiffersAt T J n x a → ¬ IsSchedule T J }
+    ensures quiet { (T : SetupRecord) (J : List EntryData) (n : ℕ) (x : EntryData)
+        → GoesOn T J n x → ¬ IsQuiet T (world_after T J) }
+    ensures one_difference { (T : SetupRecord) (J : List EntryData)
+        (m n : ℕ) (x y : EntryData) (a b : Option EntryData)
         → DiffersAt T J m x a → DiffersAt T J n y b → (m ≡ n) × (x ≡ y) × (a ≡ b) }
-    ensures one_next { (T : SetupRecord) (J : List EntryData) (m n : ℕ) (x y : EntryData) → GoesOn T J m x → GoesOn T J n y → (m ≡ n) × (x ≡ y) }
+    ensures one_next { (T : SetupRecord) (J : List EntryData) (m n : ℕ) (x y : EntryData)
+        → GoesOn T J m x → GoesOn T J n y → (m ≡ n) × (x ≡ y) }
 {}

@@ -1,35 +1,55 @@
-ghost use Rattle.std.specs.Prelude.{◌≡◌, ℕ, take, IfOk};
+// The longest schedule with which a journal begins, made again.
+ghost use Rattle.std.specs.Prelude.{◌≡◌, IfOk};
 ghost use Rattle.sem_machine.specs.Schedules.{IsSchedule};
-ghost use Rattle.sem_check.specs.Replays.{IsLongestSchedule, world_value};
+ghost use Rattle.sem_kernel.specs.Standing.{StandsAt};
+ghost use Rattle.sem_check.specs.Replays.{IsLongestSchedule, IsLongestPrefix};
 
 use crate::follows::follow;
-use sem_kernel::World;
+use sem_fabric::Fabric;
+use sem_kernel::{Kernel, World, boot, happen_enabled};
 use sem_key::OutOfMemory;
 use sem_msg::{Entry, Journal, Setup};
 use std::alloc::Global;
 
-/// The world after as many entries of the journal, from its first on, as are a schedule of the
-/// setup.
-pub fn replay(alloc: Global, setup: &Setup, journal: &Journal) -> Result<World, OutOfMemory>
-    ensures { IfOk result (λ world. (n : ℕ) × IsLongestSchedule setup.now journal.now.entries n
-        × (world ≡ world_value setup.now (take n journal.now.entries))) }
+/// The kernels of the setup and a new fabric, which stand at the longest prefix of the journal that
+/// is a schedule: a run can go on from them. The fabric's journal is that prefix.
+pub fn replay(
+    alloc: Global,
+    setup: &Setup,
+    journal: &Journal,
+) -> Result<(Vec<Kernel>, Fabric), OutOfMemory>
+    ensures stand { IfOk result (λ r. StandsAt setup.now r.0.items r.1) }
+    ensures longest { IfOk result (λ r. IsLongestPrefix setup.now journal.now.entries r.1.journal) }
+{
+    let entries = journal.as_slice();
+    let count = schedule_length(alloc, setup, entries)?;
+    repeat(alloc, setup, &entries[..count])
+}
+
+// How many of the entries, from the first on, are a schedule of the setup.
+fn schedule_length(alloc: Global, setup: &Setup, entries: &[Entry]) -> Result<usize, OutOfMemory>
+    ensures { IfOk result (IsLongestSchedule setup.now entries.now) }
 {
     let mut world = World::boot(alloc, setup)?;
-    let entries = journal.as_slice();
     match follow(&mut world, entries)? {
-        None => Ok(world),
-        Some(difference) => repeat(alloc, setup, &entries[..difference.entry]),
+        None => Ok(entries.len()),
+        Some(difference) => Ok(difference.entry),
     }
 }
 
-// The world after the entries, which are a schedule of the setup.
-fn repeat(alloc: Global, setup: &Setup, entries: &[Entry]) -> Result<World, OutOfMemory>
+// The kernels of the setup and a new fabric, which stand at the entries, a schedule of it.
+fn repeat(
+    alloc: Global,
+    setup: &Setup,
+    entries: &[Entry],
+) -> Result<(Vec<Kernel>, Fabric), OutOfMemory>
     requires { IsSchedule setup.now entries.now }
-    ensures { IfOk result (λ world. world ≡ world_value setup.now entries.now) }
+    ensures stand { IfOk result (λ r. StandsAt setup.now r.0.items r.1) }
+    ensures journal { IfOk result (λ r. r.1.journal ≡ entries.now) }
 {
-    let mut world = World::boot(alloc, setup)?;
-    match follow(&mut world, entries)? {
-        None => Ok(world),
-        Some(_) => unreachable!(),
+    let (mut kernels, mut fabric) = boot(alloc, setup, Journal::new(alloc))?;
+    for entry in entries {
+        happen_enabled(setup, &mut kernels, &mut fabric, entry.event)?;
     }
+    Ok((kernels, fabric))
 }

@@ -1,4 +1,4 @@
-ghost use Rattle.std.specs.Prelude.{◌≡◌, ◌≢◌, ◌↔◌, ◌<◌, true, false, [], ◌∷◌, ◌++◌, length, drop, nat_le, slice_get, slice_index_or, IsOk, IfOk, IfErr, IfSome, OnOk, OnErr, MatchOption};
+ghost use Rattle.std.specs.Prelude.{◌≡◌, ◌≢◌, ◌↔◌, ◌<◌, ◌≤◌, true, false, [], ◌∷◌, ◌++◌, length, drop, nat_le, slice_get, slice_index_or, IsOk, IfOk, IfErr, IfSome, OnOk, OnErr, MatchOption};
 ghost use Rattle.sem_msg.specs.Message.{Fits};
 ghost use Rattle.sem_msg.specs.Journal.{replies as replies_in};
 ghost use Rattle.sem_msg.specs.Fabric.{link_in, relinked, entered};
@@ -147,11 +147,12 @@ impl Fabric {
         self.rows[from as usize].is_full(to)
     }
 
-    /// How many messages the link holds.
+    /// How many messages the link holds: never more than the window.
     pub fn waiting(&self, from: u32, to: u32) -> usize
         requires kernels { (from < self.now.kernels) × (to < self.now.kernels) }
         requires other { from ≢ to }
-        ensures { result ≡ length (link_in self.now.links from to) }
+        ensures count { result ≡ length (link_in self.now.links from to) }
+        ensures within { result ≤ self.now.window }
     {
         self.rows[from as usize].waiting(to)
     }

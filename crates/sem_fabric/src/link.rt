@@ -1,4 +1,4 @@
-ghost use Rattle.std.specs.Prelude.{◌≡◌, ◌↔◌, ◌<◌, [], ◌∷◌, ◌++◌, length, drop, nat_le, slice_get, Some, IsOk, IfOk, IfErr, IfSome, OnOk};
+ghost use Rattle.std.specs.Prelude.{◌≡◌, ◌↔◌, ◌<◌, ◌≤◌, [], ◌∷◌, ◌++◌, length, drop, nat_le, slice_get, Some, IsOk, IfOk, IfErr, IfSome, OnOk};
 ghost use Rattle.sem_msg.specs.Message.{Fits};
 ghost use Rattle.sem_wire.specs.Standing.{message_of as message_of_lem, IsRecord};
 ghost use Rattle.sem_fabric.specs.Links.{relined};
@@ -90,7 +90,8 @@ impl Link {
 
     /// How many messages there are.
     pub fn waiting(&self) -> usize
-        ensures { result ≡ length self.now.messages }
+        ensures count { result ≡ length self.now.messages }
+        ensures within { result ≤ self.now.window }
     {
         self.records.len()
     }

@@ -1,4 +1,4 @@
-ghost use Rattle.std.specs.Prelude.{◌≡◌, ◌↔◌, ◌<◌, [], ◌∷◌, ◌++◌, length, drop, nat_le, replicate, slice_get, IsOk, IfOk, IfErr, IfSome, OnOk};
+ghost use Rattle.std.specs.Prelude.{◌≡◌, ◌↔◌, ◌<◌, ◌≤◌, [], ◌∷◌, ◌++◌, length, drop, nat_le, replicate, slice_get, IsOk, IfOk, IfErr, IfSome, OnOk};
 ghost use Rattle.sem_msg.specs.Message.{Fits};
 ghost use Rattle.sem_fabric.specs.Links.{link_to, with_link_to};
 
@@ -75,10 +75,12 @@ impl Row {
     {
         self.links[to as usize].is_full()
     }
+
     /// How many messages a link holds.
     pub fn waiting(&self, to: u32) -> usize
         requires { to < length self.now.links }
-        ensures { result ≡ length (link_to self.now to) }
+        ensures count { result ≡ length (link_to self.now to) }
+        ensures within { result ≤ self.now.window }
     {
         self.links[to as usize].waiting()
     }

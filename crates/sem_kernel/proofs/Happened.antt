@@ -223,6 +223,14 @@ module _ (T : Setup) (ks : List KernelValue) (f : FabricValue) (are : AreKernels
   stepped-after act l g (Ok e) ok = done-after act l g e ok
   stepped-after act l g (Err x) ok = tt
 
+  pub stepped-journal : {E : Type 0} (act : Act) (l : KernelValue) (g : FabricValue) (r : Result Entry E) → IfOk r (HasDone k f act l g) → IfOk r (λ e. g.journal ≡ f.journal ++ e ∷ [])
+  stepped-journal act l g (Ok e) ok = ok.journal
+  stepped-journal act l g (Err x) ok = tt
+
+  pub stepped-same_journal : {E : Type 0} (l : KernelValue) (g : FabricValue) (r : Result Entry E) → OnErr r (HasNotDone k f l g) → OnErr r (g.journal ≡ f.journal)
+  stepped-same_journal l g (Ok e) err = tt
+  stepped-same_journal l g (Err x) err = ap (λ (h : FabricValue). h.journal) err.fabric
+
   pub stepped-unchanged : {E : Type 0} (l : KernelValue) (g : FabricValue) (r : Result Entry E) → OnErr r (HasNotDone k f l g) → OnErr r (world_of (set ks i l) g ≡ world_of ks f)
   stepped-unchanged l g (Ok e) err = tt
   stepped-unchanged l g (Err x) err = not_done-world l g err

@@ -18,3 +18,4 @@ pub mod Beginning
 pub mod Listings
 pub mod Owned
 pub mod Passing
+pub mod Stands

@@ -4,5 +4,6 @@ pub mod Ending
 pub mod Acting
 pub mod KernelValue
 pub mod Worlds
+pub mod Standing
 pub mod Listing
 pub mod Owning

@@ -3,6 +3,7 @@ ghost use Rattle.std.specs.Prelude.{◌≡◌, ◌<◌, ◌&&◌, ◌↔◌, ◌
 ghost use Rattle.sem_msg.specs.Fabric.{entered};
 ghost use Rattle.sem_machine.specs.Machine.{is_enabled as is_enabled_lem, after as after_lem, entry_of};
 ghost use Rattle.sem_kernel.specs.Worlds.{world_of, AreKernelsOf, IsFabricOf, can_do as can_do_lem, CanDo, HasDone, HasNotDone};
+ghost use Rattle.sem_kernel.specs.Standing.{StandsAt};
 
 use crate::carrying::{carry, is_passable};
 use crate::kernel::Kernel;
@@ -66,7 +67,8 @@ pub fn happen(
 }
 
 /// Does the event, an enabled one, on kernels and their fabric, and gives its entry, which stands in
-/// the journal then. After want of memory the world is as before.
+/// the journal then. If memory runs out the world stays as it was. In both cases kernels and a
+/// fabric that stand at a schedule stand at one again.
 pub fn happen_enabled(
     setup: &Setup,
     kernels: &mut Vec<Kernel>,
@@ -81,6 +83,8 @@ pub fn happen_enabled(
     ensures journal { IfOk result (λ entry. fabric.new.journal ≡ fabric.old.journal ++ entry ∷ []) }
     ensures unchanged { OnErr result (world_of kernels.new.items fabric.new ≡ world_of kernels.old.items fabric.old) }
     ensures same_journal { OnErr result (fabric.new.journal ≡ fabric.old.journal) }
+    ensures stands { StandsAt setup.now kernels.old.items fabric.old
+        → StandsAt setup.now kernels.new.items fabric.new }
 {
     // So that the proof knows what a setup keeps.
     let _ = &setup.vpes;

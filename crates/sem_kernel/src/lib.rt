@@ -2,7 +2,7 @@
 #![tactic(auto)]
 
 mod acts;
-mod boot;
+mod booting;
 mod calls;
 mod carrying;
 mod enabling;
@@ -16,6 +16,7 @@ mod own;
 mod revokes;
 mod rooms;
 mod shared;
+mod starts;
 mod stores;
 mod strays;
 mod upcalls;
@@ -25,4 +26,5 @@ pub use happening::{StepError, happen, happen_enabled, is_enabled};
 pub use kernel::Kernel;
 pub use listing::{append_enabled, enabled_events};
 pub use sem_key::OutOfMemory;
+pub use starts::boot;
 pub use world::{World, boot_kernels};

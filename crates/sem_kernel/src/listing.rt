@@ -1,5 +1,5 @@
 // The list of the enabled events of kernels and their fabric.
-ghost use Rattle.std.specs.Prelude.{◌≡◌, ◌<◌, ◌++◌, ◌∷◌, [], map, OnOk};
+ghost use Rattle.std.specs.Prelude.{◌≡◌, ◌<◌, ◌++◌, ◌∷◌, [], map, OnOk, OnErr};
 ghost use Rattle.std.specs.List.{range_with_len};
 ghost use Rattle.sem_msg.specs.declared.event.Act.TheVariants.{Fetch, Handle, Kill};
 ghost use Rattle.sem_machine.specs.Machine.{event, enabled};
@@ -11,6 +11,7 @@ use crate::kernel::Kernel;
 use sem_fabric::Fabric;
 use sem_key::OutOfMemory;
 use sem_msg::{Act, Event, Setup};
+use std::alloc::Global;
 
 // The rows of events that go through the VPEs.
 #[derive(Clone, Copy)]
@@ -54,20 +55,23 @@ impl PeerRow {
 
 /// Replaces the list by the enabled events, where these kernels and this fabric are those of the
 /// setup: kernel by kernel, and of each its calls, resumes and upcalls, its handling, its fetches,
-/// flushes and kills, each row by rising numbers.
+/// flushes and kills, each row by rising numbers. If memory runs out the list stays as it was.
 pub fn enabled_events(
+    alloc: Global,
     setup: &Setup,
     kernels: &[Kernel],
     fabric: &Fabric,
     out: &mut Vec<Event>,
 ) -> Result<(), OutOfMemory>
     requires { AreKernelsOf setup.now kernels.now fabric.now }
-    ensures { OnOk result (out.new.items ≡ enabled setup.now (world_of kernels.now fabric.now)) }
+    ensures ok { OnOk result (out.new.items ≡ enabled setup.now (world_of kernels.now fabric.now)) }
+    ensures err { OnErr result (out.new.items ≡ out.old.items) }
 {
-    out.clear();
+    let mut events = Vec::new(alloc);
     for kernel in 0..setup.kernels {
-        append_enabled(setup, kernels, fabric, kernel, out)?;
+        append_enabled(setup, kernels, fabric, kernel, &mut events)?;
     }
+    *out = events;
     Ok(())
 }
 

@@ -73,11 +73,19 @@ impl World {
         }
     }
 
-    /// Replaces the list by the enabled events, in their order.
-    pub fn enabled_events(&self, out: &mut Vec<Event>) -> Result<(), OutOfMemory>
-        ensures { OnOk result (out.new.items ≡ enabled self.now.setup self.now.world) }
+    /// Replaces the list by the enabled events, in their order. If memory runs out the list stays
+    /// as it was.
+    pub fn enabled_events(&self, alloc: Global, out: &mut Vec<Event>) -> Result<(), OutOfMemory>
+        ensures ok { OnOk result (out.new.items ≡ enabled self.now.setup self.now.world) }
+        ensures err { OnErr result (out.new.items ≡ out.old.items) }
     {
-        enabled_events(&self.setup, self.kernels.as_slice(), &self.fabric, out)
+        enabled_events(
+            alloc,
+            &self.setup,
+            self.kernels.as_slice(),
+            &self.fabric,
+            out,
+        )
     }
 
     /// The event happens, and makes an entry. An event that is not enabled is refused, and after a

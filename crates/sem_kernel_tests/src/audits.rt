@@ -1,4 +1,4 @@
-use sem_audit::{answered, audit_of, cut_keys, held_list, made_keys, stray};
+use sem_audit::{audit_of, cut_keys, held_list, made_keys};
 use sem_kernel::boot_kernels;
 use sem_key::{Key, Kind};
 use sem_msg::{Act, Audit, Call, Detail, Entry, Event, Held, HeldList, Journal, Reply, Setup};
@@ -182,35 +182,4 @@ fn an_audit_counts_the_made_and_the_cut_and_lists_the_held(rt: HostRuntime) -> R
         [Held { key: ROOT, sel: 0 }].as_slice()
     );
     Ok(())
-}
-
-// How many keys are stray after a journal, with the kernels at the start.
-fn strays_at_start(alloc: Global, setup: &Setup, journal: &Journal) -> Result<u64, Fail> {
-    let kernels = boot_kernels(alloc, setup)?;
-    Ok(stray(alloc, setup, journal, &kernels)?)
-}
-
-// A journal of these entries has so many replies, and so many stray keys at the start.
-fn expect_strays(
-    rt: &impl Abort,
-    alloc: Global,
-    entries: &[Entry],
-    expected: (u64, u64),
-) -> Result<(), Fail> {
-    let setup = setup_of(alloc, ONE_VPE)?;
-    let journal = journal_of(alloc, entries)?;
-    let strays = strays_at_start(alloc, &setup, &journal)?;
-    assert_eq!(rt; (answered(&journal), strays), expected);
-    Ok(())
-}
-
-#[test]
-fn what_was_granted_and_is_not_held_is_stray(rt: HostRuntime) -> Result<(), Fail> {
-    expect_strays(&rt, rt.alloc(), &[derived()], (1, 1))
-}
-
-#[test]
-fn what_was_cut_off_and_is_held_is_stray(rt: HostRuntime) -> Result<(), Fail> {
-    expect_strays(&rt, rt.alloc(), &[derived(), revoked(0, ROOT)], (2, 1))?;
-    expect_strays(&rt, rt.alloc(), &[derived(), revoked(1, CHILD)], (2, 0))
 }

@@ -1,4 +1,5 @@
 use sem_check::{CheckError, check, replay};
+use sem_kernel::is_enabled;
 use sem_key::{Key, Kind, Membership, Object};
 use sem_msg::{
     Act, Call, Calls, Denies, Detail, Entry, Event, Journal, Kills, Offers, Reply, Root, Roots,
@@ -127,7 +128,7 @@ fn fault(alloc: Global, entries: &[Entry]) -> Result<Option<CheckError>, Fail> {
     }
 }
 
-// Whether the event is enabled in the world to which a journal of these entries is replayed.
+// Whether the event is enabled where a replay of a journal of these entries stands.
 fn goes_on(alloc: Global, entries: &[Entry], event: Event) -> Result<bool, Fail> {
     let setup = one_vpe(alloc)?;
     let mut journal = Journal::new(alloc);
@@ -136,7 +137,7 @@ fn goes_on(alloc: Global, entries: &[Entry], event: Event) -> Result<bool, Fail>
         journal.push(*entry);
     }
     match replay(alloc, &setup, &journal) {
-        Ok(world) => Ok(world.is_enabled(event)),
+        Ok((kernels, fabric)) => Ok(is_enabled(&setup, kernels.as_slice(), &fabric, event)),
         Err(_) => Err(Fail::new("out of memory")),
     }
 }
@@ -228,13 +229,13 @@ fn a_journal_with_another_event_is_not(rt: HostRuntime) -> Result<(), Fail> {
 #[test]
 fn a_replay_stops_before_what_differs(rt: HostRuntime) -> Result<(), Fail> {
     let entries = [derived(), revoked(), resumed()];
-    let is_enabled = goes_on(rt.alloc(), &entries[..2], RESUME)?;
-    assert!(rt; is_enabled);
-    let is_enabled = goes_on(rt.alloc(), &[derived(), resumed(), revoked()], CALL)?;
-    assert!(rt; is_enabled);
+    let can_go_on = goes_on(rt.alloc(), &entries[..2], RESUME)?;
+    assert!(rt; can_go_on);
+    let can_go_on = goes_on(rt.alloc(), &[derived(), resumed(), revoked()], CALL)?;
+    assert!(rt; can_go_on);
     let mut changed = revoked();
     changed.cut = None;
-    let is_enabled = goes_on(rt.alloc(), &[derived(), changed, resumed()], CALL)?;
-    assert!(rt; is_enabled);
+    let can_go_on = goes_on(rt.alloc(), &[derived(), changed, resumed()], CALL)?;
+    assert!(rt; can_go_on);
     Ok(())
 }

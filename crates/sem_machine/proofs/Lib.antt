@@ -8,3 +8,4 @@ pub mod Doomed
 pub mod FirstNumbers
 pub mod Late
 pub mod Placed
+pub mod Pushing

@@ -38,4 +38,13 @@ impl Draws {
     {
         self.words.next_word() % n
     }
+
+    /// A place among `count`, which is at least 1: the remainder of the next word. Takes no memory.
+    pub fn pick_place(&mut self, count: usize) -> usize
+        requires positive { 0 < count }
+        ensures place { result ≡ (pcg32 self.old).0 % count }
+        ensures draws { self.new ≡ (pcg32 self.old).1 }
+    {
+        self.words.next_word() as usize % count
+    }
 }

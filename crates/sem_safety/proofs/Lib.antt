@@ -36,4 +36,3 @@ pub mod AskWorlds
 pub mod FewAsks
 pub mod Walking
 pub mod EndedVpes
-pub mod Pushing

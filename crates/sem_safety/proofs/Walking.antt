@@ -13,7 +13,7 @@ use Rattle.sem_msg.specs.declared.setup.VpeDecl.{VpeDecl}
 use Rattle.sem_msg.specs.Setup.{Setup, IsSetup, IsRoot, IsVpeDecl, services_from, IsDeclared}
 use Rattle.sem_machine.specs.Machine.{World, start, is_enabled, after, entry_of}
 use Rattle.sem_machine.specs.Schedules.{IsRun, IsSchedule}
-use Rattle.sem_safety.proofs.Pushing.{entry_of-event}
+use Rattle.sem_machine.proofs.Pushing.{entry_of-event}
 use Rattle.sem_safety.specs.Walks.{walked, all_enabled, journal_of, the_root, first_vpe, second_vpe, pair}
 
 walked-runs : (T : Setup) (W : World) (es : List Event) → all_enabled T W es ≡ true → IsRun T W (walked T W es)

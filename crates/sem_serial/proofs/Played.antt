@@ -13,7 +13,7 @@ use Rattle.sem_kernel.specs.declared.world.World.{World}
 use Rattle.sem_serial.specs.declared.faults.PlayError.{PlayError}
 use Rattle.sem_serial.specs.declared.faults.PlayError.TheVariants.{NotEnabled, Memory}
 use Rattle.sem_serial.specs.Playing.{events_of, StopsAt}
-use Rattle.sem_safety.proofs.Pushing.{schedule-push, schedule-empty, world_after-push, entry_of-event}
+use Rattle.sem_machine.proofs.Pushing.{schedule-push, schedule-empty, world_after-push, entry_of-event}
 
 -- the first n events happened, and made the journal
 pub record IsPlaying (T : Setup) (events : List Event) (w : WorldValue) (J : List Entry) (n : ℕ) : Type 0 where
@@ -75,6 +75,10 @@ module _ (T : Setup) (events : List Event) (w : WorldValue) (J : List Entry) (n 
         there = slice_get-get_or events n e within ∙ ap Some (sym at);
         disabled = ap (λ K'. is_enabled T (world_after T K') e) journal ∙ (ap (λ (z : WorldValue). is_enabled z.setup z.world e) (sym so_far.world) ∙ disabled);
       })
+
+-- of no events no entry was made
+pub played-none : (events : List Event) (J : List Entry) → J ≡ [] → events_of J ≡ take (length J) events
+played-none events J none = subst (λ K. events_of K ≡ take (length K) events) (sym none) refl
 
 -- where no refusal came the event was enabled
 pub ok-enabled : {X E : Type 0} (x : X) (e : E) (b : Bool) → (IsErrOf (Ok x) e ↔ (b ≡ false)) → b ≡ true

@@ -1,24 +1,22 @@
 -- A run that goes on by one event at a time.
-use Rattle.std.proofs.Common.{◌≡◌, ℕ, zero, suc, ◌+◌, ◌-◌, ◌<◌, ◌%◌, true, List, [], ◌∷◌, ◌++◌, length, map, Option, Some, None, refl, sym, ◌∙◌, ap, subst, arith, length-append, append_assoc, append-nil}
-use Rattle.std.specs.List.{range_with_len}
+use Rattle.std.proofs.Common.{◌≡◌, ℕ, zero, suc, ◌+◌, ◌-◌, ◌<◌, ◌%◌, true, List, [], ◌∷◌, ◌++◌, length, Option, Some, None, refl, sym, ◌∙◌, ap, subst, arith, length-append, append_assoc, append-nil}
 use Rattle.std.proofs.lemmas.Option.{slice_get-get_or, slice_get_within, get_or_from_slice_get}
 use Rattle.rand_pcg.specs.Lcg.{Lcg}
 use Rattle.rand_pcg.specs.Pcg.{pcg32}
 use Rattle.sem_msg.specs.declared.event.Event.{Event}
 use Rattle.sem_msg.specs.declared.entry.Entry.{Entry}
-use Rattle.sem_msg.specs.Setup.{Setup, IsSetup}
+use Rattle.sem_msg.specs.Setup.{Setup}
 use Rattle.sem_msg.specs.Fabric.{FabricValue}
-use Rattle.sem_machine.specs.Machine.{World, start, after, entry_of, enabled, is_enabled}
-use Rattle.sem_machine.specs.Schedules.{IsSchedule, run, world_after}
+use Rattle.sem_machine.specs.Machine.{World, after, entry_of, enabled, is_enabled}
+use Rattle.sem_machine.specs.Schedules.{run, world_after}
 use Rattle.sem_machine.specs.Living.{IsQuiet}
 use Rattle.sem_machine.specs.Seeded.{drain, entry_limit, picked}
 use Rattle.sem_machine.proofs.EnabledList.{enabled-exact}
 use Rattle.sem_kernel.specs.KernelValue.{KernelValue}
-use Rattle.sem_fabric.specs.Fabrics.{new_fabric}
-use Rattle.sem_kernel.specs.Worlds.{world_of, AreKernelsOf, WorldValue, booted}
-use Rattle.sem_kernel.proofs.Beginning.{boots-together, boots-world}
-use Rattle.sem_safety.proofs.Pushing.{schedule-push, schedule-empty, world_after-push}
-use Rattle.sem_serial.specs.Standing.{StandsAt, drained_on}
+use Rattle.sem_kernel.specs.Worlds.{world_of}
+use Rattle.sem_kernel.specs.Standing.{StandsAt}
+use Rattle.sem_machine.proofs.Pushing.{world_after-push}
+use Rattle.sem_serial.specs.Draining.{drained_on}
 use Rattle.sem_serial.specs.Listed.{AreListed}
 
 pub none-left : {X : Type 0} (xs : List X) → length xs ≡ 0 → xs ≡ []
@@ -76,36 +74,6 @@ module _ (T : Setup) (J : List Entry) (g : Lcg) where
   -- nothing is to come
   drained-quiet : picked (pcg32 g).0 (enabled T W) ≡ None → J ≡ drained_on T J g
   drained-quiet none = sym (ap (λ es. J ++ es) (drain-none (entry_limit T - length J) T W g none) ∙ append-nil J)
-
--- Kernels and a fabric that stand at a schedule.
-module _ (T : Setup) (ks : List KernelValue) (f : FabricValue) (at : StandsAt T ks f) where
-  -- an enabled event happened
-  pub stands-more : (e : Event) → is_enabled T (world_of ks f) e ≡ true → (x : Entry) → x ≡ entry_of T (world_of ks f) e → (ls : List KernelValue) (h : FabricValue) → AreKernelsOf T ls h → world_of ls h ≡ after T (world_of ks f) e → h.journal ≡ f.journal ++ x ∷ [] → StandsAt T ls h
-  stands-more e enabled_e x made ls h together moved entered =
-      let journal : h.journal ≡ f.journal ++ entry_of T (world_after T f.journal) e ∷ [] = entered ∙ ap (λ y. f.journal ++ y ∷ []) (made ∙ ap (λ V. entry_of T V e) at.world) in
-      record {
-        together = together;
-        schedule = subst (IsSchedule T) (sym journal) (schedule-push T f.journal e at.schedule (subst (λ V. is_enabled T V e ≡ true) at.world enabled_e));
-        world = moved ∙ (ap (λ V. after T V e) at.world ∙ (sym (world_after-push T f.journal e) ∙ ap (world_after T) (sym journal)));
-      }
-
-  -- nothing happened
-  pub stands-same : (ls : List KernelValue) (h : FabricValue) → AreKernelsOf T ls h → world_of ls h ≡ world_of ks f → h.journal ≡ f.journal → StandsAt T ls h
-  stands-same ls h together same journal = record {
-    together = together;
-    schedule = subst (IsSchedule T) (sym journal) at.schedule;
-    world = same ∙ (at.world ∙ ap (world_after T) (sym journal));
-  }
-
--- they stand at the empty schedule at the start
-pub stands-at-start : (T : Setup) → IsSetup T → (ks : List KernelValue) → ks ≡ map (booted T) (range_with_len 0 T.kernels) → (f : FabricValue) → f ≡ new_fabric T → StandsAt T ks f
-stands-at-start T valid ks all f new =
-    let empty : f.journal ≡ [] = ap (λ (x : FabricValue). x.journal) new in
-    record {
-      together = boots-together T T refl ks all f new valid;
-      schedule = schedule-empty T f.journal empty;
-      world = ap (λ (x : WorldValue). x.world) (boots-world T T refl ks all f new) ∙ ap (world_after T) (sym empty);
-    }
 
 -- A run that began with a journal and a generator, and has come to others.
 pub record IsDraining (T : Setup) (P : List Entry) (first : Lcg) (ks : List KernelValue) (f : FabricValue) (lists : List (List Event)) (g : Lcg) : Type 0 where

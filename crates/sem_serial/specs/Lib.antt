@@ -1,3 +1,3 @@
-pub mod Standing
+pub mod Draining
 pub mod Listed
 pub mod Playing

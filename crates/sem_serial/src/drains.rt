@@ -5,15 +5,16 @@ ghost use Rattle.sem_machine.specs.Living.{IsComplete};
 ghost use Rattle.sem_machine.specs.Machine.{after, entry_of, is_enabled};
 ghost use Rattle.sem_machine.specs.Seeded.{drained};
 ghost use Rattle.sem_kernel.specs.Worlds.{world_of};
-ghost use Rattle.sem_serial.specs.Standing.{StandsAt, drained_on};
+ghost use Rattle.sem_kernel.specs.Standing.{StandsAt};
+ghost use Rattle.sem_serial.specs.Draining.{drained_on};
 ghost use Rattle.sem_serial.specs.Listed.{AreListed};
 
 use crate::lists::{list_all, pick, renew};
-use rand_pcg::Lcg64Xsh32;
 use sem_fabric::Fabric;
 use sem_kernel::{Kernel, happen_enabled};
 use sem_key::OutOfMemory;
 use sem_msg::{Event, Setup};
+use sem_pick::Draws;
 use std::alloc::Global;
 
 /// Runs on by the words of the seed until no event is enabled: at each step one word picks one of
@@ -37,8 +38,8 @@ pub fn drain(
     // So that the proof knows what a setup keeps.
     let _ = &setup.vpes;
     let mut lists = list_all(alloc, setup, kernels.as_slice(), fabric)?;
-    let mut words = Lcg64Xsh32::new(seed, 1);
-    run_on(alloc, setup, kernels, fabric, &mut words, &mut lists)
+    let mut draws = Draws::new(seed);
+    run_on(alloc, setup, kernels, fabric, &mut draws, &mut lists)
 }
 
 // Runs on by the words until no event is enabled. The lists are the enabled events.
@@ -47,19 +48,21 @@ fn run_on(
     setup: &Setup,
     kernels: &mut Vec<Kernel>,
     fabric: &mut Fabric,
-    words: &mut Lcg64Xsh32,
+    draws: &mut Draws,
     lists: &mut Vec<Vec<Event>>,
 ) -> Result<(), OutOfMemory>
     requires stand { StandsAt setup.now kernels.old.items fabric.old }
     requires listed { AreListed setup.now (world_of kernels.old.items fabric.old) (map (λ list. list.items) lists.old.items) }
     ensures stand { StandsAt setup.now kernels.new.items fabric.new }
-    ensures prefix { (rest : List EntryData) × (fabric.new.journal ++ rest ≡ drained_on setup.now fabric.old.journal words.old) }
-    ensures drained { OnOk result (fabric.new.journal ≡ drained_on setup.now fabric.old.journal words.old) }
+    ensures prefix { (rest : List EntryData)
+        × (fabric.new.journal ++ rest ≡ drained_on setup.now fabric.old.journal draws.old) }
+    ensures drained { OnOk result
+        (fabric.new.journal ≡ drained_on setup.now fabric.old.journal draws.old) }
     ensures complete { OnOk result (IsComplete setup.now fabric.new.journal) }
 {
     // So that the proof knows what a setup keeps.
     let _ = &setup.vpes;
-    while let Some(event) = pick(lists.as_slice(), words) {
+    while let Some(event) = pick(lists.as_slice(), draws) {
         let replied = make_entry(setup, kernels, fabric, event)?;
         renew(
             alloc,

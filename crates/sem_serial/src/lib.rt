@@ -5,9 +5,8 @@ mod drains;
 mod faults;
 mod lists;
 mod plays;
-mod starts;
 
 pub use drains::drain;
 pub use faults::PlayError;
 pub use plays::play;
-pub use starts::boot;
+pub use sem_kernel::boot;

@@ -1,5 +1,5 @@
 // The enabled events of each kernel, kept from event to event.
-ghost use Rattle.std.specs.Prelude.{◌≡◌, ◌^◌, ◌<◌, ◌==◌, true, List, length, map, slice_get, slice_set, sum_by, is_some, OnOk, IfOk};
+ghost use Rattle.std.specs.Prelude.{◌≡◌, ◌^◌, ◌<◌, ◌==◌, true, List, length, map, slice_get, slice_set, sum_by, is_some, OnSome, OnOk, IfOk};
 ghost use Rattle.std.specs.List.{flat_map, list_any};
 ghost use Rattle.rand_pcg.specs.Pcg.{pcg32};
 ghost use Rattle.sem_msg.specs.Journal.{replies as replies_in};
@@ -9,12 +9,11 @@ ghost use Rattle.sem_kernel.specs.Listing.{enabled_of};
 ghost use Rattle.sem_kernel.specs.Worlds.{world_of, AreKernelsOf, NamesPeer};
 ghost use Rattle.sem_serial.specs.Listed.{AreListed, comes_due as comes_due_lem, touched_peer as touched_peer_lem};
 
-use rand_core::utils::NextWord;
-use rand_pcg::Lcg64Xsh32;
 use sem_fabric::Fabric;
 use sem_kernel::{Kernel, append_enabled};
 use sem_key::OutOfMemory;
 use sem_msg::{Act, Event, Setup};
+use sem_pick::Draws;
 use std::alloc::Global;
 
 // The enabled events of each kernel, where these kernels and this fabric are those of the setup.
@@ -127,17 +126,16 @@ fn touched_peer(setup: &Setup, kernels: &[Kernel], fabric: &Fabric, event: Event
 }
 
 // The event that the next word picks among those of the lists, if there is one.
-pub fn pick(lists: &[Vec<Event>], words: &mut Lcg64Xsh32) -> Option<Event>
+pub fn pick(lists: &[Vec<Event>], draws: &mut Draws) -> Option<Event>
     requires { sum_by (λ list. length list.items) lists.now < 2 ^ 64 }
-    ensures event { result ≡ picked (pcg32 words.old).0 (flat_map (λ list. list.items) lists.now) }
-    ensures words { words.new ≡ (pcg32 words.old).1 }
+    ensures event { result ≡ picked (pcg32 draws.old).0 (flat_map (λ list. list.items) lists.now) }
+    ensures draws { OnSome result (draws.new ≡ (pcg32 draws.old).1) }
 {
-    let word = words.next_word() as usize;
     let count = event_count(lists);
     if count == 0 {
         return None;
     }
-    event_at(lists, word % count)
+    event_at(lists, draws.pick_place(count))
 }
 
 // How many events there are in the lists.

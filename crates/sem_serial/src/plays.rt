@@ -8,9 +8,9 @@ use sem_kernel::{StepError, World};
 use sem_msg::{Event, Journal, Setup};
 use std::alloc::Global;
 
-/// Runs the given events of the setup from its start, until one is not enabled. The journal, which
-/// is to be empty, gets the entries; so it does after an error. It is a schedule, and safe. The world
-/// after them.
+/// Runs the given events of the setup from its start, until one is not enabled, and gives the world
+/// after them. The journal, which is to be empty, gets their entries, also where an event is not
+/// enabled; if memory runs out it stays empty. It is a schedule, and safe.
 pub fn play(
     alloc: Global,
     setup: &Setup,
@@ -24,17 +24,23 @@ pub fn play(
     ensures all { OnOk result (events_of journal.new.entries ≡ events.now) }
     ensures world { IfOk result (λ world. world ≡ record { setup = setup.now; world = world_after setup.now journal.new.entries }) }
     ensures not_enabled { (at : ℕ) → IsErrOf result (PlayError.NotEnabled at) → StopsAt setup.now events.now journal.new.entries at }
+    ensures memory { IsErrOf result PlayError.Memory → journal.new.entries ≡ [] }
 {
     // So that the proof knows what a setup keeps.
     let _ = &setup.vpes;
     let mut world = World::boot(alloc, setup)?;
+    let mut played = Journal::new(alloc);
     for (at, event) in events.iter().enumerate() {
-        journal.room(1)?;
+        played.room(1)?;
         match world.step(*event) {
-            Ok(entry) => journal.push(entry),
-            Err(StepError::NotEnabled) => return Err(PlayError::NotEnabled { at }),
+            Ok(entry) => played.push(entry),
+            Err(StepError::NotEnabled) => {
+                *journal = played;
+                return Err(PlayError::NotEnabled { at });
+            }
             Err(StepError::Memory) => return Err(PlayError::Memory),
         }
     }
+    *journal = played;
     Ok(world)
 }

@@ -17,7 +17,7 @@ returns-then-not-is_handling c =
     let j = c.args.peer in
     let told = fetch-told k f j c.requires.peer (λ same. c.if-peer-id.false (same ∙ sym c.id.ensures)) in
     subst (λ r. nat_lt 0 c.waiting.result ≡ can_do k f (peer_act r j)) (sym c.in-Fetches.is)
-    (ap (nat_lt 0) (c.waiting.ensures ∙ ap (λ i. length (link_in f.links j i)) c.id-then-not-is_handling.ensures)
+    (ap (nat_lt 0) (c.waiting.ensures.count ∙ ap (λ i. length (link_in f.links j i)) c.id-then-not-is_handling.ensures)
     ∙ (some-within (link_in f.links j k.id) 0
     ∙ sym (told ∙ ap (λ b. not b && is_some (slice_get (link_in f.links j k.id) 0)) (sym c.is_handling.ensures ∙ c.if-not-is_handling.true))))
 

@@ -7,4 +7,4 @@ use Rattle.sem_kernel.proofs.listing.enabled_events.Given as goal
 
 -- the events of the first kernels were tried
 abbrev pub invariant-loop-kernel : goal.invariant-loop-kernel
-invariant-loop-kernel l = l.out.items ≡ enabled_among l.setup (world_of l.kernels l.fabric) (flat_map (kernel_events l.setup) (range_with_len 0 l.kernel))
+invariant-loop-kernel l = l.events.items ≡ enabled_among l.setup (world_of l.kernels l.fabric) (flat_map (kernel_events l.setup) (range_with_len 0 l.kernel))

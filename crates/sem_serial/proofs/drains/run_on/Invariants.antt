@@ -5,7 +5,7 @@ use Rattle.sem_serial.proofs.drains.run_on.Given as goal
 
 -- the run has come from the journal and the words that it began with
 abbrev pub invariant-loop-event : goal.invariant-loop-event
-invariant-loop-event l = IsDraining l.setup l.initial.fabric.journal l.initial.words l.kernels.items l.fabric (map (λ list. list.items) l.lists.items) l.words
+invariant-loop-event l = IsDraining l.setup l.initial.fabric.journal l.initial.draws l.kernels.items l.fabric (map (λ list. list.items) l.lists.items) l.draws
 
 -- the entries that are left
 abbrev pub decreases-loop-event : goal.decreases-loop-event

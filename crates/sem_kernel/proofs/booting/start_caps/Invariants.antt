@@ -1,5 +1,5 @@
 use Rattle.sem_kernel.proofs.Boots.{IsStarting}
-use Rattle.sem_kernel.proofs.boot.start_caps.Given as goal
+use Rattle.sem_kernel.proofs.booting.start_caps.Given as goal
 
 -- the VPEs of the kernel among the first were added
 abbrev pub invariant-loop-decl : goal.invariant-loop-decl

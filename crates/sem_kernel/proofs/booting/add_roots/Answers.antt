@@ -1,6 +1,6 @@
 use Rattle.std.proofs.Common.{length, ap, arith}
 use Rattle.sem_kernel.proofs.Boots.{IsAdding-none, IsAdding-more, next-absent}
-use Rattle.sem_kernel.proofs.boot.add_roots.Goals as goal
+use Rattle.sem_kernel.proofs.booting.add_roots.Goals as goal
 
 pub loop-number-init : goal.loop-number-init
 loop-number-init c = IsAdding-none c.args.decl.now c.args.caps.now.caps c.requires.before

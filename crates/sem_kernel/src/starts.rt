@@ -1,15 +1,16 @@
 // Kernels and their fabric at the start of a run.
 ghost use Rattle.std.specs.Prelude.{◌≡◌, [], IfOk};
-ghost use Rattle.sem_serial.specs.Standing.{StandsAt};
+ghost use Rattle.sem_kernel.specs.Standing.{StandsAt};
 
+use crate::kernel::Kernel;
+use crate::world::boot_kernels;
 use sem_fabric::Fabric;
-use sem_kernel::{Kernel, boot_kernels};
 use sem_key::OutOfMemory;
 use sem_msg::{Journal, Setup};
 use std::alloc::Global;
 
-/// The kernels of the setup and their fabric at the start. The journal, which is to be empty, goes
-/// into the fabric; after want of memory it is dropped.
+/// The kernels of the setup and their fabric at the start of a run. The journal, which is to be
+/// empty, goes into the fabric; if memory runs out it is dropped.
 pub fn boot(
     alloc: Global,
     setup: &Setup,

@@ -1,5 +1,5 @@
 use Rattle.sem_kernel.proofs.Boots.{IsAdding}
-use Rattle.sem_kernel.proofs.boot.add_roots.Given as goal
+use Rattle.sem_kernel.proofs.booting.add_roots.Given as goal
 
 -- the first roots were added
 abbrev pub invariant-loop-number : goal.invariant-loop-number

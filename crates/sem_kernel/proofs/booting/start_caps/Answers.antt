@@ -4,8 +4,8 @@ use Rattle.std.specs.Prelude.{◌==◌}
 use Rattle.sem_msg.specs.Lookups.{pe_owner}
 use Rattle.sem_msg.specs.contracts.setup.Setup.{the_view}
 use Rattle.sem_kernel.proofs.Boots.{IsStarting, IsStarting-none, IsStarting-more, IsStarting-skip, IsStarting-all, startable-at}
-use Rattle.sem_kernel.proofs.boot.start_caps.Goals as goal
-use Rattle.sem_kernel.proofs.boot.start_caps.Goals.{then-pe_owner-kernel+in_ok-add_roots, else-pe_owner-kernel}
+use Rattle.sem_kernel.proofs.booting.start_caps.Goals as goal
+use Rattle.sem_kernel.proofs.booting.start_caps.Goals.{then-pe_owner-kernel+in_ok-add_roots, else-pe_owner-kernel}
 
 pub loop-decl-init : goal.loop-decl-init
 loop-decl-init c = subst (λ cs. IsStarting c.args.setup.now c.args.kernel cs 0) (sym c.in_ok-caps.ensures.caps) (IsStarting-none c.args.setup.now c.args.kernel)
