@@ -19,3 +19,5 @@ pub mod DeniesSorted
 pub mod OffersSorted
 pub mod Written
 pub mod Whole
+pub mod InRange
+pub mod StandingSetup

@@ -44,7 +44,7 @@ skips : {Y : Type 0} (o p q r : Option Y) → option_or o p ≡ None → (p ≡ 
 skips None p q r none then' = then' none
 skips (Some x) p q r none then' = absurd (none-some x (sym none))
 
-significant-push : (before : List (List ℕ)) (line : List ℕ) → significant (before ++ line ∷ []) ≡ with_line (significant before) line
+pub significant-push : (before : List (List ℕ)) (line : List ℕ) → significant (before ++ line ∷ []) ≡ with_line (significant before) line
 significant-push [] line =
     elim (cases_Bool (is_significant (words_of line))) [
       | inl says ↦ rw says refl

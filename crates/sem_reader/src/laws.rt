@@ -14,6 +14,11 @@ pub fn one_reading()
     ensures never_both { (bytes : List ℕ) (T : SetupRecord) (fault : TraceFault) → Stands bytes T → refusal bytes ≡ Some fault → ⊥ }
 {}
 
+/// A setup for which a text stands keeps all that a setup keeps.
+pub fn texts_stand_for_setups()
+    ensures { (bytes : List ℕ) (T : SetupRecord) → Stands bytes T → IsSetup T }
+{}
+
 /// The canonical text of a setup is not refused, and stands for that setup.
 pub fn canonical_stands()
     ensures { (T : SetupRecord) → IsSetup T → Stands (canonical T) T }

@@ -8,5 +8,5 @@ mod reader;
 mod setups;
 mod tables;
 
-pub use laws::{canonical_stands, one_reading};
+pub use laws::{canonical_stands, one_reading, texts_stand_for_setups};
 pub use reader::{read_section, read_trace};

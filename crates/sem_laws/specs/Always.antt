@@ -1,0 +1,21 @@
+-- For which setups and journals a law holds.
+use Rattle.std.specs.Prelude.{◌≡◌, List}
+use Rattle.sem_msg.specs.declared.entry.Entry.{Entry}
+use Rattle.sem_msg.specs.Setup.{Setup, IsSetup}
+use Rattle.sem_machine.specs.Schedules.{IsSchedule}
+
+-- after every schedule of every setup
+abbrev pub Always : (Setup → List Entry → Type 0) → Type 0
+Always P = (T : Setup) → IsSetup T → (J : List Entry) → IsSchedule T J → P T J
+
+-- for every journal, whether or not it is a schedule
+abbrev pub ForEveryJournal : (Setup → List Entry → Type 0) → Type 0
+ForEveryJournal P = (T : Setup) (J : List Entry) → P T J
+
+-- for every schedule, whatever is declared
+abbrev pub ForEverySchedule : (Setup → List Entry → Type 0) → Type 0
+ForEverySchedule P = ForEveryJournal (λ T J. IsSchedule T J → P T J)
+
+-- for every setup of version 1
+abbrev pub ForEveryFirstVersion : (Setup → Type 0) → Type 0
+ForEveryFirstVersion P = (T : Setup) → IsSetup T → T.version ≡ 1 → P T

@@ -1,0 +1,38 @@
+-- What the laws say of a setup and a journal.
+use Rattle.std.specs.Prelude.{◌≡◌, ℕ, ◌+◌, ◌*◌, ◌≤◌, ◌<◌, ◌↔◌, List, ◌++◌, length}
+use Rattle.sem_msg.specs.declared.entry.Entry.{Entry}
+use Rattle.sem_msg.specs.Setup.{Setup, IsSetup, call_count, kill_count}
+use Rattle.sem_msg.specs.Journal.{part, replies, flushed, fetched}
+use Rattle.sem_machine.specs.Machine.{side, link}
+use Rattle.sem_machine.specs.Schedules.{IsSchedule, world_after, local_run}
+use Rattle.sem_machine.specs.Living.{IsQuiet, IsIdle}
+use Rattle.sem_machine.specs.Seeded.{entry_limit}
+use Rattle.sem_bound.specs.Counts.{calls_made, kills_made}
+use Rattle.sem_revoke.specs.Resting.{IsAtRest}
+use Rattle.sem_parts.specs.Parts.{AreParts}
+
+-- the world after the journal is at rest if it is idle
+abbrev pub RestsWhenIdle : Setup → List Entry → Type 0
+RestsWhenIdle T J = IsIdle (world_after T J) → IsAtRest T J (world_after T J)
+
+-- at most 21 entries for each call and one for each kill, and nothing is enabled after as many as a run may have
+pub record IsBounded (T : Setup) (J : List Entry) : Type 0 where
+  pub by_journal : length J ≤ 21 * calls_made J + kills_made J
+  pub by_setup : length J ≤ 21 * call_count T + kill_count T
+  pub spent : entry_limit T ≤ length J → IsQuiet T (world_after T J)
+
+-- a schedule exactly where its parts are local runs that agree
+abbrev pub IsScheduleByParts : Setup → List Entry → Type 0
+IsScheduleByParts T J = IsSchedule T J ↔ AreParts T J
+
+-- the world after the journal is told by its parts: the sides by local runs, the links by what was flushed and not fetched
+pub record IsToldByParts (T : Setup) (J : List Entry) : Type 0 where
+  pub sides : (i : ℕ) → i < T.kernels → side (world_after T J) i ≡ local_run T i (part J i)
+  pub links : (i j : ℕ) → flushed J i j ≡ fetched J i j ++ link (world_after T J) i j
+  pub replies : (world_after T J).replies ≡ length (replies J)
+
+-- the setup has a window of 4; as one of version 2 it is a setup too, and has the same schedules
+pub record RunsAsSecondVersion (T : Setup) : Type 0 where
+  pub window : T.window ≡ 4
+  pub setup : IsSetup (record T { version = 2 })
+  pub same : (J : List Entry) → IsSchedule T J ↔ IsSchedule (record T { version = 2 }) J

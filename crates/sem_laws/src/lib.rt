@@ -1,0 +1,47 @@
+//! The laws of the whole machine, each as one clause: what holds of every schedule of every setup.
+#![tactic(auto)]
+
+ghost use Rattle.sem_machine.specs.Safety.{IsSafe};
+ghost use Rattle.sem_laws.specs.Always.{Always};
+ghost use Rattle.sem_laws.specs.Always.{ForEveryJournal, ForEverySchedule, ForEveryFirstVersion};
+ghost use Rattle.sem_laws.specs.Facts.{RestsWhenIdle, IsBounded, IsScheduleByParts, IsToldByParts};
+ghost use Rattle.sem_laws.specs.Facts.{RunsAsSecondVersion};
+
+/// The six sentences of safety hold after every schedule. A prefix of a schedule is one too, so
+/// they hold all along.
+pub fn safe()
+    ensures { Always IsSafe }
+{
+    sem_revoke::laws::safe();
+}
+
+/// An idle world is at rest: no call is parked, no job is open, nothing is marked, no delegation is
+/// pending, every link leads to a held child, and the held keys are the forest.
+pub fn idle()
+    ensures { Always RestsWhenIdle }
+{
+    sem_revoke::laws::idle();
+}
+
+/// A schedule has at most 21 entries for each of its calls and one for each of its kills.
+pub fn bounded()
+    ensures { Always IsBounded }
+{
+    sem_bound::bounds::bounded();
+}
+
+/// A journal is a schedule exactly where the part of each kernel is a local run and the parts
+/// agree. The parts of a schedule tell the world after it.
+pub fn schedules_are_parts()
+    ensures law { ForEveryJournal IsScheduleByParts }
+    ensures world { ForEverySchedule IsToldByParts }
+{
+    sem_parts::parts::schedules_are_parts();
+}
+
+/// A setup of version 1 has the same schedules as it has as one of version 2 with a window of 4.
+pub fn same_runs()
+    ensures { ForEveryFirstVersion RunsAsSecondVersion }
+{
+    sem_machine::laws::same_runs();
+}
