@@ -1,10 +1,10 @@
 -- In a setup in which no VPE ends a complete schedule has a reply to each call: each VPE is alive, so each of its calls is answered, and
 -- each reply is to one of them.
-use Rattle.std.proofs.Common.{◌≡◌, ◌≢◌, ℕ, zero, suc, ◌+◌, ◌<◌, ◌≤◌, Bool, true, false, cond, List, [], ◌∷◌, ◌++◌, length, Option, Some, None, is_some, refl, sym, ap, ◌∙◌, subst, inl, inr, arith, eq-eqb}
+use Rattle.std.proofs.Common.{◌≡◌, ◌≢◌, ℕ, suc, ◌+◌, ◌<◌, Bool, true, false, cond, List, [], ◌∷◌, length, Option, Some, None, is_some, refl, sym, ap, ◌∙◌, subst, inl, inr, arith, eq-eqb}
 use Rattle.std.specs.Prelude.{◌==◌, ◌&&◌, nat_lt, sum_by}
-use Rattle.std.specs.List.{filter, filter_map, cons_option, find, slice_get, Contains, All, AllPairs}
+use Rattle.std.specs.List.{filter, filter_map, cons_option, find, slice_get, Contains, AllPairs}
 use Rattle.std.specs.Option.{option_map, option_map_or}
-use Rattle.std.proofs.lemmas.Bool.{cases_Bool, cases_eq, and_parts, cond-true, cond-false, eqb-true, ne_eqb, ltb-true, true≢false, false_from_ne_true}
+use Rattle.std.proofs.lemmas.Bool.{cases_Bool, and_parts, cond-true, cond-false, ne_eqb, ltb-true, true≢false, false_from_ne_true}
 use Rattle.std.proofs.lemmas.List.Elements.{All-contains}
 use Rattle.std.proofs.lemmas.List.Sums.{sum_by-cons}
 use Rattle.std.proofs.lemmas.Option.{same_Some}
@@ -13,21 +13,20 @@ use Rattle.sem_msg.specs.declared.call.Call.{Call}
 use Rattle.sem_msg.specs.declared.call.Call.TheVariants.{Derive, Gate, Obtain, Delegate, OpenSession, AskOffer, Revoke, Bind, Read, Write, Send as SendCall, Credit, Exit, Clear}
 use Rattle.sem_msg.specs.declared.event.Act.{Act}
 use Rattle.sem_msg.specs.declared.event.Act.TheVariants.{Call as Calls, Fetch, Handle, Upcall, Resume, Flush, Kill}
-use Rattle.sem_msg.specs.declared.entry.Detail.{Detail}
 use Rattle.sem_msg.specs.declared.entry.Detail.TheVariants.{Called, Nothing}
 use Rattle.sem_msg.specs.declared.entry.Entry.{Entry}
 use Rattle.sem_msg.specs.declared.entry.Reply.{Reply}
 use Rattle.sem_msg.specs.declared.setup.VpeDecl.{VpeDecl}
 use Rattle.sem_msg.specs.Journal.{replies, kill_number}
 use Rattle.sem_msg.specs.Lookups.{kernel_of, calls_of, decl, pe_owner}
-use Rattle.sem_msg.specs.Setup.{Setup, IsSetup, IsVpeDecl, call_count}
+use Rattle.sem_msg.specs.Setup.{Setup, IsSetup, call_count}
 use Rattle.sem_machine.specs.Sides.{Side, row, is_alive, ask_taken}
 use Rattle.sem_machine.specs.Steps.{Step, plain}
 use Rattle.sem_machine.specs.Upcalls.{ask_decided, upcall_row}
 use Rattle.sem_machine.specs.Machine.{World, side, start, after, entry_of, is_enabled, is_locally_enabled, local_step, detail_of, input_of, next_call, replied_vpe}
-use Rattle.sem_machine.specs.Schedules.{IsRun, IsSchedule, world_after}
+use Rattle.sem_machine.specs.Schedules.{IsRun, world_after}
 use Rattle.sem_machine.specs.Journals.{ends, has_ended}
-use Rattle.sem_machine.specs.Living.{IsComplete, reply_count}
+use Rattle.sem_machine.specs.Living.{IsComplete}
 use Rattle.sem_machine.proofs.Folds.{option-keeps}
 use Rattle.sem_safety.proofs.CarryingWorlds.{stepped}
 use Rattle.sem_safety.proofs.Skeleton.{decided-by}

@@ -7,3 +7,4 @@ pub mod Runs
 pub mod Upwards
 pub mod Straying
 pub mod Answering
+pub mod Losing

@@ -1,10 +1,12 @@
 -- What the kernels hold, and the text of the report of a journal ("The report" in docs/texts.md).
-use Rattle.std.specs.Prelude.{ℕ, List, [], length, map, flat_map}
+use Rattle.std.specs.Prelude.{◌≡◌, ℕ, List, [], length, map, flat_map}
 use Rattle.sem_key.specs.KeyName.{KeyName}
 use Rattle.sem_key.specs.Lists.{in_turn}
 use Rattle.sem_key.specs.Capability.{Capability}
 use Rattle.sem_key.specs.CapList.{with_cap}
+use Rattle.sem_msg.specs.declared.audit.Audit.{Audit}
 use Rattle.sem_msg.specs.declared.entry.Entry.{Entry}
+use Rattle.sem_msg.specs.Audits.{held_pairs}
 use Rattle.sem_msg.specs.Setup.{Setup}
 use Rattle.sem_journal.specs.ReportText.{report_text}
 use Rattle.sem_machine.specs.Sides.{Side}
@@ -22,3 +24,9 @@ held ss = map (λ c. (c.key, c.selector)) (all_caps ss)
 -- the text of the report of a journal: with how many keys it made and cut, and what is held after it
 abbrev pub report : Setup → List Entry → List ℕ
 report T J = report_text T J (length (made T J)) (length (cut T J)) (held (world_after T J).sides)
+
+-- it is the audit of a journal: with how many keys it made and cut, and what is held after it
+pub record IsAuditOf (T : Setup) (J : List Entry) (a : Audit) : Type 0 where
+  pub made : a.made ≡ length (made T J)
+  pub cut : a.cut ≡ length (cut T J)
+  pub held : held_pairs a.held ≡ held (world_after T J).sides

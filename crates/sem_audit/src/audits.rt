@@ -18,9 +18,11 @@ pub fn audit_of(
     journal: &Journal,
     kernels: &[Kernel],
 ) -> Result<Audit, OutOfMemory>
-    ensures made { IfOk result (λ audit. audit.made ≡ length (made_lem setup.now journal.now.entries)) }
+    ensures made { IfOk result (λ audit.
+        audit.made ≡ length (made_lem setup.now journal.now.entries)) }
     ensures cut { IfOk result (λ audit. audit.cut ≡ length (cut setup.now journal.now.entries)) }
-    ensures held { IfOk result (λ audit. held_pairs audit.held ≡ held (map (λ k. k.side) kernels.now)) }
+    ensures held { IfOk result (λ audit.
+        held_pairs audit.held ≡ held (map (λ k. k.side) kernels.now)) }
 {
     let made = made_keys(alloc, setup, journal)?;
     let cut = cut_among(alloc, &made, journal)?;

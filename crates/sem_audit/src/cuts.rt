@@ -20,7 +20,8 @@ pub fn cut_keys(alloc: Global, setup: &Setup, journal: &Journal) -> Result<Keys,
 
 // The cut, where these are the keys that were made.
 pub fn cut_among(alloc: Global, made: &[Key], journal: &Journal) -> Result<Keys, OutOfMemory>
-    ensures { IfOk result (λ keys. keys.keys ≡ key_set (cut_from [] journal.now.entries ++ filter (λ k. has_ended journal.now.entries k.vpe) made.now)) }
+    ensures { IfOk result (λ keys. keys.keys ≡ key_set (cut_from [] journal.now.entries
+        ++ filter (λ k. has_ended journal.now.entries k.vpe) made.now)) }
 {
     let mut keys = Keys::new(alloc);
     add_cut_off(alloc, &mut keys, journal.as_slice())?;
@@ -43,7 +44,8 @@ fn add_cut_off(alloc: Global, keys: &mut Keys, entries: &[Entry]) -> Result<(), 
 
 // Adds what the entry cuts off, where these grants were before it.
 fn add_cut_off_by(keys: &mut Keys, granted: &[(Key, Key)], entry: &Entry) -> Result<(), OutOfMemory>
-    ensures { OnOk result (keys.new.keys ≡ with_keys keys.old.keys (option_map_or (cut_off granted.now entry.now.detail) entry.now.cut [])) }
+    ensures { OnOk result (keys.new.keys ≡ with_keys keys.old.keys
+        (option_map_or (cut_off granted.now entry.now.detail) entry.now.cut [])) }
 {
     let Some(key) = entry.cut else {
         return Ok(());
@@ -63,7 +65,8 @@ fn add_cut_off_by(keys: &mut Keys, granted: &[(Key, Key)], entry: &Entry) -> Res
 
 // Adds the keys that were granted below the parent.
 fn add_children(keys: &mut Keys, granted: &[(Key, Key)], parent: Key) -> Result<(), OutOfMemory>
-    ensures { OnOk result (keys.new.keys ≡ with_keys keys.old.keys (children_in granted.now parent)) }
+    ensures { OnOk result (keys.new.keys
+        ≡ with_keys keys.old.keys (children_in granted.now parent)) }
 {
     for (above, child) in granted {
         if same_key(above, &parent) {
@@ -75,7 +78,8 @@ fn add_children(keys: &mut Keys, granted: &[(Key, Key)], parent: Key) -> Result<
 
 // Appends the grant of the entry, if there is one.
 pub fn push_grant(granted: &mut Vec<(Key, Key)>, entry: &Entry) -> Result<(), OutOfMemory>
-    ensures { OnOk result (granted.new.items ≡ granted.old.items ++ option_to_list entry.now.grant) }
+    ensures { OnOk result (granted.new.items
+        ≡ granted.old.items ++ option_to_list entry.now.grant) }
 {
     if let Some(grant) = entry.grant {
         granted.push(grant)?;
@@ -85,7 +89,8 @@ pub fn push_grant(granted: &mut Vec<(Key, Key)>, entry: &Entry) -> Result<(), Ou
 
 // Adds those of the keys that belong to one of the VPEs.
 fn add_ended(keys: &mut Keys, made: &[Key], ended: &[u16]) -> Result<(), OutOfMemory>
-    ensures { OnOk result (keys.new.keys ≡ with_keys keys.old.keys (filter (λ k. list_any (λ v. v == k.vpe) ended.now) made.now)) }
+    ensures { OnOk result (keys.new.keys ≡ with_keys keys.old.keys
+        (filter (λ k. list_any (λ v. v == k.vpe) ended.now) made.now)) }
 {
     for key in made {
         if ended.contains(&key.vpe) {
@@ -117,7 +122,8 @@ fn ended_vpes(alloc: Global, journal: &Journal) -> Result<Vec<u16>, OutOfMemory>
 
 // Appends the VPE that ends by the entry at that place, if there is one.
 fn push_ended_at(vpes: &mut Vec<u16>, journal: &Journal, at: usize) -> Result<(), OutOfMemory>
-    ensures { OnOk result (vpes.new.items ≡ vpes.old.items ++ ended_in (option_to_list (slice_get journal.now.entries at))) }
+    ensures { OnOk result (vpes.new.items ≡ vpes.old.items
+        ++ ended_in (option_to_list (slice_get journal.now.entries at))) }
 {
     let Some(entry) = journal.get(at) else {
         return Ok(());

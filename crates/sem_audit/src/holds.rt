@@ -19,7 +19,8 @@ pub fn held_list(alloc: Global, kernels: &[Kernel]) -> Result<HeldList, OutOfMem
 
 // What the kernels hold, in rising key order.
 pub fn found_held(alloc: Global, kernels: &[Kernel]) -> Result<Vec<Held>, OutOfMemory>
-    ensures { IfOk result (λ found. found.items ≡ with_caps [] (flat_map (λ s. s.caps) (map (λ k. k.side) kernels.now))) }
+    ensures { IfOk result (λ found. found.items
+        ≡ with_caps [] (flat_map (λ s. s.caps) (map (λ k. k.side) kernels.now))) }
 {
     let mut found = Vec::new(alloc);
     for kernel in kernels {
@@ -54,7 +55,8 @@ fn add_caps(found: &mut Vec<Held>, kernel: &Kernel) -> Result<(), OutOfMemory>
 // Adds what the kernel holds at that place, if there is something.
 fn add_cap_at(found: &mut Vec<Held>, kernel: &Kernel, place: usize) -> Result<(), OutOfMemory>
     requires { IsInOrder found.old.items }
-    ensures held { OnOk result (found.new.items ≡ with_caps found.old.items (option_to_list (slice_get kernel.now.side.caps place))) }
+    ensures held { OnOk result (found.new.items
+        ≡ with_caps found.old.items (option_to_list (slice_get kernel.now.side.caps place))) }
     ensures order { OnOk result (IsInOrder found.new.items) }
 {
     let Some(cap) = kernel.capability(place) else {

@@ -6,16 +6,20 @@ ghost use Rattle.sem_msg.specs.declared.entry.Entry.{Entry};
 ghost use Rattle.sem_msg.specs.declared.setup.VpeDecl.{VpeDecl};
 ghost use Rattle.sem_msg.specs.Journal.{replies};
 ghost use Rattle.sem_msg.specs.Setup.{Setup, IsSetup, call_count};
-ghost use Rattle.sem_machine.specs.Schedules.{world_after};
 ghost use Rattle.sem_machine.specs.Living.{IsComplete};
-ghost use Rattle.sem_audit.specs.Straying.{stray_count};
+ghost use Rattle.sem_audit.specs.Straying.{stray_after};
 
-/// After a complete schedule of any setup no key is stray: what is held is in the forest, and what is in the forest is held.
+/// After a complete schedule of any setup no key is stray: what is held is in the forest, and what
+/// is in the forest is held.
 pub fn nothing_is_stray()
-    ensures stray { (T : Setup) → IsSetup T → (J : List Entry) → IsComplete T J → stray_count T J (world_after T J).sides ≡ 0 }
+    ensures stray { (T : Setup) → IsSetup T → (J : List Entry) → IsComplete T J
+        → stray_after T J ≡ 0 }
 {}
 
-/// A complete schedule of a setup in which no VPE ends, since none is killed and none calls `exit`, has a reply to each call.
+/// A complete schedule of a setup in which no VPE ends, since none is killed and none calls `exit`,
+/// has a reply to each call.
 pub fn all_calls_are_answered()
-    ensures answered { (T : Setup) → IsSetup T → T.kills ≡ [] → ((d : VpeDecl) → Contains T.vpes d → Contains d.calls Exit → ⊥) → (J : List Entry) → IsComplete T J → length (replies J) ≡ call_count T }
+    ensures answered { (T : Setup) → IsSetup T → T.kills ≡ []
+        → ((d : VpeDecl) → Contains T.vpes d → Contains d.calls Exit → ⊥)
+        → (J : List Entry) → IsComplete T J → length (replies J) ≡ call_count T }
 {}

@@ -1,9 +1,7 @@
-ghost use Rattle.std.specs.Prelude.{◌≡◌, true, length, IfOk, OnOk};
-ghost use Rattle.sem_msg.specs.Audits.{held_pairs};
-ghost use Rattle.sem_machine.specs.Journals.{made, cut};
+ghost use Rattle.std.specs.Prelude.{◌≡◌, true, IfOk, OnOk};
 ghost use Rattle.sem_machine.specs.Machine.{is_enabled, after};
 ghost use Rattle.sem_machine.specs.Schedules.{IsSchedule, world_after};
-ghost use Rattle.sem_audit.specs.HeldKeys.{held};
+ghost use Rattle.sem_audit.specs.HeldKeys.{IsAuditOf};
 
 use crate::audits::audit_of;
 use sem_kernel::{StepError, World};
@@ -14,18 +12,19 @@ use std::alloc::Global;
 /// The audit of a journal that the machine can make: it goes through the events once more.
 pub fn audit(alloc: Global, setup: &Setup, journal: &Journal) -> Result<Audit, OutOfMemory>
     requires { IsSchedule setup.now journal.now.entries }
-    ensures made { IfOk result (λ audit. audit.made ≡ length (made setup.now journal.now.entries)) }
-    ensures cut { IfOk result (λ audit. audit.cut ≡ length (cut setup.now journal.now.entries)) }
-    ensures held { IfOk result (λ audit. held_pairs audit.held ≡ held (world_after setup.now journal.now.entries).sides) }
+    ensures { IfOk result (IsAuditOf setup.now journal.now.entries) }
 {
     let world = replayed(alloc, setup, journal)?;
     audit_of(alloc, setup, journal, world.kernels())
 }
 
 // The world after the events of the journal.
-fn replayed(alloc: Global, setup: &Setup, journal: &Journal) -> Result<World, OutOfMemory>
+pub fn replayed(alloc: Global, setup: &Setup, journal: &Journal) -> Result<World, OutOfMemory>
     requires { IsSchedule setup.now journal.now.entries }
-    ensures { IfOk result (λ world. world ≡ record { setup = setup.now; world = world_after setup.now journal.now.entries }) }
+    ensures { IfOk result (λ world. world ≡ record {
+      setup = setup.now;
+      world = world_after setup.now journal.now.entries;
+    }) }
 {
     let mut world = World::boot(alloc, setup)?;
     for at in 0..journal.len() {
@@ -40,7 +39,10 @@ fn replayed(alloc: Global, setup: &Setup, journal: &Journal) -> Result<World, Ou
 // Takes the step of an event that is enabled.
 fn go_on(world: &mut World, event: Event) -> Result<(), OutOfMemory>
     requires { is_enabled world.old.setup world.old.world event ≡ true }
-    ensures { OnOk result (world.new ≡ record { setup = world.old.setup; world = after world.old.setup world.old.world event }) }
+    ensures { OnOk result (world.new ≡ record {
+      setup = world.old.setup;
+      world = after world.old.setup world.old.world event;
+    }) }
 {
     match world.step(event) {
         Ok(_) => Ok(()),

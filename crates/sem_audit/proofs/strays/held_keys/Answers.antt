@@ -1,4 +1,4 @@
-use Rattle.std.proofs.Common.{◌≡◌, ℕ, map, ◌∙◌, ap, arith}
+use Rattle.std.proofs.Common.{ℕ, map, ◌∙◌, ap, arith}
 use Rattle.std.proofs.lemmas.List.{take_all}
 use Rattle.sem_key.specs.KeyName.{KeyName}
 use Rattle.sem_msg.specs.declared.audit.Held.{Held}
