@@ -30,7 +30,8 @@ pub fn push_differing(
     entered: &Entry,
     replayed: &Option<Entry>,
 ) -> Result<(), OutOfMemory>
-    ensures ok { OnOk result (out.new.items ≡ out.old.items ++ differing_line number entered.now replayed.now) }
+    ensures ok { OnOk result (out.new.items ≡ out.old.items
+        ++ differing_line number entered.now replayed.now) }
 {
     push_place(out, number)?;
     push_entry_words(out, entered)?;
@@ -54,7 +55,8 @@ pub fn push_going_on(out: &mut Vec<u8>, number: u64, next: &Entry) -> Result<(),
 
 // Appends the beginning of a line on an entry.
 fn push_place(out: &mut Vec<u8>, number: u64) -> Result<(), OutOfMemory>
-    ensures ok { OnOk result (out.new.items ≡ out.old.items ++ (codes "report refused: entry " ++ decimal number ++ codes ": entered ")) }
+    ensures ok { OnOk result (out.new.items ≡ out.old.items
+        ++ (codes "report refused: entry " ++ decimal number ++ codes ": entered ")) }
 {
     out.extend_from_slice(b"report refused: entry ")?;
     push_number(out, number)?;

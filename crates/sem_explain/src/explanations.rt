@@ -1,52 +1,56 @@
 // Why a trace or a report is refused.
-ghost use Rattle.std.specs.Prelude.{◌≤◌, length};
-
 use crate::texts::{push_entry, push_numbered, push_shown, text_of_line};
-use sem_audit::audit_of;
-use sem_check::{CheckError, check};
 use sem_draw::{Answer, Ending};
-use sem_hint::{refusal_text, tells_report};
+use sem_hint::refusal_text;
 use sem_key::OutOfMemory;
-use sem_msg::{Audit, Entry, Journal, Setup};
+use sem_msg::{Audit, Entry};
 use sem_reader::read_trace;
-use sem_report::{first_difference, print_report, read_report};
-use sem_trace::{TraceError, TraceFault};
+use sem_report::{Verdict, push_audit};
+use sem_trace::{Lines, TraceError, TraceFault};
 use std::alloc::Global;
 
 /// How many entries are shown before the one that is wrong.
 const BEFORE: usize = 5;
 
-/// Why these bytes, a trace or a report, are refused, or that they are accepted. They are a report
-/// where their first line that says something is that of one. An input that is refused is explained
+/// Why these bytes, a trace, are refused, or that they are accepted. What is refused is explained
 /// on standard output.
-///
-/// The bytes are at most one more than a report may have.
-pub fn explain(alloc: Global, bytes: &[u8]) -> Result<Answer, OutOfMemory>
-    requires few { length bytes.now ≤ 134217729 }
-{
-    if tells_report(alloc, bytes)? {
-        return explain_report(alloc, bytes);
-    }
+pub fn explain_trace(alloc: Global, bytes: &[u8]) -> Result<Answer, OutOfMemory> {
     match read_trace(alloc, bytes) {
         Ok(_) => accepted(alloc, "the trace is accepted\n"),
         Err(TraceError::Refused(fault)) => {
-            explain_text(alloc, bytes, "the trace is refused: ", &fault)
+            explain_text(alloc, bytes, "the trace is refused: ", &fault, false)
         }
         Err(TraceError::Memory) => Err(OutOfMemory),
     }
 }
 
-// Why these bytes, a report, are refused, or that they are accepted.
-fn explain_report(alloc: Global, bytes: &[u8]) -> Result<Answer, OutOfMemory>
-    requires few { length bytes.now ≤ 134217729 }
-{
-    match read_report(alloc, bytes) {
-        Ok((setup, journal, _)) => explain_journal(alloc, bytes, &setup, &journal),
-        Err(TraceError::Refused(fault)) => {
-            explain_text(alloc, bytes, "the report is refused: ", &fault)
+/// Why these bytes, a report on which this is the verdict, are refused, or that they are accepted.
+/// What is refused is explained on standard output.
+pub fn explain_report(
+    alloc: Global,
+    bytes: &[u8],
+    verdict: &Verdict,
+) -> Result<Answer, OutOfMemory> {
+    let out = match verdict {
+        Verdict::Accepted { .. } => {
+            return accepted(
+                alloc,
+                "the report is accepted: it is that of a complete schedule\n",
+            );
         }
-        Err(TraceError::Memory) => Err(OutOfMemory),
-    }
+        Verdict::BadLine { fault } => {
+            return explain_text(alloc, bytes, "the report is refused: ", fault, true);
+        }
+        Verdict::BadEntry {
+            journal,
+            entry,
+            entered,
+            replayed,
+        } => differing_text(alloc, journal.as_slice(), *entry, (entered, replayed))?,
+        Verdict::NotOver { journal, next } => going_on_text(alloc, journal.as_slice(), next)?,
+        Verdict::BadAudit { line, due } => audit_text(alloc, bytes, *line, due)?,
+    };
+    Ok(refused(alloc, out))
 }
 
 // That the input is accepted.
@@ -69,80 +73,39 @@ fn explain_text(
     bytes: &[u8],
     begin: &str,
     fault: &TraceFault,
+    is_report: bool,
 ) -> Result<Answer, OutOfMemory> {
-    let is_report = tells_report(alloc, bytes)?;
     let mut out = String::from_str(alloc, begin)?;
     out.push_str(refusal_text(alloc, bytes, fault, is_report)?.as_str())?;
     Ok(refused(alloc, out))
 }
 
-// Why a report with that setup and journal is refused, or that it is accepted.
-fn explain_journal(
-    alloc: Global,
-    bytes: &[u8],
-    setup: &Setup,
-    journal: &Journal,
-) -> Result<Answer, OutOfMemory>
-    requires few { length bytes.now ≤ 134217729 }
-{
-    match audit_complete(alloc, setup, journal) {
-        Ok(audit) => explain_audit(alloc, bytes, setup, journal, &audit),
-        Err(
-            CheckError::Differs {
-                entry,
-                entered,
-                replayed,
-            },
-        ) => {
-            let entries = journal.as_slice();
-            let out = differing_text(alloc, entries, entry, (&entered, &replayed))?;
-            Ok(refused(alloc, out))
-        }
-        Err(CheckError::Incomplete { next, .. }) => {
-            let out = going_on_text(alloc, journal.as_slice(), &next)?;
-            Ok(refused(alloc, out))
-        }
-        Err(CheckError::Memory) => Err(OutOfMemory),
-    }
-}
-
-// The audit of a journal that is a complete schedule of the setup, else what is wrong with it.
-fn audit_complete(alloc: Global, setup: &Setup, journal: &Journal) -> Result<Audit, CheckError> {
-    match check(alloc, setup, journal) {
-        Ok(world) => match audit_of(alloc, setup, journal, world.kernels()) {
-            Ok(audit) => Ok(audit),
-            Err(OutOfMemory) => Err(CheckError::Memory),
-        },
-        Err(error) => Err(error),
-    }
-}
-
-// Whether the report of a complete schedule has this audit.
-fn explain_audit(
-    alloc: Global,
-    bytes: &[u8],
-    setup: &Setup,
-    journal: &Journal,
-    audit: &Audit,
-) -> Result<Answer, OutOfMemory>
-    requires few { length bytes.now ≤ 134217729 }
-{
-    let mut report = Vec::new(alloc);
-    print_report(alloc, setup, journal, audit, &mut report)?;
-    let Some(line) = first_difference(bytes, report.as_slice(), 1) else {
-        return accepted(
-            alloc,
-            "the report is accepted: it is that of a complete schedule\n",
-        );
-    };
+// That a line of the report tells the audit otherwise than is due, and the line that is due.
+fn audit_text(alloc: Global, bytes: &[u8], line: u64, due: &Audit) -> Result<String, OutOfMemory> {
     let mut out = format!(in alloc;
         "the report is refused: line {line} is not that of the audit of this journal\n"
     )?;
-    let given = text_of_line(alloc, bytes, line)?;
-    push_shown(&mut out, "report", given.as_str())?;
-    let wanted = text_of_line(alloc, report.as_slice(), line)?;
+    let told = text_of_line(alloc, bytes, line)?;
+    push_shown(&mut out, "report", told.as_str())?;
+    let mut audit = Vec::new(alloc);
+    push_audit(&mut audit, due)?;
+    let place = line.saturating_sub(lines_before_audit(bytes));
+    let wanted = text_of_line(alloc, audit.as_slice(), place)?;
     push_shown(&mut out, "machine", wanted.as_str())?;
-    Ok(refused(alloc, out))
+    Ok(out)
+}
+
+// How many lines stand before the audit of a report; all, where it has none.
+fn lines_before_audit(bytes: &[u8]) -> u64 {
+    let mut lines = Lines::of(bytes);
+    let most = bytes.len() as u64;
+    for count in 0..most {
+        match lines.next_line() {
+            Some(b"audit") | None => return count,
+            Some(_) => {}
+        }
+    }
+    most
 }
 
 // That an entry is not the one that its event makes, and the one that it makes, if it is enabled.

@@ -4,4 +4,4 @@
 mod explanations;
 mod texts;
 
-pub use explanations::explain;
+pub use explanations::{explain_report, explain_trace};

@@ -47,8 +47,9 @@ pub fn read_all<S: Source>(alloc: Global, input: &mut S, limit: usize) -> Result
     ensures taken { IfOk result (λ read. Takes (S.left input.old) (S.left input.new) read.items) }
     ensures within { IfOk result (λ read. vec_len read ≤ limit + 1) }
 
-    // A fault is one of the source. Want of memory is the other error.
+    // A fault is one of the source. Lack of memory is the other error, and no fault.
     ensures fault { IsErrOf result ReadError.Fault → Rose (S.faults input.old) (S.faults input.new) }
+    ensures memory { IsErrOf result ReadError.Memory → S.faults input.new ≡ S.faults input.old }
     ensures quiet { OnOk result (S.faults input.new ≡ S.faults input.old) }
     ensures err { OnErr result (TakesAtMost (S.left input.old) (S.left input.new) (limit + 1)) }
     ensures never_falls { S.faults input.old ≤ S.faults input.new }

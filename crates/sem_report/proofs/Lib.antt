@@ -10,3 +10,4 @@ pub mod PrintedLines
 pub mod PrintedReport
 pub mod WholeText
 pub mod TraceHead
+pub mod AuditLines

@@ -53,7 +53,7 @@ same_list P words one (x ∷ xs) (y ∷ ys) all all' same =
 same_words : (ws vs : List (List ℕ)) → are_plain ws ≡ true → are_plain vs ≡ true → line ws ≡ line vs → ws ≡ vs
 same_words ws vs plain plain' same = sym (words_line ws plain) ∙ (ap words_in same ∙ words_line vs plain')
 
-same_count : (name : List ℕ) (m n : ℕ) → is_plain_word name ≡ true → m ≤ 4294967295 → n ≤ 4294967295 → line (name ∷ decimal m ∷ []) ≡ line (name ∷ decimal n ∷ []) → m ≡ n
+pub same_count : (name : List ℕ) (m n : ℕ) → is_plain_word name ≡ true → m ≤ 4294967295 → n ≤ 4294967295 → line (name ∷ decimal m ∷ []) ≡ line (name ∷ decimal n ∷ []) → m ≡ n
 same_count name m n plain small small' same =
     let words = same_words (name ∷ decimal m ∷ []) (name ∷ decimal n ∷ []) (rw (plain, decimal_plain m) refl) (rw (plain, decimal_plain n) refl) same in
     decimal_injective m n (omega arith) (omega arith) (ap (λ (ws : List (List ℕ)). slice_index_or ws 1 []) words)
@@ -80,7 +80,7 @@ same_key version k l valid valid' same =
     let last : k.number ≡ l.number = same_number k.number l.number 3 (key_numbers k) (key_numbers l) (omega (arith, valid.2)) (omega (arith, valid'.2)) refl refl parts in
     λ i. record { pe = pe i; vpe = vpe i; kind = kind i; number = last i }
 
-same_held : (version : ℕ) (h g : KeyName × ℕ) → HeldFits version h → HeldFits version g → line (held_line h) ≡ line (held_line g) → h ≡ g
+pub same_held : (version : ℕ) (h g : KeyName × ℕ) → HeldFits version h → HeldFits version g → line (held_line h) ≡ line (held_line g) → h ≡ g
 same_held version h g fits fits' same =
     let words : held_line h ≡ held_line g = same_words (held_line h) (held_line g) (held_plain h) (held_plain g) same in
     let key : h.0 ≡ g.0 = same_key version h.0 g.0 fits.0 fits'.0 (ap (λ (ws : List (List ℕ)). slice_index_or ws 1 []) words) in

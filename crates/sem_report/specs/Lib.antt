@@ -2,3 +2,4 @@ pub mod WholeLines
 pub mod ReportRefusal
 pub mod ReadsReport
 pub mod ReportRanges
+pub mod Audited

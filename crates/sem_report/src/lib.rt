@@ -1,14 +1,18 @@
 //! Reports, printed and read.
 #![tactic(auto)]
 
+mod audits;
 mod laws;
 mod lines;
 mod report;
 mod report_lines;
 mod report_reader;
 mod trace_head;
+mod verdict;
 
+pub use audits::audit_difference;
 pub use laws::{one_report, reports_are_read};
 pub use lines::first_difference;
-pub use report::print_report;
+pub use report::{print_report, push_audit};
 pub use report_reader::read_report;
+pub use verdict::Verdict;

@@ -68,8 +68,9 @@ fn push_all_held(out: &mut Vec<u8>, held: &HeldList) -> Result<(), OutOfMemory>
     Ok(())
 }
 
-// Appends the lines of the audit.
-fn push_audit(out: &mut Vec<u8>, audit: &Audit) -> Result<(), OutOfMemory>
+/// Appends the lines of the audit, from `audit` on to the last line of a report. After lack of
+/// memory it may have appended a part.
+pub fn push_audit(out: &mut Vec<u8>, audit: &Audit) -> Result<(), OutOfMemory>
     ensures ok { OnOk result (out.new.items ≡ out.old.items
         ++ text (audit_lines audit.now.made audit.now.cut (held_pairs audit.now.held))) }
 {

@@ -1,62 +1,105 @@
 -- How a run of a setup ends: of the one that was read, on one thread or in threads, and of a generated one.
-use Rattle.std.proofs.Common.{◌≡◌, ℕ, ◌*◌, ◌⊎◌, List, [], ◌++◌, length, refl, ap, ◌∙◌, inl, inr}
+use Rattle.std.proofs.Common.{◌≡◌, ℕ, ◌*◌, List, [], length, Result, Ok, Err, refl, sym, ap, ◌∙◌, subst, inl, inr}
+use Rattle.std.specs.Prelude.{Contains, IfOk}
 use Rattle.sem_msg.specs.declared.entry.Entry.{Entry}
 use Rattle.sem_msg.specs.Journal.{replies}
-use Rattle.sem_msg.specs.Setup.{Setup, IsSetup}
+use Rattle.sem_msg.specs.declared.call.Call.TheVariants.{Exit}
+use Rattle.sem_msg.specs.declared.setup.VpeDecl.{VpeDecl}
+use Rattle.sem_msg.specs.Setup.{Setup, IsSetup, call_count}
 use Rattle.sem_gen.specs.Generated.{generated}
 use Rattle.sem_gen.proofs.Loads.{none-killed, none-exits, calls-counted}
 use Rattle.sem_machine.specs.Schedules.{IsSchedule, world_after}
 use Rattle.sem_machine.specs.Living.{IsComplete}
 use Rattle.sem_machine.specs.Seeded.{seeded}
-use Rattle.sem_audit.specs.HeldKeys.{report}
 use Rattle.sem_audit.specs.Straying.{stray_count}
 use Rattle.sem_audit.proofs.Answering.{all-answered}
 use Rattle.sem_audit.proofs.Straying.{none-stray}
+use Rattle.sem_trace.specs.declared.fault.TraceFault.{TraceFault}
 use Rattle.sem_cli.specs.Summary.{summary}
-use Rattle.sem_cli.specs.declared.statuses.Status.TheVariants.{Done}
+use Rattle.sem_cli.specs.declared.statuses.Status.{Status}
+use Rattle.sem_cli.specs.declared.statuses.Status.TheVariants.{Done, Usage, TraceRefused, ReadFault, WriteFault, Memory, ReportRefused}
 use Rattle.sem_cli.specs.declared.forms.Command.TheVariants.{Run, Threads, Soak}
-use Rattle.sem_run.specs.Inputs.{Given, Asks, ReadsTrace, IsQuietlyRead}
-use Rattle.sem_run.specs.Inputs.RunsSetup.{is_generated}
-use Rattle.sem_run.specs.Ends.{IsPartOfRun, WouldEnd}
+use Rattle.sem_run.specs.declared.response.Response.{Response}
+use Rattle.sem_run.specs.Inputs.{Given, Asks, AsksRun, IsUntouched, ReadsPart, ReadsTrace, IsRefused, IsQuietlyRead}
+use Rattle.sem_run.specs.Inputs.RunsSetup.{is_read, is_generated}
+use Rattle.sem_run.specs.Ends.{WouldEnd}
+use Rattle.sem_run.specs.Readings.{EndsRun, IsFaultTold, IsLoadTold, IsOkWith}
+use Rattle.sem_run.proofs.ReadInput.{untouched-part}
 
-pub run_ends : (g : Given) (seed : ℕ) (J : List Entry) (text : List ℕ) (T : Setup) → Asks g (Run seed) → ReadsTrace g T → J ≡ seeded T seed → IsComplete T J → text ≡ report T J → WouldEnd g J text Done
-run_ends g seed J text T is trace made complete told = inl (record { setup = T; seed = seed; run = record { command = is; trace = trace; seeded = made }; complete = complete; told = told })
+-- what holds of a value that is there, and what makes it be there
+pub both-hold : {A E : Type 0} (P Q : A → Type 0) (r : Result A E) → IfOk r P → IsOkWith Q r → (a : A) × P a × Q a
+both-hold P Q (Ok a) p q = (a, p, q)
+both-hold P Q (Err e) p q = absurd q
 
-pub threaded-ends : (g : Given) (seed : ℕ) (J : List Entry) (text : List ℕ) (T : Setup) → Asks g (Threads seed) → ReadsTrace g T → IsComplete T J → text ≡ report T J → WouldEnd g J text Done
-threaded-ends g seed J text T is trace complete told = inr (inr (inr (inl (record { setup = T; seed = seed; command = is; trace = trace; complete = complete; told = told }))))
+module _ (g : Given) (J : List Entry) (text : List ℕ) where
+  -- a part of a trace that was read
+  read-part : (T : Setup) → ReadsTrace g T → ReadsPart g
+  read-part T trace = (trace.text, trace.taken)
 
--- a load: the laws of complete schedules say the rest
-pub soaked-ends : (g : Given) (seed vpes calls : ℕ) (J : List Entry) (text : List ℕ) → Asks g (Soak seed vpes calls) → g.after ≡ g.before → IsQuietlyRead g → IsSetup (generated seed vpes calls) → IsComplete (generated seed vpes calls) J
-    → text ≡ summary vpes (vpes * calls) (length (replies J)) (stray_count (generated seed vpes calls) J (world_after (generated seed vpes calls) J).sides) → WouldEnd g J text Done
-soaked-ends g seed vpes calls J text is unread quiet valid complete told = inr (inr (inr (inr (record {
-  setup = generated seed vpes calls;
-  seed = seed;
-  vpes = vpes;
-  calls = calls;
-  command = is;
-  made = refl;
-  valid = valid;
-  unread = unread;
-  quiet = quiet;
-  complete = complete;
-  all_answered = all-answered (generated seed vpes calls) valid (none-killed seed vpes calls) (none-exits seed vpes calls) J complete ∙ calls-counted seed vpes calls;
-  none_stray = none-stray (generated seed vpes calls) valid J complete;
-  told = told;
-}))))
+  module _ (seed : ℕ) (T : Setup) (trace : ReadsTrace g T) (quiet : IsQuietlyRead g) (runs : IsSchedule T J) where
+    pub run-ends : (status : Status) → Asks g (Run seed) → EndsRun T J text status → (status ≡ Done → J ≡ seeded T seed) → WouldEnd g J text status
+    run-ends Done asked ends made = inl (record { setup = T; seed = seed; run = record { command = asked; trace = trace; seeded = made refl }; complete = ends.0; told = ends.1 })
+    run-ends Usage asked ends made = absurd ends
+    run-ends TraceRefused asked ends made = absurd ends
+    run-ends ReadFault asked ends made = absurd ends
+    run-ends WriteFault asked ends made = absurd ends
+    run-ends Memory asked ends made = record { part = inr (T, is_read seed (inl asked) trace, runs); read = read-part T trace; quiet = quiet; told = ends }
+    run-ends ReportRefused asked ends made = absurd ends
 
--- a part of a load
-pub load-part : (g : Given) (seed vpes calls : ℕ) (J : List Entry) → Asks g (Soak seed vpes calls) → (J ≡ []) ⊎ (IsSchedule (generated seed vpes calls) J × IsSetup (generated seed vpes calls)) → IsPartOfRun g J
-load-part g seed vpes calls J asked (inl empty) = inl empty
-load-part g seed vpes calls J asked (inr (runs, valid)) = inr (generated seed vpes calls, is_generated seed vpes calls asked refl valid, runs)
+    pub threads-end : (status : Status) → Asks g (Threads seed) → EndsRun T J text status → WouldEnd g J text status
+    threads-end Done asked ends = inr (inr (inr (inl (record { setup = T; seed = seed; command = asked; trace = trace; complete = ends.0; told = ends.1 }))))
+    threads-end Usage asked ends = absurd ends
+    threads-end TraceRefused asked ends = absurd ends
+    threads-end ReadFault asked ends = absurd ends
+    threads-end WriteFault asked ends = absurd ends
+    threads-end Memory asked ends = record { part = inr (T, is_read seed (inr asked) trace, runs); read = read-part T trace; quiet = quiet; told = ends }
+    threads-end ReportRefused asked ends = absurd ends
 
--- the summary of the numbers that were found
-pub summary-told : (T U : Setup) (J : List Entry) (old new : List ℕ) (vpes calls v x y a s : ℕ) → old ≡ [] → U ≡ T → v ≡ vpes → x ≡ vpes → y ≡ calls → a ≡ length (replies J) → s ≡ stray_count U J (world_after U J).sides
-    → new ≡ old ++ summary v (x * y) a s → new ≡ summary vpes (vpes * calls) (length (replies J)) (stray_count T J (world_after T J).sides)
-summary-told T U J old new vpes calls v x y a s empty same is-v is-x is-y is-a is-s told =
-    told
-    ∙ (ap (λ (bytes : List ℕ). bytes ++ summary v (x * y) a s) empty
-    ∙ (ap (λ n. summary n (x * y) a s) is-v
-    ∙ (ap (λ n. summary vpes (n * y) a s) is-x
-    ∙ (ap (λ n. summary vpes (vpes * n) a s) is-y
-    ∙ (ap (λ n. summary vpes (vpes * calls) n s) is-a
-    ∙ ap (λ n. summary vpes (vpes * calls) (length (replies J)) n) (is-s ∙ ap (λ (V : Setup). stray_count V J (world_after V J).sides) same))))))
+  -- a text that is no trace
+  pub fault-ends : (seed : ℕ) (fault : TraceFault) → AsksRun g seed → IsRefused g fault → ReadsPart g → IsQuietlyRead g → J ≡ [] → (status : Status) → IsFaultTold fault text status → WouldEnd g J text status
+  fault-ends seed fault asked refused read quiet empty Done told = absurd told
+  fault-ends seed fault asked refused read quiet empty Usage told = absurd told
+  fault-ends seed fault asked refused read quiet empty TraceRefused told = record { seed = seed; command = asked; fault = fault; refused = refused; read = read; quiet = quiet; no_journal = empty; told = told }
+  fault-ends seed fault asked refused read quiet empty ReadFault told = absurd told
+  fault-ends seed fault asked refused read quiet empty WriteFault told = absurd told
+  fault-ends seed fault asked refused read quiet empty Memory told = record { part = inl empty; read = read; quiet = quiet; told = told }
+  fault-ends seed fault asked refused read quiet empty ReportRefused told = absurd told
+
+  -- a load: the laws of complete schedules say the rest
+  module _ (seed vpes calls : ℕ) (T : Setup) (asked : Asks g (Soak seed vpes calls)) (is : T ≡ generated seed vpes calls) (valid : IsSetup T) (untouched : IsUntouched g) where
+    pub soak-ends : IsComplete T J → text ≡ summary vpes (vpes * calls) (length (replies J)) (stray_count T J (world_after T J).sides) → WouldEnd g J text Done
+    soak-ends complete told = inr (inr (inr (inr (record {
+      setup = T;
+      seed = seed;
+      vpes = vpes;
+      calls = calls;
+      command = asked;
+      made = is;
+      valid = valid;
+      untouched = untouched;
+      complete = complete;
+      all_answered = all-answered T valid (subst (λ U. U.kills ≡ []) (sym is) (none-killed seed vpes calls)) (subst (λ (U : Setup). (d : VpeDecl) → Contains U.vpes d → Contains d.calls Exit → ⊥) (sym is) (none-exits seed vpes calls)) J complete ∙ (ap call_count is ∙ calls-counted seed vpes calls);
+      none_stray = none-stray T valid J complete;
+      told = told;
+    }))))
+
+    -- memory was lacking on the way
+    pub soak-part : IsSchedule T J → text ≡ [] → WouldEnd g J text Memory
+    soak-part runs told = record { part = inr (T, is_generated seed vpes calls asked is valid, runs); read = untouched-part g untouched; quiet = untouched.quiet; told = told }
+
+    pub load-ends : IsComplete T J → (status : Status) → IsLoadTold T J vpes (vpes * calls) text status → WouldEnd g J text status
+    load-ends complete Done told = soak-ends complete told
+    load-ends complete Usage told = absurd told
+    load-ends complete TraceRefused told = absurd told
+    load-ends complete ReadFault told = absurd told
+    load-ends complete WriteFault told = absurd told
+    load-ends complete Memory told = soak-part complete.schedule told
+    load-ends complete ReportRefused told = absurd told
+
+  -- memory was lacking before anything was run or read
+  pub nothing-done : IsUntouched g → J ≡ [] → text ≡ [] → WouldEnd g J text Memory
+  nothing-done untouched empty told = record { part = inl empty; read = untouched-part g untouched; quiet = untouched.quiet; told = told }
+
+-- a response for lack of memory
+pub memory-ends : (g : Given) (r : Response) (J : List Entry) → r.status ≡ Memory → r.text.items ≡ [] → r.journal.entries ≡ J → WouldEnd g J [] Memory → WouldEnd g r.journal.entries r.text.items r.status
+memory-ends g r J status text journal ends = rw (status, text, journal) ends

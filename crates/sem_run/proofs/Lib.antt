@@ -2,5 +2,6 @@ pub mod ReadInput
 pub mod Asked
 pub mod SafeRuns
 pub mod Ending
-pub mod Judging
+pub mod FoundVerdicts
 pub mod Accepting
+pub mod Serving

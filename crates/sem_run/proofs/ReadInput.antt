@@ -1,26 +1,33 @@
 -- What the bytes that were read tell of the input. One byte more is read than a text may have.
 use Rattle.std.proofs.Common.{◌≡◌, ℕ, ◌+◌, ◌<◌, ◌≤◌, List, [], ◌∷◌, ◌++◌, length, take, Option, Some, None, IfSome, refl, sym, ◌∙◌, ap, subst, arith, inl, inr}
 use Rattle.std.specs.Prelude.{nat_lt}
-use Rattle.std.proofs.lemmas.Bool.{cases_lt, cond-true, lt-ltb}
+use Rattle.std.proofs.lemmas.Bool.{cases_lt, cond-true, lt-ltb, false≢true}
 use Rattle.std.proofs.lemmas.List.{length-append, take_all, length-take}
 use Rattle.std.proofs.lemmas.Option.{none-some}
 use Rattle.sem_msg.specs.Setup.{Setup, IsSetup}
 use Rattle.sem_io.specs.SourceBytes.{Takes}
+use Rattle.sem_io.proofs.Moves.{Takes-nil}
 use Rattle.sem_trace.specs.declared.fault.Cause.TheVariants.{InputTooLong}
 use Rattle.sem_trace.specs.declared.fault.TraceFault.{TraceFault}
 use Rattle.sem_trace.specs.Refusal.{refusal}
 use Rattle.sem_trace.specs.Standing.{Stands, IsWhy}
 use Rattle.sem_trace.specs.declared.fault.TraceError.{TraceError}
 use Rattle.sem_trace.specs.declared.fault.TraceError.TheVariants.{Refused as RefusedText}
+use Rattle.sem_report.specs.declared.verdict.Verdict.{Verdict}
+use Rattle.sem_report.specs.declared.verdict.Verdict.TheVariants.{Accepted, BadLine, BadEntry, NotOver, BadAudit}
 use Rattle.sem_report.specs.ReportRefusal.{report_refusal}
 use Rattle.sem_cli.specs.declared.forms.Command.TheVariants.{Check}
 use Rattle.sem_cli.specs.declared.statuses.Status.{Status}
 use Rattle.sem_cli.specs.declared.statuses.Status.TheVariants.{Done, Usage, TraceRefused, ReadFault, WriteFault, Memory, ReportRefused}
-use Rattle.sem_run.specs.Inputs.{Given, Asks, ReadsTrace}
-use Rattle.sem_run.specs.Reports.{IsRefusedReport}
-use Rattle.sem_run.specs.Reports.IsRefusedReport.{BadLine, BadEntry, NotOver, BadAudit}
-use Rattle.sem_run.specs.Readings.{IsVerdict}
+use Rattle.sem_msg.specs.declared.entry.Entry.{Entry}
+use Rattle.sem_run.specs.Inputs.{Given, Asks, IsUntouched, ReadsPart, ReadsTrace, IsQuietlyRead}
+use Rattle.sem_run.specs.Reports.{IsVerdict}
+use Rattle.sem_run.specs.Readings.{IsVerdictTold}
 use Rattle.sem_run.specs.Ends.{WouldEnd}
+
+-- nothing was read
+pub untouched-part : (g : Given) → IsUntouched g → ReadsPart g
+untouched-part g untouched = ([], subst (λ after. Takes g.before after []) (sym untouched.unread) (Takes-nil g.before))
 
 -- the refusal of a text that is too long
 abbrev long_fault : TraceFault
@@ -88,37 +95,63 @@ reads-trace g read is T taken stands valid = record {
 
 -- A report.
 
--- where it is refused, it is refused as what was read
-refused-whole : (bytes read text : List ℕ) → read ≡ take (134217728 + 1) bytes → IsRefusedReport read text → IsRefusedReport bytes text
-refused-whole bytes read text is (BadLine fault bad told) = BadLine fault (same-refusal 134217728 report_refusal long-report bytes read is ∙ bad) told
-refused-whole bytes read text is (BadEntry T J n entered replayed tells differs told) = subst (λ x. IsRefusedReport x text) (all-read 134217728 bytes read is (short 134217728 report_refusal long-report read tells.accepted)) (BadEntry T J n entered replayed tells differs told)
-refused-whole bytes read text is (NotOver T J n next tells goes told) = subst (λ x. IsRefusedReport x text) (all-read 134217728 bytes read is (short 134217728 report_refusal long-report read tells.accepted)) (NotOver T J n next tells goes told)
-refused-whole bytes read text is (BadAudit T J line tells complete differs told) = subst (λ x. IsRefusedReport x text) (all-read 134217728 bytes read is (short 134217728 report_refusal long-report read tells.accepted)) (BadAudit T J line tells complete differs told)
+module _ (bytes read : List ℕ) (is : read ≡ take (134217728 + 1) bytes) where
+  -- what no line of which is bad was read whole
+  told-whole : report_refusal read ≡ None → read ≡ bytes
+  told-whole accepted = all-read 134217728 bytes read is (short 134217728 report_refusal long-report read accepted)
 
-refused-input : (left : Option (List ℕ)) (read text : List ℕ) → IsRead 134217728 left read → IsRefusedReport read text → (bytes : List ℕ) × IfSome left (λ all. all ≡ bytes) × IsRefusedReport bytes text
-refused-input None read text is refused = (read, tt, refused)
-refused-input (Some bytes) read text is refused = (bytes, refl, refused-whole bytes read text is refused)
+  -- the verdict on what was read is that on the input
+  same-verdict : (verdict : Verdict) → IsVerdict read verdict → IsVerdict bytes verdict
+  same-verdict (Accepted T journal due) found = subst (λ x. IsVerdict x (Accepted T journal due)) (told-whole found.0.tells.accepted) found
+  same-verdict (BadLine fault) found = same-refusal 134217728 report_refusal long-report bytes read is ∙ found
+  same-verdict (BadEntry journal n entered replayed) found = subst (λ x. IsVerdict x (BadEntry journal n entered replayed)) (told-whole found.1.accepted) found
+  same-verdict (NotOver journal next) found = subst (λ x. IsVerdict x (NotOver journal next)) (told-whole found.1.accepted) found
+  same-verdict (BadAudit line due) found = subst (λ x. IsVerdict x (BadAudit line due)) (told-whole found.2.tells.accepted) found
+
+input-verdict : (left : Option (List ℕ)) (read : List ℕ) (verdict : Verdict) → IsRead 134217728 left read → IsVerdict read verdict → (bytes : List ℕ) × IfSome left (λ all. all ≡ bytes) × IsVerdict bytes verdict
+input-verdict None read verdict is found = (read, tt, found)
+input-verdict (Some bytes) read verdict is found = (bytes, refl, same-verdict bytes read is verdict found)
 
 -- how the check of what was read ends
-pub check-ends : (g : Given) (read text : List ℕ) (status : Status) → Asks g Check → IsRead 134217728 g.before read → Takes g.before g.after read → g.faults_after ≡ g.faults_before → IsVerdict read text status → WouldEnd g [] text status
-check-ends g read text Done asked is taken quiet (report, accepted, told) = inr (inl (record {
-  command = asked;
-  setup = report.setup;
-  entries = report.entries;
-  valid = report.valid;
-  complete = report.complete;
-  input = record {
-    taken = subst (Takes g.before g.after) report.spelled taken;
-    to_end = at-end 134217728 g.before g.after read taken is (short 134217728 report_refusal long-report read accepted);
-  };
-  no_journal = refl;
-  told = told;
-}))
-check-ends g read text Usage asked is taken quiet verdict = absurd verdict
-check-ends g read text TraceRefused asked is taken quiet verdict = absurd verdict
-check-ends g read text ReadFault asked is taken quiet verdict = absurd verdict
-check-ends g read text WriteFault asked is taken quiet verdict = absurd verdict
-check-ends g read text Memory asked is taken quiet verdict = absurd verdict
-check-ends g read text ReportRefused asked is taken quiet verdict =
-    let told = refused-input g.before read text is verdict in
-    record { command = asked; bytes = told.0; input = told.1; refused = told.2; quiet = quiet; no_journal = refl }
+module _ (g : Given) (J : List Entry) (text read : List ℕ) (asked : Asks g Check) (is : IsRead 134217728 g.before read) (taken : Takes g.before g.after read) (quiet : IsQuietlyRead g) (empty : J ≡ []) where
+  accepted-ends : (verdict : Verdict) → IsVerdict read verdict → IsVerdictTold verdict text Done → WouldEnd g J text Done
+  accepted-ends (Accepted T journal due) found told = inr (inl (record {
+    command = asked;
+    setup = T;
+    entries = journal.entries;
+    valid = found.0.tells.fits.trace;
+    complete = found.0.complete;
+    input = record {
+      taken = subst (Takes g.before g.after) found.1 taken;
+      to_end = at-end 134217728 g.before g.after read taken is (short 134217728 report_refusal long-report read found.0.tells.accepted);
+    };
+    no_journal = empty;
+    told = told.1;
+  }))
+  accepted-ends (BadLine fault) found told = absurd (false≢true told.0)
+  accepted-ends (BadEntry journal n entered replayed) found told = absurd (false≢true told.0)
+  accepted-ends (NotOver journal next) found told = absurd (false≢true told.0)
+  accepted-ends (BadAudit line due) found told = absurd (false≢true told.0)
+
+  pub check-ends : (verdict : Verdict) → IsVerdict read verdict → (status : Status) → IsVerdictTold verdict text status → WouldEnd g J text status
+  check-ends verdict found Done told = accepted-ends verdict found told
+  check-ends verdict found Usage told = absurd told
+  check-ends verdict found TraceRefused told = absurd told
+  check-ends verdict found ReadFault told = absurd told
+  check-ends verdict found WriteFault told = absurd told
+  check-ends verdict found Memory told = record { part = inl empty; read = (read, taken); quiet = quiet; told = told }
+  check-ends verdict found ReportRefused told =
+      let input = input-verdict g.before read verdict is found in
+      record {
+        command = asked;
+        bytes = input.0;
+        input = input.1;
+        refused = record { verdict = verdict; found = input.2; refused = told.0; told = told.1 };
+        read = (read, taken);
+        quiet = quiet;
+        no_journal = empty;
+      }
+
+  -- memory was lacking when it was judged
+  pub unjudged : text ≡ [] → WouldEnd g J text Memory
+  unjudged told = record { part = inl empty; read = (read, taken); quiet = quiet; told = told }

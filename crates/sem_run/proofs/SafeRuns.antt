@@ -12,7 +12,7 @@ use Rattle.sem_machine.specs.Schedules.{IsRun, IsSchedule}
 use Rattle.sem_machine.specs.Seeded.{drain, entry_limit, picked, generator_of, seeded}
 use Rattle.sem_bound.proofs.Spent.{limited}
 use Rattle.sem_revoke.proofs.Safe.{all-safe}
-use Rattle.sem_safety.proofs.Pushing.{entry_of-event}
+use Rattle.sem_machine.proofs.Pushing.{entry_of-event}
 use Rattle.sem_serial.proofs.Running.{picked-enabled}
 use Rattle.sem_cli.specs.declared.statuses.Status.{Status}
 use Rattle.sem_cli.specs.declared.statuses.Status.TheVariants.{Done, Usage, TraceRefused, ReadFault, WriteFault, Memory, ReportRefused}

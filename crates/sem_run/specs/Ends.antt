@@ -1,13 +1,13 @@
 -- How the program ends: for each status why it comes, what text is written, and what the journal is ("The command line" in docs/texts.md).
-use Rattle.std.specs.Prelude.{◌≤◌, ◌+◌, ◌*◌, length, ◌≡◌, ◌≢◌, ℕ, ◌⊎◌, true, false, List, [], Option, None, IfSome}
+use Rattle.std.specs.Prelude.{◌≤◌, ◌+◌, ◌*◌, length, ◌≡◌, ◌≢◌, ℕ, ◌⊎◌, true, List, [], Option, None, IfSome}
 use Rattle.sem_msg.specs.declared.entry.Entry.{Entry}
 use Rattle.sem_msg.specs.Setup.{Setup, IsSetup, call_count, kill_count}
+use Rattle.sem_msg.specs.Journal.{replies}
 use Rattle.sem_io.specs.Count.{Rose}
 use Rattle.sem_io.specs.SinkBytes.{Appends, AppendsPrefix}
 use Rattle.sem_trace.specs.declared.fault.TraceFault.{TraceFault}
 use Rattle.sem_trace.specs.TraceText.{canonical}
 use Rattle.sem_gen.specs.Generated.{generated}
-use Rattle.sem_msg.specs.Journal.{replies}
 use Rattle.sem_machine.specs.Schedules.{IsSchedule, world_after}
 use Rattle.sem_machine.specs.Seeded.{seeded}
 use Rattle.sem_machine.specs.Living.{IsComplete}
@@ -18,11 +18,25 @@ use Rattle.sem_cli.specs.declared.forms.Command.{Command}
 use Rattle.sem_cli.specs.declared.forms.Command.TheVariants.{Run, Threads, Check, Generate, Soak}
 use Rattle.sem_cli.specs.declared.statuses.Status.{Status}
 use Rattle.sem_cli.specs.declared.statuses.Status.TheVariants.{Done, Usage, TraceRefused, ReadFault, WriteFault, Memory, ReportRefused}
-use Rattle.sem_cli.specs.Commands.{command_of}
 use Rattle.sem_cli.specs.Summary.{summary}
 use Rattle.sem_cli.specs.Messages.{usage_line, ok_line, refused_line}
-use Rattle.sem_run.specs.Inputs.{Given, Asks, AsksRun, ReadsAll, ReadsTrace, RunsSetup, IsRefused, IsQuietlyRead, is_run, reads_input}
+use Rattle.sem_run.specs.Inputs.{Given, Asks, AsksRun, IsUntouched, ReadsPart, ReadsAll, ReadsTrace, RunsSetup, IsRefused, IsQuietlyRead, is_run, reads_input}
 use Rattle.sem_run.specs.Reports.{IsRefusedReport}
+
+-- What the program leaves: its status, the journal, and its output before and after the call.
+pub record Output : Type 0 where
+  pub status : Status
+  pub journal : List Entry
+  -- the bytes that were written before and after, where they are known
+  pub before : Option (List ℕ)
+  pub after : Option (List ℕ)
+  -- how many faults the output has had before and after
+  pub faults_before : ℕ
+  pub faults_after : ℕ
+
+-- this status, journal and output, which tells what was written to it and how many faults it has had
+abbrev pub left : {K : Type 0} → (K → Option (List ℕ)) → (K → ℕ) → Status → List Entry → K → K → Output
+left written faults status journal old new = record { status = status; journal = journal; before = written old; after = written new; faults_before = faults old; faults_after = faults new }
 
 -- the journal is the seeded one of the setup that was read
 pub record RunsSeeded (g : Given) (J : List Entry) (T : Setup) (seed : ℕ) : Type 0 where
@@ -55,8 +69,7 @@ pub record EndsGenerated (g : Given) (J : List Entry) (text : List ℕ) : Type 0
   pub vpes : ℕ
   pub calls : ℕ
   pub command : Asks g (Generate seed vpes calls)
-  pub unread : g.after ≡ g.before
-  pub quiet : IsQuietlyRead g
+  pub untouched : IsUntouched g
   pub no_journal : J ≡ []
   pub told : text ≡ canonical (generated seed vpes calls)
 
@@ -78,8 +91,7 @@ pub record EndsSoaked (g : Given) (J : List Entry) (text : List ℕ) : Type 0 wh
   pub command : Asks g (Soak seed vpes calls)
   pub made : setup ≡ generated seed vpes calls
   pub valid : IsSetup setup
-  pub unread : g.after ≡ g.before
-  pub quiet : IsQuietlyRead g
+  pub untouched : IsUntouched g
   pub complete : IsComplete setup J
   pub all_answered : length (replies J) ≡ vpes * calls
   pub none_stray : stray_count setup J (world_after setup J).sides ≡ 0
@@ -89,27 +101,30 @@ pub record EndsSoaked (g : Given) (J : List Entry) (text : List ℕ) : Type 0 wh
 abbrev pub EndsDone : Given → List Entry → List ℕ → Type 0
 EndsDone g J text = EndsReported g J text ⊎ (EndsAccepted g J text ⊎ (EndsGenerated g J text ⊎ (EndsThreaded g J text ⊎ EndsSoaked g J text)))
 
--- Status 1: the words are no command.
+-- Status 1: the words are no command; nothing was read.
 pub record EndsUsage (g : Given) (J : List Entry) (text : List ℕ) : Type 0 where
-  pub no_command : command_of g.words ≡ None
+  pub no_command : g.asked ≡ None
+  pub untouched : IsUntouched g
   pub no_journal : J ≡ []
   pub told : text ≡ usage_line
 
--- Status 2: a command that reads a trace, and an input that is none.
+-- Status 2: a command that reads a trace, and an input that is none. At most a prefix of it was read.
 pub record EndsRefused (g : Given) (J : List Entry) (text : List ℕ) : Type 0 where
   pub seed : ℕ
   pub command : AsksRun g seed
   pub fault : TraceFault
   pub refused : IsRefused g fault
+  pub read : ReadsPart g
   pub quiet : IsQuietlyRead g
   pub no_journal : J ≡ []
   pub told : text ≡ refused_line fault
 
--- Status 3: a command that reads, and a read that failed.
+-- Status 3: a command that reads, and a read that failed, behind a prefix of the input.
 pub record EndsReadFault (g : Given) (J : List Entry) (text : List ℕ) : Type 0 where
   pub asked : Command
   pub command : Asks g asked
   pub reads : reads_input asked ≡ true
+  pub read : ReadsPart g
   pub fault : Rose g.faults_before g.faults_after
   pub no_journal : J ≡ []
   pub told : text ≡ []
@@ -118,17 +133,20 @@ pub record EndsReadFault (g : Given) (J : List Entry) (text : List ℕ) : Type 0
 abbrev pub IsPartOfRun : Given → List Entry → Type 0
 IsPartOfRun g J = (J ≡ []) ⊎ ((T : Setup) × RunsSetup g T × IsSchedule T J)
 
--- Status 5: memory was wanting.
+-- Status 5: memory was lacking. At most a prefix of the input was read, and no read failed.
 pub record EndsMemory (g : Given) (J : List Entry) (text : List ℕ) : Type 0 where
   pub part : IsPartOfRun g J
+  pub read : ReadsPart g
+  pub quiet : IsQuietlyRead g
   pub told : text ≡ []
 
--- Status 9: the input is not the report of a complete schedule, and the text tells why. It is told of some bytes, which are the input where that is known.
+-- Status 9: the input is not the report of a complete schedule, and the text tells why. It is told of some bytes, which are the input where that is known. At most a prefix of it was read.
 pub record EndsReportRefused (g : Given) (J : List Entry) (text : List ℕ) : Type 0 where
   pub command : Asks g Check
   pub bytes : List ℕ
-  pub input : IfSome g.before (λ left. left ≡ bytes)
+  pub input : IfSome g.before (λ all. all ≡ bytes)
   pub refused : IsRefusedReport bytes text
+  pub read : ReadsPart g
   pub quiet : IsQuietlyRead g
   pub no_journal : J ≡ []
 
@@ -142,33 +160,27 @@ WouldEnd g J text WriteFault = ⊥
 WouldEnd g J text Memory = EndsMemory g J text
 WouldEnd g J text ReportRefused = EndsReportRefused g J text
 
--- a text of which something holds was appended
-abbrev pub Writes : Option (List ℕ) → Option (List ℕ) → (List ℕ → Type 0) → Type 0
-Writes written written' P = (text : List ℕ) × P text × Appends written written' text
+-- a text of which something holds was appended to the output
+abbrev pub Writes : Output → (List ℕ → Type 0) → Type 0
+Writes o P = (text : List ℕ) × P text × Appends o.before o.after text
 
 -- a prefix of such a text was appended
-abbrev pub WritesPrefix : Option (List ℕ) → Option (List ℕ) → (List ℕ → Type 0) → Type 0
-WritesPrefix written written' P = (text : List ℕ) × P text × AppendsPrefix written written' text
+abbrev pub WritesPrefix : Output → (List ℕ → Type 0) → Type 0
+WritesPrefix o P = (text : List ℕ) × P text × AppendsPrefix o.before o.after text
 
--- Why the program ended with that status, with what it left: the journal, and what was written before and after. With status 4 that is a prefix of the text of some other status, and all else is as that one says.
-abbrev pub Ends : Status → Given → List Entry → Option (List ℕ) → Option (List ℕ) → Type 0
-Ends Done g J written written' = Writes written written' (EndsDone g J)
-Ends Usage g J written written' = Writes written written' (EndsUsage g J)
-Ends TraceRefused g J written written' = Writes written written' (EndsRefused g J)
-Ends ReadFault g J written written' = Writes written written' (EndsReadFault g J)
-Ends WriteFault g J written written' = (status : Status) × WritesPrefix written written' (λ text. WouldEnd g J text status)
-Ends Memory g J written written' = Writes written written' (EndsMemory g J)
-Ends ReportRefused g J written written' = Writes written written' (EndsReportRefused g J)
+-- why the program ended with that status: with 4 it wrote a prefix of the text of some other status, and all else is as that one says
+abbrev pub EndsWith : Status → Given → Output → Type 0
+EndsWith Done g o = Writes o (EndsDone g o.journal)
+EndsWith Usage g o = Writes o (EndsUsage g o.journal)
+EndsWith TraceRefused g o = Writes o (EndsRefused g o.journal)
+EndsWith ReadFault g o = Writes o (EndsReadFault g o.journal)
+EndsWith WriteFault g o = (status : Status) × WritesPrefix o (λ text. WouldEnd g o.journal text status)
+EndsWith Memory g o = Writes o (EndsMemory g o.journal)
+EndsWith ReportRefused g o = Writes o (EndsReportRefused g o.journal)
 
--- the status is this one, unless a count of faults rose or memory was wanting
-abbrev pub IsOrFails : Status → Status → Type 0
-IsOrFails expected status = (status ≡ expected) ⊎ ((status ≡ ReadFault) ⊎ ((status ≡ WriteFault) ⊎ (status ≡ Memory)))
-
--- the same, of words by which nothing is read
-abbrev pub IsOrUnwritten : Status → Status → Type 0
-IsOrUnwritten expected status = (status ≡ expected) ⊎ ((status ≡ WriteFault) ⊎ (status ≡ Memory))
-
--- Safety.
+-- Why the program ended with its status, with what it left.
+abbrev pub Ends : Given → Output → Type 0
+Ends g o = EndsWith o.status g o
 
 -- Safety: the journal is a schedule of the setup that the command runs, and after it the six sentences of safety hold. It has at most 21 entries for each call of the setup and one for each kill.
 pub record IsSafeRun (g : Given) (J : List Entry) : Type 0 where

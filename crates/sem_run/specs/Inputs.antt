@@ -1,5 +1,5 @@
--- What the program is given, and what it reads ("The command line" in docs/texts.md).
-use Rattle.std.specs.Prelude.{◌≡◌, ◌⊎◌, ℕ, Bool, true, false, List, [], Option, Some, IfSome}
+-- What the program is asked and given to read ("The command line" in docs/texts.md).
+use Rattle.std.specs.Prelude.{◌≡◌, ◌⊎◌, ℕ, Bool, true, false, List, [], Option, Some, IfSome, map, string_bytes, String}
 use Rattle.sem_msg.specs.Setup.{Setup, IsSetup}
 use Rattle.sem_io.specs.SourceBytes.{Takes}
 use Rattle.sem_trace.specs.declared.fault.TraceFault.{TraceFault}
@@ -9,6 +9,10 @@ use Rattle.sem_cli.specs.declared.forms.Command.{Command}
 use Rattle.sem_cli.specs.declared.forms.Command.TheVariants.{Run, Threads, Check, Generate, Soak}
 use Rattle.sem_cli.specs.Commands.{command_of}
 use Rattle.sem_gen.specs.Generated.{generated}
+
+-- the command that the words are, if they are one
+abbrev pub asked_by : {A : Type 0} → List (String A) → Option Command
+asked_by words = command_of (map string_bytes words)
 
 -- whether one thread does what the command asks for
 abbrev pub is_alone : Command → Bool
@@ -34,9 +38,9 @@ reads_input Check = true
 reads_input (Generate seed vpes calls) = false
 reads_input (Soak seed vpes calls) = false
 
--- What the program is given: its words, and its input before and after the call.
+-- What the program is given: the command that its words are, and its input before and after the call.
 pub record Given : Type 0 where
-  pub words : List (List ℕ)
+  pub asked : Option Command
   -- the bytes that are left of the input before and after, where they are known
   pub before : Option (List ℕ)
   pub after : Option (List ℕ)
@@ -44,17 +48,26 @@ pub record Given : Type 0 where
   pub faults_before : ℕ
   pub faults_after : ℕ
 
--- these words, bytes that are left before and after, and faults before and after
-abbrev pub given : List (List ℕ) → Option (List ℕ) → Option (List ℕ) → ℕ → ℕ → Given
-given words before after faults_before faults_after = record { words = words; before = before; after = after; faults_before = faults_before; faults_after = faults_after }
+-- this command and this input, which tells what is left of it and how many faults it has had
+abbrev pub given : {S : Type 0} → (S → Option (List ℕ)) → (S → ℕ) → Option Command → S → S → Given
+given left faults asked old new = record { asked = asked; before = left old; after = left new; faults_before = faults old; faults_after = faults new }
 
 -- the words are that command
 abbrev pub Asks : Given → Command → Type 0
-Asks g asked = command_of g.words ≡ Some asked
+Asks g command = g.asked ≡ Some command
 
 -- the words are a run by that seed, on one thread or in threads
 abbrev pub AsksRun : Given → ℕ → Type 0
 AsksRun g seed = Asks g (Run seed) ⊎ Asks g (Threads seed)
+
+-- the input was not touched
+pub record IsUntouched (g : Given) : Type 0 where
+  pub unread : g.after ≡ g.before
+  pub quiet : g.faults_after ≡ g.faults_before
+
+-- some bytes from the front of the input were read, and no others
+abbrev pub ReadsPart : Given → Type 0
+ReadsPart g = (part : List ℕ) × Takes g.before g.after part
 
 -- the input was read to its end, and is that text
 pub record ReadsAll (g : Given) (text : List ℕ) : Type 0 where

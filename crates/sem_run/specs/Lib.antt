@@ -1,4 +1,5 @@
 pub mod Inputs
 pub mod Reports
 pub mod Ends
+pub mod Serves
 pub mod Readings

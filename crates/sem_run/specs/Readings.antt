@@ -1,40 +1,96 @@
--- Words of private contracts: what was found of an input, and how a run of a setup and a check end.
-use Rattle.std.specs.Prelude.{◌≡◌, ℕ, List, None, length}
+-- Words of private contracts: what a response says, and how a run of a setup ends.
+use Rattle.std.specs.Prelude.{◌≡◌, ℕ, true, false, List, [], length, map, Option, None, Result, Ok, Err}
 use Rattle.sem_msg.specs.declared.audit.Audit.{Audit}
 use Rattle.sem_msg.specs.declared.entry.Entry.{Entry}
-use Rattle.sem_msg.specs.Audits.{held_pairs}
+use Rattle.sem_msg.specs.Journal.{replies}
 use Rattle.sem_msg.specs.Setup.{Setup}
+use Rattle.sem_trace.specs.declared.fault.TraceFault.{TraceFault}
 use Rattle.sem_machine.specs.Schedules.{world_after}
-use Rattle.sem_machine.specs.Journals.{made, cut}
-use Rattle.sem_machine.specs.Seeded.{seeded}
 use Rattle.sem_machine.specs.Living.{IsComplete}
-use Rattle.sem_report.specs.ReportRefusal.{report_refusal}
-use Rattle.sem_audit.specs.HeldKeys.{held, report}
+use Rattle.sem_kernel.specs.KernelValue.{KernelValue}
+use Rattle.sem_audit.specs.HeldKeys.{report}
+use Rattle.sem_audit.specs.Straying.{stray_count}
+use Rattle.sem_cli.specs.declared.forms.Command.{Command}
 use Rattle.sem_cli.specs.declared.statuses.Status.{Status}
 use Rattle.sem_cli.specs.declared.statuses.Status.TheVariants.{Done, Usage, TraceRefused, ReadFault, WriteFault, Memory, ReportRefused}
-use Rattle.sem_cli.specs.Messages.{ok_line}
-use Rattle.sem_run.specs.declared.responses.Reading.{Reading}
-use Rattle.sem_run.specs.declared.responses.Reading.TheVariants.{Trace, Faulty}
-use Rattle.sem_run.specs.Inputs.{Given, ReadsTrace, IsRefused}
-use Rattle.sem_run.specs.Reports.{IsReport, IsRefusedReport}
+use Rattle.sem_cli.specs.Messages.{refused_line}
+use Rattle.sem_cli.specs.Summary.{summary}
+use Rattle.sem_cli.specs.Commands.{command_of}
+use Rattle.sem_run.specs.declared.response.Response.{Response}
+use Rattle.sem_report.specs.declared.verdict.Verdict.{Verdict}
+use Rattle.sem_report.specs.Audited.{audited, AuditFits}
+use Rattle.sem_report.specs.ReportRefusal.{report_refusal}
+use Rattle.sem_run.specs.Inputs.{Given}
+use Rattle.sem_run.specs.Reports.{is_accepted, verdict_line}
+use Rattle.sem_run.specs.Ends.{WouldEnd}
 
--- what is said of an input is so
-abbrev pub IsReading : Given → Reading → Type 0
-IsReading g (Trace setup) = ReadsTrace g setup
-IsReading g (Faulty fault) = IsRefused g fault
+-- it is what some words ask for
+abbrev pub IsAsked : Option Command → Type 0
+IsAsked asked = (words : List (List ℕ)) × (command_of words ≡ asked)
 
--- it is the audit of a journal: with how many keys it made and cut, and what is held after it
-pub record IsAuditOf (T : Setup) (J : List Entry) (a : Audit) : Type 0 where
-  pub made : a.made ≡ length (made T J)
-  pub cut : a.cut ≡ length (cut T J)
-  pub held : held_pairs a.held ≡ held (world_after T J).sides
+-- the program can end with the response
+abbrev pub Responds : Given → Response → Type 0
+Responds g r = WouldEnd g r.journal.entries r.text.items r.status
 
--- what is told of the bytes of a report
-abbrev pub IsVerdict : List ℕ → List ℕ → Status → Type 0
-IsVerdict bytes text Done = IsReport bytes × (report_refusal bytes ≡ None) × (text ≡ ok_line)
-IsVerdict bytes text Usage = ⊥
-IsVerdict bytes text TraceRefused = ⊥
-IsVerdict bytes text ReadFault = ⊥
-IsVerdict bytes text WriteFault = ⊥
-IsVerdict bytes text Memory = ⊥
-IsVerdict bytes text ReportRefused = IsRefusedReport bytes text
+-- a fault of a trace is told, or memory is lacking
+abbrev pub IsFaultTold : TraceFault → List ℕ → Status → Type 0
+IsFaultTold fault text Done = ⊥
+IsFaultTold fault text Usage = ⊥
+IsFaultTold fault text TraceRefused = text ≡ refused_line fault
+IsFaultTold fault text ReadFault = ⊥
+IsFaultTold fault text WriteFault = ⊥
+IsFaultTold fault text Memory = text ≡ []
+IsFaultTold fault text ReportRefused = ⊥
+
+-- the response to a trace with that fault
+abbrev pub TellsFault : TraceFault → Response → Type 0
+TellsFault fault r = (r.journal.entries ≡ []) × IsFaultTold fault r.text.items r.status
+
+-- how a run of a setup ends: with the report of a complete journal, or for lack of memory
+abbrev pub EndsRun : Setup → List Entry → List ℕ → Status → Type 0
+EndsRun T J text Done = IsComplete T J × (text ≡ report T J)
+EndsRun T J text Usage = ⊥
+EndsRun T J text TraceRefused = ⊥
+EndsRun T J text ReadFault = ⊥
+EndsRun T J text WriteFault = ⊥
+EndsRun T J text Memory = text ≡ []
+EndsRun T J text ReportRefused = ⊥
+
+-- it is a success, and of its value that holds
+abbrev pub IsOkWith : {A E : Type 0} → (A → Type 0) → Result A E → Type 0
+IsOkWith P (Ok a) = P a
+IsOkWith P (Err e) = ⊥
+
+-- how the run of a load of so many VPEs and calls ends: with the summary of its journal, or for lack of memory
+abbrev pub IsLoadTold : Setup → List Entry → ℕ → ℕ → List ℕ → Status → Type 0
+IsLoadTold T J vpes calls text Done = text ≡ summary vpes calls (length (replies J)) (stray_count T J (world_after T J).sides)
+IsLoadTold T J vpes calls text Usage = ⊥
+IsLoadTold T J vpes calls text TraceRefused = ⊥
+IsLoadTold T J vpes calls text ReadFault = ⊥
+IsLoadTold T J vpes calls text WriteFault = ⊥
+IsLoadTold T J vpes calls text Memory = text ≡ []
+IsLoadTold T J vpes calls text ReportRefused = ⊥
+
+-- these are the kernels after the journal
+abbrev pub AreAfter : Setup → List Entry → List KernelValue → Type 0
+AreAfter T J kernels = map (λ k. k.side) kernels ≡ (world_after T J).sides
+
+-- a verdict is told, or memory is lacking
+abbrev pub IsVerdictTold : Verdict → List ℕ → Status → Type 0
+IsVerdictTold verdict text Done = (is_accepted verdict ≡ true) × (text ≡ verdict_line verdict)
+IsVerdictTold verdict text Usage = ⊥
+IsVerdictTold verdict text TraceRefused = ⊥
+IsVerdictTold verdict text ReadFault = ⊥
+IsVerdictTold verdict text WriteFault = ⊥
+IsVerdictTold verdict text Memory = text ≡ []
+IsVerdictTold verdict text ReportRefused = (is_accepted verdict ≡ false) × (text ≡ verdict_line verdict)
+
+-- the response to a text with that verdict
+abbrev pub TellsVerdict : Verdict → Response → Type 0
+TellsVerdict verdict r = (r.journal.entries ≡ []) × IsVerdictTold verdict r.text.items r.status
+
+-- no line of the bytes is bad, and they tell this setup, journal and audit
+pub record TellsAudit (bytes : List ℕ) (T : Setup) (J : List Entry) (told : Audit) : Type 0 where
+  pub fits : AuditFits T J told
+  pub spelled : bytes ≡ audited T J told
+  pub accepted : report_refusal bytes ≡ None

@@ -1,19 +1,22 @@
--- Which texts are the report of a complete schedule, and what is told of the others ("The command line" in docs/texts.md).
-use Rattle.std.specs.Prelude.{◌≡◌, ℕ, List, length, Option, Some, None}
+-- Which texts are the report of a complete schedule, and the verdict on any text ("The command line" in docs/texts.md).
+use Rattle.std.specs.Prelude.{◌≡◌, ℕ, Bool, true, false, List, length, Some, None}
 use Rattle.sem_key.specs.KeyName.{KeyName}
+use Rattle.sem_msg.specs.declared.audit.Audit.{Audit}
 use Rattle.sem_msg.specs.declared.entry.Entry.{Entry}
 use Rattle.sem_msg.specs.Setup.{Setup, IsSetup}
 use Rattle.sem_trace.specs.declared.fault.Cause.TheVariants.{NotCanonical}
-use Rattle.sem_trace.specs.declared.fault.TraceFault.{TraceFault}
 use Rattle.sem_machine.specs.Living.{IsComplete}
 use Rattle.sem_journal.specs.ReportText.{report_text}
-use Rattle.sem_report.specs.WholeLines.{whole_lines}
-use Rattle.sem_report.specs.ReportRefusal.{fault_of, first_difference, report_refusal}
+use Rattle.sem_report.specs.declared.verdict.Verdict.{Verdict}
+use Rattle.sem_report.specs.declared.verdict.Verdict.TheVariants.{Accepted, BadLine, BadEntry, NotOver, BadAudit}
+use Rattle.sem_report.specs.Audited.{differing_line}
+use Rattle.sem_report.specs.ReportRefusal.{fault_of, report_refusal}
 use Rattle.sem_report.specs.ReportRanges.{ReportFits}
-use Rattle.sem_audit.specs.HeldKeys.{report}
+use Rattle.sem_audit.specs.HeldKeys.{report, IsAuditOf}
 use Rattle.sem_check.specs.Replays.{DiffersAt}
 use Rattle.sem_check.specs.Verdicts.{GoesOn}
-use Rattle.sem_cli.specs.Refusals.{bad_line, differing_line, going_on_line}
+use Rattle.sem_cli.specs.Messages.{ok_line}
+use Rattle.sem_cli.specs.Refusals.{bad_line, differing_line as differing_entry, going_on_line}
 
 -- The bytes are the report of a complete schedule of a setup.
 pub record IsReport (bytes : List ℕ) : Type 0 where
@@ -32,13 +35,43 @@ pub record TellsReport (bytes : List ℕ) (T : Setup) (J : List Entry) : Type 0 
   pub spelled : bytes ≡ report_text T J made cut held
   pub accepted : report_refusal bytes ≡ None
 
--- Why bytes are refused as the report of a complete schedule, with the text that is told. Each reason supposes that none before it is there.
-pub data IsRefusedReport (bytes text : List ℕ) : Type 0 where
-  -- a line is bad
-  BadLine : (fault : TraceFault) → report_refusal bytes ≡ Some fault → text ≡ bad_line fault → IsRefusedReport bytes text
-  -- an entry is not the one that its event makes, or its event is not enabled
-  BadEntry : (T : Setup) (J : List Entry) (n : ℕ) (entered : Entry) (replayed : Option Entry) → TellsReport bytes T J → DiffersAt T J n entered replayed → text ≡ differing_line n entered replayed → IsRefusedReport bytes text
-  -- an event is enabled after the last entry
-  NotOver : (T : Setup) (J : List Entry) (n : ℕ) (next : Entry) → TellsReport bytes T J → GoesOn T J n next → text ≡ going_on_line n next → IsRefusedReport bytes text
-  -- the schedule is complete, and a line, which is one of the audit, is not as in its report
-  BadAudit : (T : Setup) (J : List Entry) (line : ℕ) → TellsReport bytes T J → IsComplete T J → first_difference 1 (whole_lines bytes) (whole_lines (report T J)) ≡ Some line → text ≡ bad_line (fault_of line NotCanonical) → IsRefusedReport bytes text
+-- The bytes tell this journal, a complete schedule of the setup, and this is its audit.
+pub record TellsComplete (bytes : List ℕ) (T : Setup) (J : List Entry) (due : Audit) : Type 0 where
+  pub tells : TellsReport bytes T J
+  pub complete : IsComplete T J
+  pub audit : IsAuditOf T J due
+
+-- What is found of bytes. Each verdict supposes that none that stands above it here, the first apart, is right.
+abbrev pub IsVerdict : List ℕ → Verdict → Type 0
+-- they are the report of a complete schedule
+IsVerdict bytes (Accepted T journal due) = TellsComplete bytes T journal.entries due × (bytes ≡ report T journal.entries)
+-- a line is bad
+IsVerdict bytes (BadLine fault) = report_refusal bytes ≡ Some fault
+-- an entry is not the one that its event makes, or its event is not enabled
+IsVerdict bytes (BadEntry journal n entered replayed) = (T : Setup) × TellsReport bytes T journal.entries × DiffersAt T journal.entries n entered replayed
+-- an event is enabled after the last entry
+IsVerdict bytes (NotOver journal next) = (T : Setup) × TellsReport bytes T journal.entries × GoesOn T journal.entries (length journal.entries) next
+-- the schedule is complete, and a line, which is one of the audit, is not as in its report
+IsVerdict bytes (BadAudit line due) = (T : Setup) × (J : List Entry) × TellsComplete bytes T J due × (differing_line bytes T J due ≡ Some line)
+
+abbrev pub is_accepted : Verdict → Bool
+is_accepted (Accepted setup journal due) = true
+is_accepted (BadLine fault) = false
+is_accepted (BadEntry journal n entered replayed) = false
+is_accepted (NotOver journal next) = false
+is_accepted (BadAudit line due) = false
+
+-- the line that tells a verdict
+abbrev pub verdict_line : Verdict → List ℕ
+verdict_line (Accepted setup journal due) = ok_line
+verdict_line (BadLine fault) = bad_line fault
+verdict_line (BadEntry journal n entered replayed) = differing_entry n entered replayed
+verdict_line (NotOver journal next) = going_on_line (length journal.entries) next
+verdict_line (BadAudit line due) = bad_line (fault_of line NotCanonical)
+
+-- Why bytes are refused as the report of a complete schedule, with the text that is told.
+pub record IsRefusedReport (bytes text : List ℕ) : Type 0 where
+  pub verdict : Verdict
+  pub found : IsVerdict bytes verdict
+  pub refused : is_accepted verdict ≡ false
+  pub told : text ≡ verdict_line verdict

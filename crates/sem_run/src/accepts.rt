@@ -1,10 +1,17 @@
 // A law of reports. The function does nothing: what it promises holds of all texts.
-ghost use Rattle.std.specs.Prelude.{ℕ, List};
-ghost use Rattle.sem_run.specs.Reports.{IsReport, IsRefusedReport};
+ghost use Rattle.std.specs.Prelude.{◌≡◌, true, ℕ, List};
+ghost use Rattle.sem_report.specs.declared.verdict.Verdict.{Verdict};
+ghost use Rattle.sem_run.specs.Reports.{IsReport, IsVerdict, is_accepted, verdict_line};
 
-/// The report of a complete schedule is refused for nothing.
+/// Bytes are accepted exactly where they are the report of a complete schedule, and whatever is
+/// found of them is told by the same line.
 pub fn reports_are_accepted()
-    ensures { (bytes text : List ℕ) → IsReport bytes → IsRefusedReport bytes text → ⊥ }
+    ensures accepts { (bytes : List ℕ) (verdict : Verdict) → IsReport bytes
+        → IsVerdict bytes verdict → is_accepted verdict ≡ true }
+    ensures no_others { (bytes : List ℕ) (verdict : Verdict) → IsVerdict bytes verdict
+        → is_accepted verdict ≡ true → IsReport bytes }
+    ensures one_line { (bytes : List ℕ) (one other : Verdict) → IsVerdict bytes one
+        → IsVerdict bytes other → verdict_line one ≡ verdict_line other }
 {
     sem_report::reports_are_read();
     sem_report::one_report();

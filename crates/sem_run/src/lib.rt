@@ -5,11 +5,14 @@ mod accepts;
 mod alone;
 mod checks;
 mod generates;
-mod responses;
+mod judging;
+mod response;
 mod runs;
 mod soaks;
 mod threads;
 mod top;
 
+pub use accepts::reports_are_accepted;
 pub use alone::semper_alone;
+pub use judging::judge;
 pub use top::semper;

@@ -1,55 +1,169 @@
-// The seeded run of a setup, and its report.
-ghost use Rattle.std.specs.Prelude.{◌≡◌, [], IfOk, OnOk};
+// Runs of a setup to their end, and their reports.
+ghost use Rattle.std.specs.Prelude.{◌≡◌, ℕ, Option, Some, IfOk, IfErr, OnOk};
 ghost use Rattle.sem_machine.specs.Living.{IsComplete};
 ghost use Rattle.sem_machine.specs.Schedules.{IsSchedule};
-ghost use Rattle.sem_machine.specs.Seeded.{seeded};
+ghost use Rattle.sem_machine.specs.Seeded.{drained};
 ghost use Rattle.sem_audit.specs.HeldKeys.{report};
-ghost use Rattle.sem_run.specs.Readings.{IsAuditOf};
+ghost use Rattle.sem_cli.specs.declared.forms.Command.{Command as CommandData};
+ghost use Rattle.sem_cli.specs.declared.forms.Command.TheVariants.{Run as RunCommand};
+ghost use Rattle.sem_kernel.specs.Standing.{StandsAt};
+ghost use Rattle.sem_run.specs.Inputs.{given, AsksRun, ReadsTrace};
+ghost use Rattle.sem_audit.specs.HeldKeys.{IsAuditOf};
+ghost use Rattle.sem_run.specs.Readings.{AreAfter, EndsRun, IsOkWith, Responds, TellsFault};
 
+use crate::response::Response;
 use sem_audit::audit_of;
+use sem_cli::{Status, push_refused};
+use sem_fabric::Fabric;
+use sem_io::{ReadError, Source, read_all};
+use sem_kernel::{Kernel, boot};
 use sem_key::OutOfMemory;
 use sem_msg::{Audit, Journal, Setup};
+use sem_reader::read_trace;
 use sem_report::print_report;
-use sem_serial::{boot, drain};
+use sem_serial::drain;
+use sem_trace::{TraceError, TraceFault};
 use std::alloc::Global;
 
-// Runs the setup by the seed, and appends the report of its journal. After want of memory the text
-// means nothing.
-pub fn run_setup(
-    alloc: Global,
-    setup: &Setup,
-    seed: u64,
-    journal: &mut Journal,
-    text: &mut Vec<u8>,
-) -> Result<(), OutOfMemory>
-    requires journal { journal.old.entries ≡ [] }
-    requires text { text.old.items ≡ [] }
-    ensures schedule { IsSchedule setup.now journal.new.entries }
-    ensures seeded { OnOk result (journal.new.entries ≡ seeded setup.now seed) }
-    ensures complete { OnOk result (IsComplete setup.now journal.new.entries) }
-    ensures told { OnOk result (text.new.items ≡ report setup.now journal.new.entries) }
-{
-    let audit = run_kernels(alloc, setup, seed, journal)?;
-    Ok(print_report(alloc, setup, journal, &audit, text)?)
+/// The most bytes of a trace.
+const MOST_BYTES: usize = 8_388_608;
+
+/// The kernels of a setup and their fabric, where there was memory for them.
+pub type Started = Result<(Vec<Kernel>, Fabric), OutOfMemory>;
+
+/// A run of a setup: its journal, and its kernels if it came to its end.
+#[derive(Drop)]
+pub struct Run {
+    pub journal: Journal,
+    pub kernels: Result<Vec<Kernel>, OutOfMemory>,
 }
 
-// Runs the kernels of the setup by the seed: the audit of the journal. The kernels are gone before
-// anything is told, so that their memory is free again.
-fn run_kernels(
+/// Runs the trace that is read, on one thread.
+pub fn run_trace<S: Source>(alloc: Global, seed: u64, input: &mut S) -> Response
+    ensures { Responds (given S.left S.faults (Some (RunCommand seed)) input.old input.new) result }
+{
+    match read_setup(alloc, input) {
+        Ok(setup) => {
+            let started = boot(alloc, &setup, Journal::new(alloc));
+            report_run(alloc, &setup, started, seed)
+        }
+        Err(response) => response,
+    }
+}
+
+/// The setup that is read; else the response of a command that wants one.
+pub fn read_setup<S: Source>(alloc: Global, input: &mut S) -> Result<Setup, Response>
+    ensures reads { IfOk result (λ setup. (asked : Option CommandData)
+        → ReadsTrace (given S.left S.faults asked input.old input.new) setup) }
+    ensures quiet { OnOk result (S.faults input.new ≡ S.faults input.old) }
+    ensures refused { IfErr result (λ response. (seed : ℕ) (asked : Option CommandData)
+        → AsksRun (given S.left S.faults asked input.old input.new) seed
+        → Responds (given S.left S.faults asked input.old input.new) response) }
+{
+    let bytes = match read_all(alloc, input, MOST_BYTES) {
+        Ok(bytes) => bytes,
+        Err(error) => return Err(Response::unread(alloc, error)),
+    };
+    match read_trace(alloc, &bytes) {
+        Ok(setup) => {
+            // So that the proof knows what a setup keeps.
+            let _ = &setup.vpes;
+            Ok(setup)
+        }
+        Err(TraceError::Refused(fault)) => Err(refuse_trace(alloc, &fault)),
+        Err(TraceError::Memory) => Err(Response::out_of_memory(alloc, Journal::new(alloc))),
+    }
+}
+
+// The response to a text that is no trace.
+fn refuse_trace(alloc: Global, fault: &TraceFault) -> Response
+    ensures { TellsFault fault.now result }
+{
+    let mut text = Vec::new(alloc);
+    match push_refused(&mut text, fault) {
+        Ok(()) => Response::told(alloc, Status::TraceRefused, text),
+        Err(_) => Response::out_of_memory(alloc, Journal::new(alloc)),
+    }
+}
+
+/// Runs the setup on to its end, by the seed. The response is the report of its journal.
+pub fn report_run(alloc: Global, setup: &Setup, started: Started, seed: u64) -> Response
+    requires { IfOk started (λ s. StandsAt setup.now s.0.items s.1) }
+    ensures schedule { IsSchedule setup.now result.journal.entries }
+    ensures ends { EndsRun setup.now result.journal.entries result.text.items result.status }
+    ensures drained { result.status ≡ Status.Done → IsOkWith
+        (λ s. result.journal.entries ≡ drained setup.now s.1.journal seed) started }
+{
+    let Run { journal, kernels } = run_to_end(alloc, setup, started, seed);
+    let told = match kernels {
+        Ok(kernels) => report_of(alloc, setup, &journal, kernels),
+        Err(error) => Err(error),
+    };
+    match told {
+        Ok(text) => Response {
+            status: Status::Done,
+            text,
+            journal,
+        },
+        Err(_) => Response::out_of_memory(alloc, journal),
+    }
+}
+
+/// Runs on by the seed until no event is enabled.
+pub fn run_to_end(alloc: Global, setup: &Setup, started: Started, seed: u64) -> Run
+    requires { IfOk started (λ s. StandsAt setup.now s.0.items s.1) }
+    ensures schedule { IsSchedule setup.now result.journal.entries }
+    ensures complete { OnOk result.kernels (IsComplete setup.now result.journal.entries) }
+    ensures kernels { IfOk result.kernels
+        (λ kernels. AreAfter setup.now result.journal.entries kernels.items) }
+    ensures drained { OnOk result.kernels (IsOkWith
+        (λ s. result.journal.entries ≡ drained setup.now s.1.journal seed) started) }
+{
+    let (mut kernels, mut fabric) = match started {
+        Ok(started) => started,
+        Err(error) => {
+            return Run {
+                journal: Journal::new(alloc),
+                kernels: Err(error),
+            };
+        }
+    };
+    let ran = drain(alloc, setup, &mut kernels, &mut fabric, seed);
+    Run {
+        journal: fabric.into_journal(),
+        kernels: match ran {
+            Ok(()) => Ok(kernels),
+            Err(error) => Err(error),
+        },
+    }
+}
+
+// The report of a journal after which these are the kernels.
+fn report_of(
     alloc: Global,
     setup: &Setup,
-    seed: u64,
-    journal: &mut Journal,
-) -> Result<Audit, OutOfMemory>
-    requires journal { journal.old.entries ≡ [] }
-    ensures schedule { IsSchedule setup.now journal.new.entries }
-    ensures seeded { OnOk result (journal.new.entries ≡ seeded setup.now seed) }
-    ensures complete { OnOk result (IsComplete setup.now journal.new.entries) }
-    ensures audit { IfOk result (IsAuditOf setup.now journal.new.entries) }
+    journal: &Journal,
+    kernels: Vec<Kernel>,
+) -> Result<Vec<u8>, OutOfMemory>
+    requires { AreAfter setup.now journal.now.entries kernels.items }
+    ensures { IfOk result (λ text. text.items ≡ report setup.now journal.now.entries) }
 {
-    let (mut kernels, mut fabric) = boot(alloc, setup, Journal::new(alloc))?;
-    let ran = drain(alloc, setup, &mut kernels, &mut fabric, seed);
-    *journal = fabric.into_journal();
-    ran?;
+    let audit = audit_of_run(alloc, setup, journal, kernels)?;
+    let mut text = Vec::new(alloc);
+    print_report(alloc, setup, journal, &audit, &mut text)?;
+    Ok(text)
+}
+
+// The audit of a journal after which these are the kernels. They are dropped here, so that their
+// memory is free before the report is made.
+fn audit_of_run(
+    alloc: Global,
+    setup: &Setup,
+    journal: &Journal,
+    kernels: Vec<Kernel>,
+) -> Result<Audit, OutOfMemory>
+    requires { AreAfter setup.now journal.now.entries kernels.items }
+    ensures { IfOk result (IsAuditOf setup.now journal.now.entries) }
+{
     audit_of(alloc, setup, journal, &kernels)
 }

@@ -1,27 +1,28 @@
 // The run of a generated load with each kernel in threads of its own, and its summary.
-ghost use Rattle.std.specs.Prelude.{◌≡◌, ◌⊎◌, ◌≤◌, ◌*◌, [], IfOk, OnOk, length};
+ghost use Rattle.std.specs.Prelude.{◌≡◌, ◌≤◌, ◌*◌, List, ℕ, Some, IfOk, length};
 ghost use Rattle.sem_msg.specs.Journal.{replies};
-ghost use Rattle.sem_msg.specs.Setup.{IsSetup};
-ghost use Rattle.sem_gen.specs.Generated.{generated};
-ghost use Rattle.sem_machine.specs.Living.{IsComplete};
 ghost use Rattle.sem_machine.specs.Schedules.{IsSchedule, world_after};
 ghost use Rattle.sem_audit.specs.Straying.{stray_count};
 ghost use Rattle.sem_cli.specs.Summary.{summary};
+ghost use Rattle.sem_cli.specs.declared.forms.Command.TheVariants.{Soak};
+ghost use Rattle.sem_run.specs.Inputs.{Given as GivenRecord, Asks, IsUntouched};
+ghost use Rattle.sem_run.specs.Readings.{AreAfter, IsLoadTold, Responds};
 
-use crate::threads::threaded;
-use sem_audit::{answered, stray};
-use sem_cli::push_summary;
+use crate::response::Response;
+use crate::runs::{Run, run_to_end};
+use crate::threads::run_in_threads;
+use sem_audit::{answered, stray_of};
+use sem_cli::{Status, push_summary};
 use sem_gen::generate;
+use sem_kernel::Kernel;
 use sem_key::OutOfMemory;
 use sem_msg::{Journal, Setup};
 use sem_node::Gate;
-use sem_serial::drain;
 use std::alloc::Global;
 use std::sync::Wait;
 use std::thread::Threads;
 
-// Runs a generated load in threads, and appends the summary. After want of memory the text means
-// nothing.
+/// Runs a generated load in threads, and by the seed what is left then. The response is the summary.
 pub fn soak_load<R: Threads + Wait + Sync, G: Gate + Sync>(
     rt: &R,
     alloc: Global,
@@ -29,45 +30,70 @@ pub fn soak_load<R: Threads + Wait + Sync, G: Gate + Sync>(
     vpes: u32,
     calls: u32,
     gate: &G,
-    journal: &mut Journal,
-    text: &mut Vec<u8>,
-) -> Result<(), OutOfMemory>
-    requires journal { journal.old.entries ≡ [] }
-    requires text { text.old.items ≡ [] }
+) -> Response
     requires vpes { (1 ≤ vpes) × (vpes ≤ 128) }
     requires calls { vpes * calls ≤ 20000 }
-    ensures part { (journal.new.entries ≡ []) ⊎ (IsSchedule (generated seed vpes calls) journal.new.entries × IsSetup (generated seed vpes calls)) }
-    ensures complete { OnOk result (IsComplete (generated seed vpes calls) journal.new.entries) }
-    ensures valid { OnOk result (IsSetup (generated seed vpes calls)) }
-    ensures told { OnOk result (text.new.items ≡ summary vpes (vpes * calls) (length (replies journal.new.entries)) (stray_count (generated seed vpes calls) journal.new.entries (world_after (generated seed vpes calls) journal.new.entries).sides)) }
+    ensures { (g : GivenRecord) → Asks g (Soak seed vpes calls) → IsUntouched g
+        → Responds g result }
 {
+    let setup = match generate(alloc, seed, vpes, calls) {
+        Ok(setup) => setup,
+        Err(_) => return Response::out_of_memory(alloc, Journal::new(alloc)),
+    };
     // So that the proof knows what a setup keeps.
-    let setup = generate(alloc, seed, vpes, calls)?;
     let _ = &setup.vpes;
-    let stray = soak_kernels(rt, alloc, &setup, seed, gate, journal)?;
+    let started = run_in_threads(rt, alloc, &setup, gate);
+    let Run { journal, kernels } = run_to_end(alloc, &setup, started, seed);
     let calls = u64::from(vpes) * u64::from(calls);
-    push_summary(text, u64::from(vpes), calls, answered(journal), stray)?;
-    Ok(())
+    match kernels {
+        Ok(kernels) => tell_load(alloc, &setup, journal, kernels, u64::from(vpes), calls),
+        Err(_) => Response::out_of_memory(alloc, journal),
+    }
 }
 
-// Runs the kernels of the setup in threads, and by the seed what is left then: how many keys are
-// stray. The kernels are gone before anything is told.
-fn soak_kernels<R: Threads + Wait + Sync, G: Gate + Sync>(
-    rt: &R,
+// The response that tells of a journal after which these are the kernels.
+fn tell_load(
     alloc: Global,
     setup: &Setup,
-    seed: u64,
-    gate: &G,
-    journal: &mut Journal,
-) -> Result<u64, OutOfMemory>
-    requires journal { journal.old.entries ≡ [] }
-    ensures schedule { IsSchedule setup.now journal.new.entries }
-    ensures complete { OnOk result (IsComplete setup.now journal.new.entries) }
-    ensures stray { IfOk result (λ count. count ≡ stray_count setup.now journal.new.entries (world_after setup.now journal.new.entries).sides) }
+    journal: Journal,
+    kernels: Vec<Kernel>,
+    vpes: u64,
+    calls: u64,
+) -> Response
+    requires schedule { IsSchedule setup.now journal.entries }
+    requires after { AreAfter setup.now journal.entries kernels.items }
+    ensures journal { result.journal ≡ journal }
+    ensures told { IsLoadTold setup.now journal.entries vpes calls
+        result.text.items result.status }
 {
-    let (mut kernels, mut fabric) = threaded(rt, alloc, setup, gate)?;
-    let ran = drain(alloc, setup, &mut kernels, &mut fabric, seed);
-    *journal = fabric.into_journal();
-    ran?;
-    stray(alloc, setup, journal, &kernels)
+    match summary_of(alloc, setup, &journal, kernels, vpes, calls) {
+        Ok(text) => Response {
+            status: Status::Done,
+            text,
+            journal,
+        },
+        Err(_) => Response::out_of_memory(alloc, journal),
+    }
+}
+
+// The summary of a journal after which these are the kernels.
+fn summary_of(
+    alloc: Global,
+    setup: &Setup,
+    journal: &Journal,
+    kernels: Vec<Kernel>,
+    vpes: u64,
+    calls: u64,
+) -> Result<Vec<u8>, OutOfMemory>
+    requires schedule { IsSchedule setup.now journal.now.entries }
+    requires after { AreAfter setup.now journal.now.entries kernels.items }
+    ensures { IfOk result (λ text. text.items
+        ≡ summary vpes calls (length (replies journal.now.entries))
+        (stray_count setup.now journal.now.entries
+        (world_after setup.now journal.now.entries).sides)) }
+{
+    let stray = stray_of(alloc, setup, journal, &kernels)?;
+    let mut text = Vec::new(alloc);
+    push_summary(&mut text, vpes, calls, answered(journal), stray)?;
+    Ok(text)
 }

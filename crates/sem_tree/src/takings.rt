@@ -1,5 +1,5 @@
 // Which entries take capabilities back.
-ghost use Rattle.std.specs.Prelude.{◌≡◌, ◌||◌, []};
+ghost use Rattle.std.specs.Prelude.{◌≡◌, ◌||◌, ℕ, [], Some, None, min};
 ghost use Rattle.std.specs.Option.{option_map_or, option_to_list};
 ghost use Rattle.sem_key.specs.Region.{has_key};
 ghost use Rattle.sem_machine.specs.Journals.{cut_off, ends};
@@ -133,7 +133,11 @@ fn inherited(
 }
 
 // The earlier of two entries, where there are two.
-fn earlier(one: Option<usize>, other: Option<usize>) -> Option<usize> {
+fn earlier(one: Option<usize>, other: Option<usize>) -> Option<usize>
+    ensures both { (a b : ℕ) → one ≡ Some a → other ≡ Some b → result ≡ Some (min a b) }
+    ensures one { other ≡ None → result ≡ one }
+    ensures other { one ≡ None → result ≡ other }
+{
     match (one, other) {
         (Some(one), Some(other)) => Some(one.min(other)),
         (Some(one), None) => Some(one),

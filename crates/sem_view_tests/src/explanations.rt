@@ -1,5 +1,6 @@
-use sem_draw::Ending;
-use sem_explain::explain;
+use sem_draw::{Answer, Ending};
+use sem_explain::{explain_report, explain_trace};
+use sem_run::judge;
 use std::alloc::{AllocError, Global};
 use std::test::Fail;
 
@@ -106,15 +107,25 @@ const CASES: [Case; 6] = [
     },
 ];
 
+// What is said of a report.
+fn explained(alloc: Global, bytes: &[u8]) -> Result<Answer, Fail> {
+    if bytes.len() > 1000 {
+        return Err(Fail::from("a long text"));
+    }
+    let verdict = judge(alloc, bytes)?;
+    Ok(explain_report(alloc, bytes, &verdict)?)
+}
+
 #[test]
 fn refusals_are_explained(rt: HostRuntime) -> Result<(), Fail> {
     for case in &CASES {
         let text = text(rt.alloc(), case.range, case.changed, case.line)?;
         let bytes = text.as_bytes();
-        if bytes.len() > 1000 {
-            return Err(Fail::from("a long text"));
-        }
-        let answer = explain(rt.alloc(), bytes)?;
+        let answer = if case.range.0 == 0 {
+            explained(rt.alloc(), bytes)?
+        } else {
+            explain_trace(rt.alloc(), bytes)?
+        };
         assert_eq!(rt; answer.out.as_str(), case.said);
         assert!(rt; answer.ending == case.ending);
         assert!(rt; answer.error.is_empty());
@@ -140,7 +151,7 @@ end
 
 #[test]
 fn what_is_missing_is_told(rt: HostRuntime) -> Result<(), Fail> {
-    let answer = explain(rt.alloc(), SHORT)?;
+    let answer = explained(rt.alloc(), SHORT)?;
     let wanted = "the report is refused: the journal ends after 0 entries, and the machine goes on
   machine      0  0 call 0 0 exit reply 0 0
 ";

@@ -9,8 +9,10 @@ mod words;
 use crate::words::{Asked, read_words};
 use clap::error::ErrorKind;
 use sem_draw::{Answer, Ending};
-use sem_explain::explain;
+use sem_explain::{explain_report, explain_trace};
+use sem_hint::tells_report;
 use sem_io::{ReadError, ReadSource, WriteSink, read_all, write_all};
+use sem_run::judge;
 use sem_tree::tree;
 use sem_view::respond;
 use std::alloc::{AllocError, Global};
@@ -68,6 +70,18 @@ fn answer_to(alloc: Global, asked: &Asked, bytes: &[u8]) -> Result<Answer, Alloc
         Asked::Tree { request } => tree(alloc, request, bytes),
         Asked::Explain => explain(alloc, bytes),
     }
+}
+
+// Why these bytes, a trace or a report, are refused, or that they are accepted. They are a report
+// where their first line that says something is that of one.
+fn explain(alloc: Global, bytes: &[u8]) -> Result<Answer, AllocError>
+    requires few { length bytes.now ≤ 134217729 }
+{
+    if !tells_report(alloc, bytes)? {
+        return explain_trace(alloc, bytes);
+    }
+    let verdict = judge(alloc, bytes)?;
+    explain_report(alloc, bytes, &verdict)
 }
 
 // Writes the answer.

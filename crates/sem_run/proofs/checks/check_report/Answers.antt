@@ -1,5 +1,7 @@
+use Rattle.std.proofs.Common.{refl}
 use Rattle.sem_run.proofs.ReadInput.{check-ends}
 use Rattle.sem_run.proofs.checks.check_report.Goals as goal
 
-pub returns-clause-ok : goal.returns-clause-ok
-returns-clause-ok g c = λ words asked. check-ends _ c.in_ok-bytes.bytes.items _ _ asked c.in_ok-bytes.ensures.bytes c.in_ok-bytes.ensures.taken c.in_ok-bytes.ensures.quiet (rw c.deref.ensures.value at c.in_ok-judge.ensures)
+-- the verdict is told
+pub returns-in-Ok-judge : goal.returns-in-Ok-judge
+returns-in-Ok-judge g c = check-ends _ _ _ c.in-Ok.bytes.items refl c.in-Ok.ensures.bytes c.in-Ok.ensures.taken c.in-Ok.ensures.quiet c.tell_verdict.ensures.0 c.in-Ok-judge.verdict (rw c.deref.ensures.value at c.in-Ok-judge.ensures) c.tell_verdict.result.status c.tell_verdict.ensures.1

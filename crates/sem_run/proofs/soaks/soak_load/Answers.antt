@@ -1,9 +1,23 @@
-use Rattle.sem_gen.specs.Generated.{generated}
-use Rattle.sem_run.proofs.Ending.{summary-told}
+use Rattle.std.proofs.Common.{[], refl, sym, ap, subst}
+use Rattle.sem_msg.specs.Journal.{JournalList}
+use Rattle.sem_msg.specs.Setup.{IsSetup}
+use Rattle.sem_run.specs.Ends.{WouldEnd}
+use Rattle.sem_run.proofs.Ending.{load-ends, soak-part, memory-ends}
 use Rattle.sem_run.proofs.soaks.soak_load.Goals as goal
 
--- the numbers are those of the generated setup
-pub returns-clause-told : goal.returns-clause-told
-returns-clause-told g c =
-    summary-told (generated c.args.seed c.args.vpes c.args.calls) c.in_ok-setup.setup c.soak_kernels.new.journal.entries _ _ c.args.vpes c.args.calls _ _ _ _ _ c.requires.text c.in_ok-setup.ensures
-    c.from-3.ensures c.from.ensures c.from-2.ensures c.answered.ensures c.in_ok-stray.ensures.stray c.in_ok-push_summary.ensures.ok
+-- the load was run to its end
+pub returns-in-Ok-kernels : goal.returns-in-Ok-kernels
+returns-in-Ok-kernels g c given asked untouched =
+    let valid = subst IsSetup c.setup.view_is c.setup.invariant in
+    let complete = rw c.in-Ok-kernels.is at c.run_to_end-journal.ensures.complete in
+    let told = rw (c.from-in-Ok-kernels.ensures, c.from.ensures, c.from-2.ensures) at c.tell_load.ensures.told in
+    let ends = load-ends given c.run_to_end-journal.result.journal.entries c.tell_load.result.text.items c.args.seed c.args.vpes c.args.calls c.in-Ok.setup asked c.in-Ok.ensures valid untouched complete c.tell_load.result.status told in
+    subst (λ (j : JournalList). WouldEnd given j.entries c.tell_load.result.text.items c.tell_load.result.status) (sym c.tell_load.ensures.journal) ends
+
+-- memory was lacking on the way
+pub returns : goal.returns
+returns g c given asked untouched =
+    let valid = subst IsSetup c.setup.view_is c.setup.invariant in
+    let J = c.run_to_end-journal.result.journal.entries in
+    let ends = soak-part given J [] c.args.seed c.args.vpes c.args.calls c.in-Ok.setup asked c.in-Ok.ensures valid untouched c.run_to_end-journal.ensures.schedule refl in
+    memory-ends given c.out_of_memory-in-Err-kernels.result J c.out_of_memory-in-Err-kernels.ensures.status c.out_of_memory-in-Err-kernels.ensures.text (ap (λ (j : JournalList). j.entries) c.out_of_memory-in-Err-kernels.ensures.journal) ends

@@ -1,25 +1,12 @@
-use Rattle.std.proofs.Common.{inr, rules}
-use Rattle.sem_run.specs.Inputs.RunsSetup.{is_read}
-use Rattle.sem_run.proofs.Ending.{threaded-ends}
+use Rattle.std.proofs.Common.{refl, inr, Some}
+use Rattle.sem_cli.specs.declared.forms.Command.TheVariants.{Threads}
+use Rattle.sem_run.proofs.Ending.{threads-end}
 use Rattle.sem_run.proofs.threads.thread_trace.Goals as goal
 
 -- a run of the setup that was read
-pub returns-in_ok-thread_setup-in-Trace-clause-ok : goal.returns-in_ok-thread_setup-in-Trace-clause-ok
-returns-in_ok-thread_setup-in-Trace-clause-ok g c words is =
-    threaded-ends _ c.args.seed _ _ _ is (rw c.in-Trace.is at c.in_ok-setup.ensures.reads words) c.in_ok-thread_setup-in-Trace.ensures.complete c.in_ok-thread_setup-in-Trace.ensures.told
+pub returns-in-Ok : goal.returns-in-Ok
+returns-in-Ok g c = threads-end _ _ _ c.args.seed c.in-Ok.setup (c.in-Ok.ensures.reads (Some (Threads c.args.seed))) c.in-Ok.ensures.quiet c.report_run.ensures.schedule c.report_run.result.status refl c.report_run.ensures.ends
 
--- a part of it
-pub returns-in_err-thread_setup-in-Trace-clause-memory : goal.returns-in_err-thread_setup-in-Trace-clause-memory
-returns-in_err-thread_setup-in-Trace-clause-memory g c _ words is = inr (c.in-Trace.setup, is_read c.args.seed (inr is) (rw c.in-Trace.is at c.in_ok-setup.ensures.reads words), c.thread_setup.ensures.schedule)
-
--- what was read is refused
-pub returns-in_ok-push_refused-in-Faulty-clause-ok : goal.returns-in_ok-push_refused-in-Faulty-clause-ok
-returns-in_ok-push_refused-in-Faulty-clause-ok g c words is = record {
-  seed = c.args.seed;
-  command = inr is;
-  fault = c.in-Faulty.fault;
-  refused = rw c.in-Faulty.is at c.in_ok-setup.ensures.reads words;
-  quiet = c.in_ok-setup.ensures.quiet;
-  no_journal = c.requires.journal;
-  told = search rules;
-}
+-- what was read is no trace
+pub returns-in-Err : goal.returns-in-Err
+returns-in-Err g c = c.in-Err.ensures.refused c.args.seed (Some (Threads c.args.seed)) (inr refl)

@@ -1,0 +1,64 @@
+// Audits that are compared.
+ghost use Rattle.std.specs.Prelude.{◌≡◌, ◌≤◌, ℕ, List, length, MatchOption};
+ghost use Rattle.sem_msg.specs.declared.entry.Entry.{Entry as EntryData};
+ghost use Rattle.sem_msg.specs.Setup.{Setup as SetupRecord};
+ghost use Rattle.sem_report.specs.WholeLines.{whole_lines};
+ghost use Rattle.sem_report.specs.Audited.{audited, AuditFits, differing_line, DifferFirst};
+
+use crate::lines::next_whole_line;
+use sem_msg::{Audit, Held};
+
+/// The number of the first line that the audit of a report tells otherwise than is due. The text
+/// is the report with the audit that it tells. Takes no memory.
+pub fn audit_difference(bytes: &[u8], told: &Audit, due: &Audit) -> Option<u64>
+    requires few { length bytes.now ≤ 1000000000 }
+    ensures { (T : SetupRecord) (J : List EntryData) → bytes.now ≡ audited T J told.now
+        → AuditFits T J told.now → AuditFits T J due.now
+        → result ≡ differing_line bytes.now T J due.now }
+{
+    // Behind the line that tells how many keys were made stand two, one for each key, and the last.
+    let made = line_count(bytes)
+        .saturating_sub(told.held.len() as u64)
+        .saturating_sub(3);
+    if told.made != due.made {
+        return Some(made);
+    }
+    if told.cut != due.cut {
+        return Some(made + 1);
+    }
+    if told.held.len() != due.held.len() {
+        return Some(made + 2);
+    }
+    match first_other(told.held.as_slice(), due.held.as_slice()) {
+        Some(key) => Some(made + 3 + key as u64),
+        None => None,
+    }
+}
+
+// How many lines the text has.
+fn line_count(bytes: &[u8]) -> u64
+    requires few { length bytes.now ≤ 1000000000 }
+    ensures count { result ≡ length (whole_lines bytes.now) }
+    ensures few { result ≤ 1000000000 }
+{
+    let mut rest = bytes;
+    let mut count = 0;
+    while let Some((_, behind)) = next_whole_line(rest) {
+        rest = behind;
+        count += 1;
+    }
+    count
+}
+
+// The first place at which the lists, which are of one length, differ.
+fn first_other(told: &[Held], due: &[Held]) -> Option<usize>
+    requires { length told.now ≡ length due.now }
+    ensures { MatchOption result (told.now ≡ due.now) (DifferFirst told.now due.now) }
+{
+    for at in 0..told.len() {
+        if told[at] != due[at] {
+            return Some(at);
+        }
+    }
+    None
+}

@@ -1,0 +1,66 @@
+-- What the program promises of each call: the clauses of the top call ("The command line" in docs/texts.md).
+use Rattle.std.specs.Prelude.{◌≡◌, ◌⊎◌, ℕ, List, Some, None}
+use Rattle.sem_msg.specs.Setup.{Setup}
+use Rattle.sem_io.specs.Count.{Rose}
+use Rattle.sem_trace.specs.declared.fault.TraceFault.{TraceFault}
+use Rattle.sem_trace.specs.Refusal.{refusal}
+use Rattle.sem_trace.specs.Standing.{Stands}
+use Rattle.sem_cli.specs.declared.forms.Command.TheVariants.{Check, Generate, Soak}
+use Rattle.sem_cli.specs.declared.statuses.Status.{Status}
+use Rattle.sem_cli.specs.declared.statuses.Status.TheVariants.{Done, Usage, TraceRefused, ReadFault, WriteFault, Memory, ReportRefused}
+use Rattle.sem_run.specs.Inputs.{Given, Asks, AsksRun}
+use Rattle.sem_run.specs.Reports.{IsReport}
+use Rattle.sem_run.specs.Ends.{Output, Ends, IsOfRun, IsSafeRun}
+
+-- the status is this one, unless a read or a write failed or memory was lacking
+abbrev pub IsOrFails : Status → Status → Type 0
+IsOrFails expected status = (status ≡ expected) ⊎ ((status ≡ ReadFault) ⊎ ((status ≡ WriteFault) ⊎ (status ≡ Memory)))
+
+-- the same, of commands that read nothing
+abbrev pub IsOrUnwritten : Status → Status → Type 0
+IsOrUnwritten expected status = (status ≡ expected) ⊎ ((status ≡ WriteFault) ⊎ (status ≡ Memory))
+
+-- words that are no command are told so
+abbrev pub TellsUsage : Given → Status → Type 0
+TellsUsage g status = g.asked ≡ None → IsOrUnwritten Usage status
+
+-- a text that is no trace is refused
+abbrev pub RefusesTraces : Given → Status → Type 0
+RefusesTraces g status = (seed : ℕ) (bytes : List ℕ) (fault : TraceFault) → AsksRun g seed → g.before ≡ Some bytes → refusal bytes ≡ Some fault → IsOrFails TraceRefused status
+
+-- every trace is run to its end
+abbrev pub RunsTraces : Given → Status → Type 0
+RunsTraces g status = (seed : ℕ) (bytes : List ℕ) (T : Setup) → AsksRun g seed → g.before ≡ Some bytes → Stands bytes T → IsOrFails Done status
+
+-- a text that is not the report of a complete schedule is refused
+abbrev pub RefusesReports : Given → Status → Type 0
+RefusesReports g status = (bytes : List ℕ) → Asks g Check → g.before ≡ Some bytes → ¬ IsReport bytes → IsOrFails ReportRefused status
+
+-- the report of every complete schedule is accepted: so what a run writes, a check accepts
+abbrev pub AcceptsReports : Given → Status → Type 0
+AcceptsReports g status = (bytes : List ℕ) → Asks g Check → g.before ≡ Some bytes → IsReport bytes → IsOrFails Done status
+
+-- every load is generated
+abbrev pub GeneratesLoads : Given → Status → Type 0
+GeneratesLoads g status = (seed vpes calls : ℕ) → Asks g (Generate seed vpes calls) → IsOrUnwritten Done status
+
+-- every load is soaked
+abbrev pub SoaksLoads : Given → Status → Type 0
+SoaksLoads g status = (seed vpes calls : ℕ) → Asks g (Soak seed vpes calls) → IsOrUnwritten Done status
+
+-- The program serves what it is given, and leaves this.
+pub record Serves (g : Given) (o : Output) : Type 0 where
+  -- why it ended with its status, with the journal and with what was written
+  pub ends : Ends g o
+  -- with status 4 a write has failed
+  pub write_fault : o.status ≡ WriteFault → Rose o.faults_before o.faults_after
+  -- what a run leaves, whole or cut short, is a schedule of its setup, and safe; it has few entries
+  pub safe : IsOfRun g o.status o.journal → IsSafeRun g o.journal
+  -- and each command does what it is for, unless a read or a write fails or memory is lacking
+  pub usage : TellsUsage g o.status
+  pub refuses_traces : RefusesTraces g o.status
+  pub runs : RunsTraces g o.status
+  pub refuses_reports : RefusesReports g o.status
+  pub accepts_reports : AcceptsReports g o.status
+  pub generates : GeneratesLoads g o.status
+  pub soaks : SoaksLoads g o.status

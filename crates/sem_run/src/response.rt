@@ -1,0 +1,77 @@
+// What the program is about to leave.
+ghost use Rattle.std.specs.Prelude.{◌≡◌, [], List};
+ghost use Rattle.sem_io.specs.declared.transfer.ReadError.TheVariants.{Fault, Memory as NoMemory};
+ghost use Rattle.sem_cli.specs.declared.statuses.Status.TheVariants.{ReadFault, Memory};
+ghost use Rattle.sem_run.specs.Inputs.{Given as GivenRecord};
+ghost use Rattle.sem_run.specs.Ends.{left};
+ghost use Rattle.sem_run.specs.Readings.{Responds};
+ghost use Rattle.sem_run.specs.Serves.{Serves};
+
+use crate::accepts::reports_are_accepted;
+use sem_cli::Status;
+use sem_io::{Failed, ReadError, Sink, write_all};
+use sem_msg::Journal;
+use std::alloc::Global;
+
+/// What the program is about to leave: its status, its text and the journal of its run.
+#[derive(Drop)]
+pub struct Response {
+    pub status: Status,
+    pub text: Vec<u8>,
+    pub journal: Journal,
+}
+
+impl Response {
+    /// A response of a command that runs nothing.
+    pub fn told(alloc: Global, status: Status, text: Vec<u8>) -> Self
+        ensures status { result.status ≡ status }
+        ensures text { result.text ≡ text }
+        ensures journal { result.journal.entries ≡ [] }
+    {
+        Response {
+            status,
+            text,
+            journal: Journal::new(alloc),
+        }
+    }
+
+    /// The response where memory was lacking, and a run had come so far.
+    pub fn out_of_memory(alloc: Global, journal: Journal) -> Self
+        ensures status { result.status ≡ Status.Memory }
+        ensures text { result.text.items ≡ [] }
+        ensures journal { result.journal ≡ journal }
+    {
+        Response {
+            status: Status::Memory,
+            text: Vec::new(alloc),
+            journal,
+        }
+    }
+
+    /// The response where the input could not be read.
+    pub fn unread(alloc: Global, error: ReadError) -> Self
+        ensures fault { error ≡ ReadError.Fault → result.status ≡ Status.ReadFault }
+        ensures memory { error ≡ ReadError.Memory → result.status ≡ Status.Memory }
+        ensures text { result.text.items ≡ [] }
+        ensures journal { result.journal.entries ≡ [] }
+    {
+        let status = match error {
+            ReadError::Fault => Status::ReadFault,
+            ReadError::Memory => Status::Memory,
+        };
+        Response::told(alloc, status, Vec::new(alloc))
+    }
+
+    /// Writes the text, and leaves the journal. The status with which the program ends.
+    pub fn leave<K: Sink>(self, out: &mut K, journal: &mut Journal) -> Status
+        ensures { (g : GivenRecord) → Responds g self → Serves g
+            (left K.written K.faults result journal.new.entries out.old out.new) }
+    {
+        reports_are_accepted();
+        *journal = self.journal;
+        match write_all(out, &self.text) {
+            Ok(()) => self.status,
+            Err(Failed) => Status::WriteFault,
+        }
+    }
+}
