@@ -1,8 +1,13 @@
-//! The program: its words, standard input and standard output, and its exit status.
+//! The program: its words, standard input and standard output, and its exit status. Standard error
+//! tells what was wanting where standard output cannot.
 #![tactic(auto)]
 
+ghost use Rattle.std.specs.Prelude.{◌≡◌};
+ghost use Rattle.std.specs.Process.{exit_status};
+ghost use Rattle.sem_cli.specs.Statuses.{status_number};
+
 use sem_cli::Status;
-use sem_io::{ReadSource, WriteSink};
+use sem_io::{ReadSource, WriteSink, write_all};
 use sem_msg::Journal;
 use sem_node::OpenGate;
 use sem_run::semper;
@@ -27,7 +32,11 @@ fn main(rt: HostRuntime) -> ExitCode {
         ),
         Err(_) => Status::Memory,
     };
-    ExitCode::from(status.number())
+    if let Some(line) = reason(status) {
+        // Where standard error takes nothing either, the exit status alone tells it.
+        let _ = write_all(&mut WriteSink::new(rt.stderr()), line);
+    }
+    exit_code(status)
 }
 
 // The words after the program's name; none where a word is no text.
@@ -37,4 +46,20 @@ fn words(rt: &HostRuntime) -> Result<Vec<String>, OutOfMemory> {
         Err(fault) if fault.kind() == ErrorKind::OutOfMemory => Err(OutOfMemory),
         Err(_) => Ok(Vec::new(rt.alloc())),
     }
+}
+
+// The line on standard error; none where a text on standard output tells how the program ended.
+fn reason(status: Status) -> Option<&'static [u8]> {
+    match status {
+        Status::ReadFault => Some(b"semper: the input could not be read\n"),
+        Status::WriteFault => Some(b"semper: the output could not be written\n"),
+        Status::Memory => Some(b"semper: out of memory\n"),
+        Status::Done | Status::Usage | Status::TraceRefused | Status::ReportRefused => None,
+    }
+}
+
+fn exit_code(status: Status) -> ExitCode
+    ensures { exit_status result ≡ status_number status }
+{
+    ExitCode::from(status.number())
 }
