@@ -1,10 +1,11 @@
 //! How the tests go through the journals of reports.
 
+use sem_check::replay;
 use sem_kernel::{StepError, World};
 use sem_msg::{Act, Entry, Event, Journal, Setup};
 use sem_reader::read_trace;
 use sem_report::read_report;
-use sem_serial::{boot, drain, play};
+use sem_serial::{PlayError, boot, drain, play};
 use std::alloc::Global;
 use std::test::Fail;
 
@@ -23,12 +24,12 @@ pub fn replays(alloc: Global, report: &[u8]) -> Result<bool, Fail> {
 fn goes_through(alloc: Global, world: &mut World, entries: &[Entry]) -> Result<bool, Fail> {
     let mut events = Vec::new(alloc);
     for entry in entries {
-        world.enabled_events(&mut events)?;
+        world.enabled_events(alloc, &mut events)?;
         if !events.as_slice().contains(&entry.event) || !happens(world, entry) {
             return Ok(false);
         }
     }
-    world.enabled_events(&mut events)?;
+    world.enabled_events(alloc, &mut events)?;
     Ok(events.is_empty())
 }
 
@@ -78,7 +79,7 @@ fn goes_on(world: &mut World, entries: &[Entry], after: usize) -> bool {
 // Whether exactly these events are enabled, in this order.
 fn enables(alloc: Global, world: &World, acts: &[(u32, Act)]) -> Result<bool, Fail> {
     let mut events = Vec::new(alloc);
-    world.enabled_events(&mut events)?;
+    world.enabled_events(alloc, &mut events)?;
     Ok(
         events.len() == acts.len()
             && events.iter().zip(acts).all(|(event, wanted)| event.kernel == wanted.0
@@ -115,6 +116,78 @@ fn plays_to(alloc: Global, setup: &Setup, entries: &[Entry]) -> Result<bool, Fai
     }
     let mut journal = Journal::new(alloc);
     Ok(play(alloc, setup, &events, &mut journal).is_ok() && journal.as_slice() == entries)
+}
+
+/// Whether a run by the words of the seed goes on from where a replay stands. From a replay of
+/// nothing, and from one of the report's whole journal, it makes that journal; from one of the first
+/// half, a journal that begins with that half.
+pub fn draws_on(alloc: Global, seed: u64, report: &[u8]) -> Result<bool, Fail> {
+    match read_report(alloc, report) {
+        Ok(read) => draws_on_from_each(alloc, &read.0, seed, read.1.as_slice()),
+        Err(_) => Ok(false),
+    }
+}
+
+fn draws_on_from_each(
+    alloc: Global,
+    setup: &Setup,
+    seed: u64,
+    entries: &[Entry],
+) -> Result<bool, Fail> {
+    let half = &entries[..entries.len() / 2];
+    Ok(
+        draws_on_from(alloc, setup, seed, &[], entries)?
+            && draws_on_from(alloc, setup, seed, entries, entries)?
+            && draws_on_from(alloc, setup, seed, half, half)?,
+    )
+}
+
+// Whether the run goes on from a replay of the first entries to a journal that begins with the
+// others.
+fn draws_on_from(
+    alloc: Global,
+    setup: &Setup,
+    seed: u64,
+    first: &[Entry],
+    wanted: &[Entry],
+) -> Result<bool, Fail> {
+    let mut journal = Journal::new(alloc);
+    for entry in first {
+        journal.room(1)?;
+        journal.push(*entry);
+    }
+    Ok(goes_on_to(alloc, setup, seed, &journal, wanted))
+}
+
+fn goes_on_to(
+    alloc: Global,
+    setup: &Setup,
+    seed: u64,
+    journal: &Journal,
+    wanted: &[Entry],
+) -> bool {
+    match replay(alloc, setup, journal) {
+        Ok(mut start) => {
+            drain(alloc, setup, &mut start.0, &mut start.1, seed).is_ok()
+                && start.1.journal().as_slice().starts_with(wanted)
+        }
+        Err(_) => false,
+    }
+}
+
+/// The place of the first of these events that is not enabled after those before it, and how many
+/// entries these make; none where each is enabled.
+pub fn stops_at(alloc: Global, trace: &[u8], events: &[Event]) -> Option<(usize, usize)> {
+    match read_trace(alloc, trace) {
+        Ok(setup) => {
+            let mut journal = Journal::new(alloc);
+            match play(alloc, &setup, events, &mut journal) {
+                Err(PlayError::NotEnabled { at }) => Some((at, journal.len())),
+                _ => None,
+            }
+        }
+        Err(_) => None,
+    }
 }
 
 /// Whether the run of the trace ends by the words of each of so many seeds, after so many grants,

@@ -15,3 +15,5 @@ mod plays_c;
 mod seeded_a;
 #[cfg(test)]
 mod seeded_b;
+#[cfg(test)]
+mod stops;

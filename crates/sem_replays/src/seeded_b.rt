@@ -1,6 +1,6 @@
 //! Seeded runs of several kernels. The wanted reports come from two independent reference programs.
 
-use crate::answers::draws;
+use crate::answers::{draws, draws_on};
 use std::test::Fail;
 
 const VERSION_TWO_15: &[u8] = b"semper report 2
@@ -190,6 +190,22 @@ fn seeded_b_make_these_entries(rt: HostRuntime) -> Result<(), Fail> {
         ),
     ] {
         let is_right = draws(rt.alloc(), seed, report)?;
+        assert!(rt; is_right, "{name}");
+    }
+    Ok(())
+}
+
+#[test]
+fn a_run_goes_on_from_a_replay(rt: HostRuntime) -> Result<(), Fail> {
+    for (name, seed, report) in [
+        ("version two 15", 0, VERSION_TWO_15),
+        (
+            "version two runs 01",
+            18446744073709551615,
+            VERSION_TWO_RUNS_01,
+        ),
+    ] {
+        let is_right = draws_on(rt.alloc(), seed, report)?;
         assert!(rt; is_right, "{name}");
     }
     Ok(())

@@ -10,11 +10,12 @@ use std::test::Fail;
 use std::thread::Threads;
 
 // A trace of one VPE with memory, but for its calls and its end.
-const DECLARED: &str = "semper trace 1\nkernels 1\npe 0 0\nvpe 0 0\nroot 0 0 mem 0 4096 7\n";
+pub(crate) const DECLARED: &str =
+    "semper trace 1\nkernels 1\npe 0 0\nvpe 0 0\nroot 0 0 mem 0 4096 7\n";
 
-const DERIVE_AND_REVOKE: &str = "call 0 derive 0 1 0 1024 1\ncall 0 revoke 0\nend\n";
+pub(crate) const DERIVE_AND_REVOKE: &str = "call 0 derive 0 1 0 1024 1\ncall 0 revoke 0\nend\n";
 
-const DERIVED_AND_REVOKED: &str =
+pub(crate) const DERIVED_AND_REVOKED: &str =
     "journal 3\n0 call 0 0 derive 0 1 0 1024 1 grant 0.0.1.0 0.0.1.1 reply 0 0\n0 call 0 1 revoke 0 cut 0.0.1.0\n0 resume 0 reply 0 0\naudit\nmade 2\ncut 1\nheld 0\nend\n";
 
 const USAGE: &str =
@@ -31,14 +32,14 @@ fn words(alloc: Global, line: &str) -> Result<Vec<String>, Fail> {
 
 // What the program answered, and how many entries the journal has.
 #[derive(Drop)]
-struct Ending {
-    status: Status,
-    written: Vec<u8>,
-    entries: usize,
+pub(crate) struct Ending {
+    pub(crate) status: Status,
+    pub(crate) written: Vec<u8>,
+    pub(crate) entries: usize,
 }
 
 // What it answers over this source and this sink.
-fn answer_over<R: Threads + Wait + Sync>(
+pub(crate) fn answer_over<R: Threads + Wait + Sync>(
     rt: &R,
     alloc: Global,
     line: &str,
@@ -64,7 +65,7 @@ fn answer_over<R: Threads + Wait + Sync>(
 }
 
 // What it answers to these words and this input.
-fn answer<R: Threads + Wait + Sync>(
+pub(crate) fn answer<R: Threads + Wait + Sync>(
     rt: &R,
     alloc: Global,
     line: &str,
@@ -77,7 +78,13 @@ fn answer<R: Threads + Wait + Sync>(
 }
 
 // Asserts the whole answer.
-fn check(rt: &impl Abort, answer: &Ending, status: Status, written: &str, entries: usize) {
+pub(crate) fn check(
+    rt: &impl Abort,
+    answer: &Ending,
+    status: Status,
+    written: &str,
+    entries: usize,
+) {
     assert_eq!(rt; answer.status, status);
     assert_eq!(rt; answer.written.as_slice(), written.as_bytes());
     assert_eq!(rt; answer.entries, entries);
@@ -120,36 +127,6 @@ fn a_vpe_draws_at_most_4096_numbers(rt: HostRuntime) -> Result<(), Fail> {
     let end =
         b"0 call 0 8190 derive 0 1 0 1 1 reply 0 7\naudit\nmade 4096\ncut 4095\nheld 1\nkey 0.0.1.0 0\nend\n";
     assert!(rt; answer.written.ends_with(end));
-    Ok(())
-}
-
-#[test]
-fn a_sink_that_fails_leaves_a_prefix(rt: HostRuntime) -> Result<(), Fail> {
-    let trace = format!(in rt.alloc(); "{DECLARED}{DERIVE_AND_REVOKE}")?;
-    let report = format!(in rt.alloc(); "semper report 1\n{trace}{DERIVED_AND_REVOKED}")?;
-    let calls = report.len().div_ceil(64);
-    for call in 0..calls {
-        let bytes = trace.as_bytes().to_vec(rt.alloc())?;
-        let source = MemSource::new(bytes, 4096, Vec::new(rt.alloc()));
-        let fails = vec![in rt.alloc(); call as u64]?;
-        let sink = MemSink::new(rt.alloc(), 4096, 64, fails)?;
-        let answer = answer_over(&rt, rt.alloc(), "run 0", source, sink)?;
-        assert_eq!(rt; answer.status, Status::WriteFault, "call {call}");
-        assert_eq!(rt; answer.written.len(), call * 64);
-        assert!(rt; report.as_bytes().starts_with(&answer.written));
-        assert_eq!(rt; answer.entries, 3, "call {call}");
-    }
-    Ok(())
-}
-
-#[test]
-fn a_source_that_fails_leaves_nothing_written(rt: HostRuntime) -> Result<(), Fail> {
-    let trace = format!(in rt.alloc(); "{DECLARED}{DERIVE_AND_REVOKE}")?;
-    let bytes = trace.as_bytes().to_vec(rt.alloc())?;
-    let source = MemSource::new(bytes, 4096, vec![in rt.alloc(); 0u64]?);
-    let sink = MemSink::new(rt.alloc(), 4096, 64, Vec::new(rt.alloc()))?;
-    let answer = answer_over(&rt, rt.alloc(), "run 0", source, sink)?;
-    check(&rt, &answer, Status::ReadFault, "", 0);
     Ok(())
 }
 
@@ -300,6 +277,11 @@ fn what_is_no_report_is_refused_at_its_first_fault(rt: HostRuntime) -> Result<()
         ),
         (
             3,
+            "0 resume 0 reply 0 4\naudit\nmade 2\ncut 1\nheld 0\nend\n",
+            "entry 2: entered 0 resume 0 reply 0 4; replayed 0 resume 0 reply 0 0",
+        ),
+        (
+            3,
             "0 kill 0\naudit\nmade 2\ncut 1\nheld 0\nend\n",
             "entry 2: entered 0 kill 0; replayed not enabled",
         ),
@@ -324,21 +306,15 @@ fn what_is_no_report_is_refused_at_its_first_fault(rt: HostRuntime) -> Result<()
 }
 
 #[test]
-fn a_report_that_cannot_be_read_leaves_nothing_written(rt: HostRuntime) -> Result<(), Fail> {
-    let report = report_with(rt.alloc(), DERIVED_AND_REVOKED)?;
-    let bytes = report.as_bytes().to_vec(rt.alloc())?;
-    let source = MemSource::new(bytes, 64, vec![in rt.alloc(); 2u64]?);
-    let sink = MemSink::new(rt.alloc(), 4096, 64, Vec::new(rt.alloc()))?;
-    let answer = answer_over(&rt, rt.alloc(), "check", source, sink)?;
-    check(&rt, &answer, Status::ReadFault, "", 0);
-    Ok(())
-}
-
-#[test]
 fn a_seed_generates_a_trace(rt: HostRuntime) -> Result<(), Fail> {
-    let told =
-        "semper trace 1\nkernels 1\npe 0 0\nvpe 0 0\nroot 0 0 mem 0 65536 7\ncall 0 obtain 3 0 1\ncall 0 delegate 11 0 9\nend\n";
-    let answer = answer(&rt, rt.alloc(), "gen 5 1 2", "not read")?;
-    check(&rt, &answer, Status::Done, told, 0);
+    let head = "semper trace 1\nkernels 1\npe 0 0\nvpe 0 0\nroot 0 0 mem 0 65536 7\n";
+    for (line, calls) in [
+        ("gen 5 1 0", ""),
+        ("gen 5 1 2", "call 0 obtain 3 0 1\ncall 0 delegate 11 0 9\n"),
+    ] {
+        let told = format!(in rt.alloc(); "{head}{calls}end\n")?;
+        let answer = answer(&rt, rt.alloc(), line, "not read")?;
+        check(&rt, &answer, Status::Done, told.as_str(), 0);
+    }
     Ok(())
 }

@@ -6,7 +6,11 @@ mod calls;
 #[cfg(test)]
 mod changes;
 #[cfg(test)]
+mod faults;
+#[cfg(test)]
 mod nodes;
+#[cfg(test)]
+mod setups;
 #[cfg(test)]
 mod threads;
 #[cfg(test)]

@@ -207,27 +207,35 @@ fn a_check_accepts_what_threads_write(rt: HostRuntime) -> Result<(), Fail> {
 }
 
 #[test]
-fn a_chain_of_forty_one_goes_with_its_root_in_threads(rt: HostRuntime) -> Result<(), Fail> {
-    let mut trace = String::from_str(
+fn a_chain_of_forty_one_goes_with_its_root(rt: HostRuntime) -> Result<(), Fail> {
+    let mut rest = String::from_str(
         rt.alloc(),
-        "semper trace 1\nkernels 2\npe 0 0\npe 1 1\nvpe 0 0\nvpe 1 1\nroot 0 0 mem 0 4096 7\n",
+        "pe 0 0\npe 1 1\nvpe 0 0\nvpe 1 1\nroot 0 0 mem 0 4096 7\n",
     )?;
     for n in 0..20u32 {
         let (from, over, to) = (2 * n, 2 * n + 1, 2 * n + 2);
         let calls = format!(in rt.alloc();
             "call 0 delegate {from} 1 {over}\ncall 0 obtain {to} 1 {over}\n"
         )?;
-        trace.push_str(calls.as_str())?;
+        rest.push_str(calls.as_str())?;
     }
-    trace.push_str("call 0 revoke 0\nend\n")?;
-    let ending = ended(&rt, rt.alloc(), "threads 0", trace.as_bytes(), &OpenGate)?;
-    assert_eq!(rt; ending.status, Status::Done);
-    assert_eq!(rt; ending.journal.len(), 662);
-    assert!(rt;
-        ending
-            .written
-            .ends_with(b"audit\nmade 41\ncut 1\nheld 0\nend\n")
-    );
+    rest.push_str("call 0 revoke 0\nend\n")?;
+    for (line, head) in [
+        ("threads 0", "semper trace 1\nkernels 2\n"),
+        ("threads 0", "semper trace 2\nkernels 2\nwindow 1\n"),
+        ("run 0", "semper trace 2\nkernels 2\nwindow 1\n"),
+        ("run 1", "semper trace 2\nkernels 2\nwindow 1\n"),
+    ] {
+        let trace = format!(in rt.alloc(); "{head}{rest}")?;
+        let ending = ended(&rt, rt.alloc(), line, trace.as_bytes(), &OpenGate)?;
+        assert_eq!(rt; ending.status, Status::Done);
+        assert_eq!(rt; ending.journal.len(), 662);
+        assert!(rt;
+            ending
+                .written
+                .ends_with(b"audit\nmade 41\ncut 1\nheld 0\nend\n")
+        );
+    }
     Ok(())
 }
 
@@ -268,9 +276,13 @@ fn a_kernel_that_is_held_up_is_not_the_first(rt: HostRuntime) -> Result<(), Fail
 
 #[test]
 fn a_load_is_soaked(rt: HostRuntime) -> Result<(), Fail> {
-    let ending = ended(&rt, rt.alloc(), "soak 9 8 100", b"not read", &OpenGate)?;
-    assert_eq!(rt; ending.status, Status::Done);
-    let told = "soak 1\nvpes 8\ncalls 800\nanswered 800\nstray 0\n";
-    assert_eq!(rt; ending.written.as_slice(), told.as_bytes());
+    for (line, vpes, calls) in [("soak 9 8 100", 8, 800), ("soak 9 64 312", 64, 19968)] {
+        let ending = ended(&rt, rt.alloc(), line, b"not read", &OpenGate)?;
+        let told = format!(in rt.alloc();
+            "soak 1\nvpes {vpes}\ncalls {calls}\nanswered {calls}\nstray 0\n"
+        )?;
+        assert_eq!(rt; ending.status, Status::Done);
+        assert_eq!(rt; ending.written.as_slice(), told.as_bytes());
+    }
     Ok(())
 }

@@ -1,0 +1,77 @@
+//! A source and a sink that fail once, at each of their calls in turn.
+
+use crate::calls::{DECLARED, DERIVE_AND_REVOKE, DERIVED_AND_REVOKED, answer_over, check};
+use sem_cli::Status;
+use sem_io::{MemSink, MemSource};
+use std::alloc::{AllocError, Global};
+use std::test::Fail;
+
+/// The most bytes of a call.
+const STEP: usize = 64;
+
+// Words, what they read, what they write, and how many entries they leave.
+#[derive(Drop)]
+struct Row {
+    line: &'static str,
+    input: String,
+    text: String,
+    entries: usize,
+}
+
+// The rows: each command that reads or writes, over a derive and a revoke.
+fn rows(alloc: Global) -> Result<Vec<Row>, AllocError> {
+    let trace = format!(in alloc; "{DECLARED}{DERIVE_AND_REVOKE}")?;
+    let report = format!(in alloc; "semper report 1\n{trace}{DERIVED_AND_REVOKED}")?;
+    let mut rows = Vec::new(alloc);
+    rows.push(Row {
+        line: "check",
+        input: report.clone()?,
+        text: String::from_str(alloc, "ok\n")?,
+        entries: 0,
+    })?;
+    rows.push(Row {
+        line: "run 0",
+        input: trace,
+        text: report,
+        entries: 3,
+    })?;
+    Ok(rows)
+}
+
+#[test]
+fn each_read_that_fails_leaves_nothing_written(rt: HostRuntime) -> Result<(), Fail> {
+    for row in &rows(rt.alloc())? {
+        // The last read finds the end.
+        let calls = row.input.len().div_ceil(STEP) + 1;
+        for call in 0..=calls {
+            let bytes = row.input.as_bytes().to_vec(rt.alloc())?;
+            let source = MemSource::new(bytes, STEP, vec![in rt.alloc(); call as u64]?);
+            let sink = MemSink::new(rt.alloc(), 4096, STEP, Vec::new(rt.alloc()))?;
+            let answer = answer_over(&rt, rt.alloc(), row.line, source, sink)?;
+            if call < calls {
+                check(&rt, &answer, Status::ReadFault, "", 0);
+            } else {
+                check(&rt, &answer, Status::Done, row.text.as_str(), row.entries);
+            }
+        }
+    }
+    Ok(())
+}
+
+#[test]
+fn each_write_that_fails_leaves_a_prefix(rt: HostRuntime) -> Result<(), Fail> {
+    for row in &rows(rt.alloc())? {
+        let calls = row.text.len().div_ceil(STEP);
+        for call in 0..calls {
+            let bytes = row.input.as_bytes().to_vec(rt.alloc())?;
+            let source = MemSource::new(bytes, STEP, Vec::new(rt.alloc()));
+            let sink = MemSink::new(rt.alloc(), 4096, STEP, vec![in rt.alloc(); call as u64]?)?;
+            let answer = answer_over(&rt, rt.alloc(), row.line, source, sink)?;
+            assert_eq!(rt; answer.status, Status::WriteFault);
+            assert_eq!(rt; answer.written.len(), call * STEP);
+            assert!(rt; row.text.as_bytes().starts_with(&answer.written));
+            assert_eq!(rt; answer.entries, row.entries);
+        }
+    }
+    Ok(())
+}
