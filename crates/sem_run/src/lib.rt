@@ -7,6 +7,7 @@ mod checks;
 mod generates;
 mod judging;
 mod response;
+mod responses;
 mod runs;
 mod soaks;
 mod threads;

@@ -2,13 +2,9 @@ ghost use Rattle.std.specs.Prelude.{◌≡◌, []};
 ghost use Rattle.sem_run.specs.Inputs.{asked_by, given};
 ghost use Rattle.sem_run.specs.Ends.{left};
 ghost use Rattle.sem_run.specs.Serves.{Serves};
-ghost use Rattle.sem_run.specs.Readings.{IsAsked, Responds};
 
-use crate::alone::respond;
-use crate::response::Response;
-use crate::soaks::soak_load;
-use crate::threads::thread_trace;
-use sem_cli::{Command, Status, command};
+use crate::responses::respond_to;
+use sem_cli::{Status, command};
 use sem_io::{Sink, Source};
 use sem_msg::Journal;
 use sem_node::Gate;
@@ -35,22 +31,4 @@ pub fn semper<R: Threads + Wait + Sync, S: Source, K: Sink, G: Gate + Sync>(
         (left K.written K.faults result journal.new.entries out.old out.new) }
 {
     respond_to(rt, alloc, command(words), input, gate).leave(out, journal)
-}
-
-// What the program does about words that ask it for this.
-fn respond_to<R: Threads + Wait + Sync, S: Source, G: Gate + Sync>(
-    rt: &R,
-    alloc: Global,
-    asked: Option<Command>,
-    input: &mut S,
-    gate: &G,
-) -> Response
-    requires { IsAsked asked }
-    ensures { Responds (given S.left S.faults asked input.old input.new) result }
-{
-    match asked {
-        Some(Command::Threads { seed }) => thread_trace(rt, alloc, seed, input, gate),
-        Some(Command::Soak { seed, vpes, calls }) => soak_load(rt, alloc, seed, vpes, calls, gate),
-        alone => respond(alloc, alone, input),
-    }
 }

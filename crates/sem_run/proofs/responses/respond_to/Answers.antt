@@ -2,7 +2,7 @@ use Rattle.std.proofs.Common.{◌≡◌, Some, refl, rules}
 use Rattle.sem_cli.specs.Commands.{command_of}
 use Rattle.sem_cli.specs.declared.forms.Command.TheVariants.{Soak}
 use Rattle.sem_cli.proofs.Loads.{can-soak}
-use Rattle.sem_run.proofs.top.respond_to.Goals as goal
+use Rattle.sem_run.proofs.responses.respond_to.Goals as goal
 
 -- the load of the words can be generated
 pub soak_load-requires-clause-vpes : goal.soak_load-requires-clause-vpes

@@ -3,7 +3,7 @@ use Rattle.std.proofs.lemmas.Bool.{false≢true}
 use Rattle.sem_cli.specs.Commands.{command_of}
 use Rattle.sem_cli.specs.declared.forms.Command.TheVariants.{Threads, Generate, Soak}
 use Rattle.sem_cli.proofs.Loads.{can-generate}
-use Rattle.sem_run.proofs.alone.respond.Goals as goal
+use Rattle.sem_run.proofs.responses.respond.Goals as goal
 
 -- the load of the words can be generated
 pub generate_trace-requires-clause-vpes : goal.generate_trace-requires-clause-vpes
