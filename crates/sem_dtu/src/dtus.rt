@@ -81,6 +81,18 @@ impl Dtus {
         self.rows[usize::from(vpe)].endpoints[usize::from(ep)].key()
     }
 
+    /// The key to which an endpoint of a VPE is bound, and the object that its capability had then;
+    /// none where the endpoint is not bound. Takes no memory.
+    ///
+    /// The VPE belongs to this kernel, and the endpoint is at most 15.
+    pub fn binding(&self, vpe: u16, ep: u8) -> Option<(Key, Object)>
+        requires ours { IsOurs self.now vpe }
+        requires ep { ep < ENDPOINTS }
+        ensures { result ≡ option_map (λ e. (e.key, e.object)) (endpoint self.now.rows vpe ep) }
+    {
+        self.rows[usize::from(vpe)].endpoints[usize::from(ep)].bound()
+    }
+
     /// Unbinds every endpoint of the key's VPE that is bound to the key. Takes no memory.
     ///
     /// The key's VPE belongs to this kernel.

@@ -96,6 +96,16 @@ impl Endpoint {
         }
     }
 
+    // The key and the object to which it is bound.
+    pub fn bound(&self) -> Option<(Key, Object)>
+        ensures { result ≡ option_map (λ e. (e.key, e.object)) self.now }
+    {
+        match &self.binding {
+            Some(binding) => Some((binding.key, binding.object)),
+            None => None,
+        }
+    }
+
     // Why it would refuse the operation, if it would.
     fn test(&self, op: Op) -> Result<(), UseFault>
         ensures { option_map fault_code (result_err result) ≡ refusal op self.now }

@@ -4,7 +4,7 @@ ghost use Rattle.std.specs.Option.{option_map};
 ghost use Rattle.sem_key.specs.Capability.{capability_of};
 ghost use Rattle.sem_msg.specs.Fabric.{is_due as is_due_lem};
 ghost use Rattle.sem_msg.specs.Lookups.{kernel_of};
-ghost use Rattle.sem_machine.specs.Sides.{is_alive, outbox};
+ghost use Rattle.sem_machine.specs.Sides.{is_alive, endpoint, cap, parked as parked_of, outbox};
 ghost use Rattle.sem_machine.specs.Machine.{start_side, is_locally_enabled, local_step, local_entry, replied_vpe as replied_vpe_lem};
 ghost use Rattle.sem_kernel.specs.KernelValue.{is_timely as is_timely_lem, IsInput};
 ghost use Rattle.sem_kernel.specs.Listing.{vpe_act};
@@ -15,8 +15,8 @@ use crate::listing::VpeRow;
 use crate::own::{OwnVpe, own_vpes};
 use crate::shared::SharedSetup;
 use crate::stores::Stores;
-use sem_key::{Cap, OutOfMemory};
-use sem_msg::{Act, Entry, Event, Message, Reply, Setup};
+use sem_key::{Cap, Key, Object, OutOfMemory, VPES};
+use sem_msg::{Act, ENDPOINTS, Entry, Event, Message, Parked, Reply, Setup};
 use std::alloc::Global;
 use std::marker::Model;
 
@@ -118,6 +118,35 @@ impl Kernel {
         ensures { result ≡ is_alive self.now.side vpe }
     {
         self.stores.vpes.alive(vpe)
+    }
+
+    /// The key to which an endpoint of the VPE is bound, and the object that its capability had
+    /// then; none where the endpoint is not bound. Takes no memory.
+    ///
+    /// The VPE is one of this kernel, and the endpoint is at most 15.
+    pub fn binding(&self, vpe: u16, ep: u8) -> Option<(Key, Object)>
+        requires vpe { kernel_of self.now.setup vpe ≡ self.now.id }
+        requires ep { ep < ENDPOINTS }
+        ensures { result ≡ option_map (λ e. (e.key, e.object)) (endpoint self.now.side vpe ep) }
+    {
+        self.stores.dtus.binding(vpe, ep)
+    }
+
+    /// The capability of that key; none where it holds no such key. Takes no memory.
+    pub fn held(&self, key: Key) -> Option<&Cap>
+        ensures { option_map capability_of (option_copied result) ≡ cap self.now.side key }
+    {
+        self.stores.caps.get(key)
+    }
+
+    /// The state in which a call of the VPE waits; none where it has no such call. Takes no memory.
+    ///
+    /// The VPE is 0 to 127.
+    pub fn parked(&self, vpe: u16) -> Option<Parked>
+        requires { vpe < VPES }
+        ensures { result ≡ parked_of self.now.side vpe }
+    {
+        self.stores.park.state(vpe)
     }
 
     /// The capability at that place among those that it holds, in rising key order, counted from 0;

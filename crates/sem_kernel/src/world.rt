@@ -1,7 +1,8 @@
-ghost use Rattle.std.specs.Prelude.{◌≡◌, ◌↔◌, false, map, IfOk, OnOk, OnErr, IsErrOf};
+ghost use Rattle.std.specs.Prelude.{◌≡◌, ◌<◌, ◌↔◌, false, map, IfOk, OnOk, OnErr, IsErrOf};
 ghost use Rattle.std.specs.List.{range_with_len};
+ghost use Rattle.std.specs.Option.{option_map};
 ghost use Rattle.sem_msg.specs.Lookups.{kernel_of};
-ghost use Rattle.sem_machine.specs.Sides.{is_alive as is_alive_lem};
+ghost use Rattle.sem_machine.specs.Sides.{is_alive as is_alive_lem, endpoint};
 ghost use Rattle.sem_machine.specs.Machine.{side, start, enabled, is_enabled as is_enabled_lem, after as after_lem, entry_of};
 ghost use Rattle.sem_kernel.specs.Worlds.{booted};
 
@@ -10,8 +11,8 @@ use crate::kernel::Kernel;
 use crate::listing::enabled_events;
 use crate::shared::SharedSetup;
 use sem_fabric::Fabric;
-use sem_key::OutOfMemory;
-use sem_msg::{Entry, Event, Journal, Setup};
+use sem_key::{Key, Object, OutOfMemory};
+use sem_msg::{ENDPOINTS, Entry, Event, Journal, Setup};
 use std::alloc::Global;
 use std::marker::Model;
 
@@ -70,6 +71,21 @@ impl World {
         match self.kernels.get(self.setup.kernel_of(vpe) as usize) {
             Some(kernel) => kernel.is_alive(vpe),
             None => false,
+        }
+    }
+
+    /// The key to which an endpoint of the VPE is bound, and the object that its capability had
+    /// then; none where the endpoint is not bound, and for a VPE that is not declared. Takes no
+    /// memory.
+    ///
+    /// The endpoint is at most 15.
+    pub fn binding(&self, vpe: u16, ep: u8) -> Option<(Key, Object)>
+        requires { ep < ENDPOINTS }
+        ensures { result ≡ option_map (λ e. (e.key, e.object)) (endpoint (side self.now.world (kernel_of self.now.setup vpe)) vpe ep) }
+    {
+        match self.kernels.get(self.setup.kernel_of(vpe) as usize) {
+            Some(kernel) => kernel.binding(vpe, ep),
+            None => None,
         }
     }
 
