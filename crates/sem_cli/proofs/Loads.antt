@@ -9,7 +9,8 @@ use Rattle.std.proofs.lemmas.Option.{none-some, same_Some}
 use Rattle.sem_text.specs.declared.numbers.NumberFault.TheVariants.{Bad, Range}
 use Rattle.sem_text.specs.Number.{is_number, number_value}
 use Rattle.sem_cli.specs.declared.forms.Command.{Command}
-use Rattle.sem_cli.specs.declared.forms.Command.TheVariants.{Run, Threads, Check, Generate, Soak}
+use Rattle.sem_cli.specs.declared.forms.Command.TheVariants.{Run, Threads, Generate, Soak, Ask}
+use Rattle.sem_cli.specs.declared.forms.Question.TheVariants.{Check, Contents}
 use Rattle.sem_cli.specs.declared.forms.Load.{Load}
 use Rattle.sem_cli.specs.Commands.{command_of, generate, soak, number_to, seed_of, load_from, load_of}
 
@@ -44,13 +45,14 @@ abbrev IsLoaded : Option Command → Type 0
 IsLoaded None = Unit {0}
 IsLoaded (Some (Run seed)) = Unit {0}
 IsLoaded (Some (Threads seed)) = Unit {0}
-IsLoaded (Some Check) = Unit {0}
 IsLoaded (Some (Generate seed vpes calls)) = CanGenerate vpes calls
 IsLoaded (Some (Soak seed vpes calls)) = CanGenerate vpes calls
+IsLoaded (Some (Ask question)) = Unit {0}
 
-plain-loaded : (b : Bool) → IsLoaded (cond b (Some Check) None)
-plain-loaded true = tt
-plain-loaded false = tt
+plain-loaded : (a b : Bool) → IsLoaded (cond a (Some (Ask Check)) (cond b (Some (Ask Contents)) None))
+plain-loaded true b = tt
+plain-loaded false true = tt
+plain-loaded false false = tt
 
 seeded-loaded : (a b : Bool) (o : Option ℕ) → IsLoaded (cond a (option_map Run o) (cond b (option_map Threads o) None))
 seeded-loaded true b None = tt
@@ -68,7 +70,7 @@ load-loaded false false o kept = tt
 
 command-loaded : (words : List (List ℕ)) → IsLoaded (command_of words)
 command-loaded [] = tt
-command-loaded (name ∷ []) = plain-loaded (bytes_eq name (codes "check"))
+command-loaded (name ∷ []) = plain-loaded (bytes_eq name (codes "check")) (bytes_eq name (codes "contents"))
 command-loaded (name ∷ seed ∷ []) = seeded-loaded (bytes_eq name (codes "run")) (bytes_eq name (codes "threads")) (seed_of seed)
 command-loaded (name ∷ seed ∷ vpes ∷ []) = tt
 command-loaded (name ∷ seed ∷ vpes ∷ calls ∷ []) = load-loaded (bytes_eq name (codes "gen")) (bytes_eq name (codes "soak")) (load_of seed vpes calls) (λ load. load-kept (seed_of seed) (number_to 128 vpes) (number_to 20000 calls) load (number-most vpes 128))

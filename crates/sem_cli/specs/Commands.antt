@@ -3,7 +3,8 @@ use Rattle.std.specs.Prelude.{ℕ, ◌*◌, ◌&&◌, nat_le, List, [], ◌∷�
 use Rattle.std.specs.Result.{result_ok}
 use Rattle.sem_text.specs.Number.{number_of}
 use Rattle.sem_cli.specs.declared.forms.Command.{Command}
-use Rattle.sem_cli.specs.declared.forms.Command.TheVariants.{Run, Threads, Check, Generate, Soak}
+use Rattle.sem_cli.specs.declared.forms.Command.TheVariants.{Run, Threads, Generate, Soak, Ask}
+use Rattle.sem_cli.specs.declared.forms.Question.TheVariants.{Check, Contents}
 use Rattle.sem_cli.specs.declared.forms.Load.{Load}
 
 -- the number that a word is, if it is one and at most so great
@@ -32,8 +33,9 @@ soak load = Soak load.seed load.vpes load.calls
 -- the command that words are
 abbrev pub command_of : List (List ℕ) → Option Command
 command_of (name ∷ []) =
-    if bytes_eq name (codes "check") then Some Check
-    else None
+    if bytes_eq name (codes "check") then Some (Ask Check)
+    else (if bytes_eq name (codes "contents") then Some (Ask Contents)
+    else None)
 command_of (name ∷ seed ∷ []) =
     if bytes_eq name (codes "run") then option_map Run (seed_of seed)
     else (if bytes_eq name (codes "threads") then option_map Threads (seed_of seed)

@@ -7,7 +7,9 @@ use Rattle.sem_trace.specs.declared.fault.TraceFault.{TraceFault}
 
 -- the forms of a command, with the vertical bar between blanks
 abbrev pub usage_line : List ℕ
-usage_line = codes "usage: semper run SEED | threads SEED | check | gen SEED VPES CALLS | soak SEED VPES CALLS" ++ 10 ∷ []
+usage_line =
+    codes "usage: semper run SEED | threads SEED | check | gen SEED VPES CALLS"
+    ++ codes " | soak SEED VPES CALLS | contents" ++ 10 ∷ []
 
 -- the report is that of a complete schedule
 abbrev pub ok_line : List ℕ

@@ -1,7 +1,7 @@
 ghost use Rattle.std.specs.Prelude.{◌≡◌, [], ◌∷◌, map, string_bytes};
 ghost use Rattle.sem_cli.specs.Commands.{command_of, number_to as number_to_lem, seed_of as seed_of_lem, load_of as load_of_lem};
 
-use crate::forms::{Command, Load};
+use crate::forms::{Command, Load, Question};
 use sem_text::number;
 
 /// The command that the words are, if they are one. Takes no memory.
@@ -23,7 +23,12 @@ fn plain(name: &str) -> Option<Command>
     ensures { result ≡ command_of (name.now ∷ []) }
 {
     match name {
-        "check" => Some(Command::Check),
+        "check" => Some(Command::Ask {
+            question: Question::Check,
+        }),
+        "contents" => Some(Command::Ask {
+            question: Question::Contents,
+        }),
         _ => None,
     }
 }

@@ -5,12 +5,21 @@ pub enum Command {
     Run { seed: u64 },
     /// Runs the trace that is read with threads, and writes the report.
     Threads { seed: u64 },
-    /// Checks the report that is read.
-    Check,
     /// Writes a generated trace of so many VPEs with so many calls each.
     Generate { seed: u64, vpes: u32, calls: u32 },
     /// Runs such a trace with threads, and writes a summary.
     Soak { seed: u64, vpes: u32, calls: u32 },
+    /// Checks the report that is read, and answers a question about it.
+    Ask { question: Question },
+}
+
+/// What is asked about a report.
+#[derive(Clone, Copy, Debug, PartialEq, Eq)]
+pub enum Question {
+    /// Whether it is the report of a complete schedule.
+    Check,
+    /// What memory holds after it.
+    Contents,
 }
 
 // The seed of what is made, and how much of it.

@@ -10,7 +10,7 @@ mod statuses;
 mod summaries;
 
 pub use commands::command;
-pub use forms::Command;
+pub use forms::{Command, Question};
 pub use messages::{ok, push_refused, usage};
 pub use refusals::{push_bad_line, push_differing, push_going_on};
 pub use statuses::Status;

@@ -9,7 +9,8 @@ use sem_trace::{Cause, TraceFault};
 pub fn usage() -> &'static [u8]
     ensures { result.now ≡ usage_line }
 {
-    b"usage: semper run SEED | threads SEED | check | gen SEED VPES CALLS | soak SEED VPES CALLS\n"
+    b"usage: semper run SEED | threads SEED | check | gen SEED VPES CALLS \
+        | soak SEED VPES CALLS | contents\n"
 }
 
 /// The line that tells that a report is that of a complete schedule.

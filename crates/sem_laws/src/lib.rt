@@ -2,6 +2,7 @@
 #![tactic(auto)]
 
 ghost use Rattle.sem_machine.specs.Safety.{IsSafe};
+ghost use Rattle.sem_bytes.specs.Owning.{AccessesAreOwned};
 ghost use Rattle.sem_laws.specs.Always.{Always};
 ghost use Rattle.sem_laws.specs.Always.{ForEveryJournal, ForEverySchedule, ForEveryFirstVersion};
 ghost use Rattle.sem_laws.specs.Facts.{RestsWhenIdle, IsBounded, IsScheduleByParts, IsToldByParts};
@@ -37,6 +38,13 @@ pub fn schedules_are_parts()
     ensures world { ForEverySchedule IsToldByParts }
 {
     sem_parts::parts::schedules_are_parts();
+}
+
+/// Every read and write that is answered with success touches only memory that its VPE was granted.
+pub fn bytes_owned()
+    ensures { Always AccessesAreOwned }
+{
+    sem_bytes::laws::bytes_owned();
 }
 
 /// A setup of version 1 has the same schedules as it has as one of version 2 with a window of 4.

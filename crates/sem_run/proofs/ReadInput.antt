@@ -1,5 +1,5 @@
 -- What the bytes that were read tell of the input. One byte more is read than a text may have.
-use Rattle.std.proofs.Common.{◌≡◌, ℕ, ◌+◌, ◌<◌, ◌≤◌, List, [], ◌∷◌, ◌++◌, length, take, Option, Some, None, IfSome, refl, sym, ◌∙◌, ap, subst, arith, inl, inr}
+use Rattle.std.proofs.Common.{◌≡◌, ℕ, ◌+◌, ◌<◌, ◌≤◌, true, false, List, [], ◌∷◌, ◌++◌, length, take, Option, Some, None, IfSome, refl, sym, ◌∙◌, ap, subst, arith, inl, inr}
 use Rattle.std.specs.Prelude.{nat_lt}
 use Rattle.std.proofs.lemmas.Bool.{cases_lt, cond-true, lt-ltb, false≢true}
 use Rattle.std.proofs.lemmas.List.{length-append, take_all, length-take}
@@ -16,13 +16,14 @@ use Rattle.sem_trace.specs.declared.fault.TraceError.TheVariants.{Refused as Ref
 use Rattle.sem_report.specs.declared.verdict.Verdict.{Verdict}
 use Rattle.sem_report.specs.declared.verdict.Verdict.TheVariants.{Accepted, BadLine, BadEntry, NotOver, BadAudit}
 use Rattle.sem_report.specs.ReportRefusal.{report_refusal}
-use Rattle.sem_cli.specs.declared.forms.Command.TheVariants.{Check}
+use Rattle.sem_cli.specs.declared.forms.Command.TheVariants.{Ask}
+use Rattle.sem_cli.specs.declared.forms.Question.{Question}
 use Rattle.sem_cli.specs.declared.statuses.Status.{Status}
 use Rattle.sem_cli.specs.declared.statuses.Status.TheVariants.{Done, Usage, TraceRefused, ReadFault, WriteFault, Memory, ReportRefused}
 use Rattle.sem_msg.specs.declared.entry.Entry.{Entry}
 use Rattle.sem_run.specs.Inputs.{Given, Asks, IsUntouched, ReadsPart, ReadsTrace, IsQuietlyRead}
-use Rattle.sem_run.specs.Reports.{IsVerdict}
-use Rattle.sem_run.specs.Readings.{IsVerdictTold}
+use Rattle.sem_run.specs.Reports.{IsVerdict, is_accepted, verdict_line}
+use Rattle.sem_run.specs.Readings.{IsAskable, Tells, IsVerdictTold}
 use Rattle.sem_run.specs.Ends.{WouldEnd}
 
 -- nothing was read
@@ -112,10 +113,27 @@ input-verdict : (left : Option (List ℕ)) (read : List ℕ) (verdict : Verdict)
 input-verdict None read verdict is found = (read, tt, found)
 input-verdict (Some bytes) read verdict is found = (bytes, refl, same-verdict bytes read is verdict found)
 
--- how the check of what was read ends
-module _ (g : Given) (J : List Entry) (text read : List ℕ) (asked : Asks g Check) (is : IsRead 134217728 g.before read) (taken : Takes g.before g.after read) (quiet : IsQuietlyRead g) (empty : J ≡ []) where
-  accepted-ends : (verdict : Verdict) → IsVerdict read verdict → IsVerdictTold verdict text Done → WouldEnd g J text Done
+-- a verdict that is right accepts schedules alone
+pub askable : (bytes : List ℕ) (verdict : Verdict) → IsVerdict bytes verdict → IsAskable verdict
+askable bytes (Accepted T journal due) found = found.0.complete.schedule
+askable bytes (BadLine fault) found = tt
+askable bytes (BadEntry journal n entered replayed) found = tt
+askable bytes (NotOver journal next) found = tt
+askable bytes (BadAudit line due) found = tt
+
+-- what is not accepted is told by its line
+refused-line : (question : Question) (verdict : Verdict) (text : List ℕ) → is_accepted verdict ≡ false → Tells question verdict text → text ≡ verdict_line verdict
+refused-line question (Accepted T journal due) text refused told = absurd (false≢true (sym refused))
+refused-line question (BadLine fault) text refused told = told
+refused-line question (BadEntry journal n entered replayed) text refused told = told
+refused-line question (NotOver journal next) text refused told = told
+refused-line question (BadAudit line due) text refused told = told
+
+-- how a question about what was read ends
+module _ (g : Given) (J : List Entry) (text read : List ℕ) (question : Question) (asked : Asks g (Ask question)) (is : IsRead 134217728 g.before read) (taken : Takes g.before g.after read) (quiet : IsQuietlyRead g) (empty : J ≡ []) where
+  accepted-ends : (verdict : Verdict) → IsVerdict read verdict → IsVerdictTold question verdict text Done → WouldEnd g J text Done
   accepted-ends (Accepted T journal due) found told = inr (inl (record {
+    question = question;
     command = asked;
     setup = T;
     entries = journal.entries;
@@ -133,20 +151,21 @@ module _ (g : Given) (J : List Entry) (text read : List ℕ) (asked : Asks g Che
   accepted-ends (NotOver journal next) found told = absurd (false≢true told.0)
   accepted-ends (BadAudit line due) found told = absurd (false≢true told.0)
 
-  pub check-ends : (verdict : Verdict) → IsVerdict read verdict → (status : Status) → IsVerdictTold verdict text status → WouldEnd g J text status
-  check-ends verdict found Done told = accepted-ends verdict found told
-  check-ends verdict found Usage told = absurd told
-  check-ends verdict found TraceRefused told = absurd told
-  check-ends verdict found ReadFault told = absurd told
-  check-ends verdict found WriteFault told = absurd told
-  check-ends verdict found Memory told = record { part = inl empty; read = (read, taken); quiet = quiet; told = told }
-  check-ends verdict found ReportRefused told =
+  pub answer-ends : (verdict : Verdict) → IsVerdict read verdict → (status : Status) → IsVerdictTold question verdict text status → WouldEnd g J text status
+  answer-ends verdict found Done told = accepted-ends verdict found told
+  answer-ends verdict found Usage told = absurd told
+  answer-ends verdict found TraceRefused told = absurd told
+  answer-ends verdict found ReadFault told = absurd told
+  answer-ends verdict found WriteFault told = absurd told
+  answer-ends verdict found Memory told = record { part = inl empty; read = (read, taken); quiet = quiet; told = told }
+  answer-ends verdict found ReportRefused told =
       let input = input-verdict g.before read verdict is found in
       record {
+        question = question;
         command = asked;
         bytes = input.0;
         input = input.1;
-        refused = record { verdict = verdict; found = input.2; refused = told.0; told = told.1 };
+        refused = record { verdict = verdict; found = input.2; refused = told.0; told = refused-line question verdict text told.0 told.1 };
         read = (read, taken);
         quiet = quiet;
         no_journal = empty;

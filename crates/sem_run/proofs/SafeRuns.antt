@@ -16,7 +16,7 @@ use Rattle.sem_machine.proofs.Pushing.{entry_of-event}
 use Rattle.sem_serial.proofs.Running.{picked-enabled}
 use Rattle.sem_cli.specs.declared.statuses.Status.{Status}
 use Rattle.sem_cli.specs.declared.statuses.Status.TheVariants.{Done, Usage, TraceRefused, ReadFault, WriteFault, Memory, ReportRefused}
-use Rattle.sem_cli.specs.declared.forms.Command.TheVariants.{Check, Generate}
+use Rattle.sem_cli.specs.declared.forms.Command.TheVariants.{Generate, Ask}
 use Rattle.sem_run.specs.Inputs.{Given, RunsSetup}
 use Rattle.sem_run.specs.Inputs.RunsSetup.{is_read, is_generated}
 use Rattle.sem_run.proofs.Asked.{not-run}
@@ -71,7 +71,7 @@ module _ (g : Given) (J : List Entry) where
     -- a run that would end so left a safe schedule
     pub would-safe : (status : Status) → WouldEnd g J text status → IsOfRun g status J → IsSafeRun g J
     would-safe Done (inl ends) of_run = seeded-safe ends.setup ends.seed ends.run
-    would-safe Done (inr (inl ends)) of_run = absurd (not-run g Check of_run.0 ends.command refl of_run.1 of_run.2)
+    would-safe Done (inr (inl ends)) of_run = absurd (not-run g (Ask ends.question) of_run.0 ends.command refl of_run.1 of_run.2)
     would-safe Done (inr (inr (inl ends))) of_run = absurd (not-run g (Generate ends.seed ends.vpes ends.calls) of_run.0 ends.command refl of_run.1 of_run.2)
     would-safe Done (inr (inr (inr (inl ends)))) of_run = threaded-safe text ends
     would-safe Done (inr (inr (inr (inr ends)))) of_run = soaked-safe text ends

@@ -12,7 +12,7 @@ use Rattle.sem_trace.specs.Refusal.{refusal}
 use Rattle.sem_report.specs.declared.verdict.Verdict.{Verdict}
 use Rattle.sem_audit.specs.HeldKeys.{report}
 use Rattle.sem_cli.specs.declared.forms.Command.{Command}
-use Rattle.sem_cli.specs.declared.forms.Command.TheVariants.{Run, Threads, Check, Generate, Soak}
+use Rattle.sem_cli.specs.declared.forms.Command.TheVariants.{Run, Threads, Generate, Soak, Ask}
 use Rattle.sem_cli.specs.declared.statuses.Status.{Status}
 use Rattle.sem_cli.specs.declared.statuses.Status.TheVariants.{Done, Usage, TraceRefused, ReadFault, WriteFault, Memory, ReportRefused}
 use Rattle.sem_run.specs.Inputs.{Given, Asks, AsksRun, ReadsTrace, reads_input}
@@ -33,7 +33,7 @@ module _ (g : Given) (J : List Entry) (text : List ℕ) where
   -- the words are no command
   pub usage : (status : Status) → WouldEnd g J text status → TellsUsage g status
   usage Done (inl ends) none = absurd (none-some (Run ends.seed) (sym none ∙ ends.run.command))
-  usage Done (inr (inl ends)) none = absurd (none-some Check (sym none ∙ ends.command))
+  usage Done (inr (inl ends)) none = absurd (none-some (Ask ends.question) (sym none ∙ ends.command))
   usage Done (inr (inr (inl ends))) none = absurd (none-some (Generate ends.seed ends.vpes ends.calls) (sym none ∙ ends.command))
   usage Done (inr (inr (inr (inl ends)))) none = absurd (none-some (Threads ends.seed) (sym none ∙ ends.command))
   usage Done (inr (inr (inr (inr ends)))) none = absurd (none-some (Soak ends.seed ends.vpes ends.calls) (sym none ∙ ends.command))
@@ -46,7 +46,7 @@ module _ (g : Given) (J : List Entry) (text : List ℕ) where
   usage ReadFault ends none = absurd (none-some ends.asked (sym none ∙ ends.command))
   usage WriteFault ends none = absurd ends
   usage Memory ends none = inr (inr refl)
-  usage ReportRefused ends none = absurd (none-some Check (sym none ∙ ends.command))
+  usage ReportRefused ends none = absurd (none-some (Ask ends.question) (sym none ∙ ends.command))
 
   -- a command that reads nothing
   pub unread : (command : Command) → reads_input command ≡ false → Asks g command → (status : Status) → WouldEnd g J text status → (status ≡ Done) ⊎ ((status ≡ WriteFault) ⊎ (status ≡ Memory))
@@ -60,7 +60,7 @@ module _ (g : Given) (J : List Entry) (text : List ℕ) where
   unread command lacks asked ReadFault ends = absurd (not-both g command ends.asked reads_input asked ends.command lacks ends.reads)
   unread command lacks asked WriteFault ends = absurd ends
   unread command lacks asked Memory ends = inr (inr refl)
-  unread command lacks asked ReportRefused ends = absurd (not-both g command Check reads_input asked ends.command lacks refl)
+  unread command lacks asked ReportRefused ends = absurd (not-both g command (Ask ends.question) reads_input asked ends.command lacks refl)
 
   -- a command that runs what it reads runs no load
   no-load : (seed vpes calls other : ℕ) → Asks g (Soak seed vpes calls) → AsksRun g other → ⊥
@@ -73,7 +73,7 @@ module _ (g : Given) (J : List Entry) (text : List ℕ) where
     where
       stands : (T : Setup) → ReadsTrace g T → ⊥
       stands T trace = none-some fault (sym trace.stands.accepted ∙ (ap refusal (whole g.before g.after trace.text bytes trace.taken trace.to_end left) ∙ refused))
-  refuses_traces Done (inr (inl ends)) seed bytes fault asked left refused = absurd (no-run g Check ends.command refl seed asked)
+  refuses_traces Done (inr (inl ends)) seed bytes fault asked left refused = absurd (no-run g (Ask ends.question) ends.command refl seed asked)
   refuses_traces Done (inr (inr (inl ends))) seed bytes fault asked left refused = absurd (no-run g (Generate ends.seed ends.vpes ends.calls) ends.command refl seed asked)
   refuses_traces Done (inr (inr (inr (inl ends)))) seed bytes fault asked left refused =
       absurd (none-some fault (sym ends.trace.stands.accepted ∙ (ap refusal (whole g.before g.after ends.trace.text bytes ends.trace.taken ends.trace.to_end left) ∙ refused)))
@@ -87,7 +87,7 @@ module _ (g : Given) (J : List Entry) (text : List ℕ) where
   refuses_traces ReadFault ends seed bytes fault asked left refused = inr (inl refl)
   refuses_traces WriteFault ends seed bytes fault asked left refused = absurd ends
   refuses_traces Memory ends seed bytes fault asked left refused = inr (inr (inr refl))
-  refuses_traces ReportRefused ends seed bytes fault asked left refused = absurd (no-run g Check ends.command refl seed asked)
+  refuses_traces ReportRefused ends seed bytes fault asked left refused = absurd (no-run g (Ask ends.question) ends.command refl seed asked)
 
   -- a trace
   pub runs : (status : Status) → WouldEnd g J text status → RunsTraces g status
@@ -103,34 +103,34 @@ module _ (g : Given) (J : List Entry) (text : List ℕ) where
   runs ReadFault ends seed bytes T asked left stands = inr (inl refl)
   runs WriteFault ends seed bytes T asked left stands = absurd ends
   runs Memory ends seed bytes T asked left stands = inr (inr (inr refl))
-  runs ReportRefused ends seed bytes T asked left stands = absurd (no-run g Check ends.command refl seed asked)
+  runs ReportRefused ends seed bytes T asked left stands = absurd (no-run g (Ask ends.question) ends.command refl seed asked)
 
   -- a text that is no report
   pub refuses_reports : (status : Status) → WouldEnd g J text status → RefusesReports g status
-  refuses_reports Done (inl ends) bytes asked left isnt = absurd (no-run g Check asked refl ends.seed (inl ends.run.command))
-  refuses_reports Done (inr (inl ends)) bytes asked left isnt =
+  refuses_reports Done (inl ends) question bytes asked left isnt = absurd (no-run g (Ask question) asked refl ends.seed (inl ends.run.command))
+  refuses_reports Done (inr (inl ends)) question bytes asked left isnt =
       let is : report ends.setup ends.entries ≡ bytes = whole g.before g.after (report ends.setup ends.entries) bytes ends.input.taken ends.input.to_end left in
       absurd (isnt (record { setup = ends.setup; entries = ends.entries; valid = ends.valid; complete = ends.complete; spelled = sym is }))
-  refuses_reports Done (inr (inr (inl ends))) bytes asked left isnt = absurd (not-both g (Generate ends.seed ends.vpes ends.calls) Check reads_input ends.command asked refl refl)
-  refuses_reports Done (inr (inr (inr (inl ends)))) bytes asked left isnt = absurd (no-run g Check asked refl ends.seed (inr ends.command))
-  refuses_reports Done (inr (inr (inr (inr ends)))) bytes asked left isnt = absurd (not-both g (Soak ends.seed ends.vpes ends.calls) Check reads_input ends.command asked refl refl)
-  refuses_reports Usage ends bytes asked left isnt = absurd (none-some Check (sym ends.no_command ∙ asked))
-  refuses_reports TraceRefused ends bytes asked left isnt = absurd (no-run g Check asked refl ends.seed ends.command)
-  refuses_reports ReadFault ends bytes asked left isnt = inr (inl refl)
-  refuses_reports WriteFault ends bytes asked left isnt = absurd ends
-  refuses_reports Memory ends bytes asked left isnt = inr (inr (inr refl))
-  refuses_reports ReportRefused ends bytes asked left isnt = inl refl
+  refuses_reports Done (inr (inr (inl ends))) question bytes asked left isnt = absurd (not-both g (Generate ends.seed ends.vpes ends.calls) (Ask question) reads_input ends.command asked refl refl)
+  refuses_reports Done (inr (inr (inr (inl ends)))) question bytes asked left isnt = absurd (no-run g (Ask question) asked refl ends.seed (inr ends.command))
+  refuses_reports Done (inr (inr (inr (inr ends)))) question bytes asked left isnt = absurd (not-both g (Soak ends.seed ends.vpes ends.calls) (Ask question) reads_input ends.command asked refl refl)
+  refuses_reports Usage ends question bytes asked left isnt = absurd (none-some (Ask question) (sym ends.no_command ∙ asked))
+  refuses_reports TraceRefused ends question bytes asked left isnt = absurd (no-run g (Ask question) asked refl ends.seed ends.command)
+  refuses_reports ReadFault ends question bytes asked left isnt = inr (inl refl)
+  refuses_reports WriteFault ends question bytes asked left isnt = absurd ends
+  refuses_reports Memory ends question bytes asked left isnt = inr (inr (inr refl))
+  refuses_reports ReportRefused ends question bytes asked left isnt = inl refl
 
   module _ (accepts : (bytes : List ℕ) (verdict : Verdict) → IsReport bytes → IsVerdict bytes verdict → is_accepted verdict ≡ true) where
     -- a report
     pub accepts_reports : (status : Status) → WouldEnd g J text status → AcceptsReports g status
-    accepts_reports Done ends bytes asked left r = inl refl
-    accepts_reports Usage ends bytes asked left r = absurd (none-some Check (sym ends.no_command ∙ asked))
-    accepts_reports TraceRefused ends bytes asked left r = absurd (no-run g Check asked refl ends.seed ends.command)
-    accepts_reports ReadFault ends bytes asked left r = inr (inl refl)
-    accepts_reports WriteFault ends bytes asked left r = absurd ends
-    accepts_reports Memory ends bytes asked left r = inr (inr (inr refl))
-    accepts_reports ReportRefused ends bytes asked left r =
+    accepts_reports Done ends question bytes asked left r = inl refl
+    accepts_reports Usage ends question bytes asked left r = absurd (none-some (Ask question) (sym ends.no_command ∙ asked))
+    accepts_reports TraceRefused ends question bytes asked left r = absurd (no-run g (Ask question) asked refl ends.seed ends.command)
+    accepts_reports ReadFault ends question bytes asked left r = inr (inl refl)
+    accepts_reports WriteFault ends question bytes asked left r = absurd ends
+    accepts_reports Memory ends question bytes asked left r = inr (inr (inr refl))
+    accepts_reports ReportRefused ends question bytes asked left r =
         let is : bytes ≡ ends.bytes = subst (λ o. IfSome o (λ all. all ≡ ends.bytes)) left ends.input in
         let yes : is_accepted ends.refused.verdict ≡ true = accepts ends.bytes ends.refused.verdict (subst IsReport is r) ends.refused.found in
         absurd (false≢true (sym ends.refused.refused ∙ yes))
@@ -169,8 +169,8 @@ module _ (g : Given) (J : List Entry) (text : List ℕ) where
       usage = λ none. inr (inl refl);
       refuses_traces = λ seed bytes fault asked left refused. inr (inr (inl refl));
       runs = λ seed bytes T asked left stands. inr (inr (inl refl));
-      refuses_reports = λ bytes asked left isnt. inr (inr (inl refl));
-      accepts_reports = λ bytes asked left r. inr (inr (inl refl));
+      refuses_reports = λ question bytes asked left isnt. inr (inr (inl refl));
+      accepts_reports = λ question bytes asked left r. inr (inr (inl refl));
       generates = λ seed vpes calls asked. inr (inl refl);
       soaks = λ seed vpes calls asked. inr (inl refl);
     }

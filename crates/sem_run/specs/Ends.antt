@@ -13,9 +13,12 @@ use Rattle.sem_machine.specs.Seeded.{seeded}
 use Rattle.sem_machine.specs.Living.{IsComplete}
 use Rattle.sem_machine.specs.Safety.{IsSafe}
 use Rattle.sem_audit.specs.HeldKeys.{report}
+use Rattle.sem_access.specs.ContentsText.{contents}
 use Rattle.sem_audit.specs.Straying.{stray_count}
 use Rattle.sem_cli.specs.declared.forms.Command.{Command}
-use Rattle.sem_cli.specs.declared.forms.Command.TheVariants.{Run, Threads, Check, Generate, Soak}
+use Rattle.sem_cli.specs.declared.forms.Command.TheVariants.{Run, Threads, Generate, Soak, Ask}
+use Rattle.sem_cli.specs.declared.forms.Question.{Question}
+use Rattle.sem_cli.specs.declared.forms.Question.TheVariants.{Check, Contents}
 use Rattle.sem_cli.specs.declared.statuses.Status.{Status}
 use Rattle.sem_cli.specs.declared.statuses.Status.TheVariants.{Done, Usage, TraceRefused, ReadFault, WriteFault, Memory, ReportRefused}
 use Rattle.sem_cli.specs.Summary.{summary}
@@ -52,16 +55,22 @@ pub record EndsReported (g : Given) (J : List Entry) (text : List ℕ) : Type 0 
   pub complete : IsComplete setup J
   pub told : text ≡ report setup J
 
--- Status 0 of a check: the input is the report of a complete schedule.
-pub record EndsAccepted (g : Given) (J : List Entry) (text : List ℕ) : Type 0 where
-  pub command : Asks g Check
+-- the text that answers a question about the report of a schedule
+abbrev pub IsAnswer : Question → Setup → List Entry → List ℕ → Type 0
+IsAnswer Check T J text = text ≡ ok_line
+IsAnswer Contents T J text = text ≡ contents T J
+
+-- Status 0 of a question: the input is the report of a complete schedule, and the text answers it.
+pub record EndsAnswered (g : Given) (J : List Entry) (text : List ℕ) : Type 0 where
+  pub question : Question
+  pub command : Asks g (Ask question)
   pub setup : Setup
   pub entries : List Entry
   pub valid : IsSetup setup
   pub complete : IsComplete setup entries
   pub input : ReadsAll g (report setup entries)
   pub no_journal : J ≡ []
-  pub told : text ≡ ok_line
+  pub told : IsAnswer question setup entries text
 
 -- Status 0 of `gen`: the text is the canonical one of the generated setup; nothing was read.
 pub record EndsGenerated (g : Given) (J : List Entry) (text : List ℕ) : Type 0 where
@@ -99,7 +108,7 @@ pub record EndsSoaked (g : Given) (J : List Entry) (text : List ℕ) : Type 0 wh
 
 -- Status 0: what the command asks for is done.
 abbrev pub EndsDone : Given → List Entry → List ℕ → Type 0
-EndsDone g J text = EndsReported g J text ⊎ (EndsAccepted g J text ⊎ (EndsGenerated g J text ⊎ (EndsThreaded g J text ⊎ EndsSoaked g J text)))
+EndsDone g J text = EndsReported g J text ⊎ (EndsAnswered g J text ⊎ (EndsGenerated g J text ⊎ (EndsThreaded g J text ⊎ EndsSoaked g J text)))
 
 -- Status 1: the words are no command; nothing was read.
 pub record EndsUsage (g : Given) (J : List Entry) (text : List ℕ) : Type 0 where
@@ -142,7 +151,8 @@ pub record EndsMemory (g : Given) (J : List Entry) (text : List ℕ) : Type 0 wh
 
 -- Status 9: the input is not the report of a complete schedule, and the text tells why. It is told of some bytes, which are the input where that is known. At most a prefix of it was read.
 pub record EndsReportRefused (g : Given) (J : List Entry) (text : List ℕ) : Type 0 where
-  pub command : Asks g Check
+  pub question : Question
+  pub command : Asks g (Ask question)
   pub bytes : List ℕ
   pub input : IfSome g.before (λ all. all ≡ bytes)
   pub refused : IsRefusedReport bytes text

@@ -6,7 +6,7 @@ use Rattle.sem_trace.specs.declared.fault.TraceFault.{TraceFault}
 use Rattle.sem_trace.specs.Refusal.{refusal}
 use Rattle.sem_trace.specs.Standing.{Stands}
 use Rattle.sem_cli.specs.declared.forms.Command.{Command}
-use Rattle.sem_cli.specs.declared.forms.Command.TheVariants.{Run, Threads, Check, Generate, Soak}
+use Rattle.sem_cli.specs.declared.forms.Command.TheVariants.{Run, Threads, Generate, Soak, Ask}
 use Rattle.sem_cli.specs.Commands.{command_of}
 use Rattle.sem_gen.specs.Generated.{generated}
 
@@ -18,25 +18,25 @@ asked_by words = command_of (map string_bytes words)
 abbrev pub is_alone : Command → Bool
 is_alone (Run seed) = true
 is_alone (Threads seed) = false
-is_alone Check = true
 is_alone (Generate seed vpes calls) = true
 is_alone (Soak seed vpes calls) = false
+is_alone (Ask question) = true
 
 -- whether the command runs a setup and leaves its journal
 abbrev pub is_run : Command → Bool
 is_run (Run seed) = true
 is_run (Threads seed) = true
-is_run Check = false
 is_run (Generate seed vpes calls) = false
 is_run (Soak seed vpes calls) = true
+is_run (Ask question) = false
 
 -- whether the command reads the input
 abbrev pub reads_input : Command → Bool
 reads_input (Run seed) = true
 reads_input (Threads seed) = true
-reads_input Check = true
 reads_input (Generate seed vpes calls) = false
 reads_input (Soak seed vpes calls) = false
+reads_input (Ask question) = true
 
 -- What the program is given: the command that its words are, and its input before and after the call.
 pub record Given : Type 0 where

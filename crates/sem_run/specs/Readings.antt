@@ -5,12 +5,13 @@ use Rattle.sem_msg.specs.declared.entry.Entry.{Entry}
 use Rattle.sem_msg.specs.Journal.{replies}
 use Rattle.sem_msg.specs.Setup.{Setup}
 use Rattle.sem_trace.specs.declared.fault.TraceFault.{TraceFault}
-use Rattle.sem_machine.specs.Schedules.{world_after}
+use Rattle.sem_machine.specs.Schedules.{IsSchedule, world_after}
 use Rattle.sem_machine.specs.Living.{IsComplete}
 use Rattle.sem_kernel.specs.KernelValue.{KernelValue}
 use Rattle.sem_audit.specs.HeldKeys.{report}
 use Rattle.sem_audit.specs.Straying.{stray_count}
 use Rattle.sem_cli.specs.declared.forms.Command.{Command}
+use Rattle.sem_cli.specs.declared.forms.Question.{Question}
 use Rattle.sem_cli.specs.declared.statuses.Status.{Status}
 use Rattle.sem_cli.specs.declared.statuses.Status.TheVariants.{Done, Usage, TraceRefused, ReadFault, WriteFault, Memory, ReportRefused}
 use Rattle.sem_cli.specs.Messages.{refused_line}
@@ -18,11 +19,12 @@ use Rattle.sem_cli.specs.Summary.{summary}
 use Rattle.sem_cli.specs.Commands.{command_of}
 use Rattle.sem_run.specs.declared.response.Response.{Response}
 use Rattle.sem_report.specs.declared.verdict.Verdict.{Verdict}
+use Rattle.sem_report.specs.declared.verdict.Verdict.TheVariants.{Accepted, BadLine, BadEntry, NotOver, BadAudit}
 use Rattle.sem_report.specs.Audited.{audited, AuditFits}
 use Rattle.sem_report.specs.ReportRefusal.{report_refusal}
 use Rattle.sem_run.specs.Inputs.{Given}
 use Rattle.sem_run.specs.Reports.{is_accepted, verdict_line}
-use Rattle.sem_run.specs.Ends.{WouldEnd}
+use Rattle.sem_run.specs.Ends.{IsAnswer, WouldEnd}
 
 -- it is what some words ask for
 abbrev pub IsAsked : Option Command → Type 0
@@ -75,19 +77,35 @@ IsLoadTold T J vpes calls text ReportRefused = ⊥
 abbrev pub AreAfter : Setup → List Entry → List KernelValue → Type 0
 AreAfter T J kernels = map (λ k. k.side) kernels ≡ (world_after T J).sides
 
+-- a report that is accepted tells a schedule, so that questions about it have an answer
+abbrev pub IsAskable : Verdict → Type 0
+IsAskable (Accepted T journal due) = IsSchedule T journal.entries
+IsAskable (BadLine fault) = Unit {0}
+IsAskable (BadEntry journal n entered replayed) = Unit {0}
+IsAskable (NotOver journal next) = Unit {0}
+IsAskable (BadAudit line due) = Unit {0}
+
+-- the text answers the question where the report is accepted, else it tells the verdict
+abbrev pub Tells : Question → Verdict → List ℕ → Type 0
+Tells question (Accepted T journal due) text = IsAnswer question T journal.entries text
+Tells question (BadLine fault) text = text ≡ verdict_line (BadLine fault)
+Tells question (BadEntry journal n entered replayed) text = text ≡ verdict_line (BadEntry journal n entered replayed)
+Tells question (NotOver journal next) text = text ≡ verdict_line (NotOver journal next)
+Tells question (BadAudit line due) text = text ≡ verdict_line (BadAudit line due)
+
 -- a verdict is told, or memory is lacking
-abbrev pub IsVerdictTold : Verdict → List ℕ → Status → Type 0
-IsVerdictTold verdict text Done = (is_accepted verdict ≡ true) × (text ≡ verdict_line verdict)
-IsVerdictTold verdict text Usage = ⊥
-IsVerdictTold verdict text TraceRefused = ⊥
-IsVerdictTold verdict text ReadFault = ⊥
-IsVerdictTold verdict text WriteFault = ⊥
-IsVerdictTold verdict text Memory = text ≡ []
-IsVerdictTold verdict text ReportRefused = (is_accepted verdict ≡ false) × (text ≡ verdict_line verdict)
+abbrev pub IsVerdictTold : Question → Verdict → List ℕ → Status → Type 0
+IsVerdictTold question verdict text Done = (is_accepted verdict ≡ true) × Tells question verdict text
+IsVerdictTold question verdict text Usage = ⊥
+IsVerdictTold question verdict text TraceRefused = ⊥
+IsVerdictTold question verdict text ReadFault = ⊥
+IsVerdictTold question verdict text WriteFault = ⊥
+IsVerdictTold question verdict text Memory = text ≡ []
+IsVerdictTold question verdict text ReportRefused = (is_accepted verdict ≡ false) × Tells question verdict text
 
 -- the response to a text with that verdict
-abbrev pub TellsVerdict : Verdict → Response → Type 0
-TellsVerdict verdict r = (r.journal.entries ≡ []) × IsVerdictTold verdict r.text.items r.status
+abbrev pub TellsVerdict : Question → Verdict → Response → Type 0
+TellsVerdict question verdict r = (r.journal.entries ≡ []) × IsVerdictTold question verdict r.text.items r.status
 
 -- no line of the bytes is bad, and they tell this setup, journal and audit
 pub record TellsAudit (bytes : List ℕ) (T : Setup) (J : List Entry) (told : Audit) : Type 0 where

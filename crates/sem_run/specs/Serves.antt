@@ -5,7 +5,8 @@ use Rattle.sem_io.specs.Count.{Rose}
 use Rattle.sem_trace.specs.declared.fault.TraceFault.{TraceFault}
 use Rattle.sem_trace.specs.Refusal.{refusal}
 use Rattle.sem_trace.specs.Standing.{Stands}
-use Rattle.sem_cli.specs.declared.forms.Command.TheVariants.{Check, Generate, Soak}
+use Rattle.sem_cli.specs.declared.forms.Command.TheVariants.{Generate, Soak, Ask}
+use Rattle.sem_cli.specs.declared.forms.Question.{Question}
 use Rattle.sem_cli.specs.declared.statuses.Status.{Status}
 use Rattle.sem_cli.specs.declared.statuses.Status.TheVariants.{Done, Usage, TraceRefused, ReadFault, WriteFault, Memory, ReportRefused}
 use Rattle.sem_run.specs.Inputs.{Given, Asks, AsksRun}
@@ -34,11 +35,11 @@ RunsTraces g status = (seed : ℕ) (bytes : List ℕ) (T : Setup) → AsksRun g 
 
 -- a text that is not the report of a complete schedule is refused
 abbrev pub RefusesReports : Given → Status → Type 0
-RefusesReports g status = (bytes : List ℕ) → Asks g Check → g.before ≡ Some bytes → ¬ IsReport bytes → IsOrFails ReportRefused status
+RefusesReports g status = (question : Question) (bytes : List ℕ) → Asks g (Ask question) → g.before ≡ Some bytes → ¬ IsReport bytes → IsOrFails ReportRefused status
 
--- the report of every complete schedule is accepted: so what a run writes, a check accepts
+-- every question about the report of a complete schedule is answered: so what a run writes, a check accepts
 abbrev pub AcceptsReports : Given → Status → Type 0
-AcceptsReports g status = (bytes : List ℕ) → Asks g Check → g.before ≡ Some bytes → IsReport bytes → IsOrFails Done status
+AcceptsReports g status = (question : Question) (bytes : List ℕ) → Asks g (Ask question) → g.before ≡ Some bytes → IsReport bytes → IsOrFails Done status
 
 -- every load is generated
 abbrev pub GeneratesLoads : Given → Status → Type 0

@@ -3,7 +3,7 @@
 
 mod accepts;
 mod alone;
-mod checks;
+mod answers;
 mod generates;
 mod judging;
 mod response;

@@ -4,7 +4,7 @@ ghost use Rattle.sem_cli.specs.declared.forms.Command.{Command as CommandData};
 ghost use Rattle.sem_run.specs.Inputs.{Given as GivenRecord, IsUntouched, given, is_alone};
 ghost use Rattle.sem_run.specs.Readings.{IsAsked, Responds};
 
-use crate::checks::check_report;
+use crate::answers::answer;
 use crate::generates::generate_trace;
 use crate::response::Response;
 use crate::runs::run_trace;
@@ -44,7 +44,7 @@ pub fn respond<S: Source>(alloc: Global, asked: Option<Command>, input: &mut S) 
 {
     match asked {
         Some(Command::Run { seed }) => run_trace(alloc, seed, input),
-        Some(Command::Check) => check_report(alloc, input),
+        Some(Command::Ask { question }) => answer(alloc, question, input),
         Some(Command::Generate { seed, vpes, calls }) => generate_trace(alloc, seed, vpes, calls),
         Some(Command::Threads { .. }) => tell_usage(alloc),
         Some(Command::Soak { .. }) => tell_usage(alloc),

@@ -1,4 +1,6 @@
-use sem_cli::{Command, Status, command, ok, push_differing, push_going_on, push_summary, usage};
+use sem_cli::{
+    Command, Question, Status, command, ok, push_differing, push_going_on, push_summary, usage,
+};
 use sem_msg::{Act, Detail, Entry, Event, Reply};
 use std::process::Abort;
 use std::test::Fail;
@@ -18,9 +20,20 @@ fn check_command(rt: &impl Abort, words: &[String], want: Option<Command>) {
 }
 
 #[test]
-fn five_forms_are_commands(rt: HostRuntime) -> Result<(), Fail> {
+fn six_forms_are_commands(rt: HostRuntime) -> Result<(), Fail> {
     for (line, want) in [
-        ("check", Command::Check),
+        (
+            "check",
+            Command::Ask {
+                question: Question::Check,
+            },
+        ),
+        (
+            "contents",
+            Command::Ask {
+                question: Question::Contents,
+            },
+        ),
         ("run 0", Command::Run { seed: 0 }),
         ("run 18446744073709551615", Command::Run { seed: u64::MAX }),
         ("threads 7", Command::Threads { seed: 7 }),
@@ -110,7 +123,7 @@ fn each_status_has_its_number(rt: HostRuntime) {
 fn messages_are_whole_lines(rt: HostRuntime) -> Result<(), Fail> {
     assert_eq!(rt; ok(), b"ok\n".as_slice());
     let forms = "run SEED | threads SEED | check | gen SEED VPES CALLS | soak SEED VPES CALLS";
-    let line = format!(in rt.alloc(); "usage: semper {forms}\n")?;
+    let line = format!(in rt.alloc(); "usage: semper {forms} | contents\n")?;
     assert_eq!(rt; usage(), line.as_bytes());
     Ok(())
 }

@@ -1,0 +1,4 @@
+pub mod Accesses
+pub mod LastWrites
+pub mod Runs
+pub mod ContentsText

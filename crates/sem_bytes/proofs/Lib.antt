@@ -1,0 +1,3 @@
+mod Lying
+mod Longest
+mod SampleRuns

@@ -1,0 +1,216 @@
+-- Runs that a range of addresses meets: only they change, and only they tell of it.
+use Rattle.std.proofs.Common.{◌≡◌, ℕ, zero, suc, ◌+◌, ◌-◌, ◌≤◌, ◌<◌, Bool, true, false, List, [], ◌∷◌, ◌++◌, length, take, drop, get_or, Option, Some, None, drop-drop, refl, sym, ◌∙◌, ap, subst, arith, rules}
+use Rattle.std.specs.List.{All, AllWithin, filter_map, splice, slice_range, range_with_len, cons_option}
+use Rattle.std.specs.List.Sorted.{IsNonDecreasingBy, IsPartitionPoint}
+use Rattle.std.specs.Prelude.{min, max, nat_le, nat_lt}
+use Rattle.std.proofs.lemmas.Bool.{leb-true, ltb-false}
+use Rattle.std.proofs.lemmas.List.{append_assoc, append-nil, take-append-drop, get_or-take, get_or-drop, length-take, length-drop}
+use Rattle.std.proofs.lemmas.List.Elements.{All-head, All-tail, All-take, All-drop, filter_map-append}
+use Rattle.sem_access.specs.declared.run.Run.{Run}
+use Rattle.sem_access.specs.LastWrites.{looked, greatest}
+use Rattle.sem_access.specs.Runs.{run_of, IsValidRun, AreRunsBehind, AreRuns, entry_at}
+use Rattle.sem_mem.specs.Writing.{lower_part, upper_part, overwritten}
+use Rattle.sem_mem.specs.Meeting.{IsMetPart}
+use Rattle.sem_mem.proofs.KeptRuns.{each-run, first-run, first-apart, more-runs, no-runs, run-before, entry-behind, entry-before, entry-later, below-range, behind-range}
+use Rattle.sem_mem.proofs.Overwriting.{whole-run, lower-cons_some, lower-cons_none, upper-cons_some, upper-cons_none}
+
+abbrev EndsBy : ℕ → Run → Type 0
+EndsBy a r = r.base + r.len ≤ a
+
+abbrev BeginsFrom : ℕ → Run → Type 0
+BeginsFrom a r = a ≤ r.base
+
+-- The parts of runs before a range and of runs behind it.
+
+lower-whole : (base : ℕ) (rs : List Run) → All IsValidRun rs → All (EndsBy base) rs → filter_map (lower_part base) rs ≡ rs
+lower-whole base [] valid ends = refl
+lower-whole base (r ∷ rs) valid ends =
+    let is = All-head IsValidRun r rs valid in
+    let end : r.base + r.len ≤ base = All-head (EndsBy base) r rs ends in
+    let len : min (r.base + r.len) base - r.base ≡ r.len = omega (arith, end) in
+    lower-cons_some base r rs (omega (arith, is.0, end))
+    ∙ (ap (λ q. q ∷ filter_map (lower_part base) rs) (whole-run r r.base (min (r.base + r.len) base - r.base) refl len)
+    ∙ ap (λ qs. r ∷ qs) (lower-whole base rs (All-tail IsValidRun r rs valid) (All-tail (EndsBy base) r rs ends)))
+
+lower-none : (base end : ℕ) (rs : List Run) → base ≤ end → All (BeginsFrom end) rs → filter_map (lower_part base) rs ≡ []
+lower-none base end [] le from = refl
+lower-none base end (r ∷ rs) le from =
+    let begins : end ≤ r.base = All-head (BeginsFrom end) r rs from in
+    lower-cons_none base r rs (omega (arith, le, begins)) ∙ lower-none base end rs le (All-tail (BeginsFrom end) r rs from)
+
+upper-none : (from base : ℕ) (rs : List Run) → base ≤ from → All (EndsBy base) rs → filter_map (upper_part from) rs ≡ []
+upper-none from base [] le ends = refl
+upper-none from base (r ∷ rs) le ends =
+    let end : r.base + r.len ≤ base = All-head (EndsBy base) r rs ends in
+    upper-cons_none from r rs (omega (arith, le, end)) ∙ upper-none from base rs le (All-tail (EndsBy base) r rs ends)
+
+upper-whole : (from : ℕ) (rs : List Run) → All IsValidRun rs → All (BeginsFrom from) rs → filter_map (upper_part from) rs ≡ rs
+upper-whole from [] valid begins = refl
+upper-whole from (r ∷ rs) valid begins =
+    let is = All-head IsValidRun r rs valid in
+    let begin : from ≤ r.base = All-head (BeginsFrom from) r rs begins in
+    let base : max r.base from ≡ r.base = omega (arith, begin) in
+    let len : r.base + r.len - max r.base from ≡ r.len = omega (arith, begin) in
+    upper-cons_some from r rs (omega (arith, is.0, begin))
+    ∙ (ap (λ q. q ∷ filter_map (upper_part from) rs) (whole-run r (max r.base from) (r.base + r.len - max r.base from) base len)
+    ∙ ap (λ qs. r ∷ qs) (upper-whole from rs (All-tail IsValidRun r rs valid) (All-tail (BeginsFrom from) r rs begins)))
+
+-- The runs in three parts.
+
+seam : {X : Type 0} (a b c d : List X) (p : X) → a ++ ((b ++ p ∷ c) ++ d) ≡ (a ++ (b ++ [])) ++ p ∷ (c ++ d)
+seam a b c d p =
+    ap (λ (xs : List _). a ++ xs) (append_assoc b (p ∷ c) d)
+    ∙ (sym (append_assoc a b (p ∷ (c ++ d)))
+    ∙ ap (λ (xs : List _). (a ++ xs) ++ p ∷ (c ++ d)) (sym (append-nil b)))
+
+in-three : {X : Type 0} (xs : List X) (i j : ℕ) → i ≤ j → xs ≡ take i xs ++ (slice_range xs i j ++ drop j xs)
+in-three xs i j le =
+    let rest : i + (j - i) ≡ j = omega (arith, le) in
+    let later : drop (j - i) (drop i xs) ≡ drop j xs = drop-drop (j - i) i xs ∙ ap (λ n. drop n xs) rest in
+    sym (ap (λ (ys : List _). take i xs ++ ys) (ap (λ (ys : List _). take (j - i) (drop i xs) ++ ys) (sym later) ∙ take-append-drop (j - i) (drop i xs)) ∙ take-append-drop i xs)
+
+three-parts : {X Y : Type 0} (h : X → Option Y) (a b c : List X) → filter_map h (a ++ (b ++ c)) ≡ filter_map h a ++ (filter_map h b ++ filter_map h c)
+three-parts h a b c = filter_map-append h a (b ++ c) ∙ ap (λ (ys : List _). filter_map h a ++ ys) (filter_map-append h b c)
+
+module _ (rs : List Run) (base len i j : ℕ) (are : AreRuns rs) (met : IsMetPart rs base (base + len) i j) where
+  abbrev before : List Run
+  before = take i rs
+
+  abbrev middle : List Run
+  middle = slice_range rs i j
+
+  abbrev behind : List Run
+  behind = drop j rs
+
+  abbrev end : ℕ
+  end = base + len
+
+  valid-before : All IsValidRun before
+  valid-before = All-take IsValidRun i rs (each-run rs are)
+
+  valid-behind : All IsValidRun behind
+  valid-behind = All-drop IsValidRun j rs (each-run rs are)
+
+  parts : rs ≡ before ++ (middle ++ behind)
+  parts = in-three rs i j met.order
+
+  lower : filter_map (lower_part base) rs ≡ before ++ (filter_map (lower_part base) middle ++ [])
+  lower =
+      ap (filter_map (lower_part base)) parts
+      ∙ (three-parts (lower_part base) before middle behind
+      ∙ (ap (λ (xs : List Run). xs ++ (filter_map (lower_part base) middle ++ filter_map (lower_part base) behind)) (lower-whole base before valid-before met.before)
+      ∙ ap (λ (xs : List Run). before ++ (filter_map (lower_part base) middle ++ xs)) (lower-none base end behind (omega arith) met.behind)))
+
+  upper : filter_map (upper_part end) rs ≡ filter_map (upper_part end) middle ++ behind
+  upper =
+      ap (filter_map (upper_part end)) parts
+      ∙ (three-parts (upper_part end) before middle behind
+      ∙ (ap (λ (xs : List Run). xs ++ (filter_map (upper_part end) middle ++ filter_map (upper_part end) behind)) (upper-none end base before (omega arith) met.before)
+      ∙ ap (λ (xs : List Run). filter_map (upper_part end) middle ++ xs) (upper-whole end behind valid-behind met.behind)))
+
+  -- an entry that writes the range changes the runs in the middle alone
+  pub splice-overwritten : (entry : ℕ) → splice rs i j (overwritten middle base len entry) ≡ overwritten rs base len entry
+  splice-overwritten entry =
+      let part : Run = run_of base len entry in
+      seam before (filter_map (lower_part base) middle) (filter_map (upper_part end) middle) behind part
+      ∙ (ap (λ (xs : List Run). xs ++ part ∷ (filter_map (upper_part end) middle ++ behind)) (sym lower)
+      ∙ ap (λ (xs : List Run). filter_map (lower_part base) rs ++ part ∷ xs) (sym upper))
+
+  -- the runs in the middle alone tell of the range
+  before-silent : (qs : List Run) (a : ℕ) → All (EndsBy base) qs → base ≤ a → entry_at qs a ≡ None
+  before-silent [] a ends from = refl
+  before-silent (q ∷ qs) a ends from =
+      let ends-here : q.base + q.len ≤ base = All-head (EndsBy base) q qs ends in
+      entry-later q qs a (behind-range q.base q.len a (omega (arith, ends-here, from))) ∙ before-silent qs a (All-tail (EndsBy base) q qs ends) from
+
+  behind-silent : (qs : List Run) (a : ℕ) → All (BeginsFrom end) qs → a < end → entry_at qs a ≡ None
+  behind-silent [] a begins below = refl
+  behind-silent (q ∷ qs) a begins below =
+      let begins-here : end ≤ q.base = All-head (BeginsFrom end) q qs begins in
+      entry-later q qs a (below-range q.base q.len a (omega (arith, begins-here, below))) ∙ behind-silent qs a (All-tail (BeginsFrom end) q qs begins) below
+
+  tells-same : (a : ℕ) → base ≤ a → a < end → entry_at middle a ≡ entry_at rs a
+  tells-same a from below =
+      sym (ap (λ (qs : List Run). entry_at qs a) parts
+      ∙ (entry-behind before (middle ++ behind) a (before-silent before a met.before from)
+      ∙ entry-before middle behind a (behind-silent behind a met.behind below)))
+
+  found-same : (n b : ℕ) → base ≤ b → b + n ≤ end → filter_map (entry_at middle) (range_with_len b n) ≡ filter_map (entry_at rs) (range_with_len b n)
+  found-same zero b from within = refl
+  found-same (suc n) b from within =
+      ap (λ o. cons_option o (filter_map (entry_at middle) (range_with_len (b + 1) n))) (tells-same b from (omega (arith, within)))
+      ∙ ap (cons_option (entry_at rs b)) (found-same n (b + 1) (omega (arith, from)) (omega (arith, within)))
+
+  pub looked-middle : looked (entry_at middle) base len ≡ looked (entry_at rs) base len
+  unfolding looked
+  looked-middle = ap (λ (xs : List ℕ). record { written = length xs; newest = greatest xs }) (found-same len base (omega arith) (omega arith))
+
+-- Parts of runs are runs.
+
+some-runs : (b : ℕ) (e : Option ℕ) (rs : List Run) → AreRunsBehind b e rs → AreRuns rs
+some-runs b e [] are = no-runs 0 None
+some-runs b e (r ∷ rs) are = run-before 0 None r rs (first-run b e r rs are) (omega arith, λ touch same. absurd (cc)) (more-runs b e r rs are)
+
+dropped-runs : (b : ℕ) (e : Option ℕ) (n : ℕ) (rs : List Run) → AreRunsBehind b e rs → AreRuns (drop n rs)
+dropped-runs b e zero rs are = some-runs b e rs are
+dropped-runs b e (suc n) [] are = no-runs 0 None
+dropped-runs b e (suc n) (r ∷ rs) are = dropped-runs (r.base + r.len) (Some r.entry) n rs (more-runs b e r rs are)
+
+taken-runs : (b : ℕ) (e : Option ℕ) (n : ℕ) (rs : List Run) → AreRunsBehind b e rs → AreRunsBehind b e (take n rs)
+taken-runs b e zero rs are = no-runs b e
+taken-runs b e (suc n) [] are = no-runs b e
+taken-runs b e (suc n) (r ∷ rs) are = run-before b e r (take n rs) (first-run b e r rs are) (first-apart b e r rs are) (taken-runs (r.base + r.len) (Some r.entry) n rs (more-runs b e r rs are))
+
+pub runs-dropped : (n : ℕ) (rs : List Run) → AreRuns rs → AreRuns (drop n rs)
+runs-dropped n rs are = dropped-runs 0 None n rs are
+
+pub runs-within : (i j : ℕ) (rs : List Run) → AreRuns rs → AreRuns (slice_range rs i j)
+runs-within i j rs are = taken-runs 0 None (j - i) (drop i rs) (runs-dropped i rs are)
+
+-- Runs rise.
+
+begins-at : (b : ℕ) (e : Option ℕ) (rs : List Run) → AreRunsBehind b e rs → (k : ℕ) (d : Run) → k < length rs → b ≤ (get_or rs k d).base
+begins-at b e [] are k d within = absurd (omega (arith, within))
+begins-at b e (r ∷ rs) are zero d within = (first-apart b e r rs are).0
+begins-at b e (r ∷ rs) are (suc k) d within =
+    let apart = first-apart b e r rs are in
+    let later : r.base + r.len ≤ (get_or rs k d).base = begins-at (r.base + r.len) (Some r.entry) rs (more-runs b e r rs are) k d (omega (arith, within)) in
+    omega (arith, apart.0, later)
+
+rise-behind : (b : ℕ) (e : Option ℕ) (rs : List Run) → AreRunsBehind b e rs → (i j : ℕ) (d : Run) → i ≤ j → j < length rs
+    → ((get_or rs i d).base ≤ (get_or rs j d).base) × ((get_or rs i d).base + (get_or rs i d).len ≤ (get_or rs j d).base + (get_or rs j d).len)
+rise-behind b e [] are i j d le within = absurd (omega (arith, within))
+rise-behind b e (r ∷ rs) are zero zero d le within = (omega arith, omega arith)
+rise-behind b e (r ∷ rs) are zero (suc j) d le within =
+    let later : r.base + r.len ≤ (get_or rs j d).base = begins-at (r.base + r.len) (Some r.entry) rs (more-runs b e r rs are) j d (omega (arith, within)) in
+    (omega (arith, later), omega (arith, later))
+rise-behind b e (r ∷ rs) are (suc i) zero d le within = absurd (omega (arith, le))
+rise-behind b e (r ∷ rs) are (suc i) (suc j) d le within = rise-behind (r.base + r.len) (Some r.entry) rs (more-runs b e r rs are) i j d (omega (arith, le)) (omega (arith, within))
+
+pub bases-rise : (rs : List Run) → AreRuns rs → IsNonDecreasingBy (λ r. r.base) rs
+bases-rise rs are i j d le within = (rise-behind 0 None rs are i j d le within).0
+
+pub ends-rise : (rs : List Run) → AreRuns rs → IsNonDecreasingBy (λ r. r.base + r.len) rs
+ends-rise rs are i j d le within = (rise-behind 0 None rs are i j d le within).1
+
+-- What two binary searches find.
+
+pub met-part : (rs : List Run) (base end i k : ℕ) → i ≤ length rs → k ≤ length (drop i rs)
+    → IsPartitionPoint (λ (r : Run). nat_le (r.base + r.len) base ≡ true) (λ (r : Run). nat_le (r.base + r.len) base ≡ false) rs i
+    → IsPartitionPoint (λ (r : Run). nat_lt r.base end ≡ true) (λ (r : Run). nat_lt r.base end ≡ false) (drop i rs) k
+    → IsMetPart rs base end i (i + k)
+met-part rs base end i k within short first second =
+    let rest : length (drop i rs) ≡ length rs - i = length-drop i rs in
+    record {
+      order = omega arith;
+      within = omega (arith, within, short, rest);
+      before = λ m d lt.
+          let few : length (take i rs) ≡ min i (length rs) = length-take i rs in
+          let below : m < i = omega (arith, lt, few) in
+          subst (EndsBy base) (sym (get_or-take i rs m d below)) (leb-true _ base (first.0 m d (omega arith) below));
+      behind = λ m d lt.
+          let far : length (drop (i + k) rs) ≡ length rs - (i + k) = length-drop (i + k) rs in
+          let assoc : i + (k + m) ≡ i + k + m = omega arith in
+          let same : get_or (drop i rs) (k + m) d ≡ get_or (drop (i + k) rs) m d = get_or-drop i rs (k + m) d ∙ (ap (λ n. get_or rs n d) assoc ∙ sym (get_or-drop (i + k) rs m d)) in
+          subst (BeginsFrom end) same (ltb-false _ end (second.1 (k + m) d (omega arith) (omega (arith, lt, far, rest))));
+    }

@@ -1,0 +1,18 @@
+//! What memory holds: the reads and writes of a journal, the last writes as runs of addresses, and
+//! the text that tells them.
+#![tactic(auto)]
+
+mod contents;
+mod looks;
+mod memory;
+mod parts;
+mod replays;
+mod runs;
+#[cfg(test)]
+mod tests;
+mod writes;
+
+pub use contents::print_contents;
+pub use memory::Memory;
+pub use replays::{AccessList, accesses};
+pub use sem_access::{Access, Look, Run};

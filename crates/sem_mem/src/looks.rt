@@ -1,0 +1,61 @@
+// What runs tell of a range of addresses.
+ghost use Rattle.std.specs.Prelude.{◌≡◌, ◌+◌, ◌≤◌, ℕ, Option};
+ghost use Rattle.sem_key.specs.declared.limits.TheConstants.{ADDRESSES};
+ghost use Rattle.sem_access.specs.LastWrites.{greater as greater_lem, looked};
+ghost use Rattle.sem_access.specs.Runs.{IsValidRun, AreRuns, entry_at};
+ghost use Rattle.sem_mem.specs.Writing.{shared as shared_lem, with_run as with_run_lem};
+
+use sem_access::{Look, Run};
+
+/// What the range tells of the last writes of its addresses.
+pub fn look_in(runs: &[Run], base: u64, len: u32) -> Look
+    requires range { base + len ≤ ADDRESSES }
+    requires runs { AreRuns runs.now }
+    ensures { result ≡ looked (entry_at runs.now) base len }
+{
+    let end = base + u64::from(len);
+    let mut found = Look {
+        written: 0,
+        newest: None,
+    };
+    for run in runs {
+        found = with_run(found, run, base, end);
+    }
+    found
+}
+
+// What was found, and what the run tells beside it.
+fn with_run(found: Look, run: &Run, from: u64, end: u64) -> Look
+    requires run { IsValidRun run.now }
+    requires few { found.written + shared_lem from end run.now ≤ ADDRESSES }
+    ensures { result ≡ with_run_lem from end found run.now }
+{
+    let shared = shared(run, from, end);
+    if shared == 0 {
+        found
+    } else {
+        Look {
+            written: found.written + shared,
+            newest: Some(greater(run.entry, found.newest)),
+        }
+    }
+}
+
+// How many addresses of the run lie from one address on and below another.
+fn shared(run: &Run, from: u64, end: u64) -> u64
+    requires { IsValidRun run.now }
+    ensures { result ≡ shared_lem from end run.now }
+{
+    end.min(run.base + run.len)
+        .saturating_sub(run.base.max(from))
+}
+
+// The greater of the entry and one that may be there.
+fn greater(entry: u64, newest: Option<u64>) -> u64
+    ensures { Some result ≡ greater_lem entry newest }
+{
+    match newest {
+        Some(other) => entry.max(other),
+        None => entry,
+    }
+}

@@ -1,0 +1,78 @@
+ghost use Rattle.std.specs.Prelude.{◌≡◌, ◌+◌, ◌≤◌, [], ℕ, Some, if◌then◌else◌, OnOk, OnErr};
+ghost use Rattle.sem_key.specs.declared.limits.TheConstants.{ADDRESSES};
+ghost use Rattle.sem_access.specs.LastWrites.{has_address, looked};
+ghost use Rattle.sem_access.specs.Runs.{AreRuns, entry_at, IsNewer};
+
+use crate::looks::look_in;
+use crate::runs::met_by;
+use crate::writes::overwrite;
+use sem_access::{Look, Run};
+use sem_key::OutOfMemory;
+use std::alloc::Global;
+use std::marker::Model;
+
+/// Who wrote each address of memory last, as the runs of the addresses.
+#[derive(Debug, Drop)]
+pub struct Memory {
+    runs: Vec<Run>,
+}
+
+impl Model for Memory {
+    ghost use Rattle.std.specs.Prelude.{List};
+    ghost use Rattle.sem_access.specs.declared.run.Run.{Run as RunData};
+    ghost use Rattle.sem_access.specs.Runs.{AreRuns};
+
+    ghost Value = { List RunData };
+
+    ghost view = { λ m. m.runs.items };
+
+    ghost invariant = { λ m. AreRuns m.runs.items };
+}
+
+impl Memory {
+    /// Nothing was written. Takes no memory.
+    pub fn new(alloc: Global) -> Self
+        ensures { result ≡ [] }
+    {
+        Memory {
+            runs: Vec::new(alloc),
+        }
+    }
+
+    /// The runs, in rising order.
+    pub fn as_slice(&self) -> &[Run]
+        ensures runs { result.now ≡ self.now }
+        ensures apart { AreRuns self.now }
+    {
+        &self.runs
+    }
+
+    /// The entry, which comes behind all that wrote before, writes the range. All other addresses
+    /// stay, and after lack of memory these too.
+    ///
+    /// The range ends within 4 GiB.
+    pub fn write(&mut self, base: u64, len: u32, entry: u64) -> Result<(), OutOfMemory>
+        requires range { base + len ≤ ADDRESSES }
+        requires newer { IsNewer self.old entry }
+        ensures written { OnOk result ((a : ℕ) → entry_at self.new a ≡ (
+            if has_address base len a then Some entry else entry_at self.old a)) }
+        ensures newest { OnOk result (IsNewer self.new (entry + 1)) }
+        ensures unchanged { OnErr result (self.new ≡ self.old) }
+    {
+        if len > 0 {
+            overwrite(&mut self.runs, base, len, entry)?;
+        }
+        Ok(())
+    }
+
+    /// What the range tells of the last writes of its addresses. Takes no memory.
+    ///
+    /// The range ends within 4 GiB.
+    pub fn look(&self, base: u64, len: u32) -> Look
+        requires { base + len ≤ ADDRESSES }
+        ensures { result ≡ looked (entry_at self.now) base len }
+    {
+        let (from, to) = met_by(&self.runs, base, base + u64::from(len));
+        look_in(&self.runs[from..to], base, len)
+    }
+}

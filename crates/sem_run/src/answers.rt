@@ -1,0 +1,108 @@
+// Questions about a report that is read.
+ghost use Rattle.std.specs.Prelude.{◌≡◌, [], Some, OnOk};
+ghost use Rattle.sem_machine.specs.Schedules.{IsSchedule};
+ghost use Rattle.sem_cli.specs.declared.forms.Command.TheVariants.{Ask};
+ghost use Rattle.sem_run.specs.Inputs.{given};
+ghost use Rattle.sem_run.specs.Reports.{is_accepted as is_accepted_lem};
+ghost use Rattle.sem_run.specs.Ends.{IsAnswer};
+ghost use Rattle.sem_run.specs.Readings.{Responds, IsAskable, Tells, TellsVerdict};
+
+use crate::judging::judge;
+use crate::response::Response;
+use sem_cli::{Question, Status, ok, push_bad_line, push_differing, push_going_on};
+use sem_io::{Source, read_all};
+use sem_key::OutOfMemory;
+use sem_mem::print_contents;
+use sem_msg::{Journal, Setup};
+use sem_report::Verdict;
+use sem_trace::{Cause, TraceFault};
+use std::alloc::Global;
+
+/// The most bytes of a report.
+const REPORT_BYTES: usize = 134_217_728;
+
+/// Checks the report that is read. The response answers the question if it is accepted, and else
+/// is the line of its verdict.
+pub fn answer<S: Source>(alloc: Global, question: Question, input: &mut S) -> Response
+    ensures { Responds (given S.left S.faults (Some (Ask question)) input.old input.new) result }
+{
+    let bytes = match read_all(alloc, input, REPORT_BYTES) {
+        Ok(bytes) => bytes,
+        Err(error) => return Response::unread(alloc, error),
+    };
+    match judge(alloc, &bytes) {
+        Ok(verdict) => tell_verdict(alloc, question, &verdict),
+        Err(_) => Response::out_of_memory(alloc, Journal::new(alloc)),
+    }
+}
+
+// The response that answers the question or tells the verdict.
+fn tell_verdict(alloc: Global, question: Question, verdict: &Verdict) -> Response
+    requires { IsAskable verdict.now }
+    ensures { TellsVerdict question verdict.now result }
+{
+    let mut text = Vec::new(alloc);
+    match push_verdict(alloc, &mut text, question, verdict) {
+        Ok(()) if is_accepted(verdict) => Response::told(alloc, Status::Done, text),
+        Ok(()) => Response::told(alloc, Status::ReportRefused, text),
+        Err(_) => Response::out_of_memory(alloc, Journal::new(alloc)),
+    }
+}
+
+// Whether the bytes are the report of a complete schedule.
+fn is_accepted(verdict: &Verdict) -> bool
+    ensures { result ≡ is_accepted_lem verdict.now }
+{
+    matches!(verdict, Verdict::Accepted { .. })
+}
+
+// Answers the question, or tells the verdict. After lack of memory a part may be there.
+fn push_verdict(
+    alloc: Global,
+    out: &mut Vec<u8>,
+    question: Question,
+    verdict: &Verdict,
+) -> Result<(), OutOfMemory>
+    requires askable { IsAskable verdict.now }
+    requires empty { out.old.items ≡ [] }
+    ensures { OnOk result (Tells question verdict.now out.new.items) }
+{
+    match verdict {
+        Verdict::Accepted { setup, journal, .. } => {
+            push_answer(alloc, out, question, setup, journal)
+        }
+        Verdict::BadLine { fault } => push_bad_line(out, fault),
+        Verdict::BadEntry {
+            entry,
+            entered,
+            replayed,
+            ..
+        } => push_differing(out, *entry, entered, replayed),
+        Verdict::NotOver { journal, next } => push_going_on(out, journal.len() as u64, next),
+        Verdict::BadAudit { line, .. } => {
+            let fault = TraceFault {
+                line: *line,
+                cause: Cause::NotCanonical,
+            };
+            push_bad_line(out, &fault)
+        }
+    }
+}
+
+// Answers the question. After lack of memory a part may be there.
+fn push_answer(
+    alloc: Global,
+    out: &mut Vec<u8>,
+    question: Question,
+    setup: &Setup,
+    journal: &Journal,
+) -> Result<(), OutOfMemory>
+    requires schedule { IsSchedule setup.now journal.now.entries }
+    requires empty { out.old.items ≡ [] }
+    ensures { OnOk result (IsAnswer question setup.now journal.now.entries out.new.items) }
+{
+    match question {
+        Question::Check => out.extend_from_slice(ok()),
+        Question::Contents => print_contents(alloc, setup, journal, out),
+    }
+}
