@@ -1,0 +1,12 @@
+pub mod Values
+pub mod Rows
+pub mod Objects
+pub mod Calls
+pub mod Messages
+pub mod Events
+pub mod Entries
+pub mod FineLines
+pub mod Behind
+pub mod StandingLines
+pub mod Section
+pub mod Readable
