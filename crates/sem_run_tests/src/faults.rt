@@ -30,6 +30,12 @@ fn rows(alloc: Global) -> Result<Vec<Row>, AllocError> {
         entries: 0,
     })?;
     rows.push(Row {
+        line: "contents",
+        input: report.clone()?,
+        text: String::from_str(alloc, "semper contents 1\nend\n")?,
+        entries: 0,
+    })?;
+    rows.push(Row {
         line: "run 0",
         input: trace,
         text: report,

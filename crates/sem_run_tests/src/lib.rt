@@ -6,6 +6,8 @@ mod calls;
 #[cfg(test)]
 mod changes;
 #[cfg(test)]
+mod contents;
+#[cfg(test)]
 mod faults;
 #[cfg(test)]
 mod nodes;
