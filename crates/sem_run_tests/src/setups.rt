@@ -8,7 +8,7 @@ use std::sync::Wait;
 use std::test::Fail;
 use std::thread::Threads;
 
-const TWO_VPES_OF_ONE_KERNEL: &str = "semper trace 1
+pub(crate) const TWO_VPES_OF_ONE_KERNEL: &str = "semper trace 1
 kernels 1
 pe 0 0
 pe 1 0
@@ -59,7 +59,7 @@ key 1.1.1.0 1
 end
 ";
 
-const DELEGATE_BETWEEN_KERNELS: &str = "semper trace 1
+pub(crate) const DELEGATE_BETWEEN_KERNELS: &str = "semper trace 1
 kernels 2
 pe 0 0
 pe 1 1
@@ -92,7 +92,7 @@ key 1.1.1.0 4
 end
 ";
 
-const KILL_AFTER_A_REPLY: &str = "semper trace 1
+pub(crate) const KILL_AFTER_A_REPLY: &str = "semper trace 1
 kernels 1
 pe 0 0
 pe 1 0

@@ -1,3 +1,4 @@
+use crate::seeds::CHAIN_OF_FORTY_ONE;
 use sem_cli::Status;
 use sem_io::{MemSink, MemSource};
 use sem_msg::{Act, Journal, act_number};
@@ -11,7 +12,7 @@ use std::test::Fail;
 use std::thread::Threads;
 
 // Two kernels of one VPE each, which obtain from each other.
-const CROSSING: &str =
+pub(crate) const CROSSING: &str =
     "semper trace 1\nkernels 2\npe 0 0\npe 1 1\nvpe 0 0\nvpe 1 1\nroot 0 0 mem 0 4096 7\nroot 1 0 mem 4096 4096 7\ncall 0 obtain 1 1 0\ncall 0 obtain 2 0 0\ncall 1 obtain 1 0 0\nend\n";
 
 // How often a gate looks for the other kernel at most.
@@ -25,14 +26,14 @@ const FLUSH: u8 = 6;
 
 // What a call of the program leaves.
 #[derive(Drop)]
-struct Ending {
-    status: Status,
-    written: Vec<u8>,
-    journal: Journal,
+pub(crate) struct Ending {
+    pub(crate) status: Status,
+    pub(crate) written: Vec<u8>,
+    pub(crate) journal: Journal,
 }
 
 // What these words leave, over this input, with this gate.
-fn ended<R: Threads + Wait + Sync, G: Gate + Sync>(
+pub(crate) fn ended<R: Threads + Wait + Sync, G: Gate + Sync>(
     rt: &R,
     alloc: Global,
     line: &str,
@@ -208,25 +209,13 @@ fn a_check_accepts_what_threads_write(rt: HostRuntime) -> Result<(), Fail> {
 
 #[test]
 fn a_chain_of_forty_one_goes_with_its_root(rt: HostRuntime) -> Result<(), Fail> {
-    let mut rest = String::from_str(
-        rt.alloc(),
-        "pe 0 0\npe 1 1\nvpe 0 0\nvpe 1 1\nroot 0 0 mem 0 4096 7\n",
-    )?;
-    for n in 0..20u32 {
-        let (from, over, to) = (2 * n, 2 * n + 1, 2 * n + 2);
-        let calls = format!(in rt.alloc();
-            "call 0 delegate {from} 1 {over}\ncall 0 obtain {to} 1 {over}\n"
-        )?;
-        rest.push_str(calls.as_str())?;
-    }
-    rest.push_str("call 0 revoke 0\nend\n")?;
     for (line, head) in [
         ("threads 0", "semper trace 1\nkernels 2\n"),
         ("threads 0", "semper trace 2\nkernels 2\nwindow 1\n"),
         ("run 0", "semper trace 2\nkernels 2\nwindow 1\n"),
         ("run 1", "semper trace 2\nkernels 2\nwindow 1\n"),
     ] {
-        let trace = format!(in rt.alloc(); "{head}{rest}")?;
+        let trace = format!(in rt.alloc(); "{head}{CHAIN_OF_FORTY_ONE}")?;
         let ending = ended(&rt, rt.alloc(), line, trace.as_bytes(), &OpenGate)?;
         assert_eq!(rt; ending.status, Status::Done);
         assert_eq!(rt; ending.journal.len(), 662);

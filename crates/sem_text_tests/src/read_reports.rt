@@ -4,7 +4,7 @@ use std::alloc::Global;
 use std::test::Fail;
 
 // One VPE derives from its memory and revokes it.
-const REPORT: &[u8] = b"semper report 1
+pub(crate) const REPORT: &[u8] = b"semper report 1
 semper trace 1
 kernels 1
 pe 0 0
@@ -86,7 +86,7 @@ end
 ";
 
 // The refused line of the text, if it is refused.
-fn refused_line(alloc: Global, text: &[u8]) -> Option<(u64, Cause)> {
+pub(crate) fn refused_line(alloc: Global, text: &[u8]) -> Option<(u64, Cause)> {
     match read_report(alloc, text) {
         Err(TraceError::Refused(fault)) => Some((fault.line, fault.cause)),
         _ => None,

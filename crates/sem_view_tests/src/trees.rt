@@ -302,3 +302,146 @@ fn a_clear_takes_what_was_granted_before(rt: HostRuntime) -> Result<(), Fail> {
     assert!(rt; !takes(&clear, &root, &None));
     Ok(())
 }
+
+// Two revokes of one line, but for the entries with which they begin.
+const BEFORE_REVOKES: &str = "semper report 1
+semper trace 1
+kernels 2
+pe 0 0
+pe 1 0
+pe 2 1
+vpe 0 0
+vpe 1 1
+vpe 2 2
+root 0 0 mem 0 4096 7
+call 0 revoke 0
+call 1 obtain 1 0 0
+call 1 delegate 1 2 4
+call 1 revoke 1
+end
+journal 25
+0 call 1 0 obtain 1 0 0
+0 upcall 0 1 yes grant 0.0.1.0 1.1.1.0
+0 resume 1 reply 1 0
+0 call 1 1 delegate 1 2 4
+0 flush 1 delegate-req 1.1.1.0 mem 0 4096 7 2 4
+1 fetch 0 delegate-req 1.1.1.0 mem 0 4096 7 2 4
+1 handle 0 delegate-req 1.1.1.0 mem 0 4096 7 2 4
+1 upcall 2 1 yes
+1 flush 0 delegate-prepared 1.1.1.0 2.2.1.0
+0 fetch 1 delegate-prepared 1.1.1.0 2.2.1.0
+0 handle 1 delegate-prepared 1.1.1.0 2.2.1.0
+0 resume 1 grant 1.1.1.0 2.2.1.0 reply 1 0
+";
+
+const REVOKE_OF_ROOT: &str = "0 call 0 0 revoke 0 cut 0.0.1.0
+";
+
+const REVOKE_OF_CHILD: &str = "0 call 1 2 revoke 1 cut 1.1.1.0
+";
+
+const BEHIND_REVOKES: &str = "0 flush 1 ack 2.2.1.0 yes
+1 fetch 0 ack 2.2.1.0 yes
+1 handle 0 ack 2.2.1.0 yes
+0 flush 1 revoke-req 2.2.1.0 0
+1 fetch 0 revoke-req 2.2.1.0 0
+1 handle 0 revoke-req 2.2.1.0 0
+1 flush 0 revoke-done 0
+0 fetch 1 revoke-done 0
+0 handle 1 revoke-done 0
+0 resume 0 reply 0 0
+0 resume 1 reply 1 0
+audit
+made 3
+cut 2
+held 0
+end
+";
+
+#[test]
+fn a_key_goes_by_the_first_that_takes_its_line(rt: HostRuntime) -> Result<(), Fail> {
+    for (first, second, said) in [
+        (
+            REVOKE_OF_ROOT,
+            REVOKE_OF_CHILD,
+            [
+                "0.0.1.0  gone from v0 of K0 by revoke 0 of v0 (entry 12);",
+                "1.1.1.0  gone from v1 of K0 by revoke 0 of v0 (entry 12);",
+                "2.2.1.0  gone from v2 of K1 by revoke 0 of v0 (entry 12);",
+            ],
+        ),
+        (
+            REVOKE_OF_CHILD,
+            REVOKE_OF_ROOT,
+            [
+                "0.0.1.0  gone from v0 of K0 by revoke 0 of v0 (entry 13);",
+                "1.1.1.0  gone from v1 of K0 by revoke 1 of v1 (entry 12);",
+                "2.2.1.0  gone from v2 of K1 by revoke 1 of v1 (entry 12);",
+            ],
+        ),
+    ] {
+        let report = format!(in rt.alloc(); "{BEFORE_REVOKES}{first}{second}{BEHIND_REVOKES}")?;
+        let text = forest(rt.alloc(), report.as_bytes(), 25)?;
+        for words in said {
+            assert!(rt; text.as_str().contains(words), "{text}");
+        }
+    }
+    Ok(())
+}
+
+// A VPE is killed when what it obtains has arrived and is not installed.
+const KILLED: &[u8] = b"semper report 1
+semper trace 1
+kernels 2
+pe 0 0
+pe 1 1
+vpe 0 0
+vpe 1 1
+root 0 0 mem 0 4096 7
+kill 1 0
+call 1 obtain 5 0 0
+end
+journal 12
+1 call 1 0 obtain 5 0 0
+1 flush 0 obtain-req 1.1.0 sel 0 0
+0 fetch 1 obtain-req 1.1.0 sel 0 0
+0 handle 1 obtain-req 1.1.0 sel 0 0
+0 upcall 0 1 yes grant 0.0.1.0 1.1.1.0
+0 flush 1 obtain-ok 0.0.1.0 1.1.1.0 mem 0 4096 7
+1 fetch 0 obtain-ok 0.0.1.0 1.1.1.0 mem 0 4096 7
+1 handle 0 obtain-ok 0.0.1.0 1.1.1.0 mem 0 4096 7
+1 kill 1
+1 flush 0 orphan 0.0.1.0 1.1.1.0
+0 fetch 1 orphan 0.0.1.0 1.1.1.0
+0 handle 1 orphan 0.0.1.0 1.1.1.0
+audit
+made 2
+cut 1
+held 1
+key 0.0.1.0 0
+end
+";
+
+#[test]
+fn what_has_arrived_goes_with_its_killed_vpe(rt: HostRuntime) -> Result<(), Fail> {
+    for (at, child) in [
+        (8, "`- 1.1.1.0  on its way to v1 of K1; memory"),
+        (
+            9,
+            "`- 1.1.1.0  gone from v1 of K1 by the kill of v1 (entry 8); memory",
+        ),
+        (
+            12,
+            "`- 1.1.1.0  gone from v1 of K1 by the kill of v1 (entry 8); memory",
+        ),
+    ] {
+        let text = forest(rt.alloc(), KILLED, at)?;
+        assert!(rt;
+            text.as_str()
+                .contains("0.0.1.0  held by v0 of K0 at selector 0; memory"),
+            "{text}"
+        );
+        assert!(rt; text.as_str().contains(child), "{text}");
+    }
+    Ok(())
+}

@@ -158,3 +158,69 @@ fn ninety_nine_changed_records_are_told_as_in_the_table(rt: HostRuntime) -> Resu
     assert_eq!(rt; agree(&rt, rt.alloc(), CHANGED)?, 4);
     Ok(())
 }
+
+// The record of `obtain-ok 0.0.1.0 1.1.1.0 mem 0 4096 7`.
+const OBTAINED: &str = "200000000000000 100000000 100010100000000 1000000 0 1000 7 0";
+
+// What the record is told to be with one byte changed to 255: the first and the last such byte, and
+// what is wrong or which message it is.
+const OBTAINED_CHANGED: &str = "\
+0 0 Tag
+1 1 Padding { at: 1 }
+2 3 Padding { at: 2 }
+4 5 Padding { at: 4 }
+6 7 Padding { at: 6 }
+8 14 Field { at: 8 }
+15 15 obtain-ok 0.0.1.255 1.1.1.0 mem 0 4096 7
+16 22 Field { at: 16 }
+23 23 obtain-ok 0.0.1.0 1.1.1.255 mem 0 4096 7
+24 27 Padding { at: 24 }
+28 28 Field { at: 28 }
+29 31 Padding { at: 29 }
+32 35 Field { at: 32 }
+36 36 obtain-ok 0.0.1.0 1.1.1.0 mem 4278190080 4096 7
+37 37 obtain-ok 0.0.1.0 1.1.1.0 mem 16711680 4096 7
+38 38 obtain-ok 0.0.1.0 1.1.1.0 mem 65280 4096 7
+39 39 obtain-ok 0.0.1.0 1.1.1.0 mem 255 4096 7
+40 43 Field { at: 40 }
+44 44 obtain-ok 0.0.1.0 1.1.1.0 mem 0 4278194176 7
+45 45 obtain-ok 0.0.1.0 1.1.1.0 mem 0 16715776 7
+46 46 obtain-ok 0.0.1.0 1.1.1.0 mem 0 65280 7
+47 47 obtain-ok 0.0.1.0 1.1.1.0 mem 0 4351 7
+48 55 Field { at: 48 }
+56 63 Padding { at: 56 }
+";
+
+// What that record is with the byte at that place changed, in the words of the table.
+fn changed_text(alloc: Global, place: usize) -> Result<String, Fail> {
+    let mut bytes = parsed(OBTAINED)?;
+    if let Some(byte) = bytes.get_mut(place) {
+        *byte = 255;
+    }
+    match decode(&bytes) {
+        Ok(message) => message_text(alloc, &message),
+        Err(fault) => Ok(format!(in alloc; "{fault:?}")?),
+    }
+}
+
+#[test]
+fn each_changed_byte_of_what_is_obtained_is_told_as_in_the_table(
+    rt: HostRuntime,
+) -> Result<(), Fail> {
+    let mut next = 0usize;
+    for row in OBTAINED_CHANGED.lines() {
+        if let Some((first, rest)) = row.split_once(' ')
+            && let Some((last, words)) = rest.split_once(' ')
+        {
+            assert_eq!(rt; first.parse::<usize>()?, next);
+            let last = last.parse::<usize>()?;
+            for place in next..=last {
+                let told = changed_text(rt.alloc(), place)?;
+                assert_eq!(rt; told.as_str(), words, "at {place}");
+            }
+            next = last.saturating_add(1);
+        }
+    }
+    assert_eq!(rt; next, RECORD);
+    Ok(())
+}
