@@ -22,8 +22,8 @@ abbrev pub base_of : Object → ℕ
 base_of (Mem base len rights) = base
 base_of object = 0
 
--- the access that the entry at a place tells: by a VPE, of so many bytes from an offset on, through an
--- endpoint that is bound so
+-- the access that the entry at a place tells: by a VPE, of so many bytes from an offset on, through
+-- an endpoint that is bound so
 abbrev pub access_through : (entry vpe : ℕ) → Bool → (off len : ℕ) → Endpoint → Access
 access_through n v write off len e =
     record {
@@ -52,8 +52,8 @@ act_access s n act detail = None
 abbrev pub is_answered_at_once : Entry → Bool
 is_answered_at_once e = is_success (option_map (λ r. r.code) e.reply)
 
--- the access of the entry at place n, in the world before it: a read or a write that was answered with
--- success
+-- the access of the entry at place n, in the world before it: a read or a write that was answered
+-- with success
 abbrev pub access_of : World → ℕ → Entry → Option Access
 access_of W n e =
     if is_answered_at_once e

@@ -1,4 +1,4 @@
--- The text that tells what memory holds ("What memory holds" in docs/texts.md).
+-- The text that tells what memory holds ("What `contents` writes" in docs/texts.md).
 use Rattle.std.specs.Prelude.{ℕ, not, List, [], ◌∷◌, ◌++◌, length, map, filter, codes, decimal, Option}
 use Rattle.std.specs.Option.{option_map_or}
 use Rattle.sem_msg.specs.declared.entry.Entry.{Entry}
@@ -37,8 +37,8 @@ reads xs = filter (λ x. not x.write) xs
 abbrev pub found_by : List Access → Access → Look
 found_by xs x = looked (last_write_in xs x.entry) x.base x.len
 
--- the lines of accesses by entries below n: each read with what it found, and the runs that are there at
--- the end
+-- the lines of accesses by entries below n: each read with what it found, and the runs that are
+-- there at the end
 abbrev pub access_lines : List Access → ℕ → List (List (List ℕ))
 access_lines xs n =
     (codes "semper" ∷ codes "contents" ∷ decimal 1 ∷ [])

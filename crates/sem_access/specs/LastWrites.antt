@@ -1,4 +1,5 @@
--- Who wrote an address last, and what a range tells of that ("What memory holds" in docs/machine.md).
+-- Who wrote an address last, and what a range tells of that ("What memory holds" in
+-- docs/machine.md).
 use Rattle.std.specs.Prelude.{ℕ, ◌+◌, max, nat_lt, nat_le, Bool, ◌&&◌, List, [], ◌∷◌, length, map, filter, filter_map, Option, Some, None}
 use Rattle.std.specs.List.{range_with_len}
 use Rattle.std.specs.Option.{option_map_or}

@@ -43,8 +43,8 @@ IsValidRun r = (1 ≤ r.len) × (r.base + r.len ≤ ADDRESSES)
 abbrev pub IsApart : ℕ → Option ℕ → Run → Type 0
 IsApart end entry r = (end ≤ r.base) × (end ≡ r.base → entry ≢ Some r.entry)
 
--- runs behind an address at which a run of that entry ends: they rise, and none can be joined to the one
--- before it
+-- runs behind an address at which a run of that entry ends: they rise, and none can be joined to the
+-- one before it
 unfoldable pub AreRunsBehind : ℕ → Option ℕ → List Run → Type 0
 AreRunsBehind end entry [] = Unit {0}
 AreRunsBehind end entry (r ∷ rs) =

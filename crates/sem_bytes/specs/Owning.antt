@@ -1,4 +1,5 @@
--- Whose memory an access reads or writes: its VPE's own, by grants that stand ("Memory" in docs/promises.md).
+-- Whose memory an access reads or writes: its VPE's own, by grants that stand ("Memory" in
+-- docs/promises.md).
 use Rattle.std.specs.Prelude.{◌≡◌, ℕ, true, List, Contains, take, if◌then◌else◌}
 use Rattle.sem_key.specs.declared.object.Object.{Object}
 use Rattle.sem_key.specs.declared.object.Object.TheVariants.{Mem}
@@ -40,7 +41,8 @@ pub record IsOwned (T : Setup) (before : List Entry) (x : Access) : Type 0 where
   -- the key's line leads down to a root by grants
   pub lineage : IsLineage (root_keys T) (grants before) (line before x.key)
   -- the access lies in the memory of each key of the line
-  pub within : (k : KeyName) → Contains (line before x.key) k → LiesInHeld (world_after T before) x k
+  pub within : (k : KeyName)
+      → Contains (line before x.key) k → LiesInHeld (world_after T before) x k
   -- none of them was cut off by a call that was answered
   pub unrevoked : (k : KeyName)
       → Contains (line before x.key) k → Contains (answered before) k → ⊥

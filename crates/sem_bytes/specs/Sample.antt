@@ -1,4 +1,5 @@
--- Two journals of which the law of accesses and the text of contents speak: writes that overlap, in one kernel and across two.
+-- Two journals of which the law of accesses and the text of contents speak: writes that overlap, in
+-- one kernel and across two.
 use Rattle.std.specs.Prelude.{ℕ, true, false, List, [], ◌∷◌, ◌++◌, codes, Some, None, replicate}
 use Rattle.std.specs.List.{slice_set}
 use Rattle.sem_key.specs.declared.key.Kind.TheVariants.{Mem as MemKind}
@@ -26,7 +27,8 @@ alone = record {
   window = 4;
   kernels = 1;
   owners = record { kernels = 1; owners = slice_set (replicate PES None) 0 (Some 0) };
-  vpes = first_vpe (Bind 0 0 ∷ Write 0 10 20 ∷ Write 0 20 20 ∷ Read 0 0 25 ∷ Read 0 4096 0 ∷ []) ∷ [];
+  vpes =
+      first_vpe (Bind 0 0 ∷ Write 0 10 20 ∷ Write 0 20 20 ∷ Read 0 0 25 ∷ Read 0 4096 0 ∷ []) ∷ [];
   services = [];
   offers = [];
   denies = [];
@@ -34,7 +36,15 @@ alone = record {
 }
 
 abbrev pub alone_journal : List Entry
-alone_journal = journal_of alone (event 0 (Calls 0) ∷ event 0 (Calls 0) ∷ event 0 (Calls 0) ∷ event 0 (Calls 0) ∷ event 0 (Calls 0) ∷ [])
+alone_journal =
+    journal_of alone (
+    event 0 (Calls 0)
+    ∷ event 0 (Calls 0)
+    ∷ event 0 (Calls 0)
+    ∷ event 0 (Calls 0)
+    ∷ event 0 (Calls 0)
+    ∷ []
+    )
 
 abbrev pub alone_accesses : List Access
 alone_accesses =
@@ -54,7 +64,8 @@ alone_text =
     ∷ codes "end" ++ 10
     ∷ []
 
--- Two kernels: a VPE writes to its memory, and another one to a part of it that it obtained, from which it reads too.
+-- Two kernels: a VPE writes to its memory, and another one to a part of it that it obtained, from
+-- which it reads too.
 
 abbrev pub owner_calls : List Call
 owner_calls = Derive 0 1 16 1024 3 ∷ Bind 0 0 ∷ Write 0 10 20 ∷ []
@@ -68,12 +79,18 @@ sample = pair owner_calls obtainer_calls []
 -- the part is obtained across the kernels
 abbrev pub obtained : List Event
 obtained =
-    event 0 (Calls 0) ∷ event 1 (Calls 1) ∷ event 1 (Flush 0) ∷ event 0 (Fetch 1) ∷ event 0 Handle ∷ event 0 (Upcall 0)
-    ∷ event 0 (Flush 1) ∷ event 1 (Fetch 0) ∷ event 1 Handle ∷ event 1 (Resume 1) ∷ []
+    event 0 (Calls 0) ∷ event 1 (Calls 1) ∷ event 1 (Flush 0) ∷ event 0 (Fetch 1) ∷ event 0 Handle
+    ∷ event 0 (Upcall 0) ∷ event 0 (Flush 1) ∷ event 1 (Fetch 0) ∷ event 1 Handle ∷ event 1 (Resume 1) ∷ []
 
 -- both are bound, the owner writes, the other one writes and reads
 abbrev pub used : List Event
-used = event 0 (Calls 0) ∷ event 1 (Calls 1) ∷ event 0 (Calls 0) ∷ event 1 (Calls 1) ∷ event 1 (Calls 1) ∷ []
+used =
+    event 0 (Calls 0)
+    ∷ event 1 (Calls 1)
+    ∷ event 0 (Calls 0)
+    ∷ event 1 (Calls 1)
+    ∷ event 1 (Calls 1)
+    ∷ []
 
 abbrev pub sample_journal : List Entry
 sample_journal = journal_of sample (obtained ++ used)

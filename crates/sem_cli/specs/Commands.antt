@@ -17,7 +17,10 @@ seed_of word = number_to 18446744073709551615 word
 
 -- a load is a seed, at least one VPE, and calls of each VPE, at most 20000 of all
 abbrev pub load_from : Option ℕ → Option ℕ → Option ℕ → Option Load
-load_from (Some seed) (Some vpes) (Some calls) = if nat_le 1 vpes && nat_le (vpes * calls) 20000 then Some (record { seed = seed; vpes = vpes; calls = calls }) else None
+load_from (Some seed) (Some vpes) (Some calls) =
+    if nat_le 1 vpes && nat_le (vpes * calls) 20000
+    then Some (record { seed = seed; vpes = vpes; calls = calls })
+    else None
 load_from seed vpes calls = None
 
 -- the load that three words are, of at most 128 VPEs

@@ -31,4 +31,5 @@ cause_name NotCanonical = codes "NotCanonical"
 
 -- the first bad line and its cause
 abbrev pub refused_line : TraceFault → List ℕ
-refused_line fault = codes "trace refused: line " ++ decimal fault.line ++ codes ": " ++ cause_name fault.cause ++ 10 ∷ []
+refused_line fault =
+    codes "trace refused: line " ++ decimal fault.line ++ codes ": " ++ cause_name fault.cause ++ 10 ∷ []

@@ -8,11 +8,14 @@ use Rattle.sem_cli.specs.Messages.{cause_name}
 
 -- a line of the report, and what is wrong with it
 abbrev pub bad_line : TraceFault → List ℕ
-bad_line fault = codes "report refused: line " ++ decimal fault.line ++ codes ": " ++ cause_name fault.cause ++ 10 ∷ []
+bad_line fault =
+    codes "report refused: line " ++ decimal fault.line ++ codes ": " ++ cause_name fault.cause ++ 10 ∷ []
 
 -- entry n, counted from 0: what the report tells, and what the machine does
 abbrev pub bad_entry : ℕ → List ℕ → List ℕ → List ℕ
-bad_entry n entered replayed = codes "report refused: entry " ++ decimal n ++ codes ": entered " ++ entered ++ codes "; replayed " ++ replayed ++ 10 ∷ []
+bad_entry n entered replayed =
+    codes "report refused: entry " ++ decimal n ++ codes ": entered " ++ entered
+    ++ codes "; replayed " ++ replayed ++ 10 ∷ []
 
 -- an entry as in its line
 abbrev pub entry_text : Entry → List ℕ

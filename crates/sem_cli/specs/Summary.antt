@@ -8,4 +8,8 @@ count_line word n = word ++ decimal n ++ 10 ∷ []
 -- how many VPEs and calls there are, how many calls were answered, and how many keys are stray
 abbrev pub summary : ℕ → ℕ → ℕ → ℕ → List ℕ
 summary vpes calls answered stray =
-    (codes "soak 1" ++ 10 ∷ []) ++ count_line (codes "vpes ") vpes ++ count_line (codes "calls ") calls ++ count_line (codes "answered ") answered ++ count_line (codes "stray ") stray
+    (codes "soak 1" ++ 10 ∷ [])
+    ++ count_line (codes "vpes ") vpes
+    ++ count_line (codes "calls ") calls
+    ++ count_line (codes "answered ") answered
+    ++ count_line (codes "stray ") stray

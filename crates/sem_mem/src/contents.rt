@@ -75,7 +75,8 @@ fn take_in(memory: &mut Memory, out: &mut Vec<u8>, access: &Access) -> Result<()
     ensures newest { OnOk result (IsNewer memory.new (access.now.entry + 1)) }
     ensures text { OnOk result (out.new.items ≡ out.old.items ++ (
         if access.now.write then []
-        else line (read_line access.now (looked (entry_at memory.old) access.now.base access.now.len)))) }
+        else line (read_line access.now (
+        looked (entry_at memory.old) access.now.base access.now.len)))) }
 {
     if access.write {
         memory.write(access.base, access.len, access.entry)

@@ -1,4 +1,5 @@
--- How the program ends: for each status why it comes, what text is written, and what the journal is ("The command line" in docs/texts.md).
+-- How the program ends: for each status why it comes, what text is written, and what the journal is
+-- ("The command line" in docs/texts.md).
 use Rattle.std.specs.Prelude.{◌≤◌, ◌+◌, ◌*◌, length, ◌≡◌, ◌≢◌, ℕ, ◌⊎◌, true, List, [], Option, None, IfSome}
 use Rattle.sem_msg.specs.declared.entry.Entry.{Entry}
 use Rattle.sem_msg.specs.Setup.{Setup, IsSetup, call_count, kill_count}
@@ -37,9 +38,17 @@ pub record Output : Type 0 where
   pub faults_before : ℕ
   pub faults_after : ℕ
 
--- this status, journal and output, which tells what was written to it and how many faults it has had
-abbrev pub left : {K : Type 0} → (K → Option (List ℕ)) → (K → ℕ) → Status → List Entry → K → K → Output
-left written faults status journal old new = record { status = status; journal = journal; before = written old; after = written new; faults_before = faults old; faults_after = faults new }
+-- this status, journal and output, which tells what was written to it and its count of faults
+abbrev pub left : {K : Type 0}
+    → (K → Option (List ℕ)) → (K → ℕ) → Status → List Entry → K → K → Output
+left written faults status journal old new = record {
+  status = status;
+  journal = journal;
+  before = written old;
+  after = written new;
+  faults_before = faults old;
+  faults_after = faults new;
+}
 
 -- the journal is the seeded one of the setup that was read
 pub record RunsSeeded (g : Given) (J : List Entry) (T : Setup) (seed : ℕ) : Type 0 where
@@ -91,7 +100,8 @@ pub record EndsThreaded (g : Given) (J : List Entry) (text : List ℕ) : Type 0 
   pub complete : IsComplete setup J
   pub told : text ≡ report setup J
 
--- Status 0 of `soak`: the journal is complete for the setup that is generated, it has a reply to each call, no key is stray after it, and the text is the summary that tells so; nothing was read.
+-- Status 0 of `soak`: the journal is complete for the setup that is generated, it has a reply to each
+-- call, no key is stray after it, and the text is the summary that tells so; nothing was read.
 pub record EndsSoaked (g : Given) (J : List Entry) (text : List ℕ) : Type 0 where
   pub setup : Setup
   pub seed : ℕ
@@ -104,11 +114,17 @@ pub record EndsSoaked (g : Given) (J : List Entry) (text : List ℕ) : Type 0 wh
   pub complete : IsComplete setup J
   pub all_answered : length (replies J) ≡ vpes * calls
   pub none_stray : stray_count setup J (world_after setup J).sides ≡ 0
-  pub told : text ≡ summary vpes (vpes * calls) (length (replies J)) (stray_count setup J (world_after setup J).sides)
+  pub told : text ≡ summary vpes (vpes * calls) (length (replies J))
+      (stray_count setup J (world_after setup J).sides)
 
 -- Status 0: what the command asks for is done.
 abbrev pub EndsDone : Given → List Entry → List ℕ → Type 0
-EndsDone g J text = EndsReported g J text ⊎ (EndsAnswered g J text ⊎ (EndsGenerated g J text ⊎ (EndsThreaded g J text ⊎ EndsSoaked g J text)))
+EndsDone g J text =
+    EndsReported g J text
+    ⊎ (EndsAnswered g J text
+    ⊎ (EndsGenerated g J text
+    ⊎ (EndsThreaded g J text
+    ⊎ EndsSoaked g J text)))
 
 -- Status 1: the words are no command; nothing was read.
 pub record EndsUsage (g : Given) (J : List Entry) (text : List ℕ) : Type 0 where
@@ -117,7 +133,8 @@ pub record EndsUsage (g : Given) (J : List Entry) (text : List ℕ) : Type 0 whe
   pub no_journal : J ≡ []
   pub told : text ≡ usage_line
 
--- Status 2: a command that reads a trace, and an input that is none. At most a prefix of it was read.
+-- Status 2: a command that reads a trace, and an input that is none. At most a prefix of it was
+-- read.
 pub record EndsRefused (g : Given) (J : List Entry) (text : List ℕ) : Type 0 where
   pub seed : ℕ
   pub command : AsksRun g seed
@@ -149,7 +166,8 @@ pub record EndsMemory (g : Given) (J : List Entry) (text : List ℕ) : Type 0 wh
   pub quiet : IsQuietlyRead g
   pub told : text ≡ []
 
--- Status 9: the input is not the report of a complete schedule, and the text tells why. It is told of some bytes, which are the input where that is known. At most a prefix of it was read.
+-- Status 9: the input is not the report of a complete schedule, and the text tells why. It is told of
+-- some bytes, which are the input where that is known. At most a prefix of it was read.
 pub record EndsReportRefused (g : Given) (J : List Entry) (text : List ℕ) : Type 0 where
   pub question : Question
   pub command : Asks g (Ask question)
@@ -178,13 +196,15 @@ Writes o P = (text : List ℕ) × P text × Appends o.before o.after text
 abbrev pub WritesPrefix : Output → (List ℕ → Type 0) → Type 0
 WritesPrefix o P = (text : List ℕ) × P text × AppendsPrefix o.before o.after text
 
--- why the program ended with that status: with 4 it wrote a prefix of the text of some other status, and all else is as that one says
+-- why the program ended with that status: with 4 it wrote a prefix of the text of some other status,
+-- and all else is as that one says
 abbrev pub EndsWith : Status → Given → Output → Type 0
 EndsWith Done g o = Writes o (EndsDone g o.journal)
 EndsWith Usage g o = Writes o (EndsUsage g o.journal)
 EndsWith TraceRefused g o = Writes o (EndsRefused g o.journal)
 EndsWith ReadFault g o = Writes o (EndsReadFault g o.journal)
-EndsWith WriteFault g o = (status : Status) × WritesPrefix o (λ text. WouldEnd g o.journal text status)
+EndsWith WriteFault g o =
+    (status : Status) × WritesPrefix o (λ text. WouldEnd g o.journal text status)
 EndsWith Memory g o = Writes o (EndsMemory g o.journal)
 EndsWith ReportRefused g o = Writes o (EndsReportRefused g o.journal)
 
@@ -192,7 +212,9 @@ EndsWith ReportRefused g o = Writes o (EndsReportRefused g o.journal)
 abbrev pub Ends : Given → Output → Type 0
 Ends g o = EndsWith o.status g o
 
--- Safety: the journal is a schedule of the setup that the command runs, and after it the six sentences of safety hold. It has at most 21 entries for each call of the setup and one for each kill.
+-- Safety: the journal is a schedule of the setup that the command runs, and after it the six
+-- sentences of safety hold. It has at most 21 entries for each call of the setup and one for each
+-- kill.
 pub record IsSafeRun (g : Given) (J : List Entry) : Type 0 where
   pub setup : Setup
   pub runs : RunsSetup g setup
@@ -200,7 +222,8 @@ pub record IsSafeRun (g : Given) (J : List Entry) : Type 0 where
   pub safe : IsSafe setup J
   pub few : length J ≤ 21 * call_count setup + kill_count setup
 
--- whether a run left the journal: with status 0 where the command runs a setup, with 4 and 5 where it is not empty
+-- whether a run left the journal: with status 0 where the command runs a setup, with 4 and 5 where it
+-- is not empty
 abbrev pub IsOfRun : Given → Status → List Entry → Type 0
 IsOfRun g Done J = (asked : Command) × Asks g asked × (is_run asked ≡ true)
 IsOfRun g Usage J = ⊥

@@ -38,7 +38,8 @@ reads_input (Generate seed vpes calls) = false
 reads_input (Soak seed vpes calls) = false
 reads_input (Ask question) = true
 
--- What the program is given: the command that its words are, and its input before and after the call.
+-- What the program is given: the command that its words are, and its input before and after the
+-- call.
 pub record Given : Type 0 where
   pub asked : Option Command
   -- the bytes that are left of the input before and after, where they are known
@@ -50,7 +51,13 @@ pub record Given : Type 0 where
 
 -- this command and this input, which tells what is left of it and how many faults it has had
 abbrev pub given : {S : Type 0} → (S → Option (List ℕ)) → (S → ℕ) → Option Command → S → S → Given
-given left faults asked old new = record { asked = asked; before = left old; after = left new; faults_before = faults old; faults_after = faults new }
+given left faults asked old new = record {
+  asked = asked;
+  before = left old;
+  after = left new;
+  faults_before = faults old;
+  faults_after = faults new;
+}
 
 -- the words are that command
 abbrev pub Asks : Given → Command → Type 0
@@ -85,7 +92,8 @@ pub record ReadsTrace (g : Given) (T : Setup) : Type 0 where
 -- The setup that a command runs: the one that was read, or the one that `soak` generates.
 pub data RunsSetup (g : Given) (T : Setup) : Type 0 where
   is_read : (seed : ℕ) → AsksRun g seed → ReadsTrace g T → RunsSetup g T
-  is_generated : (seed vpes calls : ℕ) → Asks g (Soak seed vpes calls) → T ≡ generated seed vpes calls → IsSetup T → RunsSetup g T
+  is_generated : (seed vpes calls : ℕ)
+      → Asks g (Soak seed vpes calls) → T ≡ generated seed vpes calls → IsSetup T → RunsSetup g T
 
 -- the input is no trace, and this is its first fault
 abbrev pub IsRefused : Given → TraceFault → Type 0

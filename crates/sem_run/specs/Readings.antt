@@ -63,9 +63,11 @@ abbrev pub IsOkWith : {A E : Type 0} → (A → Type 0) → Result A E → Type 
 IsOkWith P (Ok a) = P a
 IsOkWith P (Err e) = ⊥
 
--- how the run of a load of so many VPEs and calls ends: with the summary of its journal, or for lack of memory
+-- how the run of a load of so many VPEs and calls ends: with the summary of its journal, or for lack
+-- of memory
 abbrev pub IsLoadTold : Setup → List Entry → ℕ → ℕ → List ℕ → Status → Type 0
-IsLoadTold T J vpes calls text Done = text ≡ summary vpes calls (length (replies J)) (stray_count T J (world_after T J).sides)
+IsLoadTold T J vpes calls text Done =
+    text ≡ summary vpes calls (length (replies J)) (stray_count T J (world_after T J).sides)
 IsLoadTold T J vpes calls text Usage = ⊥
 IsLoadTold T J vpes calls text TraceRefused = ⊥
 IsLoadTold T J vpes calls text ReadFault = ⊥
@@ -89,23 +91,27 @@ IsAskable (BadAudit line due) = Unit {0}
 abbrev pub Tells : Question → Verdict → List ℕ → Type 0
 Tells question (Accepted T journal due) text = IsAnswer question T journal.entries text
 Tells question (BadLine fault) text = text ≡ verdict_line (BadLine fault)
-Tells question (BadEntry journal n entered replayed) text = text ≡ verdict_line (BadEntry journal n entered replayed)
+Tells question (BadEntry journal n entered replayed) text =
+    text ≡ verdict_line (BadEntry journal n entered replayed)
 Tells question (NotOver journal next) text = text ≡ verdict_line (NotOver journal next)
 Tells question (BadAudit line due) text = text ≡ verdict_line (BadAudit line due)
 
 -- a verdict is told, or memory is lacking
 abbrev pub IsVerdictTold : Question → Verdict → List ℕ → Status → Type 0
-IsVerdictTold question verdict text Done = (is_accepted verdict ≡ true) × Tells question verdict text
+IsVerdictTold question verdict text Done =
+    (is_accepted verdict ≡ true) × Tells question verdict text
 IsVerdictTold question verdict text Usage = ⊥
 IsVerdictTold question verdict text TraceRefused = ⊥
 IsVerdictTold question verdict text ReadFault = ⊥
 IsVerdictTold question verdict text WriteFault = ⊥
 IsVerdictTold question verdict text Memory = text ≡ []
-IsVerdictTold question verdict text ReportRefused = (is_accepted verdict ≡ false) × Tells question verdict text
+IsVerdictTold question verdict text ReportRefused =
+    (is_accepted verdict ≡ false) × Tells question verdict text
 
 -- the response to a text with that verdict
 abbrev pub TellsVerdict : Question → Verdict → Response → Type 0
-TellsVerdict question verdict r = (r.journal.entries ≡ []) × IsVerdictTold question verdict r.text.items r.status
+TellsVerdict question verdict r =
+    (r.journal.entries ≡ []) × IsVerdictTold question verdict r.text.items r.status
 
 -- no line of the bytes is bad, and they tell this setup, journal and audit
 pub record TellsAudit (bytes : List ℕ) (T : Setup) (J : List Entry) (told : Audit) : Type 0 where

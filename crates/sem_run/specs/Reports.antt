@@ -1,4 +1,5 @@
--- Which texts are the report of a complete schedule, and the verdict on any text ("The command line" in docs/texts.md).
+-- Which texts are the report of a complete schedule, and the verdict on any text
+-- ("The command line" in docs/texts.md).
 use Rattle.std.specs.Prelude.{◌≡◌, ℕ, Bool, true, false, List, length, Some, None}
 use Rattle.sem_key.specs.KeyName.{KeyName}
 use Rattle.sem_msg.specs.declared.audit.Audit.{Audit}
@@ -41,18 +42,26 @@ pub record TellsComplete (bytes : List ℕ) (T : Setup) (J : List Entry) (due : 
   pub complete : IsComplete T J
   pub audit : IsAuditOf T J due
 
--- What is found of bytes. Each verdict supposes that none that stands above it here, the first apart, is right.
+-- What is found of bytes. Each verdict supposes that none that stands above it here, the first apart,
+-- is right.
 abbrev pub IsVerdict : List ℕ → Verdict → Type 0
 -- they are the report of a complete schedule
-IsVerdict bytes (Accepted T journal due) = TellsComplete bytes T journal.entries due × (bytes ≡ report T journal.entries)
+IsVerdict bytes (Accepted T journal due) =
+    TellsComplete bytes T journal.entries due × (bytes ≡ report T journal.entries)
 -- a line is bad
 IsVerdict bytes (BadLine fault) = report_refusal bytes ≡ Some fault
 -- an entry is not the one that its event makes, or its event is not enabled
-IsVerdict bytes (BadEntry journal n entered replayed) = (T : Setup) × TellsReport bytes T journal.entries × DiffersAt T journal.entries n entered replayed
+IsVerdict bytes (BadEntry journal n entered replayed) =
+    (T : Setup) × TellsReport bytes T journal.entries
+    × DiffersAt T journal.entries n entered replayed
 -- an event is enabled after the last entry
-IsVerdict bytes (NotOver journal next) = (T : Setup) × TellsReport bytes T journal.entries × GoesOn T journal.entries (length journal.entries) next
+IsVerdict bytes (NotOver journal next) =
+    (T : Setup) × TellsReport bytes T journal.entries
+    × GoesOn T journal.entries (length journal.entries) next
 -- the schedule is complete, and a line, which is one of the audit, is not as in its report
-IsVerdict bytes (BadAudit line due) = (T : Setup) × (J : List Entry) × TellsComplete bytes T J due × (differing_line bytes T J due ≡ Some line)
+IsVerdict bytes (BadAudit line due) =
+    (T : Setup) × (J : List Entry) × TellsComplete bytes T J due
+    × (differing_line bytes T J due ≡ Some line)
 
 abbrev pub is_accepted : Verdict → Bool
 is_accepted (Accepted setup journal due) = true

@@ -1,4 +1,5 @@
--- What the program promises of each call: the clauses of the top call ("The command line" in docs/texts.md).
+-- What the program promises of each call: the facts of the top call
+-- ("The command line" in docs/texts.md).
 use Rattle.std.specs.Prelude.{◌≡◌, ◌⊎◌, ℕ, List, Some, None}
 use Rattle.sem_msg.specs.Setup.{Setup}
 use Rattle.sem_io.specs.Count.{Rose}
@@ -15,7 +16,8 @@ use Rattle.sem_run.specs.Ends.{Output, Ends, IsOfRun, IsSafeRun}
 
 -- the status is this one, unless a read or a write failed or memory was lacking
 abbrev pub IsOrFails : Status → Status → Type 0
-IsOrFails expected status = (status ≡ expected) ⊎ ((status ≡ ReadFault) ⊎ ((status ≡ WriteFault) ⊎ (status ≡ Memory)))
+IsOrFails expected status =
+    (status ≡ expected) ⊎ ((status ≡ ReadFault) ⊎ ((status ≡ WriteFault) ⊎ (status ≡ Memory)))
 
 -- the same, of commands that read nothing
 abbrev pub IsOrUnwritten : Status → Status → Type 0
@@ -27,27 +29,40 @@ TellsUsage g status = g.asked ≡ None → IsOrUnwritten Usage status
 
 -- a text that is no trace is refused
 abbrev pub RefusesTraces : Given → Status → Type 0
-RefusesTraces g status = (seed : ℕ) (bytes : List ℕ) (fault : TraceFault) → AsksRun g seed → g.before ≡ Some bytes → refusal bytes ≡ Some fault → IsOrFails TraceRefused status
+RefusesTraces g status =
+    (seed : ℕ) (bytes : List ℕ) (fault : TraceFault)
+    → AsksRun g seed → g.before ≡ Some bytes → refusal bytes ≡ Some fault
+    → IsOrFails TraceRefused status
 
 -- every trace is run to its end
 abbrev pub RunsTraces : Given → Status → Type 0
-RunsTraces g status = (seed : ℕ) (bytes : List ℕ) (T : Setup) → AsksRun g seed → g.before ≡ Some bytes → Stands bytes T → IsOrFails Done status
+RunsTraces g status =
+    (seed : ℕ) (bytes : List ℕ) (T : Setup)
+    → AsksRun g seed → g.before ≡ Some bytes → Stands bytes T → IsOrFails Done status
 
 -- a text that is not the report of a complete schedule is refused
 abbrev pub RefusesReports : Given → Status → Type 0
-RefusesReports g status = (question : Question) (bytes : List ℕ) → Asks g (Ask question) → g.before ≡ Some bytes → ¬ IsReport bytes → IsOrFails ReportRefused status
+RefusesReports g status =
+    (question : Question) (bytes : List ℕ)
+    → Asks g (Ask question) → g.before ≡ Some bytes → ¬ IsReport bytes
+    → IsOrFails ReportRefused status
 
--- every question about the report of a complete schedule is answered: so what a run writes, a check accepts
+-- every question about the report of a complete schedule is answered: so what a run writes, a check
+-- accepts
 abbrev pub AcceptsReports : Given → Status → Type 0
-AcceptsReports g status = (question : Question) (bytes : List ℕ) → Asks g (Ask question) → g.before ≡ Some bytes → IsReport bytes → IsOrFails Done status
+AcceptsReports g status =
+    (question : Question) (bytes : List ℕ)
+    → Asks g (Ask question) → g.before ≡ Some bytes → IsReport bytes → IsOrFails Done status
 
 -- every load is generated
 abbrev pub GeneratesLoads : Given → Status → Type 0
-GeneratesLoads g status = (seed vpes calls : ℕ) → Asks g (Generate seed vpes calls) → IsOrUnwritten Done status
+GeneratesLoads g status =
+    (seed vpes calls : ℕ) → Asks g (Generate seed vpes calls) → IsOrUnwritten Done status
 
 -- every load is soaked
 abbrev pub SoaksLoads : Given → Status → Type 0
-SoaksLoads g status = (seed vpes calls : ℕ) → Asks g (Soak seed vpes calls) → IsOrUnwritten Done status
+SoaksLoads g status =
+    (seed vpes calls : ℕ) → Asks g (Soak seed vpes calls) → IsOrUnwritten Done status
 
 -- The program serves what it is given, and leaves this.
 pub record Serves (g : Given) (o : Output) : Type 0 where

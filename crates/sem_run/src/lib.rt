@@ -1,4 +1,5 @@
-//! What the program does with the words of its command line: it reads a trace, runs it, and writes its report.
+//! What the program does with the words of its command line: it runs traces, and answers questions
+//! about reports.
 #![tactic(auto)]
 
 mod accepts;

@@ -22,7 +22,8 @@ use std::alloc::Global;
 use std::sync::Wait;
 use std::thread::Threads;
 
-/// Runs a generated load in threads, and by the seed what is left then. The response is the summary.
+/// Runs a generated load in threads, and by the seed what is left then. The response is the
+/// summary.
 pub fn soak_load<R: Threads + Wait + Sync, G: Gate + Sync>(
     rt: &R,
     alloc: Global,
