@@ -1,0 +1,4 @@
+pub mod Lines
+pub mod Odd
+pub mod Searching
+pub mod Parents

@@ -1,0 +1,16 @@
+pub mod Bearing
+pub mod BearingRows
+pub mod Coming
+pub mod Passing
+pub mod There
+pub mod Reading
+pub mod Telling
+pub mod Indexing
+pub mod Changing
+pub mod Stepping
+pub mod Mail
+pub mod AtHome
+pub mod Sparing
+pub mod Spared
+pub mod OneText
+pub mod Replied

@@ -1,0 +1,120 @@
+//! What the life of a key tells, which keys an entry can move, and that a denial has one text, as
+//! contracts of functions that do nothing.
+
+ghost use Rattle.std.specs.Prelude.{◌≡◌, ℕ, ◌≤◌, true, false, List, [], ◌∷◌, ◌++◌, length, map, take, ◌⊎◌, Contains, Some, None, IsSome};
+ghost use Rattle.sem_key.specs.KeyName.{KeyName};
+ghost use Rattle.sem_key.specs.KeyList.{IsRising, key_set};
+ghost use Rattle.sem_key.specs.Capability.{Capability};
+ghost use Rattle.sem_msg.specs.declared.entry.Entry.{Entry};
+ghost use Rattle.sem_msg.specs.declared.entry.Reply.{Reply};
+ghost use Rattle.sem_msg.specs.Setup.{Setup, IsSetup};
+ghost use Rattle.sem_msg.specs.Lookups.{owner_of};
+ghost use Rattle.sem_machine.specs.Machine.{World, side, start};
+ghost use Rattle.sem_machine.specs.Schedules.{IsSchedule, world_after};
+ghost use Rattle.sem_machine.specs.Journals.{made, root_keys, line};
+ghost use Rattle.sem_machine.specs.Living.{HoldsCap};
+ghost use Rattle.sem_query.specs.declared.holder.Holder.{Holder};
+ghost use Rattle.sem_query.specs.Whereabouts.{IsThere, Passes, whereabouts, whereabouts_after, holder};
+ghost use Rattle.sem_query.specs.Changes.{is_revoking, grants_key, MayChange, IsRootOf, seen_at_home};
+ghost use Rattle.sem_query.specs.Denials.{IsAt, IsCallAt, IsDenied};
+ghost use Rattle.sem_query.specs.Lives.{KeyLife, life_of_root, life, lives, told_of, noted_in, lives_next};
+
+/// After every schedule of every setup a key is where `whereabouts` says, and nowhere else: held by
+/// its owner, on its way, or nowhere.
+pub fn keys_are_in_one_place()
+    ensures there { (T : Setup) → IsSetup T → (J : List Entry) → IsSchedule T J → (k : KeyName)
+        → IsThere (world_after T J) k (whereabouts_after T J k) }
+    ensures only { (T : Setup) → IsSetup T → (J : List Entry) → IsSchedule T J
+        → (k : KeyName) (h : Holder)
+        → IsThere (world_after T J) k h → h ≡ whereabouts_after T J k }
+{}
+
+/// What an entry of a schedule does to a key: a grant makes it live, and it was never live before;
+/// on its way it comes to be held unmarked, or is lost; held it stays at its selector, or is gone;
+/// and what is gone stays gone.
+pub fn keys_live_once()
+    ensures passes { (T : Setup) → IsSetup T → (J before later : List Entry) (e : Entry) (k : KeyName)
+        → IsSchedule T J → J ≡ before ++ e ∷ later
+        → Passes (grants_key k e)
+        (whereabouts_after T before k) (whereabouts_after T (before ++ e ∷ []) k) }
+{}
+
+/// The lives that a schedule tells are those of the made keys, and tell of each key where it was
+/// after each number of entries.
+pub fn lives_tell_where_keys_are()
+    ensures made { (T : Setup) → IsSetup T → (J : List Entry) → IsSchedule T J → (k : KeyName)
+        → Contains (made T J) k → IsSome (life T J k) }
+    ensures no_other { (T : Setup) → IsSetup T → (J : List Entry) → IsSchedule T J → (k : KeyName)
+        → IsSome (life T J k) → Contains (made T J) k }
+    ensures rising { (T : Setup) → IsSetup T → (J : List Entry) → IsSchedule T J
+        → IsRising (map (λ l. l.key) (lives T J)) }
+    ensures told { (T : Setup) → IsSetup T → (J : List Entry) → IsSchedule T J
+        → (k : KeyName) (n : ℕ)
+        → n ≤ length J → told_of (lives T J) k n ≡ holder T J k n }
+    ensures there { (T : Setup) → IsSetup T → (J : List Entry) → IsSchedule T J
+        → (k : KeyName) (n : ℕ)
+        → n ≤ length J → IsThere (world_after T (take n J)) k (told_of (lives T J) k n) }
+{}
+
+/// How the lives of all made keys go on with each entry, so that a journal is gone through once. At
+/// first they are those of the roots and services. An entry that grants a key adds a life, and each
+/// life is noted in by where its key is before and after the entry; where the key stays, so does
+/// its life.
+pub fn lives_go_on()
+    ensures first { (T : Setup)
+        → lives T [] ≡ map (λ k. life_of_root k (whereabouts T (start T) k)) (key_set (root_keys T)) }
+    ensures next { (T : Setup) → IsSetup T → (before : List Entry) (e : Entry)
+        → IsSchedule T (before ++ e ∷ [])
+        → lives T (before ++ e ∷ []) ≡ lives_next T (length before)
+        (world_after T before) (world_after T (before ++ e ∷ [])) e (lives T before) }
+    ensures same { (T : Setup) → IsSetup T → (before : List Entry) → IsSchedule T before
+        → (W : World) (k : KeyName) (l : KeyLife) → life T before k ≡ Some l
+        → whereabouts_after T before k ≡ whereabouts T W k
+        → noted_in T (length before) (world_after T before) W l ≡ l }
+{}
+
+/// Which keys an entry of a schedule may move: the one that it grants, the one that the message
+/// brings which it handles, the one that a call is ready to install which goes on, is cancelled or
+/// ends, and, if it revokes, those that its kernel holds. All others stay where they are.
+pub fn entries_move_few_keys()
+    ensures moves { (T : Setup) → IsSetup T → (J before later : List Entry) (e : Entry) (k : KeyName)
+        → IsSchedule T J → J ≡ before ++ e ∷ later
+        → (whereabouts_after T before k ≡ whereabouts_after T (before ++ e ∷ []) k)
+        ⊎ MayChange T (world_after T before) e k }
+{}
+
+/// Where a key is that an entry of a schedule may have moved and does not grant, the side of its
+/// owner tells: held there, or on its way to a call that is ready to install it, or nowhere.
+pub fn moved_keys_are_seen_at_home()
+    ensures seen { (T : Setup) → IsSetup T → (J before later : List Entry) (e : Entry) (k : KeyName)
+        → IsSchedule T J → J ≡ before ++ e ∷ later
+        → grants_key k e ≡ false → MayChange T (world_after T before) e k
+        → whereabouts_after T (before ++ e ∷ []) k
+        ≡ seen_at_home k (side (world_after T (before ++ e ∷ [])) (owner_of T k)) }
+{}
+
+/// An entry that revokes leaves an unmarked key where it is, unless the key descends from where the
+/// entry begins: from the key of a revoke or a clear, from one that another kernel asks for, or
+/// from what a VPE holds that ends. So a token that comes back moves marked keys alone.
+pub fn entries_revoke_below_roots()
+    ensures spared { (T : Setup) → IsSetup T → (J before later : List Entry) (e : Entry)
+        → (k : KeyName) (c : Capability)
+        → IsSchedule T J → J ≡ before ++ e ∷ later
+        → owner_of T k ≡ e.event.kernel → is_revoking e ≡ true
+        → HoldsCap (world_after T before) (owner_of T k) k c → c.mark ≡ None
+        → ((a : KeyName) → Contains (line before k) a → IsRootOf e a → ⊥)
+        → whereabouts_after T before k ≡ whereabouts_after T (before ++ e ∷ []) k }
+{}
+
+/// A reply of a schedule has a call of its VPE at or before it.
+pub fn replies_follow_calls()
+    ensures called { (T : Setup) → IsSetup T → (J : List Entry) → IsSchedule T J
+        → (n : ℕ) (e : Entry) (r : Reply) → IsAt J n e → e.reply ≡ Some r
+        → (b : ℕ) × (b ≤ n) × IsCallAt J r.vpe b }
+{}
+
+/// To the question why an entry of a journal denies a call there is one answer at most.
+pub fn denials_have_one_text()
+    ensures one { (T : Setup) (J : List Entry) (n : ℕ) (text other : List ℕ)
+        → IsDenied T J n text → IsDenied T J n other → text ≡ other }
+{}
