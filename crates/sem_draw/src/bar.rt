@@ -33,7 +33,8 @@ pub struct Bar {
     pub begin: u64,
     pub len: u64,
     pub title: String,
-    /// What text shows, in equal parts of the bar.
+    /// What text shows, in equal parts of the bar, and what is said of how long these are.
+    pub scale: String,
     pub cells: Vec<Option<Owner>>,
     pub stretches: Vec<Stretch>,
     pub rows: Vec<Column>,

@@ -10,7 +10,7 @@ use std::alloc::Global;
 const EDGE: u64 = 16;
 
 /// How long and how high a bar is.
-const LENGTH: u64 = 768;
+const LENGTH: u64 = 640;
 
 const HEIGHT: u64 = 40;
 

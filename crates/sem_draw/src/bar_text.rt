@@ -43,7 +43,9 @@ pub fn bars_as_text(alloc: Global, bars: &[Bar], is_plain: bool) -> Result<Strin
 
 // Appends a bar with all that belongs to it.
 fn push_bar(alloc: Global, out: &mut String, bar: &Bar, is_plain: bool) -> Result<(), OutOfMemory> {
-    for piece in wrapped(alloc, bar.title.as_str(), WIDTH)?.as_slice() {
+    let (title, scale) = (bar.title.as_str(), bar.scale.as_str());
+    let title = format!(in alloc; "{title}; {scale}")?;
+    for piece in wrapped(alloc, title.as_str(), WIDTH)?.as_slice() {
         out.push_str(piece.as_str())?;
         out.push('\n')?;
     }

@@ -50,6 +50,7 @@ pub fn bar_of(
         begin: area.base,
         len: area.len,
         title: title_of(alloc, setup, area)?,
+        scale: scale_of(alloc, area)?,
         cells: owners_of(alloc, area, holdings, vpes)?,
         stretches,
         rows: row_columns(alloc, parts.as_slice())?,
@@ -139,8 +140,7 @@ fn newest_owner(rows: &[Written], newest: Option<u64>, vpes: &[u16]) -> Option<O
 // What stands above the bar of an area.
 fn title_of(alloc: Global, setup: &Setup, area: &Area) -> Result<String, OutOfMemory> {
     let (base, len) = (area.base, area.len);
-    let size = cell_size(len);
-    let mut text = format!(in alloc; "{len} bytes from {base}, {size} a cell;")?;
+    let mut text = format!(in alloc; "{len} bytes from {base};")?;
     let mut begin = if area.roots.len() > 1 {
         " roots"
     } else {
@@ -153,6 +153,12 @@ fn title_of(alloc: Global, setup: &Setup, area: &Area) -> Result<String, OutOfMe
         begin = ",";
     }
     Ok(text)
+}
+
+// How many addresses a cell of an area has.
+fn scale_of(alloc: Global, area: &Area) -> Result<String, OutOfMemory> {
+    let size = cell_size(area.len);
+    format!(in alloc; "{size} bytes a cell")
 }
 
 // The lines of the reads below a bar.

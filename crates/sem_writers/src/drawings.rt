@@ -136,6 +136,9 @@ fn writer_in(list: &[Access], entry: u64) -> Option<Access> {
 // The bars, drawn.
 fn draw(alloc: Global, bars: &[Bar], picture: Picture) -> Result<String, OutOfMemory> {
     match picture {
+        Picture::Boxes | Picture::Plain if bars.is_empty() => {
+            String::from_str(alloc, "no memory was written or read\n")
+        }
         Picture::Svg => bars_as_svg(alloc, bars),
         Picture::Boxes => bars_as_text(alloc, bars, false),
         Picture::Plain => bars_as_text(alloc, bars, true),
