@@ -1,6 +1,8 @@
 // An area as a bar that can be drawn.
+ghost use Rattle.std.specs.Prelude.{◌≤◌};
+
 use crate::areas::Area;
-use crate::cells::cells;
+use crate::cells::cells_of;
 use crate::columns::{note_columns, row_columns};
 use crate::holdings::Holdings;
 use crate::rows::Written;
@@ -116,7 +118,7 @@ fn owners_of(
     let base = area.base.min(ADDRESSES);
     let len = area.end().min(ADDRESSES).saturating_sub(base);
     let size = cell_size(len);
-    for cell in cells(alloc, &holdings.memory, base, len, size)?.as_slice() {
+    for cell in cells_of(alloc, &holdings.memory, base, len, size)?.as_slice() {
         owners.push(newest_owner(holdings.rows.as_slice(), cell.newest, vpes))?;
     }
     Ok(owners)

@@ -20,7 +20,7 @@ pub struct Cell {
 /// on each other and have all addresses of the range.
 ///
 /// The range ends within 4 GiB.
-pub fn cells(
+pub fn cells_of(
     alloc: Global,
     memory: &Memory,
     base: u64,

@@ -10,7 +10,7 @@ mod holdings;
 mod replays;
 mod rows;
 
-pub use cells::{Cell, cells};
+pub use cells::{Cell, cells_of};
 pub use drawings::{MemoryRequest, ROWS, memory_picture};
 pub use holdings::{Holdings, holdings_after};
 pub use rows::Written;

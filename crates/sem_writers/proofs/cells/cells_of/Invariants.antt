@@ -2,7 +2,7 @@ use Rattle.std.proofs.Common.{◌≡◌, ◌+◌, ◌≤◌, Some}
 use Rattle.std.specs.List.{All}
 use Rattle.sem_access.specs.Runs.{entry_at}
 use Rattle.sem_writers.specs.Cells.{cells_end, TellsNewest}
-use Rattle.sem_writers.proofs.cells.cells.Given as goal
+use Rattle.sem_writers.proofs.cells.cells_of.Given as goal
 
 -- the cells so far end where the next one begins, which is as far on as there were turns
 abbrev pub invariant-loop : goal.invariant-loop
