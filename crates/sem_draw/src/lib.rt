@@ -1,24 +1,32 @@
-//! Pictures as text and as SVG: message charts and trees. Nothing here knows what is drawn.
+//! Pictures as text and as SVG: message charts, trees and bars. Nothing here knows what is drawn.
 #![tactic(auto)]
 
 mod answers;
+mod bar;
+mod bar_svg;
+mod bar_text;
 mod cells;
 mod chart;
 mod chart_svg;
 mod chart_text;
 mod lines;
 mod svg;
+mod table;
 mod tree;
 mod tree_svg;
 mod tree_text;
 
 pub use answers::{Answer, Ending, Picture};
+pub use bar::{Bar, Owner, Span, Stretch};
+pub use bar_svg::bars_as_svg;
+pub use bar_text::{CELLS, bars_as_text};
 pub use chart::{Chart, Early, Family, Lane, Mark, Row};
 pub use chart_svg::chart_as_svg;
 pub use chart_text::{chart_as_text, fits};
 pub use lines::WIDTH;
 /// Memory was refused.
 pub use std::alloc::AllocError as OutOfMemory;
+pub use table::Column;
 pub use tree::{Node, State};
 pub use tree_svg::tree_as_svg;
 pub use tree_text::{LEVELS, tree_as_text};

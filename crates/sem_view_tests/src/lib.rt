@@ -1,4 +1,4 @@
-//! Tests of what shows reports: charts, forests, counts and explanations; nothing that runs.
+//! Tests of what shows reports: charts, forests, bars, counts and explanations; nothing that runs.
 #![tactic(auto)]
 
 #[cfg(test)]
@@ -7,6 +7,8 @@ mod drawings;
 mod explanations;
 #[cfg(test)]
 mod hints;
+#[cfg(test)]
+mod memories;
 #[cfg(test)]
 mod trees;
 #[cfg(test)]

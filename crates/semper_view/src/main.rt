@@ -15,6 +15,7 @@ use sem_io::{ReadError, ReadSource, WriteSink, read_all, write_all};
 use sem_run::judge;
 use sem_tree::tree;
 use sem_view::respond;
+use sem_writers::memory_picture;
 use std::alloc::{AllocError, Global};
 use std::env;
 use std::process::ExitCode;
@@ -68,6 +69,7 @@ fn answer_to(alloc: Global, asked: &Asked, bytes: &[u8]) -> Result<Answer, Alloc
     match asked {
         Asked::View { request } => respond(alloc, request, bytes),
         Asked::Tree { request } => tree(alloc, request, bytes),
+        Asked::Memory { request } => memory_picture(alloc, request, bytes),
         Asked::Explain => explain(alloc, bytes),
     }
 }

@@ -3,6 +3,7 @@ use clap::{Arg, ArgAction, ArgMatches, Command, Error};
 use sem_draw::Picture;
 use sem_tree::TreeRequest;
 use sem_view::Request;
+use sem_writers::MemoryRequest;
 use std::alloc::{AllocError, Global};
 
 /// A number of an entry, as its place in the help says.
@@ -15,6 +16,8 @@ pub enum Asked {
     View { request: Request },
     /// A forest.
     Tree { request: TreeRequest },
+    /// Who wrote what memory holds.
+    Memory { request: MemoryRequest },
     /// Why the input is refused.
     Explain,
 }
@@ -36,6 +39,12 @@ fn meant(alloc: Global, matches: &ArgMatches<'_>) -> Result<Asked, AllocError> {
             request: TreeRequest {
                 picture: picture(tree),
                 at: tree.get_one::<u64>("at"),
+            },
+        }),
+        Some(("memory", memory)) => Ok(Asked::Memory {
+            request: MemoryRequest {
+                picture: picture(memory),
+                at: memory.get_one::<u64>("at"),
             },
         }),
         Some(("explain", _)) => Ok(Asked::Explain),
@@ -90,15 +99,14 @@ fn command<'a>(alloc: Global) -> Result<Command<'a>, AllocError> {
     let stats = Command::new(alloc, "stats")
         .about("Count the events, messages and replies of a report")
         .arg(flag(alloc, "json", "Write JSON"))?;
-    let tree = pictured(
+    let tree = after_entries(
         alloc,
         Command::new(alloc, "tree").about("Draw the capabilities of a report as a forest"),
-    )?
-    .arg(number(
+    )?;
+    let memory = after_entries(
         alloc,
-        "at",
-        "After how many entries; after all where it is not given",
-    ))?;
+        Command::new(alloc, "memory").about("Draw who wrote what memory holds, and who read it"),
+    )?;
     let explain = Command::new(alloc, "explain").about(
         "Tell why a trace or a report is refused, or that it is accepted",
     );
@@ -111,6 +119,7 @@ fn command<'a>(alloc: Global) -> Result<Command<'a>, AllocError> {
         .subcommand(chart(alloc)?)?
         .subcommand(stats)?
         .subcommand(tree)?
+        .subcommand(memory)?
         .subcommand(explain)
 }
 
@@ -131,6 +140,15 @@ fn chart<'a>(alloc: Global) -> Result<Command<'a>, AllocError> {
             .value_parser(clap::value_parser!(u32))
             .help("The kernels that are shown, as 0,2"),
     )
+}
+
+// The command with the flags of a picture and the number of the entries before it.
+fn after_entries<'a>(alloc: Global, command: Command<'a>) -> Result<Command<'a>, AllocError> {
+    pictured(alloc, command)?.arg(number(
+        alloc,
+        "at",
+        "After how many entries; after all where it is not given",
+    ))
 }
 
 // The command with the flags of a picture.

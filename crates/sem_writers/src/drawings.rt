@@ -1,0 +1,146 @@
+// What is asked for, and what is answered.
+use crate::areas::{Area, area_of, areas};
+use crate::bars::{Found, bar_of};
+use crate::holdings::{Holdings, holdings_after};
+use crate::replays::first_schedule;
+use sem_draw::{Answer, Bar, Ending, Picture, bars_as_svg, bars_as_text};
+use sem_hint::no_report_text;
+use sem_key::OutOfMemory;
+use sem_mem::Access;
+use sem_msg::{Journal, Setup};
+use sem_report::read_report;
+use sem_trace::TraceError;
+use std::alloc::Global;
+
+/// The most runs and accesses of a picture.
+pub const ROWS: usize = 10_000;
+
+/// What is asked for: what memory holds after the first `at` entries, or after all of them.
+#[derive(Clone, Copy, Debug)]
+pub struct MemoryRequest {
+    pub picture: Picture,
+    pub at: Option<u64>,
+}
+
+/// The answer to the request, with these bytes as the input.
+pub fn memory_picture(
+    alloc: Global,
+    request: &MemoryRequest,
+    bytes: &[u8],
+) -> Result<Answer, OutOfMemory> {
+    match read_report(alloc, bytes) {
+        Ok((setup, journal, _)) => picture_of(alloc, request, &setup, &journal),
+        Err(TraceError::Refused(fault)) => {
+            let text = no_report_text(alloc, bytes, &fault)?;
+            Ok(Answer::failed(alloc, Ending::Refused, text))
+        }
+        Err(TraceError::Memory) => Err(OutOfMemory),
+    }
+}
+
+// The answer to the request on a report with that setup and journal.
+fn picture_of(
+    alloc: Global,
+    request: &MemoryRequest,
+    setup: &Setup,
+    journal: &Journal,
+) -> Result<Answer, OutOfMemory> {
+    let all = journal.len() as u64;
+    let at = request.at.unwrap_or(all);
+    if at > all {
+        let text = format!(in alloc; "there are no {at} entries: the report has {all}\n")?;
+        return Ok(Answer::failed(alloc, Ending::WrongWords, text));
+    }
+    let count = at as usize;
+    let first = first_schedule(alloc, setup, journal, count)?;
+    let number = first.len();
+    if number < count {
+        let text = format!(in alloc;
+            "entry {number} is not the one that the machine makes: semper-view explain tells more\n"
+        )?;
+        return Ok(Answer::failed(alloc, Ending::Refused, text));
+    }
+    let held = holdings_after(alloc, setup, &first)?;
+    let rows = held.rows.len().saturating_add(held.looks.len());
+    if rows > ROWS {
+        let text = format!(in alloc;
+            "the picture would have {rows} runs and accesses, and {ROWS} are the most: name fewer entries by --at\n"
+        )?;
+        return Ok(Answer::failed(alloc, Ending::WrongWords, text));
+    }
+    let bars = bars_of(alloc, setup, &held)?;
+    Ok(Answer::done(alloc, draw(alloc, bars.as_slice(), request.picture)?))
+}
+
+// The bars of all areas that were written or read.
+fn bars_of(alloc: Global, setup: &Setup, held: &Holdings) -> Result<Vec<Bar>, OutOfMemory> {
+    let areas = areas(alloc, setup)?;
+    let vpes = accessors(alloc, held.accesses.as_slice())?;
+    let mut bars = Vec::new(alloc);
+    for (place, area) in areas.as_slice().iter().enumerate() {
+        if is_accessed(areas.as_slice(), place, held.accesses.as_slice()) {
+            let found = found_in(alloc, areas.as_slice(), place, held)?;
+            bars.push(bar_of(alloc, setup, area, held, found.as_slice(), vpes.as_slice())?)?;
+        }
+    }
+    Ok(bars)
+}
+
+// Whether one of the accesses is in the area at that place.
+fn is_accessed(areas: &[Area], place: usize, list: &[Access]) -> bool {
+    list.iter()
+        .any(|access| area_of(areas, access.base) == Some(place))
+}
+
+// The VPEs that made accesses, by number.
+fn accessors(alloc: Global, list: &[Access]) -> Result<Vec<u16>, OutOfMemory> {
+    let mut vpes: Vec<u16> = Vec::new(alloc);
+    for access in list {
+        if !vpes.contains(&access.vpe) {
+            vpes.push(access.vpe)?;
+        }
+    }
+    vpes.sort()?;
+    Ok(vpes)
+}
+
+// The reads of the area at that place, and what they found.
+fn found_in(
+    alloc: Global,
+    areas: &[Area],
+    place: usize,
+    held: &Holdings,
+) -> Result<Vec<Found>, OutOfMemory> {
+    let list = held.accesses.as_slice();
+    let mut found = Vec::new(alloc);
+    for (at, access) in list.iter().enumerate() {
+        if !access.write
+            && area_of(areas, access.base) == Some(place)
+            && let Some(look) = held.looks.get(at)
+        {
+            found.push(Found {
+                access: *access,
+                look: *look,
+                writer: look.newest.and_then(|entry| writer_in(list, entry)),
+            })?;
+        }
+    }
+    Ok(found)
+}
+
+// The access by that entry.
+fn writer_in(list: &[Access], entry: u64) -> Option<Access> {
+    list.iter().find(|access| access.entry == entry).copied()
+}
+
+// The bars, drawn.
+fn draw(alloc: Global, bars: &[Bar], picture: Picture) -> Result<String, OutOfMemory> {
+    match picture {
+        Picture::Boxes | Picture::Plain if bars.is_empty() => {
+            String::from_str(alloc, "no memory was written or read\n")
+        }
+        Picture::Svg => bars_as_svg(alloc, bars),
+        Picture::Boxes => bars_as_text(alloc, bars, false),
+        Picture::Plain => bars_as_text(alloc, bars, true),
+    }
+}
