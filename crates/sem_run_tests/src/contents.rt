@@ -6,7 +6,8 @@ use std::test::Fail;
 
 #[test]
 fn the_later_of_two_writes_that_overlap_is_the_last(rt: HostRuntime) -> Result<(), Fail> {
-    let calls = "call 0 bind 0 0\ncall 0 write 0 10 20\ncall 0 write 0 20 20\ncall 0 read 0 0 25\ncall 0 read 0 4096 0\nend\n";
+    let calls =
+        "call 0 bind 0 0\ncall 0 write 0 10 20\ncall 0 write 0 20 20\ncall 0 read 0 0 25\ncall 0 read 0 4096 0\nend\n";
     let trace = format!(in rt.alloc(); "{DECLARED}{calls}")?;
     let run = answer(&rt, rt.alloc(), "run 0", trace.as_str())?;
     let report = String::from_utf8(run.written)?;
@@ -19,8 +20,9 @@ fn the_later_of_two_writes_that_overlap_is_the_last(rt: HostRuntime) -> Result<(
 
 #[test]
 fn contents_refuses_what_a_check_refuses(rt: HostRuntime) -> Result<(), Fail> {
-    let report =
-        format!(in rt.alloc(); "semper report 1\n{DECLARED}{DERIVE_AND_REVOKE}{DERIVED_AND_REVOKED}")?;
+    let report = format!(in rt.alloc();
+        "semper report 1\n{DECLARED}{DERIVE_AND_REVOKE}{DERIVED_AND_REVOKED}"
+    )?;
     let told = answer(&rt, rt.alloc(), "contents", report.as_str())?;
     check(&rt, &told, Status::Done, "semper contents 1\nend\n", 0);
     let changed = report.replace(rt.alloc(), "resume 0 reply 0 0", "resume 0 reply 0 1")?;
