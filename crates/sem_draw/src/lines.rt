@@ -26,6 +26,12 @@ pub fn push_right(
     out.push_str(digits.as_str())
 }
 
+/// Appends the text, with blanks behind it where it is shorter than `width`.
+pub fn push_left(out: &mut String, text: &str, width: usize) -> Result<(), OutOfMemory> {
+    out.push_str(text)?;
+    push_blanks(out, width.saturating_sub(text.len()))
+}
+
 /// The decimal text of the number.
 pub fn number_text(alloc: Global, number: u64) -> Result<String, OutOfMemory> {
     format!(in alloc; "{number}")
