@@ -1,8 +1,8 @@
-mod KeptRuns
+pub mod KeptRuns
 mod Looking
 mod Overwriting
 mod Meeting
 mod Replaying
-mod KeptLongest
-mod Telling
-mod Ordering
+pub mod KeptLongest
+pub mod Telling
+pub mod Ordering
