@@ -1,5 +1,5 @@
 // The areas of memory: each is that of a root memory, or of several that share addresses.
-use sem_key::{Key, Object, OutOfMemory};
+use sem_key::{Key, Kind, NUMBERS, Object, OutOfMemory, PES, VPES};
 use sem_msg::{Setup, VpeDecl};
 use std::alloc::Global;
 
@@ -48,23 +48,35 @@ pub fn areas(alloc: Global, setup: &Setup) -> Result<Vec<Area>, OutOfMemory> {
     Ok(areas)
 }
 
-// Appends the root memories of a VPE, whose keys are numbered from 0 with all its other roots.
+// Appends the root memories of a VPE.
 fn push_roots(roots: &mut Vec<RootMemory>, decl: &VpeDecl) -> Result<(), OutOfMemory> {
-    for (number, root) in decl.roots.as_slice().iter().enumerate() {
-        if let Object::Mem { base, len, .. } = root.object {
+    for (place, root) in decl.roots.as_slice().iter().enumerate() {
+        if let Object::Mem { base, len, .. } = root.object
+            && let Some(key) = root_key(decl, place)
+        {
             roots.push(RootMemory {
                 base: u64::from(base),
                 len: u64::from(len),
-                key: Key {
-                    pe: decl.pe,
-                    vpe: decl.vpe,
-                    kind: root.object.kind(),
-                    number: number as u32,
-                },
+                key,
             })?;
         }
     }
     Ok(())
+}
+
+// The key of a root memory of the VPE; its roots are numbered from 0. None where that is no key,
+// which no setup has.
+fn root_key(decl: &VpeDecl, place: usize) -> Option<Key> {
+    let number = u32::try_from(place).ok()?;
+    if usize::from(decl.pe) >= PES || decl.vpe >= VPES || number >= NUMBERS {
+        return None;
+    }
+    Some(Key {
+        pe: decl.pe,
+        vpe: decl.vpe,
+        kind: Kind::Mem,
+        number,
+    })
 }
 
 // Whether the root memory shares addresses with the last area; then it is part of it.

@@ -1,5 +1,5 @@
 // Runs of addresses with who wrote them.
-ghost use Rattle.std.specs.Prelude.{◌≡◌, ◌==◌, All, find, map, IfOk};
+ghost use Rattle.std.specs.Prelude.{◌≡◌, ◌==◌, All, find, map, option_copied, IfOk};
 ghost use Rattle.sem_writers.specs.Written.{IsWriter};
 
 use sem_key::OutOfMemory;
@@ -26,15 +26,15 @@ pub fn written_rows(
     for run in runs {
         rows.push(Written {
             run: *run,
-            writer: writer_of(list, run.entry),
+            writer: writer_of(list, run.entry).copied(),
         })?;
     }
     Ok(rows)
 }
 
 // The access by the entry, the first if there are more.
-fn writer_of(list: &[Access], entry: u64) -> Option<Access>
-    ensures { result ≡ find (λ x. x.entry == entry) list.now }
+fn writer_of(list: &[Access], entry: u64) -> Option<&Access>
+    ensures { option_copied result ≡ find (λ x. x.entry == entry) list.now }
 {
-    list.iter().find(|access| access.entry == entry).copied()
+    list.iter().find(|access| access.entry == entry)
 }
