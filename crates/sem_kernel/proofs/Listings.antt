@@ -13,7 +13,7 @@ use Rattle.sem_msg.specs.declared.event.Act.TheVariants.{Call as CallAct, Fetch,
 use Rattle.sem_msg.specs.declared.event.Event.{Event}
 use Rattle.sem_msg.specs.declared.setup.VpeDecl.{VpeDecl}
 use Rattle.sem_msg.specs.Setup.{Setup, IsSetup}
-use Rattle.sem_msg.specs.Lookups.{decl, pe_owner, kernel_of}
+use Rattle.sem_msg.specs.Lookups.{pe_owner, kernel_of}
 use Rattle.sem_machine.specs.Machine.{World, event, is_enabled, is_locally_enabled, kernel_events, enabled}
 use Rattle.sem_machine.proofs.FirstNumbers.{find-decl}
 use Rattle.sem_kernel.specs.declared.listing.VpeRow.{VpeRow}

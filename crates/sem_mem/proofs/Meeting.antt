@@ -1,6 +1,6 @@
 -- Runs that a range of addresses meets: only they change, and only they tell of it.
-use Rattle.std.proofs.Common.{◌≡◌, ℕ, zero, suc, ◌+◌, ◌-◌, ◌≤◌, ◌<◌, Bool, true, false, List, [], ◌∷◌, ◌++◌, length, take, drop, get_or, Option, Some, None, drop-drop, refl, sym, ◌∙◌, ap, subst, arith, rules}
-use Rattle.std.specs.List.{All, AllWithin, filter_map, splice, slice_range, range_with_len, cons_option}
+use Rattle.std.proofs.Common.{◌≡◌, ℕ, zero, suc, ◌+◌, ◌-◌, ◌≤◌, ◌<◌, true, false, List, [], ◌∷◌, ◌++◌, length, take, drop, get_or, Option, Some, None, drop-drop, refl, sym, ◌∙◌, ap, subst, arith}
+use Rattle.std.specs.List.{All, filter_map, splice, slice_range, range_with_len, cons_option}
 use Rattle.std.specs.List.Sorted.{IsNonDecreasingBy, IsPartitionPoint}
 use Rattle.std.specs.Prelude.{min, max, nat_le, nat_lt}
 use Rattle.std.proofs.lemmas.Bool.{leb-true, ltb-false}

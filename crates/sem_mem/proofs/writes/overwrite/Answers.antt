@@ -1,10 +1,9 @@
-use Rattle.std.proofs.Common.{◌≡◌, ◌+◌, List, length, map, rules, sym, ◌∙◌, ap, subst}
+use Rattle.std.proofs.Common.{◌≡◌, ◌+◌, length, map, rules, sym, ◌∙◌, ap}
 use Rattle.std.specs.List.{splice, slice_range}
 use Rattle.std.proofs.lemmas.List.{map-id}
 use Rattle.std.proofs.lemmas.Iterator.{items_from_drains}
 use Rattle.std.proofs.lemmas.Iterator.Adapters.{YieldsList-from_vec}
 use Rattle.sem_access.specs.declared.run.Run.{Run}
-use Rattle.sem_access.specs.Runs.{AreRuns}
 use Rattle.sem_mem.specs.Writing.{overwritten}
 use Rattle.sem_mem.specs.Meeting.{IsMetPart}
 use Rattle.sem_mem.proofs.KeptRuns.{each-run}

@@ -1,7 +1,5 @@
-use Rattle.std.proofs.Common.{◌≡◌, ◌+◌, List, sym, ◌∙◌, ap, subst}
-use Rattle.sem_access.specs.declared.run.Run.{Run}
+use Rattle.std.proofs.Common.{◌+◌, sym, ◌∙◌}
 use Rattle.sem_access.specs.LastWrites.{looked}
-use Rattle.sem_access.specs.Runs.{AreRuns, entry_at}
 use Rattle.sem_mem.specs.Meeting.{IsMetPart}
 use Rattle.sem_mem.proofs.Meeting.{runs-within, looked-middle}
 use Rattle.sem_mem.proofs.memory.Memory.look.Goals as goal

@@ -1,4 +1,4 @@
-use Rattle.std.proofs.Common.{◌≡◌, ◌+◌, ◌≤◌, List, rules, sym, ◌∙◌, ap, subst}
+use Rattle.std.proofs.Common.{◌+◌, ◌≤◌, List, rules, sym, ◌∙◌, ap, subst}
 use Rattle.sem_access.specs.declared.run.Run.{Run}
 use Rattle.sem_access.specs.Runs.{AreRuns, IsNewer, entry_at}
 use Rattle.sem_mem.specs.Writing.{overwritten}
