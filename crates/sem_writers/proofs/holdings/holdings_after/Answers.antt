@@ -30,7 +30,7 @@ returns-clause-runs c =
     let last : ℕ → Option ℕ = last_write T J (length J) in
     let tells : (a : ℕ) → entry_at c.in_ok-memory.memory a ≡ last a =
     λ a.
-        c.in_ok-memory.ensures.memory a
-        ∙ (ap (greatest_entry (is_write_at a)) (c.as_slice.ensures ∙ c.in_ok-list.ensures)
-        ∙ sym (last-of-all (accesses T J) (length J) a (all-before T J))) in
+    c.in_ok-memory.ensures.memory a
+    ∙ (ap (greatest_entry (is_write_at a)) (c.as_slice.ensures ∙ c.in_ok-list.ensures)
+    ∙ sym (last-of-all (accesses T J) (length J) a (all-before T J))) in
     c.in_ok-rows.ensures.runs ∙ (c.as_slice-2.ensures.runs ∙ kept-runs last c.in_ok-memory.memory c.as_slice-2.ensures.apart tells)
