@@ -1,2 +1,4 @@
 pub mod Placing
 pub mod Passing
+pub mod Transferring
+pub mod Gathering

@@ -1,16 +1,20 @@
 -- A world that follows a journal, entry by entry.
 use Rattle.std.proofs.Common.{◌≡◌, ℕ, ◌+◌, ◌<◌, ◌≤◌, Bool, true, false, cond, List, [], ◌∷◌, ◌++◌, length, take, get_or, Option, Some, None, refl, sym, ◌∙◌, ap, subst}
-use Rattle.std.specs.Option.{IsSome}
+use Rattle.std.specs.Option.{IsSome, option_to_list}
 use Rattle.std.proofs.lemmas.Option.{slice_get-get_or, none-some, same_Some}
 use Rattle.std.proofs.lemmas.List.{take_more, take_all}
 use Rattle.sem_msg.specs.declared.event.Event.{Event}
 use Rattle.sem_msg.specs.declared.entry.Entry.{Entry}
-use Rattle.sem_msg.specs.Setup.{Setup}
+use Rattle.sem_msg.specs.Setup.{Setup, IsSetup}
 use Rattle.sem_machine.specs.Machine.{World, start, after, entry_of, is_enabled}
 use Rattle.sem_machine.specs.Schedules.{IsSchedule, world_after}
 use Rattle.sem_kernel.specs.Worlds.{WorldValue}
 use Rattle.sem_machine.proofs.Pushing.{schedule-push, schedule-empty, world_after-push}
-use Rattle.sem_check.specs.Replays.{entry_made, world_value, IsWorldAfter, DiffersAt}
+use Rattle.sem_access.specs.declared.access.Access.{Access}
+use Rattle.sem_access.specs.Accesses.{accesses}
+use Rattle.sem_access.specs.Transfers.{transfer_of, access_by}
+use Rattle.sem_access.proofs.Gathering.{gather-more}
+use Rattle.sem_check.specs.Replays.{entry_made, world_value, IsStep, IsOther, IsWorldAfter, DiffersAt}
 
 -- what an event makes, it makes as one that is enabled
 pub made-some : (T : Setup) (W : World) (e : Event) (x : Entry) → entry_made T W e ≡ Some x → (is_enabled T W e ≡ true) × (entry_of T W e ≡ x)
@@ -60,6 +64,23 @@ module _ (T : Setup) (J : List Entry) (w : WorldValue) (n : ℕ) (so_far : IsFol
     made = made-there made x.event is;
     other = other;
   }
+
+  -- both by what a step tells
+  pub following-step : (x : Entry) (v : WorldValue) → n < length J → x ≡ get_or J n x → IsStep w x v → IsFollowing T J v (n + 1)
+  following-step x v within at step = following-more x (entry_made w.setup w.world x.event) v within at refl (λ some. step.world) step.made
+
+  pub differs-there : (x : Entry) (m : ℕ) (y : Entry) (made : Option Entry) → n < length J → x ≡ get_or J n x → m ≡ n → y ≡ x → IsOther w x made → DiffersAt T J m y made
+  differs-there x m y made within at place same is =
+      subst (λ k. DiffersAt T J k y made) (sym place)
+      (subst (λ (z : Entry). DiffersAt T J n z made) (sym same) (following-differs x made within at is.made is.other))
+
+  -- the accesses of the entries so far, and of the next
+  pub gathered : IsSetup T → (x : Entry) (v : WorldValue) → n < length J → x ≡ get_or J n x → IsStep w x v → (found new : List Access) → found ≡ accesses T P → new ≡ found ++ option_to_list (access_by w.setup w.world n (transfer_of x)) → new ≡ accesses T (take (n + 1) J)
+  gathered valid x v within at step found new is more =
+      let there = made-some T (world_after T P) x.event x (sym (made-there (entry_made w.setup w.world x.event) x.event refl) ∙ step.made) in
+      more
+      ∙ (ap (λ (u : WorldValue). found ++ option_to_list (access_by u.setup u.world n (transfer_of x))) so_far.world
+      ∙ gather-more T valid J n x within at there.0 (sym there.1) found is)
 
   -- no entry is left
   pub following-all : length J ≤ n → IsWorldAfter T J w

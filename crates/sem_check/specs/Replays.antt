@@ -24,6 +24,16 @@ stepped w e = record { setup = w.setup; world = after w.setup w.world e }
 abbrev pub world_value : Setup → List Entry → WorldValue
 world_value T J = record { setup = T; world = world_after T J }
 
+-- the entry is the one that its event makes, and this is the world after it
+pub record IsStep (w : WorldValue) (e : Entry) (v : WorldValue) : Type 0 where
+  pub made : entry_made w.setup w.world e.event ≡ Some e
+  pub world : v ≡ stepped w e.event
+
+-- its event makes another entry, or is not enabled
+pub record IsOther (w : WorldValue) (e : Entry) (replayed : Option Entry) : Type 0 where
+  pub made : replayed ≡ entry_made w.setup w.world e.event
+  pub other : replayed ≢ Some e
+
 -- the journal is a schedule, and this is the world after it
 pub record IsWorldAfter (T : Setup) (J : List Entry) (w : WorldValue) : Type 0 where
   pub schedule : IsSchedule T J

@@ -2,12 +2,14 @@ ghost use Rattle.std.specs.Prelude.{◌≡◌, ◌≤◌, ◌+◌, ◌*◌, ℕ,
 ghost use Rattle.sem_msg.specs.Setup.{call_count, kill_count};
 ghost use Rattle.sem_msg.specs.declared.entry.Entry.{Entry as EntryData};
 ghost use Rattle.sem_machine.specs.Living.{IsComplete};
+ghost use Rattle.sem_access.specs.Accesses.{accesses};
 ghost use Rattle.sem_check.specs.Replays.{IsWorldAfter, next_made, world_value};
 ghost use Rattle.sem_check.specs.Verdicts.{TellsDifference, TellsNext};
 
 use crate::entries::make_entry;
 use crate::faults::CheckError;
-use crate::follows::follow;
+use crate::follows::{Difference, follow, follow_accesses};
+use sem_access::AccessList;
 use sem_kernel::World;
 use sem_key::OutOfMemory;
 use sem_msg::{Entry, Journal, Setup};
@@ -29,11 +31,42 @@ pub fn check(alloc: Global, setup: &Setup, journal: &Journal) -> Result<World, C
     let entries = journal.as_slice();
     match follow(&mut world, entries)? {
         None => judge(alloc, setup, world, entries),
-        Some(difference) => Err(CheckError::Differs {
-            entry: difference.entry as u64,
-            entered: difference.entered,
-            replayed: difference.replayed,
-        }),
+        Some(difference) => Err(differs(&difference)),
+    }
+}
+
+/// As `check`, and gives the accesses of the journal too.
+pub fn check_accesses(
+    alloc: Global,
+    setup: &Setup,
+    journal: &Journal,
+) -> Result<(World, AccessList), CheckError>
+    ensures complete { IfOk result (λ r. IsComplete setup.now journal.now.entries) }
+    ensures world { IfOk result (λ r. r.0 ≡ world_value setup.now journal.now.entries) }
+    ensures accesses { IfOk result (λ r. r.1 ≡ accesses setup.now journal.now.entries) }
+    ensures differs { TellsDifference setup.now journal.now.entries result }
+    ensures incomplete { TellsNext setup.now journal.now.entries result }
+{
+    // So that the proof knows what a setup keeps.
+    let _ = &setup.vpes;
+    let mut world = World::boot(alloc, setup)?;
+    let mut found = AccessList::new(alloc);
+    let entries = journal.as_slice();
+    match follow_accesses(&mut world, entries, &mut found)? {
+        None => Ok((judge(alloc, setup, world, entries)?, found)),
+        Some(difference) => Err(differs(&difference)),
+    }
+}
+
+// The error that tells the difference.
+fn differs(difference: &Difference) -> CheckError
+    ensures { result ≡ CheckError.Differs
+        difference.now.entry difference.now.entered difference.now.replayed }
+{
+    CheckError::Differs {
+        entry: difference.entry as u64,
+        entered: difference.entered,
+        replayed: difference.replayed,
     }
 }
 

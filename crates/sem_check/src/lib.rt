@@ -10,7 +10,7 @@ mod laws;
 mod messages;
 mod replays;
 
-pub use checks::check;
+pub use checks::{check, check_accesses};
 pub use faults::CheckError;
 pub use laws::a_journal_has_one_verdict;
 pub use replays::replay;

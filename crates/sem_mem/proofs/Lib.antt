@@ -2,6 +2,8 @@ pub mod KeptRuns
 mod Looking
 mod Overwriting
 mod Meeting
+mod Behind
+mod Chunking
 mod Replaying
 pub mod KeptLongest
 pub mod Telling

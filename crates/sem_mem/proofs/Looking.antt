@@ -1,5 +1,5 @@
 -- What runs tell of a range of addresses: one run more tells of the addresses that it shares with the range.
-use Rattle.std.proofs.Common.{◌≡◌, ℕ, zero, suc, ◌+◌, ◌-◌, ◌≤◌, ◌<◌, Bool, true, false, cond, List, [], ◌∷◌, ◌++◌, length, take, drop, get_or, Option, Some, None, refl, sym, ◌∙◌, ap, subst, inl, inr, arith}
+use Rattle.std.proofs.Common.{◌≡◌, ℕ, zero, suc, ◌+◌, ◌-◌, ◌≤◌, ◌<◌, Bool, true, false, cond, List, [], ◌∷◌, ◌++◌, length, take, drop, get_or, Option, Some, None, refl, sym, ◌∙◌, ap, subst, inl, inr, arith, ◌⊎◌}
 use Rattle.std.specs.List.{filter_map, range_with_len, cons_option}
 use Rattle.std.specs.Prelude.{◌==◌, min, max}
 use Rattle.std.proofs.lemmas.Bool.{cases_Bool, cases_lt, cases_eq, cond-true, cond-false, eq-eqb, ne_eqb}
@@ -10,7 +10,8 @@ use Rattle.sem_access.specs.declared.run.Run.{Run}
 use Rattle.sem_access.specs.declared.look.Look.{Look}
 use Rattle.sem_access.specs.LastWrites.{has_address, greater, greatest, looked}
 use Rattle.sem_access.specs.Runs.{AreRuns, entry_at}
-use Rattle.sem_mem.specs.Writing.{shared, with_run}
+use Rattle.sem_mem.specs.Writing.{shared, with_run, greater_of, both}
+use Rattle.sem_mem.proofs.Behind.{one-silent}
 use Rattle.sem_mem.proofs.KeptRuns.{has-address, address-in, entry-here, entry-later, entry-behind, entry-before, none-before}
 
 -- The greatest of entries.
@@ -192,4 +193,62 @@ module _ (runs : List Run) (i : ℕ) (d : Run) (base len : ℕ) (are : AreRuns r
   next-few =
       let few : (looked (entry_at (take (i + 1) runs)) base len).written ≤ len = looked-few (entry_at (take (i + 1) runs)) base len in
       let same : (looked (entry_at (take (i + 1) runs)) base len).written ≡ (looked (entry_at (take i runs)) base len).written + shared base (base + len) r = ap (λ (l : Look). l.written) next-found ∙ with_run-written base (base + len) (looked (entry_at (take i runs)) base len) r in
+      omega (arith, few, same)
+
+-- What is found by some runs and by others.
+
+greater-both : (m : ℕ) (p q : Option ℕ) → greater m (greater_of p q) ≡ greater_of (greater m p) q
+greater-both m None q = refl
+greater-both m (Some e) None = refl
+greater-both m (Some e) (Some n) = let same : max m (max e n) ≡ max (max m e) n = omega arith in ap Some same
+
+greater-other : (m : ℕ) (p q : Option ℕ) → greater m (greater_of p q) ≡ greater_of p (greater m q)
+greater-other m None q = refl
+greater-other m (Some e) q = greater-swap m e q
+
+-- f tells what g tells or what h tells, of which one tells nothing
+module _ (f g h : ℕ → Option ℕ) (parts : (a : ℕ) → ((g a ≡ None) × (f a ≡ h a)) ⊎ ((h a ≡ None) × (f a ≡ g a))) where
+  abbrev Joined : List ℕ → List ℕ → List ℕ → Type 0
+  Joined xs ys zs = (length xs ≡ length ys + length zs) × (greatest xs ≡ greater_of (greatest ys) (greatest zs))
+
+  right-more : (o : Option ℕ) (xs ys zs : List ℕ) → Joined xs ys zs → Joined (cons_option o xs) ys (cons_option o zs)
+  right-more None xs ys zs is = is
+  right-more (Some m) xs ys zs is = let count = is.0 in (omega (arith, count), ap (greater m) is.1 ∙ greater-other m (greatest ys) (greatest zs))
+
+  left-more : (o : Option ℕ) (xs ys zs : List ℕ) → Joined xs ys zs → Joined (cons_option o xs) (cons_option o ys) zs
+  left-more None xs ys zs is = is
+  left-more (Some m) xs ys zs is = let count = is.0 in (omega (arith, count), ap (greater m) is.1 ∙ greater-both m (greatest ys) (greatest zs))
+
+  joined-found : (xs : List ℕ) → Joined (filter_map f xs) (filter_map g xs) (filter_map h xs)
+  joined-found [] = (refl, refl)
+  joined-found (x ∷ xs) = elim (parts x) [
+    | inl is ↦
+        subst (λ o. Joined (cons_option (f x) (filter_map f xs)) (cons_option o (filter_map g xs)) (cons_option (h x) (filter_map h xs))) (sym is.0)
+        (subst (λ o. Joined (cons_option o (filter_map f xs)) (filter_map g xs) (cons_option (h x) (filter_map h xs))) (sym is.1)
+        (right-more (h x) (filter_map f xs) (filter_map g xs) (filter_map h xs) (joined-found xs)))
+    | inr is ↦
+        subst (λ o. Joined (cons_option (f x) (filter_map f xs)) (cons_option (g x) (filter_map g xs)) (cons_option o (filter_map h xs))) (sym is.0)
+        (subst (λ o. Joined (cons_option o (filter_map f xs)) (cons_option (g x) (filter_map g xs)) (filter_map h xs)) (sym is.1)
+        (left-more (g x) (filter_map f xs) (filter_map g xs) (filter_map h xs) (joined-found xs)))
+  ]
+
+module _ (rs qs : List Run) (are : AreRuns (rs ++ qs)) (base len : ℕ) where
+  told-parts : (a : ℕ) → ((entry_at rs a ≡ None) × (entry_at (rs ++ qs) a ≡ entry_at qs a)) ⊎ ((entry_at qs a ≡ None) × (entry_at (rs ++ qs) a ≡ entry_at rs a))
+  told-parts a = elim (one-silent rs qs are a) [
+    | inl none ↦ inl (none, entry-behind rs qs a none)
+    | inr none ↦ inr (none, entry-before rs qs a none)
+  ]
+
+  pub looked-both : looked (entry_at (rs ++ qs)) base len ≡ both (looked (entry_at rs) base len) (looked (entry_at qs) base len)
+  unfolding looked
+  looked-both =
+      let is = joined-found (entry_at (rs ++ qs)) (entry_at rs) (entry_at qs) told-parts (range_with_len base len) in
+      ap (λ n. found n (greatest (filter_map (entry_at (rs ++ qs)) (range_with_len base len)))) is.0
+      ∙ ap (found (length (filter_map (entry_at rs) (range_with_len base len)) + length (filter_map (entry_at qs) (range_with_len base len)))) is.1
+
+  -- together no more is found than the range has
+  pub both-few : (looked (entry_at rs) base len).written + (looked (entry_at qs) base len).written ≤ len
+  both-few =
+      let few : (looked (entry_at (rs ++ qs)) base len).written ≤ len = looked-few (entry_at (rs ++ qs)) base len in
+      let same : (looked (entry_at (rs ++ qs)) base len).written ≡ (looked (entry_at rs) base len).written + (looked (entry_at qs) base len).written = ap (λ (l : Look). l.written) looked-both in
       omega (arith, few, same)

@@ -1,6 +1,6 @@
 -- Runs that a range of addresses meets: only they change, and only they tell of it.
 use Rattle.std.proofs.Common.{◌≡◌, ℕ, zero, suc, ◌+◌, ◌-◌, ◌≤◌, ◌<◌, true, false, List, [], ◌∷◌, ◌++◌, length, take, drop, get_or, Option, Some, None, drop-drop, refl, sym, ◌∙◌, ap, subst, arith}
-use Rattle.std.specs.List.{All, filter_map, splice, slice_range, range_with_len, cons_option}
+use Rattle.std.specs.List.{All, filter_map, slice_range, range_with_len, cons_option}
 use Rattle.std.specs.List.Sorted.{IsNonDecreasingBy, IsPartitionPoint}
 use Rattle.std.specs.Prelude.{min, max, nat_le, nat_lt}
 use Rattle.std.proofs.lemmas.Bool.{leb-true, ltb-false}
@@ -11,14 +11,9 @@ use Rattle.sem_access.specs.LastWrites.{looked, greatest}
 use Rattle.sem_access.specs.Runs.{run_of, IsValidRun, AreRunsBehind, AreRuns, entry_at}
 use Rattle.sem_mem.specs.Writing.{lower_part, upper_part, overwritten}
 use Rattle.sem_mem.specs.Meeting.{IsMetPart}
-use Rattle.sem_mem.proofs.KeptRuns.{each-run, first-run, first-apart, more-runs, no-runs, run-before, entry-behind, entry-before, entry-later, below-range, behind-range}
+use Rattle.sem_mem.proofs.Behind.{EndsBy, BeginsFrom, some-runs, before-silent, behind-silent}
+use Rattle.sem_mem.proofs.KeptRuns.{each-run, first-run, first-apart, more-runs, no-runs, run-before, entry-behind, entry-before}
 use Rattle.sem_mem.proofs.Overwriting.{whole-run, lower-cons_some, lower-cons_none, upper-cons_some, upper-cons_none}
-
-abbrev EndsBy : ℕ → Run → Type 0
-EndsBy a r = r.base + r.len ≤ a
-
-abbrev BeginsFrom : ℕ → Run → Type 0
-BeginsFrom a r = a ≤ r.base
 
 -- The parts of runs before a range and of runs behind it.
 
@@ -63,7 +58,7 @@ seam a b c d p =
     ∙ (sym (append_assoc a b (p ∷ (c ++ d)))
     ∙ ap (λ (xs : List _). (a ++ xs) ++ p ∷ (c ++ d)) (sym (append-nil b)))
 
-in-three : {X : Type 0} (xs : List X) (i j : ℕ) → i ≤ j → xs ≡ take i xs ++ (slice_range xs i j ++ drop j xs)
+pub in-three : {X : Type 0} (xs : List X) (i j : ℕ) → i ≤ j → xs ≡ take i xs ++ (slice_range xs i j ++ drop j xs)
 in-three xs i j le =
     let rest : i + (j - i) ≡ j = omega (arith, le) in
     let later : drop (j - i) (drop i xs) ≡ drop j xs = drop-drop (j - i) i xs ∙ ap (λ n. drop n xs) rest in
@@ -72,84 +67,56 @@ in-three xs i j le =
 three-parts : {X Y : Type 0} (h : X → Option Y) (a b c : List X) → filter_map h (a ++ (b ++ c)) ≡ filter_map h a ++ (filter_map h b ++ filter_map h c)
 three-parts h a b c = filter_map-append h a (b ++ c) ∙ ap (λ (ys : List _). filter_map h a ++ ys) (filter_map-append h b c)
 
-module _ (rs : List Run) (base len i j : ℕ) (are : AreRuns rs) (met : IsMetPart rs base (base + len) i j) where
-  abbrev before : List Run
-  before = take i rs
-
-  abbrev middle : List Run
-  middle = slice_range rs i j
-
-  abbrev behind : List Run
-  behind = drop j rs
+module _ (before middle behind : List Run) (base len : ℕ) (valid-before : All IsValidRun before) (valid-behind : All IsValidRun behind) (ends : All (EndsBy base) before) (begins : All (BeginsFrom (base + len)) behind) where
+  abbrev whole : List Run
+  whole = before ++ (middle ++ behind)
 
   abbrev end : ℕ
   end = base + len
 
-  valid-before : All IsValidRun before
-  valid-before = All-take IsValidRun i rs (each-run rs are)
-
-  valid-behind : All IsValidRun behind
-  valid-behind = All-drop IsValidRun j rs (each-run rs are)
-
-  parts : rs ≡ before ++ (middle ++ behind)
-  parts = in-three rs i j met.order
-
-  lower : filter_map (lower_part base) rs ≡ before ++ (filter_map (lower_part base) middle ++ [])
+  lower : filter_map (lower_part base) whole ≡ before ++ (filter_map (lower_part base) middle ++ [])
   lower =
-      ap (filter_map (lower_part base)) parts
-      ∙ (three-parts (lower_part base) before middle behind
-      ∙ (ap (λ (xs : List Run). xs ++ (filter_map (lower_part base) middle ++ filter_map (lower_part base) behind)) (lower-whole base before valid-before met.before)
-      ∙ ap (λ (xs : List Run). before ++ (filter_map (lower_part base) middle ++ xs)) (lower-none base end behind (omega arith) met.behind)))
+      three-parts (lower_part base) before middle behind
+      ∙ (ap (λ (xs : List Run). xs ++ (filter_map (lower_part base) middle ++ filter_map (lower_part base) behind)) (lower-whole base before valid-before ends)
+      ∙ ap (λ (xs : List Run). before ++ (filter_map (lower_part base) middle ++ xs)) (lower-none base end behind (omega arith) begins))
 
-  upper : filter_map (upper_part end) rs ≡ filter_map (upper_part end) middle ++ behind
+  upper : filter_map (upper_part end) whole ≡ filter_map (upper_part end) middle ++ behind
   upper =
-      ap (filter_map (upper_part end)) parts
-      ∙ (three-parts (upper_part end) before middle behind
-      ∙ (ap (λ (xs : List Run). xs ++ (filter_map (upper_part end) middle ++ filter_map (upper_part end) behind)) (upper-none end base before (omega arith) met.before)
-      ∙ ap (λ (xs : List Run). filter_map (upper_part end) middle ++ xs) (upper-whole end behind valid-behind met.behind)))
+      three-parts (upper_part end) before middle behind
+      ∙ (ap (λ (xs : List Run). xs ++ (filter_map (upper_part end) middle ++ filter_map (upper_part end) behind)) (upper-none end base before (omega arith) ends)
+      ∙ ap (λ (xs : List Run). filter_map (upper_part end) middle ++ xs) (upper-whole end behind valid-behind begins))
 
   -- an entry that writes the range changes the runs in the middle alone
-  pub splice-overwritten : (entry : ℕ) → splice rs i j (overwritten middle base len entry) ≡ overwritten rs base len entry
-  splice-overwritten entry =
+  pub overwritten-within : (entry : ℕ) → before ++ (overwritten middle base len entry ++ behind) ≡ overwritten whole base len entry
+  overwritten-within entry =
       let part : Run = run_of base len entry in
       seam before (filter_map (lower_part base) middle) (filter_map (upper_part end) middle) behind part
       ∙ (ap (λ (xs : List Run). xs ++ part ∷ (filter_map (upper_part end) middle ++ behind)) (sym lower)
-      ∙ ap (λ (xs : List Run). filter_map (lower_part base) rs ++ part ∷ xs) (sym upper))
+      ∙ ap (λ (xs : List Run). filter_map (lower_part base) whole ++ part ∷ xs) (sym upper))
 
   -- the runs in the middle alone tell of the range
-  before-silent : (qs : List Run) (a : ℕ) → All (EndsBy base) qs → base ≤ a → entry_at qs a ≡ None
-  before-silent [] a ends from = refl
-  before-silent (q ∷ qs) a ends from =
-      let ends-here : q.base + q.len ≤ base = All-head (EndsBy base) q qs ends in
-      entry-later q qs a (behind-range q.base q.len a (omega (arith, ends-here, from))) ∙ before-silent qs a (All-tail (EndsBy base) q qs ends) from
-
-  behind-silent : (qs : List Run) (a : ℕ) → All (BeginsFrom end) qs → a < end → entry_at qs a ≡ None
-  behind-silent [] a begins below = refl
-  behind-silent (q ∷ qs) a begins below =
-      let begins-here : end ≤ q.base = All-head (BeginsFrom end) q qs begins in
-      entry-later q qs a (below-range q.base q.len a (omega (arith, begins-here, below))) ∙ behind-silent qs a (All-tail (BeginsFrom end) q qs begins) below
-
-  tells-same : (a : ℕ) → base ≤ a → a < end → entry_at middle a ≡ entry_at rs a
+  tells-same : (a : ℕ) → base ≤ a → a < end → entry_at middle a ≡ entry_at whole a
   tells-same a from below =
-      sym (ap (λ (qs : List Run). entry_at qs a) parts
-      ∙ (entry-behind before (middle ++ behind) a (before-silent before a met.before from)
-      ∙ entry-before middle behind a (behind-silent behind a met.behind below)))
+      sym (entry-behind before (middle ++ behind) a (before-silent base before a ends from)
+      ∙ entry-before middle behind a (behind-silent end behind a begins below))
 
-  found-same : (n b : ℕ) → base ≤ b → b + n ≤ end → filter_map (entry_at middle) (range_with_len b n) ≡ filter_map (entry_at rs) (range_with_len b n)
+  found-same : (n b : ℕ) → base ≤ b → b + n ≤ end → filter_map (entry_at middle) (range_with_len b n) ≡ filter_map (entry_at whole) (range_with_len b n)
   found-same zero b from within = refl
   found-same (suc n) b from within =
       ap (λ o. cons_option o (filter_map (entry_at middle) (range_with_len (b + 1) n))) (tells-same b from (omega (arith, within)))
-      ∙ ap (cons_option (entry_at rs b)) (found-same n (b + 1) (omega (arith, from)) (omega (arith, within)))
+      ∙ ap (cons_option (entry_at whole b)) (found-same n (b + 1) (omega (arith, from)) (omega (arith, within)))
 
-  pub looked-middle : looked (entry_at middle) base len ≡ looked (entry_at rs) base len
+  pub looked-within : looked (entry_at middle) base len ≡ looked (entry_at whole) base len
   unfolding looked
-  looked-middle = ap (λ (xs : List ℕ). record { written = length xs; newest = greatest xs }) (found-same len base (omega arith) (omega arith))
+  looked-within = ap (λ (xs : List ℕ). record { written = length xs; newest = greatest xs }) (found-same len base (omega arith) (omega arith))
+
+-- the runs of a list that a range meets tell of it what all of them tell
+pub looked-middle : (rs : List Run) (base len i j : ℕ) → AreRuns rs → IsMetPart rs base (base + len) i j → looked (entry_at (slice_range rs i j)) base len ≡ looked (entry_at rs) base len
+looked-middle rs base len i j are met =
+    looked-within (take i rs) (slice_range rs i j) (drop j rs) base len (All-take IsValidRun i rs (each-run rs are)) (All-drop IsValidRun j rs (each-run rs are)) met.before met.behind
+    ∙ ap (λ (qs : List Run). looked (entry_at qs) base len) (sym (in-three rs i j met.order))
 
 -- Parts of runs are runs.
-
-some-runs : (b : ℕ) (e : Option ℕ) (rs : List Run) → AreRunsBehind b e rs → AreRuns rs
-some-runs b e [] are = no-runs 0 None
-some-runs b e (r ∷ rs) are = run-before 0 None r rs (first-run b e r rs are) (omega arith, λ touch same. absurd (cc)) (more-runs b e r rs are)
 
 dropped-runs : (b : ℕ) (e : Option ℕ) (n : ℕ) (rs : List Run) → AreRunsBehind b e rs → AreRuns (drop n rs)
 dropped-runs b e zero rs are = some-runs b e rs are
@@ -214,3 +181,20 @@ met-part rs base end i k within short first second =
           let same : get_or (drop i rs) (k + m) d ≡ get_or (drop (i + k) rs) m d = get_or-drop i rs (k + m) d ∙ (ap (λ n. get_or rs n d) assoc ∙ sym (get_or-drop (i + k) rs m d)) in
           subst (BeginsFrom end) same (ltb-false _ end (second.1 (k + m) d (omega arith) (omega (arith, lt, far, rest))));
     }
+
+-- The parts of runs on one side of an address: only the runs that have addresses on both sides are cut.
+
+module _ (rs : List Run) (a i j : ℕ) (are : AreRuns rs) (met : IsMetPart rs a a i j) where
+  pub lower-parts : filter_map (lower_part a) rs ≡ take i rs ++ filter_map (lower_part a) (slice_range rs i j)
+  lower-parts =
+      ap (filter_map (lower_part a)) (in-three rs i j met.order)
+      ∙ (three-parts (lower_part a) (take i rs) (slice_range rs i j) (drop j rs)
+      ∙ (ap (λ (xs : List Run). xs ++ (filter_map (lower_part a) (slice_range rs i j) ++ filter_map (lower_part a) (drop j rs))) (lower-whole a (take i rs) (All-take IsValidRun i rs (each-run rs are)) met.before)
+      ∙ ap (λ (xs : List Run). take i rs ++ xs) (ap (λ (xs : List Run). filter_map (lower_part a) (slice_range rs i j) ++ xs) (lower-none a a (drop j rs) (omega arith) met.behind) ∙ append-nil (filter_map (lower_part a) (slice_range rs i j)))))
+
+  pub upper-parts : filter_map (upper_part a) rs ≡ filter_map (upper_part a) (slice_range rs i j) ++ drop j rs
+  upper-parts =
+      ap (filter_map (upper_part a)) (in-three rs i j met.order)
+      ∙ (three-parts (upper_part a) (take i rs) (slice_range rs i j) (drop j rs)
+      ∙ (ap (λ (xs : List Run). xs ++ (filter_map (upper_part a) (slice_range rs i j) ++ filter_map (upper_part a) (drop j rs))) (upper-none a a (take i rs) (omega arith) met.before)
+      ∙ ap (λ (xs : List Run). filter_map (upper_part a) (slice_range rs i j) ++ xs) (upper-whole a (drop j rs) (All-drop IsValidRun j rs (each-run rs are)) met.behind)))

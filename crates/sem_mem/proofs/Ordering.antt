@@ -21,7 +21,7 @@ use Rattle.sem_access.specs.Accesses.{base_of, access_of, accesses_from, accesse
 use Rattle.sem_mem.specs.Reading.{AreInOrder, AreBefore}
 use Rattle.sem_access.proofs.Placing.{entry-place, StandsIn, stands}
 use Rattle.sem_access.proofs.Passing.{Passes, GoesThrough, entry-through}
-use Rattle.sem_mem.proofs.Replaying.{enabled-kernel}
+use Rattle.sem_access.proofs.Transferring.{enabled-kernel}
 
 abbrev Rises : Access → Access → Type 0
 Rises x y = x.entry < y.entry

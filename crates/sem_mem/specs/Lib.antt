@@ -1,3 +1,4 @@
 pub mod Writing
 pub mod Meeting
+pub mod Chunks
 pub mod Reading

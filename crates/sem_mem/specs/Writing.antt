@@ -39,3 +39,15 @@ with_run from end found r =
       written = found.written + shared from end r;
       newest = greater r.entry found.newest;
     }
+
+-- the greater of two numbers that may be there
+abbrev pub greater_of : Option ℕ → Option ℕ → Option ℕ
+greater_of None other = other
+greater_of (Some n) other = greater n other
+
+-- what was found by some runs and by others that share no address with them
+abbrev pub both : Look → Look → Look
+both some more = record {
+  written = some.written + more.written;
+  newest = greater_of some.newest more.newest;
+}

@@ -39,15 +39,17 @@ pub fn print_contents(
     out.extend_from_slice(&told)
 }
 
-// Appends the lines of the accesses.
-fn push_contents(alloc: Global, out: &mut Vec<u8>, list: &[Access]) -> Result<(), OutOfMemory>
+/// Appends the text that tells what memory holds after accesses, which are in their order. After lack
+/// of memory a part may be there.
+pub fn push_contents(alloc: Global, out: &mut Vec<u8>, list: &[Access]) -> Result<(), OutOfMemory>
     requires { AreInOrder list.now }
     ensures { OnOk result ((n : ℕ) → AreBefore n list.now
         → out.new.items ≡ out.old.items ++ text (access_lines list.now n)) }
 {
     push_line(out, b"semper contents", &[1])?;
     let memory = push_reads(alloc, out, list)?;
-    push_runs(out, memory.as_slice())?;
+    let runs = memory.runs(alloc)?;
+    push_runs(out, &runs)?;
     push_line(out, b"end", &[])
 }
 

@@ -2,6 +2,7 @@
 //! the text that tells them.
 #![tactic(auto)]
 
+mod chunks;
 mod contents;
 mod looks;
 mod memory;
@@ -12,7 +13,7 @@ mod runs;
 mod tests;
 mod writes;
 
-pub use contents::print_contents;
+pub use contents::{print_contents, push_contents};
 pub use memory::Memory;
-pub use replays::{AccessList, accesses};
-pub use sem_access::{Access, Look, Run};
+pub use replays::accesses;
+pub use sem_access::{Access, AccessList, Look, Run};

@@ -3,12 +3,54 @@ ghost use Rattle.std.specs.Prelude.{◌≡◌, ◌+◌, ◌≤◌, ℕ, Option};
 ghost use Rattle.sem_key.specs.declared.limits.TheConstants.{ADDRESSES};
 ghost use Rattle.sem_access.specs.LastWrites.{greater as greater_lem, looked};
 ghost use Rattle.sem_access.specs.Runs.{IsValidRun, AreRuns, entry_at};
-ghost use Rattle.sem_mem.specs.Writing.{shared as shared_lem, with_run as with_run_lem};
+ghost use Rattle.sem_mem.specs.Writing.{shared as shared_lem, with_run as with_run_lem, both as both_lem};
+ghost use Rattle.sem_mem.specs.Chunks.{together, AreChunks};
 
+use crate::runs::met_by;
 use sem_access::{Look, Run};
 
-/// What the range tells of the last writes of its addresses.
-pub fn look_in(runs: &[Run], base: u64, len: u32) -> Look
+/// What the range tells of the last writes of its addresses, by the runs of the chunks.
+pub fn look_through(chunks: &[Vec<Run>], base: u64, len: u32) -> Look
+    requires range { base + len ≤ ADDRESSES }
+    requires chunks { AreChunks chunks.now }
+    ensures { result ≡ looked (entry_at (together chunks.now)) base len }
+{
+    let mut found = Look {
+        written: 0,
+        newest: None,
+    };
+    for chunk in chunks {
+        found = both(found, look_into(chunk, base, len));
+    }
+    found
+}
+
+// What the range tells of them by the runs of a chunk.
+fn look_into(runs: &[Run], base: u64, len: u32) -> Look
+    requires range { base + len ≤ ADDRESSES }
+    requires runs { AreRuns runs.now }
+    ensures { result ≡ looked (entry_at runs.now) base len }
+{
+    let (from, to) = met_by(runs, base, base + u64::from(len));
+    look_in(&runs[from..to], base, len)
+}
+
+// What was found by some runs and by others that share no address with them.
+fn both(some: Look, more: Look) -> Look
+    requires { some.written + more.written ≤ ADDRESSES }
+    ensures { result ≡ both_lem some more }
+{
+    Look {
+        written: some.written + more.written,
+        newest: match some.newest {
+            Some(entry) => Some(greater(entry, more.newest)),
+            None => more.newest,
+        },
+    }
+}
+
+// What the range tells of the last writes of its addresses.
+fn look_in(runs: &[Run], base: u64, len: u32) -> Look
     requires range { base + len ≤ ADDRESSES }
     requires runs { AreRuns runs.now }
     ensures { result ≡ looked (entry_at runs.now) base len }

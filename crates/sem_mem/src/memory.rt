@@ -1,10 +1,11 @@
-ghost use Rattle.std.specs.Prelude.{◌≡◌, ◌+◌, ◌≤◌, [], ℕ, Some, if◌then◌else◌, OnOk, OnErr};
+ghost use Rattle.std.specs.Prelude.{◌≡◌, ◌+◌, ◌≤◌, [], ℕ, Some, if◌then◌else◌, IfOk, OnOk, OnErr};
 ghost use Rattle.sem_key.specs.declared.limits.TheConstants.{ADDRESSES};
 ghost use Rattle.sem_access.specs.LastWrites.{has_address, looked};
 ghost use Rattle.sem_access.specs.Runs.{AreRuns, entry_at, IsNewer};
+ghost use Rattle.sem_mem.specs.Chunks.{together};
 
-use crate::looks::look_in;
-use crate::runs::met_by;
+use crate::chunks::chunks_met;
+use crate::looks::look_through;
 use crate::writes::overwrite;
 use sem_access::{Look, Run};
 use sem_key::OutOfMemory;
@@ -12,21 +13,22 @@ use std::alloc::Global;
 use std::marker::Model;
 
 /// Who wrote each address of memory last, as the runs of the addresses.
+// They are kept in chunks, so that a write moves the runs of a chunk or two, and not all behind it.
 #[derive(Debug, Drop)]
 pub struct Memory {
-    runs: Vec<Run>,
+    chunks: Vec<Vec<Run>>,
 }
 
 impl Model for Memory {
     ghost use Rattle.std.specs.Prelude.{List};
     ghost use Rattle.sem_access.specs.declared.run.Run.{Run as RunData};
-    ghost use Rattle.sem_access.specs.Runs.{AreRuns};
+    ghost use Rattle.sem_mem.specs.Chunks.{together, AreChunks};
 
     ghost Value = { List RunData };
 
-    ghost view = { λ m. m.runs.items };
+    ghost view = { λ m. together m.chunks.items };
 
-    ghost invariant = { λ m. AreRuns m.runs.items };
+    ghost invariant = { λ m. AreChunks m.chunks.items };
 }
 
 impl Memory {
@@ -35,16 +37,16 @@ impl Memory {
         ensures { result ≡ [] }
     {
         Memory {
-            runs: Vec::new(alloc),
+            chunks: Vec::new(alloc),
         }
     }
 
     /// The runs, in rising order.
-    pub fn as_slice(&self) -> &[Run]
-        ensures runs { result.now ≡ self.now }
+    pub fn runs(&self, alloc: Global) -> Result<Vec<Run>, OutOfMemory>
+        ensures runs { IfOk result (λ v. v.items ≡ self.now) }
         ensures apart { AreRuns self.now }
     {
-        &self.runs
+        runs_of(alloc, &self.chunks)
     }
 
     /// The entry, which comes behind all that wrote before, writes the range. All other addresses
@@ -60,7 +62,7 @@ impl Memory {
         ensures unchanged { OnErr result (self.new ≡ self.old) }
     {
         if len > 0 {
-            overwrite(&mut self.runs, base, len, entry)?;
+            overwrite(&mut self.chunks, base, len, entry)?;
         }
         Ok(())
     }
@@ -72,7 +74,18 @@ impl Memory {
         requires { base + len ≤ ADDRESSES }
         ensures { result ≡ looked (entry_at self.now) base len }
     {
-        let (from, to) = met_by(&self.runs, base, base + u64::from(len));
-        look_in(&self.runs[from..to], base, len)
+        let (from, to) = chunks_met(&self.chunks, base, base + u64::from(len));
+        look_through(&self.chunks[from..to], base, len)
     }
+}
+
+// The runs of all chunks.
+fn runs_of(alloc: Global, chunks: &[Vec<Run>]) -> Result<Vec<Run>, OutOfMemory>
+    ensures { IfOk result (λ v. v.items ≡ together chunks.now) }
+{
+    let mut runs = Vec::new(alloc);
+    for chunk in chunks {
+        runs.extend_from_slice(chunk)?;
+    }
+    Ok(runs)
 }

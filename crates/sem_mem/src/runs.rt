@@ -15,8 +15,8 @@ pub fn met_by(runs: &[Run], base: u64, end: u64) -> (usize, usize)
     (from, to)
 }
 
-// Whether the run ends at the address or before it.
-fn ends_by(run: &Run, address: u64) -> bool
+/// Whether the run ends at the address or before it.
+pub fn ends_by(run: &Run, address: u64) -> bool
     ensures { result ≡ nat_le (run.now.base + run.now.len) address }
 {
     run.base <= address && run.len <= address - run.base

@@ -13,7 +13,7 @@ fn an_overwritten_middle_leaves_two_runs(rt: HostRuntime) -> Result<(), Fail> {
     memory.write(10, 20, 0)?;
     memory.write(15, 5, 1)?;
     let runs = [run(10, 5, 0), run(15, 5, 1), run(20, 10, 0)];
-    assert!(rt; memory.as_slice() == runs.as_slice());
+    assert!(rt; memory.runs(rt.alloc())?.as_slice() == runs.as_slice());
     let six = Look {
         written: 6,
         newest: Some(1),

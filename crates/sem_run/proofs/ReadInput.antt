@@ -23,7 +23,8 @@ use Rattle.sem_cli.specs.declared.statuses.Status.TheVariants.{Done, Usage, Trac
 use Rattle.sem_msg.specs.declared.entry.Entry.{Entry}
 use Rattle.sem_run.specs.Inputs.{Given, Asks, IsUntouched, ReadsPart, ReadsTrace, IsQuietlyRead}
 use Rattle.sem_run.specs.Reports.{IsVerdict, is_accepted, verdict_line}
-use Rattle.sem_run.specs.Readings.{IsAskable, Tells, IsVerdictTold}
+use Rattle.sem_access.specs.declared.access.Access.{Access}
+use Rattle.sem_run.specs.Readings.{AreFound, IsAskable, Tells, IsVerdictTold}
 use Rattle.sem_run.specs.Ends.{WouldEnd}
 
 -- nothing was read
@@ -114,12 +115,12 @@ input-verdict None read verdict is found = (read, tt, found)
 input-verdict (Some bytes) read verdict is found = (bytes, refl, same-verdict bytes read is verdict found)
 
 -- a verdict that is right accepts schedules alone
-pub askable : (bytes : List ℕ) (verdict : Verdict) → IsVerdict bytes verdict → IsAskable verdict
-askable bytes (Accepted T journal due) found = found.0.complete.schedule
-askable bytes (BadLine fault) found = tt
-askable bytes (BadEntry journal n entered replayed) found = tt
-askable bytes (NotOver journal next) found = tt
-askable bytes (BadAudit line due) found = tt
+pub askable : (bytes : List ℕ) (question : Question) (verdict : Verdict) (xs : List Access) → IsVerdict bytes verdict → AreFound question verdict xs → IsAskable question verdict xs
+askable bytes question (Accepted T journal due) xs found are = (found.0.complete.schedule, are)
+askable bytes question (BadLine fault) xs found are = tt
+askable bytes question (BadEntry journal n entered replayed) xs found are = tt
+askable bytes question (NotOver journal next) xs found are = tt
+askable bytes question (BadAudit line due) xs found are = tt
 
 -- what is not accepted is told by its line
 refused-line : (question : Question) (verdict : Verdict) (text : List ℕ) → is_accepted verdict ≡ false → Tells question verdict text → text ≡ verdict_line verdict

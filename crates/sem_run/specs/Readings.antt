@@ -12,6 +12,9 @@ use Rattle.sem_audit.specs.HeldKeys.{report}
 use Rattle.sem_audit.specs.Straying.{stray_count}
 use Rattle.sem_cli.specs.declared.forms.Command.{Command}
 use Rattle.sem_cli.specs.declared.forms.Question.{Question}
+use Rattle.sem_cli.specs.declared.forms.Question.TheVariants.{Check, Contents}
+use Rattle.sem_access.specs.declared.access.Access.{Access}
+use Rattle.sem_access.specs.Accesses.{accesses}
 use Rattle.sem_cli.specs.declared.statuses.Status.{Status}
 use Rattle.sem_cli.specs.declared.statuses.Status.TheVariants.{Done, Usage, TraceRefused, ReadFault, WriteFault, Memory, ReportRefused}
 use Rattle.sem_cli.specs.Messages.{refused_line}
@@ -79,13 +82,28 @@ IsLoadTold T J vpes calls text ReportRefused = ⊥
 abbrev pub AreAfter : Setup → List Entry → List KernelValue → Type 0
 AreAfter T J kernels = map (λ k. k.side) kernels ≡ (world_after T J).sides
 
--- a report that is accepted tells a schedule, so that questions about it have an answer
-abbrev pub IsAskable : Verdict → Type 0
-IsAskable (Accepted T journal due) = IsSchedule T journal.entries
-IsAskable (BadLine fault) = Unit {0}
-IsAskable (BadEntry journal n entered replayed) = Unit {0}
-IsAskable (NotOver journal next) = Unit {0}
-IsAskable (BadAudit line due) = Unit {0}
+-- what is found of a schedule that a question is about
+abbrev pub FoundFor : Question → Setup → List Entry → List Access → Type 0
+FoundFor Check T J xs = Unit {0}
+FoundFor Contents T J xs = xs ≡ accesses T J
+
+-- it is there if the report is accepted
+abbrev pub AreFound : Question → Verdict → List Access → Type 0
+AreFound question (Accepted T journal due) xs = FoundFor question T journal.entries xs
+AreFound question (BadLine fault) xs = Unit {0}
+AreFound question (BadEntry journal n entered replayed) xs = Unit {0}
+AreFound question (NotOver journal next) xs = Unit {0}
+AreFound question (BadAudit line due) xs = Unit {0}
+
+-- a report that is accepted tells a schedule, and what is found of it is there, so that the question
+-- has an answer
+abbrev pub IsAskable : Question → Verdict → List Access → Type 0
+IsAskable question (Accepted T journal due) xs =
+    IsSchedule T journal.entries × FoundFor question T journal.entries xs
+IsAskable question (BadLine fault) xs = Unit {0}
+IsAskable question (BadEntry journal n entered replayed) xs = Unit {0}
+IsAskable question (NotOver journal next) xs = Unit {0}
+IsAskable question (BadAudit line due) xs = Unit {0}
 
 -- the text answers the question where the report is accepted, else it tells the verdict
 abbrev pub Tells : Question → Verdict → List ℕ → Type 0

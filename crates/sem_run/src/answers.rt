@@ -5,14 +5,15 @@ ghost use Rattle.sem_cli.specs.declared.forms.Command.TheVariants.{Ask};
 ghost use Rattle.sem_run.specs.Inputs.{given};
 ghost use Rattle.sem_run.specs.Reports.{is_accepted as is_accepted_lem};
 ghost use Rattle.sem_run.specs.Ends.{IsAnswer};
-ghost use Rattle.sem_run.specs.Readings.{Responds, IsAskable, Tells, TellsVerdict};
+ghost use Rattle.sem_run.specs.Readings.{Responds, IsAskable, FoundFor, Tells, TellsVerdict};
 
-use crate::judging::judge;
+use crate::judging::judge_for;
 use crate::response::Response;
+use sem_access::Access;
 use sem_cli::{Question, Status, ok, push_bad_line, push_differing, push_going_on};
 use sem_io::{Source, read_all};
 use sem_key::OutOfMemory;
-use sem_mem::print_contents;
+use sem_mem::push_contents;
 use sem_msg::{Journal, Setup};
 use sem_report::Verdict;
 use sem_trace::{Cause, TraceFault};
@@ -30,19 +31,19 @@ pub fn answer<S: Source>(alloc: Global, question: Question, input: &mut S) -> Re
         Ok(bytes) => bytes,
         Err(error) => return Response::unread(alloc, error),
     };
-    match judge(alloc, &bytes) {
-        Ok(verdict) => tell_verdict(alloc, question, &verdict),
+    match judge_for(alloc, &bytes, question) {
+        Ok((verdict, found)) => tell_verdict(alloc, question, &verdict, found.as_slice()),
         Err(_) => Response::out_of_memory(alloc, Journal::new(alloc)),
     }
 }
 
 // The response that answers the question or tells the verdict.
-fn tell_verdict(alloc: Global, question: Question, verdict: &Verdict) -> Response
-    requires { IsAskable verdict.now }
+fn tell_verdict(alloc: Global, question: Question, verdict: &Verdict, found: &[Access]) -> Response
+    requires { IsAskable question verdict.now found.now }
     ensures { TellsVerdict question verdict.now result }
 {
     let mut text = Vec::new(alloc);
-    match push_verdict(alloc, &mut text, question, verdict) {
+    match push_verdict(alloc, &mut text, question, verdict, found) {
         Ok(()) if is_accepted(verdict) => Response::told(alloc, Status::Done, text),
         Ok(()) => Response::told(alloc, Status::ReportRefused, text),
         Err(_) => Response::out_of_memory(alloc, Journal::new(alloc)),
@@ -62,14 +63,15 @@ fn push_verdict(
     out: &mut Vec<u8>,
     question: Question,
     verdict: &Verdict,
+    found: &[Access],
 ) -> Result<(), OutOfMemory>
-    requires askable { IsAskable verdict.now }
+    requires askable { IsAskable question verdict.now found.now }
     requires empty { out.old.items ≡ [] }
     ensures { OnOk result (Tells question verdict.now out.new.items) }
 {
     match verdict {
         Verdict::Accepted { setup, journal, .. } => {
-            push_answer(alloc, out, question, setup, journal)
+            push_answer(alloc, out, question, setup, journal, found)
         }
         Verdict::BadLine { fault } => push_bad_line(out, fault),
         Verdict::BadEntry {
@@ -96,13 +98,17 @@ fn push_answer(
     question: Question,
     setup: &Setup,
     journal: &Journal,
+    found: &[Access],
 ) -> Result<(), OutOfMemory>
     requires schedule { IsSchedule setup.now journal.now.entries }
+    requires found { FoundFor question setup.now journal.now.entries found.now }
     requires empty { out.old.items ≡ [] }
     ensures { OnOk result (IsAnswer question setup.now journal.now.entries out.new.items) }
 {
+    // So that the proof knows what a setup keeps.
+    let _ = &setup.vpes;
     match question {
         Question::Check => out.extend_from_slice(ok()),
-        Question::Contents => print_contents(alloc, setup, journal, out),
+        Question::Contents => push_contents(alloc, out, found),
     }
 }

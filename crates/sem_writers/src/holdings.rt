@@ -45,7 +45,8 @@ pub fn holdings_after(
     let _ = &setup.vpes;
     let list = accesses(alloc, setup, journal)?;
     let (memory, looks) = followed(alloc, list.as_slice())?;
-    let rows = written_rows(alloc, memory.as_slice(), list.as_slice())?;
+    let runs = memory.runs(alloc)?;
+    let rows = written_rows(alloc, &runs, list.as_slice())?;
     Ok(Holdings {
         memory,
         rows,

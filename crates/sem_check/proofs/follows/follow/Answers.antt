@@ -1,20 +1,21 @@
-use Rattle.std.proofs.Common.{sym, ◌∙◌, arith}
-use Rattle.std.proofs.lemmas.Bool.{false≢true}
-use Rattle.sem_check.proofs.Following.{following-start, following-more, following-differs, following-all}
+use Rattle.std.proofs.Common.{arith}
+use Rattle.sem_check.proofs.Following.{following-start, following-step, differs-there, following-all}
 use Rattle.sem_check.proofs.follows.follow.Goals as goal
 
-pub loop-entry-init : goal.loop-entry-init
-loop-entry-init c = following-start c.args.entries.now c.args.world.now c.requires
+pub loop-place-init : goal.loop-place-init
+loop-place-init c = following-start c.args.entries.now c.args.world.now c.requires
 
-pub returns-then-not-is_made-clause-differs : goal.returns-then-not-is_made-clause-differs
-returns-then-not-is_made-clause-differs c =
-    let l = c.loop-entry in
-    following-differs c.args.world.now.setup c.args.entries.now l.world l.entry l.invariant c.index-entries-entry.result c.in-Ok.made (omega arith) c.index-entries-entry.is c.in-Ok.ensures.made (λ same. false≢true (sym c.if-not-is_made.true ∙ c.is_made.ensures.1 same))
+pub returns-in-Some-clause-differs : goal.returns-in-Some-clause-differs
+returns-in-Some-clause-differs c =
+    let l = c.loop-place in
+    let d = c.in-Some.difference in
+    let is = rw c.in-Some.is at c.in_ok-difference.ensures.other in
+    differs-there c.args.world.now.setup c.args.entries.now l.world l.place l.invariant c.index-entries-place.result d.entry d.entered d.replayed (omega arith) c.index-entries-place.is is.0 is.1 is.2
 
-pub loop-entry-preserved : goal.loop-entry-preserved
-loop-entry-preserved c =
-    let l = c.loop-entry in
-    following-more c.args.world.now.setup c.args.entries.now l.world l.entry l.invariant c.index-entries-entry.result c.in-Ok.made c.make_entry.new.world (omega arith) c.index-entries-entry.is c.in-Ok.ensures.made c.in-Ok.ensures.after (c.is_made.ensures.0 c.if-not-is_made.false)
+pub loop-place-preserved : goal.loop-place-preserved
+loop-place-preserved c =
+    let l = c.loop-place in
+    following-step c.args.world.now.setup c.args.entries.now l.world l.place l.invariant c.index-entries-place.result c.take_step.new.world (omega arith) c.index-entries-place.is (c.in_ok-difference.ensures.same c.in_default.is)
 
 pub returns-clause-all : goal.returns-clause-all
-returns-clause-all c = λ none. following-all c.args.world.now.setup c.args.entries.now c.loop-entry.world c.loop-entry.entry c.loop-entry.invariant (omega arith)
+returns-clause-all c = λ none. following-all c.args.world.now.setup c.args.entries.now c.loop-place.world c.loop-place.place c.loop-place.invariant (omega arith)

@@ -6,7 +6,7 @@ use Rattle.sem_mem.proofs.contents.push_contents.Goals as goal
 
 pub returns : goal.returns
 returns c = on_ok_weaker c.push_line-2.result (λ ended n before.
-    whole-text c.args.list.now n c.as_slice.result.now c.args.out.now.items c.push_line.new.out.items c.push_reads.new.out.items c.push_runs.new.out.items c.push_line-2.new.out.items before
-    (subst AreRuns (sym c.as_slice.ensures.runs) c.as_slice.ensures.apart)
-    (λ a. ap (λ rs. entry_at rs a) c.as_slice.ensures.runs ∙ c.in_ok-memory.ensures.memory a)
+    whole-text c.args.list.now n c.deref.result.now c.args.out.now.items c.push_line.new.out.items c.push_reads.new.out.items c.push_runs.new.out.items c.push_line-2.new.out.items before
+    (subst AreRuns (sym (c.deref.ensures.value ∙ c.in_ok-runs.ensures.runs)) c.in_ok-runs.ensures.apart)
+    (λ a. ap (λ rs. entry_at rs a) (c.deref.ensures.value ∙ c.in_ok-runs.ensures.runs) ∙ c.in_ok-memory.ensures.memory a)
     c.in_ok-push_line.ensures.ok c.in_ok-memory.ensures.text c.in_ok-push_runs.ensures ended) c.push_line-2.ensures.ok

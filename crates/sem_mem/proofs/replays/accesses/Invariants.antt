@@ -4,8 +4,8 @@ use Rattle.sem_access.specs.Accesses.{accesses}
 use Rattle.sem_mem.proofs.replays.accesses.Given as goal
 
 -- the world after the first entries, and their accesses
-abbrev pub invariant-loop-at : goal.invariant-loop-at
-invariant-loop-at l = record {
-  world : l.world ≡ record { setup = l.setup; world = world_after l.setup (take l.at l.journal.entries) };
-  found : l.found ≡ accesses l.setup (take l.at l.journal.entries);
+abbrev pub invariant-loop-place : goal.invariant-loop-place
+invariant-loop-place l = record {
+  world : l.world ≡ record { setup = l.setup; world = world_after l.setup (take l.place l.journal.entries) };
+  found : l.found ≡ accesses l.setup (take l.place l.journal.entries);
 }

@@ -33,4 +33,4 @@ returns-clause-runs c =
     c.in_ok-memory.ensures.memory a
     ∙ (ap (greatest_entry (is_write_at a)) (c.as_slice.ensures ∙ c.in_ok-list.ensures)
     ∙ sym (last-of-all (accesses T J) (length J) a (all-before T J))) in
-    c.in_ok-rows.ensures.runs ∙ (c.as_slice-2.ensures.runs ∙ kept-runs last c.in_ok-memory.memory c.as_slice-2.ensures.apart tells)
+    c.in_ok-rows.ensures.runs ∙ (c.deref.ensures.value ∙ (c.in_ok-runs.ensures.runs ∙ kept-runs last c.in_ok-memory.memory c.in_ok-runs.ensures.apart tells))

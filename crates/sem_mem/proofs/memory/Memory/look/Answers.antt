@@ -1,16 +1,17 @@
 use Rattle.std.proofs.Common.{◌+◌, sym, ◌∙◌}
-use Rattle.sem_access.specs.LastWrites.{looked}
-use Rattle.sem_mem.specs.Meeting.{IsMetPart}
-use Rattle.sem_mem.proofs.Meeting.{runs-within, looked-middle}
+use Rattle.sem_mem.specs.Chunks.{AreMetChunks}
+use Rattle.sem_mem.proofs.Chunking.{chunks-within, looked-chunks}
 use Rattle.sem_mem.proofs.memory.Memory.look.Goals as goal
 
-pub look_in-requires-clause-runs : goal.look_in-requires-clause-runs
-look_in-requires-clause-runs c =
-    runs-within c.met_by-from.result.0 c.met_by-from.result.1 c.deref-2.result.now (rw c.deref-2.ensures.value c.self.invariant)
+pub look_through-requires-clause-chunks : goal.look_through-requires-clause-chunks
+look_through-requires-clause-chunks c =
+    let cs = c.self.inside.chunks.items in
+    let met : AreMetChunks cs c.args.base (c.args.base + c.args.len) c.chunks_met-from.result.0 c.chunks_met-from.result.1 = rw (sym c.from.ensures, sym c.deref.ensures.value) c.chunks_met-from.ensures in
+    rw c.deref-2.ensures.value (chunks-within cs c.chunks_met-from.result.0 c.chunks_met-from.result.1 met.order c.self.invariant)
 
--- the runs that the range meets tell of it what all runs tell
+-- the chunks that the range meets tell of it what all tell
 pub returns : goal.returns
 returns c =
-    let rs = c.self.inside.runs.items in
-    let met : IsMetPart rs c.args.base (c.args.base + c.args.len) c.met_by-from.result.0 c.met_by-from.result.1 = rw (sym c.from.ensures, sym c.deref.ensures.value) c.met_by-from.ensures in
-    rw (sym c.self.view_is) (rw c.deref-2.ensures.value at c.look_in.ensures ∙ looked-middle rs c.args.base c.args.len c.met_by-from.result.0 c.met_by-from.result.1 c.self.invariant met)
+    let cs = c.self.inside.chunks.items in
+    let met : AreMetChunks cs c.args.base (c.args.base + c.args.len) c.chunks_met-from.result.0 c.chunks_met-from.result.1 = rw (sym c.from.ensures, sym c.deref.ensures.value) c.chunks_met-from.ensures in
+    rw (sym c.self.view_is) (rw c.deref-2.ensures.value at c.look_through.ensures ∙ looked-chunks cs c.args.base c.args.len c.chunks_met-from.result.0 c.chunks_met-from.result.1 c.self.invariant met)
