@@ -17,7 +17,7 @@ use Rattle.sem_msg.specs.Audits.{held_pairs}
 use Rattle.sem_machine.specs.Sides.{Side}
 use Rattle.sem_kernel.specs.KernelValue.{KernelValue}
 use Rattle.sem_key.proofs.InTurns.{in_turn-append}
-use Rattle.sem_audit.proofs.Reading.{take-read_more}
+use Rattle.sem_grants.proofs.Reading.{take-read_more}
 use Rattle.sem_audit.specs.HeldKeys.{held}
 use Rattle.sem_audit.specs.Holding.{holding, IsInOrder, with_held, with_caps}
 

@@ -1,5 +1,4 @@
 pub mod HeldKeys
 pub mod Holding
-pub mod Ending
 pub mod Straying
 pub mod Losing

@@ -3,9 +3,8 @@ ghost use Rattle.sem_msg.specs.Audits.{held_pairs};
 ghost use Rattle.sem_machine.specs.Journals.{made as made_lem, cut};
 ghost use Rattle.sem_audit.specs.HeldKeys.{held};
 
-use crate::cuts::cut_among;
 use crate::holds::held_list;
-use crate::makes::made_keys;
+use sem_grants::{cut_among, made_keys};
 use sem_kernel::Kernel;
 use sem_key::OutOfMemory;
 use sem_msg::{Audit, Journal, Setup};

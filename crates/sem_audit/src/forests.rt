@@ -7,10 +7,9 @@ ghost use Rattle.sem_machine.specs.Journals.{forest, grants};
 ghost use Rattle.sem_machine.specs.Schedules.{IsSchedule};
 ghost use Rattle.sem_audit.specs.Losing.{HasWords, lost, has_word as has_word_lem};
 
-use crate::cuts::cut_among;
-use crate::makes::made_keys;
 use crate::words::{add_word, has_word, words_of};
 use indexmap::IndexSet;
+use sem_grants::{cut_among, made_keys};
 use sem_key::{Key, OutOfMemory};
 use sem_msg::{Entry, Journal, Setup};
 use std::alloc::Global;

@@ -3,19 +3,15 @@
 #![tactic(auto)]
 
 mod audits;
-mod cuts;
 mod forests;
 mod holds;
 mod laws;
-mod makes;
 mod replays;
 mod strays;
 mod words;
 
 pub use audits::audit_of;
-pub use cuts::cut_keys;
 pub use holds::held_list;
 pub use laws::{all_calls_are_answered, nothing_is_stray};
-pub use makes::made_keys;
 pub use replays::audit;
 pub use strays::{answered, stray, stray_of};

@@ -1,4 +1,5 @@
-use sem_audit::{audit_of, cut_keys, held_list, made_keys};
+use sem_audit::{audit_of, held_list};
+use sem_grants::{cut_keys, made_keys};
 use sem_kernel::boot_kernels;
 use sem_key::{Key, Kind};
 use sem_msg::{Act, Audit, Call, Detail, Entry, Event, Held, HeldList, Journal, Reply, Setup};

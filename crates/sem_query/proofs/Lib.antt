@@ -14,3 +14,7 @@ pub mod Sparing
 pub mod Spared
 pub mod OneText
 pub mod Replied
+pub mod Lines
+pub mod Odd
+pub mod Searching
+pub mod Parents

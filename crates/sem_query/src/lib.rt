@@ -3,6 +3,12 @@
 #![tactic(auto)]
 
 mod holder;
+mod index;
 pub mod laws;
+mod life;
+mod paths;
 
 pub use holder::Holder;
+pub use index::Index;
+pub use life::{Life, Marks};
+pub use paths::path;

@@ -1,9 +1,8 @@
 // The rows of a forest.
-ghost use Rattle.std.specs.Prelude.{◌≡◌, ◌++◌, map, take, IfOk, OnOk};
-ghost use Rattle.std.specs.Option.{option_to_list};
+ghost use Rattle.std.specs.Prelude.{◌≡◌, map, take, IfOk};
 ghost use Rattle.sem_machine.specs.Journals.{grants, made, parent_in};
 
-use sem_audit::made_keys;
+use sem_grants::{made_keys, push_grant};
 use sem_key::{Key, OutOfMemory, same_key};
 use sem_msg::{Entry, Journal, Setup};
 use std::alloc::Global;
@@ -54,16 +53,6 @@ fn granted(alloc: Global, entries: &[Entry]) -> Result<Vec<(Key, Key)>, OutOfMem
         push_grant(&mut granted, entry)?;
     }
     Ok(granted)
-}
-
-// Appends the grant of the entry, if there is one.
-fn push_grant(granted: &mut Vec<(Key, Key)>, entry: &Entry) -> Result<(), OutOfMemory>
-    ensures { OnOk result (granted.new.items ≡ granted.old.items ++ option_to_list entry.now.grant) }
-{
-    if let Some(grant) = entry.grant {
-        granted.push(grant)?;
-    }
-    Ok(())
 }
 
 // A row for each of the keys, where there were these grants.

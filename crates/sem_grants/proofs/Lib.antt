@@ -1,0 +1,4 @@
+pub mod Reading
+pub mod Roots
+pub mod Ended
+pub mod CutOff

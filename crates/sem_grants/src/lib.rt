@@ -1,0 +1,8 @@
+//! What the grants of a journal tell of its keys: which were made, and which of them were cut off.
+#![tactic(auto)]
+
+mod cuts;
+mod makes;
+
+pub use cuts::{cut_among, cut_keys, push_grant};
+pub use makes::made_keys;

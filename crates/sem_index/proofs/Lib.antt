@@ -1,4 +1,0 @@
-pub mod Lines
-pub mod Odd
-pub mod Searching
-pub mod Parents

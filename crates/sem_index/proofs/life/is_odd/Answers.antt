@@ -1,6 +1,0 @@
-use Rattle.std.proofs.Common.{sym}
-use Rattle.sem_index.proofs.Odd.{odd-rest}
-use Rattle.sem_index.proofs.life.is_odd.Goals as goal
-
-pub returns : goal.returns
-returns c = sym (odd-rest c.args.number)

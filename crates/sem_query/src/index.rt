@@ -1,0 +1,79 @@
+ghost use Rattle.std.specs.Prelude.{◌≡◌, [], find, option_copied, IfOk, IfErr};
+ghost use Rattle.sem_key.specs.KeyName.{key_eq};
+ghost use Rattle.sem_query.specs.Lives.{told_of};
+ghost use Rattle.sem_query.specs.Searching.{AreLives, IsLifeAt, IsGapFor};
+
+use crate::life::Life;
+use sem_key::{Key, pack};
+use crate::holder::Holder;
+use std::alloc::Global;
+use std::marker::Model;
+
+/// The lives of keys, in rising key order.
+#[derive(Debug, Drop)]
+pub struct Index {
+    lives: Vec<Life>,
+}
+
+impl Model for Index {
+    ghost use Rattle.std.specs.Prelude.{List};
+    ghost use Rattle.sem_query.specs.Lives.{KeyLife};
+    ghost use Rattle.sem_query.specs.Searching.{AreLives};
+
+    ghost Value = { List KeyLife };
+
+    ghost view = { λ x. x.lives.items };
+
+    ghost invariant = { λ x. AreLives x.lives.items };
+}
+
+impl Index {
+    /// No lives. Takes no memory.
+    pub(crate) fn new(alloc: Global) -> Index
+        ensures { result ≡ [] }
+    {
+        Index {
+            lives: Vec::new(alloc),
+        }
+    }
+
+    /// The lives, in rising key order.
+    pub fn as_slice(&self) -> &[Life]
+        ensures { result.now ≡ self.now }
+    {
+        &self.lives
+    }
+
+    /// Where the key is after the first `n` entries. Takes no memory.
+    pub fn holder(&self, key: Key, n: u64) -> Holder
+        ensures { result ≡ told_of self.now key n }
+    {
+        match self.life(key) {
+            Some(life) => life.told(n),
+            None => Holder::No,
+        }
+    }
+
+    /// The life of the key; none where it has none. Takes no memory.
+    pub fn life(&self, key: Key) -> Option<&Life>
+        ensures { option_copied result ≡ find (λ l. key_eq l.key key) self.now }
+    {
+        match self.place(key) {
+            Ok(at) => {
+                let lives = self.as_slice();
+                Some(&lives[at])
+            }
+            Err(_) => None,
+        }
+    }
+
+    // Where the life of the key stands in the list, or where it would go.
+    fn place(&self, key: Key) -> Result<usize, usize>
+        ensures found { IfOk result (IsLifeAt self.now key) }
+        ensures absent { IfErr result (IsGapFor self.now key) }
+        ensures lives { AreLives self.now }
+    {
+        self.lives
+            .binary_search_by_key(&pack(key), |life| pack(life.key))
+    }
+}

@@ -1,0 +1,95 @@
+// The life of one key.
+ghost use Rattle.std.specs.Prelude.{◌≡◌, nat_lt, count_by};
+ghost use Rattle.sem_query.specs.Lives.{is_below as is_below_lem, is_ungranted as is_ungranted_lem, is_odd as is_odd_lem, held_at as held_at_lem, told as told_lem};
+
+use sem_key::Key;
+use sem_msg::Seq;
+use crate::holder::Holder;
+use std::marker::Model;
+
+/// Numbers of entries, in rising order.
+pub type Marks = Seq<u64>;
+
+/// The life of a key, as a journal tells it.
+#[derive(Debug, Drop)]
+pub struct Life {
+    pub key: Key,
+    /// The selector at which it was held; 0 where it was never held.
+    pub sel: u8,
+    /// The entry that granted it; none for a root or service.
+    pub granted: Option<u64>,
+    /// The entry by which it became held; none for a root or service, and where it was never held.
+    pub held: Option<u64>,
+    /// The entries before and after which it is held, and that change whether it is marked.
+    pub marked: Marks,
+    /// The entry by which it stopped being live.
+    pub gone: Option<u64>,
+}
+
+impl Model for Life {
+    ghost use Rattle.sem_query.specs.Lives.{KeyLife};
+
+    ghost Value = { KeyLife };
+
+    ghost view = { λ l. record { key = l.key; sel = l.sel; granted = l.granted; held = l.held; marked = l.marked; gone = l.gone } };
+}
+
+impl Life {
+    /// Where the key is after the first `n` entries. Takes no memory.
+    pub fn told(&self, n: u64) -> Holder
+        ensures { result ≡ told_lem n self.now }
+    {
+        if is_ungranted(n, self.granted) || is_below(n, self.gone) {
+            Holder::No
+        } else if self.granted.is_some() && !is_below(n, self.held) {
+            Holder::Way
+        } else {
+            held_at(is_odd(changes_below(&self.marked, n)), self.sel)
+        }
+    }
+}
+
+// Whether the entry is there and below `n`.
+fn is_below(n: u64, entry: Option<u64>) -> bool
+    ensures { result ≡ is_below_lem n entry }
+{
+    match entry {
+        Some(at) => at < n,
+        None => false,
+    }
+}
+
+// Whether the entry that grants is `n` or a later one.
+fn is_ungranted(n: u64, entry: Option<u64>) -> bool
+    ensures { result ≡ is_ungranted_lem n entry }
+{
+    match entry {
+        Some(at) => !(at < n),
+        None => false,
+    }
+}
+
+// How many changes of the mark are below `n`.
+fn changes_below(marked: &Marks, n: u64) -> usize
+    ensures { result ≡ count_by (λ m. nat_lt m n) marked.now }
+{
+    marked.as_slice().iter().filter(|at| **at < n).count()
+}
+
+// Whether the number is odd.
+fn is_odd(number: usize) -> bool
+    ensures { result ≡ is_odd_lem number }
+{
+    number % 2 == 1
+}
+
+// Where a held key stands.
+fn held_at(is_marked: bool, sel: u8) -> Holder
+    ensures { result ≡ held_at_lem is_marked sel }
+{
+    if is_marked {
+        Holder::Marked(sel)
+    } else {
+        Holder::Unmarked(sel)
+    }
+}
