@@ -1,12 +1,10 @@
 -- Runs one behind another: where some end, those behind them begin.
-use Rattle.std.proofs.Common.{◌≡◌, ℕ, ◌+◌, ◌-◌, ◌≤◌, ◌<◌, List, [], ◌∷◌, ◌++◌, length, Option, Some, None, slice_get, refl, ◌∙◌, ap, subst, suc, inl, inr, arith, ◌⊎◌}
+use Rattle.std.proofs.Common.{◌≡◌, ℕ, ◌+◌, ◌≤◌, ◌<◌, List, [], ◌∷◌, ◌++◌, Option, Some, None, refl, ◌∙◌, inl, inr, arith, ◌⊎◌}
 use Rattle.std.specs.List.{All}
 use Rattle.std.proofs.lemmas.Bool.{cases_lt}
-use Rattle.std.proofs.lemmas.Option.{same_Some}
 use Rattle.std.proofs.lemmas.List.Elements.{All-nil, All-cons, All-head, All-tail, All-weaker}
 use Rattle.sem_access.specs.declared.run.Run.{Run}
 use Rattle.sem_access.specs.Runs.{AreRunsBehind, AreRuns, entry_at}
-use Rattle.sem_mem.specs.Chunks.{end_behind}
 use Rattle.sem_mem.proofs.KeptRuns.{first-run, first-apart, more-runs, no-runs, run-before, entry-later, below-range, behind-range}
 
 abbrev pub EndsBy : ℕ → Run → Type 0
@@ -14,6 +12,11 @@ EndsBy a r = r.base + r.len ≤ a
 
 abbrev pub BeginsFrom : ℕ → Run → Type 0
 BeginsFrom a r = a ≤ r.base
+
+-- where the last of some runs ends, or that address if there is none
+abbrev pub end_behind : ℕ → List Run → ℕ
+end_behind a [] = a
+end_behind a (r ∷ rs) = end_behind (r.base + r.len) rs
 
 -- Some of the runs.
 
@@ -61,14 +64,6 @@ begin-behind b e (r ∷ rs) are =
     let apart = first-apart b e r rs are in
     let later : (q : Run) → BeginsFrom (r.base + r.len) q → BeginsFrom b q = λ q from. omega (arith, apart.0, from) in
     All-cons (BeginsFrom b) r rs apart.0 (All-weaker (BeginsFrom (r.base + r.len)) (BeginsFrom b) later rs (begin-behind (r.base + r.len) (Some r.entry) rs (more-runs b e r rs are)))
-
--- the last tells where they end
-pub end-of-last : (b : ℕ) (rs : List Run) (r : Run) → slice_get rs (length rs - 1) ≡ Some r → end_behind b rs ≡ r.base + r.len
-end-of-last b [] r is = absurd (cc)
-end-of-last b (q ∷ []) r is = ap (λ (p : Run). p.base + p.len) (same_Some q r is)
-end-of-last b (q ∷ p ∷ rs) r is =
-    let place : length (q ∷ p ∷ rs) - 1 ≡ suc (length (p ∷ rs) - 1) = omega arith in
-    end-of-last (q.base + q.len) (p ∷ rs) r (subst (λ n. slice_get (q ∷ p ∷ rs) n ≡ Some r) place is)
 
 -- What they do not tell.
 

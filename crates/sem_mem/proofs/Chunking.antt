@@ -1,20 +1,20 @@
 -- Chunks of runs: they rise, and what a range meets lies in those that its two searches find.
 use Rattle.std.proofs.Common.{◌≡◌, ℕ, zero, suc, ◌+◌, ◌-◌, ◌≤◌, ◌<◌, true, false, List, [], ◌∷◌, ◌++◌, length, take, drop, get_or, Option, Some, None, refl, sym, ◌∙◌, ap, subst, arith}
 use Rattle.std.specs.Global.{Vec}
-use Rattle.std.specs.List.{All, filter_map, slice_range, slice_set, splice}
+use Rattle.std.specs.List.{All, slice_range, slice_set, splice}
 use Rattle.std.specs.List.Sorted.{IsNonDecreasingBy, IsPartitionPoint}
 use Rattle.std.specs.Prelude.{nat_le, nat_lt, min}
 use Rattle.std.proofs.lemmas.Bool.{leb-true, ltb-false}
 use Rattle.std.proofs.lemmas.List.Concat.{flat_map-append}
 use Rattle.std.proofs.Math.Seq.{take-nil, drop-nil}
 use Rattle.std.proofs.lemmas.List.{append-nil, set_split, take_more, take-append-drop, get_or-take, get_or-drop, length-take, length-drop}
-use Rattle.std.proofs.lemmas.List.Elements.{All-nil, All-cons, All-head, All-tail, All-append, All-weaker, All-get_or, All-from_get_or, All-take, All-drop, filter_map-append}
+use Rattle.std.proofs.lemmas.List.Elements.{All-nil, All-cons, All-head, All-tail, All-append, All-weaker, All-get_or, All-from_get_or, All-take, All-drop}
 use Rattle.sem_access.specs.declared.run.Run.{Run}
 use Rattle.sem_access.specs.LastWrites.{looked}
 use Rattle.sem_access.specs.Runs.{IsValidRun, AreRunsBehind, AreRuns, entry_at}
-use Rattle.sem_mem.specs.Chunks.{together, HasRun, AreChunks, beginning, end_behind, AreMetChunks}
+use Rattle.sem_mem.specs.Chunks.{together, IsSized, AreChunks, beginning, AreMetChunks}
 use Rattle.sem_mem.proofs.KeptRuns.{each-run, first-apart, more-runs}
-use Rattle.sem_mem.proofs.Behind.{EndsBy, BeginsFrom, end-from, ends-by, begin-behind, entry_behind, runs-before, runs-behind, some-runs}
+use Rattle.sem_mem.proofs.Behind.{EndsBy, BeginsFrom, end_behind, end-from, ends-by, begin-behind, entry_behind, runs-before, runs-behind, some-runs}
 use Rattle.sem_mem.specs.Writing.{overwritten}
 use Rattle.sem_mem.proofs.Meeting.{in-three, overwritten-within, looked-within}
 
@@ -47,13 +47,13 @@ part b e (r ∷ rs) some are =
       refl,
     )
 
-rise : (b : ℕ) (e : Option ℕ) (cs : List (Vec Run)) → All HasRun cs → AreRunsBehind b e (together cs) → Rise b cs × All IsChunk cs
+rise : (b : ℕ) (e : Option ℕ) (cs : List (Vec Run)) → All IsSized cs → AreRunsBehind b e (together cs) → Rise b cs × All IsChunk cs
 unfolding Rise
-rise b e [] some are = (tt, All-nil IsChunk)
-rise b e (c ∷ cs) some are =
-    let is = part b e c.items (All-head HasRun c cs some) (runs-before b e c.items (together cs) are) in
+rise b e [] sized are = (tt, All-nil IsChunk)
+rise b e (c ∷ cs) sized are =
+    let is = part b e c.items (All-head IsSized c cs sized).0 (runs-before b e c.items (together cs) are) in
     let behind = subst (λ n. AreRunsBehind n (entry_behind e c.items) (together cs)) is.4 (runs-behind b e c.items (together cs) are) in
-    let rest = rise (end_behind 0 c.items) (entry_behind e c.items) cs (All-tail HasRun c cs some) behind in
+    let rest = rise (end_behind 0 c.items) (entry_behind e c.items) cs (All-tail IsSized c cs sized) behind in
     ((is.0, is.1, rest.0), All-cons IsChunk c cs (is.2, is.3) rest.1)
 
 first-begins : (b : ℕ) (c : Vec Run) (cs : List (Vec Run)) → Rise b (c ∷ cs) → (b ≤ beginning c.items) × (beginning c.items ≤ end_behind 0 c.items)
@@ -72,18 +72,23 @@ begins-at b (c ∷ cs) up (suc k) d within =
     let later = begins-at (end_behind 0 c.items) cs (more-chunks b c cs up) k d (omega (arith, within)) in
     (omega (arith, first.0, first.1, later.0), later.1)
 
-rises : (b : ℕ) (cs : List (Vec Run)) → Rise b cs → (i j : ℕ) (d : Vec Run) → i ≤ j → j < length cs
-    → (beginning (get_or cs i d).items ≤ beginning (get_or cs j d).items) × (end_behind 0 (get_or cs i d).items ≤ end_behind 0 (get_or cs j d).items)
+rises : (b : ℕ) (cs : List (Vec Run)) → Rise b cs → (i j : ℕ) (d : Vec Run) → i ≤ j → j < length cs → beginning (get_or cs i d).items ≤ beginning (get_or cs j d).items
 rises b [] up i j d le within = absurd (omega (arith, within))
-rises b (c ∷ cs) up zero zero d le within = (omega arith, omega arith)
+rises b (c ∷ cs) up zero zero d le within = omega arith
 rises b (c ∷ cs) up zero (suc j) d le within =
     let first = first-begins b c cs up in
     let later = begins-at (end_behind 0 c.items) cs (more-chunks b c cs up) j d (omega (arith, within)) in
-    (omega (arith, first.1, later.0), omega (arith, later.0, later.1))
+    omega (arith, first.1, later.0)
 rises b (c ∷ cs) up (suc i) zero d le within = absurd (omega (arith, le))
 rises b (c ∷ cs) up (suc i) (suc j) d le within = rises (end_behind 0 c.items) cs (more-chunks b c cs up) i j d (omega (arith, le)) (omega (arith, within))
 
--- What two binary searches find.
+-- a chunk ends before the next one begins
+ends-by-next : (b : ℕ) (cs : List (Vec Run)) → Rise b cs → (i : ℕ) (d : Vec Run) → suc i < length cs → end_behind 0 (get_or cs i d).items ≤ beginning (get_or cs (suc i) d).items
+ends-by-next b [] up i d within = absurd (omega (arith, within))
+ends-by-next b (c ∷ cs) up zero d within = (begins-at (end_behind 0 c.items) cs (more-chunks b c cs up) zero d (omega (arith, within))).0
+ends-by-next b (c ∷ cs) up (suc i) d within = ends-by-next (end_behind 0 c.items) cs (more-chunks b c cs up) i d (omega (arith, within))
+
+-- What a binary search and a walk find.
 
 -- what holds of the runs of each chunk holds of all
 each-together : (P : Run → Type 0) (cs : List (Vec Run)) → All (λ c. All P c.items) cs → All P (together cs)
@@ -92,10 +97,7 @@ each-together P (c ∷ cs) all = All-append P c.items (together cs) (All-head (�
 
 module _ (cs : List (Vec Run)) (are : AreChunks cs) where
   up : Rise 0 cs × All IsChunk cs
-  up = rise 0 None cs are.some are.runs
-
-  pub ends-rise : IsNonDecreasingBy (λ (c : Vec Run). end_behind 0 c.items) cs
-  ends-rise i j d le within = (rises 0 cs up.0 i j d le within).1
+  up = rise 0 None cs are.sized are.runs
 
   pub beginnings-rise : (n : ℕ) → IsNonDecreasingBy (λ (c : Vec Run). beginning c.items) (drop n cs)
   beginnings-rise n i j d le within =
@@ -103,18 +105,20 @@ module _ (cs : List (Vec Run)) (are : AreChunks cs) where
       let at : (k : ℕ) → k < length (drop n cs) → get_or (drop n cs) k d ≡ get_or cs (n + k) d = λ k lt. get_or-drop n cs k d in
       subst (λ (c : Vec Run). beginning c.items ≤ beginning (get_or (drop n cs) j d).items) (sym (at i (omega (arith, le, within))))
       (subst (λ (c : Vec Run). beginning (get_or cs (n + i) d).items ≤ beginning c.items) (sym (at j within))
-      (rises 0 cs up.0 (n + i) (n + j) d (omega (arith, le)) (omega (arith, within, size))).0)
+      (rises 0 cs up.0 (n + i) (n + j) d (omega (arith, le)) (omega (arith, within, size))))
 
   module _ (base end i k : ℕ) (within : i ≤ length cs) (short : k ≤ length (drop i cs))
-      (first : IsPartitionPoint (λ (c : Vec Run). nat_le (end_behind 0 c.items) base ≡ true) (λ (c : Vec Run). nat_le (end_behind 0 c.items) base ≡ false) cs i)
+      (first : IsPartitionPoint (λ (c : Vec Run). nat_le (beginning c.items) base ≡ true) (λ (c : Vec Run). nat_le (beginning c.items) base ≡ false) cs i)
       (second : IsPartitionPoint (λ (c : Vec Run). nat_lt (beginning c.items) end ≡ true) (λ (c : Vec Run). nat_lt (beginning c.items) end ≡ false) (drop i cs) k)
       (nowhere : Vec Run) where
     is-chunk : (m : ℕ) → m < length cs → IsChunk (get_or cs m nowhere)
     is-chunk m lt = All-get_or IsChunk cs m nowhere lt up.1
 
-    ends-before : (m : ℕ) → m < i → All (EndsBy base) (get_or cs m nowhere).items
+    ends-before : (m : ℕ) → suc m < i → All (EndsBy base) (get_or cs m nowhere).items
     ends-before m lt =
-        let end-le : end_behind 0 (get_or cs m nowhere).items ≤ base = leb-true _ base (first.0 m nowhere (omega arith) lt) in
+        let next : beginning (get_or cs (suc m) nowhere).items ≤ base = leb-true _ base (first.0 (suc m) nowhere (omega arith) lt) in
+        let ends = ends-by-next 0 cs up.0 m nowhere (omega (arith, lt, within)) in
+        let end-le : end_behind 0 (get_or cs m nowhere).items ≤ base = omega (arith, next, ends) in
         let sooner : (r : Run) → EndsBy (end_behind 0 (get_or cs m nowhere).items) r → EndsBy base r = λ r ends. omega (arith, ends, end-le) in
         All-weaker (EndsBy (end_behind 0 (get_or cs m nowhere).items)) (EndsBy base) sooner (get_or cs m nowhere).items (is-chunk m (omega (arith, lt, within))).0
 
@@ -128,7 +132,7 @@ module _ (cs : List (Vec Run)) (are : AreChunks cs) where
         let later : (r : Run) → BeginsFrom (beginning (get_or cs m nowhere).items) r → BeginsFrom end r = λ r begins. omega (arith, begins, end-le) in
         All-weaker (BeginsFrom (beginning (get_or cs m nowhere).items)) (BeginsFrom end) later (get_or cs m nowhere).items (is-chunk m lt).1
 
-    all-before : (n : ℕ) → n ≤ i → All (EndsBy base) (together (take n cs))
+    all-before : (n : ℕ) → n ≤ i - 1 → All (EndsBy base) (together (take n cs))
     all-before n le =
         let size : length (take n cs) ≡ min n (length cs) = length-take n cs in
         each-together (EndsBy base) (take n cs) (All-from_get_or (λ (c : Vec Run). All (EndsBy base) c.items) (take n cs) nowhere (λ m lt.
@@ -141,7 +145,7 @@ module _ (cs : List (Vec Run)) (are : AreChunks cs) where
         each-together (BeginsFrom end) (drop n cs) (All-from_get_or (λ (c : Vec Run). All (BeginsFrom end) c.items) (drop n cs) nowhere (λ m lt.
         subst (λ (c : Vec Run). All (BeginsFrom end) c.items) (sym (get_or-drop n cs m nowhere)) (begins-behind (n + m) (omega (arith, from)) (omega (arith, lt, size)))))
 
-    found-or-more : (a b : ℕ) → a ≤ i → i + k ≤ b → b ≤ length cs → AreMetChunks cs base end a b
+    found-or-more : (a b : ℕ) → a ≤ i - 1 → i + k ≤ b → b ≤ length cs → AreMetChunks cs base end a b
     found-or-more a b low high few = record {
       order = omega (arith, low, high);
       within = few;
@@ -160,9 +164,9 @@ none-met base end a b order few = record {
 
 -- what is found, or more
 pub met : (cs : List (Vec Run)) → AreChunks cs → (base end i k : ℕ) → i ≤ length cs → k ≤ length (drop i cs)
-    → IsPartitionPoint (λ (c : Vec Run). nat_le (end_behind 0 c.items) base ≡ true) (λ (c : Vec Run). nat_le (end_behind 0 c.items) base ≡ false) cs i
+    → IsPartitionPoint (λ (c : Vec Run). nat_le (beginning c.items) base ≡ true) (λ (c : Vec Run). nat_le (beginning c.items) base ≡ false) cs i
     → IsPartitionPoint (λ (c : Vec Run). nat_lt (beginning c.items) end ≡ true) (λ (c : Vec Run). nat_lt (beginning c.items) end ≡ false) (drop i cs) k
-    → (a b : ℕ) → a ≤ i → i + k ≤ b → b ≤ length cs → AreMetChunks cs base end a b
+    → (a b : ℕ) → a ≤ i - 1 → i + k ≤ b → b ≤ length cs → AreMetChunks cs base end a b
 met [] are base end i k within short first second a b low high few = none-met base end a b (omega (arith, low, high)) few
 met (c ∷ cs) are base end i k within short first second a b low high few = found-or-more (c ∷ cs) are base end i k within short first second c a b low high few
 
@@ -187,7 +191,7 @@ chunks-within cs i j le are =
     let whole = subst AreRuns (together-three cs i j le) are.runs in
     let later = runs-behind 0 None (together (take i cs)) (together (slice_range cs i j) ++ together (drop j cs)) whole in
     record {
-      some = All-take HasRun (j - i) (drop i cs) (All-drop HasRun i cs are.some);
+      sized = All-take IsSized (j - i) (drop i cs) (All-drop IsSized i cs are.sized);
       runs = some-runs _ _ (together (slice_range cs i j)) (runs-before _ _ (together (slice_range cs i j)) (together (drop j cs)) later);
     }
 
@@ -225,17 +229,10 @@ chunks-put cs ds i j rs same =
     ∙ (ap (λ (qs : List Run). together (take i cs) ++ qs) (together-append ds (drop j cs))
     ∙ ap (λ (qs : List Run). together (take i cs) ++ (qs ++ together (drop j cs))) same)
 
-pub each-put : (cs ds : List (Vec Run)) (i j : ℕ) → All HasRun cs → All HasRun ds → All HasRun (splice cs i j ds)
-each-put cs ds i j some more =
-    All-append HasRun (take i cs) (ds ++ drop j cs) (All-take HasRun i cs some)
-    (All-append HasRun ds (drop j cs) more (All-drop HasRun j cs some))
-
--- the parts of the first chunks and of one more
-pub parts-more : (h : Run → Option Run) (cs : List (Vec Run)) (i : ℕ) (c : Vec Run) → i < length cs → c ≡ get_or cs i c → filter_map h (together (take (i + 1) cs)) ≡ filter_map h (together (take i cs)) ++ filter_map h c.items
-parts-more h cs i c within is =
-    ap (filter_map h) (together-more cs i c within)
-    ∙ (filter_map-append h (together (take i cs)) (get_or cs i c).items
-    ∙ ap (λ (q : Vec Run). filter_map h (together (take i cs)) ++ filter_map h q.items) (sym is))
+pub each-put : (cs ds : List (Vec Run)) (i j : ℕ) → All IsSized cs → All IsSized ds → All IsSized (splice cs i j ds)
+each-put cs ds i j sized more =
+    All-append IsSized (take i cs) (ds ++ drop j cs) (All-take IsSized i cs sized)
+    (All-append IsSized ds (drop j cs) more (All-drop IsSized j cs sized))
 
 -- What a range meets.
 

@@ -1,9 +1,10 @@
 -- Runs that a range of addresses meets: only they change, and only they tell of it.
-use Rattle.std.proofs.Common.{◌≡◌, ℕ, zero, suc, ◌+◌, ◌-◌, ◌≤◌, ◌<◌, true, false, List, [], ◌∷◌, ◌++◌, length, take, drop, get_or, Option, Some, None, drop-drop, refl, sym, ◌∙◌, ap, subst, arith}
-use Rattle.std.specs.List.{All, filter_map, slice_range, range_with_len, cons_option}
-use Rattle.std.specs.List.Sorted.{IsNonDecreasingBy, IsPartitionPoint}
+use Rattle.std.proofs.Common.{◌≡◌, ℕ, zero, suc, ◌+◌, ◌-◌, ◌≤◌, ◌<◌, Bool, true, false, List, [], ◌∷◌, ◌++◌, length, take, drop, get_or, Option, Some, None, drop-drop, refl, sym, ◌∙◌, ap, subst, inl, inr, arith}
+use Rattle.std.specs.List.{All, filter_map, prefix_len, slice_range, range_with_len, cons_option}
+use Rattle.std.specs.List.Sorted.{IsNonDecreasingBy, IsPartitionedBy, IsPartitionPoint}
 use Rattle.std.specs.Prelude.{min, max, nat_le, nat_lt}
-use Rattle.std.proofs.lemmas.Bool.{leb-true, ltb-false}
+use Rattle.std.proofs.lemmas.Bool.{cases_Bool, leb-true, ltb-false}
+use Rattle.std.proofs.lemmas.List.Sums.{prefix_len_passes, prefix_len_stops}
 use Rattle.std.proofs.lemmas.List.{append_assoc, append-nil, take-append-drop, get_or-take, get_or-drop, length-take, length-drop}
 use Rattle.std.proofs.lemmas.List.Elements.{All-head, All-tail, All-take, All-drop, filter_map-append}
 use Rattle.sem_access.specs.declared.run.Run.{Run}
@@ -116,6 +117,12 @@ looked-middle rs base len i j are met =
     looked-within (take i rs) (slice_range rs i j) (drop j rs) base len (All-take IsValidRun i rs (each-run rs are)) (All-drop IsValidRun j rs (each-run rs are)) met.before met.behind
     ∙ ap (λ (qs : List Run). looked (entry_at qs) base len) (sym (in-three rs i j met.order))
 
+-- and they alone change when it is written
+pub overwritten-middle : (rs : List Run) (base len entry i j : ℕ) → AreRuns rs → IsMetPart rs base (base + len) i j → take i rs ++ (overwritten (slice_range rs i j) base len entry ++ drop j rs) ≡ overwritten rs base len entry
+overwritten-middle rs base len entry i j are met =
+    overwritten-within (take i rs) (slice_range rs i j) (drop j rs) base len (All-take IsValidRun i rs (each-run rs are)) (All-drop IsValidRun j rs (each-run rs are)) met.before met.behind entry
+    ∙ ap (λ (qs : List Run). overwritten qs base len entry) (sym (in-three rs i j met.order))
+
 -- Parts of runs are runs.
 
 dropped-runs : (b : ℕ) (e : Option ℕ) (n : ℕ) (rs : List Run) → AreRunsBehind b e rs → AreRuns (drop n rs)
@@ -160,7 +167,19 @@ bases-rise rs are i j d le within = (rise-behind 0 None rs are i j d le within).
 pub ends-rise : (rs : List Run) → AreRuns rs → IsNonDecreasingBy (λ r. r.base + r.len) rs
 ends-rise rs are i j d le within = (rise-behind 0 None rs are i j d le within).1
 
--- What two binary searches find.
+-- What a binary search and a walk find.
+
+-- a walk over what a test parts finds its place
+pub walked : {X : Type 0} (p : X → Bool) (xs : List X) (k : ℕ) → k ≡ prefix_len p xs → IsPartitionedBy p xs → IsPartitionPoint (λ x. p x ≡ true) (λ x. p x ≡ false) xs k
+walked p xs k is parted = (
+  λ m d low below. prefix_len_passes p xs m d (omega (arith, is, below)),
+  λ m d from within.
+      let stops : p (get_or xs k d) ≡ false = subst (λ n. p (get_or xs n d) ≡ false) (sym is) (prefix_len_stops p xs d (omega (arith, is, from, within))) in
+      elim (cases_Bool (p (get_or xs m d))) [
+        | inl passes ↦ let both : true ≡ false = sym (parted k m d from within passes) ∙ stops in absurd (cc)
+        | inr fails ↦ fails
+      ],
+)
 
 pub met-part : (rs : List Run) (base end i k : ℕ) → i ≤ length rs → k ≤ length (drop i rs)
     → IsPartitionPoint (λ (r : Run). nat_le (r.base + r.len) base ≡ true) (λ (r : Run). nat_le (r.base + r.len) base ≡ false) rs i
@@ -182,19 +201,13 @@ met-part rs base end i k within short first second =
           subst (BeginsFrom end) same (ltb-false _ end (second.1 (k + m) d (omega arith) (omega (arith, lt, far, rest))));
     }
 
--- The parts of runs on one side of an address: only the runs that have addresses on both sides are cut.
+-- Runs that are written anew: those before the range, the parts below it, the range, the parts behind it, and those behind the range.
 
-module _ (rs : List Run) (a i j : ℕ) (are : AreRuns rs) (met : IsMetPart rs a a i j) where
-  pub lower-parts : filter_map (lower_part a) rs ≡ take i rs ++ filter_map (lower_part a) (slice_range rs i j)
-  lower-parts =
-      ap (filter_map (lower_part a)) (in-three rs i j met.order)
-      ∙ (three-parts (lower_part a) (take i rs) (slice_range rs i j) (drop j rs)
-      ∙ (ap (λ (xs : List Run). xs ++ (filter_map (lower_part a) (slice_range rs i j) ++ filter_map (lower_part a) (drop j rs))) (lower-whole a (take i rs) (All-take IsValidRun i rs (each-run rs are)) met.before)
-      ∙ ap (λ (xs : List Run). take i rs ++ xs) (ap (λ (xs : List Run). filter_map (lower_part a) (slice_range rs i j) ++ xs) (lower-none a a (drop j rs) (omega arith) met.behind) ∙ append-nil (filter_map (lower_part a) (slice_range rs i j)))))
+placed : (a b c d : List Run) (w : Run) → (((a ++ b) ++ w ∷ []) ++ c) ++ d ≡ a ++ ((b ++ w ∷ c) ++ d)
+placed a b c d w = simp append_assoc
 
-  pub upper-parts : filter_map (upper_part a) rs ≡ filter_map (upper_part a) (slice_range rs i j) ++ drop j rs
-  upper-parts =
-      ap (filter_map (upper_part a)) (in-three rs i j met.order)
-      ∙ (three-parts (upper_part a) (take i rs) (slice_range rs i j) (drop j rs)
-      ∙ (ap (λ (xs : List Run). xs ++ (filter_map (upper_part a) (slice_range rs i j) ++ filter_map (upper_part a) (drop j rs))) (upper-none a a (take i rs) (omega arith) met.before)
-      ∙ ap (λ (xs : List Run). filter_map (upper_part a) (slice_range rs i j) ++ xs) (upper-whole a (drop j rs) (All-drop IsValidRun j rs (each-run rs are)) met.behind)))
+pub overwritten-anew : (rs : List Run) (base len entry i j : ℕ) → AreRuns rs → IsMetPart rs base (base + len) i j
+    → (((take i rs ++ filter_map (lower_part base) (slice_range rs i j)) ++ run_of base len entry ∷ []) ++ filter_map (upper_part (base + len)) (slice_range rs i j)) ++ drop j rs ≡ overwritten rs base len entry
+overwritten-anew rs base len entry i j are met =
+    placed (take i rs) (filter_map (lower_part base) (slice_range rs i j)) (filter_map (upper_part (base + len)) (slice_range rs i j)) (drop j rs) (run_of base len entry)
+    ∙ overwritten-middle rs base len entry i j are met

@@ -1,4 +1,4 @@
--- Which runs a range of addresses meets.
+-- Which runs a range of addresses meets. These words serve private functions.
 use Rattle.std.specs.Prelude.{ℕ, ◌+◌, ◌≤◌, List, All, length, take, drop}
 use Rattle.sem_access.specs.declared.run.Run.{Run}
 

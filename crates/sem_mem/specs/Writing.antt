@@ -1,4 +1,5 @@
--- How runs change when an entry writes a range, and what they tell of a range.
+-- What the private functions of this crate say of how runs change when an entry writes a range, and
+-- of what they tell of a range.
 use Rattle.std.specs.Prelude.{ℕ, ◌+◌, ◌-◌, ◌==◌, min, max, nat_lt, List, ◌∷◌, ◌++◌, filter_map, Option, Some, None, if◌then◌else◌}
 use Rattle.sem_access.specs.declared.run.Run.{Run}
 use Rattle.sem_access.specs.declared.look.Look.{Look}

@@ -1,9 +1,12 @@
 // Which chunks of runs a range of addresses meets.
-ghost use Rattle.std.specs.Prelude.{◌≡◌, ◌≤◌, nat_le, nat_lt};
-ghost use Rattle.sem_mem.specs.Chunks.{AreChunks, AreMetChunks, beginning, end_behind};
+ghost use Rattle.std.specs.Prelude.{◌≡◌, ◌≤◌, length, nat_le, nat_lt};
+ghost use Rattle.std.specs.List.{prefix_len};
+ghost use Rattle.sem_mem.specs.Chunks.{AreChunks, AreMetChunks, beginning};
 
-use crate::runs::ends_by;
 use sem_access::Run;
+
+/// The most runs of a chunk.
+pub const CHUNK: usize = 24;
 
 /// From which chunk on, and up to which, chunks meet the addresses from `base` up to `end`; where none
 /// does, a chunk beside them.
@@ -11,32 +14,30 @@ pub fn chunks_met(chunks: &[Vec<Run>], base: u64, end: u64) -> (usize, usize)
     requires { AreChunks chunks.now }
     ensures { AreMetChunks chunks.now base end result.0 result.1 }
 {
-    let from = chunks.partition_point(|chunk| is_before(chunk, base));
-    let to = from + chunks[from..].partition_point(|chunk| begins_before(chunk, end));
-    widened(from, to, chunks.len())
+    let begun = chunks.partition_point(|chunk| begins_by(chunk, base));
+    let from = begun.saturating_sub(1);
+    let to = begun + count_before(&chunks[begun..], end);
+    (from, to.max(chunks.len().min(1)))
 }
 
-// The places from one up to another, of so many, or a place beside them where there is none between.
-fn widened(from: usize, to: usize, count: usize) -> (usize, usize)
-    requires order { from ≤ to }
-    requires within { to ≤ count }
-    ensures { (result.0 ≤ from) × (to ≤ result.1) × (result.1 ≤ count) }
+// How many of the first chunks begin before the address. Mostly there is none, so that a walk finds
+// the end sooner than a second search.
+fn count_before(chunks: &[Vec<Run>], address: u64) -> usize
+    ensures within { result ≤ length chunks.now }
+    ensures front { result ≡ prefix_len (λ c. nat_lt (beginning c.items) address) chunks.now }
 {
-    if from < to {
-        (from, to)
-    } else if from > 0 {
-        (from - 1, from)
-    } else {
-        (0, count.min(1))
-    }
+    chunks
+        .iter()
+        .take_while(|chunk| begins_before(chunk, address))
+        .count()
 }
 
-// Whether the last run ends at the address or before it.
-fn is_before(chunk: &[Run], address: u64) -> bool
-    ensures { result ≡ nat_le (end_behind 0 chunk.now) address }
+// Whether the first run begins at the address or before it.
+fn begins_by(chunk: &[Run], address: u64) -> bool
+    ensures { result ≡ nat_le (beginning chunk.now) address }
 {
-    match chunk.last() {
-        Some(run) => ends_by(run, address),
+    match chunk.first() {
+        Some(run) => run.base <= address,
         None => true,
     }
 }

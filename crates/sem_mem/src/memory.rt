@@ -6,6 +6,7 @@ ghost use Rattle.sem_mem.specs.Chunks.{together};
 
 use crate::chunks::chunks_met;
 use crate::looks::look_through;
+use crate::runs::runs_of;
 use crate::writes::overwrite;
 use sem_access::{Look, Run};
 use sem_key::OutOfMemory;
@@ -77,15 +78,4 @@ impl Memory {
         let (from, to) = chunks_met(&self.chunks, base, base + u64::from(len));
         look_through(&self.chunks[from..to], base, len)
     }
-}
-
-// The runs of all chunks.
-fn runs_of(alloc: Global, chunks: &[Vec<Run>]) -> Result<Vec<Run>, OutOfMemory>
-    ensures { IfOk result (λ v. v.items ≡ together chunks.now) }
-{
-    let mut runs = Vec::new(alloc);
-    for chunk in chunks {
-        runs.extend_from_slice(chunk)?;
-    }
-    Ok(runs)
 }

@@ -1,38 +1,13 @@
 // The parts of runs on one side of an address.
 ghost use Rattle.std.specs.Prelude.{◌≡◌, ◌++◌, All, filter_map, OnOk};
-ghost use Rattle.sem_access.specs.Runs.{IsValidRun, AreRuns};
+ghost use Rattle.sem_access.specs.Runs.{IsValidRun};
 ghost use Rattle.sem_mem.specs.Writing.{lower_part as lower_part_lem, upper_part as upper_part_lem};
 
-use crate::runs::met_by;
 use sem_access::Run;
 use sem_key::OutOfMemory;
 
 /// Appends the parts of the runs that lie below the address.
 pub fn push_lower_parts(out: &mut Vec<Run>, runs: &[Run], end: u64) -> Result<(), OutOfMemory>
-    requires { AreRuns runs.now }
-    ensures { OnOk result (out.new.items ≡ out.old.items
-        ++ filter_map (lower_part_lem end) runs.now) }
-{
-    // What is before this lies below the address, and what is behind it does not.
-    let (from, to) = met_by(runs, end, end);
-    out.extend_from_slice(&runs[..from])?;
-    push_each_lower(out, &runs[from..to], end)
-}
-
-/// Appends the parts of the runs that lie from the address on.
-pub fn push_upper_parts(out: &mut Vec<Run>, runs: &[Run], from: u64) -> Result<(), OutOfMemory>
-    requires { AreRuns runs.now }
-    ensures { OnOk result (out.new.items ≡ out.old.items
-        ++ filter_map (upper_part_lem from) runs.now) }
-{
-    let (start, end) = met_by(runs, from, from);
-    push_each_upper(out, &runs[start..end], from)?;
-    out.extend_from_slice(&runs[end..])?;
-    Ok(())
-}
-
-// Appends those parts, run by run.
-fn push_each_lower(out: &mut Vec<Run>, runs: &[Run], end: u64) -> Result<(), OutOfMemory>
     requires { All IsValidRun runs.now }
     ensures { OnOk result (out.new.items ≡ out.old.items
         ++ filter_map (lower_part_lem end) runs.now) }
@@ -45,8 +20,8 @@ fn push_each_lower(out: &mut Vec<Run>, runs: &[Run], end: u64) -> Result<(), Out
     Ok(())
 }
 
-// Appends those parts, run by run.
-fn push_each_upper(out: &mut Vec<Run>, runs: &[Run], from: u64) -> Result<(), OutOfMemory>
+/// Appends the parts of the runs that lie from the address on.
+pub fn push_upper_parts(out: &mut Vec<Run>, runs: &[Run], from: u64) -> Result<(), OutOfMemory>
     requires { All IsValidRun runs.now }
     ensures { OnOk result (out.new.items ≡ out.old.items
         ++ filter_map (upper_part_lem from) runs.now) }

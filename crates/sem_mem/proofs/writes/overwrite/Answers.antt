@@ -7,8 +7,8 @@ use Rattle.sem_mem.specs.Chunks.{together, AreMetChunks}
 use Rattle.sem_mem.proofs.Chunking.{chunks-within, overwritten-chunks}
 use Rattle.sem_mem.proofs.writes.overwrite.Goals as goal
 
-pub overwritten-requires-clause-chunks : goal.overwritten-requires-clause-chunks
-overwritten-requires-clause-chunks c =
+pub overwritten_together-requires-clause-chunks : goal.overwritten_together-requires-clause-chunks
+overwritten_together-requires-clause-chunks c =
     let met : AreMetChunks c.args.chunks.now.items c.args.base (c.args.base + c.args.len) c.chunks_met-from.result.0 c.chunks_met-from.result.1 = rw (sym c.from.ensures, sym c.deref.ensures.value) c.chunks_met-from.ensures in
     rw c.deref-2.ensures.value (chunks-within c.args.chunks.now.items c.chunks_met-from.result.0 c.chunks_met-from.result.1 met.order c.requires.chunks)
 

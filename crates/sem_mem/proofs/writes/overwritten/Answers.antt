@@ -1,48 +1,30 @@
-use Rattle.std.proofs.Common.{◌≡◌, ◌+◌, ◌≤◌, ◌∷◌, ◌++◌, List, length, take, filter_map, append_assoc, sym, ◌∙◌, ap, subst, arith}
-use Rattle.std.proofs.lemmas.List.{take_all, length-append}
+use Rattle.std.proofs.Common.{◌≡◌, ◌+◌, ◌≤◌, ◌∷◌, ◌++◌, List, length, arith, ap, sym, ◌∙◌}
+use Rattle.std.proofs.lemmas.List.{length-append, take_rest}
 use Rattle.sem_access.specs.declared.run.Run.{Run}
-use Rattle.sem_access.specs.Runs.{AreRuns, run_of}
-use Rattle.sem_mem.specs.Writing.{lower_part, upper_part}
-use Rattle.sem_mem.specs.Chunks.{together}
-use Rattle.sem_mem.proofs.Chunking.{runs-of-chunk, parts-more}
+use Rattle.sem_mem.specs.Meeting.{IsMetPart}
+use Rattle.sem_mem.proofs.KeptRuns.{each-run}
+use Rattle.sem_mem.proofs.Meeting.{runs-within, overwritten-anew}
 use Rattle.sem_mem.proofs.writes.overwritten.Goals as goal
 
 pub push_lower_parts-requires : goal.push_lower_parts-requires
-push_lower_parts-requires c =
-    subst AreRuns (sym (c.deref.ensures.value ∙ ap (λ q. q.items) c.chunk-item.is)) (runs-of-chunk c.args.chunks.now c.loop-chunk.chunk-index c.chunk-item.result c.loop-chunk-test.true c.requires.chunks)
-
-pub loop-chunk-preserved : goal.loop-chunk-preserved
-loop-chunk-preserved c =
-    rw (c.loop-chunk.invariant, c.deref.ensures.value) at c.in_ok-push_lower_parts.ensures
-    ∙ sym (parts-more (lower_part c.args.base) c.args.chunks.now c.loop-chunk.chunk-index c.chunk-item.result c.loop-chunk-test.true c.chunk-item.is)
-
-pub loop-chunk-2-init : goal.loop-chunk-2-init
-loop-chunk-2-init c =
-    let all : take c.loop-chunk.chunk-index c.args.chunks.now ≡ c.args.chunks.now = take_all c.loop-chunk.chunk-index c.args.chunks.now c.loop-chunk-test.false in
-    rw (c.loop-chunk.invariant, all, c.from.ensures) at c.in_ok-push.ensures.items
+push_lower_parts-requires c = each-run _ (runs-within c.met_by-from.result.0 c.met_by-from.result.1 c.args.runs.now c.requires.runs)
 
 pub push_upper_parts-requires : goal.push_upper_parts-requires
-push_upper_parts-requires c =
-    subst AreRuns (sym (c.deref-in-loop-chunk-2.ensures.value ∙ ap (λ q. q.items) c.chunk-item-in-loop-chunk-2.is)) (runs-of-chunk c.args.chunks.now c.loop-chunk-2.chunk-index c.chunk-item-in-loop-chunk-2.result c.loop-chunk-2-test.true c.requires.chunks)
+push_upper_parts-requires c = each-run _ (runs-within c.met_by-from.result.0 c.met_by-from.result.1 c.args.runs.now c.requires.runs)
 
-pub loop-chunk-2-preserved : goal.loop-chunk-2-preserved
-loop-chunk-2-preserved c =
-    let below = filter_map (lower_part c.args.base) (together c.args.chunks.now) in
-    let part : Run = run_of c.args.base c.args.len c.args.entry in
-    let above = filter_map (upper_part (c.args.base + c.args.len)) (together (take c.loop-chunk-2.chunk-index c.args.chunks.now)) in
-    let more = filter_map (upper_part (c.args.base + c.args.len)) c.chunk-item-in-loop-chunk-2.result.items in
-    (rw (c.loop-chunk-2.invariant, c.deref-in-loop-chunk-2.ensures.value, c.from-in-loop-chunk-2.ensures) at c.in_ok-push_upper_parts.ensures)
-    ∙ (append_assoc below (part ∷ above) more
-    ∙ ap (λ (qs : List Run). below ++ part ∷ qs) (sym (parts-more (upper_part (c.args.base + c.args.len)) c.args.chunks.now c.loop-chunk-2.chunk-index c.chunk-item-in-loop-chunk-2.result c.loop-chunk-2-test.true c.chunk-item-in-loop-chunk-2.is)))
+pub returns-clause-items : goal.returns-clause-items
+returns-clause-items c =
+    let rs = c.args.runs.now in
+    let i = c.met_by-from.result.0 in
+    let j = c.met_by-from.result.1 in
+    let met : IsMetPart rs c.args.base (c.args.base + c.args.len) i j = rw (sym c.from.ensures) c.met_by-from.ensures in
+    (rw (c.in_ok-push_upper_parts.ensures, c.in_ok-push.ensures.items, c.in_ok-push_lower_parts.ensures, c.in_ok-extend_from_slice.ensures.items, c.in_ok-out.ensures.items, c.from.ensures, c.from-2.ensures, take_rest rs j) at c.in_ok-extend_from_slice-2.ensures.items)
+    ∙ overwritten-anew rs c.args.base c.args.len c.args.entry i j c.requires.runs met
 
 pub returns-clause-some : goal.returns-clause-some
-returns-clause-some c = some-there _ _ _ _ c.loop-chunk-2.invariant
+returns-clause-some c = some-there _ _ _ _ (returns-clause-items c)
   where
     some-there : (qs below above : List Run) (part : Run) → qs ≡ below ++ part ∷ above → 1 ≤ length qs
     some-there qs below above part is =
         let size = ap length is ∙ length-append below (part ∷ above) in
         omega (arith, size)
-
-pub returns-clause-items : goal.returns-clause-items
-returns-clause-items c =
-    rw (take_all c.loop-chunk-2.chunk-index c.args.chunks.now c.loop-chunk-2-test.false) at c.loop-chunk-2.invariant

@@ -1,6 +1,6 @@
 use Rattle.std.proofs.Common.{◌≡◌, ◌++◌, take, filter_map}
 use Rattle.sem_mem.specs.Writing.{lower_part}
-use Rattle.sem_mem.proofs.parts.push_each_lower.Given as goal
+use Rattle.sem_mem.proofs.parts.push_lower_parts.Given as goal
 
 -- the parts of the first runs were appended
 abbrev pub invariant-loop-run : goal.invariant-loop-run

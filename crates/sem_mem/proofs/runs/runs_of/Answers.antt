@@ -2,7 +2,7 @@ use Rattle.std.proofs.Common.{◌++◌, take, sym, ◌∙◌, ap}
 use Rattle.std.proofs.lemmas.List.{take_all}
 use Rattle.sem_mem.specs.Chunks.{together}
 use Rattle.sem_mem.proofs.Chunking.{together-more}
-use Rattle.sem_mem.proofs.memory.runs_of.Goals as goal
+use Rattle.sem_mem.proofs.runs.runs_of.Goals as goal
 
 pub loop-chunk-preserved : goal.loop-chunk-preserved
 loop-chunk-preserved c =
