@@ -134,8 +134,8 @@ fn push_ended_at(vpes: &mut Vec<u16>, journal: &Journal, at: usize) -> Result<()
     Ok(())
 }
 
-// The VPE that ends by the entry, if one does.
-fn ended_by(entry: &Entry) -> Option<u16>
+/// The VPE that ends by the entry, if one does.
+pub fn ended_by(entry: &Entry) -> Option<u16>
     ensures { result ≡ ended_by_lem entry.now.event.act entry.now.detail }
 {
     match (entry.event.act, entry.detail) {

@@ -4,5 +4,5 @@
 mod cuts;
 mod makes;
 
-pub use cuts::{cut_among, cut_keys, push_grant};
+pub use cuts::{cut_among, cut_keys, ended_by, push_grant};
 pub use makes::made_keys;

@@ -1,15 +1,21 @@
 -- What the laws say of a setup and a journal.
-use Rattle.std.specs.Prelude.{◌≡◌, ℕ, ◌+◌, ◌*◌, ◌≤◌, ◌<◌, ◌↔◌, List, ◌++◌, length}
+use Rattle.std.specs.Prelude.{◌≡◌, ℕ, ◌+◌, ◌*◌, ◌≤◌, ◌<◌, ◌↔◌, List, ◌++◌, length, map, take, Contains, IsSome}
+use Rattle.sem_key.specs.KeyName.{KeyName}
+use Rattle.sem_key.specs.KeyList.{IsRising}
 use Rattle.sem_msg.specs.declared.entry.Entry.{Entry}
 use Rattle.sem_msg.specs.Setup.{Setup, IsSetup, call_count, kill_count}
 use Rattle.sem_msg.specs.Journal.{part, replies, flushed, fetched}
 use Rattle.sem_machine.specs.Machine.{side, link}
 use Rattle.sem_machine.specs.Schedules.{IsSchedule, world_after, local_run}
+use Rattle.sem_machine.specs.Journals.{made}
 use Rattle.sem_machine.specs.Living.{IsQuiet, IsIdle}
 use Rattle.sem_machine.specs.Seeded.{entry_limit}
 use Rattle.sem_bound.specs.Counts.{calls_made, kills_made}
 use Rattle.sem_revoke.specs.Resting.{IsAtRest}
 use Rattle.sem_parts.specs.Parts.{AreParts}
+use Rattle.sem_query.specs.Whereabouts.{IsThere}
+use Rattle.sem_query.specs.Lives.{life, lives, told_of}
+use Rattle.sem_query.specs.Denials.{IsDenied}
 
 -- the world after the journal is at rest if it is idle
 abbrev pub RestsWhenIdle : Setup → List Entry → Type 0
@@ -36,3 +42,18 @@ pub record RunsAsSecondVersion (T : Setup) : Type 0 where
   pub window : T.window ≡ 4
   pub setup : IsSetup (record T { version = 2 })
   pub same : (J : List Entry) → IsSchedule T J ↔ IsSchedule (record T { version = 2 }) J
+
+-- the made keys have lives, in rising order, and no other key has one; after each number of entries
+-- each key is where its life tells
+pub record IsToldByLives (T : Setup) (J : List Entry) : Type 0 where
+  pub of_made : (k : KeyName) → Contains (made T J) k → IsSome (life T J k)
+  pub no_other : (k : KeyName) → IsSome (life T J k) → Contains (made T J) k
+  pub rising : IsRising (map (λ l. l.key) (lives T J))
+  pub there : (k : KeyName) (n : ℕ) → n ≤ length J
+      → IsThere (world_after T (take n J)) k (told_of (lives T J) k n)
+
+-- to the question why an entry denies a call there is one answer
+pub record IsExplained (T : Setup) (J : List Entry) : Type 0 where
+  pub answer : (n : ℕ) → (text : List ℕ) × IsDenied T J n text
+  pub one : (n : ℕ) (text other : List ℕ) → IsDenied T J n text → IsDenied T J n other
+      → text ≡ other

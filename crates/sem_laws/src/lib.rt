@@ -6,7 +6,7 @@ ghost use Rattle.sem_bytes.specs.Owning.{AccessesAreOwned};
 ghost use Rattle.sem_laws.specs.Always.{Always};
 ghost use Rattle.sem_laws.specs.Always.{ForEveryJournal, ForEverySchedule, ForEveryFirstVersion};
 ghost use Rattle.sem_laws.specs.Facts.{RestsWhenIdle, IsBounded, IsScheduleByParts, IsToldByParts};
-ghost use Rattle.sem_laws.specs.Facts.{RunsAsSecondVersion};
+ghost use Rattle.sem_laws.specs.Facts.{RunsAsSecondVersion, IsToldByLives, IsExplained};
 
 /// The six sentences of safety hold after every schedule. A prefix of a schedule is one too, so
 /// they hold all along.
@@ -52,4 +52,20 @@ pub fn same_runs()
     ensures { ForEveryFirstVersion RunsAsSecondVersion }
 {
     sem_machine::laws::same_runs();
+}
+
+/// The lives of the made keys tell where each key is after each number of entries: held, marked or
+/// not, on its way to be held, or nowhere.
+pub fn lives_tell_where_keys_are()
+    ensures { Always IsToldByLives }
+{
+    sem_query::laws::lives_tell_where_keys_are();
+}
+
+/// To the question why an entry denies a call there is one answer.
+pub fn denials_are_explained()
+    ensures { Always IsExplained }
+{
+    sem_query::laws::denials_are_explained();
+    sem_query::laws::denials_have_one_text();
 }

@@ -90,7 +90,7 @@ HasCall J v = (m : ℕ) × (m < length J) × IsCallAt J v m
 call-later : (e : Entry) (es : List Entry) (v : ℕ) → HasCall es v → HasCall (e ∷ es) v
 call-later e es v (m, within, call) = (suc m, omega arith, call)
 
-is-call : (a : Act) (v : ℕ) → (a ≡ Calls v) ⊎ (a ≡ Calls v → ⊥)
+pub is-call : (a : Act) (v : ℕ) → (a ≡ Calls v) ⊎ (a ≡ Calls v → ⊥)
 is-call (Calls u) v = elim (cases_eq u v) [ inl same ↦ inl (ap Calls same) | inr other ↦ inr (λ is. other cc) ]
 is-call (Resume u) v = inr (λ is. absurd cc)
 is-call (Upcall u) v = inr (λ is. absurd cc)
@@ -117,7 +117,7 @@ call-or-none (x ∷ xs) v = elim (is-call x.event.act v) [
 -- A reply.
 
 -- an upcall answers no call
-upcall-silent : (T : Setup) (i u : ℕ) (s : Side) → (upcall_row T i s u).outcome.reply ≡ None
+pub upcall-silent : (T : Setup) (i u : ℕ) (s : Side) → (upcall_row T i s u).outcome.reply ≡ None
 unfolding upcall_row
 upcall-silent T i u s = option-keeps (λ (x : Step). x.outcome.reply ≡ None) (λ a. ask_decided T i u a (ask_taken u s)) (slice_get (row s u).asks 0) (plain s)
     (λ a there. decided-by (λ (x : Step). x.outcome.reply ≡ None) (λ w x is. is) (λ w x is. is) (λ w x is. is) T i u a (ask_taken u s)

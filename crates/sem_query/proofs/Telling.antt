@@ -78,12 +78,12 @@ first-unmarked T [] i c among = absurd (Contains-nil c among)
 first-unmarked T (n ∷ ns) zero c among = (All-contains IsFirst (start_side T n).caps c (first-bare T n) among).unmarked
 first-unmarked T (n ∷ ns) (suc i) c among = first-unmarked T ns i c among
 
-start-unmarked : (T : Setup) (i : ℕ) (c : Capability) → Contains (side (start T) i).caps c → c.mark ≡ None
+pub start-unmarked : (T : Setup) (i : ℕ) (c : Capability) → Contains (side (start T) i).caps c → c.mark ≡ None
 unfolding start
 start-unmarked T i c among = first-unmarked T (range_with_len 0 T.kernels) i c among
 
 module _ (T : Setup) (valid : IsSetup T) (k : KeyName) where
-  nobody : IsSchedule T []
+  pub nobody : IsSchedule T []
   nobody = schedule-empty T [] refl
 
   -- a root is held unmarked
@@ -103,7 +103,7 @@ module _ (T : Setup) (valid : IsSetup T) (k : KeyName) where
   dead-nowhere W _ (is_on_its_way coming) dead = absurd (dead coming.0)
   dead-nowhere W _ (is_nowhere gone) dead = refl
 
-  first-made : Contains (made T []) k → Contains (root_keys T) k
+  pub first-made : Contains (made T []) k → Contains (root_keys T) k
   first-made among = elim (Contains-append_cases (root_keys T) [] k among) [ inl root ↦ root | inr none ↦ absurd (Contains-nil k none) ]
 
   first-stands : StandsIf 0 (whereabouts T (start T) k) (first_life T k)

@@ -49,6 +49,14 @@ grants_key k e = option_map_or (λ g. key_eq g.1 k) e.grant false
 abbrev pub IsReadyFor : KeyName → Side → Type 0
 IsReadyFor k s = is_ready_with k (parked s k.vpe) ≡ true
 
+-- Where the entry begins to revoke: at the key of a revoke or a clear, at a key that another kernel
+-- asks for, or at the keys of a VPE that ends.
+pub data IsRootOf (e : Entry) (a : KeyName) : Type 0 where
+  of_cut : e.cut ≡ Some a → IsRootOf e a
+  of_request : (from j : ℕ) → e.event.act ≡ Handle → e.detail ≡ Carried from (RevokeReq a j)
+      → IsRootOf e a
+  of_end : ends a.vpe e.event.act e.detail ≡ true → IsRootOf e a
+
 -- How an entry can change where the key is. W is the world before the entry.
 pub data MayChange (T : Setup) (W : World) (e : Entry) (k : KeyName) : Type 0 where
   -- it grants the key
@@ -59,8 +67,8 @@ pub data MayChange (T : Setup) (W : World) (e : Entry) (k : KeyName) : Type 0 wh
   -- a call of the key's VPE goes on that is ready to install the key
   by_resume : owner_of T k ≡ e.event.kernel → e.event.act ≡ Resume k.vpe
       → IsReadyFor k (side W e.event.kernel) → MayChange T W e k
-  -- it revokes, and such a call was there: it is cancelled, or its VPE ends
-  by_end : owner_of T k ≡ e.event.kernel → is_revoking e ≡ true
+  -- such a call was there: it is cancelled by a request for the key, or its VPE ends
+  by_end : owner_of T k ≡ e.event.kernel → is_revoking e ≡ true → IsRootOf e k
       → IsReadyFor k (side W e.event.kernel) → MayChange T W e k
   -- it revokes at a kernel that holds the key
   by_revoking : owner_of T k ≡ e.event.kernel → is_revoking e ≡ true
@@ -70,11 +78,3 @@ pub data MayChange (T : Setup) (W : World) (e : Entry) (k : KeyName) : Type 0 wh
 -- held there, or on its way to a call that is ready to install it, or nowhere.
 abbrev pub seen_at_home : KeyName → Side → Holder
 seen_at_home k s = option_map_or held_as (cap s k) (unheld (is_ready_with k (parked s k.vpe)))
-
--- Where the entry begins to revoke: at the key of a revoke or a clear, at a key that another kernel
--- asks for, or at what a VPE holds that ends.
-pub data IsRootOf (e : Entry) (a : KeyName) : Type 0 where
-  of_cut : e.cut ≡ Some a → IsRootOf e a
-  of_request : (from j : ℕ) → e.event.act ≡ Handle → e.detail ≡ Carried from (RevokeReq a j)
-      → IsRootOf e a
-  of_end : ends a.vpe e.event.act e.detail ≡ true → IsRootOf e a

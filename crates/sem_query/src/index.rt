@@ -1,11 +1,12 @@
-ghost use Rattle.std.specs.Prelude.{◌≡◌, [], find, option_copied, IfOk, IfErr};
+ghost use Rattle.std.specs.Prelude.{◌≡◌, ◌+◌, ◌<◌, ◌^◌, find, option_copied, IfOk, IfErr, OnOk};
 ghost use Rattle.sem_key.specs.KeyName.{key_eq};
 ghost use Rattle.sem_query.specs.Lives.{told_of};
+ghost use Rattle.sem_query.specs.Building.{noted_of, granted_of};
 ghost use Rattle.sem_query.specs.Searching.{AreLives, IsLifeAt, IsGapFor};
 
-use crate::life::Life;
-use sem_key::{Key, pack};
 use crate::holder::Holder;
+use crate::life::Life;
+use sem_key::{Key, OutOfMemory, pack};
 use std::alloc::Global;
 use std::marker::Model;
 
@@ -28,13 +29,12 @@ impl Model for Index {
 }
 
 impl Index {
-    /// No lives. Takes no memory.
-    pub(crate) fn new(alloc: Global) -> Index
-        ensures { result ≡ [] }
+    // These lives, which stand in rising key order.
+    pub(crate) fn new(lives: Vec<Life>) -> Index
+        requires { AreLives lives.items }
+        ensures { result ≡ lives.items }
     {
-        Index {
-            lives: Vec::new(alloc),
-        }
+        Index { lives }
     }
 
     /// The lives, in rising key order.
@@ -64,6 +64,28 @@ impl Index {
                 Some(&lives[at])
             }
             Err(_) => None,
+        }
+    }
+
+    // The life of the key begins with entry `n`, which grants the key. Where it has none, all stays.
+    pub(crate) fn grant(&mut self, alloc: Global, key: Key, n: u64)
+        ensures { self.new ≡ granted_of key n self.old }
+    {
+        match self.place(key) {
+            Ok(at) => self.lives[at].grant(alloc, n),
+            Err(_) => {}
+        }
+    }
+
+    // Notes where the key is after entry `n`, up to which all is noted. Where it has no life, all
+    // stays.
+    pub(crate) fn note(&mut self, key: Key, n: u64, later: Holder) -> Result<(), OutOfMemory>
+        requires { n + 1 < 2 ^ 64 }
+        ensures { OnOk result (self.new ≡ noted_of key n later self.old) }
+    {
+        match self.place(key) {
+            Ok(at) => self.lives[at].note(n, later),
+            Err(_) => Ok(()),
         }
     }
 

@@ -5,13 +5,16 @@ ghost use Rattle.std.specs.Prelude.{◌≡◌, ℕ, ◌≤◌, true, false, List
 ghost use Rattle.sem_key.specs.KeyName.{KeyName};
 ghost use Rattle.sem_key.specs.KeyList.{IsRising, key_set};
 ghost use Rattle.sem_key.specs.Capability.{Capability};
+ghost use Rattle.sem_key.specs.Region.{Reached};
+ghost use Rattle.sem_msg.specs.declared.entry.Detail.TheVariants.{Carried};
 ghost use Rattle.sem_msg.specs.declared.entry.Entry.{Entry};
 ghost use Rattle.sem_msg.specs.declared.entry.Reply.{Reply};
+ghost use Rattle.sem_msg.specs.declared.message.Message.TheVariants.{RevokeDone};
 ghost use Rattle.sem_msg.specs.Setup.{Setup, IsSetup};
 ghost use Rattle.sem_msg.specs.Lookups.{owner_of};
 ghost use Rattle.sem_machine.specs.Machine.{World, side, start};
 ghost use Rattle.sem_machine.specs.Schedules.{IsSchedule, world_after};
-ghost use Rattle.sem_machine.specs.Journals.{made, root_keys, line};
+ghost use Rattle.sem_machine.specs.Journals.{made, root_keys};
 ghost use Rattle.sem_machine.specs.Living.{HoldsCap};
 ghost use Rattle.sem_query.specs.declared.holder.Holder.{Holder};
 ghost use Rattle.sem_query.specs.Whereabouts.{IsThere, Passes, whereabouts, whereabouts_after, holder};
@@ -93,16 +96,30 @@ pub fn moved_keys_are_seen_at_home()
         ≡ seen_at_home k (side (world_after T (before ++ e ∷ [])) (owner_of T k)) }
 {}
 
-/// An entry that revokes leaves an unmarked key where it is, unless the key descends from where the
-/// entry begins: from the key of a revoke or a clear, from one that another kernel asks for, or
-/// from what a VPE holds that ends. So a token that comes back moves marked keys alone.
-pub fn entries_revoke_below_roots()
+/// An entry that revokes leaves an unmarked key where it is, unless the key is reached from where
+/// the entry begins: from the key of a revoke or a clear, from one that another kernel asks for, or
+/// from a key of a VPE that ends. A key is reached by child links through unmarked capabilities of
+/// the entry's kernel. So a token that comes back moves marked keys alone.
+pub fn entries_revoke_what_is_reached()
     ensures spared { (T : Setup) → IsSetup T → (J before later : List Entry) (e : Entry)
         → (k : KeyName) (c : Capability)
         → IsSchedule T J → J ≡ before ++ e ∷ later
         → owner_of T k ≡ e.event.kernel → is_revoking e ≡ true
         → HoldsCap (world_after T before) (owner_of T k) k c → c.mark ≡ None
-        → ((a : KeyName) → Contains (line before k) a → IsRootOf e a → ⊥)
+        → ((a : KeyName) → IsRootOf e a
+        → Reached (side (world_after T before) e.event.kernel).caps a k → ⊥)
+        → whereabouts_after T before k ≡ whereabouts_after T (before ++ e ∷ []) k }
+{}
+
+/// An entry that revokes leaves a marked key where it is, unless it handles a token that comes back
+/// to a job: a job that begins marks with an id of its own.
+pub fn marked_keys_wait_for_tokens()
+    ensures stays { (T : Setup) → IsSetup T → (J before later : List Entry) (e : Entry)
+        → (k : KeyName) (c : Capability) (j : ℕ)
+        → IsSchedule T J → J ≡ before ++ e ∷ later
+        → owner_of T k ≡ e.event.kernel → is_revoking e ≡ true
+        → ((from job : ℕ) → e.detail ≡ Carried from (RevokeDone job) → ⊥)
+        → HoldsCap (world_after T before) (owner_of T k) k c → c.mark ≡ Some j
         → whereabouts_after T before k ≡ whereabouts_after T (before ++ e ∷ []) k }
 {}
 
@@ -117,4 +134,11 @@ pub fn replies_follow_calls()
 pub fn denials_have_one_text()
     ensures one { (T : Setup) (J : List Entry) (n : ℕ) (text other : List ℕ)
         → IsDenied T J n text → IsDenied T J n other → text ≡ other }
+{}
+
+/// To the question why entry n of a schedule denies a call there is an answer: the line of a
+/// denial, or that the entry denies none.
+pub fn denials_are_explained()
+    ensures answer { (T : Setup) → IsSetup T → (J : List Entry) → IsSchedule T J → (n : ℕ)
+        → (text : List ℕ) × IsDenied T J n text }
 {}

@@ -2,13 +2,24 @@
 //! and why a call was denied.
 #![tactic(auto)]
 
+mod builds;
+mod denials;
 mod holder;
 mod index;
 pub mod laws;
 mod life;
+mod moves;
 mod paths;
+mod settling;
+mod sights;
+mod states;
+mod tellings;
+#[cfg(test)]
+mod tests;
 
+pub use denials::denied;
 pub use holder::Holder;
 pub use index::Index;
 pub use life::{Life, Marks};
 pub use paths::path;
+pub use tellings::whereabouts;

@@ -1,10 +1,12 @@
 // The life of one key.
-ghost use Rattle.std.specs.Prelude.{◌≡◌, nat_lt, count_by};
-ghost use Rattle.sem_query.specs.Lives.{is_below as is_below_lem, is_ungranted as is_ungranted_lem, is_odd as is_odd_lem, held_at as held_at_lem, told as told_lem};
+ghost use Rattle.std.specs.Prelude.{◌≡◌, ◌+◌, ◌<◌, ◌^◌, Some, None, nat_lt, count_by, if◌then◌else◌, OnOk};
+ghost use Rattle.sem_query.specs.Lives.{is_below as is_below_lem, is_ungranted as is_ungranted_lem, is_odd as is_odd_lem, held_at as held_at_lem, told as told_lem, life_granted};
+ghost use Rattle.sem_query.specs.Building.{noted_now, begun_life};
 
-use sem_key::Key;
-use sem_msg::Seq;
 use crate::holder::Holder;
+use sem_key::{Key, OutOfMemory};
+use sem_msg::Seq;
+use std::alloc::Global;
 use std::marker::Model;
 
 /// Numbers of entries, in rising order.
@@ -35,6 +37,54 @@ impl Model for Life {
 }
 
 impl Life {
+    // The life of a key that is held from the start at that selector, or that is to be granted yet.
+    pub(crate) fn new(alloc: Global, key: Key, sel: Option<u8>) -> Life
+        ensures { result ≡ begun_life key sel }
+    {
+        Life {
+            key,
+            sel: sel.unwrap_or(0),
+            granted: None,
+            held: None,
+            marked: Marks::new(alloc),
+            gone: if sel.is_some() { None } else { Some(0) },
+        }
+    }
+
+    // Begins with entry `n`, which grants the key.
+    pub(crate) fn grant(&mut self, alloc: Global, n: u64)
+        ensures { self.new ≡ life_granted self.old.key n }
+    {
+        *self = Life {
+            key: self.key,
+            sel: 0,
+            granted: Some(n),
+            held: None,
+            marked: Marks::new(alloc),
+            gone: None,
+        };
+    }
+
+    // Notes where the key is after entry `n`, up to which all is noted.
+    pub(crate) fn note(&mut self, n: u64, later: Holder) -> Result<(), OutOfMemory>
+        requires { n + 1 < 2 ^ 64 }
+        ensures ok { OnOk result (self.new ≡ noted_now n later self.old) }
+        ensures key { self.new.key ≡ self.old.key }
+    {
+        let before = self.told(n + 1);
+        self.sel = later.selector_or(self.sel);
+        if !before.is_held() && later.is_held() {
+            self.held = Some(n);
+        }
+        if before.changes_mark(later) {
+            self.marked.push(n)?;
+        }
+        if before.is_live() && !later.is_live() {
+            self.gone = Some(n);
+        }
+        Ok(())
+    }
+
     /// Where the key is after the first `n` entries. Takes no memory.
     pub fn told(&self, n: u64) -> Holder
         ensures { result ≡ told_lem n self.now }

@@ -1,0 +1,7 @@
+use Rattle.std.proofs.Common.{◌≡◌, take}
+use Rattle.sem_query.specs.Building.{all_noted}
+use Rattle.sem_query.proofs.builds.note_moved.Given as goal
+
+-- the first keys are noted
+abbrev pub invariant-loop-key : goal.invariant-loop-key
+invariant-loop-key l = l.index ≡ all_noted l.setup l.world.world l.n (take l.key-index l.moved) l.fn.index

@@ -1,0 +1,96 @@
+// What is seen of a world, and how it goes on.
+ghost use Rattle.std.specs.Prelude.{◌≡◌, true, option_copied, OnOk};
+ghost use Rattle.std.specs.Option.{option_map, option_map_or};
+ghost use Rattle.sem_key.specs.Capability.{capability_of};
+ghost use Rattle.sem_msg.specs.Lookups.{owner_of};
+ghost use Rattle.sem_msg.specs.ParkedStates.{is_ready_with as is_ready_with_lem};
+ghost use Rattle.sem_machine.specs.Sides.{no_side, cap};
+ghost use Rattle.sem_machine.specs.Machine.{side, is_enabled};
+ghost use Rattle.sem_query.specs.Whereabouts.{held_as as held_as_lem};
+ghost use Rattle.sem_query.specs.Changes.{seen_at_home};
+ghost use Rattle.sem_query.specs.Building.{seen_granted as seen_granted_lem, stepped_value};
+
+use crate::holder::Holder;
+use sem_kernel::{Kernel, StepError, World};
+use sem_key::{Cap, Key, OutOfMemory, same_key};
+use sem_msg::{Event, Parked, Setup};
+
+/// The kernel of that number; none where there is no such kernel.
+pub fn kernel_at(world: &World, number: u32) -> Option<&Kernel>
+    ensures { option_map_or (λ k. k.side) (option_copied result) no_side
+        ≡ side world.now.world number }
+{
+    world.kernels().get(number as usize)
+}
+
+/// Where the key is, as its owner sees it: held, on its way to a call that is ready to install it,
+/// or nowhere.
+pub fn see(setup: &Setup, world: &World, key: Key) -> Holder
+    ensures { result ≡ seen_at_home key (side world.now.world (owner_of setup.now key)) }
+{
+    let Some(kernel) = kernel_at(world, setup.owner_of(key)) else {
+        return Holder::No;
+    };
+    match kernel.held(key) {
+        Some(cap) => held_as(cap),
+        None if is_ready_with(key, &kernel.parked(key.vpe)) => Holder::Way,
+        None => Holder::No,
+    }
+}
+
+/// The selector at which its owner holds the key, if it does.
+pub fn held_selector(setup: &Setup, world: &World, key: Key) -> Option<u8>
+    ensures { result ≡ option_map (λ c. c.selector)
+        (cap (side world.now.world (owner_of setup.now key)) key) }
+{
+    let kernel = kernel_at(world, setup.owner_of(key))?;
+    match kernel.held(key) {
+        Some(cap) => Some(cap.selector),
+        None => None,
+    }
+}
+
+/// Where the key is that was just granted: held by its owner, or on its way.
+pub fn see_granted(setup: &Setup, world: &World, key: Key) -> Holder
+    ensures { result ≡ seen_granted_lem key (side world.now.world (owner_of setup.now key)) }
+{
+    let Some(kernel) = kernel_at(world, setup.owner_of(key)) else {
+        return Holder::Way;
+    };
+    match kernel.held(key) {
+        Some(cap) => held_as(cap),
+        None => Holder::Way,
+    }
+}
+
+/// Whether a call in that state is ready to install the key.
+pub fn is_ready_with(key: Key, state: &Option<Parked>) -> bool
+    ensures { result ≡ is_ready_with_lem key state.now }
+{
+    match state {
+        Some(Parked::ObtainReady { key: ready, .. }) => same_key(ready, &key),
+        _ => false,
+    }
+}
+
+// Where a key is that is held so.
+fn held_as(cap: &Cap) -> Holder
+    ensures { result ≡ held_as_lem (capability_of cap.now) }
+{
+    match cap.mark {
+        Some(_) => Holder::Marked(cap.selector),
+        None => Holder::Unmarked(cap.selector),
+    }
+}
+
+/// Takes the step of an event that is enabled.
+pub fn go_on(world: &mut World, event: Event) -> Result<(), OutOfMemory>
+    requires { is_enabled world.old.setup world.old.world event ≡ true }
+    ensures { OnOk result (world.new ≡ stepped_value world.old event) }
+{
+    match world.step(event) {
+        Ok(_) => Ok(()),
+        Err(StepError::Memory) => Err(OutOfMemory),
+        Err(StepError::NotEnabled) => unreachable!(),
+    }
+}
