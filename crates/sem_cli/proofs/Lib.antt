@@ -1,3 +1,4 @@
 pub mod OtherWords
 pub mod Loads
 pub mod Appends
+pub mod KeyWords

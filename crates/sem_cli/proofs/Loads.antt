@@ -10,9 +10,10 @@ use Rattle.sem_text.specs.declared.numbers.NumberFault.TheVariants.{Bad, Range}
 use Rattle.sem_text.specs.Number.{is_number, number_value}
 use Rattle.sem_cli.specs.declared.forms.Command.{Command}
 use Rattle.sem_cli.specs.declared.forms.Command.TheVariants.{Run, Threads, Generate, Soak, Ask}
+use Rattle.sem_cli.specs.declared.forms.Question.{Question}
 use Rattle.sem_cli.specs.declared.forms.Question.TheVariants.{Check, Contents}
 use Rattle.sem_cli.specs.declared.forms.Load.{Load}
-use Rattle.sem_cli.specs.Commands.{command_of, generate, soak, number_to, seed_of, load_from, load_of}
+use Rattle.sem_cli.specs.Commands.{command_of, generate, soak, number_to, seed_of, load_from, load_of, question_of}
 
 -- a load that can be generated
 abbrev pub CanGenerate : ℕ → ℕ → Type 0
@@ -61,19 +62,24 @@ seeded-loaded false true None = tt
 seeded-loaded false true (Some seed) = tt
 seeded-loaded false false o = tt
 
-load-loaded : (a b : Bool) (o : Option Load) → ((load : Load) → o ≡ Some load → CanGenerate load.vpes load.calls) → IsLoaded (cond a (option_map generate o) (cond b (option_map soak o) None))
-load-loaded true b None kept = tt
-load-loaded true b (Some load) kept = kept load refl
-load-loaded false true None kept = tt
-load-loaded false true (Some load) kept = kept load refl
-load-loaded false false o kept = tt
+asked-loaded : (a : Bool) (o : Option Question) → IsLoaded (cond a (option_map Ask o) None)
+asked-loaded true None = tt
+asked-loaded true (Some question) = tt
+asked-loaded false o = tt
+
+load-loaded : (a b c : Bool) (o : Option Load) (q : Option Question) → ((load : Load) → o ≡ Some load → CanGenerate load.vpes load.calls) → IsLoaded (cond a (option_map generate o) (cond b (option_map soak o) (cond c (option_map Ask q) None)))
+load-loaded true b c None q kept = tt
+load-loaded true b c (Some load) q kept = kept load refl
+load-loaded false true c None q kept = tt
+load-loaded false true c (Some load) q kept = kept load refl
+load-loaded false false c o q kept = asked-loaded c q
 
 command-loaded : (words : List (List ℕ)) → IsLoaded (command_of words)
 command-loaded [] = tt
 command-loaded (name ∷ []) = plain-loaded (bytes_eq name (codes "check")) (bytes_eq name (codes "contents"))
 command-loaded (name ∷ seed ∷ []) = seeded-loaded (bytes_eq name (codes "run")) (bytes_eq name (codes "threads")) (seed_of seed)
-command-loaded (name ∷ seed ∷ vpes ∷ []) = tt
-command-loaded (name ∷ seed ∷ vpes ∷ calls ∷ []) = load-loaded (bytes_eq name (codes "gen")) (bytes_eq name (codes "soak")) (load_of seed vpes calls) (λ load. load-kept (seed_of seed) (number_to 128 vpes) (number_to 20000 calls) load (number-most vpes 128))
+command-loaded (name ∷ what ∷ word ∷ []) = asked-loaded (bytes_eq name (codes "query")) (question_of (what ∷ word ∷ []))
+command-loaded (name ∷ seed ∷ vpes ∷ calls ∷ []) = load-loaded (bytes_eq name (codes "gen")) (bytes_eq name (codes "soak")) (bytes_eq name (codes "query")) (load_of seed vpes calls) (question_of (seed ∷ vpes ∷ calls ∷ [])) (λ load. load-kept (seed_of seed) (number_to 128 vpes) (number_to 20000 calls) load (number-most vpes 128))
 command-loaded (name ∷ seed ∷ vpes ∷ calls ∷ more ∷ words) = tt
 
 -- so has one that words are

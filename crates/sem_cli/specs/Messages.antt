@@ -9,7 +9,8 @@ use Rattle.sem_trace.specs.declared.fault.TraceFault.{TraceFault}
 abbrev pub usage_line : List ℕ
 usage_line =
     codes "usage: semper run SEED | threads SEED | check | gen SEED VPES CALLS"
-    ++ codes " | soak SEED VPES CALLS | contents" ++ 10 ∷ []
+    ++ codes " | soak SEED VPES CALLS | contents | query holder KEY N | query path KEY"
+    ++ codes " | query denied N" ++ 10 ∷ []
 
 -- the report is that of a complete schedule
 abbrev pub ok_line : List ℕ

@@ -1,16 +1,21 @@
-ghost use Rattle.std.specs.Prelude.{◌≡◌, [], ◌∷◌, map, string_bytes};
-ghost use Rattle.sem_cli.specs.Commands.{command_of, number_to as number_to_lem, seed_of as seed_of_lem, load_of as load_of_lem};
+ghost use Rattle.std.specs.Prelude.{◌≡◌, [], ◌∷◌, map, option_map, string_bytes};
+ghost use Rattle.sem_cli.specs.declared.forms.Command.TheVariants.{Ask};
+ghost use Rattle.sem_cli.specs.Commands.{command_of, question_of, number_to as number_to_lem, seed_of as seed_of_lem, load_of as load_of_lem, key_of as key_of_lem};
 
 use crate::forms::{Command, Load, Question};
+use sem_key::Key;
 use sem_text::number;
+use sem_trace::read_key;
 
 /// The command that the words are, if they are one. Takes no memory.
 pub fn command(words: &[String]) -> Option<Command>
     ensures { result ≡ command_of (map string_bytes words.now) }
 {
     match words {
+        [] => None,
         [name] => plain(name.as_str()),
         [name, seed] => seeded(name.as_str(), seed.as_str()),
+        [name, what, word] => asking(name.as_str(), what.as_str(), word.as_str()),
         [name, seed, vpes, calls] => {
             loaded(name.as_str(), seed.as_str(), vpes.as_str(), calls.as_str())
         }
@@ -45,10 +50,44 @@ fn seeded(name: &str, seed: &str) -> Option<Command>
     }
 }
 
-// The command of a name and a load.
+// The command of a name, what is asked, and of what.
+fn asking(name: &str, what: &str, word: &str) -> Option<Command>
+    ensures { result ≡ command_of (name.now ∷ what.now ∷ word.now ∷ []) }
+{
+    if name != "query" {
+        return None;
+    }
+    let question = match what {
+        "path" => Question::Path { key: key_of(word)? },
+        "denied" => Question::Denied {
+            entry: seed_of(word)?,
+        },
+        _ => return None,
+    };
+    Some(Command::Ask { question })
+}
+
+// The command that asks where a key is.
+fn asking_holder(what: &str, key: &str, count: &str) -> Option<Command>
+    ensures { result ≡ option_map Ask (question_of (what.now ∷ key.now ∷ count.now ∷ [])) }
+{
+    if what != "holder" {
+        return None;
+    }
+    let key = key_of(key)?;
+    let count = seed_of(count)?;
+    Some(Command::Ask {
+        question: Question::Holder { key, count },
+    })
+}
+
+// The command of a name and a load, or of a question about a key.
 fn loaded(name: &str, seed: &str, vpes: &str, calls: &str) -> Option<Command>
     ensures { result ≡ command_of (name.now ∷ seed.now ∷ vpes.now ∷ calls.now ∷ []) }
 {
+    if name == "query" {
+        return asking_holder(seed, vpes, calls);
+    }
     let Load { seed, vpes, calls } = load_of(seed, vpes, calls)?;
     match name {
         "gen" => Some(Command::Generate { seed, vpes, calls }),
@@ -57,7 +96,14 @@ fn loaded(name: &str, seed: &str, vpes: &str, calls: &str) -> Option<Command>
     }
 }
 
-// The seed that a word is.
+// The key that a word is.
+fn key_of(word: &str) -> Option<Key>
+    ensures { result ≡ key_of_lem word.now }
+{
+    read_key(word.as_bytes(), 2).ok()
+}
+
+// The seed, or the number of entries, that a word is.
 fn seed_of(word: &str) -> Option<u64>
     ensures { result ≡ seed_of_lem word.now }
 {

@@ -1,3 +1,5 @@
+use sem_key::Key;
+
 /// What the program is asked to do.
 #[derive(Clone, Copy, Debug, PartialEq, Eq)]
 pub enum Command {
@@ -20,6 +22,12 @@ pub enum Question {
     Check,
     /// What memory holds after it.
     Contents,
+    /// Where the key is after its first `count` entries.
+    Holder { key: Key, count: u64 },
+    /// Along which line the key was made.
+    Path { key: Key },
+    /// Why that entry denies a call.
+    Denied { entry: u64 },
 }
 
 // The seed of what is made, and how much of it.

@@ -10,7 +10,8 @@ pub fn usage() -> &'static [u8]
     ensures { result.now ≡ usage_line }
 {
     b"usage: semper run SEED | threads SEED | check | gen SEED VPES CALLS \
-        | soak SEED VPES CALLS | contents\n"
+        | soak SEED VPES CALLS | contents | query holder KEY N | query path KEY \
+        | query denied N\n"
 }
 
 /// The line that tells that a report is that of a complete schedule.

@@ -15,11 +15,14 @@ use Rattle.sem_machine.specs.Living.{IsComplete}
 use Rattle.sem_machine.specs.Safety.{IsSafe}
 use Rattle.sem_audit.specs.HeldKeys.{report}
 use Rattle.sem_access.specs.ContentsText.{contents}
+use Rattle.sem_query.specs.HolderText.{holder_text}
+use Rattle.sem_query.specs.Paths.{path}
+use Rattle.sem_query.specs.Denials.{IsDenied}
 use Rattle.sem_audit.specs.Straying.{stray_count}
 use Rattle.sem_cli.specs.declared.forms.Command.{Command}
 use Rattle.sem_cli.specs.declared.forms.Command.TheVariants.{Run, Threads, Generate, Soak, Ask}
 use Rattle.sem_cli.specs.declared.forms.Question.{Question}
-use Rattle.sem_cli.specs.declared.forms.Question.TheVariants.{Check, Contents}
+use Rattle.sem_cli.specs.declared.forms.Question.TheVariants.{Check, Contents, Holder, Path, Denied}
 use Rattle.sem_cli.specs.declared.statuses.Status.{Status}
 use Rattle.sem_cli.specs.declared.statuses.Status.TheVariants.{Done, Usage, TraceRefused, ReadFault, WriteFault, Memory, ReportRefused}
 use Rattle.sem_cli.specs.Summary.{summary}
@@ -68,6 +71,9 @@ pub record EndsReported (g : Given) (J : List Entry) (text : List ℕ) : Type 0 
 abbrev pub IsAnswer : Question → Setup → List Entry → List ℕ → Type 0
 IsAnswer Check T J text = text ≡ ok_line
 IsAnswer Contents T J text = text ≡ contents T J
+IsAnswer (Holder key count) T J text = text ≡ holder_text T J key count
+IsAnswer (Path key) T J text = text ≡ path T J key
+IsAnswer (Denied entry) T J text = IsDenied T J entry text
 
 -- Status 0 of a question: the input is the report of a complete schedule, and the text answers it.
 pub record EndsAnswered (g : Given) (J : List Entry) (text : List ℕ) : Type 0 where

@@ -12,7 +12,7 @@ use Rattle.sem_audit.specs.HeldKeys.{report}
 use Rattle.sem_audit.specs.Straying.{stray_count}
 use Rattle.sem_cli.specs.declared.forms.Command.{Command}
 use Rattle.sem_cli.specs.declared.forms.Question.{Question}
-use Rattle.sem_cli.specs.declared.forms.Question.TheVariants.{Check, Contents}
+use Rattle.sem_cli.specs.declared.forms.Question.TheVariants.{Check, Contents, Holder, Path, Denied}
 use Rattle.sem_access.specs.declared.access.Access.{Access}
 use Rattle.sem_access.specs.Accesses.{accesses}
 use Rattle.sem_cli.specs.declared.statuses.Status.{Status}
@@ -86,6 +86,9 @@ AreAfter T J kernels = map (λ k. k.side) kernels ≡ (world_after T J).sides
 abbrev pub FoundFor : Question → Setup → List Entry → List Access → Type 0
 FoundFor Check T J xs = Unit {0}
 FoundFor Contents T J xs = xs ≡ accesses T J
+FoundFor (Holder key count) T J xs = Unit {0}
+FoundFor (Path key) T J xs = Unit {0}
+FoundFor (Denied entry) T J xs = Unit {0}
 
 -- it is there if the report is accepted
 abbrev pub AreFound : Question → Verdict → List Access → Type 0

@@ -15,6 +15,7 @@ use sem_io::{Source, read_all};
 use sem_key::OutOfMemory;
 use sem_mem::push_contents;
 use sem_msg::{Journal, Setup};
+use sem_query::{denied, path, whereabouts};
 use sem_report::Verdict;
 use sem_trace::{Cause, TraceFault};
 use std::alloc::Global;
@@ -31,7 +32,8 @@ pub fn answer<S: Source>(alloc: Global, question: Question, input: &mut S) -> Re
         Ok(bytes) => bytes,
         Err(error) => return Response::unread(alloc, error),
     };
-    match judge_for(alloc, &bytes, question) {
+    let asked = question;
+    match judge_for(alloc, &bytes, asked) {
         Ok((verdict, found)) => tell_verdict(alloc, question, &verdict, found.as_slice()),
         Err(_) => Response::out_of_memory(alloc, Journal::new(alloc)),
     }
@@ -110,5 +112,8 @@ fn push_answer(
     match question {
         Question::Check => out.extend_from_slice(ok()),
         Question::Contents => push_contents(alloc, out, found),
+        Question::Holder { key, count } => { whereabouts(alloc, setup, journal, key, count, out) }
+        Question::Path { key } => path(alloc, setup, journal, key, out),
+        Question::Denied { entry } => denied(alloc, setup, journal, entry, out),
     }
 }

@@ -109,11 +109,11 @@ fn check_for(
     ensures incomplete { TellsNext setup.now journal.now.entries result }
 {
     match question {
-        Question::Check => match check(alloc, setup, journal) {
+        Question::Contents => check_accesses(alloc, setup, journal),
+        _ => match check(alloc, setup, journal) {
             Ok(world) => Ok((world, AccessList::new(alloc))),
             Err(error) => Err(error),
         },
-        Question::Contents => check_accesses(alloc, setup, journal),
     }
 }
 

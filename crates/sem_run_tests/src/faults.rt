@@ -36,6 +36,24 @@ fn rows(alloc: Global) -> Result<Vec<Row>, AllocError> {
         entries: 0,
     })?;
     rows.push(Row {
+        line: "query holder 0.0.1.1 1",
+        input: report.clone()?,
+        text: String::from_str(alloc, "held 1 unmarked\n")?,
+        entries: 0,
+    })?;
+    rows.push(Row {
+        line: "query path 0.0.1.1",
+        input: report.clone()?,
+        text: String::from_str(alloc, "key 0.0.1.1 kept\nkey 0.0.1.0 cut\n")?,
+        entries: 0,
+    })?;
+    rows.push(Row {
+        line: "query denied 1",
+        input: report.clone()?,
+        text: String::from_str(alloc, "none\n")?,
+        entries: 0,
+    })?;
+    rows.push(Row {
         line: "run 0",
         input: trace,
         text: report,

@@ -12,6 +12,8 @@ mod faults;
 #[cfg(test)]
 mod nodes;
 #[cfg(test)]
+mod queries;
+#[cfg(test)]
 mod seeds;
 #[cfg(test)]
 mod setups;

@@ -1,6 +1,7 @@
 use sem_cli::{
     Command, Question, Status, command, ok, push_differing, push_going_on, push_summary, usage,
 };
+use sem_key::{Key, Kind};
 use sem_msg::{Act, Detail, Entry, Event, Reply};
 use std::process::Abort;
 use std::test::Fail;
@@ -19,8 +20,16 @@ fn check_command(rt: &impl Abort, words: &[String], want: Option<Command>) {
     assert_eq!(rt; command(words), want);
 }
 
+// The last key in rising key order.
+const LAST: Key = Key {
+    pe: 127,
+    vpe: 127,
+    kind: Kind::Sess,
+    number: 4095,
+};
+
 #[test]
-fn six_forms_are_commands(rt: HostRuntime) -> Result<(), Fail> {
+fn nine_forms_are_commands(rt: HostRuntime) -> Result<(), Fail> {
     for (line, want) in [
         (
             "check",
@@ -32,6 +41,27 @@ fn six_forms_are_commands(rt: HostRuntime) -> Result<(), Fail> {
             "contents",
             Command::Ask {
                 question: Question::Contents,
+            },
+        ),
+        (
+            "query holder 127.127.5.4095 18446744073709551615",
+            Command::Ask {
+                question: Question::Holder {
+                    key: LAST,
+                    count: u64::MAX,
+                },
+            },
+        ),
+        (
+            "query path 127.127.5.4095",
+            Command::Ask {
+                question: Question::Path { key: LAST },
+            },
+        ),
+        (
+            "query denied 3",
+            Command::Ask {
+                question: Question::Denied { entry: 3 },
             },
         ),
         ("run 0", Command::Run { seed: 0 }),
@@ -98,6 +128,18 @@ fn other_words_are_no_command(rt: HostRuntime) -> Result<(), Fail> {
         "gen 0 1 18446744073709551615",
         "gen 01 1 1",
         "soak 0 1 1 1",
+        "query",
+        "query path",
+        "query path 0.0.1",
+        "query path 0.0.6.0",
+        "query path 128.0.1.0",
+        "query path 0.0.1.00",
+        "query denied -1",
+        "query denied 18446744073709551616",
+        "query holder 0.0.1.0",
+        "query path 0.0.1.0 4",
+        "query at 0.0.1.0 4",
+        "Query denied 3",
     ] {
         check_command(&rt, words(&rt, line)?.as_slice(), None);
     }
@@ -123,7 +165,8 @@ fn each_status_has_its_number(rt: HostRuntime) {
 fn messages_are_whole_lines(rt: HostRuntime) -> Result<(), Fail> {
     assert_eq!(rt; ok(), b"ok\n".as_slice());
     let forms = "run SEED | threads SEED | check | gen SEED VPES CALLS | soak SEED VPES CALLS";
-    let line = format!(in rt.alloc(); "usage: semper {forms} | contents\n")?;
+    let asked = "contents | query holder KEY N | query path KEY | query denied N";
+    let line = format!(in rt.alloc(); "usage: semper {forms} | {asked}\n")?;
     assert_eq!(rt; usage(), line.as_bytes());
     Ok(())
 }

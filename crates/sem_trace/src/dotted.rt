@@ -111,9 +111,9 @@ fn kind(number: u64) -> Kind
     }
 }
 
-// The key that the word is, in a text of the version.
+/// The key that the word is, in a text of the version. Takes no memory.
 #[tactic(auto, unfolding(crate::specs::Forms::are_numbers, crate::specs::Forms::are_within))]
-fn key(word: &[u8], version: u8) -> Result<Key, Cause>
+pub fn read_key(word: &[u8], version: u8) -> Result<Key, Cause>
     ensures fault { place_fault (key_lem version) word.now ≡ result_err result }
     ensures printed { IfOk result (λ k. word.now ≡ key_word k) }
     ensures told { IfOk result (IsKeyInText version) }
@@ -156,7 +156,7 @@ impl Words<'_> {
         ensures told { IfOk result (IsKeyInText version) }
     {
         let word = self.word()?;
-        key(word, version)
+        read_key(word, version)
     }
 
     /// The next word, the place of a key, in a text of the version. Takes no memory.

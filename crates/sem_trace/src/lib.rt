@@ -16,6 +16,7 @@ mod text_lines;
 pub use cursor::{Lines, Words};
 pub use declaration::Declaration;
 pub use declarations::{read_declaration, read_first, read_second, read_third};
+pub use dotted::read_key;
 pub use fault::{Cause, TraceError, TraceFault};
 pub use forms::{BYTE, ENDPOINT, RIGHTS, Range, SLOTS, WORD, is, node};
 pub use limits::{LINK_WINDOW, most_kernels, most_vpes};

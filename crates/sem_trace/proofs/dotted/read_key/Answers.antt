@@ -4,7 +4,7 @@ use Rattle.std.proofs.lemmas.Result.{err_from_is_err_and}
 use Rattle.sem_msg.specs.Versions.{most_vpes}
 use Rattle.sem_trace.specs.Forms.{parts_of, are_numbers}
 use Rattle.sem_trace.proofs.PrintedNumbers.{joined, in_row4}
-use Rattle.sem_trace.proofs.dotted.key.Goals as goal
+use Rattle.sem_trace.proofs.dotted.read_key.Goals as goal
 
 pub returns-in_err-pe-clause-fault : goal.returns-in_err-pe-clause-fault
 returns-in_err-pe-clause-fault c =

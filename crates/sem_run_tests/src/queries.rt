@@ -1,0 +1,61 @@
+//! Questions about keys and denials of a report.
+
+use crate::calls::{DECLARED, answer, check};
+use sem_cli::Status;
+use std::alloc::Global;
+use std::process::Abort;
+use std::sync::Wait;
+use std::test::Fail;
+use std::thread::Threads;
+
+// A VPE obtains what another VPE holds at another kernel.
+const OBTAIN_ACROSS_KERNELS: &str =
+    "semper trace 1\nkernels 2\npe 0 0\npe 1 1\nvpe 0 0\nvpe 1 1\nroot 0 0 mem 0 4096 7\ncall 1 obtain 5 0 0\nend\n";
+
+// Asserts what each of the questions is answered about the report of the trace.
+fn check_answers<R: Threads + Wait + Abort + Sync>(
+    rt: &R,
+    alloc: Global,
+    trace: &str,
+    answers: &[(&str, &str)],
+) -> Result<(), Fail> {
+    let run = answer(rt, alloc, "run 0", trace)?;
+    let report = String::from_utf8(run.written)?;
+    for (question, text) in answers {
+        let told = answer(rt, alloc, question, report.as_str())?;
+        check(rt, &told, Status::Done, text, 0);
+    }
+    Ok(())
+}
+
+#[test]
+fn a_key_that_is_obtained_is_on_its_way_and_then_held(rt: HostRuntime) -> Result<(), Fail> {
+    let answers = [
+        ("query holder 1.1.1.0 4", "none\n"),
+        ("query holder 1.1.1.0 5", "way\n"),
+        ("query holder 1.1.1.0 8", "way\n"),
+        ("query holder 1.1.1.0 9", "held 5 unmarked\n"),
+        ("query holder 1.1.1.0 10", "none\n"),
+        ("query path 1.1.1.0", "key 1.1.1.0 kept\nkey 0.0.1.0 kept\n"),
+    ];
+    check_answers(&rt, rt.alloc(), OBTAIN_ACROSS_KERNELS, &answers)
+}
+
+#[test]
+fn a_revoke_of_a_free_selector_is_denied_at_once(rt: HostRuntime) -> Result<(), Fail> {
+    let calls = "call 0 derive 0 1 0 1024 1\ncall 0 revoke 1\ncall 0 revoke 1\nend\n";
+    let trace = format!(in rt.alloc(); "{DECLARED}{calls}")?;
+    let answers = [
+        (
+            "query denied 3",
+            "denied 3 NoCap at 3: 0 call 0 2 revoke 1 reply 0 3\n",
+        ),
+        ("query denied 0", "none\n"),
+        ("query denied 18446744073709551615", "none\n"),
+        ("query holder 0.0.1.1 1", "held 1 unmarked\n"),
+        ("query holder 0.0.1.1 2", "none\n"),
+        ("query path 0.0.1.1", "key 0.0.1.1 cut\nkey 0.0.1.0 kept\n"),
+        ("query path 127.127.5.4095", "none\n"),
+    ];
+    check_answers(&rt, rt.alloc(), trace.as_str(), &answers)
+}
