@@ -1,19 +1,15 @@
 -- A world that follows a journal, entry by entry.
 use Rattle.std.proofs.Common.{◌≡◌, ℕ, ◌+◌, ◌<◌, ◌≤◌, Bool, true, false, cond, List, [], ◌∷◌, ◌++◌, length, take, get_or, Option, Some, None, refl, sym, ◌∙◌, ap, subst}
-use Rattle.std.specs.Option.{IsSome, option_to_list}
+use Rattle.std.specs.Option.{IsSome}
 use Rattle.std.proofs.lemmas.Option.{slice_get-get_or, none-some, same_Some}
 use Rattle.std.proofs.lemmas.List.{take_more, take_all}
 use Rattle.sem_msg.specs.declared.event.Event.{Event}
 use Rattle.sem_msg.specs.declared.entry.Entry.{Entry}
-use Rattle.sem_msg.specs.Setup.{Setup, IsSetup}
+use Rattle.sem_msg.specs.Setup.{Setup}
 use Rattle.sem_machine.specs.Machine.{World, start, after, entry_of, is_enabled}
 use Rattle.sem_machine.specs.Schedules.{IsSchedule, world_after}
 use Rattle.sem_kernel.specs.Worlds.{WorldValue}
 use Rattle.sem_machine.proofs.Pushing.{schedule-push, schedule-empty, world_after-push}
-use Rattle.sem_access.specs.declared.access.Access.{Access}
-use Rattle.sem_access.specs.Accesses.{accesses}
-use Rattle.sem_access.specs.Transfers.{transfer_of, access_by}
-use Rattle.sem_access.proofs.Gathering.{gather-more}
 use Rattle.sem_check.specs.Replays.{entry_made, world_value, IsStep, IsOther, IsWorldAfter, DiffersAt}
 
 -- what an event makes, it makes as one that is enabled
@@ -29,11 +25,12 @@ pub record IsFollowing (T : Setup) (J : List Entry) (w : WorldValue) (n : ℕ) :
   pub schedule : IsSchedule T (take n J)
   pub world : w ≡ world_value T (take n J)
 
-pub following-start : (J : List Entry) (w : WorldValue) → w.world ≡ start w.setup → IsFollowing w.setup J w 0
-following-start J w booted = record {
-  schedule = schedule-empty w.setup (take 0 J) refl;
-  world = ap (λ (W : World). record { setup = w.setup; world = W }) booted;
-}
+-- a world that has just booted is the one after no entry
+pub start-after : (T : Setup) (w : WorldValue) → w ≡ record { setup = T; world = start T } → IsWorldAfter T [] w
+start-after T w booted = record { schedule = schedule-empty T [] refl; world = booted }
+
+pub following-start : (T : Setup) (J : List Entry) (w : WorldValue) → IsWorldAfter T [] w → IsFollowing T J w 0
+following-start T J w is = record { schedule = is.schedule; world = is.world }
 
 module _ (T : Setup) (J : List Entry) (w : WorldValue) (n : ℕ) (so_far : IsFollowing T J w n) where
   abbrev P : List Entry
@@ -74,13 +71,18 @@ module _ (T : Setup) (J : List Entry) (w : WorldValue) (n : ℕ) (so_far : IsFol
       subst (λ k. DiffersAt T J k y made) (sym place)
       (subst (λ (z : Entry). DiffersAt T J n z made) (sym same) (following-differs x made within at is.made is.other))
 
-  -- the accesses of the entries so far, and of the next
-  pub gathered : IsSetup T → (x : Entry) (v : WorldValue) → n < length J → x ≡ get_or J n x → IsStep w x v → (found new : List Access) → found ≡ accesses T P → new ≡ found ++ option_to_list (access_by w.setup w.world n (transfer_of x)) → new ≡ accesses T (take (n + 1) J)
-  gathered valid x v within at step found new is more =
-      let there = made-some T (world_after T P) x.event x (sym (made-there (entry_made w.setup w.world x.event) x.event refl) ∙ step.made) in
-      more
-      ∙ (ap (λ (u : WorldValue). found ++ option_to_list (access_by u.setup u.world n (transfer_of x))) so_far.world
-      ∙ gather-more T valid J n x within at there.0 (sym there.1) found is)
+  -- the entries with the next one
+  pub next-entries : (x : Entry) → n < length J → x ≡ get_or J n x → P ++ x ∷ [] ≡ take (n + 1) J
+  next-entries x within at = sym (take_more J n x within ∙ ap (λ (y : Entry). P ++ y ∷ []) (sym at))
+
+  -- the world after the entries so far, and after the next one too
+  pub now-after : IsWorldAfter T P w
+  now-after = record { schedule = so_far.schedule; world = so_far.world }
+
+  pub next-after : (x : Entry) (v : WorldValue) → n < length J → x ≡ get_or J n x → IsStep w x v → IsWorldAfter T (P ++ x ∷ []) v
+  next-after x v within at step =
+      let is = following-step x v within at step in
+      subst (λ K. IsWorldAfter T K v) (sym (next-entries x within at)) (record { schedule = is.schedule; world = is.world })
 
   -- no entry is left
   pub following-all : length J ≤ n → IsWorldAfter T J w

@@ -2,14 +2,13 @@ ghost use Rattle.std.specs.Prelude.{◌≡◌, ◌≤◌, ◌+◌, ◌*◌, ℕ,
 ghost use Rattle.sem_msg.specs.Setup.{call_count, kill_count};
 ghost use Rattle.sem_msg.specs.declared.entry.Entry.{Entry as EntryData};
 ghost use Rattle.sem_machine.specs.Living.{IsComplete};
-ghost use Rattle.sem_access.specs.Accesses.{accesses};
 ghost use Rattle.sem_check.specs.Replays.{IsWorldAfter, next_made, world_value};
 ghost use Rattle.sem_check.specs.Verdicts.{TellsDifference, TellsNext};
 
 use crate::entries::make_entry;
 use crate::faults::CheckError;
-use crate::follows::{Difference, follow, follow_accesses};
-use sem_access::AccessList;
+use crate::follows::{Difference, follow};
+use crate::watch::{Unwatched, Watch};
 use sem_kernel::World;
 use sem_key::OutOfMemory;
 use sem_msg::{Entry, Journal, Setup};
@@ -25,35 +24,31 @@ pub fn check(alloc: Global, setup: &Setup, journal: &Journal) -> Result<World, C
     ensures few { OnOk result
         (length journal.now.entries ≤ 21 * call_count setup.now + kill_count setup.now) }
 {
-    // So that the proof knows what a setup keeps.
-    let _ = &setup.vpes;
-    let mut world = World::boot(alloc, setup)?;
-    let entries = journal.as_slice();
-    match follow(&mut world, entries)? {
-        None => judge(alloc, setup, world, entries),
-        Some(difference) => Err(differs(&difference)),
-    }
+    check_watched(alloc, setup, journal, &mut Unwatched)
 }
 
-/// As `check`, and gives the accesses of the journal too.
-pub fn check_accesses(
+/// As `check`, under the eyes of who watches.
+pub fn check_watched<W: Watch>(
     alloc: Global,
     setup: &Setup,
     journal: &Journal,
-) -> Result<(World, AccessList), CheckError>
-    ensures complete { IfOk result (λ r. IsComplete setup.now journal.now.entries) }
-    ensures world { IfOk result (λ r. r.0 ≡ world_value setup.now journal.now.entries) }
-    ensures accesses { IfOk result (λ r. r.1 ≡ accesses setup.now journal.now.entries) }
+    watch: &mut W,
+) -> Result<World, CheckError>
+    ensures complete { IfOk result (λ world. IsComplete setup.now journal.now.entries) }
+    ensures world { IfOk result (λ world. world ≡ world_value setup.now journal.now.entries) }
+    ensures gathered { OnOk result (W.gathers setup.now journal.now.entries watch.new) }
+    ensures same { W.subject watch.new ≡ W.subject watch.old }
     ensures differs { TellsDifference setup.now journal.now.entries result }
     ensures incomplete { TellsNext setup.now journal.now.entries result }
+    ensures few { OnOk result
+        (length journal.now.entries ≤ 21 * call_count setup.now + kill_count setup.now) }
 {
     // So that the proof knows what a setup keeps.
     let _ = &setup.vpes;
     let mut world = World::boot(alloc, setup)?;
-    let mut found = AccessList::new(alloc);
     let entries = journal.as_slice();
-    match follow_accesses(&mut world, entries, &mut found)? {
-        None => Ok((judge(alloc, setup, world, entries)?, found)),
+    match follow(setup, &mut world, entries, watch)? {
+        None => judge(alloc, setup, world, entries),
         Some(difference) => Err(differs(&difference)),
     }
 }

@@ -1,17 +1,12 @@
 // A world that follows a journal.
-ghost use Rattle.std.specs.Prelude.{◌≡◌, ◌++◌, [], None, IfSome, OnOk, IfOk};
-ghost use Rattle.std.specs.Option.{option_to_list};
-ghost use Rattle.sem_msg.specs.Setup.{IsSetup};
-ghost use Rattle.sem_machine.specs.Machine.{start};
-ghost use Rattle.sem_access.specs.Accesses.{accesses};
-ghost use Rattle.sem_access.specs.Transfers.{transfer_of as transfer_of_lem, access_by};
+ghost use Rattle.std.specs.Prelude.{◌≡◌, [], None, IfSome, IfOk};
 ghost use Rattle.sem_check.specs.Replays.{IsWorldAfter, DiffersAt, IsStep, IsOther};
 
 use crate::entries::{is_made, make_entry};
-use sem_access::{AccessList, transfer_of};
+use crate::watch::Watch;
 use sem_kernel::World;
 use sem_key::OutOfMemory;
-use sem_msg::Entry;
+use sem_msg::{Entry, Setup};
 
 /// The first entry that is not the one that its event makes, and the one that it makes, none where
 /// the event is not enabled.
@@ -22,44 +17,31 @@ pub struct Difference {
     pub replayed: Option<Entry>,
 }
 
-/// Takes the world, which is that of a setup at the start, through the entries, up to the first
-/// that differs.
-pub fn follow(world: &mut World, entries: &[Entry]) -> Result<Option<Difference>, OutOfMemory>
-    requires { world.old.world ≡ start world.old.setup }
-    ensures all { IfOk result
-        (λ difference. difference ≡ None → IsWorldAfter world.old.setup entries.now world.new) }
-    ensures differs { IfOk result (λ difference. IfSome difference
-        (λ d. DiffersAt world.old.setup entries.now d.entry d.entered d.replayed)) }
-{
-    for (place, entered) in entries.iter().enumerate() {
-        if let Some(difference) = take_step(world, place, entered)? {
-            return Ok(Some(difference));
-        }
-    }
-    Ok(None)
-}
-
-/// As `follow`, and gathers the accesses of the entries, those up to the first that differs.
-pub fn follow_accesses(
+/// Takes the world, which is that of the setup at the start, through the entries, up to the first
+/// that differs, under the eyes of who watches.
+pub fn follow<W: Watch>(
+    setup: &Setup,
     world: &mut World,
     entries: &[Entry],
-    found: &mut AccessList,
+    watch: &mut W,
 ) -> Result<Option<Difference>, OutOfMemory>
-    requires setup { IsSetup world.old.setup }
-    requires start { world.old.world ≡ start world.old.setup }
-    requires empty { found.old ≡ [] }
+    requires { IsWorldAfter setup.now [] world.old }
     ensures all { IfOk result
-        (λ difference. difference ≡ None → IsWorldAfter world.old.setup entries.now world.new) }
-    ensures accesses { IfOk result
-        (λ difference. difference ≡ None → found.new ≡ accesses world.old.setup entries.now) }
+        (λ difference. difference ≡ None → IsWorldAfter setup.now entries.now world.new) }
+    ensures gathered { IfOk result
+        (λ difference. difference ≡ None → W.gathers setup.now entries.now watch.new) }
+    ensures same { W.subject watch.new ≡ W.subject watch.old }
     ensures differs { IfOk result (λ difference. IfSome difference
-        (λ d. DiffersAt world.old.setup entries.now d.entry d.entered d.replayed)) }
+        (λ d. DiffersAt setup.now entries.now d.entry d.entered d.replayed)) }
 {
+    watch.begin(setup, world);
     for (place, entered) in entries.iter().enumerate() {
-        push_access(found, world, place as u64, entered)?;
+        let past = &entries[..place];
+        watch.before(setup, world, past, entered)?;
         if let Some(difference) = take_step(world, place, entered)? {
             return Ok(Some(difference));
         }
+        watch.after(setup, world, past, entered)?;
     }
     Ok(None)
 }
@@ -86,22 +68,4 @@ fn take_step(
             replayed,
         }))
     }
-}
-
-// Appends the access of what the entry reads or writes in the world before it, if it has one.
-fn push_access(
-    found: &mut AccessList,
-    world: &World,
-    place: u64,
-    entry: &Entry,
-) -> Result<(), OutOfMemory>
-    ensures { OnOk result (found.new ≡ found.old ++ option_to_list
-        (access_by world.now.setup world.now.world place (transfer_of_lem entry.now))) }
-{
-    if let Some(transfer) = transfer_of(entry) {
-        if let Some((key, object)) = world.binding(transfer.vpe, transfer.ep) {
-            found.push(transfer.access(place, key, &object))?;
-        }
-    }
-    Ok(())
 }

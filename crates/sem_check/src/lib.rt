@@ -9,8 +9,10 @@ mod follows;
 mod laws;
 mod messages;
 mod replays;
+mod watch;
 
-pub use checks::{check, check_accesses};
+pub use checks::{check, check_watched};
 pub use faults::CheckError;
 pub use laws::a_journal_has_one_verdict;
 pub use replays::replay;
+pub use watch::{Unwatched, Watch};

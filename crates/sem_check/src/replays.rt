@@ -5,6 +5,7 @@ ghost use Rattle.sem_kernel.specs.Standing.{StandsAt};
 ghost use Rattle.sem_check.specs.Replays.{IsLongestSchedule, IsLongestPrefix};
 
 use crate::follows::follow;
+use crate::watch::Unwatched;
 use sem_fabric::Fabric;
 use sem_kernel::{Kernel, World, boot, happen_enabled};
 use sem_key::OutOfMemory;
@@ -31,7 +32,7 @@ fn schedule_length(alloc: Global, setup: &Setup, entries: &[Entry]) -> Result<us
     ensures { IfOk result (IsLongestSchedule setup.now entries.now) }
 {
     let mut world = World::boot(alloc, setup)?;
-    match follow(&mut world, entries)? {
+    match follow(setup, &mut world, entries, &mut Unwatched)? {
         None => Ok(entries.len()),
         Some(difference) => Ok(difference.entry),
     }

@@ -34,3 +34,4 @@ pub mod Settlements
 pub mod StatesSince
 pub mod Played
 pub mod Built
+mod Followed

@@ -97,7 +97,7 @@ module _ (T : Setup) (valid : IsSetup T) (k : KeyName) where
       (c.0.selector, ap (λ o. option_map_or held_as o (unheld (is_coming k (start T)))) held ∙ ap (λ m. held_with m c.0.selector) unmarked)
 
   -- what is not live is nowhere
-  dead-nowhere : (W : World) (h : Holder) → IsThere W k h → (IsLive W k → ⊥) → h ≡ No
+  pub dead-nowhere : (W : World) (h : Holder) → IsThere W k h → (IsLive W k → ⊥) → h ≡ No
   dead-nowhere W _ (is_held_marked i j c held marked) dead = absurd (dead (inl (i, subst (λ (o : Option Capability). IsSome o) (sym held) refl)))
   dead-nowhere W _ (is_held_unmarked i c held unmarked) dead = absurd (dead (inl (i, subst (λ (o : Option Capability). IsSome o) (sym held) refl)))
   dead-nowhere W _ (is_on_its_way coming) dead = absurd (dead coming.0)

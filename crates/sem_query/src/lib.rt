@@ -4,6 +4,7 @@
 
 mod builds;
 mod denials;
+mod following;
 mod holder;
 mod index;
 pub mod laws;
@@ -11,6 +12,7 @@ mod life;
 mod moves;
 mod paths;
 mod settling;
+mod sighting;
 mod sights;
 mod states;
 mod tellings;
@@ -22,4 +24,5 @@ pub use holder::Holder;
 pub use index::Index;
 pub use life::{Life, Marks};
 pub use paths::path;
-pub use tellings::whereabouts;
+pub use sighting::Sighting;
+pub use tellings::push_whereabouts;

@@ -57,8 +57,8 @@ fn push_moved_at(
     Ok(())
 }
 
-// The key that the entry brings by the message that it handles.
-fn brought_key(entry: &Entry) -> Option<Key>
+/// The key that the entry brings by the message that it handles.
+pub fn brought_key(entry: &Entry) -> Option<Key>
     ensures { result ≡ brought_by entry.now.event.act entry.now.detail }
 {
     match handled(entry) {
@@ -88,8 +88,8 @@ fn brought_in(message: &Message) -> Option<Key>
     }
 }
 
-// The VPE whose call goes on.
-fn resumed(act: Act) -> Option<u16>
+/// The VPE whose call goes on.
+pub fn resumed(act: Act) -> Option<u16>
     ensures { result ≡ resumed_lem act }
 {
     match act {
@@ -98,8 +98,8 @@ fn resumed(act: Act) -> Option<u16>
     }
 }
 
-// Whether the entry revokes.
-fn is_revoking(entry: &Entry) -> bool
+/// Whether the entry revokes.
+pub fn is_revoking(entry: &Entry) -> bool
     ensures { result ≡ is_revoking_lem entry.now }
 {
     match (entry.event.act, entry.detail) {
@@ -117,8 +117,8 @@ fn is_revoking(entry: &Entry) -> bool
     }
 }
 
-// The key that another kernel asks to revoke.
-fn requested(entry: &Entry) -> Option<Key>
+/// The key that another kernel asks to revoke.
+pub fn requested(entry: &Entry) -> Option<Key>
     ensures { result ≡ requested_lem entry.now.event.act entry.now.detail }
 {
     match handled(entry) {

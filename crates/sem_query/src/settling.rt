@@ -6,7 +6,7 @@ ghost use Rattle.sem_machine.specs.Schedules.{IsSchedule};
 ghost use Rattle.sem_query.specs.Denials.{IsCallAt, IsLastCall, Settles};
 ghost use Rattle.sem_query.specs.Parking.{states_since as states_since_lem, IsFirstPlace};
 
-use crate::sights::{go_on, kernel_at};
+use crate::sights::{go_on, parked_state};
 use crate::states::same_state;
 use sem_kernel::World;
 use sem_key::{OutOfMemory, VPES};
@@ -87,17 +87,6 @@ fn states_since(
         }
     }
     Ok(states)
-}
-
-// The state in which the call of a VPE of the kernel is parked; none where it has no such call.
-fn parked_state(world: &World, kernel: u32, vpe: u16) -> Option<Parked>
-    requires { vpe < VPES }
-    ensures { result ≡ parked (side world.now.world kernel) vpe }
-{
-    match kernel_at(world, kernel) {
-        Some(kernel) => kernel.parked(vpe),
-        None => None,
-    }
 }
 
 // The first place of the state among these; where it is not among them, how many there are.

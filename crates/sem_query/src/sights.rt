@@ -1,10 +1,10 @@
 // What is seen of a world, and how it goes on.
-ghost use Rattle.std.specs.Prelude.{◌≡◌, true, option_copied, OnOk};
+ghost use Rattle.std.specs.Prelude.{◌≡◌, ◌<◌, true, is_some, option_copied, OnOk};
 ghost use Rattle.std.specs.Option.{option_map, option_map_or};
 ghost use Rattle.sem_key.specs.Capability.{capability_of};
 ghost use Rattle.sem_msg.specs.Lookups.{owner_of};
 ghost use Rattle.sem_msg.specs.ParkedStates.{is_ready_with as is_ready_with_lem};
-ghost use Rattle.sem_machine.specs.Sides.{no_side, cap};
+ghost use Rattle.sem_machine.specs.Sides.{no_side, cap, parked};
 ghost use Rattle.sem_machine.specs.Machine.{side, is_enabled};
 ghost use Rattle.sem_query.specs.Whereabouts.{held_as as held_as_lem};
 ghost use Rattle.sem_query.specs.Changes.{seen_at_home};
@@ -12,7 +12,7 @@ ghost use Rattle.sem_query.specs.Building.{seen_granted as seen_granted_lem, ste
 
 use crate::holder::Holder;
 use sem_kernel::{Kernel, StepError, World};
-use sem_key::{Cap, Key, OutOfMemory, same_key};
+use sem_key::{Cap, Key, OutOfMemory, VPES, same_key};
 use sem_msg::{Event, Parked, Setup};
 
 /// The kernel of that number; none where there is no such kernel.
@@ -70,6 +70,34 @@ pub fn is_ready_with(key: Key, state: &Option<Parked>) -> bool
     match state {
         Some(Parked::ObtainReady { key: ready, .. }) => same_key(ready, &key),
         _ => false,
+    }
+}
+
+/// The state in which the call of a VPE of the kernel is parked; none where it has no such call.
+pub fn parked_state(world: &World, kernel: u32, vpe: u16) -> Option<Parked>
+    requires { vpe < VPES }
+    ensures { result ≡ parked (side world.now.world kernel) vpe }
+{
+    match kernel_at(world, kernel) {
+        Some(kernel) => kernel.parked(vpe),
+        None => None,
+    }
+}
+
+/// Whether a call of the key's VPE, one of the kernel, is ready to install the key.
+pub fn is_ready_at(world: &World, kernel: u32, key: Key) -> bool
+    ensures { result ≡ is_ready_with_lem key (parked (side world.now.world kernel) key.vpe) }
+{
+    is_ready_with(key, &parked_state(world, kernel, key.vpe))
+}
+
+/// Whether the kernel holds the key.
+pub fn is_held_at(world: &World, kernel: u32, key: Key) -> bool
+    ensures { result ≡ is_some (cap (side world.now.world kernel) key) }
+{
+    match kernel_at(world, kernel) {
+        Some(kernel) => kernel.held(key).is_some(),
+        None => false,
     }
 }
 

@@ -1,56 +1,34 @@
 // Where a key is, told.
-ghost use Rattle.std.specs.Prelude.{◌≡◌, ◌∷◌, ◌++◌, codes, decimal, OnOk, OnErr, IfOk};
+ghost use Rattle.std.specs.Prelude.{◌≡◌, ◌∷◌, ◌++◌, codes, decimal, OnOk, OnErr};
+ghost use Rattle.sem_msg.specs.Setup.{Setup as SetupData};
 ghost use Rattle.sem_text.specs.Lines.{line};
-ghost use Rattle.sem_machine.specs.Schedules.{IsSchedule};
-ghost use Rattle.sem_query.specs.Whereabouts.{holder as holder_lem};
 ghost use Rattle.sem_query.specs.HolderText.{holder_words, holder_text};
+ghost use Rattle.sem_query.specs.Sightings.{IsSeen};
 
 use crate::holder::Holder;
-use crate::index::Index;
-use sem_key::{Key, OutOfMemory};
-use sem_msg::{Journal, Setup};
+use crate::sighting::Sighting;
+use sem_key::OutOfMemory;
+use sem_msg::Journal;
 use sem_trace::{push_number_word, push_word};
 use std::alloc::Global;
 
-/// Appends the line that tells where the key is after the first `n` entries; `none` where there are
-/// fewer. After lack of memory `out` is as before.
-pub fn whereabouts(
+/// Appends the line that tells where the key is, which was followed along the journal, after the
+/// first `count` entries; `none` where there are fewer. After lack of memory `out` is as before.
+pub fn push_whereabouts(
     alloc: Global,
-    setup: &Setup,
+    sighting: &Sighting,
     journal: &Journal,
-    key: Key,
-    n: u64,
     out: &mut Vec<u8>,
 ) -> Result<(), OutOfMemory>
-    requires { IsSchedule setup.now journal.now.entries }
-    ensures ok { OnOk result
-        (out.new.items ≡ out.old.items ++ holder_text setup.now journal.now.entries key n) }
+    ensures ok { (T : SetupData) → IsSeen T journal.now.entries sighting.now → OnOk result
+        (out.new.items ≡ out.old.items
+        ++ holder_text T journal.now.entries sighting.now.key sighting.now.count) }
     ensures err { OnErr result (out.new.items ≡ out.old.items) }
 {
-    let holder = holder_after(alloc, setup, journal, key, n)?;
+    let holder = sighting.holder(journal.len() as u64);
     let mut line = Vec::new(alloc);
     push_holder(&mut line, holder)?;
     out.extend_from_slice(&line)
-}
-
-// Where the key is after the first `n` entries; nowhere, if there are fewer.
-fn holder_after(
-    alloc: Global,
-    setup: &Setup,
-    journal: &Journal,
-    key: Key,
-    n: u64,
-) -> Result<Holder, OutOfMemory>
-    requires { IsSchedule setup.now journal.now.entries }
-    ensures { IfOk result (λ holder. holder ≡ holder_lem setup.now journal.now.entries key n) }
-{
-    // So that the proof knows what a setup keeps.
-    let _ = &setup.vpes;
-    if n > journal.len() as u64 {
-        return Ok(Holder::No);
-    }
-    let index = Index::build(alloc, setup, journal)?;
-    Ok(index.holder(key, n))
 }
 
 // Appends the line of a holder.

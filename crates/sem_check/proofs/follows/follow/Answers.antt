@@ -1,21 +1,30 @@
-use Rattle.std.proofs.Common.{arith}
-use Rattle.sem_check.proofs.Following.{following-start, following-step, differs-there, following-all}
+use Rattle.std.proofs.Common.{◌<◌, length, arith, subst, ◌∙◌}
+use Rattle.sem_check.proofs.Following.{following-start, following-step, next-after, next-entries}
 use Rattle.sem_check.proofs.follows.follow.Goals as goal
 
 pub loop-place-init : goal.loop-place-init
-loop-place-init c = following-start c.args.entries.now c.args.world.now c.requires
+loop-place-init g c = record {
+  follows = following-start c.args.setup.now c.args.entries.now c.args.world.now c.requires;
+  gathered = c.begin.ensures.gathered;
+  same = c.begin.ensures.same;
+}
 
-pub returns-in-Some-clause-differs : goal.returns-in-Some-clause-differs
-returns-in-Some-clause-differs c =
+pub after-requires-clause-follows : goal.after-requires-clause-follows
+after-requires-clause-follows g c =
     let l = c.loop-place in
-    let d = c.in-Some.difference in
-    let is = rw c.in-Some.is at c.in_ok-difference.ensures.other in
-    differs-there c.args.world.now.setup c.args.entries.now l.world l.place l.invariant c.index-entries-place.result d.entry d.entered d.replayed (omega arith) c.index-entries-place.is is.0 is.1 is.2
+    let within : l.place < length c.args.entries.now = omega arith in
+    next-after c.args.setup.now c.args.entries.now l.world l.place l.invariant.follows c.index-entries-place.result c.take_step.new.world within c.index-entries-place.is (c.in_ok-difference.ensures.same c.in_default.is)
 
 pub loop-place-preserved : goal.loop-place-preserved
-loop-place-preserved c =
+loop-place-preserved g c =
     let l = c.loop-place in
-    following-step c.args.world.now.setup c.args.entries.now l.world l.place l.invariant c.index-entries-place.result c.take_step.new.world (omega arith) c.index-entries-place.is (c.in_ok-difference.ensures.same c.in_default.is)
-
-pub returns-clause-all : goal.returns-clause-all
-returns-clause-all c = λ none. following-all c.args.world.now.setup c.args.entries.now c.loop-place.world c.loop-place.place c.loop-place.invariant (omega arith)
+    let T = c.args.setup.now in
+    let J = c.args.entries.now in
+    let x = c.index-entries-place.result in
+    let within : l.place < length J = omega arith in
+    let next = next-entries T J l.world l.place l.invariant.follows x within c.index-entries-place.is in
+    record {
+      follows = following-step T J l.world l.place l.invariant.follows x c.take_step.new.world within c.index-entries-place.is (c.in_ok-difference.ensures.same c.in_default.is);
+      gathered = subst (λ K. g.W.Watch.gathers T K c.after.new.self) next c.in_ok-after.ensures.gathered;
+      same = c.in_ok-after.ensures.same ∙ (c.in_ok-before.ensures.same ∙ l.invariant.same);
+    }

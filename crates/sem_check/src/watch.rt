@@ -1,0 +1,91 @@
+ghost use Rattle.std.specs.Prelude.{◌≡◌, ◌++◌, ◌∷◌, [], true, List, OnOk};
+ghost use Rattle.sem_msg.specs.declared.entry.Entry.{Entry as EntryData};
+ghost use Rattle.sem_msg.specs.Setup.{Setup as SetupData};
+ghost use Rattle.sem_check.specs.Replays.{IsWorldAfter};
+
+use sem_kernel::World;
+use sem_key::OutOfMemory;
+use sem_msg::{Entry, Setup};
+
+/// Watches a world that follows a journal, and gathers what it is asked about.
+pub trait Watch {
+    /// What it is asked about.
+    type Subject;
+
+    // what it is asked about
+    ghost subject: { Self → Self.Subject };
+
+    // what it has gathered of the entries so far, a schedule
+    ghost gathers: { SetupData → List EntryData → Self → Type 0 };
+
+    // the same, when it has seen the world before the next entry too
+    ghost expects: { SetupData → List EntryData → EntryData → Self → Type 0 };
+
+    /// Sees the world at the start.
+    fn begin(&mut self, setup: &Setup, world: &World)
+        requires { IsWorldAfter setup.now [] world.now }
+        ensures gathered { gathers setup.now [] self.new }
+        ensures same { subject self.new ≡ subject self.old };
+
+    /// Sees the world after the past entries, before the next entry.
+    fn before(
+        &mut self,
+        setup: &Setup,
+        world: &World,
+        past: &[Entry],
+        next: &Entry,
+    ) -> Result<(), OutOfMemory>
+        requires follows { IsWorldAfter setup.now past.now world.now }
+        requires gathered { gathers setup.now past.now self.old }
+        ensures expected { OnOk result (expects setup.now past.now next.now self.new) }
+        ensures same { subject self.new ≡ subject self.old };
+
+    /// Sees the world after that entry.
+    fn after(
+        &mut self,
+        setup: &Setup,
+        world: &World,
+        past: &[Entry],
+        next: &Entry,
+    ) -> Result<(), OutOfMemory>
+        requires follows { IsWorldAfter setup.now (past.now ++ next.now ∷ []) world.now }
+        requires expected { expects setup.now past.now next.now self.old }
+        ensures gathered { OnOk result (gathers setup.now (past.now ++ next.now ∷ []) self.new) }
+        ensures same { subject self.new ≡ subject self.old };
+}
+
+/// Gathers nothing.
+#[derive(Debug, Drop)]
+pub struct Unwatched;
+
+impl Watch for Unwatched {
+    type Subject = bool;
+
+    ghost subject = { λ _. true };
+
+    ghost gathers = { λ _ _ _. Unit {0} };
+
+    ghost expects = { λ _ _ _ _. Unit {0} };
+
+    fn begin(&mut self, _setup: &Setup, _world: &World) {}
+
+    fn before(
+        &mut self,
+        _setup: &Setup,
+        _world: &World,
+        _past: &[Entry],
+        _next: &Entry,
+    ) -> Result<(), OutOfMemory> {
+        Ok(())
+    }
+
+    fn after(
+        &mut self,
+        _setup: &Setup,
+        _world: &World,
+        _past: &[Entry],
+        _next: &Entry,
+    ) -> Result<(), OutOfMemory> {
+        Ok(())
+    }
+}

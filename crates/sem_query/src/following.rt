@@ -1,0 +1,152 @@
+// A key that is followed along a journal.
+ghost use Rattle.std.specs.Prelude.{◌≡◌, ◌++◌, ◌∷◌, [], ℕ, List, length};
+ghost use Rattle.std.specs.Option.{option_map_or};
+ghost use Rattle.sem_msg.specs.declared.entry.Entry.{Entry as EntryData};
+ghost use Rattle.sem_msg.specs.Setup.{Setup as SetupData};
+ghost use Rattle.sem_machine.specs.Machine.{side, start};
+ghost use Rattle.sem_machine.specs.Schedules.{IsSchedule, world_after};
+ghost use Rattle.sem_query.specs.Whereabouts.{holder as holder_lem};
+ghost use Rattle.sem_query.specs.Changes.{grants_key};
+ghost use Rattle.sem_query.specs.Sightings.{IsSeen, IsReadied, is_key as is_key_lem, is_vpe as is_vpe_lem, is_root as is_root_lem, moves_at_home as moves_at_home_lem, may_move as may_move_lem};
+
+use crate::holder::Holder;
+use crate::moves::{brought_key, is_revoking, requested, resumed};
+use crate::sighting::Sighting;
+use crate::sights::{held_selector, is_held_at, is_ready_at, see, see_granted};
+use sem_grants::ended_by;
+use sem_kernel::World;
+use sem_key::{Key, same_key};
+use sem_msg::{Entry, Setup};
+
+impl Sighting {
+    /// Follows the key for that many entries.
+    pub fn new(key: Key, count: u64) -> Self
+        ensures key { result.key ≡ key }
+        ensures count { result.count ≡ count }
+    {
+        Sighting {
+            key,
+            count,
+            there: Holder::No,
+            is_moving: false,
+        }
+    }
+
+    /// Sees the world at the start.
+    pub fn begin(&mut self, setup: &Setup, world: &World)
+        requires { world.now.world ≡ start setup.now }
+        ensures seen { IsSeen setup.now [] self.new }
+        ensures key { self.new.key ≡ self.old.key }
+        ensures count { self.new.count ≡ self.old.count }
+    {
+        // So that the proof knows what a setup keeps.
+        let _ = &setup.vpes;
+        self.there = match held_selector(setup, world, self.key) {
+            Some(sel) => Holder::Unmarked(sel),
+            None => Holder::No,
+        };
+    }
+
+    /// Sees the world after the past entries, before the next one.
+    pub fn before(&mut self, setup: &Setup, world: &World, past: &[Entry], next: &Entry)
+        requires world { world.now.world ≡ world_after setup.now past.now }
+        requires seen { IsSeen setup.now past.now self.old }
+        ensures readied { IsReadied setup.now past.now next.now self.new }
+        ensures key { self.new.key ≡ self.old.key }
+        ensures count { self.new.count ≡ self.old.count }
+    {
+        self.is_moving = may_move(setup, world, next, self.key);
+    }
+
+    /// Sees the world after that entry.
+    pub fn after(&mut self, setup: &Setup, world: &World, past: &[Entry], next: &Entry)
+        requires schedule { IsSchedule setup.now (past.now ++ next.now ∷ []) }
+        requires world { world.now.world ≡ world_after setup.now (past.now ++ next.now ∷ []) }
+        requires readied { IsReadied setup.now past.now next.now self.old }
+        ensures seen { IsSeen setup.now (past.now ++ next.now ∷ []) self.new }
+        ensures key { self.new.key ≡ self.old.key }
+        ensures count { self.new.count ≡ self.old.count }
+    {
+        // So that the proof knows what a setup keeps.
+        let _ = &setup.vpes;
+        if past.len() as u64 >= self.count {
+            return;
+        }
+        if is_granted(next, self.key) {
+            self.there = see_granted(setup, world, self.key);
+        } else if self.is_moving {
+            self.there = see(setup, world, self.key);
+        }
+    }
+
+    /// Where the key is after `count` entries of a journal that has so many and was followed to its
+    /// end; nowhere, if there are fewer.
+    pub fn holder(&self, entries: u64) -> Holder
+        ensures { (T : SetupData) (J : List EntryData) → length J ≡ entries → IsSeen T J self.now
+            → result ≡ holder_lem T J self.now.key self.now.count }
+    {
+        if entries < self.count {
+            Holder::No
+        } else {
+            self.there
+        }
+    }
+}
+
+// Whether the entry grants the key.
+fn is_granted(entry: &Entry, key: Key) -> bool
+    ensures { result ≡ grants_key key entry.now }
+{
+    match entry.grant {
+        Some((_, child)) => same_key(&child, &key),
+        None => false,
+    }
+}
+
+// Whether the entry may move the key, but by granting it, in the world before it.
+fn may_move(setup: &Setup, world: &World, entry: &Entry, key: Key) -> bool
+    ensures { result ≡ may_move_lem setup.now world.now.world entry.now key }
+{
+    is_key(key, brought_key(entry))
+        || (setup.owner_of(key) == entry.event.kernel && moves_at_home(world, entry, key))
+}
+
+// The same, of a key of the entry's kernel.
+fn moves_at_home(world: &World, entry: &Entry, key: Key) -> bool
+    ensures { result
+        ≡ moves_at_home_lem key (side world.now.world entry.now.event.kernel) entry.now }
+{
+    let kernel = entry.event.kernel;
+    (is_vpe(key.vpe, resumed(entry.event.act)) && is_ready_at(world, kernel, key))
+        || (is_revoking(entry)
+            && ((is_root(entry, key) && is_ready_at(world, kernel, key))
+                || is_held_at(world, kernel, key)))
+}
+
+// Whether the entry begins to revoke at the key.
+fn is_root(entry: &Entry, key: Key) -> bool
+    ensures { result ≡ is_root_lem key entry.now }
+{
+    is_key(key, entry.cut)
+        || (is_key(key, requested(entry)) || is_vpe(key.vpe, ended_by(entry)))
+}
+
+// Whether the option is that key.
+fn is_key(key: Key, other: Option<Key>) -> bool
+    ensures { result ≡ is_key_lem key other }
+{
+    match other {
+        Some(other) => same_key(&other, &key),
+        None => false,
+    }
+}
+
+// Whether the option is that VPE.
+fn is_vpe(vpe: u16, other: Option<u16>) -> bool
+    ensures { result ≡ is_vpe_lem vpe other }
+{
+    match other {
+        Some(other) => other == vpe,
+        None => false,
+    }
+}
