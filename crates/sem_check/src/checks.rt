@@ -34,6 +34,7 @@ pub fn check_watched<W: Watch>(
     journal: &Journal,
     watch: &mut W,
 ) -> Result<World, CheckError>
+    requires { W.is_new watch.old }
     ensures complete { IfOk result (λ world. IsComplete setup.now journal.now.entries) }
     ensures world { IfOk result (λ world. world ≡ world_value setup.now journal.now.entries) }
     ensures gathered { OnOk result (W.gathers setup.now journal.now.entries watch.new) }

@@ -25,7 +25,8 @@ pub fn follow<W: Watch>(
     entries: &[Entry],
     watch: &mut W,
 ) -> Result<Option<Difference>, OutOfMemory>
-    requires { IsWorldAfter setup.now [] world.old }
+    requires start { IsWorldAfter setup.now [] world.old }
+    requires new { W.is_new watch.old }
     ensures all { IfOk result
         (λ difference. difference ≡ None → IsWorldAfter setup.now entries.now world.new) }
     ensures gathered { IfOk result

@@ -15,6 +15,9 @@ pub trait Watch {
     // what it is asked about
     ghost subject: { Self → Self.Subject };
 
+    // it has gathered nothing yet
+    ghost is_new: { Self → Type 0 };
+
     // what it has gathered of the entries so far, a schedule
     ghost gathers: { SetupData → List EntryData → Self → Type 0 };
 
@@ -23,7 +26,8 @@ pub trait Watch {
 
     /// Sees the world at the start.
     fn begin(&mut self, setup: &Setup, world: &World)
-        requires { IsWorldAfter setup.now [] world.now }
+        requires follows { IsWorldAfter setup.now [] world.now }
+        requires new { is_new self.old }
         ensures gathered { gathers setup.now [] self.new }
         ensures same { subject self.new ≡ subject self.old };
 
@@ -62,6 +66,8 @@ impl Watch for Unwatched {
     type Subject = bool;
 
     ghost subject = { λ _. true };
+
+    ghost is_new = { λ _. Unit {0} };
 
     ghost gathers = { λ _ _ _. Unit {0} };
 

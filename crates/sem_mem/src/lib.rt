@@ -15,5 +15,5 @@ mod writes;
 
 pub use contents::{print_contents, push_contents};
 pub use memory::Memory;
-pub use replays::accesses;
+pub use replays::{accesses, push_access};
 pub use sem_access::{Access, AccessList, Look, Run};

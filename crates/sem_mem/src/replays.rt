@@ -29,8 +29,9 @@ pub fn accesses(alloc: Global, setup: &Setup, journal: &Journal) -> Result<Acces
     Ok(found)
 }
 
-// Appends the access of what the entry reads or writes in the world before it, if it has one.
-fn push_access(
+/// Appends the access of what the entry at that place reads or writes in the world before it, if it
+/// has one.
+pub fn push_access(
     found: &mut AccessList,
     world: &World,
     place: u64,

@@ -47,7 +47,7 @@ use Rattle.sem_query.proofs.There.{some-of, there}
 
 -- The start.
 
-none-taken : (n : ℕ) → take n [] ≡ []
+none-taken : (n : ℕ) → take {A = Entry} n [] ≡ []
 none-taken n = take_all n [] zero-le
 
 module _ (T : Setup) (valid : IsSetup T) (k : KeyName) where

@@ -23,8 +23,9 @@ use Rattle.sem_cli.specs.declared.statuses.Status.TheVariants.{Done, Usage, Trac
 use Rattle.sem_msg.specs.declared.entry.Entry.{Entry}
 use Rattle.sem_run.specs.Inputs.{Given, Asks, IsUntouched, ReadsPart, ReadsTrace, IsQuietlyRead}
 use Rattle.sem_run.specs.Reports.{IsVerdict, is_accepted, verdict_line}
-use Rattle.sem_access.specs.declared.access.Access.{Access}
-use Rattle.sem_run.specs.Readings.{AreFound, IsAskable, Tells, IsVerdictTold}
+use Rattle.sem_run.specs.declared.findings.Finding.{Finding}
+use Rattle.sem_run.specs.Findings.{IsFound, IfAccepted, IsOf, IsAskable}
+use Rattle.sem_run.specs.Readings.{Tells, IsVerdictTold}
 use Rattle.sem_run.specs.Ends.{WouldEnd}
 
 -- nothing was read
@@ -115,12 +116,20 @@ input-verdict None read verdict is found = (read, tt, found)
 input-verdict (Some bytes) read verdict is found = (bytes, refl, same-verdict bytes read is verdict found)
 
 -- a verdict that is right accepts schedules alone
-pub askable : (bytes : List ℕ) (question : Question) (verdict : Verdict) (xs : List Access) → IsVerdict bytes verdict → AreFound question verdict xs → IsAskable question verdict xs
-askable bytes question (Accepted T journal due) xs found are = (found.0.complete.schedule, are)
-askable bytes question (BadLine fault) xs found are = tt
-askable bytes question (BadEntry journal n entered replayed) xs found are = tt
-askable bytes question (NotOver journal next) xs found are = tt
-askable bytes question (BadAudit line due) xs found are = tt
+pub askable : (bytes : List ℕ) (f : Finding) (verdict : Verdict) → IsVerdict bytes verdict → IfAccepted (λ T J. IsFound T J f) verdict → IsAskable f verdict
+askable bytes f (Accepted T journal due) right is = (right.0.complete.schedule, is)
+askable bytes f (BadLine fault) right is = tt
+askable bytes f (BadEntry journal n entered replayed) right is = tt
+askable bytes f (NotOver journal next) right is = tt
+askable bytes f (BadAudit line due) right is = tt
+
+-- what holds of a setup and a journal holds of a report of them that is accepted
+pub if-accepted : (P : Setup → List Entry → Type 0) (T : Setup) (J : List Entry) (verdict : Verdict) → IsOf T J verdict → P T J → IfAccepted P verdict
+if-accepted P T J (Accepted S journal due) is so = subst (λ S'. P S' journal.entries) (sym is.0) (subst (P T) (sym is.1) so)
+if-accepted P T J (BadLine fault) is so = tt
+if-accepted P T J (BadEntry journal n entered replayed) is so = tt
+if-accepted P T J (NotOver journal next) is so = tt
+if-accepted P T J (BadAudit line due) is so = tt
 
 -- what is not accepted is told by its line
 refused-line : (question : Question) (verdict : Verdict) (text : List ℕ) → is_accepted verdict ≡ false → Tells question verdict text → text ≡ verdict_line verdict

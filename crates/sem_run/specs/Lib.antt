@@ -3,3 +3,4 @@ pub mod Reports
 pub mod Ends
 pub mod Serves
 pub mod Readings
+pub mod Findings

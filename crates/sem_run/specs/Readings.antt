@@ -5,16 +5,13 @@ use Rattle.sem_msg.specs.declared.entry.Entry.{Entry}
 use Rattle.sem_msg.specs.Journal.{replies}
 use Rattle.sem_msg.specs.Setup.{Setup}
 use Rattle.sem_trace.specs.declared.fault.TraceFault.{TraceFault}
-use Rattle.sem_machine.specs.Schedules.{IsSchedule, world_after}
+use Rattle.sem_machine.specs.Schedules.{world_after}
 use Rattle.sem_machine.specs.Living.{IsComplete}
 use Rattle.sem_kernel.specs.KernelValue.{KernelValue}
 use Rattle.sem_audit.specs.HeldKeys.{report}
 use Rattle.sem_audit.specs.Straying.{stray_count}
 use Rattle.sem_cli.specs.declared.forms.Command.{Command}
 use Rattle.sem_cli.specs.declared.forms.Question.{Question}
-use Rattle.sem_cli.specs.declared.forms.Question.TheVariants.{Check, Contents, Holder, Path, Denied}
-use Rattle.sem_access.specs.declared.access.Access.{Access}
-use Rattle.sem_access.specs.Accesses.{accesses}
 use Rattle.sem_cli.specs.declared.statuses.Status.{Status}
 use Rattle.sem_cli.specs.declared.statuses.Status.TheVariants.{Done, Usage, TraceRefused, ReadFault, WriteFault, Memory, ReportRefused}
 use Rattle.sem_cli.specs.Messages.{refused_line}
@@ -81,32 +78,6 @@ IsLoadTold T J vpes calls text ReportRefused = ⊥
 -- these are the kernels after the journal
 abbrev pub AreAfter : Setup → List Entry → List KernelValue → Type 0
 AreAfter T J kernels = map (λ k. k.side) kernels ≡ (world_after T J).sides
-
--- what is found of a schedule that a question is about
-abbrev pub FoundFor : Question → Setup → List Entry → List Access → Type 0
-FoundFor Check T J xs = Unit {0}
-FoundFor Contents T J xs = xs ≡ accesses T J
-FoundFor (Holder key count) T J xs = Unit {0}
-FoundFor (Path key) T J xs = Unit {0}
-FoundFor (Denied entry) T J xs = Unit {0}
-
--- it is there if the report is accepted
-abbrev pub AreFound : Question → Verdict → List Access → Type 0
-AreFound question (Accepted T journal due) xs = FoundFor question T journal.entries xs
-AreFound question (BadLine fault) xs = Unit {0}
-AreFound question (BadEntry journal n entered replayed) xs = Unit {0}
-AreFound question (NotOver journal next) xs = Unit {0}
-AreFound question (BadAudit line due) xs = Unit {0}
-
--- a report that is accepted tells a schedule, and what is found of it is there, so that the question
--- has an answer
-abbrev pub IsAskable : Question → Verdict → List Access → Type 0
-IsAskable question (Accepted T journal due) xs =
-    IsSchedule T journal.entries × FoundFor question T journal.entries xs
-IsAskable question (BadLine fault) xs = Unit {0}
-IsAskable question (BadEntry journal n entered replayed) xs = Unit {0}
-IsAskable question (NotOver journal next) xs = Unit {0}
-IsAskable question (BadAudit line due) xs = Unit {0}
 
 -- the text answers the question where the report is accepted, else it tells the verdict
 abbrev pub Tells : Question → Verdict → List ℕ → Type 0

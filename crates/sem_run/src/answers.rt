@@ -5,17 +5,18 @@ ghost use Rattle.sem_cli.specs.declared.forms.Command.TheVariants.{Ask};
 ghost use Rattle.sem_run.specs.Inputs.{given};
 ghost use Rattle.sem_run.specs.Reports.{is_accepted as is_accepted_lem};
 ghost use Rattle.sem_run.specs.Ends.{IsAnswer};
-ghost use Rattle.sem_run.specs.Readings.{Responds, IsAskable, FoundFor, Tells, TellsVerdict};
+ghost use Rattle.sem_run.specs.Readings.{Responds, Tells, TellsVerdict};
+ghost use Rattle.sem_run.specs.Findings.{question_of, IsFound, IsAskable};
 
-use crate::judging::judge_for;
+use crate::findings::Finding;
+use crate::judging::judge_watched;
 use crate::response::Response;
-use sem_access::Access;
 use sem_cli::{Question, Status, ok, push_bad_line, push_differing, push_going_on};
 use sem_io::{Source, read_all};
 use sem_key::OutOfMemory;
 use sem_mem::push_contents;
 use sem_msg::{Journal, Setup};
-use sem_query::{denied, path, whereabouts};
+use sem_query::{denied, path, push_whereabouts};
 use sem_report::Verdict;
 use sem_trace::{Cause, TraceFault};
 use std::alloc::Global;
@@ -32,20 +33,20 @@ pub fn answer<S: Source>(alloc: Global, question: Question, input: &mut S) -> Re
         Ok(bytes) => bytes,
         Err(error) => return Response::unread(alloc, error),
     };
-    let asked = question;
-    match judge_for(alloc, &bytes, asked) {
-        Ok((verdict, found)) => tell_verdict(alloc, question, &verdict, found.as_slice()),
+    let mut finding = Finding::new(alloc, question);
+    match judge_watched(alloc, &bytes, &mut finding) {
+        Ok(verdict) => tell_verdict(alloc, &finding, &verdict),
         Err(_) => Response::out_of_memory(alloc, Journal::new(alloc)),
     }
 }
 
 // The response that answers the question or tells the verdict.
-fn tell_verdict(alloc: Global, question: Question, verdict: &Verdict, found: &[Access]) -> Response
-    requires { IsAskable question verdict.now found.now }
-    ensures { TellsVerdict question verdict.now result }
+fn tell_verdict(alloc: Global, finding: &Finding, verdict: &Verdict) -> Response
+    requires { IsAskable finding.now verdict.now }
+    ensures { TellsVerdict (question_of finding.now) verdict.now result }
 {
     let mut text = Vec::new(alloc);
-    match push_verdict(alloc, &mut text, question, verdict, found) {
+    match push_verdict(alloc, &mut text, finding, verdict) {
         Ok(()) if is_accepted(verdict) => Response::told(alloc, Status::Done, text),
         Ok(()) => Response::told(alloc, Status::ReportRefused, text),
         Err(_) => Response::out_of_memory(alloc, Journal::new(alloc)),
@@ -63,17 +64,16 @@ fn is_accepted(verdict: &Verdict) -> bool
 fn push_verdict(
     alloc: Global,
     out: &mut Vec<u8>,
-    question: Question,
+    finding: &Finding,
     verdict: &Verdict,
-    found: &[Access],
 ) -> Result<(), OutOfMemory>
-    requires askable { IsAskable question verdict.now found.now }
+    requires askable { IsAskable finding.now verdict.now }
     requires empty { out.old.items ≡ [] }
-    ensures { OnOk result (Tells question verdict.now out.new.items) }
+    ensures { OnOk result (Tells (question_of finding.now) verdict.now out.new.items) }
 {
     match verdict {
         Verdict::Accepted { setup, journal, .. } => {
-            push_answer(alloc, out, question, setup, journal, found)
+            push_answer(alloc, out, finding, setup, journal)
         }
         Verdict::BadLine { fault } => push_bad_line(out, fault),
         Verdict::BadEntry {
@@ -97,23 +97,23 @@ fn push_verdict(
 fn push_answer(
     alloc: Global,
     out: &mut Vec<u8>,
-    question: Question,
+    finding: &Finding,
     setup: &Setup,
     journal: &Journal,
-    found: &[Access],
 ) -> Result<(), OutOfMemory>
     requires schedule { IsSchedule setup.now journal.now.entries }
-    requires found { FoundFor question setup.now journal.now.entries found.now }
+    requires found { IsFound setup.now journal.now.entries finding.now }
     requires empty { out.old.items ≡ [] }
-    ensures { OnOk result (IsAnswer question setup.now journal.now.entries out.new.items) }
+    ensures { OnOk result
+        (IsAnswer (question_of finding.now) setup.now journal.now.entries out.new.items) }
 {
     // So that the proof knows what a setup keeps.
     let _ = &setup.vpes;
-    match question {
-        Question::Check => out.extend_from_slice(ok()),
-        Question::Contents => push_contents(alloc, out, found),
-        Question::Holder { key, count } => { whereabouts(alloc, setup, journal, key, count, out) }
-        Question::Path { key } => path(alloc, setup, journal, key, out),
-        Question::Denied { entry } => denied(alloc, setup, journal, entry, out),
+    match finding {
+        Finding::Nothing => out.extend_from_slice(ok()),
+        Finding::Accesses(list) => push_contents(alloc, out, list.as_slice()),
+        Finding::Sighted(sighting) => push_whereabouts(alloc, sighting, journal, out),
+        Finding::Line(key) => path(alloc, setup, journal, *key, out),
+        Finding::Denial(entry) => denied(alloc, setup, journal, *entry, out),
     }
 }

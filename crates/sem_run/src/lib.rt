@@ -5,6 +5,7 @@
 mod accepts;
 mod alone;
 mod answers;
+mod findings;
 mod generates;
 mod judging;
 mod process;
@@ -14,6 +15,7 @@ mod runs;
 mod soaks;
 mod threads;
 mod top;
+mod watches;
 
 pub use accepts::reports_are_accepted;
 pub use alone::semper_alone;

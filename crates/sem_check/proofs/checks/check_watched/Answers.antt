@@ -5,8 +5,8 @@ use Rattle.sem_bound.proofs.Spent.{limited}
 use Rattle.sem_check.proofs.Following.{start-after}
 use Rattle.sem_check.proofs.checks.check_watched.Goals as goal
 
-pub follow-requires : goal.follow-requires
-follow-requires g c = start-after c.args.setup.now c.in_ok-world.world c.in_ok-world.ensures
+pub follow-requires-clause-start : goal.follow-requires-clause-start
+follow-requires-clause-start g c = start-after c.args.setup.now c.in_ok-world.world c.in_ok-world.ensures
 
 -- what is so at all is so after Ok
 on-ok : {V E X : Type 0} (r : Result V E) → X → OnOk r X

@@ -4,7 +4,7 @@ use Rattle.sem_check.proofs.follows.follow.Goals as goal
 
 pub loop-place-init : goal.loop-place-init
 loop-place-init g c = record {
-  follows = following-start c.args.setup.now c.args.entries.now c.args.world.now c.requires;
+  follows = following-start c.args.setup.now c.args.entries.now c.args.world.now c.requires.start;
   gathered = c.begin.ensures.gathered;
   same = c.begin.ensures.same;
 }

@@ -2,8 +2,8 @@ use Rattle.sem_check.proofs.Following.{start-after}
 use Rattle.sem_check.proofs.Longest.{all-longest, differs-longest}
 use Rattle.sem_check.proofs.replays.schedule_length.Goals as goal
 
-pub follow-requires : goal.follow-requires
-follow-requires c = start-after c.args.setup.now c.in_ok-world.world c.in_ok-world.ensures
+pub follow-requires-clause-start : goal.follow-requires-clause-start
+follow-requires-clause-start c = start-after c.args.setup.now c.in_ok-world.world c.in_ok-world.ensures
 
 pub returns-in-None : goal.returns-in-None
 returns-in-None c = all-longest c.args.setup.now c.args.entries.now (c.in_ok-follow.ensures.all c.in-None.is).schedule

@@ -1,0 +1,66 @@
+-- Words of private contracts: a question about a report, with what is found while it is checked.
+use Rattle.std.specs.Prelude.{◌≡◌, List, [], ◌++◌, length}
+use Rattle.std.specs.Option.{option_to_list}
+use Rattle.sem_msg.specs.declared.entry.Entry.{Entry}
+use Rattle.sem_msg.specs.Setup.{Setup}
+use Rattle.sem_machine.specs.Schedules.{IsSchedule, world_after}
+use Rattle.sem_access.specs.Accesses.{accesses}
+use Rattle.sem_access.specs.Transfers.{transfer_of, access_by}
+use Rattle.sem_query.specs.Sightings.{IsSeen, IsReadied}
+use Rattle.sem_cli.specs.declared.forms.Question.{Question}
+use Rattle.sem_cli.specs.declared.forms.Question.TheVariants.{Check, Contents, Holder, Path, Denied}
+use Rattle.sem_report.specs.declared.verdict.Verdict.{Verdict}
+use Rattle.sem_report.specs.declared.verdict.Verdict.TheVariants.{Accepted, BadLine, BadEntry, NotOver, BadAudit}
+use Rattle.sem_run.specs.declared.findings.Finding.{Finding}
+use Rattle.sem_run.specs.declared.findings.Finding.TheVariants.{Nothing, Accesses, Sighted, Line, Denial}
+
+-- the question that it is about
+abbrev pub question_of : Finding → Question
+question_of Nothing = Check
+question_of (Accesses xs) = Contents
+question_of (Sighted s) = Holder s.key s.count
+question_of (Line key) = Path key
+question_of (Denial entry) = Denied entry
+
+-- nothing was found yet
+abbrev pub IsNew : Finding → Type 0
+IsNew Nothing = Unit {0}
+IsNew (Accesses xs) = xs ≡ []
+IsNew (Sighted s) = Unit {0}
+IsNew (Line key) = Unit {0}
+IsNew (Denial entry) = Unit {0}
+
+-- what is found of a schedule
+abbrev pub IsFound : Setup → List Entry → Finding → Type 0
+IsFound T J Nothing = Unit {0}
+IsFound T J (Accesses xs) = xs ≡ accesses T J
+IsFound T J (Sighted s) = IsSeen T J s
+IsFound T J (Line key) = Unit {0}
+IsFound T J (Denial entry) = Unit {0}
+
+-- the same, when the world before the next entry was seen too
+abbrev pub IsFoundBefore : Setup → List Entry → Entry → Finding → Type 0
+IsFoundBefore T J e Nothing = Unit {0}
+IsFoundBefore T J e (Accesses xs) =
+    xs ≡ accesses T J
+    ++ option_to_list (access_by T (world_after T J) (length J) (transfer_of e))
+IsFoundBefore T J e (Sighted s) = IsReadied T J e s
+IsFoundBefore T J e (Line key) = Unit {0}
+IsFoundBefore T J e (Denial entry) = Unit {0}
+
+-- what holds of the setup and the journal of a report that is accepted
+abbrev pub IfAccepted : (Setup → List Entry → Type 0) → Verdict → Type 0
+IfAccepted P (Accepted T journal due) = P T journal.entries
+IfAccepted P (BadLine fault) = Unit {0}
+IfAccepted P (BadEntry journal n entered replayed) = Unit {0}
+IfAccepted P (NotOver journal next) = Unit {0}
+IfAccepted P (BadAudit line due) = Unit {0}
+
+-- a report that is accepted has this setup and this journal
+abbrev pub IsOf : Setup → List Entry → Verdict → Type 0
+IsOf T J verdict = IfAccepted (λ S K. (S ≡ T) × (K ≡ J)) verdict
+
+-- a report that is accepted tells a schedule, of which all is found that the question is about, so
+-- that it has an answer
+abbrev pub IsAskable : Finding → Verdict → Type 0
+IsAskable f verdict = IfAccepted (λ T J. IsSchedule T J × IsFound T J f) verdict

@@ -1,0 +1,82 @@
+// What is found of a report while it is checked.
+ghost use Rattle.std.specs.Prelude.{◌≡◌, OnOk};
+ghost use Rattle.sem_run.specs.Findings.{question_of, IsNew, IsFound, IsFoundBefore};
+
+use crate::findings::Finding;
+use sem_access::AccessList;
+use sem_check::Watch;
+use sem_cli::Question;
+use sem_kernel::World;
+use sem_key::OutOfMemory;
+use sem_mem::push_access;
+use sem_msg::{Entry, Setup};
+use sem_query::Sighting;
+use std::alloc::Global;
+
+impl Finding {
+    /// Nothing is found yet of what the question is about.
+    pub fn new(alloc: Global, question: Question) -> Self
+        ensures question { question_of result ≡ question }
+        ensures new { IsNew result }
+    {
+        match question {
+            Question::Check => Finding::Nothing,
+            Question::Contents => Finding::Accesses(AccessList::new(alloc)),
+            Question::Holder { key, count } => Finding::Sighted(Sighting::new(key, count)),
+            Question::Path { key } => Finding::Line(key),
+            Question::Denied { entry } => Finding::Denial(entry),
+        }
+    }
+}
+
+impl Watch for Finding {
+    type Subject = Question;
+
+    ghost subject = { λ f. question_of f };
+
+    ghost is_new = { λ f. IsNew f };
+
+    ghost gathers = { λ T J f. IsFound T J f };
+
+    ghost expects = { λ T J e f. IsFoundBefore T J e f };
+
+    fn begin(&mut self, setup: &Setup, world: &World) {
+        match self {
+            Finding::Sighted(sighting) => sighting.begin(setup, world),
+            _ => {}
+        }
+    }
+
+    fn before(
+        &mut self,
+        setup: &Setup,
+        world: &World,
+        past: &[Entry],
+        next: &Entry,
+    ) -> Result<(), OutOfMemory> {
+        match self {
+            Finding::Accesses(list) => push_access(list, world, past.len() as u64, next),
+            Finding::Sighted(sighting) => {
+                sighting.before(setup, world, past, next);
+                Ok(())
+            }
+            _ => Ok(()),
+        }
+    }
+
+    fn after(
+        &mut self,
+        setup: &Setup,
+        world: &World,
+        past: &[Entry],
+        next: &Entry,
+    ) -> Result<(), OutOfMemory> {
+        match self {
+            Finding::Sighted(sighting) => {
+                sighting.after(setup, world, past, next);
+                Ok(())
+            }
+            _ => Ok(()),
+        }
+    }
+}
