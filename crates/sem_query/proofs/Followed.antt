@@ -2,12 +2,12 @@
 use Rattle.std.proofs.Common.{◌≡◌, ◌⊎◌, ℕ, ◌<◌, ◌≤◌, zero-le, Bool, true, false, List, [], ◌∷◌, ◌++◌, length, take, Option, Some, None, IsSome, refl, sym, ap, ◌∙◌, subst, inl, inr, arith, eq-eqb}
 use Rattle.std.specs.Prelude.{◌==◌, ◌&&◌, ◌||◌, is_some}
 use Rattle.std.specs.Option.{option_map, option_map_or}
-use Rattle.std.proofs.lemmas.Bool.{cases_Bool, and_from, and_parts, eqb-true, true≢false}
+use Rattle.std.proofs.lemmas.Bool.{and_from, and_parts, eqb-true, true≢false}
 use Rattle.std.proofs.lemmas.Option.{same_Some}
 use Rattle.std.proofs.lemmas.List.{take_all, take-append-le, length-append}
 use Rattle.sem_key.specs.KeyName.{KeyName, key_eq}
 use Rattle.sem_key.specs.Capability.{Capability}
-use Rattle.sem_key.proofs.KeyTests.{key_eq-true, key_eq-from, key_eq-same}
+use Rattle.sem_key.proofs.KeyTests.{key_eq-true, key_eq-from}
 use Rattle.sem_key.proofs.Members.{found}
 use Rattle.sem_msg.specs.declared.call.Call.TheVariants.{Exit}
 use Rattle.sem_msg.specs.declared.message.Message.{Message}
@@ -23,7 +23,7 @@ use Rattle.sem_msg.specs.ParkedStates.{is_ready_with}
 use Rattle.sem_machine.specs.Sides.{Side, cap, parked}
 use Rattle.sem_machine.specs.Machine.{World, side, start}
 use Rattle.sem_machine.specs.Schedules.{IsSchedule, world_after}
-use Rattle.sem_machine.specs.Journals.{root_keys, ends}
+use Rattle.sem_machine.specs.Journals.{ends}
 use Rattle.sem_machine.specs.Living.{IsLive}
 use Rattle.sem_grants.specs.Ending.{ended_by}
 use Rattle.sem_safety.proofs.CarryingWorlds.{used-made}
@@ -33,12 +33,11 @@ use Rattle.sem_query.specs.declared.holder.Holder.{Holder}
 use Rattle.sem_query.specs.declared.holder.Holder.TheVariants.{Unmarked, Way, No}
 use Rattle.sem_query.specs.declared.sighting.Sighting.{Sighting}
 use Rattle.sem_query.specs.Whereabouts.{brings, held_as, held_with, unheld, is_coming, whereabouts, whereabouts_after, Passes}
-use Rattle.sem_query.specs.Whereabouts.Passes.{born_on_its_way, born_held}
 use Rattle.sem_query.specs.Changes.{is_revoking, grants_key, seen_at_home, IsRootOf, MayChange}
 use Rattle.sem_query.specs.Changes.IsRootOf.{of_cut, of_request, of_end}
 use Rattle.sem_query.specs.Changes.MayChange.{by_grant, by_message, by_resume, by_end, by_revoking}
 use Rattle.sem_query.specs.Building.{brought_in, brought_by, requested, resumed, seen_granted}
-use Rattle.sem_query.specs.Sightings.{is_key, is_vpe, is_root, moves_at_home, may_move, IsSeen, IsReadied}
+use Rattle.sem_query.specs.Sightings.{is_key, is_vpe, is_root, moves_at_home, may_move, IsReadied}
 use Rattle.sem_query.proofs.AtHome.{at-home}
 use Rattle.sem_query.proofs.Changing.{changes}
 use Rattle.sem_query.proofs.Passing.{passes}

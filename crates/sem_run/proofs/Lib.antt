@@ -5,3 +5,4 @@ pub mod Ending
 pub mod FoundVerdicts
 pub mod Accepting
 pub mod Serving
+mod Finding

@@ -71,6 +71,8 @@ impl Watch for Finding {
         past: &[Entry],
         next: &Entry,
     ) -> Result<(), OutOfMemory> {
+        // So that the proof knows what a setup keeps.
+        let _ = &setup.vpes;
         match self {
             Finding::Sighted(sighting) => {
                 sighting.after(setup, world, past, next);

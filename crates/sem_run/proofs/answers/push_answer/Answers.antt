@@ -16,18 +16,35 @@ use Rattle.sem_run.specs.Findings.{question_of, IsFound}
 use Rattle.sem_run.proofs.answers.push_answer.Goals as goal
 
 pub push_contents-requires : goal.push_contents-requires
-push_contents-requires c = ?
+push_contents-requires c =
+    let T : Setup = c.args.setup.now in
+    let J : List Entry = c.args.journal.now.entries in
+    let listed : c.as_slice.result.now ≡ accesses T J = c.as_slice.ensures ∙ subst (IsFound T J) c.in-Accesses.is c.requires.found in
+    subst AreInOrder (sym listed) (in-order T (subst IsSetup c.setup.view_is c.setup.invariant) J c.requires.schedule)
 
 -- the text of the accesses is that of the journal
 pub returns-in-Accesses : goal.returns-in-Accesses
-returns-in-Accesses c = ?
+returns-in-Accesses c =
+    let T : Setup = c.args.setup.now in
+    let J : List Entry = c.args.journal.now.entries in
+    let xs : List Access = c.as_slice.result.now in
+    let listed : xs ≡ accesses T J = c.as_slice.ensures ∙ subst (IsFound T J) c.in-Accesses.is c.requires.found in
+    subst (λ (f : Finding). OnOk c.push_contents.result (IsAnswer (question_of f) T J c.push_contents.new.out.items)) (sym c.in-Accesses.is)
+    (on_ok_weaker c.push_contents.result (λ told.
+    told (length J) (subst (AreBefore (length J)) (sym listed) (all-before T J))
+    ∙ (ap (λ bytes. bytes ++ text (access_lines xs (length J))) c.requires.empty
+    ∙ ap (λ (ys : List Access). text (access_lines ys (length J))) listed)) c.push_contents.ensures)
 
 -- what is appended to nothing is the answer
 alone : (out old : List ℕ) (told : List ℕ) → old ≡ [] → out ≡ old ++ told → out ≡ told
 alone out old told none is = is ∙ ap (λ bytes. bytes ++ told) none
 
 pub returns-in-Sighted : goal.returns-in-Sighted
-returns-in-Sighted c = ?
+returns-in-Sighted c =
+    let T : Setup = c.args.setup.now in
+    let J : List Entry = c.args.journal.now.entries in
+    subst (λ (f : Finding). OnOk c.push_whereabouts.result (IsAnswer (question_of f) T J c.push_whereabouts.new.out.items)) (sym c.in-Sighted.is)
+    (on_ok_weaker c.push_whereabouts.result (λ is. alone _ _ _ c.requires.empty is) (c.push_whereabouts.ensures.ok T (subst (IsFound T J) c.in-Sighted.is c.requires.found)))
 
 pub returns-in-Line : goal.returns-in-Line
 returns-in-Line c =
@@ -41,4 +58,4 @@ returns-in-Denial c =
     let T : Setup = c.args.setup.now in
     let J : List Entry = c.args.journal.now.entries in
     subst (λ (f : Finding). OnOk c.denied.result (IsAnswer (question_of f) T J c.denied.new.out.items)) (sym c.in-Denial.is)
-    (on_ok_weaker c.denied.result (λ is. subst (IsDenied T J c.in-Denial.entry.now) (sym (alone _ _ _ c.requires.empty is.2)) is.1) c.denied.ensures.ok)
+    (on_ok_weaker c.denied.result (λ is. subst (IsDenied T J c.in-Denial.entry) (sym (alone _ _ _ c.requires.empty is.2)) is.1) c.denied.ensures.ok)

@@ -1,5 +1,6 @@
 use Rattle.std.proofs.Common.{rules}
 use Rattle.sem_msg.specs.Audits.{held_pairs}
+use Rattle.sem_run.proofs.ReadInput.{if-accepted}
 use Rattle.sem_run.proofs.judging.judge_watched.Goals as goal
 
 -- an entry differs
@@ -11,4 +12,5 @@ returns-in-Err-Differs-clause-verdict g c =
 
 -- all is gathered of a report that is accepted
 pub returns-in-Ok-audit_complete-clause-gathered : goal.returns-in-Ok-audit_complete-clause-gathered
-returns-in-Ok-audit_complete-clause-gathered g c = ?
+returns-in-Ok-audit_complete-clause-gathered g c =
+    if-accepted (λ T J. g.W.Watch.gathers T J c.audit_complete.new.watch) c.in-Ok.report.0 c.in-Ok.report.1.entries c.judge_audit.result c.judge_audit.ensures.of c.in-Ok-audit_complete.ensures.gathered

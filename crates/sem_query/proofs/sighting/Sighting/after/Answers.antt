@@ -1,10 +1,10 @@
-use Rattle.std.proofs.Common.{◌≡◌, ◌<◌, true, false, length, ap, arith, subst, sym, ◌∙◌}
+use Rattle.std.proofs.Common.{ap, arith, subst, sym, ◌∙◌}
 use Rattle.sem_msg.specs.Setup.{IsSetup}
 use Rattle.sem_msg.specs.Lookups.{owner_of}
 use Rattle.sem_machine.specs.Machine.{World, side}
-use Rattle.sem_query.specs.Changes.{grants_key, seen_at_home}
+use Rattle.sem_query.specs.Changes.{seen_at_home}
 use Rattle.sem_query.specs.Building.{seen_granted}
-use Rattle.sem_query.proofs.Followed.{past-seen, granted-seen, moved-seen, unmoved-seen}
+use Rattle.sem_query.proofs.Followed.{granted-seen, moved-seen, unmoved-seen}
 use Rattle.sem_query.proofs.sighting.Sighting.after.Goals as goal
 
 pub returns-then-is_granted-clause-seen : goal.returns-then-is_granted-clause-seen
