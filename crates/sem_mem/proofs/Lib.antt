@@ -8,3 +8,4 @@ mod Replaying
 pub mod KeptLongest
 pub mod Telling
 pub mod Ordering
+mod Accounting

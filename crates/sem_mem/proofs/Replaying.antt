@@ -7,7 +7,7 @@ use Rattle.sem_msg.specs.declared.entry.Entry.{Entry}
 use Rattle.sem_msg.specs.Setup.{Setup, IsSetup}
 use Rattle.sem_machine.specs.Machine.{World, start, after, is_enabled, entry_of}
 use Rattle.sem_machine.specs.Schedules.{IsSchedule, world_after}
-use Rattle.sem_safety.proofs.GoingOn.{entry-enabled, run-append}
+use Rattle.sem_safety.proofs.GoingOn.{entry-enabled, run-append, run-prefix}
 use Rattle.sem_kernel.specs.Worlds.{WorldValue}
 use Rattle.sem_access.specs.declared.access.Access.{Access}
 use Rattle.sem_access.specs.Accesses.{accesses}
@@ -36,6 +36,16 @@ module _ (T : Setup) (J : List Entry) (runs : IsSchedule T J) (i : ℕ) (e : Ent
       let one-more : take (i + 1) J ≡ take i J ++ e ∷ [] = take_more J i e within ∙ ap (λ (x : Entry). take i J ++ x ∷ []) (sym at) in
       is ∙ (ap (λ (w : WorldValue). record { setup = w.setup; world = after w.setup w.world e.event }) so_far
       ∙ ap (λ (W : World). record { setup = T; world = W }) (sym (ap (world_after T) one-more ∙ run-append T (take i J) (e ∷ []) (start T))))
+
+  -- they are a schedule together
+  pub next-runs : IsSchedule T (take i J ++ e ∷ [])
+  next-runs = run-prefix T (take i J) e' e (start T) (subst (IsSchedule T) with-it runs)
+    where
+      e' : List Entry
+      e' = drop (suc i) J
+
+  pub next-entries : take i J ++ e ∷ [] ≡ take (i + 1) J
+  next-entries = sym (take_more J i e within ∙ ap (λ (x : Entry). take i J ++ x ∷ []) (sym at))
 
   -- and its access is found
   pub next-accesses : IsSetup T → (found : List Access) → found ≡ accesses T (take i J) → found ++ option_to_list (access_by now.setup now.world i (transfer_of e)) ≡ accesses T (take (i + 1) J)

@@ -12,7 +12,7 @@ use Rattle.sem_access.specs.declared.access.Access.{Access}
 use Rattle.sem_access.specs.declared.run.Run.{Run}
 use Rattle.sem_access.specs.declared.look.Look.{Look}
 use Rattle.sem_access.specs.LastWrites.{is_write_at, is_write_before, greater, greatest, greatest_entry, last_write_in, looked}
-use Rattle.sem_access.specs.Runs.{AreRuns, all_runs, entry_at, IsNewer}
+use Rattle.sem_access.specs.Runs.{AreRuns, all_runs, entry_at}
 use Rattle.sem_access.specs.ContentsText.{read_line, run_line, reads, found_by, access_lines}
 use Rattle.sem_mem.specs.Reading.{AreInOrder, AreBefore}
 use Rattle.sem_mem.proofs.KeptLongest.{kept-runs}
@@ -85,7 +85,7 @@ same-found f g same (suc n) base =
     ap (λ o. cons_option o (filter_map f (range_with_len (base + 1) n))) (same base)
     ∙ ap (cons_option (g base)) (same-found f g same n (base + 1))
 
-looked-same : (f g : ℕ → Option ℕ) → ((a : ℕ) → f a ≡ g a) → (base len : ℕ) → looked f base len ≡ looked g base len
+pub looked-same : (f g : ℕ → Option ℕ) → ((a : ℕ) → f a ≡ g a) → (base len : ℕ) → looked f base len ≡ looked g base len
 unfolding looked
 looked-same f g same base len = ap (λ xs. found (length xs) (greatest xs)) (same-found f g same len base)
   where
@@ -108,7 +108,7 @@ module _ (xs : List Access) (order : AreInOrder xs) (i : ℕ) (x : Access) (is :
   later-than k e lt below = subst (λ (y : Access). y.entry < (get_or xs k e).entry) (here e) (order.rise i k e lt below)
 
   -- those before it
-  before-it : AreBefore x.entry (take i xs)
+  pub before-it : AreBefore x.entry (take i xs)
   before-it k e below =
       let size : length (take i xs) ≡ i = length-take-le i xs (omega (arith, within)) in
       let lt : k < i = omega (arith, below, size) in
@@ -160,12 +160,6 @@ module _ (xs : List Access) (order : AreInOrder xs) (i : ℕ) (x : Access) (is :
   -- it ends within memory
   pub fits-here : x.base + x.len ≤ ADDRESSES
   fits-here = subst (λ (y : Access). y.base + y.len ≤ ADDRESSES) (here x) (order.fit i x within)
-
-  -- memory in which it is the newest is older than those behind it
-  pub older-more : (rs : List Run) → IsNewer rs (x.entry + 1) → (k : ℕ) (e : Access) → i + 1 ≤ k → k < length xs → IsNewer rs (get_or xs k e).entry
-  older-more rs newest k e le below =
-      let late = later-than k e (omega (arith, le)) below in
-      All-weaker (λ (r : Run). r.entry < x.entry + 1) (λ (r : Run). r.entry < (get_or xs k e).entry) (λ r old. omega (arith, old, late)) rs newest
 
 -- The whole text: the first line, the reads, the runs, the last line.
 pub whole-text : (xs : List Access) (n : ℕ) (rs : List Run) (start headed read ran ended : List ℕ) → AreBefore n xs → AreRuns rs → ((a : ℕ) → entry_at rs a ≡ greatest_entry (is_write_at a) xs)

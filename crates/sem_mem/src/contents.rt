@@ -1,19 +1,23 @@
 // The text that tells what memory holds. After lack of memory each of these functions but
 // `print_contents` may have appended a part.
-ghost use Rattle.std.specs.Prelude.{◌≡◌, ◌+◌, ◌≤◌, ◌++◌, ◌∷◌, [], ℕ, Some, map, if◌then◌else◌, OnOk, OnErr, IfOk};
+ghost use Rattle.std.specs.Prelude.{◌≡◌, ◌+◌, ◌≤◌, ◌++◌, ◌∷◌, [], ℕ, List, Some, map, if◌then◌else◌, OnOk, OnErr, IfOk};
 ghost use Rattle.sem_key.specs.declared.limits.TheConstants.{ADDRESSES};
 ghost use Rattle.sem_text.specs.Lines.{line, text};
 ghost use Rattle.sem_machine.specs.Schedules.{IsSchedule};
-ghost use Rattle.sem_access.specs.LastWrites.{is_write_at, greatest_entry, looked};
+ghost use Rattle.sem_access.specs.declared.access.Access.{Access as AccessData};
+ghost use Rattle.sem_access.specs.LastWrites.{is_write_at, looked};
 ghost use Rattle.sem_access.specs.Runs.{entry_at, IsNewer};
-ghost use Rattle.sem_access.specs.ContentsText.{entry_word, read_line, run_line, reads, found_by, access_lines, contents};
-ghost use Rattle.sem_mem.specs.Reading.{AreInOrder, AreBefore};
+ghost use Rattle.sem_access.specs.ContentsText.{entry_word, read_line, run_line, access_lines, contents};
+ghost use Rattle.sem_mem.specs.Reading.{AreBefore};
+ghost use Rattle.sem_mem.specs.Accounts.{IsAccount, IsAccountOf};
 
+use crate::account::Account;
 use crate::memory::Memory;
-use crate::replays::accesses;
+use crate::replays::go_on;
 use sem_access::{Access, Look, Run};
+use sem_kernel::World;
 use sem_key::OutOfMemory;
-use sem_msg::{Journal, Setup};
+use sem_msg::{Entry, Journal, Setup};
 use sem_text::push_number;
 use sem_trace::{push_line, push_start};
 use std::alloc::Global;
@@ -33,43 +37,46 @@ pub fn print_contents(
 {
     // So that the proof knows what a setup keeps.
     let _ = &setup.vpes;
-    let list = accesses(alloc, setup, journal)?;
+    let account = account_of(alloc, setup, journal.as_slice())?;
     let mut told = Vec::new(alloc);
-    push_contents(alloc, &mut told, list.as_slice())?;
+    push_contents(alloc, &mut told, &account)?;
     out.extend_from_slice(&told)
 }
 
-/// Appends the text that tells what memory holds after accesses, which are in their order. After lack
-/// of memory a part may be there.
-pub fn push_contents(alloc: Global, out: &mut Vec<u8>, list: &[Access]) -> Result<(), OutOfMemory>
-    requires { AreInOrder list.now }
-    ensures { OnOk result ((n : ℕ) → AreBefore n list.now
-        → out.new.items ≡ out.old.items ++ text (access_lines list.now n)) }
+// The account of entries that the machine can make. It goes through the events once more.
+fn account_of(alloc: Global, setup: &Setup, entries: &[Entry]) -> Result<Account, OutOfMemory>
+    requires { IsSchedule setup.now entries.now }
+    ensures { IfOk result (λ account. IsAccountOf setup.now entries.now account) }
+{
+    let mut world = World::boot(alloc, setup)?;
+    let mut account = Account::new(alloc);
+    for (place, entry) in entries.iter().enumerate() {
+        account.before(&world, place as u64, entry);
+        go_on(&mut world, entry.event)?;
+        account.after(setup, &entries[..place], entry)?;
+    }
+    Ok(account)
+}
+
+/// Appends the text that tells what memory holds after accesses by their account. After lack of
+/// memory a part may be there.
+pub fn push_contents(
+    alloc: Global,
+    out: &mut Vec<u8>,
+    account: &Account,
+) -> Result<(), OutOfMemory>
+    ensures { OnOk result ((xs : List AccessData) (n : ℕ) → IsAccount xs account.now
+        → AreBefore n xs → out.new.items ≡ out.old.items ++ text (access_lines xs n)) }
 {
     push_line(out, b"semper contents", &[1])?;
-    let memory = push_reads(alloc, out, list)?;
-    let runs = memory.runs(alloc)?;
+    out.extend_from_slice(&account.lines)?;
+    let runs = account.memory.runs(alloc)?;
     push_runs(out, &runs)?;
     push_line(out, b"end", &[])
 }
 
-// Appends the lines of the reads. What memory holds after the accesses.
-fn push_reads(alloc: Global, out: &mut Vec<u8>, list: &[Access]) -> Result<Memory, OutOfMemory>
-    requires { AreInOrder list.now }
-    ensures text { OnOk result (out.new.items ≡ out.old.items
-        ++ text (map (λ x. read_line x (found_by list.now x)) (reads list.now))) }
-    ensures memory { IfOk result (λ m. (a : ℕ)
-        → entry_at m a ≡ greatest_entry (is_write_at a) list.now) }
-{
-    let mut memory = Memory::new(alloc);
-    for access in list {
-        take_in(&mut memory, out, access)?;
-    }
-    Ok(memory)
-}
-
-// The access happens: a write changes what memory holds, and of a read the line is appended.
-fn take_in(memory: &mut Memory, out: &mut Vec<u8>, access: &Access) -> Result<(), OutOfMemory>
+/// The access happens: a write changes what memory holds, and of a read the line is appended.
+pub fn take_in(memory: &mut Memory, out: &mut Vec<u8>, access: &Access) -> Result<(), OutOfMemory>
     requires fits { access.now.base + access.now.len ≤ ADDRESSES }
     requires newer { IsNewer memory.old access.now.entry }
     ensures memory { OnOk result ((a : ℕ) → entry_at memory.new a ≡ (

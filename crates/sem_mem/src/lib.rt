@@ -2,6 +2,8 @@
 //! the text that tells them.
 #![tactic(auto)]
 
+mod account;
+mod accounts;
 mod chunks;
 mod contents;
 mod looks;
@@ -13,7 +15,8 @@ mod runs;
 mod tests;
 mod writes;
 
+pub use account::Account;
 pub use contents::{print_contents, push_contents};
 pub use memory::Memory;
-pub use replays::{accesses, push_access};
+pub use replays::accesses;
 pub use sem_access::{Access, AccessList, Look, Run};

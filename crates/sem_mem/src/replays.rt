@@ -6,7 +6,7 @@ ghost use Rattle.sem_machine.specs.Schedules.{IsSchedule};
 ghost use Rattle.sem_access.specs.Accesses.{accesses as accesses_lem};
 ghost use Rattle.sem_access.specs.Transfers.{transfer_of as transfer_of_lem, access_by};
 
-use sem_access::{AccessList, transfer_of};
+use sem_access::{Access, AccessList, transfer_of};
 use sem_kernel::{StepError, World};
 use sem_key::OutOfMemory;
 use sem_msg::{Entry, Event, Journal, Setup};
@@ -29,9 +29,8 @@ pub fn accesses(alloc: Global, setup: &Setup, journal: &Journal) -> Result<Acces
     Ok(found)
 }
 
-/// Appends the access of what the entry at that place reads or writes in the world before it, if it
-/// has one.
-pub fn push_access(
+// Appends the access of what the entry reads or writes in the world before it, if it has one.
+fn push_access(
     found: &mut AccessList,
     world: &World,
     place: u64,
@@ -40,16 +39,26 @@ pub fn push_access(
     ensures { OnOk result (found.new ≡ found.old ++ option_to_list
         (access_by world.now.setup world.now.world place (transfer_of_lem entry.now))) }
 {
-    if let Some(transfer) = transfer_of(entry) {
-        if let Some((key, object)) = world.binding(transfer.vpe, transfer.ep) {
-            found.push(transfer.access(place, key, &object))?;
-        }
+    if let Some(access) = access_at(world, place, entry) {
+        found.push(access)?;
     }
     Ok(())
 }
 
-// Takes the step of an event that is enabled.
-fn go_on(world: &mut World, event: Event) -> Result<(), OutOfMemory>
+/// What the entry at that place reads or writes in the world before it, if it does.
+pub fn access_at(world: &World, place: u64, entry: &Entry) -> Option<Access>
+    ensures { result
+        ≡ access_by world.now.setup world.now.world place (transfer_of_lem entry.now) }
+{
+    let transfer = transfer_of(entry)?;
+    match world.binding(transfer.vpe, transfer.ep) {
+        Some((key, object)) => Some(transfer.access(place, key, &object)),
+        None => None,
+    }
+}
+
+/// Takes the step of an event that is enabled.
+pub fn go_on(world: &mut World, event: Event) -> Result<(), OutOfMemory>
     requires { is_enabled world.old.setup world.old.world event ≡ true }
     ensures { OnOk result (world.new ≡ record {
       setup = world.old.setup;

@@ -1,23 +1,21 @@
 -- Words of private contracts: a question about a report, with what is found while it is checked.
-use Rattle.std.specs.Prelude.{◌≡◌, List, [], ◌++◌, length}
-use Rattle.std.specs.Option.{option_to_list}
+use Rattle.std.specs.Prelude.{◌≡◌, List, []}
 use Rattle.sem_msg.specs.declared.entry.Entry.{Entry}
 use Rattle.sem_msg.specs.Setup.{Setup}
-use Rattle.sem_machine.specs.Schedules.{IsSchedule, world_after}
-use Rattle.sem_access.specs.Accesses.{accesses}
-use Rattle.sem_access.specs.Transfers.{transfer_of, access_by}
+use Rattle.sem_machine.specs.Schedules.{IsSchedule}
+use Rattle.sem_mem.specs.Accounts.{IsAccount, IsAccountOf, IsAccountBefore}
 use Rattle.sem_query.specs.Sightings.{IsSeen, IsReadied}
 use Rattle.sem_cli.specs.declared.forms.Question.{Question}
 use Rattle.sem_cli.specs.declared.forms.Question.TheVariants.{Check, Contents, Holder, Path, Denied}
 use Rattle.sem_report.specs.declared.verdict.Verdict.{Verdict}
 use Rattle.sem_report.specs.declared.verdict.Verdict.TheVariants.{Accepted, BadLine, BadEntry, NotOver, BadAudit}
 use Rattle.sem_run.specs.declared.findings.Finding.{Finding}
-use Rattle.sem_run.specs.declared.findings.Finding.TheVariants.{Nothing, Accesses, Sighted, Line, Denial}
+use Rattle.sem_run.specs.declared.findings.Finding.TheVariants.{Nothing, Accounted, Sighted, Line, Denial}
 
 -- the question that it is about
 abbrev pub question_of : Finding → Question
 question_of Nothing = Check
-question_of (Accesses xs) = Contents
+question_of (Accounted x) = Contents
 question_of (Sighted s) = Holder s.key s.count
 question_of (Line key) = Path key
 question_of (Denial entry) = Denied entry
@@ -25,7 +23,7 @@ question_of (Denial entry) = Denied entry
 -- nothing was found yet
 abbrev pub IsNew : Finding → Type 0
 IsNew Nothing = Unit {0}
-IsNew (Accesses xs) = xs ≡ []
+IsNew (Accounted x) = IsAccount [] x
 IsNew (Sighted s) = Unit {0}
 IsNew (Line key) = Unit {0}
 IsNew (Denial entry) = Unit {0}
@@ -33,7 +31,7 @@ IsNew (Denial entry) = Unit {0}
 -- what is found of a schedule
 abbrev pub IsFound : Setup → List Entry → Finding → Type 0
 IsFound T J Nothing = Unit {0}
-IsFound T J (Accesses xs) = xs ≡ accesses T J
+IsFound T J (Accounted x) = IsAccountOf T J x
 IsFound T J (Sighted s) = IsSeen T J s
 IsFound T J (Line key) = Unit {0}
 IsFound T J (Denial entry) = Unit {0}
@@ -41,9 +39,7 @@ IsFound T J (Denial entry) = Unit {0}
 -- the same, when the world before the next entry was seen too
 abbrev pub IsFoundBefore : Setup → List Entry → Entry → Finding → Type 0
 IsFoundBefore T J e Nothing = Unit {0}
-IsFoundBefore T J e (Accesses xs) =
-    xs ≡ accesses T J
-    ++ option_to_list (access_by T (world_after T J) (length J) (transfer_of e))
+IsFoundBefore T J e (Accounted x) = IsAccountBefore T J e x
 IsFoundBefore T J e (Sighted s) = IsReadied T J e s
 IsFoundBefore T J e (Line key) = Unit {0}
 IsFoundBefore T J e (Denial entry) = Unit {0}

@@ -1,5 +1,5 @@
-use sem_access::AccessList;
 use sem_key::Key;
+use sem_mem::Account;
 use sem_query::Sighting;
 
 /// A question about a report, with what is found of it while the report is checked.
@@ -7,8 +7,8 @@ use sem_query::Sighting;
 pub enum Finding {
     /// Whether it is one, for which nothing else is needed.
     Nothing,
-    /// What memory holds after its accesses.
-    Accesses(AccessList),
+    /// What memory holds.
+    Accounted(Account),
     /// Where a key is, which is followed.
     Sighted(Sighting),
     /// The line of a key.

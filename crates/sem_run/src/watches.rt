@@ -3,12 +3,11 @@ ghost use Rattle.std.specs.Prelude.{◌≡◌, OnOk};
 ghost use Rattle.sem_run.specs.Findings.{question_of, IsNew, IsFound, IsFoundBefore};
 
 use crate::findings::Finding;
-use sem_access::AccessList;
 use sem_check::Watch;
 use sem_cli::Question;
 use sem_kernel::World;
 use sem_key::OutOfMemory;
-use sem_mem::push_access;
+use sem_mem::Account;
 use sem_msg::{Entry, Setup};
 use sem_query::Sighting;
 use std::alloc::Global;
@@ -21,7 +20,7 @@ impl Finding {
     {
         match question {
             Question::Check => Finding::Nothing,
-            Question::Contents => Finding::Accesses(AccessList::new(alloc)),
+            Question::Contents => Finding::Accounted(Account::new(alloc)),
             Question::Holder { key, count } => Finding::Sighted(Sighting::new(key, count)),
             Question::Path { key } => Finding::Line(key),
             Question::Denied { entry } => Finding::Denial(entry),
@@ -55,13 +54,11 @@ impl Watch for Finding {
         next: &Entry,
     ) -> Result<(), OutOfMemory> {
         match self {
-            Finding::Accesses(list) => push_access(list, world, past.len() as u64, next),
-            Finding::Sighted(sighting) => {
-                sighting.before(setup, world, past, next);
-                Ok(())
-            }
-            _ => Ok(()),
+            Finding::Accounted(account) => account.before(world, past.len() as u64, next),
+            Finding::Sighted(sighting) => sighting.before(setup, world, past, next),
+            _ => {}
         }
+        Ok(())
     }
 
     fn after(
@@ -71,9 +68,8 @@ impl Watch for Finding {
         past: &[Entry],
         next: &Entry,
     ) -> Result<(), OutOfMemory> {
-        // So that the proof knows what a setup keeps.
-        let _ = &setup.vpes;
         match self {
+            Finding::Accounted(account) => account.after(setup, past, next),
             Finding::Sighted(sighting) => {
                 sighting.after(setup, world, past, next);
                 Ok(())

@@ -2,38 +2,26 @@ use Rattle.std.proofs.Common.{◌≡◌, ℕ, List, [], ◌++◌, length, sym, �
 use Rattle.std.specs.Prelude.{OnOk}
 use Rattle.std.proofs.lemmas.Result.{on_ok_weaker}
 use Rattle.sem_msg.specs.declared.entry.Entry.{Entry}
-use Rattle.sem_msg.specs.Setup.{Setup, IsSetup}
+use Rattle.sem_msg.specs.Setup.{Setup}
 use Rattle.sem_text.specs.Lines.{text}
-use Rattle.sem_access.specs.declared.access.Access.{Access}
 use Rattle.sem_access.specs.Accesses.{accesses}
 use Rattle.sem_access.specs.ContentsText.{access_lines}
-use Rattle.sem_mem.specs.Reading.{AreInOrder, AreBefore}
-use Rattle.sem_mem.proofs.Ordering.{in-order, all-before}
+use Rattle.sem_mem.proofs.Ordering.{all-before}
 use Rattle.sem_query.specs.Denials.{IsDenied}
 use Rattle.sem_run.specs.declared.findings.Finding.{Finding}
 use Rattle.sem_run.specs.Ends.{IsAnswer}
 use Rattle.sem_run.specs.Findings.{question_of, IsFound}
 use Rattle.sem_run.proofs.answers.push_answer.Goals as goal
 
-pub push_contents-requires : goal.push_contents-requires
-push_contents-requires c =
-    let T : Setup = c.args.setup.now in
-    let J : List Entry = c.args.journal.now.entries in
-    let listed : c.as_slice.result.now ≡ accesses T J = c.as_slice.ensures ∙ subst (IsFound T J) c.in-Accesses.is c.requires.found in
-    subst AreInOrder (sym listed) (in-order T (subst IsSetup c.setup.view_is c.setup.invariant) J c.requires.schedule)
-
 -- the text of the accesses is that of the journal
-pub returns-in-Accesses : goal.returns-in-Accesses
-returns-in-Accesses c =
+pub returns-in-Accounted : goal.returns-in-Accounted
+returns-in-Accounted c =
     let T : Setup = c.args.setup.now in
     let J : List Entry = c.args.journal.now.entries in
-    let xs : List Access = c.as_slice.result.now in
-    let listed : xs ≡ accesses T J = c.as_slice.ensures ∙ subst (IsFound T J) c.in-Accesses.is c.requires.found in
-    subst (λ (f : Finding). OnOk c.push_contents.result (IsAnswer (question_of f) T J c.push_contents.new.out.items)) (sym c.in-Accesses.is)
+    subst (λ (f : Finding). OnOk c.push_contents.result (IsAnswer (question_of f) T J c.push_contents.new.out.items)) (sym c.in-Accounted.is)
     (on_ok_weaker c.push_contents.result (λ told.
-    told (length J) (subst (AreBefore (length J)) (sym listed) (all-before T J))
-    ∙ (ap (λ bytes. bytes ++ text (access_lines xs (length J))) c.requires.empty
-    ∙ ap (λ (ys : List Access). text (access_lines ys (length J))) listed)) c.push_contents.ensures)
+    told (accesses T J) (length J) (subst (IsFound T J) c.in-Accounted.is c.requires.found) (all-before T J)
+    ∙ ap (λ bytes. bytes ++ text (access_lines (accesses T J) (length J))) c.requires.empty) c.push_contents.ensures)
 
 -- what is appended to nothing is the answer
 alone : (out old : List ℕ) (told : List ℕ) → old ≡ [] → out ≡ old ++ told → out ≡ told
