@@ -4,12 +4,15 @@
 
 mod builds;
 mod denials;
+mod entries;
 mod holder;
 mod index;
 pub mod laws;
 mod life;
+mod marked;
 mod moves;
 mod paths;
+mod reach;
 mod settling;
 mod sights;
 mod states;
