@@ -1,17 +1,16 @@
 -- The keys that an entry moves, and those that are marked after it.
 use Rattle.std.proofs.Common.{◌≡◌, ◌⊎◌, ℕ, ◌<◌, Bool, true, false, not, List, [], ◌∷◌, ◌++◌, Option, Some, None, IsSome, refl, sym, ap, ◌∙◌, subst, inl, inr, eq-eqb}
 use Rattle.std.specs.Prelude.{◌==◌}
-use Rattle.std.specs.List.{Contains, filter}
-use Rattle.std.specs.Option.{option_map_or, option_and_then}
+use Rattle.std.specs.List.{Contains, flat_map}
+use Rattle.std.specs.Option.{option_map, option_map_or, option_and_then}
 use Rattle.std.proofs.lemmas.Bool.{cases_Bool, cases_eq, true≢false, and_from, and_parts, eqb-true}
 use Rattle.std.proofs.lemmas.Option.{same_Some}
 use Rattle.std.proofs.lemmas.List.Elements.{Contains-append_left, Contains-append_right, Contains-append_cases}
 use Rattle.sem_key.specs.KeyName.{KeyName, key_eq}
 use Rattle.sem_key.specs.Capability.{Capability}
-use Rattle.sem_key.specs.CapList.{is_marked_by}
 use Rattle.sem_key.specs.Region.{has_key}
 use Rattle.sem_key.proofs.KeyTests.{has_key-from_Contains, Contains-from_has_key}
-use Rattle.sem_key.proofs.Members.{found, Contains-nil, Contains-filter, Contains-from_filter}
+use Rattle.sem_key.proofs.Members.{found, Contains-nil, Contains-head, Contains-cons_cases, Contains-flat_map, Contains-from_flat_map}
 use Rattle.sem_msg.specs.declared.message.Message.{Message}
 use Rattle.sem_msg.specs.declared.message.Message.TheVariants.{RevokeDone}
 use Rattle.sem_msg.specs.declared.event.Act.{Act}
@@ -38,53 +37,74 @@ use Rattle.sem_query.specs.Changes.MayChange.{by_revoking}
 use Rattle.sem_query.specs.Lives.{KeyLife}
 use Rattle.sem_query.specs.Building.{all_noted, grant_noted, followed, returned_in, returned, handled, moved_by, AreMoved, IsNext, IsFollowed}
 use Rattle.sem_query.specs.Reaching.{AreRevoked}
-use Rattle.sem_query.specs.MarkedKeys.{is_marked, is_marked_in, AreMarked, StaysMarked, AreParted}
-use Rattle.sem_query.specs.MarkedKeys.StaysMarked.{without_token, elsewhere, still_marked, still_open}
+use Rattle.sem_query.specs.declared.marked.Token.{Token}
+use Rattle.sem_query.specs.MarkedKeys.{mark_in, mark_at, AreMarked, marking, above_in, IsToken, IsIdleToken, IsSeen, IsBounded, StaysMarked, AreParted}
+use Rattle.sem_query.specs.MarkedKeys.IsSeen.{idle, token}
+use Rattle.sem_query.specs.MarkedKeys.StaysMarked.{no_token, elsewhere, still_marked, still_open, of_other}
 use Rattle.sem_query.proofs.Passing.{with-e, at, is-after, passes}
-use Rattle.sem_query.proofs.Changing.{made-so, shown-detail, held-away, held-quiet, changes}
+use Rattle.sem_query.proofs.Changing.{made-so, shown-detail, side-away, held-on, changes}
 use Rattle.sem_query.proofs.AtHome.{at-home}
 use Rattle.sem_query.proofs.Spared.{spared}
-use Rattle.sem_query.proofs.Stayed.{stayed}
+use Rattle.sem_query.proofs.Stayed.{stays-held}
 use Rattle.sem_query.proofs.Telling.{nobody, start-unmarked}
 use Rattle.sem_query.proofs.There.{some-of}
 use Rattle.sem_query.proofs.Begin.{parked-low}
 use Rattle.sem_query.proofs.Rooting.{reached-held}
 use Rattle.sem_query.proofs.Moved.{third, revoked-four, lists, listed}
-use Rattle.sem_query.proofs.Returned.{returned-stays}
+use Rattle.sem_query.proofs.Returned.{returned-open, returned-idle, returned-rests}
 
 -- Marked keys.
 
--- a key that its owner tells as marked is held, with a mark
-marked-held : (o : Option Capability) (b : Bool) → is_marked (option_map_or held_as o (unheld b)) ≡ true → (c : Capability) × (o ≡ Some c) × (j : ℕ) × (c.mark ≡ Some j)
+-- a capability with a mark
+mark-of : (o : Option Capability) (j : ℕ) → option_and_then (λ (c : Capability). c.mark) o ≡ Some j → (c : Capability) × (o ≡ Some c) × (c.mark ≡ Some j)
+mark-of None j none = absurd cc
+mark-of (Some c) j some = (c, refl, some)
+
+mark-from : (o : Option Capability) (c : Capability) (j : ℕ) → o ≡ Some c → c.mark ≡ Some j → option_and_then (λ (c : Capability). c.mark) o ≡ Some j
+mark-from o c j is some = ap (option_and_then (λ (c : Capability). c.mark)) is ∙ some
+
+-- a key is told as marked where it is held with a mark
+abbrev is_marked : Holder → Bool
+is_marked (Marked sel) = true
+is_marked h = false
+
+marked-held : (o : Option Capability) (b : Bool) → is_marked (option_map_or held_as o (unheld b)) ≡ true → (j : ℕ) × (option_and_then (λ (c : Capability). c.mark) o ≡ Some j)
 marked-held None true is = absurd cc
 marked-held None false is = absurd cc
 marked-held (Some c) b is = by c.mark refl is
   where
-    by : (m : Option ℕ) → c.mark ≡ m → is_marked (held_with m c.selector) ≡ true → (d : Capability) × (Some c ≡ Some d) × (j : ℕ) × (d.mark ≡ Some j)
+    by : (m : Option ℕ) → c.mark ≡ m → is_marked (held_with m c.selector) ≡ true → (j : ℕ) × (c.mark ≡ Some j)
     by None none no' = absurd cc
-    by (Some j) some yes' = (c, refl, j, some)
+    by (Some j) some yes' = (j, some)
 
-held-marked : (o : Option Capability) (b : Bool) (c : Capability) (j : ℕ) → o ≡ Some c → c.mark ≡ Some j → is_marked (option_map_or held_as o (unheld b)) ≡ true
-held-marked o b c j held some = ap (λ (x : Option Capability). is_marked (option_map_or held_as x (unheld b))) held ∙ ap (λ m. is_marked (held_with m c.selector)) some
-
--- it is where `whereabouts` says
-marked-there : (T : Setup) (W : World) (k : KeyName) → is_marked_in T W k ≡ is_marked (whereabouts T W k)
-marked-there T W k = by (cap (side W (owner_of T k)) k) (is_ready_with k (parked (side W (owner_of T k)) k.vpe)) (is_coming k W)
-  where
-    by : (o : Option Capability) (a b : Bool) → is_marked (option_map_or held_as o (unheld a)) ≡ is_marked (option_map_or held_as o (unheld b))
-    by (Some c) a b = refl
-    by None true true = refl
-    by None true false = refl
-    by None false true = refl
-    by None false false = refl
+held-marked : (o : Option Capability) (b : Bool) (j : ℕ) → option_and_then (λ (c : Capability). c.mark) o ≡ Some j → is_marked (option_map_or held_as o (unheld b)) ≡ true
+held-marked o b j is =
+    let c = mark-of o j is in
+    ap (λ (x : Option Capability). is_marked (option_map_or held_as x (unheld b))) c.1 ∙ ap (λ m. is_marked (held_with m c.0.selector)) c.2
 
 -- at the start none is
 pub none-marked : (T : Setup) → AreMarked T (start T) []
-none-marked T k = (λ among. absurd (Contains-nil k among), λ is. (
-    let c = marked-held (cap (side (start T) (owner_of T k)) k) (is_ready_with k (parked (side (start T) (owner_of T k)) k.vpe)) is in
+none-marked T k j = (λ among. absurd (Contains-nil (k, j) among), λ is. (
+    let c = mark-of (cap (side (start T) (owner_of T k)) k) j is in
     let none = start-unmarked T (owner_of T k) c.0 (found (λ (x : Capability). key_eq x.key k) (side (start T) (owner_of T k)).caps c.0 c.1).0 in
-    let clash : ◌≡◌ {A = Option ℕ} None (Some c.2) = sym none ∙ c.3 in
+    let clash : ◌≡◌ {A = Option ℕ} None (Some j) = sym none ∙ c.2 in
     absurd cc))
+
+-- keys with their jobs
+in-markings : (T : Setup) (V : World) (ks : List KeyName) (k : KeyName) (j : ℕ) → Contains ks k → mark_at T V k ≡ Some j → Contains (flat_map (marking T V) ks) (k, j)
+in-markings T V ks k j among is = Contains-flat_map (marking T V) ks k (k, j) among (subst (λ (o : Option ℕ). Contains {X = KeyName × ℕ} (option_map_or (λ i. (k, i) ∷ []) o []) (k, j)) (sym is) (Contains-head (k, j) []))
+
+from-markings : (T : Setup) (V : World) (ks : List KeyName) (k : KeyName) (j : ℕ) → Contains (flat_map (marking T V) ks) (k, j) → mark_at T V k ≡ Some j
+from-markings T V ks k j among =
+    let q = Contains-from_flat_map (marking T V) ks (k, j) among in
+    by q.0 (mark_at T V q.0) refl q.2
+  where
+    by : (q : KeyName) (o : Option ℕ) → mark_at T V q ≡ o → Contains {X = KeyName × ℕ} (option_map_or (λ i. (q, i) ∷ []) o []) (k, j) → mark_at T V k ≡ Some j
+    by q None none here = absurd (Contains-nil (k, j) here)
+    by q (Some i) some here = elim (Contains-cons_cases (q, i) [] (k, j) here) [
+      | inr none ↦ absurd (Contains-nil (k, j) none)
+      | inl same ↦ ap (mark_at T V) (sym (ap (λ (p : KeyName × ℕ). p.0) same)) ∙ (some ∙ ap (λ (p : KeyName × ℕ). Some p.1) same)
+    ]
 
 -- An entry of a schedule.
 module _ (T : Setup) (valid : IsSetup T) (before : List Entry) (e : Entry) (runs : IsSchedule T (before ++ e ∷ [])) where
@@ -147,63 +167,109 @@ module _ (T : Setup) (valid : IsSetup T) (before : List Entry) (e : Entry) (runs
         by (Flush i) act none' loud' = cc
 
     -- A key that is marked.
-    module _ (c : Capability) (j : ℕ) (held : cap (side W (owner_of T k)) k ≡ Some c) (marked : c.mark ≡ Some j) where
-      -- it stays, unless a token comes back to its kernel
-      marked-waits : returned e.event.act e.detail ≡ None → later-is k
-      marked-waits none = elim (cases_eq (owner_of T k) n) [
-        | inr other ↦ then (held-away T valid J runs before [] e refl k c held other)
+    module _ (j : ℕ) (mark : mark_at T W k ≡ Some j) where
+      this : (c : Capability) × (cap (side W (owner_of T k)) k ≡ Some c) × (c.mark ≡ Some j)
+      this = mark-of (cap (side W (owner_of T k)) k) j mark
+
+      abbrev c : Capability
+      c = this.0
+
+      abbrev StaysSo : Type 0
+      StaysSo = mark_at T V k ≡ Some j
+
+      -- one that is held on with its mark
+      held-so : (d : Capability) → cap (side (world_after T J) (owner_of T k)) k ≡ Some d → d.mark ≡ c.mark → StaysSo
+      held-so d is same = mark-from (cap (side V (owner_of T k)) k) d j (ap (λ (U : World). cap (side U (owner_of T k)) k) (sym now-is) ∙ is) (same ∙ this.2)
+
+      away : (owner_of T k ≡ n → ⊥) → StaysSo
+      away other = held-so c (ap (λ (t : Side). cap t k) (side-away T valid J runs before [] e refl k (owner_of T k) other) ∙ this.1) refl
+
+      quiet : owner_of T k ≡ n → is_revoking e ≡ false → StaysSo
+      quiet home still = let d = held-on T valid J runs before [] e refl k c this.1 home still in held-so d.0 d.1 d.2.mark
+
+      -- it stays, if no token comes back to a job that marks one
+      idle-stays : IsIdleToken T W e → StaysSo
+      idle-stays none = elim (cases_eq (owner_of T k) n) [
+        | inr other ↦ away other
         | inl home ↦ elim (cases_Bool (is_revoking e)) [
-          | inr quiet ↦ then (held-quiet T valid J runs before [] e refl k c held home quiet)
-          | inl loud ↦ then (stayed T valid J runs before [] e refl (no-token none loud) k home loud c j held marked)
+          | inr still ↦ quiet home still
+          | inl loud ↦ by home loud (returned e.event.act e.detail) refl
         ]
       ]
+        where
+          by : owner_of T k ≡ n → is_revoking e ≡ true → (o : Option ℕ) → returned e.event.act e.detail ≡ o → StaysSo
+          by home loud None is = let d = stays-held T valid J runs before [] e refl (no-token is loud) k home loud c j this.1 this.2 in held-so d.0 d.1 d.2.mark
+          by home loud (Some i) is =
+              let back = returned-is i is in
+              let d = returned-idle T valid J runs before [] e refl k back.1 i back.0 back.2 home c this.1 (λ q x at_home held some. none i q is at_home (mark-from (cap (side W (owner_of T q)) q) x i (ap (λ a. cap (side W a) q) at_home ∙ held) some)) in
+              held-so d.0 d.1 d.2.mark
 
-      was-marked : is_marked (whereabouts T W k) ≡ true
-      was-marked = held-marked (cap (side W (owner_of T k)) k) (is_coming k W) c j held marked
+      module _ (t : Token) (seen : IsToken T W e t) where
+        back : (e.event.act ≡ Handle) × (from : ℕ) × (e.detail ≡ Carried from (RevokeDone t.job))
+        back = returned-is t.job seen.comes_back
+
+        -- the job of the token marks a key still
+        open-stays : owner_of T k ≡ n → mark_at T V t.key ≡ Some t.job → StaysSo
+        open-stays home is =
+            let q = mark-of (cap (side V (owner_of T t.key)) t.key) t.job is in
+            let d = returned-open T valid J runs before [] e refl k back.1 t.job back.0 back.2 home c this.1 t.key q.0 (ap (λ (U : World). cap (side U n) t.key) now-is ∙ (ap (λ i. cap (side V i) t.key) (sym seen.home) ∙ q.1)) q.2 in
+            held-so d.0 d.1 d.2.mark
+
+        -- it is one of another job, and the one above marks still
+        other-stays : owner_of T k ≡ n → (j ≡ t.job → ⊥) → IsBounded T V t → StaysSo
+        other-stays home other bounded =
+            let r = mark-of (cap (side W (owner_of T t.key)) t.key) t.job seen.marked in
+            let held_r : cap s t.key ≡ Some r.0 = ap (λ i. cap (side W i) t.key) (sym seen.home) ∙ r.1 in
+            let d = returned-rests T valid J runs before [] e refl k back.1 t.job back.0 back.2 home c this.1 j this.2 other t.key r.0 held_r r.2 (above held_r) in
+            held-so d.0 d.1 d.2.mark
+          where
+            above : {r : Capability} → cap s t.key ≡ Some r → (p : KeyName) (d : Capability) (i : ℕ) → r.parent ≡ Some p → cap s p ≡ Some d → d.mark ≡ Some i → (x : Capability) × (cap (side (world_after T J) n) p ≡ Some x) × (x.mark ≡ Some i)
+            above {r} held_r p d i parent held some =
+                let up : above_in s t.key ≡ Some (p, i) =
+                ap (λ (o : Option Capability). option_and_then (λ q. option_map (λ a. (q, a)) (mark_in s q)) (option_and_then (λ (x : Capability). x.parent) o)) held_r
+                ∙ (ap (option_and_then (λ q. option_map (λ a. (q, a)) (mark_in s q))) parent
+                ∙ ap (option_map (λ a. (p, a))) (mark-from (cap s p) d i held some)) in
+                let at_home : owner_of T p ≡ n = schedule-homes T valid before was-runs n p d held in
+                let x = mark-of (cap (side V (owner_of T p)) p) i (bounded p i (seen.parent ∙ up)) in
+                (x.0, ap (λ (U : World). cap (side U n) p) now-is ∙ (ap (λ a. cap (side V a) p) (sym at_home) ∙ x.1), x.2)
+
+      stays-marked : (o : Option Token) → IsSeen T W e o → StaysMarked T V e o k j → StaysSo
+      stays-marked None (idle none) S = idle-stays none
+      stays-marked (Some t) (token seen) (no_token none) = absurd cc
+      stays-marked (Some t) (token seen) (elsewhere other) = away other
+      stays-marked (Some t) (token seen) (still_marked is) = is
+      stays-marked (Some t) (token seen) (still_open u same is) = elim (cases_eq (owner_of T k) n) [
+        | inr other ↦ away other
+        | inl home ↦ let is_t : u ≡ t = same_Some u t (sym same) in open-stays t seen home (subst (λ (x : Token). mark_at T V x.key ≡ Some x.job) is_t is)
+      ]
+      stays-marked (Some t) (token seen) (of_other u same other bounded) = elim (cases_eq (owner_of T k) n) [
+        | inr away' ↦ away away'
+        | inl home ↦
+            let is_t : u ≡ t = same_Some u t (sym same) in
+            other-stays t seen home (λ is. other (is ∙ ap (λ (x : Token). x.job) (sym is_t))) (subst (IsBounded T V) is_t bounded)
+      ]
 
       -- a marked key that stays so stays at its selector
-      both-marked : is_marked (whereabouts T V k) ≡ true → later-is k
-      both-marked is = then (by (grants_key k e) (whereabouts T W k) (whereabouts T (world_after T J) k) (passes T valid J runs before [] e refl k) was-marked (ap (λ (U : World). is_marked (whereabouts T U k)) now-is ∙ is))
+      both-marked : StaysSo → later-is k
+      both-marked is = then (by (grants_key k e) (whereabouts T W k) (whereabouts T (world_after T J) k) (passes T valid J runs before [] e refl k)
+        (held-marked (cap (side W (owner_of T k)) k) (is_coming k W) j mark)
+        (ap (λ (U : World). is_marked (whereabouts T U k)) now-is ∙ held-marked (cap (side V (owner_of T k)) k) (is_coming k V) j is))
         where
           by : (g : Bool) (a b : Holder) → Passes g a b → is_marked a ≡ true → is_marked b ≡ true → a ≡ b
           by _ _ _ (stays_marked sel) one two = refl
           by _ _ _ p one two = absurd cc
 
-      stays-marked : StaysMarked T V e k → later-is k
-      stays-marked (without_token none) = marked-waits none
-      stays-marked (elsewhere other) = then (held-away T valid J runs before [] e refl k c held other)
-      stays-marked (still_marked is) = both-marked (sym (marked-there T V k) ∙ is)
-      stays-marked (still_open i q some is) = elim (cases_eq (owner_of T k) n) [
-        | inr other ↦ then (held-away T valid J runs before [] e refl k c held other)
-        | inl home ↦
-            let token = returned-is i some in
-            let d = marked-by (cap (side V n) q) refl is in
-            then (returned-stays T valid J runs before [] e refl k token.1 i token.0 token.2 home c held q d.0 (ap (λ (U : World). cap (side U n) q) now-is ∙ d.1) d.2)
-      ]
-        where
-          marked-by : (o : Option Capability) → cap (side V n) q ≡ o → option_map_or (is_marked_by i) o false ≡ true → (d : Capability) × (cap (side V n) q ≡ Some d) × (d.mark ≡ Some i)
-          marked-by None none no' = absurd cc
-          marked-by (Some d) some' yes' = (d, some', from d.mark yes')
-            where
-              from : (m : Option ℕ) → option_map_or (λ x. x == i) m false ≡ true → m ≡ Some i
-              from None no' = absurd cc
-              from (Some x) pass = ap Some (eqb-true x i pass)
-
-  -- a marked key, by its owner
-  is-held : (k : KeyName) → is_marked_in T W k ≡ true → (c : Capability) × (cap (side W (owner_of T k)) k ≡ Some c) × (j : ℕ) × (c.mark ≡ Some j)
-  is-held k is = marked-held (cap (side W (owner_of T k)) k) (is_ready_with k (parked (side W (owner_of T k)) k.vpe)) is
-
-  -- it is not one that is granted
-  fresh-unmarked : (k : KeyName) → grants_key k e ≡ true → is_marked_in T V k ≡ true → ⊥
-  fresh-unmarked k granted is = by (grants_key k e) (whereabouts T W k) (whereabouts T (world_after T J) k) (passes T valid J runs before [] e refl k) granted (ap (λ (U : World). is_marked (whereabouts T U k)) (now-is k) ∙ (sym (marked-there T V k) ∙ is))
+  -- a key that is granted is not marked
+  fresh-unmarked : (k : KeyName) (j : ℕ) → grants_key k e ≡ true → mark_at T V k ≡ Some j → ⊥
+  fresh-unmarked k j granted is = by (grants_key k e) (whereabouts T W k) (whereabouts T (world_after T J) k) (passes T valid J runs before [] e refl k) granted (ap (λ (U : World). is_marked (whereabouts T U k)) (now-is k) ∙ held-marked (cap (side V (owner_of T k)) k) (is_coming k V) j is)
     where
       by : (g : Bool) (a b : Holder) → Passes g a b → g ≡ true → is_marked b ≡ true → ⊥
       by _ _ _ born_on_its_way one two = cc
       by _ _ _ (born_held sel) one two = cc
       by _ _ _ p one two = cc
 
-  -- The keys that were listed, what is reached, and the marked keys before the entry.
-  module _ (reached : List KeyName) (are : AreRevoked s.caps e reached) (marked kept gone : List KeyName) (M : AreMarked T W marked) (P : AreParted T V e marked kept gone) where
+  -- The keys that were listed, what is reached, the token, and the marked keys before the entry.
+  module _ (reached : List KeyName) (are : AreRevoked s.caps e reached) (o : Option Token) (seen : IsSeen T W e o) (marked kept : List (KeyName × ℕ)) (gone : List KeyName) (M : AreMarked T W marked) (P : AreParted T V e o marked kept gone) where
     abbrev first : List KeyName
     first = moved_by T W e reached
 
@@ -219,20 +285,17 @@ module _ (T : Setup) (valid : IsSetup T) (before : List Entry) (e : Entry) (runs
         let held = reached-held s.caps e is.0 k is.2 in
         (home-of k held, held))) among
 
+    some-token : (p : Option Token) → IsSeen T W e p → IsSome p → (t : Token) × (returned e.event.act e.detail ≡ Some t.job)
+    some-token None (idle none) no' = absurd cc
+    some-token (Some t) (token is) yes' = (t, is.comes_back)
+
     may-gone : (k : KeyName) → Contains gone k → MayChange T W e k
     may-gone k among =
         let is = P.goes k among in
-        let c = is-held k ((M k).0 is.0) in
-        let token = some-token is.2 in
-        let t = returned-is k token.0 token.1 in
-        by_revoking is.1 (ap (λ a. revokes_by a e.detail) t.0 ∙ ap (revokes_by Handle) t.2) (subst (λ (o : Option Capability). IsSome o) (sym (ap (λ i. cap (side W i) k) (sym is.1) ∙ c.1)) refl)
-      where
-        some-token : IsSome (returned e.event.act e.detail) → (j : ℕ) × (returned e.event.act e.detail ≡ Some j)
-        some-token some = by (returned e.event.act e.detail) refl some
-          where
-            by : (o : Option ℕ) → returned e.event.act e.detail ≡ o → IsSome o → (j : ℕ) × (returned e.event.act e.detail ≡ Some j)
-            by None none no' = absurd cc
-            by (Some j) is yes' = (j, is)
+        let c = mark-of (cap (side W (owner_of T k)) k) is.0 ((M k is.0).0 is.1) in
+        let t = some-token o seen is.3 in
+        let back = returned-is k t.0.job t.1 in
+        by_revoking is.2 (ap (λ a. revokes_by a e.detail) back.0 ∙ ap (revokes_by Handle) back.2) (subst (λ (x : Option Capability). IsSome x) (sym (ap (λ i. cap (side W i) k) (sym is.2) ∙ c.1)) refl)
 
     -- what was not listed stays
     stays-else : (k : KeyName) → grants_key k e ≡ false → (Contains (first ++ gone) k → ⊥) → later-is k
@@ -251,10 +314,10 @@ module _ (T : Setup) (valid : IsSetup T) (before : List Entry) (e : Entry) (runs
         by home loud c held None none = then k (spared T valid J runs before [] e refl k home loud c held none (λ (a, root, is). (
             absent (Contains-append_left first gone k (third T W e (low k) reached k loud (revoked-four T W e (low k) reached k ((are loud k).1 (a, root, is))))))))
         by home loud c held (Some j) some =
-            let there : is_marked_in T W k ≡ true = held-marked (cap (side W (owner_of T k)) k) (is_ready_with k (parked (side W (owner_of T k)) k.vpe)) c j held some in
-            elim (P.each k ((M k).1 there)) [
+            let mark : mark_at T W k ≡ Some j = mark-from (cap (side W (owner_of T k)) k) c j held some in
+            elim (P.each k j ((M k j).1 mark)) [
               | inr out ↦ absurd (absent (Contains-append_right first gone k out))
-              | inl stays ↦ stays-marked k c j held some (P.stays k stays).1
+              | inl stays ↦ both-marked k j mark (stays-marked k j mark o seen (P.stays k j stays).1)
             ]
 
     pub moved-are : AreMoved T W e (first ++ gone)
@@ -263,44 +326,51 @@ module _ (T : Setup) (valid : IsSetup T) (before : List Entry) (e : Entry) (runs
       others = stays-else;
     }
 
+    abbrev new : List (KeyName × ℕ)
+    new = flat_map (marking T V) (first ++ gone)
+
     -- what is marked after it
-    pub marked-are : AreMarked T V (kept ++ filter (is_marked_in T V) (first ++ gone))
-    marked-are k = (only, all)
+    pub marked-are : AreMarked T V (kept ++ new)
+    marked-are k j = (only, all)
       where
-        only : Contains (kept ++ filter (is_marked_in T V) (first ++ gone)) k → is_marked_in T V k ≡ true
-        only among = elim (Contains-append_cases kept (filter (is_marked_in T V) (first ++ gone)) k among) [
-          | inr new ↦ (Contains-from_filter (is_marked_in T V) (first ++ gone) k new).1
-          | inl old ↦
-              let is = P.stays k old in
-              let c = is-held k ((M k).0 is.0) in
-              marked-there T V k ∙ (ap is_marked (sym (stays-marked k c.0 c.2 c.1 c.3 is.1)) ∙ was-marked k c.0 c.2 c.1 c.3)
+        only : Contains (kept ++ new) (k, j) → mark_at T V k ≡ Some j
+        only among = elim (Contains-append_cases kept new (k, j) among) [
+          | inr now ↦ from-markings T V (first ++ gone) k j now
+          | inl old ↦ let is = P.stays k j old in stays-marked k j ((M k j).0 is.0) o seen is.1
         ]
 
-        all : is_marked_in T V k ≡ true → Contains (kept ++ filter (is_marked_in T V) (first ++ gone)) k
+        -- one that was not listed was marked before, by the same job
+        by : (Contains (first ++ gone) k → ⊥) → mark_at T V k ≡ Some j → (i : ℕ) → mark_at T W k ≡ Some i → Contains (kept ++ new) (k, j)
+        by absent is i was = elim (P.each k i ((M k i).1 was)) [
+          | inr out ↦ absurd (absent (Contains-append_right first gone k out))
+          | inl stays ↦
+              let same : i ≡ j = same_Some i j (sym (stays-marked k i was o seen (P.stays k i stays).1) ∙ is) in
+              Contains-append_left kept new (k, j) (subst (λ x. Contains kept (k, x)) same stays)
+        ]
+
+        all : mark_at T V k ≡ Some j → Contains (kept ++ new) (k, j)
         all is = elim (cases_Bool (has_key (first ++ gone) k)) [
-          | inl here ↦ Contains-append_right kept (filter (is_marked_in T V) (first ++ gone)) k (Contains-filter (is_marked_in T V) (first ++ gone) k (Contains-from_has_key (first ++ gone) k here) is)
-          | inr away ↦ elim (cases_Bool (grants_key k e)) [
-            | inl granted ↦ absurd (fresh-unmarked k granted is)
+          | inl here ↦ Contains-append_right kept new (k, j) (in-markings T V (first ++ gone) k j (Contains-from_has_key (first ++ gone) k here) is)
+          | inr away' ↦ elim (cases_Bool (grants_key k e)) [
+            | inl granted ↦ absurd (fresh-unmarked k j granted is)
             | inr not_granted ↦
-                let absent : Contains (first ++ gone) k → ⊥ = λ among. true≢false (sym (has_key-from_Contains (first ++ gone) k among) ∙ away) in
-                let was : is_marked_in T W k ≡ true = marked-there T W k ∙ (ap is_marked (stays-else k not_granted absent) ∙ (sym (marked-there T V k) ∙ is)) in
-                elim (P.each k ((M k).1 was)) [
-                  | inl stays ↦ Contains-append_left kept (filter (is_marked_in T V) (first ++ gone)) k stays
-                  | inr out ↦ absurd (absent (Contains-append_right first gone k out))
-                ]
+                let absent : Contains (first ++ gone) k → ⊥ = λ among. true≢false (sym (has_key-from_Contains (first ++ gone) k among) ∙ away') in
+                let told : is_marked (whereabouts T W k) ≡ true = ap is_marked (stays-else k not_granted absent) ∙ held-marked (cap (side V (owner_of T k)) k) (is_coming k V) j is in
+                let was = marked-held (cap (side W (owner_of T k)) k) (is_coming k W) told in
+                by absent is was.0 was.1
           ]
         ]
 
 -- The same, as the code goes through it: V is the world after the entry.
-module _ (T : Setup) (valid : IsSetup T) (W : World) (e : Entry) (next : IsNext T W e) (reached : List KeyName) (are : AreRevoked (side W e.event.kernel).caps e reached) (marked kept gone : List KeyName) (M : AreMarked T W marked) (V : World) (later : V ≡ after T W e.event) (P : AreParted T V e marked kept gone) (first moved : List KeyName) (listed : first ≡ moved_by T W e reached) (all : moved ≡ first ++ gone) where
+module _ (T : Setup) (valid : IsSetup T) (W : World) (e : Entry) (next : IsNext T W e) (reached : List KeyName) (are : AreRevoked (side W e.event.kernel).caps e reached) (o : Option Token) (seen : IsSeen T W e o) (marked kept : List (KeyName × ℕ)) (gone : List KeyName) (M : AreMarked T W marked) (V : World) (later : V ≡ after T W e.event) (P : AreParted T V e o marked kept gone) (first moved : List KeyName) (listed : first ≡ moved_by T W e reached) (all : moved ≡ first ++ gone) where
   abbrev Both : World → Type 0
-  Both U = AreMoved T U e (moved_by T U e reached ++ gone) × AreMarked T (after T U e.event) (kept ++ filter (is_marked_in T (after T U e.event)) (moved_by T U e reached ++ gone))
+  Both U = AreMoved T U e (moved_by T U e reached ++ gone) × AreMarked T (after T U e.event) (kept ++ flat_map (marking T (after T U e.event)) (moved_by T U e reached ++ gone))
 
   both : Both W
   both =
-      subst (λ (U : World). AreRevoked (side U e.event.kernel).caps e reached → AreMarked T U marked → AreParted T (after T U e.event) e marked kept gone → Both U) (sym next.world)
-      (λ are' M' P'. (moved-are T valid next.before e next.runs reached are' marked kept gone M' P', marked-are T valid next.before e next.runs reached are' marked kept gone M' P'))
-      are M (subst (λ (U : World). AreParted T U e marked kept gone) later P)
+      subst (λ (U : World). AreRevoked (side U e.event.kernel).caps e reached → IsSeen T U e o → AreMarked T U marked → AreParted T (after T U e.event) e o marked kept gone → Both U) (sym next.world)
+      (λ are' seen' M' P'. (moved-are T valid next.before e next.runs reached are' o seen' marked kept gone M' P', marked-are T valid next.before e next.runs reached are' o seen' marked kept gone M' P'))
+      are seen M (subst (λ (U : World). AreParted T U e o marked kept gone) later P)
 
   moved-is : moved ≡ moved_by T W e reached ++ gone
   moved-is = all ∙ ap (λ ks. ks ++ gone) listed
@@ -308,10 +378,10 @@ module _ (T : Setup) (valid : IsSetup T) (W : World) (e : Entry) (next : IsNext 
   pub follows-moved : AreMoved T W e moved
   follows-moved = subst (AreMoved T W e) (sym moved-is) both.0
 
-  pub follows-marked : (now : List KeyName) → now ≡ kept ++ filter (is_marked_in T V) moved → AreMarked T V now
+  pub follows-marked : (now : List (KeyName × ℕ)) → now ≡ kept ++ flat_map (marking T V) moved → AreMarked T V now
   follows-marked now is =
       subst (λ (U : World). AreMarked T U now) (sym later)
-      (subst (AreMarked T (after T W e.event)) (sym (is ∙ (ap (λ (U : World). kept ++ filter (is_marked_in T U) moved) later ∙ ap (λ ks. kept ++ filter (is_marked_in T (after T W e.event)) ks) moved-is))) both.1)
+      (subst (AreMarked T (after T W e.event)) (sym (is ∙ (ap (λ (U : World). kept ++ flat_map (marking T U) moved) later ∙ ap (λ ks. kept ++ flat_map (marking T (after T W e.event)) ks) moved-is))) both.1)
 
-  pub follows-lives : (n : ℕ) (old noted new : List KeyLife) → noted ≡ all_noted T V n moved old → new ≡ grant_noted T V n e.grant noted → IsFollowed T W n e old new
-  follows-lives n old noted new one two = (moved, follows-moved, two ∙ (ap (grant_noted T V n e.grant) one ∙ ap (λ (U : World). followed T U n e moved old) later))
+  pub follows-lives : (n : ℕ) (old noted done : List KeyLife) → noted ≡ all_noted T V n moved old → done ≡ grant_noted T V n e.grant noted → IsFollowed T W n e old done
+  follows-lives n old noted done one two = (moved, follows-moved, two ∙ (ap (grant_noted T V n e.grant) one ∙ ap (λ (U : World). followed T U n e moved old) later))

@@ -1,5 +1,5 @@
 // The lives of all keys that a schedule made.
-ghost use Rattle.std.specs.Prelude.{◌≡◌, ◌+◌, ◌<◌, ◌^◌, ◌++◌, true, [], map, filter, All, IfOk, OnOk};
+ghost use Rattle.std.specs.Prelude.{◌≡◌, ◌+◌, ◌<◌, ◌^◌, ◌++◌, true, [], map, flat_map, All, IfOk, OnOk};
 ghost use Rattle.sem_key.specs.KeyName.{IsValidKey};
 ghost use Rattle.sem_key.specs.KeyList.{key_set};
 ghost use Rattle.sem_msg.specs.Setup.{IsSetup};
@@ -8,11 +8,11 @@ ghost use Rattle.sem_machine.specs.Journals.{made};
 ghost use Rattle.sem_machine.specs.Schedules.{IsSchedule};
 ghost use Rattle.sem_query.specs.Lives.{lives};
 ghost use Rattle.sem_query.specs.Building.{life_so_far, all_noted, grant_noted, stepped_value, IsNext, IsFollowed};
-ghost use Rattle.sem_query.specs.MarkedKeys.{is_marked_in, AreMarked};
+ghost use Rattle.sem_query.specs.MarkedKeys.{marking, AreMarked};
 
 use crate::index::Index;
 use crate::life::Life;
-use crate::marked::{push_marked, push_swept};
+use crate::marked::{push_marked, push_swept, token_of};
 use crate::moves::moved_keys;
 use crate::sights::{go_on, held_selector, see, see_granted};
 use sem_grants::made_keys;
@@ -99,11 +99,11 @@ fn sort_keys(keys: &mut Vec<Key>)
 }
 
 // The event of the entry happens, and the entry, number `n`, is noted. `marked` are the keys that are
-// held marked.
+// held marked, with their jobs.
 fn follow(
     alloc: Global,
     index: &mut Index,
-    marked: &mut Vec<Key>,
+    marked: &mut Vec<(Key, u32)>,
     setup: &Setup,
     world: &mut World,
     n: u64,
@@ -121,8 +121,9 @@ fn follow(
         (IsFollowed setup.now world.old.world n entry.now index.old index.new) }
 {
     let mut moved = moved_keys(alloc, setup, world, entry)?;
+    let token = token_of(marked, setup, world, entry);
     go_on(world, entry.event)?;
-    push_swept(alloc, marked, setup, world, entry, &mut moved)?;
+    push_swept(alloc, marked, setup, world, entry, token, &mut moved)?;
     note_moved(index, marked, setup, world, n, &moved)?;
     note_grant(alloc, index, setup, world, n, entry)
 }
@@ -130,7 +131,7 @@ fn follow(
 // Notes where the keys are after entry `n`, and appends those that are held marked then.
 fn note_moved(
     index: &mut Index,
-    marked: &mut Vec<Key>,
+    marked: &mut Vec<(Key, u32)>,
     setup: &Setup,
     world: &World,
     n: u64,
@@ -140,12 +141,11 @@ fn note_moved(
     ensures index { OnOk result (index.new
         ≡ all_noted setup.now world.now.world n moved.now index.old) }
     ensures marked { OnOk result (marked.new.items ≡ marked.old.items
-        ++ filter (is_marked_in setup.now world.now.world) moved.now) }
+        ++ flat_map (marking setup.now world.now.world) moved.now) }
 {
     for key in moved {
-        let there = see(setup, world, *key);
-        index.note(*key, n, there)?;
-        push_marked(marked, *key, there)?;
+        index.note(*key, n, see(setup, world, *key))?;
+        push_marked(marked, setup, world, *key)?;
     }
     Ok(())
 }
