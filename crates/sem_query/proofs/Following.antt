@@ -1,9 +1,8 @@
 -- The keys that an entry moves, and those that are marked after it.
-use Rattle.std.proofs.Common.{◌≡◌, ◌⊎◌, ℕ, ◌<◌, Bool, true, false, not, List, [], ◌∷◌, ◌++◌, Option, Some, None, IsSome, refl, sym, ap, ◌∙◌, subst, inl, inr, eq-eqb}
-use Rattle.std.specs.Prelude.{◌==◌}
+use Rattle.std.proofs.Common.{◌≡◌, ℕ, ◌<◌, Bool, true, false, List, [], ◌∷◌, ◌++◌, Option, Some, None, IsSome, refl, sym, ap, ◌∙◌, subst, inl, inr}
 use Rattle.std.specs.List.{Contains, flat_map}
 use Rattle.std.specs.Option.{option_map, option_map_or, option_and_then}
-use Rattle.std.proofs.lemmas.Bool.{cases_Bool, cases_eq, true≢false, and_from, and_parts, eqb-true}
+use Rattle.std.proofs.lemmas.Bool.{cases_Bool, cases_eq, true≢false}
 use Rattle.std.proofs.lemmas.Option.{same_Some}
 use Rattle.std.proofs.lemmas.List.Elements.{Contains-append_left, Contains-append_right, Contains-append_cases}
 use Rattle.sem_key.specs.KeyName.{KeyName, key_eq}
@@ -22,31 +21,29 @@ use Rattle.sem_msg.specs.declared.state.Parked.{Parked}
 use Rattle.sem_key.specs.declared.limits.TheConstants.{VPES}
 use Rattle.sem_msg.specs.Setup.{Setup, IsSetup}
 use Rattle.sem_msg.specs.Lookups.{owner_of}
-use Rattle.sem_msg.specs.ParkedStates.{is_ready_with}
 use Rattle.sem_machine.specs.Sides.{Side, cap, parked}
 use Rattle.sem_machine.specs.Machine.{World, side, start, after, input_of, detail_of}
 use Rattle.sem_machine.specs.Schedules.{IsSchedule, world_after}
 use Rattle.sem_safety.proofs.CarryingWorlds.{stepped}
 use Rattle.sem_revoke.proofs.Readying.{schedule-homes}
 use Rattle.sem_query.specs.declared.holder.Holder.{Holder}
-use Rattle.sem_query.specs.declared.holder.Holder.TheVariants.{Marked, Unmarked, Way, No}
+use Rattle.sem_query.specs.declared.holder.Holder.TheVariants.{Marked}
 use Rattle.sem_query.specs.Whereabouts.{held_with, held_as, unheld, is_coming, whereabouts, Passes}
 use Rattle.sem_query.specs.Whereabouts.Passes.{born_on_its_way, born_held, stays_marked}
-use Rattle.sem_query.specs.Changes.{is_revoking, revokes_by, grants_key, MayChange, seen_at_home}
+use Rattle.sem_query.specs.Changes.{is_revoking, revokes_by, grants_key, MayChange}
 use Rattle.sem_query.specs.Changes.MayChange.{by_revoking}
 use Rattle.sem_query.specs.Lives.{KeyLife}
-use Rattle.sem_query.specs.Building.{all_noted, grant_noted, followed, returned_in, returned, handled, moved_by, AreMoved, IsNext, IsFollowed}
+use Rattle.sem_query.specs.Building.{all_noted, grant_noted, followed, returned_in, returned, moved_by, AreMoved, IsNext, IsFollowed}
 use Rattle.sem_query.specs.Reaching.{AreRevoked}
 use Rattle.sem_query.specs.declared.marked.Token.{Token}
 use Rattle.sem_query.specs.MarkedKeys.{mark_in, mark_at, AreMarked, marking, above_in, IsToken, IsIdleToken, IsSeen, IsBounded, StaysMarked, AreParted}
 use Rattle.sem_query.specs.MarkedKeys.IsSeen.{idle, token}
 use Rattle.sem_query.specs.MarkedKeys.StaysMarked.{no_token, elsewhere, still_marked, still_open, of_other}
-use Rattle.sem_query.proofs.Passing.{with-e, at, is-after, passes}
+use Rattle.sem_query.proofs.Passing.{at, is-after, passes}
 use Rattle.sem_query.proofs.Changing.{made-so, shown-detail, side-away, held-on, changes}
-use Rattle.sem_query.proofs.AtHome.{at-home}
 use Rattle.sem_query.proofs.Spared.{spared}
 use Rattle.sem_query.proofs.Stayed.{stays-held}
-use Rattle.sem_query.proofs.Telling.{nobody, start-unmarked}
+use Rattle.sem_query.proofs.Telling.{start-unmarked}
 use Rattle.sem_query.proofs.There.{some-of}
 use Rattle.sem_query.proofs.Begin.{parked-low}
 use Rattle.sem_query.proofs.Rooting.{reached-held}
@@ -84,11 +81,14 @@ held-marked o b j is =
 
 -- at the start none is
 pub none-marked : (T : Setup) → AreMarked T (start T) []
-none-marked T k j = (λ among. absurd (Contains-nil (k, j) among), λ is. (
-    let c = mark-of (cap (side (start T) (owner_of T k)) k) j is in
-    let none = start-unmarked T (owner_of T k) c.0 (found (λ (x : Capability). key_eq x.key k) (side (start T) (owner_of T k)).caps c.0 c.1).0 in
-    let clash : ◌≡◌ {A = Option ℕ} None (Some j) = sym none ∙ c.2 in
-    absurd cc))
+none-marked T k j = (
+  λ among. absurd (Contains-nil (k, j) among),
+  λ is. (
+      let c = mark-of (cap (side (start T) (owner_of T k)) k) j is in
+      let none = start-unmarked T (owner_of T k) c.0 (found (λ (x : Capability). key_eq x.key k) (side (start T) (owner_of T k)).caps c.0 c.1).0 in
+      let clash : ◌≡◌ {A = Option ℕ} None (Some j) = sym none ∙ c.2 in
+      absurd cc),
+)
 
 -- keys with their jobs
 in-markings : (T : Setup) (V : World) (ks : List KeyName) (k : KeyName) (j : ℕ) → Contains ks k → mark_at T V k ≡ Some j → Contains (flat_map (marking T V) ks) (k, j)
@@ -252,8 +252,8 @@ module _ (T : Setup) (valid : IsSetup T) (before : List Entry) (e : Entry) (runs
       -- a marked key that stays so stays at its selector
       both-marked : StaysSo → later-is k
       both-marked is = then (by (grants_key k e) (whereabouts T W k) (whereabouts T (world_after T J) k) (passes T valid J runs before [] e refl k)
-        (held-marked (cap (side W (owner_of T k)) k) (is_coming k W) j mark)
-        (ap (λ (U : World). is_marked (whereabouts T U k)) now-is ∙ held-marked (cap (side V (owner_of T k)) k) (is_coming k V) j is))
+          (held-marked (cap (side W (owner_of T k)) k) (is_coming k W) j mark)
+          (ap (λ (U : World). is_marked (whereabouts T U k)) now-is ∙ held-marked (cap (side V (owner_of T k)) k) (is_coming k V) j is))
         where
           by : (g : Bool) (a b : Holder) → Passes g a b → is_marked a ≡ true → is_marked b ≡ true → a ≡ b
           by _ _ _ (stays_marked sel) one two = refl

@@ -1,5 +1,5 @@
 -- The keys that an entry may move, as they are listed.
-use Rattle.std.proofs.Common.{◌≡◌, ◌⊎◌, ℕ, ◌<◌, true, false, List, [], ◌++◌, map, Option, Some, None, IsSome, refl, sym, ap, ◌∙◌, subst, inl, inr, eq-eqb}
+use Rattle.std.proofs.Common.{◌≡◌, ◌⊎◌, ℕ, ◌<◌, true, false, List, [], ◌++◌, Option, Some, None, IsSome, refl, sym, ap, ◌∙◌, subst, inl, inr, eq-eqb}
 use Rattle.std.specs.Prelude.{◌==◌, nat_lt, ◌&&◌, if◌then◌else◌}
 use Rattle.sem_key.specs.declared.limits.TheConstants.{VPES}
 use Rattle.std.specs.List.{Contains, filter}
@@ -7,17 +7,15 @@ use Rattle.std.specs.Option.{option_to_list}
 use Rattle.std.proofs.lemmas.Bool.{cases_Bool, cond-true, cond-false, and_from, and_parts, eqb-true, lt-ltb}
 use Rattle.std.proofs.lemmas.Option.{same_Some}
 use Rattle.std.proofs.lemmas.List.Elements.{Contains-append_left, Contains-append_right, Contains-append_cases}
-use Rattle.sem_key.specs.KeyName.{KeyName, key_eq}
-use Rattle.sem_key.specs.Capability.{Capability}
+use Rattle.sem_key.specs.KeyName.{KeyName}
 use Rattle.sem_key.proofs.KeyTests.{key_eq-true, key_eq-from}
-use Rattle.sem_key.proofs.Members.{found, not_found, Contains-head, Contains-nil, Contains-cons_cases, Contains-filter, Contains-from_filter, Contains-map, Contains-from_map}
-use Rattle.sem_msg.specs.declared.call.Call.TheVariants.{Exit}
+use Rattle.sem_key.proofs.Members.{Contains-nil, Contains-filter, Contains-from_filter}
 use Rattle.sem_msg.specs.declared.message.Message.{Message}
-use Rattle.sem_msg.specs.declared.message.Message.TheVariants.{ObtainOk, Ack, RevokeReq}
+use Rattle.sem_msg.specs.declared.message.Message.TheVariants.{ObtainOk, Ack}
 use Rattle.sem_msg.specs.declared.event.Act.{Act}
-use Rattle.sem_msg.specs.declared.event.Act.TheVariants.{Call as Calls, Handle, Kill, Resume}
+use Rattle.sem_msg.specs.declared.event.Act.TheVariants.{Handle, Resume}
 use Rattle.sem_msg.specs.declared.entry.Detail.{Detail}
-use Rattle.sem_msg.specs.declared.entry.Detail.TheVariants.{Called, Carried}
+use Rattle.sem_msg.specs.declared.entry.Detail.TheVariants.{Carried}
 use Rattle.sem_msg.specs.declared.entry.Entry.{Entry}
 use Rattle.sem_msg.specs.declared.state.Parked.{Parked}
 use Rattle.sem_msg.specs.declared.state.Parked.TheVariants.{ObtainReady}
@@ -26,7 +24,6 @@ use Rattle.sem_msg.specs.Lookups.{owner_of}
 use Rattle.sem_msg.specs.ParkedStates.{is_ready_with}
 use Rattle.sem_machine.specs.Sides.{Side, cap, parked}
 use Rattle.sem_machine.specs.Machine.{World, side}
-use Rattle.sem_machine.specs.Journals.{ends}
 use Rattle.sem_grants.specs.Ending.{ended_by}
 use Rattle.sem_query.specs.Whereabouts.{brings}
 use Rattle.sem_query.specs.Changes.{is_revoking, grants_key, IsRootOf, MayChange}
@@ -206,4 +203,3 @@ module _ (T : Setup) (W : World) (e : Entry) (low : (i v : ℕ) (p : Parked) →
         ]
       ]
     ]
-

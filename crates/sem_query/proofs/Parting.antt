@@ -1,8 +1,8 @@
 -- Marked keys are parted into those that stay as they are and those that a token may take away.
-use Rattle.std.proofs.Common.{◌≡◌, ◌⊎◌, ℕ, Bool, true, false, not, ◌&&◌, List, [], ◌∷◌, ◌++◌, map, take, length, ◌+◌, ◌<◌, get_or, Option, Some, None, IsSome, refl, sym, ap, ◌∙◌, subst, inl, inr, eq-eqb}
+use Rattle.std.proofs.Common.{◌≡◌, ℕ, Bool, true, false, not, List, [], map, Option, Some, None, refl, sym, ap, ◌∙◌, subst, inl, inr, eq-eqb}
 use Rattle.std.specs.Prelude.{◌==◌}
 use Rattle.std.specs.List.{Contains, filter}
-use Rattle.std.specs.Option.{option_map, option_map_or, option_and_then}
+use Rattle.std.specs.Option.{option_map_or}
 use Rattle.std.specs.Result.{OnOk}
 use Rattle.std.specs.declared.result.Result.{Result}
 use Rattle.std.specs.declared.result.Result.TheVariants.{Ok, Err}
@@ -12,11 +12,10 @@ use Rattle.sem_key.proofs.Members.{Contains-nil, Contains-filter, Contains-from_
 use Rattle.sem_msg.specs.declared.entry.Entry.{Entry}
 use Rattle.sem_msg.specs.Setup.{Setup}
 use Rattle.sem_msg.specs.Lookups.{owner_of}
-use Rattle.sem_machine.specs.Sides.{no_side}
-use Rattle.sem_machine.specs.Machine.{World, side}
+use Rattle.sem_machine.specs.Machine.{World}
 use Rattle.sem_query.specs.declared.marked.Token.{Token}
 use Rattle.sem_query.specs.Building.{returned}
-use Rattle.sem_query.specs.MarkedKeys.{mark_in, mark_at, is_marked_by, AreMarked, above_in, IsIdleToken, IsBounded, is_swept, StaysMarked, AreParted}
+use Rattle.sem_query.specs.MarkedKeys.{mark_at, is_marked_by, AreMarked, IsIdleToken, IsBounded, is_swept, StaysMarked, AreParted}
 use Rattle.sem_query.specs.MarkedKeys.StaysMarked.{no_token, elsewhere, still_marked, still_open, of_other}
 
 -- what two clauses say of a success
@@ -95,7 +94,7 @@ module _ (T : Setup) (V : World) (e : Entry) (marked : List (KeyName × ℕ)) wh
         ];
         stays = λ k j among. (let x = Contains-from_filter (λ p. not (swept p)) marked (k, j) (subst (λ ps. Contains ps (k, j)) is among) in (x.0, stays-so k j x.1));
         goes = λ k among.
-          (let p = Contains-from_map (λ (p : KeyName × ℕ). p.0) (filter swept marked) k among in
-          let x = Contains-from_filter swept marked p.0 p.1 in
-          (p.0.1, subst (λ q. Contains marked (q, p.0.1)) p.2 x.0, ap (owner_of T) (sym p.2) ∙ eqb-true (owner_of T p.0.0) e.event.kernel (and_parts (owner_of T p.0.0 == e.event.kernel) (part_of p.0) x.1).0, refl));
+            (let p = Contains-from_map (λ (p : KeyName × ℕ). p.0) (filter swept marked) k among in
+            let x = Contains-from_filter swept marked p.0 p.1 in
+            (p.0.1, subst (λ q. Contains marked (q, p.0.1)) p.2 x.0, ap (owner_of T) (sym p.2) ∙ eqb-true (owner_of T p.0.0) e.event.kernel (and_parts (owner_of T p.0.0 == e.event.kernel) (part_of p.0) x.1).0, refl));
       }

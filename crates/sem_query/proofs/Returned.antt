@@ -2,7 +2,7 @@
 use Rattle.std.proofs.Common.{◌≡◌, ◌⊎◌, ℕ, ◌-◌, zero, suc, Bool, true, false, not, List, [], ◌∷◌, ◌++◌, length, Option, Some, None, refl, sym, ap, ◌∙◌, subst, inl, inr, eq-eqb}
 use Rattle.std.specs.Prelude.{◌==◌, if◌then◌else◌}
 use Rattle.std.specs.List.{Contains, filter}
-use Rattle.std.specs.Option.{option_map_or, option_and_then}
+use Rattle.std.specs.Option.{option_map_or}
 use Rattle.std.proofs.lemmas.Bool.{cond_both, eqb-true, ne_eqb, true≢false, not-true}
 use Rattle.std.proofs.lemmas.Option.{same_Some}
 use Rattle.sem_key.specs.KeyName.{KeyName, key_eq}
@@ -24,7 +24,7 @@ use Rattle.sem_msg.specs.JobRows.{job_of, if_done, next_done}
 use Rattle.sem_msg.specs.Setup.{Setup, IsSetup}
 use Rattle.sem_msg.specs.Lookups.{owner_of, is_local}
 use Rattle.sem_machine.specs.Sides.{Side, cap, job, unlinked, job_removed, send, with_inbox}
-use Rattle.sem_machine.specs.Revokes.{count_lowered, root_spared, selectors_freed, swept, woken, left_parent, parent_left, up_told, closed_here, closed, finish, settled, revoke_done}
+use Rattle.sem_machine.specs.Revokes.{count_lowered, root_spared, swept, woken, left_parent, parent_left, up_told, closed_here, closed, finish, settled, revoke_done}
 use Rattle.sem_machine.specs.Handles.{handle_row, handled}
 use Rattle.sem_machine.specs.Machine.{World, side, start, input_of, detail_of, local_step}
 use Rattle.sem_machine.specs.Schedules.{IsSchedule, world_after}
@@ -187,11 +187,11 @@ module _ (xs : List Capability) (j : ℕ) where
   closed-rests T i x t R same own =
       let gone : Side = job_removed x.id t in
       told-rests x.up (closed_here T i x gone) (left-rests T i x.id x.count x.root x.up x.waiters x.keep (left_parent gone x) (woken x.waiters (swept x gone))
-        (removed-rests (root_spared x gone).caps
-        (cond_both x.keep (restored t.caps x.root) t.caps Rests
-        (λ _. changed-rests t.caps R (λ c. key_eq c.key x.root) (λ c. record c { children = []; mark = None }) (λ c. record { key = refl; selector = refl }) (λ c pass. inr (λ e was key. own e was (key ∙ key_eq-true c.key x.root pass))))
-        (λ _. R))
-        x.id same))
+      (removed-rests (root_spared x gone).caps
+      (cond_both x.keep (restored t.caps x.root) t.caps Rests
+      (λ _. changed-rests t.caps R (λ c. key_eq c.key x.root) (λ c. record c { children = []; mark = None }) (λ c. record { key = refl; selector = refl }) (λ c pass. inr (λ e was key. own e was (key ∙ key_eq-true c.key x.root pass))))
+      (λ _. R))
+      x.id same))
 
   -- it is finished alone, if the job above it is not finished
   finish-rests : (T : Setup) (i n : ℕ) (o : Option JobRow) (t : Side) → Rests t.caps → ((x : JobRow) → o ≡ Some x → (x.id ≡ j) × OwnsRoot x × ((m : ℕ) → x.up ≡ Some (Local m) → NoneBy m (finish T i n o t).caps → ⊥)) → Rests (finish T i n o t).caps

@@ -1,7 +1,7 @@
 -- Where an entry begins to revoke, as it is listed.
-use Rattle.std.proofs.Common.{◌≡◌, ◌⊎◌, ℕ, true, List, [], ◌∷◌, ◌++◌, Option, Some, None, IsSome, refl, sym, ap, ◌∙◌, subst, inl, inr, eq-eqb}
+use Rattle.std.proofs.Common.{◌≡◌, ℕ, true, List, [], ◌++◌, Option, Some, None, IsSome, refl, sym, ap, ◌∙◌, subst, inl, inr, eq-eqb}
 use Rattle.std.specs.Prelude.{◌==◌}
-use Rattle.std.specs.List.{Contains, filter}
+use Rattle.std.specs.List.{Contains}
 use Rattle.std.specs.Option.{option_map_or, option_to_list}
 use Rattle.std.proofs.lemmas.Bool.{eqb-true}
 use Rattle.std.proofs.lemmas.Option.{same_Some}
@@ -25,7 +25,7 @@ use Rattle.sem_grants.specs.Ending.{ended_by}
 use Rattle.sem_query.specs.Changes.{IsRootOf}
 use Rattle.sem_query.specs.Changes.IsRootOf.{of_cut, of_request, of_end}
 use Rattle.sem_query.specs.Building.{requested}
-use Rattle.sem_query.specs.Reaching.{IsReachedFrom, AreReached, AreRevoked, held_of, roots_of}
+use Rattle.sem_query.specs.Reaching.{AreReached, AreRevoked, held_of, roots_of}
 
 -- Options as lists.
 
@@ -50,7 +50,6 @@ by-ends v a d is = absurd cc
 pub from-requested : (e : Entry) (k : KeyName) (a : Act) (d : Detail) → e.event.act ≡ a → e.detail ≡ d → requested a d ≡ Some k → IsRootOf e k
 from-requested e k Handle (Carried from (RevokeReq key j)) act detail is = of_request from j act (detail ∙ ap (λ q. Carried from (RevokeReq q j)) (same_Some key k is))
 from-requested e k a d act detail is = absurd cc
-
 
 module _ (caps : List Capability) (e : Entry) where
   abbrev cuts : List KeyName
@@ -83,12 +82,12 @@ module _ (caps : List Capability) (e : Entry) where
   roots-all a (of_cut cut) c held = Contains-append_left (cuts ++ asks) over a (Contains-append_left cuts asks a (in-option e.cut a cut))
   roots-all a (of_request from j act detail) c held =
       Contains-append_left (cuts ++ asks) over a (Contains-append_right cuts asks a (in-option (requested e.event.act e.detail) a
-        (ap (λ b. requested b e.detail) act ∙ ap (requested Handle) detail)))
+      (ap (λ b. requested b e.detail) act ∙ ap (requested Handle) detail)))
   roots-all a (of_end ended) c held =
       let of_c = found (λ (x : Capability). key_eq x.key a) caps c held in
       let among : Contains (keys_of caps) a = subst (Contains (keys_of caps)) (key_eq-true c.key a of_c.1) (Contains-map (λ (x : Capability). x.key) caps c of_c.0) in
       Contains-append_right (cuts ++ asks) over a (subst (λ o. Contains (option_map_or (held_of caps) o []) a) (sym (ends-by a.vpe e.event.act e.detail ended))
-        (Contains-filter (λ (k : KeyName). k.vpe == a.vpe) (keys_of caps) a among (eq-eqb a.vpe a.vpe refl)))
+      (Contains-filter (λ (k : KeyName). k.vpe == a.vpe) (keys_of caps) a among (eq-eqb a.vpe a.vpe refl)))
 
   -- what leads to a key is held
   root-held : (a k : KeyName) → Reached caps a k → (c : Capability) × (cap_of caps a ≡ Some c)
@@ -102,5 +101,6 @@ module _ (caps : List Capability) (e : Entry) where
   -- what is reached from there is what the entry reaches
   pub revoked-are : (ks : List KeyName) → AreReached caps (roots_of caps e) ks → AreRevoked caps e ks
   revoked-are ks are loud k = (
-      λ among. (let is = (are k).0 among in (is.0, roots-only is.0 is.1, is.2)),
-      λ (a, root, reached). (are k).1 (a, (let c = root-held a k reached in roots-all a root c.0 c.1), reached))
+    λ among. (let is = (are k).0 among in (is.0, roots-only is.0 is.1, is.2)),
+    λ (a, root, reached). (are k).1 (a, (let c = root-held a k reached in roots-all a root c.0 c.1), reached),
+  )

@@ -1,22 +1,22 @@
 -- A walk from roots by child links through unmarked capabilities.
-use Rattle.std.proofs.Common.{◌≡◌, ◌⊎◌, ℕ, ◌+◌, ◌<◌, ◌≤◌, Bool, true, false, not, ◌||◌, List, [], ◌∷◌, ◌++◌, length, take, get_or, Option, Some, None, is_none, refl, sym, ap, ◌∙◌, subst, inl, inr, arith, append_assoc, append-nil, length-append}
-use Rattle.std.specs.Prelude.{◌↔◌, nat_eq, if◌then◌else◌}
+use Rattle.std.proofs.Common.{◌≡◌, ℕ, ◌+◌, ◌<◌, ◌≤◌, Bool, true, false, not, ◌||◌, List, [], ◌∷◌, ◌++◌, length, take, get_or, Option, Some, None, is_none, refl, sym, ap, ◌∙◌, subst, inl, inr, arith, append_assoc, append-nil, length-append}
+use Rattle.std.specs.Prelude.{nat_eq, if◌then◌else◌}
 use Rattle.std.specs.List.{Contains, filter, list_any}
 use Rattle.std.specs.Option.{option_map_or}
 use Rattle.std.specs.HashSet.{HashSet}
-use Rattle.std.proofs.lemmas.Bool.{cases_Bool, cond-true, cond-false, or_cases, or_left, true≢false, false≢true, not-true, not_from_false}
+use Rattle.std.proofs.lemmas.Bool.{cases_Bool, cond-true, cond-false, or_left, true≢false, false≢true, not-true, not_from_false}
 use Rattle.std.proofs.lemmas.List.{take_more, take_all, take-append-le}
 use Rattle.std.proofs.lemmas.List.Elements.{Contains-append_left, Contains-append_right, Contains-append_cases, Contains-push, Contains-push_cases}
-use Rattle.sem_key.specs.KeyName.{KeyName, IsValidKey, key_eq}
+use Rattle.sem_key.specs.KeyName.{KeyName, key_eq}
 use Rattle.sem_key.specs.Capability.{Capability}
 use Rattle.sem_key.specs.CapList.{cap_of}
 use Rattle.sem_key.specs.Region.{has_key, Reached}
 use Rattle.sem_key.specs.Region.Reached.{at_root, by_link}
-use Rattle.sem_key.proofs.KeyTests.{key_eq-true, key_eq-same, has_key-from_Contains, Contains-from_has_key}
+use Rattle.sem_key.proofs.KeyTests.{key_eq-true, has_key-from_Contains, Contains-from_has_key}
 use Rattle.sem_key.proofs.Members.{found, Contains-nil, Contains-cons_cases, Contains-head}
 use Rattle.sem_mark.specs.Walks.{is_open, children_at}
 use Rattle.sem_mark.proofs.Marks.{has_key-append}
-use Rattle.sem_query.specs.Reaching.{IsReachedFrom, AreReached, unlisted, Lists, has_word, HasWords}
+use Rattle.sem_query.specs.Reaching.{IsReachedFrom, AreReached, Lists, has_word, HasWords}
 
 -- How many pass a test.
 

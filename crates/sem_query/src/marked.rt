@@ -62,12 +62,7 @@ fn is_marked_by(setup: &Setup, world: &World, key: Key, job: u32) -> bool
 
 /// The token that the entry handles, if one comes back to a job that marks a key, in the world before
 /// the entry.
-pub fn token_of(
-    marked: &[(Key, u32)],
-    setup: &Setup,
-    world: &World,
-    entry: &Entry,
-) -> Option<Token>
+pub fn token_of(marked: &[(Key, u32)], setup: &Setup, world: &World, entry: &Entry) -> Option<Token>
     requires { AreMarked setup.now world.now.world marked.now }
     ensures { IsSeen setup.now world.now.world entry.now result }
 {
@@ -135,15 +130,7 @@ pub fn push_swept(
     } else {
         None
     };
-    part(
-        alloc,
-        marked,
-        setup,
-        world,
-        entry.event.kernel,
-        only,
-        moved,
-    )?;
+    part(alloc, marked, setup, world, entry.event.kernel, only, moved)?;
     Ok(())
 }
 

@@ -1,4 +1,4 @@
-use Rattle.std.proofs.Common.{List, [], ◌∷◌, ◌++◌, sym, ap, ◌∙◌, append-nil}
+use Rattle.std.proofs.Common.{List, ◌++◌, sym, ap, ◌∙◌, append-nil}
 use Rattle.std.specs.List.{flat_map}
 use Rattle.std.proofs.lemmas.List.{take_all}
 use Rattle.sem_key.specs.KeyName.{KeyName}
@@ -16,8 +16,8 @@ loop-key-init c = record {
 pub loop-key-preserved : goal.loop-key-preserved
 loop-key-preserved c = record {
   index =
-    noted-more c.args.setup.now c.args.world.now.world c.args.n c.args.moved.now c.args.index.now c.loop-key.key-index c.key-item.result c.loop-key.index c.note.new.self c.loop-key-test.true c.key-item.is c.loop-key.invariant.index
-    (c.in_ok-note.ensures ∙ ap (λ h. noted_of c.key-item.result c.args.n h c.loop-key.index) c.see.ensures);
+      noted-more c.args.setup.now c.args.world.now.world c.args.n c.args.moved.now c.args.index.now c.loop-key.key-index c.key-item.result c.loop-key.index c.note.new.self c.loop-key-test.true c.key-item.is c.loop-key.invariant.index
+      (c.in_ok-note.ensures ∙ ap (λ h. noted_of c.key-item.result c.args.n h c.loop-key.index) c.see.ensures);
   marked = marked-more c.args.setup.now c.args.world.now.world c.args.moved.now c.loop-key.key-index c.key-item.result c.args.marked.now.items c.loop-key.marked.items c.push_marked.new.marked.items c.loop-key-test.true c.key-item.is c.loop-key.invariant.marked c.in_ok-push_marked.ensures;
 }
 

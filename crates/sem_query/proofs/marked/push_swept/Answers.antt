@@ -1,4 +1,4 @@
-use Rattle.std.proofs.Common.{◌≡◌, ◌++◌, ℕ, List, [], Option, Some, None, map, refl, sym, ap, subst, ◌∙◌, append-nil}
+use Rattle.std.proofs.Common.{◌≡◌, ℕ, List, [], Option, Some, None, map, sym, subst, ◌∙◌, append-nil}
 use Rattle.std.specs.List.{filter}
 use Rattle.sem_key.specs.KeyName.{KeyName}
 use Rattle.sem_query.specs.declared.marked.Token.{Token}
@@ -8,14 +8,20 @@ use Rattle.sem_query.proofs.marked.push_swept.Goals as goal
 use Rattle.sem_query.proofs.marked.push_swept.Goals.{then-is_bounded, else-is_bounded}
 
 pub returns-in_default : goal.returns-in_default
-returns-in_default c = ([], sym (append-nil c.args.moved.now.items),
-    subst (λ (o : Option Token). AreParted c.args.setup.now c.args.world.now.world c.args.entry.now o c.args.marked.now.items c.args.marked.now.items []) (sym c.in_default.is)
-    (parted-none c.args.setup.now c.args.world.now.world c.args.entry.now c.args.marked.now.items))
+returns-in_default c = (
+  [],
+  sym (append-nil c.args.moved.now.items),
+  subst (λ (o : Option Token). AreParted c.args.setup.now c.args.world.now.world c.args.entry.now o c.args.marked.now.items c.args.marked.now.items []) (sym c.in_default.is)
+      (parted-none c.args.setup.now c.args.world.now.world c.args.entry.now c.args.marked.now.items),
+)
 
 pub returns-then-is_marked_by : goal.returns-then-is_marked_by
-returns-then-is_marked_by c = ([], sym (append-nil c.args.moved.now.items),
-    subst (λ (o : Option Token). AreParted c.args.setup.now c.args.world.now.world c.args.entry.now o c.args.marked.now.items c.args.marked.now.items []) (sym c.in-Some.is)
-    (parted-open c.args.setup.now c.args.world.now.world c.args.entry.now c.args.marked.now.items c.in-Some.token (sym c.is_marked_by.ensures ∙ c.if-is_marked_by.true)))
+returns-then-is_marked_by c = (
+  [],
+  sym (append-nil c.args.moved.now.items),
+  subst (λ (o : Option Token). AreParted c.args.setup.now c.args.world.now.world c.args.entry.now o c.args.marked.now.items c.args.marked.now.items []) (sym c.in-Some.is)
+      (parted-open c.args.setup.now c.args.world.now.world c.args.entry.now c.args.marked.now.items c.in-Some.token (sym c.is_marked_by.ensures ∙ c.if-is_marked_by.true)),
+)
 
 pub returns : goal.returns
 returns c =
@@ -29,10 +35,12 @@ returns c =
           let same : Some c.in-Some.token.job ≡ Some j = sym w.only-is ∙ is in
           (the_same c.in-Some.token.job j same, c.is_bounded.ensures w.if-is_bounded.true)
       | else-is_bounded w ↦ let clash : ◌≡◌ {A = Option ℕ} None (Some j) = sym w.only-is ∙ is in absurd cc
-    ] in
-    (gone, c.in_ok-part.ensures.gone,
-    subst (λ (o : Option Token). AreParted T V e o c.args.marked.now.items c.part.new.marked.items gone) (sym c.in-Some.is)
-    (parted-swept T V e c.args.marked.now.items c.in-Some.token only alone c.part.new.marked.items c.in_ok-part.ensures.kept))
+    ] in (
+      gone,
+      c.in_ok-part.ensures.gone,
+      subst (λ (o : Option Token). AreParted T V e o c.args.marked.now.items c.part.new.marked.items gone) (sym c.in-Some.is)
+          (parted-swept T V e c.args.marked.now.items c.in-Some.token only alone c.part.new.marked.items c.in_ok-part.ensures.kept),
+    )
   where
     the_same : (a j : ℕ) → Some a ≡ Some j → j ≡ a
     the_same a j same = cc

@@ -1,6 +1,5 @@
-use Rattle.std.proofs.Common.{Option, Some, None, refl, sym, ap, subst, ◌∙◌}
-use Rattle.sem_query.specs.declared.marked.Token.{Token}
-use Rattle.sem_query.specs.MarkedKeys.{IsSeen, above_in}
+use Rattle.std.proofs.Common.{sym, ap, ◌∙◌}
+use Rattle.sem_query.specs.MarkedKeys.{above_in}
 use Rattle.sem_query.specs.MarkedKeys.IsSeen.{idle, token}
 use Rattle.sem_machine.specs.Machine.{side}
 use Rattle.sem_query.proofs.Parting.{idle-none, idle-unlisted}

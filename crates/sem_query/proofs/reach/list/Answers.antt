@@ -1,5 +1,5 @@
-use Rattle.std.proofs.Common.{List, sym, ap, subst, ◌∙◌, ◌++◌, ◌∷◌, []}
-use Rattle.std.proofs.lemmas.Bool.{true≢false, not-true, not_from_false}
+use Rattle.std.proofs.Common.{List, sym, subst, ◌∙◌, ◌∷◌, []}
+use Rattle.std.proofs.lemmas.Bool.{true≢false}
 use Rattle.sem_key.specs.KeyName.{KeyName}
 use Rattle.sem_key.specs.Region.{has_key}
 use Rattle.sem_key.proofs.KeyTests.{Contains-from_has_key}

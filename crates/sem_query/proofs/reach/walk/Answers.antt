@@ -1,4 +1,4 @@
-use Rattle.std.proofs.Common.{List, ◌+◌, ◌≤◌, ap, subst, length, arith, length-append}
+use Rattle.std.proofs.Common.{List, subst, arith}
 use Rattle.sem_key.specs.KeyName.{KeyName}
 use Rattle.sem_query.specs.Reaching.{Lists}
 use Rattle.sem_query.proofs.Walking.{walk-start, walk-next, walk-end, words-none}
