@@ -36,9 +36,10 @@ use Rattle.sem_revoke.specs.Resting.{Names, HasMarkedParent}
 use Rattle.sem_revoke.proofs.Above.{waited-below, marked-below}
 use Rattle.sem_revoke.proofs.Marking.{roots-marked}
 use Rattle.sem_revoke.proofs.Parents.{parent-held}
+use Rattle.sem_query.specs.Whereabouts.{whereabouts}
 use Rattle.sem_query.proofs.Bearing.{IsKin, IsAlike, alike-same, alike-next}
 use Rattle.sem_query.proofs.Passing.{only-one, with-e, at}
-use Rattle.sem_query.proofs.Changing.{made-so, shown-detail, side-here}
+use Rattle.sem_query.proofs.Changing.{made-so, shown-detail, side-here, held-same}
 use Rattle.sem_query.proofs.MarkedChildren.{job-found}
 use Rattle.sem_query.proofs.Staying.{finish-none}
 
@@ -352,3 +353,10 @@ module _ (T : Setup) (valid : IsSetup T) (J : List Entry) (runs : IsSchedule T J
                   still same none' =
                       let P = waited-below T valid before was n j b.0 b.1 n i (subst (λ o. Names o n n i) (sym (sym b.3 ∙ is_up)) (refl, refl)) in
                       none' P.capability (subst (λ cs. Contains cs P.capability) (sym (caps-are ∙ same)) (found (λ (x : Capability). key_eq x.key P.parent) s.caps P.capability P.held).0) P.marked
+
+-- a key that the kernel holds stays where it is, if the job of the token marks one after it
+pub open-stays : (T : Setup) → IsSetup T → (J : List Entry) → IsSchedule T J → (before later : List Entry) (e : Entry) → J ≡ before ++ e ∷ later → (k q : KeyName) (c d : Capability) (from j : ℕ) → e.event.act ≡ Handle → e.detail ≡ Carried from (RevokeDone j) → owner_of T k ≡ e.event.kernel
+    → cap (side (world_after T before) (owner_of T k)) k ≡ Some c → cap (side (world_after T (before ++ e ∷ [])) e.event.kernel) q ≡ Some d → d.mark ≡ Some j → whereabouts T (world_after T before) k ≡ whereabouts T (world_after T (before ++ e ∷ [])) k
+open-stays T valid J runs before later e parts k q c d from j act detail home held held' marked =
+    let x = returned-open T valid J runs before later e parts k from j act detail home c held q d held' marked in
+    held-same T valid J runs before later e parts k c x.0 held x.1 x.2.mark x.2.kin.selector
