@@ -61,7 +61,8 @@ abbrev pub IsBounded : Setup → World → Token → Type 0
 IsBounded T V t = (p : KeyName) (j : ℕ) → t.above ≡ Some (p, j) → mark_at T V p ≡ Some j
 
 -- Why a key that job j has marked stays as it is with the entry, after which the world is V.
-pub data StaysMarked (T : Setup) (V : World) (e : Entry) (o : Option Token) (k : KeyName) (j : ℕ) : Type 0 where
+pub data StaysMarked
+    (T : Setup) (V : World) (e : Entry) (o : Option Token) (k : KeyName) (j : ℕ) : Type 0 where
   no_token : o ≡ None → StaysMarked T V e o k j
   -- it is one of another kernel
   elsewhere : (owner_of T k ≡ e.event.kernel → ⊥) → StaysMarked T V e o k j
@@ -80,7 +81,9 @@ is_swept T V i only p =
     && option_map_or (λ j. p.1 == j) only (not (is_marked_by T V p.0 p.1))
 
 -- Marked keys are parted into those that stay as they are and those that a token may take away.
-pub record AreParted (T : Setup) (V : World) (e : Entry) (o : Option Token) (marked kept : List (KeyName × ℕ)) (gone : List KeyName) : Type 0 where
+pub record AreParted
+    (T : Setup) (V : World) (e : Entry) (o : Option Token) (marked kept : List (KeyName × ℕ))
+    (gone : List KeyName) : Type 0 where
   pub each : (k : KeyName) (j : ℕ) → Contains marked (k, j) → Contains kept (k, j) ⊎ Contains gone k
   pub stays : (k : KeyName) (j : ℕ) → Contains kept (k, j)
       → Contains marked (k, j) × StaysMarked T V e o k j

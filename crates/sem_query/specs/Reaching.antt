@@ -1,4 +1,5 @@
--- The keys that a revoking entry reaches: from where it begins, by child links through unmarked capabilities of its kernel.
+-- The keys that a revoking entry reaches: from where it begins, by child links through unmarked
+-- capabilities of its kernel.
 use Rattle.std.specs.Prelude.{◌≡◌, ◌↔◌, ℕ, ◌+◌, ◌≤◌, ◌==◌, ◌⊎◌, Bool, true, not, List, [], ◌++◌, length, filter, Contains, nat_eq}
 use Rattle.std.specs.Option.{option_map_or, option_to_list}
 use Rattle.std.specs.HashSet.{HashSet, contains}

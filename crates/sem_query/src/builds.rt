@@ -98,8 +98,8 @@ fn sort_keys(keys: &mut Vec<Key>)
     keys.dedup_by(|one, other| pack(*one) == pack(*other));
 }
 
-// The event of the entry happens, and the entry, number `n`, is noted. `marked` are the keys that are
-// held marked, with their jobs.
+// The event of the entry happens, and the entry, number `n`, is noted. `marked` are the keys that
+// are held marked, with their jobs.
 fn follow(
     alloc: Global,
     index: &mut Index,

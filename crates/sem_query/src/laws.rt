@@ -124,8 +124,8 @@ pub fn marked_keys_wait_for_tokens()
         → whereabouts_after T before k ≡ whereabouts_after T (before ++ e ∷ []) k }
 {}
 
-/// A token that comes back to a job leaves each key that its kernel holds where it is, if the job marks
-/// one of them after it: then the job is not finished.
+/// A token that comes back to a job leaves each key that its kernel holds where it is, if the job
+/// marks one of them after it: then the job is not finished.
 pub fn open_jobs_move_no_keys()
     ensures stays { (T : Setup) → IsSetup T → (J before later : List Entry) (e : Entry)
         → (k q : KeyName) (c d : Capability) (from j : ℕ)

@@ -1,5 +1,5 @@
-// The keys that are held marked and the jobs that have marked them, kept from entry to entry: a token
-// that comes back to a job can move these alone.
+// The keys that are held marked and the jobs that have marked them, kept from entry to entry. A
+// token that comes back to a job can move these alone.
 ghost use Rattle.std.specs.Prelude.{◌≡◌, ◌++◌, List, map, filter, not, Contains, Some, IsTrue, IfSome, IfNone, OnOk};
 ghost use Rattle.sem_key.specs.KeyName.{KeyName};
 ghost use Rattle.sem_msg.specs.Lookups.{owner_of};
@@ -60,8 +60,8 @@ fn is_marked_by(setup: &Setup, world: &World, key: Key, job: u32) -> bool
     }
 }
 
-/// The token that the entry handles, if one comes back to a job that marks a key, in the world before
-/// the entry.
+/// The token that the entry handles, if one comes back to a job that marks a key. The world is the
+/// one before the entry.
 pub fn token_of(marked: &[(Key, u32)], setup: &Setup, world: &World, entry: &Entry) -> Option<Token>
     requires { AreMarked setup.now world.now.world marked.now }
     ensures { IsSeen setup.now world.now.world entry.now result }
@@ -104,8 +104,8 @@ fn above(setup: &Setup, world: &World, key: Key) -> Option<(Key, u32)>
     Some((parent, job))
 }
 
-/// Where a token came back, the marked keys that it may have taken away are appended to `moved`, and
-/// the others stay marked. The world is the one after the entry.
+/// Where a token came back, the marked keys that it may have taken away are appended to `moved`. The
+/// others stay marked. The world is the one after the entry.
 pub fn push_swept(
     alloc: Global,
     marked: &mut Vec<(Key, u32)>,
@@ -134,7 +134,8 @@ pub fn push_swept(
     Ok(())
 }
 
-// Whether the job that has marked the parent marks it still: then no job is finished but the token's.
+// Whether the job that has marked the parent marks it still. Then no job is finished but that of the
+// token.
 fn is_bounded(setup: &Setup, world: &World, token: &Token) -> bool
     ensures { IsTrue result → IsBounded setup.now world.now.world token.now }
 {
@@ -144,8 +145,8 @@ fn is_bounded(setup: &Setup, world: &World, token: &Token) -> bool
     }
 }
 
-// Appends to `moved` the swept keys of the kernel of that number: those of one job, if one is given,
-// else those that are not marked as before. The others stay.
+// Appends to `moved` the swept keys of the kernel of that number: those of one job, if one is
+// given, else those that are not marked as before. The others stay.
 fn part(
     alloc: Global,
     marked: &mut Vec<(Key, u32)>,
