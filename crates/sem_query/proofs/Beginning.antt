@@ -1,8 +1,9 @@
 -- Lives in rising key order, and keys that are noted one by one.
-use Rattle.std.proofs.Common.{◌≡◌, ℕ, suc, ◌+◌, ◌<◌, ◌≤◌, List, [], ◌∷◌, ◌++◌, length, map, take, get_or, refl, sym, ap, ◌∙◌, subst, arith}
-use Rattle.std.specs.List.{All, Contains}
+use Rattle.std.proofs.Common.{◌≡◌, ℕ, suc, ◌+◌, ◌<◌, ◌≤◌, List, [], ◌∷◌, ◌++◌, length, map, take, get_or, refl, sym, ap, ◌∙◌, subst, arith, append_assoc, append-nil}
+use Rattle.std.specs.List.{All, Contains, flat_map}
 use Rattle.std.proofs.lemmas.List.{take_more, take_all, map-append}
 use Rattle.std.proofs.lemmas.List.Elements.{All-cons}
+use Rattle.std.proofs.lemmas.Grind.{flat_map-append}
 use Rattle.sem_key.specs.KeyName.{KeyName, IsValidKey, packed}
 use Rattle.sem_key.specs.KeyList.{IsRising, key_set}
 use Rattle.sem_key.specs.Lists.{in_turn}
@@ -20,6 +21,7 @@ use Rattle.sem_query.specs.Searching.{AreLives}
 use Rattle.sem_msg.specs.Lookups.{owner_of}
 use Rattle.sem_query.specs.Changes.{seen_at_home}
 use Rattle.sem_query.specs.Building.{noted_of, all_noted}
+use Rattle.sem_query.specs.MarkedKeys.{marking}
 
 -- what is so of each member is so of all
 each-of : {X : Type 0} (P : X → Type 0) (xs : List X) → ((x : X) → Contains xs x → P x) → All P xs
@@ -75,3 +77,11 @@ map-more f xs i x old new within at so_far is =
     is
     ∙ (ap (λ ys. ys ++ f x ∷ []) so_far
     ∙ sym (ap (map f) (take_more xs i x within ∙ ap (λ y. take i xs ++ y ∷ []) (sym at)) ∙ map-append f (take i xs) (x ∷ [])))
+
+-- one key more with its job, if it is marked
+pub marked-more : (T : Setup) (V : World) (ks : List KeyName) (i : ℕ) (k : KeyName) (first old new : List (KeyName × ℕ)) → i < length ks → k ≡ get_or ks i k → old ≡ first ++ flat_map (marking T V) (take i ks) → new ≡ old ++ marking T V k → new ≡ first ++ flat_map (marking T V) (take (i + 1) ks)
+marked-more T V ks i k first old new within at so_far is =
+    is
+    ∙ (ap (λ xs. xs ++ marking T V k) so_far
+    ∙ (append_assoc first (flat_map (marking T V) (take i ks)) (marking T V k)
+    ∙ sym (ap (λ xs. first ++ xs) (ap (flat_map (marking T V)) (take_more ks i k within ∙ ap (λ x. take i ks ++ x ∷ []) (sym at)) ∙ (flat_map-append (marking T V) (take i ks) (k ∷ []) ∙ ap (λ xs. flat_map (marking T V) (take i ks) ++ xs) (append-nil (marking T V k)))))))

@@ -7,12 +7,10 @@ use Rattle.sem_msg.specs.declared.entry.Entry.{Entry}
 use Rattle.sem_msg.specs.Setup.{Setup, IsSetup}
 use Rattle.sem_machine.specs.Machine.{World, start}
 use Rattle.sem_machine.specs.Schedules.{IsSchedule, world_after}
-use Rattle.sem_safety.proofs.GoingOn.{entry-enabled}
+use Rattle.sem_safety.proofs.GoingOn.{run-append, run-prefix}
 use Rattle.sem_kernel.specs.Worlds.{WorldValue}
 use Rattle.sem_query.specs.Lives.{KeyLife}
-use Rattle.sem_query.specs.Building.{life_so_far, followed, moved_by}
-use Rattle.sem_query.proofs.Begin.{parked-low}
-use Rattle.sem_query.proofs.Moved.{moved-are}
+use Rattle.sem_query.specs.Building.{life_so_far, followed, IsNext, IsFollowed}
 use Rattle.sem_query.proofs.Noting.{followed-is}
 
 -- the world after some entries, with its setup
@@ -31,15 +29,23 @@ module _ (T : Setup) (valid : IsSetup T) (J : List Entry) (runs : IsSchedule T J
   count = length-take-le place J (omega (arith, within))
 
   -- the lives go on with it
-  pub next-lives : (now new : WorldValue) → now ≡ world_at T (take place J) → new ≡ world_at T (take (place + 1) J) → (ks : List KeyName) (ls ls' : List KeyLife) → ls ≡ map (life_so_far T (take place J)) ks → ls' ≡ followed T new.world place e (moved_by T now.world e) ls → ls' ≡ map (life_so_far T (take (place + 1) J)) ks
-  next-lives now new is is' ks ls ls' so_far goes =
+  pub next-lives : (now : WorldValue) → now ≡ world_at T (take place J) → (ks : List KeyName) (ls ls' : List KeyLife) → ls ≡ map (life_so_far T (take place J)) ks → IsFollowed T now.world place e ls ls' → ls' ≡ map (life_so_far T (take (place + 1) J)) ks
+  next-lives now is ks ls ls' so_far follows =
       let W : World = world_after T (take place J) in
       let V : World = world_after T (take place J ++ e ∷ []) in
-      let before : IsSchedule T (take place J) = (entry-enabled T (take place J) (start T) e (drop (suc place) J) (subst (IsSchedule T) with-it runs)).0 in
-      goes
-      ∙ (ap (λ (w : WorldValue). followed T w.world place e (moved_by T now.world e) ls) (is' ∙ ap (world_at T) one-more)
-      ∙ (ap (λ (w : WorldValue). followed T V place e (moved_by T w.world e) ls) is
-      ∙ (ap (λ n. followed T V n e (moved_by T W e) ls) (sym count)
-      ∙ (ap (followed T V (length (take place J)) e (moved_by T W e)) so_far
-      ∙ (followed-is T valid J runs (take place J) (drop (suc place) J) e with-it (moved_by T W e) (moved-are T W e (parked-low T valid (take place J) before)) ks
-      ∙ ap (λ K. map (life_so_far T K) ks) (sym one-more))))))
+      let goes = subst (λ (w : WorldValue). IsFollowed T w.world place e ls ls') is follows in
+      let moved : List KeyName = goes.0 in
+      goes.2
+      ∙ (ap (λ (U : World). followed T U place e moved ls) (sym (run-append T (take place J) (e ∷ []) (start T)))
+      ∙ (ap (λ n. followed T V n e moved ls) (sym count)
+      ∙ (ap (followed T V (length (take place J)) e moved) so_far
+      ∙ (followed-is T valid J runs (take place J) (drop (suc place) J) e with-it moved goes.1 ks
+      ∙ ap (λ K. map (life_so_far T K) ks) (sym one-more)))))
+
+  -- the entry is the next one
+  pub next-entry : (now : WorldValue) → now ≡ world_at T (take place J) → IsNext T now.world e
+  next-entry now is = record {
+    before = take place J;
+    world = ap (λ (w : WorldValue). w.world) is;
+    runs = run-prefix T (take place J) (drop (suc place) J) e (start T) (subst (IsSchedule T) with-it runs);
+  }

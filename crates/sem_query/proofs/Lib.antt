@@ -22,7 +22,12 @@ pub mod Odd
 pub mod Searching
 pub mod Parents
 pub mod Noting
+pub mod Rooting
 pub mod Moved
+pub mod Walking
+pub mod Returned
+pub mod Parting
+pub mod Following
 pub mod Begin
 pub mod Editing
 pub mod Pushing

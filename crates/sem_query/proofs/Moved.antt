@@ -1,5 +1,5 @@
 -- The keys that an entry may move, as they are listed.
-use Rattle.std.proofs.Common.{◌≡◌, ◌⊎◌, ℕ, ◌<◌, true, false, List, [], ◌++◌, map, Option, Some, None, IsSome, refl, sym, ap, ◌∙◌, subst, inl, inr, eq-eqb}
+use Rattle.std.proofs.Common.{◌≡◌, ◌⊎◌, ℕ, ◌<◌, true, false, List, [], ◌++◌, Option, Some, None, IsSome, refl, sym, ap, ◌∙◌, subst, inl, inr, eq-eqb}
 use Rattle.std.specs.Prelude.{◌==◌, nat_lt, ◌&&◌, if◌then◌else◌}
 use Rattle.sem_key.specs.declared.limits.TheConstants.{VPES}
 use Rattle.std.specs.List.{Contains, filter}
@@ -7,17 +7,15 @@ use Rattle.std.specs.Option.{option_to_list}
 use Rattle.std.proofs.lemmas.Bool.{cases_Bool, cond-true, cond-false, and_from, and_parts, eqb-true, lt-ltb}
 use Rattle.std.proofs.lemmas.Option.{same_Some}
 use Rattle.std.proofs.lemmas.List.Elements.{Contains-append_left, Contains-append_right, Contains-append_cases}
-use Rattle.sem_key.specs.KeyName.{KeyName, key_eq}
-use Rattle.sem_key.specs.Capability.{Capability}
+use Rattle.sem_key.specs.KeyName.{KeyName}
 use Rattle.sem_key.proofs.KeyTests.{key_eq-true, key_eq-from}
-use Rattle.sem_key.proofs.Members.{found, not_found, Contains-head, Contains-nil, Contains-cons_cases, Contains-filter, Contains-from_filter, Contains-map, Contains-from_map}
-use Rattle.sem_msg.specs.declared.call.Call.TheVariants.{Exit}
+use Rattle.sem_key.proofs.Members.{Contains-nil, Contains-filter, Contains-from_filter}
 use Rattle.sem_msg.specs.declared.message.Message.{Message}
-use Rattle.sem_msg.specs.declared.message.Message.TheVariants.{ObtainOk, Ack, RevokeReq}
+use Rattle.sem_msg.specs.declared.message.Message.TheVariants.{ObtainOk, Ack}
 use Rattle.sem_msg.specs.declared.event.Act.{Act}
-use Rattle.sem_msg.specs.declared.event.Act.TheVariants.{Call as Calls, Handle, Kill, Resume}
+use Rattle.sem_msg.specs.declared.event.Act.TheVariants.{Handle, Resume}
 use Rattle.sem_msg.specs.declared.entry.Detail.{Detail}
-use Rattle.sem_msg.specs.declared.entry.Detail.TheVariants.{Called, Carried}
+use Rattle.sem_msg.specs.declared.entry.Detail.TheVariants.{Carried}
 use Rattle.sem_msg.specs.declared.entry.Entry.{Entry}
 use Rattle.sem_msg.specs.declared.state.Parked.{Parked}
 use Rattle.sem_msg.specs.declared.state.Parked.TheVariants.{ObtainReady}
@@ -26,23 +24,13 @@ use Rattle.sem_msg.specs.Lookups.{owner_of}
 use Rattle.sem_msg.specs.ParkedStates.{is_ready_with}
 use Rattle.sem_machine.specs.Sides.{Side, cap, parked}
 use Rattle.sem_machine.specs.Machine.{World, side}
-use Rattle.sem_machine.specs.Journals.{ends}
 use Rattle.sem_grants.specs.Ending.{ended_by}
 use Rattle.sem_query.specs.Whereabouts.{brings}
 use Rattle.sem_query.specs.Changes.{is_revoking, grants_key, IsRootOf, MayChange}
 use Rattle.sem_query.specs.Changes.IsRootOf.{of_cut, of_request, of_end}
 use Rattle.sem_query.specs.Changes.MayChange.{by_grant, by_message, by_resume, by_end, by_revoking}
+use Rattle.sem_query.proofs.Rooting.{in-option, from-option, ends-by, by-ends, from-requested}
 use Rattle.sem_query.specs.Building.{brought_in, brought_by, ready_key, ready_of, ready_among, ready_by, resumed, requested, revoked_by, moved_by}
-use Rattle.sem_query.proofs.Noting.{AreMoved}
-
--- Options as lists.
-
-in-option : {X : Type 0} (o : Option X) (x : X) → o ≡ Some x → Contains (option_to_list o) x
-in-option o x some = subst (λ p. Contains (option_to_list p) x) (sym some) (Contains-head x [])
-
-from-option : {X : Type 0} (o : Option X) (x : X) → Contains (option_to_list o) x → o ≡ Some x
-from-option None x among = absurd (Contains-nil x among)
-from-option (Some y) x among = elim (Contains-cons_cases y [] x among) [ inl same ↦ ap Some same | inr none ↦ absurd (Contains-nil x none) ]
 
 -- Messages that bring a key.
 
@@ -68,7 +56,8 @@ is-ready : (k : KeyName) (p : Option Parked) → ready_key p ≡ Some k → is_r
 is-ready k (Some (ObtainReady key parent object sel)) is = key_eq-from key k (same_Some key k is)
 is-ready k p is = absurd cc
 
-module _ (T : Setup) (W : World) (e : Entry) (low : (i v : ℕ) (p : Parked) → parked (side W i) v ≡ Some p → v < VPES) where
+-- the last keys are reached at the kernel of the entry
+module _ (T : Setup) (W : World) (e : Entry) (low : (i v : ℕ) (p : Parked) → parked (side W i) v ≡ Some p → v < VPES) (reached : List KeyName) where
   abbrev i : ℕ
   i = e.event.kernel
 
@@ -123,29 +112,6 @@ module _ (T : Setup) (W : World) (e : Entry) (low : (i v : ℕ) (p : Parked) →
         let tests = and_parts (is_ready_with k (parked s k.vpe)) (owner_of T k == i) is.1 in
         (from-option o k is.0, eqb-true (owner_of T k) i tests.1, tests.0)
 
-    -- what the kernel holds
-    abbrev keys : List KeyName
-    keys = map (λ (c : Capability). c.key) s.caps
-
-    in-held : owner_of T k ≡ i → IsSome (cap s k) → Contains (filter (λ q. owner_of T q == i) keys) k
-    in-held home held = by (cap s k) refl held
-      where
-        by : (o : Option Capability) → cap s k ≡ o → IsSome o → Contains (filter (λ q. owner_of T q == i) keys) k
-        by None none some = absurd cc
-        by (Some c) is some =
-            let of_c = found (λ (x : Capability). key_eq x.key k) s.caps c is in
-            Contains-filter (λ q. owner_of T q == i) keys k (subst (Contains keys) (key_eq-true c.key k of_c.1) (Contains-map (λ (x : Capability). x.key) s.caps c of_c.0)) (eq-eqb (owner_of T k) i home)
-
-    from-held : Contains (filter (λ q. owner_of T q == i) keys) k → (owner_of T k ≡ i) × IsSome (cap s k)
-    from-held among =
-        let is = Contains-from_filter (λ q. owner_of T q == i) keys k among in
-        let c = Contains-from_map (λ (x : Capability). x.key) s.caps k is.0 in
-        (eqb-true (owner_of T k) i is.1, there c.0 c.1 c.2 (cap s k) refl)
-      where
-        there : (c : Capability) → Contains s.caps c → c.key ≡ k → (o : Option Capability) → cap s k ≡ o → IsSome o
-        there c among' key None none = let no : false ≡ true = sym (not_found (λ (x : Capability). key_eq x.key k) s.caps c none among') ∙ key_eq-from c.key k key in absurd cc
-        there c among' key (Some d) some = refl
-
     -- Parts of the list.
 
     abbrev brought_keys : List KeyName
@@ -155,16 +121,16 @@ module _ (T : Setup) (W : World) (e : Entry) (low : (i v : ℕ) (p : Parked) →
     going_on = ready_by T i s (resumed e.event.act)
 
     abbrev revoked : List KeyName
-    revoked = if is_revoking e then revoked_by T i s e else []
+    revoked = if is_revoking e then revoked_by T i s e reached else []
 
-    first : Contains brought_keys k → Contains (moved_by T W e) k
+    first : Contains brought_keys k → Contains (moved_by T W e reached) k
     first among = Contains-append_left brought_keys (going_on ++ revoked) k among
 
-    second : Contains going_on k → Contains (moved_by T W e) k
+    second : Contains going_on k → Contains (moved_by T W e reached) k
     second among = Contains-append_right brought_keys (going_on ++ revoked) k (Contains-append_left going_on revoked k among)
 
-    third : is_revoking e ≡ true → Contains (revoked_by T i s e) k → Contains (moved_by T W e) k
-    third loud among = Contains-append_right brought_keys (going_on ++ revoked) k (Contains-append_right going_on revoked k (subst (λ ks. Contains ks k) (sym (cond-true (is_revoking e) (revoked_by T i s e) [] loud)) among))
+    pub third : is_revoking e ≡ true → Contains (revoked_by T i s e reached) k → Contains (moved_by T W e reached) k
+    third loud among = Contains-append_right brought_keys (going_on ++ revoked) k (Contains-append_right going_on revoked k (subst (λ ks. Contains ks k) (sym (cond-true (is_revoking e) (revoked_by T i s e reached) [] loud)) among))
 
     abbrev at_cut : List KeyName
     at_cut = ready_among T i s e.cut
@@ -175,44 +141,31 @@ module _ (T : Setup) (W : World) (e : Entry) (low : (i v : ℕ) (p : Parked) →
     abbrev at_end : List KeyName
     at_end = ready_by T i s (ended_by e.event.act e.detail)
 
-    abbrev all_held : List KeyName
-    all_held = filter (λ q. owner_of T q == i) keys
+    revoked-one : Contains at_cut k → Contains (revoked_by T i s e reached) k
+    revoked-one among = Contains-append_left (at_cut ++ at_request ++ at_end) reached k (Contains-append_left (at_cut ++ at_request) at_end k (Contains-append_left at_cut at_request k among))
 
-    revoked-one : Contains at_cut k → Contains (revoked_by T i s e) k
-    revoked-one among = Contains-append_left (at_cut ++ at_request ++ at_end) all_held k (Contains-append_left (at_cut ++ at_request) at_end k (Contains-append_left at_cut at_request k among))
+    revoked-two : Contains at_request k → Contains (revoked_by T i s e reached) k
+    revoked-two among = Contains-append_left (at_cut ++ at_request ++ at_end) reached k (Contains-append_left (at_cut ++ at_request) at_end k (Contains-append_right at_cut at_request k among))
 
-    revoked-two : Contains at_request k → Contains (revoked_by T i s e) k
-    revoked-two among = Contains-append_left (at_cut ++ at_request ++ at_end) all_held k (Contains-append_left (at_cut ++ at_request) at_end k (Contains-append_right at_cut at_request k among))
+    revoked-three : Contains at_end k → Contains (revoked_by T i s e reached) k
+    revoked-three among = Contains-append_left (at_cut ++ at_request ++ at_end) reached k (Contains-append_right (at_cut ++ at_request) at_end k among)
 
-    revoked-three : Contains at_end k → Contains (revoked_by T i s e) k
-    revoked-three among = Contains-append_left (at_cut ++ at_request ++ at_end) all_held k (Contains-append_right (at_cut ++ at_request) at_end k among)
+    pub revoked-four : Contains reached k → Contains (revoked_by T i s e reached) k
+    revoked-four among = Contains-append_right (at_cut ++ at_request ++ at_end) reached k among
 
-    revoked-four : Contains all_held k → Contains (revoked_by T i s e) k
-    revoked-four among = Contains-append_right (at_cut ++ at_request ++ at_end) all_held k among
-
-    -- the VPE of the key ends
-    ends-by : (v : ℕ) (a : Act) (d : Detail) → ends v a d ≡ true → ended_by a d ≡ Some v
-    ends-by v (Kill w) d is = ap Some (eqb-true w v is)
-    ends-by v (Calls w) (Called index Exit) is = ap Some (eqb-true w v is)
-    ends-by v a d is = absurd cc
-
-    by-ends : (v : ℕ) (a : Act) (d : Detail) → ended_by a d ≡ Some v → ends v a d ≡ true
-    by-ends v (Kill w) d is = eq-eqb w v (same_Some w v is)
-    by-ends v (Calls w) (Called index Exit) is = eq-eqb w v (same_Some w v is)
-    by-ends v a d is = absurd cc
-
-    lists : MayChange T W e k → (grants_key k e ≡ true) ⊎ Contains (moved_by T W e) k
+    -- what may change is listed, unless it is held and not reached
+    pub lists : MayChange T W e k → (grants_key k e ≡ true) ⊎ (Contains (moved_by T W e reached) k ⊎ ((owner_of T k ≡ i) × (is_revoking e ≡ true) × IsSome (cap s k)))
     lists (by_grant granted) = inl granted
     lists (by_message from m act detail bringing) =
-        inr (first (in-option (brought_by e.event.act e.detail) k (ap (λ a. brought_by a e.detail) act ∙ (ap (brought_by Handle) detail ∙ brought k m bringing))))
-    lists (by_resume home act ready) = inr (second (in-by (resumed e.event.act) (ap resumed act) home ready))
-    lists (by_end home loud root ready) = inr (third loud (from-root root))
+        inr (inl (first (in-option (brought_by e.event.act e.detail) k (ap (λ a. brought_by a e.detail) act ∙ (ap (brought_by Handle) detail ∙ brought k m bringing)))))
+    lists (by_resume home act ready) = inr (inl (second (in-by (resumed e.event.act) (ap resumed act) home ready)))
+    lists (by_end home loud root ready) = inr (inl (third loud (from-root root)))
       where
-        from-root : IsRootOf e k → Contains (revoked_by T i s e) k
+        from-root : IsRootOf e k → Contains (revoked_by T i s e reached) k
         from-root (of_cut cuts) = revoked-one (in-among e.cut cuts home ready)
         from-root (of_request from j act detail) = revoked-two (in-among (requested e.event.act e.detail) (ap (λ a. requested a e.detail) act ∙ ap (requested Handle) detail) home ready)
         from-root (of_end over) = revoked-three (in-by (ended_by e.event.act e.detail) (ends-by k.vpe e.event.act e.detail over) home ready)
-    lists (by_revoking home loud held) = inr (third loud (revoked-four (in-held home held)))
+    lists (by_revoking home loud held) = inr (inr (home, loud, held))
 
     from-brought : (a : Act) (d : Detail) → e.event.act ≡ a → e.detail ≡ d → brought_by a d ≡ Some k → MayChange T W e k
     from-brought Handle d act detail is = by d detail is
@@ -226,33 +179,27 @@ module _ (T : Setup) (W : World) (e : Entry) (low : (i v : ℕ) (p : Parked) →
     from-resumed (Resume v) act is home ready = by_resume home (act ∙ ap Resume (same_Some v k.vpe is)) ready
     from-resumed a act is home ready = absurd cc
 
-    from-requested : (a : Act) (d : Detail) → e.event.act ≡ a → e.detail ≡ d → requested a d ≡ Some k → IsRootOf e k
-    from-requested Handle (Carried from (RevokeReq key j)) act detail is = of_request from j act (detail ∙ ap (λ q. Carried from (RevokeReq q j)) (same_Some key k is))
-    from-requested a d act detail is = absurd cc
-
-    from-revoked : is_revoking e ≡ true → Contains (revoked_by T i s e) k → MayChange T W e k
-    from-revoked loud among = elim (Contains-append_cases (at_cut ++ at_request ++ at_end) all_held k among) [
-      | inr held ↦ let is = from-held held in by_revoking is.0 loud is.1
+    from-revoked : is_revoking e ≡ true → (Contains reached k → (owner_of T k ≡ i) × IsSome (cap s k)) → Contains (revoked_by T i s e reached) k → MayChange T W e k
+    from-revoked loud held among = elim (Contains-append_cases (at_cut ++ at_request ++ at_end) reached k among) [
+      | inr here ↦ let is = held here in by_revoking is.0 loud is.1
       | inl ready ↦ elim (Contains-append_cases (at_cut ++ at_request) at_end k ready) [
         | inr over ↦ let is = from-by (ended_by e.event.act e.detail) over in by_end is.1 loud (of_end (by-ends k.vpe e.event.act e.detail is.0)) is.2
         | inl root ↦ elim (Contains-append_cases at_cut at_request k root) [
           | inl cuts ↦ let is = from-among e.cut cuts in by_end is.1 loud (of_cut is.0) is.2
-          | inr asks ↦ let is = from-among (requested e.event.act e.detail) asks in by_end is.1 loud (from-requested e.event.act e.detail refl refl is.0) is.2
+          | inr asks ↦ let is = from-among (requested e.event.act e.detail) asks in by_end is.1 loud (from-requested e k e.event.act e.detail refl refl is.0) is.2
         ]
       ]
     ]
 
-    listed : Contains (moved_by T W e) k → MayChange T W e k
-    listed among = elim (Contains-append_cases brought_keys (going_on ++ revoked) k among) [
+    -- what is listed may change, where what is reached is held by its owner
+    pub listed : (is_revoking e ≡ true → Contains reached k → (owner_of T k ≡ i) × IsSome (cap s k)) → Contains (moved_by T W e reached) k → MayChange T W e k
+    listed held among = elim (Contains-append_cases brought_keys (going_on ++ revoked) k among) [
       | inl brings' ↦ from-brought e.event.act e.detail refl refl (from-option (brought_by e.event.act e.detail) k brings')
       | inr here ↦ elim (Contains-append_cases going_on revoked k here) [
         | inl goes ↦ let is = from-by (resumed e.event.act) goes in from-resumed e.event.act refl is.0 is.1 is.2
         | inr loud ↦ elim (cases_Bool (is_revoking e)) [
-          | inl is ↦ from-revoked is (subst (λ ks. Contains ks k) (cond-true (is_revoking e) (revoked_by T i s e) [] is) loud)
-          | inr not ↦ absurd (Contains-nil k (subst (λ ks. Contains ks k) (cond-false (is_revoking e) (revoked_by T i s e) [] not) loud))
+          | inl is ↦ from-revoked is (held is) (subst (λ ks. Contains ks k) (cond-true (is_revoking e) (revoked_by T i s e reached) [] is) loud)
+          | inr not ↦ absurd (Contains-nil k (subst (λ ks. Contains ks k) (cond-false (is_revoking e) (revoked_by T i s e reached) [] not) loud))
         ]
       ]
     ]
-
-  pub moved-are : AreMoved T W e (moved_by T W e)
-  moved-are = record { may = listed; all = lists }

@@ -1,5 +1,5 @@
 -- The lives of all keys, in which one entry more is noted.
-use Rattle.std.proofs.Common.{◌≡◌, ◌⊎◌, ℕ, ◌+◌, Bool, true, false, List, [], ◌∷◌, ◌++◌, length, map, Option, Some, None, refl, sym, ap, ◌∙◌, subst, inl, inr, arith}
+use Rattle.std.proofs.Common.{◌≡◌, ℕ, ◌+◌, Bool, true, false, List, [], ◌∷◌, ◌++◌, length, map, Option, Some, None, refl, sym, ap, ◌∙◌, subst, inl, inr, arith}
 use Rattle.std.specs.Prelude.{nat_lt, not, ◌||◌, unwrap_or, if◌then◌else◌}
 use Rattle.std.specs.List.{Contains}
 use Rattle.std.specs.Option.{option_map, option_map_or}
@@ -23,10 +23,9 @@ use Rattle.sem_query.specs.Whereabouts.{held_as, unheld, is_coming, whereabouts,
 use Rattle.sem_query.specs.Whereabouts.Passes.{born_on_its_way, born_held, stays_nowhere, stays_on_its_way, stays_unmarked, stays_marked}
 use Rattle.sem_query.specs.Changes.{grants_key, MayChange, seen_at_home}
 use Rattle.sem_query.specs.Lives.{KeyLife, noted, life_granted, life, told}
-use Rattle.sem_query.specs.Building.{begun_life, life_so_far, noted_now, noted_of, seen_granted, grant_noted, followed}
+use Rattle.sem_query.specs.Building.{begun_life, life_so_far, noted_now, noted_of, seen_granted, grant_noted, followed, AreMoved}
 use Rattle.sem_query.proofs.AtHome.{at-home}
-use Rattle.sem_query.proofs.Changing.{changes}
-use Rattle.sem_query.proofs.Passing.{at, with-e, passes}
+use Rattle.sem_query.proofs.Passing.{at, with-e, is-after, passes}
 use Rattle.sem_query.proofs.Reading.{Stands, stands-told, stands-next}
 use Rattle.sem_query.proofs.Stepping.{stands-same}
 use Rattle.sem_query.proofs.Telling.{StandsIf, tells, life_next, life-push}
@@ -159,11 +158,6 @@ module _ (n : ℕ) (see : KeyName → Holder) where
         let rest : Contains cs q = elim (Contains-cons_cases c cs q among) [ inl is ↦ absurd (true≢false (sym (key_eq-from q c (sym is)) ∙ other)) | inr rest ↦ rest ] in
         each-some cs (noted_at c f) q (ap (λ l. N q (N q l)) same ∙ (again ∙ ap (N q) (sym same))) rest ∙ ap (N q) same
   ]
-
--- the keys are those that the entry may move, but for the one that it grants
-pub record AreMoved (T : Setup) (W : World) (e : Entry) (ks : List KeyName) : Type 0 where
-  pub may : (k : KeyName) → Contains ks k → MayChange T W e k
-  pub all : (k : KeyName) → MayChange T W e k → (grants_key k e ≡ true) ⊎ Contains ks k
 
 module _ (T : Setup) (valid : IsSetup T) (J : List Entry) (runs : IsSchedule T J) (before later : List Entry) (e : Entry) (parts : J ≡ before ++ e ∷ later) where
   abbrev W : World
@@ -315,10 +309,7 @@ module _ (T : Setup) (valid : IsSetup T) (J : List Entry) (runs : IsSchedule T J
       | inl among ↦ by-among q not_granted ks are (Contains-from_has_key ks q among)
       | inr absent ↦
           let no : Contains ks q → ⊥ = λ among. true≢false (sym (has_key-from_Contains ks q among) ∙ absent) in
-          elim (changes T valid J runs before later e parts q) [
-            | inl same ↦ by-absent q not_granted ks are no same
-            | inr may ↦ elim (are.all q may) [ inl granted ↦ absurd (true≢false (sym granted ∙ not_granted)) | inr among ↦ absurd (no among) ]
-          ]
+          by-absent q not_granted ks are no (are.others q not_granted no ∙ ap (λ (U : World). whereabouts T U q) (sym (is-after T valid J runs before later e parts q)))
     ]
 
     with-grant : (o : Option (KeyName × KeyName)) → e.grant ≡ o → (qs : List KeyName) → grant_noted T V n o (map F qs) ≡ map L1 qs

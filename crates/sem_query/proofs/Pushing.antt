@@ -1,27 +1,26 @@
 -- The keys that a kernel may move, appended part by part.
-use Rattle.std.proofs.Common.{◌≡◌, ℕ, ◌+◌, ◌≤◌, Bool, true, false, List, [], ◌∷◌, ◌++◌, length, map, take, Option, Some, None, arith, refl, sym, ap, ◌∙◌, append_assoc, append-nil}
-use Rattle.std.specs.Prelude.{◌==◌, ◌&&◌, nat_lt, slice_get, if◌then◌else◌}
+use Rattle.std.proofs.Common.{◌≡◌, ℕ, Bool, true, false, List, [], ◌∷◌, ◌++◌, map, Option, Some, None, IsSome, arith, refl, sym, ap, ◌∙◌, subst, append_assoc, append-nil}
+use Rattle.std.specs.Prelude.{◌==◌, ◌&&◌, nat_lt, if◌then◌else◌}
 use Rattle.std.specs.List.{filter}
 use Rattle.std.specs.Option.{option_to_list}
-use Rattle.std.proofs.lemmas.List.{map-append, take_all, get_or_past}
+use Rattle.std.proofs.lemmas.List.{map-append, get_or_past}
 use Rattle.std.proofs.lemmas.List.Elements.{filter-append}
 use Rattle.std.proofs.lemmas.Bool.{cond-true, cond-false}
 use Rattle.sem_key.specs.declared.limits.TheConstants.{VPES}
 use Rattle.sem_key.specs.KeyName.{KeyName}
 use Rattle.sem_key.specs.Capability.{Capability}
+use Rattle.sem_key.proofs.Members.{Contains-nil}
 use Rattle.sem_msg.specs.declared.entry.Entry.{Entry}
 use Rattle.sem_msg.specs.Setup.{Setup}
 use Rattle.sem_msg.specs.Lookups.{owner_of}
 use Rattle.sem_msg.specs.ParkedStates.{is_ready_with}
-use Rattle.sem_machine.specs.Sides.{Side, no_side, parked}
+use Rattle.sem_machine.specs.Sides.{Side, no_side, cap, parked}
+use Rattle.sem_machine.specs.Machine.{World, side}
 use Rattle.sem_query.specs.Changes.{is_revoking}
 use Rattle.sem_grants.specs.Ending.{ended_by}
-use Rattle.sem_grants.proofs.Reading.{gathered_more}
-use Rattle.sem_query.specs.Building.{ready_key, ready_of, ready_among, ready_by, resumed, requested, revoked_by, moved_at}
-
--- the keys of these capabilities that the kernel owns
-abbrev pub owned : Setup → ℕ → List Capability → List KeyName
-owned T i cs = filter (λ k. owner_of T k == i) (map (λ (c : Capability). c.key) cs)
+use Rattle.sem_query.specs.Building.{brought_by, ready_key, ready_of, ready_among, ready_by, resumed, requested, revoked_by, moved_at, moved_by}
+use Rattle.sem_query.specs.Reaching.{AreRevoked, held_of}
+use Rattle.sem_query.proofs.Rooting.{reached-held}
 
 -- those that calls were ready to install
 abbrev pub ready_keys : Setup → ℕ → Side → Entry → List KeyName
@@ -49,44 +48,52 @@ nothing-among : (T : Setup) (i : ℕ) (o : Option KeyName) → ready_among T i n
 nothing-among T i None = refl
 nothing-among T i (Some k) = ap (λ p. if is_ready_with k p && (owner_of T k == i) then k ∷ [] else []) (no-parked k.vpe)
 
-nothing-revoked : (T : Setup) (i : ℕ) (e : Entry) → revoked_by T i no_side e ≡ []
+nothing-revoked : (T : Setup) (i : ℕ) (e : Entry) → revoked_by T i no_side e [] ≡ []
 nothing-revoked T i e = rw (nothing-among T i e.cut, nothing-among T i (requested e.event.act e.detail), nothing-by T i (ended_by e.event.act e.detail)) refl
 
-pub nothing-moved : (T : Setup) (i : ℕ) (s : Side) (e : Entry) (keys : List KeyName) → s ≡ no_side → keys ≡ keys ++ moved_at T i s e
-nothing-moved T i s e keys none = sym (ap (λ ks. keys ++ ks) (ap (λ (t : Side). moved_at T i t e) none ∙ nothing) ∙ append-nil keys)
+pub nothing-moved : (T : Setup) (i : ℕ) (s : Side) (e : Entry) (keys : List KeyName) → s ≡ no_side → keys ≡ keys ++ moved_at T i s e []
+nothing-moved T i s e keys none = sym (ap (λ ks. keys ++ ks) (ap (λ (t : Side). moved_at T i t e []) none ∙ nothing) ∙ append-nil keys)
   where
-    both : (b : Bool) → (if b then revoked_by T i no_side e else []) ≡ []
+    both : (b : Bool) → (if b then revoked_by T i no_side e [] else []) ≡ []
     both true = nothing-revoked T i e
     both false = refl
 
-    nothing : moved_at T i no_side e ≡ []
-    nothing = ap (λ ks. ks ++ (if is_revoking e then revoked_by T i no_side e else [])) (nothing-by T i (resumed e.event.act)) ∙ both (is_revoking e)
+    nothing : moved_at T i no_side e [] ≡ []
+    nothing = ap (λ ks. ks ++ (if is_revoking e then revoked_by T i no_side e [] else [])) (nothing-by T i (resumed e.event.act)) ∙ both (is_revoking e)
 
-module _ (T : Setup) (i : ℕ) (s : Side) (e : Entry) (old : List KeyName) where
-  joins : (cs ds : List Capability) → owned T i (cs ++ ds) ≡ owned T i cs ++ owned T i ds
-  joins cs ds = ap (filter (λ k. owner_of T k == i)) (map-append (λ (c : Capability). c.key) cs ds) ∙ filter-append (λ k. owner_of T k == i) (map (λ (c : Capability). c.key) cs) (map (λ (c : Capability). c.key) ds)
+-- nothing is reached where no kernel is
+pub nothing-reached : (s : Side) (e : Entry) → s ≡ no_side → AreRevoked s.caps e []
+nothing-reached s e none loud k = (λ among. absurd (Contains-nil k among), λ (a, root, reached). absurd (no (reached-held s.caps e a k reached)))
+  where
+    no : IsSome (cap s k) → ⊥
+    no some = let empty : IsSome (cap no_side k) = subst (λ (t : Side). IsSome (cap t k)) none some in absurd cc
 
-  pub pushed-start : (a b now : List KeyName) → a ≡ old ++ ready_among T i s e.cut → b ≡ a ++ ready_among T i s (requested e.event.act e.detail) → now ≡ b ++ ready_by T i s (ended_by e.event.act e.detail) → now ≡ (old ++ ready_keys T i s e) ++ owned T i (take 0 s.caps)
-  pushed-start a b now one two three = three
+-- what is gathered is held by one VPE
+pub held-joins : (v : ℕ) (cs ds : List Capability) → held_of (cs ++ ds) v ≡ held_of cs v ++ held_of ds v
+held-joins v cs ds = ap (filter (λ k. k.vpe == v)) (map-append (λ (c : Capability). c.key) cs ds) ∙ filter-append (λ k. k.vpe == v) (map (λ (c : Capability). c.key) cs) (map (λ (c : Capability). c.key) ds)
+
+module _ (T : Setup) (i : ℕ) (s : Side) (e : Entry) (reached old : List KeyName) where
+  pub pushed-all : (a b c now : List KeyName) → a ≡ old ++ ready_among T i s e.cut → b ≡ a ++ ready_among T i s (requested e.event.act e.detail) → c ≡ b ++ ready_by T i s (ended_by e.event.act e.detail) → now ≡ c ++ reached → now ≡ old ++ revoked_by T i s e reached
+  pushed-all a b c now one two three four = four
+      ∙ (ap (λ ks. ks ++ reached) (three
       ∙ (ap (λ ks. ks ++ ready_by T i s (ended_by e.event.act e.detail)) (two ∙ ap (λ ks. ks ++ ready_among T i s (requested e.event.act e.detail)) one)
       ∙ (ap (λ ks. ks ++ ready_by T i s (ended_by e.event.act e.detail)) (append_assoc old (ready_among T i s e.cut) (ready_among T i s (requested e.event.act e.detail)))
-      ∙ (append_assoc old (ready_among T i s e.cut ++ ready_among T i s (requested e.event.act e.detail)) (ready_by T i s (ended_by e.event.act e.detail))
-      ∙ sym (append-nil (old ++ ready_keys T i s e)))))
-
-  pub pushed-more : (at : ℕ) (now after : List KeyName) → now ≡ (old ++ ready_keys T i s e) ++ owned T i (take at s.caps) → after ≡ now ++ owned T i (option_to_list (slice_get s.caps at)) → after ≡ (old ++ ready_keys T i s e) ++ owned T i (take (at + 1) s.caps)
-  pushed-more at now after so_far more = gathered_more (owned T i) joins s.caps at (old ++ ready_keys T i s e) now after so_far more
-
-  pub pushed-all : (at : ℕ) (now : List KeyName) → length s.caps ≤ at → now ≡ (old ++ ready_keys T i s e) ++ owned T i (take at s.caps) → now ≡ old ++ revoked_by T i s e
-  pushed-all at now all so_far = so_far ∙ (ap (λ cs. (old ++ ready_keys T i s e) ++ owned T i cs) (take_all at s.caps all) ∙ append_assoc old (ready_keys T i s e) (owned T i s.caps))
+      ∙ append_assoc old (ready_among T i s e.cut ++ ready_among T i s (requested e.event.act e.detail)) (ready_by T i s (ended_by e.event.act e.detail)))))
+      ∙ append_assoc old (ready_keys T i s e) reached)
 
   -- all that it may move there
-  pub moved-loud : (a now : List KeyName) → is_revoking e ≡ true → a ≡ old ++ ready_by T i s (resumed e.event.act) → now ≡ a ++ revoked_by T i s e → now ≡ old ++ moved_at T i s e
+  pub moved-loud : (a now : List KeyName) → is_revoking e ≡ true → a ≡ old ++ ready_by T i s (resumed e.event.act) → now ≡ a ++ revoked_by T i s e reached → now ≡ old ++ moved_at T i s e reached
   moved-loud a now loud one two = two
-      ∙ (ap (λ ks. ks ++ revoked_by T i s e) one
-      ∙ (append_assoc old (ready_by T i s (resumed e.event.act)) (revoked_by T i s e)
-      ∙ ap (λ ks. old ++ (ready_by T i s (resumed e.event.act) ++ ks)) (sym (cond-true (is_revoking e) (revoked_by T i s e) [] loud))))
+      ∙ (ap (λ ks. ks ++ revoked_by T i s e reached) one
+      ∙ (append_assoc old (ready_by T i s (resumed e.event.act)) (revoked_by T i s e reached)
+      ∙ ap (λ ks. old ++ (ready_by T i s (resumed e.event.act) ++ ks)) (sym (cond-true (is_revoking e) (revoked_by T i s e reached) [] loud))))
 
-  pub moved-quiet : (now : List KeyName) → is_revoking e ≡ false → now ≡ old ++ ready_by T i s (resumed e.event.act) → now ≡ old ++ moved_at T i s e
+  pub moved-quiet : (now : List KeyName) → is_revoking e ≡ false → now ≡ old ++ ready_by T i s (resumed e.event.act) → now ≡ old ++ moved_at T i s e reached
   moved-quiet now quiet one = one
       ∙ (ap (λ ks. old ++ ks) (sym (append-nil (ready_by T i s (resumed e.event.act))))
-      ∙ ap (λ ks. old ++ (ready_by T i s (resumed e.event.act) ++ ks)) (sym (cond-false (is_revoking e) (revoked_by T i s e) [] quiet)))
+      ∙ ap (λ ks. old ++ (ready_by T i s (resumed e.event.act) ++ ks)) (sym (cond-false (is_revoking e) (revoked_by T i s e reached) [] quiet)))
+
+-- all that it may move, beside what it brings
+pub moved-brought : (T : Setup) (W : World) (e : Entry) (reached a now : List KeyName) (o : Option KeyName) → o ≡ brought_by e.event.act e.detail → a ≡ option_to_list o → now ≡ a ++ moved_at T e.event.kernel (side W e.event.kernel) e reached → now ≡ moved_by T W e reached
+moved-brought T W e reached a now o brought first rest =
+    rest ∙ ap (λ ks. ks ++ moved_at T e.event.kernel (side W e.event.kernel) e reached) (first ∙ ap (λ (x : Option KeyName). option_to_list x) brought)

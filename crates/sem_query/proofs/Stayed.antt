@@ -52,7 +52,7 @@ use Rattle.sem_revoke.proofs.OpenRows.{marks-open}
 use Rattle.sem_revoke.proofs.Rowing.{revoked_if_there}
 use Rattle.sem_query.specs.Whereabouts.{whereabouts}
 use Rattle.sem_query.specs.Changes.{revokes_call, revokes_message, is_revoking}
-use Rattle.sem_query.proofs.Bearing.{alike-same}
+use Rattle.sem_query.proofs.Bearing.{IsAlike, alike-same}
 use Rattle.sem_query.proofs.BearingRows.{revokes}
 use Rattle.sem_query.proofs.Passing.{only-one, with-e, at}
 use Rattle.sem_query.proofs.Changing.{made-so, revoking-is, shown-detail, side-here, held-same}
@@ -239,9 +239,9 @@ module _ (T : Setup) (valid : IsSetup T) (J : List Entry) (runs : IsSchedule T J
     step-stays (Fetch j) act loud = absurd cc
     step-stays (Flush j) act loud = absurd cc
 
-  -- a marked key of the kernel stays where it is
-  pub stayed : (k : KeyName) → owner_of T k ≡ n → is_revoking e ≡ true → (c : Capability) (j : ℕ) → cap (side W (owner_of T k)) k ≡ Some c → c.mark ≡ Some j → whereabouts T W k ≡ whereabouts T (world_after T (before ++ e ∷ [])) k
-  stayed k home loud c j held marked =
+  -- a marked key of the kernel is held on
+  pub stays-held : (k : KeyName) → owner_of T k ≡ n → is_revoking e ≡ true → (c : Capability) (j : ℕ) → cap (side W (owner_of T k)) k ≡ Some c → c.mark ≡ Some j → (d : Capability) × (cap (side (world_after T (before ++ e ∷ [])) (owner_of T k)) k ≡ Some d) × IsAlike c d
+  stays-held k home loud c j held marked =
       let was = (at T valid J runs before later e parts k).0 in
       let told = made-so T valid J runs before later e parts k in
       let V : World = world_after T (before ++ e ∷ []) in
@@ -251,5 +251,10 @@ module _ (T : Setup) (valid : IsSetup T) (J : List Entry) (runs : IsSchedule T J
       let d = S.there c of_c.0 j marked in
       let distinct = keys-distinct T valid (before ++ e ∷ []) (with-e T valid J runs before later e parts k) (owner_of T k) in
       let among : Contains (side V (owner_of T k)).caps d.0 = subst (λ (t : Side). Contains t.caps d.0) (sym (side-here T valid J runs before later e parts k (owner_of T k) home)) d.1 in
-      let is = only-one k (side V (owner_of T k)).caps distinct d.0 among (d.2.kin.key ∙ key_eq-true c.key k of_c.1) in
-      held-same T valid J runs before later e parts k c d.0 held is d.2.mark d.2.kin.selector
+      (d.0, only-one k (side V (owner_of T k)).caps distinct d.0 among (d.2.kin.key ∙ key_eq-true c.key k of_c.1), d.2)
+
+  -- so it stays where it is
+  pub stayed : (k : KeyName) → owner_of T k ≡ n → is_revoking e ≡ true → (c : Capability) (j : ℕ) → cap (side W (owner_of T k)) k ≡ Some c → c.mark ≡ Some j → whereabouts T W k ≡ whereabouts T (world_after T (before ++ e ∷ [])) k
+  stayed k home loud c j held marked =
+      let d = stays-held k home loud c j held marked in
+      held-same T valid J runs before later e parts k c d.0 held d.1 d.2.mark d.2.kin.selector

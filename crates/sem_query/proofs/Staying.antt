@@ -39,7 +39,7 @@ far-next None far xs = refl
 far-next (Some (Local j)) far xs = absurd far
 far-next (Some (Remote kernel j)) far xs = refl
 
-finish-none : (T : Setup) (i n : ℕ) (t : Side) → finish T i n None t ≡ t
+pub finish-none : (T : Setup) (i n : ℕ) (t : Side) → finish T i n None t ≡ t
 unfolding finish
 finish-none T i zero t = refl
 finish-none T i (suc n) t = refl

@@ -1,5 +1,5 @@
 -- How the lives of all keys come about, entry by entry. These words serve private functions.
-use Rattle.std.specs.Prelude.{ℕ, ◌+◌, ◌==◌, nat_lt, ◌&&◌, List, [], ◌++◌, map, filter, Option, Some, None, unwrap_or, is_none, if◌then◌else◌}
+use Rattle.std.specs.Prelude.{◌≡◌, ℕ, ◌+◌, ◌==◌, nat_lt, ◌&&◌, false, List, [], ◌∷◌, ◌++◌, filter, Contains, Option, Some, None, unwrap_or, is_none, if◌then◌else◌}
 use Rattle.std.specs.Option.{option_map_or, option_and_then, option_to_list}
 use Rattle.sem_key.specs.declared.limits.TheConstants.{VPES}
 use Rattle.sem_key.specs.KeyName.{KeyName, key_eq}
@@ -11,7 +11,7 @@ use Rattle.sem_msg.specs.declared.entry.Detail.{Detail}
 use Rattle.sem_msg.specs.declared.entry.Detail.TheVariants.{Carried}
 use Rattle.sem_msg.specs.declared.entry.Entry.{Entry}
 use Rattle.sem_msg.specs.declared.message.Message.{Message}
-use Rattle.sem_msg.specs.declared.message.Message.TheVariants.{ObtainOk, Ack, RevokeReq}
+use Rattle.sem_msg.specs.declared.message.Message.TheVariants.{ObtainOk, Ack, RevokeReq, RevokeDone}
 use Rattle.sem_msg.specs.declared.state.Parked.{Parked}
 use Rattle.sem_msg.specs.declared.state.Parked.TheVariants.{ObtainReady}
 use Rattle.sem_msg.specs.Setup.{Setup}
@@ -19,12 +19,13 @@ use Rattle.sem_msg.specs.Lookups.{owner_of}
 use Rattle.sem_msg.specs.ParkedStates.{is_ready_with}
 use Rattle.sem_machine.specs.Sides.{Side, cap, parked}
 use Rattle.sem_machine.specs.Machine.{World, side, after}
+use Rattle.sem_machine.specs.Schedules.{IsSchedule, world_after}
 use Rattle.sem_kernel.specs.Worlds.{WorldValue}
 use Rattle.sem_grants.specs.Ending.{ended_by}
 use Rattle.sem_query.specs.declared.holder.Holder.{Holder}
 use Rattle.sem_query.specs.declared.holder.Holder.TheVariants.{Way}
-use Rattle.sem_query.specs.Whereabouts.{held_as}
-use Rattle.sem_query.specs.Changes.{is_revoking, seen_at_home}
+use Rattle.sem_query.specs.Whereabouts.{held_as, whereabouts}
+use Rattle.sem_query.specs.Changes.{is_revoking, grants_key, MayChange, seen_at_home}
 use Rattle.sem_query.specs.Lives.{KeyLife, noted, life_granted, life, told}
 
 -- Lives.
@@ -123,29 +124,57 @@ requested_in m = None
 abbrev pub requested : Act → Detail → Option KeyName
 requested act detail = option_and_then requested_in (handled act detail)
 
+-- the job to which a token comes back
+abbrev pub returned_in : Message → Option ℕ
+returned_in (RevokeDone job) = Some job
+returned_in m = None
+
+abbrev pub returned : Act → Detail → Option ℕ
+returned act detail = option_and_then returned_in (handled act detail)
+
 -- those that the call of a VPE, if there is one, is ready to install
 abbrev pub ready_by : Setup → ℕ → Side → Option ℕ → List KeyName
 ready_by T i s o = option_map_or (ready_of T i s) o []
 
 -- the keys that a revoking entry may move at kernel i: those that a call was ready to install which is
--- cancelled or ends, and those that are held
-abbrev pub revoked_by : Setup → ℕ → Side → Entry → List KeyName
-revoked_by T i s e =
+-- cancelled or ends, and these, which it reaches
+abbrev pub revoked_by : Setup → ℕ → Side → Entry → List KeyName → List KeyName
+revoked_by T i s e reached =
     ready_among T i s e.cut
     ++ ready_among T i s (requested e.event.act e.detail)
     ++ ready_by T i s (ended_by e.event.act e.detail)
-    ++ filter (λ k. owner_of T k == i) (map (λ c. c.key) s.caps)
+    ++ reached
 
 -- the keys that the entry may move at kernel i, which has that side before it
-abbrev pub moved_at : Setup → ℕ → Side → Entry → List KeyName
-moved_at T i s e =
-    ready_by T i s (resumed e.event.act) ++ (if is_revoking e then revoked_by T i s e else [])
+abbrev pub moved_at : Setup → ℕ → Side → Entry → List KeyName → List KeyName
+moved_at T i s e reached =
+    ready_by T i s (resumed e.event.act) ++ (if is_revoking e then revoked_by T i s e reached else [])
 
--- the keys that the entry may move, but for the one that it grants, in the world before it
-abbrev pub moved_by : Setup → World → Entry → List KeyName
-moved_by T W e =
+-- the keys that the entry may move, but for the one that it grants and for marked ones, in the world
+-- before it
+abbrev pub moved_by : Setup → World → Entry → List KeyName → List KeyName
+moved_by T W e reached =
     option_to_list (brought_by e.event.act e.detail)
-    ++ moved_at T e.event.kernel (side W e.event.kernel) e
+    ++ moved_at T e.event.kernel (side W e.event.kernel) e reached
+
+-- the entry may move these keys, and all others stay where they are, but for the one that it grants
+pub record AreMoved (T : Setup) (W : World) (e : Entry) (ks : List KeyName) : Type 0 where
+  pub may : (k : KeyName) → Contains ks k → MayChange T W e k
+  pub others : (k : KeyName) → grants_key k e ≡ false → (Contains ks k → ⊥)
+      → whereabouts T W k ≡ whereabouts T (after T W e.event) k
+
+-- Entries of a schedule.
+
+-- the entry is the next one of a schedule, after whose first entries the world is W
+pub record IsNext (T : Setup) (W : World) (e : Entry) : Type 0 where
+  pub before : List Entry
+  pub world : W ≡ world_after T before
+  pub runs : IsSchedule T (before ++ e ∷ [])
+
+-- the lives after entry n come about by noting it in those of the keys that it may move
+abbrev pub IsFollowed : Setup → World → ℕ → Entry → List KeyLife → List KeyLife → Type 0
+IsFollowed T W n e old new =
+    (ks : List KeyName) × AreMoved T W e ks × (new ≡ followed T (after T W e.event) n e ks old)
 
 -- the world after an event, with its setup
 abbrev pub stepped_value : WorldValue → Event → WorldValue

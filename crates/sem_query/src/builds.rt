@@ -1,5 +1,5 @@
 // The lives of all keys that a schedule made.
-ghost use Rattle.std.specs.Prelude.{◌≡◌, ◌+◌, ◌<◌, ◌^◌, true, [], map, All, IfOk, OnOk};
+ghost use Rattle.std.specs.Prelude.{◌≡◌, ◌+◌, ◌<◌, ◌^◌, ◌++◌, true, [], map, flat_map, All, IfOk, OnOk};
 ghost use Rattle.sem_key.specs.KeyName.{IsValidKey};
 ghost use Rattle.sem_key.specs.KeyList.{key_set};
 ghost use Rattle.sem_msg.specs.Setup.{IsSetup};
@@ -7,10 +7,12 @@ ghost use Rattle.sem_machine.specs.Machine.{is_enabled, start};
 ghost use Rattle.sem_machine.specs.Journals.{made};
 ghost use Rattle.sem_machine.specs.Schedules.{IsSchedule};
 ghost use Rattle.sem_query.specs.Lives.{lives};
-ghost use Rattle.sem_query.specs.Building.{life_so_far, all_noted, grant_noted, followed, moved_by, stepped_value};
+ghost use Rattle.sem_query.specs.Building.{life_so_far, all_noted, grant_noted, stepped_value, IsNext, IsFollowed};
+ghost use Rattle.sem_query.specs.MarkedKeys.{marking, AreMarked};
 
 use crate::index::Index;
 use crate::life::Life;
+use crate::marked::{push_marked, push_swept, token_of};
 use crate::moves::moved_keys;
 use crate::sights::{go_on, held_selector, see, see_granted};
 use sem_grants::made_keys;
@@ -48,8 +50,10 @@ fn follow_all(
     requires index { index.old ≡ map (life_so_far setup.now []) (key_set (made setup.now entries.now)) }
     ensures { OnOk result (index.new ≡ lives setup.now entries.now) }
 {
+    let mut marked = Vec::new(alloc);
     for place in 0..entries.len() {
-        follow(alloc, index, setup, world, place as u64, &entries[place])?;
+        let n = place as u64;
+        follow(alloc, index, &mut marked, setup, world, n, &entries[place])?;
     }
     Ok(())
 }
@@ -94,41 +98,54 @@ fn sort_keys(keys: &mut Vec<Key>)
     keys.dedup_by(|one, other| pack(*one) == pack(*other));
 }
 
-// The event of the entry happens, and the entry, number `n`, is noted.
+// The event of the entry happens, and the entry, number `n`, is noted. `marked` are the keys that
+// are held marked, with their jobs.
 fn follow(
     alloc: Global,
     index: &mut Index,
+    marked: &mut Vec<(Key, u32)>,
     setup: &Setup,
     world: &mut World,
     n: u64,
     entry: &Entry,
 ) -> Result<(), OutOfMemory>
+    requires setup { IsSetup setup.now }
+    requires world { world.old.setup ≡ setup.now }
+    requires next { IsNext setup.now world.old.world entry.now }
     requires enabled { is_enabled world.old.setup world.old.world entry.now.event ≡ true }
     requires few { n + 1 < 2 ^ 64 }
+    requires marked { AreMarked setup.now world.old.world marked.old.items }
     ensures world { OnOk result (world.new ≡ stepped_value world.old entry.now.event) }
-    ensures index { OnOk result (index.new ≡ followed setup.now world.new.world n entry.now
-        (moved_by setup.now world.old.world entry.now) index.old) }
+    ensures marked { OnOk result (AreMarked setup.now world.new.world marked.new.items) }
+    ensures index { OnOk result
+        (IsFollowed setup.now world.old.world n entry.now index.old index.new) }
 {
-    let moved = moved_keys(alloc, setup, world, entry)?;
+    let mut moved = moved_keys(alloc, setup, world, entry)?;
+    let token = token_of(marked, setup, world, entry);
     go_on(world, entry.event)?;
-    note_moved(index, setup, world, n, &moved)?;
+    push_swept(alloc, marked, setup, world, entry, token, &mut moved)?;
+    note_moved(index, marked, setup, world, n, &moved)?;
     note_grant(alloc, index, setup, world, n, entry)
 }
 
-// Notes where the keys are after entry `n`.
+// Notes where the keys are after entry `n`, and appends those that are held marked then.
 fn note_moved(
     index: &mut Index,
+    marked: &mut Vec<(Key, u32)>,
     setup: &Setup,
     world: &World,
     n: u64,
     moved: &[Key],
 ) -> Result<(), OutOfMemory>
     requires { n + 1 < 2 ^ 64 }
-    ensures { OnOk result (index.new
+    ensures index { OnOk result (index.new
         ≡ all_noted setup.now world.now.world n moved.now index.old) }
+    ensures marked { OnOk result (marked.new.items ≡ marked.old.items
+        ++ flat_map (marking setup.now world.now.world) moved.now) }
 {
     for key in moved {
         index.note(*key, n, see(setup, world, *key))?;
+        push_marked(marked, setup, world, *key)?;
     }
     Ok(())
 }

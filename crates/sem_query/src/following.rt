@@ -10,7 +10,7 @@ ghost use Rattle.sem_query.specs.Changes.{grants_key};
 ghost use Rattle.sem_query.specs.Sightings.{IsSeen, IsReadied, is_key as is_key_lem, is_vpe as is_vpe_lem, is_root as is_root_lem, moves_at_home as moves_at_home_lem, may_move as may_move_lem};
 
 use crate::holder::Holder;
-use crate::moves::{brought_key, is_revoking, requested, resumed};
+use crate::entries::{brought_key, is_revoking, requested, resumed};
 use crate::sighting::Sighting;
 use crate::sights::{held_selector, is_held_at, is_ready_at, see, see_granted};
 use sem_grants::ended_by;

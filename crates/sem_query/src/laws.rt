@@ -6,6 +6,7 @@ ghost use Rattle.sem_key.specs.KeyName.{KeyName};
 ghost use Rattle.sem_key.specs.KeyList.{IsRising, key_set};
 ghost use Rattle.sem_key.specs.Capability.{Capability};
 ghost use Rattle.sem_key.specs.Region.{Reached};
+ghost use Rattle.sem_msg.specs.declared.event.Act.TheVariants.{Handle};
 ghost use Rattle.sem_msg.specs.declared.entry.Detail.TheVariants.{Carried};
 ghost use Rattle.sem_msg.specs.declared.entry.Entry.{Entry};
 ghost use Rattle.sem_msg.specs.declared.entry.Reply.{Reply};
@@ -120,6 +121,18 @@ pub fn marked_keys_wait_for_tokens()
         → owner_of T k ≡ e.event.kernel → is_revoking e ≡ true
         → ((from job : ℕ) → e.detail ≡ Carried from (RevokeDone job) → ⊥)
         → HoldsCap (world_after T before) (owner_of T k) k c → c.mark ≡ Some j
+        → whereabouts_after T before k ≡ whereabouts_after T (before ++ e ∷ []) k }
+{}
+
+/// A token that comes back to a job leaves each key that its kernel holds where it is, if the job
+/// marks one of them after it: then the job is not finished.
+pub fn open_jobs_move_no_keys()
+    ensures stays { (T : Setup) → IsSetup T → (J before later : List Entry) (e : Entry)
+        → (k q : KeyName) (c d : Capability) (from j : ℕ)
+        → IsSchedule T J → J ≡ before ++ e ∷ later
+        → e.event.act ≡ Handle → e.detail ≡ Carried from (RevokeDone j)
+        → owner_of T k ≡ e.event.kernel → HoldsCap (world_after T before) (owner_of T k) k c
+        → HoldsCap (world_after T (before ++ e ∷ [])) e.event.kernel q d → d.mark ≡ Some j
         → whereabouts_after T before k ≡ whereabouts_after T (before ++ e ∷ []) k }
 {}
 

@@ -4,13 +4,16 @@
 
 mod builds;
 mod denials;
+mod entries;
 mod following;
 mod holder;
 mod index;
 pub mod laws;
 mod life;
+mod marked;
 mod moves;
 mod paths;
+mod reach;
 mod settling;
 mod sighting;
 mod sights;
