@@ -12,6 +12,11 @@ use std::thread::Threads;
 const OBTAIN_ACROSS_KERNELS: &str =
     "semper trace 1\nkernels 2\npe 0 0\npe 1 1\nvpe 0 0\nvpe 1 1\nroot 0 0 mem 0 4096 7\ncall 1 obtain 5 0 0\nend\n";
 
+// The report of a run in which an obtain from another kernel comes after the revoke of what it asks
+// for.
+const OBTAIN_OF_MARKED: &str =
+    "semper report 1\nsemper trace 1\nkernels 2\npe 0 0\npe 1 1\npe 2 0\npe 3 1\nvpe 0 0\nvpe 1 1\nvpe 2 2\nvpe 3 3\nroot 0 0 mem 0 4096 7\ncall 0 revoke 0\ncall 1 obtain 1 0 0\ncall 2 obtain 1 0 0\ncall 3 obtain 1 0 0\nend\njournal 29\n1 call 1 0 obtain 1 0 0\n1 flush 0 obtain-req 1.1.0 sel 0 0\n0 fetch 1 obtain-req 1.1.0 sel 0 0\n0 handle 1 obtain-req 1.1.0 sel 0 0\n0 upcall 0 1 yes grant 0.0.1.0 1.1.1.0\n0 flush 1 obtain-ok 0.0.1.0 1.1.1.0 mem 0 4096 7\n1 fetch 0 obtain-ok 0.0.1.0 1.1.1.0 mem 0 4096 7\n1 handle 0 obtain-ok 0.0.1.0 1.1.1.0 mem 0 4096 7\n1 resume 1 reply 1 0\n0 call 0 0 revoke 0 cut 0.0.1.0\n0 call 2 0 obtain 1 0 0\n0 upcall 0 2 yes\n0 resume 2 reply 2 4\n1 call 3 0 obtain 1 0 0\n1 flush 0 obtain-req 3.3.0 sel 0 0\n0 fetch 1 obtain-req 3.3.0 sel 0 0\n0 handle 1 obtain-req 3.3.0 sel 0 0\n0 upcall 0 3 yes\n0 flush 1 revoke-req 1.1.1.0 0\n1 fetch 0 revoke-req 1.1.1.0 0\n0 flush 1 obtain-no 3.3.0 4\n1 handle 0 revoke-req 1.1.1.0 0\n1 fetch 0 obtain-no 3.3.0 4\n1 handle 0 obtain-no 3.3.0 4\n1 resume 3 reply 3 4\n1 flush 0 revoke-done 0\n0 fetch 1 revoke-done 0\n0 handle 1 revoke-done 0\n0 resume 0 reply 0 0\naudit\nmade 2\ncut 1\nheld 0\nend\n";
+
 // Asserts what each of the questions is answered about the report of the trace.
 fn check_answers<R: Threads + Wait + Abort + Sync>(
     rt: &R,
@@ -21,8 +26,18 @@ fn check_answers<R: Threads + Wait + Abort + Sync>(
 ) -> Result<(), Fail> {
     let run = answer(rt, alloc, "run 0", trace)?;
     let report = String::from_utf8(run.written)?;
+    check_told(rt, alloc, report.as_str(), answers)
+}
+
+// Asserts what each of the questions is answered about the report.
+fn check_told<R: Threads + Wait + Abort + Sync>(
+    rt: &R,
+    alloc: Global,
+    report: &str,
+    answers: &[(&str, &str)],
+) -> Result<(), Fail> {
     for (question, text) in answers {
-        let told = answer(rt, alloc, question, report.as_str())?;
+        let told = answer(rt, alloc, question, report)?;
         check(rt, &told, Status::Done, text, 0);
     }
     Ok(())
@@ -58,4 +73,11 @@ fn a_revoke_of_a_free_selector_is_denied_at_once(rt: HostRuntime) -> Result<(), 
         ("query path 127.127.5.4095", "none\n"),
     ];
     check_answers(&rt, rt.alloc(), trace.as_str(), &answers)
+}
+
+#[test]
+fn the_message_that_refuses_an_obtain_settles_its_denial(rt: HostRuntime) -> Result<(), Fail> {
+    let settled = "denied 4 Revoking at 23: 1 handle 0 obtain-no 3.3.0 4\n";
+    let answers = [("query denied 24", settled), ("query denied 28", "none\n")];
+    check_told(&rt, rt.alloc(), OBTAIN_OF_MARKED, &answers)
 }
