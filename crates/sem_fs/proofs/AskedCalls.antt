@@ -33,7 +33,8 @@ use Rattle.sem_fs.proofs.Slots.{AsksAt}
 use Rattle.sem_fs.proofs.Courses.{Turn, turn_same, turn_woken, turn_obtained, turn_prepared, turn_got, turn_over}
 use Rattle.sem_fs.proofs.OwnCalls.{ParksAs}
 use Rattle.sem_fs.proofs.Owned.{same_Held, called}
-use Rattle.sem_fs.proofs.HoldingSteps.{awaits-promised, locally, sound', slotted, course, idle, goes}
+use Rattle.sem_fs.proofs.Promised.{awaits-promised}
+use Rattle.sem_fs.proofs.HoldingSteps.{locally, sound', slotted, course, idle, goes}
 use Rattle.sem_fs.proofs.Drawing.{drawn-more}
 
 -- a number was drawn for what comes to a selector

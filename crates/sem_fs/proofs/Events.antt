@@ -63,7 +63,7 @@ use Rattle.sem_fs.specs.Holding.{home, IsGiven, Offers}
 use Rattle.sem_fs.specs.Supplies.{IsSupplied, IsServing}
 use Rattle.sem_fs.specs.Going.{AllHold}
 use Rattle.sem_fs.proofs.Sparing.{lives, sound, server-rests, doomed-waits}
-use Rattle.sem_fs.proofs.HoldingSteps.{awaits-promised}
+use Rattle.sem_fs.proofs.Promised.{awaits-promised}
 use Rattle.sem_fs.proofs.Owned.{same_Held}
 use Rattle.sem_fs.proofs.Unending.{no-kill}
 use Rattle.sem_fs.proofs.Roots.{root-there}

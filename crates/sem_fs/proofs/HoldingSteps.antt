@@ -1,11 +1,10 @@
 -- What a client holds, and waits for, after one entry more.
-use Rattle.std.proofs.Common.{◌≡◌, ◌⊎◌, ℕ, suc, ◌+◌, ◌≤◌, ◌<◌, ◌++◌, Bool, true, false, List, [], ◌∷◌, fold, map, get_or, nat_lt, take, slice_get, Option, Some, None, option_to_list, is_some, refl, sym, ap, ◌∙◌, subst, inl, inr, arith, eq-eqb}
-use Rattle.std.specs.Prelude.{◌==◌, ◌&&◌, if◌then◌else◌}
+use Rattle.std.proofs.Common.{◌≡◌, ◌⊎◌, ℕ, ◌+◌, ◌<◌, ◌++◌, Bool, true, false, List, [], ◌∷◌, map, take, slice_get, Option, Some, None, option_to_list, is_some, refl, sym, ap, ◌∙◌, subst, inl, inr, arith, eq-eqb}
+use Rattle.std.specs.Prelude.{◌==◌, if◌then◌else◌}
 use Rattle.std.specs.List.{Contains}
 use Rattle.std.specs.Option.{option_map_or, IsSome}
-use Rattle.std.proofs.lemmas.Bool.{cases_eq, true≢false, cond-true, cond-false, ne_eqb, ltb-true, false_from_ne_true}
-use Rattle.std.proofs.Math.Seq.{take-suc}
-use Rattle.std.proofs.lemmas.Option.{same_Some, slice_get_within, get_or_from_slice_get}
+use Rattle.std.proofs.lemmas.Bool.{cases_eq, true≢false, cond-true, cond-false, ne_eqb}
+use Rattle.std.proofs.lemmas.Option.{same_Some}
 use Rattle.std.proofs.lemmas.List.Elements.{Contains-append_left, Contains-append_right, Contains-append_cases}
 use Rattle.sem_key.specs.declared.object.Object.{Object}
 use Rattle.sem_key.specs.KeyName.{KeyName, key_eq}
@@ -21,19 +20,17 @@ use Rattle.sem_msg.specs.declared.event.Act.TheVariants.{Call as Calls, Fetch, H
 use Rattle.sem_msg.specs.declared.setup.VpeDecl.{VpeDecl}
 use Rattle.sem_msg.specs.declared.state.Parked.{Parked}
 use Rattle.sem_msg.specs.declared.state.Parked.TheVariants.{ObtainWait, ObtainReady, RevokeWait, Ready}
-use Rattle.sem_msg.specs.declared.state.Pending.{Pending}
 use Rattle.sem_msg.specs.declared.state.Slot.TheVariants.{Free, Held}
 use Rattle.sem_msg.specs.Setup.{Setup}
 use Rattle.sem_msg.specs.Lookups.{decl, calls_of, kernel_of}
 use Rattle.sem_machine.specs.Sides.{Side, row, slot, cap, parked, is_alive, call_counted}
-use Rattle.sem_machine.specs.Sound.{IsSound, kept, keeps_number, keeps_selector, is_promised, bit}
+use Rattle.sem_machine.specs.Sound.{IsSound, kept}
 use Rattle.sem_machine.specs.Steps.{Step}
 use Rattle.sem_machine.specs.Calls.{call_row}
 use Rattle.sem_machine.specs.Journals.{grants, root_keys, cut_off, cut_from}
 use Rattle.sem_machine.specs.Machine.{World, side, detail_of, next_call, local_step, input_of, is_enabled, is_locally_enabled, entry_of}
 use Rattle.sem_machine.specs.Schedules.{IsSchedule, world_after}
 use Rattle.sem_machine.specs.Living.{HoldsCap, IsLive}
-use Rattle.sem_machine.proofs.Weighing.{weigh-among}
 use Rattle.sem_safety.specs.History.{History, no_history, history, cut_at}
 use Rattle.sem_safety.proofs.CarryingWorlds.{stepped, used-made}
 use Rattle.sem_safety.proofs.Noted.{history-cut}
@@ -54,77 +51,11 @@ use Rattle.sem_fs.proofs.Cutting.{IsCutBy, Cuts, next-cut}
 use Rattle.sem_fs.proofs.Lifting.{side-here, side-other, counted-own, counted-call}
 use Rattle.sem_fs.proofs.Owned.{slot-cap, one-slot, own-held, same_Held, revoke-cuts, called}
 use Rattle.sem_fs.proofs.Slots.{AsksAt, step-slotted}
-use Rattle.sem_fs.proofs.Staying.{ComesNew, step-staying}
+use Rattle.sem_fs.proofs.Staying.{step-staying}
 use Rattle.sem_fs.proofs.Courses.{HasCome, Turn, turn_same, turn_woken, turn_obtained, turn_prepared, turn_got, turn_over, Course, step-course}
 use Rattle.sem_fs.proofs.OwnCalls.{ParksAs, own-goes}
 use Rattle.sem_fs.proofs.ServedSteps.{ActPasses, CallPasses}
-
--- what is held comes from nowhere else: its number is in use once
-comes-new : (T : Setup) (i : ℕ) (s : Side) → IsSound T i s → (v : ℕ) (k : KeyName) (c : Capability) → cap s k ≡ Some c → Contains s.caps c → c.key ≡ k
-    → ComesNew T s v k ⊥
-comes-new T i s sound v k c held among same = record {
-  ready = λ u parent object q at.
-      let own' : k.vpe ≡ u = (sound.calls u (ObtainReady k parent object q) at).1.0 in
-      twice (ap (λ w. kept (parked s w)) own' ∙ ap kept at) (eq-eqb k.number k.number refl);
-  waits = λ number q at numbered. twice (ap kept at) (eq-eqb number k.number numbered);
-  pends = λ p pending here.
-      let most = sound.numbers k.vpe k.number in
-      let one = weigh-among (λ (x : Pending). bit ((x.key.vpe == k.vpe) && (x.key.number == k.number))) s.pendings p pending in
-      let is : bit ((p.key.vpe == k.vpe) && (p.key.number == k.number)) ≡ 1 = ap (λ (x : KeyName). bit ((x.vpe == k.vpe) && (x.number == k.number))) here ∙ itself in
-      let two = weigh-among (λ (x : Capability). bit ((x.key.vpe == k.vpe) && (x.key.number == k.number))) s.caps c among in
-      let few = at-most (nat_lt k.number (row s k.vpe).next_number) in
-      omega (arith, most, one, is, two, mine, few);
-  next = λ here.
-      let most = sound.numbers k.vpe k.number in
-      let two = weigh-among (λ (x : Capability). bit ((x.key.vpe == k.vpe) && (x.key.number == k.number))) s.caps c among in
-      let none : bit (nat_lt k.number (row s k.vpe).next_number) ≡ 0 = ap bit (ap (nat_lt k.number) here ∙ irreflexive k.number) in
-      omega (arith, most, two, mine, none);
-}
-  where
-    at-most : (b : Bool) → bit b ≤ 1
-    at-most true = omega arith
-    at-most false = omega arith
-
-    irreflexive : (n : ℕ) → nat_lt n n ≡ false
-    irreflexive n = false_from_ne_true (nat_lt n n) (λ less. let lt = ltb-true n n less in omega (arith, lt))
-
-    itself : bit ((k.vpe == k.vpe) && (k.number == k.number)) ≡ 1
-    itself = ap (λ b. bit (b && (k.number == k.number))) (eq-eqb k.vpe k.vpe refl) ∙ ap bit (eq-eqb k.number k.number refl)
-
-    mine : bit ((c.key.vpe == k.vpe) && (c.key.number == k.number)) ≡ 1
-    mine = ap (λ (x : KeyName). bit ((x.vpe == k.vpe) && (x.number == k.number))) same ∙ itself
-
-    twice : {n q : ℕ} → kept (parked s k.vpe) ≡ Some (n, q) → (n == k.number) ≡ true → ⊥
-    twice {n} {q} is equal =
-        let most = sound.numbers k.vpe k.number in
-        let one : keeps_number k.number (kept (parked s k.vpe)) ≡ 1 = ap (keeps_number k.number) is ∙ ap bit equal in
-        let two = weigh-among (λ (x : Capability). bit ((x.key.vpe == k.vpe) && (x.key.number == k.number))) s.caps c among in
-        let few = at-most (nat_lt k.number (row s k.vpe).next_number) in
-        omega (arith, most, one, two, mine, few)
-
--- what is waited for is promised
-pub awaits-promised : (T : Setup) (i : ℕ) (s : Side) → IsSound T i s → (v sel number : ℕ) → kept (parked s v) ≡ Some (number, sel) → (k : KeyName)
-    → slot s v sel ≡ Held k → ⊥
-awaits-promised T i s sound v sel number is k at =
-    let most = sound.promises v sel in
-    let one : keeps_selector sel (kept (parked s v)) ≡ 1 = ap (keeps_selector sel) is ∙ ap bit (eq-eqb sel sel refl) in
-    let none : is_promised (slot s v sel) ≡ 0 = ap is_promised at in
-    omega (arith, most, one, none)
-
--- calls in a row
-holds-more : (before : List Call) (c : Call) (sel : ℕ) → holds (before ++ c ∷ []) sel ≡ holds_after sel (holds before sel) c
-holds-more before c sel = from before false
-  where
-    from : (xs : List Call) (b : Bool) → fold (holds_after sel) b (xs ++ c ∷ []) ≡ holds_after sel (fold (holds_after sel) b xs) c
-    from [] b = refl
-    from (x ∷ xs) b = from xs (holds_after sel b x)
-
-take-more : (xs : List Call) (n : ℕ) (c : Call) → slice_get xs n ≡ Some c → take (n + 1) xs ≡ take n xs ++ c ∷ []
-take-more xs n c at =
-    let less = slice_get_within xs n c at in
-    let next : n + 1 ≡ suc n = omega arith in
-    let same : get_or xs n c ≡ c = get_or_from_slice_get xs n c c at in
-    ap (λ m. take m xs) next ∙ (take-suc xs n c less ∙ ap (λ x. take n xs ++ x ∷ []) same)
+use Rattle.sem_fs.proofs.Promised.{comes-new, awaits-promised, holds-more, take-more}
 
 module _ (T : Setup) (S : IsService T) (J : List Entry) (e : Entry) (runs' : IsSchedule T (J ++ e ∷ [])) (served : IsServedWorld T (world_after T J))
     (passes : ActPasses T e.event.kernel (side (world_after T J) e.event.kernel) e.event.act) where

@@ -13,6 +13,7 @@ mod Cutting
 mod Owned
 mod Staying
 mod OwnCalls
+mod Promised
 mod HoldingSteps
 mod Roots
 mod Passing
