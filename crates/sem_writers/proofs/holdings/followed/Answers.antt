@@ -5,8 +5,8 @@ use Rattle.sem_access.specs.declared.run.Run.{Run}
 use Rattle.sem_access.specs.LastWrites.{looked}
 use Rattle.sem_access.specs.Runs.{entry_at, IsNewer}
 use Rattle.sem_access.specs.ContentsText.{found_by}
-use Rattle.sem_mem.proofs.Telling.{kept-more, found-here, older-more, fits-here}
-use Rattle.sem_writers.proofs.Growing.{looks-more}
+use Rattle.sem_mem.proofs.Telling.{kept-more, found-here, fits-here}
+use Rattle.sem_writers.proofs.Growing.{looks-more, older-more}
 use Rattle.sem_writers.proofs.holdings.followed.Goals as goal
 
 pub loop-access-init : goal.loop-access-init
