@@ -19,11 +19,11 @@ use Rattle.sem_story.specs.Stages.{stage_of, is_ready, stage_in, seen_by}
 -- the lives of roots tell of none that it is on its way at the start
 first-told : (h : KeyName → Holder) (k : KeyName) (ks : List KeyName) → told_of (map (λ (q : KeyName). life_of_root q (h q)) ks) k 0 ≡ Way → ⊥
 first-told h k [] e = cc
-first-told h k (q ∷ ks) e = by (key_eq q k) e
+first-told h k (q ∷ ks) e = by (key_eq q k) (find (λ (l : KeyLife). key_eq l.key k) (map (λ (x : KeyName). life_of_root x (h x)) ks)) (first-told h k ks) e
   where
-    by : (b : Bool) → option_map_or (told 0) (if b then Some (life_of_root q (h q)) else find (λ (l : KeyLife). key_eq l.key k) (map (λ (x : KeyName). life_of_root x (h x)) ks)) No ≡ Way → ⊥
-    by true is = cc
-    by false is = first-told h k ks is
+    by : (b : Bool) (rest : Option KeyLife) → (option_map_or (told 0) rest No ≡ Way → ⊥) → option_map_or (told 0) (if b then Some (life_of_root q (h q)) else rest) No ≡ Way → ⊥
+    by true rest others is = cc
+    by false rest others is = others is
 
 not-coming : (b : Bool) → (unheld b ≡ Way → ⊥) → b ≡ false
 not-coming true apart = absurd (apart refl)

@@ -1,5 +1,5 @@
 -- The laws of where a key is, as what is known of an entry.
-use Rattle.std.proofs.Common.{◌≡◌, ◌⊎◌, ℕ, Bool, true, false, List, [], ◌∷◌, ◌++◌, Option, Some, None, IsSome, refl, sym, ap, ◌∙◌, subst, inl, inr, get_or, eq-eqb}
+use Rattle.std.proofs.Common.{◌≡◌, ◌⊎◌, ℕ, zero, suc, Bool, true, false, List, [], ◌∷◌, ◌++◌, Option, Some, None, IsSome, refl, sym, ap, ◌∙◌, subst, inl, inr, get_or, eq-eqb}
 use Rattle.std.specs.Prelude.{◌==◌, ◌&&◌, ◌||◌}
 use Rattle.std.specs.List.{list_any}
 use Rattle.std.specs.Option.{option_map_or}
@@ -74,7 +74,7 @@ or-parts true b is = inl refl
 or-parts false b is = inr is
 
 module _ (T : Setup) (W : World) (e : Entry) (k : KeyName) where
-  i : ℕ
+  abbrev i : ℕ
   i = owner_of T k
 
   brought-may : (a : Act) (d : Detail) → e.event.act ≡ a → e.detail ≡ d → is_brought_by k a d ≡ true → MayChange T W e k
@@ -106,7 +106,7 @@ module _ (T : Setup) (W : World) (e : Entry) (k : KeyName) where
   asking from (DelegateReq parent object vpe sel) act told is = absurd cc
   asking from (DelegatePrepared parent key) act told is = absurd cc
   asking from (DelegateNo parent code) act told is = absurd cc
-  asking from (Ack key yes) act told is = absurd cc
+  asking from (Ack key accepted) act told is = absurd cc
   asking from (Orphan parent key) act told is = absurd cc
   asking from (RevokeDone job) act told is = absurd cc
   asking from (Unlink parent key) act told is = absurd cc

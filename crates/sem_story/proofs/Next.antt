@@ -37,8 +37,9 @@ held-apart (Some j) s false e = cc
 way-apart : Way ≡ No → ⊥
 way-apart e = cc
 
-no-some : {X : Type 0} → IsSome (None {A = X}) → ⊥
-no-some h = h
+no-some : (o : Option Capability) → o ≡ None → IsSome o → ⊥
+no-some None is h = cc
+no-some (Some c) is h = cc
 
 -- of a key of which its kernel tells nothing
 unseen-next : (oW : Option Capability) (rW bW bV granted brought leaves : Bool) (May : Type 0) → Known oW None rW false bW bV granted brought leaves May → unseen_stage granted brought leaves (stage_of oW rW bW) ≡ stage_of None false bV
@@ -67,7 +68,7 @@ unseen-next None true true false false false false May K = elim K.moves [
   | inr m ↦ elim (K.cause refl m) [
     | inl bad ↦ absurd cc
     | inr (inl bad) ↦ let no : false ≡ true = bad.1 in absurd cc
-    | inr (inr bad) ↦ absurd (no-some bad)
+    | inr (inr bad) ↦ absurd (no-some None refl bad)
   ]
 ]
 unseen-next None false true false false true leaves May K = refl
@@ -76,7 +77,7 @@ unseen-next None false true false false false leaves May K = elim K.moves [
   | inr m ↦ elim (K.cause refl m) [
     | inl bad ↦ absurd cc
     | inr (inl bad) ↦ let no : false ≡ true = bad.0 in absurd cc
-    | inr (inr bad) ↦ absurd (no-some bad)
+    | inr (inr bad) ↦ absurd (no-some None refl bad)
   ]
 ]
 

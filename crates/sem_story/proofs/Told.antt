@@ -88,6 +88,12 @@ module _ (T : Setup) (k : KeyName) where
     ];
   }
 
+  -- then the last row tells what has become of the key in the end
+  pub told-end : (J : List Entry) (rows : List StoryRow) → AreTold T J k rows → last_stage rows ≡ stage_in T (world_after T J) k
+  told-end J rows are =
+      let all : All (λ (r : StoryRow). entries_of r ≤ length J) rows = All-weaker (IsTold T J k) (λ (r : StoryRow). entries_of r ≤ length J) (λ r told. told.within) rows are.told in
+      sym (told-last (length J) Nowhere rows all) ∙ (are.whole (length J) (omega arith) ∙ ap (λ (K : List Entry). stage_in T (world_after T K) k) (take_all (length J) J (omega arith)))
+
   -- no rows tell of no entry
   noted-none : AreNoted T [] k []
   noted-none = record {

@@ -1,5 +1,4 @@
--- What an entry does to a key, by what had become of it, and by what its kernel tells after the entry.
--- These words serve private functions.
+-- What an entry does to a key, by what had become of it. These words serve private functions.
 use Rattle.std.specs.Prelude.{ℕ, Bool, true, false, ◌==◌, ◌&&◌, ◌||◌, if◌then◌else◌}
 use Rattle.std.specs.Option.{option_map_or}
 use Rattle.sem_key.specs.KeyName.{KeyName, key_eq}

@@ -1,11 +1,12 @@
 -- How far a walk has come. These words serve private functions.
-use Rattle.std.specs.Prelude.{◌≡◌, ℕ, ◌+◌, ◌<◌, ◌⊎◌, true, List, [], All, length, take}
+use Rattle.std.specs.Prelude.{◌≡◌, ℕ, ◌+◌, ◌<◌, ◌⊎◌, List, [], All, length, take}
 use Rattle.std.specs.List.Sorted.{IsNonDecreasingBy}
 use Rattle.sem_key.specs.KeyName.{KeyName}
+use Rattle.sem_msg.specs.declared.event.Event.{Event}
 use Rattle.sem_msg.specs.declared.entry.Entry.{Entry}
 use Rattle.sem_msg.specs.Setup.{Setup}
-use Rattle.sem_machine.specs.Machine.{start, is_enabled, entry_of, after}
-use Rattle.sem_machine.specs.Schedules.{IsSchedule, world_after}
+use Rattle.sem_machine.specs.Machine.{start, after}
+use Rattle.sem_machine.specs.Schedules.{world_after}
 use Rattle.sem_kernel.specs.Worlds.{WorldValue}
 use Rattle.sem_story.specs.declared.rows.StoryRow.{StoryRow}
 use Rattle.sem_story.specs.declared.stages.Stage.{Stage}
@@ -18,11 +19,9 @@ use Rattle.sem_story.specs.Telling.{entries_of, stage_at, IsTold, AreTold}
 abbrev pub AreFirst : Stage → List StoryRow → Type 0
 AreFirst stage rows = (T : Setup) (k : KeyName) → stage ≡ stage_in T (start T) k → AreTold T [] k rows
 
--- the entry is the one that its event makes in the first world, after which the second one is
-pub record MakesEntry (w : WorldValue) (e : Entry) (w' : WorldValue) : Type 0 where
-  pub enabled : is_enabled w.setup w.world e.event ≡ true
-  pub made : e ≡ entry_of w.setup w.world e.event
-  pub after : w' ≡ record { setup = w.setup; world = after w.setup w.world e.event }
+-- the world after an event
+abbrev pub stepped_value : WorldValue → Event → WorldValue
+stepped_value w e = record { setup = w.setup; world = after w.setup w.world e }
 
 -- The rows tell of the journal, whose last entry is being noted: of its end they need not tell yet.
 pub record AreNoted (T : Setup) (J : List Entry) (k : KeyName) (rows : List StoryRow) : Type 0 where
@@ -40,10 +39,8 @@ Notes when old new =
 abbrev pub IsOneOf : Stage → Stage → Stage → Type 0
 IsOneOf stage one other = (stage ≡ one) ⊎ (stage ≡ other)
 
--- the walk has gone through the entries, a schedule
+-- the walk of the key has gone through the entries
 pub record IsAfter (T : Setup) (J : List Entry) (k : KeyName) (w : Walk) : Type 0 where
-  pub key : w.key ≡ k
-  pub schedule : IsSchedule T J
   pub world : w.world ≡ record { setup = T; world = world_after T J }
   pub stage : w.stage ≡ stage_in T (world_after T J) k
   pub rows : AreTold T J k w.rows.items

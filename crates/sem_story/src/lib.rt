@@ -3,6 +3,7 @@
 
 mod ancestors;
 mod moments;
+mod replays;
 mod rows;
 mod stages;
 mod starts;

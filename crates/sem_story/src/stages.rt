@@ -10,7 +10,7 @@ ghost use Rattle.sem_machine.specs.Journals.{ends};
 ghost use Rattle.sem_query.specs.Whereabouts.{brings as brings_lem};
 ghost use Rattle.sem_query.specs.Changes.{is_revoking as is_revoking_lem, grants_key};
 ghost use Rattle.sem_story.specs.Stages.{seen_by};
-ghost use Rattle.sem_story.specs.Changes.{is_brought_by as is_brought_by_lem, is_asked_by as is_asked_by_lem, begins_at as begins_at_lem, resumes as resumes_lem, leaves_by as leaves_by_lem, stage_after as stage_after_lem};
+ghost use Rattle.sem_story.specs.Changes.{is_brought_by as is_brought_by_lem, asks_for as asks_for_lem, is_asked_by as is_asked_by_lem, begins_at as begins_at_lem, resumes as resumes_lem, leaves_by as leaves_by_lem, stage_after as stage_after_lem};
 
 use sem_draw::State;
 use sem_kernel::{Kernel, World};
@@ -208,13 +208,17 @@ fn is_asked_by(entry: &Entry, key: Key) -> bool
     ensures { result ≡ is_asked_by_lem key entry.now.event.act entry.now.detail }
 {
     match (entry.event.act, entry.detail) {
-        (
-            Act::Handle,
-            Detail::Carried {
-                message: Message::RevokeReq { key: asked, .. },
-                ..
-            },
-        ) => same_key(&asked, &key),
+        (Act::Handle, Detail::Carried { message, .. }) => asks_for(&message, key),
+        _ => false,
+    }
+}
+
+// Whether the message asks to revoke the key.
+fn asks_for(message: &Message, key: Key) -> bool
+    ensures { result ≡ asks_for_lem key message.now }
+{
+    match message {
+        Message::RevokeReq { key: asked, .. } => same_key(asked, &key),
         _ => false,
     }
 }

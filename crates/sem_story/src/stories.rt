@@ -4,6 +4,7 @@ ghost use Rattle.sem_trace.specs.Words.{key_word};
 
 use crate::ancestors::Line;
 use crate::moments::{Source, moments_of};
+use crate::replays::first_schedule;
 use crate::starts::root_name;
 use crate::walks::{Walk, walk_through};
 use sem_draw::{Answer, Ending, Picture, Timeline, timeline_as_svg, timeline_as_text};
@@ -57,16 +58,16 @@ fn story_of(
         let text = format!(in alloc; "there are no {at} entries: the report has {all}\n")?;
         return Ok(Answer::failed(alloc, Ending::WrongWords, text));
     }
-    let entries = &journal.as_slice()[..at as usize];
-    let walk = match walk_through(alloc, setup, entries, request.key)? {
-        Ok(walk) => walk,
-        Err(number) => {
-            let text = format!(in alloc;
-                "entry {number} is not the one that the machine makes: semper-view explain tells more\n"
-            )?;
-            return Ok(Answer::failed(alloc, Ending::Refused, text));
-        }
-    };
+    let first = first_schedule(alloc, setup, journal, at as usize)?;
+    let number = first.len() as u64;
+    if number < at {
+        let text = format!(in alloc;
+            "entry {number} is not the one that the machine makes: semper-view explain tells more\n"
+        )?;
+        return Ok(Answer::failed(alloc, Ending::Refused, text));
+    }
+    let entries = first.as_slice();
+    let walk = walk_through(alloc, setup, entries, request.key)?;
     let count = walk.rows.len();
     if count == 0 {
         let key = key_text(alloc, &request.key)?;

@@ -2,16 +2,17 @@
 ghost use Rattle.std.specs.Prelude.{◌≡◌, ◌<◌, [], ◌∷◌, ◌++◌, true, List, length, IfOk, OnOk};
 ghost use Rattle.sem_msg.specs.declared.limits.TheConstants.{ENDPOINTS};
 ghost use Rattle.sem_msg.specs.declared.entry.Entry.{Entry as EntryValue};
+ghost use Rattle.sem_machine.specs.Machine.{is_enabled};
 ghost use Rattle.sem_machine.specs.Schedules.{IsSchedule, world_after};
 ghost use Rattle.sem_story.specs.Stages.{stage_in};
 ghost use Rattle.sem_story.specs.Telling.{AreTold, last_stage};
-ghost use Rattle.sem_story.specs.Walks.{AreFirst, IsAfter, IsOneOf, MakesEntry, Notes};
+ghost use Rattle.sem_story.specs.Walks.{AreFirst, IsAfter, IsOneOf, Notes, stepped_value};
 
 use crate::rows::{Happening, StoryRow};
 use crate::stages::{Stage, object_given, object_of, seen_at_home, stage_after};
 use sem_kernel::{StepError, World};
 use sem_key::{Key, Object, OutOfMemory, same_key};
-use sem_msg::{Act, ENDPOINTS, Entry, Setup};
+use sem_msg::{Act, ENDPOINTS, Entry, Event, Setup};
 use sem_query::laws::{
     entries_move_few_keys, keys_live_once, lives_go_on, lives_tell_where_keys_are,
     moved_keys_are_seen_at_home,
@@ -28,7 +29,6 @@ pub struct Walk {
     /// What has become of the key.
     pub stage: Stage,
     world: World,
-    key: Key,
     // The endpoints that are bound to the key.
     bound: Vec<u8>,
 }
@@ -56,69 +56,82 @@ impl Walk {
             object: object_of(&world, setup.owner_of(key), key),
             stage,
             world,
-            key,
             bound: Vec::new(alloc),
         })
     }
 
-    // Goes through the entry of that number. Whether it is the one that its event makes; where it
-    // is not, the walk means nothing.
-    fn go_on(&mut self, setup: &Setup, number: u64, entry: &Entry) -> Result<bool, OutOfMemory>
-        ensures { IfOk result (λ b. b ≡ true → (J : List EntryValue) → number ≡ length J
-            → IsAfter setup.now J self.old.key self.old
-            → IsAfter setup.now (J ++ entry.now ∷ []) self.old.key self.new) }
+    // Goes through the entry of that number.
+    fn go_on(
+        &mut self,
+        setup: &Setup,
+        key: Key,
+        number: u64,
+        entry: &Entry,
+    ) -> Result<(), OutOfMemory>
+        requires { is_enabled self.old.world.setup self.old.world.world entry.now.event ≡ true }
+        ensures { OnOk result ((J before later : List EntryValue)
+            → IsSchedule setup.now J → J ≡ before ++ entry.now ∷ later → number ≡ length before
+            → IsAfter setup.now before key self.old
+            → IsAfter setup.now (before ++ entry.now ∷ []) key self.new) }
     {
         // So that the proof knows what a setup keeps.
         let _ = &setup.vpes;
         entries_move_few_keys();
         moved_keys_are_seen_at_home();
         keys_live_once();
-        if !happens(&mut self.world, entry)? {
-            return Ok(false);
-        }
+        happen(&mut self.world, entry.event)?;
         let before = self.stage;
-        let seen = seen_at_home(setup, &self.world, self.key);
-        self.stage = stage_after(setup, self.key, entry, before, seen);
+        let seen = seen_at_home(setup, &self.world, key);
+        self.stage = stage_after(setup, key, entry, before, seen);
         let when = When {
             number,
             stage: self.stage,
         };
-        self.object = object_after(&self.world, self.key, entry, self.object);
-        note_grant(&mut self.rows, when, self.key, entry)?;
-        let may_bind = calls(entry, self.key.vpe);
+        self.object = object_after(&self.world, key, entry, self.object);
+        note_grant(&mut self.rows, when, key, entry)?;
+        let may_bind = calls(entry, key.vpe);
         note_bindings(
             &mut self.rows,
             &mut self.bound,
             when,
             &self.world,
-            self.key,
+            key,
             may_bind,
         )?;
         note_stage(&mut self.rows, when, before)?;
-        Ok(true)
+        Ok(())
     }
 }
 
-/// The walk of the key through all entries, or the number of the first that is not the one that its
-/// event makes.
+/// The walk of the key through the entries, a schedule.
 pub fn walk_through(
     alloc: Global,
     setup: &Setup,
     entries: &[Entry],
     key: Key,
-) -> Result<Result<Walk, u64>, OutOfMemory>
-    ensures schedule { IfOk result (λ r. IfOk r (λ w. IsSchedule setup.now entries.now)) }
-    ensures rows { IfOk result (λ r. IfOk r (λ w. AreTold setup.now entries.now key w.rows.items)) }
-    ensures stage { IfOk result (λ r. IfOk r
-        (λ w. w.stage ≡ stage_in setup.now (world_after setup.now entries.now) key)) }
+) -> Result<Walk, OutOfMemory>
+    requires { IsSchedule setup.now entries.now }
+    ensures rows { IfOk result (λ w. AreTold setup.now entries.now key w.rows.items) }
+    ensures stage { IfOk result
+        (λ w. w.stage ≡ stage_in setup.now (world_after setup.now entries.now) key) }
 {
     let mut walk = Walk::start(alloc, setup, key)?;
-    for (number, entry) in entries.iter().enumerate() {
-        if !walk.go_on(setup, number as u64, entry)? {
-            return Ok(Err(number as u64));
-        }
+    for place in 0..entries.len() {
+        walk.go_on(setup, key, place as u64, &entries[place])?;
     }
-    Ok(Ok(walk))
+    Ok(walk)
+}
+
+// The event, which is enabled, happens.
+fn happen(world: &mut World, event: Event) -> Result<(), OutOfMemory>
+    requires { is_enabled world.old.setup world.old.world event ≡ true }
+    ensures { OnOk result (world.new ≡ stepped_value world.old event) }
+{
+    match world.step(event) {
+        Ok(_) => Ok(()),
+        Err(StepError::Memory) => Err(OutOfMemory),
+        Err(StepError::NotEnabled) => unreachable!(),
+    }
 }
 
 // The rows of a key before the first entry.
@@ -126,24 +139,22 @@ fn first_rows(alloc: Global, stage: Stage) -> Result<Vec<StoryRow>, OutOfMemory>
     ensures { IfOk result (λ rows. AreFirst stage rows.items) }
 {
     let mut rows = Vec::new(alloc);
-    if let Stage::Held { selector, .. } = stage {
-        rows.push(StoryRow {
-            entry: None,
-            happening: Happening::Declared { selector },
-            stage,
-        })?;
+    if stage == Stage::Nowhere {
+        return Ok(rows);
     }
+    rows.push(StoryRow {
+        entry: None,
+        happening: declared(stage),
+        stage,
+    })?;
     Ok(rows)
 }
 
-// The event of the entry happens. Whether the entry is the one that it makes.
-fn happens(world: &mut World, entry: &Entry) -> Result<bool, OutOfMemory>
-    ensures made { IfOk result (λ b. b ≡ true → MakesEntry world.old entry.now world.new) }
-{
-    match world.step(entry.event) {
-        Ok(made) => Ok(made == *entry),
-        Err(StepError::NotEnabled) => Ok(false),
-        Err(StepError::Memory) => Err(OutOfMemory),
+// What happened to a key that is somewhere before the first entry.
+fn declared(stage: Stage) -> Happening {
+    match stage {
+        Stage::Held { selector, .. } => Happening::Declared { selector },
+        _ => changed(Stage::Nowhere, stage),
     }
 }
 

@@ -1,5 +1,6 @@
-use crate::trees::{BEHIND_REVOKES, BEFORE_REVOKES, CLEARED, KILLED, REVOKE_OF_CHILD, REVOKE_OF_ROOT};
-use crate::trees::{WRONG, memory};
+use crate::trees::{
+    BEFORE_REVOKES, BEHIND_REVOKES, CLEARED, KILLED, REVOKE_OF_CHILD, REVOKE_OF_ROOT, WRONG, memory,
+};
 use sem_draw::{Answer, Ending, Picture};
 use sem_key::Key;
 use sem_story::{StoryRequest, key_of, story};
@@ -59,14 +60,20 @@ fn a_key_goes_by_the_clear_of_its_parent(rt: HostRuntime) -> Result<(), Fail> {
 fn a_key_that_was_not_made_yet_has_no_story(rt: HostRuntime) -> Result<(), Fail> {
     let answer = told(rt.alloc(), CLEARED, memory(3, 0), Some(7))?;
     assert!(rt; answer.ending == Ending::WrongWords);
-    assert_eq!(rt; answer.error.as_str(), "3.3.1.0 was never made in these 7 entries\n");
+    assert_eq!(rt;
+        answer.error.as_str(),
+        "3.3.1.0 was never made in these 7 entries\n"
+    );
     assert!(rt; answer.out.is_empty());
     let answer = told(rt.alloc(), CLEARED, memory(3, 0), Some(8))?;
     assert!(rt; answer.ending == Ending::Done);
     let answer = told(rt.alloc(), CLEARED, memory(3, 1), None)?;
     assert!(rt; answer.ending == Ending::WrongWords);
     let answer = told(rt.alloc(), CLEARED, memory(3, 0), Some(33))?;
-    assert_eq!(rt; answer.error.as_str(), "there are no 33 entries: the report has 32\n");
+    assert_eq!(rt;
+        answer.error.as_str(),
+        "there are no 33 entries: the report has 32\n"
+    );
     assert!(rt; answer.ending == Ending::WrongWords);
     Ok(())
 }
@@ -74,16 +81,24 @@ fn a_key_that_was_not_made_yet_has_no_story(rt: HostRuntime) -> Result<(), Fail>
 #[test]
 fn the_first_that_takes_its_line_is_told(rt: HostRuntime) -> Result<(), Fail> {
     for (first, second, said) in [
-        (REVOKE_OF_ROOT, REVOKE_OF_CHILD, "gone by revoke 0 of v0 (entry 12)"),
-        (REVOKE_OF_CHILD, REVOKE_OF_ROOT, "gone by revoke 1 of v1 (entry 12)"),
+        (
+            REVOKE_OF_ROOT,
+            REVOKE_OF_CHILD,
+            "gone by revoke 0 of v0 (entry 12)",
+        ),
+        (
+            REVOKE_OF_CHILD,
+            REVOKE_OF_ROOT,
+            "gone by revoke 1 of v1 (entry 12)",
+        ),
     ] {
         let report = format!(in rt.alloc(); "{BEFORE_REVOKES}{first}{second}{BEHIND_REVOKES}")?;
-        let answer = told(rt.alloc(), report.as_bytes(), memory(2, 0), None)?;
-        assert!(rt; answer.out.as_str().contains(said), "{answer.out}");
+        let text = told(rt.alloc(), report.as_bytes(), memory(2, 0), None)?.out;
+        assert!(rt; text.as_str().contains(said), "{text}");
     }
-    let answer = told(rt.alloc(), KILLED, memory(1, 0), None)?;
+    let text = told(rt.alloc(), KILLED, memory(1, 0), None)?.out;
     let said = "\n      8  x  gone by the kill of v1 (entry 8)         1 kill 1\n";
-    assert!(rt; answer.out.as_str().contains(said), "{answer.out}");
+    assert!(rt; text.as_str().contains(said), "{text}");
     Ok(())
 }
 
