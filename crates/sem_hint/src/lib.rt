@@ -7,9 +7,11 @@ mod earlier;
 mod forms;
 mod hints;
 mod places;
+mod told;
 mod words;
 
 pub use hints::{no_report_text, refusal_text, tells_report};
 /// Memory was refused.
 pub use std::alloc::AllocError as OutOfMemory;
-pub use words::key_text;
+pub use told::{act_text, cause_text, object_text};
+pub use words::{key_text, text_of};

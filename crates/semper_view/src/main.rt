@@ -13,6 +13,7 @@ use sem_explain::{explain_report, explain_trace};
 use sem_hint::tells_report;
 use sem_io::{ReadError, ReadSource, WriteSink, read_all, write_all};
 use sem_run::judge;
+use sem_story::story;
 use sem_tree::tree;
 use sem_view::respond;
 use sem_writers::memory_picture;
@@ -70,6 +71,7 @@ fn answer_to(alloc: Global, asked: &Asked, bytes: &[u8]) -> Result<Answer, Alloc
         Asked::View { request } => respond(alloc, request, bytes),
         Asked::Tree { request } => tree(alloc, request, bytes),
         Asked::Memory { request } => memory_picture(alloc, request, bytes),
+        Asked::Story { request } => story(alloc, request, bytes),
         Asked::Explain => explain(alloc, bytes),
     }
 }
