@@ -3,6 +3,7 @@
 
 ghost use Rattle.sem_machine.specs.Safety.{IsSafe};
 ghost use Rattle.sem_bytes.specs.Owning.{AccessesAreOwned};
+ghost use Rattle.sem_fs.specs.Laws.{OfFiles, commands_succeed, closed_are_gone};
 ghost use Rattle.sem_laws.specs.Always.{Always};
 ghost use Rattle.sem_laws.specs.Always.{ForEveryJournal, ForEverySchedule, ForEveryFirstVersion};
 ghost use Rattle.sem_laws.specs.Facts.{RestsWhenIdle, IsBounded, IsScheduleByParts, IsToldByParts};
@@ -68,4 +69,19 @@ pub fn denials_are_explained()
 {
     sem_query::laws::denials_are_explained();
     sem_query::laws::denials_have_one_text();
+}
+
+/// In every schedule of what file commands are compiled to, each reply is a success.
+pub fn files_succeed()
+    ensures { OfFiles commands_succeed }
+{
+    sem_fs::files_succeed();
+}
+
+/// In every schedule of what file commands are compiled to, no key that descends from a key of a
+/// closed opening is live or bound.
+pub fn files_closed()
+    ensures { OfFiles closed_are_gone }
+{
+    sem_fs::files_closed();
 }

@@ -5,7 +5,6 @@
 mod builds;
 mod denials;
 mod entries;
-mod following;
 mod holder;
 mod index;
 pub mod laws;
@@ -16,6 +15,7 @@ mod paths;
 mod reach;
 mod settling;
 mod sighting;
+mod sightings;
 mod sights;
 mod states;
 mod tellings;

@@ -1,0 +1,11 @@
+pub mod Files
+pub mod Compiled
+pub mod Openings
+pub mod Examples
+pub mod Service
+pub mod Serving
+pub mod Holding
+pub mod Drawings
+pub mod Supplies
+pub mod Going
+pub mod Laws

@@ -1,0 +1,134 @@
+-- What a setup of file commands is like, as far as its schedules depend on it: a server that rests,
+-- and clients whose calls are in order ("The file service" in docs/proof.md).
+use Rattle.std.specs.Prelude.{◌≡◌, ◌≢◌, ℕ, ◌<◌, ◌≤◌, ◌+◌, ◌==◌, Bool, true, false, ◌&&◌, List, [], ◌∷◌, ◌++◌, length, take, fold, filter, sum_by, slice_get, Contains, Some, if◌then◌else◌}
+use Rattle.sem_key.specs.declared.limits.TheConstants.{NUMBERS, RIGHTS}
+use Rattle.sem_key.specs.declared.object.Object.{Object}
+use Rattle.sem_key.specs.declared.object.Object.TheVariants.{Mem, Recv, Send, Serv, Sess}
+use Rattle.sem_key.specs.KeyName.{KeyName}
+use Rattle.sem_msg.specs.declared.call.Call.{Call}
+use Rattle.sem_msg.specs.declared.call.Call.TheVariants.{Derive, Gate, Obtain, Delegate, OpenSession, AskOffer, Revoke, Bind, Read as ReadCall, Write as WriteCall, Send as SendCall, Credit, Exit, Clear}
+use Rattle.sem_msg.specs.declared.setup.Root.{Root}
+use Rattle.sem_msg.specs.declared.setup.VpeDecl.{VpeDecl}
+use Rattle.sem_msg.specs.Setup.{Setup, IsSetup}
+use Rattle.sem_msg.specs.Lookups.{decl, calls_of, is_declared, service_named, offered}
+use Rattle.sem_machine.specs.Journals.{root_keys}
+use Rattle.sem_fs.specs.Files.{EXTENT}
+use Rattle.sem_fs.specs.Compiled.{SERVER, SESSION, ACCESS, service_key}
+
+-- Selectors. Below this number a client holds what it asked for, from it on what it was given.
+abbrev pub GIVEN : ℕ
+GIVEN = 128
+
+-- whether a VPE holds something at a selector that it asked for, behind a call that succeeded
+abbrev pub holds_after : ℕ → Bool → Call → Bool
+holds_after sel held (OpenSession dst name) = if dst == sel then true else held
+holds_after sel held (AskOffer dst session index) = if dst == sel then true else held
+holds_after sel held (Revoke src) = if src == sel then false else held
+holds_after sel held c = held
+
+-- and behind calls that all succeeded
+abbrev pub holds : List Call → ℕ → Bool
+holds before sel = fold (holds_after sel) false before
+
+-- the memory of an extent is at a selector of the server
+pub record IsExtent (T : Setup) (sel : ℕ) : Type 0 where
+  pub server : VpeDecl
+  pub declared : decl T SERVER ≡ Some server
+  pub base : ℕ
+  pub root : Contains server.roots (record { sel = sel; object = Mem base EXTENT RIGHTS })
+  pub near : sel < GIVEN
+
+-- memory is a whole extent with all rights, and a session is one with the server
+abbrev pub IsWhole : Object → Type 0
+IsWhole (Mem base len rights) = (len ≡ EXTENT) × (rights ≡ RIGHTS)
+IsWhole (Recv slots) = Unit {0}
+IsWhole (Send gate label credits) = Unit {0}
+IsWhole (Serv name) = Unit {0}
+IsWhole (Sess service ident) = service ≡ service_key
+
+-- a client uses an extent that it opened
+abbrev pub IsOpened : List Call → ℕ → Type 0
+IsOpened before src = (SESSION < src) × (src < GIVEN) × (holds before src ≡ true)
+
+-- the last call bound the endpoint to an extent
+pub record IsBound (before : List Call) : Type 0 where
+  pub first : List Call
+  pub selector : ℕ
+  pub last : before ≡ first ++ Bind ACCESS selector ∷ []
+
+abbrev pub IsAccess : List Call → ℕ → ℕ → ℕ → Type 0
+IsAccess before ep off len = (ep ≡ ACCESS) × (off + len ≤ EXTENT) × IsBound before
+
+-- a call that VPE v may make behind others
+abbrev pub IsInOrder : Setup → ℕ → List Call → Call → Type 0
+IsInOrder T v before (OpenSession dst name) =
+    (dst ≡ SESSION) × (name ≡ 0) × (holds before dst ≡ false)
+IsInOrder T v before (AskOffer dst session index) =
+    (session ≡ SESSION) × (holds before SESSION ≡ true) × (SESSION < dst) × (dst < GIVEN)
+    × (holds before dst ≡ false)
+    × ((sel : ℕ) × (offered T service_key index ≡ Some sel) × IsExtent T sel)
+IsInOrder T v before (Bind ep src) = (ep ≡ ACCESS) × IsOpened before src
+IsInOrder T v before (ReadCall ep off len) = IsAccess before ep off len
+IsInOrder T v before (WriteCall ep off len) = IsAccess before ep off len
+IsInOrder T v before (Delegate src w dst) =
+    IsOpened before src × (is_declared T w ≡ true) × (w ≢ v) × (w ≢ SERVER) × (GIVEN ≤ dst)
+IsInOrder T v before (Revoke src) = IsOpened before src
+IsInOrder T v before (Derive src dst off len rights) = ⊥
+IsInOrder T v before (Gate src dst label credits) = ⊥
+IsInOrder T v before (Obtain dst w src) = ⊥
+IsInOrder T v before (SendCall ep len) = ⊥
+IsInOrder T v before (Credit ep) = ⊥
+IsInOrder T v before Exit = ⊥
+IsInOrder T v before (Clear src) = ⊥
+
+-- whether a call draws a number of its VPE
+abbrev pub is_ask : Call → Bool
+is_ask (OpenSession dst name) = true
+is_ask (AskOffer dst session index) = true
+is_ask c = false
+
+-- whether a call gives to such a selector of a VPE
+abbrev pub gives_where : ℕ → (ℕ → Bool) → Call → Bool
+gives_where w such (Delegate src to dst) = (to == w) && such dst
+gives_where w such c = false
+
+-- how many calls of a VPE give so, and of all VPEs
+abbrev pub gives : Setup → ℕ → (ℕ → Bool) → VpeDecl → ℕ
+gives T w such d = length (filter (gives_where w such) (calls_of T d.vpe))
+
+abbrev pub times_given : Setup → ℕ → (ℕ → Bool) → ℕ
+times_given T w such = sum_by (gives T w such) T.vpes
+
+abbrev pub any : ℕ → Bool
+any sel = true
+
+-- how many numbers a client may draw: for what it is given, and for what it asks for
+abbrev pub draws : Setup → ℕ → VpeDecl → ℕ
+draws T w d = gives T w any d + (if d.vpe == w then length (filter is_ask (calls_of T w)) else 0)
+
+abbrev pub numbers_wanted : Setup → ℕ → ℕ
+numbers_wanted T w = sum_by (draws T w) T.vpes
+
+pub record IsService (T : Setup) : Type 0 where
+  pub setup : IsSetup T
+  -- the server is declared, has all that there is at the start, and makes no call
+  pub server : VpeDecl
+  pub declared : decl T SERVER ≡ Some server
+  pub roots : (k : KeyName) → Contains (root_keys T) k → k.vpe ≡ SERVER
+  pub rests : calls_of T SERVER ≡ []
+  pub served : service_named T 0 ≡ Some (record { name = 0; key = service_key })
+  pub service_is_root : Contains (root_keys T) service_key
+  pub whole :
+      (d : VpeDecl) (r : Root) → Contains T.vpes d → Contains d.roots r → IsWhole r.object
+  -- nothing is denied, and nobody is killed
+  pub no_denies : T.denies ≡ []
+  pub no_kills : T.kills ≡ []
+  -- calls are in order
+  pub calls :
+      (v n : ℕ) (c : Call) → slice_get (calls_of T v) n ≡ Some c
+      → IsInOrder T v (take n (calls_of T v)) c
+  -- a selector of a client is given to once at most, and nothing is given to the server
+  pub given_once : (w dst : ℕ) → GIVEN ≤ dst → times_given T w (λ sel. sel == dst) ≤ 1
+  pub ungiven : times_given T SERVER any ≡ 0
+  -- numbers do not run out
+  pub numbers : (w : ℕ) → (w ≢ SERVER) → numbers_wanted T w ≤ NUMBERS

@@ -1,0 +1,20 @@
+ghost use Rattle.sem_machine.specs.Schedules.{IsSchedule};
+ghost use Rattle.sem_fs.specs.Compiled.{compiled, AreFiles};
+ghost use Rattle.sem_fs.specs.Examples.{calls_of_one, run_of_one, calls_of_three, run_of_three};
+ghost use Rattle.sem_fs.specs.Examples.{one_client, journal_of_one, closed_in_one};
+
+/// What file commands are compiled to, and what comes of that, by computation.
+pub fn files_run()
+    ensures calls { calls_of_one }
+    ensures run { run_of_one }
+    ensures calls_of_three { calls_of_three }
+    ensures run_of_three { run_of_three }
+{}
+
+/// What the laws of file commands speak of is there: commands of one client, with a schedule in
+/// which its file is closed.
+pub fn files_are_closed()
+    ensures files { AreFiles one_client }
+    ensures schedule { IsSchedule (compiled one_client) journal_of_one }
+    ensures closed { closed_in_one }
+{}
