@@ -87,14 +87,14 @@ module _ (xs : List Access) (x : Access) (order : AreInOrder (xs ++ x ∷ [])) w
       record {
         kept = λ a. kept-more ys order i x at within (entry_at old.memory) (entry_at new.memory) kept written a ∙ ap (greatest_entry (is_write_at a)) whole;
         newer = λ n before.
-          let last : x.entry < n = subst (λ (y : Access). y.entry < n) (get_or-append_seam xs x [] x) (before i x within) in
-          All-weaker (λ (r : Run). r.entry < x.entry + 1) (λ (r : Run). r.entry < n) (λ r few. omega (arith, few, last)) new.memory newest;
+            let last : x.entry < n = subst (λ (y : Access). y.entry < n) (get_or-append_seam xs x [] x) (before i x within) in
+            All-weaker (λ (r : Run). r.entry < x.entry + 1) (λ (r : Run). r.entry < n) (λ r few. omega (arith, few, last)) new.memory newest;
         told =
-          appended
-          ∙ (ap (λ l. old.lines.items ++ cond x.write [] (line (read_line x l))) (found-here ys order i x at within (entry_at old.memory) kept)
-          ∙ (ap (λ bs. bs ++ cond x.write [] (line (read_line x (found_by ys x)))) (is.told ∙ (sym (earlier-told xs x past-before) ∙ ap (told_reads ys) (sym seam)))
-          ∙ (sym (told-more ys order i x at within)
-          ∙ ap (told_reads ys) whole)));
+            appended
+            ∙ (ap (λ l. old.lines.items ++ cond x.write [] (line (read_line x l))) (found-here ys order i x at within (entry_at old.memory) kept)
+            ∙ (ap (λ bs. bs ++ cond x.write [] (line (read_line x (found_by ys x)))) (is.told ∙ (sym (earlier-told xs x past-before) ∙ ap (told_reads ys) (sym seam)))
+            ∙ (sym (told-more ys order i x at within)
+            ∙ ap (told_reads ys) whole)));
       }
 
 -- the access of the next entry comes behind those of the past ones
@@ -110,9 +110,9 @@ accesses-next T valid past e runs =
     let told : List Entry → List Access = λ K. accesses T K ++ option_to_list (access_by T (world_after T K) n (transfer_of e)) in
     ap told (sym seam)
     ∙ (gather-more T valid J n e within (sym (get_or-append_seam past e [] e))
-        (subst (λ K. is_enabled T (world_after T K) e.event ≡ true) (sym seam) on.1)
-        (subst (λ K. e ≡ entry_of T (world_after T K) e.event) (sym seam) on.2)
-        (accesses T (take n J)) refl
+    (subst (λ K. is_enabled T (world_after T K) e.event ≡ true) (sym seam) on.1)
+    (subst (λ K. e ≡ entry_of T (world_after T K) e.event) (sym seam) on.2)
+    (accesses T (take n J)) refl
     ∙ ap (accesses T) whole)
 
 -- One entry more.

@@ -27,19 +27,16 @@ impl Account {
 
     /// Sees the world before the entry, which comes at that place. Takes no memory.
     pub fn before(&mut self, world: &World, place: u64, entry: &Entry)
-        ensures { self.new ≡ record self.old { next
-            = access_by world.now.setup world.now.world place (transfer_of_lem entry.now) } }
+        ensures { self.new ≡ record self.old {
+          next
+              = access_by world.now.setup world.now.world place (transfer_of_lem entry.now);
+        } }
     {
         self.next = access_at(world, place, entry);
     }
 
     /// Takes in what the entry behind the past ones reads or writes.
-    pub fn after(
-        &mut self,
-        setup: &Setup,
-        past: &[Entry],
-        entry: &Entry,
-    ) -> Result<(), OutOfMemory>
+    pub fn after(&mut self, setup: &Setup, past: &[Entry], entry: &Entry) -> Result<(), OutOfMemory>
         requires schedule { IsSchedule setup.now (past.now ++ entry.now ∷ []) }
         requires expected { IsAccountBefore setup.now past.now entry.now self.old }
         ensures { OnOk result

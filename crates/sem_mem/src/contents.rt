@@ -60,11 +60,7 @@ fn account_of(alloc: Global, setup: &Setup, entries: &[Entry]) -> Result<Account
 
 /// Appends the text that tells what memory holds after accesses by their account. After lack of
 /// memory a part may be there.
-pub fn push_contents(
-    alloc: Global,
-    out: &mut Vec<u8>,
-    account: &Account,
-) -> Result<(), OutOfMemory>
+pub fn push_contents(alloc: Global, out: &mut Vec<u8>, account: &Account) -> Result<(), OutOfMemory>
     ensures { OnOk result ((xs : List AccessData) (n : ℕ) → IsAccount xs account.now
         → AreBefore n xs → out.new.items ≡ out.old.items ++ text (access_lines xs n)) }
 {

@@ -9,8 +9,8 @@ ghost use Rattle.sem_query.specs.Whereabouts.{holder as holder_lem};
 ghost use Rattle.sem_query.specs.Changes.{grants_key};
 ghost use Rattle.sem_query.specs.Sightings.{IsSeen, IsReadied, is_key as is_key_lem, is_vpe as is_vpe_lem, is_root as is_root_lem, moves_at_home as moves_at_home_lem, may_move as may_move_lem};
 
-use crate::holder::Holder;
 use crate::entries::{brought_key, is_revoking, requested, resumed};
+use crate::holder::Holder;
 use crate::sighting::Sighting;
 use crate::sights::{held_selector, is_held_at, is_ready_at, see, see_granted};
 use sem_grants::ended_by;
@@ -127,8 +127,7 @@ fn moves_at_home(world: &World, entry: &Entry, key: Key) -> bool
 fn is_root(entry: &Entry, key: Key) -> bool
     ensures { result ≡ is_root_lem key entry.now }
 {
-    is_key(key, entry.cut)
-        || (is_key(key, requested(entry)) || is_vpe(key.vpe, ended_by(entry)))
+    is_key(key, entry.cut) || (is_key(key, requested(entry)) || is_vpe(key.vpe, ended_by(entry)))
 }
 
 // Whether the option is that key.
