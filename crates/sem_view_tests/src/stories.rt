@@ -24,14 +24,14 @@ fn a_root_lives_on_after_a_clear(rt: HostRuntime) -> Result<(), Fail> {
 0.0.1.0  memory, 4096 bytes from 0, rwx; of v0 of K0; a root
 
   entry
-  start  |  declared as a root, at selector 0  root 0 0 mem 0 4096 7
-      1  |  2.2.1.0 made from it, for v2       0 upcall 0 2 yes grant 0.0.1.0 2.2.1.0
-      7  |  3.3.1.0 made from it, for v3       0 upcall 0 3 yes grant 0.0.1.0 3.3.1.0
-     12  |  bound to endpoint 0                0 call 0 0 bind 0 0 reply 0 0
-     17  #  unbound from endpoint 0            0 call 0 3 clear 0 cut 0.0.1.0
-     17  #  marked by job 0 of K0              0 call 0 3 clear 0 cut 0.0.1.0
-     25  |  unmarked: the clear has ended      0 handle 1 revoke-done 0
-     29  |  bound to endpoint 0                0 call 0 6 bind 0 0 reply 0 0
+  start  |  declared as a root, at selector 0         root 0 0 mem 0 4096 7
+      1  |  2.2.1.0 made from it, for v2              0 upcall 0 2 yes grant 0.0.1.0 2.2.1.0
+      7  |  3.3.1.0 made from it, for v3              0 upcall 0 3 yes grant 0.0.1.0 3.3.1.0
+     12  |  bound to endpoint 0                       0 call 0 0 bind 0 0 reply 0 0
+     17  #  unbound from endpoint 0                   0 call 0 3 clear 0 cut 0.0.1.0
+     17  #  marked by job 0 of K0                     0 call 0 3 clear 0 cut 0.0.1.0
+     25  |  not marked any more: the clear has ended  0 handle 1 revoke-done 0
+     29  |  bound to endpoint 0                       0 call 0 6 bind 0 0 reply 0 0
 ";
     assert_eq!(rt; answer.out.as_str(), wanted);
     assert!(rt; answer.ending == Ending::Done);

@@ -94,7 +94,7 @@ fn key(alloc: Global, matches: &ArgMatches<'_>) -> Result<Key, Error> {
     let text = format!(in alloc;
         "invalid value '{word}' for '<{KEY}>': wanted is a key, as 0.0.1.0"
     )?;
-    let mut command = story(alloc)?.bin_name("semper-view story")?;
+    let mut command = story(alloc)?;
     Err(command.error(ErrorKind::ValueValidation, text.as_str())?)
 }
 
