@@ -20,7 +20,7 @@ use Rattle.sem_machine.specs.Sound.{IsSound, kept, keeps_number, bit}
 use Rattle.sem_machine.specs.Machine.{World, side, next_call, is_locally_enabled}
 use Rattle.sem_machine.specs.Schedules.{IsSchedule, world_after}
 use Rattle.sem_revoke.proofs.AddressedWorlds.{vpe-local}
-use Rattle.sem_fs.specs.Compiled.{SERVER}
+use Rattle.sem_files.specs.Compiled.{SERVER}
 use Rattle.sem_fs.specs.Service.{GIVEN, IsService}
 use Rattle.sem_fs.specs.Serving.{IsServedWorld}
 use Rattle.sem_fs.specs.Openings.{is_call_of, call_count}

@@ -22,7 +22,7 @@ use Rattle.sem_machine.specs.Machine.{World, side, start, next_call, is_locally_
 use Rattle.sem_machine.specs.Schedules.{IsSchedule, world_after}
 use Rattle.sem_sound.proofs.Named.{kernel-decl}
 use Rattle.sem_revoke.proofs.Serving.{enabled-call}
-use Rattle.sem_fs.specs.Compiled.{SERVER}
+use Rattle.sem_files.specs.Compiled.{SERVER}
 use Rattle.sem_fs.specs.Service.{IsService}
 use Rattle.sem_fs.specs.Serving.{IsServed, IsAskBy, IsMessageBy, IsSideBy, IsWorldBy, IsServedWorld}
 use Rattle.sem_fs.specs.Holding.{home}

@@ -33,7 +33,7 @@ use Rattle.sem_machine.specs.Journals.{grants}
 use Rattle.sem_sound.proofs.Jobbing.{same-id}
 use Rattle.sem_revoke.proofs.Keeping.{cases_Option}
 use Rattle.sem_revoke.proofs.Served.{keepers-waited_for}
-use Rattle.sem_fs.specs.Compiled.{SERVER, SESSION, ACCESS}
+use Rattle.sem_files.specs.Compiled.{SERVER, SESSION, ACCESS}
 use Rattle.sem_fs.specs.Service.{GIVEN, IsService, holds}
 use Rattle.sem_fs.specs.Serving.{IsServedWorld}
 use Rattle.sem_fs.specs.Holding.{home, calls_made, Holds, IsHolding}

@@ -50,7 +50,7 @@ use Rattle.sem_safety.proofs.Skeleton.{decided-by, handled-by}
 use Rattle.sem_revoke.proofs.Growing.{is_plain}
 use Rattle.sem_revoke.proofs.Steady.{IsSteady, revoked-steady, requested-steady, done-steady}
 use Rattle.sem_fs.specs.Service.{GIVEN, gives_where, IsInOrder, is_ask}
-use Rattle.sem_fs.specs.Compiled.{SESSION}
+use Rattle.sem_files.specs.Compiled.{SESSION}
 use Rattle.sem_fs.specs.Serving.{IsServedAsk, IsServedSide}
 use Rattle.sem_fs.proofs.ServedSteps.{ask-among}
 use Rattle.sem_fs.proofs.Claims.{IsClaim, of_message, of_messages, of_inbox, of_side, of_rows, of_row, of_ask, taken, remaining, sum_to-less, drawn-le, slot-le, takes-le, asked-le, taken-le, send-le}

@@ -24,7 +24,7 @@ use Rattle.sem_machine.specs.Machine.{World, start, side, next_call, after}
 use Rattle.sem_machine.specs.Schedules.{IsSchedule, world_after}
 use Rattle.sem_fs.proofs.Unending.{entered}
 use Rattle.sem_sound.proofs.Scheduling.{schedule-sound}
-use Rattle.sem_fs.specs.Compiled.{SERVER}
+use Rattle.sem_files.specs.Compiled.{SERVER}
 use Rattle.sem_fs.specs.Service.{GIVEN, IsService, any, is_ask, draws, gives, numbers_wanted, times_given}
 use Rattle.sem_fs.specs.Holding.{home}
 use Rattle.sem_fs.specs.Supplies.{HasRoom, HasRooms}

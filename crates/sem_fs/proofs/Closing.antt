@@ -28,7 +28,7 @@ use Rattle.sem_safety.proofs.GoingOn.{run-prefix}
 use Rattle.sem_safety.proofs.Noted.{history-grants}
 use Rattle.sem_revoke.proofs.Completing.{told-free, told-parked}
 use Rattle.sem_revoke.proofs.Serving.{enabled-call}
-use Rattle.sem_fs.specs.Compiled.{SERVER}
+use Rattle.sem_files.specs.Compiled.{SERVER}
 use Rattle.sem_fs.specs.Service.{GIVEN, IsService}
 use Rattle.sem_fs.specs.Openings.{is_call_of, call_count, IsGrantedTo}
 use Rattle.sem_fs.specs.Holding.{home, Holds}

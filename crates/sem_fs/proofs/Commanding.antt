@@ -14,8 +14,8 @@ use Rattle.sem_msg.specs.declared.setup.VpeDecl.{VpeDecl}
 use Rattle.sem_msg.specs.Calls.{IsValidCall}
 use Rattle.sem_msg.specs.Setup.{Setup}
 use Rattle.sem_msg.specs.Lookups.{is_declared, offered}
-use Rattle.sem_fs.specs.Files.{Files, EXTENT, is_file, is_client, extents_of}
-use Rattle.sem_fs.specs.Compiled.{SERVER, SESSION, ACCESS, extent_number, extent_root, opened_at, given_at, part_begin, part_end, part_accessed, greater, less, rising_clients, extents, root_of_extent, offer_of_extent, service_key, server, client, compiled, AreFiles}
+use Rattle.sem_files.specs.Files.{Files, EXTENT, is_file, is_client, extents_of}
+use Rattle.sem_files.specs.Compiled.{SERVER, SESSION, ACCESS, extent_number, extent_root, opened_at, given_at, part_begin, part_end, part_accessed, greater, less, rising_clients, extents, root_of_extent, offer_of_extent, service_key, server, client, compiled, AreFiles}
 use Rattle.sem_fs.specs.Service.{GIVEN, holds, holds_after, IsExtent, IsInOrder}
 use Rattle.sem_fs.proofs.Rising.{Less, pairs-head, pairs-tail, declared-client, extent-in, extent-near}
 use Rattle.sem_fs.proofs.CompiledSetups.{vpes-are, server-declared}

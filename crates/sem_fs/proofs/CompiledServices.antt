@@ -12,9 +12,9 @@ use Rattle.sem_msg.specs.declared.setup.VpeDecl.{VpeDecl}
 use Rattle.sem_msg.specs.Setup.{Setup}
 use Rattle.sem_msg.specs.Lookups.{calls_of}
 use Rattle.sem_safety.proofs.LiveWorlds.{sum-of_map}
-use Rattle.sem_fs.specs.declared.files.Command.{Command}
-use Rattle.sem_fs.specs.Files.{Files, open_count}
-use Rattle.sem_fs.specs.Compiled.{SERVER, SESSION, rising_clients, server, client, calls_from, client_calls, compiled, AreFiles}
+use Rattle.sem_files.specs.declared.files.Command.{Command}
+use Rattle.sem_files.specs.Files.{Files, open_count}
+use Rattle.sem_files.specs.Compiled.{SERVER, SESSION, rising_clients, server, client, calls_from, client_calls, compiled, AreFiles}
 use Rattle.sem_fs.specs.Service.{GIVEN, IsInOrder, gives_where, gives, is_ask, any, numbers_wanted, times_given, IsService}
 use Rattle.sem_fs.proofs.ClaimStarts.{sum-le-among}
 use Rattle.sem_fs.proofs.Rising.{clients-rise}

@@ -24,8 +24,8 @@ use Rattle.sem_msg.specs.Setup.{Setup, IsSetup, IsVpeDecl, IsRoot, IsOffer, Come
 use Rattle.sem_msg.specs.Lookups.{decl, calls_of, service_named}
 use Rattle.sem_machine.specs.Journals.{root_keys, root_keys_from}
 use Rattle.sem_safety.proofs.LiveWorlds.{sum-of_map}
-use Rattle.sem_fs.specs.Files.{Files, is_client}
-use Rattle.sem_fs.specs.Compiled.{SERVER, below, rising_clients, extents, service_root, root_of_extent, offer_of_extent, service_key, server, client, client_calls, owner_of_pe, compiled, AreFiles}
+use Rattle.sem_files.specs.Files.{Files, is_client}
+use Rattle.sem_files.specs.Compiled.{SERVER, below, rising_clients, extents, service_root, root_of_extent, offer_of_extent, service_key, server, client, client_calls, owner_of_pe, compiled, AreFiles}
 use Rattle.sem_fs.specs.Service.{IsWhole}
 use Rattle.sem_fs.proofs.Rising.{all-of, clients-rise, client-near, declared-client, extents-rise, extent-near}
 

@@ -56,7 +56,7 @@ use Rattle.sem_revoke.proofs.AddressedWorlds.{vpe-local}
 use Rattle.sem_revoke.proofs.Revoking.{enabled-parts}
 use Rattle.sem_revoke.proofs.Readying.{enabled-low}
 use Rattle.sem_revoke.proofs.Serving.{enabled-call}
-use Rattle.sem_fs.specs.Compiled.{SERVER, service_key}
+use Rattle.sem_files.specs.Compiled.{SERVER, service_key}
 use Rattle.sem_fs.specs.Service.{IsService}
 use Rattle.sem_fs.specs.Serving.{IsServed, IsServedAsk, IsServedCall, IsServedWorld}
 use Rattle.sem_fs.specs.Holding.{home, IsGiven, Offers}

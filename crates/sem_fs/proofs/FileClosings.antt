@@ -16,11 +16,11 @@ use Rattle.sem_machine.specs.Journals.{Descends, answered}
 use Rattle.sem_machine.specs.Living.{reply_count}
 use Rattle.sem_machine.specs.Safety.{IsInUse}
 use Rattle.sem_revoke.proofs.Serving.{all-gone}
-use Rattle.sem_fs.specs.declared.files.FileAct.{FileAct}
-use Rattle.sem_fs.specs.declared.files.FileAct.TheVariants.{OpenFile, Read, Write, Share, Close}
-use Rattle.sem_fs.specs.declared.files.Command.{Command}
-use Rattle.sem_fs.specs.Files.{Files, EXTENT, extents_of, handle_of, open_after, is_about, open_file, file_of, is_opening, IsAct, IsCommand}
-use Rattle.sem_fs.specs.Compiled.{SESSION, ACCESS, extent_number, opened_at, given_at, part_begin, part_end, part_accessed, below, calls_of_act, calls_of_command, calls_from, compiled, AreFiles}
+use Rattle.sem_files.specs.declared.files.FileAct.{FileAct}
+use Rattle.sem_files.specs.declared.files.FileAct.TheVariants.{OpenFile, Read, Write, Share, Close}
+use Rattle.sem_files.specs.declared.files.Command.{Command}
+use Rattle.sem_files.specs.Files.{Files, EXTENT, extents_of, handle_of, open_after, is_about, open_file, file_of, is_opening, IsAct, IsCommand}
+use Rattle.sem_files.specs.Compiled.{SESSION, ACCESS, extent_number, opened_at, given_at, part_begin, part_end, part_accessed, below, calls_of_act, calls_of_command, calls_from, compiled, AreFiles}
 use Rattle.sem_fs.specs.Openings.{Opening, opening_command, IsKeyOf, Closing, IsClosed, calls_before, calls_before_closing}
 use Rattle.sem_fs.proofs.Rising.{in-range, few-extents, declared-client}
 use Rattle.sem_fs.proofs.CompiledServices.{is-service, client-calls-so}

@@ -53,7 +53,7 @@ use Rattle.sem_revoke.proofs.AddressedWorlds.{vpe-local}
 use Rattle.sem_revoke.proofs.Asking.{asks-awaited}
 use Rattle.sem_revoke.proofs.Revoking.{more-grants, shown}
 use Rattle.sem_revoke.proofs.Serving.{tells}
-use Rattle.sem_fs.specs.Compiled.{SERVER}
+use Rattle.sem_files.specs.Compiled.{SERVER}
 use Rattle.sem_fs.specs.Service.{IsService, IsInOrder}
 use Rattle.sem_fs.specs.Serving.{IsServedWorld, IsWorldBy}
 use Rattle.sem_fs.specs.Openings.{IsGrantedTo, call_count}

@@ -41,7 +41,7 @@ use Rattle.sem_revoke.proofs.Readying.{enabled-low}
 use Rattle.sem_revoke.proofs.Revoking.{enabled-parts, more-grants}
 use Rattle.sem_revoke.proofs.Serving.{tells, fold-push, enabled-call, enabled-resume}
 use Rattle.sem_sound.proofs.Scheduling.{schedule-sound}
-use Rattle.sem_fs.specs.Compiled.{SERVER, SESSION}
+use Rattle.sem_files.specs.Compiled.{SERVER, SESSION}
 use Rattle.sem_fs.specs.Service.{GIVEN, IsService, IsInOrder, holds, holds_after}
 use Rattle.sem_fs.specs.Serving.{IsServedWorld}
 use Rattle.sem_fs.specs.Holding.{home, calls_made, IsGiven, Holds, Lacks, Awaits, Offers, IsHeldExtent, IsHolding}

@@ -40,8 +40,8 @@ use Rattle.sem_safety.proofs.SoundWorlds.{all-endpoints}
 use Rattle.sem_sound.proofs.Scheduling.{schedule-sound}
 use Rattle.sem_revoke.proofs.Completing.{told-free}
 use Rattle.sem_revoke.proofs.ExchangeWorlds.{start-unparked}
-use Rattle.sem_fs.specs.Files.{EXTENT}
-use Rattle.sem_fs.specs.Compiled.{SERVER, SESSION, ACCESS, service_key}
+use Rattle.sem_files.specs.Files.{EXTENT}
+use Rattle.sem_files.specs.Compiled.{SERVER, SESSION, ACCESS, service_key}
 use Rattle.sem_fs.specs.Service.{GIVEN, IsWhole, IsAccess, IsService, IsInOrder, holds}
 use Rattle.sem_fs.specs.Serving.{IsWorldBy}
 use Rattle.sem_fs.specs.Holding.{home, calls_made, IsGiven}

@@ -47,3 +47,8 @@ mod Answering
 mod Closing
 mod FileClosings
 mod OneClient
+mod SharedFile
+mod Growing
+mod AllExtents
+mod ClientCalls
+mod CompiledParts

@@ -11,11 +11,11 @@ use Rattle.std.proofs.lemmas.List.FromFn.{length-range_with_len}
 use Rattle.sem_key.proofs.Members.{Contains-nil, Contains-cons_cases, Contains-from_map}
 use Rattle.sem_msg.specs.declared.call.Call.{Call}
 use Rattle.sem_msg.specs.declared.call.Call.TheVariants.{Delegate, AskOffer, Revoke, Bind, Read as ReadCall, Write as WriteCall}
-use Rattle.sem_fs.specs.declared.files.FileAct.{FileAct}
-use Rattle.sem_fs.specs.declared.files.FileAct.TheVariants.{OpenFile, Read, Write, Share, Close}
-use Rattle.sem_fs.specs.declared.files.Command.{Command}
-use Rattle.sem_fs.specs.Files.{Files, EXTENT, is_client, extents_of, file_of, is_opening, open_count, gives, is_used, IsAct, IsCommand}
-use Rattle.sem_fs.specs.Compiled.{SERVER, SESSION, ACCESS, extent_number, opened_at, given_at, part_begin, part_end, part_accessed, below, calls_of_act, calls_of_command, AreFiles}
+use Rattle.sem_files.specs.declared.files.FileAct.{FileAct}
+use Rattle.sem_files.specs.declared.files.FileAct.TheVariants.{OpenFile, Read, Write, Share, Close}
+use Rattle.sem_files.specs.declared.files.Command.{Command}
+use Rattle.sem_files.specs.Files.{Files, EXTENT, is_client, extents_of, file_of, is_opening, open_count, gives, is_used, IsAct, IsCommand}
+use Rattle.sem_files.specs.Compiled.{SERVER, SESSION, ACCESS, extent_number, opened_at, given_at, part_begin, part_end, part_accessed, below, calls_of_act, calls_of_command, AreFiles}
 use Rattle.sem_fs.specs.Service.{GIVEN, gives_where, is_ask, any}
 use Rattle.sem_fs.proofs.Rising.{Less, pairs-head, pairs-tail, in-range, range-in, range-rises, few-extents, declared-client}
 use Rattle.sem_fs.proofs.Tallies.{tally, tally-append, tally-cons, tally-none, tally-most, sum-none}

@@ -17,11 +17,11 @@ use Rattle.sem_machine.specs.Resumes.{resume_row}
 use Rattle.sem_machine.specs.Machine.{World, start_side, start, local_step, local_entry, is_locally_enabled, is_enabled, all_events, enabled, after, entry_of}
 use Rattle.sem_machine.specs.Schedules.{IsRun, IsSchedule}
 use Rattle.sem_machine.specs.Living.{reply_count}
-use Rattle.sem_fs.specs.declared.files.FileDecl.{FileDecl}
-use Rattle.sem_fs.specs.declared.files.FileAct.TheVariants.{OpenFile, Write, Close}
-use Rattle.sem_fs.specs.declared.files.Command.{Command}
-use Rattle.sem_fs.specs.Files.{is_about, IsCommand}
-use Rattle.sem_fs.specs.Compiled.{calls_from, extents, compiled, AreFiles}
+use Rattle.sem_files.specs.declared.files.FileDecl.{FileDecl}
+use Rattle.sem_files.specs.declared.files.FileAct.TheVariants.{OpenFile, Write, Close}
+use Rattle.sem_files.specs.declared.files.Command.{Command}
+use Rattle.sem_files.specs.Files.{is_about, IsCommand}
+use Rattle.sem_files.specs.Compiled.{calls_from, extents, compiled, AreFiles}
 use Rattle.sem_fs.specs.Openings.{Opening}
 use Rattle.sem_fs.specs.Examples.{one_client, first_run, journal_of_one, closed_in_one}
 

@@ -9,11 +9,11 @@ use Rattle.sem_msg.specs.declared.call.Call.{Call}
 use Rattle.sem_msg.specs.declared.call.Call.TheVariants.{Delegate, OpenSession, Bind, Read as ReadCall, Write as WriteCall}
 use Rattle.sem_msg.specs.Calls.{IsValidCall}
 use Rattle.sem_msg.specs.Setup.{Setup}
-use Rattle.sem_fs.specs.declared.files.FileAct.{FileAct}
-use Rattle.sem_fs.specs.declared.files.FileAct.TheVariants.{OpenFile, Read, Write, Share, Close}
-use Rattle.sem_fs.specs.declared.files.Command.{Command}
-use Rattle.sem_fs.specs.Files.{Files, EXTENT, is_file, extents_of, handle_of, open_after, is_about, open_file, file_of, IsHandle, IsAct, IsCommand}
-use Rattle.sem_fs.specs.Compiled.{SESSION, ACCESS, opened_at, given_at, part_accessed, below, calls_of_act, calls_of_command, calls_from, client_calls, compiled, AreFiles}
+use Rattle.sem_files.specs.declared.files.FileAct.{FileAct}
+use Rattle.sem_files.specs.declared.files.FileAct.TheVariants.{OpenFile, Read, Write, Share, Close}
+use Rattle.sem_files.specs.declared.files.Command.{Command}
+use Rattle.sem_files.specs.Files.{Files, EXTENT, is_file, extents_of, handle_of, open_after, is_about, open_file, file_of, IsHandle, IsAct, IsCommand}
+use Rattle.sem_files.specs.Compiled.{SESSION, ACCESS, opened_at, given_at, part_accessed, below, calls_of_act, calls_of_command, calls_from, client_calls, compiled, AreFiles}
 use Rattle.sem_fs.specs.Service.{holds, holds_after, IsInOrder}
 use Rattle.sem_fs.proofs.Rising.{in-range, range-in, range-rises, few-extents, file-near}
 use Rattle.sem_fs.proofs.Commanding.{Goes, AllGo, go-nil, go-cons, go-append, each-goes, all-valid, holds-append, holds-quiet, IsQuiet, asks, revokes, asks-apart, asks-hold, revokes-apart, revokes-free, asks-go, revokes-go, shares-go, accesses-go, accesses-quiet}

@@ -31,7 +31,7 @@ use Rattle.sem_machine.specs.Asks.{target_vpe}
 use Rattle.sem_machine.specs.Calls.{call_row, next_place, ask_made, offer_made, open_tests, offer_tests, delegate_tests, bind_tests, session_service, with_held}
 use Rattle.sem_machine.specs.Revokes.{revoke_begun}
 use Rattle.sem_revoke.proofs.Waits.{parked-here}
-use Rattle.sem_fs.specs.Compiled.{service_key}
+use Rattle.sem_files.specs.Compiled.{service_key}
 use Rattle.sem_fs.proofs.ServedSteps.{passed-done, CallPasses}
 use Rattle.sem_fs.proofs.Still.{Still, still-asked, still-send, still-begin}
 

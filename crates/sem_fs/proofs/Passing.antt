@@ -32,7 +32,7 @@ use Rattle.sem_machine.specs.Calls.{is_local_dead, destination_tests, offer_test
 use Rattle.sem_machine.specs.Machine.{World, side, next_call}
 use Rattle.sem_machine.specs.Schedules.{IsSchedule, world_after}
 use Rattle.sem_machine.proofs.FirstCodes.{Passed}
-use Rattle.sem_fs.specs.Compiled.{SERVER, SESSION, service_key}
+use Rattle.sem_files.specs.Compiled.{SERVER, SESSION, service_key}
 use Rattle.sem_fs.specs.Service.{GIVEN, IsService, IsInOrder, holds}
 use Rattle.sem_fs.specs.Holding.{home, calls_made, IsGiven, IsHolding}
 use Rattle.sem_fs.specs.Supplies.{IsSupplied}

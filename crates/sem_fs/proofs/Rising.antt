@@ -6,9 +6,9 @@ use Rattle.std.proofs.lemmas.Bool.{cases_eq, cases_lt, eqb-true}
 use Rattle.std.proofs.lemmas.List.Elements.{All-contains, Contains-append_cases}
 use Rattle.std.proofs.lemmas.List.Kept.{AllPairs-cons, AllPairs-filter}
 use Rattle.sem_key.proofs.Members.{Contains-nil, Contains-head, Contains-tail, Contains-cons_cases, Contains-filter, Contains-from_filter, Contains-map, Contains-from_map, Contains-flat_map, Contains-from_flat_map, found, list_any-some, AllPairs-map}
-use Rattle.sem_fs.specs.declared.files.FileDecl.{FileDecl}
-use Rattle.sem_fs.specs.Files.{Files, is_file, is_client, extents_of}
-use Rattle.sem_fs.specs.Compiled.{extent_number, below, rising_files, rising_clients, extents, AreFiles}
+use Rattle.sem_files.specs.declared.files.FileDecl.{FileDecl}
+use Rattle.sem_files.specs.Files.{Files, is_file, is_client, extents_of}
+use Rattle.sem_files.specs.Compiled.{extent_number, below, rising_files, rising_clients, extents, AreFiles}
 
 -- Pairs of a list.
 

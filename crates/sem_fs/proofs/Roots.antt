@@ -21,7 +21,7 @@ use Rattle.sem_revoke.specs.Revocation.{IsDoomed}
 use Rattle.sem_revoke.proofs.Dooming.{mark-doomed}
 use Rattle.sem_revoke.proofs.Lasting.{held-lasts}
 use Rattle.sem_revoke.proofs.Served.{keepers-waited_for}
-use Rattle.sem_fs.specs.Compiled.{SERVER}
+use Rattle.sem_files.specs.Compiled.{SERVER}
 use Rattle.sem_fs.specs.Service.{IsService}
 use Rattle.sem_fs.specs.Holding.{home}
 use Rattle.sem_fs.proofs.Unending.{no-end}

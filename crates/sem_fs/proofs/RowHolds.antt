@@ -12,7 +12,7 @@ use Rattle.sem_machine.specs.Handles.{handle_row}
 use Rattle.sem_machine.specs.Resumes.{resume_row}
 use Rattle.sem_machine.specs.Machine.{start_side, start, local_step, local_entry, is_locally_enabled, is_enabled, enabled, after, entry_of}
 use Rattle.sem_machine.specs.Journals.{root_keys_from, line_in, cut_from}
-use Rattle.sem_fs.specs.Compiled.{calls_from, extents, compiled}
+use Rattle.sem_files.specs.Compiled.{calls_from, extents, compiled}
 use Rattle.sem_fs.specs.Examples.{one_client, three_clients, first_run, calls_of_one, run_of_one, calls_of_three, run_of_three}
 
 pub one-calls : calls_of_one

@@ -42,7 +42,7 @@ use Rattle.sem_machine.specs.Journals.{root_keys}
 use Rattle.sem_revoke.proofs.Growing.{is_plain}
 use Rattle.sem_revoke.proofs.Steady.{IsSteady, revoked-steady, requested-steady, done-steady}
 use Rattle.sem_revoke.proofs.Waits.{parked-here, parked-other}
-use Rattle.sem_fs.specs.Compiled.{SERVER}
+use Rattle.sem_files.specs.Compiled.{SERVER}
 use Rattle.sem_fs.specs.Service.{GIVEN}
 use Rattle.sem_fs.specs.Serving.{IsServed, IsAskBy, IsMessageBy, IsServedCall, IsSideBy}
 

@@ -38,7 +38,7 @@ use Rattle.sem_machine.specs.Journals.{root_keys}
 use Rattle.sem_machine.specs.Machine.{next_call, local_step}
 use Rattle.sem_machine.proofs.FirstCodes.{Passed}
 use Rattle.sem_machine.proofs.Folds.{option-keeps}
-use Rattle.sem_fs.specs.Compiled.{service_key}
+use Rattle.sem_files.specs.Compiled.{service_key}
 use Rattle.sem_fs.specs.Service.{GIVEN}
 use Rattle.sem_fs.specs.Serving.{IsServed, IsAskBy, IsMessageBy, IsSideBy}
 use Rattle.sem_fs.proofs.ServedRows.{Succeeds, IsGrantable, IsReceived, served-counted, served-taken, served-inbox, ask-served, offer-served, revoke-served, given-served, here-served, prepared-served, resume-served, handled-served}

@@ -37,7 +37,7 @@ use Rattle.sem_sound.proofs.Scheduling.{schedule-sound}
 use Rattle.sem_revoke.proofs.Readying.{schedule-past}
 use Rattle.sem_revoke.proofs.Completing.{told-parked}
 use Rattle.sem_revoke.proofs.Dying.{dead-ended}
-use Rattle.sem_fs.specs.Compiled.{SERVER}
+use Rattle.sem_files.specs.Compiled.{SERVER}
 use Rattle.sem_fs.specs.Service.{IsService}
 use Rattle.sem_fs.proofs.Unending.{no-end}
 

@@ -8,7 +8,7 @@ use Rattle.std.proofs.lemmas.List.FromFn.{get_or-map-range_with_len}
 use Rattle.sem_key.specs.declared.key.Kind.TheVariants.{Mem as MemKind}
 use Rattle.sem_key.specs.declared.limits.TheConstants.{RIGHTS}
 use Rattle.sem_key.specs.declared.object.Object.TheVariants.{Mem}
-use Rattle.sem_fs.specs.Files.{EXTENT}
+use Rattle.sem_files.specs.Files.{EXTENT}
 use Rattle.sem_key.specs.KeyName.{KeyName}
 use Rattle.sem_key.specs.Capability.{Capability}
 use Rattle.sem_key.specs.CapList.{fresh}
@@ -35,7 +35,7 @@ use Rattle.sem_safety.proofs.CarryingWorlds.{used-made}
 use Rattle.sem_revoke.proofs.Completing.{told-free}
 use Rattle.sem_revoke.proofs.ExchangeWorlds.{start-unparked}
 use Rattle.sem_sound.proofs.Holding.{with_cap-has, with_cap-keeps}
-use Rattle.sem_fs.specs.Compiled.{SERVER}
+use Rattle.sem_files.specs.Compiled.{SERVER}
 use Rattle.sem_fs.specs.Service.{GIVEN, IsService, IsExtent, holds}
 use Rattle.sem_fs.specs.Serving.{IsServedSide, Served}
 use Rattle.sem_fs.specs.Holding.{home, calls_made, IsHolding, Offers}

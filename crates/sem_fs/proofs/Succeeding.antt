@@ -16,7 +16,7 @@ use Rattle.sem_machine.specs.Sides.{row, slot}
 use Rattle.sem_machine.specs.Machine.{World, side, start, is_enabled, entry_of}
 use Rattle.sem_machine.specs.Schedules.{IsSchedule, world_after}
 use Rattle.sem_safety.proofs.GoingOn.{run-prefix}
-use Rattle.sem_fs.specs.Compiled.{SERVER}
+use Rattle.sem_files.specs.Compiled.{SERVER}
 use Rattle.sem_fs.specs.Service.{IsService, IsExtent}
 use Rattle.sem_fs.specs.Serving.{IsServedWorld, Served}
 use Rattle.sem_fs.specs.Holding.{home}

@@ -7,9 +7,9 @@ use Rattle.std.proofs.lemmas.List.Elements.{filter-append}
 use Rattle.std.proofs.lemmas.List.Sums.{sum_by-cons}
 use Rattle.sem_key.proofs.Members.{Contains-head, Contains-tail}
 use Rattle.sem_msg.specs.declared.call.Call.{Call}
-use Rattle.sem_fs.specs.declared.files.Command.{Command}
-use Rattle.sem_fs.specs.Files.{Files, IsCommand}
-use Rattle.sem_fs.specs.Compiled.{calls_of_command, calls_from, AreFiles}
+use Rattle.sem_files.specs.declared.files.Command.{Command}
+use Rattle.sem_files.specs.Files.{Files, IsCommand}
+use Rattle.sem_files.specs.Compiled.{calls_of_command, calls_from, AreFiles}
 use Rattle.sem_fs.proofs.Rising.{Less, pairs-head, pairs-tail}
 
 -- Counting in lists.

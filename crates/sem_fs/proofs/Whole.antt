@@ -39,7 +39,7 @@ use Rattle.sem_safety.proofs.Carrying.{AreFitting, InCap, InRow, InEndpoints, Br
 use Rattle.sem_safety.proofs.GoingOn.{AnyVpe, may_act}
 use Rattle.sem_safety.proofs.KeptRows.{CallGives}
 use Rattle.sem_safety.proofs.KeptSteps.{Dies, AskGives, ActGives}
-use Rattle.sem_fs.specs.Files.{EXTENT}
+use Rattle.sem_files.specs.Files.{EXTENT}
 use Rattle.sem_fs.specs.Service.{IsWhole, IsService, IsInOrder}
 use Rattle.sem_fs.specs.Serving.{IsServed, IsServedWorld}
 use Rattle.sem_fs.proofs.Lifting.{world-next}

@@ -12,9 +12,9 @@ use Rattle.sem_msg.specs.Journal.{replies}
 use Rattle.sem_machine.specs.Machine.{World, start, after, entry_of, enabled}
 use Rattle.sem_machine.specs.Schedules.{world_after}
 use Rattle.sem_machine.specs.Journals.{made, cut}
-use Rattle.sem_fs.specs.declared.files.FileAct.TheVariants.{OpenFile, Write, Share, Close}
-use Rattle.sem_fs.specs.Files.{Files}
-use Rattle.sem_fs.specs.Compiled.{client_calls, compiled}
+use Rattle.sem_files.specs.declared.files.FileAct.TheVariants.{OpenFile, Write, Share, Close}
+use Rattle.sem_files.specs.Files.{Files}
+use Rattle.sem_files.specs.Compiled.{client_calls, compiled}
 use Rattle.sem_fs.specs.Openings.{Opening, IsClosed}
 
 abbrev pub key : ℕ → ℕ → KeyName

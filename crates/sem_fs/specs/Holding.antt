@@ -14,7 +14,7 @@ use Rattle.sem_machine.specs.Sound.{kept}
 use Rattle.sem_machine.specs.Machine.{World, side}
 use Rattle.sem_machine.specs.Schedules.{world_after}
 use Rattle.sem_machine.specs.Journals.{grants, root_keys, cut_from}
-use Rattle.sem_fs.specs.Compiled.{SESSION}
+use Rattle.sem_files.specs.Compiled.{SESSION}
 use Rattle.sem_fs.specs.Service.{GIVEN, holds}
 
 -- the side of the kernel of a VPE, and the calls that the VPE has made

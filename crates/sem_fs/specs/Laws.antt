@@ -14,8 +14,8 @@ use Rattle.sem_machine.specs.Schedules.{IsSchedule, world_after}
 use Rattle.sem_machine.specs.Journals.{grants, root_keys, has_ended, Descends}
 use Rattle.sem_machine.specs.Living.{HoldsCap, InFlight, IsLive}
 use Rattle.sem_machine.specs.Safety.{IsInUse}
-use Rattle.sem_fs.specs.Files.{Files}
-use Rattle.sem_fs.specs.Compiled.{compiled, AreFiles}
+use Rattle.sem_files.specs.Files.{Files}
+use Rattle.sem_files.specs.Compiled.{compiled, AreFiles}
 use Rattle.sem_fs.specs.Openings.{Opening, IsKeyOf, IsClosed}
 use Rattle.sem_fs.specs.Service.{IsService}
 use Rattle.sem_fs.specs.Holding.{home}

@@ -1,7 +1,6 @@
-pub mod Files
-pub mod Compiled
 pub mod Openings
 pub mod Examples
+pub mod SharedFile
 pub mod Service
 pub mod Serving
 pub mod Holding
@@ -9,3 +8,8 @@ pub mod Drawings
 pub mod Supplies
 pub mod Going
 pub mod Laws
+pub mod Acts
+pub mod Extents
+pub mod Handling
+pub mod Clients
+pub mod Owning

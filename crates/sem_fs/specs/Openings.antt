@@ -8,10 +8,10 @@ use Rattle.sem_msg.specs.declared.entry.Consent.TheVariants.{Yes}
 use Rattle.sem_msg.specs.declared.entry.Detail.TheVariants.{Asked}
 use Rattle.sem_msg.specs.declared.entry.Entry.{Entry}
 use Rattle.sem_machine.specs.Living.{reply_count}
-use Rattle.sem_fs.specs.declared.files.FileAct.TheVariants.{OpenFile, Close}
-use Rattle.sem_fs.specs.declared.files.Command.{Command}
-use Rattle.sem_fs.specs.Files.{Files, extents_of, is_about}
-use Rattle.sem_fs.specs.Compiled.{calls_from}
+use Rattle.sem_files.specs.declared.files.FileAct.TheVariants.{OpenFile, Close}
+use Rattle.sem_files.specs.declared.files.Command.{Command}
+use Rattle.sem_files.specs.Files.{Files, extents_of, is_about}
+use Rattle.sem_files.specs.Compiled.{calls_from}
 
 -- Calls of a VPE by number, counted from 0.
 

@@ -12,8 +12,8 @@ use Rattle.sem_msg.specs.declared.setup.VpeDecl.{VpeDecl}
 use Rattle.sem_msg.specs.Setup.{Setup, IsSetup}
 use Rattle.sem_msg.specs.Lookups.{decl, calls_of, is_declared, service_named, offered}
 use Rattle.sem_machine.specs.Journals.{root_keys}
-use Rattle.sem_fs.specs.Files.{EXTENT}
-use Rattle.sem_fs.specs.Compiled.{SERVER, SESSION, ACCESS, service_key}
+use Rattle.sem_files.specs.Files.{EXTENT}
+use Rattle.sem_files.specs.Compiled.{SERVER, SESSION, ACCESS, service_key}
 
 -- Selectors. Below this number a client holds what it asked for, from it on what it was given.
 abbrev pub GIVEN : ℕ

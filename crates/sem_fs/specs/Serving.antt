@@ -16,7 +16,7 @@ use Rattle.sem_msg.specs.Lookups.{offered}
 use Rattle.sem_machine.specs.Journals.{root_keys}
 use Rattle.sem_machine.specs.Machine.{World, side, link}
 use Rattle.sem_machine.specs.Sides.{Side, row, parked, outbox}
-use Rattle.sem_fs.specs.Compiled.{SERVER, service_key}
+use Rattle.sem_files.specs.Compiled.{SERVER, service_key}
 use Rattle.sem_fs.specs.Service.{GIVEN, IsExtent}
 
 -- what a client may ask for: a session, or an extent

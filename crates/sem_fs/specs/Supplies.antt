@@ -20,7 +20,7 @@ use Rattle.sem_machine.specs.Calls.{session_service, stays_at_home}
 use Rattle.sem_machine.specs.Machine.{World, next_call}
 use Rattle.sem_machine.specs.Schedules.{world_after}
 use Rattle.sem_machine.specs.Steps.{first_code}
-use Rattle.sem_fs.specs.Compiled.{SERVER, SESSION, service_key}
+use Rattle.sem_files.specs.Compiled.{SERVER, SESSION, service_key}
 use Rattle.sem_fs.specs.Service.{GIVEN, IsExtent, is_ask}
 use Rattle.sem_machine.specs.Journals.{root_keys, cut_from}
 use Rattle.sem_key.specs.declared.key.Kind.TheVariants.{Mem as MemKind}

@@ -1,5 +1,5 @@
-ghost use Rattle.sem_fs.specs.Files.{Files};
-ghost use Rattle.sem_fs.specs.Compiled.{compiled, AreFiles};
+ghost use Rattle.sem_files.specs.Files.{Files};
+ghost use Rattle.sem_files.specs.Compiled.{compiled, AreFiles};
 ghost use Rattle.sem_fs.specs.Service.{IsService};
 ghost use Rattle.sem_fs.specs.Laws.{OfFiles, commands_succeed, closed_are_gone};
 

@@ -1,13 +1,19 @@
-//! A file service over sessions: what is commanded, the setup that it is compiled to, and the
-//! laws of its schedules.
+//! A file service over sessions: file commands are compiled to it, and the laws of its schedules.
 #![tactic(auto)]
 
+mod acts;
+mod calls;
 mod commands;
-mod files;
+mod lookups;
+mod places;
 mod runs;
+mod servers;
 mod services;
+mod setups;
+#[cfg(test)]
+mod tests;
 
 pub use commands::{commands_make_services, files_closed, files_succeed};
-pub use files::{Command, FileAct, FileDecl};
-pub use runs::{files_are_closed, files_run};
+pub use runs::{a_share_meets_its_close, files_are_closed, files_run};
 pub use services::{clients_revoke_their_own, services_go_on};
+pub use setups::compile;

@@ -1,4 +1,4 @@
-use Rattle.sem_fs.specs.Compiled.{compiled}
+use Rattle.sem_files.specs.Compiled.{compiled}
 use Rattle.sem_fs.proofs.CompiledServices.{is-service}
 use Rattle.sem_fs.proofs.Serving.{all-succeed}
 use Rattle.sem_fs.proofs.commands.files_succeed.Goals as goal

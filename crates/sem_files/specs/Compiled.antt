@@ -12,10 +12,10 @@ use Rattle.sem_msg.specs.declared.setup.Root.{Root}
 use Rattle.sem_msg.specs.declared.setup.Offer.{Offer}
 use Rattle.sem_msg.specs.declared.setup.VpeDecl.{VpeDecl}
 use Rattle.sem_msg.specs.Setup.{Setup}
-use Rattle.sem_fs.specs.declared.files.FileAct.{FileAct}
-use Rattle.sem_fs.specs.declared.files.FileAct.TheVariants.{OpenFile, Read, Write, Share, Close}
-use Rattle.sem_fs.specs.declared.files.Command.{Command}
-use Rattle.sem_fs.specs.Files.{Files, EXTENT, is_file, is_client, extents_of, file_of, IsCommand}
+use Rattle.sem_files.specs.declared.files.FileAct.{FileAct}
+use Rattle.sem_files.specs.declared.files.FileAct.TheVariants.{OpenFile, Read, Write, Share, Close}
+use Rattle.sem_files.specs.declared.files.Command.{Command}
+use Rattle.sem_files.specs.Files.{Files, EXTENT, is_file, is_client, extents_of, file_of, IsCommand}
 
 -- Where things stand.
 

@@ -3,10 +3,10 @@
 use Rattle.std.specs.Prelude.{◌≡◌, ◌≢◌, ℕ, ◌<◌, ◌≤◌, ◌+◌, ◌*◌, ◌==◌, Bool, true, false, ◌&&◌, List, length, filter, find, fold, Option, Some, None, if◌then◌else◌, unwrap_or}
 use Rattle.std.specs.List.{list_any}
 use Rattle.std.specs.Option.{option_map_or}
-use Rattle.sem_fs.specs.declared.files.FileAct.{FileAct}
-use Rattle.sem_fs.specs.declared.files.FileAct.TheVariants.{OpenFile, Read, Write, Share, Close}
-use Rattle.sem_fs.specs.declared.files.FileDecl.{FileDecl}
-use Rattle.sem_fs.specs.declared.files.Command.{Command}
+use Rattle.sem_files.specs.declared.files.FileAct.{FileAct}
+use Rattle.sem_files.specs.declared.files.FileAct.TheVariants.{OpenFile, Read, Write, Share, Close}
+use Rattle.sem_files.specs.declared.files.FileDecl.{FileDecl}
+use Rattle.sem_files.specs.declared.files.Command.{Command}
 
 pub record Files : Type 0 where
   pub kernels : ℕ

@@ -1,0 +1,11 @@
+pub mod OpenHandles
+pub mod DoLine
+pub mod Lists
+pub mod CallNumbers
+pub mod Growing
+pub mod StillFiles
+pub mod PartCalls
+pub mod NothingSaid
+pub mod Entered
+pub mod ReadLines
+pub mod ReadText

@@ -1,0 +1,12 @@
+pub mod Files
+pub mod Compiled
+pub mod FileForms
+pub mod Said
+pub mod FileContext
+pub mod FileRefusal
+pub mod Standing
+pub mod Handles
+pub mod FileReads
+pub mod OneMore
+pub mod Tells
+pub mod Reads

@@ -1,0 +1,96 @@
+-- What the reader keeps of the lines so far that say something, each as its words.
+use Rattle.std.specs.Prelude.{◌≡◌, ℕ, ◌+◌, ◌≤◌, Bool, true, false, List, [], ◌∷◌, ◌++◌, length, map, Option, None, Some, if◌then◌else◌}
+use Rattle.std.specs.Option.{option_or}
+use Rattle.sem_trace.specs.declared.fault.Cause.{Cause}
+use Rattle.sem_trace.specs.declared.fault.TraceFault.{TraceFault}
+use Rattle.sem_trace.specs.declared.fault.TraceError.{TraceError}
+use Rattle.sem_trace.specs.declared.fault.TraceError.TheVariants.{Refused as RefusedText, Memory as NoMemory}
+use Rattle.sem_trace.specs.TextLines.{lines_of, words_of, is_significant, significant}
+use Rattle.sem_trace.specs.Declarations.{number_at}
+use Rattle.sem_trace.specs.Earlier.{first_some}
+use Rattle.sem_trace.specs.Refusal.{numbers}
+use Rattle.sem_files.specs.Files.{Files}
+use Rattle.sem_files.specs.Said.{said, files_of, is_ended}
+use Rattle.sem_files.specs.FileRefusal.{words_fault, line_fault, fault_at, first_fault, end_fault, kernels_of, said_by}
+use Rattle.sem_files.specs.declared.reader.Stage.{Stage}
+use Rattle.sem_files.specs.declared.reader.Stage.TheVariants.{Start, Named, Open, Ended}
+use Rattle.sem_files.specs.declared.reader.LineError.{LineError}
+use Rattle.sem_files.specs.declared.reader.LineError.TheVariants.{Refused, Memory}
+use Rattle.sem_files.specs.declared.reader.Reader.{Reader}
+use Rattle.sem_files.specs.declared.tables.Tables.{Tables}
+use Rattle.sem_files.specs.Tells.{Tells, files_in}
+
+-- behind the second line: what is said, and whether the last line was read
+pub record IsOpened (lines : List (List (List ℕ))) (t : Tables) (ended : Bool) : Type 0 where
+  pub first : List (List ℕ)
+  pub second : List (List ℕ)
+  pub earlier : List (List (List ℕ))
+  pub are : lines ≡ first ∷ second ∷ earlier
+  pub says : files_in t ≡ files_of (number_at second 1) (map said earlier)
+  pub last : is_ended (map said earlier) ≡ ended
+
+abbrev pub IsReadTo : Stage → List (List (List ℕ)) → Tables → Type 0
+IsReadTo Start lines t = lines ≡ []
+IsReadTo Named lines t = (first : List (List ℕ)) × (lines ≡ first ∷ [])
+IsReadTo Open lines t = IsOpened lines t false
+IsReadTo Ended lines t = IsOpened lines t true
+
+-- the reader has read these lines, and nothing was wrong with any
+abbrev pub IsRead : List (List (List ℕ)) → Reader → Type 0
+IsRead lines r = IsReadTo r.stage lines r.tables
+
+-- nothing is wrong with a line of these words, and the reader has read it too
+abbrev pub Accepts : List (List ℕ) → Reader → Reader → Type 0
+Accepts words old new =
+    (lines : List (List (List ℕ))) → IsRead lines old
+    → (words_fault lines words ≡ None) × IsRead (lines ++ words ∷ []) new
+
+-- that is wrong with a line of these words
+abbrev pub Refuses : List (List ℕ) → Reader → Cause → Type 0
+Refuses words old cause =
+    (lines : List (List (List ℕ))) → IsRead lines old → words_fault lines words ≡ Some cause
+
+-- the lines with one more, if it says something
+abbrev pub with_significant : List (List (List ℕ)) → List ℕ → List (List (List ℕ))
+with_significant lines line =
+    if is_significant (words_of line) then lines ++ words_of line ∷ [] else lines
+
+-- the same of a line that may say nothing
+abbrev pub AcceptsLine : List ℕ → Reader → Reader → Type 0
+AcceptsLine line old new =
+    (lines : List (List (List ℕ))) → IsRead lines old
+    → (line_fault lines line ≡ None) × IsRead (with_significant lines line) new
+
+-- why a line is not read: what is wrong with it, or memory is wanted
+abbrev pub Stops : (Cause → Type 0) → LineError → Type 0
+Stops refuses (Refused cause) = refuses cause
+Stops refuses Memory = Unit {0}
+
+abbrev pub RefusesLine : List ℕ → Reader → Cause → Type 0
+RefusesLine line old cause =
+    (lines : List (List (List ℕ))) → IsRead lines old → line_fault lines line ≡ Some cause
+
+-- The lines of a text are read but for those that are left, and nothing was wrong with any of
+-- them.
+pub record IsReadUpTo (bytes : List ℕ) (left : List (List ℕ)) (number : ℕ) (r : Reader) : Type 0 where
+  pub before : List (List ℕ)
+  pub lines : lines_of bytes ≡ before ++ left
+  pub count : number ≡ length before
+  pub fine : first_some (fault_at (lines_of bytes)) (numbers number) ≡ None
+  pub read : IsRead (significant before) r
+  pub tells : Tells r.tables
+  pub room : number + length left ≤ length bytes
+
+-- why a text is not read, where that line of it is not
+abbrev pub at_line : ℕ → LineError → TraceError
+at_line line (Refused cause) = RefusedText (record { line = line; cause = cause })
+at_line line Memory = NoMemory
+
+-- the refusal of lines: that of the first bad one, or that the last line is missing
+abbrev pub lines_refusal : List (List ℕ) → Option TraceFault
+lines_refusal lines = option_or (first_fault lines) (end_fault lines)
+
+-- the lines are not refused, and they say the commands
+pub record Say (lines : List (List ℕ)) (F : Files) : Type 0 where
+  pub accepted : lines_refusal lines ≡ None
+  pub said : F ≡ files_of (kernels_of lines) (said_by lines)

@@ -1,0 +1,98 @@
+// What a client does, from the name of the act on.
+#![tactic(auto, unfolding(sem_trace::specs::Forms::form_fault, crate::specs::FileForms::acts, crate::specs::Said::act_from))]
+
+ghost use Rattle.std.specs.Prelude.{◌∷◌, codes};
+ghost use Rattle.sem_files.specs.FileReads.{ReadsAct};
+
+use crate::files::FileAct;
+use sem_trace::{Cause, Range, Words, is};
+
+/// A file, a handle, or the number under which a client is given to.
+pub(crate) const SMALL: Range = Range { least: 0, most: 15 };
+
+/// A client.
+pub(crate) const CLIENT: Range = Range { least: 1, most: 63 };
+
+/// Where a range of a file begins.
+const OFFSET: Range = Range {
+    least: 0,
+    most: 16383,
+};
+
+/// How long a range of a file is.
+const SIZE: Range = Range {
+    least: 1,
+    most: 16384,
+};
+
+// Reads the act at the end of a line.
+pub(crate) fn read_act(words: &mut Words<'_>) -> Result<FileAct, Cause>
+    ensures { ReadsAct words.old result }
+{
+    let name = words.word()?;
+    if is(name, b"open") {
+        open_file(words)
+    } else if is(name, b"read") {
+        read(words)
+    } else if is(name, b"write") {
+        write(words)
+    } else if is(name, b"share") {
+        share(words)
+    } else if is(name, b"close") {
+        close(words)
+    } else {
+        Err(Cause::UnknownWord)
+    }
+}
+
+fn open_file(words: &mut Words<'_>) -> Result<FileAct, Cause>
+    ensures { ReadsAct (codes "open" ∷ words.old) result }
+{
+    let [handle, file, ..] = words.last_numbers(&[SMALL, SMALL])?;
+    Ok(FileAct::OpenFile {
+        handle: handle as u8,
+        file: file as u8,
+    })
+}
+
+fn read(words: &mut Words<'_>) -> Result<FileAct, Cause>
+    ensures { ReadsAct (codes "read" ∷ words.old) result }
+{
+    let [handle, off, len, ..] = words.last_numbers(&[SMALL, OFFSET, SIZE])?;
+    Ok(FileAct::Read {
+        handle: handle as u8,
+        off: off as u32,
+        len: len as u32,
+    })
+}
+
+fn write(words: &mut Words<'_>) -> Result<FileAct, Cause>
+    ensures { ReadsAct (codes "write" ∷ words.old) result }
+{
+    let [handle, off, len, ..] = words.last_numbers(&[SMALL, OFFSET, SIZE])?;
+    Ok(FileAct::Write {
+        handle: handle as u8,
+        off: off as u32,
+        len: len as u32,
+    })
+}
+
+fn share(words: &mut Words<'_>) -> Result<FileAct, Cause>
+    ensures { ReadsAct (codes "share" ∷ words.old) result }
+{
+    let [handle, to, other, ..] = words.last_numbers(&[SMALL, CLIENT, SMALL])?;
+    Ok(FileAct::Share {
+        handle: handle as u8,
+        to: to as u16,
+        other: other as u8,
+    })
+}
+
+fn close(words: &mut Words<'_>) -> Result<FileAct, Cause>
+    ensures { ReadsAct (codes "close" ∷ words.old) result }
+{
+    let [handle, ..] = words.last_numbers(&[SMALL])?;
+    Ok(FileAct::Close {
+        handle: handle as u8,
+    })
+}

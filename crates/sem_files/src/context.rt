@@ -1,0 +1,270 @@
+// What is wrong with a line because of the lines before it.
+ghost use Rattle.std.specs.Prelude.{◌≡◌, ◌≤◌, ◌&&◌, nat_le, nat_lt, true, false, if◌then◌else◌};
+ghost use Rattle.sem_msg.specs.declared.limits.TheConstants.{CALLS as CALLS_LEM};
+ghost use Rattle.sem_files.specs.Files.{is_file as is_file_lem, is_client as is_client_lem, extents_of as extents_of_lem, file_of as file_of_lem, open_file as open_file_lem, open_count, is_opening as is_opening_lem};
+ghost use Rattle.sem_files.specs.FileContext.{is_open as is_open_lem, is_astray as is_astray_lem, is_undeclared as is_undeclared_lem, is_repeated as is_repeated_lem, is_twice as is_twice_lem, ends_behind as ends_behind_lem, is_too_long as is_too_long_lem, is_too_much as is_too_much_lem, call_number, with_command, context_fault};
+ghost use Rattle.sem_files.specs.FileReads.{IsSmall, IsClientNumber, IsActInRange, IsInRange};
+ghost use Rattle.sem_files.specs.OneMore.{declared_extents as declared_extents_lem, new_calls as new_calls_lem};
+ghost use Rattle.sem_files.specs.Tells.{files_in, Tells};
+
+use crate::counts::{EXTENT, calls_of_act};
+use crate::files::{Command, FileAct};
+use crate::lines::FileLine;
+use crate::tables::Tables;
+use sem_msg::CALLS;
+use sem_trace::Cause;
+
+/// How often a client can open a file.
+const MOST_OPENINGS: u32 = 1000;
+
+/// How many calls there can be.
+const MOST_CALLS: u32 = CALLS as u32;
+
+/// Whether the client opens a file. Takes no memory.
+pub(crate) fn is_opening(act: &FileAct) -> bool
+    ensures { result ≡ is_opening_lem act.now }
+{
+    matches!(act, FileAct::OpenFile { .. })
+}
+
+// Whether the range of the act ends behind a file of so many extents.
+fn ends_behind(extents: u8, act: &FileAct) -> bool
+    ensures { result ≡ ends_behind_lem extents act.now }
+{
+    match *act {
+        FileAct::Read { off, len, .. } | FileAct::Write { off, len, .. } => {
+            u64::from(off) + u64::from(len) > u64::from(EXTENT) * u64::from(extents)
+        }
+        FileAct::OpenFile { .. } | FileAct::Share { .. } | FileAct::Close { .. } => false,
+    }
+}
+
+// How many calls open the session of a client that did something, or did not.
+fn session_calls(begun: bool) -> u32
+    ensures number { result ≡ (if begun then 0 else 1) }
+    ensures few { result ≤ 1 }
+{
+    if begun { 0 } else { 1 }
+}
+
+impl Tables {
+    // How many extents the file has, if it is declared.
+    fn declared_extents(&self, file: u8) -> Option<u8>
+        requires { Tells self.now }
+        ensures { result ≡ declared_extents_lem (files_in self.now) file }
+    {
+        self.extents.get(usize::from(file)).copied().flatten()
+    }
+
+    // Whether the file is declared.
+    fn is_file(&self, file: u8) -> bool
+        requires { Tells self.now }
+        ensures { result ≡ is_file_lem (files_in self.now) file }
+    {
+        self.declared_extents(file).is_some()
+    }
+
+    // How many extents the file has.
+    fn extents_of(&self, file: u8) -> u8
+        requires { Tells self.now }
+        ensures { result ≡ extents_of_lem (files_in self.now) file }
+    {
+        self.declared_extents(file).unwrap_or(0)
+    }
+
+    // Whether the client is declared.
+    fn is_client(&self, client: u16) -> bool
+        requires { Tells self.now }
+        ensures { result ≡ is_client_lem (files_in self.now) client }
+    {
+        self.declared
+            .get(usize::from(client))
+            .copied()
+            .unwrap_or(false)
+    }
+
+    // The file on which the handle of the client is open.
+    fn open_file(&self, client: u16, handle: u8) -> Option<u8>
+        requires tells { Tells self.now }
+        requires client { IsClientNumber client }
+        requires handle { IsSmall handle }
+        ensures { result ≡ open_file_lem self.now.commands client handle }
+    {
+        self.handles[usize::from(client)].file(handle)
+    }
+
+    // Whether the handle of the client is open.
+    fn is_open(&self, client: u16, handle: u8) -> bool
+        requires tells { Tells self.now }
+        requires client { IsClientNumber client }
+        requires handle { IsSmall handle }
+        ensures { result ≡ is_open_lem (files_in self.now) client handle }
+    {
+        self.open_file(client, handle).is_some()
+    }
+
+    // The file that an act of the client is about.
+    fn file_of(&self, client: u16, act: &FileAct) -> u8
+        requires tells { Tells self.now }
+        requires client { IsClientNumber client }
+        requires act { IsActInRange act.now }
+        ensures { result ≡ file_of_lem self.now.commands client act.now }
+    {
+        match *act {
+            FileAct::OpenFile { file, .. } => file,
+            FileAct::Read { handle, .. }
+            | FileAct::Write { handle, .. }
+            | FileAct::Share { handle, .. }
+            | FileAct::Close { handle } => self.open_file(client, handle).unwrap_or(0),
+        }
+    }
+
+    // Whether the act speaks of a file, a handle or a client that is not there.
+    fn is_astray(&self, client: u16, act: &FileAct) -> bool
+        requires tells { Tells self.now }
+        requires client { IsClientNumber client }
+        requires act { IsActInRange act.now }
+        ensures { result ≡ is_astray_lem (files_in self.now) client act.now }
+    {
+        match *act {
+            FileAct::OpenFile { file, .. } => !self.is_file(file),
+            FileAct::Share { handle, to, .. } => !self.is_open(client, handle)
+                || !self.is_client(to),
+            FileAct::Read { handle, .. }
+            | FileAct::Write { handle, .. }
+            | FileAct::Close { handle } => !self.is_open(client, handle),
+        }
+    }
+
+    // Whether the line speaks of what is not there.
+    fn is_undeclared(&self, line: &FileLine) -> bool
+        requires tells { Tells self.now }
+        requires range { IsInRange line.now }
+        ensures { result ≡ is_undeclared_lem (files_in self.now) line.now }
+    {
+        match line {
+            FileLine::Do { command } => {
+                !self.is_client(command.client) || self.is_astray(command.client, &command.act)
+            }
+            _ => false,
+        }
+    }
+
+    // Whether the act opens what is open, or gives to the client itself, or under a used number.
+    fn is_repeated(&self, client: u16, act: &FileAct) -> bool
+        requires tells { Tells self.now }
+        requires client { IsClientNumber client }
+        requires act { IsActInRange act.now }
+        ensures { result ≡ is_repeated_lem (files_in self.now) client act.now }
+    {
+        match *act {
+            FileAct::OpenFile { handle, .. } => self.is_open(client, handle),
+            FileAct::Share { to, other, .. } => {
+                to == client || self.used[usize::from(to)].contains(other)
+            }
+            FileAct::Read { .. } | FileAct::Write { .. } | FileAct::Close { .. } => false,
+        }
+    }
+
+    // Whether the line says what is said already.
+    fn is_twice(&self, line: &FileLine) -> bool
+        requires tells { Tells self.now }
+        requires range { IsInRange line.now }
+        ensures { result ≡ is_twice_lem (files_in self.now) line.now }
+    {
+        match line {
+            FileLine::Kernels { .. } => true,
+            FileLine::File { declared } => self.is_file(declared.file),
+            FileLine::Client { client } => self.is_client(*client),
+            FileLine::Do { command } => self.is_repeated(command.client, &command.act),
+            FileLine::End => false,
+        }
+    }
+
+    // Whether the line has a range that ends behind its file.
+    fn is_too_long(&self, line: &FileLine) -> bool
+        requires tells { Tells self.now }
+        requires range { IsInRange line.now }
+        ensures { result ≡ is_too_long_lem (files_in self.now) line.now }
+    {
+        match line {
+            FileLine::Do { command } => {
+                let file = self.file_of(command.client, &command.act);
+                ends_behind(self.extents_of(file), &command.act)
+            }
+            _ => false,
+        }
+    }
+
+    /// How many calls come with the command. Takes no memory.
+    pub(crate) fn new_calls(&self, command: &Command) -> u32
+        requires tells { Tells self.now }
+        requires client { IsClientNumber command.now.client }
+        requires act { IsActInRange command.now.act }
+        ensures number { result ≡ new_calls_lem (files_in self.now) command.now }
+        ensures few { result ≤ 511 }
+    {
+        let file = self.file_of(command.client, &command.act);
+        let calls = calls_of_act(self.extents_of(file), &command.act);
+        session_calls(self.begun[usize::from(command.client)]) + calls
+    }
+
+    // Whether the client of the command opens more often than it may.
+    fn opens_too_often(&self, command: &Command) -> bool
+        requires tells { Tells self.now }
+        requires client { IsClientNumber command.now.client }
+        ensures { result ≡
+            (is_opening_lem command.now.act
+            && nat_le 1000 (open_count self.now.commands command.now.client)) }
+    {
+        let openings = self.openings[usize::from(command.client)];
+        is_opening(&command.act) && openings >= MOST_OPENINGS
+    }
+
+    // Whether there are more calls with the command than there may be.
+    fn calls_too_much(&self, command: &Command) -> bool
+        requires tells { Tells self.now }
+        requires client { IsClientNumber command.now.client }
+        requires act { IsActInRange command.now.act }
+        requires declared { is_client_lem (files_in self.now) command.now.client ≡ true }
+        ensures { result ≡
+            nat_lt CALLS_LEM (call_number (with_command (files_in self.now) command.now)) }
+    {
+        self.calls + self.new_calls(command) > MOST_CALLS
+    }
+
+    // Whether a client opens more often than it may, or there are more calls than there may be.
+    fn is_too_much(&self, line: &FileLine) -> bool
+        requires tells { Tells self.now }
+        requires range { IsInRange line.now }
+        requires declared { is_undeclared_lem (files_in self.now) line.now ≡ false }
+        ensures { result ≡ is_too_much_lem (files_in self.now) line.now }
+    {
+        match line {
+            FileLine::Do { command } => {
+                self.opens_too_often(command) || self.calls_too_much(command)
+            }
+            _ => false,
+        }
+    }
+
+    /// What is wrong with the line because of the lines so far. Takes no memory.
+    #[tactic(auto, unfolding(crate::specs::FileContext::context_fault))]
+    pub(crate) fn fault(&self, line: &FileLine) -> Option<Cause>
+        requires tells { Tells self.now }
+        requires range { IsInRange line.now }
+        ensures { result ≡ context_fault (files_in self.now) line.now }
+    {
+        if self.is_undeclared(line) {
+            Some(Cause::Undeclared)
+        } else if self.is_twice(line) {
+            Some(Cause::Twice)
+        } else if self.is_too_long(line) {
+            Some(Cause::OutOfRange)
+        } else if self.is_too_much(line) {
+            Some(Cause::TooMany)
+        } else {
+            None
+        }
+    }
+}

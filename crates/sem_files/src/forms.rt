@@ -1,0 +1,101 @@
+// What a line says, from its first word on.
+#![tactic(auto, unfolding(sem_trace::specs::Forms::form_fault, crate::specs::FileForms::form, crate::specs::FileForms::lines, crate::specs::Said::said))]
+
+ghost use Rattle.std.specs.Prelude.{◌≡◌, ◌∷◌, codes};
+ghost use Rattle.std.specs.Result.{result_err};
+ghost use Rattle.sem_trace.specs.TextLines.{words_of};
+ghost use Rattle.sem_trace.specs.Forms.{form_fault};
+ghost use Rattle.sem_files.specs.FileForms.{first_form};
+ghost use Rattle.sem_files.specs.FileReads.{ReadsLine};
+
+use crate::acts::{CLIENT, SMALL, read_act};
+use crate::files::{Command, FileDecl};
+use crate::lines::FileLine;
+use sem_trace::{Cause, Range, Words, is};
+
+/// How many kernels there are.
+const KERNELS: Range = Range { least: 1, most: 16 };
+
+/// How many extents a file has.
+const EXTENTS: Range = Range { least: 1, most: 4 };
+
+/// Sees that the line is the first of file commands. Takes no memory.
+#[tactic(auto, unfolding(crate::specs::FileForms::first_form))]
+pub(crate) fn read_first(line: &[u8]) -> Result<(), Cause>
+    ensures { form_fault first_form (words_of line.now) ≡ result_err result }
+{
+    let mut words = Words::of(line);
+    words.fixed(b"semper")?;
+    words.fixed(b"files")?;
+    words.fixed(b"1")?;
+    words.no_more()
+}
+
+/// What the line says behind the second. Takes no memory.
+pub(crate) fn read_line(line: &[u8]) -> Result<FileLine, Cause>
+    ensures { ReadsLine (words_of line.now) result }
+{
+    let mut words = Words::of(line);
+    let name = words.word()?;
+    if is(name, b"kernels") {
+        kernels_line(&mut words)
+    } else if is(name, b"file") {
+        file_line(&mut words)
+    } else if is(name, b"client") {
+        client_line(&mut words)
+    } else if is(name, b"do") {
+        do_line(&mut words)
+    } else if is(name, b"end") {
+        end_line(&mut words)
+    } else {
+        Err(Cause::UnknownWord)
+    }
+}
+
+fn kernels_line(words: &mut Words<'_>) -> Result<FileLine, Cause>
+    ensures { ReadsLine (codes "kernels" ∷ words.old) result }
+{
+    let [kernels, ..] = words.last_numbers(&[KERNELS])?;
+    Ok(FileLine::Kernels {
+        kernels: kernels as u32,
+    })
+}
+
+fn file_line(words: &mut Words<'_>) -> Result<FileLine, Cause>
+    ensures { ReadsLine (codes "file" ∷ words.old) result }
+{
+    let [file, extents, ..] = words.last_numbers(&[SMALL, EXTENTS])?;
+    let declared = FileDecl {
+        file: file as u8,
+        extents: extents as u8,
+    };
+    Ok(FileLine::File { declared })
+}
+
+fn client_line(words: &mut Words<'_>) -> Result<FileLine, Cause>
+    ensures { ReadsLine (codes "client" ∷ words.old) result }
+{
+    let [client, ..] = words.last_numbers(&[CLIENT])?;
+    Ok(FileLine::Client {
+        client: client as u16,
+    })
+}
+
+fn do_line(words: &mut Words<'_>) -> Result<FileLine, Cause>
+    ensures { ReadsLine (codes "do" ∷ words.old) result }
+{
+    let [client, ..] = words.numbers(&[CLIENT])?;
+    let act = read_act(words)?;
+    let command = Command {
+        client: client as u16,
+        act,
+    };
+    Ok(FileLine::Do { command })
+}
+
+fn end_line(words: &mut Words<'_>) -> Result<FileLine, Cause>
+    ensures { ReadsLine (codes "end" ∷ words.old) result }
+{
+    words.no_more()?;
+    Ok(FileLine::End)
+}

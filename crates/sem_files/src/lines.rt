@@ -1,0 +1,16 @@
+use crate::files::{Command, FileDecl};
+
+/// What a line says that stands behind the second.
+#[derive(Clone, Copy, Debug, PartialEq, Eq)]
+pub enum FileLine {
+    /// How many kernels there are.
+    Kernels { kernels: u32 },
+    /// A file.
+    File { declared: FileDecl },
+    /// A client.
+    Client { client: u16 },
+    /// A client does something.
+    Do { command: Command },
+    /// Nothing more is said.
+    End,
+}
