@@ -9,7 +9,7 @@ use Rattle.std.proofs.lemmas.Option.{none-some, same_Some}
 use Rattle.sem_text.specs.declared.numbers.NumberFault.TheVariants.{Bad, Range}
 use Rattle.sem_text.specs.Number.{is_number, number_value}
 use Rattle.sem_cli.specs.declared.forms.Command.{Command}
-use Rattle.sem_cli.specs.declared.forms.Command.TheVariants.{Run, Threads, Generate, Soak, Ask}
+use Rattle.sem_cli.specs.declared.forms.Command.TheVariants.{Run, Threads, Files, Generate, Soak, Ask}
 use Rattle.sem_cli.specs.declared.forms.Question.{Question}
 use Rattle.sem_cli.specs.declared.forms.Question.TheVariants.{Check, Contents}
 use Rattle.sem_cli.specs.declared.forms.Load.{Load}
@@ -46,6 +46,7 @@ abbrev IsLoaded : Option Command → Type 0
 IsLoaded None = Unit {0}
 IsLoaded (Some (Run seed)) = Unit {0}
 IsLoaded (Some (Threads seed)) = Unit {0}
+IsLoaded (Some (Files seed)) = Unit {0}
 IsLoaded (Some (Generate seed vpes calls)) = CanGenerate vpes calls
 IsLoaded (Some (Soak seed vpes calls)) = CanGenerate vpes calls
 IsLoaded (Some (Ask question)) = Unit {0}
@@ -55,12 +56,14 @@ plain-loaded true b = tt
 plain-loaded false true = tt
 plain-loaded false false = tt
 
-seeded-loaded : (a b : Bool) (o : Option ℕ) → IsLoaded (cond a (option_map Run o) (cond b (option_map Threads o) None))
-seeded-loaded true b None = tt
-seeded-loaded true b (Some seed) = tt
-seeded-loaded false true None = tt
-seeded-loaded false true (Some seed) = tt
-seeded-loaded false false o = tt
+seeded-loaded : (a b c : Bool) (o : Option ℕ) → IsLoaded (cond a (option_map Run o) (cond b (option_map Threads o) (cond c (option_map Files o) None)))
+seeded-loaded true b c None = tt
+seeded-loaded true b c (Some seed) = tt
+seeded-loaded false true c None = tt
+seeded-loaded false true c (Some seed) = tt
+seeded-loaded false false true None = tt
+seeded-loaded false false true (Some seed) = tt
+seeded-loaded false false false o = tt
 
 asked-loaded : (a : Bool) (o : Option Question) → IsLoaded (cond a (option_map Ask o) None)
 asked-loaded true None = tt
@@ -77,7 +80,7 @@ load-loaded false false c o q kept = asked-loaded c q
 command-loaded : (words : List (List ℕ)) → IsLoaded (command_of words)
 command-loaded [] = tt
 command-loaded (name ∷ []) = plain-loaded (bytes_eq name (codes "check")) (bytes_eq name (codes "contents"))
-command-loaded (name ∷ seed ∷ []) = seeded-loaded (bytes_eq name (codes "run")) (bytes_eq name (codes "threads")) (seed_of seed)
+command-loaded (name ∷ seed ∷ []) = seeded-loaded (bytes_eq name (codes "run")) (bytes_eq name (codes "threads")) (bytes_eq name (codes "files")) (seed_of seed)
 command-loaded (name ∷ what ∷ word ∷ []) = asked-loaded (bytes_eq name (codes "query")) (question_of (what ∷ word ∷ []))
 command-loaded (name ∷ seed ∷ vpes ∷ calls ∷ []) = load-loaded (bytes_eq name (codes "gen")) (bytes_eq name (codes "soak")) (bytes_eq name (codes "query")) (load_of seed vpes calls) (question_of (seed ∷ vpes ∷ calls ∷ [])) (λ load. load-kept (seed_of seed) (number_to 128 vpes) (number_to 20000 calls) load (number-most vpes 128))
 command-loaded (name ∷ seed ∷ vpes ∷ calls ∷ more ∷ words) = tt

@@ -5,7 +5,7 @@ use Rattle.sem_key.specs.KeyName.{KeyName, kind_numbered}
 use Rattle.sem_text.specs.Number.{number_of, number_value}
 use Rattle.sem_trace.specs.Forms.{place_fault, parts_of, key as key_place}
 use Rattle.sem_cli.specs.declared.forms.Command.{Command}
-use Rattle.sem_cli.specs.declared.forms.Command.TheVariants.{Run, Threads, Generate, Soak, Ask}
+use Rattle.sem_cli.specs.declared.forms.Command.TheVariants.{Run, Threads, Files, Generate, Soak, Ask}
 use Rattle.sem_cli.specs.declared.forms.Question.{Question}
 use Rattle.sem_cli.specs.declared.forms.Question.TheVariants.{Check, Contents, Holder, Path, Denied}
 use Rattle.sem_cli.specs.declared.forms.Load.{Load}
@@ -73,7 +73,8 @@ command_of (name ∷ []) =
 command_of (name ∷ seed ∷ []) =
     if bytes_eq name (codes "run") then option_map Run (seed_of seed)
     else (if bytes_eq name (codes "threads") then option_map Threads (seed_of seed)
-    else None)
+    else (if bytes_eq name (codes "files") then option_map Files (seed_of seed)
+    else None))
 command_of (name ∷ what ∷ word ∷ []) =
     if bytes_eq name (codes "query") then option_map Ask (question_of (what ∷ word ∷ [])) else None
 command_of (name ∷ seed ∷ vpes ∷ calls ∷ []) =

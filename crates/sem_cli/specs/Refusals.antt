@@ -4,12 +4,11 @@ use Rattle.sem_msg.specs.declared.entry.Entry.{Entry}
 use Rattle.sem_trace.specs.declared.fault.TraceFault.{TraceFault}
 use Rattle.sem_journal.specs.EntryText.{entry_words}
 use Rattle.sem_journal.specs.SpacedWords.{spaced}
-use Rattle.sem_cli.specs.Messages.{cause_name}
+use Rattle.sem_cli.specs.Messages.{fault_words}
 
 -- a line of the report, and what is wrong with it
 abbrev pub bad_line : TraceFault → List ℕ
-bad_line fault =
-    codes "report refused: line " ++ decimal fault.line ++ codes ": " ++ cause_name fault.cause ++ 10 ∷ []
+bad_line fault = codes "report refused: line " ++ fault_words fault
 
 -- entry n, counted from 0: what the report tells, and what the machine does
 abbrev pub bad_entry : ℕ → List ℕ → List ℕ → List ℕ

@@ -46,6 +46,7 @@ fn seeded(name: &str, seed: &str) -> Option<Command>
     match name {
         "run" => Some(Command::Run { seed }),
         "threads" => Some(Command::Threads { seed }),
+        "files" => Some(Command::Files { seed }),
         _ => None,
     }
 }

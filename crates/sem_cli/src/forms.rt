@@ -7,6 +7,8 @@ pub enum Command {
     Run { seed: u64 },
     /// Runs the trace that is read with threads, and writes the report.
     Threads { seed: u64 },
+    /// Runs the setup of the file commands that are read, and writes the report.
+    Files { seed: u64 },
     /// Writes a generated trace of so many VPEs with so many calls each.
     Generate { seed: u64, vpes: u32, calls: u32 },
     /// Runs such a trace with threads, and writes a summary.

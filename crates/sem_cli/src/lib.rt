@@ -11,7 +11,7 @@ mod summaries;
 
 pub use commands::command;
 pub use forms::{Command, Question};
-pub use messages::{ok, push_refused, usage};
+pub use messages::{ok, push_files_refused, push_refused, usage};
 pub use refusals::{push_bad_line, push_differing, push_going_on};
 pub use statuses::Status;
 pub use summaries::push_summary;

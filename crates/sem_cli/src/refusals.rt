@@ -3,7 +3,7 @@
 ghost use Rattle.std.specs.Prelude.{◌≡◌, ◌++◌, ◌∷◌, [], codes, decimal, OnOk};
 ghost use Rattle.sem_cli.specs.Refusals.{bad_line, bad_entry, replayed_text, differing_line, going_on_line};
 
-use crate::messages::cause_name;
+use crate::messages::push_fault;
 use sem_journal::push_entry_words;
 use sem_key::OutOfMemory;
 use sem_msg::Entry;
@@ -15,11 +15,7 @@ pub fn push_bad_line(out: &mut Vec<u8>, fault: &TraceFault) -> Result<(), OutOfM
     ensures ok { OnOk result (out.new.items ≡ out.old.items ++ bad_line fault.now) }
 {
     out.extend_from_slice(b"report refused: line ")?;
-    push_number(out, fault.line)?;
-    out.extend_from_slice(b": ")?;
-    out.extend_from_slice(cause_name(fault.cause))?;
-    out.push(b'\n')?;
-    Ok(())
+    push_fault(out, fault)
 }
 
 /// Appends the line that tells which entry is not the one that its event makes, and which one it

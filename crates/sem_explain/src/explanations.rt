@@ -1,7 +1,8 @@
-// Why a trace or a report is refused.
+// Why a trace, a report or file commands are refused.
 use crate::texts::{push_entry, push_numbered, push_shown, text_of_line};
 use sem_draw::{Answer, Ending};
-use sem_hint::refusal_text;
+use sem_files::read_files;
+use sem_hint::{TextKind, refusal_text};
 use sem_key::OutOfMemory;
 use sem_msg::{Audit, Entry};
 use sem_reader::read_trace;
@@ -18,8 +19,30 @@ pub fn explain_trace(alloc: Global, bytes: &[u8]) -> Result<Answer, OutOfMemory>
     match read_trace(alloc, bytes) {
         Ok(_) => accepted(alloc, "the trace is accepted\n"),
         Err(TraceError::Refused(fault)) => {
-            explain_text(alloc, bytes, "the trace is refused: ", &fault, false)
+            explain_text(
+                alloc,
+                bytes,
+                "the trace is refused: ",
+                &fault,
+                TextKind::Trace,
+            )
         }
+        Err(TraceError::Memory) => Err(OutOfMemory),
+    }
+}
+
+/// Why these bytes, file commands, are refused, or that they are accepted. What is refused is
+/// explained on standard output.
+pub fn explain_files(alloc: Global, bytes: &[u8]) -> Result<Answer, OutOfMemory> {
+    match read_files(alloc, bytes) {
+        Ok(_) => accepted(alloc, "the file commands are accepted\n"),
+        Err(TraceError::Refused(fault)) => explain_text(
+            alloc,
+            bytes,
+            "the file commands are refused: ",
+            &fault,
+            TextKind::Files,
+        ),
         Err(TraceError::Memory) => Err(OutOfMemory),
     }
 }
@@ -39,7 +62,13 @@ pub fn explain_report(
             );
         }
         Verdict::BadLine { fault } => {
-            return explain_text(alloc, bytes, "the report is refused: ", fault, true);
+            return explain_text(
+                alloc,
+                bytes,
+                "the report is refused: ",
+                fault,
+                TextKind::Report,
+            );
         }
         Verdict::BadEntry {
             journal,
@@ -73,10 +102,10 @@ fn explain_text(
     bytes: &[u8],
     begin: &str,
     fault: &TraceFault,
-    is_report: bool,
+    kind: TextKind,
 ) -> Result<Answer, OutOfMemory> {
     let mut out = String::from_str(alloc, begin)?;
-    out.push_str(refusal_text(alloc, bytes, fault, is_report)?.as_str())?;
+    out.push_str(refusal_text(alloc, bytes, fault, kind)?.as_str())?;
     Ok(refused(alloc, out))
 }
 

@@ -1,7 +1,7 @@
-//! Why a trace or a report is refused.
+//! Why a trace, a report or file commands are refused.
 #![tactic(auto)]
 
 mod explanations;
 mod texts;
 
-pub use explanations::{explain_report, explain_trace};
+pub use explanations::{explain_files, explain_report, explain_trace};

@@ -11,19 +11,21 @@ use Rattle.sem_gen.proofs.Loads.{none-killed, none-exits, calls-counted}
 use Rattle.sem_machine.specs.Schedules.{IsSchedule, world_after}
 use Rattle.sem_machine.specs.Living.{IsComplete}
 use Rattle.sem_machine.specs.Seeded.{seeded}
+use Rattle.sem_audit.specs.HeldKeys.{report}
 use Rattle.sem_audit.specs.Straying.{stray_count}
 use Rattle.sem_audit.proofs.Answering.{all-answered}
 use Rattle.sem_audit.proofs.Straying.{none-stray}
 use Rattle.sem_trace.specs.declared.fault.TraceFault.{TraceFault}
+use Rattle.sem_cli.specs.Messages.{refused_line, files_refused_line}
 use Rattle.sem_cli.specs.Summary.{summary}
 use Rattle.sem_cli.specs.declared.statuses.Status.{Status}
 use Rattle.sem_cli.specs.declared.statuses.Status.TheVariants.{Done, Usage, TraceRefused, ReadFault, WriteFault, Memory, ReportRefused}
-use Rattle.sem_cli.specs.declared.forms.Command.TheVariants.{Run, Threads, Soak}
+use Rattle.sem_cli.specs.declared.forms.Command.TheVariants.{Run, Threads, Files, Soak}
 use Rattle.sem_run.specs.declared.response.Response.{Response}
-use Rattle.sem_run.specs.Inputs.{Given, Asks, AsksRun, IsUntouched, ReadsPart, ReadsTrace, IsRefused, IsQuietlyRead}
-use Rattle.sem_run.specs.Inputs.RunsSetup.{is_read, is_generated}
+use Rattle.sem_run.specs.Inputs.{Given, Asks, AsksRun, IsUntouched, ReadsPart, ReadsTrace, IsRefused, AreRefused, IsQuietlyRead}
+use Rattle.sem_run.specs.Inputs.RunsSetup.{is_read, is_compiled, is_generated}
 use Rattle.sem_run.specs.Ends.{WouldEnd}
-use Rattle.sem_run.specs.Readings.{EndsRun, IsFaultTold, IsLoadTold, IsOkWith}
+use Rattle.sem_run.specs.Readings.{EndsRun, IsRefusalTold, IsLoadTold, IsOkWith, ReadsService}
 use Rattle.sem_run.proofs.ReadInput.{untouched-part}
 
 -- what holds of a value that is there, and what makes it be there
@@ -55,20 +57,50 @@ module _ (g : Given) (J : List Entry) (text : List ℕ) where
     threads-end Memory asked ends = record { part = inr (T, is_read seed (inr asked) trace, runs); read = read-part T trace; quiet = quiet; told = ends }
     threads-end ReportRefused asked ends = absurd ends
 
-  -- a text that is no trace
-  pub fault-ends : (seed : ℕ) (fault : TraceFault) → AsksRun g seed → IsRefused g fault → ReadsPart g → IsQuietlyRead g → J ≡ [] → (status : Status) → IsFaultTold fault text status → WouldEnd g J text status
-  fault-ends seed fault asked refused read quiet empty Done told = absurd told
-  fault-ends seed fault asked refused read quiet empty Usage told = absurd told
-  fault-ends seed fault asked refused read quiet empty TraceRefused told = record { seed = seed; command = asked; fault = fault; refused = refused; read = read; quiet = quiet; no_journal = empty; told = told }
-  fault-ends seed fault asked refused read quiet empty ReadFault told = absurd told
-  fault-ends seed fault asked refused read quiet empty WriteFault told = absurd told
-  fault-ends seed fault asked refused read quiet empty Memory told = record { part = inl empty; read = read; quiet = quiet; told = told }
-  fault-ends seed fault asked refused read quiet empty ReportRefused told = absurd told
+  -- what file commands are compiled to
+  module _ (seed : ℕ) (T : Setup) (service : ReadsService g T) (quiet : IsQuietlyRead g) (runs : IsSchedule T J) (asked : Asks g (Files seed)) where
+    pub files-end : (status : Status) → EndsRun T J text status → (status ≡ Done → J ≡ seeded T seed) → WouldEnd g J text status
+    files-end Done ends made = inr (inr (inr (inr (inr (record {
+      files = service.files;
+      seed = seed;
+      command = asked;
+      read = service.read;
+      valid = subst IsSetup service.made service.valid;
+      made = made refl ∙ ap (λ U. seeded U seed) service.made;
+      complete = subst (λ U. IsComplete U J) service.made ends.0;
+      told = ends.1 ∙ ap (λ U. report U J) service.made;
+    })))))
+    files-end Usage ends made = absurd ends
+    files-end TraceRefused ends made = absurd ends
+    files-end ReadFault ends made = absurd ends
+    files-end WriteFault ends made = absurd ends
+    files-end Memory ends made = record { part = inr (T, is_compiled seed service.files asked service.read service.made service.valid, runs); read = (service.read.text, service.read.taken); quiet = quiet; told = ends }
+    files-end ReportRefused ends made = absurd ends
+
+  -- a text that is refused
+  module _ (read : ReadsPart g) (quiet : IsQuietlyRead g) (empty : J ≡ []) where
+    text-ends : (line : List ℕ) → (text ≡ line → WouldEnd g J text TraceRefused) → (status : Status) → IsRefusalTold line text status → WouldEnd g J text status
+    text-ends line refuses Done told = absurd told
+    text-ends line refuses Usage told = absurd told
+    text-ends line refuses TraceRefused told = refuses told
+    text-ends line refuses ReadFault told = absurd told
+    text-ends line refuses WriteFault told = absurd told
+    text-ends line refuses Memory told = record { part = inl empty; read = read; quiet = quiet; told = told }
+    text-ends line refuses ReportRefused told = absurd told
+
+    module _ (seed : ℕ) (fault : TraceFault) where
+      -- it is no trace
+      pub fault-ends : AsksRun g seed → IsRefused g fault → (status : Status) → IsRefusalTold (refused_line fault) text status → WouldEnd g J text status
+      fault-ends asked refused = text-ends (refused_line fault) (λ told. inl (record { seed = seed; command = asked; fault = fault; refused = refused; read = read; quiet = quiet; no_journal = empty; told = told }))
+
+      -- it is no text of file commands
+      pub files-fault-ends : Asks g (Files seed) → AreRefused g fault → (status : Status) → IsRefusalTold (files_refused_line fault) text status → WouldEnd g J text status
+      files-fault-ends asked refused = text-ends (files_refused_line fault) (λ told. inr (record { seed = seed; command = asked; fault = fault; refused = refused; read = read; quiet = quiet; no_journal = empty; told = told }))
 
   -- a load: the laws of complete schedules say the rest
   module _ (seed vpes calls : ℕ) (T : Setup) (asked : Asks g (Soak seed vpes calls)) (is : T ≡ generated seed vpes calls) (valid : IsSetup T) (untouched : IsUntouched g) where
     pub soak-ends : IsComplete T J → text ≡ summary vpes (vpes * calls) (length (replies J)) (stray_count T J (world_after T J).sides) → WouldEnd g J text Done
-    soak-ends complete told = inr (inr (inr (inr (record {
+    soak-ends complete told = inr (inr (inr (inr (inl (record {
       setup = T;
       seed = seed;
       vpes = vpes;
@@ -81,7 +113,7 @@ module _ (g : Given) (J : List Entry) (text : List ℕ) where
       all_answered = all-answered T valid (subst (λ U. U.kills ≡ []) (sym is) (none-killed seed vpes calls)) (subst (λ (U : Setup). (d : VpeDecl) → Contains U.vpes d → Contains d.calls Exit → ⊥) (sym is) (none-exits seed vpes calls)) J complete ∙ (ap call_count is ∙ calls-counted seed vpes calls);
       none_stray = none-stray T valid J complete;
       told = told;
-    }))))
+    })))))
 
     -- memory was lacking on the way
     pub soak-part : IsSchedule T J → text ≡ [] → WouldEnd g J text Memory

@@ -21,7 +21,11 @@ use Rattle.sem_cli.specs.declared.forms.Question.{Question}
 use Rattle.sem_cli.specs.declared.statuses.Status.{Status}
 use Rattle.sem_cli.specs.declared.statuses.Status.TheVariants.{Done, Usage, TraceRefused, ReadFault, WriteFault, Memory, ReportRefused}
 use Rattle.sem_msg.specs.declared.entry.Entry.{Entry}
-use Rattle.sem_run.specs.Inputs.{Given, Asks, IsUntouched, ReadsPart, ReadsTrace, IsQuietlyRead}
+use Rattle.sem_files.specs.Files.{Files}
+use Rattle.sem_files.specs.Compiled.{AreFiles}
+use Rattle.sem_files.specs.FileRefusal.{refusal as files_refusal}
+use Rattle.sem_files.specs.Standing.{FilesStand}
+use Rattle.sem_run.specs.Inputs.{Given, Asks, IsUntouched, ReadsPart, ReadsTrace, ReadsFiles, IsQuietlyRead}
 use Rattle.sem_run.specs.Reports.{IsVerdict, is_accepted, verdict_line}
 use Rattle.sem_run.specs.declared.findings.Finding.{Finding}
 use Rattle.sem_run.specs.Findings.{IsFound, IfAccepted, IsOf, IsAskable}
@@ -39,6 +43,10 @@ long_fault = record { line = 0; cause = InputTooLong }
 long-trace : (bytes : List ℕ) → 8388608 < length bytes → refusal bytes ≡ Some long_fault
 unfolding refusal
 long-trace bytes long = cond-true (nat_lt 8388608 (length bytes)) _ _ (lt-ltb 8388608 (length bytes) long)
+
+long-files : (bytes : List ℕ) → 8388608 < length bytes → files_refusal bytes ≡ Some long_fault
+unfolding files_refusal
+long-files bytes long = cond-true (nat_lt 8388608 (length bytes)) _ _ (lt-ltb 8388608 (length bytes) long)
 
 long-report : (bytes : List ℕ) → 134217728 < length bytes → report_refusal bytes ≡ Some long_fault
 unfolding report_refusal
@@ -79,12 +87,19 @@ module _ (limit : ℕ) where
       | inl long ↦ absurd (none-some long_fault (sym accepted ∙ too-long read long))
     ]
 
--- A trace.
+-- A trace, and file commands.
 
--- it is refused for what the reader told
-pub reads-refused : (left : Option (List ℕ)) (read given : List ℕ) (fault : TraceFault) (why : TraceError) → IsRead 8388608 left read → given ≡ read → IsWhy (refusal given) why → why ≡ RefusedText fault → IfSome left (λ bytes. refusal bytes ≡ Some fault)
-reads-refused None read given fault why is same refused told = tt
-reads-refused (Some bytes) read given fault why is same refused told = same-refusal 8388608 refusal long-trace bytes read is ∙ (ap refusal (sym same) ∙ subst (IsWhy (refusal given)) told refused)
+module _ (why : List ℕ → Option TraceFault) (too-long : (bytes : List ℕ) → 8388608 < length bytes → why bytes ≡ Some long_fault) where
+  -- the text is refused for what the reader told
+  text-refused : (left : Option (List ℕ)) (read given : List ℕ) (fault : TraceFault) (e : TraceError) → IsRead 8388608 left read → given ≡ read → IsWhy (why given) e → e ≡ RefusedText fault → IfSome left (λ bytes. why bytes ≡ Some fault)
+  text-refused None read given fault e is same refused told = tt
+  text-refused (Some bytes) read given fault e is same refused told = same-refusal 8388608 why too-long bytes read is ∙ (ap why (sym same) ∙ subst (IsWhy (why given)) told refused)
+
+pub reads-refused : (left : Option (List ℕ)) (read given : List ℕ) (fault : TraceFault) (e : TraceError) → IsRead 8388608 left read → given ≡ read → IsWhy (refusal given) e → e ≡ RefusedText fault → IfSome left (λ bytes. refusal bytes ≡ Some fault)
+reads-refused = text-refused refusal long-trace
+
+pub files-refused : (left : Option (List ℕ)) (read given : List ℕ) (fault : TraceFault) (e : TraceError) → IsRead 8388608 left read → given ≡ read → IsWhy (files_refusal given) e → e ≡ RefusedText fault → IfSome left (λ bytes. files_refusal bytes ≡ Some fault)
+files-refused = text-refused files_refusal long-files
 
 -- where it stands for a setup, it was read to its end
 pub reads-trace : (g : Given) (read : List ℕ) → IsRead 8388608 g.before read → (T : Setup) → Takes g.before g.after read → Stands read T → IsSetup T → ReadsTrace g T
@@ -94,6 +109,16 @@ reads-trace g read is T taken stands valid = record {
   taken = taken;
   stands = stands;
   to_end = at-end 8388608 g.before g.after read taken is (short 8388608 refusal long-trace read stands.accepted);
+}
+
+-- where it stands for file commands, it was read to its end
+pub reads-files : (g : Given) (read : List ℕ) → IsRead 8388608 g.before read → (F : Files) → Takes g.before g.after read → FilesStand read F → AreFiles F → ReadsFiles g F
+reads-files g read is F taken stands valid = record {
+  valid = valid;
+  text = read;
+  taken = taken;
+  stands = stands;
+  to_end = at-end 8388608 g.before g.after read taken is (short 8388608 files_refusal long-files read stands.accepted);
 }
 
 -- A report.

@@ -17,10 +17,11 @@ use Rattle.sem_serial.proofs.Running.{picked-enabled}
 use Rattle.sem_cli.specs.declared.statuses.Status.{Status}
 use Rattle.sem_cli.specs.declared.statuses.Status.TheVariants.{Done, Usage, TraceRefused, ReadFault, WriteFault, Memory, ReportRefused}
 use Rattle.sem_cli.specs.declared.forms.Command.TheVariants.{Generate, Ask}
+use Rattle.sem_files.specs.Compiled.{compiled}
 use Rattle.sem_run.specs.Inputs.{Given, RunsSetup}
-use Rattle.sem_run.specs.Inputs.RunsSetup.{is_read, is_generated}
+use Rattle.sem_run.specs.Inputs.RunsSetup.{is_read, is_compiled, is_generated}
 use Rattle.sem_run.proofs.Asked.{not-run}
-use Rattle.sem_run.specs.Ends.{RunsSeeded, EndsThreaded, EndsSoaked, IsPartOfRun, IsSafeRun, IsOfRun, WouldEnd}
+use Rattle.sem_run.specs.Ends.{RunsSeeded, EndsThreaded, EndsSoaked, EndsFiled, IsPartOfRun, IsSafeRun, IsOfRun, WouldEnd}
 
 -- what the words make is a run
 drain-run : (n : ℕ) (T : Setup) (W : World) (g : Lcg) → IsRun T W (drain n T W g)
@@ -52,6 +53,7 @@ module _ (g : Given) (J : List Entry) where
     where
       is-setup : RunsSetup g T → IsSetup T
       is-setup (is_read seed asked trace) = trace.valid
+      is-setup (is_compiled seed F asked read made valid) = valid
       is-setup (is_generated seed vpes calls asked made valid) = valid
 
   seeded-safe : (T : Setup) (seed : ℕ) → RunsSeeded g J T seed → IsSafeRun g J
@@ -62,6 +64,9 @@ module _ (g : Given) (J : List Entry) where
 
   soaked-safe : (text : List ℕ) → EndsSoaked g J text → IsSafeRun g J
   soaked-safe text ends = schedule-safe ends.setup (is_generated ends.seed ends.vpes ends.calls ends.command ends.made ends.valid) ends.complete.schedule
+
+  filed-safe : (text : List ℕ) → EndsFiled g J text → IsSafeRun g J
+  filed-safe text ends = schedule-safe (compiled ends.files) (is_compiled ends.seed ends.files ends.command ends.read refl ends.valid) ends.complete.schedule
 
   part-safe : IsPartOfRun g J → J ≢ [] → IsSafeRun g J
   part-safe (inl empty) some = absurd (some empty)
@@ -74,7 +79,8 @@ module _ (g : Given) (J : List Entry) where
     would-safe Done (inr (inl ends)) of_run = absurd (not-run g (Ask ends.question) of_run.0 ends.command refl of_run.1 of_run.2)
     would-safe Done (inr (inr (inl ends))) of_run = absurd (not-run g (Generate ends.seed ends.vpes ends.calls) of_run.0 ends.command refl of_run.1 of_run.2)
     would-safe Done (inr (inr (inr (inl ends)))) of_run = threaded-safe text ends
-    would-safe Done (inr (inr (inr (inr ends)))) of_run = soaked-safe text ends
+    would-safe Done (inr (inr (inr (inr (inl ends))))) of_run = soaked-safe text ends
+    would-safe Done (inr (inr (inr (inr (inr ends))))) of_run = filed-safe text ends
     would-safe Usage ends of_run = absurd of_run
     would-safe TraceRefused ends of_run = absurd of_run
     would-safe ReadFault ends of_run = absurd of_run
@@ -88,9 +94,11 @@ module _ (g : Given) (J : List Entry) where
     unwritten-safe Done (inr (inl ends)) some = absurd (some ends.no_journal)
     unwritten-safe Done (inr (inr (inl ends))) some = absurd (some ends.no_journal)
     unwritten-safe Done (inr (inr (inr (inl ends)))) some = threaded-safe text ends
-    unwritten-safe Done (inr (inr (inr (inr ends)))) some = soaked-safe text ends
+    unwritten-safe Done (inr (inr (inr (inr (inl ends))))) some = soaked-safe text ends
+    unwritten-safe Done (inr (inr (inr (inr (inr ends))))) some = filed-safe text ends
     unwritten-safe Usage ends some = absurd (some ends.no_journal)
-    unwritten-safe TraceRefused ends some = absurd (some ends.no_journal)
+    unwritten-safe TraceRefused (inl ends) some = absurd (some ends.no_journal)
+    unwritten-safe TraceRefused (inr ends) some = absurd (some ends.no_journal)
     unwritten-safe ReadFault ends some = absurd (some ends.no_journal)
     unwritten-safe WriteFault ends some = absurd ends
     unwritten-safe Memory ends some = would-safe Memory ends some

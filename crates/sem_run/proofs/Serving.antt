@@ -9,17 +9,18 @@ use Rattle.sem_io.specs.Count.{Rose}
 use Rattle.sem_io.specs.SourceBytes.{Takes}
 use Rattle.sem_io.specs.SinkBytes.{Appends, AppendsPrefix}
 use Rattle.sem_trace.specs.Refusal.{refusal}
+use Rattle.sem_files.specs.FileRefusal.{refusal as files_refusal}
 use Rattle.sem_report.specs.declared.verdict.Verdict.{Verdict}
 use Rattle.sem_audit.specs.HeldKeys.{report}
 use Rattle.sem_cli.specs.declared.forms.Command.{Command}
-use Rattle.sem_cli.specs.declared.forms.Command.TheVariants.{Run, Threads, Generate, Soak, Ask}
+use Rattle.sem_cli.specs.declared.forms.Command.TheVariants.{Run, Threads, Files, Generate, Soak, Ask}
 use Rattle.sem_cli.specs.declared.statuses.Status.{Status}
 use Rattle.sem_cli.specs.declared.statuses.Status.TheVariants.{Done, Usage, TraceRefused, ReadFault, WriteFault, Memory, ReportRefused}
 use Rattle.sem_run.specs.Inputs.{Given, Asks, AsksRun, ReadsTrace, reads_input}
 use Rattle.sem_run.specs.Reports.{IsReport, IsVerdict, is_accepted}
 use Rattle.sem_run.specs.Ends.{WouldEnd, EndsWith}
-use Rattle.sem_run.specs.Serves.{Serves, TellsUsage, RefusesTraces, RunsTraces, RefusesReports, AcceptsReports}
-use Rattle.sem_run.proofs.Asked.{not-both, no-run}
+use Rattle.sem_run.specs.Serves.{Serves, TellsUsage, RefusesTraces, RunsTraces, RefusesFiles, RunsFiles, RefusesReports, AcceptsReports}
+use Rattle.sem_run.proofs.Asked.{not-both, not-run, no-run, no-files, is_files}
 use Rattle.sem_run.proofs.SafeRuns.{would-safe, unwritten-safe}
 
 -- what was read to the end of an input is all that was left of it
@@ -36,9 +37,11 @@ module _ (g : Given) (J : List Entry) (text : List ℕ) where
   usage Done (inr (inl ends)) none = absurd (none-some (Ask ends.question) (sym none ∙ ends.command))
   usage Done (inr (inr (inl ends))) none = absurd (none-some (Generate ends.seed ends.vpes ends.calls) (sym none ∙ ends.command))
   usage Done (inr (inr (inr (inl ends)))) none = absurd (none-some (Threads ends.seed) (sym none ∙ ends.command))
-  usage Done (inr (inr (inr (inr ends)))) none = absurd (none-some (Soak ends.seed ends.vpes ends.calls) (sym none ∙ ends.command))
+  usage Done (inr (inr (inr (inr (inl ends))))) none = absurd (none-some (Soak ends.seed ends.vpes ends.calls) (sym none ∙ ends.command))
+  usage Done (inr (inr (inr (inr (inr ends))))) none = absurd (none-some (Files ends.seed) (sym none ∙ ends.command))
   usage Usage ends none = inl refl
-  usage TraceRefused ends none = absurd (no-command ends.seed ends.command)
+  usage TraceRefused (inr ends) none = absurd (none-some (Files ends.seed) (sym none ∙ ends.command))
+  usage TraceRefused (inl ends) none = absurd (no-command ends.seed ends.command)
     where
       no-command : (seed : ℕ) → AsksRun g seed → ⊥
       no-command seed (inl asked) = none-some (Run seed) (sym none ∙ asked)
@@ -52,7 +55,8 @@ module _ (g : Given) (J : List Entry) (text : List ℕ) where
   pub unread : (command : Command) → reads_input command ≡ false → Asks g command → (status : Status) → WouldEnd g J text status → (status ≡ Done) ⊎ ((status ≡ WriteFault) ⊎ (status ≡ Memory))
   unread command lacks asked Done ends = inl refl
   unread command lacks asked Usage ends = absurd (none-some command (sym ends.no_command ∙ asked))
-  unread command lacks asked TraceRefused ends = absurd (no-trace ends.seed ends.command)
+  unread command lacks asked TraceRefused (inr ends) = absurd (not-both g command (Files ends.seed) reads_input asked ends.command lacks refl)
+  unread command lacks asked TraceRefused (inl ends) = absurd (no-trace ends.seed ends.command)
     where
       no-trace : (seed : ℕ) → AsksRun g seed → ⊥
       no-trace seed (inl other) = not-both g command (Run seed) reads_input asked other lacks refl
@@ -77,7 +81,8 @@ module _ (g : Given) (J : List Entry) (text : List ℕ) where
   refuses_traces Done (inr (inr (inl ends))) seed bytes fault asked left refused = absurd (no-run g (Generate ends.seed ends.vpes ends.calls) ends.command refl seed asked)
   refuses_traces Done (inr (inr (inr (inl ends)))) seed bytes fault asked left refused =
       absurd (none-some fault (sym ends.trace.stands.accepted ∙ (ap refusal (whole g.before g.after ends.trace.text bytes ends.trace.taken ends.trace.to_end left) ∙ refused)))
-  refuses_traces Done (inr (inr (inr (inr ends)))) seed bytes fault asked left refused = absurd (no-load ends.seed ends.vpes ends.calls seed ends.command asked)
+  refuses_traces Done (inr (inr (inr (inr (inl ends))))) seed bytes fault asked left refused = absurd (no-load ends.seed ends.vpes ends.calls seed ends.command asked)
+  refuses_traces Done (inr (inr (inr (inr (inr ends))))) seed bytes fault asked left refused = absurd (no-files g seed ends.seed asked ends.command)
   refuses_traces Usage ends seed bytes fault asked left refused = absurd (no-words seed asked)
     where
       no-words : (seed : ℕ) → AsksRun g seed → ⊥
@@ -97,13 +102,43 @@ module _ (g : Given) (J : List Entry) (text : List ℕ) where
       no-words : (seed : ℕ) → AsksRun g seed → ⊥
       no-words seed (inl is) = none-some (Run seed) (sym ends.no_command ∙ is)
       no-words seed (inr is) = none-some (Threads seed) (sym ends.no_command ∙ is)
-  runs TraceRefused ends seed bytes T asked left stands =
+  runs TraceRefused (inr ends) seed bytes T asked left stands = absurd (no-files g seed ends.seed asked ends.command)
+  runs TraceRefused (inl ends) seed bytes T asked left stands =
       let refused : refusal bytes ≡ Some ends.fault = subst (λ o. IfSome o (λ bytes. refusal bytes ≡ Some ends.fault)) left ends.refused in
       absurd (none-some ends.fault (sym stands.accepted ∙ refused))
   runs ReadFault ends seed bytes T asked left stands = inr (inl refl)
   runs WriteFault ends seed bytes T asked left stands = absurd ends
   runs Memory ends seed bytes T asked left stands = inr (inr (inr refl))
   runs ReportRefused ends seed bytes T asked left stands = absurd (no-run g (Ask ends.question) ends.command refl seed asked)
+
+  -- a text that is no text of file commands
+  pub refuses_files : (status : Status) → WouldEnd g J text status → RefusesFiles g status
+  refuses_files Done (inl ends) seed bytes fault asked left refused = absurd (no-files g ends.seed seed (inl ends.run.command) asked)
+  refuses_files Done (inr (inl ends)) seed bytes fault asked left refused = absurd (not-run g (Ask ends.question) (Files seed) ends.command refl asked refl)
+  refuses_files Done (inr (inr (inl ends))) seed bytes fault asked left refused = absurd (not-run g (Generate ends.seed ends.vpes ends.calls) (Files seed) ends.command refl asked refl)
+  refuses_files Done (inr (inr (inr (inl ends)))) seed bytes fault asked left refused = absurd (no-files g ends.seed seed (inr ends.command) asked)
+  refuses_files Done (inr (inr (inr (inr (inl ends))))) seed bytes fault asked left refused = absurd (not-both g (Soak ends.seed ends.vpes ends.calls) (Files seed) is_files ends.command asked refl refl)
+  refuses_files Done (inr (inr (inr (inr (inr ends))))) seed bytes fault asked left refused =
+      absurd (none-some fault (sym ends.read.stands.accepted ∙ (ap files_refusal (whole g.before g.after ends.read.text bytes ends.read.taken ends.read.to_end left) ∙ refused)))
+  refuses_files Usage ends seed bytes fault asked left refused = absurd (none-some (Files seed) (sym ends.no_command ∙ asked))
+  refuses_files TraceRefused ends seed bytes fault asked left refused = inl refl
+  refuses_files ReadFault ends seed bytes fault asked left refused = inr (inl refl)
+  refuses_files WriteFault ends seed bytes fault asked left refused = absurd ends
+  refuses_files Memory ends seed bytes fault asked left refused = inr (inr (inr refl))
+  refuses_files ReportRefused ends seed bytes fault asked left refused = absurd (not-run g (Ask ends.question) (Files seed) ends.command refl asked refl)
+
+  -- file commands
+  pub runs_files : (status : Status) → WouldEnd g J text status → RunsFiles g status
+  runs_files Done ends seed bytes F asked left stands = inl refl
+  runs_files Usage ends seed bytes F asked left stands = absurd (none-some (Files seed) (sym ends.no_command ∙ asked))
+  runs_files TraceRefused (inl ends) seed bytes F asked left stands = absurd (no-files g ends.seed seed ends.command asked)
+  runs_files TraceRefused (inr ends) seed bytes F asked left stands =
+      let refused : files_refusal bytes ≡ Some ends.fault = subst (λ o. IfSome o (λ bytes. files_refusal bytes ≡ Some ends.fault)) left ends.refused in
+      absurd (none-some ends.fault (sym stands.accepted ∙ refused))
+  runs_files ReadFault ends seed bytes F asked left stands = inr (inl refl)
+  runs_files WriteFault ends seed bytes F asked left stands = absurd ends
+  runs_files Memory ends seed bytes F asked left stands = inr (inr (inr refl))
+  runs_files ReportRefused ends seed bytes F asked left stands = absurd (not-run g (Ask ends.question) (Files seed) ends.command refl asked refl)
 
   -- a text that is no report
   pub refuses_reports : (status : Status) → WouldEnd g J text status → RefusesReports g status
@@ -113,9 +148,11 @@ module _ (g : Given) (J : List Entry) (text : List ℕ) where
       absurd (isnt (record { setup = ends.setup; entries = ends.entries; valid = ends.valid; complete = ends.complete; spelled = sym is }))
   refuses_reports Done (inr (inr (inl ends))) question bytes asked left isnt = absurd (not-both g (Generate ends.seed ends.vpes ends.calls) (Ask question) reads_input ends.command asked refl refl)
   refuses_reports Done (inr (inr (inr (inl ends)))) question bytes asked left isnt = absurd (no-run g (Ask question) asked refl ends.seed (inr ends.command))
-  refuses_reports Done (inr (inr (inr (inr ends)))) question bytes asked left isnt = absurd (not-both g (Soak ends.seed ends.vpes ends.calls) (Ask question) reads_input ends.command asked refl refl)
+  refuses_reports Done (inr (inr (inr (inr (inl ends))))) question bytes asked left isnt = absurd (not-both g (Soak ends.seed ends.vpes ends.calls) (Ask question) reads_input ends.command asked refl refl)
+  refuses_reports Done (inr (inr (inr (inr (inr ends))))) question bytes asked left isnt = absurd (not-run g (Ask question) (Files ends.seed) asked refl ends.command refl)
   refuses_reports Usage ends question bytes asked left isnt = absurd (none-some (Ask question) (sym ends.no_command ∙ asked))
-  refuses_reports TraceRefused ends question bytes asked left isnt = absurd (no-run g (Ask question) asked refl ends.seed ends.command)
+  refuses_reports TraceRefused (inl ends) question bytes asked left isnt = absurd (no-run g (Ask question) asked refl ends.seed ends.command)
+  refuses_reports TraceRefused (inr ends) question bytes asked left isnt = absurd (not-run g (Ask question) (Files ends.seed) asked refl ends.command refl)
   refuses_reports ReadFault ends question bytes asked left isnt = inr (inl refl)
   refuses_reports WriteFault ends question bytes asked left isnt = absurd ends
   refuses_reports Memory ends question bytes asked left isnt = inr (inr (inr refl))
@@ -126,7 +163,8 @@ module _ (g : Given) (J : List Entry) (text : List ℕ) where
     pub accepts_reports : (status : Status) → WouldEnd g J text status → AcceptsReports g status
     accepts_reports Done ends question bytes asked left r = inl refl
     accepts_reports Usage ends question bytes asked left r = absurd (none-some (Ask question) (sym ends.no_command ∙ asked))
-    accepts_reports TraceRefused ends question bytes asked left r = absurd (no-run g (Ask question) asked refl ends.seed ends.command)
+    accepts_reports TraceRefused (inl ends) question bytes asked left r = absurd (no-run g (Ask question) asked refl ends.seed ends.command)
+    accepts_reports TraceRefused (inr ends) question bytes asked left r = absurd (not-run g (Ask question) (Files ends.seed) asked refl ends.command refl)
     accepts_reports ReadFault ends question bytes asked left r = inr (inl refl)
     accepts_reports WriteFault ends question bytes asked left r = absurd ends
     accepts_reports Memory ends question bytes asked left r = inr (inr (inr refl))
@@ -145,6 +183,8 @@ module _ (g : Given) (J : List Entry) (text : List ℕ) where
           usage = usage status ends;
           refuses_traces = refuses_traces status ends;
           runs = runs status ends;
+          refuses_files = refuses_files status ends;
+          runs_files = runs_files status ends;
           refuses_reports = refuses_reports status ends;
           accepts_reports = accepts_reports status ends;
           generates = λ seed vpes calls asked. unread (Generate seed vpes calls) refl asked status ends;
@@ -169,6 +209,8 @@ module _ (g : Given) (J : List Entry) (text : List ℕ) where
       usage = λ none. inr (inl refl);
       refuses_traces = λ seed bytes fault asked left refused. inr (inr (inl refl));
       runs = λ seed bytes T asked left stands. inr (inr (inl refl));
+      refuses_files = λ seed bytes fault asked left refused. inr (inr (inl refl));
+      runs_files = λ seed bytes F asked left stands. inr (inr (inl refl));
       refuses_reports = λ question bytes asked left isnt. inr (inr (inl refl));
       accepts_reports = λ question bytes asked left r. inr (inr (inl refl));
       generates = λ seed vpes calls asked. inr (inl refl);

@@ -19,15 +19,17 @@ use Rattle.sem_query.specs.HolderText.{holder_text}
 use Rattle.sem_query.specs.Paths.{path}
 use Rattle.sem_query.specs.Denials.{IsDenied}
 use Rattle.sem_audit.specs.Straying.{stray_count}
+use Rattle.sem_files.specs.Files.{Files as FileCommands}
+use Rattle.sem_files.specs.Compiled.{compiled}
 use Rattle.sem_cli.specs.declared.forms.Command.{Command}
-use Rattle.sem_cli.specs.declared.forms.Command.TheVariants.{Run, Threads, Generate, Soak, Ask}
+use Rattle.sem_cli.specs.declared.forms.Command.TheVariants.{Run, Threads, Files, Generate, Soak, Ask}
 use Rattle.sem_cli.specs.declared.forms.Question.{Question}
 use Rattle.sem_cli.specs.declared.forms.Question.TheVariants.{Check, Contents, Holder, Path, Denied}
 use Rattle.sem_cli.specs.declared.statuses.Status.{Status}
 use Rattle.sem_cli.specs.declared.statuses.Status.TheVariants.{Done, Usage, TraceRefused, ReadFault, WriteFault, Memory, ReportRefused}
 use Rattle.sem_cli.specs.Summary.{summary}
-use Rattle.sem_cli.specs.Messages.{usage_line, ok_line, refused_line}
-use Rattle.sem_run.specs.Inputs.{Given, Asks, AsksRun, IsUntouched, ReadsPart, ReadsAll, ReadsTrace, RunsSetup, IsRefused, IsQuietlyRead, is_run, reads_input}
+use Rattle.sem_cli.specs.Messages.{usage_line, ok_line, refused_line, files_refused_line}
+use Rattle.sem_run.specs.Inputs.{Given, Asks, AsksRun, IsUntouched, ReadsPart, ReadsAll, ReadsTrace, ReadsFiles, RunsSetup, IsRefused, AreRefused, IsQuietlyRead, is_run, reads_input}
 use Rattle.sem_run.specs.Reports.{IsRefusedReport}
 
 -- What the program leaves: its status, the journal, and its output before and after the call.
@@ -123,6 +125,18 @@ pub record EndsSoaked (g : Given) (J : List Entry) (text : List ℕ) : Type 0 wh
   pub told : text ≡ summary vpes (vpes * calls) (length (replies J))
       (stray_count setup J (world_after setup J).sides)
 
+-- Status 0 of `files`: the journal is the seeded one of the setup that the file commands are
+-- compiled to, it is complete, and the text is its report.
+pub record EndsFiled (g : Given) (J : List Entry) (text : List ℕ) : Type 0 where
+  pub files : FileCommands
+  pub seed : ℕ
+  pub command : Asks g (Files seed)
+  pub read : ReadsFiles g files
+  pub valid : IsSetup (compiled files)
+  pub made : J ≡ seeded (compiled files) seed
+  pub complete : IsComplete (compiled files) J
+  pub told : text ≡ report (compiled files) J
+
 -- Status 0: what the command asks for is done.
 abbrev pub EndsDone : Given → List Entry → List ℕ → Type 0
 EndsDone g J text =
@@ -130,7 +144,8 @@ EndsDone g J text =
     ⊎ (EndsAnswered g J text
     ⊎ (EndsGenerated g J text
     ⊎ (EndsThreaded g J text
-    ⊎ EndsSoaked g J text)))
+    ⊎ (EndsSoaked g J text
+    ⊎ EndsFiled g J text))))
 
 -- Status 1: the words are no command; nothing was read.
 pub record EndsUsage (g : Given) (J : List Entry) (text : List ℕ) : Type 0 where
@@ -139,9 +154,8 @@ pub record EndsUsage (g : Given) (J : List Entry) (text : List ℕ) : Type 0 whe
   pub no_journal : J ≡ []
   pub told : text ≡ usage_line
 
--- Status 2: a command that reads a trace, and an input that is none. At most a prefix of it was
--- read.
-pub record EndsRefused (g : Given) (J : List Entry) (text : List ℕ) : Type 0 where
+-- Status 2 of a command that reads a trace: the input is none. At most a prefix of it was read.
+pub record EndsTraceRefused (g : Given) (J : List Entry) (text : List ℕ) : Type 0 where
   pub seed : ℕ
   pub command : AsksRun g seed
   pub fault : TraceFault
@@ -150,6 +164,21 @@ pub record EndsRefused (g : Given) (J : List Entry) (text : List ℕ) : Type 0 w
   pub quiet : IsQuietlyRead g
   pub no_journal : J ≡ []
   pub told : text ≡ refused_line fault
+
+-- Status 2 of `files`: the input is no text of file commands. At most a prefix of it was read.
+pub record EndsFilesRefused (g : Given) (J : List Entry) (text : List ℕ) : Type 0 where
+  pub seed : ℕ
+  pub command : Asks g (Files seed)
+  pub fault : TraceFault
+  pub refused : AreRefused g fault
+  pub read : ReadsPart g
+  pub quiet : IsQuietlyRead g
+  pub no_journal : J ≡ []
+  pub told : text ≡ files_refused_line fault
+
+-- Status 2: the input is not what the command reads.
+abbrev pub EndsRefused : Given → List Entry → List ℕ → Type 0
+EndsRefused g J text = EndsTraceRefused g J text ⊎ EndsFilesRefused g J text
 
 -- Status 3: a command that reads, and a read that failed, behind a prefix of the input.
 pub record EndsReadFault (g : Given) (J : List Entry) (text : List ℕ) : Type 0 where

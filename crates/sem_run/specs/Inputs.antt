@@ -5,8 +5,12 @@ use Rattle.sem_io.specs.SourceBytes.{Takes}
 use Rattle.sem_trace.specs.declared.fault.TraceFault.{TraceFault}
 use Rattle.sem_trace.specs.Refusal.{refusal}
 use Rattle.sem_trace.specs.Standing.{Stands}
+use Rattle.sem_files.specs.Files.{Files as FileCommands}
+use Rattle.sem_files.specs.Compiled.{compiled, AreFiles}
+use Rattle.sem_files.specs.FileRefusal.{refusal as files_refusal}
+use Rattle.sem_files.specs.Standing.{FilesStand}
 use Rattle.sem_cli.specs.declared.forms.Command.{Command}
-use Rattle.sem_cli.specs.declared.forms.Command.TheVariants.{Run, Threads, Generate, Soak, Ask}
+use Rattle.sem_cli.specs.declared.forms.Command.TheVariants.{Run, Threads, Files, Generate, Soak, Ask}
 use Rattle.sem_cli.specs.Commands.{command_of}
 use Rattle.sem_gen.specs.Generated.{generated}
 
@@ -18,6 +22,7 @@ asked_by words = command_of (map string_bytes words)
 abbrev pub is_alone : Command → Bool
 is_alone (Run seed) = true
 is_alone (Threads seed) = false
+is_alone (Files seed) = true
 is_alone (Generate seed vpes calls) = true
 is_alone (Soak seed vpes calls) = false
 is_alone (Ask question) = true
@@ -26,6 +31,7 @@ is_alone (Ask question) = true
 abbrev pub is_run : Command → Bool
 is_run (Run seed) = true
 is_run (Threads seed) = true
+is_run (Files seed) = true
 is_run (Generate seed vpes calls) = false
 is_run (Soak seed vpes calls) = true
 is_run (Ask question) = false
@@ -34,6 +40,7 @@ is_run (Ask question) = false
 abbrev pub reads_input : Command → Bool
 reads_input (Run seed) = true
 reads_input (Threads seed) = true
+reads_input (Files seed) = true
 reads_input (Generate seed vpes calls) = false
 reads_input (Soak seed vpes calls) = false
 reads_input (Ask question) = true
@@ -63,7 +70,7 @@ given left faults asked old new = record {
 abbrev pub Asks : Given → Command → Type 0
 Asks g command = g.asked ≡ Some command
 
--- the words are a run by that seed, on one thread or in threads
+-- the words are a run of a trace by that seed, on one thread or in threads
 abbrev pub AsksRun : Given → ℕ → Type 0
 AsksRun g seed = Asks g (Run seed) ⊎ Asks g (Threads seed)
 
@@ -89,15 +96,30 @@ pub record ReadsTrace (g : Given) (T : Setup) : Type 0 where
   pub stands : Stands text T
   pub to_end : IfSome g.after (λ rest. rest ≡ [])
 
--- The setup that a command runs: the one that was read, or the one that `soak` generates.
+-- The input was read to its end, and stands for file commands.
+pub record ReadsFiles (g : Given) (F : FileCommands) : Type 0 where
+  pub valid : AreFiles F
+  pub text : List ℕ
+  pub taken : Takes g.before g.after text
+  pub stands : FilesStand text F
+  pub to_end : IfSome g.after (λ rest. rest ≡ [])
+
+-- The setup that a command runs: the one that was read, the one that the file commands that were
+-- read are compiled to, or the one that `soak` generates.
 pub data RunsSetup (g : Given) (T : Setup) : Type 0 where
   is_read : (seed : ℕ) → AsksRun g seed → ReadsTrace g T → RunsSetup g T
+  is_compiled : (seed : ℕ) (F : FileCommands)
+      → Asks g (Files seed) → ReadsFiles g F → T ≡ compiled F → IsSetup T → RunsSetup g T
   is_generated : (seed vpes calls : ℕ)
       → Asks g (Soak seed vpes calls) → T ≡ generated seed vpes calls → IsSetup T → RunsSetup g T
 
 -- the input is no trace, and this is its first fault
 abbrev pub IsRefused : Given → TraceFault → Type 0
 IsRefused g fault = IfSome g.before (λ bytes. refusal bytes ≡ Some fault)
+
+-- the input is no text of file commands, and this is its first fault
+abbrev pub AreRefused : Given → TraceFault → Type 0
+AreRefused g fault = IfSome g.before (λ bytes. files_refusal bytes ≡ Some fault)
 
 -- the input has had no fault in the call
 abbrev pub IsQuietlyRead : Given → Type 0

@@ -3,8 +3,9 @@ use Rattle.std.specs.Prelude.{◌≡◌, ℕ, true, false, List, [], length, map
 use Rattle.sem_msg.specs.declared.audit.Audit.{Audit}
 use Rattle.sem_msg.specs.declared.entry.Entry.{Entry}
 use Rattle.sem_msg.specs.Journal.{replies}
-use Rattle.sem_msg.specs.Setup.{Setup}
-use Rattle.sem_trace.specs.declared.fault.TraceFault.{TraceFault}
+use Rattle.sem_msg.specs.Setup.{Setup, IsSetup}
+use Rattle.sem_files.specs.Files.{Files}
+use Rattle.sem_files.specs.Compiled.{compiled}
 use Rattle.sem_machine.specs.Schedules.{world_after}
 use Rattle.sem_machine.specs.Living.{IsComplete}
 use Rattle.sem_kernel.specs.KernelValue.{KernelValue}
@@ -14,7 +15,6 @@ use Rattle.sem_cli.specs.declared.forms.Command.{Command}
 use Rattle.sem_cli.specs.declared.forms.Question.{Question}
 use Rattle.sem_cli.specs.declared.statuses.Status.{Status}
 use Rattle.sem_cli.specs.declared.statuses.Status.TheVariants.{Done, Usage, TraceRefused, ReadFault, WriteFault, Memory, ReportRefused}
-use Rattle.sem_cli.specs.Messages.{refused_line}
 use Rattle.sem_cli.specs.Summary.{summary}
 use Rattle.sem_cli.specs.Commands.{command_of}
 use Rattle.sem_run.specs.declared.response.Response.{Response}
@@ -22,7 +22,7 @@ use Rattle.sem_report.specs.declared.verdict.Verdict.{Verdict}
 use Rattle.sem_report.specs.declared.verdict.Verdict.TheVariants.{Accepted, BadLine, BadEntry, NotOver, BadAudit}
 use Rattle.sem_report.specs.Audited.{audited, AuditFits}
 use Rattle.sem_report.specs.ReportRefusal.{report_refusal}
-use Rattle.sem_run.specs.Inputs.{Given}
+use Rattle.sem_run.specs.Inputs.{Given, ReadsFiles}
 use Rattle.sem_run.specs.Reports.{is_accepted, verdict_line}
 use Rattle.sem_run.specs.Ends.{IsAnswer, WouldEnd}
 
@@ -34,19 +34,26 @@ IsAsked asked = (words : List (List ℕ)) × (command_of words ≡ asked)
 abbrev pub Responds : Given → Response → Type 0
 Responds g r = WouldEnd g r.journal.entries r.text.items r.status
 
--- a fault of a trace is told, or memory is lacking
-abbrev pub IsFaultTold : TraceFault → List ℕ → Status → Type 0
-IsFaultTold fault text Done = ⊥
-IsFaultTold fault text Usage = ⊥
-IsFaultTold fault text TraceRefused = text ≡ refused_line fault
-IsFaultTold fault text ReadFault = ⊥
-IsFaultTold fault text WriteFault = ⊥
-IsFaultTold fault text Memory = text ≡ []
-IsFaultTold fault text ReportRefused = ⊥
+-- the input is refused with this line, or memory is lacking
+abbrev pub IsRefusalTold : List ℕ → List ℕ → Status → Type 0
+IsRefusalTold line text Done = ⊥
+IsRefusalTold line text Usage = ⊥
+IsRefusalTold line text TraceRefused = text ≡ line
+IsRefusalTold line text ReadFault = ⊥
+IsRefusalTold line text WriteFault = ⊥
+IsRefusalTold line text Memory = text ≡ []
+IsRefusalTold line text ReportRefused = ⊥
 
--- the response to a trace with that fault
-abbrev pub TellsFault : TraceFault → Response → Type 0
-TellsFault fault r = (r.journal.entries ≡ []) × IsFaultTold fault r.text.items r.status
+-- the response to an input that is refused with this line
+abbrev pub TellsRefusal : List ℕ → Response → Type 0
+TellsRefusal line r = (r.journal.entries ≡ []) × IsRefusalTold line r.text.items r.status
+
+-- The input was read to its end, and stands for file commands that are compiled to the setup.
+pub record ReadsService (g : Given) (T : Setup) : Type 0 where
+  pub files : Files
+  pub read : ReadsFiles g files
+  pub made : T ≡ compiled files
+  pub valid : IsSetup T
 
 -- how a run of a setup ends: with the report of a complete journal, or for lack of memory
 abbrev pub EndsRun : Setup → List Entry → List ℕ → Status → Type 0

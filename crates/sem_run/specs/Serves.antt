@@ -6,7 +6,10 @@ use Rattle.sem_io.specs.Count.{Rose}
 use Rattle.sem_trace.specs.declared.fault.TraceFault.{TraceFault}
 use Rattle.sem_trace.specs.Refusal.{refusal}
 use Rattle.sem_trace.specs.Standing.{Stands}
-use Rattle.sem_cli.specs.declared.forms.Command.TheVariants.{Generate, Soak, Ask}
+use Rattle.sem_files.specs.Files.{Files as FileCommands}
+use Rattle.sem_files.specs.FileRefusal.{refusal as files_refusal}
+use Rattle.sem_files.specs.Standing.{FilesStand}
+use Rattle.sem_cli.specs.declared.forms.Command.TheVariants.{Files, Generate, Soak, Ask}
 use Rattle.sem_cli.specs.declared.forms.Question.{Question}
 use Rattle.sem_cli.specs.declared.statuses.Status.{Status}
 use Rattle.sem_cli.specs.declared.statuses.Status.TheVariants.{Done, Usage, TraceRefused, ReadFault, WriteFault, Memory, ReportRefused}
@@ -39,6 +42,19 @@ abbrev pub RunsTraces : Given → Status → Type 0
 RunsTraces g status =
     (seed : ℕ) (bytes : List ℕ) (T : Setup)
     → AsksRun g seed → g.before ≡ Some bytes → Stands bytes T → IsOrFails Done status
+
+-- a text that is no text of file commands is refused
+abbrev pub RefusesFiles : Given → Status → Type 0
+RefusesFiles g status =
+    (seed : ℕ) (bytes : List ℕ) (fault : TraceFault)
+    → Asks g (Files seed) → g.before ≡ Some bytes → files_refusal bytes ≡ Some fault
+    → IsOrFails TraceRefused status
+
+-- all file commands are run to their end
+abbrev pub RunsFiles : Given → Status → Type 0
+RunsFiles g status =
+    (seed : ℕ) (bytes : List ℕ) (F : FileCommands)
+    → Asks g (Files seed) → g.before ≡ Some bytes → FilesStand bytes F → IsOrFails Done status
 
 -- a text that is not the report of a complete schedule is refused
 abbrev pub RefusesReports : Given → Status → Type 0
@@ -76,6 +92,8 @@ pub record Serves (g : Given) (o : Output) : Type 0 where
   pub usage : TellsUsage g o.status
   pub refuses_traces : RefusesTraces g o.status
   pub runs : RunsTraces g o.status
+  pub refuses_files : RefusesFiles g o.status
+  pub runs_files : RunsFiles g o.status
   pub refuses_reports : RefusesReports g o.status
   pub accepts_reports : AcceptsReports g o.status
   pub generates : GeneratesLoads g o.status

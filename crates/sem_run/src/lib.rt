@@ -1,5 +1,5 @@
-//! What the program does with the words of its command line: it runs traces, and answers questions
-//! about reports.
+//! What the program does with the words of its command line: it runs traces and file commands,
+//! and answers questions about reports.
 #![tactic(auto)]
 
 mod accepts;
@@ -12,6 +12,7 @@ mod process;
 mod response;
 mod responses;
 mod runs;
+mod services;
 mod soaks;
 mod threads;
 mod top;

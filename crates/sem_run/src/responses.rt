@@ -8,6 +8,7 @@ use crate::answers::answer;
 use crate::generates::generate_trace;
 use crate::response::Response;
 use crate::runs::run_trace;
+use crate::services::run_files;
 use crate::soaks::soak_load;
 use crate::threads::thread_trace;
 use sem_cli::{Command, Status, usage};
@@ -44,6 +45,7 @@ pub fn respond<S: Source>(alloc: Global, asked: Option<Command>, input: &mut S) 
 {
     match asked {
         Some(Command::Run { seed }) => run_trace(alloc, seed, input),
+        Some(Command::Files { seed }) => run_files(alloc, seed, input),
         Some(Command::Ask { question }) => answer(alloc, question, input),
         Some(Command::Generate { seed, vpes, calls }) => generate_trace(alloc, seed, vpes, calls),
         Some(Command::Threads { .. }) => tell_usage(alloc),

@@ -6,10 +6,11 @@ ghost use Rattle.sem_machine.specs.Seeded.{drained};
 ghost use Rattle.sem_audit.specs.HeldKeys.{report};
 ghost use Rattle.sem_cli.specs.declared.forms.Command.{Command as CommandData};
 ghost use Rattle.sem_cli.specs.declared.forms.Command.TheVariants.{Run as RunCommand};
+ghost use Rattle.sem_cli.specs.Messages.{refused_line};
 ghost use Rattle.sem_kernel.specs.Standing.{StandsAt};
 ghost use Rattle.sem_run.specs.Inputs.{given, AsksRun, ReadsTrace};
 ghost use Rattle.sem_audit.specs.HeldKeys.{IsAuditOf};
-ghost use Rattle.sem_run.specs.Readings.{AreAfter, EndsRun, IsOkWith, Responds, TellsFault};
+ghost use Rattle.sem_run.specs.Readings.{AreAfter, EndsRun, IsOkWith, Responds, TellsRefusal};
 
 use crate::response::Response;
 use sem_audit::audit_of;
@@ -25,8 +26,8 @@ use sem_serial::drain;
 use sem_trace::{TraceError, TraceFault};
 use std::alloc::Global;
 
-/// The most bytes of a trace.
-const MOST_BYTES: usize = 8_388_608;
+/// The most bytes of a trace, or of file commands.
+pub const MOST_BYTES: usize = 8_388_608;
 
 /// The kernels of a setup and their fabric, where there was memory for them.
 pub type Started = Result<(Vec<Kernel>, Fabric), OutOfMemory>;
@@ -77,7 +78,7 @@ pub fn read_setup<S: Source>(alloc: Global, input: &mut S) -> Result<Setup, Resp
 
 // The response to a text that is no trace.
 fn refuse_trace(alloc: Global, fault: &TraceFault) -> Response
-    ensures { TellsFault fault.now result }
+    ensures { TellsRefusal (refused_line fault.now) result }
 {
     let mut text = Vec::new(alloc);
     match push_refused(&mut text, fault) {

@@ -19,7 +19,7 @@ pub(crate) const DERIVED_AND_REVOKED: &str =
     "journal 3\n0 call 0 0 derive 0 1 0 1024 1 grant 0.0.1.0 0.0.1.1 reply 0 0\n0 call 0 1 revoke 0 cut 0.0.1.0\n0 resume 0 reply 0 0\naudit\nmade 2\ncut 1\nheld 0\nend\n";
 
 const USAGE: &str =
-    "usage: semper run SEED | threads SEED | check | gen SEED VPES CALLS | soak SEED VPES CALLS | contents | query holder KEY N | query path KEY | query denied N\n";
+    "usage: semper run SEED | threads SEED | check | gen SEED VPES CALLS | soak SEED VPES CALLS | contents | files SEED | query holder KEY N | query path KEY | query denied N\n";
 
 // The words of a line, parted by blanks; none where it is empty.
 fn words(alloc: Global, line: &str) -> Result<Vec<String>, Fail> {

@@ -18,7 +18,15 @@ struct Row {
     entries: usize,
 }
 
-// The rows: each command that reads or writes, over a derive and a revoke.
+// File commands by which a client opens a file and reads it.
+const FILES: &str =
+    "semper files 1\nkernels 1\nfile 0 1\nclient 1\ndo 1 open 15 0\ndo 1 read 15 0 4096\nend\n";
+
+// The report of their run.
+const OPENED_AND_READ: &str =
+    "semper report 1\nsemper trace 1\nkernels 1\npe 0 0\npe 1 0\nvpe 0 0\nvpe 1 1\nservice 0 0 0\nroot 0 1 mem 0 4096 7\noffer 0 0 1\ncall 1 open 0 0\ncall 1 ask 61 0 0\ncall 1 bind 0 61\ncall 1 read 0 0 4096\nend\njournal 8\n0 call 1 0 open 0 0\n0 upcall 0 1 yes grant 0.0.4.0 1.1.5.0\n0 resume 1 reply 1 0\n0 call 1 1 ask 61 0 0\n0 upcall 0 1 yes grant 0.0.1.1 1.1.1.1\n0 resume 1 reply 1 0\n0 call 1 2 bind 0 61 reply 1 0\n0 call 1 3 read 0 0 4096 reply 1 0\naudit\nmade 4\ncut 0\nheld 4\nkey 0.0.1.1 1\nkey 0.0.4.0 0\nkey 1.1.1.1 61\nkey 1.1.5.0 0\nend\n";
+
+// The rows: each command that reads or writes, over a derive and a revoke, or over file commands.
 fn rows(alloc: Global) -> Result<Vec<Row>, AllocError> {
     let trace = format!(in alloc; "{DECLARED}{DERIVE_AND_REVOKE}")?;
     let report = format!(in alloc; "semper report 1\n{trace}{DERIVED_AND_REVOKED}")?;
@@ -52,6 +60,12 @@ fn rows(alloc: Global) -> Result<Vec<Row>, AllocError> {
         input: report.clone()?,
         text: String::from_str(alloc, "none\n")?,
         entries: 0,
+    })?;
+    rows.push(Row {
+        line: "files 0",
+        input: String::from_str(alloc, FILES)?,
+        text: String::from_str(alloc, OPENED_AND_READ)?,
+        entries: 8,
     })?;
     rows.push(Row {
         line: "run 0",

@@ -10,6 +10,8 @@ mod contents;
 #[cfg(test)]
 mod faults;
 #[cfg(test)]
+mod files;
+#[cfg(test)]
 mod nodes;
 #[cfg(test)]
 mod queries;

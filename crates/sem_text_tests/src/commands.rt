@@ -29,7 +29,7 @@ const LAST: Key = Key {
 };
 
 #[test]
-fn nine_forms_are_commands(rt: HostRuntime) -> Result<(), Fail> {
+fn ten_forms_are_commands(rt: HostRuntime) -> Result<(), Fail> {
     for (line, want) in [
         (
             "check",
@@ -67,6 +67,7 @@ fn nine_forms_are_commands(rt: HostRuntime) -> Result<(), Fail> {
         ("run 0", Command::Run { seed: 0 }),
         ("run 18446744073709551615", Command::Run { seed: u64::MAX }),
         ("threads 7", Command::Threads { seed: 7 }),
+        ("files 7", Command::Files { seed: 7 }),
         (
             "gen 0 64 312",
             Command::Generate {
@@ -128,6 +129,8 @@ fn other_words_are_no_command(rt: HostRuntime) -> Result<(), Fail> {
         "gen 0 1 18446744073709551615",
         "gen 01 1 1",
         "soak 0 1 1 1",
+        "files",
+        "files 0 1",
         "query",
         "query path",
         "query path 0.0.1",
@@ -165,7 +168,7 @@ fn each_status_has_its_number(rt: HostRuntime) {
 fn messages_are_whole_lines(rt: HostRuntime) -> Result<(), Fail> {
     assert_eq!(rt; ok(), b"ok\n".as_slice());
     let forms = "run SEED | threads SEED | check | gen SEED VPES CALLS | soak SEED VPES CALLS";
-    let asked = "contents | query holder KEY N | query path KEY | query denied N";
+    let asked = "contents | files SEED | query holder KEY N | query path KEY | query denied N";
     let line = format!(in rt.alloc(); "usage: semper {forms} | {asked}\n")?;
     assert_eq!(rt; usage(), line.as_bytes());
     Ok(())

@@ -59,9 +59,13 @@ fn ends_so(
     let mut sink = MemSink::new(alloc, 10_000_000, 4096, Vec::new(alloc))?;
     let mut journal = Journal::new(alloc);
     let answer = match command(&words) {
-        None | Some(Command::Run { .. } | Command::Ask { .. } | Command::Generate { .. }) => {
-            semper_alone(alloc, &words, &mut source, &mut sink, &mut journal)
-        }
+        None
+        | Some(
+            Command::Run { .. }
+            | Command::Files { .. }
+            | Command::Ask { .. }
+            | Command::Generate { .. },
+        ) => { semper_alone(alloc, &words, &mut source, &mut sink, &mut journal) }
         Some(Command::Threads { .. } | Command::Soak { .. }) => return Ok(false),
     };
     Ok(answer == status && sink.bytes.as_slice() == text)

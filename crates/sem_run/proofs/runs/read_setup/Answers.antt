@@ -12,4 +12,4 @@ returns-in-Ok-read_trace-clause-reads g c asked = reads-trace _ c.in-Ok.bytes.it
 pub returns-in-Err-Refused-clause-refused : goal.returns-in-Err-Refused-clause-refused
 returns-in-Err-Refused-clause-refused g c seed asked is =
     let refused = reads-refused _ c.in-Ok.bytes.items c.deref.result.now c.in-Err-Refused.fault c.in-Err-Refused.field-0 c.in-Ok.ensures.bytes c.deref.ensures.value c.in-Err-Refused.ensures.refused c.in-Err-Refused.field-0-is in
-    fault-ends _ _ _ seed c.in-Err-Refused.fault is refused (c.in-Ok.bytes.items, c.in-Ok.ensures.taken) c.in-Ok.ensures.quiet c.refuse_trace.ensures.0 c.refuse_trace.result.status c.refuse_trace.ensures.1
+    fault-ends _ _ _ (c.in-Ok.bytes.items, c.in-Ok.ensures.taken) c.in-Ok.ensures.quiet c.refuse_trace.ensures.0 seed c.in-Err-Refused.fault is refused c.refuse_trace.result.status c.refuse_trace.ensures.1

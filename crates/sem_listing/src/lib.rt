@@ -1,0 +1,7 @@
+//! The trace that file commands are compiled to, with each command above its calls.
+#![tactic(auto)]
+
+mod commands;
+mod listings;
+
+pub use listings::listing;
