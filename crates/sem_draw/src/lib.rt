@@ -1,4 +1,5 @@
-//! Pictures as text and as SVG: message charts, trees and bars. Nothing here knows what is drawn.
+//! Pictures as text and as SVG: message charts, trees, bars and timelines. Nothing here knows what is
+//! drawn.
 #![tactic(auto)]
 
 mod answers;
@@ -12,6 +13,9 @@ mod chart_text;
 mod lines;
 mod svg;
 mod table;
+mod timeline;
+mod timeline_svg;
+mod timeline_text;
 mod tree;
 mod tree_svg;
 mod tree_text;
@@ -27,6 +31,9 @@ pub use lines::WIDTH;
 /// Memory was refused.
 pub use std::alloc::AllocError as OutOfMemory;
 pub use table::Column;
+pub use timeline::{Moment, Timeline};
+pub use timeline_svg::timeline_as_svg;
+pub use timeline_text::timeline_as_text;
 pub use tree::{Node, State};
 pub use tree_svg::tree_as_svg;
 pub use tree_text::{LEVELS, tree_as_text};

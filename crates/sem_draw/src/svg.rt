@@ -45,6 +45,18 @@ pub fn push_tail(out: &mut String) -> Result<(), OutOfMemory> {
     out.push_str("</svg>\n")
 }
 
+/// Appends the beginning of a group that shows this text when it is pointed at.
+pub fn push_hint(out: &mut String, text: &str) -> Result<(), OutOfMemory> {
+    out.push_str("<g><title>")?;
+    push_escaped(out, text)?;
+    out.push_str("</title>\n")
+}
+
+/// Appends the end of such a group.
+pub fn push_hint_end(out: &mut String) -> Result<(), OutOfMemory> {
+    out.push_str("</g>\n")
+}
+
 /// Appends a line of that class.
 pub fn push_line(
     alloc: Global,

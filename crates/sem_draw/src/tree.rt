@@ -12,12 +12,14 @@ pub enum State {
 }
 
 /// A node of a forest: the place of its parent among the nodes before it, none of a root; its name,
-/// what is said of it, and what has become of it.
+/// what is said of it, what an SVG picture says of it when it is pointed at, and what has become of
+/// it.
 #[derive(Debug, Drop)]
 pub struct Node {
     pub parent: Option<usize>,
     pub name: String,
     pub text: String,
+    pub hint: String,
     pub state: State,
 }
 

@@ -1,6 +1,8 @@
 // A forest as SVG.
 use crate::OutOfMemory;
-use crate::svg::{Point, push_head, push_line, push_rect, push_tail, push_text};
+use crate::svg::{
+    Point, push_head, push_hint, push_hint_end, push_line, push_rect, push_tail, push_text,
+};
 use crate::tree::{Node, State, Visit, walk};
 use std::alloc::Global;
 
@@ -100,6 +102,7 @@ fn push_node(
         let end = Point { x: at.x, y: middle };
         push_line(alloc, out, "link", bend, end)?;
     }
+    push_hint(out, node.hint.as_str())?;
     let width = text_width(node.name.len()).saturating_add(16);
     push_rect(alloc, out, class(node.state), at, Point { x: width, y: 22 })?;
     let base = at.y.saturating_add(16);
@@ -112,5 +115,6 @@ fn push_node(
         x: at.x.saturating_add(width).saturating_add(10),
         y: base,
     };
-    push_text(alloc, out, "text", text, node.text.as_str())
+    push_text(alloc, out, "text", text, node.text.as_str())?;
+    push_hint_end(out)
 }

@@ -1,4 +1,4 @@
-// What an earlier line of a trace says already, or what no earlier line declares.
+// What an earlier line of a trace or of file commands says already, or what no earlier line declares.
 use crate::OutOfMemory;
 use crate::words::{Word, words_of};
 use sem_trace::is;
@@ -27,6 +27,7 @@ fn agreement(words: &[Word], others: &[Word]) -> Option<usize> {
     let other = others.first()?.text;
     match (name, other) {
         (b"pe", b"pe") | (b"kill", b"kill") if same(1) => Some(1),
+        (b"file", b"file") | (b"client", b"client") if same(1) => Some(1),
         (b"vpe", b"vpe") if same(1) => Some(1),
         (b"vpe", b"vpe") if same(2) => Some(2),
         (b"root" | b"service", b"root" | b"service") if same(1) && same(2) => Some(2),

@@ -38,6 +38,10 @@ pub enum Choice {
     Outcome,
     AfterGrant,
     AfterCut,
+    /// A line of file commands.
+    FileLine,
+    /// What a client does with a handle.
+    FileAct,
 }
 
 /// A number of one byte.
@@ -76,6 +80,12 @@ const VPE: Slot = Slot::Node("VPE");
 
 const PE: Slot = Slot::Node("PE");
 
+const FILE: Slot = Slot::Number("file", 0, 15);
+
+const HANDLE: Slot = Slot::Number("handle", 0, 15);
+
+const CLIENT: Slot = Slot::Number("client", 1, 63);
+
 /// What a choice is called where its word is none of it.
 pub fn choice_name(choice: Choice) -> &'static str {
     match choice {
@@ -89,6 +99,8 @@ pub fn choice_name(choice: Choice) -> &'static str {
         Choice::YesOrNo => "yes or no",
         Choice::Version => "version",
         Choice::Outcome | Choice::AfterGrant | Choice::AfterCut => "outcome of an event",
+        Choice::FileLine => "line of file commands",
+        Choice::FileAct => "act of a client",
     }
 }
 
@@ -128,6 +140,8 @@ pub fn choice_words(choice: Choice) -> &'static [&'static str] {
         Choice::Outcome => &["grant", "cut", "reply"],
         Choice::AfterGrant => &["cut", "reply"],
         Choice::AfterCut => &["reply"],
+        Choice::FileLine => &["file", "client", "do", "end", "kernels"],
+        Choice::FileAct => &["open", "read", "write", "share", "close"],
     }
 }
 
@@ -141,6 +155,8 @@ pub fn follows(choice: Choice, word: &str) -> &'static [Slot] {
         Choice::Message => message(word),
         Choice::Target => target(word),
         Choice::Outcome | Choice::AfterGrant | Choice::AfterCut => outcome(word),
+        Choice::FileLine => file_line(word),
+        Choice::FileAct => file_act(word),
         Choice::Consent | Choice::YesOrNo | Choice::Version => &[],
     }
 }
@@ -168,6 +184,36 @@ fn declaration(word: &str) -> &'static [Slot] {
         "call" => &[VPE, Slot::Choice(Choice::Call)],
         "kernels" => &[Slot::Kernels],
         "window" => &[Slot::Number("number of messages", 1, 32)],
+        _ => &[],
+    }
+}
+
+// What follows the name of a line of file commands.
+fn file_line(word: &str) -> &'static [Slot] {
+    match word {
+        "file" => &[FILE, Slot::Number("number of extents", 1, 4)],
+        "client" => &[CLIENT],
+        "do" => &[CLIENT, Slot::Choice(Choice::FileAct)],
+        "kernels" => &[Slot::Kernels],
+        _ => &[],
+    }
+}
+
+// What follows the name of what a client does.
+fn file_act(word: &str) -> &'static [Slot] {
+    match word {
+        "open" => &[HANDLE, FILE],
+        "read" | "write" => &[
+            HANDLE,
+            Slot::Number("offset", 0, 16383),
+            Slot::Number("length", 1, 16384),
+        ],
+        "share" => &[
+            HANDLE,
+            CLIENT,
+            Slot::Number("number of what is given", 0, 15),
+        ],
+        "close" => &[HANDLE],
         _ => &[],
     }
 }

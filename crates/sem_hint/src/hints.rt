@@ -3,7 +3,8 @@ use crate::OutOfMemory;
 use crate::causes::{Fault, fault_of};
 use crate::earlier::{twice, undeclared};
 use crate::forms::{Choice, Slot, choice_name, choice_words};
-use crate::places::{Limits, Setting, begin_report, setting_of};
+use crate::handles::strayed;
+use crate::places::{Limits, Setting, TextKind, kind_of_lines, setting_of};
 use crate::words::{Word, lines_of, nearest, text_of, words_of};
 use sem_trace::{Cause, TraceFault};
 use std::alloc::Global;
@@ -19,13 +20,13 @@ struct Remark {
     text: String,
 }
 
-/// Why the text, a trace or a report, is refused at its line: the line, the word in question under carets, what was wanted
-/// there and the nearest word that can stand there.
+/// Why the text, of that kind, is refused at its line: the line, the word in question under carets,
+/// what was wanted there and the nearest word that can stand there.
 pub fn refusal_text(
     alloc: Global,
     text: &[u8],
     fault: &TraceFault,
-    is_report: bool,
+    kind: TextKind,
 ) -> Result<String, OutOfMemory> {
     let lines = lines_of(alloc, text)?;
     let number = fault.line;
@@ -33,7 +34,7 @@ pub fn refusal_text(
     let Some(line) = lines.as_slice().get(place).copied() else {
         return beyond(alloc, fault, lines.len());
     };
-    let setting = setting_of(alloc, lines.as_slice(), place, is_report)?;
+    let setting = setting_of(alloc, lines.as_slice(), place, kind)?;
     let words = words_of(alloc, line)?;
     let first = setting.trace.unwrap_or(place).min(place);
     let earlier = &lines.as_slice()[first..place];
@@ -62,14 +63,14 @@ pub fn no_report_text(
     fault: &TraceFault,
 ) -> Result<String, OutOfMemory> {
     let mut out = String::from_str(alloc, "the input is no report: ")?;
-    out.push_str(refusal_text(alloc, text, fault, true)?.as_str())?;
+    out.push_str(refusal_text(alloc, text, fault, TextKind::Report)?.as_str())?;
     Ok(out)
 }
 
-/// Whether the text begins as a report does.
-pub fn tells_report(alloc: Global, text: &[u8]) -> Result<bool, OutOfMemory> {
+/// What the text begins as.
+pub fn kind_of(alloc: Global, text: &[u8]) -> Result<TextKind, OutOfMemory> {
     let lines = lines_of(alloc, text)?;
-    begin_report(alloc, lines.as_slice())
+    kind_of_lines(alloc, lines.as_slice())
 }
 
 // Why a text is refused at a line that it does not have.
@@ -126,6 +127,9 @@ fn remark_of(
     line: &[u8],
     words: &[Word],
 ) -> Result<Remark, OutOfMemory> {
+    if let Some((word, text)) = strayed(alloc, cause, earlier, words)? {
+        return Ok(at_word(words, word, text));
+    }
     match cause {
         Cause::LineTooLong => long_line(alloc, line),
         Cause::NotText => odd_byte(alloc, line),
@@ -151,7 +155,7 @@ fn remark_of(
         },
         _ => match fault_of(alloc, setting, words)? {
             Some(fault) => of_fault(alloc, cause, line, words, (&fault, &setting.limits)),
-            None => of_cause(alloc, line, cause),
+            None => of_cause(alloc, line, cause, setting.is_files),
         },
     }
 }
@@ -206,9 +210,20 @@ fn odd_byte(alloc: Global, line: &[u8]) -> Result<Remark, OutOfMemory> {
 }
 
 // What is said of a line whose words have their form.
-fn of_cause(alloc: Global, line: &[u8], cause: Cause) -> Result<Remark, OutOfMemory> {
+fn of_cause(
+    alloc: Global,
+    line: &[u8],
+    cause: Cause,
+    is_files: bool,
+) -> Result<Remark, OutOfMemory> {
     match cause {
+        Cause::OutOfRange if is_files => whole(alloc, line, "the range ends behind the file"),
         Cause::OutOfRange => whole(alloc, line, "the memory ends above 4294967296"),
+        Cause::TooMany if is_files => whole(
+            alloc,
+            line,
+            "a line too many: it stands behind \"end\", or the client opens for the 1001st time, or there are more than 20000 calls",
+        ),
         Cause::TooMany => whole(
             alloc,
             line,

@@ -1,15 +1,19 @@
-//! Why a line of a trace or a report is refused, in words: which word of it, what was wanted there,
-//! and the nearest word that can stand there.
+//! Why a line of a trace, a report or file commands is refused, in words: which word of it, what was
+//! wanted there, and the nearest word that can stand there.
 #![tactic(auto)]
 
 mod causes;
 mod earlier;
 mod forms;
+mod handles;
 mod hints;
 mod places;
+mod told;
 mod words;
 
-pub use hints::{no_report_text, refusal_text, tells_report};
+pub use hints::{kind_of, no_report_text, refusal_text};
+pub use places::TextKind;
 /// Memory was refused.
 pub use std::alloc::AllocError as OutOfMemory;
-pub use words::key_text;
+pub use told::{act_text, cause_text, object_text};
+pub use words::{key_text, text_of};

@@ -22,41 +22,73 @@ pub struct Limits {
 pub struct Setting {
     pub slots: &'static [Slot],
     pub limits: Limits,
-    /// The number of the first line of the trace, where the line is one of the trace.
+    /// The number of the first line of the trace, or of the file commands, of which the line is one.
     pub trace: Option<usize>,
+    /// Whether it is a line of file commands.
+    pub is_files: bool,
 }
 
 /// A number of a report.
 const MANY: u64 = 4_294_967_295;
 
-/// Whether the lines begin as those of a report do.
-pub fn begin_report(alloc: Global, lines: &[&[u8]]) -> Result<bool, OutOfMemory> {
+/// What a text is taken for.
+#[derive(Clone, Copy, Debug, PartialEq, Eq)]
+pub enum TextKind {
+    Trace,
+    Report,
+    Files,
+}
+
+/// What the lines begin as; what begins as nothing else is a trace.
+pub fn kind_of_lines(alloc: Global, lines: &[&[u8]]) -> Result<TextKind, OutOfMemory> {
     for line in lines {
         let words = words_of(alloc, line)?;
         match words.as_slice() {
-            [one, two, ..] if is(one.text, b"semper") => return Ok(is(two.text, b"report")),
-            [one, ..] if one.text.first() != Some(&b'#') => return Ok(false),
+            [one, two, ..] if is(one.text, b"semper") => return Ok(kind_named(two.text)),
+            [one, ..] if one.text.first() != Some(&b'#') => return Ok(TextKind::Trace),
             _ => {}
         }
     }
-    Ok(false)
+    Ok(TextKind::Trace)
 }
 
-/// What is known of the line at that place, counted from 0, of a trace or of a report.
+// What the second word of the first line tells.
+fn kind_named(word: &[u8]) -> TextKind {
+    match word {
+        b"report" => TextKind::Report,
+        b"files" => TextKind::Files,
+        _ => TextKind::Trace,
+    }
+}
+
+/// What is known of the line at that place, counted from 0, of a text of that kind.
 pub fn setting_of(
     alloc: Global,
     lines: &[&[u8]],
     at: usize,
-    is_report: bool,
+    kind: TextKind,
 ) -> Result<Setting, OutOfMemory> {
     let limits = limits_of(alloc, lines)?;
-    if !is_report {
-        return Ok(Setting {
-            slots: trace_slots(lines, 0, at, limits.node > 63),
-            limits,
-            trace: Some(0),
-        });
-    }
+    let slots = match kind {
+        TextKind::Trace => trace_slots(lines, 0, at, limits.node > 63),
+        TextKind::Files => file_slots(lines, at),
+        TextKind::Report => return report_setting(alloc, lines, at, limits),
+    };
+    Ok(Setting {
+        slots,
+        limits,
+        trace: Some(0),
+        is_files: kind == TextKind::Files,
+    })
+}
+
+// What is known of the line at that place of a report.
+fn report_setting(
+    alloc: Global,
+    lines: &[&[u8]],
+    at: usize,
+    limits: Limits,
+) -> Result<Setting, OutOfMemory> {
     let end = trace_end(lines);
     let in_trace = at > 0 && at <= end;
     let slots = if in_trace {
@@ -68,6 +100,7 @@ pub fn setting_of(
         slots,
         limits,
         trace: if in_trace { Some(1) } else { None },
+        is_files: false,
     })
 }
 
@@ -113,16 +146,7 @@ fn says(line: &[u8]) -> bool {
 
 // The form of a line of a trace that begins with the line `first`.
 fn trace_slots(lines: &[&[u8]], first: usize, at: usize, has_window: bool) -> &'static [Slot] {
-    let mut before = 0usize;
-    for (place, line) in lines.iter().enumerate() {
-        if place >= at {
-            break;
-        }
-        if place >= first && says(line) {
-            before = before.saturating_add(1);
-        }
-    }
-    match before {
+    match count_said(lines, first, at) {
         0 => &[
             Slot::Fixed("semper"),
             Slot::Fixed("trace"),
@@ -134,6 +158,30 @@ fn trace_slots(lines: &[&[u8]], first: usize, at: usize, has_window: bool) -> &'
             Slot::Number("number of messages", 1, 32),
         ],
         _ => &[Slot::Choice(Choice::Declaration)],
+    }
+}
+
+// How many of the lines from `first` on and before the place say something.
+fn count_said(lines: &[&[u8]], first: usize, at: usize) -> usize {
+    let mut count = 0usize;
+    for (place, line) in lines.iter().enumerate() {
+        if place >= first && place < at && says(line) {
+            count = count.saturating_add(1);
+        }
+    }
+    count
+}
+
+// The form of a line of file commands.
+fn file_slots(lines: &[&[u8]], at: usize) -> &'static [Slot] {
+    match count_said(lines, 0, at) {
+        0 => &[
+            Slot::Fixed("semper"),
+            Slot::Fixed("files"),
+            Slot::Fixed("1"),
+        ],
+        1 => &[Slot::Fixed("kernels"), Slot::Kernels],
+        _ => &[Slot::Choice(Choice::FileLine)],
     }
 }
 

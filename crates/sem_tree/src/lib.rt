@@ -1,7 +1,7 @@
 //! The capabilities after the first entries of a report, as a forest.
 #![tactic(auto)]
 
-mod causes;
+mod clears;
 mod nodes;
 mod places;
 mod rows;
@@ -9,7 +9,6 @@ mod standings;
 mod takings;
 mod trees;
 mod walks;
-mod words;
 
 pub use rows::{TreeRow, tree_rows};
 pub use takings::takes;

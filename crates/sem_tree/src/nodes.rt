@@ -1,13 +1,12 @@
 // The rows of a forest as nodes that can be drawn.
-use crate::causes::{cause_text, clear_of};
+use crate::clears::clear_of;
 use crate::places::Places;
 use crate::rows::TreeRow;
 use crate::standings::{Hold, Holds};
 use crate::takings::takings;
 use crate::walks::{Binding, Walk};
-use crate::words::object_text;
 use sem_draw::{LEVELS, Node, State};
-use sem_hint::key_text;
+use sem_hint::{cause_text, key_text, object_text};
 use sem_key::{Key, Object, OutOfMemory};
 use sem_msg::{Entry, Setup};
 use std::alloc::Global;
@@ -40,11 +39,18 @@ pub fn nodes_of(
             parent,
             name: key_text(alloc, &row.key)?,
             text,
+            hint: hint_text(alloc, row.key)?,
             state,
         })?;
         depths.push(depth)?;
     }
     Ok(nodes)
+}
+
+// How to ask for the life of a key.
+fn hint_text(alloc: Global, key: Key) -> Result<String, OutOfMemory> {
+    let key = key_text(alloc, &key)?;
+    format!(in alloc; "semper-view story {key}")
 }
 
 // How many nodes stand above one with that parent.

@@ -90,11 +90,16 @@ fn first_wrong(
     Ok(None)
 }
 
-// The forest, drawn.
+// The forest, drawn. Below the text stands how to ask for the life of a key; in an SVG picture each
+// key tells it.
 fn draw(alloc: Global, nodes: &[Node], picture: Picture) -> Result<String, OutOfMemory> {
-    match picture {
-        Picture::Svg => tree_as_svg(alloc, nodes),
-        Picture::Boxes => tree_as_text(alloc, nodes, false),
-        Picture::Plain => tree_as_text(alloc, nodes, true),
+    let mut text = match picture {
+        Picture::Svg => return tree_as_svg(alloc, nodes),
+        Picture::Boxes => tree_as_text(alloc, nodes, false)?,
+        Picture::Plain => tree_as_text(alloc, nodes, true)?,
+    };
+    if !nodes.is_empty() {
+        text.push_str("\nsemper-view story KEY tells the life of one of these\n")?;
     }
+    Ok(text)
 }

@@ -1,6 +1,6 @@
 use sem_draw::{
-    Chart, Family, Lane, Mark, Node, OutOfMemory, Row, State, chart_as_svg, chart_as_text, fits,
-    tree_as_svg, tree_as_text,
+    Chart, Family, Lane, Mark, Moment, Node, OutOfMemory, Row, State, Timeline, chart_as_svg,
+    chart_as_text, fits, timeline_as_svg, timeline_as_text, tree_as_svg, tree_as_text,
 };
 use std::alloc::Global;
 use std::test::Fail;
@@ -60,6 +60,7 @@ fn node(alloc: Global, parent: Option<usize>, name: &str) -> Result<Node, OutOfM
         parent,
         name: String::from_str(alloc, name)?,
         text: String::from_str(alloc, "said")?,
+        hint: String::from_str(alloc, "<more>")?,
         state: State::Held,
     })
 }
@@ -115,5 +116,43 @@ b  said
     assert_eq!(rt; text.as_str(), wanted);
     let picture = tree_as_svg(rt.alloc(), nodes.as_slice())?;
     assert!(rt; picture.as_str().contains(">e</text>"));
+    assert!(rt; picture.as_str().contains("<title>&lt;more&gt;</title>"));
+    Ok(())
+}
+
+// What happened by that number.
+fn moment(alloc: Global, number: Option<u64>, state: State) -> Result<Moment, OutOfMemory> {
+    Ok(Moment {
+        number,
+        text: String::from_str(alloc, "happened")?,
+        line: String::from_str(alloc, "<line>")?,
+        state,
+    })
+}
+
+#[test]
+fn a_timeline_has_a_row_for_each_moment(rt: HostRuntime) -> Result<(), Fail> {
+    let mut moments = Vec::new(rt.alloc());
+    moments.push(moment(rt.alloc(), None, State::OnItsWay)?)?;
+    moments.push(moment(rt.alloc(), Some(7), State::Held)?)?;
+    moments.push(moment(rt.alloc(), Some(123456), State::Gone)?)?;
+    let timeline = Timeline {
+        len: 200000,
+        name: String::from_str(rt.alloc(), "name")?,
+        text: String::from_str(rt.alloc(), "said")?,
+        moments,
+    };
+    let wanted = "\
+name  said
+
+   entry
+   start  :  happened  <line>
+       7  |  happened  <line>
+  123456  x  happened  <line>
+";
+    let text = timeline_as_text(rt.alloc(), &timeline, true)?;
+    assert_eq!(rt; text.as_str(), wanted);
+    let picture = timeline_as_svg(rt.alloc(), &timeline)?;
+    assert!(rt; picture.as_str().contains("&lt;line&gt;"));
     Ok(())
 }

@@ -1,4 +1,4 @@
-use sem_hint::{refusal_text, tells_report};
+use sem_hint::{kind_of, refusal_text};
 use sem_trace::{Cause, TraceFault};
 use std::test::Fail;
 
@@ -10,7 +10,7 @@ struct Case {
     said: &'static str,
 }
 
-const CASES: [Case; 7] = [
+const CASES: [Case; 12] = [
     Case {
         text: "semper trace 1\nkernels 1\npe 0 0\nvpe 0 0\ncall 0 dervie 0 1\nend\n",
         line: 5,
@@ -53,6 +53,36 @@ const CASES: [Case; 7] = [
         cause: Cause::Missing,
         said: "the text ends behind line 2, before its last line \"end\"\n",
     },
+    Case {
+        text: "semper files 1\nkernels 1\nfile 0 1\nclient 1\ndo 1 opne 0 0\nend\n",
+        line: 5,
+        cause: Cause::UnknownWord,
+        said: "line 5, word 3: \"opne\" is no act of a client; did you mean \"open\"?\n    do 1 opne 0 0\n         ^^^^\n",
+    },
+    Case {
+        text: "semper files 1\nkernels 1\nfile 0 1\nclient 1\ndo 1 open 0 0\ndo 1 open 0 0\nend\n",
+        line: 6,
+        cause: Cause::Twice,
+        said: "line 6, word 4: this handle is open since line 5\n    do 1 open 0 0\n              ^\n",
+    },
+    Case {
+        text: "semper files 1\nkernels 1\nfile 0 1\nclient 1\ndo 1 open 0 0\ndo 1 close 0\ndo 1 read 0 0 1\nend\n",
+        line: 7,
+        cause: Cause::Undeclared,
+        said: "line 7, word 4: this handle is closed since line 6\n    do 1 read 0 0 1\n              ^\n",
+    },
+    Case {
+        text: "semper files 1\nkernels 1\nfile 0 1\nclient 1\nclient 2\ndo 1 open 0 0\ndo 1 share 0 2 3\ndo 1 share 0 2 3\nend\n",
+        line: 8,
+        cause: Cause::Twice,
+        said: "line 8, word 6: line 7 gave to this client under this number\n    do 1 share 0 2 3\n                   ^\n",
+    },
+    Case {
+        text: "semper files 1\nkernels 1\nfile 0 1\nclient 1\ndo 1 open 0 0\ndo 1 read 0 4096 1\nend\n",
+        line: 6,
+        cause: Cause::OutOfRange,
+        said: "line 6: the range ends behind the file\n    do 1 read 0 4096 1\n    ^^^^^^^^^^^^^^^^^^\n",
+    },
 ];
 
 #[test]
@@ -63,8 +93,8 @@ fn refusals_are_told_in_words(rt: HostRuntime) -> Result<(), Fail> {
             cause: case.cause,
         };
         let text = case.text.as_bytes();
-        let is_report = tells_report(rt.alloc(), text)?;
-        let said = refusal_text(rt.alloc(), text, &fault, is_report)?;
+        let kind = kind_of(rt.alloc(), text)?;
+        let said = refusal_text(rt.alloc(), text, &fault, kind)?;
         assert_eq!(rt; said.as_str(), case.said);
     }
     Ok(())

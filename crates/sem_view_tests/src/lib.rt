@@ -1,4 +1,5 @@
-//! Tests of what shows reports: charts, forests, bars, counts and explanations; nothing that runs.
+//! Tests of what shows reports: charts, forests, bars, timelines, counts and explanations; nothing
+//! that runs.
 #![tactic(auto)]
 
 #[cfg(test)]
@@ -8,7 +9,11 @@ mod explanations;
 #[cfg(test)]
 mod hints;
 #[cfg(test)]
+mod listings;
+#[cfg(test)]
 mod memories;
+#[cfg(test)]
+mod stories;
 #[cfg(test)]
 mod trees;
 #[cfg(test)]

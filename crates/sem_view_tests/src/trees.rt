@@ -42,8 +42,8 @@ held 0
 end
 ";
 
-// A clear unbinds the endpoints of its root and of what goes, and no others.
-const CLEARED: &[u8] = b"semper report 1
+/// A clear unbinds the endpoints of its root and of what goes, and no others.
+pub const CLEARED: &[u8] = b"semper report 1
 semper trace 1
 kernels 2
 pe 0 0
@@ -224,8 +224,8 @@ fn forests_tell_what_has_become_of_keys(rt: HostRuntime) -> Result<(), Fail> {
     Ok(())
 }
 
-// A journal that no run makes: the revoke comes before the derive.
-const WRONG: &[u8] = b"semper report 1
+/// A journal that no run makes: the revoke comes before the derive.
+pub const WRONG: &[u8] = b"semper report 1
 semper trace 1
 kernels 1
 pe 0 0
@@ -254,14 +254,16 @@ fn what_no_run_makes_is_refused(rt: HostRuntime) -> Result<(), Fail> {
     let answer = tree(rt.alloc(), &request, WRONG)?;
     assert!(rt; answer.ending == Ending::Done);
     assert!(rt; answer.out.as_str().contains(">0.0.1.0</text>"));
+    let hint = "<title>semper-view story 0.0.1.0</title>";
+    assert!(rt; answer.out.as_str().contains(hint));
     request.at = Some(2);
     assert!(rt; tree(rt.alloc(), &request, WRONG)?.ending == Ending::WrongWords);
     assert!(rt; tree(rt.alloc(), &request, b"semper")?.ending == Ending::Refused);
     Ok(())
 }
 
-// A memory.
-fn memory(vpe: u16, number: u32) -> Key {
+/// A memory.
+pub fn memory(vpe: u16, number: u32) -> Key {
     Key {
         pe: (vpe % 64) as u8,
         vpe: vpe % 64,
@@ -303,8 +305,8 @@ fn a_clear_takes_what_was_granted_before(rt: HostRuntime) -> Result<(), Fail> {
     Ok(())
 }
 
-// Two revokes of one line, but for the entries with which they begin.
-const BEFORE_REVOKES: &str = "semper report 1
+/// Two revokes of one line, but for the entries with which they begin.
+pub const BEFORE_REVOKES: &str = "semper report 1
 semper trace 1
 kernels 2
 pe 0 0
@@ -334,13 +336,13 @@ journal 25
 0 resume 1 grant 1.1.1.0 2.2.1.0 reply 1 0
 ";
 
-const REVOKE_OF_ROOT: &str = "0 call 0 0 revoke 0 cut 0.0.1.0
+pub const REVOKE_OF_ROOT: &str = "0 call 0 0 revoke 0 cut 0.0.1.0
 ";
 
-const REVOKE_OF_CHILD: &str = "0 call 1 2 revoke 1 cut 1.1.1.0
+pub const REVOKE_OF_CHILD: &str = "0 call 1 2 revoke 1 cut 1.1.1.0
 ";
 
-const BEHIND_REVOKES: &str = "0 flush 1 ack 2.2.1.0 yes
+pub const BEHIND_REVOKES: &str = "0 flush 1 ack 2.2.1.0 yes
 1 fetch 0 ack 2.2.1.0 yes
 1 handle 0 ack 2.2.1.0 yes
 0 flush 1 revoke-req 2.2.1.0 0
@@ -389,8 +391,8 @@ fn a_key_goes_by_the_first_that_takes_its_line(rt: HostRuntime) -> Result<(), Fa
     Ok(())
 }
 
-// A VPE is killed when what it obtains has arrived and is not installed.
-const KILLED: &[u8] = b"semper report 1
+/// A VPE is killed when what it obtains has arrived and is not installed.
+pub const KILLED: &[u8] = b"semper report 1
 semper trace 1
 kernels 2
 pe 0 0

@@ -9,10 +9,12 @@ mod words;
 use crate::words::{Asked, read_words};
 use clap::error::ErrorKind;
 use sem_draw::{Answer, Ending};
-use sem_explain::{explain_report, explain_trace};
-use sem_hint::tells_report;
+use sem_explain::{explain_files, explain_report, explain_trace};
+use sem_hint::{TextKind, kind_of};
 use sem_io::{ReadError, ReadSource, WriteSink, read_all, write_all};
+use sem_listing::listing;
 use sem_run::judge;
+use sem_story::story;
 use sem_tree::tree;
 use sem_view::respond;
 use sem_writers::memory_picture;
@@ -70,20 +72,25 @@ fn answer_to(alloc: Global, asked: &Asked, bytes: &[u8]) -> Result<Answer, Alloc
         Asked::View { request } => respond(alloc, request, bytes),
         Asked::Tree { request } => tree(alloc, request, bytes),
         Asked::Memory { request } => memory_picture(alloc, request, bytes),
+        Asked::Story { request } => story(alloc, request, bytes),
+        Asked::Files => listing(alloc, bytes),
         Asked::Explain => explain(alloc, bytes),
     }
 }
 
-// Why these bytes, a trace or a report, are refused, or that they are accepted. They are a report
-// where their first line that says something is that of one.
+// Why these bytes, a trace, a report or file commands, are refused, or that they are accepted. Their
+// first line that says something tells which they are.
 fn explain(alloc: Global, bytes: &[u8]) -> Result<Answer, AllocError>
     requires few { length bytes.now ≤ 134217729 }
 {
-    if !tells_report(alloc, bytes)? {
-        return explain_trace(alloc, bytes);
+    match kind_of(alloc, bytes)? {
+        TextKind::Trace => explain_trace(alloc, bytes),
+        TextKind::Files => explain_files(alloc, bytes),
+        TextKind::Report => {
+            let verdict = judge(alloc, bytes)?;
+            explain_report(alloc, bytes, &verdict)
+        }
     }
-    let verdict = judge(alloc, bytes)?;
-    explain_report(alloc, bytes, &verdict)
 }
 
 // Writes the answer.

@@ -1,6 +1,9 @@
 // The words of the command line.
+use clap::error::ErrorKind;
 use clap::{Arg, ArgAction, ArgMatches, Command, Error};
 use sem_draw::Picture;
+use sem_key::Key;
+use sem_story::{StoryRequest, key_of};
 use sem_tree::TreeRequest;
 use sem_view::Request;
 use sem_writers::MemoryRequest;
@@ -8,6 +11,9 @@ use std::alloc::{AllocError, Global};
 
 /// A number of an entry, as its place in the help says.
 const NUMBER: &str = "N";
+
+/// A key, as its place in the help says.
+const KEY: &str = "KEY";
 
 /// What the words ask for.
 #[derive(Debug, Drop)]
@@ -18,6 +24,10 @@ pub enum Asked {
     Tree { request: TreeRequest },
     /// Who wrote what memory holds.
     Memory { request: MemoryRequest },
+    /// The life of a key.
+    Story { request: StoryRequest },
+    /// What file commands are compiled to.
+    Files,
     /// Why the input is refused.
     Explain,
 }
@@ -29,11 +39,11 @@ pub fn read_words(alloc: Global, words: &[String]) -> Result<Asked, Error> {
         texts.push(word.as_str())?;
     }
     let matches = command(alloc)?.try_get_matches_from(texts.as_slice())?;
-    Ok(meant(alloc, &matches)?)
+    meant(alloc, &matches)
 }
 
 // What the matches ask for.
-fn meant(alloc: Global, matches: &ArgMatches<'_>) -> Result<Asked, AllocError> {
+fn meant(alloc: Global, matches: &ArgMatches<'_>) -> Result<Asked, Error> {
     match matches.subcommand() {
         Some(("tree", tree)) => Ok(Asked::Tree {
             request: TreeRequest {
@@ -47,6 +57,14 @@ fn meant(alloc: Global, matches: &ArgMatches<'_>) -> Result<Asked, AllocError> {
                 at: memory.get_one::<u64>("at"),
             },
         }),
+        Some(("story", story)) => Ok(Asked::Story {
+            request: StoryRequest {
+                picture: picture(story),
+                key: key(alloc, story)?,
+                at: story.get_one::<u64>("at"),
+            },
+        }),
+        Some(("files", _)) => Ok(Asked::Files),
         Some(("explain", _)) => Ok(Asked::Explain),
         Some((name, view)) => Ok(Asked::View {
             request: viewed(alloc, name, view)?,
@@ -68,6 +86,19 @@ fn viewed(alloc: Global, name: &str, matches: &ArgMatches<'_>) -> Result<Request
             is_json: matches.get_flag("json"),
         }),
     }
+}
+
+// The key that is named.
+fn key(alloc: Global, matches: &ArgMatches<'_>) -> Result<Key, Error> {
+    let word = matches.get_str("key").unwrap_or("");
+    if let Some(key) = key_of(word) {
+        return Ok(key);
+    }
+    let text = format!(in alloc;
+        "invalid value '{word}' for '<{KEY}>': wanted is a key, as 0.0.1.0"
+    )?;
+    let mut command = story(alloc)?;
+    Err(command.error(ErrorKind::ValueValidation, text.as_str())?)
 }
 
 // How a picture is to be written.
@@ -107,8 +138,11 @@ fn command<'a>(alloc: Global) -> Result<Command<'a>, AllocError> {
         alloc,
         Command::new(alloc, "memory").about("Draw who wrote what memory holds, and who read it"),
     )?;
+    let files = Command::new(alloc, "files").about(
+        "Show the trace that file commands are compiled to, each command above its calls",
+    );
     let explain = Command::new(alloc, "explain").about(
-        "Tell why a trace or a report is refused, or that it is accepted",
+        "Tell why a trace, a report or file commands are refused, or that they are accepted",
     );
     Command::new(alloc, "semper-view")
         .version("1")
@@ -120,6 +154,8 @@ fn command<'a>(alloc: Global) -> Result<Command<'a>, AllocError> {
         .subcommand(stats)?
         .subcommand(tree)?
         .subcommand(memory)?
+        .subcommand(story(alloc)?)?
+        .subcommand(files)?
         .subcommand(explain)
 }
 
@@ -139,6 +175,21 @@ fn chart<'a>(alloc: Global) -> Result<Command<'a>, AllocError> {
             .action(ArgAction::Append)
             .value_parser(clap::value_parser!(u32))
             .help("The kernels that are shown, as 0,2"),
+    )
+}
+
+// The command that tells the life of a key.
+fn story<'a>(alloc: Global) -> Result<Command<'a>, AllocError> {
+    after_entries(
+        alloc,
+        Command::new(alloc, "story").about("Tell the life of one capability, entry by entry"),
+    )?
+    .arg(
+        Arg::new(alloc, "key")
+            .value_name(KEY)
+            .required(true)
+            .action(ArgAction::Set)
+            .help("The key of the capability, as 0.0.1.0"),
     )
 }
 

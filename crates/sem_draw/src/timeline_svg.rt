@@ -1,0 +1,227 @@
+// Timelines as SVG.
+use crate::OutOfMemory;
+use crate::lines::number_text;
+use crate::svg::{Point, push_circle, push_head, push_line, push_rect, push_tail, push_text};
+use crate::timeline::{Moment, Timeline};
+use crate::tree::State;
+use std::alloc::Global;
+
+/// Where the picture begins.
+const EDGE: u64 = 16;
+
+/// How long and how high the bar is, and where it is.
+const LENGTH: u64 = 640;
+
+const HEIGHT: u64 = 20;
+
+const BAR: u64 = 52;
+
+/// How high a row is, and where the first one is.
+const ROW: u64 = 26;
+
+const TOP: u64 = 124;
+
+/// Where the line is on which the moments stand.
+const RAIL: u64 = 96;
+
+/// How many pixels a character has, and how far apart what stands side by side is.
+const CHARACTER: u64 = 8;
+
+const GAP: u64 = 24;
+
+/// How the classes look.
+const STYLE: &str =
+    "text{font:13px 'DejaVu Sans Mono',Menlo,Consolas,monospace;fill:#1f2430}.name{font-weight:bold;fill:#26418f}.number{fill:#7a8194;text-anchor:end}.line,.tick-text{fill:#7a8194}.tick{stroke:#8d95a8}.none{fill:#ffffff;stroke:#c9ccd4;stroke-dasharray:2 3}.held{fill:#a9d0f5;stroke:#1668c1}.marked{fill:#f6c667;stroke:#b57a00}.way{fill:#bfe5c9;stroke:#1b8a3a;stroke-dasharray:4 3}.gone{fill:#f1f1f3;stroke:#a0a4ae;stroke-dasharray:2 3}";
+
+// The class of what has become of the thing.
+fn class(state: State) -> &'static str {
+    match state {
+        State::Held => "held",
+        State::Marked => "marked",
+        State::OnItsWay => "way",
+        State::Gone => "gone",
+    }
+}
+
+// How many pixels so many bytes of text have.
+fn text_width(bytes: usize) -> u64 {
+    (bytes as u64).saturating_mul(CHARACTER)
+}
+
+// Where the row at that place is.
+fn row_y(place: usize) -> u64 {
+    (place as u64).saturating_mul(ROW).saturating_add(TOP)
+}
+
+// Where what is said of moments begins.
+fn text_x() -> u64 {
+    RAIL.saturating_add(GAP)
+}
+
+// Where the lines beside it begin.
+fn line_x(timeline: &Timeline) -> u64 {
+    let mut longest = 0usize;
+    for moment in timeline.moments.as_slice() {
+        longest = longest.max(moment.text.len());
+    }
+    text_x()
+        .saturating_add(text_width(longest))
+        .saturating_add(GAP)
+}
+
+/// The timeline as an SVG picture: a bar that has all numbers, and below it a row for each moment.
+pub fn timeline_as_svg(alloc: Global, timeline: &Timeline) -> Result<String, OutOfMemory> {
+    let mut out = String::new(alloc);
+    push_head(alloc, &mut out, size(timeline), STYLE)?;
+    let name = Point { x: EDGE, y: 30 };
+    push_text(alloc, &mut out, "name", name, timeline.name.as_str())?;
+    let text = Point {
+        x: EDGE
+            .saturating_add(text_width(timeline.name.len()))
+            .saturating_add(GAP),
+        y: 30,
+    };
+    push_text(alloc, &mut out, "text", text, timeline.text.as_str())?;
+    push_bar(alloc, &mut out, timeline)?;
+    let x = line_x(timeline);
+    push_rail(alloc, &mut out, timeline)?;
+    for (place, moment) in timeline.moments.as_slice().iter().enumerate() {
+        push_moment(alloc, &mut out, moment, row_y(place), x)?;
+    }
+    push_tail(&mut out)?;
+    Ok(out)
+}
+
+// How wide and how high the picture is.
+fn size(timeline: &Timeline) -> Point {
+    let head = text_width(timeline.name.len().saturating_add(timeline.text.len()));
+    let mut width = LENGTH.max(head.saturating_add(GAP));
+    let begin = line_x(timeline);
+    for moment in timeline.moments.as_slice() {
+        width = width.max(begin.saturating_add(text_width(moment.line.len())));
+    }
+    Point {
+        x: width.saturating_add(EDGE.saturating_mul(2)),
+        y: row_y(timeline.moments.len()).saturating_add(EDGE),
+    }
+}
+
+// Where a number is on the bar.
+fn number_x(timeline: &Timeline, number: u64) -> u64 {
+    let scaled = number.min(timeline.len).saturating_mul(LENGTH) / timeline.len.max(1);
+    EDGE.saturating_add(scaled)
+}
+
+// Appends the bar: what had become of the thing by each number.
+fn push_bar(alloc: Global, out: &mut String, timeline: &Timeline) -> Result<(), OutOfMemory> {
+    let whole = Point {
+        x: LENGTH,
+        y: HEIGHT,
+    };
+    push_rect(alloc, out, "none", Point { x: EDGE, y: BAR }, whole)?;
+    let mut free = 0u64;
+    for (place, moment) in timeline.moments.as_slice().iter().enumerate() {
+        let begin = timeline.begin(place);
+        let end = timeline.begin(place.saturating_add(1));
+        if begin < end {
+            push_part(alloc, out, timeline, (begin, end), moment.state)?;
+        }
+        if moment.number.is_some() {
+            free = push_tick(alloc, out, timeline, begin, free)?;
+        }
+    }
+    Ok(())
+}
+
+// Appends a part of the bar, from one number up to another.
+fn push_part(
+    alloc: Global,
+    out: &mut String,
+    timeline: &Timeline,
+    range: (u64, u64),
+    state: State,
+) -> Result<(), OutOfMemory> {
+    let x = number_x(timeline, range.0);
+    let width = number_x(timeline, range.1).saturating_sub(x).max(2);
+    let size = Point {
+        x: width,
+        y: HEIGHT,
+    };
+    push_rect(alloc, out, class(state), Point { x, y: BAR }, size)
+}
+
+// Appends a number below the bar, where there is room from `free` on; from where on there is room
+// then.
+fn push_tick(
+    alloc: Global,
+    out: &mut String,
+    timeline: &Timeline,
+    number: u64,
+    free: u64,
+) -> Result<u64, OutOfMemory> {
+    let x = number_x(timeline, number);
+    if x < free {
+        return Ok(free);
+    }
+    let bottom = BAR.saturating_add(HEIGHT);
+    let end = bottom.saturating_add(5);
+    push_line(
+        alloc,
+        out,
+        "tick",
+        Point { x, y: bottom },
+        Point { x, y: end },
+    )?;
+    let text = number_text(alloc, number)?;
+    let at = Point {
+        x,
+        y: bottom.saturating_add(18),
+    };
+    push_text(alloc, out, "tick-text", at, text.as_str())?;
+    Ok(x.saturating_add(text_width(text.len())).saturating_add(8))
+}
+
+// Appends the line on which the moments stand, in parts from each to the next one.
+fn push_rail(alloc: Global, out: &mut String, timeline: &Timeline) -> Result<(), OutOfMemory> {
+    let count = timeline.moments.len();
+    for (place, moment) in timeline.moments.as_slice().iter().enumerate() {
+        let is_last = place.saturating_add(1) == count;
+        if is_last && moment.state == State::Gone {
+            continue;
+        }
+        let at = Point {
+            x: RAIL.saturating_sub(3),
+            y: row_y(place),
+        };
+        push_rect(alloc, out, class(moment.state), at, Point { x: 6, y: ROW })?;
+    }
+    Ok(())
+}
+
+// Appends a moment: its number, its sign on the line, what is said of it, and the line beside it.
+fn push_moment(
+    alloc: Global,
+    out: &mut String,
+    moment: &Moment,
+    y: u64,
+    line_x: u64,
+) -> Result<(), OutOfMemory> {
+    push_circle(alloc, out, class(moment.state), Point { x: RAIL, y }, 6)?;
+    let base = y.saturating_add(5);
+    let number = match moment.number {
+        Some(number) => number_text(alloc, number)?,
+        None => String::from_str(alloc, "start")?,
+    };
+    let at = Point {
+        x: RAIL.saturating_sub(GAP),
+        y: base,
+    };
+    push_text(alloc, out, "number", at, number.as_str())?;
+    let at = Point {
+        x: text_x(),
+        y: base,
+    };
+    push_text(alloc, out, "text", at, moment.text.as_str())?;
+    let at = Point { x: line_x, y: base };
+    push_text(alloc, out, "line", at, moment.line.as_str())
+}

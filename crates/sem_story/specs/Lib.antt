@@ -1,0 +1,4 @@
+pub mod Stages
+pub mod Changes
+pub mod Telling
+pub mod Walks

@@ -1,0 +1,46 @@
+-- How far a walk has come. These words serve private functions.
+use Rattle.std.specs.Prelude.{◌≡◌, ℕ, ◌+◌, ◌<◌, ◌⊎◌, List, [], All, length, take}
+use Rattle.std.specs.List.Sorted.{IsNonDecreasingBy}
+use Rattle.sem_key.specs.KeyName.{KeyName}
+use Rattle.sem_msg.specs.declared.event.Event.{Event}
+use Rattle.sem_msg.specs.declared.entry.Entry.{Entry}
+use Rattle.sem_msg.specs.Setup.{Setup}
+use Rattle.sem_machine.specs.Machine.{start, after}
+use Rattle.sem_machine.specs.Schedules.{world_after}
+use Rattle.sem_kernel.specs.Worlds.{WorldValue}
+use Rattle.sem_story.specs.declared.rows.StoryRow.{StoryRow}
+use Rattle.sem_story.specs.declared.stages.Stage.{Stage}
+use Rattle.sem_story.specs.declared.walks.Walk.{Walk}
+use Rattle.sem_story.specs.declared.walks.When.{When}
+use Rattle.sem_story.specs.Stages.{stage_in}
+use Rattle.sem_story.specs.Telling.{entries_of, stage_at, IsTold, AreTold}
+
+-- the rows of a key of which this has become before the first entry
+abbrev pub AreFirst : Stage → List StoryRow → Type 0
+AreFirst stage rows = (T : Setup) (k : KeyName) → stage ≡ stage_in T (start T) k → AreTold T [] k rows
+
+-- the world after an event
+abbrev pub stepped_value : WorldValue → Event → WorldValue
+stepped_value w e = record { setup = w.setup; world = after w.setup w.world e }
+
+-- The rows tell of the journal, whose last entry is being noted: of its end they need not tell yet.
+pub record AreNoted (T : Setup) (J : List Entry) (k : KeyName) (rows : List StoryRow) : Type 0 where
+  pub told : All (IsTold T J k) rows
+  pub rising : IsNonDecreasingBy entries_of rows
+  pub earlier : (n : ℕ) → n < length J → stage_at n rows ≡ stage_in T (world_after T (take n J)) k
+
+-- what is noted when an entry has happened tells what has become of the key by it
+abbrev pub Notes : When → List StoryRow → List StoryRow → Type 0
+Notes when old new =
+    (T : Setup) (J : List Entry) (k : KeyName)
+    → when.number + 1 ≡ length J → when.stage ≡ stage_in T (world_after T J) k
+    → AreNoted T J k old → AreNoted T J k new
+
+abbrev pub IsOneOf : Stage → Stage → Stage → Type 0
+IsOneOf stage one other = (stage ≡ one) ⊎ (stage ≡ other)
+
+-- the walk of the key has gone through the entries
+pub record IsAfter (T : Setup) (J : List Entry) (k : KeyName) (w : Walk) : Type 0 where
+  pub world : w.world ≡ record { setup = T; world = world_after T J }
+  pub stage : w.stage ≡ stage_in T (world_after T J) k
+  pub rows : AreTold T J k w.rows.items
