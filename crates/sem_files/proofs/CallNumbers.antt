@@ -18,7 +18,7 @@ calls_from-same F G v before (c ∷ cs) same =
 -- the calls for one command more come last
 calls_from-more : (F : Files) (v : ℕ) (before cs : List Command) (c : Command) → calls_from F v before (cs ++ c ∷ []) ≡ calls_from F v before cs ++ cond (c.client == v) (calls_of_command F (before ++ cs) c) []
 unfolding calls_from
-calls_from-more F v before [] c = rw (append-nil, append-nil) refl
+calls_from-more F v before [] c = rw (append-nil before) (append-nil _)
 calls_from-more F v before (d ∷ cs) c =
     let here : (before ++ d ∷ []) ++ cs ≡ before ++ d ∷ cs = append_assoc before (d ∷ []) cs in
     rw (calls_from-more F v (before ++ d ∷ []) cs c, here, append_assoc) refl

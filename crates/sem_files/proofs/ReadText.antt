@@ -129,10 +129,6 @@ pub read_stops : (bytes line : List ℕ) (left behind : List (List ℕ)) (number
 read_stops bytes line left behind number old (LineRefused cause) so_far next stops = read_refused bytes line left behind number old cause so_far next stops
 read_stops bytes line left behind number old LineMemory so_far next stops = tt
 
--- all lines are read
-pub read_all : (bytes : List ℕ) (left : List (List ℕ)) (number : ℕ) (r : Reader) → IsReadUpTo bytes left number r → left ≡ [] → IsReadUpTo bytes [] number r
-read_all bytes left number r so_far none = subst (λ (ls : List (List ℕ)). IsReadUpTo bytes ls number r) none so_far
-
 -- what is read at the end are the lines of the text
 pub all_lines : (bytes : List ℕ) (number : ℕ) (r : Reader) → (whole : IsReadUpTo bytes [] number r) → whole.before ≡ lines_of bytes
 all_lines bytes number r whole = sym (whole.lines ∙ (rw append-nil refl))

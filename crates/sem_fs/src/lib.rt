@@ -10,8 +10,6 @@ mod runs;
 mod servers;
 mod services;
 mod setups;
-#[cfg(test)]
-mod tests;
 
 pub use commands::{commands_make_services, files_closed, files_succeed};
 pub use runs::{a_share_meets_its_close, files_are_closed, files_run};
