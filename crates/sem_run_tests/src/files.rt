@@ -58,11 +58,11 @@ fn what_is_shared_and_closed_is_never_refused(rt: HostRuntime) -> Result<(), Fai
             &OpenGate,
         )?;
         assert_eq!(rt; ending.status, Status::Done);
-        let mut replies = 0;
+        let mut replies = 0usize;
         for entry in ending.journal.as_slice() {
             if let Some(reply) = entry.reply {
                 assert_eq!(rt; reply.code, 0);
-                replies += 1;
+                replies = replies.saturating_add(1);
             }
         }
         assert_eq!(rt; replies, 16);
@@ -87,9 +87,9 @@ fn what_are_no_file_commands_is_refused_at_its_first_bad_line(rt: HostRuntime) -
         (8, "", "line 9: Missing"),
     ] {
         let mut text = String::new(rt.alloc());
-        let mut number = 0;
+        let mut number = 0usize;
         for old in ONE_CLIENT.split('\n').filter(|old| !old.is_empty()) {
-            number += 1;
+            number = number.saturating_add(1);
             text.push_str(if number == line { said } else { old })?;
             text.push('\n')?;
         }
