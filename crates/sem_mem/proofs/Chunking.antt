@@ -1,5 +1,5 @@
 -- Chunks of runs: they rise, and what a range meets lies in those that its two searches find.
-use Rattle.std.proofs.Common.{◌≡◌, ℕ, zero, suc, ◌+◌, ◌-◌, ◌≤◌, ◌<◌, true, false, List, [], ◌∷◌, ◌++◌, length, take, drop, get_or, Option, Some, None, refl, sym, ◌∙◌, ap, subst, arith}
+use Rattle.std.proofs.Common.{◌≡◌, ℕ, zero, suc, ◌+◌, ◌-◌, ◌≤◌, ◌<◌, true, false, List, [], ◌∷◌, ◌++◌, length, map, take, drop, get_or, Option, Some, None, refl, sym, ◌∙◌, ap, subst, arith}
 use Rattle.std.specs.Global.{Vec}
 use Rattle.std.specs.List.{All, slice_range, slice_set, splice}
 use Rattle.std.specs.List.Sorted.{IsNonDecreasingBy, IsPartitionPoint}
@@ -7,12 +7,12 @@ use Rattle.std.specs.Prelude.{nat_le, nat_lt, min}
 use Rattle.std.proofs.lemmas.Bool.{leb-true, ltb-false}
 use Rattle.std.proofs.lemmas.List.Concat.{flat_map-append}
 use Rattle.std.proofs.Math.Seq.{take-nil, drop-nil}
-use Rattle.std.proofs.lemmas.List.{append-nil, set_split, take_more, take-append-drop, get_or-take, get_or-drop, length-take, length-drop}
+use Rattle.std.proofs.lemmas.List.{append-nil, append_assoc, set_split, take_more, take-append-drop, get_or-take, get_or-drop, get_or-map, length-take, length-drop, length-map, map-append, map-set, take-map, drop-map}
 use Rattle.std.proofs.lemmas.List.Elements.{All-nil, All-cons, All-head, All-tail, All-append, All-weaker, All-get_or, All-from_get_or, All-take, All-drop}
 use Rattle.sem_access.specs.declared.run.Run.{Run}
 use Rattle.sem_access.specs.LastWrites.{looked}
 use Rattle.sem_access.specs.Runs.{IsValidRun, AreRunsBehind, AreRuns, entry_at}
-use Rattle.sem_mem.specs.Chunks.{together, IsSized, AreChunks, beginning, AreMetChunks}
+use Rattle.sem_mem.specs.Chunks.{together, IsSized, AreChunks, beginning, beginnings_of, AreMetChunks}
 use Rattle.sem_mem.proofs.KeptRuns.{each-run, first-apart, more-runs}
 use Rattle.sem_mem.proofs.Behind.{EndsBy, BeginsFrom, end_behind, end-from, ends-by, begin-behind, entry_behind, runs-before, runs-behind, some-runs}
 use Rattle.sem_mem.specs.Writing.{overwritten}
@@ -170,6 +170,58 @@ pub met : (cs : List (Vec Run)) → AreChunks cs → (base end i k : ℕ) → i 
 met [] are base end i k within short first second a b low high few = none-met base end a b (omega (arith, low, high)) few
 met (c ∷ cs) are base end i k within short first second a b low high few = found-or-more (c ∷ cs) are base end i k within short first second c a b low high few
 
+-- numbers of things rise as the things do by them
+numbers-rise : {X : Type 0} (n : X → ℕ) (xs : List X) → IsNonDecreasingBy n xs → IsNonDecreasingBy (λ (b : ℕ). b) (map n xs)
+numbers-rise n [] up i j d le within = absurd (omega (arith, within))
+numbers-rise n (x ∷ xs) up i j d le within =
+    let few : j < length (x ∷ xs) = subst (λ m. j < m) (length-map (x ∷ xs) n) within in
+    let one = get_or-map n (x ∷ xs) i x d (omega (arith, le, few)) in
+    let other = get_or-map n (x ∷ xs) j x d few in
+    let rises = up i j x le few in
+    omega (arith, one, other, rises)
+
+abbrev begin_of : Vec Run → ℕ
+begin_of c = beginning c.items
+
+-- the places where chunks begin rise
+pub begins-rise : (cs : List (Vec Run)) → AreChunks cs → (bs : List ℕ) → bs ≡ beginnings_of cs → (n : ℕ) → IsNonDecreasingBy (λ (b : ℕ). b) (drop n bs)
+begins-rise cs are bs same n = subst (λ (ns : List ℕ). IsNonDecreasingBy (λ (b : ℕ). b) ns) (sym (ap (drop n) same ∙ drop-map begin_of n cs)) (numbers-rise begin_of (drop n cs) (beginnings-rise cs are n))
+
+-- where the places are parted, so are the chunks
+parted-chunks : (P Q : ℕ → Type 0) (cs : List (Vec Run)) (i : ℕ) → i ≤ length cs → IsPartitionPoint P Q (map begin_of cs) i → IsPartitionPoint (λ (c : Vec Run). P (beginning c.items)) (λ (c : Vec Run). Q (beginning c.items)) cs i
+parted-chunks P Q cs i le point = (
+  λ m d low below. subst P (get_or-map begin_of cs m d (beginning d.items) (omega (arith, below, le))) (point.0 m (beginning d.items) low below),
+  λ m d from within. subst Q (get_or-map begin_of cs m d (beginning d.items) within) (point.1 m (beginning d.items) from (subst (λ n. m < n) (sym (length-map cs begin_of)) within)),
+)
+
+met-from : (cs : List (Vec Run)) → AreChunks cs → (base end i k : ℕ) → i ≤ length (beginnings_of cs) → k ≤ length (drop i (beginnings_of cs))
+    → IsPartitionPoint (λ b. nat_le b base ≡ true) (λ b. nat_le b base ≡ false) (beginnings_of cs) i
+    → IsPartitionPoint (λ b. nat_lt b end ≡ true) (λ b. nat_lt b end ≡ false) (drop i (beginnings_of cs)) k
+    → (a b : ℕ) → a ≤ i - 1 → i + k ≤ b → b ≤ length (beginnings_of cs) → AreMetChunks cs base end a b
+met-from cs are base end i k within short first second a b low high few =
+    let size : length (beginnings_of cs) ≡ length cs = length-map cs begin_of in
+    let rest : drop i (beginnings_of cs) ≡ map begin_of (drop i cs) = drop-map begin_of i cs in
+    let count : length (drop i (beginnings_of cs)) ≡ length (drop i cs) = ap length rest ∙ length-map (drop i cs) begin_of in
+    let short-there : k ≤ length (drop i cs) = subst (λ n. k ≤ n) count short in
+    let second-there = subst (λ (bs : List ℕ). IsPartitionPoint (λ b. nat_lt b end ≡ true) (λ b. nat_lt b end ≡ false) bs k) rest second in
+    met cs are base end i k (subst (λ n. i ≤ n) size within) short-there
+    (parted-chunks (λ b. nat_le b base ≡ true) (λ b. nat_le b base ≡ false) cs i (subst (λ n. i ≤ n) size within) first)
+    (parted-chunks (λ b. nat_lt b end ≡ true) (λ b. nat_lt b end ≡ false) (drop i cs) k short-there second-there)
+    a b low high (subst (λ n. b ≤ n) size few)
+
+-- the same of the places where the chunks begin
+pub met-by-beginnings : (cs : List (Vec Run)) → AreChunks cs → (bs : List ℕ) → bs ≡ beginnings_of cs → (base end i k : ℕ) → i ≤ length bs → k ≤ length (drop i bs)
+    → IsPartitionPoint (λ b. nat_le b base ≡ true) (λ b. nat_le b base ≡ false) bs i
+    → IsPartitionPoint (λ b. nat_lt b end ≡ true) (λ b. nat_lt b end ≡ false) (drop i bs) k
+    → (a b : ℕ) → a ≤ i - 1 → i + k ≤ b → b ≤ length bs → AreMetChunks cs base end a b
+met-by-beginnings cs are bs same base end i k within short first second a b low high few =
+    met-from cs are base end i k
+    (subst (λ (ns : List ℕ). i ≤ length ns) same within)
+    (subst (λ (ns : List ℕ). k ≤ length (drop i ns)) same short)
+    (subst (λ (ns : List ℕ). IsPartitionPoint (λ b. nat_le b base ≡ true) (λ b. nat_le b base ≡ false) ns i) same first)
+    (subst (λ (ns : List ℕ). IsPartitionPoint (λ b. nat_lt b end ≡ true) (λ b. nat_lt b end ≡ false) (drop i ns) k) same second)
+    a b low high (subst (λ (ns : List ℕ). b ≤ length ns) same few)
+
 -- Some chunks of several.
 
 abbrev runs_in : Vec Run → List Run
@@ -233,6 +285,20 @@ pub each-put : (cs ds : List (Vec Run)) (i j : ℕ) → All IsSized cs → All I
 each-put cs ds i j sized more =
     All-append IsSized (take i cs) (ds ++ drop j cs) (All-take IsSized i cs sized)
     (All-append IsSized ds (drop j cs) more (All-drop IsSized j cs sized))
+
+-- where they begin then
+pub begins-set : (cs : List (Vec Run)) (bs : List ℕ) (i : ℕ) (c : Vec Run) → bs ≡ beginnings_of cs → slice_set bs i (beginning c.items) ≡ beginnings_of (slice_set cs i c)
+begins-set cs bs i c same = ap (λ (ns : List ℕ). slice_set ns i (beginning c.items)) same ∙ sym (map-set begin_of cs i c)
+
+pub begins-put : (cs ds : List (Vec Run)) (bs : List ℕ) (i j : ℕ) → bs ≡ beginnings_of cs → (take i bs ++ beginnings_of ds) ++ drop j bs ≡ beginnings_of (splice cs i j ds)
+begins-put cs ds bs i j same =
+    let first : take i bs ≡ map begin_of (take i cs) = ap (take i) same ∙ take-map begin_of i cs in
+    let last : drop j bs ≡ map begin_of (drop j cs) = ap (drop j) same ∙ drop-map begin_of j cs in
+    append_assoc (take i bs) (beginnings_of ds) (drop j bs)
+    ∙ (ap (λ (ns : List ℕ). ns ++ (beginnings_of ds ++ drop j bs)) first
+    ∙ (ap (λ (ns : List ℕ). map begin_of (take i cs) ++ (beginnings_of ds ++ ns)) last
+    ∙ (ap (λ (ns : List ℕ). map begin_of (take i cs) ++ ns) (sym (map-append begin_of ds (drop j cs)))
+    ∙ sym (map-append begin_of (take i cs) (ds ++ drop j cs)))))
 
 -- What a range meets.
 

@@ -211,3 +211,11 @@ pub overwritten-anew : (rs : List Run) (base len entry i j : ℕ) → AreRuns rs
 overwritten-anew rs base len entry i j are met =
     placed (take i rs) (filter_map (lower_part base) (slice_range rs i j)) (filter_map (upper_part (base + len)) (slice_range rs i j)) (drop j rs) (run_of base len entry)
     ∙ overwritten-middle rs base len entry i j are met
+
+-- what comes behind other runs, piece by piece
+pub behind-others : (o a b c d : List Run) (r : Run) → ((((o ++ a) ++ b) ++ r ∷ []) ++ c) ++ d ≡ o ++ ((((a ++ b) ++ r ∷ []) ++ c) ++ d)
+behind-others o a b c d r =
+    let two : (o ++ a) ++ b ≡ o ++ (a ++ b) = append_assoc o a b in
+    let three : ((o ++ a) ++ b) ++ r ∷ [] ≡ o ++ ((a ++ b) ++ r ∷ []) = ap (λ (xs : List Run). xs ++ r ∷ []) two ∙ append_assoc o (a ++ b) (r ∷ []) in
+    let four : (((o ++ a) ++ b) ++ r ∷ []) ++ c ≡ o ++ (((a ++ b) ++ r ∷ []) ++ c) = ap (λ (xs : List Run). xs ++ c) three ∙ append_assoc o ((a ++ b) ++ r ∷ []) c in
+    ap (λ (xs : List Run). xs ++ d) four ∙ append_assoc o (((a ++ b) ++ r ∷ []) ++ c) d

@@ -1,6 +1,6 @@
 -- What the private functions of this crate say of runs that are kept in chunks, and of the chunks
 -- that a range of addresses meets.
-use Rattle.std.specs.Prelude.{ℕ, ◌+◌, ◌≤◌, List, [], ◌∷◌, All, length, take, drop}
+use Rattle.std.specs.Prelude.{◌≡◌, ℕ, ◌+◌, ◌≤◌, List, [], ◌∷◌, All, length, map, take, drop}
 use Rattle.std.specs.Global.{Vec}
 use Rattle.std.specs.List.{flat_map}
 use Rattle.sem_access.specs.declared.run.Run.{Run}
@@ -28,6 +28,15 @@ pub record AreChunks (cs : List (Vec Run)) : Type 0 where
 abbrev pub beginning : List Run → ℕ
 beginning [] = 0
 beginning (r ∷ rs) = r.base
+
+-- where each chunk begins
+abbrev pub beginnings_of : List (Vec Run) → List ℕ
+beginnings_of cs = map (λ c. beginning c.items) cs
+
+-- chunks, and where each of them begins
+pub record AreIndexed (cs : List (Vec Run)) (beginnings : List ℕ) : Type 0 where
+  pub chunks : AreChunks cs
+  pub begin : beginnings ≡ beginnings_of cs
 
 -- the runs of the chunks before chunk i end before the addresses from base up to end, and those of
 -- the chunks from chunk j on begin behind them

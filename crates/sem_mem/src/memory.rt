@@ -18,18 +18,22 @@ use std::marker::Model;
 #[derive(Debug, Drop)]
 pub struct Memory {
     chunks: Vec<Vec<Run>>,
+    // Where each chunk begins: a search looks into no chunk.
+    beginnings: Vec<u64>,
+    // Room in which a chunk is written anew, to take the place of the old one.
+    spare: Vec<Run>,
 }
 
 impl Model for Memory {
     ghost use Rattle.std.specs.Prelude.{List};
     ghost use Rattle.sem_access.specs.declared.run.Run.{Run as RunData};
-    ghost use Rattle.sem_mem.specs.Chunks.{together, AreChunks};
+    ghost use Rattle.sem_mem.specs.Chunks.{together, AreIndexed};
 
     ghost Value = { List RunData };
 
     ghost view = { λ m. together m.chunks.items };
 
-    ghost invariant = { λ m. AreChunks m.chunks.items };
+    ghost invariant = { λ m. AreIndexed m.chunks.items m.beginnings.items };
 }
 
 impl Memory {
@@ -39,6 +43,8 @@ impl Memory {
     {
         Memory {
             chunks: Vec::new(alloc),
+            beginnings: Vec::new(alloc),
+            spare: Vec::new(alloc),
         }
     }
 
@@ -63,7 +69,14 @@ impl Memory {
         ensures unchanged { OnErr result (self.new ≡ self.old) }
     {
         if len > 0 {
-            overwrite(&mut self.chunks, base, len, entry)?;
+            overwrite(
+                &mut self.chunks,
+                &mut self.beginnings,
+                &mut self.spare,
+                base,
+                len,
+                entry,
+            )?;
         }
         Ok(())
     }
@@ -75,7 +88,7 @@ impl Memory {
         requires { base + len ≤ ADDRESSES }
         ensures { result ≡ looked (entry_at self.now) base len }
     {
-        let (from, to) = chunks_met(&self.chunks, base, base + u64::from(len));
+        let (from, to) = chunks_met(&self.beginnings, base, base + u64::from(len));
         look_through(&self.chunks[from..to], base, len)
     }
 }

@@ -3,115 +3,141 @@ ghost use Rattle.std.specs.Prelude.{◌≡◌, ◌+◌, ◌≤◌, ◌++◌, len
 ghost use Rattle.sem_key.specs.declared.limits.TheConstants.{ADDRESSES};
 ghost use Rattle.sem_mem.specs.Writing.{overwritten as overwritten_lem};
 ghost use Rattle.sem_access.specs.Runs.{AreRuns};
-ghost use Rattle.sem_mem.specs.Chunks.{together, AreChunks, HasRun, IsSized};
+ghost use Rattle.sem_mem.specs.Chunks.{together, AreChunks, AreIndexed, HasRun, IsSized, beginnings_of};
 
-use crate::chunks::{CHUNK, chunks_met};
+use crate::chunks::{CHUNK, beginning_of, chunks_met};
 use crate::parts::{push_lower_parts, push_upper_parts};
 use crate::runs::{met_by, runs_of};
 use sem_access::Run;
 use sem_key::OutOfMemory;
 use std::alloc::Global;
+use std::mem;
 
 /// How many runs a chunk gets that is cut off another one, so that both have room for more.
 const CUT: usize = 16;
 
-/// The entry writes the range, which has an address. Only the chunks that the range meets change.
-/// After lack of memory all are as before.
+/// The entry writes the range, which has an address. Only the chunks that the range meets change, and
+/// with them where they begin. After lack of memory all are as before. In `spare` anything may be.
 pub fn overwrite(
     chunks: &mut Vec<Vec<Run>>,
+    beginnings: &mut Vec<u64>,
+    spare: &mut Vec<Run>,
     base: u64,
     len: u32,
     entry: u64,
 ) -> Result<(), OutOfMemory>
     requires range { base + len ≤ ADDRESSES }
-    requires chunks { AreChunks chunks.old.items }
+    requires indexed { AreIndexed chunks.old.items beginnings.old.items }
     ensures ok { OnOk result (together chunks.new.items
         ≡ overwritten_lem (together chunks.old.items) base len entry) }
     ensures sized { OnOk result (All IsSized chunks.new.items) }
+    ensures begin { OnOk result (beginnings.new.items ≡ beginnings_of chunks.new.items) }
     ensures err { OnErr result (chunks.new.items ≡ chunks.old.items) }
+    ensures unmoved { OnErr result (beginnings.new.items ≡ beginnings.old.items) }
 {
     let alloc = *chunks.allocator();
-    let (from, to) = chunks_met(chunks, base, base + u64::from(len));
-    let runs = overwritten_together(alloc, &chunks[from..to], base, len, entry)?;
-    replace(alloc, chunks, from, to, runs)
+    let (from, to) = chunks_met(beginnings, base, base + u64::from(len));
+    spare.clear();
+    spare.reserve(CHUNK)?;
+    overwrite_together(alloc, spare, &chunks[from..to], base, len, entry)?;
+    replace(chunks, beginnings, from, to, spare)
 }
 
-// The runs of the chunks after the entry wrote the range. Mostly there is one chunk.
-fn overwritten_together(
+// Appends the runs of the chunks after the entry wrote the range. Mostly there is one chunk.
+fn overwrite_together(
     alloc: Global,
+    out: &mut Vec<Run>,
     chunks: &[Vec<Run>],
     base: u64,
     len: u32,
     entry: u64,
-) -> Result<Vec<Run>, OutOfMemory>
+) -> Result<(), OutOfMemory>
     requires range { base + len ≤ ADDRESSES }
     requires chunks { AreChunks chunks.now }
-    ensures some { IfOk result HasRun }
-    ensures items { IfOk result
-        (λ v. v.items ≡ overwritten_lem (together chunks.now) base len entry) }
+    ensures { OnOk result (out.new.items
+        ≡ out.old.items ++ overwritten_lem (together chunks.now) base len entry) }
 {
     match chunks {
-        [chunk] => overwritten(alloc, chunk, base, len, entry),
-        _ => overwritten(alloc, &runs_of(alloc, chunks)?, base, len, entry),
+        [chunk] => push_overwritten(out, chunk, base, len, entry),
+        _ => push_overwritten(out, &runs_of(alloc, chunks)?, base, len, entry),
     }
 }
 
-// The parts of the runs below the range, the range, and the parts behind it.
-fn overwritten(
-    alloc: Global,
+// Appends the parts of the runs below the range, the range, and the parts behind it.
+fn push_overwritten(
+    out: &mut Vec<Run>,
     runs: &[Run],
     base: u64,
     len: u32,
     entry: u64,
-) -> Result<Vec<Run>, OutOfMemory>
+) -> Result<(), OutOfMemory>
     requires range { base + len ≤ ADDRESSES }
     requires runs { AreRuns runs.now }
-    ensures some { IfOk result HasRun }
-    ensures items { IfOk result
-        (λ v. v.items ≡ overwritten_lem runs.now base len entry) }
+    ensures { OnOk result (out.new.items
+        ≡ out.old.items ++ overwritten_lem runs.now base len entry) }
 {
     let end = base + u64::from(len);
     let (from, to) = met_by(runs, base, end);
-    let mut out = Vec::with_capacity(alloc, CHUNK)?;
     out.extend_from_slice(&runs[..from])?;
-    push_lower_parts(&mut out, &runs[from..to], base)?;
+    push_lower_parts(out, &runs[from..to], base)?;
     let written = Run {
         base,
         len: u64::from(len),
         entry,
     };
     out.push(written)?;
-    push_upper_parts(&mut out, &runs[from..to], end)?;
+    push_upper_parts(out, &runs[from..to], end)?;
     out.extend_from_slice(&runs[to..])?;
-    Ok(out)
+    Ok(())
 }
 
 // The runs take the place of the chunks from one place up to another. After lack of memory all are
-// as before.
+// as before. In `runs` anything may be then.
 fn replace(
-    alloc: Global,
     chunks: &mut Vec<Vec<Run>>,
+    beginnings: &mut Vec<u64>,
     from: usize,
     to: usize,
-    runs: Vec<Run>,
+    runs: &mut Vec<Run>,
 ) -> Result<(), OutOfMemory>
     requires order { from ≤ to }
     requires within { to ≤ length chunks.old.items }
     requires each { All IsSized chunks.old.items }
-    requires some { HasRun runs }
+    requires begin { beginnings.old.items ≡ beginnings_of chunks.old.items }
+    requires some { HasRun runs.old }
     ensures ok { OnOk result (together chunks.new.items
         ≡ together (take from chunks.old.items)
-        ++ (runs.items ++ together (drop to chunks.old.items))) }
+        ++ (runs.old.items ++ together (drop to chunks.old.items))) }
     ensures sized { OnOk result (All IsSized chunks.new.items) }
+    ensures begin { OnOk result (beginnings.new.items ≡ beginnings_of chunks.new.items) }
     ensures err { OnErr result (chunks.new.items ≡ chunks.old.items) }
+    ensures unmoved { OnErr result (beginnings.new.items ≡ beginnings.old.items) }
 {
     if to - from == 1 && runs.len() <= CHUNK {
-        chunks[from] = runs;
+        beginnings[from] = beginning_of(runs);
+        mem::swap(&mut chunks[from], runs);
         return Ok(());
     }
-    let parts = in_chunks(alloc, runs)?;
+    let alloc = *chunks.allocator();
+    let parts = in_chunks(alloc, mem::replace(runs, Vec::new(alloc)))?;
+    let begun = beginnings_of_chunks(alloc, &parts)?;
+    let mut all = Vec::new(alloc);
+    all.extend_from_slice(&beginnings[..from])?;
+    all.extend_from_slice(&begun)?;
+    all.extend_from_slice(&beginnings[to..])?;
     chunks.splice(from..to, parts)?;
+    *beginnings = all;
     Ok(())
+}
+
+// Where each of the chunks begins.
+fn beginnings_of_chunks(alloc: Global, chunks: &[Vec<Run>]) -> Result<Vec<u64>, OutOfMemory>
+    ensures { IfOk result (λ v. v.items ≡ beginnings_of chunks.now) }
+{
+    chunks
+        .iter()
+        .map(|chunk| beginning_of(chunk))
+        .collect(alloc)
 }
 
 // The runs in chunks.

@@ -8,8 +8,11 @@ pub invariant_of-self : goal.invariant_of-self
 invariant_of-self c =
     let some : 1 ≤ c.args.len = search rules in
     record {
-      sized = c.in_ok-overwrite.ensures.sized;
-      runs = subst AreRuns (sym c.in_ok-overwrite.ensures.ok) (overwritten-runs _ c.args.base c.args.len c.args.entry some c.requires.range c.self.invariant.runs (rw c.self.view_is c.requires.newer));
+      chunks = record {
+        sized = c.in_ok-overwrite.ensures.sized;
+        runs = subst AreRuns (sym c.in_ok-overwrite.ensures.ok) (overwritten-runs _ c.args.base c.args.len c.args.entry some c.requires.range c.self.invariant.chunks.runs (rw c.self.view_is c.requires.newer));
+      };
+      begin = c.in_ok-overwrite.ensures.begin;
     }
 
 pub returns-in_ok-overwrite-clause-written : goal.returns-in_ok-overwrite-clause-written
