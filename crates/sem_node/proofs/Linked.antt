@@ -1,22 +1,20 @@
 -- The step of a kernel that has the fabric: what it asks of the fabric, and what it leaves.
-use Rattle.std.proofs.Common.{◌≡◌, ◌≢◌, ℕ, ◌<◌, ◌&&◌, Bool, true, false, List, [], ◌∷◌, ◌++◌, length, drop, set, slice_get, Option, None, Some, refl, sym, ◌∙◌, ap, subst, arith}
+use Rattle.std.proofs.Common.{◌≡◌, ◌≢◌, ℕ, ◌<◌, Bool, true, false, List, [], ◌∷◌, ◌++◌, length, drop, set, slice_get, Option, None, Some, refl, sym, ◌∙◌, ap, subst, arith}
 use Rattle.std.specs.Prelude.{slice_index_or}
-use Rattle.std.proofs.lemmas.Bool.{and_parts}
 use Rattle.std.proofs.lemmas.Option.{slice_get_within, get_or_from_slice_get}
 use Rattle.sem_msg.specs.declared.message.Message.{Message}
 use Rattle.sem_msg.specs.Message.{Fits}
 use Rattle.sem_msg.specs.declared.event.Act.{Act}
-use Rattle.sem_msg.specs.declared.event.Act.TheVariants.{Fetch, Flush, Kill}
+use Rattle.sem_msg.specs.declared.event.Act.TheVariants.{Fetch, Flush}
 use Rattle.sem_msg.specs.declared.event.Event.{Event}
 use Rattle.sem_msg.specs.declared.entry.Entry.{Entry}
 use Rattle.sem_msg.specs.declared.entry.Detail.TheVariants.{Carried}
-use Rattle.sem_msg.specs.Journal.{replies}
-use Rattle.sem_msg.specs.Fabric.{FabricValue, is_due, link_in, link_put, relinked, entered}
+use Rattle.sem_msg.specs.Fabric.{FabricValue, link_in, link_put, relinked, entered}
 use Rattle.sem_msg.proofs.Squares.{square-put}
-use Rattle.sem_msg.proofs.Entering.{agrees-fetch, agrees-flush, agrees-kill}
+use Rattle.sem_msg.proofs.Entering.{agrees-fetch, agrees-flush}
 use Rattle.sem_machine.specs.Sides.{outbox}
-use Rattle.sem_machine.specs.Machine.{is_locally_enabled, local_step, local_entry}
-use Rattle.sem_kernel.specs.KernelValue.{KernelValue, is_timely, IsInput}
+use Rattle.sem_machine.specs.Machine.{local_step, local_entry}
+use Rattle.sem_kernel.specs.KernelValue.{KernelValue, IsInput}
 use Rattle.sem_kernel.proofs.Peers.{enabled-peer}
 use Rattle.sem_parts.proofs.LocalRuns.{entry-event}
 use Rattle.sem_parts.proofs.EnteredSteps.{flush-carries}
@@ -94,7 +92,7 @@ module _ (k l : KernelValue) (f x h : FabricValue) (act : Act) (input : Option M
     places = ap (λ (y : FabricValue). y.places) at_end ∙ (λ n. set (ap (λ (y : FabricValue). y.places) moved n) (made-by n) false);
   }
 
--- The fabric is whole after the three steps.
+-- The fabric is whole after the two steps.
 
 pub fetch-whole : (k : KernelValue) (f : FabricValue) (j : ℕ) (m : Message) → CanStep k f (Fetch j) → slice_get (link_in f.links j k.id) 0 ≡ Some m
     → IsWhole k.setup (entered (local_entry k.setup k.id k.side (Fetch j) (Some m)) (relinked j k.id (drop 1 (link_in f.links j k.id)) f))
@@ -114,14 +112,6 @@ flush-whole k f j m can waits room =
       agrees = agrees-flush k.setup f can.whole.agrees (local_entry k.setup k.id k.side (Flush j) None) (own-below k f (Flush j) can) j m refl (carried.1 ∙ ap (Carried j) same) room;
       square = square-put k.setup.kernels f.links k.id j (link_in f.links k.id j ++ m ∷ []) can.whole.square can.few (flush-to k f j can);
     }
-
-pub kill-whole : (k : KernelValue) (f : FabricValue) (v : ℕ) → CanStep k f (Kill v) → is_due k.setup (length (replies f.journal)) v ≡ true
-    → IsWhole k.setup (entered (local_entry k.setup k.id k.side (Kill v) None) f)
-unfolding local_entry
-kill-whole k f v can due = record {
-  agrees = agrees-kill k.setup f can.whole.agrees (local_entry k.setup k.id k.side (Kill v) None) (own-below k f (Kill v) can) v refl due;
-  square = can.whole.square;
-}
 
 -- A fetch as the code makes it, where i is the kernel's number.
 module _ (k : KernelValue) (f x : FabricValue) (j i : ℕ) (m : Message) (e : Entry) (can : CanStep k f (Fetch j)) (i_is : i ≡ k.id)
@@ -162,15 +152,3 @@ module _ (k : KernelValue) (f x : FabricValue) (j i : ℕ) (m : Message) (e : En
       let ls : List (List (List Message)) = link_put k.id j (link_in f.links k.id j ++ m ∷ []) f.links in
       has-stepped k l f x h (Flush j) None e ls can made flush-moved stepped tt at_end
       (flush-whole k f j m can waits (subst (λ n. length (link_in f.links n j) < f.window) i_is room))
-
--- A kill.
-module _ (k : KernelValue) (f : FabricValue) (v : ℕ) (e : Entry) (can : CanStep k f (Kill v)) (made : e ≡ local_entry k.setup k.id k.side (Kill v) None) where
-  pub kill-enters : (e.event.kernel < f.kernels) × (slice_index_or f.places e.event.kernel false ≡ true)
-  kill-enters = (enter-kernel k k f f f (Kill v) None e f.links can made refl, enter-place k k f f f (Kill v) None e f.links can made refl)
-
-  pub kill-stepped : (l : KernelValue) (h : FabricValue) (n : ℕ) (b : Bool) → n ≡ length (replies f.journal)
-      → b ≡ (is_locally_enabled k.setup k.id k.side (Kill v) && is_timely k.setup n (Kill v)) → b ≡ true
-      → l ≡ record k { side = (local_step k.setup k.id k.side (Kill v) None).side; ready = None } → h ≡ entered e f → HasStepped k f (Kill v) l h
-  kill-stepped l h n b counted told on stepped at_end =
-      let due : is_due k.setup n v ≡ true = (and_parts (is_locally_enabled k.setup k.id k.side (Kill v)) (is_timely k.setup n (Kill v)) (sym told ∙ on)).1 in
-      has-stepped k l f f h (Kill v) None e f.links can made refl stepped tt at_end (kill-whole k f v can (subst (λ r. is_due k.setup r v ≡ true) counted due))

@@ -1,3 +1,4 @@
 pub mod Running
 pub mod Stepping
+pub mod Killing
 pub mod Ending

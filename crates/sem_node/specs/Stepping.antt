@@ -1,9 +1,10 @@
 -- The step of a kernel that has the fabric.
-use Rattle.std.specs.Prelude.{◌≡◌, ◌<◌, true, false, [], ◌∷◌, ◌++◌, Option, Some, None, slice_set}
+use Rattle.std.specs.Prelude.{◌≡◌, ◌≢◌, ◌⊎◌, ℕ, ◌<◌, true, false, [], ◌∷◌, ◌++◌, Option, Some, None, slice_set}
 use Rattle.sem_msg.specs.declared.message.Message.{Message}
 use Rattle.sem_msg.specs.declared.event.Act.{Act}
 use Rattle.sem_msg.specs.declared.entry.Entry.{Entry}
 use Rattle.sem_msg.specs.Fabric.{FabricValue}
+use Rattle.sem_fabric.specs.Fabrics.{placed}
 use Rattle.sem_machine.specs.Sound.{IsSound}
 use Rattle.sem_machine.specs.Machine.{is_locally_enabled, local_step, local_entry}
 use Rattle.sem_kernel.specs.KernelValue.{KernelValue, IsInput}
@@ -31,3 +32,40 @@ pub record HasStepped (k : KernelValue) (f : FabricValue) (act : Act) (l : Kerne
 
 abbrev pub IsUnchanged : KernelValue → FabricValue → KernelValue → FabricValue → Type 0
 IsUnchanged k f l g = (l ≡ k) × (g ≡ f)
+
+-- the fabric as it was, or with a place for the kernel
+abbrev pub MayGetPlace : ℕ → FabricValue → FabricValue → Type 0
+MayGetPlace k f g = (g ≡ placed k f) ⊎ (g ≡ f)
+
+-- the kernel is ready for such an act, whether it has a place or not
+pub record CanTry (k : KernelValue) (f : FabricValue) (act : Act) : Type 0 where
+  pub few : k.id < k.setup.kernels
+  pub sound : IsSound k.setup k.id k.side
+  pub whole : IsWhole k.setup f
+  pub enabled : is_locally_enabled k.setup k.id k.side act ≡ true
+  pub ready : k.ready ≡ Some act
+
+-- the kernels but k have their places as before
+abbrev pub KeepsOthers : ℕ → FabricValue → FabricValue → Type 0
+KeepsOthers k f g = (j : ℕ) → j ≢ k → has_place g j ≡ has_place f j
+
+-- In a turn in which it may get places, the kernel k did the act and became l, and its entry was entered.
+pub record HasActed (k : KernelValue) (f : FabricValue) (act : Act) (l : KernelValue) (g : FabricValue) : Type 0 where
+  pub input : Option Message
+  pub entry : Entry
+  pub handed : IsInput act input
+  pub made : entry ≡ local_entry k.setup k.id k.side act input
+  pub kernel : l ≡ record k { side = (local_step k.setup k.id k.side act input).side; ready = None }
+  pub whole : IsWhole k.setup g
+  pub journal : g.journal ≡ f.journal ++ entry ∷ []
+  pub others : KeepsOthers k.id f g
+
+-- or it did nothing.
+pub record HasRested (k : KernelValue) (f : FabricValue) (l : KernelValue) (g : FabricValue) : Type 0 where
+  pub kernel : l ≡ k
+  pub whole : IsWhole k.setup g
+  pub journal : g.journal ≡ f.journal
+  pub others : KeepsOthers k.id f g
+
+abbrev pub HasTried : KernelValue → FabricValue → Act → KernelValue → FabricValue → Type 0
+HasTried k f act l g = HasActed k f act l g ⊎ HasRested k f l g

@@ -3,16 +3,18 @@ ghost use Rattle.sem_msg.specs.Fabric.{IsOwnAct};
 ghost use Rattle.sem_msg.specs.Lookups.{kernel_of};
 ghost use Rattle.sem_node.specs.Running.{HasRun};
 
+use crate::bell::Bell;
 use crate::gate::Gate;
-use crate::linking::link_step;
-use crate::looking::possible;
+use crate::killing::enter_kill;
+use crate::linking::{Linked, turn_step};
 use crate::turns::{enter, reserve};
 use sem_kernel::Kernel;
 use sem_key::OutOfMemory;
-use sem_msg::{Act, Entry, act_number};
+use sem_msg::{Act, act_number};
 use sem_turn::{Pass, RunName, Turn};
 use std::marker::{Model, PhantomData};
 use std::sync::Wait;
+use std::sync::atomic::AtomicBool;
 
 /// What became of an act.
 #[derive(Clone, Copy, Debug, PartialEq, Eq)]
@@ -21,8 +23,8 @@ pub enum Progress {
     Nothing,
     /// It was done.
     Done,
-    /// It was done, and a call was answered by it.
-    Replied,
+    /// It was done, and a call was answered by it. The journal has so many replies then.
+    Replied(u64),
 }
 
 /// A VPE that makes calls, one after another.
@@ -32,6 +34,10 @@ pub struct Caller<N: RunName> {
     pub vpe: u16,
     pub calls: usize,
     pub of: PhantomData<N>,
+    /// The bell of the thread that makes the calls.
+    pub bell: Bell,
+    // Whether somebody is to ring it who found that its call can go on, or that it has ended.
+    pub due: AtomicBool,
     ghost own: { kernel_of N.setup vpe ≡ kernel },
 }
 
@@ -41,23 +47,27 @@ pub struct Caller<N: RunName> {
 pub struct KernelCell<N: RunName> {
     pub(crate) kernel: Kernel,
     pub(crate) pass: Pass<N>,
+    // Whether the kernel has a place in the journal, as far as its last turn showed.
+    placed: bool,
 }
 
 impl<N: RunName> Model for KernelCell<N> {
-    ghost use Rattle.std.specs.Prelude.{◌≡◌, None};
+    ghost use Rattle.std.specs.Prelude.{◌≡◌, None, true};
     ghost use Rattle.sem_node.specs.Running.{CellValue, HasRun};
 
     ghost Value = { CellValue };
 
     ghost view = { λ c. record { kernel = c.kernel; pass = c.pass } };
 
-    ghost invariant = { λ c. HasRun N.setup c.kernel c.pass × (c.pass.taken ≡ None) };
+    ghost invariant = { λ c.
+        HasRun N.setup c.kernel c.pass × (c.pass.taken ≡ None)
+        × (c.placed ≡ true → c.pass.placed ≡ true) };
 }
 
-// What became of an act that made the entry.
-fn progress_of(entry: &Entry) -> Progress {
-    if entry.reply.is_some() {
-        Progress::Replied
+// What became of an act that was entered, which may have answered a call.
+fn progress_of(replied: bool, replies: u64) -> Progress {
+    if replied {
+        Progress::Replied(replies)
     } else {
         Progress::Done
     }
@@ -69,7 +79,11 @@ impl<N: RunName> KernelCell<N> {
         requires run { HasRun N.setup kernel pass }
         requires free { pass.taken ≡ None }
     {
-        KernelCell { kernel, pass }
+        KernelCell {
+            kernel,
+            pass,
+            placed: false,
+        }
     }
 
     /// The kernel and its pass.
@@ -77,13 +91,18 @@ impl<N: RunName> KernelCell<N> {
         ensures run { HasRun N.setup result.0 result.1 }
         ensures free { result.1.taken ≡ None }
     {
-        let KernelCell { kernel, pass } = self;
+        let KernelCell {
+            kernel,
+            pass,
+            placed: _,
+        } = self;
         (kernel, pass)
     }
 
-    /// Whether the act, none that kills, is enabled as far as the kernel can tell.
+    /// Whether the act is enabled as far as the kernel can tell: of a fetch it does not know the link,
+    /// of a flush not whether the link has room, and of a kill not whether it is due.
     pub fn can(&self, act: Act) -> bool {
-        self.kernel.enabled(act, 0)
+        self.kernel.enabled(act, u64::MAX)
     }
 
     /// Whether the VPE, one of this kernel, has ended.
@@ -91,8 +110,8 @@ impl<N: RunName> KernelCell<N> {
         self.kernel.id() == caller.kernel && !self.kernel.is_alive(caller.vpe)
     }
 
-    /// Does an act that the kernel does alone: makes sure of a place in one turn, steps outside the
-    /// turn, and enters in another turn.
+    /// Does an act that the kernel does alone: steps outside the turn, and enters in one turn, which
+    /// makes the next place too.
     pub fn act_alone<W: Wait, G: Gate>(
         &mut self,
         rt: &W,
@@ -107,51 +126,56 @@ impl<N: RunName> KernelCell<N> {
         }
         gate.before(self.kernel.id(), act_number(act));
         self.kernel.room(act)?;
-        reserve(rt, turn, &mut self.pass)?;
+        reserve(rt, turn, &mut self.pass, self.placed)?;
         let entry = self.kernel.step(act, None);
-        let progress = progress_of(&entry);
-        enter(rt, turn, &mut self.pass, entry);
-        Ok(progress)
+        let replied = entry.reply.is_some();
+        let entered = enter(rt, turn, &mut self.pass, entry);
+        self.placed = entered.placed;
+        Ok(progress_of(replied, entered.replies))
     }
 
-    /// Does a fetch, a flush or a kill: makes sure of a place in one turn, and tests, steps and enters
-    /// in another turn.
+    /// Kills a VPE, if that is due: tests and enters in one turn, which makes the next place too, and
+    /// steps after it. Whether it was done.
+    pub fn kill<W: Wait, G: Gate>(
+        &mut self,
+        rt: &W,
+        turn: &Turn<N>,
+        gate: &G,
+        vpe: u16,
+    ) -> Result<bool, OutOfMemory> {
+        let act = Act::Kill { vpe };
+        if !self.kernel.enabled(act, u64::MAX) {
+            return Ok(false);
+        }
+        gate.before(self.kernel.id(), act_number(act));
+        self.kernel.room(act)?;
+        reserve(rt, turn, &mut self.pass, self.placed)?;
+        let killed = enter_kill(rt, turn, &mut self.pass, &self.kernel, vpe);
+        self.placed = killed.placed;
+        if killed.due {
+            self.kernel.step(act, None);
+        }
+        Ok(killed.due)
+    }
+
+    /// Does a fetch or a flush: tests, steps and enters in one turn, which makes the next place too.
+    /// None where the kernel cannot do the act, whatever the links are.
     pub fn act_within<W: Wait, G: Gate>(
         &mut self,
         rt: &W,
         turn: &Turn<N>,
         gate: &G,
         act: Act,
-    ) -> Result<Progress, OutOfMemory> {
+    ) -> Result<Option<Linked>, OutOfMemory> {
         if !self.kernel.enabled(act, u64::MAX) {
-            return Ok(Progress::Nothing);
+            return Ok(None);
         }
         gate.before(self.kernel.id(), act_number(act));
         self.kernel.room(act)?;
-        reserve(rt, turn, &mut self.pass)?;
         let mut fabric = turn.take(rt, &mut self.pass);
-        let done = link_step(&mut self.kernel, &mut fabric, act);
+        let tried = turn_step(&mut self.kernel, &mut fabric, act);
+        self.placed = tried.placed;
         turn.give_back(&mut self.pass, fabric);
-        Ok(if done {
-            Progress::Done
-        } else {
-            Progress::Nothing
-        })
-    }
-
-    /// A fetch, a flush or a kill that the links and the replies allow now; none where there is none.
-    pub fn look<W: Wait>(
-        &mut self,
-        rt: &W,
-        turn: &Turn<N>,
-        kernels: u32,
-        kills: &[u16],
-    ) -> Option<Act>
-        requires { kernels ≡ N.setup.kernels }
-    {
-        let fabric = turn.take(rt, &mut self.pass);
-        let act = possible(&self.kernel, &fabric, kernels, kills);
-        turn.give_back(&mut self.pass, fabric);
-        act
+        Ok(Some(tried.linked?))
     }
 }

@@ -1,12 +1,16 @@
 //! Kernels in threads of their own, which make one journal together.
 #![tactic(auto)]
 
+mod bell;
 mod cell;
+mod desk;
 mod gate;
+mod killing;
 mod linking;
-mod looking;
 mod node;
+mod places;
 mod run;
+mod shared;
 mod turns;
 
 pub use gate::{Gate, OpenGate};

@@ -1,31 +1,55 @@
-// What a kernel does with the fabric while it has the turn: it tests, steps and enters, since what
-// an earlier turn showed of the links and the replies is not known in a later one.
-ghost use Rattle.std.specs.Prelude.{◌≡◌, MatchBool};
-ghost use Rattle.sem_msg.specs.declared.event.Act.TheVariants.{Fetch, Flush, Kill};
-ghost use Rattle.sem_node.specs.Stepping.{CanStep, HasStepped, IsUnchanged};
+// What a kernel does with the links while it has the turn: it tests, steps and enters, since what an
+// earlier turn showed of the links is not known in a later one.
+ghost use Rattle.std.specs.Prelude.{◌≡◌, MatchBool, true};
+ghost use Rattle.sem_msg.specs.declared.event.Act.TheVariants.{Fetch, Flush};
+ghost use Rattle.sem_turn.specs.Passes.{has_place};
+ghost use Rattle.sem_node.specs.Stepping.{CanStep, HasStepped, IsUnchanged, CanTry, HasTried};
 
+use crate::places::next_place;
 use sem_fabric::Fabric;
 use sem_kernel::Kernel;
+use sem_key::OutOfMemory;
 use sem_msg::Act;
 
-// Takes the oldest message out of the link from that kernel into the inbox. Whether there was one.
-fn fetch(kernel: &mut Kernel, fabric: &mut Fabric, from: u32) -> bool
+/// What became of a fetch or a flush, and what was seen of its link.
+#[derive(Clone, Copy, Debug, PartialEq, Eq)]
+pub struct Linked {
+    /// Whether it was done.
+    pub done: bool,
+    /// Whether the link was full before.
+    pub full: bool,
+    /// Whether the link holds a message still, once one was fetched.
+    pub more: bool,
+}
+
+// Takes the oldest message out of the link from that kernel into the inbox, if there is one.
+fn fetch(kernel: &mut Kernel, fabric: &mut Fabric, from: u32) -> Linked
     requires { CanStep kernel.old fabric.old (Fetch from) }
-    ensures { MatchBool result (HasStepped kernel.old fabric.old (Fetch from) kernel.new fabric.new) (IsUnchanged kernel.old fabric.old kernel.new fabric.new) }
+    ensures { MatchBool result.done (HasStepped kernel.old fabric.old (Fetch from) kernel.new fabric.new) (IsUnchanged kernel.old fabric.old kernel.new fabric.new) }
 {
     let id = kernel.id();
+    let full = fabric.full(from, id);
+    let more = fabric.waiting(from, id) > 1;
     if fabric.peek(id, from).is_none() {
-        return false;
+        return Linked {
+            done: false,
+            full,
+            more,
+        };
     }
     let Some(message) = fabric.fetch(id, from) else {
         unreachable!()
     };
     fabric.enter(kernel.step(Act::Fetch { from }, Some(message)));
-    true
+    Linked {
+        done: true,
+        full,
+        more,
+    }
 }
 
-// Puts the message that waited longest for that kernel at the end of the link to it. Whether there
-// was room.
+// Puts the message that waited longest for that kernel at the end of the link to it, if there is
+// room.
 fn flush(kernel: &mut Kernel, fabric: &mut Fabric, to: u32) -> bool
     requires { CanStep kernel.old fabric.old (Flush to) }
     ensures { MatchBool result (HasStepped kernel.old fabric.old (Flush to) kernel.new fabric.new) (IsUnchanged kernel.old fabric.old kernel.new fabric.new) }
@@ -42,28 +66,54 @@ fn flush(kernel: &mut Kernel, fabric: &mut Fabric, to: u32) -> bool
     true
 }
 
-// Kills the VPE. Whether that was due.
-fn kill(kernel: &mut Kernel, fabric: &mut Fabric, vpe: u16) -> bool
-    requires { CanStep kernel.old fabric.old (Kill vpe) }
-    ensures { MatchBool result (HasStepped kernel.old fabric.old (Kill vpe) kernel.new fabric.new) (IsUnchanged kernel.old fabric.old kernel.new fabric.new) }
+// What became of an act whose link was not looked at.
+fn unseen(done: bool) -> Linked
+    ensures { result.done ≡ done }
 {
-    let act = Act::Kill { vpe };
-    if !kernel.enabled(act, fabric.replies()) {
-        return false;
+    Linked {
+        done,
+        full: false,
+        more: false,
     }
-    fabric.enter(kernel.step(act, None));
-    true
 }
 
-// Does a fetch, a flush or a kill, if the links and the replies allow it. Whether it was done.
-pub fn link_step(kernel: &mut Kernel, fabric: &mut Fabric, act: Act) -> bool
+// Does a fetch or a flush, if the link allows it.
+fn link_step(kernel: &mut Kernel, fabric: &mut Fabric, act: Act) -> Linked
     requires { CanStep kernel.old fabric.old act }
-    ensures { MatchBool result (HasStepped kernel.old fabric.old act kernel.new fabric.new) (IsUnchanged kernel.old fabric.old kernel.new fabric.new) }
+    ensures { MatchBool result.done (HasStepped kernel.old fabric.old act kernel.new fabric.new) (IsUnchanged kernel.old fabric.old kernel.new fabric.new) }
 {
     match act {
         Act::Fetch { from } => fetch(kernel, fabric, from),
-        Act::Flush { to } => flush(kernel, fabric, to),
-        Act::Kill { vpe } => kill(kernel, fabric, vpe),
-        _ => false,
+        Act::Flush { to } => unseen(flush(kernel, fabric, to)),
+        _ => unseen(false),
     }
+}
+
+// The same, once the kernel has a place in the journal.
+fn placed_step(kernel: &mut Kernel, fabric: &mut Fabric, act: Act) -> Result<Linked, OutOfMemory>
+    requires { CanTry kernel.old fabric.old act }
+    ensures { HasTried kernel.old fabric.old act kernel.new fabric.new }
+{
+    fabric.reserve(kernel.id())?;
+    Ok(link_step(kernel, fabric, act))
+}
+
+/// What a turn shows in which a kernel tried a fetch or a flush.
+#[derive(Clone, Copy, Debug)]
+pub struct Tried {
+    pub linked: Result<Linked, OutOfMemory>,
+    /// Whether the kernel has its next place in the journal.
+    pub placed: bool,
+}
+
+// Makes a place, does a fetch or a flush, if the link allows it, and makes the next place.
+pub fn turn_step(kernel: &mut Kernel, fabric: &mut Fabric, act: Act) -> Tried
+    requires { CanTry kernel.old fabric.old act }
+    ensures tried { HasTried kernel.old fabric.old act kernel.new fabric.new }
+    ensures place { result.placed ≡ true → has_place fabric.new kernel.old.id ≡ true }
+{
+    let id = kernel.id();
+    let linked = placed_step(kernel, fabric, act);
+    let placed = next_place(fabric, id);
+    Tried { linked, placed }
 }

@@ -1,76 +1,43 @@
 // A kernel with what its threads share, and the bodies of these threads.
-ghost use Rattle.std.specs.Prelude.{◌≡◌};
+ghost use Rattle.std.specs.Prelude.{◌≡◌, IfSome};
 ghost use Rattle.sem_msg.specs.Fabric.{IsOwnAct};
 
 use crate::cell::{Caller, KernelCell, Progress};
+use crate::desk::Desk;
 use crate::gate::Gate;
+use crate::shared::Run;
 use sem_key::OutOfMemory;
 use sem_msg::Act;
-use sem_turn::{RunName, Turn};
-use std::sync::atomic::{AtomicBool, AtomicU64, Ordering};
-use std::sync::{Condvar, Mutex, Wait};
-use std::thread;
-
-/// What all threads of a run share.
-#[derive(Drop)]
-pub struct Run<N: RunName> {
-    pub turn: Turn<N>,
-    // Whether the threads are to end, whatever is left to do.
-    stopped: AtomicBool,
-    // How many VPEs still make calls.
-    calling: AtomicU64,
-}
+use sem_turn::RunName;
+use std::sync::atomic::Ordering;
+use std::sync::{Mutex, Wait};
 
 /// A kernel, with what its threads share.
 #[derive(Drop)]
 pub struct Node<N: RunName> {
+    pub id: u32,
     pub cell: Mutex<KernelCell<N>>,
-    // Something was done, so that a call may go on.
-    pub changed: Condvar,
     // Its VPEs.
     pub callers: Vec<Caller<N>>,
-    // Those of its VPEs that are to be killed.
-    pub kills: Vec<u16>,
-    pub kernels: u32,
-    ghost all: { kernels ≡ N.setup.kernels },
 }
 
-impl<N: RunName> Run<N> {
-    /// A run in which so many VPEs make calls.
-    pub fn new(turn: Turn<N>, calling: u64) -> Self {
-        Run {
-            turn,
-            stopped: AtomicBool::new(false),
-            calling: AtomicU64::new(calling),
-        }
-    }
+/// What is to be told of an act to others, once the kernel is let go.
+#[derive(Clone, Copy, Debug)]
+enum News {
+    Nothing,
+    // A message was put into the link to that kernel.
+    Mail { to: u32 },
+    // The link from that kernel was full, and is not any more.
+    Room { from: u32 },
+    // A call was answered. The journal has so many replies then.
+    Replies { count: u64 },
+}
 
-    /// The threads are to end.
-    pub fn stop(&self) {
-        self.stopped.store(true, Ordering::SeqCst);
-    }
-
-    fn is_stopped(&self) -> bool {
-        self.stopped.load(Ordering::SeqCst)
-    }
-
-    fn is_over(&self) -> bool {
-        self.is_stopped() || self.calling.load(Ordering::SeqCst) == 0
-    }
-
-    // A VPE makes no more calls.
-    fn end_calls(&self) {
-        self.calling.fetch_sub(1, Ordering::SeqCst);
-    }
-
-    /// The turn alone.
-    pub fn into_turn(self) -> Turn<N> {
-        let Run {
-            turn,
-            stopped: _,
-            calling: _,
-        } = self;
-        turn
+// What is to be told of an act that a kernel did alone.
+fn news_of(progress: Progress) -> News {
+    match progress {
+        Progress::Replied(count) => News::Replies { count },
+        _ => News::Nothing,
     }
 }
 
@@ -85,40 +52,222 @@ fn call_act(vpe: u16, open: bool) -> Act
     }
 }
 
+// A flush to the kernel or a fetch from it that the kernel and its desk allow, for all that they
+// tell; none where there is none.
+fn link_act<N: RunName>(cell: &KernelCell<N>, desk: &Desk, peer: u32) -> Option<Act> {
+    let flush = Act::Flush { to: peer };
+    if !desk.is_full(peer) && cell.can(flush) {
+        return Some(flush);
+    }
+    let fetch = Act::Fetch { from: peer };
+    if desk.has_mail(peer) && cell.can(fetch) {
+        return Some(fetch);
+    }
+    None
+}
+
+// The same of a kill.
+fn kill_act<N: RunName>(cell: &KernelCell<N>, desk: &Desk) -> Option<Act> {
+    for kill in &desk.kills {
+        let act = Act::Kill { vpe: kill.vpe };
+        if kill.is_due() && cell.can(act) {
+            return Some(act);
+        }
+    }
+    None
+}
+
+// The same of all three, where the links with other kernels are looked at from one of them on.
+fn turn_act<N: RunName>(
+    cell: &KernelCell<N>,
+    desk: &Desk,
+    kernels: u32,
+    first: u32,
+) -> Option<Act> {
+    let kill = kill_act(cell, desk);
+    if kill.is_some() {
+        return kill;
+    }
+    for peer in first..kernels {
+        let act = link_act(cell, desk, peer);
+        if act.is_some() {
+            return act;
+        }
+    }
+    for peer in 0..first {
+        let act = link_act(cell, desk, peer);
+        if act.is_some() {
+            return act;
+        }
+    }
+    None
+}
+
+// The kernel with which the act has to do, or that one.
+fn peer_of(act: Act, other: u32) -> u32 {
+    match act {
+        Act::Fetch { from } => from,
+        Act::Flush { to } => to,
+        _ => other,
+    }
+}
+
+// Tells the news to the dispatchers that wait for them.
+fn tell<N: RunName>(run: &Run<N>, id: u32, news: News) {
+    match news {
+        News::Nothing => {}
+        News::Mail { to } => {
+            if let Some(desk) = run.desk(to) {
+                desk.bring_mail(id);
+            }
+        }
+        News::Room { from } => {
+            if let Some(desk) = run.desk(from) {
+                desk.bring_room(id);
+            }
+        }
+        News::Replies { count } => run.bring_replies(count),
+    }
+}
+
 impl<N: RunName> Node<N> {
-    /// Wakes all calls that wait.
-    pub fn wake<R: Wait>(&self, rt: &R) {
-        drop(self.cell.lock(rt));
-        self.changed.notify_all();
+    /// Rings for all calls that wait.
+    pub fn wake(&self) {
+        for caller in &self.callers {
+            caller.bell.ring();
+        }
     }
 
     /// The dispatcher: does all but the calls, until none is left or the run is stopped.
     pub fn dispatch<R: Wait, G: Gate>(&self, rt: &R, run: &Run<N>, gate: &G) {
-        for _ in rt.forever() {
-            if run.is_over() {
-                break;
-            }
-            match self.work(rt, run, gate) {
-                Ok(true) => self.changed.notify_all(),
-                Ok(false) => thread::yield_now(),
-                Err(_) => run.stop(),
+        if let Some(desk) = run.desk(self.id) {
+            let mut peer = 0;
+            for _ in rt.forever() {
+                if run.is_over() {
+                    break;
+                }
+                match self.advance(rt, run, gate, desk, peer) {
+                    Ok(Some(next)) => peer = next,
+                    Ok(None) => {
+                        desk.bell.sleep(rt);
+                        desk.bell.hear();
+                    }
+                    Err(_) => run.stop(),
+                }
             }
         }
-        self.wake(rt);
+        self.wake();
     }
 
-    // One round of the dispatcher. Whether something was done.
-    fn work<R: Wait, G: Gate>(&self, rt: &R, run: &Run<N>, gate: &G) -> Result<bool, OutOfMemory> {
+    // Does one act of the dispatcher, and tells with which kernel to go on; none where there is
+    // nothing to do.
+    fn advance<R: Wait, G: Gate>(
+        &self,
+        rt: &R,
+        run: &Run<N>,
+        gate: &G,
+        desk: &Desk,
+        peer: u32,
+    ) -> Result<Option<u32>, OutOfMemory> {
         let mut cell = self.cell.lock(rt);
-        let mut worked = cell.act_alone(rt, &run.turn, gate, Act::Handle)? != Progress::Nothing;
+        if let Some(act) = self.own_act(&cell) {
+            let progress = cell.act_alone(rt, run.turn(), gate, act)?;
+            self.mark(&cell);
+            drop(cell);
+            self.ring();
+            tell(run, self.id, news_of(progress));
+            return Ok(Some(peer));
+        }
+        let Some(act) = turn_act(&cell, desk, run.kernels(), peer) else {
+            return Ok(None);
+        };
+        let news = self.act_within(rt, run, gate, desk, &mut cell, act)?;
+        self.mark(&cell);
+        drop(cell);
+        self.ring();
+        tell(run, self.id, news);
+        Ok(Some(peer_of(act, peer)))
+    }
+
+    // An act of the dispatcher that the kernel can do alone; none where there is none.
+    fn own_act(&self, cell: &KernelCell<N>) -> Option<Act>
+        ensures { IfSome result IsOwnAct }
+    {
+        if cell.can(Act::Handle) {
+            return Some(Act::Handle);
+        }
         for caller in &self.callers {
             let upcall = Act::Upcall { vpe: caller.vpe };
-            worked |= cell.act_alone(rt, &run.turn, gate, upcall)? != Progress::Nothing;
+            if cell.can(upcall) {
+                return Some(upcall);
+            }
         }
-        if let Some(act) = cell.look(rt, &run.turn, self.kernels, self.kills.as_slice()) {
-            worked |= cell.act_within(rt, &run.turn, gate, act)? != Progress::Nothing;
+        None
+    }
+
+    // Does a fetch, a flush or a kill, if the links and the replies allow it. The desk is noted before
+    // the turn is taken: what others bring after the turn is not lost then.
+    fn act_within<R: Wait, G: Gate>(
+        &self,
+        rt: &R,
+        run: &Run<N>,
+        gate: &G,
+        desk: &Desk,
+        cell: &mut KernelCell<N>,
+        act: Act,
+    ) -> Result<News, OutOfMemory> {
+        match act {
+            Act::Fetch { from } => desk.note_mail(from, false),
+            Act::Flush { to } => desk.note_full(to, true),
+            _ => {}
         }
-        Ok(worked)
+        if let Act::Kill { vpe } = act {
+            cell.kill(rt, run.turn(), gate, vpe)?;
+            return Ok(News::Nothing);
+        }
+        let Some(linked) = cell.act_within(rt, run.turn(), gate, act)? else {
+            return Ok(News::Nothing);
+        };
+        if !linked.done {
+            return Ok(News::Nothing);
+        }
+        Ok(match act {
+            Act::Fetch { from } => {
+                if linked.more {
+                    desk.note_mail(from, true);
+                }
+                if linked.full {
+                    News::Room { from }
+                } else {
+                    News::Nothing
+                }
+            }
+            Act::Flush { to } => {
+                desk.note_full(to, false);
+                News::Mail { to }
+            }
+            _ => News::Nothing,
+        })
+    }
+
+    // Marks the VPEs whose call can go on, and those that have ended.
+    fn mark(&self, cell: &KernelCell<N>) {
+        for caller in &self.callers {
+            let resume = Act::Resume { vpe: caller.vpe };
+            if cell.can(resume) || cell.has_ended(caller) {
+                caller.due.store(true, Ordering::SeqCst);
+            }
+        }
+    }
+
+    // Rings for the VPEs that are marked.
+    fn ring(&self) {
+        for caller in &self.callers {
+            if caller.due.load(Ordering::SeqCst) {
+                caller.due.store(false, Ordering::SeqCst);
+                caller.bell.ring();
+            }
+        }
     }
 
     /// The calls of a VPE, one after another, until it has made all, or has ended, or the run is
@@ -138,7 +287,6 @@ impl<N: RunName> Node<N> {
                     break;
                 }
             };
-            self.changed.notify_all();
             if !open {
                 left = left.saturating_sub(1);
             }
@@ -157,13 +305,40 @@ impl<N: RunName> Node<N> {
         open: bool,
     ) -> Result<Progress, OutOfMemory> {
         let act = call_act(caller.vpe, open);
-        let cell = self.cell.lock(rt);
-        let mut cell = self.changed.wait_while(rt, cell, |cell| {
-            !cell.can(act) && !cell.has_ended(caller) && !run.is_stopped()
-        });
-        if run.is_stopped() {
-            return Ok(Progress::Nothing);
+        for _ in rt.forever() {
+            caller.bell.hear();
+            if run.is_stopped() {
+                return Ok(Progress::Nothing);
+            }
+            let mut cell = self.cell.lock(rt);
+            if cell.can(act) {
+                let progress = cell.act_alone(rt, run.turn(), gate, act)?;
+                self.mark(&cell);
+                let desk = self.busy_desk(run, &cell);
+                drop(cell);
+                self.ring();
+                if let Some(desk) = desk {
+                    desk.bell.ring();
+                }
+                tell(run, self.id, news_of(progress));
+                return Ok(progress);
+            }
+            if cell.has_ended(caller) {
+                return Ok(Progress::Nothing);
+            }
+            drop(cell);
+            caller.bell.sleep(rt);
         }
-        cell.act_alone(rt, &run.turn, gate, act)
+        unreachable!()
+    }
+
+    // The desk of the kernel, where there is something to do for the dispatcher.
+    fn busy_desk<'a>(&self, run: &'a Run<N>, cell: &KernelCell<N>) -> Option<&'a Desk> {
+        let desk = run.desk(self.id)?;
+        let act = match self.own_act(cell) {
+            Some(act) => Some(act),
+            None => turn_act(cell, desk, run.kernels(), 0),
+        };
+        act.map(|_act| desk)
     }
 }

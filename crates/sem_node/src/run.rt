@@ -9,9 +9,12 @@ ghost use Rattle.sem_parts.specs.Standing.{StandAt};
 ghost use Rattle.sem_node.specs.Running.{HasRun};
 ghost use Rattle.sem_node.specs.Ending.{HaveRun};
 
+use crate::bell::Bell;
 use crate::cell::{Caller, KernelCell};
+use crate::desk::{Desk, Due};
 use crate::gate::Gate;
-use crate::node::{Node, Run};
+use crate::node::Node;
+use crate::shared::Run;
 use sem_fabric::Fabric;
 use sem_kernel::Kernel;
 use sem_key::OutOfMemory;
@@ -19,7 +22,8 @@ use sem_msg::Setup;
 use sem_turn::{Opened, Pass, Passes, RunName};
 use std::alloc::Global;
 use std::marker::{Brand, PhantomData};
-use std::sync::{Condvar, Mutex, Wait};
+use std::sync::atomic::AtomicBool;
+use std::sync::{Mutex, Wait};
 use std::thread;
 use std::thread::Threads;
 
@@ -40,21 +44,32 @@ fn callers_of<N: RunName>(
                 vpe: decl.vpe,
                 calls: decl.calls.len(),
                 of: PhantomData,
+                bell: Bell::new(),
+                due: AtomicBool::new(false),
             })?;
         }
     }
     Ok(callers)
 }
 
-// The VPEs of the kernel that are to be killed.
-fn kills_of(alloc: Global, setup: &Setup, id: u32) -> Result<Vec<u16>, OutOfMemory> {
+// The kills of VPEs of the kernel.
+fn kills_of(alloc: Global, setup: &Setup, id: u32) -> Result<Vec<Due>, OutOfMemory> {
     let mut kills = Vec::new(alloc);
     for kill in setup.kills.as_slice() {
         if setup.kernel_of(kill.0) == id {
-            kills.push(kill.0)?;
+            kills.push(Due::new(kill.0, kill.1))?;
         }
     }
     Ok(kills)
+}
+
+// A desk for the dispatcher of each kernel.
+fn desks_of(alloc: Global, setup: &Setup) -> Result<Vec<Desk>, OutOfMemory> {
+    let mut desks = Vec::new(alloc);
+    for id in 0..setup.kernels {
+        desks.push(Desk::new(alloc, setup.kernels, kills_of(alloc, setup, id)?)?)?;
+    }
+    Ok(desks)
 }
 
 // The kernel with its pass, for its threads.
@@ -70,13 +85,10 @@ fn node_of<N: RunName>(
 {
     let id = kernel.id();
     let callers = callers_of(alloc, setup, id)?;
-    let kills = kills_of(alloc, setup, id)?;
     Ok(Node {
+        id,
         cell: Mutex::new(KernelCell::new(kernel, pass)),
-        changed: Condvar::new(),
         callers,
-        kills,
-        kernels: setup.kernels,
     })
 }
 
@@ -115,11 +127,9 @@ fn taken_out<N: RunName>(
     let mut passes = Passes::new(alloc);
     while let Some(node) = nodes.pop() {
         let Node {
+            id: _,
             cell,
-            changed: _,
             callers: _,
-            kills: _,
-            kernels: _,
         } = node;
         let (kernel, pass) = cell.into_inner().into_parts();
         kernels.push(kernel)?;
@@ -136,11 +146,11 @@ fn put_in_order(kernels: &mut Vec<Kernel>)
     kernels.sort_unstable_by_key(|kernel| kernel.id());
 }
 
-// Stops the run, and wakes all that wait.
-fn halt<N: RunName, R: Wait>(rt: &R, run: &Run<N>, nodes: &[Node<N>]) {
+// Stops the run, and rings for all threads.
+fn halt<N: RunName>(run: &Run<N>, nodes: &[Node<N>]) {
     run.stop();
     for node in nodes {
-        node.wake(rt);
+        node.wake();
     }
 }
 
@@ -154,12 +164,12 @@ fn run_all<N: RunName + Send + Sync, R: Threads + Wait + Sync, G: Gate + Sync>(
     thread::scope(thread::scope_env(), rt, |scope| {
         for node in nodes {
             if scope.spawn(move || node.dispatch(rt, run, gate)).is_err() {
-                halt(rt, run, nodes);
+                halt(run, nodes);
             }
             for caller in &node.callers {
                 let made = scope.spawn(move || node.call(rt, run, gate, caller));
                 if made.is_err() {
-                    halt(rt, run, nodes);
+                    halt(run, nodes);
                 }
             }
         }
@@ -185,7 +195,8 @@ fn run_named<N: RunName + Send + Sync, R: Threads + Wait + Sync, G: Gate + Sync>
     let (turn, first) = opened.named::<N>();
     let passes = turn.split(alloc, first, setup.kernels)?;
     let nodes = nodes_of(alloc, setup, kernels, passes)?;
-    let run = Run::new(turn, setup.vpes.len() as u64);
+    let desks = desks_of(alloc, setup)?;
+    let run = Run::new(turn, desks, setup.kernels, setup.vpes.len() as u64);
     run_all(rt, &run, nodes.as_slice(), gate);
     let (mut kernels, passes) = taken_out(alloc, nodes)?;
     let fabric = run.into_turn().close(passes);

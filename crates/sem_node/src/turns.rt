@@ -2,22 +2,29 @@
 ghost use Rattle.std.specs.Prelude.{◌≡◌, true, ◌∷◌, [], ◌++◌, OnOk, None};
 ghost use Rattle.sem_msg.specs.Fabric.{IsOwnAct};
 
+use crate::places::next_place;
 use sem_fabric::entries_keep_agreement;
 use sem_key::OutOfMemory;
 use sem_msg::Entry;
 use sem_turn::{Pass, RunName, Turn};
 use std::sync::Wait;
 
-// The pass's kernel has a place in the journal then.
+// The pass's kernel has a place in the journal then. It takes a turn unless the kernel has one.
 pub fn reserve<N: RunName, W: Wait>(
     rt: &W,
     turn: &Turn<N>,
     pass: &mut Pass<N>,
+    placed: bool,
 ) -> Result<(), OutOfMemory>
-    requires { pass.old.taken ≡ None }
+    requires free { pass.old.taken ≡ None }
+    requires kept { placed ≡ true → pass.old.placed ≡ true }
     ensures same { pass.new ≡ record pass.old { placed = pass.new.placed } }
     ensures ok { OnOk result (pass.new.placed ≡ true) }
+    ensures kept { placed ≡ true → pass.new.placed ≡ true }
 {
+    if placed {
+        return Ok(());
+    }
     let kernel = pass.kernel();
     let mut fabric = turn.take(rt, pass);
     let reserved = fabric.reserve(kernel);
@@ -25,8 +32,23 @@ pub fn reserve<N: RunName, W: Wait>(
     reserved
 }
 
-// Enters the entry of an act that the pass's kernel did alone, at the place that the kernel has.
-pub fn enter<N: RunName, W: Wait>(rt: &W, turn: &Turn<N>, pass: &mut Pass<N>, entry: Entry)
+/// What a turn shows in which an entry was entered.
+#[derive(Clone, Copy, Debug)]
+pub struct Entered {
+    /// Whether the kernel has its next place in the journal.
+    pub placed: bool,
+    /// How many replies the journal has.
+    pub replies: u64,
+}
+
+// Enters the entry of an act that the pass's kernel did alone, at the place that the kernel has,
+// and makes its next place.
+pub fn enter<N: RunName, W: Wait>(
+    rt: &W,
+    turn: &Turn<N>,
+    pass: &mut Pass<N>,
+    entry: Entry,
+) -> Entered
     requires free { pass.old.taken ≡ None }
     requires place { pass.old.placed ≡ true }
     requires kernel { entry.event.kernel ≡ pass.old.kernel }
@@ -34,9 +56,14 @@ pub fn enter<N: RunName, W: Wait>(rt: &W, turn: &Turn<N>, pass: &mut Pass<N>, en
     ensures kernel { pass.new.kernel ≡ pass.old.kernel }
     ensures entries { pass.new.entries ≡ pass.old.entries ++ entry ∷ [] }
     ensures free { pass.new.taken ≡ None }
+    ensures place { result.placed ≡ true → pass.new.placed ≡ true }
 {
+    let kernel = pass.kernel();
     let mut fabric = turn.take(rt, pass);
     entries_keep_agreement();
     fabric.enter(entry);
+    let replies = fabric.replies();
+    let placed = next_place(&mut fabric, kernel);
     turn.give_back(pass, fabric);
+    Entered { placed, replies }
 }

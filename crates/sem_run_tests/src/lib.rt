@@ -12,6 +12,8 @@ mod faults;
 #[cfg(test)]
 mod files;
 #[cfg(test)]
+mod gates;
+#[cfg(test)]
 mod nodes;
 #[cfg(test)]
 mod queries;

@@ -172,7 +172,7 @@ impl Gate for Holding {
 }
 
 // Looks at the flag until it is set, at most so often. Whether it is.
-fn is_set(flag: &AtomicBool) -> bool {
+pub(crate) fn is_set(flag: &AtomicBool) -> bool {
     for _ in 0..TURNS {
         if flag.load(Ordering::SeqCst) {
             return true;

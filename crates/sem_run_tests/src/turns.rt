@@ -7,6 +7,7 @@ use sem_key::{Membership, OutOfMemory};
 use sem_msg::{Act, Denies, Detail, Entry, Event, Journal, Kills, Offers, Services, Setup, Vpes0};
 use sem_turn::{Opened, Pass, Passes, RunName, Turn};
 use std::alloc::Global;
+use std::hint;
 use std::marker::Brand;
 use std::sync::Wait;
 use std::test::Fail;
@@ -56,8 +57,21 @@ fn handled(kernel: u32) -> Entry
     }
 }
 
-// An entry of the pass's kernel: its place in one turn, and the entry itself in another.
-fn enter<N: RunName, W: Wait>(rt: &W, turn: &Turn<N>, pass: &mut Pass<N>) -> Result<(), OutOfMemory>
+// Does nothing for so many turns of a loop.
+fn idle(turns: u32) {
+    for _ in 0..turns {
+        hint::spin_loop();
+    }
+}
+
+// An entry of the pass's kernel: its place in one turn, and the entry itself in another, which is
+// held for a while.
+fn enter<N: RunName, W: Wait>(
+    rt: &W,
+    turn: &Turn<N>,
+    pass: &mut Pass<N>,
+    held: u32,
+) -> Result<(), OutOfMemory>
     requires { pass.old.taken ≡ None }
     ensures kernel { pass.new.kernel ≡ pass.old.kernel }
     ensures free { pass.new.taken ≡ None }
@@ -69,6 +83,7 @@ fn enter<N: RunName, W: Wait>(rt: &W, turn: &Turn<N>, pass: &mut Pass<N>) -> Res
     reserved?;
     let mut fabric = turn.take(rt, pass);
     entries_keep_agreement();
+    idle(held);
     fabric.enter(handled(kernel));
     turn.give_back(pass, fabric);
     Ok(())
@@ -80,21 +95,24 @@ fn enter_all<N: RunName, W: Wait>(
     turn: &Turn<N>,
     mut pass: Pass<N>,
     count: u32,
+    held: u32,
 ) -> Result<Pass<N>, OutOfMemory>
     requires { pass.taken ≡ None }
     ensures { IfOk result (λ pass. pass.taken ≡ None) }
 {
     for _ in 0..count {
-        enter(rt, turn, &mut pass)?;
+        enter(rt, turn, &mut pass, held)?;
     }
     Ok(pass)
 }
 
-// Two kernels make entries side by side; the journal of both.
+// Two kernels make entries side by side, for each of which the turn is held for a while; the journal
+// of both.
 fn entered<N: RunName + Send + Sync, R: Threads + Wait + Sync>(
     rt: &R,
     alloc: Global,
     opened: Opened,
+    held: u32,
 ) -> Result<Journal, OutOfMemory>
     requires named { (opened.table ≡ N.table) × (opened.setup ≡ N.setup) }
     requires kernels { opened.setup.kernels ≡ 2 }
@@ -112,11 +130,11 @@ fn entered<N: RunName + Send + Sync, R: Threads + Wait + Sync>(
         || -> Result<Pass<N>, OutOfMemory>
             requires { IsSync R.row × (zero.taken ≡ None) }
             ensures { IfOk result (λ pass. pass.taken ≡ None) }
-        { enter_all(rt, &turn, zero, 300) },
+        { enter_all(rt, &turn, zero, 300, held) },
         || -> Result<Pass<N>, OutOfMemory>
             requires { IsSync R.row × (one.taken ≡ None) }
             ensures { IfOk result (λ pass. pass.taken ≡ None) }
-        { enter_all(rt, &turn, one, 500) },
+        { enter_all(rt, &turn, one, 500, held) },
     );
     let mut back = Passes::new(alloc);
     back.push(zero?)?;
@@ -126,11 +144,14 @@ fn entered<N: RunName + Send + Sync, R: Threads + Wait + Sync>(
 
 #[test]
 fn two_kernels_make_entries_side_by_side(rt: HostRuntime) -> Result<(), Fail> {
-    let opened = opened(rt.alloc(), 2)?;
-    let journal = entered::<Brand, HostRuntime>(&rt, rt.alloc(), opened)?;
-    assert_eq!(rt; journal.len(), 800);
-    let entries = journal.as_slice().iter();
-    let first = entries.filter(|entry| entry.event.kernel == 0).count();
-    assert_eq!(rt; first, 300);
+    // A thread sleeps that waits for a turn which is held for long, and is woken.
+    for held in [0, 20_000] {
+        let opened = opened(rt.alloc(), 2)?;
+        let journal = entered::<Brand, HostRuntime>(&rt, rt.alloc(), opened, held)?;
+        assert_eq!(rt; journal.len(), 800);
+        let entries = journal.as_slice().iter();
+        let first = entries.filter(|entry| entry.event.kernel == 0).count();
+        assert_eq!(rt; first, 300);
+    }
     Ok(())
 }

@@ -10,6 +10,7 @@ use sem_key::OutOfMemory;
 use sem_msg::Setup;
 use std::alloc::Global;
 use std::marker::{Model, PhantomData};
+use std::sync::atomic::AtomicU64;
 
 /// The table with the fabric.
 pub type Board = Table<Option<Fabric>, View, Setup, InTurn, Global>;
@@ -66,6 +67,7 @@ impl Opened {
         let Opened { board, seat } = self;
         (
             Turn {
+                sleepers: AtomicU64::new(0),
                 board,
                 of: PhantomData,
             },

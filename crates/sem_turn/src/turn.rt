@@ -16,6 +16,7 @@ use std::alloc::Global;
 use std::hint;
 use std::marker::PhantomData;
 use std::sync::Wait;
+use std::sync::atomic::{AtomicU64, Ordering};
 
 // How often a thread tries to take the turn before it gives up its processor.
 const TRIES: u32 = 64;
@@ -24,6 +25,8 @@ const TRIES: u32 = 64;
 /// 0 else; the fabric stands in the only slot.
 #[derive(Drop)]
 pub struct Turn<N: RunName> {
+    // How many threads sleep until the turn is free, or are about to.
+    pub(crate) sleepers: AtomicU64,
     pub(crate) board: Board,
     pub(crate) of: PhantomData<N>,
     ghost named: { (board.shared.table_id ≡ N.table) × (board.shared.key ≡ N.setup) },
@@ -59,13 +62,21 @@ impl<N: RunName> Turn<N> {
                 tries += 1;
                 hint::spin_loop();
             } else {
-                self.board.shared.park(rt, 0, 1);
+                self.sleep(rt);
             }
         }
         unreachable!()
     }
 
-    // The same; none where another pass has the turn.
+    // Sleeps unless the turn is free. The thread is counted before the word is looked at, and whoever
+    // gives back looks at the count after it has freed the word, so that no wake is lost.
+    fn sleep<W: Wait>(&self, rt: &W) {
+        self.sleepers.fetch_add(1, Ordering::SeqCst);
+        self.board.shared.park(rt, 0, 1);
+        self.sleepers.fetch_sub(1, Ordering::SeqCst);
+    }
+
+    // The fabric, as `take` gives it; none where another pass has the turn.
     fn try_take(&self, pass: &mut Pass<N>) -> Option<Fabric>
         requires { pass.old.taken ≡ None }
         ensures none { IfNone result (pass.new ≡ pass.old) }
@@ -107,7 +118,9 @@ impl<N: RunName> Turn<N> {
             Some(_) => unreachable!(),
         }
         self.board.shared.store::<Return>(&mut pass.seat, 0, 0);
-        self.board.shared.wake_one(0);
+        if self.sleepers.load(Ordering::SeqCst) != 0 {
+            self.board.shared.wake_one(0);
+        }
     }
 
     /// One pass for each kernel, in order. After want of memory the passes are dropped.
@@ -181,7 +194,11 @@ impl<N: RunName> Turn<N> {
         ensures once { (k : ℕ) → k < N.setup.kernels → carries k seat.me.0 ≡ 1 }
         ensures whole { IsWhole N.setup result }
     {
-        let Turn { board, of: _ } = self;
+        let Turn {
+            sleepers: _,
+            board,
+            of: _,
+        } = self;
         let mut closed = board.close_with(seat);
         let fabric = closed.take(0);
         closed.free();

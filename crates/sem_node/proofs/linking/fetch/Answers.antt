@@ -24,3 +24,15 @@ pub returns : goal.returns
 returns c =
     fetch-stepped c.args.kernel.now c.args.fabric.now c.fetch.new.self c.args.from c.id-id.result c.in-Some.message c.step.result c.requires c.id-id.ensures c.fetch.ensures.value c.step.ensures.entry
     c.step.new.self c.enter.new.self (sym c.fetch.ensures.front ∙ c.in-Some.is) c.in-Some.ensures.fits c.step.ensures.step c.enter.ensures
+
+pub full-full-requires-clause-kernels : goal.full-full-requires-clause-kernels
+full-full-requires-clause-kernels c = fetch-kernels c.args.kernel.now c.args.fabric.now c.args.from c.id-id.result c.id-id.ensures c.requires
+
+pub full-full-requires-clause-other : goal.full-full-requires-clause-other
+full-full-requires-clause-other c = fetch-other c.args.kernel.now c.args.fabric.now c.args.from c.id-id.result c.id-id.ensures c.requires
+
+pub waiting-more-requires-clause-kernels : goal.waiting-more-requires-clause-kernels
+waiting-more-requires-clause-kernels c = fetch-kernels c.args.kernel.now c.args.fabric.now c.args.from c.id-id.result c.id-id.ensures c.requires
+
+pub waiting-more-requires-clause-other : goal.waiting-more-requires-clause-other
+waiting-more-requires-clause-other c = fetch-other c.args.kernel.now c.args.fabric.now c.args.from c.id-id.result c.id-id.ensures c.requires

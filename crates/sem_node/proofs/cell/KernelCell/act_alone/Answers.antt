@@ -3,8 +3,8 @@ use Rattle.sem_msg.specs.Fabric.{IsOwnAct}
 use Rattle.sem_node.proofs.Stepping.{IsMade, own-input, step-made, made-on, made-kernel-on}
 use Rattle.sem_node.proofs.cell.KernelCell.act_alone.Goals as goal
 
-pub enter-requires-clause-kernel : goal.enter-requires-clause-kernel
-enter-requires-clause-kernel g c =
+pub enter-entered-requires-clause-kernel : goal.enter-entered-requires-clause-kernel
+enter-entered-requires-clause-kernel g c =
     let T = g.N.RunName.setup in
     let l = c.step-entry.new.self in
     let p = c.self.inside.pass in
@@ -12,8 +12,8 @@ enter-requires-clause-kernel g c =
     let made : IsMade T l p c.args.act e = step-made T c.self.inside.kernel c.room.new.self l p c.args.act 0 c.enabled.result None e c.self.invariant.0 c.enabled.ensures c.if-not-enabled.false c.in_ok-room.ensures.ok (own-input c.args.act c.requires) c.step-entry.ensures.entry c.step-entry.ensures.step in
     made-kernel-on T l p c.reserve.new.pass c.args.act e made c.reserve.ensures.same
 
-pub enter-requires-clause-own : goal.enter-requires-clause-own
-enter-requires-clause-own g c =
+pub enter-entered-requires-clause-own : goal.enter-entered-requires-clause-own
+enter-entered-requires-clause-own g c =
     let T = g.N.RunName.setup in
     let l = c.step-entry.new.self in
     let p = c.self.inside.pass in
@@ -28,4 +28,4 @@ invariant_of-self-2 g c =
     let p = c.self.inside.pass in
     let e = c.step-entry.result in
     let made : IsMade T l p c.args.act e = step-made T c.self.inside.kernel c.room.new.self l p c.args.act 0 c.enabled.result None e c.self.invariant.0 c.enabled.ensures c.if-not-enabled.false c.in_ok-room.ensures.ok (own-input c.args.act c.requires) c.step-entry.ensures.entry c.step-entry.ensures.step in
-    (made-on T l p c.reserve.new.pass c.enter.new.pass c.args.act e made c.reserve.ensures.same c.enter.ensures.kernel c.enter.ensures.entries, c.enter.ensures.free)
+    (made-on T l p c.reserve.new.pass c.enter-entered.new.pass c.args.act e made c.reserve.ensures.same c.enter-entered.ensures.kernel c.enter-entered.ensures.entries, c.enter-entered.ensures.free, c.enter-entered.ensures.place)
