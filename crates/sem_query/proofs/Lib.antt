@@ -3,6 +3,7 @@ pub mod BearingRows
 pub mod Coming
 pub mod Passing
 pub mod There
+pub mod Keeping
 pub mod Reading
 pub mod Telling
 pub mod Indexing

@@ -165,7 +165,7 @@ module _ (xs : List Capability) (j : ℕ) where
       (d.0, Contains-filter (λ x. not (is_marked_by id x)) cs d.0 d.1 (ap not stays), d.2)
 
   unlinked-rests : (p k : KeyName) (t : Side) → Rests t.caps → Rests (unlinked p k t).caps
-  unlinked-rests p k t R = changed-rests t.caps R (λ c. key_eq c.key p) (λ c. record c { children = without_key c.children k }) (λ c. record { key = refl; selector = refl }) (λ c pass. inl refl)
+  unlinked-rests p k t R = changed-rests t.caps R (λ c. key_eq c.key p) (λ c. record c { children = without_key c.children k }) (λ c. record { key = refl; selector = refl; object = refl }) (λ c pass. inl refl)
 
   -- the job is given by its parts
   left-rests : (T : Setup) (i id count : ℕ) (root : KeyName) (up : Option Up) (waiters : List ℕ) (keep : Bool) (o : Option KeyName) (t : Side) → Rests t.caps → Rests (parent_left T i (record { id = id; root = root; up = up; waiters = waiters; count = count; keep = keep }) o t).caps
@@ -190,7 +190,7 @@ module _ (xs : List Capability) (j : ℕ) where
       told-rests x.up (closed_here T i x gone) (left-rests T i x.id x.count x.root x.up x.waiters x.keep (left_parent gone x) (woken x.waiters (swept x gone))
       (removed-rests (root_spared x gone).caps
       (cond_both x.keep (restored t.caps x.root) t.caps Rests
-      (λ _. changed-rests t.caps R (λ c. key_eq c.key x.root) (λ c. record c { children = []; mark = None }) (λ c. record { key = refl; selector = refl }) (λ c pass. inr (λ e was key. own e was (key ∙ key_eq-true c.key x.root pass))))
+      (λ _. changed-rests t.caps R (λ c. key_eq c.key x.root) (λ c. record c { children = []; mark = None }) (λ c. record { key = refl; selector = refl; object = refl }) (λ c pass. inr (λ e was key. own e was (key ∙ key_eq-true c.key x.root pass))))
       (λ _. R))
       x.id same))
 

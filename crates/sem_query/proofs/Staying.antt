@@ -134,10 +134,10 @@ module _ (xs : List Capability) where
       alike d c was key m some = cond_both (test d) (f d) d (IsAlike d) (λ pass. elim (marks d pass) [ inl same ↦ record { kin = kin d; mark = same } | inr free ↦ absurd (free c was (sym key) m some) ]) (λ _. alike-same d)
 
   unlinked-stay : (t : Side) → Stay t → (p k : KeyName) → Stay (unlinked p k t)
-  unlinked-stay t S p k = changed t S (λ c. key_eq c.key p) (λ c. record c { children = without_key c.children k }) (λ c. record { key = refl; selector = refl }) (λ c pass. inl refl)
+  unlinked-stay t S p k = changed t S (λ c. key_eq c.key p) (λ c. record c { children = without_key c.children k }) (λ c. record { key = refl; selector = refl; object = refl }) (λ c pass. inl refl)
 
   marked-stay : (t : Side) → Stay t → (ks : List KeyName) (j : ℕ) → ((k : KeyName) → has_key ks k ≡ true → IsFree k) → Stay (mark_all ks j t)
-  marked-stay t S ks j free = changed t S (λ c. list_any (key_eq c.key) ks) (with_mark j) (λ c. record { key = refl; selector = refl }) (λ c pass. inr (free c.key pass))
+  marked-stay t S ks j free = changed t S (λ c. list_any (key_eq c.key) ks) (with_mark j) (λ c. record { key = refl; selector = refl; object = refl }) (λ c pass. inr (free c.key pass))
 
   removed-stay : (t : Side) → Stay t → (j : ℕ) → AreOlder j → Stay (caps_removed j t)
   removed-stay t S j older = record {
@@ -156,7 +156,7 @@ module _ (xs : List Capability) where
 
   spared-stay : (t : Side) → Stay t → (x : JobRow) → IsFree x.root → Stay (root_spared x t)
   spared-stay t S x free = cond_both x.keep (restored t.caps x.root) t.caps (λ cs. Stay (record t { caps = cs }))
-      (λ _. changed t S (λ c. key_eq c.key x.root) (λ c. record c { children = []; mark = None }) (λ c. record { key = refl; selector = refl }) (λ c pass. inr (subst IsFree (sym (key_eq-true c.key x.root pass)) free)))
+      (λ _. changed t S (λ c. key_eq c.key x.root) (λ c. record c { children = []; mark = None }) (λ c. record { key = refl; selector = refl; object = refl }) (λ c pass. inr (subst IsFree (sym (key_eq-true c.key x.root pass)) free)))
       (λ _. S)
 
   swept-stay : (t : Side) → Stay t → (x : JobRow) → IsFree x.root → AreOlder x.id → Stay (swept x t)

@@ -145,7 +145,7 @@ module _ (T : Setup) (k : KeyName) (before : List Entry) (e : Entry) where
   abbrev children : List (KeyName × KeyName) → List KeyName
   children gs = map (λ g. g.1) gs
 
-  made-keeps : Contains (made T before) k → Contains (made T (before ++ e ∷ [])) k
+  pub made-keeps : Contains (made T before) k → Contains (made T (before ++ e ∷ [])) k
   made-keeps was = by e.grant refl
     where
       by : (o : Option (KeyName × KeyName)) → e.grant ≡ o → Contains (made T (before ++ e ∷ [])) k

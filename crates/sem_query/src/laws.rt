@@ -43,6 +43,15 @@ pub fn keys_live_once()
         (whereabouts_after T before k) (whereabouts_after T (before ++ e ∷ []) k) }
 {}
 
+/// A capability keeps its selector and its object as long as it is held: what is held of a key at
+/// one time and at a later one has the same of both.
+pub fn held_keys_stay_as_they_are()
+    ensures kept { (T : Setup) → IsSetup T → (J later : List Entry) (k : KeyName) (c d : Capability)
+        → IsSchedule T (J ++ later) → HoldsCap (world_after T J) (owner_of T k) k c
+        → HoldsCap (world_after T (J ++ later)) (owner_of T k) k d
+        → (d.selector ≡ c.selector) × (d.object ≡ c.object) }
+{}
+
 /// The lives that a schedule tells are those of the made keys, and tell of each key where it was
 /// after each number of entries.
 pub fn lives_tell_where_keys_are()
