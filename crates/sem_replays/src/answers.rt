@@ -1,122 +1,12 @@
 //! How the tests go through the journals of reports.
 
 use sem_check::replay;
-use sem_kernel::{StepError, World};
-use sem_msg::{Act, Entry, Event, Journal, Setup};
+use sem_msg::{Entry, Event, Journal, Setup};
 use sem_reader::read_trace;
 use sem_report::read_report;
 use sem_serial::{PlayError, boot, drain, play};
 use std::alloc::Global;
 use std::test::Fail;
-
-/// Whether the events of the report's journal, one by one in the world of its setup, make its
-/// entries, and none is enabled in the end.
-pub fn replays(alloc: Global, report: &[u8]) -> Result<bool, Fail> {
-    match read_report(alloc, report) {
-        Ok(read) => match World::boot(alloc, &read.0) {
-            Ok(mut world) => goes_through(alloc, &mut world, read.1.as_slice()),
-            Err(_) => Ok(false),
-        },
-        Err(_) => Ok(false),
-    }
-}
-
-fn goes_through(alloc: Global, world: &mut World, entries: &[Entry]) -> Result<bool, Fail> {
-    let mut events = Vec::new(alloc);
-    for entry in entries {
-        world.enabled_events(alloc, &mut events)?;
-        if !events.as_slice().contains(&entry.event) || !happens(world, entry) {
-            return Ok(false);
-        }
-    }
-    world.enabled_events(alloc, &mut events)?;
-    Ok(events.is_empty())
-}
-
-// Whether the event of the entry makes it, at the second try where there is no memory at the first.
-fn happens(world: &mut World, entry: &Entry) -> bool {
-    let event = entry.event;
-    makes(world, event, entry).unwrap_or_else(|| makes(world, event, entry) == Some(true))
-}
-
-// Whether the event makes the entry; none where there is no memory.
-fn makes(world: &mut World, event: Event, entry: &Entry) -> Option<bool> {
-    match world.step(event) {
-        Ok(made) => Some(made == *entry),
-        Err(StepError::Memory) => None,
-        Err(StepError::NotEnabled) => Some(false),
-    }
-}
-
-/// Whether exactly these events are enabled, in this order, after so many of the report's journal.
-pub fn waits_for(
-    alloc: Global,
-    report: &[u8],
-    after: usize,
-    acts: &[(u32, Act)],
-) -> Result<bool, Fail> {
-    match read_report(alloc, report) {
-        Ok(read) => match World::boot(alloc, &read.0) {
-            Ok(mut world) => {
-                Ok(goes_on(&mut world, read.1.as_slice(), after) && enables(alloc, &world, acts)?)
-            }
-            Err(_) => Ok(false),
-        },
-        Err(_) => Ok(false),
-    }
-}
-
-// Whether the events of so many entries make them.
-fn goes_on(world: &mut World, entries: &[Entry], after: usize) -> bool {
-    for entry in entries.iter().take(after) {
-        if !happens(world, entry) {
-            return false;
-        }
-    }
-    true
-}
-
-// Whether exactly these events are enabled, in this order.
-fn enables(alloc: Global, world: &World, acts: &[(u32, Act)]) -> Result<bool, Fail> {
-    let mut events = Vec::new(alloc);
-    world.enabled_events(alloc, &mut events)?;
-    Ok(
-        events.len() == acts.len()
-            && events.iter().zip(acts).all(|(event, wanted)| event.kernel == wanted.0
-                && event.act == wanted.1),
-    )
-}
-
-/// Whether the words of the seed make the journal of the report, and its events, played one after
-/// another, make it again.
-pub fn draws(alloc: Global, seed: u64, report: &[u8]) -> Result<bool, Fail> {
-    match read_report(alloc, report) {
-        Ok(read) => Ok(
-            drains_to(alloc, &read.0, seed, read.1.as_slice())
-                && plays_to(alloc, &read.0, read.1.as_slice())?,
-        ),
-        Err(_) => Ok(false),
-    }
-}
-
-fn drains_to(alloc: Global, setup: &Setup, seed: u64, entries: &[Entry]) -> bool {
-    match boot(alloc, setup, Journal::new(alloc)) {
-        Ok(mut start) => {
-            drain(alloc, setup, &mut start.0, &mut start.1, seed).is_ok()
-                && start.1.journal().as_slice() == entries
-        }
-        Err(_) => false,
-    }
-}
-
-fn plays_to(alloc: Global, setup: &Setup, entries: &[Entry]) -> Result<bool, Fail> {
-    let mut events = Vec::new(alloc);
-    for entry in entries {
-        events.push(entry.event)?;
-    }
-    let mut journal = Journal::new(alloc);
-    Ok(play(alloc, setup, &events, &mut journal).is_ok() && journal.as_slice() == entries)
-}
 
 /// Whether a run by the words of the seed goes on from where a replay stands. From a replay of
 /// nothing, and from one of the report's whole journal, it makes that journal; from one of the first

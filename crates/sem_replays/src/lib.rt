@@ -1,4 +1,5 @@
-//! Schedules and seeded runs of two independent reference programs, as tests; nothing that runs.
+//! Seeded runs and plays beside the answers of two independent reference programs, as tests; nothing
+//! that runs.
 #![tactic(auto)]
 
 #[cfg(test)]
@@ -6,14 +7,6 @@ mod answers;
 #[cfg(test)]
 mod many_seeds;
 #[cfg(test)]
-mod plays_a;
-#[cfg(test)]
-mod plays_b;
-#[cfg(test)]
-mod plays_c;
-#[cfg(test)]
-mod seeded_a;
-#[cfg(test)]
-mod seeded_b;
+mod seeded;
 #[cfg(test)]
 mod stops;

@@ -1,0 +1,82 @@
+// The folders of cases, and the files of each case.
+use crate::cases::{Case, passes};
+use crate::waits::waits_so;
+use std::{fs, io};
+
+/// Tries each folder and tells how many of its cases passed. How many differ in all.
+pub fn try_folders(rt: &HostRuntime) -> io::Result<u64> {
+    let mut differ = 0u64;
+    for folder in &names(rt, ".", "")? {
+        differ = differ.saturating_add(try_folder(rt, folder.as_str())?);
+    }
+    Ok(differ)
+}
+
+// Tries each case of the folder, and tells how many passed. How many differ.
+fn try_folder(rt: &HostRuntime, folder: &str) -> io::Result<u64> {
+    let mut passed = 0u64;
+    let mut differ = 0u64;
+    for name in &names(rt, folder, ".words")? {
+        let path = format!(in rt.alloc(); "{folder}/{name}")?;
+        if try_case(rt, path.as_str())? {
+            passed = passed.saturating_add(1);
+        } else {
+            differ = differ.saturating_add(1);
+            println!(rt; "{path} differs")?;
+        }
+    }
+    println!(rt; "{folder}: {passed} passed, {differ} differ")?;
+    Ok(differ)
+}
+
+// Whether the case of that path, without what its files' names end in, passes.
+fn try_case(rt: &HostRuntime, path: &str) -> io::Result<bool> {
+    let case = read_case(rt, path)?;
+    if !passes(rt.alloc(), &case)? {
+        return Ok(false);
+    }
+    try_waits(rt, path, &case.input)
+}
+
+// The case of that path.
+fn read_case(rt: &HostRuntime, path: &str) -> io::Result<Case> {
+    let words = contents(rt, path, ".words")?;
+    let input = contents(rt, path, ".in")?;
+    let output = contents(rt, path, ".out")?;
+    let status = contents(rt, path, ".status")?;
+    Ok(Case {
+        words,
+        input,
+        output,
+        status,
+    })
+}
+
+// Whether the enabled events are those that the case names, if it names some.
+fn try_waits(rt: &HostRuntime, path: &str, report: &[u8]) -> io::Result<bool> {
+    let name = format!(in rt.alloc(); "{path}.waits")?;
+    if !fs::exists(rt, name.as_str())? {
+        return Ok(true);
+    }
+    let told = fs::read(rt, name.as_str())?;
+    Ok(waits_so(rt.alloc(), report, &told)?)
+}
+
+// What the file of the case holds.
+fn contents(rt: &HostRuntime, path: &str, ending: &str) -> io::Result<Vec<u8>> {
+    let name = format!(in rt.alloc(); "{path}{ending}")?;
+    fs::read(rt, name.as_str())
+}
+
+// The names in the folder that end so, without that, in rising order.
+fn names(rt: &HostRuntime, folder: &str, ending: &str) -> io::Result<Vec<String>> {
+    let mut found = Vec::new(rt.alloc());
+    for entry in fs::read_dir(rt, folder)? {
+        let entry = entry?;
+        if let Some(name) = entry.file_name().strip_suffix(ending) {
+            found.push(String::from_str(rt.alloc(), name)?)?;
+        }
+    }
+    found.sort()?;
+    Ok(found)
+}
