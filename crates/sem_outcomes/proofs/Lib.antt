@@ -1,0 +1,14 @@
+mod Growing
+mod Playing
+mod PartsOf
+mod Codes
+mod Counts
+mod Places
+mod Listing
+mod Searching
+mod Starting
+mod Sampling
+mod Taking
+mod Meeting
+mod GoingOn
+mod Finishing

@@ -1,0 +1,5 @@
+pub mod Met
+pub mod Ways
+pub mod Endings
+pub mod Samples
+pub mod Codes
