@@ -16,5 +16,5 @@ mod tests;
 
 pub use faults::SearchError;
 pub use progress::{Progress, Quiet};
-pub use samples::{Sample, sample_outcomes};
+pub use samples::{Sample, sample_outcomes, sample_outcomes_told};
 pub use searches::{all_outcomes, all_outcomes_told};

@@ -1,7 +1,7 @@
 /// Is told how far a search is.
 pub trait Progress {
-    /// So many histories have been met, and so many of them gone on from.
-    fn met(&mut self, histories: usize, gone_on: usize);
+    /// So many histories have been met, or are there seeds, and so many of them are done.
+    fn met(&mut self, met: usize, done: usize);
 }
 
 /// Is told, and does nothing.
@@ -9,5 +9,5 @@ pub trait Progress {
 pub struct Quiet;
 
 impl Progress for Quiet {
-    fn met(&mut self, _histories: usize, _gone_on: usize) {}
+    fn met(&mut self, _met: usize, _done: usize) {}
 }

@@ -5,6 +5,7 @@ ghost use Rattle.sem_histories.specs.Listing.{witness_of};
 ghost use Rattle.sem_outcomes.specs.Samples.{IsSample, NextSampled};
 
 use crate::endings::{outcome_of, same_outcome};
+use crate::progress::{Progress, Quiet};
 use sem_histories::{RunOutcome, Sampled, Witness};
 use sem_key::OutOfMemory;
 use sem_msg::{Journal, Setup};
@@ -84,9 +85,24 @@ pub fn sample_outcomes(
     requires { from + seeds ≤ 2 ^ 64 }
     ensures { IfOk result (λ found. IsSample setup.now from seeds found.items) }
 {
+    sample_outcomes_told(alloc, setup, from, seeds, &mut Quiet)
+}
+
+/// As `sample_outcomes`, and tells how far it is.
+pub fn sample_outcomes_told<P: Progress>(
+    alloc: Global,
+    setup: &Setup,
+    from: u64,
+    seeds: u64,
+    progress: &mut P,
+) -> Result<Vec<Sampled>, OutOfMemory>
+    requires { from + seeds ≤ 2 ^ 64 }
+    ensures { IfOk result (λ found. IsSample setup.now from seeds found.items) }
+{
     let mut sample = Sample::new(alloc, from);
-    for _ in 0..seeds {
+    for count in 0..seeds {
         sample.next(alloc, setup)?;
+        progress.met(seeds as usize, count as usize);
     }
     Ok(sample.into_found())
 }

@@ -1,10 +1,11 @@
 // What is said of an entry beside its row. After want of memory each of these functions may have
 // appended a part.
-use crate::names::{code_name, message_name};
+use crate::names::message_name;
 use sem_hint::key_text;
 use sem_journal::push_message;
 use sem_key::OutOfMemory;
 use sem_msg::{Act, Consent, Detail, Entry};
+use sem_names::code_name;
 use sem_trace::push_call;
 use std::alloc::Global;
 

@@ -19,6 +19,6 @@ pub use counts::{count_between, count_code, count_event, count_message, message_
 pub use lanes::Shown;
 pub use requests::{ROWS, Request, respond};
 pub use rows::{NumberedEntry, chart_rows};
-pub use stats::{AskCount, LinkCount, RevokeTime, Stats, stats_of};
+pub use stats::{AskCount, CallCost, LinkCount, RevokeTime, Stats, stats_of};
 pub use stats_json::stats_as_json;
 pub use stats_text::stats_as_text;

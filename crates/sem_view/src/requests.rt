@@ -10,6 +10,7 @@ use sem_key::OutOfMemory;
 use sem_msg::{Journal, Setup};
 use sem_report::read_report;
 use sem_trace::TraceError;
+use sem_waits::{waits_as_text, waits_in};
 use std::alloc::Global;
 
 /// The most rows of a chart.
@@ -26,6 +27,11 @@ pub enum Request {
     },
     Stats {
         is_json: bool,
+    },
+    /// The calls that waited: those of a VPE alone, and those of a number alone.
+    Waits {
+        vpe: Option<u64>,
+        call: Option<u64>,
     },
 }
 
@@ -74,6 +80,12 @@ fn respond_with(
             } else {
                 stats_as_text(alloc, &stats)?
             };
+            Ok(Answer::done(alloc, text))
+        }
+        Request::Waits { vpe, call } => {
+            let entries = journal.as_slice();
+            let waits = waits_in(alloc, entries)?;
+            let text = waits_as_text(alloc, entries, waits.as_slice(), *vpe, *call)?;
             Ok(Answer::done(alloc, text))
         }
     }

@@ -3,6 +3,7 @@ use crate::counts::{count_between, count_code, count_event, count_message};
 use crate::queues::{LinkQueues, ask_queues};
 use sem_key::{Key, OutOfMemory};
 use sem_msg::{Act, Call, Detail, Entry, Journal, Setup};
+use sem_waits::{Wait, longest_chain, waits_in};
 use std::alloc::Global;
 
 /// The messages from a kernel to another: how many were sent, and how many were at most on the
@@ -33,6 +34,18 @@ pub struct RevokeTime {
     pub taken: Option<usize>,
 }
 
+/// What a call took: how many entries are its own, how many of these send a message, and how many
+/// entries later it was answered, if it was.
+#[derive(Clone, Copy, Debug)]
+pub struct CallCost {
+    pub vpe: u16,
+    pub index: u32,
+    pub call: Call,
+    pub entries: usize,
+    pub sent: usize,
+    pub taken: Option<usize>,
+}
+
 /// What is counted of a report. The lists of numbers are by the numbers of events (from 1),
 /// messages (from 1) and codes (from 0).
 #[derive(Debug, Drop)]
@@ -44,6 +57,9 @@ pub struct Stats {
     pub links: Vec<LinkCount>,
     pub asks: Vec<AskCount>,
     pub revokes: Vec<RevokeTime>,
+    pub calls: Vec<CallCost>,
+    /// The greatest number of entries each of which had to wait for the one before.
+    pub chain: usize,
 }
 
 /// Counts what the journal of the setup tells.
@@ -69,7 +85,50 @@ pub fn stats_of(alloc: Global, setup: &Setup, journal: &Journal) -> Result<Stats
         links: links_of(alloc, setup, entries)?,
         asks: asks_of(alloc, setup, entries)?,
         revokes: revokes_of(alloc, entries)?,
+        calls: costs_of(alloc, entries)?,
+        chain: longest_chain(alloc, setup.kernels, entries)?,
     })
+}
+
+// What each call took, in the order in which they were made.
+fn costs_of(alloc: Global, entries: &[Entry]) -> Result<Vec<CallCost>, OutOfMemory> {
+    let waits = waits_in(alloc, entries)?;
+    let mut costs = Vec::new(alloc);
+    for wait in waits.as_slice() {
+        costs.push(cost_of(entries, wait))?;
+    }
+    Ok(costs)
+}
+
+// What the call took: its own entry, the one that answers it, and those between that it waited for.
+fn cost_of(entries: &[Entry], wait: &Wait) -> CallCost {
+    let taken = wait.end.map(|end| end.saturating_sub(wait.begin));
+    let ends = if taken.is_some_and(|taken| taken > 0) {
+        2
+    } else {
+        1
+    };
+    CallCost {
+        vpe: wait.vpe,
+        index: wait.index,
+        call: wait.call,
+        entries: wait.between.len().saturating_add(ends),
+        sent: sent_among(entries, wait.between.as_slice()),
+        taken,
+    }
+}
+
+// How many of the entries with these numbers send a message.
+fn sent_among(entries: &[Entry], numbers: &[usize]) -> usize {
+    let mut sent = 0usize;
+    for number in numbers {
+        if let Some(entry) = entries.get(*number)
+            && let Act::Flush { .. } = entry.event.act
+        {
+            sent = sent.saturating_add(1);
+        }
+    }
+    sent
 }
 
 // What is counted of each link over which a message went.

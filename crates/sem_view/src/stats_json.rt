@@ -1,9 +1,10 @@
 // Counts as JSON.
-use crate::names::{CODES, EVENTS, MESSAGES};
-use crate::stats::{AskCount, LinkCount, RevokeTime, Stats};
+use crate::stats::{AskCount, CallCost, LinkCount, RevokeTime, Stats};
 use crate::stats_text::{call_name, total};
 use sem_hint::key_text;
 use sem_key::OutOfMemory;
+use sem_names::{CODES, EVENTS, MESSAGES};
+use sem_waits::call_words;
 use serde_json::{Map, Value};
 use std::alloc::Global;
 
@@ -25,6 +26,9 @@ pub fn stats_as_json(alloc: Global, stats: &Stats) -> Result<String, OutOfMemory
     put(alloc, &mut all, "asks", asks)?;
     let revokes = revoke_list(alloc, stats.revokes.as_slice())?;
     put(alloc, &mut all, "revokes", revokes)?;
+    let calls = call_list(alloc, stats.calls.as_slice())?;
+    put(alloc, &mut all, "calls", calls)?;
+    put(alloc, &mut all, "chain", number(stats.chain))?;
     let mut text = Value::Object(all).to_string(alloc)?;
     text.push('\n')?;
     Ok(text)
@@ -94,6 +98,27 @@ fn revoke_list(alloc: Global, revokes: &[RevokeTime]) -> Result<Value, OutOfMemo
         let key = key_text(alloc, &revoke.key)?;
         put(alloc, &mut members, "key", Value::String(key))?;
         let taken = match revoke.taken {
+            Some(taken) => number(taken),
+            None => Value::Null,
+        };
+        put(alloc, &mut members, "taken", taken)?;
+        items.push(Value::Object(members))?;
+    }
+    Ok(Value::Array(items))
+}
+
+// The calls.
+fn call_list(alloc: Global, calls: &[CallCost]) -> Result<Value, OutOfMemory> {
+    let mut items = Vec::new(alloc);
+    for call in calls {
+        let mut members = Map::new(alloc);
+        put(alloc, &mut members, "vpe", Value::from(call.vpe))?;
+        put(alloc, &mut members, "call", Value::from(call.index))?;
+        let words = call_words(alloc, &call.call)?;
+        put(alloc, &mut members, "words", Value::String(words))?;
+        put(alloc, &mut members, "entries", number(call.entries))?;
+        put(alloc, &mut members, "sent", number(call.sent))?;
+        let taken = match call.taken {
             Some(taken) => number(taken),
             None => Value::Null,
         };

@@ -1,8 +1,9 @@
 // Counts as a table. After want of memory each of these functions may have appended a part.
-use crate::names::{CODES, EVENTS, MESSAGES};
-use crate::stats::{RevokeTime, Stats};
+use crate::stats::{CallCost, RevokeTime, Stats};
 use sem_hint::key_text;
 use sem_key::OutOfMemory;
+use sem_names::{CODES, EVENTS, MESSAGES};
+use sem_waits::call_words;
 use std::alloc::Global;
 
 /// How many columns stand before the numbers.
@@ -25,6 +26,8 @@ pub fn stats_as_text(alloc: Global, stats: &Stats) -> Result<String, OutOfMemory
     push_counts(alloc, &mut out, &CODES, stats.codes.as_slice())?;
     push_asks(alloc, &mut out, stats)?;
     push_revokes(alloc, &mut out, stats)?;
+    push_costs(alloc, &mut out, stats)?;
+    push_chain(alloc, &mut out, stats)?;
     Ok(out)
 }
 
@@ -146,4 +149,55 @@ fn push_revoke(alloc: Global, out: &mut String, revoke: &RevokeTime) -> Result<(
 /// The name of the call.
 pub fn call_name(revoke: &RevokeTime) -> &'static str {
     if revoke.is_clear { "clear" } else { "revoke" }
+}
+
+// Appends a line for each call that waited.
+fn push_costs(alloc: Global, out: &mut String, stats: &Stats) -> Result<(), OutOfMemory> {
+    let mut is_first = true;
+    for cost in stats.calls.as_slice() {
+        if cost.taken != Some(0) {
+            if is_first {
+                out.push_str("calls that waited: their entries, messages, and when answered\n")?;
+                is_first = false;
+            }
+            push_cost(alloc, out, cost)?;
+        }
+    }
+    Ok(())
+}
+
+// Appends what a call took.
+fn push_cost(alloc: Global, out: &mut String, cost: &CallCost) -> Result<(), OutOfMemory> {
+    let words = call_words(alloc, &cost.call)?;
+    let (vpe, index) = (cost.vpe, cost.index);
+    let name = format!(in alloc; "  VPE {vpe} call {index}, {words}")?;
+    push_two(alloc, out, name.as_str(), cost.entries, cost.sent)?;
+    let _ = out.pop();
+    match cost.taken {
+        Some(taken) => {
+            let number = format!(in alloc; "{taken}")?;
+            for _ in number.len()..NUMBERS {
+                out.push(' ')?;
+            }
+            out.push_str(number.as_str())?;
+        }
+        None => out.push_str(" not answered")?,
+    }
+    out.push('\n')
+}
+
+// Appends the longest chain, and how many entries there are for each of its own.
+fn push_chain(alloc: Global, out: &mut String, stats: &Stats) -> Result<(), OutOfMemory> {
+    push_count(alloc, out, "longest chain of entries", stats.chain)?;
+    let tenths = stats.entries.saturating_mul(10) / stats.chain.max(1);
+    let (whole, tenth) = (tenths / 10, tenths % 10);
+    let number = format!(in alloc; "{whole}.{tenth}")?;
+    let name = "entries for each of them";
+    out.push_str(name)?;
+    let written = name.len().saturating_add(number.len());
+    for _ in written..NAMES.saturating_add(NUMBERS) {
+        out.push(' ')?;
+    }
+    out.push_str(number.as_str())?;
+    out.push('\n')
 }

@@ -1,7 +1,9 @@
-//! Tests of what shows reports: charts, forests, bars, timelines, counts and explanations; nothing
-//! that runs.
+//! Tests of what shows reports and outcomes: charts, forests, bars, timelines, counts, explanations
+//! and comparisons; nothing that runs.
 #![tactic(auto)]
 
+#[cfg(test)]
+mod comparisons;
 #[cfg(test)]
 mod drawings;
 #[cfg(test)]

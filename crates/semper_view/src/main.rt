@@ -4,8 +4,14 @@
 
 ghost use Rattle.std.specs.Prelude.{◌≤◌, length};
 
+mod files;
+mod progress;
+mod searching;
 mod words;
 
+use crate::files::{FileFault, diff, merge};
+use crate::progress::Shown;
+use crate::searching::outcomes;
 use crate::words::{Asked, read_words};
 use clap::error::ErrorKind;
 use sem_draw::{Answer, Ending};
@@ -50,31 +56,55 @@ fn main(rt: HostRuntime) -> ExitCode {
     }
 }
 
-// Reads the input, and writes the answer to what is asked.
+// Reads what is asked for, and writes the answer.
 fn answer(rt: &HostRuntime, asked: &Asked) -> ExitCode {
+    match asked {
+        Asked::Merge { files, is_json } => {
+            write_found(rt, merge(rt, files.as_slice(), *is_json))
+        }
+        Asked::Diff { one, other } => write_found(rt, diff(rt, one.as_str(), other.as_str())),
+        _ => answer_on_input(rt, asked),
+    }
+}
+
+// Writes the answer to what is asked of files, if there is one.
+fn write_found(rt: &HostRuntime, found: Result<Answer, FileFault>) -> ExitCode {
+    match found {
+        Ok(answer) => write(rt, &answer),
+        Err(FileFault::Unread) => ExitCode::from(FAULT),
+        Err(FileFault::Memory) => fault(rt, "out of memory"),
+    }
+}
+
+// Reads the input, and writes the answer to what is asked of it.
+fn answer_on_input(rt: &HostRuntime, asked: &Asked) -> ExitCode {
     let mut input = ReadSource::new(rt.stdin());
     let bytes = match read_all(rt.alloc(), &mut input, MOST_BYTES) {
         Ok(bytes) => bytes,
         Err(ReadError::Fault) => return fault(rt, "the input could not be read"),
         Err(ReadError::Memory) => return fault(rt, "out of memory"),
     };
-    match answer_to(rt.alloc(), asked, bytes.as_slice()) {
+    match answer_to(rt, asked, bytes.as_slice()) {
         Ok(answer) => write(rt, &answer),
         Err(AllocError) => fault(rt, "out of memory"),
     }
 }
 
 // The answer to what is asked, with these bytes as the input.
-fn answer_to(alloc: Global, asked: &Asked, bytes: &[u8]) -> Result<Answer, AllocError>
+fn answer_to(rt: &HostRuntime, asked: &Asked, bytes: &[u8]) -> Result<Answer, AllocError>
     requires few { length bytes.now ≤ 134217729 }
 {
+    let alloc = rt.alloc();
     match asked {
         Asked::View { request } => respond(alloc, request, bytes),
         Asked::Tree { request } => tree(alloc, request, bytes),
         Asked::Memory { request } => memory_picture(alloc, request, bytes),
         Asked::Story { request } => story(alloc, request, bytes),
         Asked::Files => listing(alloc, bytes),
-        Asked::Explain => explain(alloc, bytes),
+        Asked::Outcomes { search, telling } => {
+            outcomes(alloc, *search, *telling, bytes, &mut Shown::new(rt))
+        }
+        Asked::Explain | Asked::Merge { .. } | Asked::Diff { .. } => explain(alloc, bytes),
     }
 }
 

@@ -1,6 +1,8 @@
 // The words of the command line.
+use crate::searching::Search;
 use clap::error::ErrorKind;
 use clap::{Arg, ArgAction, ArgMatches, Command, Error};
+use sem_compare::Telling;
 use sem_draw::Picture;
 use sem_key::Key;
 use sem_story::{StoryRequest, key_of};
@@ -15,10 +17,16 @@ const NUMBER: &str = "N";
 /// A key, as its place in the help says.
 const KEY: &str = "KEY";
 
+/// How many seeds are run where no number is given.
+const SEEDS: u64 = 1_000;
+
+/// The most histories of a search where no number is given.
+const LIMIT: u64 = 1_000_000;
+
 /// What the words ask for.
 #[derive(Debug, Drop)]
 pub enum Asked {
-    /// A chart or counts.
+    /// A chart, counts, or what calls waited for.
     View { request: Request },
     /// A forest.
     Tree { request: TreeRequest },
@@ -28,6 +36,12 @@ pub enum Asked {
     Story { request: StoryRequest },
     /// What file commands are compiled to.
     Files,
+    /// The outcomes of a trace.
+    Outcomes { search: Search, telling: Telling },
+    /// The samples in these files, put together.
+    Merge { files: Vec<String>, is_json: bool },
+    /// In what the reports in two files differ.
+    Diff { one: String, other: String },
     /// Why the input is refused.
     Explain,
 }
@@ -64,6 +78,11 @@ fn meant(alloc: Global, matches: &ArgMatches<'_>) -> Result<Asked, Error> {
                 at: story.get_one::<u64>("at"),
             },
         }),
+        Some(("outcomes", outcomes)) => Ok(outcomes_asked(alloc, outcomes)?),
+        Some(("diff", diff)) => Ok(Asked::Diff {
+            one: String::from_str(alloc, diff.get_str("a").unwrap_or(""))?,
+            other: String::from_str(alloc, diff.get_str("b").unwrap_or(""))?,
+        }),
         Some(("files", _)) => Ok(Asked::Files),
         Some(("explain", _)) => Ok(Asked::Explain),
         Some((name, view)) => Ok(Asked::View {
@@ -71,6 +90,34 @@ fn meant(alloc: Global, matches: &ArgMatches<'_>) -> Result<Asked, Error> {
         }),
         None => Ok(Asked::Explain),
     }
+}
+
+// What the command for outcomes asks for.
+fn outcomes_asked(alloc: Global, matches: &ArgMatches<'_>) -> Result<Asked, AllocError> {
+    let is_json = matches.get_flag("json");
+    if let Some(names) = matches.get_strs("merge") {
+        let mut files = Vec::new(alloc);
+        for name in names {
+            files.push(String::from_str(alloc, name)?)?;
+        }
+        return Ok(Asked::Merge { files, is_json });
+    }
+    let search = if matches.get_flag("all") {
+        let limit = matches.get_one::<u64>("limit").unwrap_or(LIMIT);
+        Search::All {
+            limit: limit as usize,
+        }
+    } else {
+        Search::Seeds {
+            from: matches.get_one::<u64>("from").unwrap_or(0),
+            seeds: matches.get_one::<u64>("seeds").unwrap_or(SEEDS),
+        }
+    };
+    let report = matches.get_one::<u64>("report");
+    Ok(Asked::Outcomes {
+        search,
+        telling: Telling { report, is_json },
+    })
 }
 
 // What the command of that name, one that shows a journal, asks for.
@@ -81,6 +128,10 @@ fn viewed(alloc: Global, name: &str, matches: &ArgMatches<'_>) -> Result<Request
             from: matches.get_one::<u64>("from"),
             to: matches.get_one::<u64>("to"),
             kernels: kernels(alloc, matches)?,
+        }),
+        "waits" => Ok(Request::Waits {
+            vpe: matches.get_one::<u64>("vpe"),
+            call: matches.get_one::<u64>("call"),
         }),
         _ => Ok(Request::Stats {
             is_json: matches.get_flag("json"),
@@ -156,7 +207,67 @@ fn command<'a>(alloc: Global) -> Result<Command<'a>, AllocError> {
         .subcommand(memory)?
         .subcommand(story(alloc)?)?
         .subcommand(files)?
+        .subcommand(waits(alloc)?)?
+        .subcommand(outcomes(alloc)?)?
+        .subcommand(diff(alloc)?)?
         .subcommand(explain)
+}
+
+// The command that tells what calls waited for.
+fn waits<'a>(alloc: Global) -> Result<Command<'a>, AllocError> {
+    Command::new(alloc, "waits")
+        .about("Tell what each call of a report waited for, entry by entry")
+        .arg(number(alloc, "vpe", "The VPE whose calls are told"))?
+        .arg(number(alloc, "call", "The number of the call that is told, from 0"))
+}
+
+// The command that tells outcomes.
+fn outcomes<'a>(alloc: Global) -> Result<Command<'a>, AllocError> {
+    Command::new(alloc, "outcomes")
+        .about("Tell in which ways a trace can end: those of many seeds, or all")
+        .arg(number(
+            alloc,
+            "seeds",
+            "How many seeds are run; 1000 where it is not given",
+        ))?
+        .arg(number(alloc, "from", "The first seed; 0 where it is not given"))?
+        .arg(flag(alloc, "all", "Search all schedules, and tell all outcomes"))?
+        .arg(number(
+            alloc,
+            "limit",
+            "The most histories that are searched; 1000000 where it is not given",
+        ))?
+        .arg(number(
+            alloc,
+            "report",
+            "Write the report of a run with that outcome",
+        ))?
+        .arg(flag(alloc, "json", "Write JSON"))?
+        .arg(
+            Arg::new(alloc, "merge")
+                .long("merge")
+                .value_name("FILE")
+                .num_args(1..)
+                .action(ArgAction::Append)
+                .help("Put together what --json wrote of other seeds, instead of running any"),
+        )
+}
+
+// The command that compares two reports.
+fn diff<'a>(alloc: Global) -> Result<Command<'a>, AllocError> {
+    Command::new(alloc, "diff")
+        .about("Tell in what two reports of one trace differ, which are two files")
+        .arg(file(alloc, "a", "The report that is named A"))?
+        .arg(file(alloc, "b", "The report that is named B"))
+}
+
+// The name of a file.
+fn file<'a>(alloc: Global, name: &'a str, help: &'a str) -> Arg<'a> {
+    Arg::new(alloc, name)
+        .value_name("FILE")
+        .required(true)
+        .action(ArgAction::Set)
+        .help(help)
 }
 
 // The command that draws a chart.

@@ -1,0 +1,24 @@
+// The entries of an exchange: what is asked, what is answered, and the messages between kernels. A
+// VPE has one exchange under way at most.
+use sem_msg::{Detail, Message};
+
+/// The VPE whose exchange an entry with this detail is of, if it is of one.
+pub fn exchanger(detail: &Detail) -> Option<u16> {
+    match detail {
+        Detail::Asked { asker, .. } => Some(*asker),
+        Detail::Carried { message, .. } => exchanger_by(message),
+        Detail::Called { .. } | Detail::Nothing => None,
+    }
+}
+
+// The VPE whose exchange the message asks for, or answers.
+fn exchanger_by(message: &Message) -> Option<u16> {
+    match message {
+        Message::ObtainReq { place, .. } | Message::ObtainNo { place, .. } => Some(place.vpe),
+        Message::ObtainOk { key, .. } => Some(key.vpe),
+        Message::DelegateReq { parent, .. }
+        | Message::DelegatePrepared { parent, .. }
+        | Message::DelegateNo { parent, .. } => Some(parent.vpe),
+        _ => None,
+    }
+}
