@@ -19,6 +19,12 @@ say_unproved() {
     echo "$name: this build is not proved yet${1:-}; ./prove proves it" >&2
 }
 
+# Whether the program was proved: rt run leaves a stamp beside it, and the gate the same program as
+# the toolchain's second compiler builds it, which it does with proved code alone.
+is_proved() {
+    [ -e "$proved.stamp" ] || [ -e "$proved.by-rattle" ]
+}
+
 # Whether a program is there and nothing in the given kinds of folder is newer.
 is_newest() {
     [ -x "$1" ] || return 1
@@ -95,7 +101,7 @@ launch() {
     unproved=$top/out/$name
     [ -e "$top/crates/$crate/src/main.rt" ] ||
         stop 125 "the launcher belongs at the top of its repository, and $top is not that"
-    if [ -e "$proved.stamp" ] && is_newest "$proved" src specs proofs; then
+    if is_proved && is_newest "$proved" src specs proofs; then
         exec "$proved" "$@"
     fi
     if is_newest "$unproved" src; then
