@@ -2,7 +2,7 @@
 # top of the repository read this file; it does nothing by itself.
 #
 # The proved program runs where it is there and no source is newer; then the launcher says nothing.
-# Else the code runs without its proofs: the toolchain builds it in about a minute, with checks that
+# Else the code runs without its proofs: the toolchain builds it in one to three minutes, with checks that
 # stop a bad access or a sum that wraps, and it is kept below out/ until a source changes. Then the
 # launcher says so on standard error, in one line. All words are the program's own. The status is 127
 # where something has to be built and rt is missing, 126 where that fails, and 125 where the launcher
@@ -59,7 +59,7 @@ build_unproved() {
         stop 127 "there is something to build, and the command rt is missing"
     mkdir -p "$top/out" 2>/dev/null && folder=$(mktemp -d "$top/out/try.XXXXXX" 2>/dev/null) ||
         stop 126 "the program could not be built: $top/out cannot be written"
-    say_unproved ", and is made now, in about a minute"
+    say_unproved ", and is made now, in one to three minutes"
     trying=
     trap clean_up EXIT
     trap 'exit 130' INT TERM HUP
