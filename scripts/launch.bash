@@ -2,11 +2,11 @@
 # top of the repository read this file; it does nothing by itself.
 #
 # The proved program runs where it is there and no source is newer; then the launcher says nothing.
-# Else the code runs without its proofs: the toolchain builds it in one to three minutes, with checks that
-# stop a bad access or a sum that wraps, and it is kept below out/ until a source changes. Then the
-# launcher says so on standard error, in one line. All words are the program's own. The status is 127
-# where something has to be built and rt is missing, 126 where that fails, and 125 where the launcher
-# was not used as a command of its checkout.
+# Else the code runs without its proofs: the toolchain builds it in one to three minutes, with checks
+# that stop a bad access or a sum that wraps, and it is kept below out/ until a source changes. Then
+# the launcher says so on standard error, in one line. All words are the program's own. The status is
+# 127 where something has to be built and rt is missing, 126 where that fails, and 125 where the
+# launcher was not used as a command of its checkout.
 
 # Says on standard error why the launcher stops, and with which status.
 stop() {
