@@ -102,7 +102,10 @@ fn answer_to(rt: &HostRuntime, asked: &Asked, bytes: &[u8]) -> Result<Answer, Al
         Asked::Story { request } => story(alloc, request, bytes),
         Asked::Files => listing(alloc, bytes),
         Asked::Outcomes { search, telling } => {
-            outcomes(alloc, *search, *telling, bytes, &mut Shown::new(rt))
+            let mut shown = Shown::new(rt);
+            let answer = outcomes(alloc, *search, *telling, bytes, &mut shown);
+            shown.clear();
+            answer
         }
         Asked::Explain | Asked::Merge { .. } | Asked::Diff { .. } => explain(alloc, bytes),
     }

@@ -20,6 +20,13 @@ impl<'a> Shown<'a> {
             is_terminal: rt.stderr().is_terminal(),
         }
     }
+
+    /// Takes what was told off the terminal.
+    pub fn clear(&self) {
+        if self.is_terminal {
+            let _ = eprint!(self.rt; "\r                                            \r");
+        }
+    }
 }
 
 impl Progress for Shown<'_> {
