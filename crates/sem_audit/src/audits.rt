@@ -27,7 +27,7 @@ pub fn audit_of(
     let cut = cut_among(alloc, &made, journal)?;
     Ok(Audit {
         made: made.len() as u64,
-        cut: cut.as_slice().len() as u64,
+        cut: cut.len() as u64,
         held: held_list(alloc, kernels)?,
     })
 }

@@ -7,10 +7,10 @@ ghost use Rattle.sem_machine.specs.Journals.{forest, grants};
 ghost use Rattle.sem_machine.specs.Schedules.{IsSchedule};
 ghost use Rattle.sem_audit.specs.Losing.{HasWords, lost, has_word as has_word_lem};
 
-use crate::words::{add_word, has_word, words_of};
+use crate::words::{add_word, has_word};
 use indexmap::IndexSet;
 use sem_grants::{cut_among, made_keys};
-use sem_key::{Key, OutOfMemory};
+use sem_key::{Key, Keys, OutOfMemory};
 use sem_msg::{Entry, Journal, Setup};
 use std::alloc::Global;
 
@@ -22,7 +22,7 @@ pub fn forest_keys(alloc: Global, setup: &Setup, journal: &Journal) -> Result<Ve
 {
     let made = made_keys(alloc, setup, journal)?;
     let cut = cut_among(alloc, &made, journal)?;
-    let lost = lost_words(alloc, cut.as_slice(), journal)?;
+    let lost = lost_words(alloc, &cut, journal)?;
     keys_without(alloc, &made, &lost)
 }
 
@@ -41,13 +41,24 @@ fn keys_without(alloc: Global, keys: &[Key], words: &IndexSet<u64>) -> Result<Ve
 }
 
 // The words of the cut keys, and of all that was made from them.
-fn lost_words(alloc: Global, cut: &[Key], journal: &Journal) -> Result<IndexSet<u64>, OutOfMemory>
+fn lost_words(alloc: Global, cut: &Keys, journal: &Journal) -> Result<IndexSet<u64>, OutOfMemory>
     ensures { IfOk result (λ words.
-        HasWords words (lost (has_key cut.now) (grants journal.now.entries))) }
+        HasWords words (lost (has_key cut.now.keys) (grants journal.now.entries))) }
 {
-    let mut words = words_of(alloc, cut)?;
+    let mut words = cut_words(alloc, cut)?;
     for entry in journal.as_slice() {
         add_lost(&mut words, entry)?;
+    }
+    Ok(words)
+}
+
+// The words of the cut keys.
+fn cut_words(alloc: Global, cut: &Keys) -> Result<IndexSet<u64>, OutOfMemory>
+    ensures { IfOk result (λ words. HasWords words (has_key cut.now.keys)) }
+{
+    let mut words = IndexSet::new(alloc);
+    for word in cut.as_slice() {
+        add_word(&mut words, word.key())?;
     }
     Ok(words)
 }

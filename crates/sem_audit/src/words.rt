@@ -10,7 +10,7 @@ use sem_key::{Key, OutOfMemory, pack};
 use std::alloc::Global;
 
 // The words of the keys.
-pub fn words_of(alloc: Global, keys: &[Key]) -> Result<IndexSet<u64>, OutOfMemory>
+fn words_of(alloc: Global, keys: &[Key]) -> Result<IndexSet<u64>, OutOfMemory>
     ensures { IfOk result (λ words. HasWords words (has_key keys.now)) }
 {
     let mut words = IndexSet::new(alloc);

@@ -105,16 +105,24 @@ fn push_groups(alloc: Global, out: &mut String, chart: &Chart) -> Result<(), Out
         }
     }
     for (place, lane) in chart.lanes.as_slice().iter().enumerate() {
-        push_name(alloc, out, lane_x(place), *lane)?;
+        let is_alone = group_size(chart, place) == 1;
+        push_name(alloc, out, lane_x(place), *lane, is_alone)?;
     }
     Ok(())
 }
 
-// Appends the name of a lane.
-fn push_name(alloc: Global, out: &mut String, x: u64, lane: Lane) -> Result<(), OutOfMemory> {
+// Appends the name of a lane. The field of a kernel that stands alone has room for a short one.
+fn push_name(
+    alloc: Global,
+    out: &mut String,
+    x: u64,
+    lane: Lane,
+    is_alone: bool,
+) -> Result<(), OutOfMemory> {
     match lane {
         Lane::Kernel { number } => {
-            let name = format!(in alloc; "kernel {number}")?;
+            let word = if is_alone { "K" } else { "kernel " };
+            let name = format!(in alloc; "{word}{number}")?;
             let at = Point {
                 x: x.saturating_sub(22),
                 y: 28,

@@ -17,6 +17,7 @@ mod timeline;
 mod timeline_svg;
 mod timeline_text;
 mod tree;
+mod tree_dot;
 mod tree_svg;
 mod tree_text;
 
@@ -35,5 +36,6 @@ pub use timeline::{Moment, Timeline};
 pub use timeline_svg::timeline_as_svg;
 pub use timeline_text::timeline_as_text;
 pub use tree::{Node, State};
+pub use tree_dot::tree_as_dot;
 pub use tree_svg::tree_as_svg;
 pub use tree_text::{LEVELS, tree_as_text};

@@ -130,29 +130,6 @@ impl Dtus {
         let endpoint = &mut row.endpoints[usize::from(ep)];
         endpoint.operate(op)
     }
-
-    // Whether the VPE belongs to this kernel.
-    #[cfg(test)]
-    pub fn is_ours(&self, vpe: u16) -> bool
-        ensures { result ≡ slice_index_or self.now.ours vpe false }
-    {
-        match self.rows.get(usize::from(vpe)) {
-            Some(row) => row.is_ours,
-            None => false,
-        }
-    }
-
-    // The lengths of the messages of an endpoint that were sent and not credited, the oldest first.
-    #[cfg(test)]
-    pub fn messages(&self, alloc: Global, vpe: u16, ep: u8) -> Result<Vec<u32>, OutOfMemory> {
-        let Some(row) = self.rows.get(usize::from(vpe)) else {
-            return Ok(Vec::new(alloc));
-        };
-        match row.endpoints.get(usize::from(ep)) {
-            Some(endpoint) => endpoint.messages(alloc),
-            None => Ok(Vec::new(alloc)),
-        }
-    }
 }
 
 // Unbinds each of the endpoints that is bound to the key.

@@ -140,12 +140,6 @@ impl Endpoint {
         }
         Ok(())
     }
-
-    // The lengths of its messages, the oldest first.
-    #[cfg(test)]
-    pub fn messages(&self, alloc: Global) -> Result<Vec<u32>, OutOfMemory> {
-        self.ring.to_vec(alloc)
-    }
 }
 
 // Whether the key is one of these, which rise.

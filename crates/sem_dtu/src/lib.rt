@@ -8,8 +8,6 @@ mod fault;
 mod object_tests;
 mod op;
 mod row;
-#[cfg(test)]
-mod tests;
 
 pub use dtus::Dtus;
 pub use op::{Op, UseFault};

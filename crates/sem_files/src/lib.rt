@@ -12,8 +12,6 @@ mod lines;
 mod numbers;
 mod reader;
 mod tables;
-#[cfg(test)]
-mod tests;
 
 pub use counts::EXTENT;
 pub use files::{ClientList, Command, CommandList, FileAct, FileDecl, FileList, Files};

@@ -4,7 +4,7 @@ use crate::causes::{Fault, fault_of};
 use crate::earlier::{twice, undeclared};
 use crate::forms::{Choice, Slot, choice_name, choice_words};
 use crate::handles::strayed;
-use crate::places::{Limits, Setting, TextKind, kind_of_lines, setting_of};
+use crate::places::{Limits, Setting, TextKind, kind_in_lines, setting_of};
 use crate::words::{Word, lines_of, nearest, text_of, words_of};
 use sem_trace::{Cause, TraceFault};
 use std::alloc::Global;
@@ -62,21 +62,39 @@ pub fn no_report_text(
     text: &[u8],
     fault: &TraceFault,
 ) -> Result<String, OutOfMemory> {
-    let mut out = String::from_str(alloc, "the input is no report: ")?;
-    out.push_str(refusal_text(alloc, text, fault, TextKind::Report)?.as_str())?;
-    Ok(out)
+    match kind_said(alloc, text)? {
+        Some(TextKind::Trace) => String::from_str(
+            alloc,
+            "the input is a trace, and a report is wanted: semper run 0 makes one of it\n",
+        ),
+        Some(TextKind::Files) => String::from_str(
+            alloc,
+            "the input is file commands, and a report is wanted: semper files 0 makes one of them\n",
+        ),
+        _ => {
+            let mut out = String::from_str(alloc, "the input is no report: ")?;
+            out.push_str(refusal_text(alloc, text, fault, TextKind::Report)?.as_str())?;
+            Ok(out)
+        }
+    }
 }
 
 /// What the text begins as.
 pub fn kind_of(alloc: Global, text: &[u8]) -> Result<TextKind, OutOfMemory> {
+    Ok(kind_said(alloc, text)?.unwrap_or(TextKind::Trace))
+}
+
+// What the text says that it is, in its first line that says something.
+fn kind_said(alloc: Global, text: &[u8]) -> Result<Option<TextKind>, OutOfMemory> {
     let lines = lines_of(alloc, text)?;
-    kind_of_lines(alloc, lines.as_slice())
+    kind_in_lines(alloc, lines.as_slice())
 }
 
 // Why a text is refused at a line that it does not have.
 fn beyond(alloc: Global, fault: &TraceFault, count: usize) -> Result<String, OutOfMemory> {
     match fault.cause {
         Cause::InputTooLong => String::from_str(alloc, "the text is longer than it may be\n"),
+        _ if count == 0 => String::from_str(alloc, "it is empty\n"),
         _ => format!(in alloc; "the text ends behind line {count}, before its last line \"end\"\n"),
     }
 }
@@ -187,11 +205,13 @@ fn at_word(words: &[Word], place: usize, text: String) -> Remark {
 
 // What is said of a line that is too long.
 fn long_line(alloc: Global, line: &[u8]) -> Result<Remark, OutOfMemory> {
-    let count = line.len();
     Ok(Remark {
-        begin: 255usize.min(count),
+        begin: 255usize.min(line.len()),
         width: 1,
-        text: format!(in alloc; "the line has {count} bytes, and 255 are the most")?,
+        text: String::from_str(
+            alloc,
+            "the line has more than 255 bytes, which are the most",
+        )?,
     })
 }
 
@@ -202,11 +222,42 @@ fn odd_byte(alloc: Global, line: &[u8]) -> Result<Remark, OutOfMemory> {
             return Ok(Remark {
                 begin: at,
                 width: 1,
-                text: format!(in alloc; "the byte {byte} is neither a tab nor printable ASCII")?,
+                text: odd_text(alloc, &line[at..], at)?,
             });
         }
     }
     whole(alloc, line, "a byte is neither a tab nor printable ASCII")
+}
+
+// What is said of the bytes from the first that is no text on, which stand so far behind the begin of
+// their line.
+fn odd_text(alloc: Global, bytes: &[u8], at: usize) -> Result<String, OutOfMemory> {
+    match bytes {
+        [b'\r'] => String::from_str(
+            alloc,
+            "the line ends with CR LF, and a line ends with LF alone",
+        ),
+        [0xef, 0xbb, 0xbf, ..] if at == 0 => String::from_str(
+            alloc,
+            "the line begins with a byte order mark, and a text has none",
+        ),
+        [first, ..] => match letter_at(bytes) {
+            Some(letter) => format!(in alloc; "\"{letter}\" is not ASCII"),
+            None => format!(in alloc; "the byte {first} is neither a tab nor printable ASCII"),
+        },
+        [] => String::from_str(alloc, "a byte is neither a tab nor printable ASCII"),
+    }
+}
+
+// The letter beyond ASCII with which the bytes begin in UTF-8, if they do.
+fn letter_at(bytes: &[u8]) -> Option<char> {
+    for count in 2usize..5 {
+        let part = bytes.get(..count)?;
+        if let Ok(text) = std::str::from_utf8(part) {
+            return text.chars().next().filter(|letter| !letter.is_ascii());
+        }
+    }
+    None
 }
 
 // What is said of a line whose words have their form.

@@ -39,25 +39,26 @@ pub enum TextKind {
     Files,
 }
 
-/// What the lines begin as; what begins as nothing else is a trace.
-pub fn kind_of_lines(alloc: Global, lines: &[&[u8]]) -> Result<TextKind, OutOfMemory> {
+/// What the lines begin as, if they begin as one of these.
+pub fn kind_in_lines(alloc: Global, lines: &[&[u8]]) -> Result<Option<TextKind>, OutOfMemory> {
     for line in lines {
         let words = words_of(alloc, line)?;
         match words.as_slice() {
             [one, two, ..] if is(one.text, b"semper") => return Ok(kind_named(two.text)),
-            [one, ..] if one.text.first() != Some(&b'#') => return Ok(TextKind::Trace),
+            [one, ..] if one.text.first() != Some(&b'#') => return Ok(None),
             _ => {}
         }
     }
-    Ok(TextKind::Trace)
+    Ok(None)
 }
 
 // What the second word of the first line tells.
-fn kind_named(word: &[u8]) -> TextKind {
+fn kind_named(word: &[u8]) -> Option<TextKind> {
     match word {
-        b"report" => TextKind::Report,
-        b"files" => TextKind::Files,
-        _ => TextKind::Trace,
+        b"report" => Some(TextKind::Report),
+        b"files" => Some(TextKind::Files),
+        b"trace" => Some(TextKind::Trace),
+        _ => None,
     }
 }
 

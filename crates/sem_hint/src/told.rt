@@ -59,9 +59,9 @@ pub fn cause_text(alloc: Global, entries: &[Entry], number: usize) -> Result<Str
 pub fn act_text(alloc: Global, entry: &Entry) -> Result<String, OutOfMemory> {
     match (entry.event.act, entry.detail) {
         (Act::Kill { vpe }, _) => format!(in alloc; "the kill of v{vpe}"),
-        (Act::Call { vpe }, Detail::Called { call, .. }) => {
+        (Act::Call { vpe }, Detail::Called { index, call }) => {
             let call = call_text(alloc, &call)?;
-            format!(in alloc; "{call} of v{vpe}")
+            format!(in alloc; "\"{call}\", call {index} of v{vpe}")
         }
         _ => String::from_str(alloc, "what came before"),
     }

@@ -30,7 +30,10 @@ pub fn words_of<'a>(alloc: Global, line: &'a [u8]) -> Result<Vec<Word<'a>>, OutO
     Ok(words)
 }
 
-/// The lines of the text, each without its end.
+/// The most bytes that are looked at of a line: a few more than a line may have.
+const LOOKED_AT: usize = 512;
+
+/// The lines of the text, each without its end, and of a long one the first bytes alone.
 pub fn lines_of<'a>(alloc: Global, text: &'a [u8]) -> Result<Vec<&'a [u8]>, OutOfMemory> {
     let mut lines = Vec::new(alloc);
     let mut rest = Lines::of(text);
@@ -38,7 +41,7 @@ pub fn lines_of<'a>(alloc: Global, text: &'a [u8]) -> Result<Vec<&'a [u8]>, OutO
         let Some(line) = rest.next_line() else {
             return Ok(lines);
         };
-        lines.push(line)?;
+        lines.push(&line[..line.len().min(LOOKED_AT)])?;
     }
     Ok(lines)
 }

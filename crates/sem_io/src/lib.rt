@@ -5,8 +5,6 @@
 mod sink;
 mod source;
 mod sure;
-#[cfg(test)]
-mod tests;
 mod transfer;
 
 pub use sink::{MemSink, Sink, WriteSink};

@@ -3,16 +3,14 @@
 #![tactic(auto)]
 
 #[cfg(test)]
-mod audits;
-#[cfg(test)]
-mod checks;
-#[cfg(test)]
-mod generated;
+mod journals;
 #[cfg(test)]
 mod kernels;
 #[cfg(test)]
 mod links;
 #[cfg(test)]
+mod memories;
+#[cfg(test)]
 mod messages;
 #[cfg(test)]
-mod replayed_audits;
+mod setups;

@@ -96,29 +96,6 @@ fn killed(kernel: u32, vpe: u16, reply: Option<Reply>) -> Entry
 }
 
 #[test]
-fn a_new_fabric_is_empty(rt: HostRuntime) -> Result<(), Fail> {
-    let fabric = fabric(rt.alloc(), 3, 1)?;
-    assert_eq!(rt; fabric.peek(0, 1), None);
-    assert_eq!(rt; fabric.peek(2, 1), None);
-    assert!(rt; !fabric.full(1, 2));
-    assert_eq!(rt; (fabric.journal().len(), fabric.replies()), (0, 0));
-    Ok(())
-}
-
-#[test]
-fn a_link_gives_its_messages_in_their_order(rt: HostRuntime) -> Result<(), Fail> {
-    let mut fabric = fabric(rt.alloc(), 2, 4)?;
-    assert!(rt; flush(&mut fabric, 0, 1, 70));
-    assert!(rt; flush(&mut fabric, 0, 1, 71));
-    assert_eq!(rt; fabric.peek(1, 0), Some(message(70)));
-    assert_eq!(rt; fetch(&mut fabric, 1, 0), Some(70));
-    assert_eq!(rt; fetch(&mut fabric, 0, 1), None, "the other way");
-    assert_eq!(rt; fetch(&mut fabric, 1, 0), Some(71));
-    assert_eq!(rt; fetch(&mut fabric, 1, 0), None);
-    Ok(())
-}
-
-#[test]
 fn a_link_holds_as_many_messages_as_the_window(rt: HostRuntime) -> Result<(), Fail> {
     let mut fabric = fabric(rt.alloc(), 2, 3)?;
     for number in 0..3u32 {
@@ -150,6 +127,8 @@ fn a_link_goes_round_its_ring(rt: HostRuntime) -> Result<(), Fail> {
 #[test]
 fn an_entry_takes_the_place_of_its_kernel(rt: HostRuntime) -> Result<(), Fail> {
     let mut fabric = fabric(rt.alloc(), 2, 1)?;
+    assert_eq!(rt; (fabric.journal().len(), fabric.replies()), (0, 0));
+    assert_eq!(rt; fabric.peek(0, 1), None);
     fabric.reserve(1)?;
     fabric.enter(killed(1, 7, Some(Reply { vpe: 7, code: 0 })));
     fabric.reserve(0)?;

@@ -33,10 +33,10 @@ impl Kind {
 /// and a number (0 to 4095) that the VPE has drawn for it.
 #[derive(Clone, Copy, Debug, PartialEq, Eq)]
 pub struct Key {
-    pub pe: u8,
-    pub vpe: u16,
-    pub kind: Kind,
     pub number: u32,
+    pub vpe: u16,
+    pub pe: u8,
+    pub kind: Kind,
 }
 
 impl Model for Key {
@@ -54,9 +54,9 @@ impl Model for Key {
 /// A key whose kind is not known yet; the ranges are those of `Key`.
 #[derive(Clone, Copy, Debug, PartialEq, Eq)]
 pub struct Place {
-    pub pe: u8,
-    pub vpe: u16,
     pub number: u32,
+    pub vpe: u16,
+    pub pe: u8,
 }
 
 impl Model for Place {
@@ -105,7 +105,7 @@ pub fn same_key(one: &Key, other: &Key) -> bool
 }
 
 // The kind of that number; none where no kind has it.
-fn kind_numbered(number: u64) -> Option<Kind>
+pub(crate) fn kind_numbered(number: u64) -> Option<Kind>
     ensures { result ≡ kind_numbered_lem number }
 {
     match number {

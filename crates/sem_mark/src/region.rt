@@ -103,7 +103,7 @@ fn child_count(caps: &Caps, key: Key) -> usize
     ensures { result ≡ length (children_at caps.now.caps key) }
 {
     match caps.get(key) {
-        Some(cap) => cap.children.as_slice().len(),
+        Some(cap) => cap.children.len(),
         None => 0,
     }
 }
@@ -117,7 +117,7 @@ fn child_at(caps: &Caps, key: Key, at: usize) -> Key
     let Some(cap) = caps.get(key) else {
         unreachable!()
     };
-    cap.children.as_slice()[at]
+    cap.children.as_slice()[at].key()
 }
 
 // Puts the keys in rising order, each once.

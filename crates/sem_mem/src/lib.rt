@@ -11,8 +11,6 @@ mod memory;
 mod parts;
 mod replays;
 mod runs;
-#[cfg(test)]
-mod tests;
 mod writes;
 
 pub use account::Account;

@@ -82,10 +82,10 @@ module _ (more len : ℕ) (items before after : List OutboxRow) (done : ℕ) (ro
       )
 
   -- at the end each has room for more
-  pub invariant-raised : length before ≤ done → (spare raised : ℕ) → raised ≡ max spare more → HaveRoom items spare → AllFit (messages_of items) → HaveRoom (take len (after ++ drop (length after) items)) raised × AllFit (messages_of (take len (after ++ drop (length after) items)))
-  invariant-raised all spare raised is have fit =
+  pub invariant-raised : length before ≤ done → AllFit (messages_of items) → HaveRoom (take len (after ++ drop (length after) items)) more × AllFit (messages_of (take len (after ++ drop (length after) items)))
+  invariant-raised all fit =
       let back = written_back len after items (roomier.same_length ∙ whole) (ap length (sym same) ∙ whole) in (
-        rw back (λ k d lt. omega (arith, roomier.kept spare (rw same have) k d lt, roomier.roomy k d (omega arith) (omega arith))),
+        rw back (λ k d lt. roomier.roomy k d (omega arith) (omega arith)),
         rw messages-kept fit,
       )
 

@@ -66,6 +66,10 @@ impl Outbox {
     }
 }
 
+// So many messages more than are wanted get room, so that the outboxes need not be visited again
+// before each message.
+const SPARE_MESSAGES: usize = 8;
+
 /// For each kernel the messages that wait to be sent to it, in their order. All of them fit.
 #[derive(Debug, Drop)]
 pub struct Outboxes {
@@ -102,10 +106,14 @@ impl Outboxes {
         ensures boxes { self.new.boxes ≡ self.old.boxes }
         ensures spare { self.old.spare ≤ self.new.spare }
     {
-        for outbox in self.boxes.iter_mut() {
-            outbox.room(more)?;
+        if more <= self.spare {
+            return Ok(());
         }
-        self.spare = self.spare.max(more);
+        let wanted = more.saturating_add(SPARE_MESSAGES);
+        for outbox in self.boxes.iter_mut() {
+            outbox.room(wanted)?;
+        }
+        self.spare = wanted;
         Ok(())
     }
 

@@ -11,8 +11,6 @@ mod replays;
 mod samples;
 mod searches;
 mod steps;
-#[cfg(test)]
-mod tests;
 
 pub use faults::SearchError;
 pub use progress::{Progress, Quiet};

@@ -2,10 +2,6 @@
 #![tactic(auto)]
 
 mod park;
-#[cfg(test)]
-mod random_tests;
-#[cfg(test)]
-mod tests;
 
 pub use park::Park;
 pub use sem_msg::Parked;

@@ -19,8 +19,6 @@ mod sightings;
 mod sights;
 mod states;
 mod tellings;
-#[cfg(test)]
-mod tests;
 
 pub use denials::denied;
 pub use holder::Holder;

@@ -7,7 +7,7 @@ ghost use Rattle.sem_machine.specs.Schedules.{IsSchedule};
 ghost use Rattle.sem_query.specs.Paths.{cut_word as cut_word_lem, step_words, path as path_lem};
 
 use sem_grants::{cut_keys, made_keys};
-use sem_key::{Key, OutOfMemory, same_key};
+use sem_key::{Key, Keys, OutOfMemory, same_key};
 use sem_msg::{Entry, Journal, Setup};
 use sem_trace::{push_key_word, push_word};
 use std::alloc::Global;
@@ -48,13 +48,13 @@ fn push_path(
         return out.extend_from_slice(b"none\n");
     }
     let cut = cut_keys(alloc, setup, journal)?;
-    push_line(out, cut.as_slice(), journal, key)
+    push_line(out, &cut, journal, key)
 }
 
 // Appends a line for each key from this one up to its root.
-fn push_line(out: &mut Vec<u8>, cut: &[Key], journal: &Journal, key: Key) -> Result<(), OutOfMemory>
+fn push_line(out: &mut Vec<u8>, cut: &Keys, journal: &Journal, key: Key) -> Result<(), OutOfMemory>
     ensures { OnOk result (out.new.items ≡ out.old.items
-        ++ text (map (step_words cut.now)
+        ++ text (map (step_words cut.now.keys)
         (line_in (length journal.now.entries) (grants journal.now.entries) key))) }
 {
     push_step(out, cut, key)?;
@@ -70,12 +70,12 @@ fn push_line(out: &mut Vec<u8>, cut: &[Key], journal: &Journal, key: Key) -> Res
 }
 
 // Appends the line of one key.
-fn push_step(out: &mut Vec<u8>, cut: &[Key], key: Key) -> Result<(), OutOfMemory>
-    ensures { OnOk result (out.new.items ≡ out.old.items ++ line (step_words cut.now key)) }
+fn push_step(out: &mut Vec<u8>, cut: &Keys, key: Key) -> Result<(), OutOfMemory>
+    ensures { OnOk result (out.new.items ≡ out.old.items ++ line (step_words cut.now.keys key)) }
 {
     out.extend_from_slice(b"key")?;
     push_key_word(out, &key)?;
-    push_word(out, cut_word(has_key(cut, key)))?;
+    push_word(out, cut_word(cut.has(key)))?;
     Ok(out.push(b'\n')?)
 }
 

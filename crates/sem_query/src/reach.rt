@@ -10,7 +10,7 @@ ghost use Rattle.sem_query.specs.Reaching.{AreReached, AreRevoked, held_of, root
 use crate::entries::requested;
 use sem_grants::ended_by;
 use sem_kernel::Kernel;
-use sem_key::{Key, OutOfMemory, pack};
+use sem_key::{Key, Keys, OutOfMemory, pack};
 use sem_msg::Entry;
 use std::alloc::Global;
 use std::collections::HashSet;
@@ -97,7 +97,7 @@ fn list_children(
     ensures words { OnOk result (HasWords words.new (has_key keys.new.items)) }
 {
     match kernel.held(parent) {
-        Some(cap) => list_all(keys, words, kernel, cap.children.as_slice()),
+        Some(cap) => list_words(keys, words, kernel, &cap.children),
         None => Ok(()),
     }
 }
@@ -116,6 +116,24 @@ fn list_all(
 {
     for key in more {
         list(keys, words, kernel, *key)?;
+    }
+    Ok(())
+}
+
+// Lists those of the child links that the kernel holds unmarked, each once.
+fn list_words(
+    keys: &mut Vec<Key>,
+    words: &mut HashSet<u64>,
+    kernel: &Kernel,
+    more: &Keys,
+) -> Result<(), OutOfMemory>
+    requires words { HasWords words.old (has_key keys.old.items) }
+    ensures listed { OnOk result
+        (Lists kernel.now.side.caps more.now.keys keys.old.items keys.new.items) }
+    ensures words { OnOk result (HasWords words.new (has_key keys.new.items)) }
+{
+    for word in more.as_slice() {
+        list(keys, words, kernel, word.key())?;
     }
     Ok(())
 }

@@ -112,13 +112,13 @@ module _ (T : Setup) (J : List Entry) where
     abbrev made_line : ℕ
     made_line = 1 + length (front T J)
 
-    pub is-made_line : (n l s m : ℕ) → n ≡ length (whole_lines bytes) → l ≡ length told.held → s ≡ n - l → m ≡ s - 3 → m ≡ made_line
-    is-made_line n l s m count keys-are s-is m-is =
-        let all : n ≡ length (front T J ++ numbers told.made told.cut hs) = count ∙ ap length (ap whole_lines spelled ∙ lines-are told fits) in
+    pub is-made_line : (m : ℕ) → m ≡ length (whole_lines bytes) - length told.held - 3 → m ≡ made_line
+    is-made_line m is =
+        let all : length (whole_lines bytes) ≡ length (front T J ++ numbers told.made told.cut hs) = ap length (ap whole_lines spelled ∙ lines-are told fits) in
         let parts : length (front T J ++ numbers told.made told.cut hs) ≡ length (front T J) + length (numbers told.made told.cut hs) = length-append (front T J) (numbers told.made told.cut hs) in
         let last : length (keys hs) ≡ length (map line (map held_line hs)) + 1 = length-append (map line (map held_line hs)) (line (codes "end" ∷ []) ∷ []) in
         let few : length (map line (map held_line hs)) ≡ length told.held = length-map (map held_line hs) line ∙ (length-map hs held_line ∙ length-map told.held _) in
-        omega (arith, all, parts, last, few, keys-are, s-is, m-is)
+        omega (arith, all, parts, last, few, is)
 
     -- the lines before the numbers are the same
     from-made : differing_line bytes T J due ≡ first_difference made_line (numbers told.made told.cut hs) (numbers due.made due.cut gs)

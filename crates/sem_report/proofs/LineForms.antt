@@ -18,6 +18,12 @@ pub cases_Option : {X : Type 0} (o : Option X) → (o ≡ None) ⊎ ((x : X) × 
 cases_Option None = inl refl
 cases_Option (Some x) = inr (x, refl)
 
+-- a text does not differ from itself
+pub nothing_differs : (n : ℕ) (lines : List (List ℕ)) → first_difference n lines lines ≡ None
+unfolding first_difference
+nothing_differs n [] = refl
+nothing_differs n (line ∷ lines) = rw ((bytes_eq-Decides line line).1 refl) (nothing_differs (n + 1) lines)
+
 pub shorter_differs : (first number : ℕ) (a b rest others others' : List (List ℕ)) (other : List ℕ) → first_difference first a b ≡ first_difference number rest others → rest ≡ [] → others ≡ other ∷ others' → Some number ≡ first_difference first a b
 unfolding first_difference
 shorter_differs first number a b rest others others' other same none some = sym (same ∙ (rw (none, some) refl))

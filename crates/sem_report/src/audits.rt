@@ -1,5 +1,5 @@
 // Audits that are compared.
-ghost use Rattle.std.specs.Prelude.{◌≡◌, ◌≤◌, ℕ, List, length, MatchOption};
+ghost use Rattle.std.specs.Prelude.{◌≡◌, ◌-◌, ◌≤◌, ℕ, List, length, MatchOption};
 ghost use Rattle.sem_msg.specs.declared.entry.Entry.{Entry as EntryData};
 ghost use Rattle.sem_msg.specs.Setup.{Setup as SetupRecord};
 ghost use Rattle.sem_report.specs.WholeLines.{whole_lines};
@@ -16,23 +16,31 @@ pub fn audit_difference(bytes: &[u8], told: &Audit, due: &Audit) -> Option<u64>
         → AuditFits T J told.now → AuditFits T J due.now
         → result ≡ differing_line bytes.now T J due.now }
 {
-    // Behind the line that tells how many keys were made stand two, one for each key, and the last.
-    let made = line_count(bytes)
-        .saturating_sub(told.held.len() as u64)
-        .saturating_sub(3);
     if told.made != due.made {
-        return Some(made);
+        return Some(made_line(bytes, told));
     }
     if told.cut != due.cut {
-        return Some(made + 1);
+        return Some(made_line(bytes, told) + 1);
     }
     if told.held.len() != due.held.len() {
-        return Some(made + 2);
+        return Some(made_line(bytes, told) + 2);
     }
     match first_other(told.held.as_slice(), due.held.as_slice()) {
-        Some(key) => Some(made + 3 + key as u64),
+        Some(key) => Some(made_line(bytes, told) + 3 + key as u64),
         None => None,
     }
+}
+
+// The number of the line that tells how many keys were made, in the report with that audit. Behind
+// it stand two, one for each key, and the last.
+fn made_line(bytes: &[u8], told: &Audit) -> u64
+    requires few { length bytes.now ≤ 1000000000 }
+    ensures line { result ≡ length (whole_lines bytes.now) - length told.now.held - 3 }
+    ensures few { result ≤ 1000000000 }
+{
+    line_count(bytes)
+        .saturating_sub(told.held.len() as u64)
+        .saturating_sub(3)
 }
 
 // How many lines the text has.

@@ -16,6 +16,7 @@ mod services;
 mod soaks;
 mod threads;
 mod top;
+mod usage;
 mod watches;
 
 pub use accepts::reports_are_accepted;

@@ -4,8 +4,9 @@ ghost use Rattle.std.specs.Process.{exit_status};
 ghost use Rattle.sem_cli.specs.Statuses.{status_number};
 
 use crate::top::semper;
+use crate::usage::usage_fault;
 use sem_cli::Status;
-use sem_io::{ReadSource, WriteSink, write_all};
+use sem_io::{ReadSource, WriteSink};
 use sem_msg::Journal;
 use sem_node::OpenGate;
 use std::alloc::AllocError as OutOfMemory;
@@ -16,46 +17,73 @@ use std::sync::Wait;
 use std::thread::Threads;
 
 /// The program: its words, standard input and standard output, and its exit status. Standard error
-/// tells what was wanting where standard output cannot. The second handle is that of its threads.
+/// tells in one line why it ended otherwise than it was asked to: what was wanting, which word of the
+/// command line is wrong, or where a refusal is explained. The second handle is that of its threads.
 pub fn program<R: Threads + Wait + Sync>(rt: &HostRuntime, threads: &R) -> ExitCode {
     let mut input = ReadSource::new(rt.stdin());
     let mut out = WriteSink::new(rt.stdout());
     let mut journal = Journal::new(rt.alloc());
-    let status = match words(rt) {
-        Ok(words) => semper(
-            threads,
-            rt.alloc(),
-            &words,
-            &mut input,
-            &mut out,
-            &OpenGate,
-            &mut journal,
-        ),
-        Err(_) => Status::Memory,
+    let words = match words(rt) {
+        Ok(words) => words,
+        Err(OutOfMemory) => {
+            tell(rt, "out of memory");
+            return exit_code(Status::Memory);
+        }
     };
-    if let Some(line) = reason(status) {
-        // Where standard error takes nothing either, the exit status alone tells it.
-        let _ = write_all(&mut WriteSink::new(rt.stderr()), line);
+    let none = Vec::new(rt.alloc());
+    let status = semper(
+        threads,
+        rt.alloc(),
+        words.as_ref().unwrap_or(&none),
+        &mut input,
+        &mut out,
+        &OpenGate,
+        &mut journal,
+    );
+    match (status, &words) {
+        (Status::Usage, None) => tell(rt, "a word is no text"),
+        (Status::Usage, Some(words)) => {
+            if let Ok(fault) = usage_fault(rt.alloc(), words.as_slice()) {
+                tell(rt, fault.as_str());
+            }
+        }
+        _ => {
+            if let Some(line) = reason(status) {
+                tell(rt, line);
+            }
+        }
     }
     exit_code(status)
 }
 
+// Tells it on standard error. Where that takes nothing either, the exit status alone tells it.
+fn tell(rt: &HostRuntime, line: &str) {
+    let _ = eprintln!(rt; "semper: {line}");
+}
+
 // The words after the program's name; none where a word is no text.
-fn words(rt: &HostRuntime) -> Result<Vec<String>, OutOfMemory> {
+fn words(rt: &HostRuntime) -> Result<Option<Vec<String>>, OutOfMemory> {
     match env::args(rt) {
-        Ok(words) => words.skip(1).collect(rt.alloc()),
+        Ok(words) => Ok(Some(words.skip(1).collect(rt.alloc())?)),
         Err(fault) if fault.kind() == ErrorKind::OutOfMemory => Err(OutOfMemory),
-        Err(_) => Ok(Vec::new(rt.alloc())),
+        Err(_) => Ok(None),
     }
 }
 
-// The line on standard error; none where a text on standard output tells how the program ended.
-fn reason(status: Status) -> Option<&'static [u8]> {
+// The line on standard error; none where the program did what it was asked for. Standard output has
+// the line and the cause of a refusal, which are not told again.
+fn reason(status: Status) -> Option<&'static str> {
     match status {
-        Status::ReadFault => Some(b"semper: the input could not be read\n"),
-        Status::WriteFault => Some(b"semper: the output could not be written\n"),
-        Status::Memory => Some(b"semper: out of memory\n"),
-        Status::Done | Status::Usage | Status::TraceRefused | Status::ReportRefused => None,
+        Status::ReadFault => Some("the input could not be read"),
+        Status::WriteFault => Some("the output could not be written"),
+        Status::Memory => Some("out of memory"),
+        Status::TraceRefused => Some(
+            "the input is refused; semper-view explain tells why, in words",
+        ),
+        Status::ReportRefused => Some(
+            "the report is refused; semper-view explain tells why, in words",
+        ),
+        Status::Done | Status::Usage => None,
     }
 }
 

@@ -1,95 +1,164 @@
 //! A source and a sink that fail once, at each of their calls in turn.
 
-use crate::calls::{DECLARED, DERIVE_AND_REVOKE, DERIVED_AND_REVOKED, answer_over, check};
+use crate::endings::ended_over;
 use sem_cli::Status;
 use sem_io::{MemSink, MemSource};
-use std::alloc::{AllocError, Global};
+use sem_node::OpenGate;
 use std::test::Fail;
 
 /// The most bytes of a call.
 const STEP: usize = 64;
 
 // Words, what they read, what they write, and how many entries they leave.
-#[derive(Drop)]
 struct Row {
     line: &'static str,
-    input: String,
-    text: String,
+    input: &'static str,
+    text: &'static str,
     entries: usize,
 }
 
+// A trace of a derive and a revoke.
+const TRACE: &str = "semper trace 1
+kernels 1
+pe 0 0
+vpe 0 0
+root 0 0 mem 0 4096 7
+call 0 derive 0 1 0 1024 1
+call 0 revoke 0
+end
+";
+
+// The report of its run.
+const REPORT: &str = "semper report 1
+semper trace 1
+kernels 1
+pe 0 0
+vpe 0 0
+root 0 0 mem 0 4096 7
+call 0 derive 0 1 0 1024 1
+call 0 revoke 0
+end
+journal 3
+0 call 0 0 derive 0 1 0 1024 1 grant 0.0.1.0 0.0.1.1 reply 0 0
+0 call 0 1 revoke 0 cut 0.0.1.0
+0 resume 0 reply 0 0
+audit
+made 2
+cut 1
+held 0
+end
+";
+
 // File commands by which a client opens a file and reads it.
-const FILES: &str =
-    "semper files 1\nkernels 1\nfile 0 1\nclient 1\ndo 1 open 15 0\ndo 1 read 15 0 4096\nend\n";
+const FILES: &str = "semper files 1
+kernels 1
+file 0 1
+client 1
+do 1 open 15 0
+do 1 read 15 0 4096
+end
+";
 
 // The report of their run.
-const OPENED_AND_READ: &str =
-    "semper report 1\nsemper trace 1\nkernels 1\npe 0 0\npe 1 0\nvpe 0 0\nvpe 1 1\nservice 0 0 0\nroot 0 1 mem 0 4096 7\noffer 0 0 1\ncall 1 open 0 0\ncall 1 ask 61 0 0\ncall 1 bind 0 61\ncall 1 read 0 0 4096\nend\njournal 8\n0 call 1 0 open 0 0\n0 upcall 0 1 yes grant 0.0.4.0 1.1.5.0\n0 resume 1 reply 1 0\n0 call 1 1 ask 61 0 0\n0 upcall 0 1 yes grant 0.0.1.1 1.1.1.1\n0 resume 1 reply 1 0\n0 call 1 2 bind 0 61 reply 1 0\n0 call 1 3 read 0 0 4096 reply 1 0\naudit\nmade 4\ncut 0\nheld 4\nkey 0.0.1.1 1\nkey 0.0.4.0 0\nkey 1.1.1.1 61\nkey 1.1.5.0 0\nend\n";
+const OPENED_AND_READ: &str = "semper report 1
+semper trace 1
+kernels 1
+pe 0 0
+pe 1 0
+vpe 0 0
+vpe 1 1
+service 0 0 0
+root 0 1 mem 0 4096 7
+offer 0 0 1
+call 1 open 0 0
+call 1 ask 61 0 0
+call 1 bind 0 61
+call 1 read 0 0 4096
+end
+journal 8
+0 call 1 0 open 0 0
+0 upcall 0 1 yes grant 0.0.4.0 1.1.5.0
+0 resume 1 reply 1 0
+0 call 1 1 ask 61 0 0
+0 upcall 0 1 yes grant 0.0.1.1 1.1.1.1
+0 resume 1 reply 1 0
+0 call 1 2 bind 0 61 reply 1 0
+0 call 1 3 read 0 0 4096 reply 1 0
+audit
+made 4
+cut 0
+held 4
+key 0.0.1.1 1
+key 0.0.4.0 0
+key 1.1.1.1 61
+key 1.1.5.0 0
+end
+";
 
-// The rows: each command that reads or writes, over a derive and a revoke, or over file commands.
-fn rows(alloc: Global) -> Result<Vec<Row>, AllocError> {
-    let trace = format!(in alloc; "{DECLARED}{DERIVE_AND_REVOKE}")?;
-    let report = format!(in alloc; "semper report 1\n{trace}{DERIVED_AND_REVOKED}")?;
-    let mut rows = Vec::new(alloc);
-    rows.push(Row {
+// Each command that reads or writes.
+const ROWS: [Row; 7] = [
+    Row {
         line: "check",
-        input: report.clone()?,
-        text: String::from_str(alloc, "ok\n")?,
+        input: REPORT,
+        text: "ok\n",
         entries: 0,
-    })?;
-    rows.push(Row {
+    },
+    Row {
         line: "contents",
-        input: report.clone()?,
-        text: String::from_str(alloc, "semper contents 1\nend\n")?,
+        input: REPORT,
+        text: "semper contents 1\nend\n",
         entries: 0,
-    })?;
-    rows.push(Row {
+    },
+    Row {
         line: "query holder 0.0.1.1 1",
-        input: report.clone()?,
-        text: String::from_str(alloc, "held 1 unmarked\n")?,
+        input: REPORT,
+        text: "held 1 unmarked\n",
         entries: 0,
-    })?;
-    rows.push(Row {
+    },
+    Row {
         line: "query path 0.0.1.1",
-        input: report.clone()?,
-        text: String::from_str(alloc, "key 0.0.1.1 kept\nkey 0.0.1.0 cut\n")?,
+        input: REPORT,
+        text: "key 0.0.1.1 kept\nkey 0.0.1.0 cut\n",
         entries: 0,
-    })?;
-    rows.push(Row {
+    },
+    Row {
         line: "query denied 1",
-        input: report.clone()?,
-        text: String::from_str(alloc, "none\n")?,
+        input: REPORT,
+        text: "none\n",
         entries: 0,
-    })?;
-    rows.push(Row {
+    },
+    Row {
         line: "files 0",
-        input: String::from_str(alloc, FILES)?,
-        text: String::from_str(alloc, OPENED_AND_READ)?,
+        input: FILES,
+        text: OPENED_AND_READ,
         entries: 8,
-    })?;
-    rows.push(Row {
+    },
+    Row {
         line: "run 0",
-        input: trace,
-        text: report,
+        input: TRACE,
+        text: REPORT,
         entries: 3,
-    })?;
-    Ok(rows)
-}
+    },
+];
 
 #[test]
 fn each_read_that_fails_leaves_nothing_written(rt: HostRuntime) -> Result<(), Fail> {
-    for row in &rows(rt.alloc())? {
+    for row in &ROWS {
         // The last read finds the end.
-        let calls = row.input.len().div_ceil(STEP) + 1;
+        let calls = row.input.len().div_ceil(STEP).saturating_add(1);
         for call in 0..=calls {
             let bytes = row.input.as_bytes().to_vec(rt.alloc())?;
             let source = MemSource::new(bytes, STEP, vec![in rt.alloc(); call as u64]?);
             let sink = MemSink::new(rt.alloc(), 4096, STEP, Vec::new(rt.alloc()))?;
-            let answer = answer_over(&rt, rt.alloc(), row.line, source, sink)?;
+            let ending = ended_over(&rt, rt.alloc(), row.line, source, sink, &OpenGate)?;
             if call < calls {
-                check(&rt, &answer, Status::ReadFault, "", 0);
+                assert_eq!(rt; ending.status, Status::ReadFault);
+                assert!(rt; ending.written.is_empty());
+                assert_eq!(rt; ending.journal.len(), 0);
             } else {
-                check(&rt, &answer, Status::Done, row.text.as_str(), row.entries);
+                assert_eq!(rt; ending.status, Status::Done);
+                assert_eq!(rt; ending.written.as_slice(), row.text.as_bytes());
+                assert_eq!(rt; ending.journal.len(), row.entries);
             }
         }
     }
@@ -98,17 +167,16 @@ fn each_read_that_fails_leaves_nothing_written(rt: HostRuntime) -> Result<(), Fa
 
 #[test]
 fn each_write_that_fails_leaves_a_prefix(rt: HostRuntime) -> Result<(), Fail> {
-    for row in &rows(rt.alloc())? {
-        let calls = row.text.len().div_ceil(STEP);
-        for call in 0..calls {
+    for row in &ROWS {
+        for call in 0..row.text.len().div_ceil(STEP) {
             let bytes = row.input.as_bytes().to_vec(rt.alloc())?;
             let source = MemSource::new(bytes, STEP, Vec::new(rt.alloc()));
             let sink = MemSink::new(rt.alloc(), 4096, STEP, vec![in rt.alloc(); call as u64]?)?;
-            let answer = answer_over(&rt, rt.alloc(), row.line, source, sink)?;
-            assert_eq!(rt; answer.status, Status::WriteFault);
-            assert_eq!(rt; answer.written.len(), call * STEP);
-            assert!(rt; row.text.as_bytes().starts_with(&answer.written));
-            assert_eq!(rt; answer.entries, row.entries);
+            let ending = ended_over(&rt, rt.alloc(), row.line, source, sink, &OpenGate)?;
+            assert_eq!(rt; ending.status, Status::WriteFault);
+            assert_eq!(rt; ending.written.len(), call.saturating_mul(STEP));
+            assert!(rt; row.text.as_bytes().starts_with(&ending.written));
+            assert_eq!(rt; ending.journal.len(), row.entries);
         }
     }
     Ok(())

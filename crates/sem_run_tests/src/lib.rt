@@ -2,26 +2,18 @@
 #![tactic(auto)]
 
 #[cfg(test)]
-mod calls;
-#[cfg(test)]
 mod changes;
 #[cfg(test)]
-mod contents;
+mod endings;
 #[cfg(test)]
 mod faults;
 #[cfg(test)]
-mod files;
-#[cfg(test)]
 mod gates;
-#[cfg(test)]
-mod nodes;
-#[cfg(test)]
-mod queries;
 #[cfg(test)]
 mod seeds;
 #[cfg(test)]
-mod setups;
-#[cfg(test)]
 mod threads;
+#[cfg(test)]
+mod transfers;
 #[cfg(test)]
 mod turns;

@@ -1,33 +1,130 @@
-//! Whole runs that come to the same by every seed. What they come to is known from two independent
-//! reference programs.
+//! Whole runs that come to the same by every seed, and in threads. What they come to is known from
+//! two independent reference programs.
 
-use crate::setups::{DELEGATE_BETWEEN_KERNELS, KILL_AFTER_A_REPLY, TWO_VPES_OF_ONE_KERNEL};
-use crate::threads::{CROSSING, ended};
+use crate::endings::ended;
+use crate::threads::CROSSING;
 use sem_cli::Status;
-use sem_msg::Journal;
 use sem_node::OpenGate;
-use std::alloc::{AllocError, Global};
+use std::alloc::Global;
 use std::process::Abort;
 use std::sync::Wait;
 use std::test::Fail;
 use std::thread::Threads;
 
-// By how many seeds each trace is run.
+// By how many seeds each text is run.
 const SEEDS: u64 = 100;
 
 // The numbers of the VPEs are below this.
 const VPES: u16 = 3;
 
-// A trace in two parts, and what each run of it comes to.
+// A text in two parts, the command that runs it by a seed, and what each run of it comes to.
 struct Row {
+    command: &'static str,
     head: &'static str,
     rest: &'static str,
     entries: usize,
     // A line for each VPE: its number, and the codes of its replies.
     replies: &'static str,
-    // The end of the report.
-    audit: &'static str,
+    // The end of the report: the journal and the audit where there is one journal alone.
+    told: &'static str,
 }
+
+// One VPE derives and revokes.
+const DERIVE_AND_REVOKE: &str = "semper trace 1
+kernels 1
+pe 0 0
+vpe 0 0
+root 0 0 mem 0 4096 7
+call 0 derive 0 1 0 1024 1
+call 0 revoke 0
+end
+";
+
+const DERIVED_AND_REVOKED: &str = "journal 3
+0 call 0 0 derive 0 1 0 1024 1 grant 0.0.1.0 0.0.1.1 reply 0 0
+0 call 0 1 revoke 0 cut 0.0.1.0
+0 resume 0 reply 0 0
+audit
+made 2
+cut 1
+held 0
+end
+";
+
+// VPEs of one kernel ask each other.
+const TWO_VPES_OF_ONE_KERNEL: &str = "semper trace 1
+kernels 1
+pe 0 0
+pe 1 0
+vpe 0 0
+vpe 1 1
+root 0 0 mem 0 4096 7
+deny 1 0
+call 0 delegate 0 1 4
+call 1 obtain 1 0 0
+call 1 obtain 1 0 0
+call 1 obtain 2 1 0
+end
+";
+
+// A delegate between living VPEs is acknowledged.
+const DELEGATE_BETWEEN_KERNELS: &str = "semper trace 1
+kernels 2
+pe 0 0
+pe 1 1
+vpe 0 0
+vpe 1 1
+root 0 0 mem 0 4096 7
+call 0 delegate 0 1 4
+end
+";
+
+const DELEGATED: &str = "journal 12
+0 call 0 0 delegate 0 1 4
+0 flush 1 delegate-req 0.0.1.0 mem 0 4096 7 1 4
+1 fetch 0 delegate-req 0.0.1.0 mem 0 4096 7 1 4
+1 handle 0 delegate-req 0.0.1.0 mem 0 4096 7 1 4
+1 upcall 1 0 yes
+1 flush 0 delegate-prepared 0.0.1.0 1.1.1.0
+0 fetch 1 delegate-prepared 0.0.1.0 1.1.1.0
+0 handle 1 delegate-prepared 0.0.1.0 1.1.1.0
+0 resume 0 grant 0.0.1.0 1.1.1.0 reply 0 0
+0 flush 1 ack 1.1.1.0 yes
+1 fetch 0 ack 1.1.1.0 yes
+1 handle 0 ack 1.1.1.0 yes
+audit
+made 2
+cut 0
+held 2
+key 0.0.1.0 0
+key 1.1.1.0 4
+end
+";
+
+// A kill waits for a reply, and takes what was given.
+const KILL_AFTER_A_REPLY: &str = "semper trace 1
+kernels 1
+pe 0 0
+pe 1 0
+vpe 0 0
+vpe 1 1
+root 0 0 mem 0 4096 7
+kill 0 1
+call 1 obtain 1 0 0
+end
+";
+
+const KILLED: &str = "journal 4
+0 call 1 0 obtain 1 0 0
+0 upcall 0 1 yes grant 0.0.1.0 1.1.1.0
+0 resume 1 reply 1 0
+0 kill 0
+audit
+made 2
+cut 1
+held 0
+end
+";
 
 // Two kernels delegate and obtain in turn what the first one revokes at last. The kernels are
 // declared by a line before this part.
@@ -127,34 +224,75 @@ call 2 revoke 0
 end
 ";
 
-const ROWS: [Row; 8] = [
+// A client writes across the extents of a file, and closes it.
+const ONE_CLIENT: &str = "semper files 1
+kernels 2
+file 0 2
+client 1
+do 1 open 0 0
+do 1 write 0 4090 10
+do 1 close 0
+end
+";
+
+// Two clients share a file, and the first closes it before the other opens it.
+const TWO_CLIENTS: &str = "semper files 1
+kernels 2
+file 3 2
+client 1
+client 2
+do 1 open 0 3
+do 1 share 0 2 5
+do 1 write 0 4000 200
+do 1 close 0
+do 2 open 1 3
+do 2 read 1 0 100
+end
+";
+
+const FORTY_ONE_REPLIES: &str =
+    "0 0 0 0 0 0 0 0 0 0 0 0 0 0 0 0 0 0 0 0 0 0 0 0 0 0 0 0 0 0 0 0 0 0 0 0 0 0 0 0 0 0\n1\n2\n";
+
+const ROWS: [Row; 11] = [
     Row {
+        command: "run",
+        head: "",
+        rest: DERIVE_AND_REVOKE,
+        entries: 3,
+        replies: "0 0 0\n1\n2\n",
+        told: DERIVED_AND_REVOKED,
+    },
+    Row {
+        command: "run",
         head: "",
         rest: TWO_VPES_OF_ONE_KERNEL,
         entries: 8,
         replies: "0 5\n1 0 6 15\n2\n",
-        audit: "audit\nmade 2\ncut 0\nheld 2\nkey 0.0.1.0 0\nkey 1.1.1.0 1\nend\n",
+        told: "audit\nmade 2\ncut 0\nheld 2\nkey 0.0.1.0 0\nkey 1.1.1.0 1\nend\n",
     },
     Row {
+        command: "run",
         head: "",
         rest: DELEGATE_BETWEEN_KERNELS,
         entries: 12,
         replies: "0 0\n1\n2\n",
-        audit: "audit\nmade 2\ncut 0\nheld 2\nkey 0.0.1.0 0\nkey 1.1.1.0 4\nend\n",
+        told: DELEGATED,
     },
     Row {
+        command: "run",
         head: "",
         rest: KILL_AFTER_A_REPLY,
         entries: 4,
         replies: "0\n1 0\n2\n",
-        audit: "audit\nmade 2\ncut 1\nheld 0\nend\n",
+        told: KILLED,
     },
     Row {
+        command: "run",
         head: "",
         rest: CROSSING,
         entries: 19,
         replies: "0 0 15\n1 0\n2\n",
-        audit: "audit
+        told: "audit
 made 4
 cut 0
 held 4
@@ -166,18 +304,20 @@ end
 ",
     },
     Row {
+        command: "run",
         head: "semper trace 1\nkernels 2\n",
         rest: KILL_OF_CHAIN,
         entries: 37,
         replies: "0 0 0\n1\n2\n",
-        audit: "audit\nmade 3\ncut 2\nheld 0\nend\n",
+        told: "audit\nmade 3\ncut 2\nheld 0\nend\n",
     },
     Row {
+        command: "run",
         head: "",
         rest: SESSIONS_AND_OFFERS,
         entries: 76,
         replies: "0\n1 0 0 0 0 0 0 0 0 0 0 0 0 0 0\n2 0 0\n",
-        audit: "audit
+        told: "audit
 made 9
 cut 5
 held 4
@@ -189,67 +329,106 @@ end
 ",
     },
     Row {
+        command: "run",
         head: "semper trace 1\nkernels 2\n",
         rest: CHAIN_OF_FORTY_ONE,
         entries: 662,
         replies: FORTY_ONE_REPLIES,
-        audit: "audit\nmade 41\ncut 1\nheld 0\nend\n",
+        told: "audit\nmade 41\ncut 1\nheld 0\nend\n",
     },
     Row {
+        command: "run",
         head: "semper trace 2\nkernels 2\nwindow 1\n",
         rest: CHAIN_OF_FORTY_ONE,
         entries: 662,
         replies: FORTY_ONE_REPLIES,
-        audit: "audit\nmade 41\ncut 1\nheld 0\nend\n",
+        told: "audit\nmade 41\ncut 1\nheld 0\nend\n",
+    },
+    Row {
+        command: "files",
+        head: "",
+        rest: ONE_CLIENT,
+        entries: 41,
+        replies: "0\n1 0 0 0 0 0 0 0 0 0\n2\n",
+        told: "audit
+made 6
+cut 2
+held 4
+key 0.0.1.1 1
+key 0.0.1.2 2
+key 0.0.4.0 0
+key 1.1.5.0 0
+end
+",
+    },
+    Row {
+        command: "files",
+        head: "",
+        rest: TWO_CLIENTS,
+        entries: 88,
+        replies: "0\n1 0 0 0 0 0 0 0 0 0 0 0\n2 0 0 0 0 0\n",
+        told: "audit
+made 11
+cut 2
+held 7
+key 0.0.1.1 13
+key 0.0.1.2 14
+key 0.0.4.0 0
+key 1.1.5.0 0
+key 2.2.1.1 5
+key 2.2.1.2 6
+key 2.2.5.0 0
+end
+",
     },
 ];
 
-const FORTY_ONE_REPLIES: &str =
-    "0 0 0 0 0 0 0 0 0 0 0 0 0 0 0 0 0 0 0 0 0 0 0 0 0 0 0 0 0 0 0 0 0 0 0 0 0 0 0 0 0 0\n1\n2\n";
-
-// The replies of the journal, a line for each VPE.
-fn replies(alloc: Global, journal: &Journal) -> Result<String, AllocError> {
-    let mut text = String::new(alloc);
+// Asserts what these words and the text of the row come to.
+fn comes_to<R: Threads + Wait + Sync + Abort>(
+    rt: &R,
+    alloc: Global,
+    line: &str,
+    row: &Row,
+) -> Result<(), Fail> {
+    let text = format!(in alloc; "{}{}", row.head, row.rest)?;
+    let ending = ended(rt, alloc, line, text.as_bytes(), &OpenGate)?;
+    assert_eq!(rt; ending.status, Status::Done);
+    assert_eq!(rt; ending.journal.len(), row.entries);
+    assert!(rt; ending.written.ends_with(row.told.as_bytes()));
+    let mut replies = String::new(alloc);
     for vpe in 0..VPES {
         let number = format!(in alloc; "{vpe}")?;
-        text.push_str(number.as_str())?;
-        for entry in journal.as_slice() {
+        replies.push_str(number.as_str())?;
+        for entry in ending.journal.as_slice() {
             if let Some(reply) = entry.reply
                 && reply.vpe == vpe
             {
                 let code = format!(in alloc; " {}", reply.code)?;
-                text.push_str(code.as_str())?;
+                replies.push_str(code.as_str())?;
             }
         }
-        text.push_str("\n")?;
+        replies.push_str("\n")?;
     }
-    Ok(text)
-}
-
-// Asserts what the run of the trace by that seed comes to.
-fn comes_to<R: Threads + Wait + Sync + Abort>(
-    rt: &R,
-    alloc: Global,
-    row: &Row,
-    trace: &str,
-    seed: u64,
-) -> Result<(), Fail> {
-    let line = format!(in alloc; "run {seed}")?;
-    let ending = ended(rt, alloc, line.as_str(), trace.as_bytes(), &OpenGate)?;
-    assert_eq!(rt; ending.status, Status::Done);
-    assert_eq!(rt; ending.journal.len(), row.entries);
-    let told = replies(alloc, &ending.journal)?;
-    assert_eq!(rt; told.as_str(), row.replies);
-    assert!(rt; ending.written.ends_with(row.audit.as_bytes()));
+    assert_eq!(rt; replies.as_str(), row.replies);
     Ok(())
 }
 
 #[test]
 fn runs_come_to_the_same_by_a_hundred_seeds(rt: HostRuntime) -> Result<(), Fail> {
     for row in &ROWS {
-        let trace = format!(in rt.alloc(); "{}{}", row.head, row.rest)?;
         for seed in 0..SEEDS {
-            comes_to(&rt, rt.alloc(), row, trace.as_str(), seed)?;
+            let line = format!(in rt.alloc(); "{} {seed}", row.command)?;
+            comes_to(&rt, rt.alloc(), line.as_str(), row)?;
+        }
+    }
+    Ok(())
+}
+
+#[test]
+fn runs_in_threads_come_to_the_same(rt: HostRuntime) -> Result<(), Fail> {
+    for row in &ROWS {
+        if row.command == "run" {
+            comes_to(&rt, rt.alloc(), "threads 0", row)?;
         }
     }
     Ok(())

@@ -1,9 +1,13 @@
-//! Tests of the stores of capabilities and of jobs; nothing that runs.
+//! Tests of keys, of what a kernel stores, and of what a seed draws; nothing that runs.
 #![tactic(auto)]
 
 #[cfg(test)]
 mod capabilities;
 #[cfg(test)]
+mod draws;
+#[cfg(test)]
 mod jobs;
 #[cfg(test)]
-mod places_of_capabilities;
+mod keys;
+#[cfg(test)]
+mod parks;

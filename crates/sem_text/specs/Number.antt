@@ -1,5 +1,5 @@
 -- Numbers in a text ("Lines and words" in docs/texts.md).
-use Rattle.std.specs.Prelude.{ℕ, ◌+◌, ◌-◌, ◌*◌, ◌==◌, nat_lt, nat_le, Bool, false, not, ◌&&◌, List, [], ◌∷◌, fold, Result, Ok, Err, if◌then◌else◌}
+use Rattle.std.specs.Prelude.{ℕ, ◌+◌, ◌-◌, ◌*◌, ◌/◌, ◌%◌, ◌==◌, nat_lt, nat_le, Bool, false, not, ◌&&◌, List, [], ◌∷◌, fold, Result, Ok, Err, if◌then◌else◌}
 use Rattle.std.specs.List.{list_all}
 use Rattle.sem_text.specs.declared.numbers.NumberFault.{NumberFault}
 use Rattle.sem_text.specs.declared.numbers.NumberFault.TheVariants.{Bad, Range}
@@ -20,3 +20,7 @@ number_value word = fold (λ n b. n * 10 + (b - 48)) 0 word
 -- the number that a word is, if it is one and at most so great
 abbrev pub number_of : List ℕ → ℕ → Result ℕ NumberFault
 number_of word most = if not (is_number word) then Err Bad else (if nat_lt most (number_value word) then Err Range else Ok (number_value word))
+
+-- the last three digits of a number, as text
+abbrev pub three_digits : ℕ → List ℕ
+three_digits n = (48 + n / 100) ∷ (48 + n / 10 % 10) ∷ (48 + n % 10) ∷ []

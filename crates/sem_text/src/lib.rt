@@ -3,8 +3,6 @@
 
 mod lines;
 mod numbers;
-#[cfg(test)]
-mod tests;
 
 pub use lines::{line_at, word_at};
-pub use numbers::{NumberFault, number, push_number};
+pub use numbers::{NumberFault, number, push_number, push_number_behind};

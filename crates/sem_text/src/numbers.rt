@@ -1,6 +1,7 @@
-ghost use Rattle.std.specs.Prelude.{◌≡◌, ◌+◌, ◌*◌, ◌<◌, ◌++◌, nat_lt, decimal, OnOk, OnErr, Ok, Err, if◌then◌else◌};
+ghost use Rattle.std.specs.Prelude.{◌≡◌, ◌+◌, ◌*◌, ◌<◌, ◌≤◌, [], ◌∷◌, ◌++◌, nat_lt, decimal, OnOk, OnErr, Ok, Err, if◌then◌else◌};
 ghost use Rattle.std.specs.List.{list_all};
-ghost use Rattle.sem_text.specs.Number.{number_of, is_digit, is_number as is_number_lem};
+ghost use Rattle.std.specs.Vec.{vec_len, vec_capacity};
+ghost use Rattle.sem_text.specs.Number.{number_of, is_digit, three_digits, is_number as is_number_lem};
 ghost use Rattle.sem_text.specs.declared.numbers.NumberFault.TheVariants.{Range};
 
 use itoa::Buffer;
@@ -64,9 +65,150 @@ fn with_digit(value: u64, digit: u8, most: u64) -> Result<u64, NumberFault>
 }
 
 /// Appends the decimal text of the number. After want of memory `out` is as before.
+// Most numbers have one digit, and their way is inlined.
+#[inline(always)]
 pub fn push_number(out: &mut Vec<u8>, value: u64) -> Result<(), OutOfMemory>
     ensures ok { OnOk result (out.new.items ≡ out.old.items ++ decimal value) }
     ensures err { OnErr result (out.new.items ≡ out.old.items) }
 {
+    if value < 10 {
+        out.reserve(1)?;
+        put_digit(out, value as u8);
+        return Ok(());
+    }
+    push_digits(out, value)
+}
+
+/// Appends the byte, and the decimal text of the number behind it. After want of memory a part may
+/// be there.
+#[inline(always)]
+pub fn push_number_behind(out: &mut Vec<u8>, byte: u8, value: u64) -> Result<(), OutOfMemory>
+    ensures ok { OnOk result (out.new.items ≡ out.old.items ++ byte ∷ decimal value) }
+{
+    if value < 10 {
+        out.reserve(2)?;
+        out.push_reserved(byte);
+        put_digit(out, value as u8);
+        return Ok(());
+    }
+    push_digits_behind(out, byte, value)
+}
+
+// Appends the decimal text of the number.
+#[inline(never)]
+fn push_digits(out: &mut Vec<u8>, value: u64) -> Result<(), OutOfMemory>
+    ensures ok { OnOk result (out.new.items ≡ out.old.items ++ decimal value) }
+    ensures err { OnErr result (out.new.items ≡ out.old.items) }
+{
+    if value < 1000 {
+        out.reserve(3)?;
+        put_three_digits(out, value as u32);
+        return Ok(());
+    }
+    push_long(out, value)
+}
+
+// Appends the byte, and the decimal text of the number behind it.
+#[inline(never)]
+fn push_digits_behind(out: &mut Vec<u8>, byte: u8, value: u64) -> Result<(), OutOfMemory>
+    ensures ok { OnOk result (out.new.items ≡ out.old.items ++ byte ∷ decimal value) }
+{
+    if value < 1000 {
+        out.reserve(4)?;
+        out.push_reserved(byte);
+        put_three_digits(out, value as u32);
+        return Ok(());
+    }
+    out.push(byte)?;
+    push_long(out, value)
+}
+
+// Appends the decimal text of the number. Up to nine digits need no buffer.
+#[inline(never)]
+fn push_long(out: &mut Vec<u8>, value: u64) -> Result<(), OutOfMemory>
+    ensures ok { OnOk result (out.new.items ≡ out.old.items ++ decimal value) }
+    ensures err { OnErr result (out.new.items ≡ out.old.items) }
+{
+    if value < 1_000_000_000 {
+        out.reserve(9)?;
+        put_digits(out, value as u32);
+        return Ok(());
+    }
     out.extend_from_slice(Buffer::new().format(value).as_bytes())
+}
+
+// Appends the decimal text of a number below 1,000,000,000, for which there is room.
+fn put_digits(out: &mut Vec<u8>, value: u32)
+    requires few { value < 1000000000 }
+    requires room { vec_len out.old + 9 ≤ vec_capacity out.old }
+    ensures { out.new.items ≡ out.old.items ++ decimal value }
+{
+    if value < 1000 {
+        put_three_digits(out, value);
+    } else if value < 1_000_000 {
+        put_three_digits(out, value / 1000);
+        put_last_digits(out, value % 1000);
+    } else {
+        put_three_digits(out, value / 1_000_000);
+        put_last_digits(out, value / 1000 % 1000);
+        put_last_digits(out, value % 1000);
+    }
+}
+
+// Appends the last three digits of a number, for which there is room.
+fn put_last_digits(out: &mut Vec<u8>, value: u32)
+    requires few { value < 1000 }
+    requires room { vec_len out.old + 3 ≤ vec_capacity out.old }
+    ensures items { out.new.items ≡ out.old.items ++ three_digits value }
+    ensures len { vec_len out.new ≤ vec_len out.old + 3 }
+    ensures capacity { vec_capacity out.new ≡ vec_capacity out.old }
+{
+    put_digit(out, (value / 100) as u8);
+    put_digit(out, (value / 10 % 10) as u8);
+    put_digit(out, (value % 10) as u8);
+}
+
+// Appends the decimal text of a number below 1,000, for which there is room.
+#[inline(always)]
+fn put_three_digits(out: &mut Vec<u8>, value: u32)
+    requires few { value < 1000 }
+    requires room { vec_len out.old + 3 ≤ vec_capacity out.old }
+    ensures items { out.new.items ≡ out.old.items ++ decimal value }
+    ensures len { vec_len out.new ≤ vec_len out.old + 3 }
+    ensures capacity { vec_capacity out.new ≡ vec_capacity out.old }
+{
+    if value < 10 {
+        put_digit(out, value as u8);
+    } else {
+        put_two_digits(out, value / 10);
+        put_digit(out, (value % 10) as u8);
+    }
+}
+
+// Appends the decimal text of a number below 100, for which there is room.
+fn put_two_digits(out: &mut Vec<u8>, value: u32)
+    requires few { value < 100 }
+    requires room { vec_len out.old + 2 ≤ vec_capacity out.old }
+    ensures items { out.new.items ≡ out.old.items ++ decimal value }
+    ensures len { vec_len out.new ≤ vec_len out.old + 2 }
+    ensures capacity { vec_capacity out.new ≡ vec_capacity out.old }
+{
+    if value < 10 {
+        put_digit(out, value as u8);
+    } else {
+        put_digit(out, (value / 10) as u8);
+        put_digit(out, (value % 10) as u8);
+    }
+}
+
+// Appends a digit, for which there is room.
+fn put_digit(out: &mut Vec<u8>, digit: u8)
+    requires digit { digit < 10 }
+    requires room { vec_len out.old < vec_capacity out.old }
+    ensures items { out.new.items ≡ out.old.items ++ decimal digit }
+    ensures byte { out.new.items ≡ out.old.items ++ (48 + digit) ∷ [] }
+    ensures len { vec_len out.new ≡ vec_len out.old + 1 }
+    ensures capacity { vec_capacity out.new ≡ vec_capacity out.old }
+{
+    out.push_reserved(b'0' + digit);
 }

@@ -1,24 +1,11 @@
+//! The words of a command line, and the texts of one line.
+
 use sem_cli::{
     Command, Question, Status, command, ok, push_differing, push_going_on, push_summary, usage,
 };
 use sem_key::{Key, Kind};
 use sem_msg::{Act, Detail, Entry, Event, Reply};
-use std::process::Abort;
 use std::test::Fail;
-
-// The words of a line, parted by blanks.
-fn words(rt: &HostRuntime, line: &str) -> Result<Vec<String>, Fail> {
-    let mut words = Vec::new(rt.alloc());
-    for word in line.split(' ') {
-        words.push(String::from_str(rt.alloc(), word)?)?;
-    }
-    Ok(words)
-}
-
-// Asserts which command the words are.
-fn check_command(rt: &impl Abort, words: &[String], want: Option<Command>) {
-    assert_eq!(rt; command(words), want);
-}
 
 // The last key in rising key order.
 const LAST: Key = Key {
@@ -28,133 +15,135 @@ const LAST: Key = Key {
     number: 4095,
 };
 
+// Lines, parted by blanks, and which command the words are, if any.
+const LINES: [(&str, Option<Command>); 47] = [
+    (
+        "check",
+        Some(Command::Ask {
+            question: Question::Check,
+        }),
+    ),
+    (
+        "contents",
+        Some(Command::Ask {
+            question: Question::Contents,
+        }),
+    ),
+    (
+        "query holder 127.127.5.4095 18446744073709551615",
+        Some(Command::Ask {
+            question: Question::Holder {
+                key: LAST,
+                count: u64::MAX,
+            },
+        }),
+    ),
+    (
+        "query path 127.127.5.4095",
+        Some(Command::Ask {
+            question: Question::Path { key: LAST },
+        }),
+    ),
+    (
+        "query denied 3",
+        Some(Command::Ask {
+            question: Question::Denied { entry: 3 },
+        }),
+    ),
+    ("run 0", Some(Command::Run { seed: 0 })),
+    (
+        "run 18446744073709551615",
+        Some(Command::Run { seed: u64::MAX }),
+    ),
+    ("threads 7", Some(Command::Threads { seed: 7 })),
+    ("files 7", Some(Command::Files { seed: 7 })),
+    (
+        "gen 0 64 312",
+        Some(Command::Generate {
+            seed: 0,
+            vpes: 64,
+            calls: 312,
+        }),
+    ),
+    (
+        "gen 0 128 156",
+        Some(Command::Generate {
+            seed: 0,
+            vpes: 128,
+            calls: 156,
+        }),
+    ),
+    (
+        "soak 9 1 20000",
+        Some(Command::Soak {
+            seed: 9,
+            vpes: 1,
+            calls: 20000,
+        }),
+    ),
+    (
+        "soak 9 1 0",
+        Some(Command::Soak {
+            seed: 9,
+            vpes: 1,
+            calls: 0,
+        }),
+    ),
+    ("", None),
+    ("check ", None),
+    ("check 0", None),
+    ("Check", None),
+    ("walk 0", None),
+    ("run", None),
+    ("run ", None),
+    ("run 01", None),
+    ("run -1", None),
+    ("run 0 0", None),
+    ("run 18446744073709551616", None),
+    ("threads", None),
+    ("gen 0 1", None),
+    ("gen 0 0 1", None),
+    ("gen 0 129 1", None),
+    ("gen 0 64 313", None),
+    ("gen 0 1 20001", None),
+    ("gen 0 1 18446744073709551615", None),
+    ("gen 01 1 1", None),
+    ("soak 0 1 1 1", None),
+    ("files", None),
+    ("files 0 1", None),
+    ("query", None),
+    ("query path", None),
+    ("query path 0.0.1", None),
+    ("query path 0.0.6.0", None),
+    ("query path 128.0.1.0", None),
+    ("query path 0.0.1.00", None),
+    ("query denied -1", None),
+    ("query denied 18446744073709551616", None),
+    ("query holder 0.0.1.0", None),
+    ("query path 0.0.1.0 4", None),
+    ("query at 0.0.1.0 4", None),
+    ("Query denied 3", None),
+];
+
 #[test]
-fn ten_forms_are_commands(rt: HostRuntime) -> Result<(), Fail> {
-    for (line, want) in [
-        (
-            "check",
-            Command::Ask {
-                question: Question::Check,
-            },
-        ),
-        (
-            "contents",
-            Command::Ask {
-                question: Question::Contents,
-            },
-        ),
-        (
-            "query holder 127.127.5.4095 18446744073709551615",
-            Command::Ask {
-                question: Question::Holder {
-                    key: LAST,
-                    count: u64::MAX,
-                },
-            },
-        ),
-        (
-            "query path 127.127.5.4095",
-            Command::Ask {
-                question: Question::Path { key: LAST },
-            },
-        ),
-        (
-            "query denied 3",
-            Command::Ask {
-                question: Question::Denied { entry: 3 },
-            },
-        ),
-        ("run 0", Command::Run { seed: 0 }),
-        ("run 18446744073709551615", Command::Run { seed: u64::MAX }),
-        ("threads 7", Command::Threads { seed: 7 }),
-        ("files 7", Command::Files { seed: 7 }),
-        (
-            "gen 0 64 312",
-            Command::Generate {
-                seed: 0,
-                vpes: 64,
-                calls: 312,
-            },
-        ),
-        (
-            "gen 0 128 156",
-            Command::Generate {
-                seed: 0,
-                vpes: 128,
-                calls: 156,
-            },
-        ),
-        (
-            "soak 9 1 20000",
-            Command::Soak {
-                seed: 9,
-                vpes: 1,
-                calls: 20000,
-            },
-        ),
-        (
-            "soak 9 1 0",
-            Command::Soak {
-                seed: 9,
-                vpes: 1,
-                calls: 0,
-            },
-        ),
-    ] {
-        check_command(&rt, words(&rt, line)?.as_slice(), Some(want));
+fn ten_forms_are_commands_and_other_words_are_none(rt: HostRuntime) -> Result<(), Fail> {
+    for (line, want) in LINES {
+        let mut words = Vec::new(rt.alloc());
+        for word in line.split(' ') {
+            words.push(String::from_str(rt.alloc(), word)?)?;
+        }
+        assert_eq!(rt; command(&words), want, "{line:?}");
     }
+    assert_eq!(rt; command(&[]), None);
     Ok(())
 }
 
 #[test]
-fn other_words_are_no_command(rt: HostRuntime) -> Result<(), Fail> {
-    for line in [
-        "",
-        "check ",
-        "check 0",
-        "Check",
-        "walk 0",
-        "run",
-        "run ",
-        "run 01",
-        "run -1",
-        "run 0 0",
-        "run 18446744073709551616",
-        "threads",
-        "gen 0 1",
-        "gen 0 0 1",
-        "gen 0 129 1",
-        "gen 0 64 313",
-        "gen 0 1 20001",
-        "gen 0 1 18446744073709551615",
-        "gen 01 1 1",
-        "soak 0 1 1 1",
-        "files",
-        "files 0 1",
-        "query",
-        "query path",
-        "query path 0.0.1",
-        "query path 0.0.6.0",
-        "query path 128.0.1.0",
-        "query path 0.0.1.00",
-        "query denied -1",
-        "query denied 18446744073709551616",
-        "query holder 0.0.1.0",
-        "query path 0.0.1.0 4",
-        "query at 0.0.1.0 4",
-        "Query denied 3",
-    ] {
-        check_command(&rt, words(&rt, line)?.as_slice(), None);
-    }
-    check_command(&rt, &[], None);
-    Ok(())
-}
-
-#[test]
-fn each_status_has_its_number(rt: HostRuntime) {
+fn statuses_have_numbers_and_messages_are_whole_lines(rt: HostRuntime) -> Result<(), Fail> {
     for (status, want) in [
         (Status::Done, 0),
         (Status::Usage, 1),
+        (Status::TraceRefused, 2),
         (Status::ReadFault, 3),
         (Status::WriteFault, 4),
         (Status::Memory, 5),
@@ -162,20 +151,11 @@ fn each_status_has_its_number(rt: HostRuntime) {
     ] {
         assert_eq!(rt; status.number(), want, "of {status:?}");
     }
-}
-
-#[test]
-fn messages_are_whole_lines(rt: HostRuntime) -> Result<(), Fail> {
     assert_eq!(rt; ok(), b"ok\n".as_slice());
     let forms = "run SEED | threads SEED | check | gen SEED VPES CALLS | soak SEED VPES CALLS";
     let asked = "contents | files SEED | query holder KEY N | query path KEY | query denied N";
     let line = format!(in rt.alloc(); "usage: semper {forms} | {asked}\n")?;
     assert_eq!(rt; usage(), line.as_bytes());
-    Ok(())
-}
-
-#[test]
-fn a_summary_is_five_lines(rt: HostRuntime) -> Result<(), Fail> {
     let mut out = Vec::new(rt.alloc());
     push_summary(&mut out, 8, 800, 799, 3)?;
     let lines = "soak 1\nvpes 8\ncalls 800\nanswered 799\nstray 3\n";
@@ -183,28 +163,35 @@ fn a_summary_is_five_lines(rt: HostRuntime) -> Result<(), Fail> {
     Ok(())
 }
 
-// The entry of a call that goes on and is answered with a code.
-fn resumed(vpe: u16, code: u8) -> Entry {
-    Entry {
-        event: Event {
-            kernel: 0,
-            act: Act::Resume { vpe },
-        },
-        detail: Detail::Nothing,
-        grant: None,
-        cut: None,
-        reply: Some(Reply { vpe, code }),
-    }
-}
+// The lines that refuse a report for these replies.
+const REFUSED: &str = "\
+report refused: entry 2: entered 0 resume 0 reply 0 3; replayed 0 resume 0 reply 0 0
+report refused: entry 0: entered 0 resume 1 reply 1 0; replayed not enabled
+report refused: entry 7: entered end; replayed 0 resume 5 reply 5 15
+";
 
 #[test]
 fn a_refused_report_is_told_by_its_entry(rt: HostRuntime) -> Result<(), Fail> {
+    let mut entries = Vec::new(rt.alloc());
+    for (vpe, code) in [(0, 3), (0, 0), (1, 0), (5, 15)] {
+        entries.push(Entry {
+            event: Event {
+                kernel: 0,
+                act: Act::Resume { vpe },
+            },
+            detail: Detail::Nothing,
+            grant: None,
+            cut: None,
+            reply: Some(Reply { vpe, code }),
+        })?;
+    }
+    let [entered, replayed, other, next] = entries.as_slice() else {
+        return Err(Fail::new("four entries"));
+    };
     let mut out = Vec::new(rt.alloc());
-    push_differing(&mut out, 2, &resumed(0, 3), &Some(resumed(0, 0)))?;
-    push_differing(&mut out, 0, &resumed(1, 0), &None)?;
-    push_going_on(&mut out, 7, &resumed(5, 15))?;
-    let want =
-        "report refused: entry 2: entered 0 resume 0 reply 0 3; replayed 0 resume 0 reply 0 0\nreport refused: entry 0: entered 0 resume 1 reply 1 0; replayed not enabled\nreport refused: entry 7: entered end; replayed 0 resume 5 reply 5 15\n";
-    assert_eq!(rt; out.as_slice(), want.as_bytes());
+    push_differing(&mut out, 2, entered, &Some(*replayed))?;
+    push_differing(&mut out, 0, other, &None)?;
+    push_going_on(&mut out, 7, next)?;
+    assert_eq!(rt; out.as_slice(), REFUSED.as_bytes());
     Ok(())
 }

@@ -1,24 +1,26 @@
-//! Tests of traces, entries and reports, read and printed, and of the words of a command line;
-//! nothing that runs.
+//! Tests of traces, entries, reports and records, read and printed, and of the words of a command
+//! line; nothing that runs.
 #![tactic(auto)]
 
 #[cfg(test)]
 mod commands;
 #[cfg(test)]
-mod cuts;
+mod entries;
+#[cfg(test)]
+mod faults;
+#[cfg(test)]
+mod file_commands;
 #[cfg(test)]
 mod long_reports;
 #[cfg(test)]
-mod printed_entries;
+mod message_records;
 #[cfg(test)]
-mod printed_reports;
+mod records;
 #[cfg(test)]
-mod printed_traces;
+mod reports;
 #[cfg(test)]
-mod read_entries;
+mod traces;
 #[cfg(test)]
-mod read_reports;
+mod words_of_lines;
 #[cfg(test)]
-mod read_traces;
-#[cfg(test)]
-mod trace_forms;
+mod wrong_records;

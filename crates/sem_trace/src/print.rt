@@ -14,6 +14,7 @@ use sem_msg::{Calls, Denies, Kills, Offers, Root, Roots, Setup, Vpes0};
 use std::alloc::Global;
 
 /// Appends the first words of a line: the name, and the numbers, each behind a blank.
+#[inline(always)]
 pub fn push_start(out: &mut Vec<u8>, name: &[u8], values: &[u64]) -> Result<(), OutOfMemory>
     ensures ok { OnOk result (out.new.items ≡ out.old.items ++ (name.now ++ behind_blanks (map decimal values.now))) }
 {
@@ -22,6 +23,7 @@ pub fn push_start(out: &mut Vec<u8>, name: &[u8], values: &[u64]) -> Result<(), 
 }
 
 /// Appends a line: the name and the numbers.
+#[inline(always)]
 pub fn push_line(out: &mut Vec<u8>, name: &[u8], values: &[u64]) -> Result<(), OutOfMemory>
     ensures ok { OnOk result (out.new.items ≡ out.old.items ++ line (name.now ∷ map decimal values.now)) }
 {

@@ -1,13 +1,15 @@
 // Words of a line. After want of memory each of these functions may have appended a part.
 ghost use Rattle.std.specs.Prelude.{◌≡◌, ◌∷◌, ◌++◌, map, decimal, OnOk};
+ghost use Rattle.sem_key.specs.KeyName.{kind_number};
 ghost use Rattle.sem_text.specs.Lines.{behind_blanks};
 ghost use Rattle.sem_trace.specs.Words.{key_word, place_word, object_words, call_words};
 
 use sem_key::{Key, Object, OutOfMemory, Place};
 use sem_msg::Call;
-use sem_text::push_number;
+use sem_text::{push_number, push_number_behind};
 
 /// Appends the word behind a blank.
+#[inline(always)]
 pub fn push_word(out: &mut Vec<u8>, word: &[u8]) -> Result<(), OutOfMemory>
     ensures ok { OnOk result (out.new.items ≡ out.old.items ++ 32 ∷ word.now) }
 {
@@ -16,14 +18,15 @@ pub fn push_word(out: &mut Vec<u8>, word: &[u8]) -> Result<(), OutOfMemory>
 }
 
 /// Appends the number behind a blank.
+#[inline(always)]
 pub fn push_number_word(out: &mut Vec<u8>, value: u64) -> Result<(), OutOfMemory>
     ensures ok { OnOk result (out.new.items ≡ out.old.items ++ 32 ∷ decimal value) }
 {
-    out.push(b' ')?;
-    push_number(out, value)
+    push_number_behind(out, b' ', value)
 }
 
 /// Appends the numbers, each behind a blank.
+#[inline(always)]
 pub fn push_numbers(out: &mut Vec<u8>, values: &[u64]) -> Result<(), OutOfMemory>
     ensures ok { OnOk result (out.new.items ≡ out.old.items ++ behind_blanks (map decimal values.now)) }
 {
@@ -34,6 +37,7 @@ pub fn push_numbers(out: &mut Vec<u8>, values: &[u64]) -> Result<(), OutOfMemory
 }
 
 /// Appends the name and then the numbers, each behind a blank.
+#[inline(always)]
 pub fn push_named(out: &mut Vec<u8>, name: &[u8], values: &[u64]) -> Result<(), OutOfMemory>
     ensures ok { OnOk result (out.new.items ≡ out.old.items ++ behind_blanks (name.now ∷ map decimal values.now)) }
 {
@@ -42,11 +46,21 @@ pub fn push_named(out: &mut Vec<u8>, name: &[u8], values: &[u64]) -> Result<(), 
 }
 
 // Appends the number behind a point.
+#[inline(always)]
 fn push_part(out: &mut Vec<u8>, value: u64) -> Result<(), OutOfMemory>
     ensures ok { OnOk result (out.new.items ≡ out.old.items ++ 46 ∷ decimal value) }
 {
-    out.push(b'.')?;
-    push_number(out, value)
+    push_number_behind(out, b'.', value)
+}
+
+// Appends what follows the PE of a key.
+fn push_key_parts(out: &mut Vec<u8>, key: &Key) -> Result<(), OutOfMemory>
+    ensures ok { OnOk result (out.new.items ≡ out.old.items
+        ++ 46 ∷ decimal key.now.vpe ++ 46 ∷ decimal (kind_number key.now.kind) ++ 46 ∷ decimal key.now.number) }
+{
+    push_part(out, u64::from(key.vpe))?;
+    push_part(out, u64::from(key.kind.number()))?;
+    push_part(out, u64::from(key.number))
 }
 
 /// Appends the key.
@@ -54,17 +68,24 @@ pub fn push_key(out: &mut Vec<u8>, key: &Key) -> Result<(), OutOfMemory>
     ensures ok { OnOk result (out.new.items ≡ out.old.items ++ key_word key.now) }
 {
     push_number(out, u64::from(key.pe))?;
-    push_part(out, u64::from(key.vpe))?;
-    push_part(out, u64::from(key.kind.number()))?;
-    push_part(out, u64::from(key.number))
+    push_key_parts(out, key)
 }
 
 /// Appends the key behind a blank.
 pub fn push_key_word(out: &mut Vec<u8>, key: &Key) -> Result<(), OutOfMemory>
     ensures ok { OnOk result (out.new.items ≡ out.old.items ++ 32 ∷ key_word key.now) }
 {
-    out.push(b' ')?;
-    push_key(out, key)
+    push_number_word(out, u64::from(key.pe))?;
+    push_key_parts(out, key)
+}
+
+// Appends what follows the PE of a place.
+fn push_place_parts(out: &mut Vec<u8>, place: &Place) -> Result<(), OutOfMemory>
+    ensures ok { OnOk result (out.new.items ≡ out.old.items
+        ++ 46 ∷ decimal place.now.vpe ++ 46 ∷ decimal place.now.number) }
+{
+    push_part(out, u64::from(place.vpe))?;
+    push_part(out, u64::from(place.number))
 }
 
 /// Appends the place.
@@ -72,16 +93,15 @@ pub fn push_place(out: &mut Vec<u8>, place: &Place) -> Result<(), OutOfMemory>
     ensures ok { OnOk result (out.new.items ≡ out.old.items ++ place_word place.now) }
 {
     push_number(out, u64::from(place.pe))?;
-    push_part(out, u64::from(place.vpe))?;
-    push_part(out, u64::from(place.number))
+    push_place_parts(out, place)
 }
 
 /// Appends the place behind a blank.
 pub fn push_place_word(out: &mut Vec<u8>, place: &Place) -> Result<(), OutOfMemory>
     ensures ok { OnOk result (out.new.items ≡ out.old.items ++ 32 ∷ place_word place.now) }
 {
-    out.push(b' ')?;
-    push_place(out, place)
+    push_number_word(out, u64::from(place.pe))?;
+    push_place_parts(out, place)
 }
 
 /// Appends the words of the object, each behind a blank.

@@ -12,4 +12,4 @@ mod walks;
 
 pub use rows::{TreeRow, tree_rows};
 pub use takings::takes;
-pub use trees::{KEYS, TreeRequest, tree};
+pub use trees::{KEYS, TreeForm, TreeRequest, tree};

@@ -2,7 +2,7 @@
 use crate::nodes::nodes_of;
 use crate::rows::tree_rows;
 use crate::walks::Walk;
-use sem_draw::{Answer, Ending, Node, Picture, tree_as_svg, tree_as_text};
+use sem_draw::{Answer, Ending, Node, Picture, tree_as_dot, tree_as_svg, tree_as_text};
 use sem_hint::no_report_text;
 use sem_key::OutOfMemory;
 use sem_msg::{Entry, Journal, Setup};
@@ -13,10 +13,18 @@ use std::alloc::Global;
 /// The most keys of a forest.
 pub const KEYS: usize = 10_000;
 
+/// How a forest is written.
+#[derive(Clone, Copy, Debug, PartialEq, Eq)]
+pub enum TreeForm {
+    Drawn { picture: Picture },
+    /// As a graph in the language of Graphviz.
+    Dot,
+}
+
 /// What is asked for: the forest after the first `at` entries, or after all of them.
 #[derive(Clone, Copy, Debug)]
 pub struct TreeRequest {
-    pub picture: Picture,
+    pub form: TreeForm,
     pub at: Option<u64>,
 }
 
@@ -63,7 +71,7 @@ fn tree_of(
     }
     let rows = tree_rows(alloc, setup, journal, count)?;
     let nodes = nodes_of(alloc, setup, rows.as_slice(), entries, &walk)?;
-    Ok(Answer::done(alloc, draw(alloc, nodes.as_slice(), request.picture)?))
+    Ok(Answer::done(alloc, draw(alloc, nodes.as_slice(), request.form)?))
 }
 
 // How many keys the setup and the entries make.
@@ -92,7 +100,10 @@ fn first_wrong(
 
 // The forest, drawn. Below the text stands how to ask for the life of a key; in an SVG picture each
 // key tells it.
-fn draw(alloc: Global, nodes: &[Node], picture: Picture) -> Result<String, OutOfMemory> {
+fn draw(alloc: Global, nodes: &[Node], form: TreeForm) -> Result<String, OutOfMemory> {
+    let TreeForm::Drawn { picture } = form else {
+        return tree_as_dot(alloc, nodes);
+    };
     let mut text = match picture {
         Picture::Svg => return tree_as_svg(alloc, nodes),
         Picture::Boxes => tree_as_text(alloc, nodes, false)?,

@@ -1,9 +1,8 @@
 // What is asked for, and what is answered.
-use crate::charts::{Range, chart_of};
-use crate::lanes::Shown;
 use crate::stats::stats_of;
 use crate::stats_json::stats_as_json;
 use crate::stats_text::stats_as_text;
+use sem_chart::{Range, Shown, chart_of};
 use sem_draw::{Answer, Chart, Ending, Picture, chart_as_svg, chart_as_text, fits};
 use sem_hint::no_report_text;
 use sem_key::OutOfMemory;
@@ -111,7 +110,11 @@ fn range_of(
     let from = limits.0.unwrap_or(0);
     let last = limits.1.unwrap_or(u64::MAX);
     let to = last.saturating_add(1).min(entries as u64);
-    if from > last || from > to {
+    if from > last {
+        let text = format!(in alloc; "--from {from} is behind --to {last}\n")?;
+        return Ok(Err(text));
+    }
+    if from > to {
         let text = format!(in alloc;
             "there are no such entries: the report has {entries}, from 0 on\n"
         )?;

@@ -1,6 +1,6 @@
 // What is counted of a report.
-use crate::counts::{count_between, count_code, count_event, count_message};
 use crate::queues::{LinkQueues, ask_queues};
+use sem_chart::{count_between, count_code, count_event, count_message};
 use sem_key::{Key, OutOfMemory};
 use sem_msg::{Act, Call, Detail, Entry, Journal, Setup};
 use sem_waits::{Wait, longest_chain, waits_in};

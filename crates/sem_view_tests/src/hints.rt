@@ -15,13 +15,19 @@ const CASES: [Case; 12] = [
         text: "semper trace 1\nkernels 1\npe 0 0\nvpe 0 0\ncall 0 dervie 0 1\nend\n",
         line: 5,
         cause: Cause::UnknownWord,
-        said: "line 5, word 3: \"dervie\" is no call; did you mean \"derive\"?\n    call 0 dervie 0 1\n           ^^^^^^\n",
+        said: "line 5, word 3: \"dervie\" is no call; did you mean \"derive\"?
+    call 0 dervie 0 1
+           ^^^^^^
+",
     },
     Case {
         text: "semper trace 1\nkernels 2\npe 0 2\nend\n",
         line: 3,
         cause: Cause::OutOfRange,
-        said: "line 3, word 3: \"2\" is out of range; wanted here: the kernel, from 0 to 1\n    pe 0 2\n         ^\n",
+        said: "line 3, word 3: \"2\" is out of range; wanted here: the kernel, from 0 to 1
+    pe 0 2
+         ^
+",
     },
     Case {
         text: "semper trace 1\nkernels 2\npe 0 1\n# again\npe 0 0\nend\n",
@@ -39,13 +45,30 @@ const CASES: [Case; 12] = [
         text: "semper trace 1\nkernels 1\npe 0 0\nvpe 0 0\ncall 0 revoke\nend\n",
         line: 5,
         cause: Cause::Missing,
-        said: "line 5: the line ends here; wanted here: the selector, from 0 to 255\n    call 0 revoke\n                 ^\n",
+        said: "line 5: the line ends here; wanted here: the selector, from 0 to 255
+    call 0 revoke
+                 ^
+",
     },
     Case {
-        text: "semper report 1\nsemper trace 1\nkernels 1\nend\njournal 1\n0 cal 0 0 exit\naudit\nmade 0\ncut 0\nheld 0\nend\n",
+        text: "semper report 1
+semper trace 1
+kernels 1
+end
+journal 1
+0 cal 0 0 exit
+audit
+made 0
+cut 0
+held 0
+end
+",
         line: 6,
         cause: Cause::UnknownWord,
-        said: "line 6, word 2: \"cal\" is no event; did you mean \"call\"?\n    0 cal 0 0 exit\n      ^^^\n",
+        said: "line 6, word 2: \"cal\" is no event; did you mean \"call\"?
+    0 cal 0 0 exit
+      ^^^
+",
     },
     Case {
         text: "semper trace 1\nkernels 1\n",
@@ -57,31 +80,70 @@ const CASES: [Case; 12] = [
         text: "semper files 1\nkernels 1\nfile 0 1\nclient 1\ndo 1 opne 0 0\nend\n",
         line: 5,
         cause: Cause::UnknownWord,
-        said: "line 5, word 3: \"opne\" is no act of a client; did you mean \"open\"?\n    do 1 opne 0 0\n         ^^^^\n",
+        said: "line 5, word 3: \"opne\" is no act of a client; did you mean \"open\"?
+    do 1 opne 0 0
+         ^^^^
+",
     },
     Case {
         text: "semper files 1\nkernels 1\nfile 0 1\nclient 1\ndo 1 open 0 0\ndo 1 open 0 0\nend\n",
         line: 6,
         cause: Cause::Twice,
-        said: "line 6, word 4: this handle is open since line 5\n    do 1 open 0 0\n              ^\n",
+        said: "line 6, word 4: this handle is open since line 5
+    do 1 open 0 0
+              ^
+",
     },
     Case {
-        text: "semper files 1\nkernels 1\nfile 0 1\nclient 1\ndo 1 open 0 0\ndo 1 close 0\ndo 1 read 0 0 1\nend\n",
+        text: "semper files 1
+kernels 1
+file 0 1
+client 1
+do 1 open 0 0
+do 1 close 0
+do 1 read 0 0 1
+end
+",
         line: 7,
         cause: Cause::Undeclared,
-        said: "line 7, word 4: this handle is closed since line 6\n    do 1 read 0 0 1\n              ^\n",
+        said: "line 7, word 4: this handle is closed since line 6
+    do 1 read 0 0 1
+              ^
+",
     },
     Case {
-        text: "semper files 1\nkernels 1\nfile 0 1\nclient 1\nclient 2\ndo 1 open 0 0\ndo 1 share 0 2 3\ndo 1 share 0 2 3\nend\n",
+        text: "semper files 1
+kernels 1
+file 0 1
+client 1
+client 2
+do 1 open 0 0
+do 1 share 0 2 3
+do 1 share 0 2 3
+end
+",
         line: 8,
         cause: Cause::Twice,
-        said: "line 8, word 6: line 7 gave to this client under this number\n    do 1 share 0 2 3\n                   ^\n",
+        said: "line 8, word 6: line 7 gave to this client under this number
+    do 1 share 0 2 3
+                   ^
+",
     },
     Case {
-        text: "semper files 1\nkernels 1\nfile 0 1\nclient 1\ndo 1 open 0 0\ndo 1 read 0 4096 1\nend\n",
+        text: "semper files 1
+kernels 1
+file 0 1
+client 1
+do 1 open 0 0
+do 1 read 0 4096 1
+end
+",
         line: 6,
         cause: Cause::OutOfRange,
-        said: "line 6: the range ends behind the file\n    do 1 read 0 4096 1\n    ^^^^^^^^^^^^^^^^^^\n",
+        said: "line 6: the range ends behind the file
+    do 1 read 0 4096 1
+    ^^^^^^^^^^^^^^^^^^
+",
     },
 ];
 

@@ -15,6 +15,8 @@ mod listings;
 #[cfg(test)]
 mod memories;
 #[cfg(test)]
+mod outcomes;
+#[cfg(test)]
 mod stories;
 #[cfg(test)]
 mod trees;

@@ -1,8 +1,7 @@
 use sem_draw::{Ending, Picture};
 use sem_key::{Key, Kind};
 use sem_report::read_report;
-use sem_tree::{TreeRequest, takes, tree, tree_rows};
-use std::alloc::{AllocError, Global};
+use sem_tree::{TreeForm, TreeRequest, takes, tree, tree_rows};
 use std::test::Fail;
 
 // A revoke takes what a call at the other kernel is ready to install.
@@ -114,14 +113,38 @@ key 0.0.1.1 3
 end
 ";
 
-// The forest after so many entries, without box characters.
-fn forest(alloc: Global, report: &[u8], at: u64) -> Result<String, AllocError> {
-    let request = TreeRequest {
-        picture: Picture::Plain,
-        at: Some(at),
-    };
-    Ok(tree(alloc, &request, report)?.out)
-}
+/// A VPE is killed when what it obtains has arrived and is not installed.
+pub const KILLED: &[u8] = b"semper report 1
+semper trace 1
+kernels 2
+pe 0 0
+pe 1 1
+vpe 0 0
+vpe 1 1
+root 0 0 mem 0 4096 7
+kill 1 0
+call 1 obtain 5 0 0
+end
+journal 12
+1 call 1 0 obtain 5 0 0
+1 flush 0 obtain-req 1.1.0 sel 0 0
+0 fetch 1 obtain-req 1.1.0 sel 0 0
+0 handle 1 obtain-req 1.1.0 sel 0 0
+0 upcall 0 1 yes grant 0.0.1.0 1.1.1.0
+0 flush 1 obtain-ok 0.0.1.0 1.1.1.0 mem 0 4096 7
+1 fetch 0 obtain-ok 0.0.1.0 1.1.1.0 mem 0 4096 7
+1 handle 0 obtain-ok 0.0.1.0 1.1.1.0 mem 0 4096 7
+1 kill 1
+1 flush 0 orphan 0.0.1.0 1.1.1.0
+0 fetch 1 orphan 0.0.1.0 1.1.1.0
+0 handle 1 orphan 0.0.1.0 1.1.1.0
+audit
+made 2
+cut 1
+held 1
+key 0.0.1.0 0
+end
+";
 
 // What is said of keys after so many entries.
 struct Case {
@@ -151,21 +174,21 @@ const OF_REVOKED: [Case; 6] = [
     Case {
         at: 9,
         said: [
-            "0.0.1.0  marked, held by v0 of K0 at selector 0, to go by revoke 0 of v0 (entry 8);",
-            "\n`- 1.1.1.0  on its way to v1 of K1, to go by revoke 0 of v0 (entry 8);",
+            "0.0.1.0  marked, held by v0 of K0 at selector 0, to go by \"revoke 0\", call 0 of v0 (entry 8);",
+            "\n`- 1.1.1.0  on its way to v1 of K1, to go by \"revoke 0\", call 0 of v0 (entry 8);",
         ],
     },
     Case {
         at: 12,
         said: [
             "0.0.1.0  marked, held by",
-            "\n`- 1.1.1.0  gone from v1 of K1 by revoke 0 of v0 (entry 8);",
+            "\n`- 1.1.1.0  gone from v1 of K1 by \"revoke 0\", call 0 of v0 (entry 8);",
         ],
     },
     Case {
         at: 17,
         said: [
-            "0.0.1.0  gone from v0 of K0 by revoke 0 of v0 (entry 8);",
+            "0.0.1.0  gone from v0 of K0 by \"revoke 0\", call 0 of v0 (entry 8);",
             "\n`- 1.1.1.0  gone from",
         ],
     },
@@ -182,14 +205,14 @@ const OF_CLEARED: [Case; 5] = [
     Case {
         at: 18,
         said: [
-            "0.0.1.0  marked, held by v0 of K0 at selector 0, until the end of clear 0 of v0 (entry 17);",
-            "|- 2.2.1.0  marked, held by v2 of K0 at selector 1, to go by clear 0 of v0 (entry 17);",
+            "0.0.1.0  marked, held by v0 of K0 at selector 0, until the end of \"clear 0\", call 3 of v0 (entry 17);",
+            "|- 2.2.1.0  marked, held by v2 of K0 at selector 1, to go by \"clear 0\", call 3 of v0 (entry 17);",
         ],
     },
     Case {
         at: 18,
         said: [
-            "`- 3.3.1.0  held by v3 of K1 at selector 1, to go by clear 0 of v0 (entry 17);",
+            "`- 3.3.1.0  held by v3 of K1 at selector 1, to go by \"clear 0\", call 3 of v0 (entry 17);",
             "0.0.1.1  held by v0 of K0 at selector 3 and endpoint 1;",
         ],
     },
@@ -197,7 +220,7 @@ const OF_CLEARED: [Case; 5] = [
         at: 27,
         said: [
             "0.0.1.0  held by v0 of K0 at selector 0;",
-            "`- 3.3.1.0  gone from v3 of K1 by clear 0 of v0 (entry 17);",
+            "`- 3.3.1.0  gone from v3 of K1 by \"clear 0\", call 3 of v0 (entry 17);",
         ],
     },
     Case {
@@ -209,17 +232,49 @@ const OF_CLEARED: [Case; 5] = [
     },
 ];
 
+const OF_KILLED: [Case; 3] = [
+    Case {
+        at: 8,
+        said: [
+            "0.0.1.0  held by v0 of K0 at selector 0; memory",
+            "`- 1.1.1.0  on its way to v1 of K1; memory",
+        ],
+    },
+    Case {
+        at: 9,
+        said: [
+            "0.0.1.0  held by v0 of K0 at selector 0; memory",
+            "`- 1.1.1.0  gone from v1 of K1 by the kill of v1 (entry 8); memory",
+        ],
+    },
+    Case {
+        at: 12,
+        said: [
+            "0.0.1.0  held by v0 of K0 at selector 0; memory",
+            "`- 1.1.1.0  gone from v1 of K1 by the kill of v1 (entry 8); memory",
+        ],
+    },
+];
+
 #[test]
 fn forests_tell_what_has_become_of_keys(rt: HostRuntime) -> Result<(), Fail> {
-    for case in &OF_REVOKED {
-        let text = forest(rt.alloc(), REVOKED, case.at)?;
-        assert!(rt; text.as_str().contains(case.said[0]), "{text}");
-        assert!(rt; text.as_str().contains(case.said[1]), "{text}");
-    }
-    for case in &OF_CLEARED {
-        let text = forest(rt.alloc(), CLEARED, case.at)?;
-        assert!(rt; text.as_str().contains(case.said[0]), "{text}");
-        assert!(rt; text.as_str().contains(case.said[1]), "{text}");
+    for (report, cases) in [
+        (REVOKED, OF_REVOKED.as_slice()),
+        (CLEARED, OF_CLEARED.as_slice()),
+        (KILLED, OF_KILLED.as_slice()),
+    ] {
+        for case in cases {
+            let request = TreeRequest {
+                form: TreeForm::Drawn {
+                    picture: Picture::Plain,
+                },
+                at: Some(case.at),
+            };
+            let text = tree(rt.alloc(), &request, report)?.out;
+            for said in case.said {
+                assert!(rt; text.as_str().contains(said), "{text}");
+            }
+        }
     }
     Ok(())
 }
@@ -246,7 +301,9 @@ end
 #[test]
 fn what_no_run_makes_is_refused(rt: HostRuntime) -> Result<(), Fail> {
     let mut request = TreeRequest {
-        picture: Picture::Svg,
+        form: TreeForm::Drawn {
+            picture: Picture::Svg,
+        },
         at: None,
     };
     assert!(rt; tree(rt.alloc(), &request, WRONG)?.ending == Ending::Refused);
@@ -262,46 +319,43 @@ fn what_no_run_makes_is_refused(rt: HostRuntime) -> Result<(), Fail> {
     Ok(())
 }
 
-/// A memory.
-pub fn memory(vpe: u16, number: u32) -> Key {
-    Key {
-        pe: (vpe % 64) as u8,
-        vpe: vpe % 64,
-        kind: Kind::Mem,
-        number: number % 4096,
-    }
-}
+// A root of the second report.
+const ROOT: Key = Key {
+    pe: 0,
+    vpe: 0,
+    kind: Kind::Mem,
+    number: 0,
+};
+
+// Another root of it.
+const OTHER_ROOT: Key = Key { number: 1, ..ROOT };
+
+// The first child of the root.
+const CHILD: Key = Key {
+    pe: 2,
+    vpe: 2,
+    ..ROOT
+};
 
 #[test]
-fn rows_are_made_keys_with_parents(rt: HostRuntime) -> Result<(), Fail> {
+fn rows_are_made_keys_of_which_a_clear_takes_what_was_granted_before(
+    rt: HostRuntime,
+) -> Result<(), Fail> {
     let Ok((setup, journal, _)) = read_report(rt.alloc(), CLEARED) else {
         return Err(Fail::from("no report"));
     };
     let rows = tree_rows(rt.alloc(), &setup, &journal, 4)?;
-    let wanted = [
-        (memory(0, 0), None),
-        (memory(0, 1), None),
-        (memory(2, 0), Some(memory(0, 0))),
-    ];
+    let wanted = [(ROOT, None), (OTHER_ROOT, None), (CHILD, Some(ROOT))];
     assert_eq!(rt; rows.len(), wanted.len());
     for (row, (key, parent)) in rows.as_slice().iter().zip(wanted) {
         assert!(rt; row.key == key && row.parent == parent);
     }
-    Ok(())
-}
-
-#[test]
-fn a_clear_takes_what_was_granted_before(rt: HostRuntime) -> Result<(), Fail> {
-    let Ok((_, journal, _)) = read_report(rt.alloc(), CLEARED) else {
-        return Err(Fail::from("no report"));
-    };
     let Some(clear) = journal.get(17) else {
         return Err(Fail::from("no entry"));
     };
-    let (root, child) = (memory(0, 0), memory(2, 0));
-    assert!(rt; takes(&clear, &child, &Some((root, child))));
-    assert!(rt; !takes(&clear, &child, &None));
-    assert!(rt; !takes(&clear, &root, &None));
+    assert!(rt; takes(&clear, &CHILD, &Some((ROOT, CHILD))));
+    assert!(rt; !takes(&clear, &CHILD, &None));
+    assert!(rt; !takes(&clear, &ROOT, &None));
     Ok(())
 }
 
@@ -359,91 +413,3 @@ cut 2
 held 0
 end
 ";
-
-#[test]
-fn a_key_goes_by_the_first_that_takes_its_line(rt: HostRuntime) -> Result<(), Fail> {
-    for (first, second, said) in [
-        (
-            REVOKE_OF_ROOT,
-            REVOKE_OF_CHILD,
-            [
-                "0.0.1.0  gone from v0 of K0 by revoke 0 of v0 (entry 12);",
-                "1.1.1.0  gone from v1 of K0 by revoke 0 of v0 (entry 12);",
-                "2.2.1.0  gone from v2 of K1 by revoke 0 of v0 (entry 12);",
-            ],
-        ),
-        (
-            REVOKE_OF_CHILD,
-            REVOKE_OF_ROOT,
-            [
-                "0.0.1.0  gone from v0 of K0 by revoke 0 of v0 (entry 13);",
-                "1.1.1.0  gone from v1 of K0 by revoke 1 of v1 (entry 12);",
-                "2.2.1.0  gone from v2 of K1 by revoke 1 of v1 (entry 12);",
-            ],
-        ),
-    ] {
-        let report = format!(in rt.alloc(); "{BEFORE_REVOKES}{first}{second}{BEHIND_REVOKES}")?;
-        let text = forest(rt.alloc(), report.as_bytes(), 25)?;
-        for words in said {
-            assert!(rt; text.as_str().contains(words), "{text}");
-        }
-    }
-    Ok(())
-}
-
-/// A VPE is killed when what it obtains has arrived and is not installed.
-pub const KILLED: &[u8] = b"semper report 1
-semper trace 1
-kernels 2
-pe 0 0
-pe 1 1
-vpe 0 0
-vpe 1 1
-root 0 0 mem 0 4096 7
-kill 1 0
-call 1 obtain 5 0 0
-end
-journal 12
-1 call 1 0 obtain 5 0 0
-1 flush 0 obtain-req 1.1.0 sel 0 0
-0 fetch 1 obtain-req 1.1.0 sel 0 0
-0 handle 1 obtain-req 1.1.0 sel 0 0
-0 upcall 0 1 yes grant 0.0.1.0 1.1.1.0
-0 flush 1 obtain-ok 0.0.1.0 1.1.1.0 mem 0 4096 7
-1 fetch 0 obtain-ok 0.0.1.0 1.1.1.0 mem 0 4096 7
-1 handle 0 obtain-ok 0.0.1.0 1.1.1.0 mem 0 4096 7
-1 kill 1
-1 flush 0 orphan 0.0.1.0 1.1.1.0
-0 fetch 1 orphan 0.0.1.0 1.1.1.0
-0 handle 1 orphan 0.0.1.0 1.1.1.0
-audit
-made 2
-cut 1
-held 1
-key 0.0.1.0 0
-end
-";
-
-#[test]
-fn what_has_arrived_goes_with_its_killed_vpe(rt: HostRuntime) -> Result<(), Fail> {
-    for (at, child) in [
-        (8, "`- 1.1.1.0  on its way to v1 of K1; memory"),
-        (
-            9,
-            "`- 1.1.1.0  gone from v1 of K1 by the kill of v1 (entry 8); memory",
-        ),
-        (
-            12,
-            "`- 1.1.1.0  gone from v1 of K1 by the kill of v1 (entry 8); memory",
-        ),
-    ] {
-        let text = forest(rt.alloc(), KILLED, at)?;
-        assert!(rt;
-            text.as_str()
-                .contains("0.0.1.0  held by v0 of K0 at selector 0; memory"),
-            "{text}"
-        );
-        assert!(rt; text.as_str().contains(child), "{text}");
-    }
-    Ok(())
-}

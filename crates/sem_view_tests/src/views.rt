@@ -1,13 +1,13 @@
+use crate::trees::CLEARED;
 use sem_draw::{Ending, Picture};
 use sem_report::read_report;
 use sem_view::{
     Request, chart_rows, count_between, count_code, count_event, count_message, respond,
 };
-use std::alloc::{AllocError, Global};
 use std::test::Fail;
 
 // One VPE derives from its memory and revokes it.
-const REPORT: &[u8] = b"semper report 1
+const REPORT: &str = "semper report 1
 semper trace 1
 kernels 1
 pe 0 0
@@ -26,25 +26,6 @@ cut 1
 held 0
 end
 ";
-
-// A chart of entries, without box characters.
-fn chart(
-    alloc: Global,
-    from: Option<u64>,
-    to: Option<u64>,
-    kernel: Option<u32>,
-) -> Result<Request, AllocError> {
-    let mut kernels = Vec::new(alloc);
-    if let Some(kernel) = kernel {
-        kernels.push(kernel)?;
-    }
-    Ok(Request::Chart {
-        picture: Picture::Plain,
-        from,
-        to,
-        kernels,
-    })
-}
 
 // One VPE obtains the memory of another, on another kernel.
 const PAIR: &[u8] = b"semper report 1
@@ -96,55 +77,145 @@ fn entries_are_counted(rt: HostRuntime) -> Result<(), Fail> {
     Ok(())
 }
 
-#[test]
-fn a_chart_shows_each_entry(rt: HostRuntime) -> Result<(), Fail> {
-    let wanted = "\
+// The report as a chart.
+const CHART: &str = "\
 \x20      K0       v0
    0   |<------>:        derive 0 1 0 1024 1; grant 0.0.1.0 > 0.0.1.1; Ok
    1   |<-------+        revoke 0; cut 0.0.1.0
    2   +------->#        goes on; Ok
 ";
-    let all = chart(rt.alloc(), None, None, None)?;
-    let answer = respond(rt.alloc(), &all, REPORT)?;
-    assert_eq!(rt; answer.ending, Ending::Done);
-    assert_eq!(rt; answer.out.as_str(), wanted);
-    let part = chart(rt.alloc(), Some(2), Some(2), Some(0))?;
-    let answer = respond(rt.alloc(), &part, REPORT)?;
-    assert_eq!(rt;
-        answer.out.as_str(),
-        "       K0       v0\n   2   +------->#        goes on; Ok\n"
-    );
+
+// Its last entry.
+const LAST: &str = "\
+\x20      K0       v0
+   2   +------->#        goes on; Ok
+";
+
+const NO_ENTRIES: &str = "there are no such entries: the report has 3, from 0 on\n";
+
+const NO_REPORT: &str =
+    "the input is a trace, and a report is wanted: semper run 0 makes one of it\n";
+
+// A chart of entries, without box characters: the first and the last one, the one kernel that is
+// shown, and what is answered; of an error a part.
+struct Shown {
+    report: &'static str,
+    from: Option<u64>,
+    to: Option<u64>,
+    kernel: Option<u32>,
+    ending: Ending,
+    out: &'static str,
+    error: &'static str,
+}
+
+const CHARTS: [Shown; 5] = [
+    Shown {
+        report: REPORT,
+        from: None,
+        to: None,
+        kernel: None,
+        ending: Ending::Done,
+        out: CHART,
+        error: "",
+    },
+    Shown {
+        report: REPORT,
+        from: Some(2),
+        to: Some(2),
+        kernel: Some(0),
+        ending: Ending::Done,
+        out: LAST,
+        error: "",
+    },
+    Shown {
+        report: REPORT,
+        from: Some(4),
+        to: None,
+        kernel: None,
+        ending: Ending::WrongWords,
+        out: "",
+        error: NO_ENTRIES,
+    },
+    Shown {
+        report: REPORT,
+        from: None,
+        to: None,
+        kernel: Some(1),
+        ending: Ending::WrongWords,
+        out: "",
+        error: "",
+    },
+    Shown {
+        report: "semper trace 1\n",
+        from: None,
+        to: None,
+        kernel: Some(1),
+        ending: Ending::Refused,
+        out: "",
+        error: NO_REPORT,
+    },
+];
+
+#[test]
+fn a_chart_shows_each_entry_and_what_is_not_there_is_refused(rt: HostRuntime) -> Result<(), Fail> {
+    for shown in &CHARTS {
+        let mut kernels = Vec::new(rt.alloc());
+        if let Some(kernel) = shown.kernel {
+            kernels.push(kernel)?;
+        }
+        let request = Request::Chart {
+            picture: Picture::Plain,
+            from: shown.from,
+            to: shown.to,
+            kernels,
+        };
+        let answer = respond(rt.alloc(), &request, shown.report.as_bytes())?;
+        assert_eq!(rt; answer.ending, shown.ending);
+        assert_eq!(rt; answer.out.as_str(), shown.out);
+        assert!(rt;
+            answer.error.as_str().contains(shown.error),
+            "{:?}",
+            answer.error
+        );
+    }
     Ok(())
 }
 
+// The waiting of a clear for the kernel of a child.
+const WAITS: &str = "\
+v0 call 3: clear 0: answered 9 entries later
+    17  0 call 0 3 clear 0 cut 0.0.1.0
+    20  0 flush 1 revoke-req 3.3.1.0 0
+    21  1 fetch 0 revoke-req 3.3.1.0 0
+    22  1 handle 0 revoke-req 3.3.1.0 0
+    23  1 flush 0 revoke-done 0
+    24  0 fetch 1 revoke-done 0
+    25  0 handle 1 revoke-done 0
+    26  0 resume 0 reply 0 0
+";
+
 #[test]
-fn counts_are_told(rt: HostRuntime) -> Result<(), Fail> {
-    let answer = respond(rt.alloc(), &Request::Stats { is_json: true }, REPORT)?;
+fn counts_and_waits_are_told(rt: HostRuntime) -> Result<(), Fail> {
+    let answer = respond(
+        rt.alloc(),
+        &Request::Stats { is_json: true },
+        REPORT.as_bytes(),
+    )?;
     assert!(rt; answer.out.as_str().contains("\"call\":2"));
     assert!(rt; answer.out.as_str().contains("\"Ok\":2"));
     let revoke = "[{\"call\":\"revoke\",\"entry\":1,\"key\":\"0.0.1.0\",\"taken\":1,\"vpe\":0}]";
     assert!(rt; answer.out.as_str().contains(revoke));
-    let answer = respond(rt.alloc(), &Request::Stats { is_json: false }, REPORT)?;
+    let answer = respond(
+        rt.alloc(),
+        &Request::Stats { is_json: false },
+        REPORT.as_bytes(),
+    )?;
     assert!(rt; answer.out.as_str().contains("  resume"));
-    Ok(())
-}
-
-#[test]
-fn what_is_not_there_is_refused(rt: HostRuntime) -> Result<(), Fail> {
-    let late = chart(rt.alloc(), Some(4), None, None)?;
-    let answer = respond(rt.alloc(), &late, REPORT)?;
-    assert_eq!(rt; answer.ending, Ending::WrongWords);
-    assert_eq!(rt;
-        answer.error.as_str(),
-        "there are no such entries: the report has 3, from 0 on\n"
-    );
-    let other = chart(rt.alloc(), None, None, Some(1))?;
-    let answer = respond(rt.alloc(), &other, REPORT)?;
-    assert_eq!(rt; answer.ending, Ending::WrongWords);
-    let answer = respond(rt.alloc(), &other, b"semper trace 1\n")?;
-    assert_eq!(rt; answer.ending, Ending::Refused);
-    let wanted =
-        "the input is no report: line 1, word 2: \"trace\" stands where \"report\" belongs\n    semper trace 1\n           ^^^^^\n";
-    assert_eq!(rt; answer.error.as_str(), wanted);
+    let request = Request::Waits {
+        vpe: Some(0),
+        call: None,
+    };
+    let answer = respond(rt.alloc(), &request, CLEARED)?;
+    assert_eq!(rt; answer.out.as_str(), WAITS);
     Ok(())
 }

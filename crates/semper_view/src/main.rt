@@ -16,6 +16,7 @@ use crate::words::{Asked, read_words};
 use clap::error::ErrorKind;
 use sem_draw::{Answer, Ending};
 use sem_explain::{explain_files, explain_report, explain_trace};
+use sem_export::export;
 use sem_hint::{TextKind, kind_of};
 use sem_io::{ReadError, ReadSource, WriteSink, read_all, write_all};
 use sem_listing::listing;
@@ -50,6 +51,9 @@ fn main(rt: HostRuntime) -> ExitCode {
             }
             if error.print(&rt).is_err() {
                 return ExitCode::from(FAULT);
+            }
+            if error.kind() == ErrorKind::UnknownArgument {
+                let _ = eprintln!(rt; "The input is read from standard input, as by < FILE.");
             }
             ExitCode::from(if error.use_stderr() { 2 } else { 0 })
         }
@@ -100,6 +104,7 @@ fn answer_to(rt: &HostRuntime, asked: &Asked, bytes: &[u8]) -> Result<Answer, Al
         Asked::Tree { request } => tree(alloc, request, bytes),
         Asked::Memory { request } => memory_picture(alloc, request, bytes),
         Asked::Story { request } => story(alloc, request, bytes),
+        Asked::Export { request } => export(alloc, *request, bytes),
         Asked::Files => listing(alloc, bytes),
         Asked::Outcomes { search, telling } => {
             let mut shown = Shown::new(rt);

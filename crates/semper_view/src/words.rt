@@ -4,9 +4,10 @@ use clap::error::ErrorKind;
 use clap::{Arg, ArgAction, ArgMatches, Command, Error};
 use sem_compare::Telling;
 use sem_draw::Picture;
+use sem_export::ExportRequest;
 use sem_key::Key;
 use sem_story::{StoryRequest, key_of};
-use sem_tree::TreeRequest;
+use sem_tree::{TreeForm, TreeRequest};
 use sem_view::Request;
 use sem_writers::MemoryRequest;
 use std::alloc::{AllocError, Global};
@@ -34,6 +35,8 @@ pub enum Asked {
     Memory { request: MemoryRequest },
     /// The life of a key.
     Story { request: StoryRequest },
+    /// The report for another tool.
+    Export { request: ExportRequest },
     /// What file commands are compiled to.
     Files,
     /// The outcomes of a trace.
@@ -61,9 +64,33 @@ fn meant(alloc: Global, matches: &ArgMatches<'_>) -> Result<Asked, Error> {
     match matches.subcommand() {
         Some(("tree", tree)) => Ok(Asked::Tree {
             request: TreeRequest {
-                picture: picture(tree),
+                form: TreeForm::Drawn {
+                    picture: picture(tree),
+                },
                 at: tree.get_one::<u64>("at"),
             },
+        }),
+        Some(("dot", dot)) => Ok(Asked::Tree {
+            request: TreeRequest {
+                form: TreeForm::Dot,
+                at: dot.get_one::<u64>("at"),
+            },
+        }),
+        Some(("json", json)) => Ok(Asked::Export {
+            request: if json.get_flag("schema") {
+                ExportRequest::Schema
+            } else {
+                ExportRequest::Json
+            },
+        }),
+        Some(("mermaid", chart)) => Ok(Asked::Export {
+            request: ExportRequest::Mermaid {
+                from: chart.get_one::<u64>("from"),
+                to: chart.get_one::<u64>("to"),
+            },
+        }),
+        Some(("perfetto", _)) => Ok(Asked::Export {
+            request: ExportRequest::Perfetto,
         }),
         Some(("memory", memory)) => Ok(Asked::Memory {
             request: MemoryRequest {
@@ -178,39 +205,63 @@ fn kernels(alloc: Global, matches: &ArgMatches<'_>) -> Result<Vec<u32>, AllocErr
 
 // The command line.
 fn command<'a>(alloc: Global) -> Result<Command<'a>, AllocError> {
-    let stats = Command::new(alloc, "stats")
-        .about("Count the events, messages and replies of a report")
-        .arg(flag(alloc, "json", "Write JSON"))?;
-    let tree = after_entries(
-        alloc,
-        Command::new(alloc, "tree").about("Draw the capabilities of a report as a forest"),
-    )?;
-    let memory = after_entries(
-        alloc,
-        Command::new(alloc, "memory").about("Draw who wrote what memory holds, and who read it"),
-    )?;
-    let files = Command::new(alloc, "files").about(
-        "Show the trace that file commands are compiled to, each command above its calls",
-    );
-    let explain = Command::new(alloc, "explain").about(
-        "Tell why a trace, a report or file commands are refused, or that they are accepted",
-    );
-    Command::new(alloc, "semper-view")
+    let command = Command::new(alloc, "semper-view")
         .version("1")
         .no_binary_name(true)
         .about("Shows what the reports of semper tell. A report is read from standard input.")
         .subcommand_required(true)
-        .arg_required_else_help(true)
+        .arg_required_else_help(true);
+    exporting(alloc, comparing(alloc, drawing(alloc, command)?)?)
+}
+
+// The command line with the commands that draw a report.
+fn drawing<'a>(alloc: Global, command: Command<'a>) -> Result<Command<'a>, AllocError> {
+    command
         .subcommand(chart(alloc)?)?
-        .subcommand(stats)?
-        .subcommand(tree)?
-        .subcommand(memory)?
-        .subcommand(story(alloc)?)?
-        .subcommand(files)?
+        .subcommand(stats(alloc)?)?
+        .subcommand(after_entries(
+            alloc,
+            Command::new(alloc, "tree").about("Draw the capabilities of a report as a forest"),
+        )?)?
+        .subcommand(after_entries(
+            alloc,
+            Command::new(alloc, "memory").about(
+                "Draw who wrote what memory holds, and who read it",
+            ),
+        )?)?
+        .subcommand(story(alloc)?)
+}
+
+// The command line with the commands that follow calls and compare runs.
+fn comparing<'a>(alloc: Global, command: Command<'a>) -> Result<Command<'a>, AllocError> {
+    command
+        .subcommand(Command::new(alloc, "files").about(
+            "Show the trace that file commands are compiled to, each command above its calls",
+        ))?
         .subcommand(waits(alloc)?)?
         .subcommand(outcomes(alloc)?)?
-        .subcommand(diff(alloc)?)?
-        .subcommand(explain)
+        .subcommand(diff(alloc)?)
+}
+
+// The command line with the commands that write for other tools, and the one that explains.
+fn exporting<'a>(alloc: Global, command: Command<'a>) -> Result<Command<'a>, AllocError> {
+    command
+        .subcommand(json(alloc)?)?
+        .subcommand(dot(alloc)?)?
+        .subcommand(mermaid(alloc)?)?
+        .subcommand(Command::new(alloc, "perfetto").about(
+            "Write a report as a trace that Perfetto and Chrome show",
+        ))?
+        .subcommand(Command::new(alloc, "explain").about(
+            "Tell why a trace, a report or file commands are refused, or that they are accepted",
+        ))
+}
+
+// The command that counts.
+fn stats<'a>(alloc: Global) -> Result<Command<'a>, AllocError> {
+    Command::new(alloc, "stats")
+        .about("Count the events, messages and replies of a report")
+        .arg(flag(alloc, "json", "Write JSON"))
 }
 
 // The command that tells what calls waited for.
@@ -270,6 +321,28 @@ fn file<'a>(alloc: Global, name: &'a str, help: &'a str) -> Arg<'a> {
         .help(help)
 }
 
+// The command that writes JSON.
+fn json<'a>(alloc: Global) -> Result<Command<'a>, AllocError> {
+    Command::new(alloc, "json")
+        .about("Write a report as JSON, one object a line")
+        .arg(flag(alloc, "schema", "Write the JSON Schema of these lines"))
+}
+
+// The command that writes a graph.
+fn dot<'a>(alloc: Global) -> Result<Command<'a>, AllocError> {
+    Command::new(alloc, "dot")
+        .about("Write the capabilities of a report as a graph for Graphviz")
+        .arg(at_entry(alloc))
+}
+
+// The command that writes a sequence diagram.
+fn mermaid<'a>(alloc: Global) -> Result<Command<'a>, AllocError> {
+    Command::new(alloc, "mermaid")
+        .about("Write the messages of a report as a sequence diagram of Mermaid")
+        .arg(number(alloc, "from", "The first entry that is shown"))?
+        .arg(number(alloc, "to", "The last entry that is shown"))
+}
+
 // The command that draws a chart.
 fn chart<'a>(alloc: Global) -> Result<Command<'a>, AllocError> {
     pictured(
@@ -306,11 +379,16 @@ fn story<'a>(alloc: Global) -> Result<Command<'a>, AllocError> {
 
 // The command with the flags of a picture and the number of the entries before it.
 fn after_entries<'a>(alloc: Global, command: Command<'a>) -> Result<Command<'a>, AllocError> {
-    pictured(alloc, command)?.arg(number(
+    pictured(alloc, command)?.arg(at_entry(alloc))
+}
+
+// The number of entries after which something is shown.
+fn at_entry<'a>(alloc: Global) -> Arg<'a> {
+    number(
         alloc,
         "at",
         "After how many entries; after all where it is not given",
-    ))
+    )
 }
 
 // The command with the flags of a picture.

@@ -6,4 +6,4 @@ use Rattle.sem_audit.proofs.forests.lost_words.Given as goal
 
 -- the words of what is lost after the first entries
 abbrev pub invariant-loop-entry : goal.invariant-loop-entry
-invariant-loop-entry l = HasWords l.words (lost (has_key l.cut) (grants (take l.entry-index l.entry-items)))
+invariant-loop-entry l = HasWords l.words (lost (has_key l.cut.keys) (grants (take l.entry-index l.entry-items)))

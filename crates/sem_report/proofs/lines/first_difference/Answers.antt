@@ -1,7 +1,15 @@
-use Rattle.std.proofs.Common.{sym, arith}
+use Rattle.std.proofs.Common.{◌∙◌, ap, sym, arith}
+use Rattle.std.proofs.lemmas.Slice.Eq.{bytes_eq-Decides}
+use Rattle.sem_report.specs.WholeLines.{whole_lines}
+use Rattle.sem_report.specs.ReportRefusal.{first_difference}
 use Rattle.sem_report.proofs.TextInLines.{shorter}
-use Rattle.sem_report.proofs.LineForms.{shorter_differs, both_end, longer_differs, line_differs, line_same}
+use Rattle.sem_report.proofs.LineForms.{nothing_differs, shorter_differs, both_end, longer_differs, line_differs, line_same}
 use Rattle.sem_report.proofs.lines.first_difference.Goals as goal
+
+pub returns-then-same : goal.returns-then-same
+returns-then-same c =
+    let is = (bytes_eq-Decides c.args.text.now c.args.other.now).0 (sym c.same.ensures ∙ c.if-same.true) in
+    sym (nothing_differs c.args.first (whole_lines c.args.text.now)) ∙ ap (λ t. first_difference c.args.first (whole_lines c.args.text.now) (whole_lines t)) is
 
 pub returns-in-Some-next_whole_line : goal.returns-in-Some-next_whole_line
 returns-in-Some-next_whole_line c = shorter_differs _ _ _ _ _ _ _ _ c.loop-line.invariant.same c.in_default.ensures.lines c.in-Some-next_whole_line.ensures.lines

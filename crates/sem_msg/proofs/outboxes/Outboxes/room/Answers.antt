@@ -19,4 +19,4 @@ returns-in_err-room-clause-boxes c =
 
 -- all outboxes have room
 pub invariant_of-self-2 : goal.invariant_of-self-2
-invariant_of-self-2 c = invariant-raised _ _ _ _ _ _ c.loop-outbox.invariant c.deref_mut-outbox-items.ensures.value c.deref_mut-outbox-items.ensures.len (omega arith) _ _ c.max-self-inside.ensures c.self.invariant.0 c.self.invariant.1
+invariant_of-self-2 c = invariant-raised _ _ _ _ _ _ c.loop-outbox.invariant c.deref_mut-outbox-items.ensures.value c.deref_mut-outbox-items.ensures.len (omega arith) c.self.invariant.1

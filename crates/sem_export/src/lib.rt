@@ -1,0 +1,17 @@
+//! A report for other tools: as lines of JSON, as a sequence diagram of Mermaid, and as a trace that
+//! Perfetto shows.
+#![tactic(auto)]
+
+mod audits;
+mod entries;
+mod lines;
+mod mermaid;
+mod messages;
+mod perfetto;
+mod requests;
+mod schema;
+mod setups;
+mod words;
+
+pub use requests::{ExportRequest, export};
+pub use schema::SCHEMA;

@@ -1,0 +1,10 @@
+use Rattle.std.proofs.Common.{arith, ◌++◌, ◌∷◌, ◌+◌, ◌%◌, ◌∙◌, [], ap}
+use Rattle.sem_text.proofs.Digits.{last_digit}
+use Rattle.sem_text.proofs.numbers.put_three_digits.Goals as goal
+
+-- the last digit follows the others
+pub returns-else-value-lt10-clause-items : goal.returns-else-value-lt10-clause-items
+returns-else-value-lt10-clause-items c =
+    c.put_digit-else-value-lt10.ensures.byte
+    ∙ ap (λ ds. ds ++ (48 + c.args.value % 10) ∷ []) c.put_two_digits.ensures.items
+    ∙ last_digit c.args.out.now.items c.args.value (omega arith) (omega arith)
