@@ -205,8 +205,8 @@ const OF_CLEARED: [Case; 5] = [
     Case {
         at: 18,
         said: [
-            "0.0.1.0  marked, held by v0 of K0 at selector 0, until the end of \"clear 0\", call 3 of v0 (entry 17);",
-            "|- 2.2.1.0  marked, held by v2 of K0 at selector 1, to go by \"clear 0\", call 3 of v0 (entry 17);",
+            "0.0.1.0  marked, held by v0 of K0 at selector 0, until the end of \"clear 0\", call 3 of v0",
+            "|- 2.2.1.0  marked, held by v2 of K0 at selector 1, to go by \"clear 0\",",
         ],
     },
     Case {
