@@ -15,7 +15,10 @@ use Rattle.sem_access.specs.LastWrites.{is_write_at, is_write_before, greater, g
 use Rattle.sem_access.specs.Runs.{AreRuns, all_runs, entry_at}
 use Rattle.sem_access.specs.ContentsText.{read_line, run_line, reads, found_by, access_lines}
 use Rattle.sem_mem.specs.Reading.{AreInOrder, AreBefore}
+use Rattle.sem_mem.specs.Chunks.{together}
 use Rattle.sem_mem.proofs.KeptLongest.{kept-runs}
+use Rattle.sem_mem.proofs.Chunking.{together-more}
+use Rattle.std.specs.Global.{Vec}
 
 -- Tests that agree, or that nothing passes.
 
@@ -183,3 +186,15 @@ whole-text xs n rs start headed read ran ended before are kept one two three fou
 pub appended : {E : Type 0} (r : Result Unit E) (old bytes told new : List ℕ) → bytes ≡ told → new ≡ cond (is_ok r) (old ++ bytes) old → OnOk r (new ≡ old ++ told)
 appended (Ok x) old bytes told new same is = is ∙ ap (λ bs. old ++ bs) same
 appended (Err e) old bytes told new same is = tt
+
+-- The runs of chunks.
+
+-- the lines of one chunk more
+pub chunk-told : (cs : List (Vec Run)) (i : ℕ) (c : Vec Run) (old : List ℕ) → i < length cs → (old ++ text (map run_line (together (take i cs)))) ++ text (map run_line (get_or cs i c).items) ≡ old ++ text (map run_line (together (take (i + 1) cs)))
+chunk-told cs i c old within =
+    let before = together (take i cs) in
+    let here = (get_or cs i c).items in
+    append_assoc old (text (map run_line before)) (text (map run_line here))
+    ∙ ap (λ bytes. old ++ bytes)
+    (sym (flat_map-append line (map run_line before) (map run_line here))
+    ∙ ap text (sym (map-append run_line before here) ∙ ap (map run_line) (sym (together-more cs i c within))))

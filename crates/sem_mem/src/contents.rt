@@ -9,6 +9,7 @@ ghost use Rattle.sem_access.specs.LastWrites.{is_write_at, looked};
 ghost use Rattle.sem_access.specs.Runs.{entry_at, IsNewer};
 ghost use Rattle.sem_access.specs.ContentsText.{entry_word, read_line, run_line, access_lines, contents};
 ghost use Rattle.sem_mem.specs.Reading.{AreBefore};
+ghost use Rattle.sem_mem.specs.Chunks.{together};
 ghost use Rattle.sem_mem.specs.Accounts.{IsAccount, IsAccountOf};
 
 use crate::account::Account;
@@ -18,7 +19,7 @@ use sem_access::{Access, Look, Run};
 use sem_kernel::World;
 use sem_key::OutOfMemory;
 use sem_msg::{Entry, Journal, Setup};
-use sem_text::push_number;
+use sem_text::push_number_behind;
 use sem_trace::{push_line, push_start};
 use std::alloc::Global;
 
@@ -39,7 +40,7 @@ pub fn print_contents(
     let _ = &setup.vpes;
     let account = account_of(alloc, setup, journal.as_slice())?;
     let mut told = Vec::new(alloc);
-    push_contents(alloc, &mut told, &account)?;
+    push_contents(&mut told, &account)?;
     out.extend_from_slice(&told)
 }
 
@@ -60,14 +61,13 @@ fn account_of(alloc: Global, setup: &Setup, entries: &[Entry]) -> Result<Account
 
 /// Appends the text that tells what memory holds after accesses by their account. After lack of
 /// memory a part may be there.
-pub fn push_contents(alloc: Global, out: &mut Vec<u8>, account: &Account) -> Result<(), OutOfMemory>
+pub fn push_contents(out: &mut Vec<u8>, account: &Account) -> Result<(), OutOfMemory>
     ensures { OnOk result ((xs : List AccessData) (n : ℕ) → IsAccount xs account.now
         → AreBefore n xs → out.new.items ≡ out.old.items ++ text (access_lines xs n)) }
 {
     push_line(out, b"semper contents", &[1])?;
     out.extend_from_slice(&account.lines)?;
-    let runs = account.memory.runs(alloc)?;
-    push_runs(out, &runs)?;
+    push_chunks(out, account.memory.chunks())?;
     push_line(out, b"end", &[])
 }
 
@@ -101,19 +101,29 @@ fn push_read(out: &mut Vec<u8>, access: &Access, found: Look) -> Result<(), OutO
         found.written,
     ];
     push_start(out, b"read", &numbers)?;
-    out.push(b' ')?;
     push_entry(out, found.newest)?;
     Ok(out.push(b'\n')?)
 }
 
-// Appends the entry, or a dash.
+// Appends a space, and the entry or a dash.
 fn push_entry(out: &mut Vec<u8>, entry: Option<u64>) -> Result<(), OutOfMemory>
-    ensures { OnOk result (out.new.items ≡ out.old.items ++ entry_word entry) }
+    ensures { OnOk result (out.new.items ≡ out.old.items ++ 32 ∷ entry_word entry) }
 {
     match entry {
-        Some(entry) => push_number(out, entry),
-        None => Ok(out.push(b'-')?),
+        Some(entry) => push_number_behind(out, b' ', entry),
+        None => out.extend_from_slice(b" -"),
     }
+}
+
+// Appends the lines of the runs of the chunks.
+fn push_chunks(out: &mut Vec<u8>, chunks: &[Vec<Run>]) -> Result<(), OutOfMemory>
+    ensures { OnOk result (out.new.items
+        ≡ out.old.items ++ text (map run_line (together chunks.now))) }
+{
+    for chunk in chunks {
+        push_runs(out, chunk)?;
+    }
+    Ok(())
 }
 
 // Appends the lines of the runs.

@@ -56,6 +56,14 @@ impl Memory {
         runs_of(alloc, &self.chunks)
     }
 
+    /// The runs, in rising order, in chunks. Takes no memory.
+    pub(crate) fn chunks(&self) -> &[Vec<Run>]
+        ensures runs { together result.now ≡ self.now }
+        ensures apart { AreRuns self.now }
+    {
+        &self.chunks
+    }
+
     /// The entry, which comes behind all that wrote before, writes the range. All other addresses
     /// stay, and after lack of memory these too.
     ///

@@ -121,7 +121,7 @@ fn replace(
     let alloc = *chunks.allocator();
     let parts = in_chunks(alloc, mem::replace(runs, Vec::new(alloc)))?;
     let begun = beginnings_of_chunks(alloc, &parts)?;
-    let mut all = Vec::new(alloc);
+    let mut all = Vec::with_capacity(alloc, beginnings.len() + begun.len())?;
     all.extend_from_slice(&beginnings[..from])?;
     all.extend_from_slice(&begun)?;
     all.extend_from_slice(&beginnings[to..])?;

@@ -111,7 +111,7 @@ fn push_answer(
     let _ = &setup.vpes;
     match finding {
         Finding::Nothing => out.extend_from_slice(ok()),
-        Finding::Accounted(account) => push_contents(alloc, out, account),
+        Finding::Accounted(account) => push_contents(out, account),
         Finding::Sighted(sighting) => push_whereabouts(alloc, sighting, journal, out),
         Finding::Line(key) => path(alloc, setup, journal, *key, out),
         Finding::Denial(entry) => denied(alloc, setup, journal, *entry, out),

@@ -46,5 +46,5 @@ returns-clause-begin c =
     ∙ (ap (λ (ds : List (Vec Run)). beginnings_of (splice c.args.chunks.now.items c.args.from c.args.to ds)) (sym (sym (map-id put.1) ∙ all))
     ∙ ap beginnings_of (sym put.4)) in
     let whole : c.extend_from_slice-3.new.self.items ≡ (take c.args.from c.args.beginnings.now.items ++ beginnings_of c.in_ok-parts.parts.items) ++ drop c.args.to c.args.beginnings.now.items =
-    rw (c.in_ok-extend_from_slice-2.ensures.items, c.in_ok-extend_from_slice.ensures.items, c.new-all.ensures.items, c.deref-4.ensures.value, begun, c.deref-3.ensures.value, c.deref-5.ensures.value, take_rest c.args.beginnings.now.items c.args.to) at c.in_ok-extend_from_slice-3.ensures.items in
+    rw (c.in_ok-extend_from_slice-2.ensures.items, c.in_ok-extend_from_slice.ensures.items, c.in_ok-all.ensures.items, c.deref-4.ensures.value, begun, c.deref-3.ensures.value, c.deref-5.ensures.value, take_rest c.args.beginnings.now.items c.args.to) at c.in_ok-extend_from_slice-3.ensures.items in
     whole ∙ parts
