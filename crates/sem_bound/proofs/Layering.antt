@@ -1,5 +1,6 @@
--- Two layers that the bound needs: the ids of the jobs rise, and a key of a root has no parent.
-use Rattle.std.proofs.Common.{◌≡◌, Bool, false, not, List, [], get_or, Some, None, refl, sym, ap, ◌∙◌}
+-- What a side needs to keep for the bound, as long as no capability comes: keys stay distinct, and a key whose parent
+-- is of another kernel is not near.
+use Rattle.std.proofs.Common.{◌≡◌, ℕ, Bool, true, false, Option, not, List, [], get_or, Some, None, refl, sym, ap, ◌∙◌}
 use Rattle.std.specs.Prelude.{if◌then◌else◌}
 use Rattle.std.specs.List.{Contains, list_any}
 use Rattle.std.proofs.lemmas.Bool.{cond_both}
@@ -9,6 +10,8 @@ use Rattle.sem_key.specs.KeyList.{with_key, without_key}
 use Rattle.sem_key.specs.Lists.{change}
 use Rattle.sem_key.specs.Capability.{Capability}
 use Rattle.sem_key.specs.CapList.{is_marked_by, with_mark}
+use Rattle.sem_msg.specs.Setup.{Setup}
+use Rattle.sem_msg.specs.Lookups.{owner_of, is_local}
 use Rattle.sem_machine.specs.Sides.{Side}
 use Rattle.sem_key.proofs.Members.{AllPairs-map, Contains-from_filter, Contains-from_map}
 use Rattle.sem_safety.specs.Seen.{AreDistinct}
@@ -17,38 +20,56 @@ use Rattle.sem_safety.proofs.Onwards.{AnyPlace}
 
 -- Keys.
 
--- Distinct keys stay distinct as long as no capability comes: the fact that each capability that comes would have to have has no key.
+-- Distinct keys stay distinct as long as no capability comes: the fact that each capability that comes would have to
+-- have has no key.
 abbrev pub NoKey : KeyName → Type 0
 NoKey k = ⊥
 
-distinct-changed : (cs : List Capability) (test : Capability → Bool) (f : Capability → Capability) → ((c : Capability) → (f c).key ≡ c.key) → AreDistinct cs → AreDistinct (change test f cs)
+distinct-changed : (cs : List Capability) (test : Capability → Bool) (f : Capability → Capability) →
+    ((c : Capability) → (f c).key ≡ c.key) → AreDistinct cs → AreDistinct (change test f cs)
 distinct-changed cs test f same distinct =
     let g : Capability → Capability = λ c. if test c then f c else c in
-    let keeps : (c : Capability) → (g c).key ≡ c.key = λ c. cond_both (test c) (f c) c (λ (x : Capability). x.key ≡ c.key) (λ _. same c) (λ _. refl) in
-    AllPairs-map (λ (a b : Capability). key_eq a.key b.key ≡ false) g cs (λ i j d lt within. (ap (λ k. key_eq k (g (get_or cs j d)).key) (keeps (get_or cs i d)) ∙ ap (key_eq (get_or cs i d).key) (keeps (get_or cs j d))) ∙ distinct i j d lt within)
+    let keeps : (c : Capability) →
+    (g c).key ≡ c.key = λ c. cond_both (test c) (f c) c (λ (x : Capability). x.key ≡ c.key) (λ _. same c)
+    (λ _. refl) in
+    AllPairs-map (λ (a b : Capability). key_eq a.key b.key ≡ false) g cs
+    (λ i j d lt within. (ap (λ k. key_eq k (g (get_or cs j d)).key) (keeps (get_or cs i d))
+    ∙ ap (key_eq (get_or cs i d).key) (keeps (get_or cs j d))) ∙ distinct i j d lt within)
 
--- Roots.
+-- Parents.
 
-module _ (rooted : KeyName → Bool) where
-  -- a capability that has a parent has no key of a root
-  abbrev pub BelowRoots : Side → Type 0
-  BelowRoots s = (c : Capability) → Contains s.caps c → (p : KeyName) → c.parent ≡ Some p → rooted c.key ≡ false
+-- the child of a grant within a kernel is near
+abbrev pub IsNearGrant : Setup → (KeyName → Bool) → Option (KeyName × KeyName) → Type 0
+IsNearGrant T near grant = (p k : KeyName) → grant ≡ Some (p, k) → owner_of T p ≡ owner_of T k → near k ≡ true
 
-  below-changed : (s : Side) (test : Capability → Bool) (f : Capability → Capability) → ((c : Capability) → ((f c).key ≡ c.key) × ((f c).parent ≡ c.parent)) → BelowRoots s → BelowRoots (record s { caps = change test f s.caps })
-  below-changed s test f same is = λ c among p parent.
+module _ (T : Setup) (near : KeyName → Bool) (i : ℕ) where
+  -- what has a parent of another kernel is not near
+  abbrev pub IsFarTold : Side → Type 0
+  IsFarTold s = (c : Capability) → Contains s.caps c → (p : KeyName) → c.parent ≡ Some p → is_local T i p ≡ false →
+      near c.key ≡ false
+
+  far-changed : (s : Side) (test : Capability → Bool) (f : Capability → Capability) →
+      ((c : Capability) → ((f c).key ≡ c.key) × ((f c).parent ≡ c.parent)) → IsFarTold s →
+      IsFarTold (record s { caps = change test f s.caps })
+  far-changed s test f same is = λ c among p parent remote.
       let origin = Contains-from_map (λ (x : Capability). if test x then f x else x) s.caps c among in
       let d : Capability = origin.0 in
-      let back : ((if test d then f d else d).key ≡ d.key) × ((if test d then f d else d).parent ≡ d.parent) = cond_both (test d) (f d) d (λ (y : Capability). (y.key ≡ d.key) × (y.parent ≡ d.parent)) (λ _. same d) (λ _. (refl, refl)) in
+      let back : ((if test d then f d else d).key ≡ d.key) × ((if test d then f d else d).parent ≡ d.parent) =
+      cond_both (test d) (f d) d (λ (y : Capability). (y.key ≡ d.key) × (y.parent ≡ d.parent)) (λ _. same d)
+      (λ _. (refl, refl)) in
       let key : c.key ≡ d.key = ap (λ (x : Capability). x.key) (sym origin.2) ∙ back.0 in
       let of_d : d.parent ≡ Some p = sym back.1 ∙ (ap (λ (x : Capability). x.parent) origin.2 ∙ parent) in
-      ap rooted key ∙ is d origin.1 p of_d
+      ap near key ∙ is d origin.1 p of_d remote
 
   -- what a step needs as long as no capability comes: keys stay distinct too
   abbrev pub IsCalm : Side → Type 0
-  IsCalm s = BelowRoots s × AreDistinct s.caps
+  IsCalm s = IsFarTold s × AreDistinct s.caps
 
-  calm-changed : (s : Side) (test : Capability → Bool) (f : Capability → Capability) → ((c : Capability) → ((f c).key ≡ c.key) × ((f c).parent ≡ c.parent)) → IsCalm s → IsCalm (record s { caps = change test f s.caps })
-  calm-changed s test f same is = (below-changed s test f same is.0, distinct-changed s.caps test f (λ c. (same c).0) is.1)
+  calm-changed : (s : Side) (test : Capability → Bool) (f : Capability → Capability) →
+      ((c : Capability) → ((f c).key ≡ c.key) × ((f c).parent ≡ c.parent)) → IsCalm s →
+      IsCalm (record s { caps = change test f s.caps })
+  calm-changed s test f same is =
+      (far-changed s test f same is.0, distinct-changed s.caps test f (λ c. (same c).0) is.1)
 
   pub calm : IsKept (facts NoKey AnyPlace) IsCalm
   calm = record {
@@ -63,11 +84,20 @@ module _ (rooted : KeyName → Bool) where
     keeps_bound = λ s is v ep src c held unmarked here. is;
     keeps_rung = λ s is v ep f. is;
     keeps_added = λ s is c here childless unmarked. absurd here;
-    keeps_linked = λ s is p k here. calm-changed s (λ c. key_eq c.key p) (λ c. record c { children = with_key c.children k }) (λ c. (refl, refl)) is;
-    keeps_unlinked = λ s is p k. calm-changed s (λ c. key_eq c.key p) (λ c. record c { children = without_key c.children k }) (λ c. (refl, refl)) is;
-    keeps_marked = λ s is ks j here. calm-changed s (λ c. list_any (key_eq c.key) ks) (with_mark j) (λ c. (refl, refl)) is;
-    keeps_restored = λ s is k. calm-changed s (λ c. key_eq c.key k) (λ c. record c { children = []; mark = None }) (λ c. (refl, refl)) is;
-    keeps_removed = λ s is j. (λ c among p parent. is.0 c (Contains-from_filter (λ (x : Capability). not (is_marked_by j x)) s.caps c among).0 p parent, AllPairs-filter (λ (a b : Capability). key_eq a.key b.key ≡ false) (λ c. not (is_marked_by j c)) s.caps is.1);
+    keeps_linked = λ s is p k here. calm-changed s (λ c. key_eq c.key p)
+        (λ c. record c { children = with_key c.children k }) (λ c. (refl, refl)) is;
+    keeps_unlinked = λ s is p k. calm-changed s (λ c. key_eq c.key p)
+        (λ c. record c { children = without_key c.children k }) (λ c. (refl, refl)) is;
+    keeps_marked = λ s is ks j here. calm-changed s (λ c. list_any (key_eq c.key) ks) (with_mark j)
+        (λ c. (refl, refl)) is;
+    keeps_restored = λ s is k. calm-changed s (λ c. key_eq c.key k) (λ c. record c { children = []; mark = None })
+        (λ c. (refl, refl)) is;
+    keeps_removed = λ s is j. (
+      λ c among p parent remote. is.0 c
+          (Contains-from_filter (λ (x : Capability). not (is_marked_by j x)) s.caps c among).0 p parent remote,
+      AllPairs-filter (λ (a b : Capability). key_eq a.key b.key ≡ false)
+          (λ c. not (is_marked_by j c)) s.caps is.1,
+    );
     keeps_pending_added = λ s is p pends. is;
     keeps_pending_removed = λ s is k. is;
     keeps_opened = λ s is root up waiters keep. is;

@@ -1,2 +1,4 @@
 pub mod Counts
+pub mod Costs
 pub mod Costly
+pub mod EachCost

@@ -1,11 +1,20 @@
-ghost use Rattle.std.specs.Prelude.{◌≡◌, ℕ, ◌+◌, ◌*◌, ◌≤◌, List, length};
+ghost use Rattle.std.specs.Prelude.{◌≡◌, ℕ, ◌+◌, ◌*◌, ◌≤◌, List, [], ◌∷◌, length};
 ghost use Rattle.sem_msg.specs.declared.entry.Entry.{Entry};
 ghost use Rattle.sem_msg.specs.Setup.{Setup, IsSetup, call_count, kill_count};
 ghost use Rattle.sem_machine.specs.Schedules.{IsSchedule, world_after};
 ghost use Rattle.sem_machine.specs.Living.{IsQuiet};
 ghost use Rattle.sem_machine.specs.Seeded.{entry_bound, entry_limit};
 ghost use Rattle.sem_bound.specs.Counts.{calls_made, kills_made};
+ghost use Rattle.sem_bound.specs.Costs.{costs_made, each_declared, costs_declared};
 ghost use Rattle.sem_bound.specs.Costly.{costly, costly_journal};
+ghost use Rattle.sem_bound.specs.EachCost.{each_cost, each_cost_journal};
+
+/// Every schedule of every setup has no more entries than the sum of what its calls can bring, each by its kind, and one for each of its
+/// kills; so no more than all calls and kills of the setup can bring.
+pub fn costs_bounded()
+    ensures journal { (T : Setup) → IsSetup T → (J : List Entry) → IsSchedule T J → length J ≤ costs_made T J + kills_made J }
+    ensures setup { (T : Setup) → IsSetup T → (J : List Entry) → IsSchedule T J → length J ≤ costs_declared T + kill_count T }
+{}
 
 /// Every schedule of every setup has at most 21 entries for each of its calls and one for each of its kills; so it has no more than
 /// a run can have, and after as many entries as that nothing is enabled.
@@ -22,4 +31,14 @@ pub fn bound_is_reached()
     ensures setup { IsSetup costly }
     ensures schedule { IsSchedule costly costly_journal }
     ensures reached { length costly_journal ≡ 21 * calls_made costly_journal + kills_made costly_journal }
+{}
+
+/// Each cost is reached: three VPEs make calls that can bring 3, 21, 1, 3, 3, 1, 2, 2, 18, 18 and 18 entries, one VPE is killed, and a
+/// schedule has just as many entries as that.
+pub fn costs_are_reached()
+    ensures setup { IsSetup each_cost }
+    ensures schedule { IsSchedule each_cost each_cost_journal }
+    ensures costs { each_declared each_cost ≡ 3 ∷ 21 ∷ 1 ∷ 3 ∷ 3 ∷ 1 ∷ 2 ∷ 2 ∷ 18 ∷ 18 ∷ 18 ∷ [] }
+    ensures journal { length each_cost_journal ≡ costs_made each_cost each_cost_journal + kills_made each_cost_journal }
+    ensures declared { length each_cost_journal ≡ costs_declared each_cost + kill_count each_cost }
 {}

@@ -1,5 +1,5 @@
-//! The bound: a schedule has at most 21 entries for each of its calls and one for each of its kills; no VPE is asked more often than
-//! there is room for; and what follows for a world in which nothing is under way.
+//! The bound: a schedule has no more entries than its calls can bring, each by its kind, and one for each of its kills; so at most 21
+//! for each call, and after as many as a run may have nothing is enabled.
 #![tactic(auto)]
 
 pub mod bounds;

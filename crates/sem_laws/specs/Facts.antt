@@ -11,6 +11,7 @@ use Rattle.sem_machine.specs.Journals.{made}
 use Rattle.sem_machine.specs.Living.{IsQuiet, IsIdle}
 use Rattle.sem_machine.specs.Seeded.{entry_limit}
 use Rattle.sem_bound.specs.Counts.{calls_made, kills_made}
+use Rattle.sem_bound.specs.Costs.{costs_made, costs_declared}
 use Rattle.sem_revoke.specs.Resting.{IsAtRest}
 use Rattle.sem_parts.specs.Parts.{AreParts}
 use Rattle.sem_query.specs.Whereabouts.{IsThere}
@@ -26,6 +27,11 @@ pub record IsBounded (T : Setup) (J : List Entry) : Type 0 where
   pub by_journal : length J ≤ 21 * calls_made J + kills_made J
   pub by_setup : length J ≤ 21 * call_count T + kill_count T
   pub spent : entry_limit T ≤ length J → IsQuiet T (world_after T J)
+
+-- at most what its calls can bring, each by its kind, and one entry for each kill
+pub record IsPaidByCalls (T : Setup) (J : List Entry) : Type 0 where
+  pub by_journal : length J ≤ costs_made T J + kills_made J
+  pub by_setup : length J ≤ costs_declared T + kill_count T
 
 -- a schedule exactly where its parts are local runs that agree
 abbrev pub IsScheduleByParts : Setup → List Entry → Type 0

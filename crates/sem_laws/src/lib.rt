@@ -6,7 +6,8 @@ ghost use Rattle.sem_bytes.specs.Owning.{AccessesAreOwned};
 ghost use Rattle.sem_fs.specs.Laws.{OfFiles, commands_succeed, closed_are_gone};
 ghost use Rattle.sem_laws.specs.Always.{Always};
 ghost use Rattle.sem_laws.specs.Always.{ForEveryJournal, ForEverySchedule, ForEveryFirstVersion};
-ghost use Rattle.sem_laws.specs.Facts.{RestsWhenIdle, IsBounded, IsScheduleByParts, IsToldByParts};
+ghost use Rattle.sem_laws.specs.Facts.{RestsWhenIdle, IsBounded, IsPaidByCalls};
+ghost use Rattle.sem_laws.specs.Facts.{IsScheduleByParts, IsToldByParts};
 ghost use Rattle.sem_laws.specs.Facts.{RunsAsSecondVersion, IsToldByLives, IsExplained};
 
 /// The six sentences of safety hold after every schedule. A prefix of a schedule is one too, so
@@ -30,6 +31,14 @@ pub fn bounded()
     ensures { Always IsBounded }
 {
     sem_bound::bounds::bounded();
+}
+
+/// A schedule has no more entries than its calls can bring, each by its kind, and one for each of
+/// its kills.
+pub fn costs_bounded()
+    ensures { Always IsPaidByCalls }
+{
+    sem_bound::bounds::costs_bounded();
 }
 
 /// A journal is a schedule exactly where the part of each kernel is a local run and the parts

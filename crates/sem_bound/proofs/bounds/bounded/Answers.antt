@@ -1,5 +1,4 @@
-use Rattle.sem_bound.proofs.Bound.{bounded}
-use Rattle.sem_bound.proofs.Spent.{within-bound, limited, within-limit, never-spent}
+use Rattle.sem_bound.proofs.Spent.{bounded, within-bound, limited, within-limit, never-spent}
 use Rattle.sem_bound.proofs.bounds.bounded.Goals as goal
 
 pub returns-clause-bound : goal.returns-clause-bound
