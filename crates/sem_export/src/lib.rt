@@ -13,5 +13,6 @@ mod schema;
 mod setups;
 mod words;
 
+pub use lines::{json_lines, told_lines};
 pub use requests::{ExportRequest, export};
 pub use schema::SCHEMA;

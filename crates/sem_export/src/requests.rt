@@ -49,7 +49,13 @@ fn export_of(
     audit: &Audit,
 ) -> Result<Answer, OutOfMemory> {
     let text = match request {
-        ExportRequest::Json => json_lines(alloc, setup, journal, audit)?,
+        ExportRequest::Json => {
+            let all = Range {
+                from: 0,
+                to: journal.len(),
+            };
+            json_lines(alloc, setup, journal, all, audit)?
+        }
         ExportRequest::Schema => String::from_str(alloc, SCHEMA)?,
         ExportRequest::Mermaid { from, to } => {
             let Some(range) = range_of(journal.len(), from, to) else {

@@ -2,6 +2,7 @@
 #![tactic(auto)]
 
 mod clears;
+mod forests;
 mod nodes;
 mod places;
 mod rows;
@@ -10,6 +11,7 @@ mod takings;
 mod trees;
 mod walks;
 
+pub use forests::{ForestsFault, forest_lines};
 pub use rows::{TreeRow, tree_rows};
 pub use takings::takes;
 pub use trees::{KEYS, TreeForm, TreeRequest, tree};

@@ -74,8 +74,8 @@ fn tree_of(
     Ok(Answer::done(alloc, draw(alloc, nodes.as_slice(), request.form)?))
 }
 
-// How many keys the setup and the entries make.
-fn key_count(setup: &Setup, entries: &[Entry]) -> usize {
+/// How many keys the setup and the entries make.
+pub fn key_count(setup: &Setup, entries: &[Entry]) -> usize {
     let mut count = 0usize;
     for decl in setup.vpes.as_slice() {
         count = count.saturating_add(decl.roots.len());

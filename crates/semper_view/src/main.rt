@@ -5,11 +5,13 @@
 ghost use Rattle.std.specs.Prelude.{◌≤◌, length};
 
 mod files;
+mod pages;
 mod progress;
 mod searching;
 mod words;
 
 use crate::files::{FileFault, diff, merge};
+use crate::pages::page;
 use crate::progress::Shown;
 use crate::searching::outcomes;
 use crate::words::{Asked, read_words};
@@ -105,6 +107,7 @@ fn answer_to(rt: &HostRuntime, asked: &Asked, bytes: &[u8]) -> Result<Answer, Al
         Asked::Memory { request } => memory_picture(alloc, request, bytes),
         Asked::Story { request } => story(alloc, request, bytes),
         Asked::Export { request } => export(alloc, *request, bytes),
+        Asked::Page { from, to } => page(alloc, *from, *to, bytes),
         Asked::Files => listing(alloc, bytes),
         Asked::Outcomes { search, telling } => {
             let mut shown = Shown::new(rt);

@@ -37,6 +37,8 @@ pub enum Asked {
     Story { request: StoryRequest },
     /// The report for another tool.
     Export { request: ExportRequest },
+    /// The report as one page.
+    Page { from: Option<u64>, to: Option<u64> },
     /// What file commands are compiled to.
     Files,
     /// The outcomes of a trace.
@@ -91,6 +93,10 @@ fn meant(alloc: Global, matches: &ArgMatches<'_>) -> Result<Asked, Error> {
         }),
         Some(("perfetto", _)) => Ok(Asked::Export {
             request: ExportRequest::Perfetto,
+        }),
+        Some(("page", page)) => Ok(Asked::Page {
+            from: page.get_one::<u64>("from"),
+            to: page.get_one::<u64>("to"),
         }),
         Some(("memory", memory)) => Ok(Asked::Memory {
             request: MemoryRequest {
@@ -249,6 +255,7 @@ fn exporting<'a>(alloc: Global, command: Command<'a>) -> Result<Command<'a>, All
         .subcommand(json(alloc)?)?
         .subcommand(dot(alloc)?)?
         .subcommand(mermaid(alloc)?)?
+        .subcommand(page(alloc)?)?
         .subcommand(Command::new(alloc, "perfetto").about(
             "Write a report as a trace that Perfetto and Chrome show",
         ))?
@@ -341,6 +348,14 @@ fn mermaid<'a>(alloc: Global) -> Result<Command<'a>, AllocError> {
         .about("Write the messages of a report as a sequence diagram of Mermaid")
         .arg(number(alloc, "from", "The first entry that is shown"))?
         .arg(number(alloc, "to", "The last entry that is shown"))
+}
+
+// The command that writes a page.
+fn page<'a>(alloc: Global) -> Result<Command<'a>, AllocError> {
+    Command::new(alloc, "page")
+        .about("Write a report as one page for a browser: entries, messages and capabilities")
+        .arg(number(alloc, "from", "The first entry that is shown"))?
+        .arg(number(alloc, "to", "The last entry that is shown; at most 400 are"))
 }
 
 // The command that draws a chart.

@@ -1,0 +1,130 @@
+// The forests after each of some entries, told as what changes from one to the next.
+use crate::nodes::nodes_of;
+use crate::rows::tree_rows;
+use crate::trees::{KEYS, key_count};
+use crate::walks::Walk;
+use sem_draw::{Node, State};
+use sem_key::OutOfMemory;
+use sem_msg::{Journal, Setup};
+use serde::{Described, Serialize};
+use std::alloc::Global;
+
+/// Why there are no forests.
+#[derive(Clone, Copy, Debug, PartialEq, Eq)]
+pub enum ForestsFault {
+    /// The entry of this number is not the one that the machine makes.
+    Wrong(usize),
+    /// There would be so many keys, more than a forest may have.
+    TooMany(usize),
+    Memory,
+}
+
+impl From<OutOfMemory> for ForestsFault {
+    fn from(_: OutOfMemory) -> ForestsFault {
+        ForestsFault::Memory
+    }
+}
+
+// A forest after so many entries: the keys that it has anew, or of which something else is told.
+#[derive(Debug, Drop, Serialize)]
+struct ForestLine {
+    after: u64,
+    keys: Vec<KeyLine>,
+}
+
+// A key, at its place among the made ones, below the one at the place of its parent.
+#[derive(Debug, Drop, Serialize)]
+struct KeyLine {
+    place: u64,
+    key: String,
+    #[serde(skip_serializing_if = "Option::is_none")]
+    parent: Option<u64>,
+    state: &'static str,
+    text: String,
+}
+
+/// The forest after the first `from` entries, and after each one up to `to`, a JSON object a line:
+/// each tells the keys that are new, or of which it tells something else than the line before.
+pub fn forest_lines(
+    alloc: Global,
+    setup: &Setup,
+    journal: &Journal,
+    from: usize,
+    to: usize,
+) -> Result<String, ForestsFault> {
+    let entries = journal.as_slice();
+    let to = to.min(entries.len());
+    let keys = key_count(setup, &entries[..to]);
+    if keys > KEYS {
+        return Err(ForestsFault::TooMany(keys));
+    }
+    let mut walk = Walk::start(alloc, setup)?;
+    let mut out = String::new(alloc);
+    let mut told: Vec<Node> = Vec::new(alloc);
+    for count in 0..=to {
+        if count > 0
+            && let Some(entry) = entries.get(count.saturating_sub(1))
+            && !walk.go_on(setup, entry)?
+        {
+            return Err(ForestsFault::Wrong(count.saturating_sub(1)));
+        }
+        if count >= from {
+            let rows = tree_rows(alloc, setup, journal, count)?;
+            let nodes = nodes_of(alloc, setup, rows.as_slice(), &entries[..count], &walk)?;
+            push_changes(alloc, &mut out, count, told.as_slice(), nodes.as_slice())?;
+            told = nodes;
+        }
+    }
+    Ok(out)
+}
+
+// Appends the line of a forest behind another one.
+fn push_changes(
+    alloc: Global,
+    out: &mut String,
+    count: usize,
+    old: &[Node],
+    new: &[Node],
+) -> Result<(), OutOfMemory> {
+    let mut keys = Vec::new(alloc);
+    for (place, node) in new.iter().enumerate() {
+        if !old.get(place).is_some_and(|before| is_told(before, node)) {
+            keys.push(key_line(alloc, place, node)?)?;
+        }
+    }
+    let line = ForestLine {
+        after: count as u64,
+        keys,
+    };
+    match serde_json::to_string(alloc, &line) {
+        Ok(text) => out.push_str(text.as_str())?,
+        Err(_) => return Err(OutOfMemory),
+    }
+    out.push('\n')
+}
+
+// Whether the one node tells the same of its key as the other.
+fn is_told(before: &Node, node: &Node) -> bool {
+    before.state == node.state && before.text.as_str() == node.text.as_str()
+}
+
+// What is told of the node at a place.
+fn key_line(alloc: Global, place: usize, node: &Node) -> Result<KeyLine, OutOfMemory> {
+    Ok(KeyLine {
+        place: place as u64,
+        key: String::from_str(alloc, node.name.as_str())?,
+        parent: node.parent.map(|parent| parent as u64),
+        state: state_name(node.state),
+        text: String::from_str(alloc, node.text.as_str())?,
+    })
+}
+
+// The name of what has become of a key.
+fn state_name(state: State) -> &'static str {
+    match state {
+        State::Held => "held",
+        State::Marked => "marked",
+        State::OnItsWay => "on its way",
+        State::Gone => "gone",
+    }
+}
