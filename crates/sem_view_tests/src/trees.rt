@@ -1,7 +1,7 @@
 use sem_draw::{Ending, Picture};
 use sem_key::{Key, Kind};
 use sem_report::read_report;
-use sem_tree::{TreeForm, TreeRequest, takes, tree, tree_rows};
+use sem_tree::{TreeForm, TreeRequest, forest_lines, takes, tree, tree_rows};
 use std::test::Fail;
 
 // A revoke takes what a call at the other kernel is ready to install.
@@ -276,6 +276,25 @@ fn forests_tell_what_has_become_of_keys(rt: HostRuntime) -> Result<(), Fail> {
             }
         }
     }
+    Ok(())
+}
+
+// The forest after 4 entries, and what the fifth and the sixth change.
+const CHANGES: &str =
+    r#"{"after":4,"keys":[{"place":0,"key":"0.0.1.0","state":"held","text":"held by v0 of K0 at selector 0; memory, 4096 bytes from 0, rwx"}]}
+{"after":5,"keys":[{"place":1,"key":"1.1.1.0","parent":0,"state":"on its way","text":"on its way to v1 of K1; memory, 4096 bytes from 0, rwx"}]}
+{"after":6,"keys":[]}
+"#;
+
+#[test]
+fn a_line_of_forests_tells_what_an_entry_changes(rt: HostRuntime) -> Result<(), Fail> {
+    let Ok((setup, journal, _)) = read_report(rt.alloc(), REVOKED) else {
+        return Err(Fail::from("no report"));
+    };
+    let Ok(lines) = forest_lines(rt.alloc(), &setup, &journal, 4, 6) else {
+        return Err(Fail::from("no forests"));
+    };
+    assert!(rt; lines.as_str() == CHANGES, "{lines}");
     Ok(())
 }
 
