@@ -12,6 +12,8 @@ use Rattle.sem_machine.specs.Living.{IsQuiet, IsIdle}
 use Rattle.sem_machine.specs.Seeded.{entry_limit}
 use Rattle.sem_bound.specs.Counts.{calls_made, kills_made}
 use Rattle.sem_bound.specs.Costs.{costs_made, costs_declared}
+use Rattle.sem_messages.specs.Messages.{sent, messages_made, grants_across, grants_told}
+use Rattle.sem_messages.specs.Messages.{IsAnswered}
 use Rattle.sem_revoke.specs.Resting.{IsAtRest}
 use Rattle.sem_parts.specs.Parts.{AreParts}
 use Rattle.sem_query.specs.Whereabouts.{IsThere}
@@ -32,6 +34,13 @@ pub record IsBounded (T : Setup) (J : List Entry) : Type 0 where
 pub record IsPaidByCalls (T : Setup) (J : List Entry) : Type 0 where
   pub by_journal : length J ≤ costs_made T J + kills_made J
   pub by_setup : length J ≤ costs_declared T + kill_count T
+
+-- if the world after the journal is idle, every request was answered, each grant across kernels was
+-- told by one message, and the number of messages follows from the requests and notices
+pub record CountsMessages (T : Setup) (J : List Entry) : Type 0 where
+  pub answered : IsIdle (world_after T J) → IsAnswered J
+  pub told : IsIdle (world_after T J) → grants_across T J ≡ grants_told J
+  pub counted : IsIdle (world_after T J) → length (sent J) ≡ messages_made J
 
 -- a schedule exactly where its parts are local runs that agree
 abbrev pub IsScheduleByParts : Setup → List Entry → Type 0

@@ -6,7 +6,7 @@ ghost use Rattle.sem_bytes.specs.Owning.{AccessesAreOwned};
 ghost use Rattle.sem_fs.specs.Laws.{OfFiles, commands_succeed, closed_are_gone};
 ghost use Rattle.sem_laws.specs.Always.{Always};
 ghost use Rattle.sem_laws.specs.Always.{ForEveryJournal, ForEverySchedule, ForEveryFirstVersion};
-ghost use Rattle.sem_laws.specs.Facts.{RestsWhenIdle, IsBounded, IsPaidByCalls};
+ghost use Rattle.sem_laws.specs.Facts.{RestsWhenIdle, IsBounded, IsPaidByCalls, CountsMessages};
 ghost use Rattle.sem_laws.specs.Facts.{IsScheduleByParts, IsToldByParts};
 ghost use Rattle.sem_laws.specs.Facts.{RunsAsSecondVersion, IsToldByLives, IsExplained};
 
@@ -39,6 +39,16 @@ pub fn costs_bounded()
     ensures { Always IsPaidByCalls }
 {
     sem_bound::bounds::costs_bounded();
+}
+
+/// If a schedule leaves an idle world, every request was answered, and an exchange or a request to
+/// revoke took two messages, or three where a delegate was prepared; all others are notices.
+pub fn messages_counted()
+    ensures { Always CountsMessages }
+{
+    sem_messages::laws::requests_are_answered();
+    sem_messages::laws::grants_are_told();
+    sem_messages::laws::messages_are_counted();
 }
 
 /// A journal is a schedule exactly where the part of each kernel is a local run and the parts

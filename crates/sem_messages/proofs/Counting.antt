@@ -1,0 +1,94 @@
+-- What the entries of a journal count in all: the messages that were sent, and the grants from one kernel to another.
+use Rattle.std.proofs.Common.{◌≡◌, ℕ, ◌+◌, Bool, List, [], ◌∷◌, Option, Some, None, refl, ap}
+use Rattle.std.proofs.Common.{arith}
+use Rattle.std.specs.Prelude.{if◌then◌else◌}
+use Rattle.std.specs.List.{sum_by}
+use Rattle.std.proofs.lemmas.Bool.{cond_both}
+use Rattle.std.proofs.lemmas.List.Sums.{sum_by-cons, sum_by-append}
+use Rattle.sem_key.specs.KeyName.{KeyName}
+use Rattle.sem_msg.specs.declared.entry.Entry.{Entry}
+use Rattle.sem_msg.specs.declared.message.Message.{Message}
+use Rattle.sem_msg.specs.Setup.{Setup, IsSetup}
+use Rattle.sem_machine.specs.Journals.{grants}
+use Rattle.sem_machine.specs.Schedules.{IsSchedule, world_after}
+use Rattle.sem_machine.specs.Living.{IsIdle}
+use Rattle.sem_machine.proofs.Weighing.{weigh-none}
+use Rattle.sem_safety.specs.Counts.{one_if}
+use Rattle.sem_messages.specs.Messages.{sent_by, sent}
+use Rattle.sem_messages.specs.Messages.{is_across}
+use Rattle.sem_messages.proofs.Tallies.{Tally}
+use Rattle.sem_messages.proofs.Falling.{of_grant}
+use Rattle.sem_messages.proofs.Keeping.{of_entry}
+use Rattle.sem_messages.proofs.Balancing.{IsBalanced, balanced}
+use Rattle.sem_messages.proofs.Idle.{idle-none}
+use Rattle.std.specs.List.{cons_option}
+use Rattle.std.proofs.lemmas.List.Concat.{flat_map-cons}
+
+-- Sums over entries.
+
+-- what a message counts that is of the one kind or of the other
+abbrev pub either : (Message → Bool) → (Message → Bool) → Message → ℕ
+either a b m = one_if a m + one_if b m
+
+abbrev pub nothing : Message → ℕ
+nothing m = 0
+
+pub sum-both : {X : Type 0} (f g : X → ℕ) (xs : List X) → sum_by (λ x. f x + g x) xs ≡ sum_by f xs + sum_by g xs
+sum-both f g [] = refl
+sum-both f g (x ∷ xs) =
+    let rest = sum-both f g xs in
+    let all = sum_by-cons (λ y. f y + g y) x xs in
+    let one = sum_by-cons f x xs in
+    let two = sum_by-cons g x xs in
+    omega (arith, rest, all, one, two)
+
+pub sum-zero : {X : Type 0} (xs : List X) → sum_by (λ (x : X). 0) xs ≡ 0
+sum-zero [] = refl
+sum-zero (x ∷ xs) = let rest = sum-zero xs in let all = sum_by-cons (λ (y : _). 0) x xs in omega (arith, rest, all)
+
+-- a grant counts if it goes from one kernel to another
+abbrev pub across : Setup → ℕ → KeyName × KeyName → ℕ
+across T g p = if is_across T p then g else 0
+
+grant-more : (T : Setup) (g : ℕ) (o : Option (KeyName × KeyName)) (gs : List (KeyName × KeyName)) →
+    sum_by (across T g) (cons_option o gs) ≡ of_grant T g o + sum_by (across T g) gs
+grant-more T g None gs = omega arith
+grant-more T g (Some p) gs = sum_by-cons (across T g) p gs
+
+-- what all entries count
+pub entries-count : (T : Setup) (L : Message → ℕ) (g : ℕ) (J : List Entry) →
+    sum_by (of_entry T L g) J ≡ sum_by L (sent J) + sum_by (across T g) (grants J)
+entries-count T L g [] = refl
+entries-count T L g (e ∷ es) =
+    let rest = entries-count T L g es in
+    let all = sum_by-cons (of_entry T L g) e es in
+    let more : sum_by (across T g) (grants (e ∷ es)) ≡ of_grant T g e.grant + sum_by (across T g) (grants es) =
+    grant-more T g e.grant (grants es) in
+    let list = ap (sum_by L) (flat_map-cons sent_by e es) in
+    let parts = sum_by-append L (sent_by e) (sent es) in
+    omega (arith, rest, all, more, list, parts)
+
+-- where a grant counts nothing
+pub across-none : (T : Setup) (gs : List (KeyName × KeyName)) → sum_by (across T 0) gs ≡ 0
+across-none T gs =
+    weigh-none (across T 0) gs (λ p among. cond_both (is_across T p) 0 0 (λ n. n ≡ 0) (λ _. refl) (λ _. refl))
+
+-- What a sum that is kept says of an idle world.
+module _ (T : Setup) (valid : IsSetup T) (J : List Entry) (runs : IsSchedule T J) (idle : IsIdle (world_after T J)) where
+  pub settled-count : (P N : Tally) (g : ℕ) (L R : Message → ℕ) → IsBalanced P N g L R →
+      sum_by L (sent J) + sum_by (across T g) (grants J) ≡ sum_by R (sent J)
+  settled-count P N g L R B =
+      let same = balanced P N g L R B T valid J runs in
+      let p = idle-none T P valid J runs idle in
+      let n = idle-none T N valid J runs idle in
+      let l = entries-count T L g J in
+      let r = entries-count T R 0 J in
+      let none = across-none T (grants J) in
+      omega (arith, same, p, n, l, r, none)
+
+  -- where no grant counts
+  pub settled-sent : (P N : Tally) (L R : Message → ℕ) → IsBalanced P N 0 L R → sum_by L (sent J) ≡ sum_by R (sent J)
+  settled-sent P N L R B =
+      let count = settled-count P N 0 L R B in
+      let none = across-none T (grants J) in
+      omega (arith, count, none)

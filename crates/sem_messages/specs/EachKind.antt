@@ -1,0 +1,50 @@
+-- A schedule in which messages of every kind are sent, and after which nothing is left to do
+-- ("Messages" in docs/proof.md).
+use Rattle.std.specs.Prelude.{ℕ, List, [], ◌∷◌, ◌++◌}
+use Rattle.sem_msg.specs.declared.call.Call.{Call}
+use Rattle.sem_msg.specs.declared.call.Call.TheVariants.{Obtain, Delegate, Revoke, Clear}
+use Rattle.sem_msg.specs.declared.event.Act.TheVariants.{Call as Calls, Fetch, Handle, Upcall}
+use Rattle.sem_msg.specs.declared.event.Act.TheVariants.{Resume, Flush, Kill}
+use Rattle.sem_msg.specs.declared.event.Event.{Event}
+use Rattle.sem_msg.specs.declared.entry.Entry.{Entry}
+use Rattle.sem_msg.specs.Setup.{Setup}
+use Rattle.sem_machine.specs.Machine.{event}
+use Rattle.sem_safety.specs.Walks.{journal_of, pair}
+
+-- VPE 0 delegates its memory twice to the same selector of VPE 1, and clears it
+abbrev pub giver_calls : List Call
+giver_calls = Delegate 0 1 4 ∷ Delegate 0 1 4 ∷ Clear 0 ∷ []
+
+-- VPE 1 obtains the memory, asks for what is not there, revokes what it obtained, obtains again
+abbrev pub taker_calls : List Call
+taker_calls = Obtain 0 0 0 ∷ Obtain 1 0 9 ∷ Revoke 0 ∷ Obtain 0 0 0 ∷ []
+
+-- and is killed after six replies
+unfoldable pub each_kind : Setup
+each_kind = pair giver_calls taker_calls ((1, 6) ∷ [])
+
+-- a message goes from one kernel to another, and is handled there
+abbrev carried : ℕ → ℕ → List Event
+carried i j = event i (Flush j) ∷ event j (Fetch i) ∷ event j Handle ∷ []
+
+-- VPE v of kernel v asks the VPE of kernel w, and has its answer
+abbrev asked : ℕ → ℕ → List Event
+asked v w =
+    event v (Calls v) ∷ carried v w ++ event w (Upcall w) ∷ carried w v ++ event v (Resume v) ∷ []
+
+unfoldable pub each_kind_events : List Event
+each_kind_events =
+    -- the memory is delegated, and acknowledged; then it is refused
+    asked 0 1 ++ carried 0 1 ++ asked 0 1
+    -- it is obtained; nothing is obtained
+    ++ asked 1 0 ++ asked 1 0
+    -- what was obtained is revoked, what was delegated is cleared
+    ++ event 1 (Calls 1) ∷ event 1 (Resume 1) ∷ carried 1 0
+    ++ event 0 (Calls 0) ∷ carried 0 1 ++ carried 1 0 ++ event 0 (Resume 0)
+    -- the memory is obtained for one that is dead when it comes
+    ∷ event 1 (Calls 1) ∷ carried 1 0 ++ event 0 (Upcall 0) ∷ event 1 (Kill 1)
+    ∷ carried 0 1 ++ carried 1 0
+
+-- the journal that they make
+abbrev pub each_kind_journal : List Entry
+each_kind_journal = journal_of each_kind each_kind_events

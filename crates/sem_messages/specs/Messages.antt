@@ -1,0 +1,125 @@
+-- The messages that kernels send each other in a run, by their kinds ("Messages" in docs/proof.md).
+use Rattle.std.specs.Prelude.{◌≡◌, ℕ, ◌+◌, ◌*◌, ◌==◌, Bool, true, false, not, List, [], flat_map}
+use Rattle.std.specs.Prelude.{count_by, if◌then◌else◌}
+use Rattle.sem_key.specs.KeyName.{KeyName}
+use Rattle.sem_msg.specs.declared.message.Message.{Message}
+use Rattle.sem_msg.specs.declared.message.Message.TheVariants.{ObtainReq, ObtainOk, ObtainNo}
+use Rattle.sem_msg.specs.declared.message.Message.TheVariants.{DelegateReq, DelegatePrepared}
+use Rattle.sem_msg.specs.declared.message.Message.TheVariants.{DelegateNo, Ack, Orphan}
+use Rattle.sem_msg.specs.declared.message.Message.TheVariants.{RevokeReq, RevokeDone, Unlink}
+use Rattle.sem_msg.specs.declared.event.Act.{Act}
+use Rattle.sem_msg.specs.declared.event.Act.TheVariants.{Flush}
+use Rattle.sem_msg.specs.declared.entry.Entry.{Entry}
+use Rattle.sem_msg.specs.Setup.{Setup}
+use Rattle.sem_msg.specs.Journal.{message_in}
+use Rattle.sem_msg.specs.Lookups.{owner_of}
+use Rattle.sem_machine.specs.Journals.{grants}
+
+-- What was sent.
+
+-- whether an act is a flush, which puts a message into a link
+abbrev pub is_flush : Act → Bool
+is_flush (Flush to) = true
+is_flush act = false
+
+-- the message that an entry sends, if it is one of a flush
+abbrev pub sent_by : Entry → List Message
+sent_by e = if is_flush e.event.act then message_in e.detail else []
+
+-- all messages that the kernels sent each other, in their order
+abbrev pub sent : List Entry → List Message
+sent J = flat_map sent_by J
+
+-- Kinds of messages.
+
+abbrev pub is_obtain_req : Message → Bool
+is_obtain_req (ObtainReq place target) = true
+is_obtain_req m = false
+
+abbrev pub is_obtain_ok : Message → Bool
+is_obtain_ok (ObtainOk parent key object) = true
+is_obtain_ok m = false
+
+abbrev pub is_obtain_no : Message → Bool
+is_obtain_no (ObtainNo place code) = true
+is_obtain_no m = false
+
+abbrev pub is_delegate_req : Message → Bool
+is_delegate_req (DelegateReq parent object vpe sel) = true
+is_delegate_req m = false
+
+abbrev pub is_prepared : Message → Bool
+is_prepared (DelegatePrepared parent key) = true
+is_prepared m = false
+
+abbrev pub is_delegate_no : Message → Bool
+is_delegate_no (DelegateNo parent code) = true
+is_delegate_no m = false
+
+abbrev pub is_ack : Message → Bool
+is_ack (Ack key accepted) = true
+is_ack m = false
+
+-- an Ack that accepts
+abbrev pub is_ack_yes : Message → Bool
+is_ack_yes (Ack key accepted) = accepted
+is_ack_yes m = false
+
+abbrev pub is_orphan : Message → Bool
+is_orphan (Orphan parent key) = true
+is_orphan m = false
+
+abbrev pub is_revoke_req : Message → Bool
+is_revoke_req (RevokeReq key job) = true
+is_revoke_req m = false
+
+abbrev pub is_revoke_done : Message → Bool
+is_revoke_done (RevokeDone job) = true
+is_revoke_done m = false
+
+abbrev pub is_unlink : Message → Bool
+is_unlink (Unlink parent key) = true
+is_unlink m = false
+
+-- how many messages of a kind were sent
+abbrev pub count_sent : (Message → Bool) → List Entry → ℕ
+count_sent kind J = count_by kind (sent J)
+
+-- Grants.
+
+-- whether parent and child belong to different kernels
+abbrev pub is_across : Setup → KeyName × KeyName → Bool
+is_across T g = not (owner_of T g.0 == owner_of T g.1)
+
+-- how many grants were made from one kernel to another
+abbrev pub grants_across : Setup → List Entry → ℕ
+grants_across T J = count_by (is_across T) (grants J)
+
+-- What is so of an idle world.
+
+-- every request was answered, and every answer was asked for
+pub record IsAnswered (J : List Entry) : Type 0 where
+  -- an obtain, an open or an ask of an offer is granted or refused
+  pub obtains : count_sent is_obtain_req J
+      ≡ count_sent is_obtain_ok J + count_sent is_obtain_no J
+  -- a delegate is prepared or refused
+  pub delegates : count_sent is_delegate_req J
+      ≡ count_sent is_prepared J + count_sent is_delegate_no J
+  -- what was prepared is acknowledged
+  pub acks : count_sent is_prepared J ≡ count_sent is_ack J
+  -- a request to revoke is done
+  pub revokes : count_sent is_revoke_req J ≡ count_sent is_revoke_done J
+
+-- how many messages requests and notices make: two for each exchange and each request to revoke,
+-- one more for each delegate that was prepared, and one for each orphan and unlink
+abbrev pub messages_made : List Entry → ℕ
+messages_made J =
+    2 * count_sent is_obtain_req J
+    + (2 * count_sent is_delegate_req J
+    + (count_sent is_prepared J
+    + (2 * count_sent is_revoke_req J
+    + (count_sent is_orphan J + count_sent is_unlink J))))
+
+-- how many messages tell of a grant across kernels
+abbrev pub grants_told : List Entry → ℕ
+grants_told J = count_sent is_obtain_ok J + count_sent is_ack_yes J

@@ -1,0 +1,56 @@
+ghost use Rattle.std.specs.Prelude.{◌≡◌, List, length};
+ghost use Rattle.sem_msg.specs.declared.entry.Entry.{Entry};
+ghost use Rattle.sem_msg.specs.Setup.{Setup, IsSetup};
+ghost use Rattle.sem_machine.specs.Schedules.{IsSchedule, world_after};
+ghost use Rattle.sem_machine.specs.Living.{IsIdle, IsQuiet};
+ghost use Rattle.sem_messages.specs.Messages.{sent, count_sent, messages_made};
+ghost use Rattle.sem_messages.specs.Messages.{grants_across, grants_told, IsAnswered};
+ghost use Rattle.sem_messages.specs.Messages.{is_obtain_req, is_obtain_ok, is_obtain_no};
+ghost use Rattle.sem_messages.specs.Messages.{is_delegate_req, is_prepared, is_delegate_no};
+ghost use Rattle.sem_messages.specs.Messages.{is_ack, is_ack_yes, is_revoke_req, is_revoke_done};
+ghost use Rattle.sem_messages.specs.Messages.{is_orphan, is_unlink};
+ghost use Rattle.sem_messages.specs.EachKind.{each_kind, each_kind_journal};
+
+/// If a schedule leaves an idle world, every request was answered: as many obtains as were granted
+/// or refused, as many delegates as were prepared or refused, as many preparations as
+/// acknowledgements, and as many requests to revoke as were done.
+pub fn requests_are_answered()
+    ensures answered { (T : Setup) → IsSetup T → (J : List Entry) → IsSchedule T J
+        → IsIdle (world_after T J) → IsAnswered J }
+{}
+
+/// Then each grant from one kernel to another was told by one message: an ObtainOk, or an Ack that
+/// accepts.
+pub fn grants_are_told()
+    ensures told { (T : Setup) → IsSetup T → (J : List Entry) → IsSchedule T J
+        → IsIdle (world_after T J) → grants_across T J ≡ grants_told J }
+{}
+
+/// Then an obtain across kernels took two messages, a delegate two or three, and each link between
+/// kernels that a revoke followed two; all other messages are orphans and unlinks.
+pub fn messages_are_counted()
+    ensures counted { (T : Setup) → IsSetup T → (J : List Entry) → IsSchedule T J
+        → IsIdle (world_after T J) → length (sent J) ≡ messages_made J }
+{}
+
+/// The laws speak of something: a setup of two kernels has a schedule in which messages of every
+/// kind are sent, and after which nothing is left to do.
+pub fn each_kind_is_sent()
+    ensures setup { IsSetup each_kind }
+    ensures schedule { IsSchedule each_kind each_kind_journal }
+    ensures quiet { IsQuiet each_kind (world_after each_kind each_kind_journal) }
+    ensures obtains { (count_sent is_obtain_req each_kind_journal ≡ 3)
+        × (count_sent is_obtain_ok each_kind_journal ≡ 2)
+        × (count_sent is_obtain_no each_kind_journal ≡ 1) }
+    ensures delegates { (count_sent is_delegate_req each_kind_journal ≡ 2)
+        × (count_sent is_prepared each_kind_journal ≡ 1)
+        × (count_sent is_delegate_no each_kind_journal ≡ 1) }
+    ensures acks { (count_sent is_ack each_kind_journal ≡ 1)
+        × (count_sent is_ack_yes each_kind_journal ≡ 1) }
+    ensures revokes { (count_sent is_revoke_req each_kind_journal ≡ 1)
+        × (count_sent is_revoke_done each_kind_journal ≡ 1) }
+    ensures notices { (count_sent is_orphan each_kind_journal ≡ 1)
+        × (count_sent is_unlink each_kind_journal ≡ 1) }
+    ensures grants { grants_across each_kind each_kind_journal ≡ 3 }
+    ensures sent { length (sent each_kind_journal) ≡ 15 }
+{}
