@@ -1,0 +1,45 @@
+-- For private functions alone: what the top call leaves in memory.
+use Rattle.std.specs.Prelude.{◌≡◌, ◌≢◌, ◌⊎◌, ℕ, List, [], Option, Some}
+use Rattle.sem_msg.specs.declared.entry.Entry.{Entry}
+use Rattle.sem_cli.specs.declared.forms.Command.{Command}
+use Rattle.sem_cli.specs.declared.statuses.Status.{Status}
+use Rattle.sem_cli.specs.declared.statuses.Status.TheVariants.{WriteFault, Memory}
+use Rattle.sem_run.specs.Inputs.{Given}
+use Rattle.sem_run.specs.Ends.{Output}
+use Rattle.sem_run.specs.Serves.{Serves}
+
+-- an input in memory that never fails
+abbrev pub from_memory : Option Command → List ℕ → Option (List ℕ) → Given
+from_memory asked input rest = record {
+  asked = asked;
+  before = Some input;
+  after = rest;
+  faults_before = 0;
+  faults_after = 0;
+}
+
+-- an output in memory, of which this was written
+abbrev pub to_memory : Status → List Entry → List ℕ → ℕ → Output
+to_memory status journal text faults = record {
+  status = status;
+  journal = journal;
+  before = Some [];
+  after = Some text;
+  faults_before = 0;
+  faults_after = faults;
+}
+
+-- The program serves the words with that status and text, and no write failed.
+pub record IsServed
+    (asked : Option Command) (input : List ℕ)
+    (status : Status) (text : List ℕ) : Type 0 where
+  pub rest : Option (List ℕ)
+  pub journal : List Entry
+  pub faults : ℕ
+  pub whole : status ≢ WriteFault
+  pub serves : Serves (from_memory asked input rest) (to_memory status journal text faults)
+
+-- so it is, or memory is lacking and there is no text
+abbrev pub IsServedOrLacks : Option Command → List ℕ → Status → List ℕ → Type 0
+IsServedOrLacks asked input status text =
+    IsServed asked input status text ⊎ ((status ≡ Memory) × (text ≡ []))

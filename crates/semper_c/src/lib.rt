@@ -1,0 +1,9 @@
+//! The program as a static library with a C interface, which `include/semper.h` declares: texts in,
+//! texts out into the caller's buffer, a status back. It waits for nobody and keeps nothing.
+#![tactic(auto)]
+
+mod answers;
+mod exports;
+mod kept;
+
+pub use exports::{semper_check, semper_contents, semper_run, semper_version};
