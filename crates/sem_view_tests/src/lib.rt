@@ -1,7 +1,9 @@
-//! Tests of what shows reports and outcomes: charts, forests, bars, timelines, counts, explanations
-//! and comparisons; nothing that runs.
+//! Tests of what shows reports and outcomes: charts, forests, bars, timelines, counts, explanations,
+//! comparisons and logs put together; nothing that runs.
 #![tactic(auto)]
 
+#[cfg(test)]
+mod assemblies;
 #[cfg(test)]
 mod comparisons;
 #[cfg(test)]

@@ -16,6 +16,7 @@ use crate::progress::Shown;
 use crate::searching::outcomes;
 use crate::words::{Asked, read_words};
 use clap::error::ErrorKind;
+use sem_assemble::assemble;
 use sem_draw::{Answer, Ending};
 use sem_explain::{explain_files, explain_report, explain_trace};
 use sem_export::export;
@@ -109,6 +110,7 @@ fn answer_to(rt: &HostRuntime, asked: &Asked, bytes: &[u8]) -> Result<Answer, Al
         Asked::Export { request } => export(alloc, *request, bytes),
         Asked::Page { from, to } => page(alloc, *from, *to, bytes),
         Asked::Files => listing(alloc, bytes),
+        Asked::Assemble => assemble(alloc, bytes),
         Asked::Outcomes { search, telling } => {
             let mut shown = Shown::new(rt);
             let answer = outcomes(alloc, *search, *telling, bytes, &mut shown);

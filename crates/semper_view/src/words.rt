@@ -41,6 +41,8 @@ pub enum Asked {
     Page { from: Option<u64>, to: Option<u64> },
     /// What file commands are compiled to.
     Files,
+    /// The report of the logs of kernels.
+    Assemble,
     /// The outcomes of a trace.
     Outcomes { search: Search, telling: Telling },
     /// The samples in these files, put together.
@@ -117,6 +119,7 @@ fn meant(alloc: Global, matches: &ArgMatches<'_>) -> Result<Asked, Error> {
             other: String::from_str(alloc, diff.get_str("b").unwrap_or(""))?,
         }),
         Some(("files", _)) => Ok(Asked::Files),
+        Some(("assemble", _)) => Ok(Asked::Assemble),
         Some(("explain", _)) => Ok(Asked::Explain),
         Some((name, view)) => Ok(Asked::View {
             request: viewed(alloc, name, view)?,
@@ -258,6 +261,9 @@ fn exporting<'a>(alloc: Global, command: Command<'a>) -> Result<Command<'a>, All
         .subcommand(page(alloc)?)?
         .subcommand(Command::new(alloc, "perfetto").about(
             "Write a report as a trace that Perfetto and Chrome show",
+        ))?
+        .subcommand(Command::new(alloc, "assemble").about(
+            "Put a trace and the logs of its kernels together to a report",
         ))?
         .subcommand(Command::new(alloc, "explain").about(
             "Tell why a trace, a report or file commands are refused, or that they are accepted",
