@@ -13,7 +13,7 @@ use Rattle.sem_machine.specs.Seeded.{entry_limit}
 use Rattle.sem_bound.specs.Counts.{calls_made, kills_made}
 use Rattle.sem_bound.specs.Costs.{costs_made, costs_declared}
 use Rattle.sem_messages.specs.Messages.{sent, messages_made, grants_across, grants_told}
-use Rattle.sem_messages.specs.Messages.{IsAnswered}
+use Rattle.sem_messages.specs.Messages.{IsAnswered, count_sent, is_revoke_req}
 use Rattle.sem_revoke.specs.Resting.{IsAtRest}
 use Rattle.sem_parts.specs.Parts.{AreParts}
 use Rattle.sem_query.specs.Whereabouts.{IsThere}
@@ -36,11 +36,13 @@ pub record IsPaidByCalls (T : Setup) (J : List Entry) : Type 0 where
   pub by_setup : length J ≤ costs_declared T + kill_count T
 
 -- if the world after the journal is idle, every request was answered, each grant across kernels was
--- told by one message, and the number of messages follows from the requests and notices
+-- told by one message, and the number of messages follows from the requests and notices; idle or
+-- not, there were no more requests to revoke than grants across kernels
 pub record CountsMessages (T : Setup) (J : List Entry) : Type 0 where
   pub answered : IsIdle (world_after T J) → IsAnswered J
   pub told : IsIdle (world_after T J) → grants_across T J ≡ grants_told J
   pub counted : IsIdle (world_after T J) → length (sent J) ≡ messages_made J
+  pub few_revokes : count_sent is_revoke_req J ≤ grants_across T J
 
 -- a schedule exactly where its parts are local runs that agree
 abbrev pub IsScheduleByParts : Setup → List Entry → Type 0

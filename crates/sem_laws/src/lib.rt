@@ -42,13 +42,15 @@ pub fn costs_bounded()
 }
 
 /// If a schedule leaves an idle world, every request was answered, and an exchange or a request to
-/// revoke took two messages, or three where a delegate was prepared; all others are notices.
+/// revoke took two messages, or three where a delegate was prepared; all others are notices. No more
+/// requests to revoke were sent than grants were made across kernels.
 pub fn messages_counted()
     ensures { Always CountsMessages }
 {
     sem_messages::laws::requests_are_answered();
     sem_messages::laws::grants_are_told();
     sem_messages::laws::messages_are_counted();
+    sem_messages::laws::revokes_follow_grants();
 }
 
 /// A journal is a schedule exactly where the part of each kernel is a local run and the parts

@@ -22,7 +22,13 @@ use Rattle.sem_messages.proofs.Families.{obtains-balanced, delegates-balanced, a
 -- Every message is of one kind.
 
 abbrev kinds_of : Message → ℕ
-kinds_of m = one_if is_obtain_req m + (one_if is_obtain_ok m + (one_if is_obtain_no m + (one_if is_delegate_req m + (one_if is_prepared m + (one_if is_delegate_no m + (one_if is_ack m + (one_if is_orphan m + (one_if is_revoke_req m + (one_if is_revoke_done m + (one_if is_unlink m))))))))))
+kinds_of m =
+    one_if is_obtain_req m + (one_if is_obtain_ok m + (
+    one_if is_obtain_no m + (one_if is_delegate_req m + (
+    one_if is_prepared m + (one_if is_delegate_no m + (
+    one_if is_ack m + (one_if is_orphan m + (
+    one_if is_revoke_req m + (one_if is_revoke_done m + (
+    one_if is_unlink m))))))))))
 
 one-kind : (m : Message) → kinds_of m ≡ 1
 one-kind (ObtainReq place target) = refl
@@ -38,7 +44,13 @@ one-kind (RevokeDone job) = refl
 one-kind (Unlink parent key) = refl
 
 abbrev kinds_sent : List Message → ℕ
-kinds_sent ms = count_by is_obtain_req ms + (count_by is_obtain_ok ms + (count_by is_obtain_no ms + (count_by is_delegate_req ms + (count_by is_prepared ms + (count_by is_delegate_no ms + (count_by is_ack ms + (count_by is_orphan ms + (count_by is_revoke_req ms + (count_by is_revoke_done ms + (count_by is_unlink ms))))))))))
+kinds_sent ms =
+    count_by is_obtain_req ms + (count_by is_obtain_ok ms + (
+    count_by is_obtain_no ms + (count_by is_delegate_req ms + (
+    count_by is_prepared ms + (count_by is_delegate_no ms + (
+    count_by is_ack ms + (count_by is_orphan ms + (
+    count_by is_revoke_req ms + (count_by is_revoke_done ms + (
+    count_by is_unlink ms))))))))))
 
 all-kinds : (ms : List Message) → length ms ≡ kinds_sent ms
 all-kinds [] = refl
@@ -58,7 +70,8 @@ all-kinds (m ∷ ms) =
     let k10 = sum_by-cons (one_if is_unlink) m ms in
     omega (arith, rest, one, k0, k1, k2, k3, k4, k5, k6, k7, k8, k9, k10)
 
-module _ (T : Setup) (valid : IsSetup T) (J : List Entry) (runs : IsSchedule T J) (idle : IsIdle (world_after T J)) where
+module _ (T : Setup) (valid : IsSetup T) (J : List Entry) (runs : IsSchedule T J)
+    (idle : IsIdle (world_after T J)) where
   pub obtains-answered : count_sent is_obtain_req J ≡ count_sent is_obtain_ok J + count_sent is_obtain_no J
   obtains-answered =
       let same = settled-sent T valid J runs idle no_tally obtains (one_if is_obtain_req)

@@ -15,7 +15,8 @@ use Rattle.sem_msg.specs.declared.entry.Consent.TheVariants.{Yes, No}
 use Rattle.sem_msg.specs.declared.message.Message.TheVariants.{ObtainOk}
 use Rattle.sem_msg.specs.declared.message.Message.TheVariants.{DelegatePrepared}
 use Rattle.sem_msg.specs.declared.message.Target.{Target}
-use Rattle.sem_msg.specs.declared.message.Target.TheVariants.{Sel as SelTarget, Serv as ServTarget, Offer as OfferTarget}
+use Rattle.sem_msg.specs.declared.message.Target.TheVariants.{Sel as SelTarget, Serv as ServTarget}
+use Rattle.sem_msg.specs.declared.message.Target.TheVariants.{Offer as OfferTarget}
 use Rattle.sem_msg.specs.declared.state.Ask.{Ask}
 use Rattle.sem_msg.specs.declared.state.Ask.TheVariants.{Obtain as ObtainAsk, Delegate as DelegateAsk}
 use Rattle.sem_msg.specs.declared.state.Parked.{Parked}
@@ -37,7 +38,9 @@ use Rattle.sem_machine.proofs.FirstCodes.{unless-keeps, unless-passed}
 use Rattle.sem_messages.specs.Messages.{is_across}
 use Rattle.sem_messages.proofs.Tallies.{Tally, of_ask, of_side, side-drawn, side-slot, side-send}
 use Rattle.sem_messages.proofs.Tallies.{side-pending}
-use Rattle.sem_messages.proofs.Falling.{of_grant, IsFalling, Revokings}
+use Rattle.sem_safety.specs.Seen.{AreDistinct}
+use Rattle.sem_messages.proofs.Links.{side-linked_near, side-linked, side-bare}
+use Rattle.sem_messages.proofs.Falling.{AreLed, of_grant, IsFalling, Revokings}
 use Rattle.sem_messages.proofs.Rows.{IsOfKernel, cap-among, own-among, installed-same, ask-near}
 use Rattle.sem_messages.proofs.Rows.{ask-far, grant-near, ask_refused-falls}
 
@@ -73,16 +76,18 @@ module _ (T : Setup) (K : Tally) (i : ℕ) where
   here-same k p object (Some (RevokeWait job)) s = refl
   here-same k p object (Some (Ready code)) s = refl
 
-module _ (T : Setup) (P N : Tally) (gl gr : ℕ) (F : IsFalling P N gl gr) (i : ℕ) (R : Revokings T P N i) where
+module _ (T : Setup) (P N : Tally) (gl lead gr : ℕ) (F : IsFalling P N (gl + lead) gr) (A : AreLed T P N lead)
+    (i : ℕ) (R : Revokings T P N i) where
   -- Upcalls. The ask was taken out, and is answered.
   abbrev pub Paid : Ask → Side → Step → Type 0
   Paid a s x = ((of_side T P i x.side + of_side T N i s) + of_ask T N i a) + of_grant T gl x.outcome.grant
       ≤ ((of_side T P i s + of_side T N i x.side) + of_ask T P i a) + of_grant T gr x.outcome.grant
 
   refused-paid : (code : Code) (a : Ask) (s : Side) → Paid a s (plain (ask_refused T i code a s))
-  refused-paid code a s = let less = ask_refused-falls T P N gl gr F i R code a s in omega (arith, less)
+  refused-paid code a s = let less = ask_refused-falls T P N gl lead gr F A i R code a s in omega (arith, less)
 
-  module _ (s : Side) (home : (c : Capability) → Contains s.caps c → IsOfKernel T i c.key) where
+  module _ (s : Side) (home : (c : Capability) → Contains s.caps c → IsOfKernel T i c.key)
+      (distinct : AreDistinct s.caps) where
     child_given-paid : (place : PlaceName) (target : Target) (p : Capability) → owner_of T p.key ≡ i →
         place_owner T place ≡ kernel_of T place.vpe → Paid (ObtainAsk place target) s (child_given T i place target s p)
     child_given-paid place target p own' addressed =
@@ -98,12 +103,14 @@ module _ (T : Setup) (P N : Tally) (gl gr : ℕ) (F : IsFalling P N gl gr) (i : 
         (λ near.
         let same : owner_of T p.key ≡ owner_of T k =
         own' ∙ sym (child ∙ eqb-true (kernel_of T place.vpe) i near) in
-        let l = grant-near T P N gl gr F i R gl p.key k same in
-        let r = grant-near T P N gl gr F i R gr p.key k same in
+        let l = grant-near T P N gl lead gr F A i R gl p.key k same in
+        let r = grant-near T P N gl lead gr F A i R gr p.key k same in
         let none = ask-near T N i a near in
         let q = here-same T P i k p.key object (parked linking place.vpe) linking in
         let n = here-same T N i k p.key object (parked linking place.vpe) linking in
-        omega (arith, l, r, none, q, n))
+        let lp = side-linked_near T P i s p.key k (A.near i k (child ∙ eqb-true (kernel_of T place.vpe) i near)) in
+        let ln = side-bare T N i A.bare s linking.caps in
+        omega (arith, l, r, none, q, n, lp, ln))
         (λ far.
         let apart : owner_of T p.key ≢ owner_of T k =
         λ same. true≢false (sym (eq-eqb (kernel_of T place.vpe) i (sym child ∙ (sym same ∙ own'))) ∙ far) in
@@ -114,7 +121,10 @@ module _ (T : Setup) (P N : Tally) (gl gr : ℕ) (F : IsFalling P N gl gr) (i : 
         let q = side-send T P i linking (place_owner T place) (ObtainOk p.key k object) in
         let n = side-send T N i linking (place_owner T place) (ObtainOk p.key k object) in
         let less = F.given place target p.key k object in
-        omega (arith, l, r, one, two, q, n, less))
+        let lp = side-linked T P i s p.key k distinct in
+        let ln = side-bare T N i A.bare s linking.caps in
+        let most = A.most i k in
+        omega (arith, l, r, one, two, q, n, less, lp, ln, most))
 
     delegate_here-paid : (v : ℕ) (parent : KeyName) (object : Object) (sel : ℕ) → owner_of T parent ≡ i →
         pe_owner T (pe_of T v) ≡ i → (kernel_of T parent.vpe == i) ≡ true →
@@ -123,14 +133,16 @@ module _ (T : Setup) (P N : Tally) (gl gr : ℕ) (F : IsFalling P N gl gr) (i : 
         let a : Ask = DelegateAsk parent object sel in
         let k : KeyName = next_key T s v parent.kind in
         let linking : Side = linked parent k (drawn v s) in
-        let l = grant-near T P N gl gr F i R gl parent k (own' ∙ sym pe) in
-        let r = grant-near T P N gl gr F i R gr parent k (own' ∙ sym pe) in
+        let l = grant-near T P N gl lead gr F A i R gl parent k (own' ∙ sym pe) in
+        let r = grant-near T P N gl lead gr F A i R gr parent k (own' ∙ sym pe) in
         let dp = side-drawn T P i s v in
         let dn = side-drawn T N i s v in
         let q = installed-same T P i linking k (Some parent) sel object in
         let n = installed-same T N i linking k (Some parent) sel object in
         let none = ask-near T N i a near in
-        omega (arith, l, r, dp, dn, q, n, none)
+        let lp = side-linked_near T P i (drawn v s) parent k (A.near i k pe) in
+        let ln = side-bare T N i A.bare (drawn v s) linking.caps in
+        omega (arith, l, r, dp, dn, q, n, none, lp, ln)
 
     delegate_prepared-paid : (v : ℕ) (parent : KeyName) (object : Object) (sel : ℕ) →
         (kernel_of T parent.vpe == i) ≡ false →

@@ -13,7 +13,8 @@ use Rattle.sem_msg.specs.declared.state.Ask.TheVariants.{Obtain as ObtainAsk, De
 use Rattle.sem_msg.specs.Setup.{Setup, IsSetup}
 use Rattle.sem_machine.specs.Schedules.{IsSchedule, world_after}
 use Rattle.sem_messages.proofs.Tallies.{Tally}
-use Rattle.sem_messages.proofs.Falling.{is_done, IsFalling}
+use Rattle.sem_messages.proofs.Links.{IsBare}
+use Rattle.sem_messages.proofs.Falling.{AreLed, is_done, IsFalling}
 use Rattle.sem_messages.proofs.Steadying.{IsSettled, settled-revokings}
 use Rattle.sem_messages.proofs.Worlds.{of_world}
 use Rattle.sem_messages.proofs.Keeping.{of_entry, IsFlushed, schedule-kept}
@@ -51,7 +52,7 @@ pub record IsBalanced (P N : Tally) (g : ℕ) (L R : Message → ℕ) : Type 0 w
   pub flush : (m : Message) → (P.on m + N.out m) + L m ≡ (N.on m + P.out m) + R m
 
 module _ (P N : Tally) (g : ℕ) (L R : Message → ℕ) (B : IsBalanced P N g L R) where
-  falls : IsFalling P N g 0
+  falls : IsFalling P N (g + 0) 0
   falls = record {
     obtain = λ place target. let e = B.obtain place target in omega (arith, e);
     delegate = λ parent object vpe sel. let e = B.delegate parent object vpe sel in omega (arith, e);
@@ -87,6 +88,7 @@ module _ (P N : Tally) (g : ℕ) (L R : Message → ℕ) (B : IsBalanced P N g L
 
   turned : IsSettled N P
   turned = let S = B.settled in record {
+    links = (S.links.1, S.links.0);
     jobs = λ x. ((S.jobs x).1, (S.jobs x).0);
     sends = λ m none. sym (S.sends m none);
     requests = λ key job. sym (S.requests key job);
@@ -99,13 +101,22 @@ module _ (P N : Tally) (g : ℕ) (L R : Message → ℕ) (B : IsBalanced P N g L
   flush-rises : IsFlushed N P R L
   flush-rises m = let e = B.flush m in omega (arith, e)
 
+  led : (T : Setup) (P N : Tally) → IsBare P × IsBare N → AreLed T P N 0
+  led T P N bare = record {
+    bare = bare.1;
+    near = λ i k here. bare.0 i k;
+    most = λ i k. let none = bare.0 i k in omega (arith, none);
+  }
+
   -- after every schedule both sides of the sum are the same
   pub balanced : (T : Setup) → IsSetup T → (J : List Entry) → IsSchedule T J →
       sum_by (of_entry T L g) J + of_world T P (world_after T J)
       ≡ sum_by (of_entry T R 0) J + of_world T N (world_after T J)
   balanced T valid J runs =
-      let less = schedule-kept T P N g 0 falls L R flush-falls (settled-revokings T P N B.settled) J
+      let less = schedule-kept T P N g 0 0 falls (led T P N B.settled.links) L R flush-falls
+      (settled-revokings T P N B.settled) J
       (λ before runs' i within. side-known T valid before runs' i within) runs in
-      let more = schedule-kept T N P 0 g rises R L flush-rises (settled-revokings T N P turned) J
+      let more = schedule-kept T N P 0 0 g rises (led T N P (B.settled.links.1, B.settled.links.0)) R L
+      flush-rises (settled-revokings T N P turned) J
       (λ before runs' i within. side-known T valid before runs' i within) runs in
       omega (arith, less, more)

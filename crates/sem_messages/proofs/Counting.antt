@@ -74,13 +74,14 @@ across-none T gs =
     weigh-none (across T 0) gs (λ p among. cond_both (is_across T p) 0 0 (λ n. n ≡ 0) (λ _. refl) (λ _. refl))
 
 -- What a sum that is kept says of an idle world.
-module _ (T : Setup) (valid : IsSetup T) (J : List Entry) (runs : IsSchedule T J) (idle : IsIdle (world_after T J)) where
+module _ (T : Setup) (valid : IsSetup T) (J : List Entry) (runs : IsSchedule T J)
+    (idle : IsIdle (world_after T J)) where
   pub settled-count : (P N : Tally) (g : ℕ) (L R : Message → ℕ) → IsBalanced P N g L R →
       sum_by L (sent J) + sum_by (across T g) (grants J) ≡ sum_by R (sent J)
   settled-count P N g L R B =
       let same = balanced P N g L R B T valid J runs in
-      let p = idle-none T P valid J runs idle in
-      let n = idle-none T N valid J runs idle in
+      let p = idle-none T P B.settled.links.0 valid J runs idle in
+      let n = idle-none T N B.settled.links.1 valid J runs idle in
       let l = entries-count T L g J in
       let r = entries-count T R 0 J in
       let none = across-none T (grants J) in

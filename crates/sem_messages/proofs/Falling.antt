@@ -11,10 +11,12 @@ use Rattle.sem_msg.specs.declared.message.Message.TheVariants.{RevokeDone}
 use Rattle.sem_msg.specs.declared.message.Target.{Target}
 use Rattle.sem_msg.specs.declared.state.Ask.TheVariants.{Obtain as ObtainAsk, Delegate as DelegateAsk}
 use Rattle.sem_msg.specs.Setup.{Setup}
+use Rattle.sem_msg.specs.Lookups.{owner_of}
 use Rattle.sem_machine.specs.Sides.{Side, cap}
 use Rattle.sem_machine.specs.Revokes.{begin, clear_begun, waiter_added, waiter_left, revoke_requested, revoke_done}
 use Rattle.sem_safety.proofs.JobIds.{HasIds}
 use Rattle.sem_messages.specs.Messages.{is_across}
+use Rattle.sem_messages.proofs.Links.{IsBare}
 use Rattle.sem_messages.proofs.Tallies.{Tally, of_side}
 
 -- what a grant counts, if it goes from one kernel to another
@@ -66,6 +68,12 @@ pub record IsFalling (P N : Tally) (gl gr : ℕ) : Type 0 where
   pub orphan : (parent key : KeyName) → P.out (Orphan parent key) ≤ N.out (Orphan parent key)
   -- all other messages
   pub done : (m : Message) → is_done m ≡ true → N.on m ≤ P.on m
+
+-- Of links: N counts none, and P none to a child of the same kernel, and no more than that number to another.
+pub record AreLed (T : Setup) (P N : Tally) (lead : ℕ) : Type 0 where
+  pub bare : IsBare N
+  pub near : (i : ℕ) (k : KeyName) → owner_of T k ≡ i → P.leads i k ≡ 0
+  pub most : (i : ℕ) (k : KeyName) → P.leads i k ≤ lead
 
 module _ (T : Setup) (P N : Tally) (i : ℕ) where
   -- P grows by no more than N on the way from a side to another

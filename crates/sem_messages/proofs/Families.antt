@@ -18,7 +18,7 @@ use Rattle.sem_messages.proofs.Counting.{either, nothing}
 
 -- a tally in which nothing counts
 abbrev pub no_tally : Tally
-no_tally = record { out = nothing; on = nothing; ask = λ a. 0; pend = 0; job = λ x. 0 }
+no_tally = record { out = nothing; on = nothing; ask = λ a. 0; pend = 0; job = λ x. 0; leads = λ i k. 0 }
 
 abbrev pub of_obtain : Ask → ℕ
 of_obtain (ObtainAsk place target) = 1
@@ -30,7 +30,14 @@ of_delegate (DelegateAsk parent object sel) = 1
 
 -- An obtain is asked for, and owes an answer until that is put into a link.
 abbrev pub obtains : Tally
-obtains = record { out = either is_obtain_ok is_obtain_no; on = one_if is_obtain_req; ask = of_obtain; pend = 0; job = λ x. 0 }
+obtains = record {
+  out = either is_obtain_ok is_obtain_no;
+  on = one_if is_obtain_req;
+  ask = of_obtain;
+  pend = 0;
+  job = λ x. 0;
+  leads = λ i k. 0;
+}
 
 -- so does a delegate
 abbrev pub delegates : Tally
@@ -40,21 +47,37 @@ delegates = record {
   ask = of_delegate;
   pend = 0;
   job = λ x. 0;
+  leads = λ i k. 0;
 }
 
 -- A delegation is pending from its preparation on, until its Ack is handled.
 abbrev pub telling : Tally
-telling = record { out = one_if is_prepared; on = one_if is_ack; ask = λ a. 0; pend = 0; job = λ x. 0 }
+telling = record {
+  out = one_if is_prepared;
+  on = one_if is_ack;
+  ask = λ a. 0;
+  pend = 0;
+  job = λ x. 0;
+  leads = λ i k. 0;
+}
 
 abbrev pub pending_ones : Tally
-pending_ones = record { out = nothing; on = nothing; ask = λ a. 0; pend = 1; job = λ x. 0 }
+pending_ones = record { out = nothing; on = nothing; ask = λ a. 0; pend = 1; job = λ x. 0; leads = λ i k. 0 }
 
 -- A grant to another kernel is told by a message, which waits to be sent.
 abbrev pub grants_told : Tally
-grants_told = record { out = either is_obtain_ok is_ack_yes; on = nothing; ask = λ a. 0; pend = 0; job = λ x. 0 }
+grants_told = record {
+  out = either is_obtain_ok is_ack_yes;
+  on = nothing;
+  ask = λ a. 0;
+  pend = 0;
+  job = λ x. 0;
+  leads = λ i k. 0;
+}
 
 -- obtains
-obtains-flush : (m : Message) → (no_tally.on m + obtains.out m) + (one_if is_obtain_req) m ≡ (obtains.on m + no_tally.out m) + (either is_obtain_ok is_obtain_no) m
+obtains-flush : (m : Message) → (no_tally.on m + obtains.out m) + one_if is_obtain_req m
+    ≡ (obtains.on m + no_tally.out m) + either is_obtain_ok is_obtain_no m
 obtains-flush (ObtainReq place target) = omega arith
 obtains-flush (ObtainOk parent key object) = omega arith
 obtains-flush (ObtainNo place code) = omega arith
@@ -109,6 +132,7 @@ obtains-balanced = record {
   orphan = λ parent key. refl;
   done = obtains-done;
   settled = record {
+    links = (λ i k. refl, λ i k. refl);
     jobs = λ x. (refl, refl);
     sends = obtains-sends;
     requests = λ key job. refl;
@@ -118,7 +142,8 @@ obtains-balanced = record {
 }
 
 -- delegates
-delegates-flush : (m : Message) → (no_tally.on m + delegates.out m) + (one_if is_delegate_req) m ≡ (delegates.on m + no_tally.out m) + (either is_prepared is_delegate_no) m
+delegates-flush : (m : Message) → (no_tally.on m + delegates.out m) + one_if is_delegate_req m
+    ≡ (delegates.on m + no_tally.out m) + either is_prepared is_delegate_no m
 delegates-flush (ObtainReq place target) = omega arith
 delegates-flush (ObtainOk parent key object) = omega arith
 delegates-flush (ObtainNo place code) = omega arith
@@ -173,6 +198,7 @@ delegates-balanced = record {
   orphan = λ parent key. refl;
   done = delegates-done;
   settled = record {
+    links = (λ i k. refl, λ i k. refl);
     jobs = λ x. (refl, refl);
     sends = delegates-sends;
     requests = λ key job. refl;
@@ -182,7 +208,8 @@ delegates-balanced = record {
 }
 
 -- acks
-acks-flush : (m : Message) → (telling.on m + pending_ones.out m) + (one_if is_prepared) m ≡ (pending_ones.on m + telling.out m) + (one_if is_ack) m
+acks-flush : (m : Message) → (telling.on m + pending_ones.out m) + one_if is_prepared m
+    ≡ (pending_ones.on m + telling.out m) + one_if is_ack m
 acks-flush (ObtainReq place target) = omega arith
 acks-flush (ObtainOk parent key object) = omega arith
 acks-flush (ObtainNo place code) = omega arith
@@ -237,6 +264,7 @@ acks-balanced = record {
   orphan = λ parent key. refl;
   done = acks-done;
   settled = record {
+    links = (λ i k. refl, λ i k. refl);
     jobs = λ x. (refl, refl);
     sends = acks-sends;
     requests = λ key job. refl;
@@ -246,7 +274,8 @@ acks-balanced = record {
 }
 
 -- told
-told-flush : (m : Message) → (no_tally.on m + grants_told.out m) + nothing m ≡ (grants_told.on m + no_tally.out m) + (either is_obtain_ok is_ack_yes) m
+told-flush : (m : Message) → (no_tally.on m + grants_told.out m) + nothing m
+    ≡ (grants_told.on m + no_tally.out m) + either is_obtain_ok is_ack_yes m
 told-flush (ObtainReq place target) = omega arith
 told-flush (ObtainOk parent key object) = omega arith
 told-flush (ObtainNo place code) = omega arith
@@ -301,6 +330,7 @@ told-balanced = record {
   orphan = λ parent key. refl;
   done = told-done;
   settled = record {
+    links = (λ i k. refl, λ i k. refl);
     jobs = λ x. (refl, refl);
     sends = told-sends;
     requests = λ key job. refl;

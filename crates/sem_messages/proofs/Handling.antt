@@ -23,7 +23,7 @@ use Rattle.sem_msg.specs.declared.state.Pending.{Pending}
 use Rattle.sem_msg.specs.declared.state.Slot.TheVariants.{Free}
 use Rattle.sem_msg.specs.Setup.{Setup}
 use Rattle.sem_msg.specs.Lookups.{kernel_of, owner_of}
-use Rattle.sem_machine.specs.Sides.{Side, row, cap, parked, pending, is_alive, parked_as, asked}
+use Rattle.sem_machine.specs.Sides.{unlinked, Side, row, cap, parked, pending, is_alive, parked_as, asked}
 use Rattle.sem_machine.specs.Sides.{linked, installed, pending_removed, send}
 use Rattle.sem_machine.specs.Asks.{target_vpe, asker, call_refused, ask_refused}
 use Rattle.sem_machine.specs.Handles.{is_key_declared, is_place_declared, is_target_declared, is_object_declared}
@@ -33,7 +33,9 @@ use Rattle.sem_safety.proofs.JobIds.{HasIds}
 use Rattle.sem_revoke.proofs.Addressed.{is_misaddressed}
 use Rattle.sem_messages.proofs.Tallies.{Tally, of_side, side-slot, side-asked, side-send}
 use Rattle.sem_messages.proofs.Tallies.{side-acked}
-use Rattle.sem_messages.proofs.Falling.{is_done, IsFalling, Falls, Revokings}
+use Rattle.sem_safety.specs.Seen.{AreDistinct}
+use Rattle.sem_messages.proofs.Links.{side-linked, side-unlinked, side-bare}
+use Rattle.sem_messages.proofs.Falling.{AreLed, is_done, IsFalling, Falls, Revokings}
 use Rattle.sem_messages.proofs.Rows.{Fell, installed-same, refused-same}
 use Rattle.sem_messages.proofs.Rows.{ask-far, send-falls, ask_refused-falls}
 use Rattle.sem_messages.proofs.Answering.{grant-far}
@@ -75,42 +77,50 @@ module _ (T : Setup) (K : Tally) (i : ℕ) where
   ready-same parent key object (Some (RevokeWait job)) s = refl
   ready-same parent key object (Some (Ready code)) s = refl
 
-module _ (T : Setup) (P N : Tally) (gl gr : ℕ) (F : IsFalling P N gl gr) (i : ℕ) (R : Revokings T P N i) where
+module _ (T : Setup) (P N : Tally) (gl lead gr : ℕ) (F : IsFalling P N (gl + lead) gr) (A : AreLed T P N lead)
+    (i : ℕ) (R : Revokings T P N i) where
   -- Parked calls.
-  granted-falls : (parent key : KeyName) (mark : Option ℕ) (s : Side) → owner_of T parent ≢ owner_of T key →
-      Fell T P N gl gr F i R s (delegate_granted T parent key mark s)
-  granted-falls parent key None s apart =
+  granted-falls : (parent key : KeyName) (mark : Option ℕ) (s : Side) → AreDistinct s.caps →
+      owner_of T parent ≢ owner_of T key →
+      Fell T P N gl lead gr F A i R s (delegate_granted T parent key mark s)
+  granted-falls parent key None s distinct apart =
       let linking : Side = linked parent key s in
       let l = grant-far T gl parent key apart in
       let r = grant-far T gr parent key apart in
       let q = side-send T P i linking (owner_of T key) (Ack key true) in
       let n = side-send T N i linking (owner_of T key) (Ack key true) in
       let less = F.yes key in
-      omega (arith, l, r, q, n, less)
-  granted-falls parent key (Some j) s apart =
-      let fell = send-falls T P N gl gr F i R s (owner_of T key) (Ack key false) (F.no key) in omega (arith, fell)
+      let lp = side-linked T P i s parent key distinct in
+      let ln = side-bare T N i A.bare s linking.caps in
+      let most = A.most i key in
+      omega (arith, l, r, q, n, less, lp, ln, most)
+  granted-falls parent key (Some j) s distinct apart =
+      let fell = send-falls T P N gl lead gr F A i R s (owner_of T key) (Ack key false) (F.no key) in
+      omega (arith, fell)
 
-  going_on-falls : (parent key : KeyName) (o : Option Capability) (s : Side) → owner_of T parent ≢ owner_of T key →
-      Fell T P N gl gr F i R s (delegate_resumed T parent key o s)
-  going_on-falls parent key None s apart =
-      let fell = send-falls T P N gl gr F i R s (owner_of T key) (Ack key false) (F.no key) in omega (arith, fell)
-  going_on-falls parent key (Some c) s apart = granted-falls parent key c.mark s apart
+  going_on-falls : (parent key : KeyName) (o : Option Capability) (s : Side) → AreDistinct s.caps →
+      owner_of T parent ≢ owner_of T key →
+      Fell T P N gl lead gr F A i R s (delegate_resumed T parent key o s)
+  going_on-falls parent key None s distinct apart =
+      let fell = send-falls T P N gl lead gr F A i R s (owner_of T key) (Ack key false) (F.no key) in
+      omega (arith, fell)
+  going_on-falls parent key (Some c) s distinct apart = granted-falls parent key c.mark s distinct apart
 
-  pub resumed-falls : (p : Option Parked) (s : Side) → ((parent key : KeyName) →
+  pub resumed-falls : (p : Option Parked) (s : Side) → AreDistinct s.caps → ((parent key : KeyName) →
       p ≡ Some (DelegateReady parent key) → owner_of T parent ≢ owner_of T key) →
-      Fell T P N gl gr F i R s (resumed T p s)
-  resumed-falls (Some (Ready code)) s apart = omega arith
-  resumed-falls (Some (ObtainReady key parent object sel)) s apart =
+      Fell T P N gl lead gr F A i R s (resumed T p s)
+  resumed-falls (Some (Ready code)) s distinct apart = omega arith
+  resumed-falls (Some (ObtainReady key parent object sel)) s distinct apart =
       let q = installed-same T P i s key (Some parent) sel object in
       let n = installed-same T N i s key (Some parent) sel object in
       omega (arith, q, n)
-  resumed-falls (Some ObtainCancelled) s apart = omega arith
-  resumed-falls (Some (DelegateReady parent key)) s apart =
-      going_on-falls parent key (cap s parent) s (apart parent key refl)
-  resumed-falls None s apart = omega arith
-  resumed-falls (Some (ObtainWait number sel)) s apart = omega arith
-  resumed-falls (Some (DelegateWait parent)) s apart = omega arith
-  resumed-falls (Some (RevokeWait j)) s apart = omega arith
+  resumed-falls (Some ObtainCancelled) s distinct apart = omega arith
+  resumed-falls (Some (DelegateReady parent key)) s distinct apart =
+      going_on-falls parent key (cap s parent) s distinct (apart parent key refl)
+  resumed-falls None s distinct apart = omega arith
+  resumed-falls (Some (ObtainWait number sel)) s distinct apart = omega arith
+  resumed-falls (Some (DelegateWait parent)) s distinct apart = omega arith
+  resumed-falls (Some (RevokeWait j)) s distinct apart = omega arith
 
   -- Messages.
   abbrev pub Took : Message → Side → Side → Type 0
@@ -130,7 +140,7 @@ module _ (T : Setup) (P N : Tally) (gl gr : ℕ) (F : IsFalling P N gl gr) (i : 
       cond_both (is_alive s v) (asked v a s) (ask_refused T i Dead a s) (Took m s)
       (λ _. let q = side-asked T P i s v a room in let n = side-asked T N i s v a room in
       omega (arith, one, two, less, q, n))
-      (λ _. let told = ask_refused-falls T P N gl gr F i R Dead a s in omega (arith, one, two, less, told))
+      (λ _. let told = ask_refused-falls T P N gl lead gr F A i R Dead a s in omega (arith, one, two, less, told))
 
   acked-took : (key : KeyName) (accepted : Bool) (s : Side) (p : Pending) →
       ((w : Pending → ℕ) → sum_by w (filter (λ (x : Pending). not (key_eq x.key key)) s.pendings) + w p
@@ -151,7 +161,7 @@ module _ (T : Setup) (P N : Tally) (gl gr : ℕ) (F : IsFalling P N gl gr) (i : 
           (send (owner_of T p.parent) (Orphan p.parent key) t) (Took (Ack key accepted) s)
           (λ _. let q = installed-same T P i t key (Some p.parent) p.sel p.object in
           let n = installed-same T N i t key (Some p.parent) p.sel p.object in omega (arith, out, q, n))
-          (λ _. let fell = send-falls T P N gl gr F i R t (owner_of T p.parent) (Orphan p.parent key)
+          (λ _. let fell = send-falls T P N gl lead gr F A i R t (owner_of T p.parent) (Orphan p.parent key)
           (F.orphan p.parent key) in omega (arith, out, fell))
       by false out =
           let t : Side = pending_removed key s in
@@ -163,13 +173,20 @@ module _ (T : Setup) (P N : Tally) (gl gr : ℕ) (F : IsFalling P N gl gr) (i : 
   refusal-falls code v s = let q = refused-same T P i code v s in let n = refused-same T N i code v s in
       omega (arith, q, n)
 
+  cut-falls : (parent key : KeyName) (s : Side) → Falls T P N i s (unlinked parent key s)
+  cut-falls parent key s =
+      let p = side-unlinked T P i s parent key in
+      let n = side-bare T N i A.bare s (unlinked parent key s).caps in
+      omega (arith, p, n)
+
   handled-done : (m : Message) (s : Side) (from : ℕ) → is_done m ≡ true → Falls T P N i s (handle_row T i s from m) →
       Took m s (handled T i s from m)
   handled-done m s from is fell =
       cond_both (is_stray T i s m) s (handle_row T i s from m) (Took m s)
       (λ _. took-done m s s is (omega arith)) (λ _. took-done m s (handle_row T i s from m) is fell)
 
-  pub handled-took : (m : Message) (s : Side) (from : ℕ) → HasIds s → IsExpected T i s m → Took m s (handled T i s from m)
+  pub handled-took : (m : Message) (s : Side) (from : ℕ) → HasIds s → IsExpected T i s m →
+      Took m s (handled T i s from m)
   unfolding handle_row
   handled-took (ObtainReq place target) s from has is =
       let m : Message = ObtainReq place target in
@@ -205,7 +222,7 @@ module _ (T : Setup) (P N : Tally) (gl gr : ℕ) (F : IsFalling P N gl gr) (i : 
       (send (owner_of T parent) (Orphan parent key) s) (Falls T P N i s)
       (λ _. let q = ready-same T P i parent key object (parked s key.vpe) s in
       let n = ready-same T N i parent key object (parked s key.vpe) s in omega (arith, q, n))
-      (λ _. send-falls T P N gl gr F i R s (owner_of T parent) (Orphan parent key) (F.orphan parent key)))
+      (λ _. send-falls T P N gl lead gr F A i R s (owner_of T parent) (Orphan parent key) (F.orphan parent key)))
   handled-took (ObtainNo place code) s from has is =
       handled-done (ObtainNo place code) s from refl
       (cond_both (is_alive s place.vpe) (call_refused code place.vpe s) s (Falls T P N i s)
@@ -214,12 +231,12 @@ module _ (T : Setup) (P N : Tally) (gl gr : ℕ) (F : IsFalling P N gl gr) (i : 
       handled-done (DelegatePrepared parent key) s from refl
       (cond_both (is_alive s parent.vpe) (parked_as parent.vpe (DelegateReady parent key) s)
       (send (owner_of T key) (Ack key false) s) (Falls T P N i s) (λ _. omega arith)
-      (λ _. send-falls T P N gl gr F i R s (owner_of T key) (Ack key false) (F.no key)))
+      (λ _. send-falls T P N gl lead gr F A i R s (owner_of T key) (Ack key false) (F.no key)))
   handled-took (DelegateNo parent code) s from has is =
       handled-done (DelegateNo parent code) s from refl
       (cond_both (is_alive s parent.vpe) (call_refused code parent.vpe s) s (Falls T P N i s)
       (λ _. refusal-falls code parent.vpe s) (λ _. omega arith))
-  handled-took (Orphan parent key) s from has is = handled-done (Orphan parent key) s from refl (omega arith)
-  handled-took (Unlink parent key) s from has is = handled-done (Unlink parent key) s from refl (omega arith)
+  handled-took (Orphan parent key) s from has is = handled-done (Orphan parent key) s from refl (cut-falls parent key s)
+  handled-took (Unlink parent key) s from has is = handled-done (Unlink parent key) s from refl (cut-falls parent key s)
   handled-took (RevokeReq key j) s from has is = R.requests s has from j key
   handled-took (RevokeDone j) s from has is = R.dones s has j

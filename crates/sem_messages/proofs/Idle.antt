@@ -19,6 +19,7 @@ use Rattle.sem_machine.specs.Living.{IsIdle}
 use Rattle.sem_key.proofs.KeyTests.{key_eq-same}
 use Rattle.sem_revoke.specs.Resting.{IsAtRest}
 use Rattle.sem_revoke.proofs.IdleRest.{idle-rests}
+use Rattle.sem_messages.proofs.Links.{IsBare, caps-bare}
 use Rattle.sem_messages.proofs.Tallies.{Tally, of_ask, of_inbox, of_row, of_outbox, of_pendings, of_side}
 use Rattle.sem_messages.proofs.Worlds.{of_world, world-none}
 
@@ -53,9 +54,9 @@ module _ (T : Setup) (K : Tally) where
   inbox-none None none = refl
   inbox-none (Some m) none = absurd cc
 
-  pub idle-none : IsSetup T → (J : List Entry) → IsSchedule T J → IsIdle (world_after T J) →
+  pub idle-none : IsBare K → IsSetup T → (J : List Entry) → IsSchedule T J → IsIdle (world_after T J) →
       of_world T K (world_after T J) ≡ 0
-  idle-none valid J runs idle =
+  idle-none bare valid J runs idle =
       world-none T K W (λ i within. side-none i)
       (none-at (λ ls. sum_by (λ ms. sum_by K.on ms) ls) [] W.links
       (λ i. none-at (λ ms. sum_by K.on ms) [] (get_or W.links i []) (λ j. ap (sum_by K.on) (idle.links i j))))
@@ -74,4 +75,5 @@ module _ (T : Setup) (K : Tally) where
           let jobs = jobs-none s.jobs (rest.no_jobs i) in
           let inbox = inbox-none s.inbox (idle.inboxes i) in
           let outs = none-at (of_outbox T K) [] s.outs (λ j. ap (of_outbox T K) (idle.outboxes i j)) in
-          omega (arith, asks, pendings, jobs, inbox, outs)
+          let caps = caps-bare T K i bare s.caps in
+          omega (arith, caps, asks, pendings, jobs, inbox, outs)

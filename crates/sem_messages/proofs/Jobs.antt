@@ -113,8 +113,10 @@ done-is s j y done = from (job s j) refl done
       | inl pass ↦
           let same : x ≡ y = same_Some x y (sym (cond-true (x.count == 0) (Some x) None pass) ∙ is) in
           let at : x.id ≡ j = eqb-true x.id j (found (λ (z : JobRow). z.id == j) s.jobs x some).1 in
-          let open_ : job s x.id ≡ Some x = ap (job s) at ∙ some in
-          (subst (λ (z : JobRow). job s z.id ≡ Some z) same open_, subst (λ (z : JobRow). z.count ≡ 0) same (eqb-true x.count 0 pass))
+          let open_ : job s x.id ≡ Some x = ap (job s) at ∙ some in (
+            subst (λ (z : JobRow). job s z.id ≡ Some z) same open_,
+            subst (λ (z : JobRow). z.count ≡ 0) same (eqb-true x.count 0 pass),
+          )
       | inr fail ↦ let none : None ≡ Some y = sym (cond-false (x.count == 0) (Some x) None fail) ∙ is in absurd cc
     ]
 

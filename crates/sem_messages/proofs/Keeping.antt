@@ -1,4 +1,5 @@
--- Along a schedule what was sent and granted on the one side, with what the world counts there, is no more than on the other.
+-- Along a schedule what was sent and granted on the one side, with what the world counts there, is no more than on the
+-- other.
 use Rattle.std.proofs.Common.{◌≡◌, ◌≢◌, ℕ, ◌+◌, ◌<◌, ◌≤◌, true, List, [], ◌∷◌, ◌++◌, Option, Some}
 use Rattle.std.proofs.Common.{None, is_none, slice_get, refl, sym, ◌∙◌, ap, subst, arith, append-nil, append_assoc}
 use Rattle.std.specs.Prelude.{◌==◌}
@@ -38,7 +39,8 @@ use Rattle.sem_revoke.proofs.Readying.{enabled-low}
 use Rattle.sem_revoke.proofs.Revoking.{enabled-parts}
 use Rattle.sem_messages.specs.Messages.{sent_by}
 use Rattle.sem_messages.proofs.Tallies.{Tally, of_ask, of_side, of_inbox, side-counted, side-taken, side-inbox}
-use Rattle.sem_messages.proofs.Falling.{of_grant, IsFalling, Revokings}
+use Rattle.sem_safety.specs.Seen.{AreDistinct}
+use Rattle.sem_messages.proofs.Falling.{AreLed, of_grant, IsFalling, Revokings}
 use Rattle.sem_messages.proofs.Rows.{IsOfKernel, Fell, ended-falls, call_row-falls}
 use Rattle.sem_messages.proofs.Answering.{IsAddressed, decided-paid}
 use Rattle.sem_messages.proofs.Handling.{IsExpected, resumed-falls, handled-took}
@@ -47,6 +49,7 @@ use Rattle.sem_messages.proofs.Worlds.{of_world, world-side, fetched, flushed, s
 -- what is known of the side of a kernel between two events
 pub record IsKnown (T : Setup) (i : ℕ) (s : Side) : Type 0 where
   pub ids : HasIds s
+  pub distinct : AreDistinct s.caps
   pub home : (c : Capability) → Contains s.caps c → IsOfKernel T i c.key
   pub asks : (v : ℕ) (a : Ask) → slice_get (row s v).asks 0 ≡ Some a → IsAddressed T a
   pub offers : (v : ℕ) (parent key : KeyName) → parked s v ≡ Some (DelegateReady parent key) →
@@ -70,10 +73,11 @@ of_entry T L g e = sum_by L (sent_by e) + of_grant T g e.grant
 abbrev pub IsFlushed : Tally → Tally → (Message → ℕ) → (Message → ℕ) → Type 0
 IsFlushed P N L R = (m : Message) → (P.on m + N.out m) + L m ≤ (N.on m + P.out m) + R m
 
-module _ (T : Setup) (P N : Tally) (gl gr : ℕ) (F : IsFalling P N gl gr) (L M : Message → ℕ) (flush : IsFlushed P N L M)
+module _ (T : Setup) (P N : Tally) (gl lead gr : ℕ) (F : IsFalling P N (gl + lead) gr) (A : AreLed T P N lead)
+    (L M : Message → ℕ) (flush : IsFlushed P N L M)
     (revokings : (i : ℕ) → Revokings T P N i) where
   abbrev FellAt : ℕ → Side → Step → Type 0
-  FellAt i s x = Fell T P N gl gr F i (revokings i) s x
+  FellAt i s x = Fell T P N gl lead gr F A i (revokings i) s x
 
   called : (i : ℕ) (s : Side) (v : ℕ) → IsKnown T i s → kernel_of T v ≡ i → pe_owner T (pe_of T v) ≡ i →
       FellAt i s (local_step T i s (Calls v) None)
@@ -85,8 +89,8 @@ module _ (T : Setup) (P N : Tally) (gl gr : ℕ) (F : IsFalling P N gl gr) (L M 
       from (Some c) =
           let p = side-counted T P i s v in
           let n = side-counted T N i s v in
-          let fell = call_row-falls T P N gl gr F i (revokings i) (call_counted v s) (ids.keeps_counted s is.ids v)
-          is.home v here pe c in
+          let fell = call_row-falls T P N gl lead gr F A i (revokings i) (call_counted v s)
+          (ids.keeps_counted s is.ids v) is.home v here pe c in
           omega (arith, p, n, fell)
 
   upcalled : (i : ℕ) (s : Side) (v : ℕ) → IsKnown T i s → pe_owner T (pe_of T v) ≡ i →
@@ -100,15 +104,18 @@ module _ (T : Setup) (P N : Tally) (gl gr : ℕ) (F : IsFalling P N gl gr) (L M 
       from (Some a) at =
           let p = side-taken T P i s v in
           let n = side-taken T N i s v in
-          let fp : of_option (of_ask T P i) (slice_get (row s v).asks 0) ≡ of_ask T P i a = ap (of_option (of_ask T P i)) at in
-          let fn : of_option (of_ask T N i) (slice_get (row s v).asks 0) ≡ of_ask T N i a = ap (of_option (of_ask T N i)) at in
-          let paid = decided-paid T P N gl gr F i (revokings i) (ask_taken v s) is.home v pe a (is.asks v a at) in
+          let fp : of_option (of_ask T P i) (slice_get (row s v).asks 0) ≡ of_ask T P i a =
+          ap (of_option (of_ask T P i)) at in
+          let fn : of_option (of_ask T N i) (slice_get (row s v).asks 0) ≡ of_ask T N i a =
+          ap (of_option (of_ask T N i)) at in
+          let paid = decided-paid T P N gl lead gr F A i (revokings i) (ask_taken v s) is.home is.distinct v
+          pe a (is.asks v a at) in
           omega (arith, p, n, fp, fn, paid)
 
   went_on : (i : ℕ) (s : Side) (v : ℕ) → IsKnown T i s → FellAt i s (local_step T i s (Resume v) None)
   unfolding local_step resume_row
   went_on i s v is =
-      let fell = resumed-falls T P N gl gr F i (revokings i) (parked s v) (unparked v s)
+      let fell = resumed-falls T P N gl lead gr F A i (revokings i) (parked s v) (unparked v s) is.distinct
       (λ parent key there. is.offers v parent key there) in
       omega (arith, fell)
 
@@ -122,7 +129,7 @@ module _ (T : Setup) (P N : Tally) (gl gr : ℕ) (F : IsFalling P N gl gr) (L M 
       from None at = omega arith
       from (Some (from', m)) at =
           let u : Side = with_inbox None s in
-          let is' = handled-took T P N gl gr F i (revokings i) m u from' (ids.keeps_inbox s is.ids None tt)
+          let is' = handled-took T P N gl lead gr F A i (revokings i) m u from' (ids.keeps_inbox s is.ids None tt)
           (is.expected from' m at) in
           let p : of_side T P i u + of_inbox T P s.inbox ≡ of_side T P i s + 0 = side-inbox T P i s None in
           let n : of_side T N i u + of_inbox T N s.inbox ≡ of_side T N i s + 0 = side-inbox T N i s None in
@@ -132,7 +139,7 @@ module _ (T : Setup) (P N : Tally) (gl gr : ℕ) (F : IsFalling P N gl gr) (L M 
 
   killed : (i : ℕ) (s : Side) (v : ℕ) → IsKnown T i s → FellAt i s (local_step T i s (Kill v) None)
   unfolding local_step
-  killed i s v is = let fell = ended-falls T P N gl gr F i (revokings i) v s is.ids in omega (arith, fell)
+  killed i s v is = let fell = ended-falls T P N gl lead gr F A i (revokings i) v s is.ids in omega (arith, fell)
 
   -- what an event makes of the world, and what its entry counts
   abbrev pub Keeps : World → Event → Type 0
@@ -164,7 +171,8 @@ module _ (T : Setup) (P N : Tally) (gl gr : ℕ) (F : IsFalling P N gl gr) (L M 
   event-kept W i (Calls v) is enabled =
       let s : Side = side W i in
       let within = enabled-low T W (event i (Calls v)) enabled in
-      let here = eqb-true (kernel_of T v) i (and_parts (kernel_of T v == i) _ (enabled-parts T W i (Calls v) enabled).0).0 in
+      let here = eqb-true (kernel_of T v) i
+      (and_parts (kernel_of T v == i) _ (enabled-parts T W i (Calls v) enabled).0).0 in
       let fell = called i s v is here (own-pe T v i here within) in
       let p = world-side T P W i (local_step T i s (Calls v) None).side within in
       let n = world-side T N W i (local_step T i s (Calls v) None).side within in
@@ -172,7 +180,8 @@ module _ (T : Setup) (P N : Tally) (gl gr : ℕ) (F : IsFalling P N gl gr) (L M 
   event-kept W i (Upcall v) is enabled =
       let s : Side = side W i in
       let within = enabled-low T W (event i (Upcall v)) enabled in
-      let here = eqb-true (kernel_of T v) i (and_parts (kernel_of T v == i) _ (enabled-parts T W i (Upcall v) enabled).0).0 in
+      let here = eqb-true (kernel_of T v) i
+      (and_parts (kernel_of T v == i) _ (enabled-parts T W i (Upcall v) enabled).0).0 in
       let fell = upcalled i s v is (own-pe T v i here within) in
       let p = world-side T P W i (local_step T i s (Upcall v) None).side within in
       let n = world-side T N W i (local_step T i s (Upcall v) None).side within in

@@ -1,5 +1,5 @@
--- What is known of each side of a schedule: the stores are sound, no message is a stray, no queue is full, and an Ack has its
--- delegation.
+-- What is known of each side of a schedule: the stores are sound, no message is a stray, no queue is full, and an Ack
+-- has its delegation.
 use Rattle.std.proofs.Common.{◌≡◌, ℕ, ◌<◌, ◌+◌, ◌&&◌, ◌||◌, Bool, true, false, not, List, [], ◌∷◌}
 use Rattle.std.proofs.Common.{Some, slice_get, length, refl, sym, ap, ◌∙◌, subst, arith, eq-eqb, filter}
 use Rattle.std.specs.Prelude.{◌==◌, nat_lt}
@@ -29,7 +29,7 @@ use Rattle.sem_key.proofs.KeyTests.{key_eq-true, key_eq-same}
 use Rattle.sem_key.proofs.Members.{Contains-head, Contains-filter, Contains-from_filter, found}
 use Rattle.sem_machine.proofs.Weighing.{weigh-parts, weigh-filter}
 use Rattle.sem_safety.proofs.FewAsks.{room-at-handling}
-use Rattle.sem_safety.proofs.HeldOnce.{weigh-at}
+use Rattle.sem_safety.proofs.HeldOnce.{weigh-at, keys-distinct}
 use Rattle.sem_safety.proofs.JobIds.{HasIds, ids, start-ids}
 use Rattle.sem_safety.proofs.SideLayers.{run-kept}
 use Rattle.sem_sound.proofs.Counts.{bit-most, only-one}
@@ -66,7 +66,8 @@ module _ (T : Setup) (valid : IsSetup T) (J : List Entry) (runs : IsSchedule T J
   addressed (ObtainAsk place target) is = sym (declared-kernel T place.pe place.vpe is.0.1)
   addressed (DelegateAsk parent object sel) is = tt
 
-  room : (from : ℕ) (m : Message) → s.inbox ≡ Some (from, m) → is_request m ≡ true → (w : ℕ) → length (row s w).asks < ASKS
+  room : (from : ℕ) (m : Message) → s.inbox ≡ Some (from, m) → is_request m ≡ true → (w : ℕ) →
+      length (row s w).asks < ASKS
   room from (ObtainReq place target) full is w =
       room-at-handling T J runs valid i w place.vpe from (ObtainReq place target) full (λ v0. refl)
   room from (DelegateReq parent object vpe sel) full is w =
@@ -126,6 +127,7 @@ module _ (T : Setup) (valid : IsSetup T) (J : List Entry) (runs : IsSchedule T J
   pub side-known : IsKnown T i s
   side-known = record {
     ids = run-kept HasIds ids T J (start T) (start-ids T) i;
+    distinct = keys-distinct T valid J runs i;
     home = λ c among. let own' = (sound.caps c among).own in
         (own'.1, declared-kernel T c.key.pe c.key.vpe own'.0.1 ∙ own'.1);
     asks = λ v a front. addressed a ((sound.rows v).asks a (front-among (row s v).asks a front));

@@ -1,4 +1,5 @@
 pub mod Tallies
+pub mod Links
 pub mod Falling
 pub mod Rows
 pub mod Answering
@@ -16,3 +17,4 @@ pub mod Revoking
 pub mod Requests
 pub mod Answered
 pub mod Sample
+pub mod Followed

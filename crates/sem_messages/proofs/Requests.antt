@@ -1,4 +1,4 @@
--- As many requests to revoke are sent as are done: a request is answered once, and each request of a job comes back to it.
+-- As many requests to revoke are sent as are done: a request is answered once, and each request of a job comes back.
 use Rattle.std.proofs.Common.{◌≡◌, ℕ, ◌≤◌, true, List, Option, Some, None, refl, ap, arith}
 use Rattle.std.specs.List.{sum_by}
 use Rattle.sem_msg.specs.declared.entry.Entry.{Entry}
@@ -14,6 +14,7 @@ use Rattle.sem_machine.specs.Schedules.{IsSchedule, world_after}
 use Rattle.sem_machine.specs.Living.{IsIdle}
 use Rattle.sem_safety.specs.Counts.{one_if}
 use Rattle.sem_messages.specs.Messages.{sent, is_revoke_req, is_revoke_done, count_sent}
+use Rattle.sem_messages.proofs.Links.{IsBare}
 use Rattle.sem_messages.proofs.Tallies.{Tally}
 use Rattle.sem_messages.proofs.Falling.{is_done, IsFalling}
 use Rattle.sem_messages.proofs.Keeping.{IsFlushed, schedule-kept}
@@ -42,6 +43,7 @@ owed_answers = record {
   ask = λ a. 0;
   pend = 0;
   job = λ x. of_far_up x.up;
+  leads = λ i k. 0;
 }
 
 -- What jobs count pays for the requests that are out and for the jobs below.
@@ -52,10 +54,11 @@ out_for_jobs = record {
   ask = λ a. 0;
   pend = 0;
   job = λ x. of_near_up x.up;
+  leads = λ i k. 0;
 }
 
 abbrev pub counts : Tally
-counts = record { out = nothing; on = nothing; ask = λ a. 0; pend = 0; job = λ x. x.count }
+counts = record { out = nothing; on = nothing; ask = λ a. 0; pend = 0; job = λ x. x.count; leads = λ i k. 0 }
 
 -- No more is done than was asked for.
 owed-done : (m : Message) → is_done m ≡ true → no_tally.on m ≤ owed_answers.on m
@@ -101,8 +104,9 @@ owed-flush (RevokeReq key job) = omega arith
 owed-flush (RevokeDone job) = omega arith
 owed-flush (Unlink parent key) = omega arith
 
-owed-fair : IsFair owed_answers no_tally 0
-owed-fair = record {
+owed-fair : (T : Setup) → IsFair T owed_answers no_tally 0
+owed-fair T = record {
+  bare = λ i k. refl;
   opens = λ id root ws keep. omega arith;
   opens_far = λ id root from j. omega arith;
   raised = λ x. omega arith;
@@ -113,7 +117,7 @@ owed-fair = record {
   ends = λ x none at. omega arith;
   ends_near = λ x j none at. omega arith;
   ends_far = λ x kernel j none at. let one : of_far_up x.up ≡ 1 = ap of_far_up at in omega (arith, one);
-  request = λ key j. omega arith;
+  request = λ i key j remote. omega arith;
   came = λ key j. omega arith;
   gone = λ key j. omega arith;
   done = λ j. omega arith;
@@ -164,8 +168,9 @@ paid-flush (RevokeReq key job) = omega arith
 paid-flush (RevokeDone job) = omega arith
 paid-flush (Unlink parent key) = omega arith
 
-paid-fair : IsFair out_for_jobs counts 1
-paid-fair = record {
+paid-fair : (T : Setup) → IsFair T out_for_jobs counts 1
+paid-fair T = record {
+  bare = λ i k. refl;
   opens = λ id root ws keep. omega arith;
   opens_far = λ id root from j. omega arith;
   raised = λ x. omega arith;
@@ -176,21 +181,27 @@ paid-fair = record {
   ends = λ x none at. omega (arith, none);
   ends_near = λ x j none at. let one : of_near_up x.up ≡ 1 = ap of_near_up at in omega (arith, none, one);
   ends_far = λ x kernel j none at. omega (arith, none);
-  request = λ key j. omega arith;
+  request = λ i key j remote. omega arith;
   came = λ key j. omega arith;
   gone = λ key j. omega arith;
   done = λ j. omega arith;
   unlink = λ p k. omega arith;
 }
 
-module _ (T : Setup) (valid : IsSetup T) (J : List Entry) (runs : IsSchedule T J) (idle : IsIdle (world_after T J)) where
+module _ (T : Setup) (valid : IsSetup T) (J : List Entry) (runs : IsSchedule T J)
+    (idle : IsIdle (world_after T J)) where
   -- the two sides of a sum that falls
-  settled-less : (P N : Tally) (L R : Message → ℕ) (d : ℕ) → IsFalling P N 0 0 → IsFlushed P N L R → IsFair P N d →
+  settled-less : (P N : Tally) (L R : Message → ℕ) (d : ℕ) → IsFalling P N 0 0 → IsFlushed P N L R → IsBare P →
+      IsFair T P N d →
       sum_by L (sent J) ≤ sum_by R (sent J)
-  settled-less P N L R d falls flush fair =
-      let less = schedule-kept T P N 0 0 falls L R flush (fair-revokings T P N d fair) J
+  settled-less P N L R d falls flush bare fair =
+      let less = schedule-kept T P N 0 0 0 falls (record {
+        bare = fair.bare;
+        near = λ i k here. bare i k;
+        most = λ i k. let none = bare i k in omega (arith, none);
+      }) L R flush (fair-revokings T P N d fair) J
       (λ before runs' i within. side-known T valid before runs' i within) runs in
-      let n = idle-none T N valid J runs idle in
+      let n = idle-none T N fair.bare valid J runs idle in
       let l = entries-count T L 0 J in
       let r = entries-count T R 0 J in
       let none = across-none T (grants J) in
@@ -198,8 +209,9 @@ module _ (T : Setup) (valid : IsSetup T) (J : List Entry) (runs : IsSchedule T J
 
   pub revokes-answered : count_sent is_revoke_req J ≡ count_sent is_revoke_done J
   revokes-answered =
-      let less = settled-less owed_answers no_tally (one_if is_revoke_done) (one_if is_revoke_req) 0 owed-falls owed-flush
-      owed-fair in
+      let less = settled-less owed_answers no_tally (one_if is_revoke_done) (one_if is_revoke_req) 0 owed-falls
+      owed-flush
+      (λ i k. refl) (owed-fair T) in
       let more = settled-less out_for_jobs counts (one_if is_revoke_req) (one_if is_revoke_done) 1 paid-falls paid-flush
-      paid-fair in
+      (λ i k. refl) (paid-fair T) in
       omega (arith, less, more)

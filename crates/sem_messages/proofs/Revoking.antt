@@ -1,12 +1,15 @@
 -- Where jobs count, what a revoke does keeps the sum: each request and each job below is paid by the count of the job.
-use Rattle.std.proofs.Common.{◌≡◌, ℕ, zero, suc, ◌+◌, ◌-◌, ◌≤◌, ◌&&◌, Bool, true, false, not, List, [], ◌∷◌, length, Option, Some}
-use Rattle.std.proofs.Common.{None, refl, ◌∙◌, arith}
+use Rattle.std.proofs.Common.{◌≡◌, ℕ, zero, suc, ◌+◌, ◌-◌, ◌≤◌, ◌&&◌, Bool, true, false, not, List, [], ◌∷◌, length}
+use Rattle.std.proofs.Common.{Option, Some, None, refl, ◌∙◌, arith}
 use Rattle.std.specs.Prelude.{◌==◌, if◌then◌else◌}
+use Rattle.std.specs.List.{sum_by}
 use Rattle.std.proofs.lemmas.Bool.{cond_both}
+use Rattle.sem_key.specs.Lists.{in_turn}
+use Rattle.std.proofs.lemmas.List.Sums.{sum_by-cons}
 use Rattle.sem_key.specs.KeyName.{KeyName}
 use Rattle.sem_key.specs.Capability.{Capability}
 use Rattle.sem_key.specs.CapList.{marked_by}
-use Rattle.sem_key.specs.Region.{region, children_of}
+use Rattle.sem_key.specs.Region.{region, children_of, linked_from}
 use Rattle.sem_msg.specs.declared.message.Message.TheVariants.{RevokeReq, RevokeDone, Unlink}
 use Rattle.sem_msg.specs.declared.state.Parked.{Parked}
 use Rattle.sem_msg.specs.declared.state.Parked.TheVariants.{ObtainWait, ObtainReady, ObtainCancelled, DelegateWait}
@@ -20,9 +23,10 @@ use Rattle.sem_msg.specs.ParkedStates.{is_ready_with}
 use Rattle.sem_msg.specs.VpeRows
 use Rattle.sem_msg.specs.Setup.{Setup}
 use Rattle.sem_msg.specs.Lookups.{owner_of, is_local}
-use Rattle.sem_machine.specs.Sides.{Side, cap, job, parked, freed, parked_as, unlinked, mark_all, unbind_all, job_opened}
-use Rattle.sem_machine.specs.Sides.{job_removed, send}
-use Rattle.sem_machine.specs.Revokes.{count_raised, count_lowered, with_up, adopted, other_marker, request_or_adopt}
+use Rattle.sem_machine.specs.Sides.{Side, cap, job, parked, freed, parked_as, unlinked, mark_all, unbind_all}
+use Rattle.sem_machine.specs.Sides.{job_opened, job_removed, send}
+use Rattle.sem_machine.specs.Revokes.{all_freed, spared, count_raised, count_lowered, with_up, adopted}
+use Rattle.sem_machine.specs.Revokes.{other_marker, request_or_adopt}
 use Rattle.sem_machine.specs.Revokes.{root_spared, swept, woken, parent_left, left_parent, up_told, closed_here, closed}
 use Rattle.sem_machine.specs.Revokes.{finish, settled, opened, begin, ready_freed}
 use Rattle.sem_machine.specs.Revokes.{obtain_cancelled, request_begun, revoke_requested, revoke_done}
@@ -34,12 +38,16 @@ use Rattle.sem_safety.proofs.Layers.{facts}
 use Rattle.sem_safety.proofs.Onwards.{Any, AnyPlace}
 use Rattle.sem_revoke.proofs.Rowing.{settled_if_there}
 use Rattle.sem_revoke.proofs.Scaling.{jobs-removed}
-use Rattle.sem_messages.proofs.Tallies.{Tally, of_side, side-slot, side-send, side-opened}
+use Rattle.sem_messages.proofs.Links.{IsBare, key_set-lighter, caps-bare, side-bare, side-unlinked, caps-removed}
+use Rattle.sem_messages.proofs.Links.{caps-restored, marks-pay}
+use Rattle.sem_messages.proofs.Tallies.{Tally, of_cap, of_side, side-slot, side-send, side-opened}
 use Rattle.sem_messages.proofs.Falling.{Falls, Revokings}
-use Rattle.sem_messages.proofs.Jobs.{turned, turned-there, IsThere, there-changed, there-opened, IsDone, done-is, next-is}
+use Rattle.sem_messages.proofs.Jobs.{turned, turned-there, IsThere, there-changed, there-opened}
+use Rattle.sem_messages.proofs.Jobs.{IsDone, done-is, next-is}
 
 -- Jobs that count. The count of a job pays d for each token that is out for it.
-pub record IsFair (P N : Tally) (d : ℕ) : Type 0 where
+pub record IsFair (T : Setup) (P N : Tally) (d : ℕ) : Type 0 where
+  pub bare : IsBare N
   pub opens : (id : ℕ) (root : KeyName) (ws : List ℕ) (keep : Bool) →
       P.job (record { id = id; root = root; up = None; waiters = ws; count = 0; keep = keep })
       ≤ N.job (record { id = id; root = root; up = None; waiters = ws; count = 0; keep = keep })
@@ -58,14 +66,16 @@ pub record IsFair (P N : Tally) (d : ℕ) : Type 0 where
       (P.job (record x { up = Some (Remote from j); keep = false }) + N.job x) + N.on (RevokeReq key j)
       ≤ (N.job (record x { up = Some (Remote from j); keep = false }) + P.job x) + P.on (RevokeReq key j)
   pub waited : (x : JobRow) (ws : List ℕ) (keep : Bool) →
-      (P.job (record x { waiters = ws; keep = keep }) ≡ P.job x) × (N.job (record x { waiters = ws; keep = keep }) ≡ N.job x)
+      (P.job (record x { waiters = ws; keep = keep }) ≡ P.job x)
+      × (N.job (record x { waiters = ws; keep = keep }) ≡ N.job x)
   -- a job that is done
   pub ends : (x : JobRow) → x.count ≡ 0 → x.up ≡ None → N.job x ≤ P.job x
   pub ends_near : (x : JobRow) (j : ℕ) → x.count ≡ 0 → x.up ≡ Some (Local j) → N.job x + d ≤ P.job x
   pub ends_far : (x : JobRow) (kernel j : ℕ) → x.count ≡ 0 → x.up ≡ Some (Remote kernel j) →
       P.out (RevokeDone j) + N.job x ≤ N.out (RevokeDone j) + P.job x
   -- messages
-  pub request : (key : KeyName) (j : ℕ) → P.out (RevokeReq key j) ≤ N.out (RevokeReq key j) + d
+  pub request : (i : ℕ) (key : KeyName) (j : ℕ) → is_local T i key ≡ false →
+      P.out (RevokeReq key j) ≤ (N.out (RevokeReq key j) + d) + P.leads i key
   pub came : (key : KeyName) (j : ℕ) → N.on (RevokeReq key j) ≤ P.on (RevokeReq key j)
   pub gone : (key : KeyName) (j : ℕ) →
       P.out (RevokeDone j) + N.on (RevokeReq key j) ≤ N.out (RevokeDone j) + P.on (RevokeReq key j)
@@ -73,11 +83,30 @@ pub record IsFair (P N : Tally) (d : ℕ) : Type 0 where
   pub unlink : (p k : KeyName) → P.out (Unlink p k) ≤ N.out (Unlink p k)
 
 module _ (T : Setup) (K : Tally) (i : ℕ) where
-  swept-same : (x : JobRow) (s : Side) → of_side T K i (swept x s) ≡ of_side T K i s
-  swept-same x s = in_turn-keeps (λ rows. of_side T K i (record s { vpes = rows }) ≡ of_side T K i s)
+  rows-same : (cs : List Capability) (s : Side) →
+      of_side T K i (record s { vpes = all_freed cs s.vpes }) ≡ of_side T K i s
+  rows-same cs s = in_turn-keeps (λ rows. of_side T K i (record s { vpes = rows }) ≡ of_side T K i s)
       (λ (c : Capability) rows. VpeRows.freed c.key.vpe c.selector rows)
-      (λ c rows is. side-slot T K i (record s { vpes = rows }) c.key.vpe c.selector Free ∙ is)
-      (marked_by x.id (root_spared x s).caps) s.vpes refl
+      (λ c rows is. side-slot T K i (record s { vpes = rows }) c.key.vpe c.selector Free ∙ is) cs s.vpes refl
+
+  spared-less : (b : Bool) (root : KeyName) (cs : List Capability) →
+      sum_by (of_cap T K i) (spared b root cs) ≤ sum_by (of_cap T K i) cs
+  spared-less true root cs = caps-restored T K i root cs
+  spared-less false root cs = omega arith
+
+  swept-less : (x : JobRow) (s : Side) → of_side T K i (swept x s) ≤ of_side T K i s
+  swept-less x s =
+      let rows = rows-same (marked_by x.id (root_spared x s).caps) s in
+      let removed = caps-removed T K i x.id (root_spared x s).caps in
+      let spares = spared-less x.keep x.root s.caps in
+      omega (arith, rows, removed, spares)
+
+  swept-bare : IsBare K → (x : JobRow) (s : Side) → of_side T K i (swept x s) ≡ of_side T K i s
+  swept-bare bare x s =
+      let rows = rows-same (marked_by x.id (root_spared x s).caps) s in
+      let old = caps-bare T K i bare s.caps in
+      let new = caps-bare T K i bare (swept x s).caps in
+      omega (arith, rows, old, new)
 
   cancelled-same : (k : KeyName) (s : Side) → of_side T K i (obtain_cancelled k s) ≡ of_side T K i s
   cancelled-same k s = from (parked s k.vpe) refl
@@ -110,7 +139,7 @@ left-by Q cuts sends T i id count root (Some (Local j)) ws keep (Some p) t is =
 left-by Q cuts sends T i id count root (Some (Remote kernel j)) ws keep (Some p) t is =
     cond_both (is_local T i p) _ _ Q (λ _. cuts t p root is) (λ _. is)
 
-module _ (T : Setup) (P N : Tally) (d : ℕ) (F : IsFair P N d) (i : ℕ) where
+module _ (T : Setup) (P N : Tally) (d : ℕ) (F : IsFair T P N d) (i : ℕ) where
   -- a token comes back
   lowered-falls : (j : ℕ) (s : Side) → HasIds s →
       of_side T P i (count_lowered j s) + of_side T N i s ≤ (of_side T P i s + of_side T N i (count_lowered j s)) + d
@@ -136,11 +165,15 @@ module _ (T : Setup) (P N : Tally) (d : ℕ) (F : IsFair P N d) (i : ℕ) where
       let c : Side = closed_here T i x r in
       let rp = jobs-removed P.job x.id s.jobs x has.rise is.0 in
       let rn = jobs-removed N.job x.id s.jobs x has.rise is.0 in
-      let sp = swept-same T P i x r in
-      let sn = swept-same T N i x r in
+      let sp = swept-less T P i x r in
+      let sn = swept-bare T N i F.bare x r in
       let kept : HasIds r = ids.keeps_closed s has x.id in
       let left : Falls T P N i b c × HasIds c =
-      left-by (λ t. Falls T P N i b t × HasIds t) (λ t p k q. (q.0, ids.keeps_unlinked t q.1 p k))
+      left-by (λ t. Falls T P N i b t × HasIds t) (λ t p k q. (
+        (let up = side-unlinked T P i t p k in let un = side-bare T N i F.bare t (unlinked p k t).caps in
+            let so = q.0 in omega (arith, up, un, so)),
+        ids.keeps_unlinked t q.1 p k,
+      ))
       (λ t j p k q. (
         (let up = side-send T P i t j (Unlink p k) in let un = side-send T N i t j (Unlink p k) in
             let less = F.unlink p k in let so = q.0 in omega (arith, up, un, less, so)),
@@ -186,24 +219,44 @@ module _ (T : Setup) (P N : Tally) (d : ℕ) (F : IsFair P N d) (i : ℕ) where
       let u : Side = with_up (Local j) m t in
       let jobs = turned P N (λ x. record x { up = Some (Local j); keep = false }) m 0 d t.jobs has.rise (omega arith)
       (λ x. let less = F.taken x j in omega (arith, less)) in
-      let there : IsThere j u = there-changed j m (λ x. record x { up = Some (Local j); keep = false }) t (λ x. refl) is in
-      let has' : HasIds u = ids.keeps_changed t has m (λ x. record x { up = Some (Local j); keep = false }) (λ x. (refl, refl)) in
+      let there : IsThere j u =
+      there-changed j m (λ x. record x { up = Some (Local j); keep = false }) t (λ x. refl) is in
+      let has' : HasIds u =
+      ids.keeps_changed t has m (λ x. record x { up = Some (Local j); keep = false }) (λ x. (refl, refl)) in
       let more = raised-falls j u has' there in
       (omega (arith, jobs, more), there-changed j j (λ x. record x { count = x.count + 1 }) u (λ x. refl) there)
 
   request-falls : (j : ℕ) (k : KeyName) (t : Side) → HasIds t → IsThere j t →
-      Falls T P N i t (request_or_adopt T i j k t) × IsThere j (request_or_adopt T i j k t)
+      (of_side T P i (request_or_adopt T i j k t) + of_side T N i t
+      ≤ (of_side T P i t + of_side T N i (request_or_adopt T i j k t)) + P.leads i k)
+      × IsThere j (request_or_adopt T i j k t)
   request-falls j k t has is =
       cond_both (is_local T i k) (adopted j (other_marker j (cap t k)) t)
-      (count_raised j (send (owner_of T k) (RevokeReq k j) t)) (λ u. Falls T P N i t u × IsThere j u)
-      (λ _. adopted-falls j (other_marker j (cap t k)) t has is)
-      (λ _.
+      (count_raised j (send (owner_of T k) (RevokeReq k j) t))
+      (λ u. (of_side T P i u + of_side T N i t ≤ (of_side T P i t + of_side T N i u) + P.leads i k) × IsThere j u)
+      (λ _. let fell = adopted-falls j (other_marker j (cap t k)) t has is in
+      let less = fell.0 in (omega (arith, less), fell.1))
+      (λ remote.
       let u : Side = send (owner_of T k) (RevokeReq k j) t in
       let p = side-send T P i t (owner_of T k) (RevokeReq k j) in
       let n = side-send T N i t (owner_of T k) (RevokeReq k j) in
-      let less = F.request k j in
+      let less = F.request i k j remote in
       let more = raised-falls j u (ids.keeps_send t has (owner_of T k) (RevokeReq k j) tt) is in
       (omega (arith, p, n, less, more), there-changed j j (λ x. record x { count = x.count + 1 }) u (λ x. refl) is))
+
+  -- what the children count pays for their requests
+  requests-fall : (j : ℕ) (ks : List KeyName) (t : Side) → HasIds t → IsThere j t →
+      of_side T P i (in_turn (request_or_adopt T i j) ks t) + of_side T N i t
+      ≤ (of_side T P i t + of_side T N i (in_turn (request_or_adopt T i j) ks t)) + sum_by (P.leads i) ks
+  unfolding in_turn
+  requests-fall j [] t has is = omega arith
+  requests-fall j (k ∷ ks) t has is =
+      let u : Side = request_or_adopt T i j k t in
+      let one = request-falls j k t has is in
+      let here = one.0 in
+      let rest = requests-fall j ks u (request-in (facts Any AnyPlace) HasIds ids T i j k t has tt) one.1 in
+      let all = sum_by-cons (P.leads i) k ks in
+      omega (arith, here, rest, all)
 
   -- since the job was opened
   opened-falls : (root : KeyName) (up : Option Up) (ws : List ℕ) (keep : Bool) (s : Side) → HasIds s →
@@ -215,14 +268,12 @@ module _ (T : Setup) (P N : Tally) (d : ℕ) (F : IsFair P N d) (i : ℕ) where
       let one : Side = job_opened root up ws keep s in
       let marked : Side = unbind_all ks (mark_all ks j one) in
       let has' : HasIds one = ids.keeps_opened s has root up ws keep in
-      (in_turn-keeps (λ t. (Falls T P N i one t × IsThere j t) × HasIds t) (request_or_adopt T i j)
-      (λ k t q.
-      let more = request-falls j k t q.1 q.0.1 in
-      let so = q.0.0 in
-      let now = more.0 in
-      ((omega (arith, so, now), more.1), request-in (facts Any AnyPlace) HasIds ids T i j k t q.1 tt))
-      (children_of s.caps ks) marked
-      ((omega arith, there-opened root up ws keep s), record { rise = has'.rise; drawn = has'.drawn })).0.0
+      let pays = marks-pay T P i ks j s.caps in
+      let bare = side-bare T N i F.bare one marked.caps in
+      let few = key_set-lighter (P.leads i) (linked_from s.caps ks) in
+      let fell = requests-fall j (children_of s.caps ks) marked (record { rise = has'.rise; drawn = has'.drawn })
+      (there-opened root up ws keep s) in
+      omega (arith, pays, bare, few, fell)
 
   begin-falls : (root : KeyName) (up : Option Up) (ws : List ℕ) (keep : Bool) (s : Side) → HasIds s →
       Falls T P N i (job_opened root up ws keep s) (begin T i root up ws keep s)
@@ -270,7 +321,8 @@ module _ (T : Setup) (P N : Tally) (d : ℕ) (F : IsFair P N d) (i : ℕ) where
       let less = F.gone key j in
       omega (arith, cp, cn, p, n, less)
 
-  done-falls : (j : ℕ) (s : Side) → HasIds s → (of_side T P i (revoke_done T i j s) + of_side T N i s) + N.on (RevokeDone j)
+  done-falls : (j : ℕ) (s : Side) → HasIds s →
+      (of_side T P i (revoke_done T i j s) + of_side T N i s) + N.on (RevokeDone j)
       ≤ (of_side T P i s + of_side T N i (revoke_done T i j s)) + P.on (RevokeDone j)
   done-falls j s has = by_job (job s j)
     where

@@ -49,7 +49,8 @@ use Rattle.sem_safety.proofs.Skeleton.{CallLeaves, call_row-by}
 use Rattle.sem_messages.specs.Messages.{is_across}
 use Rattle.sem_messages.proofs.Tallies.{Tally, of_ask, of_side, side-drawn, side-slot, side-buried, side-asked_near}
 use Rattle.sem_messages.proofs.Tallies.{side-send}
-use Rattle.sem_messages.proofs.Falling.{of_grant, IsFalling, Falls, Revokings}
+use Rattle.sem_messages.proofs.Links.{side-fresh, side-linked_near, side-bare}
+use Rattle.sem_messages.proofs.Falling.{AreLed, of_grant, IsFalling, Falls, Revokings}
 
 -- A key of a VPE of kernel i.
 abbrev pub IsOfKernel : Setup → ℕ → KeyName → Type 0
@@ -73,7 +74,9 @@ module _ (T : Setup) (K : Tally) (i : ℕ) where
   pub installed-same : (s : Side) (k : KeyName) (parent : Option KeyName) (sel : ℕ) (object : Object) →
       of_side T K i (installed k parent sel object s) ≡ of_side T K i s
   installed-same s k parent sel object =
-      let slot' = side-slot T K i (cap_added (fresh k parent sel object) s) k.vpe sel (Held k) in omega (arith, slot')
+      let added = side-fresh T K i s k parent sel object in
+      let slot' = side-slot T K i (cap_added (fresh k parent sel object) s) k.vpe sel (Held k) in
+      omega (arith, added, slot')
 
   freed-same : (p : Option Parked) (v : ℕ) (s : Side) → of_side T K i (promise_freed p v s) ≡ of_side T K i s
   freed-same (Some (ObtainWait number sel)) v s = side-slot T K i s v sel Free
@@ -95,7 +98,8 @@ module _ (T : Setup) (K : Tally) (i : ℕ) where
   pub ask-far : (a : Ask) → (kernel_of T (asker a) == i) ≡ false → of_ask T K i a ≡ K.ask a
   ask-far a far = cond-false (kernel_of T (asker a) == i) 0 (K.ask a) far
 
-module _ (T : Setup) (P N : Tally) (gl gr : ℕ) (F : IsFalling P N gl gr) (i : ℕ) (R : Revokings T P N i) where
+module _ (T : Setup) (P N : Tally) (gl lead gr : ℕ) (F : IsFalling P N (gl + lead) gr) (A : AreLed T P N lead)
+    (i : ℕ) (R : Revokings T P N i) where
   -- the sum of a step
   abbrev pub Fell : Side → Step → Type 0
   Fell s x = (of_side T P i x.side + of_side T N i s) + of_grant T gl x.outcome.grant
@@ -236,7 +240,9 @@ module _ (T : Setup) (P N : Tally) (gl gr : ℕ) (F : IsFalling P N gl gr) (i : 
         let same : owner_of T p.key ≡ owner_of T k = (home p (own-among s v src p held)).0 ∙ sym pe in
         let l = grant-near gl p.key k same in
         let r = grant-near gr p.key k same in
-        omega (arith, dp, dn, ip, in', l, r)
+        let lp = side-linked_near T P i (drawn v s) p.key k (A.near i k pe) in
+        let ln = side-bare T N i A.bare (drawn v s) linking.caps in
+        omega (arith, dp, dn, ip, in', l, r, lp, ln)
 
     ask-falls : (dst : ℕ) (target : Target) → Fell s (ask_made T i v dst target s)
     ask-falls dst target =
@@ -253,8 +259,10 @@ module _ (T : Setup) (P N : Tally) (gl gr : ℕ) (F : IsFalling P N gl gr) (i : 
         ≤ (of_side T P i s + of_side T N i t) + 0)
         (λ within.
         let near : (kernel_of T v == i) ≡ true = eq-eqb (kernel_of T v) i here in
-        let p = side-asked_near T P i waiting w (ObtainAsk place target) (ask-near T P i (ObtainAsk place target) near) in
-        let n = side-asked_near T N i waiting w (ObtainAsk place target) (ask-near T N i (ObtainAsk place target) near) in
+        let p = side-asked_near T P i waiting w (ObtainAsk place target)
+        (ask-near T P i (ObtainAsk place target) near) in
+        let n = side-asked_near T N i waiting w (ObtainAsk place target)
+        (ask-near T N i (ObtainAsk place target) near) in
         omega (arith, dp, dn, sp, sn, p, n))
         (λ across.
         let sent' = send-falls waiting (kernel_of T w) (ObtainReq place target) (F.obtain place target) in

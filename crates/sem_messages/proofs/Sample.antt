@@ -14,8 +14,8 @@ use Rattle.sem_machine.specs.Calls.{call_row}
 use Rattle.sem_machine.specs.Upcalls.{upcall_row}
 use Rattle.sem_machine.specs.Handles.{handle_row}
 use Rattle.sem_machine.specs.Resumes.{resume_row}
-use Rattle.sem_machine.specs.Machine.{start_side, start, local_step, local_entry, is_locally_enabled, is_enabled, enabled}
-use Rattle.sem_machine.specs.Machine.{after, entry_of}
+use Rattle.sem_machine.specs.Machine.{start_side, start, local_step, local_entry, is_locally_enabled, is_enabled}
+use Rattle.sem_machine.specs.Machine.{enabled, after, entry_of}
 use Rattle.sem_machine.specs.Schedules.{IsSchedule, world_after}
 use Rattle.sem_machine.specs.Living.{IsQuiet}
 use Rattle.sem_safety.specs.Walks.{walked, all_enabled, pair}
@@ -26,56 +26,56 @@ use Rattle.sem_messages.specs.Messages.{is_revoke_done, is_unlink, grants_across
 use Rattle.sem_messages.specs.EachKind.{giver_calls, taker_calls, each_kind, each_kind_events, each_kind_journal}
 
 each-enabled : all_enabled each_kind (start each_kind) each_kind_events ≡ true
-unfolding each_kind each_kind_events pair all_enabled put in_turn unless services_from grow closed_here finish opened ended
-    call_row upcall_row handle_row resume_row start_side start local_step local_entry is_locally_enabled is_enabled
-    enabled after entry_of
+unfolding each_kind each_kind_events pair all_enabled put in_turn unless services_from grow closed_here finish opened
+    ended call_row upcall_row handle_row resume_row start_side start local_step local_entry is_locally_enabled
+    is_enabled enabled after entry_of
 each-enabled = refl
 
 pub each-schedule : IsSchedule each_kind each_kind_journal
 each-schedule = journal-schedule each_kind each_kind_events each-enabled
 
 pub each-quiet : IsQuiet each_kind (world_after each_kind each_kind_journal)
-unfolding each_kind each_kind_events pair walked put in_turn unless services_from grow closed_here finish opened ended
-    call_row upcall_row handle_row resume_row start_side start local_step local_entry is_locally_enabled is_enabled
-    enabled after entry_of
+unfolding each_kind each_kind_events pair walked put in_turn unless services_from grow closed_here finish opened
+    ended call_row upcall_row handle_row resume_row start_side start local_step local_entry is_locally_enabled
+    is_enabled enabled after entry_of
 each-quiet = refl
 
 pub obtains-sent : (count_sent is_obtain_req each_kind_journal ≡ 3) × (count_sent is_obtain_ok each_kind_journal ≡ 2) ×
     (count_sent is_obtain_no each_kind_journal ≡ 1)
-unfolding each_kind each_kind_events pair walked put in_turn unless services_from grow closed_here finish opened ended
-    call_row upcall_row handle_row resume_row start_side start local_step local_entry is_locally_enabled is_enabled
-    enabled after entry_of
+unfolding each_kind each_kind_events pair walked put in_turn unless services_from grow closed_here finish opened
+    ended call_row upcall_row handle_row resume_row start_side start local_step local_entry is_locally_enabled
+    is_enabled enabled after entry_of
 obtains-sent = (refl, refl, refl)
 
-pub delegates-sent : (count_sent is_delegate_req each_kind_journal ≡ 2) × (count_sent is_prepared each_kind_journal ≡ 1) ×
-    (count_sent is_delegate_no each_kind_journal ≡ 1)
-unfolding each_kind each_kind_events pair walked put in_turn unless services_from grow closed_here finish opened ended
-    call_row upcall_row handle_row resume_row start_side start local_step local_entry is_locally_enabled is_enabled
-    enabled after entry_of
+pub delegates-sent : (count_sent is_delegate_req each_kind_journal ≡ 2) × (count_sent is_prepared each_kind_journal ≡ 1)
+    × (count_sent is_delegate_no each_kind_journal ≡ 1)
+unfolding each_kind each_kind_events pair walked put in_turn unless services_from grow closed_here finish opened
+    ended call_row upcall_row handle_row resume_row start_side start local_step local_entry is_locally_enabled
+    is_enabled enabled after entry_of
 delegates-sent = (refl, refl, refl)
 
 pub acks-sent : (count_sent is_ack each_kind_journal ≡ 1) × (count_sent is_ack_yes each_kind_journal ≡ 1)
-unfolding each_kind each_kind_events pair walked put in_turn unless services_from grow closed_here finish opened ended
-    call_row upcall_row handle_row resume_row start_side start local_step local_entry is_locally_enabled is_enabled
-    enabled after entry_of
+unfolding each_kind each_kind_events pair walked put in_turn unless services_from grow closed_here finish opened
+    ended call_row upcall_row handle_row resume_row start_side start local_step local_entry is_locally_enabled
+    is_enabled enabled after entry_of
 acks-sent = (refl, refl)
 
 pub revokes-sent : (count_sent is_revoke_req each_kind_journal ≡ 1) × (count_sent is_revoke_done each_kind_journal ≡ 1)
-unfolding each_kind each_kind_events pair walked put in_turn unless services_from grow closed_here finish opened ended
-    call_row upcall_row handle_row resume_row start_side start local_step local_entry is_locally_enabled is_enabled
-    enabled after entry_of
+unfolding each_kind each_kind_events pair walked put in_turn unless services_from grow closed_here finish opened
+    ended call_row upcall_row handle_row resume_row start_side start local_step local_entry is_locally_enabled
+    is_enabled enabled after entry_of
 revokes-sent = (refl, refl)
 
 pub notices-sent : (count_sent is_orphan each_kind_journal ≡ 1) × (count_sent is_unlink each_kind_journal ≡ 1)
-unfolding each_kind each_kind_events pair walked put in_turn unless services_from grow closed_here finish opened ended
-    call_row upcall_row handle_row resume_row start_side start local_step local_entry is_locally_enabled is_enabled
-    enabled after entry_of
+unfolding each_kind each_kind_events pair walked put in_turn unless services_from grow closed_here finish opened
+    ended call_row upcall_row handle_row resume_row start_side start local_step local_entry is_locally_enabled
+    is_enabled enabled after entry_of
 notices-sent = (refl, refl)
 
 pub grants-made : (grants_across each_kind each_kind_journal ≡ 3) × (length (sent each_kind_journal) ≡ 15)
-unfolding each_kind each_kind_events pair walked put in_turn unless services_from grow closed_here finish opened ended
-    call_row upcall_row handle_row resume_row start_side start local_step local_entry is_locally_enabled is_enabled
-    enabled after entry_of
+unfolding each_kind each_kind_events pair walked put in_turn unless services_from grow closed_here finish opened
+    ended call_row upcall_row handle_row resume_row start_side start local_step local_entry is_locally_enabled
+    is_enabled enabled after entry_of
 grants-made = (refl, refl)
 
 -- The setup.

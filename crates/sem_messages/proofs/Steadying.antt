@@ -13,12 +13,17 @@ use Rattle.sem_machine.specs.Sides.{Side, cap, parked_as, job_opened}
 use Rattle.sem_machine.specs.Revokes.{waiter_added}
 use Rattle.sem_machine.proofs.Weighing.{weigh-none}
 use Rattle.sem_revoke.proofs.Growing.{is_plain}
-use Rattle.sem_revoke.proofs.Steady.{IsSteady, begin-steady, cleared-steady, requested-steady, done-steady, left_job-steady}
+use Rattle.sem_revoke.proofs.Steady.{IsSteady, begin-steady, cleared-steady, requested-steady}
+use Rattle.sem_revoke.proofs.Steady.{done-steady, left_job-steady}
+use Rattle.sem_key.specs.Capability.{Capability}
+use Rattle.sem_key.specs.CapList.{restored}
+use Rattle.sem_messages.proofs.Links.{IsBare, side-bare}
 use Rattle.sem_messages.proofs.Tallies.{Tally, of_side, side-send, side-slot, side-opened}
 use Rattle.sem_messages.proofs.Falling.{Revokings}
 
 -- a tally in which no revoke counts
 pub record IsSettled (P N : Tally) : Type 0 where
+  pub links : IsBare P × IsBare N
   pub jobs : (x : JobRow) → (P.job x ≡ 0) × (N.job x ≡ 0)
   pub sends : (m : Message) → is_plain m ≡ false → P.out m ≡ N.out m
   pub requests : (key : KeyName) (job : ℕ) → P.on (RevokeReq key job) ≡ N.on (RevokeReq key job)
@@ -33,6 +38,10 @@ module _ (T : Setup) (P N : Tally) (S : IsSettled P N) (i : ℕ) where
     abbrev Same : Side → Type 0
     Same t = of_side T P i t + of_side T N i s ≡ of_side T P i s + of_side T N i t
 
+    caps-same : (t : Side) (cs : List Capability) → Same t → Same (record t { caps = cs })
+    caps-same t cs is =
+        let p = side-bare T P i S.links.0 t cs in let n = side-bare T N i S.links.1 t cs in omega (arith, is, p, n)
+
     opened-same : (t : Side) (root : KeyName) (up : Option Up) (ws : List ℕ) (keep : Bool) → Same t →
         Same (job_opened root up ws keep t)
     opened-same t root up ws keep is =
@@ -45,8 +54,8 @@ module _ (T : Setup) (P N : Tally) (S : IsSettled P N) (i : ℕ) where
 
     steady : IsSteady Same
     steady = record {
-      caps = λ t cs thins is. is;
-      restores = λ u t x was among keeps is. is;
+      caps = λ t cs thins is. caps-same t cs is;
+      restores = λ u t x was among keeps is. caps-same t (restored t.caps x.root) is;
       bound = λ t es is. is;
       jobs = λ t js less is.
           let p = jobs-none P (λ x. (S.jobs x).0) t in
@@ -65,7 +74,8 @@ module _ (T : Setup) (P N : Tally) (S : IsSettled P N) (i : ℕ) where
 
   pub settled-revokings : Revokings T P N i
   settled-revokings = record {
-    begins = λ s has root ws. let same = begin-steady (Same s) (steady s) T i root None ws s refl in omega (arith, same);
+    begins = λ s has root ws. let same = begin-steady (Same s) (steady s) T i root None ws s refl in
+        omega (arith, same);
     clears = λ s has v k.
         let same = cleared-steady (Same s) (steady s) T i v k s
         (opened-same s (parked_as v (RevokeWait s.next_job) s) k None (v ∷ []) true refl) in

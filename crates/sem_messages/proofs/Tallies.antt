@@ -1,12 +1,13 @@
 -- A tally: what each message, ask, pending delegation and job counts; and what each change of a side does to the sum.
 use Rattle.std.proofs.Common.{◌≡◌, ℕ, ◌+◌, ◌<◌, Bool, false, List, [], ◌∷◌, ◌++◌, length, drop}
-use Rattle.std.proofs.Common.{Option, Some, None, slice_get, refl, ap, arith, lt-ltb}
+use Rattle.std.proofs.Common.{Option, is_some, Some, None, slice_get, refl, ap, arith, lt-ltb}
 use Rattle.std.specs.Prelude.{◌==◌, nat_lt, if◌then◌else◌}
 use Rattle.std.specs.List.{sum_by}
 use Rattle.std.proofs.lemmas.Bool.{cond-true, cond_both}
 use Rattle.std.proofs.lemmas.List.Sums.{sum_by_push}
 use Rattle.sem_key.specs.KeyName.{KeyName}
 use Rattle.sem_key.specs.Lists.{put}
+use Rattle.sem_key.specs.Capability.{Capability}
 use Rattle.sem_msg.specs.declared.limits.TheConstants.{ASKS}
 use Rattle.sem_msg.specs.declared.message.Message.{Message}
 use Rattle.sem_msg.specs.declared.state.Ask.{Ask}
@@ -33,6 +34,8 @@ pub record Tally : Type 0 where
   pub pend : ℕ
   -- an open job
   pub job : JobRow → ℕ
+  -- a link of an unmarked capability, by its kernel and by the child
+  pub leads : ℕ → KeyName → ℕ
 
 module _ (T : Setup) (K : Tally) where
   abbrev pub of_inbox : Option (ℕ × Message) → ℕ
@@ -52,10 +55,13 @@ module _ (T : Setup) (K : Tally) where
   abbrev pub of_pendings : List Pending → ℕ
   of_pendings ps = sum_by (λ (p : Pending). K.pend) ps
 
+  abbrev pub of_cap : ℕ → Capability → ℕ
+  of_cap i c = if is_some c.mark then 0 else sum_by (K.leads i) c.children
+
   -- the side of kernel i
   abbrev pub of_side : ℕ → Side → ℕ
-  of_side i s = sum_by (of_row i) s.vpes
-      + (of_pendings s.pendings + (sum_by K.job s.jobs + (of_inbox s.inbox + sum_by of_outbox s.outs)))
+  of_side i s = sum_by (of_cap i) s.caps + (sum_by (of_row i) s.vpes
+      + (of_pendings s.pendings + (sum_by K.job s.jobs + (of_inbox s.inbox + sum_by of_outbox s.outs))))
 
   module _ (i : ℕ) where
     -- Rows.

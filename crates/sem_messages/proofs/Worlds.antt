@@ -25,6 +25,7 @@ use Rattle.sem_key.proofs.Puts.{get_or-put_same, get_or-put_other}
 use Rattle.sem_machine.proofs.Weighing.{of_option, weigh-put, weigh-drop, weigh-replicate}
 use Rattle.sem_safety.specs.Counts.{sum_to}
 use Rattle.sem_safety.proofs.Counted.{sum_to-but}
+use Rattle.sem_messages.proofs.Links.{side-fresh}
 use Rattle.sem_messages.proofs.Tallies.{Tally, of_inbox, of_row, of_outbox, of_side, side-row, side-sent, side-inbox}
 
 module _ (T : Setup) (K : Tally) where
@@ -104,9 +105,11 @@ module _ (T : Setup) (K : Tally) where
         let k : KeyName = root_key d (row s d.vpe).next_number r in
         let added : Side = cap_added (fresh k None r.sel r.object) s in
         let two = side-row T K i added d.vpe (root_held d r (row s d.vpe)) in
-        omega (arith, two)
+        let one = side-fresh T K i s k None r.sel r.object in
+        omega (arith, one, two)
 
-    roots-same : (d : VpeDecl) (rs : List Root) (s : Side) → of_side T K i (in_turn (root_added d) rs s) ≡ of_side T K i s
+    roots-same : (d : VpeDecl) (rs : List Root) (s : Side) →
+        of_side T K i (in_turn (root_added d) rs s) ≡ of_side T K i s
     unfolding in_turn
     roots-same d [] s = refl
     roots-same d (r ∷ rs) s = roots-same d rs (root_added d r s) ∙ root-same d r s

@@ -1,4 +1,4 @@
--- The messages that kernels send each other in a run, by their kinds ("Messages" in docs/proof.md).
+-- The messages that kernels send each other, by their kinds ("Messages" in docs/proof.md).
 use Rattle.std.specs.Prelude.{◌≡◌, ℕ, ◌+◌, ◌*◌, ◌==◌, Bool, true, false, not, List, [], flat_map}
 use Rattle.std.specs.Prelude.{count_by, if◌then◌else◌}
 use Rattle.sem_key.specs.KeyName.{KeyName}

@@ -1,4 +1,4 @@
-ghost use Rattle.std.specs.Prelude.{◌≡◌, List, length};
+ghost use Rattle.std.specs.Prelude.{◌≡◌, ◌≤◌, List, length};
 ghost use Rattle.sem_msg.specs.declared.entry.Entry.{Entry};
 ghost use Rattle.sem_msg.specs.Setup.{Setup, IsSetup};
 ghost use Rattle.sem_machine.specs.Schedules.{IsSchedule, world_after};
@@ -31,6 +31,13 @@ pub fn grants_are_told()
 pub fn messages_are_counted()
     ensures counted { (T : Setup) → IsSetup T → (J : List Entry) → IsSchedule T J
         → IsIdle (world_after T J) → length (sent J) ≡ messages_made J }
+{}
+
+/// After every schedule, idle or not, no more requests to revoke were sent than grants were made
+/// from one kernel to another.
+pub fn revokes_follow_grants()
+    ensures few { (T : Setup) → IsSetup T → (J : List Entry) → IsSchedule T J
+        → count_sent is_revoke_req J ≤ grants_across T J }
 {}
 
 /// The laws speak of something: a setup of two kernels has a schedule in which messages of every
