@@ -14,7 +14,7 @@
  *   - `capacity` bytes at `out` are set, and they and `*written` can be read and written.
  *   - These three pieces of memory do not overlap, and nobody else writes to them during the call,
  *     or reads `out` and `*written`.
- *   - The stack has 64 KiB left.
+ *   - The stack has 256 KiB left. (128 KiB were enough where it was tried, and 96 KiB were not.)
  *   - It is not called from a signal handler, nor from the forked child of a process with threads.
  *
  * The program that links the library owes:
