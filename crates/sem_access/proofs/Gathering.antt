@@ -11,13 +11,16 @@ use Rattle.sem_access.specs.Accesses.{access_of, accesses_from, accesses}
 use Rattle.sem_access.specs.Transfers.{transfer_of, access_by}
 use Rattle.sem_access.proofs.Transferring.{access-made}
 
-accesses-append : (T : Setup) (W : World) (n : ℕ) (xs ys : List Entry) → accesses_from T W n (xs ++ ys) ≡ accesses_from T W n xs ++ accesses_from T (run T W xs) (n + length xs) ys
+accesses-append : (T : Setup) (W : World) (n : ℕ) (xs ys : List Entry) →
+    accesses_from T W n (xs ++ ys) ≡ accesses_from T W n xs ++ accesses_from T (run T W xs) (n + length xs) ys
 unfolding accesses_from
 accesses-append T W n [] ys = let same : n ≡ n + 0 = omega arith in ap (λ m. accesses_from T W m ys) same
 accesses-append T W n (x ∷ xs) ys =
     let place : n + 1 + length xs ≡ n + suc (length xs) = omega arith in
-    ap (λ zs. option_to_list (access_of W n x) ++ zs) (accesses-append T (after T W x.event) (n + 1) xs ys ∙ ap (λ m. accesses_from T (after T W x.event) (n + 1) xs ++ accesses_from T (run T W (x ∷ xs)) m ys) place)
-    ∙ sym (append_assoc (option_to_list (access_of W n x)) (accesses_from T (after T W x.event) (n + 1) xs) (accesses_from T (run T W (x ∷ xs)) (n + suc (length xs)) ys))
+    ap (λ zs. option_to_list (access_of W n x) ++ zs) (accesses-append T (after T W x.event) (n + 1) xs ys
+    ∙ ap (λ m. accesses_from T (after T W x.event) (n + 1) xs ++ accesses_from T (run T W (x ∷ xs)) m ys) place)
+    ∙ sym (append_assoc (option_to_list (access_of W n x)) (accesses_from T (after T W x.event) (n + 1) xs)
+    (accesses_from T (run T W (x ∷ xs)) (n + suc (length xs)) ys))
 
 accesses-one : (T : Setup) (W : World) (n : ℕ) (e : Entry) → accesses_from T W n (e ∷ []) ≡ option_to_list (access_of W n e)
 unfolding accesses_from

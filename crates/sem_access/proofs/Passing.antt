@@ -8,7 +8,8 @@ use Rattle.sem_key.specs.declared.object.Object.{Object}
 use Rattle.sem_key.specs.declared.object.Object.TheVariants.{Mem, Recv, Send, Serv, Sess}
 use Rattle.sem_key.specs.ObjectRanges.{is_subset}
 use Rattle.sem_msg.specs.declared.call.Call.{Call}
-use Rattle.sem_msg.specs.declared.call.Call.TheVariants.{Derive, Gate, Obtain, Delegate, OpenSession, AskOffer, Revoke, Bind, Read, Write, Send as SendCall, Credit, Exit, Clear}
+use Rattle.sem_msg.specs.declared.call.Call.TheVariants.{Derive, Gate, Obtain, Delegate, OpenSession, AskOffer, Revoke, Bind, Read, Write, Send as SendCall}
+use Rattle.sem_msg.specs.declared.call.Call.TheVariants.{Credit, Exit, Clear}
 use Rattle.sem_msg.specs.declared.event.Act.{Act}
 use Rattle.sem_msg.specs.declared.event.Act.TheVariants.{Call as Calls, Fetch, Handle, Upcall, Resume, Flush, Kill}
 use Rattle.sem_msg.specs.declared.message.Message.{Message}
@@ -45,7 +46,9 @@ pub record GoesThrough (s : Side) (x : Access) : Type 0 where
   pub passes : Passes (cond x.write 2 1) offset x.len bound.object
 
 -- where a row of three tests ends with success, none of them holds
-three-tests : (a b c : Bool) (s : Side) → is_success (unless ((a, Unbound) ∷ (b, Rights) ∷ (c, Range) ∷ []) (λ code. answer code s) (answer OkCode s)).outcome.reply ≡ true → (a ≡ false) × (b ≡ false) × (c ≡ false)
+three-tests : (a b c : Bool) (s : Side) →
+    is_success (unless ((a, Unbound) ∷ (b, Rights) ∷ (c, Range) ∷ []) (λ code. answer code s) (answer OkCode s)).outcome.reply ≡ true →
+    (a ≡ false) × (b ≡ false) × (c ≡ false)
 unfolding unless
 three-tests true b c s done = absurd (cc)
 three-tests false true c s done = absurd (cc)
@@ -59,25 +62,30 @@ memory-passes right off len (Send gate label credits) allowed within = absurd (c
 memory-passes right off len (Serv name) allowed within = absurd (cc)
 memory-passes right off len (Sess service ident) allowed within = absurd (cc)
 
-bound-passes : (right off len : ℕ) (o : Option Endpoint) → is_none o ≡ false → not (bound_passes (λ b. allows right b.object) o) ≡ false → bound_passes (λ b. is_past_end off len b.object) o ≡ false → (b : Endpoint) × (o ≡ Some b) × Passes right off len b.object
+bound-passes : (right off len : ℕ) (o : Option Endpoint) → is_none o ≡ false → not (bound_passes (λ b. allows right b.object) o) ≡ false →
+    bound_passes (λ b. is_past_end off len b.object) o ≡ false → (b : Endpoint) × (o ≡ Some b) × Passes right off len b.object
 bound-passes right off len None bound allowed within = absurd (cc)
 bound-passes right off len (Some b) bound allowed within = (b, refl, memory-passes right off len b.object allowed within)
 
-row-passes : (s : Side) (v ep right off len : ℕ) → is_success (memory_row s v ep right off len).outcome.reply ≡ true → (b : Endpoint) × (endpoint s v ep ≡ Some b) × Passes right off len b.object
+row-passes : (s : Side) (v ep right off len : ℕ) → is_success (memory_row s v ep right off len).outcome.reply ≡ true →
+    (b : Endpoint) × (endpoint s v ep ≡ Some b) × Passes right off len b.object
 row-passes s v ep right off len done =
     let o : Option Endpoint = endpoint s v ep in
     let passed = three-tests (is_none o) (not (bound_passes (λ b. allows right b.object) o)) (bound_passes (λ b. is_past_end off len b.object) o) s done in
     bound-passes right off len o passed.0 passed.1 passed.2
 
 -- an access through what an endpoint is bound to
-through : (s : Side) (n v ep : ℕ) (w : Bool) (off len : ℕ) (x : Access) (b : Endpoint) → endpoint s v ep ≡ Some b → Passes (cond w 2 1) off len b.object → option_map (access_through n v w off len) (endpoint s v ep) ≡ Some x → GoesThrough s x
+through : (s : Side) (n v ep : ℕ) (w : Bool) (off len : ℕ) (x : Access) (b : Endpoint) → endpoint s v ep ≡ Some b → Passes (cond w 2 1) off len b.object →
+    option_map (access_through n v w off len) (endpoint s v ep) ≡ Some x → GoesThrough s x
 through s n v ep w off len x b bound passes is =
-    let same : access_through n v w off len b ≡ x = same_Some (access_through n v w off len b) x (sym (ap (option_map (access_through n v w off len)) bound) ∙ is) in
+    let same : access_through n v w off len b ≡ x = same_Some (access_through n v w off len b) x (sym (ap (option_map (access_through n v w off len)) bound)
+    ∙ is) in
     subst (GoesThrough s) same (record { number = ep; offset = off; bound = b; at_endpoint = bound; through = refl; passes = passes })
 
 -- The access of a call, of an act, of an entry.
 
-call-through : (T : Setup) (i : ℕ) (s t : Side) (n v : ℕ) (call : Call) (x : Access) → ((ep : ℕ) → endpoint t v ep ≡ endpoint s v ep) → is_success (call_row T i t v call).outcome.reply ≡ true → call_access s n v call ≡ Some x → GoesThrough s x
+call-through : (T : Setup) (i : ℕ) (s t : Side) (n v : ℕ) (call : Call) (x : Access) → ((ep : ℕ) → endpoint t v ep ≡ endpoint s v ep) →
+    is_success (call_row T i t v call).outcome.reply ≡ true → call_access s n v call ≡ Some x → GoesThrough s x
 unfolding call_row
 call-through T i s t n v (Read ep off len) x same done is =
     let passed = row-passes t v ep 1 off len done in
@@ -122,16 +130,20 @@ shown-code : (v : ℕ) (o : Option ℕ) → option_map {T = Reply} (λ r. r.code
 shown-code v None = refl
 shown-code v (Some code) = refl
 
-pub made-detail : (T : Setup) (W : World) (f : Event) → (entry_of T W f).detail ≡ detail_of T (side W f.kernel) f.act (input_of W f.kernel f.act) (local_step T f.kernel (side W f.kernel) f.act (input_of W f.kernel f.act)).outcome
+pub made-detail : (T : Setup) (W : World) (f : Event) →
+    (entry_of T W f).detail
+    ≡ detail_of T (side W f.kernel) f.act (input_of W f.kernel f.act) (local_step T f.kernel (side W f.kernel) f.act (input_of W f.kernel f.act)).outcome
 unfolding entry_of local_entry
 made-detail T W f = refl
 
-made-reply : (T : Setup) (W : World) (f : Event) → option_map {T = Reply} (λ r. r.code) (entry_of T W f).reply ≡ (local_step T f.kernel (side W f.kernel) f.act (input_of W f.kernel f.act)).outcome.reply
+made-reply : (T : Setup) (W : World) (f : Event) →
+    option_map {T = Reply} (λ r. r.code) (entry_of T W f).reply ≡ (local_step T f.kernel (side W f.kernel) f.act (input_of W f.kernel f.act)).outcome.reply
 unfolding entry_of local_entry
 made-reply T W f = shown-code (replied_vpe f.act) (local_step T f.kernel (side W f.kernel) f.act (input_of W f.kernel f.act)).outcome.reply
 
 -- the access of an entry that the machine made went through an endpoint
-pub entry-through : (T : Setup) (W : World) (n : ℕ) (e : Entry) (x : Access) → e ≡ entry_of T W e.event → access_of W n e ≡ Some x → GoesThrough (side W e.event.kernel) x
+pub entry-through : (T : Setup) (W : World) (n : ℕ) (e : Entry) (x : Access) → e ≡ entry_of T W e.event → access_of W n e ≡ Some x →
+    GoesThrough (side W e.event.kernel) x
 entry-through T W n e x made is =
     let i : ℕ = e.event.kernel in
     let s : Side = side W i in
@@ -140,5 +152,6 @@ entry-through T W n e x made is =
     let o : Outcome = (local_step T i s act input).outcome in
     let parts = access-is W n e x is in
     let detail : e.detail ≡ detail_of T s act input o = ap (λ (f : Entry). f.detail) made ∙ made-detail T W e.event in
-    let reply : option_map {T = Reply} (λ r. r.code) e.reply ≡ o.reply = ap (λ (f : Entry). option_map {T = Reply} (λ r. r.code) f.reply) made ∙ made-reply T W e.event in
+    let reply : option_map {T = Reply} (λ r. r.code) e.reply ≡ o.reply = ap (λ (f : Entry). option_map {T = Reply} (λ r. r.code) f.reply) made
+    ∙ made-reply T W e.event in
     act-through T i s n act input x (sym (ap is_success reply) ∙ parts.0) (sym (ap (act_access s n act) detail) ∙ parts.1)

@@ -7,7 +7,8 @@ use Rattle.std.proofs.lemmas.List.Elements.{Contains-append_cases}
 use Rattle.std.proofs.Math.Seq.{take-append_seam}
 use Rattle.sem_key.proofs.Members.{Contains-nil, Contains-cons_cases}
 use Rattle.sem_msg.specs.declared.call.Call.{Call}
-use Rattle.sem_msg.specs.declared.call.Call.TheVariants.{Derive, Gate, Obtain, Delegate, OpenSession, AskOffer, Revoke, Bind, Read, Write, Send as SendCall, Credit, Exit, Clear}
+use Rattle.sem_msg.specs.declared.call.Call.TheVariants.{Derive, Gate, Obtain, Delegate, OpenSession, AskOffer, Revoke, Bind, Read, Write, Send as SendCall}
+use Rattle.sem_msg.specs.declared.call.Call.TheVariants.{Credit, Exit, Clear}
 use Rattle.sem_msg.specs.declared.event.Act.{Act}
 use Rattle.sem_msg.specs.declared.event.Act.TheVariants.{Call as Calls, Fetch, Handle, Upcall, Resume, Flush, Kill}
 use Rattle.sem_msg.specs.declared.entry.Detail.{Detail}
@@ -59,10 +60,12 @@ act-place s n (Flush to) d x is = absurd (cc)
 act-place s n (Kill v) d x is = absurd (cc)
 
 -- an access is that of an act that was answered at once
-pub access-is : (W : World) (n : ℕ) (e : Entry) (x : Access) → access_of W n e ≡ Some x → (is_answered_at_once e ≡ true) × (act_access (side W e.event.kernel) n e.event.act e.detail ≡ Some x)
+pub access-is : (W : World) (n : ℕ) (e : Entry) (x : Access) → access_of W n e ≡ Some x →
+    (is_answered_at_once e ≡ true) × (act_access (side W e.event.kernel) n e.event.act e.detail ≡ Some x)
 access-is W n e x is = elim (cases_Bool (is_answered_at_once e)) [
   | inl done ↦ (done, sym (cond-true (is_answered_at_once e) (act_access (side W e.event.kernel) n e.event.act e.detail) None done) ∙ is)
-  | inr refused ↦ let none : None ≡ Some x = sym (cond-false (is_answered_at_once e) (act_access (side W e.event.kernel) n e.event.act e.detail) None refused) ∙ is in absurd (cc)
+  | inr refused ↦ let none : None ≡ Some x = sym (cond-false (is_answered_at_once e) (act_access (side W e.event.kernel) n e.event.act e.detail) None refused)
+      ∙ is in absurd (cc)
 ]
 
 pub entry-place : (W : World) (n : ℕ) (e : Entry) (x : Access) → access_of W n e ≡ Some x → x.entry ≡ n
@@ -121,8 +124,13 @@ before-is T J x at =
     let place : x.entry ≡ length at.before = let there = at.place in omega (arith, there) in
     ap (λ n. take n J) place ∙ (ap (take (length at.before)) at.parts ∙ take-append_seam at.before (at.entry ∷ at.later))
 
-pub of-entries : (T : Setup) (J : List Entry) (x : Access) → Contains (accesses T J) x → (e : Entry) × (later : List Entry) × (J ≡ take x.entry J ++ e ∷ later) × (access_of (world_after T (take x.entry J)) x.entry e ≡ Some x)
+pub of-entries : (T : Setup) (J : List Entry) (x : Access) → Contains (accesses T J) x → (e : Entry) × (later : List Entry) × (J ≡ take x.entry J ++ e ∷ later)
+    × (access_of (world_after T (take x.entry J)) x.entry e ≡ Some x)
 of-entries T J x among =
     let at = stands T J x among in
-    let before : take x.entry J ≡ at.before = before-is T J x at in
-    (at.entry, at.later, at.parts ∙ ap (λ (xs : List Entry). xs ++ at.entry ∷ at.later) (sym before), subst (λ (xs : List Entry). access_of (world_after T xs) x.entry at.entry ≡ Some x) (sym before) at.is)
+    let before : take x.entry J ≡ at.before = before-is T J x at in (
+      at.entry,
+      at.later,
+      at.parts ∙ ap (λ (xs : List Entry). xs ++ at.entry ∷ at.later) (sym before),
+      subst (λ (xs : List Entry). access_of (world_after T xs) x.entry at.entry ≡ Some x) (sym before) at.is,
+    )

@@ -5,7 +5,8 @@ use Rattle.std.specs.Prelude.{◌==◌, ◌&&◌, nat_lt}
 use Rattle.std.proofs.lemmas.Bool.{and_parts, cond-true, eqb-true, ltb-true, lt-ltb}
 use Rattle.sem_msg.specs.declared.limits.TheConstants.{ENDPOINTS}
 use Rattle.sem_msg.specs.declared.call.Call.{Call}
-use Rattle.sem_msg.specs.declared.call.Call.TheVariants.{Derive, Gate, Obtain, Delegate, OpenSession, AskOffer, Revoke, Bind, Read, Write, Send as SendCall, Credit, Exit, Clear}
+use Rattle.sem_msg.specs.declared.call.Call.TheVariants.{Derive, Gate, Obtain, Delegate, OpenSession, AskOffer, Revoke, Bind, Read, Write, Send as SendCall}
+use Rattle.sem_msg.specs.declared.call.Call.TheVariants.{Credit, Exit, Clear}
 use Rattle.sem_msg.specs.declared.event.Act.{Act}
 use Rattle.sem_msg.specs.declared.event.Act.TheVariants.{Call as Calls, Fetch, Handle, Upcall, Resume, Flush, Kill}
 use Rattle.sem_msg.specs.declared.event.Event.{Event}
@@ -55,22 +56,29 @@ called-next (Some other) n index call is = let same : other ≡ call = cc in ap 
 -- an event that is enabled is one of a kernel of the setup
 pub enabled-kernel : (T : Setup) (W : World) (e : Event) → is_enabled T W e ≡ true → e.kernel < T.kernels
 unfolding is_enabled
-enabled-kernel T W e enabled = ltb-true e.kernel T.kernels (and_parts (nat_lt e.kernel T.kernels) (is_locally_enabled T e.kernel (side W e.kernel) e.act && is_allowed T W e.kernel e.act) enabled).0
+enabled-kernel T W e enabled =
+    ltb-true e.kernel T.kernels (and_parts (nat_lt e.kernel T.kernels) (is_locally_enabled T e.kernel (side W e.kernel) e.act
+    && is_allowed T W e.kernel e.act) enabled).0
 
 enabled-here : (T : Setup) (W : World) (e : Event) → is_enabled T W e ≡ true → is_locally_enabled T e.kernel (side W e.kernel) e.act ≡ true
 unfolding is_enabled
-enabled-here T W e enabled = (and_parts (is_locally_enabled T e.kernel (side W e.kernel) e.act) (is_allowed T W e.kernel e.act) (and_parts (nat_lt e.kernel T.kernels) (is_locally_enabled T e.kernel (side W e.kernel) e.act && is_allowed T W e.kernel e.act) enabled).1).0
+enabled-here T W e enabled =
+    (and_parts (is_locally_enabled T e.kernel (side W e.kernel) e.act) (is_allowed T W e.kernel e.act)
+    (and_parts (nat_lt e.kernel T.kernels) (is_locally_enabled T e.kernel (side W e.kernel) e.act && is_allowed T W e.kernel e.act) enabled).1).0
 
 caller-kernel : (T : Setup) (i : ℕ) (s : Side) (v : ℕ) → is_locally_enabled T i s (Calls v) ≡ true → kernel_of T v ≡ i
 unfolding is_locally_enabled
-caller-kernel T i s v enabled = eqb-true (kernel_of T v) i (and_parts (kernel_of T v == i) (is_alive s v && (is_none (parked s v) && is_some (next_call T s v))) enabled).0
+caller-kernel T i s v enabled =
+    eqb-true (kernel_of T v) i (and_parts (kernel_of T v == i) (is_alive s v && (is_none (parked s v) && is_some (next_call T s v))) enabled).0
 
 -- The access of a transfer.
 
 module _ (T : Setup) (W : World) (n i v : ℕ) (here : kernel_of T v ≡ i) where
-  through : (ep : ℕ) (write : Bool) (off len : ℕ) → IsEndpoint ep → access_by T W n (transfer_through v ep write off len) ≡ option_map (access_through n v write off len) (endpoint (side W i) v ep)
+  through : (ep : ℕ) (write : Bool) (off len : ℕ) → IsEndpoint ep →
+      access_by T W n (transfer_through v ep write off len) ≡ option_map (access_through n v write off len) (endpoint (side W i) v ep)
   through ep write off len is =
-      ap (access_by T W n) (cond-true (nat_lt ep ENDPOINTS) (Some (record { vpe = v; ep = ep; write = write; off = off; len = len })) None (lt-ltb ep ENDPOINTS is))
+      ap (access_by T W n) (cond-true (nat_lt ep ENDPOINTS) (Some (record { vpe = v; ep = ep; write = write; off = off; len = len })) None
+      (lt-ltb ep ENDPOINTS is))
       ∙ ap (λ k. option_map (access_through n v write off len) (endpoint (side W k) v ep)) here
 
   of-call : (call : Call) → NamesEndpoint call → access_by T W n (call_transfer v call) ≡ call_access (side W i) n v call
@@ -103,7 +111,9 @@ module _ (T : Setup) (valid : IsSetup T) (W : World) (e : Entry) (enabled : is_e
       valid-names (most_vpes T.version) call (call-valid T valid i (enabled-kernel T W e.event enabled) v (row s v).next_call call next)
 
   of-act : (n : ℕ) (a : Act) (d : Detail) → e.event.act ≡ a → e.detail ≡ d → access_by T W n (act_transfer a d) ≡ act_access (side W i) n a d
-  of-act n (Calls v) (Called index call) act detail = of-call T W n i v (caller-kernel T i (side W i) v (subst (λ a. is_locally_enabled T i (side W i) a ≡ true) act (enabled-here T W e.event enabled))) call (call-names v index call act detail)
+  of-act n (Calls v) (Called index call) act detail =
+      of-call T W n i v (caller-kernel T i (side W i) v (subst (λ a. is_locally_enabled T i (side W i) a ≡ true) act (enabled-here T W e.event enabled))) call
+      (call-names v index call act detail)
   of-act n (Calls v) (Carried peer message) act detail = refl
   of-act n (Calls v) (Asked asker answer) act detail = refl
   of-act n (Calls v) Nothing act detail = refl

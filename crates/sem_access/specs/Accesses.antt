@@ -1,19 +1,9 @@
 -- What VPEs read and wrote through their endpoints ("What memory holds" in docs/machine.md).
 use Rattle.std.specs.Prelude.{ℕ, ◌+◌, Bool, true, false, List, [], ◌∷◌, ◌++◌, Option, None, if◌then◌else◌}
 use Rattle.std.specs.Option.{option_map, option_to_list}
-use Rattle.sem_key.specs.declared.object.Object.{Object}
-use Rattle.sem_key.specs.declared.object.Object.TheVariants.{Mem}
-use Rattle.sem_msg.specs.declared.call.Call.{Call}
-use Rattle.sem_msg.specs.declared.call.Call.TheVariants.{Read, Write}
-use Rattle.sem_msg.specs.declared.event.Act.{Act}
-use Rattle.sem_msg.specs.declared.event.Act.TheVariants.{Call as Calls}
-use Rattle.sem_msg.specs.declared.entry.Detail.{Detail}
-use Rattle.sem_msg.specs.declared.entry.Detail.TheVariants.{Called}
-use Rattle.sem_msg.specs.declared.entry.Entry.{Entry}
+use Rattle.sem_machine.specs.Prelude.{Object, Mem, Call, Read, Write, Act, Calls, Detail, Called, Entry, Setup, Side}
+use Rattle.sem_machine.specs.Prelude.{endpoint, World, side, start, after}
 use Rattle.sem_msg.specs.Rows.{Endpoint}
-use Rattle.sem_msg.specs.Setup.{Setup}
-use Rattle.sem_machine.specs.Sides.{Side, endpoint}
-use Rattle.sem_machine.specs.Machine.{World, side, start, after}
 use Rattle.sem_machine.specs.Journals.{is_success}
 use Rattle.sem_access.specs.declared.access.Access.{Access}
 
@@ -22,8 +12,8 @@ abbrev pub base_of : Object → ℕ
 base_of (Mem base len rights) = base
 base_of object = 0
 
--- the access that the entry at a place tells: by a VPE, of so many bytes from an offset on, through
--- an endpoint that is bound so
+-- the access that the entry at a place tells: by a VPE, of that many bytes from an offset on,
+-- through an endpoint with that binding
 abbrev pub access_through : (entry vpe : ℕ) → Bool → (off len : ℕ) → Endpoint → Access
 access_through n v write off len e =
     record {
@@ -48,12 +38,11 @@ abbrev pub act_access : Side → ℕ → Act → Detail → Option Access
 act_access s n (Calls v) (Called index call) = call_access s n v call
 act_access s n act detail = None
 
--- whether an entry tells that its call was answered with success
+-- whether an entry tells that its call succeeded
 abbrev pub is_answered_at_once : Entry → Bool
 is_answered_at_once e = is_success (option_map (λ r. r.code) e.reply)
 
--- the access of the entry at place n, in the world before it: a read or a write that was answered
--- with success
+-- the access of the entry at place n, in the world before it: a read or a write that succeeded
 abbrev pub access_of : World → ℕ → Entry → Option Access
 access_of W n e =
     if is_answered_at_once e

@@ -1,8 +1,7 @@
 -- The text that tells what memory holds ("What `contents` writes" in docs/texts.md).
 use Rattle.std.specs.Prelude.{ℕ, not, List, [], ◌∷◌, ◌++◌, length, map, filter, codes, decimal, Option}
 use Rattle.std.specs.Option.{option_map_or}
-use Rattle.sem_msg.specs.declared.entry.Entry.{Entry}
-use Rattle.sem_msg.specs.Setup.{Setup}
+use Rattle.sem_machine.specs.Prelude.{Entry, Setup}
 use Rattle.sem_text.specs.Lines.{text}
 use Rattle.sem_access.specs.declared.access.Access.{Access}
 use Rattle.sem_access.specs.declared.look.Look.{Look}
@@ -11,7 +10,7 @@ use Rattle.sem_access.specs.Accesses.{accesses}
 use Rattle.sem_access.specs.LastWrites.{last_write_in, looked}
 use Rattle.sem_access.specs.Runs.{all_runs}
 
--- an entry, or a dash where there is none
+-- an entry, or a dash if there is none
 abbrev pub entry_word : Option ℕ → List ℕ
 entry_word entry = option_map_or decimal entry (codes "-")
 
@@ -37,8 +36,7 @@ reads xs = filter (λ x. not x.write) xs
 abbrev pub found_by : List Access → Access → Look
 found_by xs x = looked (last_write_in xs x.entry) x.base x.len
 
--- the lines of accesses by entries below n: each read with what it found, and the runs that are
--- there at the end
+-- the lines of accesses by entries below n: each read with what it found, and the runs at the end
 abbrev pub access_lines : List Access → ℕ → List (List (List ℕ))
 access_lines xs n =
     (codes "semper" ∷ codes "contents" ∷ decimal 1 ∷ [])

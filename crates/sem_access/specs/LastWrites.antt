@@ -1,10 +1,10 @@
--- Who wrote an address last, and what a range tells of that ("What memory holds" in
+-- Which entry wrote an address last, and what a range tells of that ("What memory holds" in
 -- docs/machine.md).
-use Rattle.std.specs.Prelude.{ℕ, ◌+◌, max, nat_lt, nat_le, Bool, ◌&&◌, List, [], ◌∷◌, length, map, filter, filter_map, Option, Some, None}
+use Rattle.std.specs.Prelude.{ℕ, ◌+◌, max, nat_lt, nat_le, Bool, ◌&&◌, List, [], ◌∷◌, length, map, filter, filter_map}
+use Rattle.std.specs.Prelude.{Option, Some, None}
 use Rattle.std.specs.List.{range_with_len}
 use Rattle.std.specs.Option.{option_map_or}
-use Rattle.sem_msg.specs.declared.entry.Entry.{Entry}
-use Rattle.sem_msg.specs.Setup.{Setup}
+use Rattle.sem_machine.specs.Prelude.{Entry, Setup}
 use Rattle.sem_access.specs.declared.access.Access.{Access}
 use Rattle.sem_access.specs.declared.look.Look.{Look}
 use Rattle.sem_access.specs.Accesses.{accesses}
@@ -17,11 +17,11 @@ has_address base len a = nat_le base a && nat_lt a (base + len)
 abbrev pub is_write_at : ℕ → Access → Bool
 is_write_at a x = x.write && has_address x.base x.len a
 
--- whether it is one by an entry below n
+-- whether an access is a write of the address by an entry below n
 abbrev pub is_write_before : ℕ → ℕ → Access → Bool
 is_write_before n a x = nat_lt x.entry n && is_write_at a x
 
--- the greater of a number and one that may be there
+-- the greater of a number and an optional one
 abbrev pub greater : ℕ → Option ℕ → Option ℕ
 greater n other = Some (option_map_or (max n) other n)
 
@@ -30,7 +30,7 @@ abbrev pub greatest : List ℕ → Option ℕ
 greatest [] = None
 greatest (n ∷ ns) = greater n (greatest ns)
 
--- the last write of an address among accesses that pass a test: the greatest entry of such
+-- the last write of an address among accesses that pass a test: the greatest entry of such a write
 abbrev pub greatest_entry : (Access → Bool) → List Access → Option ℕ
 greatest_entry test xs = greatest (map (λ x. x.entry) (filter test xs))
 

@@ -1,20 +1,9 @@
--- The reads and writes that entries tell, and the access that each is by what its endpoint is bound to.
+-- The reads and writes that entries tell, and the access of each, by the binding of its endpoint.
 use Rattle.std.specs.Prelude.{ℕ, ◌+◌, Bool, true, false, nat_lt, Option, Some, None, if◌then◌else◌}
 use Rattle.std.specs.Option.{option_map}
-use Rattle.sem_key.specs.KeyName.{KeyName}
-use Rattle.sem_key.specs.declared.object.Object.{Object}
+use Rattle.sem_machine.specs.Prelude.{KeyName, Object, Call, Read, Write, Act, Calls, Detail, Called, Entry}
+use Rattle.sem_machine.specs.Prelude.{kernel_of, Setup, endpoint, World, side}
 use Rattle.sem_msg.specs.declared.limits.TheConstants.{ENDPOINTS}
-use Rattle.sem_msg.specs.declared.call.Call.{Call}
-use Rattle.sem_msg.specs.declared.call.Call.TheVariants.{Read, Write}
-use Rattle.sem_msg.specs.declared.event.Act.{Act}
-use Rattle.sem_msg.specs.declared.event.Act.TheVariants.{Call as Calls}
-use Rattle.sem_msg.specs.declared.entry.Detail.{Detail}
-use Rattle.sem_msg.specs.declared.entry.Detail.TheVariants.{Called}
-use Rattle.sem_msg.specs.declared.entry.Entry.{Entry}
-use Rattle.sem_msg.specs.Lookups.{kernel_of}
-use Rattle.sem_msg.specs.Setup.{Setup}
-use Rattle.sem_machine.specs.Sides.{endpoint}
-use Rattle.sem_machine.specs.Machine.{World, side}
 use Rattle.sem_access.specs.declared.access.Access.{Access}
 use Rattle.sem_access.specs.declared.transfer.Transfer.{Transfer}
 use Rattle.sem_access.specs.Accesses.{base_of, is_answered_at_once}
@@ -32,16 +21,16 @@ call_transfer v (Read ep off len) = transfer_through v ep false off len
 call_transfer v (Write ep off len) = transfer_through v ep true off len
 call_transfer v call = None
 
--- what an act reads or writes: what its call does
+-- what an act reads or writes: what its call reads or writes
 abbrev pub act_transfer : Act → Detail → Option Transfer
 act_transfer (Calls v) (Called index call) = call_transfer v call
 act_transfer act detail = None
 
--- what an entry reads or writes that was answered with success
+-- what an entry with a call that succeeded reads or writes
 abbrev pub transfer_of : Entry → Option Transfer
 transfer_of e = if is_answered_at_once e then act_transfer e.event.act e.detail else None
 
--- its access, where its endpoint is bound to a key whose capability had that object
+-- the access of a transfer, if its endpoint is bound to a key whose capability had that object
 abbrev pub transferred : ℕ → Transfer → KeyName → Object → Access
 transferred n t key object =
     record {
@@ -53,7 +42,8 @@ transferred n t key object =
       len = t.len;
     }
 
--- its access by the endpoint of its VPE in a world, if there is a transfer and the endpoint is bound
+-- the access of a transfer by the endpoint of its VPE in a world, if there is a transfer and the
+-- endpoint is bound
 abbrev pub access_by : Setup → World → ℕ → Option Transfer → Option Access
 access_by T W n None = None
 access_by T W n (Some t) =

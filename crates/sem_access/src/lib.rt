@@ -1,4 +1,4 @@
-//! What a journal reads and writes of memory, and what memory holds after it: the definitions, and
+//! What a journal reads and writes in memory, and what memory holds after it: the definitions, and
 //! the reads and writes that entries tell.
 #![tactic(auto)]
 

@@ -1,13 +1,16 @@
 ghost use Rattle.std.specs.Prelude.{◌≡◌, ◌<◌, IfSome};
 ghost use Rattle.sem_msg.specs.declared.limits.TheConstants.{ENDPOINTS as ENDPOINTS_LEM};
-ghost use Rattle.sem_access.specs.Accesses.{base_of as base_of_lem, is_answered_at_once as is_answered_at_once_lem};
-ghost use Rattle.sem_access.specs.Transfers.{transfer_through as transfer_through_lem, call_transfer as call_transfer_lem, transfer_of as transfer_of_lem, transferred};
+ghost use Rattle.sem_access.specs.Accesses.{base_of as base_of_lem};
+ghost use Rattle.sem_access.specs.Accesses.{is_answered_at_once as is_answered_at_once_lem};
+ghost use Rattle.sem_access.specs.Transfers.{transfer_through as transfer_through_lem};
+ghost use Rattle.sem_access.specs.Transfers.{call_transfer as call_transfer_lem};
+ghost use Rattle.sem_access.specs.Transfers.{transfer_of as transfer_of_lem, transferred};
 
 use crate::Access;
 use sem_key::{Key, Object};
 use sem_msg::{Act, Call, Detail, ENDPOINTS, Entry};
 
-/// A read or a write through an endpoint that was answered with success.
+/// A read or a write through an endpoint that succeeded.
 #[derive(Clone, Copy, Debug, PartialEq, Eq)]
 pub struct Transfer {
     pub vpe: u16,
@@ -15,15 +18,15 @@ pub struct Transfer {
     pub ep: u8,
     /// Whether it writes.
     pub write: bool,
-    /// From which place of the memory on.
+    /// The offset in the memory at which it begins.
     pub off: u32,
     /// How many bytes.
     pub len: u32,
 }
 
 impl Transfer {
-    /// Its access, by the entry at that place, where the endpoint is bound to the key and its
-    /// capability had that object.
+    /// The access of this transfer, by the entry at that place. The endpoint must be bound to the
+    /// key, and the key's capability must have had that object.
     pub fn access(&self, place: u64, key: Key, object: &Object) -> Access
         ensures { result ≡ transferred place self.now key object.now }
     {
@@ -38,7 +41,7 @@ impl Transfer {
     }
 }
 
-/// The read or the write that the entry tells, if its call was answered with success at once.
+/// The read or the write that the entry tells, if its call succeeded at once.
 pub fn transfer_of(entry: &Entry) -> Option<Transfer>
     ensures transfer { result ≡ transfer_of_lem entry.now }
     ensures ep { IfSome result (λ t. t.ep < ENDPOINTS_LEM) }
@@ -52,7 +55,7 @@ pub fn transfer_of(entry: &Entry) -> Option<Transfer>
     }
 }
 
-// Whether the entry tells that its call was answered with success.
+// Whether the entry tells that its call succeeded.
 fn is_answered_at_once(entry: &Entry) -> bool
     ensures { result ≡ is_answered_at_once_lem entry.now }
 {

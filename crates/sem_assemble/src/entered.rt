@@ -1,20 +1,20 @@
-// What is entered so far, as much of it as says what can come next.
+// What was entered so far, as far as it decides what can come next.
 use sem_key::OutOfMemory;
 use sem_msg::{Act, Entry, Setup};
 use std::alloc::Global;
 
-/// How many messages each link holds, and how many replies there were.
+/// How many messages each link holds, and how many replies were made.
 #[derive(Debug, Drop)]
 pub struct Entered {
     kernels: u32,
     // By link, in rows of one sender each.
     held: Vec<u32>,
-    /// How many replies there were.
+    /// How many replies were made.
     pub replies: u64,
 }
 
 impl Entered {
-    /// Nothing is entered yet, of so many kernels.
+    /// Nothing entered yet, in a run of that many kernels.
     pub fn nothing(alloc: Global, kernels: u32) -> Result<Entered, OutOfMemory> {
         let mut held = Vec::new(alloc);
         for _ in 0..u64::from(kernels).saturating_mul(u64::from(kernels)) {
@@ -75,8 +75,8 @@ impl Entered {
     }
 }
 
-/// After how many replies the VPE is killed; 0 where no kill of it is declared. Then nothing holds
-/// the entry back here, and the check of the report refuses it.
+/// After how many replies the VPE is killed; 0 if no kill of it is declared. Then nothing holds the
+/// entry back here, and the check of the report refuses it.
 pub fn replies_before(setup: &Setup, vpe: u16) -> u64 {
     for (killed, replies) in setup.kills.as_slice() {
         if *killed == vpe {

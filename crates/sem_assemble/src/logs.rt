@@ -7,7 +7,7 @@ use sem_reader::read_trace;
 use sem_trace::{Cause, Lines, TraceError, bytes_fault, is, is_significant, next_word};
 use std::alloc::Global;
 
-/// What a trace declares, and the entries behind it in the order of their lines, each with the
+/// What a trace declares, and the entries after it in the order of their lines, each with the
 /// number of its line.
 #[derive(Debug, Drop)]
 pub struct Logs {
@@ -27,7 +27,7 @@ pub fn read_logs(alloc: Global, bytes: &[u8]) -> Result<Result<Logs, String>, Ou
     }
 }
 
-// How many lines and how many bytes the trace has: it ends with the first line whose first word is
+// How many lines and how many bytes the trace has. It ends with the first line whose first word is
 // `end`, or with the text.
 fn trace_end(bytes: &[u8]) -> (u64, usize) {
     let mut lines = Lines::of(bytes);
@@ -54,7 +54,7 @@ fn is_end(line: &[u8]) -> bool {
     }
 }
 
-// The entries in the text behind a trace of so many lines.
+// The entries in the text after a trace of that many lines.
 fn read_entries(
     alloc: Global,
     setup: Setup,
@@ -87,7 +87,7 @@ fn read_entries(
     }))
 }
 
-// The entry that the line tells, in any spelling; none where the line says nothing.
+// The entry that the line tells, in any spelling; none if the line says nothing.
 fn entry_in(setup: &Setup, line: &[u8]) -> Result<Option<Entry>, Cause> {
     if let Some(cause) = bytes_fault(line) {
         return Err(cause);

@@ -1,4 +1,4 @@
-// Logs, put in one order.
+// Puts logs in one order.
 use crate::entered::Entered;
 use crate::logs::Logs;
 use crate::queues::Queues;
@@ -14,11 +14,11 @@ pub struct Order {
     pub entered: Entered,
 }
 
-/// The entries in one order, in which those of each kernel keep theirs. Of those that can come
-/// next, the one whose line stands first does. If an entry is left, no order has all entries.
-// No choice is ever wrong, since each link has one sender and one receiver. What an entry waits
-// for, only entries of its own kernel could take away: those of other kernels put messages on the
-// links to it, make room on the links from it, or add replies. So what can come next still can
+/// The entries in one order, in which those of each kernel keep theirs. Of the entries that can
+/// come next, the one with the first line does. If an entry is left, no order has all entries.
+// No choice is ever wrong, since each link has one sender and one receiver. Only entries of its own
+// kernel could take away what an entry waits for; those of other kernels put messages on the links
+// to it, make room on the links from it, or add replies. So an entry that can come next still can
 // after any other kernel's entry.
 pub fn put_in_order(alloc: Global, logs: &Logs) -> Result<Order, OutOfMemory> {
     let (setup, entries) = (&logs.setup, logs.journal.as_slice());
@@ -37,8 +37,8 @@ pub fn put_in_order(alloc: Global, logs: &Logs) -> Result<Order, OutOfMemory> {
 }
 
 impl Order {
-    // The entry that comes next, if one can: a look at the first of each kernel, of which there are
-    // 32 at most.
+    // The entry that comes next, if one can. It looks at the first of each kernel; there are at
+    // most 32 kernels.
     fn next_of<'a>(&self, setup: &Setup, entries: &'a [Entry]) -> Option<&'a Entry> {
         let mut found: Option<(usize, &'a Entry)> = None;
         for place in self.left.firsts().iter().copied().flatten() {

@@ -6,14 +6,14 @@ use std::alloc::Global;
 /// Entries, named by their places among the lines: for each kernel a queue of its own ones.
 #[derive(Debug, Drop)]
 pub struct Queues {
-    // The first of each kernel.
+    // The first entry of each kernel.
     first: Vec<Option<usize>>,
-    // The one behind each entry, of the same kernel.
+    // The entry after each entry, of the same kernel.
     next: Vec<Option<usize>>,
 }
 
 impl Queues {
-    /// All entries, of so many kernels.
+    /// All entries, of that many kernels.
     pub fn of(alloc: Global, kernels: u32, entries: &[Entry]) -> Result<Queues, OutOfMemory> {
         let mut first = Vec::new(alloc);
         for _ in 0..kernels {
@@ -39,7 +39,7 @@ impl Queues {
         self.set_first(kernel, Some(place));
     }
 
-    // Says which entry is the first of the kernel.
+    // Sets the first entry of the kernel.
     fn set_first(&mut self, kernel: u32, place: Option<usize>) {
         if let Some(first) = self.first.get_mut(kernel as usize) {
             *first = place;
@@ -56,7 +56,7 @@ impl Queues {
         self.first.as_slice()
     }
 
-    /// The entry behind that one, if there is one.
+    /// The entry after that one, if there is one.
     pub fn behind(&self, place: usize) -> Option<usize> {
         self.next.get(place).copied().flatten()
     }

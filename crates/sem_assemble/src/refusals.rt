@@ -5,7 +5,7 @@ use sem_msg::Setup;
 use sem_trace::{Cause, TraceFault};
 use std::alloc::Global;
 
-/// How many lines the report has before its entry.
+/// The lines of the report before its entry.
 const LINES_BEFORE: u64 = 4;
 
 /// Why the text before the logs is no trace.
@@ -40,7 +40,7 @@ pub fn no_entry_text(
     format!(in alloc; "the logs are refused: line {number}{said}")
 }
 
-// A report with that line as its entry: the parts of one that say what can stand in an entry.
+// A report with that line as its entry: only the parts that decide what can stand in an entry.
 fn report_of(alloc: Global, setup: &Setup, line: &[u8]) -> Result<Vec<u8>, OutOfMemory> {
     let (version, kernels) = (setup.version, setup.kernels);
     let head = format!(in alloc; "semper report {version}\nkernels {kernels}\nend\njournal 1\n")?;

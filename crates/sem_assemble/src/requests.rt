@@ -1,4 +1,4 @@
-// What is asked for, and what is answered.
+// The request for a report of logs, and its answer.
 use crate::logs::{Logs, read_logs};
 use crate::orders::{Order, put_in_order};
 use crate::stuck::stuck_text;
@@ -10,8 +10,8 @@ use sem_report::print_report;
 use std::alloc::Global;
 
 /// The report of the logs in these bytes: a trace, and then the entries of all kernels, a line
-/// each. Standard error tells why there is none: which line is refused, or which entries fit in no
-/// order.
+/// each. If there is none, standard error tells why: which line is refused, or which entries fit in
+/// no order.
 pub fn assemble(alloc: Global, bytes: &[u8]) -> Result<Answer, OutOfMemory> {
     let logs = match read_logs(alloc, bytes)? {
         Ok(logs) => logs,
@@ -26,9 +26,8 @@ pub fn assemble(alloc: Global, bytes: &[u8]) -> Result<Answer, OutOfMemory> {
     Ok(Answer::done(alloc, text))
 }
 
-// The report. Its audit is that of the longest part of the journal, from the start on, that is a
-// schedule: of a schedule it is the audit that is due, and any other journal is refused before its
-// audit is looked at.
+// The report. Its audit is that of the longest prefix of the journal that is a schedule. For a
+// schedule it is the due audit; any other journal is refused before its audit is tested.
 fn report_text(alloc: Global, logs: &Logs, order: &Order) -> Result<String, OutOfMemory> {
     let (kernels, fabric) = replay(alloc, &logs.setup, &order.journal)?;
     let audit = audit_of(alloc, &logs.setup, fabric.journal(), kernels.as_slice())?;

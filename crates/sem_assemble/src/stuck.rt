@@ -1,4 +1,4 @@
-// What the entries wait for that fit in no order.
+// What the entries that fit in no order wait for.
 use crate::entered::replies_before;
 use crate::logs::Logs;
 use crate::orders::Order;
@@ -7,8 +7,8 @@ use sem_key::OutOfMemory;
 use sem_msg::{Act, Entry};
 use std::alloc::Global;
 
-/// How many entries fit in no order, and for each kernel the first of them, with its line and with
-/// what it waits for.
+/// How many entries fit in no order, and for each kernel the first of them, with its line and what
+/// it waits for.
 pub fn stuck_text(alloc: Global, logs: &Logs, order: &Order) -> Result<String, OutOfMemory> {
     let all = logs.journal.len();
     let left = all.saturating_sub(order.journal.len());
@@ -80,7 +80,7 @@ fn wanted_text(
     }
 }
 
-// The line of the first entry with that act among those that are left of a kernel.
+// The line of the first entry with that act among those left of a kernel.
 fn line_with(logs: &Logs, order: &Order, kernel: u32, act: Act) -> Option<u64> {
     let entries = logs.journal.as_slice();
     let mut next = order.left.first_of(kernel);

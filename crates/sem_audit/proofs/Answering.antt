@@ -1,6 +1,7 @@
 -- In a setup in which no VPE ends a complete schedule has a reply to each call: each VPE is alive, so each of its calls is answered, and
 -- each reply is to one of them.
-use Rattle.std.proofs.Common.{◌≡◌, ◌≢◌, ℕ, suc, ◌+◌, ◌<◌, Bool, true, false, cond, List, [], ◌∷◌, length, Option, Some, None, is_some, refl, sym, ap, ◌∙◌, subst, inl, inr, arith, eq-eqb}
+use Rattle.std.proofs.Common.{◌≡◌, ◌≢◌, ℕ, suc, ◌+◌, ◌<◌, Bool, true, false, cond, List, [], ◌∷◌, length, Option, Some, None, is_some, refl, sym, ap, ◌∙◌}
+use Rattle.std.proofs.Common.{subst, inl, inr, arith, eq-eqb}
 use Rattle.std.specs.Prelude.{◌==◌, ◌&&◌, nat_lt, sum_by}
 use Rattle.std.specs.List.{filter, filter_map, cons_option, find, slice_get, Contains, AllPairs}
 use Rattle.std.specs.Option.{option_map, option_map_or}
@@ -10,7 +11,8 @@ use Rattle.std.proofs.lemmas.List.Sums.{sum_by-cons}
 use Rattle.std.proofs.lemmas.Option.{same_Some}
 use Rattle.sem_key.proofs.Members.{Contains-nil, Contains-cons_cases, Contains-head, Contains-tail, found, list_any-some}
 use Rattle.sem_msg.specs.declared.call.Call.{Call}
-use Rattle.sem_msg.specs.declared.call.Call.TheVariants.{Derive, Gate, Obtain, Delegate, OpenSession, AskOffer, Revoke, Bind, Read, Write, Send as SendCall, Credit, Exit, Clear}
+use Rattle.sem_msg.specs.declared.call.Call.TheVariants.{Derive, Gate, Obtain, Delegate, OpenSession, AskOffer, Revoke, Bind, Read, Write, Send as SendCall}
+use Rattle.sem_msg.specs.declared.call.Call.TheVariants.{Credit, Exit, Clear}
 use Rattle.sem_msg.specs.declared.event.Act.{Act}
 use Rattle.sem_msg.specs.declared.event.Act.TheVariants.{Call as Calls, Fetch, Handle, Upcall, Resume, Flush, Kill}
 use Rattle.sem_msg.specs.declared.entry.Detail.TheVariants.{Called, Nothing}
@@ -23,7 +25,8 @@ use Rattle.sem_msg.specs.Setup.{Setup, IsSetup, call_count}
 use Rattle.sem_machine.specs.Sides.{Side, row, is_alive, ask_taken}
 use Rattle.sem_machine.specs.Steps.{Step, plain}
 use Rattle.sem_machine.specs.Upcalls.{ask_decided, upcall_row}
-use Rattle.sem_machine.specs.Machine.{World, side, start, after, entry_of, is_enabled, is_locally_enabled, local_step, detail_of, input_of, next_call, replied_vpe}
+use Rattle.sem_machine.specs.Machine.{World, side, start, after, entry_of, is_enabled, is_locally_enabled, local_step, detail_of, input_of, next_call}
+use Rattle.sem_machine.specs.Machine.{replied_vpe}
 use Rattle.sem_machine.specs.Schedules.{IsRun, world_after}
 use Rattle.sem_machine.specs.Journals.{ends, has_ended}
 use Rattle.sem_machine.specs.Living.{IsComplete}
@@ -64,10 +67,11 @@ module _ {X Y : Type 0} (h : X → Option Y) where
     where
       from : (o : Option Y) → h x ≡ o → (Contains (filter_map h xs) y → IsChosen (x ∷ xs) y) → Contains (filter_map h (x ∷ xs)) y → IsChosen (x ∷ xs) y
       from None none later there = later (subst (λ (o : Option Y). Contains (cons_option o (filter_map h xs)) y) none there)
-      from (Some w) some later there = elim (Contains-cons_cases w (filter_map h xs) y (subst (λ (o : Option Y). Contains (cons_option o (filter_map h xs)) y) some there)) [
-        | inl same ↦ (x, Contains-head x xs, some ∙ ap Some same)
-        | inr rest ↦ later rest
-      ]
+      from (Some w) some later there =
+          elim (Contains-cons_cases w (filter_map h xs) y (subst (λ (o : Option Y). Contains (cons_option o (filter_map h xs)) y) some there)) [
+            | inl same ↦ (x, Contains-head x xs, some ∙ ap Some same)
+            | inr rest ↦ later rest
+          ]
 
 sum-same : {X : Type 0} (f g : X → ℕ) (xs : List X) → ((x : X) → Contains xs x → f x ≡ g x) → sum_by f xs ≡ sum_by g xs
 sum-same f g [] same = refl
@@ -121,7 +125,9 @@ one-of v (x ∷ xs) rise d among same = elim (Contains-cons_cases x xs d among) 
   | inl here ↦
       let is : x.vpe ≡ v = ap (λ (y : VpeDecl). y.vpe) here ∙ same in
       let first = cond-true {A = ℕ} (v == x.vpe) 1 0 (eq-eqb v x.vpe (sym is)) in
-      let rest = none-of v xs (λ y later equal. let below = All-contains (λ (b : VpeDecl). x.vpe < b.vpe) xs y (pairs_head (λ (a b : VpeDecl). a.vpe < b.vpe) x xs rise) later in omega (arith, below, is, equal)) in
+      let rest = none-of v xs (λ y later equal. let below =
+      All-contains (λ (b : VpeDecl). x.vpe < b.vpe) xs y (pairs_head (λ (a b : VpeDecl). a.vpe < b.vpe) x xs rise) later in
+      omega (arith, below, is, equal)) in
       let sum = sum_by-cons (λ (y : VpeDecl). bit (v == y.vpe)) x xs in
       omega (arith, first, rest, sum)
   | inr later ↦
@@ -133,7 +139,8 @@ one-of v (x ∷ xs) rise d among same = elim (Contains-cons_cases x xs d among) 
 ]
 
 -- replies that are all to VPEs that differ are as many as those to each of them together
-all-counted : (ds : List VpeDecl) → AllPairs (λ a b. a.vpe < b.vpe) ds → (rs : List Reply) → ((r : Reply) → Contains rs r → (d : VpeDecl) × Contains ds d × (d.vpe ≡ r.vpe)) → sum_by (λ d. to d.vpe rs) ds ≡ length rs
+all-counted : (ds : List VpeDecl) → AllPairs (λ a b. a.vpe < b.vpe) ds → (rs : List Reply) →
+    ((r : Reply) → Contains rs r → (d : VpeDecl) × Contains ds d × (d.vpe ≡ r.vpe)) → sum_by (λ d. to d.vpe rs) ds ≡ length rs
 all-counted ds rise [] to_them = none ds
   where
     none : (xs : List VpeDecl) → sum_by (λ (d : VpeDecl). to d.vpe []) xs ≡ 0
@@ -143,7 +150,8 @@ all-counted ds rise (r ∷ rs) to_them =
     let d = to_them r (Contains-head r rs) in
     let one = one-of r.vpe ds rise d.0 d.1 d.2 in
     let rest = all-counted ds rise rs (λ q among. to_them q (Contains-tail r rs q among)) in
-    let both = sum-two (λ (x : VpeDecl). to x.vpe (r ∷ rs)) (λ (x : VpeDecl). bit (r.vpe == x.vpe)) (λ (x : VpeDecl). to x.vpe rs) (λ x. to-more x.vpe r rs) ds in
+    let both = sum-two (λ (x : VpeDecl). to x.vpe (r ∷ rs)) (λ (x : VpeDecl). bit (r.vpe == x.vpe)) (λ (x : VpeDecl). to x.vpe rs)
+    (λ x. to-more x.vpe r rs) ds in
     omega (arith, one, rest, both)
 
 -- An upcall answers no call.
@@ -151,7 +159,13 @@ upcall-silent : (T : Setup) (i u : ℕ) (s : Side) → (upcall_row T i s u).outc
 unfolding upcall_row
 upcall-silent T i u s = option-keeps (λ (x : Step). x.outcome.reply ≡ None) (λ a. ask_decided T i u a (ask_taken u s)) (slice_get (row s u).asks 0) (plain s)
     (λ a there. decided-by (λ (x : Step). x.outcome.reply ≡ None) (λ w x is. is) (λ w x is. is) (λ w x is. is) T i u a (ask_taken u s)
-    (record { nothing = refl; refused = λ code. refl; given = λ place target p of. refl; here = λ parent object sel of. refl; prepared = λ parent object sel of. refl }))
+    (record {
+      nothing = refl;
+      refused = λ code. refl;
+      given = λ place target p of. refl;
+      here = λ parent object sel of. refl;
+      prepared = λ parent object sel of. refl;
+    }))
     refl
 
 module _ (T : Setup) (valid : IsSetup T) where
@@ -200,7 +214,8 @@ module _ (T : Setup) (valid : IsSetup T) where
     calls-no_exit v n there = from (decl T v) refl
       where
         from : (o : Option VpeDecl) → decl T v ≡ o → ⊥
-        from None none = let no' : slice_get [] n ≡ Some Exit = ap (λ (o : Option VpeDecl). slice_get (option_map_or (λ d. d.calls) o []) n) (sym none) ∙ there in absurd cc
+        from None none = let no' : slice_get [] n ≡ Some Exit = ap (λ (o : Option VpeDecl). slice_get (option_map_or (λ d. d.calls) o []) n) (sym none)
+            ∙ there in absurd cc
         from (Some d) some =
             let at : slice_get d.calls n ≡ Some Exit = ap (λ (o : Option VpeDecl). slice_get (option_map_or (λ d. d.calls) o []) n) (sym some) ∙ there in
             no_exits d (found (λ (x : VpeDecl). x.vpe == v) T.vpes d some).0 (get_contains d.calls n Exit at)
@@ -239,7 +254,8 @@ module _ (T : Setup) (valid : IsSetup T) where
 
         by : (a : Act) → e.event.act ≡ a → ends v e.event.act e.detail ≡ false
         by (Kill w) act =
-            let is : ((kernel_of T w == e.event.kernel) && (is_alive s w && is_some (kill_number T w))) ≡ true = ap (is_locally_enabled T e.event.kernel s) (sym act) ∙ locally in
+            let is : ((kernel_of T w == e.event.kernel) && (is_alive s w && is_some (kill_number T w))) ≡ true =
+            ap (is_locally_enabled T e.event.kernel s) (sym act) ∙ locally in
             let number = (and_parts (is_alive s w) _ (and_parts (kernel_of T w == e.event.kernel) _ is).1).1 in
             let none : is_some (kill_number T w) ≡ false = ap (λ (ks : List (ℕ × ℕ)). is_some (option_map (λ k. k.1) (find (λ k. k.0 == w) ks))) no_kills in
             absurd (true≢false (sym number ∙ none))
@@ -269,11 +285,13 @@ module _ (T : Setup) (valid : IsSetup T) where
       vpe-answered : (d : VpeDecl) → Contains T.vpes d → to d.vpe (replies J) ≡ length d.calls
       vpe-answered d among =
           let known : decl T d.vpe ≡ Some d = find-decl T.vpes d valid.vpes_rise among in
-          let alive : is_alive (side (world_after T J) (kernel_of T d.vpe)) d.vpe ≡ true = elim (cases_Bool (is_alive (side (world_after T J) (kernel_of T d.vpe)) d.vpe)) [
+          let alive : is_alive (side (world_after T J) (kernel_of T d.vpe)) d.vpe ≡ true =
+          elim (cases_Bool (is_alive (side (world_after T J) (kernel_of T d.vpe)) d.vpe)) [
             | inl lives ↦ lives
             | inr dead ↦
                 let home : kernel_of T d.vpe ≡ pe_owner T d.pe = ap (λ (o : Option VpeDecl). option_map_or (λ x. pe_owner T x.pe) o T.kernels) known in
-                absurd (true≢false (sym (dead-ended T valid J complete.schedule d among (ap (λ k. is_alive (side (world_after T J) k) d.vpe) (sym home) ∙ dead)) ∙ goes-on d.vpe))
+                absurd (true≢false (sym (dead-ended T valid J complete.schedule d among (ap (λ k. is_alive (side (world_after T J) k) d.vpe) (sym home) ∙ dead))
+                ∙ goes-on d.vpe))
           ] in
           complete.all_answered d.vpe alive ∙ ap (λ (o : Option VpeDecl). length (option_map_or (λ x. x.calls) o [])) known
 

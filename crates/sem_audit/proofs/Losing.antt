@@ -1,5 +1,6 @@
 -- Going once through the grants tells which keys have an ancestor that was cut off.
-use Rattle.std.proofs.Common.{◌≡◌, ℕ, zero, suc, ◌+◌, ◌<◌, ◌≤◌, ◌||◌, ◌&&◌, Bool, true, false, List, [], ◌∷◌, ◌++◌, length, take, get_or, not, Option, Some, None, inl, inr, refl, sym, ◌∙◌, ap, subst, arith, length-append, append-nil}
+use Rattle.std.proofs.Common.{◌≡◌, ℕ, zero, suc, ◌+◌, ◌<◌, ◌≤◌, ◌||◌, ◌&&◌, Bool, true, false, List, [], ◌∷◌, ◌++◌, length, take, get_or, not, Option, Some}
+use Rattle.std.proofs.Common.{None, inl, inr, refl, sym, ◌∙◌, ap, subst, arith, length-append, append-nil}
 use Rattle.std.specs.List.{list_any, Contains, filter}
 use Rattle.std.proofs.lemmas.Bool.{false_from_ne_true}
 use Rattle.std.proofs.lemmas.List.Sums.{fold-append}
@@ -69,11 +70,14 @@ module _ (p : KeyName → Bool) (roots : List KeyName) where
   unfolding lost
   lost-unmade _ no_grants k new = refl
   lost-unmade _ (granted_next gs a c is has fresh) k new =
-      let other : key_eq k c ≡ false = false_from_ne_true (key_eq k c) (λ same. new (subst (Contains (grown roots (gs ++ (a, c) ∷ []))) (sym (key_eq-true k c same)) (grown-has roots gs a c))) in
+      let other : key_eq k c ≡ false =
+      false_from_ne_true (key_eq k c)
+      (λ same. new (subst (Contains (grown roots (gs ++ (a, c) ∷ []))) (sym (key_eq-true k c same)) (grown-has roots gs a c))) in
       lost-other gs a c k other ∙ lost-unmade gs is k (λ old. new (grown-keeps roots gs a c k old))
 
   -- a made key is lost if one of its line was cut off
-  pub lost-line : (gs : List (KeyName × KeyName)) → IsGrown roots gs → (n : ℕ) → length gs ≤ n → (k : KeyName) → Contains (grown roots gs) k → list_any p (line_in n gs k) ≡ lost p gs k
+  pub lost-line : (gs : List (KeyName × KeyName)) → IsGrown roots gs → (n : ℕ) → length gs ≤ n → (k : KeyName) → Contains (grown roots gs) k →
+      list_any p (line_in n gs k) ≡ lost p gs k
   unfolding lost line_in
   lost-line _ no_grants zero few k made = or_false (p k)
   lost-line _ no_grants (suc n) few k made = or_false (p k)
@@ -81,7 +85,8 @@ module _ (p : KeyName → Bool) (roots : List KeyName) where
   lost-line _ (granted_next gs a c is has fresh) (suc n) few k made =
       let room : length gs ≤ n = omega (arith, few, length-append gs ((a, c) ∷ [])) in
       elim (grown-more roots gs a c k made) [
-        | inl old ↦ let other : key_eq k c ≡ false = false_from_ne_true (key_eq k c) (λ same. fresh (subst (Contains (grown roots gs)) (key_eq-true k c same) old)) in
+        | inl old ↦ let other : key_eq k c ≡ false =
+            false_from_ne_true (key_eq k c) (λ same. fresh (subst (Contains (grown roots gs)) (key_eq-true k c same) old)) in
             ap (list_any p) (line-stays roots gs is a c fresh (suc n) k old) ∙ (lost-line gs is (suc n) (omega arith) k old ∙ sym (lost-other gs a c k other))
         | inr same ↦ subst (λ (q : KeyName). list_any p (line_in (suc n) (gs ++ (a, c) ∷ []) q) ≡ lost p (gs ++ (a, c) ∷ []) q) same
             (ap (list_any p) (line-new roots gs is a c fresh n has)
@@ -97,7 +102,8 @@ has_key-push (y ∷ ks) x k = ap (λ (b : Bool). key_eq k y || b) (has_key-push 
 
 module _ {S : Type 0} (old new : IndexSet ℕ S) where
   -- one key more
-  pub words-more : (ks : List KeyName) (i : ℕ) (x : KeyName) → i < length ks → x ≡ get_or ks i x → HasWords old (has_key (take i ks)) → HasWords new (λ k. has_word old k || key_eq k x) → HasWords new (has_key (take (i + 1) ks))
+  pub words-more : (ks : List KeyName) (i : ℕ) (x : KeyName) → i < length ks → x ≡ get_or ks i x → HasWords old (has_key (take i ks)) →
+      HasWords new (λ k. has_word old k || key_eq k x) → HasWords new (has_key (take (i + 1) ks))
   words-more ks i x more at so_far added k valid =
       added k valid
       ∙ (ap (λ (b : Bool). b || key_eq k x) (so_far k valid)
@@ -105,17 +111,23 @@ module _ {S : Type 0} (old new : IndexSet ℕ S) where
       ∙ ap (λ (qs : List KeyName). has_key qs k) (sym (take_more ks i x more ∙ ap (λ (q : KeyName). take i ks ++ q ∷ []) (sym at)))))
 
   -- the child of a grant whose parent is lost
-  pub granted-lost : (o : Option (KeyName × KeyName)) (a c : KeyName) → o ≡ Some (a, c) → has_word old a ≡ true → HasWords new (λ k. has_word old k || key_eq k c) → HasWords new (lost (has_word old) (option_to_list o))
+  pub granted-lost : (o : Option (KeyName × KeyName)) (a c : KeyName) → o ≡ Some (a, c) → has_word old a ≡ true →
+      HasWords new (λ k. has_word old k || key_eq k c) → HasWords new (lost (has_word old) (option_to_list o))
   unfolding lost
   granted-lost o a c is yes' added k valid = rw (is, yes') (added k valid ∙ ap (λ (b : Bool). has_word old k || b) (sym (and_true (key_eq k c))))
 
   -- the grants of one entry more
-  pub lost-entry : (p : KeyName → Bool) (J : List Entry) (i : ℕ) (e : Entry) → i < length J → e ≡ get_or J i e → IfSome e.grant (λ g. IsValidKey g.0) → HasWords old (lost p (grants (take i J))) → HasWords new (lost (has_word old) (option_to_list e.grant)) → HasWords new (lost p (grants (take (i + 1) J)))
+  pub lost-entry : (p : KeyName → Bool) (J : List Entry) (i : ℕ) (e : Entry) → i < length J → e ≡ get_or J i e → IfSome e.grant (λ g. IsValidKey g.0) →
+      HasWords old (lost p (grants (take i J))) → HasWords new (lost (has_word old) (option_to_list e.grant)) → HasWords new (lost p (grants (take (i + 1) J)))
   lost-entry p J i e more at ranges so_far step k valid =
-      step k valid ∙ (of e.grant ranges ∙ ap (λ (gs : List (KeyName × KeyName)). lost p gs k) (grants-more J i e (grants (take i J)) (grants (take i J) ++ option_to_list e.grant) more at refl refl))
+      step k valid ∙ (of e.grant ranges
+      ∙ ap (λ (gs : List (KeyName × KeyName)). lost p gs k)
+      (grants-more J i e (grants (take i J)) (grants (take i J) ++ option_to_list e.grant) more at refl refl))
     where
-      of : (o : Option (KeyName × KeyName)) → IfSome o (λ g. IsValidKey g.0) → lost (has_word old) (option_to_list o) k ≡ lost p (grants (take i J) ++ option_to_list o) k
-      of None ranges = lost-none (has_word old) k ∙ (so_far k valid ∙ ap (λ (gs : List (KeyName × KeyName)). lost p gs k) (sym (append-nil (grants (take i J)))))
+      of : (o : Option (KeyName × KeyName)) → IfSome o (λ g. IsValidKey g.0) →
+          lost (has_word old) (option_to_list o) k ≡ lost p (grants (take i J) ++ option_to_list o) k
+      of None ranges = lost-none (has_word old) k
+          ∙ (so_far k valid ∙ ap (λ (gs : List (KeyName × KeyName)). lost p gs k) (sym (append-nil (grants (take i J)))))
       of (Some g) ranges =
           lost-one (has_word old) g k
           ∙ (ap (λ (b : Bool). b || (key_eq k g.1 && has_word old g.0)) (so_far k valid)
@@ -124,7 +136,8 @@ module _ {S : Type 0} (old new : IndexSet ℕ S) where
 
 module _ {S : Type 0} (words : IndexSet ℕ S) where
   -- the child of a grant whose parent is not
-  pub granted-kept : (o : Option (KeyName × KeyName)) (a c : KeyName) → o ≡ Some (a, c) → has_word words a ≡ false → HasWords words (lost (has_word words) (option_to_list o))
+  pub granted-kept : (o : Option (KeyName × KeyName)) (a c : KeyName) → o ≡ Some (a, c) → has_word words a ≡ false →
+      HasWords words (lost (has_word words) (option_to_list o))
   unfolding lost
   granted-kept o a c is no' k valid = rw (is, no') (sym (ap (λ (b : Bool). has_word words k || b) (and_false (key_eq k c)) ∙ or_false (has_word words k)))
 
@@ -138,9 +151,11 @@ module _ {S : Type 0} (words : IndexSet ℕ S) where
   lost-start p gs is has k valid = rw is (has k valid)
 
   -- the keys without the lost ones are the forest
-  pub forest-is : (T : Setup) → IsSetup T → (J : List Entry) → IsSchedule T J → (cuts ms keys : List KeyName) → ms ≡ made T J → cuts ≡ cut T J → HasWords words (lost (has_key cuts) (grants J)) → keys ≡ filter (λ k. not (has_word words k)) ms → keys ≡ forest T J
+  pub forest-is : (T : Setup) → IsSetup T → (J : List Entry) → IsSchedule T J → (cuts ms keys : List KeyName) → ms ≡ made T J → cuts ≡ cut T J →
+      HasWords words (lost (has_key cuts) (grants J)) → keys ≡ filter (λ k. not (has_word words k)) ms → keys ≡ forest T J
   forest-is T valid J runs cuts ms keys are same has is =
-      is ∙ (ap (filter (λ k. not (has_word words k))) are ∙ filter-same (λ k. not (has_word words k)) (λ k. not (descends_from_any J (cut T J) k)) (made T J) (λ k among. ap not (here k among)))
+      is ∙ (ap (filter (λ k. not (has_word words k))) are
+      ∙ filter-same (λ k. not (has_word words k)) (λ k. not (descends_from_any J (cut T J) k)) (made T J) (λ k among. ap not (here k among)))
     where
       here : (k : KeyName) → Contains (made T J) k → has_word words k ≡ descends_from_any J (cut T J) k
       here k among =

@@ -9,7 +9,8 @@ use Rattle.sem_key.specs.Capability.{Capability}
 use Rattle.sem_key.specs.CapList.{with_cap}
 use Rattle.sem_key.specs.Lists.{in_turn}
 use Rattle.sem_key.proofs.KeyTests.{has_key-from_Contains, key_eq-true, key_eq-from}
-use Rattle.sem_key.proofs.Members.{Contains-nil, Contains-cons_cases, Contains-head, Contains-tail, Contains-map, Contains-from_map, Contains-flat_map, Contains-from_flat_map, found, not_found}
+use Rattle.sem_key.proofs.Members.{Contains-nil, Contains-cons_cases, Contains-head, Contains-tail, Contains-map, Contains-from_map, Contains-flat_map}
+use Rattle.sem_key.proofs.Members.{Contains-from_flat_map, found, not_found}
 use Rattle.sem_msg.specs.declared.entry.Entry.{Entry}
 use Rattle.sem_msg.specs.Setup.{Setup, IsSetup}
 use Rattle.sem_machine.specs.Sides.{Side, no_side, cap}

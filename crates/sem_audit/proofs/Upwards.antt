@@ -1,5 +1,6 @@
 -- Lines that are followed upwards, and lists that are gathered for the stray keys.
-use Rattle.std.proofs.Common.{◌≡◌, ℕ, zero, suc, ◌+◌, ◌<◌, Bool, true, false, List, [], ◌∷◌, ◌++◌, length, map, take, get_or, Option, Some, None, is_some, refl, sym, ◌∙◌, ap, arith}
+use Rattle.std.proofs.Common.{◌≡◌, ℕ, zero, suc, ◌+◌, ◌<◌, Bool, true, false, List, [], ◌∷◌, ◌++◌, length, map, take, get_or, Option, Some, None, is_some, refl}
+use Rattle.std.proofs.Common.{sym, ◌∙◌, ap, arith}
 use Rattle.std.specs.Prelude.{count_by}
 use Rattle.std.specs.List.{filter, list_any}
 use Rattle.std.specs.Option.{option_map_or, option_to_list}
@@ -33,15 +34,18 @@ module _ (gs : List (KeyName × KeyName)) (p : KeyName → Bool) where
   pub line-ends : (n : ℕ) (k : KeyName) → p k ≡ false → parent_in gs k ≡ None → list_any p (line_in n gs k) ≡ false
   unfolding line_in
   line-ends zero k no' none = any-later p k [] no'
-  line-ends (suc n) k no' none = any-later p k (option_map_or (line_in n gs) (parent_in gs k) []) no' ∙ ap (λ o. list_any p (option_map_or (line_in n gs) o [])) none
+  line-ends (suc n) k no' none = any-later p k (option_map_or (line_in n gs) (parent_in gs k) []) no'
+      ∙ ap (λ o. list_any p (option_map_or (line_in n gs) o [])) none
 
   -- it does not, and its parent is next
-  pub line-next : (n m : ℕ) (k parent : KeyName) → n ≡ suc m → p k ≡ false → parent_in gs k ≡ Some parent → list_any p (line_in n gs k) ≡ list_any p (line_in m gs parent)
+  pub line-next : (n m : ℕ) (k parent : KeyName) → n ≡ suc m → p k ≡ false → parent_in gs k ≡ Some parent →
+      list_any p (line_in n gs k) ≡ list_any p (line_in m gs parent)
   unfolding line_in
   line-next zero m k parent is no' some = absurd (omega arith)
   line-next (suc n) m k parent is no' some =
       let same : n ≡ m = omega arith in
-      any-later p k (option_map_or (line_in n gs) (parent_in gs k) []) no' ∙ (ap (λ o. list_any p (option_map_or (line_in n gs) o [])) some ∙ ap (λ x. list_any p (line_in x gs parent)) same)
+      any-later p k (option_map_or (line_in n gs) (parent_in gs k) []) no'
+      ∙ (ap (λ o. list_any p (option_map_or (line_in n gs) o [])) some ∙ ap (λ x. list_any p (line_in x gs parent)) same)
 
   -- nothing more may be looked at
   pub line-last : (n : ℕ) (k : KeyName) → n ≡ 0 → list_any p (line_in n gs k) ≡ p k
@@ -61,7 +65,8 @@ one-grant e = of e.grant refl
     of (Some g) some = rw some refl
 
 -- the grants of one entry more
-pub grants-more : (J : List Entry) (i : ℕ) (e : Entry) (now new : List (KeyName × KeyName)) → i < length J → e ≡ get_or J i e → now ≡ grants (take i J) → new ≡ now ++ option_to_list e.grant → new ≡ grants (take (i + 1) J)
+pub grants-more : (J : List Entry) (i : ℕ) (e : Entry) (now new : List (KeyName × KeyName)) → i < length J → e ≡ get_or J i e → now ≡ grants (take i J) →
+    new ≡ now ++ option_to_list e.grant → new ≡ grants (take (i + 1) J)
 grants-more J i e now new more at so_far is =
     is
     ∙ (ap (λ gs. gs ++ option_to_list e.grant) so_far
@@ -70,7 +75,8 @@ grants-more J i e now new more at so_far is =
     ∙ ap grants (sym (take_more J i e more ∙ ap (λ x. take i J ++ x ∷ []) (sym at))))))
 
 -- the key of one more
-pub keys-more : (hs : List Held) (i : ℕ) (h : Held) (now new : List KeyName) → i < length hs → h ≡ get_or hs i h → now ≡ map (λ (x : Held). x.key) (take i hs) → new ≡ now ++ h.key ∷ [] → new ≡ map (λ (x : Held). x.key) (take (i + 1) hs)
+pub keys-more : (hs : List Held) (i : ℕ) (h : Held) (now new : List KeyName) → i < length hs → h ≡ get_or hs i h → now ≡ map (λ (x : Held). x.key) (take i hs) →
+    new ≡ now ++ h.key ∷ [] → new ≡ map (λ (x : Held). x.key) (take (i + 1) hs)
 keys-more hs i h now new more at so_far is =
     is
     ∙ (ap (λ ks. ks ++ h.key ∷ []) so_far
@@ -90,6 +96,7 @@ replied-count es = sym (length-filter (λ (e : Entry). is_some e.reply) es) ∙ 
     kept [] = refl
     kept (x ∷ xs) = of x.reply refl (kept xs)
       where
-        of : (o : Option Reply) → x.reply ≡ o → length (filter (λ e. is_some e.reply) xs) ≡ length (replies xs) → length (filter (λ e. is_some e.reply) (x ∷ xs)) ≡ length (replies (x ∷ xs))
+        of : (o : Option Reply) → x.reply ≡ o → length (filter (λ e. is_some e.reply) xs) ≡ length (replies xs) →
+            length (filter (λ e. is_some e.reply) (x ∷ xs)) ≡ length (replies (x ∷ xs))
         of None none rest = rw none rest
         of (Some r) some rest = rw some (ap suc rest)

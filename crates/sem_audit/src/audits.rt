@@ -10,7 +10,7 @@ use sem_key::OutOfMemory;
 use sem_msg::{Audit, Journal, Setup};
 use std::alloc::Global;
 
-/// The audit of a journal, and what these kernels hold.
+/// The audit of a journal, given the kernels after it.
 pub fn audit_of(
     alloc: Global,
     setup: &Setup,

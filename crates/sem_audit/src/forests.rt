@@ -26,7 +26,7 @@ pub fn forest_keys(alloc: Global, setup: &Setup, journal: &Journal) -> Result<Ve
     keys_without(alloc, &made, &lost)
 }
 
-// The keys without those whose words are there.
+// The keys whose words are not there.
 fn keys_without(alloc: Global, keys: &[Key], words: &IndexSet<u64>) -> Result<Vec<Key>, OutOfMemory>
     ensures { IfOk result (λ left.
         left.items ≡ filter (λ k. not (has_word_lem words.now k)) keys.now) }
@@ -40,7 +40,7 @@ fn keys_without(alloc: Global, keys: &[Key], words: &IndexSet<u64>) -> Result<Ve
     Ok(left)
 }
 
-// The words of the cut keys, and of all that was made from them.
+// The words of the cut keys, and of all keys made from them.
 fn lost_words(alloc: Global, cut: &Keys, journal: &Journal) -> Result<IndexSet<u64>, OutOfMemory>
     ensures { IfOk result (λ words.
         HasWords words (lost (has_key cut.now.keys) (grants journal.now.entries))) }
@@ -52,7 +52,6 @@ fn lost_words(alloc: Global, cut: &Keys, journal: &Journal) -> Result<IndexSet<u
     Ok(words)
 }
 
-// The words of the cut keys.
 fn cut_words(alloc: Global, cut: &Keys) -> Result<IndexSet<u64>, OutOfMemory>
     ensures { IfOk result (λ words. HasWords words (has_key cut.now.keys)) }
 {

@@ -9,7 +9,7 @@ use sem_key::{OutOfMemory, pack};
 use sem_msg::{Held, HeldList};
 use std::alloc::Global;
 
-/// The keys that the kernels hold with the selectors at which they stand, in rising key order.
+/// The keys that the kernels hold, with their selectors, in rising key order.
 pub fn held_list(alloc: Global, kernels: &[Kernel]) -> Result<HeldList, OutOfMemory>
     ensures { IfOk result (λ list. held_pairs list ≡ held (map (λ k. k.side) kernels.now)) }
 {
@@ -29,7 +29,7 @@ pub fn found_held(alloc: Global, kernels: &[Kernel]) -> Result<Vec<Held>, OutOfM
     Ok(found)
 }
 
-// The list of these.
+// A list of these.
 fn list_of(alloc: Global, found: &[Held]) -> Result<HeldList, OutOfMemory>
     ensures { IfOk result (λ list. list ≡ found.now) }
 {
@@ -69,7 +69,7 @@ fn add_cap_at(found: &mut Vec<Held>, kernel: &Kernel, place: usize) -> Result<()
     add_held(found, held)
 }
 
-// Adds what is held behind what comes before it in rising key order.
+// Adds a held key after those that come before it in rising key order.
 fn add_held(found: &mut Vec<Held>, held: Held) -> Result<(), OutOfMemory>
     requires { IsInOrder found.old.items }
     ensures held { OnOk result (found.new.items ≡ with_held found.old.items held) }

@@ -9,14 +9,14 @@ ghost use Rattle.sem_msg.specs.Setup.{Setup, IsSetup, call_count};
 ghost use Rattle.sem_machine.specs.Living.{IsComplete};
 ghost use Rattle.sem_audit.specs.Straying.{stray_after};
 
-/// After a complete schedule of any setup no key is stray: what is held is in the forest, and what
-/// is in the forest is held.
+/// After a complete schedule of any setup no key is stray: every held key is in the forest, and
+/// every key of the forest is held.
 pub fn nothing_is_stray()
     ensures stray { (T : Setup) → IsSetup T → (J : List Entry) → IsComplete T J
         → stray_after T J ≡ 0 }
 {}
 
-/// A complete schedule of a setup in which no VPE ends, since none is killed and none calls `exit`,
+/// If no VPE of a setup ends, since none is killed and none calls `exit`, a complete schedule of it
 /// has a reply to each call.
 pub fn all_calls_are_answered()
     ensures answered { (T : Setup) → IsSetup T → T.kills ≡ []

@@ -1,5 +1,5 @@
-//! The audit of a journal: how many keys were made and how many were cut off, and what the kernels
-//! hold at the end.
+//! The audit of a journal: how many keys were made and how many were cut off, and which keys the
+//! kernels hold at the end.
 #![tactic(auto)]
 
 mod audits;

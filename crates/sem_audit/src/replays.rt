@@ -9,7 +9,7 @@ use sem_key::OutOfMemory;
 use sem_msg::{Audit, Event, Journal, Setup};
 use std::alloc::Global;
 
-/// The audit of a journal that the machine can make: it goes through the events once more.
+/// The audit of a journal that the machine can make. It goes through the events once more.
 pub fn audit(alloc: Global, setup: &Setup, journal: &Journal) -> Result<Audit, OutOfMemory>
     requires { IsSchedule setup.now journal.now.entries }
     ensures { IfOk result (IsAuditOf setup.now journal.now.entries) }
@@ -36,7 +36,7 @@ pub fn replayed(alloc: Global, setup: &Setup, journal: &Journal) -> Result<World
     Ok(world)
 }
 
-// Takes the step of an event that is enabled.
+// Takes the step of an enabled event.
 fn go_on(world: &mut World, event: Event) -> Result<(), OutOfMemory>
     requires { is_enabled world.old.setup world.old.world event ≡ true }
     ensures { OnOk result (world.new ≡ record {

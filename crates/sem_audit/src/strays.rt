@@ -1,4 +1,4 @@
-// What is held and should not be, and what should be held and is not.
+// Keys that are held and should not be, and keys that should be held and are not.
 ghost use Rattle.std.specs.Prelude.{◌≡◌, length, map, IfOk};
 ghost use Rattle.sem_msg.specs.Journal.{replies};
 ghost use Rattle.sem_machine.specs.Schedules.{IsSchedule};
@@ -24,8 +24,8 @@ pub fn answered(journal: &Journal) -> u64
     replied.count() as u64
 }
 
-/// How many keys are held after the journal that are not in its forest, and how many of the forest
-/// are not held: it goes through the events once more.
+/// How many keys are held after the journal that are not in its forest, and how many of its forest
+/// are not held. It goes through the events once more.
 pub fn stray(alloc: Global, setup: &Setup, journal: &Journal) -> Result<u64, OutOfMemory>
     requires { IsSchedule setup.now journal.now.entries }
     ensures { IfOk result (λ count. count ≡ stray_after setup.now journal.now.entries) }

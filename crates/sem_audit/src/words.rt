@@ -9,7 +9,6 @@ use indexmap::IndexSet;
 use sem_key::{Key, OutOfMemory, pack};
 use std::alloc::Global;
 
-// The words of the keys.
 fn words_of(alloc: Global, keys: &[Key]) -> Result<IndexSet<u64>, OutOfMemory>
     ensures { IfOk result (λ words. HasWords words (has_key keys.now)) }
 {
@@ -20,7 +19,6 @@ fn words_of(alloc: Global, keys: &[Key]) -> Result<IndexSet<u64>, OutOfMemory>
     Ok(words)
 }
 
-// Whether the word of the key is there.
 pub fn has_word(words: &IndexSet<u64>, key: Key) -> bool
     ensures word { result ≡ has_word_lem words.now key }
     ensures valid { IsValidKey key }
@@ -28,7 +26,6 @@ pub fn has_word(words: &IndexSet<u64>, key: Key) -> bool
     words.contains(&pack(key))
 }
 
-// Adds the word of the key.
 pub fn add_word(words: &mut IndexSet<u64>, key: Key) -> Result<(), OutOfMemory>
     ensures added { OnOk result (HasWords words.new
         (λ k. has_word_lem words.old k || key_eq k key)) }

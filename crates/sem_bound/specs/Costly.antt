@@ -1,13 +1,8 @@
--- A schedule of one call and two kills that has 23 entries: a delegate across kernels, the end of
--- the one who got it, and the end of the one who gave it ("The bound" in docs/proof.md).
+-- A schedule of one call and two kills with 23 entries: a delegate across kernels, the end of the
+-- receiver, and the end of the giver ("The bound" in docs/proof.md).
 use Rattle.std.specs.Prelude.{List, [], ◌∷◌}
-use Rattle.sem_msg.specs.declared.call.Call.TheVariants.{Delegate}
-use Rattle.sem_msg.specs.declared.event.Act.TheVariants.{Call as Calls, Fetch, Handle, Upcall}
-use Rattle.sem_msg.specs.declared.event.Act.TheVariants.{Resume, Flush, Kill}
-use Rattle.sem_msg.specs.declared.event.Event.{Event}
-use Rattle.sem_msg.specs.declared.entry.Entry.{Entry}
-use Rattle.sem_msg.specs.Setup.{Setup}
-use Rattle.sem_machine.specs.Machine.{event}
+use Rattle.sem_machine.specs.Prelude.{Delegate, Calls, Fetch, Handle, Upcall, Resume, Flush, Kill, Event, Entry}
+use Rattle.sem_machine.specs.Prelude.{Setup, event}
 use Rattle.sem_safety.specs.Walks.{journal_of, pair}
 
 -- VPE 0 gives its memory to VPE 1, and both are killed

@@ -2,16 +2,10 @@
 -- in all ("The bound" in docs/proof.md).
 use Rattle.std.specs.Prelude.{ℕ, ◌==◌, List, flat_map, map, sum, sum_by, if◌then◌else◌}
 use Rattle.std.specs.Option.{option_map_or}
-use Rattle.sem_msg.specs.declared.call.Call.{Call}
-use Rattle.sem_msg.specs.declared.call.Call.TheVariants.{Derive, Gate, Bind, Read, Write, Send}
-use Rattle.sem_msg.specs.declared.call.Call.TheVariants.{Credit}
-use Rattle.sem_msg.specs.declared.call.Call.TheVariants.{Obtain, OpenSession, AskOffer, Delegate}
-use Rattle.sem_msg.specs.declared.call.Call.TheVariants.{Revoke, Clear, Exit}
-use Rattle.sem_msg.specs.declared.entry.Detail.{Detail}
-use Rattle.sem_msg.specs.declared.entry.Detail.TheVariants.{Called, Carried, Asked, Nothing}
-use Rattle.sem_msg.specs.declared.entry.Entry.{Entry}
-use Rattle.sem_msg.specs.Setup.{Setup}
-use Rattle.sem_msg.specs.Lookups.{kernel_of, service_named}
+use Rattle.sem_machine.specs.Prelude.{Call, Derive, Gate, Bind, Read, Write, SendCall as Send, Credit, Obtain}
+use Rattle.sem_machine.specs.Prelude.{OpenSession, AskOffer, Delegate, Revoke, Clear, Exit, Detail, Called, Carried}
+use Rattle.sem_machine.specs.Prelude.{Asked, Nothing, Entry, Setup, kernel_of}
+use Rattle.sem_msg.specs.Lookups.{service_named}
 
 -- An exchange with VPE w: within kernel i 3 entries, for the call, the ask and the reply.
 abbrev pub exchange_entries : Setup → ℕ → ℕ → ℕ → ℕ
@@ -36,14 +30,14 @@ most_entries T i (Send ep len) = 1
 most_entries T i (Credit ep) = 1
 most_entries T i Exit = 1
 
--- the most entries that the call can bring of which an entry of kernel i tells, if it tells of one
+-- the most entries that the call told by an entry of kernel i can bring, if the entry tells a call
 abbrev pub call_entries : Setup → ℕ → Detail → ℕ
 call_entries T i (Called index call) = most_entries T i call
 call_entries T i (Carried peer message) = 0
 call_entries T i (Asked asker answer) = 0
 call_entries T i Nothing = 0
 
--- what the calls can bring that were made in a journal
+-- what the calls of a journal can bring
 abbrev pub costs_made : Setup → List Entry → ℕ
 costs_made T J = sum_by (λ e. call_entries T e.event.kernel e.detail) J
 

@@ -1,6 +1,6 @@
 -- How many calls and kills a journal has ("The bound" in docs/proof.md).
 use Rattle.std.specs.Prelude.{ℕ, List, count_by}
-use Rattle.sem_msg.specs.declared.entry.Entry.{Entry}
+use Rattle.sem_machine.specs.Prelude.{Entry}
 use Rattle.sem_machine.specs.Seeded.{is_call, is_kill}
 
 -- the entries of calls

@@ -1,19 +1,10 @@
 -- A schedule in which each call brings as many entries as it can ("The bound" in docs/proof.md).
 use Rattle.std.specs.Prelude.{ℕ, List, [], ◌∷◌, ◌++◌, Option, Some, None, replicate}
 use Rattle.std.specs.List.{slice_set}
-use Rattle.sem_key.specs.declared.limits.TheConstants.{PES}
-use Rattle.sem_key.specs.declared.object.Object.TheVariants.{Mem, Serv}
-use Rattle.sem_msg.specs.declared.call.Call.TheVariants.{Derive, Obtain, Delegate, OpenSession}
-use Rattle.sem_msg.specs.declared.call.Call.TheVariants.{AskOffer}
-use Rattle.sem_msg.specs.declared.call.Call.TheVariants.{Revoke, Clear, Exit}
-use Rattle.sem_msg.specs.declared.event.Act.TheVariants.{Call as Calls, Fetch, Handle, Upcall}
-use Rattle.sem_msg.specs.declared.event.Act.TheVariants.{Resume, Flush, Kill}
-use Rattle.sem_msg.specs.declared.event.Event.{Event}
-use Rattle.sem_msg.specs.declared.entry.Entry.{Entry}
-use Rattle.sem_msg.specs.declared.setup.Root.{Root}
-use Rattle.sem_msg.specs.declared.setup.VpeDecl.{VpeDecl}
-use Rattle.sem_msg.specs.Setup.{Setup, root_key}
-use Rattle.sem_machine.specs.Machine.{event}
+use Rattle.sem_machine.specs.Prelude.{PES, Mem, Serv, Derive, Obtain, Delegate, OpenSession, AskOffer, Revoke, Clear}
+use Rattle.sem_machine.specs.Prelude.{Exit, Calls, Fetch, Handle, Upcall, Resume, Flush, Kill, Event, Entry, Root}
+use Rattle.sem_machine.specs.Prelude.{VpeDecl, Setup, event}
+use Rattle.sem_msg.specs.Setup.{root_key}
 use Rattle.sem_safety.specs.Walks.{journal_of}
 
 abbrev pub memory : Root
@@ -49,7 +40,7 @@ stranger = record {
   calls = Obtain 0 0 0 ∷ OpenSession 1 1 ∷ AskOffer 2 1 0 ∷ [];
 }
 
--- by PE, the kernel that owns it
+-- the kernel that owns each PE
 abbrev pub each_owner : List (Option ℕ)
 each_owner = slice_set (slice_set (slice_set (replicate PES None) 0 (Some 0)) 1 (Some 0)) 2 (Some 1)
 

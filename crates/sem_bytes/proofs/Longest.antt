@@ -39,7 +39,8 @@ blank-behind xs n m below b le = ap (λ (ys : List Access). greatest (map (λ x.
   where
     apart : (y : Access) → WritesBelow m y → is_write_before n b y ≡ false
     apart y below = elim (cases_Bool y.write) [
-      | inl writes ↦ and_right (nat_lt y.entry n) _ (and_right y.write _ (and_right (nat_le y.base b) _ (le-ltb b (y.base + y.len) (let ends = below writes in omega (arith, ends, le)))))
+      | inl writes ↦ and_right (nat_lt y.entry n) _
+          (and_right y.write _ (and_right (nat_le y.base b) _ (le-ltb b (y.base + y.len) (let ends = below writes in omega (arith, ends, le)))))
       | inr reads ↦ and_right (nat_lt y.entry n) _ (and_left y.write _ reads)
     ]
 

@@ -1,5 +1,6 @@
 -- An access that lies in the object of a key lies in the objects of all that are above it.
-use Rattle.std.proofs.Common.{◌≡◌, ℕ, zero, suc, ◌+◌, ◌≤◌, true, List, [], ◌∷◌, ◌++◌, length, take, refl, sym, ◌∙◌, ap, subst, inl, inr, arith, cond, IsSome, ◌⊎◌}
+use Rattle.std.proofs.Common.{◌≡◌, ℕ, zero, suc, ◌+◌, ◌≤◌, true, List, [], ◌∷◌, ◌++◌, length, take, refl, sym, ◌∙◌, ap, subst, inl, inr, arith, cond, IsSome}
+use Rattle.std.proofs.Common.{◌⊎◌}
 use Rattle.std.specs.List.{Contains}
 use Rattle.std.specs.Prelude.{◌==◌, nat_le, ◌&&◌, bit_and}
 use Rattle.std.proofs.lemmas.Bool.{and_parts, and_from, or_cases, or_left, or_right, leb-true, le-leb, eqb-true, eq-eqb}
@@ -41,9 +42,11 @@ empty-within : (base len outer size : ℕ) → len ≡ 0 → range_within base l
 empty-within base len outer size none = or_left (len == 0) (nat_le outer base && nat_le (base + len) (outer + size)) (eq-eqb len 0 none)
 
 inside-within : (base len outer size : ℕ) → Inside base len outer size → range_within base len outer size ≡ true
-inside-within base len outer size inside = or_right (len == 0) (nat_le outer base && nat_le (base + len) (outer + size)) (and_from (nat_le outer base) (nat_le (base + len) (outer + size)) (le-leb outer base inside.0) (le-leb (base + len) (outer + size) inside.1))
+inside-within base len outer size inside = or_right (len == 0) (nat_le outer base && nat_le (base + len) (outer + size))
+    (and_from (nat_le outer base) (nat_le (base + len) (outer + size)) (le-leb outer base inside.0) (le-leb (base + len) (outer + size) inside.1))
 
-within-trans : (base len mid many outer size : ℕ) → range_within base len mid many ≡ true → range_within mid many outer size ≡ true → range_within base len outer size ≡ true
+within-trans : (base len mid many outer size : ℕ) → range_within base len mid many ≡ true → range_within mid many outer size ≡ true →
+    range_within base len outer size ≡ true
 within-trans base len mid many outer size one two = elim (within-cases base len mid many one) [
   | inl none ↦ empty-within base len outer size none
   | inr inner ↦ elim (within-cases mid many outer size two) [
@@ -86,10 +89,12 @@ module _ (T : Setup) (before : List Entry) (narrow : narrowing T before) (x : Ac
         kernel = above.kernel;
         capability = above.parent;
         held = above.held;
-        within = above-lies x lies.capability.object above.parent.object p (above.narrower lies.capability.object (as_held lies.kernel lies.capability lies.held refl)) lies.within;
+        within = above-lies x lies.capability.object above.parent.object p
+            (above.narrower lies.capability.object (as_held lies.kernel lies.capability lies.held refl)) lies.within;
       }
 
-  lineage-lies : (roots : List KeyName) (k : KeyName) (ks : List KeyName) → IsLineage roots (grants before) (k ∷ ks) → LiesInHeld W x k → (a : KeyName) → Contains (k ∷ ks) a → LiesInHeld W x a
+  lineage-lies : (roots : List KeyName) (k : KeyName) (ks : List KeyName) → IsLineage roots (grants before) (k ∷ ks) → LiesInHeld W x k → (a : KeyName) →
+      Contains (k ∷ ks) a → LiesInHeld W x a
   unfolding IsLineage
   lineage-lies roots k [] is lies a among = elim (Contains-cons_cases k [] a among) [
     | inl same ↦ subst (LiesInHeld W x) same lies
@@ -100,7 +105,8 @@ module _ (T : Setup) (before : List Entry) (narrow : narrowing T before) (x : Ac
     | inr rest ↦ lineage-lies roots p ks is.1 (parent-lies p k is.0 lies) a rest
   ]
 
-  line-lies : (roots : List KeyName) (n : ℕ) (k : KeyName) → IsLineage roots (grants before) (line_in n (grants before) k) → LiesInHeld W x k → (a : KeyName) → Contains (line_in n (grants before) k) a → LiesInHeld W x a
+  line-lies : (roots : List KeyName) (n : ℕ) (k : KeyName) → IsLineage roots (grants before) (line_in n (grants before) k) → LiesInHeld W x k → (a : KeyName) →
+      Contains (line_in n (grants before) k) a → LiesInHeld W x a
   unfolding line_in
   line-lies roots zero k is lies a among = lineage-lies roots k [] is lies a among
   line-lies roots (suc n) k is lies a among = lineage-lies roots k _ is lies a among
@@ -142,5 +148,6 @@ all-owned T valid J runs x among =
     let at : StandsIn T (start T) 0 J x = stands T J x among in
     let runs' : IsSchedule T (at.before ++ at.entry ∷ at.later) = subst (IsSchedule T) at.parts runs in
     let on = entry-enabled T at.before (start T) at.entry at.later runs' in
-    let through : GoesThrough (side (world_after T at.before) at.entry.event.kernel) x = entry-through T (world_after T at.before) x.entry at.entry x on.2 at.is in
+    let through : GoesThrough (side (world_after T at.before) at.entry.event.kernel) x =
+    entry-through T (world_after T at.before) x.entry at.entry x on.2 at.is in
     subst (λ K. IsOwned T K x) (sym (before-is T J x at)) (through-owns T at.before at.entry.event.kernel x (all-safe T valid at.before on.0) through)

@@ -33,32 +33,40 @@ use Rattle.sem_bytes.specs.Sample.{alone, alone_journal, alone_accesses, alone_t
 
 pub sample-setup : IsSetup sample
 unfolding sample
-sample-setup = pair-setup owner_calls obtainer_calls [] owner obtainer (omega arith) (All-nil (λ (k : ℕ × ℕ). IsDeclared (pair owner_calls obtainer_calls []) k.0 × IsWord k.1)) (λ i j d lt within. absurd (omega arith))
+sample-setup = pair-setup owner_calls obtainer_calls [] owner obtainer (omega arith)
+    (All-nil (λ (k : ℕ × ℕ). IsDeclared (pair owner_calls obtainer_calls []) k.0 × IsWord k.1)) (λ i j d lt within. absurd (omega arith))
   where
     valid : (call : Call) (calls : List Call) → IsValidCall 128 call → All (IsValidCall 128) calls → All (IsValidCall 128) (call ∷ calls)
     valid call calls here rest = All-cons (IsValidCall 128) call calls here rest
 
     owner : All (IsValidCall 128) owner_calls
-    owner = valid (Derive 0 1 16 1024 3) (Bind 0 0 ∷ Write 0 10 20 ∷ []) (search rules) (valid (Bind 0 0) (Write 0 10 20 ∷ []) (search rules) (valid (Write 0 10 20) [] (search rules) (All-nil (IsValidCall 128))))
+    owner = valid (Derive 0 1 16 1024 3) (Bind 0 0 ∷ Write 0 10 20 ∷ []) (search rules)
+        (valid (Bind 0 0) (Write 0 10 20 ∷ []) (search rules) (valid (Write 0 10 20) [] (search rules) (All-nil (IsValidCall 128))))
 
     obtainer : All (IsValidCall 128) obtainer_calls
-    obtainer = valid (Obtain 0 0 1) (Bind 0 0 ∷ Write 0 4 20 ∷ Read 0 0 30 ∷ []) (search rules) (valid (Bind 0 0) (Write 0 4 20 ∷ Read 0 0 30 ∷ []) (search rules) (valid (Write 0 4 20) (Read 0 0 30 ∷ []) (search rules) (valid (Read 0 0 30) [] (search rules) (All-nil (IsValidCall 128)))))
+    obtainer = valid (Obtain 0 0 1) (Bind 0 0 ∷ Write 0 4 20 ∷ Read 0 0 30 ∷ []) (search rules)
+        (valid (Bind 0 0) (Write 0 4 20 ∷ Read 0 0 30 ∷ []) (search rules)
+        (valid (Write 0 4 20) (Read 0 0 30 ∷ []) (search rules) (valid (Read 0 0 30) [] (search rules) (All-nil (IsValidCall 128)))))
 
 -- each event is enabled in its turn
 pub sample-runs : IsSchedule sample sample_journal
-unfolding sample pair all_enabled put in_turn unless services_from grow closed_here finish opened ended call_row upcall_row handle_row resume_row start_side start local_step local_entry is_locally_enabled is_enabled after entry_of
+unfolding sample pair all_enabled put in_turn unless services_from grow closed_here finish opened ended call_row upcall_row handle_row resume_row start_side
+    start local_step local_entry is_locally_enabled is_enabled after entry_of
 sample-runs = journal-schedule sample _ refl
 
 pub sample-reads : accesses sample sample_journal ≡ sample_accesses
-unfolding accesses_from sample pair walked put in_turn unless services_from grow closed_here finish opened ended call_row upcall_row handle_row resume_row start_side start local_step local_entry is_locally_enabled is_enabled after entry_of
+unfolding accesses_from sample pair walked put in_turn unless services_from grow closed_here finish opened ended call_row upcall_row handle_row resume_row
+    start_side start local_step local_entry is_locally_enabled is_enabled after entry_of
 sample-reads = refl
 
 pub alone-runs : IsSchedule alone alone_journal
-unfolding alone all_enabled put in_turn unless services_from grow closed_here finish opened ended call_row upcall_row handle_row resume_row start_side start local_step local_entry is_locally_enabled is_enabled after entry_of
+unfolding alone all_enabled put in_turn unless services_from grow closed_here finish opened ended call_row upcall_row handle_row resume_row start_side start
+    local_step local_entry is_locally_enabled is_enabled after entry_of
 alone-runs = journal-schedule alone _ refl
 
 alone-reads : accesses alone alone_journal ≡ alone_accesses
-unfolding accesses_from alone walked put in_turn unless services_from grow closed_here finish opened ended call_row upcall_row handle_row resume_row start_side start local_step local_entry is_locally_enabled is_enabled after entry_of
+unfolding accesses_from alone walked put in_turn unless services_from grow closed_here finish opened ended call_row upcall_row handle_row resume_row start_side
+    start local_step local_entry is_locally_enabled is_enabled after entry_of
 alone-reads = refl
 
 alone-length : length alone_journal ≡ 5
@@ -97,4 +105,5 @@ unfolding looked alone_text digits
 told = refl
 
 pub alone-contents : contents alone alone_journal ≡ alone_text
-alone-contents = ap (text_with (accesses alone alone_journal)) runs-are ∙ (ap (λ (xs : List Access). text_with xs (run_of 10 10 1 ∷ run_of 20 20 2 ∷ [])) alone-reads ∙ told)
+alone-contents = ap (text_with (accesses alone alone_journal)) runs-are
+    ∙ (ap (λ (xs : List Access). text_with xs (run_of 10 10 1 ∷ run_of 20 20 2 ∷ [])) alone-reads ∙ told)

@@ -1,17 +1,9 @@
--- Whose memory an access reads or writes: its VPE's own, by grants that stand ("Memory" in
+-- Which memory an access reads or writes: its VPE's own, by grants that stand ("Memory" in
 -- docs/promises.md).
 use Rattle.std.specs.Prelude.{◌≡◌, ℕ, true, List, Contains, take, if◌then◌else◌}
-use Rattle.sem_key.specs.declared.object.Object.{Object}
-use Rattle.sem_key.specs.declared.object.Object.TheVariants.{Mem}
-use Rattle.sem_key.specs.KeyName.{KeyName}
+use Rattle.sem_machine.specs.Prelude.{Object, Mem, KeyName, Capability, Entry, Setup, World, world_after, grants}
+use Rattle.sem_machine.specs.Prelude.{root_keys, line, answered, HoldsCap}
 use Rattle.sem_key.specs.ObjectRanges.{range_within, is_subset}
-use Rattle.sem_key.specs.Capability.{Capability}
-use Rattle.sem_msg.specs.declared.entry.Entry.{Entry}
-use Rattle.sem_msg.specs.Setup.{Setup}
-use Rattle.sem_machine.specs.Machine.{World}
-use Rattle.sem_machine.specs.Schedules.{world_after}
-use Rattle.sem_machine.specs.Journals.{grants, root_keys, line, answered}
-use Rattle.sem_machine.specs.Living.{HoldsCap}
 use Rattle.sem_machine.specs.Safety.{HoldsUnmarked, IsLineage}
 use Rattle.sem_access.specs.declared.access.Access.{Access}
 use Rattle.sem_access.specs.Accesses.{accesses}
@@ -20,7 +12,7 @@ use Rattle.sem_access.specs.Accesses.{accesses}
 abbrev pub right_of : Access → ℕ
 right_of x = if x.write then 2 else 1
 
--- an access lies in an object: a memory that has its range, with the right to it
+-- an access lies in an object: a memory that contains its range, with the right to it
 abbrev pub LiesIn : Access → Object → Type 0
 LiesIn x (Mem base len rights) =
     (range_within x.base x.len base len ≡ true) × (is_subset (right_of x) rights ≡ true)
@@ -35,7 +27,7 @@ pub record LiesInHeld (W : World) (x : Access) (k : KeyName) : Type 0 where
 
 -- an access owns what it reads or writes, after the entries before it
 pub record IsOwned (T : Setup) (before : List Entry) (x : Access) : Type 0 where
-  -- its key is one of its VPE, held and not being revoked
+  -- the key belongs to the VPE, and is held and not being revoked
   pub own : x.key.vpe ≡ x.vpe
   pub held : (i : ℕ) × HoldsUnmarked (world_after T before) i x.key
   -- the key's line leads down to a root by grants
@@ -43,7 +35,7 @@ pub record IsOwned (T : Setup) (before : List Entry) (x : Access) : Type 0 where
   -- the access lies in the memory of each key of the line
   pub within : (k : KeyName)
       → Contains (line before x.key) k → LiesInHeld (world_after T before) x k
-  -- none of them was cut off by a call that was answered
+  -- no call with an answer cut off any of them
   pub unrevoked : (k : KeyName)
       → Contains (line before x.key) k → Contains (answered before) k → ⊥
 

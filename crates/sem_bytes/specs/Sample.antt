@@ -1,17 +1,9 @@
--- Two journals of which the law of accesses and the text of contents speak: writes that overlap, in
--- one kernel and across two.
+-- Two journals that the law of accesses and the text of contents cover: overlapping writes, in one
+-- kernel and across two.
 use Rattle.std.specs.Prelude.{ℕ, true, false, List, [], ◌∷◌, ◌++◌, codes, Some, None, replicate}
 use Rattle.std.specs.List.{slice_set}
-use Rattle.sem_key.specs.declared.key.Kind.TheVariants.{Mem as MemKind}
-use Rattle.sem_key.specs.declared.limits.TheConstants.{PES}
-use Rattle.sem_key.specs.KeyName.{KeyName}
-use Rattle.sem_msg.specs.declared.call.Call.{Call}
-use Rattle.sem_msg.specs.declared.call.Call.TheVariants.{Derive, Obtain, Bind, Read, Write}
-use Rattle.sem_msg.specs.declared.event.Act.TheVariants.{Call as Calls, Fetch, Handle, Upcall, Resume, Flush}
-use Rattle.sem_msg.specs.declared.event.Event.{Event}
-use Rattle.sem_msg.specs.declared.entry.Entry.{Entry}
-use Rattle.sem_msg.specs.Setup.{Setup}
-use Rattle.sem_machine.specs.Machine.{event}
+use Rattle.sem_machine.specs.Prelude.{MemKind, PES, KeyName, Call, Derive, Obtain, Bind, Read, Write, Calls, Fetch}
+use Rattle.sem_machine.specs.Prelude.{Handle, Upcall, Resume, Flush, Event, Entry, Setup, event}
 use Rattle.sem_safety.specs.Walks.{journal_of, pair, first_vpe}
 use Rattle.sem_access.specs.declared.access.Access.{Access}
 
@@ -19,7 +11,7 @@ use Rattle.sem_access.specs.declared.access.Access.{Access}
 abbrev pub memory_key : KeyName
 memory_key = record { pe = 0; vpe = 0; kind = MemKind; number = 0 }
 
--- One kernel: a VPE writes two ranges that overlap, and reads twice.
+-- One kernel: a VPE writes two overlapping ranges, and reads twice.
 
 unfoldable pub alone : Setup
 alone = record {
@@ -64,8 +56,8 @@ alone_text =
     ∷ codes "end" ++ 10
     ∷ []
 
--- Two kernels: a VPE writes to its memory, and another one to a part of it that it obtained, from
--- which it reads too.
+-- Two kernels: a VPE writes to its memory. Another one obtained a part of it, writes to that part,
+-- and reads from it.
 
 abbrev pub owner_calls : List Call
 owner_calls = Derive 0 1 16 1024 3 ∷ Bind 0 0 ∷ Write 0 10 20 ∷ []
@@ -82,7 +74,7 @@ obtained =
     event 0 (Calls 0) ∷ event 1 (Calls 1) ∷ event 1 (Flush 0) ∷ event 0 (Fetch 1) ∷ event 0 Handle
     ∷ event 0 (Upcall 0) ∷ event 0 (Flush 1) ∷ event 1 (Fetch 0) ∷ event 1 Handle ∷ event 1 (Resume 1) ∷ []
 
--- both are bound, the owner writes, the other one writes and reads
+-- both bind it, the owner writes, and the other one writes and reads
 abbrev pub used : List Event
 used =
     event 0 (Calls 0)
@@ -95,7 +87,7 @@ used =
 abbrev pub sample_journal : List Entry
 sample_journal = journal_of sample (obtained ++ used)
 
--- what was obtained of the memory
+-- the part that was obtained
 abbrev pub obtained_key : KeyName
 obtained_key = record { pe = 1; vpe = 1; kind = MemKind; number = 0 }
 

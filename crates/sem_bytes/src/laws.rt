@@ -11,9 +11,9 @@ ghost use Rattle.sem_bytes.specs.Owning.{AccessesAreOwned};
 ghost use Rattle.sem_bytes.specs.Sample.{alone, alone_journal, alone_text};
 ghost use Rattle.sem_bytes.specs.Sample.{sample, sample_journal, sample_accesses};
 
-/// A VPE reads and writes only what it was granted: just before each access its key is held by the
-/// accessing VPE and not being revoked, the access lies in the memory of every key from there down
-/// to a root, and no answered call has cut any of these off.
+/// A VPE reads and writes only what it was granted. Just before each access the accessing VPE holds
+/// the access's key, which is not being revoked. The access lies in the memory of every key from
+/// there down to a root, and no answered call has cut any of these keys off.
 pub fn bytes_owned()
     ensures owned { (T : Setup) → IsSetup T → (J : List Entry) → IsSchedule T J
         → AccessesAreOwned T J }
@@ -26,15 +26,15 @@ pub fn accesses_are_of_entries()
         × (access_of (world_after T (take x.entry J)) x.entry e ≡ Some x) }
 {}
 
-/// The law speaks of something: a schedule of two kernels in which a VPE writes to its memory, and
-/// another one writes to and reads from a part of it that it obtained.
+/// The law is not empty: a schedule of two kernels in which a VPE writes to its memory, and another
+/// one writes to and reads from a part of it that it obtained.
 pub fn bytes_owned_speaks_of_accesses()
     ensures setup { IsSetup sample }
     ensures schedule { IsSchedule sample sample_journal }
     ensures accesses { accesses sample sample_journal ≡ sample_accesses }
 {}
 
-/// Where two writes overlap the later one wins: the text of a schedule of one kernel.
+/// If two writes overlap, the later one wins: the text of a schedule of one kernel.
 pub fn later_writes_win()
     ensures schedule { IsSchedule alone alone_journal }
     ensures text { contents alone alone_journal ≡ alone_text }

@@ -15,7 +15,10 @@ range_with_len-suc a (suc n) =
     ap (λ ns. a ∷ ns) (rw same at (range_with_len-suc (a + 1) n))
 
 -- one row more
-pub rows_more : (from i n : ℕ) (e : Entry) (es : List Entry) (old new : List NumberedEntry) → (map (λ (r : NumberedEntry). r.number) old ≡ range_with_len from i) × (map (λ (r : NumberedEntry). r.entry) old ≡ take i es) → i < length es → e ≡ get_or es i e → n ≡ from + i → new ≡ old ++ record { number = n; entry = e } ∷ [] → (map (λ (r : NumberedEntry). r.number) new ≡ range_with_len from (i + 1)) × (map (λ (r : NumberedEntry). r.entry) new ≡ take (i + 1) es)
+pub rows_more : (from i n : ℕ) (e : Entry) (es : List Entry) (old new : List NumberedEntry) →
+    (map (λ (r : NumberedEntry). r.number) old ≡ range_with_len from i) × (map (λ (r : NumberedEntry). r.entry) old ≡ take i es) → i < length es →
+    e ≡ get_or es i e → n ≡ from + i → new ≡ old ++ record { number = n; entry = e } ∷ [] →
+    (map (λ (r : NumberedEntry). r.number) new ≡ range_with_len from (i + 1)) × (map (λ (r : NumberedEntry). r.entry) new ≡ take (i + 1) es)
 rows_more from i n e es old new so_far more found at pushed =
     let row : NumberedEntry = record { number = n; entry = e } in (
       rw (pushed, map-append (λ (r : NumberedEntry). r.number) old (row ∷ []), so_far.0, add-one, range_with_len-suc from i, at) refl,

@@ -8,7 +8,9 @@ use Rattle.sem_msg.specs.declared.entry.Detail.{Detail}
 use Rattle.sem_msg.specs.declared.entry.Detail.TheVariants.{Carried}
 use Rattle.sem_msg.specs.declared.entry.Entry.{Entry}
 use Rattle.sem_msg.specs.declared.message.Message.{Message}
-use Rattle.sem_msg.specs.declared.message.Message.TheVariants.{ObtainReq, ObtainOk, ObtainNo, DelegateReq, DelegatePrepared, DelegateNo, Ack, Orphan, RevokeReq, RevokeDone, Unlink}
+use Rattle.sem_msg.specs.declared.message.Message.TheVariants.{ObtainReq, ObtainOk, ObtainNo, DelegateReq}
+use Rattle.sem_msg.specs.declared.message.Message.TheVariants.{DelegatePrepared, DelegateNo, Ack, Orphan, RevokeReq}
+use Rattle.sem_msg.specs.declared.message.Message.TheVariants.{RevokeDone, Unlink}
 
 -- how many entries of a journal pass a test
 abbrev pub count_of : (Entry → Bool) → List Entry → ℕ
@@ -33,7 +35,7 @@ abbrev pub sent_by : Act → Detail → Option Message
 sent_by (Flush to) (Carried peer message) = Some message
 sent_by act detail = None
 
--- the kernel for which a flush gives a message to a link
+-- the kernel that a flush sends a message to
 abbrev pub sent_to : Act → Option ℕ
 sent_to (Flush to) = Some to
 sent_to act = None

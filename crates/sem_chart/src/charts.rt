@@ -8,15 +8,14 @@ use sem_key::OutOfMemory;
 use sem_msg::{Act, Detail, Entry, Journal, Message, Setup};
 use std::alloc::Global;
 
-/// Which entries of a journal, from `from` on up to the one before `to`.
+/// The entries of a journal from `from` on, up to the one before `to`.
 #[derive(Clone, Copy, Debug)]
 pub struct Range {
     pub from: usize,
     pub to: usize,
 }
 
-/// The chart of the entries in the range, as far as there are such entries, of the kernels that are
-/// shown.
+/// The chart of the entries in the range, as far as there are such entries, with the shown kernels.
 pub fn chart_of(
     alloc: Global,
     setup: &Setup,
@@ -71,7 +70,6 @@ fn before(
     Ok((waiting, ended))
 }
 
-// The row of an entry.
 fn row_of(
     alloc: Global,
     numbered: &NumberedEntry,
@@ -120,7 +118,7 @@ fn mark_of(entry: &Entry, partner: Option<usize>, lanes: &[Lane]) -> Mark {
     }
 }
 
-// What is shown of an act of a VPE.
+// What is shown for an act of a VPE.
 fn vpe_mark(entry: &Entry, kernel: usize, vpe: usize) -> Mark {
     match entry.event.act {
         Act::Call { .. } => Mark::Call {
@@ -134,7 +132,7 @@ fn vpe_mark(entry: &Entry, kernel: usize, vpe: usize) -> Mark {
     }
 }
 
-// What is shown of a message that is sent.
+// What is shown for a message that is sent.
 fn sent_mark(entry: &Entry, from: usize, to: u32, partner: Option<usize>, lanes: &[Lane]) -> Mark {
     let family = family_of(entry);
     match kernel_lane(lanes, to) {
@@ -157,7 +155,8 @@ fn sent_mark(entry: &Entry, from: usize, to: u32, partner: Option<usize>, lanes:
     }
 }
 
-// What is shown of a message that arrives; where its sender is not shown the kernel does something.
+// What is shown for a message that arrives. If its sender is not shown, the kernel does something
+// on its own.
 fn arrived_mark(
     entry: &Entry,
     to: usize,
@@ -194,7 +193,7 @@ fn family_of(entry: &Entry) -> Family {
     }
 }
 
-// The messages that were sent before the range and arrive in it, where both kernels are shown.
+// The messages that were sent before the range and arrive in it, if both kernels are shown.
 fn early_of(
     alloc: Global,
     partners: &Partners,

@@ -1,6 +1,9 @@
 // What is counted in a journal.
 ghost use Rattle.std.specs.Prelude.{◌≡◌};
-ghost use Rattle.sem_chart.specs.Counts.{count_of, is_event as is_event_lem, sends as sends_lem, sends_between as sends_between_lem, answers as answers_lem, message_number as message_number_lem};
+ghost use Rattle.sem_chart.specs.Counts.{count_of, is_event as is_event_lem, sends as sends_lem};
+ghost use Rattle.sem_chart.specs.Counts.{sends_between as sends_between_lem};
+ghost use Rattle.sem_chart.specs.Counts.{answers as answers_lem};
+ghost use Rattle.sem_chart.specs.Counts.{message_number as message_number_lem};
 
 use sem_msg::{Act, Detail, Entry, Message, act_number};
 
@@ -23,7 +26,6 @@ pub fn message_number(message: &Message) -> u8
     }
 }
 
-// Whether the entry is of the event of that number.
 fn is_event(entry: &Entry, number: u8) -> bool
     ensures { result ≡ is_event_lem number entry.now }
 {

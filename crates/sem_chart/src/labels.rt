@@ -1,4 +1,4 @@
-// What is said of an entry beside its row. After want of memory each of these functions may have
+// The label of an entry, next to its row. If memory is refused, each of these functions may have
 // appended a part.
 use crate::names::message_name;
 use sem_hint::key_text;
@@ -16,7 +16,7 @@ pub struct OtherEnd {
     pub is_shown: bool,
 }
 
-/// What is said of an entry; `other` is the other end of its message.
+/// The label of an entry; `other` is the other end of its message.
 pub fn label_of(alloc: Global, entry: &Entry, other: OtherEnd) -> Result<String, OutOfMemory> {
     let mut out = String::new(alloc);
     push_event(alloc, &mut out, entry, other)?;
@@ -81,8 +81,8 @@ fn push_words(out: &mut String, words: &[u8]) -> Result<(), OutOfMemory> {
     Ok(())
 }
 
-// Appends the entry of the other end of a message, and its kernel where that is not shown, each
-// behind its words.
+// Appends the entry of the other end of a message, and its kernel if that is not shown, each after
+// its words.
 fn push_carried(
     alloc: Global,
     out: &mut String,
@@ -100,7 +100,7 @@ fn push_carried(
     }
 }
 
-// Appends what came of the event.
+// Appends the outcome of the event.
 fn push_outcome(alloc: Global, out: &mut String, entry: &Entry) -> Result<(), OutOfMemory> {
     if let Some((parent, child)) = entry.grant {
         let (parent, child) = (key_text(alloc, &parent)?, key_text(alloc, &child)?);

@@ -1,18 +1,18 @@
-// The lanes of a chart: each kernel that is shown, and behind it those of its VPEs that do something
-// in the range.
+// The lanes of a chart: each shown kernel, and after it those of its VPEs that do something in the
+// range.
 use sem_draw::Lane;
 use sem_key::OutOfMemory;
 use sem_msg::{Act, Detail, Entry, Setup};
 use std::alloc::Global;
 
-/// The kernels that are shown, all where none is named.
+/// The shown kernels; all if none is named.
 #[derive(Debug, Drop)]
 pub struct Shown {
     pub kernels: Vec<u32>,
 }
 
 impl Shown {
-    /// Whether the kernel is shown.
+    /// Whether the kernel is shown; every kernel is if none is named.
     pub fn has(&self, kernel: u32) -> bool {
         self.kernels.is_empty() || self.kernels.contains(&kernel)
     }

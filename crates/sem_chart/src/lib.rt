@@ -1,4 +1,4 @@
-//! The message chart of a report: its lanes, its rows, and what is said of each entry.
+//! The message chart of a report: its lanes, its rows, and the label of each entry.
 #![tactic(auto)]
 
 mod charts;

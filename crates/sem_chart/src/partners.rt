@@ -1,4 +1,4 @@
-// Which flush and which fetch belong together: of each link the first to the first, the second to
+// Which flush and which fetch belong together: on each link the first and the first, the second and
 // the second, and so on.
 use sem_key::OutOfMemory;
 use sem_msg::{Act, Entry};
@@ -14,8 +14,8 @@ pub struct EarlyMessage {
     pub arrives: usize,
 }
 
-/// Of each entry of a range the entry at the other end of its message, and the messages that were
-/// sent before the range and arrive in it.
+/// For each entry of a range, the entry at the other end of its message. Also the messages that
+/// were sent before the range and arrive in it.
 #[derive(Debug, Drop)]
 pub struct Partners {
     from: usize,
@@ -32,13 +32,13 @@ impl Partners {
             .flatten()
     }
 
-    // Notes that a message that was sent in an entry arrives in another.
+    // Notes that a message sent in one entry arrives in another.
     fn join(&mut self, sent: usize, arrived: usize) {
         self.note(sent, arrived);
         self.note(arrived, sent);
     }
 
-    // Notes the other end of an entry, where it is in the range.
+    // Notes the other end of an entry, if the entry is in the range.
     fn note(&mut self, entry: usize, other: usize) {
         if entry >= self.from
             && let Some(place) = self.partners.get_mut(entry.saturating_sub(self.from))
@@ -48,8 +48,8 @@ impl Partners {
     }
 }
 
-/// The partners of the entries from the entry `from` on, up to the end of the list; of so many
-/// kernels.
+/// The partners of the entries from the entry `from` on, up to the end of the list, in a run of
+/// that many kernels.
 pub fn partners_of(
     alloc: Global,
     kernels: u32,
@@ -74,7 +74,6 @@ pub fn partners_of(
     Ok(found)
 }
 
-// The place of a link.
 fn link_place(kernels: u32, from: u32, to: u32) -> usize {
     (from as usize)
         .saturating_mul(kernels as usize)

@@ -23,8 +23,10 @@ pub fn chart_rows(
 ) -> Result<Vec<NumberedEntry>, OutOfMemory>
     requires order { from ≤ to }
     requires end { to ≤ length entries.now }
-    ensures numbers { IfOk result (λ rows. map (λ r. r.number) rows.items ≡ range_with_len from (to - from)) }
-    ensures entries { IfOk result (λ rows. map (λ r. r.entry) rows.items ≡ entries_between from to entries.now) }
+    ensures numbers { IfOk result (λ rows. map (λ r. r.number) rows.items
+        ≡ range_with_len from (to - from)) }
+    ensures entries { IfOk result (λ rows. map (λ r. r.entry) rows.items
+        ≡ entries_between from to entries.now) }
 {
     let mut rows = Vec::new(alloc);
     let shown = &entries[from..to];

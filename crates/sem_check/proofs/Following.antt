@@ -1,5 +1,6 @@
 -- A world that follows a journal, entry by entry.
-use Rattle.std.proofs.Common.{◌≡◌, ℕ, ◌+◌, ◌<◌, ◌≤◌, Bool, true, false, cond, List, [], ◌∷◌, ◌++◌, length, take, get_or, Option, Some, None, refl, sym, ◌∙◌, ap, subst}
+use Rattle.std.proofs.Common.{◌≡◌, ℕ, ◌+◌, ◌<◌, ◌≤◌, Bool, true, false, cond, List, [], ◌∷◌, ◌++◌, length, take, get_or, Option, Some, None, refl, sym, ◌∙◌, ap}
+use Rattle.std.proofs.Common.{subst}
 use Rattle.std.specs.Option.{IsSome}
 use Rattle.std.proofs.lemmas.Option.{slice_get-get_or, none-some, same_Some}
 use Rattle.std.proofs.lemmas.List.{take_more, take_all}
@@ -40,10 +41,12 @@ module _ (T : Setup) (J : List Entry) (w : WorldValue) (n : ℕ) (so_far : IsFol
   made-there made e is = is ∙ ap (λ (v : WorldValue). entry_made v.setup v.world e) so_far.world
 
   -- the next entry is the one that its event makes
-  pub following-more : (x : Entry) (made : Option Entry) (v : WorldValue) → n < length J → x ≡ get_or J n x → made ≡ entry_made w.setup w.world x.event → (IsSome made → v ≡ record { setup = w.setup; world = after w.setup w.world x.event }) → made ≡ Some x → IsFollowing T J v (n + 1)
+  pub following-more : (x : Entry) (made : Option Entry) (v : WorldValue) → n < length J → x ≡ get_or J n x → made ≡ entry_made w.setup w.world x.event →
+      (IsSome made → v ≡ record { setup = w.setup; world = after w.setup w.world x.event }) → made ≡ Some x → IsFollowing T J v (n + 1)
   following-more x made v within at is moved same =
       let there = made-some T (world_after T P) x.event x (sym (made-there made x.event is) ∙ same) in
-      let next : take (n + 1) J ≡ P ++ entry_of T (world_after T P) x.event ∷ [] = take_more J n x within ∙ ap (λ (y : Entry). P ++ y ∷ []) (sym at ∙ sym there.1) in
+      let next : take (n + 1) J ≡ P ++ entry_of T (world_after T P) x.event ∷ [] = take_more J n x within
+      ∙ ap (λ (y : Entry). P ++ y ∷ []) (sym at ∙ sym there.1) in
       let stepped : v ≡ record { setup = w.setup; world = after w.setup w.world x.event } = moved (subst (λ (o : Option Entry). IsSome o) (sym same) refl) in
       record {
         schedule = subst (IsSchedule T) (sym next) (schedule-push T P x.event so_far.schedule there.0);
@@ -54,7 +57,8 @@ module _ (T : Setup) (J : List Entry) (w : WorldValue) (n : ℕ) (so_far : IsFol
       }
 
   -- or it is the first that is not
-  pub following-differs : (x : Entry) (made : Option Entry) → n < length J → x ≡ get_or J n x → made ≡ entry_made w.setup w.world x.event → (made ≡ Some x → ⊥) → DiffersAt T J n x made
+  pub following-differs : (x : Entry) (made : Option Entry) → n < length J → x ≡ get_or J n x → made ≡ entry_made w.setup w.world x.event →
+      (made ≡ Some x → ⊥) → DiffersAt T J n x made
   following-differs x made within at is other = record {
     there = slice_get-get_or J n x within ∙ ap Some (sym at);
     before = so_far.schedule;
@@ -66,7 +70,8 @@ module _ (T : Setup) (J : List Entry) (w : WorldValue) (n : ℕ) (so_far : IsFol
   pub following-step : (x : Entry) (v : WorldValue) → n < length J → x ≡ get_or J n x → IsStep w x v → IsFollowing T J v (n + 1)
   following-step x v within at step = following-more x (entry_made w.setup w.world x.event) v within at refl (λ some. step.world) step.made
 
-  pub differs-there : (x : Entry) (m : ℕ) (y : Entry) (made : Option Entry) → n < length J → x ≡ get_or J n x → m ≡ n → y ≡ x → IsOther w x made → DiffersAt T J m y made
+  pub differs-there : (x : Entry) (m : ℕ) (y : Entry) (made : Option Entry) → n < length J → x ≡ get_or J n x → m ≡ n → y ≡ x → IsOther w x made →
+      DiffersAt T J m y made
   differs-there x m y made within at place same is =
       subst (λ k. DiffersAt T J k y made) (sym place)
       (subst (λ (z : Entry). DiffersAt T J n z made) (sym same) (following-differs x made within at is.made is.other))

@@ -1,5 +1,6 @@
 -- How many entries of a journal are a schedule.
-use Rattle.std.proofs.Common.{◌≡◌, ℕ, zero, suc, ◌<◌, true, cond, List, [], ◌∷◌, length, take, slice_get, Option, Some, None, sym, ◌∙◌, ap, subst, arith, inl, inr}
+use Rattle.std.proofs.Common.{◌≡◌, ℕ, zero, suc, ◌<◌, true, cond, List, [], ◌∷◌, length, take, slice_get, Option, Some, None, sym, ◌∙◌, ap, subst, arith, inl}
+use Rattle.std.proofs.Common.{inr}
 use Rattle.std.proofs.lemmas.Bool.{cases_lt}
 use Rattle.std.proofs.lemmas.Option.{slice_get_within, none-some, same_Some}
 use Rattle.std.proofs.lemmas.List.{take_all}
@@ -10,15 +11,18 @@ use Rattle.sem_machine.specs.Schedules.{IsRun, IsSchedule, run, world_after}
 use Rattle.sem_check.specs.Replays.{entry_made, DiffersAt, IsLongestSchedule}
 
 -- what an entry of a run is
-pub run-at : (T : Setup) (W : World) (J : List Entry) (m n : ℕ) (x : Entry) → IsRun T W (take m J) → n < m → slice_get J n ≡ Some x → (is_enabled T (run T W (take n J)) x.event ≡ true) × (x ≡ entry_of T (run T W (take n J)) x.event)
+pub run-at : (T : Setup) (W : World) (J : List Entry) (m n : ℕ) (x : Entry) → IsRun T W (take m J) → n < m → slice_get J n ≡ Some x →
+    (is_enabled T (run T W (take n J)) x.event ≡ true) × (x ≡ entry_of T (run T W (take n J)) x.event)
 unfolding IsRun
 run-at T W [] m n x is_run less there = absurd (none-some x there)
 run-at T W (y ∷ ys) zero n x is_run less there = absurd (omega arith)
-run-at T W (y ∷ ys) (suc m) zero x is_run less there = subst (λ (z : Entry). (is_enabled T W z.event ≡ true) × (z ≡ entry_of T W z.event)) (same_Some y x there) (is_run.0, is_run.1)
+run-at T W (y ∷ ys) (suc m) zero x is_run less there = subst (λ (z : Entry). (is_enabled T W z.event ≡ true) × (z ≡ entry_of T W z.event)) (same_Some y x there)
+    (is_run.0, is_run.1)
 run-at T W (y ∷ ys) (suc m) (suc n) x is_run less there = run-at T (after T W y.event) ys m n x is_run.2 (omega arith) there
 
 -- it is the one that its event makes
-run-makes : (T : Setup) (J : List Entry) (m n : ℕ) (x : Entry) → IsSchedule T (take m J) → n < m → slice_get J n ≡ Some x → entry_made T (world_after T (take n J)) x.event ≡ Some x
+run-makes : (T : Setup) (J : List Entry) (m n : ℕ) (x : Entry) → IsSchedule T (take m J) → n < m → slice_get J n ≡ Some x →
+    entry_made T (world_after T (take n J)) x.event ≡ Some x
 run-makes T J m n x schedule less there =
     let at = run-at T (start T) J m n x schedule less there in
     ap (λ b. cond b (Some (entry_of T (world_after T (take n J)) x.event)) None) at.0 ∙ ap Some (sym at.1)

@@ -18,7 +18,8 @@ not-later T J m n x y a b first second =
     let inside = slice_get_within J n y second.there in
     (differs-longest T J m x a first).longest n (omega arith) second.before
 
-pub one-difference : (T : Setup) (J : List Entry) (m n : ℕ) (x y : Entry) (a b : Option Entry) → DiffersAt T J m x a → DiffersAt T J n y b → (m ≡ n) × (x ≡ y) × (a ≡ b)
+pub one-difference : (T : Setup) (J : List Entry) (m n : ℕ) (x y : Entry) (a b : Option Entry) → DiffersAt T J m x a → DiffersAt T J n y b →
+    (m ≡ n) × (x ≡ y) × (a ≡ b)
 one-difference T J m n x y a b first second =
     let below = not-later T J m n x y a b first second in
     let above = not-later T J n m y x b a second first in
@@ -26,7 +27,8 @@ one-difference T J m n x y a b first second =
     let entered : x ≡ y = same_Some x y (sym first.there ∙ (ap (slice_get J) place ∙ second.there)) in (
       place,
       entered,
-      first.made ∙ (ap (λ (k : ℕ). entry_made T (world_after T (take k J)) x.event) place ∙ (ap (λ (z : Entry). entry_made T (world_after T (take n J)) z.event) entered ∙ sym second.made)),
+      first.made ∙ (ap (λ (k : ℕ). entry_made T (world_after T (take k J)) x.event) place
+          ∙ (ap (λ (z : Entry). entry_made T (world_after T (take n J)) z.event) entered ∙ sym second.made)),
     )
 
 pub not-quiet : (T : Setup) (J : List Entry) (n : ℕ) (x : Entry) → GoesOn T J n x → IsQuiet T (world_after T J) → ⊥

@@ -17,19 +17,22 @@ pub record IsRepeated (T : Setup) (J : List Entry) (ks : List KernelValue) (f : 
   pub stand : StandsAt T ks f
   pub part : f.journal ≡ take n J
 
-module _ (T : Setup) (J : List Entry) (schedule : IsSchedule T J) (ks : List KernelValue) (f : FabricValue) (n : ℕ) (so_far : IsRepeated T J ks f n) (x : Entry) (within : n < length J) (at : x ≡ get_or J n x) where
+module _ (T : Setup) (J : List Entry) (schedule : IsSchedule T J) (ks : List KernelValue) (f : FabricValue) (n : ℕ) (so_far : IsRepeated T J ks f n) (x : Entry)
+    (within : n < length J) (at : x ≡ get_or J n x) where
   world : world_of ks f ≡ world_after T (take n J)
   world = so_far.stand.world ∙ ap (world_after T) so_far.part
 
   made : (is_enabled T (world_after T (take n J)) x.event ≡ true) × (x ≡ entry_of T (world_after T (take n J)) x.event)
-  made = run-at T (start T) J (length J) n x (subst (IsSchedule T) (sym (take_all (length J) J (omega arith))) schedule) within (slice_get-get_or J n x within ∙ ap Some (sym at))
+  made = run-at T (start T) J (length J) n x (subst (IsSchedule T) (sym (take_all (length J) J (omega arith))) schedule) within (slice_get-get_or J n x within
+      ∙ ap Some (sym at))
 
   -- the event of the next entry is enabled
   pub next-enabled : is_enabled T (world_of ks f) x.event ≡ true
   next-enabled = ap (λ W. is_enabled T W x.event) world ∙ made.0
 
   -- and makes it
-  pub repeated-more : (ls : List KernelValue) (h : FabricValue) (y : Entry) → StandsAt T ls h → y ≡ entry_of T (world_of ks f) x.event → h.journal ≡ f.journal ++ y ∷ [] → IsRepeated T J ls h (n + 1)
+  pub repeated-more : (ls : List KernelValue) (h : FabricValue) (y : Entry) → StandsAt T ls h → y ≡ entry_of T (world_of ks f) x.event →
+      h.journal ≡ f.journal ++ y ∷ [] → IsRepeated T J ls h (n + 1)
   repeated-more ls h y stand is entered =
       let same : y ≡ x = is ∙ (ap (λ W. entry_of T W x.event) world ∙ sym made.1) in
       record {

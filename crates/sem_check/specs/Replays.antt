@@ -1,11 +1,9 @@
--- Journals that are replayed: the entry that an event makes, the world after a schedule, the first entry that differs, the longest schedule ("Checks" in docs/machine.md).
+-- Replaying journals: the entry that an event makes, the world after a schedule, the first entry
+-- that differs, the longest schedule ("Checks" in docs/machine.md).
 use Rattle.std.specs.Prelude.{◌≡◌, ◌≢◌, ℕ, ◌≤◌, List, length, take, slice_get, Option, Some, None, if◌then◌else◌}
 use Rattle.std.specs.Option.{option_map}
-use Rattle.sem_msg.specs.declared.event.Event.{Event}
-use Rattle.sem_msg.specs.declared.entry.Entry.{Entry}
-use Rattle.sem_msg.specs.Setup.{Setup}
-use Rattle.sem_machine.specs.Machine.{World, after, enabled, is_enabled, entry_of}
-use Rattle.sem_machine.specs.Schedules.{IsSchedule, world_after}
+use Rattle.sem_machine.specs.Prelude.{Event, Entry, Setup, World, after, enabled, is_enabled, entry_of, IsSchedule}
+use Rattle.sem_machine.specs.Prelude.{world_after}
 use Rattle.sem_kernel.specs.Worlds.{WorldValue}
 
 -- the entry that an event makes, if it is enabled
@@ -29,7 +27,7 @@ pub record IsStep (w : WorldValue) (e : Entry) (v : WorldValue) : Type 0 where
   pub made : entry_made w.setup w.world e.event ≡ Some e
   pub world : v ≡ stepped w e.event
 
--- its event makes another entry, or is not enabled
+-- the event of the entry makes another one, or is not enabled
 pub record IsOther (w : WorldValue) (e : Entry) (replayed : Option Entry) : Type 0 where
   pub made : replayed ≡ entry_made w.setup w.world e.event
   pub other : replayed ≢ Some e
@@ -39,7 +37,8 @@ pub record IsWorldAfter (T : Setup) (J : List Entry) (w : WorldValue) : Type 0 w
   pub schedule : IsSchedule T J
   pub world : w ≡ world_value T J
 
--- Entry n, counted from 0, is the first that is not its event's: those before it are a schedule, and after them its event makes another entry, or is not enabled.
+-- Entry n, counted from 0, is the first that its event does not make. The entries before it are a
+-- schedule; after them its event makes another entry, or is not enabled.
 pub record DiffersAt (T : Setup) (J : List Entry) (n : ℕ) (entered : Entry) (replayed : Option Entry) : Type 0 where
   pub there : slice_get J n ≡ Some entered
   pub before : IsSchedule T (take n J)

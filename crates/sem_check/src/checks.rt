@@ -1,4 +1,5 @@
-ghost use Rattle.std.specs.Prelude.{◌≡◌, ◌≤◌, ◌+◌, ◌*◌, ℕ, length, Option, None, OnOk, IfOk, IsErrOf};
+ghost use Rattle.std.specs.Prelude.{◌≡◌, ◌≤◌, ◌+◌, ◌*◌, ℕ, length, Option, None, OnOk, IfOk};
+ghost use Rattle.std.specs.Prelude.{IsErrOf};
 ghost use Rattle.sem_msg.specs.Setup.{call_count, kill_count};
 ghost use Rattle.sem_msg.specs.declared.entry.Entry.{Entry as EntryData};
 ghost use Rattle.sem_machine.specs.Living.{IsComplete};
@@ -14,8 +15,9 @@ use sem_key::OutOfMemory;
 use sem_msg::{Entry, Journal, Setup};
 use std::alloc::Global;
 
-/// Whether the journal is a complete schedule of the setup: then the world after it, else the first
-/// thing that is wrong with it. A schedule is complete where no event is enabled after it.
+/// Checks whether the journal is a complete schedule of the setup. If it is, returns the world
+/// after it, otherwise the first thing wrong with it. A schedule is complete if no event is enabled
+/// after it.
 pub fn check(alloc: Global, setup: &Setup, journal: &Journal) -> Result<World, CheckError>
     ensures complete { IfOk result (λ world. IsComplete setup.now journal.now.entries) }
     ensures world { IfOk result (λ world. world ≡ world_value setup.now journal.now.entries) }
@@ -27,7 +29,7 @@ pub fn check(alloc: Global, setup: &Setup, journal: &Journal) -> Result<World, C
     check_watched(alloc, setup, journal, &mut Unwatched)
 }
 
-/// As `check`, under the eyes of who watches.
+/// As `check`, while `watch` sees every world on the way.
 pub fn check_watched<W: Watch>(
     alloc: Global,
     setup: &Setup,
@@ -44,7 +46,7 @@ pub fn check_watched<W: Watch>(
     ensures few { OnOk result
         (length journal.now.entries ≤ 21 * call_count setup.now + kill_count setup.now) }
 {
-    // So that the proof knows what a setup keeps.
+    // Shows the proof what a setup keeps.
     let _ = &setup.vpes;
     let mut world = World::boot(alloc, setup)?;
     let entries = journal.as_slice();
@@ -66,7 +68,7 @@ fn differs(difference: &Difference) -> CheckError
     }
 }
 
-// Whether the entries, which are a schedule with that world after it, are a complete one.
+// Whether the entries, a schedule with that world after it, are a complete one.
 fn judge(
     alloc: Global,
     setup: &Setup,
@@ -80,7 +82,7 @@ fn judge(
         → ¬ IsErrOf result (CheckError.Differs n entered replayed) }
     ensures incomplete { TellsNext setup.now entries.now result }
 {
-    // So that the proof knows what a setup keeps.
+    // Shows the proof what a setup keeps.
     let _ = &setup.vpes;
     match next_entry(alloc, &mut world) {
         Ok(None) => Ok(world),
@@ -92,8 +94,7 @@ fn judge(
     }
 }
 
-// The entry that the first of the enabled events makes. Where no event is enabled the world is as
-// before.
+// The entry that the first enabled event makes. If no event is enabled, the world is as before.
 fn next_entry(alloc: Global, world: &mut World) -> Result<Option<Entry>, OutOfMemory>
     ensures next { IfOk result (λ next. next ≡ next_made world.old.setup world.old.world) }
     ensures same { IfOk result (λ next. next ≡ None → world.new ≡ world.old) }

@@ -8,16 +8,16 @@ use thiserror::Error;
 /// Why a journal is not known to be a complete schedule.
 #[derive(Clone, Copy, Debug, PartialEq, Eq, Error)]
 pub enum CheckError {
-    /// The first entry, counted from 0, that is not the one that its event makes; and the one that
-    /// it makes, none where the event is not enabled.
+    /// The first entry, counted from 0, that its event does not make. With it comes the one that
+    /// the event makes, or none if the event is not enabled.
     #[error("entry {entry} is not the one that its event makes")]
     Differs {
         entry: u64,
         entered: Entry,
         replayed: Option<Entry>,
     },
-    /// An event is enabled after so many entries, which are all; and the entry that the first such
-    /// event makes.
+    /// An event is enabled after all of that many entries. With it comes the entry that the first
+    /// such event makes.
     #[error("an event is enabled after {entry} entries")]
     Incomplete {
         entry: u64,

@@ -8,8 +8,8 @@ use sem_kernel::World;
 use sem_key::OutOfMemory;
 use sem_msg::{Entry, Setup};
 
-/// The first entry that is not the one that its event makes, and the one that it makes, none where
-/// the event is not enabled.
+/// The first entry that its event does not make, and the one that the event makes, or none if the
+/// event is not enabled.
 #[derive(Clone, Copy, Debug)]
 pub struct Difference {
     pub entry: usize,
@@ -17,8 +17,8 @@ pub struct Difference {
     pub replayed: Option<Entry>,
 }
 
-/// Takes the world, which is that of the setup at the start, through the entries, up to the first
-/// that differs, under the eyes of who watches.
+/// Takes the world through the entries, up to the first that differs, while `watch` sees every
+/// world on the way. The world must be that of the setup at the start.
 pub fn follow<W: Watch>(
     setup: &Setup,
     world: &mut World,
@@ -47,7 +47,8 @@ pub fn follow<W: Watch>(
     Ok(None)
 }
 
-// The event of the entry at that place happens. The difference, if it does not make this entry.
+// Lets the event of the entry at that place happen. Returns the difference, if the event does not
+// make this entry.
 fn take_step(
     world: &mut World,
     place: usize,

@@ -1,5 +1,5 @@
-// A law of what is found wrong with journals. The function does nothing: what it promises holds of
-// all setups and journals.
+// A law of the faults of journals. The function does nothing: its promise holds for all setups and
+// journals.
 ghost use Rattle.std.specs.Prelude.{◌≡◌, ℕ, List, Option};
 ghost use Rattle.sem_msg.specs.declared.entry.Entry.{Entry as EntryData};
 ghost use Rattle.sem_msg.specs.Setup.{Setup as SetupRecord};
@@ -8,8 +8,8 @@ ghost use Rattle.sem_machine.specs.Living.{IsQuiet};
 ghost use Rattle.sem_check.specs.Replays.{DiffersAt};
 ghost use Rattle.sem_check.specs.Verdicts.{GoesOn};
 
-/// A journal has one verdict: no entry of a schedule differs, a schedule with a quiet world after
-/// it does not go on; and there is one fault of each kind at most.
+/// A journal has one verdict. No entry of a schedule differs, and a schedule with a quiet world
+/// after it does not go on. There is at most one fault of each kind.
 pub fn a_journal_has_one_verdict()
     ensures schedule { (T : SetupRecord) (J : List EntryData)
         (n : ℕ) (x : EntryData) (a : Option EntryData)

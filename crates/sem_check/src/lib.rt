@@ -1,4 +1,4 @@
-//! Journals held against the machine: whether one is a complete schedule, and how far one is a
+//! Journals held against the machine: whether one is a complete schedule, and how much of one is a
 //! schedule.
 #![tactic(auto)]
 
@@ -7,7 +7,6 @@ mod entries;
 mod faults;
 mod follows;
 mod laws;
-mod messages;
 mod replays;
 mod watch;
 

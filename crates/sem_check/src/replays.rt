@@ -1,4 +1,4 @@
-// The longest schedule with which a journal begins, made again.
+// The longest schedule that a journal begins with, made again.
 ghost use Rattle.std.specs.Prelude.{◌≡◌, IfOk};
 ghost use Rattle.sem_machine.specs.Schedules.{IsSchedule};
 ghost use Rattle.sem_kernel.specs.Standing.{StandsAt};
@@ -12,8 +12,8 @@ use sem_key::OutOfMemory;
 use sem_msg::{Entry, Journal, Setup};
 use std::alloc::Global;
 
-/// The kernels of the setup and a new fabric, which stand at the longest prefix of the journal that
-/// is a schedule: a run can go on from them. The fabric's journal is that prefix.
+/// The kernels of the setup and a new fabric, at the longest prefix of the journal that is a
+/// schedule: a run can go on from them. The fabric's journal is that prefix.
 pub fn replay(
     alloc: Global,
     setup: &Setup,
@@ -38,7 +38,7 @@ fn schedule_length(alloc: Global, setup: &Setup, entries: &[Entry]) -> Result<us
     }
 }
 
-// The kernels of the setup and a new fabric, which stand at the entries, a schedule of it.
+// The kernels of the setup and a new fabric, at the entries, which are a schedule of the setup.
 fn repeat(
     alloc: Global,
     setup: &Setup,

@@ -7,21 +7,21 @@ use sem_kernel::World;
 use sem_key::OutOfMemory;
 use sem_msg::{Entry, Setup};
 
-/// Watches a world that follows a journal, and gathers what it is asked about.
+/// Watches a world that follows a journal, and gathers what it was asked for.
 pub trait Watch {
-    /// What it is asked about.
+    /// What it was asked for.
     type Subject;
 
-    // what it is asked about
+    // what it was asked for
     ghost subject: { Self → Self.Subject };
 
     // it has gathered nothing yet
     ghost is_new: { Self → Type 0 };
 
-    // what it has gathered of the entries so far, a schedule
+    // what it has gathered from the entries so far, a schedule
     ghost gathers: { SetupData → List EntryData → Self → Type 0 };
 
-    // the same, when it has seen the world before the next entry too
+    // the same, once it has also seen the world before the next entry
     ghost expects: { SetupData → List EntryData → EntryData → Self → Type 0 };
 
     /// Sees the world at the start.

@@ -15,11 +15,13 @@ module _ {X : Type 0} where
   three-appended a b c d n l s h i j = rw (j, i, h) (simp append_assoc)
 
   -- the second append is of two pieces
-  pub ending-appended : (a b c d e n l s t u w z : List X) → b ≡ a ++ (n ++ l ++ s) → c ≡ b ++ (t ++ u) → d ≡ c ++ w → e ≡ d ++ z → e ≡ a ++ (n ++ l ++ s ++ t ++ u ++ w ++ z)
+  pub ending-appended : (a b c d e n l s t u w z : List X) → b ≡ a ++ (n ++ l ++ s) → c ≡ b ++ (t ++ u) → d ≡ c ++ w → e ≡ d ++ z →
+      e ≡ a ++ (n ++ l ++ s ++ t ++ u ++ w ++ z)
   ending-appended a b c d e n l s t u w z h i j k = rw (k, j, i, h) (simp append_assoc)
 
   -- five appends, of which the first is of three pieces
-  pub seven-appended : (a b c d e f n l s x t w z : List X) → b ≡ a ++ (n ++ l ++ s) → c ≡ b ++ x → d ≡ c ++ t → e ≡ d ++ w → f ≡ e ++ z → f ≡ a ++ (n ++ l ++ s ++ x ++ t ++ w ++ z)
+  pub seven-appended : (a b c d e f n l s x t w z : List X) → b ≡ a ++ (n ++ l ++ s) → c ≡ b ++ x → d ≡ c ++ t → e ≡ d ++ w → f ≡ e ++ z →
+      f ≡ a ++ (n ++ l ++ s ++ x ++ t ++ w ++ z)
   seven-appended a b c d e f n l s x t w z h i j k m = rw (m, k, j, i, h) (simp append_assoc)
 
   -- five appends in a row

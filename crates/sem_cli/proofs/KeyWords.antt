@@ -23,7 +23,12 @@ kind-again ServKind = refl
 kind-again SessKind = refl
 
 numbers-again : (k : KeyName) → IsKeyInText 2 k → map number_value (map decimal (key_numbers k)) ≡ key_numbers k
-numbers-again k valid = rw (value k.pe (small 2 k.pe valid.0), value k.vpe (small 2 k.vpe valid.1), value (kind_number k.kind) (omega (arith, kind_most k.kind)), value k.number (omega (arith, valid.2))) refl
+numbers-again k valid = rw (
+  value k.pe (small 2 k.pe valid.0),
+  value k.vpe (small 2 k.vpe valid.1),
+  value (kind_number k.kind) (omega (arith, kind_most k.kind)),
+  value k.number (omega (arith, valid.2)),
+) refl
 
 numbers-are : (k : KeyName) → key_numbered (key_numbers k) ≡ Some k
 numbers-are k = ap (option_map (λ kind. record { pe = k.pe; vpe = k.vpe; kind = kind; number = k.number })) (kind-again k.kind)
@@ -42,6 +47,7 @@ pub no-key : (word : List ℕ) (cause : Cause) → place_fault (key_place 2) wor
 no-key word cause fault = cond-false (is_none (place_fault (key_place 2) word)) (key_numbered (map number_value (parts_of word))) None (ap is_none fault)
 
 -- what the reader gives is what the word is
-pub read-is : (word : List ℕ) (r : Result KeyName Cause) → place_fault (key_place 2) word ≡ result_err r → IfOk r (λ k. word ≡ key_word k) → IfOk r (IsKeyInText 2) → result_ok r ≡ key_of word
+pub read-is : (word : List ℕ) (r : Result KeyName Cause) → place_fault (key_place 2) word ≡ result_err r → IfOk r (λ k. word ≡ key_word k) →
+    IfOk r (IsKeyInText 2) → result_ok r ≡ key_of word
 read-is word (Ok k) fault is valid = sym (key-read word k fault is valid)
 read-is word (Err cause) fault is valid = sym (no-key word cause fault)

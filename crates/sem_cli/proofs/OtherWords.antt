@@ -3,7 +3,8 @@ use Rattle.std.proofs.Common.{◌≡◌, ◌≢◌, ℕ, List, [], ◌∷◌, ma
 use Rattle.sem_cli.specs.Commands.{command_of}
 
 -- all but those of one word to four
-pub no_form : {X : Type 0} (f : X → List ℕ) (words : List X) → length words ≢ 1 → length words ≢ 2 → length words ≢ 3 → length words ≢ 4 → None ≡ command_of (map f words)
+pub no_form : {X : Type 0} (f : X → List ℕ) (words : List X) → length words ≢ 1 → length words ≢ 2 → length words ≢ 3 → length words ≢ 4 →
+    None ≡ command_of (map f words)
 no_form f [] one two three four = refl
 no_form f (a ∷ []) one two three four = absurd (one refl)
 no_form f (a ∷ b ∷ []) one two three four = absurd (two refl)

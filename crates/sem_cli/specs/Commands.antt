@@ -1,7 +1,9 @@
 -- The command line ("The command line" in docs/texts.md).
-use Rattle.std.specs.Prelude.{ℕ, ◌*◌, ◌&&◌, nat_le, List, [], ◌∷◌, map, codes, bytes_eq, Option, Some, None, is_none, option_map, if◌then◌else◌}
+use Rattle.std.specs.Prelude.{ℕ, ◌*◌, ◌&&◌, nat_le, List, [], ◌∷◌, map, codes, bytes_eq, Option, Some, None, is_none}
+use Rattle.std.specs.Prelude.{option_map, if◌then◌else◌}
 use Rattle.std.specs.Result.{result_ok}
-use Rattle.sem_key.specs.KeyName.{KeyName, kind_numbered}
+use Rattle.sem_msg.specs.Prelude.{KeyName}
+use Rattle.sem_key.specs.KeyName.{kind_numbered}
 use Rattle.sem_text.specs.Number.{number_of, number_value}
 use Rattle.sem_trace.specs.Forms.{place_fault, parts_of, key as key_place}
 use Rattle.sem_cli.specs.declared.forms.Command.{Command}
@@ -10,11 +12,11 @@ use Rattle.sem_cli.specs.declared.forms.Question.{Question}
 use Rattle.sem_cli.specs.declared.forms.Question.TheVariants.{Check, Contents, Holder, Path, Denied}
 use Rattle.sem_cli.specs.declared.forms.Load.{Load}
 
--- the number that a word is, if it is one and at most so great
+-- the number of a word, if it is one and not above the limit
 abbrev pub number_to : ℕ → List ℕ → Option ℕ
 number_to most word = result_ok (number_of word most)
 
--- the seed, or the number of entries, that a word is
+-- the seed, or the number of entries, that a word gives
 abbrev pub seed_of : List ℕ → Option ℕ
 seed_of word = number_to 18446744073709551615 word
 
@@ -24,14 +26,14 @@ key_numbered (pe ∷ vpe ∷ kind ∷ number ∷ []) =
     option_map (λ k. record { pe = pe; vpe = vpe; kind = k; number = number }) (kind_numbered kind)
 key_numbered numbers = None
 
--- the key that a word is, with PE and VPE as in the texts of version 2
+-- the key of a word, with PE and VPE as in the texts of version 2
 abbrev pub key_of : List ℕ → Option KeyName
 key_of word =
     if is_none (place_fault (key_place 2) word)
     then key_numbered (map number_value (parts_of word))
     else None
 
--- a load is a seed, at least one VPE, and calls of each VPE, at most 20000 of all
+-- a load is a seed, at least one VPE, and the calls of each VPE, at most 20000 in all
 abbrev pub load_from : Option ℕ → Option ℕ → Option ℕ → Option Load
 load_from (Some seed) (Some vpes) (Some calls) =
     if nat_le 1 vpes && nat_le (vpes * calls) 20000
@@ -39,7 +41,7 @@ load_from (Some seed) (Some vpes) (Some calls) =
     else None
 load_from seed vpes calls = None
 
--- the load that three words are, of at most 128 VPEs
+-- the load of three words, with at most 128 VPEs
 abbrev pub load_of : List ℕ → List ℕ → List ℕ → Option Load
 load_of seed vpes calls = load_from (seed_of seed) (number_to 128 vpes) (number_to 20000 calls)
 
@@ -54,7 +56,7 @@ abbrev pub holder_from : Option KeyName → Option ℕ → Option Question
 holder_from (Some key) (Some count) = Some (Holder key count)
 holder_from key count = None
 
--- what is asked of a report by these words
+-- the question of these words
 abbrev pub question_of : List (List ℕ) → Option Question
 question_of (what ∷ word ∷ []) =
     if bytes_eq what (codes "path") then option_map Path (key_of word)
@@ -64,7 +66,7 @@ question_of (what ∷ key ∷ count ∷ []) =
     if bytes_eq what (codes "holder") then holder_from (key_of key) (seed_of count) else None
 question_of words = None
 
--- the command that words are
+-- the command of the words
 abbrev pub command_of : List (List ℕ) → Option Command
 command_of (name ∷ []) =
     if bytes_eq name (codes "check") then Some (Ask Check)

@@ -1,10 +1,12 @@
 -- The one-line texts of the program ("The command line" in docs/texts.md).
 use Rattle.std.specs.Prelude.{ℕ, List, [], ◌∷◌, ◌++◌, codes, decimal}
 use Rattle.sem_trace.specs.declared.fault.Cause.{Cause}
-use Rattle.sem_trace.specs.declared.fault.Cause.TheVariants.{NotText, UnknownWord, BadNumber, OutOfRange, Twice, Undeclared, Missing, TooMany, LineTooLong, InputTooLong, NotCanonical}
+use Rattle.sem_trace.specs.declared.fault.Cause.TheVariants.{NotText, UnknownWord, BadNumber, OutOfRange, Twice}
+use Rattle.sem_trace.specs.declared.fault.Cause.TheVariants.{Undeclared, Missing, TooMany, LineTooLong, InputTooLong}
+use Rattle.sem_trace.specs.declared.fault.Cause.TheVariants.{NotCanonical}
 use Rattle.sem_trace.specs.declared.fault.TraceFault.{TraceFault}
 
--- the forms of a command, with the vertical bar between blanks
+-- the forms of a command, with a vertical bar between blanks
 abbrev pub usage_line : List ℕ
 usage_line =
     codes "usage: semper run SEED | threads SEED | check | gen SEED VPES CALLS"
@@ -15,7 +17,6 @@ usage_line =
 abbrev pub ok_line : List ℕ
 ok_line = codes "ok" ++ 10 ∷ []
 
--- the name of a cause
 abbrev pub cause_name : Cause → List ℕ
 cause_name NotText = codes "NotText"
 cause_name UnknownWord = codes "UnknownWord"

@@ -20,7 +20,7 @@ bad_entry n entered replayed =
 abbrev pub entry_text : Entry → List ℕ
 entry_text e = spaced (entry_words e)
 
--- the entry that an event makes; none where it is not enabled
+-- the entry that an event makes; none if it is not enabled
 abbrev pub replayed_text : Option Entry → List ℕ
 replayed_text None = codes "not enabled"
 replayed_text (Some e) = entry_text e

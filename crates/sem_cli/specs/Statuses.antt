@@ -1,7 +1,8 @@
 -- The exit statuses of the program ("The command line" in docs/texts.md).
 use Rattle.std.specs.Prelude.{ℕ}
 use Rattle.sem_cli.specs.declared.statuses.Status.{Status}
-use Rattle.sem_cli.specs.declared.statuses.Status.TheVariants.{Done, Usage, TraceRefused, ReadFault, WriteFault, Memory, ReportRefused}
+use Rattle.sem_cli.specs.declared.statuses.Status.TheVariants.{Done, Usage, TraceRefused, ReadFault, WriteFault}
+use Rattle.sem_cli.specs.declared.statuses.Status.TheVariants.{Memory, ReportRefused}
 
 abbrev pub status_number : Status → ℕ
 status_number Done = 0

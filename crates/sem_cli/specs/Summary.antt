@@ -1,4 +1,4 @@
--- The summary of a load that was run in threads ("The command line" in docs/texts.md).
+-- The summary of a load run in threads ("The command line" in docs/texts.md).
 use Rattle.std.specs.Prelude.{ℕ, List, [], ◌∷◌, ◌++◌, codes, decimal}
 
 -- a line of a word, a blank and a number

@@ -1,13 +1,15 @@
 ghost use Rattle.std.specs.Prelude.{◌≡◌, [], ◌∷◌, map, option_map, string_bytes};
 ghost use Rattle.sem_cli.specs.declared.forms.Command.TheVariants.{Ask};
-ghost use Rattle.sem_cli.specs.Commands.{command_of, question_of, number_to as number_to_lem, seed_of as seed_of_lem, load_of as load_of_lem, key_of as key_of_lem};
+ghost use Rattle.sem_cli.specs.Commands.{command_of, question_of, number_to as number_to_lem};
+ghost use Rattle.sem_cli.specs.Commands.{seed_of as seed_of_lem, load_of as load_of_lem};
+ghost use Rattle.sem_cli.specs.Commands.{key_of as key_of_lem};
 
 use crate::forms::{Command, Load, Question};
 use sem_key::Key;
 use sem_text::number;
 use sem_trace::read_key;
 
-/// The command that the words are, if they are one. Takes no memory.
+/// The command of the words, if they are one. Takes no memory.
 pub fn command(words: &[String]) -> Option<Command>
     ensures { result ≡ command_of (map string_bytes words.now) }
 {
@@ -51,7 +53,7 @@ fn seeded(name: &str, seed: &str) -> Option<Command>
     }
 }
 
-// The command of a name, what is asked, and of what.
+// The command of a name, what is asked, and what it is asked of.
 fn asking(name: &str, what: &str, word: &str) -> Option<Command>
     ensures { result ≡ command_of (name.now ∷ what.now ∷ word.now ∷ []) }
 {
@@ -97,21 +99,20 @@ fn loaded(name: &str, seed: &str, vpes: &str, calls: &str) -> Option<Command>
     }
 }
 
-// The key that a word is.
 fn key_of(word: &str) -> Option<Key>
     ensures { result ≡ key_of_lem word.now }
 {
     read_key(word.as_bytes(), 2).ok()
 }
 
-// The seed, or the number of entries, that a word is.
+// The seed, or the number of entries, of a word.
 fn seed_of(word: &str) -> Option<u64>
     ensures { result ≡ seed_of_lem word.now }
 {
     number(word.as_bytes(), u64::MAX).ok()
 }
 
-// The load that three words are.
+// The load of three words.
 fn load_of(seed: &str, vpes: &str, calls: &str) -> Option<Load>
     ensures { result ≡ load_of_lem seed.now vpes.now calls.now }
 {
@@ -125,7 +126,7 @@ fn load_of(seed: &str, vpes: &str, calls: &str) -> Option<Load>
     }
 }
 
-// The number that a word is, if it is at most `most`.
+// The number of a word, if it is at most `most`.
 fn number_to(most: u32, word: &str) -> Option<u32>
     ensures { result ≡ number_to_lem most word.now }
 {

@@ -3,17 +3,17 @@ use sem_key::Key;
 /// What the program is asked to do.
 #[derive(Clone, Copy, Debug, PartialEq, Eq)]
 pub enum Command {
-    /// Writes the report of the seeded journal of the trace that is read.
+    /// Writes the report of the seeded journal of the trace in the input.
     Run { seed: u64 },
-    /// Runs the trace that is read with threads, and writes the report.
+    /// Runs the trace in the input with threads, and writes the report.
     Threads { seed: u64 },
-    /// Runs the setup of the file commands that are read, and writes the report.
+    /// Runs the setup of the file commands in the input, and writes the report.
     Files { seed: u64 },
-    /// Writes a generated trace of so many VPEs with so many calls each.
+    /// Writes a generated trace of that many VPEs with that many calls each.
     Generate { seed: u64, vpes: u32, calls: u32 },
     /// Runs such a trace with threads, and writes a summary.
     Soak { seed: u64, vpes: u32, calls: u32 },
-    /// Checks the report that is read, and answers a question about it.
+    /// Checks the report in the input, and answers a question about it.
     Ask { question: Question },
 }
 
@@ -32,7 +32,7 @@ pub enum Question {
     Denied { entry: u64 },
 }
 
-// The seed of what is made, and how much of it.
+// The seed of a generated setup, and the size of the setup.
 #[derive(Clone, Copy)]
 pub(crate) struct Load {
     pub seed: u64,

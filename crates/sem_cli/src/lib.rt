@@ -1,5 +1,5 @@
-//! The command line: which command words are, the one-line texts that the program writes, and the statuses with which it
-//! ends.
+//! The command line: which words are commands, the one-line texts that the program writes, and the
+//! statuses that it ends with.
 #![tactic(auto)]
 
 mod commands;

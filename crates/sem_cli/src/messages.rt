@@ -1,11 +1,12 @@
 ghost use Rattle.std.specs.Prelude.{◌≡◌, ◌++◌, OnOk};
-ghost use Rattle.sem_cli.specs.Messages.{usage_line, ok_line, cause_name as cause_name_lem, fault_words, refused_line, files_refused_line};
+ghost use Rattle.sem_cli.specs.Messages.{usage_line, ok_line, cause_name as cause_name_lem};
+ghost use Rattle.sem_cli.specs.Messages.{fault_words, refused_line, files_refused_line};
 
 use sem_key::OutOfMemory;
 use sem_text::push_number;
 use sem_trace::{Cause, TraceFault};
 
-/// The line that tells which words are a command.
+/// The line that tells which words are commands.
 pub fn usage() -> &'static [u8]
     ensures { result.now ≡ usage_line }
 {
@@ -14,14 +15,14 @@ pub fn usage() -> &'static [u8]
         | query path KEY | query denied N\n"
 }
 
-/// The line that tells that a report is that of a complete schedule.
+/// The line that says that a report is that of a complete schedule.
 pub fn ok() -> &'static [u8]
     ensures { result.now ≡ ok_line }
 {
     b"ok\n"
 }
 
-/// Appends the line that tells which line of a trace is bad, and why. After want of memory it may
+/// Appends the line that tells which line of a trace is bad, and why. If memory is refused, it may
 /// have appended a part.
 pub fn push_refused(out: &mut Vec<u8>, fault: &TraceFault) -> Result<(), OutOfMemory>
     ensures ok { OnOk result (out.new.items ≡ out.old.items ++ refused_line fault.now) }
@@ -30,8 +31,8 @@ pub fn push_refused(out: &mut Vec<u8>, fault: &TraceFault) -> Result<(), OutOfMe
     push_fault(out, fault)
 }
 
-/// Appends the line that tells which line of file commands is bad, and why. After want of memory it
-/// may have appended a part.
+/// Appends the line that tells which line of file commands is bad, and why. If memory is refused,
+/// it may have appended a part.
 pub fn push_files_refused(out: &mut Vec<u8>, fault: &TraceFault) -> Result<(), OutOfMemory>
     ensures ok { OnOk result (out.new.items ≡ out.old.items ++ files_refused_line fault.now) }
 {
@@ -50,7 +51,6 @@ pub(crate) fn push_fault(out: &mut Vec<u8>, fault: &TraceFault) -> Result<(), Ou
     Ok(())
 }
 
-// The name of a cause.
 fn cause_name(cause: Cause) -> &'static [u8]
     ensures { result.now ≡ cause_name_lem cause }
 {

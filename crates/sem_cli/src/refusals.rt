@@ -1,7 +1,8 @@
-// The lines that tell why a report is refused. After want of memory each of these functions may have
-// appended a part.
+// The lines that tell why a report is refused. If memory is refused, each of these functions may
+// have appended a part.
 ghost use Rattle.std.specs.Prelude.{◌≡◌, ◌++◌, ◌∷◌, [], codes, decimal, OnOk};
-ghost use Rattle.sem_cli.specs.Refusals.{bad_line, bad_entry, replayed_text, differing_line, going_on_line};
+ghost use Rattle.sem_cli.specs.Refusals.{bad_line, bad_entry, replayed_text, differing_line};
+ghost use Rattle.sem_cli.specs.Refusals.{going_on_line};
 
 use crate::messages::push_fault;
 use sem_journal::push_entry_words;
@@ -18,8 +19,8 @@ pub fn push_bad_line(out: &mut Vec<u8>, fault: &TraceFault) -> Result<(), OutOfM
     push_fault(out, fault)
 }
 
-/// Appends the line that tells which entry is not the one that its event makes, and which one it
-/// makes; none where the event is not enabled.
+/// Appends the line that tells which entry its event does not make, and which one the event makes;
+/// none if the event is not enabled.
 pub fn push_differing(
     out: &mut Vec<u8>,
     number: u64,
@@ -37,8 +38,8 @@ pub fn push_differing(
     Ok(())
 }
 
-/// Appends the line that tells how many entries there are, after which an event is enabled, and the
-/// entry that the first such event makes.
+/// Appends the line that tells that an event is enabled after all of that many entries, and which
+/// entry the first such event makes.
 pub fn push_going_on(out: &mut Vec<u8>, number: u64, next: &Entry) -> Result<(), OutOfMemory>
     ensures ok { OnOk result (out.new.items ≡ out.old.items ++ going_on_line number next.now) }
 {
@@ -49,7 +50,7 @@ pub fn push_going_on(out: &mut Vec<u8>, number: u64, next: &Entry) -> Result<(),
     Ok(())
 }
 
-// Appends the beginning of a line on an entry.
+// Appends the beginning of a line about an entry.
 fn push_place(out: &mut Vec<u8>, number: u64) -> Result<(), OutOfMemory>
     ensures ok { OnOk result (out.new.items ≡ out.old.items
         ++ (codes "report refused: entry " ++ decimal number ++ codes ": entered ")) }

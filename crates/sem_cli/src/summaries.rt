@@ -1,4 +1,4 @@
-// The summary of a load that was run in threads.
+// The summary of a load run in threads.
 ghost use Rattle.std.specs.Prelude.{◌≡◌, ◌++◌, OnOk};
 ghost use Rattle.sem_cli.specs.Summary.{count_line, summary};
 
@@ -6,7 +6,7 @@ use sem_key::OutOfMemory;
 use sem_text::push_number;
 
 /// Appends the summary: how many VPEs and calls there are, how many calls were answered, and how
-/// many keys are stray. After want of memory it may have appended a part.
+/// many keys are stray. If memory is refused, it may have appended a part.
 pub fn push_summary(
     out: &mut Vec<u8>,
     vpes: u64,

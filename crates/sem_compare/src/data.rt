@@ -1,4 +1,4 @@
-// What is told of the outcomes of a trace. As JSON, each is one object with these members.
+// The outcomes of a trace, as they are told. In JSON, each is one object with these members.
 use serde::{Deserialize, Serialize};
 
 /// Some outcomes of a trace, or all of them.
@@ -6,30 +6,30 @@ use serde::{Deserialize, Serialize};
 pub struct Outcomes {
     /// The canonical text of the trace.
     pub trace: String,
-    /// The seeds that were run; none where all schedules were searched.
+    /// The seeds of the runs; none if all schedules were searched.
     pub seeds: Vec<SeedRange>,
-    /// How many histories there are, where all schedules were searched.
+    /// How many histories there are, if all schedules were searched.
     pub histories: Option<u64>,
     pub outcomes: Vec<Outcome>,
 }
 
-/// Seeds, one after another.
+/// Consecutive seeds.
 #[derive(Clone, Copy, Debug, PartialEq, Eq, Serialize, Deserialize)]
 pub struct SeedRange {
     pub from: u64,
     pub count: u64,
 }
 
-/// What a run ends in.
+/// The outcome of a run.
 #[derive(Debug, Drop, PartialEq, Serialize, Deserialize)]
 pub struct Outcome {
-    /// How many of the seeds, or of the complete histories, end so.
+    /// How many of the seeds, or of the complete histories, end with it.
     pub count: u64,
     /// The least of these seeds.
     pub seed: Option<u64>,
     /// Each call of the trace, VPE by VPE.
     pub calls: Vec<CallEnd>,
-    /// What is held at the end, in rising key order.
+    /// The held keys at the end, in rising key order.
     pub held: Vec<HeldKey>,
 }
 
@@ -41,11 +41,11 @@ pub struct CallEnd {
     pub call: u64,
     /// The words of the call.
     pub words: String,
-    /// The name of the code of its reply; none where it got no reply.
+    /// The name of the code of its reply; none if it got no reply.
     pub code: Option<String>,
 }
 
-/// A capability that is held.
+/// A held capability.
 #[derive(Debug, Drop, PartialEq, Serialize, Deserialize)]
 pub struct HeldKey {
     pub key: String,

@@ -1,4 +1,4 @@
-// Two reports of one trace beside each other.
+// Two reports of one trace, compared.
 use crate::data::{CallEnd, HeldKey, Outcome};
 use crate::endings::told_outcome;
 use crate::reports::as_text;
@@ -19,8 +19,8 @@ struct Report {
     audit: Audit,
 }
 
-/// In what two reports of one trace differ: their first entries that do, the ends of calls, and what
-/// is held. The first report is named A, the other B.
+/// The differences of two reports of one trace: their first different entries, the ends of calls,
+/// and the held keys. The first report is named A, the other B.
 pub fn report_differences(alloc: Global, one: &[u8], other: &[u8]) -> Result<Answer, OutOfMemory> {
     let one = match read(alloc, "A", one)? {
         Ok(report) => report,
@@ -50,7 +50,7 @@ fn read(alloc: Global, name: &str, bytes: &[u8]) -> Result<Result<Report, String
     }
 }
 
-// In what the two reports differ.
+// The differences of the two reports.
 fn compared(alloc: Global, one: &Report, other: &Report) -> Result<Answer, OutOfMemory> {
     if !is_same_trace(alloc, &one.setup, &other.setup)? {
         let text = String::from_str(alloc, "A and B are reports of two traces\n")?;
@@ -70,7 +70,7 @@ fn compared(alloc: Global, one: &Report, other: &Report) -> Result<Answer, OutOf
     Ok(Answer::done(alloc, out))
 }
 
-// Whether the two are one trace.
+// Whether the two setups are the same trace.
 fn is_same_trace(alloc: Global, one: &Setup, other: &Setup) -> Result<bool, OutOfMemory> {
     let mut first = Vec::new(alloc);
     print_trace(alloc, one, &mut first)?;
@@ -79,7 +79,7 @@ fn is_same_trace(alloc: Global, one: &Setup, other: &Setup) -> Result<bool, OutO
     Ok(first == second)
 }
 
-// Appends how many entries the two begin with alike, and the next entry of each.
+// Appends how many first entries are equal in both, and the next entry of each.
 fn push_entries(
     alloc: Global,
     out: &mut String,
@@ -100,7 +100,7 @@ fn push_entries(
     push_entry(alloc, out, "B", other, alike)
 }
 
-// How many entries the two begin with alike.
+// How many first entries are equal in both.
 fn alike_count(one: &[Entry], other: &[Entry]) -> usize {
     let mut count = 0usize;
     for (entry, beside) in one.iter().zip(other.iter()) {
@@ -131,7 +131,7 @@ fn push_entry(
     out.push_str(as_text(alloc, bytes.as_slice())?.as_str())
 }
 
-// What the run of the report ended in.
+// The outcome of the report's run.
 fn ending_of(alloc: Global, report: &Report) -> Result<Outcome, OutOfMemory> {
     let mut codes = Vec::new(alloc);
     for decl in report.setup.vpes.as_slice() {
@@ -141,7 +141,7 @@ fn ending_of(alloc: Global, report: &Report) -> Result<Outcome, OutOfMemory> {
     told_outcome(alloc, &report.setup, ending, 1, None)
 }
 
-// The codes of the replies to the VPE, in their order.
+// The codes of the replies to the VPE, in order.
 fn codes_to(alloc: Global, entries: &[Entry], vpe: u16) -> Result<Vec<u8>, OutOfMemory> {
     let mut codes = Vec::new(alloc);
     for entry in entries {
@@ -154,7 +154,7 @@ fn codes_to(alloc: Global, entries: &[Entry], vpe: u16) -> Result<Vec<u8>, OutOf
     Ok(codes)
 }
 
-// Appends a line for each call that ended in two ways.
+// Appends a line for each call that ended differently.
 fn push_calls(
     alloc: Global,
     out: &mut String,
@@ -169,7 +169,7 @@ fn push_calls(
     Ok(())
 }
 
-// Appends how a call ended in the one report and in the other.
+// Appends how a call ended in each of the two reports.
 fn push_call(
     alloc: Global,
     out: &mut String,
@@ -190,7 +190,7 @@ fn code_text(end: &CallEnd) -> &str {
     }
 }
 
-// Appends a line for each capability that is held in the report of that name alone.
+// Appends a line for each capability that is held only in the report of that name.
 fn push_only(
     alloc: Global,
     out: &mut String,
@@ -206,7 +206,7 @@ fn push_only(
     Ok(())
 }
 
-// Appends that a capability is held in the report of that name alone.
+// Appends that a capability is held only in the report of that name.
 fn push_held(
     alloc: Global,
     out: &mut String,

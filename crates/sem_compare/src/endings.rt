@@ -1,4 +1,4 @@
-// An outcome as it is told: its calls with the names of their codes, and what is held.
+// An outcome as it is told: its calls with the names of their codes, and the held keys.
 use crate::data::{CallEnd, HeldKey, Outcome};
 use sem_hint::key_text;
 use sem_key::OutOfMemory;
@@ -7,8 +7,8 @@ use sem_names::code_name;
 use sem_waits::call_words;
 use std::alloc::Global;
 
-/// An outcome of the setup: by VPE the codes of its replies, and what is held. So many runs end so,
-/// the first of them by that seed.
+/// An outcome of the setup: the codes of the replies to each VPE, and the held keys. That many runs
+/// end with it, the first of them by that seed.
 pub fn told_outcome(
     alloc: Global,
     setup: &Setup,
@@ -36,7 +36,7 @@ fn call_ends(alloc: Global, setup: &Setup, codes: &[Vec<u8>]) -> Result<Vec<Call
     Ok(ends)
 }
 
-// Appends how the calls of the VPE ended, which got these codes in turn.
+// Appends how the calls of the VPE ended, given the codes of its replies in turn.
 fn push_call_ends(
     alloc: Global,
     ends: &mut Vec<CallEnd>,
@@ -55,7 +55,6 @@ fn push_call_ends(
     Ok(())
 }
 
-// The name of the code.
 fn told_code(alloc: Global, code: Option<u8>) -> Result<Option<String>, OutOfMemory> {
     match code {
         Some(code) => Ok(Some(String::from_str(alloc, code_name(code))?)),
@@ -63,7 +62,7 @@ fn told_code(alloc: Global, code: Option<u8>) -> Result<Option<String>, OutOfMem
     }
 }
 
-// The capabilities that are held.
+// The held capabilities.
 fn held_keys(alloc: Global, held: &[Held]) -> Result<Vec<HeldKey>, OutOfMemory> {
     let mut keys = Vec::new(alloc);
     for it in held {

@@ -4,7 +4,7 @@ use sem_histories::{AllOutcomes, Sampled, Witness};
 /// Outcomes of a setup, as they were found.
 #[derive(Debug, Drop)]
 pub enum Found {
-    /// By so many seeds, the first of which is `from`.
+    /// By that many seeds, from the seed `from` on.
     Sampled {
         from: u64,
         seeds: u64,

@@ -1,5 +1,5 @@
-//! The outcomes of a trace beside each other: what they have in common, and what each has of its
-//! own, as text and as JSON; samples put together; two reports compared.
+//! The outcomes of a trace side by side: what they share, and what each has alone, as text and as
+//! JSON; samples put together; two reports compared.
 #![tactic(auto)]
 
 mod data;

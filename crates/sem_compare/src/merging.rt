@@ -3,7 +3,8 @@ use crate::data::{Outcome, Outcomes, SeedRange};
 use sem_key::OutOfMemory;
 use std::alloc::Global;
 
-/// The sample of all seeds of these samples, a line of JSON each; or why they cannot be put together.
+/// The sample of all seeds of these samples, a line of JSON each; or why they cannot be put
+/// together.
 pub fn merged(alloc: Global, texts: &[Vec<u8>]) -> Result<Result<Outcomes, String>, OutOfMemory> {
     let mut sum: Option<Outcomes> = None;
     for (number, text) in texts.iter().enumerate() {
@@ -49,7 +50,7 @@ fn read_sample(
     }
 }
 
-// Why the sample of that number cannot be put to the others, if it cannot.
+// Why the sample of that number cannot join the others, if it cannot.
 fn fault(
     alloc: Global,
     all: &Outcomes,
@@ -69,13 +70,13 @@ fn fault(
     Ok(None)
 }
 
-// Whether the two have a seed in common.
+// Whether the two share a seed.
 fn meet(one: &SeedRange, other: &SeedRange) -> bool {
     one.from < other.from.saturating_add(other.count)
         && other.from < one.from.saturating_add(one.count)
 }
 
-// Puts the sample to the others.
+// Lets the sample join the others.
 fn add(all: &mut Outcomes, sample: Outcomes) -> Result<(), OutOfMemory> {
     for range in sample.seeds.as_slice() {
         all.seeds.push(*range)?;
@@ -86,7 +87,7 @@ fn add(all: &mut Outcomes, sample: Outcomes) -> Result<(), OutOfMemory> {
     Ok(())
 }
 
-// Counts the outcome with the one that is the same, or puts it to the others.
+// Counts the outcome with an equal one, or lets it join the others.
 fn add_outcome(outcomes: &mut Vec<Outcome>, outcome: Outcome) -> Result<(), OutOfMemory> {
     for it in outcomes.iter_mut() {
         if it.calls == outcome.calls && it.held == outcome.held {

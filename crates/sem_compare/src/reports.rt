@@ -32,7 +32,7 @@ fn report_text(alloc: Global, setup: &Setup, journal: &Journal) -> Result<String
     as_text(alloc, bytes.as_slice())
 }
 
-/// The bytes of a text that is printed, which are all of ASCII.
+/// The bytes of a printed text, which are all ASCII.
 pub fn as_text(alloc: Global, bytes: &[u8]) -> Result<String, OutOfMemory> {
     let mut text = String::new(alloc);
     for byte in bytes {

@@ -1,4 +1,4 @@
-// What is asked for, and what is answered.
+// Requests for outcomes, and their answers.
 use crate::data::Outcomes;
 use crate::found::Found;
 use crate::merging::merged;
@@ -12,15 +12,14 @@ use sem_msg::Setup;
 use sem_trace::TraceFault;
 use std::alloc::Global;
 
-/// What is to be told of outcomes: the report of one, by its number, or all of them, as text or as
-/// JSON.
+/// What to tell of outcomes: the report of one, by its number, or all of them, as text or as JSON.
 #[derive(Clone, Copy, Debug)]
 pub struct Telling {
     pub report: Option<u64>,
     pub is_json: bool,
 }
 
-/// The answer, of what was found of the setup.
+/// The answer, given what was found for the setup.
 pub fn outcomes_of(
     alloc: Global,
     telling: Telling,
@@ -34,7 +33,7 @@ pub fn outcomes_of(
     written(alloc, &told, telling.is_json)
 }
 
-/// The answer where samples are to be put together, which these texts are, a line of JSON each.
+/// The answer to a request to put samples together; the texts are the samples, a line of JSON each.
 pub fn outcomes_merged(
     alloc: Global,
     texts: &[Vec<u8>],
@@ -46,7 +45,7 @@ pub fn outcomes_merged(
     }
 }
 
-/// The answer where the input is no trace.
+/// The answer if the input is no trace.
 pub fn no_trace(alloc: Global, bytes: &[u8], fault: &TraceFault) -> Result<Answer, OutOfMemory> {
     let mut text = String::from_str(alloc, "the input is no trace: ")?;
     let why = refusal_text(alloc, bytes, fault, TextKind::Trace)?;
@@ -54,7 +53,7 @@ pub fn no_trace(alloc: Global, bytes: &[u8], fault: &TraceFault) -> Result<Answe
     Ok(Answer::failed(alloc, Ending::Refused, text))
 }
 
-/// The answer where there are more histories than the limit.
+/// The answer if there are more histories than the limit.
 pub fn too_many(alloc: Global, limit: usize) -> Result<Answer, OutOfMemory> {
     let text = format!(in alloc;
         "there are more than {limit} histories: what was met by then is no answer; set --limit\n"
@@ -62,7 +61,7 @@ pub fn too_many(alloc: Global, limit: usize) -> Result<Answer, OutOfMemory> {
     Ok(Answer::failed(alloc, Ending::WrongWords, text))
 }
 
-// The outcomes, written.
+// Writes the outcomes.
 fn written(alloc: Global, told: &Outcomes, is_json: bool) -> Result<Answer, OutOfMemory> {
     let text = if is_json {
         as_json(alloc, told)?

@@ -35,7 +35,7 @@ fn trace_text(alloc: Global, setup: &Setup) -> Result<String, OutOfMemory> {
     as_text(alloc, bytes.as_slice())
 }
 
-// So many seeds from the first on.
+// That many seeds from the first on.
 fn one_range(alloc: Global, from: u64, count: u64) -> Result<Vec<SeedRange>, OutOfMemory> {
     let mut ranges = Vec::new(alloc);
     ranges.push(SeedRange { from, count })?;

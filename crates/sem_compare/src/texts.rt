@@ -3,10 +3,10 @@ use crate::data::{CallEnd, HeldKey, Outcome, Outcomes};
 use sem_key::OutOfMemory;
 use std::alloc::Global;
 
-/// How many columns stand before the code of a call.
+/// The columns before the code of a call.
 const CALLS: usize = 44;
 
-/// The outcomes as text: what is the same in all of them, and then for each what is its own.
+/// The outcomes as text: what all of them share, and then what each has alone.
 pub fn outcomes_as_text(alloc: Global, told: &Outcomes) -> Result<String, OutOfMemory> {
     let mut out = String::new(alloc);
     push_head(alloc, &mut out, told)?;
@@ -43,7 +43,7 @@ fn total(told: &Outcomes) -> u64 {
     sum
 }
 
-// Appends what is the same in all outcomes.
+// Appends what all outcomes share.
 fn push_shared(alloc: Global, out: &mut String, told: &Outcomes) -> Result<(), OutOfMemory> {
     let Some(first) = told.outcomes.first() else {
         return Ok(());
@@ -61,7 +61,7 @@ fn push_shared(alloc: Global, out: &mut String, told: &Outcomes) -> Result<(), O
     Ok(())
 }
 
-// Whether the call at that place ends so in all outcomes.
+// Whether the call at that place ends the same way in all outcomes.
 fn is_shared_call(told: &Outcomes, at: usize, end: &CallEnd) -> bool {
     told.outcomes
         .iter()
@@ -75,7 +75,7 @@ fn is_held_in_all(told: &Outcomes, held: &HeldKey) -> bool {
         .all(|outcome| outcome.held.contains(held))
 }
 
-// Appends what the outcome of that number has of its own.
+// Appends what only the outcome of that number has.
 fn push_outcome(
     alloc: Global,
     out: &mut String,
@@ -97,7 +97,7 @@ fn push_outcome(
     push_missing(alloc, out, told, number, outcome)
 }
 
-// Appends how many runs end so, and which shows it.
+// Appends how many runs end with it, and which one shows it.
 fn push_share(
     alloc: Global,
     out: &mut String,
@@ -118,7 +118,7 @@ fn push_share(
     out.push_str(text.as_str())
 }
 
-// The share in percent, with one digit behind the point, rounded down.
+// The share in percent, with one digit after the point, rounded down.
 fn percent(alloc: Global, count: u64, all: u64) -> Result<String, OutOfMemory> {
     let tenths = u128::from(count).saturating_mul(1000) / u128::from(all.max(1));
     let tenths = tenths.min(1000) as u64;
@@ -126,7 +126,7 @@ fn percent(alloc: Global, count: u64, all: u64) -> Result<String, OutOfMemory> {
     format!(in alloc; "{whole}.{tenth}%")
 }
 
-// Appends a line for each capability that is held in an outcome before this one and not in this one.
+// Appends a line for each capability that an earlier outcome holds and this one does not.
 fn push_missing(
     alloc: Global,
     out: &mut String,
@@ -164,7 +164,7 @@ fn push_call(alloc: Global, out: &mut String, end: &CallEnd) -> Result<(), OutOf
     out.push('\n')
 }
 
-// Appends what is held, or is gone.
+// Appends a held or a missing capability.
 fn push_held(
     alloc: Global,
     out: &mut String,

@@ -26,10 +26,17 @@ module _ (T : Setup) (i v : ℕ) (parent : KeyName) (object : Object) (sel : ℕ
   abbrev said_here : Option Code → Step
   said_here o = asking parent.vpe Yes (option_map_or (λ code. plain (call_refused (code_number code) parent.vpe s)) o (delegate_here T v parent object sel s))
 
-  decided-here : kernel_of T parent.vpe ≡ i → is_delegate_wait parent (parked s parent.vpe) ≡ true → denies T v parent.vpe ≡ false → ask_decided T i v (DelegateAsk parent object sel) s ≡ said_here code_here
-  decided-here here waits consents = rw (eq-eqb (kernel_of T parent.vpe) i here, waits, consents, unless-first (parent_tests (cap s parent) ++ destination_tests s v sel)) refl
+  decided-here : kernel_of T parent.vpe ≡ i → is_delegate_wait parent (parked s parent.vpe) ≡ true → denies T v parent.vpe ≡ false →
+      ask_decided T i v (DelegateAsk parent object sel) s ≡ said_here code_here
+  decided-here here waits consents = rw (
+    eq-eqb (kernel_of T parent.vpe) i here,
+    waits,
+    consents,
+    unless-first (parent_tests (cap s parent) ++ destination_tests s v sel),
+  ) refl
 
-  pub refused-here : (code : Code) → kernel_of T parent.vpe ≡ i → is_delegate_wait parent (parked s parent.vpe) ≡ true → denies T v parent.vpe ≡ false → Some code ≡ code_here
+  pub refused-here : (code : Code) → kernel_of T parent.vpe ≡ i → is_delegate_wait parent (parked s parent.vpe) ≡ true → denies T v parent.vpe ≡ false →
+      Some code ≡ code_here
       → ask_decided T i v (DelegateAsk parent object sel) s ≡ asking parent.vpe Yes (plain (call_refused (code_number code) parent.vpe s))
   refused-here code here waits consents first = decided-here here waits consents ∙ ap said_here (sym first)
 
@@ -39,9 +46,12 @@ module _ (T : Setup) (i v : ℕ) (parent : KeyName) (object : Object) (sel : ℕ
 
   -- of a VPE of another kernel
   abbrev said_elsewhere : Option Code → Step
-  said_elsewhere o = asking parent.vpe Yes (option_map_or (λ code. plain (send (owner_of T parent) (DelegateNo parent (code_number code)) s)) o (delegate_prepared T v parent object sel s))
+  said_elsewhere o =
+      asking parent.vpe Yes (option_map_or (λ code. plain (send (owner_of T parent) (DelegateNo parent (code_number code)) s)) o
+      (delegate_prepared T v parent object sel s))
 
-  decided-elsewhere : kernel_of T parent.vpe ≢ i → denies T v parent.vpe ≡ false → ask_decided T i v (DelegateAsk parent object sel) s ≡ said_elsewhere (first_code (destination_tests s v sel))
+  decided-elsewhere : kernel_of T parent.vpe ≢ i → denies T v parent.vpe ≡ false →
+      ask_decided T i v (DelegateAsk parent object sel) s ≡ said_elsewhere (first_code (destination_tests s v sel))
   decided-elsewhere other consents = rw (ne_eqb (kernel_of T parent.vpe) i other, consents, unless-first (destination_tests s v sel)) refl
 
   pub refused-elsewhere : (code : Code) → kernel_of T parent.vpe ≢ i → denies T v parent.vpe ≡ false → Some code ≡ first_code (destination_tests s v sel)

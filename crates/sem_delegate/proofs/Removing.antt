@@ -9,6 +9,7 @@ pub none-removed : (pendings : List Pending) (k : KeyName) → pending_of pendin
 none-removed [] k none = refl
 none-removed (p ∷ rest) k none = from (key_eq p.key k) (none-removed rest k) none
   where
-    from : (same : Bool) → (pending_of rest k ≡ None → without_pending rest k ≡ rest) → (if same then Some p else pending_of rest k) ≡ None → (if not same then p ∷ without_pending rest k else without_pending rest k) ≡ p ∷ rest
+    from : (same : Bool) → (pending_of rest k ≡ None → without_pending rest k ≡ rest) → (if same then Some p else pending_of rest k) ≡ None →
+        (if not same then p ∷ without_pending rest k else without_pending rest k) ≡ p ∷ rest
     from true behind none = absurd cc
     from false behind none = ap (λ (ps : List Pending). p ∷ ps) (behind none)

@@ -1,12 +1,12 @@
 -- The pending delegations of one kernel as contracts see them ("State" in docs/machine.md).
 use Rattle.std.specs.Prelude.{ℕ, List, find, filter, not, Option}
-use Rattle.sem_key.specs.KeyName.{KeyName, key_eq}
-use Rattle.sem_msg.specs.declared.state.Pending.{Pending}
+use Rattle.sem_machine.specs.Prelude.{KeyName, key_eq, Pending}
 
 pub record PendingStore : Type 0 where
-  -- the delegations that were accepted and are not acknowledged yet, in the order in which they were accepted
+  -- the delegations that were accepted and are not acknowledged yet, in the order in which they
+  -- were accepted
   pub pendings : List Pending
-  -- how many more can be added without memory
+  -- how many more can be added without taking memory
   pub spare : ℕ
 
 -- the pending delegation of that key

@@ -16,9 +16,9 @@ use sem_key::Key;
 use sem_msg::{Outboxes, Pending, Setup};
 use sem_vpe::Vpes;
 
-/// An accepted delegation is acknowledged: it is pending no more. With yes the capability is
-/// installed, or, where its VPE is dead, the kernel of the parent is told; with no the promise is
-/// free. Takes no memory.
+/// An accepted delegation is acknowledged, so it is no longer pending. With yes the capability is
+/// installed, or, if its VPE is dead, the kernel of the parent is told; with no the promised
+/// selector is free.
 #[tactic(auto, unfolding(sem_machine::specs::Handles::handle_row))]
 pub fn ack(
     setup: &Setup,
@@ -36,7 +36,10 @@ pub fn ack(
     requires boxes { HasBoxes setup.now outs.old }
     requires caps_spare { 0 < caps.old.spare }
     requires spare { 0 < outs.old.spare }
-    ensures row { (from : ℕ) (s : Side) → acking caps.new vpes.new pendings.new outs.new s ≡ handle_row setup.now kernel (acking caps.old vpes.old pendings.old outs.old s) from (Ack key yes) }
+    ensures row { (from : ℕ) (s : Side) →
+        acking caps.new vpes.new pendings.new outs.new s
+        ≡ handle_row setup.now kernel (acking caps.old vpes.old pendings.old outs.old s) from
+        (Ack key yes) }
     ensures ours { vpes.new.ours ≡ vpes.old.ours }
     ensures boxes { HasBoxes setup.now outs.new }
     ensures caps_spare { caps.old.spare ≤ caps.new.spare + 1 }
@@ -55,7 +58,7 @@ pub fn ack(
     }
 }
 
-// The accepted delegation holds: the capability is installed, or is an orphan if its VPE is dead.
+// The accepted delegation holds: the capability is installed, or, if its VPE is dead, is an orphan.
 fn hold(
     setup: &Setup,
     key: Key,
@@ -70,7 +73,9 @@ fn hold(
     requires boxes { HasBoxes setup.now outs.old }
     requires caps_spare { 0 < caps.old.spare }
     requires spare { 0 < outs.old.spare }
-    ensures row { (s : Side) → keeping caps.new vpes.new outs.new s ≡ held_or_orphaned setup.now key pending.now (keeping caps.old vpes.old outs.old s) }
+    ensures row { (s : Side) →
+        keeping caps.new vpes.new outs.new s
+        ≡ held_or_orphaned setup.now key pending.now (keeping caps.old vpes.old outs.old s) }
     ensures ours { vpes.new.ours ≡ vpes.old.ours }
     ensures boxes { HasBoxes setup.now outs.new }
     ensures caps_spare { caps.old.spare ≤ caps.new.spare + 1 }

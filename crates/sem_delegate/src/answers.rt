@@ -1,5 +1,6 @@
 ghost use Rattle.std.specs.Prelude.{◌≡◌, ◌≢◌, ℕ, ◌<◌, ◌≤◌, ◌+◌, true};
-ghost use Rattle.sem_msg.specs.declared.message.Message.TheVariants.{DelegateNo, DelegatePrepared, DelegateReq};
+ghost use Rattle.sem_msg.specs.declared.message.Message.TheVariants.{DelegateNo, DelegatePrepared};
+ghost use Rattle.sem_msg.specs.declared.message.Message.TheVariants.{DelegateReq};
 ghost use Rattle.sem_msg.specs.Lookups.{kernel_of as kernel_of_lem, owner_of as owner_of_lem};
 ghost use Rattle.sem_msg.specs.Outboxes.{HasBoxes};
 ghost use Rattle.sem_msg.specs.ParkedStates.{state_of};
@@ -16,8 +17,8 @@ use sem_msg::{Ask, Code, Outboxes, Parked, Setup};
 use sem_park::Park;
 use sem_vpe::Vpes;
 
-/// A request from another kernel: the VPE is asked to take the capability, or, where it is dead,
-/// the kernel of the delegator is told. Takes no memory.
+/// A request from another kernel: the VPE is asked to take the capability, or, if it is dead, the
+/// kernel of the delegator is told.
 #[tactic(auto, unfolding(sem_machine::specs::Handles::handle_row))]
 pub fn delegate_request(
     setup: &Setup,
@@ -35,7 +36,10 @@ pub fn delegate_request(
     requires owner { owner_of_lem setup.now parent < setup.now.kernels }
     requires boxes { HasBoxes setup.now outs.old }
     requires spare { 0 < outs.old.spare }
-    ensures row { (from : ℕ) (s : Side) → with_vpes vpes.new.rows (with_outs outs.new.boxes s) ≡ handle_row setup.now kernel (with_vpes vpes.old.rows (with_outs outs.old.boxes s)) from (DelegateReq parent object vpe sel) }
+    ensures row { (from : ℕ) (s : Side) →
+        with_vpes vpes.new.rows (with_outs outs.new.boxes s)
+        ≡ handle_row setup.now kernel (with_vpes vpes.old.rows (with_outs outs.old.boxes s)) from
+        (DelegateReq parent object vpe sel) }
     ensures ours { vpes.new.ours ≡ vpes.old.ours }
     ensures boxes { HasBoxes setup.now outs.new }
     ensures spare { outs.old.spare ≤ outs.new.spare + 1 }
@@ -54,8 +58,8 @@ pub fn delegate_request(
     }
 }
 
-/// An offer was accepted: the delegate is ready to grant the child, or, where its VPE is dead, the
-/// kernel of the child is told that the delegation does not hold. Takes no memory.
+/// An offer was accepted: the delegate is ready to grant the child, or, if its VPE is dead, the
+/// kernel of the child is told that the delegation does not hold.
 #[tactic(auto, unfolding(sem_machine::specs::Handles::handle_row))]
 pub fn delegate_prepared(
     setup: &Setup,
@@ -71,7 +75,10 @@ pub fn delegate_prepared(
     requires owner { owner_of_lem setup.now key < setup.now.kernels }
     requires boxes { HasBoxes setup.now outs.old }
     requires spare { 0 < outs.old.spare }
-    ensures row { (from : ℕ) (s : Side) → offering vpes.now park.new outs.new s ≡ handle_row setup.now kernel (offering vpes.now park.old outs.old s) from (DelegatePrepared parent key) }
+    ensures row { (from : ℕ) (s : Side) →
+        offering vpes.now park.new outs.new s
+        ≡ handle_row setup.now kernel (offering vpes.now park.old outs.old s) from
+        (DelegatePrepared parent key) }
     ensures boxes { HasBoxes setup.now outs.new }
     ensures spare { outs.old.spare ≤ outs.new.spare + 1 }
 {
@@ -82,7 +89,7 @@ pub fn delegate_prepared(
     }
 }
 
-/// An offer was refused: the delegate will be answered with the code. Takes no memory.
+/// An offer was refused: the code will answer the delegate.
 #[tactic(auto, unfolding(sem_machine::specs::Handles::handle_row))]
 pub fn delegate_refused(
     setup: &Setup,
@@ -95,17 +102,21 @@ pub fn delegate_refused(
     requires home { AreOurs setup.now kernel vpes.now }
     requires vpe { kernel_of_lem setup.now parent.vpe ≡ kernel }
     requires waits { IsAwaited vpes.now park.old parent }
-    ensures row { (from : ℕ) (s : Side) → with_vpes vpes.now.rows (with_parks park.new s) ≡ handle_row setup.now kernel (with_vpes vpes.now.rows (with_parks park.old s)) from (DelegateNo parent code) }
+    ensures row { (from : ℕ) (s : Side) →
+        with_vpes vpes.now.rows (with_parks park.new s)
+        ≡ handle_row setup.now kernel (with_vpes vpes.now.rows (with_parks park.old s)) from
+        (DelegateNo parent code) }
 {
     if vpes.alive(parent.vpe) {
         end_waiting(parent, code, park);
     }
 }
 
-// The delegate of the capability waits no more; it will be answered with the code.
+// The delegate of the capability no longer waits; the code will answer it.
 pub fn end_waiting(parent: Key, code: u8, park: &mut Park)
     requires { is_delegate_wait parent (state_of park.old parent.vpe) ≡ true }
-    ensures { (s : Side) → with_parks park.new s ≡ call_refused code parent.vpe (with_parks park.old s) }
+    ensures { (s : Side) →
+        with_parks park.new s ≡ call_refused code parent.vpe (with_parks park.old s) }
 {
     park.park(parent.vpe, Parked::Ready { code });
 }

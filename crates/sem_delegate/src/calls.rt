@@ -12,18 +12,15 @@ ghost use Rattle.sem_machine.specs.Stores.{with_caps};
 ghost use Rattle.sem_delegate.specs.Delegating.{IsOfKind, offering, owning};
 
 use crate::messages::request;
-use crate::outcomes::{answered, nothing};
 use crate::refusals::{delegate_refusal, own_cap};
-use crate::setups::kernel_of;
 use sem_caps::Caps;
 use sem_key::Cap;
 use sem_msg::{Ask, Code, Outboxes, Outcome, Parked, Setup};
 use sem_park::Park;
 use sem_vpe::Vpes;
 
-/// The call `delegate`: the VPE offers the capability at its selector `src` to another one, to
-/// stand at the selector `dst` of that one. It waits, unless it is refused at once. Takes no
-/// memory.
+/// The call `delegate`: the VPE offers the capability at its selector `src` to another VPE, to
+/// stand at that VPE's selector `dst`. The call waits, unless it is refused at once.
 pub fn delegate_call(
     setup: &Setup,
     kernel: u32,
@@ -42,21 +39,27 @@ pub fn delegate_call(
     requires valid { IfSome (own (owning caps.now vpes.old no_side) vpe src) IsOfKind }
     requires boxes { HasBoxes setup.now outs.old }
     requires spare { 0 < outs.old.spare }
-    ensures row { (s : Side) → record { side = with_caps caps.now.caps (offering vpes.new park.new outs.new s); outcome = result } ≡ delegate_row setup.now kernel (with_caps caps.now.caps (offering vpes.old park.old outs.old s)) vpe src other dst }
+    ensures row { (s : Side) →
+        record {
+          side = with_caps caps.now.caps (offering vpes.new park.new outs.new s);
+          outcome = result;
+        }
+        ≡ delegate_row setup.now kernel
+        (with_caps caps.now.caps (offering vpes.old park.old outs.old s)) vpe src other dst }
     ensures ours { vpes.new.ours ≡ vpes.old.ours }
     ensures boxes { HasBoxes setup.now outs.new }
     ensures spare { outs.old.spare ≤ outs.new.spare + 1 }
 {
-    // So that the proof knows that the VPE has a place.
-    let _ = kernel_of(setup, vpe);
+    // Shows the proof that the VPE has a place.
+    let _ = setup.declared_kernel(vpe);
     if let Some(code) = delegate_refusal(setup, kernel, vpe, src, other, caps, vpes) {
-        return answered(code);
+        return Outcome::answered(code);
     }
     let Some(cap) = own_cap(caps, vpes, vpe, src) else {
-        return answered(Code::NoCap);
+        return Outcome::answered(Code::NoCap);
     };
     make_offer(setup, kernel, vpe, other, dst, cap, vpes, park, outs);
-    nothing()
+    Outcome::nothing()
 }
 
 // The VPE waits; the other VPE is asked to take the capability.
@@ -78,14 +81,17 @@ fn make_offer(
     requires delegable { IsDelegable cap.now.key.kind }
     requires boxes { HasBoxes setup.now outs.old }
     requires spare { 0 < outs.old.spare }
-    ensures row { (s : Side) → plain (offering vpes.new park.new outs.new s) ≡ offer_made setup.now kernel vpe other dst (capability_of cap.now) (offering vpes.old park.old outs.old s) }
+    ensures row { (s : Side) →
+        plain (offering vpes.new park.new outs.new s)
+        ≡ offer_made setup.now kernel vpe other dst (capability_of cap.now)
+        (offering vpes.old park.old outs.old s) }
     ensures ours { vpes.new.ours ≡ vpes.old.ours }
     ensures boxes { HasBoxes setup.now outs.new }
     ensures spare { outs.old.spare ≤ outs.new.spare + 1 }
 {
     let (parent, object) = (cap.key, cap.object);
     park.park(vpe, Parked::DelegateWait { parent });
-    let owner = kernel_of(setup, other);
+    let owner = setup.declared_kernel(other);
     if owner == kernel {
         vpes.ask(
             other,

@@ -15,9 +15,7 @@ ghost use Rattle.sem_delegate.specs.Delegating.{HasRoomFor, IsNextFree, installi
 
 use crate::answers::end_waiting;
 use crate::keys::draw_key;
-use crate::outcomes::asked;
 use crate::refusals::consent_refusal;
-use crate::setups::denies;
 use sem_caps::Caps;
 use sem_key::{Key, Object, same_key};
 use sem_msg::{Code, Consent, Outcome, Parked, Setup};
@@ -53,26 +51,29 @@ pub fn decide_here(
     requires free { IsNextFree setup.now caps.old vpes.old vpe }
     requires child_room { HasRoomFor caps.old parent }
     requires spare { 0 < caps.old.spare }
-    ensures row { (s : Side) → record { side = installing caps.new vpes.new park.new s; outcome = result } ≡ ask_decided setup.now kernel vpe (DelegateAsk parent object sel) (installing caps.old vpes.old park.old s) }
+    ensures row { (s : Side) →
+        record { side = installing caps.new vpes.new park.new s; outcome = result }
+        ≡ ask_decided setup.now kernel vpe (DelegateAsk parent object sel)
+        (installing caps.old vpes.old park.old s) }
     ensures ours { vpes.new.ours ≡ vpes.old.ours }
     ensures spare { caps.old.spare ≤ caps.new.spare + 1 }
 {
     let asker = parent.vpe;
     if !is_awaited(park, parent) {
-        return asked(asker, Consent::Dropped);
+        return Outcome::asked(asker, Consent::Dropped, None);
     }
-    if denies(setup, vpe, asker) {
+    if setup.denies(vpe, asker) {
         end_waiting(parent, Code::Refused.number(), park);
-        return asked(asker, Consent::No);
+        return Outcome::asked(asker, Consent::No, None);
     }
     if let Some(code) = consent_refusal(caps, vpes, vpe, parent, sel) {
         end_waiting(parent, code.number(), park);
-        return asked(asker, Consent::Yes);
+        return Outcome::asked(asker, Consent::Yes, None);
     }
     take_child(setup, vpe, parent, object, sel, caps, vpes, park)
 }
 
-// The VPE takes a child of the capability of a VPE of the same kernel, whose delegate succeeds.
+// The VPE takes a child of the capability of a VPE of the same kernel, whose delegate will succeed.
 fn take_child(
     setup: &Setup,
     vpe: u16,
@@ -85,11 +86,15 @@ fn take_child(
 ) -> Outcome
     requires declared { is_declared setup.now vpe ≡ true }
     requires ours { IsOurs vpes.old vpe }
-    requires tests { first_code (parent_tests (cap_of caps.old.caps parent) ++ destination_tests (with_vpes vpes.old.rows no_side) vpe sel) ≡ None }
+    requires tests { first_code (parent_tests (cap_of caps.old.caps parent)
+        ++ destination_tests (with_vpes vpes.old.rows no_side) vpe sel) ≡ None }
     requires free { IsNextFree setup.now caps.old vpes.old vpe }
     requires child_room { HasRoomFor caps.old parent }
     requires spare { 0 < caps.old.spare }
-    ensures row { (s : Side) → record { side = installing caps.new vpes.new park.new s; outcome = result } ≡ asking parent.vpe Yes (delegate_here setup.now vpe parent object sel (installing caps.old vpes.old park.old s)) }
+    ensures row { (s : Side) →
+        record { side = installing caps.new vpes.new park.new s; outcome = result }
+        ≡ asking parent.vpe Yes
+        (delegate_here setup.now vpe parent object sel (installing caps.old vpes.old park.old s)) }
     ensures ours { vpes.new.ours ≡ vpes.old.ours }
     ensures spare { caps.old.spare ≤ caps.new.spare + 1 }
 {

@@ -1,4 +1,5 @@
-//! The calls by which a VPE delegates a capability to another one, and what becomes of them.
+//! The calls by which a VPE delegates a capability to another one, and what becomes of them. Only
+//! `Pendings::new` and `Pendings::room` take memory.
 #![tactic(auto)]
 
 mod acks;
@@ -7,12 +8,10 @@ mod calls;
 mod consents;
 mod keys;
 mod messages;
-mod outcomes;
 mod pendings;
 mod preparing;
 mod refusals;
 mod resumes;
-mod setups;
 mod upcalls;
 
 pub use acks::ack;

@@ -2,7 +2,9 @@
 ghost use Rattle.std.specs.Prelude.{◌≡◌, ◌<◌, ◌≤◌, ◌+◌, [], ◌∷◌, ◌++◌};
 ghost use Rattle.sem_key.specs.declared.limits.TheConstants.{VPES};
 ghost use Rattle.sem_key.specs.ObjectRanges.{IsValidObject, object_kind};
-ghost use Rattle.sem_msg.specs.declared.message.Message.TheVariants.{Ack, DelegateNo, DelegatePrepared, DelegateReq, Orphan};
+ghost use Rattle.sem_msg.specs.declared.message.Message.TheVariants.{Ack, DelegateNo};
+ghost use Rattle.sem_msg.specs.declared.message.Message.TheVariants.{DelegatePrepared, DelegateReq};
+ghost use Rattle.sem_msg.specs.declared.message.Message.TheVariants.{Orphan};
 ghost use Rattle.sem_msg.specs.Codes.{code_number};
 ghost use Rattle.sem_msg.specs.Lookups.{owner_of as owner_of_lem};
 ghost use Rattle.sem_msg.specs.Message.{Fits, IsDelegable, IsRefusal};
@@ -28,7 +30,7 @@ pub fn request(parent: Key, object: Object, vpe: u16, sel: u8) -> Message
     }
 }
 
-// It is accepted.
+// The offer is accepted.
 pub fn prepared(parent: Key, key: Key) -> Message
     ensures message { result ≡ DelegatePrepared parent key }
     ensures fits { Fits result }
@@ -36,7 +38,7 @@ pub fn prepared(parent: Key, key: Key) -> Message
     Message::DelegatePrepared { parent, key }
 }
 
-// It is refused.
+// The offer is refused.
 pub fn refusal(parent: Key, code: Code) -> Message
     requires { IsRefusal (code_number code) }
     ensures message { result ≡ DelegateNo parent (code_number code) }
@@ -48,7 +50,7 @@ pub fn refusal(parent: Key, code: Code) -> Message
     }
 }
 
-// The accepted delegation holds, or does not.
+// Whether the accepted delegation holds.
 pub fn acknowledgement(key: Key, yes: bool) -> Message
     ensures message { result ≡ Ack key yes }
     ensures fits { Fits result }
@@ -56,7 +58,7 @@ pub fn acknowledgement(key: Key, yes: bool) -> Message
     Message::Ack { key, yes }
 }
 
-// The parent has a child which nobody holds.
+// The parent has a child that no VPE holds.
 pub fn orphaned(parent: Key, key: Key) -> Message
     ensures message { result ≡ Orphan parent key }
     ensures fits { Fits result }
@@ -70,7 +72,9 @@ pub fn tell_owner(setup: &Setup, key: Key, message: Message, outs: &mut Outboxes
     requires owner { owner_of_lem setup.now key < setup.now.kernels }
     requires boxes { HasBoxes setup.now outs.old }
     requires spare { 0 < outs.old.spare }
-    ensures sent { outs.new.boxes ≡ with_box outs.old.boxes (owner_of_lem setup.now key) (box_for outs.old.boxes (owner_of_lem setup.now key) ++ message ∷ []) }
+    ensures sent { outs.new.boxes
+        ≡ with_box outs.old.boxes (owner_of_lem setup.now key)
+        (box_for outs.old.boxes (owner_of_lem setup.now key) ++ message ∷ []) }
     ensures boxes { HasBoxes setup.now outs.new }
     ensures spare { outs.old.spare ≤ outs.new.spare + 1 }
 {

@@ -1,4 +1,5 @@
-ghost use Rattle.std.specs.Prelude.{◌≡◌, ◌<◌, ◌≤◌, ◌+◌, [], ◌∷◌, ◌++◌, vec_len, vec_capacity, option_copied, IfOk, OnOk, OnErr};
+ghost use Rattle.std.specs.Prelude.{◌≡◌, ◌<◌, ◌≤◌, ◌+◌, [], ◌∷◌, ◌++◌, vec_len, vec_capacity};
+ghost use Rattle.std.specs.Prelude.{option_copied, IfOk, OnOk, OnErr};
 ghost use Rattle.sem_delegate.specs.PendingStore.{pending_of, without_pending};
 
 use sem_key::{Key, OutOfMemory, same_key};
@@ -7,7 +8,7 @@ use std::alloc::Global;
 use std::marker::Model;
 
 /// The delegations from other kernels that one kernel has accepted and that are not acknowledged
-/// yet.
+/// yet. Only `new` and `room` take memory.
 #[derive(Debug, Drop)]
 pub struct Pendings {
     // In the order in which they were accepted.
@@ -20,7 +21,10 @@ impl Model for Pendings {
 
     ghost Value = { PendingStore };
 
-    ghost view = { λ s. record { pendings = s.accepted.items; spare = vec_capacity s.accepted - vec_len s.accepted } };
+    ghost view = { λ s. record {
+      pendings = s.accepted.items;
+      spare = vec_capacity s.accepted - vec_len s.accepted;
+    } };
 }
 
 impl Pendings {
@@ -33,8 +37,8 @@ impl Pendings {
         })
     }
 
-    /// Makes room for `more` pending delegations, so that adding them takes no memory. Those that
-    /// are there stay as they are. After want of memory all is as before.
+    /// Makes room for `more` pending delegations. Those that are there stay as they are. If memory
+    /// is refused, all is as before.
     pub fn room(&mut self, more: usize) -> Result<(), OutOfMemory>
         ensures room { OnOk result (more ≤ self.new.spare) }
         ensures pendings { self.new.pendings ≡ self.old.pendings }
@@ -44,16 +48,16 @@ impl Pendings {
         self.accepted.reserve(more)
     }
 
-    /// The pending delegation of that key; none where none has it. Takes no memory.
+    /// The pending delegation of that key; none if none has it.
     pub fn get(&self, key: Key) -> Option<Pending>
         ensures { result ≡ pending_of self.now.pendings key }
     {
         found(&self.accepted, &key).copied()
     }
 
-    /// Adds a pending delegation, behind the others. Takes no memory.
+    /// Adds a pending delegation after the others.
     ///
-    /// There is room for it.
+    /// There must be room for it.
     pub fn add(&mut self, pending: Pending)
         requires { 0 < self.old.spare }
         ensures pendings { self.new.pendings ≡ self.old.pendings ++ pending ∷ [] }
@@ -62,8 +66,7 @@ impl Pendings {
         push(&mut self.accepted, &pending);
     }
 
-    /// Takes out the pending delegation of that key and gives it; none where none has it. Takes no
-    /// memory.
+    /// Takes out the pending delegation of that key and returns it; none if none has it.
     pub fn take(&mut self, key: Key) -> Option<Pending>
         ensures pending { result ≡ pending_of self.old.pendings key }
         ensures pendings { self.new.pendings ≡ without_pending self.old.pendings key }
@@ -75,14 +78,13 @@ impl Pendings {
     }
 }
 
-// The pending delegation of that key.
 fn found<'a>(pendings: &'a [Pending], key: &Key) -> Option<&'a Pending>
     ensures { option_copied result ≡ pending_of pendings.now key.now }
 {
     pendings.iter().find(|pending| same_key(&pending.key, key))
 }
 
-// Appends a copy of the item, for which there is room.
+// Appends a copy of the item. There must be room for it.
 fn push<T: Copy>(items: &mut Vec<T>, item: &T)
     requires { vec_len items.old < vec_capacity items.old }
     ensures items { items.new.items ≡ items.old.items ++ item.now ∷ [] }

@@ -1,6 +1,7 @@
 ghost use Rattle.std.specs.Prelude.{◌≡◌, ◌≢◌, ◌<◌, ◌≤◌, ◌+◌, true, None};
 ghost use Rattle.sem_msg.specs.declared.state.Ask.TheVariants.{Delegate as DelegateAsk};
-ghost use Rattle.sem_msg.specs.Lookups.{is_declared, kernel_of as kernel_of_lem, owner_of as owner_of_lem};
+ghost use Rattle.sem_msg.specs.Lookups.{is_declared, kernel_of as kernel_of_lem};
+ghost use Rattle.sem_msg.specs.Lookups.{owner_of as owner_of_lem};
 ghost use Rattle.sem_msg.specs.Outboxes.{HasBoxes};
 ghost use Rattle.sem_vpe.specs.VpeTable.{IsOurs};
 ghost use Rattle.sem_machine.specs.Sides.{Side, no_side};
@@ -12,10 +13,7 @@ ghost use Rattle.sem_delegate.specs.Delegating.{preparing};
 
 use crate::keys::draw_key;
 use crate::messages::{prepared, refusal, tell_owner};
-use crate::outcomes::asked;
 use crate::pendings::Pendings;
-use crate::refusals::destination_refusal;
-use crate::setups::denies;
 use sem_key::{Key, Object};
 use sem_msg::{Code, Consent, Outboxes, Outcome, Pending, Setup};
 use sem_vpe::Vpes;
@@ -39,23 +37,26 @@ pub fn decide_elsewhere(
     requires boxes { HasBoxes setup.now outs.old }
     requires pendings_spare { 0 < pendings.old.spare }
     requires spare { 0 < outs.old.spare }
-    ensures row { (s : Side) → record { side = preparing vpes.new pendings.new outs.new s; outcome = result } ≡ ask_decided setup.now kernel vpe (DelegateAsk parent object sel) (preparing vpes.old pendings.old outs.old s) }
+    ensures row { (s : Side) →
+        record { side = preparing vpes.new pendings.new outs.new s; outcome = result }
+        ≡ ask_decided setup.now kernel vpe (DelegateAsk parent object sel)
+        (preparing vpes.old pendings.old outs.old s) }
     ensures ours { vpes.new.ours ≡ vpes.old.ours }
     ensures boxes { HasBoxes setup.now outs.new }
     ensures pendings_spare { pendings.old.spare ≤ pendings.new.spare + 1 }
     ensures spare { outs.old.spare ≤ outs.new.spare + 1 }
 {
     let asker = parent.vpe;
-    if denies(setup, vpe, asker) {
+    if setup.denies(vpe, asker) {
         tell_owner(setup, parent, refusal(parent, Code::Refused), outs);
-        return asked(asker, Consent::No);
+        return Outcome::asked(asker, Consent::No, None);
     }
-    if let Some(code) = destination_refusal(vpes, vpe, sel) {
+    if let Some(code) = vpes.destination_refusal(vpe, sel) {
         tell_owner(setup, parent, refusal(parent, code), outs);
-        return asked(asker, Consent::Yes);
+        return Outcome::asked(asker, Consent::Yes, None);
     }
     prepare(setup, vpe, parent, object, sel, vpes, pendings, outs);
-    asked(asker, Consent::Yes)
+    Outcome::asked(asker, Consent::Yes, None)
 }
 
 // The child is prepared, and the kernel of the delegator is told.
@@ -71,12 +72,16 @@ fn prepare(
 )
     requires declared { is_declared setup.now vpe ≡ true }
     requires ours { IsOurs vpes.old vpe }
-    requires free { first_code (destination_tests (with_vpes vpes.old.rows no_side) vpe sel) ≡ None }
+    requires free { first_code (destination_tests (with_vpes vpes.old.rows no_side) vpe sel)
+        ≡ None }
     requires owner { owner_of_lem setup.now parent < setup.now.kernels }
     requires boxes { HasBoxes setup.now outs.old }
     requires pendings_spare { 0 < pendings.old.spare }
     requires spare { 0 < outs.old.spare }
-    ensures row { (s : Side) → plain (preparing vpes.new pendings.new outs.new s) ≡ delegate_prepared setup.now vpe parent object sel (preparing vpes.old pendings.old outs.old s) }
+    ensures row { (s : Side) →
+        plain (preparing vpes.new pendings.new outs.new s)
+        ≡ delegate_prepared setup.now vpe parent object sel
+        (preparing vpes.old pendings.old outs.old s) }
     ensures ours { vpes.new.ours ≡ vpes.old.ours }
     ensures boxes { HasBoxes setup.now outs.new }
     ensures pendings_spare { pendings.old.spare ≤ pendings.new.spare + 1 }

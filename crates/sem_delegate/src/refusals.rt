@@ -1,27 +1,26 @@
-ghost use Rattle.std.specs.Prelude.{◌≡◌, ◌++◌, IfSome, option_copied};
+ghost use Rattle.std.specs.Prelude.{◌≡◌, ◌++◌, option_copied};
 ghost use Rattle.std.specs.Option.{option_map};
 ghost use Rattle.sem_key.specs.Capability.{capability_of};
 ghost use Rattle.sem_key.specs.CapList.{cap_of};
-ghost use Rattle.sem_msg.specs.Codes.{code_number};
-ghost use Rattle.sem_msg.specs.Message.{IsRefusal};
 ghost use Rattle.sem_vpe.specs.VpeTable.{AreOurs, IsOurs};
 ghost use Rattle.sem_machine.specs.Sides.{no_side, own};
 ghost use Rattle.sem_machine.specs.Steps.{first_code};
-ghost use Rattle.sem_machine.specs.Calls.{delegate_tests, destination_tests, is_local_dead as is_local_dead_lem};
+ghost use Rattle.sem_machine.specs.Calls.{delegate_tests, destination_tests};
 ghost use Rattle.sem_machine.specs.Stores.{with_vpes};
 ghost use Rattle.sem_machine.specs.Upcalls.{parent_tests};
 ghost use Rattle.sem_delegate.specs.Delegating.{owning};
 
 use sem_caps::Caps;
-use sem_key::{Cap, Key, NUMBERS, Object};
+use sem_key::{Cap, Key, Object};
 use sem_msg::{Code, Setup, Slot};
 use sem_vpe::Vpes;
 
-// The capability at a selector of the VPE, which is of this kernel; none where nothing is held
-// there.
+// The capability at a selector of the VPE; none if the selector holds none. The VPE must be of this
+// kernel.
 pub fn own_cap<'a>(caps: &'a Caps, vpes: &Vpes, vpe: u16, sel: u8) -> Option<&'a Cap>
     requires { IsOurs vpes.now vpe }
-    ensures { option_map capability_of (option_copied result) ≡ own (owning caps.now vpes.now no_side) vpe sel }
+    ensures { option_map capability_of (option_copied result)
+        ≡ own (owning caps.now vpes.now no_side) vpe sel }
 {
     match vpes.selector(vpe, sel) {
         Slot::Held(key) => caps.get(key),
@@ -29,28 +28,7 @@ pub fn own_cap<'a>(caps: &'a Caps, vpes: &Vpes, vpe: u16, sel: u8) -> Option<&'a
     }
 }
 
-// Why the selector can't be the destination of a new capability.
-pub fn destination_refusal(vpes: &Vpes, vpe: u16, sel: u8) -> Option<Code>
-    requires { IsOurs vpes.now vpe }
-    ensures code { result ≡ first_code (destination_tests (with_vpes vpes.now.rows no_side) vpe sel) }
-    ensures refusal { IfSome result (λ code. IsRefusal (code_number code)) }
-{
-    match vpes.selector(vpe, sel) {
-        Slot::Held(_) | Slot::Promised => Some(Code::Occupied),
-        Slot::Free if vpes.next_number(vpe) >= NUMBERS => Some(Code::Numbers),
-        Slot::Free => None,
-    }
-}
-
-// Whether the VPE belongs to this kernel and is dead.
-fn is_local_dead(setup: &Setup, kernel: u32, vpes: &Vpes, vpe: u16) -> bool
-    requires { AreOurs setup.now kernel vpes.now }
-    ensures { result ≡ is_local_dead_lem setup.now kernel (with_vpes vpes.now.rows no_side) vpe }
-{
-    setup.kernel_of(vpe) == kernel && !vpes.alive(vpe)
-}
-
-// Why the VPE can't delegate what stands at `src` to the other one.
+// Why the VPE can't delegate the capability at `src` to the other one.
 pub fn delegate_refusal(
     setup: &Setup,
     kernel: u32,
@@ -62,7 +40,8 @@ pub fn delegate_refusal(
 ) -> Option<Code>
     requires home { AreOurs setup.now kernel vpes.now }
     requires ours { IsOurs vpes.now vpe }
-    ensures { result ≡ first_code (delegate_tests setup.now kernel (owning caps.now vpes.now no_side) vpe src other) }
+    ensures { result ≡ first_code
+        (delegate_tests setup.now kernel (owning caps.now vpes.now no_side) vpe src other) }
 {
     if other == vpe {
         return Some(Code::SelfExchange);
@@ -78,7 +57,7 @@ pub fn delegate_refusal(
     }
     match cap.object {
         Object::Serv { .. } | Object::Sess { .. } => Some(Code::BadKind),
-        _ if is_local_dead(setup, kernel, vpes, other) => Some(Code::Dead),
+        _ if vpes.is_local_dead(setup, kernel, other) => Some(Code::Dead),
         _ => None,
     }
 }
@@ -97,11 +76,12 @@ pub fn parent_refusal(caps: &Caps, parent: Key) -> Option<Code>
 // Why the capability of that key can't get a child at the selector of the VPE.
 pub fn consent_refusal(caps: &Caps, vpes: &Vpes, vpe: u16, parent: Key, sel: u8) -> Option<Code>
     requires { IsOurs vpes.now vpe }
-    ensures { result ≡ first_code (parent_tests (cap_of caps.now.caps parent) ++ destination_tests (with_vpes vpes.now.rows no_side) vpe sel) }
+    ensures { result ≡ first_code (parent_tests (cap_of caps.now.caps parent)
+        ++ destination_tests (with_vpes vpes.now.rows no_side) vpe sel) }
 {
     match caps.get(parent) {
         None => Some(Code::Gone),
-        Some(held) if held.mark.is_none() => destination_refusal(vpes, vpe, sel),
+        Some(held) if held.mark.is_none() => vpes.destination_refusal(vpe, sel),
         Some(_) => Some(Code::Revoking),
     }
 }

@@ -11,15 +11,14 @@ ghost use Rattle.sem_machine.specs.Stores.{with_caps, with_outs, with_parks};
 ghost use Rattle.sem_delegate.specs.Delegating.{CanGrant, HasCode, HasRoomFor, resuming};
 
 use crate::messages::{acknowledgement, tell_owner};
-use crate::outcomes::answered;
 use crate::refusals::parent_refusal;
 use sem_caps::Caps;
 use sem_key::Key;
 use sem_msg::{Code, Outboxes, Outcome, Parked, Setup};
 use sem_park::Park;
 
-/// A delegate whose answer is there ends: the child is granted, or, where the parent is being
-/// revoked or is gone, it is refused; the kernel of the child is told. Takes no memory.
+/// A delegate with an answer ends: the child is granted, or, if the parent is being revoked or is
+/// gone, the call is refused; the kernel of the child is told.
 #[tactic(auto, unfolding(sem_machine::specs::Resumes::resume_row))]
 pub fn delegate_resume(
     setup: &Setup,
@@ -32,7 +31,9 @@ pub fn delegate_resume(
     requires waits { CanGrant setup.now caps.old (state_of park.old vpe) }
     requires boxes { HasBoxes setup.now outs.old }
     requires spare { 0 < outs.old.spare }
-    ensures row { (s : Side) → record { side = resuming caps.new park.new outs.new s; outcome = result } ≡ resume_row setup.now (resuming caps.old park.old outs.old s) vpe }
+    ensures row { (s : Side) →
+        record { side = resuming caps.new park.new outs.new s; outcome = result }
+        ≡ resume_row setup.now (resuming caps.old park.old outs.old s) vpe }
     ensures boxes { HasBoxes setup.now outs.new }
     ensures caps_spare { caps.new.spare ≡ caps.old.spare }
     ensures spare { outs.old.spare ≤ outs.new.spare + 1 }
@@ -51,14 +52,17 @@ fn grant(setup: &Setup, parent: Key, key: Key, caps: &mut Caps, outs: &mut Outbo
     requires owner { owner_of_lem setup.now key < setup.now.kernels }
     requires boxes { HasBoxes setup.now outs.old }
     requires spare { 0 < outs.old.spare }
-    ensures row { (s : Side) → record { side = with_caps caps.new.caps (with_outs outs.new.boxes s); outcome = result } ≡ delegate_resumed setup.now parent key (cap_of caps.old.caps parent) (with_caps caps.old.caps (with_outs outs.old.boxes s)) }
+    ensures row { (s : Side) →
+        record { side = with_caps caps.new.caps (with_outs outs.new.boxes s); outcome = result }
+        ≡ delegate_resumed setup.now parent key (cap_of caps.old.caps parent)
+        (with_caps caps.old.caps (with_outs outs.old.boxes s)) }
     ensures boxes { HasBoxes setup.now outs.new }
     ensures caps_spare { caps.new.spare ≡ caps.old.spare }
     ensures spare { outs.old.spare ≤ outs.new.spare + 1 }
 {
     if let Some(code) = parent_refusal(caps, parent) {
         tell_owner(setup, key, acknowledgement(key, false), outs);
-        return answered(code);
+        return Outcome::answered(code);
     }
     caps.link(parent, key);
     tell_owner(setup, key, acknowledgement(key, true), outs);
@@ -70,12 +74,14 @@ fn grant(setup: &Setup, parent: Key, key: Key, caps: &mut Caps, outs: &mut Outbo
     }
 }
 
-/// A call that has its code ends, and is answered with it. Takes no memory.
+/// A call that has its code ends, and the code answers it.
 #[tactic(auto, unfolding(sem_machine::specs::Resumes::resume_row))]
 pub fn ready_resume(vpe: u16, park: &mut Park) -> Outcome
     requires vpe { vpe < VPES }
     requires ready { HasCode (state_of park.old vpe) }
-    ensures row { (T : SetupOf) (s : Side) → record { side = with_parks park.new s; outcome = result } ≡ resume_row T (with_parks park.old s) vpe }
+    ensures row { (T : SetupOf) (s : Side) →
+        record { side = with_parks park.new s; outcome = result }
+        ≡ resume_row T (with_parks park.old s) vpe }
 {
     let state = park.state(vpe);
     park.clear(vpe);

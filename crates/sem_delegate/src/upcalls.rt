@@ -1,6 +1,7 @@
 ghost use Rattle.std.specs.Prelude.{◌≡◌, ◌<◌, ◌≤◌, ◌+◌, true};
 ghost use Rattle.sem_msg.specs.declared.state.Ask.TheVariants.{Delegate as DelegateAsk};
-ghost use Rattle.sem_msg.specs.Lookups.{is_declared, kernel_of as kernel_of_lem, owner_of as owner_of_lem};
+ghost use Rattle.sem_msg.specs.Lookups.{is_declared, kernel_of as kernel_of_lem};
+ghost use Rattle.sem_msg.specs.Lookups.{owner_of as owner_of_lem};
 ghost use Rattle.sem_msg.specs.Outboxes.{HasBoxes};
 ghost use Rattle.sem_vpe.specs.VpeTable.{AreOurs};
 ghost use Rattle.sem_machine.specs.Sides.{Side};
@@ -17,9 +18,10 @@ use sem_park::Park;
 use sem_vpe::Vpes;
 
 /// A VPE was asked to take a child of the capability `parent`, to stand at the selector `sel`, and
-/// the ask was just taken out. It is dropped where nobody waits for it any more; it is denied as
-/// the setup says; else, unless a test refuses it, the child is installed at once, or, where the
-/// delegator is a VPE of another kernel, it is prepared and that kernel is told. Takes no memory.
+/// the ask was just taken out. If the delegator is of this kernel and no longer waits, the ask is
+/// dropped. If the setup says so, it is denied. Otherwise, unless a test refuses it, the child is
+/// installed at once, or, if the delegator is a VPE of another kernel, it is prepared and that
+/// kernel is told.
 pub fn delegate_upcall(
     setup: &Setup,
     kernel: u32,
@@ -43,7 +45,13 @@ pub fn delegate_upcall(
     requires caps_spare { 0 < caps.old.spare }
     requires pendings_spare { 0 < pendings.old.spare }
     requires spare { 0 < outs.old.spare }
-    ensures row { (s : Side) → record { side = consenting caps.new vpes.new park.new pendings.new outs.new s; outcome = result } ≡ ask_decided setup.now kernel vpe (DelegateAsk parent object sel) (consenting caps.old vpes.old park.old pendings.old outs.old s) }
+    ensures row { (s : Side) →
+        record {
+          side = consenting caps.new vpes.new park.new pendings.new outs.new s;
+          outcome = result;
+        }
+        ≡ ask_decided setup.now kernel vpe (DelegateAsk parent object sel)
+        (consenting caps.old vpes.old park.old pendings.old outs.old s) }
     ensures ours { vpes.new.ours ≡ vpes.old.ours }
     ensures boxes { HasBoxes setup.now outs.new }
     ensures caps_spare { caps.old.spare ≤ caps.new.spare + 1 }

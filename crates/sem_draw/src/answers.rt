@@ -1,10 +1,10 @@
-// What a program that draws is asked for, and what it writes.
+// What a drawing program is asked for, and what it writes.
 use std::alloc::Global;
 
 /// How a picture is written.
 #[derive(Clone, Copy, Debug, PartialEq, Eq)]
 pub enum Picture {
-    /// As text with box characters.
+    /// As text with box-drawing characters.
     Boxes,
     /// As text without them.
     Plain,
@@ -18,11 +18,11 @@ pub enum Ending {
     Done,
     /// The input is refused.
     Refused,
-    /// The words ask for what the input does not have.
+    /// The words ask for something that the input does not have.
     WrongWords,
 }
 
-/// What is written on standard output and on standard error.
+/// The text for standard output and the text for standard error. No call of it takes memory.
 #[derive(Debug, Drop)]
 pub struct Answer {
     pub ending: Ending,
@@ -31,7 +31,7 @@ pub struct Answer {
 }
 
 impl Answer {
-    /// An answer on standard output. Takes no memory.
+    /// An answer for standard output.
     pub fn done(alloc: Global, out: String) -> Answer {
         Answer {
             ending: Ending::Done,
@@ -40,7 +40,7 @@ impl Answer {
         }
     }
 
-    /// An answer on standard error. Takes no memory.
+    /// An answer for standard error.
     pub fn failed(alloc: Global, ending: Ending, error: String) -> Answer {
         Answer {
             ending,

@@ -3,8 +3,7 @@ use crate::OutOfMemory;
 use crate::table::Column;
 use std::alloc::Global;
 
-/// Whose a part of a bar is: its colour, the number of the one who owns it, and the number of what
-/// lies there.
+/// The owner of a part of a bar: its colour, the owner's number, and the number of what lies there.
 #[derive(Clone, Copy, Debug, PartialEq, Eq)]
 pub struct Owner {
     pub color: usize,
@@ -12,7 +11,7 @@ pub struct Owner {
     pub number: u64,
 }
 
-/// A part of a bar, from where on and how long; none owns it where nothing lies there.
+/// A part of a bar: its beginning, its length, and its owner; no owner if nothing lies there.
 #[derive(Clone, Copy, Debug)]
 pub struct Stretch {
     pub begin: u64,
@@ -20,20 +19,20 @@ pub struct Stretch {
     pub owner: Option<Owner>,
 }
 
-/// A line that stands below a bar and along it, and what is said of it.
+/// A line below a bar and along it, and the text about it.
 #[derive(Debug, Drop)]
 pub struct Span {
     pub stretch: Stretch,
     pub text: String,
 }
 
-/// A bar with its table, which has a row for each stretch, and one of what stands below.
+/// A bar with its table, which has a row for each stretch, and a table below.
 #[derive(Debug, Drop)]
 pub struct Bar {
     pub begin: u64,
     pub len: u64,
     pub title: String,
-    /// What text shows, in equal parts of the bar, and what is said of how long these are.
+    /// How large the equal parts are that the text picture shows.
     pub scale: String,
     pub cells: Vec<Option<Owner>>,
     pub stretches: Vec<Stretch>,
@@ -43,13 +42,13 @@ pub struct Bar {
 }
 
 impl Bar {
-    /// Where it ends.
+    /// The address after its last one.
     pub fn end(&self) -> u64 {
         self.begin.saturating_add(self.len)
     }
 }
 
-/// The name of the one who owns a part.
+/// The name of a part's owner.
 pub fn group_text(alloc: Global, owner: Owner) -> Result<String, OutOfMemory> {
     let group = owner.group;
     format!(in alloc; "v{group}")

@@ -6,26 +6,26 @@ use crate::svg::{Point, push_head, push_line, push_rect, push_tail, push_text};
 use crate::table::{Column, row_count};
 use std::alloc::Global;
 
-/// Where the first bar is.
+/// The place of the first bar.
 const EDGE: u64 = 16;
 
-/// How long and how high a bar is.
+/// The length and the height of a bar.
 const LENGTH: u64 = 640;
 
 const HEIGHT: u64 = 40;
 
-/// How high a row of a table is, and how far what belongs together stands apart.
+/// The height of a table row, and the gap between things that belong together.
 const ROW: u64 = 22;
 
 const GAP: u64 = 14;
 
-/// How many pixels a character has.
+/// The pixels of a character.
 const CHARACTER: u64 = 8;
 
-/// How many colours there are.
+/// The number of colours.
 const COLORS: usize = 7;
 
-/// How the classes look. The colours differ in lightness too.
+/// The style of the classes. The colours differ in lightness too.
 const STYLE: &str =
     "text{font:13px 'DejaVu Sans Mono',Menlo,Consolas,monospace;fill:#1f2430}.title{font-weight:bold;fill:#26418f}.middle{text-anchor:middle}.right{text-anchor:end}.head{fill:#7a8194}.head-right{fill:#7a8194;text-anchor:end}.tick{stroke:#8d95a8}.none{fill:#f6f7fa;stroke:#a0a4ae;stroke-dasharray:2 3}.c0{fill:#a9d0f5;stroke:#1668c1}.c1{fill:#f6c667;stroke:#8a5a00}.c2{fill:#8fd3bd;stroke:#0a6b4f}.c3{fill:#ecb6d3;stroke:#96376d}.c4{fill:#f5ef9a;stroke:#7d7400}.c5{fill:#e5946c;stroke:#8c3a10}.c6{fill:#c9ccd4;stroke:#4d5362}";
 
@@ -45,12 +45,12 @@ fn class(owner: Option<Owner>) -> &'static str {
     }
 }
 
-// How many pixels so many bytes of text have.
+// The pixels of that many bytes of text.
 fn text_width(bytes: usize) -> u64 {
     (bytes as u64).saturating_mul(CHARACTER)
 }
 
-// How far below the top of a row its text stands.
+// The baseline of a row's text, given the top of the row.
 fn base(y: u64) -> u64 {
     y.saturating_add(15)
 }
@@ -68,7 +68,7 @@ pub fn bars_as_svg(alloc: Global, bars: &[Bar]) -> Result<String, OutOfMemory> {
     Ok(out)
 }
 
-// How wide and how high the picture is.
+// The width and the height of the picture.
 fn size(bars: &[Bar]) -> Point {
     let mut size = Point {
         x: LENGTH.saturating_add(EDGE.saturating_mul(2)),
@@ -81,7 +81,7 @@ fn size(bars: &[Bar]) -> Point {
     size
 }
 
-// Where a bar with all that belongs to it ends at the right.
+// The right end of a bar with all that belongs to it.
 fn width(bar: &Bar) -> u64 {
     let title = EDGE.saturating_add(text_width(bar.title.len()));
     let mut width = title.max(column_x(bar.rows.as_slice(), bar.rows.len()));
@@ -91,7 +91,7 @@ fn width(bar: &Bar) -> u64 {
     width
 }
 
-// How high a bar is with all that belongs to it.
+// The height of a bar with all that belongs to it.
 fn height(bar: &Bar) -> u64 {
     rows_y(bar, 0)
         .saturating_add(ROW.saturating_mul(row_count(bar.rows.as_slice()) as u64))
@@ -99,26 +99,26 @@ fn height(bar: &Bar) -> u64 {
         .saturating_add(GAP.saturating_mul(2))
 }
 
-// How far below the top the spans of a bar begin.
+// The top of a bar's spans, given the top of the bar.
 fn spans_y(y: u64) -> u64 {
     y.saturating_add(ROW)
         .saturating_add(HEIGHT)
         .saturating_add(ROW)
 }
 
-// Where the table of a bar begins.
+// The top of a bar's table.
 fn rows_y(bar: &Bar, y: u64) -> u64 {
     spans_y(y)
         .saturating_add(ROW.saturating_mul(bar.spans.len() as u64))
         .saturating_add(GAP)
 }
 
-// Where what is said of spans begins.
+// The left end of the texts about spans.
 fn span_x() -> u64 {
     EDGE.saturating_add(LENGTH).saturating_add(GAP)
 }
 
-// Where an address of a bar is.
+// The place of an address of a bar.
 fn address_x(bar: &Bar, address: u64) -> u64 {
     let far = address.saturating_sub(bar.begin).min(bar.len);
     let scaled = far.saturating_mul(LENGTH) / bar.len.max(1);
@@ -145,7 +145,7 @@ fn push_bar(alloc: Global, out: &mut String, bar: &Bar, y: u64) -> Result<(), Ou
     push_rows(alloc, out, bar, rows_y(bar, y))
 }
 
-// Appends a part of a bar, with its names where they fit.
+// Appends a part of a bar, with its names if they fit.
 fn push_stretch(
     alloc: Global,
     out: &mut String,
@@ -181,15 +181,15 @@ fn push_stretch(
     push_text(alloc, out, "middle", lower, number.as_str())
 }
 
-// Where a part of a bar is, and how many pixels it has, at least two.
+// The place of a part of a bar, and its pixels, at least two.
 fn extent(bar: &Bar, stretch: &Stretch, y: u64) -> (Point, u64) {
     let x = address_x(bar, stretch.begin);
     let end = address_x(bar, stretch.begin.saturating_add(stretch.len));
     (Point { x, y }, end.saturating_sub(x).max(2))
 }
 
-// Appends the address below the beginning of a part, where there is room from `free` on; from where
-// on there is room then.
+// Appends the address below the beginning of a part, if there is room from `free` on. Returns where
+// there is room then.
 fn push_tick(
     alloc: Global,
     out: &mut String,
@@ -220,7 +220,7 @@ fn push_tick(
     Ok(x.saturating_add(text_width(text.len())).saturating_add(GAP))
 }
 
-// Appends a line below a bar, and what is said of it.
+// Appends a line below a bar, and the text about it.
 fn push_span(
     alloc: Global,
     out: &mut String,
@@ -238,7 +238,7 @@ fn push_span(
     push_text(alloc, out, "text", text, span.text.as_str())
 }
 
-// Where a column of a table begins; behind the last one, where the table ends.
+// The left end of a table column; after the last one, the end of the table.
 fn column_x(table: &[Column], place: usize) -> u64 {
     let mut x = EDGE.saturating_add(24);
     for column in table.iter().take(place) {

@@ -5,21 +5,21 @@ use crate::lines::{WIDTH, number_text, push_blanks, push_left, wrapped};
 use crate::table::{Column, push_table_row, row_count};
 use std::alloc::Global;
 
-/// How many columns a bar has at most, which is also how many parts of it are shown.
+/// The most columns of a bar, and so the most parts of it that are shown.
 pub const CELLS: usize = 64;
 
-/// How far a bar stands to the right.
+/// The columns to the left of a bar.
 const EDGE: usize = 2;
 
-/// How many columns the name of a line has.
+/// The columns of a line's name.
 const NAME: usize = 7;
 
-/// How the parts of the colours are drawn, again from the first where there are more.
+/// The characters of the colours; with more colours they begin again.
 const SHADES: [char; 4] = ['█', '▒', '▓', '░'];
 
 const PLAIN: [char; 4] = ['#', '=', '%', '+'];
 
-// The bar of text: which character a part has.
+// The character of a part in the text picture.
 fn shade(owner: Option<Owner>, is_plain: bool) -> char {
     match (owner, is_plain) {
         (None, false) => '·',
@@ -64,7 +64,7 @@ fn push_bar(alloc: Global, out: &mut String, bar: &Bar, is_plain: bool) -> Resul
     push_notes(out, bar.notes.as_slice())
 }
 
-// How many columns a part has.
+// The number of columns of a part.
 fn columns(bar: &Bar) -> usize {
     CELLS / bar.cells.len().max(1)
 }
@@ -75,8 +75,8 @@ fn push_name(out: &mut String, name: &str) -> Result<(), OutOfMemory> {
     push_left(out, name, NAME)
 }
 
-// Appends a line of names for the parts of a bar: of those who own them, or of what lies there. A
-// name stands where it fits.
+// Appends a line of names for the parts of a bar: of their owners, or of what lies there. A name
+// stands where it fits.
 fn push_names(
     alloc: Global,
     out: &mut String,
@@ -107,7 +107,7 @@ fn push_names(
     push_trimmed(out, line.as_str())
 }
 
-// How many columns the parts have that are as the first is.
+// How many columns the parts equal to the first have.
 fn room(cells: &[Option<Owner>], columns: usize) -> usize {
     let mut room = 0usize;
     for cell in cells {
@@ -141,7 +141,7 @@ fn push_rows(out: &mut String, bar: &Bar, is_plain: bool) -> Result<(), OutOfMem
     Ok(())
 }
 
-// Appends the table that stands below, if it has rows.
+// Appends the table below, if it has rows.
 fn push_notes(out: &mut String, table: &[Column]) -> Result<(), OutOfMemory> {
     let count = row_count(table);
     if count == 0 {

@@ -1,34 +1,34 @@
 // The places of a line of a text picture.
 use crate::OutOfMemory;
 
-/// How an upright line is drawn.
+/// How a vertical line is drawn.
 #[derive(Clone, Copy, Debug, PartialEq, Eq)]
 pub enum Upright {
     /// No lifeline.
     None,
-    /// That of a kernel.
+    /// The lifeline of a kernel.
     Kernel,
-    /// That of a VPE.
+    /// The lifeline of a VPE.
     Idle,
-    /// That of a VPE that waits.
+    /// The lifeline of a VPE that waits.
     Waiting,
     /// A message on its way.
     Message,
 }
 
-/// One place: which lines leave it, and a sign over them.
+/// One place: the lines that leave it, and a sign over them.
 #[derive(Clone, Copy, Debug)]
 pub struct Cell {
     pub above: Upright,
     pub below: Upright,
     pub left: bool,
     pub right: bool,
-    /// Whether the level line is that of a message.
+    /// Whether the horizontal line is that of a message.
     pub is_message: bool,
     pub sign: Sign,
 }
 
-/// What stands over the lines of a place.
+/// The sign over the lines of a place.
 #[derive(Clone, Copy, Debug, PartialEq, Eq)]
 pub enum Sign {
     None,
@@ -39,7 +39,7 @@ pub enum Sign {
 }
 
 impl Cell {
-    /// Nothing.
+    /// A place without lines and sign.
     pub fn empty() -> Cell {
         Cell {
             above: Upright::None,
@@ -94,7 +94,7 @@ impl Cell {
     }
 }
 
-// A place that only a level line crosses, or none.
+// A place that only a horizontal line crosses, or none.
 fn level(left: bool, right: bool, is_message: bool) -> char {
     match (left || right, is_message) {
         (false, _) => ' ',
@@ -103,7 +103,7 @@ fn level(left: bool, right: bool, is_message: bool) -> char {
     }
 }
 
-// A place that an upright line crosses.
+// A place that a vertical line crosses.
 fn crossed(line: Upright, left: bool, right: bool) -> char {
     match (line, left, right) {
         (Upright::Kernel, false, false) => '║',

@@ -1,9 +1,9 @@
-/// Whose lifeline a lane is.
+/// The owner of a lane's lifeline.
 #[derive(Clone, Copy, Debug, PartialEq, Eq)]
 pub enum Lane {
-    /// That of a kernel.
+    /// A kernel.
     Kernel { number: u32 },
-    /// That of a VPE, which stands behind its kernel.
+    /// A VPE; its lane comes after its kernel's.
     Vpe { number: u16 },
 }
 
@@ -25,7 +25,7 @@ pub enum Mark {
         kernel: usize,
         is_answered: bool,
     },
-    /// A kernel asks a VPE.
+    /// A kernel asks a VPE for its consent.
     Ask {
         kernel: usize,
         vpe: usize,
@@ -35,21 +35,21 @@ pub enum Mark {
         kernel: usize,
         vpe: usize,
     },
-    /// A message leaves a kernel; `until` is the row in which it arrives, by its number.
+    /// A message leaves a kernel; `until` is the number of the row in which it arrives.
     Sent {
         from: usize,
         to: usize,
         until: Option<u64>,
         family: Family,
     },
-    /// A message arrives that left in the row of the number `since`.
+    /// A message arrives that left in the row of number `since`.
     Arrived {
         from: usize,
         to: usize,
         since: u64,
         family: Family,
     },
-    /// A kernel does something itself.
+    /// A kernel does something on its own.
     Dot {
         kernel: usize,
     },
@@ -66,7 +66,7 @@ pub enum Mark {
 pub struct Row {
     pub number: u64,
     pub mark: Mark,
-    /// The lane that ends behind this row.
+    /// The lane that ends after this row.
     pub ends: Option<usize>,
     pub label: String,
 }
@@ -84,9 +84,9 @@ pub struct Early {
 #[derive(Debug, Drop)]
 pub struct Chart {
     pub lanes: Vec<Lane>,
-    /// Which VPEs wait before the first row, by the places of their lanes.
+    /// The lanes, by place, of the VPEs that wait before the first row.
     pub waiting: Vec<usize>,
-    /// Which VPEs have ended before the first row, by the places of their lanes.
+    /// The lanes, by place, of the VPEs that ended before the first row.
     pub ended: Vec<usize>,
     pub early: Vec<Early>,
     pub rows: Vec<Row>,

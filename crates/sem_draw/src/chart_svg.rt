@@ -1,24 +1,24 @@
-// A chart as SVG: time goes down, a message is a slanted arrow from where it leaves to where it
+// A chart as SVG. Time goes down; a message is a slanted arrow from where it leaves to where it
 // arrives.
 use crate::OutOfMemory;
 use crate::chart::{Chart, Early, Family, Lane, Mark, Row};
 use crate::svg::{Point, push_circle, push_head, push_line, push_rect, push_tail, push_text};
 use std::alloc::Global;
 
-/// How high a row is, and where the first one is.
+/// The height of a row, and the place of the first one.
 const ROW: u64 = 22;
 
 const TOP: u64 = 74;
 
-/// How far lanes stand apart, and where the first one is.
+/// The distance between lanes, and the place of the first one.
 const STEP: u64 = 64;
 
 const LEFT: u64 = 96;
 
-/// How many pixels a character of a label has.
+/// The pixels of a label's character.
 const CHARACTER: u64 = 8;
 
-/// How the classes look, and the heads of the arrows.
+/// The style of the classes, and the heads of the arrows.
 const STYLE: &str =
     "text{font:13px 'DejaVu Sans Mono',Menlo,Consolas,monospace;fill:#1f2430}.number{fill:#7a8194;text-anchor:end}.kernel-name{font-weight:bold;fill:#26418f}.vpe-name{text-anchor:middle;fill:#3c4252}.group{fill:#f3f5fa;stroke:#d8deec}.grid{stroke:#e3e7f0}.kernel{stroke:#26418f;stroke-width:3}.vpe{stroke:#8d95a8;stroke-width:1.5}.waits{fill:#ffd98a;stroke:#b57a00}.local{stroke:#3c4252;stroke-width:1.5;marker-end:url(#local)}.both{stroke:#3c4252;stroke-width:1.5;marker-end:url(#local);marker-start:url(#local)}.obtain{stroke:#1668c1;stroke-width:2;marker-end:url(#obtain)}.delegate{stroke:#1b8a3a;stroke-width:2;marker-end:url(#delegate)}.revoke{stroke:#c62828;stroke-width:2;marker-end:url(#revoke)}.other{stroke:#7b3fb5;stroke-width:2;marker-end:url(#other)}.dot{fill:#26418f}.kill{stroke:#c62828;stroke-width:3}";
 
@@ -26,22 +26,22 @@ const STYLE: &str =
 const HEADS: &str =
     "<defs><marker id=\"local\" viewBox=\"0 0 8 8\" refX=\"8\" refY=\"4\" markerWidth=\"9\" markerHeight=\"9\" markerUnits=\"userSpaceOnUse\" orient=\"auto-start-reverse\"><path d=\"M0 0L8 4L0 8z\" fill=\"#3c4252\"/></marker><marker id=\"obtain\" viewBox=\"0 0 8 8\" refX=\"8\" refY=\"4\" markerWidth=\"11\" markerHeight=\"11\" markerUnits=\"userSpaceOnUse\" orient=\"auto\"><path d=\"M0 0L8 4L0 8z\" fill=\"#1668c1\"/></marker><marker id=\"delegate\" viewBox=\"0 0 8 8\" refX=\"8\" refY=\"4\" markerWidth=\"11\" markerHeight=\"11\" markerUnits=\"userSpaceOnUse\" orient=\"auto\"><path d=\"M0 0L8 4L0 8z\" fill=\"#1b8a3a\"/></marker><marker id=\"revoke\" viewBox=\"0 0 8 8\" refX=\"8\" refY=\"4\" markerWidth=\"11\" markerHeight=\"11\" markerUnits=\"userSpaceOnUse\" orient=\"auto\"><path d=\"M0 0L8 4L0 8z\" fill=\"#c62828\"/></marker><marker id=\"other\" viewBox=\"0 0 8 8\" refX=\"8\" refY=\"4\" markerWidth=\"11\" markerHeight=\"11\" markerUnits=\"userSpaceOnUse\" orient=\"auto\"><path d=\"M0 0L8 4L0 8z\" fill=\"#7b3fb5\"/></marker></defs>\n";
 
-// Where a lane is.
+// The place of a lane.
 fn lane_x(lane: usize) -> u64 {
     (lane as u64).saturating_mul(STEP).saturating_add(LEFT)
 }
 
-// Where a row is.
+// The place of a row.
 fn row_y(row: usize) -> u64 {
     (row as u64).saturating_mul(ROW).saturating_add(TOP)
 }
 
-// Where the labels begin.
+// The left end of the labels.
 fn label_x(chart: &Chart) -> u64 {
     lane_x(chart.lanes.len()).saturating_sub(16)
 }
 
-// How wide and how high the picture is.
+// The width and the height of the picture.
 fn size(chart: &Chart) -> Point {
     let mut longest = 8u64;
     for row in chart.rows.as_slice() {
@@ -54,7 +54,7 @@ fn size(chart: &Chart) -> Point {
     }
 }
 
-// Where the lifelines end.
+// The lower end of the lifelines.
 fn bottom(chart: &Chart) -> u64 {
     row_y(chart.rows.len())
 }
@@ -111,7 +111,7 @@ fn push_groups(alloc: Global, out: &mut String, chart: &Chart) -> Result<(), Out
     Ok(())
 }
 
-// Appends the name of a lane. The field of a kernel that stands alone has room for a short one.
+// Appends the name of a lane. The field of a kernel without VPEs has room for a short one.
 fn push_name(
     alloc: Global,
     out: &mut String,
@@ -136,7 +136,7 @@ fn push_name(
     }
 }
 
-// How many lanes a kernel has with its VPEs, where its own is at that place.
+// How many lanes the kernel at that place has, its own and those of its VPEs.
 fn group_size(chart: &Chart, place: usize) -> usize {
     let mut count = 1usize;
     for lane in chart.lanes.as_slice().iter().skip(place.saturating_add(1)) {
@@ -172,7 +172,7 @@ fn push_grid(alloc: Global, out: &mut String, chart: &Chart) -> Result<(), OutOf
     Ok(())
 }
 
-// Appends the lifelines, and over them where VPEs wait.
+// Appends the lifelines, and over them the waits of VPEs.
 fn push_lifelines(alloc: Global, out: &mut String, chart: &Chart) -> Result<(), OutOfMemory> {
     for (place, lane) in chart.lanes.as_slice().iter().enumerate() {
         let class = match lane {
@@ -193,7 +193,7 @@ fn push_lifelines(alloc: Global, out: &mut String, chart: &Chart) -> Result<(), 
     Ok(())
 }
 
-// Where the lifeline of a lane ends.
+// The end of a lane's lifeline.
 fn end_of(chart: &Chart, lane: usize) -> u64 {
     for (place, row) in chart.rows.as_slice().iter().enumerate() {
         if row.ends == Some(lane) {
@@ -203,7 +203,7 @@ fn end_of(chart: &Chart, lane: usize) -> u64 {
     bottom(chart)
 }
 
-// Appends where the VPE of a lane waits.
+// Appends the waits of a lane's VPE.
 fn push_waits(
     alloc: Global,
     out: &mut String,
@@ -243,7 +243,7 @@ fn push_waits(
     }
 }
 
-// Appends one time for which the VPE of a lane waits.
+// Appends one wait of a lane's VPE.
 fn push_wait(
     alloc: Global,
     out: &mut String,
@@ -262,7 +262,7 @@ fn push_wait(
     push_rect(alloc, out, "waits", at, size)
 }
 
-// Appends a message that left before the first row, where it arrives in the chart.
+// Appends a message that left before the first row, at the place where it arrives in the chart.
 fn push_early(
     alloc: Global,
     out: &mut String,
@@ -336,7 +336,7 @@ fn push_mark(
     }
 }
 
-// Appends a level arrow between two lanes.
+// Appends a horizontal arrow between two lanes.
 fn push_level(
     alloc: Global,
     out: &mut String,
@@ -355,8 +355,8 @@ fn push_level(
     push_line(alloc, out, class, from, to)
 }
 
-// Where the message that arrives in the row of that number arrives; below the last row where there
-// is no such row.
+// The place where a message arrives in the row of that number; below the last row if there is no
+// such row.
 fn arrival(chart: &Chart, number: u64, to: usize) -> Point {
     let place = match chart
         .rows
@@ -372,7 +372,7 @@ fn arrival(chart: &Chart, number: u64, to: usize) -> Point {
     }
 }
 
-// Where the arrow of a message ends that does not arrive in the chart.
+// The end of the arrow of a message that does not arrive in the chart.
 fn leaving(from: usize, to: usize, y: u64) -> Point {
     let x = lane_x(from);
     Point {

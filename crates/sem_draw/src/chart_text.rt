@@ -1,12 +1,12 @@
-// A chart as text. Row by row it is known which lifelines there are and which messages are on their
-// way.
+// A chart as text. For every row the code knows which lifelines there are and which messages are on
+// their way.
 use crate::OutOfMemory;
 use crate::cells::{Cell, Sign, Upright, push_cells};
 use crate::chart::{Chart, Lane, Mark, Row};
 use crate::lines::{WIDTH, number_text, push_blanks, push_right, wrapped};
 use std::alloc::Global;
 
-/// The fewest columns that are left to the labels.
+/// The fewest columns left for the labels.
 const LABEL: usize = 34;
 
 /// The most columns from a lane to the next one.
@@ -22,7 +22,7 @@ struct Track {
     column: usize,
 }
 
-// Where things stand, and what goes on.
+// The places of things, and the lines that go on.
 #[derive(Drop)]
 struct Layout {
     number_width: usize,
@@ -32,13 +32,13 @@ struct Layout {
     is_plain: bool,
 }
 
-// How many columns the numbers of the rows have.
+// The number of columns for the numbers of the rows.
 fn number_width(alloc: Global, chart: &Chart) -> Result<usize, OutOfMemory> {
     let last = chart.rows.last().map_or(0, |row| row.number);
     Ok(number_text(alloc, last)?.len().max(NUMBER))
 }
 
-// The most columns that the name of a lane has.
+// The most columns of a lane's name.
 fn longest_name(alloc: Global, chart: &Chart) -> Result<usize, OutOfMemory> {
     let mut longest = 0;
     for lane in chart.lanes.as_slice() {
@@ -47,7 +47,7 @@ fn longest_name(alloc: Global, chart: &Chart) -> Result<usize, OutOfMemory> {
     Ok(longest)
 }
 
-// How far lanes stand apart; none where they do not fit.
+// The distance between lanes; none if they do not fit.
 fn step(alloc: Global, chart: &Chart) -> Result<Option<usize>, OutOfMemory> {
     let numbers = number_width(alloc, chart)?;
     let room = WIDTH.saturating_sub(LABEL.saturating_add(numbers).saturating_add(4));
@@ -62,8 +62,8 @@ pub fn fits(alloc: Global, chart: &Chart) -> Result<bool, OutOfMemory> {
     Ok(step(alloc, chart)?.is_some())
 }
 
-/// The chart as text of 100 columns, with box characters or without. Where the lanes do not fit they
-/// are cut off.
+/// The chart as text of 100 columns, with box characters or without. Lanes that do not fit are cut
+/// off.
 pub fn chart_as_text(alloc: Global, chart: &Chart, is_plain: bool) -> Result<String, OutOfMemory> {
     let mut out = String::new(alloc);
     let mut layout = Layout {
@@ -98,7 +98,6 @@ fn first_lines(alloc: Global, chart: &Chart) -> Result<Vec<Upright>, OutOfMemory
     Ok(lines)
 }
 
-// The name of a lane.
 fn name(alloc: Global, lane: Lane) -> Result<String, OutOfMemory> {
     match lane {
         Lane::Kernel { number } => format!(in alloc; "K{number}"),
@@ -128,18 +127,17 @@ fn push_head(
 }
 
 impl Layout {
-    // The column of a lane.
     fn column(&self, lane: usize) -> usize {
         lane.saturating_mul(self.step).saturating_add(2)
     }
 
-    // How many columns the lanes have.
+    // The number of columns of the lanes.
     fn columns(&self) -> usize {
         self.column(self.lines.len())
     }
 }
 
-// A column beside the lane `from`, on the side of the lane `to`, in which no message goes down.
+// A column next to the lane `from`, towards the lane `to`, in which no message goes down.
 fn free_column(layout: &Layout, from: usize, to: usize) -> Option<usize> {
     let column = layout.column(from);
     for distance in (2..layout.step).chain(1..2) {
@@ -163,7 +161,7 @@ fn add_track(layout: &mut Layout, since: u64, column: Option<usize>) -> Result<(
     Ok(())
 }
 
-// The column of the message that left in that row, which goes down no more.
+// Takes the column of the message that left in that row; the message no longer goes down.
 fn take_track(layout: &mut Layout, since: u64) -> Option<usize> {
     let place = layout.tracks.iter().position(|track| track.since == since)?;
     if place < layout.tracks.len() {
@@ -188,7 +186,7 @@ fn standing(alloc: Global, layout: &Layout) -> Result<Vec<Cell>, OutOfMemory> {
     Ok(cells)
 }
 
-// Draws an upright line above and below a column.
+// Draws a vertical line above and below a column.
 fn set_upright(cells: &mut [Cell], column: usize, above: Upright, below: Upright) {
     if let Some(cell) = cells.get_mut(column) {
         cell.above = above;
@@ -196,7 +194,7 @@ fn set_upright(cells: &mut [Cell], column: usize, above: Upright, below: Upright
     }
 }
 
-// Draws a level line from a column to another.
+// Draws a horizontal line from a column to another.
 fn set_level(cells: &mut [Cell], from: usize, to: usize, is_message: bool) {
     let first = from.min(to);
     let last = from.max(to);
@@ -212,7 +210,7 @@ fn set_level(cells: &mut [Cell], from: usize, to: usize, is_message: bool) {
     }
 }
 
-// Puts the head of an arrow beside the column at which it ends, which it does not touch.
+// Puts the head of an arrow next to the column where it ends, without touching it.
 fn set_head(cells: &mut [Cell], from: usize, to: usize) {
     let (beside, sign) = if from < to {
         (to.saturating_sub(1), Sign::RightHead)
@@ -275,7 +273,7 @@ fn trim(out: &mut String) {
     }
 }
 
-// Draws what the row shows, and notes what goes on behind it.
+// Draws what the row shows, and notes what goes on after it.
 fn draw(cells: &mut [Cell], layout: &mut Layout, row: &Row) -> Result<(), OutOfMemory> {
     match row.mark {
         Mark::Call {
@@ -325,15 +323,15 @@ fn draw(cells: &mut [Cell], layout: &mut Layout, row: &Row) -> Result<(), OutOfM
     Ok(())
 }
 
-// The lifeline of a lane goes on so.
+// From here on the lifeline of a lane is that one.
 fn set_line(layout: &mut Layout, lane: usize, line: Upright) {
     if let Some(place) = layout.lines.get_mut(lane) {
         *place = line;
     }
 }
 
-// A message leaves the lane, and goes down where a column is free. Where it does not arrive in the
-// chart only its beginning is drawn.
+// Draws a message that leaves the lane, and goes down if a column is free. If it does not arrive in
+// the chart, only its beginning is drawn.
 fn send(
     cells: &mut [Cell],
     layout: &mut Layout,
@@ -365,7 +363,7 @@ fn send(
     }
 }
 
-// A message arrives at the lane.
+// Draws a message that arrives at the lane.
 fn arrive(cells: &mut [Cell], layout: &mut Layout, lanes: (usize, usize), since: u64) {
     let to = layout.column(lanes.1);
     match take_track(layout, since) {

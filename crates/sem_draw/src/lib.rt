@@ -1,5 +1,5 @@
-//! Pictures as text and as SVG: message charts, trees, bars and timelines. Nothing here knows what is
-//! drawn.
+//! Pictures as text and as SVG: message charts, trees, bars and timelines. This crate does not know
+//! what it draws.
 #![tactic(auto)]
 
 mod answers;

@@ -1,12 +1,12 @@
-// Pieces of text that stand in pictures. After want of memory each of these functions may have
-// appended a part.
+// Pieces of text in pictures. If memory is refused, each of these functions may have appended a
+// part.
 use crate::OutOfMemory;
 use std::alloc::Global;
 
-/// How many columns a text picture has.
+/// The columns of a text picture.
 pub const WIDTH: usize = 100;
 
-/// Appends so many blanks.
+/// Appends that many blanks.
 pub fn push_blanks(out: &mut String, count: usize) -> Result<(), OutOfMemory> {
     for _ in 0..count {
         out.push(' ')?;
@@ -14,7 +14,7 @@ pub fn push_blanks(out: &mut String, count: usize) -> Result<(), OutOfMemory> {
     Ok(())
 }
 
-/// Appends the number, with blanks before it where it is shorter than `width`.
+/// Appends the number, after blanks if it is shorter than `width`.
 pub fn push_right(
     alloc: Global,
     out: &mut String,
@@ -26,7 +26,7 @@ pub fn push_right(
     out.push_str(digits.as_str())
 }
 
-/// Appends the text, with blanks behind it where it is shorter than `width`.
+/// Appends the text, and then blanks if it is shorter than `width`.
 pub fn push_left(out: &mut String, text: &str, width: usize) -> Result<(), OutOfMemory> {
     out.push_str(text)?;
     push_blanks(out, width.saturating_sub(text.len()))
@@ -37,8 +37,8 @@ pub fn number_text(alloc: Global, number: u64) -> Result<String, OutOfMemory> {
     format!(in alloc; "{number}")
 }
 
-/// The text cut at blanks into pieces that have at most `width` bytes each, unless a word is longer;
-/// one empty piece where there is no word.
+/// The text, cut at blanks into pieces of at most `width` bytes each, unless a word is longer; one
+/// empty piece if there is no word.
 pub fn wrapped(alloc: Global, text: &str, width: usize) -> Result<Vec<String>, OutOfMemory> {
     let mut pieces = Vec::new(alloc);
     let mut piece = String::new(alloc);

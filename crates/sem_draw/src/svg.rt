@@ -1,15 +1,16 @@
-// Elements of an SVG picture. After want of memory each of these functions may have appended a part.
+// Elements of an SVG picture. If memory is refused, each of these functions may have appended a
+// part.
 use crate::OutOfMemory;
 use std::alloc::Global;
 
-/// Where a point is, in pixels from the left and from the top.
+/// A place in pixels from the left and from the top.
 #[derive(Clone, Copy, Debug)]
 pub struct Point {
     pub x: u64,
     pub y: u64,
 }
 
-/// Appends the text with the signs of markup written out.
+/// Appends the text with markup characters escaped.
 pub fn push_escaped(out: &mut String, text: &str) -> Result<(), OutOfMemory> {
     for c in text.chars() {
         match c {
@@ -45,7 +46,7 @@ pub fn push_tail(out: &mut String) -> Result<(), OutOfMemory> {
     out.push_str("</svg>\n")
 }
 
-/// Appends the beginning of a group that shows this text when it is pointed at.
+/// Appends the beginning of a group that shows this text under the pointer.
 pub fn push_hint(out: &mut String, text: &str) -> Result<(), OutOfMemory> {
     out.push_str("<g><title>")?;
     push_escaped(out, text)?;

@@ -3,8 +3,8 @@ use crate::OutOfMemory;
 use crate::lines::{push_blanks, push_left};
 use std::alloc::Global;
 
-/// A column of a table: what stands above it, its words from the first row on, and whether they
-/// stand at its right side.
+/// A column of a table: its heading, its words from the first row on, and whether they are aligned
+/// to the right. No call of it takes memory.
 #[derive(Debug, Drop)]
 pub struct Column {
     pub name: &'static str,
@@ -13,7 +13,7 @@ pub struct Column {
 }
 
 impl Column {
-    /// A column without words. Takes no memory.
+    /// A column without words.
     pub fn new(alloc: Global, name: &'static str, is_right: bool) -> Column {
         Column {
             name,
@@ -22,7 +22,7 @@ impl Column {
         }
     }
 
-    /// How many characters its longest word has, or its name.
+    /// The most characters of its words and its heading.
     pub fn width(&self) -> usize {
         let mut width = self.name.len();
         for word in self.words.as_slice() {
@@ -31,7 +31,7 @@ impl Column {
         width
     }
 
-    /// The word of a row, or its name where no row is asked for.
+    /// The word of a row, or the heading if no row is asked for.
     pub fn word(&self, row: Option<usize>) -> &str {
         match row {
             None => self.name,
@@ -40,12 +40,13 @@ impl Column {
     }
 }
 
-/// How many rows a table has.
+/// The number of rows of a table.
 pub fn row_count(table: &[Column]) -> usize {
     table.first().map_or(0, |column| column.words.len())
 }
 
-/// Appends a row, or the names of the columns. After want of memory a part may be appended.
+/// Appends a row, or the headings of the columns. If memory is refused, it may have appended a
+/// part.
 pub fn push_table_row(
     out: &mut String,
     table: &[Column],

@@ -1,8 +1,8 @@
-// Timelines: what happened to one thing, in its order.
+// Timelines: what happened to one thing, in order.
 use crate::tree::State;
 
-/// What happened: its number, none where it was so from the start; what is said of it; the line that
-/// stands beside it; and what has become of the thing by it.
+/// What happened: its number, or none if it was so from the start; the text about it; the line next
+/// to it; and the state of the thing since.
 #[derive(Debug, Drop)]
 pub struct Moment {
     pub number: Option<u64>,
@@ -11,7 +11,7 @@ pub struct Moment {
     pub state: State,
 }
 
-/// A timeline with so many numbers, from 0 on: the name of the thing, what is said of it, and its
+/// A timeline with that many numbers, from 0 on: the name of the thing, the text about it, and its
 /// moments in the order of their numbers.
 #[derive(Debug, Drop)]
 pub struct Timeline {
@@ -22,7 +22,7 @@ pub struct Timeline {
 }
 
 impl Timeline {
-    /// The number of the moment at that place; the end of the numbers behind the last one.
+    /// The number of the moment at that place; after the last one, the end of the numbers.
     pub fn begin(&self, place: usize) -> u64 {
         match self.moments.get(place) {
             Some(moment) => moment.number.unwrap_or(0).min(self.len),

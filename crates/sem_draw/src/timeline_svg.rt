@@ -6,34 +6,33 @@ use crate::timeline::{Moment, Timeline};
 use crate::tree::State;
 use std::alloc::Global;
 
-/// Where the picture begins.
+/// The left and upper edge of the picture.
 const EDGE: u64 = 16;
 
-/// How long and how high the bar is, and where it is.
+/// The length, the height and the place of the bar.
 const LENGTH: u64 = 640;
 
 const HEIGHT: u64 = 20;
 
 const BAR: u64 = 52;
 
-/// How high a row is, and where the first one is.
+/// The height of a row, and the place of the first one.
 const ROW: u64 = 26;
 
 const TOP: u64 = 124;
 
-/// Where the line is on which the moments stand.
+/// The place of the line that carries the moments.
 const RAIL: u64 = 96;
 
-/// How many pixels a character has, and how far apart what stands side by side is.
+/// The pixels of a character, and the gap between things side by side.
 const CHARACTER: u64 = 8;
 
 const GAP: u64 = 24;
 
-/// How the classes look.
+/// The style of the classes.
 const STYLE: &str =
     "text{font:13px 'DejaVu Sans Mono',Menlo,Consolas,monospace;fill:#1f2430}.name{font-weight:bold;fill:#26418f}.number{fill:#7a8194;text-anchor:end}.line,.tick-text{fill:#7a8194}.tick{stroke:#8d95a8}.none{fill:#ffffff;stroke:#c9ccd4;stroke-dasharray:2 3}.held{fill:#a9d0f5;stroke:#1668c1}.marked{fill:#f6c667;stroke:#b57a00}.way{fill:#bfe5c9;stroke:#1b8a3a;stroke-dasharray:4 3}.gone{fill:#f1f1f3;stroke:#a0a4ae;stroke-dasharray:2 3}";
 
-// The class of what has become of the thing.
 fn class(state: State) -> &'static str {
     match state {
         State::Held => "held",
@@ -43,22 +42,22 @@ fn class(state: State) -> &'static str {
     }
 }
 
-// How many pixels so many bytes of text have.
+// The pixels of that many bytes of text.
 fn text_width(bytes: usize) -> u64 {
     (bytes as u64).saturating_mul(CHARACTER)
 }
 
-// Where the row at that place is.
+// The place of the row at that place in the list.
 fn row_y(place: usize) -> u64 {
     (place as u64).saturating_mul(ROW).saturating_add(TOP)
 }
 
-// Where what is said of moments begins.
+// The left end of the texts about moments.
 fn text_x() -> u64 {
     RAIL.saturating_add(GAP)
 }
 
-// Where the lines beside it begin.
+// The left end of the lines next to them.
 fn line_x(timeline: &Timeline) -> u64 {
     let mut longest = 0usize;
     for moment in timeline.moments.as_slice() {
@@ -69,7 +68,7 @@ fn line_x(timeline: &Timeline) -> u64 {
         .saturating_add(GAP)
 }
 
-/// The timeline as an SVG picture: a bar that has all numbers, and below it a row for each moment.
+/// The timeline as an SVG picture: a bar of all numbers, and below it a row for each moment.
 pub fn timeline_as_svg(alloc: Global, timeline: &Timeline) -> Result<String, OutOfMemory> {
     let mut out = String::new(alloc);
     push_head(alloc, &mut out, size(timeline), STYLE)?;
@@ -92,7 +91,7 @@ pub fn timeline_as_svg(alloc: Global, timeline: &Timeline) -> Result<String, Out
     Ok(out)
 }
 
-// How wide and how high the picture is.
+// The width and the height of the picture.
 fn size(timeline: &Timeline) -> Point {
     let head = text_width(timeline.name.len().saturating_add(timeline.text.len()));
     let mut width = LENGTH.max(head.saturating_add(GAP));
@@ -106,13 +105,13 @@ fn size(timeline: &Timeline) -> Point {
     }
 }
 
-// Where a number is on the bar.
+// The place of a number on the bar.
 fn number_x(timeline: &Timeline, number: u64) -> u64 {
     let scaled = number.min(timeline.len).saturating_mul(LENGTH) / timeline.len.max(1);
     EDGE.saturating_add(scaled)
 }
 
-// Appends the bar: what had become of the thing by each number.
+// Appends the bar: the state of the thing at each number.
 fn push_bar(alloc: Global, out: &mut String, timeline: &Timeline) -> Result<(), OutOfMemory> {
     let whole = Point {
         x: LENGTH,
@@ -150,7 +149,7 @@ fn push_part(
     push_rect(alloc, out, class(state), Point { x, y: BAR }, size)
 }
 
-// Appends a number below the bar, where there is room from `free` on; from where on there is room
+// Appends a number below the bar, if there is room from `free` on. Returns where there is room
 // then.
 fn push_tick(
     alloc: Global,
@@ -181,7 +180,7 @@ fn push_tick(
     Ok(x.saturating_add(text_width(text.len())).saturating_add(8))
 }
 
-// Appends the line on which the moments stand, in parts from each to the next one.
+// Appends the line that carries the moments, in parts from each to the next one.
 fn push_rail(alloc: Global, out: &mut String, timeline: &Timeline) -> Result<(), OutOfMemory> {
     let count = timeline.moments.len();
     for (place, moment) in timeline.moments.as_slice().iter().enumerate() {
@@ -198,7 +197,7 @@ fn push_rail(alloc: Global, out: &mut String, timeline: &Timeline) -> Result<(),
     Ok(())
 }
 
-// Appends a moment: its number, its sign on the line, what is said of it, and the line beside it.
+// Appends a moment: its number, its sign on the line, the text about it, and the line next to it.
 fn push_moment(
     alloc: Global,
     out: &mut String,

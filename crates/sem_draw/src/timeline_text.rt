@@ -5,16 +5,16 @@ use crate::timeline::{Moment, Timeline};
 use crate::tree::State;
 use std::alloc::Global;
 
-/// The most columns of what is said of a moment.
+/// The most columns of the text about a moment.
 const TEXT: usize = 44;
 
 /// The fewest columns of the numbers.
 const NUMBER: usize = 5;
 
-/// What stands in the place of a number from the start on.
+/// The text in place of a number for the start.
 const START: &str = "start";
 
-// How many columns the numbers have, and what is said of moments.
+// The columns of the numbers, and of the texts about moments.
 #[derive(Clone, Copy)]
 struct Widths {
     number: usize,
@@ -44,7 +44,7 @@ pub fn timeline_as_text(
     Ok(out)
 }
 
-// How many columns the numbers have, and what is said of moments.
+// The columns of the numbers, and of the texts about moments.
 fn measured(alloc: Global, timeline: &Timeline) -> Result<Widths, OutOfMemory> {
     let mut widths = Widths {
         number: NUMBER,
@@ -60,7 +60,7 @@ fn measured(alloc: Global, timeline: &Timeline) -> Result<Widths, OutOfMemory> {
     Ok(widths)
 }
 
-// The line that leads down from a moment.
+// The line that goes down from a moment.
 fn stem(state: State, is_plain: bool) -> char {
     match (state, is_plain) {
         (State::OnItsWay, false) => '╎',
@@ -103,12 +103,12 @@ fn push_moment(
     Ok(())
 }
 
-// The piece at that place; nothing where there is none.
+// The piece at that place; empty if there is none.
 fn piece(pieces: &[String], at: usize) -> &str {
     pieces.get(at).map_or("", |piece| piece.as_str())
 }
 
-// Appends the number of a moment with blanks around it, or blanks alone in its lines but the first.
+// Appends the number of a moment with blanks around it; only blanks in its later lines.
 fn push_number(
     alloc: Global,
     out: &mut String,

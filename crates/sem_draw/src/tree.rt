@@ -1,4 +1,4 @@
-// Nodes in an order in which each stands behind its parent, and the walk through them.
+// Nodes, each after its parent, and the walk through them.
 use crate::OutOfMemory;
 use std::alloc::Global;
 
@@ -11,9 +11,9 @@ pub enum State {
     Gone,
 }
 
-/// A node of a forest: the place of its parent among the nodes before it, none of a root; its name,
-/// what is said of it, what an SVG picture says of it when it is pointed at, and what has become of
-/// it.
+/// A node of a forest: the place of its parent among the earlier nodes, or none for a root; its
+/// name, the text about it, the text that an SVG picture shows under the pointer, and what has
+/// become of it.
 #[derive(Debug, Drop)]
 pub struct Node {
     pub parent: Option<usize>,
@@ -23,7 +23,7 @@ pub struct Node {
     pub state: State,
 }
 
-/// A place of the walk: the place of the node, how many nodes stand above it, and whether it is the
+/// A step of the walk: the place of the node, how many nodes are above it, and whether it is the
 /// last child of its parent.
 #[derive(Clone, Copy, Debug)]
 pub struct Visit {
@@ -32,16 +32,16 @@ pub struct Visit {
     pub is_last: bool,
 }
 
-// The first child of each node and the next child of its parent, by places; the first root is the
-// last of `first`.
+// The first child of each node and the next child of its parent, by places; the first root comes
+// last in `first`.
 #[derive(Drop)]
 struct Links {
     first: Vec<Option<usize>>,
     next: Vec<Option<usize>>,
 }
 
-/// The nodes as they are walked: each behind its parent, and children in the order of the nodes. A
-/// node whose parent does not stand before it is a root.
+/// The nodes in the order of the walk: each after its parent, and children in the order of the
+/// nodes. A node whose parent does not come before it is a root.
 pub fn walk(alloc: Global, nodes: &[Node]) -> Result<Vec<Visit>, OutOfMemory> {
     let links = linked(alloc, nodes)?;
     let mut visits = Vec::new(alloc);
@@ -70,7 +70,6 @@ pub fn walk(alloc: Global, nodes: &[Node]) -> Result<Vec<Visit>, OutOfMemory> {
     Ok(visits)
 }
 
-// The links of the nodes.
 fn linked(alloc: Global, nodes: &[Node]) -> Result<Links, OutOfMemory> {
     let count = nodes.len();
     let mut first = Vec::new(alloc);

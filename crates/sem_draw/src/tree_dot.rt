@@ -47,7 +47,7 @@ fn colour_of(state: State) -> &'static str {
     }
 }
 
-// Appends the text as it stands between quotation marks.
+// Appends the text, escaped for quotation marks.
 fn push_quoted(out: &mut String, text: &str) -> Result<(), OutOfMemory> {
     for letter in text.chars() {
         if letter == '"' || letter == '\\' {

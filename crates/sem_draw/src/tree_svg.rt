@@ -6,17 +6,17 @@ use crate::svg::{
 use crate::tree::{Node, State, Visit, walk};
 use std::alloc::Global;
 
-/// How high a node is, how far it stands to the right of its parent, and where the first one is.
+/// The height of a node, its distance to the right of its parent, and the place of the first one.
 const ROW: u64 = 30;
 
 const STEP: u64 = 34;
 
 const EDGE: u64 = 16;
 
-/// How many pixels a character has.
+/// The pixels of a character.
 const CHARACTER: u64 = 8;
 
-/// How the classes look.
+/// The style of the classes.
 const STYLE: &str =
     "text{font:13px 'DejaVu Sans Mono',Menlo,Consolas,monospace;fill:#1f2430}.link{stroke:#8d95a8;stroke-width:1.5}.held{fill:#e3f0ff;stroke:#1668c1}.marked{fill:#ffe9c2;stroke:#b57a00}.way{fill:#e6f6ea;stroke:#1b8a3a;stroke-dasharray:4 3}.gone{fill:#f1f1f3;stroke:#a0a4ae;stroke-dasharray:2 3}";
 
@@ -30,7 +30,7 @@ fn class(state: State) -> &'static str {
     }
 }
 
-// Where a node at that place of the walk stands.
+// The place of a node at that step of the walk.
 fn corner(place: usize, depth: usize) -> Point {
     Point {
         x: (depth as u64).saturating_mul(STEP).saturating_add(EDGE),
@@ -38,7 +38,7 @@ fn corner(place: usize, depth: usize) -> Point {
     }
 }
 
-// How many pixels so many bytes of text have.
+// The pixels of that many bytes of text.
 fn text_width(bytes: usize) -> u64 {
     (bytes as u64).saturating_mul(CHARACTER)
 }
@@ -66,7 +66,7 @@ pub fn tree_as_svg(alloc: Global, nodes: &[Node]) -> Result<String, OutOfMemory>
     Ok(out)
 }
 
-// How wide and how high the picture is.
+// The width and the height of the picture.
 fn size(nodes: &[Node], visits: &[Visit]) -> Point {
     let mut width = 200u64;
     for visit in visits {

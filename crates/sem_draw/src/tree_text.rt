@@ -4,10 +4,10 @@ use crate::lines::{WIDTH, push_blanks, wrapped};
 use crate::tree::{Node, Visit, walk};
 use std::alloc::Global;
 
-/// The most levels that are drawn below a root; what stands deeper stands at the last of them.
+/// The most levels that are drawn below a root; deeper nodes are drawn at the last of them.
 pub const LEVELS: usize = 12;
 
-/// The fewest columns that are left to what is said of a node.
+/// The fewest columns left for the text about a node.
 const TEXT: usize = 36;
 
 /// The forest as text of 100 columns, with box characters or without.
@@ -27,7 +27,7 @@ pub fn tree_as_text(alloc: Global, nodes: &[Node], is_plain: bool) -> Result<Str
     Ok(out)
 }
 
-// Appends the lines of a node. `goes_on` tells of each level above it whether more children come.
+// Appends the lines of a node. `goes_on` tells for each level above it whether more children come.
 fn push_node(
     alloc: Global,
     out: &mut String,
@@ -59,7 +59,7 @@ fn push_node(
     Ok(())
 }
 
-// Appends the lines of the levels above a node, but for the last of them.
+// Appends the lines of the levels above a node, except the last of them.
 fn push_stems(
     out: &mut String,
     goes_on: &[bool],
@@ -73,7 +73,7 @@ fn push_stems(
     Ok(())
 }
 
-// Appends a level: its line where it goes on, and nothing where there is none.
+// Appends a level: its line if it goes on, and nothing if there is none.
 fn push_stem(
     out: &mut String,
     goes_on: bool,

@@ -1,5 +1,6 @@
 -- What contracts see after the endpoints of one VPE were changed.
-use Rattle.std.proofs.Common.{◌≡◌, ℕ, ◌<◌, Bool, true, false, List, [], ◌++◌, length, map, take, drop, get_or, set, append-nil, Option, None, is_some, if◌then◌else◌, refl, sym, ◌∙◌, ap, subst, inl, inr, arith}
+use Rattle.std.proofs.Common.{◌≡◌, ℕ, ◌<◌, Bool, true, false, List, [], ◌++◌, length, map, take, drop, get_or, set, append-nil, Option, None, is_some}
+use Rattle.std.proofs.Common.{if◌then◌else◌, refl, sym, ◌∙◌, ap, subst, inl, inr, arith}
 use Rattle.std.specs.Vec.{vec_len}
 use Rattle.std.proofs.Math.Seq.{map-set_same}
 use Rattle.std.proofs.lemmas.List.{get_or-map, map-set, length-map, get_or_past, get_or_default, take_all, drop_all}
@@ -27,16 +28,20 @@ ours-place rows t v at is same ours = subst (λ n. IsOurs (table rows) n) (sym s
 -- an operation was tried at an endpoint of a VPE of this kernel
 module _ (t : EndpointTable) (v ep : ℕ) (v_within : v < length t.rows) (ep_within : ep < length (get_or t.rows v [])) where
   unchanged : record t { rows = with_endpoint v ep (endpoint t.rows v ep) t.rows } ≡ t
-  unchanged = ap (λ (rows : List (List (Option Endpoint))). record t { rows = rows }) (ap (put [] t.rows v) (put-same None (get_or t.rows v []) ep ep_within) ∙ put-same [] t.rows v v_within)
+  unchanged = ap (λ (rows : List (List (Option Endpoint))). record t { rows = rows }) (ap (put [] t.rows v) (put-same None (get_or t.rows v []) ep ep_within)
+      ∙ put-same [] t.rows v v_within)
 
-  by_refusal : (refused : Bool) (op : Op) → record t { rows = with_endpoint v ep (if refused then endpoint t.rows v ep else done op (endpoint t.rows v ep)) t.rows } ≡ (if refused then t else record t { rows = use_done op v ep t.rows })
+  by_refusal : (refused : Bool) (op : Op) →
+      record t { rows = with_endpoint v ep (if refused then endpoint t.rows v ep else done op (endpoint t.rows v ep)) t.rows }
+      ≡ (if refused then t else record t { rows = use_done op v ep t.rows })
   by_refusal true op = unchanged
   by_refusal false (Read off len) = unchanged
   by_refusal false (Write off len) = unchanged
   by_refusal false (SendOp len) = refl
   by_refusal false Credit = refl
 
-  pub table-tried : (op : Op) → record t { rows = with_endpoint v ep (tried op (endpoint t.rows v ep)) t.rows } ≡ (if is_some (refusal op (endpoint t.rows v ep)) then t else record t { rows = use_done op v ep t.rows })
+  pub table-tried : (op : Op) → record t { rows = with_endpoint v ep (tried op (endpoint t.rows v ep)) t.rows }
+      ≡ (if is_some (refusal op (endpoint t.rows v ep)) then t else record t { rows = use_done op v ep t.rows })
   table-tried op = by_refusal (is_some (refusal op (endpoint t.rows v ep))) op
 
 -- a list that was written back whole
@@ -72,7 +77,8 @@ module _ (rows : List Row) (v : ℕ) (row : Row) (ours : IsOurs (table rows) v) 
   endpoint-within is_table ep at low same = omega (arith, whole-row is_table, row.endpoints.ok.0)
 
   -- the endpoint in its place
-  pub endpoint-here : IsEndpointTable (table rows) → (ep at : ℕ) (e : Option Endpoint) → ep < ENDPOINTS → at ≡ ep → e ≡ get_or row.endpoints.items at e → endpoint (table rows).rows v ep ≡ e
+  pub endpoint-here : IsEndpointTable (table rows) → (ep at : ℕ) (e : Option Endpoint) → ep < ENDPOINTS → at ≡ ep → e ≡ get_or row.endpoints.items at e →
+      endpoint (table rows).rows v ep ≡ e
   endpoint-here is_table ep at e low same is =
       ap (λ es. get_or es ep None) endpoints-row
       ∙ (get_or_default row.endpoints.items ep None e (omega (arith, whole-row is_table))
@@ -96,23 +102,32 @@ module _ (rows : List Row) (v : ℕ) (row : Row) (ours : IsOurs (table rows) v) 
         here : get_or (table rows).rows v [] ≡ row.endpoints.items
         here = endpoints-row
 
-    table-row : (f : List (Option Endpoint) → List (Option Endpoint)) → new.endpoints.items ≡ f row.endpoints.items → table (set rows v new) ≡ record (table rows) { rows = with_row v f (table rows).rows }
+    table-row : (f : List (Option Endpoint) → List (Option Endpoint)) → new.endpoints.items ≡ f row.endpoints.items →
+        table (set rows v new) ≡ record (table rows) { rows = with_row v f (table rows).rows }
     table-row f is =
         let changed : (table (set rows v new)).rows ≡ with_row v f (table rows).rows =
         map-set (λ (r : Row). r.endpoints.items) rows v new
         ∙ ap (λ es. set (table rows).rows v es) (is ∙ ap f (sym endpoints-row))
-        ∙ sym (put-set [] (table rows).rows v (f (get_or (table rows).rows v [])) (omega (arith, within-rows, length-map rows (λ (r : Row). r.endpoints.items)))) in
+        ∙ sym (put-set [] (table rows).rows v (f (get_or (table rows).rows v []))
+        (omega (arith, within-rows, length-map rows (λ (r : Row). r.endpoints.items)))) in
         same_table (table (set rows v new)) (record (table rows) { rows = with_row v f (table rows).rows }) ours-set changed
 
-    pub table-endpoint : IsEndpointTable (table rows) → (ep : ℕ) (e : Option Endpoint) → ep < ENDPOINTS → new.endpoints.items ≡ set row.endpoints.items ep e → table (set rows v new) ≡ record (table rows) { rows = with_endpoint v ep e (table rows).rows }
+    pub table-endpoint : IsEndpointTable (table rows) → (ep : ℕ) (e : Option Endpoint) → ep < ENDPOINTS → new.endpoints.items ≡ set row.endpoints.items ep e →
+        table (set rows v new) ≡ record (table rows) { rows = with_endpoint v ep e (table rows).rows }
     table-endpoint is_table ep e low is =
         table-row (λ es. put None es ep e) (is ∙ sym (put-set None row.endpoints.items ep e (omega (arith, whole-row is_table))))
 
-    pub table-written : (f : List (Option Endpoint) → List (Option Endpoint)) (len : ℕ) (given written : List (Option Endpoint)) → given ≡ row.endpoints.items → written ≡ f given → length written ≡ length given → length given ≡ len → new.endpoints.items ≡ take len (written ++ drop (length written) row.endpoints.items) → table (set rows v new) ≡ record (table rows) { rows = with_row v f (table rows).rows }
+    pub table-written : (f : List (Option Endpoint) → List (Option Endpoint)) (len : ℕ) (given written : List (Option Endpoint)) → given ≡ row.endpoints.items →
+        written ≡ f given → length written ≡ length given → length given ≡ len →
+        new.endpoints.items ≡ take len (written ++ drop (length written) row.endpoints.items) →
+        table (set rows v new) ≡ record (table rows) { rows = with_row v f (table rows).rows }
     table-written f len given written same_given is same_length whole back =
         table-row f (back ∙ (written_back len written row.endpoints.items (same_length ∙ whole) (ap length (sym same_given) ∙ whole) ∙ (is ∙ ap f same_given)))
 
-    pub table-used : IsEndpointTable (table rows) → (op : Op) (ep at : ℕ) (old tried_at : Option Endpoint) → ep < ENDPOINTS → at ≡ ep → old ≡ get_or row.endpoints.items at old → tried_at ≡ tried op old → new.endpoints.items ≡ set row.endpoints.items at tried_at → table (set rows v new) ≡ (if is_some (refusal op (endpoint (table rows).rows v ep)) then table rows else record (table rows) { rows = use_done op v ep (table rows).rows })
+    pub table-used : IsEndpointTable (table rows) → (op : Op) (ep at : ℕ) (old tried_at : Option Endpoint) → ep < ENDPOINTS → at ≡ ep →
+        old ≡ get_or row.endpoints.items at old → tried_at ≡ tried op old → new.endpoints.items ≡ set row.endpoints.items at tried_at →
+        table (set rows v new) ≡ (if is_some (refusal op (endpoint (table rows).rows v ep)) then table rows
+        else record (table rows) { rows = use_done op v ep (table rows).rows })
     table-used is_table op ep at old tried_at low same is was edited =
         let here : endpoint (table rows).rows v ep ≡ old = endpoint-here is_table ep at old low same is in
         let v_within : v < length (table rows).rows = omega (arith, within-rows, length-map rows (λ (r : Row). r.endpoints.items)) in

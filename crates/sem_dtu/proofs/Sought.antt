@@ -49,7 +49,8 @@ module _ (ks : List KeyName) (rises : IsRising ks) (k : KeyName) where
     ])
   ]
 
-  pub sought-ok : (r : Result ℕ ℕ) (at : ℕ) (e : KeyName) → r ≡ Ok at → IsSearchInRange r (length ks) → IsBinarySearchResult (λ q. nat_cmp (packed q) (packed k)) ks r → e ≡ get_or ks at e → key_eq e k ≡ list_any (key_eq k) ks
+  pub sought-ok : (r : Result ℕ ℕ) (at : ℕ) (e : KeyName) → r ≡ Ok at → IsSearchInRange r (length ks) →
+      IsBinarySearchResult (λ q. nat_cmp (packed q) (packed k)) ks r → e ≡ get_or ks at e → key_eq e k ≡ list_any (key_eq k) ks
   sought-ok r at e is in_range position read =
       let within : at < length ks = rw is at in_range in
       let equal : IsBinarySearchResult (λ q. nat_cmp (packed q) (packed k)) ks (Ok at) = rw is at position in

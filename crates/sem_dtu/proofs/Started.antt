@@ -19,10 +19,17 @@ pub record IsStarted (T : Setup) (i : ℕ) (rows : List Row) (n : ℕ) : Type 0 
   pub endpoints : (table rows).rows ≡ map new_endpoints (map (is_own T i) (range_with_len 0 n))
 
 -- one more row
-pub IsStarted-more : (T : Setup) (i : ℕ) (rows : List Row) (n : ℕ) (row : Row) → IsStarted T i rows n → row.is_ours ≡ is_own T i n → row.endpoints.items ≡ new_endpoints (is_own T i n) → IsStarted T i (rows ++ row ∷ []) (n + 1)
+pub IsStarted-more : (T : Setup) (i : ℕ) (rows : List Row) (n : ℕ) (row : Row) → IsStarted T i rows n → row.is_ours ≡ is_own T i n →
+    row.endpoints.items ≡ new_endpoints (is_own T i n) → IsStarted T i (rows ++ row ∷ []) (n + 1)
 IsStarted-more T i rows n row so_far ours endpoints = record {
   ours = map-append (λ (r : Row). r.is_ours) rows (row ∷ []) ∙ rw (map-range_with_len_more (is_own T i) 0 n n (omega arith), so_far.ours, ours) refl;
-  endpoints = map-append (λ (r : Row). r.endpoints.items) rows (row ∷ []) ∙ rw (map-range_with_len_more (is_own T i) 0 n n (omega arith), map-append new_endpoints (map (is_own T i) (range_with_len 0 n)) (is_own T i n ∷ []), so_far.endpoints, endpoints) refl;
+  endpoints = map-append (λ (r : Row). r.endpoints.items) rows (row ∷ [])
+      ∙ rw (
+        map-range_with_len_more (is_own T i) 0 n n (omega arith),
+        map-append new_endpoints (map (is_own T i) (range_with_len 0 n)) (is_own T i n ∷ []),
+        so_far.endpoints,
+        endpoints,
+      ) refl;
 }
 
 -- the rows of all VPEs

@@ -1,9 +1,7 @@
 -- What the endpoints of one kernel keep in their fields.
 use Rattle.std.specs.Prelude.{ℕ, ◌≤◌, List, length}
-use Rattle.sem_key.specs.declared.object.Object.{Object}
-use Rattle.sem_key.specs.declared.object.Object.TheVariants.{Mem, Recv, Send, Serv, Sess}
+use Rattle.sem_msg.specs.Prelude.{Object, Mem, Recv, Send, Serv, Sess, Endpoint}
 use Rattle.sem_key.specs.ObjectRanges.{IsValidObject}
-use Rattle.sem_msg.specs.Rows.{Endpoint}
 use Rattle.sem_dtu.specs.declared.binding.Binding.{Binding}
 
 -- an endpoint with that binding and these messages
@@ -18,12 +16,12 @@ IsMemoryOrGate (Send gate label credits) = Unit {0}
 IsMemoryOrGate (Serv name) = ⊥
 IsMemoryOrGate (Sess service ident) = ⊥
 
--- a send gate has at most as many messages under way as it has credits
+-- a send gate has no more messages under way than credits
 abbrev pub IsWithinCredits : ℕ → Object → Type 0
 IsWithinCredits n (Send gate label credits) = n ≤ credits
 IsWithinCredits n object = Unit {0}
 
--- what a bound endpoint always is
+-- what always holds of a bound endpoint
 pub record IsBound (e : Endpoint) : Type 0 where
   pub kind : IsMemoryOrGate e.object
   pub in_range : IsValidObject e.object

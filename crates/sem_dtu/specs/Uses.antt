@@ -1,9 +1,10 @@
--- What a VPE may do through its endpoints, and what it does ("Calls" in docs/machine.md).
+-- What a VPE may do through its endpoints, and how that changes them ("Calls" in docs/machine.md).
 use Rattle.std.specs.Prelude.{ℕ, Bool, List, find, Option, is_some, if◌then◌else◌}
 use Rattle.std.specs.Option.{option_map}
 use Rattle.sem_msg.specs.declared.code.Code.{Code}
-use Rattle.sem_msg.specs.declared.code.Code.TheVariants.{Unbound as UnboundCode, Rights as RightsCode, Range as RangeCode}
-use Rattle.sem_msg.specs.Rows.{Endpoint}
+use Rattle.sem_msg.specs.declared.code.Code.TheVariants.{Unbound as UnboundCode, Rights as RightsCode}
+use Rattle.sem_msg.specs.declared.code.Code.TheVariants.{Range as RangeCode}
+use Rattle.sem_msg.specs.Prelude.{Endpoint}
 use Rattle.sem_msg.specs.EndpointRows.{endpoint, with_endpoint}
 use Rattle.sem_msg.specs.Uses.{memory_tests, send_tests, credit_tests, ring_changed, rung, credited}
 use Rattle.sem_dtu.specs.declared.op.Op.{Op}
@@ -11,7 +12,7 @@ use Rattle.sem_dtu.specs.declared.op.Op.TheVariants.{Read, Write, Send as SendOp
 use Rattle.sem_dtu.specs.declared.op.UseFault.{UseFault}
 use Rattle.sem_dtu.specs.declared.op.UseFault.TheVariants.{Unbound, Rights, Range}
 
--- the code by which a call is answered that fails so
+-- the code that answers a call that fails so
 abbrev pub fault_code : UseFault → Code
 fault_code Unbound = UnboundCode
 fault_code Rights = RightsCode
@@ -24,7 +25,7 @@ use_tests (Write off len) e = memory_tests 2 off len e
 use_tests (SendOp len) e = send_tests e
 use_tests Credit e = credit_tests e
 
--- the code of the first test that holds is the refusal
+-- the refusal is the code of the first test that holds
 abbrev pub refusal : Op → Option Endpoint → Option Code
 refusal op e = option_map (λ test. test.1) (find (λ test. test.0) (use_tests op e))
 

@@ -1,6 +1,6 @@
 use sem_key::{Key, Object};
 
-// What an endpoint is bound to: a key, and the object that its capability had at that moment.
+// What an endpoint is bound to: a key, and the object of its capability at the time of binding.
 #[derive(Clone, Copy, Debug)]
 pub struct Binding {
     pub key: Key,

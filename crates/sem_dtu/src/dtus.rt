@@ -1,9 +1,12 @@
-ghost use Rattle.std.specs.Prelude.{◌≡◌, ◌<◌, [], ◌∷◌, Some, false, is_some, slice_index_or, if◌then◌else◌, IfOk, map};
+ghost use Rattle.std.specs.Prelude.{◌≡◌, ◌<◌, [], ◌∷◌, Some, false, is_some, slice_index_or};
+ghost use Rattle.std.specs.Prelude.{if◌then◌else◌, IfOk, map};
 ghost use Rattle.std.specs.Option.{option_map};
 ghost use Rattle.std.specs.Result.{result_err};
 ghost use Rattle.sem_key.specs.KeyList.{IsRising};
 ghost use Rattle.sem_key.specs.ObjectRanges.{IsValidObject};
-ghost use Rattle.sem_msg.specs.EndpointRows.{endpoint, with_endpoint, unbound_from, all_unbound_from, unbind_key as unbind_key_lem, unbind_all as unbind_all_lem};
+ghost use Rattle.sem_msg.specs.EndpointRows.{endpoint, with_endpoint, unbound_from};
+ghost use Rattle.sem_msg.specs.EndpointRows.{all_unbound_from, unbind_key as unbind_key_lem};
+ghost use Rattle.sem_msg.specs.EndpointRows.{unbind_all as unbind_all_lem};
 ghost use Rattle.sem_dtu.specs.EndpointTable.{IsOurs, IsEndpointTable};
 ghost use Rattle.sem_dtu.specs.Rows.{table};
 ghost use Rattle.sem_dtu.specs.OwnVpes.{new_table};
@@ -18,11 +21,12 @@ use sem_msg::{ENDPOINTS, Setup};
 use std::alloc::Global;
 use std::marker::Model;
 
-/// The endpoints of the VPEs of one kernel, 16 for each. An endpoint is unbound, or bound to a key, to the object that its
-/// capability had when it was bound, and to a ring with the lengths of the messages that were sent and not credited.
+/// The endpoints of the VPEs of one kernel, 16 for each. A bound endpoint has a key, and the object
+/// that its capability had when it was bound. Its ring has the lengths of the messages that were
+/// sent and not yet credited. Only `new` takes memory.
 #[derive(Debug, Drop)]
 pub struct Dtus {
-    // By VPE number.
+    // The endpoints of each VPE, by number.
     rows: Vec<Row>,
 }
 
@@ -39,8 +43,8 @@ impl Model for Dtus {
 }
 
 impl Dtus {
-    /// The endpoints of the VPEs of a kernel, none of them bound. The VPEs of a kernel are those that the setup declares on
-    /// its PEs.
+    /// The endpoints of the VPEs of a kernel, none of them bound. The VPEs of a kernel are those
+    /// that the setup declares on its PEs.
     pub fn new(alloc: Global, setup: &Setup, kernel: u32) -> Result<Self, OutOfMemory>
         ensures { IfOk result (λ t. t ≡ new_table setup.now kernel) }
     {
@@ -51,17 +55,19 @@ impl Dtus {
         Ok(Dtus { rows })
     }
 
-    /// Binds an endpoint of a VPE to a key with the object of its capability, also where the endpoint is bound. No message
-    /// is under way then. Takes no memory.
+    /// Binds an endpoint of a VPE to a key with the object of its capability; an earlier binding is
+    /// replaced. No message is under way then.
     ///
-    /// The VPE belongs to this kernel, the endpoint is at most 15, and the object is memory or a gate, in its ranges.
+    /// The VPE must belong to this kernel, the endpoint must be at most 15, and the object must be
+    /// memory or a gate, in its ranges.
     pub fn bind(&mut self, vpe: u16, ep: u8, key: Key, object: Object)
         requires ours { IsOurs self.old vpe }
         requires ep { ep < ENDPOINTS }
         requires kind { IsMemoryOrGate object }
         requires in_range { IsValidObject object }
         ensures { self.new ≡ record self.old {
-          rows = with_endpoint vpe ep (Some (record { key = key; object = object; ring = [] })) self.old.rows;
+          rows = with_endpoint vpe ep (Some (record { key = key; object = object; ring = [] }))
+              self.old.rows;
         } }
     {
         let row = &mut self.rows[usize::from(vpe)];
@@ -69,9 +75,9 @@ impl Dtus {
         endpoint.bind(key, object);
     }
 
-    /// The key to which an endpoint of a VPE is bound; none where it is not bound. Takes no memory.
+    /// The key that an endpoint of a VPE is bound to; none if it is not bound.
     ///
-    /// The VPE belongs to this kernel, and the endpoint is at most 15.
+    /// The VPE must belong to this kernel, and the endpoint must be at most 15.
     pub fn bound(&self, vpe: u16, ep: u8) -> Option<Key>
         requires ours { IsOurs self.now vpe }
         requires ep { ep < ENDPOINTS }
@@ -81,10 +87,10 @@ impl Dtus {
         self.rows[usize::from(vpe)].endpoints[usize::from(ep)].key()
     }
 
-    /// The key to which an endpoint of a VPE is bound, and the object that its capability had then;
-    /// none where the endpoint is not bound. Takes no memory.
+    /// The key that an endpoint of a VPE is bound to, and the object that its capability had then;
+    /// none if the endpoint is not bound.
     ///
-    /// The VPE belongs to this kernel, and the endpoint is at most 15.
+    /// The VPE must belong to this kernel, and the endpoint must be at most 15.
     pub fn binding(&self, vpe: u16, ep: u8) -> Option<(Key, Object)>
         requires ours { IsOurs self.now vpe }
         requires ep { ep < ENDPOINTS }
@@ -93,9 +99,9 @@ impl Dtus {
         self.rows[usize::from(vpe)].endpoints[usize::from(ep)].bound()
     }
 
-    /// Unbinds every endpoint of the key's VPE that is bound to the key. Takes no memory.
+    /// Unbinds every endpoint of the key's VPE that is bound to the key.
     ///
-    /// The key's VPE belongs to this kernel.
+    /// The key's VPE must belong to this kernel.
     pub fn unbind_key(&mut self, key: Key)
         requires { IsOurs self.old key.vpe }
         ensures { self.new ≡ record self.old { rows = unbind_key_lem key self.old.rows } }
@@ -104,7 +110,7 @@ impl Dtus {
         unbind_each(&mut row.endpoints, key);
     }
 
-    /// Unbinds every endpoint that is bound to one of the keys, which rise. Takes no memory.
+    /// Unbinds every endpoint that is bound to one of the keys. The keys must rise.
     pub fn unbind_all(&mut self, keys: &[Key])
         requires { IsRising keys.now }
         ensures { self.new ≡ record self.old { rows = unbind_all_lem keys.now self.old.rows } }
@@ -112,15 +118,16 @@ impl Dtus {
         unbind_rows(&mut self.rows, keys);
     }
 
-    /// Does an operation through an endpoint of a VPE, if the endpoint does not refuse it; the first test that holds is the
-    /// refusal, and then nothing changes. A sent message comes to the end of the ring, and the oldest one is credited; all
-    /// else changes nothing. Takes no memory.
+    /// Does an operation through an endpoint of a VPE, unless the endpoint refuses it. The first
+    /// test that holds is the refusal, and then nothing changes. A send appends a message to the
+    /// ring, and a credit takes out the oldest one; the other operations change nothing.
     ///
-    /// The VPE belongs to this kernel, and the endpoint is at most 15.
+    /// The VPE must belong to this kernel, and the endpoint must be at most 15.
     pub fn use_endpoint(&mut self, vpe: u16, ep: u8, op: Op) -> Result<(), UseFault>
         requires ours { IsOurs self.old vpe }
         requires ep { ep < ENDPOINTS }
-        ensures refusal { option_map fault_code (result_err result) ≡ refusal op (endpoint self.old.rows vpe ep) }
+        ensures refusal { option_map fault_code (result_err result)
+            ≡ refusal op (endpoint self.old.rows vpe ep) }
         ensures table { self.new ≡ (
             if is_some (refusal op (endpoint self.old.rows vpe ep))
             then self.old
@@ -132,7 +139,7 @@ impl Dtus {
     }
 }
 
-// Unbinds each of the endpoints that is bound to the key.
+// Unbinds every one of the endpoints that is bound to the key.
 fn unbind_each(endpoints: &mut [Endpoint], key: Key)
     ensures { endpoints.new ≡ map (unbound_from (key ∷ [])) endpoints.old }
 {
@@ -141,26 +148,34 @@ fn unbind_each(endpoints: &mut [Endpoint], key: Key)
     }
 }
 
-// Unbinds each endpoint of the rows that is bound to one of the keys.
+// Unbinds every endpoint of the rows that is bound to one of the keys.
 fn unbind_rows(rows: &mut Vec<Row>, keys: &[Key])
     requires { IsRising keys.now }
-    ensures { table rows.new.items ≡ record (table rows.old.items) { rows = unbind_all_lem keys.now (table rows.old.items).rows } }
+    ensures { table rows.new.items
+        ≡ record (table rows.old.items) {
+          rows =
+              unbind_all_lem keys.now (table rows.old.items).rows;
+        } }
 {
     for row in rows.iter_mut() {
-        unbind_row(row, keys);
+        // A VPE of another kernel has no endpoints here.
+        if !row.endpoints.is_empty() {
+            unbind_row(row, keys);
+        }
     }
 }
 
-// Unbinds each endpoint of a row that is bound to one of the keys.
+// Unbinds every endpoint of a row that is bound to one of the keys.
 fn unbind_row(row: &mut Row, keys: &[Key])
     requires { IsRising keys.now }
     ensures ours { row.new.is_ours ≡ row.old.is_ours }
-    ensures endpoints { row.new.endpoints.items ≡ all_unbound_from keys.now row.old.endpoints.items }
+    ensures endpoints { row.new.endpoints.items
+        ≡ all_unbound_from keys.now row.old.endpoints.items }
 {
     unbind_all_of(&mut row.endpoints, keys);
 }
 
-// Unbinds each of the endpoints that is bound to one of the keys.
+// Unbinds every one of the endpoints that is bound to one of the keys.
 fn unbind_all_of(endpoints: &mut Vec<Endpoint>, keys: &[Key])
     requires { IsRising keys.now }
     ensures { endpoints.new.items ≡ all_unbound_from keys.now endpoints.old.items }

@@ -17,7 +17,7 @@ use sem_key::{Key, Object, OutOfMemory, SLOTS, pack, same_key};
 use std::alloc::Global;
 use std::marker::Model;
 
-// The rights of a memory that are asked for.
+// The right to memory that an operation needs.
 const READ: u8 = 1;
 
 const WRITE: u8 = 2;
@@ -26,7 +26,8 @@ const WRITE: u8 = 2;
 #[derive(Debug, Drop)]
 pub struct Endpoint {
     binding: Option<Binding>,
-    // The lengths of the messages that were sent and not credited, the oldest first. It has room for all credits.
+    // The lengths of the messages that were sent and not yet credited, the oldest first. It has
+    // room for all credits.
     ring: HeapCircularBuffer<u32>,
 }
 
@@ -41,11 +42,12 @@ impl Model for Endpoint {
 
     ghost view = { λ e. option_map (bound_with e.ring.items) e.binding };
 
-    ghost invariant = { λ e. (e.ring.capacity ≡ SLOTS) × IfSome (option_map (bound_with e.ring.items) e.binding) IsBound };
+    ghost invariant = { λ e. (e.ring.capacity ≡ SLOTS)
+        × IfSome (option_map (bound_with e.ring.items) e.binding) IsBound };
 }
 
 impl Endpoint {
-    // An endpoint that is not bound.
+    // An unbound endpoint.
     pub fn new(alloc: Global) -> Result<Self, OutOfMemory>
         ensures { IfOk result (λ e. e ≡ None) }
     {
@@ -55,7 +57,7 @@ impl Endpoint {
         })
     }
 
-    // Binds it, also where it is bound; no message is under way.
+    // Binds it; an earlier binding is replaced. No message is under way then.
     pub fn bind(&mut self, key: Key, object: Object)
         requires kind { IsMemoryOrGate object }
         requires in_range { IsValidObject object }
@@ -65,7 +67,7 @@ impl Endpoint {
         self.binding = Some(Binding { key, object });
     }
 
-    // Unbinds it, where it is bound to the key.
+    // Unbinds it, if it is bound to the key.
     pub fn unbind_from(&mut self, key: Key)
         ensures { self.new ≡ unbound_from (key ∷ []) self.old }
     {
@@ -74,7 +76,7 @@ impl Endpoint {
         }
     }
 
-    // Unbinds it, where it is bound to one of the keys.
+    // Unbinds it, if it is bound to one of the keys.
     pub fn unbind_from_all(&mut self, keys: &[Key])
         requires { IsRising keys.now }
         ensures { self.new ≡ unbound_from keys.now self.old }
@@ -86,7 +88,7 @@ impl Endpoint {
         }
     }
 
-    // The key to which it is bound.
+    // The key that it is bound to.
     pub fn key(&self) -> Option<Key>
         ensures { result ≡ option_map (λ e. e.key) self.now }
     {
@@ -96,7 +98,6 @@ impl Endpoint {
         }
     }
 
-    // The key and the object to which it is bound.
     pub fn bound(&self) -> Option<(Key, Object)>
         ensures { result ≡ option_map (λ e. (e.key, e.object)) self.now }
     {
@@ -106,7 +107,7 @@ impl Endpoint {
         }
     }
 
-    // Why it would refuse the operation, if it would.
+    // Why it refuses the operation, if it does.
     fn test(&self, op: Op) -> Result<(), UseFault>
         ensures { option_map fault_code (result_err result) ≡ refusal op self.now }
     {
@@ -123,7 +124,7 @@ impl Endpoint {
         }
     }
 
-    // Does the operation, unless it is refused, and then changes nothing.
+    // Does the operation, unless it is refused; a refusal changes nothing.
     pub fn operate(&mut self, op: Op) -> Result<(), UseFault>
         ensures refusal { option_map fault_code (result_err result) ≡ refusal op self.old }
         ensures tried { self.new ≡ tried op self.old }
@@ -142,7 +143,7 @@ impl Endpoint {
     }
 }
 
-// Whether the key is one of these, which rise.
+// Whether the key is one of these rising keys.
 fn has_key(keys: &[Key], key: Key) -> bool
     requires { IsRising keys.now }
     ensures { result ≡ list_any (key_eq key) keys.now }

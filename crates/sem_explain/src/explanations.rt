@@ -10,11 +10,11 @@ use sem_report::{Verdict, push_audit};
 use sem_trace::{Lines, TraceError, TraceFault};
 use std::alloc::Global;
 
-/// How many entries are shown before the one that is wrong.
+/// How many entries come before the wrong one.
 const BEFORE: usize = 5;
 
-/// Why these bytes, a trace, are refused, or that they are accepted. What is refused is explained
-/// on standard output.
+/// Why these bytes, a trace, are refused, or that they are accepted. A refusal is explained on
+/// standard output.
 pub fn explain_trace(alloc: Global, bytes: &[u8]) -> Result<Answer, OutOfMemory> {
     match read_trace(alloc, bytes) {
         Ok(_) => accepted(alloc, "the trace is accepted\n"),
@@ -31,8 +31,8 @@ pub fn explain_trace(alloc: Global, bytes: &[u8]) -> Result<Answer, OutOfMemory>
     }
 }
 
-/// Why these bytes, file commands, are refused, or that they are accepted. What is refused is
-/// explained on standard output.
+/// Why these bytes, file commands, are refused, or that they are accepted. A refusal is explained
+/// on standard output.
 pub fn explain_files(alloc: Global, bytes: &[u8]) -> Result<Answer, OutOfMemory> {
     match read_files(alloc, bytes) {
         Ok(_) => accepted(alloc, "the file commands are accepted\n"),
@@ -47,8 +47,8 @@ pub fn explain_files(alloc: Global, bytes: &[u8]) -> Result<Answer, OutOfMemory>
     }
 }
 
-/// Why these bytes, a report on which this is the verdict, are refused, or that they are accepted.
-/// What is refused is explained on standard output.
+/// Why these bytes, a report with this verdict, are refused, or that they are accepted. A refusal
+/// is explained on standard output.
 pub fn explain_report(
     alloc: Global,
     bytes: &[u8],
@@ -82,7 +82,7 @@ pub fn explain_report(
     Ok(refused(alloc, out))
 }
 
-// That the input is accepted.
+// The answer that the input is accepted.
 fn accepted(alloc: Global, text: &str) -> Result<Answer, OutOfMemory> {
     Ok(Answer::done(alloc, String::from_str(alloc, text)?))
 }
@@ -109,7 +109,7 @@ fn explain_text(
     Ok(refused(alloc, out))
 }
 
-// That a line of the report tells the audit otherwise than is due, and the line that is due.
+// A line of the report in which the told audit differs from the due one, and the due line.
 fn audit_text(alloc: Global, bytes: &[u8], line: u64, due: &Audit) -> Result<String, OutOfMemory> {
     let mut out = format!(in alloc;
         "the report is refused: line {line} is not that of the audit of this journal\n"
@@ -124,7 +124,7 @@ fn audit_text(alloc: Global, bytes: &[u8], line: u64, due: &Audit) -> Result<Str
     Ok(out)
 }
 
-// How many lines stand before the audit of a report; all, where it has none.
+// How many lines come before the audit of a report; all if it has none.
 fn lines_before_audit(bytes: &[u8]) -> u64 {
     let mut lines = Lines::of(bytes);
     let most = bytes.len() as u64;
@@ -137,7 +137,7 @@ fn lines_before_audit(bytes: &[u8]) -> u64 {
     most
 }
 
-// That an entry is not the one that its event makes, and the one that it makes, if it is enabled.
+// An entry that its event does not make, and the one that the event makes, if it is enabled.
 fn differing_text(
     alloc: Global,
     entries: &[Entry],
@@ -163,7 +163,7 @@ fn differing_text(
     Ok(out)
 }
 
-// That the machine goes on behind the entries, and how.
+// That the machine goes on after the entries, and how.
 fn going_on_text(alloc: Global, entries: &[Entry], next: &Entry) -> Result<String, OutOfMemory> {
     let count = entries.len();
     let mut out = format!(in alloc;

@@ -1,17 +1,17 @@
-// Lines of an explanation. After want of memory each of these functions may have appended a part.
+// Lines of an explanation. If memory is refused, each of these functions may have appended a part.
 use sem_journal::push_entry_words;
 use sem_key::OutOfMemory;
 use sem_msg::Entry;
 use sem_trace::Lines;
 use std::alloc::Global;
 
-/// How many columns the word has that tells where a line comes from.
+/// The columns of the word that names the source of a line.
 const WORD: usize = 8;
 
-/// How many columns the number of an entry has.
+/// The columns of the number of an entry.
 const NUMBER: usize = 6;
 
-/// Appends an entry with its number, behind the word that tells where it comes from.
+/// Appends an entry with its number, after the word that names its source.
 pub fn push_entry(
     alloc: Global,
     out: &mut String,
@@ -26,7 +26,7 @@ pub fn push_entry(
     push_numbered(alloc, out, word, number, text.as_str())
 }
 
-/// Appends a line with the number of an entry, behind the word that tells where it comes from.
+/// Appends a line with the number of an entry, after the word that names its source.
 pub fn push_numbered(
     alloc: Global,
     out: &mut String,
@@ -43,7 +43,7 @@ pub fn push_numbered(
     push_shown(out, word, line.as_str())
 }
 
-/// Appends a line behind the word that tells where it comes from.
+/// Appends a line after the word that names its source.
 pub fn push_shown(out: &mut String, word: &str, text: &str) -> Result<(), OutOfMemory> {
     push_blanks(out, 2)?;
     out.push_str(word)?;
@@ -52,8 +52,8 @@ pub fn push_shown(out: &mut String, word: &str, text: &str) -> Result<(), OutOfM
     out.push('\n')
 }
 
-/// The line of that number, counted from 1; nothing where there is none. Bytes that are not
-/// printable are question marks.
+/// The line of that number, counted from 1; empty if there is none. Bytes that are not printable
+/// are question marks.
 pub fn text_of_line(alloc: Global, bytes: &[u8], number: u64) -> Result<String, OutOfMemory> {
     let mut text = String::new(alloc);
     let mut lines = Lines::of(bytes);
@@ -80,7 +80,7 @@ fn push_bytes(out: &mut String, bytes: &[u8]) -> Result<(), OutOfMemory> {
     Ok(())
 }
 
-// Appends so many blanks.
+// Appends that many blanks.
 fn push_blanks(out: &mut String, count: usize) -> Result<(), OutOfMemory> {
     for _ in 0..count {
         out.push(' ')?;

@@ -94,7 +94,7 @@ impl EntryLine {
         Ok(line)
     }
 
-    // What its event and its reply tell.
+    // What the event and the reply tell.
     fn of_event(number: usize, entry: &Entry) -> EntryLine {
         EntryLine {
             line: "entry",

@@ -1,5 +1,5 @@
-//! A report for other tools: as lines of JSON, as a sequence diagram of Mermaid, and as a trace that
-//! Perfetto shows.
+//! A report for other tools: as lines of JSON, as a sequence diagram of Mermaid, and as a trace for
+//! Perfetto.
 #![tactic(auto)]
 
 mod audits;

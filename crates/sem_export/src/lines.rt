@@ -29,7 +29,7 @@ pub fn json_lines(
     Ok(out)
 }
 
-// Appends the line. None of its types fails to be written but for lack of memory.
+// Appends the line. Writing one of its types fails only for lack of memory.
 fn push_line<T: Serialize>(alloc: Global, out: &mut String, line: &T) -> Result<(), OutOfMemory> {
     match serde_json::to_string(alloc, line) {
         Ok(text) => out.push_str(text.as_str())?,

@@ -1,4 +1,4 @@
-// A message chart as a sequence diagram of Mermaid, in which a message is drawn where it arrives.
+// A message chart as a sequence diagram of Mermaid, which draws a message where it arrives.
 use sem_draw::{Chart, Lane, Mark, Row};
 use sem_key::OutOfMemory;
 use std::alloc::Global;
@@ -48,7 +48,6 @@ fn push_row(alloc: Global, out: &mut String, lanes: &[Lane], row: &Row) -> Resul
     out.push_str(line.as_str())
 }
 
-// A note at a lane.
 fn note(
     alloc: Global,
     lanes: &[Lane],
@@ -60,7 +59,7 @@ fn note(
     format!(in alloc; "    Note over {lane}: {number} {said}\n")
 }
 
-// The name of the lane at that place; of a kernel that is not shown, `others`.
+// The name of the lane at that place; `others` for a kernel that is not shown.
 fn name(alloc: Global, lanes: &[Lane], place: usize) -> Result<String, OutOfMemory> {
     match lanes.get(place) {
         Some(Lane::Kernel { number }) => format!(in alloc; "K{number}"),
@@ -69,7 +68,7 @@ fn name(alloc: Global, lanes: &[Lane], place: usize) -> Result<String, OutOfMemo
     }
 }
 
-// The text, with what Mermaid reads as the end of a line or of a name written by its number.
+// The text; characters that Mermaid reads as the end of a line or of a name are written by number.
 fn escaped(alloc: Global, text: &str) -> Result<String, OutOfMemory> {
     let mut out = String::new(alloc);
     for letter in text.chars() {

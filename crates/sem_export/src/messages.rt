@@ -9,7 +9,7 @@ use sem_names::code_name;
 use serde::Serialize;
 use std::alloc::Global;
 
-/// A message: its name, its words as they stand in the report, and each of them by its name.
+/// A message: its name, its words as in the report, and each of them by its name.
 #[derive(Debug, Drop, Serialize)]
 pub struct MessageMembers {
     name: &'static str,
@@ -90,7 +90,7 @@ impl MessageMembers {
         Ok(members)
     }
 
-    // Its name and its words alone.
+    // Only the name and the words.
     fn named(alloc: Global, message: &Message) -> Result<MessageMembers, OutOfMemory> {
         let mut words = Vec::new(alloc);
         push_message(&mut words, message)?;

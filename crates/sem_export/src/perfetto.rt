@@ -1,6 +1,6 @@
-// A report as a trace in the JSON form that Perfetto and Chrome show: a process for each kernel, in
-// it a thread for the kernel itself and one for each of its VPEs. The number of an entry is its time
-// in microseconds.
+// A report as a trace in the JSON form that Perfetto and Chrome show: a process for each kernel,
+// with a thread for the kernel itself and one for each of its VPEs. The number of an entry is its
+// time in microseconds.
 use crate::entries::event_name;
 use sem_chart::{OtherEnd, label_of, message_name, partners_of};
 use sem_key::OutOfMemory;
@@ -88,7 +88,7 @@ fn push_names(alloc: Global, events: &mut Vec<Traced>, setup: &Setup) -> Result<
     Ok(())
 }
 
-// What gives a process or a thread its name.
+// The event that gives a process or a thread its name.
 fn name_of(
     alloc: Global,
     kind: &str,
@@ -175,7 +175,7 @@ fn flow(
     })
 }
 
-// Appends how long a call waited: up to its answer, or to the end of so many entries.
+// Appends the wait of a call: up to its answer, or to the end of that many entries.
 fn push_wait(
     alloc: Global,
     events: &mut Vec<Traced>,

@@ -1,4 +1,4 @@
-// What is asked for, and what is answered.
+// Requests for an export, and their answers.
 use crate::lines::json_lines;
 use crate::mermaid::mermaid;
 use crate::perfetto::perfetto;
@@ -12,12 +12,12 @@ use sem_report::read_report;
 use sem_trace::TraceError;
 use std::alloc::Global;
 
-/// What is asked for.
+/// A request for an export.
 #[derive(Clone, Copy, Debug, PartialEq, Eq)]
 pub enum ExportRequest {
     /// The report as one JSON object a line.
     Json,
-    /// The JSON Schema of these lines; the input is not looked at.
+    /// The JSON Schema of these lines; the input is not read.
     Schema,
     /// The entries from `from` up to `to` as a sequence diagram of Mermaid.
     Mermaid { from: Option<u64>, to: Option<u64> },
@@ -71,7 +71,7 @@ fn export_of(
     Ok(Answer::done(alloc, text))
 }
 
-// That there are no such entries among so many.
+// The message that there are no such entries among that many.
 fn none_such(
     alloc: Global,
     count: usize,
@@ -86,7 +86,7 @@ fn none_such(
     Ok(Answer::failed(alloc, Ending::WrongWords, text))
 }
 
-// The entries that are named, of so many; none where there are no such entries.
+// The named entries, out of that many; none if there are no such entries.
 fn range_of(entries: usize, from: Option<u64>, to: Option<u64>) -> Option<Range> {
     let from = from.unwrap_or(0);
     let last = to.unwrap_or(u64::MAX);

@@ -6,7 +6,7 @@ use sem_waits::call_words;
 use serde::Serialize;
 use std::alloc::Global;
 
-/// The line that tells what is declared.
+/// The line of the declarations.
 #[derive(Debug, Drop, Serialize)]
 pub struct SetupLine {
     line: &'static str,
@@ -55,7 +55,7 @@ struct Deny {
     asker: u16,
 }
 
-// The number of replies can be greater than what a reader of JSON keeps exactly, so it is a text.
+// The number of replies can exceed what a reader of JSON keeps exactly, so it is a text.
 #[derive(Debug, Drop, Serialize)]
 struct Kill {
     vpe: u16,
@@ -110,7 +110,7 @@ fn pes_of(alloc: Global, setup: &Setup) -> Result<Vec<Pe>, OutOfMemory> {
     Ok(pes)
 }
 
-// Which VPE is killed after how many replies.
+// The VPEs that are killed, and after how many replies each is.
 fn kills_of(alloc: Global, setup: &Setup) -> Result<Vec<Kill>, OutOfMemory> {
     let mut kills = Vec::new(alloc);
     for (vpe, replies) in setup.kills.as_slice() {
@@ -141,7 +141,6 @@ fn vpe_of(alloc: Global, setup: &Setup, decl: &VpeDecl) -> Result<Vpe, OutOfMemo
     })
 }
 
-// The root of that number.
 fn root_of(
     alloc: Global,
     decl: &VpeDecl,

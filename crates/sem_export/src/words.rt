@@ -16,7 +16,7 @@ pub fn place_word(alloc: Global, place: Place) -> Result<String, OutOfMemory> {
     format!(in alloc; "{pe}.{vpe}.{number}")
 }
 
-/// Words that are printed, which are all of ASCII, without a blank before the first.
+/// The printed words, which are all ASCII, as a text without a blank before the first.
 pub fn text_of(alloc: Global, bytes: &[u8]) -> Result<String, OutOfMemory> {
     let mut text = String::new(alloc);
     for (at, byte) in bytes.iter().enumerate() {

@@ -1,5 +1,6 @@
 -- One entry more: the replies, and the places that are left.
-use Rattle.std.proofs.Common.{◌≡◌, ℕ, suc, ◌+◌, ◌<◌, ◌≤◌, Bool, true, false, cond, List, [], ◌∷◌, ◌++◌, length, get_or, set, Option, Some, None, refl, ◌∙◌, ap, arith, length-append}
+use Rattle.std.proofs.Common.{◌≡◌, ℕ, suc, ◌+◌, ◌<◌, ◌≤◌, Bool, true, false, cond, List, [], ◌∷◌, ◌++◌, length, get_or, set, Option, Some, None, refl, ◌∙◌, ap}
+use Rattle.std.proofs.Common.{arith, length-append}
 use Rattle.std.specs.List.{count_by, cons_option, filter_map}
 use Rattle.std.specs.Option.{is_some}
 use Rattle.std.proofs.lemmas.List.Sums.{sum_by-set}
@@ -14,7 +15,8 @@ counts b = cond b 1 0
 
 -- one reply more, or none
 pub replies-more : (J : List Entry) (e : Entry) → length (replies (J ++ e ∷ [])) ≡ length (replies J) + counts (is_some e.reply)
-replies-more J e = ap length (filter_map-append (λ (x : Entry). x.reply) J (e ∷ [])) ∙ length-append (replies J) (filter_map (λ (x : Entry). x.reply) (e ∷ [])) ∙ ap (λ n. length (replies J) + n) (one e.reply)
+replies-more J e = ap length (filter_map-append (λ (x : Entry). x.reply) J (e ∷ [])) ∙ length-append (replies J) (filter_map (λ (x : Entry). x.reply) (e ∷ []))
+    ∙ ap (λ n. length (replies J) + n) (one e.reply)
   where
     one : (o : Option Reply) → length (cons_option o []) ≡ counts (is_some o)
     one None = refl
@@ -30,7 +32,8 @@ replies-few (e ∷ J) = by_reply e.reply (replies J) (replies-few J)
     by_reply (Some r) rs rest = omega (arith, rest)
 
 -- a place that is used up is one less
-pub places-less : (places : List Bool) (i : ℕ) → i < length places → get_or places i false ≡ true → count_by (λ b. b) (set places i false) + 1 ≡ count_by (λ b. b) places
+pub places-less : (places : List Bool) (i : ℕ) → i < length places → get_or places i false ≡ true →
+    count_by (λ b. b) (set places i false) + 1 ≡ count_by (λ b. b) places
 places-less places i within here =
     let one : counts (get_or places i false) ≡ 1 = ap counts here in
     let moved = sum_by-set counts places i false false within in

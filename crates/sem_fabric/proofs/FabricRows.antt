@@ -14,7 +14,8 @@ use Rattle.sem_fabric.specs.Links.{LinkRow, link_to, with_link_to}
 abbrev pub links_of : List LinkRow → List (List (List Message))
 links_of rows = map (λ (r : LinkRow). r.links) rows
 
-module _ (rows : List LinkRow) (n window : ℕ) (square : IsSquare n (links_of rows)) (windows : All (λ r. r.window ≡ window) rows) (i j : ℕ) (here : i < n) (there : j < n) (row : LinkRow) (is : row ≡ get_or rows i row) where
+module _ (rows : List LinkRow) (n window : ℕ) (square : IsSquare n (links_of rows)) (windows : All (λ r. r.window ≡ window) rows) (i j : ℕ) (here : i < n)
+    (there : j < n) (row : LinkRow) (is : row ≡ get_or rows i row) where
   within : i < length rows
   within = let long = square.rows in let same = length-map rows (λ (r : LinkRow). r.links) in omega (arith, here, long, same)
 
@@ -48,6 +49,7 @@ module _ (rows : List LinkRow) (n window : ℕ) (square : IsSquare n (links_of r
   rows-square ms new same = subst (IsSquare n) (sym (rows-put ms new same)) (square-put n (links_of rows) i j ms square here there)
 
   -- what a push leaves, whether the message came back or not
-  pub rows-pushed : {X E : Type 0} (r : Result X E) (m : E) (more : List Message) (new : LinkRow) → OnOk r (new ≡ with_link_to j more row) → IfErr r (λ back. (back ≡ m) × (new ≡ row)) → (ms : List Message) × (new ≡ with_link_to j ms row)
+  pub rows-pushed : {X E : Type 0} (r : Result X E) (m : E) (more : List Message) (new : LinkRow) → OnOk r (new ≡ with_link_to j more row) →
+      IfErr r (λ back. (back ≡ m) × (new ≡ row)) → (ms : List Message) × (new ≡ with_link_to j ms row)
   rows-pushed (Ok x) m more new ok err = (more, ok)
   rows-pushed (Err e) m more new ok err = (link_to row j, err.1 ∙ λ i. record { links = sym (put-same [] row.links j row-wide) i; window = row.window })

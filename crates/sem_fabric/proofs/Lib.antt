@@ -3,3 +3,4 @@ pub mod LinkRows
 pub mod FabricRows
 pub mod Entries
 pub mod Starts
+pub mod Marks

@@ -24,10 +24,16 @@ module _ (links : List LinkList) (window to : ℕ) (l : LinkList) (here : to < l
   window-is all = subst (λ l. l.window ≡ window) (sym is) (all to l within)
 
   -- another link in its place has other messages there
-  pub row-put : (ms : List Message) (new : LinkList) → new ≡ relined ms l → record { links = map messages (set links to new); window = window } ≡ with_link_to to ms (record { links = map messages links; window = window })
-  row-put ms new same = λ i. record { links = (map-set messages links to new ∙ ap (λ x. set (map messages links) to x) (ap messages same) ∙ sym (put-set [] (map messages links) to ms here)) i; window = window }
+  pub row-put : (ms : List Message) (new : LinkList) → new ≡ relined ms l →
+      record { links = map messages (set links to new); window = window } ≡ with_link_to to ms (record { links = map messages links; window = window })
+  row-put ms new same = λ i. record {
+    links = (map-set messages links to new ∙ ap (λ x. set (map messages links) to x) (ap messages same)
+        ∙ sym (put-set [] (map messages links) to ms here)) i;
+    window = window;
+  }
 
-  pub row-windows : (new : LinkList) (ms : List Message) → new ≡ relined ms l → All (λ l. l.window ≡ window) links → All (λ l. l.window ≡ window) (set links to new)
+  pub row-windows : (new : LinkList) (ms : List Message) → new ≡ relined ms l → All (λ l. l.window ≡ window) links →
+      All (λ l. l.window ≡ window) (set links to new)
   row-windows new ms same all =
       All-set (λ l. l.window ≡ window) links to new (ap (λ l. l.window) same ∙ window-is all) (λ k d lt. all k d lt)
 

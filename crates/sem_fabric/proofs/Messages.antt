@@ -31,7 +31,8 @@ pushed-all items m fits all = All-push IsRecord items (record_of m) all (record_
 
 -- a ring with one record more, as a link
 pub link-pushed : (old new : Buffer (List ℕ)) (m : Message) (r : List ℕ) → Fits m → r ≡ record_of m → new ≡ buffer (old.items ++ r ∷ []) old.capacity →
-    record { messages = map message_of new.items; window = new.capacity } ≡ relined (map message_of old.items ++ m ∷ []) (record { messages = map message_of old.items; window = old.capacity })
+    record { messages = map message_of new.items; window = new.capacity }
+    ≡ relined (map message_of old.items ++ m ∷ []) (record { messages = map message_of old.items; window = old.capacity })
 link-pushed old new m r fits is same =
     let now : new ≡ buffer (old.items ++ record_of m ∷ []) old.capacity = same ∙ ap (λ x. buffer (old.items ++ x ∷ []) old.capacity) is in
     λ i. record { messages = (ap (λ (b : Buffer (List ℕ)). map message_of b.items) now ∙ pushed old.items m fits) i; window = (now i).capacity }

@@ -12,7 +12,7 @@ no_message zero j = refl
 no_message (suc n) zero = refl
 no_message (suc n) (suc j) = no_message n j
 
-no_link : (m n i j : ℕ) → link_in (replicate m (replicate n [])) i j ≡ []
+pub no_link : (m n i j : ℕ) → link_in (replicate m (replicate n [])) i j ≡ []
 no_link zero n i j = refl
 no_link (suc m) n zero j = no_message n j
 no_link (suc m) n (suc i) j = no_link m n i j

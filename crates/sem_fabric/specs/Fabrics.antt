@@ -1,7 +1,6 @@
 -- The fabric at the start of a run.
 use Rattle.std.specs.Prelude.{ℕ, true, false, [], replicate, slice_set}
-use Rattle.sem_msg.specs.Setup.{Setup}
-use Rattle.sem_msg.specs.Fabric.{FabricValue}
+use Rattle.sem_msg.specs.Prelude.{Setup, FabricValue}
 
 -- all links and the journal are empty, and no kernel has a place
 abbrev pub new_fabric : Setup → FabricValue

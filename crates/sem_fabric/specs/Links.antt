@@ -1,14 +1,14 @@
 -- What the private types of a fabric hold: a link, and the links from one kernel.
 use Rattle.std.specs.Prelude.{ℕ, List, [], slice_index_or}
-use Rattle.sem_key.specs.Lists.{put}
+use Rattle.sem_msg.specs.Prelude.{put}
 use Rattle.sem_msg.specs.declared.message.Message.{Message}
 
--- the messages in a link, the oldest first, and how many there can be
+-- the messages in a link, the oldest first, and how many it can hold
 pub record LinkList : Type 0 where
   pub messages : List Message
   pub window : ℕ
 
--- the links from one kernel, by receiver, and how many messages there can be in each
+-- the links from one kernel, by receiver, and how many messages each can hold
 pub record LinkRow : Type 0 where
   pub links : List (List Message)
   pub window : ℕ

@@ -1,9 +1,10 @@
-//! What kernels share: a link for each ordered pair of them, and the journal of the run.
+//! What kernels share: a link for each ordered pair of kernels, and the journal of the run.
 #![tactic(auto)]
 
 mod fabric;
 mod laws;
 mod link;
+mod marking;
 mod row;
 
 pub use fabric::Fabric;

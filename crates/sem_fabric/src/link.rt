@@ -1,4 +1,5 @@
-ghost use Rattle.std.specs.Prelude.{◌≡◌, ◌↔◌, ◌<◌, ◌≤◌, [], ◌∷◌, ◌++◌, length, drop, nat_le, slice_get, Some, IsOk, IfOk, IfErr, IfSome, OnOk};
+ghost use Rattle.std.specs.Prelude.{◌≡◌, ◌↔◌, ◌<◌, ◌≤◌, [], ◌∷◌, ◌++◌, length, drop, nat_le};
+ghost use Rattle.std.specs.Prelude.{slice_get, Some, IsOk, IfOk, IfErr, IfSome, OnOk};
 ghost use Rattle.sem_msg.specs.Message.{Fits};
 ghost use Rattle.sem_wire.specs.Standing.{message_of as message_of_lem, IsRecord};
 ghost use Rattle.sem_fabric.specs.Links.{relined};
@@ -10,7 +11,7 @@ use sem_wire::{RECORD, decode, encode};
 use std::alloc::Global;
 use std::marker::Model;
 
-/// The messages on their way from one kernel to another, the oldest first, each as its record.
+/// The messages on their way from one kernel to another, the oldest first, each kept as its record.
 #[derive(Debug, Drop)]
 pub struct Link {
     records: HeapCircularBuffer<[u8; RECORD]>,
@@ -23,12 +24,15 @@ impl Model for Link {
 
     ghost Value = { LinkList };
 
-    ghost view = { λ l. record { messages = map message_of l.records.items; window = l.records.capacity } };
+    ghost view = { λ l. record {
+      messages = map message_of l.records.items;
+      window = l.records.capacity;
+    } };
 
     ghost invariant = { λ l. All IsRecord l.records.items };
 }
 
-// The message of which the bytes are the record.
+// The message whose record the bytes are.
 fn message_of(bytes: &[u8; RECORD]) -> Option<Message>
     requires { IsRecord bytes.now }
     ensures { result ≡ Some (message_of_lem bytes.now) }
@@ -49,7 +53,7 @@ impl Link {
         })
     }
 
-    /// The oldest message; none where the link is empty.
+    /// The oldest message; none if the link is empty.
     pub fn front(&self) -> Option<Message>
         ensures front { result ≡ slice_get self.now.messages 0 }
         ensures fits { IfSome result Fits }
@@ -58,7 +62,7 @@ impl Link {
         message_of(bytes)
     }
 
-    /// Takes out the oldest message; none where the link is empty.
+    /// Takes out the oldest message; none if the link is empty.
     pub fn pop(&mut self) -> Option<Message>
         ensures front { result ≡ slice_get self.old.messages 0 }
         ensures value { self.new ≡ relined (drop 1 self.old.messages) self.old }
@@ -68,7 +72,7 @@ impl Link {
         message_of(&bytes)
     }
 
-    /// Appends the message; it comes back where the link is full.
+    /// Appends the message; it comes back if the link is full.
     pub fn push(&mut self, message: Message) -> Result<(), Message>
         requires { Fits message }
         ensures variant { IsOk result ↔ (length self.old.messages < self.old.window) }
@@ -81,7 +85,7 @@ impl Link {
         }
     }
 
-    /// Whether no further message has room.
+    /// Whether there is no room for another message.
     pub fn is_full(&self) -> bool
         ensures { result ≡ nat_le self.now.window (length self.now.messages) }
     {

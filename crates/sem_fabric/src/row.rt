@@ -1,4 +1,5 @@
-ghost use Rattle.std.specs.Prelude.{◌≡◌, ◌↔◌, ◌<◌, ◌≤◌, [], ◌∷◌, ◌++◌, length, drop, nat_le, replicate, slice_get, IsOk, IfOk, IfErr, IfSome, OnOk};
+ghost use Rattle.std.specs.Prelude.{◌≡◌, ◌↔◌, ◌<◌, ◌≤◌, [], ◌∷◌, ◌++◌, length, drop, nat_le};
+ghost use Rattle.std.specs.Prelude.{replicate, slice_get, IsOk, IfOk, IfErr, IfSome, OnOk};
 ghost use Rattle.sem_msg.specs.Message.{Fits};
 ghost use Rattle.sem_fabric.specs.Links.{link_to, with_link_to};
 
@@ -27,9 +28,12 @@ impl Model for Row {
 }
 
 impl Row {
-    /// An empty link to each of so many kernels, with room for `window` messages each.
+    /// An empty link to each of that many kernels, with room for `window` messages each.
     pub fn new(alloc: Global, kernels: u32, window: u32) -> Result<Self, OutOfMemory>
-        ensures { IfOk result (λ row. row ≡ record { links = replicate kernels []; window = window }) }
+        ensures { IfOk result (λ row. row ≡ record {
+          links = replicate kernels [];
+          window = window;
+        }) }
     {
         let mut links = Vec::new(alloc);
         for _ in 0..kernels {
@@ -38,7 +42,7 @@ impl Row {
         Ok(Row { links, window })
     }
 
-    /// The oldest message in a link; none where the link is empty.
+    /// The oldest message in a link; none if the link is empty.
     pub fn front(&self, to: u32) -> Option<Message>
         requires { to < length self.now.links }
         ensures front { result ≡ slice_get (link_to self.now to) 0 }
@@ -47,7 +51,7 @@ impl Row {
         self.links[to as usize].front()
     }
 
-    /// Takes the oldest message out of a link; none where the link is empty.
+    /// Takes the oldest message out of a link; none if the link is empty.
     pub fn pop(&mut self, to: u32) -> Option<Message>
         requires { to < length self.old.links }
         ensures front { result ≡ slice_get (link_to self.old to) 0 }
@@ -57,18 +61,19 @@ impl Row {
         self.links[to as usize].pop()
     }
 
-    /// Appends the message to a link; it comes back where the link is full.
+    /// Appends the message to a link; it comes back if the link is full.
     pub fn push(&mut self, to: u32, message: Message) -> Result<(), Message>
         requires to_kernel { to < length self.old.links }
         requires fits { Fits message }
         ensures variant { IsOk result ↔ (length (link_to self.old to) < self.old.window) }
-        ensures ok { OnOk result (self.new ≡ with_link_to to (link_to self.old to ++ message ∷ []) self.old) }
+        ensures ok { OnOk result (self.new
+            ≡ with_link_to to (link_to self.old to ++ message ∷ []) self.old) }
         ensures err { IfErr result (λ back. (back ≡ message) × (self.new ≡ self.old)) }
     {
         self.links[to as usize].push(message)
     }
 
-    /// Whether no further message has room in a link.
+    /// Whether a link has no room for another message.
     pub fn is_full(&self, to: u32) -> bool
         requires { to < length self.now.links }
         ensures { result ≡ nat_le self.now.window (length (link_to self.now to)) }

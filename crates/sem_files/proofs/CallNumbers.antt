@@ -1,5 +1,6 @@
 -- How many calls there are with one command more.
-use Rattle.std.proofs.Common.{◌≡◌, ℕ, ◌+◌, ◌≤◌, ◌==◌, inl, inr, Bool, true, false, true≢false, cond, ◌||◌, List, [], ◌∷◌, ◌++◌, length, length-append, refl, sym, ◌∙◌, arith, append_assoc, append-nil, eq-eqb, ne_eqb}
+use Rattle.std.proofs.Common.{◌≡◌, ℕ, ◌+◌, ◌≤◌, ◌==◌, inl, inr, Bool, true, false, true≢false, cond, ◌||◌, List, [], ◌∷◌, ◌++◌, length, length-append, refl}
+use Rattle.std.proofs.Common.{sym, ◌∙◌, arith, append_assoc, append-nil, eq-eqb, ne_eqb}
 use Rattle.std.proofs.lemmas.Bool.{cases_Bool}
 use Rattle.sem_files.specs.declared.files.Command.{Command}
 use Rattle.sem_files.specs.Files.{Files, is_client, extents_of}
@@ -9,14 +10,16 @@ use Rattle.sem_files.specs.OneMore.{is_begun, new_calls}
 use Rattle.sem_files.proofs.Lists.{any_more, sum_of-one}
 
 -- where each file has as many extents, a client makes the same calls
-pub calls_from-same : (F G : Files) (v : ℕ) (before cs : List Command) → ((f : ℕ) → extents_of G f ≡ extents_of F f) → calls_from G v before cs ≡ calls_from F v before cs
+pub calls_from-same : (F G : Files) (v : ℕ) (before cs : List Command) → ((f : ℕ) → extents_of G f ≡ extents_of F f) →
+    calls_from G v before cs ≡ calls_from F v before cs
 unfolding calls_from
 calls_from-same F G v before [] same = refl
 calls_from-same F G v before (c ∷ cs) same =
     rw (same _, calls_from-same F G v (before ++ c ∷ []) cs same) refl
 
 -- the calls for one command more come last
-calls_from-more : (F : Files) (v : ℕ) (before cs : List Command) (c : Command) → calls_from F v before (cs ++ c ∷ []) ≡ calls_from F v before cs ++ cond (c.client == v) (calls_of_command F (before ++ cs) c) []
+calls_from-more : (F : Files) (v : ℕ) (before cs : List Command) (c : Command) →
+    calls_from F v before (cs ++ c ∷ []) ≡ calls_from F v before cs ++ cond (c.client == v) (calls_of_command F (before ++ cs) c) []
 unfolding calls_from
 calls_from-more F v before [] c = rw (append-nil before) (append-nil _)
 calls_from-more F v before (d ∷ cs) c =
@@ -42,14 +45,16 @@ counted F v =
     ]
 
 -- the commands of a client with one more
-pub calls_more : (F : Files) (v : ℕ) (c : Command) → calls_from (with_command F c) v [] (F.commands ++ c ∷ []) ≡ calls_from F v [] F.commands ++ cond (c.client == v) (calls_of_command F F.commands c) []
+pub calls_more : (F : Files) (v : ℕ) (c : Command) → calls_from (with_command F c) v [] (F.commands ++ c ∷ []) ≡ calls_from F v [] F.commands
+    ++ cond (c.client == v) (calls_of_command F F.commands c) []
 calls_more F v c = calls_from-same F (with_command F c) v [] (F.commands ++ c ∷ []) (λ f. refl) ∙ calls_from-more F v [] F.commands c
 
 -- the other clients make the calls they made
 others : (F : Files) (c : Command) (v : ℕ) → (v ≡ c.client → ⊥) → length (client_calls (with_command F c) v) ≡ length (client_calls F v)
 others F c v other =
     let no' : (c.client == v) ≡ false = ne_eqb c.client v (λ is. other (sym is)) in
-    let begun : is_begun (F.commands ++ c ∷ []) v ≡ is_begun F.commands v = any_more (λ d. d.client == v) F.commands c ∙ (rw no' (or_false (is_begun F.commands v))) in
+    let begun : is_begun (F.commands ++ c ∷ []) v ≡ is_begun F.commands v = any_more (λ d. d.client == v) F.commands c
+    ∙ (rw no' (or_false (is_begun F.commands v))) in
     let calls : calls_from (with_command F c) v [] (F.commands ++ c ∷ []) ≡ calls_from F v [] F.commands = calls_more F v c ∙ (rw (no', append-nil) refl) in
     counted (with_command F c) v ∙ (rw (begun, calls) (sym (counted F v)))
   where
@@ -63,7 +68,8 @@ own F c =
     let v : ℕ = c.client in
     let yes' : (c.client == v) ≡ true = eq-eqb v v refl in
     let begun : is_begun (F.commands ++ c ∷ []) v ≡ true = any_more (λ d. d.client == v) F.commands c ∙ (rw yes' (or_true (is_begun F.commands v))) in
-    let calls : calls_from (with_command F c) v [] (F.commands ++ c ∷ []) ≡ calls_from F v [] F.commands ++ calls_of_command F F.commands c = calls_more F v c ∙ (rw yes' refl) in
+    let calls : calls_from (with_command F c) v [] (F.commands ++ c ∷ []) ≡ calls_from F v [] F.commands ++ calls_of_command F F.commands c = calls_more F v c
+    ∙ (rw yes' refl) in
     counted (with_command F c) v ∙ (rw (begun, calls, length-append, counted F v) (sums (is_begun F.commands v) _ _))
   where
     or_true : (b : Bool) → (b || true) ≡ true
@@ -75,6 +81,8 @@ own F c =
     sums false m n = omega arith
 
 -- one command more of a declared client
-pub call_number-more : (F : Files) (c : Command) → is_client F c.client ≡ true → 1 ≤ c.client → c.client ≤ 63 → call_number (with_command F c) ≡ call_number F + new_calls F c
+pub call_number-more : (F : Files) (c : Command) → is_client F c.client ≡ true → 1 ≤ c.client → c.client ≤ 63 →
+    call_number (with_command F c) ≡ call_number F + new_calls F c
 call_number-more F c known low high =
-    sum_of-one (λ v. length (client_calls F v)) (λ v. length (client_calls (with_command F c) v)) (is_client F) c.client (new_calls F c) 1 63 known low (omega arith) (others F c) (own F c)
+    sum_of-one (λ v. length (client_calls F v)) (λ v. length (client_calls (with_command F c) v)) (is_client F) c.client (new_calls F c) 1 63 known low
+    (omega arith) (others F c) (own F c)

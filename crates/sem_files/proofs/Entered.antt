@@ -1,5 +1,6 @@
 -- The tables after a line was entered.
-use Rattle.std.proofs.Common.{◌≡◌, ℕ, ◌+◌, ◌<◌, ◌==◌, inl, inr, Bool, true, false, true≢false, ◌||◌, List, [], ◌∷◌, ◌++◌, length, set, Option, Some, None, refl, ap, sym, ◌∙◌, subst, eq-eqb, ne_eqb}
+use Rattle.std.proofs.Common.{◌≡◌, ℕ, ◌+◌, ◌<◌, ◌==◌, inl, inr, Bool, true, false, true≢false, ◌||◌, List, [], ◌∷◌, ◌++◌, length, set, Option, Some, None, refl}
+use Rattle.std.proofs.Common.{ap, sym, ◌∙◌, subst, eq-eqb, ne_eqb}
 use Rattle.std.specs.List.{list_any, find}
 use Rattle.std.specs.Option.{option_map}
 use Rattle.std.proofs.lemmas.Bool.{cases_Bool}
@@ -24,10 +25,15 @@ or_true : (b : Bool) → (b || true) ≡ true
 or_true true = refl
 or_true false = refl
 
-pub tells_command : (t : Tables) (c : Command) (cs : List Command) (begun : List Bool) (openings : List ℕ) (handles : List (List (Option ℕ))) (used : List (List Bool)) (calls : ℕ) → Tells t → IsInRange (Do c) → context_fault (files_in t) (Do c) ≡ None → cs ≡ t.commands ++ c ∷ [] → TellsBegun (t.commands ++ c ∷ []) begun → CountsOpenings (t.commands ++ c ∷ []) openings → TellsOpen (t.commands ++ c ∷ []) handles → TellsUsed (t.commands ++ c ∷ []) used → calls ≡ t.calls + new_calls (files_in t) c → Tells (record t { commands = cs; begun = begun; openings = openings; handles = handles; used = used; calls = calls })
+pub tells_command : (t : Tables) (c : Command) (cs : List Command) (begun : List Bool) (openings : List ℕ) (handles : List (List (Option ℕ)))
+    (used : List (List Bool)) (calls : ℕ) → Tells t → IsInRange (Do c) → context_fault (files_in t) (Do c) ≡ None → cs ≡ t.commands ++ c ∷ [] →
+    TellsBegun (t.commands ++ c ∷ []) begun → CountsOpenings (t.commands ++ c ∷ []) openings → TellsOpen (t.commands ++ c ∷ []) handles →
+    TellsUsed (t.commands ++ c ∷ []) used → calls ≡ t.calls + new_calls (files_in t) c →
+    Tells (record t { commands = cs; begun = begun; openings = openings; handles = handles; used = used; calls = calls })
 tells_command t c cs begun openings handles used calls told ranges fine more begun' openings' handles' used' calls' =
     let F : Files = files_in t in
-    let number : call_number (with_command F c) ≡ call_number F + new_calls F c = call_number-more F c (new_command F c ranges (is_fine F (Do c) fine)).client ranges.0.0 ranges.0.1 in
+    let number : call_number (with_command F c) ≡ call_number F + new_calls F c =
+    call_number-more F c (new_command F c ranges (is_fine F (Do c) fine)).client ranges.0.0 ranges.0.1 in
     subst (λ ds. Tells (record t { commands = ds; begun = begun; openings = openings; handles = handles; used = used; calls = calls })) (sym more) (record {
       are = still-command F c told.are ranges (is_fine F (Do c) fine);
       extents = told.extents;
@@ -58,7 +64,8 @@ find_other p (e ∷ es) d no' =
       | inr other ↦ rw other (find_other p es d no')
     ]
 
-pub tells_file : (t : Tables) (d : FileDecl) (ds : List FileDecl) → Tells t → d.file < length t.extents → IsInRange (File d) → context_fault (files_in t) (File d) ≡ None → ds ≡ t.files ++ d ∷ [] → Tells (record t { files = ds; extents = set t.extents d.file (Some d.extents) })
+pub tells_file : (t : Tables) (d : FileDecl) (ds : List FileDecl) → Tells t → d.file < length t.extents → IsInRange (File d) →
+    context_fault (files_in t) (File d) ≡ None → ds ≡ t.files ++ d ∷ [] → Tells (record t { files = ds; extents = set t.extents d.file (Some d.extents) })
 tells_file t d ds told within ranges fine more =
     let F : Files = files_in t in
     subst (λ es. Tells (record t { files = es; extents = set t.extents d.file (Some d.extents) })) (sym more) (record {
@@ -74,7 +81,8 @@ tells_file t d ds told within ranges fine more =
       calls = told.calls ∙ sym (call_number-file F d told.are);
     })
 
-pub tells_client : (t : Tables) (v : ℕ) (vs : List ℕ) → Tells t → v < length t.declared → IsInRange (Client v) → context_fault (files_in t) (Client v) ≡ None → vs ≡ t.clients ++ v ∷ [] → Tells (record t { clients = vs; declared = set t.declared v true })
+pub tells_client : (t : Tables) (v : ℕ) (vs : List ℕ) → Tells t → v < length t.declared → IsInRange (Client v) → context_fault (files_in t) (Client v) ≡ None →
+    vs ≡ t.clients ++ v ∷ [] → Tells (record t { clients = vs; declared = set t.declared v true })
 tells_client t v vs told within ranges fine more =
     let F : Files = files_in t in
     let new : is_client F v ≡ false = (is_fine F (Client v) fine).once in

@@ -1,5 +1,6 @@
 -- What is declared stays as it is where more is declared.
-use Rattle.std.proofs.Common.{◌≡◌, ℕ, ◌==◌, inl, inr, Bool, true, false, true≢false, cond, List, [], ◌∷◌, ◌++◌, Option, Some, None, refl, ap, sym, ◌∙◌, subst, arith, append_assoc, append-nil, eqb-true}
+use Rattle.std.proofs.Common.{◌≡◌, ℕ, ◌==◌, inl, inr, Bool, true, false, true≢false, cond, List, [], ◌∷◌, ◌++◌, Option, Some, None, refl, ap, sym, ◌∙◌, subst}
+use Rattle.std.proofs.Common.{arith, append_assoc, append-nil, eqb-true}
 use Rattle.std.specs.List.{list_any, find}
 use Rattle.std.specs.Option.{is_some, unwrap_or}
 use Rattle.std.proofs.lemmas.Bool.{cases_Bool}
@@ -80,7 +81,8 @@ command_kept F G before c keeps is = record {
 abbrev pub OpensFiles : Files → List Command → Type 0
 OpensFiles F before = (v h f : ℕ) → open_file before v h ≡ Some f → is_file F f ≡ true
 
-opened_by : (F : Files) (before : List Command) (u f : ℕ) (act : FileAct) (o : Option ℕ) → IsAct F before u act → (o ≡ Some f → is_file F f ≡ true) → open_after o act ≡ Some f → is_file F f ≡ true
+opened_by : (F : Files) (before : List Command) (u f : ℕ) (act : FileAct) (o : Option ℕ) → IsAct F before u act → (o ≡ Some f → is_file F f ≡ true) →
+    open_after o act ≡ Some f → is_file F f ≡ true
 opened_by F before u f (OpenFile handle file) o is old opened = subst (λ g. is_file F g ≡ true) (same_Some file f opened) is.0
 opened_by F before u f (Read handle off len) o is old opened = old opened
 opened_by F before u f (Write handle off len) o is old opened = old opened
@@ -95,7 +97,8 @@ opens_more F before c opens is v h f opened =
       | inr other ↦ opens v h f (rw other at after)
     ]
 
-opened_file : (F : Files) (before : List Command) (v h f : ℕ) → OpensFiles F before → open_file before v h ≡ Some f → is_file F (unwrap_or (open_file before v h) 0) ≡ true
+opened_file : (F : Files) (before : List Command) (v h f : ℕ) → OpensFiles F before → open_file before v h ≡ Some f →
+    is_file F (unwrap_or (open_file before v h) 0) ≡ true
 opened_file F before v h f opens opened = rw opened (opens v h f opened)
 
 act_file : (F : Files) (before : List Command) (v : ℕ) (act : FileAct) → OpensFiles F before → IsAct F before v act → is_file F (file_of before v act) ≡ true
@@ -126,10 +129,12 @@ begun_known F v before (c ∷ cs) may begun =
     ]
 
 -- the calls of a client stay the same
-pub calls_kept : (F G : Files) (v : ℕ) (before cs : List Command) → Keeps F G → OpensFiles F before → MayCome F before cs → calls_from G v before cs ≡ calls_from F v before cs
+pub calls_kept : (F G : Files) (v : ℕ) (before cs : List Command) → Keeps F G → OpensFiles F before → MayCome F before cs →
+    calls_from G v before cs ≡ calls_from F v before cs
 unfolding calls_from
 calls_kept F G v before [] keeps opens may = refl
 calls_kept F G v before (c ∷ cs) keeps opens may =
     let first = first_comes F before cs c may in
-    let same : extents_of G (file_of before c.client c.act) ≡ extents_of F (file_of before c.client c.act) = keeps.extents _ (act_file F before c.client c.act opens first.act) in
+    let same : extents_of G (file_of before c.client c.act) ≡ extents_of F (file_of before c.client c.act) =
+    keeps.extents _ (act_file F before c.client c.act opens first.act) in
     rw (same, calls_kept F G v (before ++ c ∷ []) cs keeps (opens_more F before c opens first) (rest_comes F before cs c may)) refl

@@ -1,5 +1,6 @@
 -- Lists with one element more, and sums over lists.
-use Rattle.std.proofs.Common.{◌≡◌, ℕ, zero, suc, ◌+◌, ◌<◌, ◌≤◌, inl, inr, Bool, true, false, cond, ◌||◌, List, [], ◌∷◌, ◌++◌, length, get_or, set, refl, ap, sym, ◌∙◌, arith, append_assoc, append-nil}
+use Rattle.std.proofs.Common.{◌≡◌, ℕ, zero, suc, ◌+◌, ◌<◌, ◌≤◌, inl, inr, Bool, true, false, cond, ◌||◌, List, [], ◌∷◌, ◌++◌, length, get_or, set, refl, ap}
+use Rattle.std.proofs.Common.{sym, ◌∙◌, arith, append_assoc, append-nil}
 use Rattle.std.specs.List.{filter, flat_map, list_any, range_with_len, sum_by}
 use Rattle.std.proofs.lemmas.Bool.{cases_Bool, cases_eq}
 use Rattle.std.proofs.lemmas.List.Sums.{sum_by-cons}
@@ -30,7 +31,8 @@ length-range a zero = refl
 length-range a (suc n) = ap suc (length-range (a + 1) n)
 
 -- a table in which one entry is written
-pub table_set : {Y : Type 0} (table : List Y) (i : ℕ) (x d : Y) (f g : ℕ → Y) → i < length table → ((u : ℕ) → get_or table u d ≡ f u) → g i ≡ x → ((u : ℕ) → (u ≡ i → ⊥) → g u ≡ f u) → (u : ℕ) → get_or (set table i x) u d ≡ g u
+pub table_set : {Y : Type 0} (table : List Y) (i : ℕ) (x d : Y) (f g : ℕ → Y) → i < length table → ((u : ℕ) → get_or table u d ≡ f u) → g i ≡ x →
+    ((u : ℕ) → (u ≡ i → ⊥) → g u ≡ f u) → (u : ℕ) → get_or (set table i x) u d ≡ g u
 table_set table i x d f g within tells here others u =
     elim (cases_eq u i) [
       | inl same ↦ rw (same, get_or-set_same table i x d within) (sym here)
@@ -50,14 +52,16 @@ sum_of-cons f p x xs =
     ]
 
 -- f and g agree wherever a number passes
-pub sum_of-same : (f g : ℕ → ℕ) (p q : ℕ → Bool) (a n : ℕ) → ((u : ℕ) → a ≤ u → cond (q u) (g u) 0 ≡ cond (p u) (f u) 0) → sum_of g q (range_with_len a n) ≡ sum_of f p (range_with_len a n)
+pub sum_of-same : (f g : ℕ → ℕ) (p q : ℕ → Bool) (a n : ℕ) → ((u : ℕ) → a ≤ u → cond (q u) (g u) 0 ≡ cond (p u) (f u) 0) →
+    sum_of g q (range_with_len a n) ≡ sum_of f p (range_with_len a n)
 sum_of-same f g p q a zero same = refl
 sum_of-same f g p q a (suc n) same =
     let rest = sum_of-same f g p q (a + 1) n (λ u low. same u (omega arith)) in
     sum_of-cons g q a (range_with_len (a + 1) n) ∙ (rw (same a (omega arith), rest) (sym (sum_of-cons f p a (range_with_len (a + 1) n))))
 
 -- they agree but for one number, where g is greater by k
-pub sum_of-one : (f g : ℕ → ℕ) (p : ℕ → Bool) (w k a n : ℕ) → p w ≡ true → a ≤ w → w < a + n → ((u : ℕ) → (u ≡ w → ⊥) → g u ≡ f u) → g w ≡ f w + k → sum_of g p (range_with_len a n) ≡ sum_of f p (range_with_len a n) + k
+pub sum_of-one : (f g : ℕ → ℕ) (p : ℕ → Bool) (w k a n : ℕ) → p w ≡ true → a ≤ w → w < a + n → ((u : ℕ) → (u ≡ w → ⊥) → g u ≡ f u) → g w ≡ f w + k →
+    sum_of g p (range_with_len a n) ≡ sum_of f p (range_with_len a n) + k
 sum_of-one f g p w k a zero passes low high others here = absurd (omega arith)
 sum_of-one f g p w k a (suc n) passes low high others here =
     let xs = range_with_len (a + 1) n in

@@ -1,5 +1,6 @@
 -- The tables where nothing is said.
-use Rattle.std.proofs.Common.{◌≡◌, ℕ, zero, suc, ◌<◌, ◌≤◌, Bool, true, false, true≢false, List, [], ◌∷◌, ◌++◌, get_or, replicate, None, refl, ap, sym, ◌∙◌, subst, arith}
+use Rattle.std.proofs.Common.{◌≡◌, ℕ, zero, suc, ◌<◌, ◌≤◌, Bool, true, false, true≢false, List, [], ◌∷◌, ◌++◌, get_or, replicate, None, refl, ap, sym, ◌∙◌}
+use Rattle.std.proofs.Common.{subst, arith}
 use Rattle.std.proofs.lemmas.List.Elements.{All-nil}
 use Rattle.sem_files.specs.declared.files.Command.{Command}
 use Rattle.sem_files.specs.declared.tables.Tables.{Tables}
@@ -47,7 +48,9 @@ are_none kernels some few = record {
   few_calls = let none : call_number (nothing kernels) ≡ 0 = refl in rw none (omega arith);
 }
 
-pub tells_nothing : (t : Tables) → 1 ≤ t.kernels → t.kernels ≤ 16 → t.files ≡ [] → t.clients ≡ [] → t.commands ≡ [] → t.extents ≡ replicate 16 None → t.declared ≡ replicate 64 false → t.begun ≡ replicate 64 false → t.openings ≡ replicate 64 0 → TellsOpen [] t.handles → ((v g : ℕ) → get_or (get_or t.used v []) g false ≡ false) → t.calls ≡ 0 → Tells t
+pub tells_nothing : (t : Tables) → 1 ≤ t.kernels → t.kernels ≤ 16 → t.files ≡ [] → t.clients ≡ [] → t.commands ≡ [] → t.extents ≡ replicate 16 None →
+    t.declared ≡ replicate 64 false → t.begun ≡ replicate 64 false → t.openings ≡ replicate 64 0 → TellsOpen [] t.handles →
+    ((v g : ℕ) → get_or (get_or t.used v []) g false ≡ false) → t.calls ≡ 0 → Tells t
 tells_nothing t some few files clients commands extents declared begun openings handles used calls =
     let said : files_in t ≡ nothing t.kernels = rw (files, clients, commands) refl in
     record {

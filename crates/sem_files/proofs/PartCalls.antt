@@ -21,7 +21,8 @@ length-part access h off len i =
     ]
 
 -- the calls so far, and those of one extent more
-pub parts-more : (off len i n : ℕ) → ((access : ℕ → ℕ → Call) (h : ℕ) → n ≡ length (flat_map (part_accessed access h off len) (below i))) → (access : ℕ → ℕ → Call) (h : ℕ) → n + cond (touches off len i) 2 0 ≡ length (flat_map (part_accessed access h off len) (below (i + 1)))
+pub parts-more : (off len i n : ℕ) → ((access : ℕ → ℕ → Call) (h : ℕ) → n ≡ length (flat_map (part_accessed access h off len) (below i))) →
+    (access : ℕ → ℕ → Call) (h : ℕ) → n + cond (touches off len i) 2 0 ≡ length (flat_map (part_accessed access h off len) (below (i + 1)))
 parts-more off len i n so_far access h =
     rw (below-more i, flat_map-push (part_accessed access h off len) (below i) i, length-append, ← so_far access h, length-part access h off len i) refl
 

@@ -40,9 +40,21 @@ module _ {Y : Type 0} (h : FileLine → Option Y) where
 
 pub files_of-more : (kernels : ℕ) (ls : List FileLine) (l : FileLine) → files_of kernels (ls ++ l ∷ []) ≡ with_line (files_of kernels ls) l
 unfolding files_of
-files_of-more kernels ls (Kernels n) = rw (given_none said_file ls (Kernels n) refl, given_none said_client ls (Kernels n) refl, given_none said_command ls (Kernels n) refl) refl
-files_of-more kernels ls (File d) = rw (given_more said_file ls (File d), given_none said_client ls (File d) refl, given_none said_command ls (File d) refl) refl
-files_of-more kernels ls (Client v) = rw (given_none said_file ls (Client v) refl, given_more said_client ls (Client v), given_none said_command ls (Client v) refl) refl
+files_of-more kernels ls (Kernels n) = rw (
+  given_none said_file ls (Kernels n) refl,
+  given_none said_client ls (Kernels n) refl,
+  given_none said_command ls (Kernels n) refl,
+) refl
+files_of-more kernels ls (File d) = rw (
+  given_more said_file ls (File d),
+  given_none said_client ls (File d) refl,
+  given_none said_command ls (File d) refl,
+) refl
+files_of-more kernels ls (Client v) = rw (
+  given_none said_file ls (Client v) refl,
+  given_more said_client ls (Client v),
+  given_none said_command ls (Client v) refl,
+) refl
 files_of-more kernels ls (Do c) = rw (given_none said_file ls (Do c) refl, given_none said_client ls (Do c) refl, given_more said_command ls (Do c)) refl
 files_of-more kernels ls End = rw (given_none said_file ls End refl, given_none said_client ls End refl, given_none said_command ls End refl) refl
 
@@ -56,19 +68,23 @@ ended-push ls l not_yet = any_more is_end ls l ∙ (rw not_yet refl)
 
 -- The first line and the second.
 
-pub first_line : (stage : Stage) (lines : List (List (List ℕ))) (words : List (List ℕ)) (t : Tables) → stage ≡ Start → IsReadTo stage lines t → form_fault first_form words ≡ None → (words_fault lines words ≡ None) × IsReadTo Named (lines ++ words ∷ []) t
+pub first_line : (stage : Stage) (lines : List (List (List ℕ))) (words : List (List ℕ)) (t : Tables) → stage ≡ Start → IsReadTo stage lines t →
+    form_fault first_form words ≡ None → (words_fault lines words ≡ None) × IsReadTo Named (lines ++ words ∷ []) t
 unfolding words_fault
 first_line stage lines words t at read fits =
     let start : lines ≡ [] = subst (λ (s : Stage). IsReadTo s lines t) at read in
     (rw start fits, (words, rw start refl))
 
-pub first_refused : (stage : Stage) (lines : List (List (List ℕ))) (words : List (List ℕ)) (t : Tables) (cause : Cause) → stage ≡ Start → form_fault first_form words ≡ Some cause → IsReadTo stage lines t → words_fault lines words ≡ Some cause
+pub first_refused : (stage : Stage) (lines : List (List (List ℕ))) (words : List (List ℕ)) (t : Tables) (cause : Cause) → stage ≡ Start →
+    form_fault first_form words ≡ Some cause → IsReadTo stage lines t → words_fault lines words ≡ Some cause
 unfolding words_fault
 first_refused stage lines words t cause at fault read =
     let start : lines ≡ [] = subst (λ (s : Stage). IsReadTo s lines t) at read in
     rw start fault
 
-pub second_line : (stage : Stage) (lines : List (List (List ℕ))) (words : List (List ℕ)) (t new : Tables) (kernels : ℕ) → stage ≡ Named → IsReadTo stage lines t → form_fault second_form words ≡ None → kernels ≡ number_at words 1 → files_in new ≡ files_of kernels [] → (words_fault lines words ≡ None) × IsReadTo Open (lines ++ words ∷ []) new
+pub second_line : (stage : Stage) (lines : List (List (List ℕ))) (words : List (List ℕ)) (t new : Tables) (kernels : ℕ) → stage ≡ Named →
+    IsReadTo stage lines t → form_fault second_form words ≡ None → kernels ≡ number_at words 1 → files_in new ≡ files_of kernels [] →
+    (words_fault lines words ≡ None) × IsReadTo Open (lines ++ words ∷ []) new
 unfolding words_fault is_ended
 second_line stage lines words t new kernels at read fits is says =
     let named : IsReadTo Named lines t = subst (λ (s : Stage). IsReadTo s lines t) at read in (
@@ -83,7 +99,8 @@ second_line stage lines words t new kernels at read fits is says =
       },
     )
 
-pub second_refused : (stage : Stage) (lines : List (List (List ℕ))) (words : List (List ℕ)) (t : Tables) (cause : Cause) → stage ≡ Named → form_fault second_form words ≡ Some cause → IsReadTo stage lines t → words_fault lines words ≡ Some cause
+pub second_refused : (stage : Stage) (lines : List (List (List ℕ))) (words : List (List ℕ)) (t : Tables) (cause : Cause) → stage ≡ Named →
+    form_fault second_form words ≡ Some cause → IsReadTo stage lines t → words_fault lines words ≡ Some cause
 unfolding words_fault
 second_refused stage lines words t cause at fault read =
     let named : IsReadTo Named lines t = subst (λ (s : Stage). IsReadTo s lines t) at read in
@@ -99,11 +116,15 @@ stage_read false lines t opened = opened
 pub opened : (stage : Stage) (lines : List (List (List ℕ))) (t : Tables) → stage ≡ Open → IsReadTo stage lines t → IsOpened lines t false
 opened stage lines t at read = subst (λ (s : Stage). IsReadTo s lines t) at read
 
-pub open_line : (lines : List (List (List ℕ))) (words : List (List ℕ)) (t after : Tables) (l : FileLine) → IsOpened lines t false → form_fault (form words) words ≡ None → l ≡ said words → context_fault (files_in t) l ≡ None → files_in after ≡ with_line (files_in t) l → (words_fault lines words ≡ None) × IsReadTo (cond (is_end l) Ended Open) (lines ++ words ∷ []) after
+pub open_line : (lines : List (List (List ℕ))) (words : List (List ℕ)) (t after : Tables) (l : FileLine) → IsOpened lines t false →
+    form_fault (form words) words ≡ None → l ≡ said words → context_fault (files_in t) l ≡ None → files_in after ≡ with_line (files_in t) l →
+    (words_fault lines words ≡ None) × IsReadTo (cond (is_end l) Ended Open) (lines ++ words ∷ []) after
 unfolding words_fault body_fault
 open_line lines words t after l read fits is accepted entered =
-    let more : map said (read.earlier ++ words ∷ []) ≡ map said read.earlier ++ l ∷ [] = map-push said read.earlier words ∙ ap (λ (k : FileLine). map said read.earlier ++ k ∷ []) (sym is) in
-    let fine : context_fault (files_of (number_at read.second 1) (map said read.earlier)) l ≡ None = subst (λ (F : Files). context_fault F l ≡ None) read.says accepted in (
+    let more : map said (read.earlier ++ words ∷ []) ≡ map said read.earlier ++ l ∷ [] = map-push said read.earlier words
+    ∙ ap (λ (k : FileLine). map said read.earlier ++ k ∷ []) (sym is) in
+    let fine : context_fault (files_of (number_at read.second 1) (map said read.earlier)) l ≡ None =
+    subst (λ (F : Files). context_fault F l ≡ None) read.says accepted in (
       rw (read.are, read.last, fits, ← is) fine,
       stage_read (is_end l) (lines ++ words ∷ []) after (record {
         first = read.first;
@@ -115,17 +136,21 @@ open_line lines words t after l read fits is accepted entered =
       }),
     )
 
-pub open_ill_formed : (lines : List (List (List ℕ))) (words : List (List ℕ)) (t : Tables) (cause : Cause) → IsOpened lines t false → form_fault (form words) words ≡ Some cause → words_fault lines words ≡ Some cause
+pub open_ill_formed : (lines : List (List (List ℕ))) (words : List (List ℕ)) (t : Tables) (cause : Cause) → IsOpened lines t false →
+    form_fault (form words) words ≡ Some cause → words_fault lines words ≡ Some cause
 unfolding words_fault body_fault
 open_ill_formed lines words t cause read fault = rw (read.are, read.last, fault) refl
 
-pub open_refused : (lines : List (List (List ℕ))) (words : List (List ℕ)) (t : Tables) (l : FileLine) (cause : Cause) → IsOpened lines t false → form_fault (form words) words ≡ None → l ≡ said words → context_fault (files_in t) l ≡ Some cause → words_fault lines words ≡ Some cause
+pub open_refused : (lines : List (List (List ℕ))) (words : List (List ℕ)) (t : Tables) (l : FileLine) (cause : Cause) → IsOpened lines t false →
+    form_fault (form words) words ≡ None → l ≡ said words → context_fault (files_in t) l ≡ Some cause → words_fault lines words ≡ Some cause
 unfolding words_fault body_fault
 open_refused lines words t l cause read fits is fault =
-    let bad : context_fault (files_of (number_at read.second 1) (map said read.earlier)) l ≡ Some cause = subst (λ (F : Files). context_fault F l ≡ Some cause) read.says fault in
+    let bad : context_fault (files_of (number_at read.second 1) (map said read.earlier)) l ≡ Some cause =
+    subst (λ (F : Files). context_fault F l ≡ Some cause) read.says fault in
     rw (read.are, read.last, fits, ← is) bad
 
-pub ended_refused : (stage : Stage) (lines : List (List (List ℕ))) (words : List (List ℕ)) (t : Tables) → stage ≡ Ended → IsReadTo stage lines t → words_fault lines words ≡ Some TooMany
+pub ended_refused : (stage : Stage) (lines : List (List (List ℕ))) (words : List (List ℕ)) (t : Tables) → stage ≡ Ended → IsReadTo stage lines t →
+    words_fault lines words ≡ Some TooMany
 unfolding words_fault body_fault
 ended_refused stage lines words t at read =
     let ended : IsOpened lines t true = subst (λ (s : Stage). IsReadTo s lines t) at read in
@@ -139,16 +164,20 @@ unfolding line_fault
 bad_bytes lines line cause fault = rw fault refl
 
 -- a line that says nothing
-pub skipped : (lines : List (List (List ℕ))) (line : List ℕ) (P : List (List (List ℕ)) → Type 0) → bytes_fault line ≡ None → is_significant (words_of line) ≡ false → P lines → (line_fault lines line ≡ None) × P (with_significant lines line)
+pub skipped : (lines : List (List (List ℕ))) (line : List ℕ) (P : List (List (List ℕ)) → Type 0) → bytes_fault line ≡ None →
+    is_significant (words_of line) ≡ false → P lines → (line_fault lines line ≡ None) × P (with_significant lines line)
 unfolding line_fault
 skipped lines line P fits nothing holds = (rw (fits, nothing) refl, rw nothing holds)
 
 -- a line that says something
-pub says : (lines : List (List (List ℕ))) (line : List ℕ) (P : List (List (List ℕ)) → Type 0) → bytes_fault line ≡ None → is_significant (words_of line) ≡ true → (words_fault lines (words_of line) ≡ None) × P (lines ++ words_of line ∷ []) → (line_fault lines line ≡ None) × P (with_significant lines line)
+pub says : (lines : List (List (List ℕ))) (line : List ℕ) (P : List (List (List ℕ)) → Type 0) → bytes_fault line ≡ None →
+    is_significant (words_of line) ≡ true → (words_fault lines (words_of line) ≡ None) × P (lines ++ words_of line ∷ []) →
+    (line_fault lines line ≡ None) × P (with_significant lines line)
 unfolding line_fault
 says lines line P fits something holds = (rw (fits, something) holds.0, rw something holds.1)
 
-pub refused : (lines : List (List (List ℕ))) (line : List ℕ) (cause : Cause) → bytes_fault line ≡ None → is_significant (words_of line) ≡ true → words_fault lines (words_of line) ≡ Some cause → line_fault lines line ≡ Some cause
+pub refused : (lines : List (List (List ℕ))) (line : List ℕ) (cause : Cause) → bytes_fault line ≡ None → is_significant (words_of line) ≡ true →
+    words_fault lines (words_of line) ≡ Some cause → line_fault lines line ≡ Some cause
 unfolding line_fault
 refused lines line cause fits something fault = rw (fits, something) fault
 

@@ -1,5 +1,6 @@
 -- A text is read line by line.
-use Rattle.std.proofs.Common.{◌≡◌, ℕ, zero, suc, ◌+◌, ◌<◌, ◌≤◌, Bool, true, false, cond, List, [], ◌∷◌, ◌++◌, length, map, drop, get_or, Option, Some, None, refl, ap, sym, ◌∙◌, subst, arith, append_assoc, append-nil, length-append, lt-ltb, le-ltb, Result, Ok, Err, inl, inr}
+use Rattle.std.proofs.Common.{◌≡◌, ℕ, zero, suc, ◌+◌, ◌<◌, ◌≤◌, Bool, true, false, cond, List, [], ◌∷◌, ◌++◌, length, map, drop, get_or, Option, Some, None}
+use Rattle.std.proofs.Common.{refl, ap, sym, ◌∙◌, subst, arith, append_assoc, append-nil, length-append, lt-ltb, le-ltb, Result, Ok, Err, inl, inr}
 use Rattle.std.specs.List.{range_with_len}
 use Rattle.std.specs.Option.{option_map, option_or}
 use Rattle.std.proofs.lemmas.Bool.{cases_Bool}
@@ -58,7 +59,8 @@ significant-push [] line =
     ]
 significant-push (l ∷ before) line =
     elim (cases_Bool (is_significant (words_of l))) [
-      | inl says ↦ rw says (ap (λ (ls : List (List (List ℕ))). words_of l ∷ ls) (significant-push before line) ∙ onto (is_significant (words_of line)) (words_of l) (words_of line) (significant before))
+      | inl says ↦ rw says (ap (λ (ls : List (List (List ℕ))). words_of l ∷ ls) (significant-push before line)
+          ∙ onto (is_significant (words_of line)) (words_of l) (words_of line) (significant before))
       | inr nothing ↦ rw nothing (significant-push before line)
     ]
 
@@ -67,7 +69,8 @@ read_at_end [] y ys = refl
 read_at_end (x ∷ xs) y ys = read_at_end xs y ys
 
 -- the fault of a line behind those before it
-fault_here : (lines before after : List (List ℕ)) (line : List ℕ) → lines ≡ before ++ line ∷ after → fault_at lines (length before) ≡ option_map (λ cause. record { line = length before + 1; cause = cause }) (line_fault (significant before) line)
+fault_here : (lines before after : List (List ℕ)) (line : List ℕ) → lines ≡ before ++ line ∷ after →
+    fault_at lines (length before) ≡ option_map (λ cause. record { line = length before + 1; cause = cause }) (line_fault (significant before) line)
 unfolding fault_at
 fault_here lines before after line are = rw (are, take-append_seam before (line ∷ after), read_at_end before line after) refl
 
@@ -77,7 +80,8 @@ first_append h (x ∷ xs) ys none = skips (h x) (first_some h xs) (first_some h 
 
 range-append : (a n k : ℕ) → range_with_len a (n + k) ≡ range_with_len a n ++ range_with_len (a + n) k
 range-append a zero k = let e : a + 0 ≡ a = omega arith in let f : 0 + k ≡ k = omega arith in rw (e, f) refl
-range-append a (suc n) k = let e : a + suc n ≡ (a + 1) + n = omega arith in let f : suc n + k ≡ suc (n + k) = omega arith in rw (e, f, range-append (a + 1) n k) refl
+range-append a (suc n) k = let e : a + suc n ≡ (a + 1) + n = omega arith in let f : suc n + k ≡ suc (n + k) = omega arith in
+    rw (e, f, range-append (a + 1) n k) refl
 
 -- the first bad number is told, whatever comes behind
 first_bad : {Y : Type 0} (h : ℕ → Option Y) (n k : ℕ) (y : Y) → first_some h (numbers n) ≡ None → h n ≡ Some y → first_some h (numbers (n + suc k)) ≡ Some y
@@ -85,7 +89,8 @@ unfolding numbers
 first_bad h n k y none bad = let e : 0 + n ≡ n = omega arith in rw (range-append 0 n (suc k), e) (first_append h (range_with_len 0 n) _ none ∙ (rw bad refl))
 
 -- nothing is read yet
-pub read_nothing : (bytes : List ℕ) (lines : List (List ℕ)) (r : Reader) → lines ≡ lines_of bytes → length lines ≤ length bytes → r.stage ≡ Start → Tells r.tables → IsReadUpTo bytes lines 0 r
+pub read_nothing : (bytes : List ℕ) (lines : List (List ℕ)) (r : Reader) → lines ≡ lines_of bytes → length lines ≤ length bytes → r.stage ≡ Start →
+    Tells r.tables → IsReadUpTo bytes lines 0 r
 read_nothing bytes lines r are few at tells = record {
   before = [];
   lines = sym are;
@@ -97,7 +102,9 @@ read_nothing bytes lines r are few at tells = record {
 }
 
 -- one line more is read
-pub read_more : (bytes line : List ℕ) (left behind : List (List ℕ)) (number : ℕ) (old new : Reader) → (so_far : IsReadUpTo bytes left number old) → left ≡ line ∷ behind → (line_fault (significant so_far.before) line ≡ None) × IsRead (with_significant (significant so_far.before) line) new → Tells new.tables → IsReadUpTo bytes behind (number + 1) new
+pub read_more : (bytes line : List ℕ) (left behind : List (List ℕ)) (number : ℕ) (old new : Reader) → (so_far : IsReadUpTo bytes left number old) →
+    left ≡ line ∷ behind → (line_fault (significant so_far.before) line ≡ None) × IsRead (with_significant (significant so_far.before) line) new →
+    Tells new.tables → IsReadUpTo bytes behind (number + 1) new
 read_more bytes line left behind number old new so_far next accepted tells =
     let whole : lines_of bytes ≡ so_far.before ++ line ∷ behind = so_far.lines ∙ ap (λ (ls : List (List ℕ)). so_far.before ++ ls) next in
     let count : number ≡ length so_far.before = so_far.count in
@@ -115,17 +122,22 @@ read_more bytes line left behind number old new so_far next accepted tells =
     }
 
 -- a line is refused
-pub read_refused : (bytes line : List ℕ) (left behind : List (List ℕ)) (number : ℕ) (old : Reader) (cause : Cause) → (so_far : IsReadUpTo bytes left number old) → left ≡ line ∷ behind → line_fault (significant so_far.before) line ≡ Some cause → first_fault (lines_of bytes) ≡ Some (record { line = number + 1; cause = cause })
+pub read_refused : (bytes line : List ℕ) (left behind : List (List ℕ)) (number : ℕ) (old : Reader) (cause : Cause) →
+    (so_far : IsReadUpTo bytes left number old) → left ≡ line ∷ behind → line_fault (significant so_far.before) line ≡ Some cause →
+    first_fault (lines_of bytes) ≡ Some (record { line = number + 1; cause = cause })
 unfolding first_fault
 read_refused bytes line left behind number old cause so_far next fault =
     let whole : lines_of bytes ≡ so_far.before ++ line ∷ behind = so_far.lines ∙ ap (λ (ls : List (List ℕ)). so_far.before ++ ls) next in
     let count : number ≡ length so_far.before = so_far.count in
-    let here : fault_at (lines_of bytes) number ≡ Some (record { line = number + 1; cause = cause }) = rw count (fault_here (lines_of bytes) so_far.before behind line whole ∙ (rw fault refl)) in
+    let here : fault_at (lines_of bytes) number ≡ Some (record { line = number + 1; cause = cause }) =
+    rw count (fault_here (lines_of bytes) so_far.before behind line whole ∙ (rw fault refl)) in
     let long : length (lines_of bytes) ≡ number + suc (length behind) = ap length whole ∙ (length-append so_far.before (line ∷ behind) ∙ (rw count refl)) in
     rw long (first_bad (fault_at (lines_of bytes)) number (length behind) _ so_far.fine here)
 
 -- a line is not read
-pub read_stops : (bytes line : List ℕ) (left behind : List (List ℕ)) (number : ℕ) (old : Reader) (e : LineError) → (so_far : IsReadUpTo bytes left number old) → left ≡ line ∷ behind → Stops (λ cause. line_fault (significant so_far.before) line ≡ Some cause) e → IsWhy (first_fault (lines_of bytes)) (at_line (number + 1) e)
+pub read_stops : (bytes line : List ℕ) (left behind : List (List ℕ)) (number : ℕ) (old : Reader) (e : LineError) → (so_far : IsReadUpTo bytes left number old) →
+    left ≡ line ∷ behind → Stops (λ cause. line_fault (significant so_far.before) line ≡ Some cause) e →
+    IsWhy (first_fault (lines_of bytes)) (at_line (number + 1) e)
 read_stops bytes line left behind number old (LineRefused cause) so_far next stops = read_refused bytes line left behind number old cause so_far next stops
 read_stops bytes line left behind number old LineMemory so_far next stops = tt
 
@@ -135,7 +147,8 @@ all_lines bytes number r whole = sym (whole.lines ∙ (rw append-nil refl))
 
 pub no_first_fault : (bytes : List ℕ) (number : ℕ) (r : Reader) → IsReadUpTo bytes [] number r → first_fault (lines_of bytes) ≡ None
 unfolding first_fault
-no_first_fault bytes number r whole = let count : length (lines_of bytes) ≡ number = ap length (sym (all_lines bytes number r whole)) ∙ sym whole.count in rw count whole.fine
+no_first_fault bytes number r whole = let count : length (lines_of bytes) ≡ number = ap length (sym (all_lines bytes number r whole)) ∙ sym whole.count in
+    rw count whole.fine
 
 -- a text that is too long
 pub too_long : (bytes : List ℕ) → 8388608 < length bytes → refusal bytes ≡ Some (record { line = 0; cause = InputTooLong })
@@ -167,27 +180,32 @@ bad_lines lines (Refused fault) bad = rw bad refl
 bad_lines lines Memory bad = tt
 
 -- a text without its last line
-unfinished : (stage : Stage) (lines : List (List (List ℕ))) (t : Tables) → (stage ≡ Ended → ⊥) → IsReadTo stage lines t → is_ended (map said (drop 2 lines)) ≡ false
+unfinished : (stage : Stage) (lines : List (List (List ℕ))) (t : Tables) → (stage ≡ Ended → ⊥) → IsReadTo stage lines t →
+    is_ended (map said (drop 2 lines)) ≡ false
 unfolding is_ended
 unfinished Start lines t other read = rw read refl
 unfinished Named lines t other read = rw read.1 refl
 unfinished Open lines t other read = rw read.are read.last
 unfinished Ended lines t other read = absurd (other refl)
 
-pub no_end : (bytes : List ℕ) (number : ℕ) (r : Reader) → IsReadUpTo bytes [] number r → (r.stage ≡ Ended → ⊥) → lines_refusal (lines_of bytes) ≡ Some (record { line = number + 1; cause = Missing })
+pub no_end : (bytes : List ℕ) (number : ℕ) (r : Reader) → IsReadUpTo bytes [] number r → (r.stage ≡ Ended → ⊥) →
+    lines_refusal (lines_of bytes) ≡ Some (record { line = number + 1; cause = Missing })
 unfolding end_fault said_by
 no_end bytes number r whole other =
     let lines = all_lines bytes number r whole in
-    let read : is_ended (map said (drop 2 (significant (lines_of bytes)))) ≡ false = rw lines at (unfinished r.stage (significant whole.before) r.tables other whole.read) in
+    let read : is_ended (map said (drop 2 (significant (lines_of bytes)))) ≡ false =
+    rw lines at (unfinished r.stage (significant whole.before) r.tables other whole.read) in
     let count : length (lines_of bytes) ≡ number = ap length (sym lines) ∙ sym whole.count in
     rw (no_first_fault bytes number r whole, read, count) refl
 
 -- a text that is read to its end
-pub whole_text : (bytes : List ℕ) (number : ℕ) (r : Reader) (F : Files) → IsReadUpTo bytes [] number r → r.stage ≡ Ended → F ≡ files_in r.tables → Say (lines_of bytes) F
+pub whole_text : (bytes : List ℕ) (number : ℕ) (r : Reader) (F : Files) → IsReadUpTo bytes [] number r → r.stage ≡ Ended → F ≡ files_in r.tables →
+    Say (lines_of bytes) F
 unfolding end_fault said_by kernels_of
 whole_text bytes number r F whole at is =
     let opened : IsOpened (significant whole.before) r.tables true = subst (λ (s : Stage). IsReadTo s (significant whole.before) r.tables) at whole.read in
-    let are : significant (lines_of bytes) ≡ opened.first ∷ opened.second ∷ opened.earlier = ap significant (sym (all_lines bytes number r whole)) ∙ opened.are in
+    let are : significant (lines_of bytes) ≡ opened.first ∷ opened.second ∷ opened.earlier = ap significant (sym (all_lines bytes number r whole))
+    ∙ opened.are in
     record {
       accepted = rw (no_first_fault bytes number r whole, are, opened.last) refl;
       said = rw are (is ∙ opened.says);

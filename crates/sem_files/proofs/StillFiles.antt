@@ -1,6 +1,7 @@
 -- File commands with one line more pass the tests of the grammar.
 use Rattle.std.specs.Prelude.{nat_le, nat_lt}
-use Rattle.std.proofs.Common.{◌≡◌, ◌≢◌, ℕ, ◌+◌, ◌*◌, ◌<◌, ◌≤◌, ◌==◌, ◌⊎◌, inl, inr, Bool, true, false, true≢false, cond, not, ◌||◌, ◌&&◌, List, [], ◌∷◌, ◌++◌, length, Option, Some, None, refl, ap, sym, ◌∙◌, subst, arith, eq-eqb}
+use Rattle.std.proofs.Common.{◌≡◌, ◌≢◌, ℕ, ◌+◌, ◌*◌, ◌<◌, ◌≤◌, ◌==◌, ◌⊎◌, inl, inr, Bool, true, false, true≢false, cond, not, ◌||◌, ◌&&◌, List, [], ◌∷◌, ◌++◌}
+use Rattle.std.proofs.Common.{length, Option, Some, None, refl, ap, sym, ◌∙◌, subst, arith, eq-eqb}
 use Rattle.std.specs.Option.{is_some, unwrap_or, option_map_or}
 use Rattle.std.proofs.lemmas.Bool.{cases_Bool}
 use Rattle.std.proofs.lemmas.Bool.Decides.{nat_tests}
@@ -18,7 +19,8 @@ use Rattle.sem_files.specs.declared.lines.FileLine.{FileLine}
 use Rattle.sem_files.specs.declared.lines.FileLine.TheVariants.{Kernels, File, Client, Do, End}
 use Rattle.sem_files.specs.Files.{Files, EXTENT, is_client, extents_of, open_file, file_of, is_opening, open_count, handle_of, IsAct, IsRange, IsCommand}
 use Rattle.sem_files.specs.Compiled.{AreFiles, SESSION, client_calls}
-use Rattle.sem_files.specs.FileContext.{is_undeclared, is_astray, is_twice, is_repeated, is_too_long, ends_behind, is_too_much, call_number, with_command, context_fault}
+use Rattle.sem_files.specs.FileContext.{is_undeclared, is_astray, is_twice, is_repeated, is_too_long, ends_behind, is_too_much, call_number, with_command}
+use Rattle.sem_files.specs.FileContext.{context_fault}
 use Rattle.sem_files.specs.FileReads.{IsInRange, IsActInRange, IsSpan}
 use Rattle.sem_files.specs.OneMore.{with_file, with_client, with_line, is_begun}
 use Rattle.sem_files.proofs.Lists.{any_more, sum_of-same}
@@ -74,13 +76,16 @@ not_most a b no' = grind (arith, nat_tests)
 
 -- Commands.
 
-new_range : (F : Files) (v h off len : ℕ) → IsSpan off len → not (is_some (open_file F.commands v h)) ≡ false → nat_lt (EXTENT * extents_of F (unwrap_or (open_file F.commands v h) 0)) (off + len) ≡ false → IsRange F F.commands v h off len
+new_range : (F : Files) (v h off len : ℕ) → IsSpan off len → not (is_some (open_file F.commands v h)) ≡ false →
+    nat_lt (EXTENT * extents_of F (unwrap_or (open_file F.commands v h) 0)) (off + len) ≡ false → IsRange F F.commands v h off len
 new_range F v h off len (begins, some, few) open' within =
     let file = is_there (open_file F.commands v h) (not_false _ open') in
     let ends : nat_lt (EXTENT * extents_of F file.0) (off + len) ≡ false = rw file.1 at within in
     (file.0, file.1, begins, some, few, not_below _ _ ends)
 
-new_act : (F : Files) (v : ℕ) (act : FileAct) → IsActInRange act → is_astray F v act ≡ false → is_repeated F v act ≡ false → ends_behind (extents_of F (file_of F.commands v act)) act ≡ false → (is_opening act && nat_le 1000 (open_count F.commands v)) ≡ false → IsAct F F.commands v act
+new_act : (F : Files) (v : ℕ) (act : FileAct) → IsActInRange act → is_astray F v act ≡ false → is_repeated F v act ≡ false →
+    ends_behind (extents_of F (file_of F.commands v act)) act ≡ false → (is_opening act && nat_le 1000 (open_count F.commands v)) ≡ false →
+    IsAct F F.commands v act
 new_act F v (OpenFile handle file) small known once within few = (not_false _ known, is_gone _ once, not_most _ _ few)
 new_act F v (Read handle off len) small known once within few = new_range F v handle off len small.1 known within
 new_act F v (Write handle off len) small known once within few = new_range F v handle off len small.1 known within
@@ -116,7 +121,8 @@ cons_nil : (x : Command) (xs : List Command) → x ∷ xs ≡ [] → ⊥
 cons_nil x xs is = true≢false (ap is_cons is)
 
 -- the last of a list with one element more, or one before it
-last_or_before : (cs before after : List Command) (d e : Command) → cs ++ d ∷ [] ≡ before ++ e ∷ after → ((cs ≡ before) × (d ≡ e)) ⊎ ((rest : List Command) × (cs ≡ before ++ e ∷ rest))
+last_or_before : (cs before after : List Command) (d e : Command) → cs ++ d ∷ [] ≡ before ++ e ∷ after →
+    ((cs ≡ before) × (d ≡ e)) ⊎ ((rest : List Command) × (cs ≡ before ++ e ∷ rest))
 last_or_before [] [] after d e is = inl (refl, cc)
 last_or_before [] (x ∷ []) after d e is = absurd (cons_nil e after (cc))
 last_or_before [] (x ∷ y ∷ xs) after d e is = absurd (cons_nil y (xs ++ e ∷ after) (cc))
@@ -140,7 +146,8 @@ still-command F c are ranges fine = record {
   clients = are.clients;
   clients_differ = are.clients_differ;
   commands = λ before later d is. elim (last_or_before F.commands before later c d is) [
-    | inl last ↦ command_kept F (with_command F c) before d (all_keep F c) (subst (λ bs. IsCommand F bs d) last.0 (subst (λ e. IsCommand F F.commands e) last.1 (new_command F c ranges fine)))
+    | inl last ↦ command_kept F (with_command F c) before d (all_keep F c)
+        (subst (λ bs. IsCommand F bs d) last.0 (subst (λ e. IsCommand F F.commands e) last.1 (new_command F c ranges fine)))
     | inr earlier ↦ command_kept F (with_command F c) before d (all_keep F c) (are.commands before earlier.0 d earlier.1)
   ];
   few_calls = not_below CALLS (call_number (with_command F c)) (or_false_right (is_opening c.act && nat_le 1000 (open_count F.commands c.client)) _ fine.few);
@@ -173,7 +180,8 @@ still-file F d are ranges fine = record {
   some_kernel = are.some_kernel;
   few_kernels = are.few_kernels;
   files = All-push (λ e. (e.file ≤ 15) × (1 ≤ e.extents) × (e.extents ≤ 4)) F.files d are.files ranges;
-  files_differ = all_pairs_push (λ a b. a.file ≢ b.file) F.files d are.files_differ (λ k e within same. true≢false (sym (list_any_at (λ a. a.file == d.file) F.files k e within (eq-eqb _ _ same)) ∙ fine.once));
+  files_differ = all_pairs_push (λ a b. a.file ≢ b.file) F.files d are.files_differ
+      (λ k e within same. true≢false (sym (list_any_at (λ a. a.file == d.file) F.files k e within (eq-eqb _ _ same)) ∙ fine.once));
   clients = are.clients;
   clients_differ = are.clients_differ;
   commands = λ before later c is. command_kept F (with_file F d) before c (file_keeps F d) (are.commands before later c is);
@@ -193,7 +201,8 @@ client_keeps F v = record {
 pub call_number-client : (F : Files) (v : ℕ) → AreFiles F → is_client F v ≡ false → call_number (with_client F v) ≡ call_number F
 call_number-client F v are new =
     sum_of-same (λ u. length (client_calls F u)) (λ u. length (client_calls (with_client F v) u)) (is_client F) (is_client (with_client F v)) 1 63 (λ u low.
-    let calls : client_calls (with_client F v) u ≡ client_calls F u = ap (λ calls. cond (is_begun F.commands u) (OpenSession SESSION 0 ∷ calls) []) (calls_from-same F (with_client F v) u [] F.commands (λ f. refl)) in
+    let calls : client_calls (with_client F v) u ≡ client_calls F u = ap (λ calls. cond (is_begun F.commands u) (OpenSession SESSION 0 ∷ calls) [])
+    (calls_from-same F (with_client F v) u [] F.commands (λ f. refl)) in
     let known : is_client (with_client F v) u ≡ (is_client F u || (v == u)) = any_more (λ w. w == u) F.clients v in
     rw (calls, known) (counts u))
   where
@@ -221,7 +230,8 @@ still-client F v are ranges fine = record {
   files = are.files;
   files_differ = are.files_differ;
   clients = All-push (λ u. (1 ≤ u) × (u ≤ 63)) F.clients v are.clients ranges;
-  clients_differ = all_pairs_push (λ a b. a ≢ b) F.clients v are.clients_differ (λ k u within same. true≢false (sym (list_any_at (λ w. w == v) F.clients k u within (eq-eqb _ _ same)) ∙ fine.once));
+  clients_differ = all_pairs_push (λ a b. a ≢ b) F.clients v are.clients_differ
+      (λ k u within same. true≢false (sym (list_any_at (λ w. w == v) F.clients k u within (eq-eqb _ _ same)) ∙ fine.once));
   commands = λ before later c is. command_kept F (with_client F v) before c (client_keeps F v) (are.commands before later c is);
   few_calls = rw (call_number-client F v are fine.once) are.few_calls;
 }

@@ -1,23 +1,21 @@
--- The setup that file commands are compiled to ("File commands" in docs/machine.md).
-use Rattle.std.specs.Prelude.{◌≡◌, ◌≢◌, ℕ, ◌≤◌, ◌+◌, ◌-◌, ◌*◌, ◌%◌, ◌==◌, nat_lt, ◌||◌, List, [], ◌∷◌, ◌++◌, length, map, filter, flat_map, Option, Some, None, All, AllPairs, sum_by, if◌then◌else◌}
+-- The setup that file commands compile to ("File commands" in docs/machine.md).
+use Rattle.std.specs.Prelude.{◌≡◌, ◌≢◌, ℕ, ◌≤◌, ◌+◌, ◌-◌, ◌*◌, ◌%◌, ◌==◌, nat_lt, ◌||◌, List, [], ◌∷◌, ◌++◌, length}
+use Rattle.std.specs.Prelude.{map, filter, flat_map, Option, Some, None, All, AllPairs, sum_by, if◌then◌else◌}
 use Rattle.std.specs.List.{list_any, range_with_len}
-use Rattle.sem_key.specs.declared.limits.TheConstants.{PES, RIGHTS}
-use Rattle.sem_key.specs.declared.key.Kind.TheVariants.{Serv as ServKind}
-use Rattle.sem_key.specs.declared.object.Object.TheVariants.{Mem, Serv}
-use Rattle.sem_key.specs.KeyName.{KeyName}
+use Rattle.sem_msg.specs.Prelude.{PES, RIGHTS, ServKind, Mem, Serv, KeyName, Setup}
 use Rattle.sem_msg.specs.declared.call.Call.{Call}
-use Rattle.sem_msg.specs.declared.call.Call.TheVariants.{Delegate, OpenSession, AskOffer, Revoke, Bind, Read as ReadCall, Write as WriteCall}
+use Rattle.sem_msg.specs.declared.call.Call.TheVariants.{Delegate, OpenSession, AskOffer, Revoke, Bind}
+use Rattle.sem_msg.specs.declared.call.Call.TheVariants.{Read as ReadCall, Write as WriteCall}
 use Rattle.sem_msg.specs.declared.limits.TheConstants.{CALLS}
 use Rattle.sem_msg.specs.declared.setup.Root.{Root}
 use Rattle.sem_msg.specs.declared.setup.Offer.{Offer}
 use Rattle.sem_msg.specs.declared.setup.VpeDecl.{VpeDecl}
-use Rattle.sem_msg.specs.Setup.{Setup}
 use Rattle.sem_files.specs.declared.files.FileAct.{FileAct}
 use Rattle.sem_files.specs.declared.files.FileAct.TheVariants.{OpenFile, Read, Write, Share, Close}
 use Rattle.sem_files.specs.declared.files.Command.{Command}
 use Rattle.sem_files.specs.Files.{Files, EXTENT, is_file, is_client, extents_of, file_of, IsCommand}
 
--- Where things stand.
+-- The places of things.
 
 -- the VPE that serves files
 abbrev pub SERVER : ℕ
@@ -38,11 +36,11 @@ extent_number f i = 4 * f + i
 abbrev pub extent_root : ℕ → ℕ
 extent_root x = 1 + x
 
--- the selector of a client for extent i of what handle h is open on
+-- the selector of a client for extent i of the file that handle h has open
 abbrev pub opened_at : ℕ → ℕ → ℕ
 opened_at h i = 1 + (4 * h + i)
 
--- the selector of a client for extent i of what it was given under the number g
+-- the selector of a client for extent i of the file given to it under the number g
 abbrev pub given_at : ℕ → ℕ → ℕ
 given_at g i = 128 + (4 * g + i)
 
@@ -58,14 +56,14 @@ greater a b = if nat_lt a b then b else a
 abbrev pub less : ℕ → ℕ → ℕ
 less a b = if nat_lt a b then a else b
 
--- where the part of a range in extent i begins and ends, counted from the begin of the file
+-- where the part of a range in extent i begins and ends, counted from the beginning of the file
 abbrev pub part_begin : ℕ → ℕ → ℕ
 part_begin off i = greater off (EXTENT * i)
 
 abbrev pub part_end : ℕ → ℕ → ℕ → ℕ
 part_end off len i = less (off + len) (EXTENT * (i + 1))
 
--- an extent that a range touches is bound, and the part of the range that lies in it is accessed
+-- an extent that a range touches is bound, and the part of the range in it is accessed
 abbrev pub part_accessed : (ℕ → ℕ → Call) → ℕ → ℕ → ℕ → ℕ → List Call
 part_accessed access h off len i =
     let begins : ℕ = part_begin off i in
@@ -86,18 +84,18 @@ calls_of_act n (Share handle to other) =
     map (λ i. Delegate (opened_at handle i) to (given_at other i)) (below n)
 calls_of_act n (Close handle) = map (λ i. Revoke (opened_at handle i)) (below n)
 
--- the calls of a command behind others
+-- the calls of a command after others
 abbrev pub calls_of_command : Files → List Command → Command → List Call
 calls_of_command F before c = calls_of_act (extents_of F (file_of before c.client c.act)) c.act
 
--- the calls of a client for the commands behind those before them
+-- the calls of a client for the commands after those before them
 unfoldable pub calls_from : Files → ℕ → List Command → List Command → List Call
 calls_from F v before [] = []
 calls_from F v before (c ∷ cs) =
     (if c.client == v then calls_of_command F before c else [])
     ++ calls_from F v (before ++ c ∷ []) cs
 
--- a client that does anything first opens a session
+-- a client opens a session before it does anything else
 abbrev pub client_calls : Files → ℕ → List Call
 client_calls F v =
     if list_any (λ c. c.client == v) F.commands
@@ -141,7 +139,7 @@ server F = record {
 abbrev pub client : Files → ℕ → VpeDecl
 client F v = record { vpe = v; pe = v; roots = []; calls = client_calls F v }
 
--- PE p belongs to kernel p mod kernels, where there is a VPE on it
+-- PE p belongs to kernel p mod kernels, if a VPE is on it
 abbrev pub owner_of_pe : Files → ℕ → Option ℕ
 owner_of_pe F p = if (p == SERVER) || is_client F p then Some (p % F.kernels) else None
 
@@ -158,8 +156,8 @@ compiled F = record {
   kills = [];
 }
 
--- What the type of files keeps: there are 1 to 16 kernels, and its files, its clients and its
--- commands, taken as lines in this order, pass the tests of the grammar.
+-- What the type of files keeps: there are 1 to 16 kernels. Its files, its clients and its commands,
+-- taken as lines in this order, pass the tests of the grammar.
 pub record AreFiles (F : Files) : Type 0 where
   pub some_kernel : 1 ≤ F.kernels
   pub few_kernels : F.kernels ≤ 16

@@ -1,6 +1,6 @@
--- What is wrong with a line of file commands because of the lines before it ("File commands" in
--- docs/texts.md).
-use Rattle.std.specs.Prelude.{ℕ, ◌+◌, ◌*◌, ◌==◌, nat_lt, nat_le, Bool, true, false, not, ◌&&◌, ◌||◌, [], ◌∷◌, ◌++◌, length, is_some, Option, Some, None, sum_by, if◌then◌else◌}
+-- What earlier lines make wrong with a line of file commands ("File commands" in docs/texts.md).
+use Rattle.std.specs.Prelude.{ℕ, ◌+◌, ◌*◌, ◌==◌, nat_lt, nat_le, Bool, true, false, not, ◌&&◌, ◌||◌, [], ◌∷◌, ◌++◌}
+use Rattle.std.specs.Prelude.{length, is_some, Option, Some, None, sum_by, if◌then◌else◌}
 use Rattle.sem_msg.specs.declared.limits.TheConstants.{CALLS}
 use Rattle.sem_trace.specs.declared.fault.Cause.{Cause}
 use Rattle.sem_trace.specs.declared.fault.Cause.TheVariants.{OutOfRange, Undeclared, Twice, TooMany}
@@ -9,16 +9,17 @@ use Rattle.sem_files.specs.declared.files.FileAct.TheVariants.{OpenFile, Read, W
 use Rattle.sem_files.specs.declared.files.Command.{Command}
 use Rattle.sem_files.specs.declared.lines.FileLine.{FileLine}
 use Rattle.sem_files.specs.declared.lines.FileLine.TheVariants.{Kernels, File, Client, Do, End}
-use Rattle.sem_files.specs.Files.{Files, EXTENT, is_file, is_client, extents_of, open_file, file_of, is_opening, open_count, is_used}
+use Rattle.sem_files.specs.Files.{Files, EXTENT, is_file, is_client, extents_of, open_file, file_of, is_opening}
+use Rattle.sem_files.specs.Files.{open_count, is_used}
 use Rattle.sem_files.specs.Compiled.{client_calls, rising_clients}
 
--- F is what the lines before declare.
+-- F is what the earlier lines declare.
 
 -- whether a handle of a client is open
 abbrev pub is_open : Files → ℕ → ℕ → Bool
 is_open F v h = is_some (open_file F.commands v h)
 
--- whether an act of a client speaks of a file, a handle or a client that is not there
+-- whether an act of a client names a file, a handle or a client that does not exist
 abbrev pub is_astray : Files → ℕ → FileAct → Bool
 is_astray F v (OpenFile handle file) = not (is_file F file)
 is_astray F v (Read handle off len) = not (is_open F v handle)
@@ -30,8 +31,7 @@ abbrev pub is_undeclared : Files → FileLine → Bool
 is_undeclared F (Do c) = not (is_client F c.client) || is_astray F c.client c.act
 is_undeclared F line = false
 
--- whether an act opens a handle that is open, or gives to the client itself, or under a number
--- that was used
+-- whether an act opens a handle that is open, or gives to the client itself, or under a used number
 abbrev pub is_repeated : Files → ℕ → FileAct → Bool
 is_repeated F v (OpenFile handle file) = is_open F v handle
 is_repeated F v (Share handle to other) = (to == v) || is_used F.commands to other
@@ -44,7 +44,7 @@ is_twice F (Client v) = is_client F v
 is_twice F (Do c) = is_repeated F c.client c.act
 is_twice F End = false
 
--- whether a range ends behind a file of n extents
+-- whether a range ends after a file of n extents
 abbrev pub ends_behind : ℕ → FileAct → Bool
 ends_behind n (Read handle off len) = nat_lt (EXTENT * n) (off + len)
 ends_behind n (Write handle off len) = nat_lt (EXTENT * n) (off + len)
@@ -67,7 +67,7 @@ with_command F c = record {
   commands = F.commands ++ c ∷ [];
 }
 
--- whether a client opens more often than it may, or there are more calls than there may be
+-- whether a client opens more often than it may, or there is a call too many
 abbrev pub is_too_much : Files → FileLine → Bool
 is_too_much F (Do c) =
     (is_opening c.act && nat_le 1000 (open_count F.commands c.client))

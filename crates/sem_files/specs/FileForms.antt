@@ -3,7 +3,7 @@ use Rattle.std.specs.Prelude.{ℕ, List, [], ◌∷◌, codes}
 use Rattle.sem_trace.specs.Forms.{Place, Table, up_to, choice, word_at, second_form as kernels_form}
 use Rattle.sem_trace.specs.Forms.Place.{Word, Number}
 
--- a file, a handle, or the number under which a client is given to
+-- a file, a handle, or the number under which a client receives a file
 abbrev pub small : Place
 small = up_to 15
 
@@ -14,7 +14,7 @@ client = Number 1 63
 abbrev pub extents : Place
 extents = Number 1 4
 
--- where a range begins, and how long it is
+-- the beginning of a range, and its length
 abbrev pub offset : Place
 offset = up_to 16383
 
@@ -31,7 +31,7 @@ acts =
     ∷ (codes "close", small ∷ [])
     ∷ []
 
--- the lines behind the second
+-- the lines after the second
 unfoldable pub lines : List (List ℕ) → Table
 lines words =
     (codes "kernels", Number 1 16 ∷ [])
@@ -49,6 +49,6 @@ first_form = Word (codes "semper" ∷ []) ∷ Word (codes "files" ∷ []) ∷ Wo
 abbrev pub second_form : List Place
 second_form = kernels_form 1
 
--- a line behind the second
+-- a line after the second
 unfoldable pub form : List (List ℕ) → List Place
 form words = choice (lines words) (word_at words 0)

@@ -1,4 +1,4 @@
--- What the readers of lines promise, and what the numbers of a line may be where it has a form.
+-- What the readers of lines promise, and the ranges of the numbers of a line with a form.
 use Rattle.std.specs.Prelude.{◌≡◌, ℕ, ◌≤◌, List, Result, IfOk}
 use Rattle.std.specs.Result.{result_err}
 use Rattle.sem_trace.specs.declared.fault.Cause.{Cause}
@@ -10,7 +10,7 @@ use Rattle.sem_files.specs.declared.lines.FileLine.TheVariants.{Kernels, File, C
 use Rattle.sem_files.specs.FileForms.{acts, form}
 use Rattle.sem_files.specs.Said.{act_from, said}
 
--- a file, a handle, or the number under which a client is given to
+-- a file, a handle, or the number under which a client receives a file
 abbrev pub IsSmall : ℕ → Type 0
 IsSmall n = n ≤ 15
 
@@ -28,7 +28,7 @@ IsActInRange (Write handle off len) = IsSmall handle × IsSpan off len
 IsActInRange (Share handle to other) = IsSmall handle × IsClientNumber to × IsSmall other
 IsActInRange (Close handle) = IsSmall handle
 
--- so are those of a line
+-- the numbers of a line are in the ranges of their places
 abbrev pub IsInRange : FileLine → Type 0
 IsInRange (Kernels kernels) = Unit {0}
 IsInRange (File declared) = IsSmall declared.file × (1 ≤ declared.extents) × (declared.extents ≤ 4)

@@ -1,6 +1,7 @@
 -- Which texts of file commands are refused, at which line and why ("File commands" in
 -- docs/texts.md).
-use Rattle.std.specs.Prelude.{ℕ, ◌+◌, nat_lt, List, [], ◌∷◌, length, take, drop, map, slice_index_or, Option, Some, None, option_map, if◌then◌else◌}
+use Rattle.std.specs.Prelude.{ℕ, ◌+◌, nat_lt, List, [], ◌∷◌, length, take, drop, map, slice_index_or, Option, Some}
+use Rattle.std.specs.Prelude.{None, option_map, if◌then◌else◌}
 use Rattle.std.specs.Option.{option_or}
 use Rattle.sem_trace.specs.declared.fault.Cause.{Cause}
 use Rattle.sem_trace.specs.declared.fault.Cause.TheVariants.{Missing, TooMany, InputTooLong}
@@ -15,27 +16,27 @@ use Rattle.sem_files.specs.FileForms.{first_form, second_form, form}
 use Rattle.sem_files.specs.Said.{said, files_of, is_ended}
 use Rattle.sem_files.specs.FileContext.{context_fault}
 
--- what is wrong with the words of a line behind the second, and behind those of the earlier lines
--- behind it
+-- what is wrong with the words of a line after the second, given the words of the earlier lines
+-- after the second
 unfoldable pub body_fault : ℕ → List (List (List ℕ)) → List (List ℕ) → Option Cause
 body_fault kernels earlier words =
     if is_ended (map said earlier) then Some TooMany
     else option_or (form_fault (form words) words)
     (context_fault (files_of kernels (map said earlier)) (said words))
 
--- what is wrong with the words of a line, behind the words of the earlier lines that say something
+-- what is wrong with the words of a line, given the words of the earlier lines that say something
 unfoldable pub words_fault : List (List (List ℕ)) → List (List ℕ) → Option Cause
 words_fault [] words = form_fault first_form words
 words_fault (first ∷ []) words = form_fault second_form words
 words_fault (first ∷ second ∷ earlier) words = body_fault (number_at second 1) earlier words
 
--- what is wrong with a line behind such lines
+-- what is wrong with a line after such lines
 unfoldable pub line_fault : List (List (List ℕ)) → List ℕ → Option Cause
 line_fault earlier line =
     option_or (bytes_fault line)
     (if is_significant (words_of line) then words_fault earlier (words_of line) else None)
 
--- the fault of the line at a place, counted from 0, behind all lines before it
+-- the fault of the line at a place, counted from 0, after all lines before it
 unfoldable pub fault_at : List (List ℕ) → ℕ → Option TraceFault
 fault_at lines i =
     option_map (λ cause. record { line = i + 1; cause = cause })
@@ -49,7 +50,7 @@ first_fault lines = first_some (fault_at lines) (numbers (length lines))
 unfoldable pub kernels_of : List (List ℕ) → ℕ
 kernels_of lines = number_at (slice_index_or (significant lines) 1 []) 1
 
--- what the lines behind the second say
+-- what the lines after the second say
 unfoldable pub said_by : List (List ℕ) → List FileLine
 said_by lines = map said (drop 2 (significant lines))
 

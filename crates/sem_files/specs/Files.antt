@@ -1,6 +1,7 @@
 -- File commands as contracts see them, and what their type keeps ("File commands" in
 -- docs/machine.md).
-use Rattle.std.specs.Prelude.{◌≡◌, ◌≢◌, ℕ, ◌<◌, ◌≤◌, ◌+◌, ◌*◌, ◌==◌, Bool, true, false, ◌&&◌, List, length, filter, find, fold, Option, Some, None, if◌then◌else◌, unwrap_or}
+use Rattle.std.specs.Prelude.{◌≡◌, ◌≢◌, ℕ, ◌<◌, ◌≤◌, ◌+◌, ◌*◌, ◌==◌, Bool, true, false, ◌&&◌, List, length, filter}
+use Rattle.std.specs.Prelude.{find, fold, Option, Some, None, if◌then◌else◌, unwrap_or}
 use Rattle.std.specs.List.{list_any}
 use Rattle.std.specs.Option.{option_map_or}
 use Rattle.sem_files.specs.declared.files.FileAct.{FileAct}
@@ -17,19 +18,17 @@ pub record Files : Type 0 where
 
 -- Files and clients.
 
--- whether a file is declared
 abbrev pub is_file : Files → ℕ → Bool
 is_file F f = list_any (λ d. d.file == f) F.files
 
--- whether a client is declared
 abbrev pub is_client : Files → ℕ → Bool
 is_client F v = list_any (λ c. c == v) F.clients
 
--- how many extents a file has; none, if it is not declared
+-- how many extents a file has; 0 if it is not declared
 abbrev pub extents_of : Files → ℕ → ℕ
 extents_of F f = option_map_or (λ d. d.extents) (find (λ d. d.file == f) F.files) 0
 
--- Handles. What was commanded before is a list of commands.
+-- Handles. Earlier commands are a list of commands.
 
 -- the handle that an act is about
 abbrev pub handle_of : FileAct → ℕ
@@ -39,7 +38,7 @@ handle_of (Write handle off len) = handle
 handle_of (Share handle to other) = handle
 handle_of (Close handle) = handle
 
--- the file on which a handle is open after an act on it
+-- the file that a handle has open after an act on it
 abbrev pub open_after : Option ℕ → FileAct → Option ℕ
 open_after o (OpenFile handle file) = Some file
 open_after o (Read handle off len) = o
@@ -51,7 +50,7 @@ open_after o (Close handle) = None
 abbrev pub is_about : ℕ → ℕ → Command → Bool
 is_about v h c = (c.client == v) && (handle_of c.act == h)
 
--- the file on which a handle of a client is open after these commands, if it is
+-- the file that a handle of a client has open after these commands, if it is open
 abbrev pub open_file : List Command → ℕ → ℕ → Option ℕ
 open_file before v h = fold (λ o c. if is_about v h c then open_after o c.act else o) None before
 
@@ -79,18 +78,18 @@ is_used before w g = list_any (λ c. gives w g c.act) before
 
 -- What the type of files keeps: each line passes the tests of the grammar.
 
--- how many bytes an extent has
+-- the bytes of an extent
 abbrev pub EXTENT : ℕ
 EXTENT = 4096
 
 abbrev pub IsHandle : ℕ → Type 0
 IsHandle h = h ≤ 15
 
--- a handle of a client is open on a file
+-- a handle of a client has a file open
 abbrev pub IsOpen : List Command → ℕ → ℕ → Type 0
 IsOpen before v h = (f : ℕ) × (open_file before v h ≡ Some f)
 
--- a range lies in the file on which the handle is open
+-- a range lies in the file that the handle has open
 abbrev pub IsRange : Files → List Command → ℕ → ℕ → ℕ → ℕ → Type 0
 IsRange F before v h off len =
     (f : ℕ) × (open_file before v h ≡ Some f) × (off ≤ 16383) × (1 ≤ len) × (len ≤ 16384)

@@ -4,7 +4,7 @@ use Rattle.sem_files.specs.declared.files.FileAct.{FileAct}
 use Rattle.sem_files.specs.declared.files.Command.{Command}
 use Rattle.sem_files.specs.Files.{open_file, open_after, handle_of}
 
--- the handles of a client tell on which file each is open, behind these commands
+-- the handles of a client tell which file each has open after these commands
 abbrev pub TellsHandles : List Command → ℕ → List (Option ℕ) → Type 0
 TellsHandles before v hs =
     (length hs ≡ 16) × ((h : ℕ) → h ≤ 15 → slice_index_or hs h None ≡ open_file before v h)

@@ -1,5 +1,6 @@
--- What is said with one line more, and what it is that an act is counted as.
-use Rattle.std.specs.Prelude.{ℕ, ◌+◌, ◌==◌, nat_lt, Bool, List, [], ◌∷◌, ◌++◌, length, find, Option, option_map, if◌then◌else◌}
+-- File commands with one more line, and how an act is counted.
+use Rattle.std.specs.Prelude.{ℕ, ◌+◌, ◌==◌, nat_lt, Bool, List, [], ◌∷◌, ◌++◌, length, find, Option, option_map}
+use Rattle.std.specs.Prelude.{if◌then◌else◌}
 use Rattle.std.specs.List.{list_any}
 use Rattle.sem_files.specs.declared.files.FileDecl.{FileDecl}
 use Rattle.sem_files.specs.declared.files.Command.{Command}
@@ -9,7 +10,7 @@ use Rattle.sem_files.specs.Files.{Files}
 use Rattle.sem_files.specs.Compiled.{calls_of_command, part_begin, part_end}
 use Rattle.sem_files.specs.FileContext.{with_command}
 
--- with one file more
+-- with one more file
 abbrev pub with_file : Files → FileDecl → Files
 with_file F d = record {
   kernels = F.kernels;
@@ -18,7 +19,7 @@ with_file F d = record {
   commands = F.commands;
 }
 
--- with one client more
+-- with one more client
 abbrev pub with_client : Files → ℕ → Files
 with_client F v = record {
   kernels = F.kernels;
@@ -27,7 +28,7 @@ with_client F v = record {
   commands = F.commands;
 }
 
--- with one line more
+-- with one more line
 abbrev pub with_line : Files → FileLine → Files
 with_line F (Kernels kernels) = F
 with_line F (File declared) = with_file F declared
@@ -43,7 +44,7 @@ declared_extents F f = option_map (λ d. d.extents) (find (λ d. d.file == f) F.
 abbrev pub is_begun : List Command → ℕ → Bool
 is_begun commands v = list_any (λ c. c.client == v) commands
 
--- how many calls come with a command
+-- how many calls a command adds
 abbrev pub new_calls : Files → Command → ℕ
 new_calls F c =
     (if is_begun F.commands c.client then 0 else 1) + length (calls_of_command F F.commands c)

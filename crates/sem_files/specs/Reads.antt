@@ -1,5 +1,6 @@
 -- What the reader keeps of the lines so far that say something, each as its words.
-use Rattle.std.specs.Prelude.{◌≡◌, ℕ, ◌+◌, ◌≤◌, Bool, true, false, List, [], ◌∷◌, ◌++◌, length, map, Option, None, Some, if◌then◌else◌}
+use Rattle.std.specs.Prelude.{◌≡◌, ℕ, ◌+◌, ◌≤◌, Bool, true, false, List, [], ◌∷◌, ◌++◌, length, map, Option, None}
+use Rattle.std.specs.Prelude.{Some, if◌then◌else◌}
 use Rattle.std.specs.Option.{option_or}
 use Rattle.sem_trace.specs.declared.fault.Cause.{Cause}
 use Rattle.sem_trace.specs.declared.fault.TraceFault.{TraceFault}
@@ -11,7 +12,8 @@ use Rattle.sem_trace.specs.Earlier.{first_some}
 use Rattle.sem_trace.specs.Refusal.{numbers}
 use Rattle.sem_files.specs.Files.{Files}
 use Rattle.sem_files.specs.Said.{said, files_of, is_ended}
-use Rattle.sem_files.specs.FileRefusal.{words_fault, line_fault, fault_at, first_fault, end_fault, kernels_of, said_by}
+use Rattle.sem_files.specs.FileRefusal.{words_fault, line_fault, fault_at, first_fault, end_fault, kernels_of}
+use Rattle.sem_files.specs.FileRefusal.{said_by}
 use Rattle.sem_files.specs.declared.reader.Stage.{Stage}
 use Rattle.sem_files.specs.declared.reader.Stage.TheVariants.{Start, Named, Open, Ended}
 use Rattle.sem_files.specs.declared.reader.LineError.{LineError}
@@ -20,7 +22,7 @@ use Rattle.sem_files.specs.declared.reader.Reader.{Reader}
 use Rattle.sem_files.specs.declared.tables.Tables.{Tables}
 use Rattle.sem_files.specs.Tells.{Tells, files_in}
 
--- behind the second line: what is said, and whether the last line was read
+-- after the second line: what is said, and whether the last line was read
 pub record IsOpened (lines : List (List (List ℕ))) (t : Tables) (ended : Bool) : Type 0 where
   pub first : List (List ℕ)
   pub second : List (List ℕ)
@@ -35,7 +37,7 @@ IsReadTo Named lines t = (first : List (List ℕ)) × (lines ≡ first ∷ [])
 IsReadTo Open lines t = IsOpened lines t false
 IsReadTo Ended lines t = IsOpened lines t true
 
--- the reader has read these lines, and nothing was wrong with any
+-- the reader has read these lines and found nothing wrong with any
 abbrev pub IsRead : List (List (List ℕ)) → Reader → Type 0
 IsRead lines r = IsReadTo r.stage lines r.tables
 
@@ -45,23 +47,23 @@ Accepts words old new =
     (lines : List (List (List ℕ))) → IsRead lines old
     → (words_fault lines words ≡ None) × IsRead (lines ++ words ∷ []) new
 
--- that is wrong with a line of these words
+-- the cause is what is wrong with a line of these words
 abbrev pub Refuses : List (List ℕ) → Reader → Cause → Type 0
 Refuses words old cause =
     (lines : List (List (List ℕ))) → IsRead lines old → words_fault lines words ≡ Some cause
 
--- the lines with one more, if it says something
+-- the lines, and the line too, if it says something
 abbrev pub with_significant : List (List (List ℕ)) → List ℕ → List (List (List ℕ))
 with_significant lines line =
     if is_significant (words_of line) then lines ++ words_of line ∷ [] else lines
 
--- the same of a line that may say nothing
+-- the same for a line that may say nothing
 abbrev pub AcceptsLine : List ℕ → Reader → Reader → Type 0
 AcceptsLine line old new =
     (lines : List (List (List ℕ))) → IsRead lines old
     → (line_fault lines line ≡ None) × IsRead (with_significant lines line) new
 
--- why a line is not read: what is wrong with it, or memory is wanted
+-- why a line is not read: what is wrong with it, or memory was refused
 abbrev pub Stops : (Cause → Type 0) → LineError → Type 0
 Stops refuses (Refused cause) = refuses cause
 Stops refuses Memory = Unit {0}
@@ -70,8 +72,7 @@ abbrev pub RefusesLine : List ℕ → Reader → Cause → Type 0
 RefusesLine line old cause =
     (lines : List (List (List ℕ))) → IsRead lines old → line_fault lines line ≡ Some cause
 
--- The lines of a text are read but for those that are left, and nothing was wrong with any of
--- them.
+-- All lines of a text but those that are left are read, and nothing was wrong with any of them.
 pub record IsReadUpTo (bytes : List ℕ) (left : List (List ℕ)) (number : ℕ) (r : Reader) : Type 0 where
   pub before : List (List ℕ)
   pub lines : lines_of bytes ≡ before ++ left
@@ -81,7 +82,7 @@ pub record IsReadUpTo (bytes : List ℕ) (left : List (List ℕ)) (number : ℕ)
   pub tells : Tells r.tables
   pub room : number + length left ≤ length bytes
 
--- why a text is not read, where that line of it is not
+-- why a text is not read, if that line of it is not
 abbrev pub at_line : ℕ → LineError → TraceError
 at_line line (Refused cause) = RefusedText (record { line = line; cause = cause })
 at_line line Memory = NoMemory

@@ -1,5 +1,5 @@
--- What the words of a line of file commands say, where they have a form, and what lines declare
--- ("File commands" in docs/texts.md).
+-- What the words of a line of file commands with a form say, and what lines declare ("File
+-- commands" in docs/texts.md).
 use Rattle.std.specs.Prelude.{ℕ, Bool, true, false, List, drop, codes, filter_map, Option, Some, None, if◌then◌else◌}
 use Rattle.std.specs.List.{list_any}
 use Rattle.sem_trace.specs.Declarations.{stands_at, number_at}
@@ -22,7 +22,7 @@ act_from words =
     else (if is (codes "share") then Share (n 1) (n 2) (n 3)
     else Close (n 1))))
 
--- what a line behind the second says
+-- what a line after the second says
 unfoldable pub said : List (List ℕ) → FileLine
 said words =
     let is : List ℕ → Bool = stands_at words 0 in
@@ -47,7 +47,7 @@ abbrev pub said_command : FileLine → Option Command
 said_command (Do command) = Some command
 said_command line = None
 
--- the file commands of so many kernels and these lines
+-- the file commands of that many kernels and these lines
 unfoldable pub files_of : ℕ → List FileLine → Files
 files_of kernels lines = record {
   kernels = kernels;
@@ -56,7 +56,7 @@ files_of kernels lines = record {
   commands = filter_map said_command lines;
 }
 
--- whether it was said that nothing more is said
+-- whether the last line was said
 abbrev pub is_end : FileLine → Bool
 is_end End = true
 is_end line = false

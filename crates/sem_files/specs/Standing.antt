@@ -1,4 +1,4 @@
--- For which file commands a text stands ("File commands" in docs/texts.md).
+-- The file commands that a text stands for ("File commands" in docs/texts.md).
 use Rattle.std.specs.Prelude.{◌≡◌, ℕ, List, None}
 use Rattle.sem_trace.specs.TextLines.{lines_of}
 use Rattle.sem_files.specs.Files.{Files}

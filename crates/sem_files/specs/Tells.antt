@@ -17,7 +17,7 @@ files_in t = record {
   commands = t.commands;
 }
 
--- Which tables tell what of these commands.
+-- Which table tells which part of these commands.
 
 abbrev pub TellsBegun : List Command → List Bool → Type 0
 TellsBegun commands begun = (v : ℕ) → slice_index_or begun v false ≡ is_begun commands v

@@ -7,19 +7,19 @@ ghost use Rattle.sem_files.specs.FileReads.{ReadsAct};
 use crate::files::FileAct;
 use sem_trace::{Cause, Range, Words, is};
 
-/// A file, a handle, or the number under which a client is given to.
+/// A file, a handle, or the number under which a client receives a file.
 pub(crate) const SMALL: Range = Range { least: 0, most: 15 };
 
 /// A client.
 pub(crate) const CLIENT: Range = Range { least: 1, most: 63 };
 
-/// Where a range of a file begins.
+/// The beginning of a range of a file.
 const OFFSET: Range = Range {
     least: 0,
     most: 16383,
 };
 
-/// How long a range of a file is.
+/// The length of a range of a file.
 const SIZE: Range = Range {
     least: 1,
     most: 16384,

@@ -1,10 +1,21 @@
-// What is wrong with a line because of the lines before it.
+// What earlier lines make wrong with a line.
 ghost use Rattle.std.specs.Prelude.{◌≡◌, ◌≤◌, ◌&&◌, nat_le, nat_lt, true, false, if◌then◌else◌};
 ghost use Rattle.sem_msg.specs.declared.limits.TheConstants.{CALLS as CALLS_LEM};
-ghost use Rattle.sem_files.specs.Files.{is_file as is_file_lem, is_client as is_client_lem, extents_of as extents_of_lem, file_of as file_of_lem, open_file as open_file_lem, open_count, is_opening as is_opening_lem};
-ghost use Rattle.sem_files.specs.FileContext.{is_open as is_open_lem, is_astray as is_astray_lem, is_undeclared as is_undeclared_lem, is_repeated as is_repeated_lem, is_twice as is_twice_lem, ends_behind as ends_behind_lem, is_too_long as is_too_long_lem, is_too_much as is_too_much_lem, call_number, with_command, context_fault};
+ghost use Rattle.sem_files.specs.Files.{is_file as is_file_lem, is_client as is_client_lem};
+ghost use Rattle.sem_files.specs.Files.{extents_of as extents_of_lem, file_of as file_of_lem};
+ghost use Rattle.sem_files.specs.Files.{open_file as open_file_lem, open_count};
+ghost use Rattle.sem_files.specs.Files.{is_opening as is_opening_lem};
+ghost use Rattle.sem_files.specs.FileContext.{is_open as is_open_lem, is_astray as is_astray_lem};
+ghost use Rattle.sem_files.specs.FileContext.{is_undeclared as is_undeclared_lem};
+ghost use Rattle.sem_files.specs.FileContext.{is_repeated as is_repeated_lem};
+ghost use Rattle.sem_files.specs.FileContext.{is_twice as is_twice_lem};
+ghost use Rattle.sem_files.specs.FileContext.{ends_behind as ends_behind_lem};
+ghost use Rattle.sem_files.specs.FileContext.{is_too_long as is_too_long_lem};
+ghost use Rattle.sem_files.specs.FileContext.{is_too_much as is_too_much_lem, call_number};
+ghost use Rattle.sem_files.specs.FileContext.{with_command, context_fault};
 ghost use Rattle.sem_files.specs.FileReads.{IsSmall, IsClientNumber, IsActInRange, IsInRange};
-ghost use Rattle.sem_files.specs.OneMore.{declared_extents as declared_extents_lem, new_calls as new_calls_lem};
+ghost use Rattle.sem_files.specs.OneMore.{declared_extents as declared_extents_lem};
+ghost use Rattle.sem_files.specs.OneMore.{new_calls as new_calls_lem};
 ghost use Rattle.sem_files.specs.Tells.{files_in, Tells};
 
 use crate::counts::{EXTENT, calls_of_act};
@@ -14,10 +25,10 @@ use crate::tables::Tables;
 use sem_msg::CALLS;
 use sem_trace::Cause;
 
-/// How often a client can open a file.
+/// The most times that a client can open a file.
 const MOST_OPENINGS: u32 = 1000;
 
-/// How many calls there can be.
+/// The most calls of file commands.
 const MOST_CALLS: u32 = CALLS as u32;
 
 /// Whether the client opens a file. Takes no memory.
@@ -27,7 +38,7 @@ pub(crate) fn is_opening(act: &FileAct) -> bool
     matches!(act, FileAct::OpenFile { .. })
 }
 
-// Whether the range of the act ends behind a file of so many extents.
+// Whether the range of the act ends after a file of that many extents.
 fn ends_behind(extents: u8, act: &FileAct) -> bool
     ensures { result ≡ ends_behind_lem extents act.now }
 {
@@ -39,7 +50,7 @@ fn ends_behind(extents: u8, act: &FileAct) -> bool
     }
 }
 
-// How many calls open the session of a client that did something, or did not.
+// How many calls open the session of a client: none if it did something before.
 fn session_calls(begun: bool) -> u32
     ensures number { result ≡ (if begun then 0 else 1) }
     ensures few { result ≤ 1 }
@@ -56,7 +67,6 @@ impl Tables {
         self.extents.get(usize::from(file)).copied().flatten()
     }
 
-    // Whether the file is declared.
     fn is_file(&self, file: u8) -> bool
         requires { Tells self.now }
         ensures { result ≡ is_file_lem (files_in self.now) file }
@@ -64,7 +74,6 @@ impl Tables {
         self.declared_extents(file).is_some()
     }
 
-    // How many extents the file has.
     fn extents_of(&self, file: u8) -> u8
         requires { Tells self.now }
         ensures { result ≡ extents_of_lem (files_in self.now) file }
@@ -72,7 +81,6 @@ impl Tables {
         self.declared_extents(file).unwrap_or(0)
     }
 
-    // Whether the client is declared.
     fn is_client(&self, client: u16) -> bool
         requires { Tells self.now }
         ensures { result ≡ is_client_lem (files_in self.now) client }
@@ -83,7 +91,7 @@ impl Tables {
             .unwrap_or(false)
     }
 
-    // The file on which the handle of the client is open.
+    // The file that the handle of the client has open.
     fn open_file(&self, client: u16, handle: u8) -> Option<u8>
         requires tells { Tells self.now }
         requires client { IsClientNumber client }
@@ -93,7 +101,6 @@ impl Tables {
         self.handles[usize::from(client)].file(handle)
     }
 
-    // Whether the handle of the client is open.
     fn is_open(&self, client: u16, handle: u8) -> bool
         requires tells { Tells self.now }
         requires client { IsClientNumber client }
@@ -119,7 +126,7 @@ impl Tables {
         }
     }
 
-    // Whether the act speaks of a file, a handle or a client that is not there.
+    // Whether the act names a file, a handle or a client that does not exist.
     fn is_astray(&self, client: u16, act: &FileAct) -> bool
         requires tells { Tells self.now }
         requires client { IsClientNumber client }
@@ -136,7 +143,7 @@ impl Tables {
         }
     }
 
-    // Whether the line speaks of what is not there.
+    // Whether the line names something that no earlier line declares.
     fn is_undeclared(&self, line: &FileLine) -> bool
         requires tells { Tells self.now }
         requires range { IsInRange line.now }
@@ -150,7 +157,7 @@ impl Tables {
         }
     }
 
-    // Whether the act opens what is open, or gives to the client itself, or under a used number.
+    // Whether the act opens an open handle, or gives to the client itself, or under a used number.
     fn is_repeated(&self, client: u16, act: &FileAct) -> bool
         requires tells { Tells self.now }
         requires client { IsClientNumber client }
@@ -166,7 +173,7 @@ impl Tables {
         }
     }
 
-    // Whether the line says what is said already.
+    // Whether an earlier line says the same.
     fn is_twice(&self, line: &FileLine) -> bool
         requires tells { Tells self.now }
         requires range { IsInRange line.now }
@@ -181,7 +188,7 @@ impl Tables {
         }
     }
 
-    // Whether the line has a range that ends behind its file.
+    // Whether the line has a range that ends after its file.
     fn is_too_long(&self, line: &FileLine) -> bool
         requires tells { Tells self.now }
         requires range { IsInRange line.now }
@@ -196,7 +203,7 @@ impl Tables {
         }
     }
 
-    /// How many calls come with the command. Takes no memory.
+    /// How many calls the command adds.
     pub(crate) fn new_calls(&self, command: &Command) -> u32
         requires tells { Tells self.now }
         requires client { IsClientNumber command.now.client }
@@ -221,7 +228,7 @@ impl Tables {
         is_opening(&command.act) && openings >= MOST_OPENINGS
     }
 
-    // Whether there are more calls with the command than there may be.
+    // Whether the command brings a call too many.
     fn calls_too_much(&self, command: &Command) -> bool
         requires tells { Tells self.now }
         requires client { IsClientNumber command.now.client }
@@ -233,7 +240,7 @@ impl Tables {
         self.calls + self.new_calls(command) > MOST_CALLS
     }
 
-    // Whether a client opens more often than it may, or there are more calls than there may be.
+    // Whether a client opens more often than it may, or there is a call too many.
     fn is_too_much(&self, line: &FileLine) -> bool
         requires tells { Tells self.now }
         requires range { IsInRange line.now }
@@ -248,7 +255,7 @@ impl Tables {
         }
     }
 
-    /// What is wrong with the line because of the lines so far. Takes no memory.
+    /// What earlier lines make wrong with the line.
     #[tactic(auto, unfolding(crate::specs::FileContext::context_fault))]
     pub(crate) fn fault(&self, line: &FileLine) -> Option<Cause>
         requires tells { Tells self.now }

@@ -1,13 +1,14 @@
-// How many calls an act comes with.
+// How many calls an act adds.
 ghost use Rattle.std.specs.Prelude.{◌≡◌, ℕ, ◌≤◌, if◌then◌else◌, flat_map, length};
 ghost use Rattle.sem_msg.specs.declared.call.Call.{Call};
-ghost use Rattle.sem_files.specs.Compiled.{greater as greater_lem, less as less_lem, part_accessed, below, calls_of_act as calls_of_act_lem};
+ghost use Rattle.sem_files.specs.Compiled.{greater as greater_lem, less as less_lem, part_accessed};
+ghost use Rattle.sem_files.specs.Compiled.{below, calls_of_act as calls_of_act_lem};
 ghost use Rattle.sem_files.specs.OneMore.{touches};
 ghost use Rattle.sem_files.specs.FileReads.{IsActInRange};
 
 use crate::files::FileAct;
 
-/// How many bytes an extent has.
+/// The bytes of an extent.
 pub const EXTENT: u32 = 4096;
 
 fn greater(a: u32, b: u32) -> u32
@@ -37,7 +38,7 @@ fn part_calls(off: u32, len: u32, extent: u32) -> u32
     }
 }
 
-// How many calls access the range of a file of so many extents.
+// How many calls access the range of a file of that many extents.
 fn accesses(extents: u8, off: u32, len: u32) -> u32
     requires off { off ≤ 16383 }
     requires len { len ≤ 16384 }
@@ -52,7 +53,7 @@ fn accesses(extents: u8, off: u32, len: u32) -> u32
     calls
 }
 
-/// How many calls the act comes with, on a file of so many extents.
+/// How many calls the act adds, on a file of that many extents.
 pub(crate) fn calls_of_act(extents: u8, act: &FileAct) -> u32
     requires { IsActInRange act.now }
     ensures number { result ≡ length (calls_of_act_lem extents act.now) }

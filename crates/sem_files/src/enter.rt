@@ -1,12 +1,14 @@
-// A line that is accepted is entered into the tables.
-ghost use Rattle.std.specs.Prelude.{◌≡◌, ℕ, List, [], ◌∷◌, ◌++◌, ◌&&◌, nat_le, false, None, slice_index_or, OnOk};
+// Enters an accepted line into the tables.
+ghost use Rattle.std.specs.Prelude.{◌≡◌, ℕ, List, [], ◌∷◌, ◌++◌, ◌&&◌, nat_le, false, None};
+ghost use Rattle.std.specs.Prelude.{slice_index_or, OnOk};
 ghost use Rattle.sem_files.specs.declared.files.Command.{Command as CommandData};
 ghost use Rattle.sem_files.specs.declared.lines.FileLine.TheVariants.{File, Client, Do};
 ghost use Rattle.sem_files.specs.Files.{is_opening as is_opening_lem};
 ghost use Rattle.sem_files.specs.FileContext.{with_command, context_fault};
 ghost use Rattle.sem_files.specs.FileReads.{IsClientNumber, IsActInRange, IsInRange};
 ghost use Rattle.sem_files.specs.OneMore.{with_file, with_client, with_line};
-ghost use Rattle.sem_files.specs.Tells.{files_in, Tells, TellsBegun, CountsOpenings, TellsOpen, TellsUsed};
+ghost use Rattle.sem_files.specs.Tells.{files_in, Tells, TellsBegun, CountsOpenings, TellsOpen};
+ghost use Rattle.sem_files.specs.Tells.{TellsUsed};
 
 use crate::context::is_opening;
 use crate::files::{Command, FileAct, FileDecl};
@@ -25,7 +27,7 @@ fn begin(begun: &mut [bool; CLIENTS], command: &Command)
     begun[usize::from(command.client)] = true;
 }
 
-// The client may open a file once more.
+// Counts an opening of a file by the client.
 fn count_opening(openings: &mut [u32; CLIENTS], command: &Command)
     requires client { IsClientNumber command.now.client }
     requires few { (is_opening_lem command.now.act
@@ -39,7 +41,7 @@ fn count_opening(openings: &mut [u32; CLIENTS], command: &Command)
     }
 }
 
-// The client does something with a handle.
+// Notes what the client does with a handle.
 fn note_handle(handles: &mut [Handles; CLIENTS], command: &Command)
     requires client { IsClientNumber command.now.client }
     requires act { IsActInRange command.now.act }
@@ -49,7 +51,7 @@ fn note_handle(handles: &mut [Handles; CLIENTS], command: &Command)
     handles[usize::from(command.client)].note(command.act);
 }
 
-// The client may give under a number of another.
+// Notes that the client uses a number of another client to give under.
 fn use_number(used: &mut [Numbers; CLIENTS], command: &Command)
     requires { IsActInRange command.now.act }
     ensures { (commands : List CommandData) → TellsUsed commands used.old →
@@ -61,7 +63,6 @@ fn use_number(used: &mut [Numbers; CLIENTS], command: &Command)
 }
 
 impl Tables {
-    // Enters a file.
     fn enter_file(&mut self, declared: FileDecl) -> Result<(), OutOfMemory>
         requires tells { Tells self.old }
         requires range { IsInRange (File declared) }
@@ -74,7 +75,6 @@ impl Tables {
         Ok(())
     }
 
-    // Enters a client.
     fn enter_client(&mut self, client: u16) -> Result<(), OutOfMemory>
         requires tells { Tells self.old }
         requires range { IsInRange (Client client) }
@@ -87,7 +87,6 @@ impl Tables {
         Ok(())
     }
 
-    // Enters a command.
     fn enter_command(&mut self, command: Command) -> Result<(), OutOfMemory>
         requires tells { Tells self.old }
         requires range { IsInRange (Do command) }
@@ -105,7 +104,7 @@ impl Tables {
         Ok(())
     }
 
-    /// Enters what a line says with which nothing is wrong.
+    /// Enters what a line says; nothing may be wrong with it.
     pub(crate) fn enter(&mut self, line: FileLine) -> Result<(), OutOfMemory>
         requires tells { Tells self.old }
         requires range { IsInRange line }

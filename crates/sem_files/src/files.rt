@@ -10,7 +10,7 @@ pub enum FileAct {
     Read { handle: u8, off: u32, len: u32 },
     /// Write a range of the file, in bytes.
     Write { handle: u8, off: u32, len: u32 },
-    /// Give the extents of the file to another client, under a number of its own.
+    /// Give the extents of the file to another client, under a number of that client.
     Share { handle: u8, to: u16, other: u8 },
     /// Close the file.
     Close { handle: u8 },
@@ -30,16 +30,16 @@ pub struct Command {
     pub act: FileAct,
 }
 
-/// The files that are declared, in the order of their lines.
+/// The declared files, in the order of their lines.
 pub type FileList = Seq<FileDecl>;
 
-/// The clients that are declared, in the order of their lines.
+/// The declared clients, in the order of their lines.
 pub type ClientList = Seq<u16>;
 
 /// What the clients do, in the order of the lines.
 pub type CommandList = Seq<Command>;
 
-/// What a text of file commands says. Its type keeps all that such a text has to keep.
+/// What a text of file commands says. The type keeps every rule of such a text.
 #[derive(Debug, Drop)]
 pub struct Files {
     /// How many kernels there are: 1 to 16.

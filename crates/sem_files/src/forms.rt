@@ -19,7 +19,7 @@ const KERNELS: Range = Range { least: 1, most: 16 };
 /// How many extents a file has.
 const EXTENTS: Range = Range { least: 1, most: 4 };
 
-/// Sees that the line is the first of file commands. Takes no memory.
+/// Checks that the line is the first of file commands. Takes no memory.
 #[tactic(auto, unfolding(crate::specs::FileForms::first_form))]
 pub(crate) fn read_first(line: &[u8]) -> Result<(), Cause>
     ensures { form_fault first_form (words_of line.now) ≡ result_err result }
@@ -31,7 +31,7 @@ pub(crate) fn read_first(line: &[u8]) -> Result<(), Cause>
     words.no_more()
 }
 
-/// What the line says behind the second. Takes no memory.
+/// What a line after the second says. Takes no memory.
 pub(crate) fn read_line(line: &[u8]) -> Result<FileLine, Cause>
     ensures { ReadsLine (words_of line.now) result }
 {

@@ -1,5 +1,6 @@
-// On which files the handles of a client are open.
-ghost use Rattle.std.specs.Prelude.{◌≡◌, ◌≢◌, ℕ, ◌≤◌, List, [], ◌∷◌, ◌++◌, None, slice_index_or, replicate};
+// The files that the handles of a client have open.
+ghost use Rattle.std.specs.Prelude.{◌≡◌, ◌≢◌, ℕ, ◌≤◌, List, [], ◌∷◌, ◌++◌, None, slice_index_or};
+ghost use Rattle.std.specs.Prelude.{replicate};
 ghost use Rattle.sem_files.specs.declared.files.Command.{Command as CommandData};
 ghost use Rattle.sem_files.specs.Files.{handle_of};
 ghost use Rattle.sem_files.specs.Handles.{TellsHandles, handles_after};
@@ -10,7 +11,7 @@ use std::marker::Model;
 /// How many handles a client has.
 pub const HANDLES: usize = 16;
 
-/// The file on which each handle of a client is open.
+/// The file that each handle of a client has open.
 #[derive(Clone, Copy, Debug)]
 pub struct Handles {
     files: [Option<u8>; HANDLES],
@@ -37,7 +38,7 @@ impl Handles {
         }
     }
 
-    /// The file on which the handle is open. None where it is not open.
+    /// The file that the handle has open; none if it is not open.
     pub fn file(&self, handle: u8) -> Option<u8>
         ensures { result ≡ slice_index_or self.now handle None }
     {

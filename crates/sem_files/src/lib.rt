@@ -1,4 +1,4 @@
-//! File commands: what a text of them says, and the setup that they are compiled to, defined.
+//! File commands: what a text of them says, and the setup that they compile to, defined.
 #![tactic(auto)]
 
 mod acts;

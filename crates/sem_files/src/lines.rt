@@ -1,6 +1,6 @@
 use crate::files::{Command, FileDecl};
 
-/// What a line says that stands behind the second.
+/// What a line after the second says.
 #[derive(Clone, Copy, Debug, PartialEq, Eq)]
 pub enum FileLine {
     /// How many kernels there are.
@@ -11,6 +11,6 @@ pub enum FileLine {
     Client { client: u16 },
     /// A client does something.
     Do { command: Command },
-    /// Nothing more is said.
+    /// Nothing more is said: the last line.
     End,
 }

@@ -1,4 +1,4 @@
-// Under which numbers a client was given to.
+// The numbers under which a client received files.
 ghost use Rattle.std.specs.Prelude.{◌≡◌, ℕ, ◌≤◌, ◌==◌, ◌||◌, false, slice_index_or};
 
 use std::marker::Model;
@@ -6,7 +6,7 @@ use std::marker::Model;
 /// How many numbers a client has.
 const NUMBERS: usize = 16;
 
-/// Which numbers of a client were used.
+/// The used numbers of a client.
 #[derive(Clone, Copy, Debug)]
 pub(crate) struct Numbers {
     used: [bool; NUMBERS],
@@ -32,14 +32,13 @@ impl Numbers {
         }
     }
 
-    /// Whether the number was used.
     pub(crate) fn contains(&self, number: u8) -> bool
         ensures { result ≡ slice_index_or self.now number false }
     {
         self.used.get(usize::from(number)).copied().unwrap_or(false)
     }
 
-    /// The number is used.
+    /// Marks the number as used.
     pub(crate) fn put(&mut self, number: u8)
         requires { number ≤ 15 }
         ensures { (g : ℕ) →

@@ -6,7 +6,8 @@ ghost use Rattle.sem_files.specs.Said.{is_end};
 ghost use Rattle.sem_files.specs.FileRefusal.{first_fault, refusal};
 ghost use Rattle.sem_files.specs.Standing.{FilesStand};
 ghost use Rattle.sem_files.specs.Tells.{Tells, files_in};
-ghost use Rattle.sem_files.specs.Reads.{Accepts, Refuses, AcceptsLine, RefusesLine, Stops, IsReadUpTo, at_line as at_line_lem, lines_refusal, Say};
+ghost use Rattle.sem_files.specs.Reads.{Accepts, Refuses, AcceptsLine, RefusesLine, Stops};
+ghost use Rattle.sem_files.specs.Reads.{IsReadUpTo, at_line as at_line_lem, lines_refusal, Say};
 ghost use Rattle.sem_files.specs.declared.reader.LineError.TheVariants.{Refused, Memory};
 
 use crate::files::Files;
@@ -59,7 +60,7 @@ struct Reader {
     tables: Tables,
 }
 
-// Where the reader is after a line behind the second.
+// The stage of the reader after a line after the second.
 fn stage_after(line: &FileLine) -> Stage
     ensures { result ≡ (if is_end line.now then Stage.Ended else Stage.Open) }
 {
@@ -70,7 +71,7 @@ fn stage_after(line: &FileLine) -> Stage
 }
 
 impl Tables {
-    // What is said, as file commands.
+    // What the lines said, as file commands.
     fn into_files(self) -> Files
         requires { Tells self }
         ensures { result ≡ files_in self }
@@ -85,7 +86,6 @@ impl Tables {
 }
 
 impl Reader {
-    // Reads the first line.
     fn first(&mut self, line: &[u8]) -> Result<(), Cause>
         requires stage { self.old.stage ≡ Stage.Start }
         requires tells { Tells self.old.tables }
@@ -98,7 +98,6 @@ impl Reader {
         Ok(())
     }
 
-    // Reads the second line.
     fn second(&mut self, alloc: Global, line: &[u8]) -> Result<(), Cause>
         requires stage { self.old.stage ≡ Stage.Named }
         ensures ok { OnOk result (Accepts (words_of line.now) self.old self.new) }
@@ -111,7 +110,7 @@ impl Reader {
         Ok(())
     }
 
-    // Reads a line behind the second.
+    // Reads a line after the second.
     fn open(&mut self, line: &[u8]) -> Result<(), LineError>
         requires stage { self.old.stage ≡ Stage.Open }
         requires tells { Tells self.old.tables }
@@ -128,7 +127,6 @@ impl Reader {
         Ok(())
     }
 
-    // Reads a line.
     fn line(&mut self, alloc: Global, line: &[u8]) -> Result<(), LineError>
         requires tells { Tells self.old.tables }
         ensures ok { OnOk result (AcceptsLine line.now self.old self.new) }
@@ -157,7 +155,7 @@ fn refused(line: u64, cause: Cause) -> TraceError
     TraceError::Refused(TraceFault { line, cause })
 }
 
-// Why a text is not read, where that line of it is not.
+// Why a text is not read, if that line of it is not.
 fn at_line(line: u64, e: LineError) -> TraceError
     ensures { result ≡ at_line_lem line e }
 {
@@ -167,7 +165,7 @@ fn at_line(line: u64, e: LineError) -> TraceError
     }
 }
 
-// Reads all lines, and tells how many there are.
+// Reads all lines, and returns how many there are.
 fn read_lines(alloc: Global, bytes: &[u8]) -> Result<(Reader, u64), TraceError>
     ensures read { IfOk result (λ r. IsReadUpTo bytes.now [] r.1 r.0) }
     ensures refused { IfErr result (IsWhy (first_fault (lines_of bytes.now))) }
@@ -199,11 +197,11 @@ fn read_all(alloc: Global, bytes: &[u8]) -> Result<Files, TraceError>
     }
 }
 
-/// The file commands for which the text stands. The text is refused at its first bad line.
+/// The file commands that the text stands for. The text is refused at its first bad line.
 pub fn read_files(alloc: Global, bytes: &[u8]) -> Result<Files, TraceError>
-    // What is read is what the text stands for, and then it is not refused.
+    // If the text is read, it stands for the result, and is not refused.
     ensures stands { IfOk result (FilesStand bytes.now) }
-    // Where it is refused, it is refused so.
+    // If it is refused, this is its refusal.
     ensures refused { IfErr result (IsWhy (refusal bytes.now)) }
 {
     if bytes.len() > TEXT_BYTES {

@@ -8,13 +8,13 @@ use crate::handles::Handles;
 use crate::numbers::Numbers;
 use std::alloc::Global;
 
-/// How many files there can be.
+/// The most files of a text.
 pub(crate) const FILES: usize = 16;
 
-/// How many clients there can be, and one more.
+/// The number of clients that a text can declare, and one more.
 pub(crate) const CLIENTS: usize = 64;
 
-/// What is said so far, in the order of the lines, and by number.
+/// What is said so far, in the order of the lines, and by number. Only `enter` takes memory.
 #[derive(Drop)]
 pub(crate) struct Tables {
     pub kernels: u32,
@@ -31,14 +31,14 @@ pub(crate) struct Tables {
     pub openings: [u32; CLIENTS],
     /// The handles of each client.
     pub handles: [Handles; CLIENTS],
-    /// Under which numbers each client was given to.
+    /// The numbers under which each client received files.
     pub used: [Numbers; CLIENTS],
     /// How many calls there are.
     pub calls: u32,
 }
 
 impl Tables {
-    /// So many kernels, and nothing else is said.
+    /// That many kernels, and nothing else said yet.
     pub(crate) fn new(alloc: Global, kernels: u32) -> Tables
         requires some { 1 ≤ kernels }
         requires few { kernels ≤ 16 }

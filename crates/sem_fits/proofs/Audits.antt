@@ -12,7 +12,8 @@ use Rattle.sem_key.specs.KeyName.{KeyName, kind_number, packed, key_eq, key_lt}
 use Rattle.sem_key.specs.KeyList.{with_key}
 use Rattle.sem_key.specs.Lists.{in_turn}
 use Rattle.sem_msg.proofs.Declared.{most_vpes-le}
-use Rattle.sem_msg.specs.declared.call.Call.TheVariants.{Derive, Gate, Obtain, Delegate, OpenSession, AskOffer, Revoke, Bind, Read, Write, Send as SendCall, Credit, Exit, Clear}
+use Rattle.sem_msg.specs.declared.call.Call.TheVariants.{Derive, Gate, Obtain, Delegate, OpenSession, AskOffer, Revoke, Bind, Read, Write, Send as SendCall}
+use Rattle.sem_msg.specs.declared.call.Call.TheVariants.{Credit, Exit, Clear}
 use Rattle.sem_msg.specs.declared.entry.Detail.{Detail}
 use Rattle.sem_msg.specs.declared.entry.Detail.TheVariants.{Called, Carried, Asked, Nothing}
 use Rattle.sem_msg.specs.declared.entry.Entry.{Entry}
@@ -102,7 +103,8 @@ module _ (T : Setup) (valid : IsSetup T) where
   grants-length [] = omega arith
   grants-length (e ∷ es) = from e.grant (grants-length es)
     where
-      from : (g : Option (KeyName × KeyName)) → length (grants es) ≤ length es → length (filter_map (λ (x : Entry). x.grant) (record e { grant = g } ∷ es)) ≤ length
+      from : (g : Option (KeyName × KeyName)) → length (grants es) ≤ length es →
+          length (filter_map (λ (x : Entry). x.grant) (record e { grant = g } ∷ es)) ≤ length
           (e ∷ es)
       from None rest = omega (arith, rest)
       from (Some g) rest = omega (arith, rest)

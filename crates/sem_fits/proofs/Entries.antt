@@ -1,5 +1,6 @@
 -- Every entry of a schedule can be told in the text of its version.
-use Rattle.std.proofs.Common.{◌≡◌, ℕ, ◌<◌, ◌&&◌, true, false, nat_lt, not, List, [], ◌∷◌, Option, Some, None, is_none, is_some, slice_get, refl, sym, ◌∙◌, ap, subst, arith}
+use Rattle.std.proofs.Common.{◌≡◌, ℕ, ◌<◌, ◌&&◌, true, false, nat_lt, not, List, [], ◌∷◌, Option, Some, None, is_none, is_some, slice_get, refl, sym, ◌∙◌, ap}
+use Rattle.std.proofs.Common.{subst, arith}
 use Rattle.std.specs.Prelude.{◌==◌}
 use Rattle.std.specs.List.{All, Contains}
 use Rattle.std.specs.Option.{option_map, option_map_or}
@@ -28,7 +29,8 @@ use Rattle.sem_machine.specs.Sides.{Side, row, parked, outbox, is_alive, ask_tak
 use Rattle.sem_machine.specs.Steps.{Step, plain}
 use Rattle.sem_machine.specs.Asks.{asker, is_unawaited}
 use Rattle.sem_machine.specs.Upcalls.{ask_decided, upcall_row}
-use Rattle.sem_machine.specs.Machine.{World, side, link, start, local_step, local_entry, detail_of, replied_vpe, input_of, after, entry_of, is_enabled, is_allowed, is_locally_enabled, is_other_kernel, next_call}
+use Rattle.sem_machine.specs.Machine.{World, side, link, start, local_step, local_entry, detail_of, replied_vpe, input_of, after, entry_of, is_enabled}
+use Rattle.sem_machine.specs.Machine.{is_allowed, is_locally_enabled, is_other_kernel, next_call}
 use Rattle.sem_machine.specs.Schedules.{IsRun, IsSchedule}
 use Rattle.sem_sound.specs.SoundWorlds.{IsSoundWorld}
 use Rattle.sem_sound.proofs.Meeting.{calls-fit}
@@ -99,9 +101,11 @@ module _ (T : Setup) (valid : IsSetup T) (W : World) (near : NearWorld T W) (sou
           (front-among (link W j i) m there) in ((refl, kernel, message-fits T.version m fits input), short-message j m fits)
   told Handle o node enabled allowed same shown = from (side W i).inbox refl (side-near T W near i).inbox enabled
     where
-      from : (m : Option (ℕ × Message)) → (side W i).inbox ≡ m → NearInbox T.version m → is_some m ≡ true → Told Handle (option_map_or (λ q. Carried q.0 q.1) m Nothing)
+      from : (m : Option (ℕ × Message)) → (side W i).inbox ≡ m → NearInbox T.version m → is_some m ≡ true →
+          Told Handle (option_map_or (λ q. Carried q.0 q.1) m Nothing)
       from None there inbox none = absurd cc
-      from (Some (k, m)) there inbox some = let here = (sound.sides i few).inbox k m there in ((here.1, message-fits T.version m here.0 inbox), short-message k m here.0)
+      from (Some (k, m)) there inbox some = let here = (sound.sides i few).inbox k m there in
+          ((here.1, message-fits T.version m here.0 inbox), short-message k m here.0)
   told (Upcall v) o node enabled allowed same shown =
       let one = and_parts (kernel_of T v == i) (is_alive (side W i) v && is_some (slice_get (row (side W i) v).asks 0)) enabled in
       let two = and_parts (is_alive (side W i) v) (is_some (slice_get (row (side W i) v).asks 0)) one.1 in

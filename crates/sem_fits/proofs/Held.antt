@@ -1,5 +1,6 @@
 -- What is held after a schedule: each key is one of a text, and there are no more of them than VPEs have numbers.
-use Rattle.std.proofs.Common.{◌≡◌, ℕ, ◌+◌, ◌*◌, ◌%◌, ◌<◌, ◌≤◌, ◌&&◌, Bool, true, false, not, List, [], ◌∷◌, length, refl, sym, ◌∙◌, ap, subst, inl, inr, arith, eq-eqb, length-append}
+use Rattle.std.proofs.Common.{◌≡◌, ℕ, ◌+◌, ◌*◌, ◌%◌, ◌<◌, ◌≤◌, ◌&&◌, Bool, true, false, not, List, [], ◌∷◌, length, refl, sym, ◌∙◌, ap, subst, inl, inr, arith}
+use Rattle.std.proofs.Common.{eq-eqb, length-append}
 use Rattle.std.specs.Prelude.{◌==◌, ◌/◌, nat_lt}
 use Rattle.std.specs.List.{All, Contains, filter, flat_map, sum_by}
 use Rattle.std.proofs.lemmas.Bool.{cases_Bool, eqb-true}
@@ -160,4 +161,5 @@ module _ (T : Setup) (valid : IsSetup T) (J : List Entry) (runs : IsSchedule T J
         declared-key T valid c.key is.own.0,
         (let selector = is.selector in omega (arith, selector)),
       )) here) [] (All-nil HeldCap) in
-      All-map (λ (h : KeyName × ℕ). IsKeyInText T.version h.0 × (h.1 ≤ 255)) (λ (c : Capability). (c.key, c.selector)) (in_turn (λ c found. with_cap found c) cs []) all
+      All-map (λ (h : KeyName × ℕ). IsKeyInText T.version h.0 × (h.1 ≤ 255)) (λ (c : Capability). (c.key, c.selector))
+      (in_turn (λ c found. with_cap found c) cs []) all

@@ -15,7 +15,8 @@ use Rattle.sem_msg.specs.declared.entry.Entry.{Entry}
 use Rattle.sem_msg.specs.declared.message.Target.{Target}
 use Rattle.sem_msg.specs.declared.message.Target.TheVariants.{Sel as SelTarget, Serv as ServTarget, Offer as OfferTarget}
 use Rattle.sem_msg.specs.declared.message.Message.{Message}
-use Rattle.sem_msg.specs.declared.message.Message.TheVariants.{ObtainReq, ObtainOk, ObtainNo, DelegateReq, DelegatePrepared, DelegateNo, Ack, Orphan, RevokeReq, RevokeDone, Unlink}
+use Rattle.sem_msg.specs.declared.message.Message.TheVariants.{ObtainReq, ObtainOk, ObtainNo, DelegateReq, DelegatePrepared, DelegateNo, Ack, Orphan, RevokeReq}
+use Rattle.sem_msg.specs.declared.message.Message.TheVariants.{RevokeDone, Unlink}
 use Rattle.sem_msg.specs.Message.{Fits, IsValidTarget}
 use Rattle.sem_msg.specs.Setup.{Setup, IsSetup}
 use Rattle.sem_journal.specs.EntryRanges.{ObjectFits, TargetFits, MessageFits}
@@ -85,7 +86,8 @@ module _ (T : Setup) (W : World) (near : NearWorld T W) (sound : IsSoundWorld T 
   side-by : (P : Side → Type 0) → P no_side → (i : ℕ) → (i < T.kernels → P (side W i)) → P (side W i)
   side-by P none i each = elim (cases_Bool (nat_lt i T.kernels)) [
     | inl low ↦ each (ltb-true i T.kernels low)
-    | inr high ↦ let long = near.count in let past = ltb-false i T.kernels high in subst P (sym (get_or-eq_default W.sides no_side (omega (arith, long, past)))) none
+    | inr high ↦ let long = near.count in let past = ltb-false i T.kernels high in
+        subst P (sym (get_or-eq_default W.sides no_side (omega (arith, long, past)))) none
   ]
 
   -- what waits to be sent fits

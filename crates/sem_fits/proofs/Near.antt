@@ -17,7 +17,8 @@ use Rattle.sem_msg.specs.declared.limits.TheConstants.{ASKS}
 use Rattle.sem_msg.specs.declared.message.Target.{Target}
 use Rattle.sem_msg.specs.declared.message.Target.TheVariants.{Sel as SelTarget, Serv as ServTarget, Offer as OfferTarget}
 use Rattle.sem_msg.specs.declared.message.Message.{Message}
-use Rattle.sem_msg.specs.declared.message.Message.TheVariants.{ObtainReq, ObtainOk, ObtainNo, DelegateReq, DelegatePrepared, DelegateNo, Ack, Orphan, RevokeReq, RevokeDone, Unlink}
+use Rattle.sem_msg.specs.declared.message.Message.TheVariants.{ObtainReq, ObtainOk, ObtainNo, DelegateReq, DelegatePrepared, DelegateNo, Ack, Orphan, RevokeReq}
+use Rattle.sem_msg.specs.declared.message.Message.TheVariants.{RevokeDone, Unlink}
 use Rattle.sem_msg.specs.declared.state.Ask.{Ask}
 use Rattle.sem_msg.specs.declared.state.Ask.TheVariants.{Obtain as ObtainAsk, Delegate as DelegateAsk}
 use Rattle.sem_msg.specs.declared.state.Parked.{Parked}
@@ -28,7 +29,9 @@ use Rattle.sem_msg.specs.declared.state.Slot.TheVariants.{Free, Held, Promised}
 use Rattle.sem_msg.specs.Rows.{VpeRow, no_vpe}
 use Rattle.sem_trace.specs.Ranges.{IsNode, IsKeyInText, IsPlaceInText}
 use Rattle.sem_journal.specs.EntryRanges.{IsCode}
-use Rattle.sem_machine.specs.Sides.{Side, row, cap, cap_in, own, slot, parked, pending, outbox, with_slot, parked_as, unparked, asked, ask_taken, buried, call_counted, drawn, cap_added, linked, unlinked, mark_all, caps_removed, pending_added, pending_removed, send, sent, with_inbox}
+use Rattle.sem_machine.specs.Sides.{Side, row, cap, cap_in, own, slot, parked, pending, outbox, with_slot, parked_as, unparked, asked, ask_taken, buried}
+use Rattle.sem_machine.specs.Sides.{call_counted, drawn, cap_added, linked, unlinked, mark_all, caps_removed, pending_added, pending_removed, send, sent}
+use Rattle.sem_machine.specs.Sides.{with_inbox}
 use Rattle.sem_safety.proofs.Carrying.{All-put, All-read, All-drop_one, All-change}
 
 module _ (version : ℕ) where
@@ -107,7 +110,8 @@ module _ (version : ℕ) where
   NearMessages ms = All NearMessage ms
 
   -- the stores of a side that hold keys, and its messages
-  pub record NearStores (cs : List Capability) (rs : List VpeRow) (ps : List (Option Parked)) (ds : List Pending) (fetched : Option (ℕ × Message)) (os : List (List Message)) : Type 0 where
+  pub record NearStores (cs : List Capability) (rs : List VpeRow) (ps : List (Option Parked)) (ds : List Pending) (fetched : Option (ℕ × Message))
+      (os : List (List Message)) : Type 0 where
     pub caps : All NearCap cs
     pub rows : All NearRow rs
     pub parks : All NearCall ps
@@ -169,7 +173,14 @@ module _ (version : ℕ) where
 
     -- another row
     pub put_row-near : (v : ℕ) (r : VpeRow) → NearRow r → NearSide (record s { vpes = put no_vpe s.vpes v r })
-    put_row-near v r here = record { caps = is.caps; rows = All-put NearRow no_vpe s.vpes v r no_row-near here is.rows; parks = is.parks; pendings = is.pendings; inbox = is.inbox; outs = is.outs }
+    put_row-near v r here = record {
+      caps = is.caps;
+      rows = All-put NearRow no_vpe s.vpes v r no_row-near here is.rows;
+      parks = is.parks;
+      pendings = is.pendings;
+      inbox = is.inbox;
+      outs = is.outs;
+    }
 
     -- one more call
     pub counted-near : (v : ℕ) → NearSide (call_counted v s)
@@ -198,7 +209,14 @@ module _ (version : ℕ) where
 
     -- another parked call, or none
     put_park-near : (v : ℕ) (p : Option Parked) → NearCall p → NearSide (record s { parks = put None s.parks v p })
-    put_park-near v p here = record { caps = is.caps; rows = is.rows; parks = All-put NearCall None s.parks v p tt here is.parks; pendings = is.pendings; inbox = is.inbox; outs = is.outs }
+    put_park-near v p here = record {
+      caps = is.caps;
+      rows = is.rows;
+      parks = All-put NearCall None s.parks v p tt here is.parks;
+      pendings = is.pendings;
+      inbox = is.inbox;
+      outs = is.outs;
+    }
 
     -- a parked call
     pub parked_as-near : (v : ℕ) (p : Parked) → NearCall (Some p) → NearSide (parked_as v p s)
@@ -243,7 +261,8 @@ module _ (version : ℕ) where
       parent = before.parent;
       children = All-append (IsKeyInText version) (filter (λ q. key_lt q k) c.children) (k ∷ filter (λ q. key_lt k q) c.children)
           (All-filter (λ q. key_lt q k) (IsKeyInText version) c.children before.children)
-          (All-cons (IsKeyInText version) k (filter (λ q. key_lt k q) c.children) here (All-filter (λ q. key_lt k q) (IsKeyInText version) c.children before.children));
+          (All-cons (IsKeyInText version) k (filter (λ q. key_lt k q) c.children) here
+          (All-filter (λ q. key_lt k q) (IsKeyInText version) c.children before.children));
       object = before.object;
     })
 

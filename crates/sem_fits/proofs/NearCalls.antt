@@ -19,9 +19,11 @@ use Rattle.sem_key.proofs.KeyTests.{key_eq-true}
 use Rattle.sem_msg.specs.Calls.{IsValidCall}
 use Rattle.sem_msg.specs.Versions.{most_vpes}
 use Rattle.sem_msg.specs.declared.call.Call.{Call}
-use Rattle.sem_msg.specs.declared.call.Call.TheVariants.{Derive, Gate, Obtain, Delegate, OpenSession, AskOffer, Revoke, Bind, Read, Write, Send as SendCall, Credit, Exit, Clear}
+use Rattle.sem_msg.specs.declared.call.Call.TheVariants.{Derive, Gate, Obtain, Delegate, OpenSession, AskOffer, Revoke, Bind, Read, Write, Send as SendCall}
+use Rattle.sem_msg.specs.declared.call.Call.TheVariants.{Credit, Exit, Clear}
 use Rattle.sem_msg.specs.declared.code.Code.{Code}
-use Rattle.sem_msg.specs.declared.code.Code.TheVariants.{Ok as OkCode, NoVpe, Dead, NoCap, Revoking, Refused, Occupied, Numbers, BadKind, Wider, NoService, Gone, Unbound, Rights, Range, SelfExchange}
+use Rattle.sem_msg.specs.declared.code.Code.TheVariants.{Ok as OkCode, NoVpe, Dead, NoCap, Revoking, Refused, Occupied, Numbers, BadKind, Wider, NoService}
+use Rattle.sem_msg.specs.declared.code.Code.TheVariants.{Gone, Unbound, Rights, Range, SelfExchange}
 use Rattle.sem_msg.specs.declared.entry.Outcome.{Outcome}
 use Rattle.sem_msg.specs.declared.message.Target.{Target}
 use Rattle.sem_msg.specs.declared.message.Target.TheVariants.{Sel as SelTarget, Serv as ServTarget, Offer as OfferTarget}
@@ -38,17 +40,20 @@ use Rattle.sem_msg.specs.Lookups.{pe_of, kernel_of, owner_of, place_owner, servi
 use Rattle.sem_msg.specs.Uses.{memory_tests, send_tests, credit_tests}
 use Rattle.sem_trace.specs.Ranges.{IsNode, IsKeyInText, IsPlaceInText}
 use Rattle.sem_journal.specs.EntryRanges.{IsCode, GrantFits, CutFits}
-use Rattle.sem_machine.specs.Sides.{Side, row, cap, own, endpoint, parked, drawn, promised, parked_as, unparked, asked, buried, linked, installed, with_endpoint, send}
+use Rattle.sem_machine.specs.Sides.{Side, row, cap, own, endpoint, parked, drawn, promised, parked_as, unparked, asked, buried, linked, installed}
+use Rattle.sem_machine.specs.Sides.{with_endpoint, send}
 use Rattle.sem_machine.specs.Endpoints.{message_rung, message_credited}
 use Rattle.sem_msg.specs.declared.entry.Consent.{Consent}
 use Rattle.sem_machine.specs.Steps.{Step, plain, replied, answer, granting, cutting, asking}
 use Rattle.sem_machine.specs.Asks.{target_vpe, asker, is_unawaited, promise_freed, call_refused, refusal_sent, ask_refused}
 use Rattle.sem_machine.specs.Revokes.{begin, revoke_begun, clear_begun}
 use Rattle.sem_machine.specs.Ends.{ask_ended, call_ended, revoked_if_left, keys_of, ended}
-use Rattle.sem_machine.specs.Calls.{own_tests, destination_tests, next_key, next_place, child_made, with_held, derive_tests, narrowed, gate_tests, ask_made, obtain_tests, session_service, open_tests, offer_tests, delegate_tests, offer_made, bind_tests, call_row}
+use Rattle.sem_machine.specs.Calls.{own_tests, destination_tests, next_key, next_place, child_made, with_held, derive_tests, narrowed, gate_tests, ask_made}
+use Rattle.sem_machine.specs.Calls.{obtain_tests, session_service, open_tests, offer_tests, delegate_tests, offer_made, bind_tests, call_row}
 use Rattle.sem_machine.proofs.Folds.{in_turn-keeps, in_turn-keeps_each, option-keeps}
 use Rattle.sem_machine.proofs.FirstCodes.{Passed, unless-keeps, unless-passed}
-use Rattle.sem_fits.proofs.Near.{NearObject, NearTarget, NearCall, NearAsk, NearCap, NearRow, NearSide, row-near, parked-near, cap-near, own-near, drawn-near, with_slot-near, asked-near, buried-near, parked_as-near, unparked-near, linked-near, send-near}
+use Rattle.sem_fits.proofs.Near.{NearObject, NearTarget, NearCall, NearAsk, NearCap, NearRow, NearSide, row-near, parked-near, cap-near, own-near, drawn-near}
+use Rattle.sem_fits.proofs.Near.{with_slot-near, asked-near, buried-near, parked_as-near, unparked-near, linked-near, send-near}
 use Rattle.sem_fits.proofs.NearRevokes.{freed-in, installed-in, ready-in, begin-in, begun-in, cleared-in}
 
 -- each code is one of a text
@@ -141,18 +146,23 @@ module _ (version : ℕ) where
 
   -- a refusal that is sent
   refusal_sent-in : (T : Setup) (code : Code) (a : Ask) (s : Side) → NearAsk version a → NearSide version s → NearSide version (refusal_sent T code a s)
-  refusal_sent-in T code (ObtainAsk place target) s near is = send-near version s is (place_owner T place) (ObtainNo place (code_number code)) (near.0, code-fits code)
+  refusal_sent-in T code (ObtainAsk place target) s near is = send-near version s is (place_owner T place) (ObtainNo place (code_number code)) (
+    near.0,
+    code-fits code,
+  )
   refusal_sent-in T code (DelegateAsk parent object sel) s near is = send-near version s is (owner_of T parent) (DelegateNo parent (code_number code))
       (near.0, code-fits code)
 
   -- an ask that is refused
-  pub ask_refused-in : (T : Setup) (i : ℕ) (code : Code) (a : Ask) (s : Side) → NearAsk version a → NearSide version s → NearSide version (ask_refused T i code a s)
+  pub ask_refused-in : (T : Setup) (i : ℕ) (code : Code) (a : Ask) (s : Side) → NearAsk version a → NearSide version s →
+      NearSide version (ask_refused T i code a s)
   ask_refused-in T i code a s near is = cond_both (kernel_of T (asker a) == i) (call_refused (code_number code) (asker a) s) (refusal_sent T code a s)
       (NearSide version) (λ _. call_refused-in (code_number code) (asker a) s (code-fits code) is) (λ _. refusal_sent-in T code a s near is)
 
   -- The end of a VPE.
   ask_ended-in : (T : Setup) (i : ℕ) (a : Ask) (s : Side) → NearAsk version a → NearSide version s → NearSide version (ask_ended T i a s)
-  ask_ended-in T i a s near is = cond_both (is_unawaited T i s a) s (ask_refused T i Dead a s) (NearSide version) (λ _. is) (λ _. ask_refused-in T i Dead a s near is)
+  ask_ended-in T i a s near is = cond_both (is_unawaited T i s a) s (ask_refused T i Dead a s) (NearSide version) (λ _. is)
+      (λ _. ask_refused-in T i Dead a s near is)
 
   -- what the parked call of a dead VPE owes
   call_ended-in : (T : Setup) (p : Option Parked) (v : ℕ) (s : Side) → NearCall version p → NearSide version s → NearSide version (call_ended T p v s)
@@ -177,7 +187,8 @@ module _ (version : ℕ) where
   revoked_if_there-in T i k (Some c) s there is =
       let near : NearCap version c = cap-near version s is k c there in
       let same : c.key ≡ k = key_eq-true c.key k (found (λ x. key_eq x.key k) s.caps c there).1 in
-      option-keeps (NearSide version) (λ (m : ℕ). s) c.mark (begin T i k None [] false s) (λ m marked. is) (begin-in version T i k None [] false s is (subst (IsKeyInText version) same near.key))
+      option-keeps (NearSide version) (λ (m : ℕ). s) c.mark (begin T i k None [] false s) (λ m marked. is)
+      (begin-in version T i k None [] false s is (subst (IsKeyInText version) same near.key))
 
   -- a VPE ends
   pub ended-in : (T : Setup) (i v : ℕ) (s : Side) → NearSide version s → NearSide version (ended T i v s)
@@ -228,7 +239,8 @@ module _ (version : ℕ) where
     offer_made-near i w dst p node near =
         let waiting : Side = parked_as v (DelegateWait p.key) s in
         let kept : NearSide version waiting = parked_as-near version s is v (DelegateWait p.key) tt in
-        plain-near (if kernel_of T w == i then asked w (DelegateAsk p.key p.object dst) waiting else send (kernel_of T w) (DelegateReq p.key p.object w dst) waiting)
+        plain-near (if kernel_of T w == i then asked w (DelegateAsk p.key p.object dst) waiting
+        else send (kernel_of T w) (DelegateReq p.key p.object w dst) waiting)
         (cond_both (kernel_of T w == i) (asked w (DelegateAsk p.key p.object dst) waiting) (send (kernel_of T w) (DelegateReq p.key p.object w dst) waiting)
         (NearSide version) (λ _. asked-near version waiting kept w (DelegateAsk p.key p.object dst) (near.key, near.object))
         (λ _. send-near version waiting kept (kernel_of T w) (DelegateReq p.key p.object w dst) (near.key, near.object, node)))

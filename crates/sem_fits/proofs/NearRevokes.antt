@@ -25,13 +25,17 @@ use Rattle.sem_msg.specs.VpeRows
 use Rattle.sem_msg.specs.ParkedStates
 use Rattle.sem_msg.specs.ParkedStates.{is_ready_with}
 use Rattle.sem_msg.specs.declared.code.Code.TheVariants.{Ok as OkCode}
-use Rattle.sem_machine.specs.Sides.{Side, cap, job, parked, freed, ready, parked_as, installed, cap_added, unlinked, mark_all, unbind_all, job_opened, job_removed, send}
+use Rattle.sem_machine.specs.Sides.{Side, cap, job, parked, freed, ready, parked_as, installed, cap_added, unlinked, mark_all, unbind_all, job_opened}
+use Rattle.sem_machine.specs.Sides.{job_removed, send}
 use Rattle.sem_key.specs.Region.{has_key}
 use Rattle.sem_key.specs.Region.{region, children_of}
-use Rattle.sem_machine.specs.Revokes.{count_raised, count_lowered, with_up, adopted, other_marker, request_or_adopt, selectors_freed, swept, woken, parent_left, left_parent, root_spared, up_told, closed_here, closed, finish, settled, opened, begin, revoke_begun, clear_begun, ready_freed, obtain_cancelled, request_begun, revoke_requested, revoke_done}
+use Rattle.sem_machine.specs.Revokes.{count_raised, count_lowered, with_up, adopted, other_marker, request_or_adopt, selectors_freed, swept, woken, parent_left}
+use Rattle.sem_machine.specs.Revokes.{left_parent, root_spared, up_told, closed_here, closed, finish, settled, opened, begin, revoke_begun, clear_begun}
+use Rattle.sem_machine.specs.Revokes.{ready_freed, obtain_cancelled, request_begun, revoke_requested, revoke_done}
 use Rattle.sem_trace.specs.Ranges.{IsKeyInText}
 use Rattle.sem_journal.specs.EntryRanges.{IsCode}
-use Rattle.sem_fits.proofs.Near.{NearObject, NearParent, NearCap, NearSide, cap-near, with_slot-near, parked_as-near, cap_added-near, unlinked-near, marked-near, restored-near, removed-near, send-near}
+use Rattle.sem_fits.proofs.Near.{NearObject, NearParent, NearCap, NearSide, cap-near, with_slot-near, parked_as-near, cap_added-near, unlinked-near}
+use Rattle.sem_fits.proofs.Near.{marked-near, restored-near, removed-near, send-near}
 use Rattle.sem_machine.proofs.Folds.{in_turn-keeps, in_turn-keeps_each}
 use Rattle.sem_machine.proofs.Doomed.{region-doomed, children-doomed}
 
@@ -67,7 +71,8 @@ module _ (version : ℕ) where
 
   -- the waiting calls go on
   woken-in : (vs : List ℕ) (s : Side) → NearSide version s → NearSide version (woken vs s)
-  woken-in vs s is = in_turn-keeps (λ parks. NearSide version (record s { parks = parks })) (λ v parks. ParkedStates.parked_as parks v (Ready (code_number OkCode)))
+  woken-in vs s is =
+      in_turn-keeps (λ parks. NearSide version (record s { parks = parks })) (λ v parks. ParkedStates.parked_as parks v (Ready (code_number OkCode)))
       (λ v parks here. ready-in (record s { parks = parks }) here (code_number OkCode) v (omega arith)) vs s.parks is
 
   -- the parent of a root that is left, and the root
@@ -96,7 +101,8 @@ module _ (version : ℕ) where
   left-in T i id count root up waiters keep None near s is = is
   left-in T i id count root (Some (Remote kernel j)) waiters keep (Some p) near s is = cond_both (is_local T i p) (unlinked p root s) s (NearSide version)
       (λ _. unlinked-near version s is p root) (λ _. is)
-  left-in T i id count root (Some (Local j)) waiters keep (Some p) near s is = cond_both (is_local T i p) (unlinked p root s) (send (owner_of T p) (Unlink p root) s)
+  left-in T i id count root (Some (Local j)) waiters keep (Some p) near s is =
+      cond_both (is_local T i p) (unlinked p root s) (send (owner_of T p) (Unlink p root) s)
       (NearSide version) (λ _. unlinked-near version s is p root) (λ _. send-near version s is (owner_of T p) (Unlink p root) near)
   left-in T i id count root None waiters keep (Some p) near s is = cond_both (is_local T i p) (unlinked p root s) (send (owner_of T p) (Unlink p root) s)
       (NearSide version) (λ _. unlinked-near version s is p root) (λ _. send-near version s is (owner_of T p) (Unlink p root) near)
@@ -144,14 +150,17 @@ module _ (version : ℕ) where
       (λ _. raised-in j (send (owner_of T k) (RevokeReq k j) s) (send-near version s is (owner_of T k) (RevokeReq k j) near))
 
   -- a job is opened: the children of its region are keys of a text
-  pub opened-in : (T : Setup) (i : ℕ) (root : KeyName) (up : Option Up) (waiters : List ℕ) (keep : Bool) (s : Side) → NearSide version s → IsKeyInText version root
+  pub opened-in : (T : Setup) (i : ℕ) (root : KeyName) (up : Option Up) (waiters : List ℕ) (keep : Bool) (s : Side) → NearSide version s →
+      IsKeyInText version root
       → NearSide version (opened T i root up waiters keep s)
   unfolding opened
   opened-in T i root up waiters keep s is near =
       let j : ℕ = s.next_job in
       let ks : List KeyName = region s.caps root in
       let link : KeyName → KeyName → Type 0 = λ p k. IsKeyInText version k in
-      let links : (c : Capability) → Contains s.caps c → (k : KeyName) → Contains c.children k → IsKeyInText version k = λ c among k child. let near : NearCap version c = All-contains (NearCap version) s.caps c is.caps among in All-contains (IsKeyInText version) c.children k near.children child in
+      let links : (c : Capability) → Contains s.caps c → (k : KeyName) → Contains c.children k →
+      IsKeyInText version k = λ c among k child. let near : NearCap version c = All-contains (NearCap version) s.caps c is.caps among in
+      All-contains (IsKeyInText version) c.children k near.children child in
       let marks : (k : KeyName) → has_key ks k ≡ true → IsKeyInText version k = region-doomed link (IsKeyInText version)
       (λ p k near root. near) s.caps links root near in
       in_turn-keeps_each (NearSide version) (request_or_adopt T i j) (children_of s.caps ks)
@@ -159,7 +168,8 @@ module _ (version : ℕ) where
       (unbind_all ks (mark_all ks j (job_opened root up waiters keep s))) (marked-near version s is ks j)
 
   -- a job begins
-  pub begin-in : (T : Setup) (i : ℕ) (root : KeyName) (up : Option Up) (waiters : List ℕ) (keep : Bool) (s : Side) → NearSide version s → IsKeyInText version root
+  pub begin-in : (T : Setup) (i : ℕ) (root : KeyName) (up : Option Up) (waiters : List ℕ) (keep : Bool) (s : Side) → NearSide version s →
+      IsKeyInText version root
       → NearSide version (begin T i root up waiters keep s)
   begin-in T i root up waiters keep s is near = settled-in T i s.next_job (opened T i root up waiters keep s) (opened-in T i root up waiters keep s is near)
 

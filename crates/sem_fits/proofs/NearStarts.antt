@@ -28,7 +28,8 @@ use Rattle.sem_machine.specs.Sound.{IsSound, IsNamed, IsSoundCap}
 use Rattle.sem_machine.proofs.Folds.{in_turn-keeps_each}
 use Rattle.sem_safety.proofs.Carrying.{All-put, All-read}
 use Rattle.sem_sound.proofs.Starting.{start-sound}
-use Rattle.sem_fits.proofs.Near.{NearObject, NearMessage, NearMessages, NearInbox, NearCall, NearPending, NearParent, NearCap, NearRow, NearAsk, NearSide, no_row-near}
+use Rattle.sem_fits.proofs.Near.{NearObject, NearMessage, NearMessages, NearInbox, NearCall, NearPending, NearParent, NearCap, NearRow, NearAsk, NearSide}
+use Rattle.sem_fits.proofs.Near.{no_row-near}
 
 -- a side that keeps nothing
 pub no_side-near : (version : ℕ) → NearSide version no_side
@@ -63,7 +64,8 @@ root-object-near version (Sess service ident) kind = absurd kind
 
 module _ (version : ℕ) where
   -- as at the start: roots are held, and nothing is under way
-  pub record NearStart (cs : List Capability) (rs : List VpeRow) (ps : List (Option Parked)) (ds : List Pending) (fetched : Option (ℕ × Message)) (os : List (List Message)) : Type 0 where
+  pub record NearStart (cs : List Capability) (rs : List VpeRow) (ps : List (Option Parked)) (ds : List Pending) (fetched : Option (ℕ × Message))
+      (os : List (List Message)) : Type 0 where
     pub objects : All (λ c. NearObject version c.object) cs
     pub rows : All (NearRow version) rs
     pub parks : All (NearCall version) ps
@@ -107,7 +109,8 @@ module _ (version : ℕ) where
 
   -- a VPE with its roots
   vpe-starts : (d : VpeDecl) → All IsRoot d.roots → (s : Side) → Starts s → Starts (vpe_added d s)
-  vpe-starts d roots s is = in_turn-keeps_each Starts (root_added d) d.roots (λ r among t here. root-starts d r (All-contains IsRoot d.roots r roots among) t here)
+  vpe-starts d roots s is =
+      in_turn-keeps_each Starts (root_added d) d.roots (λ r among t here. root-starts d r (All-contains IsRoot d.roots r roots among) t here)
       (vpe_fresh d s) (fresh-starts d s is)
 
 module _ (T : Setup) (valid : IsSetup T) where
@@ -139,7 +142,12 @@ module _ (T : Setup) (valid : IsSetup T) where
           (keys-near ks (λ q among. named q (Contains-tail k ks q among)))
 
       one : (c : Capability) → IsSoundCap T i c → NearObject T.version c.object → NearCap T.version c
-      one c is object = record { key = declared-key T valid c.key is.own.0; parent = parent-near c.parent is.parent; children = keys-near c.children is.children; object = object }
+      one c is object = record {
+        key = declared-key T valid c.key is.own.0;
+        parent = parent-near c.parent is.parent;
+        children = keys-near c.children is.children;
+        object = object;
+      }
 
       each : (xs : List Capability) → ((c : Capability) → Contains xs c → NearCap T.version c) → All (NearCap T.version) xs
       each [] near = All-nil (NearCap T.version)
@@ -150,4 +158,11 @@ module _ (T : Setup) (valid : IsSetup T) where
   start_side-near i few =
       let begins : Starts T.version (start_side T i) = side-starts i in
       let sound : IsSound T i (start_side T i) = start-sound T valid i few in
-      record { caps = caps-near i (start_side T i).caps sound.caps begins.objects; rows = begins.rows; parks = begins.parks; pendings = begins.pendings; inbox = begins.inbox; outs = begins.outs }
+      record {
+        caps = caps-near i (start_side T i).caps sound.caps begins.objects;
+        rows = begins.rows;
+        parks = begins.parks;
+        pendings = begins.pendings;
+        inbox = begins.inbox;
+        outs = begins.outs;
+      }

@@ -19,7 +19,8 @@ use Rattle.sem_msg.specs.declared.entry.Consent.TheVariants.{Yes, No, Dropped}
 use Rattle.sem_msg.specs.declared.message.Target.{Target}
 use Rattle.sem_msg.specs.declared.message.Target.TheVariants.{Sel as SelTarget, Serv as ServTarget, Offer as OfferTarget}
 use Rattle.sem_msg.specs.declared.message.Message.{Message}
-use Rattle.sem_msg.specs.declared.message.Message.TheVariants.{ObtainReq, ObtainOk, ObtainNo, DelegateReq, DelegatePrepared, DelegateNo, Ack, Orphan, RevokeReq, RevokeDone, Unlink}
+use Rattle.sem_msg.specs.declared.message.Message.TheVariants.{ObtainReq, ObtainOk, ObtainNo, DelegateReq, DelegatePrepared, DelegateNo, Ack, Orphan, RevokeReq}
+use Rattle.sem_msg.specs.declared.message.Message.TheVariants.{RevokeDone, Unlink}
 use Rattle.sem_msg.specs.declared.setup.Service.{Service}
 use Rattle.sem_msg.specs.declared.state.Ask.{Ask}
 use Rattle.sem_msg.specs.declared.state.Ask.TheVariants.{Obtain as ObtainAsk, Delegate as DelegateAsk}
@@ -32,20 +33,25 @@ use Rattle.sem_msg.specs.Setup.{Setup}
 use Rattle.sem_msg.specs.Lookups.{pe_of, kernel_of, owner_of, place_owner, denies, offered}
 use Rattle.std.specs.Option.{option_and_then}
 use Rattle.sem_trace.specs.Ranges.{IsNode, IsKeyInText}
-use Rattle.sem_machine.specs.Sides.{Side, row, cap, own, parked, pending, is_alive, drawn, promised, parked_as, unparked, asked, ask_taken, call_counted, linked, installed, pending_added, pending_removed, succeeding, send, sent, with_inbox}
+use Rattle.sem_machine.specs.Sides.{Side, row, cap, own, parked, pending, is_alive, drawn, promised, parked_as, unparked, asked, ask_taken, call_counted}
+use Rattle.sem_machine.specs.Sides.{linked, installed, pending_added, pending_removed, succeeding, send, sent, with_inbox}
 use Rattle.sem_machine.specs.Steps.{plain, answer}
 use Rattle.sem_machine.specs.Asks.{target_vpe, asker, is_unawaited, ask_refused, call_refused}
 use Rattle.sem_machine.specs.Calls.{destination_tests, next_key, call_row}
-use Rattle.sem_machine.specs.Upcalls.{source, source_tests, given, given_kind, given_here, child_given, obtain_consent, parent_tests, delegate_here, delegate_prepared, delegate_consent, consented, ask_decided, upcall_row}
+use Rattle.sem_machine.specs.Upcalls.{source, source_tests, given, given_kind, given_here, child_given, obtain_consent, parent_tests, delegate_here}
+use Rattle.sem_machine.specs.Upcalls.{delegate_prepared, delegate_consent, consented, ask_decided, upcall_row}
 use Rattle.sem_machine.specs.Handles.{is_stray, obtain_ready, acknowledged, handle_row, handled}
 use Rattle.sem_machine.specs.Resumes.{delegate_granted, delegate_resumed, resumed, resume_row}
 use Rattle.sem_machine.specs.Ends.{ended}
 use Rattle.sem_machine.specs.Machine.{next_call, local_step}
 use Rattle.sem_machine.proofs.Folds.{option-keeps}
 use Rattle.sem_machine.proofs.FirstCodes.{Passed, unless-keeps, unless-passed}
-use Rattle.sem_fits.proofs.Near.{NearObject, NearMessage, NearInbox, NearCall, NearAsk, NearPending, NearCap, NearSide, parked-near, cap-near, own-near, pending-near, first_ask-near, counted-near, drawn-near, with_slot-near, asked-near, taken-near, parked_as-near, unparked-near, linked-near, unlinked-near, pending_added-near, pending_removed-near, send-near, sent-near, with_inbox-near}
+use Rattle.sem_fits.proofs.Near.{NearObject, NearMessage, NearInbox, NearCall, NearAsk, NearPending, NearCap, NearSide, parked-near, cap-near, own-near}
+use Rattle.sem_fits.proofs.Near.{pending-near, first_ask-near, counted-near, drawn-near, with_slot-near, asked-near, taken-near, parked_as-near, unparked-near}
+use Rattle.sem_fits.proofs.Near.{linked-near, unlinked-near, pending_added-near, pending_removed-near, send-near, sent-near, with_inbox-near}
 use Rattle.sem_fits.proofs.NearRevokes.{freed-in, installed-in, ready-in, requested-in, done-in}
-use Rattle.sem_fits.proofs.NearCalls.{NearStep, code-fits, plain-near, replied-near, answer-near, granting-near, asking-near, call_refused-in, ask_refused-in, ended-in, call_row-near}
+use Rattle.sem_fits.proofs.NearCalls.{NearStep, code-fits, plain-near, replied-near, answer-near, granting-near, asking-near, call_refused-in, ask_refused-in}
+use Rattle.sem_fits.proofs.NearCalls.{ended-in, call_row-near}
 
 module _ (version : ℕ) where
   -- Upcalls.
@@ -54,7 +60,8 @@ module _ (version : ℕ) where
   asker-near (DelegateAsk parent object sel) near = near.0.1
 
   -- the child is installed
-  given_here-in : (k p : KeyName) (object : Object) (state : Option Parked) (s : Side) → IsKeyInText version k → IsKeyInText version p → NearObject version object
+  given_here-in : (k p : KeyName) (object : Object) (state : Option Parked) (s : Side) → IsKeyInText version k → IsKeyInText version p →
+      NearObject version object
       → NearSide version s → NearSide version (given_here k p object state s)
   given_here-in k p object (Some (ObtainWait number sel)) s key parent of_object is = ready-in version (installed k (Some p) sel object s)
       (installed-in version s is k (Some p) sel object key parent of_object) (code_number OkCode) k.vpe (code-fits OkCode)
@@ -109,7 +116,8 @@ module _ (version : ℕ) where
       (option-keeps (NearStep version) (child_given T i place target s) (source T s v target) (plain s)
       (λ p held. child_given-near T i place target s p is near (source-near T s v target p is held)) (plain-near version s is))
 
-  module _ (T : Setup) (v : ℕ) (vpe : IsNode version v) (pe : IsNode version (pe_of T v)) (s : Side) (is : NearSide version s) (parent : KeyName) (object : Object) (sel : ℕ) (near : NearAsk version (DelegateAsk parent object sel)) where
+  module _ (T : Setup) (v : ℕ) (vpe : IsNode version v) (pe : IsNode version (pe_of T v)) (s : Side) (is : NearSide version s) (parent : KeyName)
+      (object : Object) (sel : ℕ) (near : NearAsk version (DelegateAsk parent object sel)) where
     -- a number is left, where a destination passes
     left : Passed (destination_tests s v sel) → (row s v).next_number < NUMBERS
     left passed = leb-false NUMBERS (row s v).next_number passed.1.0
@@ -171,7 +179,8 @@ module _ (version : ℕ) where
         (λ a there. decided-near a (ask_taken v s) (taken-near version s is v) (first_ask-near version s is v a there)) (plain-near version s is)
 
   -- Messages.
-  obtain_ready-in : (parent key : KeyName) (object : Object) (state : Option Parked) (s : Side) → NearMessage version (ObtainOk parent key object) → NearSide version s
+  obtain_ready-in : (parent key : KeyName) (object : Object) (state : Option Parked) (s : Side) → NearMessage version (ObtainOk parent key object) →
+      NearSide version s
       → NearSide version (obtain_ready parent key object state s)
   obtain_ready-in parent key object (Some (ObtainWait number sel)) s near is = parked_as-near version s is key.vpe (ObtainReady key parent object sel)
       (near.1, near.0, near.2)
@@ -184,7 +193,8 @@ module _ (version : ℕ) where
   obtain_ready-in parent key object (Some (Ready code)) s near is = is
 
   -- a delegation is acknowledged
-  acknowledged-in : (T : Setup) (key : KeyName) (accepted : Bool) (s : Side) (p : Pending) → NearSide version s → IsKeyInText version key → NearPending version p
+  acknowledged-in : (T : Setup) (key : KeyName) (accepted : Bool) (s : Side) (p : Pending) → NearSide version s → IsKeyInText version key →
+      NearPending version p
       → NearSide version (acknowledged T key accepted s p)
   acknowledged-in T key true s p is near pends = cond_both (is_alive s key.vpe) (installed key (Some p.parent) p.sel p.object (pending_removed key s))
       (send (owner_of T p.parent) (Orphan p.parent key) (pending_removed key s)) (NearSide version)
@@ -193,7 +203,8 @@ module _ (version : ℕ) where
   acknowledged-in T key false s p is near pends = freed-in version (pending_removed key s) (pending_removed-near version s is key) key.vpe p.sel
 
   -- the row of each message
-  handle_row-in : (T : Setup) (i : ℕ) (s : Side) (from : ℕ) (m : Message) → NearSide version s → NearMessage version m → NearSide version (handle_row T i s from m)
+  handle_row-in : (T : Setup) (i : ℕ) (s : Side) (from : ℕ) (m : Message) → NearSide version s → NearMessage version m →
+      NearSide version (handle_row T i s from m)
   unfolding handle_row
   handle_row-in T i s from (ObtainReq place target) is near = cond_both (is_alive s (target_vpe target)) (asked (target_vpe target) (ObtainAsk place target) s)
       (ask_refused T i Dead (ObtainAsk place target) s) (NearSide version) (λ _. asked-near version s is (target_vpe target) (ObtainAsk place target) near)
@@ -204,7 +215,10 @@ module _ (version : ℕ) where
   handle_row-in T i s from (ObtainNo place code) is near = cond_both (is_alive s place.vpe) (call_refused code place.vpe s) s (NearSide version)
       (λ _. call_refused-in version code place.vpe s near.1 is) (λ _. is)
   handle_row-in T i s from (DelegateReq parent object vpe sel) is near = cond_both (is_alive s vpe) (asked vpe (DelegateAsk parent object sel) s)
-      (ask_refused T i Dead (DelegateAsk parent object sel) s) (NearSide version) (λ _. asked-near version s is vpe (DelegateAsk parent object sel) (near.0, near.1))
+      (ask_refused T i Dead (DelegateAsk parent object sel) s) (NearSide version) (λ _. asked-near version s is vpe (DelegateAsk parent object sel) (
+        near.0,
+        near.1,
+      ))
       (λ _. ask_refused-in version T i Dead (DelegateAsk parent object sel) s (near.0, near.1) is)
   handle_row-in T i s from (DelegatePrepared parent key) is near = cond_both (is_alive s parent.vpe) (parked_as parent.vpe (DelegateReady parent key) s)
       (send (owner_of T key) (Ack key false) s) (NearSide version) (λ _. parked_as-near version s is parent.vpe (DelegateReady parent key) near)
@@ -220,7 +234,8 @@ module _ (version : ℕ) where
 
   -- a message, if it is no stray
   handled-in : (T : Setup) (i : ℕ) (s : Side) (from : ℕ) (m : Message) → NearSide version s → NearMessage version m → NearSide version (handled T i s from m)
-  handled-in T i s from m is near = cond_both (is_stray T i s m) s (handle_row T i s from m) (NearSide version) (λ _. is) (λ _. handle_row-in T i s from m is near)
+  handled-in T i s from m is near = cond_both (is_stray T i s m) s (handle_row T i s from m) (NearSide version) (λ _. is)
+      (λ _. handle_row-in T i s from m is near)
 
   -- Parked calls.
   granted-near : (T : Setup) (parent key : KeyName) (mark : Option ℕ) (s : Side) → NearSide version s → NearCall version (Some (DelegateReady parent key))
@@ -290,8 +305,10 @@ module _ (version : ℕ) where
       → ((v : ℕ) (c : Call) → next_call T s v ≡ Some c → IsValidCall (most_vpes version) c) → NearAct T a → NearSide version s → NearInput input
       → NearStep version (local_step T i s a input)
   unfolding local_step
-  local_step-near T i s (Calls v) input services valid nodes is near = option-keeps (NearStep version) (call_row T i (call_counted v s) v) (next_call T s v) (plain s)
-      (λ c there. call_row-near version T v nodes.0 nodes.1 (call_counted v s) (counted-near version s is v) i services c (valid v c there)) (plain-near version s is)
+  local_step-near T i s (Calls v) input services valid nodes is near = option-keeps (NearStep version) (call_row T i (call_counted v s) v) (next_call T s v)
+      (plain s)
+      (λ c there. call_row-near version T v nodes.0 nodes.1 (call_counted v s) (counted-near version s is v) i services c (valid v c there))
+      (plain-near version s is)
   local_step-near T i s (Fetch from) input services valid nodes is near = plain-near version (with_inbox (option_map (λ m. (from, m)) input) s)
       (fetched-in from input s is near)
   local_step-near T i s Handle input services valid nodes is near = plain-near version (option_map_or (λ m. handled T i (with_inbox None s) m.0 m.1) s.inbox s)

@@ -1,5 +1,6 @@
 -- Along every schedule the sides and the links speak of what a text of the version can speak of.
-use Rattle.std.proofs.Common.{◌≡◌, ℕ, ◌<◌, true, false, List, [], ◌∷◌, ◌++◌, length, drop, get_or, replicate, Option, Some, None, slice_get, refl, sym, ◌∙◌, ap, subst, arith}
+use Rattle.std.proofs.Common.{◌≡◌, ℕ, ◌<◌, true, false, List, [], ◌∷◌, ◌++◌, length, drop, get_or, replicate, Option, Some, None, slice_get, refl, sym, ◌∙◌, ap}
+use Rattle.std.proofs.Common.{subst, arith}
 use Rattle.std.specs.Prelude.{◌==◌, nat_lt}
 use Rattle.std.specs.List.{All, Contains}
 use Rattle.std.specs.Option.{option_map_or}
@@ -22,7 +23,8 @@ use Rattle.sem_key.specs.declared.limits.TheConstants.{PES}
 use Rattle.sem_trace.specs.Ranges.{IsNode, IsKeyInText}
 use Rattle.sem_machine.specs.Sides.{Side, no_side, outbox}
 use Rattle.sem_machine.specs.Steps.{Step}
-use Rattle.sem_machine.specs.Machine.{World, side, link, with_side, with_link, start, start_side, local_step, link_moved, input_of, after, is_enabled, is_locally_enabled}
+use Rattle.sem_machine.specs.Machine.{World, side, link, with_side, with_link, start, start_side, local_step, link_moved, input_of, after, is_enabled}
+use Rattle.sem_machine.specs.Machine.{is_locally_enabled}
 use Rattle.sem_machine.specs.Schedules.{IsRun, run}
 use Rattle.sem_safety.proofs.Carrying.{All-put, All-read, All-drop_one}
 use Rattle.sem_sound.proofs.Named.{kernel-decl}
@@ -91,7 +93,8 @@ module _ (T : Setup) where
       → NearWorld T (option_map_or (λ m. with_link i j (link V i j ++ m ∷ []) V) front V)
   flushed-near V is i j None here = is
   flushed-near V is i j (Some m) here = with_link-near V is i j (link V i j ++ m ∷ [])
-      (All-append (NearMessage T.version) (link V i j) (m ∷ []) (link-near V is i j) (All-cons (NearMessage T.version) m [] here (All-nil (NearMessage T.version))))
+      (All-append (NearMessage T.version) (link V i j) (m ∷ []) (link-near V is i j)
+      (All-cons (NearMessage T.version) m [] here (All-nil (NearMessage T.version))))
 
   -- what an act does to the links
   moved-near : (i : ℕ) (s : Side) (act : Act) (V : World) → NearSide T.version s → NearWorld T V → NearWorld T (link_moved i s act V)
@@ -141,7 +144,8 @@ module _ (T : Setup) (valid : IsSetup T) where
           (subst (IsNode T.version) (eqb-true d.pe x.key.pe same) declared.pe, subst (IsNode T.version) (eqb-true d.vpe x.key.vpe at.1) declared.vpe, number)
 
   -- the parts of what makes an event enabled
-  pub enabled-parts : (W : World) (e : Event) → is_enabled T W e ≡ true → (e.kernel < T.kernels) × (is_locally_enabled T e.kernel (side W e.kernel) e.act ≡ true)
+  pub enabled-parts : (W : World) (e : Event) → is_enabled T W e ≡ true →
+      (e.kernel < T.kernels) × (is_locally_enabled T e.kernel (side W e.kernel) e.act ≡ true)
   unfolding is_enabled
   enabled-parts W e enabled =
       let one = and_parts (nat_lt e.kernel T.kernels) _ enabled in
@@ -152,7 +156,8 @@ module _ (T : Setup) (valid : IsSetup T) where
       → NearStep T.version (local_step T e.kernel (side W e.kernel) e.act (input_of W e.kernel e.act))
   step-near W is e enabled =
       let parts = enabled-parts W e enabled in
-      local_step-near T.version T e.kernel (side W e.kernel) e.act (input_of W e.kernel e.act) service-near (λ v c at. call-valid T valid e.kernel parts.0 v _ c at)
+      local_step-near T.version T e.kernel (side W e.kernel) e.act (input_of W e.kernel e.act) service-near
+      (λ v c at. call-valid T valid e.kernel parts.0 v _ c at)
       (act-near e.kernel parts.0 (side W e.kernel) e.act parts.1) (side-near T W is e.kernel) (input-near T W is e.kernel e.act)
 
   -- the world after it

@@ -1,5 +1,6 @@
 -- How many things there can be whose codes are below a number and differ.
-use Rattle.std.proofs.Common.{◌≡◌, ℕ, zero, suc, ◌+◌, ◌-◌, ◌<◌, ◌≤◌, ◌⊎◌, Bool, true, false, not, List, [], ◌∷◌, length, get_or, refl, sym, ◌∙◌, subst, inl, inr, arith}
+use Rattle.std.proofs.Common.{◌≡◌, ℕ, zero, suc, ◌+◌, ◌-◌, ◌<◌, ◌≤◌, ◌⊎◌, Bool, true, false, not, List, [], ◌∷◌, length, get_or, refl, sym, ◌∙◌, subst, inl}
+use Rattle.std.proofs.Common.{inr, arith}
 use Rattle.std.specs.Prelude.{◌==◌, if◌then◌else◌}
 use Rattle.std.specs.List.{Contains, filter, flat_map, sum_by}
 use Rattle.std.proofs.lemmas.Bool.{cases_Bool, eqb-false, not-true}
@@ -70,7 +71,8 @@ one_alone {X = X} f d (x ∷ xs) k small alone =
 -- the sum over all of several lists
 pub sum-flat : {X Y : Type 0} (w : Y → ℕ) (g : X → List Y) (xs : List X) → sum_by w (flat_map g xs) ≡ sum_by (λ x. sum_by w (g x)) xs
 sum-flat w g [] = refl
-sum-flat w g (x ∷ xs) = let rest = sum-flat w g xs in let sums = sum_by-cons (λ y. sum_by w (g y)) x xs in let parts = sum_by-append w (g x) (flat_map g xs) in omega
+sum-flat w g (x ∷ xs) = let rest = sum-flat w g xs in let sums = sum_by-cons (λ y. sum_by w (g y)) x xs in let parts = sum_by-append w (g x) (flat_map g xs) in
+    omega
     (arith, rest, sums, parts)
 
 -- where each part is less, the sum is less

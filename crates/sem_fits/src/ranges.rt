@@ -1,4 +1,4 @@
-// Laws of schedules. The functions do nothing: what they promise holds of every schedule of every
+// Laws of schedules. The functions do nothing: their promises hold for every schedule of every
 // setup.
 ghost use Rattle.std.specs.Prelude.{◌≡◌, ℕ, ◌≤◌, false, List, length};
 ghost use Rattle.std.specs.List.{All};
@@ -15,8 +15,8 @@ ghost use Rattle.sem_machine.specs.Living.{InFlight};
 ghost use Rattle.sem_machine.specs.Journals.{made, cut};
 ghost use Rattle.sem_fits.specs.HeldAfter.{held_after};
 
-/// Each message that is under way after a schedule can be told in a report of the version of the
-/// setup, and carries no memory that ends too far.
+/// A report of the setup's version can tell each message under way after a schedule, and none of
+/// these messages carries memory that ends too far.
 pub fn messages_fit()
     ensures ranges { (T : Setup) → IsSetup T → (J : List Entry)
         → IsSchedule T J → (m : Message) → InFlight (world_after T J) m → MessageFits T.version m }
@@ -25,14 +25,14 @@ pub fn messages_fit()
         → (peer : ℕ) → carries_long (Carried peer m) ≡ false }
 {}
 
-/// Each entry of a schedule can be told in a report of the version of the setup.
+/// A report of the setup's version can tell each entry of a schedule.
 pub fn entries_fit()
     ensures { (T : Setup) → IsSetup T → (J : List Entry)
         → IsSchedule T J → All (EntryFits T.version T.kernels) J }
 {}
 
-/// The report of a schedule can be told: so are its counts and the keys that are held, and it has no
-/// more bytes than are read.
+/// The report of a schedule can be told: its counts and held keys are in range, and it has no more
+/// bytes than are read.
 pub fn reports_fit()
     ensures few_entries { (T : Setup) → IsSetup T → (J : List Entry)
         → IsSchedule T J → length J ≤ 4294967295 }
@@ -46,5 +46,6 @@ pub fn reports_fit()
         → IsSchedule T J → All (λ h. IsKeyInText T.version h.0 × (h.1 ≤ 255)) (held_after T J) }
     ensures bytes { (T : Setup) → IsSetup T → (J : List Entry)
         → IsSchedule T J
-        → length (report_text T J (length (made T J)) (length (cut T J)) (held_after T J)) ≤ 134217728 }
+        → length (report_text T J (length (made T J)) (length (cut T J)) (held_after T J))
+        ≤ 134217728 }
 {}

@@ -1,5 +1,6 @@
 -- Journals: where a call was made, and that a call with a reply behind it was answered.
-use Rattle.std.proofs.Common.{◌≡◌, ℕ, zero, suc, ◌+◌, ◌<◌, ◌≤◌, ◌++◌, Bool, true, List, [], ◌∷◌, filter, find, length, length-append, slice_get, Option, Some, None, append-nil, append_assoc, refl, sym, ap, ◌∙◌, subst, inl, inr, arith, eq-eqb}
+use Rattle.std.proofs.Common.{◌≡◌, ℕ, zero, suc, ◌+◌, ◌<◌, ◌≤◌, ◌++◌, Bool, true, List, [], ◌∷◌, filter, find, length, length-append, slice_get, Option, Some}
+use Rattle.std.proofs.Common.{None, append-nil, append_assoc, refl, sym, ap, ◌∙◌, subst, inl, inr, arith, eq-eqb}
 use Rattle.std.specs.Prelude.{◌==◌, if◌then◌else◌}
 use Rattle.std.specs.List.{Contains, cons_option, filter_map}
 use Rattle.std.specs.Option.{option_map}
@@ -63,7 +64,14 @@ call-made v r before (e ∷ es) low high =
           let more = counted-on before e v calls in
           elim (cases_lt r (call_count (before ++ e ∷ []) v)) [
             | inr above ↦ subst (λ K. IsMade K v r) (sym same) (call-made v r (before ++ e ∷ []) es above high')
-            | inl here ↦ record { before = before; later = es; entry = e; among = refl; act = call-act v e.event.act calls; count = omega (arith, more, low, here) }
+            | inl here ↦ record {
+              before = before;
+              later = es;
+              entry = e;
+              among = refl;
+              act = call-act v e.event.act calls;
+              count = omega (arith, more, low, here);
+            }
           ]
     ]
 
@@ -105,7 +113,8 @@ later-succeeds v later well some =
     let zero' : x.0.code ≡ 0 = well e.0 x.0 e.1 e.2 in
     ap is_success (ap (option_map (λ (r : Reply). r.code)) x.1) ∙ eq-eqb x.0.code 0 zero'
 
-pub answered-at : (before b : List Entry) (e : Entry) (later : List Entry) (k : KeyName) → succeeds e.event.act later ≡ true → Contains (cut_by (before ++ b) e) k
+pub answered-at : (before b : List Entry) (e : Entry) (later : List Entry) (k : KeyName) → succeeds e.event.act later ≡ true →
+    Contains (cut_by (before ++ b) e) k
     → Contains (answered_from before (b ++ e ∷ later)) k
 unfolding answered_from
 answered-at before [] e later k is cut =

@@ -1,11 +1,13 @@
 -- What a client waits for, and what came of it, has the number that a call of the client drew for it; and calls are counted as entries.
-use Rattle.std.proofs.Common.{◌≡◌, ◌⊎◌, ℕ, ◌+◌, ◌<◌, ◌≤◌, true, false, List, [], ◌∷◌, ◌++◌, filter, length, length-append, nat_lt, Option, Some, None, is_some, slice_get, refl, sym, ap, ◌∙◌, subst, inl, inr, arith, eq-eqb}
+use Rattle.std.proofs.Common.{◌≡◌, ◌⊎◌, ℕ, ◌+◌, ◌<◌, ◌≤◌, true, false, List, [], ◌∷◌, ◌++◌, filter, length, length-append, nat_lt, Option, Some, None, is_some}
+use Rattle.std.proofs.Common.{slice_get, refl, sym, ap, ◌∙◌, subst, inl, inr, arith, eq-eqb}
 use Rattle.std.proofs.lemmas.Bool.{cases_Bool, cases_eq, cases_lt, cond-true, cond-false, ltb-true, ne_eqb}
 use Rattle.std.proofs.lemmas.Option.{same_Some}
 use Rattle.std.proofs.lemmas.List.Elements.{filter-append}
 use Rattle.sem_key.specs.KeyName.{KeyName}
 use Rattle.sem_msg.specs.declared.call.Call.{Call}
-use Rattle.sem_msg.specs.declared.call.Call.TheVariants.{Derive, Gate, Obtain, Delegate, OpenSession, AskOffer, Revoke, Bind, Read as ReadCall, Write as WriteCall, Send as SendCall, Credit, Exit, Clear}
+use Rattle.sem_msg.specs.declared.call.Call.TheVariants.{Derive, Gate, Obtain, Delegate, OpenSession, AskOffer, Revoke, Bind, Read as ReadCall}
+use Rattle.sem_msg.specs.declared.call.Call.TheVariants.{Write as WriteCall, Send as SendCall, Credit, Exit, Clear}
 use Rattle.sem_msg.specs.declared.event.Act.{Act}
 use Rattle.sem_msg.specs.declared.event.Act.TheVariants.{Call as Calls, Fetch, Handle, Upcall, Resume, Flush, Kill}
 use Rattle.sem_msg.specs.declared.entry.Entry.{Entry}
@@ -47,7 +49,8 @@ pub record IsAsked (T : Setup) (J : List Entry) (v n sel : ℕ) : Type 0 where
 
 -- no call from a place on asks for what comes to the selector
 abbrev pub AsksNoMore : Setup → List Entry → ℕ → ℕ → ℕ → Type 0
-AsksNoMore T J v index sel = (m : ℕ) (c : Call) → index < m → m < (row (home T (world_after T J) v) v).next_call → slice_get (calls_of T v) m ≡ Some c → AsksAt c sel
+AsksNoMore T J v index sel = (m : ℕ) (c : Call) → index < m → m < (row (home T (world_after T J) v) v).next_call → slice_get (calls_of T v) m ≡ Some c →
+    AsksAt c sel
     → ⊥
 
 -- the last call of a VPE asks for nothing
@@ -63,7 +66,8 @@ pub record IsAskless (T : Setup) (J : List Entry) (v : ℕ) : Type 0 where
 pub record IsAsking (T : Setup) (J : List Entry) (v : ℕ) : Type 0 where
   pub waits : (n sel : ℕ) → kept (parked (home T (world_after T J) v) v) ≡ Some (n, sel) → (x : IsAsked T J v n sel)
       × ((row (home T (world_after T J) v) v).next_call ≡ x.index + 1)
-  pub slots : (sel : ℕ) (k : KeyName) → sel < GIVEN → slot (home T (world_after T J) v) v sel ≡ Held k → (x : IsAsked T J v k.number sel) × AsksNoMore T J v x.index sel
+  pub slots : (sel : ℕ) (k : KeyName) → sel < GIVEN → slot (home T (world_after T J) v) v sel ≡ Held k →
+      (x : IsAsked T J v k.number sel) × AsksNoMore T J v x.index sel
   pub gives : (p : KeyName) → parked (home T (world_after T J) v) v ≡ Some (DelegateWait p) → IsAskless T J v
   pub counted : call_count J v ≡ (row (home T (world_after T J) v) v).next_call
 
@@ -82,7 +86,8 @@ kept-drawn T i s sound-s v n sel is =
 
 -- calls among entries
 
-pub count-more : (J : List Entry) (e : Entry) (v : ℕ) → call_count (J ++ e ∷ []) v ≡ call_count J v + length (filter (λ (x : Entry). is_call_of v x.event.act) (e ∷ []))
+pub count-more : (J : List Entry) (e : Entry) (v : ℕ) →
+    call_count (J ++ e ∷ []) v ≡ call_count J v + length (filter (λ (x : Entry). is_call_of v x.event.act) (e ∷ []))
 count-more J e v = ap length (filter-append (λ (x : Entry). is_call_of v x.event.act) J (e ∷ []))
     ∙ length-append (filter (λ (x : Entry). is_call_of v x.event.act) J) (filter (λ (x : Entry). is_call_of v x.event.act) (e ∷ []))
 
@@ -176,7 +181,8 @@ module _ (T : Setup) (S : IsService T) (J : List Entry) (e : Entry) (runs' : IsS
 
         pub asking-away : IsAsking T J' v
         asking-away = record {
-          waits = λ n sel is. let x = A.waits n sel (ap (λ t. kept (parked t v)) (sym same-side) ∙ is) in (on n sel x.0, ap (λ t. (row t v).next_call) same-side ∙ x.1);
+          waits = λ n sel is. let x = A.waits n sel (ap (λ t. kept (parked t v)) (sym same-side) ∙ is) in
+              (on n sel x.0, ap (λ t. (row t v).next_call) same-side ∙ x.1);
           slots = λ sel k near is. let x = A.slots sel k near (ap (λ t. slot t v sel) (sym same-side) ∙ is) in
               (on k.number sel x.0, λ m c less below. x.1 m c less (subst (λ t. m < (row t v).next_call) same-side below));
           gives = λ p is. let x = A.gives p (ap (λ t. parked t v) (sym same-side) ∙ is) in
@@ -191,8 +197,13 @@ module _ (T : Setup) (S : IsService T) (J : List Entry) (e : Entry) (runs' : IsS
             → ((m : ℕ) → m < (row s' v).next_call → (m < (row s v).next_call) ⊎ ((c : Call) → slice_get (calls_of T v) m ≡ Some c → AsksAt c sel → ⊥))
             → slot s' v sel ≡ Held k → (x : IsAsked T J' v k.number sel) × AsksNoMore T J' v x.index sel
         unmoved sel k near free apart goes-on is = elim (slotted T S J e runs' served passes v d at local sel near free apart) [
-          | inl same ↦ (let x = A.slots sel k near (sym same ∙ is) in
-              (on k.number sel x.0, λ m c less below there asks. elim (goes-on m below) [ inl before ↦ x.1 m c less before there asks | inr now ↦ now c there asks ]))
+          | inl same ↦ (let x = A.slots sel k near (sym same ∙ is) in (
+            on k.number sel x.0,
+            λ m c less below there asks. elim (goes-on m below) [
+              | inl before ↦ x.1 m c less before there asks
+              | inr now ↦ now c there asks
+            ],
+          ))
           | inr none ↦ absurd (free-held k (sym none ∙ is))
         ]
 
@@ -266,16 +277,21 @@ module _ (T : Setup) (S : IsService T) (J : List Entry) (e : Entry) (runs' : IsS
               let n-is : number ≡ k.number = sym has.numbered ∙ ap (λ (x : KeyName). x.number) key in
               let y = A.waits number q was in
               subst (λ a. (x : IsAsked T J' v a sel) × AsksNoMore T J' v x.index sel) n-is
-              (subst (λ b. (x : IsAsked T J' v number b) × AsksNoMore T J' v x.index b) one
-              (on number q y.0, λ m c less below there asks. absurd (none-later y.0.index m (row s v).next_call (row s' v).next_call y.1 calls-same less below)))
+              (subst (λ b. (x : IsAsked T J' v number b) × AsksNoMore T J' v x.index b) one (
+                on number q y.0,
+                λ m c less below there asks. absurd (none-later y.0.index m (row s v).next_call (row s' v).next_call y.1 calls-same less below),
+              ))
           came n sel k waited is (turn_over was busy now) = absurd (no-some n sel (sym was ∙ waited))
 
-          slots-on : (sel : ℕ) (k : KeyName) → sel < GIVEN → slot s' v sel ≡ Held k → (o : Option (ℕ × ℕ)) → kept (parked s v) ≡ o → (x : IsAsked T J' v k.number sel)
+          slots-on : (sel : ℕ) (k : KeyName) → sel < GIVEN → slot s' v sel ≡ Held k → (o : Option (ℕ × ℕ)) → kept (parked s v) ≡ o →
+              (x : IsAsked T J' v k.number sel)
               × AsksNoMore T J' v x.index sel
-          slots-on sel k near is None none = unmoved sel k near (λ number waits. no-some number sel (sym none ∙ waits)) (λ c act next asks. silent act) same-calls is
+          slots-on sel k near is None none = unmoved sel k near (λ number waits. no-some number sel (sym none ∙ waits))
+              (λ c act next asks. silent act) same-calls is
           slots-on sel k near is (Some x) some = elim (cases_eq x.1 sel) [
             | inl same ↦ came x.0 sel k (some ∙ ap (λ m. Some (x.0, m)) same) is (course T S J e runs' served passes v d at local client H silent).turn
-            | inr other ↦ unmoved sel k near (λ number waits. other (place-same {n = x.0} {m = number} (sym some ∙ waits))) (λ c act next asks. silent act) same-calls
+            | inr other ↦ unmoved sel k near (λ number waits. other (place-same {n = x.0} {m = number} (sym some ∙ waits)))
+                (λ c act next asks. silent act) same-calls
                 is
           ]
 
@@ -319,7 +335,8 @@ module _ (T : Setup) (S : IsService T) (J : List Entry) (e : Entry) (runs' : IsS
             counted = count;
           }
 
-          ask-on : (number dst : ℕ) → parked s' v ≡ Some (ObtainWait number dst) → number ≡ (row (call_counted v (side W e.event.kernel)) v).next_number → AsksAt c dst
+          ask-on : (number dst : ℕ) → parked s' v ≡ Some (ObtainWait number dst) → number ≡ (row (call_counted v (side W e.event.kernel)) v).next_number →
+              AsksAt c dst
               → ((sel : ℕ) → AsksAt c sel → dst ≡ sel) → IsAsking T J' v
           ask-on number dst parks numbered asks only = record {
             waits = λ n sel is.
@@ -329,7 +346,8 @@ module _ (T : Setup) (S : IsService T) (J : List Entry) (e : Entry) (runs' : IsS
             slots = λ sel k near is. elim (cases_eq dst sel) [
               | inl same ↦ absurd (promised number sel k (ap kept parks ∙ ap (λ m. Some (number, m)) same) is)
               | inr other ↦ unmoved sel k near (λ n waits. unwaited sel n waits)
-                  (λ c' a there asks'. other (only sel (subst (λ z. AsksAt z sel) (same-call c' there) asks'))) (one-call-more sel (λ asks'. other (only sel asks'))) is
+                  (λ c' a there asks'. other (only sel (subst (λ z. AsksAt z sel) (same-call c' there) asks')))
+                  (one-call-more sel (λ asks'. other (only sel asks'))) is
             ];
             gives = λ p is. (let no' : ◌≡◌ {A = Option Parked} (Some (ObtainWait number dst)) (Some (DelegateWait p)) = sym parks ∙ is in absurd cc);
             counted = count;

@@ -43,7 +43,8 @@ use Rattle.sem_fs.proofs.Passing.{counted-slot}
 use Rattle.sem_fs.proofs.ServedSteps.{passed-done, ActPasses}
 use Rattle.sem_fs.proofs.Courses.{Turn, turn_same, turn_woken, turn_obtained, turn_prepared, turn_got, turn_over}
 use Rattle.sem_fs.proofs.Owned.{slot-cap, own-held, same_Held, called}
-use Rattle.sem_fs.proofs.HoldingSteps.{runs, few, sound-here, locally, order, living, sound', near-kernel, whose, new-side, slotted, course, kept-calls, passed, stepped-so, goes, more-calls, holds-now, in-order}
+use Rattle.sem_fs.proofs.HoldingSteps.{runs, few, sound-here, locally, order, living, sound', near-kernel, whose, new-side, slotted, course, kept-calls, passed}
+use Rattle.sem_fs.proofs.HoldingSteps.{stepped-so, goes, more-calls, holds-now, in-order}
 use Rattle.sem_fs.proofs.Unbinding.{IsGone, IsKeptByNone, IsBoundTo}
 use Rattle.sem_fs.proofs.BoundSteps.{step-fate}
 
@@ -169,7 +170,8 @@ module _ (T : Setup) (S : IsService T) (J : List Entry) (e : Entry) (runs' : IsS
 
         unkept : IsKeptByNone B.key here
         unkept x among keeps same =
-            let waits = keepers-waited_for T S.setup J (runs T S J e runs' served passes) i x.id x (job-open T i here (sound-here T S J e runs' served passes) x among)
+            let waits = keepers-waited_for T S.setup J (runs T S J e runs' served passes) i x.id x
+            (job-open T i here (sound-here T S J e runs' served passes) x among)
             keeps in
             let mine : x.root.vpe ≡ v = ap (λ (q : KeyName). q.vpe) same ∙ whose T S J e runs' served passes v d at sel B.key B.at_slot in
             let none : parked here v ≡ None = ap (λ j. parked (side W j) v) (sym local) ∙ B.idle in
@@ -267,7 +269,8 @@ module _ (T : Setup) (S : IsService T) (J : List Entry) (e : Entry) (runs' : IsS
       where
         on : (local : kernel_of T v ≡ i) → (e.event.act ≡ Calls v → ⊥) → (first : List Call) (sel : ℕ)
             → calls_made T (world_after T (J ++ e ∷ [])) v ≡ first ++ Bind ACCESS sel ∷ [] → IsBinding T (J ++ e ∷ []) v sel
-        on local silent first sel last = binding-on local silent sel (B first sel (sym (kept-calls T S J e runs' served passes v d at local client H silent) ∙ last))
+        on local silent first sel last = binding-on local silent sel (B first sel (sym (kept-calls T S J e runs' served passes v d at local client H silent)
+            ∙ last))
 
         mine : (local : kernel_of T v ≡ i) → e.event.act ≡ Calls v → (first : List Call) (sel : ℕ)
             → calls_made T (world_after T (J ++ e ∷ [])) v ≡ first ++ Bind ACCESS sel ∷ [] → IsBinding T (J ++ e ∷ []) v sel

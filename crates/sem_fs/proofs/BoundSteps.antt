@@ -10,7 +10,8 @@ use Rattle.sem_key.specs.Lists.{put}
 use Rattle.sem_key.specs.Capability.{Capability}
 use Rattle.sem_key.proofs.Puts.{get_or-put_other}
 use Rattle.sem_msg.specs.declared.call.Call.{Call}
-use Rattle.sem_msg.specs.declared.call.Call.TheVariants.{Derive, Gate, Obtain, Delegate, OpenSession, AskOffer, Revoke, Bind, Read as ReadCall, Write as WriteCall, Send as SendCall, Credit, Exit, Clear}
+use Rattle.sem_msg.specs.declared.call.Call.TheVariants.{Derive, Gate, Obtain, Delegate, OpenSession, AskOffer, Revoke, Bind, Read as ReadCall}
+use Rattle.sem_msg.specs.declared.call.Call.TheVariants.{Write as WriteCall, Send as SendCall, Credit, Exit, Clear}
 use Rattle.sem_msg.specs.declared.code.Code.{Code}
 use Rattle.sem_msg.specs.declared.code.Code.TheVariants.{NoCap, NoService, BadKind, Dead}
 use Rattle.sem_msg.specs.Codes.{code_number}
@@ -94,17 +95,22 @@ module _ (v ep : ℕ) (k : KeyName) (T : Setup) (i : ℕ) (s : Side) (is : IsBou
       (λ y there. ask-fate u dst (ServTarget y.key) t equal) (same t equal))
   call-fate u before (AskOffer dst session index) t other so equal jobs =
       unless-keeps On (offer_tests T i t u dst session) _ _ (λ code. same t equal)
-      (option-keeps On (λ (q : KeyName). ask_made T i u dst (OfferTarget q index) t) _ (answer BadKind t) (λ q there. ask-fate u dst (OfferTarget q index) t equal)
+      (option-keeps On (λ (q : KeyName). ask_made T i u dst (OfferTarget q index) t) _ (answer BadKind t)
+      (λ q there. ask-fate u dst (OfferTarget q index) t equal)
       (same t equal))
   call-fate u before (Delegate src w dst) t other so equal jobs = unless-keeps On (delegate_tests T i t u src w) _ _ (λ code. same t equal)
       (held-fate (own t u src) _ t equal (λ p. offer-fate u w dst p t equal))
-  call-fate u before (Revoke src) t other so equal jobs = held-fate (own t u src) _ t equal (λ c. revoked-fate v ep k T i s is unkept u c.key c.mark t equal jobs)
-  call-fate u before (Bind e src) t other so equal jobs = unless-keeps On (bind_tests t u src) _ _ (λ code. same t equal) (held-fate (own t u src) _ t equal (λ c.
+  call-fate u before (Revoke src) t other so equal jobs =
+      held-fate (own t u src) _ t equal (λ c. revoked-fate v ep k T i s is unkept u c.key c.mark t equal jobs)
+  call-fate u before (Bind e src) t other so equal jobs =
+      unless-keeps On (bind_tests t u src) _ _ (λ code. same t equal) (held-fate (own t u src) _ t equal (λ c.
       let b : Option Endpoint = Some (record { key = c.key; object = c.object; ring = [] }) in
       let row-same = get_or-put_other [] t.endpoints u v (put None (get_or t.endpoints u []) e b) (λ here. other (sym here)) in
       inl (record { bound = is.bound; at = ap (λ es. get_or es ep None) (row-same ∙ ap (λ rows. get_or rows v []) equal) ∙ is.at; key = is.key })))
-  call-fate u before (ReadCall e off len) t other so equal jobs = unless-keeps On (memory_tests 1 off len (endpoint t u e)) _ _ (λ code. same t equal) (same t equal)
-  call-fate u before (WriteCall e off len) t other so equal jobs = unless-keeps On (memory_tests 2 off len (endpoint t u e)) _ _ (λ code. same t equal) (same t equal)
+  call-fate u before (ReadCall e off len) t other so equal jobs = unless-keeps On (memory_tests 1 off len (endpoint t u e)) _ _ (λ code. same t equal)
+      (same t equal)
+  call-fate u before (WriteCall e off len) t other so equal jobs = unless-keeps On (memory_tests 2 off len (endpoint t u e)) _ _ (λ code. same t equal)
+      (same t equal)
   call-fate u before (Derive src dst off len rights) t other so equal jobs = absurd so
   call-fate u before (Gate src dst label credits) t other so equal jobs = absurd so
   call-fate u before (Obtain dst w src) t other so equal jobs = absurd so
@@ -131,7 +137,8 @@ module _ (v ep : ℕ) (k : KeyName) (T : Setup) (i : ℕ) (s : Side) (is : IsBou
     given = λ place target p of.
         let q : KeyName = keyed place (given_kind target p) in
         let linking : Side = linked p.key q t in
-        cond_both (kernel_of T place.vpe == i) _ _ F (λ _. given-fate q p.key (given target place.vpe p) (parked linking place.vpe) linking equal) (λ _. same _ equal);
+        cond_both (kernel_of T place.vpe == i) _ _ F (λ _. given-fate q p.key (given target place.vpe p) (parked linking place.vpe) linking equal)
+        (λ _. same _ equal);
     here = λ parent object q of. same _ equal;
     prepared = λ parent object q of. same _ equal;
   })
@@ -202,7 +209,8 @@ module _ (v ep : ℕ) (k : KeyName) (T : Setup) (i : ℕ) (s : Side) (is : IsBou
   })
 
   -- A step in which the VPE does not call.
-  pub step-fate : (a : Act) (input : Option Message) → ((u : ℕ) (c : Call) → a ≡ Calls u → next_call T s u ≡ Some c → (before : List Call) × IsInOrder T u before c)
+  pub step-fate : (a : Act) (input : Option Message) →
+      ((u : ℕ) (c : Call) → a ≡ Calls u → next_call T s u ≡ Some c → (before : List Call) × IsInOrder T u before c)
       → (a ≡ Calls v → ⊥) → ((u : ℕ) → a ≡ Kill u → ⊥) → On (local_step T i s a input)
   unfolding local_step
   step-fate (Calls u) input order silent living = elim (cases_eq u v) [

@@ -1,6 +1,7 @@
 -- The two claims: a selector of a client that is given to, and the numbers of a client. Where what is claimed at the start is small
 -- enough, what is given finds room, and numbers are left.
-use Rattle.std.proofs.Common.{◌≡◌, ℕ, zero, suc, ◌+◌, ◌≤◌, ◌<◌, Bool, true, false, List, [], ◌∷◌, drop, filter, length, get_or, Some, slice_get, refl, sym, ap, ◌∙◌, subst, inl, inr, arith, eq-eqb}
+use Rattle.std.proofs.Common.{◌≡◌, ℕ, zero, suc, ◌+◌, ◌≤◌, ◌<◌, Bool, true, false, List, [], ◌∷◌, drop, filter, length, get_or, Some, slice_get, refl, sym, ap}
+use Rattle.std.proofs.Common.{◌∙◌, subst, inl, inr, arith, eq-eqb}
 use Rattle.std.specs.Prelude.{◌==◌, if◌then◌else◌}
 use Rattle.std.specs.List.{sum_by}
 use Rattle.std.proofs.lemmas.Bool.{cases_eq, cond-true}
@@ -90,7 +91,8 @@ module _ (T : Setup) (w0 d0 : ℕ) (far : GIVEN ≤ d0) where
 
       takes' : (r : VpeRow) (sel : ℕ) (x : Slot) → room_used (record r { slots = put Free r.slots sel x }) + 0 ≤ room_used r + bit (at_room sel)
       takes' r sel x = elim (cases_eq sel d0) [
-        | inl same ↦ here-fits (room_used (record r { slots = put Free r.slots sel x })) (used x) (room_used r) (bit (sel == d0)) (put-here r sel x same) (used-most x)
+        | inl same ↦ here-fits (room_used (record r { slots = put Free r.slots sel x })) (used x) (room_used r) (bit (sel == d0)) (put-here r sel x same)
+            (used-most x)
             (bit-true (sel == d0) (eq-eqb sel d0 same))
         | inr other ↦ away-fits (room_used (record r { slots = put Free r.slots sel x })) (room_used r) (bit (sel == d0)) (put-away r sel x other)
       ]
@@ -101,13 +103,15 @@ module _ (T : Setup) (w0 d0 : ℕ) (far : GIVEN ≤ d0) where
       frees' : (r : VpeRow) (sel : ℕ) → room_used (record r { slots = put Free r.slots sel Free }) ≤ room_used r
       frees' r sel = elim (cases_eq sel d0) [
         | inl same ↦ zero-less (room_used (record r { slots = put Free r.slots sel Free })) (room_used r) (put-here r sel Free same)
-        | inr other ↦ same-less (room_used (record r { slots = put Free r.slots sel Free })) (room_used r) (room_used r) (put-away r sel Free other) (omega arith)
+        | inr other ↦ same-less (room_used (record r { slots = put Free r.slots sel Free })) (room_used r) (room_used r) (put-away r sel Free other)
+            (omega arith)
       ]
 
       ones : (a b : ℕ) → a ≡ 1 → b ≡ 1 → a ≤ b
       ones a b one two = omega (arith, one, two)
 
-      holds' : (r : VpeRow) (sel : ℕ) (q : KeyName) → get_or r.slots sel Free ≡ Promised → room_used (record r { slots = put Free r.slots sel (Held q) }) ≤ room_used r
+      holds' : (r : VpeRow) (sel : ℕ) (q : KeyName) → get_or r.slots sel Free ≡ Promised →
+          room_used (record r { slots = put Free r.slots sel (Held q) }) ≤ room_used r
       holds' r sel q was = elim (cases_eq sel d0) [
         | inl same ↦ ones (room_used (record r { slots = put Free r.slots sel (Held q) })) (room_used r) (put-here r sel (Held q) same)
             (ap used (ap (λ n. get_or r.slots n Free) (sym same) ∙ was))
@@ -192,7 +196,8 @@ module _ (T : Setup) (w0 : ℕ) where
       → (row (side W i) w0).next_number < NUMBERS
   number-left W i parent object sel alive few head =
       let s : Side = side W i in
-      fits (row s w0).next_number (asks_left (row s w0).next_call) (numbers_used (row s w0)) (sum_by (of_ask T w0 any 1 numbers_used) (row s w0).asks) (bit true)
+      fits (row s w0).next_number (asks_left (row s w0).next_call) (numbers_used (row s w0)) (sum_by (of_ask T w0 any 1 numbers_used) (row s w0).asks)
+      (bit true)
       (claimed T w0 any 1 numbers_used numbers W) (taken-within T w0 any 1 numbers_used numbers W i) few
       (oldest (of_ask T w0 any 1 numbers_used) (row s w0).asks (DelegateAsk parent object sel) head) (bit-true true refl)
       (cond-true (row s w0).alive ((row s w0).next_number + asks_left (row s w0).next_call) 0 alive)
@@ -206,7 +211,8 @@ module _ (T : Setup) (w0 : ℕ) where
   number-asked W i c alive few next asks =
       let s : Side = side W i in
       let n : ℕ = (row s w0).next_call in
-      fits (row s w0).next_number (asks_left n) (asks_left (suc n)) (bit (is_ask c)) (numbers_used (row s w0)) (sum_by (of_ask T w0 any 1 numbers_used) (row s w0).asks)
+      fits (row s w0).next_number (asks_left n) (asks_left (suc n)) (bit (is_ask c)) (numbers_used (row s w0))
+      (sum_by (of_ask T w0 any 1 numbers_used) (row s w0).asks)
       (claimed T w0 any 1 numbers_used numbers W) (taken-within T w0 any 1 numbers_used numbers W i) few
       (cond-true (row s w0).alive ((row s w0).next_number + asks_left n) 0 alive) (counts-one is_ask (calls_of T w0) n c next) (bit-true (is_ask c) asks)
     where

@@ -1,5 +1,6 @@
 -- No row makes more of what is claimed of a client.
-use Rattle.std.proofs.Common.{◌≡◌, ℕ, zero, suc, ◌+◌, ◌≤◌, ◌<◌, Bool, true, false, List, [], ◌∷◌, drop, filter, length, get_or, Option, Some, None, slice_get, refl, sym, ap, ◌∙◌, subst, inl, inr, arith, eq-eqb}
+use Rattle.std.proofs.Common.{◌≡◌, ℕ, zero, suc, ◌+◌, ◌≤◌, ◌<◌, Bool, true, false, List, [], ◌∷◌, drop, filter, length, get_or, Option, Some, None, slice_get}
+use Rattle.std.proofs.Common.{refl, sym, ap, ◌∙◌, subst, inl, inr, arith, eq-eqb}
 use Rattle.std.specs.Prelude.{◌==◌, ◌&&◌, if◌then◌else◌}
 use Rattle.std.specs.List.{Contains, sum_by}
 use Rattle.std.proofs.lemmas.Bool.{cases_eq, cases_Bool, cond_both, cond-true, cond-false, ne_eqb}
@@ -15,12 +16,14 @@ use Rattle.sem_key.proofs.KeyTests.{key_eq-true}
 use Rattle.sem_key.proofs.Members.{found}
 use Rattle.sem_key.proofs.Puts.{get_or-put_same, get_or-put_other}
 use Rattle.sem_msg.specs.declared.call.Call.{Call}
-use Rattle.sem_msg.specs.declared.call.Call.TheVariants.{Derive, Gate, Obtain, Delegate, OpenSession, AskOffer, Revoke, Bind, Read as ReadCall, Write as WriteCall, Send as SendCall, Credit, Exit, Clear}
+use Rattle.sem_msg.specs.declared.call.Call.TheVariants.{Derive, Gate, Obtain, Delegate, OpenSession, AskOffer, Revoke, Bind, Read as ReadCall}
+use Rattle.sem_msg.specs.declared.call.Call.TheVariants.{Write as WriteCall, Send as SendCall, Credit, Exit, Clear}
 use Rattle.sem_msg.specs.declared.code.Code.{Code}
 use Rattle.sem_msg.specs.declared.code.Code.TheVariants.{NoCap, NoService, BadKind, Dead}
 use Rattle.sem_msg.specs.Codes.{code_number}
 use Rattle.sem_msg.specs.declared.message.Message.{Message}
-use Rattle.sem_msg.specs.declared.message.Message.TheVariants.{ObtainReq, ObtainOk, ObtainNo, DelegateReq, DelegatePrepared, DelegateNo, Ack, Orphan, RevokeReq, RevokeDone, Unlink}
+use Rattle.sem_msg.specs.declared.message.Message.TheVariants.{ObtainReq, ObtainOk, ObtainNo, DelegateReq, DelegatePrepared, DelegateNo, Ack, Orphan, RevokeReq}
+use Rattle.sem_msg.specs.declared.message.Message.TheVariants.{RevokeDone, Unlink}
 use Rattle.sem_msg.specs.declared.message.Target.{Target}
 use Rattle.sem_msg.specs.declared.message.Target.TheVariants.{Serv as ServTarget, Offer as OfferTarget}
 use Rattle.sem_msg.specs.declared.setup.Service.{Service}
@@ -35,7 +38,8 @@ use Rattle.sem_msg.specs.Rows.{VpeRow, no_vpe}
 use Rattle.sem_msg.specs.Setup.{Setup}
 use Rattle.sem_msg.specs.Lookups.{calls_of, kernel_of, owner_of, place_owner, service_named}
 use Rattle.sem_msg.specs.Uses.{memory_tests}
-use Rattle.sem_machine.specs.Sides.{Side, row, slot, own, cap, parked, endpoint, is_alive, call_counted, drawn, promised, parked_as, unparked, with_slot, asked, ask_taken, linked, installed, cap_added, pending_added, pending_removed, send}
+use Rattle.sem_machine.specs.Sides.{Side, row, slot, own, cap, parked, endpoint, is_alive, call_counted, drawn, promised, parked_as, unparked, with_slot, asked}
+use Rattle.sem_machine.specs.Sides.{ask_taken, linked, installed, cap_added, pending_added, pending_removed, send}
 use Rattle.sem_machine.specs.Sound.{IsSound, bit, kept, keeps_selector, is_promised}
 use Rattle.sem_machine.specs.Steps.{Step, plain, answer}
 use Rattle.sem_machine.specs.Asks.{target_vpe, asker, promise_freed, call_refused, refusal_sent, ask_refused}
@@ -53,7 +57,8 @@ use Rattle.sem_fs.specs.Service.{GIVEN, gives_where, IsInOrder, is_ask}
 use Rattle.sem_files.specs.Compiled.{SESSION}
 use Rattle.sem_fs.specs.Serving.{IsServedAsk, IsServedSide}
 use Rattle.sem_fs.proofs.ServedSteps.{ask-among}
-use Rattle.sem_fs.proofs.Claims.{IsClaim, of_message, of_messages, of_inbox, of_side, of_rows, of_row, of_ask, taken, remaining, sum_to-less, drawn-le, slot-le, takes-le, asked-le, taken-le, send-le}
+use Rattle.sem_fs.proofs.Claims.{IsClaim, of_message, of_messages, of_inbox, of_side, of_rows, of_row, of_ask, taken, remaining, sum_to-less, drawn-le, slot-le}
+use Rattle.sem_fs.proofs.Claims.{takes-le, asked-le, taken-le, send-le}
 
 -- a call that is made is no longer left
 pub counts-one : (p : Call → Bool) (cs : List Call) (n : ℕ) (c : Call) → slice_get cs n ≡ Some c
@@ -87,7 +92,8 @@ kept-promised T i t sound v number sel at =
     let most = sound.promises v sel in
     let one : keeps_selector sel (kept (parked t v)) ≡ 1 = ap (keeps_selector sel) at ∙ bit-true (sel == sel) (eq-eqb sel sel refl) in
     promised-once (slot t v sel)
-    (more (keeps_selector sel (kept (parked t v))) (sum_by (λ (p : Pending). bit ((p.key.vpe == v) && (p.sel == sel))) t.pendings) (is_promised (slot t v sel)) most
+    (more (keeps_selector sel (kept (parked t v))) (sum_by (λ (p : Pending). bit ((p.key.vpe == v) && (p.sel == sel))) t.pendings)
+    (is_promised (slot t v sel)) most
     one)
   where
     more : (a b c : ℕ) → a + b + 0 ≤ c → a ≡ 1 → 1 ≤ c
@@ -185,12 +191,14 @@ module _ (T : Setup) (w0 : ℕ) (m : ℕ → Bool) (k : ℕ) (h : VpeRow → ℕ
           here : of_row T w0 m k h u (row (call_counted u s) u) + bit (gives_where w0 m c) ≤ of_row T w0 m k h u (row s u)
           here =
               let n : ℕ = (row s u).next_call in
-              let at : row (call_counted u s) u ≡ record (row s u) { next_call = n + 1 } = get_or-put_same no_vpe s.vpes u (record (row s u) { next_call = n + 1 }) in
+              let at : row (call_counted u s) u ≡ record (row s u) { next_call = n + 1 } =
+              get_or-put_same no_vpe s.vpes u (record (row s u) { next_call = n + 1 }) in
               let now : of_row T w0 m k h u (row (call_counted u s) u) ≡ remaining T w0 m k h u (row s u).alive (n + 1) = ap (of_row T w0 m k h u) at in
               let next' : n + 1 ≡ suc n = omega arith in
               let one : remaining T w0 m k h u (row s u).alive (n + 1) ≡ length (filter (gives_where w0 m) (drop (suc n) (calls_of T u))) =
               ap (λ a. remaining T w0 m k h u a (n + 1)) alive ∙ ap (λ j. length (filter (gives_where w0 m) (drop j (calls_of T u)))) next' in
-              let two : of_row T w0 m k h u (row s u) ≡ length (filter (gives_where w0 m) (drop n (calls_of T u))) = ap (λ a. remaining T w0 m k h u a n) alive in
+              let two : of_row T w0 m k h u (row s u) ≡ length (filter (gives_where w0 m) (drop n (calls_of T u))) =
+              ap (λ a. remaining T w0 m k h u a n) alive in
               let less = counts-one (gives_where w0 m) (calls_of T u) n c next in
               sums (of_row T w0 m k h u (row (call_counted u s) u)) (remaining T w0 m k h u (row s u).alive (n + 1))
               (length (filter (gives_where w0 m) (drop (suc n) (calls_of T u)))) (of_row T w0 m k h u (row s u))
@@ -261,10 +269,12 @@ module _ (T : Setup) (w0 : ℕ) (m : ℕ → Bool) (k : ℕ) (h : VpeRow → ℕ
       let three : weight waiting ≡ weight (promised u dst (drawn u t)) = refl in
       let four : Below n waiting = sums (weight waiting) (weight (promised u dst (drawn u t))) (weight (drawn u t)) (weight t) (pay u k) n three two one room in
       cond_both (kernel_of T w == i) _ _ (Below n)
-      (λ _. no-more (weight (asked w (ObtainAsk place target) waiting)) (weight waiting) (pay w 0) n (asked-so waiting w (ObtainAsk place target)) (no-pay (w == w0))
+      (λ _. no-more (weight (asked w (ObtainAsk place target) waiting)) (weight waiting) (pay w 0) n (asked-so waiting w (ObtainAsk place target))
+      (no-pay (w == w0))
       four)
       (λ _. no-more (weight (send (kernel_of T w) (ObtainReq place target) waiting)) (weight waiting) 0 n
-      (same-less (weight (send (kernel_of T w) (ObtainReq place target) waiting)) (weight waiting + 0) (send-so waiting (kernel_of T w) (ObtainReq place target)))
+      (same-less (weight (send (kernel_of T w) (ObtainReq place target) waiting)) (weight waiting + 0)
+      (send-so waiting (kernel_of T w) (ObtainReq place target)))
       refl four)
     where
       sums : (a b c d p n' : ℕ) → a ≡ b → b ≤ c → c ≤ d + p → d + p ≤ n' → a ≤ n'
@@ -284,7 +294,8 @@ module _ (T : Setup) (w0 : ℕ) (m : ℕ → Bool) (k : ℕ) (h : VpeRow → ℕ
       cond_both (kernel_of T w == i) _ _ (Below n)
       (λ _. asks (weight (asked w (DelegateAsk p.key p.object dst) waiting)) (weight waiting) (weight t) (pay w (bit (m dst)))
       (bit (gives_where w0 m (Delegate src w dst))) n (asked-so waiting w (DelegateAsk p.key p.object dst)) same pays room)
-      (λ _. sends (weight (send (kernel_of T w) (DelegateReq p.key p.object w dst) waiting)) (weight waiting) (weight t) (bit (gives_where w0 m (Delegate src w dst))) n
+      (λ _. sends (weight (send (kernel_of T w) (DelegateReq p.key p.object w dst) waiting)) (weight waiting) (weight t)
+      (bit (gives_where w0 m (Delegate src w dst))) n
       (send-so waiting (kernel_of T w) (DelegateReq p.key p.object w dst)) same room)
     where
       asks : (a b c p' d n' : ℕ) → a ≤ b + p' → b ≡ c → d ≡ p' → c + d ≤ n' → a ≤ n'
@@ -303,7 +314,8 @@ module _ (T : Setup) (w0 : ℕ) (m : ℕ → Bool) (k : ℕ) (h : VpeRow → ℕ
       (bit (gives_where w0 m (OpenSession dst name)) + pay u (if is_ask (OpenSession dst name) then k else 0)) n room in
       unless-keeps (On n) (open_tests T i t u dst name) _ _ (λ code. still)
       (option-keeps (On n) (λ (y : Service). ask_made T i u dst (ServTarget y.key) t) (service_named T name) (answer NoService t)
-      (λ y there. ask-so n i u dst (ServTarget y.key) t (session-near dst so.0) (skip (weight t) (bit (gives_where w0 m (OpenSession dst name))) (pay u k) n room))
+      (λ y there. ask-so n i u dst (ServTarget y.key) t (session-near dst so.0)
+      (skip (weight t) (bit (gives_where w0 m (OpenSession dst name))) (pay u k) n room))
       still)
   call-so n i u before (AskOffer dst session index) t so room = let still =
       at-most (weight t) (bit (gives_where w0 m (AskOffer dst session index)) + pay u (if is_ask (AskOffer dst session index) then k else 0)) n room in
@@ -317,9 +329,11 @@ module _ (T : Setup) (w0 : ℕ) (m : ℕ → Bool) (k : ℕ) (h : VpeRow → ℕ
       (λ p. offer-so n i u src w dst p t
       (at-most (weight t + bit (gives_where w0 m (Delegate src w dst))) (pay u 0) n
       (regroup (weight t) (bit (gives_where w0 m (Delegate src w dst))) (pay u 0) n room))))
-  call-so n i u before (Revoke src) t so room = let still = at-most (weight t) (bit (gives_where w0 m (Revoke src)) + pay u (if is_ask (Revoke src) then k else 0)) n
+  call-so n i u before (Revoke src) t so room = let still =
+      at-most (weight t) (bit (gives_where w0 m (Revoke src)) + pay u (if is_ask (Revoke src) then k else 0)) n
       room in held-so n (own t u src) _ t still (λ c. revoked-steady (Below n) (steady n) T i u c.key c.mark t (λ j. still))
-  call-so n i u before (Bind ep src) t so room = let still = at-most (weight t) (bit (gives_where w0 m (Bind ep src)) + pay u (if is_ask (Bind ep src) then k else 0)) n
+  call-so n i u before (Bind ep src) t so room = let still =
+      at-most (weight t) (bit (gives_where w0 m (Bind ep src)) + pay u (if is_ask (Bind ep src) then k else 0)) n
       room in unless-keeps (On n) (bind_tests t u src) _ _ (λ code. still) (held-so n (own t u src) _ t still (λ c. still))
   call-so n i u before (ReadCall ep off len) t so room = let still = at-most (weight t)
       (bit (gives_where w0 m (ReadCall ep off len)) + pay u (if is_ask (ReadCall ep off len) then k else 0)) n room in
@@ -441,7 +455,8 @@ module _ (T : Setup) (w0 : ℕ) (m : ℕ → Bool) (k : ℕ) (h : VpeRow → ℕ
             | inl same ↦ ap (λ w. slot (ask_taken v t) w sel) same
                 ∙ (ap (λ (r : VpeRow). get_or r.slots sel Free) (get_or-put_same no_vpe t.vpes v (record (row t v) { asks = drop 1 (row t v).asks }))
                 ∙ ap (λ w. slot t w sel) (sym same))
-            | inr other ↦ ap (λ (r : VpeRow). get_or r.slots sel Free) (get_or-put_other no_vpe t.vpes v u (record (row t v) { asks = drop 1 (row t v).asks }) other)
+            | inr other ↦ ap (λ (r : VpeRow). get_or r.slots sel Free)
+                (get_or-put_other no_vpe t.vpes v u (record (row t v) { asks = drop 1 (row t v).asks }) other)
           ]
 
   -- A parked call goes on.
@@ -484,7 +499,8 @@ module _ (T : Setup) (w0 : ℕ) (m : ℕ → Bool) (k : ℕ) (h : VpeRow → ℕ
       cond_both accepted _ _ (Below n)
       (λ _. cond_both (is_alive t key.vpe) _ _ (Below n) (λ _. installed-so n key (Some p.parent) p.sel p.object (pending_removed key t) at is)
       (λ _. quiet-so n (pending_removed key t) (owner_of T p.parent) (Orphan p.parent key) refl is))
-      (λ _. after (weight (with_slot key.vpe p.sel Free (pending_removed key t))) (weight (pending_removed key t)) n (freed-so (pending_removed key t) key.vpe p.sel)
+      (λ _. after (weight (with_slot key.vpe p.sel Free (pending_removed key t))) (weight (pending_removed key t)) n
+      (freed-so (pending_removed key t) key.vpe p.sel)
       is)
 
   awaited-so : (n : ℕ) (parent key : KeyName) (object : Object) (o : Option Parked) (t : Side) → Below n t → Below n (obtain_ready parent key object o t)

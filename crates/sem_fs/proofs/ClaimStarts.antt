@@ -1,5 +1,6 @@
 -- What is claimed of a client at the start: what all calls give to it, and what it has taken then.
-use Rattle.std.proofs.Common.{◌≡◌, ℕ, zero, suc, ◌+◌, ◌≤◌, Bool, List, [], ◌∷◌, filter, length, map, replicate, get_or, None, refl, sym, ap, ◌∙◌, subst, inl, inr, arith, eq-eqb}
+use Rattle.std.proofs.Common.{◌≡◌, ℕ, zero, suc, ◌+◌, ◌≤◌, Bool, List, [], ◌∷◌, filter, length, map, replicate, get_or, None, refl, sym, ap, ◌∙◌, subst, inl}
+use Rattle.std.proofs.Common.{inr, arith, eq-eqb}
 use Rattle.std.specs.Prelude.{◌==◌, if◌then◌else◌}
 use Rattle.std.specs.List.{Contains, range_with_len, sum_by}
 use Rattle.std.proofs.lemmas.Bool.{cases_eq, cond-true}
@@ -77,13 +78,15 @@ module _ (T : Setup) (w0 : ℕ) (m : ℕ → Bool) (k : ℕ) (h : VpeRow → ℕ
       rows = sum_to-more VPES (λ v. of_row T w0 m k h v (row (vpe_fresh d s) v)) (λ v. of_row T w0 m k h v (row s v)) d.vpe
           (length (filter (gives_where w0 m) (calls_of T d.vpe)))
           (λ v other. ap (of_row T w0 m k h v) (get_or-put_other no_vpe s.vpes d.vpe v new_vpe other))
-          (less (of_row T w0 m k h d.vpe (row (vpe_fresh d s) d.vpe)) (length (filter (gives_where w0 m) (calls_of T d.vpe))) (of_row T w0 m k h d.vpe (row s d.vpe))
+          (less (of_row T w0 m k h d.vpe (row (vpe_fresh d s) d.vpe)) (length (filter (gives_where w0 m) (calls_of T d.vpe)))
+          (of_row T w0 m k h d.vpe (row s d.vpe))
           (ap (of_row T w0 m k h d.vpe) at))
 
       mine : taken T w0 m k h (row (vpe_fresh d s) w0) ≤ taken T w0 m k h (row s w0) + (if d.vpe == w0 then h new_vpe else 0)
       mine = elim (cases_eq d.vpe w0) [
         | inl same ↦ fits (taken T w0 m k h (row (vpe_fresh d s) w0)) (h new_vpe) (taken T w0 m k h (row s w0)) (if d.vpe == w0 then h new_vpe else 0)
-            (ap (λ u. taken T w0 m k h (row (vpe_fresh d s) u)) (sym same) ∙ ap (taken T w0 m k h) at) (cond-true (d.vpe == w0) (h new_vpe) 0 (eq-eqb d.vpe w0 same))
+            (ap (λ u. taken T w0 m k h (row (vpe_fresh d s) u)) (sym same)
+            ∙ ap (taken T w0 m k h) at) (cond-true (d.vpe == w0) (h new_vpe) 0 (eq-eqb d.vpe w0 same))
         | inr other ↦ still (taken T w0 m k h (row (vpe_fresh d s) w0)) (taken T w0 m k h (row s w0)) (if d.vpe == w0 then h new_vpe else 0)
             (ap (taken T w0 m k h) (get_or-put_other no_vpe s.vpes d.vpe w0 new_vpe (λ same. other (sym same))))
       ]

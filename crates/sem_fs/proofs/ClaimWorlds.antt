@@ -1,5 +1,6 @@
 -- What is claimed of a client never grows: along every schedule of a file service.
-use Rattle.std.proofs.Common.{◌≡◌, ℕ, zero, suc, ◌+◌, ◌≤◌, ◌<◌, ◌++◌, Bool, true, List, [], ◌∷◌, drop, take, get_or, Option, Some, None, slice_get, refl, sym, ap, subst, arith}
+use Rattle.std.proofs.Common.{◌≡◌, ℕ, zero, suc, ◌+◌, ◌≤◌, ◌<◌, ◌++◌, Bool, true, List, [], ◌∷◌, drop, take, get_or, Option, Some, None, slice_get, refl, sym}
+use Rattle.std.proofs.Common.{ap, subst, arith}
 use Rattle.std.specs.List.{sum_by}
 use Rattle.std.specs.Option.{option_map, option_map_or}
 use Rattle.std.proofs.lemmas.List.Sums.{sum_by-cons, sum_by_push}
@@ -62,7 +63,8 @@ module _ (T : Setup) (w0 : ℕ) (m : ℕ → Bool) (k : ℕ) (h : VpeRow → ℕ
       (counted-so T w0 m k h C s v c (kernel-vpe T S.setup v (subst (λ n. n < T.kernels) (sym here) low)) alive there))
       (omega arith)
 
-  upcalled-less : (i : ℕ) (s : Side) (v : ℕ) (input : Option Message) → IsServedSide T s → IsSound T i s → weight (local_step T i s (Upcall v) input).side ≤ weight s
+  upcalled-less : (i : ℕ) (s : Side) (v : ℕ) (input : Option Message) → IsServedSide T s → IsSound T i s →
+      weight (local_step T i s (Upcall v) input).side ≤ weight s
   unfolding local_step
   upcalled-less i s v input served sound = upcall-so T w0 m k h C (weight s) i v s served sound (omega arith)
 
@@ -106,7 +108,8 @@ module _ (T : Setup) (w0 : ℕ) (m : ℕ → Bool) (k : ℕ) (h : VpeRow → ℕ
 
   -- Worlds.
   world-side : (W : World) (i : ℕ) (t : Side) → claimed (with_side i t W) + weight (side W i) ≡ claimed W + weight t
-  world-side W i t = sums (sum_by weight (put no_side W.sides i t)) (sum_by weight W.sides) (sum_by (λ ls. sum_by tolds ls) W.links) (weight (side W i)) (weight t)
+  world-side W i t = sums (sum_by weight (put no_side W.sides i t)) (sum_by weight W.sides) (sum_by (λ ls. sum_by tolds ls) W.links) (weight (side W i))
+      (weight t)
       (weigh-put weight no_side nothing W.sides i t)
     where
       sums : (a b c x y : ℕ) → a + x ≡ b + y → (a + c) + x ≡ (b + c) + y
@@ -116,7 +119,8 @@ module _ (T : Setup) (w0 : ℕ) (m : ℕ → Bool) (k : ℕ) (h : VpeRow → ℕ
   world-link W i j qs =
       let inner = weigh-put tolds [] refl (get_or W.links i []) j qs in
       let outer = weigh-put (λ ls. sum_by tolds ls) [] refl W.links i (put [] (get_or W.links i []) j qs) in
-      sums (sum_by weight W.sides) (sum_by (λ ls. sum_by tolds ls) (put [] W.links i (put [] (get_or W.links i []) j qs))) (sum_by (λ ls. sum_by tolds ls) W.links)
+      sums (sum_by weight W.sides) (sum_by (λ ls. sum_by tolds ls) (put [] W.links i (put [] (get_or W.links i []) j qs)))
+      (sum_by (λ ls. sum_by tolds ls) W.links)
       (sum_by tolds (put [] (get_or W.links i []) j qs)) (sum_by tolds (get_or W.links i [])) (tolds (link W i j)) (tolds qs) inner outer
     where
       sums : (a new old x y l q : ℕ) → x + l ≡ y + q → new + y ≡ old + x → (a + new) + l ≡ (a + old) + q
@@ -132,7 +136,8 @@ module _ (T : Setup) (w0 : ℕ) (m : ℕ → Bool) (k : ℕ) (h : VpeRow → ℕ
   in_inbox j None = refl
   in_inbox j (Some q) = refl
 
-  link-more : (V : World) (i j : ℕ) (o : Option Message) → claimed (option_map_or (λ q. with_link i j (link V i j ++ q ∷ []) V) o V) ≡ claimed V + of_option told o
+  link-more : (V : World) (i j : ℕ) (o : Option Message) → claimed (option_map_or (λ q. with_link i j (link V i j ++ q ∷ []) V) o V)
+      ≡ claimed V + of_option told o
   link-more V i j None = omega arith
   link-more V i j (Some q) = sums (claimed (with_link i j (link V i j ++ q ∷ []) V)) (claimed V) (tolds (link V i j)) (tolds (link V i j ++ q ∷ [])) (told q)
       (world-link V i j (link V i j ++ q ∷ [])) (sum_by_push told (link V i j) q)
@@ -149,7 +154,8 @@ module _ (T : Setup) (w0 : ℕ) (m : ℕ → Bool) (k : ℕ) (h : VpeRow → ℕ
       let t : Side = with_inbox (option_map (λ q. (j, q)) input) s in
       let V : World = with_side i t W in
       sums (claimed (with_link j i (drop 1 ms) V)) (claimed V) (claimed W) (weight s) (weight t) (tolds ms) (tolds (drop 1 ms)) (of_option told input)
-      (of_inbox T w0 m k h s.inbox) (of_inbox T w0 m k h (option_map (λ q. (j, q)) input)) (world-side W i t) (world-link V j i (drop 1 ms)) (weigh-drop told ms)
+      (of_inbox T w0 m k h s.inbox) (of_inbox T w0 m k h (option_map (λ q. (j, q)) input)) (world-side W i t) (world-link V j i (drop 1 ms))
+      (weigh-drop told ms)
       (inbox-of s (option_map (λ q. (j, q)) input)) (in_inbox j input)
     where
       sums : (f v w s' t' a b o was now : ℕ) → v + s' ≡ w + t' → f + a ≡ v + b → b + o ≡ a → t' + was ≡ s' + now → now ≡ o → f ≤ w
@@ -173,7 +179,8 @@ module _ (T : Setup) (w0 : ℕ) (m : ℕ → Bool) (k : ℕ) (h : VpeRow → ℕ
   unfolding after
   after-less S W served sound i (Calls v) enabled =
       let here = enabled-call T i (side W i) v (enabled-parts T W i (Calls v) enabled).0 in
-      local-less W i (local_step T i (side W i) (Calls v) None).side (called-less S i (side W i) v None (enabled-low T W (event i (Calls v)) enabled) here.0 here.1)
+      local-less W i (local_step T i (side W i) (Calls v) None).side
+      (called-less S i (side W i) v None (enabled-low T W (event i (Calls v)) enabled) here.0 here.1)
   after-less S W served sound i (Upcall v) enabled = local-less W i (local_step T i (side W i) (Upcall v) None).side
       (upcalled-less i (side W i) v None (served.sides i) (sound i (enabled-low T W (event i (Upcall v)) enabled)))
   after-less S W served sound i (Resume v) enabled = local-less W i (local_step T i (side W i) (Resume v) None).side
@@ -201,7 +208,8 @@ module _ (T : Setup) (w0 : ℕ) (m : ℕ → Bool) (k : ℕ) (h : VpeRow → ℕ
         where
           fits : (a b c : ℕ) → c ≡ a + b → a ≤ c
           fits a b c is = omega (arith, is)
-      within (s ∷ ss) (suc j) = fits (weight (get_or ss j no_side)) (weight s) (sum_by weight ss) (sum_by weight (s ∷ ss)) (within ss j) (sum_by-cons weight s ss)
+      within (s ∷ ss) (suc j) = fits (weight (get_or ss j no_side)) (weight s) (sum_by weight ss) (sum_by weight (s ∷ ss)) (within ss j)
+          (sum_by-cons weight s ss)
         where
           fits : (x a b c : ℕ) → x ≤ b → c ≡ a + b → x ≤ c
           fits x a b c less is = omega (arith, less, is)

@@ -1,5 +1,6 @@
 -- What is given finds room, and numbers are left, in every schedule of a file service that goes well.
-use Rattle.std.proofs.Common.{◌≡◌, ℕ, zero, suc, ◌+◌, ◌≤◌, ◌<◌, ◌++◌, Bool, true, false, List, [], ◌∷◌, drop, filter, length, replicate, get_or, Option, Some, None, slice_get, refl, sym, ap, ◌∙◌, subst, inl, inr, arith}
+use Rattle.std.proofs.Common.{◌≡◌, ℕ, zero, suc, ◌+◌, ◌≤◌, ◌<◌, ◌++◌, Bool, true, false, List, [], ◌∷◌, drop, filter, length, replicate, get_or, Option, Some}
+use Rattle.std.proofs.Common.{None, slice_get, refl, sym, ap, ◌∙◌, subst, inl, inr, arith}
 use Rattle.std.specs.Prelude.{◌==◌, if◌then◌else◌}
 use Rattle.std.specs.List.{Contains, sum_by}
 use Rattle.std.proofs.lemmas.Bool.{cases_eq}
@@ -35,7 +36,8 @@ use Rattle.sem_fs.proofs.ServedSteps.{ask-among}
 use Rattle.sem_fs.proofs.Claims.{IsClaim}
 use Rattle.sem_fs.proofs.ClaimWorlds.{claimed, after-less}
 use Rattle.sem_fs.proofs.ClaimStarts.{brings, start-claimed, sum-le-among}
-use Rattle.sem_fs.proofs.ClaimKinds.{used, at_room, room_used, rooms, room-left, numbers_used, numbers, number-left, number-asked, nothing_used, gifts, gift-told}
+use Rattle.sem_fs.proofs.ClaimKinds.{used, at_room, room_used, rooms, room-left, numbers_used, numbers, number-left, number-asked, nothing_used, gifts}
+use Rattle.sem_fs.proofs.ClaimKinds.{gift-told}
 
 drop-none : (cs : List Call) → drop 0 cs ≡ cs
 drop-none [] = refl
@@ -54,7 +56,8 @@ module _ (T : Setup) (S : IsService T) where
         → claimed T w0 m k h C (world_after T (J ++ e ∷ [])) ≤ n
     claim-next J e n runs' I is =
         let x = entered T J [] e runs' in
-        let less = after-less T w0 m k h C S (world_after T J) I.served (λ i low. (schedule-sound T S.setup J x.0).sides i low) e.event.kernel e.event.act x.1 in
+        let less = after-less T w0 m k h C S (world_after T J) I.served (λ i low. (schedule-sound T S.setup J x.0).sides i low) e.event.kernel e.event.act x.1
+        in
         subst (λ V. claimed T w0 m k h C V ≤ n) (sym (world-next T J e))
         (both (claimed T w0 m k h C (after T (world_after T J) e.event)) (claimed T w0 m k h C (world_after T J)) n less is)
       where
@@ -63,7 +66,8 @@ module _ (T : Setup) (S : IsService T) where
 
   -- what is claimed of clients is there
   pub record IsFit (J : List Entry) : Type 0 where
-    pub once : (w sel : ℕ) (far : GIVEN ≤ sel) → (w ≡ SERVER → ⊥) → claimed T w (at_room T w sel far) 0 (room_used T w sel far) (rooms T w sel far) (world_after T J) ≤
+    pub once : (w sel : ℕ) (far : GIVEN ≤ sel) → (w ≡ SERVER → ⊥) →
+        claimed T w (at_room T w sel far) 0 (room_used T w sel far) (rooms T w sel far) (world_after T J) ≤
         1
     pub few : (w : ℕ) → (w ≡ SERVER → ⊥) → claimed T w any 1 (numbers_used T w) (numbers T w) (world_after T J) ≤ NUMBERS
     pub none : claimed T SERVER any 0 (nothing_used T SERVER) (gifts T SERVER) (world_after T J) ≤ 0
@@ -117,7 +121,8 @@ module _ (T : Setup) (S : IsService T) where
     few = λ w client. both (claimed T w any 1 (numbers_used T w) (numbers T w) (start T)) (sum_by (brings T w any 1 (numbers_used T w) (numbers T w)) T.vpes)
         (numbers_wanted T w) NUMBERS (start-claimed T w any 1 (numbers_used T w) (numbers T w) (client-free w (numbers_used T w) client))
         (sum-le-among (brings T w any 1 (numbers_used T w) (numbers T w)) (draws T w) T.vpes
-        (λ d among. as-much (d.vpe == w) (gives T w any d) (numbers_used T w new_vpe) (length (filter is_ask (calls_of T w))) (new-used w))) (S.numbers w client);
+        (λ d among. as-much (d.vpe == w) (gives T w any d) (numbers_used T w new_vpe) (length (filter is_ask (calls_of T w))) (new-used w)))
+        (S.numbers w client);
     none =
         both (claimed T SERVER any 0 (nothing_used T SERVER) (gifts T SERVER) (start T))
         (sum_by (brings T SERVER any 0 (nothing_used T SERVER) (gifts T SERVER)) T.vpes) (times_given T SERVER any) 0

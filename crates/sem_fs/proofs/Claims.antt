@@ -1,5 +1,6 @@
 -- What calls will yet take of a client, what is under way to it, and what it has taken: together never more than at the start.
-use Rattle.std.proofs.Common.{◌≡◌, ℕ, zero, suc, ◌+◌, ◌≤◌, ◌<◌, ◌++◌, Bool, true, List, [], ◌∷◌, drop, filter, length, get_or, nat_lt, Option, Some, None, slice_get, refl, sym, ap, ◌∙◌, subst, inl, inr, arith, eq-eqb}
+use Rattle.std.proofs.Common.{◌≡◌, ℕ, zero, suc, ◌+◌, ◌≤◌, ◌<◌, ◌++◌, Bool, true, List, [], ◌∷◌, drop, filter, length, get_or, nat_lt, Option, Some, None}
+use Rattle.std.proofs.Common.{slice_get, refl, sym, ap, ◌∙◌, subst, inl, inr, arith, eq-eqb}
 use Rattle.std.specs.Prelude.{◌==◌, ◌&&◌, if◌then◌else◌}
 use Rattle.std.specs.List.{sum_by}
 use Rattle.std.proofs.lemmas.Bool.{cases_eq, cond_both, cond-true, cond-false, ne_eqb}
@@ -12,7 +13,8 @@ use Rattle.sem_key.proofs.Puts.{get_or-put_same, get_or-put_other}
 use Rattle.sem_msg.specs.declared.call.Call.{Call}
 use Rattle.sem_msg.specs.declared.limits.TheConstants.{ASKS}
 use Rattle.sem_msg.specs.declared.message.Message.{Message}
-use Rattle.sem_msg.specs.declared.message.Message.TheVariants.{ObtainReq, ObtainOk, ObtainNo, DelegateReq, DelegatePrepared, DelegateNo, Ack, Orphan, RevokeReq, RevokeDone, Unlink}
+use Rattle.sem_msg.specs.declared.message.Message.TheVariants.{ObtainReq, ObtainOk, ObtainNo, DelegateReq, DelegatePrepared, DelegateNo, Ack, Orphan, RevokeReq}
+use Rattle.sem_msg.specs.declared.message.Message.TheVariants.{RevokeDone, Unlink}
 use Rattle.sem_msg.specs.declared.state.Ask.{Ask}
 use Rattle.sem_msg.specs.declared.state.Ask.TheVariants.{Obtain as ObtainAsk, Delegate as DelegateAsk}
 use Rattle.sem_msg.specs.declared.state.Slot.{Slot}
@@ -119,7 +121,8 @@ module _ (T : Setup) (w0 : ℕ) (m : ℕ → Bool) (k : ℕ) (h : VpeRow → ℕ
       | inl same ↦
           let at : row (with t w r) v ≡ r = ap (λ u. get_or (put no_vpe t.vpes w r) u no_vpe) same ∙ get_or-put_same no_vpe t.vpes w r in
           let a : (row (with t w r) v).alive ≡ (row t v).alive = ap (λ (y : VpeRow). y.alive) at ∙ (alive ∙ ap (λ u. (row t u).alive) (sym same)) in
-          let c : (row (with t w r) v).next_call ≡ (row t v).next_call = ap (λ (y : VpeRow). y.next_call) at ∙ (calls ∙ ap (λ u. (row t u).next_call) (sym same)) in
+          let c : (row (with t w r) v).next_call ≡ (row t v).next_call = ap (λ (y : VpeRow). y.next_call) at
+          ∙ (calls ∙ ap (λ u. (row t u).next_call) (sym same)) in
           ap (λ b. remaining v b (row (with t w r) v).next_call) a ∙ ap (remaining v (row t v).alive) c
       | inr other ↦ ap (of_row v) (get_or-put_other no_vpe t.vpes w v r other)
     ])
@@ -128,7 +131,8 @@ module _ (T : Setup) (w0 : ℕ) (m : ℕ → Bool) (k : ℕ) (h : VpeRow → ℕ
     sum-here : (a a' b b' c x y : ℕ) → a ≡ a' → b + x ≤ b' + y → (a + (b + c)) + x ≤ (a' + (b' + c)) + y
     sum-here a a' b b' c x y same fewer = omega (arith, same, fewer)
 
-    row-here : (t : Side) (w : ℕ) (r : VpeRow) (x y : ℕ) → w ≡ w0 → r.alive ≡ (row t w).alive → r.next_call ≡ (row t w).next_call → taken r + x ≤ taken (row t w) + y
+    row-here : (t : Side) (w : ℕ) (r : VpeRow) (x y : ℕ) → w ≡ w0 → r.alive ≡ (row t w).alive → r.next_call ≡ (row t w).next_call →
+        taken r + x ≤ taken (row t w) + y
         → of_side (with t w r) + x ≤ of_side t + y
     row-here t w r x y same alive calls fewer =
         let at : row (with t w r) w0 ≡ r = ap (λ u. get_or (put no_vpe t.vpes w r) u no_vpe) (sym same) ∙ get_or-put_same no_vpe t.vpes w r in
@@ -137,7 +141,8 @@ module _ (T : Setup) (w0 : ℕ) (m : ℕ → Bool) (k : ℕ) (h : VpeRow → ℕ
         sum-here (of_rows (with t w r)) (of_rows t) (taken (row (with t w r) w0)) (taken (row t w0)) (sum_by of_messages t.outs + of_inbox t.inbox) x y
         (rows-same t w r alive calls) now
 
-    row-other : (t : Side) (w : ℕ) (r : VpeRow) → (w ≡ w0 → ⊥) → r.alive ≡ (row t w).alive → r.next_call ≡ (row t w).next_call → of_side (with t w r) ≡ of_side t
+    row-other : (t : Side) (w : ℕ) (r : VpeRow) → (w ≡ w0 → ⊥) → r.alive ≡ (row t w).alive → r.next_call ≡ (row t w).next_call →
+        of_side (with t w r) ≡ of_side t
     row-other t w r other alive calls =
         let now : taken (row (with t w r) w0) ≡ taken (row t w0) = ap taken (get_or-put_other no_vpe t.vpes w w0 r (λ same. other (sym same))) in
         ap (λ n. n + (taken (row (with t w r) w0) + (sum_by of_messages t.outs + of_inbox t.inbox))) (rows-same t w r alive calls)
@@ -163,11 +168,13 @@ module _ (T : Setup) (w0 : ℕ) (m : ℕ → Bool) (k : ℕ) (h : VpeRow → ℕ
         from a b c d one two three = omega (arith, one, two, three)
 
     pub drawn-le : (t : Side) (w : ℕ) → of_side (drawn w t) + (if w == w0 then 0 else 0) ≤ of_side t + (if w == w0 then k else 0)
-    drawn-le t w = row-le t w (record (row t w) { next_number = (row t w).next_number + 1 }) 0 k refl refl (λ here. let d = C.draws (row t w) in omega (arith, d))
+    drawn-le t w = row-le t w (record (row t w) { next_number = (row t w).next_number + 1 }) 0 k refl refl (λ here. let d = C.draws (row t w) in
+        omega (arith, d))
 
     pub slot-le : (t : Side) (w sel : ℕ) (x : Slot) → (w ≡ w0 → h (record (row t w) { slots = put Free (row t w).slots sel x }) ≤ h (row t w))
         → of_side (with_slot w sel x t) + (if w == w0 then 0 else 0) ≤ of_side t + (if w == w0 then 0 else 0)
-    slot-le t w sel x fewer = row-le t w (record (row t w) { slots = put Free (row t w).slots sel x }) 0 0 refl refl (λ here. let f = fewer here in omega (arith, f))
+    slot-le t w sel x fewer = row-le t w (record (row t w) { slots = put Free (row t w).slots sel x }) 0 0 refl refl (λ here. let f = fewer here in
+        omega (arith, f))
 
     -- something is given: a number is drawn and a selector taken
     pub takes-le : (t : Side) (w sel : ℕ) (x : Slot) → GIVEN ≤ sel → of_side (with_slot w sel x t) + (if w == w0 then k else 0) ≤ of_side t +
@@ -181,7 +188,8 @@ module _ (T : Setup) (w0 : ℕ) (m : ℕ → Bool) (k : ℕ) (h : VpeRow → ℕ
         row-le t w (record (row t w) { asks = as' }) 0 (of_ask a) refl refl (λ here.
         let same : h (record (row t w) { asks = as' }) ≡ h (row t w) = C.asks (row t w) as' in
         let more : sum_by of_ask as' ≤ sum_by of_ask (row t w).asks + of_ask a =
-        cond_both (nat_lt (length (row t w).asks) ASKS) ((row t w).asks ++ a ∷ []) (row t w).asks (λ xs. sum_by of_ask xs ≤ sum_by of_ask (row t w).asks + of_ask a)
+        cond_both (nat_lt (length (row t w).asks) ASKS) ((row t w).asks ++ a ∷ []) (row t w).asks
+        (λ xs. sum_by of_ask xs ≤ sum_by of_ask (row t w).asks + of_ask a)
         (λ _. let all = sum_by-append of_ask (row t w).asks (a ∷ []) in let one = sum_by-cons of_ask a [] in omega (arith, all, one)) (λ _. omega arith) in
         omega (arith, same, more))
 
@@ -205,7 +213,8 @@ module _ (T : Setup) (w0 : ℕ) (m : ℕ → Bool) (k : ℕ) (h : VpeRow → ℕ
         let outs = weigh-put of_messages [] refl t.outs j (outbox t j ++ q ∷ []) in
         let all = sum_by-append of_message (outbox t j) (q ∷ []) in
         let one = sum_by-cons of_message q [] in
-        last (of_rows t) (taken (row t w0)) (of_inbox t.inbox) (sum_by of_messages (put [] t.outs j (outbox t j ++ q ∷ []))) (sum_by of_messages t.outs) (of_message q)
+        last (of_rows t) (taken (row t w0)) (of_inbox t.inbox) (sum_by of_messages (put [] t.outs j (outbox t j ++ q ∷ []))) (sum_by of_messages t.outs)
+        (of_message q)
         (of_messages (outbox t j)) (of_messages (outbox t j ++ q ∷ [])) (sum_by of_message (q ∷ [])) outs all one
       where
         last : (a b c new old x y z u : ℕ) → new + y ≡ old + z → z ≡ y + u → u ≡ x + 0 → a + (b + (new + c)) ≡ (a + (b + (old + c))) + x

@@ -1,5 +1,6 @@
 -- The calls of a client, command by command.
-use Rattle.std.proofs.Common.{◌≡◌, ℕ, ◌+◌, ◌==◌, ◌<◌, ◌≤◌, true, false, List, [], ◌∷◌, ◌++◌, length, take, drop, get_or, Option, refl, sym, ap, ◌∙◌, subst, append_assoc, append-nil, eq-eqb, ne_eqb}
+use Rattle.std.proofs.Common.{◌≡◌, ℕ, ◌+◌, ◌==◌, ◌<◌, ◌≤◌, true, false, List, [], ◌∷◌, ◌++◌, length, take, drop, get_or, Option, refl, sym, ap, ◌∙◌, subst}
+use Rattle.std.proofs.Common.{append_assoc, append-nil, eq-eqb, ne_eqb}
 use Rattle.std.specs.Prelude.{if◌then◌else◌, unwrap_or}
 use Rattle.std.specs.List.{list_any}
 use Rattle.std.proofs.lemmas.Bool.{cond-true, cond-false}
@@ -58,7 +59,8 @@ pub handle-at : (F : Files) → AreFiles F → (i : ℕ) (d c : Command) → i <
 handle-at F AF i d c within here = plain-handle c.act (plain-at F AF i d c within here)
 
 -- what the handles tell is the file
-same-file : (before : List Command) (v : ℕ) (handles : List (Option ℕ)) (act : FileAct) → TellsHandles before v handles → handle_of act ≤ 15 → file_in handles act ≡ file_of before v act
+same-file : (before : List Command) (v : ℕ) (handles : List (Option ℕ)) (act : FileAct) → TellsHandles before v handles → handle_of act ≤ 15 →
+    file_in handles act ≡ file_of before v act
 same-file before v handles (OpenFile handle file) told low = refl
 same-file before v handles (Read handle off len) told low = ap (λ o. unwrap_or o 0) (told.1 handle low)
 same-file before v handles (Write handle off len) told low = ap (λ o. unwrap_or o 0) (told.1 handle low)

@@ -1,6 +1,7 @@
 -- What was granted to a call that asks is cut off by the revoke at its selector, if no call between the two asks there; and when the
 -- revoke has its reply, it is answered.
-use Rattle.std.proofs.Common.{◌≡◌, ◌⊎◌, ℕ, suc, ◌+◌, ◌<◌, ◌≤◌, ◌++◌, true, List, [], ◌∷◌, length, slice_get, Option, Some, None, append_assoc, eq-eqb, ◌-◌, refl, sym, ap, ◌∙◌, subst, inl, inr, arith}
+use Rattle.std.proofs.Common.{◌≡◌, ◌⊎◌, ℕ, suc, ◌+◌, ◌<◌, ◌≤◌, ◌++◌, true, List, [], ◌∷◌, length, slice_get, Option, Some, None, append_assoc, eq-eqb, ◌-◌}
+use Rattle.std.proofs.Common.{refl, sym, ap, ◌∙◌, subst, inl, inr, arith}
 use Rattle.std.specs.List.{Contains}
 use Rattle.std.specs.Option.{option_map_or}
 use Rattle.std.proofs.lemmas.Bool.{cases_lt}
@@ -10,7 +11,8 @@ use Rattle.sem_key.specs.declared.key.Kind.{Kind}
 use Rattle.sem_key.specs.KeyName.{KeyName}
 use Rattle.sem_key.proofs.Members.{Contains-head, Contains-tail}
 use Rattle.sem_msg.specs.declared.call.Call.{Call}
-use Rattle.sem_msg.specs.declared.call.Call.TheVariants.{Derive, Gate, Obtain, Delegate, OpenSession, AskOffer, Revoke, Bind, Read as ReadCall, Write as WriteCall, Send as SendCall, Credit, Exit, Clear}
+use Rattle.sem_msg.specs.declared.call.Call.TheVariants.{Derive, Gate, Obtain, Delegate, OpenSession, AskOffer, Revoke, Bind, Read as ReadCall}
+use Rattle.sem_msg.specs.declared.call.Call.TheVariants.{Write as WriteCall, Send as SendCall, Credit, Exit, Clear}
 use Rattle.sem_msg.specs.declared.entry.Entry.{Entry}
 use Rattle.sem_msg.specs.declared.setup.VpeDecl.{VpeDecl}
 use Rattle.sem_msg.specs.declared.state.Parked.{Parked}
@@ -100,7 +102,8 @@ pub record IsClosing (T : Setup) (v sel n r : ℕ) : Type 0 where
   pub ask_number : length first ≡ n
   pub revoke_number : n + (1 + length between) ≡ r
 
-module _ (T : Setup) (S : IsService T) (J : List Entry) (runs : IsSchedule T J) (v sel n r : ℕ) (C : IsClosing T v sel n r) (a : KeyName) (G : IsGrantedTo J v n a)
+module _ (T : Setup) (S : IsService T) (J : List Entry) (runs : IsSchedule T J) (v sel n r : ℕ) (C : IsClosing T v sel n r) (a : KeyName)
+    (G : IsGrantedTo J v n a)
     (told : r < reply_count J v) where
   rest : List Call
   rest = C.between ++ Revoke sel ∷ C.behind
@@ -138,7 +141,8 @@ module _ (T : Setup) (S : IsService T) (J : List Entry) (runs : IsSchedule T J) 
   d = calls-decl T v r (Revoke sel) at_revoke
 
   client : v ≡ SERVER → ⊥
-  client same = let no' : ◌≡◌ {A = Option Call} None (Some (Revoke sel)) = sym (ap (λ cs. slice_get cs r) (ap (calls_of T) same ∙ S.rests)) ∙ at_revoke in absurd cc
+  client same = let no' : ◌≡◌ {A = Option Call} None (Some (Revoke sel)) = sym (ap (λ cs. slice_get cs r) (ap (calls_of T) same ∙ S.rests)) ∙ at_revoke in
+      absurd cc
 
   -- A prefix of the schedule, and the entry behind it.
   module _ (b l : List Entry) (e : Entry) (parts : J ≡ b ++ e ∷ l) where
@@ -173,19 +177,22 @@ module _ (T : Setup) (S : IsService T) (J : List Entry) (runs : IsSchedule T J) 
 
   root-a : Contains (root_keys T) G.parent
   root-a = root-gave T S G.before G.entry (runs-e G.before G.later G.entry G.among) (going-b G.before G.later G.entry G.among).served
-      (pass-b G.before G.later G.entry G.among) (known-b G.before G.later G.entry G.among).asked (known-b G.before G.later G.entry G.among).asking G.parent a v G.grants
+      (pass-b G.before G.later G.entry G.among) (known-b G.before G.later G.entry G.among).asked (known-b G.before G.later G.entry G.among).asking G.parent a v
+      G.grants
       G.consents d.0 d.1 client C.ask n sel last-b at_ask C.asks
 
   now-a : (m : ℕ) × (a.vpe ≡ v) × IsDrawnBy T (G.before ++ G.entry ∷ []) v a.number m × ((row (home T (world_after T G.before) v) v).next_call ≡ m + 1)
   now-a = granted-now T S G.before G.entry (runs-e G.before G.later G.entry G.among) (going-b G.before G.later G.entry G.among).served
-      (pass-b G.before G.later G.entry G.among) (known-b G.before G.later G.entry G.among).asked (known-b G.before G.later G.entry G.among).asking G.parent a v G.grants
+      (pass-b G.before G.later G.entry G.among) (known-b G.before G.later G.entry G.among).asked (known-b G.before G.later G.entry G.among).asking G.parent a v
+      G.grants
       G.consents d.0 d.1 client root-a
 
   drawn-a : IsDrawnBy T J v a.number n
   drawn-a =
       subst (λ K. IsDrawnBy T K v a.number n) (whole-j G.before G.later G.entry G.among)
       (drawn-later T v a.number n (G.before ++ G.entry ∷ []) G.later
-      (subst (IsDrawnBy T (G.before ++ G.entry ∷ []) v a.number) (one-less now-a.0 n (row (home T (world_after T G.before) v) v).next_call now-a.3 last-b) now-a.2))
+      (subst (IsDrawnBy T (G.before ++ G.entry ∷ []) v a.number) (one-less now-a.0 n (row (home T (world_after T G.before) v) v).next_call now-a.3 last-b)
+      now-a.2))
     where
       one-less : (x y k : ℕ) → k ≡ x + 1 → k ≡ y + 1 → x ≡ y
       one-less x y k one two = omega (arith, one, two)
@@ -258,7 +265,8 @@ module _ (T : Setup) (S : IsService T) (J : List Entry) (runs : IsSchedule T J) 
   k2 = holds2.key
 
   asked2 : (x : IsAsked T made.before v holds2.key.number sel)
-      × ((m : ℕ) (c : Call) → x.index < m → m < (row (home T (world_after T made.before) v) v).next_call → slice_get (calls_of T v) m ≡ Some c → AsksAt c sel → ⊥)
+      × ((m : ℕ) (c : Call) → x.index < m → m < (row (home T (world_after T made.before) v) v).next_call → slice_get (calls_of T v) m ≡ Some c → AsksAt c sel →
+      ⊥)
   asked2 = ((known-b made.before made.later made.entry made.among).asking v d.0 d.1 client).slots sel holds2.key near2 holds2.at
 
   r-is : (row (home T (world_after T made.before) v) v).next_call ≡ r
@@ -268,7 +276,8 @@ module _ (T : Setup) (S : IsService T) (J : List Entry) (runs : IsSchedule T J) 
   index-is : asked2.0.index ≡ n
   index-is = elim (cases_lt asked2.0.index n) [
     | inl before ↦ absurd
-        (asked2.1 n C.ask before (ask-before n r (length C.between) (row (home T (world_after T made.before) v) v).next_call C.revoke_number r-is) at_ask C.asks)
+        (asked2.1 n C.ask before (ask-before n r (length C.between) (row (home T (world_after T made.before) v) v).next_call C.revoke_number r-is) at_ask
+        C.asks)
     | inr above ↦ elim (cases_lt n asked2.0.index) [
       | inr below ↦ both asked2.0.index n above below
       | inl later ↦
@@ -278,7 +287,11 @@ module _ (T : Setup) (S : IsService T) (J : List Entry) (runs : IsSchedule T J) 
           let inside : m < length C.between = within asked2.0.index n r (length C.between) later less C.revoke_number in
           let there : slice_get C.between m ≡ Some asked2.0.call = sym (get-within C.between (Revoke sel ∷ C.behind) m inside)
           ∙ (sym (at_rest m) ∙ (ap (slice_get (calls_of T v)) (sym place) ∙ asked2.0.at_index)) in
-          absurd (C.silent asked2.0.call (m, slice_get_within C.between m asked2.0.call there, get_or_from_slice_get C.between m asked2.0.call asked2.0.call there)
+          absurd (C.silent asked2.0.call (
+            m,
+            slice_get_within C.between m asked2.0.call there,
+            get_or_from_slice_get C.between m asked2.0.call asked2.0.call there,
+          )
           asked2.0.asks)
     ]
   ]
@@ -301,7 +314,8 @@ module _ (T : Setup) (S : IsService T) (J : List Entry) (runs : IsSchedule T J) 
           let more = later-calls T v (x.before ++ x.entry ∷ []) x.later in
           let same = ap (λ K. (row (home T (world_after T K) v) v).next_call) (sym (x.among ∙ sym (append_assoc x.before (x.entry ∷ []) x.later))) in
           sums asked2.0.index (row (home T (world_after T (x.before ++ x.entry ∷ [])) v) v).next_call
-          (row (home T (world_after T ((x.before ++ x.entry ∷ []) ++ x.later)) v) v).next_call (row (home T (world_after T made.before) v) v).next_call r x.called
+          (row (home T (world_after T ((x.before ++ x.entry ∷ []) ++ x.later)) v) v).next_call (row (home T (world_after T made.before) v) v).next_call r
+          x.called
           more same r-is
         where
           sums : (i a b c r : ℕ) → a ≡ i + 1 → a ≤ b → b ≡ c → c ≡ r → i < r
@@ -336,13 +350,15 @@ module _ (T : Setup) (S : IsService T) (J : List Entry) (runs : IsSchedule T J) 
   cut-2 =
       subst (Contains (cut_by made.before made.entry)) same-2
       (subst (λ gs. Contains (option_map_or (cut_off gs made.entry.detail) made.entry.cut []) holds2.key) (history-grants made.before)
-      (revoked-key T S made.before made.entry runs2 served2.served pass2 v d.0 d.1 local2.0 client (served2.holding v d.0 d.1 client) made.act sel next2 holds2.key
+      (revoked-key T S made.before made.entry runs2 served2.served pass2 v d.0 d.1 local2.0 client (served2.holding v d.0 d.1 client) made.act sel next2
+      holds2.key
       holds2.at))
 
   -- The reply came later.
   later-told : 1 ≤ reply_count made.later v
   later-told =
-      let all = ap (λ K. reply_count K v) (sym (whole-j made.before made.later made.entry made.among)) ∙ replies-append (made.before ++ made.entry ∷ []) made.later v in
+      let all = ap (λ K. reply_count K v) (sym (whole-j made.before made.later made.entry made.among))
+      ∙ replies-append (made.before ++ made.entry ∷ []) made.later v in
       let few = told-few in
       sums (reply_count J v) (reply_count (made.before ++ made.entry ∷ []) v) (reply_count made.later v) r all few told
     where
@@ -357,7 +373,8 @@ module _ (T : Setup) (S : IsService T) (J : List Entry) (runs : IsSchedule T J) 
 
       parks : (kept (parked (home T (world_after T (made.before ++ made.entry ∷ [])) v) v) ≡ None)
           × (parked (home T (world_after T (made.before ++ made.entry ∷ [])) v) v ≡ None → ⊥)
-      parks = waiting (goes T S made.before made.entry runs2 served2.served pass2 v d.0 d.1 local2.0 client (served2.holding v d.0 d.1 client) made.act (Revoke sel)
+      parks = waiting (goes T S made.before made.entry runs2 served2.served pass2 v d.0 d.1 local2.0 client (served2.holding v d.0 d.1 client) made.act
+          (Revoke sel)
           next2).1
         where
           waiting : ((j : ℕ) × (parked (home T (world_after T (made.before ++ made.entry ∷ [])) v) v ≡ Some (RevokeWait j)))
@@ -370,9 +387,11 @@ module _ (T : Setup) (S : IsService T) (J : List Entry) (runs : IsSchedule T J) 
       told-few : reply_count (made.before ++ made.entry ∷ []) v ≤ r
       told-few = from (parked (home T (world_after T (made.before ++ made.entry ∷ [])) v) v) refl
         where
-          from : (o : Option Parked) → parked (home T (world_after T (made.before ++ made.entry ∷ [])) v) v ≡ o → reply_count (made.before ++ made.entry ∷ []) v ≤ r
+          from : (o : Option Parked) → parked (home T (world_after T (made.before ++ made.entry ∷ [])) v) v ≡ o →
+              reply_count (made.before ++ made.entry ∷ []) v ≤ r
           from None none = absurd (parks.1 none)
-          from (Some p) some = let waits = told-parked T S.setup (made.before ++ made.entry ∷ []) runs2 v p (lives T S (made.before ++ made.entry ∷ []) runs2 v d.0 d.1)
+          from (Some p) some = let waits =
+              told-parked T S.setup (made.before ++ made.entry ∷ []) runs2 v p (lives T S (made.before ++ made.entry ∷ []) runs2 v d.0 d.1)
               some in omega (arith, waits, counts, called-once)
 
   pub closed-answered : Contains (answered J) a
@@ -381,6 +400,7 @@ module _ (T : Setup) (S : IsService T) (J : List Entry) (runs : IsSchedule T J) 
       (answered-at [] made.before made.entry made.later a
       (ap (λ x. succeeds x made.later) made.act ∙ later-succeeds v made.later
       (λ x q among is. all-succeed T S J runs x q
-      (subst (λ K. Contains K x) (sym made.among) (Contains-append_right made.before (made.entry ∷ made.later) x (Contains-tail made.entry made.later x among))) is)
+      (subst (λ K. Contains K x) (sym made.among) (Contains-append_right made.before (made.entry ∷ made.later) x (Contains-tail made.entry made.later x among)))
+      is)
       later-told)
       cut-2)

@@ -1,5 +1,6 @@
 -- The calls that commands are compiled to are in order.
-use Rattle.std.proofs.Common.{◌≡◌, ◌≢◌, ℕ, zero, suc, ◌+◌, ◌-◌, ◌*◌, ◌<◌, ◌≤◌, ◌++◌, Bool, true, false, List, [], ◌∷◌, map, take, slice_get, find, nat_lt, Some, refl, sym, ap, ◌∙◌, subst, inl, inr, arith, append_assoc, append-nil, eq-eqb}
+use Rattle.std.proofs.Common.{◌≡◌, ◌≢◌, ℕ, zero, suc, ◌+◌, ◌-◌, ◌*◌, ◌<◌, ◌≤◌, ◌++◌, Bool, true, false, List, [], ◌∷◌, map, take, slice_get, find, nat_lt, Some}
+use Rattle.std.proofs.Common.{refl, sym, ap, ◌∙◌, subst, inl, inr, arith, append_assoc, append-nil, eq-eqb}
 use Rattle.std.specs.Prelude.{◌==◌, ◌&&◌, if◌then◌else◌, fold}
 use Rattle.std.specs.List.{All, AllPairs, Contains, flat_map}
 use Rattle.std.specs.Option.{option_map}
@@ -15,7 +16,8 @@ use Rattle.sem_msg.specs.Calls.{IsValidCall}
 use Rattle.sem_msg.specs.Setup.{Setup}
 use Rattle.sem_msg.specs.Lookups.{is_declared, offered}
 use Rattle.sem_files.specs.Files.{Files, EXTENT, is_file, is_client, extents_of}
-use Rattle.sem_files.specs.Compiled.{SERVER, SESSION, ACCESS, extent_number, extent_root, opened_at, given_at, part_begin, part_end, part_accessed, greater, less, rising_clients, extents, root_of_extent, offer_of_extent, service_key, server, client, compiled, AreFiles}
+use Rattle.sem_files.specs.Compiled.{SERVER, SESSION, ACCESS, extent_number, extent_root, opened_at, given_at, part_begin, part_end, part_accessed, greater}
+use Rattle.sem_files.specs.Compiled.{less, rising_clients, extents, root_of_extent, offer_of_extent, service_key, server, client, compiled, AreFiles}
 use Rattle.sem_fs.specs.Service.{GIVEN, holds, holds_after, IsExtent, IsInOrder}
 use Rattle.sem_fs.proofs.Rising.{Less, pairs-head, pairs-tail, declared-client, extent-in, extent-near}
 use Rattle.sem_fs.proofs.CompiledSetups.{vpes-are, server-declared}
@@ -48,7 +50,8 @@ module _ (T : Setup) (v : ℕ) where
   unfolding AllGo
   each-goes made [] all n c none = absurd cc
   each-goes made (x ∷ cs) all zero c some = subst (λ zs. IsInOrder T v zs c) (sym (append-nil made)) (subst (IsInOrder T v made) (cc some) all.0.0)
-  each-goes made (x ∷ cs) all (suc n) c some = subst (λ zs. IsInOrder T v zs c) (append_assoc made (x ∷ []) (take n cs)) (each-goes (made ++ x ∷ []) cs all.1 n c some)
+  each-goes made (x ∷ cs) all (suc n) c some = subst (λ zs. IsInOrder T v zs c) (append_assoc made (x ∷ []) (take n cs))
+      (each-goes (made ++ x ∷ []) cs all.1 n c some)
 
   pub all-valid : (made cs : List Call) → AllGo T v made cs → All (IsValidCall 64) cs
   unfolding AllGo
@@ -72,7 +75,8 @@ holds-quiet cs made quiet sel = holds-append made cs sel ∙ along cs quiet (hol
   where
     along : (cs : List Call) → All IsQuiet cs → (b : Bool) → fold (holds_after sel) b cs ≡ b
     along [] quiet b = refl
-    along (c ∷ cs) quiet b = ap (λ x. fold (holds_after sel) x cs) (quiet 0 c (omega arith) sel b) ∙ along cs (λ i d within. quiet (suc i) d (omega (arith, within))) b
+    along (c ∷ cs) quiet b = ap (λ x. fold (holds_after sel) x cs) (quiet 0 c (omega arith) sel b)
+        ∙ along cs (λ i d within. quiet (suc i) d (omega (arith, within))) b
 
 -- Asks and revokes for some numbers of a handle.
 module _ (h : ℕ) where
@@ -88,7 +92,8 @@ module _ (h : ℕ) where
   pub asks-apart : (f : ℕ) (xs : List ℕ) (sel : ℕ) (b : Bool) → ((i : ℕ) → Contains xs i → opened_at h i ≡ sel → ⊥) → fold (holds_after sel) b (asks f xs) ≡ b
   asks-apart f [] sel b apart = refl
   asks-apart f (x ∷ xs) sel b apart =
-      ap (λ y. fold (holds_after sel) y (asks f xs)) (cond-false (opened_at h x == sel) true b (ne_eqb (opened_at h x) sel (λ same. apart x (Contains-head x xs) same)))
+      ap (λ y. fold (holds_after sel) y (asks f xs))
+      (cond-false (opened_at h x == sel) true b (ne_eqb (opened_at h x) sel (λ same. apart x (Contains-head x xs) same)))
       ∙ asks-apart f xs sel b (λ i among. apart i (Contains-tail x xs i among))
 
   asks-keep : (f : ℕ) (xs : List ℕ) (sel : ℕ) → fold (holds_after sel) true (asks f xs) ≡ true
@@ -182,7 +187,18 @@ module _ (F : Files) (AF : AreFiles F) where
         let among = extent-in F AF f x is here.1 in
         let place = near-place x here.0 in
         go-cons T v made c (asks h f xs) (
-          (refl, session, place.0, place.1, here.2, (extent_root (extent_number f x), offers-extent (extent_number f x) among, is-extent (extent_number f x) among)),
+          (
+            refl,
+            session,
+            place.0,
+            place.1,
+            here.2,
+            (
+              extent_root (extent_number f x),
+              offers-extent (extent_number f x) among,
+              is-extent (extent_number f x) among,
+            ),
+          ),
           (place.2, omega arith, index-so f x near here.0),
         )
         (asks-go f is near xs (pairs-tail Less x xs rise) (made ++ c ∷ [])
@@ -257,7 +273,8 @@ module _ (F : Files) (AF : AreFiles F) where
 
     -- a range is read or written
     module _ (access : ℕ → ℕ → Call) (quiet : (off len : ℕ) → IsQuiet (access off len))
-        (go : (made : List Call) (sel off len : ℕ) → off + len ≤ EXTENT → Goes (compiled F) v (made ++ Bind ACCESS sel ∷ []) (access off len)) (off len : ℕ) where
+        (go : (made : List Call) (sel off len : ℕ) → off + len ≤ EXTENT →
+        Goes (compiled F) v (made ++ Bind ACCESS sel ∷ []) (access off len)) (off len : ℕ) where
       pub accesses-go : (xs : List ℕ) (made : List Call) → ((i : ℕ) → Contains xs i → (i < 4) × (holds made (opened_at h i) ≡ true))
           → AllGo (compiled F) v made (flat_map (part_accessed access h off len) xs)
       accesses-go [] made there = go-nil T v made
@@ -320,6 +337,7 @@ module _ (F : Files) (AF : AreFiles F) where
               let reads : Call = access (begins - EXTENT * y) (ends - begins) in
               All-append IsQuiet (part_accessed access h off len y) (flat_map (part_accessed access h off len) ys)
               (cond_both (nat_lt begins ends) (bind ∷ reads ∷ []) [] (All IsQuiet)
-              (λ _. All-cons IsQuiet bind (reads ∷ []) (λ sel b. refl) (All-cons IsQuiet reads [] (quiet (begins - EXTENT * y) (ends - begins)) (All-nil IsQuiet)))
+              (λ _. All-cons IsQuiet bind (reads ∷ []) (λ sel b. refl) (All-cons IsQuiet reads [] (quiet (begins - EXTENT * y) (ends - begins))
+              (All-nil IsQuiet)))
               (λ _. All-nil IsQuiet))
               (all ys)

@@ -1,5 +1,6 @@
 -- The parts of what file commands are compiled to, number by number.
-use Rattle.std.proofs.Common.{◌≡◌, ℕ, ◌+◌, Bool, true, false, cond, List, [], ◌∷◌, ◌++◌, map, replicate, length, get_or, Option, None, refl, sym, ap, ◌∙◌, subst, inl, inr, arith}
+use Rattle.std.proofs.Common.{◌≡◌, ℕ, ◌+◌, Bool, true, false, cond, List, [], ◌∷◌, ◌++◌, map, replicate, length, get_or, Option, None, refl, sym, ap, ◌∙◌}
+use Rattle.std.proofs.Common.{subst, inl, inr, arith}
 use Rattle.std.specs.Prelude.{if◌then◌else◌}
 use Rattle.std.specs.List.{All, filter, range_with_len}
 use Rattle.std.proofs.lemmas.Bool.{cases_lt}
@@ -83,7 +84,17 @@ module _ (F : Files) where
       (denies : List (ℕ × ℕ)) (kills : List (ℕ × ℕ)) → kernels ≡ F.kernels → OwnsBelow F PES owners → numbers ≡ extents F
       → vpes ≡ server_with numbers ∷ clients_below F 63 → services ≡ record { name = 0; key = service_key } ∷ []
       → offers ≡ map offer_of_extent numbers → denies ≡ [] → kills ≡ []
-      → record { version = 1; window = 4; kernels = kernels; owners = owners; vpes = vpes; services = services; offers = offers; denies = denies; kills = kills }
+      → record {
+        version = 1;
+        window = 4;
+        kernels = kernels;
+        owners = owners;
+        vpes = vpes;
+        services = services;
+        offers = offers;
+        denies = denies;
+        kills = kills;
+      }
       ≡ compiled F
   unfolding compiled clients_below
   same-compiled kernels owners numbers vpes services offers denies kills is_kernels owns is_numbers is_vpes is_services is_offers is_denies is_kills =

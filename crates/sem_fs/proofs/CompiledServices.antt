@@ -1,5 +1,6 @@
 -- What file commands are compiled to is a file service.
-use Rattle.std.proofs.Common.{◌≡◌, ◌≢◌, ℕ, ◌+◌, ◌*◌, ◌≤◌, Bool, List, [], ◌∷◌, map, take, filter, length, slice_get, Some, refl, sym, ap, ◌∙◌, subst, inl, inr, arith}
+use Rattle.std.proofs.Common.{◌≡◌, ◌≢◌, ℕ, ◌+◌, ◌*◌, ◌≤◌, Bool, List, [], ◌∷◌, map, take, filter, length, slice_get, Some, refl, sym, ap, ◌∙◌, subst, inl, inr}
+use Rattle.std.proofs.Common.{arith}
 use Rattle.std.specs.Prelude.{◌==◌, if◌then◌else◌}
 use Rattle.std.specs.List.{Contains, list_any, sum_by}
 use Rattle.std.specs.Option.{option_map_or}
@@ -18,7 +19,8 @@ use Rattle.sem_files.specs.Compiled.{SERVER, SESSION, rising_clients, server, cl
 use Rattle.sem_fs.specs.Service.{GIVEN, IsInOrder, gives_where, gives, is_ask, any, numbers_wanted, times_given, IsService}
 use Rattle.sem_fs.proofs.ClaimStarts.{sum-le-among}
 use Rattle.sem_fs.proofs.Rising.{clients-rise}
-use Rattle.sem_fs.proofs.CompiledSetups.{vpes-are, server-declared, server-rests-so, service-served, nothing-denied, nobody-killed, calls-cases, roots-of-server, service-root, roots-whole, client-declared, setup-is}
+use Rattle.sem_fs.proofs.CompiledSetups.{vpes-are, server-declared, server-rests-so, service-served, nothing-denied, nobody-killed, calls-cases}
+use Rattle.sem_fs.proofs.CompiledSetups.{roots-of-server, service-root, roots-whole, client-declared, setup-is}
 use Rattle.sem_fs.proofs.Ordered.{client-valid, client-ordered}
 use Rattle.sem_fs.proofs.Tallies.{tally, tally-cons, sum-plus, sum-once, total, all-tally, total-most, client-most}
 use Rattle.sem_fs.proofs.Measures.{opened-is, none-given, once, once-most, once-given, given, given-most, given-grows, opened, opened-grows, opened-most}
@@ -48,13 +50,15 @@ module _ (F : Files) (AF : AreFiles F) where
         let parts = sum_by-cons (gives (compiled F) w such) (server F) (map (client F) (rising_clients F)) in
         let none = ap (tally (gives_where w such)) (server-rests-so F) in
         let mapped = sum-of_map (gives (compiled F) w such) (client F) (rising_clients F) in
-        let each = sum-le-among (λ v. gives (compiled F) w such (client F v)) (λ v. tally (gives_where w such) (calls_from F v [] F.commands)) (rising_clients F)
+        let each = sum-le-among (λ v. gives (compiled F) w such (client F v)) (λ v. tally (gives_where w such) (calls_from F v [] F.commands))
+        (rising_clients F)
         each-gives in
         let all = all-tally F AF (gives_where w such) (rising_clients F) (clients-rise F AF) [] F.commands in
         sums (times_given (compiled F) w such) (sum_by (gives (compiled F) w such) (server F ∷ map (client F) (rising_clients F)))
         (gives (compiled F) w such (server F)) (sum_by (gives (compiled F) w such) (map (client F) (rising_clients F)))
         (sum_by (λ v. gives (compiled F) w such (client F v)) (rising_clients F))
-        (sum_by (λ v. tally (gives_where w such) (calls_from F v [] F.commands)) (rising_clients F)) (total F AF (gives_where w such) [] F.commands) vpes parts none
+        (sum_by (λ v. tally (gives_where w such) (calls_from F v [] F.commands)) (rising_clients F)) (total F AF (gives_where w such) [] F.commands) vpes parts
+        none
         mapped each all
       where
         sums : (a b c d e f g : ℕ) → a ≡ b → b ≡ c + d → c ≡ 0 → d ≡ e → e ≤ f → f ≤ g → a ≤ g

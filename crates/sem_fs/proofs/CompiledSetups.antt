@@ -1,5 +1,6 @@
 -- What file commands are compiled to is a setup, with a server that has all roots and makes no call.
-use Rattle.std.proofs.Common.{◌≡◌, ◌≢◌, ◌⊎◌, ℕ, ◌+◌, ◌%◌, ◌<◌, ◌≤◌, ◌++◌, Bool, true, false, List, [], ◌∷◌, map, length, get_or, find, Option, Some, None, refl, sym, ap, ◌∙◌, subst, inl, inr, arith, zero-add, eq-eqb}
+use Rattle.std.proofs.Common.{◌≡◌, ◌≢◌, ◌⊎◌, ℕ, ◌+◌, ◌%◌, ◌<◌, ◌≤◌, ◌++◌, Bool, true, false, List, [], ◌∷◌, map, length, get_or, find, Option, Some, None, refl}
+use Rattle.std.proofs.Common.{sym, ap, ◌∙◌, subst, inl, inr, arith, zero-add, eq-eqb}
 use Rattle.std.specs.Prelude.{◌==◌, ◌||◌}
 use Rattle.std.specs.List.{All, AllPairs, Contains, flat_map, sum_by}
 use Rattle.std.specs.Option.{IsSome, is_some, option_map_or}
@@ -14,7 +15,8 @@ use Rattle.std.proofs.lemmas.List.Sums.{sum_by-cons}
 use Rattle.sem_key.specs.declared.limits.TheConstants.{PES}
 use Rattle.sem_key.specs.KeyName.{KeyName}
 use Rattle.sem_key.specs.MembershipTable.{MembershipTable, IsMembership, owner_at}
-use Rattle.sem_key.proofs.Members.{Contains-nil, Contains-head, Contains-cons_cases, Contains-from_map, Contains-flat_map, Contains-from_flat_map, found, AllPairs-map}
+use Rattle.sem_key.proofs.Members.{Contains-nil, Contains-head, Contains-cons_cases, Contains-from_map, Contains-flat_map, Contains-from_flat_map, found}
+use Rattle.sem_key.proofs.Members.{AllPairs-map}
 use Rattle.sem_msg.specs.declared.setup.Offer.{Offer}
 use Rattle.sem_msg.specs.declared.setup.Root.{Root}
 use Rattle.sem_msg.specs.declared.setup.VpeDecl.{VpeDecl}
@@ -25,7 +27,8 @@ use Rattle.sem_msg.specs.Lookups.{decl, calls_of, service_named}
 use Rattle.sem_machine.specs.Journals.{root_keys, root_keys_from}
 use Rattle.sem_safety.proofs.LiveWorlds.{sum-of_map}
 use Rattle.sem_files.specs.Files.{Files, is_client}
-use Rattle.sem_files.specs.Compiled.{SERVER, below, rising_clients, extents, service_root, root_of_extent, offer_of_extent, service_key, server, client, client_calls, owner_of_pe, compiled, AreFiles}
+use Rattle.sem_files.specs.Compiled.{SERVER, below, rising_clients, extents, service_root, root_of_extent, offer_of_extent, service_key, server, client}
+use Rattle.sem_files.specs.Compiled.{client_calls, owner_of_pe, compiled, AreFiles}
 use Rattle.sem_fs.specs.Service.{IsWhole}
 use Rattle.sem_fs.proofs.Rising.{all-of, clients-rise, client-near, declared-client, extents-rise, extent-near}
 
@@ -70,7 +73,8 @@ module _ (F : Files) where
   pub find-client : (vs : List ℕ) (v : ℕ) → Contains vs v → find (λ (d : VpeDecl). d.vpe == v) (map (client F) vs) ≡ Some (client F v)
   find-client [] v among = absurd (Contains-nil v among)
   find-client (u ∷ vs) v among = elim (cases_Bool (u == v)) [
-    | inl same ↦ cond-true (u == v) (Some (client F u)) (find (λ (d : VpeDecl). d.vpe == v) (map (client F) vs)) same ∙ ap (λ w. Some (client F w)) (eqb-true u v same)
+    | inl same ↦ cond-true (u == v) (Some (client F u)) (find (λ (d : VpeDecl). d.vpe == v) (map (client F) vs)) same
+        ∙ ap (λ w. Some (client F w)) (eqb-true u v same)
     | inr other ↦ elim (Contains-cons_cases u vs v among) [
       | inl same ↦ absurd (true≢false (sym (eq-eqb u v same) ∙ other))
       | inr rest ↦ cond-false (u == v) (Some (client F u)) (find (λ (d : VpeDecl). d.vpe == v) (map (client F) vs)) other ∙ find-client vs v rest
@@ -242,7 +246,8 @@ module _ (F : Files) where
         ∙ (ap (λ ss. ss ++ flat_map (λ (d : VpeDecl). services_from d 0 d.roots) (map (client F) (rising_clients F))) server-services
         ∙ ap (λ ss. (record { name = 0; key = service_key } ∷ []) ++ ss) (client-services (rising_clients F)))
 
-    total-calls : sum_by (λ (d : VpeDecl). length d.calls) (server F ∷ map (client F) (rising_clients F)) ≡ sum_by (λ v. length (client_calls F v)) (rising_clients F)
+    total-calls : sum_by (λ (d : VpeDecl). length d.calls) (server F ∷ map (client F) (rising_clients F))
+        ≡ sum_by (λ v. length (client_calls F v)) (rising_clients F)
     total-calls =
         let cons' = sum_by-cons (λ (d : VpeDecl). length d.calls) (server F) (map (client F) (rising_clients F)) in
         let rest = sum-of_map (λ (d : VpeDecl). length d.calls) (client F) (rising_clients F) in

@@ -1,5 +1,6 @@
 -- What a step does to the parked call of a VPE that does not call in it.
-use Rattle.std.proofs.Common.{◌≡◌, ◌⊎◌, ℕ, ◌+◌, Bool, true, false, not, List, ◌++◌, get_or, Option, Some, None, slice_get, refl, sym, ap, ◌∙◌, subst, inl, inr, eq-eqb}
+use Rattle.std.proofs.Common.{◌≡◌, ◌⊎◌, ℕ, ◌+◌, Bool, true, false, not, List, ◌++◌, get_or, Option, Some, None, slice_get, refl, sym, ap, ◌∙◌, subst, inl, inr}
+use Rattle.std.proofs.Common.{eq-eqb}
 use Rattle.std.specs.Prelude.{◌==◌, ◌&&◌, ◌||◌}
 use Rattle.std.specs.List.{Contains}
 use Rattle.std.specs.Option.{option_map_or}
@@ -13,12 +14,14 @@ use Rattle.sem_key.specs.CapList.{fresh}
 use Rattle.sem_key.proofs.KeyTests.{key_eq-true, key_eq-same}
 use Rattle.sem_key.proofs.Puts.{get_or-put_same, get_or-put_other}
 use Rattle.sem_msg.specs.declared.call.Call.{Call}
-use Rattle.sem_msg.specs.declared.call.Call.TheVariants.{Derive, Gate, Obtain, Delegate, OpenSession, AskOffer, Revoke, Bind, Read as ReadCall, Write as WriteCall, Send as SendCall, Credit, Exit, Clear}
+use Rattle.sem_msg.specs.declared.call.Call.TheVariants.{Derive, Gate, Obtain, Delegate, OpenSession, AskOffer, Revoke, Bind, Read as ReadCall}
+use Rattle.sem_msg.specs.declared.call.Call.TheVariants.{Write as WriteCall, Send as SendCall, Credit, Exit, Clear}
 use Rattle.sem_msg.specs.declared.code.Code.TheVariants.{NoService, BadKind, NoCap}
 use Rattle.sem_msg.specs.declared.event.Act.{Act}
 use Rattle.sem_msg.specs.declared.event.Act.TheVariants.{Call as Calls, Fetch, Handle, Upcall, Resume, Flush, Kill}
 use Rattle.sem_msg.specs.declared.message.Message.{Message}
-use Rattle.sem_msg.specs.declared.message.Message.TheVariants.{ObtainReq, ObtainOk, ObtainNo, DelegateReq, DelegatePrepared, DelegateNo, Ack, Orphan, RevokeReq, RevokeDone, Unlink}
+use Rattle.sem_msg.specs.declared.message.Message.TheVariants.{ObtainReq, ObtainOk, ObtainNo, DelegateReq, DelegatePrepared, DelegateNo, Ack, Orphan, RevokeReq}
+use Rattle.sem_msg.specs.declared.message.Message.TheVariants.{RevokeDone, Unlink}
 use Rattle.sem_msg.specs.declared.message.Target.{Target}
 use Rattle.sem_msg.specs.declared.message.Target.TheVariants.{Serv as ServTarget, Offer as OfferTarget}
 use Rattle.sem_msg.specs.declared.setup.Service.{Service}
@@ -32,12 +35,14 @@ use Rattle.sem_msg.specs.Rows.{VpeRow, no_vpe}
 use Rattle.sem_msg.specs.Setup.{Setup}
 use Rattle.sem_msg.specs.Lookups.{kernel_of, owner_of, place_owner, service_named, denies}
 use Rattle.sem_msg.specs.Uses.{memory_tests}
-use Rattle.sem_machine.specs.Sides.{Side, row, slot, own, cap, parked, pending, endpoint, is_alive, call_counted, drawn, promised, parked_as, unparked, ask_taken, linked, unlinked, cap_added, installed, pending_removed, send, with_inbox, succeeding}
+use Rattle.sem_machine.specs.Sides.{Side, row, slot, own, cap, parked, pending, endpoint, is_alive, call_counted, drawn, promised, parked_as, unparked}
+use Rattle.sem_machine.specs.Sides.{ask_taken, linked, unlinked, cap_added, installed, pending_removed, send, with_inbox, succeeding}
 use Rattle.sem_machine.specs.Sound.{kept, IsSound}
 use Rattle.sem_machine.specs.Steps.{Step, plain, answer}
 use Rattle.sem_machine.specs.Asks.{target_vpe, asker, is_obtain_wait, is_delegate_wait, waits_for, is_unawaited, ask_refused}
 use Rattle.sem_machine.specs.Calls.{call_row, next_place, next_key, ask_made, open_tests, offer_tests, delegate_tests, bind_tests, with_held, destination_tests}
-use Rattle.sem_machine.specs.Upcalls.{source, source_tests, given, given_kind, given_here, child_given, parent_tests, delegate_here, delegate_prepared, consented, ask_decided, upcall_row}
+use Rattle.sem_machine.specs.Upcalls.{source, source_tests, given, given_kind, given_here, child_given, parent_tests, delegate_here, delegate_prepared}
+use Rattle.sem_machine.specs.Upcalls.{consented, ask_decided, upcall_row}
 use Rattle.sem_machine.specs.Handles.{is_stray, is_key_declared, is_object_declared, is_here, lives_without, obtain_ready, acknowledged, handle_row, handled}
 use Rattle.sem_machine.specs.Resumes.{can_resume, delegate_granted, delegate_resumed, resumed, resume_row}
 use Rattle.sem_machine.specs.Journals.{root_keys}
@@ -51,7 +56,8 @@ use Rattle.sem_fs.specs.Service.{IsInOrder}
 use Rattle.sem_fs.specs.Serving.{IsServedMessage, IsServedCall, IsServedSide}
 use Rattle.sem_fs.proofs.ServedRows.{IsReceived}
 use Rattle.sem_fs.proofs.ServedSteps.{passed-done, AskPasses, ActPasses}
-use Rattle.sem_fs.proofs.Still.{Still, still-park, still-slot, still-drawn, still-asked, still-taken, still-installed, still-send, still-caps, still-row, still-revoked, still-requested, still-done}
+use Rattle.sem_fs.proofs.Still.{Still, still-park, still-slot, still-drawn, still-asked, still-taken, still-installed, still-send, still-caps, still-row}
+use Rattle.sem_fs.proofs.Still.{still-revoked, still-requested, still-done}
 
 -- a key of that number stands at a selector of the VPE, and is held below a root
 pub record HasCome (T : Setup) (t : Side) (v number sel : ℕ) : Type 0 where
@@ -71,7 +77,8 @@ pub data Turn (T : Setup) (s t : Side) (v : ℕ) : Type 0 where
   turn_obtained : (number sel : ℕ) (key parent : KeyName) (object : Object) → number ≡ key.number → parked s v ≡ Some (ObtainWait number sel)
       → parked t v ≡ Some (ObtainReady key parent object sel) → Turn T s t v
   turn_prepared : (parent key : KeyName) → parked s v ≡ Some (DelegateWait parent) → parked t v ≡ Some (DelegateReady parent key) → Turn T s t v
-  turn_got : (number sel : ℕ) → kept (parked s v) ≡ Some (number, sel) → (parked t v ≡ Some (Ready 0)) ⊎ (parked t v ≡ None) → HasCome T t v number sel → Turn T s t v
+  turn_got : (number sel : ℕ) → kept (parked s v) ≡ Some (number, sel) → (parked t v ≡ Some (Ready 0)) ⊎ (parked t v ≡ None) → HasCome T t v number sel →
+      Turn T s t v
   turn_over : kept (parked s v) ≡ None → (parked s v ≡ None → ⊥) → (parked t v ≡ Some (Ready 0)) ⊎ (parked t v ≡ None) → Turn T s t v
 
 -- and it makes no call
@@ -138,7 +145,8 @@ module _ (T : Setup) (i v : ℕ) (home : kernel_of T v ≡ i) where
         (option-keeps On (λ (y : Service). ask_made T i u dst (ServTarget y.key) t) (service_named T name) (answer NoService t)
         (λ y there. ask-stays u dst (ServTarget y.key) t other S) S)
     call-stays u before (AskOffer dst session index) t other so S = unless-keeps On (offer_tests T i t u dst session) _ _ (λ code. S)
-        (option-keeps On (λ (k : KeyName). ask_made T i u dst (OfferTarget k index) t) _ (answer BadKind t) (λ k there. ask-stays u dst (OfferTarget k index) t other S)
+        (option-keeps On (λ (k : KeyName). ask_made T i u dst (OfferTarget k index) t) _ (answer BadKind t)
+        (λ k there. ask-stays u dst (OfferTarget k index) t other S)
         S)
     call-stays u before (Delegate src w dst) t other so S = unless-keeps On (delegate_tests T i t u src w) _ _ (λ code. S) (held-stays (own t u src) _ t S (λ p.
         let waiting : Side = parked_as u (DelegateWait p.key) t in
@@ -408,7 +416,8 @@ module _ (T : Setup) (i v : ℕ) (home : kernel_of T v ≡ i) where
               (λ none. let no' : ◌≡◌ {A = Option Parked} None (Some ObtainCancelled) = sym none ∙ (ap (parked s) (sym same) ∙ at) in absurd cc)
           mine same (Some (DelegateWait parent)) at = absurd (true≢false (sym can ∙ ap can_resume at))
           mine same (Some (DelegateReady parent key)) at = mine-answered same (ap kept (ap (parked s) (sym same) ∙ at))
-              (λ none. let no' : ◌≡◌ {A = Option Parked} None (Some (DelegateReady parent key)) = sym none ∙ (ap (parked s) (sym same) ∙ at) in absurd cc) parent key
+              (λ none. let no' : ◌≡◌ {A = Option Parked} None (Some (DelegateReady parent key)) = sym none ∙ (ap (parked s) (sym same) ∙ at) in
+              absurd cc) parent key
               (cap over parent)
           mine same (Some (RevokeWait j)) at = absurd (true≢false (sym can ∙ ap can_resume at))
           mine same (Some (Ready code)) at = away same over refl refl (ap kept (ap (parked s) (sym same) ∙ at))
@@ -434,13 +443,16 @@ module _ (T : Setup) (i v : ℕ) (home : kernel_of T v ≡ i) where
     awaited-so false is alive = let no' : true ≡ false = sym (ap (λ a. a && true) alive) ∙ is in absurd cc
 
     obtained-course : (parent key : KeyName) (object : Object) → is_alive s v ≡ true → key.vpe ≡ v
-        → (is_alive s key.vpe && not (is_obtain_wait key.number (parked s key.vpe))) ≡ false → Course T s (obtain_ready parent key object (parked s key.vpe) emptied) v
+        → (is_alive s key.vpe && not (is_obtain_wait key.number (parked s key.vpe))) ≡ false →
+        Course T s (obtain_ready parent key object (parked s key.vpe) emptied) v
     obtained-course parent key object alive same lives = by_call (parked s v) refl (ap (parked s) same)
       where
         waits : is_obtain_wait key.number (parked s v) ≡ true
-        waits = awaited-so (is_obtain_wait key.number (parked s v)) (ap (λ w. is_alive s w && not (is_obtain_wait key.number (parked s w))) (sym same) ∙ lives) alive
+        waits = awaited-so (is_obtain_wait key.number (parked s v)) (ap (λ w. is_alive s w && not (is_obtain_wait key.number (parked s w))) (sym same)
+            ∙ lives) alive
 
-        by_call : (o : Option Parked) → parked s v ≡ o → parked s key.vpe ≡ parked s v → Course T s (obtain_ready parent key object (parked s key.vpe) emptied) v
+        by_call : (o : Option Parked) → parked s v ≡ o → parked s key.vpe ≡ parked s v →
+            Course T s (obtain_ready parent key object (parked s key.vpe) emptied) v
         by_call (Some (ObtainWait number sel)) at here =
             let done : Side = parked_as key.vpe (ObtainReady key parent object sel) emptied in
             subst (λ t. Course T s t v) (sym (ap (λ o. obtain_ready parent key object o emptied) (here ∙ at))) (record {
@@ -457,7 +469,8 @@ module _ (T : Setup) (i v : ℕ) (home : kernel_of T v ≡ i) where
         by_call (Some (Ready code)) at here = absurd (true≢false (sym waits ∙ ap (is_obtain_wait key.number) at))
 
     ready-stays : (parent key : KeyName) (object : Object) → (key.vpe ≡ v → ⊥) → (o : Option Parked) → Stays (obtain_ready parent key object o emptied)
-    ready-stays parent key object other (Some (ObtainWait number sel)) = still-park v q n emptied emptied-stays key.vpe (Some (ObtainReady key parent object sel)) other
+    ready-stays parent key object other (Some (ObtainWait number sel)) =
+        still-park v q n emptied emptied-stays key.vpe (Some (ObtainReady key parent object sel)) other
     ready-stays parent key object other None = emptied-stays
     ready-stays parent key object other (Some (ObtainReady key' parent' object' sel)) = emptied-stays
     ready-stays parent key object other (Some ObtainCancelled) = emptied-stays
@@ -472,7 +485,8 @@ module _ (T : Setup) (i v : ℕ) (home : kernel_of T v ≡ i) where
     prepared-course parent key alive same lives = by_call (parked s v) refl
       where
         waits : is_delegate_wait parent (parked s v) ≡ true
-        waits = awaited-so (is_delegate_wait parent (parked s v)) (ap (λ w. is_alive s w && not (is_delegate_wait parent (parked s w))) (sym same) ∙ lives) alive
+        waits = awaited-so (is_delegate_wait parent (parked s v)) (ap (λ w. is_alive s w && not (is_delegate_wait parent (parked s w))) (sym same)
+            ∙ lives) alive
 
         by_call : (o : Option Parked) → parked s v ≡ o → Course T s (parked_as parent.vpe (DelegateReady parent key) emptied) v
         by_call (Some (DelegateWait p)) at =
@@ -480,7 +494,8 @@ module _ (T : Setup) (i v : ℕ) (home : kernel_of T v ≡ i) where
             record {
               calls = refl;
               turn = turn_prepared parent key (at ∙ ap (λ k. Some (DelegateWait k)) asked')
-                  (ap (parked (parked_as parent.vpe (DelegateReady parent key) emptied)) (sym same) ∙ parked-here emptied parent.vpe (Some (DelegateReady parent key)));
+                  (ap (parked (parked_as parent.vpe (DelegateReady parent key) emptied)) (sym same)
+                  ∙ parked-here emptied parent.vpe (Some (DelegateReady parent key)));
             }
         by_call None at = absurd (true≢false (sym waits ∙ ap (is_delegate_wait parent) at))
         by_call (Some (ObtainWait number sel)) at = absurd (true≢false (sym waits ∙ ap (is_delegate_wait parent) at))
@@ -495,7 +510,8 @@ module _ (T : Setup) (i v : ℕ) (home : kernel_of T v ≡ i) where
         let out : Stays (pending_removed key emptied) = record { park = stays.park; idle = stays.idle; calls = stays.calls } in
         cond_both (is_alive s key.vpe) _ _ Stays (λ _. still-installed v q n (pending_removed key emptied) out key (Some p.parent) p.sel p.object)
         (λ _. still-send v q n (owner_of T p.parent) (Orphan p.parent key) (pending_removed key emptied) out)
-    acked-stays key false p = still-slot v q n (pending_removed key emptied) (record { park = stays.park; idle = stays.idle; calls = stays.calls }) key.vpe p.sel Free
+    acked-stays key false p = still-slot v q n (pending_removed key emptied) (record { park = stays.park; idle = stays.idle; calls = stays.calls }) key.vpe
+        p.sel Free
 
     row-course : (from : ℕ) (m : Message) → is_alive s v ≡ true → IsServedMessage T m → IsReceived T emptied m → is_stray T i emptied m ≡ false
         → Course T s (handle_row T i emptied from m) v
@@ -524,7 +540,8 @@ module _ (T : Setup) (i v : ℕ) (home : kernel_of T v ≡ i) where
         ])
         (λ _. course _ (still-send v q n (owner_of T key) (Ack key false) emptied emptied-stays))
     row-course from (DelegateNo parent code) alive so may right = absurd so
-    row-course from (Ack key accepted) alive so may right = option-keeps (λ t. Course T s t v) (acknowledged T key accepted emptied) (pending emptied key) emptied
+    row-course from (Ack key accepted) alive so may right = option-keeps (λ t. Course T s t v) (acknowledged T key accepted emptied)
+        (pending emptied key) emptied
         (λ p there. course _ (acked-stays key accepted p)) (course emptied emptied-stays)
     row-course from (Orphan parent key) alive so may right = course _ (still-caps v q n (unlinked parent key emptied).caps emptied emptied-stays)
     row-course from (RevokeReq key j) alive so may right =

@@ -8,7 +8,8 @@ use Rattle.sem_key.specs.KeyName.{KeyName}
 use Rattle.sem_key.specs.Capability.{Capability}
 use Rattle.sem_key.proofs.Members.{Contains-nil, Contains-cons_cases}
 use Rattle.sem_msg.specs.declared.call.Call.{Call}
-use Rattle.sem_msg.specs.declared.call.Call.TheVariants.{Derive, Gate, Obtain, Delegate, OpenSession, AskOffer, Revoke, Bind, Read as ReadCall, Write as WriteCall, Send as SendCall, Credit, Exit, Clear}
+use Rattle.sem_msg.specs.declared.call.Call.TheVariants.{Derive, Gate, Obtain, Delegate, OpenSession, AskOffer, Revoke, Bind, Read as ReadCall}
+use Rattle.sem_msg.specs.declared.call.Call.TheVariants.{Write as WriteCall, Send as SendCall, Credit, Exit, Clear}
 use Rattle.sem_msg.specs.declared.code.Code.TheVariants.{Ok as OkCode, NoService, BadKind, NoCap}
 use Rattle.sem_msg.specs.declared.entry.Detail.{Detail}
 use Rattle.sem_msg.specs.declared.entry.Detail.TheVariants.{Called, Nothing}
@@ -51,7 +52,8 @@ module _ (T : Setup) (i u : ℕ) (s : Side) where
   call-revokes before (OpenSession dst name) k so cut =
       absurd (none-cut (call_row T i s u (OpenSession dst name)) k
       (unless-keeps CutsNone (open_tests T i s u dst name) _ _ (λ code. refl)
-      (option-keeps CutsNone (λ (y : Service). ask_made T i u dst (ServTarget y.key) s) (service_named T name) (answer NoService s) (λ y there. refl) refl)) cut)
+      (option-keeps CutsNone (λ (y : Service). ask_made T i u dst (ServTarget y.key) s) (service_named T name) (answer NoService s) (λ y there. refl) refl))
+      cut)
   call-revokes before (AskOffer dst session index) k so cut =
       absurd (none-cut (call_row T i s u (AskOffer dst session index)) k
       (unless-keeps CutsNone (offer_tests T i s u dst session) _ _ (λ code. refl)
@@ -70,12 +72,15 @@ module _ (T : Setup) (i u : ℕ) (s : Side) where
   call-revokes before (Bind ep src) k so cut =
       absurd (none-cut (call_row T i s u (Bind ep src)) k
       (unless-keeps CutsNone (bind_tests s u src) _ _ (λ code. refl)
-      (option-keeps CutsNone (λ (c : Capability). answer OkCode (with_endpoint u ep (Some (record { key = c.key; object = c.object; ring = [] })) s)) (own s u src)
+      (option-keeps CutsNone (λ (c : Capability). answer OkCode (with_endpoint u ep (Some (record { key = c.key; object = c.object; ring = [] })) s))
+      (own s u src)
       (answer NoCap s) (λ p there. refl) refl)) cut)
   call-revokes before (ReadCall ep off len) k so cut =
-      absurd (none-cut (call_row T i s u (ReadCall ep off len)) k (unless-keeps CutsNone (memory_tests 1 off len (endpoint s u ep)) _ _ (λ code. refl) refl) cut)
+      absurd (none-cut (call_row T i s u (ReadCall ep off len)) k (unless-keeps CutsNone (memory_tests 1 off len (endpoint s u ep)) _ _ (λ code. refl) refl)
+      cut)
   call-revokes before (WriteCall ep off len) k so cut =
-      absurd (none-cut (call_row T i s u (WriteCall ep off len)) k (unless-keeps CutsNone (memory_tests 2 off len (endpoint s u ep)) _ _ (λ code. refl) refl) cut)
+      absurd (none-cut (call_row T i s u (WriteCall ep off len)) k (unless-keeps CutsNone (memory_tests 2 off len (endpoint s u ep)) _ _ (λ code. refl) refl)
+      cut)
   call-revokes before (Derive src dst off len rights) k so cut = absurd so
   call-revokes before (Gate src dst label credits) k so cut = absurd so
   call-revokes before (Obtain dst w src) k so cut = absurd so
@@ -108,7 +113,8 @@ module _ (T : Setup) (S : IsService T) (before : List Entry) (e : Entry) (made :
   by-act k among = by_cut e.cut refl
     where
       by_cut : (o : Option KeyName) → e.cut ≡ o → IsCutBy T W e k
-      by_cut None none = absurd (Contains-nil k (subst (λ ks. Contains ks k) (ap (λ o. option_map_or (cut_off (history before).grants e.detail) o []) none) among))
+      by_cut None none =
+          absurd (Contains-nil k (subst (λ ks. Contains ks k) (ap (λ o. option_map_or (cut_off (history before).grants e.detail) o []) none) among))
       by_cut (Some r) some = by_call (next_call T s a.0) refl
         where
           cut_so : ◌≡◌ {A = Option KeyName} (local_step T e.event.kernel s e.event.act (input_of W e.event.kernel e.event.act)).outcome.cut (Some r)

@@ -75,7 +75,8 @@ pub later-calls : (T : Setup) (v : ℕ) (before mid : List Entry) → (row (home
     (row (home T (world_after T (before ++ mid)) v) v).next_call
 later-calls T v before mid =
     let on = (run-onward T mid (world_after T before)).sides (kernel_of T v) in
-    subst (λ (W : World). (row (home T (world_after T before) v) v).next_call ≤ (row (home T W v) v).next_call) (sym (run-append T before mid (start T))) (on.calls v)
+    subst (λ (W : World). (row (home T (world_after T before) v) v).next_call ≤ (row (home T W v) v).next_call) (sym (run-append T before mid (start T)))
+    (on.calls v)
 
 module _ (T : Setup) (J : List Entry) (v m : ℕ) where
   after-called : (n n' : ℕ) (x : IsDrawnBy T J v n m) (y : IsDrawnBy T J v n' m) (mid : List Entry) → y.before ≡ (x.before ++ x.entry ∷ []) ++ mid → ⊥
@@ -83,7 +84,8 @@ module _ (T : Setup) (J : List Entry) (v m : ℕ) where
       let more = later-calls T v (x.before ++ x.entry ∷ []) mid in
       let here : (row (home T (world_after T ((x.before ++ x.entry ∷ []) ++ mid)) v) v).next_call ≡ m =
       ap (λ K. (row (home T (world_after T K) v) v).next_call) (sym same) ∙ y.call in
-      past m (row (home T (world_after T (x.before ++ x.entry ∷ [])) v) v).next_call (row (home T (world_after T ((x.before ++ x.entry ∷ []) ++ mid)) v) v).next_call
+      past m (row (home T (world_after T (x.before ++ x.entry ∷ [])) v) v).next_call
+      (row (home T (world_after T ((x.before ++ x.entry ∷ []) ++ mid)) v) v).next_call
       x.called more here
     where
       past : (a b c : ℕ) → b ≡ a + 1 → b ≤ c → c ≡ a → ⊥

@@ -1,5 +1,6 @@
 -- The tests of each event pass: of calls, upcalls, parked calls that go on, and messages.
-use Rattle.std.proofs.Common.{◌≡◌, ◌⊎◌, ℕ, ◌<◌, ◌++◌, Bool, true, false, not, List, [], ◌∷◌, drop, get_or, slice_get, nat_le, Option, Some, None, is_some, is_none, refl, sym, ap, ◌∙◌, subst, inl, inr, arith, eq-eqb}
+use Rattle.std.proofs.Common.{◌≡◌, ◌⊎◌, ℕ, ◌<◌, ◌++◌, Bool, true, false, not, List, [], ◌∷◌, drop, get_or, slice_get, nat_le, Option, Some, None, is_some}
+use Rattle.std.proofs.Common.{is_none, refl, sym, ap, ◌∙◌, subst, inl, inr, arith, eq-eqb}
 use Rattle.std.specs.Prelude.{◌==◌, ◌&&◌, ◌||◌}
 use Rattle.std.specs.List.{Contains, list_any}
 use Rattle.std.specs.Option.{option_and_then}
@@ -23,7 +24,8 @@ use Rattle.sem_msg.specs.declared.event.Act.{Act}
 use Rattle.sem_msg.specs.declared.event.Act.TheVariants.{Call as Calls, Fetch, Handle, Upcall, Resume, Flush, Kill}
 use Rattle.sem_msg.specs.declared.entry.Entry.{Entry}
 use Rattle.sem_msg.specs.declared.message.Message.{Message}
-use Rattle.sem_msg.specs.declared.message.Message.TheVariants.{ObtainReq, ObtainOk, ObtainNo, DelegateReq, DelegatePrepared, DelegateNo, Ack, Orphan, RevokeReq, RevokeDone, Unlink}
+use Rattle.sem_msg.specs.declared.message.Message.TheVariants.{ObtainReq, ObtainOk, ObtainNo, DelegateReq, DelegatePrepared, DelegateNo, Ack, Orphan, RevokeReq}
+use Rattle.sem_msg.specs.declared.message.Message.TheVariants.{RevokeDone, Unlink}
 use Rattle.sem_msg.specs.declared.message.Target.{Target}
 use Rattle.sem_msg.specs.declared.message.Target.TheVariants.{Sel as SelTarget, Serv as ServTarget, Offer as OfferTarget}
 use Rattle.sem_msg.specs.declared.setup.VpeDecl.{VpeDecl}
@@ -89,7 +91,8 @@ offered-clean T S J runs X H v d at p offers = elim (cases_eq v SERVER) [
       let h = H v d at client in
       let x = h.offered p offers in
       elim (h.held x.selector x.near x.held) [
-        | inr (number, waits) ↦ absurd (awaits-promised T (kernel_of T v) (home T (world_after T J) v) (sound T S J runs v d at) v x.selector number waits p x.at)
+        | inr (number, waits) ↦ absurd (awaits-promised T (kernel_of T v) (home T (world_after T J) v) (sound T S J runs v d at) v x.selector number waits p
+            x.at)
         | inl y ↦ clean T S J runs X v d at h x.selector p x.at (subst (IsGiven T J) (same_Held y.key p (sym y.at ∙ x.at)) y.given)
             (not-revoking (parked (home T (world_after T J) v) v) offers)
       ]
@@ -99,7 +102,8 @@ offered-clean T S J runs X H v d at p offers = elim (cases_eq v SERVER) [
     not-revoking o is (inl (n, same)) = subst (λ x. Offers x p) same is
     not-revoking o is (inr (code, same)) = subst (λ x. Offers x p) same is
 
-module _ (T : Setup) (S : IsService T) (J : List Entry) (runs : IsSchedule T J) (X : IsSupplied T J) (served : IsServedWorld T (world_after T J)) (H : AllHold T J)
+module _ (T : Setup) (S : IsService T) (J : List Entry) (runs : IsSchedule T J) (X : IsSupplied T J) (served : IsServedWorld T (world_after T J))
+    (H : AllHold T J)
     (G : IsServing T J) where
   abbrev W : World
   W = world_after T J
@@ -122,7 +126,8 @@ module _ (T : Setup) (S : IsService T) (J : List Entry) (runs : IsSchedule T J) 
         | inl same ↦ ap (λ n. slot t n sel) same
             ∙ (ap (λ (r : VpeRow). get_or r.slots sel Free) (get_or-put_same no_vpe s.vpes u (record (row s u) { asks = drop 1 (row s u).asks }))
             ∙ ap (λ n. slot s n sel) (sym same))
-        | inr other ↦ ap (λ (r : VpeRow). get_or r.slots sel Free) (get_or-put_other no_vpe s.vpes u w (record (row s u) { asks = drop 1 (row s u).asks }) other)
+        | inr other ↦ ap (λ (r : VpeRow). get_or r.slots sel Free)
+            (get_or-put_other no_vpe s.vpes u w (record (row s u) { asks = drop 1 (row s u).asks }) other)
       ]
 
       same-number : (row t u).next_number ≡ (row s u).next_number
@@ -177,7 +182,8 @@ module _ (T : Setup) (S : IsService T) (J : List Entry) (runs : IsSchedule T J) 
       room-passes : (parent : KeyName) (object : Object) (sel : ℕ) → slice_get (row s u).asks 0 ≡ Some (DelegateAsk parent object sel)
           → Passed (destination_tests t u sel)
       room-passes parent object sel head =
-          let r = X.rooms.given u (decl-of u i less local).0 parent object sel (decl-of u i less local).1 (ap (λ j. slice_get (row (side W j) u).asks 0) local ∙ head)
+          let r = X.rooms.given u (decl-of u i less local).0 parent object sel (decl-of u i less local).1 (ap (λ j. slice_get (row (side W j) u).asks 0) local
+          ∙ head)
           in (
             ap is_taken (same-slot u sel ∙ (ap (λ j. slot (side W j) u sel) (sym local) ∙ r.room)),
             (
@@ -300,8 +306,10 @@ module _ (T : Setup) (S : IsService T) (J : List Entry) (runs : IsSchedule T J) 
               let waits = doomed-waits T S J runs parent key d.0 root granted d.1 live (request-doomed T S.setup J runs key j flies) in
               let mine : parked (home T W key.vpe) key.vpe ≡ Some (ObtainReady key parent object sel) = ap (λ n. parked (side W n) key.vpe) here ∙ at' in
               elim waits [
-                | inl (n, is) ↦ (let no' : ◌≡◌ {A = Option Parked} (Some (ObtainReady key parent object sel)) (Some (RevokeWait n)) = sym mine ∙ is in absurd cc)
-                | inr (code, is) ↦ (let no' : ◌≡◌ {A = Option Parked} (Some (ObtainReady key parent object sel)) (Some (Ready code)) = sym mine ∙ is in absurd cc)
+                | inl (n, is) ↦ (let no' : ◌≡◌ {A = Option Parked} (Some (ObtainReady key parent object sel)) (Some (RevokeWait n)) = sym mine ∙ is in
+                    absurd cc)
+                | inr (code, is) ↦ (let no' : ◌≡◌ {A = Option Parked} (Some (ObtainReady key parent object sel)) (Some (Ready code)) = sym mine ∙ is in
+                    absurd cc)
               ]
         ]
         by_call None at = ap (is_ready_with key) at
@@ -320,9 +328,11 @@ module _ (T : Setup) (S : IsService T) (J : List Entry) (runs : IsSchedule T J) 
             let one = (right-of (not (is_place_declared T place))
             (not (is_target_declared T target) || (not (is_here T i (target_vpe target)) || is_here T i place.vpe)) right).1 in
             let two = (right-of (not (is_target_declared T target)) (not (is_here T i (target_vpe target)) || is_here T i place.vpe) one).1 in
-            alive-here (target_vpe target) (not-not (is_here T i (target_vpe target)) (right-of (not (is_here T i (target_vpe target))) (is_here T i place.vpe) two).0)
+            alive-here (target_vpe target)
+            (not-not (is_here T i (target_vpe target)) (right-of (not (is_here T i (target_vpe target))) (is_here T i place.vpe) two).0)
         by_message (DelegateReq parent object vpe sel) inbox right =
-            let one = (right-of (not (is_key_declared T parent)) (not (is_object_declared T object) || (not (is_here T i vpe) || is_here T i parent.vpe)) right).1 in
+            let one = (right-of (not (is_key_declared T parent)) (not (is_object_declared T object) || (not (is_here T i vpe) || is_here T i parent.vpe))
+            right).1 in
             let two = (right-of (not (is_object_declared T object)) (not (is_here T i vpe) || is_here T i parent.vpe) one).1 in
             alive-here vpe (not-not (is_here T i vpe) (right-of (not (is_here T i vpe)) (is_here T i parent.vpe) two).0)
         by_message (RevokeReq key j) inbox right = not-ready from key j inbox

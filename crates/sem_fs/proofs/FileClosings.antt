@@ -1,5 +1,6 @@
 -- What the calls of an opening and of its closing are, and that no call between them asks at their selectors. So closed files are gone.
-use Rattle.std.proofs.Common.{◌≡◌, ℕ, zero, suc, ◌+◌, ◌-◌, ◌*◌, ◌<◌, ◌≤◌, ◌++◌, true, false, List, [], ◌∷◌, map, length, length-append, nat_lt, Option, Some, None, append_assoc, append-nil, refl, sym, ap, ◌∙◌, subst, inl, inr, arith, eq-eqb}
+use Rattle.std.proofs.Common.{◌≡◌, ℕ, zero, suc, ◌+◌, ◌-◌, ◌*◌, ◌<◌, ◌≤◌, ◌++◌, true, false, List, [], ◌∷◌, map, length, length-append, nat_lt, Option, Some}
+use Rattle.std.proofs.Common.{None, append_assoc, append-nil, refl, sym, ap, ◌∙◌, subst, inl, inr, arith, eq-eqb}
 use Rattle.std.specs.Prelude.{◌==◌, ◌&&◌, if◌then◌else◌, unwrap_or}
 use Rattle.std.specs.List.{Contains, list_any, range_with_len}
 use Rattle.std.proofs.lemmas.Bool.{cases_Bool, cases_eq, cond-true, cond-false, cond_both, eqb-true, ne_eqb}
@@ -20,7 +21,8 @@ use Rattle.sem_files.specs.declared.files.FileAct.{FileAct}
 use Rattle.sem_files.specs.declared.files.FileAct.TheVariants.{OpenFile, Read, Write, Share, Close}
 use Rattle.sem_files.specs.declared.files.Command.{Command}
 use Rattle.sem_files.specs.Files.{Files, EXTENT, extents_of, handle_of, open_after, is_about, open_file, file_of, is_opening, IsAct, IsCommand}
-use Rattle.sem_files.specs.Compiled.{SESSION, ACCESS, extent_number, opened_at, given_at, part_begin, part_end, part_accessed, below, calls_of_act, calls_of_command, calls_from, compiled, AreFiles}
+use Rattle.sem_files.specs.Compiled.{SESSION, ACCESS, extent_number, opened_at, given_at, part_begin, part_end, part_accessed, below, calls_of_act}
+use Rattle.sem_files.specs.Compiled.{calls_of_command, calls_from, compiled, AreFiles}
 use Rattle.sem_fs.specs.Openings.{Opening, opening_command, IsKeyOf, Closing, IsClosed, calls_before, calls_before_closing}
 use Rattle.sem_fs.proofs.Rising.{in-range, few-extents, declared-client}
 use Rattle.sem_fs.proofs.CompiledServices.{is-service, client-calls-so}
@@ -136,7 +138,8 @@ module _ (F : Files) (AF : AreFiles F) (v h f i : ℕ) (few : i < 4) where
 
   -- a command that leaves the handle open
   abbrev Stays : List Command → Command → Type 0
-  Stays p c = (open_file (p ++ c ∷ []) v h ≡ Some f) × ((x : Call) → Contains (if c.client == v then calls_of_command F p c else []) x → AsksAt x (opened_at h i) → ⊥)
+  Stays p c = (open_file (p ++ c ∷ []) v h ≡ Some f) × ((x : Call) → Contains (if c.client == v then calls_of_command F p c else []) x →
+      AsksAt x (opened_at h i) → ⊥)
 
   command-stays : (p : List Command) (c : Command) → IsCommand F p c → open_file p v h ≡ Some f → (is_about v h c ≡ true → c.act ≡ Close h → ⊥) → Stays p c
   command-stays p c is open_ stays = elim (cases_Bool (c.client == v)) [
@@ -160,7 +163,8 @@ module _ (F : Files) (AF : AreFiles F) (v h f i : ℕ) (few : i < 4) where
 
       opened-so : (act : FileAct) → ((o : Option ℕ) → open_after o act ≡ o)
           → (if handle_of act == h then open_after (open_file p v h) act else open_file p v h) ≡ Some f
-      opened-so act same = cond_both (handle_of act == h) (open_after (open_file p v h) act) (open_file p v h) (λ o. o ≡ Some f) (λ _. same (open_file p v h) ∙ open_)
+      opened-so act same = cond_both (handle_of act == h) (open_after (open_file p v h) act) (open_file p v h) (λ o. o ≡ Some f) (λ _. same (open_file p v h)
+          ∙ open_)
           (λ _. open_)
 
       by_act : (act : FileAct) → IsAct F p v act → ((handle_of act == h) ≡ true → act ≡ Close h → ⊥)
@@ -201,7 +205,8 @@ module _ (F : Files) (AF : AreFiles F) (v h f i : ℕ) (few : i < 4) where
   commands-stay p [] rest parts open_ stays = (ap (λ q. open_file q v h) (append-nil p) ∙ open_, λ x none asks'. Contains-nil x none)
   commands-stay p (c ∷ cs) rest parts open_ stays =
       let one = command-stays p c (AF.commands p (cs ++ rest) c parts) open_ (stays c (Contains-head c cs)) in
-      let more = commands-stay (p ++ c ∷ []) cs rest (parts ∙ sym (append_assoc p (c ∷ []) (cs ++ rest))) one.0 (λ x among. stays x (Contains-tail c cs x among)) in (
+      let more = commands-stay (p ++ c ∷ []) cs rest (parts
+      ∙ sym (append_assoc p (c ∷ []) (cs ++ rest))) one.0 (λ x among. stays x (Contains-tail c cs x among)) in (
         ap (λ q. open_file q v h) (sym (append_assoc p (c ∷ []) cs)) ∙ more.0,
         λ x among asks'. elim (Contains-append_cases (if c.client == v then calls_of_command F p c else []) (calls_from F v (p ++ c ∷ []) cs) x among) [
           | inl here ↦ one.1 x here asks'
@@ -213,7 +218,8 @@ regroup : (A a1 a2 B r1 r2 rest : List Call) (s x y : Call) → s ∷ (A ++ ((a1
     ((a2 ++ (B ++ r1)) ++ y ∷ (r2 ++ rest))
 regroup A a1 a2 B r1 r2 rest s x y = simp append_assoc refl
 
-module _ (F : Files) (AF : AreFiles F) (J : List Entry) (runs : IsSchedule (compiled F) J) (o : Opening F) (X : IsClosed J o) (a : KeyName) (K : IsKeyOf J o a) where
+module _ (F : Files) (AF : AreFiles F) (J : List Entry) (runs : IsSchedule (compiled F) J) (o : Opening F) (X : IsClosed J o) (a : KeyName)
+    (K : IsKeyOf J o a) where
   abbrev v : ℕ
   v = o.client
 
@@ -276,7 +282,8 @@ module _ (F : Files) (AF : AreFiles F) (J : List Entry) (runs : IsSchedule (comp
   revoke = Revoke (opened_at o.handle K.extent)
 
   asks-split : asks o.handle o.file (below (extents_of F o.file)) ≡ asks o.handle o.file (below K.extent) ++ ask ∷ asks o.handle o.file later
-  asks-split = ap (asks o.handle o.file) split ∙ map-append (λ j. AskOffer (opened_at o.handle j) SESSION (extent_number o.file j)) (below K.extent) (K.extent ∷ later)
+  asks-split = ap (asks o.handle o.file) split
+      ∙ map-append (λ j. AskOffer (opened_at o.handle j) SESSION (extent_number o.file j)) (below K.extent) (K.extent ∷ later)
 
   revokes-split : revokes o.handle (below (extents_of F o.file)) ≡ revokes o.handle (below K.extent) ++ revoke ∷ revokes o.handle later
   revokes-split = ap (revokes o.handle) split ∙ map-append (λ j. Revoke (opened_at o.handle j)) (below K.extent) (K.extent ∷ later)
@@ -337,7 +344,8 @@ module _ (F : Files) (AF : AreFiles F) (J : List Entry) (runs : IsSchedule (comp
       let five = length-range_with_len 0 (extents_of F o.file) in
       omega (arith, one, two, three, four, five)
 
-  closing-so : IsClosing (compiled F) o.client (opened_at o.handle K.extent) (calls_before F o.client o.before + K.extent) (calls_before_closing X.closing + K.extent)
+  closing-so : IsClosing (compiled F) o.client (opened_at o.handle K.extent) (calls_before F o.client o.before + K.extent)
+      (calls_before_closing X.closing + K.extent)
   closing-so = record {
     first = OpenSession SESSION 0 ∷ (A ++ asks o.handle o.file (below K.extent));
     between = asks o.handle o.file later ++ (B ++ revokes o.handle (below K.extent));
@@ -354,7 +362,8 @@ module _ (F : Files) (AF : AreFiles F) (J : List Entry) (runs : IsSchedule (comp
       silent c among asks' = elim (Contains-append_cases (asks o.handle o.file later) (B ++ revokes o.handle (below K.extent)) c among) [
         | inl one ↦
             let x = Contains-from_map (λ j. AskOffer (opened_at o.handle j) SESSION (extent_number o.file j)) later c one in
-            past x.0 (in-range (K.extent + 1) (extents_of F o.file - (K.extent + 1)) x.0 x.1).0 (subst (λ y. AsksAt y (opened_at o.handle K.extent)) (sym x.2) asks')
+            past x.0 (in-range (K.extent + 1) (extents_of F o.file - (K.extent + 1)) x.0 x.1).0
+            (subst (λ y. AsksAt y (opened_at o.handle K.extent)) (sym x.2) asks')
         | inr two ↦ elim (Contains-append_cases B (revokes o.handle (below K.extent)) c two) [
           | inl here ↦ stay.1 c here asks'
           | inr there ↦ (let x = Contains-from_map (λ j. Revoke (opened_at o.handle j)) (below K.extent) c there in

@@ -1,5 +1,6 @@
 -- What is granted below a root was asked for: a call of the VPE of the key drew its number, and asks for a key of its kind.
-use Rattle.std.proofs.Common.{◌≡◌, ℕ, ◌+◌, ◌++◌, true, false, List, [], ◌∷◌, Option, Some, None, slice_get, option_to_list, append_assoc, refl, sym, ap, ◌∙◌, subst, inl, inr, arith}
+use Rattle.std.proofs.Common.{◌≡◌, ℕ, ◌+◌, ◌++◌, true, false, List, [], ◌∷◌, Option, Some, None, slice_get, option_to_list, append_assoc, refl, sym, ap, ◌∙◌}
+use Rattle.std.proofs.Common.{subst, inl, inr, arith}
 use Rattle.std.specs.Prelude.{◌==◌}
 use Rattle.std.specs.List.{Contains}
 use Rattle.std.specs.Option.{option_map_or}
@@ -13,7 +14,8 @@ use Rattle.sem_key.specs.PlaceName.{PlaceName, keyed}
 use Rattle.sem_key.specs.Capability.{Capability}
 use Rattle.sem_key.proofs.Members.{Contains-nil, Contains-cons_cases}
 use Rattle.sem_msg.specs.declared.call.Call.{Call}
-use Rattle.sem_msg.specs.declared.call.Call.TheVariants.{Derive, Gate, Obtain, Delegate, OpenSession, AskOffer, Revoke, Bind, Read as ReadCall, Write as WriteCall, Send as SendCall, Credit, Exit, Clear}
+use Rattle.sem_msg.specs.declared.call.Call.TheVariants.{Derive, Gate, Obtain, Delegate, OpenSession, AskOffer, Revoke, Bind, Read as ReadCall}
+use Rattle.sem_msg.specs.declared.call.Call.TheVariants.{Write as WriteCall, Send as SendCall, Credit, Exit, Clear}
 use Rattle.sem_msg.specs.declared.code.Code.TheVariants.{Ok as OkCode, NoService, BadKind, NoCap}
 use Rattle.sem_msg.specs.declared.entry.Consent.{Consent}
 use Rattle.sem_msg.specs.declared.entry.Consent.TheVariants.{Yes}
@@ -155,10 +157,12 @@ call-grants T i u s before (AskOffer dst session index) so = unless-keeps Grants
     (option-keeps GrantsNone (λ (q : KeyName). ask_made T i u dst (OfferTarget q index) s) _ (answer BadKind s) (λ q there. refl) refl)
 call-grants T i u s before (Delegate src w dst) so = unless-keeps GrantsNone (delegate_tests T i s u src w) _ _ (λ code. refl)
     (option-keeps GrantsNone (λ (p : Capability). offer_made T i u w dst p s) (own s u src) (answer NoCap s) (λ p there. refl) refl)
-call-grants T i u s before (Revoke src) so = option-keeps GrantsNone (λ (c : Capability). cutting c.key (plain (revoke_begun T i u c.key c.mark s))) (own s u src)
+call-grants T i u s before (Revoke src) so = option-keeps GrantsNone (λ (c : Capability). cutting c.key (plain (revoke_begun T i u c.key c.mark s)))
+    (own s u src)
     (answer NoCap s) (λ p there. refl) refl
 call-grants T i u s before (Bind ep src) so = unless-keeps GrantsNone (bind_tests s u src) _ _ (λ code. refl)
-    (option-keeps GrantsNone (λ (c : Capability). answer OkCode (with_endpoint u ep (Some (record { key = c.key; object = c.object; ring = [] })) s)) (own s u src)
+    (option-keeps GrantsNone (λ (c : Capability). answer OkCode (with_endpoint u ep (Some (record { key = c.key; object = c.object; ring = [] })) s))
+    (own s u src)
     (answer NoCap s) (λ p there. refl) refl)
 call-grants T i u s before (ReadCall ep off len) so = unless-keeps GrantsNone (memory_tests 1 off len (endpoint s u ep)) _ _ (λ code. refl) refl
 call-grants T i u s before (WriteCall ep off len) so = unless-keeps GrantsNone (memory_tests 2 off len (endpoint s u ep)) _ _ (λ code. refl) refl
@@ -234,7 +238,8 @@ module _ (T : Setup) (S : IsService T) (J : List Entry) (e : Entry) (runs' : IsS
 
     -- the consent, as it is told
     abbrev Told : ℕ → Step → Type 0
-    Told w x = (p k : KeyName) → ◌≡◌ {A = Option (KeyName × KeyName)} x.outcome.grant (Some (p, k)) → Contains (root_keys T) p → (place : PlaceName) × (target : Target)
+    Told w x = (p k : KeyName) → ◌≡◌ {A = Option (KeyName × KeyName)} x.outcome.grant (Some (p, k)) → Contains (root_keys T) p →
+        (place : PlaceName) × (target : Target)
         × (kind : Kind) × (slice_get (row here u).asks 0 ≡ Some (ObtainAsk place target)) × (k ≡ keyed place kind) × SuitsTarget target kind × (place.vpe ≡ w)
 
     second : (a b : KeyName × KeyName) → ◌≡◌ {A = Option (KeyName × KeyName)} (Some a) (Some b) → a ≡ b
@@ -267,7 +272,8 @@ module _ (T : Setup) (S : IsService T) (J : List Entry) (e : Entry) (runs' : IsS
     upcall-consents pass = option-keeps (Consents u) (λ (a : Ask). ask_decided T i u a taken) (slice_get (row here u).asks 0) (plain here)
         (λ a there. decided a there (pass a there).0 (pass a there).1) (λ p k some root. absurd cc)
       where
-        decided : (a : Ask) → slice_get (row here u).asks 0 ≡ Some a → denies T u (asker a) ≡ false → (is_unawaited T i taken a ≡ false → AskPasses T i taken u a)
+        decided : (a : Ask) → slice_get (row here u).asks 0 ≡ Some a → denies T u (asker a) ≡ false →
+            (is_unawaited T i taken a ≡ false → AskPasses T i taken u a)
             → Consents u (ask_decided T i u a taken)
         decided a there allowed passed =
             cond_both (is_unawaited T i taken a) _ _ (Consents u) (λ _ p k some root. absurd cc)
@@ -306,7 +312,8 @@ module _ (T : Setup) (S : IsService T) (J : List Entry) (e : Entry) (runs' : IsS
       by_call (Some (Ready code)) at some = absurd cc
 
   abbrev Granted : Act → Type 0
-  Granted a = (p k : KeyName) → ◌≡◌ {A = Option (KeyName × KeyName)} (local_step T i here a (input_of W i a)).outcome.grant (Some (p, k)) → Contains (root_keys T) p
+  Granted a = (p k : KeyName) → ◌≡◌ {A = Option (KeyName × KeyName)} (local_step T i here a (input_of W i a)).outcome.grant (Some (p, k)) →
+      Contains (root_keys T) p
       → (u : ℕ) × (a ≡ Upcall u) × IsConsent u k (local_step T i here a (input_of W i a))
 
   -- what is granted below a root is consented to
@@ -377,7 +384,8 @@ module _ (T : Setup) (S : IsService T) (J : List Entry) (e : Entry) (runs' : IsS
             sym (eqb-true d.0.pe con.place.pe at) ∙ sym (ap (λ o. option_map_or (λ (y : VpeDecl). y.pe) o 128) d.1)
 
         client : con.place.vpe ≡ SERVER → ⊥
-        client same = let no' : ◌≡◌ {A = Option Call} None (Some x.call) = sym (ap (λ cs. slice_get cs x.index) (ap (calls_of T) same ∙ S.rests)) ∙ x.at_index in
+        client same = let no' : ◌≡◌ {A = Option Call} None (Some x.call) = sym (ap (λ cs. slice_get cs x.index) (ap (calls_of T) same ∙ S.rests))
+            ∙ x.at_index in
             absurd cc
 
         told : e.detail ≡ Asked con.place.vpe Yes
@@ -462,7 +470,8 @@ module _ (T : Setup) (S : IsService T) (J : List Entry) (e : Entry) (runs' : IsS
         delegate-waits parent (Some (Ready code)) is = absurd cc
 
         abbrev Rooted : Step → Type 0
-        Rooted x = (q r : KeyName) → ◌≡◌ {A = Option (KeyName × KeyName)} x.outcome.grant (Some (q, r)) → x.outcome.asked ≡ Some (v, Yes) → Contains (root_keys T) q
+        Rooted x = (q r : KeyName) → ◌≡◌ {A = Option (KeyName × KeyName)} x.outcome.grant (Some (q, r)) → x.outcome.asked ≡ Some (v, Yes) →
+            Contains (root_keys T) q
 
         abbrev Below : Step → Type 0
         Below x = (q r : KeyName) → ◌≡◌ {A = Option (KeyName × KeyName)} x.outcome.grant (Some (q, r)) → Contains (root_keys T) q
@@ -472,7 +481,8 @@ module _ (T : Setup) (S : IsService T) (J : List Entry) (e : Entry) (runs' : IsS
         consented-root u (ObtainAsk place target) mine awaited passed =
             unless-keeps Below (source_tests target (source T (ask_taken u here) u target)) _ _ (λ code q r none. absurd cc)
             (option-keeps Below (child_given T i place target (ask_taken u here)) (source T (ask_taken u here) u target) (plain (ask_taken u here))
-            (λ x there q r same. subst (Contains (root_keys T)) (ap (λ (y : KeyName × KeyName). y.0) (same_Some (x.key, keyed place (given_kind target x)) (q, r) same))
+            (λ x there q r same. subst (Contains (root_keys T))
+            (ap (λ (y : KeyName × KeyName). y.0) (same_Some (x.key, keyed place (given_kind target x)) (q, r) same))
             (passed.1 x there).0)
             (λ q r none. absurd cc))
         consented-root u (DelegateAsk parent object dst) mine awaited passed =

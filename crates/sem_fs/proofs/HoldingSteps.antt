@@ -1,5 +1,6 @@
 -- What a client holds, and waits for, after one entry more.
-use Rattle.std.proofs.Common.{◌≡◌, ◌⊎◌, ℕ, ◌+◌, ◌<◌, ◌++◌, Bool, true, false, List, [], ◌∷◌, map, take, slice_get, Option, Some, None, option_to_list, is_some, refl, sym, ap, ◌∙◌, subst, inl, inr, arith, eq-eqb}
+use Rattle.std.proofs.Common.{◌≡◌, ◌⊎◌, ℕ, ◌+◌, ◌<◌, ◌++◌, Bool, true, false, List, [], ◌∷◌, map, take, slice_get, Option, Some, None, option_to_list, is_some}
+use Rattle.std.proofs.Common.{refl, sym, ap, ◌∙◌, subst, inl, inr, arith, eq-eqb}
 use Rattle.std.specs.Prelude.{◌==◌, if◌then◌else◌}
 use Rattle.std.specs.List.{Contains}
 use Rattle.std.specs.Option.{option_map_or, IsSome}
@@ -12,7 +13,8 @@ use Rattle.sem_key.specs.Capability.{Capability}
 use Rattle.sem_key.proofs.Members.{Contains-head, Contains-from_map, found}
 use Rattle.sem_key.proofs.KeyTests.{key_eq-true}
 use Rattle.sem_msg.specs.declared.call.Call.{Call}
-use Rattle.sem_msg.specs.declared.call.Call.TheVariants.{Derive, Gate, Obtain, Delegate, OpenSession, AskOffer, Revoke, Bind, Read as ReadCall, Write as WriteCall, Send as SendCall, Credit, Exit, Clear}
+use Rattle.sem_msg.specs.declared.call.Call.TheVariants.{Derive, Gate, Obtain, Delegate, OpenSession, AskOffer, Revoke, Bind, Read as ReadCall}
+use Rattle.sem_msg.specs.declared.call.Call.TheVariants.{Write as WriteCall, Send as SendCall, Credit, Exit, Clear}
 use Rattle.sem_msg.specs.declared.entry.Detail.TheVariants.{Called, Nothing}
 use Rattle.sem_msg.specs.declared.entry.Entry.{Entry}
 use Rattle.sem_msg.specs.declared.event.Act.{Act}
@@ -282,24 +284,26 @@ module _ (T : Setup) (S : IsService T) (J : List Entry) (e : Entry) (runs' : IsS
       -- what is held still stays at its selector
       pub stays-there : (sel : ℕ) → sel < GIVEN → (k : KeyName) → slot s v sel ≡ Held k → (d' : Capability) → HoldsCap W' (kernel_of T v) k d' → Unasked sel
           → slot s' v sel ≡ Held k
-      stays-there sel near k is d' held' apart = elim (slotted sel near (λ number waits. awaits-promised T (kernel_of T v) s sound v sel number waits k is) apart) [
-        | inl same ↦ same ∙ is
-        | inr free ↦
-            let there = found (λ (x : Capability). key_eq x.key k) s'.caps d' held' in
-            let key : d'.key ≡ k = key_eq-true d'.key k there.1 in
-            let now : slot s' v d'.selector ≡ Held k = ap (λ w. slot s' w d'.selector) (sym (ap (λ (q : KeyName). q.vpe) key ∙ whose sel k is))
-            ∙ (sound'.at_selector d' there.0 ∙ ap Held key) in
-            let old-cap : cap here k ≡ Some c.0 = ap (λ t. cap t k) (sym old-side) ∙ c.1 in
-            let old-there = found (λ (x : Capability). key_eq x.key k) here.caps c.0 old-cap in
-            let C = comes-new T i here sound-here v k c.0 old-cap old-there.0 (key_eq-true c.0.key k old-there.1) in
-            elim (step-staying T here v k ⊥ C i e.event.act (input_of W i e.event.act) order living d'.selector (ap (λ t. slot t v d'.selector) (sym new-side) ∙ now)) [
-              | inr none ↦ absurd none
-              | inl before ↦
-                  let one : d'.selector ≡ sel = one-slot T S.setup (kernel_of T v) near-kernel s sound v d'.selector sel k
-                  (ap (λ t. slot t v d'.selector) old-side ∙ before) is in
-                  ap (slot s' v) (sym one) ∙ now
-            ]
-      ]
+      stays-there sel near k is d' held' apart =
+          elim (slotted sel near (λ number waits. awaits-promised T (kernel_of T v) s sound v sel number waits k is) apart) [
+            | inl same ↦ same ∙ is
+            | inr free ↦
+                let there = found (λ (x : Capability). key_eq x.key k) s'.caps d' held' in
+                let key : d'.key ≡ k = key_eq-true d'.key k there.1 in
+                let now : slot s' v d'.selector ≡ Held k = ap (λ w. slot s' w d'.selector) (sym (ap (λ (q : KeyName). q.vpe) key ∙ whose sel k is))
+                ∙ (sound'.at_selector d' there.0 ∙ ap Held key) in
+                let old-cap : cap here k ≡ Some c.0 = ap (λ t. cap t k) (sym old-side) ∙ c.1 in
+                let old-there = found (λ (x : Capability). key_eq x.key k) here.caps c.0 old-cap in
+                let C = comes-new T i here sound-here v k c.0 old-cap old-there.0 (key_eq-true c.0.key k old-there.1) in
+                elim (step-staying T here v k ⊥ C i e.event.act (input_of W i e.event.act) order living d'.selector (ap (λ t. slot t v d'.selector) (sym new-side)
+                ∙ now)) [
+                  | inr none ↦ absurd none
+                  | inl before ↦
+                      let one : d'.selector ≡ sel = one-slot T S.setup (kernel_of T v) near-kernel s sound v d'.selector sel k
+                      (ap (λ t. slot t v d'.selector) old-side ∙ before) is in
+                      ap (slot s' v) (sym one) ∙ now
+                ]
+          ]
         where
           c : (x : Capability) × (cap s k ≡ Some x)
           c = slot-cap T S.setup (kernel_of T v) near-kernel s sound v sel k is
@@ -494,7 +498,8 @@ module _ (T : Setup) (S : IsService T) (J : List Entry) (e : Entry) (runs' : IsS
           passed = (subst (ActPasses T i here) act passes) c next-here
 
           pub stepped-so : s' ≡ (call_row T i (call_counted v here) v c).side
-          stepped-so = new-side ∙ (ap (λ a. (local_step T i here a (input_of W i a)).side) act ∙ ap (λ (x : Step). x.side) (call-step T i here v None c next-here))
+          stepped-so = new-side
+              ∙ (ap (λ a. (local_step T i here a (input_of W i a)).side) act ∙ ap (λ (x : Step). x.side) (call-step T i here v None c next-here))
 
           pub goes : ((row s' v).next_call ≡ (row (call_counted v here) v).next_call) × ParksAs (call_counted v here) v c (parked s' v)
           goes = subst (λ t. ((row t v).next_call ≡ (row (call_counted v here) v).next_call) × ParksAs (call_counted v here) v c (parked t v)) (sym stepped-so)
@@ -534,16 +539,19 @@ module _ (T : Setup) (S : IsService T) (J : List Entry) (e : Entry) (runs' : IsS
 
           -- a call that changes nothing that is held
           plain-on : ((sel : ℕ) (b : Bool) → holds_after sel b c ≡ b) → ((sel : ℕ) → AsksAt c sel → ⊥) → ((sel : ℕ) → c ≡ Revoke sel → ⊥)
-              → ((number sel : ℕ) → kept (parked s' v) ≡ Some (number, sel) → ⊥) → ((p : KeyName) → Offers (parked s' v) p → IsHeldExtent T W' v p) → IsHolding T J' v
+              → ((number sel : ℕ) → kept (parked s' v) ≡ Some (number, sel) → ⊥) → ((p : KeyName) → Offers (parked s' v) p → IsHeldExtent T W' v p) →
+              IsHolding T J' v
           plain-on same apart unrevoked waits offers = record {
-            held = λ sel near is. inl (held-on sel near (apart sel) (unrevoked sel) (sym (same sel (holds (calls_made T W v) sel)) ∙ (sym (holds-now sel) ∙ is)));
+            held = λ sel near is. inl (held-on sel near (apart sel) (unrevoked sel) (sym (same sel (holds (calls_made T W v) sel))
+                ∙ (sym (holds-now sel) ∙ is)));
             free = λ sel near is. free-on sel near (apart sel) (sym (same sel (holds (calls_made T W v) sel)) ∙ (sym (holds-now sel) ∙ is));
             awaited = λ number sel is. absurd (waits number sel is);
             offered = offers;
           }
 
           -- a call that asks
-          ask-on : (dst : ℕ) → dst < GIVEN → ((sel : ℕ) (b : Bool) → holds_after sel b c ≡ (if dst == sel then true else b)) → ((sel : ℕ) → AsksAt c sel → dst ≡ sel)
+          ask-on : (dst : ℕ) → dst < GIVEN → ((sel : ℕ) (b : Bool) → holds_after sel b c ≡ (if dst == sel then true else b)) →
+              ((sel : ℕ) → AsksAt c sel → dst ≡ sel)
               → ((sel : ℕ) → c ≡ Revoke sel → ⊥) → (number : ℕ) → parked s' v ≡ Some (ObtainWait number dst) → IsHolding T J' v
           ask-on dst near' after' asks unrevoked number parks = record {
             held = λ sel near is. elim (cases_eq dst sel) [
@@ -587,7 +595,8 @@ module _ (T : Setup) (S : IsService T) (J : List Entry) (e : Entry) (runs' : IsS
               (tells T W e made-so).detail
               ∙ (ap (λ a. detail_of T here a (input_of W i a) (stepped T W e.event).outcome) act
               ∙ ap (λ o. option_map_or (λ call. Called (row here v).next_call call) o Nothing) (next-here act (Revoke src) next)) in
-              subst (λ ks. Contains ks k) (sym (ap (λ o. option_map_or (cut_off (history J).grants e.detail) o []) cut ∙ ap (λ x. cut_off (history J).grants x k) told))
+              subst (λ ks. Contains ks k) (sym (ap (λ o. option_map_or (cut_off (history J).grants e.detail) o []) cut
+              ∙ ap (λ x. cut_off (history J).grants x k) told))
               (Contains-head k [])
 
           pub opened : (SESSION < src) × (src < GIVEN) × (holds (calls_made T W v) src ≡ true)
@@ -599,7 +608,12 @@ module _ (T : Setup) (S : IsService T) (J : List Entry) (e : Entry) (runs' : IsS
             | inl x ↦ elim (slotted src opened.1 (no-wait act (Revoke src) next src)
                 (λ c' a there asks. subst (λ z. AsksAt z src) (the-call act (Revoke src) next c' there) asks)) [
                   | inr free ↦ inl free
-                  | inl same ↦ inr (record { key = x.key; at = same ∙ x.at; given = given-more x.key x.given; cut_off = cut-parts x.key (inr (revoked-key x.key x.at)) })
+                  | inl same ↦ inr (record {
+                    key = x.key;
+                    at = same ∙ x.at;
+                    given = given-more x.key x.given;
+                    cut_off = cut-parts x.key (inr (revoked-key x.key x.at));
+                  })
                 ]
           ]
 
@@ -622,12 +636,14 @@ module _ (T : Setup) (S : IsService T) (J : List Entry) (e : Entry) (runs' : IsS
                   | inl same ↦ absurd (true≢false
                       (sym is ∙ (holds-now act (Revoke src) next sel ∙ cond-true (src == sel) false (holds (calls_made T W v) sel) (eq-eqb src sel same))))
                   | inr other ↦ inl (held-on act (Revoke src) next sel near (λ none. none) (λ same. other (revoke-src sel same))
-                      (sym (cond-false (src == sel) false (holds (calls_made T W v) sel) (ne_eqb src sel other)) ∙ (sym (holds-now act (Revoke src) next sel) ∙ is)))
+                      (sym (cond-false (src == sel) false (holds (calls_made T W v) sel) (ne_eqb src sel other))
+                      ∙ (sym (holds-now act (Revoke src) next sel) ∙ is)))
                 ];
                 free = λ sel near is. elim (cases_eq src sel) [
                   | inl same ↦ subst (Lacks T J' v) same left-at
                   | inr other ↦ free-on act (Revoke src) next sel near (λ none. none)
-                      (sym (cond-false (src == sel) false (holds (calls_made T W v) sel) (ne_eqb src sel other)) ∙ (sym (holds-now act (Revoke src) next sel) ∙ is))
+                      (sym (cond-false (src == sel) false (holds (calls_made T W v) sel) (ne_eqb src sel other))
+                      ∙ (sym (holds-now act (Revoke src) next sel) ∙ is))
                 ];
                 awaited = λ number sel is. let no' : ◌≡◌ {A = Option (ℕ × ℕ)} None (Some (number, sel)) = sym parks.0 ∙ is in absurd cc;
                 offered = λ p is. absurd (parks.1 p is);
@@ -669,7 +685,8 @@ module _ (T : Setup) (S : IsService T) (J : List Entry) (e : Entry) (runs' : IsS
           pub delegate-on : IsHolding T J' v
           delegate-on =
               plain-on act the next (λ sel b. refl) (λ sel none. none) (λ sel same. let no' : ◌≡◌ {A = Call} the (Revoke sel) = same in absurd cc)
-              (λ number sel is. let no' : ◌≡◌ {A = Option (ℕ × ℕ)} None (Some (number, sel)) = sym (ap kept (goes act the next).1.2) ∙ is in absurd cc) extent-given
+              (λ number sel is. let no' : ◌≡◌ {A = Option (ℕ × ℕ)} None (Some (number, sel)) = sym (ap kept (goes act the next).1.2) ∙ is in
+              absurd cc) extent-given
 
         -- Any call of v.
         calling : (act : e.event.act ≡ Calls v) (c : Call) → next_call T s v ≡ Some c → IsHolding T J' v

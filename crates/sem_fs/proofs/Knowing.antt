@@ -1,5 +1,6 @@
 -- What is known of a file service that goes well is known after one entry more, and what clients hold is of the right kind.
-use Rattle.std.proofs.Common.{◌≡◌, ℕ, ◌+◌, ◌<◌, ◌≤◌, ◌++◌, true, false, not, List, [], ◌∷◌, take, nat_lt, Option, Some, None, slice_get, refl, sym, ap, ◌∙◌, subst, inl, inr, arith}
+use Rattle.std.proofs.Common.{◌≡◌, ℕ, ◌+◌, ◌<◌, ◌≤◌, ◌++◌, true, false, not, List, [], ◌∷◌, take, nat_lt, Option, Some, None, slice_get, refl, sym, ap, ◌∙◌}
+use Rattle.std.proofs.Common.{subst, inl, inr, arith}
 use Rattle.std.specs.List.{Contains}
 use Rattle.std.proofs.lemmas.Bool.{cond-false, false_from_ne_true, ltb-true}
 use Rattle.std.proofs.lemmas.Option.{same_Some}
@@ -14,7 +15,8 @@ use Rattle.sem_key.specs.Capability.{Capability}
 use Rattle.sem_key.proofs.KeyTests.{key_eq-true}
 use Rattle.sem_key.proofs.Members.{found, Contains-nil}
 use Rattle.sem_msg.specs.declared.call.Call.{Call}
-use Rattle.sem_msg.specs.declared.call.Call.TheVariants.{Derive, Gate, Obtain, Delegate, OpenSession, AskOffer, Revoke, Bind, Read as ReadCall, Write as WriteCall, Send as SendCall, Credit, Exit, Clear}
+use Rattle.sem_msg.specs.declared.call.Call.TheVariants.{Derive, Gate, Obtain, Delegate, OpenSession, AskOffer, Revoke, Bind, Read as ReadCall}
+use Rattle.sem_msg.specs.declared.call.Call.TheVariants.{Write as WriteCall, Send as SendCall, Credit, Exit, Clear}
 use Rattle.sem_msg.specs.declared.code.Code.{Code}
 use Rattle.sem_msg.specs.declared.code.Code.TheVariants.{Rights, Range}
 use Rattle.sem_msg.specs.declared.entry.Entry.{Entry}
@@ -212,7 +214,8 @@ module _ (T : Setup) (S : IsService T) (J : List Entry) (runs : IsSchedule T J) 
       d = calls-decl T v origin.index origin.call there
 
       client : v ≡ SERVER → ⊥
-      client same = let no' : ◌≡◌ {A = Option Call} None (Some origin.call) = sym (ap (λ cs. slice_get cs origin.index) (ap (calls_of T) same ∙ S.rests)) ∙ there in
+      client same = let no' : ◌≡◌ {A = Option Call} None (Some origin.call) = sym (ap (λ cs. slice_get cs origin.index) (ap (calls_of T) same ∙ S.rests))
+          ∙ there in
           absurd cc
 
       mine : IsAsked T J v k.number sel
@@ -247,7 +250,8 @@ module _ (T : Setup) (S : IsService T) (J : List Entry) (runs : IsSchedule T J) 
   asks-session v before Exit kind so asks suits = absurd asks
   asks-session v before (Clear src) kind so asks suits = absurd asks
 
-  asks-extent : (v sel : ℕ) (before : List Call) (c : Call) (kind : Kind) → SESSION < sel → IsInOrder T v before c → AsksAt c sel → Suits c kind → kind ≡ MemKind
+  asks-extent : (v sel : ℕ) (before : List Call) (c : Call) (kind : Kind) → SESSION < sel → IsInOrder T v before c → AsksAt c sel → Suits c kind →
+      kind ≡ MemKind
   asks-extent v sel before (AskOffer dst session index) kind beyond so asks suits = suits
   asks-extent v sel before (OpenSession dst name) kind beyond so asks suits = absurd (none dst so.0 asks)
     where
@@ -267,10 +271,12 @@ module _ (T : Setup) (S : IsService T) (J : List Entry) (runs : IsSchedule T J) 
   asks-extent v sel before (Clear src) kind beyond so asks suits = absurd asks
 
   extent-kind : (v sel : ℕ) (k : KeyName) (c : Capability) → SESSION < sel → IsHeldAt v sel k c → object_kind c.object ≡ MemKind
-  extent-kind v sel k c beyond x = x.kind ∙ asks-extent v sel (take x.index (calls_of T v)) x.call k.kind beyond (S.calls v x.index x.call x.at_index) x.asks x.suits
+  extent-kind v sel k c beyond x = x.kind
+      ∙ asks-extent v sel (take x.index (calls_of T v)) x.call k.kind beyond (S.calls v x.index x.call x.at_index) x.asks x.suits
 
   -- an access of a client
-  access-passes : (right v ep off len : ℕ) (c : Call) → is_subset right RIGHTS ≡ true → next_call T (home T W v) v ≡ Some c → IsAccess (calls_made T W v) ep off len
+  access-passes : (right v ep off len : ℕ) (c : Call) → is_subset right RIGHTS ≡ true → next_call T (home T W v) v ≡ Some c →
+      IsAccess (calls_made T W v) ep off len
       → ◌≡◌ {A = Option Code} (first_code (memory_tests right off len (endpoint (home T W v) v ep))) None
   access-passes right v ep off len c may next so =
       ap (λ n. first_code (memory_tests right off len (endpoint (home T W v) v n))) so.0
@@ -281,7 +287,8 @@ module _ (T : Setup) (S : IsService T) (J : List Entry) (runs : IsSchedule T J) 
       d = calls-decl T v (row (home T W v) v).next_call c next
 
       client : v ≡ SERVER → ⊥
-      client same = let no' : ◌≡◌ {A = Option Call} None (Some c) = sym (ap (λ cs. slice_get cs (row (home T W v) v).next_call) (ap (calls_of T) same ∙ S.rests))
+      client same = let no' : ◌≡◌ {A = Option Call} None (Some c) = sym (ap (λ cs. slice_get cs (row (home T W v) v).next_call) (ap (calls_of T) same
+          ∙ S.rests))
           ∙ next in absurd cc
 
       b : IsBinding T J v so.2.selector
@@ -308,6 +315,8 @@ module _ (T : Setup) (S : IsService T) (J : List Entry) (runs : IsSchedule T J) 
         let x = held-at v SESSION k c (omega arith) at given held in
         session-so c.object (x.kind ∙ asks-session v (take x.index (calls_of T v)) x.call k.kind (S.calls v x.index x.call x.at_index) x.asks x.suits) x.all;
     extents = λ v sel k c beyond near at given held. memory-given c.object (extent-kind v sel k c beyond (held-at v sel k c near at given held));
-    reads = λ v ep off len next. access-passes 1 v ep off len (ReadCall ep off len) refl next (S.calls v (row (home T W v) v).next_call (ReadCall ep off len) next);
-    writes = λ v ep off len next. access-passes 2 v ep off len (WriteCall ep off len) refl next (S.calls v (row (home T W v) v).next_call (WriteCall ep off len) next);
+    reads = λ v ep off len next. access-passes 1 v ep off len (ReadCall ep off len) refl next
+        (S.calls v (row (home T W v) v).next_call (ReadCall ep off len) next);
+    writes = λ v ep off len next. access-passes 2 v ep off len (WriteCall ep off len) refl next
+        (S.calls v (row (home T W v) v).next_call (WriteCall ep off len) next);
   }

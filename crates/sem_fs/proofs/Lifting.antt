@@ -1,5 +1,6 @@
 -- What is so of each side and of each message in a link is so after an event, if the step keeps it of its side.
-use Rattle.std.proofs.Common.{◌≡◌, ℕ, zero, suc, ◌+◌, List, [], ◌∷◌, ◌++◌, drop, get_or, map, replicate, Option, Some, None, slice_get, refl, sym, ap, ◌∙◌, subst, inl, inr}
+use Rattle.std.proofs.Common.{◌≡◌, ℕ, zero, suc, ◌+◌, List, [], ◌∷◌, ◌++◌, drop, get_or, map, replicate, Option, Some, None, slice_get, refl, sym, ap, ◌∙◌}
+use Rattle.std.proofs.Common.{subst, inl, inr}
 use Rattle.std.specs.List.{Contains, range_with_len}
 use Rattle.std.specs.Option.{option_map_or}
 use Rattle.std.proofs.lemmas.Bool.{cases_eq}
@@ -49,14 +50,16 @@ module _ (P : Side → Type 0) (Q : Message → Type 0) where
           | inl at ↦ subst (λ k. AreSent (get_or line k [])) (sym at) (subst AreSent (sym (get_or-put_same [] (get_or V.links i []) j ms)) new)
           | inr other ↦ subst AreSent (sym (get_or-put_other [] (get_or V.links i []) j b ms other)) (old i b)
         ])
-    | inr other ↦ subst (λ (ls : List (List Message)). AreSent (get_or ls b [])) (sym (get_or-put_other [] V.links i a (put [] (get_or V.links i []) j ms) other))
+    | inr other ↦ subst (λ (ls : List (List Message)). AreSent (get_or ls b []))
+        (sym (get_or-put_other [] V.links i a (put [] (get_or V.links i []) j ms) other))
         (old a b)
   ]
 
   moved-links : (W : World) → IsSpread W → (i : ℕ) (x : Side) (act : Act) → ((j : ℕ) → AreSent (outbox (side W i) j)) → (a b : ℕ)
       → AreSent (link (link_moved i (side W i) act (with_side i x W)) a b)
   moved-links W is i x (Calls v) outs a b = is.links a b
-  moved-links W is i x (Fetch j) outs a b = link-put (with_side i x W) j i (drop 1 (link W j i)) (λ q later. is.links j i q (later-among (link W j i) q later)) is.links
+  moved-links W is i x (Fetch j) outs a b = link-put (with_side i x W) j i (drop 1 (link W j i)) (λ q later. is.links j i q (later-among (link W j i) q later))
+      is.links
       a b
   moved-links W is i x Handle outs a b = is.links a b
   moved-links W is i x (Upcall v) outs a b = is.links a b

@@ -1,6 +1,7 @@
 -- Measures of commands: each number of a client is given under once, so its selectors are given to once; and files are opened a
 -- thousand times at most.
-use Rattle.std.proofs.Common.{◌≡◌, ◌⊎◌, ℕ, suc, ◌+◌, ◌-◌, ◌*◌, ◌/◌, ◌<◌, ◌≤◌, ◌++◌, Bool, true, false, List, [], ◌∷◌, map, filter, length, length-append, nat_lt, refl, sym, ap, ◌∙◌, subst, inl, inr, arith, append_assoc, append-nil, eq-eqb}
+use Rattle.std.proofs.Common.{◌≡◌, ◌⊎◌, ℕ, suc, ◌+◌, ◌-◌, ◌*◌, ◌/◌, ◌<◌, ◌≤◌, ◌++◌, Bool, true, false, List, [], ◌∷◌, map, filter, length, length-append}
+use Rattle.std.proofs.Common.{nat_lt, refl, sym, ap, ◌∙◌, subst, inl, inr, arith, append_assoc, append-nil, eq-eqb}
 use Rattle.std.specs.Prelude.{◌==◌, ◌&&◌, ◌||◌, if◌then◌else◌}
 use Rattle.std.specs.List.{AllPairs, Contains, flat_map, sum_by}
 use Rattle.std.proofs.lemmas.Bool.{cases_eq, cond-true, cond-false, cond_both, eqb-true, ne_eqb}
@@ -15,7 +16,8 @@ use Rattle.sem_files.specs.declared.files.FileAct.{FileAct}
 use Rattle.sem_files.specs.declared.files.FileAct.TheVariants.{OpenFile, Read, Write, Share, Close}
 use Rattle.sem_files.specs.declared.files.Command.{Command}
 use Rattle.sem_files.specs.Files.{Files, EXTENT, is_client, extents_of, file_of, is_opening, open_count, gives, is_used, IsAct, IsCommand}
-use Rattle.sem_files.specs.Compiled.{SERVER, SESSION, ACCESS, extent_number, opened_at, given_at, part_begin, part_end, part_accessed, below, calls_of_act, calls_of_command, AreFiles}
+use Rattle.sem_files.specs.Compiled.{SERVER, SESSION, ACCESS, extent_number, opened_at, given_at, part_begin, part_end, part_accessed, below, calls_of_act}
+use Rattle.sem_files.specs.Compiled.{calls_of_command, AreFiles}
 use Rattle.sem_fs.specs.Service.{GIVEN, gives_where, is_ask, any}
 use Rattle.sem_fs.proofs.Rising.{Less, pairs-head, pairs-tail, in-range, range-in, range-rises, few-extents, declared-client}
 use Rattle.sem_fs.proofs.Tallies.{tally, tally-append, tally-cons, tally-none, tally-most, sum-none}
@@ -32,7 +34,8 @@ flag : Bool → ℕ → ℕ
 flag b n = if b then n else 0
 
 -- no other act gives
-accesses-give : (access : ℕ → ℕ → Call) (w : ℕ) (such : ℕ → Bool) → ((off len : ℕ) → gives_where w such (access off len) ≡ false) → (h off len : ℕ) (xs : List ℕ)
+accesses-give : (access : ℕ → ℕ → Call) (w : ℕ) (such : ℕ → Bool) → ((off len : ℕ) → gives_where w such (access off len) ≡ false) →
+    (h off len : ℕ) (xs : List ℕ)
     → tally (gives_where w such) (flat_map (part_accessed access h off len) xs) ≡ 0
 accesses-give access w such none h off len [] = refl
 accesses-give access w such none h off len (x ∷ xs) =
@@ -49,7 +52,8 @@ accesses-give access w such none h off len (x ∷ xs) =
     one : (c : Call) → gives_where w such c ≡ false → tally (gives_where w such) (Bind ACCESS (opened_at h x) ∷ c ∷ []) ≡ 0
     one c none' = ap length (cond-false (gives_where w such c) (c ∷ []) [] none')
 
-asks-give : (w : ℕ) (such : ℕ → Bool) (h f : ℕ) (xs : List ℕ) → tally (gives_where w such) (map (λ i. AskOffer (opened_at h i) SESSION (extent_number f i)) xs) ≡ 0
+asks-give : (w : ℕ) (such : ℕ → Bool) (h f : ℕ) (xs : List ℕ) → tally (gives_where w such) (map (λ i. AskOffer (opened_at h i) SESSION (extent_number f i)) xs)
+    ≡ 0
 asks-give w such h f [] = refl
 asks-give w such h f (x ∷ xs) = asks-give w such h f xs
 
@@ -68,7 +72,8 @@ shares-away w such h to g xs other = tally-none (gives_where w such) (shares h t
     subst (λ x. gives_where w such x ≡ false) o.2 (ap (λ b. b && such (given_at g o.0)) (ne_eqb to w other)))
 
 -- to other selectors
-shares-apart : (w dst h to g : ℕ) (xs : List ℕ) → ((i : ℕ) → Contains xs i → given_at g i ≡ dst → ⊥) → tally (gives_where w (λ sel. sel == dst)) (shares h to g xs) ≡ 0
+shares-apart : (w dst h to g : ℕ) (xs : List ℕ) → ((i : ℕ) → Contains xs i → given_at g i ≡ dst → ⊥) →
+    tally (gives_where w (λ sel. sel == dst)) (shares h to g xs) ≡ 0
 shares-apart w dst h to g xs apart = tally-none (gives_where w (λ sel. sel == dst)) (shares h to g xs) (λ c among.
     let o = Contains-from_map (λ i. Delegate (opened_at h i) to (given_at g i)) xs c among in
     subst (λ x. gives_where w (λ sel. sel == dst) x ≡ false) o.2 (both (to == w) (given_at g o.0 == dst) (ne_eqb (given_at g o.0) dst (apart o.0 o.1))))
@@ -118,7 +123,8 @@ shares-few w such h to g n =
 
 module _ (F : Files) (AF : AreFiles F) where
   -- What an act gives: only a share to that client.
-  act-gives : (w : ℕ) (such : ℕ → Bool) (n : ℕ) (act : FileAct) → (tally (gives_where w such) (calls_of_act n act) ≡ 0) ⊎ ((h : ℕ) × (g : ℕ) × (act ≡ Share h w g))
+  act-gives : (w : ℕ) (such : ℕ → Bool) (n : ℕ) (act : FileAct) → (tally (gives_where w such) (calls_of_act n act) ≡ 0)
+      ⊎ ((h : ℕ) × (g : ℕ) × (act ≡ Share h w g))
   act-gives w such n (OpenFile handle file) = inl (asks-give w such handle file (below n))
   act-gives w such n (Read handle off len) = inl (accesses-give (ReadCall ACCESS) w such (λ a b. refl) handle off len (below n))
   act-gives w such n (Write handle off len) = inl (accesses-give (WriteCall ACCESS) w such (λ a b. refl) handle off len (below n))
@@ -224,7 +230,8 @@ module _ (F : Files) (AF : AreFiles F) where
         bounded (x ∷ xs) =
             let a = sum_by-cons (four before) x xs in
             let rest = bounded xs in
-            cond_both (is_used before w x) 4 0 (λ m. sum_by (four before) (x ∷ xs) ≡ m + sum_by (four before) xs → sum_by (four before) (x ∷ xs) ≤ 4 * suc (length xs))
+            cond_both (is_used before w x) 4 0 (λ m. sum_by (four before) (x ∷ xs) ≡ m + sum_by (four before) xs →
+            sum_by (four before) (x ∷ xs) ≤ 4 * suc (length xs))
             (λ _ is. omega (arith, is, rest)) (λ _ is. omega (arith, is, rest)) a
 
     four-grows : (before : List Command) (c : Command) (g : ℕ) → four before g ≤ four (before ++ c ∷ []) g
@@ -290,10 +297,12 @@ module _ (F : Files) (AF : AreFiles F) where
     unfolding opened
     opened-is before = refl
 
-    count-more : (before : List Command) (c : Command) → open_count (before ++ c ∷ []) w ≡ open_count before w + (if (c.client == w) && is_opening c.act then 1 else 0)
+    count-more : (before : List Command) (c : Command) →
+        open_count (before ++ c ∷ []) w ≡ open_count before w + (if (c.client == w) && is_opening c.act then 1 else 0)
     count-more before c =
         ap length (filter-append (λ (x : Command). (x.client == w) && is_opening x.act) before (c ∷ []))
-        ∙ (length-append (filter (λ (x : Command). (x.client == w) && is_opening x.act) before) (filter (λ (x : Command). (x.client == w) && is_opening x.act) (c ∷ []))
+        ∙ (length-append (filter (λ (x : Command). (x.client == w) && is_opening x.act) before)
+        (filter (λ (x : Command). (x.client == w) && is_opening x.act) (c ∷ []))
         ∙ ap (λ m. open_count before w + m) (one ((c.client == w) && is_opening c.act)))
       where
         one : (b : Bool) → length (if b then c ∷ [] else []) ≡ (if b then 1 else 0)

@@ -79,7 +79,11 @@ unfolding one_client calls_from
 files-of-one = record {
   some_kernel = omega arith;
   few_kernels = omega arith;
-  files = All-cons (λ (d : FileDecl). (d.file ≤ 15) × (1 ≤ d.extents) × (d.extents ≤ 4)) (record { file = 0; extents = 2 }) [] (omega arith, omega arith, omega arith)
+  files = All-cons (λ (d : FileDecl). (d.file ≤ 15) × (1 ≤ d.extents) × (d.extents ≤ 4)) (record { file = 0; extents = 2 }) [] (
+    omega arith,
+    omega arith,
+    omega arith,
+  )
       (All-nil (λ (d : FileDecl). (d.file ≤ 15) × (1 ≤ d.extents) × (d.extents ≤ 4)));
   files_differ = λ i j d less within. absurd (omega (arith, less, within));
   clients = All-cons (λ v. (1 ≤ v) × (v ≤ 63)) 1 [] (omega arith, omega arith) (All-nil (λ v. (1 ≤ v) × (v ≤ 63)));

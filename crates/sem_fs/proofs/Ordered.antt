@@ -1,5 +1,6 @@
 -- The calls of each client are in order: what it holds behind them is what its commands have opened.
-use Rattle.std.proofs.Common.{◌≡◌, ℕ, ◌+◌, ◌<◌, ◌≤◌, ◌++◌, Bool, true, false, List, [], ◌∷◌, map, take, slice_get, nat_lt, Option, Some, None, refl, sym, ap, ◌∙◌, subst, inl, inr, arith, append_assoc, append-nil, eq-eqb}
+use Rattle.std.proofs.Common.{◌≡◌, ℕ, ◌+◌, ◌<◌, ◌≤◌, ◌++◌, Bool, true, false, List, [], ◌∷◌, map, take, slice_get, nat_lt, Option, Some, None, refl, sym, ap}
+use Rattle.std.proofs.Common.{◌∙◌, subst, inl, inr, arith, append_assoc, append-nil, eq-eqb}
 use Rattle.std.specs.Prelude.{◌==◌, ◌&&◌, if◌then◌else◌, fold, unwrap_or}
 use Rattle.std.specs.List.{All, Contains, flat_map, list_any}
 use Rattle.std.proofs.lemmas.Bool.{cases_Bool, cases_lt, cond-true, cond-false, cond_both, eqb-true, ne_eqb, true≢false, lt-ltb, le-ltb}
@@ -13,10 +14,12 @@ use Rattle.sem_files.specs.declared.files.FileAct.{FileAct}
 use Rattle.sem_files.specs.declared.files.FileAct.TheVariants.{OpenFile, Read, Write, Share, Close}
 use Rattle.sem_files.specs.declared.files.Command.{Command}
 use Rattle.sem_files.specs.Files.{Files, EXTENT, is_file, extents_of, handle_of, open_after, is_about, open_file, file_of, IsHandle, IsAct, IsCommand}
-use Rattle.sem_files.specs.Compiled.{SESSION, ACCESS, opened_at, given_at, part_accessed, below, calls_of_act, calls_of_command, calls_from, client_calls, compiled, AreFiles}
+use Rattle.sem_files.specs.Compiled.{SESSION, ACCESS, opened_at, given_at, part_accessed, below, calls_of_act, calls_of_command, calls_from, client_calls}
+use Rattle.sem_files.specs.Compiled.{compiled, AreFiles}
 use Rattle.sem_fs.specs.Service.{holds, holds_after, IsInOrder}
 use Rattle.sem_fs.proofs.Rising.{in-range, range-in, range-rises, few-extents, file-near}
-use Rattle.sem_fs.proofs.Commanding.{Goes, AllGo, go-nil, go-cons, go-append, each-goes, all-valid, holds-append, holds-quiet, IsQuiet, asks, revokes, asks-apart, asks-hold, revokes-apart, revokes-free, asks-go, revokes-go, shares-go, accesses-go, accesses-quiet}
+use Rattle.sem_fs.proofs.Commanding.{Goes, AllGo, go-nil, go-cons, go-append, each-goes, all-valid, holds-append, holds-quiet, IsQuiet, asks, revokes}
+use Rattle.sem_fs.proofs.Commanding.{asks-apart, asks-hold, revokes-apart, revokes-free, asks-go, revokes-go, shares-go, accesses-go, accesses-quiet}
 
 -- whether extent i of what a handle is open on is there
 abbrev pub opened_in : Files → Option ℕ → ℕ → Bool
@@ -46,7 +49,8 @@ module _ (F : Files) (AF : AreFiles F) (v : ℕ) where
     past-session a i same = omega (arith, same)
 
     -- the extents of an open handle are held
-    held-extents : (h f : ℕ) → h ≤ 15 → open_file before v h ≡ Some f → (i : ℕ) → Contains (below (extents_of F f)) i → (i < 4) × (holds made (opened_at h i) ≡ true)
+    held-extents : (h f : ℕ) → h ≤ 15 → open_file before v h ≡ Some f → (i : ℕ) → Contains (below (extents_of F f)) i →
+        (i < 4) × (holds made (opened_at h i) ≡ true)
     held-extents h f low open_ i among =
         let near = (in-range 0 (extents_of F f) i among).1 in
         let few = few-extents F AF f in
@@ -61,7 +65,8 @@ module _ (F : Files) (AF : AreFiles F) (v : ℕ) where
         (if handle_of act == h then open_after (open_file before v h) act else open_file before v h) i)
 
     -- an act that leaves what is open
-    quiet-holds : (act : FileAct) (cs : List Call) → ((o : Option ℕ) → open_after o act ≡ o) → ((sel : ℕ) → holds (made ++ cs) sel ≡ holds made sel) → Holds' act cs
+    quiet-holds : (act : FileAct) (cs : List Call) → ((o : Option ℕ) → open_after o act ≡ o) → ((sel : ℕ) → holds (made ++ cs) sel ≡ holds made sel) →
+        Holds' act cs
     quiet-holds act cs stays same = (
       same SESSION ∙ S.session,
       λ h i low few. same (opened_at h i)
@@ -95,7 +100,8 @@ module _ (F : Files) (AF : AreFiles F) (v : ℕ) where
         (λ sel b. refl) (gives-quiet h to g xs)
 
     -- an opening
-    opens : (handle file : ℕ) → handle ≤ 15 → is_file F file ≡ true → open_file before v handle ≡ None → AllGo T v made (asks handle file (below (extents_of F file)))
+    opens : (handle file : ℕ) → handle ≤ 15 → is_file F file ≡ true → open_file before v handle ≡ None →
+        AllGo T v made (asks handle file (below (extents_of F file)))
         × Holds' (OpenFile handle file) (asks handle file (below (extents_of F file)))
     opens handle file low is none = (
       asks-go F AF v handle low file is (file-near F AF file is) xs (range-rises 0 (extents_of F file)) made S.session
@@ -119,7 +125,8 @@ module _ (F : Files) (AF : AreFiles F) (v : ℕ) where
         xs = below (extents_of F file)
 
         numbers : (i : ℕ) → Contains (below (extents_of F file)) i → (i < extents_of F file) × (i < 4)
-        numbers i among = let near = (in-range 0 (extents_of F file) i among).1 in let few = few-extents F AF file in (omega (arith, near), omega (arith, near, few))
+        numbers i among = let near = (in-range 0 (extents_of F file) i among).1 in let few = few-extents F AF file in
+            (omega (arith, near), omega (arith, near, few))
 
         at-handle : (h i : ℕ) → h ≤ 15 → i < 4 → handle ≡ h → fold (holds_after (opened_at h i)) (holds made (opened_at h i))
             (asks handle file (below (extents_of F file))) ≡ nat_lt i (extents_of F file)
@@ -141,7 +148,8 @@ module _ (F : Files) (AF : AreFiles F) (v : ℕ) where
     closes handle f low open_ = (
       revokes-go F AF v handle low xs (range-rises 0 (extents_of F f)) made (held-extents handle f low open_),
       (
-        holds-append made (revokes handle xs) SESSION ∙ (revokes-apart handle xs SESSION (holds made SESSION) (λ i among same. past-session handle i same) ∙ S.session),
+        holds-append made (revokes handle xs) SESSION ∙ (revokes-apart handle xs SESSION (holds made SESSION) (λ i among same. past-session handle i same)
+            ∙ S.session),
         λ h i near few. holds-append made (revokes handle xs) (opened_at h i) ∙ elim (cases_Bool (handle == h)) [
           | inl same ↦
               let one : handle ≡ h = eqb-true handle h same in
@@ -160,7 +168,8 @@ module _ (F : Files) (AF : AreFiles F) (v : ℕ) where
         numbers : (i : ℕ) → Contains (below (extents_of F f)) i → (i < extents_of F f) × (i < 4)
         numbers i among = let near = (in-range 0 (extents_of F f) i among).1 in let few = few-extents F AF f in (omega (arith, near), omega (arith, near, few))
 
-        at-handle : (h i : ℕ) → h ≤ 15 → i < 4 → handle ≡ h → fold (holds_after (opened_at h i)) (holds made (opened_at h i)) (revokes handle (below (extents_of F f)))
+        at-handle : (h i : ℕ) → h ≤ 15 → i < 4 → handle ≡ h →
+            fold (holds_after (opened_at h i)) (holds made (opened_at h i)) (revokes handle (below (extents_of F f)))
             ≡ false
         at-handle h i near few one = elim (cases_lt i (extents_of F f)) [
           | inl less ↦ subst (λ a. fold (holds_after (opened_at a i)) (holds made (opened_at a i)) (revokes handle xs) ≡ false) one
@@ -195,7 +204,8 @@ module _ (F : Files) (AF : AreFiles F) (v : ℕ) where
     act-fine (Write handle off len) low is =
         let f : ℕ = is.0 in
         by-file (Write handle off len) f (ap (λ o. unwrap_or o 0) is.1) (
-          accesses-go F AF v handle low (WriteCall ACCESS) (writes-quiet ACCESS) write-goes off len (below (extents_of F f)) made (held-extents handle f low is.1),
+          accesses-go F AF v handle low (WriteCall ACCESS) (writes-quiet ACCESS) write-goes off len (below (extents_of F f)) made
+              (held-extents handle f low is.1),
           quiet-holds (Write handle off len) (flat_map (part_accessed (WriteCall ACCESS) handle off len) (below (extents_of F f))) (λ o. refl)
               (accesses-quiet F AF v handle low (WriteCall ACCESS) (writes-quiet ACCESS) write-goes off len made (below (extents_of F f))),
         )
@@ -220,7 +230,8 @@ module _ (F : Files) (AF : AreFiles F) (v : ℕ) where
     | inl mine ↦
         let me : c.client ≡ v = eqb-true c.client v mine in
         let act : IsAct F before v c.act = subst (λ w. IsAct F before w c.act) me is.act in
-        let calls : these before c ≡ calls_of_act (extents_of F (file_of before v c.act)) c.act = cond-true (c.client == v) (calls_of_command F before c) [] mine
+        let calls : these before c ≡ calls_of_act (extents_of F (file_of before v c.act)) c.act =
+        cond-true (c.client == v) (calls_of_command F before c) [] mine
         ∙ ap (λ w. calls_of_act (extents_of F (file_of before w c.act)) c.act) me in
         let fine = act-fine before made S c.act is.handle act in (
           subst (AllGo T v made) (sym calls) fine.0,
@@ -230,7 +241,8 @@ module _ (F : Files) (AF : AreFiles F) (v : ℕ) where
                 ap (λ cs. holds (made ++ cs) (opened_at h i)) calls
                 ∙ (fine.1.1 h i low few
                 ∙ ap (λ o. opened_in F o i)
-                (sym (one-more before c h ∙ ap (λ b. if b && (handle_of c.act == h) then open_after (open_file before v h) c.act else open_file before v h) mine)));
+                (sym (one-more before c h
+                ∙ ap (λ b. if b && (handle_of c.act == h) then open_after (open_file before v h) c.act else open_file before v h) mine)));
           },
         )
     | inr other ↦
@@ -249,7 +261,8 @@ module _ (F : Files) (AF : AreFiles F) (v : ℕ) where
         )
   ]
 
-  all-from : (before later : List Command) (made : List Call) → F.commands ≡ before ++ later → Stands F v before made → AllGo T v made (calls_from F v before later)
+  all-from : (before later : List Command) (made : List Call) → F.commands ≡ before ++ later → Stands F v before made →
+      AllGo T v made (calls_from F v before later)
   unfolding calls_from
   all-from before [] made parts S = go-nil T v made
   all-from before (c ∷ cs) made parts S =

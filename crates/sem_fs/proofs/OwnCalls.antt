@@ -10,7 +10,8 @@ use Rattle.sem_key.specs.Lists.{put}
 use Rattle.sem_key.specs.Capability.{Capability}
 use Rattle.sem_key.proofs.Puts.{get_or-put_same}
 use Rattle.sem_msg.specs.declared.call.Call.{Call}
-use Rattle.sem_msg.specs.declared.call.Call.TheVariants.{Derive, Gate, Obtain, Delegate, OpenSession, AskOffer, Revoke, Bind, Read as ReadCall, Write as WriteCall, Send as SendCall, Credit, Exit, Clear}
+use Rattle.sem_msg.specs.declared.call.Call.TheVariants.{Derive, Gate, Obtain, Delegate, OpenSession, AskOffer, Revoke, Bind, Read as ReadCall}
+use Rattle.sem_msg.specs.declared.call.Call.TheVariants.{Write as WriteCall, Send as SendCall, Credit, Exit, Clear}
 use Rattle.sem_msg.specs.declared.code.Code.TheVariants.{Ok as OkCode, NoService, BadKind}
 use Rattle.sem_msg.specs.declared.message.Message.TheVariants.{ObtainReq, DelegateReq}
 use Rattle.sem_msg.specs.declared.message.Target.{Target}
@@ -113,7 +114,8 @@ module _ (T : Setup) (i v : ℕ) (s : Side) (sound : IsSound T i s) (none : park
       all : As (Some (DelegateWait p.key)) (offer_made T i v w dst p (call_counted v s)).side
       all = cond_both (kernel_of T w == i) _ _ (As (Some (DelegateWait p.key)))
           (λ _. still-asked v (Some (DelegateWait p.key)) n (parked_as v (DelegateWait p.key) (call_counted v s)) waiting w (DelegateAsk p.key p.object dst))
-          (λ _. still-send v (Some (DelegateWait p.key)) n (kernel_of T w) (DelegateReq p.key p.object w dst) (parked_as v (DelegateWait p.key) (call_counted v s))
+          (λ _. still-send v (Some (DelegateWait p.key)) n (kernel_of T w) (DelegateReq p.key p.object w dst)
+          (parked_as v (DelegateWait p.key) (call_counted v s))
           waiting)
 
   revoke-goes : (src : ℕ) (k : KeyName) (m : Option ℕ) → ((row (revoke_begun T i v k m counted) v).next_call ≡ n)
@@ -141,7 +143,8 @@ module _ (T : Setup) (i v : ℕ) (s : Side) (sound : IsSound T i s) (none : park
       let f : KeyName → Step = λ k. ask_made T i v dst (OfferTarget k index) counted in
       let one = passed-done (offer_tests T i counted v dst session) (λ code. answer code counted)
       (option_map_or f (option_and_then (λ (y : Capability). session_service y.object) (own counted v session)) (answer BadKind counted)) passed in
-      let two : option_map_or f (option_and_then (λ (y : Capability). session_service y.object) (own counted v session)) (answer BadKind counted) ≡ f service_key =
+      let two : option_map_or f (option_and_then (λ (y : Capability). session_service y.object) (own counted v session)) (answer BadKind counted)
+      ≡ f service_key =
       ap (λ o. option_map_or f (option_and_then (λ (y : Capability). session_service y.object) o) (answer BadKind counted)) held
       ∙ ap (λ o. option_map_or f o (answer BadKind counted)) serves in
       subst (Goes (AskOffer dst session index)) (sym (one ∙ two)) (ask-goes dst (OfferTarget service_key index))

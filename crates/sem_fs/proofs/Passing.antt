@@ -1,5 +1,6 @@
 -- The tests of each event pass, where clients hold what they asked for, the server has what it serves, and nothing runs out.
-use Rattle.std.proofs.Common.{◌≡◌, ℕ, ◌+◌, ◌<◌, Bool, true, false, not, List, [], ◌∷◌, get_or, nat_le, Option, Some, None, is_some, is_none, refl, sym, ap, ◌∙◌, subst, inl, inr, arith}
+use Rattle.std.proofs.Common.{◌≡◌, ℕ, ◌+◌, ◌<◌, Bool, true, false, not, List, [], ◌∷◌, get_or, nat_le, Option, Some, None, is_some, is_none, refl, sym, ap, ◌∙◌}
+use Rattle.std.proofs.Common.{subst, inl, inr, arith}
 use Rattle.std.specs.Prelude.{◌==◌, ◌&&◌}
 use Rattle.std.specs.Option.{option_map_or, IsSome}
 use Rattle.std.proofs.lemmas.Bool.{cases_Bool, cases_eq, true≢false, eqb-true, ne_eqb, false_from_ne_true, leb-true}
@@ -12,7 +13,8 @@ use Rattle.sem_key.specs.Capability.{Capability}
 use Rattle.sem_key.proofs.Members.{list_any-some, not_found}
 use Rattle.sem_key.proofs.Puts.{get_or-put_same, get_or-put_other}
 use Rattle.sem_msg.specs.declared.call.Call.{Call}
-use Rattle.sem_msg.specs.declared.call.Call.TheVariants.{Derive, Gate, Obtain, Delegate, OpenSession, AskOffer, Revoke, Bind, Read as ReadCall, Write as WriteCall, Send as SendCall, Credit, Exit, Clear}
+use Rattle.sem_msg.specs.declared.call.Call.TheVariants.{Derive, Gate, Obtain, Delegate, OpenSession, AskOffer, Revoke, Bind, Read as ReadCall}
+use Rattle.sem_msg.specs.declared.call.Call.TheVariants.{Write as WriteCall, Send as SendCall, Credit, Exit, Clear}
 use Rattle.sem_msg.specs.declared.code.Code.{Code}
 use Rattle.sem_msg.specs.declared.entry.Entry.{Entry}
 use Rattle.sem_msg.specs.declared.setup.Service.{Service}
@@ -163,7 +165,8 @@ module _ (T : Setup) (S : IsService T) (J : List Entry) (runs : IsSchedule T J) 
       room-passed dst near none less = (
         ap is_taken (counted-slot s v dst ∙ free-at dst near none),
         (
-          false_from_ne_true (nat_le NUMBERS (row t v).next_number) (λ is. let le = leb-true NUMBERS (row t v).next_number is in let same = counted-number s v in
+          false_from_ne_true (nat_le NUMBERS (row t v).next_number) (λ is. let le = leb-true NUMBERS (row t v).next_number is in
+              let same = counted-number s v in
               omega (arith, le, same, less)),
           tt,
         ),
@@ -186,7 +189,8 @@ module _ (T : Setup) (S : IsService T) (J : List Entry) (runs : IsSchedule T J) 
               ∙ (ap (λ o. option_map_or (λ (k : KeyName). is_local_dead T i t k.vpe) o false) serves ∙ alive-so SERVER S.server S.declared)
 
           bindable : (sel : ℕ) → SESSION < sel → sel < GIVEN → (h : Has sel) → object_passes stays_at_home (own t v sel) ≡ false
-          bindable sel beyond near h = ap (object_passes stays_at_home) (own-at sel h) ∙ X.objects.extents v sel h.key h.capability beyond near h.at_slot h.given h.held
+          bindable sel beyond near h = ap (object_passes stays_at_home) (own-at sel h)
+              ∙ X.objects.extents v sel h.key h.capability beyond near h.at_slot h.given h.held
 
           by_call : (c : Call) → next_call T s v ≡ Some c → IsInOrder T v (calls_made T W v) c → CallPasses T i t v c
           by_call (OpenSession dst name) next (session, named, none) =

@@ -1,5 +1,6 @@
 -- What is held, promised and called, on a sound side and on lists.
-use Rattle.std.proofs.Common.{◌≡◌, ℕ, suc, ◌+◌, ◌≤◌, ◌++◌, Bool, true, false, List, [], ◌∷◌, fold, get_or, nat_lt, take, slice_get, Some, refl, ap, ◌∙◌, arith, eq-eqb}
+use Rattle.std.proofs.Common.{◌≡◌, ℕ, suc, ◌+◌, ◌≤◌, ◌++◌, Bool, true, false, List, [], ◌∷◌, fold, get_or, nat_lt, take, slice_get, Some, refl, ap, ◌∙◌, arith}
+use Rattle.std.proofs.Common.{eq-eqb}
 use Rattle.std.specs.Prelude.{◌==◌, ◌&&◌}
 use Rattle.std.specs.List.{Contains}
 use Rattle.std.proofs.lemmas.Bool.{ltb-true, false_from_ne_true}
@@ -29,7 +30,8 @@ comes-new T i s sound v k c held among same = record {
   pends = λ p pending here.
       let most = sound.numbers k.vpe k.number in
       let one = weigh-among (λ (x : Pending). bit ((x.key.vpe == k.vpe) && (x.key.number == k.number))) s.pendings p pending in
-      let is : bit ((p.key.vpe == k.vpe) && (p.key.number == k.number)) ≡ 1 = ap (λ (x : KeyName). bit ((x.vpe == k.vpe) && (x.number == k.number))) here ∙ itself in
+      let is : bit ((p.key.vpe == k.vpe) && (p.key.number == k.number)) ≡ 1 = ap (λ (x : KeyName). bit ((x.vpe == k.vpe) && (x.number == k.number))) here
+      ∙ itself in
       let two = weigh-among (λ (x : Capability). bit ((x.key.vpe == k.vpe) && (x.key.number == k.number))) s.caps c among in
       let few = at-most (nat_lt k.number (row s k.vpe).next_number) in
       omega (arith, most, one, is, two, mine, few);

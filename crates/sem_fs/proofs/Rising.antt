@@ -1,11 +1,13 @@
 -- Lists of numbers that rise: ranges, the declared clients, and the extents of all files.
-use Rattle.std.proofs.Common.{◌≡◌, ℕ, zero, suc, ◌+◌, ◌*◌, ◌<◌, ◌≤◌, ◌++◌, ◌==◌, true, List, [], ◌∷◌, map, length, get_or, find, Option, Some, None, refl, subst, inl, inr, arith}
+use Rattle.std.proofs.Common.{◌≡◌, ℕ, zero, suc, ◌+◌, ◌*◌, ◌<◌, ◌≤◌, ◌++◌, ◌==◌, true, List, [], ◌∷◌, map, length, get_or, find, Option, Some, None, refl}
+use Rattle.std.proofs.Common.{subst, inl, inr, arith}
 use Rattle.std.specs.List.{All, AllPairs, Contains, flat_map, range_with_len}
 use Rattle.std.specs.Option.{option_map_or}
 use Rattle.std.proofs.lemmas.Bool.{cases_eq, cases_lt, eqb-true}
 use Rattle.std.proofs.lemmas.List.Elements.{All-contains, Contains-append_cases}
 use Rattle.std.proofs.lemmas.List.Kept.{AllPairs-cons, AllPairs-filter}
-use Rattle.sem_key.proofs.Members.{Contains-nil, Contains-head, Contains-tail, Contains-cons_cases, Contains-filter, Contains-from_filter, Contains-map, Contains-from_map, Contains-flat_map, Contains-from_flat_map, found, list_any-some, AllPairs-map}
+use Rattle.sem_key.proofs.Members.{Contains-nil, Contains-head, Contains-tail, Contains-cons_cases, Contains-filter, Contains-from_filter, Contains-map}
+use Rattle.sem_key.proofs.Members.{Contains-from_map, Contains-flat_map, Contains-from_flat_map, found, list_any-some, AllPairs-map}
 use Rattle.sem_files.specs.declared.files.FileDecl.{FileDecl}
 use Rattle.sem_files.specs.Files.{Files, is_file, is_client, extents_of}
 use Rattle.sem_files.specs.Compiled.{extent_number, below, rising_files, rising_clients, extents, AreFiles}
@@ -93,7 +95,8 @@ module _ (F : Files) (AF : AreFiles F) where
       from : (o : Option FileDecl) → find (λ d. d.file == f) F.files ≡ o → option_map_or (λ (d : FileDecl). d.extents) o 0 ≤ 4
       from None none = omega arith
       from (Some d) some = let is : (d.file ≤ 15) × (1 ≤ d.extents) × (d.extents ≤ 4) =
-          All-contains (λ (d : FileDecl). (d.file ≤ 15) × (1 ≤ d.extents) × (d.extents ≤ 4)) F.files d AF.files (found (λ (d : FileDecl). d.file == f) F.files d some).0
+          All-contains (λ (d : FileDecl). (d.file ≤ 15) × (1 ≤ d.extents) × (d.extents ≤ 4)) F.files d AF.files
+          (found (λ (d : FileDecl). d.file == f) F.files d some).0
           in is.2
 
   pub file-near : (f : ℕ) → is_file F f ≡ true → f ≤ 15

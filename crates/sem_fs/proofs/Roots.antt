@@ -65,7 +65,8 @@ module _ (T : Setup) (S : IsService T) (J : List Entry) (runs : IsSchedule T J) 
             absurd cc
       ]
 
-      from : (o : Option Capability) → cap (side (start T) (kernel_of T SERVER)) k ≡ o → (c : Capability) × HoldsCap W (kernel_of T SERVER) k c × (c.mark ≡ None)
+      from : (o : Option Capability) → cap (side (start T) (kernel_of T SERVER)) k ≡ o → (c : Capability) × HoldsCap W (kernel_of T SERVER) k c
+          × (c.mark ≡ None)
       from None none = let no' = subst IsSome none at-start in absurd (true≢false (sym no'))
       from (Some c0) some = elim (held-lasts T S.setup J runs [] J (kernel_of T SERVER) k c0 refl some) [
         | inl (c, held) ↦ (c, held, unmarked c held c.mark refl)

@@ -24,11 +24,13 @@ unfolding three_clients calls_from extents compiled
 three-calls = refl
 
 pub one-run : run_of_one
-unfolding one_client calls_from extents compiled first_run put in_turn unless root_keys_from services_from grow closed_here finish opened ended call_row upcall_row
+unfolding one_client calls_from extents compiled first_run put in_turn unless root_keys_from services_from grow closed_here finish opened ended call_row
+    upcall_row
     handle_row resume_row start_side start local_step local_entry is_locally_enabled is_enabled enabled after entry_of line_in cut_from
 one-run = refl
 
 pub three-run : run_of_three
-unfolding three_clients calls_from extents compiled first_run put in_turn unless root_keys_from services_from grow closed_here finish opened ended call_row upcall_row
+unfolding three_clients calls_from extents compiled first_run put in_turn unless root_keys_from services_from grow closed_here finish opened ended call_row
+    upcall_row
     handle_row resume_row start_side start local_step local_entry is_locally_enabled is_enabled enabled after entry_of line_in cut_from
 three-run = refl

@@ -1,5 +1,6 @@
 -- Rows that are not refused leave no refusal, and reply with success.
-use Rattle.std.proofs.Common.{◌≡◌, ℕ, ◌+◌, ◌≤◌, Bool, true, false, not, List, [], ◌∷◌, ◌++◌, drop, length, get_or, nat_lt, Option, Some, None, refl, sym, ap, ◌∙◌, subst, inl, inr}
+use Rattle.std.proofs.Common.{◌≡◌, ℕ, ◌+◌, ◌≤◌, Bool, true, false, not, List, [], ◌∷◌, ◌++◌, drop, length, get_or, nat_lt, Option, Some, None, refl, sym, ap}
+use Rattle.std.proofs.Common.{◌∙◌, subst, inl, inr}
 use Rattle.std.specs.Prelude.{◌==◌, if◌then◌else◌}
 use Rattle.std.specs.List.{Contains}
 use Rattle.std.proofs.lemmas.Bool.{cases_eq, cond_both, true≢false}
@@ -14,7 +15,8 @@ use Rattle.sem_key.specs.CapList.{fresh}
 use Rattle.sem_key.proofs.Members.{Contains-nil, Contains-cons_cases, Contains-tail, Contains-from_filter}
 use Rattle.sem_key.proofs.Puts.{get_or-put_same, get_or-put_other}
 use Rattle.sem_msg.specs.declared.message.Message.{Message}
-use Rattle.sem_msg.specs.declared.message.Message.TheVariants.{ObtainReq, ObtainOk, ObtainNo, DelegateReq, DelegatePrepared, DelegateNo, Ack, Orphan, RevokeReq, RevokeDone, Unlink}
+use Rattle.sem_msg.specs.declared.message.Message.TheVariants.{ObtainReq, ObtainOk, ObtainNo, DelegateReq, DelegatePrepared, DelegateNo, Ack, Orphan, RevokeReq}
+use Rattle.sem_msg.specs.declared.message.Message.TheVariants.{RevokeDone, Unlink}
 use Rattle.sem_msg.specs.declared.message.Target.{Target}
 use Rattle.sem_msg.specs.declared.message.Target.TheVariants.{Sel as SelTarget, Serv as ServTarget, Offer as OfferTarget}
 use Rattle.sem_msg.specs.declared.state.Ask.{Ask}
@@ -28,7 +30,8 @@ use Rattle.sem_msg.specs.declared.limits.TheConstants.{ASKS}
 use Rattle.sem_msg.specs.Rows.{VpeRow, no_vpe}
 use Rattle.sem_msg.specs.Setup.{Setup}
 use Rattle.sem_msg.specs.Lookups.{kernel_of, owner_of, place_owner}
-use Rattle.sem_machine.specs.Sides.{Side, row, cap, parked, pending, outbox, is_alive, call_counted, drawn, promised, with_slot, parked_as, unparked, asked, ask_taken, linked, unlinked, cap_added, installed, pending_added, pending_removed, send}
+use Rattle.sem_machine.specs.Sides.{Side, row, cap, parked, pending, outbox, is_alive, call_counted, drawn, promised, with_slot, parked_as, unparked, asked}
+use Rattle.sem_machine.specs.Sides.{ask_taken, linked, unlinked, cap_added, installed, pending_added, pending_removed, send}
 use Rattle.sem_machine.specs.Asks.{target_vpe}
 use Rattle.sem_machine.specs.Steps.{Step}
 use Rattle.sem_machine.specs.Calls.{next_place, next_key, ask_made, offer_made}
@@ -103,7 +106,10 @@ module _ (T : Setup) (A : PlaceName → Target → Type 0) (serves : (place : Pl
   served-counted s is v = served-row s is v (record (row s v) { next_call = (row s v).next_call + 1 }) (is.asks v)
 
   pub served-asked : (s : Side) → P s → (v : ℕ) (a : Ask) → IsAskBy A v a → P (asked v a s)
-  served-asked s is v a so = served-row s is v (record (row s v) { asks = if nat_lt (length (row s v).asks) ASKS then (row s v).asks ++ a ∷ [] else (row s v).asks })
+  served-asked s is v a so = served-row s is v (record (row s v) {
+    asks = if nat_lt (length (row s v).asks) ASKS then (row s v).asks ++ a ∷ []
+        else (row s v).asks;
+  })
       (λ b. cond_both (nat_lt (length (row s v).asks) ASKS) ((row s v).asks ++ a ∷ []) (row s v).asks (λ xs. Contains xs b → IsAskBy A v b)
       (λ _ among. elim (Contains-append_cases (row s v).asks (a ∷ []) b among) [
         | inl before ↦ is.asks v b before
@@ -137,7 +143,8 @@ module _ (T : Setup) (A : PlaceName → Target → Type 0) (serves : (place : Pl
     pendings = is.pendings;
     outs = λ k q among. elim (cases_eq k j) [
       | inl same ↦
-          let at : get_or (put [] s.outs j (outbox s j ++ m ∷ [])) k [] ≡ outbox s j ++ m ∷ [] = ap (λ n. get_or (put [] s.outs j (outbox s j ++ m ∷ [])) n []) same
+          let at : get_or (put [] s.outs j (outbox s j ++ m ∷ [])) k [] ≡ outbox s j ++ m ∷ [] =
+          ap (λ n. get_or (put [] s.outs j (outbox s j ++ m ∷ [])) n []) same
           ∙ get_or-put_same [] s.outs j (outbox s j ++ m ∷ []) in
           elim (Contains-append_cases (outbox s j) (m ∷ []) q (subst (λ ms. Contains ms q) at among)) [
             | inl before ↦ is.outs j q before
@@ -149,7 +156,8 @@ module _ (T : Setup) (A : PlaceName → Target → Type 0) (serves : (place : Pl
   }
 
   pub served-installed : (s : Side) → P s → (k : KeyName) (parent : Option KeyName) (sel : ℕ) (object : Object) → P (installed k parent sel object s)
-  served-installed s is k parent sel object = served-slot (cap_added (fresh k parent sel object) s) (served-caps s (cap_added (fresh k parent sel object) s).caps is)
+  served-installed s is k parent sel object =
+      served-slot (cap_added (fresh k parent sel object) s) (served-caps s (cap_added (fresh k parent sel object) s).caps is)
       k.vpe sel (Held k)
 
   pub served-pending : (s : Side) → P s → (p : Pending) → GIVEN ≤ p.sel → P (pending_added p s)
@@ -231,7 +239,8 @@ module _ (T : Setup) (A : PlaceName → Target → Type 0) (serves : (place : Pl
   -- Consents.
 
   given_here-served : (k p : KeyName) (object : Object) (state : Option Parked) (s : Side) → P s → P (given_here k p object state s)
-  given_here-served k p object (Some (ObtainWait number sel)) s is = served-park (installed k (Some p) sel object s) (served-installed s is k (Some p) sel object) k.vpe
+  given_here-served k p object (Some (ObtainWait number sel)) s is =
+      served-park (installed k (Some p) sel object s) (served-installed s is k (Some p) sel object) k.vpe
       (Some (Ready 0)) refl
   given_here-served k p object None s is = is
   given_here-served k p object (Some (ObtainReady key parent object' sel)) s is = is
@@ -257,7 +266,8 @@ module _ (T : Setup) (A : PlaceName → Target → Type 0) (serves : (place : Pl
       let one : P linking = served-caps (drawn v s) linking.caps (served-drawn s is v) in
       served-park (installed k (Some parent) sel object linking) (served-installed linking one k (Some parent) sel object) parent.vpe (Some (Ready 0)) refl
 
-  pub prepared-served : (v : ℕ) (parent : KeyName) (object : Object) (sel : ℕ) (s : Side) → P s → GIVEN ≤ sel → P (delegate_prepared T v parent object sel s).side
+  pub prepared-served : (v : ℕ) (parent : KeyName) (object : Object) (sel : ℕ) (s : Side) → P s → GIVEN ≤ sel →
+      P (delegate_prepared T v parent object sel s).side
   prepared-served v parent object sel s is so =
       let k : KeyName = next_key T s v parent.kind in
       let promising : Side = promised v sel (drawn v s) in
@@ -281,7 +291,10 @@ module _ (T : Setup) (A : PlaceName → Target → Type 0) (serves : (place : Pl
       let done : Step = delegate_granted T parent key None s in
       let same : delegate_resumed T parent key (cap s parent) s ≡ done = ap (λ o. delegate_resumed T parent key o s) held
       ∙ ap (λ m. delegate_granted T parent key m s) unmarked in
-      subst Succeeds (sym same) (served-send (linked parent key s) (served-caps s (linked parent key s).caps is) (owner_of T key) (Ack key true) tt, zero-code T)
+      subst Succeeds (sym same) (
+        served-send (linked parent key s) (served-caps s (linked parent key s).caps is) (owner_of T key) (Ack key true) tt,
+        zero-code T,
+      )
   resumed-served (Some (RevokeWait j)) s is so may = (is, λ code none. absurd cc)
   resumed-served (Some (Ready number)) s is so may = (is, λ code same. sym (same_Some number code same) ∙ so)
 
@@ -340,5 +353,7 @@ module _ (T : Setup) (A : PlaceName → Target → Type 0) (serves : (place : Pl
   handle_row-served i s from (RevokeDone j) is so may = done-steady P served-steady T i j s is
   handle_row-served i s from (Unlink parent key) is so may = served-caps s (unlinked parent key s).caps is
 
-  pub handled-served : (i : ℕ) (s : Side) (from : ℕ) (m : Message) → P s → IsMessageBy T A m → (is_stray T i s m ≡ false → IsReceived T s m) → P (handled T i s from m)
-  handled-served i s from m is so may = cond_both (is_stray T i s m) s (handle_row T i s from m) P (λ _. is) (λ right. handle_row-served i s from m is so (may right))
+  pub handled-served : (i : ℕ) (s : Side) (from : ℕ) (m : Message) → P s → IsMessageBy T A m → (is_stray T i s m ≡ false → IsReceived T s m) →
+      P (handled T i s from m)
+  handled-served i s from m is so may =
+      cond_both (is_stray T i s m) s (handle_row T i s from m) P (λ _. is) (λ right. handle_row-served i s from m is so (may right))

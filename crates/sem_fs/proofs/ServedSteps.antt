@@ -1,5 +1,6 @@
 -- A step whose tests pass leaves no refusal, and replies with success.
-use Rattle.std.proofs.Common.{◌≡◌, ℕ, ◌≤◌, Bool, true, false, List, [], ◌∷◌, ◌++◌, drop, Option, Some, None, slice_get, refl, sym, ap, ◌∙◌, subst, inl, inr, get_or}
+use Rattle.std.proofs.Common.{◌≡◌, ℕ, ◌≤◌, Bool, true, false, List, [], ◌∷◌, ◌++◌, drop, Option, Some, None, slice_get, refl, sym, ap, ◌∙◌, subst, inl, inr}
+use Rattle.std.proofs.Common.{get_or}
 use Rattle.std.specs.Prelude.{◌==◌}
 use Rattle.std.specs.List.{Contains}
 use Rattle.std.specs.Option.{option_map, option_map_or, option_and_then}
@@ -13,7 +14,8 @@ use Rattle.sem_key.specs.Lists.{put}
 use Rattle.sem_key.proofs.Members.{Contains-tail}
 use Rattle.sem_key.proofs.Puts.{get_or-put_same, get_or-put_other}
 use Rattle.sem_msg.specs.declared.call.Call.{Call}
-use Rattle.sem_msg.specs.declared.call.Call.TheVariants.{Derive, Gate, Obtain, Delegate, OpenSession, AskOffer, Revoke, Bind, Read as ReadCall, Write as WriteCall, Send as SendCall, Credit, Exit, Clear}
+use Rattle.sem_msg.specs.declared.call.Call.TheVariants.{Derive, Gate, Obtain, Delegate, OpenSession, AskOffer, Revoke, Bind, Read as ReadCall}
+use Rattle.sem_msg.specs.declared.call.Call.TheVariants.{Write as WriteCall, Send as SendCall, Credit, Exit, Clear}
 use Rattle.sem_msg.specs.declared.code.Code.{Code}
 use Rattle.sem_msg.specs.declared.code.Code.TheVariants.{Ok as OkCode, NoService, BadKind}
 use Rattle.sem_msg.specs.declared.event.Act.{Act}
@@ -30,7 +32,8 @@ use Rattle.sem_msg.specs.Uses.{memory_tests}
 use Rattle.sem_machine.specs.Sides.{Side, row, own, cap, parked, endpoint, outbox, call_counted, ask_taken, with_endpoint, with_inbox, sent}
 use Rattle.sem_machine.specs.Asks.{asker, is_unawaited, ask_refused}
 use Rattle.sem_machine.specs.Steps.{Step, plain, answer, cutting, unless}
-use Rattle.sem_machine.specs.Calls.{call_row, next_place, open_tests, offer_tests, delegate_tests, bind_tests, destination_tests, session_service, with_held, ask_made, offer_made}
+use Rattle.sem_machine.specs.Calls.{call_row, next_place, open_tests, offer_tests, delegate_tests, bind_tests, destination_tests, session_service, with_held}
+use Rattle.sem_machine.specs.Calls.{ask_made, offer_made}
 use Rattle.sem_machine.specs.Upcalls.{source, source_tests, child_given, parent_tests, delegate_here, delegate_prepared, consented, ask_decided, upcall_row}
 use Rattle.sem_machine.specs.Revokes.{revoke_begun}
 use Rattle.sem_machine.specs.Handles.{is_stray, handled}
@@ -41,7 +44,8 @@ use Rattle.sem_machine.proofs.Folds.{option-keeps}
 use Rattle.sem_files.specs.Compiled.{service_key}
 use Rattle.sem_fs.specs.Service.{GIVEN}
 use Rattle.sem_fs.specs.Serving.{IsServed, IsAskBy, IsMessageBy, IsSideBy}
-use Rattle.sem_fs.proofs.ServedRows.{Succeeds, IsGrantable, IsReceived, served-counted, served-taken, served-inbox, ask-served, offer-served, revoke-served, given-served, here-served, prepared-served, resume-served, handled-served}
+use Rattle.sem_fs.proofs.ServedRows.{Succeeds, IsGrantable, IsReceived, served-counted, served-taken, served-inbox, ask-served, offer-served, revoke-served}
+use Rattle.sem_fs.proofs.ServedRows.{given-served, here-served, prepared-served, resume-served, handled-served}
 
 -- where no test holds, the step is done
 pub passed-done : (tests : List (Bool × Code)) (refuse : Code → Step) (done : Step) → Passed tests → unless tests refuse done ≡ done
@@ -180,7 +184,8 @@ module _ (T : Setup) (A : PlaceName → Target → Type 0) (serves : (place : Pl
       (passed-done (parent_tests (cap s parent) ++ destination_tests s v sel) (λ code. plain (ask_refused T i code (DelegateAsk parent object sel) s))
       (delegate_here T v parent object sel s) (here at))) (here-served T A serves v parent object sel s is, λ code none. absurd cc))
       (λ at. subst Good (sym
-      (passed-done (destination_tests s v sel) (λ code. plain (ask_refused T i code (DelegateAsk parent object sel) s)) (delegate_prepared T v parent object sel s)
+      (passed-done (destination_tests s v sel) (λ code. plain (ask_refused T i code (DelegateAsk parent object sel) s))
+      (delegate_prepared T v parent object sel s)
       (far at))) (prepared-served T A serves v parent object sel s is so, λ code none. absurd cc))
 
   decided-succeeds : (i v : ℕ) (a : Ask) (s : Side) → P s → IsAskBy A v a → denies T v (asker a) ≡ false → (is_unawaited T i s a ≡ false → AskPasses T i s v a)
@@ -193,7 +198,8 @@ module _ (T : Setup) (A : PlaceName → Target → Type 0) (serves : (place : Pl
   upcall-succeeds : (i v : ℕ) (s : Side) → P s → ActPasses T i s (Upcall v) → Good (upcall_row T i s v)
   unfolding upcall_row
   upcall-succeeds i v s is passes = option-keeps Good (λ (a : Ask). ask_decided T i v a (ask_taken v s)) (slice_get (row s v).asks 0) (plain s)
-      (λ a there. let p = passes a there in decided-succeeds i v a (ask_taken v s) (served-taken T A serves s is v) (is.asks v a (ask-among T v a s there)) p.0 p.1)
+      (λ a there. let p = passes a there in
+      decided-succeeds i v a (ask_taken v s) (served-taken T A serves s is v) (is.asks v a (ask-among T v a s there)) p.0 p.1)
       (silent s is)
 
   -- Whole steps. A fetch takes in a message that refuses nothing.
@@ -241,7 +247,8 @@ module _ (T : Setup) (A : PlaceName → Target → Type 0) (serves : (place : Pl
         pendings = is.pendings;
         outs = λ k m among. elim (cases_eq k j) [
           | inl same ↦
-              let at : get_or (put [] s.outs j (drop 1 (outbox s j))) k [] ≡ drop 1 (outbox s j) = ap (λ n. get_or (put [] s.outs j (drop 1 (outbox s j))) n []) same
+              let at : get_or (put [] s.outs j (drop 1 (outbox s j))) k [] ≡ drop 1 (outbox s j) =
+              ap (λ n. get_or (put [] s.outs j (drop 1 (outbox s j))) n []) same
               ∙ get_or-put_same [] s.outs j (drop 1 (outbox s j)) in
               is.outs j m (later (outbox s j) m (subst (λ ms. Contains ms m) at among))
           | inr other ↦ is.outs k m (subst (λ ms. Contains ms m) (get_or-put_other [] s.outs j k (drop 1 (outbox s j)) other) among)

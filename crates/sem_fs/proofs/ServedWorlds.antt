@@ -39,7 +39,8 @@ module _ (T : Setup) (A : PlaceName → Target → Type 0) (serves : (place : Pl
   spread : (W : World) → IsWorldBy T A W → IsSpread P Q W
   spread W is = record { sides = is.sides; links = is.links }
 
-  module _ (W : World) (is : IsWorldBy T A W) (e : Entry) (made : e ≡ entry_of T W e.event) (passes : ActPasses T e.event.kernel (side W e.event.kernel) e.event.act)
+  module _ (W : World) (is : IsWorldBy T A W) (e : Entry) (made : e ≡ entry_of T W e.event)
+      (passes : ActPasses T e.event.kernel (side W e.event.kernel) e.event.act)
       (asks : ActAsks T A serves (side W e.event.kernel) e.event.act) where
     succeeds : Succeeds T A serves (stepped T W e.event)
     succeeds = step-succeeds T A serves e.event.kernel (side W e.event.kernel) e.event.act (input_of W e.event.kernel e.event.act) (is.sides e.event.kernel)
@@ -50,7 +51,8 @@ module _ (T : Setup) (A : PlaceName → Target → Type 0) (serves : (place : Pl
         takes (Some m) there = input-among P Q W (spread W is) e.event.kernel e.event.act m there
 
     pub after-served : IsWorldBy T A (after T W e.event)
-    after-served = let next = after-spread P Q T W e.event (spread W is) succeeds.0 (is.sides e.event.kernel).outs in record { sides = next.sides; links = next.links }
+    after-served = let next = after-spread P Q T W e.event (spread W is) succeeds.0 (is.sides e.event.kernel).outs in
+        record { sides = next.sides; links = next.links }
 
     pub reply-succeeds : (r : Reply) → e.reply ≡ Some r → r.code ≡ 0
     reply-succeeds r there = from (stepped T W e.event).outcome.reply refl (sym (tells T W e made).reply ∙ there)
@@ -58,7 +60,8 @@ module _ (T : Setup) (A : PlaceName → Target → Type 0) (serves : (place : Pl
         from : (o : Option ℕ) → (stepped T W e.event).outcome.reply ≡ o
             → option_map {U = Reply} (λ code. record { vpe = replied_vpe e.event.act; code = code }) o ≡ Some r → r.code ≡ 0
         from None at none = absurd cc
-        from (Some code) at some = ap (λ (x : Reply). x.code) (sym (same_Some (record { vpe = replied_vpe e.event.act; code = code }) r some)) ∙ succeeds.1 code at
+        from (Some code) at some = ap (λ (x : Reply). x.code) (sym (same_Some (record { vpe = replied_vpe e.event.act; code = code }) r some))
+            ∙ succeeds.1 code at
 
 -- At the start nothing is under way.
 module _ (T : Setup) (A : PlaceName → Target → Type 0) (serves : (place : PlaceName) (target : Target) → A place target → IsServed T target) where

@@ -53,10 +53,12 @@ abbrev EachComes : List Command → List Command → Type 0
 EachComes before [] = Unit {0}
 EachComes before (c ∷ cs) = IsCommand two_clients before c × EachComes (before ++ c ∷ []) cs
 
-each-comes : (made cs : List Command) → EachComes made cs → (before later : List Command) (c : Command) → cs ≡ before ++ c ∷ later → IsCommand two_clients (made ++ before) c
+each-comes : (made cs : List Command) → EachComes made cs → (before later : List Command) (c : Command) → cs ≡ before ++ c ∷ later →
+    IsCommand two_clients (made ++ before) c
 each-comes made [] all [] later c same = absurd cc
 each-comes made [] all (a ∷ before) later c same = absurd cc
-each-comes made (x ∷ cs) all [] later c same = subst (λ zs. IsCommand two_clients zs c) (sym (append-nil made)) (subst (IsCommand two_clients made) (heads x c cs later same) all.0)
+each-comes made (x ∷ cs) all [] later c same =
+    subst (λ zs. IsCommand two_clients zs c) (sym (append-nil made)) (subst (IsCommand two_clients made) (heads x c cs later same) all.0)
 each-comes made (x ∷ cs) all (a ∷ before) later c same =
     subst (λ zs. IsCommand two_clients zs c) (append_assoc made (x ∷ []) before ∙ ap (λ y. made ++ y ∷ before) (heads x a cs (before ++ c ∷ later) same))
     (each-comes (made ++ x ∷ []) cs all.1 before later c (tails x a cs (before ++ c ∷ later) same))
@@ -91,7 +93,8 @@ files-of-two = record {
   files = All-cons IsFile (record { file = 3; extents = 1 }) [] (omega arith, omega arith, omega arith) (All-nil IsFile);
   files_differ = λ i j d less within. absurd (omega (arith, less, within));
   clients = All-cons IsClient 1 (2 ∷ []) (omega arith, omega arith) (All-cons IsClient 2 [] (omega arith, omega arith) (All-nil IsClient));
-  clients_differ = AllPairs-cons (λ a b. a ≢ b) 1 (2 ∷ []) (All-cons (λ b. 1 ≢ b) 2 [] (λ same. absurd (omega (arith, same))) (All-nil (λ b. 1 ≢ b))) (λ i j d less within. absurd (omega (arith, less, within)));
+  clients_differ = AllPairs-cons (λ a b. a ≢ b) 1 (2 ∷ []) (All-cons (λ b. 1 ≢ b) 2 [] (λ same. absurd (omega (arith, same))) (All-nil (λ b. 1 ≢ b)))
+      (λ i j d less within. absurd (omega (arith, less, within)));
   commands = each-comes [] (opens ∷ shares ∷ closes ∷ opens_too ∷ writes ∷ []) all-come;
   few_calls = omega arith;
 }

@@ -1,5 +1,6 @@
 -- A selector below those that are given to stays as it is or comes free, but for what its VPE asked for.
-use Rattle.std.proofs.Common.{◌≡◌, ◌⊎◌, ℕ, ◌+◌, ◌≤◌, ◌<◌, Bool, true, false, List, [], ◌∷◌, ◌++◌, drop, length, get_or, nat_lt, Option, Some, None, slice_get, refl, sym, ap, ◌∙◌, subst, inl, inr, arith}
+use Rattle.std.proofs.Common.{◌≡◌, ◌⊎◌, ℕ, ◌+◌, ◌≤◌, ◌<◌, Bool, true, false, List, [], ◌∷◌, ◌++◌, drop, length, get_or, nat_lt, Option, Some, None, slice_get}
+use Rattle.std.proofs.Common.{refl, sym, ap, ◌∙◌, subst, inl, inr, arith}
 use Rattle.std.specs.Prelude.{◌==◌, if◌then◌else◌}
 use Rattle.std.specs.Option.{option_map_or}
 use Rattle.std.proofs.lemmas.Bool.{cases_eq, cond_both}
@@ -12,7 +13,8 @@ use Rattle.sem_key.specs.CapList.{fresh}
 use Rattle.sem_key.proofs.Members.{found}
 use Rattle.sem_key.proofs.Puts.{get_or-put_same, get_or-put_other}
 use Rattle.sem_msg.specs.declared.call.Call.{Call}
-use Rattle.sem_msg.specs.declared.call.Call.TheVariants.{Derive, Gate, Obtain, Delegate, OpenSession, AskOffer, Revoke, Bind, Read as ReadCall, Write as WriteCall, Send as SendCall, Credit, Exit, Clear}
+use Rattle.sem_msg.specs.declared.call.Call.TheVariants.{Derive, Gate, Obtain, Delegate, OpenSession, AskOffer, Revoke, Bind, Read as ReadCall}
+use Rattle.sem_msg.specs.declared.call.Call.TheVariants.{Write as WriteCall, Send as SendCall, Credit, Exit, Clear}
 use Rattle.sem_msg.specs.declared.code.Code.{Code}
 use Rattle.sem_msg.specs.declared.code.Code.TheVariants.{NoCap, NoService, BadKind, Dead}
 use Rattle.sem_msg.specs.Codes.{code_number}
@@ -34,7 +36,8 @@ use Rattle.sem_msg.specs.Rows.{VpeRow, no_vpe}
 use Rattle.sem_msg.specs.Setup.{Setup}
 use Rattle.sem_msg.specs.Lookups.{kernel_of, service_named}
 use Rattle.sem_msg.specs.Uses.{memory_tests}
-use Rattle.sem_machine.specs.Sides.{Side, row, slot, own, cap, parked, endpoint, is_alive, call_counted, drawn, promised, with_slot, parked_as, unparked, asked, ask_taken, linked, cap_added, installed, pending_removed, with_inbox}
+use Rattle.sem_machine.specs.Sides.{Side, row, slot, own, cap, parked, endpoint, is_alive, call_counted, drawn, promised, with_slot, parked_as, unparked, asked}
+use Rattle.sem_machine.specs.Sides.{ask_taken, linked, cap_added, installed, pending_removed, with_inbox}
 use Rattle.sem_machine.specs.Sound.{kept}
 use Rattle.sem_machine.specs.Steps.{Step, plain, answer}
 use Rattle.sem_machine.specs.Asks.{target_vpe, asker, promise_freed, call_refused, refusal_sent, ask_refused}
@@ -67,7 +70,8 @@ module _ (v sel : ℕ) (near : sel < GIVEN) (x : Slot) where
   slotted-row t is w r new = elim (cases_eq v w) [
     | inl same ↦
         let at : slot (record t { vpes = put no_vpe t.vpes w r }) v sel ≡ get_or r.slots sel Free =
-        ap (λ n. slot (record t { vpes = put no_vpe t.vpes w r }) n sel) same ∙ ap (λ (y : VpeRow). get_or y.slots sel Free) (get_or-put_same no_vpe t.vpes w r) in
+        ap (λ n. slot (record t { vpes = put no_vpe t.vpes w r }) n sel) same
+        ∙ ap (λ (y : VpeRow). get_or y.slots sel Free) (get_or-put_same no_vpe t.vpes w r) in
         elim (new (sym same)) [
           | inr free ↦ inr (at ∙ free)
           | inl kept' ↦ elim is [
@@ -109,7 +113,10 @@ module _ (v sel : ℕ) (near : sel < GIVEN) (x : Slot) where
   slotted-counted t is w = slotted-same t is w (record (row t w) { next_call = (row t w).next_call + 1 }) refl
 
   slotted-asked : (t : Side) → Slotted t → (w : ℕ) (a : Ask) → Slotted (asked w a t)
-  slotted-asked t is w a = slotted-same t is w (record (row t w) { asks = if nat_lt (length (row t w).asks) ASKS then (row t w).asks ++ a ∷ [] else (row t w).asks })
+  slotted-asked t is w a = slotted-same t is w (record (row t w) {
+    asks = if nat_lt (length (row t w).asks) ASKS then (row t w).asks ++ a ∷ []
+        else (row t w).asks;
+  })
       refl
 
   slotted-taken : (t : Side) → Slotted t → (w : ℕ) → Slotted (ask_taken w t)
@@ -142,7 +149,8 @@ module _ (v sel : ℕ) (near : sel < GIVEN) (x : Slot) where
       from (Some (Ready code)) = is
 
   ask_refused-slotted : (T : Setup) (i : ℕ) (code : Code) (a : Ask) (t : Side) → Slotted t → Slotted (ask_refused T i code a t)
-  ask_refused-slotted T i code a t is = cond_both (kernel_of T (asker a) == i) _ _ Slotted (λ _. refused-slotted (code_number code) (asker a) t is) (λ _. from a)
+  ask_refused-slotted T i code a t is = cond_both (kernel_of T (asker a) == i) _ _ Slotted (λ _. refused-slotted (code_number code) (asker a) t is)
+      (λ _. from a)
     where
       from : (b : Ask) → Slotted (refusal_sent T code b t)
       from (ObtainAsk place target) = is
@@ -180,7 +188,8 @@ module _ (v sel : ℕ) (near : sel < GIVEN) (x : Slot) where
       (λ k there. ask-slotted T i u dst (OfferTarget k index) s apart is) is)
   call-slotted T i u before (Delegate src w dst) s so apart is = unless-keeps On (delegate_tests T i s u src w) _ _ (λ code. is)
       (held-slotted (own s u src) _ s is (λ p. offer-slotted T i u w dst p s is))
-  call-slotted T i u before (Revoke src) s so apart is = held-slotted (own s u src) _ s is (λ c. revoked-steady Slotted slotted-steady T i u c.key c.mark s (λ j. is))
+  call-slotted T i u before (Revoke src) s so apart is =
+      held-slotted (own s u src) _ s is (λ c. revoked-steady Slotted slotted-steady T i u c.key c.mark s (λ j. is))
   call-slotted T i u before (Bind ep src) s so apart is = unless-keeps On (bind_tests s u src) _ _ (λ code. is) (held-slotted (own s u src) _ s is (λ c. is))
   call-slotted T i u before (ReadCall ep off len) s so apart is = unless-keeps On (memory_tests 1 off len (endpoint s u ep)) _ _ (λ code. is) is
   call-slotted T i u before (WriteCall ep off len) s so apart is = unless-keeps On (memory_tests 2 off len (endpoint s u ep)) _ _ (λ code. is) is
@@ -200,7 +209,8 @@ module _ (v sel : ℕ) (near : sel < GIVEN) (x : Slot) where
       → Slotted (installed k parent q object t)
   installed-slotted t is k parent q object apart = slotted-put (cap_added (fresh k parent q object) t) is k.vpe q (Held k) apart
 
-  given-slotted : (k p : KeyName) (object : Object) (state : Option Parked) (t : Side) → (k.vpe ≡ v → (number : ℕ) → kept state ≡ Some (number, sel) → ⊥) → Slotted t
+  given-slotted : (k p : KeyName) (object : Object) (state : Option Parked) (t : Side) → (k.vpe ≡ v → (number : ℕ) → kept state ≡ Some (number, sel) → ⊥) →
+      Slotted t
       → Slotted (given_here k p object state t)
   given-slotted k p object (Some (ObtainWait number q)) t apart is = installed-slotted t is k (Some p) q object
       (λ here at. apart here number (ap (λ n. Some (number, n)) at))

@@ -1,5 +1,6 @@
 -- What a client asked for is cut by its own revokes alone: while the client waits for no revoke, it is neither marked nor asked to be revoked.
-use Rattle.std.proofs.Common.{◌≡◌, ◌⊎◌, ℕ, zero, suc, ◌<◌, nat_lt, true, false, List, [], ◌∷◌, length, map, Option, Some, None, refl, sym, ap, ◌∙◌, subst, inl, inr, arith}
+use Rattle.std.proofs.Common.{◌≡◌, ◌⊎◌, ℕ, zero, suc, ◌<◌, nat_lt, true, false, List, [], ◌∷◌, length, map, Option, Some, None, refl, sym, ap, ◌∙◌, subst, inl}
+use Rattle.std.proofs.Common.{inr, arith}
 use Rattle.std.specs.Prelude.{◌==◌}
 use Rattle.std.specs.List.{Contains}
 use Rattle.std.specs.Option.{option_map_or, IsSome}
@@ -54,7 +55,8 @@ root-new roots _ (granted_next gs p' k' before above new) p q root among = elim 
 ]
 
 -- the line of a child of a key that is no child
-short-line : (gs : List (KeyName × KeyName)) (k p : KeyName) → parent_in gs k ≡ Some p → parent_in gs p ≡ None → (n : ℕ) (a : KeyName) → Contains (line_in n gs k) a
+short-line : (gs : List (KeyName × KeyName)) (k p : KeyName) → parent_in gs k ≡ Some p → parent_in gs p ≡ None → (n : ℕ) (a : KeyName) →
+    Contains (line_in n gs k) a
     → (a ≡ k) ⊎ (a ≡ p)
 unfolding line_in
 short-line gs k p above top zero a among = elim (Contains-cons_cases k [] a among) [ inl same ↦ inl (sym same) | inr none ↦ absurd (Contains-nil a none) ]
@@ -142,7 +144,10 @@ module _ (T : Setup) (S : IsService T) (J : List Entry) (runs : IsSchedule T J) 
   root-spared p k root granted live cut = elim (cut-answered T S.setup J runs p cut) [
     | inr told ↦ all-gone T S.setup J runs k p (inl live) (parent-ancestor-of p k granted) told
     | inl being ↦
-        let own : being.own ≡ p = elim being.below [ inl same ↦ sym same | inr above ↦ absurd (root-new (root_keys T) (grants J) grown_so being.own p root above) ] in
+        let own : being.own ≡ p = elim being.below [
+          | inl same ↦ sym same
+          | inr above ↦ absurd (root-new (root_keys T) (grants J) grown_so being.own p root above)
+        ] in
         let server : being.vpe ≡ SERVER = sym being.whose ∙ (ap (λ (q : KeyName). q.vpe) own ∙ S.roots p root) in
         server-cuts-nothing being.keys p (subst (λ v. Contains (history J).waiting (v, being.keys)) server being.waits) being.among
   ]
@@ -190,7 +195,8 @@ module _ (T : Setup) (S : IsService T) (J : List Entry) (runs : IsSchedule T J) 
 
   pub doomed-waits : (p k : KeyName) (d : VpeDecl) → Contains (root_keys T) p → Contains (grants J) (p, k) → decl T k.vpe ≡ Some d → IsLive W k → IsDoomed J k
       → Revokes (parked (home k.vpe) k.vpe)
-  doomed-waits p k d root granted at live doomed = (cut-waits p k d root granted at live (doomed-cut p k root granted (root-spared p k root granted live) doomed)).0
+  doomed-waits p k d root granted at live doomed =
+      (cut-waits p k d root granted at live (doomed-cut p k root granted (root-spared p k root granted live) doomed)).0
 
   -- what holds something is a kernel of the setup
   pub held-low : (i : ℕ) (k : KeyName) (c : Capability) → HoldsCap W i k c → i < T.kernels

@@ -1,5 +1,6 @@
 -- At the start a client has nothing, and the server has what it serves.
-use Rattle.std.proofs.Common.{◌≡◌, ℕ, ◌+◌, ◌<◌, Bool, true, false, List, [], ◌∷◌, take, Option, Some, None, append-nil, refl, sym, ap, ◌∙◌, subst, inl, inr, arith, eq-eqb}
+use Rattle.std.proofs.Common.{◌≡◌, ℕ, ◌+◌, ◌<◌, Bool, true, false, List, [], ◌∷◌, take, Option, Some, None, append-nil, refl, sym, ap, ◌∙◌, subst, inl, inr}
+use Rattle.std.proofs.Common.{arith, eq-eqb}
 use Rattle.std.specs.Prelude.{◌==◌, ◌&&◌}
 use Rattle.std.specs.List.{Contains}
 use Rattle.std.specs.Option.{option_map_or, IsSome}
@@ -74,7 +75,11 @@ roots-placed d (x ∷ rs) n s at r among = elim (Contains-cons_cases x rs r amon
       }
   | inr rest ↦
       let y = roots-placed d rs (n + 1) (root_added d x s) (root-next d x s ∙ ap (λ m. m + 1) at) r rest in
-      record { number = y.number; root = Contains-tail (root_key d n x) (root_keys_from d (n + 1) rs) (root_key d y.number r) y.root; capability = y.capability }
+      record {
+        number = y.number;
+        root = Contains-tail (root_key d n x) (root_keys_from d (n + 1) rs) (root_key d y.number r) y.root;
+        capability = y.capability;
+      }
 ]
 
 fresh-next : (d : VpeDecl) (s : Side) → (row (vpe_fresh d s) d.vpe).next_number ≡ 0
@@ -112,7 +117,8 @@ unfolding start
 side-is T i less = get_or-map-range_with_len (start_side T) 0 T.kernels i i no_side less (omega arith)
 
 -- a selector that is not given to, and for which nobody waits, is not promised
-pub unpromised : (T : Setup) (i : ℕ) (s : Side) → IsSound T i s → IsServedSide T s → (v sel : ℕ) → sel < GIVEN → (row s v).alive ≡ true → kept (parked s v) ≡ None
+pub unpromised : (T : Setup) (i : ℕ) (s : Side) → IsSound T i s → IsServedSide T s → (v sel : ℕ) → sel < GIVEN → (row s v).alive ≡ true →
+    kept (parked s v) ≡ None
     → slot s v sel ≡ Promised → ⊥
 unpromised T i s sound served v sel near alive idle at =
     let most = sound.no_other_promise v sel alive in
@@ -161,7 +167,8 @@ module _ (T : Setup) (S : IsService T) where
       by_slot sel near (Held k) is =
           let sound-v = sound T S [] (no-entries T) v d at in
           let c = slot-cap T S.setup (kernel_of T v) (low T S [] (no-entries T) v d at) (home T (start T) v) sound-v v sel k is in
-          let root = subst (λ ks. Contains ks k) (append-nil (root_keys T)) (used-made T [] (no-entries T) k (inl (inl (kernel_of T v, subst IsSome (sym c.1) refl))))
+          let root = subst (λ ks. Contains ks k) (append-nil (root_keys T))
+          (used-made T [] (no-entries T) k (inl (inl (kernel_of T v, subst IsSome (sym c.1) refl))))
           in
           absurd (client (sym (sound-v.held v sel k is).0 ∙ S.roots k root))
 

@@ -1,5 +1,6 @@
 -- What is held comes to no other selector.
-use Rattle.std.proofs.Common.{◌≡◌, ◌⊎◌, ℕ, ◌+◌, Bool, true, false, List, [], ◌∷◌, ◌++◌, drop, length, get_or, nat_lt, Option, Some, None, slice_get, refl, sym, ap, ◌∙◌, inl, inr}
+use Rattle.std.proofs.Common.{◌≡◌, ◌⊎◌, ℕ, ◌+◌, Bool, true, false, List, [], ◌∷◌, ◌++◌, drop, length, get_or, nat_lt, Option, Some, None, slice_get, refl, sym}
+use Rattle.std.proofs.Common.{ap, ◌∙◌, inl, inr}
 use Rattle.std.specs.Prelude.{◌==◌, if◌then◌else◌}
 use Rattle.std.specs.List.{Contains}
 use Rattle.std.specs.Option.{option_map_or}
@@ -15,7 +16,8 @@ use Rattle.sem_key.specs.CapList.{fresh}
 use Rattle.sem_key.proofs.Members.{found}
 use Rattle.sem_key.proofs.Puts.{get_or-put_same, get_or-put_other}
 use Rattle.sem_msg.specs.declared.call.Call.{Call}
-use Rattle.sem_msg.specs.declared.call.Call.TheVariants.{Derive, Gate, Obtain, Delegate, OpenSession, AskOffer, Revoke, Bind, Read as ReadCall, Write as WriteCall, Send as SendCall, Credit, Exit, Clear}
+use Rattle.sem_msg.specs.declared.call.Call.TheVariants.{Derive, Gate, Obtain, Delegate, OpenSession, AskOffer, Revoke, Bind, Read as ReadCall}
+use Rattle.sem_msg.specs.declared.call.Call.TheVariants.{Write as WriteCall, Send as SendCall, Credit, Exit, Clear}
 use Rattle.sem_msg.specs.declared.code.Code.{Code}
 use Rattle.sem_msg.specs.declared.code.Code.TheVariants.{NoCap, NoService, BadKind, Dead, Refused}
 use Rattle.sem_msg.specs.Codes.{code_number}
@@ -38,10 +40,12 @@ use Rattle.sem_msg.specs.Rows.{VpeRow, no_vpe}
 use Rattle.sem_msg.specs.Setup.{Setup}
 use Rattle.sem_msg.specs.Lookups.{kernel_of, place_owner, service_named, denies}
 use Rattle.sem_msg.specs.Uses.{memory_tests}
-use Rattle.sem_machine.specs.Sides.{Side, row, slot, own, cap, parked, endpoint, is_alive, call_counted, drawn, promised, with_slot, parked_as, unparked, asked, ask_taken, linked, cap_added, installed, pending_removed, send, with_inbox}
+use Rattle.sem_machine.specs.Sides.{Side, row, slot, own, cap, parked, endpoint, is_alive, call_counted, drawn, promised, with_slot, parked_as, unparked, asked}
+use Rattle.sem_machine.specs.Sides.{ask_taken, linked, cap_added, installed, pending_removed, send, with_inbox}
 use Rattle.sem_machine.specs.Steps.{Step, plain, answer}
 use Rattle.sem_machine.specs.Asks.{target_vpe, asker, is_obtain_wait, is_unawaited, promise_freed, call_refused, refusal_sent, ask_refused}
-use Rattle.sem_machine.specs.Calls.{call_row, next_place, next_key, ask_made, offer_made, open_tests, offer_tests, delegate_tests, bind_tests, with_held, destination_tests}
+use Rattle.sem_machine.specs.Calls.{call_row, next_place, next_key, ask_made, offer_made, open_tests, offer_tests, delegate_tests, bind_tests, with_held}
+use Rattle.sem_machine.specs.Calls.{destination_tests}
 use Rattle.sem_machine.specs.Upcalls.{source, source_tests, given, given_kind, given_here, child_given, parent_tests, consented, ask_decided, upcall_row}
 use Rattle.sem_machine.specs.Handles.{handled, acknowledged, obtain_ready}
 use Rattle.sem_machine.specs.Resumes.{delegate_granted, delegate_resumed, resumed, resume_row}
@@ -71,7 +75,8 @@ module _ (T : Setup) (s : Side) (v : ℕ) (k : KeyName) (New : Type 0) where
     staying-row t is w r old q at = elim (cases_eq v w) [
       | inl same ↦
           let here : get_or r.slots q Free ≡ Held k =
-          sym (ap (λ n. slot (record t { vpes = put no_vpe t.vpes w r }) n q) same ∙ ap (λ (y : VpeRow). get_or y.slots q Free) (get_or-put_same no_vpe t.vpes w r))
+          sym (ap (λ n. slot (record t { vpes = put no_vpe t.vpes w r }) n q) same
+          ∙ ap (λ (y : VpeRow). get_or y.slots q Free) (get_or-put_same no_vpe t.vpes w r))
           ∙ at in
           elim (old (sym same) q here) [ inl before ↦ is q (ap (λ n. slot t n q) same ∙ before) | inr new ↦ inr new ]
       | inr other ↦ is q (sym (ap (λ (y : VpeRow). get_or y.slots q Free) (get_or-put_other no_vpe t.vpes w v r other)) ∙ at)
@@ -106,7 +111,10 @@ module _ (T : Setup) (s : Side) (v : ℕ) (k : KeyName) (New : Type 0) where
     staying-counted t is w = staying-same t is w (record (row t w) { next_call = (row t w).next_call + 1 }) refl
 
     staying-asked : (t : Side) → Staying t → (w : ℕ) (a : Ask) → Staying (asked w a t)
-    staying-asked t is w a = staying-same t is w (record (row t w) { asks = if nat_lt (length (row t w).asks) ASKS then (row t w).asks ++ a ∷ [] else (row t w).asks })
+    staying-asked t is w a = staying-same t is w (record (row t w) {
+      asks = if nat_lt (length (row t w).asks) ASKS then (row t w).asks ++ a ∷ []
+          else (row t w).asks;
+    })
         refl
 
     staying-taken : (t : Side) → Staying t → (w : ℕ) → Staying (ask_taken w t)
@@ -142,7 +150,8 @@ module _ (T : Setup) (s : Side) (v : ℕ) (k : KeyName) (New : Type 0) where
         from (Some (Ready code)) = is
 
     ask_refused-staying : (i : ℕ) (code : Code) (a : Ask) (t : Side) → Staying t → Staying (ask_refused T i code a t)
-    ask_refused-staying i code a t is = cond_both (kernel_of T (asker a) == i) _ _ Staying (λ _. refused-staying (code_number code) (asker a) t is) (λ _. from a)
+    ask_refused-staying i code a t is = cond_both (kernel_of T (asker a) == i) _ _ Staying (λ _. refused-staying (code_number code) (asker a) t is)
+        (λ _. from a)
       where
         from : (b : Ask) → Staying (refusal_sent T code b t)
         from (ObtainAsk place target) = is
@@ -174,7 +183,8 @@ module _ (T : Setup) (s : Side) (v : ℕ) (k : KeyName) (New : Type 0) where
         (option-keeps On (λ (y : Service). ask_made T i u dst (ServTarget y.key) t) (service_named T name) (answer NoService t)
         (λ y there. ask-staying i u dst (ServTarget y.key) t is) is)
     call-staying i u before (AskOffer dst session index) t so is = unless-keeps On (offer_tests T i t u dst session) _ _ (λ code. is)
-        (option-keeps On (λ (q : KeyName). ask_made T i u dst (OfferTarget q index) t) _ (answer BadKind t) (λ q there. ask-staying i u dst (OfferTarget q index) t is)
+        (option-keeps On (λ (q : KeyName). ask_made T i u dst (OfferTarget q index) t) _ (answer BadKind t)
+        (λ q there. ask-staying i u dst (OfferTarget q index) t is)
         is)
     call-staying i u before (Delegate src w dst) t so is = unless-keeps On (delegate_tests T i t u src w) _ _ (λ code. is)
         (held-staying (own t u src) _ t is (λ p. offer-staying i u w dst p t is))
@@ -205,7 +215,8 @@ module _ (T : Setup) (s : Side) (v : ℕ) (k : KeyName) (New : Type 0) where
           → ((n q : ℕ) → o ≡ Some (ObtainWait n q) → n ≡ place.number) → Staying t → Staying (given_here (keyed place kind) p object o t)
       given-staying place kind p object (Some (ObtainWait number q)) t at numbered is =
           staying-installed t is (keyed place kind) (Some p) q object
-          (λ same. C.waits number q (ap (parked s) (sym (ap (λ (x : KeyName). x.vpe) same)) ∙ at) (numbered number q refl ∙ ap (λ (x : KeyName). x.number) same))
+          (λ same. C.waits number q (ap (parked s) (sym (ap (λ (x : KeyName). x.vpe) same)) ∙ at) (numbered number q refl
+          ∙ ap (λ (x : KeyName). x.number) same))
       given-staying place kind p object None t at numbered is = is
       given-staying place kind p object (Some (ObtainReady key parent object' q)) t at numbered is = is
       given-staying place kind p object (Some ObtainCancelled) t at numbered is = is
@@ -220,9 +231,11 @@ module _ (T : Setup) (s : Side) (v : ℕ) (k : KeyName) (New : Type 0) where
           (option-keeps On (child_given T i place target taken) (source T taken u target) (plain taken)
           (λ p there.
           let linking : Side = linked p.key (keyed place (given_kind target p)) taken in
-          cond_both (kernel_of T place.vpe == i) (given_here (keyed place (given_kind target p)) p.key (given target place.vpe p) (parked linking place.vpe) linking)
+          cond_both (kernel_of T place.vpe == i) (given_here (keyed place (given_kind target p)) p.key (given target place.vpe p)
+          (parked linking place.vpe) linking)
           (send (place_owner T place) (ObtainOk p.key (keyed place (given_kind target p)) (given target place.vpe p)) linking) Staying
-          (λ local. given-staying place (given_kind target p) p.key (given target place.vpe p) (parked s place.vpe) linking refl (λ n q at. numbered n q at local)
+          (λ local. given-staying place (given_kind target p) p.key (given target place.vpe p) (parked s place.vpe) linking refl
+          (λ n q at. numbered n q at local)
           taken-staying)
           (λ _. taken-staying)) taken-staying)
         where
@@ -236,7 +249,8 @@ module _ (T : Setup) (s : Side) (v : ℕ) (k : KeyName) (New : Type 0) where
           (let k1 : KeyName = next_key T taken u parent.kind in
           let linking : Side = linked parent k1 (drawn u taken) in
           staying-installed linking (staying-drawn taken taken-staying u) k1 (Some parent) q object
-          (λ same. C.next (ap (λ w. (row s w).next_number) (sym (ap (λ (x : KeyName). x.vpe) same)) ∙ (sym same-number ∙ ap (λ (x : KeyName). x.number) same)))))
+          (λ same. C.next (ap (λ w. (row s w).next_number) (sym (ap (λ (x : KeyName). x.vpe) same))
+          ∙ (sym same-number ∙ ap (λ (x : KeyName). x.number) same)))))
           (λ _. unless-keeps On (destination_tests taken u q) _ _ (λ code. ask_refused-staying i code (DelegateAsk parent object q) taken taken-staying)
           (staying-slot (drawn u taken) (staying-drawn taken taken-staying u) u q Promised promised-no))
 
@@ -282,7 +296,8 @@ module _ (T : Setup) (s : Side) (v : ℕ) (k : KeyName) (New : Type 0) where
     ready-staying parent key object (Some (RevokeWait j)) t is = is
     ready-staying parent key object (Some (Ready code)) t is = is
 
-    acked-staying : (key : KeyName) (accepted : Bool) (p : Pending) → Contains s.pendings p → p.key ≡ key → Staying (acknowledged T key accepted (with_inbox None s) p)
+    acked-staying : (key : KeyName) (accepted : Bool) (p : Pending) → Contains s.pendings p → p.key ≡ key →
+        Staying (acknowledged T key accepted (with_inbox None s) p)
     acked-staying key true p among same = cond_both (is_alive s key.vpe) _ _ Staying
         (λ _. staying-installed (pending_removed key (with_inbox None s)) start-staying key (Some p.parent) p.sel p.object (λ is. C.pends p among (same ∙ is)))
         (λ _. start-staying)

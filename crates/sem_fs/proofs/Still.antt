@@ -1,5 +1,6 @@
 -- The parked call of a VPE stays as it is, and so does the number of its calls, by what is not about it; one that waits for a revoke may come to succeed.
-use Rattle.std.proofs.Common.{◌≡◌, ◌⊎◌, ℕ, zero, suc, ◌+◌, ◌-◌, Bool, true, false, not, List, [], ◌∷◌, ◌++◌, drop, filter, length, nat_lt, Option, Some, None, refl, sym, ap, ◌∙◌, subst, inl, inr}
+use Rattle.std.proofs.Common.{◌≡◌, ◌⊎◌, ℕ, zero, suc, ◌+◌, ◌-◌, Bool, true, false, not, List, [], ◌∷◌, ◌++◌, drop, filter, length, nat_lt, Option, Some, None}
+use Rattle.std.proofs.Common.{refl, sym, ap, ◌∙◌, subst, inl, inr}
 use Rattle.std.specs.Prelude.{◌==◌, if◌then◌else◌}
 use Rattle.std.specs.List.{Contains}
 use Rattle.std.proofs.lemmas.Bool.{cases_eq, cond_both}
@@ -30,8 +31,11 @@ use Rattle.sem_msg.specs.VpeRows
 use Rattle.sem_msg.specs.ParkedStates.{is_ready_with, state_of}
 use Rattle.sem_msg.specs.Setup.{Setup}
 use Rattle.sem_msg.specs.Lookups.{owner_of, is_local}
-use Rattle.sem_machine.specs.Sides.{Side, row, cap, job, parked, with_slot, parked_as, asked, ask_taken, drawn, installed, unlinked, mark_all, unbind_all, job_opened, job_changed, job_removed, send, cap_added}
-use Rattle.sem_machine.specs.Revokes.{count_raised, count_lowered, with_up, other_marker, adopted, request_or_adopt, root_spared, selectors_freed, all_freed, swept, woken, parent_left, up_told, left_parent, closed_here, closed, finish, settled, opened, begin, revoke_begun, ready_freed, obtain_cancelled, request_begun, revoke_requested, revoke_done}
+use Rattle.sem_machine.specs.Sides.{Side, row, cap, job, parked, with_slot, parked_as, asked, ask_taken, drawn, installed, unlinked, mark_all, unbind_all}
+use Rattle.sem_machine.specs.Sides.{job_opened, job_changed, job_removed, send, cap_added}
+use Rattle.sem_machine.specs.Revokes.{count_raised, count_lowered, with_up, other_marker, adopted, request_or_adopt, root_spared, selectors_freed, all_freed}
+use Rattle.sem_machine.specs.Revokes.{swept, woken, parent_left, up_told, left_parent, closed_here, closed, finish, settled, opened, begin, revoke_begun}
+use Rattle.sem_machine.specs.Revokes.{ready_freed, obtain_cancelled, request_begun, revoke_requested, revoke_done}
 use Rattle.sem_machine.proofs.Folds.{in_turn-keeps, in_turn-keeps_each}
 use Rattle.sem_safety.proofs.JobIds.{done-among, next-among}
 use Rattle.sem_revoke.proofs.Rowing.{settled_if_there}
@@ -60,7 +64,11 @@ module _ (v : ℕ) (q : Option Parked) (n : ℕ) where
 
   still-woken_one : (t : Side) → Still t → (w : ℕ) → (w ≡ v → Revoking) → Still (parked_as w (Ready 0) t)
   still-woken_one t S w may = elim (cases_eq v w) [
-    | inl same ↦ record { park = inr (ap (parked (parked_as w (Ready 0) t)) same ∙ parked-here t w (Some (Ready 0)), may (sym same)); idle = S.idle; calls = S.calls }
+    | inl same ↦ record {
+      park = inr (ap (parked (parked_as w (Ready 0) t)) same ∙ parked-here t w (Some (Ready 0)), may (sym same));
+      idle = S.idle;
+      calls = S.calls;
+    }
     | inr other ↦ still-park t S w (Some (Ready 0)) (λ same. other (sym same))
   ]
 
@@ -89,7 +97,8 @@ module _ (v : ℕ) (q : Option Parked) (n : ℕ) where
   still-taken t S w = still-row t S w (record (row t w) { asks = drop 1 (row t w).asks }) (λ here. refl)
 
   pub still-installed : (t : Side) → Still t → (k : KeyName) (parent : Option KeyName) (sel : ℕ) (object : Object) → Still (installed k parent sel object t)
-  still-installed t S k parent sel object = still-slot (cap_added (fresh k parent sel object) t) (record { park = S.park; idle = S.idle; calls = S.calls }) k.vpe sel
+  still-installed t S k parent sel object = still-slot (cap_added (fresh k parent sel object) t) (record { park = S.park; idle = S.idle; calls = S.calls })
+      k.vpe sel
       (Held k)
 
   -- what neither calls, jobs nor rows see
@@ -130,7 +139,8 @@ module _ (v : ℕ) (q : Option Parked) (n : ℕ) where
   still-swept : (x : JobRow) (t : Side) → Still t → Still (swept x t)
   still-swept x t S =
       let spared : Side = root_spared x t in
-      let free : Still (selectors_freed x.id spared) = still-freed_rows (marked_by x.id spared.caps) spared (record { park = S.park; idle = S.idle; calls = S.calls })
+      let free : Still (selectors_freed x.id spared) =
+      still-freed_rows (marked_by x.id spared.caps) spared (record { park = S.park; idle = S.idle; calls = S.calls })
       in
       record { park = free.park; idle = free.idle; calls = free.calls }
 

@@ -1,5 +1,6 @@
 -- How often clients are given to, and how many numbers they draw, by the commands.
-use Rattle.std.proofs.Common.{◌≡◌, ℕ, suc, ◌+◌, ◌<◌, ◌≤◌, ◌++◌, Bool, true, false, List, [], ◌∷◌, filter, length, length-append, refl, sym, ap, ◌∙◌, inl, inr, arith, append_assoc, append-nil, eq-eqb}
+use Rattle.std.proofs.Common.{◌≡◌, ℕ, suc, ◌+◌, ◌<◌, ◌≤◌, ◌++◌, Bool, true, false, List, [], ◌∷◌, filter, length, length-append, refl, sym, ap, ◌∙◌, inl, inr}
+use Rattle.std.proofs.Common.{arith, append_assoc, append-nil, eq-eqb}
 use Rattle.std.specs.Prelude.{◌==◌, if◌then◌else◌}
 use Rattle.std.specs.List.{AllPairs, Contains, sum_by}
 use Rattle.std.proofs.lemmas.Bool.{cases_Bool, cases_eq, cond-true, cond-false, cond_both, ne_eqb}
@@ -100,7 +101,8 @@ module _ (F : Files) (AF : AreFiles F) (p : Call → Bool) where
   all-tally vs rise before (c ∷ cs) =
       let one : ℕ → ℕ = λ v. tally p (if c.client == v then calls_of_command F before c else []) in
       let two : ℕ → ℕ = λ v. tally p (calls_from F v (before ++ c ∷ []) cs) in
-      let parts = same-sum (λ v. tally p ((if c.client == v then calls_of_command F before c else []) ++ calls_from F v (before ++ c ∷ []) cs)) (λ v. one v + two v) vs
+      let parts = same-sum (λ v. tally p ((if c.client == v then calls_of_command F before c else []) ++ calls_from F v (before ++ c ∷ []) cs))
+      (λ v. one v + two v) vs
       (λ v. tally-append p (if c.client == v then calls_of_command F before c else []) (calls_from F v (before ++ c ∷ []) cs)) in
       let sums = sum-plus one two vs in
       let first = sum-once one c.client (tally p (calls_of_command F before c)) vs rise

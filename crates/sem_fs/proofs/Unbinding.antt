@@ -1,5 +1,6 @@
 -- What an endpoint is bound to stays bound, or is marked or gone: a revoke unbinds only what it marks.
-use Rattle.std.proofs.Common.{◌≡◌, ◌⊎◌, ℕ, zero, suc, Bool, true, false, List, [], ◌∷◌, get_or, length, Option, Some, None, is_some, refl, sym, ap, ◌∙◌, subst, inl, inr}
+use Rattle.std.proofs.Common.{◌≡◌, ◌⊎◌, ℕ, zero, suc, Bool, true, false, List, [], ◌∷◌, get_or, length, Option, Some, None, is_some, refl, sym, ap, ◌∙◌, subst}
+use Rattle.std.proofs.Common.{inl, inr}
 use Rattle.std.specs.Prelude.{if◌then◌else◌}
 use Rattle.std.specs.List.{Contains, list_any}
 use Rattle.std.proofs.lemmas.Bool.{cases_Bool, cond_both, cond-true, cond-false, true≢false}
@@ -22,7 +23,9 @@ use Rattle.sem_msg.specs.ParkedStates.{is_ready_with}
 use Rattle.sem_msg.specs.Setup.{Setup}
 use Rattle.sem_msg.specs.Lookups.{owner_of, is_local}
 use Rattle.sem_machine.specs.Sides.{Side, cap, job, parked, endpoint, parked_as, unlinked, mark_all, unbind_all, job_opened, job_removed, send}
-use Rattle.sem_machine.specs.Revokes.{count_raised, count_lowered, other_marker, adopted, request_or_adopt, swept, woken, parent_left, up_told, left_parent, closed_here, closed, finish, settled, opened, begin, revoke_begun, ready_freed, obtain_cancelled, request_begun, revoke_requested, revoke_done}
+use Rattle.sem_machine.specs.Revokes.{count_raised, count_lowered, other_marker, adopted, request_or_adopt, swept, woken, parent_left, up_told, left_parent}
+use Rattle.sem_machine.specs.Revokes.{closed_here, closed, finish, settled, opened, begin, revoke_begun, ready_freed, obtain_cancelled, request_begun}
+use Rattle.sem_machine.specs.Revokes.{revoke_requested, revoke_done}
 use Rattle.sem_machine.proofs.Folds.{in_turn-keeps}
 use Rattle.sem_safety.specs.Seen.{endpoints}
 use Rattle.sem_safety.proofs.Updates.{reads-map}
@@ -103,14 +106,18 @@ module _ (k : KeyName) where
       let o = thin c among in
       lost o.0 o.1 (sym o.2.key ∙ same) (from o.0.mark refl (λ marked. o.2.marks marked) unmarked)
     where
-      from : (m : Option ℕ) → (thin c among).0.mark ≡ m → (is_some (thin c among).0.mark ≡ true → is_some c.mark ≡ true) → c.mark ≡ None → (thin c among).0.mark ≡ None
+      from : (m : Option ℕ) → (thin c among).0.mark ≡ m → (is_some (thin c among).0.mark ≡ true → is_some c.mark ≡ true) → c.mark ≡ None →
+          (thin c among).0.mark ≡ None
       from None none marks unmarked = none
       from (Some n) some marks unmarked = absurd (true≢false (sym (marks (ap is_some some)) ∙ ap is_some unmarked))
 
   gone-steady : IsSteady IsGone
   gone-steady = record {
     caps = λ s cs thin is. record { lost = thinned-lost s.caps cs thin is.lost; unkept = is.unkept };
-    restores = λ s t x was among keeps is. record { lost = λ c there same unmarked. restored-lost s t x was among keeps is c there same unmarked; unkept = is.unkept };
+    restores = λ s t x was among keeps is. record {
+      lost = λ c there same unmarked. restored-lost s t x was among keeps is c there same unmarked;
+      unkept = is.unkept;
+    };
     bound = λ s es is. record { lost = is.lost; unkept = is.unkept };
     jobs = λ s js less is. record { lost = is.lost; unkept = λ y among keeps same. (let o = less y among in is.unkept o.0 o.1 (o.4 keeps) (sym o.3 ∙ same)) };
     opens = λ s root up ws is. record { lost = is.lost; unkept = λ x among keeps same. opened-unkept s root up ws is x among keeps same };
@@ -119,13 +126,15 @@ module _ (k : KeyName) where
     sends = λ s j m loud is. record { lost = is.lost; unkept = is.unkept };
   }
     where
-      restored-lost : (s t : Side) (x : JobRow) → IsGone s → Contains s.jobs x → x.keep ≡ true → IsGone t → (c : Capability) → Contains (restored t.caps x.root) c
+      restored-lost : (s t : Side) (x : JobRow) → IsGone s → Contains s.jobs x → x.keep ≡ true → IsGone t → (c : Capability) →
+          Contains (restored t.caps x.root) c
           → c.key ≡ k → c.mark ≡ None → ⊥
       restored-lost s t x was among keeps is c there same unmarked =
           let o = Contains-from_map (λ (y : Capability). if key_eq y.key x.root then record y { children = []; mark = None } else y) t.caps c there in
           elim (cases_Bool (key_eq o.0.key x.root)) [
             | inl at ↦
-                let made : record o.0 { children = []; mark = None } ≡ c = sym (cond-true (key_eq o.0.key x.root) (record o.0 { children = []; mark = None }) o.0 at)
+                let made : record o.0 { children = []; mark = None } ≡ c =
+                sym (cond-true (key_eq o.0.key x.root) (record o.0 { children = []; mark = None }) o.0 at)
                 ∙ o.2 in
                 was.unkept x among keeps (sym (key_eq-true o.0.key x.root at) ∙ (ap (λ (y : Capability). y.key) made ∙ same))
             | inr other ↦
@@ -169,7 +178,8 @@ module _ (v ep : ℕ) (k : KeyName) where
           (in_turn-keeps (λ (u : Side). u.endpoints ≡ unbound.endpoints) (request_or_adopt T i j) (λ q u same. same-asks_for unbound.endpoints T i j q u same)
           (children_of t.caps ks) unbound refl)) (record { bound = is.bound; at = still; key = is.key }))
       | inl marks ↦ inr (settled-steady (IsGone k) (gone-steady k) T i j (opened T i root up ws false t)
-          (in_turn-keeps (IsGone k) (request_or_adopt T i j) (λ q u gone. asks_for-steady (IsGone k) (gone-steady k) T i j q u gone) (children_of t.caps ks) unbound
+          (in_turn-keeps (IsGone k) (request_or_adopt T i j) (λ q u gone. asks_for-steady (IsGone k) (gone-steady k) T i j q u gone)
+          (children_of t.caps ks) unbound
           (gone marks)))
     ]
       where

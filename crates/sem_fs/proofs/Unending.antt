@@ -6,7 +6,8 @@ use Rattle.std.specs.Option.{option_map, option_map_or}
 use Rattle.std.proofs.lemmas.Bool.{false_from_ne_true, and_parts}
 use Rattle.sem_key.proofs.Members.{Contains-nil, Contains-cons_cases, list_any-some}
 use Rattle.sem_msg.specs.declared.call.Call.{Call}
-use Rattle.sem_msg.specs.declared.call.Call.TheVariants.{Derive, Gate, Obtain, Delegate, OpenSession, AskOffer, Revoke, Bind, Read as ReadCall, Write as WriteCall, Send as SendCall, Credit, Exit, Clear}
+use Rattle.sem_msg.specs.declared.call.Call.TheVariants.{Derive, Gate, Obtain, Delegate, OpenSession, AskOffer, Revoke, Bind, Read as ReadCall}
+use Rattle.sem_msg.specs.declared.call.Call.TheVariants.{Write as WriteCall, Send as SendCall, Credit, Exit, Clear}
 use Rattle.sem_msg.specs.declared.entry.Detail.{Detail}
 use Rattle.sem_msg.specs.declared.entry.Detail.TheVariants.{Called, Nothing}
 use Rattle.sem_msg.specs.declared.entry.Entry.{Entry}
@@ -46,7 +47,8 @@ module _ (T : Setup) (S : IsService T) where
   pub no-kill : (i : ℕ) (s : Side) (w : ℕ) → is_locally_enabled T i s (Kill w) ≡ true → ⊥
   unfolding is_locally_enabled
   no-kill i s w enabled =
-      let due = (and_parts (is_alive s w) (is_some (kill_number T w)) (and_parts (kernel_of T w == i) (is_alive s w && is_some (kill_number T w)) enabled).1).1 in
+      let due = (and_parts (is_alive s w) (is_some (kill_number T w)) (and_parts (kernel_of T w == i) (is_alive s w && is_some (kill_number T w)) enabled).1).1
+      in
       let none : kill_number T w ≡ None = ap (λ ks. option_map (λ (k : ℕ × ℕ). k.1) (find (λ (k : ℕ × ℕ). k.0 == w) ks)) S.no_kills in
       let no' : false ≡ true = sym (ap is_some none) ∙ due in
       absurd cc
@@ -76,7 +78,8 @@ module _ (T : Setup) (S : IsService T) where
       from : (o : Option Call) → next_call T s w ≡ o → ⊥
       from None none = let no' : ends v (Calls w) Nothing ≡ true = ap (ends v (Calls w))
           (sym (told w refl ∙ ap (λ o. option_map_or (λ call. Called (row s w).next_call call) o Nothing) none)) ∙ is in absurd cc
-      from (Some c) at = by_call c at (ap (ends v (Calls w)) (sym (told w refl ∙ ap (λ o. option_map_or (λ call. Called (row s w).next_call call) o Nothing) at)) ∙ is)
+      from (Some c) at =
+          by_call c at (ap (ends v (Calls w)) (sym (told w refl ∙ ap (λ o. option_map_or (λ call. Called (row s w).next_call call) o Nothing) at)) ∙ is)
   act-goes-on i v s (Fetch j) d enabled told is = absurd cc
   act-goes-on i v s Handle d enabled told is = absurd cc
   act-goes-on i v s (Upcall w) d enabled told is = absurd cc

@@ -11,7 +11,8 @@ use Rattle.sem_key.specs.Capability.{Capability}
 use Rattle.sem_key.specs.CapList.{fresh}
 use Rattle.sem_key.proofs.Members.{found, Contains-from_filter}
 use Rattle.sem_msg.specs.declared.call.Call.{Call}
-use Rattle.sem_msg.specs.declared.call.Call.TheVariants.{Derive, Gate, Obtain, Delegate, OpenSession, AskOffer, Revoke, Bind, Read as ReadCall, Write as WriteCall, Send as SendCall, Credit, Exit, Clear}
+use Rattle.sem_msg.specs.declared.call.Call.TheVariants.{Derive, Gate, Obtain, Delegate, OpenSession, AskOffer, Revoke, Bind, Read as ReadCall}
+use Rattle.sem_msg.specs.declared.call.Call.TheVariants.{Write as WriteCall, Send as SendCall, Credit, Exit, Clear}
 use Rattle.sem_msg.specs.declared.entry.Entry.{Entry}
 use Rattle.sem_msg.specs.declared.event.Act.{Act}
 use Rattle.sem_msg.specs.declared.event.Act.TheVariants.{Call as Calls, Fetch, Handle, Upcall, Resume, Flush, Kill}
@@ -35,7 +36,8 @@ use Rattle.sem_machine.specs.Schedules.{IsSchedule, world_after}
 use Rattle.sem_machine.proofs.Folds.{in_turn-keeps_each}
 use Rattle.sem_safety.proofs.CarryingWorlds.{side-in, after-in}
 use Rattle.sem_safety.proofs.Layers.{Facts, AsksFor, Awaits, Brings, InEndpoint, InGrant, InCut}
-use Rattle.sem_safety.proofs.Carrying.{AreFitting, InCap, InRow, InEndpoints, BringsAll, InSide, InWorld, All-drop_one, no_vpe-in, row-in, put_row-in, put_endpoints-in, cap_added-in}
+use Rattle.sem_safety.proofs.Carrying.{AreFitting, InCap, InRow, InEndpoints, BringsAll, InSide, InWorld, All-drop_one, no_vpe-in, row-in, put_row-in}
+use Rattle.sem_safety.proofs.Carrying.{put_endpoints-in, cap_added-in}
 use Rattle.sem_safety.proofs.GoingOn.{AnyVpe, may_act}
 use Rattle.sem_safety.proofs.KeptRows.{CallGives}
 use Rattle.sem_safety.proofs.KeptSteps.{Dies, AskGives, ActGives}
@@ -78,7 +80,8 @@ module _ (T : Setup) (S : IsService T) where
   root-whole : (d : VpeDecl) → Contains T.vpes d → (r : Root) → Contains d.roots r → (s : Side) → InSide whole s → InSide whole (root_added d r s)
   root-whole d declared r among s is =
       let c : Capability = fresh (next_root d r (row s d.vpe)) None r.sel r.object in
-      put_row-in whole (cap_added c s) (cap_added-in whole s is c (S.whole d r declared among) refl refl) d.vpe (root_held d r (row s d.vpe)) (row-in whole s is d.vpe)
+      put_row-in whole (cap_added c s) (cap_added-in whole s is c (S.whole d r declared among) refl refl) d.vpe (root_held d r (row s d.vpe))
+      (row-in whole s is d.vpe)
 
   vpe-whole : (d : VpeDecl) → Contains T.vpes d → (s : Side) → InSide whole s → InSide whole (vpe_added d s)
   vpe-whole d declared s is =
@@ -88,7 +91,8 @@ module _ (T : Setup) (S : IsService T) where
 
   side-whole : (i : ℕ) → InSide whole (start_side T i)
   unfolding start_side
-  side-whole i = in_turn-keeps_each (InSide whole) vpe_added (own_vpes T i) (λ d among s is. vpe-whole d (Contains-from_filter (runs_on T i) T.vpes d among).0 s is)
+  side-whole i = in_turn-keeps_each (InSide whole) vpe_added (own_vpes T i)
+      (λ d among s is. vpe-whole d (Contains-from_filter (runs_on T i) T.vpes d among).0 s is)
       (empty_side T) (record {
         caps = All-nil (InCap whole);
         rows = All-replicate (InRow whole) 128 no_vpe (no_vpe-in whole);
@@ -202,5 +206,6 @@ module _ (T : Setup) (S : IsService T) (J : List Entry) (e : Entry) (runs' : IsS
   pub whole-next : InWorld whole (world_after T (J ++ e ∷ []))
   whole-next =
       subst (InWorld whole) (sym (world-next T J e))
-      (after-in whole AnyVpe T W e.event (may_act e.event.act) is whole-fitting (act-gives e.event.act refl) (dies e.event.act) (in-grant (entry_of T W e.event).grant)
+      (after-in whole AnyVpe T W e.event (may_act e.event.act) is whole-fitting (act-gives e.event.act refl) (dies e.event.act)
+      (in-grant (entry_of T W e.event).grant)
       (λ v n may low below. tt) (in-cut (entry_of T W e.event).cut))

@@ -1,8 +1,7 @@
 -- What the functions that compile an act promise.
 use Rattle.std.specs.Prelude.{ℕ, ◌≤◌, List}
 use Rattle.std.specs.List.{flat_map}
-use Rattle.sem_msg.specs.declared.call.Call.{Call}
-use Rattle.sem_msg.specs.declared.call.Call.TheVariants.{Read as ReadCall, Write as WriteCall}
+use Rattle.sem_machine.specs.Prelude.{Call, Read as ReadCall, Write as WriteCall}
 use Rattle.sem_files.specs.declared.files.FileAct.{FileAct}
 use Rattle.sem_files.specs.declared.files.FileAct.TheVariants.{OpenFile, Read, Write, Share, Close}
 use Rattle.sem_files.specs.Compiled.{ACCESS, below, part_accessed}

@@ -1,7 +1,7 @@
 -- The clients, as the function that lists them promises.
 use Rattle.std.specs.Prelude.{ℕ, List, map, filter}
 use Rattle.std.specs.List.{range_with_len}
-use Rattle.sem_msg.specs.declared.setup.VpeDecl.{VpeDecl}
+use Rattle.sem_machine.specs.Prelude.{VpeDecl}
 use Rattle.sem_files.specs.Files.{Files, is_client}
 use Rattle.sem_files.specs.Compiled.{client}
 

@@ -1,12 +1,9 @@
 -- Which call of a VPE drew a number ("The file service" in docs/proof.md).
 use Rattle.std.specs.Prelude.{◌≡◌, ℕ, ◌<◌, ◌+◌, List, [], ◌∷◌, ◌++◌}
-use Rattle.sem_msg.specs.declared.entry.Entry.{Entry}
-use Rattle.sem_msg.specs.Setup.{Setup}
-use Rattle.sem_machine.specs.Sides.{row}
-use Rattle.sem_machine.specs.Schedules.{world_after}
+use Rattle.sem_machine.specs.Prelude.{Entry, Setup, row, world_after}
 use Rattle.sem_fs.specs.Holding.{home}
 
--- number n of VPE v was drawn by its call m: by the entry by which it made that call
+-- number n of VPE v was drawn by its call m: by the entry in which it made that call
 pub record IsDrawnBy (T : Setup) (J : List Entry) (v n m : ℕ) : Type 0 where
   pub before : List Entry
   pub later : List Entry

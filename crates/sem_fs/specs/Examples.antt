@@ -1,17 +1,10 @@
--- A file that is opened, written and closed by one client, and what comes of it: a test of the
--- definitions by computation.
+-- A file that one client opens, writes and closes, and what comes of it: a test of the definitions
+-- by computation.
 use Rattle.std.specs.Prelude.{◌≡◌, ℕ, zero, suc, Bool, true, List, [], ◌∷◌, length, map, flat_map, ◌==◌}
 use Rattle.std.specs.List.{list_all}
-use Rattle.sem_key.specs.declared.key.Kind.TheVariants.{Mem as MemKind, Serv as ServKind, Sess as SessKind}
-use Rattle.sem_key.specs.KeyName.{KeyName}
-use Rattle.sem_msg.specs.declared.call.Call.TheVariants.{OpenSession, AskOffer, Delegate, Revoke, Bind, Write as WriteCall}
-use Rattle.sem_msg.specs.declared.event.Event.{Event}
-use Rattle.sem_msg.specs.declared.entry.Entry.{Entry}
-use Rattle.sem_msg.specs.Setup.{Setup}
-use Rattle.sem_msg.specs.Journal.{replies}
-use Rattle.sem_machine.specs.Machine.{World, start, after, entry_of, enabled}
-use Rattle.sem_machine.specs.Schedules.{world_after}
-use Rattle.sem_machine.specs.Journals.{made, cut}
+use Rattle.sem_machine.specs.Prelude.{MemKind, ServKind, SessKind, KeyName, OpenSession, AskOffer, Delegate, Revoke}
+use Rattle.sem_machine.specs.Prelude.{Bind, Write as WriteCall, Event, Entry, Setup, replies, World, start, after}
+use Rattle.sem_machine.specs.Prelude.{entry_of, enabled, world_after, made, cut}
 use Rattle.sem_files.specs.declared.files.FileAct.TheVariants.{OpenFile, Write, Share, Close}
 use Rattle.sem_files.specs.Files.{Files}
 use Rattle.sem_files.specs.Compiled.{client_calls, compiled}
@@ -20,7 +13,7 @@ use Rattle.sem_fs.specs.Openings.{Opening, IsClosed}
 abbrev pub key : ℕ → ℕ → KeyName
 key v n = record { pe = v; vpe = v; kind = MemKind; number = n }
 
--- one client, and one file of two extents, which is written across their border
+-- one client, and one file of two extents, written across their border
 unfoldable pub one_client : Files
 one_client = record {
   kernels = 2;
@@ -33,7 +26,8 @@ one_client = record {
       ∷ [];
 }
 
--- three clients, two of which share and close while one opens the file again under its handle
+-- three clients: two of them share and close, and one of these opens the file again under its
+-- handle
 unfoldable pub three_clients : Files
 three_clients = record {
   kernels = 2;
@@ -51,7 +45,7 @@ three_clients = record {
       ∷ [];
 }
 
--- the entries from a world on where always the first of the enabled events happens, n at most
+-- the entries from a world on if the first enabled event always happens, at most n
 unfoldable pub first_run : Setup → ℕ → World → List Event → List Entry
 first_run T zero W es = []
 first_run T (suc n) W [] = []
@@ -112,8 +106,8 @@ calls_of_three =
 abbrev pub run_of_three : Type 0
 run_of_three = list_all (λ r. r.code == 0) (replies (run_of three_clients 300)) ≡ true
 
--- What the laws speak of is there: its commands pass the tests of the grammar, its run is a
--- schedule, and behind it the file is closed.
+-- The laws are not empty: these commands pass the tests of the grammar, their run is a schedule,
+-- and after it the file is closed.
 abbrev pub journal_of_one : List Entry
 journal_of_one = run_of one_client 100
 

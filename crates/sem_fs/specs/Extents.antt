@@ -1,11 +1,11 @@
 -- The extents of files, as the functions that look them up promise.
 use Rattle.std.specs.Prelude.{ℕ, ◌==◌, ◌<◌, List, [], ◌∷◌, map, find}
 use Rattle.std.specs.Option.{option_map_or}
-use Rattle.sem_msg.specs.declared.setup.VpeDecl.{VpeDecl}
+use Rattle.sem_machine.specs.Prelude.{VpeDecl}
 use Rattle.sem_files.specs.declared.files.FileDecl.{FileDecl}
 use Rattle.sem_files.specs.Compiled.{SERVER, service_root, root_of_extent}
 
--- how many extents a file has among these; none, if it is not declared
+-- how many extents a file has among these; 0 if it is not declared
 abbrev pub extents_among : List FileDecl → ℕ → ℕ
 extents_among files f = option_map_or (λ d. d.extents) (find (λ d. d.file == f) files) 0
 

@@ -1,11 +1,6 @@
--- What is so after every schedule of a file service ("The file service" in docs/proof.md).
+-- What holds after every schedule of a file service ("The file service" in docs/proof.md).
 use Rattle.std.specs.Prelude.{◌≡◌, ℕ, List, Contains, Some}
-use Rattle.sem_msg.specs.declared.entry.Entry.{Entry}
-use Rattle.sem_msg.specs.declared.entry.Reply.{Reply}
-use Rattle.sem_msg.specs.declared.setup.VpeDecl.{VpeDecl}
-use Rattle.sem_msg.specs.Setup.{Setup}
-use Rattle.sem_msg.specs.Lookups.{decl}
-use Rattle.sem_machine.specs.Schedules.{world_after}
+use Rattle.sem_machine.specs.Prelude.{Entry, Reply, VpeDecl, Setup, decl, world_after}
 use Rattle.sem_files.specs.Compiled.{SERVER}
 use Rattle.sem_fs.specs.Serving.{IsServedWorld}
 use Rattle.sem_fs.specs.Holding.{IsHolding}

@@ -4,7 +4,7 @@ use Rattle.sem_files.specs.declared.files.FileAct.{FileAct}
 use Rattle.sem_files.specs.declared.files.FileAct.TheVariants.{OpenFile}
 use Rattle.sem_files.specs.Files.{handle_of}
 
--- the file that an act is about, where the handles of its client are open so
+-- the file that an act is about, given what the handles of its client have open
 abbrev pub file_in : List (Option ℕ) → FileAct → ℕ
 file_in handles (OpenFile handle file) = file
 file_in handles act = unwrap_or (slice_index_or handles (handle_of act) None) 0

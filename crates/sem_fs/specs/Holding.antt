@@ -1,19 +1,11 @@
--- What a client holds after a schedule: what it asked for, at the selectors that its calls tell
+-- What a client holds after a schedule: what it asked for, at the selectors that its calls name
 -- ("The file service" in docs/proof.md).
 use Rattle.std.specs.Prelude.{◌≡◌, ℕ, ◌<◌, true, false, ◌⊎◌, List, [], take, Contains, Option, Some, None}
-use Rattle.sem_key.specs.KeyName.{KeyName}
-use Rattle.sem_msg.specs.declared.call.Call.{Call}
-use Rattle.sem_msg.specs.declared.entry.Entry.{Entry}
-use Rattle.sem_msg.specs.declared.state.Parked.{Parked}
-use Rattle.sem_msg.specs.declared.state.Parked.TheVariants.{ObtainWait, ObtainReady, ObtainCancelled, DelegateWait, DelegateReady, RevokeWait, Ready}
-use Rattle.sem_msg.specs.declared.state.Slot.TheVariants.{Free, Held}
-use Rattle.sem_msg.specs.Setup.{Setup}
-use Rattle.sem_msg.specs.Lookups.{kernel_of, calls_of}
-use Rattle.sem_machine.specs.Sides.{Side, row, slot, parked}
+use Rattle.sem_machine.specs.Prelude.{KeyName, Call, Entry, Parked, ObtainWait, ObtainReady, ObtainCancelled}
+use Rattle.sem_machine.specs.Prelude.{DelegateWait, DelegateReady, RevokeWait, Ready, Free, Held, Setup, kernel_of}
+use Rattle.sem_machine.specs.Prelude.{Side, row, slot, parked, World, side, world_after, grants, root_keys, cut_from}
+use Rattle.sem_msg.specs.Lookups.{calls_of}
 use Rattle.sem_machine.specs.Sound.{kept}
-use Rattle.sem_machine.specs.Machine.{World, side}
-use Rattle.sem_machine.specs.Schedules.{world_after}
-use Rattle.sem_machine.specs.Journals.{grants, root_keys, cut_from}
 use Rattle.sem_files.specs.Compiled.{SESSION}
 use Rattle.sem_fs.specs.Service.{GIVEN, holds}
 
@@ -30,14 +22,14 @@ pub record IsGiven (T : Setup) (J : List Entry) (k : KeyName) : Type 0 where
   pub root : Contains (root_keys T) parent
   pub granted : Contains (grants J) (parent, k)
 
--- what was asked for is at the selector, and was not cut off
+-- the selector holds what was asked for, and it was not cut off
 pub record Holds (T : Setup) (J : List Entry) (v sel : ℕ) : Type 0 where
   pub key : KeyName
   pub at : slot (home T (world_after T J) v) v sel ≡ Held key
   pub given : IsGiven T J key
   pub uncut : Contains (cut_from [] J) key → ⊥
 
--- the selector is free, or what is there was cut off
+-- the selector is free, or what it holds was cut off
 pub record IsLeft (T : Setup) (J : List Entry) (v sel : ℕ) : Type 0 where
   pub key : KeyName
   pub at : slot (home T (world_after T J) v) v sel ≡ Held key
@@ -47,7 +39,7 @@ pub record IsLeft (T : Setup) (J : List Entry) (v sel : ℕ) : Type 0 where
 abbrev pub Lacks : Setup → List Entry → ℕ → ℕ → Type 0
 Lacks T J v sel = (slot (home T (world_after T J) v) v sel ≡ Free) ⊎ IsLeft T J v sel
 
--- the call that is parked waits for what comes to the selector
+-- the parked call waits for a capability that comes to the selector
 abbrev pub Awaits : Setup → World → ℕ → ℕ → Type 0
 Awaits T W v sel = (number : ℕ) × (kept (parked (home T W v) v) ≡ Some (number, sel))
 
@@ -62,7 +54,7 @@ Offers (Some (DelegateReady parent key)) p = parent ≡ p
 Offers (Some (RevokeWait j)) p = ⊥
 Offers (Some (Ready code)) p = ⊥
 
--- the key is at a selector of the client for an extent
+-- the client holds the key at a selector for an extent
 pub record IsHeldExtent (T : Setup) (W : World) (v : ℕ) (k : KeyName) : Type 0 where
   pub selector : ℕ
   pub beyond : SESSION < selector

@@ -1,18 +1,9 @@
 -- The laws of file services, and of file commands ("The file service" in docs/proof.md).
 use Rattle.std.specs.Prelude.{◌≡◌, ◌⊎◌, ℕ, false, List, Contains, Some, None}
-use Rattle.sem_key.specs.KeyName.{KeyName}
-use Rattle.sem_key.specs.Capability.{Capability}
-use Rattle.sem_msg.specs.declared.entry.Entry.{Entry}
-use Rattle.sem_msg.specs.declared.message.Message.TheVariants.{RevokeReq}
-use Rattle.sem_msg.specs.declared.setup.VpeDecl.{VpeDecl}
-use Rattle.sem_msg.specs.declared.state.Parked.TheVariants.{RevokeWait, Ready}
-use Rattle.sem_msg.specs.Setup.{Setup}
-use Rattle.sem_msg.specs.Lookups.{decl}
-use Rattle.sem_machine.specs.Sides.{parked}
-use Rattle.sem_machine.specs.Machine.{World}
-use Rattle.sem_machine.specs.Schedules.{IsSchedule, world_after}
-use Rattle.sem_machine.specs.Journals.{grants, root_keys, has_ended, Descends}
-use Rattle.sem_machine.specs.Living.{HoldsCap, InFlight, IsLive}
+use Rattle.sem_machine.specs.Prelude.{KeyName, Capability, Entry, RevokeReq, VpeDecl, RevokeWait, Ready, Setup, decl}
+use Rattle.sem_machine.specs.Prelude.{parked, World, IsSchedule, world_after, grants, root_keys, has_ended, HoldsCap}
+use Rattle.sem_machine.specs.Prelude.{InFlight, IsLive}
+use Rattle.sem_machine.specs.Journals.{Descends}
 use Rattle.sem_machine.specs.Safety.{IsInUse}
 use Rattle.sem_files.specs.Files.{Files}
 use Rattle.sem_files.specs.Compiled.{compiled, AreFiles}
@@ -25,7 +16,7 @@ use Rattle.sem_fs.specs.Going.{AllSucceed}
 abbrev pub OfServices : (Setup → List Entry → Type 0) → Type 0
 OfServices P = (T : Setup) → IsService T → (J : List Entry) → IsSchedule T J → P T J
 
--- in every schedule of what file commands are compiled to
+-- in every schedule of the setup that file commands compile to
 abbrev pub OfFiles : (Files → List Entry → Type 0) → Type 0
 OfFiles P = (F : Files) → AreFiles F → (J : List Entry) → IsSchedule (compiled F) J → P F J
 
@@ -41,14 +32,14 @@ IsRevoking T W v =
     ((n : ℕ) × (parked (home T W v) v ≡ Some (RevokeWait n)))
     ⊎ ((code : ℕ) × (parked (home T W v) v ≡ Some (Ready code)))
 
--- what was granted below a root is marked only while its VPE waits for a revoke
+-- a capability granted below a root is marked only while its VPE waits for a revoke
 abbrev pub marks_are_own : Setup → List Entry → Type 0
 marks_are_own T J =
     (p k : KeyName) (d : VpeDecl) → Contains (root_keys T) p → Contains (grants J) (p, k)
     → decl T k.vpe ≡ Some d → (IsRevoking T (world_after T J) k.vpe → ⊥)
     → (i : ℕ) (c : Capability) → HoldsCap (world_after T J) i k c → c.mark ≡ None
 
--- and is asked to be revoked only then
+-- and a request to revoke it exists only then
 abbrev pub requests_are_own : Setup → List Entry → Type 0
 requests_are_own T J =
     (p k : KeyName) (d : VpeDecl) → Contains (root_keys T) p → Contains (grants J) (p, k)

@@ -1,12 +1,8 @@
 -- What a journal tells of file commands: the keys of an opening, and when it is closed ("File
 -- commands" in docs/machine.md).
-use Rattle.std.specs.Prelude.{◌≡◌, ℕ, ◌<◌, ◌+◌, ◌==◌, Bool, true, false, List, [], ◌∷◌, ◌++◌, length, filter, Contains, Some}
-use Rattle.sem_key.specs.KeyName.{KeyName}
-use Rattle.sem_msg.specs.declared.event.Act.{Act}
-use Rattle.sem_msg.specs.declared.event.Act.TheVariants.{Call as Calls}
-use Rattle.sem_msg.specs.declared.entry.Consent.TheVariants.{Yes}
-use Rattle.sem_msg.specs.declared.entry.Detail.TheVariants.{Asked}
-use Rattle.sem_msg.specs.declared.entry.Entry.{Entry}
+use Rattle.std.specs.Prelude.{◌≡◌, ℕ, ◌<◌, ◌+◌, ◌==◌, Bool, true, false, List, [], ◌∷◌, ◌++◌, length, filter}
+use Rattle.std.specs.Prelude.{Contains, Some}
+use Rattle.sem_machine.specs.Prelude.{KeyName, Act, Calls, Yes, Asked, Entry}
 use Rattle.sem_machine.specs.Living.{reply_count}
 use Rattle.sem_files.specs.declared.files.FileAct.TheVariants.{OpenFile, Close}
 use Rattle.sem_files.specs.declared.files.Command.{Command}
@@ -27,8 +23,7 @@ call_count J v = length (filter (λ e. is_call_of v e.event.act) J)
 abbrev pub HasReply : List Entry → ℕ → ℕ → Type 0
 HasReply J v n = n < reply_count J v
 
--- the key was granted to call n of v: somebody consented to what v asked when that was the last
--- call of v
+-- the key was granted to call n of v: a VPE consented to v's ask while that was the last call of v
 pub record IsGrantedTo (J : List Entry) (v n : ℕ) (k : KeyName) : Type 0 where
   pub before : List Entry
   pub later : List Entry
@@ -64,7 +59,7 @@ pub record IsKeyOf {F : Files} (J : List Entry) (o : Opening F) (k : KeyName) : 
   pub within : extent < extents_of F o.file
   pub granted : IsGrantedTo J o.client (calls_before F o.client o.before + extent) k
 
--- the command that closes what was opened: the first one about the handle that does
+-- the command that closes an opening: the first one about the handle that closes it
 pub record Closing {F : Files} (o : Opening F) : Type 0 where
   pub between : List Command
   pub behind : List Command

@@ -1,6 +1,6 @@
 -- The owners of PEs, as the functions that set them promise.
 use Rattle.std.specs.Prelude.{◌≡◌, ◌≢◌, ℕ, ◌<◌, ◌≤◌, length, None}
-use Rattle.sem_key.specs.declared.limits.TheConstants.{PES}
+use Rattle.sem_machine.specs.Prelude.{PES}
 use Rattle.sem_key.specs.MembershipTable.{MembershipTable, owner_at}
 use Rattle.sem_files.specs.Files.{Files}
 use Rattle.sem_files.specs.Compiled.{owner_of_pe}

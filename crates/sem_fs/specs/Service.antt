@@ -1,32 +1,28 @@
--- What a setup of file commands is like, as far as its schedules depend on it: a server that rests,
--- and clients whose calls are in order ("The file service" in docs/proof.md).
-use Rattle.std.specs.Prelude.{◌≡◌, ◌≢◌, ℕ, ◌<◌, ◌≤◌, ◌+◌, ◌==◌, Bool, true, false, ◌&&◌, List, [], ◌∷◌, ◌++◌, length, take, fold, filter, sum_by, slice_get, Contains, Some, if◌then◌else◌}
+-- The setup of file commands, as far as its schedules depend on it: a server that rests, and
+-- clients whose calls are in order ("The file service" in docs/proof.md).
+use Rattle.std.specs.Prelude.{◌≡◌, ◌≢◌, ℕ, ◌<◌, ◌≤◌, ◌+◌, ◌==◌, Bool, true, false, ◌&&◌, List, [], ◌∷◌, ◌++◌, length}
+use Rattle.std.specs.Prelude.{take, fold, filter, sum_by, slice_get, Contains, Some, if◌then◌else◌}
 use Rattle.sem_key.specs.declared.limits.TheConstants.{NUMBERS, RIGHTS}
-use Rattle.sem_key.specs.declared.object.Object.{Object}
-use Rattle.sem_key.specs.declared.object.Object.TheVariants.{Mem, Recv, Send, Serv, Sess}
-use Rattle.sem_key.specs.KeyName.{KeyName}
-use Rattle.sem_msg.specs.declared.call.Call.{Call}
-use Rattle.sem_msg.specs.declared.call.Call.TheVariants.{Derive, Gate, Obtain, Delegate, OpenSession, AskOffer, Revoke, Bind, Read as ReadCall, Write as WriteCall, Send as SendCall, Credit, Exit, Clear}
-use Rattle.sem_msg.specs.declared.setup.Root.{Root}
-use Rattle.sem_msg.specs.declared.setup.VpeDecl.{VpeDecl}
-use Rattle.sem_msg.specs.Setup.{Setup, IsSetup}
-use Rattle.sem_msg.specs.Lookups.{decl, calls_of, is_declared, service_named, offered}
-use Rattle.sem_machine.specs.Journals.{root_keys}
+use Rattle.sem_machine.specs.Prelude.{Object, Mem, Recv, Send, Serv, Sess, KeyName, Call, Derive, Gate, Obtain}
+use Rattle.sem_machine.specs.Prelude.{Delegate, OpenSession, AskOffer, Revoke, Bind, Read as ReadCall}
+use Rattle.sem_machine.specs.Prelude.{Write as WriteCall, SendCall, Credit, Exit, Clear, Root, VpeDecl, Setup}
+use Rattle.sem_machine.specs.Prelude.{IsSetup, decl, root_keys}
+use Rattle.sem_msg.specs.Lookups.{calls_of, is_declared, service_named, offered}
 use Rattle.sem_files.specs.Files.{EXTENT}
 use Rattle.sem_files.specs.Compiled.{SERVER, SESSION, ACCESS, service_key}
 
--- Selectors. Below this number a client holds what it asked for, from it on what it was given.
+-- Selectors. Below this number a client holds what it asked for, and from it on what it was given.
 abbrev pub GIVEN : ℕ
 GIVEN = 128
 
--- whether a VPE holds something at a selector that it asked for, behind a call that succeeded
+-- whether a VPE holds something that it asked for at a selector, after a call that succeeded
 abbrev pub holds_after : ℕ → Bool → Call → Bool
 holds_after sel held (OpenSession dst name) = if dst == sel then true else held
 holds_after sel held (AskOffer dst session index) = if dst == sel then true else held
 holds_after sel held (Revoke src) = if src == sel then false else held
 holds_after sel held c = held
 
--- and behind calls that all succeeded
+-- and after calls that all succeeded
 abbrev pub holds : List Call → ℕ → Bool
 holds before sel = fold (holds_after sel) false before
 
@@ -59,7 +55,7 @@ pub record IsBound (before : List Call) : Type 0 where
 abbrev pub IsAccess : List Call → ℕ → ℕ → ℕ → Type 0
 IsAccess before ep off len = (ep ≡ ACCESS) × (off + len ≤ EXTENT) × IsBound before
 
--- a call that VPE v may make behind others
+-- a call that VPE v may make after others
 abbrev pub IsInOrder : Setup → ℕ → List Call → Call → Type 0
 IsInOrder T v before (OpenSession dst name) =
     (dst ≡ SESSION) × (name ≡ 0) × (holds before dst ≡ false)
@@ -87,12 +83,12 @@ is_ask (OpenSession dst name) = true
 is_ask (AskOffer dst session index) = true
 is_ask c = false
 
--- whether a call gives to such a selector of a VPE
+-- whether a call gives to a selector of a VPE that passes the test
 abbrev pub gives_where : ℕ → (ℕ → Bool) → Call → Bool
 gives_where w such (Delegate src to dst) = (to == w) && such dst
 gives_where w such c = false
 
--- how many calls of a VPE give so, and of all VPEs
+-- how many calls of one VPE give so, and how many of all VPEs
 abbrev pub gives : Setup → ℕ → (ℕ → Bool) → VpeDecl → ℕ
 gives T w such d = length (filter (gives_where w such) (calls_of T d.vpe))
 
@@ -111,7 +107,7 @@ numbers_wanted T w = sum_by (draws T w) T.vpes
 
 pub record IsService (T : Setup) : Type 0 where
   pub setup : IsSetup T
-  -- the server is declared, has all that there is at the start, and makes no call
+  -- the server is declared, has everything at the start, and makes no call
   pub server : VpeDecl
   pub declared : decl T SERVER ≡ Some server
   pub roots : (k : KeyName) → Contains (root_keys T) k → k.vpe ≡ SERVER
@@ -120,14 +116,14 @@ pub record IsService (T : Setup) : Type 0 where
   pub service_is_root : Contains (root_keys T) service_key
   pub whole :
       (d : VpeDecl) (r : Root) → Contains T.vpes d → Contains d.roots r → IsWhole r.object
-  -- nothing is denied, and nobody is killed
+  -- no pair is denied, and no VPE is killed
   pub no_denies : T.denies ≡ []
   pub no_kills : T.kills ≡ []
   -- calls are in order
   pub calls :
       (v n : ℕ) (c : Call) → slice_get (calls_of T v) n ≡ Some c
       → IsInOrder T v (take n (calls_of T v)) c
-  -- a selector of a client is given to once at most, and nothing is given to the server
+  -- at most one call gives to a selector of a client, and none to the server
   pub given_once : (w dst : ℕ) → GIVEN ≤ dst → times_given T w (λ sel. sel == dst) ≤ 1
   pub ungiven : times_given T SERVER any ≡ 0
   -- numbers do not run out

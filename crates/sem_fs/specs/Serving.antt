@@ -1,21 +1,14 @@
--- What a file service has under way, kernel by kernel: only what may be asked for, and no refusal
--- ("The file service" in docs/proof.md).
+-- What a file service has under way, kernel by kernel: only allowed asks, and no refusal ("The file
+-- service" in docs/proof.md).
 use Rattle.std.specs.Prelude.{◌≡◌, ℕ, ◌≤◌, Contains, Option, Some, None}
-use Rattle.sem_key.specs.PlaceName.{PlaceName}
-use Rattle.sem_msg.specs.declared.message.Message.{Message}
-use Rattle.sem_msg.specs.declared.message.Message.TheVariants.{ObtainReq, ObtainOk, ObtainNo, DelegateReq, DelegatePrepared, DelegateNo, Ack, Orphan, RevokeReq, RevokeDone, Unlink}
+use Rattle.sem_machine.specs.Prelude.{PlaceName, Message, ObtainReq, ObtainOk, ObtainNo, DelegateReq}
+use Rattle.sem_machine.specs.Prelude.{DelegatePrepared, DelegateNo, Ack, Orphan, RevokeReq, RevokeDone, Unlink}
+use Rattle.sem_machine.specs.Prelude.{SelTarget, ServTarget, OfferTarget, Ask, ObtainAsk, DelegateAsk, Parked}
+use Rattle.sem_machine.specs.Prelude.{ObtainWait, ObtainReady, ObtainCancelled, DelegateWait, DelegateReady}
+use Rattle.sem_machine.specs.Prelude.{RevokeWait, Ready, Pending, Setup, root_keys, World, side, link, Side, row}
+use Rattle.sem_machine.specs.Prelude.{parked, outbox}
 use Rattle.sem_msg.specs.declared.message.Target.{Target}
-use Rattle.sem_msg.specs.declared.message.Target.TheVariants.{Sel as SelTarget, Serv as ServTarget, Offer as OfferTarget}
-use Rattle.sem_msg.specs.declared.state.Ask.{Ask}
-use Rattle.sem_msg.specs.declared.state.Ask.TheVariants.{Obtain as ObtainAsk, Delegate as DelegateAsk}
-use Rattle.sem_msg.specs.declared.state.Parked.{Parked}
-use Rattle.sem_msg.specs.declared.state.Parked.TheVariants.{ObtainWait, ObtainReady, ObtainCancelled, DelegateWait, DelegateReady, RevokeWait, Ready}
-use Rattle.sem_msg.specs.declared.state.Pending.{Pending}
-use Rattle.sem_msg.specs.Setup.{Setup}
 use Rattle.sem_msg.specs.Lookups.{offered}
-use Rattle.sem_machine.specs.Journals.{root_keys}
-use Rattle.sem_machine.specs.Machine.{World, side, link}
-use Rattle.sem_machine.specs.Sides.{Side, row, parked, outbox}
 use Rattle.sem_files.specs.Compiled.{SERVER, service_key}
 use Rattle.sem_fs.specs.Service.{GIVEN, IsExtent}
 
@@ -26,14 +19,14 @@ IsServed T (ServTarget service) = service ≡ service_key
 IsServed T (OfferTarget service index) =
     (service ≡ service_key) × ((sel : ℕ) × (offered T service_key index ≡ Some sel) × IsExtent T sel)
 
--- What follows takes a relation of places and targets: which place asks for which target.
+-- The following takes a relation of places and targets: which place asks for which target.
 
--- the server is asked for what it serves, and a client is given to where it may be
+-- the server is asked only for what it serves, and a client is given to only where it may be
 abbrev pub IsAskBy : (PlaceName → Target → Type 0) → ℕ → Ask → Type 0
 IsAskBy A u (ObtainAsk place target) = (u ≡ SERVER) × A place target
 IsAskBy A u (DelegateAsk parent object sel) = GIVEN ≤ sel
 
--- no message refuses, and what is given to a client comes from a root of the server
+-- no message refuses, and everything given to a client comes from a root of the server
 abbrev pub IsMessageBy : Setup → (PlaceName → Target → Type 0) → Message → Type 0
 IsMessageBy T A (ObtainReq place target) = A place target
 IsMessageBy T A (ObtainOk parent key object) = Contains (root_keys T) parent
@@ -66,12 +59,12 @@ pub record IsSideBy (T : Setup) (A : PlaceName → Target → Type 0) (s : Side)
   pub outs : (j : ℕ) (m : Message) → Contains (outbox s j) m → IsMessageBy T A m
   pub inbox : (from : ℕ) (m : Message) → s.inbox ≡ Some (from, m) → IsMessageBy T A m
 
--- and a world
+-- a world with nothing else
 pub record IsWorldBy (T : Setup) (A : PlaceName → Target → Type 0) (W : World) : Type 0 where
   pub sides : (i : ℕ) → IsSideBy T A (side W i)
   pub links : (i j : ℕ) (m : Message) → Contains (link W i j) m → IsMessageBy T A m
 
--- Where any place asks for what is served.
+-- The relation in which any place asks for anything served.
 
 abbrev pub Served : Setup → PlaceName → Target → Type 0
 Served T place target = IsServed T target

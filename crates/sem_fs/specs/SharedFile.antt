@@ -1,20 +1,11 @@
--- Two clients and a file: the second shares it and closes it while the share is on its way to the
--- other kernel, and then the first writes. So what the laws of file commands speak of is there.
-use Rattle.std.specs.Prelude.{◌≡◌, ℕ, Bool, true, ◌&&◌, ◌==◌, List, [], ◌∷◌, length, slice_get, Option, Some, None, option_map}
+-- Two clients and a file. The second shares it and closes it while the share is on its way to the
+-- other kernel; then the first writes. So the laws of file commands are not empty.
+use Rattle.std.specs.Prelude.{◌≡◌, ℕ, Bool, true, ◌&&◌, ◌==◌, List, [], ◌∷◌, length, slice_get, Option, Some, None}
+use Rattle.std.specs.Prelude.{option_map}
 use Rattle.std.specs.List.{list_all}
-use Rattle.sem_key.specs.declared.key.Kind.TheVariants.{Mem as MemKind}
-use Rattle.sem_key.specs.KeyName.{KeyName}
-use Rattle.sem_msg.specs.declared.call.Call.TheVariants.{Revoke, Write as WriteCall}
-use Rattle.sem_msg.specs.declared.message.Message.TheVariants.{Ack}
-use Rattle.sem_msg.specs.declared.event.Act.TheVariants.{Call as Calls, Fetch, Handle, Upcall, Resume, Flush}
-use Rattle.sem_msg.specs.declared.event.Event.{Event}
-use Rattle.sem_msg.specs.declared.entry.Detail.{Detail}
-use Rattle.sem_msg.specs.declared.entry.Detail.TheVariants.{Called, Carried}
-use Rattle.sem_msg.specs.declared.entry.Reply.{Reply}
-use Rattle.sem_msg.specs.declared.entry.Entry.{Entry}
-use Rattle.sem_msg.specs.Setup.{Setup}
-use Rattle.sem_msg.specs.Journal.{replies}
-use Rattle.sem_machine.specs.Machine.{World, event, start, after, entry_of, is_enabled}
+use Rattle.sem_machine.specs.Prelude.{MemKind, KeyName, Revoke, Write as WriteCall, Ack, Calls, Fetch, Handle, Upcall}
+use Rattle.sem_machine.specs.Prelude.{Resume, Flush, Event, Detail, Called, Carried, Reply, Entry, Setup, replies}
+use Rattle.sem_machine.specs.Prelude.{World, event, start, after, entry_of, is_enabled}
 use Rattle.sem_files.specs.declared.files.FileAct.TheVariants.{OpenFile, Write, Share, Close}
 use Rattle.sem_files.specs.Files.{Files}
 use Rattle.sem_files.specs.Compiled.{compiled}
@@ -35,7 +26,7 @@ two_clients = record {
       ∷ [];
 }
 
--- an order in which things happen
+-- an order of events
 unfoldable pub events : List Event
 events =
     event 0 (Calls 2)
@@ -91,7 +82,7 @@ unfoldable pub happened : Setup → World → List Event → List Entry
 happened T W [] = []
 happened T W (e ∷ es) = entry_of T W e ∷ happened T (after T W e) es
 
--- whether each of them is enabled in its turn
+-- whether each event is enabled in its turn
 unfoldable pub are_enabled : Setup → World → List Event → Bool
 are_enabled T W [] = true
 are_enabled T W (e ∷ es) = is_enabled T W e && are_enabled T (after T W e) es
@@ -106,7 +97,7 @@ abbrev pub detail_at : ℕ → Option Detail
 detail_at n = option_map (λ e. e.detail) (slice_get journal_of_two n)
 
 -- What the journal tells: client 2 closes, and only then the share is acknowledged to the other
--- kernel; client 1 writes behind the answer to the close; all 8 replies are successes.
+-- kernel. Client 1 writes after the answer to the close. All 8 replies are successes.
 pub record ClosesWhileSharing : Type 0 where
   pub closes : detail_at 33 ≡ Some (Called 3 (Revoke 1))
   pub acknowledged : detail_at 34 ≡ Some (Carried 1 (Ack (key 1 2) true))

@@ -1,29 +1,17 @@
--- What a schedule of a file service does not run out of: rooms and numbers for what is asked and
+-- What a schedule of a file service never runs out of: room and numbers for what is asked and
 -- given, and objects of the right kind ("The file service" in docs/proof.md).
 use Rattle.std.specs.Prelude.{◌≡◌, ℕ, ◌<◌, Bool, [], false, true, List, Contains, Option, Some, None, slice_get}
-use Rattle.sem_key.specs.KeyName.{KeyName}
-use Rattle.sem_key.specs.Capability.{Capability}
+use Rattle.sem_machine.specs.Prelude.{KeyName, Capability, Object, Call, Read as ReadCall, Write as WriteCall, Entry}
+use Rattle.sem_machine.specs.Prelude.{DelegateAsk, Free, Held, VpeDecl, Setup, decl, row, slot, cap, endpoint, World}
+use Rattle.sem_machine.specs.Prelude.{world_after, root_keys, cut_from, MemKind}
 use Rattle.sem_key.specs.declared.limits.TheConstants.{NUMBERS}
-use Rattle.sem_key.specs.declared.object.Object.{Object}
-use Rattle.sem_msg.specs.declared.call.Call.{Call}
 use Rattle.sem_msg.specs.declared.code.Code.{Code}
-use Rattle.sem_msg.specs.declared.call.Call.TheVariants.{Read as ReadCall, Write as WriteCall}
-use Rattle.sem_msg.specs.declared.entry.Entry.{Entry}
-use Rattle.sem_msg.specs.declared.state.Ask.TheVariants.{Delegate as DelegateAsk}
-use Rattle.sem_msg.specs.declared.state.Slot.TheVariants.{Free, Held}
-use Rattle.sem_msg.specs.declared.setup.VpeDecl.{VpeDecl}
-use Rattle.sem_msg.specs.Setup.{Setup}
-use Rattle.sem_msg.specs.Lookups.{decl}
 use Rattle.sem_msg.specs.Uses.{memory_tests}
-use Rattle.sem_machine.specs.Sides.{row, slot, cap, endpoint}
 use Rattle.sem_machine.specs.Calls.{session_service, stays_at_home}
-use Rattle.sem_machine.specs.Machine.{World, next_call}
-use Rattle.sem_machine.specs.Schedules.{world_after}
+use Rattle.sem_machine.specs.Machine.{next_call}
 use Rattle.sem_machine.specs.Steps.{first_code}
 use Rattle.sem_files.specs.Compiled.{SERVER, SESSION, service_key}
 use Rattle.sem_fs.specs.Service.{GIVEN, IsExtent, is_ask}
-use Rattle.sem_machine.specs.Journals.{root_keys, cut_from}
-use Rattle.sem_key.specs.declared.key.Kind.TheVariants.{Mem as MemKind}
 use Rattle.sem_fs.specs.Holding.{home, IsGiven}
 
 -- a client that is given something has room for it, and a number left
@@ -32,7 +20,7 @@ pub record HasRoom (T : Setup) (W : World) (u : ℕ) (parent : KeyName) (object 
   pub room : slot (home T W u) u sel ≡ Free
   pub number : (row (home T W u) u).next_number < NUMBERS
 
--- what is given, and what is asked for, finds room and a number
+-- everything given, and everything asked for, finds room and a number
 pub record HasRooms (T : Setup) (J : List Entry) : Type 0 where
   pub given :
       (u : ℕ) (d : VpeDecl) (parent : KeyName) (object : Object) (sel : ℕ) → decl T u ≡ Some d
@@ -58,7 +46,7 @@ pub record HasObjects (T : Setup) (J : List Entry) : Type 0 where
       (v sel : ℕ) (k : KeyName) (c : Capability) → SESSION < sel → sel < GIVEN
       → slot (home T (world_after T J) v) v sel ≡ Held k → IsGiven T J k
       → cap (home T (world_after T J) v) k ≡ Some c → stays_at_home c.object ≡ false
-  -- what is accessed is bound, and big enough
+  -- every accessed extent is bound, and big enough
   pub reads :
       (v ep off len : ℕ) → next_call T (home T (world_after T J) v) v ≡ Some (ReadCall ep off len)
       → Passes (memory_tests 1 off len (endpoint (home T (world_after T J) v) v ep))

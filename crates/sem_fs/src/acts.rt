@@ -1,7 +1,8 @@
 // The calls of the acts of a client.
 ghost use Rattle.std.specs.Prelude.{◌≡◌, ◌<◌, ◌≤◌, ◌+◌, ◌++◌, OnOk};
 ghost use Rattle.sem_files.specs.declared.files.FileAct.TheVariants.{OpenFile, Share, Close};
-ghost use Rattle.sem_files.specs.Compiled.{part_begin as part_begin_lem, part_end as part_end_lem, part_accessed, calls_of_act};
+ghost use Rattle.sem_files.specs.Compiled.{part_begin as part_begin_lem, part_end as part_end_lem};
+ghost use Rattle.sem_files.specs.Compiled.{part_accessed, calls_of_act};
 ghost use Rattle.sem_fs.specs.Acts.{access_call, parts_accessed, IsPlainAct};
 
 use crate::places::{given_selector, number_of_extent, opened_selector};
@@ -159,7 +160,7 @@ fn push_closing(calls: &mut Calls, handle: u8, extents: u8) -> Result<(), OutOfM
     Ok(())
 }
 
-// Appends the calls of an act on a file of so many extents.
+// Appends the calls of an act on a file of that many extents.
 pub fn push_act(calls: &mut Calls, act: FileAct, extents: u8) -> Result<(), OutOfMemory>
     requires act { IsPlainAct act }
     requires extents { extents ≤ 4 }

@@ -1,7 +1,8 @@
 // The calls of a client, command by command.
 ghost use Rattle.std.specs.Prelude.{◌≡◌, [], ◌++◌, IfOk, OnOk};
 ghost use Rattle.sem_files.specs.Files.{extents_of as extents_of_lem};
-ghost use Rattle.sem_files.specs.Compiled.{calls_of_act, calls_from, client_calls as client_calls_lem};
+ghost use Rattle.sem_files.specs.Compiled.{calls_of_act, calls_from};
+ghost use Rattle.sem_files.specs.Compiled.{client_calls as client_calls_lem};
 ghost use Rattle.sem_fs.specs.Acts.{IsPlainAct};
 ghost use Rattle.sem_fs.specs.Handling.{file_in};
 
@@ -57,7 +58,7 @@ fn push_calls(calls: &mut Calls, files: &Files, client: u16) -> Result<(), OutOf
     Ok(())
 }
 
-// The calls of a client, which first opens a session.
+// The calls of a client, which opens a session first.
 pub fn client_calls(alloc: Global, files: &Files, client: u16) -> Result<Calls, OutOfMemory>
     ensures { IfOk result (λ calls. calls ≡ client_calls_lem files.now client) }
 {

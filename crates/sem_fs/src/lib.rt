@@ -1,4 +1,5 @@
-//! A file service over sessions: file commands are compiled to it, and the laws of its schedules.
+//! A file service over sessions: the setup that file commands compile to, and the laws of its
+//! schedules.
 #![tactic(auto)]
 
 mod acts;

@@ -1,4 +1,4 @@
-// What is declared of files and clients.
+// Which files and clients are declared.
 ghost use Rattle.std.specs.Prelude.{◌≡◌, ◌≤◌, ◌==◌};
 ghost use Rattle.std.specs.List.{list_any};
 ghost use Rattle.sem_files.specs.Files.{is_client, extents_of as extents_of_lem};
@@ -6,7 +6,7 @@ ghost use Rattle.sem_fs.specs.Extents.{extents_among};
 
 use sem_files::{Command, FileDecl, Files};
 
-// How many extents the file has among these; none, if it is not declared.
+// How many extents the file has among these; 0 if it is not declared.
 fn extents_in(files: &[FileDecl], file: u8) -> u8
     ensures { result ≡ extents_among files.now file }
 {
@@ -18,7 +18,7 @@ fn extents_in(files: &[FileDecl], file: u8) -> u8
     0
 }
 
-// How many extents a file has; none, if it is not declared.
+// How many extents a file has; 0 if it is not declared.
 pub fn extents_of(files: &Files, file: u8) -> u8
     ensures extents { result ≡ extents_of_lem files.now file }
     ensures few { result ≤ 4 }
@@ -26,21 +26,19 @@ pub fn extents_of(files: &Files, file: u8) -> u8
     extents_in(files.files.as_slice(), file)
 }
 
-// Whether the client is among these.
 fn is_among(clients: &[u16], client: u16) -> bool
     ensures { result ≡ list_any (λ c. c == client) clients.now }
 {
     clients.iter().any(|declared| *declared == client)
 }
 
-// Whether the client is declared.
 pub fn has_client(files: &Files, client: u16) -> bool
     ensures { result ≡ is_client files.now client }
 {
     is_among(files.clients.as_slice(), client)
 }
 
-// Whether a command is the client's.
+// Whether one of the commands is the client's.
 pub fn has_commands(commands: &[Command], client: u16) -> bool
     ensures { result ≡ list_any (λ c. c.client == client) commands.now }
 {

@@ -1,4 +1,4 @@
-// Where extents stand: the offers of the server, and the selectors of the clients.
+// The places of extents: the offers of the server, and the selectors of the clients.
 ghost use Rattle.std.specs.Prelude.{◌≡◌, ◌<◌, ◌≤◌};
 ghost use Rattle.sem_files.specs.Compiled.{extent_number, opened_at, given_at};
 
@@ -11,7 +11,7 @@ pub fn number_of_extent(file: u8, extent: u8) -> u8
     4 * file + extent
 }
 
-// The selector of a client for an extent of what a handle is open on.
+// The selector of a client for an extent of the file that a handle has open.
 pub fn opened_selector(handle: u8, extent: u8) -> u8
     requires handle { handle ≤ 15 }
     requires extent { extent < 4 }
@@ -20,7 +20,7 @@ pub fn opened_selector(handle: u8, extent: u8) -> u8
     1 + (4 * handle + extent)
 }
 
-// The selector of a client for an extent of what it was given under a number.
+// The selector of a client for an extent of the file given to it under a number.
 pub fn given_selector(number: u8, extent: u8) -> u8
     requires number { number ≤ 15 }
     requires extent { extent < 4 }

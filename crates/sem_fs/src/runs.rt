@@ -2,9 +2,10 @@ ghost use Rattle.sem_machine.specs.Schedules.{IsSchedule};
 ghost use Rattle.sem_files.specs.Compiled.{compiled, AreFiles};
 ghost use Rattle.sem_fs.specs.Examples.{calls_of_one, run_of_one, calls_of_three, run_of_three};
 ghost use Rattle.sem_fs.specs.Examples.{one_client, journal_of_one, closed_in_one};
-ghost use Rattle.sem_fs.specs.SharedFile.{two_clients, journal_of_two, closed_in_two, ClosesWhileSharing};
+ghost use Rattle.sem_fs.specs.SharedFile.{two_clients, journal_of_two, closed_in_two};
+ghost use Rattle.sem_fs.specs.SharedFile.{ClosesWhileSharing};
 
-/// What file commands are compiled to, and what comes of that, by computation.
+/// The setup that file commands compile to, and what comes of it, by computation.
 pub fn files_run()
     ensures calls { calls_of_one }
     ensures run { run_of_one }
@@ -12,7 +13,7 @@ pub fn files_run()
     ensures run_of_three { run_of_three }
 {}
 
-/// What the laws of file commands speak of is there: commands of one client, with a schedule in
+/// The laws of file commands are not empty: there are commands of one client, with a schedule in
 /// which its file is closed.
 pub fn files_are_closed()
     ensures files { AreFiles one_client }
@@ -21,7 +22,7 @@ pub fn files_are_closed()
 {}
 
 /// Two clients: one shares its file and closes it while the share is on its way, and then the other
-/// writes. The commands stand, that is a schedule, and behind it the file is closed.
+/// writes. The commands stand, this is a schedule of them, and after it the file is closed.
 pub fn a_share_meets_its_close()
     ensures files { AreFiles two_clients }
     ensures schedule { IsSchedule (compiled two_clients) journal_of_two }

@@ -1,6 +1,8 @@
 // What the server holds and offers.
 ghost use Rattle.std.specs.Prelude.{◌≡◌, ◌<◌, ◌≤◌, ◌++◌, ◌∷◌, List, map, All, IfOk, OnOk};
-ghost use Rattle.sem_files.specs.Compiled.{below, extent_number, extents, service_root, root_of_extent as root_of_extent_lem, offer_of_extent as offer_of_extent_lem};
+ghost use Rattle.sem_files.specs.Compiled.{below, extent_number, extents, service_root};
+ghost use Rattle.sem_files.specs.Compiled.{root_of_extent as root_of_extent_lem};
+ghost use Rattle.sem_files.specs.Compiled.{offer_of_extent as offer_of_extent_lem};
 ghost use Rattle.sem_fs.specs.Extents.{IsExtent, server_with};
 
 use crate::lookups::extents_of;
@@ -13,7 +15,7 @@ use std::alloc::Global;
 // The VPE that serves files, and its PE.
 pub const SERVER: u8 = 0;
 
-// How many files there can be.
+// The most files of a text.
 const FILES: u8 = 16;
 
 // The numbers of extents.
@@ -43,7 +45,7 @@ pub fn all_extents(alloc: Global, files: &Files) -> Result<Extents, OutOfMemory>
     Ok(numbers)
 }
 
-// The root of the server that is an extent.
+// The root of the server for an extent.
 fn root_of_extent(extent: u8) -> Root
     requires { IsExtent extent }
     ensures { result ≡ root_of_extent_lem extent }
@@ -58,7 +60,6 @@ fn root_of_extent(extent: u8) -> Root
     }
 }
 
-// The offer of an extent.
 fn offer_of_extent(extent: u8) -> Offer
     requires { IsExtent extent }
     ensures { result ≡ offer_of_extent_lem extent }
@@ -86,7 +87,6 @@ fn roots(alloc: Global, extents: &[u8]) -> Result<Roots, OutOfMemory>
     Ok(roots)
 }
 
-// The offers of the extents.
 pub fn offers(alloc: Global, extents: &[u8]) -> Result<Offers, OutOfMemory>
     requires { All IsExtent extents.now }
     ensures { IfOk result (λ offers. offers ≡ map offer_of_extent_lem extents.now) }

@@ -3,8 +3,8 @@ ghost use Rattle.sem_fs.specs.Going.{IsGoing};
 ghost use Rattle.sem_fs.specs.Laws.{OfServices, nobody_ends, marks_are_own};
 ghost use Rattle.sem_fs.specs.Laws.{requests_are_own, replies_succeed};
 
-/// In a file service nobody ends, and what was granted below a root of the server is marked, or
-/// asked to be revoked, only while its VPE waits for a revoke.
+/// In a file service no VPE ends. A capability granted below a root of the server is marked, or
+/// requested to be revoked, only while its VPE waits for a revoke.
 pub fn clients_revoke_their_own()
     ensures unending { OfServices nobody_ends }
     ensures unmarked { OfServices marks_are_own }

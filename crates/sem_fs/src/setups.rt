@@ -1,8 +1,10 @@
-ghost use Rattle.std.specs.Prelude.{◌≡◌, ◌++◌, ◌<◌, ◌==◌, ◌||◌, [], ◌∷◌, None, All, if◌then◌else◌, IfOk, OnOk};
+ghost use Rattle.std.specs.Prelude.{◌≡◌, ◌++◌, ◌<◌, ◌==◌, ◌||◌, [], ◌∷◌, None, All, if◌then◌else◌};
+ghost use Rattle.std.specs.Prelude.{IfOk, OnOk};
 ghost use Rattle.sem_key.specs.declared.limits.TheConstants.{PES as PES_LEM};
 ghost use Rattle.sem_key.specs.MembershipTable.{owner_at};
 ghost use Rattle.sem_files.specs.Files.{is_client};
-ghost use Rattle.sem_files.specs.Compiled.{SERVER as SERVER_LEM, client as client_lem, service_key, compiled};
+ghost use Rattle.sem_files.specs.Compiled.{SERVER as SERVER_LEM, client as client_lem, service_key};
+ghost use Rattle.sem_files.specs.Compiled.{compiled};
 ghost use Rattle.sem_fs.specs.Extents.{IsExtent, server_with};
 ghost use Rattle.sem_fs.specs.Clients.{clients_below};
 ghost use Rattle.sem_fs.specs.Owning.{Owns, OwnsBelow};
@@ -75,14 +77,14 @@ fn services(alloc: Global) -> Result<Services, OutOfMemory>
     Ok(services)
 }
 
-// Whether there is a VPE on the PE.
+// Whether a VPE is on the PE.
 fn is_used(files: &Files, pe: u8) -> bool
     ensures { result ≡ ((pe == SERVER_LEM) || is_client files.now pe) }
 {
     pe == SERVER || has_client(files, u16::from(pe))
 }
 
-// Gives the PE to its kernel, if there is a VPE on it.
+// Gives the PE to its kernel, if a VPE is on it.
 fn set_owner(owners: &mut Membership, files: &Files, pe: u8)
     requires pe { pe < PES_LEM }
     requires kernels { owners.old.kernels ≡ files.now.kernels }

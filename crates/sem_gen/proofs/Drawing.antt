@@ -49,19 +49,24 @@ drawn-there g h vpes j n at =
     let e : j + 0 ≡ j = omega arith in
     ap (λ (x : Lcg). drawn x vpes 0 n) at ∙ (drawn-later g vpes j 0 n ∙ ap (λ i. drawn g vpes i n) e)
 
-pub drawn-more : (g : Lcg) (vpes n x : ℕ) (list list' : List Call) (c : Call) → list ≡ drawn g vpes 0 n → list' ≡ list ++ c ∷ [] → c ≡ call_of vpes x → x ≡ word_at g n → list' ≡ drawn g vpes 0 (n + 1)
+pub drawn-more : (g : Lcg) (vpes n x : ℕ) (list list' : List Call) (c : Call) → list ≡ drawn g vpes 0 n → list' ≡ list ++ c ∷ [] → c ≡ call_of vpes x →
+    x ≡ word_at g n → list' ≡ drawn g vpes 0 (n + 1)
 drawn-more g vpes n x list list' c so_far pushed is word =
     let e : 0 + n ≡ n = omega arith in
     pushed ∙ (rw (so_far, is, word) (sym (map-range_with_len_more (λ m. call_of vpes (word_at g m)) 0 n n e)))
 
 -- the words of one more VPE
-pub words-more : (g h h' : Lcg) (v calls : ℕ) → h ≡ advance 64 multiplier_64 (v * calls) g → h' ≡ advance 64 multiplier_64 calls h → h' ≡ advance 64 multiplier_64 ((v + 1) * calls) g
+pub words-more : (g h h' : Lcg) (v calls : ℕ) → h ≡ advance 64 multiplier_64 (v * calls) g → h' ≡ advance 64 multiplier_64 calls h →
+    h' ≡ advance 64 multiplier_64 ((v + 1) * calls) g
 words-more g h h' v calls at drawn_all =
     let e : v * calls + calls ≡ (v + 1) * calls = omega arith in
     drawn_all ∙ (ap (advance 64 multiplier_64 calls) at ∙ (advance-add g (v * calls) calls ∙ ap (λ n. advance 64 multiplier_64 n g) e))
 
 -- one more VPE
-pub vpes-more : (seed vpes calls v : ℕ) (h : Lcg) (list list' : List VpeDecl) (roots : List Root) (made : List Call) → h ≡ advance 64 multiplier_64 (v * calls) (generator_of seed) → list ≡ map (vpe_of seed vpes calls) (range_with_len 0 v) → roots ≡ roots_of v → made ≡ drawn h vpes 0 calls → list' ≡ list ++ record { vpe = v; pe = v; roots = roots; calls = made } ∷ [] → list' ≡ map (vpe_of seed vpes calls) (range_with_len 0 (v + 1))
+pub vpes-more : (seed vpes calls v : ℕ) (h : Lcg) (list list' : List VpeDecl) (roots : List Root) (made : List Call) →
+    h ≡ advance 64 multiplier_64 (v * calls) (generator_of seed) → list ≡ map (vpe_of seed vpes calls) (range_with_len 0 v) → roots ≡ roots_of v →
+    made ≡ drawn h vpes 0 calls → list' ≡ list ++ record { vpe = v; pe = v; roots = roots; calls = made } ∷ [] →
+    list' ≡ map (vpe_of seed vpes calls) (range_with_len 0 (v + 1))
 vpes-more seed vpes calls v h list list' roots made at so_far held drawn_here pushed =
     let mine : made ≡ drawn (generator_of seed) vpes (v * calls) calls = drawn_here ∙ drawn-there (generator_of seed) h vpes (v * calls) calls at in
     pushed ∙ (rw (so_far, held, mine) (sym (map-range_with_len_more (vpe_of seed vpes calls) 0 v v (zero-add v))))

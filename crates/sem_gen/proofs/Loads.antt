@@ -30,8 +30,10 @@ unfolding generated
 none-exits seed vpes calls d among exits =
     let stays : All (λ (d : VpeDecl). All (λ (c : Call). c ≢ Exit) d.calls) (map (vpe_of seed vpes calls) (range_with_len 0 vpes)) =
     all-mapped (λ (d : VpeDecl). All (λ (c : Call). c ≢ Exit) d.calls) (vpe_of seed vpes calls) 0 vpes
-    (λ v inside. all-mapped (λ (c : Call). c ≢ Exit) (λ m. call_of vpes (word_at (generator_of seed) m)) ((0 + v) * calls) calls (λ m within. call-stays vpes (word_at (generator_of seed) ((0 + v) * calls + m)))) in
-    All-contains (λ (c : Call). c ≢ Exit) d.calls Exit (All-contains (λ (d : VpeDecl). All (λ (c : Call). c ≢ Exit) d.calls) (map (vpe_of seed vpes calls) (range_with_len 0 vpes)) d stays among) exits refl
+    (λ v inside. all-mapped (λ (c : Call). c ≢ Exit) (λ m. call_of vpes (word_at (generator_of seed) m)) ((0 + v) * calls) calls
+    (λ m within. call-stays vpes (word_at (generator_of seed) ((0 + v) * calls + m)))) in
+    All-contains (λ (c : Call). c ≢ Exit) d.calls Exit
+    (All-contains (λ (d : VpeDecl). All (λ (c : Call). c ≢ Exit) d.calls) (map (vpe_of seed vpes calls) (range_with_len 0 vpes)) d stays among) exits refl
 
 pub calls-counted : (seed vpes calls : ℕ) → call_count (generated seed vpes calls) ≡ vpes * calls
 unfolding generated

@@ -18,7 +18,8 @@ map-same f g a zero same = refl
 map-same f g a (suc n) same = rw (same a (omega arith), map-same f g (a + 1) n (λ q low. same q (omega arith))) refl
 
 -- a table with another value at one place
-set-table : {X : Type 0} (f g : ℕ → X) (a n p : ℕ) (x : X) → p < n → g (a + p) ≡ x → ((q : ℕ) → (q ≡ a + p → ⊥) → g q ≡ f q) → slice_set (map f (range_with_len a n)) p x ≡ map g (range_with_len a n)
+set-table : {X : Type 0} (f g : ℕ → X) (a n p : ℕ) (x : X) → p < n → g (a + p) ≡ x → ((q : ℕ) → (q ≡ a + p → ⊥) → g q ≡ f q) →
+    slice_set (map f (range_with_len a n)) p x ≡ map g (range_with_len a n)
 set-table f g a zero p x within new same = absurd (omega arith)
 set-table f g a (suc n) zero x within new same =
     let e : a + 0 ≡ a = omega arith in
@@ -37,7 +38,8 @@ owners-none kernels = refl
 pub owner-none : (kernels p : ℕ) → p < PES → get_or (owners_of kernels p) p None ≡ None
 unfolding owners_of
 owner-none kernels p small =
-    let at : get_or (map (pe_owner_of kernels p) (range_with_len 0 PES)) p None ≡ pe_owner_of kernels p p = get_or-map-range_with_len (pe_owner_of kernels p) 0 PES p p None small (zero-add p) in
+    let at : get_or (map (pe_owner_of kernels p) (range_with_len 0 PES)) p None ≡ pe_owner_of kernels p p =
+    get_or-map-range_with_len (pe_owner_of kernels p) 0 PES p p None small (zero-add p) in
     at ∙ (rw (le-ltb p p (omega arith)) refl)
 
 pub owners-more : (kernels p : ℕ) → p < PES → slice_set (owners_of kernels p) p (Some (p % kernels)) ≡ owners_of kernels (p + 1)
@@ -61,11 +63,13 @@ none-there : (kernels p : ℕ) (m : MembershipTable) → m ≡ first_owners kern
 none-there kernels p m so_far small = ap (λ (t : MembershipTable). owner_at t p) so_far ∙ owner-none kernels p small
 
 -- so the next PE can be given to its kernel
-pub is_set : {A E : Type 0} (kernels p : ℕ) (m : MembershipTable) (r : Result A E) → m ≡ first_owners kernels p → p < PES → (IsErr r ↔ IsSome (owner_at m p)) → IsOk r
+pub is_set : {A E : Type 0} (kernels p : ℕ) (m : MembershipTable) (r : Result A E) → m ≡ first_owners kernels p → p < PES → (IsErr r ↔ IsSome (owner_at m p)) →
+    IsOk r
 is_set kernels p m (Ok a) so_far small taken = refl
 is_set kernels p m (Err e) so_far small taken = absurd (false≢true (sym (ap is_some (none-there kernels p m so_far small)) ∙ taken.0 refl))
 
-pub set-more : {A E : Type 0} (kernels p : ℕ) (m n : MembershipTable) (r : Result A E) → m ≡ first_owners kernels p → p < PES → (IsErr r ↔ IsSome (owner_at m p)) → OnOk r (n ≡ with_owner m p (p % kernels)) → n ≡ first_owners kernels (p + 1)
+pub set-more : {A E : Type 0} (kernels p : ℕ) (m n : MembershipTable) (r : Result A E) → m ≡ first_owners kernels p → p < PES →
+    (IsErr r ↔ IsSome (owner_at m p)) → OnOk r (n ≡ with_owner m p (p % kernels)) → n ≡ first_owners kernels (p + 1)
 set-more kernels p m n (Ok a) so_far small taken set_there =
     set_there
     ∙ (ap (λ (t : MembershipTable). with_owner t p (p % kernels)) so_far

@@ -1,5 +1,6 @@
 -- What is generated is a setup.
-use Rattle.std.proofs.Common.{◌≡◌, ◌≢◌, ℕ, zero, suc, ◌+◌, ◌-◌, ◌*◌, ◌/◌, ◌%◌, ◌^◌, ◌<◌, ◌≤◌, ◌==◌, ◌⊎◌, Bool, true, false, cond, List, [], length, map, get_or, Some, None, refl, ap, sym, ◌∙◌, subst, zero-add, arith, inl, inr}
+use Rattle.std.proofs.Common.{◌≡◌, ◌≢◌, ℕ, zero, suc, ◌+◌, ◌-◌, ◌*◌, ◌/◌, ◌%◌, ◌^◌, ◌<◌, ◌≤◌, ◌==◌, ◌⊎◌, Bool, true, false, cond, List, [], length, map, get_or}
+use Rattle.std.proofs.Common.{Some, None, refl, ap, sym, ◌∙◌, subst, zero-add, arith, inl, inr}
 use Rattle.std.specs.Prelude.{bit_xor}
 use Rattle.std.specs.List.{All, AllPairs, Contains, flat_map, range_with_len, sum_by}
 use Rattle.std.specs.Option.{IsSome, is_some}
@@ -25,7 +26,8 @@ use Rattle.sem_msg.specs.declared.setup.VpeDecl.{VpeDecl}
 use Rattle.sem_msg.specs.Versions.{most_vpes, most_kernels, IsWindow}
 use Rattle.sem_msg.specs.Calls.{IsValidCall}
 use Rattle.sem_msg.specs.Setup.{Setup, IsSetup, IsVpeDecl, IsRoot, IsOffer, services_from}
-use Rattle.sem_gen.specs.Generated.{word_at, generator_of, target_of, source_of, peer_of, call_of, roots_of, vpe_of, pe_owner_of, owners_of, kernels_of, version_of, generated}
+use Rattle.sem_gen.specs.Generated.{word_at, generator_of, target_of, source_of, peer_of, call_of, roots_of, vpe_of, pe_owner_of, owners_of, kernels_of}
+use Rattle.sem_gen.specs.Generated.{version_of, generated}
 
 -- a word has 32 bits
 output-small : (s : ℕ) → output_xsh_rr s < 2 ^ 32
@@ -72,7 +74,8 @@ pairs-mapped R f n each i j d less within =
     rw (first, second) (each i j less inside)
 
 -- the version has room for so many VPEs and kernels
-room : (vpes : ℕ) → vpes ≤ 128 → (vpes ≤ most_vpes (version_of vpes)) × (kernels_of vpes ≤ most_kernels (version_of vpes)) × IsWindow (version_of vpes) 4 × ((version_of vpes ≡ 1) ⊎ (version_of vpes ≡ 2))
+room : (vpes : ℕ) → vpes ≤ 128 → (vpes ≤ most_vpes (version_of vpes)) × (kernels_of vpes ≤ most_kernels (version_of vpes)) × IsWindow (version_of vpes) 4
+    × ((version_of vpes ≡ 1) ⊎ (version_of vpes ≡ 2))
 room vpes few =
     elim (cases_lt 64 vpes) [
       | inl many ↦ rw (lt-ltb 64 vpes many) (few, (omega arith), ((omega arith), (omega arith)), inr refl)
@@ -90,7 +93,8 @@ owner-in vpes p small = get_or-map-range_with_len (pe_owner_of (kernels_of vpes)
 owner-past : (vpes p : ℕ) → PES ≤ p → owner_at (table vpes) p ≡ None
 unfolding owners_of
 owner-past vpes p past =
-    get_or_past (map (pe_owner_of (kernels_of vpes) vpes) (range_with_len 0 PES)) p None (omega (arith, length-map-range_with_len (pe_owner_of (kernels_of vpes) vpes) 0 PES))
+    get_or_past (map (pe_owner_of (kernels_of vpes) vpes) (range_with_len 0 PES)) p None
+    (omega (arith, length-map-range_with_len (pe_owner_of (kernels_of vpes) vpes) 0 PES))
 
 owned : (vpes p : ℕ) → vpes ≤ 128 → p < vpes → owner_at (table vpes) p ≡ Some (p % kernels_of vpes)
 owned vpes p few below = owner-in vpes p (omega arith) ∙ (rw (lt-ltb p vpes below) refl)
@@ -127,9 +131,11 @@ owned-below vpes p some =
 root-is : (v : ℕ) → v < 128 → All IsRoot (roots_of v)
 root-is v small =
     let root : Root = record { sel = 0; object = Mem (v * 65536) 65536 RIGHTS } in
-    All-cons IsRoot root [] (record { selector = omega arith; kind = tt; ranges = ((omega arith), (omega arith), (omega arith), (omega arith)) }) (All-nil IsRoot)
+    All-cons IsRoot root [] (record { selector = omega arith; kind = tt; ranges = ((omega arith), (omega arith), (omega arith), (omega arith)) })
+    (All-nil IsRoot)
 
-vpe-is : (seed vpes calls v : ℕ) (T : Setup) → 1 ≤ vpes → vpes ≤ 128 → v < vpes → T.version ≡ version_of vpes → T.owners ≡ table vpes → IsVpeDecl T (vpe_of seed vpes calls v)
+vpe-is : (seed vpes calls v : ℕ) (T : Setup) → 1 ≤ vpes → vpes ≤ 128 → v < vpes → T.version ≡ version_of vpes → T.owners ≡ table vpes →
+    IsVpeDecl T (vpe_of seed vpes calls v)
 vpe-is seed vpes calls v T some few below versioned owners =
     let most : vpes ≤ most_vpes T.version = rw versioned (room vpes few).0 in
     record {
@@ -138,7 +144,9 @@ vpe-is seed vpes calls v T some few below versioned owners =
       owned = rw (owners, owned vpes v few below) refl;
       selectors_differ = λ i j d less within. absurd (omega arith);
       roots = root-is v (omega arith);
-      calls = all-mapped (IsValidCall (most_vpes T.version)) (λ m. call_of vpes (word_at (generator_of seed) m)) (v * calls) calls (λ i inside. call-valid vpes (most_vpes T.version) (word_at (generator_of seed) (v * calls + i)) some most (word-small (generator_of seed) (v * calls + i)));
+      calls = all-mapped (IsValidCall (most_vpes T.version)) (λ m. call_of vpes (word_at (generator_of seed) m)) (v * calls) calls
+          (λ i inside. call-valid vpes (most_vpes T.version) (word_at (generator_of seed) (v * calls + i)) some most
+          (word-small (generator_of seed) (v * calls + i)));
     }
 
 -- no root is a service
@@ -178,7 +186,10 @@ setup-is seed vpes calls some few few_calls =
       vpes_rise = pairs-mapped (λ (a b : VpeDecl). a.vpe < b.vpe) (vpe_of seed vpes calls) vpes (λ i j less inside. less);
       pes_differ = pairs-mapped (λ (a b : VpeDecl). a.pe ≢ b.pe) (vpe_of seed vpes calls) vpes (λ i j less inside same. absurd (omega arith));
       services_rise = λ i j d less within. absurd (omega arith);
-      services = λ s. ((λ none. absurd (in-nil s none)), (λ none. absurd (in-nil s (subst (λ (ss : List Service). Contains ss s) (no-services seed vpes calls 0 vpes) none))));
+      services = λ s. (
+        (λ none. absurd (in-nil s none)),
+        (λ none. absurd (in-nil s (subst (λ (ss : List Service). Contains ss s) (no-services seed vpes calls 0 vpes) none))),
+      );
       offers = All-nil (IsOffer T);
       offers_rise = λ i j d less within. absurd (omega arith);
       denies = λ k d within. absurd (omega arith);
@@ -189,6 +200,19 @@ setup-is seed vpes calls some few few_calls =
     }
 
 -- it has these parts
-pub generated-is : (seed vpes calls version kernels : ℕ) (owners : MembershipTable) (declared : List VpeDecl) (services : List Service) (offers : List Offer) (denies kills : List (ℕ × ℕ)) → version ≡ version_of vpes → kernels ≡ kernels_of vpes → owners ≡ record { kernels = kernels; owners = owners_of kernels vpes } → declared ≡ map (vpe_of seed vpes calls) (range_with_len 0 vpes) → services ≡ [] → offers ≡ [] → denies ≡ [] → kills ≡ [] → record { version = version; window = 4; kernels = kernels; owners = owners; vpes = declared; services = services; offers = offers; denies = denies; kills = kills } ≡ generated seed vpes calls
+pub generated-is : (seed vpes calls version kernels : ℕ) (owners : MembershipTable) (declared : List VpeDecl) (services : List Service) (offers : List Offer)
+    (denies kills : List (ℕ × ℕ)) → version ≡ version_of vpes → kernels ≡ kernels_of vpes →
+    owners ≡ record { kernels = kernels; owners = owners_of kernels vpes } → declared ≡ map (vpe_of seed vpes calls) (range_with_len 0 vpes) → services ≡ [] →
+    offers ≡ [] → denies ≡ [] → kills ≡ [] → record {
+      version = version;
+      window = 4;
+      kernels = kernels;
+      owners = owners;
+      vpes = declared;
+      services = services;
+      offers = offers;
+      denies = denies;
+      kills = kills;
+    } ≡ generated seed vpes calls
 unfolding generated
 generated-is seed vpes calls version kernels owners declared services offers denies kills v k o d s f n l = rw (v, o, k, d, s, f, n, l) refl

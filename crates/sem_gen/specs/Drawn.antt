@@ -1,10 +1,10 @@
--- Calls that are drawn one after another.
+-- Calls drawn one after another.
 use Rattle.std.specs.Prelude.{ℕ, List, map}
 use Rattle.std.specs.List.{range_with_len}
 use Rattle.rand_pcg.specs.Lcg.{Lcg}
 use Rattle.sem_msg.specs.declared.call.Call.{Call}
 use Rattle.sem_gen.specs.Generated.{word_at, call_of}
 
--- the calls that n words of a generator stand for, from one of its words on, where there are so many VPEs
+-- the calls of n words of a generator, from one of its words on, in a setup with that many VPEs
 abbrev pub drawn : Lcg → ℕ → ℕ → ℕ → List Call
 drawn g vpes first n = map (λ m. call_of vpes (word_at g m)) (range_with_len first n)

@@ -1,15 +1,14 @@
 -- The setup that a seed generates ("The generator" in docs/machine.md).
-use Rattle.std.specs.Prelude.{ℕ, ◌+◌, ◌*◌, ◌/◌, ◌%◌, ◌==◌, nat_lt, List, [], ◌∷◌, map, Option, Some, None, if◌then◌else◌}
+use Rattle.std.specs.Prelude.{ℕ, ◌+◌, ◌*◌, ◌/◌, ◌%◌, ◌==◌, nat_lt, List, [], ◌∷◌, map, Option, Some, None}
+use Rattle.std.specs.Prelude.{if◌then◌else◌}
 use Rattle.std.specs.List.{range_with_len}
 use Rattle.rand_pcg.specs.Lcg.{Lcg, advance, started, increment_of}
 use Rattle.rand_pcg.specs.Pcg.{multiplier_64, pcg32}
-use Rattle.sem_key.specs.declared.limits.TheConstants.{PES, RIGHTS}
-use Rattle.sem_key.specs.declared.object.Object.TheVariants.{Mem}
+use Rattle.sem_msg.specs.Prelude.{PES, RIGHTS, Mem, Setup}
 use Rattle.sem_msg.specs.declared.call.Call.{Call}
 use Rattle.sem_msg.specs.declared.call.Call.TheVariants.{Derive, Obtain, Delegate, Revoke}
 use Rattle.sem_msg.specs.declared.setup.Root.{Root}
 use Rattle.sem_msg.specs.declared.setup.VpeDecl.{VpeDecl}
-use Rattle.sem_msg.specs.Setup.{Setup}
 
 -- the generator of a seed at its start
 abbrev pub generator_of : ℕ → Lcg
@@ -23,7 +22,7 @@ word_at g m = (pcg32 (advance 64 multiplier_64 m g)).0
 abbrev pub words_of : ℕ → ℕ → ℕ
 words_of seed m = word_at (generator_of seed) m
 
--- the selector, 1 to 15, at which a call puts a capability or which it revokes
+-- the selector, 1 to 15, where a call puts a capability or that it revokes
 abbrev pub target_of : ℕ → ℕ
 target_of x = 1 + (x / 4) % 15
 
@@ -31,11 +30,11 @@ target_of x = 1 + (x / 4) % 15
 abbrev pub source_of : ℕ → ℕ
 source_of x = (x / 256) % 16
 
--- the other VPE of a call, one of so many
+-- the other VPE of a call, one of that many
 abbrev pub peer_of : ℕ → ℕ → ℕ
 peer_of vpes x = (x / 65536) % vpes
 
--- the call that word x stands for, where there are so many VPEs
+-- the call of word x, in a setup with that many VPEs
 abbrev pub call_of : ℕ → ℕ → Call
 call_of vpes x =
     if x % 4 == 0 then Derive (source_of x) (target_of x) 0 (x / 65536) RIGHTS
@@ -47,7 +46,8 @@ call_of vpes x =
 abbrev pub roots_of : ℕ → List Root
 roots_of v = record { sel = 0; object = Mem (v * 65536) 65536 RIGHTS } ∷ []
 
--- the calls of VPE v, where each has so many: one for each word, after the words of the VPEs before it
+-- the calls of VPE v, if each VPE has that many: one for each word, after the words of the VPEs
+-- before it
 abbrev pub calls_of : ℕ → ℕ → ℕ → ℕ → List Call
 calls_of seed vpes calls v = map (λ m. call_of vpes (words_of seed m)) (range_with_len (v * calls) calls)
 
@@ -55,7 +55,7 @@ calls_of seed vpes calls v = map (λ m. call_of vpes (words_of seed m)) (range_w
 abbrev pub vpe_of : ℕ → ℕ → ℕ → ℕ → VpeDecl
 vpe_of seed vpes calls v = record { vpe = v; pe = v; roots = roots_of v; calls = calls_of seed vpes calls v }
 
--- PE p belongs to kernel p mod kernels, where there is a VPE on it
+-- PE p belongs to kernel p mod kernels, if a VPE is on it
 abbrev pub pe_owner_of : ℕ → ℕ → ℕ → Option ℕ
 pe_owner_of kernels vpes p = if nat_lt p vpes then Some (p % kernels) else None
 
@@ -67,11 +67,11 @@ owners_of kernels vpes = map (pe_owner_of kernels vpes) (range_with_len 0 PES)
 abbrev pub kernels_of : ℕ → ℕ
 kernels_of vpes = (vpes + 3) / 4
 
--- the first version that has room for so many VPEs
+-- the first version that has room for that many VPEs
 abbrev pub version_of : ℕ → ℕ
 version_of vpes = if nat_lt 64 vpes then 2 else 1
 
--- the setup of so many VPEs with so many calls each
+-- the setup of that many VPEs with that many calls each
 unfoldable pub generated : ℕ → ℕ → ℕ → Setup
 generated seed vpes calls = record {
   version = version_of vpes;

@@ -1,4 +1,4 @@
-// The calls that the words of a seed stand for.
+// The calls of the words of a seed.
 ghost use Rattle.std.specs.Prelude.{◌≡◌, ◌≤◌, IfOk, OnOk};
 ghost use Rattle.rand_pcg.specs.Lcg.{advance};
 ghost use Rattle.rand_pcg.specs.Pcg.{multiplier_64};
@@ -11,7 +11,7 @@ use sem_key::{OutOfMemory, RIGHTS};
 use sem_msg::{Call, Calls};
 use std::alloc::Global;
 
-/// The calls that the next words stand for, of one of so many VPEs.
+/// The calls of the next words, made by one of that many VPEs.
 pub fn draw_calls(
     alloc: Global,
     words: &mut Lcg64Xsh32,
@@ -30,7 +30,7 @@ pub fn draw_calls(
     Ok(list)
 }
 
-// The call that a word stands for, of one of so many VPEs.
+// The call of a word, made by one of that many VPEs.
 fn call_of(word: u32, vpes: u32) -> Call
     requires some { 1 ≤ vpes }
     requires few { vpes ≤ 128 }

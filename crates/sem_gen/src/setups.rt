@@ -2,7 +2,9 @@
 ghost use Rattle.std.specs.Prelude.{◌≡◌, ◌+◌, ◌*◌, ◌/◌, ◌<◌, ◌≤◌, IfOk, map};
 ghost use Rattle.std.specs.List.{range_with_len};
 ghost use Rattle.sem_key.specs.declared.limits.TheConstants.{KERNELS};
-ghost use Rattle.sem_gen.specs.Generated.{generated, owners_of as owners_lem, roots_of as roots_lem, version_of as version_lem, vpe_of as vpe_lem};
+ghost use Rattle.sem_gen.specs.Generated.{generated, owners_of as owners_lem};
+ghost use Rattle.sem_gen.specs.Generated.{roots_of as roots_lem, version_of as version_lem};
+ghost use Rattle.sem_gen.specs.Generated.{vpe_of as vpe_lem};
 
 use crate::calls::draw_calls;
 use rand_pcg::Lcg64Xsh32;
@@ -10,14 +12,14 @@ use sem_key::{Membership, Object, OutOfMemory, RIGHTS};
 use sem_msg::{Denies, Kills, Offers, Root, Roots, Services, Setup, VpeDecl, Vpes0};
 use std::alloc::Global;
 
-/// How many bytes the memory of a VPE has at the start.
+/// The bytes of a VPE's memory at the start.
 const MEMORY: u32 = 65_536;
 
-/// How many messages a link holds.
+/// The most messages in a link.
 const WINDOW: u32 = 4;
 
-/// The setup that the words of the seed tell, with so many VPEs, 1 to 128, and so many calls of
-/// each, at most 20,000 in all. There is a kernel for each four VPEs, and no service, deny or kill.
+/// The setup of the words of the seed: 1 to 128 VPEs, each with that many calls, at most 20,000
+/// calls in all. There is a kernel for each four VPEs, and no service, deny or kill.
 pub fn generate(alloc: Global, seed: u64, vpes: u32, calls: u32) -> Result<Setup, OutOfMemory>
     requires vpes { (1 ≤ vpes) × (vpes ≤ 128) }
     requires calls { vpes * calls ≤ 20000 }
@@ -37,7 +39,7 @@ pub fn generate(alloc: Global, seed: u64, vpes: u32, calls: u32) -> Result<Setup
     })
 }
 
-// The first version that has room for so many VPEs.
+// The first version that has room for that many VPEs.
 fn version_of(vpes: u32) -> u8
     ensures { result ≡ version_lem vpes }
 {

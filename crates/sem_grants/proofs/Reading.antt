@@ -1,5 +1,6 @@
 -- Lists that are read place by place, and what is gathered from them.
-use Rattle.std.proofs.Common.{◌≡◌, ℕ, zero, suc, ◌+◌, ◌<◌, Bool, true, false, cond, List, [], ◌∷◌, ◌++◌, length, take, get_or, refl, add-one, append_assoc, append-nil}
+use Rattle.std.proofs.Common.{◌≡◌, ℕ, zero, suc, ◌+◌, ◌<◌, Bool, true, false, cond, List, [], ◌∷◌, ◌++◌, length, take, get_or, refl, add-one, append_assoc}
+use Rattle.std.proofs.Common.{append-nil}
 use Rattle.std.specs.List.{filter, slice_get}
 use Rattle.std.specs.Option.{option_to_list}
 use Rattle.std.proofs.lemmas.List.Elements.{filter_more}
@@ -20,7 +21,9 @@ pub take-read_more : {X : Type 0} (xs : List X) (i : ℕ) → take (i + 1) xs �
 take-read_more xs i = rw add-one (take-suc-read xs i)
 
 -- `now` ends with what f gives of the elements before place i; with what it gives of the element there, it is that of one more
-pub gathered_more : {X Y : Type 0} (f : List X → List Y) → ((xs ys : List X) → f (xs ++ ys) ≡ f xs ++ f ys) → (xs : List X) (i : ℕ) (before now after : List Y) → now ≡ before ++ f (take i xs) → after ≡ now ++ f (option_to_list (slice_get xs i)) → after ≡ before ++ f (take (i + 1) xs)
+pub gathered_more : {X Y : Type 0} (f : List X → List Y) → ((xs ys : List X) → f (xs ++ ys) ≡ f xs ++ f ys) →
+    (xs : List X) (i : ℕ) (before now after : List Y) → now ≡ before ++ f (take i xs) → after ≡ now ++ f (option_to_list (slice_get xs i)) →
+    after ≡ before ++ f (take (i + 1) xs)
 gathered_more f joins xs i before now after so_far more =
     rw (take-read_more xs i, joins, more, so_far) (append_assoc before (f (take i xs)) (f (option_to_list (slice_get xs i))))
 
@@ -33,12 +36,15 @@ unfolding in_turn
 with_keys-none found = refl
 
 -- the same for keys that are added to a set
-pub added_more : {X : Type 0} (f : List X → List KeyName) → ((xs ys : List X) → f (xs ++ ys) ≡ f xs ++ f ys) → (xs : List X) (i : ℕ) (before now after : List KeyName) → now ≡ with_keys before (f (take i xs)) → after ≡ with_keys now (f (option_to_list (slice_get xs i))) → after ≡ with_keys before (f (take (i + 1) xs))
+pub added_more : {X : Type 0} (f : List X → List KeyName) → ((xs ys : List X) → f (xs ++ ys) ≡ f xs ++ f ys) →
+    (xs : List X) (i : ℕ) (before now after : List KeyName) → now ≡ with_keys before (f (take i xs)) →
+    after ≡ with_keys now (f (option_to_list (slice_get xs i))) → after ≡ with_keys before (f (take (i + 1) xs))
 added_more f joins xs i before now after so_far more =
     rw (take-read_more xs i, joins, with_keys-append, ← so_far) more
 
 -- those keys are added that pass a test
-module _ (p : KeyName → Bool) (ks : List KeyName) (i : ℕ) (k : KeyName) (before now : List KeyName) (more : i < length ks) (found : k ≡ get_or ks i k) (so_far : now ≡ with_keys before (filter p (take i ks))) where
+module _ (p : KeyName → Bool) (ks : List KeyName) (i : ℕ) (k : KeyName) (before now : List KeyName) (more : i < length ks) (found : k ≡ get_or ks i k)
+    (so_far : now ≡ with_keys before (filter p (take i ks))) where
   next : filter p (take (i + 1) ks) ≡ filter p (take i ks) ++ cond (p k) (k ∷ []) []
   next = rw (← found) at (filter_more p ks i k more)
 

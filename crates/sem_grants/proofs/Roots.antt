@@ -13,7 +13,8 @@ pub root_keys_from-none : (d : VpeDecl) (n : ℕ) → root_keys_from d n [] ≡ 
 unfolding root_keys_from
 root_keys_from-none d n = refl
 
-root_keys_from-suc : (d : VpeDecl) (n m : ℕ) (rs : List Root) (i : ℕ) (r : Root) → m ≡ n + i → i < length rs → r ≡ get_or rs i r → root_keys_from d n (take (suc i) rs) ≡ root_keys_from d n (take i rs) ++ root_key d m r ∷ []
+root_keys_from-suc : (d : VpeDecl) (n m : ℕ) (rs : List Root) (i : ℕ) (r : Root) → m ≡ n + i → i < length rs → r ≡ get_or rs i r →
+    root_keys_from d n (take (suc i) rs) ≡ root_keys_from d n (take i rs) ++ root_key d m r ∷ []
 unfolding root_keys_from
 root_keys_from-suc d n m [] i r at more found = absurd (omega arith)
 root_keys_from-suc d n m (x ∷ xs) zero r at more found =
@@ -22,11 +23,14 @@ root_keys_from-suc d n m (x ∷ xs) zero r at more found =
 root_keys_from-suc d n m (x ∷ xs) (suc i) r at more found =
     ap (λ ks. root_key d n x ∷ ks) (root_keys_from-suc d (n + 1) m xs i r (omega arith) (omega arith) found)
 
-root_keys_from-more : (d : VpeDecl) (rs : List Root) (i : ℕ) (r : Root) → i < length rs → r ≡ get_or rs i r → root_keys_from d 0 (take (i + 1) rs) ≡ root_keys_from d 0 (take i rs) ++ root_key d i r ∷ []
+root_keys_from-more : (d : VpeDecl) (rs : List Root) (i : ℕ) (r : Root) → i < length rs → r ≡ get_or rs i r →
+    root_keys_from d 0 (take (i + 1) rs) ≡ root_keys_from d 0 (take i rs) ++ root_key d i r ∷ []
 root_keys_from-more d rs i r more found = rw add-one (root_keys_from-suc d 0 i rs i r (omega arith) more found)
 
 -- the key of one root more is appended
-pub roots_more : (d : VpeDecl) (i : ℕ) (r : Root) (kind : Kind) (before now new : List KeyName) → i < length d.roots → r ≡ get_or d.roots i r → kind ≡ object_kind r.object → now ≡ before ++ root_keys_from d 0 (take i d.roots) → new ≡ now ++ record { pe = d.pe; vpe = d.vpe; kind = kind; number = i } ∷ [] → new ≡ before ++ root_keys_from d 0 (take (i + 1) d.roots)
+pub roots_more : (d : VpeDecl) (i : ℕ) (r : Root) (kind : Kind) (before now new : List KeyName) → i < length d.roots → r ≡ get_or d.roots i r →
+    kind ≡ object_kind r.object → now ≡ before ++ root_keys_from d 0 (take i d.roots) →
+    new ≡ now ++ record { pe = d.pe; vpe = d.vpe; kind = kind; number = i } ∷ [] → new ≡ before ++ root_keys_from d 0 (take (i + 1) d.roots)
 roots_more d i r kind before now new more found is so_far pushed =
     rw (root_keys_from-more d d.roots i r more found, pushed, so_far, is) (append_assoc before (root_keys_from d 0 (take i d.roots)) (root_key d i r ∷ []))
 

@@ -1,14 +1,7 @@
--- The VPEs that end in a journal, and keys that are added to a set ("Derived notions" in docs/machine.md).
+-- The VPEs that end in a journal, and keys added to a set ("Derived notions" in docs/machine.md).
 use Rattle.std.specs.Prelude.{ℕ, List, filter_map, Option, Some, None}
-use Rattle.sem_key.specs.KeyName.{KeyName}
+use Rattle.sem_machine.specs.Prelude.{KeyName, in_turn, Exit, Act, Calls, Kill, Detail, Called, Entry}
 use Rattle.sem_key.specs.KeyList.{with_key}
-use Rattle.sem_key.specs.Lists.{in_turn}
-use Rattle.sem_msg.specs.declared.call.Call.TheVariants.{Exit}
-use Rattle.sem_msg.specs.declared.event.Act.{Act}
-use Rattle.sem_msg.specs.declared.event.Act.TheVariants.{Call as Calls, Kill}
-use Rattle.sem_msg.specs.declared.entry.Detail.{Detail}
-use Rattle.sem_msg.specs.declared.entry.Detail.TheVariants.{Called}
-use Rattle.sem_msg.specs.declared.entry.Entry.{Entry}
 
 -- the VPE that ends by an act, if one does: it is killed, or calls `exit`
 abbrev pub ended_by : Act → Detail → Option ℕ
@@ -16,7 +9,7 @@ ended_by (Kill w) detail = Some w
 ended_by (Calls w) (Called index Exit) = Some w
 ended_by act detail = None
 
--- the VPEs that end in a journal, in the order in which they do
+-- the VPEs that end in a journal, in the order of their ends
 abbrev pub ended_in : List Entry → List ℕ
 ended_in J = filter_map (λ e. ended_by e.event.act e.detail) J
 

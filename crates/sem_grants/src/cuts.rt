@@ -10,7 +10,7 @@ use sem_key::{Key, Keys, OutOfMemory, same_key};
 use sem_msg::{Act, Call, Detail, Entry, Journal, Setup};
 use std::alloc::Global;
 
-/// What revokes and clears cut off, and the keys of the VPEs that have ended; each once.
+/// The keys that revokes and clears cut off, and the keys of the VPEs that have ended; each once.
 pub fn cut_keys(alloc: Global, setup: &Setup, journal: &Journal) -> Result<Keys, OutOfMemory>
     ensures { IfOk result (λ keys. keys.keys ≡ cut setup.now journal.now.entries) }
 {
@@ -18,7 +18,7 @@ pub fn cut_keys(alloc: Global, setup: &Setup, journal: &Journal) -> Result<Keys,
     cut_among(alloc, &made, journal)
 }
 
-// The cut, where these are the keys that were made.
+// The cut, given the made keys.
 pub fn cut_among(alloc: Global, made: &[Key], journal: &Journal) -> Result<Keys, OutOfMemory>
     ensures { IfOk result (λ keys. keys.keys ≡ key_set (cut_from [] journal.now.entries
         ++ filter (λ k. has_ended journal.now.entries k.vpe) made.now)) }
@@ -30,7 +30,7 @@ pub fn cut_among(alloc: Global, made: &[Key], journal: &Journal) -> Result<Keys,
     Ok(keys)
 }
 
-// Adds what the entries of a journal cut off.
+// Adds the keys that the entries of a journal cut off.
 fn add_cut_off(alloc: Global, keys: &mut Keys, entries: &[Entry]) -> Result<(), OutOfMemory>
     ensures { OnOk result (keys.new.keys ≡ with_keys keys.old.keys (cut_from [] entries.now)) }
 {
@@ -42,7 +42,7 @@ fn add_cut_off(alloc: Global, keys: &mut Keys, entries: &[Entry]) -> Result<(), 
     Ok(())
 }
 
-// Adds what the entry cuts off, where these grants were before it.
+// Adds the keys that the entry cuts off, given the grants before it.
 fn add_cut_off_by(keys: &mut Keys, granted: &[(Key, Key)], entry: &Entry) -> Result<(), OutOfMemory>
     ensures { OnOk result (keys.new.keys ≡ with_keys keys.old.keys
         (option_map_or (cut_off granted.now entry.now.detail) entry.now.cut [])) }
@@ -109,7 +109,6 @@ fn add(keys: &mut Keys, key: Key) -> Result<(), OutOfMemory>
     Ok(())
 }
 
-// The VPEs that have ended.
 fn ended_vpes(alloc: Global, journal: &Journal) -> Result<Vec<u16>, OutOfMemory>
     ensures { IfOk result (λ vpes. vpes.items ≡ ended_in journal.now.entries) }
 {

@@ -1,4 +1,4 @@
-//! What the grants of a journal tell of its keys: which were made, and which of them were cut off.
+//! What the grants of a journal tell of its keys: which were made, and which of those were cut off.
 #![tactic(auto)]
 
 mod cuts;

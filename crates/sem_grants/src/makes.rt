@@ -10,7 +10,7 @@ use sem_key::{Key, OutOfMemory};
 use sem_msg::{Journal, Setup, VpeDecl};
 use std::alloc::Global;
 
-/// The keys that were made: those of roots and services, and the children of grants.
+/// The made keys: those of roots and services, and the children of grants.
 pub fn made_keys(alloc: Global, setup: &Setup, journal: &Journal) -> Result<Vec<Key>, OutOfMemory>
     ensures keys { IfOk result (λ keys. keys.items ≡ made setup.now journal.now.entries) }
     ensures valid { IsSetup setup.now }

@@ -1,4 +1,4 @@
-// Where a line departs from its form.
+// Finds where a line departs from its form.
 use crate::OutOfMemory;
 use crate::forms::{Choice, Slot, choice_words, follows, may_follow};
 use crate::places::{Limits, Setting};
@@ -6,8 +6,9 @@ use crate::words::{Word, text_of};
 use sem_text::number;
 use std::alloc::Global;
 
-/// The place of the first word that departs from the form of its line, and what belongs there; of a
-/// line that ends too early the place behind its words, and of one with a word too many nothing.
+/// The place of the first word that departs from the form of its line, and what belongs there. For
+/// a line that ends too early it is the place after its words; for one with a word too many nothing
+/// belongs there.
 #[derive(Clone, Copy, Debug)]
 pub struct Fault {
     pub place: usize,
@@ -20,7 +21,7 @@ const KEY_PARTS: usize = 4;
 /// The most numbers of a place.
 const PLACE_PARTS: usize = 3;
 
-/// Where the words depart from the form of their line; none where they have that form.
+/// Where the words depart from the form of their line; none if they have that form.
 pub fn fault_of(
     alloc: Global,
     setting: &Setting,
@@ -63,7 +64,7 @@ pub fn fault_of(
     )
 }
 
-// What may follow the form that is open, behind that word of a choice.
+// What may follow the open form, after that word of a choice.
 fn after(choice: Choice, word: &str, more: Option<Choice>) -> Option<Choice> {
     match choice {
         Choice::Event | Choice::Outcome | Choice::AfterGrant | Choice::AfterCut => {
@@ -82,7 +83,7 @@ fn reversed(alloc: Global, slots: &[Slot]) -> Result<Vec<Slot>, OutOfMemory> {
     Ok(open)
 }
 
-// Whether the word can stand there.
+// Whether the word can stand in the slot.
 fn is_right(slot: Slot, word: &[u8], limits: &Limits) -> bool {
     match slot {
         Slot::Fixed(name) => word == name.as_bytes(),
@@ -106,7 +107,7 @@ fn is_within(word: &[u8], least: u64, most: u64) -> bool {
     }
 }
 
-// Whether the word is so many numbers with points between them, each in its range.
+// Whether the word is that many numbers with points between them, each in its range.
 fn is_dotted(word: &[u8], parts: usize, limits: &Limits) -> bool {
     let mut count = 0usize;
     for part in word.split(|byte| *byte == b'.') {

@@ -1,11 +1,12 @@
-// What an earlier line of a trace or of file commands says already, or what no earlier line declares.
+// What an earlier line of a trace or of file commands says already, and what no earlier line
+// declares.
 use crate::OutOfMemory;
 use crate::words::{Word, words_of};
 use sem_trace::is;
 use std::alloc::Global;
 
-/// The number of the earlier line that says already what these words say, and the place of the word
-/// in which they agree.
+/// The number of the earlier line that says the same as these words, and the place of the word in
+/// which they agree.
 pub fn twice(
     alloc: Global,
     earlier: &[&[u8]],
@@ -20,7 +21,7 @@ pub fn twice(
     Ok(None)
 }
 
-// The place of the word in which the words say what the others say already.
+// The place of the word in which both say the same.
 fn agreement(words: &[Word], others: &[Word]) -> Option<usize> {
     let same = |place: usize| is_same(words.get(place), others.get(place));
     let name = words.first()?.text;
@@ -46,7 +47,7 @@ fn is_same(one: Option<&Word>, other: Option<&Word>) -> bool {
     }
 }
 
-/// The place of the word that names what no earlier line declares, and what it names.
+/// The place of the word that names something that no earlier line declares, and what it names.
 pub fn undeclared(
     alloc: Global,
     earlier: &[&[u8]],
@@ -65,8 +66,8 @@ pub fn undeclared(
     Ok(None)
 }
 
-// The places of the words of a declaration that name what an earlier line declares, and what they
-// name.
+// The places of the words of a declaration that name something that an earlier line declares, and
+// what they name.
 fn declared_before(name: &[u8]) -> &'static [(usize, &'static str)] {
     match name {
         b"vpe" => &[(2, "PE")],
@@ -77,7 +78,7 @@ fn declared_before(name: &[u8]) -> &'static [(usize, &'static str)] {
     }
 }
 
-// Whether an earlier line declares it.
+// Whether an earlier line declares the thing.
 fn is_declared(
     alloc: Global,
     earlier: &[&[u8]],

@@ -5,11 +5,11 @@
 pub enum Slot {
     /// That word.
     Fixed(&'static str),
-    /// A number from `least` to `most`, and what it is.
+    /// A number from `least` to `most`, and its meaning.
     Number(&'static str, u64, u64),
-    /// A PE or a VPE, whose range goes by the version.
+    /// A PE or a VPE; the version gives the range.
     Node(&'static str),
-    /// How many kernels there are.
+    /// The number of kernels.
     Kernels,
     /// A kernel.
     Kernel,
@@ -34,7 +34,7 @@ pub enum Choice {
     Consent,
     YesOrNo,
     Version,
-    /// What came of an event.
+    /// The outcome of an event.
     Outcome,
     AfterGrant,
     AfterCut,
@@ -86,7 +86,7 @@ const HANDLE: Slot = Slot::Number("handle", 0, 15);
 
 const CLIENT: Slot = Slot::Number("client", 1, 63);
 
-/// What a choice is called where its word is none of it.
+/// The name of a choice, for a word that it does not have.
 pub fn choice_name(choice: Choice) -> &'static str {
     match choice {
         Choice::Declaration => "declaration",

@@ -1,10 +1,10 @@
-// Why a client cannot do what a line of file commands says, because of the lines before it.
+// Why earlier lines keep a client from doing what a line of file commands says.
 use crate::OutOfMemory;
 use crate::words::{Word, words_of};
 use sem_trace::{Cause, is};
 use std::alloc::Global;
 
-/// The place of the word of a line `do` that the earlier lines do not allow there, and why.
+/// The place of the word of a line `do` that the earlier lines do not allow, and why.
 pub fn strayed(
     alloc: Global,
     cause: Cause,
@@ -24,7 +24,7 @@ pub fn strayed(
     }
 }
 
-// The word that names what is not there, and what is missing.
+// The word that names a missing thing, and what is missing.
 fn undeclared(
     alloc: Global,
     earlier: &[&[u8]],
@@ -89,7 +89,7 @@ fn repeated(
     Ok(None)
 }
 
-// The place of a word, and what is said of it.
+// The place of a word, and the text about it.
 fn said(alloc: Global, place: usize, text: &str) -> Result<Option<(usize, String)>, OutOfMemory> {
     Ok(Some((place, String::from_str(alloc, text)?)))
 }

@@ -9,10 +9,10 @@ use crate::words::{Word, lines_of, nearest, text_of, words_of};
 use sem_trace::{Cause, TraceFault};
 use std::alloc::Global;
 
-/// The most bytes of a line that are shown.
+/// The most bytes of a line that a text shows.
 const SHOWN: usize = 100;
 
-// Which bytes of a line are marked, and what is said of them.
+// The marked bytes of a line, and the text about them.
 #[derive(Drop)]
 struct Remark {
     begin: usize,
@@ -21,7 +21,7 @@ struct Remark {
 }
 
 /// Why the text, of that kind, is refused at its line: the line, the word in question under carets,
-/// what was wanted there and the nearest word that can stand there.
+/// what belongs there and the nearest word that can stand there.
 pub fn refusal_text(
     alloc: Global,
     text: &[u8],
@@ -56,7 +56,7 @@ pub fn refusal_text(
     Ok(out)
 }
 
-/// Why the text, of which a report was wanted, is none.
+/// Why the text is no report, though one was expected.
 pub fn no_report_text(
     alloc: Global,
     text: &[u8],
@@ -79,12 +79,12 @@ pub fn no_report_text(
     }
 }
 
-/// What the text begins as.
+/// The kind of the text, by its beginning.
 pub fn kind_of(alloc: Global, text: &[u8]) -> Result<TextKind, OutOfMemory> {
     Ok(kind_said(alloc, text)?.unwrap_or(TextKind::Trace))
 }
 
-// What the text says that it is, in its first line that says something.
+// The kind that the text says it is, in its first line that says something.
 fn kind_said(alloc: Global, text: &[u8]) -> Result<Option<TextKind>, OutOfMemory> {
     let lines = lines_of(alloc, text)?;
     kind_in_lines(alloc, lines.as_slice())
@@ -99,7 +99,7 @@ fn beyond(alloc: Global, fault: &TraceFault, count: usize) -> Result<String, Out
     }
 }
 
-// Appends the number of the word that the remark is about, where it is about one.
+// Appends the number of the word that the remark is about, if it is about one.
 fn push_word_number(
     alloc: Global,
     out: &mut String,
@@ -115,7 +115,7 @@ fn push_word_number(
     Ok(())
 }
 
-// Appends the line, and carets under what the remark is about.
+// Appends the line, and carets under the part that the remark is about.
 fn push_shown(
     alloc: Global,
     out: &mut String,
@@ -136,7 +136,7 @@ fn push_shown(
     out.push('\n')
 }
 
-// What is said of the line.
+// The remark on the line.
 fn remark_of(
     alloc: Global,
     cause: Cause,
@@ -203,7 +203,7 @@ fn at_word(words: &[Word], place: usize, text: String) -> Remark {
     }
 }
 
-// What is said of a line that is too long.
+// The remark on a line that is too long.
 fn long_line(alloc: Global, line: &[u8]) -> Result<Remark, OutOfMemory> {
     Ok(Remark {
         begin: 255usize.min(line.len()),
@@ -215,7 +215,7 @@ fn long_line(alloc: Global, line: &[u8]) -> Result<Remark, OutOfMemory> {
     })
 }
 
-// What is said of a byte that is no text.
+// The remark on a byte that is no text.
 fn odd_byte(alloc: Global, line: &[u8]) -> Result<Remark, OutOfMemory> {
     for (at, byte) in line.iter().enumerate() {
         if *byte != b'\t' && !(b' '..=b'~').contains(byte) {
@@ -229,8 +229,7 @@ fn odd_byte(alloc: Global, line: &[u8]) -> Result<Remark, OutOfMemory> {
     whole(alloc, line, "a byte is neither a tab nor printable ASCII")
 }
 
-// What is said of the bytes from the first that is no text on, which stand so far behind the begin of
-// their line.
+// The remark on the bytes from the first one that is no text; `at` is its place in the line.
 fn odd_text(alloc: Global, bytes: &[u8], at: usize) -> Result<String, OutOfMemory> {
     match bytes {
         [b'\r'] => String::from_str(
@@ -249,7 +248,7 @@ fn odd_text(alloc: Global, bytes: &[u8], at: usize) -> Result<String, OutOfMemor
     }
 }
 
-// The letter beyond ASCII with which the bytes begin in UTF-8, if they do.
+// The non-ASCII letter that the bytes begin with in UTF-8, if they do.
 fn letter_at(bytes: &[u8]) -> Option<char> {
     for count in 2usize..5 {
         let part = bytes.get(..count)?;
@@ -260,7 +259,7 @@ fn letter_at(bytes: &[u8]) -> Option<char> {
     None
 }
 
-// What is said of a line whose words have their form.
+// The remark on a line whose words have their form.
 fn of_cause(
     alloc: Global,
     line: &[u8],
@@ -287,7 +286,7 @@ fn of_cause(
     }
 }
 
-// What is said of a word that departs from the form of its line.
+// The remark on a word that departs from the form of its line.
 fn of_fault(
     alloc: Global,
     cause: Cause,
@@ -320,7 +319,7 @@ fn of_fault(
     Ok(at_word(words, fault.place, text))
 }
 
-// What is said of a word that is none of a choice.
+// The remark on a word that is not in a choice.
 fn of_choice(alloc: Global, choice: Choice, given: &str) -> Result<String, OutOfMemory> {
     let (name, names) = (choice_name(choice), choice_words(choice));
     let mut text = format!(in alloc; "\"{given}\" is no {name}")?;

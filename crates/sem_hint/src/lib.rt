@@ -1,5 +1,5 @@
-//! Why a line of a trace, a report or file commands is refused, in words: which word of it, what was
-//! wanted there, and the nearest word that can stand there.
+//! Why a line of a trace, a report or file commands is refused, in words: which word of it, what
+//! belongs there, and the nearest word that can stand there.
 #![tactic(auto)]
 
 mod causes;

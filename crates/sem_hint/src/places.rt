@@ -1,4 +1,4 @@
-// Which form a line has by its place in a text, and the limits of the text.
+// The form of a line by its place in a text, and the limits of the text.
 use crate::OutOfMemory;
 use crate::forms::{Choice, Slot};
 use crate::words::{first_word, words_of};
@@ -6,7 +6,7 @@ use sem_text::number;
 use sem_trace::is;
 use std::alloc::Global;
 
-/// What goes by the text of which a line is.
+/// The limits that the text of a line sets.
 #[derive(Clone, Copy, Debug)]
 pub struct Limits {
     /// The greatest number of a PE or a VPE.
@@ -17,12 +17,13 @@ pub struct Limits {
     pub declared: u64,
 }
 
-/// What is known of a line by its place.
+/// What the place of a line tells.
 #[derive(Clone, Copy, Debug)]
 pub struct Setting {
     pub slots: &'static [Slot],
     pub limits: Limits,
-    /// The number of the first line of the trace, or of the file commands, of which the line is one.
+    /// The number of the first line of the trace, or of the file commands, that the line belongs
+    /// to.
     pub trace: Option<usize>,
     /// Whether it is a line of file commands.
     pub is_files: bool,
@@ -31,7 +32,7 @@ pub struct Setting {
 /// A number of a report.
 const MANY: u64 = 4_294_967_295;
 
-/// What a text is taken for.
+/// The kind that a text is taken for.
 #[derive(Clone, Copy, Debug, PartialEq, Eq)]
 pub enum TextKind {
     Trace,
@@ -39,7 +40,7 @@ pub enum TextKind {
     Files,
 }
 
-/// What the lines begin as, if they begin as one of these.
+/// The kind that the lines begin as, if they begin as one.
 pub fn kind_in_lines(alloc: Global, lines: &[&[u8]]) -> Result<Option<TextKind>, OutOfMemory> {
     for line in lines {
         let words = words_of(alloc, line)?;
@@ -52,7 +53,7 @@ pub fn kind_in_lines(alloc: Global, lines: &[&[u8]]) -> Result<Option<TextKind>,
     Ok(None)
 }
 
-// What the second word of the first line tells.
+// The kind that the second word of the first line tells.
 fn kind_named(word: &[u8]) -> Option<TextKind> {
     match word {
         b"report" => Some(TextKind::Report),
@@ -62,7 +63,7 @@ fn kind_named(word: &[u8]) -> Option<TextKind> {
     }
 }
 
-/// What is known of the line at that place, counted from 0, of a text of that kind.
+/// What the place of a line tells, counted from 0, in a text of that kind.
 pub fn setting_of(
     alloc: Global,
     lines: &[&[u8]],
@@ -83,7 +84,7 @@ pub fn setting_of(
     })
 }
 
-// What is known of the line at that place of a report.
+// What the place of a line of a report tells.
 fn report_setting(
     alloc: Global,
     lines: &[&[u8]],
@@ -130,7 +131,7 @@ fn limits_of(alloc: Global, lines: &[&[u8]]) -> Result<Limits, OutOfMemory> {
     })
 }
 
-// The place of the line that ends the trace of a report; that of the last line where none does.
+// The place of the line that ends the trace of a report, or of the last line if none does.
 fn trace_end(lines: &[&[u8]]) -> usize {
     for (place, line) in lines.iter().enumerate() {
         if is(first_word(line), b"end") {
@@ -162,7 +163,7 @@ fn trace_slots(lines: &[&[u8]], first: usize, at: usize, has_window: bool) -> &'
     }
 }
 
-// How many of the lines from `first` on and before the place say something.
+// How many of the lines from `first` up to the place say something.
 fn count_said(lines: &[&[u8]], first: usize, at: usize) -> usize {
     let mut count = 0usize;
     for (place, line) in lines.iter().enumerate() {
@@ -186,7 +187,7 @@ fn file_slots(lines: &[&[u8]], at: usize) -> &'static [Slot] {
     }
 }
 
-// The number behind the first word of a line; 0 where there is none.
+// The number after the first word of a line; 0 if there is none.
 fn count_of(alloc: Global, lines: &[&[u8]], at: usize) -> Result<usize, OutOfMemory> {
     let Some(line) = lines.get(at) else {
         return Ok(0);
@@ -198,7 +199,7 @@ fn count_of(alloc: Global, lines: &[&[u8]], at: usize) -> Result<usize, OutOfMem
     }
 }
 
-// The form of a line of a report outside its trace, which ends with the line `end`.
+// The form of a line of a report outside its trace; the trace ends with the line `end`.
 fn report_slots(
     alloc: Global,
     lines: &[&[u8]],
@@ -227,7 +228,7 @@ fn report_slots(
     Ok(audit_slots(at.saturating_sub(audit), held))
 }
 
-// The form of a line of an audit that tells of so many held keys.
+// The form of a line of an audit that tells of that many held keys.
 fn audit_slots(at: usize, held: usize) -> &'static [Slot] {
     match at {
         0 => &[Slot::Fixed("audit")],

@@ -1,4 +1,4 @@
-// What capabilities and entries are, in words.
+// Capabilities and entries, described in words.
 use crate::OutOfMemory;
 use crate::words::key_text;
 use sem_key::Object;
@@ -44,7 +44,7 @@ fn rights_text(rights: u8) -> &'static str {
     }
 }
 
-/// What the entry with that number began, a call or the end of a VPE, and its number.
+/// What the entry of that number began, a call or the end of a VPE, and its number.
 pub fn cause_text(alloc: Global, entries: &[Entry], number: usize) -> Result<String, OutOfMemory> {
     match entries.get(number) {
         Some(entry) => {
@@ -67,7 +67,6 @@ pub fn act_text(alloc: Global, entry: &Entry) -> Result<String, OutOfMemory> {
     }
 }
 
-// The words of a call.
 fn call_text(alloc: Global, call: &Call) -> Result<String, OutOfMemory> {
     let mut words = Vec::new(alloc);
     push_call(&mut words, call)?;

@@ -5,7 +5,7 @@ use sem_trace::{Lines, next_word};
 use std::alloc::Global;
 use strsim::osa_distance;
 
-/// A word and where it stands in its line.
+/// A word and its place in its line.
 #[derive(Clone, Copy, Debug)]
 pub struct Word<'a> {
     pub begin: usize,
@@ -30,10 +30,10 @@ pub fn words_of<'a>(alloc: Global, line: &'a [u8]) -> Result<Vec<Word<'a>>, OutO
     Ok(words)
 }
 
-/// The most bytes that are looked at of a line: a few more than a line may have.
+/// The most bytes of a line that are read: a few more than a line may have.
 const LOOKED_AT: usize = 512;
 
-/// The lines of the text, each without its end, and of a long one the first bytes alone.
+/// The lines of the text, each without its end; of a long one only the first bytes.
 pub fn lines_of<'a>(alloc: Global, text: &'a [u8]) -> Result<Vec<&'a [u8]>, OutOfMemory> {
     let mut lines = Vec::new(alloc);
     let mut rest = Lines::of(text);
@@ -46,7 +46,7 @@ pub fn lines_of<'a>(alloc: Global, text: &'a [u8]) -> Result<Vec<&'a [u8]>, OutO
     Ok(lines)
 }
 
-/// The first word of the line; an empty one where there is none.
+/// The first word of the line; empty if there is none.
 pub fn first_word(line: &[u8]) -> &[u8] {
     match next_word(line) {
         Some((word, _)) => word,
@@ -73,7 +73,7 @@ pub fn key_text(alloc: Global, key: &Key) -> Result<String, OutOfMemory> {
     format!(in alloc; "{pe}.{vpe}.{kind}.{number}")
 }
 
-/// The name that is nearest to the word, if one is near.
+/// The name nearest to the word, if one is near.
 pub fn nearest(
     alloc: Global,
     word: &str,

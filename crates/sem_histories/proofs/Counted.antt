@@ -38,11 +38,13 @@ module _ (by : Telling) (T : Setup) (V : List (List Entry)) (closed : IsClosed (
         same = λ k inside. same-cons at rest.places k (subst (CountsAs by T J) (sym here) same) rest.same inside;
       }
     where
-      within-cons : (at : ℕ) (places : List ℕ) (k : ℕ) → at < length V → ((m : ℕ) → m < length W → get_or places m 0 < length V) → k < suc (length W) → get_or (at ∷ places) k 0 < length V
+      within-cons : (at : ℕ) (places : List ℕ) (k : ℕ) → at < length V → ((m : ℕ) → m < length W → get_or places m 0 < length V) → k < suc (length W) →
+          get_or (at ∷ places) k 0 < length V
       within-cons at places zero less later inside = less
       within-cons at places (suc k) less later inside = later k (omega (arith, inside))
 
-      same-cons : (at : ℕ) (places : List ℕ) (k : ℕ) → CountsAs by T J (get_or V at []) → ((m : ℕ) → m < length W → CountsAs by T (get_or W m []) (get_or V (get_or places m 0) []))
+      same-cons : (at : ℕ) (places : List ℕ) (k : ℕ) → CountsAs by T J (get_or V at []) →
+          ((m : ℕ) → m < length W → CountsAs by T (get_or W m []) (get_or V (get_or places m 0) []))
           → k < suc (length W) → CountsAs by T (get_or (J ∷ W) k []) (get_or V (get_or (at ∷ places) k 0) [])
       same-cons at places zero first later inside = first
       same-cons at places (suc k) first later inside = later k (omega (arith, inside))
@@ -68,7 +70,8 @@ module _ (by : Telling) (T : Setup) (V : List (List Entry)) (closed : IsClosed (
           let one : get_or placed.places j 0 ≡ get_or placed.places i 0 = sym at_j ∙ (sym equal ∙ at_i) in
           let low = placed.same i first in
           let high = subst (λ p. CountsAs by T (get_or W j []) (get_or V p [])) one (placed.same j last) in
-          are.apart i j [] less last ((kept by T).follows (get_or W j []) (get_or V (get_or placed.places i 0) []) (get_or W i []) high (back by T (get_or W i []) (get_or V (get_or placed.places i 0) []) low)))
+          are.apart i j [] less last ((kept by T).follows (get_or W j []) (get_or V (get_or placed.places i 0) []) (get_or W i []) high
+          (back by T (get_or W i []) (get_or V (get_or placed.places i 0) []) low)))
 
       below : (placed : Placed W) (q : ℕ) → list_any (eqb q) placed.places ≡ true → q < length V
       below placed q any =

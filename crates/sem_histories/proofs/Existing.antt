@@ -41,7 +41,8 @@ module _ (T : Setup) where
       let whole : length (and_then T K e) ≡ length J = ap length same in
       (subst (IsSchedule T) same (schedule-push T K e runs ((enabled-exact T (world_after T K) e).0 able)), omega (arith, long, grown, whole))
 
-  longer : (n : ℕ) (J : List Entry) (e : Event) → Contains (of_length n) J → is_enabled T (world_after T J) e ≡ true → Contains (of_length (suc n)) (and_then T J e)
+  longer : (n : ℕ) (J : List Entry) (e : Event) → Contains (of_length n) J → is_enabled T (world_after T J) e ≡ true →
+      Contains (of_length (suc n)) (and_then T J e)
   longer n J e among able = Contains-flat_map (λ L. map (and_then T L) (enabled T (world_after T L))) (of_length n) J (and_then T J e) among
       (Contains-map (and_then T J) (enabled T (world_after T J)) e ((enabled-exact T (world_after T J) e).1 able))
 
@@ -64,7 +65,8 @@ module _ (T : Setup) where
   set-schedule m J among = let (k, there, few) = placed m J among in (of-length k J there).0
 
   -- none is longer than the bound allows
-  onward : IsSetup T → (J : List Entry) (e : Event) → Contains (up_to (entry_limit T)) J → is_enabled T (world_after T J) e ≡ true → Contains (up_to (entry_limit T)) (and_then T J e)
+  onward : IsSetup T → (J : List Entry) (e : Event) → Contains (up_to (entry_limit T)) J → is_enabled T (world_after T J) e ≡ true →
+      Contains (up_to (entry_limit T)) (and_then T J e)
   onward valid J e among able =
       let (k, there, few) = placed (entry_limit T) J among in
       let (runs, long) = of-length k J there in

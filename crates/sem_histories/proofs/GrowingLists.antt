@@ -44,12 +44,16 @@ module _ (T : Setup) where
 
     pub lists-put : IsComplete T J → (Contains (outcomes_of witnesses) (outcome T J) → ⊥) → ListsOutcomes T (V ++ J ∷ []) (witnesses ++ witness_of T J ∷ [])
     lists-put complete new =
-        let more : outcomes_of (witnesses ++ witness_of T J ∷ []) ≡ outcomes_of witnesses ++ outcome T J ∷ [] = map-append (λ (d : Witness). d.outcome) witnesses (witness_of T J ∷ []) in
+        let more : outcomes_of (witnesses ++ witness_of T J ∷ []) ≡ outcomes_of witnesses ++ outcome T J ∷ [] =
+        map-append (λ (d : Witness). d.outcome) witnesses (witness_of T J ∷ []) in
         record {
-          shown = All-append (IsShown T) witnesses (witness_of T J ∷ []) lists.shown (All-cons (IsShown T) (witness_of T J) [] (record { complete = complete; comes_to = refl }) (All-nil (IsShown T)));
+          shown = All-append (IsShown T) witnesses (witness_of T J ∷ []) lists.shown
+              (All-cons (IsShown T) (witness_of T J) [] (record { complete = complete; comes_to = refl }) (All-nil (IsShown T)));
           whole = whole-more (witnesses ++ witness_of T J ∷ [])
               (λ o there. subst (λ os. Contains os o) (sym more) (Contains-append_left (outcomes_of witnesses) (outcome T J ∷ []) o there))
-              (λ whole. subst (λ os. Contains os (outcome T J)) (sym more) (Contains-append_right (outcomes_of witnesses) (outcome T J ∷ []) (outcome T J) (Contains-head (outcome T J) [])));
+              (λ whole. subst (λ os. Contains os (outcome T J)) (sym more) (Contains-append_right (outcomes_of witnesses) (outcome T J ∷ []) (outcome T J)
+              (Contains-head (outcome T J) [])));
           once = subst (AllPairs (λ a b. a ≢ b)) (sym more)
-              (all_pairs_push (λ a b. a ≢ b) (outcomes_of witnesses) (outcome T J) lists.once (λ k d inside same. new (subst (Contains (outcomes_of witnesses)) same (Contains-get_or (outcomes_of witnesses) k d inside))));
+              (all_pairs_push (λ a b. a ≢ b) (outcomes_of witnesses) (outcome T J) lists.once
+              (λ k d inside same. new (subst (Contains (outcomes_of witnesses)) same (Contains-get_or (outcomes_of witnesses) k d inside))));
         }

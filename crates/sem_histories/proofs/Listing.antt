@@ -10,7 +10,8 @@ use Rattle.sem_histories.specs.Closed.{Telling, CountsAs, IsClosed, IsOutcomeAmo
 use Rattle.sem_histories.specs.Listing.{Witness, outcomes_of, IsShown, ListsOutcomes, ListsAllOutcomes}
 use Rattle.sem_histories.proofs.Closing.{all-outcomes}
 
-module _ (by : Telling) (T : Setup) (valid : IsSetup T) (V : List (List Entry)) (closed : IsClosed (CountsAs by T) T V) (witnesses : List Witness) (lists : ListsOutcomes T V witnesses) where
+module _ (by : Telling) (T : Setup) (valid : IsSetup T) (V : List (List Entry)) (closed : IsClosed (CountsAs by T) T V) (witnesses : List Witness)
+    (lists : ListsOutcomes T V witnesses) where
   listed : (o : RunOutcome) → IsOutcomeAmong T V o → Contains (outcomes_of witnesses) o
   listed o (J, among, complete, is) = subst (Contains (outcomes_of witnesses)) is (lists.whole J among complete)
 

@@ -7,7 +7,8 @@ use Rattle.sem_histories.specs.Outcomes.{HasSameParts}
 use Rattle.sem_histories.specs.Trees.{AreTrees, AreNumbersOf}
 use Rattle.sem_histories.proofs.TreeParts.{tree-tells}
 
-module _ (T : Setup) (trees : List (List (List Entry))) (ns ms : List ℕ) (J K : List Entry) (are : AreTrees T trees) (of_J : AreNumbersOf T trees ns J) (of_K : AreNumbersOf T trees ms K) where
+module _ (T : Setup) (trees : List (List (List Entry))) (ns ms : List ℕ) (J K : List Entry) (are : AreTrees T trees) (of_J : AreNumbersOf T trees ns J)
+    (of_K : AreNumbersOf T trees ms K) where
   pub numbers-parts : ns ≡ ms → HasSameParts T J K
   numbers-parts same i here = sym (of_J.parts i here) ∙ (ap (λ ks. get_or (get_or trees i []) (get_or ks i 0) []) same ∙ of_K.parts i here)
 

@@ -1,11 +1,13 @@
 -- A search goes on, and ends with a closed set.
-use Rattle.std.proofs.Common.{◌≡◌, ℕ, suc, ◌+◌, ◌<◌, true, List, [], ◌∷◌, ◌++◌, length, take, get_or, slice_get, Some, refl, sym, ◌∙◌, ap, subst, inl, inr, arith, ◌⊎◌}
+use Rattle.std.proofs.Common.{◌≡◌, ℕ, suc, ◌+◌, ◌<◌, true, List, [], ◌∷◌, ◌++◌, length, take, get_or, slice_get, Some, refl, sym, ◌∙◌, ap, subst, inl, inr}
+use Rattle.std.proofs.Common.{arith, ◌⊎◌}
 use Rattle.std.specs.List.{Contains}
 use Rattle.std.proofs.lemmas.List.{take-append-le, length_push}
 use Rattle.std.proofs.Math.Seq.{take-suc, take-length}
 use Rattle.std.proofs.lemmas.Option.{slice_get_within, get_or_from_slice_get}
 use Rattle.std.proofs.lemmas.List.Quantifiers.{all_pairs_push}
-use Rattle.std.proofs.lemmas.List.Elements.{All-nil, All-cons, All-append, All-contains, Contains-append_left, Contains-append_right, Contains-append_cases, Contains-get_or}
+use Rattle.std.proofs.lemmas.List.Elements.{All-nil, All-cons, All-append, All-contains, Contains-append_left, Contains-append_right, Contains-append_cases}
+use Rattle.std.proofs.lemmas.List.Elements.{Contains-get_or}
 use Rattle.sem_key.proofs.Members.{Contains-head, Contains-nil, Contains-cons_cases}
 use Rattle.sem_msg.specs.declared.entry.Entry.{Entry}
 use Rattle.sem_msg.specs.declared.event.Event.{Event}
@@ -43,7 +45,8 @@ module _ (T : Setup) (Same : Sameness) (itself : (J : List Entry) → Same J J) 
       none : (i j : ℕ) → i < j → j < 1 → ⊥
       none i j less within = omega (arith, less, within)
 
-  pub searched-put : (V : List (List Entry)) (n : ℕ) (J : List Entry) (e : Event) → IsSearched Same T V n → IsSchedule T J → is_enabled T (world_after T J) e ≡ true
+  pub searched-put : (V : List (List Entry)) (n : ℕ) (J : List Entry) (e : Event) → IsSearched Same T V n → IsSchedule T J →
+      is_enabled T (world_after T J) e ≡ true
       → (Represents Same V (and_then T J e) → ⊥) → IsSearched Same T (V ++ and_then T J e ∷ []) n
   searched-put V n J e is runs enabled new =
       let K : List Entry = and_then T J e in
@@ -51,12 +54,14 @@ module _ (T : Setup) (Same : Sameness) (itself : (J : List Entry) → Same J J) 
       let long = length_push V K in
       record {
         apart = record {
-          schedules = All-append (IsSchedule T) V (K ∷ []) is.apart.schedules (All-cons (IsSchedule T) K [] (schedule-push T J e runs enabled) (All-nil (IsSchedule T)));
+          schedules = All-append (IsSchedule T) V (K ∷ []) is.apart.schedules
+              (All-cons (IsSchedule T) K [] (schedule-push T J e runs enabled) (All-nil (IsSchedule T)));
           apart = all_pairs_push (λ A B. Same B A → ⊥) V K is.apart.apart (λ k d within same. new (get_or V k d, Contains-get_or V k d within, same));
         };
         start = represents-more V (K ∷ []) [] is.start;
         within = omega (arith, short, long);
-        onward = λ L x among able. represents-more V (K ∷ []) (and_then T L x) (is.onward L x (subst (λ P. Contains P L) (take-append-le n V (K ∷ []) short) among) able);
+        onward = λ L x among able. represents-more V (K ∷ []) (and_then T L x)
+            (is.onward L x (subst (λ P. Contains P L) (take-append-le n V (K ∷ []) short) among) able);
       }
 
   pub searched-next : (V : List (List Entry)) (n : ℕ) (J : List Entry) → IsSearched Same T V n → slice_get V n ≡ Some J
@@ -76,7 +81,8 @@ module _ (T : Setup) (Same : Sameness) (itself : (J : List Entry) → Same J J) 
           let one : suc n ≡ n + 1 = omega arith in
           subst (λ m. take m V ≡ take n V ++ J ∷ []) one (take-suc V n J less ∙ ap (λ x. take n V ++ x ∷ []) same)
 
-      by_place : (L : List Entry) (x : Event) → Contains (take n V) L ⊎ Contains (J ∷ []) L → is_enabled T (world_after T L) x ≡ true → Represents Same V (and_then T L x)
+      by_place : (L : List Entry) (x : Event) → Contains (take n V) L ⊎ Contains (J ∷ []) L → is_enabled T (world_after T L) x ≡ true →
+          Represents Same V (and_then T L x)
       by_place L x (inl before) able = is.onward L x before able
       by_place L x (inr last) able = elim (Contains-cons_cases J [] L last) [
         | inl same ↦ subst (λ K. Represents Same V (and_then T K x)) same

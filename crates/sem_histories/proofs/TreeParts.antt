@@ -53,7 +53,8 @@ module _ (nodes : List (ℕ × Entry)) (parts : List (List Entry)) (is : IsTree 
         let within : m < length nodes = omega (arith, long, here) in
         let node : ℕ × Entry = get_or nodes m (p, e) in
         let up : suc m ≡ m + 1 = omega arith in
-        let both = snoc-same (get_or parts node.0 []) (get_or parts p []) node.1 e (sym (is.child m (p, e) within) ∙ (ap (λ n. get_or parts n []) (sym up) ∙ same)) in
+        let both = snoc-same (get_or parts node.0 []) (get_or parts p []) node.1 e (sym (is.child m (p, e) within)
+        ∙ (ap (λ n. get_or parts n []) (sym up) ∙ same)) in
         let before = is.earlier m (p, e) within in
         let parent : node.0 ≡ p = tree-tells node.0 p (omega (arith, long, within, before)) (omega (arith, long, inside)) both.0 in
         new (m, within, λ k. (parent k, both.1 k))
@@ -68,7 +69,8 @@ module _ (nodes : List (ℕ × Entry)) (parts : List (List Entry)) (is : IsTree 
           root = get_or_append_left parts (part_below parts p e ∷ []) [] 0 (omega (arith, long)) ∙ is.root;
           earlier = λ k d within. by_place k d (place k within);
           child = λ k d within. child-by k d (place k within);
-          apart = all_pairs_push (λ L M. L ≢ M) parts (part_below parts p e) is.apart (λ k d here same. new-part k here (get_or_default parts k [] d here ∙ same));
+          apart = all_pairs_push (λ L M. L ≢ M) parts (part_below parts p e) is.apart (λ k d here same. new-part k here (get_or_default parts k [] d here
+              ∙ same));
         }
       where
         place : (k : ℕ) → k < length (nodes ++ (p, e) ∷ []) → (k < length nodes) ⊎ (length nodes ≡ k)
@@ -88,15 +90,18 @@ module _ (nodes : List (ℕ × Entry)) (parts : List (List Entry)) (is : IsTree 
         kept k here = get_or_append_left parts (part_below parts p e ∷ []) [] k here
 
         child-by : (k : ℕ) (d : ℕ × Entry) → (k < length nodes) ⊎ (length nodes ≡ k)
-            → get_or (parts ++ part_below parts p e ∷ []) (k + 1) [] ≡ get_or (parts ++ part_below parts p e ∷ []) (get_or (nodes ++ (p, e) ∷ []) k d).0 [] ++ (get_or (nodes ++ (p, e) ∷ []) k d).1 ∷ []
+            → get_or (parts ++ part_below parts p e ∷ []) (k + 1) [] ≡ get_or (parts ++ part_below parts p e ∷ []) (get_or (nodes ++ (p, e) ∷ []) k d).0 []
+            ++ (get_or (nodes ++ (p, e) ∷ []) k d).1 ∷ []
         child-by k d (inl less) =
             let long = is.long in
             let before = is.earlier k d less in
             subst (λ (n : ℕ × Entry). get_or (parts ++ part_below parts p e ∷ []) (k + 1) [] ≡ get_or (parts ++ part_below parts p e ∷ []) n.0 [] ++ n.1 ∷ [])
             (sym (get_or_append_left nodes ((p, e) ∷ []) d k less))
-            (kept (k + 1) (omega (arith, long, less)) ∙ (is.child k d less ∙ ap (λ L. L ++ (get_or nodes k d).1 ∷ []) (sym (kept (get_or nodes k d).0 (omega (arith, long, less, before))))))
+            (kept (k + 1) (omega (arith, long, less))
+            ∙ (is.child k d less ∙ ap (λ L. L ++ (get_or nodes k d).1 ∷ []) (sym (kept (get_or nodes k d).0 (omega (arith, long, less, before))))))
         child-by k d (inr last) =
             let long = is.long in
             subst (λ (n : ℕ × Entry). get_or (parts ++ part_below parts p e ∷ []) (k + 1) [] ≡ get_or (parts ++ part_below parts p e ∷ []) n.0 [] ++ n.1 ∷ [])
             (sym (get_or_at nodes (p, e) [] d k last))
-            (get_or_at parts (part_below parts p e) [] [] (k + 1) (omega (arith, long, last)) ∙ ap (λ L. L ++ e ∷ []) (sym (kept p (omega (arith, long, inside)))))
+            (get_or_at parts (part_below parts p e) [] [] (k + 1) (omega (arith, long, last))
+            ∙ ap (λ L. L ++ e ∷ []) (sym (kept p (omega (arith, long, inside)))))

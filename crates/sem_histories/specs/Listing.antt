@@ -1,16 +1,14 @@
 -- The list of all outcomes of a setup, each with a run that shows it.
 use Rattle.std.specs.Prelude.{◌≡◌, ◌≢◌, ◌↔◌, ℕ, ◌+◌, ◌⊎◌, List, [], ◌∷◌, map, Contains, All, AllPairs}
-use Rattle.sem_msg.specs.declared.entry.Entry.{Entry}
-use Rattle.sem_msg.specs.Setup.{Setup}
-use Rattle.sem_machine.specs.Living.{IsComplete}
+use Rattle.sem_machine.specs.Prelude.{Entry, Setup, IsComplete}
 use Rattle.sem_histories.specs.Outcomes.{RunOutcome, outcome, IsOutcome}
 
--- an outcome, and the journal of a run that ends so
+-- an outcome, and the journal of a run that ends with it
 pub record Witness : Type 0 where
   pub journal : List Entry
   pub outcome : RunOutcome
 
--- what a journal comes to, shown by it
+-- the outcome of a journal, shown by the journal
 abbrev pub witness_of : Setup → List Entry → Witness
 witness_of T J = record { journal = J; outcome = outcome T J }
 
@@ -38,7 +36,7 @@ pub record ListsAllOutcomes (T : Setup) (witnesses : List Witness) : Type 0 wher
 abbrev pub IsEnding : Setup → RunOutcome → List Entry → Type 0
 IsEnding T o J = IsComplete T J × (outcome T J ≡ o)
 
--- so many of the list have the property
+-- that many of the list have the property
 abbrev pub HasCount : {A : Type 0} → (A → Type 0) → List A → ℕ → Type 0
 HasCount P [] n = n ≡ 0
 HasCount P (x ∷ xs) n = (P x × ((m : ℕ) × (n ≡ m + 1) × HasCount P xs m)) ⊎ ((P x → ⊥) × HasCount P xs n)

@@ -1,5 +1,5 @@
-//! The law behind an exact list of all outcomes of a setup: schedules with the same parts lead to
-//! the same world and the same replies, and a set of schedules that no event leads out of has every
+//! The law behind an exact list of all outcomes of a setup. Schedules with the same parts lead to
+//! the same world and the same replies. A set of schedules that no event leads out of has every
 //! outcome.
 #![tactic(auto)]
 

@@ -1,9 +1,9 @@
-// What a run ends in, and the run that shows it.
+// The outcome of a run, and the run that shows it.
 use sem_msg::{HeldList, Journal};
 use std::marker::Model;
 
-/// What a run ended in: by VPE in the order of the setup, the codes of its replies; and the keys
-/// that are held at the end, each with its selector, in rising key order.
+/// The outcome of a run: the codes of the replies to each VPE, in the order of the setup; and the
+/// keys held at the end, each with its selector, in rising key order.
 #[derive(Debug, Drop)]
 pub struct RunOutcome {
     pub codes: Vec<Vec<u8>>,
@@ -23,7 +23,7 @@ impl Model for RunOutcome {
     } };
 }
 
-/// An outcome, and the journal of a run that ends so.
+/// An outcome, and the journal of a run that ends with it.
 #[derive(Debug, Drop)]
 pub struct Witness {
     pub journal: Journal,
@@ -38,7 +38,7 @@ impl Model for Witness {
     ghost view = { λ w. record { journal = w.journal.entries; outcome = w.outcome } };
 }
 
-/// An outcome, and how many complete histories end so.
+/// An outcome, and how many complete histories end with it.
 #[derive(Debug, Drop)]
 pub struct Listed {
     pub witness: Witness,
@@ -49,11 +49,11 @@ pub struct Listed {
 #[derive(Debug, Drop)]
 pub struct AllOutcomes {
     pub found: Vec<Listed>,
-    /// How many histories were met, complete ones and others.
+    /// How many histories the search met, complete ones and others.
     pub histories: u64,
 }
 
-/// An outcome, how many seeds of a sample end so, and the least of them, whose run shows it.
+/// An outcome, how many seeds of a sample end with it, and the least of them, whose run shows it.
 #[derive(Debug, Drop)]
 pub struct Sampled {
     pub witness: Witness,

@@ -1,5 +1,6 @@
 -- How takings from a source and givings to a sink add up over several calls.
-use Rattle.std.proofs.Common.{◌≡◌, ℕ, ◌+◌, ◌≤◌, List, [], ◌++◌, length, take, drop, Option, Some, None, IfSome, Result, Ok, Err, OnErr, refl, sym, ap, arith, append_assoc, append-nil, length-append, length-take, length-drop, drop-drop, inl, inr}
+use Rattle.std.proofs.Common.{◌≡◌, ℕ, ◌+◌, ◌≤◌, List, [], ◌++◌, length, take, drop, Option, Some, None, IfSome, Result, Ok, Err, OnErr, refl, sym, ap, arith}
+use Rattle.std.proofs.Common.{append_assoc, append-nil, length-append, length-take, length-drop, drop-drop, inl, inr}
 use Rattle.std.proofs.lemmas.List.{take_at, take_all, take_rest, take-append-drop}
 use Rattle.std.specs.List.{slice_range}
 use Rattle.std.proofs.lemmas.Bool.{cases_lt}
@@ -31,7 +32,8 @@ whole_of xs rest limit within ended = elim (cases_lt limit (length xs)) [
 ]
 
 -- what was taken from a source that tells is the first limit + 1 bytes, where it stops short of that only at the end
-pub Takes-whole : (before after : Option (List ℕ)) (xs : List ℕ) (limit : ℕ) → Takes before after xs → length xs ≤ limit + 1 → (length xs ≤ limit → IfSome after (λ rest. rest ≡ [])) → IfSome before (λ left. xs ≡ take (limit + 1) left)
+pub Takes-whole : (before after : Option (List ℕ)) (xs : List ℕ) (limit : ℕ) → Takes before after xs → length xs ≤ limit + 1 →
+    (length xs ≤ limit → IfSome after (λ rest. rest ≡ [])) → IfSome before (λ left. xs ≡ take (limit + 1) left)
 Takes-whole before None xs limit taken within ended = rw taken tt
 Takes-whole before (Some rest) xs limit taken within ended = rw taken (whole_of xs rest limit within ended)
 
@@ -41,7 +43,8 @@ Appends-nil None = refl
 Appends-nil (Some xs) = grind (arith, common_steps)
 
 -- first these bytes were given, then those
-pub Appends-append : (before between after : Option (List ℕ)) (xs ys : List ℕ) → Appends before between xs → Appends between after ys → Appends before after (xs ++ ys)
+pub Appends-append : (before between after : Option (List ℕ)) (xs ys : List ℕ) → Appends before between xs → Appends between after ys →
+    Appends before after (xs ++ ys)
 Appends-append None between after xs ys first second = grind arith
 Appends-append (Some written) between after xs ys first second = grind (arith, append_assoc)
 
@@ -58,7 +61,9 @@ pub record IsWriting (before now : Option (List ℕ)) (faults_before faults_now 
   pub quiet : faults_now ≡ faults_before
 
 -- after one more write of `count` bytes
-pub writes_on : (before now after : Option (List ℕ)) (faults_before faults_now faults_after : ℕ) (bytes : List ℕ) (done count : ℕ) → IsWriting before now faults_before faults_now bytes done → Appends now after (take count (slice_range bytes done (length bytes))) → count ≤ length (slice_range bytes done (length bytes)) → faults_after ≡ faults_now → IsWriting before after faults_before faults_after bytes (done + count)
+pub writes_on : (before now after : Option (List ℕ)) (faults_before faults_now faults_after : ℕ) (bytes : List ℕ) (done count : ℕ) →
+    IsWriting before now faults_before faults_now bytes done → Appends now after (take count (slice_range bytes done (length bytes))) →
+    count ≤ length (slice_range bytes done (length bytes)) → faults_after ≡ faults_now → IsWriting before after faults_before faults_after bytes (done + count)
 writes_on before now after faults_before faults_now faults_after bytes done count writing given within rise =
     let given' : Appends now after (take count (drop done bytes)) = rw take_rest at given in
     let within' : count ≤ length (drop done bytes) = rw take_rest at within in
@@ -69,11 +74,18 @@ writes_on before now after faults_before faults_now faults_after bytes done coun
     }
 
 -- after one more read that did not go past the limit
-pub reads_at_most : (before now after : Option (List ℕ)) (faults_before faults_now : ℕ) (bytes piece : List ℕ) (limit : ℕ) → IsReading before now faults_before faults_now bytes limit → Takes now after piece → length bytes + length piece ≤ limit + 1 → TakesAtMost before after (limit + 1)
-reads_at_most before now after faults_before faults_now bytes piece limit reading taken within = (bytes ++ piece, omega (arith, length-append bytes piece), Takes-append before now after bytes piece reading.taken taken)
+pub reads_at_most : (before now after : Option (List ℕ)) (faults_before faults_now : ℕ) (bytes piece : List ℕ) (limit : ℕ) →
+    IsReading before now faults_before faults_now bytes limit → Takes now after piece → length bytes + length piece ≤ limit + 1 →
+    TakesAtMost before after (limit + 1)
+reads_at_most before now after faults_before faults_now bytes piece limit reading taken within = (
+  bytes ++ piece,
+  omega (arith, length-append bytes piece),
+  Takes-append before now after bytes piece reading.taken taken,
+)
 
 -- a copied piece at the front of a buffer, and what comes after it in the input
-pub piece_then_rest : (input copied rest : List ℕ) (at count : ℕ) → copied ≡ slice_range input at (at + count) → at + count ≤ length input → drop at input ≡ take count (copied ++ rest) ++ drop (at + count) input
+pub piece_then_rest : (input copied rest : List ℕ) (at count : ℕ) → copied ≡ slice_range input at (at + count) → at + count ≤ length input →
+    drop at input ≡ take count (copied ++ rest) ++ drop (at + count) input
 piece_then_rest input copied rest at count same within =
     let taken : copied ≡ take count (drop at input) = rw same (ap (λ n. take n (drop at input)) (omega arith)) in
     let long : length copied ≡ count = rw (taken, length-take, length-drop) (omega arith) in

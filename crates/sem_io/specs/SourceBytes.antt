@@ -1,11 +1,13 @@
--- What a call takes from a source, of which the bytes that are left may be known ("Sources and sinks" in docs/machine.md).
+-- What a call takes from a source. A source may tell the bytes that are left ("Sources and sinks"
+-- in docs/machine.md).
 use Rattle.std.specs.Prelude.{◌≡◌, ℕ, ◌≤◌, List, ◌++◌, length, Option}
 use Rattle.std.specs.Option.{option_map}
 
--- what was left before is these bytes and then what is left after; where the one is not known, neither is the other
+-- what was left before is these bytes and then what is left after; either both are known or neither
+-- is
 abbrev pub Takes : Option (List ℕ) → Option (List ℕ) → List ℕ → Type 0
 Takes before after bytes = before ≡ option_map (λ rest. bytes ++ rest) after
 
--- at most so many bytes were taken
+-- at most that many bytes were taken
 abbrev pub TakesAtMost : Option (List ℕ) → Option (List ℕ) → ℕ → Type 0
 TakesAtMost before after most = (bytes : List ℕ) × (length bytes ≤ most) × Takes before after bytes

@@ -1,4 +1,6 @@
-ghost use Rattle.std.specs.Prelude.{◌≡◌, ℕ, ◌+◌, ◌<◌, ◌≤◌, ◌↔◌, List, [], length, take, min, vec_len, vec_capacity, ◌-◌, ◌⊎◌, if◌then◌else◌, Contains, Option, Some, None, IfOk, IsErr, OnErr, OnOk};
+ghost use Rattle.std.specs.Prelude.{◌≡◌, ℕ, ◌+◌, ◌<◌, ◌≤◌, ◌↔◌, List, [], length, take, min};
+ghost use Rattle.std.specs.Prelude.{vec_len, vec_capacity, ◌-◌, ◌⊎◌, if◌then◌else◌, Contains};
+ghost use Rattle.std.specs.Prelude.{Option, Some, None, IfOk, IsErr, OnErr, OnOk};
 ghost use Rattle.std.specs.Result.{is_err};
 ghost use Rattle.std.specs.Io.KnownBytes.{Appends as WriterAppends};
 ghost use Rattle.sem_io.specs.Count.{Rose, counted};
@@ -8,28 +10,29 @@ use crate::source::Failed;
 use std::alloc::{AllocError as OutOfMemory, Global};
 use std::io::Write;
 
-/// Where bytes are written to, a piece at a time.
+/// A place to write bytes to, a piece at a time.
 pub trait Sink {
-    // The bytes that were written, where the sink tells them.
+    // The bytes written so far, if the sink tells them.
     ghost written: { Self → Option (List ℕ) };
 
-    // How many calls have failed. The count stops at 18446744073709551615.
+    // How many calls have failed, up to 18446744073709551615.
     ghost faults: { Self → ℕ };
 
-    /// Writes the first of these bytes, at least one, and says how many.
+    /// Writes the first of these bytes, at least one, and returns how many.
     fn write(&mut self, bytes: &[u8]) -> Result<usize, Failed>
         requires { 0 < length bytes.now }
         ensures some { IfOk result (λ n. 0 < n) }
         ensures within { IfOk result (λ n. n ≤ length bytes.now) }
-        ensures given { IfOk result (λ n. Appends (written self.old) (written self.new) (take n bytes.now)) }
+        ensures given { IfOk result
+            (λ n. Appends (written self.old) (written self.new) (take n bytes.now)) }
         ensures err { OnErr result (written self.new ≡ written self.old) }
         ensures fault { OnErr result (Rose (faults self.old) (faults self.new)) }
         ensures quiet { OnOk result (faults self.new ≡ faults self.old) }
         ensures never_falls { faults self.old ≤ faults self.new };
 }
 
-/// A sink in memory, of a fixed room. It takes at most `step` bytes a call, and fails where it is full
-/// and where a test wants it to.
+/// A sink in memory, of a fixed room. It takes at most `step` bytes a call. It fails when it is
+/// full and at the calls that a test names. `new` takes the whole room; no other call takes memory.
 #[derive(Debug, Drop)]
 pub struct MemSink {
     /// What was written.
@@ -50,7 +53,7 @@ pub struct MemSink {
 }
 
 impl MemSink {
-    /// A sink to which nothing was written yet. It takes the whole room, so a write takes no memory.
+    /// A sink with nothing written yet.
     pub fn new(
         alloc: Global,
         room: usize,
@@ -85,20 +88,27 @@ impl Sink for MemSink {
     fn write(&mut self, bytes: &[u8]) -> Result<usize, Failed>
         requires { 0 < length bytes.now }
 
-        // As every sink.
+        // As for every sink.
         ensures some { IfOk result (λ n. 0 < n) }
         ensures within { IfOk result (λ n. n ≤ length bytes.now) }
-        ensures given { IfOk result (λ n. Appends (Some self.old.bytes.items) (Some self.new.bytes.items) (take n bytes.now)) }
+        ensures given { IfOk result
+            (λ n. Appends (Some self.old.bytes.items) (Some self.new.bytes.items)
+            (take n bytes.now)) }
         ensures err { OnErr result (self.new.bytes.items ≡ self.old.bytes.items) }
         ensures fault { OnErr result (Rose self.old.failed self.new.failed) }
         ensures quiet { OnOk result (self.new.failed ≡ self.old.failed) }
         ensures never_falls { self.old.failed ≤ self.new.failed }
 
-        // It fails where it is full and at the calls that were named, and takes as much as it can else.
-        ensures fails { IsErr result ↔ ((vec_len self.old.bytes ≡ self.old.room) ⊎ Contains self.old.fails.items self.old.calls) }
-        ensures count { IfOk result (λ n. n ≡ min (min (length bytes.now) self.old.step) (self.old.room - vec_len self.old.bytes)) }
+        // It fails when it is full and at the calls in `fails`; otherwise it takes as much as it
+        // can.
+        ensures fails { IsErr result
+            ↔ ((vec_len self.old.bytes ≡ self.old.room)
+            ⊎ Contains self.old.fails.items self.old.calls) }
+        ensures count { IfOk result (λ n. n
+            ≡ min (min (length bytes.now) self.old.step) (self.old.room - vec_len self.old.bytes)) }
         ensures calls { self.new.calls ≡ counted self.old.calls }
-        ensures failed { self.new.failed ≡ (if is_err result then counted self.old.failed else self.old.failed) }
+        ensures failed { self.new.failed ≡ (if is_err result then counted self.old.failed
+            else self.old.failed) }
         ensures room { self.new.room ≡ self.old.room }
         ensures plan { self.new.fails ≡ self.old.fails }
         ensures step { self.new.step ≡ self.old.step }
@@ -115,7 +125,7 @@ impl Sink for MemSink {
     }
 }
 
-/// A sink over a real writer, of which it does not tell what was written.
+/// A sink over a real writer; it does not tell the bytes. Making one takes no memory.
 #[derive(Drop)]
 pub struct WriteSink<W: Write> {
     pub inner: W,
@@ -124,7 +134,7 @@ pub struct WriteSink<W: Write> {
 }
 
 impl<W: Write> WriteSink<W> {
-    /// A sink over the writer. Takes no memory.
+    /// A sink over the writer.
     pub fn new(inner: W) -> Self
         ensures inner { result.inner ≡ inner }
         ensures failed { result.failed ≡ 0 }
@@ -141,7 +151,7 @@ impl<W: Write> Sink for WriteSink<W> {
     fn write(&mut self, bytes: &[u8]) -> Result<usize, Failed>
         requires { 0 < length bytes.now }
 
-        // As every sink.
+        // As for every sink.
         ensures some { IfOk result (λ n. 0 < n) }
         ensures within { IfOk result (λ n. n ≤ length bytes.now) }
         ensures given { IfOk result (λ n. Appends None None (take n bytes.now)) }
@@ -149,8 +159,10 @@ impl<W: Write> Sink for WriteSink<W> {
         ensures quiet { OnOk result (self.new.failed ≡ self.old.failed) }
         ensures never_falls { self.old.failed ≤ self.new.failed }
 
-        // The bytes go to the writer, where it tells what it holds, and each of its errors is a fault.
-        ensures bytes { IfOk result (λ n. WriterAppends (W.contents self.old.inner) (W.contents self.new.inner) (take n bytes.now)) }
+        // The bytes go to the writer, if it tells what it holds, and each of its errors is a fault.
+        ensures bytes { IfOk result
+            (λ n. WriterAppends (W.contents self.old.inner) (W.contents self.new.inner)
+            (take n bytes.now)) }
         ensures counted { OnErr result (self.new.failed ≡ counted self.old.failed) }
     {
         match self.inner.write(bytes) {

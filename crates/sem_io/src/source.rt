@@ -1,4 +1,6 @@
-ghost use Rattle.std.specs.Prelude.{◌≡◌, ℕ, ◌+◌, ◌<◌, ◌≤◌, ◌↔◌, List, [], length, take, drop, min, vec_len, ◌-◌, if◌then◌else◌, Option, Some, None, Contains, IfOk, IfSome, IsErr, OnErr, OnOk};
+ghost use Rattle.std.specs.Prelude.{◌≡◌, ℕ, ◌+◌, ◌<◌, ◌≤◌, ◌↔◌, List, [], length, take, drop, min};
+ghost use Rattle.std.specs.Prelude.{vec_len, ◌-◌, if◌then◌else◌, Option, Some, None, Contains};
+ghost use Rattle.std.specs.Prelude.{IfOk, IfSome, IsErr, OnErr, OnOk};
 ghost use Rattle.std.specs.Result.{is_err};
 ghost use Rattle.std.specs.Io.KnownBytes.{Consumes, IsAtEnd};
 ghost use Rattle.sem_io.specs.Count.{Rose, counted};
@@ -12,15 +14,16 @@ use thiserror::Error;
 #[error("a read or a write failed")]
 pub struct Failed;
 
-/// Where bytes are read from, a piece at a time.
+/// A place to read bytes from, a piece at a time.
 pub trait Source {
-    // The bytes that are left, where the source tells them.
+    // The bytes that are left, if the source tells them.
     ghost left: { Self → Option (List ℕ) };
 
-    // How many calls have failed. The count stops at 18446744073709551615.
+    // How many calls have failed, up to 18446744073709551615.
     ghost faults: { Self → ℕ };
 
-    /// Reads the next bytes to the front of `buf`, and says how many. `Ok(0)` is the end of the input.
+    /// Reads the next bytes to the front of `buf`, and returns how many. `Ok(0)` is the end of the
+    /// input.
     fn read(&mut self, buf: &mut [u8]) -> Result<usize, Failed>
         requires { 0 < length buf.old }
         ensures within { IfOk result (λ n. n ≤ length buf.new) }
@@ -32,12 +35,13 @@ pub trait Source {
         ensures never_falls { faults self.old ≤ faults self.new };
 }
 
-/// A source in memory. It gives at most `step` bytes a call, and fails where a test wants it to.
+/// A source in memory. It gives at most `step` bytes a call, and fails at the calls that a test
+/// names. No call of it takes memory.
 #[derive(Debug, Drop)]
 pub struct MemSource {
     /// All bytes of the input.
     pub bytes: Vec<u8>,
-    /// How many of them were read.
+    /// How many of the bytes were read.
     pub at: usize,
     /// The most bytes that one call gives, at least 1.
     pub step: usize,
@@ -52,7 +56,7 @@ pub struct MemSource {
 }
 
 impl MemSource {
-    /// A source that has read nothing yet. Takes no memory.
+    /// A source that has read nothing yet.
     pub fn new(bytes: Vec<u8>, step: usize, fails: Vec<u64>) -> Self
         requires { 0 < step }
         ensures bytes { result.bytes ≡ bytes }
@@ -81,20 +85,25 @@ impl Source for MemSource {
     fn read(&mut self, buf: &mut [u8]) -> Result<usize, Failed>
         requires { 0 < length buf.old }
 
-        // As every source.
+        // As for every source.
         ensures within { IfOk result (λ n. n ≤ length buf.new) }
-        ensures taken { IfOk result (λ n. Takes (Some (drop self.old.at self.old.bytes.items)) (Some (drop self.new.at self.new.bytes.items)) (take n buf.new)) }
+        ensures taken { IfOk result
+            (λ n. Takes (Some (drop self.old.at self.old.bytes.items))
+            (Some (drop self.new.at self.new.bytes.items)) (take n buf.new)) }
         ensures end { IfOk result (λ n. n ≡ 0 → drop self.old.at self.old.bytes.items ≡ []) }
-        ensures err { OnErr result (drop self.new.at self.new.bytes.items ≡ drop self.old.at self.old.bytes.items) }
+        ensures err { OnErr result (drop self.new.at self.new.bytes.items
+            ≡ drop self.old.at self.old.bytes.items) }
         ensures fault { OnErr result (Rose self.old.failed self.new.failed) }
         ensures quiet { OnOk result (self.new.failed ≡ self.old.failed) }
         ensures never_falls { self.old.failed ≤ self.new.failed }
 
-        // It fails at the calls that were named, and gives as much as it can at all others.
+        // It fails at the calls in `fails`; at all others it gives as much as it can.
         ensures fails { IsErr result ↔ Contains self.old.fails.items self.old.calls }
-        ensures count { IfOk result (λ n. n ≡ min (min (length buf.old) self.old.step) (vec_len self.old.bytes - self.old.at)) }
+        ensures count { IfOk result (λ n. n
+            ≡ min (min (length buf.old) self.old.step) (vec_len self.old.bytes - self.old.at)) }
         ensures calls { self.new.calls ≡ counted self.old.calls }
-        ensures failed { self.new.failed ≡ (if is_err result then counted self.old.failed else self.old.failed) }
+        ensures failed { self.new.failed ≡ (if is_err result then counted self.old.failed
+            else self.old.failed) }
         ensures bytes { self.new.bytes ≡ self.old.bytes }
         ensures plan { self.new.fails ≡ self.old.fails }
         ensures step { self.new.step ≡ self.old.step }
@@ -113,7 +122,7 @@ impl Source for MemSource {
     }
 }
 
-/// A source over a real reader, whose bytes it does not tell.
+/// A source over a real reader; it does not tell the bytes. Making one takes no memory.
 #[derive(Drop)]
 pub struct ReadSource<R: Read> {
     pub inner: R,
@@ -122,7 +131,7 @@ pub struct ReadSource<R: Read> {
 }
 
 impl<R: Read> ReadSource<R> {
-    /// A source over the reader. Takes no memory.
+    /// A source over the reader.
     pub fn new(inner: R) -> Self
         ensures inner { result.inner ≡ inner }
         ensures failed { result.failed ≡ 0 }
@@ -139,15 +148,17 @@ impl<R: Read> Source for ReadSource<R> {
     fn read(&mut self, buf: &mut [u8]) -> Result<usize, Failed>
         requires { 0 < length buf.old }
 
-        // As every source.
+        // As for every source.
         ensures within { IfOk result (λ n. n ≤ length buf.new) }
         ensures taken { IfOk result (λ n. Takes None None (take n buf.new)) }
         ensures fault { OnErr result (Rose self.old.failed self.new.failed) }
         ensures quiet { OnOk result (self.new.failed ≡ self.old.failed) }
         ensures never_falls { self.old.failed ≤ self.new.failed }
 
-        // The bytes are those of the reader, where it tells them, and each of its errors is a fault.
-        ensures bytes { IfOk result (λ n. Consumes (R.remaining self.old.inner) (R.remaining self.new.inner) (take n buf.new)) }
+        // The bytes come from the reader, if it tells them, and each of its errors is a fault.
+        ensures bytes { IfOk result
+            (λ n. Consumes (R.remaining self.old.inner) (R.remaining self.new.inner)
+            (take n buf.new)) }
         ensures end { IfOk result (λ n. n ≡ 0 → IsAtEnd (R.remaining self.new.inner)) }
         ensures counted { OnErr result (self.new.failed ≡ counted self.old.failed) }
     {

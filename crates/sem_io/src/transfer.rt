@@ -1,4 +1,5 @@
-ghost use Rattle.std.specs.Prelude.{◌≡◌, ◌+◌, ◌<◌, ◌≤◌, take, vec_len, IfOk, IfSome, IsErrOf, OnOk, OnErr};
+ghost use Rattle.std.specs.Prelude.{◌≡◌, ◌+◌, ◌<◌, ◌≤◌, take, vec_len, IfOk, IfSome, IsErrOf, OnOk};
+ghost use Rattle.std.specs.Prelude.{OnErr};
 ghost use Rattle.sem_io.specs.Count.{Rose};
 ghost use Rattle.sem_io.specs.SourceBytes.{Takes, TakesAtMost};
 ghost use Rattle.sem_io.specs.SinkBytes.{Appends, AppendsPrefix};
@@ -9,10 +10,10 @@ use crate::source::{Failed, Source};
 use std::alloc::{AllocError, Global};
 use thiserror::Error;
 
-/// The most bytes that are asked of a source at once.
-const PIECE: usize = 4096;
+/// The most bytes that one call asks of a source.
+const PIECE: usize = 16384;
 
-/// Why not all of an input was read.
+/// Why an input was not read whole.
 #[derive(Clone, Copy, Debug, PartialEq, Eq, Error)]
 pub enum ReadError {
     #[error("a read failed")]
@@ -37,18 +38,20 @@ impl From<AllocError> for ReadError {
     }
 }
 
-/// Reads to the end of the input, or one byte more than `limit`, so that a caller can tell that the
+/// Reads to the end of the input, or one byte more than `limit`, so that a caller can see that the
 /// input is longer.
 pub fn read_all<S: Source>(alloc: Global, input: &mut S, limit: usize) -> Result<Vec<u8>, ReadError>
     requires { limit < usize.MAX }
 
-    // All that was left is read, or its first `limit + 1` bytes.
-    ensures bytes { IfOk result (λ read. IfSome (S.left input.old) (λ left. read.items ≡ take (limit + 1) left)) }
+    // It reads all that was left, or its first `limit + 1` bytes.
+    ensures bytes { IfOk result
+        (λ read. IfSome (S.left input.old) (λ left. read.items ≡ take (limit + 1) left)) }
     ensures taken { IfOk result (λ read. Takes (S.left input.old) (S.left input.new) read.items) }
     ensures within { IfOk result (λ read. vec_len read ≤ limit + 1) }
 
-    // A fault is one of the source. Lack of memory is the other error, and no fault.
-    ensures fault { IsErrOf result ReadError.Fault → Rose (S.faults input.old) (S.faults input.new) }
+    // A fault comes from the source. Lack of memory is the other error, and no fault.
+    ensures fault { IsErrOf result ReadError.Fault →
+        Rose (S.faults input.old) (S.faults input.new) }
     ensures memory { IsErrOf result ReadError.Memory → S.faults input.new ≡ S.faults input.old }
     ensures quiet { OnOk result (S.faults input.new ≡ S.faults input.old) }
     ensures err { OnErr result (TakesAtMost (S.left input.old) (S.left input.new) (limit + 1)) }

@@ -1,5 +1,6 @@
 -- Finishing a job, step by step.
-use Rattle.std.proofs.Common.{◌≡◌, ℕ, zero, suc, ◌+◌, ◌-◌, ◌<◌, ◌≤◌, ◌==◌, Bool, true, false, List, [], ◌∷◌, length, set, get_or, Option, Some, None, IfSome, if◌then◌else◌, refl, sym, ◌∙◌, ap, subst, arith}
+use Rattle.std.proofs.Common.{◌≡◌, ℕ, zero, suc, ◌+◌, ◌-◌, ◌<◌, ◌≤◌, ◌==◌, Bool, true, false, List, [], ◌∷◌, length, set, get_or, Option, Some, None, IfSome}
+use Rattle.std.proofs.Common.{if◌then◌else◌, refl, sym, ◌∙◌, ap, subst, arith}
 use Rattle.std.specs.List.{find}
 use Rattle.std.specs.Bool.{then_some}
 use Rattle.std.specs.Option.{option_and_then}
@@ -85,7 +86,8 @@ module _ (xs : List JobRow) (next : ℕ) (ids : HasRisingIds (ids_of xs) next) (
     where
       by_place : (at : ℕ) × HasPlace xs j x at → count_lowered j xs ≡ xs
       by_place (at, has) =
-          let there : set xs at x ≡ count_lowered j xs = changed xs next ids j at has.place x x (λ (y : JobRow). record y { count = y.count - 1 }) has.read (same-count x none) in
+          let there : set xs at x ≡ count_lowered j xs = changed xs next ids j at has.place x x (λ (y : JobRow). record y { count = y.count - 1 }) has.read
+          (same-count x none) in
           sym there ∙ (ap (set xs at) has.read ∙ set-get_or xs at x)
 
   -- the last token is that which leaves none
@@ -107,7 +109,10 @@ module _ (xs : List JobRow) (next : ℕ) (ids : HasRisingIds (ids_of xs) next) (
       by_place (at, has) = has.id
 
   -- a turn of the chain, with any bound
-  chain-turn : (m : ℕ) → chain (suc m) (Some x) xs ≡ record { left = (chain m (next_done x.up (job_removed j xs)) (told x.up (job_removed j xs))).left; gone = x ∷ (chain m (next_done x.up (job_removed j xs)) (told x.up (job_removed j xs))).gone }
+  chain-turn : (m : ℕ) → chain (suc m) (Some x) xs ≡ record {
+    left = (chain m (next_done x.up (job_removed j xs)) (told x.up (job_removed j xs))).left;
+    gone = x ∷ (chain m (next_done x.up (job_removed j xs)) (told x.up (job_removed j xs))).gone;
+  }
   unfolding chain
   chain-turn m = rw id-found refl
 
@@ -129,11 +134,14 @@ pub record IsTurn (whole rest : Chain) (x : JobRow) (xs zs : List JobRow) : Type
   pub gone : whole.gone ≡ x ∷ rest.gone
   pub one_less : length zs + 1 ≡ length xs
 
-pub turned : (xs ys zs : List JobRow) (next : ℕ) (j : ℕ) (x : JobRow) (up : Option Up) (o : Option JobRow) → HasRisingIds (ids_of xs) next → Some x ≡ job_of xs j → ys ≡ job_removed j xs → up ≡ x.up → zs ≡ told up ys → o ≡ next_done up ys → IsTurn (chain (length xs) (job_of xs j) xs) (chain (length zs) o zs) x xs zs
+pub turned : (xs ys zs : List JobRow) (next : ℕ) (j : ℕ) (x : JobRow) (up : Option Up) (o : Option JobRow) → HasRisingIds (ids_of xs) next →
+    Some x ≡ job_of xs j → ys ≡ job_removed j xs → up ≡ x.up → zs ≡ told up ys → o ≡ next_done up ys →
+    IsTurn (chain (length xs) (job_of xs j) xs) (chain (length zs) o zs) x xs zs
 turned xs ys zs next j x up o ids found left same is_told done =
     let found : job_of xs j ≡ Some x = sym found in
     let long : suc (length (told x.up (job_removed j xs))) ≡ length xs = let less = length-left xs next ids j x found in omega arith in
-    rw (is_told, done, same, left, found, ← long, chain-turn xs next ids j x found (length (told x.up (job_removed j xs)))) (record { left = refl; gone = refl; one_less = omega arith })
+    rw (is_told, done, same, left, found, ← long, chain-turn xs next ids j x found (length (told x.up (job_removed j xs))))
+    (record { left = refl; gone = refl; one_less = omega arith })
 
 -- The bound: more turns than jobs change nothing.
 
@@ -162,18 +170,22 @@ there-next (Some (Local j)) ys = by_test (is_last_token (job_of ys j))
     by_test true = there-found (count_lowered j ys) j
     by_test false = tt
 
-pub chain-more : (n m : ℕ) (next : ℕ) (o : Option JobRow) (xs : List JobRow) → HasRisingIds (ids_of xs) next → IsThere xs o → length xs ≤ n → length xs ≤ m → chain n o xs ≡ chain m o xs
+pub chain-more : (n m : ℕ) (next : ℕ) (o : Option JobRow) (xs : List JobRow) → HasRisingIds (ids_of xs) next → IsThere xs o → length xs ≤ n → length xs ≤ m →
+    chain n o xs ≡ chain m o xs
 chain-more n m next None xs ids there few few' = chain-none n xs ∙ sym (chain-none m xs)
 chain-more zero m next (Some x) xs ids there few few' = let less = length-left xs next ids x.id x there in absurd (omega arith)
 chain-more (suc n) zero next (Some x) xs ids there few few' = let less = length-left xs next ids x.id x there in absurd (omega arith)
 chain-more (suc n) (suc m) next (Some x) xs ids there few few' =
     let less = length-left xs next ids x.id x there in
-    let rest = chain-more n m next (next_done x.up (job_removed x.id xs)) (told x.up (job_removed x.id xs)) (ids-left xs next ids x.id x there) (there-next x.up (job_removed x.id xs)) (omega arith) (omega arith) in
+    let rest = chain-more n m next (next_done x.up (job_removed x.id xs)) (told x.up (job_removed x.id xs)) (ids-left xs next ids x.id x there)
+    (there-next x.up (job_removed x.id xs)) (omega arith) (omega arith) in
     rw (chain-turn xs next ids x.id x there n, chain-turn xs next ids x.id x there m, rest) refl
 
 -- What telling a job gives back.
-module _ (xs ys : List JobRow) (next : ℕ) (ids : HasRisingIds (ids_of xs) next) (j : ℕ) (x : JobRow) (found : job_of xs j ≡ Some x) (same : ys ≡ count_lowered j xs) where
-  pub next-told : 0 < x.count → (t : Bool) (o : Option ℕ) → t ≡ is_done (job_of ys j) → o ≡ then_some t j → option_and_then (job_of ys) o ≡ next_done (Some (Local j)) xs
+module _ (xs ys : List JobRow) (next : ℕ) (ids : HasRisingIds (ids_of xs) next) (j : ℕ) (x : JobRow) (found : job_of xs j ≡ Some x) (same : ys
+    ≡ count_lowered j xs) where
+  pub next-told : 0 < x.count → (t : Bool) (o : Option ℕ) → t ≡ is_done (job_of ys j) → o ≡ then_some t j →
+      option_and_then (job_of ys) o ≡ next_done (Some (Local j)) xs
   next-told some t o last gives = rw (gives, ← last-token xs next ids j x found some, ← same, ← last) (chosen t)
     where
       chosen : (b : Bool) → option_and_then (job_of ys) (then_some b j) ≡ (if b then job_of ys j else None)

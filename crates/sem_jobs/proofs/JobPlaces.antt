@@ -1,5 +1,6 @@
 -- What is found among jobs of rising id, and what a change at that place does.
-use Rattle.std.proofs.Common.{◌≡◌, ℕ, ◌+◌, ◌<◌, ◌==◌, true, false, not, List, [], ◌∷◌, ◌++◌, length, set, get_or, Some, None, option_map, refl, sym, ◌∙◌, ap, arith}
+use Rattle.std.proofs.Common.{◌≡◌, ℕ, ◌+◌, ◌<◌, ◌==◌, true, false, not, List, [], ◌∷◌, ◌++◌, length, set, get_or, Some, None, option_map, refl, sym, ◌∙◌, ap}
+use Rattle.std.proofs.Common.{arith}
 use Rattle.std.specs.List.{AllWithin, filter, remove}
 use Rattle.std.proofs.lemmas.List.{get_or-map, length-map, map-append}
 use Rattle.std.proofs.lemmas.List.Quantifiers.{all_pairs_push}
@@ -15,7 +16,8 @@ use Rattle.sem_jobs.specs.JobStore.{JobStore, HasRisingIds, IsPlaceOf}
 use Rattle.sem_key.proofs.OnePasses.{find-none, find-at, change-at, change-absent, others-at, others-absent}
 
 -- stores with the same jobs, and all else the same
-pub same_jobs : (next spare : ℕ) (xs ys : List JobRow) → xs ≡ ys → ◌≡◌ {A = JobStore} (record { jobs = xs; next = next; spare = spare }) (record { jobs = ys; next = next; spare = spare })
+pub same_jobs : (next spare : ℕ) (xs ys : List JobRow) → xs ≡ ys →
+    ◌≡◌ {A = JobStore} (record { jobs = xs; next = next; spare = spare }) (record { jobs = ys; next = next; spare = spare })
 same_jobs next spare xs ys same = ap (λ (zs : List JobRow). record { jobs = zs; next = next; spare = spare }) same
 
 length-ids : (xs : List JobRow) → length (ids_of xs) ≡ length xs
@@ -41,7 +43,8 @@ pub removed-absent : (j : ℕ) (xs : List JobRow) → job_of xs j ≡ None → j
 removed-absent j xs none = others-absent (λ (x : JobRow). x.id == j) xs none
 
 -- a job that was changed is found as it is now
-pub found-changed : (j : ℕ) (f : JobRow → JobRow) (keeps : (x : JobRow) → (f x).id ≡ x.id) (xs : List JobRow) → job_of (job_changed j f xs) j ≡ option_map f (job_of xs j)
+pub found-changed : (j : ℕ) (f : JobRow → JobRow) (keeps : (x : JobRow) → (f x).id ≡ x.id) (xs : List JobRow) →
+    job_of (job_changed j f xs) j ≡ option_map f (job_of xs j)
 found-changed j f keeps [] = refl
 found-changed j f keeps (x ∷ xs) = let tail = found-changed j f keeps xs in grind (arith, common_steps, keeps x)
 
@@ -66,13 +69,15 @@ module _ (xs : List JobRow) (next : ℕ) (ids : HasRisingIds (ids_of xs) next) w
   pub ids-opened : (new : JobRow) → new.id ≡ next → HasRisingIds (ids_of (xs ++ new ∷ [])) (next + 1)
   ids-opened new id = rw (map-append (λ (x : JobRow). x.id) xs (new ∷ [])) (record {
     rising = all_pairs_push (λ m n. m < n) (ids_of xs) new.id ids.rising (λ k d lt. let less = ids.drawn k d lt in omega arith);
-    drawn = All-push (λ n. n < next + 1) (ids_of xs) new.id (All-weaker (λ n. n < next) (λ n. n < next + 1) (λ n less. omega arith) (ids_of xs) ids.drawn) (omega arith);
+    drawn = All-push (λ n. n < next + 1) (ids_of xs) new.id (All-weaker (λ n. n < next) (λ n. n < next + 1) (λ n less. omega arith) (ids_of xs) ids.drawn)
+        (omega arith);
   })
 
   -- a job under the next id is found
   pub found-opened : (new : JobRow) → new.id ≡ next → job_of (xs ++ new ∷ []) next ≡ Some new
   found-opened new id =
-      let none : job_of xs next ≡ None = find-none (λ (x : JobRow). x.id == next) xs (λ i d low lt. let long = length-ids xs in let less = ids.drawn i 0 (omega arith) in let is = id-at xs i d 0 lt in grind (arith, nat_tests)) in
+      let none : job_of xs next ≡ None = find-none (λ (x : JobRow). x.id == next) xs (λ i d low lt. let long = length-ids xs in
+      let less = ids.drawn i 0 (omega arith) in let is = id-at xs i d 0 lt in grind (arith, nat_tests)) in
       let here : (new.id == next) ≡ true = grind (arith, nat_tests) in
       rw (find-append (λ (x : JobRow). x.id == next) xs (new ∷ []), none, here) refl
 

@@ -1,17 +1,21 @@
 -- Masks and the VPEs for which they have a bit.
-use Rattle.std.proofs.Common.{◌≡◌, ℕ, zero, suc, ◌+◌, ◌*◌, ◌%◌, ◌^◌, ◌<◌, ◌≤◌, ◌==◌, nat_lt, Bool, true, false, cond, List, [], ◌∷◌, refl, sym, ◌∙◌, ap, subst, inl, inr, arith}
+use Rattle.std.proofs.Common.{◌≡◌, ℕ, zero, suc, ◌+◌, ◌*◌, ◌%◌, ◌^◌, ◌<◌, ◌≤◌, ◌==◌, nat_lt, Bool, true, false, cond, List, [], ◌∷◌, get_or, refl, sym, ◌∙◌, ap}
+use Rattle.std.proofs.Common.{subst, inl, inr, arith}
 use Rattle.std.specs.List.{filter, range_with_len, AllPairs, All, Contains}
-use Rattle.std.proofs.lemmas.List.Elements.{All-filter, filter_passes, All-contains}
+use Rattle.std.proofs.lemmas.List.Elements.{All-filter, filter_passes, All-contains, Contains-get_or}
 use Rattle.std.proofs.lemmas.List.Kept.{AllPairs-filter}
 use Rattle.std.proofs.lemmas.List.FromFn.{length-range_with_len, get_or-range_with_len}
 use Rattle.std.proofs.lemmas.Bool.Decides.{nat_tests}
-use Rattle.std.proofs.lemmas.Bool.{cases_eq}
+use Rattle.std.proofs.lemmas.Bool.{cases_eq, cases_lt}
 use Rattle.std.proofs.lemmas.Grind.{common_steps}
-use Rattle.std.specs.Int.{bit_at, bit_not}
+use Rattle.std.specs.Int.{bit_at, bit_not, trailing_zeros}
+use Rattle.std.specs.Int.Count.{trailing_of_zero}
 use Rattle.std.specs.Prelude.{bit_or, bit_and}
-use Rattle.std.proofs.lemmas.Nat.Bits.{bit_at-zero, bit_at_set_same, bit_at_set_other, bit_at_clear_same, bit_at_clear_other}
+use Rattle.std.proofs.lemmas.Nat.Bits.{bit_at-zero, bit_at_set_same, bit_at_set_other, bit_at_clear_same, bit_at_clear_other, bit_at-trailing_zeros}
 use mir.Syntax.{w128}
 use Rattle.sem_msg.specs.JobRows.{with_number, without_number}
+use Rattle.sem_msg.specs.Masks.{has_bit}
+use Rattle.sem_msg.proofs.Masks.{kept-same, kept-none}
 use Rattle.sem_jobs.specs.VpeSet.{IsVpeList, vpes_of}
 
 -- One number more, which a test keeps or not.
@@ -50,11 +54,7 @@ module _ (p q : ℕ → Bool) (v most : ℕ) (agree : (w : ℕ) → w < most →
   above-above (suc n) a above = let tail = above-above n (a + 1) (omega arith) in grind (arith, common_steps, nat_tests)
 
   above-same : (n a : ℕ) → v < a → a + n ≤ most → filter q (range_with_len a n) ≡ filter p (range_with_len a n)
-  above-same zero a above within = refl
-  above-same (suc n) a above within =
-      let tail = above-same n (a + 1) (omega arith) (omega arith) in
-      let here = agree a (omega arith) (λ same. omega arith) in
-      grind (arith, common_steps)
+  above-same n a above within = kept-same p q n a (λ w low high. agree w (omega arith) (λ same. omega (arith, same)))
 
   -- q keeps v too
   added-here : q v ≡ true → (n : ℕ) → v + suc n ≤ most → filter q (range_with_len v (suc n)) ≡ with_number (filter p (range_with_len v (suc n))) v
@@ -68,7 +68,8 @@ module _ (p q : ℕ → Bool) (v most : ℕ) (agree : (w : ℕ) → w < most →
   added : q v ≡ true → (n a : ℕ) → a ≤ v → v < a + n → a + n ≤ most → filter q (range_with_len a n) ≡ with_number (filter p (range_with_len a n)) v
   added set zero a low high within = absurd (omega arith)
   added set (suc n) a low high within = elim (cases_eq a v) [
-    | inl here ↦ subst (λ m. filter q (range_with_len m (suc n)) ≡ with_number (filter p (range_with_len m (suc n))) v) (sym here) (added-here set n (omega arith))
+    | inl here ↦ subst (λ m. filter q (range_with_len m (suc n)) ≡ with_number (filter p (range_with_len m (suc n))) v) (sym here)
+        (added-here set n (omega arith))
     | inr apart ↦
         let tail = added set n (a + 1) (omega arith) (omega arith) (omega arith) in
         rw (agree a (omega arith) apart, tail) (sym (one-below v a (p a) (filter p (range_with_len (a + 1) n)) (omega arith)))
@@ -99,16 +100,9 @@ contains-kept p v (suc n) a pass low high = elim (cases_eq a v) [
 
 -- The VPEs of a mask.
 
-abbrev has_bit : ℕ → ℕ → Bool
-has_bit mask v = bit_at mask v == 1
-
-no-bits : (n a : ℕ) → filter (has_bit 0) (range_with_len a n) ≡ []
-no-bits zero a = refl
-no-bits (suc n) a = rw (bit_at-zero a) (no-bits n (a + 1))
-
 pub vpes_of-zero : vpes_of 0 ≡ []
 unfolding vpes_of
-vpes_of-zero = no-bits 128 0
+vpes_of-zero = kept-none (has_bit 0) 128 0 (λ v low high. ap (λ b. b == 1) (bit_at-zero v))
 
 module _ (mask : ℕ) where
   pub IsVpeList-vpes_of : IsVpeList (vpes_of mask)
@@ -119,7 +113,8 @@ module _ (mask : ℕ) where
   }
     where
       run-rises : (a n : ℕ) → AllPairs (λ v w. v < w) (range_with_len a n)
-      run-rises a n i j d lt within = let long = length-range_with_len a n in rw (get_or-range_with_len a n i d (omega arith), get_or-range_with_len a n j d (omega arith)) (omega arith)
+      run-rises a n i j d lt within = let long = length-range_with_len a n in
+          rw (get_or-range_with_len a n i d (omega arith), get_or-range_with_len a n j d (omega arith)) (omega arith)
 
       run-below : (a n : ℕ) → All (λ v. v < a + n) (range_with_len a n)
       run-below a n i d within = let long = length-range_with_len a n in rw (get_or-range_with_len a n i d (omega arith)) (omega arith)
@@ -127,7 +122,8 @@ module _ (mask : ℕ) where
   -- a VPE of the list has its bit
   pub bit-of : (v : ℕ) → Contains (vpes_of mask) v → bit_at mask v ≡ 1
   unfolding vpes_of
-  bit-of v there = let test = All-contains (λ w. has_bit mask w ≡ true) (vpes_of mask) v (filter_passes (has_bit mask) (range_with_len 0 128)) there in grind (arith, nat_tests)
+  bit-of v there = let test = All-contains (λ w. has_bit mask w ≡ true) (vpes_of mask) v (filter_passes (has_bit mask) (range_with_len 0 128)) there in
+      grind (arith, nat_tests)
 
   pub below-of : (v : ℕ) → Contains (vpes_of mask) v → v < 128
   below-of v there = All-contains (λ w. w < 128) (vpes_of mask) v IsVpeList-vpes_of.below there
@@ -142,16 +138,38 @@ module _ (mask : ℕ) where
   unfolding vpes_of
   vpes_of-set v within =
       let new : ℕ = bit_or mask (1 * 2 ^ v % 2 ^ 128) in
-      added (has_bit mask) (has_bit new) v 128 (λ w lt differ. ap (λ b. b == 1) (bit_at_set_other w128 mask v within w differ)) (rw (bit_at_set_same w128 mask v within) refl) 128 0 (omega arith) (omega arith) (omega arith)
+      added (has_bit mask) (has_bit new) v 128 (λ w lt differ. ap (λ b. b == 1) (bit_at_set_other w128 mask v within w differ))
+      (rw (bit_at_set_same w128 mask v within) refl) 128 0 (omega arith) (omega arith) (omega arith)
 
   -- a bit is cleared
   pub vpes_of-clear : (v : ℕ) → v < 128 → vpes_of (bit_and mask (bit_not w128 (1 * 2 ^ v % 2 ^ 128))) ≡ without_number (vpes_of mask) v
   unfolding vpes_of
   vpes_of-clear v within =
       let new : ℕ = bit_and mask (bit_not w128 (1 * 2 ^ v % 2 ^ 128)) in
-      removed (has_bit mask) (has_bit new) v 128 (λ w lt differ. ap (λ b. b == 1) (bit_at_clear_other w128 mask v within w lt differ)) (λ lt. rw (bit_at_clear_same w128 mask v within) refl) 128 0 (omega arith)
+      removed (has_bit mask) (has_bit new) v 128 (λ w lt differ. ap (λ b. b == 1) (bit_at_clear_other w128 mask v within w lt differ))
+      (λ lt. rw (bit_at_clear_same w128 mask v within) refl) 128 0 (omega arith)
 
   -- a VPE that has no bit is not there
   pub vpes_of-absent : (v : ℕ) → 128 ≤ v → vpes_of mask ≡ without_number (vpes_of mask) v
   unfolding vpes_of
   vpes_of-absent v high = removed (has_bit mask) (has_bit mask) v 128 (λ w lt differ. refl) (λ lt. absurd (omega arith)) 128 0 (omega arith)
+
+  -- the place of the lowest bit is the least VPE
+  pub first-of : mask < 2 ^ 128 → All (λ v. trailing_zeros w128 mask ≤ v) (vpes_of mask)
+  first-of few k d lt =
+      let v : ℕ = get_or (vpes_of mask) k d in
+      let bit : bit_at mask v ≡ 1 = bit-of v (Contains-get_or (vpes_of mask) k d lt) in
+      elim (cases_lt v (trailing_zeros w128 mask)) [
+        | inl below ↦ elim (cases_eq mask 0) [
+          | inl none ↦ let zero_bit : bit_at mask v ≡ 0 = ap (λ m. bit_at m v) none ∙ bit_at-zero v in absurd (omega (arith, bit, zero_bit))
+          | inr some ↦ let low = bit_at-trailing_zeros w128 mask (omega (arith, some)) few in let zero_bit = low.2 v below in
+              absurd (omega (arith, bit, zero_bit))
+        ]
+        | inr above ↦ above
+      ]
+
+  pub first-there : mask < 2 ^ 128 → trailing_zeros w128 mask < 128 → Contains (vpes_of mask) (trailing_zeros w128 mask)
+  first-there few within = elim (cases_eq mask 0) [
+    | inl none ↦ let all : trailing_zeros w128 mask ≡ 128 = ap (trailing_zeros w128) none ∙ trailing_of_zero 128 in absurd (omega (arith, within, all))
+    | inr some ↦ let low = bit_at-trailing_zeros w128 mask (omega (arith, some)) few in of-bit (trailing_zeros w128 mask) within low.1
+  ]

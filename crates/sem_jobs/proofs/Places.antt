@@ -1,10 +1,12 @@
 -- What the spots of a store lead to, and what a change in the slab does to that.
-use Rattle.std.proofs.Common.{◌≡◌, ◌≢◌, ℕ, suc, ◌+◌, ◌<◌, List, [], ◌∷◌, ◌++◌, length, take, drop, map, set, get_or, Option, Some, None, is_some, cond, refl, sym, ◌∙◌, ap, subst, inl, inr, arith}
+use Rattle.std.proofs.Common.{◌≡◌, ◌≢◌, ℕ, suc, ◌+◌, ◌<◌, List, [], ◌∷◌, ◌++◌, length, take, drop, map, set, get_or, Option, Some, None, is_some, cond, refl}
+use Rattle.std.proofs.Common.{sym, ◌∙◌, ap, subst, inl, inr, arith}
 use Rattle.std.specs.List.{All, remove}
 use Rattle.std.specs.Option.{unwrap_or}
 use Rattle.std.specs.Prelude.{IsSomeAnd}
 use Rattle.std.proofs.lemmas.Bool.{cases_eq, cases_lt, cases_order}
-use Rattle.std.proofs.lemmas.List.{ext_get_or, get_or-map, get_or-set_other, get_or_default, length-map, length-set, length-append, map-append, take-map, drop-map}
+use Rattle.std.proofs.lemmas.List.{ext_get_or, get_or-map, get_or-set_other, get_or_default, length-map, length-set, length-append, map-append, take-map}
+use Rattle.std.proofs.lemmas.List.{drop-map}
 use Rattle.std.proofs.lemmas.Grind.{get_or-set_at}
 use Rattle.std.proofs.lemmas.List.Edits.{length-remove, get_or-remove_below, get_or-remove_above}
 use Rattle.std.proofs.lemmas.List.Elements.{All-tail, All-append, All-take, All-drop, All-push, All-weaker}
@@ -50,7 +52,8 @@ map-remove f xs i = rw (map-append f (take i xs) (drop (suc i) xs), ← take-map
 
 -- One job in its place.
 
-module _ (slab : Slab JobRow) (spots : List IdSpot) (placed : IsPlaced slab spots) (at : ℕ) (within : at < length spots) (spot : IdSpot) (read : spot ≡ get_or spots at spot) where
+module _ (slab : Slab JobRow) (spots : List IdSpot) (placed : IsPlaced slab spots) (at : ℕ) (within : at < length spots) (spot : IdSpot) (read : spot
+    ≡ get_or spots at spot) where
   read-any : (d : IdSpot) → get_or spots at d ≡ spot
   read-any d = get_or_default spots at d spot within ∙ sym read
 
@@ -97,21 +100,24 @@ module _ (slab : Slab JobRow) (spots : List IdSpot) (placed : IsPlaced slab spot
 
       -- it alone is changed
       pub rows-set : rows_of written spots ≡ set (rows_of slab spots) at new
-      rows-set = ext_get_or new (rows_of written spots) (set (rows_of slab spots) at new) (length-rows written spots ∙ (sym (length-rows slab spots) ∙ sym (length-set (rows_of slab spots) at new))) each
+      rows-set = ext_get_or new (rows_of written spots) (set (rows_of slab spots) at new) (length-rows written spots
+          ∙ (sym (length-rows slab spots) ∙ sym (length-set (rows_of slab spots) at new))) each
         where
           each : (j : ℕ) → j < length (rows_of written spots) → get_or (rows_of written spots) j new ≡ get_or (set (rows_of slab spots) at new) j new
           each j lt =
               let long = length-rows written spots in
               let inside : at < length (rows_of slab spots) = omega (arith, within, length-rows slab spots) in
               let lt_spots : j < length spots = omega arith in
-              let read_new : get_or (rows_of written spots) j new ≡ row_at written (get_or spots j spot) = get_or-map (row_at written) spots j spot new lt_spots in
+              let read_new : get_or (rows_of written spots) j new ≡ row_at written (get_or spots j spot) =
+              get_or-map (row_at written) spots j spot new lt_spots in
               elim (cases_eq j at) [
                 | inl equal ↦
                     let here : row_at written spot ≡ new = ap (λ o. unwrap_or o (blank spot.id)) updates.changed in
                     let same : get_or spots j spot ≡ spot = ap (λ n. get_or spots n spot) equal ∙ sym read in
                     read_new ∙ (ap (row_at written) same ∙ (here ∙ sym (get_or-set_at (rows_of slab spots) at j new new equal inside)))
                 | inr differs ↦
-                    let same : row_at written (get_or spots j spot) ≡ row_at slab (get_or spots j spot) = ap (λ o. unwrap_or o (blank (get_or spots j spot).id)) (others j spot lt_spots differs) in
+                    let same : row_at written (get_or spots j spot) ≡ row_at slab (get_or spots j spot) =
+                    ap (λ o. unwrap_or o (blank (get_or spots j spot).id)) (others j spot lt_spots differs) in
                     let old : get_or (rows_of slab spots) j new ≡ row_at slab (get_or spots j spot) = get_or-map (row_at slab) spots j spot new lt_spots in
                     read_new ∙ (same ∙ (sym old ∙ sym (get_or-set_other (rows_of slab spots) at j new new differs)))
               ]
@@ -173,7 +179,8 @@ module _ (slab : Slab JobRow) (spots : List IdSpot) (placed : IsPlaced slab spot
     }
       where
         leads-left : All (LeadsTo slab) (remove spots at)
-        leads-left = All-append (LeadsTo slab) (take at spots) (drop (suc at) spots) (All-take (LeadsTo slab) at spots placed.leads) (All-drop (LeadsTo slab) (suc at) spots placed.leads)
+        leads-left = All-append (LeadsTo slab) (take at spots) (drop (suc at) spots) (All-take (LeadsTo slab) at spots placed.leads)
+            (All-drop (LeadsTo slab) (suc at) spots placed.leads)
 
 -- One job more.
 
@@ -196,7 +203,8 @@ module _ (old new : Slab JobRow) (place : ℕ) (row : JobRow) (vacant : get old 
 
     pub placed-pushed : slab_len new ≡ slab_len old + 1 → IsPlaced new (spots ++ spot ∷ [])
     placed-pushed more = record {
-      leads = All-push (LeadsTo new) spots spot (All-weaker (LeadsTo old) (LeadsTo new) (λ s leads. rw (kept s leads) leads) spots placed.leads) (leads-some new spot row updates.changed refl);
+      leads = All-push (LeadsTo new) spots spot (All-weaker (LeadsTo old) (LeadsTo new) (λ s leads. rw (kept s leads) leads) spots placed.leads)
+          (leads-some new spot row updates.changed refl);
       apart = all_pairs_push (λ a b. a.place ≢ b.place) spots spot placed.apart (λ k d lt. elsewhere (get_or spots k d) (placed.leads k d lt));
       full = let long = length-append spots (spot ∷ []) in let was = placed.full in omega arith;
     }
@@ -208,7 +216,8 @@ module _ (old new : Slab JobRow) (same : new ≡ record old { capacity = new.cap
   rows-grown = rw kept (ap (λ (s : Slab JobRow). rows_of s spots) same)
 
   -- all is as before but for the room
-  pub grown : (next : ℕ) → HasRisingIds (ids_of (rows_of old spots)) next × IsPlaced old spots → HasRisingIds (ids_of (rows_of new spots')) next × IsPlaced new spots'
+  pub grown : (next : ℕ) → HasRisingIds (ids_of (rows_of old spots)) next × IsPlaced old spots → HasRisingIds (ids_of (rows_of new spots')) next
+      × IsPlaced new spots'
   grown next stored = rw kept (subst (λ (s : Slab JobRow). HasRisingIds (ids_of (rows_of s spots)) next × IsPlaced s spots) (sym same) (
     stored.0,
     record { leads = stored.1.leads; apart = stored.1.apart; full = stored.1.full },

@@ -27,7 +27,10 @@ module _ (slab : Slab JobRow) (spots : List IdSpot) (next : ℕ) (stored : HasRi
   id-same i x s lt = ap (λ (y : JobRow). y.id) (get_or-map (row_at slab) spots i s x lt) ∙ row-id slab (get_or spots i s) (stored.1.leads i s lt)
 
   spots-rise : (i k : ℕ) (s : IdSpot) → i < k → k < length spots → (get_or spots i s).id < (get_or spots k s).id
-  spots-rise i k s lt within = rw (← id-same i (blank 0) s (omega arith), ← id-same k (blank 0) s within) (ids-rise (rows_of slab spots) next stored.0 i k (blank 0) lt (omega (arith, length-rows slab spots, within)))
+  spots-rise i k s lt within = rw (
+    ← id-same i (blank 0) s (omega arith),
+    ← id-same k (blank 0) s within,
+  ) (ids-rise (rows_of slab spots) next stored.0 i k (blank 0) lt (omega (arith, length-rows slab spots, within)))
 
   -- A binary search by ids ends at the job, or where it would stand.
   module _ (j : ℕ) where
@@ -37,15 +40,23 @@ module _ (slab : Slab JobRow) (spots : List IdSpot) (next : ℕ) (stored : HasRi
       | inr ge ↦ let here : m ≡ n = omega arith in let same : get_or spots m d ≡ get_or spots n d = ap (λ k. get_or spots k d) here in rw same (omega arith)
     ]
 
-    pub searched : (r : Result ℕ ℕ) → IsSearchInRange r (length spots) → IsBinarySearchResult (λ (s : IdSpot). nat_cmp s.id j) spots r → record { place : IfSome (result_ok r) (IsPlaceOf (rows_of slab spots) j); absent : result_ok r ≡ None → job_of (rows_of slab spots) j ≡ None }
+    pub searched : (r : Result ℕ ℕ) → IsSearchInRange r (length spots) → IsBinarySearchResult (λ (s : IdSpot). nat_cmp s.id j) spots r →
+        record { place : IfSome (result_ok r) (IsPlaceOf (rows_of slab spots) j); absent : result_ok r ≡ None → job_of (rows_of slab spots) j ≡ None }
     searched (Ok at) in_range equal = record {
-      place = record { in_range = omega (arith, length-rows slab spots, in_range); id = λ d. id-same at d some_spot in_range ∙ ranked _ _ _ (sym (equal some_spot)) };
+      place = record {
+        in_range = omega (arith, length-rows slab spots, in_range);
+        id = λ d. id-same at d some_spot in_range
+            ∙ ranked _ _ _ (sym (equal some_spot));
+      };
       absent = λ none. absurd cc;
     }
     searched (Err at) in_range parted = record {
       place = tt;
-      absent = λ none. find-none (λ (x : JobRow). x.id == j) (rows_of slab spots) (λ i d low lt. let long = length-rows slab spots in let is = id-same i d some_spot (omega arith) in elim (cases_lt i at) [
-        | inl below ↦ let less : (get_or spots i some_spot).id < j = ranked _ _ _ (sym ((parted comparisons-rise).0 i some_spot low below)) in grind (arith, nat_tests)
-        | inr above ↦ let more : j < (get_or spots i some_spot).id = ranked _ _ _ (sym ((parted comparisons-rise).1 i some_spot above (omega arith))) in grind (arith, nat_tests)
-      ]);
+      absent = λ none. find-none (λ (x : JobRow). x.id == j) (rows_of slab spots) (λ i d low lt. let long = length-rows slab spots in
+          let is = id-same i d some_spot (omega arith) in elim (cases_lt i at) [
+            | inl below ↦ let less : (get_or spots i some_spot).id < j = ranked _ _ _ (sym ((parted comparisons-rise).0 i some_spot low below)) in
+                grind (arith, nat_tests)
+            | inr above ↦ let more : j < (get_or spots i some_spot).id = ranked _ _ _ (sym ((parted comparisons-rise).1 i some_spot above (omega arith))) in
+                grind (arith, nat_tests)
+          ]);
     }

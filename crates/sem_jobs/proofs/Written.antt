@@ -13,7 +13,8 @@ use Rattle.sem_jobs.proofs.JobPlaces.{ids-set, found, changed}
 pub within-spots : (slab : Slab JobRow) (spots : List IdSpot) (j at : ℕ) → IsPlaceOf (rows_of slab spots) j at → at < length spots
 within-spots slab spots j at place = omega (arith, place.in_range, length-rows slab spots)
 
-pub contains-place : (slab : Slab JobRow) (spots : List IdSpot) → IsPlaced slab spots → (j at : ℕ) → IsPlaceOf (rows_of slab spots) j at → (spot : IdSpot) → spot ≡ get_or spots at spot → ContainsKey slab spot.place
+pub contains-place : (slab : Slab JobRow) (spots : List IdSpot) → IsPlaced slab spots → (j at : ℕ) → IsPlaceOf (rows_of slab spots) j at → (spot : IdSpot) →
+    spot ≡ get_or spots at spot → ContainsKey slab spot.place
 contains-place slab spots placed j at place spot read = contains-here slab spots placed at (within-spots slab spots j at place) spot read
 
 -- the job of that id stands in that place of the list, whose spot leads to it
@@ -43,7 +44,8 @@ module _ {slab : Slab JobRow} {spots : List IdSpot} {next j at : ℕ} {spot : Id
 
     -- a change of the job is a change in that place
     pub changed-written : (f : JobRow → JobRow) → new ≡ f row → rows_of written spots ≡ job_changed j f rows
-    changed-written f is = rw (rows-set slab spots open_at.stored.1 at within spot open_at.read row open_at.value new) (changed rows next open_at.stored.0 j at open_at.place row new f row_read is)
+    changed-written f is = rw (rows-set slab spots open_at.stored.1 at within spot open_at.read row open_at.value new)
+        (changed rows next open_at.stored.0 j at open_at.place row new f row_read is)
 
     -- the id is the same, and all is stored as before
     pub stored-written : new.id ≡ row.id → HasRisingIds (ids_of (rows_of written spots)) next × IsPlaced written spots

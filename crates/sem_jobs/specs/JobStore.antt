@@ -2,17 +2,16 @@
 use Rattle.std.specs.Prelude.{◌≡◌, ℕ, ◌<◌, ◌==◌, Bool, false, List, length, slice_index_or, Option, All}
 use Rattle.std.specs.List.{AllPairs}
 use Rattle.std.specs.Option.{option_map_or}
-use Rattle.sem_key.specs.KeyName.{KeyName}
+use Rattle.sem_msg.specs.Prelude.{KeyName, JobRow}
 use Rattle.sem_msg.specs.declared.state.Up.{Up}
-use Rattle.sem_msg.specs.Rows.{JobRow}
 use Rattle.sem_msg.specs.JobRows.{ids_of}
 
 pub record JobStore : Type 0 where
   -- the open jobs, by rising id
   pub jobs : List JobRow
-  -- the id of the next job, which is how many were drawn
+  -- the id of the next job, which is the number of drawn ids
   pub next : ℕ
-  -- how many more can be opened without memory
+  -- how many more can be opened without taking memory
   pub spare : ℕ
 
 -- a job that was just opened: no token is out for it
@@ -23,7 +22,7 @@ new_job id root up waiters = record { id = id; root = root; up = up; waiters = w
 abbrev pub is_done : Option JobRow → Bool
 is_done o = option_map_or (λ x. x.count == 0) o false
 
--- what the jobs always are: their ids rise and were drawn
+-- what always holds of the jobs: their ids rise and were drawn
 pub record HasRisingIds (ns : List ℕ) (next : ℕ) : Type 0 where
   pub rising : AllPairs (λ m n. m < n) ns
   pub drawn : All (λ n. n < next) ns

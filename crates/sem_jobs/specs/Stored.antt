@@ -2,8 +2,7 @@
 use Rattle.std.specs.Prelude.{◌≡◌, ◌≢◌, ℕ, length, List, [], map, All, AllPairs, None, IsSomeAnd}
 use Rattle.std.specs.Option.{unwrap_or}
 use Rattle.slab.specs.Slab.{Slab, get, slab_len}
-use Rattle.sem_key.specs.declared.key.Kind.TheVariants.{Serv}
-use Rattle.sem_msg.specs.Rows.{JobRow}
+use Rattle.sem_msg.specs.Prelude.{ServKind as Serv, JobRow}
 use Rattle.sem_jobs.specs.declared.spot.IdSpot.{IdSpot}
 use Rattle.sem_jobs.specs.JobStore.{new_job}
 
@@ -11,11 +10,11 @@ use Rattle.sem_jobs.specs.JobStore.{new_job}
 abbrev pub blank : ℕ → JobRow
 blank id = new_job id (record { pe = 0; vpe = 0; kind = Serv; number = 0 }) None []
 
--- the job to which a spot leads; no spot of a store leads to an empty place
+-- the job that a spot leads to; no spot of a store leads to an empty place
 abbrev pub row_at : Slab JobRow → IdSpot → JobRow
 row_at slab spot = unwrap_or (get slab spot.place) (blank spot.id)
 
--- the jobs to which the spots lead, in their order
+-- the jobs that the spots lead to, in order
 abbrev pub rows_of : Slab JobRow → List IdSpot → List JobRow
 rows_of slab spots = map (row_at slab) spots
 

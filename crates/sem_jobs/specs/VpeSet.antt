@@ -1,8 +1,9 @@
--- The VPEs that wait for a job: their numbers, 0 to 127, in rising order ("State" in docs/machine.md).
+-- The VPEs that wait for a job: their numbers, 0 to 127, in rising order ("State" in
+-- docs/machine.md).
 use Rattle.std.specs.Prelude.{ℕ, ◌<◌, ◌==◌, List, filter, All}
 use Rattle.std.specs.List.{AllPairs, range_with_len}
 use Rattle.std.specs.Int.{bit_at}
-use Rattle.sem_key.specs.declared.limits.TheConstants.{VPES}
+use Rattle.sem_msg.specs.Prelude.{VPES}
 
 -- rising numbers of VPEs
 pub record IsVpeList (vs : List ℕ) : Type 0 where

@@ -6,7 +6,7 @@ use sem_key::{Key, VPES};
 use sem_msg::Up;
 use std::marker::Model;
 
-/// A job that revokes what was made from its root.
+/// A job that revokes everything made from its root.
 #[derive(Debug, Drop)]
 pub struct Job {
     pub id: u32,
@@ -26,11 +26,17 @@ impl Model for Job {
 
     ghost Value = { JobRow };
 
-    ghost view = { λ j. record { id = j.id; root = j.root; up = j.up; waiters = j.slots; count = j.outstanding; keep = j.keep } };
+    ghost view = { λ j. record {
+      id = j.id;
+      root = j.root;
+      up = j.up;
+      waiters = j.slots;
+      count = j.outstanding;
+      keep = j.keep;
+    } };
 }
 
 impl Job {
-    // The same job.
     pub(crate) fn copy(&self) -> Self
         ensures { result ≡ self.now }
     {
@@ -44,7 +50,7 @@ impl Job {
         }
     }
 
-    // One token more is out for it.
+    // One more token is out for it.
     pub(crate) fn raise(&mut self)
         requires { self.old.count < 18446744073709551615 }
         ensures { self.new ≡ record self.old { count = self.old.count + 1 } }
@@ -60,7 +66,7 @@ impl Job {
         self.outstanding -= 1;
     }
 
-    // Another job waits for it, so it keeps its root no longer.
+    // Another job waits for it, so it no longer keeps its root.
     pub(crate) fn set_up(&mut self, up: Up)
         ensures { self.new ≡ record self.old { up = Some up; keep = false } }
     {
@@ -68,14 +74,13 @@ impl Job {
         self.keep = false;
     }
 
-    // It keeps its root.
     pub(crate) fn keep(&mut self)
         ensures { self.new ≡ record self.old { keep = true } }
     {
         self.keep = true;
     }
 
-    // It keeps its root no longer.
+    // It no longer keeps its root.
     pub(crate) fn give_up(&mut self)
         ensures { self.new ≡ record self.old { keep = false } }
     {
@@ -90,7 +95,7 @@ impl Job {
         self.slots.insert(vpe);
     }
 
-    // The VPE waits for it no more.
+    // The VPE no longer waits for it.
     pub(crate) fn leave(&mut self, vpe: u16)
         ensures { self.new ≡ record self.old { waiters = without_number self.old.waiters vpe } }
     {

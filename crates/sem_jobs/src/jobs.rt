@@ -1,6 +1,9 @@
-ghost use Rattle.std.specs.Prelude.{◌≡◌, ℕ, ◌+◌, ◌<◌, ◌≤◌, ◌++◌, [], length, vec_len, vec_capacity, false, None, Some, IsSome, IsSomeAnd, IfSome, IfOk, OnOk};
+ghost use Rattle.std.specs.Prelude.{◌≡◌, ℕ, ◌+◌, ◌<◌, ◌≤◌, ◌++◌, [], length, vec_len, vec_capacity};
+ghost use Rattle.std.specs.Prelude.{false, None, Some, IsSome, IsSomeAnd, IfSome, IfOk, OnOk};
 ghost use Rattle.std.specs.Option.{option_and_then};
-ghost use Rattle.sem_msg.specs.JobRows.{job_of, job_opened, job_removed, count_raised, count_lowered, if_done, told, keep_set, keep_given_up, with_up, waiters_of, waiter_added, waiter_removed};
+ghost use Rattle.sem_msg.specs.JobRows.{job_of, job_opened, job_removed, count_raised};
+ghost use Rattle.sem_msg.specs.JobRows.{count_lowered, if_done, told, keep_set, keep_given_up};
+ghost use Rattle.sem_msg.specs.JobRows.{with_up, waiters_of, waiter_added, waiter_removed};
 ghost use Rattle.sem_jobs.specs.JobStore.{IsJobStore, IsPlaceOf, is_done, new_job};
 ghost use Rattle.sem_jobs.specs.Chain.{next_done, chain, chain_of};
 ghost use Rattle.sem_jobs.specs.Stored.{IsPlaced, rows_of};
@@ -14,10 +17,11 @@ use slab::Slab;
 use std::alloc::Global;
 use std::marker::Model;
 
-/// The open jobs of one kernel, each under an id of its own. Ids are drawn in rising order from 0.
+/// The open jobs of one kernel, each under its own id. Ids are drawn in rising order from 0. Only
+/// `new` and `room` take memory.
 #[derive(Debug, Drop)]
 pub struct Jobs {
-    // Each job stays at its place for as long as it is open.
+    // A job keeps its place for as long as it is open.
     slab: Slab<Job>,
     // Where they lie, by rising id.
     spots: Vec<IdSpot>,
@@ -33,9 +37,14 @@ impl Model for Jobs {
 
     ghost Value = { JobStore };
 
-    ghost view = { λ s. record { jobs = rows_of s.slab s.spots.items; next = s.next; spare = min s.slab.capacity (vec_capacity s.spots) - vec_len s.spots } };
+    ghost view = { λ s. record {
+      jobs = rows_of s.slab s.spots.items;
+      next = s.next;
+      spare = min s.slab.capacity (vec_capacity s.spots) - vec_len s.spots;
+    } };
 
-    ghost invariant = { λ s. HasRisingIds (ids_of (rows_of s.slab s.spots.items)) s.next × IsPlaced s.slab s.spots.items };
+    ghost invariant = { λ s. HasRisingIds (ids_of (rows_of s.slab s.spots.items)) s.next
+        × IsPlaced s.slab s.spots.items };
 }
 
 impl Jobs {
@@ -51,8 +60,7 @@ impl Jobs {
         })
     }
 
-    /// Makes room for `more` jobs, so that opening them takes no memory. The jobs stay as they are, also after want of
-    /// memory.
+    /// Makes room for `more` jobs. The jobs stay as they are, even if memory is refused.
     pub fn room(&mut self, more: usize) -> Result<(), OutOfMemory>
         ensures room { OnOk result (more ≤ self.new.spare) }
         ensures jobs { self.new ≡ record self.old { spare = self.new.spare } }
@@ -62,7 +70,7 @@ impl Jobs {
         self.spots.reserve(more)
     }
 
-    /// The job with that id; none where it is not there.
+    /// The job with that id; none if it is not there.
     pub fn get(&self, job: u32) -> Option<Job>
         ensures job { result ≡ job_of self.now.jobs job }
         ensures store { IsJobStore self.now }
@@ -72,17 +80,20 @@ impl Jobs {
         Some(open.copy())
     }
 
-    /// Opens a job with the next id, for which the VPE waits, if one is given, and gives the id. No token is out for it.
-    /// Takes no memory.
+    /// Opens a job with the next id, which the VPE waits for, if one is given, and returns the id.
+    /// No token is out for the job.
     ///
-    /// There is room for the job, fewer than 4,294,967,295 ids were drawn, and the VPE is 0 to 127.
+    /// There must be room for the job. Fewer than 4,294,967,295 ids may have been drawn, and the
+    /// VPE must be 0 to 127.
     pub fn begin(&mut self, root: Key, up: Option<Up>, waiter: Option<u16>) -> u32
         requires waiter { IfSome waiter (λ v. v < VPES) }
         requires room { 0 < self.old.spare }
         requires ids { self.old.next < 4294967295 }
         ensures id { result ≡ self.old.next }
-        ensures jobs { self.new.jobs ≡ job_opened self.old.next root up (waiters_of waiter) false self.old.jobs }
-        ensures there { job_of self.new.jobs result ≡ Some (new_job result root up (waiters_of waiter)) }
+        ensures jobs { self.new.jobs
+            ≡ job_opened self.old.next root up (waiters_of waiter) false self.old.jobs }
+        ensures there { job_of self.new.jobs result
+            ≡ Some (new_job result root up (waiters_of waiter)) }
         ensures next { self.new.next ≡ self.old.next + 1 }
         ensures spare { self.old.spare ≤ self.new.spare + 1 }
     {
@@ -100,9 +111,9 @@ impl Jobs {
         id
     }
 
-    /// The job keeps its root. Takes no memory.
+    /// The job keeps its root.
     ///
-    /// The job is there, and no other job waits for it.
+    /// The job must be there, and no other job may wait for it.
     pub fn keep(&mut self, job: u32)
         requires { IsSomeAnd (job_of self.old.jobs job) (λ x. x.up ≡ None) }
         ensures { self.new ≡ record self.old { jobs = keep_set job self.old.jobs } }
@@ -114,7 +125,7 @@ impl Jobs {
         open.keep();
     }
 
-    /// The job keeps its root no longer. Nothing changes where it is not there. Takes no memory.
+    /// The job no longer keeps its root. If it is not there, nothing changes.
     pub fn give_up(&mut self, job: u32)
         ensures { self.new ≡ record self.old { jobs = keep_given_up job self.old.jobs } }
     {
@@ -125,9 +136,9 @@ impl Jobs {
         open.give_up();
     }
 
-    /// One token more is out for the job. Nothing changes where it is not there. Takes no memory.
+    /// One more token is out for the job. If it is not there, nothing changes.
     ///
-    /// Fewer than 18,446,744,073,709,551,615 tokens are out for it.
+    /// Fewer than 18,446,744,073,709,551,615 tokens may be out for it.
     pub fn add_outstanding(&mut self, job: u32)
         requires { IfSome (job_of self.old.jobs job) (λ x. x.count < 18446744073709551615) }
         ensures { self.new ≡ record self.old { jobs = count_raised job self.old.jobs } }
@@ -139,8 +150,8 @@ impl Jobs {
         open.raise();
     }
 
-    /// Lets another job wait for the job, in place of the one that did before; it keeps its root no longer. Nothing
-    /// changes where it is not there. Takes no memory.
+    /// Lets another job wait for the job, in place of the one that did before. The job no longer
+    /// keeps its root. If it is not there, nothing changes.
     pub fn set_up(&mut self, job: u32, up: Up)
         ensures { self.new ≡ record self.old { jobs = with_up up job self.old.jobs } }
     {
@@ -151,9 +162,9 @@ impl Jobs {
         open.set_up(up);
     }
 
-    /// Lets the VPE wait for the job. Takes no memory.
+    /// Lets the VPE wait for the job.
     ///
-    /// The job is there, and the VPE is 0 to 127.
+    /// The job must be there, and the VPE must be 0 to 127.
     pub fn wait(&mut self, job: u32, vpe: u16)
         requires there { IsSome (job_of self.old.jobs job) }
         requires vpe_in_range { vpe < VPES }
@@ -166,16 +177,16 @@ impl Jobs {
         open.wait(vpe);
     }
 
-    /// Lets the VPE wait for no job any more. Takes no memory.
+    /// Lets the VPE wait for no job.
     pub fn leave(&mut self, vpe: u16)
         ensures { self.new ≡ record self.old { jobs = waiter_removed vpe self.old.jobs } }
     {
         leave_all(&mut self.slab, &self.spots, vpe);
     }
 
-    /// A token came back to the job. Tells whether it was the last one that was out. Takes no memory.
+    /// Gives the job one token back, and returns whether it was the last one out.
     ///
-    /// The job is there, and a token is out for it.
+    /// The job must be there, and a token must be out for it.
     pub fn done(&mut self, job: u32) -> bool
         requires { IsSomeAnd (job_of self.old.jobs job) (λ x. 0 < x.count) }
         ensures last { result ≡ is_done (job_of self.new.jobs job) }
@@ -189,10 +200,11 @@ impl Jobs {
         open.outstanding == 0
     }
 
-    /// A token came back to the job; a count of 0 stays. Gives the job, if it is there and no token is out for it.
-    /// Takes no memory.
+    /// Gives the job one token back; a count of 0 stays. Returns the job, if it is there and no
+    /// token is out for it.
     pub fn token_back(&mut self, job: u32) -> Option<u32>
-        ensures next { option_and_then (job_of self.new.jobs) result ≡ if_done (job_of self.new.jobs job) }
+        ensures next { option_and_then (job_of self.new.jobs) result
+            ≡ if_done (job_of self.new.jobs job) }
         ensures there { IfSome result (λ j. IsSome (job_of self.new.jobs j)) }
         ensures jobs { self.new ≡ record self.old { jobs = count_lowered job self.old.jobs } }
     {
@@ -203,7 +215,7 @@ impl Jobs {
         self.done(job).then_some(job)
     }
 
-    /// Takes the job out and gives it; none where it is not there. Takes no memory.
+    /// Takes the job out and returns it; none if it is not there.
     pub fn take(&mut self, job: u32) -> Option<Job>
         ensures job { result ≡ job_of self.old.jobs job }
         ensures store { IsJobStore self.old }
@@ -216,11 +228,11 @@ impl Jobs {
         Some(self.slab.remove(spot.place))
     }
 
-    /// Finishes the job, and those that are done by that, one after the other: takes each out and appends it to `out`.
-    /// After each, the local job that waits for it gets a token back, if it is there and a token is out for it; where that
-    /// was its last one, it is finished next. Takes no memory.
+    /// Finishes the job, and then every job that this finishes, one after another: takes each out
+    /// and appends it to `out`. After each, the local job that waits for it gets a token back, if
+    /// it is there and a token is out for it. If that was its last one, it finishes next.
     ///
-    /// The job is there, no token is out for it, and `out` has room for all jobs.
+    /// The job must be there, no token may be out for it, and `out` must have room for all jobs.
     pub fn finish_chain(&mut self, job: u32, out: &mut Vec<Job>)
         requires done { IsSomeAnd (job_of self.old.jobs job) (λ x. x.count ≡ 0) }
         requires room { vec_len out.old + length self.old.jobs ≤ vec_capacity out.old }
@@ -229,9 +241,10 @@ impl Jobs {
         ensures next { self.new.next ≡ self.old.next }
         ensures spare { self.old.spare ≤ self.new.spare }
         ensures capacity { vec_capacity out.new ≡ vec_capacity out.old }
-        ensures bound { (n : ℕ) → length self.old.jobs ≤ n → chain n (job_of self.old.jobs job) self.old.jobs ≡ chain_of job self.old.jobs }
+        ensures bound { (n : ℕ) → length self.old.jobs ≤ n →
+            chain n (job_of self.old.jobs job) self.old.jobs ≡ chain_of job self.old.jobs }
     {
-        // So that the proof knows that the ids rise.
+        // Shows the proof that the ids rise.
         let _ = &self.spots;
         let mut next = Some(job);
         while let Some(id) = next {
@@ -244,22 +257,22 @@ impl Jobs {
         }
     }
 
-    /// How many jobs are open.
+    /// The number of open jobs.
     pub fn len(&self) -> usize
         ensures { result ≡ length self.now.jobs }
     {
         self.spots.len()
     }
 
-    /// How many ids were drawn.
+    /// How many ids were drawn, which is the id of the next job.
     pub fn drawn(&self) -> u32
         ensures { result ≡ self.now.next }
     {
         self.next
     }
 
-    // Gives a token back to the local job that waited for a finished one, if it is there and a token is out for it. Gives
-    // its id where it is to be finished next.
+    // Gives a token back to the local job that waited for a finished one, if it is there and a
+    // token is out for it. Returns its id if it finishes next.
     fn tell(&mut self, up: Option<Up>) -> Option<u32>
         ensures next { option_and_then (job_of self.new.jobs) result ≡ next_done up self.old.jobs }
         ensures there { IfSome result (λ job. IsSome (job_of self.new.jobs job)) }
@@ -276,7 +289,7 @@ impl Jobs {
         is_last.then_some(job)
     }
 
-    // Where the job stands in the list; none where it is not there.
+    // The place of the job in the list; none if it is not there.
     fn search(&self, job: u32) -> Option<usize>
         ensures place { IfSome result (IsPlaceOf self.now.jobs job) }
         ensures absent { result ≡ None → job_of self.now.jobs job ≡ None }
@@ -286,7 +299,7 @@ impl Jobs {
     }
 }
 
-// Lets the VPE wait for none of the jobs to which the spots lead.
+// Lets the VPE wait for none of the jobs that the spots lead to.
 fn leave_all(slab: &mut Slab<Job>, spots: &[IdSpot], vpe: u16)
     requires placed { IsPlaced slab.old spots.now }
     ensures jobs { rows_of slab.new spots.now ≡ waiter_removed vpe (rows_of slab.old spots.now) }

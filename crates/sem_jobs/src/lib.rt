@@ -1,4 +1,4 @@
-//! The revoke jobs that one kernel has open, by id, and the working space of one step.
+//! The open revoke jobs of one kernel, by id, and the working space of one step.
 #![tactic(auto)]
 
 mod job;

@@ -4,7 +4,8 @@ use crate::job::Job;
 use sem_key::{Key, OutOfMemory};
 use std::alloc::Global;
 
-/// Working space for one step, made before it begins, so that the step takes no memory.
+/// Working space for one step, made before it begins, so that the step takes no memory. Only `room`
+/// takes memory.
 #[derive(Debug, Drop)]
 pub struct Scratch {
     pub keys: Vec<Key>,
@@ -17,7 +18,7 @@ pub struct Scratch {
 }
 
 impl Scratch {
-    /// Empty, and with no room. Takes no memory.
+    /// Four empty lists, without room.
     pub fn new(alloc: Global) -> Self
         ensures keys { result.keys.items ≡ [] }
         ensures links { result.links.items ≡ [] }
@@ -32,13 +33,17 @@ impl Scratch {
         }
     }
 
-    /// Empties all four, and makes room for so many elements in `keys`, as many in `links` and in `gone`, and so many
-    /// in `jobs`. After want of memory all is as before.
+    /// Empties all four, and makes room for `keys` elements in each of `keys`, `links` and `gone`,
+    /// and for `jobs` elements in `jobs`. If memory is refused, all is as before.
     pub fn room(&mut self, keys: usize, jobs: usize) -> Result<(), OutOfMemory>
-        ensures keys { OnOk result ((self.new.keys.items ≡ []) × (keys ≤ vec_capacity self.new.keys)) }
-        ensures links { OnOk result ((self.new.links.items ≡ []) × (keys ≤ vec_capacity self.new.links)) }
-        ensures gone { OnOk result ((self.new.gone.items ≡ []) × (keys ≤ vec_capacity self.new.gone)) }
-        ensures jobs { OnOk result ((self.new.jobs.items ≡ []) × (jobs ≤ vec_capacity self.new.jobs)) }
+        ensures keys { OnOk result ((self.new.keys.items ≡ [])
+            × (keys ≤ vec_capacity self.new.keys)) }
+        ensures links { OnOk result ((self.new.links.items ≡ [])
+            × (keys ≤ vec_capacity self.new.links)) }
+        ensures gone { OnOk result ((self.new.gone.items ≡ [])
+            × (keys ≤ vec_capacity self.new.gone)) }
+        ensures jobs { OnOk result ((self.new.jobs.items ≡ [])
+            × (jobs ≤ vec_capacity self.new.jobs)) }
         ensures same_keys { OnErr result (self.new.keys.items ≡ self.old.keys.items) }
         ensures same_links { OnErr result (self.new.links.items ≡ self.old.links.items) }
         ensures same_gone { OnErr result (self.new.gone.items ≡ self.old.gone.items) }
@@ -60,7 +65,7 @@ impl Scratch {
     }
 }
 
-// Makes room for so many elements in all, with those that are there.
+// Makes room for that many elements in all, the present ones among them.
 fn make_room<T>(items: &mut Vec<T>, all: usize) -> Result<(), OutOfMemory>
     ensures room { OnOk result (all ≤ vec_capacity items.new) }
     ensures items { items.new.items ≡ items.old.items }

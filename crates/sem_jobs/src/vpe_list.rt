@@ -1,4 +1,4 @@
-ghost use Rattle.std.specs.Prelude.{◌≡◌, ◌<◌, ◌↔◌, [], Contains, IsTrue, IfSome};
+ghost use Rattle.std.specs.Prelude.{◌≡◌, ◌<◌, ◌≤◌, ◌↔◌, [], All, Contains, IsTrue, IfSome};
 ghost use Rattle.sem_msg.specs.JobRows.{with_number, without_number, waiters_of};
 ghost use Rattle.sem_jobs.specs.VpeSet.{IsVpeList};
 
@@ -30,7 +30,16 @@ impl VpeList {
         vpe < VPES && self.mask >> vpe & 1 == 1
     }
 
-    // No VPEs.
+    /// The least VPE of the list; 128 if it is empty.
+    pub fn first(&self) -> u16
+        ensures first { All (λ v. result ≤ v) self.now }
+        ensures there { result < VPES → Contains self.now result }
+        ensures list { IsVpeList self.now }
+    {
+        let mask = self.mask;
+        mask.trailing_zeros() as u16
+    }
+
     pub(crate) fn empty() -> Self
         ensures { result ≡ [] }
     {
@@ -49,14 +58,13 @@ impl VpeList {
         list
     }
 
-    // The same VPEs.
     pub(crate) fn copy(&self) -> Self
         ensures { result ≡ self.now }
     {
         VpeList { mask: self.mask }
     }
 
-    // Adds the VPE, if it is not there.
+    // Adds the VPE, unless it is there.
     pub(crate) fn insert(&mut self, vpe: u16)
         requires { vpe < VPES }
         ensures { self.new ≡ with_number self.old vpe }

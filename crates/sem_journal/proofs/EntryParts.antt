@@ -1,5 +1,6 @@
 -- The faults of an entry, part by part.
-use Rattle.std.proofs.Common.{◌≡◌, ℕ, ◌+◌, true, false, List, [], ◌∷◌, ◌++◌, length, drop, map, Option, Some, None, refl, sym, ◌∙◌, drop-drop, inl, inr, decimal, append_assoc}
+use Rattle.std.proofs.Common.{◌≡◌, ℕ, ◌+◌, true, false, List, [], ◌∷◌, ◌++◌, length, drop, map, Option, Some, None, refl, sym, ◌∙◌, drop-drop, inl, inr}
+use Rattle.std.proofs.Common.{decimal, append_assoc}
 use Rattle.std.specs.Option.{option_or}
 use Rattle.std.proofs.lemmas.Bool.{cases_Bool}
 use Rattle.std.proofs.lemmas.Option.{none-some}
@@ -68,41 +69,52 @@ pub behind_filled : (places : List Place) (words rest : List (List ℕ)) → Fil
 behind_filled places words rest fills = rest_is places words rest (fills (exactly rest) ∙ exactly_fits rest)
 
 -- an entry whose kernel is wrong
-pub kernel_fault : (version kernels : ℕ) (words : List (List ℕ)) (cause : Cause) → Fails (kernel kernels ∷ []) words cause → entry_fault version kernels words ≡ Some cause
+pub kernel_fault : (version kernels : ℕ) (words : List (List ℕ)) (cause : Cause) → Fails (kernel kernels ∷ []) words cause →
+    entry_fault version kernels words ≡ Some cause
 unfolding entry_fault entry_form
 kernel_fault version kernels words cause fails =
     rw (fails (event_form version kernels (drop 1 words) ++ behind_event version (drop (1 + length (event_form version kernels (drop 1 words))) words))) refl
 
 -- the words of an entry behind its kernel
-pub behind_kernel : (version kernels : ℕ) (words rest : List (List ℕ)) → Fills (kernel kernels ∷ []) words rest → form_fault (entry_form version kernels words) words ≡ form_fault (event_form version kernels rest ++ behind_event version (drop (length (event_form version kernels rest)) rest)) rest
+pub behind_kernel : (version kernels : ℕ) (words rest : List (List ℕ)) → Fills (kernel kernels ∷ []) words rest →
+    form_fault (entry_form version kernels words) words
+    ≡ form_fault (event_form version kernels rest ++ behind_event version (drop (length (event_form version kernels rest)) rest)) rest
 unfolding entry_form
 behind_kernel version kernels words rest fills =
     let behind : drop 1 words ≡ rest = behind_filled (kernel kernels ∷ []) words rest fills in
-    rw (drop_behind (length (event_form version kernels (drop 1 words))) words, behind) (fills (event_form version kernels rest ++ behind_event version (drop (length (event_form version kernels rest)) rest)))
+    rw (
+      drop_behind (length (event_form version kernels (drop 1 words))) words,
+      behind,
+    ) (fills (event_form version kernels rest ++ behind_event version (drop (length (event_form version kernels rest)) rest)))
   where
     drop_behind : (n : ℕ) (words : List (List ℕ)) → drop (1 + n) words ≡ drop n (drop 1 words)
     drop_behind n words = sym (drop-drop n 1 words)
 
 -- an entry whose event is wrong
-pub event_fault : (version kernels : ℕ) (words rest : List (List ℕ)) (cause : Cause) → Fills (kernel kernels ∷ []) words rest → Fails (event_form version kernels rest) rest cause → entry_fault version kernels words ≡ Some cause
+pub event_fault : (version kernels : ℕ) (words rest : List (List ℕ)) (cause : Cause) → Fills (kernel kernels ∷ []) words rest →
+    Fails (event_form version kernels rest) rest cause → entry_fault version kernels words ≡ Some cause
 unfolding entry_fault
 event_fault version kernels words rest cause fills fails =
     rw (behind_kernel version kernels words rest fills, fails (behind_event version (drop (length (event_form version kernels rest)) rest))) refl
 
 -- what is wrong with an entry behind its event
-pub shown_fault : (version kernels : ℕ) (words rest behind : List (List ℕ)) → Fills (kernel kernels ∷ []) words rest → Fills (event_form version kernels rest) rest behind → form_fault (entry_form version kernels words) words ≡ form_fault (behind_event version behind) behind
+pub shown_fault : (version kernels : ℕ) (words rest behind : List (List ℕ)) → Fills (kernel kernels ∷ []) words rest →
+    Fills (event_form version kernels rest) rest behind → form_fault (entry_form version kernels words) words ≡ form_fault (behind_event version behind) behind
 shown_fault version kernels words rest behind fills event =
     rw (behind_kernel version kernels words rest fills, behind_filled (event_form version kernels rest) rest behind event) (event (behind_event version behind))
 
-pub fault_behind : (version kernels : ℕ) (words : List (List ℕ)) (cause : Cause) → form_fault (entry_form version kernels words) words ≡ Some cause → entry_fault version kernels words ≡ Some cause
+pub fault_behind : (version kernels : ℕ) (words : List (List ℕ)) (cause : Cause) → form_fault (entry_form version kernels words) words ≡ Some cause →
+    entry_fault version kernels words ≡ Some cause
 unfolding entry_fault
 fault_behind version kernels words cause fault = rw fault refl
 
-pub long_fault : (version kernels : ℕ) (words : List (List ℕ)) → form_fault (entry_form version kernels words) words ≡ None → has_long_memory words ≡ true → entry_fault version kernels words ≡ Some OutOfRange
+pub long_fault : (version kernels : ℕ) (words : List (List ℕ)) → form_fault (entry_form version kernels words) words ≡ None → has_long_memory words ≡ true →
+    entry_fault version kernels words ≡ Some OutOfRange
 unfolding entry_fault
 long_fault version kernels words fits long = rw (fits, long) refl
 
-pub no_fault : (version kernels : ℕ) (words : List (List ℕ)) → form_fault (entry_form version kernels words) words ≡ None → has_long_memory words ≡ false → entry_fault version kernels words ≡ None
+pub no_fault : (version kernels : ℕ) (words : List (List ℕ)) → form_fault (entry_form version kernels words) words ≡ None → has_long_memory words ≡ false →
+    entry_fault version kernels words ≡ None
 unfolding entry_fault
 no_fault version kernels words fits short = rw (fits, short) refl
 
@@ -110,5 +122,6 @@ no_fault version kernels words fits short = rw (fits, short) refl
 abbrev pub entry : ℕ → Act → Detail → Shown → Entry
 entry k act detail shown = record { event = record { kernel = k; act = act }; detail = detail; grant = shown.grant; cut = shown.cut; reply = shown.reply }
 
-pub entry_is : (k : ℕ) (act : Act) (detail : Detail) (shown : Shown) (rest behind : List (List ℕ)) → rest ≡ act_words act ++ detail_words detail ++ behind → behind ≡ shown_words shown → decimal k ∷ rest ≡ entry_words (entry k act detail shown)
+pub entry_is : (k : ℕ) (act : Act) (detail : Detail) (shown : Shown) (rest behind : List (List ℕ)) → rest ≡ act_words act ++ detail_words detail ++ behind →
+    behind ≡ shown_words shown → decimal k ∷ rest ≡ entry_words (entry k act detail shown)
 entry_is k act detail shown rest behind rest_is behind_is = rw (rest_is, behind_is) (simp append_assoc)

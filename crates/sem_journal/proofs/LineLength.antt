@@ -6,12 +6,14 @@ use Rattle.sem_key.specs.declared.object.Object.TheVariants.{Mem, Recv, Send, Se
 use Rattle.sem_key.specs.KeyName.{KeyName, kind_number}
 use Rattle.sem_key.specs.PlaceName.{PlaceName}
 use Rattle.sem_msg.specs.declared.call.Call.{Call}
-use Rattle.sem_msg.specs.declared.call.Call.TheVariants.{Derive, Gate, Obtain, Delegate, OpenSession, AskOffer, Revoke, Bind, Read, Write, Send as SendCall, Credit, Exit, Clear}
+use Rattle.sem_msg.specs.declared.call.Call.TheVariants.{Derive, Gate, Obtain, Delegate, OpenSession, AskOffer, Revoke, Bind, Read, Write, Send as SendCall}
+use Rattle.sem_msg.specs.declared.call.Call.TheVariants.{Credit, Exit, Clear}
 use Rattle.sem_msg.specs.Calls.{IsValidCall}
 use Rattle.sem_msg.specs.declared.message.Target.{Target}
 use Rattle.sem_msg.specs.declared.message.Target.TheVariants.{Sel as SelTarget, Serv as ServTarget, Offer as OfferTarget}
 use Rattle.sem_msg.specs.declared.message.Message.{Message}
-use Rattle.sem_msg.specs.declared.message.Message.TheVariants.{ObtainReq, ObtainOk, ObtainNo, DelegateReq, DelegatePrepared, DelegateNo, Ack, Orphan, RevokeReq, RevokeDone, Unlink}
+use Rattle.sem_msg.specs.declared.message.Message.TheVariants.{ObtainReq, ObtainOk, ObtainNo, DelegateReq, DelegatePrepared, DelegateNo, Ack, Orphan, RevokeReq}
+use Rattle.sem_msg.specs.declared.message.Message.TheVariants.{RevokeDone, Unlink}
 use Rattle.sem_msg.specs.declared.event.Act.{Act}
 use Rattle.sem_msg.specs.declared.event.Act.TheVariants.{Call as Calls, Fetch, Handle, Upcall, Resume, Flush, Kill}
 use Rattle.sem_msg.specs.declared.entry.Consent.{Consent}
@@ -25,7 +27,8 @@ use Rattle.sem_trace.specs.Ranges.{IsNode, IsKeyInText, IsPlaceInText}
 use Rattle.sem_key.specs.declared.limits.TheConstants.{KERNELS}
 use Rattle.sem_msg.specs.Versions.{most_vpes}
 use Rattle.sem_trace.specs.Words.{key_word, place_word, object_words, call_words}
-use Rattle.sem_journal.specs.EntryText.{target_words, yes_or_no, message_words, act_words, consent_word, detail_words, grant_words, cut_words, reply_words, entry_words}
+use Rattle.sem_journal.specs.EntryText.{target_words, yes_or_no, message_words, act_words, consent_word, detail_words, grant_words, cut_words, reply_words}
+use Rattle.sem_journal.specs.EntryText.{entry_words}
 use Rattle.sem_journal.specs.EntryRanges.{ObjectFits, TargetFits, MessageFits, EventFits, GrantFits, CutFits, ReplyFits, EntryFits}
 use Rattle.sem_reader.proofs.PlainText.{width}
 use Rattle.sem_trace.proofs.Nodes.{few_vpes}
@@ -56,7 +59,8 @@ key_short version k valid =
     let vpe = node version k.vpe valid.1 in
     let kind = one (kind_number k.kind) (omega (arith, kind_most k.kind)) in
     let number = four k.number (omega (arith, valid.2)) in
-    let all : length (key_word k) ≡ length (decimal k.pe) + (1 + length (decimal k.vpe)) + (1 + length (decimal (kind_number k.kind))) + (1 + length (decimal k.number)) = rw (length-append, length-append, length-append) (omega arith) in
+    let all : length (key_word k) ≡ length (decimal k.pe) + (1 + length (decimal k.vpe)) + (1 + length (decimal (kind_number k.kind)))
+    + (1 + length (decimal k.number)) = rw (length-append, length-append, length-append) (omega arith) in
     omega arith
 
 place_short : (version : ℕ) (p : PlaceName) → IsPlaceInText version p → length (place_word p) ≤ 12
@@ -64,7 +68,8 @@ place_short version p valid =
     let pe = node version p.pe valid.0 in
     let vpe = node version p.vpe valid.1 in
     let number = four p.number (omega (arith, valid.2)) in
-    let all : length (place_word p) ≡ length (decimal p.pe) + (1 + length (decimal p.vpe)) + (1 + length (decimal p.number)) = rw (length-append, length-append) (omega arith) in
+    let all : length (place_word p) ≡ length (decimal p.pe) + (1 + length (decimal p.vpe)) + (1 + length (decimal p.number)) =
+    rw (length-append, length-append) (omega arith) in
     omega arith
 
 width-append : (ws vs : List (List ℕ)) → width (ws ++ vs) ≡ width ws + width vs
@@ -79,12 +84,35 @@ object_short version (Serv name) fits = omega (arith, three name (omega (arith, 
 object_short version (Sess service ident) fits = omega (arith, key_short version service fits.0, node version ident fits.1)
 
 call_short : (version : ℕ) (c : Call) → IsValidCall (most_vpes version) c → width (call_words c) ≤ 45
-call_short version (Derive src dst off len rights) valid = omega (arith, three src (omega (arith, valid.0)), three dst (omega (arith, valid.1)), ten off valid.2, ten len valid.3, one rights (omega (arith, valid.4)))
-call_short version (Gate src dst label credits) valid = omega (arith, three src (omega (arith, valid.0)), three dst (omega (arith, valid.1)), ten label valid.2, two credits (omega (arith, valid.4)))
+call_short version (Derive src dst off len rights) valid = omega (
+  arith,
+  three src (omega (arith, valid.0)),
+  three dst (omega (arith, valid.1)),
+  ten off valid.2,
+  ten len valid.3,
+  one rights (omega (arith, valid.4)),
+)
+call_short version (Gate src dst label credits) valid = omega (
+  arith,
+  three src (omega (arith, valid.0)),
+  three dst (omega (arith, valid.1)),
+  ten label valid.2,
+  two credits (omega (arith, valid.4)),
+)
 call_short version (Obtain dst vpe src) valid = omega (arith, three dst (omega (arith, valid.0)), node version vpe valid.1, three src (omega (arith, valid.2)))
-call_short version (Delegate src vpe dst) valid = omega (arith, three src (omega (arith, valid.0)), node version vpe valid.1, three dst (omega (arith, valid.2)))
+call_short version (Delegate src vpe dst) valid = omega (
+  arith,
+  three src (omega (arith, valid.0)),
+  node version vpe valid.1,
+  three dst (omega (arith, valid.2)),
+)
 call_short version (OpenSession dst name) valid = omega (arith, three dst (omega (arith, valid.0)), three name (omega (arith, valid.1)))
-call_short version (AskOffer dst session index) valid = omega (arith, three dst (omega (arith, valid.0)), three session (omega (arith, valid.1)), three index (omega (arith, valid.2)))
+call_short version (AskOffer dst session index) valid = omega (
+  arith,
+  three dst (omega (arith, valid.0)),
+  three session (omega (arith, valid.1)),
+  three index (omega (arith, valid.2)),
+)
 call_short version (Revoke src) valid = omega (arith, three src (omega (arith, valid)))
 call_short version (Bind ep src) valid = omega (arith, two ep (omega (arith, valid.0)), three src (omega (arith, valid.1)))
 call_short version (Read ep off len) valid = omega (arith, two ep (omega (arith, valid.0)), ten off valid.1, ten len valid.2)
@@ -110,10 +138,22 @@ consent_short Dropped = omega arith
 
 message_short : (version : ℕ) (m : Message) → MessageFits version m → width (message_words m) ≤ 74
 message_short version (ObtainReq place target) fits = omega (arith, place_short version place fits.0, target_short version target fits.1)
-message_short version (ObtainOk parent key object) fits = omega (arith, key_short version parent fits.0, key_short version key fits.1, object_short version object fits.2)
+message_short version (ObtainOk parent key object) fits = omega (
+  arith,
+  key_short version parent fits.0,
+  key_short version key fits.1,
+  object_short version object fits.2,
+)
 message_short version (ObtainNo place code) fits = omega (arith, place_short version place fits.0, two code (omega (arith, fits.1)))
 message_short version (DelegateReq parent object vpe sel) fits =
-    omega (arith, key_short version parent fits.0, object_short version object fits.1, node version vpe fits.2, three sel (omega (arith, fits.3)), width-append (object_words object) (decimal vpe ∷ decimal sel ∷ []))
+    omega (
+      arith,
+      key_short version parent fits.0,
+      object_short version object fits.1,
+      node version vpe fits.2,
+      three sel (omega (arith, fits.3)),
+      width-append (object_words object) (decimal vpe ∷ decimal sel ∷ []),
+    )
 message_short version (DelegatePrepared parent key) fits = omega (arith, key_short version parent fits.0, key_short version key fits.1)
 message_short version (DelegateNo parent code) fits = omega (arith, key_short version parent fits.0, two code (omega (arith, fits.1)))
 message_short version (Ack key accepted) fits = omega (arith, key_short version key fits, yes_or_no_short accepted)
@@ -122,7 +162,8 @@ message_short version (RevokeReq key job) fits = omega (arith, key_short version
 message_short version (RevokeDone job) fits = omega (arith, ten job fits)
 message_short version (Unlink parent key) fits = omega (arith, key_short version parent fits.0, key_short version key fits.1)
 
-event_short : (version kernels : ℕ) (act : Act) (detail : Detail) → kernels ≤ KERNELS → EventFits version kernels act detail → width (act_words act) + width (detail_words detail) ≤ 84
+event_short : (version kernels : ℕ) (act : Act) (detail : Detail) → kernels ≤ KERNELS → EventFits version kernels act detail →
+    width (act_words act) + width (detail_words detail) ≤ 84
 event_short version kernels (Calls v) (Called index call) few fits = omega (arith, node version v fits.0, ten index fits.1, call_short version call fits.2)
 event_short version kernels (Fetch from) (Carried peer message) few fits = omega (arith, two peer (omega (arith, fits.1)), message_short version message fits.2)
 event_short version kernels Handle (Carried peer message) few fits = omega (arith, two peer (omega (arith, fits.0)), message_short version message fits.1)
@@ -181,5 +222,6 @@ short_line version kernels e few fits =
     let kernel : length (decimal e.event.kernel) ≤ 2 = two e.event.kernel (omega (arith, fits.kernel)) in
     let event = event_short version kernels e.event.act e.detail few fits.event in
     let parts = width_of_parts (act_words e.event.act) (detail_words e.detail) (grant_words e.grant) (cut_words e.cut) (reply_words e.reply) in
-    let whole = length-line (decimal e.event.kernel) (act_words e.event.act ++ detail_words e.detail ++ grant_words e.grant ++ cut_words e.cut ++ reply_words e.reply) in
+    let whole = length-line (decimal e.event.kernel) (act_words e.event.act ++ detail_words e.detail ++ grant_words e.grant ++ cut_words e.cut
+    ++ reply_words e.reply) in
     omega (arith, kernel, event, grant_short version e.grant fits.grant, cut_short version e.cut fits.cut, reply_short version e.reply fits.reply, parts, whole)

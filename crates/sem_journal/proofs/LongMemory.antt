@@ -7,7 +7,8 @@ use Rattle.std.proofs.lemmas.Bool.Decides.{nat_tests}
 use Rattle.sem_key.specs.declared.object.Object.TheVariants.{Mem, Recv, Send, Serv, Sess}
 use Rattle.sem_key.specs.KeyName.{KeyName}
 use Rattle.sem_msg.specs.declared.message.Message.{Message}
-use Rattle.sem_msg.specs.declared.message.Message.TheVariants.{ObtainReq, ObtainOk, ObtainNo, DelegateReq, DelegatePrepared, DelegateNo, Ack, Orphan, RevokeReq, RevokeDone, Unlink}
+use Rattle.sem_msg.specs.declared.message.Message.TheVariants.{ObtainReq, ObtainOk, ObtainNo, DelegateReq, DelegatePrepared, DelegateNo, Ack, Orphan, RevokeReq}
+use Rattle.sem_msg.specs.declared.message.Message.TheVariants.{RevokeDone, Unlink}
 use Rattle.sem_msg.specs.declared.event.Act.{Act}
 use Rattle.sem_msg.specs.declared.event.Act.TheVariants.{Call as Calls, Fetch, Handle, Upcall, Resume, Flush, Kill}
 use Rattle.sem_msg.specs.declared.entry.Detail.{Detail}
@@ -46,16 +47,24 @@ or-no false = refl
 value_is : (n : ℕ) → n ≤ 4294967295 → number_value (decimal n) ≡ n
 value_is n small = (digits-decimal n (omega arith)).1
 
-long_message : (version : ℕ) (kernel name peer : List ℕ) (p : ℕ) (m : Message) (g : Option (KeyName × KeyName)) (k : Option KeyName) (r : Option Reply) → MessageFits version m → has_long_memory (kernel ∷ name ∷ peer ∷ message_words m ++ grant_words g ++ cut_words k ++ reply_words r) ≡ carries_long (Carried p m)
+long_message : (version : ℕ) (kernel name peer : List ℕ) (p : ℕ) (m : Message) (g : Option (KeyName × KeyName)) (k : Option KeyName) (r : Option Reply) →
+    MessageFits version m → has_long_memory (kernel ∷ name ∷ peer ∷ message_words m ++ grant_words g ++ cut_words k ++ reply_words r)
+    ≡ carries_long (Carried p m)
 unfolding has_long_memory
 long_message version kernel name peer p (ObtainReq place target) g k r fits = refl
-long_message version kernel name peer p (ObtainOk parent key (Mem base len rights)) g k r fits = rw (value_is base (omega (arith, fits.2.0)), value_is len (omega (arith, fits.2.1))) (or-no (nat_lt 4294967296 (base + len)))
+long_message version kernel name peer p (ObtainOk parent key (Mem base len rights)) g k r fits = rw (
+  value_is base (omega (arith, fits.2.0)),
+  value_is len (omega (arith, fits.2.1)),
+) (or-no (nat_lt 4294967296 (base + len)))
 long_message version kernel name peer p (ObtainOk parent key (Recv slots)) g k r fits = refl
 long_message version kernel name peer p (ObtainOk parent key (Send gate label credits)) g k r fits = refl
 long_message version kernel name peer p (ObtainOk parent key (Serv name')) g k r fits = refl
 long_message version kernel name peer p (ObtainOk parent key (Sess service ident)) g k r fits = refl
 long_message version kernel name peer p (ObtainNo place code) g k r fits = refl
-long_message version kernel name peer p (DelegateReq parent (Mem base len rights) vpe sel) g k r fits = rw (value_is base (omega (arith, fits.1.0)), value_is len (omega (arith, fits.1.1))) refl
+long_message version kernel name peer p (DelegateReq parent (Mem base len rights) vpe sel) g k r fits = rw (
+  value_is base (omega (arith, fits.1.0)),
+  value_is len (omega (arith, fits.1.1)),
+) refl
 long_message version kernel name peer p (DelegateReq parent (Recv slots) vpe sel) g k r fits = refl
 long_message version kernel name peer p (DelegateReq parent (Send gate label credits) vpe sel) g k r fits = refl
 long_message version kernel name peer p (DelegateReq parent (Serv name') vpe sel) g k r fits = refl
@@ -68,21 +77,33 @@ long_message version kernel name peer p (RevokeReq key job) g k r fits = refl
 long_message version kernel name peer p (RevokeDone job) g k r fits = refl
 long_message version kernel name peer p (Unlink parent key) g k r fits = refl
 
-no_message : (a b c : List ℕ) (g : Option (KeyName × KeyName)) (k : Option KeyName) (r : Option Reply) → has_long_memory (a ∷ b ∷ c ∷ grant_words g ++ cut_words k ++ reply_words r) ≡ false
+no_message : (a b c : List ℕ) (g : Option (KeyName × KeyName)) (k : Option KeyName) (r : Option Reply) →
+    has_long_memory (a ∷ b ∷ c ∷ grant_words g ++ cut_words k ++ reply_words r) ≡ false
 unfolding has_long_memory
 no_message a b c (Some g) k r = refl
 no_message a b c None (Some k) r = refl
 no_message a b c None None (Some r) = refl
 no_message a b c None None None = refl
 
-long_event : (version kernels kernel : ℕ) (act : Act) (detail : Detail) (g : Option (KeyName × KeyName)) (k : Option KeyName) (r : Option Reply) → EventFits version kernels act detail → has_long_memory (decimal kernel ∷ act_words act ++ detail_words detail ++ grant_words g ++ cut_words k ++ reply_words r) ≡ carries_long detail
+long_event : (version kernels kernel : ℕ) (act : Act) (detail : Detail) (g : Option (KeyName × KeyName)) (k : Option KeyName) (r : Option Reply) →
+    EventFits version kernels act detail →
+    has_long_memory (decimal kernel ∷ act_words act ++ detail_words detail ++ grant_words g ++ cut_words k ++ reply_words r) ≡ carries_long detail
 unfolding has_long_memory
-long_event version kernels kernel (Calls v) (Called index call) g k r fits = rw (no_name index (codes "obtain-ok") (omega (arith, fits.1)) (omega arith), no_name index (codes "delegate-req") (omega (arith, fits.1)) (omega arith)) refl
-long_event version kernels kernel (Fetch from) (Carried peer message) g k r fits = long_message version (decimal kernel) (codes "fetch") (decimal peer) peer message g k r fits.2
-long_event version kernels kernel Handle (Carried peer message) g k r fits = long_message version (decimal kernel) (codes "handle") (decimal peer) peer message g k r fits.1
-long_event version kernels kernel (Upcall v) (Asked asker answer) g k r fits = rw (no_name asker (codes "obtain-ok") (small version asker fits.1) (omega arith), no_name asker (codes "delegate-req") (small version asker fits.1) (omega arith)) refl
+long_event version kernels kernel (Calls v) (Called index call) g k r fits = rw (
+  no_name index (codes "obtain-ok") (omega (arith, fits.1)) (omega arith),
+  no_name index (codes "delegate-req") (omega (arith, fits.1)) (omega arith),
+) refl
+long_event version kernels kernel (Fetch from) (Carried peer message) g k r fits =
+    long_message version (decimal kernel) (codes "fetch") (decimal peer) peer message g k r fits.2
+long_event version kernels kernel Handle (Carried peer message) g k r fits =
+    long_message version (decimal kernel) (codes "handle") (decimal peer) peer message g k r fits.1
+long_event version kernels kernel (Upcall v) (Asked asker answer) g k r fits = rw (
+  no_name asker (codes "obtain-ok") (small version asker fits.1) (omega arith),
+  no_name asker (codes "delegate-req") (small version asker fits.1) (omega arith),
+) refl
 long_event version kernels kernel (Resume v) Nothing g k r fits = no_message (decimal kernel) (codes "resume") (decimal v) g k r
-long_event version kernels kernel (Flush to) (Carried peer message) g k r fits = long_message version (decimal kernel) (codes "flush") (decimal peer) peer message g k r fits.2
+long_event version kernels kernel (Flush to) (Carried peer message) g k r fits =
+    long_message version (decimal kernel) (codes "flush") (decimal peer) peer message g k r fits.2
 long_event version kernels kernel (Kill v) Nothing g k r fits = no_message (decimal kernel) (codes "kill") (decimal v) g k r
 long_event version kernels kernel (Calls v) (Carried peer message) g k r fits = absurd fits
 long_event version kernels kernel (Calls v) (Asked asker answer) g k r fits = absurd fits

@@ -1,5 +1,6 @@
 -- The words that are printed of an entry are plain, so that its line is read as these words.
-use Rattle.std.proofs.Common.{◌≡◌, ℕ, ◌≤◌, Bool, true, false, ◌&&◌, true≢false, List, [], ◌∷◌, ◌++◌, Option, None, Some, refl, ap, sym, ◌∙◌, arith, decimal, append_assoc}
+use Rattle.std.proofs.Common.{◌≡◌, ℕ, ◌≤◌, Bool, true, false, ◌&&◌, true≢false, List, [], ◌∷◌, ◌++◌, Option, None, Some, refl, ap, sym, ◌∙◌, arith, decimal}
+use Rattle.std.proofs.Common.{append_assoc}
 use Rattle.std.specs.List.{list_all}
 use Rattle.std.proofs.lemmas.List.Folds.{list_all-append}
 use Rattle.sem_key.specs.declared.object.Object.{Object}
@@ -7,12 +8,14 @@ use Rattle.sem_key.specs.declared.object.Object.TheVariants.{Mem, Recv, Send, Se
 use Rattle.sem_key.specs.KeyName.{KeyName, kind_number}
 use Rattle.sem_key.specs.PlaceName.{PlaceName}
 use Rattle.sem_msg.specs.declared.call.Call.{Call}
-use Rattle.sem_msg.specs.declared.call.Call.TheVariants.{Derive, Gate, Obtain, Delegate, OpenSession, AskOffer, Revoke, Bind, Read, Write, Send as SendCall, Credit, Exit, Clear}
+use Rattle.sem_msg.specs.declared.call.Call.TheVariants.{Derive, Gate, Obtain, Delegate, OpenSession, AskOffer, Revoke, Bind, Read, Write, Send as SendCall}
+use Rattle.sem_msg.specs.declared.call.Call.TheVariants.{Credit, Exit, Clear}
 use Rattle.sem_msg.specs.Calls.{IsValidCall}
 use Rattle.sem_msg.specs.declared.message.Target.{Target}
 use Rattle.sem_msg.specs.declared.message.Target.TheVariants.{Sel as SelTarget, Serv as ServTarget, Offer as OfferTarget}
 use Rattle.sem_msg.specs.declared.message.Message.{Message}
-use Rattle.sem_msg.specs.declared.message.Message.TheVariants.{ObtainReq, ObtainOk, ObtainNo, DelegateReq, DelegatePrepared, DelegateNo, Ack, Orphan, RevokeReq, RevokeDone, Unlink}
+use Rattle.sem_msg.specs.declared.message.Message.TheVariants.{ObtainReq, ObtainOk, ObtainNo, DelegateReq, DelegatePrepared, DelegateNo, Ack, Orphan, RevokeReq}
+use Rattle.sem_msg.specs.declared.message.Message.TheVariants.{RevokeDone, Unlink}
 use Rattle.sem_msg.specs.declared.event.Act.{Act}
 use Rattle.sem_msg.specs.declared.event.Act.TheVariants.{Call as Calls, Fetch, Handle, Upcall, Resume, Flush, Kill}
 use Rattle.sem_msg.specs.declared.entry.Consent.TheVariants.{Yes, No, Dropped}
@@ -69,8 +72,10 @@ with_number : (word : List ℕ) (n : ℕ) → is_plain_word word ≡ true → n 
 with_number word n plain fits =
     let digits : list_all is_plain (decimal n) ≡ true = and-right (is_word (decimal n)) _ (number_plain n fits) in
     let bytes : list_all is_plain word ≡ true = and-right (is_word word) _ plain in
-    let all : list_all is_plain (word ++ 46 ∷ decimal n) ≡ true = list_all-append is_plain word (46 ∷ decimal n) ∙ both (list_all is_plain word) (list_all is_plain (46 ∷ decimal n)) bytes digits in
-    both (is_word (word ++ 46 ∷ decimal n)) (list_all is_plain (word ++ 46 ∷ decimal n)) (longer_word word (46 ∷ decimal n) (and-left (is_word word) _ plain)) all
+    let all : list_all is_plain (word ++ 46 ∷ decimal n) ≡ true = list_all-append is_plain word (46 ∷ decimal n)
+    ∙ both (list_all is_plain word) (list_all is_plain (46 ∷ decimal n)) bytes digits in
+    both (is_word (word ++ 46 ∷ decimal n)) (list_all is_plain (word ++ 46 ∷ decimal n)) (longer_word word (46 ∷ decimal n) (and-left (is_word word) _ plain))
+    all
 
 key_plain : (version : ℕ) (k : KeyName) → IsKeyInText version k → is_plain_word (key_word k) ≡ true
 key_plain version k valid =
@@ -91,23 +96,35 @@ place : {words : List (List ℕ)} (version : ℕ) (p : PlaceName) → IsPlaceInT
 place version p valid rest = name (place_plain version p valid) rest
 
 pub object_plain : {rest : List (List ℕ)} (version : ℕ) (o : Object) → ObjectFits version o → ArePlain rest → ArePlain (object_words o ++ rest)
-object_plain version (Mem base len rights) fits behind = name refl (number base (omega (arith, fits.0)) (number len (omega (arith, fits.1)) (number rights (omega (arith, fits.2)) behind)))
+object_plain version (Mem base len rights) fits behind =
+    name refl (number base (omega (arith, fits.0)) (number len (omega (arith, fits.1)) (number rights (omega (arith, fits.2)) behind)))
 object_plain version (Recv slots) fits behind = name refl (number slots (omega (arith, fits.1)) behind)
-object_plain version (Send gate label credits) fits behind = name refl (key version gate fits.0 (number label (omega (arith, fits.1)) (number credits (omega (arith, fits.3)) behind)))
+object_plain version (Send gate label credits) fits behind =
+    name refl (key version gate fits.0 (number label (omega (arith, fits.1)) (number credits (omega (arith, fits.3)) behind)))
 object_plain version (Serv name') fits behind = name refl (number name' (omega (arith, fits)) behind)
 object_plain version (Sess service ident) fits behind = name refl (key version service fits.0 (node version ident fits.1 behind))
 
 call_plain : {rest : List (List ℕ)} (version : ℕ) (c : Call) → IsValidCall (most_vpes version) c → ArePlain rest → ArePlain (call_words c ++ rest)
-call_plain version (Derive src dst off len rights) valid behind = name refl (number src (omega (arith, valid.0)) (number dst (omega (arith, valid.1)) (number off (omega (arith, valid.2)) (number len (omega (arith, valid.3)) (number rights (omega (arith, valid.4)) behind)))))
-call_plain version (Gate src dst label credits) valid behind = name refl (number src (omega (arith, valid.0)) (number dst (omega (arith, valid.1)) (number label (omega (arith, valid.2)) (number credits (omega (arith, valid.4)) behind))))
-call_plain version (Obtain dst vpe src) valid behind = name refl (number dst (omega (arith, valid.0)) (node version vpe valid.1 (number src (omega (arith, valid.2)) behind)))
-call_plain version (Delegate src vpe dst) valid behind = name refl (number src (omega (arith, valid.0)) (node version vpe valid.1 (number dst (omega (arith, valid.2)) behind)))
+call_plain version (Derive src dst off len rights) valid behind =
+    name refl (number src (omega (arith, valid.0))
+    (number dst (omega (arith, valid.1))
+    (number off (omega (arith, valid.2)) (number len (omega (arith, valid.3)) (number rights (omega (arith, valid.4)) behind)))))
+call_plain version (Gate src dst label credits) valid behind =
+    name refl (number src (omega (arith, valid.0))
+    (number dst (omega (arith, valid.1)) (number label (omega (arith, valid.2)) (number credits (omega (arith, valid.4)) behind))))
+call_plain version (Obtain dst vpe src) valid behind =
+    name refl (number dst (omega (arith, valid.0)) (node version vpe valid.1 (number src (omega (arith, valid.2)) behind)))
+call_plain version (Delegate src vpe dst) valid behind =
+    name refl (number src (omega (arith, valid.0)) (node version vpe valid.1 (number dst (omega (arith, valid.2)) behind)))
 call_plain version (OpenSession dst service) valid behind = name refl (number dst (omega (arith, valid.0)) (number service (omega (arith, valid.1)) behind))
-call_plain version (AskOffer dst session index) valid behind = name refl (number dst (omega (arith, valid.0)) (number session (omega (arith, valid.1)) (number index (omega (arith, valid.2)) behind)))
+call_plain version (AskOffer dst session index) valid behind =
+    name refl (number dst (omega (arith, valid.0)) (number session (omega (arith, valid.1)) (number index (omega (arith, valid.2)) behind)))
 call_plain version (Revoke src) valid behind = name refl (number src (omega (arith, valid)) behind)
 call_plain version (Bind ep src) valid behind = name refl (number ep (omega (arith, valid.0)) (number src (omega (arith, valid.1)) behind))
-call_plain version (Read ep off len) valid behind = name refl (number ep (omega (arith, valid.0)) (number off (omega (arith, valid.1)) (number len (omega (arith, valid.2)) behind)))
-call_plain version (Write ep off len) valid behind = name refl (number ep (omega (arith, valid.0)) (number off (omega (arith, valid.1)) (number len (omega (arith, valid.2)) behind)))
+call_plain version (Read ep off len) valid behind =
+    name refl (number ep (omega (arith, valid.0)) (number off (omega (arith, valid.1)) (number len (omega (arith, valid.2)) behind)))
+call_plain version (Write ep off len) valid behind =
+    name refl (number ep (omega (arith, valid.0)) (number off (omega (arith, valid.1)) (number len (omega (arith, valid.2)) behind)))
 call_plain version (SendCall ep len) valid behind = name refl (number ep (omega (arith, valid.0)) (number len (omega (arith, valid.1)) behind))
 call_plain version (Credit ep) valid behind = name refl (number ep (omega (arith, valid)) behind)
 call_plain version Exit valid behind = name refl behind
@@ -120,7 +137,8 @@ target_plain version (OfferTarget service index) fits behind = name refl (key ve
 
 message_plain : {rest : List (List ℕ)} (version : ℕ) (m : Message) → MessageFits version m → ArePlain rest → ArePlain (message_words m ++ rest)
 message_plain version (ObtainReq at target) fits behind = name refl (place version at fits.0 (target_plain version target fits.1 behind))
-message_plain version (ObtainOk parent child object) fits behind = name refl (key version parent fits.0 (key version child fits.1 (object_plain version object fits.2 behind)))
+message_plain version (ObtainOk parent child object) fits behind =
+    name refl (key version parent fits.0 (key version child fits.1 (object_plain version object fits.2 behind)))
 message_plain version (ObtainNo at code) fits behind = name refl (place version at fits.0 (number code (omega (arith, fits.1)) behind))
 message_plain version (DelegatePrepared parent child) fits behind = name refl (key version parent fits.0 (key version child fits.1 behind))
 message_plain version (DelegateNo parent code) fits behind = name refl (key version parent fits.0 (number code (omega (arith, fits.1)) behind))
@@ -132,17 +150,23 @@ message_plain version (RevokeDone job) fits behind = name refl (number job (omeg
 message_plain version (Unlink parent child) fits behind = name refl (key version parent fits.0 (key version child fits.1 behind))
 message_plain {rest} version (DelegateReq parent object vpe sel) fits behind =
     let more : ArePlain (decimal vpe ∷ decimal sel ∷ rest) = node version vpe fits.2 (number sel (omega (arith, fits.3)) behind) in
-    rw (append_assoc (object_words object) (decimal vpe ∷ decimal sel ∷ []) rest) (name refl (key version parent fits.0 (object_plain version object fits.1 more)))
+    rw (append_assoc (object_words object) (decimal vpe ∷ decimal sel ∷ []) rest)
+    (name refl (key version parent fits.0 (object_plain version object fits.1 more)))
 
-event_plain : {rest : List (List ℕ)} (version kernels : ℕ) (act : Act) (detail : Detail) → kernels ≤ KERNELS → EventFits version kernels act detail → ArePlain rest → ArePlain (act_words act ++ detail_words detail ++ rest)
-event_plain version kernels (Calls v) (Called index call) few fits behind = name refl (node version v fits.0 (number index (omega (arith, fits.1)) (call_plain version call fits.2 behind)))
-event_plain version kernels (Fetch from) (Carried peer message) few fits behind = name refl (number peer (omega (arith, fits.1)) (message_plain version message fits.2 behind))
-event_plain version kernels Handle (Carried peer message) few fits behind = name refl (number peer (omega (arith, fits.0)) (message_plain version message fits.1 behind))
+event_plain : {rest : List (List ℕ)} (version kernels : ℕ) (act : Act) (detail : Detail) → kernels ≤ KERNELS → EventFits version kernels act detail →
+    ArePlain rest → ArePlain (act_words act ++ detail_words detail ++ rest)
+event_plain version kernels (Calls v) (Called index call) few fits behind =
+    name refl (node version v fits.0 (number index (omega (arith, fits.1)) (call_plain version call fits.2 behind)))
+event_plain version kernels (Fetch from) (Carried peer message) few fits behind =
+    name refl (number peer (omega (arith, fits.1)) (message_plain version message fits.2 behind))
+event_plain version kernels Handle (Carried peer message) few fits behind =
+    name refl (number peer (omega (arith, fits.0)) (message_plain version message fits.1 behind))
 event_plain version kernels (Upcall v) (Asked asker Yes) few fits behind = name refl (node version v fits.0 (node version asker fits.1 (name refl behind)))
 event_plain version kernels (Upcall v) (Asked asker No) few fits behind = name refl (node version v fits.0 (node version asker fits.1 (name refl behind)))
 event_plain version kernels (Upcall v) (Asked asker Dropped) few fits behind = name refl (node version v fits.0 (node version asker fits.1 (name refl behind)))
 event_plain version kernels (Resume v) Nothing few fits behind = name refl (node version v fits behind)
-event_plain version kernels (Flush to) (Carried peer message) few fits behind = name refl (number peer (omega (arith, fits.1)) (message_plain version message fits.2 behind))
+event_plain version kernels (Flush to) (Carried peer message) few fits behind =
+    name refl (number peer (omega (arith, fits.1)) (message_plain version message fits.2 behind))
 event_plain version kernels (Kill v) Nothing few fits behind = name refl (node version v fits behind)
 event_plain version kernels (Calls v) (Carried peer message) few fits behind = absurd fits
 event_plain version kernels (Calls v) (Asked asker answer) few fits behind = absurd fits
@@ -175,11 +199,15 @@ cut_plain version None fits behind = behind
 cut_plain version (Some k) fits behind = name refl (key version k fits behind)
 
 -- what stands behind an event
-shown_plain : (version : ℕ) (grant : Option (KeyName × KeyName)) (cut : Option KeyName) (r : Option Reply) → GrantFits version grant → CutFits version cut → ReplyFits version r → ArePlain (grant_words grant ++ cut_words cut ++ reply_words r)
+shown_plain : (version : ℕ) (grant : Option (KeyName × KeyName)) (cut : Option KeyName) (r : Option Reply) → GrantFits version grant → CutFits version cut →
+    ReplyFits version r → ArePlain (grant_words grant ++ cut_words cut ++ reply_words r)
 shown_plain version None cut r grant_fits cut_fits fits = cut_plain version cut cut_fits (reply_plain version r fits)
-shown_plain version (Some g) cut r grant_fits cut_fits fits = name refl (key version g.0 grant_fits.0 (key version g.1 grant_fits.1 (cut_plain version cut cut_fits (reply_plain version r fits))))
+shown_plain version (Some g) cut r grant_fits cut_fits fits =
+    name refl (key version g.0 grant_fits.0 (key version g.1 grant_fits.1 (cut_plain version cut cut_fits (reply_plain version r fits))))
 
 pub printed_words : (version kernels : ℕ) (e : Entry) → kernels ≤ KERNELS → EntryFits version kernels e → are_plain (entry_words e) ≡ true
 printed_words version kernels e few fits =
-    let shown : ArePlain (grant_words e.grant ++ cut_words e.cut ++ reply_words e.reply) = shown_plain version e.grant e.cut e.reply fits.grant fits.cut fits.reply in
-    ap are_plain (words_are e) ∙ (number e.event.kernel (omega (arith, fits.kernel)) (event_plain version kernels e.event.act e.detail few fits.event shown)).plain
+    let shown : ArePlain (grant_words e.grant ++ cut_words e.cut ++ reply_words e.reply) =
+    shown_plain version e.grant e.cut e.reply fits.grant fits.cut fits.reply in
+    ap are_plain (words_are e)
+    ∙ (number e.event.kernel (omega (arith, fits.kernel)) (event_plain version kernels e.event.act e.detail few fits.event shown)).plain

@@ -13,12 +13,14 @@ pub differs : (word name : List ℕ) → Decides false (word ≡ name) → bytes
 differs word name decides = false_from_ne_true _ (λ same. true≢false (sym (decides.1 ((bytes_eq-Decides word name).0 same))))
 
 -- places that are filled one after another
-pub filled_both : (places behind same : List Place) (old mid new : List (List ℕ)) → same ≡ behind → Fills places old mid → Fills behind mid new → Fills (places ++ same) old new
+pub filled_both : (places behind same : List Place) (old mid new : List (List ℕ)) → same ≡ behind → Fills places old mid → Fills behind mid new →
+    Fills (places ++ same) old new
 filled_both places behind same old mid new is first second more =
     rw (is, append_assoc places behind more) (first (behind ++ more) ∙ second more)
 
 -- the first that is not filled, behind others or before others
-pub failed_behind : (places behind same : List Place) (old mid : List (List ℕ)) (cause : Cause) → same ≡ behind → Fills places old mid → Fails behind mid cause → Fails (places ++ same) old cause
+pub failed_behind : (places behind same : List Place) (old mid : List (List ℕ)) (cause : Cause) → same ≡ behind → Fills places old mid →
+    Fails behind mid cause → Fails (places ++ same) old cause
 failed_behind places behind same old mid cause is first second more =
     rw (is, append_assoc places behind more) (first (behind ++ more) ∙ second more)
 

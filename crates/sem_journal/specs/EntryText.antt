@@ -1,10 +1,13 @@
 -- How an entry is written, as words ("The report" in docs/texts.md).
 use Rattle.std.specs.Prelude.{ℕ, Bool, true, false, List, [], ◌∷◌, ◌++◌, codes, decimal, Option, Some, None}
-use Rattle.sem_key.specs.KeyName.{KeyName}
+use Rattle.sem_msg.specs.Prelude.{KeyName}
 use Rattle.sem_msg.specs.declared.message.Target.{Target}
-use Rattle.sem_msg.specs.declared.message.Target.TheVariants.{Sel as SelTarget, Serv as ServTarget, Offer as OfferTarget}
+use Rattle.sem_msg.specs.declared.message.Target.TheVariants.{Sel as SelTarget, Serv as ServTarget}
+use Rattle.sem_msg.specs.declared.message.Target.TheVariants.{Offer as OfferTarget}
 use Rattle.sem_msg.specs.declared.message.Message.{Message}
-use Rattle.sem_msg.specs.declared.message.Message.TheVariants.{ObtainReq, ObtainOk, ObtainNo, DelegateReq, DelegatePrepared, DelegateNo, Ack, Orphan, RevokeReq, RevokeDone, Unlink}
+use Rattle.sem_msg.specs.declared.message.Message.TheVariants.{ObtainReq, ObtainOk, ObtainNo, DelegateReq}
+use Rattle.sem_msg.specs.declared.message.Message.TheVariants.{DelegatePrepared, DelegateNo, Ack, Orphan, RevokeReq}
+use Rattle.sem_msg.specs.declared.message.Message.TheVariants.{RevokeDone, Unlink}
 use Rattle.sem_msg.specs.declared.event.Act.{Act}
 use Rattle.sem_msg.specs.declared.event.Act.TheVariants.{Call as Calls, Fetch, Handle, Upcall, Resume, Flush, Kill}
 use Rattle.sem_msg.specs.declared.entry.Consent.{Consent}
@@ -29,7 +32,8 @@ abbrev pub message_words : Message → List (List ℕ)
 message_words (ObtainReq place target) = codes "obtain-req" ∷ place_word place ∷ target_words target
 message_words (ObtainOk parent key object) = codes "obtain-ok" ∷ key_word parent ∷ key_word key ∷ object_words object
 message_words (ObtainNo place code) = codes "obtain-no" ∷ place_word place ∷ decimal code ∷ []
-message_words (DelegateReq parent object vpe sel) = codes "delegate-req" ∷ key_word parent ∷ object_words object ++ decimal vpe ∷ decimal sel ∷ []
+message_words (DelegateReq parent object vpe sel) = codes "delegate-req" ∷ key_word parent ∷ object_words object
+    ++ decimal vpe ∷ decimal sel ∷ []
 message_words (DelegatePrepared parent key) = codes "delegate-prepared" ∷ key_word parent ∷ key_word key ∷ []
 message_words (DelegateNo parent code) = codes "delegate-no" ∷ key_word parent ∷ decimal code ∷ []
 message_words (Ack key accepted) = codes "ack" ∷ key_word key ∷ yes_or_no accepted ∷ []
@@ -38,7 +42,7 @@ message_words (RevokeReq key job) = codes "revoke-req" ∷ key_word key ∷ deci
 message_words (RevokeDone job) = codes "revoke-done" ∷ decimal job ∷ []
 message_words (Unlink parent key) = codes "unlink" ∷ key_word parent ∷ key_word key ∷ []
 
--- an act; the kernel of a fetch or a flush is told with the message
+-- an act; the message tells the kernel of a fetch or a flush
 abbrev pub act_words : Act → List (List ℕ)
 act_words (Calls v) = codes "call" ∷ decimal v ∷ []
 act_words (Fetch from) = codes "fetch" ∷ []
@@ -72,8 +76,8 @@ reply_words None = []
 reply_words (Some r) = codes "reply" ∷ decimal r.vpe ∷ decimal r.code ∷ []
 
 abbrev pub entry_words : Entry → List (List ℕ)
-entry_words e = decimal e.event.kernel ∷ act_words e.event.act ++ detail_words e.detail ++ grant_words e.grant ++ cut_words e.cut ++ reply_words e.reply
+entry_words e = decimal e.event.kernel ∷ act_words e.event.act ++ detail_words e.detail ++ grant_words e.grant
+    ++ cut_words e.cut ++ reply_words e.reply
 
--- the line of an entry
 abbrev pub entry_line : Entry → List ℕ
 entry_line e = line (entry_words e)

@@ -1,8 +1,8 @@
 -- What the readers of the parts of an entry promise.
-use Rattle.std.specs.Prelude.{◌≡◌, ℕ, ◌<◌, Bool, List, [], ◌∷◌, ◌++◌, drop, codes, decimal, Option, Some, Result, IfOk}
+use Rattle.std.specs.Prelude.{◌≡◌, ℕ, ◌<◌, Bool, List, [], ◌∷◌, ◌++◌, drop, codes, decimal, Option, Some, Result}
+use Rattle.std.specs.Prelude.{IfOk}
 use Rattle.std.specs.Result.{result_err}
-use Rattle.sem_key.specs.KeyName.{KeyName}
-use Rattle.sem_key.specs.declared.object.Object.{Object}
+use Rattle.sem_msg.specs.Prelude.{KeyName, Object}
 use Rattle.sem_msg.specs.declared.message.Target.{Target}
 use Rattle.sem_msg.specs.declared.message.Message.{Message}
 use Rattle.sem_msg.specs.declared.event.Act.{Act}
@@ -16,17 +16,21 @@ use Rattle.sem_trace.specs.Places.{Reads}
 use Rattle.sem_trace.specs.Ranges.{IsNode}
 use Rattle.sem_trace.specs.Words.{key_word, object_words}
 use Rattle.sem_journal.specs.declared.shown.Shown.{Shown}
-use Rattle.sem_journal.specs.EntryText.{target_words, yes_or_no, message_words, consent_word, act_words, detail_words, cut_words, reply_words}
-use Rattle.sem_journal.specs.EntryForms.{kernel, code, objects, targets, message_form, event_form, behind_cut, behind_grant, behind_event}
-use Rattle.sem_journal.specs.EntryRanges.{ObjectFits, TargetFits, MessageFits, EventFits, GrantFits, CutFits, ReplyFits}
+use Rattle.sem_journal.specs.EntryText.{target_words, yes_or_no, message_words, consent_word, act_words, detail_words}
+use Rattle.sem_journal.specs.EntryText.{cut_words, reply_words}
+use Rattle.sem_journal.specs.EntryForms.{kernel, code, objects, targets, message_form, event_form, behind_cut}
+use Rattle.sem_journal.specs.EntryForms.{behind_grant, behind_event}
+use Rattle.sem_journal.specs.EntryRanges.{ObjectFits, TargetFits, MessageFits, EventFits, GrantFits, CutFits}
+use Rattle.sem_journal.specs.EntryRanges.{ReplyFits}
 use Rattle.sem_journal.specs.ShownWords.{shown_words, ShownFits}
 
 -- the next words fill the places: what they spell is read, and it is in its ranges
-pub record ReadsPart {X : Type 0} (places : List Place) (spelling : X → List (List ℕ)) (Fits : X → Type 0) (old new : List (List ℕ)) (result : Result X Cause) : Type 0 where
+pub record ReadsPart {X : Type 0} (places : List Place) (spelling : X → List (List ℕ)) (Fits : X →
+    Type 0) (old new : List (List ℕ)) (result : Result X Cause) : Type 0 where
   pub reads : Reads places spelling old new result
   pub fits : IfOk result Fits
 
--- an object, from its name on; so below
+-- an object, from its name on; the same below
 abbrev pub ReadsObject : ℕ → (old new : List (List ℕ)) → Result Object Cause → Type 0
 ReadsObject version old = ReadsPart (choice (objects version) (word_at old 0)) object_words (ObjectFits version) old
 
@@ -37,7 +41,8 @@ abbrev pub ReadsMessage : ℕ → (old new : List (List ℕ)) → Result Message
 ReadsMessage version old = ReadsPart (message_form version old) message_words (MessageFits version) old
 
 abbrev pub ReadsEvent : (version kernels : ℕ) → (old new : List (List ℕ)) → Result (Act × Detail) Cause → Type 0
-ReadsEvent version kernels old = ReadsPart (event_form version kernels old) (λ p. act_words p.0 ++ detail_words p.1) (λ p. EventFits version kernels p.0 p.1) old
+ReadsEvent version kernels old = ReadsPart (event_form version kernels old) (λ p. act_words p.0 ++ detail_words p.1)
+    (λ p. EventFits version kernels p.0 p.1) old
 
 -- a VPE
 abbrev pub ReadsVpe : ℕ → (old new : List (List ℕ)) → Result ℕ Cause → Type 0
@@ -45,7 +50,8 @@ ReadsVpe version = ReadsPart (node version ∷ []) (λ v. decimal v ∷ []) (IsN
 
 -- two keys
 abbrev pub ReadsKeys : ℕ → (old new : List (List ℕ)) → Result (KeyName × KeyName) Cause → Type 0
-ReadsKeys version = ReadsPart (key version ∷ key version ∷ []) (λ p. key_word p.0 ∷ key_word p.1 ∷ []) (λ p. GrantFits version (Some p))
+ReadsKeys version = ReadsPart (key version ∷ key version ∷ []) (λ p. key_word p.0 ∷ key_word p.1 ∷ [])
+    (λ p. GrantFits version (Some p))
 
 -- yes or no
 abbrev pub ReadsYesOrNo : (old new : List (List ℕ)) → Result Bool Cause → Type 0
@@ -55,33 +61,40 @@ ReadsYesOrNo = Reads (Word (codes "yes" ∷ codes "no" ∷ []) ∷ []) (λ yes. 
 abbrev pub ReadsConsent : (old new : List (List ℕ)) → Result Consent Cause → Type 0
 ReadsConsent = Reads (Word (codes "yes" ∷ codes "no" ∷ codes "drop" ∷ []) ∷ []) (λ answer. consent_word answer ∷ [])
 
--- one of so many kernels
+-- one of that many kernels
 abbrev pub ReadsKernel : ℕ → (old new : List (List ℕ)) → Result ℕ Cause → Type 0
 ReadsKernel kernels = ReadsPart (kernel kernels ∷ []) (λ k. decimal k ∷ []) (λ k. k < kernels)
 
 -- the other kernel and the message
 abbrev pub ReadsCarried : (version kernels : ℕ) → (old new : List (List ℕ)) → Result (ℕ × Message) Cause → Type 0
-ReadsCarried version kernels old = ReadsPart (kernel kernels ∷ message_form version (drop 1 old)) (λ p. decimal p.0 ∷ message_words p.1) (λ p. (p.0 < kernels) × MessageFits version p.1) old
+ReadsCarried version kernels old =
+    ReadsPart (kernel kernels ∷ message_form version (drop 1 old)) (λ p. decimal p.0 ∷ message_words p.1)
+    (λ p. (p.0 < kernels) × MessageFits version p.1) old
 
 -- the last words fill the places: what they spell is read, and it is in its ranges
-pub record ReadsLast {X : Type 0} (places : List Place) (spelling : X → List (List ℕ)) (Fits : X → Type 0) (words : List (List ℕ)) (result : Result X Cause) : Type 0 where
+pub record ReadsLast {X : Type 0} (places : List Place) (spelling : X → List (List ℕ)) (Fits : X →
+    Type 0) (words : List (List ℕ)) (result : Result X Cause) : Type 0 where
   pub fault : form_fault places words ≡ result_err result
   pub spelled : IfOk result (λ x. words ≡ spelling x)
   pub fits : IfOk result Fits
 
--- what stands behind the names of a reply and of a cut
+-- what follows the names of a reply and of a cut
 abbrev pub ReadsReply : ℕ → List (List ℕ) → Result Reply Cause → Type 0
-ReadsReply version = ReadsLast (node version ∷ code ∷ []) (λ r. decimal r.vpe ∷ decimal r.code ∷ []) (λ r. ReplyFits version (Some r))
+ReadsReply version = ReadsLast (node version ∷ code ∷ []) (λ r. decimal r.vpe ∷ decimal r.code ∷ [])
+    (λ r. ReplyFits version (Some r))
 
 abbrev pub ReadsCut : ℕ → List (List ℕ) → Result (KeyName × Option Reply) Cause → Type 0
-ReadsCut version words = ReadsLast (key version ∷ behind_cut version (drop 1 words)) (λ p. key_word p.0 ∷ reply_words p.1) (λ p. CutFits version (Some p.0) × ReplyFits version p.1) words
+ReadsCut version words =
+    ReadsLast (key version ∷ behind_cut version (drop 1 words)) (λ p. key_word p.0 ∷ reply_words p.1)
+    (λ p. CutFits version (Some p.0) × ReplyFits version p.1) words
 
--- what stands behind a cut, behind a grant and behind an event
+-- what follows a cut, a grant and an event
 abbrev pub ReadsBehindCut : ℕ → List (List ℕ) → Result (Option Reply) Cause → Type 0
 ReadsBehindCut version words = ReadsLast (behind_cut version words) reply_words (ReplyFits version) words
 
 abbrev pub ReadsBehindGrant : ℕ → List (List ℕ) → Result (Option KeyName × Option Reply) Cause → Type 0
-ReadsBehindGrant version words = ReadsLast (behind_grant version words) (λ p. cut_words p.0 ++ reply_words p.1) (λ p. CutFits version p.0 × ReplyFits version p.1) words
+ReadsBehindGrant version words = ReadsLast (behind_grant version words) (λ p. cut_words p.0 ++ reply_words p.1)
+    (λ p. CutFits version p.0 × ReplyFits version p.1) words
 
 abbrev pub ReadsShown : ℕ → List (List ℕ) → Result Shown Cause → Type 0
 ReadsShown version words = ReadsLast (behind_event version words) shown_words (ShownFits version) words

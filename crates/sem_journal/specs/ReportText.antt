@@ -1,8 +1,7 @@
 -- The text of a report ("The report" in docs/texts.md): the trace, the journal and the audit.
 use Rattle.std.specs.Prelude.{ℕ, List, [], ◌∷◌, ◌++◌, length, map, codes, decimal}
-use Rattle.sem_key.specs.KeyName.{KeyName}
+use Rattle.sem_msg.specs.Prelude.{KeyName, Setup}
 use Rattle.sem_msg.specs.declared.entry.Entry.{Entry}
-use Rattle.sem_msg.specs.Setup.{Setup}
 use Rattle.sem_text.specs.Lines.{text}
 use Rattle.sem_trace.specs.Words.{key_word}
 use Rattle.sem_trace.specs.TraceText.{trace_lines}
@@ -11,7 +10,8 @@ use Rattle.sem_journal.specs.EntryText.{entry_words}
 abbrev pub held_line : KeyName × ℕ → List (List ℕ)
 held_line h = codes "key" ∷ key_word h.0 ∷ decimal h.1 ∷ []
 
--- the lines of the audit: how many keys were made and cut, and what is held at which selector
+-- the lines of the audit: how many keys were made and cut, and which keys are held at which
+-- selectors
 abbrev pub audit_lines : ℕ → ℕ → List (KeyName × ℕ) → List (List (List ℕ))
 audit_lines made cut held =
     (codes "audit" ∷ [])

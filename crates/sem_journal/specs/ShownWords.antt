@@ -1,7 +1,6 @@
--- What the reader of entries keeps of a line, and how it is written.
+-- What the reader of entries keeps of a line, and how that is written.
 use Rattle.std.specs.Prelude.{ℕ, ◌+◌, nat_lt, Bool, false, List, ◌++◌}
-use Rattle.sem_key.specs.declared.object.Object.{Object}
-use Rattle.sem_key.specs.declared.object.Object.TheVariants.{Mem}
+use Rattle.sem_msg.specs.Prelude.{Object, Mem}
 use Rattle.sem_msg.specs.declared.message.Message.TheVariants.{ObtainOk, DelegateReq}
 use Rattle.sem_msg.specs.declared.entry.Detail.{Detail}
 use Rattle.sem_msg.specs.declared.entry.Detail.TheVariants.{Carried}

@@ -1,9 +1,11 @@
-// What is said of an entry, as words. After want of memory each of these functions but
-// `print_entry` may have appended a part.
+// An entry as words. If memory is refused, each of these functions but `print_entry` may have
+// appended a part.
 ghost use Rattle.std.specs.Prelude.{◌≡◌, [], ◌∷◌, ◌++◌, decimal, OnOk, OnErr};
 ghost use Rattle.sem_text.specs.Lines.{behind_blanks, line};
 ghost use Rattle.sem_trace.specs.Words.{key_word, object_words};
-ghost use Rattle.sem_journal.specs.EntryText.{target_words, yes_or_no, message_words, act_words, consent_word, detail_words, grant_words, cut_words, reply_words, entry_words, entry_line};
+ghost use Rattle.sem_journal.specs.EntryText.{target_words, yes_or_no, message_words, act_words};
+ghost use Rattle.sem_journal.specs.EntryText.{consent_word, detail_words, grant_words, cut_words};
+ghost use Rattle.sem_journal.specs.EntryText.{reply_words, entry_words, entry_line};
 ghost use Rattle.sem_journal.specs.SpacedWords.{spaced};
 
 use sem_key::{Key, Object, OutOfMemory};
@@ -15,7 +17,7 @@ use sem_trace::{
 };
 use std::alloc::Global;
 
-// Appends the name and two keys, each behind a blank.
+// Appends the name and two keys, each after a blank.
 fn push_keys(out: &mut Vec<u8>, name: &[u8], parent: &Key, key: &Key) -> Result<(), OutOfMemory>
     ensures ok { OnOk result (out.new.items ≡ out.old.items
         ++ behind_blanks (name.now ∷ key_word parent.now ∷ key_word key.now ∷ [])) }
@@ -25,7 +27,7 @@ fn push_keys(out: &mut Vec<u8>, name: &[u8], parent: &Key, key: &Key) -> Result<
     push_key_word(out, key)
 }
 
-// Appends the name, a key and a number, each behind a blank.
+// Appends the name, a key and a number, each after a blank.
 fn push_numbered_key(
     out: &mut Vec<u8>,
     name: &[u8],
@@ -40,7 +42,8 @@ fn push_numbered_key(
     push_number_word(out, number)
 }
 
-// Appends the name and what is delegated to which selector of which VPE, each word behind a blank.
+// Appends the name, the delegated capability, and the VPE and selector that receive it, each word
+// after a blank.
 fn push_delegation(
     out: &mut Vec<u8>,
     name: &[u8],
@@ -58,7 +61,7 @@ fn push_delegation(
     push_numbers(out, &[u64::from(vpe), u64::from(sel)])
 }
 
-/// Appends the words of the target, each behind a blank.
+/// Appends the words of the target, each after a blank.
 pub fn push_target(out: &mut Vec<u8>, target: &Target) -> Result<(), OutOfMemory>
     ensures ok { OnOk result
         (out.new.items ≡ out.old.items ++ behind_blanks (target_words target.now)) }
@@ -77,7 +80,7 @@ pub fn push_target(out: &mut Vec<u8>, target: &Target) -> Result<(), OutOfMemory
     }
 }
 
-// Appends yes or no behind a blank.
+// Appends a blank and yes or no.
 fn push_yes_or_no(out: &mut Vec<u8>, yes: bool) -> Result<(), OutOfMemory>
     ensures ok { OnOk result (out.new.items ≡ out.old.items ++ 32 ∷ yes_or_no yes) }
 {
@@ -88,7 +91,7 @@ fn push_yes_or_no(out: &mut Vec<u8>, yes: bool) -> Result<(), OutOfMemory>
     }
 }
 
-/// Appends the words of the message, each behind a blank.
+/// Appends the words of the message, each after a blank.
 pub fn push_message(out: &mut Vec<u8>, message: &Message) -> Result<(), OutOfMemory>
     ensures ok { OnOk result
         (out.new.items ≡ out.old.items ++ behind_blanks (message_words message.now)) }
@@ -138,8 +141,8 @@ pub fn push_message(out: &mut Vec<u8>, message: &Message) -> Result<(), OutOfMem
     }
 }
 
-/// Appends the words of the act, each behind a blank. The kernel of a fetch or a flush is not
-/// among them.
+/// Appends the words of the act, each after a blank. The kernel of a fetch or a flush is not among
+/// them.
 pub fn push_act(out: &mut Vec<u8>, act: &Act) -> Result<(), OutOfMemory>
     ensures ok { OnOk result (out.new.items ≡ out.old.items ++ behind_blanks (act_words act.now)) }
 {
@@ -154,7 +157,7 @@ pub fn push_act(out: &mut Vec<u8>, act: &Act) -> Result<(), OutOfMemory>
     }
 }
 
-/// Appends the answer behind a blank.
+/// Appends a blank and the answer.
 pub fn push_consent(out: &mut Vec<u8>, answer: &Consent) -> Result<(), OutOfMemory>
     ensures ok { OnOk result (out.new.items ≡ out.old.items ++ 32 ∷ consent_word answer.now) }
 {
@@ -165,7 +168,7 @@ pub fn push_consent(out: &mut Vec<u8>, answer: &Consent) -> Result<(), OutOfMemo
     }
 }
 
-/// Appends the words that say what an event was about, each behind a blank.
+/// Appends the words that say what an event was about, each after a blank.
 pub fn push_detail(out: &mut Vec<u8>, detail: &Detail) -> Result<(), OutOfMemory>
     ensures ok { OnOk result
         (out.new.items ≡ out.old.items ++ behind_blanks (detail_words detail.now)) }
@@ -187,7 +190,7 @@ pub fn push_detail(out: &mut Vec<u8>, detail: &Detail) -> Result<(), OutOfMemory
     }
 }
 
-/// Appends the words of the grant, each behind a blank; nothing where there is none.
+/// Appends the words of the grant, each after a blank; nothing if there is none.
 pub fn push_grant(out: &mut Vec<u8>, grant: &Option<(Key, Key)>) -> Result<(), OutOfMemory>
     ensures ok { OnOk result
         (out.new.items ≡ out.old.items ++ behind_blanks (grant_words grant.now)) }
@@ -198,7 +201,7 @@ pub fn push_grant(out: &mut Vec<u8>, grant: &Option<(Key, Key)>) -> Result<(), O
     }
 }
 
-/// Appends the words of the cut, each behind a blank; nothing where there is none.
+/// Appends the words of the cut, each after a blank; nothing if there is none.
 pub fn push_cut(out: &mut Vec<u8>, cut: &Option<Key>) -> Result<(), OutOfMemory>
     ensures ok { OnOk result (out.new.items ≡ out.old.items ++ behind_blanks (cut_words cut.now)) }
 {
@@ -211,7 +214,7 @@ pub fn push_cut(out: &mut Vec<u8>, cut: &Option<Key>) -> Result<(), OutOfMemory>
     }
 }
 
-/// Appends the words of the reply, each behind a blank; nothing where there is none.
+/// Appends the words of the reply, each after a blank; nothing if there is none.
 pub fn push_reply(out: &mut Vec<u8>, reply: &Option<Reply>) -> Result<(), OutOfMemory>
     ensures ok { OnOk result
         (out.new.items ≡ out.old.items ++ behind_blanks (reply_words reply.now)) }
@@ -226,7 +229,7 @@ pub fn push_reply(out: &mut Vec<u8>, reply: &Option<Reply>) -> Result<(), OutOfM
     }
 }
 
-/// Appends the words of the entry, parted by blanks.
+/// Appends the words of the entry, separated by blanks.
 pub fn push_entry_words(out: &mut Vec<u8>, entry: &Entry) -> Result<(), OutOfMemory>
     ensures ok { OnOk result (out.new.items ≡ out.old.items ++ spaced (entry_words entry.now)) }
 {
@@ -246,7 +249,7 @@ pub fn push_entry(out: &mut Vec<u8>, entry: &Entry) -> Result<(), OutOfMemory>
     Ok(out.push(b'\n')?)
 }
 
-/// Appends the line of the entry. After want of memory `out` is as before.
+/// Appends the line of the entry. If memory is refused, `out` is as before.
 pub fn print_entry(alloc: Global, entry: &Entry, out: &mut Vec<u8>) -> Result<(), OutOfMemory>
     ensures ok { OnOk result (out.new.items ≡ out.old.items ++ entry_line entry.now) }
     ensures err { OnErr result (out.new.items ≡ out.old.items) }

@@ -1,4 +1,4 @@
-//! The lines of entries, printed and read, and what the text of a report is.
+//! The lines of entries, printed and read, and the definition of a report's text.
 #![tactic(auto)]
 
 mod entry;

@@ -7,9 +7,12 @@ ghost use Rattle.sem_trace.specs.TextLines.{words_of};
 ghost use Rattle.sem_journal.specs.EntryText.{entry_words};
 ghost use Rattle.sem_trace.specs.Places.{number_place};
 ghost use Rattle.sem_journal.specs.EntryForms.{kernel as kernel_lem, entry_fault};
-ghost use Rattle.sem_journal.specs.ShownWords.{is_long as is_long_lem, carries_long as carries_long_lem};
+ghost use Rattle.sem_journal.specs.ShownWords.{is_long as is_long_lem};
+ghost use Rattle.sem_journal.specs.ShownWords.{carries_long as carries_long_lem};
 ghost use Rattle.sem_journal.specs.EntryRanges.{EntryFits};
-ghost use Rattle.sem_journal.specs.Readers.{ReadsKernel, ReadsConsent, ReadsEvent, ReadsCarried, ReadsReply, ReadsCut, ReadsBehindCut, ReadsBehindGrant, ReadsShown};
+ghost use Rattle.sem_journal.specs.Readers.{ReadsKernel, ReadsConsent, ReadsEvent, ReadsCarried};
+ghost use Rattle.sem_journal.specs.Readers.{ReadsReply, ReadsCut, ReadsBehindCut, ReadsBehindGrant};
+ghost use Rattle.sem_journal.specs.Readers.{ReadsShown};
 
 use crate::read_message::{CODE, message, two_keys, vpe};
 use crate::shown::Shown;
@@ -17,14 +20,14 @@ use sem_key::{Key, Object};
 use sem_msg::{Act, Consent, Detail, Entry, Event, Message, Reply};
 use sem_trace::{Cause, Range, WORD, Words, is};
 
-// Nothing came of it.
+// The event granted, cut and replied nothing.
 const NOTHING: Shown = Shown {
     grant: None,
     cut: None,
     reply: None,
 };
 
-// One of so many kernels.
+// One of that many kernels.
 fn kernel_range(kernels: u32) -> Range
     requires { 1 ≤ kernels }
     ensures { number_place result ≡ kernel_lem kernels }
@@ -35,7 +38,7 @@ fn kernel_range(kernels: u32) -> Range
     }
 }
 
-// The next word, which is one of so many kernels.
+// The next word, one of that many kernels.
 fn kernel(words: &mut Words<'_>, kernels: u32) -> Result<u32, Cause>
     requires { 1 ≤ kernels }
     ensures { ReadsKernel kernels words.old words.new result }
@@ -59,7 +62,7 @@ fn call_event(words: &mut Words<'_>, version: u8) -> Result<(Act, Detail), Cause
     Ok((act, detail))
 }
 
-// A message, behind its other kernel.
+// A message, after its other kernel.
 fn carried(words: &mut Words<'_>, version: u8, kernels: u32) -> Result<(u32, Message), Cause>
     requires { 1 ≤ kernels }
     ensures { ReadsCarried version kernels words.old words.new result }
@@ -135,7 +138,7 @@ fn kill_event(words: &mut Words<'_>, version: u8) -> Result<(Act, Detail), Cause
     Ok((Act::Kill { vpe }, Detail::Nothing))
 }
 
-// The next words, which are an event.
+// The next words, an event.
 fn event(words: &mut Words<'_>, version: u8, kernels: u32) -> Result<(Act, Detail), Cause>
     requires { 1 ≤ kernels }
     ensures { ReadsEvent version kernels words.old words.new result }
@@ -160,7 +163,7 @@ fn event(words: &mut Words<'_>, version: u8, kernels: u32) -> Result<(Act, Detai
     }
 }
 
-// What stands behind the name of a reply.
+// What follows the name of a reply.
 fn reply(words: &mut Words<'_>, version: u8) -> Result<Reply, Cause>
     ensures { ReadsReply version words.old result }
 {
@@ -173,7 +176,7 @@ fn reply(words: &mut Words<'_>, version: u8) -> Result<Reply, Cause>
     })
 }
 
-// What stands behind a cut.
+// What follows a cut.
 fn behind_cut(words: &mut Words<'_>, version: u8) -> Result<Option<Reply>, Cause>
     ensures { ReadsBehindCut version words.old result }
 {
@@ -188,7 +191,7 @@ fn behind_cut(words: &mut Words<'_>, version: u8) -> Result<Option<Reply>, Cause
     }
 }
 
-// What stands behind the name of a cut.
+// What follows the name of a cut.
 fn cut(words: &mut Words<'_>, version: u8) -> Result<(Key, Option<Reply>), Cause>
     ensures { ReadsCut version words.old result }
 {
@@ -197,7 +200,7 @@ fn cut(words: &mut Words<'_>, version: u8) -> Result<(Key, Option<Reply>), Cause
     Ok((key, reply))
 }
 
-// What stands behind a grant.
+// What follows a grant.
 fn behind_grant(words: &mut Words<'_>, version: u8) -> Result<(Option<Key>, Option<Reply>), Cause>
     ensures { ReadsBehindGrant version words.old result }
 {
@@ -215,7 +218,7 @@ fn behind_grant(words: &mut Words<'_>, version: u8) -> Result<(Option<Key>, Opti
     }
 }
 
-// What stands behind the name of a grant.
+// What follows the name of a grant.
 fn grant(words: &mut Words<'_>, version: u8) -> Result<Shown, Cause>
     ensures { ReadsShown version (codes "grant" ∷ words.old) result }
 {
@@ -228,7 +231,7 @@ fn grant(words: &mut Words<'_>, version: u8) -> Result<Shown, Cause>
     })
 }
 
-// What stands behind an event.
+// What follows an event.
 fn shown(words: &mut Words<'_>, version: u8) -> Result<Shown, Cause>
     ensures { ReadsShown version words.old result }
 {
@@ -255,7 +258,7 @@ fn shown(words: &mut Words<'_>, version: u8) -> Result<Shown, Cause>
     }
 }
 
-// Whether it is memory that ends past 2 ^ 32.
+// Whether the object is memory that ends past 2 ^ 32.
 fn is_long(object: &Object) -> bool
     ensures { result ≡ is_long_lem object.now }
 {
@@ -265,7 +268,7 @@ fn is_long(object: &Object) -> bool
     }
 }
 
-// Whether such memory is carried.
+// Whether the detail carries such memory.
 fn carries_long(detail: &Detail) -> bool
     ensures { result ≡ carries_long_lem detail.now }
 {
@@ -278,8 +281,8 @@ fn carries_long(detail: &Detail) -> bool
     }
 }
 
-/// The entry that the words of a line tell in a report of the version, where there are so many
-/// kernels, at least 1. Takes no memory.
+/// The entry that the words of a line tell, in a report of the version with that many kernels, at
+/// least 1. Takes no memory.
 pub fn read_entry(line: &[u8], version: u8, kernels: u32) -> Result<Entry, Cause>
     requires { 1 ≤ kernels }
     ensures fault { entry_fault version kernels (words_of line.now) ≡ result_err result }

@@ -2,7 +2,8 @@
 #![tactic(auto, unfolding(sem_trace::specs::Forms::form_fault, crate::specs::EntryForms::objects, crate::specs::EntryForms::targets, crate::specs::EntryForms::messages, crate::specs::EntryForms::message_form))]
 
 ghost use Rattle.std.specs.Prelude.{ℕ, ◌∷◌, codes};
-ghost use Rattle.sem_journal.specs.Readers.{ReadsVpe, ReadsKeys, ReadsYesOrNo, ReadsObject, ReadsTarget, ReadsMessage};
+ghost use Rattle.sem_journal.specs.Readers.{ReadsVpe, ReadsKeys, ReadsYesOrNo, ReadsObject};
+ghost use Rattle.sem_journal.specs.Readers.{ReadsTarget, ReadsMessage};
 
 use sem_key::{Key, Object};
 use sem_msg::{Message, Target};
@@ -11,7 +12,7 @@ use sem_trace::{BYTE, Cause, RIGHTS, Range, SLOTS, WORD, Words, is, node};
 /// The code of a reply.
 pub const CODE: Range = Range { least: 0, most: 15 };
 
-// The next word, which is a VPE.
+// The next word, a VPE.
 pub(crate) fn vpe(words: &mut Words<'_>, version: u8) -> Result<u16, Cause>
     ensures { ReadsVpe version words.old words.new result }
 {
@@ -19,7 +20,7 @@ pub(crate) fn vpe(words: &mut Words<'_>, version: u8) -> Result<u16, Cause>
     Ok(vpe as u16)
 }
 
-// The next two words, which are keys.
+// The next two words, both keys.
 pub(crate) fn two_keys(words: &mut Words<'_>, version: u8) -> Result<(Key, Key), Cause>
     ensures { ReadsKeys version words.old words.new result }
 {
@@ -76,7 +77,7 @@ fn session(words: &mut Words<'_>, version: u8) -> Result<Object, Cause>
     Ok(Object::Sess { service, ident })
 }
 
-// The next words, which are an object.
+// The next words, an object.
 fn object(words: &mut Words<'_>, version: u8) -> Result<Object, Cause>
     ensures { ReadsObject version words.old words.new result }
 {
@@ -127,7 +128,7 @@ fn offer_target(words: &mut Words<'_>, version: u8) -> Result<Target, Cause>
     Ok(target)
 }
 
-// The next words, which are a target.
+// The next words, a target.
 fn target(words: &mut Words<'_>, version: u8) -> Result<Target, Cause>
     ensures { ReadsTarget version words.old words.new result }
 {
@@ -211,7 +212,7 @@ fn delegate_no(words: &mut Words<'_>, version: u8) -> Result<Message, Cause>
     Ok(message)
 }
 
-// The next word, which is yes or no.
+// The next word, yes or no.
 fn yes_or_no(words: &mut Words<'_>) -> Result<bool, Cause>
     ensures { ReadsYesOrNo words.old words.new result }
 {
@@ -267,7 +268,7 @@ fn unlink(words: &mut Words<'_>, version: u8) -> Result<Message, Cause>
     Ok(Message::Unlink { parent, key })
 }
 
-/// The next words, which are a message.
+/// The next words, a message.
 pub(crate) fn message(words: &mut Words<'_>, version: u8) -> Result<Message, Cause>
     ensures { ReadsMessage version words.old words.new result }
 {

@@ -1,7 +1,7 @@
 use sem_key::Key;
 use sem_msg::Reply;
 
-/// What came of an event: what was granted, cut and replied.
+/// What an event granted, cut and replied.
 #[derive(Clone, Copy, Debug)]
 pub struct Shown {
     pub grant: Option<(Key, Key)>,

@@ -40,7 +40,8 @@ use Rattle.sem_kernel.specs.Ending.{ends_obtain, ends_delegate}
 use Rattle.sem_kernel.proofs.Meets.{owner-below, next-absent, ready-absent, pending-absent}
 
 -- the row of an upcall, where an ask waits
-pub upcall-is : (T : Setup) (i v : ℕ) (s : Side) (a : Ask) (rows : List VpeRow) (x : Step) → slice_get (row s v).asks 0 ≡ Some a → rows ≡ VpeRows.ask_taken v s.vpes → x ≡ ask_decided T i v a (record s { vpes = rows }) → x ≡ upcall_row T i s v
+pub upcall-is : (T : Setup) (i v : ℕ) (s : Side) (a : Ask) (rows : List VpeRow) (x : Step) → slice_get (row s v).asks 0 ≡ Some a →
+    rows ≡ VpeRows.ask_taken v s.vpes → x ≡ ask_decided T i v a (record s { vpes = rows }) → x ≡ upcall_row T i s v
 unfolding upcall_row
 upcall-is T i v s a rows x front taken is =
     is
@@ -74,20 +75,27 @@ module _ (T : Setup) (valid : IsSetup T) (i : ℕ) (few : i < T.kernels) where
         from (Some sel) some = let there = own-among T valid i few s is v sel c some in (there.0, there.2)
 
     -- what is asked for is the same where the ask is taken
-    source-taken : (v : ℕ) (target : Target) → source T (record no_side { caps = x.caps.caps; vpes = VpeRows.ask_taken v x.vpes.rows }) v target ≡ source T s v target
+    source-taken : (v : ℕ) (target : Target) → source T (record no_side { caps = x.caps.caps; vpes = VpeRows.ask_taken v x.vpes.rows }) v target
+        ≡ source T s v target
     source-taken v (SelTarget w sel) = ap (cap_in s) (taken-slot s v sel)
     source-taken v (ServTarget service) = refl
     source-taken v (OfferTarget service index) = from (offered T service index)
       where
-        from : (o : Option ℕ) → option_and_then (own (record no_side { caps = x.caps.caps; vpes = VpeRows.ask_taken v x.vpes.rows }) v) o ≡ option_and_then (own s v) o
+        from : (o : Option ℕ) → option_and_then (own (record no_side { caps = x.caps.caps; vpes = VpeRows.ask_taken v x.vpes.rows }) v) o
+            ≡ option_and_then (own s v) o
         from None = refl
         from (Some sel) = ap (cap_in s) (taken-slot s v sel)
 
     -- there is room for a child of it
-    pub source-givable : (v : ℕ) (target : Target) (rows : List VpeRow) → rows ≡ VpeRows.ask_taken v x.vpes.rows → x.caps.child_room ≡ held_key x.caps.caps (option_map (λ c. c.key) (source T s v target)) → IfSome (source T (record no_side { caps = x.caps.caps; vpes = rows }) v target) (IsGivable x.caps)
-    source-givable v target rows taken room = subst (λ (r : List VpeRow). IfSome (source T (record no_side { caps = x.caps.caps; vpes = r }) v target) (IsGivable x.caps)) (sym taken) (subst (λ (o : Option Capability). IfSome o (IsGivable x.caps)) (sym (source-taken v target)) (from (source T s v target) refl room))
+    pub source-givable : (v : ℕ) (target : Target) (rows : List VpeRow) → rows ≡ VpeRows.ask_taken v x.vpes.rows →
+        x.caps.child_room ≡ held_key x.caps.caps (option_map (λ c. c.key) (source T s v target)) →
+        IfSome (source T (record no_side { caps = x.caps.caps; vpes = rows }) v target) (IsGivable x.caps)
+    source-givable v target rows taken room =
+        subst (λ (r : List VpeRow). IfSome (source T (record no_side { caps = x.caps.caps; vpes = r }) v target) (IsGivable x.caps)) (sym taken)
+        (subst (λ (o : Option Capability). IfSome o (IsGivable x.caps)) (sym (source-taken v target)) (from (source T s v target) refl room))
       where
-        from : (o : Option Capability) → source T s v target ≡ o → x.caps.child_room ≡ held_key x.caps.caps (option_map (λ c. c.key) o) → IfSome o (IsGivable x.caps)
+        from : (o : Option Capability) → source T s v target ≡ o → x.caps.child_room ≡ held_key x.caps.caps (option_map (λ c. c.key) o) →
+            IfSome o (IsGivable x.caps)
         from None at room = tt
         from (Some c) at room =
             let there = source-among v target c at in
@@ -95,8 +103,11 @@ module _ (T : Setup) (valid : IsSetup T) (i : ℕ) (few : i < T.kernels) where
             record { child_room = room ∙ rw there.1 refl; object = sound.object.0; kind = sound.kind }
 
     -- no capability has the number that the VPE draws next, also where an ask of it is taken
-    pub next-taken : (v : ℕ) → kernel_of T v ≡ i → (rows : List VpeRow) → rows ≡ VpeRows.ask_taken v x.vpes.rows → (kind : Kind) → cap s (record { pe = pe_of T v; vpe = v; kind = kind; number = (VpeRows.row rows v).next_number }) ≡ None
-    next-taken v local rows taken kind = subst (λ (r : List VpeRow). cap s (record { pe = pe_of T v; vpe = v; kind = kind; number = (VpeRows.row r v).next_number }) ≡ None) (sym taken) (next-absent T valid i few (ask_taken v s) (taken-sound T valid i few None None None None s is v local) v kind)
+    pub next-taken : (v : ℕ) → kernel_of T v ≡ i → (rows : List VpeRow) → rows ≡ VpeRows.ask_taken v x.vpes.rows → (kind : Kind) →
+        cap s (record { pe = pe_of T v; vpe = v; kind = kind; number = (VpeRows.row rows v).next_number }) ≡ None
+    next-taken v local rows taken kind =
+        subst (λ (r : List VpeRow). cap s (record { pe = pe_of T v; vpe = v; kind = kind; number = (VpeRows.row r v).next_number }) ≡ None) (sym taken)
+        (next-absent T valid i few (ask_taken v s) (taken-sound T valid i few None None None None s is v local) v kind)
 
     -- a call that ends can end
     pub can-end : (v : ℕ) (p : Option Parked) → parked s v ≡ p → ends_obtain p ≡ true → CanEnd x.caps v p
@@ -109,7 +120,8 @@ module _ (T : Setup) (valid : IsSetup T) (i : ℕ) (few : i < T.kernels) where
     can-end v (Some (RevokeWait j)) at none = absurd cc
     can-end v (Some (Ready code)) at none = absurd cc
 
-    pub can-grant : (v : ℕ) (p : Option Parked) → parked s v ≡ p → ends_delegate p ≡ true → x.caps.child_room ≡ held_key x.caps.caps (resumed_parent p) → CanGrant T x.caps p
+    pub can-grant : (v : ℕ) (p : Option Parked) → parked s v ≡ p → ends_delegate p ≡ true → x.caps.child_room ≡ held_key x.caps.caps (resumed_parent p) →
+        CanGrant T x.caps p
     can-grant v None at none room = absurd cc
     can-grant v (Some (ObtainWait number sel)) at none room = absurd cc
     can-grant v (Some (ObtainReady key parent object sel)) at none room = absurd cc

@@ -12,7 +12,8 @@ use Rattle.sem_kernel.specs.KernelValue.{KernelValue}
 use Rattle.sem_kernel.specs.Worlds.{world_of, IsKernelOf, AreKernelsOf, WorldValue, booted}
 
 -- one more of them
-pub booted-more : (T : Setup) (n : ℕ) (ks : List KernelValue) (k : KernelValue) → ks ≡ map (booted T) (range_with_len 0 n) → k ≡ booted T n → ks ++ k ∷ [] ≡ map (booted T) (range_with_len 0 (n + 1))
+pub booted-more : (T : Setup) (n : ℕ) (ks : List KernelValue) (k : KernelValue) → ks ≡ map (booted T) (range_with_len 0 n) → k ≡ booted T n →
+    ks ++ k ∷ [] ≡ map (booted T) (range_with_len 0 (n + 1))
 booted-more T n ks k before is =
     ap (λ xs. xs ++ k ∷ []) before
     ∙ (ap (λ x. map (booted T) (range_with_len 0 n) ++ x ∷ []) is
@@ -22,7 +23,8 @@ booted-more T n ks k before is =
 pub booted-together : (T : Setup) → IsSetup T → AreKernelsOf T (map (booted T) (range_with_len 0 T.kernels)) (new_fabric T)
 booted-together T valid = record {
   many = length-map-range_with_len (booted T) 0 T.kernels;
-  each = λ i d lt. subst (IsKernelOf T i) (sym (get_or-map-range_with_len (booted T) 0 T.kernels i i d lt (omega arith))) (record { setup = refl; id = refl; sound = start-sound T valid i lt });
+  each = λ i d lt. subst (IsKernelOf T i) (sym (get_or-map-range_with_len (booted T) 0 T.kernels i i d lt (omega arith)))
+      (record { setup = refl; id = refl; sound = start-sound T valid i lt });
   fabric = record { kernels = refl; window = refl; kills = refl };
 }
 
@@ -30,13 +32,17 @@ booted-together T valid = record {
 pub booted-world : (T : Setup) → world_of (map (booted T) (range_with_len 0 T.kernels)) (new_fabric T) ≡ start T
 unfolding start
 booted-world T =
-    let sides : map (λ (k : KernelValue). k.side) (map (booted T) (range_with_len 0 T.kernels)) ≡ map (start_side T) (range_with_len 0 T.kernels) = map-map (λ (k : KernelValue). k.side) (booted T) (range_with_len 0 T.kernels) in
+    let sides : map (λ (k : KernelValue). k.side) (map (booted T) (range_with_len 0 T.kernels)) ≡ map (start_side T) (range_with_len 0 T.kernels) =
+    map-map (λ (k : KernelValue). k.side) (booted T) (range_with_len 0 T.kernels) in
     λ j. record { sides = sides j; links = (new_fabric T).links; replies = 0 }
 
 -- so are kernels that are those, with a copy of the setup
-module _ (T : Setup) (S : Setup) (copied : S ≡ T) (ks : List KernelValue) (all : ks ≡ map (booted T) (range_with_len 0 T.kernels)) (f : FabricValue) (new : f ≡ new_fabric T) where
+module _ (T : Setup) (S : Setup) (copied : S ≡ T) (ks : List KernelValue) (all : ks ≡ map (booted T) (range_with_len 0 T.kernels)) (f : FabricValue) (new : f
+    ≡ new_fabric T) where
   pub boots-together : IsSetup T → AreKernelsOf S ks f
-  boots-together valid = subst (λ X. AreKernelsOf X ks f) (sym copied) (subst (λ xs. AreKernelsOf T xs f) (sym all) (subst (AreKernelsOf T (map (booted T) (range_with_len 0 T.kernels))) (sym new) (booted-together T valid)))
+  boots-together valid =
+      subst (λ X. AreKernelsOf X ks f) (sym copied)
+      (subst (λ xs. AreKernelsOf T xs f) (sym all) (subst (AreKernelsOf T (map (booted T) (range_with_len 0 T.kernels))) (sym new) (booted-together T valid)))
 
   pub boots-world : ◌≡◌ {A = WorldValue} (record { setup = S; world = world_of ks f }) (record { setup = T; world = start T })
   boots-world =

@@ -1,5 +1,6 @@
 -- How far the making of a kernel's capabilities has come, and what it keeps at the start.
-use Rattle.std.proofs.Common.{◌≡◌, ℕ, zero, suc, ◌+◌, ◌<◌, ◌≤◌, true, false, List, [], ◌∷◌, ◌++◌, length, take, get_or, Option, Some, None, refl, sym, ◌∙◌, ap, subst, arith}
+use Rattle.std.proofs.Common.{◌≡◌, ℕ, zero, suc, ◌+◌, ◌<◌, ◌≤◌, true, false, List, [], ◌∷◌, ◌++◌, length, take, get_or, Option, Some, None, refl, sym, ◌∙◌, ap}
+use Rattle.std.proofs.Common.{subst, arith}
 use Rattle.std.specs.Prelude.{not}
 use Rattle.std.specs.List.{All, filter}
 use Rattle.std.proofs.lemmas.Bool.{cond-true, cond-false}
@@ -25,13 +26,17 @@ use Rattle.sem_vpe.specs.Starting.{IsStartable}
 use Rattle.sem_vpe.proofs.Starts.{startable}
 
 -- one more is done
-turn-more : {X S : Type 0} (f : X → S → S) (xs : List X) (n : ℕ) (x : X) (s : S) → n < length xs → x ≡ get_or xs n x → in_turn f (take (n + 1) xs) s ≡ f x (in_turn f (take n xs) s)
+turn-more : {X S : Type 0} (f : X → S → S) (xs : List X) (n : ℕ) (x : X) (s : S) → n < length xs → x ≡ get_or xs n x →
+    in_turn f (take (n + 1) xs) s ≡ f x (in_turn f (take n xs) s)
 unfolding in_turn
-turn-more f xs n x s more found_x = ap (λ ys. in_turn f ys s) (take_more xs n x more ∙ ap (λ y. take n xs ++ y ∷ []) (sym found_x)) ∙ in_turn-append f (take n xs) (x ∷ []) s
+turn-more f xs n x s more found_x = ap (λ ys. in_turn f ys s) (take_more xs n x more ∙ ap (λ y. take n xs ++ y ∷ []) (sym found_x))
+    ∙ in_turn-append f (take n xs) (x ∷ []) s
 
 -- what is so of all capabilities and of one more
 with_cap-all : (P : Capability → Type 0) (cs : List Capability) (c : Capability) → All P cs → P c → All P (with_cap cs c)
-with_cap-all P cs c all here = All-append P (filter (λ x. key_lt x.key c.key) cs) (c ∷ filter (λ x. not (key_lt x.key c.key)) cs) (All-filter (λ x. key_lt x.key c.key) P cs all) (All-cons P c (filter (λ x. not (key_lt x.key c.key)) cs) here (All-filter (λ x. not (key_lt x.key c.key)) P cs all))
+with_cap-all P cs c all here = All-append P (filter (λ x. key_lt x.key c.key) cs) (c ∷ filter (λ x. not (key_lt x.key c.key)) cs)
+    (All-filter (λ x. key_lt x.key c.key) P cs all)
+    (All-cons P c (filter (λ x. not (key_lt x.key c.key)) cs) here (All-filter (λ x. not (key_lt x.key c.key)) P cs all))
 
 -- The roots of a VPE.
 
@@ -84,7 +89,8 @@ next-absent d before now done r so_far = from (cap_of now (root_key d done r)) r
         absurd (omega (arith, below, number))
 
 -- one more root
-pub IsAdding-more : (d : VpeDecl) (before now new : List Capability) (done : ℕ) (r : Root) → IsAdding d before now done → done < length d.roots → r ≡ get_or d.roots done r → new ≡ with_cap now (fresh (root_key d done r) None r.sel r.object) → IsAdding d before new (done + 1)
+pub IsAdding-more : (d : VpeDecl) (before now new : List Capability) (done : ℕ) (r : Root) → IsAdding d before now done → done < length d.roots →
+    r ≡ get_or d.roots done r → new ≡ with_cap now (fresh (root_key d done r) None r.sel r.object) → IsAdding d before new (done + 1)
 IsAdding-more d before now new done r so_far more at is = record {
   added = λ s.
       let t : Side = in_turn (root_added d) (take done d.roots) (vpe_fresh d (record s { caps = before })) in
@@ -92,7 +98,8 @@ IsAdding-more d before now new done r so_far more at is = record {
       let born : (row u d.vpe).next_number ≡ 0 = ap (λ (x : VpeRow). x.next_number) (get_or-put_same no_vpe s.vpes d.vpe new_vpe) in
       let drawn = number-after d (take done d.roots) (row u d.vpe) in
       let long = length-taken done d.roots (omega (arith, more)) in
-      let kept : (row t d.vpe).next_number ≡ (in_turn (root_held d) (take done d.roots) (row u d.vpe)).next_number = ap (λ (x : VpeRow). x.next_number) (row-after d (take done d.roots) u) in
+      let kept : (row t d.vpe).next_number ≡ (in_turn (root_held d) (take done d.roots) (row u d.vpe)).next_number =
+      ap (λ (x : VpeRow). x.next_number) (row-after d (take done d.roots) u) in
       let number : done ≡ (row t d.vpe).next_number = omega (arith, born, drawn, long, kept) in
       is
       ∙ ap (λ cs. with_cap cs (fresh (root_key d done r) None r.sel r.object)) (so_far.added s)
@@ -128,13 +135,16 @@ unfolding in_turn
 IsStarting-none T i = record { added = refl; before = λ k d past within at. All-nil (λ (c : Capability). c.key.vpe < d.vpe) }
 
 -- those of the kernel among the first and one more
-filter-more : (T : Setup) (i n : ℕ) (d : VpeDecl) (ds : List VpeDecl) → n < length T.vpes → d ≡ get_or T.vpes n d → filter (runs_on T i) (d ∷ []) ≡ ds → filter (runs_on T i) (take (n + 1) T.vpes) ≡ filter (runs_on T i) (take n T.vpes) ++ ds
+filter-more : (T : Setup) (i n : ℕ) (d : VpeDecl) (ds : List VpeDecl) → n < length T.vpes → d ≡ get_or T.vpes n d → filter (runs_on T i) (d ∷ []) ≡ ds →
+    filter (runs_on T i) (take (n + 1) T.vpes) ≡ filter (runs_on T i) (take n T.vpes) ++ ds
 filter-more T i n d ds more at is =
     ap (filter (runs_on T i)) (take_more T.vpes n d more ∙ ap (λ y. take n T.vpes ++ y ∷ []) (sym at))
     ∙ (filter-append (runs_on T i) (take n T.vpes) (d ∷ []) ∙ ap (λ ys. filter (runs_on T i) (take n T.vpes) ++ ys) is)
 
 -- one more VPE of the kernel
-pub IsStarting-more : (T : Setup) (i : ℕ) (now new : List Capability) (n : ℕ) (d : VpeDecl) → IsSetup T → IsStarting T i now n → n < length T.vpes → d ≡ get_or T.vpes n d → runs_on T i d ≡ true → ((s : Side) → new ≡ (vpe_added d (record s { caps = now })).caps) → All (λ (c : Capability). c.key.vpe ≤ d.vpe) new → IsStarting T i new (n + 1)
+pub IsStarting-more : (T : Setup) (i : ℕ) (now new : List Capability) (n : ℕ) (d : VpeDecl) → IsSetup T → IsStarting T i now n → n < length T.vpes →
+    d ≡ get_or T.vpes n d → runs_on T i d ≡ true → ((s : Side) → new ≡ (vpe_added d (record s { caps = now })).caps) →
+    All (λ (c : Capability). c.key.vpe ≤ d.vpe) new → IsStarting T i new (n + 1)
 unfolding in_turn
 IsStarting-more T i now new n d valid so_far more at runs is upto = record {
   added =
@@ -142,7 +152,8 @@ IsStarting-more T i now new n d valid so_far more at runs is upto = record {
       let one : filter (runs_on T i) (d ∷ []) ≡ d ∷ [] = cond-true (runs_on T i d) (d ∷ []) [] runs in
       is t
       ∙ ap (λ cs. (vpe_added d (record t { caps = cs })).caps) so_far.added
-      ∙ sym (ap (λ ds. (in_turn vpe_added ds (empty_side T)).caps) (filter-more T i n d (d ∷ []) more at one) ∙ ap (λ (x : Side). x.caps) (in_turn-append vpe_added (filter (runs_on T i) (take n T.vpes)) (d ∷ []) (empty_side T)));
+      ∙ sym (ap (λ ds. (in_turn vpe_added ds (empty_side T)).caps) (filter-more T i n d (d ∷ []) more at one)
+      ∙ ap (λ (x : Side). x.caps) (in_turn-append vpe_added (filter (runs_on T i) (take n T.vpes)) (d ∷ []) (empty_side T)));
   before = λ k e past within there j c held.
       let low = upto j c held in
       let rises : (get_or T.vpes n e).vpe < (get_or T.vpes k e).vpe = valid.vpes_rise n k e (omega (arith, past)) within in
@@ -152,13 +163,15 @@ IsStarting-more T i now new n d valid so_far more at runs is upto = record {
 }
 
 -- a VPE of another kernel
-pub IsStarting-skip : (T : Setup) (i : ℕ) (now : List Capability) (n : ℕ) (d : VpeDecl) → IsStarting T i now n → n < length T.vpes → d ≡ get_or T.vpes n d → runs_on T i d ≡ false → IsStarting T i now (n + 1)
+pub IsStarting-skip : (T : Setup) (i : ℕ) (now : List Capability) (n : ℕ) (d : VpeDecl) → IsStarting T i now n → n < length T.vpes → d ≡ get_or T.vpes n d →
+    runs_on T i d ≡ false → IsStarting T i now (n + 1)
 unfolding in_turn
 IsStarting-skip T i now n d so_far more at runs = record {
   added =
       let none : filter (runs_on T i) (d ∷ []) ≡ [] = cond-false (runs_on T i d) (d ∷ []) [] runs in
       so_far.added
-      ∙ sym (ap (λ ds. (in_turn vpe_added ds (empty_side T)).caps) (filter-more T i n d [] more at none) ∙ ap (λ (x : Side). x.caps) (in_turn-append vpe_added (filter (runs_on T i) (take n T.vpes)) [] (empty_side T)));
+      ∙ sym (ap (λ ds. (in_turn vpe_added ds (empty_side T)).caps) (filter-more T i n d [] more at none)
+      ∙ ap (λ (x : Side). x.caps) (in_turn-append vpe_added (filter (runs_on T i) (take n T.vpes)) [] (empty_side T)));
   before = λ k e past within there. so_far.before k e (omega (arith, past)) within there;
 }
 

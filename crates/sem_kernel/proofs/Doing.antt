@@ -35,7 +35,8 @@ carried-rest i s Handle f = refl
 carried-rest i s (Fetch j) f = refl
 carried-rest i s (Flush j) f = from (slice_get (outbox s j) 0)
   where
-    from : (o : Option Message) → option_map_or (λ m. relinked i j (link_in f.links i j ++ m ∷ []) f) o f ≡ record f { links = (option_map_or (λ m. relinked i j (link_in f.links i j ++ m ∷ []) f) o f).links }
+    from : (o : Option Message) → option_map_or (λ m. relinked i j (link_in f.links i j ++ m ∷ []) f) o f
+        ≡ record f { links = (option_map_or (λ m. relinked i j (link_in f.links i j ++ m ∷ []) f) o f).links }
     from None = refl
     from (Some m) = refl
 carried-rest i s (Kill v) f = refl
@@ -48,13 +49,17 @@ carried-placed n i s Handle f = refl
 carried-placed n i s (Fetch j) f = refl
 carried-placed n i s (Flush j) f = from (slice_get (outbox s j) 0)
   where
-    from : (o : Option Message) → (option_map_or (λ m. relinked i j (link_in f.links i j ++ m ∷ []) (placed n f)) o (placed n f)).links ≡ (option_map_or (λ m. relinked i j (link_in f.links i j ++ m ∷ []) f) o f).links
+    from : (o : Option Message) → (option_map_or (λ m. relinked i j (link_in f.links i j ++ m ∷ []) (placed n f)) o (placed n f)).links
+        ≡ (option_map_or (λ m. relinked i j (link_in f.links i j ++ m ∷ []) f) o f).links
     from None = refl
     from (Some m) = refl
 carried-placed n i s (Kill v) f = refl
 
--- The kernel k becomes r by the room for the act, the fabric f becomes p by the place n and q by what is carried; the kernel takes the input, and makes the entry e.
-module _ (k : KernelValue) (f : FabricValue) (act : Act) (can : CanDo k f act) (r : KernelValue) (readied : r ≡ record k { ready = Some act }) (n : ℕ) (numbered : n ≡ r.id) (p : FabricValue) (reserved : p ≡ placed n f) (input : Option Message) (took : input ≡ taken p r.id act) (q : FabricValue) (moved : q ≡ carried r.id r.side act p) (e : Entry) (made : e ≡ local_entry r.setup r.id r.side act input) where
+-- The kernel k becomes r by the room for the act, the fabric f becomes p by the place n and q by what is carried; the kernel takes the input, and makes the
+-- entry e.
+module _ (k : KernelValue) (f : FabricValue) (act : Act) (can : CanDo k f act) (r : KernelValue) (readied : r ≡ record k { ready = Some act }) (n : ℕ)
+    (numbered : n ≡ r.id) (p : FabricValue) (reserved : p ≡ placed n f) (input : Option Message) (took : input ≡ taken p r.id act) (q : FabricValue) (moved : q
+    ≡ carried r.id r.side act p) (e : Entry) (made : e ≡ local_entry r.setup r.id r.side act input) where
   same-id : r.id ≡ k.id
   same-id = ap (λ (x : KernelValue). x.id) readied
 
@@ -103,7 +108,8 @@ module _ (k : KernelValue) (f : FabricValue) (act : Act) (can : CanDo k f act) (
       ∙ (ap (λ j. slice_index_or p.places j false) (made-kernel ∙ sym (numbered ∙ same-id)) ∙ place))
 
   -- so the act is done
-  pub all-done : IsInput act input → (l : KernelValue) → l ≡ record r { side = (local_step r.setup r.id r.side act input).side; ready = None } → (g : FabricValue) → g ≡ entered e q → HasDone k f act l g e
+  pub all-done : IsInput act input → (l : KernelValue) → l ≡ record r { side = (local_step r.setup r.id r.side act input).side; ready = None } →
+      (g : FabricValue) → g ≡ entered e q → HasDone k f act l g e
   all-done is_input l stepped g entered_is =
       let kernel : l ≡ record k { side = (local_step k.setup k.id k.side act (taken f k.id act)).side; ready = None } =
       stepped
@@ -112,7 +118,9 @@ module _ (k : KernelValue) (f : FabricValue) (act : Act) (can : CanDo k f act) (
       record {
         entry = made-same;
         kernel = kernel;
-        sound = subst (IsSound k.setup k.id) (sym (ap (λ (x : KernelValue). x.side) kernel)) (step-sound k.setup can.setup k.id can.few k.side can.sound act can.enabled (taken f k.id act) (sound-input act (taken f k.id act) (subst (IsInput act) took-same is_input))).0;
+        sound = subst (IsSound k.setup k.id) (sym (ap (λ (x : KernelValue). x.side) kernel))
+            (step-sound k.setup can.setup k.id can.few k.side can.sound act can.enabled (taken f k.id act)
+            (sound-input act (taken f k.id act) (subst (IsInput act) took-same is_input))).0;
         links = ap (λ (x : FabricValue). x.links) entered_is ∙ (ap (λ (x : FabricValue). x.links) moved-same ∙ carried-placed n k.id k.side act f);
         journal = ap (λ (x : FabricValue). x.journal) entered_is ∙ ap (λ (x : FabricValue). x.journal ++ e ∷ []) moved-rest;
         fabric = record {

@@ -38,7 +38,9 @@ module _ (T : Setup) (i : ℕ) (s : Side) (v : ℕ) where
   -- it is asked
   pub upcall-asked : is_locally_enabled T i s (Upcall v) ≡ true → is_some (slice_get (row s v).asks 0) ≡ true
   unfolding is_locally_enabled
-  upcall-asked enabled = (and_parts (is_alive s v) (is_some (slice_get (row s v).asks 0)) (and_parts (kernel_of T v == i) (is_alive s v && is_some (slice_get (row s v).asks 0)) enabled).1).1
+  upcall-asked enabled =
+      (and_parts (is_alive s v) (is_some (slice_get (row s v).asks 0))
+      (and_parts (kernel_of T v == i) (is_alive s v && is_some (slice_get (row s v).asks 0)) enabled).1).1
 
   -- its waiting call can go on
   pub resume-can : is_locally_enabled T i s (Resume v) ≡ true → can_resume (parked s v) ≡ true
@@ -53,4 +55,6 @@ handle-some T i s enabled = enabled
 -- a flush goes to a kernel of the setup
 pub flush-to : (T : Setup) (i : ℕ) (s : Side) (to : ℕ) → is_locally_enabled T i s (Flush to) ≡ true → to < T.kernels
 unfolding is_locally_enabled
-flush-to T i s to enabled = ltb-true to T.kernels (and_parts (nat_lt to T.kernels) (not (to == i)) (and_parts (is_other_kernel T i to) (is_some (slice_get (outbox s to) 0)) enabled).0).0
+flush-to T i s to enabled =
+    ltb-true to T.kernels
+    (and_parts (nat_lt to T.kernels) (not (to == i)) (and_parts (is_other_kernel T i to) (is_some (slice_get (outbox s to) 0)) enabled).0).0

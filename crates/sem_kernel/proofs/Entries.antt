@@ -27,7 +27,10 @@ sound-input (Flush to) input is = tt
 sound-input (Kill v) input is = tt
 
 -- the entry tells what was done
-pub entry-is : (T : Setup) (i : ℕ) (s : Side) (act : Act) (input : Option Message) (d : Detail) (o : Outcome) (r : Option Reply) (t : Side) → ◌≡◌ {A = Step} (record { side = t; outcome = o }) (local_step T i s act input) → d ≡ detail_of T s act input o → r ≡ option_map (λ n. record { vpe = replied_vpe act; code = n }) o.reply → ◌≡◌ {A = Entry} (record { event = record { kernel = i; act = act }; detail = d; grant = o.grant; cut = o.cut; reply = r }) (local_entry T i s act input)
+pub entry-is : (T : Setup) (i : ℕ) (s : Side) (act : Act) (input : Option Message) (d : Detail) (o : Outcome) (r : Option Reply) (t : Side) →
+    ◌≡◌ {A = Step} (record { side = t; outcome = o }) (local_step T i s act input) → d ≡ detail_of T s act input o →
+    r ≡ option_map (λ n. record { vpe = replied_vpe act; code = n }) o.reply →
+    ◌≡◌ {A = Entry} (record { event = record { kernel = i; act = act }; detail = d; grant = o.grant; cut = o.cut; reply = r }) (local_entry T i s act input)
 unfolding local_entry
 entry-is T i s act input d o r t step detail reply =
     let same : o ≡ (local_step T i s act input).outcome = ap (λ (x : Step). x.outcome) step in

@@ -28,24 +28,31 @@ elsewhere T i v at = eqb-false (kernel_of T v) i at
 
 -- whoever lives waits, where nobody lives without waiting
 waiting : (waits : Option Parked → Bool) (s : Side) (v : ℕ) → lives_without waits s v ≡ false → is_alive s v ≡ true → waits (parked s v) ≡ true
-waiting waits s v awaited lives = true_from_ne_false (waits (parked s v)) (λ fails. clash awaited (and_from (is_alive s v) (not (waits (parked s v))) lives (not_from_false (waits (parked s v)) fails)))
+waiting waits s v awaited lives =
+    true_from_ne_false (waits (parked s v))
+    (λ fails. clash awaited (and_from (is_alive s v) (not (waits (parked s v))) lives (not_from_false (waits (parked s v)) fails)))
   where
     clash : {b : Bool} → b ≡ false → b ≡ true → ⊥
     clash no' yes' = cc
 
 module _ (T : Setup) (i : ℕ) (s : Side) where
-  pub obtain_req-expected : (place : PlaceName) (target : Target) → is_stray T i s (ObtainReq place target) ≡ false → (kernel_of T (target_vpe target) ≡ i) × (kernel_of T place.vpe ≢ i) × (is_declared_at T place.pe place.vpe ≡ true)
+  pub obtain_req-expected : (place : PlaceName) (target : Target) → is_stray T i s (ObtainReq place target) ≡ false → (kernel_of T (target_vpe target) ≡ i)
+      × (kernel_of T place.vpe ≢ i) × (is_declared_at T place.pe place.vpe ≡ true)
   obtain_req-expected place target e =
-      let one = neither (not (is_place_declared T place)) (not (is_target_declared T target) || (not (is_here T i (target_vpe target)) || is_here T i place.vpe)) e in
+      let one = neither (not (is_place_declared T place)) (not (is_target_declared T target)
+      || (not (is_here T i (target_vpe target)) || is_here T i place.vpe)) e in
       let two = neither (not (is_target_declared T target)) (not (is_here T i (target_vpe target)) || is_here T i place.vpe) one.1 in
       let three = neither (not (is_here T i (target_vpe target))) (is_here T i place.vpe) two.1 in
       (here T i (target_vpe target) three.0, elsewhere T i place.vpe three.1, not-false (is_place_declared T place) one.0)
 
-  pub obtain_ok-expected : (parent key : KeyName) (object : Object) → is_stray T i s (ObtainOk parent key object) ≡ false → (kernel_of T key.vpe ≡ i) × (is_declared_at T parent.pe parent.vpe ≡ true)
+  pub obtain_ok-expected : (parent key : KeyName) (object : Object) → is_stray T i s (ObtainOk parent key object) ≡ false →
+      (kernel_of T key.vpe ≡ i) × (is_declared_at T parent.pe parent.vpe ≡ true)
   obtain_ok-expected parent key object e =
       let unasked : Bool = lives_without (is_obtain_wait key.number) s key.vpe in
-      let one = neither (not (is_key_declared T parent)) (not (is_key_declared T key) || (not (is_object_declared T object) || (not (is_here T i key.vpe) || (is_here T i parent.vpe || unasked)))) e in
-      let two = neither (not (is_key_declared T key)) (not (is_object_declared T object) || (not (is_here T i key.vpe) || (is_here T i parent.vpe || unasked))) one.1 in
+      let one = neither (not (is_key_declared T parent)) (not (is_key_declared T key)
+      || (not (is_object_declared T object) || (not (is_here T i key.vpe) || (is_here T i parent.vpe || unasked)))) e in
+      let two = neither (not (is_key_declared T key)) (not (is_object_declared T object) || (not (is_here T i key.vpe) || (is_here T i parent.vpe || unasked)))
+      one.1 in
       let three = neither (not (is_object_declared T object)) (not (is_here T i key.vpe) || (is_here T i parent.vpe || unasked)) two.1 in
       let four = neither (not (is_here T i key.vpe)) (is_here T i parent.vpe || unasked) three.1 in
       (here T i key.vpe four.0, not-false (is_key_declared T parent) one.0)
@@ -57,22 +64,26 @@ module _ (T : Setup) (i : ℕ) (s : Side) where
       let two = neither (not (is_here T i place.vpe)) unasked one.1 in
       here T i place.vpe two.0
 
-  pub delegate_req-expected : (parent : KeyName) (object : Object) (vpe sel : ℕ) → is_stray T i s (DelegateReq parent object vpe sel) ≡ false → (kernel_of T vpe ≡ i) × (kernel_of T parent.vpe ≢ i) × (is_declared_at T parent.pe parent.vpe ≡ true)
+  pub delegate_req-expected : (parent : KeyName) (object : Object) (vpe sel : ℕ) → is_stray T i s (DelegateReq parent object vpe sel) ≡ false →
+      (kernel_of T vpe ≡ i) × (kernel_of T parent.vpe ≢ i) × (is_declared_at T parent.pe parent.vpe ≡ true)
   delegate_req-expected parent object vpe sel e =
       let one = neither (not (is_key_declared T parent)) (not (is_object_declared T object) || (not (is_here T i vpe) || is_here T i parent.vpe)) e in
       let two = neither (not (is_object_declared T object)) (not (is_here T i vpe) || is_here T i parent.vpe) one.1 in
       let three = neither (not (is_here T i vpe)) (is_here T i parent.vpe) two.1 in
       (here T i vpe three.0, elsewhere T i parent.vpe three.1, not-false (is_key_declared T parent) one.0)
 
-  pub delegate_prepared-expected : (parent key : KeyName) → is_stray T i s (DelegatePrepared parent key) ≡ false → (kernel_of T parent.vpe ≡ i) × (is_declared_at T key.pe key.vpe ≡ true)
+  pub delegate_prepared-expected : (parent key : KeyName) → is_stray T i s (DelegatePrepared parent key) ≡ false →
+      (kernel_of T parent.vpe ≡ i) × (is_declared_at T key.pe key.vpe ≡ true)
   delegate_prepared-expected parent key e =
       let unoffered : Bool = lives_without (is_delegate_wait parent) s parent.vpe in
-      let one = neither (not (is_key_declared T parent)) (not (is_key_declared T key) || (not (is_here T i parent.vpe) || (is_here T i key.vpe || unoffered))) e in
+      let one = neither (not (is_key_declared T parent)) (not (is_key_declared T key) || (not (is_here T i parent.vpe) || (is_here T i key.vpe || unoffered))) e
+      in
       let two = neither (not (is_key_declared T key)) (not (is_here T i parent.vpe) || (is_here T i key.vpe || unoffered)) one.1 in
       let three = neither (not (is_here T i parent.vpe)) (is_here T i key.vpe || unoffered) two.1 in
       (here T i parent.vpe three.0, not-false (is_key_declared T key) two.0)
 
-  pub delegate_no-expected : (parent : KeyName) (code : ℕ) → is_stray T i s (DelegateNo parent code) ≡ false → (kernel_of T parent.vpe ≡ i) × (is_alive s parent.vpe ≡ true → is_delegate_wait parent (parked s parent.vpe) ≡ true)
+  pub delegate_no-expected : (parent : KeyName) (code : ℕ) → is_stray T i s (DelegateNo parent code) ≡ false →
+      (kernel_of T parent.vpe ≡ i) × (is_alive s parent.vpe ≡ true → is_delegate_wait parent (parked s parent.vpe) ≡ true)
   delegate_no-expected parent code e =
       let unoffered : Bool = lives_without (is_delegate_wait parent) s parent.vpe in
       let one = neither (not (is_key_declared T parent)) (not (is_here T i parent.vpe) || unoffered) e in

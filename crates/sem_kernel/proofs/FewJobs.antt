@@ -9,12 +9,14 @@ use Rattle.sem_machine.specs.Sound.{IsSound}
 use Rattle.sem_sound.proofs.Opening.{next-job}
 
 -- no more jobs with rising ids than ids
-few-rising : (xs : List JobRow) (low next : ℕ) → AllPairs (λ (a b : JobRow). a.id < b.id) xs → ((x : JobRow) → Contains xs x → low ≤ x.id) → ((x : JobRow) → Contains xs x → x.id < next) → low ≤ next → low + length xs ≤ next
+few-rising : (xs : List JobRow) (low next : ℕ) → AllPairs (λ (a b : JobRow). a.id < b.id) xs → ((x : JobRow) → Contains xs x → low ≤ x.id) →
+    ((x : JobRow) → Contains xs x → x.id < next) → low ≤ next → low + length xs ≤ next
 few-rising [] low next rise above below ordered = omega (arith, ordered)
 few-rising (x ∷ xs) low next rise above below ordered =
     let here : low ≤ x.id = above x (Contains-head x xs) in
     let there : x.id < next = below x (Contains-head x xs) in
-    let rest : x.id + 1 + length xs ≤ next = few-rising xs (x.id + 1) next (λ a b d lt within. rise (suc a) (suc b) d (omega (arith, lt)) (omega (arith, within)))
+    let rest : x.id + 1 + length xs ≤ next =
+    few-rising xs (x.id + 1) next (λ a b d lt within. rise (suc a) (suc b) d (omega (arith, lt)) (omega (arith, within)))
     (λ y among. let more : x.id < y.id = after y among in omega (arith, more))
     (λ y among. below y (Contains-tail x xs y among)) (omega (arith, there)) in
     omega (arith, here, rest)

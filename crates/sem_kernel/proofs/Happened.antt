@@ -1,6 +1,7 @@
 -- What an event does to kernels and their fabric, and the event of the world that they are.
-use Rattle.std.proofs.Common.{◌≡◌, ℕ, ◌+◌, ◌<◌, ◌≤◌, ◌&&◌, Bool, true, false, List, [], ◌∷◌, ◌++◌, length, map, set, get_or, Option, Some, None, is_some, slice_get, Result, Ok, Err, refl, sym, ◌∙◌, ap, subst, inl, inr, arith, length-set, get_or-set_same, get_or-set_other}
-use Rattle.std.specs.Prelude.{nat_lt, IfOk, OnErr}
+use Rattle.std.proofs.Common.{◌≡◌, ℕ, ◌+◌, ◌<◌, ◌≤◌, ◌&&◌, Bool, true, false, List, [], ◌∷◌, ◌++◌, length, map, set, get_or, Option, Some, None, is_some}
+use Rattle.std.proofs.Common.{slice_get, Result, Ok, Err, refl, sym, ◌∙◌, ap, subst, inl, inr, arith, length-set, get_or-set_same, get_or-set_other}
+use Rattle.std.specs.Prelude.{nat_lt, IfOk, OnOk, OnErr}
 use Rattle.std.specs.Option.{option_map, option_map_or}
 use Rattle.std.proofs.lemmas.Bool.{cases_eq, and_parts, lt-ltb, le-ltb, ltb-true}
 use Rattle.std.proofs.lemmas.List.{get_or-map, map-set, length-map}
@@ -19,9 +20,10 @@ use Rattle.sem_fabric.proofs.Entries.{counts, replies-more}
 use Rattle.sem_machine.specs.Sides.{Side, no_side, outbox}
 use Rattle.sem_machine.specs.Steps.{Step}
 use Rattle.sem_machine.specs.Sound.{IsSound}
-use Rattle.sem_machine.specs.Machine.{World, side, is_locally_enabled, is_allowed, is_enabled, local_step, local_entry, link_moved, input_of, reply_counted, after, entry_of, replied_vpe}
+use Rattle.sem_machine.specs.Machine.{World, side, is_locally_enabled, is_allowed, is_enabled, local_step, local_entry, link_moved, input_of, reply_counted}
+use Rattle.sem_machine.specs.Machine.{after, entry_of, replied_vpe}
 use Rattle.sem_kernel.specs.KernelValue.{KernelValue, is_timely}
-use Rattle.sem_kernel.specs.Worlds.{world_of, IsKernelOf, IsFabricOf, AreKernelsOf, is_passable, taken, carried, can_do, CanDo, HasDone, HasNotDone}
+use Rattle.sem_kernel.specs.Worlds.{world_of, IsKernelOf, IsFabricOf, AreKernelsOf, is_passable, taken, carried, can_do, CanDo, HasDone, HasReplied, HasNotDone}
 
 -- With a fabric, whatever the kernels are.
 
@@ -31,7 +33,8 @@ and-true false = refl
 
 -- what the kernel and the links allow is what the world allows
 module _ (T : Setup) (i : ℕ) (s : Side) (ks : List KernelValue) (f : FabricValue) (same : f.window ≡ T.window) where
-  allowed-is : (act : Act) → ((is_locally_enabled T i s act && is_timely T (length (replies f.journal)) act) && is_passable f i act) ≡ (is_locally_enabled T i s act && is_allowed T (world_of ks f) i act)
+  allowed-is : (act : Act) → ((is_locally_enabled T i s act && is_timely T (length (replies f.journal)) act) && is_passable f i act)
+      ≡ (is_locally_enabled T i s act && is_allowed T (world_of ks f) i act)
   allowed-is (Calls v) = and-true (is_locally_enabled T i s (Calls v) && true)
   allowed-is (Resume v) = and-true (is_locally_enabled T i s (Resume v) && true)
   allowed-is (Upcall v) = and-true (is_locally_enabled T i s (Upcall v) && true)
@@ -53,7 +56,12 @@ input-is ks f i (Flush j) = refl
 input-is ks f i (Kill v) = refl
 
 -- the links are moved as in the world
-moved-is : (f : FabricValue) (i : ℕ) (s : Side) (sides : List Side) (n : ℕ) (act : Act) → ◌≡◌ {A = World} (link_moved i s act (record { sides = sides; links = f.links; replies = n })) (record { sides = sides; links = (carried i s act f).links; replies = n })
+moved-is : (f : FabricValue) (i : ℕ) (s : Side) (sides : List Side) (n : ℕ) (act : Act) →
+    ◌≡◌ {A = World} (link_moved i s act (record { sides = sides; links = f.links; replies = n })) (record {
+      sides = sides;
+      links = (carried i s act f).links;
+      replies = n;
+    })
 moved-is f i s sides n (Calls v) = refl
 moved-is f i s sides n (Resume v) = refl
 moved-is f i s sides n (Upcall v) = refl
@@ -61,7 +69,10 @@ moved-is f i s sides n Handle = refl
 moved-is f i s sides n (Fetch j) = refl
 moved-is f i s sides n (Flush j) = from (slice_get (outbox s j) 0)
   where
-    from : (o : Option Message) → ◌≡◌ {A = World} (option_map_or (λ m. record { sides = sides; links = link_put i j (link_in f.links i j ++ m ∷ []) f.links; replies = n }) o (record { sides = sides; links = f.links; replies = n })) (record { sides = sides; links = (option_map_or (λ m. relinked i j (link_in f.links i j ++ m ∷ []) f) o f).links; replies = n })
+    from : (o : Option Message) →
+        ◌≡◌ {A = World} (option_map_or (λ m. record { sides = sides; links = link_put i j (link_in f.links i j ++ m ∷ []) f.links; replies = n }) o
+        (record { sides = sides; links = f.links; replies = n }))
+        (record { sides = sides; links = (option_map_or (λ m. relinked i j (link_in f.links i j ++ m ∷ []) f) o f).links; replies = n })
     from None = refl
     from (Some m) = refl
 moved-is f i s sides n (Kill v) = refl
@@ -74,7 +85,9 @@ counted-is g (Some code) n = refl
 -- an enabled event is of a kernel of the setup
 pub enabled-few : (T : Setup) (W : World) (e : Event) → is_enabled T W e ≡ true → e.kernel < T.kernels
 unfolding is_enabled
-enabled-few T W e enabled = ltb-true e.kernel T.kernels (and_parts (nat_lt e.kernel T.kernels) (is_locally_enabled T e.kernel (side W e.kernel) e.act && is_allowed T W e.kernel e.act) enabled).0
+enabled-few T W e enabled =
+    ltb-true e.kernel T.kernels (and_parts (nat_lt e.kernel T.kernels) (is_locally_enabled T e.kernel (side W e.kernel) e.act
+    && is_allowed T W e.kernel e.act) enabled).0
 
 pub enabled-nowhere : (T : Setup) (W : World) (e : Event) → T.kernels ≤ e.kernel → nat_lt e.kernel T.kernels ≡ is_enabled T W e
 unfolding is_enabled
@@ -84,7 +97,8 @@ enabled-nowhere T W e over =
 
 -- The kernels together.
 
-module _ (T : Setup) (ks : List KernelValue) (f : FabricValue) (are : AreKernelsOf T ks f) (i : ℕ) (few : i < T.kernels) (k : KernelValue) (at : k ≡ get_or ks i k) where
+module _ (T : Setup) (ks : List KernelValue) (f : FabricValue) (are : AreKernelsOf T ks f) (i : ℕ) (few : i < T.kernels) (k : KernelValue) (at : k
+    ≡ get_or ks i k) where
   abbrev W : World
   W = world_of ks f
 
@@ -121,7 +135,8 @@ module _ (T : Setup) (ks : List KernelValue) (f : FabricValue) (are : AreKernels
   pub can-do : IsSetup T → (act : Act) → is_enabled T W (record { kernel = i; act = act }) ≡ true → CanDo k f act
   unfolding is_enabled
   can-do valid act enabled =
-      let can : can_do k f act ≡ true = can-is act ∙ (and_parts (nat_lt i T.kernels) (is_locally_enabled T i (side W i) act && is_allowed T W i act) enabled).1 in
+      let can : can_do k f act ≡ true = can-is act
+      ∙ (and_parts (nat_lt i T.kernels) (is_locally_enabled T i (side W i) act && is_allowed T W i act) enabled).1 in
       let parts = and_parts (is_locally_enabled k.setup k.id k.side act && is_timely k.setup (length (replies f.journal)) act) (is_passable f k.id act) can in
       record {
         setup = subst IsSetup (sym is.setup) valid;
@@ -133,7 +148,8 @@ module _ (T : Setup) (ks : List KernelValue) (f : FabricValue) (are : AreKernels
       }
 
   -- with another kernel of that number in its place they are still together
-  module _ (l : KernelValue) (g : FabricValue) (setup : l.setup ≡ k.setup) (id : l.id ≡ k.id) (sound : IsSound k.setup k.id l.side) (fabric : IsFabricOf k.setup g) where
+  module _ (l : KernelValue) (g : FabricValue) (setup : l.setup ≡ k.setup) (id : l.id ≡ k.id) (sound : IsSound k.setup k.id l.side)
+      (fabric : IsFabricOf k.setup g) where
     new-is : IsKernelOf T i l
     new-is = record {
       setup = setup ∙ is.setup;
@@ -155,12 +171,14 @@ module _ (T : Setup) (ks : List KernelValue) (f : FabricValue) (are : AreKernels
   module _ (l : KernelValue) (g : FabricValue) (none : HasNotDone k f l g) where
     pub not_done-together : AreKernelsOf T (set ks i l) g
     not_done-together = together l g (ap (λ (x : KernelValue). x.setup) none.kernel) (ap (λ (x : KernelValue). x.id) none.kernel)
-        (subst (IsSound k.setup k.id) (sym (ap (λ (x : KernelValue). x.side) none.kernel)) (subst (λ S. IsSound S k.id k.side) (sym is.setup) (subst (λ j. IsSound T j k.side) (sym is.id) is.sound)))
+        (subst (IsSound k.setup k.id) (sym (ap (λ (x : KernelValue). x.side) none.kernel))
+        (subst (λ S. IsSound S k.id k.side) (sym is.setup) (subst (λ j. IsSound T j k.side) (sym is.id) is.sound)))
         (subst (IsFabricOf k.setup) (sym none.fabric) fabric-here)
 
     pub not_done-world : world_of (set ks i l) g ≡ world_of ks f
     not_done-world =
-        let same : map (λ (x : KernelValue). x.side) (set ks i l) ≡ map (λ (x : KernelValue). x.side) ks = map-set_same (λ (x : KernelValue). x.side) ks i l k (ap (λ (x : KernelValue). x.side) (none.kernel) ∙ ap (λ (x : KernelValue). x.side) at) in
+        let same : map (λ (x : KernelValue). x.side) (set ks i l) ≡ map (λ (x : KernelValue). x.side) ks =
+        map-set_same (λ (x : KernelValue). x.side) ks i l k (ap (λ (x : KernelValue). x.side) (none.kernel) ∙ ap (λ (x : KernelValue). x.side) at) in
         λ j. record { sides = same j; links = (none.fabric j).links; replies = length (replies (none.fabric j).journal) }
 
   -- the act was done
@@ -211,28 +229,34 @@ module _ (T : Setup) (ks : List KernelValue) (f : FabricValue) (are : AreKernels
         ∙ sym (ap (reply_counted x.outcome) (moved-is f i (side W i) (put no_side W.sides i x.side) W.replies act))
 
   -- it was done or it was not
-  pub stepped-together : {E : Type 0} (act : Act) (l : KernelValue) (g : FabricValue) (r : Result Entry E) → IfOk r (HasDone k f act l g) → OnErr r (HasNotDone k f l g) → AreKernelsOf T (set ks i l) g
-  stepped-together act l g (Ok e) ok err = done-together act l g e ok
+  pub stepped-together : {E : Type 0} (act : Act) (l : KernelValue) (g : FabricValue) (r : Result Bool E) → IfOk r (HasReplied k f act l g) →
+      OnErr r (HasNotDone k f l g) → AreKernelsOf T (set ks i l) g
+  stepped-together act l g (Ok b) ok err = done-together act l g ok.entry ok.done
   stepped-together act l g (Err x) ok err = not_done-together l g err
 
-  pub stepped-entry : {E : Type 0} (act : Act) (l : KernelValue) (g : FabricValue) (r : Result Entry E) → IfOk r (HasDone k f act l g) → IfOk r (λ e. e ≡ entry_of T W (record { kernel = i; act = act }))
-  stepped-entry act l g (Ok e) ok = done-entry act l g e ok
-  stepped-entry act l g (Err x) ok = tt
+  pub stepped-replied : {E : Type 0} (act : Act) (l : KernelValue) (g : FabricValue) (r : Result Bool E) → IfOk r (HasReplied k f act l g) →
+      IfOk r (λ b. b ≡ is_some (entry_of T W (record { kernel = i; act = act })).reply)
+  stepped-replied act l g (Ok b) ok = ok.told ∙ ap (λ (e : Entry). is_some e.reply) (done-entry act l g ok.entry ok.done)
+  stepped-replied act l g (Err x) ok = tt
 
-  pub stepped-after : {E : Type 0} (act : Act) (l : KernelValue) (g : FabricValue) (r : Result Entry E) → IfOk r (HasDone k f act l g) → IfOk r (λ e. world_of (set ks i l) g ≡ after T W (record { kernel = i; act = act }))
-  stepped-after act l g (Ok e) ok = done-after act l g e ok
+  pub stepped-after : {E : Type 0} (act : Act) (l : KernelValue) (g : FabricValue) (r : Result Bool E) → IfOk r (HasReplied k f act l g) →
+      OnOk r (world_of (set ks i l) g ≡ after T W (record { kernel = i; act = act }))
+  stepped-after act l g (Ok b) ok = done-after act l g ok.entry ok.done
   stepped-after act l g (Err x) ok = tt
 
-  pub stepped-journal : {E : Type 0} (act : Act) (l : KernelValue) (g : FabricValue) (r : Result Entry E) → IfOk r (HasDone k f act l g) → IfOk r (λ e. g.journal ≡ f.journal ++ e ∷ [])
-  stepped-journal act l g (Ok e) ok = ok.journal
+  pub stepped-journal : {E : Type 0} (act : Act) (l : KernelValue) (g : FabricValue) (r : Result Bool E) → IfOk r (HasReplied k f act l g) →
+      OnOk r (g.journal ≡ f.journal ++ entry_of T W (record { kernel = i; act = act }) ∷ [])
+  stepped-journal act l g (Ok b) ok = ok.done.journal ∙ ap (λ e. f.journal ++ e ∷ []) (done-entry act l g ok.entry ok.done)
   stepped-journal act l g (Err x) ok = tt
 
-  pub stepped-same_journal : {E : Type 0} (l : KernelValue) (g : FabricValue) (r : Result Entry E) → OnErr r (HasNotDone k f l g) → OnErr r (g.journal ≡ f.journal)
-  stepped-same_journal l g (Ok e) err = tt
+  pub stepped-same_journal : {E : Type 0} (l : KernelValue) (g : FabricValue) (r : Result Bool E) → OnErr r (HasNotDone k f l g) →
+      OnErr r (g.journal ≡ f.journal)
+  stepped-same_journal l g (Ok b) err = tt
   stepped-same_journal l g (Err x) err = ap (λ (h : FabricValue). h.journal) err.fabric
 
-  pub stepped-unchanged : {E : Type 0} (l : KernelValue) (g : FabricValue) (r : Result Entry E) → OnErr r (HasNotDone k f l g) → OnErr r (world_of (set ks i l) g ≡ world_of ks f)
-  stepped-unchanged l g (Ok e) err = tt
+  pub stepped-unchanged : {E : Type 0} (l : KernelValue) (g : FabricValue) (r : Result Bool E) → OnErr r (HasNotDone k f l g) →
+      OnErr r (world_of (set ks i l) g ≡ world_of ks f)
+  stepped-unchanged l g (Ok b) err = tt
   stepped-unchanged l g (Err x) err = not_done-world l g err
 
 -- what is so is so after an error

@@ -1,5 +1,6 @@
 -- What becomes of a capability that a VPE leaves when it ends, and of the room for that.
-use Rattle.std.proofs.Common.{◌≡◌, ℕ, ◌+◌, ◌<◌, ◌≤◌, Bool, true, false, List, [], ◌∷◌, ◌++◌, length, map, Option, Some, None, refl, sym, ◌∙◌, ap, subst, arith, if◌then◌else◌}
+use Rattle.std.proofs.Common.{◌≡◌, ℕ, ◌+◌, ◌<◌, ◌≤◌, Bool, true, false, List, [], ◌∷◌, ◌++◌, length, map, Option, Some, None, refl, sym, ◌∙◌, ap, subst, arith}
+use Rattle.std.proofs.Common.{if◌then◌else◌}
 use Rattle.std.specs.Prelude.{IfSome, ◌==◌}
 use Rattle.std.specs.List.{All, filter, list_any, sum_by}
 use Rattle.std.specs.Option.{option_map_or, option_and_then, is_none}
@@ -41,7 +42,9 @@ use Rattle.sem_kernel.proofs.Shrinking.{finish-less, children-links}
 
 -- marks leave the links
 marked-links : (ks : List KeyName) (j : ℕ) (cs : List Capability) → link_count (all_marked ks j cs) ≡ link_count cs
-marked-links ks j cs = weigh-map (λ (c : Capability). length c.children) (λ c. if list_any (key_eq c.key) ks then with_mark j c else c) (λ c. cond_both (list_any (key_eq c.key) ks) (with_mark j c) c (λ (x : Capability). length x.children ≡ length c.children) (λ _. refl) (λ _. refl)) cs
+marked-links ks j cs = weigh-map (λ (c : Capability). length c.children) (λ c. if list_any (key_eq c.key) ks then with_mark j c
+    else c) (λ c. cond_both (list_any (key_eq c.key) ks) (with_mark j c) c (λ (x : Capability). length x.children ≡ length c.children) (λ _. refl) (λ _. refl))
+    cs
 
 module _ (T : Setup) (i : ℕ) (k : KeyName) (s : Side) (t : Side) where
   abbrev IsOpened : Type 0
@@ -51,10 +54,12 @@ module _ (T : Setup) (i : ℕ) (k : KeyName) (s : Side) (t : Side) where
   plain-jobs is_opened = ap (λ (u : Side). length u.jobs) is_opened ∙ opened-jobs T i k None [] false s
 
   pub plain-caps : IsOpened → length t.caps ≡ length s.caps
-  plain-caps is_opened = ap (λ (u : Side). length u.caps) is_opened ∙ (ap length (opened-caps T i k None [] false s) ∙ marked-length (region s.caps k) s.next_job s.caps)
+  plain-caps is_opened = ap (λ (u : Side). length u.caps) is_opened
+      ∙ (ap length (opened-caps T i k None [] false s) ∙ marked-length (region s.caps k) s.next_job s.caps)
 
   pub plain-links : IsOpened → link_count t.caps ≡ link_count s.caps
-  plain-links is_opened = ap (λ (u : Side). link_count u.caps) is_opened ∙ (ap link_count (opened-caps T i k None [] false s) ∙ marked-links (region s.caps k) s.next_job s.caps)
+  plain-links is_opened = ap (λ (u : Side). link_count u.caps) is_opened
+      ∙ (ap link_count (opened-caps T i k None [] false s) ∙ marked-links (region s.caps k) s.next_job s.caps)
 
   -- the links of the region are asked for, and are not open any more
   pub opened-fewer : IsOpened → open_links t.caps + length (children_of s.caps (region s.caps k)) ≤ open_links s.caps
@@ -95,7 +100,8 @@ module _ (T : Setup) (i : ℕ) (k : KeyName) where
   revoked-other s other = there-other (cap s k) s other
 
 module _ (T : Setup) (valid : IsSetup T) (i : ℕ) (few : i < T.kernels) (s : Side) (is : IsSound T i s) (k : KeyName) where
-  pub left-middle : is_unmarked (cap s k) ≡ true → (o : Option ℕ) (t : Side) → IfSome o (λ j. j ≡ s.next_job) → t ≡ opened T i k None [] false s → IfSome o (λ j. IsSoundBut T i None None None (Some j) 0 t)
+  pub left-middle : is_unmarked (cap s k) ≡ true → (o : Option ℕ) (t : Side) → IfSome o (λ j. j ≡ s.next_job) → t ≡ opened T i k None [] false s →
+      IfSome o (λ j. IsSoundBut T i None None None (Some j) 0 t)
   left-middle unmarked None t same is_opened = tt
   left-middle unmarked (Some j) t same is_opened = from (cap s k) refl unmarked
     where
@@ -106,7 +112,8 @@ module _ (T : Setup) (valid : IsSetup T) (i : ℕ) (few : i < T.kernels) (s : Si
       from : (a : Option Capability) → cap s k ≡ a → is_unmarked a ≡ true → IsSoundBut T i None None None (Some j) 0 t
       from None at none = absurd cc
       from (Some c) at open' =
-          let middle = opened-sound T valid i few s is k None [] false c at (none-of c.mark open') tt (λ a b e lt within. absurd (omega (arith, lt, within))) (λ w none. absurd (Contains-nil w none)) (slack-of T valid i few s is) in
+          let middle = opened-sound T valid i few s is k None [] false c at (none-of c.mark open') tt (λ a b e lt within. absurd (omega (arith, lt, within)))
+          (λ w none. absurd (Contains-nil w none)) (slack-of T valid i few s is) in
           subst (λ n. IsSoundBut T i None None None (Some n) 0 t) (sym same) (subst (IsSoundBut T i None None None (Some s.next_job) 0) (sym is_opened) middle)
 
   pub left-sound : IsSound T i (revoked_if_left T i k s)
@@ -133,16 +140,19 @@ module _ (T : Setup) (i : ℕ) (o : Option ℕ) (s t : Side) (row : t ≡ finish
   pub finished-links : link_count t.caps ≤ link_count s.caps
   finished-links =
       let same = ap (λ (u : Side). link_count u.caps) row in
-      let less = finish-less (λ (c : Capability). length c.children) (λ c. omega arith) (λ c k. without_key-shorter c.children k) T i (length s.jobs) (option_and_then (job_of s.jobs) o) s in
+      let less = finish-less (λ (c : Capability). length c.children) (λ c. omega arith) (λ c k. without_key-shorter c.children k) T i (length s.jobs)
+      (option_and_then (job_of s.jobs) o) s in
       omega (arith, same, less)
 
   pub finished-open : open_links t.caps ≤ open_links s.caps
   finished-open =
       let same = ap (λ (u : Side). open_links u.caps) row in
-      let less = finish-less (λ (c : Capability). if is_none c.mark then length c.children else 0) (λ c. omega arith) (λ c k. weaker c k) T i (length s.jobs) (option_and_then (job_of s.jobs) o) s in
+      let less = finish-less (λ (c : Capability). if is_none c.mark then length c.children else 0) (λ c. omega arith) (λ c k. weaker c k) T i (length s.jobs)
+      (option_and_then (job_of s.jobs) o) s in
       omega (arith, same, less)
     where
-      weaker : (c : Capability) (k : KeyName) → (if is_none c.mark then length (without_key c.children k) else 0) ≤ (if is_none c.mark then length c.children else 0)
+      weaker : (c : Capability) (k : KeyName) → (if is_none c.mark then length (without_key c.children k) else 0) ≤ (if is_none c.mark then length c.children
+          else 0)
       weaker c k = from (is_none c.mark)
         where
           from : (b : Bool) → (if b then length (without_key c.children k) else 0) ≤ (if b then length c.children else 0)
@@ -160,16 +170,21 @@ fewer-jobs n m x less room = record {
 }
 
 -- what was listed where nothing was listed before
-pub listed-is : (cs : List Capability) (v : ℕ) (before after : List KeyName) → after ≡ before ++ filter (λ (k : KeyName). k.vpe == v) (map (λ (c : Capability). c.key) cs) → before ≡ [] → after ≡ filter (λ (k : KeyName). k.vpe == v) (map (λ (c : Capability). c.key) cs)
+pub listed-is : (cs : List Capability) (v : ℕ) (before after : List KeyName) →
+    after ≡ before ++ filter (λ (k : KeyName). k.vpe == v) (map (λ (c : Capability). c.key) cs) → before ≡ [] →
+    after ≡ filter (λ (k : KeyName). k.vpe == v) (map (λ (c : Capability). c.key) cs)
 listed-is cs v before after is none = is ∙ ap (λ (ks : List KeyName). ks ++ filter (λ (k : KeyName). k.vpe == v) (map (λ (c : Capability). c.key) cs)) none
 
 -- a VPE has ended where what it held was revoked
-pub ended-row : (T : Setup) (i v : ℕ) (s m : Side) (ks : List KeyName) → m ≡ ended_but_held T i v s → ks ≡ filter (λ (k : KeyName). k.vpe == v) (map (λ (c : Capability). c.key) m.caps) → in_turn (revoked_if_left T i) ks m ≡ ended T i v s
+pub ended-row : (T : Setup) (i v : ℕ) (s m : Side) (ks : List KeyName) → m ≡ ended_but_held T i v s →
+    ks ≡ filter (λ (k : KeyName). k.vpe == v) (map (λ (c : Capability). c.key) m.caps) → in_turn (revoked_if_left T i) ks m ≡ ended T i v s
 unfolding ended
-ended-row T i v s m ks row items = ap (λ (xs : List KeyName). in_turn (revoked_if_left T i) xs m) items ∙ ap (λ (u : Side). in_turn (revoked_if_left T i) (keys_of u v) u) row
+ended-row T i v s m ks row items = ap (λ (xs : List KeyName). in_turn (revoked_if_left T i) xs m) items
+    ∙ ap (λ (u : Side). in_turn (revoked_if_left T i) (keys_of u v) u) row
 
 -- a VPE holds no more than its kernel
-pub listed-few : (cs : List Capability) (v : ℕ) (ks : List KeyName) → ks ≡ filter (λ (k : KeyName). k.vpe == v) (map (λ (c : Capability). c.key) cs) → length ks ≤ length cs
+pub listed-few : (cs : List Capability) (v : ℕ) (ks : List KeyName) → ks ≡ filter (λ (k : KeyName). k.vpe == v) (map (λ (c : Capability). c.key) cs) →
+    length ks ≤ length cs
 listed-few cs v ks is =
     let fewer = filter-shorter (λ (k : KeyName). k.vpe == v) (map (λ (c : Capability). c.key) cs) in
     let same = length-map cs (λ (c : Capability). c.key) in

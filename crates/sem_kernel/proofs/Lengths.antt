@@ -34,25 +34,34 @@ module _ (T : Setup) (i j : ℕ) (n : ℕ) where
 
   adopted-as : (o : Option ℕ) (t : Side) → As t.jobs → As (adopted j o t).jobs
   adopted-as None t here = here
-  adopted-as (Some m) t here = raised-as (jobs_up (Local j) m t.jobs) (changed-length (λ (x : JobRow). x.id == m) (λ x. record x { up = Some (Local j); keep = false }) t.jobs ∙ here)
+  adopted-as (Some m) t here =
+      raised-as (jobs_up (Local j) m t.jobs) (changed-length (λ (x : JobRow). x.id == m) (λ x. record x { up = Some (Local j); keep = false }) t.jobs ∙ here)
 
   requested-as : (k : KeyName) (t : Side) → As t.jobs → As (request_or_adopt T i j k t).jobs
-  requested-as k t here = cond_both (is_local T i k) (adopted j (other_marker j (cap t k)) t) (count_raised j (send (owner_of T k) (RevokeReq k j) t)) (λ u. As u.jobs) (λ _. adopted-as (other_marker j (cap t k)) t here) (λ _. raised-as t.jobs here)
+  requested-as k t here = cond_both (is_local T i k) (adopted j (other_marker j (cap t k)) t) (count_raised j (send (owner_of T k) (RevokeReq k j) t))
+      (λ u. As u.jobs) (λ _. adopted-as (other_marker j (cap t k)) t here) (λ _. raised-as t.jobs here)
 
 module _ (T : Setup) (i : ℕ) where
   -- one job more is open
   pub opened-jobs : (root : KeyName) (up : Option Up) (ws : List ℕ) (keep : Bool) (s : Side) → length (opened T i root up ws keep s).jobs ≡ length s.jobs + 1
   unfolding opened
-  opened-jobs root up ws keep s = in_turn-keeps (λ t. length t.jobs ≡ length s.jobs + 1) (request_or_adopt T i s.next_job) (requested-as T i s.next_job (length s.jobs + 1)) _ _ (push-length s.jobs _)
+  opened-jobs root up ws keep s = in_turn-keeps (λ t. length t.jobs ≡ length s.jobs + 1) (request_or_adopt T i s.next_job)
+      (requested-as T i s.next_job (length s.jobs + 1)) _ _ (push-length s.jobs _)
 
   -- the region is marked
-  pub opened-caps : (root : KeyName) (up : Option Up) (ws : List ℕ) (keep : Bool) (s : Side) → (opened T i root up ws keep s).caps ≡ all_marked (region s.caps root) s.next_job s.caps
+  pub opened-caps : (root : KeyName) (up : Option Up) (ws : List ℕ) (keep : Bool) (s : Side) →
+      (opened T i root up ws keep s).caps ≡ all_marked (region s.caps root) s.next_job s.caps
   unfolding opened
-  opened-caps root up ws keep s = in_turn-keeps (λ t. t.caps ≡ all_marked (region s.caps root) s.next_job s.caps) (request_or_adopt T i s.next_job) same _ _ refl
+  opened-caps root up ws keep s = in_turn-keeps (λ t. t.caps ≡ all_marked (region s.caps root) s.next_job s.caps) (request_or_adopt T i s.next_job) same _ _
+      refl
     where
-      adopts : (j : ℕ) (o : Option ℕ) (t : Side) → t.caps ≡ all_marked (region s.caps root) s.next_job s.caps → (adopted j o t).caps ≡ all_marked (region s.caps root) s.next_job s.caps
+      adopts : (j : ℕ) (o : Option ℕ) (t : Side) → t.caps ≡ all_marked (region s.caps root) s.next_job s.caps →
+          (adopted j o t).caps ≡ all_marked (region s.caps root) s.next_job s.caps
       adopts j None t here = here
       adopts j (Some m) t here = here
 
-      same : (k : KeyName) (t : Side) → t.caps ≡ all_marked (region s.caps root) s.next_job s.caps → (request_or_adopt T i s.next_job k t).caps ≡ all_marked (region s.caps root) s.next_job s.caps
-      same k t here = cond_both (is_local T i k) (adopted s.next_job (other_marker s.next_job (cap t k)) t) (count_raised s.next_job (send (owner_of T k) (RevokeReq k s.next_job) t)) (λ u. u.caps ≡ all_marked (region s.caps root) s.next_job s.caps) (λ _. adopts s.next_job (other_marker s.next_job (cap t k)) t here) (λ _. here)
+      same : (k : KeyName) (t : Side) → t.caps ≡ all_marked (region s.caps root) s.next_job s.caps →
+          (request_or_adopt T i s.next_job k t).caps ≡ all_marked (region s.caps root) s.next_job s.caps
+      same k t here = cond_both (is_local T i k) (adopted s.next_job (other_marker s.next_job (cap t k)) t)
+          (count_raised s.next_job (send (owner_of T k) (RevokeReq k s.next_job) t)) (λ u. u.caps ≡ all_marked (region s.caps root) s.next_job s.caps)
+          (λ _. adopts s.next_job (other_marker s.next_job (cap t k)) t here) (λ _. here)

@@ -16,6 +16,7 @@ pub mod Happened
 pub mod Doing
 pub mod Beginning
 pub mod Listings
+pub mod PeerRows
 pub mod Owned
 pub mod Passing
 pub mod Stands

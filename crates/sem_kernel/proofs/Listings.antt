@@ -1,7 +1,7 @@
 -- What the list of enabled events has after more of its events were tried.
-use Rattle.std.proofs.Common.{◌≡◌, ℕ, ◌+◌, ◌<◌, ◌≤◌, ◌&&◌, Bool, true, false, List, [], ◌∷◌, ◌++◌, length, map, take, get_or, refl, sym, ◌∙◌, ap, arith}
+use Rattle.std.proofs.Common.{◌≡◌, ℕ, ◌+◌, ◌<◌, ◌≤◌, ◌&&◌, Bool, true, false, not, List, [], ◌∷◌, ◌++◌, length, map, take, get_or, refl, sym, ◌∙◌, ap, arith}
 use Rattle.std.specs.Prelude.{◌==◌, nat_lt}
-use Rattle.std.specs.List.{Contains, filter, flat_map, range_with_len}
+use Rattle.std.specs.List.{Contains, flat_map, range_with_len}
 use Rattle.std.specs.Option.{option_map_or}
 use Rattle.std.proofs.lemmas.Bool.{cond-true, cond-false, le-ltb}
 use Rattle.std.proofs.lemmas.List.{append_assoc, append-nil, map-append, map-id, take_more, take_all}
@@ -14,11 +14,14 @@ use Rattle.sem_msg.specs.declared.event.Event.{Event}
 use Rattle.sem_msg.specs.declared.setup.VpeDecl.{VpeDecl}
 use Rattle.sem_msg.specs.Setup.{Setup, IsSetup}
 use Rattle.sem_msg.specs.Lookups.{pe_owner, kernel_of}
+use Rattle.sem_msg.specs.Masks.{has_bit}
+use Rattle.sem_msg.proofs.Masks.{kept-same, kept-longer}
+use Rattle.sem_caps.proofs.Swept.{map-filter}
 use Rattle.sem_machine.specs.Machine.{World, event, is_enabled, is_locally_enabled, kernel_events, enabled}
 use Rattle.sem_machine.proofs.FirstNumbers.{find-decl}
 use Rattle.sem_kernel.specs.declared.listing.VpeRow.{VpeRow}
 use Rattle.sem_kernel.specs.declared.listing.VpeRow.TheVariants.{Calls, Resumes, Upcalls}
-use Rattle.sem_kernel.specs.Listing.{enabled_among, enabled_of, vpe_act}
+use Rattle.sem_kernel.specs.Listing.{enabled_among, enabled_of, others_in, vpe_act}
 use Rattle.sem_kernel.proofs.Happened.{enabled-nowhere}
 
 -- one number more
@@ -30,7 +33,8 @@ range-more n =
 
 module _ (T : Setup) (W : World) where
   -- those of some events, and then those of more
-  pub and-more : (xs ys out new more : List Event) → new ≡ out ++ enabled_among T W xs → more ≡ new ++ enabled_among T W ys → more ≡ out ++ enabled_among T W (xs ++ ys)
+  pub and-more : (xs ys out new more : List Event) → new ≡ out ++ enabled_among T W xs → more ≡ new ++ enabled_among T W ys →
+      more ≡ out ++ enabled_among T W (xs ++ ys)
   and-more xs ys out new more first then =
       then
       ∙ (ap (λ es. es ++ enabled_among T W ys) first
@@ -45,22 +49,28 @@ module _ (T : Setup) (W : World) where
   one-disabled e out disabled = sym (ap (λ es. out ++ es) (cond-false (is_enabled T W e) (e ∷ []) [] disabled) ∙ append-nil out)
 
   -- one more of a row through a list
-  pub row-more : {X : Type 0} (f : X → Event) (xs : List X) (n : ℕ) (x : X) (out now new : List Event) → n < length xs → x ≡ get_or xs n x → now ≡ out ++ enabled_among T W (map f (take n xs)) → new ≡ now ++ enabled_among T W (f x ∷ []) → new ≡ out ++ enabled_among T W (map f (take (n + 1) xs))
+  pub row-more : {X : Type 0} (f : X → Event) (xs : List X) (n : ℕ) (x : X) (out now new : List Event) → n < length xs → x ≡ get_or xs n x →
+      now ≡ out ++ enabled_among T W (map f (take n xs)) → new ≡ now ++ enabled_among T W (f x ∷ []) → new ≡ out ++ enabled_among T W (map f (take (n + 1) xs))
   row-more f xs n x out now new more at so_far is =
       and-more (map f (take n xs)) (f x ∷ []) out now new so_far is
-      ∙ ap (λ es. out ++ enabled_among T W es) (sym (ap (map f) (take_more xs n x more ∙ ap (λ y. take n xs ++ y ∷ []) (sym at)) ∙ map-append f (take n xs) (x ∷ [])))
+      ∙ ap (λ es. out ++ enabled_among T W es) (sym (ap (map f) (take_more xs n x more ∙ ap (λ y. take n xs ++ y ∷ []) (sym at))
+      ∙ map-append f (take n xs) (x ∷ [])))
 
-  pub row-all : {X : Type 0} (f : X → Event) (xs : List X) (n : ℕ) (out now : List Event) → length xs ≤ n → now ≡ out ++ enabled_among T W (map f (take n xs)) → now ≡ out ++ enabled_among T W (map f xs)
+  pub row-all : {X : Type 0} (f : X → Event) (xs : List X) (n : ℕ) (out now : List Event) → length xs ≤ n → now ≡ out ++ enabled_among T W (map f (take n xs)) →
+      now ≡ out ++ enabled_among T W (map f xs)
   row-all f xs n out now all so_far = so_far ∙ ap (λ ys. out ++ enabled_among T W (map f ys)) (take_all n xs all)
 
-  -- one more of a row through the kernels
-  pub peers-more : (f : ℕ → Event) (n : ℕ) (out now new : List Event) → now ≡ out ++ enabled_among T W (map f (range_with_len 0 n)) → new ≡ now ++ enabled_among T W (f n ∷ []) → new ≡ out ++ enabled_among T W (map f (range_with_len 0 (n + 1)))
-  peers-more f n out now new so_far is =
-      and-more (map f (range_with_len 0 n)) (f n ∷ []) out now new so_far is
-      ∙ ap (λ es. out ++ enabled_among T W es) (sym (map-range_with_len_more f 0 n n (omega arith)))
+  -- the events for those kernels of which a mask has the bit
+  pub peers-kept : (f : ℕ → Event) (mask i : ℕ) → T.kernels ≤ 32 → ((j : ℕ) → j < 32 → (not (j == i) && has_bit mask j) ≡ is_enabled T W (f j)) →
+      ((j : ℕ) → T.kernels ≤ j → is_enabled T W (f j) ≡ false) → map f (others_in mask i) ≡ enabled_among T W (map f (range_with_len 0 T.kernels))
+  peers-kept f mask i few told off =
+      ap (map f) (kept-same (λ j. is_enabled T W (f j)) (λ j. not (j == i) && has_bit mask j) 32 0 (λ j low high. told j (omega arith))
+      ∙ kept-longer (λ j. is_enabled T W (f j)) T.kernels 32 0 few (λ j low high. off j (omega arith)))
+      ∙ map-filter f (is_enabled T W) (range_with_len 0 T.kernels)
 
   -- one more kernel
-  pub kernels-more : (n : ℕ) (now new : List Event) → now ≡ enabled_among T W (flat_map (kernel_events T) (range_with_len 0 n)) → new ≡ now ++ enabled_of T W n → new ≡ enabled_among T W (flat_map (kernel_events T) (range_with_len 0 (n + 1)))
+  pub kernels-more : (n : ℕ) (now new : List Event) → now ≡ enabled_among T W (flat_map (kernel_events T) (range_with_len 0 n)) →
+      new ≡ now ++ enabled_of T W n → new ≡ enabled_among T W (flat_map (kernel_events T) (range_with_len 0 (n + 1)))
   kernels-more n now new so_far is =
       is
       ∙ (ap (λ es. es ++ enabled_of T W n) so_far
@@ -106,7 +116,8 @@ module _ (T : Setup) (W : World) where
       (none-kept (λ (d : ℕ × ℕ). event i (Kill d.0)) T.kills (λ d. off (Kill d.0)))
 
   -- a VPE of another kernel has no event at kernel i
-  pub elsewhere : IsSetup T → (i : ℕ) (row : VpeRow) (d : VpeDecl) → Contains T.vpes d → (pe_owner T d.pe == i) ≡ false → is_enabled T W (event i (vpe_act row d.vpe)) ≡ false
+  pub elsewhere : IsSetup T → (i : ℕ) (row : VpeRow) (d : VpeDecl) → Contains T.vpes d → (pe_owner T d.pe == i) ≡ false →
+      is_enabled T W (event i (vpe_act row d.vpe)) ≡ false
   unfolding is_enabled is_locally_enabled
   elsewhere valid i row d among other = from row
     where

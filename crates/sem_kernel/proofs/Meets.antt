@@ -52,8 +52,10 @@ module _ (T : Setup) (valid : IsSetup T) (i : ℕ) (few : i < T.kernels) where
         from (Some c) at =
             let there = cap-among T valid i few None None None None s is k c at in
             let weighs = weigh-among (λ (x : Capability). bit ((x.key.vpe == k.vpe) && (x.key.number == k.number))) s.caps c there.0 in
-            let both : bit ((k.vpe == k.vpe) && (k.number == k.number)) ≡ 1 = ap bit (and_from (k.vpe == k.vpe) (k.number == k.number) (eq-eqb k.vpe k.vpe refl) (eq-eqb k.number k.number refl)) in
-            let one : bit ((c.key.vpe == k.vpe) && (c.key.number == k.number)) ≡ 1 = ap (λ (q : KeyName). bit ((q.vpe == k.vpe) && (q.number == k.number))) there.1 ∙ both in
+            let both : bit ((k.vpe == k.vpe) && (k.number == k.number)) ≡ 1 =
+            ap bit (and_from (k.vpe == k.vpe) (k.number == k.number) (eq-eqb k.vpe k.vpe refl) (eq-eqb k.number k.number refl)) in
+            let one : bit ((c.key.vpe == k.vpe) && (c.key.number == k.number)) ≡ 1 =
+            ap (λ (q : KeyName). bit ((q.vpe == k.vpe) && (q.number == k.number))) there.1 ∙ both in
             absurd (omega (arith, weighs, one, none))
 
     -- no capability has the number that a VPE draws next
@@ -88,7 +90,8 @@ module _ (T : Setup) (valid : IsSetup T) (i : ℕ) (few : i < T.kernels) where
     place-absent place waits kind = kept-absent (keyed place kind) (waits-keeps place.number (parked s place.vpe) waits)
 
     -- that of the key which a call is about to install
-    pub ready-absent : (v : ℕ) (key parent : KeyName) (object : Object) (sel : ℕ) → parked s v ≡ Some (ObtainReady key parent object sel) → (key.vpe ≡ v) × (cap s key ≡ None)
+    pub ready-absent : (v : ℕ) (key parent : KeyName) (object : Object) (sel : ℕ) → parked s v ≡ Some (ObtainReady key parent object sel) →
+        (key.vpe ≡ v) × (cap s key ≡ None)
     ready-absent v key parent object sel at =
         let own_key : key.vpe ≡ v = (is.calls v (ObtainReady key parent object sel) at).1.0 in
         let there : parked s key.vpe ≡ Some (ObtainReady key parent object sel) = ap (parked s) own_key ∙ at in
@@ -100,8 +103,10 @@ module _ (T : Setup) (valid : IsSetup T) (i : ℕ) (few : i < T.kernels) where
         let there = found (λ (q : Pending). key_eq q.key k) s.pendings p at in
         let same : p.key ≡ k = key_eq-true p.key k there.1 in
         let weighs = weigh-among (λ (q : Pending). bit ((q.key.vpe == k.vpe) && (q.key.number == k.number))) s.pendings p there.0 in
-        let both : bit ((k.vpe == k.vpe) && (k.number == k.number)) ≡ 1 = ap bit (and_from (k.vpe == k.vpe) (k.number == k.number) (eq-eqb k.vpe k.vpe refl) (eq-eqb k.number k.number refl)) in
-        let one : bit ((p.key.vpe == k.vpe) && (p.key.number == k.number)) ≡ 1 = ap (λ (q : KeyName). bit ((q.vpe == k.vpe) && (q.number == k.number))) same ∙ both in
+        let both : bit ((k.vpe == k.vpe) && (k.number == k.number)) ≡ 1 =
+        ap bit (and_from (k.vpe == k.vpe) (k.number == k.number) (eq-eqb k.vpe k.vpe refl) (eq-eqb k.number k.number refl)) in
+        let one : bit ((p.key.vpe == k.vpe) && (p.key.number == k.number)) ≡ 1 = ap (λ (q : KeyName). bit ((q.vpe == k.vpe) && (q.number == k.number))) same
+        ∙ both in
         let used = is.numbers k.vpe k.number in
         let most = bit-most (nat_lt k.number (row s k.vpe).next_number) in
         unused-absent k (omega (arith, used, most, weighs, one))

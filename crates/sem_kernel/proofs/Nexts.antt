@@ -4,7 +4,8 @@ use Rattle.std.specs.Option.{option_map_or, option_and_then}
 use Rattle.std.proofs.lemmas.Option.{slice_get_within}
 use Rattle.sem_key.proofs.Puts.{get_or-put_same}
 use Rattle.sem_msg.specs.declared.call.Call.{Call}
-use Rattle.sem_msg.specs.declared.call.Call.TheVariants.{Derive, Gate, Obtain, Delegate, OpenSession, AskOffer, Revoke, Bind, Read, Write, Send as SendCall, Credit, Exit, Clear}
+use Rattle.sem_msg.specs.declared.call.Call.TheVariants.{Derive, Gate, Obtain, Delegate, OpenSession, AskOffer, Revoke, Bind, Read, Write, Send as SendCall}
+use Rattle.sem_msg.specs.declared.call.Call.TheVariants.{Credit, Exit, Clear}
 use Rattle.sem_msg.specs.declared.event.Act.{Act}
 use Rattle.sem_msg.specs.declared.event.Act.TheVariants.{Call as Calls, Handle, Upcall, Resume, Flush, Kill}
 use Rattle.sem_msg.specs.declared.message.Message.{Message}
@@ -50,15 +51,18 @@ counted-parent s v (Credit ep) = refl
 counted-parent s v Exit = refl
 counted-parent s v (Clear src) = refl
 
-module _ (T : Setup) (valid : IsSetup T) (i : ℕ) (few : i < T.kernels) (s : Side) (is : IsSound T i s) (v : ℕ) (here : kernel_of T v ≡ i) (rows : List VpeRow) (counted : rows ≡ VpeRows.call_counted v s.vpes) (call : Call) (next : next_call T s v ≡ Some call) where
+module _ (T : Setup) (valid : IsSetup T) (i : ℕ) (few : i < T.kernels) (s : Side) (is : IsSound T i s) (v : ℕ) (here : kernel_of T v ≡ i) (rows : List VpeRow)
+    (counted : rows ≡ VpeRows.call_counted v s.vpes) (call : Call) (next : next_call T s v ≡ Some call) where
   abbrev t : Side
   t = record s { vpes = rows }
 
   pub counted-sound_side : IsSound T i t
-  counted-sound_side = subst (λ (r : List VpeRow). IsSound T i (record s { vpes = r })) (sym counted) (counted-sound T valid i few None None None None s is v here (slice_get_within (calls_of T v) (row s v).next_call call next))
+  counted-sound_side = subst (λ (r : List VpeRow). IsSound T i (record s { vpes = r })) (sym counted)
+      (counted-sound T valid i few None None None None s is v here (slice_get_within (calls_of T v) (row s v).next_call call next))
 
   pub counted-pays_side : ids_owed t + 1 ≤ ids_paid t
-  counted-pays_side = subst (λ (r : List VpeRow). ids_owed (record s { vpes = r }) + 1 ≤ ids_paid (record s { vpes = r })) (sym counted) (let pays = counted-pays T valid i few None None None None s is v here in omega (arith, pays))
+  counted-pays_side = subst (λ (r : List VpeRow). ids_owed (record s { vpes = r }) + 1 ≤ ids_paid (record s { vpes = r })) (sym counted) (let pays =
+      counted-pays T valid i few None None None None s is v here in omega (arith, pays))
 
   pub counted-parent_side : linked_parent T s (Calls v) ≡ called_parent t v call
   counted-parent_side =
@@ -69,20 +73,23 @@ module _ (T : Setup) (valid : IsSetup T) (i : ℕ) (few : i < T.kernels) (s : Si
   counted-asks = ap (λ (r : List VpeRow). (VpeRows.row r v).asks) counted ∙ ap (λ (r : VpeRow). r.asks) (counted-row s v)
 
 -- the step of a call, and its detail
-pub call-step : (T : Setup) (i v : ℕ) (s : Side) (rows : List VpeRow) (call : Call) (x : Step) → rows ≡ VpeRows.call_counted v s.vpes → next_call T s v ≡ Some call → x ≡ call_row T i (record s { vpes = rows }) v call → x ≡ local_step T i s (Calls v) None
+pub call-step : (T : Setup) (i v : ℕ) (s : Side) (rows : List VpeRow) (call : Call) (x : Step) → rows ≡ VpeRows.call_counted v s.vpes →
+    next_call T s v ≡ Some call → x ≡ call_row T i (record s { vpes = rows }) v call → x ≡ local_step T i s (Calls v) None
 unfolding local_step
 call-step T i v s rows call x counted next is =
     is
     ∙ (ap (λ (r : List VpeRow). call_row T i (record s { vpes = r }) v call) counted
     ∙ sym (ap (λ (o : Option Call). option_map_or (call_row T i (call_counted v s) v) o (plain s)) next))
 
-pub call-detail : (T : Setup) (v index : ℕ) (s : Side) (call : Call) (o : Outcome) → index ≡ (row s v).next_call → next_call T s v ≡ Some call → Called index call ≡ detail_of T s (Calls v) None o
+pub call-detail : (T : Setup) (v index : ℕ) (s : Side) (call : Call) (o : Outcome) → index ≡ (row s v).next_call → next_call T s v ≡ Some call →
+    Called index call ≡ detail_of T s (Calls v) None o
 call-detail T v index s call o counted next =
     ap (λ n. Called n call) counted
     ∙ sym (ap (λ (q : Option Call). option_map_or (λ c. Called (row s v).next_call c) q Nothing) next)
 
 -- the step of a message, and its detail
-pub handle-step : (T : Setup) (i : ℕ) (s t : Side) (from : ℕ) (m : Message) → s.inbox ≡ Some (from, m) → t ≡ handled T i (with_inbox None s) from m → plain t ≡ local_step T i s Handle None
+pub handle-step : (T : Setup) (i : ℕ) (s t : Side) (from : ℕ) (m : Message) → s.inbox ≡ Some (from, m) → t ≡ handled T i (with_inbox None s) from m →
+    plain t ≡ local_step T i s Handle None
 unfolding local_step
 handle-step T i s t from m inbox is =
     ap plain (is ∙ sym (ap (λ (o : Option (ℕ × Message)). option_map_or (λ q. handled T i (with_inbox None s) q.0 q.1) o s) inbox))

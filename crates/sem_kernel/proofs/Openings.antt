@@ -1,5 +1,6 @@
 -- A job that was opened leaves a sound side but for itself, and a sound side but for a job can be swept.
-use Rattle.std.proofs.Common.{◌≡◌, ◌≢◌, ℕ, ◌+◌, ◌<◌, ◌≤◌, Bool, true, false, List, [], ◌∷◌, Option, Some, None, refl, sym, ◌∙◌, ap, subst, get_or, length, eq-eqb, true≢false, inl, inr, arith}
+use Rattle.std.proofs.Common.{◌≡◌, ◌≢◌, ℕ, ◌+◌, ◌<◌, ◌≤◌, Bool, true, false, List, [], ◌∷◌, Option, Some, None, refl, sym, ◌∙◌, ap, subst, get_or, length}
+use Rattle.std.proofs.Common.{eq-eqb, true≢false, inl, inr, arith}
 use Rattle.std.specs.Prelude.{IfSome, IsSome, IsSomeAnd}
 use Rattle.std.specs.List.{Contains, All}
 use Rattle.std.specs.Option.{is_some}
@@ -46,11 +47,13 @@ All-each P xs each k d within = each (get_or xs k d) (Contains-get_or xs k d wit
 module _ (T : Setup) (valid : IsSetup T) (i : ℕ) (few : i < T.kernels) where
   -- what is made from a capability has owners
   pub lead-home : (s : Side) → IsSound T i s → All (LeadsHome T) s.caps
-  lead-home s is = All-each (LeadsHome T) s.caps (λ c among. All-each (HasOwner T) c.children (λ k child. owner-below T valid i few k ((is.caps c among).children k child)))
+  lead-home s is = All-each (LeadsHome T) s.caps
+      (λ c among. All-each (HasOwner T) c.children (λ k child. owner-below T valid i few k ((is.caps c among).children k child)))
 
   -- capabilities can be swept, and whoever waits for a job is there
   pub can-sweep : (n p : Option (ℕ × ℕ)) (g d : Option ℕ) (s : Side) → IsSoundBut T i n p g d 0 s → All (CanSweepCap T i) s.caps
-  can-sweep n p g d s is = All-each (CanSweepCap T i) s.caps (λ c among. let sound = is.caps c among in record { own = own-local T valid i few c sound; parent = from c.parent sound.parent })
+  can-sweep n p g d s is = All-each (CanSweepCap T i) s.caps (λ c among. let sound = is.caps c among in
+      record { own = own-local T valid i few c sound; parent = from c.parent sound.parent })
     where
       from : (o : Option KeyName) → ((k : KeyName) → o ≡ Some k → IsNamed T k) → IfSome o (HasOwner T)
       from None named = tt
@@ -66,17 +69,28 @@ module _ (T : Setup) (valid : IsSetup T) (i : ℕ) (few : i < T.kernels) where
 
   module _ (s : Side) (is : IsSound T i s) where
     -- a job that is opened for a call
-    pub called-opened : (v : ℕ) → kernel_of T v ≡ i → parked s v ≡ None → (k : KeyName) (c : Capability) → cap s k ≡ Some c → c.mark ≡ None → (keep : Bool) → ids_owed s + bit keep ≤ ids_paid s → IsSoundBut T i None None None (Some s.next_job) 0 (opened T i k None (v ∷ []) keep (parked_as v (RevokeWait s.next_job) s))
+    pub called-opened : (v : ℕ) → kernel_of T v ≡ i → parked s v ≡ None → (k : KeyName) (c : Capability) → cap s k ≡ Some c → c.mark ≡ None → (keep : Bool) →
+        ids_owed s + bit keep ≤ ids_paid s →
+        IsSoundBut T i None None None (Some s.next_job) 0 (opened T i k None (v ∷ []) keep (parked_as v (RevokeWait s.next_job) s))
     called-opened v local free k c held unmarked keep slack =
         let small = next-job T valid i None None None None s is in
         let waiting : Side = parked_as v (RevokeWait s.next_job) s in
-        let parks : IsSound T i waiting = reparked-sound T valid i few s is v local None free (λ j none. absurd cc) (Some (RevokeWait s.next_job)) (λ x same. subst (IsSoundCall T i v) (same_Some (RevokeWait s.next_job) x same) (omega (arith, small))) refl in
+        let parks : IsSound T i waiting = reparked-sound T valid i few s is v local None free (λ j none. absurd cc) (Some (RevokeWait s.next_job))
+        (λ x same. subst (IsSoundCall T i v) (same_Some (RevokeWait s.next_job) x same) (omega (arith, small))) refl in
         let weight = weigh-put (λ (p : Option Parked). one_if (kept p)) None refl s.parks v (Some (RevokeWait s.next_job)) in
         let none = ap (λ (p : Option Parked). one_if (kept p)) free in
-        opened-sound T valid i few waiting parks k None (v ∷ []) keep c held unmarked tt (λ a b e lt within. absurd (omega (arith, lt, within))) (λ w in_ws. elim (Contains-cons_cases v [] w in_ws) [ inl same ↦ subst (λ x. parked waiting x ≡ Some (RevokeWait s.next_job)) same (get_or-put_same None s.parks v (Some (RevokeWait s.next_job))) | inr none' ↦ absurd (Contains-nil w none') ]) (omega (arith, slack, weight, none))
+        opened-sound T valid i few waiting parks k None (v ∷ []) keep c held unmarked tt (λ a b e lt within. absurd (omega (arith, lt, within)))
+        (λ w in_ws. elim (Contains-cons_cases v [] w in_ws) [
+          | inl same ↦ subst (λ x. parked waiting x ≡ Some (RevokeWait s.next_job)) same
+              (get_or-put_same None s.parks v (Some (RevokeWait s.next_job)))
+          | inr none' ↦ absurd (Contains-nil w none')
+        ]) (omega (arith, slack, weight, none))
 
     -- where a job is to be finished at once, that is the one
-    pub call-middle : (v sel : ℕ) → kernel_of T v ≡ i → parked s v ≡ None → (keep : Bool) → ids_owed s + bit keep ≤ ids_paid s → (o : Option ℕ) (t : Side) → IfSome o (λ j. j ≡ s.next_job) → (IsSome o → IsSomeAnd (own s v sel) (λ c. c.mark ≡ None)) → (IsSome o → (c : Capability) → own s v sel ≡ Some c → t ≡ opened T i c.key None (v ∷ []) keep (parked_as v (RevokeWait s.next_job) s)) → IfSome o (λ j. IsSoundBut T i None None None (Some j) 0 t)
+    pub call-middle : (v sel : ℕ) → kernel_of T v ≡ i → parked s v ≡ None → (keep : Bool) → ids_owed s + bit keep ≤ ids_paid s → (o : Option ℕ) (t : Side) →
+        IfSome o (λ j. j ≡ s.next_job) → (IsSome o → IsSomeAnd (own s v sel) (λ c. c.mark ≡ None)) →
+        (IsSome o → (c : Capability) → own s v sel ≡ Some c → t ≡ opened T i c.key None (v ∷ []) keep (parked_as v (RevokeWait s.next_job) s)) →
+        IfSome o (λ j. IsSoundBut T i None None None (Some j) 0 t)
     call-middle v sel local free keep slack None t same unmarked is_opened = tt
     call-middle v sel local free keep slack (Some j) t same unmarked is_opened = from (own s v sel) refl (unmarked refl)
       where
@@ -85,17 +99,25 @@ module _ (T : Setup) (valid : IsSetup T) (i : ℕ) (few : i < T.kernels) where
         from (Some c) at mark =
             let there = own-among T valid i few s is v sel c at in
             let middle = called-opened v local free c.key c there.2 mark keep slack in
-            subst (λ n. IsSoundBut T i None None None (Some n) 0 t) (sym same) (subst (IsSoundBut T i None None None (Some s.next_job) 0) (sym (is_opened refl c at)) middle)
+            subst (λ n. IsSoundBut T i None None None (Some n) 0 t) (sym same)
+            (subst (IsSoundBut T i None None None (Some s.next_job) 0) (sym (is_opened refl c at)) middle)
 
-    pub request-middle : (from job : ℕ) → from < T.kernels → from ≢ i → IsJobId job → (k : KeyName) (o : Option ℕ) (t : Side) → IfSome o (λ j. j ≡ s.next_job) → (IsSome o → IsSomeAnd (cap s k) (λ c. c.mark ≡ None)) → (IsSome o → t ≡ opened T i k (Some (Remote from job)) [] false s) → IfSome o (λ j. IsSoundBut T i None None None (Some j) 0 t)
+    pub request-middle : (from job : ℕ) → from < T.kernels → from ≢ i → IsJobId job → (k : KeyName) (o : Option ℕ) (t : Side) → IfSome o (λ j. j ≡ s.next_job) →
+        (IsSome o → IsSomeAnd (cap s k) (λ c. c.mark ≡ None)) → (IsSome o → t ≡ opened T i k (Some (Remote from job)) [] false s) →
+        IfSome o (λ j. IsSoundBut T i None None None (Some j) 0 t)
     request-middle from job kernel other id k None t same unmarked is_opened = tt
     request-middle from job kernel other id k (Some j) t same unmarked is_opened = by_cap (cap s k) refl (unmarked refl)
       where
         by_cap : (a : Option Capability) → cap s k ≡ a → IsSomeAnd a (λ c. c.mark ≡ None) → IsSoundBut T i None None None (Some j) 0 t
         by_cap None at none = absurd none
         by_cap (Some c) at mark =
-            let middle = opened-sound T valid i few s is k (Some (Remote from job)) [] false c at mark (kernel, other, id) (λ a b e lt within. absurd (omega (arith, lt, within))) (λ w none. absurd (Contains-nil w none)) (slack-of T valid i few s is) in
-            subst (λ n. IsSoundBut T i None None None (Some n) 0 t) (sym same) (subst (IsSoundBut T i None None None (Some s.next_job) 0) (sym (is_opened refl)) middle)
+            let middle = opened-sound T valid i few s is k (Some (Remote from job)) [] false c at mark (
+              kernel,
+              other,
+              id,
+            ) (λ a b e lt within. absurd (omega (arith, lt, within))) (λ w none. absurd (Contains-nil w none)) (slack-of T valid i few s is) in
+            subst (λ n. IsSoundBut T i None None None (Some n) 0 t) (sym same)
+            (subst (IsSoundBut T i None None None (Some s.next_job) 0) (sym (is_opened refl)) middle)
 
 -- a step with that side and outcome
 abbrev pub step_of : Side → Outcome → Step
@@ -123,29 +145,40 @@ module _ (T : Setup) (valid : IsSetup T) (i : ℕ) (few : i < T.kernels) (s : Si
       from (Some p) at some = (is.calls k.vpe p at).0
 
   -- where a call opened a job, there is one job more, and as many capabilities
-  pub call-jobs : (v sel : ℕ) (keep : Bool) (o : Option ℕ) (t : Side) → (IsSome o → IsSomeAnd (own s v sel) (λ c. c.mark ≡ None)) → (IsSome o → (c : Capability) → own s v sel ≡ Some c → t ≡ opened T i c.key None (v ∷ []) keep (parked_as v (RevokeWait s.next_job) s)) → IsSome o → length t.jobs ≡ length s.jobs + 1
+  pub call-jobs : (v sel : ℕ) (keep : Bool) (o : Option ℕ) (t : Side) → (IsSome o → IsSomeAnd (own s v sel) (λ c. c.mark ≡ None)) →
+      (IsSome o → (c : Capability) → own s v sel ≡ Some c → t ≡ opened T i c.key None (v ∷ []) keep (parked_as v (RevokeWait s.next_job) s)) → IsSome o →
+      length t.jobs ≡ length s.jobs + 1
   call-jobs v sel keep o t unmarked is_opened some = from (own s v sel) refl (unmarked some)
     where
       from : (a : Option Capability) → own s v sel ≡ a → IsSomeAnd a (λ c. c.mark ≡ None) → length t.jobs ≡ length s.jobs + 1
       from None at none = absurd none
-      from (Some c) at mark = ap (λ (u : Side). length u.jobs) (is_opened some c at) ∙ opened-jobs T i c.key None (v ∷ []) keep (parked_as v (RevokeWait s.next_job) s)
+      from (Some c) at mark = ap (λ (u : Side). length u.jobs) (is_opened some c at)
+          ∙ opened-jobs T i c.key None (v ∷ []) keep (parked_as v (RevokeWait s.next_job) s)
 
-  pub call-caps : (v sel : ℕ) (keep : Bool) (o : Option ℕ) (t : Side) → (IsSome o → IsSomeAnd (own s v sel) (λ c. c.mark ≡ None)) → (IsSome o → (c : Capability) → own s v sel ≡ Some c → t ≡ opened T i c.key None (v ∷ []) keep (parked_as v (RevokeWait s.next_job) s)) → IsSome o → length t.caps ≡ length s.caps
+  pub call-caps : (v sel : ℕ) (keep : Bool) (o : Option ℕ) (t : Side) → (IsSome o → IsSomeAnd (own s v sel) (λ c. c.mark ≡ None)) →
+      (IsSome o → (c : Capability) → own s v sel ≡ Some c → t ≡ opened T i c.key None (v ∷ []) keep (parked_as v (RevokeWait s.next_job) s)) → IsSome o →
+      length t.caps ≡ length s.caps
   call-caps v sel keep o t unmarked is_opened some = from (own s v sel) refl (unmarked some)
     where
       from : (a : Option Capability) → own s v sel ≡ a → IsSomeAnd a (λ c. c.mark ≡ None) → length t.caps ≡ length s.caps
       from None at none = absurd none
-      from (Some c) at mark = ap (λ (u : Side). length u.caps) (is_opened some c at) ∙ (ap length (opened-caps T i c.key None (v ∷ []) keep (parked_as v (RevokeWait s.next_job) s)) ∙ marked-length (region s.caps c.key) s.next_job s.caps)
+      from (Some c) at mark = ap (λ (u : Side). length u.caps) (is_opened some c at)
+          ∙ (ap length (opened-caps T i c.key None (v ∷ []) keep (parked_as v (RevokeWait s.next_job) s))
+          ∙ marked-length (region s.caps c.key) s.next_job s.caps)
 
 -- and where a request opened one
-pub request-jobs : (T : Setup) (i : ℕ) (s : Side) (from job : ℕ) (k : KeyName) (t : Side) → t ≡ opened T i k (Some (Remote from job)) [] false s → length t.jobs ≡ length s.jobs + 1
+pub request-jobs : (T : Setup) (i : ℕ) (s : Side) (from job : ℕ) (k : KeyName) (t : Side) → t ≡ opened T i k (Some (Remote from job)) [] false s →
+    length t.jobs ≡ length s.jobs + 1
 request-jobs T i s from job k t is_opened = ap (λ (u : Side). length u.jobs) is_opened ∙ opened-jobs T i k (Some (Remote from job)) [] false s
 
-pub request-caps : (T : Setup) (i : ℕ) (s : Side) (from job : ℕ) (k : KeyName) (t : Side) → t ≡ opened T i k (Some (Remote from job)) [] false s → length t.caps ≡ length s.caps
-request-caps T i s from job k t is_opened = ap (λ (u : Side). length u.caps) is_opened ∙ (ap length (opened-caps T i k (Some (Remote from job)) [] false s) ∙ marked-length (region s.caps k) s.next_job s.caps)
+pub request-caps : (T : Setup) (i : ℕ) (s : Side) (from job : ℕ) (k : KeyName) (t : Side) → t ≡ opened T i k (Some (Remote from job)) [] false s →
+    length t.caps ≡ length s.caps
+request-caps T i s from job k t is_opened = ap (λ (u : Side). length u.caps) is_opened
+    ∙ (ap length (opened-caps T i k (Some (Remote from job)) [] false s) ∙ marked-length (region s.caps k) s.next_job s.caps)
 
 -- a token that came back leaves a sound side but for the job
-pub done-middle : (T : Setup) (i : ℕ) (s : Side) → IsSound T i s → (j : ℕ) (o : Option ℕ) (x : JobStore) → x.jobs ≡ count_lowered j s.jobs → x.next ≡ s.next_job → IfSome o (λ k. k ≡ j) → IfSome o (λ k. IsSoundBut T i None None None (Some k) 0 (record s { jobs = x.jobs; next_job = x.next }))
+pub done-middle : (T : Setup) (i : ℕ) (s : Side) → IsSound T i s → (j : ℕ) (o : Option ℕ) (x : JobStore) → x.jobs ≡ count_lowered j s.jobs →
+    x.next ≡ s.next_job → IfSome o (λ k. k ≡ j) → IfSome o (λ k. IsSoundBut T i None None None (Some k) 0 (record s { jobs = x.jobs; next_job = x.next }))
 done-middle T i s is j None x jobs next same = tt
 done-middle T i s is j (Some k) x jobs next same =
     let lowered = lowered-sound T i None None None s is j in

@@ -1,5 +1,6 @@
 -- What a job that is opened or finished leaves of the capabilities: no more of them, of their links, and of the links of unmarked ones.
-use Rattle.std.proofs.Common.{◌≡◌, ℕ, zero, suc, ◌+◌, ◌≤◌, Bool, true, false, not, is_none, ◌&&◌, List, [], ◌∷◌, length, Option, Some, None, refl, ap, if◌then◌else◌, inl, inr, arith, length-append}
+use Rattle.std.proofs.Common.{◌≡◌, ℕ, zero, suc, ◌+◌, ◌≤◌, Bool, true, false, not, is_none, ◌&&◌, List, [], ◌∷◌, length, Option, Some, None, refl, ap}
+use Rattle.std.proofs.Common.{if◌then◌else◌, inl, inr, arith, length-append}
 use Rattle.std.specs.List.{filter, flat_map, sum_by, list_any}
 use Rattle.std.proofs.lemmas.Bool.{cases_Bool, cond_both, cond-true, cond-false}
 use Rattle.std.proofs.lemmas.List.Sums.{sum_by-cons}
@@ -22,7 +23,8 @@ use Rattle.sem_machine.proofs.Lengths.{key_set-shorter}
 use Rattle.sem_kernel.specs.Rooms.{open_links}
 
 -- Finished: whatever a capability weighs, if it is no more where it loses its links and mark, or a link.
-module _ (w : Capability → ℕ) (restores : (c : Capability) → w (record c { children = []; mark = None }) ≤ w c) (unlinks : (c : Capability) (k : KeyName) → w (record c { children = without_key c.children k }) ≤ w c) (T : Setup) (i : ℕ) where
+module _ (w : Capability → ℕ) (restores : (c : Capability) → w (record c { children = []; mark = None }) ≤ w c) (unlinks : (c : Capability) (k : KeyName) →
+    w (record c { children = without_key c.children k }) ≤ w c) (T : Setup) (i : ℕ) where
   abbrev all : List Capability → ℕ
   all cs = sum_by w cs
 
@@ -37,14 +39,21 @@ module _ (w : Capability → ℕ) (restores : (c : Capability) → w (record c {
       omega (arith, left, spares)
 
   -- the kernel of a remote parent is told, or not
-  remote-caps : (id count : ℕ) (root : KeyName) (up : Option Up) (waiters : List ℕ) (keep : Bool) (p : KeyName) (s : Side) → is_local T i p ≡ false → (parent_left T i (record { id = id; root = root; up = up; waiters = waiters; count = count; keep = keep }) (Some p) s).caps ≡ s.caps
-  remote-caps id count root None waiters keep p s remote = ap (λ (u : Side). u.caps) (cond-false (is_local T i p) (unlinked p root s) (send (owner_of T p) (Unlink p root) s) remote)
-  remote-caps id count root (Some (Local j)) waiters keep p s remote = ap (λ (u : Side). u.caps) (cond-false (is_local T i p) (unlinked p root s) (send (owner_of T p) (Unlink p root) s) remote)
-  remote-caps id count root (Some (Remote kernel j)) waiters keep p s remote = ap (λ (u : Side). u.caps) (cond-false (is_local T i p) (unlinked p root s) s remote)
+  remote-caps : (id count : ℕ) (root : KeyName) (up : Option Up) (waiters : List ℕ) (keep : Bool) (p : KeyName) (s : Side) → is_local T i p ≡ false →
+      (parent_left T i (record { id = id; root = root; up = up; waiters = waiters; count = count; keep = keep }) (Some p) s).caps ≡ s.caps
+  remote-caps id count root None waiters keep p s remote =
+      ap (λ (u : Side). u.caps) (cond-false (is_local T i p) (unlinked p root s) (send (owner_of T p) (Unlink p root) s) remote)
+  remote-caps id count root (Some (Local j)) waiters keep p s remote =
+      ap (λ (u : Side). u.caps) (cond-false (is_local T i p) (unlinked p root s) (send (owner_of T p) (Unlink p root) s) remote)
+  remote-caps id count root (Some (Remote kernel j)) waiters keep p s remote =
+      ap (λ (u : Side). u.caps) (cond-false (is_local T i p) (unlinked p root s) s remote)
 
-  local-caps : (id count : ℕ) (root : KeyName) (up : Option Up) (waiters : List ℕ) (keep : Bool) (p : KeyName) (s : Side) → is_local T i p ≡ true → (parent_left T i (record { id = id; root = root; up = up; waiters = waiters; count = count; keep = keep }) (Some p) s).caps ≡ (unlinked p root s).caps
-  local-caps id count root None waiters keep p s here = ap (λ (u : Side). u.caps) (cond-true (is_local T i p) (unlinked p root s) (send (owner_of T p) (Unlink p root) s) here)
-  local-caps id count root (Some (Local j)) waiters keep p s here = ap (λ (u : Side). u.caps) (cond-true (is_local T i p) (unlinked p root s) (send (owner_of T p) (Unlink p root) s) here)
+  local-caps : (id count : ℕ) (root : KeyName) (up : Option Up) (waiters : List ℕ) (keep : Bool) (p : KeyName) (s : Side) → is_local T i p ≡ true →
+      (parent_left T i (record { id = id; root = root; up = up; waiters = waiters; count = count; keep = keep }) (Some p) s).caps ≡ (unlinked p root s).caps
+  local-caps id count root None waiters keep p s here =
+      ap (λ (u : Side). u.caps) (cond-true (is_local T i p) (unlinked p root s) (send (owner_of T p) (Unlink p root) s) here)
+  local-caps id count root (Some (Local j)) waiters keep p s here =
+      ap (λ (u : Side). u.caps) (cond-true (is_local T i p) (unlinked p root s) (send (owner_of T p) (Unlink p root) s) here)
   local-caps id count root (Some (Remote kernel j)) waiters keep p s here = ap (λ (u : Side). u.caps) (cond-true (is_local T i p) (unlinked p root s) s here)
 
   left-less : (x : JobRow) (o : Option KeyName) (s : Side) → all (parent_left T i x o s).caps ≤ all s.caps
@@ -52,7 +61,8 @@ module _ (w : Capability → ℕ) (restores : (c : Capability) → w (record c {
   left-less x (Some p) s = elim (cases_Bool (is_local T i p)) [
     | inl here ↦
         let whole = ap all (local-caps x.id x.count x.root x.up x.waiters x.keep p s here) in
-        let less = change-less w (λ (c : Capability). key_eq c.key p) (λ c. record c { children = without_key c.children x.root }) s.caps (λ c. unlinks c x.root) in
+        let less = change-less w (λ (c : Capability). key_eq c.key p) (λ c. record c { children = without_key c.children x.root }) s.caps
+        (λ c. unlinks c x.root) in
         omega (arith, whole, less)
     | inr remote ↦
         let whole = ap all (remote-caps x.id x.count x.root x.up x.waiters x.keep p s remote) in
@@ -101,17 +111,21 @@ opened-links ks j (c ∷ cs) =
           let marked : open_weight (f c) ≡ 0 = ap open_weight (cond-true (has_key ks c.key) (with_mark j c) c has) in
           elim (cases_Bool (is_none c.mark)) [
             | inl unmarked ↦
-                let takes : linked_from (c ∷ cs) ks ≡ flat_map (λ (x : Capability). x.children) (c ∷ filter (λ x. is_none x.mark && has_key ks x.key) cs) = ap (λ (xs : List Capability). flat_map (λ (x : Capability). x.children) xs) (cond-true passes _ _ (both (is_none c.mark) (has_key ks c.key) unmarked has)) in
+                let takes : linked_from (c ∷ cs) ks ≡ flat_map (λ (x : Capability). x.children) (c ∷ filter (λ x. is_none x.mark && has_key ks x.key) cs) =
+                ap (λ (xs : List Capability). flat_map (λ (x : Capability). x.children) xs)
+                (cond-true passes _ _ (both (is_none c.mark) (has_key ks c.key) unmarked has)) in
                 let more = length-append c.children (linked_from cs ks) in
                 let weighs : open_weight c ≡ length c.children = cond-true (is_none c.mark) (length c.children) 0 unmarked in
                 omega (arith, new, old, rest, marked, ap length takes, more, weighs)
             | inr was ↦
-                let passed : linked_from (c ∷ cs) ks ≡ linked_from cs ks = ap (λ (xs : List Capability). flat_map (λ (x : Capability). x.children) xs) (cond-false passes _ _ (first_fails (is_none c.mark) (has_key ks c.key) was)) in
+                let passed : linked_from (c ∷ cs) ks ≡ linked_from cs ks = ap (λ (xs : List Capability). flat_map (λ (x : Capability). x.children) xs)
+                (cond-false passes _ _ (first_fails (is_none c.mark) (has_key ks c.key) was)) in
                 omega (arith, new, old, rest, marked, ap length passed)
           ]
       | inr other ↦
           let same : open_weight (f c) ≡ open_weight c = ap open_weight (cond-false (has_key ks c.key) (with_mark j c) c other) in
-          let passed : linked_from (c ∷ cs) ks ≡ linked_from cs ks = ap (λ (xs : List Capability). flat_map (λ (x : Capability). x.children) xs) (cond-false passes _ _ (second_fails (is_none c.mark) (has_key ks c.key) other)) in
+          let passed : linked_from (c ∷ cs) ks ≡ linked_from cs ks = ap (λ (xs : List Capability). flat_map (λ (x : Capability). x.children) xs)
+          (cond-false passes _ _ (second_fails (is_none c.mark) (has_key ks c.key) other)) in
           omega (arith, new, old, rest, same, ap length passed)
     ]
   where
@@ -125,7 +139,8 @@ opened-links ks j (c ∷ cs) =
     second_fails true b fails = fails
     second_fails false b fails = refl
 
-pub children-links : (j : ℕ) (cs : List Capability) (root : KeyName) → open_links (all_marked (region cs root) j cs) + length (children_of cs (region cs root)) ≤ open_links cs
+pub children-links : (j : ℕ) (cs : List Capability) (root : KeyName) →
+    open_links (all_marked (region cs root) j cs) + length (children_of cs (region cs root)) ≤ open_links cs
 children-links j cs root =
     let set = key_set-shorter (linked_from cs (region cs root)) in
     let links = opened-links (region cs root) j cs in
@@ -136,6 +151,7 @@ open-few [] = omega arith
 open-few (c ∷ cs) =
     let new = sum_by-cons open_weight c cs in
     let old = sum_by-cons (λ (x : Capability). length x.children) c cs in
-    let here : open_weight c ≤ length c.children = cond_both (is_none c.mark) (length c.children) 0 (λ n. n ≤ length c.children) (λ _. omega arith) (λ _. omega arith) in
+    let here : open_weight c ≤ length c.children = cond_both (is_none c.mark) (length c.children) 0 (λ n. n ≤ length c.children) (λ _. omega arith)
+    (λ _. omega arith) in
     let rest = open-few cs in
     omega (arith, new, old, here, rest)

@@ -1,9 +1,8 @@
 -- Kernels and a fabric that stand at a schedule, and go on from it.
 use Rattle.std.proofs.Common.{◌≡◌, true, List, [], ◌∷◌, ◌++◌, map, Result, Ok, Err, refl, sym, ◌∙◌, ap, subst}
-use Rattle.std.specs.Prelude.{IfOk, OnErr}
+use Rattle.std.specs.Prelude.{OnOk, OnErr}
 use Rattle.std.specs.List.{range_with_len}
 use Rattle.sem_msg.specs.declared.event.Event.{Event}
-use Rattle.sem_msg.specs.declared.entry.Entry.{Entry}
 use Rattle.sem_msg.specs.Setup.{Setup, IsSetup}
 use Rattle.sem_msg.specs.Fabric.{FabricValue}
 use Rattle.sem_fabric.specs.Fabrics.{new_fabric}
@@ -15,11 +14,13 @@ use Rattle.sem_kernel.specs.Worlds.{world_of, AreKernelsOf, WorldValue, booted}
 use Rattle.sem_kernel.specs.Standing.{StandsAt}
 use Rattle.sem_kernel.proofs.Beginning.{boots-together, boots-world}
 
-module _ (T : Setup) (ks : List KernelValue) (f : FabricValue) (at : StandsAt T ks f) (ls : List KernelValue) (h : FabricValue) (together : AreKernelsOf T ls h) where
+module _ (T : Setup) (ks : List KernelValue) (f : FabricValue) (at : StandsAt T ks f) (ls : List KernelValue) (h : FabricValue)
+    (together : AreKernelsOf T ls h) where
   -- an enabled event happened
-  stands-more : (e : Event) → is_enabled T (world_of ks f) e ≡ true → (x : Entry) → x ≡ entry_of T (world_of ks f) e → world_of ls h ≡ after T (world_of ks f) e → h.journal ≡ f.journal ++ x ∷ [] → StandsAt T ls h
-  stands-more e enabled x made moved entered =
-      let journal : h.journal ≡ f.journal ++ entry_of T (world_after T f.journal) e ∷ [] = entered ∙ ap (λ y. f.journal ++ y ∷ []) (made ∙ ap (λ V. entry_of T V e) at.world) in
+  stands-more : (e : Event) → is_enabled T (world_of ks f) e ≡ true → world_of ls h ≡ after T (world_of ks f) e →
+      h.journal ≡ f.journal ++ entry_of T (world_of ks f) e ∷ [] → StandsAt T ls h
+  stands-more e enabled moved entered =
+      let journal : h.journal ≡ f.journal ++ entry_of T (world_after T f.journal) e ∷ [] = entered ∙ ap (λ V. f.journal ++ entry_of T V e ∷ []) at.world in
       record {
         together = together;
         schedule = subst (IsSchedule T) (sym journal) (schedule-push T f.journal e at.schedule (subst (λ V. is_enabled T V e ≡ true) at.world enabled));
@@ -35,12 +36,15 @@ module _ (T : Setup) (ks : List KernelValue) (f : FabricValue) (at : StandsAt T 
   }
 
   -- the one or the other
-  pub stands-after : {E : Type 0} (e : Event) → is_enabled T (world_of ks f) e ≡ true → (r : Result Entry E) → IfOk r (λ x. x ≡ entry_of T (world_of ks f) e) → IfOk r (λ x. world_of ls h ≡ after T (world_of ks f) e) → IfOk r (λ x. h.journal ≡ f.journal ++ x ∷ []) → OnErr r (world_of ls h ≡ world_of ks f) → OnErr r (h.journal ≡ f.journal) → StandsAt T ls h
-  stands-after e enabled (Ok x) made moved entered same kept = stands-more e enabled x made moved entered
-  stands-after e enabled (Err y) made moved entered same kept = stands-same same kept
+  pub stands-after : {X E : Type 0} (e : Event) → is_enabled T (world_of ks f) e ≡ true → (r : Result X E) →
+      OnOk r (world_of ls h ≡ after T (world_of ks f) e) → OnOk r (h.journal ≡ f.journal ++ entry_of T (world_of ks f) e ∷ []) →
+      OnErr r (world_of ls h ≡ world_of ks f) → OnErr r (h.journal ≡ f.journal) → StandsAt T ls h
+  stands-after e enabled (Ok x) moved entered same kept = stands-more e enabled moved entered
+  stands-after e enabled (Err y) moved entered same kept = stands-same same kept
 
 -- they stand at the empty schedule at the start
-pub stands-at-start : (T : Setup) → IsSetup T → (ks : List KernelValue) → ks ≡ map (booted T) (range_with_len 0 T.kernels) → (f : FabricValue) → f ≡ new_fabric T → StandsAt T ks f
+pub stands-at-start : (T : Setup) → IsSetup T → (ks : List KernelValue) → ks ≡ map (booted T) (range_with_len 0 T.kernels) → (f : FabricValue) →
+    f ≡ new_fabric T → StandsAt T ks f
 stands-at-start T valid ks all f new =
     let empty : f.journal ≡ [] = ap (λ (x : FabricValue). x.journal) new in
     record {

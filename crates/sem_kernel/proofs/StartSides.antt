@@ -1,5 +1,6 @@
 -- The side of a kernel at the start, store by store.
-use Rattle.std.proofs.Common.{◌≡◌, ℕ, zero, suc, ◌<◌, Bool, true, false, List, [], ◌∷◌, length, map, get_or, Option, Some, None, is_some, refl, sym, ◌∙◌, ap, subst, inl, inr, arith, eq-eqb}
+use Rattle.std.proofs.Common.{◌≡◌, ℕ, zero, suc, ◌<◌, Bool, true, false, List, [], ◌∷◌, length, map, get_or, Option, Some, None, is_some, refl, sym, ◌∙◌, ap}
+use Rattle.std.proofs.Common.{subst, inl, inr, arith, eq-eqb}
 use Rattle.std.specs.Prelude.{◌==◌, unwrap_or, if◌then◌else◌}
 use Rattle.std.specs.List.{AllPairs, Contains, filter, find, range_with_len}
 use Rattle.std.specs.Option.{IsSome, option_map, option_map_or, option_and_then}
@@ -53,13 +54,16 @@ abbrev if_runs : Setup → ℕ → VpeDecl → Option VpeDecl
 if_runs T i d = if runs_on T i d then Some d else None
 
 -- the first of that number among those of kernel i is the first of all, where that runs on kernel i
-find-own : (T : Setup) (i v : ℕ) (ds : List VpeDecl) → Rise ds → find (has_number v) (filter (runs_on T i) ds) ≡ option_and_then (if_runs T i) (find (has_number v) ds)
+find-own : (T : Setup) (i v : ℕ) (ds : List VpeDecl) → Rise ds →
+    find (has_number v) (filter (runs_on T i) ds) ≡ option_and_then (if_runs T i) (find (has_number v) ds)
 find-own T i v [] rise = refl
 find-own T i v (d ∷ ds) rise = elim (cases_Bool (has_number v d)) [
   | inl here ↦
       let behind = none-behind v d ds rise (eqb-true d.vpe v here) in
-      let no_other : find (has_number v) (filter (runs_on T i) ds) ≡ None = find_none (has_number v) (filter (runs_on T i) ds) (λ x among. behind x (Contains-from_filter (runs_on T i) ds x among).0) in
-      let right : option_and_then (if_runs T i) (find (has_number v) (d ∷ ds)) ≡ if_runs T i d = ap (option_and_then (if_runs T i)) (cond-true (has_number v d) (Some d) (find (has_number v) ds) here) in
+      let no_other : find (has_number v) (filter (runs_on T i) ds) ≡ None =
+      find_none (has_number v) (filter (runs_on T i) ds) (λ x among. behind x (Contains-from_filter (runs_on T i) ds x among).0) in
+      let right : option_and_then (if_runs T i) (find (has_number v) (d ∷ ds)) ≡ if_runs T i d =
+      ap (option_and_then (if_runs T i)) (cond-true (has_number v d) (Some d) (find (has_number v) ds) here) in
       elim (cases_Bool (runs_on T i d)) [
         | inl runs ↦
             ap (find (has_number v)) (cond-true (runs_on T i d) (d ∷ filter (runs_on T i) ds) (filter (runs_on T i) ds) runs)
@@ -70,7 +74,8 @@ find-own T i v (d ∷ ds) rise = elim (cases_Bool (has_number v d)) [
             ∙ (no_other ∙ sym (right ∙ cond-false (runs_on T i d) (Some d) None other))
       ]
   | inr elsewhere ↦
-      let right : option_and_then (if_runs T i) (find (has_number v) (d ∷ ds)) ≡ option_and_then (if_runs T i) (find (has_number v) ds) = ap (option_and_then (if_runs T i)) (cond-false (has_number v d) (Some d) (find (has_number v) ds) elsewhere) in
+      let right : option_and_then (if_runs T i) (find (has_number v) (d ∷ ds)) ≡ option_and_then (if_runs T i) (find (has_number v) ds) =
+      ap (option_and_then (if_runs T i)) (cond-false (has_number v d) (Some d) (find (has_number v) ds) elsewhere) in
       let rest = find-own T i v ds (rise-tail d ds rise) in
       elim (cases_Bool (runs_on T i d)) [
         | inl runs ↦
@@ -84,7 +89,8 @@ find-own T i v (d ∷ ds) rise = elim (cases_Bool (has_number v d)) [
 ]
 
 -- What is read of VPE v: what its own coming leaves, where it comes, and else what was there.
-module _ {Y : Type 0} (v : ℕ) (read : Side → Y) (f : VpeDecl → Y) (hit : (d : VpeDecl) (s : Side) → d.vpe ≡ v → read (vpe_added d s) ≡ f d) (miss : (d : VpeDecl) (s : Side) → (v ≡ d.vpe → ⊥) → read (vpe_added d s) ≡ read s) where
+module _ {Y : Type 0} (v : ℕ) (read : Side → Y) (f : VpeDecl → Y) (hit : (d : VpeDecl) (s : Side) → d.vpe ≡ v →
+    read (vpe_added d s) ≡ f d) (miss : (d : VpeDecl) (s : Side) → (v ≡ d.vpe → ⊥) → read (vpe_added d s) ≡ read s) where
   -- after VPEs came
   read-after : (ds : List VpeDecl) (s : Side) → Rise ds → read (in_turn vpe_added ds s) ≡ option_map_or f (find (has_number v) ds) (read s)
   unfolding in_turn
@@ -122,7 +128,9 @@ row-hit v d s same =
 
 -- no other VPE changes it
 row-miss : (v : ℕ) (d : VpeDecl) (s : Side) → (v ≡ d.vpe → ⊥) → row (vpe_added d s) v ≡ row s v
-row-miss v d s other = in_turn-keeps (λ t. row t v ≡ row s v) (root_added d) (λ r t here. get_or-put_other no_vpe t.vpes d.vpe v (root_held d r (row t d.vpe)) other ∙ here) d.roots (vpe_fresh d s) (get_or-put_other no_vpe s.vpes d.vpe v new_vpe other)
+row-miss v d s other =
+    in_turn-keeps (λ t. row t v ≡ row s v) (root_added d) (λ r t here. get_or-put_other no_vpe t.vpes d.vpe v (root_held d r (row t d.vpe)) other
+    ∙ here) d.roots (vpe_fresh d s) (get_or-put_other no_vpe s.vpes d.vpe v new_vpe other)
 
 -- The endpoints of a VPE.
 
@@ -198,7 +206,8 @@ module _ (T : Setup) (valid : IsSetup T) (i : ℕ) (few : i < T.kernels) where
       let place : ℕ → VpeRow = λ v. unwrap_or (start_place T i v) no_vpe in
       let long : length (start_side T i).vpes ≡ VPES = (start-sound T valid i few).places in
       ext_get_or no_vpe (start_side T i).vpes (map place (range_with_len 0 VPES)) (long ∙ sym (length-map-range_with_len place 0 VPES))
-      (λ v within. let small : v < VPES = omega (arith, long, within) in row-start v small ∙ sym (get_or-map-range_with_len place 0 VPES v v no_vpe small (omega arith)))
+      (λ v within. let small : v < VPES = omega (arith, long, within) in row-start v small
+      ∙ sym (get_or-map-range_with_len place 0 VPES v v no_vpe small (omega arith)))
 
   -- the endpoints of a VPE
   bound-start : (v : ℕ) → v < VPES → endpoints_of v (start_side T i) ≡ new_endpoints (is_own T i v)
@@ -213,13 +222,16 @@ module _ (T : Setup) (valid : IsSetup T) (i : ℕ) (few : i < T.kernels) where
       let long : length (start_side T i).endpoints ≡ VPES = (start-sound T valid i few).endpoint_places in
       let marks : length ours ≡ VPES = length-map-range_with_len (is_own T i) 0 VPES in
       let each : (v : ℕ) → v < VPES → get_or (map new_endpoints ours) v [] ≡ new_endpoints (is_own T i v) = λ v small.
-      get_or-map new_endpoints ours v false [] (omega (arith, small, marks)) ∙ ap new_endpoints (get_or-map-range_with_len (is_own T i) 0 VPES v v false small (omega arith)) in
+      get_or-map new_endpoints ours v false [] (omega (arith, small, marks))
+      ∙ ap new_endpoints (get_or-map-range_with_len (is_own T i) 0 VPES v v false small (omega arith)) in
       ext_get_or [] (start_side T i).endpoints (map new_endpoints ours) (long ∙ sym (length-map ours new_endpoints ∙ marks))
       (λ v within. let small : v < VPES = omega (arith, long, within) in bound-start v small ∙ sym (each v small))
 
   -- a side with these stores is the one at the start
-  pub side-start : (s : Side) → s.caps ≡ (start_side T i).caps → s.vpes ≡ (start_table T i).rows → s.endpoints ≡ (new_table T i).rows → else_of s ≡ else_of (empty_side T) → s ≡ start_side T i
-  side-start s caps vpes endpoints rest = same-side s (start_side T i) caps (vpes ∙ sym rows-start) (endpoints ∙ sym endpoints-start) (rest ∙ sym (else-start T i))
+  pub side-start : (s : Side) → s.caps ≡ (start_side T i).caps → s.vpes ≡ (start_table T i).rows → s.endpoints ≡ (new_table T i).rows →
+      else_of s ≡ else_of (empty_side T) → s ≡ start_side T i
+  side-start s caps vpes endpoints rest = same-side s (start_side T i) caps (vpes ∙ sym rows-start) (endpoints ∙ sym endpoints-start) (rest
+      ∙ sym (else-start T i))
 
   -- The places of the VPEs of the kernel.
 

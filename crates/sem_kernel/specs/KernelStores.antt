@@ -1,12 +1,9 @@
 -- The stores of one kernel, and the side that they hold.
 use Rattle.std.specs.Prelude.{◌≡◌, ℕ, ◌<◌}
-use Rattle.sem_msg.specs.Setup.{Setup, IsSetup}
-use Rattle.sem_msg.specs.Lookups.{kernel_of}
+use Rattle.sem_machine.specs.Prelude.{Setup, IsSetup, kernel_of, Side, IsSound}
 use Rattle.sem_msg.specs.Outboxes.{HasBoxes}
 use Rattle.sem_vpe.specs.VpeTable.{AreOurs}
 use Rattle.sem_dtu.specs.EndpointTable.{IsOurs}
-use Rattle.sem_machine.specs.Sides.{Side}
-use Rattle.sem_machine.specs.Sound.{IsSound}
 use Rattle.sem_kernel.specs.declared.stores.Stores.{Stores}
 
 -- the side that the stores hold
@@ -24,13 +21,13 @@ side_of x =
       outs = x.outs.boxes;
     }
 
--- the stores are those of kernel i: each of its VPEs has a place in them, and each kernel an outbox
+-- the stores belong to kernel i: each of its VPEs has a place in them, and each kernel an outbox
 pub record AreStoresOf (T : Setup) (i : ℕ) (x : Stores) : Type 0 where
   pub vpes : AreOurs T i x.vpes
   pub endpoints : (v : ℕ) → kernel_of T v ≡ i → IsOurs x.dtus v
   pub boxes : HasBoxes T x.outs
 
--- the stores are those of kernel i, one of the setup, and what they hold is sound
+-- the stores belong to kernel i, one of the setup, and what they hold is sound
 pub record AreSound (T : Setup) (i : ℕ) (x : Stores) : Type 0 where
   pub setup : IsSetup T
   pub is_one : i < T.kernels

@@ -1,7 +1,6 @@
 -- The VPEs of a kernel, as it keeps them.
 use Rattle.std.specs.Prelude.{ℕ, List, length, map}
-use Rattle.sem_msg.specs.declared.setup.VpeDecl.{VpeDecl}
-use Rattle.sem_msg.specs.Setup.{Setup}
+use Rattle.sem_machine.specs.Prelude.{VpeDecl, Setup}
 use Rattle.sem_msg.specs.Lookups.{own_vpes}
 use Rattle.sem_kernel.specs.declared.own.OwnVpe.{OwnVpe}
 

@@ -1,30 +1,19 @@
--- The room that the stores of a kernel have for the step of an act.
-use Rattle.std.specs.Prelude.{◌≡◌, ℕ, ◌+◌, ◌*◌, ◌<◌, ◌≤◌, Bool, true, false, List, length, sum_by, is_none, if◌then◌else◌, vec_capacity, slice_get, Option, Some, None}
+-- The room that a kernel's stores have for the step of an act.
+use Rattle.std.specs.Prelude.{◌≡◌, ℕ, ◌+◌, ◌*◌, ◌<◌, ◌≤◌, Bool, true, false, List, length, sum_by, is_none}
+use Rattle.std.specs.Prelude.{if◌then◌else◌, vec_capacity, slice_get, Option, Some, None}
 use Rattle.std.specs.Option.{option_map, option_map_or, option_and_then}
-use Rattle.sem_key.specs.KeyName.{KeyName}
-use Rattle.sem_key.specs.Capability.{Capability}
+use Rattle.sem_machine.specs.Prelude.{KeyName, Capability, Call, Derive, Gate, Revoke, Exit, Clear, Act, Calls, Fetch}
+use Rattle.sem_machine.specs.Prelude.{Handle, Upcall, Resume, Flush, Kill, Message, RevokeReq, Ask, ObtainAsk}
+use Rattle.sem_machine.specs.Prelude.{DelegateAsk, Parked, DelegateReady, Slot, Free, Held, Promised, Setup, Side}
+use Rattle.sem_machine.specs.Prelude.{row, slot, parked}
 use Rattle.sem_key.specs.CapList.{link_count}
-use Rattle.sem_msg.specs.declared.call.Call.{Call}
-use Rattle.sem_msg.specs.declared.call.Call.TheVariants.{Derive, Gate, Revoke, Exit, Clear}
-use Rattle.sem_msg.specs.declared.event.Act.{Act}
-use Rattle.sem_msg.specs.declared.event.Act.TheVariants.{Call as Calls, Fetch, Handle, Upcall, Resume, Flush, Kill}
-use Rattle.sem_msg.specs.declared.message.Message.{Message}
-use Rattle.sem_msg.specs.declared.message.Message.TheVariants.{RevokeReq}
-use Rattle.sem_msg.specs.declared.state.Ask.{Ask}
-use Rattle.sem_msg.specs.declared.state.Ask.TheVariants.{Obtain as ObtainAsk, Delegate as DelegateAsk}
-use Rattle.sem_msg.specs.declared.state.Parked.{Parked}
-use Rattle.sem_msg.specs.declared.state.Parked.TheVariants.{DelegateReady}
-use Rattle.sem_msg.specs.declared.state.Slot.{Slot}
-use Rattle.sem_msg.specs.declared.state.Slot.TheVariants.{Free, Held, Promised}
-use Rattle.sem_msg.specs.Setup.{Setup}
 use Rattle.sem_caps.specs.CapStore.{held_key}
-use Rattle.sem_machine.specs.Sides.{Side, row, slot, parked}
 use Rattle.sem_machine.specs.Upcalls.{source}
 use Rattle.sem_machine.specs.Machine.{next_call}
 use Rattle.sem_kernel.specs.declared.stores.Stores.{Stores}
 use Rattle.sem_kernel.specs.KernelStores.{side_of}
 
--- The capability to which a step may link a child.
+-- The capability that a step may link a child to.
 
 -- the key that a slot holds
 abbrev pub slot_key : Slot → Option KeyName
@@ -81,7 +70,8 @@ ended_asks s act = 0
 
 -- Room.
 
--- room for one more capability, child of that parent, pending delegation and message, and for a message of each job and what it sweeps
+-- room for one more capability, child of that parent, pending delegation and message, and for a
+-- message of each job and what it sweeps
 pub record HasRoom (parent : Option KeyName) (x : Stores) : Type 0 where
   pub caps : 0 < x.caps.spare
   pub child : x.caps.child_room ≡ held_key x.caps.caps parent
@@ -89,7 +79,8 @@ pub record HasRoom (parent : Option KeyName) (x : Stores) : Type 0 where
   pub outs : length x.jobs.jobs < x.outs.spare
   pub gone : length x.caps.caps ≤ vec_capacity x.scratch.gone
 
--- room for as many jobs as can be opened in a step, for their requests, and for the answers to so many asks
+-- room for as many jobs as a step can open, for their requests, and for the answers to that many
+-- asks
 pub record HasRoomToRevoke (asks : ℕ) (x : Stores) : Type 0 where
   pub jobs : length x.caps.caps + length x.jobs.jobs < x.jobs.spare
   pub outs : asks + (link_count x.caps.caps + (length x.caps.caps + (2 * length x.jobs.jobs + 2))) ≤ x.outs.spare
@@ -98,14 +89,14 @@ pub record HasRoomToRevoke (asks : ℕ) (x : Stores) : Type 0 where
   pub gone : length x.caps.caps ≤ vec_capacity x.scratch.gone
   pub ended : length x.caps.caps ≤ vec_capacity x.ended
 
--- the stores hold what they held
+-- the stores hold the same as before
 pub record HasSameStores (x y : Stores) : Type 0 where
   pub side : side_of y ≡ side_of x
   pub vpes : y.vpes ≡ x.vpes
   pub endpoints : y.dtus ≡ x.dtus
   pub boxes : y.outs.boxes ≡ x.outs.boxes
 
--- the stores hold what they held, and have at least the room that they had
+-- the stores hold the same as before, and have at least as much room
 pub record HasGrown (x y : Stores) : Type 0 where
   pub caps : y.caps ≡ record x.caps { spare = y.caps.spare }
   pub vpes : y.vpes ≡ x.vpes
@@ -124,7 +115,7 @@ pub record HasGrown (x y : Stores) : Type 0 where
   pub gone : vec_capacity x.scratch.gone ≤ vec_capacity y.scratch.gone
   pub ended : vec_capacity x.ended ≤ vec_capacity y.ended
 
--- whether an act only moves a message, for which it needs no room
+-- whether an act only moves a message, which needs no room
 abbrev pub only_moves : Act → Bool
 only_moves (Fetch from) = true
 only_moves (Flush to) = true
@@ -135,11 +126,11 @@ pub record IsReady (T : Setup) (act : Act) (x : Stores) : Type 0 where
   pub room : only_moves act ≡ false → HasRoom (linked_parent T (side_of x) act) x
   pub revoke : opens_jobs T (side_of x) act ≡ true → HasRoomToRevoke (ended_asks (side_of x) act) x
 
--- how many links to children the unmarked capabilities have
+-- how many child links the unmarked capabilities have
 abbrev pub open_links : List Capability → ℕ
 open_links cs = sum_by (λ c. if is_none c.mark then length c.children else 0) cs
 
--- room for n jobs more, for their requests, and for a message of each job
+-- room for n more jobs, for their requests, and for a message of each job
 pub record HasRoomForJobs (n : ℕ) (x : Stores) : Type 0 where
   pub jobs : n ≤ x.jobs.spare
   pub outs : open_links x.caps.caps + (n + length x.jobs.jobs) ≤ x.outs.spare

@@ -1,19 +1,14 @@
--- The world that kernels and their fabric are, and what an act does to the fabric.
-use Rattle.std.specs.Prelude.{◌≡◌, ◌≢◌, ℕ, ◌<◌, nat_lt, Bool, true, ◌&&◌, List, ◌∷◌, [], ◌++◌, length, map, drop, slice_get, slice_index_or, Option, None, is_some}
+-- The world of kernels and their fabric, and what an act does to the fabric.
+use Rattle.std.specs.Prelude.{◌≡◌, ◌≢◌, ℕ, ◌<◌, nat_lt, Bool, true, ◌&&◌, List, ◌∷◌, [], ◌++◌, length, map, drop}
+use Rattle.std.specs.Prelude.{slice_get, slice_index_or, Option, None, is_some}
 use Rattle.std.specs.Option.{option_map_or}
-use Rattle.sem_msg.specs.declared.message.Message.{Message}
-use Rattle.sem_msg.specs.declared.event.Act.{Act}
-use Rattle.sem_msg.specs.declared.event.Act.TheVariants.{Call as Calls, Fetch, Handle, Upcall, Resume, Flush, Kill}
-use Rattle.sem_msg.specs.declared.entry.Entry.{Entry}
-use Rattle.sem_msg.specs.Journal.{replies}
-use Rattle.sem_msg.specs.Setup.{Setup, IsSetup}
-use Rattle.sem_msg.specs.Fabric.{FabricValue, link_in, relinked}
-use Rattle.sem_machine.specs.Sides.{Side, outbox}
-use Rattle.sem_machine.specs.Sound.{IsSound}
-use Rattle.sem_machine.specs.Machine.{World, start_side, is_locally_enabled, local_step, local_entry}
+use Rattle.sem_machine.specs.Prelude.{Message, Act, Calls, Fetch, Handle, Upcall, Resume, Flush, Kill, Entry, replies}
+use Rattle.sem_machine.specs.Prelude.{Setup, IsSetup, FabricValue, Side, outbox, IsSound, World, start_side}
+use Rattle.sem_machine.specs.Prelude.{is_locally_enabled, local_step, local_entry}
+use Rattle.sem_msg.specs.Fabric.{link_in, relinked}
 use Rattle.sem_kernel.specs.KernelValue.{KernelValue, is_timely}
 
--- the sides of the kernels, the links of the fabric, and how many replies its journal has
+-- the sides of the kernels, the links of the fabric, and the number of replies in its journal
 abbrev pub world_of : List KernelValue → FabricValue → World
 world_of ks f =
     record {
@@ -22,7 +17,7 @@ world_of ks f =
       replies = length (replies f.journal);
     }
 
--- it is kernel i of the setup, and what it keeps is sound
+-- it is kernel i of the setup, and its stores are sound
 pub record IsKernelOf (T : Setup) (i : ℕ) (k : KernelValue) : Type 0 where
   pub setup : k.setup ≡ T
   pub id : k.id ≡ i
@@ -34,7 +29,7 @@ pub record IsFabricOf (T : Setup) (f : FabricValue) : Type 0 where
   pub window : f.window ≡ T.window
   pub kills : f.kills ≡ T.kills
 
--- they are all kernels of the setup, each at the place of its number, and the fabric between them
+-- they are all kernels of the setup, each at the place of its number, with the fabric between them
 pub record AreKernelsOf (T : Setup) (ks : List KernelValue) (f : FabricValue) : Type 0 where
   pub many : length ks ≡ T.kernels
   pub each : (i : ℕ) (d : KernelValue) → i < T.kernels → IsKernelOf T i (slice_index_or ks i d)
@@ -42,7 +37,8 @@ pub record AreKernelsOf (T : Setup) (ks : List KernelValue) (f : FabricValue) : 
 
 -- One kernel and the fabric.
 
--- whether the links allow an act of kernel i: a fetch finds a message, a flush finds a link with room
+-- whether the links allow an act of kernel i: a fetch finds a message, a flush finds a link with
+-- room
 abbrev pub is_passable : FabricValue → ℕ → Act → Bool
 is_passable f i (Calls v) = true
 is_passable f i (Resume v) = true
@@ -57,23 +53,28 @@ abbrev pub taken : FabricValue → ℕ → Act → Option Message
 taken f i (Fetch j) = slice_get (link_in f.links j i) 0
 taken f i act = None
 
--- the fabric once the message of an act of kernel i is carried: out of a link for a fetch, into one for a flush
+-- the fabric after the message of an act of kernel i has moved: out of a link for a fetch, into one
+-- for a flush
 abbrev pub carried : ℕ → Side → Act → FabricValue → FabricValue
 carried i s (Fetch j) f = relinked j i (drop 1 (link_in f.links j i)) f
-carried i s (Flush j) f = option_map_or (λ m. relinked i j (link_in f.links i j ++ m ∷ []) f) (slice_get (outbox s j) 0) f
+carried i s (Flush j) f =
+    option_map_or (λ m. relinked i j (link_in f.links i j ++ m ∷ []) f) (slice_get (outbox s j) 0) f
 carried i s act f = f
 
--- an act that names no other kernel, or one of n
+-- an act that names no other kernel, or one below n
 abbrev pub NamesPeer : ℕ → ℕ → Act → Type 0
 NamesPeer n i (Fetch j) = (j < n) × (j ≢ i)
 NamesPeer n i (Flush j) = (j < n) × (j ≢ i)
 NamesPeer n i act = Unit {0}
 
--- whether the kernel can do the act with that fabric, as far as its side, the replies and the links tell
+-- whether the kernel can do the act with that fabric, as far as its side, the replies and the links
+-- tell
 abbrev pub can_do : KernelValue → FabricValue → Act → Bool
-can_do k f act = (is_locally_enabled k.setup k.id k.side act && is_timely k.setup (length (replies f.journal)) act) && is_passable f k.id act
+can_do k f act = (is_locally_enabled k.setup k.id k.side act && is_timely k.setup (length (replies f.journal)) act)
+    && is_passable f k.id act
 
--- the kernel can do the act with that fabric: both are of one setup, and its side and the links allow it
+-- the kernel can do the act with that fabric: both are of one setup, and its side and the links
+-- allow it
 pub record CanDo (k : KernelValue) (f : FabricValue) (act : Act) : Type 0 where
   pub setup : IsSetup k.setup
   pub few : k.id < k.setup.kernels
@@ -82,8 +83,10 @@ pub record CanDo (k : KernelValue) (f : FabricValue) (act : Act) : Type 0 where
   pub enabled : is_locally_enabled k.setup k.id k.side act ≡ true
   pub passes : is_passable f k.id act ≡ true
 
--- the kernel k did the act with the fabric f, and they became l and g: the entry of the act is in the journal
-pub record HasDone (k : KernelValue) (f : FabricValue) (act : Act) (l : KernelValue) (g : FabricValue) (e : Entry) : Type 0 where
+-- kernel k did the act with the fabric f, and they became l and g: the entry of the act is in the
+-- journal
+pub record HasDone (k : KernelValue) (f : FabricValue) (act : Act) (l : KernelValue) (g : FabricValue)
+    (e : Entry) : Type 0 where
   pub entry : e ≡ local_entry k.setup k.id k.side act (taken f k.id act)
   pub kernel : l ≡ record k { side = (local_step k.setup k.id k.side act (taken f k.id act)).side; ready = None }
   pub sound : IsSound k.setup k.id l.side
@@ -91,7 +94,14 @@ pub record HasDone (k : KernelValue) (f : FabricValue) (act : Act) (l : KernelVa
   pub journal : g.journal ≡ f.journal ++ e ∷ []
   pub fabric : IsFabricOf k.setup g
 
--- nothing was done with the kernel k and the fabric f: but for the act that is ready, l and g are as they were
+-- the act was done so, and whether its entry has a reply was told
+pub record HasReplied (k : KernelValue) (f : FabricValue) (act : Act) (l : KernelValue) (g : FabricValue)
+    (replied : Bool) : Type 0 where
+  pub entry : Entry
+  pub done : HasDone k f act l g entry
+  pub told : replied ≡ is_some entry.reply
+
+-- kernel k and the fabric f did nothing: apart from the ready act, l and g are as they were
 pub record HasNotDone (k : KernelValue) (f : FabricValue) (l : KernelValue) (g : FabricValue) : Type 0 where
   pub kernel : l ≡ record k { ready = l.ready }
   pub fabric : g ≡ f

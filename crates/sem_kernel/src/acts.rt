@@ -1,7 +1,8 @@
 // The acts of a kernel on its stores.
 ghost use Rattle.std.specs.Prelude.{◌≡◌, true, None};
 ghost use Rattle.std.specs.Option.{option_map_or};
-ghost use Rattle.sem_msg.specs.declared.event.Act.TheVariants.{Call as Calls, Fetch, Handle, Upcall, Resume, Flush, Kill};
+ghost use Rattle.sem_msg.specs.declared.event.Act.TheVariants.{Call as Calls, Fetch, Handle};
+ghost use Rattle.sem_msg.specs.declared.event.Act.TheVariants.{Upcall, Resume, Flush, Kill};
 ghost use Rattle.sem_msg.specs.declared.entry.Detail.TheVariants.{Carried, Nothing};
 ghost use Rattle.sem_machine.specs.Machine.{asked_detail as asked_detail_lem, is_locally_enabled};
 ghost use Rattle.sem_kernel.specs.KernelStores.{side_of, AreSound};
@@ -12,8 +13,8 @@ use crate::stores::Stores;
 use sem_msg::{Act, Detail, Message, Outcome, Setup};
 
 impl Stores {
-    // Does the act, an enabled one for which there is room. A fetch is handed its message. Gives what
-    // its entry tells beside the act.
+    // Does an enabled act that has its room. A fetch gets its message. Returns what the entry tells
+    // besides the act.
     pub fn act(
         &mut self,
         setup: &Setup,
@@ -37,10 +38,10 @@ impl Stores {
         }
     }
 
-    // The VPE makes its next call.
     fn call_next(&mut self, setup: &Setup, kernel: u32, vpe: u16) -> (Detail, Outcome)
         requires are { AreSound setup.now kernel self.old }
-        requires enabled { is_locally_enabled setup.now kernel (side_of self.old) (Calls vpe) ≡ true }
+        requires enabled { is_locally_enabled setup.now kernel (side_of self.old) (Calls vpe)
+            ≡ true }
         requires ready { IsReady setup.now (Calls vpe) self.old }
         ensures { DoesAct setup.now kernel self.old (Calls vpe) None self.new result.0 result.1 }
     {
@@ -53,7 +54,7 @@ impl Stores {
         (Detail::Called { index, call }, outcome)
     }
 
-    // The message in the inbox is handled.
+    // Handles the message in the inbox.
     fn handle_next(&mut self, setup: &Setup, kernel: u32) -> (Detail, Outcome)
         requires are { AreSound setup.now kernel self.old }
         requires enabled { is_locally_enabled setup.now kernel (side_of self.old) Handle ≡ true }
@@ -70,21 +71,21 @@ impl Stores {
             peer: *from,
             message: *message,
         };
-        (detail, nothing())
+        (detail, Outcome::nothing())
     }
 
-    // The VPE is killed.
     fn kill(&mut self, setup: &Setup, kernel: u32, vpe: u16) -> (Detail, Outcome)
         requires are { AreSound setup.now kernel self.old }
-        requires enabled { is_locally_enabled setup.now kernel (side_of self.old) (Kill vpe) ≡ true }
+        requires enabled { is_locally_enabled setup.now kernel (side_of self.old) (Kill vpe)
+            ≡ true }
         requires ready { IsReady setup.now (Kill vpe) self.old }
         ensures { DoesAct setup.now kernel self.old (Kill vpe) None self.new result.0 result.1 }
     {
         self.end(setup, kernel, vpe);
-        (Detail::Nothing, nothing())
+        (Detail::Nothing, Outcome::nothing())
     }
 
-    // The message goes to the inbox.
+    // Puts the message into the inbox.
     #[tactic(auto, unfolding(sem_machine::specs::Machine::local_step))]
     fn fetch(
         &mut self,
@@ -94,31 +95,34 @@ impl Stores {
         input: &Option<Message>,
     ) -> (Detail, Outcome)
         requires { AreSound setup.now kernel self.old }
-        ensures { DoesAct setup.now kernel self.old (Fetch from) input.now self.new result.0 result.1 }
+        ensures { DoesAct setup.now kernel self.old (Fetch from) input.now self.new result.0
+            result.1 }
     {
         self.inbox = match input {
             Some(message) => Some((from, *message)),
             None => None,
         };
-        (carried(from, input), nothing())
+        (carried(from, input), Outcome::nothing())
     }
 
-    // The next message for a kernel leaves.
+    // Takes out the next message for a kernel.
     #[tactic(auto, unfolding(sem_machine::specs::Machine::local_step))]
     fn flush(&mut self, setup: &Setup, kernel: u32, to: u32) -> (Detail, Outcome)
         requires are { AreSound setup.now kernel self.old }
-        requires enabled { is_locally_enabled setup.now kernel (side_of self.old) (Flush to) ≡ true }
+        requires enabled { is_locally_enabled setup.now kernel (side_of self.old) (Flush to)
+            ≡ true }
         ensures { DoesAct setup.now kernel self.old (Flush to) None self.new result.0 result.1 }
     {
         let message = self.outs.pop(to);
-        (carried(to, &message), nothing())
+        (carried(to, &message), Outcome::nothing())
     }
 
-    // The VPE is asked.
+    // Asks the VPE for its consent.
     #[tactic(auto, unfolding(sem_machine::specs::Machine::local_step))]
     fn be_asked(&mut self, setup: &Setup, kernel: u32, vpe: u16) -> (Detail, Outcome)
         requires are { AreSound setup.now kernel self.old }
-        requires enabled { is_locally_enabled setup.now kernel (side_of self.old) (Upcall vpe) ≡ true }
+        requires enabled { is_locally_enabled setup.now kernel (side_of self.old) (Upcall vpe)
+            ≡ true }
         requires ready { IsReady setup.now (Upcall vpe) self.old }
         ensures { DoesAct setup.now kernel self.old (Upcall vpe) None self.new result.0 result.1 }
     {
@@ -126,11 +130,12 @@ impl Stores {
         (asked_detail(&outcome), outcome)
     }
 
-    // The waiting call of the VPE ends.
+    // Ends the waiting call of the VPE.
     #[tactic(auto, unfolding(sem_machine::specs::Machine::local_step))]
     fn go_on(&mut self, setup: &Setup, kernel: u32, vpe: u16) -> (Detail, Outcome)
         requires are { AreSound setup.now kernel self.old }
-        requires enabled { is_locally_enabled setup.now kernel (side_of self.old) (Resume vpe) ≡ true }
+        requires enabled { is_locally_enabled setup.now kernel (side_of self.old) (Resume vpe)
+            ≡ true }
         requires ready { IsReady setup.now (Resume vpe) self.old }
         ensures { DoesAct setup.now kernel self.old (Resume vpe) None self.new result.0 result.1 }
     {
@@ -139,19 +144,7 @@ impl Stores {
     }
 }
 
-// Nothing is shown.
-pub fn nothing() -> Outcome
-    ensures { result ≡ record { asked = None; grant = None; cut = None; reply = None } }
-{
-    Outcome {
-        asked: None,
-        grant: None,
-        cut: None,
-        reply: None,
-    }
-}
-
-// The message that was carried, if there was one.
+// The moved message, if there was one.
 fn carried(peer: u32, message: &Option<Message>) -> Detail
     ensures { result ≡ option_map_or (λ m. Carried peer m) message.now Nothing }
 {
@@ -164,7 +157,7 @@ fn carried(peer: u32, message: &Option<Message>) -> Detail
     }
 }
 
-// Who was asked, if anybody was, and the answer.
+// The VPE that asked, if one did, and the answer.
 fn asked_detail(outcome: &Outcome) -> Detail
     ensures { result ≡ asked_detail_lem outcome.now }
 {

@@ -26,7 +26,7 @@ impl Stores {
         ensures side { IfOk result (λ x. side_of x ≡ start_side setup.now kernel) }
         ensures stores { IfOk result (AreStoresOf setup.now kernel) }
     {
-        // So that the proof knows what a setup keeps.
+        // Shows the proof what a setup keeps.
         let _ = &setup.vpes;
         Ok(Stores {
             caps: start_caps(alloc, setup, kernel)?,
@@ -47,7 +47,7 @@ impl Stores {
 fn start_caps(alloc: Global, setup: &Setup, kernel: u32) -> Result<Caps, OutOfMemory>
     ensures { IfOk result (λ caps. caps.caps ≡ (start_side setup.now kernel).caps) }
 {
-    // So that the proof knows what a setup keeps.
+    // Shows the proof what a setup keeps.
     let _ = &setup.vpes;
     let mut caps = Caps::new(alloc)?;
     for decl in setup.vpes.as_slice() {
@@ -58,12 +58,13 @@ fn start_caps(alloc: Global, setup: &Setup, kernel: u32) -> Result<Caps, OutOfMe
     Ok(caps)
 }
 
-// Adds the roots and services of a VPE, in the order of their lines. All that is held before is of
-// VPEs of smaller numbers.
+// Adds the roots and services of a VPE, in the order of their lines. Every capability held before
+// belongs to a VPE of a smaller number.
 fn add_roots(caps: &mut Caps, decl: &VpeDecl) -> Result<(), OutOfMemory>
     requires startable { IsStartable decl.now }
     requires before { All (λ c. c.key.vpe < decl.now.vpe) caps.old.caps }
-    ensures row { OnOk result ((s : Side) → caps.new.caps ≡ (vpe_added decl.now (record s { caps = caps.old.caps })).caps) }
+    ensures row { OnOk result ((s : Side) →
+        caps.new.caps ≡ (vpe_added decl.now (record s { caps = caps.old.caps })).caps) }
     ensures upto { OnOk result (All (λ c. c.key.vpe ≤ decl.now.vpe) caps.new.caps) }
 {
     for (number, root) in decl.roots.as_slice().iter().enumerate() {
@@ -72,13 +73,15 @@ fn add_roots(caps: &mut Caps, decl: &VpeDecl) -> Result<(), OutOfMemory>
     Ok(())
 }
 
-// Adds a root or service of a VPE under the key of its number, which is not held.
+// Adds a root or service of a VPE under the key of its number. That key must not be held.
 fn add_root(caps: &mut Caps, decl: &VpeDecl, number: u32, root: &Root) -> Result<(), OutOfMemory>
     requires vpe { decl.now.vpe < VPES }
     requires pe { decl.now.pe < PES }
     requires number { number < NUMBERS }
     requires absent { cap_of caps.old.caps (root_key_lem decl.now number root.now) ≡ None }
-    ensures { OnOk result (caps.new.caps ≡ with_cap caps.old.caps (fresh (root_key_lem decl.now number root.now) None root.now.sel root.now.object)) }
+    ensures { OnOk result (caps.new.caps
+        ≡ with_cap caps.old.caps
+        (fresh (root_key_lem decl.now number root.now) None root.now.sel root.now.object)) }
 {
     caps.room(1, None)?;
     let key = root_key(decl, number, root);

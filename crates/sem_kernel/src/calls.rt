@@ -3,7 +3,8 @@ ghost use Rattle.std.specs.Prelude.{◌≡◌, ◌<◌};
 ghost use Rattle.sem_msg.specs.declared.limits.TheConstants.{ENDPOINTS};
 ghost use Rattle.sem_msg.specs.Lookups.{kernel_of as kernel_of_lem};
 ghost use Rattle.sem_machine.specs.Sides.{slot};
-ghost use Rattle.sem_machine.specs.Calls.{derive_row, gate_row, obtain_row, open_row, offer_row, delegate_row, bind_row, memory_row, send_row, credit_row};
+ghost use Rattle.sem_machine.specs.Calls.{derive_row, gate_row, obtain_row, open_row, offer_row};
+ghost use Rattle.sem_machine.specs.Calls.{delegate_row, bind_row, memory_row, send_row, credit_row};
 ghost use Rattle.sem_kernel.specs.KernelStores.{side_of, AreStoresOf, AreSound};
 ghost use Rattle.sem_kernel.specs.Rooms.{HasRoom, slot_key};
 
@@ -16,7 +17,6 @@ use sem_own::{
 };
 
 impl Stores {
-    // The call `derive`.
     pub fn derive(
         &mut self,
         setup: &Setup,
@@ -29,13 +29,14 @@ impl Stores {
         requires are { AreSound setup.now kernel self.old }
         requires here { kernel_of_lem setup.now vpe ≡ kernel }
         requires room { HasRoom (slot_key (slot (side_of self.old) vpe src)) self.old }
-        ensures row { record { side = side_of self.new; outcome = result } ≡ derive_row setup.now (side_of self.old) vpe src dst part.now.off part.now.len part.now.rights }
+        ensures row { record { side = side_of self.new; outcome = result }
+            ≡ derive_row setup.now (side_of self.old) vpe src dst part.now.off part.now.len
+            part.now.rights }
         ensures stores { AreStoresOf setup.now kernel self.new }
     {
         derive_call(setup, vpe, src, dst, part, &mut self.caps, &mut self.vpes)
     }
 
-    // The call `gate`.
     pub fn gate(
         &mut self,
         setup: &Setup,
@@ -49,7 +50,8 @@ impl Stores {
         requires are { AreSound setup.now kernel self.old }
         requires here { kernel_of_lem setup.now vpe ≡ kernel }
         requires room { HasRoom (slot_key (slot (side_of self.old) vpe src)) self.old }
-        ensures row { record { side = side_of self.new; outcome = result } ≡ gate_row setup.now (side_of self.old) vpe src dst label credits }
+        ensures row { record { side = side_of self.new; outcome = result }
+            ≡ gate_row setup.now (side_of self.old) vpe src dst label credits }
         ensures stores { AreStoresOf setup.now kernel self.new }
     {
         gate_call(
@@ -64,7 +66,6 @@ impl Stores {
         )
     }
 
-    // The call `obtain`.
     pub fn obtain(
         &mut self,
         setup: &Setup,
@@ -77,7 +78,8 @@ impl Stores {
         requires are { AreSound setup.now kernel self.old }
         requires here { kernel_of_lem setup.now vpe ≡ kernel }
         requires room { 0 < self.old.outs.spare }
-        ensures row { record { side = side_of self.new; outcome = result } ≡ obtain_row setup.now kernel (side_of self.old) vpe dst other src }
+        ensures row { record { side = side_of self.new; outcome = result }
+            ≡ obtain_row setup.now kernel (side_of self.old) vpe dst other src }
         ensures stores { AreStoresOf setup.now kernel self.new }
     {
         obtain_call(
@@ -93,12 +95,12 @@ impl Stores {
         )
     }
 
-    // The call `open`.
     pub fn open(&mut self, setup: &Setup, kernel: u32, vpe: u16, dst: u8, name: u8) -> Outcome
         requires are { AreSound setup.now kernel self.old }
         requires here { kernel_of_lem setup.now vpe ≡ kernel }
         requires room { 0 < self.old.outs.spare }
-        ensures row { record { side = side_of self.new; outcome = result } ≡ open_row setup.now kernel (side_of self.old) vpe dst name }
+        ensures row { record { side = side_of self.new; outcome = result }
+            ≡ open_row setup.now kernel (side_of self.old) vpe dst name }
         ensures stores { AreStoresOf setup.now kernel self.new }
     {
         open_call(
@@ -113,7 +115,6 @@ impl Stores {
         )
     }
 
-    // The call `ask`.
     pub fn ask(
         &mut self,
         setup: &Setup,
@@ -126,7 +127,8 @@ impl Stores {
         requires are { AreSound setup.now kernel self.old }
         requires here { kernel_of_lem setup.now vpe ≡ kernel }
         requires room { 0 < self.old.outs.spare }
-        ensures row { record { side = side_of self.new; outcome = result } ≡ offer_row setup.now kernel (side_of self.old) vpe dst session index }
+        ensures row { record { side = side_of self.new; outcome = result }
+            ≡ offer_row setup.now kernel (side_of self.old) vpe dst session index }
         ensures stores { AreStoresOf setup.now kernel self.new }
     {
         offer_call(
@@ -143,7 +145,6 @@ impl Stores {
         )
     }
 
-    // The call `delegate`.
     pub fn delegate(
         &mut self,
         setup: &Setup,
@@ -156,7 +157,8 @@ impl Stores {
         requires are { AreSound setup.now kernel self.old }
         requires here { kernel_of_lem setup.now vpe ≡ kernel }
         requires room { 0 < self.old.outs.spare }
-        ensures row { record { side = side_of self.new; outcome = result } ≡ delegate_row setup.now kernel (side_of self.old) vpe src other dst }
+        ensures row { record { side = side_of self.new; outcome = result }
+            ≡ delegate_row setup.now kernel (side_of self.old) vpe src other dst }
         ensures stores { AreStoresOf setup.now kernel self.new }
     {
         delegate_call(
@@ -173,18 +175,17 @@ impl Stores {
         )
     }
 
-    // The call `bind`.
     pub fn bind(&mut self, setup: &Setup, kernel: u32, vpe: u16, ep: u8, src: u8) -> Outcome
         requires are { AreSound setup.now kernel self.old }
         requires here { kernel_of_lem setup.now vpe ≡ kernel }
         requires ep { ep < ENDPOINTS }
-        ensures row { record { side = side_of self.new; outcome = result } ≡ bind_row (side_of self.old) vpe ep src }
+        ensures row { record { side = side_of self.new; outcome = result }
+            ≡ bind_row (side_of self.old) vpe ep src }
         ensures stores { AreStoresOf setup.now kernel self.new }
     {
         bind_call(vpe, ep, src, &self.caps, &self.vpes, &mut self.dtus)
     }
 
-    // The call `read`.
     pub fn read(
         &mut self,
         setup: &Setup,
@@ -197,13 +198,13 @@ impl Stores {
         requires are { AreSound setup.now kernel self.old }
         requires here { kernel_of_lem setup.now vpe ≡ kernel }
         requires ep { ep < ENDPOINTS }
-        ensures row { record { side = side_of self.new; outcome = result } ≡ memory_row (side_of self.old) vpe ep 1 off len }
+        ensures row { record { side = side_of self.new; outcome = result }
+            ≡ memory_row (side_of self.old) vpe ep 1 off len }
         ensures stores { AreStoresOf setup.now kernel self.new }
     {
         read_call(vpe, ep, off, len, &mut self.dtus)
     }
 
-    // The call `write`.
     pub fn write(
         &mut self,
         setup: &Setup,
@@ -216,29 +217,30 @@ impl Stores {
         requires are { AreSound setup.now kernel self.old }
         requires here { kernel_of_lem setup.now vpe ≡ kernel }
         requires ep { ep < ENDPOINTS }
-        ensures row { record { side = side_of self.new; outcome = result } ≡ memory_row (side_of self.old) vpe ep 2 off len }
+        ensures row { record { side = side_of self.new; outcome = result }
+            ≡ memory_row (side_of self.old) vpe ep 2 off len }
         ensures stores { AreStoresOf setup.now kernel self.new }
     {
         write_call(vpe, ep, off, len, &mut self.dtus)
     }
 
-    // The call `send`.
     pub fn send(&mut self, setup: &Setup, kernel: u32, vpe: u16, ep: u8, len: u32) -> Outcome
         requires are { AreSound setup.now kernel self.old }
         requires here { kernel_of_lem setup.now vpe ≡ kernel }
         requires ep { ep < ENDPOINTS }
-        ensures row { record { side = side_of self.new; outcome = result } ≡ send_row (side_of self.old) vpe ep len }
+        ensures row { record { side = side_of self.new; outcome = result }
+            ≡ send_row (side_of self.old) vpe ep len }
         ensures stores { AreStoresOf setup.now kernel self.new }
     {
         send_call(vpe, ep, len, &mut self.dtus)
     }
 
-    // The call `credit`.
     pub fn credit(&mut self, setup: &Setup, kernel: u32, vpe: u16, ep: u8) -> Outcome
         requires are { AreSound setup.now kernel self.old }
         requires here { kernel_of_lem setup.now vpe ≡ kernel }
         requires ep { ep < ENDPOINTS }
-        ensures row { record { side = side_of self.new; outcome = result } ≡ credit_row (side_of self.old) vpe ep }
+        ensures row { record { side = side_of self.new; outcome = result }
+            ≡ credit_row (side_of self.old) vpe ep }
         ensures stores { AreStoresOf setup.now kernel self.new }
     {
         credit_call(vpe, ep, &mut self.dtus)

@@ -1,9 +1,10 @@
-// What an act of a kernel asks of the fabric.
+// What an act of a kernel needs from the fabric.
 ghost use Rattle.std.specs.Prelude.{◌≡◌, ◌<◌, ◌&&◌, true};
 ghost use Rattle.sem_msg.specs.declared.event.Act.TheVariants.{Flush};
 ghost use Rattle.sem_machine.specs.Machine.{is_locally_enabled};
 ghost use Rattle.sem_kernel.specs.KernelValue.{is_timely, IsInput};
-ghost use Rattle.sem_kernel.specs.Worlds.{is_passable as is_passable_lem, taken, carried, NamesPeer, CanDo};
+ghost use Rattle.sem_kernel.specs.Worlds.{is_passable as is_passable_lem, taken, carried};
+ghost use Rattle.sem_kernel.specs.Worlds.{NamesPeer, CanDo};
 
 use crate::kernel::Kernel;
 use sem_fabric::Fabric;
@@ -22,8 +23,8 @@ pub fn is_passable(fabric: &Fabric, kernel: u32, act: Act) -> bool
     }
 }
 
-// Carries the message of the act: a fetch takes the oldest one out of a link and gives it, a flush
-// moves the oldest one that waits into a link.
+// Moves the message of the act: a fetch takes the oldest one out of a link and returns it, a flush
+// moves the oldest waiting one into a link.
 pub fn carry(kernel: &Kernel, fabric: &mut Fabric, act: Act) -> Option<Message>
     requires { CanDo kernel.now fabric.old act }
     ensures taken { result ≡ taken fabric.old kernel.now.id act }
@@ -40,7 +41,7 @@ pub fn carry(kernel: &Kernel, fabric: &mut Fabric, act: Act) -> Option<Message>
     }
 }
 
-// The oldest message that waits for the kernel `to` goes into its link.
+// Moves the oldest message that waits for the kernel `to` into its link.
 fn send(kernel: &Kernel, fabric: &mut Fabric, to: u32)
     requires { CanDo kernel.now fabric.old (Flush to) }
     ensures { fabric.new ≡ carried kernel.now.id kernel.now.side (Flush to) fabric.old }

@@ -3,7 +3,9 @@ ghost use Rattle.std.specs.Prelude.{◌≡◌, true, is_some, slice_get, length}
 ghost use Rattle.std.specs.Option.{option_map};
 ghost use Rattle.sem_msg.specs.Journal.{kill_number as kill_number_lem};
 ghost use Rattle.sem_msg.specs.Lookups.{kernel_of as kernel_of_lem, calls_of};
-ghost use Rattle.sem_machine.specs.Machine.{is_locally_enabled, is_other_kernel as is_other_kernel_lem, next_call as next_call_lem};
+ghost use Rattle.sem_machine.specs.Machine.{is_locally_enabled};
+ghost use Rattle.sem_machine.specs.Machine.{is_other_kernel as is_other_kernel_lem};
+ghost use Rattle.sem_machine.specs.Machine.{next_call as next_call_lem};
 ghost use Rattle.sem_machine.specs.Resumes.{can_resume as can_resume_lem};
 ghost use Rattle.sem_machine.specs.Sides.{is_alive, outbox, parked, row};
 ghost use Rattle.sem_kernel.specs.KernelStores.{side_of, AreStoresOf, AreSound};
@@ -49,13 +51,14 @@ impl Stores {
         }
     }
 
-    // Whether the act of the row for a VPE, one of this kernel, is enabled.
+    // Whether the act of the row is enabled for the VPE, one of this kernel.
     #[tactic(auto, unfolding(sem_machine::specs::Machine::is_locally_enabled))]
     pub fn can(&self, setup: &Setup, kernel: u32, row: VpeRow, own: OwnVpe) -> bool
         requires are { AreSound setup.now kernel self.now }
         requires here { kernel_of_lem setup.now own.vpe ≡ kernel }
         requires calls { length (calls_of setup.now own.vpe) ≡ own.calls }
-        ensures { result ≡ is_locally_enabled setup.now kernel (side_of self.now) (vpe_act row own.vpe) }
+        ensures { result ≡ is_locally_enabled setup.now kernel (side_of self.now)
+            (vpe_act row own.vpe) }
     {
         let vpe = own.vpe;
         match row {
@@ -99,7 +102,7 @@ impl Stores {
     }
 }
 
-// Whether it is another kernel of the setup.
+// Whether the other one is another kernel of the setup.
 fn is_other_kernel(setup: &Setup, kernel: u32, other: u32) -> bool
     ensures { result ≡ is_other_kernel_lem setup.now kernel other }
 {
@@ -121,7 +124,7 @@ fn can_resume(state: &Option<Parked>) -> bool
     )
 }
 
-// After how many replies the VPE is killed, if it is.
+// After how many replies the VPE is killed, if ever.
 pub fn kill_number(setup: &Setup, vpe: u16) -> Option<u64>
     ensures { result ≡ kill_number_lem setup.now vpe }
 {

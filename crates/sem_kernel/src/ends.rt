@@ -15,7 +15,7 @@ use sem_msg::Setup;
 use sem_sweep::end_vpe;
 
 impl Stores {
-    // The VPE ends, and what it holds is revoked.
+    // Ends the VPE, and revokes what it holds.
     pub fn end(&mut self, setup: &Setup, kernel: u32, vpe: u16)
         requires are { AreSound setup.now kernel self.old }
         requires here { kernel_of_lem setup.now vpe ≡ kernel }
@@ -37,11 +37,12 @@ impl Stores {
         self.revoke_ended(setup, kernel);
     }
 
-    // What is listed is revoked, one after the other.
+    // Revokes what is listed, one after another.
     fn revoke_ended(&mut self, setup: &Setup, kernel: u32)
         requires are { AreSound setup.now kernel self.old }
         requires room { HasRoomForJobs (length self.old.ended.items) self.old }
-        ensures row { side_of self.new ≡ in_turn (revoked_if_left setup.now kernel) self.old.ended.items (side_of self.old) }
+        ensures row { side_of self.new
+            ≡ in_turn (revoked_if_left setup.now kernel) self.old.ended.items (side_of self.old) }
         ensures stores { AreStoresOf setup.now kernel self.new }
     {
         for at in 0..self.ended.len() {
@@ -50,7 +51,7 @@ impl Stores {
         }
     }
 
-    // The capability of that key is revoked, if it is held and no job has marked it.
+    // Revokes the capability of that key, if it is held and unmarked.
     fn revoke_if_left(&mut self, setup: &Setup, kernel: u32, key: Key)
         requires are { AreSound setup.now kernel self.old }
         requires room { HasRoomForJobs 1 self.old }
@@ -77,7 +78,7 @@ impl Stores {
         self.finish(setup, kernel, done);
     }
 
-    // Whether the key is held and no job has marked it.
+    // Whether the key is held and unmarked.
     fn is_unmarked(&self, key: Key) -> bool
         ensures { result ≡ is_unmarked_lem (cap (side_of self.now) key) }
     {

@@ -1,6 +1,9 @@
 // The messages from other kernels, on the stores of a kernel. None of them is a stray.
 ghost use Rattle.std.specs.Prelude.{◌≡◌, ◌<◌, false};
-ghost use Rattle.sem_msg.specs.declared.message.Message.TheVariants.{ObtainReq, ObtainOk, ObtainNo, DelegateReq, DelegatePrepared, DelegateNo, Ack, Orphan, Unlink};
+ghost use Rattle.sem_msg.specs.declared.message.Message.TheVariants.{ObtainReq, ObtainOk, ObtainNo};
+ghost use Rattle.sem_msg.specs.declared.message.Message.TheVariants.{DelegateReq, DelegatePrepared};
+ghost use Rattle.sem_msg.specs.declared.message.Message.TheVariants.{DelegateNo, Ack, Orphan};
+ghost use Rattle.sem_msg.specs.declared.message.Message.TheVariants.{Unlink};
 ghost use Rattle.sem_machine.specs.Handles.{handle_row, is_stray as is_stray_lem};
 ghost use Rattle.sem_kernel.specs.KernelStores.{side_of, AreStoresOf, AreSound};
 
@@ -23,7 +26,8 @@ impl Stores {
         requires are { AreSound setup.now kernel self.old }
         requires expected { is_stray_lem setup.now kernel (side_of self.old) (ObtainReq place target) ≡ false }
         requires room { 0 < self.old.outs.spare }
-        ensures row { side_of self.new ≡ handle_row setup.now kernel (side_of self.old) from (ObtainReq place target) }
+        ensures row { side_of self.new
+            ≡ handle_row setup.now kernel (side_of self.old) from (ObtainReq place target) }
         ensures stores { AreStoresOf setup.now kernel self.new }
     {
         obtain_request(setup, kernel, place, target, &mut self.vpes, &mut self.outs);
@@ -40,9 +44,11 @@ impl Stores {
         object: Object,
     )
         requires are { AreSound setup.now kernel self.old }
-        requires expected { is_stray_lem setup.now kernel (side_of self.old) (ObtainOk parent key object) ≡ false }
+        requires expected { is_stray_lem setup.now kernel (side_of self.old) (ObtainOk parent key object)
+            ≡ false }
         requires room { 0 < self.old.outs.spare }
-        ensures row { side_of self.new ≡ handle_row setup.now kernel (side_of self.old) from (ObtainOk parent key object) }
+        ensures row { side_of self.new
+            ≡ handle_row setup.now kernel (side_of self.old) from (ObtainOk parent key object) }
         ensures stores { AreStoresOf setup.now kernel self.new }
     {
         obtain_answer(
@@ -60,8 +66,10 @@ impl Stores {
     // An asking call is refused.
     pub fn obtain_refused(&mut self, setup: &Setup, kernel: u32, from: u32, place: Place, code: u8)
         requires are { AreSound setup.now kernel self.old }
-        requires expected { is_stray_lem setup.now kernel (side_of self.old) (ObtainNo place code) ≡ false }
-        ensures row { side_of self.new ≡ handle_row setup.now kernel (side_of self.old) from (ObtainNo place code) }
+        requires expected { is_stray_lem setup.now kernel (side_of self.old) (ObtainNo place code)
+            ≡ false }
+        ensures row { side_of self.new
+            ≡ handle_row setup.now kernel (side_of self.old) from (ObtainNo place code) }
         ensures stores { AreStoresOf setup.now kernel self.new }
     {
         obtain_refused(setup, kernel, place, code, &mut self.vpes, &mut self.park);
@@ -79,9 +87,12 @@ impl Stores {
         sel: u8,
     )
         requires are { AreSound setup.now kernel self.old }
-        requires expected { is_stray_lem setup.now kernel (side_of self.old) (DelegateReq parent object vpe sel) ≡ false }
+        requires expected { is_stray_lem setup.now kernel (side_of self.old) (DelegateReq parent object vpe sel)
+            ≡ false }
         requires room { 0 < self.old.outs.spare }
-        ensures row { side_of self.new ≡ handle_row setup.now kernel (side_of self.old) from (DelegateReq parent object vpe sel) }
+        ensures row { side_of self.new
+            ≡ handle_row setup.now kernel (side_of self.old) from
+            (DelegateReq parent object vpe sel) }
         ensures stores { AreStoresOf setup.now kernel self.new }
     {
         delegate_request(
@@ -106,9 +117,11 @@ impl Stores {
         key: Key,
     )
         requires are { AreSound setup.now kernel self.old }
-        requires expected { is_stray_lem setup.now kernel (side_of self.old) (DelegatePrepared parent key) ≡ false }
+        requires expected { is_stray_lem setup.now kernel (side_of self.old) (DelegatePrepared parent key)
+            ≡ false }
         requires room { 0 < self.old.outs.spare }
-        ensures row { side_of self.new ≡ handle_row setup.now kernel (side_of self.old) from (DelegatePrepared parent key) }
+        ensures row { side_of self.new
+            ≡ handle_row setup.now kernel (side_of self.old) from (DelegatePrepared parent key) }
         ensures stores { AreStoresOf setup.now kernel self.new }
     {
         delegate_prepared(
@@ -126,7 +139,8 @@ impl Stores {
     pub fn delegate_refused(&mut self, setup: &Setup, kernel: u32, from: u32, parent: Key, code: u8)
         requires are { AreSound setup.now kernel self.old }
         requires expected { is_stray_lem setup.now kernel (side_of self.old) (DelegateNo parent code) ≡ false }
-        ensures row { side_of self.new ≡ handle_row setup.now kernel (side_of self.old) from (DelegateNo parent code) }
+        ensures row { side_of self.new
+            ≡ handle_row setup.now kernel (side_of self.old) from (DelegateNo parent code) }
         ensures stores { AreStoresOf setup.now kernel self.new }
     {
         delegate_refused(setup, kernel, parent, code, &self.vpes, &mut self.park);
@@ -138,7 +152,8 @@ impl Stores {
         requires expected { is_stray_lem setup.now kernel (side_of self.old) (Ack key yes) ≡ false }
         requires caps { 0 < self.old.caps.spare }
         requires room { 0 < self.old.outs.spare }
-        ensures row { side_of self.new ≡ handle_row setup.now kernel (side_of self.old) from (Ack key yes) }
+        ensures row { side_of self.new
+            ≡ handle_row setup.now kernel (side_of self.old) from (Ack key yes) }
         ensures stores { AreStoresOf setup.now kernel self.new }
     {
         ack(
@@ -156,7 +171,8 @@ impl Stores {
     // A child was granted to a VPE that is dead.
     pub fn orphaned(&mut self, setup: &Setup, kernel: u32, from: u32, parent: Key, key: Key)
         requires stores { AreStoresOf setup.now kernel self.old }
-        ensures row { side_of self.new ≡ handle_row setup.now kernel (side_of self.old) from (Orphan parent key) }
+        ensures row { side_of self.new
+            ≡ handle_row setup.now kernel (side_of self.old) from (Orphan parent key) }
         ensures stores { AreStoresOf setup.now kernel self.new }
     {
         orphan(parent, key, &mut self.caps);
@@ -165,7 +181,8 @@ impl Stores {
     // A child is gone.
     pub fn unlinked(&mut self, setup: &Setup, kernel: u32, from: u32, parent: Key, key: Key)
         requires stores { AreStoresOf setup.now kernel self.old }
-        ensures row { side_of self.new ≡ handle_row setup.now kernel (side_of self.old) from (Unlink parent key) }
+        ensures row { side_of self.new
+            ≡ handle_row setup.now kernel (side_of self.old) from (Unlink parent key) }
         ensures stores { AreStoresOf setup.now kernel self.new }
     {
         unlink(parent, key, &mut self.caps);

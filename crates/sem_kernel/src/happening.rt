@@ -1,8 +1,11 @@
 // The events of kernels and their fabric.
-ghost use Rattle.std.specs.Prelude.{◌≡◌, ◌<◌, ◌&&◌, ◌↔◌, ◌∷◌, ◌++◌, true, false, [], slice_index_or, IfOk, OnErr, IsErrOf};
+ghost use Rattle.std.specs.Prelude.{◌≡◌, ◌<◌, ◌&&◌, ◌↔◌, ◌∷◌, ◌++◌, true, false, []};
+ghost use Rattle.std.specs.Prelude.{slice_index_or, is_some, IfOk, OnOk, OnErr, IsErrOf};
 ghost use Rattle.sem_msg.specs.Fabric.{entered};
-ghost use Rattle.sem_machine.specs.Machine.{is_enabled as is_enabled_lem, after as after_lem, entry_of};
-ghost use Rattle.sem_kernel.specs.Worlds.{world_of, AreKernelsOf, IsFabricOf, can_do as can_do_lem, CanDo, HasDone, HasNotDone};
+ghost use Rattle.sem_machine.specs.Machine.{is_enabled as is_enabled_lem, after as after_lem};
+ghost use Rattle.sem_machine.specs.Machine.{entry_of};
+ghost use Rattle.sem_kernel.specs.Worlds.{world_of, AreKernelsOf, IsFabricOf, can_do as can_do_lem};
+ghost use Rattle.sem_kernel.specs.Worlds.{CanDo, HasReplied, HasNotDone};
 ghost use Rattle.sem_kernel.specs.Standing.{StandsAt};
 
 use crate::carrying::{carry, is_passable};
@@ -31,8 +34,8 @@ impl From<OutOfMemory> for StepError {
     }
 }
 
-/// Whether the event is enabled, where these kernels and this fabric are those of the setup. Takes
-/// no memory.
+/// Whether the event is enabled. The kernels and the fabric must be those of the setup. Takes no
+/// memory.
 pub fn is_enabled(setup: &Setup, kernels: &[Kernel], fabric: &Fabric, event: Event) -> bool
     requires { AreKernelsOf setup.now kernels.now fabric.now }
     ensures { result ≡ is_enabled_lem setup.now (world_of kernels.now fabric.now) event }
@@ -40,9 +43,9 @@ pub fn is_enabled(setup: &Setup, kernels: &[Kernel], fabric: &Fabric, event: Eve
     event.kernel < setup.kernels && can_do(&kernels[event.kernel as usize], fabric, event.act)
 }
 
-/// Does the event, if it is enabled, on kernels and their fabric, and gives its entry, which stands
-/// in the journal then. An event that is not enabled is refused, and after a refusal or want of
-/// memory the world is as before.
+/// Does the event, if it is enabled, on kernels and their fabric, and returns its entry, which is
+/// then in the journal. An event that is not enabled is refused. After a refusal, or if memory is
+/// refused, the world is as before.
 pub fn happen(
     setup: &Setup,
     kernels: &mut Vec<Kernel>,
@@ -51,14 +54,18 @@ pub fn happen(
 ) -> Result<Entry, StepError>
     requires { AreKernelsOf setup.now kernels.old.items fabric.old }
     ensures together { AreKernelsOf setup.now kernels.new.items fabric.new }
-    ensures not_enabled { IsErrOf result StepError.NotEnabled ↔ (is_enabled_lem setup.now (world_of kernels.old.items fabric.old) event ≡ false) }
-    ensures entry { IfOk result (λ entry. entry ≡ entry_of setup.now (world_of kernels.old.items fabric.old) event) }
-    ensures after { IfOk result (λ entry. world_of kernels.new.items fabric.new ≡ after_lem setup.now (world_of kernels.old.items fabric.old) event) }
+    ensures not_enabled { IsErrOf result StepError.NotEnabled
+        ↔ (is_enabled_lem setup.now (world_of kernels.old.items fabric.old) event ≡ false) }
+    ensures entry { IfOk result (λ entry. entry
+        ≡ entry_of setup.now (world_of kernels.old.items fabric.old) event) }
+    ensures after { IfOk result (λ entry. world_of kernels.new.items fabric.new
+        ≡ after_lem setup.now (world_of kernels.old.items fabric.old) event) }
     ensures journal { IfOk result (λ entry. fabric.new.journal ≡ fabric.old.journal ++ entry ∷ []) }
-    ensures unchanged { OnErr result (world_of kernels.new.items fabric.new ≡ world_of kernels.old.items fabric.old) }
+    ensures unchanged { OnErr result (world_of kernels.new.items fabric.new
+        ≡ world_of kernels.old.items fabric.old) }
     ensures same_journal { OnErr result (fabric.new.journal ≡ fabric.old.journal) }
 {
-    // So that the proof knows what a setup keeps.
+    // Shows the proof what a setup keeps.
     let _ = &setup.vpes;
     if !is_enabled(setup, kernels.as_slice(), fabric, event) {
         return Err(StepError::NotEnabled);
@@ -66,9 +73,9 @@ pub fn happen(
     Ok(happen_enabled(setup, kernels, fabric, event)?)
 }
 
-/// Does the event, an enabled one, on kernels and their fabric, and gives its entry, which stands in
-/// the journal then. If memory runs out the world stays as it was. In both cases kernels and a
-/// fabric that stand at a schedule stand at one again.
+/// Does the event, an enabled one, on kernels and their fabric, and returns its entry, which is
+/// then in the journal. If memory is refused, the world is as before. In both cases, kernels and a
+/// fabric that stand at a schedule still stand at one.
 pub fn happen_enabled(
     setup: &Setup,
     kernels: &mut Vec<Kernel>,
@@ -76,23 +83,55 @@ pub fn happen_enabled(
     event: Event,
 ) -> Result<Entry, OutOfMemory>
     requires together { AreKernelsOf setup.now kernels.old.items fabric.old }
-    requires enabled { is_enabled_lem setup.now (world_of kernels.old.items fabric.old) event ≡ true }
+    requires enabled { is_enabled_lem setup.now (world_of kernels.old.items fabric.old) event
+        ≡ true }
     ensures together { AreKernelsOf setup.now kernels.new.items fabric.new }
-    ensures entry { IfOk result (λ entry. entry ≡ entry_of setup.now (world_of kernels.old.items fabric.old) event) }
-    ensures after { IfOk result (λ entry. world_of kernels.new.items fabric.new ≡ after_lem setup.now (world_of kernels.old.items fabric.old) event) }
+    ensures entry { IfOk result (λ entry. entry
+        ≡ entry_of setup.now (world_of kernels.old.items fabric.old) event) }
+    ensures after { IfOk result (λ entry. world_of kernels.new.items fabric.new
+        ≡ after_lem setup.now (world_of kernels.old.items fabric.old) event) }
     ensures journal { IfOk result (λ entry. fabric.new.journal ≡ fabric.old.journal ++ entry ∷ []) }
-    ensures unchanged { OnErr result (world_of kernels.new.items fabric.new ≡ world_of kernels.old.items fabric.old) }
+    ensures unchanged { OnErr result (world_of kernels.new.items fabric.new
+        ≡ world_of kernels.old.items fabric.old) }
     ensures same_journal { OnErr result (fabric.new.journal ≡ fabric.old.journal) }
     ensures stands { StandsAt setup.now kernels.old.items fabric.old
         → StandsAt setup.now kernels.new.items fabric.new }
 {
-    // So that the proof knows what a setup keeps.
+    advance(setup, kernels, fabric, event)?;
+    // The entry is the last of the journal.
+    let entries = fabric.journal().as_slice();
+    Ok(entries[entries.len() - 1])
+}
+
+/// Does the event as `happen_enabled`, and tells only whether its entry has a reply.
+pub fn advance(
+    setup: &Setup,
+    kernels: &mut Vec<Kernel>,
+    fabric: &mut Fabric,
+    event: Event,
+) -> Result<bool, OutOfMemory>
+    requires together { AreKernelsOf setup.now kernels.old.items fabric.old }
+    requires enabled { is_enabled_lem setup.now (world_of kernels.old.items fabric.old) event
+        ≡ true }
+    ensures together { AreKernelsOf setup.now kernels.new.items fabric.new }
+    ensures replied { IfOk result (λ b. b
+        ≡ is_some (entry_of setup.now (world_of kernels.old.items fabric.old) event).reply) }
+    ensures after { OnOk result (world_of kernels.new.items fabric.new
+        ≡ after_lem setup.now (world_of kernels.old.items fabric.old) event) }
+    ensures journal { OnOk result (fabric.new.journal ≡ fabric.old.journal
+        ++ entry_of setup.now (world_of kernels.old.items fabric.old) event ∷ []) }
+    ensures unchanged { OnErr result (world_of kernels.new.items fabric.new
+        ≡ world_of kernels.old.items fabric.old) }
+    ensures same_journal { OnErr result (fabric.new.journal ≡ fabric.old.journal) }
+    ensures stands { StandsAt setup.now kernels.old.items fabric.old
+        → StandsAt setup.now kernels.new.items fabric.new }
+{
+    // Shows the proof what a setup keeps.
     let _ = &setup.vpes;
     let kernel = &mut kernels[event.kernel as usize];
     step(kernel, fabric, event.act)
 }
 
-// Whether the kernel can do the act with the fabric.
 fn can_do(kernel: &Kernel, fabric: &Fabric, act: Act) -> bool
     requires few { kernel.now.id < kernel.now.setup.kernels }
     requires fabric { IsFabricOf kernel.now.setup fabric.now }
@@ -101,10 +140,11 @@ fn can_do(kernel: &Kernel, fabric: &Fabric, act: Act) -> bool
     kernel.enabled(act, fabric.replies()) && is_passable(fabric, kernel.id(), act)
 }
 
-// The kernel does the act with the fabric. The entry of the act is entered.
-fn step(kernel: &mut Kernel, fabric: &mut Fabric, act: Act) -> Result<Entry, OutOfMemory>
+// Lets the kernel do the act with the fabric, enters the entry of the act, and tells whether it has
+// a reply.
+fn step(kernel: &mut Kernel, fabric: &mut Fabric, act: Act) -> Result<bool, OutOfMemory>
     requires { CanDo kernel.old fabric.old act }
-    ensures ok { IfOk result (HasDone kernel.old fabric.old act kernel.new fabric.new) }
+    ensures ok { IfOk result (HasReplied kernel.old fabric.old act kernel.new fabric.new) }
     ensures err { OnErr result (HasNotDone kernel.old fabric.old kernel.new fabric.new) }
 {
     kernel.make_room(act)?;
@@ -112,10 +152,10 @@ fn step(kernel: &mut Kernel, fabric: &mut Fabric, act: Act) -> Result<Entry, Out
     let input = carry(kernel, fabric, act);
     let entry = kernel.step(act, input);
     enter(fabric, &entry);
-    Ok(entry)
+    Ok(entry.reply.is_some())
 }
 
-// Appends the entry to the journal, at the place that its kernel has there.
+// Appends the entry to the journal, at its kernel's place there.
 fn enter(fabric: &mut Fabric, entry: &Entry)
     requires kernel { entry.now.event.kernel < fabric.old.kernels }
     requires place { slice_index_or fabric.old.places entry.now.event.kernel false ≡ true }

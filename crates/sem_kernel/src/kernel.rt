@@ -1,11 +1,14 @@
-ghost use Rattle.std.specs.Prelude.{◌≡◌, ◌<◌, ◌&&◌, true, Some, None, length, slice_get, is_some, option_copied, IfOk, OnOk, OnErr};
+ghost use Rattle.std.specs.Prelude.{◌≡◌, ◌<◌, nat_lt, ◌&&◌, true, Some, None, length, slice_get};
+ghost use Rattle.std.specs.Prelude.{is_some, option_copied, IfOk, OnOk, OnErr};
 ghost use Rattle.std.specs.List.{Contains};
 ghost use Rattle.std.specs.Option.{option_map};
 ghost use Rattle.sem_key.specs.Capability.{capability_of};
 ghost use Rattle.sem_msg.specs.Fabric.{is_due as is_due_lem};
 ghost use Rattle.sem_msg.specs.Lookups.{kernel_of};
+ghost use Rattle.sem_msg.specs.Masks.{IsMaskOf};
 ghost use Rattle.sem_machine.specs.Sides.{is_alive, endpoint, cap, parked as parked_of, outbox};
-ghost use Rattle.sem_machine.specs.Machine.{start_side, is_locally_enabled, local_step, local_entry, replied_vpe as replied_vpe_lem};
+ghost use Rattle.sem_machine.specs.Machine.{start_side, is_locally_enabled, local_step};
+ghost use Rattle.sem_machine.specs.Machine.{local_entry, replied_vpe as replied_vpe_lem};
 ghost use Rattle.sem_kernel.specs.KernelValue.{is_timely as is_timely_lem, IsInput};
 ghost use Rattle.sem_kernel.specs.Listing.{vpe_act};
 ghost use Rattle.sem_kernel.specs.Owning.{own_rows};
@@ -20,13 +23,13 @@ use sem_msg::{Act, ENDPOINTS, Entry, Event, Message, Parked, Reply, Setup};
 use std::alloc::Global;
 use std::marker::Model;
 
-/// A kernel of a setup, with all that it keeps.
+/// A kernel of a setup, with everything that it keeps. Only `boot` and `room` take memory.
 #[derive(Debug, Drop)]
 pub struct Kernel {
     setup: SharedSetup,
     id: u32,
     stores: Stores,
-    // The act for which there is room.
+    // The act that has its room.
     ready: Option<Act>,
     // Its VPEs, by number.
     own: Vec<OwnVpe>,
@@ -38,7 +41,12 @@ impl Model for Kernel {
 
     ghost Value = { KernelValue };
 
-    ghost view = { λ k. record { setup = k.setup; id = k.id; side = side_of k.stores; ready = k.ready } };
+    ghost view = { λ k. record {
+      setup = k.setup;
+      id = k.id;
+      side = side_of k.stores;
+      ready = k.ready;
+    } };
 
     ghost invariant = { λ k. IsKernel k.setup k.id k.stores k.ready k.own.items };
 }
@@ -46,21 +54,31 @@ impl Model for Kernel {
 impl Kernel {
     /// The kernel of that number at the start. It keeps a copy of the setup.
     ///
-    /// The number is below that of the setup's kernels.
+    /// The number must be below the setup's number of kernels.
     pub fn boot(alloc: Global, setup: &Setup, id: u32) -> Result<Self, OutOfMemory>
         requires { id < setup.now.kernels }
-        ensures { IfOk result (λ k. k ≡ record { setup = setup.now; id = id; side = start_side setup.now id; ready = None }) }
+        ensures { IfOk result (λ k. k ≡ record {
+          setup = setup.now;
+          id = id;
+          side = start_side setup.now id;
+          ready = None;
+        }) }
     {
         Kernel::boot_sharing(alloc, &SharedSetup::new(alloc, setup)?, id)
     }
 
-    // The kernel of that number at the start, which shares the setup.
+    // The kernel of that number at the start; it shares the setup.
     pub fn boot_sharing(alloc: Global, shared: &SharedSetup, id: u32) -> Result<Self, OutOfMemory>
         requires { id < shared.now.kernels }
-        ensures { IfOk result (λ k. k ≡ record { setup = shared.now; id = id; side = start_side shared.now id; ready = None }) }
+        ensures { IfOk result (λ k. k ≡ record {
+          setup = shared.now;
+          id = id;
+          side = start_side shared.now id;
+          ready = None;
+        }) }
     {
         let setup = shared.get();
-        // So that the proof knows what a setup keeps.
+        // Shows the proof what a setup keeps.
         let _ = &setup.vpes;
         let stores = Stores::boot(alloc, setup, id)?;
         let own = own_vpes(alloc, setup, id)?;
@@ -73,24 +91,24 @@ impl Kernel {
         })
     }
 
-    /// Its number. Takes no memory.
+    /// The number of the kernel, from 0.
     pub fn id(&self) -> u32
         ensures { result ≡ self.now.id }
     {
         self.id
     }
 
-    /// Whether the act is enabled, as far as the kernel can tell where there were so many replies:
-    /// of a fetch it does not know the link, and of a flush not whether the link has room. Takes no
-    /// memory.
+    /// Whether the act is enabled after that many replies, as far as the kernel can tell. For a
+    /// fetch it does not know the link; for a flush it does not know whether the link has room.
     pub fn enabled(&self, act: Act, replies: u64) -> bool
-        ensures { result ≡ (is_locally_enabled self.now.setup self.now.id self.now.side act && is_timely_lem self.now.setup replies act) }
+        ensures { result ≡ (is_locally_enabled self.now.setup self.now.id self.now.side act
+            && is_timely_lem self.now.setup replies act) }
     {
         self.stores.is_enabled(self.setup.get(), self.id, act)
             && is_timely(self.setup.get(), replies, act)
     }
 
-    /// Whether a message is in its inbox. Takes no memory.
+    /// Whether a message is in the inbox.
     pub fn is_handling(&self) -> bool
         ensures { result ≡ is_some self.now.side.inbox }
     {
@@ -104,15 +122,16 @@ impl Kernel {
         &self.own
     }
 
-    // Whether the act of the row for one of its VPEs is enabled.
+    // Whether the act of the row is enabled for one of its VPEs.
     pub(crate) fn can(&self, row: VpeRow, own: OwnVpe) -> bool
         requires { Contains (own_rows self.now.setup self.now.id) own }
-        ensures { result ≡ is_locally_enabled self.now.setup self.now.id self.now.side (vpe_act row own.vpe) }
+        ensures { result ≡ is_locally_enabled self.now.setup self.now.id self.now.side
+            (vpe_act row own.vpe) }
     {
         self.stores.can(self.setup.get(), self.id, row, own)
     }
 
-    /// Whether the VPE, one of this kernel, is alive. Takes no memory.
+    /// Whether the VPE, one of this kernel, is alive.
     pub fn is_alive(&self, vpe: u16) -> bool
         requires { kernel_of self.now.setup vpe ≡ self.now.id }
         ensures { result ≡ is_alive self.now.side vpe }
@@ -120,10 +139,10 @@ impl Kernel {
         self.stores.vpes.alive(vpe)
     }
 
-    /// The key to which an endpoint of the VPE is bound, and the object that its capability had
-    /// then; none where the endpoint is not bound. Takes no memory.
+    /// The key that an endpoint of the VPE is bound to, and the object that its capability had
+    /// then; none if the endpoint is not bound.
     ///
-    /// The VPE is one of this kernel, and the endpoint is at most 15.
+    /// The VPE must be one of this kernel, and the endpoint must be at most 15.
     pub fn binding(&self, vpe: u16, ep: u8) -> Option<(Key, Object)>
         requires vpe { kernel_of self.now.setup vpe ≡ self.now.id }
         requires ep { ep < ENDPOINTS }
@@ -132,16 +151,16 @@ impl Kernel {
         self.stores.dtus.binding(vpe, ep)
     }
 
-    /// The capability of that key; none where it holds no such key. Takes no memory.
+    /// The capability of that key; none if the kernel does not hold the key.
     pub fn held(&self, key: Key) -> Option<&Cap>
         ensures { option_map capability_of (option_copied result) ≡ cap self.now.side key }
     {
         self.stores.caps.get(key)
     }
 
-    /// The state in which a call of the VPE waits; none where it has no such call. Takes no memory.
+    /// The state in which a call of the VPE waits; none if no call of it waits.
     ///
-    /// The VPE is 0 to 127.
+    /// The VPE must be 0 to 127.
     pub fn parked(&self, vpe: u16) -> Option<Parked>
         requires { vpe < VPES }
         ensures { result ≡ parked_of self.now.side vpe }
@@ -149,25 +168,24 @@ impl Kernel {
         self.stores.park.state(vpe)
     }
 
-    /// The capability at that place among those that it holds, in rising key order, counted from 0;
-    /// none past the end. Takes no memory.
+    /// The held capability at that place, in rising key order, counted from 0; none past the end.
     pub fn capability(&self, place: usize) -> Option<&Cap>
-        ensures { option_map capability_of (option_copied result) ≡ slice_get self.now.side.caps place }
+        ensures { option_map capability_of (option_copied result)
+            ≡ slice_get self.now.side.caps place }
     {
         self.stores.caps.at(place)
     }
 
-    /// How many capabilities it holds. Takes no memory.
+    /// How many capabilities the kernel holds.
     pub fn capability_count(&self) -> usize
         ensures { result ≡ length self.now.side.caps }
     {
         self.stores.caps.len()
     }
 
-    /// The oldest message that waits to be sent to the kernel `to`; none where none waits. Takes no
-    /// memory.
+    /// The oldest message that waits to be sent to the kernel `to`; none if none waits.
     ///
-    /// `to` is below the number of the setup's kernels.
+    /// `to` must be below the setup's number of kernels.
     pub fn front(&self, to: u32) -> Option<Message>
         requires { to < self.now.setup.kernels }
         ensures { result ≡ slice_get (outbox self.now.side to) 0 }
@@ -175,8 +193,16 @@ impl Kernel {
         self.stores.outs.front(to)
     }
 
-    /// Makes room for all that the step of the act can need, so that it takes no memory; the act is
-    /// ready then. After want of memory all is as before.
+    /// The kernels for which messages wait to be sent, a bit for each.
+    pub fn filled(&self) -> u32
+        ensures { IsMaskOf (λ to. nat_lt to self.now.setup.kernels
+            && is_some (slice_get (outbox self.now.side to) 0)) result }
+    {
+        self.stores.outs.filled()
+    }
+
+    /// Makes all the room that the step of the act can need; the act is ready then. If memory is
+    /// refused, all is as before.
     pub fn room(&mut self, act: Act) -> Result<(), OutOfMemory>
         ensures ok { OnOk result (self.new ≡ record self.old { ready = Some act }) }
         ensures err { OnErr result (self.new ≡ self.old) }
@@ -188,7 +214,7 @@ impl Kernel {
         Ok(())
     }
 
-    // The same, for an act that is enabled as far as the side of the kernel tells.
+    // The same, for an act that is enabled as far as the kernel's side tells.
     pub(crate) fn make_room(&mut self, act: Act) -> Result<(), OutOfMemory>
         requires { is_locally_enabled self.old.setup self.old.id self.old.side act ≡ true }
         ensures ok { OnOk result (self.new ≡ record self.old { ready = Some act }) }
@@ -199,15 +225,20 @@ impl Kernel {
         Ok(())
     }
 
-    /// Does the act, and gives its entry. No act is ready then. Takes no memory.
+    /// Does the act, and returns its entry. No act is ready then.
     ///
-    /// The act is enabled, as far as the side of the kernel tells, and ready. A fetch is handed the
-    /// message that it takes out of the link, and no other act any.
+    /// The act must be enabled, as far as the kernel's side tells, and ready. A fetch gets the
+    /// message that it takes out of the link; every other act gets none.
     pub fn step(&mut self, act: Act, input: Option<Message>) -> Entry
         requires enabled { is_locally_enabled self.old.setup self.old.id self.old.side act ≡ true }
         requires ready { self.old.ready ≡ Some act }
         requires input { IsInput act input }
-        ensures step { self.new ≡ record self.old { side = (local_step self.old.setup self.old.id self.old.side act input).side; ready = None } }
+        ensures step { self.new
+            ≡ record self.old {
+              side =
+                  (local_step self.old.setup self.old.id self.old.side act input).side;
+              ready = None;
+            } }
         ensures entry { result ≡ local_entry self.old.setup self.old.id self.old.side act input }
     {
         let (detail, outcome) = self.stores.act(self.setup.get(), self.id, act, &input);
@@ -235,7 +266,7 @@ fn is_timely(setup: &Setup, replies: u64, act: Act) -> bool
     }
 }
 
-// Whether the VPE is to be killed after so many replies.
+// Whether the VPE is due to be killed after that many replies.
 fn is_due(setup: &Setup, replies: u64, vpe: u16) -> bool
     ensures { result ≡ is_due_lem setup.now replies vpe }
 {

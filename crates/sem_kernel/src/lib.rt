@@ -1,4 +1,5 @@
-//! A kernel with all that it keeps, and its steps; all kernels with their fabric, and their steps.
+//! A kernel with everything that it keeps, and its steps; all kernels with their fabric, and their
+//! steps.
 #![tactic(auto)]
 
 mod acts;
@@ -22,7 +23,7 @@ mod strays;
 mod upcalls;
 mod world;
 
-pub use happening::{StepError, happen, happen_enabled, is_enabled};
+pub use happening::{StepError, advance, happen, happen_enabled, is_enabled};
 pub use kernel::Kernel;
 pub use listing::{append_enabled, enabled_events};
 pub use sem_key::OutOfMemory;

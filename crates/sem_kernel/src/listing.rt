@@ -1,16 +1,16 @@
 // The list of the enabled events of kernels and their fabric.
 ghost use Rattle.std.specs.Prelude.{◌≡◌, ◌<◌, ◌++◌, ◌∷◌, [], map, OnOk, OnErr};
 ghost use Rattle.std.specs.List.{range_with_len};
-ghost use Rattle.sem_msg.specs.declared.event.Act.TheVariants.{Fetch, Handle, Kill};
+ghost use Rattle.sem_msg.specs.declared.event.Act.TheVariants.{Fetch, Handle, Flush, Kill};
 ghost use Rattle.sem_machine.specs.Machine.{event, enabled};
-ghost use Rattle.sem_kernel.specs.Worlds.{world_of, AreKernelsOf, IsFabricOf, can_do};
-ghost use Rattle.sem_kernel.specs.Listing.{enabled_of, enabled_among, vpe_act, peer_act};
+ghost use Rattle.sem_kernel.specs.Worlds.{world_of, AreKernelsOf};
+ghost use Rattle.sem_kernel.specs.Listing.{enabled_of, enabled_among, others_in, vpe_act, peer_act};
 
 use crate::happening::is_enabled;
 use crate::kernel::Kernel;
 use sem_fabric::Fabric;
 use sem_key::OutOfMemory;
-use sem_msg::{Act, Event, Setup};
+use sem_msg::{Act, Event, Setup, with_bit, without};
 use std::alloc::Global;
 
 // The rows of events that go through the VPEs.
@@ -53,9 +53,10 @@ impl PeerRow {
     }
 }
 
-/// Replaces the list by the enabled events, where these kernels and this fabric are those of the
-/// setup: kernel by kernel, and of each its calls, resumes and upcalls, its handling, its fetches,
-/// flushes and kills, each row by rising numbers. If memory runs out the list stays as it was.
+/// Replaces the list by the enabled events, kernel by kernel. For each kernel come its calls,
+/// resumes and upcalls, its handling, its fetches, flushes and kills, each row by rising numbers.
+/// The kernels and the fabric must be those of the setup. If memory is refused, the list stays as
+/// it was.
 pub fn enabled_events(
     alloc: Global,
     setup: &Setup,
@@ -75,8 +76,8 @@ pub fn enabled_events(
     Ok(())
 }
 
-/// Appends the enabled events of one kernel, in their order, where these kernels and this fabric
-/// are those of the setup.
+/// Appends the enabled events of one kernel, in order. The kernels and the fabric must be those of
+/// the setup.
 pub fn append_enabled(
     setup: &Setup,
     kernels: &[Kernel],
@@ -94,7 +95,7 @@ pub fn append_enabled(
     append_rows(setup, kernels, fabric, kernel, out)
 }
 
-// Appends the enabled events of one kernel of the setup, in their order.
+// Appends the enabled events of one kernel of the setup, in order.
 fn append_rows(
     setup: &Setup,
     kernels: &[Kernel],
@@ -112,7 +113,7 @@ fn append_rows(
     append_vpe_row(setup, kernels, fabric, kernel, VpeRow::Upcalls, out)?;
     append_handling(setup, kernels, fabric, kernel, out)?;
     append_fetches(setup, kernels, fabric, kernel, out)?;
-    append_peer_row(setup, kernels, fabric, kernel, PeerRow::Flushes, out)?;
+    append_flushes(setup, kernels, fabric, kernel, out)?;
     append_kills(setup, kernels, fabric, kernel, out)
 }
 
@@ -131,9 +132,9 @@ fn append_vpe_row(
         ++ enabled_among setup.now (world_of kernels.now fabric.now)
         (map (λ d. event kernel (vpe_act row d.vpe)) setup.now.vpes)) }
 {
-    // So that the proof knows what a setup keeps.
+    // Shows the proof what a setup keeps.
     let _ = &setup.vpes;
-    // A VPE of another kernel has none.
+    // A VPE of another kernel has no events here.
     let this = &kernels[kernel as usize];
     for own in this.own_vpes() {
         if this.can(row, *own) {
@@ -146,7 +147,7 @@ fn append_vpe_row(
     Ok(())
 }
 
-// Appends the handling of the message in the inbox of the kernel, if there is one.
+// Appends the handling of the message in the kernel's inbox, if there is one.
 fn append_handling(
     setup: &Setup,
     kernels: &[Kernel],
@@ -168,7 +169,7 @@ fn append_handling(
     Ok(())
 }
 
-// Appends the enabled fetches of the kernel. With a message in its inbox it has none.
+// Appends the enabled fetches of the kernel. With a message in its inbox none is enabled.
 fn append_fetches(
     setup: &Setup,
     kernels: &[Kernel],
@@ -182,53 +183,56 @@ fn append_fetches(
         ++ enabled_among setup.now (world_of kernels.now fabric.now)
         (map (λ j. event kernel (Fetch j)) (range_with_len 0 setup.now.kernels))) }
 {
+    // Shows the proof what a setup keeps.
+    let _ = &setup.vpes;
     if kernels[kernel as usize].is_handling() {
         return Ok(());
     }
-    append_peer_row(setup, kernels, fabric, kernel, PeerRow::Fetches, out)
+    append_peers(kernel, PeerRow::Fetches, fabric.coming(kernel), out)
 }
 
-// Appends the enabled events of a row that goes through the other kernels.
-fn append_peer_row(
+// Appends the enabled flushes of the kernel: to the kernels for which a message waits, where the
+// link is not full.
+fn append_flushes(
     setup: &Setup,
     kernels: &[Kernel],
     fabric: &Fabric,
     kernel: u32,
-    row: PeerRow,
     out: &mut Vec<Event>,
 ) -> Result<(), OutOfMemory>
     requires together { AreKernelsOf setup.now kernels.now fabric.now }
     requires few { kernel < setup.now.kernels }
     ensures { OnOk result (out.new.items ≡ out.old.items
         ++ enabled_among setup.now (world_of kernels.now fabric.now)
-        (map (λ j. event kernel (peer_act row j)) (range_with_len 0 setup.now.kernels))) }
+        (map (λ j. event kernel (Flush j)) (range_with_len 0 setup.now.kernels))) }
 {
-    let this = &kernels[kernel as usize];
-    for peer in 0..setup.kernels {
-        if can_carry(this, fabric, row, peer) {
-            out.push(Event {
-                kernel,
-                act: row.act(peer),
-            })?;
-        }
-    }
-    Ok(())
+    // Shows the proof what a setup keeps.
+    let _ = &setup.vpes;
+    let filled = kernels[kernel as usize].filled();
+    let mask = without(filled, fabric.full_to(kernel));
+    append_peers(kernel, PeerRow::Flushes, mask, out)
 }
 
-// Whether the kernel can do the act of the row for another one with the fabric.
-fn can_carry(kernel: &Kernel, fabric: &Fabric, row: PeerRow, peer: u32) -> bool
-    requires few { kernel.now.id < kernel.now.setup.kernels }
-    requires peer { peer < kernel.now.setup.kernels }
-    requires fabric { IsFabricOf kernel.now.setup fabric.now }
-    ensures { result ≡ can_do kernel.now fabric.now (peer_act row peer) }
+// Appends the event of a row for each other kernel that has a bit in the mask, in their order.
+fn append_peers(
+    kernel: u32,
+    row: PeerRow,
+    mask: u32,
+    out: &mut Vec<Event>,
+) -> Result<(), OutOfMemory>
+    ensures { OnOk result (out.new.items ≡ out.old.items
+        ++ map (λ j. event kernel (peer_act row j)) (others_in mask kernel)) }
 {
-    if peer == kernel.id() {
-        return false;
+    let mut left = with_bit(mask, kernel, false);
+    while left != 0 {
+        let peer = left.trailing_zeros();
+        left &= !(1 << peer);
+        out.push(Event {
+            kernel,
+            act: row.act(peer),
+        })?;
     }
-    match row {
-        PeerRow::Fetches => !kernel.is_handling() && fabric.waiting(peer, kernel.id()) > 0,
-        PeerRow::Flushes => kernel.front(peer).is_some() && !fabric.full(kernel.id(), peer),
-    }
+    Ok(())
 }
 
 // Appends the enabled kills of the kernel.

@@ -1,4 +1,4 @@
-// A call of a VPE, whichever it is, and a message, whichever it is.
+// Any call of a VPE, and any message.
 ghost use Rattle.std.specs.Prelude.{◌≡◌, ◌+◌, ◌≤◌, true, false, None, length};
 ghost use Rattle.sem_msg.specs.declared.code.Code.TheVariants.{Ok as OkCode};
 ghost use Rattle.sem_msg.specs.Calls.{IsValidCall};
@@ -11,7 +11,8 @@ ghost use Rattle.sem_machine.specs.Ends.{ended};
 ghost use Rattle.sem_machine.specs.Handles.{handle_row, handled, is_stray as is_stray_lem};
 ghost use Rattle.sem_machine.specs.Sound.{IsSoundMessage, ids_owed, ids_paid};
 ghost use Rattle.sem_kernel.specs.KernelStores.{side_of, AreStoresOf, AreSound};
-ghost use Rattle.sem_kernel.specs.Rooms.{HasRoom, HasRoomToRevoke, called_parent, is_request, is_revoking};
+ghost use Rattle.sem_kernel.specs.Rooms.{HasRoom, HasRoomToRevoke, called_parent, is_request};
+ghost use Rattle.sem_kernel.specs.Rooms.{is_revoking};
 
 use crate::stores::Stores;
 use sem_msg::{Call, Code, Message, Outcome, Setup};
@@ -27,8 +28,10 @@ impl Stores {
         requires pays { ids_owed (side_of self.old) + 1 ≤ ids_paid (side_of self.old) }
         requires valid { IsValidCall (most_vpes setup.now.version) call }
         requires room { HasRoom (called_parent (side_of self.old) vpe call) self.old }
-        requires revoke { is_revoking call ≡ true → HasRoomToRevoke (length (row (side_of self.old) vpe).asks) self.old }
-        ensures row { record { side = side_of self.new; outcome = result } ≡ call_row setup.now kernel (side_of self.old) vpe call }
+        requires revoke { is_revoking call ≡ true →
+            HasRoomToRevoke (length (row (side_of self.old) vpe).asks) self.old }
+        ensures row { record { side = side_of self.new; outcome = result }
+            ≡ call_row setup.now kernel (side_of self.old) vpe call }
         ensures stores { AreStoresOf setup.now kernel self.new }
     {
         match call {
@@ -75,12 +78,12 @@ impl Stores {
         }
     }
 
-    // The call `exit`.
     fn exit(&mut self, setup: &Setup, kernel: u32, vpe: u16) -> Outcome
         requires are { AreSound setup.now kernel self.old }
         requires here { kernel_of_lem setup.now vpe ≡ kernel }
         requires room { HasRoomToRevoke (length (row (side_of self.old) vpe).asks) self.old }
-        ensures row { record { side = side_of self.new; outcome = result } ≡ answer OkCode (ended setup.now kernel vpe (side_of self.old)) }
+        ensures row { record { side = side_of self.new; outcome = result }
+            ≡ answer OkCode (ended setup.now kernel vpe (side_of self.old)) }
         ensures stores { AreStoresOf setup.now kernel self.new }
     {
         self.end(setup, kernel, vpe);
@@ -92,13 +95,14 @@ impl Stores {
         }
     }
 
-    // The message of kernel `from` is handled, unless it is a stray.
+    // Handles the message of kernel `from`, unless it is a stray.
     pub fn receive(&mut self, setup: &Setup, kernel: u32, from: u32, message: &Message)
         requires are { AreSound setup.now kernel self.old }
         requires sound { IsSoundMessage setup.now kernel from message.now }
         requires room { HasRoom None self.old }
         requires revoke { is_request message.now ≡ true → HasRoomToRevoke 0 self.old }
-        ensures row { side_of self.new ≡ handled setup.now kernel (side_of self.old) from message.now }
+        ensures row { side_of self.new
+            ≡ handled setup.now kernel (side_of self.old) from message.now }
         ensures stores { AreStoresOf setup.now kernel self.new }
     {
         if self.is_stray(setup, kernel, message) {
@@ -107,14 +111,15 @@ impl Stores {
         self.handle(setup, kernel, from, message);
     }
 
-    // The message of kernel `from`, which is no stray, is handled.
+    // Handles the message of kernel `from`, which is no stray.
     fn handle(&mut self, setup: &Setup, kernel: u32, from: u32, message: &Message)
         requires are { AreSound setup.now kernel self.old }
         requires sound { IsSoundMessage setup.now kernel from message.now }
         requires expected { is_stray_lem setup.now kernel (side_of self.old) message.now ≡ false }
         requires room { HasRoom None self.old }
         requires revoke { is_request message.now ≡ true → HasRoomToRevoke 0 self.old }
-        ensures row { side_of self.new ≡ handle_row setup.now kernel (side_of self.old) from message.now }
+        ensures row { side_of self.new
+            ≡ handle_row setup.now kernel (side_of self.old) from message.now }
         ensures stores { AreStoresOf setup.now kernel self.new }
     {
         match message {

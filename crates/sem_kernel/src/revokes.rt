@@ -1,5 +1,6 @@
 // Revocation on the stores of a kernel.
-ghost use Rattle.std.specs.Prelude.{◌≡◌, ◌≢◌, ◌+◌, ◌<◌, ◌≤◌, None, Some, IfSome, IsSome, length, vec_capacity};
+ghost use Rattle.std.specs.Prelude.{◌≡◌, ◌≢◌, ◌+◌, ◌<◌, ◌≤◌, None, Some, IfSome, IsSome, length};
+ghost use Rattle.std.specs.Prelude.{vec_capacity};
 ghost use Rattle.sem_msg.specs.declared.message.Message.TheVariants.{RevokeReq, RevokeDone};
 ghost use Rattle.sem_msg.specs.JobRows.{job_of};
 ghost use Rattle.sem_msg.specs.Lookups.{kernel_of as kernel_of_lem};
@@ -20,13 +21,13 @@ use sem_msg::{Outcome, Setup};
 use sem_sweep::{revoke_done, sweep};
 
 impl Stores {
-    // The call `revoke`.
     pub fn revoke(&mut self, setup: &Setup, kernel: u32, vpe: u16, src: u8) -> Outcome
         requires are { AreSound setup.now kernel self.old }
         requires here { kernel_of_lem setup.now vpe ≡ kernel }
         requires idle { parked (side_of self.old) vpe ≡ None }
         requires room { HasRoomToRevoke 0 self.old }
-        ensures row { record { side = side_of self.new; outcome = result } ≡ revoke_row setup.now kernel (side_of self.old) vpe src }
+        ensures row { record { side = side_of self.new; outcome = result }
+            ≡ revoke_row setup.now kernel (side_of self.old) vpe src }
         ensures stores { AreStoresOf setup.now kernel self.new }
     {
         let (outcome, done) = revoke_call(
@@ -46,14 +47,15 @@ impl Stores {
         outcome
     }
 
-    // The call `clear`, which pays for the job.
+    // The call `clear`, which pays for its job.
     pub fn clear(&mut self, setup: &Setup, kernel: u32, vpe: u16, src: u8) -> Outcome
         requires are { AreSound setup.now kernel self.old }
         requires here { kernel_of_lem setup.now vpe ≡ kernel }
         requires idle { parked (side_of self.old) vpe ≡ None }
         requires pays { ids_owed (side_of self.old) + 1 ≤ ids_paid (side_of self.old) }
         requires room { HasRoomToRevoke 0 self.old }
-        ensures row { record { side = side_of self.new; outcome = result } ≡ clear_row setup.now kernel (side_of self.old) vpe src }
+        ensures row { record { side = side_of self.new; outcome = result }
+            ≡ clear_row setup.now kernel (side_of self.old) vpe src }
         ensures stores { AreStoresOf setup.now kernel self.new }
     {
         let (outcome, done) = clear_call(
@@ -80,7 +82,8 @@ impl Stores {
         requires other { from ≢ kernel }
         requires id { IsJobId job }
         requires room { HasRoomToRevoke 0 self.old }
-        ensures row { side_of self.new ≡ handle_row setup.now kernel (side_of self.old) from (RevokeReq key job) }
+        ensures row { side_of self.new
+            ≡ handle_row setup.now kernel (side_of self.old) from (RevokeReq key job) }
         ensures stores { AreStoresOf setup.now kernel self.new }
     {
         let done = revoke_request(
@@ -105,25 +108,29 @@ impl Stores {
         requires are { AreSound setup.now kernel self.old }
         requires outs { length self.old.jobs.jobs ≤ self.old.outs.spare }
         requires gone { length self.old.caps.caps ≤ vec_capacity self.old.scratch.gone }
-        ensures row { side_of self.new ≡ handle_row setup.now kernel (side_of self.old) from (RevokeDone job) }
+        ensures row { side_of self.new
+            ≡ handle_row setup.now kernel (side_of self.old) from (RevokeDone job) }
         ensures stores { AreStoresOf setup.now kernel self.new }
     {
         let done = revoke_done(job, &mut self.jobs);
         self.finish(setup, kernel, done);
     }
 
-    // Finishes the job, if one is named, and then each that is done by that.
+    // Finishes the job, if one is named, and then every job that this finishes.
     pub fn finish(&mut self, setup: &Setup, kernel: u32, job: Option<u32>)
         requires setup { IsSetup setup.now }
         requires is_one { kernel < setup.now.kernels }
         requires stores { AreStoresOf setup.now kernel self.old }
         requires there { IfSome job (λ j. IsSome (job_of self.old.jobs.jobs j)) }
-        requires sound { IfSome job (λ j. IsSoundBut setup.now kernel None None None (Some j) 0 (side_of self.old)) }
+        requires sound { IfSome job
+            (λ j. IsSoundBut setup.now kernel None None None (Some j) 0 (side_of self.old)) }
         requires outs { IsSome job → length self.old.jobs.jobs ≤ self.old.outs.spare }
-        requires gone { IsSome job → length self.old.caps.caps ≤ vec_capacity self.old.scratch.gone }
+        requires gone { IsSome job →
+            length self.old.caps.caps ≤ vec_capacity self.old.scratch.gone }
         ensures row { side_of self.new ≡ finished setup.now kernel job (side_of self.old) }
         ensures stores { AreStoresOf setup.now kernel self.new }
-        ensures outs { self.old.outs.spare + length self.new.jobs.jobs ≤ self.new.outs.spare + length self.old.jobs.jobs }
+        ensures outs { self.old.outs.spare + length self.new.jobs.jobs
+            ≤ self.new.outs.spare + length self.old.jobs.jobs }
         ensures jobs { self.old.jobs.spare ≤ self.new.jobs.spare }
         ensures keys { vec_capacity self.new.scratch.keys ≡ vec_capacity self.old.scratch.keys }
         ensures links { vec_capacity self.new.scratch.links ≡ vec_capacity self.old.scratch.links }

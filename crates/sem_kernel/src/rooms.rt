@@ -1,11 +1,21 @@
 // The room that the step of an act needs.
-ghost use Rattle.std.specs.Prelude.{◌≡◌, true, ◌≤◌, ◌<◌, slice_get, length, vec_capacity, OnOk, OnErr};
+ghost use Rattle.std.specs.Prelude.{◌≡◌, true, ◌≤◌, ◌<◌, slice_get, length, vec_capacity, OnOk};
+ghost use Rattle.std.specs.Prelude.{OnErr};
 ghost use Rattle.std.specs.Option.{option_and_then};
 ghost use Rattle.sem_msg.specs.Lookups.{kernel_of as kernel_of_lem};
 ghost use Rattle.sem_machine.specs.Machine.{is_locally_enabled};
 ghost use Rattle.sem_machine.specs.Sides.{parked, row, slot};
 ghost use Rattle.sem_kernel.specs.KernelStores.{side_of, AreStoresOf, AreSound};
-ghost use Rattle.sem_kernel.specs.Rooms.{IsReady, HasGrown, HasSameStores, HasRoomToRevoke, asked_parent as asked_parent_lem, called_parent as called_parent_lem, resumed_parent as resumed_parent_lem, linked_parent as linked_parent_lem, opens_jobs as opens_jobs_lem, is_revoking as is_revoking_lem, only_moves as only_moves_lem, is_request as is_request_lem, ended_asks as ended_asks_lem, slot_key as slot_key_lem};
+ghost use Rattle.sem_kernel.specs.Rooms.{IsReady, HasGrown, HasSameStores, HasRoomToRevoke};
+ghost use Rattle.sem_kernel.specs.Rooms.{asked_parent as asked_parent_lem};
+ghost use Rattle.sem_kernel.specs.Rooms.{called_parent as called_parent_lem};
+ghost use Rattle.sem_kernel.specs.Rooms.{resumed_parent as resumed_parent_lem};
+ghost use Rattle.sem_kernel.specs.Rooms.{linked_parent as linked_parent_lem};
+ghost use Rattle.sem_kernel.specs.Rooms.{opens_jobs as opens_jobs_lem};
+ghost use Rattle.sem_kernel.specs.Rooms.{is_revoking as is_revoking_lem};
+ghost use Rattle.sem_kernel.specs.Rooms.{only_moves as only_moves_lem};
+ghost use Rattle.sem_kernel.specs.Rooms.{is_request as is_request_lem};
+ghost use Rattle.sem_kernel.specs.Rooms.{ended_asks as ended_asks_lem, slot_key as slot_key_lem};
 
 use crate::stores::Stores;
 use sem_key::{Key, OutOfMemory};
@@ -13,8 +23,8 @@ use sem_msg::{Act, Ask, Call, Message, Parked, Setup, Slot};
 use sem_obtain::source;
 
 impl Stores {
-    // Makes room for all that the step of the act can need. All else stays as it is; after want of
-    // memory there is room for what there was room for.
+    // Makes all the room that the step of the act can need. All else stays as it is; if memory is
+    // refused, no room is lost.
     pub fn room(&mut self, setup: &Setup, kernel: u32, act: Act) -> Result<(), OutOfMemory>
         requires are { AreSound setup.now kernel self.old }
         requires enabled { is_locally_enabled setup.now kernel (side_of self.old) act ≡ true }
@@ -41,7 +51,8 @@ impl Stores {
         ensures grown { HasGrown self.old self.new }
         ensures pendings { OnOk result (0 < self.new.pendings.spare) }
         ensures outs { OnOk result (length self.new.jobs.jobs < self.new.outs.spare) }
-        ensures gone { OnOk result (length self.new.caps.caps ≤ vec_capacity self.new.scratch.gone) }
+        ensures gone { OnOk result
+            (length self.new.caps.caps ≤ vec_capacity self.new.scratch.gone) }
     {
         let (caps, jobs) = (self.caps.len(), self.job_count(setup, kernel));
         self.pendings.room(1)?;
@@ -49,7 +60,7 @@ impl Stores {
         self.outs.room(jobs + 1)
     }
 
-    // Makes room for the jobs that can be opened in a step, and for the answers to so many asks.
+    // Makes room for the jobs that a step can open, and for the answers to that many asks.
     fn grow_to_revoke(&mut self, setup: &Setup, kernel: u32, asks: usize) -> Result<(), OutOfMemory>
         requires are { AreSound setup.now kernel self.old }
         requires few { asks ≤ 128 }
@@ -67,7 +78,6 @@ impl Stores {
         self.outs.room(asks + links + caps + 2 * jobs + 2)
     }
 
-    // How many jobs are open.
     fn job_count(&self, setup: &Setup, kernel: u32) -> usize
         requires are { AreSound setup.now kernel self.now }
         ensures count { result ≡ length self.now.jobs.jobs }
@@ -76,7 +86,7 @@ impl Stores {
         self.jobs.len()
     }
 
-    // The capability to which the step of the act, an enabled one, may link a child.
+    // The capability that the step of the act, an enabled one, may link a child to.
     fn linked_parent(&self, setup: &Setup, kernel: u32, act: Act) -> Option<Key>
         requires are { AreSound setup.now kernel self.now }
         requires enabled { is_locally_enabled setup.now kernel (side_of self.now) act ≡ true }
@@ -93,7 +103,7 @@ impl Stores {
         }
     }
 
-    // The one to which a call may.
+    // The capability that a call may link a child to.
     fn called_parent(&self, setup: &Setup, kernel: u32, vpe: u16, call: Call) -> Option<Key>
         requires stores { AreStoresOf setup.now kernel self.now }
         requires here { kernel_of_lem setup.now vpe ≡ kernel }
@@ -107,11 +117,12 @@ impl Stores {
         }
     }
 
-    // The one to which the answer to the oldest ask of the VPE may.
+    // The capability that the answer to the oldest ask of the VPE may link a child to.
     fn asked_parent(&self, setup: &Setup, kernel: u32, vpe: u16) -> Option<Key>
         requires stores { AreStoresOf setup.now kernel self.now }
         requires here { kernel_of_lem setup.now vpe ≡ kernel }
-        ensures { result ≡ option_and_then (asked_parent_lem setup.now (side_of self.now) vpe) (slice_get (row (side_of self.now) vpe).asks 0) }
+        ensures { result ≡ option_and_then (asked_parent_lem setup.now (side_of self.now) vpe)
+            (slice_get (row (side_of self.now) vpe).asks 0) }
     {
         let ask = self.vpes.front_ask(vpe);
         match &ask {
@@ -147,7 +158,7 @@ impl Stores {
         }
     }
 
-    // How many asks it may answer because their VPE ends.
+    // How many asks the step may answer because their VPE ends.
     fn ended_asks(&self, setup: &Setup, kernel: u32, act: Act) -> usize
         requires are { AreSound setup.now kernel self.now }
         requires enabled { is_locally_enabled setup.now kernel (side_of self.now) act ≡ true }
@@ -176,7 +187,7 @@ fn is_revoking(call: Call) -> bool
     matches!(call, Call::Revoke { .. } | Call::Clear { .. } | Call::Exit)
 }
 
-// Whether the message may.
+// Whether the message may open jobs.
 fn is_request(message: &Message) -> bool
     ensures { result ≡ is_request_lem message.now }
 {
@@ -193,7 +204,7 @@ fn slot_key(slot: &Slot) -> Option<Key>
     }
 }
 
-// The capability to which a call in that state may link a child.
+// The capability that a call in that state may link a child to.
 fn resumed_parent(state: &Option<Parked>) -> Option<Key>
     ensures { result ≡ resumed_parent_lem state.now }
 {

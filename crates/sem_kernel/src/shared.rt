@@ -31,7 +31,7 @@ impl SharedSetup {
         Ok(SharedSetup { setup })
     }
 
-    /// The same setup, for one kernel more.
+    /// The same setup, for one more kernel.
     pub fn share(&self) -> Result<Self, OutOfMemory>
         ensures { IfOk result (λ s. s ≡ self.now) }
     {
@@ -39,7 +39,7 @@ impl SharedSetup {
         Ok(SharedSetup { setup })
     }
 
-    /// The setup.
+    /// The setup that is shared.
     pub fn get(&self) -> &Setup
         ensures { result.now ≡ self.now }
     {

@@ -9,8 +9,8 @@ use sem_key::OutOfMemory;
 use sem_msg::{Journal, Setup};
 use std::alloc::Global;
 
-/// The kernels of the setup and their fabric at the start of a run. The journal, which is to be
-/// empty, goes into the fabric; if memory runs out it is dropped.
+/// The kernels of the setup and their fabric at the start of a run. The journal must be empty, and
+/// goes into the fabric; if memory is refused, it is dropped.
 pub fn boot(
     alloc: Global,
     setup: &Setup,
@@ -20,7 +20,7 @@ pub fn boot(
     ensures stand { IfOk result (λ r. StandsAt setup.now r.0.items r.1) }
     ensures journal { IfOk result (λ r. r.1.journal ≡ []) }
 {
-    // So that the proof knows what a setup keeps.
+    // Shows the proof what a setup keeps.
     let _ = &setup.vpes;
     let kernels = boot_kernels(alloc, setup)?;
     let fabric = Fabric::new(alloc, setup, journal)?;

@@ -7,7 +7,7 @@ use sem_msg::{Message, Outboxes};
 use sem_park::Park;
 use sem_vpe::Vpes;
 
-/// What one kernel keeps, each kind in a store of its own, and working space for its steps.
+/// What one kernel keeps, each kind in its own store, and working space for its steps.
 #[derive(Debug, Drop)]
 pub struct Stores {
     pub caps: Caps,
@@ -19,6 +19,6 @@ pub struct Stores {
     pub inbox: Option<(u32, Message)>,
     pub outs: Outboxes,
     pub scratch: Scratch,
-    /// The keys of a VPE that ends.
+    /// The keys of a VPE that is ending.
     pub ended: Vec<Key>,
 }

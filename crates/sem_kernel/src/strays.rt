@@ -1,8 +1,13 @@
-// The messages that are strays.
+// Which messages are strays.
 ghost use Rattle.std.specs.Prelude.{◌≡◌, true};
 ghost use Rattle.sem_msg.specs.Lookups.{is_declared_at as is_declared_at_lem};
-ghost use Rattle.sem_machine.specs.Asks.{target_vpe as target_vpe_lem, is_obtain_wait, is_delegate_wait};
-ghost use Rattle.sem_machine.specs.Handles.{is_key_declared as is_key_declared_lem, is_target_declared as is_target_declared_lem, is_object_declared as is_object_declared_lem, is_here as is_here_lem, lives_without, is_stray as is_stray_lem};
+ghost use Rattle.sem_machine.specs.Asks.{target_vpe as target_vpe_lem, is_obtain_wait};
+ghost use Rattle.sem_machine.specs.Asks.{is_delegate_wait};
+ghost use Rattle.sem_machine.specs.Handles.{is_key_declared as is_key_declared_lem};
+ghost use Rattle.sem_machine.specs.Handles.{is_target_declared as is_target_declared_lem};
+ghost use Rattle.sem_machine.specs.Handles.{is_object_declared as is_object_declared_lem};
+ghost use Rattle.sem_machine.specs.Handles.{is_here as is_here_lem, lives_without};
+ghost use Rattle.sem_machine.specs.Handles.{is_stray as is_stray_lem};
 ghost use Rattle.sem_kernel.specs.KernelStores.{side_of, AreStoresOf};
 
 use crate::stores::Stores;
@@ -10,8 +15,8 @@ use sem_key::{Key, Object, same_key};
 use sem_msg::{Message, Parked, Setup, Target};
 
 impl Stores {
-    // Whether the message is a stray: it names a VPE that is not declared, or is for another kernel,
-    // or nobody waits for it.
+    // Whether the message is a stray: it names a VPE that is not declared, or is for another
+    // kernel, or no call waits for it.
     pub fn is_stray(&self, setup: &Setup, kernel: u32, message: &Message) -> bool
         requires { AreStoresOf setup.now kernel self.now }
         ensures { result ≡ is_stray_lem setup.now kernel (side_of self.now) message.now }
@@ -88,7 +93,8 @@ impl Stores {
     fn is_unoffered(&self, setup: &Setup, kernel: u32, parent: &Key) -> bool
         requires stores { AreStoresOf setup.now kernel self.now }
         requires here { is_here_lem setup.now kernel parent.now.vpe ≡ true }
-        ensures { result ≡ lives_without (is_delegate_wait parent.now) (side_of self.now) parent.now.vpe }
+        ensures { result ≡ lives_without (is_delegate_wait parent.now)
+            (side_of self.now) parent.now.vpe }
     {
         self.vpes.alive(parent.vpe) && !delegates(parent, &self.park.state(parent.vpe))
     }
@@ -119,7 +125,6 @@ fn delegates(parent: &Key, state: &Option<Parked>) -> bool
     }
 }
 
-// Whether the VPE is declared on that PE.
 fn is_declared_at(setup: &Setup, pe: u8, vpe: u16) -> bool
     ensures { result ≡ is_declared_at_lem setup.now pe vpe }
 {
@@ -129,7 +134,6 @@ fn is_declared_at(setup: &Setup, pe: u8, vpe: u16) -> bool
     }
 }
 
-// Whether the VPE of the key is declared on its PE.
 fn is_key_declared(setup: &Setup, key: &Key) -> bool
     ensures { result ≡ is_key_declared_lem setup.now key.now }
 {
@@ -159,7 +163,6 @@ fn is_object_declared(setup: &Setup, object: &Object) -> bool
     }
 }
 
-// Whether the VPE is of this kernel.
 fn is_here(setup: &Setup, kernel: u32, vpe: u16) -> bool
     ensures { result ≡ is_here_lem setup.now kernel vpe }
 {

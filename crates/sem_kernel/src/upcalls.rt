@@ -7,7 +7,8 @@ ghost use Rattle.sem_machine.specs.Upcalls.{upcall_row};
 ghost use Rattle.sem_machine.specs.Resumes.{resume_row, can_resume};
 ghost use Rattle.sem_kernel.specs.KernelStores.{side_of, AreStoresOf, AreSound};
 ghost use Rattle.sem_kernel.specs.Rooms.{HasRoom, asked_parent, resumed_parent};
-ghost use Rattle.sem_kernel.specs.Ending.{ends_obtain as ends_obtain_lem, ends_delegate as ends_delegate_lem};
+ghost use Rattle.sem_kernel.specs.Ending.{ends_obtain as ends_obtain_lem};
+ghost use Rattle.sem_kernel.specs.Ending.{ends_delegate as ends_delegate_lem};
 
 use crate::stores::Stores;
 use sem_delegate::{delegate_resume, delegate_upcall, ready_resume};
@@ -15,13 +16,16 @@ use sem_msg::{Ask, Outcome, Parked, Setup};
 use sem_obtain::{obtain_resume, obtain_upcall};
 
 impl Stores {
-    // The VPE is asked for its consent by the oldest ask that waits for it, and decides.
+    // The oldest ask that waits for the VPE asks it for its consent, and it decides.
     pub fn upcall(&mut self, setup: &Setup, kernel: u32, vpe: u16) -> Outcome
         requires are { AreSound setup.now kernel self.old }
         requires here { kernel_of_lem setup.now vpe ≡ kernel }
         requires asked { is_some (slice_get (row (side_of self.old) vpe).asks 0) ≡ true }
-        requires room { HasRoom (option_and_then (asked_parent setup.now (side_of self.old) vpe) (slice_get (row (side_of self.old) vpe).asks 0)) self.old }
-        ensures row { record { side = side_of self.new; outcome = result } ≡ upcall_row setup.now kernel (side_of self.old) vpe }
+        requires room { HasRoom
+            (option_and_then (asked_parent setup.now (side_of self.old) vpe)
+            (slice_get (row (side_of self.old) vpe).asks 0)) self.old }
+        ensures row { record { side = side_of self.new; outcome = result }
+            ≡ upcall_row setup.now kernel (side_of self.old) vpe }
         ensures stores { AreStoresOf setup.now kernel self.new }
     {
         let ask = self.vpes.next_ask(vpe);
@@ -60,13 +64,14 @@ impl Stores {
         }
     }
 
-    // The waiting call of the VPE goes on.
+    // Lets the waiting call of the VPE go on.
     pub fn resume(&mut self, setup: &Setup, kernel: u32, vpe: u16) -> Outcome
         requires are { AreSound setup.now kernel self.old }
         requires here { kernel_of_lem setup.now vpe ≡ kernel }
         requires can { can_resume (parked (side_of self.old) vpe) ≡ true }
         requires room { HasRoom (resumed_parent (parked (side_of self.old) vpe)) self.old }
-        ensures row { record { side = side_of self.new; outcome = result } ≡ resume_row setup.now (side_of self.old) vpe }
+        ensures row { record { side = side_of self.new; outcome = result }
+            ≡ resume_row setup.now (side_of self.old) vpe }
         ensures stores { AreStoresOf setup.now kernel self.new }
     {
         let state = self.park.state(vpe);
@@ -80,7 +85,7 @@ impl Stores {
     }
 }
 
-// Whether a call in that state has the answer to what it asked for.
+// Whether a call in that state has the answer to its ask.
 fn ends_obtain(state: &Option<Parked>) -> bool
     ensures { result ≡ ends_obtain_lem state.now }
 {
@@ -90,7 +95,7 @@ fn ends_obtain(state: &Option<Parked>) -> bool
     )
 }
 
-// Whether a call in that state has the answer to what it delegates.
+// Whether a call in that state has the answer to its delegate.
 fn ends_delegate(state: &Option<Parked>) -> bool
     ensures { result ≡ ends_delegate_lem state.now }
 {

@@ -3,7 +3,8 @@ ghost use Rattle.std.specs.List.{range_with_len};
 ghost use Rattle.std.specs.Option.{option_map};
 ghost use Rattle.sem_msg.specs.Lookups.{kernel_of};
 ghost use Rattle.sem_machine.specs.Sides.{is_alive as is_alive_lem, endpoint};
-ghost use Rattle.sem_machine.specs.Machine.{side, start, enabled, is_enabled as is_enabled_lem, after as after_lem, entry_of};
+ghost use Rattle.sem_machine.specs.Machine.{side, start, enabled, is_enabled as is_enabled_lem};
+ghost use Rattle.sem_machine.specs.Machine.{after as after_lem, entry_of};
 ghost use Rattle.sem_kernel.specs.Worlds.{booted};
 
 use crate::happening::{StepError, happen, is_enabled};
@@ -16,7 +17,8 @@ use sem_msg::{ENDPOINTS, Entry, Event, Journal, Setup};
 use std::alloc::Global;
 use std::marker::Model;
 
-/// All kernels of a setup and the fabric between them.
+/// All kernels of a setup and the fabric between them. Only `boot`, `enabled_events` and `step`
+/// take memory.
 #[derive(Debug, Drop)]
 pub struct World {
     setup: Setup,
@@ -39,7 +41,7 @@ impl World {
     pub fn boot(alloc: Global, setup: &Setup) -> Result<Self, OutOfMemory>
         ensures { IfOk result (λ w. w ≡ record { setup = setup.now; world = start setup.now }) }
     {
-        // So that the proof knows what a setup keeps.
+        // Shows the proof what a setup keeps.
         let _ = &setup.vpes;
         let kernels = boot_kernels(alloc, setup)?;
         let fabric = Fabric::new(alloc, setup, Journal::new(alloc))?;
@@ -50,21 +52,21 @@ impl World {
         })
     }
 
-    /// Its kernels, by their numbers.
+    /// The kernels, by number.
     pub fn kernels(&self) -> &[Kernel]
         ensures { map (λ k. k.side) result.now ≡ self.now.world.sides }
     {
         self.kernels.as_slice()
     }
 
-    /// Whether the event is enabled. Takes no memory.
+    /// Whether the event is enabled.
     pub fn is_enabled(&self, event: Event) -> bool
         ensures { result ≡ is_enabled_lem self.now.setup self.now.world event }
     {
         is_enabled(&self.setup, self.kernels.as_slice(), &self.fabric, event)
     }
 
-    /// Whether the VPE is alive; one that is not declared is not. Takes no memory.
+    /// Whether the VPE is alive; false if it is not declared.
     pub fn is_alive(&self, vpe: u16) -> bool
         ensures { result ≡ is_alive_lem (side self.now.world (kernel_of self.now.setup vpe)) vpe }
     {
@@ -74,14 +76,14 @@ impl World {
         }
     }
 
-    /// The key to which an endpoint of the VPE is bound, and the object that its capability had
-    /// then; none where the endpoint is not bound, and for a VPE that is not declared. Takes no
-    /// memory.
+    /// The key that an endpoint of the VPE is bound to, and the object that its capability had
+    /// then; none if the endpoint is not bound, or the VPE is not declared.
     ///
-    /// The endpoint is at most 15.
+    /// The endpoint must be at most 15.
     pub fn binding(&self, vpe: u16, ep: u8) -> Option<(Key, Object)>
         requires { ep < ENDPOINTS }
-        ensures { result ≡ option_map (λ e. (e.key, e.object)) (endpoint (side self.now.world (kernel_of self.now.setup vpe)) vpe ep) }
+        ensures { result ≡ option_map (λ e. (e.key, e.object))
+            (endpoint (side self.now.world (kernel_of self.now.setup vpe)) vpe ep) }
     {
         match self.kernels.get(self.setup.kernel_of(vpe) as usize) {
             Some(kernel) => kernel.binding(vpe, ep),
@@ -89,8 +91,8 @@ impl World {
         }
     }
 
-    /// Replaces the list by the enabled events, in their order. If memory runs out the list stays
-    /// as it was.
+    /// Replaces the list by the enabled events, in order. If memory is refused, the list stays as
+    /// it was.
     pub fn enabled_events(&self, alloc: Global, out: &mut Vec<Event>) -> Result<(), OutOfMemory>
         ensures ok { OnOk result (out.new.items ≡ enabled self.now.setup self.now.world) }
         ensures err { OnErr result (out.new.items ≡ out.old.items) }
@@ -104,21 +106,28 @@ impl World {
         )
     }
 
-    /// The event happens, and makes an entry. An event that is not enabled is refused, and after a
-    /// refusal or want of memory the world is as before.
+    /// Lets the event happen, and returns the entry that it makes. An event that is not enabled is
+    /// refused. After a refusal, or if memory is refused, the world is as before.
     pub fn step(&mut self, event: Event) -> Result<Entry, StepError>
-        ensures not_enabled { IsErrOf result StepError.NotEnabled ↔ (is_enabled_lem self.old.setup self.old.world event ≡ false) }
-        ensures entry { IfOk result (λ entry. entry ≡ entry_of self.old.setup self.old.world event) }
-        ensures after { IfOk result (λ entry. self.new ≡ record { setup = self.old.setup; world = after_lem self.old.setup self.old.world event }) }
+        ensures not_enabled { IsErrOf result StepError.NotEnabled
+            ↔ (is_enabled_lem self.old.setup self.old.world event ≡ false) }
+        ensures entry { IfOk result (λ entry. entry
+            ≡ entry_of self.old.setup self.old.world event) }
+        ensures after { IfOk result (λ entry. self.new
+            ≡ record {
+              setup = self.old.setup;
+              world = after_lem self.old.setup self.old.world event;
+            }) }
         ensures unchanged { OnErr result (self.new ≡ self.old) }
     {
         happen(&self.setup, &mut self.kernels, &mut self.fabric, event)
     }
 }
 
-/// The kernels of the setup at the start, by their numbers.
+/// The kernels of the setup at the start, by number.
 pub fn boot_kernels(alloc: Global, setup: &Setup) -> Result<Vec<Kernel>, OutOfMemory>
-    ensures { IfOk result (λ kernels. kernels.items ≡ map (booted setup.now) (range_with_len 0 setup.now.kernels)) }
+    ensures { IfOk result (λ kernels. kernels.items
+        ≡ map (booted setup.now) (range_with_len 0 setup.now.kernels)) }
 {
     let shared = SharedSetup::new(alloc, setup)?;
     let mut kernels = Vec::new(alloc);

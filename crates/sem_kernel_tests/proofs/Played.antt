@@ -11,7 +11,8 @@ run-push : (T : Setup) (W : World) (J : List Entry) (e : Entry) → run T W (J +
 run-push T W [] e = refl
 run-push T W (x ∷ xs) e = run-push T (after T W x.event) xs e
 
-IsRun-push : (T : Setup) (W : World) (J : List Entry) (e : Entry) → IsRun T W J → is_enabled T (run T W J) e.event ≡ true → e ≡ entry_of T (run T W J) e.event → IsRun T W (J ++ e ∷ [])
+IsRun-push : (T : Setup) (W : World) (J : List Entry) (e : Entry) → IsRun T W J → is_enabled T (run T W J) e.event ≡ true → e ≡ entry_of T (run T W J) e.event →
+    IsRun T W (J ++ e ∷ [])
 unfolding IsRun
 IsRun-push T W [] e is_run enabled makes = (enabled, makes, tt)
 IsRun-push T W (x ∷ xs) e is_run enabled makes = (is_run.0, is_run.1, IsRun-push T (after T W x.event) xs e is_run.2 enabled makes)
@@ -31,7 +32,9 @@ unfolding entry_of local_entry
 entry_of-event T W event = refl
 
 -- one step more
-pub HasPlayed-more : (T : Setup) (J J' : List Entry) (now new : WorldValue) (event : Event) (e : Entry) → HasPlayed T J now → is_enabled now.setup now.world event ≡ true → e ≡ entry_of now.setup now.world event → new ≡ record { setup = now.setup; world = after now.setup now.world event } → J' ≡ J ++ e ∷ [] → HasPlayed T J' new
+pub HasPlayed-more : (T : Setup) (J J' : List Entry) (now new : WorldValue) (event : Event) (e : Entry) → HasPlayed T J now →
+    is_enabled now.setup now.world event ≡ true → e ≡ entry_of now.setup now.world event →
+    new ≡ record { setup = now.setup; world = after now.setup now.world event } → J' ≡ J ++ e ∷ [] → HasPlayed T J' new
 HasPlayed-more T J J' now new event e so_far enabled makes is longer =
     let same : e.event ≡ event = ap (λ (x : Entry). x.event) makes ∙ entry_of-event now.setup now.world event in
     let at_now : is_enabled T (world_after T J) event ≡ true = rw so_far.world at enabled in

@@ -83,7 +83,7 @@ fn fault(alloc: Global, entries: &[Entry]) -> Result<Option<CheckError>, Fail> {
     }
 }
 
-// Whether the event is enabled where a replay of a journal of these entries stands.
+// Whether the event is enabled after a replay of a journal of these entries.
 fn goes_on(alloc: Global, entries: &[Entry], event: Event) -> Result<bool, Fail> {
     let setup = setup_of(alloc, ONE_VPE)?;
     let mut journal = Journal::new(alloc);

@@ -12,7 +12,7 @@ use std::test::Fail;
 const TWO_KERNELS: &str = "semper trace 2\nkernels 2\nwindow 4\npe 5 0\npe 6 1\nvpe 3 5\nvpe 4 6\n\
      root 4 7 mem 4096 512 3\ncall 3 obtain 30 4 7\nend\n";
 
-// The memory, and what is made from it.
+// The memory, and the child made from it.
 
 const MEMORY: Key = Key {
     pe: 6,
@@ -28,7 +28,7 @@ const OBTAINED: Key = Key {
     number: 0,
 };
 
-// What kernel 1 answers.
+// The answer of kernel 1.
 fn answer() -> Message
     ensures { Fits result }
 {
@@ -54,7 +54,7 @@ fn booted(alloc: Global) -> Result<Kernel, Fail>
     Ok(Kernel::boot(alloc, &setup, 0)?)
 }
 
-// The VPE of kernel 0 makes its call.
+// Lets the VPE of kernel 0 make its call.
 fn called(kernel: &mut Kernel) -> Result<Entry, Fail>
     ensures { kernel.new.setup ≡ kernel.old.setup }
 {
@@ -66,7 +66,7 @@ fn called(kernel: &mut Kernel) -> Result<Entry, Fail>
     Ok(kernel.step(act, None))
 }
 
-// The kernel takes that message of kernel 1 out of the link.
+// Lets the kernel take that message of kernel 1 out of the link.
 fn fetched(kernel: &mut Kernel, message: Message) -> Result<Entry, Fail>
     requires { Fits message }
     ensures { kernel.new.setup ≡ kernel.old.setup }
@@ -79,12 +79,12 @@ fn fetched(kernel: &mut Kernel, message: Message) -> Result<Entry, Fail>
     Ok(kernel.step(act, Some(message)))
 }
 
-// Whether the event is enabled, and happens.
+// Lets the event happen, and returns whether it was enabled.
 fn happens(world: &mut World, event: Event) -> bool {
     world.is_enabled(event) && world.step(event).is_ok()
 }
 
-// Whether the event does not happen, since it is not enabled.
+// Whether the event is not enabled, and so does not happen.
 fn is_refused(world: &mut World, event: Event) -> bool {
     matches!(world.step(event), Err(StepError::NotEnabled))
 }
@@ -190,7 +190,7 @@ fn a_vpe_draws_no_more_numbers_than_there_are(rt: HostRuntime) -> Result<(), Fai
         assert!(rt; happens(&mut world, call) && happens(&mut world, call));
         assert!(rt; happens(&mut world, near(Act::Resume { vpe: 0 })));
     }
-    // A selector that is taken is told before.
+    // A taken selector is refused before the lack of numbers.
     for (index, dst, code) in [(8190, 0, 6), (8191, 1, 7)] {
         let wanted = Entry {
             event: call,

@@ -1,5 +1,5 @@
-//! Tests of kernels and of their world, of what they are linked by, and of what is told of their
-//! journals; nothing that runs.
+//! Tests of kernels and of their world, of their links, and of what is told of their journals. No
+//! program uses this crate.
 #![tactic(auto)]
 
 #[cfg(test)]

@@ -40,7 +40,7 @@ fn fabric(alloc: Global, kernels: u32, window: u32) -> Result<Fabric, OutOfMemor
     Fabric::new(alloc, &setup, Journal::new(alloc))
 }
 
-// A message that can be told by its number.
+// A message known by its number.
 fn message(number: u32) -> Message
     ensures { Fits result }
 {
@@ -55,7 +55,7 @@ fn message(number: u32) -> Message
     }
 }
 
-// Flushes the message of that number, and tells whether there was room.
+// Flushes the message of that number, and returns whether there was room.
 fn flush(fabric: &mut Fabric, from: u32, to: u32, number: u32) -> bool
     requires kernels { (from < fabric.old.kernels) × (to < fabric.old.kernels) }
     requires other { from ≢ to }
@@ -67,7 +67,7 @@ fn flush(fabric: &mut Fabric, from: u32, to: u32, number: u32) -> bool
     }
 }
 
-// The number of the message that is fetched.
+// Fetches a message, and returns its number.
 fn fetch(fabric: &mut Fabric, to: u32, from: u32) -> Option<u32>
     requires kernels { (from < fabric.old.kernels) × (to < fabric.old.kernels) }
     requires other { from ≢ to }
@@ -79,7 +79,7 @@ fn fetch(fabric: &mut Fabric, to: u32, from: u32) -> Option<u32>
     }
 }
 
-// The entry of that kernel in which a VPE is killed.
+// The entry in which that kernel kills a VPE.
 fn killed(kernel: u32, vpe: u16, reply: Option<Reply>) -> Entry
     ensures { result.event.kernel ≡ kernel }
 {

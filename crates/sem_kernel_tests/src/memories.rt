@@ -2,7 +2,7 @@ use sem_access::{Look, Run};
 use sem_mem::Memory;
 use std::test::Fail;
 
-// The run of so many addresses from one on, which that entry wrote last.
+// The run of that many addresses from one on, last written by that entry.
 fn run(base: u64, len: u64, entry: u64) -> Run {
     Run { base, len, entry }
 }

@@ -22,7 +22,7 @@ fn exited(vpe: u16) -> Entry {
     }
 }
 
-// The answer to what a job asked for.
+// The answer to a request of a job.
 fn done(job: u32) -> Message
     ensures { Fits result }
 {

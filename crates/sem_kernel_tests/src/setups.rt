@@ -8,7 +8,7 @@ use std::test::Fail;
 pub const ONE_VPE: &str = "semper trace 1\nkernels 1\npe 0 0\nvpe 0 0\nroot 0 0 mem 0 4096 7\n\
      call 0 derive 0 1 0 1024 1\ncall 0 revoke 0\nend\n";
 
-// The memory that the VPE has at the start, and what it derives from it.
+// The memory that the VPE has at the start, and the part that it derives from it.
 
 pub const ROOT: Key = Key {
     pe: 0,

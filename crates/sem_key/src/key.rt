@@ -1,11 +1,12 @@
 ghost use Rattle.std.specs.Prelude.{◌≡◌, ◌↔◌, ℕ, Some, IfSome};
-ghost use Rattle.sem_key.specs.KeyName.{KeyName, IsValidKey, kind_number, kind_numbered as kind_numbered_lem, packed, key_eq};
+ghost use Rattle.sem_key.specs.KeyName.{KeyName, IsValidKey, kind_number};
+ghost use Rattle.sem_key.specs.KeyName.{kind_numbered as kind_numbered_lem, packed, key_eq};
 ghost use Rattle.sem_key.specs.PlaceName.{keyed as keyed_lem};
 
 use crate::limits::{NUMBERS, PES, VPES};
 use std::marker::Model;
 
-/// What a capability is about.
+/// What a capability is for.
 #[derive(Clone, Copy, Debug, PartialEq, Eq, PartialOrd, Ord, Hash)]
 pub enum Kind {
     /// A range of memory.
@@ -29,7 +30,7 @@ impl Kind {
     }
 }
 
-/// The name of a capability: the PE (0 to 127) and the VPE (0 to 127) to which it belongs, its kind,
+/// The name of a capability: the PE (0 to 127) and the VPE (0 to 127) that it belongs to, its kind,
 /// and a number (0 to 4095) that the VPE has drawn for it.
 #[derive(Clone, Copy, Debug, PartialEq, Eq)]
 pub struct Key {
@@ -94,7 +95,7 @@ pub fn keyed(place: Place, kind: Kind) -> Key
     }
 }
 
-/// Whether the keys are the same.
+/// Whether the keys are equal in all four parts.
 pub fn same_key(one: &Key, other: &Key) -> bool
     ensures { result ≡ key_eq one.now other.now }
 {
@@ -104,7 +105,7 @@ pub fn same_key(one: &Key, other: &Key) -> bool
         && one.number == other.number
 }
 
-// The kind of that number; none where no kind has it.
+// The kind of that number; none if no kind has it.
 pub(crate) fn kind_numbered(number: u64) -> Option<Kind>
     ensures { result ≡ kind_numbered_lem number }
 {
@@ -118,8 +119,8 @@ pub(crate) fn kind_numbered(number: u64) -> Option<Kind>
     }
 }
 
-/// The key that `pack` makes that word of; none where a field of the word is out of its range, and
-/// then it is the word of no key.
+/// The key that `pack` turns into that word. None if a field is out of its range; then the word is
+/// that of no key.
 pub fn unpack(word: u64) -> Option<Key>
     ensures key { (key : KeyName) → IsValidKey key → ((result ≡ Some key) ↔ (packed key ≡ word)) }
     ensures valid { IfSome result IsValidKey }

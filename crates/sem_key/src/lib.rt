@@ -12,7 +12,7 @@ pub use key::{Key, Kind, Place, keyed, pack, same_key, unpack};
 pub use keys::Keys;
 pub use limits::{ADDRESSES, KERNELS, NUMBERS, PES, RIGHTS, SLOTS, VPES};
 pub use membership::{Membership, Taken};
-pub use object::{Cap, Object, narrows};
+pub use object::{Cap, Object, narrows, same_object};
 pub use word::KeyWord;
 /// Memory was refused.
 pub use std::alloc::AllocError as OutOfMemory;

@@ -1,8 +1,6 @@
--- For which setups and journals a law holds.
+-- The setups and journals that a law holds for.
 use Rattle.std.specs.Prelude.{◌≡◌, List}
-use Rattle.sem_msg.specs.declared.entry.Entry.{Entry}
-use Rattle.sem_msg.specs.Setup.{Setup, IsSetup}
-use Rattle.sem_machine.specs.Schedules.{IsSchedule}
+use Rattle.sem_machine.specs.Prelude.{Entry, Setup, IsSetup, IsSchedule}
 
 -- after every schedule of every setup
 abbrev pub Always : (Setup → List Entry → Type 0) → Type 0

@@ -1,4 +1,4 @@
-//! The laws of the whole machine, each as one clause: what holds of every schedule of every setup.
+//! The laws of the whole machine, each as one clause: what holds for every schedule of every setup.
 #![tactic(auto)]
 
 ghost use Rattle.sem_machine.specs.Safety.{IsSafe};
@@ -41,9 +41,11 @@ pub fn costs_bounded()
     sem_bound::bounds::costs_bounded();
 }
 
-/// If a schedule leaves an idle world, every request was answered, and an exchange or a request to
-/// revoke took two messages, or three where a delegate was prepared; all others are notices. No more
-/// requests to revoke were sent than grants were made across kernels.
+/// The messages are counted. If a schedule leaves an idle world, as many replies were sent as
+/// requests, kind by kind. The number of all messages is then two for each exchange and each
+/// request to revoke, one more for each prepared delegate, and one for each notice. No more
+/// requests to revoke were sent than grants were made across kernels. No clause ties one message to
+/// one call.
 pub fn messages_counted()
     ensures { Always CountsMessages }
 {
@@ -53,8 +55,8 @@ pub fn messages_counted()
     sem_messages::laws::revokes_follow_grants();
 }
 
-/// A journal is a schedule exactly where the part of each kernel is a local run and the parts
-/// agree. The parts of a schedule tell the world after it.
+/// A journal is a schedule exactly if the part of each kernel is a local run and the parts agree.
+/// The parts of a schedule tell the world after it.
 pub fn schedules_are_parts()
     ensures law { ForEveryJournal IsScheduleByParts }
     ensures world { ForEverySchedule IsToldByParts }
@@ -62,14 +64,14 @@ pub fn schedules_are_parts()
     sem_parts::parts::schedules_are_parts();
 }
 
-/// Every read and write that is answered with success touches only memory that its VPE was granted.
+/// Every read and write that succeeds touches only memory that its VPE was granted.
 pub fn bytes_owned()
     ensures { Always AccessesAreOwned }
 {
     sem_bytes::laws::bytes_owned();
 }
 
-/// A setup of version 1 has the same schedules as it has as one of version 2 with a window of 4.
+/// A setup of version 1 has the same schedules as the same setup of version 2 with a window of 4.
 pub fn same_runs()
     ensures { ForEveryFirstVersion RunsAsSecondVersion }
 {
@@ -84,7 +86,7 @@ pub fn lives_tell_where_keys_are()
     sem_query::laws::lives_tell_where_keys_are();
 }
 
-/// To the question why an entry denies a call there is one answer.
+/// There is exactly one answer to the question why an entry denies a call.
 pub fn denials_are_explained()
     ensures { Always IsExplained }
 {
@@ -92,15 +94,15 @@ pub fn denials_are_explained()
     sem_query::laws::denials_have_one_text();
 }
 
-/// In every schedule of what file commands are compiled to, each reply is a success.
+/// In every schedule of the setup that file commands compile to, each reply is a success.
 pub fn files_succeed()
     ensures { OfFiles commands_succeed }
 {
     sem_fs::files_succeed();
 }
 
-/// In every schedule of what file commands are compiled to, no key that descends from a key of a
-/// closed opening is live or bound.
+/// In every schedule of the setup that file commands compile to, no key that descends from a key of
+/// a closed opening is live or bound.
 pub fn files_closed()
     ensures { OfFiles closed_are_gone }
 {

@@ -1,23 +1,23 @@
-// The lines of commands, and how many calls each is compiled to.
+// The lines of commands, and how many calls each compiles to.
 use sem_files::{Command, EXTENT, FileAct, Files, HANDLES};
 use sem_key::OutOfMemory;
 use std::alloc::Global;
 
-/// How many extents the file has on which each handle of a client is open.
+/// For each handle of a client, how many extents its open file has.
 #[derive(Clone, Copy, Debug)]
 pub struct Opened {
     extents: [u8; HANDLES],
 }
 
 impl Opened {
-    /// Each handle is closed.
+    /// All handles closed.
     pub fn new() -> Self {
         Opened {
             extents: [0; HANDLES],
         }
     }
 
-    /// How many calls the act is compiled to. An opening opens its handle.
+    /// How many calls the act compiles to. An opening opens its handle.
     pub fn count(&mut self, files: &Files, act: &FileAct) -> usize {
         match *act {
             FileAct::OpenFile { handle, file } => {
@@ -40,7 +40,6 @@ impl Opened {
     }
 }
 
-// How many extents the file has.
 fn extents_of(files: &Files, file: u8) -> u8 {
     for declared in files.files.as_slice() {
         if declared.file == file {

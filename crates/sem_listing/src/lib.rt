@@ -1,4 +1,4 @@
-//! The trace that file commands are compiled to, with each command above its calls.
+//! The trace that file commands compile to, with each command above its calls.
 #![tactic(auto)]
 
 mod commands;

@@ -9,11 +9,11 @@ use sem_msg::{Call, Root, Setup, VpeDecl};
 use sem_trace::{Lines, TraceError, next_word, push_call, push_trace};
 use std::alloc::Global;
 
-/// How many extents a file has at most.
+/// The most extents of a file.
 const EXTENTS: u8 = 4;
 
-/// The trace that these bytes, file commands, are compiled to, each command above its calls. Why
-/// they are refused, where they are, is told on standard error.
+/// The trace that these bytes, file commands, compile to, each command above its calls. If they are
+/// refused, standard error tells why.
 pub fn listing(alloc: Global, bytes: &[u8]) -> Result<Answer, OutOfMemory> {
     match read_files(alloc, bytes) {
         Ok(files) => {
@@ -44,7 +44,7 @@ fn listing_text(alloc: Global, files: &Files, setup: &Setup) -> Result<String, O
     Ok(out)
 }
 
-// Appends the lines of the setup before its calls, each extent with the file that it is of.
+// Appends the lines of the setup before its calls, each extent with the file that it belongs to.
 fn push_declarations(alloc: Global, out: &mut String, setup: &Setup) -> Result<(), OutOfMemory> {
     let mut text = Vec::new(alloc);
     push_trace(&mut text, setup)?;
@@ -77,7 +77,6 @@ fn push_declarations(alloc: Global, out: &mut String, setup: &Setup) -> Result<(
     Ok(())
 }
 
-// The first word of a line.
 fn first_word(line: &[u8]) -> &[u8] {
     match next_word(line) {
         Some((word, _)) => word,
@@ -85,7 +84,7 @@ fn first_word(line: &[u8]) -> &[u8] {
     }
 }
 
-// Appends which extent of which file a root is.
+// Appends the extent that a root is, and its file.
 fn push_extent(alloc: Global, out: &mut String, root: Option<&Root>) -> Result<(), OutOfMemory> {
     let Some(root) = root else {
         return Ok(());
@@ -104,7 +103,7 @@ fn push_line(out: &mut String, line: &[u8]) -> Result<(), OutOfMemory> {
     out.push('\n')
 }
 
-// Appends the calls of a client, each command above those that it is compiled to.
+// Appends the calls of a client, each command above those that it compiles to.
 fn push_client(
     alloc: Global,
     out: &mut String,

@@ -12,7 +12,8 @@ use Rattle.sem_key.proofs.KeyTests.{key_eq-true, Contains-from_has_key}
 use Rattle.sem_key.proofs.Members.{found, Contains-head, Contains-tail, Contains-nil, Contains-from_filter, Contains-from_map, Contains-from_flat_map}
 use Rattle.sem_key.proofs.KeySets.{with_key-from}
 
-module _ (G : KeyName → KeyName → Type 0) (M : KeyName → Type 0) (spreads : (p k : KeyName) → G p k → M p → M k) (caps : List Capability) (links : (c : Capability) → Contains caps c → (k : KeyName) → Contains c.children k → G c.key k) where
+module _ (G : KeyName → KeyName → Type 0) (M : KeyName → Type 0) (spreads : (p k : KeyName) → G p k → M p →
+    M k) (caps : List Capability) (links : (c : Capability) → Contains caps c → (k : KeyName) → Contains c.children k → G c.key k) where
   -- these keys have the fact
   abbrev Have : List KeyName → Type 0
   Have ks = (k : KeyName) → has_key ks k ≡ true → M k
@@ -29,7 +30,8 @@ module _ (G : KeyName → KeyName → Type 0) (M : KeyName → Type 0) (spreads 
   grown-doomed zero ks have = have
   grown-doomed (suc n) ks have = from (next_reached caps ks) refl (λ more all. grown-doomed n more all)
     where
-      from : (o : Option Capability) → next_reached caps ks ≡ o → ((more : List KeyName) → Have more → Have (grow n caps more)) → Have (option_map_or (λ c. grow n caps (c.key ∷ ks)) o ks)
+      from : (o : Option Capability) → next_reached caps ks ≡ o → ((more : List KeyName) → Have more → Have (grow n caps more)) →
+          Have (option_map_or (λ c. grow n caps (c.key ∷ ks)) o ks)
       from None none rest = have
       from (Some d) some rest = rest (d.key ∷ ks) (λ k has. elim (or_cases (key_eq k d.key) (has_key ks k) has) [
         | inl here ↦
@@ -43,8 +45,12 @@ module _ (G : KeyName → KeyName → Type 0) (M : KeyName → Type 0) (spreads 
   pub region-doomed : (root : KeyName) → M root → (k : KeyName) → has_key (region caps root) k ≡ true → M k
   region-doomed root doomed k has =
       let reached : List KeyName = grow (length caps) caps (root ∷ []) in
-      let only : Have (root ∷ []) = λ q one. elim (or_cases (key_eq q root) false one) [ inl same ↦ subst M (sym (key_eq-true q root same)) doomed | inr no' ↦ absurd cc ] in
-      let origin = Contains-from_map (λ (c : Capability). c.key) (filter (λ c. is_none c.mark && has_key reached c.key) caps) k (Contains-from_has_key (region caps root) k has) in
+      let only : Have (root ∷ []) = λ q one. elim (or_cases (key_eq q root) false one) [
+        | inl same ↦ subst M (sym (key_eq-true q root same)) doomed
+        | inr no' ↦ absurd cc
+      ] in
+      let origin = Contains-from_map (λ (c : Capability). c.key) (filter (λ c. is_none c.mark && has_key reached c.key) caps) k
+      (Contains-from_has_key (region caps root) k has) in
       let kept = Contains-from_filter (λ c. is_none c.mark && has_key reached c.key) caps origin.0 origin.1 in
       subst M origin.2 (grown-doomed (length caps) (root ∷ []) only origin.0.key (and_parts (is_none origin.0.mark) (has_key reached origin.0.key) kept.1).1)
 

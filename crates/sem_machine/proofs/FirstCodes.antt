@@ -18,8 +18,10 @@ unless-first ((true, code) ∷ tests) refuse done = refl
 unless-first ((false, code) ∷ tests) refuse done = unless-first tests refuse done
 
 -- a row that is refused
-pub row-refused : (s : Side) (tests : List (Bool × Code)) (done : Step) (code : Code) (o : Outcome) → Some code ≡ first_code tests → o ≡ record { asked = None; grant = None; cut = None; reply = Some (code_number code) }
-    → record { side = s; outcome = o } ≡ unless tests (λ code. record { side = s; outcome = record { asked = None; grant = None; cut = None; reply = Some (code_number code) } }) done
+pub row-refused : (s : Side) (tests : List (Bool × Code)) (done : Step) (code : Code) (o : Outcome) → Some code ≡ first_code tests →
+    o ≡ record { asked = None; grant = None; cut = None; reply = Some (code_number code) }
+    → record { side = s; outcome = o }
+    ≡ unless tests (λ code. record { side = s; outcome = record { asked = None; grant = None; cut = None; reply = Some (code_number code) } }) done
 row-refused s tests done code o first shown = rw (unless-first tests, ← first, shown) refl
 
 -- a row that is not refused
@@ -27,7 +29,8 @@ pub row-done : (tests : List (Bool × Code)) (refuse : Code → Step) (done : St
 row-done tests refuse done none = rw (unless-first tests refuse done, ← none) refl
 
 -- where no test holds, each does not
-pub none-at : (before : List (Bool × Code)) (holds : Bool) (code : Code) (behind : List (Bool × Code)) → first_code (before ++ (holds, code) ∷ behind) ≡ None → holds ≡ false
+pub none-at : (before : List (Bool × Code)) (holds : Bool) (code : Code) (behind : List (Bool × Code)) → first_code (before ++ (holds, code) ∷ behind) ≡ None →
+    holds ≡ false
 none-at [] true code behind none = absurd cc
 none-at [] false code behind none = refl
 none-at ((true, other) ∷ before) holds code behind none = absurd cc
@@ -40,10 +43,12 @@ none-behind ((true, other) ∷ before) behind none = absurd cc
 none-behind ((false, other) ∷ before) behind none = none-behind before behind none
 
 -- what is so of each refusal and of the step that is done is so of the row
-pub unless-keeps : (P : Step → Type 0) (tests : List (Bool × Code)) (refuse : Code → Step) (done : Step) → ((code : Code) → P (refuse code)) → P done → P (unless tests refuse done)
+pub unless-keeps : (P : Step → Type 0) (tests : List (Bool × Code)) (refuse : Code → Step) (done : Step) → ((code : Code) → P (refuse code)) → P done →
+    P (unless tests refuse done)
 unfolding unless
 unless-keeps P [] refuse done each here = here
-unless-keeps P (test ∷ tests) refuse done each here = cond_both test.0 (refuse test.1) (unless tests refuse done) P (λ _. each test.1) (λ _. unless-keeps P tests refuse done each here)
+unless-keeps P (test ∷ tests) refuse done each here = cond_both test.0 (refuse test.1) (unless tests refuse done) P (λ _. each test.1)
+    (λ _. unless-keeps P tests refuse done each here)
 
 -- no test holds
 abbrev pub Passed : List (Bool × Code) → Type 0
@@ -51,7 +56,8 @@ Passed [] = Unit {0}
 Passed (test ∷ tests) = (test.0 ≡ false) × Passed tests
 
 -- and of the step that is done it may be known that no test held
-pub unless-passed : (P : Step → Type 0) (tests : List (Bool × Code)) (refuse : Code → Step) (done : Step) → ((code : Code) → P (refuse code)) → (Passed tests → P done) → P (unless tests refuse done)
+pub unless-passed : (P : Step → Type 0) (tests : List (Bool × Code)) (refuse : Code → Step) (done : Step) → ((code : Code) → P (refuse code)) →
+    (Passed tests → P done) → P (unless tests refuse done)
 unfolding unless
 unless-passed P [] refuse done each here = here tt
 unless-passed P (test ∷ tests) refuse done each here = from test.0 refl (unless-passed P tests refuse done each)

@@ -71,11 +71,13 @@ vpes-other (d ∷ ds) s w above =
     let here : w < d.vpe = All-head (λ (x : VpeDecl). w < x.vpe) d ds above in
     vpes-other ds (vpe_added d s) w (All-tail (λ (x : VpeDecl). w < x.vpe) d ds above) ∙ vpe-other d s w (λ same. omega (arith, here, same))
 
-vpes-next : (ds : List VpeDecl) (s : Side) (d : VpeDecl) → AllPairs (λ (a b : VpeDecl). a.vpe < b.vpe) ds → Contains ds d → (row (in_turn vpe_added ds s) d.vpe).next_number ≡ length d.roots
+vpes-next : (ds : List VpeDecl) (s : Side) (d : VpeDecl) → AllPairs (λ (a b : VpeDecl). a.vpe < b.vpe) ds → Contains ds d →
+    (row (in_turn vpe_added ds s) d.vpe).next_number ≡ length d.roots
 unfolding in_turn
 vpes-next [] s d rise among = absurd (Contains-nil d among)
 vpes-next (x ∷ xs) s d rise among = elim (Contains-cons_cases x xs d among) [
-  | inl same ↦ subst (λ (y : VpeDecl). (row (in_turn vpe_added xs (vpe_added x s)) y.vpe).next_number ≡ length y.roots) same (ap (λ (r : VpeRow). r.next_number) (vpes-other xs (vpe_added x s) x.vpe (AllPairs-head (λ (a b : VpeDecl). a.vpe < b.vpe) x xs rise)) ∙ vpe-next x s)
+  | inl same ↦ subst (λ (y : VpeDecl). (row (in_turn vpe_added xs (vpe_added x s)) y.vpe).next_number ≡ length y.roots) same
+      (ap (λ (r : VpeRow). r.next_number) (vpes-other xs (vpe_added x s) x.vpe (AllPairs-head (λ (a b : VpeDecl). a.vpe < b.vpe) x xs rise)) ∙ vpe-next x s)
   | inr rest ↦ vpes-next xs (vpe_added x s) d (AllPairs-tail (λ (a b : VpeDecl). a.vpe < b.vpe) x xs rise) rest
 ]
 
@@ -87,7 +89,8 @@ find-decl (x ∷ xs) d rise among = elim (Contains-cons_cases x xs d among) [
   | inl same ↦ cond-true (x.vpe == d.vpe) (Some x) (find (λ x. x.vpe == d.vpe) xs) (eq-eqb x.vpe d.vpe (ap (λ (y : VpeDecl). y.vpe) same)) ∙ ap Some same
   | inr rest ↦
       let before : x.vpe < d.vpe = All-contains (λ (y : VpeDecl). x.vpe < y.vpe) xs d (AllPairs-head (λ (a b : VpeDecl). a.vpe < b.vpe) x xs rise) rest in
-      cond-false (x.vpe == d.vpe) (Some x) (find (λ x. x.vpe == d.vpe) xs) (ne_eqb x.vpe d.vpe (λ same. omega (arith, before, same))) ∙ find-decl xs d (AllPairs-tail (λ (a b : VpeDecl). a.vpe < b.vpe) x xs rise) rest
+      cond-false (x.vpe == d.vpe) (Some x) (find (λ x. x.vpe == d.vpe) xs) (ne_eqb x.vpe d.vpe (λ same. omega (arith, before, same)))
+      ∙ find-decl xs d (AllPairs-tail (λ (a b : VpeDecl). a.vpe < b.vpe) x xs rise) rest
 ]
 
 pub owner-is : (n : ℕ) (o : Option ℕ) → IsSome o → ((kernel : ℕ) → o ≡ Some kernel → kernel < n) → unwrap_or o n < n
@@ -110,13 +113,22 @@ root-drawn T valid k root =
     let from = Contains-from_flat_map (λ (d : VpeDecl). root_keys_from d 0 d.roots) T.vpes k root in
     by_decl from.0 from.1 (root-of from.0 from.0.roots 0 k from.2)
   where
-    by_decl : (d : VpeDecl) → Contains T.vpes d → (k.vpe ≡ d.vpe) × (k.number < 0 + length d.roots) → k.number < (row (side (start T) (kernel_of T k.vpe)) k.vpe).next_number
+    by_decl : (d : VpeDecl) → Contains T.vpes d → (k.vpe ≡ d.vpe) × (k.number < 0 + length d.roots) →
+        k.number < (row (side (start T) (kernel_of T k.vpe)) k.vpe).next_number
     by_decl d among (vpe, number) =
         let i : ℕ = pe_owner T d.pe in
-        let kernel : kernel_of T k.vpe ≡ i = ap (kernel_of T) vpe ∙ ap (λ (o : Option VpeDecl). option_map_or (λ (x : VpeDecl). pe_owner T x.pe) o T.kernels) (find-decl T.vpes d valid.vpes_rise among) in
+        let kernel : kernel_of T k.vpe ≡ i = ap (kernel_of T) vpe
+        ∙ ap (λ (o : Option VpeDecl). option_map_or (λ (x : VpeDecl). pe_owner T x.pe) o T.kernels) (find-decl T.vpes d valid.vpes_rise among) in
         let declared : IsVpeDecl T d = All-contains (IsVpeDecl T) T.vpes d valid.vpes among in
-        let few : i < T.kernels = owner-is T.kernels (owner_at T.owners d.pe) declared.owned (λ j there. subst (λ n. j < n) valid.same_kernels (valid.membership.owners_exist d.pe j there)) in
+        let few : i < T.kernels =
+        owner-is T.kernels (owner_at T.owners d.pe) declared.owned
+        (λ j there. subst (λ n. j < n) valid.same_kernels (valid.membership.owners_exist d.pe j there)) in
         let at : side (start T) i ≡ start_side T i = get_or-map-range_with_len (start_side T) 0 T.kernels i i no_side few (omega arith) in
-        let next : (row (start_side T i) d.vpe).next_number ≡ length d.roots = vpes-next (filter (λ (x : VpeDecl). pe_owner T x.pe == i) T.vpes) (empty_side T) d (AllPairs-filter (λ (a b : VpeDecl). a.vpe < b.vpe) (λ (x : VpeDecl). pe_owner T x.pe == i) T.vpes valid.vpes_rise) (Contains-filter (λ (x : VpeDecl). pe_owner T x.pe == i) T.vpes d among (eq-eqb i i refl)) in
-        let whole : (row (side (start T) (kernel_of T k.vpe)) k.vpe).next_number ≡ length d.roots = ap (λ (j : ℕ). (row (side (start T) j) k.vpe).next_number) kernel ∙ (ap (λ (w : ℕ). (row (side (start T) i) w).next_number) vpe ∙ (ap (λ (s : Side). (row s d.vpe).next_number) at ∙ next)) in
+        let next : (row (start_side T i) d.vpe).next_number ≡ length d.roots =
+        vpes-next (filter (λ (x : VpeDecl). pe_owner T x.pe == i) T.vpes) (empty_side T) d
+        (AllPairs-filter (λ (a b : VpeDecl). a.vpe < b.vpe) (λ (x : VpeDecl). pe_owner T x.pe == i) T.vpes valid.vpes_rise)
+        (Contains-filter (λ (x : VpeDecl). pe_owner T x.pe == i) T.vpes d among (eq-eqb i i refl)) in
+        let whole : (row (side (start T) (kernel_of T k.vpe)) k.vpe).next_number ≡ length d.roots =
+        ap (λ (j : ℕ). (row (side (start T) j) k.vpe).next_number) kernel
+        ∙ (ap (λ (w : ℕ). (row (side (start T) i) w).next_number) vpe ∙ (ap (λ (s : Side). (row s d.vpe).next_number) at ∙ next)) in
         omega (arith, whole, number)

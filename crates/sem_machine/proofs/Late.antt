@@ -16,10 +16,13 @@ late : (b : Bool) (f : Side → Side) (s t : Side) → (if b then f s else f t) 
 late true f s t = refl
 late false f s t = refl
 
-left-late : (T : Setup) (i id count : ℕ) (root : KeyName) (up : Option Up) (waiters : List ℕ) (keep : Bool) (o : Option KeyName) (j : ℕ) (s : Side) → parent_left T i (record { id = id; root = root; up = up; waiters = waiters; count = count; keep = keep }) o (job_removed j s) ≡ job_removed j (parent_left T i (record { id = id; root = root; up = up; waiters = waiters; count = count; keep = keep }) o s)
+left-late : (T : Setup) (i id count : ℕ) (root : KeyName) (up : Option Up) (waiters : List ℕ) (keep : Bool) (o : Option KeyName) (j : ℕ) (s : Side) →
+    parent_left T i (record { id = id; root = root; up = up; waiters = waiters; count = count; keep = keep }) o (job_removed j s)
+    ≡ job_removed j (parent_left T i (record { id = id; root = root; up = up; waiters = waiters; count = count; keep = keep }) o s)
 left-late T i id count root up waiters keep None j s = refl
 left-late T i id count root None waiters keep (Some p) j s = late (is_local T i p) (job_removed j) (unlinked p root s) (send (owner_of T p) (Unlink p root) s)
-left-late T i id count root (Some (Local n)) waiters keep (Some p) j s = late (is_local T i p) (job_removed j) (unlinked p root s) (send (owner_of T p) (Unlink p root) s)
+left-late T i id count root (Some (Local n)) waiters keep (Some p) j s =
+    late (is_local T i p) (job_removed j) (unlinked p root s) (send (owner_of T p) (Unlink p root) s)
 left-late T i id count root (Some (Remote kernel n)) waiters keep (Some p) j s = late (is_local T i p) (job_removed j) (unlinked p root s) s
 
 pub closed_here-late : (T : Setup) (i : ℕ) (x : JobRow) (j : ℕ) (s : Side) → closed_here T i x (job_removed j s) ≡ job_removed j (closed_here T i x s)

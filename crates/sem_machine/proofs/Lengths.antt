@@ -25,7 +25,8 @@ filter-shorter p (x ∷ xs) =
     ]
 
 -- what passes the one or the other of two tests that exclude each other
-pub apart-shorter : {X : Type 0} (p q : X → Bool) → ((x : X) → p x ≡ true → q x ≡ false) → (xs : List X) → length (filter p xs) + length (filter q xs) ≤ length xs
+pub apart-shorter : {X : Type 0} (p q : X → Bool) → ((x : X) → p x ≡ true → q x ≡ false) → (xs : List X) →
+    length (filter p xs) + length (filter q xs) ≤ length xs
 apart-shorter p q apart [] = omega arith
 apart-shorter p q apart (x ∷ xs) =
     let rest = apart-shorter p q apart xs in
@@ -110,7 +111,8 @@ weigh-passed w p (x ∷ xs) =
     ]
 
 -- what passes the one or the other of two tests that exclude each other weighs no more than all
-pub apart-lighter : {X : Type 0} (w : X → ℕ) (p q : X → Bool) → ((x : X) → p x ≡ true → q x ≡ false) → (xs : List X) → sum_by w (filter p xs) + sum_by w (filter q xs) ≤ sum_by w xs
+pub apart-lighter : {X : Type 0} (w : X → ℕ) (p q : X → Bool) → ((x : X) → p x ≡ true → q x ≡ false) → (xs : List X) →
+    sum_by w (filter p xs) + sum_by w (filter q xs) ≤ sum_by w xs
 apart-lighter w p q apart [] = omega arith
 apart-lighter w p q apart (x ∷ xs) =
     let rest = apart-lighter w p q apart xs in

@@ -2,7 +2,8 @@
 use Rattle.std.proofs.Common.{◌≡◌, ℕ, ◌≤◌, List, refl, inr, arith}
 use Rattle.std.proofs.lemmas.List.Elements.{All-weaker}
 use Rattle.sem_msg.specs.declared.call.Call.{Call}
-use Rattle.sem_msg.specs.declared.call.Call.TheVariants.{Derive, Gate, Obtain, Delegate, OpenSession, AskOffer, Revoke, Bind, Read, Write, Send as SendCall, Credit, Exit, Clear}
+use Rattle.sem_msg.specs.declared.call.Call.TheVariants.{Derive, Gate, Obtain, Delegate, OpenSession, AskOffer, Revoke, Bind, Read, Write, Send as SendCall}
+use Rattle.sem_msg.specs.declared.call.Call.TheVariants.{Credit, Exit, Clear}
 use Rattle.sem_msg.specs.declared.entry.Entry.{Entry}
 use Rattle.sem_msg.specs.declared.setup.VpeDecl.{VpeDecl}
 use Rattle.sem_msg.specs.Calls.{IsValidCall}
@@ -19,7 +20,8 @@ use Rattle.sem_machine.specs.Schedules.{IsRun, IsSchedule}
 
 -- the version is read nowhere in a run
 pub runs-same : (T : Setup) (J : List Entry) (n : ℕ) → IsSchedule (record T { version = n }) J ≡ IsSchedule T J
-unfolding IsRun start start_side is_enabled is_locally_enabled after entry_of local_entry local_step call_row upcall_row handle_row resume_row ended opened finish closed_here
+unfolding IsRun start start_side is_enabled is_locally_enabled after entry_of local_entry local_step call_row upcall_row handle_row resume_row ended opened
+    finish closed_here
 runs-same T J n = refl
 
 -- where there may be more VPEs, a call that is valid stays so
@@ -84,7 +86,11 @@ module _ (T : Setup) (valid : IsSetup T) (first : T.version ≡ 1) where
         pes_differ = valid.pes_differ;
         services_rise = valid.services_rise;
         services = valid.services;
-        offers = All-weaker (IsOffer T) (IsOffer (record T { version = 2 })) (λ o is. record { index = is.index; selector = is.selector; declared = is.declared }) T.offers valid.offers;
+        offers = All-weaker (IsOffer T) (IsOffer (record T { version = 2 })) (λ o is. record {
+          index = is.index;
+          selector = is.selector;
+          declared = is.declared;
+        }) T.offers valid.offers;
         offers_rise = valid.offers_rise;
         denies = valid.denies;
         denies_rise = valid.denies_rise;

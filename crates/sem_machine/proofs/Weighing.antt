@@ -1,5 +1,6 @@
 -- Sums over lists, and what a write at one place does to them.
-use Rattle.std.proofs.Common.{true, false, subst, Bool, not, inl, inr, ap, ◌≡◌, ℕ, zero, suc, ◌+◌, ◌≤◌, List, [], ◌∷◌, map, drop, get_or, replicate, Option, slice_get, refl, arith}
+use Rattle.std.proofs.Common.{true, false, subst, Bool, not, inl, inr, ap, ◌≡◌, ℕ, zero, suc, ◌+◌, ◌≤◌, List, [], ◌∷◌, map, drop, get_or, replicate, Option}
+use Rattle.std.proofs.Common.{slice_get, refl, arith}
 use Rattle.std.specs.List.{AllPairs, Contains, filter, sum_by}
 use Rattle.std.specs.Prelude.{if◌then◌else◌}
 use Rattle.std.proofs.lemmas.Bool.{cases_Bool, cond-true, cond-false, cond_both}
@@ -84,14 +85,16 @@ module _ {X : Type 0} (w : X → ℕ) where
       elim (cases_Bool (p x)) [
         | inl pass ↦
             let first : filter p (x ∷ xs) ≡ x ∷ filter p xs = cond-true (p x) (x ∷ filter p xs) (filter p xs) pass in
-            let second : filter (λ x. not (p x)) (x ∷ xs) ≡ filter (λ x. not (p x)) xs = cond-false (not (p x)) (x ∷ filter (λ x. not (p x)) xs) (filter (λ x. not (p x)) xs) (ap not pass) in
+            let second : filter (λ x. not (p x)) (x ∷ xs) ≡ filter (λ x. not (p x)) xs =
+            cond-false (not (p x)) (x ∷ filter (λ x. not (p x)) xs) (filter (λ x. not (p x)) xs) (ap not pass) in
             let one = ap (sum_by w) first in
             let two = ap (sum_by w) second in
             let kept = sum_by-cons w x (filter p xs) in
             omega (arith, rest, all, one, two, kept)
         | inr fail ↦
             let first : filter p (x ∷ xs) ≡ filter p xs = cond-false (p x) (x ∷ filter p xs) (filter p xs) fail in
-            let second : filter (λ x. not (p x)) (x ∷ xs) ≡ x ∷ filter (λ x. not (p x)) xs = cond-true (not (p x)) (x ∷ filter (λ x. not (p x)) xs) (filter (λ x. not (p x)) xs) (ap not fail) in
+            let second : filter (λ x. not (p x)) (x ∷ xs) ≡ x ∷ filter (λ x. not (p x)) xs =
+            cond-true (not (p x)) (x ∷ filter (λ x. not (p x)) xs) (filter (λ x. not (p x)) xs) (ap not fail) in
             let one = ap (sum_by w) first in
             let two = ap (sum_by w) second in
             let kept = sum_by-cons w x (filter (λ x. not (p x)) xs) in
@@ -120,7 +123,8 @@ module _ {X : Type 0} (w : X → ℕ) (test : X → Bool) (f : X → X) where
       omega (arith, rest, new, old, here)
 
   -- one element at most grows by d
-  pub change-once : (d : ℕ) (xs : List X) → AllPairs (λ a b. test a ≡ true → test b ≡ false) xs → ((x : X) → test x ≡ true → w (f x) ≤ w x + d) → sum_by w (change test f xs) ≤ sum_by w xs + d
+  pub change-once : (d : ℕ) (xs : List X) → AllPairs (λ a b. test a ≡ true → test b ≡ false) xs → ((x : X) → test x ≡ true → w (f x) ≤ w x + d) →
+      sum_by w (change test f xs) ≤ sum_by w xs + d
   change-once d [] pairs more = omega arith
   change-once d (x ∷ xs) pairs more =
       let new = sum_by-cons w (if test x then f x else x) (change test f xs) in

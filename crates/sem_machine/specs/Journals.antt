@@ -1,8 +1,10 @@
--- What a journal tells: which keys were made from which, what was revoked, and what should be left ("Derived notions" in docs/machine.md).
-use Rattle.std.specs.Prelude.{ℕ, zero, suc, ◌+◌, ◌==◌, Bool, false, not, List, [], ◌∷◌, ◌++◌, length, map, filter, filter_map, flat_map, find, Contains, Option, if◌then◌else◌}
+-- What a journal tells: which keys were made from which, which were revoked, and which should be
+-- left ("Derived notions" in docs/machine.md).
+use Rattle.std.specs.Prelude.{ℕ, zero, suc, ◌+◌, ◌==◌, Bool, false, not, List, [], ◌∷◌, ◌++◌, length, map, filter}
+use Rattle.std.specs.Prelude.{filter_map, flat_map, find, Contains, Option, if◌then◌else◌}
 use Rattle.std.specs.List.{list_any}
 use Rattle.std.specs.Option.{option_map, option_map_or}
-use Rattle.sem_key.specs.KeyName.{KeyName, key_eq}
+use Rattle.sem_msg.specs.Prelude.{KeyName, key_eq, Setup}
 use Rattle.sem_key.specs.KeyList.{key_set}
 use Rattle.sem_msg.specs.declared.call.Call.TheVariants.{Revoke, Clear, Exit}
 use Rattle.sem_msg.specs.declared.event.Act.{Act}
@@ -12,11 +14,11 @@ use Rattle.sem_msg.specs.declared.entry.Detail.TheVariants.{Called}
 use Rattle.sem_msg.specs.declared.entry.Entry.{Entry}
 use Rattle.sem_msg.specs.declared.setup.Root.{Root}
 use Rattle.sem_msg.specs.declared.setup.VpeDecl.{VpeDecl}
-use Rattle.sem_msg.specs.Setup.{Setup, root_key}
+use Rattle.sem_msg.specs.Setup.{root_key}
 use Rattle.sem_msg.specs.Journal.{replies}
 use Rattle.sem_key.specs.Region.{has_key}
 
--- the grants, each a parent and its child, in their order
+-- the grants, each a parent and its child, in order
 abbrev pub grants : List Entry → List (KeyName × KeyName)
 grants J = filter_map (λ e. e.grant) J
 
@@ -33,7 +35,7 @@ root_keys T = flat_map (λ d. root_keys_from d 0 d.roots) T.vpes
 abbrev pub made : Setup → List Entry → List KeyName
 made T J = root_keys T ++ map (λ g. g.1) (grants J)
 
--- the parent of a key, by the first grant of it
+-- the parent of a key, by the first grant of the key
 abbrev pub parent_in : List (KeyName × KeyName) → KeyName → Option KeyName
 parent_in gs k = option_map (λ g. g.0) (find (λ g. key_eq g.1 k) gs)
 
@@ -60,26 +62,27 @@ ends v act detail = false
 abbrev pub has_ended : List Entry → ℕ → Bool
 has_ended J v = list_any (λ e. ends v e.event.act e.detail) J
 
--- the keys that were granted below a parent
+-- the keys granted below a parent
 abbrev pub children_in : List (KeyName × KeyName) → KeyName → List KeyName
 children_in gs p = map (λ g. g.1) (filter (λ g. key_eq g.0 p) gs)
 
--- What a call cuts off, by the grants before it: a revoke its key, a clear what was granted below its key by then.
+-- What a call cuts off, given the grants before it: a revoke cuts its key, a clear every key
+-- granted below its key by then.
 abbrev pub cut_off : List (KeyName × KeyName) → Detail → KeyName → List KeyName
 cut_off gs (Called index (Revoke src)) k = k ∷ []
 cut_off gs (Called index (Clear src)) k = children_in gs k
 cut_off gs detail k = []
 
--- what an entry cuts off, by the entries before it
+-- what an entry cuts off, given the entries before it
 abbrev pub cut_by : List Entry → Entry → List KeyName
 cut_by before e = option_map_or (cut_off (grants before) e.detail) e.cut []
 
--- what the entries behind those before them cut off
+-- what the entries cut off, given the entries before them
 unfoldable pub cut_from : List Entry → List Entry → List KeyName
 cut_from before [] = []
 cut_from before (e ∷ es) = cut_by before e ++ cut_from (before ++ e ∷ []) es
 
--- the cut: what revokes and clears cut off, and the made keys of the VPEs that have ended; each once
+-- the cut: all that revokes and clears cut off, and the made keys of ended VPEs; each once
 abbrev pub cut : Setup → List Entry → List KeyName
 cut T J = key_set (cut_from [] J ++ filter (λ k. has_ended J k.vpe) (made T J))
 
@@ -91,17 +94,19 @@ first_reply J v = option_map (λ r. r.code) (find (λ r. r.vpe == v) (replies J)
 abbrev pub is_success : Option ℕ → Bool
 is_success code = option_map_or (λ c. c == 0) code false
 
--- whether the call of an act is answered with success: by the first reply to its VPE among the later entries
+-- whether the call of an act succeeds: the first reply to its VPE among the later entries is
+-- success
 abbrev pub succeeds : Act → List Entry → Bool
 succeeds (Calls v) later = is_success (first_reply later v)
 succeeds act later = false
 
--- what the entries behind those before them cut off, as far as the calls are answered with success
+-- what the entries cut off by calls that succeed, given the entries before them
 unfoldable pub answered_from : List Entry → List Entry → List KeyName
 answered_from before [] = []
-answered_from before (e ∷ es) = (if succeeds e.event.act es then cut_by before e else []) ++ answered_from (before ++ e ∷ []) es
+answered_from before (e ∷ es) = (if succeeds e.event.act es then cut_by before e else [])
+    ++ answered_from (before ++ e ∷ []) es
 
--- the answered keys: what revokes and clears cut off that were answered with success
+-- the answered keys: what revokes and clears that succeeded cut off
 abbrev pub answered : List Entry → List KeyName
 answered J = answered_from [] J
 

@@ -16,3 +16,4 @@ pub mod Safety
 pub mod Seeded
 pub mod Sound
 pub mod Stores
+pub mod Prelude

@@ -1,9 +1,10 @@
--- The machine: the sides of all kernels and the links between them, the events, and the step of each ("Events" in docs/machine.md).
-use Rattle.std.specs.Prelude.{ℕ, ◌+◌, ◌==◌, nat_lt, Bool, true, not, ◌&&◌, List, [], ◌∷◌, ◌++◌, length, map, filter, flat_map, drop, slice_get, slice_index_or, Option, None, is_none, is_some, replicate}
+-- The machine: the sides of all kernels and the links between them, the events, and the step of
+-- each event ("Events" in docs/machine.md).
+use Rattle.std.specs.Prelude.{ℕ, ◌+◌, ◌==◌, nat_lt, Bool, true, not, ◌&&◌, List, [], ◌∷◌, ◌++◌, length, map, filter}
+use Rattle.std.specs.Prelude.{flat_map, drop, slice_get, slice_index_or, Option, None, is_none, is_some, replicate}
 use Rattle.std.specs.List.{range_with_len}
 use Rattle.std.specs.Option.{option_map, option_map_or}
-use Rattle.sem_key.specs.declared.limits.TheConstants.{VPES}
-use Rattle.sem_key.specs.Lists.{put, in_turn}
+use Rattle.sem_msg.specs.Prelude.{VPES, put, in_turn, no_vpe, Setup, kernel_of, calls_of}
 use Rattle.sem_key.specs.CapList.{fresh}
 use Rattle.sem_msg.specs.declared.call.Call.{Call}
 use Rattle.sem_msg.specs.declared.message.Message.{Message}
@@ -15,15 +16,14 @@ use Rattle.sem_msg.specs.declared.entry.Detail.TheVariants.{Called, Carried, Ask
 use Rattle.sem_msg.specs.declared.entry.Entry.{Entry}
 use Rattle.sem_msg.specs.declared.setup.Root.{Root}
 use Rattle.sem_msg.specs.declared.setup.VpeDecl.{VpeDecl}
-use Rattle.sem_msg.specs.Rows.{no_vpe}
 use Rattle.sem_msg.specs.Fabric.{link_in, link_put, is_due}
-use Rattle.sem_msg.specs.Setup.{Setup}
 use Rattle.sem_msg.specs.VpeRows.{new_vpe, next_root, root_held}
 use Rattle.sem_msg.specs.EndpointRows.{no_endpoint_bound}
 use Rattle.sem_msg.specs.Journal.{kill_number}
-use Rattle.sem_msg.specs.Lookups.{own_vpes, kernel_of, calls_of}
+use Rattle.sem_msg.specs.Lookups.{own_vpes}
 use Rattle.sem_msg.specs.declared.entry.Outcome.{Outcome}
-use Rattle.sem_machine.specs.Sides.{Side, no_side, row, parked, outbox, is_alive, with_row, call_counted, cap_added, with_inbox, sent}
+use Rattle.sem_machine.specs.Sides.{Side, no_side, row, parked, outbox, is_alive, with_row, call_counted, cap_added}
+use Rattle.sem_machine.specs.Sides.{with_inbox, sent}
 use Rattle.sem_machine.specs.Steps.{Step, plain}
 use Rattle.sem_machine.specs.Ends.{ended}
 use Rattle.sem_machine.specs.Calls.{call_row}
@@ -35,9 +35,10 @@ use Rattle.sem_machine.specs.Resumes.{can_resume, resume_row}
 
 -- a root or service is held, without parent, child or mark
 abbrev pub root_added : VpeDecl → Root → Side → Side
-root_added d r s = with_row d.vpe (root_held d r) (cap_added (fresh (next_root d r (row s d.vpe)) None r.sel r.object) s)
+root_added d r s =
+    with_row d.vpe (root_held d r) (cap_added (fresh (next_root d r (row s d.vpe)) None r.sel r.object) s)
 
--- a VPE with nothing yet
+-- a new VPE
 abbrev pub vpe_fresh : VpeDecl → Side → Side
 vpe_fresh d s = record (with_row d.vpe (λ v. new_vpe) s) { endpoints = put [] s.endpoints d.vpe no_endpoint_bound }
 
@@ -47,7 +48,12 @@ vpe_added d s = in_turn (root_added d) d.roots (vpe_fresh d s)
 
 -- a side with a place for each VPE and each kernel, and nothing in them
 abbrev pub empty_side : Setup → Side
-empty_side T = record no_side { vpes = replicate VPES no_vpe; endpoints = replicate VPES []; parks = replicate VPES None; outs = replicate T.kernels [] }
+empty_side T = record no_side {
+  vpes = replicate VPES no_vpe;
+  endpoints = replicate VPES [];
+  parks = replicate VPES None;
+  outs = replicate T.kernels [];
+}
 
 -- the side of kernel i at the start
 unfoldable pub start_side : Setup → ℕ → Side
@@ -55,11 +61,11 @@ start_side T i = in_turn vpe_added (own_vpes T i) (empty_side T)
 
 -- the state of all kernels and of the links between them
 pub record World : Type 0 where
-  -- by kernel
+  -- the side of each kernel
   pub sides : List Side
-  -- by sender and receiver, the messages in the link, the oldest first
+  -- the messages in each link, the oldest first, by sender and receiver
   pub links : List (List (List Message))
-  -- how many replies there were
+  -- how many replies were made
   pub replies : ℕ
 
 unfoldable pub start : Setup → World
@@ -89,7 +95,7 @@ with_link i j messages W = record W { links = link_put i j messages W.links }
 abbrev pub next_call : Setup → Side → ℕ → Option Call
 next_call T s v = slice_get (calls_of T v) (row s v).next_call
 
--- What an act does to the side of kernel i. A fetch is handed the message that it takes out of the link.
+-- What an act does to the side of kernel i. A fetch gets the message that it takes out of the link.
 unfoldable pub local_step : Setup → ℕ → Side → Act → Option Message → Step
 local_step T i s (Calls v) input = option_map_or (call_row T i (call_counted v s) v) (next_call T s v) (plain s)
 local_step T i s (Fetch from) input = plain (with_inbox (option_map (λ m. (from, m)) input) s)
@@ -99,7 +105,7 @@ local_step T i s (Resume v) input = resume_row T s v
 local_step T i s (Flush to) input = plain (sent to s)
 local_step T i s (Kill v) input = plain (ended T i v s)
 
--- what an entry tells beside its act: the call, the message, or who was asked
+-- what an entry tells besides its act: the call, the message, or the VPE that asked
 abbrev pub asked_detail : Outcome → Detail
 asked_detail o = option_map_or (λ a. Asked a.0 a.1) o.asked Nothing
 
@@ -135,9 +141,11 @@ local_entry T i s act input =
 abbrev pub is_other_kernel : Setup → ℕ → ℕ → Bool
 is_other_kernel T i j = nat_lt j T.kernels && not (j == i)
 
--- whether an act of kernel i is enabled as far as its side tells, without the links and the replies
+-- whether an act of kernel i is enabled as far as its side tells, leaving out the links and the
+-- replies
 unfoldable pub is_locally_enabled : Setup → ℕ → Side → Act → Bool
-is_locally_enabled T i s (Calls v) = (kernel_of T v == i) && (is_alive s v && (is_none (parked s v) && is_some (next_call T s v)))
+is_locally_enabled T i s (Calls v) = (kernel_of T v == i)
+    && (is_alive s v && (is_none (parked s v) && is_some (next_call T s v)))
 is_locally_enabled T i s (Resume v) = (kernel_of T v == i) && can_resume (parked s v)
 is_locally_enabled T i s (Upcall v) = (kernel_of T v == i) && (is_alive s v && is_some (slice_get (row s v).asks 0))
 is_locally_enabled T i s Handle = is_some s.inbox
@@ -145,7 +153,8 @@ is_locally_enabled T i s (Fetch j) = is_other_kernel T i j && is_none s.inbox
 is_locally_enabled T i s (Flush j) = is_other_kernel T i j && is_some (slice_get (outbox s j) 0)
 is_locally_enabled T i s (Kill v) = (kernel_of T v == i) && (is_alive s v && is_some (kill_number T v))
 
--- whether the links and the replies allow it: a fetch finds a message, a flush finds a link with room, a kill is due
+-- whether the links and the replies allow it: a fetch finds a message, a flush finds room in its
+-- link, a kill is due
 abbrev pub is_allowed : Setup → World → ℕ → Act → Bool
 is_allowed T W i (Calls v) = true
 is_allowed T W i (Resume v) = true
@@ -156,12 +165,14 @@ is_allowed T W i (Flush j) = nat_lt (length (link W i j)) T.window
 is_allowed T W i (Kill v) = is_due T W.replies v
 
 unfoldable pub is_enabled : Setup → World → Event → Bool
-is_enabled T W e = nat_lt e.kernel T.kernels && (is_locally_enabled T e.kernel (side W e.kernel) e.act && is_allowed T W e.kernel e.act)
+is_enabled T W e = nat_lt e.kernel T.kernels
+    && (is_locally_enabled T e.kernel (side W e.kernel) e.act && is_allowed T W e.kernel e.act)
 
 abbrev pub event : ℕ → Act → Event
 event i act = record { kernel = i; act = act }
 
--- All events of kernel i: the calls, resumes and upcalls by VPE, the handling, the fetches and flushes by kernel, the kills by VPE.
+-- All events of kernel i: the calls, resumes and upcalls by VPE, the handling, the fetches and
+-- flushes by kernel, the kills by VPE.
 abbrev pub kernel_events : Setup → ℕ → List Event
 kernel_events T i =
     map (λ d. event i (Calls d.vpe)) T.vpes
@@ -175,7 +186,7 @@ kernel_events T i =
 abbrev pub all_events : Setup → List Event
 all_events T = flat_map (kernel_events T) (range_with_len 0 T.kernels)
 
--- the enabled events, in their order
+-- the enabled events, in order
 unfoldable pub enabled : Setup → World → List Event
 enabled T W = filter (is_enabled T W) (all_events T)
 

@@ -1,4 +1,5 @@
--- Schedules: which journals the machine can make, and the runs of one kernel alone ("Schedules" in docs/machine.md).
+-- Schedules: which journals the machine can make, and the runs of one kernel alone ("Schedules" in
+-- docs/machine.md).
 use Rattle.std.specs.Prelude.{◌≡◌, ℕ, true, List, [], ◌∷◌, fold, Option, Some, None}
 use Rattle.sem_msg.specs.declared.message.Message.{Message}
 use Rattle.sem_msg.specs.declared.event.Act.{Act}
@@ -6,9 +7,10 @@ use Rattle.sem_msg.specs.declared.event.Act.TheVariants.{Fetch}
 use Rattle.sem_msg.specs.declared.entry.Detail.{Detail}
 use Rattle.sem_msg.specs.declared.entry.Detail.TheVariants.{Carried}
 use Rattle.sem_msg.specs.declared.entry.Entry.{Entry}
-use Rattle.sem_msg.specs.Setup.{Setup}
+use Rattle.sem_msg.specs.Prelude.{Setup}
 use Rattle.sem_machine.specs.Sides.{Side}
-use Rattle.sem_machine.specs.Machine.{World, start, start_side, after, entry_of, is_enabled, is_locally_enabled, local_step, local_entry}
+use Rattle.sem_machine.specs.Machine.{World, start, start_side, after, entry_of, is_enabled, is_locally_enabled}
+use Rattle.sem_machine.specs.Machine.{local_step, local_entry}
 
 -- from the world W on, each event is enabled in its turn and makes the entry that stands there
 unfoldable pub IsRun : Setup → World → List Entry → Type 0
@@ -29,12 +31,12 @@ world_after T J = run T (start T) J
 
 -- Runs of one kernel.
 
--- the message that a kernel takes in by an entry: that which a fetch carries
+-- the message that an entry brings to a kernel: the one that a fetch carries
 abbrev pub carried_in : Act → Detail → Option Message
 carried_in (Fetch from) (Carried peer message) = Some message
 carried_in act detail = None
 
--- the side of kernel i after the acts of the entries, where each fetch takes in the message of its entry
+-- the side of kernel i after the acts of the entries; each fetch takes in the message of its entry
 abbrev pub local_run_from : Setup → ℕ → Side → List Entry → Side
 local_run_from T i s L = fold (λ t e. (local_step T i t e.event.act (carried_in e.event.act e.detail)).side) s L
 

@@ -1,5 +1,7 @@
--- The seeded journal: at each step one word is drawn, and it picks one of the enabled events ("Runs" in docs/machine.md).
-use Rattle.std.specs.Prelude.{ℕ, zero, suc, ◌+◌, ◌-◌, ◌*◌, ◌%◌, Bool, true, false, List, [], ◌∷◌, ◌++◌, length, count_by, slice_get, Option}
+-- The seeded journal: each step draws one word, which picks one of the enabled events ("Runs" in
+-- docs/machine.md).
+use Rattle.std.specs.Prelude.{ℕ, zero, suc, ◌+◌, ◌-◌, ◌*◌, ◌%◌, Bool, true, false, List, [], ◌∷◌, ◌++◌, length}
+use Rattle.std.specs.Prelude.{count_by, slice_get, Option}
 use Rattle.std.specs.Option.{option_map_or}
 use Rattle.rand_pcg.specs.Lcg.{Lcg, advance, started, increment_of}
 use Rattle.rand_pcg.specs.Pcg.{multiplier_64, pcg32}
@@ -7,7 +9,8 @@ use Rattle.sem_msg.specs.declared.event.Act.{Act}
 use Rattle.sem_msg.specs.declared.event.Act.TheVariants.{Call as Calls, Kill}
 use Rattle.sem_msg.specs.declared.event.Event.{Event}
 use Rattle.sem_msg.specs.declared.entry.Entry.{Entry}
-use Rattle.sem_msg.specs.Setup.{Setup, call_count, kill_count}
+use Rattle.sem_msg.specs.Prelude.{Setup}
+use Rattle.sem_msg.specs.Setup.{call_count, kill_count}
 use Rattle.sem_machine.specs.Machine.{World, after, entry_of, enabled}
 use Rattle.sem_machine.specs.Schedules.{world_after}
 
@@ -39,12 +42,14 @@ entry_bound J = 24 * count_by (λ e. is_call e.event.act) J + count_by (λ e. is
 abbrev pub picked : ℕ → List Event → Option Event
 picked word es = slice_get es (word % length es)
 
--- The entries of a run from a world on: as long as an event is enabled and n is not used up, the next word picks one.
+-- The entries of a run from a world on: as long as an event is enabled and n is not used up, the
+-- next word picks one.
 unfoldable pub drain : ℕ → Setup → World → Lcg → List Entry
 drain zero T W g = []
-drain (suc n) T W g = option_map_or (λ e. entry_of T W e ∷ drain n T (after T W e) (pcg32 g).1) (picked (pcg32 g).0 (enabled T W)) []
+drain (suc n) T W g = option_map_or (λ e. entry_of T W e ∷ drain n T (after T W e) (pcg32 g).1)
+    (picked (pcg32 g).0 (enabled T W)) []
 
--- a journal drained: run on by the words of the seed
+-- a journal drained: continued by the words of the seed
 abbrev pub drained : Setup → List Entry → ℕ → List Entry
 drained T J seed = J ++ drain (entry_limit T - length J) T (world_after T J) (generator_of seed)
 

@@ -1,17 +1,14 @@
--- The side of a kernel, how it is read, and the small changes of it ("State" in docs/machine.md).
+-- The side of a kernel, how it is read, and its small changes ("State" in docs/machine.md).
 -- Each change names the one field of the side that it writes.
-use Rattle.std.specs.Prelude.{ℕ, ◌+◌, Bool, false, not, List, [], ◌∷◌, ◌++◌, filter, find, drop, slice_index_or, Option, None, is_some}
+use Rattle.std.specs.Prelude.{ℕ, ◌+◌, Bool, false, not, List, [], ◌∷◌, ◌++◌, filter, find, drop, slice_index_or}
+use Rattle.std.specs.Prelude.{Option, None, is_some}
 use Rattle.std.specs.Option.{option_map_or}
-use Rattle.sem_key.specs.declared.object.Object.{Object}
-use Rattle.sem_key.specs.KeyName.{KeyName, key_eq}
-use Rattle.sem_key.specs.Lists.{put}
-use Rattle.sem_key.specs.Capability.{Capability}
+use Rattle.sem_msg.specs.Prelude.{Object, KeyName, key_eq, put, Capability, code_number, JobRow, Endpoint, VpeRow}
 use Rattle.sem_key.specs.CapList
 use Rattle.sem_key.specs.CapList.{cap_of, fresh, with_cap, not_marked_by}
 use Rattle.sem_key.specs.Region.{all_marked}
 use Rattle.sem_msg.specs.declared.message.Message.{Message}
 use Rattle.sem_msg.specs.declared.code.Code.TheVariants.{Ok as OkCode}
-use Rattle.sem_msg.specs.Codes.{code_number}
 use Rattle.sem_msg.specs.declared.state.Slot.{Slot}
 use Rattle.sem_msg.specs.declared.state.Slot.TheVariants.{Free, Held, Promised}
 use Rattle.sem_msg.specs.declared.state.Ask.{Ask}
@@ -19,7 +16,6 @@ use Rattle.sem_msg.specs.declared.state.Parked.{Parked}
 use Rattle.sem_msg.specs.declared.state.Parked.TheVariants.{Ready}
 use Rattle.sem_msg.specs.declared.state.Pending.{Pending}
 use Rattle.sem_msg.specs.declared.state.Up.{Up}
-use Rattle.sem_msg.specs.Rows.{JobRow, Endpoint, VpeRow}
 use Rattle.sem_msg.specs.VpeRows
 use Rattle.sem_msg.specs.EndpointRows
 use Rattle.sem_msg.specs.ParkedStates
@@ -27,13 +23,13 @@ use Rattle.sem_msg.specs.JobRows
 use Rattle.sem_msg.specs.JobRows.{job_of}
 
 pub record Side : Type 0 where
-  -- the capabilities that it holds, in rising key order
+  -- the capabilities that the kernel holds, in rising key order
   pub caps : List Capability
-  -- what it keeps of each VPE, by number; of the VPEs of other kernels it keeps nothing
+  -- what the kernel keeps of each VPE, by number; it keeps nothing of the VPEs of other kernels
   pub vpes : List VpeRow
-  -- by VPE and by endpoint, what it is bound to
+  -- what each endpoint is bound to, by VPE and by endpoint
   pub endpoints : List (List (Option Endpoint))
-  -- by VPE, the state in which its call is parked
+  -- the state in which each VPE's call is parked, by VPE
   pub parks : List (Option Parked)
   -- the delegations from other kernels that were accepted and are not acknowledged yet
   pub pendings : List Pending
@@ -41,14 +37,24 @@ pub record Side : Type 0 where
   pub jobs : List JobRow
   -- the id of the next job
   pub next_job : ℕ
-  -- the message that was fetched and not handled yet, after its sender
+  -- the message that was fetched and not handled yet, with its sender
   pub inbox : Option (ℕ × Message)
-  -- by kernel, the messages that wait to be sent to it
+  -- the messages that wait to be sent to each kernel
   pub outs : List (List Message)
 
 -- a kernel that keeps nothing
 abbrev pub no_side : Side
-no_side = record { caps = []; vpes = []; endpoints = []; parks = []; pendings = []; jobs = []; next_job = 0; inbox = None; outs = [] }
+no_side = record {
+  caps = [];
+  vpes = [];
+  endpoints = [];
+  parks = [];
+  pendings = [];
+  jobs = [];
+  next_job = 0;
+  inbox = None;
+  outs = [];
+}
 
 -- Reading.
 
@@ -72,7 +78,7 @@ cap s k = cap_of s.caps k
 abbrev pub slot : Side → ℕ → ℕ → Slot
 slot s v sel = VpeRows.slot s.vpes v sel
 
--- the capability that stands in a slot
+-- the capability in a slot
 abbrev pub cap_in : Side → Slot → Option Capability
 cap_in s Free = None
 cap_in s (Held k) = cap s k
@@ -108,11 +114,11 @@ is_marked o = option_map_or (λ c. is_some c.mark) o false
 abbrev pub with_row : ℕ → (VpeRow → VpeRow) → Side → Side
 with_row v f s = record s { vpes = VpeRows.with_row v f s.vpes }
 
--- one more call was made
+-- the VPE made one more call
 abbrev pub call_counted : ℕ → Side → Side
 call_counted v s = record s { vpes = VpeRows.call_counted v s.vpes }
 
--- one more number was drawn
+-- the VPE drew one more number
 abbrev pub drawn : ℕ → Side → Side
 drawn v s = record s { vpes = VpeRows.drawn v s.vpes }
 
@@ -144,7 +150,7 @@ ready number v s = parked_as v (Ready number) s
 abbrev pub succeeding : ℕ → Side → Side
 succeeding v s = ready (code_number OkCode) v s
 
--- the VPE is asked, unless as many asks wait already as can
+-- the VPE gets one more ask, unless it has the most that can wait
 abbrev pub asked : ℕ → Ask → Side → Side
 asked v a s = record s { vpes = VpeRows.asked v a s.vpes }
 
@@ -152,15 +158,15 @@ asked v a s = record s { vpes = VpeRows.asked v a s.vpes }
 abbrev pub ask_taken : ℕ → Side → Side
 ask_taken v s = record s { vpes = VpeRows.ask_taken v s.vpes }
 
--- the VPE is dead, and is asked nothing any more
+-- the VPE is dead, and has no asks any more
 abbrev pub buried : ℕ → Side → Side
 buried v s = with_row v (λ r. record r { alive = false; asks = [] }) s
 
--- the endpoint is bound so
+-- the endpoint gets that binding
 abbrev pub with_endpoint : ℕ → ℕ → Option Endpoint → Side → Side
 with_endpoint v ep e s = record s { endpoints = EndpointRows.with_endpoint v ep e s.endpoints }
 
--- every endpoint that is bound to one of these keys is unbound
+-- every endpoint bound to one of these keys is unbound
 abbrev pub unbind_all : List KeyName → Side → Side
 unbind_all ks s = record s { endpoints = EndpointRows.unbind_all ks s.endpoints }
 
@@ -174,23 +180,23 @@ cap_added c s = record s { caps = with_cap s.caps c }
 abbrev pub cap_changed : KeyName → (Capability → Capability) → Side → Side
 cap_changed k f s = record s { caps = CapList.cap_changed k f s.caps }
 
--- the parent leads to the child
+-- the parent has a link to the child
 abbrev pub linked : KeyName → KeyName → Side → Side
 linked parent child s = record s { caps = CapList.linked s.caps parent child }
 
--- the parent does not lead to the child
+-- the parent has no link to the child
 abbrev pub unlinked : KeyName → KeyName → Side → Side
 unlinked parent child s = record s { caps = CapList.unlinked s.caps parent child }
 
--- the capabilities of these keys are marked by the job
+-- the job has marked the capabilities of these keys
 abbrev pub mark_all : List KeyName → ℕ → Side → Side
 mark_all ks j s = record s { caps = all_marked ks j s.caps }
 
--- what the job has marked is not held any more
+-- all that the job has marked is no longer held
 abbrev pub caps_removed : ℕ → Side → Side
 caps_removed j s = record s { caps = not_marked_by j s.caps }
 
--- Installed: held with this parent, object and selector, without child or mark, and the selector holds it.
+-- Installed: the selector holds it, with this parent and object, without child or mark.
 abbrev pub installed : KeyName → Option KeyName → ℕ → Object → Side → Side
 installed k parent sel object s =
     with_slot k.vpe sel (Held k) (cap_added (fresh k parent sel object) s)
@@ -201,16 +207,16 @@ installed k parent sel object s =
 abbrev pub pending_added : Pending → Side → Side
 pending_added p s = record s { pendings = s.pendings ++ p ∷ [] }
 
--- the delegation of that key is pending no more
+-- the delegation of that key is no longer pending
 abbrev pub pending_removed : KeyName → Side → Side
 pending_removed k s = record s { pendings = filter (λ p. not (key_eq p.key k)) s.pendings }
 
--- a job is opened
+-- one more job is open
 abbrev pub job_opened : KeyName → Option Up → List ℕ → Bool → Side → Side
 job_opened root up waiters keep s =
     record s { jobs = JobRows.job_opened s.next_job root up waiters keep s.jobs; next_job = s.next_job + 1 }
 
--- the job changed
+-- that job is changed
 abbrev pub job_changed : ℕ → (JobRow → JobRow) → Side → Side
 job_changed j f s = record s { jobs = JobRows.job_changed j f s.jobs }
 
@@ -222,10 +228,10 @@ job_removed j s = record s { jobs = JobRows.job_removed j s.jobs }
 abbrev pub send : ℕ → Message → Side → Side
 send j m s = record s { outs = put [] s.outs j (outbox s j ++ m ∷ []) }
 
--- the next message for kernel j waits no more
+-- the next message for kernel j no longer waits
 abbrev pub sent : ℕ → Side → Side
 sent j s = record s { outs = put [] s.outs j (drop 1 (outbox s j)) }
 
--- what is in the inbox
+-- the inbox has that content
 abbrev pub with_inbox : Option (ℕ × Message) → Side → Side
 with_inbox message s = record s { inbox = message }

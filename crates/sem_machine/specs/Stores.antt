@@ -1,10 +1,10 @@
--- A side with what a store holds in its place: so the calls that work on some of the stores of a kernel are said to do a row of the machine.
+-- A side with another content of one store. With these, a call that works on some of a kernel's
+-- stores is said to do a row of the machine.
 use Rattle.std.specs.Prelude.{ℕ, List, Option}
-use Rattle.sem_key.specs.Capability.{Capability}
+use Rattle.sem_msg.specs.Prelude.{Capability, JobRow, Endpoint, VpeRow}
 use Rattle.sem_msg.specs.declared.message.Message.{Message}
 use Rattle.sem_msg.specs.declared.state.Parked.{Parked}
 use Rattle.sem_msg.specs.declared.state.Pending.{Pending}
-use Rattle.sem_msg.specs.Rows.{JobRow, Endpoint, VpeRow}
 use Rattle.sem_machine.specs.Sides.{Side}
 
 abbrev pub with_caps : List Capability → Side → Side

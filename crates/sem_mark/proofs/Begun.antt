@@ -1,5 +1,6 @@
 -- How a job that was opened is begun, and what the calls do with what a selector holds.
-use Rattle.std.proofs.Common.{◌≡◌, ℕ, zero, suc, ◌≤◌, Bool, false, is_none, ◌&&◌, List, [], ◌∷◌, length, Option, Some, None, refl, sym, ap, ◌∙◌, inl, inr, arith, length-append}
+use Rattle.std.proofs.Common.{◌≡◌, ℕ, zero, suc, ◌≤◌, Bool, false, is_none, ◌&&◌, List, [], ◌∷◌, length, Option, Some, None, refl, sym, ap, ◌∙◌, inl, inr}
+use Rattle.std.proofs.Common.{arith, length-append}
 use Rattle.std.specs.List.{filter, flat_map}
 use Rattle.std.specs.Option.{option_and_then}
 use Rattle.std.proofs.lemmas.Bool.{cases_Bool, cond-true, cond-false}
@@ -18,7 +19,8 @@ use Rattle.sem_machine.specs.Sides.{Side, cap, own, parked_as, send}
 use Rattle.sem_machine.specs.Steps.{answer, cutting, first_code, plain}
 use Rattle.sem_machine.specs.Calls.{clear_row, own_tests, revoke_row, with_held}
 use Rattle.sem_machine.specs.Handles.{handle_row}
-use Rattle.sem_machine.specs.Revokes.{begin, clear_begun, finish, finished, obtain_cancelled, request_begun, revoke_begun, revoke_requested, settled, waiter_added, with_up}
+use Rattle.sem_machine.specs.Revokes.{begin, clear_begun, finish, finished, obtain_cancelled, request_begun, revoke_begun, revoke_requested, settled}
+use Rattle.sem_machine.specs.Revokes.{waiter_added, with_up}
 use Rattle.sem_machine.proofs.FirstCodes.{unless-first}
 use Rattle.sem_machine.proofs.Lengths.{key_set-shorter}
 
@@ -29,7 +31,8 @@ finish-none T i zero s = refl
 finish-none T i (suc n) s = refl
 
 -- a job is settled by finishing it where no token is out for it
-pub begun : (T : Setup) (i next : ℕ) (o : Option ℕ) (x y : Side) → option_and_then (job_of x.jobs) o ≡ if_done (job_of x.jobs next) → x ≡ y → finished T i o x ≡ settled T i next y
+pub begun : (T : Setup) (i next : ℕ) (o : Option ℕ) (x y : Side) → option_and_then (job_of x.jobs) o ≡ if_done (job_of x.jobs next) → x ≡ y →
+    finished T i o x ≡ settled T i next y
 begun T i next o x y done same = ap (λ p. finish T i (length x.jobs) p x) done ∙ ap (settled T i next) same
 
 -- a region has no more children than there are links
@@ -39,7 +42,8 @@ linked-few p (c ∷ caps) =
     let count = sum_by-cons (λ (x : Capability). length x.children) c caps in
     let rest = linked-few p caps in
     elim (cases_Bool (p c)) [
-      | inl taken ↦ rw (cond-true (p c) (c ∷ filter p caps) (filter p caps) taken) (omega (arith, count, rest, length-append c.children (flat_map (λ (x : Capability). x.children) (filter p caps))))
+      | inl taken ↦ rw (cond-true (p c) (c ∷ filter p caps) (filter p caps) taken)
+          (omega (arith, count, rest, length-append c.children (flat_map (λ (x : Capability). x.children) (filter p caps))))
       | inr left ↦ rw (cond-false (p c) (c ∷ filter p caps) (filter p caps) left) (omega (arith, count, rest))
     ]
 
@@ -59,15 +63,18 @@ module _ (T : Setup) (i : ℕ) (s : Side) (v sel : ℕ) where
   revoke-held c held = ap (λ o. with_held o (λ c. cutting c.key (plain (revoke_begun T i v c.key c.mark s))) s) (sym held)
 
   -- which a job has marked
-  pub revoke-marked : (c : Capability) (j : ℕ) → Some c ≡ own s v sel → c.mark ≡ Some j → revoke_row T i s v sel ≡ cutting c.key (plain (waiter_added j v (parked_as v (RevokeWait j) s)))
+  pub revoke-marked : (c : Capability) (j : ℕ) → Some c ≡ own s v sel → c.mark ≡ Some j →
+      revoke_row T i s v sel ≡ cutting c.key (plain (waiter_added j v (parked_as v (RevokeWait j) s)))
   revoke-marked c j held mark = revoke-held c held ∙ ap (λ m. cutting c.key (plain (revoke_begun T i v c.key m s))) mark
 
   -- which no job has marked
-  pub revoke-open : (c : Capability) → Some c ≡ own s v sel → c.mark ≡ None → revoke_row T i s v sel ≡ cutting c.key (plain (begin T i c.key None (v ∷ []) false (parked_as v (RevokeWait s.next_job) s)))
+  pub revoke-open : (c : Capability) → Some c ≡ own s v sel → c.mark ≡ None →
+      revoke_row T i s v sel ≡ cutting c.key (plain (begin T i c.key None (v ∷ []) false (parked_as v (RevokeWait s.next_job) s)))
   revoke-open c held mark = revoke-held c held ∙ ap (λ m. cutting c.key (plain (revoke_begun T i v c.key m s))) mark
 
   -- clear, where no test holds
-  pub clear-done : (c : Capability) → None ≡ first_code (own_tests (own s v sel)) → Some c ≡ own s v sel → clear_row T i s v sel ≡ cutting c.key (plain (clear_begun T i v c.key s))
+  pub clear-done : (c : Capability) → None ≡ first_code (own_tests (own s v sel)) → Some c ≡ own s v sel →
+      clear_row T i s v sel ≡ cutting c.key (plain (clear_begun T i v c.key s))
   clear-done c first held = unless-first (own_tests (own s v sel)) _ _ ∙ rw (← first, ← held) refl
 
 module _ (T : Setup) (i : ℕ) (s : Side) (from j : ℕ) (k : KeyName) where

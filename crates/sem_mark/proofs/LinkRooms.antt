@@ -32,7 +32,11 @@ module _ (c : Capability) (cs : List Capability) where
     | inr other ↦
         let rest = one-more ks (λ i j d lt within. spread (suc i) (suc j) d (omega arith) (omega arith)) in
         let same = ap length (at-other k other) in
-        omega (arith, length-append (children_at (c ∷ cs) k) (flat_map (children_at (c ∷ cs)) ks), length-append (children_at cs k) (flat_map (children_at cs) ks))
+        omega (
+          arith,
+          length-append (children_at (c ∷ cs) k) (flat_map (children_at (c ∷ cs)) ks),
+          length-append (children_at cs k) (flat_map (children_at cs) ks),
+        )
   ]
 
 no-children : (ks : List KeyName) → flat_map (children_at []) ks ≡ []

@@ -1,5 +1,6 @@
 -- Marks: what is found once the capabilities of some keys are marked.
-use Rattle.std.proofs.Common.{◌≡◌, ℕ, Bool, true, false, not, ◌&&◌, ◌||◌, List, [], ◌∷◌, ◌++◌, map, Option, Some, None, is_none, if◌then◌else◌, refl, sym, ◌∙◌, ap, inl, inr}
+use Rattle.std.proofs.Common.{◌≡◌, ℕ, Bool, true, false, not, ◌&&◌, ◌||◌, List, [], ◌∷◌, ◌++◌, map, Option, Some, None, is_none, if◌then◌else◌, refl, sym, ◌∙◌}
+use Rattle.std.proofs.Common.{ap, inl, inr}
 use Rattle.std.specs.List.{find}
 use Rattle.std.specs.Option.{option_map, option_map_or}
 use Rattle.std.proofs.lemmas.Bool.{cases_Bool, cond-true, cond-false}
@@ -78,7 +79,8 @@ module _ (cs : List Capability) (ks : List KeyName) (j : ℕ) where
   pub is_open-marked : (k : KeyName) → is_open (all_marked ks j cs) k ≡ (is_open cs k && not (has_key ks k))
   is_open-marked k = ap (λ o. option_map_or (λ c. is_none c.mark) o false) (cap_of-marked k) ∙ from (cap_of cs k) refl
     where
-      from : (o : Option Capability) → cap_of cs k ≡ o → option_map_or (λ c. is_none c.mark) (option_map (λ c. mark_if (has_key ks c.key) j c) o) false ≡ (option_map_or (λ c. is_none c.mark) o false && not (has_key ks k))
+      from : (o : Option Capability) → cap_of cs k ≡ o → option_map_or (λ c. is_none c.mark) (option_map (λ c. mark_if (has_key ks c.key) j c) o) false
+          ≡ (option_map_or (λ c. is_none c.mark) o false && not (has_key ks k))
       from None none = refl
       from (Some c) some =
           let same : c.key ≡ k = key_eq-true c.key k (found (λ x. key_eq x.key k) cs c some).1 in
@@ -95,8 +97,10 @@ module _ (cs : List Capability) (ks : List KeyName) (j : ℕ) where
           ∙ ap (λ t. mark_if t j c) (sym (has_key-append ks (k ∷ []) c.key)))
 
 -- marks by lists with the same keys
-pub all_marked-same : (cs : List Capability) (ks qs : List KeyName) (j : ℕ) → ((k : KeyName) → has_key ks k ≡ has_key qs k) → all_marked ks j cs ≡ all_marked qs j cs
-all_marked-same cs ks qs j same = map-same (λ c. mark_if (has_key ks c.key) j c) (λ c. mark_if (has_key qs c.key) j c) (λ c. ap (λ t. mark_if t j c) (same c.key)) cs
+pub all_marked-same : (cs : List Capability) (ks qs : List KeyName) (j : ℕ) → ((k : KeyName) → has_key ks k ≡ has_key qs k) →
+    all_marked ks j cs ≡ all_marked qs j cs
+all_marked-same cs ks qs j same = map-same (λ c. mark_if (has_key ks c.key) j c) (λ c. mark_if (has_key qs c.key) j c)
+    (λ c. ap (λ t. mark_if t j c) (same c.key)) cs
 
 pub none_marked : (cs : List Capability) (j : ℕ) → cs ≡ all_marked [] j cs
 none_marked [] j = refl
@@ -104,12 +108,15 @@ none_marked (c ∷ cs) j = ap (λ xs. c ∷ xs) (none_marked cs j)
 
 -- a mark leaves the children
 pub children-marked : (cs : List Capability) (k p : KeyName) (j : ℕ) → children_at (marked cs k j) p ≡ children_at cs p
-children-marked cs k p j = ap (λ o. option_map_or (λ (c : Capability). c.children) o []) (find-map (λ c. key_eq c.key p) (λ c. mark_if (key_eq c.key k) j c) (λ c. ap (λ q. key_eq q p) (mark_if-key (key_eq c.key k) j c)) cs) ∙ from (cap_of cs p)
+children-marked cs k p j =
+    ap (λ o. option_map_or (λ (c : Capability). c.children) o [])
+    (find-map (λ c. key_eq c.key p) (λ c. mark_if (key_eq c.key k) j c) (λ c. ap (λ q. key_eq q p) (mark_if-key (key_eq c.key k) j c)) cs) ∙ from (cap_of cs p)
   where
     keeps : (t : Bool) (c : Capability) → (mark_if t j c).children ≡ c.children
     keeps true c = refl
     keeps false c = refl
 
-    from : (o : Option Capability) → option_map_or (λ (c : Capability). c.children) (option_map (λ c. mark_if (key_eq c.key k) j c) o) [] ≡ option_map_or (λ (c : Capability). c.children) o []
+    from : (o : Option Capability) → option_map_or (λ (c : Capability). c.children) (option_map (λ c. mark_if (key_eq c.key k) j c) o) []
+        ≡ option_map_or (λ (c : Capability). c.children) o []
     from None = refl
     from (Some c) = keeps (key_eq c.key k) c

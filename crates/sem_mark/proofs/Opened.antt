@@ -22,7 +22,8 @@ use Rattle.sem_mark.proofs.SortedKeys.{key_set-from}
 -- Tokens.
 
 -- a job as it is after a change of that one or another
-job_of-changed : (j m : ℕ) (f : JobRow → JobRow) → ((x : JobRow) → (f x).id ≡ x.id) → (xs : List JobRow) → job_of (job_changed m f xs) j ≡ option_map (λ x. cond {A = JobRow} (x.id == m) (f x) x) (job_of xs j)
+job_of-changed : (j m : ℕ) (f : JobRow → JobRow) → ((x : JobRow) → (f x).id ≡ x.id) → (xs : List JobRow) →
+    job_of (job_changed m f xs) j ≡ option_map (λ x. cond {A = JobRow} (x.id == m) (f x) x) (job_of xs j)
 job_of-changed j m f keeps xs = find-map (λ x. x.id == j) (λ x. cond {A = JobRow} (x.id == m) (f x) x) (λ x. ap (λ n. n == j) (kept (x.id == m) x)) xs
   where
     kept : (t : Bool) (x : JobRow) → (cond {A = JobRow} t (f x) x).id ≡ x.id
@@ -35,7 +36,8 @@ some-mapped (Some x) g P Q each is = each x is
 
 -- one token more is out for a job
 pub raised-count : (j n : ℕ) (xs : List JobRow) → HasCount xs j n → HasCount (count_raised j xs) j (n + 1)
-raised-count j n xs few = rw (job_of-changed j j (λ x. record x { count = x.count + 1 }) (λ x. refl) xs) (some-mapped (job_of xs j) _ (λ x. x.count ≤ n) (λ x. x.count ≤ n + 1) (λ x le. more (x.id == j) x le) few)
+raised-count j n xs few = rw (job_of-changed j j (λ x. record x { count = x.count + 1 }) (λ x. refl) xs)
+    (some-mapped (job_of xs j) _ (λ x. x.count ≤ n) (λ x. x.count ≤ n + 1) (λ x le. more (x.id == j) x le) few)
   where
     more : (t : Bool) (x : JobRow) → x.count ≤ n → (cond {A = JobRow} t (record x { count = x.count + 1 }) x).count ≤ n + 1
     more true x le = omega arith
@@ -43,7 +45,8 @@ raised-count j n xs few = rw (job_of-changed j j (λ x. record x { count = x.cou
 
 -- and as many as before, where a job waits for another
 pub adopted-count : (j m n : ℕ) (up : Up) (xs : List JobRow) → HasCount xs j n → HasCount (with_up up m xs) j n
-adopted-count j m n up xs few = rw (job_of-changed j m (λ x. record x { up = Some up; keep = false }) (λ x. refl) xs) (some-mapped (job_of xs j) _ (λ x. x.count ≤ n) (λ x. x.count ≤ n) (λ x le. same (x.id == m) x le) few)
+adopted-count j m n up xs few = rw (job_of-changed j m (λ x. record x { up = Some up; keep = false }) (λ x. refl) xs)
+    (some-mapped (job_of xs j) _ (λ x. x.count ≤ n) (λ x. x.count ≤ n) (λ x le. same (x.id == m) x le) few)
   where
     same : (t : Bool) (x : JobRow) → x.count ≤ n → (cond {A = JobRow} t (record x { up = Some up; keep = false }) x).count ≤ n
     same true x le = le
@@ -67,7 +70,9 @@ count-less j n m xs lt = from (job_of xs j)
 
 -- Owners: the children of capabilities that lead home have them.
 pub children-owned : (T : Setup) (caps : List Capability) (ks : List KeyName) → All (LeadsHome T) caps → All (HasOwner T) (children_of caps ks)
-children-owned T caps ks home n d within = from (get_or (children_of caps ks) n d) (key_set-from (linked_from caps ks) (get_or (children_of caps ks) n d) (Contains-get_or (children_of caps ks) n d within))
+children-owned T caps ks home n d within =
+    from (get_or (children_of caps ks) n d)
+    (key_set-from (linked_from caps ks) (get_or (children_of caps ks) n d) (Contains-get_or (children_of caps ks) n d within))
   where
     from : (k : KeyName) → Contains (linked_from caps ks) k → HasOwner T k
     from k there =
@@ -89,14 +94,16 @@ module _ (next : ℕ) (root : KeyName) (up : Option Up) (ws : List ℕ) where
   one-longer [] = refl
   one-longer (x ∷ xs) = let rest = one-longer xs in omega (arith, rest)
 
-  pub opened-kept : (xs : List JobRow) → AllPairs (λ m n. m < n) (ids_of (job_opened next root up ws false xs)) → keep_set next (job_opened next root up ws false xs) ≡ job_opened next root up ws true xs
+  pub opened-kept : (xs : List JobRow) → AllPairs (λ m n. m < n) (ids_of (job_opened next root up ws false xs)) →
+      keep_set next (job_opened next root up ws false xs) ≡ job_opened next root up ws true xs
   opened-kept [] rising = ap (λ (x : JobRow). x ∷ []) (cond-true (next == next) _ _ (grind (arith, nat_tests)))
   opened-kept (x ∷ xs) rising =
       let long = one-longer xs in
       let less : x.id < get_or (ids_of (job_opened next root up ws false xs)) (length xs) 0 = rising 0 (suc (length xs)) 0 (omega arith) (omega arith) in
       let last = last-id xs 0 in
       let other : (x.id == next) ≡ false = grind (arith, nat_tests) in
-      rw (cond-false (x.id == next) (record x { keep = true }) x other) (ap (λ (ys : List JobRow). x ∷ ys) (opened-kept xs (λ m n d lt within. rising (suc m) (suc n) d (omega arith) (omega arith))))
+      rw (cond-false (x.id == next) (record x { keep = true }) x other)
+      (ap (λ (ys : List JobRow). x ∷ ys) (opened-kept xs (λ m n d lt within. rising (suc m) (suc n) d (omega arith) (omega arith))))
 
 -- no token is out for it then
 pub kept-count : (j : ℕ) (xs : List JobRow) (x : JobRow) → job_of xs j ≡ Some x → x.count ≤ 0 → HasCount (keep_set j xs) j 0

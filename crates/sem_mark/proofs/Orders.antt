@@ -16,7 +16,8 @@ use Rattle.sem_mark.specs.Walks.{children_at}
 use Rattle.sem_mark.proofs.SortedKeys.{rising-same, key_set-same, key_set-rises, key_set-from}
 use Rattle.sem_key.proofs.KeySets.{key_set-has}
 
-module _ (caps : List Capability) (keys : IsKeyList (keys_of caps)) (root : KeyName) (ks : List KeyName) (same : (k : KeyName) → has_key ks k ≡ has_key (region caps root) k) where
+module _ (caps : List Capability) (keys : IsKeyList (keys_of caps)) (root : KeyName) (ks : List KeyName) (same : (k : KeyName) →
+    has_key ks k ≡ has_key (region caps root) k) where
   -- the capability of a listed key
   held : (k : KeyName) → Contains ks k → (c : Capability) × (cap_of caps k ≡ Some c) × (c.mark ≡ None)
   held k there = reached_cap caps root k ((region-exact caps root k keys.rising).0 (sym (same k) ∙ has_key-from_Contains ks k there))
@@ -29,13 +30,15 @@ module _ (caps : List Capability) (keys : IsKeyList (keys_of caps)) (root : KeyN
       valid k there =
           let c = (held k there).0 in
           let at = found (λ x. key_eq x.key k) caps c (held k there).1 in
-          subst IsValidKey (key_eq-true c.key k at.1) (All-contains IsValidKey (keys_of caps) c.key keys.valid (Contains-map (λ (x : Capability). x.key) caps c at.0))
+          subst IsValidKey (key_eq-true c.key k at.1)
+          (All-contains IsValidKey (keys_of caps) c.key keys.valid (Contains-map (λ (x : Capability). x.key) caps c at.0))
 
   -- and their set is the region
   pub region-sorted : key_set ks ≡ region caps root
   region-sorted = rising-same (key_set ks) (region caps root) (key_set-rises ks) (region-rises caps root keys.rising)
       (λ k there. Contains-from_has_key (region caps root) k (sym (same k) ∙ has_key-from_Contains ks k (key_set-from ks k there)))
-      (λ k there. key_set-has ks (λ q among. All-contains IsValidKey ks q listed-valid among) k (Contains-from_has_key ks k (same k ∙ has_key-from_Contains (region caps root) k there)))
+      (λ k there. key_set-has ks (λ q among. All-contains IsValidKey ks q listed-valid among) k (Contains-from_has_key ks k (same k
+      ∙ has_key-from_Contains (region caps root) k there)))
 
   abbrev taken : Capability → Bool
   taken c = is_none c.mark && has_key (region caps root) c.key
@@ -64,7 +67,8 @@ module _ (caps : List Capability) (keys : IsKeyList (keys_of caps)) (root : KeyN
           let parts = and_parts (is_none c.mark) (has_key (region caps root) c.key) origin.1 in
           let among = Contains-from_has_key ks c.key (same c.key ∙ parts.1) in
           let at : cap_of caps c.key ≡ Some c = find-at caps keys.rising c.key c origin.0 refl in
-          Contains-flat_map (children_at caps) ks c.key k among (subst (λ qs. Contains qs k) (sym (ap (λ o. option_map_or (λ (x : Capability). x.children) o []) at)) child)
+          Contains-flat_map (children_at caps) ks c.key k among
+          (subst (λ qs. Contains qs k) (sym (ap (λ o. option_map_or (λ (x : Capability). x.children) o []) at)) child)
 
   -- so the sets of them are the same
   pub children-same : All IsValidKey (flat_map (children_at caps) ks) → key_set (flat_map (children_at caps) ks) ≡ children_of caps (region caps root)

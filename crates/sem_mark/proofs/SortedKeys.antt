@@ -49,11 +49,13 @@ from_all ks each = λ n d lt. each (get_or ks n d) (n, lt, same n d lt)
     same n d lt = get_or_default ks n (get_or ks n d) d lt
 
 -- lists that rise and have the same keys are the same
-pub rising-same : (xs0 bs : List KeyName) → IsRising xs0 → IsRising bs → ((k : KeyName) → Contains xs0 k → Contains bs k) → ((k : KeyName) → Contains bs k → Contains xs0 k) → xs0 ≡ bs
+pub rising-same : (xs0 bs : List KeyName) → IsRising xs0 → IsRising bs → ((k : KeyName) → Contains xs0 k → Contains bs k) →
+    ((k : KeyName) → Contains bs k → Contains xs0 k) → xs0 ≡ bs
 rising-same [] [] up up' to from = refl
 rising-same [] (b ∷ bs) up up' to from = absurd (Contains-nil b (from b (Contains-head b bs)))
 rising-same (a ∷ xs0) [] up up' to from = absurd (Contains-nil a (to a (Contains-head a xs0)))
-rising-same (a ∷ xs0) (b ∷ bs) up up' to from = ap (λ k. k ∷ xs0) heads ∙ ap (λ ks. b ∷ ks) (rising-same xs0 bs (rising-tail a xs0 up) (rising-tail b bs up') tails tails')
+rising-same (a ∷ xs0) (b ∷ bs) up up' to from = ap (λ k. k ∷ xs0) heads
+    ∙ ap (λ ks. b ∷ ks) (rising-same xs0 bs (rising-tail a xs0 up) (rising-tail b bs up') tails tails')
   where
     heads : a ≡ b
     heads = elim (Contains-cons_cases b bs a (to a (Contains-head a xs0))) [
@@ -79,12 +81,15 @@ rising-same (a ∷ xs0) (b ∷ bs) up up' to from = ap (λ k. k ∷ xs0) heads �
 abbrev Before : KeyName → KeyName → Type 0
 Before a b = packed a < packed b
 
-pub AllPairs-append : {X : Type 0} (R : X → X → Type 0) (xs ys : List X) → AllPairs R xs → AllPairs R ys → ((x y : X) → Contains xs x → Contains ys y → R x y) → AllPairs R (xs ++ ys)
+pub AllPairs-append : {X : Type 0} (R : X → X → Type 0) (xs ys : List X) → AllPairs R xs → AllPairs R ys → ((x y : X) → Contains xs x → Contains ys y → R x y) →
+    AllPairs R (xs ++ ys)
 AllPairs-append R [] ys first second across = second
 AllPairs-append R (x ∷ xs) ys first second across =
     AllPairs-cons R x (xs ++ ys)
-    (All-append (R x) xs ys (λ k d within. first zero (suc k) d (omega arith) (omega arith)) (λ k d within. across x (get_or ys k d) (Contains-head x xs) (Contains-get_or ys k d within)))
-    (AllPairs-append R xs ys (λ i j d lt within. first (suc i) (suc j) d (omega arith) (omega arith)) second (λ a b in_xs in_ys. across a b (Contains-tail x xs a in_xs) in_ys))
+    (All-append (R x) xs ys (λ k d within. first zero (suc k) d (omega arith) (omega arith))
+    (λ k d within. across x (get_or ys k d) (Contains-head x xs) (Contains-get_or ys k d within)))
+    (AllPairs-append R xs ys (λ i j d lt within. first (suc i) (suc j) d (omega arith) (omega arith)) second
+    (λ a b in_xs in_ys. across a b (Contains-tail x xs a in_xs) in_ys))
 
 -- the keys of the list before the key, and those after it
 abbrev lower : List KeyName → KeyName → List KeyName
@@ -96,7 +101,9 @@ upper ks k = filter (λ q. key_lt k q) ks
 with_key-rises : (ks : List KeyName) (k : KeyName) → IsRising ks → IsRising (with_key ks k)
 with_key-rises ks k rises = AllPairs-append Before (lower ks k) (k ∷ upper ks k)
     (AllPairs-filter Before (λ q. key_lt q k) ks rises)
-    (AllPairs-cons Before k (upper ks k) (from_all {P = Before k} (upper ks k) (λ q there. ltb-true (packed k) (packed q) (Contains-from_filter (λ x. key_lt k x) ks q there).1)) (AllPairs-filter Before (λ q. key_lt k q) ks rises))
+    (AllPairs-cons Before k (upper ks k)
+    (from_all {P = Before k} (upper ks k) (λ q there. ltb-true (packed k) (packed q) (Contains-from_filter (λ x. key_lt k x) ks q there).1))
+    (AllPairs-filter Before (λ q. key_lt k q) ks rises))
     across
   where
     across : (x y : KeyName) → Contains (lower ks k) x → Contains (k ∷ upper ks k) y → packed x < packed y
@@ -116,7 +123,8 @@ pub key_set-rises : (ks : List KeyName) → IsRising (key_set ks)
 key_set-rises ks = in_turn-rises ks [] (λ i j d lt within. absurd (omega arith))
 
 -- sets of lists with the same keys are the same
-pub key_set-same : (xs0 bs : List KeyName) → All IsValidKey xs0 → ((k : KeyName) → Contains xs0 k → Contains bs k) → ((k : KeyName) → Contains bs k → Contains xs0 k) → key_set xs0 ≡ key_set bs
+pub key_set-same : (xs0 bs : List KeyName) → All IsValidKey xs0 → ((k : KeyName) → Contains xs0 k → Contains bs k) →
+    ((k : KeyName) → Contains bs k → Contains xs0 k) → key_set xs0 ≡ key_set bs
 key_set-same xs0 bs valid to from = rising-same (key_set xs0) (key_set bs) (key_set-rises xs0) (key_set-rises bs)
     (λ k there. key_set-has bs valid_b k (to k (key_set-from xs0 k there)))
     (λ k there. key_set-has xs0 (λ q among. All-contains IsValidKey xs0 q valid among) k (from k (key_set-from bs k there)))
@@ -125,7 +133,8 @@ key_set-same xs0 bs valid to from = rising-same (key_set xs0) (key_set bs) (key_
     valid_b q among = All-contains IsValidKey xs0 q valid (from q among)
 
 -- a list that rises is its own set
-pub key_set-rising : (xs0 ks : List KeyName) → All IsValidKey ks → IsRising xs0 → ((k : KeyName) → Contains xs0 k → Contains ks k) → ((k : KeyName) → Contains ks k → Contains xs0 k) → xs0 ≡ key_set ks
+pub key_set-rising : (xs0 ks : List KeyName) → All IsValidKey ks → IsRising xs0 → ((k : KeyName) → Contains xs0 k → Contains ks k) →
+    ((k : KeyName) → Contains ks k → Contains xs0 k) → xs0 ≡ key_set ks
 key_set-rising xs0 ks valid rises to from = rising-same xs0 (key_set ks) rises (key_set-rises ks)
     (λ k there. key_set-has ks (λ q among. All-contains IsValidKey ks q valid among) k (to k there))
     (λ k there. from k (key_set-from ks k there))
@@ -136,11 +145,13 @@ key_set-rising xs0 ks valid rises to from = rising-same xs0 (key_set ks) rises (
 abbrev pub same_word : KeyName → KeyName → Bool
 same_word a b = packed a == packed b
 
-dedup-has : (k : KeyName) (xs : List KeyName) → ((q : KeyName) → Contains (k ∷ xs) q → IsValidKey q) → (q : KeyName) → Contains (k ∷ xs) q → Contains (dedup_from same_word k xs) q
+dedup-has : (k : KeyName) (xs : List KeyName) → ((q : KeyName) → Contains (k ∷ xs) q → IsValidKey q) → (q : KeyName) → Contains (k ∷ xs) q →
+    Contains (dedup_from same_word k xs) q
 dedup-has k [] valid q there = there
 dedup-has k (x ∷ xs) valid q there = elim (cases_Bool (same_word x k)) [
   | inl dropped ↦
-      let same : x ≡ k = packed-injective x k (valid x (Contains-tail k (x ∷ xs) x (Contains-head x xs))) (valid k (Contains-head k (x ∷ xs))) (eqb-true (packed x) (packed k) dropped) in
+      let same : x ≡ k = packed-injective x k (valid x (Contains-tail k (x ∷ xs) x (Contains-head x xs))) (valid k (Contains-head k (x ∷ xs)))
+      (eqb-true (packed x) (packed k) dropped) in
       let in_rest : (p : KeyName) → Contains (k ∷ x ∷ xs) p → Contains (k ∷ xs) p = λ p at. elim (Contains-cons_cases k (x ∷ xs) p at) [
         | inl here ↦ subst (Contains (k ∷ xs)) here (Contains-head k xs)
         | inr later ↦ elim (Contains-cons_cases x xs p later) [
@@ -148,11 +159,13 @@ dedup-has k (x ∷ xs) valid q there = elim (cases_Bool (same_word x k)) [
           | inr rest ↦ Contains-tail k xs p rest
         ]
       ] in
-      subst (λ zs. Contains zs q) (sym (cond-true (same_word x k) (dedup_from same_word k xs) (k ∷ dedup_from same_word x xs) dropped)) (dedup-has k xs (λ p at. valid p (widened k x xs p at)) q (in_rest q there))
-  | inr kept ↦ subst (λ zs. Contains zs q) (sym (cond-false (same_word x k) (dedup_from same_word k xs) (k ∷ dedup_from same_word x xs) kept)) (elim (Contains-cons_cases k (x ∷ xs) q there) [
-    | inl here ↦ subst (Contains (k ∷ dedup_from same_word x xs)) here (Contains-head k (dedup_from same_word x xs))
-    | inr later ↦ Contains-tail k (dedup_from same_word x xs) q (dedup-has x xs (λ p at. valid p (Contains-tail k (x ∷ xs) p at)) q later)
-  ])
+      subst (λ zs. Contains zs q) (sym (cond-true (same_word x k) (dedup_from same_word k xs) (k ∷ dedup_from same_word x xs) dropped))
+      (dedup-has k xs (λ p at. valid p (widened k x xs p at)) q (in_rest q there))
+  | inr kept ↦ subst (λ zs. Contains zs q) (sym (cond-false (same_word x k) (dedup_from same_word k xs) (k ∷ dedup_from same_word x xs) kept))
+      (elim (Contains-cons_cases k (x ∷ xs) q there) [
+        | inl here ↦ subst (Contains (k ∷ dedup_from same_word x xs)) here (Contains-head k (dedup_from same_word x xs))
+        | inr later ↦ Contains-tail k (dedup_from same_word x xs) q (dedup-has x xs (λ p at. valid p (Contains-tail k (x ∷ xs) p at)) q later)
+      ])
 ]
   where
     widened : (k x : KeyName) (xs : List KeyName) (p : KeyName) → Contains (k ∷ xs) p → Contains (k ∷ x ∷ xs) p
@@ -177,20 +190,25 @@ climbs-tail k xs climbs i j d lt within = climbs (suc i) (suc j) d (omega arith)
 dedup-rises : (k : KeyName) (xs : List KeyName) → Climbs xs → IsLeast k xs → IsRising (dedup_from same_word k xs)
 dedup-rises k [] climbs least = λ i j d lt within. absurd (omega arith)
 dedup-rises k (x ∷ xs) climbs least = elim (cases_Bool (same_word x k)) [
-  | inl dropped ↦ subst IsRising (sym (cond-true (same_word x k) (dedup_from same_word k xs) (k ∷ dedup_from same_word x xs) dropped)) (dedup-rises k xs (climbs-tail x xs climbs) (λ q there. least q (Contains-tail x xs q there)))
+  | inl dropped ↦ subst IsRising (sym (cond-true (same_word x k) (dedup_from same_word k xs) (k ∷ dedup_from same_word x xs) dropped))
+      (dedup-rises k xs (climbs-tail x xs climbs) (λ q there. least q (Contains-tail x xs q there)))
   | inr kept ↦
       let above = least x (Contains-head x xs) in
       let other = eqb-false (packed x) (packed k) kept in
       let rest = dedup-rises x xs (climbs-tail x xs climbs) (climbs-head x xs climbs) in
-      subst IsRising (sym (cond-false (same_word x k) (dedup_from same_word k xs) (k ∷ dedup_from same_word x xs) kept)) (AllPairs-cons Before k (dedup_from same_word x xs) (from_all {P = Before k} (dedup_from same_word x xs) (λ q there. elim (Contains-cons_cases x xs q (Contains-from_dedup same_word (x ∷ xs) q there)) [
+      subst IsRising (sym (cond-false (same_word x k) (dedup_from same_word k xs) (k ∷ dedup_from same_word x xs) kept))
+      (AllPairs-cons Before k (dedup_from same_word x xs)
+      (from_all {P = Before k} (dedup_from same_word x xs) (λ q there. elim (Contains-cons_cases x xs q (Contains-from_dedup same_word (x ∷ xs) q there)) [
         | inl here ↦ omega (arith, ap packed here)
         | inr later ↦ let le = climbs-head x xs climbs q later in omega arith
       ])) rest)
 ]
 
 -- a list that was sorted by its words, and then rid of repetitions, is the set of the keys
-pub key_set-sorted : (ks sorted done : List KeyName) → All IsValidKey ks → IsPermutation ks sorted → IsNonDecreasingBy packed sorted → done ≡ dedup same_word sorted → done ≡ key_set ks
-key_set-sorted ks [] done valid moved climbs is = key_set-rising done ks valid (rw is (λ i j d lt within. absurd (omega arith))) (λ k there. absurd (Contains-nil k (rw is at there))) (λ k there. absurd (Contains-nil k (Contains-permutation ks [] k moved there)))
+pub key_set-sorted : (ks sorted done : List KeyName) → All IsValidKey ks → IsPermutation ks sorted → IsNonDecreasingBy packed sorted →
+    done ≡ dedup same_word sorted → done ≡ key_set ks
+key_set-sorted ks [] done valid moved climbs is = key_set-rising done ks valid (rw is (λ i j d lt within. absurd (omega arith)))
+    (λ k there. absurd (Contains-nil k (rw is at there))) (λ k there. absurd (Contains-nil k (Contains-permutation ks [] k moved there)))
 key_set-sorted ks (x ∷ xs) done valid moved climbs is =
     let sorted : List KeyName = x ∷ xs in
     let pairs : Climbs sorted = λ i j d lt within. climbs i j d (omega arith) within in

@@ -1,4 +1,5 @@
-ghost use Rattle.std.specs.Prelude.{◌≡◌, ◌+◌, ◌<◌, ◌≤◌, true, false, [], ◌∷◌, None, Some, All, IfSome, IsSome, IsSomeAnd, vec_capacity};
+ghost use Rattle.std.specs.Prelude.{◌≡◌, ◌+◌, ◌<◌, ◌≤◌, true, false, [], ◌∷◌, None, Some, All};
+ghost use Rattle.std.specs.Prelude.{IfSome, IsSome, IsSomeAnd, vec_capacity};
 ghost use Rattle.sem_key.specs.declared.limits.TheConstants.{VPES};
 ghost use Rattle.sem_key.specs.Capability.{Capability};
 ghost use Rattle.sem_key.specs.CapList.{link_count};
@@ -13,7 +14,6 @@ ghost use Rattle.sem_machine.specs.Revokes.{begin, finished, opened};
 ghost use Rattle.sem_mark.specs.Marking.{HasSpace, LeadsHome, owning, pausing, revoking};
 
 use crate::opening::{done_job, open_job};
-use crate::outcomes::{answered, cut};
 use crate::owned::{own_cap, own_refusal};
 use sem_caps::Caps;
 use sem_dtu::Dtus;
@@ -24,9 +24,8 @@ use sem_park::Park;
 use sem_vpe::Vpes;
 
 /// The call `revoke`: the VPE revokes the capability at its selector, and waits, unless it is
-/// refused at once. Where no job has marked the capability, a job begins, but is not finished: its
-/// id is given where it is to be finished now. Where a job has, the VPE waits for that one. Takes no
-/// memory.
+/// refused at once. If no job has marked the capability, a job begins but does not finish; its id
+/// is returned if it is to finish now. If a job has marked it, the VPE waits for that job.
 pub fn revoke_call(
     setup: &Setup,
     kernel: u32,
@@ -42,16 +41,30 @@ pub fn revoke_call(
 ) -> (Outcome, Option<u32>)
     requires home { AreOurs setup.now kernel vpes.now }
     requires vpe { kernel_of_lem setup.now vpe ≡ kernel }
-    requires marker { IfSome (own (owning caps.old vpes.now no_side) vpe sel) (λ c. IfSome c.mark (λ j. IsSome (job_of jobs.old.jobs j))) }
+    requires marker { IfSome (own (owning caps.old vpes.now no_side) vpe sel)
+        (λ c. IfSome c.mark (λ j. IsSome (job_of jobs.old.jobs j))) }
     requires job { 0 < jobs.old.spare }
     requires ids { jobs.old.next < 4294967295 }
     requires boxes { HasBoxes setup.now outs.old }
     requires owners { All (LeadsHome setup.now) caps.old.caps }
     requires spare { link_count caps.old.caps ≤ outs.old.spare }
     requires space { HasSpace caps.old scratch.old }
-    ensures row { (s : Side) → record { side = finished setup.now kernel result.1 (revoking caps.new vpes.now dtus.new jobs.new park.new outs.new s); outcome = result.0 } ≡ revoke_row setup.now kernel (revoking caps.old vpes.now dtus.old jobs.old park.old outs.old s) vpe sel }
-    ensures opened { IsSome result.1 → (c : Capability) → own (owning caps.old vpes.now no_side) vpe sel ≡ Some c → (s : Side) → revoking caps.new vpes.now dtus.new jobs.new park.new outs.new s ≡ opened setup.now kernel c.key None (vpe ∷ []) false (parked_as vpe (RevokeWait jobs.old.next) (revoking caps.old vpes.now dtus.old jobs.old park.old outs.old s)) }
-    ensures unmarked { IsSome result.1 → IsSomeAnd (own (owning caps.old vpes.now no_side) vpe sel) (λ c. c.mark ≡ None) }
+    ensures row { (s : Side) →
+        record {
+          side = finished setup.now kernel result.1
+              (revoking caps.new vpes.now dtus.new jobs.new park.new outs.new s);
+          outcome = result.0;
+        }
+        ≡ revoke_row setup.now kernel
+        (revoking caps.old vpes.now dtus.old jobs.old park.old outs.old s) vpe sel }
+    ensures opened { IsSome result.1 → (c : Capability) →
+        own (owning caps.old vpes.now no_side) vpe sel ≡ Some c → (s : Side) →
+        revoking caps.new vpes.now dtus.new jobs.new park.new outs.new s
+        ≡ opened setup.now kernel c.key None (vpe ∷ []) false
+        (parked_as vpe (RevokeWait jobs.old.next)
+        (revoking caps.old vpes.now dtus.old jobs.old park.old outs.old s)) }
+    ensures unmarked { IsSome result.1 →
+        IsSomeAnd (own (owning caps.old vpes.now no_side) vpe sel) (λ c. c.mark ≡ None) }
     ensures there { IfSome result.1 (λ j. IsSome (job_of jobs.new.jobs j)) }
     ensures done { IfSome result.1 (λ j. (j ≡ jobs.old.next)) }
     ensures boxes { HasBoxes setup.now outs.new }
@@ -62,26 +75,26 @@ pub fn revoke_call(
     ensures space { HasSpace caps.new scratch.new }
     ensures gone { vec_capacity scratch.new.gone ≡ vec_capacity scratch.old.gone }
 {
-    // So that the proof knows that the VPE has a place.
+    // Shows the proof that the VPE has a place.
     let _ = vpes.alive(vpe);
     let Some(cap) = own_cap(caps, vpes, vpe, sel) else {
-        return (answered(Code::NoCap), None);
+        return (Outcome::answered(Code::NoCap), None);
     };
     let key = cap.key;
     if let Some(job) = cap.mark {
         jobs.wait(job, vpe);
         park.park(vpe, Parked::RevokeWait { job });
-        return (cut(key), None);
+        return (Outcome::cut(key), None);
     }
     let done = begin_call(
         setup, kernel, key, vpe, false, caps, dtus, jobs, park, outs, scratch,
     );
-    (cut(key), done)
+    (Outcome::cut(key), done)
 }
 
-/// The call `clear`: the VPE revokes what was made from the capability at its selector, keeps the
-/// capability, and waits, unless it is refused at once. A job begins, but is not finished: its id
-/// is given where it is to be finished now. Takes no memory.
+/// The call `clear`: the VPE revokes everything made from the capability at its selector, keeps the
+/// capability, and waits, unless it is refused at once. A job begins but does not finish; its id is
+/// returned if it is to finish now.
 pub fn clear_call(
     setup: &Setup,
     kernel: u32,
@@ -103,9 +116,22 @@ pub fn clear_call(
     requires owners { All (LeadsHome setup.now) caps.old.caps }
     requires spare { link_count caps.old.caps ≤ outs.old.spare }
     requires space { HasSpace caps.old scratch.old }
-    ensures row { (s : Side) → record { side = finished setup.now kernel result.1 (revoking caps.new vpes.now dtus.new jobs.new park.new outs.new s); outcome = result.0 } ≡ clear_row setup.now kernel (revoking caps.old vpes.now dtus.old jobs.old park.old outs.old s) vpe sel }
-    ensures opened { IsSome result.1 → (c : Capability) → own (owning caps.old vpes.now no_side) vpe sel ≡ Some c → (s : Side) → revoking caps.new vpes.now dtus.new jobs.new park.new outs.new s ≡ opened setup.now kernel c.key None (vpe ∷ []) true (parked_as vpe (RevokeWait jobs.old.next) (revoking caps.old vpes.now dtus.old jobs.old park.old outs.old s)) }
-    ensures unmarked { IsSome result.1 → IsSomeAnd (own (owning caps.old vpes.now no_side) vpe sel) (λ c. c.mark ≡ None) }
+    ensures row { (s : Side) →
+        record {
+          side = finished setup.now kernel result.1
+              (revoking caps.new vpes.now dtus.new jobs.new park.new outs.new s);
+          outcome = result.0;
+        }
+        ≡ clear_row setup.now kernel
+        (revoking caps.old vpes.now dtus.old jobs.old park.old outs.old s) vpe sel }
+    ensures opened { IsSome result.1 → (c : Capability) →
+        own (owning caps.old vpes.now no_side) vpe sel ≡ Some c → (s : Side) →
+        revoking caps.new vpes.now dtus.new jobs.new park.new outs.new s
+        ≡ opened setup.now kernel c.key None (vpe ∷ []) true
+        (parked_as vpe (RevokeWait jobs.old.next)
+        (revoking caps.old vpes.now dtus.old jobs.old park.old outs.old s)) }
+    ensures unmarked { IsSome result.1 →
+        IsSomeAnd (own (owning caps.old vpes.now no_side) vpe sel) (λ c. c.mark ≡ None) }
     ensures there { IfSome result.1 (λ j. IsSome (job_of jobs.new.jobs j)) }
     ensures done { IfSome result.1 (λ j. (j ≡ jobs.old.next)) }
     ensures boxes { HasBoxes setup.now outs.new }
@@ -116,22 +142,22 @@ pub fn clear_call(
     ensures space { HasSpace caps.new scratch.new }
     ensures gone { vec_capacity scratch.new.gone ≡ vec_capacity scratch.old.gone }
 {
-    // So that the proof knows that the VPE has a place.
+    // Shows the proof that the VPE has a place.
     let _ = vpes.alive(vpe);
     if let Some(code) = own_refusal(caps, vpes, vpe, sel) {
-        return (answered(code), None);
+        return (Outcome::answered(code), None);
     }
     let Some(cap) = own_cap(caps, vpes, vpe, sel) else {
-        return (answered(Code::NoCap), None);
+        return (Outcome::answered(Code::NoCap), None);
     };
     let key = cap.key;
     let done = begin_call(
         setup, kernel, key, vpe, true, caps, dtus, jobs, park, outs, scratch,
     );
-    (cut(key), done)
+    (Outcome::cut(key), done)
 }
 
-// A job begins for the root, and the VPE waits for it. Gives its id where it is to be finished now.
+// A job begins for the root, and the VPE waits for it. Returns its id if it is to finish now.
 fn begin_call(
     setup: &Setup,
     kernel: u32,
@@ -152,8 +178,16 @@ fn begin_call(
     requires owners { All (LeadsHome setup.now) caps.old.caps }
     requires spare { link_count caps.old.caps ≤ outs.old.spare }
     requires space { HasSpace caps.old scratch.old }
-    ensures row { (s : Side) → finished setup.now kernel result (pausing caps.new dtus.new jobs.new park.new outs.new s) ≡ begin setup.now kernel root None (vpe ∷ []) keep (parked_as vpe (RevokeWait jobs.old.next) (pausing caps.old dtus.old jobs.old park.old outs.old s)) }
-    ensures opened { (s : Side) → pausing caps.new dtus.new jobs.new park.new outs.new s ≡ opened setup.now kernel root None (vpe ∷ []) keep (parked_as vpe (RevokeWait jobs.old.next) (pausing caps.old dtus.old jobs.old park.old outs.old s)) }
+    ensures row { (s : Side) →
+        finished setup.now kernel result (pausing caps.new dtus.new jobs.new park.new outs.new s)
+        ≡ begin setup.now kernel root None (vpe ∷ []) keep
+        (parked_as vpe (RevokeWait jobs.old.next)
+        (pausing caps.old dtus.old jobs.old park.old outs.old s)) }
+    ensures opened { (s : Side) →
+        pausing caps.new dtus.new jobs.new park.new outs.new s
+        ≡ opened setup.now kernel root None (vpe ∷ []) keep
+        (parked_as vpe (RevokeWait jobs.old.next)
+        (pausing caps.old dtus.old jobs.old park.old outs.old s)) }
     ensures there { IfSome result (λ j. IsSome (job_of jobs.new.jobs j)) }
     ensures done { IfSome result (λ j. (j ≡ jobs.old.next)) }
     ensures boxes { HasBoxes setup.now outs.new }

@@ -1,13 +1,12 @@
-//! The beginning of a revocation: a job is opened, what it revokes is marked and unbound, and what
-//! was made from that elsewhere is asked for. The calls `revoke` and `clear`, and the requests of
-//! other kernels, begin with it.
+//! The beginning of a revocation: a job opens, what it revokes is marked and unbound, and requests
+//! go out for the children elsewhere. The calls `revoke` and `clear`, and the requests of other
+//! kernels, begin with it. No function here takes memory.
 #![tactic(auto)]
 
 mod begin;
 mod calls;
 mod messages;
 mod opening;
-mod outcomes;
 mod owned;
 mod region;
 mod requests;

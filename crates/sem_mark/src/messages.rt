@@ -5,7 +5,7 @@ ghost use Rattle.sem_msg.specs.Message.{Fits};
 use sem_key::Key;
 use sem_msg::Message;
 
-// The message that asks for a key to be revoked, for a job.
+// The message that asks another kernel to revoke a key, for a job.
 pub fn request(key: Key, job: u32) -> Message
     ensures message { result ≡ RevokeReq key job }
     ensures fits { Fits result }

@@ -12,11 +12,12 @@ use sem_key::Cap;
 use sem_msg::{Code, Slot};
 use sem_vpe::Vpes;
 
-// The capability at a selector of the VPE, which is of this kernel; none where nothing is held
-// there.
+// The capability at a selector of the VPE; none if the selector holds none. The VPE must be of this
+// kernel.
 pub fn own_cap<'a>(caps: &'a Caps, vpes: &Vpes, vpe: u16, sel: u8) -> Option<&'a Cap>
     requires { IsOurs vpes.now vpe }
-    ensures { option_map capability_of (option_copied result) ≡ own (owning caps.now vpes.now no_side) vpe sel }
+    ensures { option_map capability_of (option_copied result)
+        ≡ own (owning caps.now vpes.now no_side) vpe sel }
 {
     match vpes.selector(vpe, sel) {
         Slot::Held(key) => caps.get(key),
@@ -24,7 +25,8 @@ pub fn own_cap<'a>(caps: &'a Caps, vpes: &Vpes, vpe: u16, sel: u8) -> Option<&'a
     }
 }
 
-// Why the VPE can't clear what is at that selector: nothing is held there, or it is being revoked.
+// Why the VPE can't clear the capability at that selector: it holds none, or one that is being
+// revoked.
 pub fn own_refusal(caps: &Caps, vpes: &Vpes, vpe: u16, sel: u8) -> Option<Code>
     requires { IsOurs vpes.now vpe }
     ensures { result ≡ first_code (own_tests (own (owning caps.now vpes.now no_side) vpe sel)) }

@@ -1,24 +1,27 @@
-ghost use Rattle.std.specs.Prelude.{◌≡◌, ◌<◌, ◌≤◌, ◌+◌, length, vec_len, vec_capacity, slice_index_or, [], ◌++◌, All, flat_map};
+ghost use Rattle.std.specs.Prelude.{◌≡◌, ◌<◌, ◌≤◌, ◌+◌, length, vec_len, vec_capacity};
+ghost use Rattle.std.specs.Prelude.{slice_index_or, [], ◌++◌, All, flat_map};
 ghost use Rattle.sem_key.specs.KeyName.{KeyName, IsValidKey};
 ghost use Rattle.sem_key.specs.KeyList.{IsRising, key_set};
 ghost use Rattle.sem_key.specs.CapList.{link_count};
 ghost use Rattle.sem_key.specs.Lists.{in_turn};
 ghost use Rattle.sem_key.specs.Region.{has_key, region, children_of, all_marked};
 ghost use Rattle.sem_caps.specs.CapStore.{IsCapStore};
-ghost use Rattle.sem_mark.specs.Walks.{Walk, is_open as is_open_lem, children_at, open_count, reach as reach_lem};
+ghost use Rattle.sem_mark.specs.Walks.{Walk, is_open as is_open_lem, children_at, open_count};
+ghost use Rattle.sem_mark.specs.Walks.{reach as reach_lem};
 
 use sem_caps::Caps;
 use sem_key::{Key, pack};
 
-// Lets a job mark the region of the root. Gives the keys of the region and those of its children,
-// both in rising order. Takes no memory.
+// Lets a job mark the region of the root. Lists the keys of the region and those of its children,
+// both in rising order.
 pub fn mark_region(caps: &mut Caps, root: Key, job: u32, keys: &mut Vec<Key>, links: &mut Vec<Key>)
     requires room { length caps.old.caps ≤ vec_capacity keys.old }
     requires link_room { link_count caps.old.caps ≤ vec_capacity links.old }
     ensures keys { keys.new.items ≡ region caps.old.caps root }
     ensures rising { IsRising keys.new.items }
     ensures links { links.new.items ≡ children_of caps.old.caps (region caps.old.caps root) }
-    ensures caps { caps.new ≡ record caps.old { caps = all_marked (region caps.old.caps root) job caps.old.caps } }
+    ensures caps { caps.new
+        ≡ record caps.old { caps = all_marked (region caps.old.caps root) job caps.old.caps } }
     ensures capacity { vec_capacity keys.new ≡ vec_capacity keys.old }
     ensures link_capacity { vec_capacity links.new ≡ vec_capacity links.old }
 {
@@ -29,15 +32,17 @@ pub fn mark_region(caps: &mut Caps, root: Key, job: u32, keys: &mut Vec<Key>, li
     sort_keys(links);
 }
 
-// Marks the region of the root, and lists its keys and those of its children. Both lists are empty
-// before. What is marked was walked to, so no capability is walked to twice.
+// Marks the region of the root, and lists its keys and those of its children. Both lists must be
+// empty before. A marked capability was visited, so none is visited twice.
 fn walk_region(caps: &mut Caps, root: Key, job: u32, keys: &mut Vec<Key>, links: &mut Vec<Key>)
     requires empty { keys.old.items ≡ [] }
     requires no_links { links.old.items ≡ [] }
     requires room { length caps.old.caps ≤ vec_capacity keys.old }
     requires link_room { link_count caps.old.caps ≤ vec_capacity links.old }
-    ensures keys { (k : KeyName) → has_key keys.new.items k ≡ has_key (region caps.old.caps root) k }
-    ensures caps { caps.new ≡ record caps.old { caps = all_marked (region caps.old.caps root) job caps.old.caps } }
+    ensures keys { (k : KeyName) →
+        has_key keys.new.items k ≡ has_key (region caps.old.caps root) k }
+    ensures caps { caps.new
+        ≡ record caps.old { caps = all_marked (region caps.old.caps root) job caps.old.caps } }
     ensures links { links.new.items ≡ flat_map (children_at caps.old.caps) keys.new.items }
     ensures valid { All IsValidKey links.new.items }
     ensures store { IsCapStore caps.old }
@@ -52,14 +57,18 @@ fn walk_region(caps: &mut Caps, root: Key, job: u32, keys: &mut Vec<Key>, links:
     }
 }
 
-// Lists the children of the capability of that key in `links`, and marks and lists in `keys` those
-// of them that are held without a mark.
+// Lists the children of the capability of that key in `links`. Marks those of them that are held
+// without a mark, and lists them in `keys`.
 fn reach_children(caps: &mut Caps, parent: Key, job: u32, keys: &mut Vec<Key>, links: &mut Vec<Key>)
-    requires link_room { vec_len links.old + length (children_at caps.old.caps parent) ≤ vec_capacity links.old }
+    requires link_room { vec_len links.old + length (children_at caps.old.caps parent)
+        ≤ vec_capacity links.old }
     requires room { vec_len keys.old + open_count caps.old.caps ≤ vec_capacity keys.old }
-    ensures walk { (record { caps = caps.new.caps; keys = keys.new.items }) ≡ in_turn (reach_lem job) (children_at caps.old.caps parent) (record { caps = caps.old.caps; keys = keys.old.items }) }
+    ensures walk { (record { caps = caps.new.caps; keys = keys.new.items })
+        ≡ in_turn (reach_lem job) (children_at caps.old.caps parent)
+        (record { caps = caps.old.caps; keys = keys.old.items }) }
     ensures rest { caps.new ≡ record caps.old { caps = caps.new.caps } }
-    ensures room { vec_len keys.new + open_count caps.new.caps ≤ vec_len keys.old + open_count caps.old.caps }
+    ensures room { vec_len keys.new + open_count caps.new.caps
+        ≤ vec_len keys.old + open_count caps.old.caps }
     ensures capacity { vec_capacity keys.new ≡ vec_capacity keys.old }
     ensures links { links.new.items ≡ links.old.items ++ children_at caps.old.caps parent }
     ensures valid { All IsValidKey links.old.items → All IsValidKey links.new.items }
@@ -76,9 +85,11 @@ fn reach_children(caps: &mut Caps, parent: Key, job: u32, keys: &mut Vec<Key>, l
 fn reach(caps: &mut Caps, key: Key, job: u32, keys: &mut Vec<Key>)
     requires room { vec_len keys.old + open_count caps.old.caps ≤ vec_capacity keys.old }
     ensures store { IsCapStore caps.old }
-    ensures walk { (record { caps = caps.new.caps; keys = keys.new.items }) ≡ reach_lem job key (record { caps = caps.old.caps; keys = keys.old.items }) }
+    ensures walk { (record { caps = caps.new.caps; keys = keys.new.items })
+        ≡ reach_lem job key (record { caps = caps.old.caps; keys = keys.old.items }) }
     ensures rest { caps.new ≡ record caps.old { caps = caps.new.caps } }
-    ensures room { vec_len keys.new + open_count caps.new.caps ≤ vec_len keys.old + open_count caps.old.caps }
+    ensures room { vec_len keys.new + open_count caps.new.caps
+        ≤ vec_len keys.old + open_count caps.old.caps }
     ensures capacity { vec_capacity keys.new ≡ vec_capacity keys.old }
 {
     if is_open(caps, key) {
@@ -108,7 +119,7 @@ fn child_count(caps: &Caps, key: Key) -> usize
     }
 }
 
-// One of the children of the capability of that key, by its place.
+// The child of the capability of that key at that place.
 fn child_at(caps: &Caps, key: Key, at: usize) -> Key
     requires { at < length (children_at caps.now.caps key) }
     ensures child { result ≡ slice_index_or (children_at caps.now.caps key) at result }
@@ -120,7 +131,7 @@ fn child_at(caps: &Caps, key: Key, at: usize) -> Key
     cap.children.as_slice()[at].key()
 }
 
-// Puts the keys in rising order, each once.
+// Puts the keys into rising order, each once.
 fn sort_keys(keys: &mut Vec<Key>)
     requires { All IsValidKey keys.old.items }
     ensures keys { keys.new.items ≡ key_set keys.old.items }

@@ -1,4 +1,5 @@
-ghost use Rattle.std.specs.Prelude.{◌≡◌, ◌+◌, ◌<◌, ◌≤◌, true, false, [], None, Some, All, IfSome, IsSome, IsSomeAnd, vec_capacity};
+ghost use Rattle.std.specs.Prelude.{◌≡◌, ◌+◌, ◌<◌, ◌≤◌, true, false, [], None, Some, All, IfSome};
+ghost use Rattle.std.specs.Prelude.{IsSome, IsSomeAnd, vec_capacity};
 ghost use Rattle.sem_key.specs.CapList.{cap_of, link_count};
 ghost use Rattle.sem_msg.specs.declared.message.Message.TheVariants.{RevokeDone, RevokeReq};
 ghost use Rattle.sem_msg.specs.declared.state.Up.TheVariants.{Remote};
@@ -23,10 +24,10 @@ use sem_msg::{Outboxes, Setup, Up};
 use sem_park::Park;
 use sem_vpe::Vpes;
 
-/// A request of the kernel `from` to revoke the key, for its job. Where the key is held and no job
-/// has marked it, a job begins, but is not finished: its id is given where it is to be finished
-/// now. Where a job has, the other kernel waits for that one. Where the key is not held, the call
-/// that was about to install it is cancelled, and the other kernel is told at once. Takes no memory.
+/// A request of the kernel `from` to revoke the key, for its job. If the key is held and no job has
+/// marked it, a job begins but does not finish; its id is returned if it is to finish now. If a job
+/// has marked it, the other kernel waits for that job. If the key is not held, the call that was
+/// about to install it is cancelled, and the other kernel is told at once.
 pub fn revoke_request(
     setup: &Setup,
     kernel: u32,
@@ -43,15 +44,24 @@ pub fn revoke_request(
 ) -> Option<u32>
     requires home { AreOurs setup.now kernel vpes.old }
     requires from { from < setup.now.kernels }
-    requires ready { is_ready_with key (state_of park.old key.vpe) ≡ true → kernel_of_lem setup.now key.vpe ≡ kernel }
+    requires ready { is_ready_with key (state_of park.old key.vpe) ≡ true →
+        kernel_of_lem setup.now key.vpe ≡ kernel }
     requires job { 0 < jobs.old.spare }
     requires ids { jobs.old.next < 4294967295 }
     requires boxes { HasBoxes setup.now outs.old }
     requires owners { All (LeadsHome setup.now) caps.old.caps }
     requires spare { link_count caps.old.caps < outs.old.spare }
     requires space { HasSpace caps.old scratch.old }
-    ensures row { (s : Side) → finished setup.now kernel result (revoking caps.new vpes.new dtus.new jobs.new park.new outs.new s) ≡ handle_row setup.now kernel (revoking caps.old vpes.old dtus.old jobs.old park.old outs.old s) from (RevokeReq key job) }
-    ensures opened { IsSome result → (s : Side) → revoking caps.new vpes.new dtus.new jobs.new park.new outs.new s ≡ opened setup.now kernel key (Some (Remote from job)) [] false (revoking caps.old vpes.old dtus.old jobs.old park.old outs.old s) }
+    ensures row { (s : Side) →
+        finished setup.now kernel result
+        (revoking caps.new vpes.new dtus.new jobs.new park.new outs.new s)
+        ≡ handle_row setup.now kernel
+        (revoking caps.old vpes.old dtus.old jobs.old park.old outs.old s) from
+        (RevokeReq key job) }
+    ensures opened { IsSome result → (s : Side) →
+        revoking caps.new vpes.new dtus.new jobs.new park.new outs.new s
+        ≡ opened setup.now kernel key (Some (Remote from job)) [] false
+        (revoking caps.old vpes.old dtus.old jobs.old park.old outs.old s) }
     ensures unmarked { IsSome result → IsSomeAnd (cap_of caps.old.caps key) (λ c. c.mark ≡ None) }
     ensures there { IfSome result (λ j. IsSome (job_of jobs.new.jobs j)) }
     ensures done { IfSome result (λ j. (j ≡ jobs.old.next)) }
@@ -90,11 +100,14 @@ pub fn revoke_request(
     done_job(jobs, begun)
 }
 
-// The call that was about to install the key will not, and the selector that it was promised is
+// The call that was about to install the key no longer will, and the selector promised to it is
 // free.
 fn cancel_obtain(key: Key, vpes: &mut Vpes, park: &mut Park)
-    requires ready { is_ready_with key (state_of park.old key.vpe) ≡ true → IsOurs vpes.old key.vpe }
-    ensures row { (s : Side) → with_vpes vpes.new.rows (with_parks park.new s) ≡ obtain_cancelled key (with_vpes vpes.old.rows (with_parks park.old s)) }
+    requires ready { is_ready_with key (state_of park.old key.vpe) ≡ true →
+        IsOurs vpes.old key.vpe }
+    ensures row { (s : Side) →
+        with_vpes vpes.new.rows (with_parks park.new s)
+        ≡ obtain_cancelled key (with_vpes vpes.old.rows (with_parks park.old s)) }
     ensures ours { vpes.new.ours ≡ vpes.old.ours }
 {
     if let Some(sel) = park.cancel(key) {

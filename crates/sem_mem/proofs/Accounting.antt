@@ -1,5 +1,6 @@
 -- The account of accesses, with one access more.
-use Rattle.std.proofs.Common.{◌≡◌, ℕ, ◌+◌, ◌<◌, ◌≤◌, true, cond, List, [], ◌∷◌, ◌++◌, length, map, take, get_or, Some, None, refl, sym, ◌∙◌, ap, subst, arith, append-nil}
+use Rattle.std.proofs.Common.{◌≡◌, ℕ, ◌+◌, ◌<◌, ◌≤◌, true, cond, List, [], ◌∷◌, ◌++◌, length, map, take, get_or, Some, None, refl, sym, ◌∙◌, ap, subst, arith}
+use Rattle.std.proofs.Common.{append-nil}
 use Rattle.std.specs.List.{All, filter}
 use Rattle.std.specs.Prelude.{nat_lt, not}
 use Rattle.std.specs.Option.{option_to_list}
@@ -32,12 +33,14 @@ use Rattle.sem_mem.proofs.Telling.{told_reads, looked-same, before-it, kept-more
 
 last-same : (xs : List Access) (x : Access) (n a : ℕ) → n ≤ x.entry → last_write_in (xs ++ x ∷ []) n a ≡ last_write_in xs n a
 last-same xs x n a early =
-    let none : filter (is_write_before n a) (x ∷ []) ≡ [] = cond-false (is_write_before n a x) (x ∷ []) [] (and_left (nat_lt x.entry n) (is_write_at a x) (le-ltb x.entry n early)) in
+    let none : filter (is_write_before n a) (x ∷ []) ≡ [] =
+    cond-false (is_write_before n a x) (x ∷ []) [] (and_left (nat_lt x.entry n) (is_write_at a x) (le-ltb x.entry n early)) in
     ap (λ zs. greatest (map (λ (y : Access). y.entry) zs))
     (filter-append (is_write_before n a) xs (x ∷ []) ∙ (ap (λ zs. filter (is_write_before n a) xs ++ zs) none ∙ append-nil (filter (is_write_before n a) xs)))
 
 found-same : (xs : List Access) (x y : Access) → y.entry < x.entry → found_by (xs ++ x ∷ []) y ≡ found_by xs y
-found-same xs x y early = looked-same (last_write_in (xs ++ x ∷ []) y.entry) (last_write_in xs y.entry) (λ a. last-same xs x y.entry a (omega (arith, early))) y.base y.len
+found-same xs x y early = looked-same (last_write_in (xs ++ x ∷ []) y.entry) (last_write_in xs y.entry) (λ a. last-same xs x y.entry a (omega (arith, early)))
+    y.base y.len
 
 map-same : (f g : Access → List (List ℕ)) (zs : List Access) → All (λ z. f z ≡ g z) zs → map f zs ≡ map g zs
 map-same f g [] same = refl
@@ -48,7 +51,8 @@ map-same f g (z ∷ zs) same =
 earlier-told : (xs : List Access) (x : Access) → AreBefore x.entry xs → told_reads (xs ++ x ∷ []) xs ≡ told_reads xs xs
 earlier-told xs x before =
     ap text (map-same (λ y. read_line y (found_by (xs ++ x ∷ []) y)) (λ y. read_line y (found_by xs y)) (reads xs)
-    (All-weaker (λ (y : Access). y.entry < x.entry) (λ (y : Access). read_line y (found_by (xs ++ x ∷ []) y) ≡ read_line y (found_by xs y)) (λ y early. ap (read_line y) (found-same xs x y early)) (reads xs)
+    (All-weaker (λ (y : Access). y.entry < x.entry) (λ (y : Access). read_line y (found_by (xs ++ x ∷ []) y) ≡ read_line y (found_by xs y))
+    (λ y early. ap (read_line y) (found-same xs x y early)) (reads xs)
     (All-filter (λ (y : Access). not y.write) (λ (y : Access). y.entry < x.entry) xs before)))
 
 -- One access more, which stands behind the others.
@@ -83,7 +87,8 @@ module _ (xs : List Access) (x : Access) (order : AreInOrder (xs ++ x ∷ [])) w
       → new.lines.items ≡ old.lines.items ++ cond x.write [] (line (read_line x (looked (entry_at old.memory) x.base x.len)))
       → IsAccount ys new
   account-more old new is written newest appended =
-      let kept : (a : ℕ) → entry_at old.memory a ≡ greatest_entry (is_write_at a) (take i ys) = λ a. is.kept a ∙ ap (greatest_entry (is_write_at a)) (sym seam) in
+      let kept : (a : ℕ) → entry_at old.memory a ≡ greatest_entry (is_write_at a) (take i ys) = λ a. is.kept a
+      ∙ ap (greatest_entry (is_write_at a)) (sym seam) in
       record {
         kept = λ a. kept-more ys order i x at within (entry_at old.memory) (entry_at new.memory) kept written a ∙ ap (greatest_entry (is_write_at a)) whole;
         newer = λ n before.
@@ -92,13 +97,15 @@ module _ (xs : List Access) (x : Access) (order : AreInOrder (xs ++ x ∷ [])) w
         told =
             appended
             ∙ (ap (λ l. old.lines.items ++ cond x.write [] (line (read_line x l))) (found-here ys order i x at within (entry_at old.memory) kept)
-            ∙ (ap (λ bs. bs ++ cond x.write [] (line (read_line x (found_by ys x)))) (is.told ∙ (sym (earlier-told xs x past-before) ∙ ap (told_reads ys) (sym seam)))
+            ∙ (ap (λ bs. bs ++ cond x.write [] (line (read_line x (found_by ys x)))) (is.told
+            ∙ (sym (earlier-told xs x past-before) ∙ ap (told_reads ys) (sym seam)))
             ∙ (sym (told-more ys order i x at within)
             ∙ ap (told_reads ys) whole)));
       }
 
 -- the access of the next entry comes behind those of the past ones
-pub accesses-next : (T : Setup) → IsSetup T → (past : List Entry) (e : Entry) → IsSchedule T (past ++ e ∷ []) → accesses T past ++ option_to_list (access_by T (world_after T past) (length past) (transfer_of e)) ≡ accesses T (past ++ e ∷ [])
+pub accesses-next : (T : Setup) → IsSetup T → (past : List Entry) (e : Entry) → IsSchedule T (past ++ e ∷ []) →
+    accesses T past ++ option_to_list (access_by T (world_after T past) (length past) (transfer_of e)) ≡ accesses T (past ++ e ∷ [])
 accesses-next T valid past e runs =
     let J : List Entry = past ++ e ∷ [] in
     let n : ℕ = length past in
@@ -116,11 +123,13 @@ accesses-next T valid past e runs =
     ∙ ap (accesses T) whole)
 
 -- One entry more.
-module _ (T : Setup) (valid : IsSetup T) (past : List Entry) (e : Entry) (runs : IsSchedule T (past ++ e ∷ [])) (old : Account) (is : IsAccountBefore T past e old) where
+module _ (T : Setup) (valid : IsSetup T) (past : List Entry) (e : Entry) (runs : IsSchedule T (past ++ e ∷ [])) (old : Account)
+    (is : IsAccountBefore T past e old) where
   -- it reads or writes nothing
   pub account-same : old.next ≡ None → IsAccountOf T (past ++ e ∷ []) old
   account-same none =
-      let same : accesses T past ≡ accesses T (past ++ e ∷ []) = sym (append-nil (accesses T past)) ∙ (ap (λ o. accesses T past ++ option_to_list o) (sym none ∙ is.next) ∙ accesses-next T valid past e runs) in
+      let same : accesses T past ≡ accesses T (past ++ e ∷ []) = sym (append-nil (accesses T past))
+      ∙ (ap (λ o. accesses T past ++ option_to_list o) (sym none ∙ is.next) ∙ accesses-next T valid past e runs) in
       subst (λ xs. IsAccount xs old) same is.past
 
   module _ (x : Access) (some : old.next ≡ Some x) where
@@ -141,4 +150,5 @@ module _ (T : Setup) (valid : IsSetup T) (past : List Entry) (e : Entry) (runs :
         → IsNewer new.memory (x.entry + 1)
         → new.lines.items ≡ old.lines.items ++ cond x.write [] (line (read_line x (looked (entry_at old.memory) x.base x.len)))
         → IsAccountOf T (past ++ e ∷ []) new
-    account-next new written newest appended = subst (λ xs. IsAccount xs new) listed (account-more (accesses T past) x order-here old new is.past written newest appended)
+    account-next new written newest appended =
+        subst (λ xs. IsAccount xs new) listed (account-more (accesses T past) x order-here old new is.past written newest appended)

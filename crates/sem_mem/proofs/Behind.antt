@@ -28,7 +28,8 @@ some-runs b e (r ∷ rs) are = run-before 0 None r rs (first-run b e r rs are) (
 -- the first of them
 pub runs-before : (b : ℕ) (e : Option ℕ) (rs qs : List Run) → AreRunsBehind b e (rs ++ qs) → AreRunsBehind b e rs
 runs-before b e [] qs are = no-runs b e
-runs-before b e (r ∷ rs) qs are = run-before b e r rs (first-run b e r (rs ++ qs) are) (first-apart b e r (rs ++ qs) are) (runs-before (r.base + r.len) (Some r.entry) rs qs (more-runs b e r (rs ++ qs) are))
+runs-before b e (r ∷ rs) qs are = run-before b e r rs (first-run b e r (rs ++ qs) are) (first-apart b e r (rs ++ qs) are)
+    (runs-before (r.base + r.len) (Some r.entry) rs qs (more-runs b e r (rs ++ qs) are))
 
 -- the entry of the last
 abbrev pub entry_behind : Option ℕ → List Run → Option ℕ
@@ -63,7 +64,8 @@ begin-behind b e [] are = All-nil (BeginsFrom b)
 begin-behind b e (r ∷ rs) are =
     let apart = first-apart b e r rs are in
     let later : (q : Run) → BeginsFrom (r.base + r.len) q → BeginsFrom b q = λ q from. omega (arith, apart.0, from) in
-    All-cons (BeginsFrom b) r rs apart.0 (All-weaker (BeginsFrom (r.base + r.len)) (BeginsFrom b) later rs (begin-behind (r.base + r.len) (Some r.entry) rs (more-runs b e r rs are)))
+    All-cons (BeginsFrom b) r rs apart.0
+    (All-weaker (BeginsFrom (r.base + r.len)) (BeginsFrom b) later rs (begin-behind (r.base + r.len) (Some r.entry) rs (more-runs b e r rs are)))
 
 -- What they do not tell.
 

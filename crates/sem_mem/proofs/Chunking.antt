@@ -1,5 +1,6 @@
 -- Chunks of runs: they rise, and what a range meets lies in those that its two searches find.
-use Rattle.std.proofs.Common.{◌≡◌, ℕ, zero, suc, ◌+◌, ◌-◌, ◌≤◌, ◌<◌, true, false, List, [], ◌∷◌, ◌++◌, length, map, take, drop, get_or, Option, Some, None, refl, sym, ◌∙◌, ap, subst, arith}
+use Rattle.std.proofs.Common.{◌≡◌, ℕ, zero, suc, ◌+◌, ◌-◌, ◌≤◌, ◌<◌, true, false, List, [], ◌∷◌, ◌++◌, length, map, take, drop, get_or, Option, Some, None}
+use Rattle.std.proofs.Common.{refl, sym, ◌∙◌, ap, subst, arith}
 use Rattle.std.specs.Global.{Vec}
 use Rattle.std.specs.List.{All, slice_range, slice_set, splice}
 use Rattle.std.specs.List.Sorted.{IsNonDecreasingBy, IsPartitionPoint}
@@ -7,7 +8,8 @@ use Rattle.std.specs.Prelude.{nat_le, nat_lt, min}
 use Rattle.std.proofs.lemmas.Bool.{leb-true, ltb-false}
 use Rattle.std.proofs.lemmas.List.Concat.{flat_map-append}
 use Rattle.std.proofs.Math.Seq.{take-nil, drop-nil}
-use Rattle.std.proofs.lemmas.List.{append-nil, append_assoc, set_split, take_more, take-append-drop, get_or-take, get_or-drop, get_or-map, length-take, length-drop, length-map, map-append, map-set, take-map, drop-map}
+use Rattle.std.proofs.lemmas.List.{append-nil, append_assoc, set_split, take_more, take-append-drop, get_or-take, get_or-drop, get_or-map, length-take}
+use Rattle.std.proofs.lemmas.List.{length-drop, length-map, map-append, map-set, take-map, drop-map}
 use Rattle.std.proofs.lemmas.List.Elements.{All-nil, All-cons, All-head, All-tail, All-append, All-weaker, All-get_or, All-from_get_or, All-take, All-drop}
 use Rattle.sem_access.specs.declared.run.Run.{Run}
 use Rattle.sem_access.specs.LastWrites.{looked}
@@ -31,7 +33,8 @@ IsChunk c = All (EndsBy (end_behind 0 c.items)) c.items × All (BeginsFrom (begi
 
 -- what a chunk is, of its runs
 abbrev IsPart : ℕ → List Run → Type 0
-IsPart b rs = (b ≤ beginning rs) × (beginning rs ≤ end_behind 0 rs) × All (EndsBy (end_behind 0 rs)) rs × All (BeginsFrom (beginning rs)) rs × (end_behind b rs ≡ end_behind 0 rs)
+IsPart b rs = (b ≤ beginning rs) × (beginning rs ≤ end_behind 0 rs) × All (EndsBy (end_behind 0 rs)) rs × All (BeginsFrom (beginning rs)) rs
+    × (end_behind b rs ≡ end_behind 0 rs)
 
 part : (b : ℕ) (e : Option ℕ) (rs : List Run) → 1 ≤ length rs → AreRunsBehind b e rs → IsPart b rs
 part b e [] some are = absurd (omega (arith, some))
@@ -43,7 +46,8 @@ part b e (r ∷ rs) some are =
       apart.0,
       omega (arith, end),
       All-cons (EndsBy (end_behind (r.base + r.len) rs)) r rs end (ends-by (r.base + r.len) (Some r.entry) rs more),
-      All-cons (BeginsFrom r.base) r rs (omega arith) (All-weaker (BeginsFrom (r.base + r.len)) (BeginsFrom r.base) later rs (begin-behind (r.base + r.len) (Some r.entry) rs more)),
+      All-cons (BeginsFrom r.base) r rs (omega arith)
+          (All-weaker (BeginsFrom (r.base + r.len)) (BeginsFrom r.base) later rs (begin-behind (r.base + r.len) (Some r.entry) rs more)),
       refl,
     )
 
@@ -64,7 +68,8 @@ more-chunks : (b : ℕ) (c : Vec Run) (cs : List (Vec Run)) → Rise b (c ∷ cs
 unfolding Rise
 more-chunks b c cs up = up.2
 
-begins-at : (b : ℕ) (cs : List (Vec Run)) → Rise b cs → (k : ℕ) (d : Vec Run) → k < length cs → (b ≤ beginning (get_or cs k d).items) × (beginning (get_or cs k d).items ≤ end_behind 0 (get_or cs k d).items)
+begins-at : (b : ℕ) (cs : List (Vec Run)) → Rise b cs → (k : ℕ) (d : Vec Run) → k < length cs → (b ≤ beginning (get_or cs k d).items)
+    × (beginning (get_or cs k d).items ≤ end_behind 0 (get_or cs k d).items)
 begins-at b [] up k d within = absurd (omega (arith, within))
 begins-at b (c ∷ cs) up zero d within = first-begins b c cs up
 begins-at b (c ∷ cs) up (suc k) d within =
@@ -72,7 +77,8 @@ begins-at b (c ∷ cs) up (suc k) d within =
     let later = begins-at (end_behind 0 c.items) cs (more-chunks b c cs up) k d (omega (arith, within)) in
     (omega (arith, first.0, first.1, later.0), later.1)
 
-rises : (b : ℕ) (cs : List (Vec Run)) → Rise b cs → (i j : ℕ) (d : Vec Run) → i ≤ j → j < length cs → beginning (get_or cs i d).items ≤ beginning (get_or cs j d).items
+rises : (b : ℕ) (cs : List (Vec Run)) → Rise b cs → (i j : ℕ) (d : Vec Run) → i ≤ j → j < length cs →
+    beginning (get_or cs i d).items ≤ beginning (get_or cs j d).items
 rises b [] up i j d le within = absurd (omega (arith, within))
 rises b (c ∷ cs) up zero zero d le within = omega arith
 rises b (c ∷ cs) up zero (suc j) d le within =
@@ -83,7 +89,8 @@ rises b (c ∷ cs) up (suc i) zero d le within = absurd (omega (arith, le))
 rises b (c ∷ cs) up (suc i) (suc j) d le within = rises (end_behind 0 c.items) cs (more-chunks b c cs up) i j d (omega (arith, le)) (omega (arith, within))
 
 -- a chunk ends before the next one begins
-ends-by-next : (b : ℕ) (cs : List (Vec Run)) → Rise b cs → (i : ℕ) (d : Vec Run) → suc i < length cs → end_behind 0 (get_or cs i d).items ≤ beginning (get_or cs (suc i) d).items
+ends-by-next : (b : ℕ) (cs : List (Vec Run)) → Rise b cs → (i : ℕ) (d : Vec Run) → suc i < length cs →
+    end_behind 0 (get_or cs i d).items ≤ beginning (get_or cs (suc i) d).items
 ends-by-next b [] up i d within = absurd (omega (arith, within))
 ends-by-next b (c ∷ cs) up zero d within = (begins-at (end_behind 0 c.items) cs (more-chunks b c cs up) zero d (omega (arith, within))).0
 ends-by-next b (c ∷ cs) up (suc i) d within = ends-by-next (end_behind 0 c.items) cs (more-chunks b c cs up) i d (omega (arith, within))
@@ -93,7 +100,8 @@ ends-by-next b (c ∷ cs) up (suc i) d within = ends-by-next (end_behind 0 c.ite
 -- what holds of the runs of each chunk holds of all
 each-together : (P : Run → Type 0) (cs : List (Vec Run)) → All (λ c. All P c.items) cs → All P (together cs)
 each-together P [] all = All-nil P
-each-together P (c ∷ cs) all = All-append P c.items (together cs) (All-head (λ (q : Vec Run). All P q.items) c cs all) (each-together P cs (All-tail (λ (q : Vec Run). All P q.items) c cs all))
+each-together P (c ∷ cs) all = All-append P c.items (together cs) (All-head (λ (q : Vec Run). All P q.items) c cs all)
+    (each-together P cs (All-tail (λ (q : Vec Run). All P q.items) c cs all))
 
 module _ (cs : List (Vec Run)) (are : AreChunks cs) where
   up : Rise 0 cs × All IsChunk cs
@@ -109,7 +117,8 @@ module _ (cs : List (Vec Run)) (are : AreChunks cs) where
 
   module _ (base end i k : ℕ) (within : i ≤ length cs) (short : k ≤ length (drop i cs))
       (first : IsPartitionPoint (λ (c : Vec Run). nat_le (beginning c.items) base ≡ true) (λ (c : Vec Run). nat_le (beginning c.items) base ≡ false) cs i)
-      (second : IsPartitionPoint (λ (c : Vec Run). nat_lt (beginning c.items) end ≡ true) (λ (c : Vec Run). nat_lt (beginning c.items) end ≡ false) (drop i cs) k)
+      (second : IsPartitionPoint (λ (c : Vec Run). nat_lt (beginning c.items) end ≡ true) (λ (c : Vec Run). nat_lt (beginning c.items) end ≡ false)
+      (drop i cs) k)
       (nowhere : Vec Run) where
     is-chunk : (m : ℕ) → m < length cs → IsChunk (get_or cs m nowhere)
     is-chunk m lt = All-get_or IsChunk cs m nowhere lt up.1
@@ -120,14 +129,17 @@ module _ (cs : List (Vec Run)) (are : AreChunks cs) where
         let ends = ends-by-next 0 cs up.0 m nowhere (omega (arith, lt, within)) in
         let end-le : end_behind 0 (get_or cs m nowhere).items ≤ base = omega (arith, next, ends) in
         let sooner : (r : Run) → EndsBy (end_behind 0 (get_or cs m nowhere).items) r → EndsBy base r = λ r ends. omega (arith, ends, end-le) in
-        All-weaker (EndsBy (end_behind 0 (get_or cs m nowhere).items)) (EndsBy base) sooner (get_or cs m nowhere).items (is-chunk m (omega (arith, lt, within))).0
+        All-weaker (EndsBy (end_behind 0 (get_or cs m nowhere).items)) (EndsBy base) sooner (get_or cs m nowhere).items
+        (is-chunk m (omega (arith, lt, within))).0
 
     begins-behind : (m : ℕ) → i + k ≤ m → m < length cs → All (BeginsFrom end) (get_or cs m nowhere).items
     begins-behind m from lt =
         let size : length (drop i cs) ≡ length cs - i = length-drop i cs in
         let place : i + (m - i) ≡ m = omega (arith, from) in
         let same : get_or (drop i cs) (m - i) nowhere ≡ get_or cs m nowhere = get_or-drop i cs (m - i) nowhere ∙ ap (λ n. get_or cs n nowhere) place in
-        let tested : nat_lt (beginning (get_or cs m nowhere).items) end ≡ false = subst (λ (c : Vec Run). nat_lt (beginning c.items) end ≡ false) same (second.1 (m - i) nowhere (omega (arith, from)) (omega (arith, lt, size, from))) in
+        let tested : nat_lt (beginning (get_or cs m nowhere).items) end ≡ false =
+        subst (λ (c : Vec Run). nat_lt (beginning c.items) end ≡ false) same
+        (second.1 (m - i) nowhere (omega (arith, from)) (omega (arith, lt, size, from))) in
         let end-le : end ≤ beginning (get_or cs m nowhere).items = ltb-false _ end tested in
         let later : (r : Run) → BeginsFrom (beginning (get_or cs m nowhere).items) r → BeginsFrom end r = λ r begins. omega (arith, begins, end-le) in
         All-weaker (BeginsFrom (beginning (get_or cs m nowhere).items)) (BeginsFrom end) later (get_or cs m nowhere).items (is-chunk m lt).1
@@ -143,7 +155,8 @@ module _ (cs : List (Vec Run)) (are : AreChunks cs) where
     all-behind n from =
         let size : length (drop n cs) ≡ length cs - n = length-drop n cs in
         each-together (BeginsFrom end) (drop n cs) (All-from_get_or (λ (c : Vec Run). All (BeginsFrom end) c.items) (drop n cs) nowhere (λ m lt.
-        subst (λ (c : Vec Run). All (BeginsFrom end) c.items) (sym (get_or-drop n cs m nowhere)) (begins-behind (n + m) (omega (arith, from)) (omega (arith, lt, size)))))
+        subst (λ (c : Vec Run). All (BeginsFrom end) c.items) (sym (get_or-drop n cs m nowhere))
+        (begins-behind (n + m) (omega (arith, from)) (omega (arith, lt, size)))))
 
     found-or-more : (a b : ℕ) → a ≤ i - 1 → i + k ≤ b → b ≤ length cs → AreMetChunks cs base end a b
     found-or-more a b low high few = record {
@@ -185,13 +198,16 @@ begin_of c = beginning c.items
 
 -- the places where chunks begin rise
 pub begins-rise : (cs : List (Vec Run)) → AreChunks cs → (bs : List ℕ) → bs ≡ beginnings_of cs → (n : ℕ) → IsNonDecreasingBy (λ (b : ℕ). b) (drop n bs)
-begins-rise cs are bs same n = subst (λ (ns : List ℕ). IsNonDecreasingBy (λ (b : ℕ). b) ns) (sym (ap (drop n) same ∙ drop-map begin_of n cs)) (numbers-rise begin_of (drop n cs) (beginnings-rise cs are n))
+begins-rise cs are bs same n = subst (λ (ns : List ℕ). IsNonDecreasingBy (λ (b : ℕ). b) ns) (sym (ap (drop n) same ∙ drop-map begin_of n cs))
+    (numbers-rise begin_of (drop n cs) (beginnings-rise cs are n))
 
 -- where the places are parted, so are the chunks
-parted-chunks : (P Q : ℕ → Type 0) (cs : List (Vec Run)) (i : ℕ) → i ≤ length cs → IsPartitionPoint P Q (map begin_of cs) i → IsPartitionPoint (λ (c : Vec Run). P (beginning c.items)) (λ (c : Vec Run). Q (beginning c.items)) cs i
+parted-chunks : (P Q : ℕ → Type 0) (cs : List (Vec Run)) (i : ℕ) → i ≤ length cs → IsPartitionPoint P Q (map begin_of cs) i →
+    IsPartitionPoint (λ (c : Vec Run). P (beginning c.items)) (λ (c : Vec Run). Q (beginning c.items)) cs i
 parted-chunks P Q cs i le point = (
   λ m d low below. subst P (get_or-map begin_of cs m d (beginning d.items) (omega (arith, below, le))) (point.0 m (beginning d.items) low below),
-  λ m d from within. subst Q (get_or-map begin_of cs m d (beginning d.items) within) (point.1 m (beginning d.items) from (subst (λ n. m < n) (sym (length-map cs begin_of)) within)),
+  λ m d from within. subst Q (get_or-map begin_of cs m d (beginning d.items) within)
+      (point.1 m (beginning d.items) from (subst (λ n. m < n) (sym (length-map cs begin_of)) within)),
 )
 
 met-from : (cs : List (Vec Run)) → AreChunks cs → (base end i k : ℕ) → i ≤ length (beginnings_of cs) → k ≤ length (drop i (beginnings_of cs))
@@ -210,7 +226,8 @@ met-from cs are base end i k within short first second a b low high few =
     a b low high (subst (λ n. b ≤ n) size few)
 
 -- the same of the places where the chunks begin
-pub met-by-beginnings : (cs : List (Vec Run)) → AreChunks cs → (bs : List ℕ) → bs ≡ beginnings_of cs → (base end i k : ℕ) → i ≤ length bs → k ≤ length (drop i bs)
+pub met-by-beginnings : (cs : List (Vec Run)) → AreChunks cs → (bs : List ℕ) → bs ≡ beginnings_of cs → (base end i k : ℕ) → i ≤ length bs →
+    k ≤ length (drop i bs)
     → IsPartitionPoint (λ b. nat_le b base ≡ true) (λ b. nat_le b base ≡ false) bs i
     → IsPartitionPoint (λ b. nat_lt b end ≡ true) (λ b. nat_lt b end ≡ false) (drop i bs) k
     → (a b : ℕ) → a ≤ i - 1 → i + k ≤ b → b ≤ length bs → AreMetChunks cs base end a b
@@ -257,25 +274,46 @@ together-more cs i c within =
 -- the runs up to a chunk are runs
 pub runs-up-to : (cs : List (Vec Run)) (i : ℕ) (c : Vec Run) → i < length cs → AreChunks cs → AreRuns (together (take i cs) ++ (get_or cs i c).items)
 runs-up-to cs i c within are =
-    let split : together cs ≡ together (take (i + 1) cs) ++ together (drop (i + 1) cs) = ap together (sym (take-append-drop (i + 1) cs)) ∙ together-append (take (i + 1) cs) (drop (i + 1) cs) in
+    let split : together cs ≡ together (take (i + 1) cs) ++ together (drop (i + 1) cs) = ap together (sym (take-append-drop (i + 1) cs))
+    ∙ together-append (take (i + 1) cs) (drop (i + 1) cs) in
     subst AreRuns (together-more cs i c within) (runs-before 0 None (together (take (i + 1) cs)) (together (drop (i + 1) cs)) (subst AreRuns split are.runs))
 
 -- and those of it
 pub runs-of-chunk : (cs : List (Vec Run)) (i : ℕ) (c : Vec Run) → i < length cs → AreChunks cs → AreRuns (get_or cs i c).items
-runs-of-chunk cs i c within are = some-runs _ _ (get_or cs i c).items (runs-behind 0 None (together (take i cs)) (get_or cs i c).items (runs-up-to cs i c within are))
+runs-of-chunk cs i c within are =
+    some-runs _ _ (get_or cs i c).items (runs-behind 0 None (together (take i cs)) (get_or cs i c).items (runs-up-to cs i c within are))
 
 -- Chunks that are replaced.
 
 -- one chunk in the place of another
-pub chunk-put : (cs : List (Vec Run)) (i j : ℕ) (c : Vec Run) → j - i ≡ 1 → j ≤ length cs → together (slice_set cs i c) ≡ together (take i cs) ++ (c.items ++ together (drop j cs))
+pub chunk-put : (cs : List (Vec Run)) (i j : ℕ) (c : Vec Run) → j - i ≡ 1 → j ≤ length cs →
+    together (slice_set cs i c) ≡ together (take i cs) ++ (c.items ++ together (drop j cs))
 chunk-put cs i j c one within =
     let next : suc i ≡ j = omega (arith, one) in
     ap together (set_split cs i c (omega (arith, one, within)))
     ∙ (together-append (take i cs) (c ∷ drop (suc i) cs)
     ∙ ap (λ n. together (take i cs) ++ (c.items ++ together (drop n cs))) next)
 
+-- two in the place of two others
+next-put : (cs : List (Vec Run)) (i : ℕ) (c d : Vec Run) → suc i < length cs → together (slice_set (slice_set cs i c) (suc i) d) ≡ together (take i cs)
+    ++ ((c.items ++ d.items) ++ together (drop (suc (suc i)) cs))
+next-put [] i c d within = absurd (omega (arith, within))
+next-put (a ∷ []) i c d within = absurd (omega (arith, within))
+next-put (a ∷ b ∷ cs) zero c d within = sym (append_assoc c.items d.items (together cs))
+next-put (a ∷ b ∷ cs) (suc i) c d within =
+    ap (λ (rs : List Run). a.items ++ rs) (next-put (b ∷ cs) i c d (omega (arith, within)))
+    ∙ sym (append_assoc a.items (together (take i (b ∷ cs))) ((c.items ++ d.items) ++ together (drop (suc (suc i)) (b ∷ cs))))
+
+pub two-put : (cs : List (Vec Run)) (i : ℕ) (c d : Vec Run) → i + 2 ≤ length cs → together (slice_set (slice_set cs i c) (i + 1) d) ≡ together (take i cs)
+    ++ ((c.items ++ d.items) ++ together (drop (i + 2) cs))
+two-put cs i c d within =
+    let one : i + 1 ≡ suc i = omega arith in
+    let two : i + 2 ≡ suc (suc i) = omega arith in
+    rw (one, two) (next-put cs i c d (omega (arith, within)))
+
 -- several in the place of others
-pub chunks-put : (cs ds : List (Vec Run)) (i j : ℕ) (rs : List Run) → together ds ≡ rs → together (splice cs i j ds) ≡ together (take i cs) ++ (rs ++ together (drop j cs))
+pub chunks-put : (cs ds : List (Vec Run)) (i j : ℕ) (rs : List Run) → together ds ≡ rs →
+    together (splice cs i j ds) ≡ together (take i cs) ++ (rs ++ together (drop j cs))
 chunks-put cs ds i j rs same =
     together-append (take i cs) (ds ++ drop j cs)
     ∙ (ap (λ (qs : List Run). together (take i cs) ++ qs) (together-append ds (drop j cs))
@@ -287,10 +325,12 @@ each-put cs ds i j sized more =
     (All-append IsSized ds (drop j cs) more (All-drop IsSized j cs sized))
 
 -- where they begin then
-pub begins-set : (cs : List (Vec Run)) (bs : List ℕ) (i : ℕ) (c : Vec Run) → bs ≡ beginnings_of cs → slice_set bs i (beginning c.items) ≡ beginnings_of (slice_set cs i c)
+pub begins-set : (cs : List (Vec Run)) (bs : List ℕ) (i : ℕ) (c : Vec Run) → bs ≡ beginnings_of cs →
+    slice_set bs i (beginning c.items) ≡ beginnings_of (slice_set cs i c)
 begins-set cs bs i c same = ap (λ (ns : List ℕ). slice_set ns i (beginning c.items)) same ∙ sym (map-set begin_of cs i c)
 
-pub begins-put : (cs ds : List (Vec Run)) (bs : List ℕ) (i j : ℕ) → bs ≡ beginnings_of cs → (take i bs ++ beginnings_of ds) ++ drop j bs ≡ beginnings_of (splice cs i j ds)
+pub begins-put : (cs ds : List (Vec Run)) (bs : List ℕ) (i j : ℕ) → bs ≡ beginnings_of cs →
+    (take i bs ++ beginnings_of ds) ++ drop j bs ≡ beginnings_of (splice cs i j ds)
 begins-put cs ds bs i j same =
     let first : take i bs ≡ map begin_of (take i cs) = ap (take i) same ∙ take-map begin_of i cs in
     let last : drop j bs ≡ map begin_of (drop j cs) = ap (drop j) same ∙ drop-map begin_of j cs in
@@ -313,13 +353,16 @@ module _ (cs : List (Vec Run)) (base len i j : ℕ) (are : AreChunks cs) (met-th
       each-run _ (some-runs _ _ (together (drop j cs)) (runs-behind _ _ (together (slice_range cs i j)) (together (drop j cs)) later))
 
   -- only the chunks that it meets change when it is written
-  pub overwritten-chunks : (entry : ℕ) → together (take i cs) ++ (overwritten (together (slice_range cs i j)) base len entry ++ together (drop j cs)) ≡ overwritten (together cs) base len entry
+  pub overwritten-chunks : (entry : ℕ) → together (take i cs) ++ (overwritten (together (slice_range cs i j)) base len entry ++ together (drop j cs))
+      ≡ overwritten (together cs) base len entry
   overwritten-chunks entry =
-      overwritten-within (together (take i cs)) (together (slice_range cs i j)) (together (drop j cs)) base len valid-before valid-behind met-there.before met-there.behind entry
+      overwritten-within (together (take i cs)) (together (slice_range cs i j)) (together (drop j cs)) base len valid-before valid-behind met-there.before
+      met-there.behind entry
       ∙ ap (λ (rs : List Run). overwritten rs base len entry) (sym (together-three cs i j met-there.order))
 
   -- only they tell of it
   pub looked-chunks : looked (entry_at (together (slice_range cs i j))) base len ≡ looked (entry_at (together cs)) base len
   looked-chunks =
-      looked-within (together (take i cs)) (together (slice_range cs i j)) (together (drop j cs)) base len valid-before valid-behind met-there.before met-there.behind
+      looked-within (together (take i cs)) (together (slice_range cs i j)) (together (drop j cs)) base len valid-before valid-behind met-there.before
+      met-there.behind
       ∙ ap (λ (rs : List Run). looked (entry_at rs) base len) (sym (together-three cs i j met-there.order))

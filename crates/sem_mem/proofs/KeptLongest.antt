@@ -18,13 +18,15 @@ none-below b e (r ∷ rs) a are below =
 
 -- a run that cannot be joined to what is before it
 joined-apart : (a entry : ℕ) (r : Run) (rs : List Run) → IsApart (a + 1) (Some entry) r → joined a (Some entry) (r ∷ rs) ≡ run_of a 1 entry ∷ r ∷ rs
-joined-apart a entry r rs apart = cond-false ((r.base == a + 1) && (r.entry == entry)) (run_of a (r.len + 1) entry ∷ rs) (run_of a 1 entry ∷ r ∷ rs) (false_from_ne_true ((r.base == a + 1) && (r.entry == entry)) (λ both.
+joined-apart a entry r rs apart = cond-false ((r.base == a + 1) && (r.entry == entry)) (run_of a (r.len + 1) entry ∷ rs) (run_of a 1 entry ∷ r ∷ rs)
+    (false_from_ne_true ((r.base == a + 1) && (r.entry == entry)) (λ both.
     let parts = and_parts (r.base == a + 1) (r.entry == entry) both in
     apart.1 (sym (eqb-true r.base (a + 1) parts.0)) (ap Some (sym (eqb-true r.entry entry parts.1)))))
 
 -- and one that is the rest of the same run
 joined-rest : (a entry : ℕ) (r : Run) (rs : List Run) → r.base ≡ a + 1 → r.entry ≡ entry → joined a (Some entry) (r ∷ rs) ≡ run_of a (r.len + 1) entry ∷ rs
-joined-rest a entry r rs base same = cond-true ((r.base == a + 1) && (r.entry == entry)) (run_of a (r.len + 1) entry ∷ rs) (run_of a 1 entry ∷ r ∷ rs) (and_from (r.base == a + 1) (r.entry == entry) (eq-eqb r.base (a + 1) base) (eq-eqb r.entry entry same))
+joined-rest a entry r rs base same = cond-true ((r.base == a + 1) && (r.entry == entry)) (run_of a (r.len + 1) entry ∷ rs) (run_of a 1 entry ∷ r ∷ rs)
+    (and_from (r.base == a + 1) (r.entry == entry) (eq-eqb r.base (a + 1) base) (eq-eqb r.entry entry same))
 
 -- the same numbers make the same run
 same-run : (r : Run) (base len : ℕ) → base ≡ r.base → len ≡ r.len → run_of base len r.entry ≡ r
@@ -46,7 +48,8 @@ module _ (last : ℕ → Option ℕ) where
   abbrev Goes : ℕ → ℕ → Type 0
   Goes n a = (e : Option ℕ) (rs : List Run) → AreRunsBehind a e rs → Tells a rs → a + n ≡ ADDRESSES → runs_from last a n ≡ rs
 
-  one-address : (n a : ℕ) (e : Option ℕ) (r : Run) (rs : List Run) → Goes n (a + 1) → AreRunsBehind a e (r ∷ rs) → Tells a (r ∷ rs) → a + suc n ≡ ADDRESSES → r.base ≡ a → r.len ≡ 1 → joined a (Some r.entry) (runs_from last (a + 1) n) ≡ r ∷ rs
+  one-address : (n a : ℕ) (e : Option ℕ) (r : Run) (rs : List Run) → Goes n (a + 1) → AreRunsBehind a e (r ∷ rs) → Tells a (r ∷ rs) → a + suc n ≡ ADDRESSES →
+      r.base ≡ a → r.len ≡ 1 → joined a (Some r.entry) (runs_from last (a + 1) n) ≡ r ∷ rs
   one-address n a e r rs goes are tells size base one =
       let end : r.base + r.len ≡ a + 1 = omega (arith, base, one) in
       let rest : AreRunsBehind (a + 1) (Some r.entry) rs = subst (λ m. AreRunsBehind m (Some r.entry) rs) end (more-runs a e r rs are) in
@@ -58,12 +61,16 @@ module _ (last : ℕ → Option ℕ) where
       behind [] more = refl
       behind (q ∷ qs) more = joined-apart a r.entry q qs (first-apart (a + 1) (Some r.entry) q qs more)
 
-  more-addresses : (n a : ℕ) (e : Option ℕ) (r : Run) (rs : List Run) → Goes n (a + 1) → AreRunsBehind a e (r ∷ rs) → Tells a (r ∷ rs) → a + suc n ≡ ADDRESSES → r.base ≡ a → 2 ≤ r.len → joined a (Some r.entry) (runs_from last (a + 1) n) ≡ r ∷ rs
+  more-addresses : (n a : ℕ) (e : Option ℕ) (r : Run) (rs : List Run) → Goes n (a + 1) → AreRunsBehind a e (r ∷ rs) → Tells a (r ∷ rs) → a + suc n ≡ ADDRESSES →
+      r.base ≡ a → 2 ≤ r.len → joined a (Some r.entry) (runs_from last (a + 1) n) ≡ r ∷ rs
   more-addresses n a e r rs goes are tells size base two =
       let is = first-run a e r rs are in
       let q : Run = run_of (a + 1) (r.len - 1) r.entry in
       let end : r.base + r.len ≡ a + 1 + (r.len - 1) = omega (arith, base, two) in
-      let rest : AreRunsBehind (a + 1) None (q ∷ rs) = run-before (a + 1) None q rs (omega (arith, two), omega (arith, end, is.1)) (omega arith, λ touch. not-some r.entry) (subst (λ m. AreRunsBehind m (Some r.entry) rs) end (more-runs a e r rs are)) in
+      let rest : AreRunsBehind (a + 1) None (q ∷ rs) = run-before (a + 1) None q rs (omega (arith, two), omega (arith, end, is.1)) (
+        omega arith,
+        λ touch. not-some r.entry,
+      ) (subst (λ m. AreRunsBehind m (Some r.entry) rs) end (more-runs a e r rs are)) in
       let told : Tells (a + 1) (q ∷ rs) = λ x le. tells x (omega (arith, le)) ∙ same-tells x le base two in
       ap (joined a (Some r.entry)) (goes None (q ∷ rs) rest told (omega (arith, size)))
       ∙ (joined-rest a r.entry q rs refl refl ∙ ap (λ p. p ∷ rs) (same-run r a (r.len - 1 + 1) (sym base) (omega (arith, two))))
@@ -93,9 +100,11 @@ module _ (last : ℕ → Option ℕ) where
       let apart = first-apart a e r rs are in
       elim (cases_lt a r.base) [
         | inl before ↦
-            let none : entry_at (r ∷ rs) a ≡ None = entry-later r rs a (below-range r.base r.len a before) ∙ none-below (r.base + r.len) (Some r.entry) rs a (more-runs a e r rs are) (omega (arith, before, is.0)) in
+            let none : entry_at (r ∷ rs) a ≡ None = entry-later r rs a (below-range r.base r.len a before)
+            ∙ none-below (r.base + r.len) (Some r.entry) rs a (more-runs a e r rs are) (omega (arith, before, is.0)) in
             ap (λ o. joined a o (runs_from last (a + 1) n)) (tells a (omega arith) ∙ none)
-            ∙ runs-are n (a + 1) None (r ∷ rs) (run-before (a + 1) None r rs is (omega (arith, before), λ touch. not-some r.entry) (more-runs a e r rs are)) (tells-later a (r ∷ rs) tells) (omega (arith, size))
+            ∙ runs-are n (a + 1) None (r ∷ rs) (run-before (a + 1) None r rs is (omega (arith, before), λ touch. not-some r.entry) (more-runs a e r rs are))
+            (tells-later a (r ∷ rs) tells) (omega (arith, size))
         | inr from ↦
             let base : r.base ≡ a = omega (arith, apart.0, from) in
             let some : entry_at (r ∷ rs) a ≡ Some r.entry = entry-here r rs a (has-address r.base r.len a (omega (arith, base)) (omega (arith, base, is.0))) in

@@ -3,7 +3,8 @@ use Rattle.std.proofs.Common.{◌≡◌, ℕ, ◌+◌, ◌≤◌, ◌<◌, Bool,
 use Rattle.std.specs.List.{All, find}
 use Rattle.std.specs.Option.{option_map}
 use Rattle.std.specs.Prelude.{nat_lt, nat_le}
-use Rattle.std.proofs.lemmas.Bool.{cases_Bool, cond-true, cond-false, and_parts, and_left, and_right, and_from, ltb-true, leb-true, lt-ltb, le-ltb, le-leb, lt-leb}
+use Rattle.std.proofs.lemmas.Bool.{cases_Bool, cond-true, cond-false, and_parts, and_left, and_right, and_from, ltb-true, leb-true, lt-ltb, le-ltb, le-leb}
+use Rattle.std.proofs.lemmas.Bool.{lt-leb}
 use Rattle.std.proofs.lemmas.List.Elements.{All-cons, All-nil}
 use Rattle.sem_access.specs.declared.run.Run.{Run}
 use Rattle.sem_access.specs.LastWrites.{has_address}
@@ -41,13 +42,15 @@ pub no-runs : (b : ℕ) (e : Option ℕ) → AreRunsBehind b e []
 unfolding AreRunsBehind
 no-runs b e = tt
 
-pub run-before : (b : ℕ) (e : Option ℕ) (r : Run) (rs : List Run) → IsValidRun r → IsApart b e r → AreRunsBehind (r.base + r.len) (Some r.entry) rs → AreRunsBehind b e (r ∷ rs)
+pub run-before : (b : ℕ) (e : Option ℕ) (r : Run) (rs : List Run) → IsValidRun r → IsApart b e r → AreRunsBehind (r.base + r.len) (Some r.entry) rs →
+    AreRunsBehind b e (r ∷ rs)
 unfolding AreRunsBehind
 run-before b e r rs is apart rest = (is, apart, rest)
 
 each-run-behind : (b : ℕ) (e : Option ℕ) (rs : List Run) → AreRunsBehind b e rs → All IsValidRun rs
 each-run-behind b e [] are = All-nil IsValidRun
-each-run-behind b e (r ∷ rs) are = All-cons IsValidRun r rs (first-run b e r rs are) (each-run-behind (r.base + r.len) (Some r.entry) rs (more-runs b e r rs are))
+each-run-behind b e (r ∷ rs) are =
+    All-cons IsValidRun r rs (first-run b e r rs are) (each-run-behind (r.base + r.len) (Some r.entry) rs (more-runs b e r rs are))
 
 pub each-run : (rs : List Run) → AreRuns rs → All IsValidRun rs
 each-run rs are = each-run-behind 0 None rs are
@@ -79,7 +82,8 @@ entry-behind (r ∷ rs) qs a none = elim (cases_Bool (has_address r.base r.len a
 -- and of which the last does not
 pub entry-before : (rs qs : List Run) (a : ℕ) → entry_at qs a ≡ None → entry_at (rs ++ qs) a ≡ entry_at rs a
 entry-before [] qs a none = none
-entry-before (r ∷ rs) qs a none = entry_at-cons r (rs ++ qs) a ∙ (ap (cond (has_address r.base r.len a) (Some r.entry)) (entry-before rs qs a none) ∙ sym (entry_at-cons r rs a))
+entry-before (r ∷ rs) qs a none = entry_at-cons r (rs ++ qs) a ∙ (ap (cond (has_address r.base r.len a) (Some r.entry)) (entry-before rs qs a none)
+    ∙ sym (entry_at-cons r rs a))
 
 -- runs behind an address begin behind it
 pub begins-behind : (b : ℕ) (e : Option ℕ) (rs : List Run) (r : Run) (more : List Run) → AreRunsBehind b e (rs ++ r ∷ more) → b ≤ r.base
@@ -90,7 +94,8 @@ begins-behind b e (q ∷ rs) r more are =
     omega (arith, apart.0, rest)
 
 -- what comes before a run has none of its addresses, and none behind them
-pub none-before : (b : ℕ) (e : Option ℕ) (rs : List Run) (r : Run) (more : List Run) (a : ℕ) → AreRunsBehind b e (rs ++ r ∷ more) → r.base ≤ a → entry_at rs a ≡ None
+pub none-before : (b : ℕ) (e : Option ℕ) (rs : List Run) (r : Run) (more : List Run) (a : ℕ) → AreRunsBehind b e (rs ++ r ∷ more) → r.base ≤ a →
+    entry_at rs a ≡ None
 none-before b e [] r more a are from = refl
 none-before b e (q ∷ rs) r more a are from =
     let rest = more-runs b e q (rs ++ r ∷ more) are in

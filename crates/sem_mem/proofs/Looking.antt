@@ -1,5 +1,6 @@
 -- What runs tell of a range of addresses: one run more tells of the addresses that it shares with the range.
-use Rattle.std.proofs.Common.{◌≡◌, ℕ, zero, suc, ◌+◌, ◌-◌, ◌≤◌, ◌<◌, Bool, true, false, cond, List, [], ◌∷◌, ◌++◌, length, take, drop, get_or, Option, Some, None, refl, sym, ◌∙◌, ap, subst, inl, inr, arith, ◌⊎◌}
+use Rattle.std.proofs.Common.{◌≡◌, ℕ, zero, suc, ◌+◌, ◌-◌, ◌≤◌, ◌<◌, Bool, true, false, cond, List, [], ◌∷◌, ◌++◌, length, take, drop, get_or, Option, Some}
+use Rattle.std.proofs.Common.{None, refl, sym, ◌∙◌, ap, subst, inl, inr, arith, ◌⊎◌}
 use Rattle.std.specs.List.{filter_map, range_with_len, cons_option}
 use Rattle.std.specs.Prelude.{◌==◌, min, max}
 use Rattle.std.proofs.lemmas.Bool.{cases_Bool, cases_lt, cases_eq, cond-true, cond-false, eq-eqb, ne_eqb}
@@ -34,7 +35,8 @@ many p [] = 0
 many p (x ∷ xs) = one_if (p x) + many p xs
 
 -- f tells what g tells, and the entry e beside it where the test passes
-module _ (p : ℕ → Bool) (e : ℕ) (f g : ℕ → Option ℕ) (new : (a : ℕ) → p a ≡ true → f a ≡ Some e) (old : (a : ℕ) → p a ≡ false → f a ≡ g a) (free : (a : ℕ) → p a ≡ true → g a ≡ None) where
+module _ (p : ℕ → Bool) (e : ℕ) (f g : ℕ → Option ℕ) (new : (a : ℕ) → p a ≡ true → f a ≡ Some e) (old : (a : ℕ) → p a ≡ false → f a ≡ g a) (free : (a : ℕ) →
+    p a ≡ true → g a ≡ None) where
   one-more : (o : Option ℕ) (xs ys : List ℕ) (n : ℕ) → length xs ≡ length ys + n → length (cons_option o xs) ≡ length (cons_option o ys) + n
   one-more None xs ys n same = same
   one-more (Some x) xs ys n same = omega (arith, same)
@@ -43,34 +45,42 @@ module _ (p : ℕ → Bool) (e : ℕ) (f g : ℕ → Option ℕ) (new : (a : ℕ
   more-found [] = refl
   more-found (x ∷ xs) = elim (cases_Bool (p x)) [
     | inl passes ↦
-        let one : length (cons_option (f x) (filter_map f xs)) ≡ suc (length (filter_map f xs)) = ap (λ o. length (cons_option o (filter_map f xs))) (new x passes) in
-        let none : length (cons_option (g x) (filter_map g xs)) ≡ length (filter_map g xs) = ap (λ o. length (cons_option o (filter_map g xs))) (free x passes) in
+        let one : length (cons_option (f x) (filter_map f xs)) ≡ suc (length (filter_map f xs)) =
+        ap (λ o. length (cons_option o (filter_map f xs))) (new x passes) in
+        let none : length (cons_option (g x) (filter_map g xs)) ≡ length (filter_map g xs) =
+        ap (λ o. length (cons_option o (filter_map g xs))) (free x passes) in
         let count : one_if (p x) ≡ 1 = cond-true (p x) 1 0 passes in
         let rest = more-found xs in
         omega (arith, one, none, count, rest)
     | inr fails ↦
         let count : one_if (p x) ≡ 0 = cond-false (p x) 1 0 fails in
         let rest = more-found xs in
-        let both : length (cons_option (g x) (filter_map f xs)) ≡ length (cons_option (g x) (filter_map g xs)) + many p xs = one-more (g x) (filter_map f xs) (filter_map g xs) (many p xs) rest in
-        let same : length (cons_option (f x) (filter_map f xs)) ≡ length (cons_option (g x) (filter_map f xs)) = ap (λ o. length (cons_option o (filter_map f xs))) (old x fails) in
+        let both : length (cons_option (g x) (filter_map f xs)) ≡ length (cons_option (g x) (filter_map g xs)) + many p xs =
+        one-more (g x) (filter_map f xs) (filter_map g xs) (many p xs) rest in
+        let same : length (cons_option (f x) (filter_map f xs)) ≡ length (cons_option (g x) (filter_map f xs)) =
+        ap (λ o. length (cons_option o (filter_map f xs))) (old x fails) in
         omega (arith, same, both, count)
   ]
 
   -- the greatest, where some pass and where none does
   abbrev Newest : List ℕ → Type 0
-  Newest xs = (many p xs ≡ 0 → greatest (filter_map f xs) ≡ greatest (filter_map g xs)) × (1 ≤ many p xs → greatest (filter_map f xs) ≡ greater e (greatest (filter_map g xs)))
+  Newest xs = (many p xs ≡ 0 → greatest (filter_map f xs) ≡ greatest (filter_map g xs))
+      × (1 ≤ many p xs → greatest (filter_map f xs) ≡ greater e (greatest (filter_map g xs)))
 
   newest-found : (xs : List ℕ) → Newest xs
   newest-found [] = (λ none. refl, λ some. absurd (omega (arith, some)))
   newest-found (x ∷ xs) = elim (cases_Bool (p x)) [
     | inl passes ↦
         let count : one_if (p x) ≡ 1 = cond-true (p x) 1 0 passes in
-        let one : greatest (cons_option (f x) (filter_map f xs)) ≡ greater e (greatest (filter_map f xs)) = ap (λ o. greatest (cons_option o (filter_map f xs))) (new x passes) in
-        let none : greatest (cons_option (g x) (filter_map g xs)) ≡ greatest (filter_map g xs) = ap (λ o. greatest (cons_option o (filter_map g xs))) (free x passes) in
+        let one : greatest (cons_option (f x) (filter_map f xs)) ≡ greater e (greatest (filter_map f xs)) =
+        ap (λ o. greatest (cons_option o (filter_map f xs))) (new x passes) in
+        let none : greatest (cons_option (g x) (filter_map g xs)) ≡ greatest (filter_map g xs) =
+        ap (λ o. greatest (cons_option o (filter_map g xs))) (free x passes) in
         (λ zero. absurd (omega (arith, zero, count)), λ some. one ∙ (passed (newest-found xs) ∙ ap (greater e) (sym none)))
     | inr fails ↦
         let count : one_if (p x) ≡ 0 = cond-false (p x) 1 0 fails in
-        let same : greatest (cons_option (f x) (filter_map f xs)) ≡ greatest (cons_option (g x) (filter_map f xs)) = ap (λ o. greatest (cons_option o (filter_map f xs))) (old x fails) in
+        let same : greatest (cons_option (f x) (filter_map f xs)) ≡ greatest (cons_option (g x) (filter_map f xs)) =
+        ap (λ o. greatest (cons_option o (filter_map f xs))) (old x fails) in
         let rest = failed (g x) (newest-found xs) in
         (λ zero. same ∙ rest.0 (omega (arith, zero, count)), λ some. same ∙ rest.1 (omega (arith, some, count)))
   ]
@@ -81,7 +91,8 @@ module _ (p : ℕ → Bool) (e : ℕ) (f g : ℕ → Option ℕ) (new : (a : ℕ
         | inr some ↦ ap (greater e) (rest.1 (omega (arith, some))) ∙ greater-again e (greatest (filter_map g xs))
       ]
 
-      failed : (o : Option ℕ) → Newest xs → (many p xs ≡ 0 → greatest (cons_option o (filter_map f xs)) ≡ greatest (cons_option o (filter_map g xs))) × (1 ≤ many p xs → greatest (cons_option o (filter_map f xs)) ≡ greater e (greatest (cons_option o (filter_map g xs))))
+      failed : (o : Option ℕ) → Newest xs → (many p xs ≡ 0 → greatest (cons_option o (filter_map f xs)) ≡ greatest (cons_option o (filter_map g xs)))
+          × (1 ≤ many p xs → greatest (cons_option o (filter_map f xs)) ≡ greater e (greatest (cons_option o (filter_map g xs))))
       failed None rest = rest
       failed (Some m) rest = (λ none. ap (greater m) (rest.0 none), λ some. ap (greater m) (rest.1 some) ∙ greater-swap m e (greatest (filter_map g xs)))
 
@@ -110,7 +121,8 @@ abbrev found : ℕ → Option ℕ → Look
 found written newest = record { written = written; newest = newest }
 
 -- what a range tells, where one run more tells of what it shares with it
-looked-more : (f g : ℕ → Option ℕ) (r : Run) (from end : ℕ) → from ≤ end → ((a : ℕ) → has_address r.base r.len a ≡ true → f a ≡ Some r.entry) → ((a : ℕ) → has_address r.base r.len a ≡ false → f a ≡ g a) → ((a : ℕ) → has_address r.base r.len a ≡ true → g a ≡ None)
+looked-more : (f g : ℕ → Option ℕ) (r : Run) (from end : ℕ) → from ≤ end → ((a : ℕ) → has_address r.base r.len a ≡ true → f a ≡ Some r.entry) →
+    ((a : ℕ) → has_address r.base r.len a ≡ false → f a ≡ g a) → ((a : ℕ) → has_address r.base r.len a ≡ true → g a ≡ None)
     → looked f from (end - from) ≡ with_run from end (looked g from (end - from)) r
 unfolding looked
 looked-more f g r from end le new old free =
@@ -118,7 +130,8 @@ looked-more f g r from end le new old free =
     let R : List ℕ = range_with_len from (end - from) in
     let whole : from + (end - from) ≡ end = omega (arith, le) in
     let counted : many p R ≡ shared from end r = range-shares r.base r.len (end - from) from ∙ ap (λ n. min n (r.base + r.len) - max r.base from) whole in
-    let written : length (filter_map f R) ≡ length (filter_map g R) + shared from end r = more-found p r.entry f g new old free R ∙ ap (λ n. length (filter_map g R) + n) counted in
+    let written : length (filter_map f R) ≡ length (filter_map g R) + shared from end r = more-found p r.entry f g new old free R
+    ∙ ap (λ n. length (filter_map g R) + n) counted in
     let newest = newest-found p r.entry f g new old free R in
     elim (cases_eq (shared from end r) 0) [
       | inl none ↦
@@ -126,7 +139,8 @@ looked-more f g r from end le new old free =
           found-is (length (filter_map f R)) (length (filter_map g R)) (greatest (filter_map f R)) (greatest (filter_map g R)) same (newest.0 (counted ∙ none))
           ∙ sym (cond-true (shared from end r == 0) _ _ (eq-eqb (shared from end r) 0 none))
       | inr some ↦
-          found-is (length (filter_map f R)) (length (filter_map g R) + shared from end r) (greatest (filter_map f R)) (greater r.entry (greatest (filter_map g R))) written (newest.1 (omega (arith, counted, some)))
+          found-is (length (filter_map f R)) (length (filter_map g R) + shared from end r) (greatest (filter_map f R))
+          (greater r.entry (greatest (filter_map g R))) written (newest.1 (omega (arith, counted, some)))
           ∙ sym (cond-false (shared from end r == 0) _ _ (ne_eqb (shared from end r) 0 some))
     ]
   where
@@ -138,7 +152,8 @@ few-found : (f : ℕ → Option ℕ) (n base : ℕ) → length (filter_map f (ra
 few-found f zero base = omega arith
 few-found f (suc n) base = from (f base) (few-found f n (base + 1))
   where
-    from : (o : Option ℕ) → length (filter_map f (range_with_len (base + 1) n)) ≤ n → length (cons_option o (filter_map f (range_with_len (base + 1) n))) ≤ suc n
+    from : (o : Option ℕ) → length (filter_map f (range_with_len (base + 1) n)) ≤ n →
+        length (cons_option o (filter_map f (range_with_len (base + 1) n))) ≤ suc n
     from None few = omega (arith, few)
     from (Some x) few = omega (arith, few)
 
@@ -148,7 +163,8 @@ looked-few f base len = few-found f len base
 
 with_run-written : (from end : ℕ) (found : Look) (r : Run) → (with_run from end found r).written ≡ found.written + shared from end r
 with_run-written from end found r = elim (cases_eq (shared from end r) 0) [
-  | inl none ↦ ap (λ (l : Look). l.written) (cond-true (shared from end r == 0) _ _ (eq-eqb (shared from end r) 0 none)) ∙ let same : found.written ≡ found.written + shared from end r = omega (arith, none) in same
+  | inl none ↦ ap (λ (l : Look). l.written) (cond-true (shared from end r == 0) _ _ (eq-eqb (shared from end r) 0 none))
+      ∙ let same : found.written ≡ found.written + shared from end r = omega (arith, none) in same
   | inr some ↦ ap (λ (l : Look). l.written) (cond-false (shared from end r == 0) _ _ (ne_eqb (shared from end r) 0 some))
 ]
 
@@ -192,7 +208,8 @@ module _ (runs : List Run) (i : ℕ) (d : Run) (base len : ℕ) (are : AreRuns r
   pub next-few : (looked (entry_at (take i runs)) base len).written + shared base (base + len) r ≤ len
   next-few =
       let few : (looked (entry_at (take (i + 1) runs)) base len).written ≤ len = looked-few (entry_at (take (i + 1) runs)) base len in
-      let same : (looked (entry_at (take (i + 1) runs)) base len).written ≡ (looked (entry_at (take i runs)) base len).written + shared base (base + len) r = ap (λ (l : Look). l.written) next-found ∙ with_run-written base (base + len) (looked (entry_at (take i runs)) base len) r in
+      let same : (looked (entry_at (take (i + 1) runs)) base len).written ≡ (looked (entry_at (take i runs)) base len).written + shared base (base + len) r =
+      ap (λ (l : Look). l.written) next-found ∙ with_run-written base (base + len) (looked (entry_at (take i runs)) base len) r in
       omega (arith, few, same)
 
 -- What is found by some runs and by others.
@@ -250,5 +267,6 @@ module _ (rs qs : List Run) (are : AreRuns (rs ++ qs)) (base len : ℕ) where
   pub both-few : (looked (entry_at rs) base len).written + (looked (entry_at qs) base len).written ≤ len
   both-few =
       let few : (looked (entry_at (rs ++ qs)) base len).written ≤ len = looked-few (entry_at (rs ++ qs)) base len in
-      let same : (looked (entry_at (rs ++ qs)) base len).written ≡ (looked (entry_at rs) base len).written + (looked (entry_at qs) base len).written = ap (λ (l : Look). l.written) looked-both in
+      let same : (looked (entry_at (rs ++ qs)) base len).written ≡ (looked (entry_at rs) base len).written + (looked (entry_at qs) base len).written =
+      ap (λ (l : Look). l.written) looked-both in
       omega (arith, few, same)

@@ -1,5 +1,6 @@
 -- Runs that a range of addresses meets: only they change, and only they tell of it.
-use Rattle.std.proofs.Common.{◌≡◌, ℕ, zero, suc, ◌+◌, ◌-◌, ◌≤◌, ◌<◌, Bool, true, false, List, [], ◌∷◌, ◌++◌, length, take, drop, get_or, Option, Some, None, drop-drop, refl, sym, ◌∙◌, ap, subst, inl, inr, arith}
+use Rattle.std.proofs.Common.{◌≡◌, ℕ, zero, suc, ◌+◌, ◌-◌, ◌≤◌, ◌<◌, Bool, true, false, List, [], ◌∷◌, ◌++◌, length, take, drop, get_or, Option, Some, None}
+use Rattle.std.proofs.Common.{drop-drop, refl, sym, ◌∙◌, ap, subst, inl, inr, arith}
 use Rattle.std.specs.List.{All, filter_map, prefix_len, slice_range, range_with_len, cons_option}
 use Rattle.std.specs.List.Sorted.{IsNonDecreasingBy, IsPartitionedBy, IsPartitionPoint}
 use Rattle.std.specs.Prelude.{min, max, nat_le, nat_lt}
@@ -63,12 +64,14 @@ pub in-three : {X : Type 0} (xs : List X) (i j : ℕ) → i ≤ j → xs ≡ tak
 in-three xs i j le =
     let rest : i + (j - i) ≡ j = omega (arith, le) in
     let later : drop (j - i) (drop i xs) ≡ drop j xs = drop-drop (j - i) i xs ∙ ap (λ n. drop n xs) rest in
-    sym (ap (λ (ys : List _). take i xs ++ ys) (ap (λ (ys : List _). take (j - i) (drop i xs) ++ ys) (sym later) ∙ take-append-drop (j - i) (drop i xs)) ∙ take-append-drop i xs)
+    sym (ap (λ (ys : List _). take i xs ++ ys) (ap (λ (ys : List _). take (j - i) (drop i xs) ++ ys) (sym later) ∙ take-append-drop (j - i) (drop i xs))
+    ∙ take-append-drop i xs)
 
 three-parts : {X Y : Type 0} (h : X → Option Y) (a b c : List X) → filter_map h (a ++ (b ++ c)) ≡ filter_map h a ++ (filter_map h b ++ filter_map h c)
 three-parts h a b c = filter_map-append h a (b ++ c) ∙ ap (λ (ys : List _). filter_map h a ++ ys) (filter_map-append h b c)
 
-module _ (before middle behind : List Run) (base len : ℕ) (valid-before : All IsValidRun before) (valid-behind : All IsValidRun behind) (ends : All (EndsBy base) before) (begins : All (BeginsFrom (base + len)) behind) where
+module _ (before middle behind : List Run) (base len : ℕ) (valid-before : All IsValidRun before) (valid-behind : All IsValidRun behind)
+    (ends : All (EndsBy base) before) (begins : All (BeginsFrom (base + len)) behind) where
   abbrev whole : List Run
   whole = before ++ (middle ++ behind)
 
@@ -84,7 +87,8 @@ module _ (before middle behind : List Run) (base len : ℕ) (valid-before : All 
   upper : filter_map (upper_part end) whole ≡ filter_map (upper_part end) middle ++ behind
   upper =
       three-parts (upper_part end) before middle behind
-      ∙ (ap (λ (xs : List Run). xs ++ (filter_map (upper_part end) middle ++ filter_map (upper_part end) behind)) (upper-none end base before (omega arith) ends)
+      ∙ (ap (λ (xs : List Run). xs ++ (filter_map (upper_part end) middle ++ filter_map (upper_part end) behind))
+      (upper-none end base before (omega arith) ends)
       ∙ ap (λ (xs : List Run). filter_map (upper_part end) middle ++ xs) (upper-whole end behind valid-behind begins))
 
   -- an entry that writes the range changes the runs in the middle alone
@@ -112,15 +116,19 @@ module _ (before middle behind : List Run) (base len : ℕ) (valid-before : All 
   looked-within = ap (λ (xs : List ℕ). record { written = length xs; newest = greatest xs }) (found-same len base (omega arith) (omega arith))
 
 -- the runs of a list that a range meets tell of it what all of them tell
-pub looked-middle : (rs : List Run) (base len i j : ℕ) → AreRuns rs → IsMetPart rs base (base + len) i j → looked (entry_at (slice_range rs i j)) base len ≡ looked (entry_at rs) base len
+pub looked-middle : (rs : List Run) (base len i j : ℕ) → AreRuns rs → IsMetPart rs base (base + len) i j →
+    looked (entry_at (slice_range rs i j)) base len ≡ looked (entry_at rs) base len
 looked-middle rs base len i j are met =
-    looked-within (take i rs) (slice_range rs i j) (drop j rs) base len (All-take IsValidRun i rs (each-run rs are)) (All-drop IsValidRun j rs (each-run rs are)) met.before met.behind
+    looked-within (take i rs) (slice_range rs i j) (drop j rs) base len (All-take IsValidRun i rs (each-run rs are))
+    (All-drop IsValidRun j rs (each-run rs are)) met.before met.behind
     ∙ ap (λ (qs : List Run). looked (entry_at qs) base len) (sym (in-three rs i j met.order))
 
 -- and they alone change when it is written
-pub overwritten-middle : (rs : List Run) (base len entry i j : ℕ) → AreRuns rs → IsMetPart rs base (base + len) i j → take i rs ++ (overwritten (slice_range rs i j) base len entry ++ drop j rs) ≡ overwritten rs base len entry
+pub overwritten-middle : (rs : List Run) (base len entry i j : ℕ) → AreRuns rs → IsMetPart rs base (base + len) i j →
+    take i rs ++ (overwritten (slice_range rs i j) base len entry ++ drop j rs) ≡ overwritten rs base len entry
 overwritten-middle rs base len entry i j are met =
-    overwritten-within (take i rs) (slice_range rs i j) (drop j rs) base len (All-take IsValidRun i rs (each-run rs are)) (All-drop IsValidRun j rs (each-run rs are)) met.before met.behind entry
+    overwritten-within (take i rs) (slice_range rs i j) (drop j rs) base len (All-take IsValidRun i rs (each-run rs are))
+    (All-drop IsValidRun j rs (each-run rs are)) met.before met.behind entry
     ∙ ap (λ (qs : List Run). overwritten qs base len entry) (sym (in-three rs i j met.order))
 
 -- Parts of runs are runs.
@@ -133,7 +141,8 @@ dropped-runs b e (suc n) (r ∷ rs) are = dropped-runs (r.base + r.len) (Some r.
 taken-runs : (b : ℕ) (e : Option ℕ) (n : ℕ) (rs : List Run) → AreRunsBehind b e rs → AreRunsBehind b e (take n rs)
 taken-runs b e zero rs are = no-runs b e
 taken-runs b e (suc n) [] are = no-runs b e
-taken-runs b e (suc n) (r ∷ rs) are = run-before b e r (take n rs) (first-run b e r rs are) (first-apart b e r rs are) (taken-runs (r.base + r.len) (Some r.entry) n rs (more-runs b e r rs are))
+taken-runs b e (suc n) (r ∷ rs) are = run-before b e r (take n rs) (first-run b e r rs are) (first-apart b e r rs are)
+    (taken-runs (r.base + r.len) (Some r.entry) n rs (more-runs b e r rs are))
 
 pub runs-dropped : (n : ℕ) (rs : List Run) → AreRuns rs → AreRuns (drop n rs)
 runs-dropped n rs are = dropped-runs 0 None n rs are
@@ -159,7 +168,8 @@ rise-behind b e (r ∷ rs) are zero (suc j) d le within =
     let later : r.base + r.len ≤ (get_or rs j d).base = begins-at (r.base + r.len) (Some r.entry) rs (more-runs b e r rs are) j d (omega (arith, within)) in
     (omega (arith, later), omega (arith, later))
 rise-behind b e (r ∷ rs) are (suc i) zero d le within = absurd (omega (arith, le))
-rise-behind b e (r ∷ rs) are (suc i) (suc j) d le within = rise-behind (r.base + r.len) (Some r.entry) rs (more-runs b e r rs are) i j d (omega (arith, le)) (omega (arith, within))
+rise-behind b e (r ∷ rs) are (suc i) (suc j) d le within = rise-behind (r.base + r.len) (Some r.entry) rs (more-runs b e r rs are) i j d (omega (arith, le))
+    (omega (arith, within))
 
 pub bases-rise : (rs : List Run) → AreRuns rs → IsNonDecreasingBy (λ r. r.base) rs
 bases-rise rs are i j d le within = (rise-behind 0 None rs are i j d le within).0
@@ -170,7 +180,8 @@ ends-rise rs are i j d le within = (rise-behind 0 None rs are i j d le within).1
 -- What a binary search and a walk find.
 
 -- a walk over what a test parts finds its place
-pub walked : {X : Type 0} (p : X → Bool) (xs : List X) (k : ℕ) → k ≡ prefix_len p xs → IsPartitionedBy p xs → IsPartitionPoint (λ x. p x ≡ true) (λ x. p x ≡ false) xs k
+pub walked : {X : Type 0} (p : X → Bool) (xs : List X) (k : ℕ) → k ≡ prefix_len p xs → IsPartitionedBy p xs →
+    IsPartitionPoint (λ x. p x ≡ true) (λ x. p x ≡ false) xs k
 walked p xs k is parted = (
   λ m d low below. prefix_len_passes p xs m d (omega (arith, is, below)),
   λ m d from within.
@@ -197,7 +208,8 @@ met-part rs base end i k within short first second =
       behind = λ m d lt.
           let far : length (drop (i + k) rs) ≡ length rs - (i + k) = length-drop (i + k) rs in
           let assoc : i + (k + m) ≡ i + k + m = omega arith in
-          let same : get_or (drop i rs) (k + m) d ≡ get_or (drop (i + k) rs) m d = get_or-drop i rs (k + m) d ∙ (ap (λ n. get_or rs n d) assoc ∙ sym (get_or-drop (i + k) rs m d)) in
+          let same : get_or (drop i rs) (k + m) d ≡ get_or (drop (i + k) rs) m d = get_or-drop i rs (k + m) d
+          ∙ (ap (λ n. get_or rs n d) assoc ∙ sym (get_or-drop (i + k) rs m d)) in
           subst (BeginsFrom end) same (ltb-false _ end (second.1 (k + m) d (omega arith) (omega (arith, lt, far, rest))));
     }
 
@@ -207,9 +219,11 @@ placed : (a b c d : List Run) (w : Run) → (((a ++ b) ++ w ∷ []) ++ c) ++ d �
 placed a b c d w = simp append_assoc
 
 pub overwritten-anew : (rs : List Run) (base len entry i j : ℕ) → AreRuns rs → IsMetPart rs base (base + len) i j
-    → (((take i rs ++ filter_map (lower_part base) (slice_range rs i j)) ++ run_of base len entry ∷ []) ++ filter_map (upper_part (base + len)) (slice_range rs i j)) ++ drop j rs ≡ overwritten rs base len entry
+    → (((take i rs ++ filter_map (lower_part base) (slice_range rs i j)) ++ run_of base len entry ∷ [])
+    ++ filter_map (upper_part (base + len)) (slice_range rs i j)) ++ drop j rs ≡ overwritten rs base len entry
 overwritten-anew rs base len entry i j are met =
-    placed (take i rs) (filter_map (lower_part base) (slice_range rs i j)) (filter_map (upper_part (base + len)) (slice_range rs i j)) (drop j rs) (run_of base len entry)
+    placed (take i rs) (filter_map (lower_part base) (slice_range rs i j)) (filter_map (upper_part (base + len)) (slice_range rs i j)) (drop j rs)
+    (run_of base len entry)
     ∙ overwritten-middle rs base len entry i j are met
 
 -- what comes behind other runs, piece by piece
@@ -217,5 +231,6 @@ pub behind-others : (o a b c d : List Run) (r : Run) → ((((o ++ a) ++ b) ++ r 
 behind-others o a b c d r =
     let two : (o ++ a) ++ b ≡ o ++ (a ++ b) = append_assoc o a b in
     let three : ((o ++ a) ++ b) ++ r ∷ [] ≡ o ++ ((a ++ b) ++ r ∷ []) = ap (λ (xs : List Run). xs ++ r ∷ []) two ∙ append_assoc o (a ++ b) (r ∷ []) in
-    let four : (((o ++ a) ++ b) ++ r ∷ []) ++ c ≡ o ++ (((a ++ b) ++ r ∷ []) ++ c) = ap (λ (xs : List Run). xs ++ c) three ∙ append_assoc o ((a ++ b) ++ r ∷ []) c in
+    let four : (((o ++ a) ++ b) ++ r ∷ []) ++ c ≡ o ++ (((a ++ b) ++ r ∷ []) ++ c) = ap (λ (xs : List Run). xs ++ c) three
+    ∙ append_assoc o ((a ++ b) ++ r ∷ []) c in
     ap (λ (xs : List Run). xs ++ d) four ∙ append_assoc o (((a ++ b) ++ r ∷ []) ++ c) d

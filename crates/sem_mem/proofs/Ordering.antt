@@ -33,22 +33,28 @@ IsFrom n x = n ≤ x.entry
 all-from : (T : Setup) (J : List Entry) (W : World) (n : ℕ) → All (IsFrom n) (accesses_from T W n J)
 unfolding accesses_from
 all-from T [] W n = All-nil (IsFrom n)
-all-from T (e ∷ es) W n = with-first (access_of W n e) refl (All-weaker (IsFrom (n + 1)) (IsFrom n) (λ x from. omega (arith, from)) (accesses_from T (after T W e.event) (n + 1) es) (all-from T es (after T W e.event) (n + 1)))
+all-from T (e ∷ es) W n =
+    with-first (access_of W n e) refl (All-weaker (IsFrom (n + 1)) (IsFrom n) (λ x from. omega (arith, from)) (accesses_from T (after T W e.event) (n + 1) es)
+    (all-from T es (after T W e.event) (n + 1)))
   where
-    with-first : (o : Option Access) → access_of W n e ≡ o → All (IsFrom n) (accesses_from T (after T W e.event) (n + 1) es) → All (IsFrom n) (option_to_list o ++ accesses_from T (after T W e.event) (n + 1) es)
+    with-first : (o : Option Access) → access_of W n e ≡ o → All (IsFrom n) (accesses_from T (after T W e.event) (n + 1) es) →
+        All (IsFrom n) (option_to_list o ++ accesses_from T (after T W e.event) (n + 1) es)
     with-first None none rest = rest
-    with-first (Some x) some rest = All-cons (IsFrom n) x (accesses_from T (after T W e.event) (n + 1) es) (let place = entry-place W n e x some in omega (arith, place)) rest
+    with-first (Some x) some rest = All-cons (IsFrom n) x (accesses_from T (after T W e.event) (n + 1) es) (let place = entry-place W n e x some in
+        omega (arith, place)) rest
 
 all-rise : (T : Setup) (J : List Entry) (W : World) (n : ℕ) → AllPairs Rises (accesses_from T W n J)
 unfolding accesses_from
 all-rise T [] W n = λ i j d lt below. absurd (omega arith)
 all-rise T (e ∷ es) W n = with-first (access_of W n e) refl (all-from T es (after T W e.event) (n + 1)) (all-rise T es (after T W e.event) (n + 1))
   where
-    with-first : (o : Option Access) → access_of W n e ≡ o → All (IsFrom (n + 1)) (accesses_from T (after T W e.event) (n + 1) es) → AllPairs Rises (accesses_from T (after T W e.event) (n + 1) es) → AllPairs Rises (option_to_list o ++ accesses_from T (after T W e.event) (n + 1) es)
+    with-first : (o : Option Access) → access_of W n e ≡ o → All (IsFrom (n + 1)) (accesses_from T (after T W e.event) (n + 1) es) →
+        AllPairs Rises (accesses_from T (after T W e.event) (n + 1) es) → AllPairs Rises (option_to_list o ++ accesses_from T (after T W e.event) (n + 1) es)
     with-first None none from rest = rest
     with-first (Some x) some from rest =
         let place : x.entry ≡ n = entry-place W n e x some in
-        AllPairs-cons Rises x (accesses_from T (after T W e.event) (n + 1) es) (All-weaker (IsFrom (n + 1)) (Rises x) (λ y late. omega (arith, late, place)) (accesses_from T (after T W e.event) (n + 1) es) from) rest
+        AllPairs-cons Rises x (accesses_from T (after T W e.event) (n + 1) es) (All-weaker (IsFrom (n + 1)) (Rises x) (λ y late. omega (arith, late, place))
+        (accesses_from T (after T W e.event) (n + 1) es) from) rest
 
 -- each is below the end of the journal
 pub all-before : (T : Setup) (J : List Entry) → AreBefore (length J) (accesses T J)
@@ -58,11 +64,13 @@ all-before T J = All-weaker (Contains (accesses T J)) (λ (x : Access). x.entry 
     below x among =
         let at : StandsIn T (start T) 0 J x = stands T J x among in
         let place = at.place in
-        let size : length J ≡ length at.before + suc (length at.later) = ap (λ (xs : List Entry). length xs) at.parts ∙ length-append at.before (at.entry ∷ at.later) in
+        let size : length J ≡ length at.before + suc (length at.later) = ap (λ (xs : List Entry). length xs) at.parts
+        ∙ length-append at.before (at.entry ∷ at.later) in
         omega (arith, place, size)
 
 -- what passes lies in a memory, and so below the end
-passes-fits : (x : Access) (off : ℕ) (o : Object) (right : ℕ) → x.base ≡ base_of o + off → Passes right off x.len o → IsValidObject o → x.base + x.len ≤ ADDRESSES
+passes-fits : (x : Access) (off : ℕ) (o : Object) (right : ℕ) → x.base ≡ base_of o + off → Passes right off x.len o → IsValidObject o →
+    x.base + x.len ≤ ADDRESSES
 passes-fits x off (Mem base size rights) right from passes valid = let most = valid.3 in omega (arith, from, passes.0, most)
 passes-fits x off (Recv slots) right from passes valid = absurd passes
 passes-fits x off (Send gate label credits) right from passes valid = absurd passes
@@ -70,7 +78,8 @@ passes-fits x off (Serv name) right from passes valid = absurd passes
 passes-fits x off (Sess service ident) right from passes valid = absurd passes
 
 pub all-fit : (T : Setup) → IsSetup T → (J : List Entry) → IsSchedule T J → All (λ (x : Access). x.base + x.len ≤ ADDRESSES) (accesses T J)
-all-fit T valid J runs = All-weaker (Contains (accesses T J)) (λ (x : Access). x.base + x.len ≤ ADDRESSES) fits (accesses T J) (All-contains_itself (accesses T J))
+all-fit T valid J runs = All-weaker (Contains (accesses T J)) (λ (x : Access). x.base + x.len ≤ ADDRESSES) fits (accesses T J)
+    (All-contains_itself (accesses T J))
   where
     fits : (x : Access) → Contains (accesses T J) x → x.base + x.len ≤ ADDRESSES
     fits x among =

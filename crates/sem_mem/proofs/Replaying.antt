@@ -19,9 +19,11 @@ abbrev world_at : Setup → List Entry → WorldValue
 world_at T J = record { setup = T; world = world_after T J }
 
 -- It has come to the entry at place i.
-module _ (T : Setup) (J : List Entry) (runs : IsSchedule T J) (i : ℕ) (e : Entry) (now : WorldValue) (so_far : now ≡ world_at T (take i J)) (within : i < length J) (at : e ≡ get_or J i e) where
+module _ (T : Setup) (J : List Entry) (runs : IsSchedule T J) (i : ℕ) (e : Entry) (now : WorldValue) (so_far : now ≡ world_at T (take i J))
+    (within : i < length J) (at : e ≡ get_or J i e) where
   with-it : J ≡ take i J ++ e ∷ drop (suc i) J
-  with-it = sym (ap (λ (xs : List Entry). take i J ++ xs) (sym (drop-cons J i e within ∙ ap (λ (x : Entry). x ∷ drop (suc i) J) (sym at))) ∙ take-append-drop i J)
+  with-it = sym (ap (λ (xs : List Entry). take i J ++ xs) (sym (drop-cons J i e within ∙ ap (λ (x : Entry). x ∷ drop (suc i) J) (sym at)))
+      ∙ take-append-drop i J)
 
   on : IsSchedule T (take i J) × (is_enabled T (world_after T (take i J)) e.event ≡ true) × (e ≡ entry_of T (world_after T (take i J)) e.event)
   on = entry-enabled T (take i J) (start T) e (drop (suc i) J) (subst (IsSchedule T) with-it runs)
@@ -48,7 +50,8 @@ module _ (T : Setup) (J : List Entry) (runs : IsSchedule T J) (i : ℕ) (e : Ent
   next-entries = sym (take_more J i e within ∙ ap (λ (x : Entry). take i J ++ x ∷ []) (sym at))
 
   -- and its access is found
-  pub next-accesses : IsSetup T → (found : List Access) → found ≡ accesses T (take i J) → found ++ option_to_list (access_by now.setup now.world i (transfer_of e)) ≡ accesses T (take (i + 1) J)
+  pub next-accesses : IsSetup T → (found : List Access) → found ≡ accesses T (take i J) →
+      found ++ option_to_list (access_by now.setup now.world i (transfer_of e)) ≡ accesses T (take (i + 1) J)
   next-accesses valid found is =
       ap (λ (w : WorldValue). found ++ option_to_list (access_by w.setup w.world i (transfer_of e))) so_far
       ∙ gather-more T valid J i e within at on.1 on.2 found is

@@ -1,5 +1,6 @@
 -- What accesses tell one after another: the last writes so far, and what each read finds.
-use Rattle.std.proofs.Common.{◌≡◌, ℕ, zero, suc, ◌+◌, ◌≤◌, ◌<◌, Bool, true, false, not, cond, List, [], ◌∷◌, ◌++◌, length, map, take, drop, get_or, Option, Some, refl, sym, ◌∙◌, ap, subst, inl, inr, arith, append-nil, append_assoc, ◌⊎◌}
+use Rattle.std.proofs.Common.{◌≡◌, ℕ, zero, suc, ◌+◌, ◌≤◌, ◌<◌, Bool, true, false, not, cond, List, [], ◌∷◌, ◌++◌, length, map, take, drop, get_or, Option}
+use Rattle.std.proofs.Common.{Some, refl, sym, ◌∙◌, ap, subst, inl, inr, arith, append-nil, append_assoc, ◌⊎◌}
 use Rattle.std.specs.List.{All, filter, filter_map, range_with_len, cons_option}
 use Rattle.std.specs.Prelude.{Result, Ok, Err, is_ok, OnOk, ◌&&◌, nat_lt, max, codes, decimal}
 use Rattle.std.proofs.lemmas.Bool.{cases_Bool, cases_eq, cond-true, cond-false, and_left, lt-ltb, le-ltb}
@@ -51,7 +52,8 @@ older-entries : (n : ℕ) (test : Access → Bool) (xs : List Access) → AreBef
 older-entries n test xs before = All-map (λ m. m < n) (λ (x : Access). x.entry) (filter test xs) (All-filter test (λ (x : Access). x.entry < n) xs before)
 
 -- one access more, by a later entry
-greatest-more : (test : Access → Bool) (xs : List Access) (x : Access) → AreBefore x.entry xs → greatest_entry test (xs ++ x ∷ []) ≡ cond (test x) (Some x.entry) (greatest_entry test xs)
+greatest-more : (test : Access → Bool) (xs : List Access) (x : Access) → AreBefore x.entry xs →
+    greatest_entry test (xs ++ x ∷ []) ≡ cond (test x) (Some x.entry) (greatest_entry test xs)
 greatest-more test xs x before =
     ap (λ ys. greatest (map (λ (y : Access). y.entry) ys)) (filter-append test xs (x ∷ []))
     ∙ elim (cases_Bool (test x)) [
@@ -72,10 +74,13 @@ greatest-more test xs x before =
 last-before : (xs ys : List Access) (n a : ℕ) → AreBefore n xs → All (λ y. n ≤ y.entry) ys → last_write_in (xs ++ ys) n a ≡ greatest_entry (is_write_at a) xs
 last-before xs ys n a before from =
     let same : filter (is_write_before n a) xs ≡ filter (is_write_at a) xs =
-    filter-same (is_write_before n a) (is_write_at a) xs (All-weaker (λ (x : Access). x.entry < n) (λ (x : Access). is_write_before n a x ≡ is_write_at a x) (λ x below. kept-test (nat_lt x.entry n) (is_write_at a x) (lt-ltb x.entry n below)) xs before) in
+    filter-same (is_write_before n a) (is_write_at a) xs (All-weaker (λ (x : Access). x.entry < n) (λ (x : Access). is_write_before n a x ≡ is_write_at a x)
+    (λ x below. kept-test (nat_lt x.entry n) (is_write_at a x) (lt-ltb x.entry n below)) xs before) in
     let none : filter (is_write_before n a) ys ≡ [] =
-    filter-none (is_write_before n a) ys (All-weaker (λ (y : Access). n ≤ y.entry) (λ (y : Access). is_write_before n a y ≡ false) (λ y late. and_left (nat_lt y.entry n) (is_write_at a y) (le-ltb y.entry n late)) ys from) in
-    ap (λ zs. greatest (map (λ (y : Access). y.entry) zs)) (filter-append (is_write_before n a) xs ys ∙ (ap (λ zs. zs ++ filter (is_write_before n a) ys) same ∙ (ap (λ zs. filter (is_write_at a) xs ++ zs) none ∙ append-nil (filter (is_write_at a) xs))))
+    filter-none (is_write_before n a) ys (All-weaker (λ (y : Access). n ≤ y.entry) (λ (y : Access). is_write_before n a y ≡ false)
+    (λ y late. and_left (nat_lt y.entry n) (is_write_at a y) (le-ltb y.entry n late)) ys from) in
+    ap (λ zs. greatest (map (λ (y : Access). y.entry) zs)) (filter-append (is_write_before n a) xs ys
+    ∙ (ap (λ zs. zs ++ filter (is_write_before n a) ys) same ∙ (ap (λ zs. filter (is_write_at a) xs ++ zs) none ∙ append-nil (filter (is_write_at a) xs))))
 
 -- accesses that all come before it
 pub last-of-all : (xs : List Access) (n a : ℕ) → AreBefore n xs → last_write_in xs n a ≡ greatest_entry (is_write_at a) xs
@@ -134,7 +139,8 @@ module _ (xs : List Access) (order : AreInOrder xs) (i : ℕ) (x : Access) (is :
   last-at a = ap (λ zs. last_write_in zs x.entry a) (sym (take-append-drop i xs)) ∙ last-before (take i xs) (drop i xs) x.entry a before-it from-it
 
   -- memory that tells the last writes of those before it, and then of it too
-  pub kept-more : (old new : ℕ → Option ℕ) → ((a : ℕ) → old a ≡ greatest_entry (is_write_at a) (take i xs)) → ((a : ℕ) → new a ≡ cond (is_write_at a x) (Some x.entry) (old a)) → (a : ℕ) → new a ≡ greatest_entry (is_write_at a) (take (i + 1) xs)
+  pub kept-more : (old new : ℕ → Option ℕ) → ((a : ℕ) → old a ≡ greatest_entry (is_write_at a) (take i xs)) →
+      ((a : ℕ) → new a ≡ cond (is_write_at a x) (Some x.entry) (old a)) → (a : ℕ) → new a ≡ greatest_entry (is_write_at a) (take (i + 1) xs)
   kept-more old new kept changed a =
       changed a ∙ (ap (cond (is_write_at a x) (Some x.entry)) (kept a)
       ∙ sym (ap (greatest_entry (is_write_at a)) one-more ∙ greatest-more (is_write_at a) (take i xs) x before-it))
@@ -165,8 +171,10 @@ module _ (xs : List Access) (order : AreInOrder xs) (i : ℕ) (x : Access) (is :
   fits-here = subst (λ (y : Access). y.base + y.len ≤ ADDRESSES) (here x) (order.fit i x within)
 
 -- The whole text: the first line, the reads, the runs, the last line.
-pub whole-text : (xs : List Access) (n : ℕ) (rs : List Run) (start headed read ran ended : List ℕ) → AreBefore n xs → AreRuns rs → ((a : ℕ) → entry_at rs a ≡ greatest_entry (is_write_at a) xs)
-    → headed ≡ start ++ line (codes "semper contents" ∷ decimal 1 ∷ []) → read ≡ headed ++ told_reads xs xs → ran ≡ read ++ text (map run_line rs) → ended ≡ ran ++ line (codes "end" ∷ [])
+pub whole-text : (xs : List Access) (n : ℕ) (rs : List Run) (start headed read ran ended : List ℕ) → AreBefore n xs → AreRuns rs →
+    ((a : ℕ) → entry_at rs a ≡ greatest_entry (is_write_at a) xs)
+    → headed ≡ start ++ line (codes "semper contents" ∷ decimal 1 ∷ []) → read ≡ headed ++ told_reads xs xs → ran ≡ read ++ text (map run_line rs) →
+    ended ≡ ran ++ line (codes "end" ∷ [])
     → ended ≡ start ++ text (access_lines xs n)
 whole-text xs n rs start headed read ran ended before are kept one two three four =
     let A : List (List (List ℕ)) = map (λ (x : Access). read_line x (found_by xs x)) (reads xs) in
@@ -176,21 +184,24 @@ whole-text xs n rs start headed read ran ended before are kept one two three fou
     let runs : rs ≡ all_runs (last_write_in xs n) = kept-runs (last_write_in xs n) rs are (λ a. kept a ∙ sym (last-of-all xs n a before)) in
     let parts : text (((head ∷ A) ++ B) ++ last ∷ []) ≡ ((line head ++ text A) ++ text B) ++ (line last ++ []) =
     flat_map-append line ((head ∷ A) ++ B) (last ∷ []) ∙ ap (λ bytes. bytes ++ (line last ++ [])) (flat_map-append line (head ∷ A) B) in
-    four ∙ (ap (λ bytes. bytes ++ line last) (three ∙ (ap (λ qs. read ++ text (map run_line qs)) runs ∙ ap (λ bytes. bytes ++ text B) (two ∙ ap (λ bytes. bytes ++ text A) one)))
+    four ∙ (ap (λ bytes. bytes ++ line last) (three
+    ∙ (ap (λ qs. read ++ text (map run_line qs)) runs ∙ ap (λ bytes. bytes ++ text B) (two ∙ ap (λ bytes. bytes ++ text A) one)))
     ∙ (grouped start (line head) (text A) (text B) (line last) ∙ ap (λ bytes. start ++ bytes) (sym parts)))
   where
     grouped : (s h a b l : List ℕ) → (((s ++ h) ++ a) ++ b) ++ l ≡ s ++ (((h ++ a) ++ b) ++ (l ++ []))
     grouped s h a b l = simp (append_assoc, append-nil)
 
 -- bytes that were appended, unless memory ran out
-pub appended : {E : Type 0} (r : Result Unit E) (old bytes told new : List ℕ) → bytes ≡ told → new ≡ cond (is_ok r) (old ++ bytes) old → OnOk r (new ≡ old ++ told)
+pub appended : {E : Type 0} (r : Result Unit E) (old bytes told new : List ℕ) → bytes ≡ told → new ≡ cond (is_ok r) (old ++ bytes) old →
+    OnOk r (new ≡ old ++ told)
 appended (Ok x) old bytes told new same is = is ∙ ap (λ bs. old ++ bs) same
 appended (Err e) old bytes told new same is = tt
 
 -- The runs of chunks.
 
 -- the lines of one chunk more
-pub chunk-told : (cs : List (Vec Run)) (i : ℕ) (c : Vec Run) (old : List ℕ) → i < length cs → (old ++ text (map run_line (together (take i cs)))) ++ text (map run_line (get_or cs i c).items) ≡ old ++ text (map run_line (together (take (i + 1) cs)))
+pub chunk-told : (cs : List (Vec Run)) (i : ℕ) (c : Vec Run) (old : List ℕ) → i < length cs →
+    (old ++ text (map run_line (together (take i cs)))) ++ text (map run_line (get_or cs i c).items) ≡ old ++ text (map run_line (together (take (i + 1) cs)))
 chunk-told cs i c old within =
     let before = together (take i cs) in
     let here = (get_or cs i c).items in

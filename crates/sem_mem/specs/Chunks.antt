@@ -1,5 +1,5 @@
--- What the private functions of this crate say of runs that are kept in chunks, and of the chunks
--- that a range of addresses meets.
+-- What the private functions of this crate say of runs kept in chunks, and of the chunks that a
+-- range of addresses meets.
 use Rattle.std.specs.Prelude.{◌≡◌, ℕ, ◌+◌, ◌≤◌, List, [], ◌∷◌, All, length, map, take, drop}
 use Rattle.std.specs.Global.{Vec}
 use Rattle.std.specs.List.{flat_map}
@@ -39,7 +39,7 @@ pub record AreIndexed (cs : List (Vec Run)) (beginnings : List ℕ) : Type 0 whe
   pub begin : beginnings ≡ beginnings_of cs
 
 -- the runs of the chunks before chunk i end before the addresses from base up to end, and those of
--- the chunks from chunk j on begin behind them
+-- the chunks from chunk j on begin after them
 pub record AreMetChunks (cs : List (Vec Run)) (base end i j : ℕ) : Type 0 where
   pub order : i ≤ j
   pub within : j ≤ length cs

@@ -3,7 +3,7 @@ use Rattle.std.specs.Prelude.{ℕ, ◌+◌, ◌≤◌, List, All, length, take, 
 use Rattle.sem_access.specs.declared.run.Run.{Run}
 
 -- the runs before place i end before the addresses from base up to end, and those from place j on
--- begin behind them
+-- begin after them
 pub record IsMetPart (rs : List Run) (base end i j : ℕ) : Type 0 where
   pub order : i ≤ j
   pub within : j ≤ length rs

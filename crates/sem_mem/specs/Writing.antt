@@ -1,6 +1,7 @@
 -- What the private functions of this crate say of how runs change when an entry writes a range, and
 -- of what they tell of a range.
-use Rattle.std.specs.Prelude.{ℕ, ◌+◌, ◌-◌, ◌==◌, min, max, nat_lt, List, ◌∷◌, ◌++◌, filter_map, Option, Some, None, if◌then◌else◌}
+use Rattle.std.specs.Prelude.{ℕ, ◌+◌, ◌-◌, ◌==◌, min, max, nat_lt, List, ◌∷◌, ◌++◌, filter_map, Option, Some, None}
+use Rattle.std.specs.Prelude.{if◌then◌else◌}
 use Rattle.sem_access.specs.declared.run.Run.{Run}
 use Rattle.sem_access.specs.declared.look.Look.{Look}
 use Rattle.sem_access.specs.LastWrites.{greater}
@@ -31,7 +32,7 @@ overwritten rs base len entry =
 abbrev pub shared : (from end : ℕ) → Run → ℕ
 shared from end r = min end (r.base + r.len) - max r.base from
 
--- what was found, and what a run tells beside it
+-- what was found, and what a run tells besides
 abbrev pub with_run : (from end : ℕ) → Look → Run → Look
 with_run from end found r =
     if shared from end r == 0
@@ -41,12 +42,12 @@ with_run from end found r =
       newest = greater r.entry found.newest;
     }
 
--- the greater of two numbers that may be there
+-- the greater of two optional numbers
 abbrev pub greater_of : Option ℕ → Option ℕ → Option ℕ
 greater_of None other = other
 greater_of (Some n) other = greater n other
 
--- what was found by some runs and by others that share no address with them
+-- what some runs tell, and what others tell that share no address with them
 abbrev pub both : Look → Look → Look
 both some more = record {
   written = some.written + more.written;

@@ -14,7 +14,7 @@ use sem_msg::{Entry, Setup};
 use std::alloc::Global;
 
 impl Account {
-    /// The account of no accesses. Takes no memory.
+    /// The account of no accesses.
     pub fn new(alloc: Global) -> Self
         ensures { IsAccount [] result }
     {
@@ -25,7 +25,7 @@ impl Account {
         }
     }
 
-    /// Sees the world before the entry, which comes at that place. Takes no memory.
+    /// Sees the world before the entry, which comes at that place.
     pub fn before(&mut self, world: &World, place: u64, entry: &Entry)
         ensures { self.new ≡ record self.old {
           next
@@ -35,14 +35,14 @@ impl Account {
         self.next = access_at(world, place, entry);
     }
 
-    /// Takes in what the entry behind the past ones reads or writes.
+    /// Takes in what the entry after the past ones reads or writes.
     pub fn after(&mut self, setup: &Setup, past: &[Entry], entry: &Entry) -> Result<(), OutOfMemory>
         requires schedule { IsSchedule setup.now (past.now ++ entry.now ∷ []) }
         requires expected { IsAccountBefore setup.now past.now entry.now self.old }
         ensures { OnOk result
             (IsAccountOf setup.now (past.now ++ entry.now ∷ []) self.new) }
     {
-        // So that the proof knows what a setup keeps.
+        // Shows the proof what a setup keeps.
         let _ = &setup.vpes;
         match self.next {
             Some(access) => take_in(&mut self.memory, &mut self.lines, &access),

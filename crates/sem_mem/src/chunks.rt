@@ -7,11 +7,11 @@ ghost use Rattle.sem_mem.specs.Chunks.{AreChunks, AreMetChunks, beginning, begin
 
 use sem_access::Run;
 
-/// The most runs of a chunk.
+/// The most runs in a chunk.
 pub const CHUNK: usize = 24;
 
-/// From which chunk on, and up to which, chunks that begin there meet the addresses from `base` up
-/// to `end`; where none does, a chunk beside them.
+/// The chunks, given their beginnings, that meet the addresses from `base` up to `end`: the place
+/// of the first, and the place after the last. If none does, a chunk beside them.
 pub fn chunks_met(beginnings: &[u64], base: u64, end: u64) -> (usize, usize)
     ensures { (cs : List (VecData RunData)) → AreChunks cs → beginnings.now ≡ beginnings_of cs
         → AreMetChunks cs base end result.0 result.1 }
@@ -22,8 +22,8 @@ pub fn chunks_met(beginnings: &[u64], base: u64, end: u64) -> (usize, usize)
     (from, to.max(beginnings.len().min(1)))
 }
 
-// How many of the first chunks begin before the address. Mostly there is none, so that a walk finds
-// the end sooner than a second search.
+// How many of the first chunks begin before the address. Mostly there is none, so a walk finds the
+// end sooner than a second search.
 fn count_before(beginnings: &[u64], address: u64) -> usize
     ensures within { result ≤ length beginnings.now }
     ensures front { result ≡ prefix_len (λ b. nat_lt b address) beginnings.now }

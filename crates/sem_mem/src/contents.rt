@@ -1,13 +1,15 @@
-// The text that tells what memory holds. After lack of memory each of these functions but
+// The text that tells what memory holds. If memory is refused, each of these functions but
 // `print_contents` may have appended a part.
-ghost use Rattle.std.specs.Prelude.{◌≡◌, ◌+◌, ◌≤◌, ◌++◌, ◌∷◌, [], ℕ, List, Some, map, if◌then◌else◌, OnOk, OnErr, IfOk};
+ghost use Rattle.std.specs.Prelude.{◌≡◌, ◌+◌, ◌≤◌, ◌++◌, ◌∷◌, [], ℕ, List, Some, map};
+ghost use Rattle.std.specs.Prelude.{if◌then◌else◌, OnOk, OnErr, IfOk};
 ghost use Rattle.sem_key.specs.declared.limits.TheConstants.{ADDRESSES};
 ghost use Rattle.sem_text.specs.Lines.{line, text};
 ghost use Rattle.sem_machine.specs.Schedules.{IsSchedule};
 ghost use Rattle.sem_access.specs.declared.access.Access.{Access as AccessData};
 ghost use Rattle.sem_access.specs.LastWrites.{is_write_at, looked};
 ghost use Rattle.sem_access.specs.Runs.{entry_at, IsNewer};
-ghost use Rattle.sem_access.specs.ContentsText.{entry_word, read_line, run_line, access_lines, contents};
+ghost use Rattle.sem_access.specs.ContentsText.{entry_word, read_line, run_line, access_lines};
+ghost use Rattle.sem_access.specs.ContentsText.{contents};
 ghost use Rattle.sem_mem.specs.Reading.{AreBefore};
 ghost use Rattle.sem_mem.specs.Chunks.{together};
 ghost use Rattle.sem_mem.specs.Accounts.{IsAccount, IsAccountOf};
@@ -23,8 +25,8 @@ use sem_text::push_number_behind;
 use sem_trace::{push_line, push_start};
 use std::alloc::Global;
 
-/// Appends the text that tells what memory holds after a journal that the machine can make. After
-/// lack of memory `out` is as before.
+/// Appends the text that tells what memory holds after a journal that the machine can make. If
+/// memory is refused, `out` is as before.
 pub fn print_contents(
     alloc: Global,
     setup: &Setup,
@@ -36,7 +38,7 @@ pub fn print_contents(
         (out.new.items ≡ out.old.items ++ contents setup.now journal.now.entries) }
     ensures err { OnErr result (out.new.items ≡ out.old.items) }
 {
-    // So that the proof knows what a setup keeps.
+    // Shows the proof what a setup keeps.
     let _ = &setup.vpes;
     let account = account_of(alloc, setup, journal.as_slice())?;
     let mut told = Vec::new(alloc);
@@ -59,8 +61,8 @@ fn account_of(alloc: Global, setup: &Setup, entries: &[Entry]) -> Result<Account
     Ok(account)
 }
 
-/// Appends the text that tells what memory holds after accesses by their account. After lack of
-/// memory a part may be there.
+/// Appends the text that tells what memory holds after accesses, by their account. If memory is
+/// refused, a part may be there.
 pub fn push_contents(out: &mut Vec<u8>, account: &Account) -> Result<(), OutOfMemory>
     ensures { OnOk result ((xs : List AccessData) (n : ℕ) → IsAccount xs account.now
         → AreBefore n xs → out.new.items ≡ out.old.items ++ text (access_lines xs n)) }
@@ -71,7 +73,7 @@ pub fn push_contents(out: &mut Vec<u8>, account: &Account) -> Result<(), OutOfMe
     push_line(out, b"end", &[])
 }
 
-/// The access happens: a write changes what memory holds, and of a read the line is appended.
+/// Lets the access happen: a write changes what memory holds, and for a read its line is appended.
 pub fn take_in(memory: &mut Memory, out: &mut Vec<u8>, access: &Access) -> Result<(), OutOfMemory>
     requires fits { access.now.base + access.now.len ≤ ADDRESSES }
     requires newer { IsNewer memory.old access.now.entry }

@@ -3,7 +3,8 @@ ghost use Rattle.std.specs.Prelude.{◌≡◌, ◌+◌, ◌≤◌, ℕ, Option};
 ghost use Rattle.sem_key.specs.declared.limits.TheConstants.{ADDRESSES};
 ghost use Rattle.sem_access.specs.LastWrites.{greater as greater_lem, looked};
 ghost use Rattle.sem_access.specs.Runs.{IsValidRun, AreRuns, entry_at};
-ghost use Rattle.sem_mem.specs.Writing.{shared as shared_lem, with_run as with_run_lem, both as both_lem};
+ghost use Rattle.sem_mem.specs.Writing.{shared as shared_lem, with_run as with_run_lem};
+ghost use Rattle.sem_mem.specs.Writing.{both as both_lem};
 ghost use Rattle.sem_mem.specs.Chunks.{together, AreChunks};
 
 use crate::runs::met_by;
@@ -25,7 +26,7 @@ pub fn look_through(chunks: &[Vec<Run>], base: u64, len: u32) -> Look
     found
 }
 
-// What the range tells of them by the runs of a chunk.
+// What the range tells of them, by the runs of a chunk.
 fn look_into(runs: &[Run], base: u64, len: u32) -> Look
     requires range { base + len ≤ ADDRESSES }
     requires runs { AreRuns runs.now }
@@ -35,7 +36,7 @@ fn look_into(runs: &[Run], base: u64, len: u32) -> Look
     look_in(&runs[from..to], base, len)
 }
 
-// What was found by some runs and by others that share no address with them.
+// What some runs tell, and what others tell that share no address with them.
 fn both(some: Look, more: Look) -> Look
     requires { some.written + more.written ≤ ADDRESSES }
     ensures { result ≡ both_lem some more }
@@ -66,7 +67,7 @@ fn look_in(runs: &[Run], base: u64, len: u32) -> Look
     found
 }
 
-// What was found, and what the run tells beside it.
+// What was found, and what the run tells besides.
 fn with_run(found: Look, run: &Run, from: u64, end: u64) -> Look
     requires run { IsValidRun run.now }
     requires few { found.written + shared_lem from end run.now ≤ ADDRESSES }
@@ -92,7 +93,7 @@ fn shared(run: &Run, from: u64, end: u64) -> u64
         .saturating_sub(run.base.max(from))
 }
 
-// The greater of the entry and one that may be there.
+// The greater of the entry and an optional one.
 fn greater(entry: u64, newest: Option<u64>) -> u64
     ensures { Some result ≡ greater_lem entry newest }
 {

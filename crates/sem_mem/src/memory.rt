@@ -13,14 +13,16 @@ use sem_key::OutOfMemory;
 use std::alloc::Global;
 use std::marker::Model;
 
-/// Who wrote each address of memory last, as the runs of the addresses.
-// They are kept in chunks, so that a write moves the runs of a chunk or two, and not all behind it.
+/// Which entry wrote each address of memory last, as the runs of the addresses. Only `runs` and
+/// `write` take memory.
+// They are kept in chunks, so that a write moves the runs of a chunk or two, and not all runs after
+// them.
 #[derive(Debug, Drop)]
 pub struct Memory {
     chunks: Vec<Vec<Run>>,
     // Where each chunk begins: a search looks into no chunk.
     beginnings: Vec<u64>,
-    // Room in which a chunk is written anew, to take the place of the old one.
+    // Room in which a chunk is written anew before it replaces the old one.
     spare: Vec<Run>,
 }
 
@@ -37,7 +39,7 @@ impl Model for Memory {
 }
 
 impl Memory {
-    /// Nothing was written. Takes no memory.
+    /// Nothing was written.
     pub fn new(alloc: Global) -> Self
         ensures { result ≡ [] }
     {
@@ -56,7 +58,7 @@ impl Memory {
         runs_of(alloc, &self.chunks)
     }
 
-    /// The runs, in rising order, in chunks. Takes no memory.
+    /// The runs, in rising order, in chunks.
     pub(crate) fn chunks(&self) -> &[Vec<Run>]
         ensures runs { together result.now ≡ self.now }
         ensures apart { AreRuns self.now }
@@ -64,10 +66,10 @@ impl Memory {
         &self.chunks
     }
 
-    /// The entry, which comes behind all that wrote before, writes the range. All other addresses
-    /// stay, and after lack of memory these too.
+    /// The entry, later than all that wrote before, writes the range. All other addresses stay; if
+    /// memory is refused, so do these.
     ///
-    /// The range ends within 4 GiB.
+    /// The range must end within 4 GiB.
     pub fn write(&mut self, base: u64, len: u32, entry: u64) -> Result<(), OutOfMemory>
         requires range { base + len ≤ ADDRESSES }
         requires newer { IsNewer self.old entry }
@@ -89,9 +91,9 @@ impl Memory {
         Ok(())
     }
 
-    /// What the range tells of the last writes of its addresses. Takes no memory.
+    /// What the range tells of the last writes of its addresses.
     ///
-    /// The range ends within 4 GiB.
+    /// The range must end within 4 GiB.
     pub fn look(&self, base: u64, len: u32) -> Look
         requires { base + len ≤ ADDRESSES }
         ensures { result ≡ looked (entry_at self.now) base len }

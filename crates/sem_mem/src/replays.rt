@@ -12,13 +12,13 @@ use sem_key::OutOfMemory;
 use sem_msg::{Entry, Event, Journal, Setup};
 use std::alloc::Global;
 
-/// The reads and writes of a journal that the machine can make, as far as they were answered with
-/// success. It goes through the events once more.
+/// The reads and writes that succeeded, of a journal that the machine can make. It goes through the
+/// events once more.
 pub fn accesses(alloc: Global, setup: &Setup, journal: &Journal) -> Result<AccessList, OutOfMemory>
     requires { IsSchedule setup.now journal.now.entries }
     ensures { IfOk result (λ list. list ≡ accesses_lem setup.now journal.now.entries) }
 {
-    // So that the proof knows what a setup keeps.
+    // Shows the proof what a setup keeps.
     let _ = &setup.vpes;
     let mut world = World::boot(alloc, setup)?;
     let mut found = AccessList::new(alloc);
@@ -29,7 +29,7 @@ pub fn accesses(alloc: Global, setup: &Setup, journal: &Journal) -> Result<Acces
     Ok(found)
 }
 
-// Appends the access of what the entry reads or writes in the world before it, if it has one.
+// Appends the access of the entry in the world before it, if it has one.
 fn push_access(
     found: &mut AccessList,
     world: &World,
@@ -45,7 +45,7 @@ fn push_access(
     Ok(())
 }
 
-/// What the entry at that place reads or writes in the world before it, if it does.
+/// What the entry at that place reads or writes in the world before it, if anything.
 pub fn access_at(world: &World, place: u64, entry: &Entry) -> Option<Access>
     ensures { result
         ≡ access_by world.now.setup world.now.world place (transfer_of_lem entry.now) }
@@ -57,7 +57,7 @@ pub fn access_at(world: &World, place: u64, entry: &Entry) -> Option<Access>
     }
 }
 
-/// Takes the step of an event that is enabled.
+/// Takes the step of an enabled event.
 pub fn go_on(world: &mut World, event: Event) -> Result<(), OutOfMemory>
     requires { is_enabled world.old.setup world.old.world event ≡ true }
     ensures { OnOk result (world.new ≡ record {

@@ -9,7 +9,8 @@ use sem_access::Run;
 use sem_key::OutOfMemory;
 use std::alloc::Global;
 
-/// From which place on, and up to which, the runs meet the addresses from `base` up to `end`.
+/// The runs that meet the addresses from `base` up to `end`: the place of the first, and the place
+/// after the last.
 pub fn met_by(runs: &[Run], base: u64, end: u64) -> (usize, usize)
     requires { AreRuns runs.now }
     ensures { IsMetPart runs.now base end result.0 result.1 }
@@ -18,7 +19,7 @@ pub fn met_by(runs: &[Run], base: u64, end: u64) -> (usize, usize)
     (from, from + count_before(&runs[from..], end))
 }
 
-// How many of the first runs begin before the address. Mostly there are few, so that a walk finds the
+// How many of the first runs begin before the address. Mostly there are few, so a walk finds the
 // end sooner than a second search.
 fn count_before(runs: &[Run], address: u64) -> usize
     ensures within { result ≤ length runs.now }

@@ -1,9 +1,12 @@
-// Chunks of runs that are overwritten.
-ghost use Rattle.std.specs.Prelude.{◌≡◌, ◌+◌, ◌≤◌, ◌++◌, length, take, drop, All, slice_range, OnOk, OnErr, IfOk};
+// Overwriting chunks of runs.
+ghost use Rattle.std.specs.Prelude.{◌≡◌, ◌+◌, ◌*◌, ◌≤◌, ◌++◌, length, take, drop, All, slice_range};
+ghost use Rattle.std.specs.Prelude.{OnOk, OnErr, IfOk};
 ghost use Rattle.sem_key.specs.declared.limits.TheConstants.{ADDRESSES};
+ghost use Rattle.sem_mem.specs.declared.chunks.TheConstants.{CHUNK as CHUNK_LEM};
 ghost use Rattle.sem_mem.specs.Writing.{overwritten as overwritten_lem};
 ghost use Rattle.sem_access.specs.Runs.{AreRuns};
-ghost use Rattle.sem_mem.specs.Chunks.{together, AreChunks, AreIndexed, HasRun, IsSized, beginnings_of};
+ghost use Rattle.sem_mem.specs.Chunks.{together, AreChunks, AreIndexed, HasRun, IsSized};
+ghost use Rattle.sem_mem.specs.Chunks.{beginnings_of};
 
 use crate::chunks::{CHUNK, beginning_of, chunks_met};
 use crate::parts::{push_lower_parts, push_upper_parts};
@@ -16,8 +19,9 @@ use std::mem;
 /// How many runs a chunk gets that is cut off another one, so that both have room for more.
 const CUT: usize = 16;
 
-/// The entry writes the range, which has an address. Only the chunks that the range meets change, and
-/// with them where they begin. After lack of memory all are as before. In `spare` anything may be.
+/// Lets the entry write the range, which has an address. Only the chunks that the range meets
+/// change, and their beginnings. If memory is refused, all are as before. `spare` may hold
+/// anything.
 pub fn overwrite(
     chunks: &mut Vec<Vec<Run>>,
     beginnings: &mut Vec<u64>,
@@ -63,7 +67,7 @@ fn overwrite_together(
     }
 }
 
-// Appends the parts of the runs below the range, the range, and the parts behind it.
+// Appends the parts of the runs below the range, the range, and the parts after it.
 fn push_overwritten(
     out: &mut Vec<Run>,
     runs: &[Run],
@@ -91,8 +95,8 @@ fn push_overwritten(
     Ok(())
 }
 
-// The runs take the place of the chunks from one place up to another. After lack of memory all are
-// as before. In `runs` anything may be then.
+// Puts the runs in place of the chunks from one place up to another. If memory is refused, all are
+// as before. `runs` may hold anything then.
 fn replace(
     chunks: &mut Vec<Vec<Run>>,
     beginnings: &mut Vec<u64>,
@@ -118,6 +122,9 @@ fn replace(
         mem::swap(&mut chunks[from], runs);
         return Ok(());
     }
+    if to - from == 2 && runs.len() >= 2 && runs.len() <= 2 * CHUNK {
+        return replace_two(chunks, beginnings, from, runs);
+    }
     let alloc = *chunks.allocator();
     let parts = in_chunks(alloc, mem::replace(runs, Vec::new(alloc)))?;
     let begun = beginnings_of_chunks(alloc, &parts)?;
@@ -127,6 +134,35 @@ fn replace(
     all.extend_from_slice(&beginnings[to..])?;
     chunks.splice(from..to, parts)?;
     *beginnings = all;
+    Ok(())
+}
+
+// The runs take the place of the two chunks from that place on, and are two chunks again: no other
+// chunk moves. After lack of memory all are as before. In `runs` anything may be then.
+fn replace_two(
+    chunks: &mut Vec<Vec<Run>>,
+    beginnings: &mut Vec<u64>,
+    from: usize,
+    runs: &mut Vec<Run>,
+) -> Result<(), OutOfMemory>
+    requires within { from + 2 ≤ length chunks.old.items }
+    requires each { All IsSized chunks.old.items }
+    requires begin { beginnings.old.items ≡ beginnings_of chunks.old.items }
+    requires some { 2 ≤ length runs.old.items }
+    requires few { length runs.old.items ≤ 2 * CHUNK_LEM }
+    ensures ok { OnOk result (together chunks.new.items
+        ≡ together (take from chunks.old.items)
+        ++ (runs.old.items ++ together (drop (from + 2) chunks.old.items))) }
+    ensures sized { OnOk result (All IsSized chunks.new.items) }
+    ensures begin { OnOk result (beginnings.new.items ≡ beginnings_of chunks.new.items) }
+    ensures err { OnErr result (chunks.new.items ≡ chunks.old.items) }
+    ensures unmoved { OnErr result (beginnings.new.items ≡ beginnings.old.items) }
+{
+    let mut rest = runs.split_off(runs.len() / 2)?;
+    beginnings[from] = beginning_of(runs);
+    beginnings[from + 1] = beginning_of(&rest);
+    mem::swap(&mut chunks[from], runs);
+    mem::swap(&mut chunks[from + 1], &mut rest);
     Ok(())
 }
 
@@ -140,7 +176,6 @@ fn beginnings_of_chunks(alloc: Global, chunks: &[Vec<Run>]) -> Result<Vec<u64>, 
         .collect(alloc)
 }
 
-// The runs in chunks.
 fn in_chunks(alloc: Global, mut runs: Vec<Run>) -> Result<Vec<Vec<Run>>, OutOfMemory>
     requires { HasRun runs }
     ensures together { IfOk result (λ v. together v.items ≡ runs.items) }

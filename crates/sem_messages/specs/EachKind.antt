@@ -1,25 +1,20 @@
--- A schedule in which messages of every kind are sent, and after which nothing is left to do
--- ("Messages" in docs/proof.md).
+-- A schedule that sends messages of every kind, and after which nothing is left to do ("Messages"
+-- in docs/proof.md).
 use Rattle.std.specs.Prelude.{ℕ, List, [], ◌∷◌, ◌++◌}
-use Rattle.sem_msg.specs.declared.call.Call.{Call}
-use Rattle.sem_msg.specs.declared.call.Call.TheVariants.{Obtain, Delegate, Revoke, Clear}
-use Rattle.sem_msg.specs.declared.event.Act.TheVariants.{Call as Calls, Fetch, Handle, Upcall}
-use Rattle.sem_msg.specs.declared.event.Act.TheVariants.{Resume, Flush, Kill}
-use Rattle.sem_msg.specs.declared.event.Event.{Event}
-use Rattle.sem_msg.specs.declared.entry.Entry.{Entry}
-use Rattle.sem_msg.specs.Setup.{Setup}
-use Rattle.sem_machine.specs.Machine.{event}
+use Rattle.sem_machine.specs.Prelude.{Call, Obtain, Delegate, Revoke, Clear, Calls, Fetch, Handle, Upcall, Resume}
+use Rattle.sem_machine.specs.Prelude.{Flush, Kill, Event, Entry, Setup, event}
 use Rattle.sem_safety.specs.Walks.{journal_of, pair}
 
 -- VPE 0 delegates its memory twice to the same selector of VPE 1, and clears it
 abbrev pub giver_calls : List Call
 giver_calls = Delegate 0 1 4 ∷ Delegate 0 1 4 ∷ Clear 0 ∷ []
 
--- VPE 1 obtains the memory, asks for what is not there, revokes what it obtained, obtains again
+-- VPE 1 obtains the memory, asks for something that is not there, revokes what it obtained, obtains
+-- again
 abbrev pub taker_calls : List Call
 taker_calls = Obtain 0 0 0 ∷ Obtain 1 0 9 ∷ Revoke 0 ∷ Obtain 0 0 0 ∷ []
 
--- and is killed after six replies
+-- VPE 1 is killed after six replies
 unfoldable pub each_kind : Setup
 each_kind = pair giver_calls taker_calls ((1, 6) ∷ [])
 
@@ -34,14 +29,14 @@ asked v w =
 
 unfoldable pub each_kind_events : List Event
 each_kind_events =
-    -- the memory is delegated, and acknowledged; then it is refused
+    -- the memory is delegated, and acknowledged; then a delegate is refused
     asked 0 1 ++ carried 0 1 ++ asked 0 1
-    -- it is obtained; nothing is obtained
+    -- an obtain is granted; an obtain is refused
     ++ asked 1 0 ++ asked 1 0
-    -- what was obtained is revoked, what was delegated is cleared
+    -- the obtained memory is revoked, the delegated one is cleared
     ++ event 1 (Calls 1) ∷ event 1 (Resume 1) ∷ carried 1 0
     ++ event 0 (Calls 0) ∷ carried 0 1 ++ carried 1 0 ++ event 0 (Resume 0)
-    -- the memory is obtained for one that is dead when it comes
+    -- an obtain is granted to a VPE that is dead when the answer comes
     ∷ event 1 (Calls 1) ∷ carried 1 0 ++ event 0 (Upcall 0) ∷ event 1 (Kill 1)
     ∷ carried 0 1 ++ carried 1 0
 

@@ -1,19 +1,10 @@
 -- The messages that kernels send each other, by their kinds ("Messages" in docs/proof.md).
 use Rattle.std.specs.Prelude.{◌≡◌, ℕ, ◌+◌, ◌*◌, ◌==◌, Bool, true, false, not, List, [], flat_map}
 use Rattle.std.specs.Prelude.{count_by, if◌then◌else◌}
-use Rattle.sem_key.specs.KeyName.{KeyName}
-use Rattle.sem_msg.specs.declared.message.Message.{Message}
-use Rattle.sem_msg.specs.declared.message.Message.TheVariants.{ObtainReq, ObtainOk, ObtainNo}
-use Rattle.sem_msg.specs.declared.message.Message.TheVariants.{DelegateReq, DelegatePrepared}
-use Rattle.sem_msg.specs.declared.message.Message.TheVariants.{DelegateNo, Ack, Orphan}
-use Rattle.sem_msg.specs.declared.message.Message.TheVariants.{RevokeReq, RevokeDone, Unlink}
-use Rattle.sem_msg.specs.declared.event.Act.{Act}
-use Rattle.sem_msg.specs.declared.event.Act.TheVariants.{Flush}
-use Rattle.sem_msg.specs.declared.entry.Entry.{Entry}
-use Rattle.sem_msg.specs.Setup.{Setup}
+use Rattle.sem_machine.specs.Prelude.{KeyName, Message, ObtainReq, ObtainOk, ObtainNo, DelegateReq, DelegatePrepared}
+use Rattle.sem_machine.specs.Prelude.{DelegateNo, Ack, Orphan, RevokeReq, RevokeDone, Unlink, Act, Flush, Entry}
+use Rattle.sem_machine.specs.Prelude.{Setup, owner_of, grants}
 use Rattle.sem_msg.specs.Journal.{message_in}
-use Rattle.sem_msg.specs.Lookups.{owner_of}
-use Rattle.sem_machine.specs.Journals.{grants}
 
 -- What was sent.
 
@@ -26,7 +17,7 @@ is_flush act = false
 abbrev pub sent_by : Entry → List Message
 sent_by e = if is_flush e.event.act then message_in e.detail else []
 
--- all messages that the kernels sent each other, in their order
+-- all messages that the kernels sent each other, in order
 abbrev pub sent : List Entry → List Message
 sent J = flat_map sent_by J
 
@@ -95,23 +86,23 @@ is_across T g = not (owner_of T g.0 == owner_of T g.1)
 abbrev pub grants_across : Setup → List Entry → ℕ
 grants_across T J = count_by (is_across T) (grants J)
 
--- What is so of an idle world.
+-- What holds of an idle world.
 
--- every request was answered, and every answer was asked for
+-- as many replies were sent as requests, kind by kind
 pub record IsAnswered (J : List Entry) : Type 0 where
-  -- an obtain, an open or an ask of an offer is granted or refused
+  -- as many obtains, opens and asks of an offer were sent as grants and refusals of them
   pub obtains : count_sent is_obtain_req J
       ≡ count_sent is_obtain_ok J + count_sent is_obtain_no J
-  -- a delegate is prepared or refused
+  -- as many delegates were sent as preparations and refusals of them
   pub delegates : count_sent is_delegate_req J
       ≡ count_sent is_prepared J + count_sent is_delegate_no J
-  -- what was prepared is acknowledged
+  -- as many preparations were sent as acknowledgements
   pub acks : count_sent is_prepared J ≡ count_sent is_ack J
-  -- a request to revoke is done
+  -- as many requests to revoke were sent as replies that one is done
   pub revokes : count_sent is_revoke_req J ≡ count_sent is_revoke_done J
 
 -- how many messages requests and notices make: two for each exchange and each request to revoke,
--- one more for each delegate that was prepared, and one for each orphan and unlink
+-- one more for each prepared delegate, and one for each orphan and unlink
 abbrev pub messages_made : List Entry → ℕ
 messages_made J =
     2 * count_sent is_obtain_req J

@@ -11,23 +11,25 @@ ghost use Rattle.sem_messages.specs.Messages.{is_ack, is_ack_yes, is_revoke_req,
 ghost use Rattle.sem_messages.specs.Messages.{is_orphan, is_unlink};
 ghost use Rattle.sem_messages.specs.EachKind.{each_kind, each_kind_journal};
 
-/// If a schedule leaves an idle world, every request was answered: as many obtains as were granted
-/// or refused, as many delegates as were prepared or refused, as many preparations as
-/// acknowledgements, and as many requests to revoke as were done.
+/// If a schedule leaves an idle world, as many replies were sent as requests, kind by kind: as many
+/// obtains as grants and refusals of them, as many delegates as preparations and refusals, as many
+/// preparations as acknowledgements, and as many requests to revoke as replies that one is done.
+/// The law counts messages; it does not tie a reply to its request.
 pub fn requests_are_answered()
     ensures answered { (T : Setup) → IsSetup T → (J : List Entry) → IsSchedule T J
         → IsIdle (world_after T J) → IsAnswered J }
 {}
 
-/// Then each grant from one kernel to another was told by one message: an ObtainOk, or an Ack that
-/// accepts.
+/// Then as many grants were made from one kernel to another as messages were sent that tell of one:
+/// an ObtainOk, or an Ack that accepts. The law does not tie a message to its grant.
 pub fn grants_are_told()
     ensures told { (T : Setup) → IsSetup T → (J : List Entry) → IsSchedule T J
         → IsIdle (world_after T J) → grants_across T J ≡ grants_told J }
 {}
 
-/// Then an obtain across kernels took two messages, a delegate two or three, and each link between
-/// kernels that a revoke followed two; all other messages are orphans and unlinks.
+/// Then the requests and notices give the number of all messages. There are two for each obtain
+/// across kernels, two for each delegate and one more for each prepared one, two for each request
+/// to revoke, and one for each orphan and unlink.
 pub fn messages_are_counted()
     ensures counted { (T : Setup) → IsSetup T → (J : List Entry) → IsSchedule T J
         → IsIdle (world_after T J) → length (sent J) ≡ messages_made J }
@@ -40,8 +42,8 @@ pub fn revokes_follow_grants()
         → count_sent is_revoke_req J ≤ grants_across T J }
 {}
 
-/// The laws speak of something: a setup of two kernels has a schedule in which messages of every
-/// kind are sent, and after which nothing is left to do.
+/// The laws are not empty: a setup of two kernels has a schedule that sends messages of every kind,
+/// and after which nothing is left to do.
 pub fn each_kind_is_sent()
     ensures setup { IsSetup each_kind }
     ensures schedule { IsSchedule each_kind each_kind_journal }

@@ -25,7 +25,8 @@ module _ (T : Setup) where
   }
     where
       no_entry : (before after : List Entry) (e : Entry) → [] ≡ before ++ e ∷ after → ⊥
-      no_entry before after e same = let long : 0 ≡ length (before ++ e ∷ after) = ap length same in let sum = length-append before (e ∷ after) in omega (arith, long, sum)
+      no_entry before after e same = let long : 0 ≡ length (before ++ e ∷ after) = ap length same in let sum = length-append before (e ∷ after) in
+          omega (arith, long, sum)
 
   module _ (J : List Entry) (e : Entry) where
     pub agrees-snoc : Agrees T J → LinksLead T (J ++ e ∷ []) → IsDue T J e → Agrees T (J ++ e ∷ [])
@@ -37,19 +38,27 @@ module _ (T : Setup) where
           | inr within ↦ subst (LinksLead T) (sym (take-append-le n J (e ∷ []) within)) (is.links n)
         ]
 
-        kills : (before after : List Entry) (x : Entry) (v : ℕ) → J ++ e ∷ [] ≡ before ++ x ∷ after → x.event.act ≡ Kill v → IfSome (kill_number T v) (λ n. n ≤ length (replies before))
+        kills : (before after : List Entry) (x : Entry) (v : ℕ) → J ++ e ∷ [] ≡ before ++ x ∷ after → x.event.act ≡ Kill v →
+            IfSome (kill_number T v) (λ n. n ≤ length (replies before))
         kills before after x v same act = elim (snoc-cases J before after e x same) [
-          | inl (front, last) ↦ subst (λ (B : List Entry). IfSome (kill_number T v) (λ n. n ≤ length (replies B))) (sym front) (due v (ap (λ (y : Entry). y.event.act) (sym last) ∙ act))
+          | inl (front, last) ↦ subst (λ (B : List Entry). IfSome (kill_number T v) (λ n. n ≤ length (replies B))) (sym front)
+              (due v (ap (λ (y : Entry). y.event.act) (sym last) ∙ act))
           | inr (mid, inner) ↦ is.kills before mid x v inner act
         ]
 
     -- it agrees without the entry
     pub agrees-front : Agrees T (J ++ e ∷ []) → Agrees T J
-    agrees-front is = record { links = links; kills = λ before after x v same act. is.kills before (after ++ e ∷ []) x v (ap (λ (L : List Entry). L ++ e ∷ []) same ∙ append_assoc before (x ∷ after) (e ∷ [])) act }
+    agrees-front is =
+        record {
+          links = links;
+          kills = λ before after x v same act. is.kills before (after ++ e ∷ []) x v (ap (λ (L : List Entry). L ++ e ∷ []) same
+              ∙ append_assoc before (x ∷ after) (e ∷ [])) act;
+        }
       where
         links : (n : ℕ) → LinksLead T (take n J)
         links n = elim (cases_lt (length J) n) [
-          | inl past ↦ subst (LinksLead T) (take-append-le (length J) J (e ∷ []) (omega arith) ∙ (take_all (length J) J (omega arith) ∙ sym (take_all n J (omega (arith, past))))) (is.links (length J))
+          | inl past ↦ subst (LinksLead T) (take-append-le (length J) J (e ∷ []) (omega arith)
+              ∙ (take_all (length J) J (omega arith) ∙ sym (take_all n J (omega (arith, past))))) (is.links (length J))
           | inr within ↦ subst (LinksLead T) (take-append-le n J (e ∷ []) within) (is.links n)
         ]
 

@@ -1,15 +1,17 @@
 -- What a setup keeps of a declared VPE.
-use Rattle.std.proofs.Common.{◌≡◌, ℕ, zero, suc, ◌<◌, ◌≤◌, true, List, [], ◌∷◌, length, get_or, Option, Some, None, IfSome, refl, sym, ◌∙◌, subst, true≢false, arith}
-use Rattle.std.specs.Prelude.{◌==◌}
-use Rattle.std.specs.Option.{IsSome}
-use Rattle.sem_key.specs.declared.limits.TheConstants.{PES}
+use Rattle.std.proofs.Common.{◌≡◌, ℕ, zero, suc, ◌<◌, ◌≤◌, true, List, [], ◌∷◌, length, get_or, Option, Some, None, IfSome, refl, sym, ◌∙◌, subst, true≢false}
+use Rattle.std.proofs.Common.{arith}
+use Rattle.std.specs.Prelude.{◌==◌, unwrap_or}
+use Rattle.std.specs.Option.{IsSome, option_map_or}
+use Rattle.sem_key.specs.declared.limits.TheConstants.{PES, VPES}
 use Rattle.sem_key.specs.MembershipTable.{MembershipTable, IsMembership, owner_at}
 use Rattle.std.proofs.lemmas.Bool.{eqb-true, cond_both}
+use Rattle.std.proofs.lemmas.List.Elements.{All-contains}
 use Rattle.sem_key.proofs.Members.{found, not_found, list_any-some}
 use Rattle.sem_msg.specs.declared.setup.VpeDecl.{VpeDecl}
 use Rattle.sem_msg.specs.Versions.{most_vpes}
-use Rattle.sem_msg.specs.Setup.{Setup, IsVpeDecl}
-use Rattle.sem_msg.specs.Lookups.{decl, is_declared, IsPlaced}
+use Rattle.sem_msg.specs.Setup.{Setup, IsSetup, IsVpeDecl}
+use Rattle.sem_msg.specs.Lookups.{decl, is_declared, kernel_of, pe_owner, IsPlaced}
 
 -- in either version there are at most 128 VPEs, and as many PEs
 pub most_vpes-le : (version : ℕ) → most_vpes version ≤ 128
@@ -49,3 +51,28 @@ placed T v valid declared = from (declared-some T v declared).0 (declared-some T
         let same : d.vpe ≡ v = eqb-true d.vpe v there.1 in
         let kept : IsVpeDecl T d = subst (λ o. IfSome o (IsVpeDecl T)) some valid in
         record { pe = rw some (let pe = kept.pe in omega arith); vpe = let vpe = kept.vpe in omega arith }
+
+-- the kernel of a declared VPE is one of the setup's
+pub declared-below : (T : Setup) → IsSetup T → (v : ℕ) → is_declared T v ≡ true → kernel_of T v < T.kernels
+declared-below T valid v declared =
+    let d = declared-some T v declared in
+    let there = found (λ (x : VpeDecl). x.vpe == v) T.vpes d.0 d.1 in
+    let kept : IsVpeDecl T d.0 = All-contains (IsVpeDecl T) T.vpes d.0 valid.vpes there.0 in
+    let below : pe_owner T d.0.pe < T.kernels =
+    from (owner_at T.owners d.0.pe) kept.owned (λ j there. subst (λ n. j < n) valid.same_kernels (valid.membership.owners_exist d.0.pe j there)) in
+    subst (λ (o : Option VpeDecl). option_map_or (λ d. pe_owner T d.pe) o T.kernels < T.kernels) (sym d.1) below
+  where
+    from : (o : Option ℕ) → IsSome o → ((kernel : ℕ) → o ≡ Some kernel → kernel < T.kernels) → unwrap_or o T.kernels < T.kernels
+    from None some exist = absurd cc
+    from (Some kernel) some exist = exist kernel refl
+
+-- a declared VPE has a place
+pub declared-vpe : (T : Setup) → IsSetup T → (v : ℕ) → is_declared T v ≡ true → v < VPES
+declared-vpe T valid v declared =
+    let d = declared-some T v declared in
+    let there = found (λ (x : VpeDecl). x.vpe == v) T.vpes d.0 d.1 in
+    let kept : IsVpeDecl T d.0 = All-contains (IsVpeDecl T) T.vpes d.0 valid.vpes there.0 in
+    let few = kept.vpe in
+    let most = most_vpes-le T.version in
+    let same = eqb-true d.0.vpe v there.1 in
+    omega (arith, few, most, same)

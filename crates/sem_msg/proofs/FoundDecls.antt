@@ -1,10 +1,11 @@
 -- What a search by the number of a VPE finds among declarations in rising order.
-use Rattle.std.proofs.Common.{◌≡◌, ℕ, ◌<◌, ◌==◌, List, length, get_or, Some, None, Result, Ok, Err, sym, ◌∙◌, ap, inl, inr, arith}
+use Rattle.std.proofs.Common.{◌≡◌, ℕ, ◌<◌, ◌==◌, List, length, get_or, Some, None, Result, Ok, Err, refl, sym, ◌∙◌, ap, inl, inr, arith}
 use Rattle.std.specs.Prelude.{AllPairs, find, IfSome}
 use Rattle.std.specs.List.Sorted.{IsSearchInRange, IsBinarySearchResult, IsNonDecreasingBy}
 use Rattle.std.specs.Ordering.{nat_cmp, ordering_index}
 use Rattle.std.specs.Result.{result_ok}
 use Rattle.std.proofs.lemmas.Cmp.{ranked}
+use Rattle.std.proofs.lemmas.List.{get_or_read_under}
 use Rattle.std.proofs.lemmas.Bool.Decides.{nat_tests}
 use Rattle.std.proofs.lemmas.Bool.{cases_lt}
 use Rattle.sem_key.proofs.OnePasses.{find-none, find-at}
@@ -22,7 +23,8 @@ module _ (ds : List VpeDecl) (rise : AllPairs (λ (a b : VpeDecl). a.vpe < b.vpe
     | inr ge ↦ let here : m ≡ n = omega arith in let same : get_or ds m d ≡ get_or ds n d = ap (λ k. get_or ds k d) here in rw same (omega arith)
   ]
 
-  pub searched : (r : Result ℕ ℕ) → IsSearchInRange r (length ds) → IsBinarySearchResult (λ (d : VpeDecl). nat_cmp d.vpe v) ds r → record { place : IfSome (result_ok r) (IsDeclAt ds v); absent : result_ok r ≡ None → find (λ d. d.vpe == v) ds ≡ None }
+  pub searched : (r : Result ℕ ℕ) → IsSearchInRange r (length ds) → IsBinarySearchResult (λ (d : VpeDecl). nat_cmp d.vpe v) ds r →
+      record { place : IfSome (result_ok r) (IsDeclAt ds v); absent : result_ok r ≡ None → find (λ d. d.vpe == v) ds ≡ None }
   searched (Ok at) in_range equal = record {
     place = record { in_range = in_range; vpe = λ d. ranked _ _ _ (sym (equal d)) };
     absent = λ none. absurd cc;
@@ -43,3 +45,11 @@ module _ (ds : List VpeDecl) (rise : AllPairs (λ (a b : VpeDecl). a.vpe < b.vpe
       (let there = place.vpe x in grind (arith, nat_tests))
       place.in_range
       ∙ ap Some (sym is)
+
+  -- so it is where it was looked for by its number
+  pub guessed : (at : ℕ) (x y : VpeDecl) → at < length ds → x ≡ get_or ds at x → x.vpe ≡ v → y ≡ get_or ds at y → find (λ d. d.vpe == v) ds ≡ Some y
+  guessed at x y lt is same is_too =
+      found at y (record {
+        in_range = lt;
+        vpe = λ d. ap (λ (e : VpeDecl). e.vpe) (sym (get_or_read_under ds at (length ds) x d is lt refl)) ∙ same;
+      }) is_too

@@ -1,3 +1,4 @@
+pub mod Masks
 pub mod OutboxRows
 pub mod Declared
 pub mod OneVpe

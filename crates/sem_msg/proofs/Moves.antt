@@ -17,11 +17,13 @@ use Rattle.sem_msg.proofs.Snocs.{sifted-snoc}
 
 -- the part of the kernel whose entry it is
 pub part-own : (J : List Entry) (e : Entry) (i : ℕ) → e.event.kernel ≡ i → part (J ++ e ∷ []) i ≡ part J i ++ e ∷ []
-part-own J e i here = filter-append (λ (x : Entry). x.event.kernel == i) J (e ∷ []) ∙ ap (λ l. part J i ++ l) (cond-true (e.event.kernel == i) (e ∷ []) [] (eq-eqb e.event.kernel i here))
+part-own J e i here = filter-append (λ (x : Entry). x.event.kernel == i) J (e ∷ [])
+    ∙ ap (λ l. part J i ++ l) (cond-true (e.event.kernel == i) (e ∷ []) [] (eq-eqb e.event.kernel i here))
 
 -- the parts of the others
 pub part-other : (J : List Entry) (e : Entry) (i : ℕ) → e.event.kernel ≢ i → part (J ++ e ∷ []) i ≡ part J i
-part-other J e i apart = filter-append (λ (x : Entry). x.event.kernel == i) J (e ∷ []) ∙ (ap (λ l. part J i ++ l) (cond-false (e.event.kernel == i) (e ∷ []) [] (ne_eqb e.event.kernel i apart)) ∙ append-nil (part J i))
+part-other J e i apart = filter-append (λ (x : Entry). x.event.kernel == i) J (e ∷ [])
+    ∙ (ap (λ l. part J i ++ l) (cond-false (e.event.kernel == i) (e ∷ []) [] (ne_eqb e.event.kernel i apart)) ∙ append-nil (part J i))
 
 -- What was flushed and fetched.
 
@@ -42,13 +44,17 @@ fetched-snoc J e i j = sifted-snoc (λ (x : Entry). message_in x.detail) (λ (x 
 -- Links.
 
 pub link_in-same : (links : List (List (List Message))) (i j : ℕ) (ms : List Message) → link_in (link_put i j ms links) i j ≡ ms
-link_in-same links i j ms = ap (λ (row : List (List Message)). get_or row j []) (get_or-put_same [] links i (put [] (get_or links i []) j ms)) ∙ get_or-put_same [] (get_or links i []) j ms
+link_in-same links i j ms = ap (λ (row : List (List Message)). get_or row j []) (get_or-put_same [] links i (put [] (get_or links i []) j ms))
+    ∙ get_or-put_same [] (get_or links i []) j ms
 
-pub link_in-other : (links : List (List (List Message))) (i j a b : ℕ) (ms : List Message) → ((a ≡ i) × (b ≡ j) → ⊥) → link_in (link_put i j ms links) a b ≡ link_in links a b
+pub link_in-other : (links : List (List (List Message))) (i j a b : ℕ) (ms : List Message) → ((a ≡ i) × (b ≡ j) → ⊥) →
+    link_in (link_put i j ms links) a b ≡ link_in links a b
 link_in-other links i j a b ms other = elim (cases_eq a i) [
   | inr apart ↦ ap (λ (row : List (List Message)). get_or row b []) (get_or-put_other [] links i a (put [] (get_or links i []) j ms) apart)
   | inl same ↦ elim (cases_eq b j) [
     | inl to ↦ absurd (other (same, to))
-    | inr apart ↦ subst (λ c. link_in (link_put i j ms links) c b ≡ link_in links c b) (sym same) (ap (λ (row : List (List Message)). get_or row b []) (get_or-put_same [] links i (put [] (get_or links i []) j ms)) ∙ get_or-put_other [] (get_or links i []) j b ms apart)
+    | inr apart ↦ subst (λ c. link_in (link_put i j ms links) c b ≡ link_in links c b) (sym same)
+        (ap (λ (row : List (List Message)). get_or row b []) (get_or-put_same [] links i (put [] (get_or links i []) j ms))
+        ∙ get_or-put_other [] (get_or links i []) j b ms apart)
   ]
 ]

@@ -25,7 +25,17 @@ abbrev pub only_vpe : List Call → VpeDecl
 only_vpe calls = record { vpe = 0; pe = 0; roots = memory_root ∷ []; calls = calls }
 
 abbrev pub one_vpe : List Call → Setup
-one_vpe calls = record { version = 1; window = 4; kernels = 1; owners = one_owner; vpes = only_vpe calls ∷ []; services = []; offers = []; denies = []; kills = [] }
+one_vpe calls = record {
+  version = 1;
+  window = 4;
+  kernels = 1;
+  owners = one_owner;
+  vpes = only_vpe calls ∷ [];
+  services = [];
+  offers = [];
+  denies = [];
+  kills = [];
+}
 
 -- what the tests let the VPE call
 abbrev pub derive_call : Call
@@ -87,4 +97,6 @@ module _ (calls : List Call) (valid : All (IsValidCall 64) calls) (few : length 
 
 -- a derive and a revoke
 pub derive_revoke-setup : IsSetup (one_vpe (derive_call ∷ revoke_call ∷ []))
-derive_revoke-setup = one_vpe-setup (derive_call ∷ revoke_call ∷ []) (All-cons (IsValidCall 64) derive_call (revoke_call ∷ []) (search rules) (All-cons (IsValidCall 64) revoke_call [] (search rules) (All-nil (IsValidCall 64)))) (omega arith)
+derive_revoke-setup =
+    one_vpe-setup (derive_call ∷ revoke_call ∷ []) (All-cons (IsValidCall 64) derive_call (revoke_call ∷ []) (search rules)
+    (All-cons (IsValidCall 64) revoke_call [] (search rules) (All-nil (IsValidCall 64)))) (omega arith)

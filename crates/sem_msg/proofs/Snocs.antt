@@ -6,9 +6,11 @@ use Rattle.std.proofs.lemmas.List.Elements.{filter-append}
 use Rattle.std.proofs.lemmas.List.Concat.{flat_map-append}
 
 -- an element of a list with one more is the one more, or was there before
-pub snoc-cases : {X : Type 0} (xs before after : List X) (x y : X) → xs ++ x ∷ [] ≡ before ++ y ∷ after → ((before ≡ xs) × (y ≡ x)) ⊎ ((mid : List X) × (xs ≡ before ++ y ∷ mid))
+pub snoc-cases : {X : Type 0} (xs before after : List X) (x y : X) → xs ++ x ∷ [] ≡ before ++ y ∷ after →
+    ((before ≡ xs) × (y ≡ x)) ⊎ ((mid : List X) × (xs ≡ before ++ y ∷ mid))
 snoc-cases [] [] after x y same = inl (refl, cc)
-snoc-cases [] (b ∷ bs) after x y same = let long : length (x ∷ []) ≡ length (b ∷ (bs ++ y ∷ after)) = ap length same in let sum = length-append bs (y ∷ after) in absurd (omega (arith, long, sum))
+snoc-cases [] (b ∷ bs) after x y same = let long : length (x ∷ []) ≡ length (b ∷ (bs ++ y ∷ after)) = ap length same in
+    let sum = length-append bs (y ∷ after) in absurd (omega (arith, long, sum))
 snoc-cases (z ∷ zs) [] after x y same = let head : z ≡ y = cc in inr (zs, ap (λ w. w ∷ zs) head)
 snoc-cases (z ∷ zs) (b ∷ bs) after x y same =
     let head : z ≡ b = cc in
@@ -19,7 +21,8 @@ snoc-cases (z ∷ zs) (b ∷ bs) after x y same =
     ]
 
 -- what two filters keep, and what is made of it
-pub sifted-snoc : {X Y : Type 0} (f : X → List Y) (p q : X → Bool) (xs : List X) (x : X) → flat_map f (filter p (filter q (xs ++ x ∷ []))) ≡ flat_map f (filter p (filter q xs)) ++ cond (p x) (cond (q x) (f x) []) []
+pub sifted-snoc : {X Y : Type 0} (f : X → List Y) (p q : X → Bool) (xs : List X) (x : X) →
+    flat_map f (filter p (filter q (xs ++ x ∷ []))) ≡ flat_map f (filter p (filter q xs)) ++ cond (p x) (cond (q x) (f x) []) []
 sifted-snoc f p q xs x =
     ap (λ l. flat_map f (filter p l)) (filter-append q xs (x ∷ []))
     ∙ (ap (flat_map f) (filter-append p (filter q xs) (filter q (x ∷ [])))
@@ -40,6 +43,8 @@ sifted-snoc f p q xs x =
 
     last : flat_map f (filter p (filter q (x ∷ []))) ≡ cond (p x) (cond (q x) (f x) []) []
     last = elim (cases_Bool (q x)) [
-      | inl pass ↦ ap (λ l. flat_map f (filter p l)) (cond-true (q x) (x ∷ []) [] pass) ∙ (inner ∙ ap (λ l. cond (p x) l []) (sym (cond-true (q x) (f x) [] pass)))
-      | inr fail ↦ ap (λ l. flat_map f (filter p l)) (cond-false (q x) (x ∷ []) [] fail) ∙ (sym (cond-false (q x) (cond (p x) (f x) []) [] fail) ∙ swap (q x) (p x))
+      | inl pass ↦ ap (λ l. flat_map f (filter p l)) (cond-true (q x) (x ∷ []) [] pass)
+          ∙ (inner ∙ ap (λ l. cond (p x) l []) (sym (cond-true (q x) (f x) [] pass)))
+      | inr fail ↦ ap (λ l. flat_map f (filter p l)) (cond-false (q x) (x ∷ []) [] fail)
+          ∙ (sym (cond-false (q x) (cond (p x) (f x) []) [] fail) ∙ swap (q x) (p x))
     ]

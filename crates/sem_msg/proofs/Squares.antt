@@ -7,7 +7,8 @@ use Rattle.sem_key.proofs.Puts.{put-set, length-put}
 use Rattle.sem_msg.specs.declared.message.Message.{Message}
 use Rattle.sem_msg.specs.Fabric.{IsSquare, link_put}
 
-pub square-put : (n : ℕ) (links : List (List (List Message))) (i j : ℕ) (ms : List Message) → IsSquare n links → i < n → j < n → IsSquare n (link_put i j ms links)
+pub square-put : (n : ℕ) (links : List (List (List Message))) (i j : ℕ) (ms : List Message) → IsSquare n links → i < n → j < n →
+    IsSquare n (link_put i j ms links)
 square-put n links i j ms is here there =
     let rows = is.rows in
     let within : i < length links = omega (arith, here, rows) in
@@ -18,8 +19,10 @@ square-put n links i j ms is here there =
     record {
       rows = length-put [] links i row within ∙ rows;
       each = λ k inside. elim (cases_eq k i) [
-        | inl same ↦ subst (λ m. length (get_or (link_put i j ms links) m []) ≡ n) (sym same) (ap (λ (l : List (List (List Message))). length (get_or l i [])) as_set ∙ (ap length (get_or-set_same links i row [] within) ∙ long))
-        | inr apart ↦ ap (λ (l : List (List (List Message))). length (get_or l k [])) as_set ∙ (ap length (get_or-set_other links i k row [] apart) ∙ is.each k inside)
+        | inl same ↦ subst (λ m. length (get_or (link_put i j ms links) m []) ≡ n) (sym same)
+            (ap (λ (l : List (List (List Message))). length (get_or l i [])) as_set ∙ (ap length (get_or-set_same links i row [] within) ∙ long))
+        | inr apart ↦ ap (λ (l : List (List (List Message))). length (get_or l k [])) as_set
+            ∙ (ap length (get_or-set_other links i k row [] apart) ∙ is.each k inside)
       ];
     }
 

@@ -3,7 +3,7 @@ use Rattle.std.specs.Prelude.{ℕ}
 use Rattle.sem_msg.specs.declared.event.Act.{Act}
 use Rattle.sem_msg.specs.declared.event.Act.TheVariants.{Call as Calls, Fetch, Handle, Upcall, Resume, Flush, Kill}
 
--- the number that stands for an act
+-- the number of an act
 abbrev pub number_of : Act → ℕ
 number_of (Calls vpe) = 1
 number_of (Fetch from) = 2

@@ -1,7 +1,9 @@
 -- The codes of replies ("Replies" in docs/machine.md).
 use Rattle.std.specs.Prelude.{ℕ}
 use Rattle.sem_msg.specs.declared.code.Code.{Code}
-use Rattle.sem_msg.specs.declared.code.Code.TheVariants.{Ok as OkCode, NoVpe, Dead, NoCap, Revoking, Refused, Occupied, Numbers, BadKind, Wider, NoService, Gone, Unbound, Rights, Range, SelfExchange}
+use Rattle.sem_msg.specs.declared.code.Code.TheVariants.{Ok as OkCode, NoVpe, Dead, NoCap, Revoking, Refused}
+use Rattle.sem_msg.specs.declared.code.Code.TheVariants.{Occupied, Numbers, BadKind, Wider, NoService, Gone, Unbound}
+use Rattle.sem_msg.specs.declared.code.Code.TheVariants.{Rights, Range, SelfExchange}
 
 -- the number of a code in a reply or a message
 abbrev pub code_number : Code → ℕ

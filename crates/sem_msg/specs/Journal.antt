@@ -1,5 +1,7 @@
--- The journal as contracts see it, the part of a kernel, and when parts agree ("Journal" in docs/machine.md).
-use Rattle.std.specs.Prelude.{◌≡◌, ℕ, ◌≤◌, ◌==◌, Bool, false, List, [], ◌∷◌, ◌++◌, length, take, filter, filter_map, flat_map, find, Option, IfSome}
+-- The journal as contracts see it, the part of a kernel, and when parts agree ("Journal" in
+-- docs/machine.md).
+use Rattle.std.specs.Prelude.{◌≡◌, ℕ, ◌≤◌, ◌==◌, Bool, false, List, [], ◌∷◌, ◌++◌, length, take, filter, filter_map}
+use Rattle.std.specs.Prelude.{flat_map, find, Option, IfSome}
 use Rattle.std.specs.Option.{option_map}
 use Rattle.sem_msg.specs.declared.message.Message.{Message}
 use Rattle.sem_msg.specs.declared.event.Act.{Act}
@@ -11,20 +13,19 @@ use Rattle.sem_msg.specs.declared.entry.Entry.{Entry}
 use Rattle.sem_msg.specs.Setup.{Setup}
 
 pub record JournalList : Type 0 where
-  -- the entries
   pub entries : List Entry
-  -- how many more can be appended without memory
+  -- how many more can be appended without taking memory
   pub spare : ℕ
 
--- the entries of kernel i, in their order
+-- the entries of kernel i, in order
 abbrev pub part : List Entry → ℕ → List Entry
 part J i = filter (λ e. e.event.kernel == i) J
 
--- the replies, in their order
+-- the replies, in order
 abbrev pub replies : List Entry → List Reply
 replies J = filter_map (λ e. e.reply) J
 
--- the message that an entry carries
+-- the message of an entry, if it carries one
 abbrev pub message_in : Detail → List Message
 message_in (Carried peer message) = message ∷ []
 message_in detail = []
@@ -47,7 +48,7 @@ flushed J i j = flat_map (λ e. message_in e.detail) (filter (λ e. is_flush_to 
 abbrev pub fetched : List Entry → ℕ → ℕ → List Message
 fetched J i j = flat_map (λ e. message_in e.detail) (filter (λ e. is_fetch_from i e.event.act) (part J j))
 
--- after how many replies a VPE is killed, if it is
+-- after how many replies a VPE is killed, if ever
 abbrev pub kill_number : Setup → ℕ → Option ℕ
 kill_number T v = option_map (λ k. k.1) (find (λ k. k.0 == v) T.kills)
 
@@ -57,7 +58,9 @@ pub record LeadsBy {X : Type 0} (n : ℕ) (ys xs : List X) : Type 0 where
   pub begins : ys ≡ xs ++ rest
   pub few : length rest ≤ n
 
--- What no kernel can tell alone: what was fetched was flushed before, a link never held more messages than the window of the setup, and no kill came early.
+-- What no kernel can tell alone: every fetched message was flushed before, no link ever held more
+-- messages than the window of the setup, and no kill came early.
 pub record Agrees (T : Setup) (J : List Entry) : Type 0 where
   pub links : (n i j : ℕ) → LeadsBy T.window (flushed (take n J) i j) (fetched (take n J) i j)
-  pub kills : (before after : List Entry) (e : Entry) (v : ℕ) → J ≡ before ++ e ∷ after → e.event.act ≡ Kill v → IfSome (kill_number T v) (λ n. n ≤ length (replies before))
+  pub kills : (before after : List Entry) (e : Entry) (v : ℕ) → J ≡ before ++ e ∷ after → e.event.act ≡ Kill v →
+      IfSome (kill_number T v) (λ n. n ≤ length (replies before))

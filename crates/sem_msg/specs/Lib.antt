@@ -6,6 +6,7 @@ pub mod Versions
 pub mod Calls
 pub mod Setup
 pub mod Journal
+pub mod Masks
 pub mod Outboxes
 pub mod Rows
 pub mod Lookups
@@ -15,3 +16,4 @@ pub mod Uses
 pub mod JobRows
 pub mod ParkedStates
 pub mod Fabric
+pub mod Prelude

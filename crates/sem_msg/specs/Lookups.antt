@@ -1,8 +1,9 @@
 -- What a setup says of VPEs, owners, services and denies ("Setup" and "Owners" in docs/machine.md).
-use Rattle.std.specs.Prelude.{◌≡◌, ℕ, ◌<◌, ◌==◌, Bool, false, ◌&&◌, List, [], filter, find, Option, Some, None, is_some, unwrap_or, if◌then◌else◌}
+use Rattle.std.specs.Prelude.{◌≡◌, ℕ, ◌<◌, ◌==◌, Bool, false, ◌&&◌, List, [], filter, find, Option, Some, None}
+use Rattle.std.specs.Prelude.{is_some, unwrap_or, if◌then◌else◌}
 use Rattle.std.specs.List.{list_any}
 use Rattle.std.specs.Option.{option_map, option_map_or, option_and_then}
-use Rattle.sem_key.specs.KeyName.{KeyName, key_eq}
+use Rattle.sem_key.specs.Prelude.{KeyName, key_eq}
 use Rattle.sem_key.specs.PlaceName.{PlaceName}
 use Rattle.sem_key.specs.MembershipTable.{owner_at}
 use Rattle.sem_key.specs.declared.limits.TheConstants.{PES, VPES}
@@ -15,7 +16,7 @@ use Rattle.sem_msg.specs.Setup.{Setup}
 abbrev pub decl : Setup → ℕ → Option VpeDecl
 decl T v = find (λ d. d.vpe == v) T.vpes
 
--- the PE of a VPE; 128, which is no PE, where it is not declared
+-- the PE of a VPE; 128, which is no PE, if the VPE is not declared
 abbrev pub pe_of : Setup → ℕ → ℕ
 pe_of T v = option_map_or (λ d. d.pe) (decl T v) PES
 
@@ -28,15 +29,14 @@ pub record IsPlaced (T : Setup) (v : ℕ) : Type 0 where
 abbrev pub calls_of : Setup → ℕ → List Call
 calls_of T v = option_map_or (λ d. d.calls) (decl T v) []
 
--- whether a VPE is declared
 abbrev pub is_declared : Setup → ℕ → Bool
 is_declared T v = list_any (λ d. d.vpe == v) T.vpes
 
--- whether a VPE is declared, and with that PE
+-- whether a VPE is declared on that PE
 abbrev pub is_declared_at : Setup → ℕ → ℕ → Bool
 is_declared_at T pe v = option_map_or (λ d. d.pe == pe) (decl T v) false
 
--- the kernel that owns a PE; the number of kernels, which is no kernel, where none does
+-- the kernel that owns a PE; if none does, the number of kernels, which is no kernel
 abbrev pub pe_owner : Setup → ℕ → ℕ
 pe_owner T pe = unwrap_or (owner_at T.owners pe) T.kernels
 
@@ -48,11 +48,11 @@ owner_of T k = pe_owner T k.pe
 abbrev pub place_owner : Setup → PlaceName → ℕ
 place_owner T p = pe_owner T p.pe
 
--- the kernel of a VPE; the number of kernels, which is no kernel, where it is not declared
+-- the kernel of a VPE; if it is not declared, the number of kernels, which is no kernel
 abbrev pub kernel_of : Setup → ℕ → ℕ
 kernel_of T v = option_map_or (λ d. pe_owner T d.pe) (decl T v) T.kernels
 
--- whether a VPE that is declared so is one of kernel i
+-- whether a VPE with that declaration is one of kernel i
 abbrev pub runs_on : Setup → ℕ → VpeDecl → Bool
 runs_on T i d = pe_owner T d.pe == i
 
@@ -76,7 +76,7 @@ IsLocal T i k = owner_of T k ≡ i
 abbrev pub is_local : Setup → ℕ → KeyName → Bool
 is_local T i k = owner_of T k == i
 
--- whether v refuses what the asker asks
+-- whether v denies what the asker asks
 abbrev pub denies : Setup → ℕ → ℕ → Bool
 denies T v asker = list_any (λ d. (d.0 == v) && (d.1 == asker)) T.denies
 
@@ -90,4 +90,5 @@ offer_named T index name = option_map (λ o. o.sel) (find (λ o. (o.name == name
 
 -- the selector that the service of that key offers under an index
 abbrev pub offered : Setup → KeyName → ℕ → Option ℕ
-offered T service index = option_and_then (λ s. offer_named T index s.name) (find (λ s. key_eq s.key service) T.services)
+offered T service index =
+    option_and_then (λ s. offer_named T index s.name) (find (λ s. key_eq s.key service) T.services)

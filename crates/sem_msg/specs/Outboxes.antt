@@ -1,17 +1,18 @@
 -- The outboxes of a kernel as contracts see them ("State" in docs/machine.md).
-use Rattle.std.specs.Prelude.{◌≡◌, ℕ, ◌≤◌, List, [], length, map, slice_index_or, All}
-use Rattle.sem_key.specs.Lists.{put}
+use Rattle.std.specs.Prelude.{◌≡◌, ℕ, ◌≤◌, List, [], length, map, slice_get, slice_index_or, is_some, All}
+use Rattle.sem_key.specs.Prelude.{put}
 use Rattle.sem_msg.specs.declared.message.Message.{Message}
 use Rattle.sem_msg.specs.Message.{Fits}
 use Rattle.sem_msg.specs.Setup.{Setup}
+use Rattle.sem_msg.specs.Masks.{IsMaskOf}
 
 pub record OutboxList : Type 0 where
-  -- for each kernel the messages that wait to be sent to it
+  -- for each kernel, the messages that wait to be sent to it
   pub boxes : List (List Message)
-  -- how many more can be sent without memory
+  -- how many more can be sent without taking memory
   pub spare : ℕ
 
--- the messages for one kernel, and how many more there is room for
+-- the messages for one kernel, and room for how many more
 pub record OutboxRow : Type 0 where
   pub messages : List Message
   pub spare : ℕ
@@ -28,7 +29,7 @@ with_box boxes to messages = put [] boxes to messages
 abbrev pub messages_of : List OutboxRow → List (List Message)
 messages_of rows = map (λ row. row.messages) rows
 
--- each row has room for so many messages more
+-- each row has room for that many more messages
 abbrev pub HaveRoom : List OutboxRow → ℕ → Type 0
 HaveRoom rows spare = All (λ row. spare ≤ row.spare) rows
 
@@ -36,6 +37,10 @@ HaveRoom rows spare = All (λ row. spare ≤ row.spare) rows
 abbrev pub AllFit : List (List Message) → Type 0
 AllFit boxes = All (λ messages. All Fits messages) boxes
 
--- there are messages for each kernel of the setup
+-- the mask has a bit for each kernel for which there are messages
+abbrev pub AreFilled : List (List Message) → ℕ → Type 0
+AreFilled boxes mask = IsMaskOf (λ to. is_some (slice_get (box_for boxes to) 0)) mask
+
+-- there is a box for each kernel of the setup
 abbrev pub HasBoxes : Setup → OutboxList → Type 0
 HasBoxes T outs = length outs.boxes ≡ T.kernels

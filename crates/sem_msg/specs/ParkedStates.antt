@@ -1,7 +1,7 @@
--- The states in which the calls of VPEs wait, by number, and the small changes of them ("State" in docs/machine.md).
+-- The states in which the calls of VPEs wait, by number, and their small changes ("State" in
+-- docs/machine.md).
 use Rattle.std.specs.Prelude.{ℕ, Bool, false, if◌then◌else◌, List, slice_index_or, Option, Some, None}
-use Rattle.sem_key.specs.KeyName.{KeyName, key_eq}
-use Rattle.sem_key.specs.Lists.{put}
+use Rattle.sem_key.specs.Prelude.{KeyName, key_eq, put}
 use Rattle.sem_msg.specs.declared.state.Parked.{Parked}
 use Rattle.sem_msg.specs.declared.state.Parked.TheVariants.{ObtainReady, ObtainCancelled}
 
@@ -22,11 +22,12 @@ abbrev pub is_ready_with : KeyName → Option Parked → Bool
 is_ready_with k (Some (ObtainReady key parent object sel)) = key_eq key k
 is_ready_with k p = false
 
--- the selector that was promised to a call which is about to install the key
+-- the selector that was promised to a call that is about to install the key
 abbrev pub promised_to : KeyName → Option Parked → Option ℕ
 promised_to k (Some (ObtainReady key parent object sel)) = if key_eq key k then Some sel else None
 promised_to k p = None
 
--- the call that was about to install the key is cancelled; where there is none, all is as before
+-- the call that was about to install the key is cancelled; if there is none, all is as before
 abbrev pub cancelled : List (Option Parked) → KeyName → List (Option Parked)
-cancelled states k = if is_ready_with k (state_of states k.vpe) then parked_as states k.vpe ObtainCancelled else states
+cancelled states k = if is_ready_with k (state_of states k.vpe) then parked_as states k.vpe ObtainCancelled
+    else states

@@ -1,12 +1,12 @@
 -- What a kernel keeps of its jobs, endpoints and VPEs, as plain data ("State" in docs/machine.md).
 use Rattle.std.specs.Prelude.{ℕ, Bool, false, List, [], Option}
 use Rattle.sem_key.specs.declared.object.Object.{Object}
-use Rattle.sem_key.specs.KeyName.{KeyName}
+use Rattle.sem_key.specs.Prelude.{KeyName}
 use Rattle.sem_msg.specs.declared.state.Slot.{Slot}
 use Rattle.sem_msg.specs.declared.state.Ask.{Ask}
 use Rattle.sem_msg.specs.declared.state.Up.{Up}
 
--- a job that revokes what was made from its root
+-- a job that revokes everything made from its root
 pub record JobRow : Type 0 where
   pub id : ℕ
   pub root : KeyName
@@ -29,15 +29,15 @@ pub record Endpoint : Type 0 where
 -- what a kernel keeps of a VPE
 pub record VpeRow : Type 0 where
   pub alive : Bool
-  -- by selector
+  -- its slots, by selector
   pub slots : List Slot
-  -- how many numbers were drawn for its keys
+  -- how many numbers it has drawn for its keys
   pub next_number : ℕ
   -- how many calls it has made
   pub next_call : ℕ
-  -- what it is asked, oldest first
+  -- its waiting asks, oldest first
   pub asks : List Ask
 
--- nothing is kept of a VPE of another kernel
+-- a kernel keeps nothing of a VPE of another kernel
 abbrev pub no_vpe : VpeRow
 no_vpe = record { alive = false; slots = []; next_number = 0; next_call = 0; asks = [] }

@@ -1,8 +1,9 @@
--- The setup of a run as contracts see it, and what it always keeps ("Setup" in docs/machine.md).
-use Rattle.std.specs.Prelude.{◌≡◌, ◌≢◌, ℕ, ◌<◌, ◌≤◌, ◌+◌, ◌⊎◌, ◌↔◌, List, [], ◌∷◌, ◌++◌, length, flat_map, IsSome, All, AllPairs, Any, Contains, sum_by}
+-- The setup of a run as contracts see it, and what always holds of it ("Setup" in docs/machine.md).
+use Rattle.std.specs.Prelude.{◌≡◌, ◌≢◌, ℕ, ◌<◌, ◌≤◌, ◌+◌, ◌⊎◌, ◌↔◌, List, [], ◌∷◌, ◌++◌, length, flat_map, IsSome}
+use Rattle.std.specs.Prelude.{All, AllPairs, Any, Contains, sum_by}
 use Rattle.sem_key.specs.declared.object.Object.{Object}
 use Rattle.sem_key.specs.declared.object.Object.TheVariants.{Mem, Recv, Send, Serv, Sess}
-use Rattle.sem_key.specs.KeyName.{KeyName}
+use Rattle.sem_key.specs.Prelude.{KeyName}
 use Rattle.sem_key.specs.ObjectRanges.{object_kind, IsValidObject}
 use Rattle.sem_key.specs.MembershipTable.{MembershipTable, IsMembership, owner_at}
 use Rattle.sem_msg.specs.declared.setup.Root.{Root}
@@ -39,7 +40,7 @@ pub record IsRoot (r : Root) : Type 0 where
   pub kind : IsRootObject r.object
   pub ranges : IsValidObject r.object
 
--- the key of a VPE's root at a place of its list: the roots are numbered from 0
+-- the key of a VPE's root at a place of its list; places count from 0
 abbrev pub root_key : VpeDecl → ℕ → Root → KeyName
 root_key d n r = record { pe = d.pe; vpe = d.vpe; kind = object_kind r.object; number = n }
 
@@ -53,7 +54,7 @@ unfoldable pub services_from : VpeDecl → ℕ → List Root → List Service
 services_from d n [] = []
 services_from d n (r ∷ rs) = service_with r.object (root_key d n r) ++ services_from d (n + 1) rs
 
--- the services that are declared, VPE by VPE
+-- the declared services, VPE by VPE
 abbrev pub declared_services : Setup → List Service
 declared_services T = flat_map (λ d. services_from d 0 d.roots) T.vpes
 
@@ -68,7 +69,7 @@ pub record IsVpeDecl (T : Setup) (d : VpeDecl) : Type 0 where
   pub roots : All IsRoot d.roots
   pub calls : All (IsValidCall (most_vpes T.version)) d.calls
 
--- offers and denies stand in the order of their first part and then of their second
+-- offers and denies are ordered by their first part and then by their second
 abbrev pub ComesBefore : ℕ × ℕ → ℕ × ℕ → Type 0
 ComesBefore a b = (a.0 < b.0) ⊎ ((a.0 ≡ b.0) × (a.1 < b.1))
 
@@ -96,11 +97,11 @@ pub record IsSetup (T : Setup) : Type 0 where
   pub membership : IsMembership T.owners
   pub same_kernels : T.owners.kernels ≡ T.kernels
   pub owned_pes : (pe : ℕ) → IsSome (owner_at T.owners pe) → pe < most_vpes T.version
-  -- the VPEs, each once, in rising order, on PEs of their own
+  -- the VPEs, each once, in rising order, each on its own PE
   pub vpes : All (IsVpeDecl T) T.vpes
   pub vpes_rise : AllPairs (λ a b. a.vpe < b.vpe) T.vpes
   pub pes_differ : AllPairs (λ a b. a.pe ≢ b.pe) T.vpes
-  -- the services that are declared and no others, by name
+  -- exactly the declared services, by name
   pub services_rise : AllPairs (λ a b. a.name < b.name) T.services
   pub services : (s : Service) → Contains T.services s ↔ Contains (declared_services T) s
   pub offers : All (IsOffer T) T.offers

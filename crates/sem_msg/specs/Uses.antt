@@ -1,5 +1,7 @@
--- What a VPE may do through an endpoint, and what it does to it ("Calls" in docs/machine.md).
-use Rattle.std.specs.Prelude.{ℕ, ◌+◌, ◌==◌, nat_lt, nat_le, Bool, true, false, not, List, [], ◌∷◌, ◌++◌, length, drop, Option, is_none}
+-- What a VPE may do through an endpoint, and how that changes the endpoint ("Calls" in
+-- docs/machine.md).
+use Rattle.std.specs.Prelude.{ℕ, ◌+◌, ◌==◌, nat_lt, nat_le, Bool, true, false, not, List, [], ◌∷◌, ◌++◌, length, drop}
+use Rattle.std.specs.Prelude.{Option, is_none}
 use Rattle.std.specs.Option.{option_map, option_map_or}
 use Rattle.sem_key.specs.declared.object.Object.{Object}
 use Rattle.sem_key.specs.declared.object.Object.TheVariants.{Mem, Send}
@@ -8,27 +10,26 @@ use Rattle.sem_msg.specs.declared.code.Code.{Code}
 use Rattle.sem_msg.specs.declared.code.Code.TheVariants.{Unbound, Rights, Range}
 use Rattle.sem_msg.specs.Rows.{Endpoint}
 
--- whether it is memory with that right
+-- whether the object is memory with that right
 abbrev pub allows : ℕ → Object → Bool
 allows right (Mem base len rights) = is_subset right rights
 allows right object = false
 
--- whether it is a send gate
 abbrev pub is_send_gate : Object → Bool
 is_send_gate (Send gate label credits) = true
 is_send_gate object = false
 
--- whether so many bytes from the offset on go past the end
+-- whether that many bytes from the offset on go past the end
 abbrev pub is_past_end : ℕ → ℕ → Object → Bool
 is_past_end off len (Mem base size rights) = nat_lt size (off + len)
 is_past_end off len object = true
 
--- whether so many messages use up the credits
+-- whether that many messages use up the credits
 abbrev pub are_credits_used : ℕ → Object → Bool
 are_credits_used n (Send gate label credits) = nat_le credits n
 are_credits_used n object = true
 
--- whether what the endpoint is bound to passes the test
+-- whether the binding of the endpoint passes the test
 abbrev pub bound_passes : (Endpoint → Bool) → Option Endpoint → Bool
 bound_passes test e = option_map_or test e false
 
@@ -40,7 +41,6 @@ memory_tests right off len e =
     ∷ (bound_passes (λ b. is_past_end off len b.object) e, Range)
     ∷ []
 
--- the tests of a send
 abbrev pub send_tests : Option Endpoint → List (Bool × Code)
 send_tests e =
     (is_none e, Unbound)
@@ -48,7 +48,7 @@ send_tests e =
     ∷ (bound_passes (λ b. are_credits_used (length b.ring) b.object) e, Range)
     ∷ []
 
--- the tests of taking back a credit
+-- the tests before a credit is taken back
 abbrev pub credit_tests : Option Endpoint → List (Bool × Code)
 credit_tests e =
     (is_none e, Unbound)

@@ -3,11 +3,11 @@ use Rattle.std.specs.Prelude.{ℕ, ◌≤◌, ◌==◌, if◌then◌else◌}
 use Rattle.sem_key.specs.declared.limits.TheConstants.{KERNELS, VPES}
 use Rattle.sem_msg.specs.declared.limits.TheConstants.{WINDOW}
 
--- how many kernels there can be
+-- the most kernels of a setup
 abbrev pub most_kernels : ℕ → ℕ
 most_kernels version = if version == 1 then 16 else KERNELS
 
--- how many VPEs there can be, and as many PEs
+-- the most VPEs of a setup, and the most PEs
 abbrev pub most_vpes : ℕ → ℕ
 most_vpes version = if version == 1 then 64 else VPES
 

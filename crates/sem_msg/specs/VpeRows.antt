@@ -1,7 +1,8 @@
--- What a kernel keeps of its VPEs, by number, and the small changes of it ("State" in docs/machine.md).
-use Rattle.std.specs.Prelude.{ℕ, ◌+◌, nat_lt, Bool, true, false, List, [], ◌∷◌, ◌++◌, length, drop, slice_index_or, replicate, if◌then◌else◌}
-use Rattle.sem_key.specs.KeyName.{KeyName}
-use Rattle.sem_key.specs.Lists.{put, in_turn}
+-- What a kernel keeps of its VPEs, by number, and its small changes ("State" in docs/machine.md).
+use Rattle.std.specs.Prelude.{ℕ, ◌+◌, nat_lt, Bool, true, false, List, [], ◌∷◌, ◌++◌, length, drop, slice_index_or}
+use Rattle.std.specs.Prelude.{replicate, if◌then◌else◌}
+use Rattle.sem_key.specs.Prelude.{KeyName, put}
+use Rattle.sem_key.specs.Lists.{in_turn}
 use Rattle.sem_msg.specs.declared.state.Slot.{Slot}
 use Rattle.sem_msg.specs.declared.state.Slot.TheVariants.{Free, Held, Promised}
 use Rattle.sem_msg.specs.declared.state.Ask.{Ask}
@@ -13,7 +14,7 @@ use Rattle.sem_msg.specs.Rows.{VpeRow, no_vpe}
 
 -- The start.
 
--- a VPE with nothing yet: alive, with all selectors free
+-- a new VPE: alive, with all selectors free
 abbrev pub new_vpe : VpeRow
 new_vpe = record no_vpe { alive = true; slots = replicate SELECTORS Free }
 
@@ -21,9 +22,12 @@ new_vpe = record no_vpe { alive = true; slots = replicate SELECTORS Free }
 abbrev pub next_root : VpeDecl → Root → VpeRow → KeyName
 next_root d r row = root_key d row.next_number r
 
--- a root or service: held at its selector, under a number that is drawn for it
+-- a root or service: held at its selector, with a number drawn for it
 abbrev pub root_held : VpeDecl → Root → VpeRow → VpeRow
-root_held d r row = record row { slots = put Free row.slots r.sel (Held (next_root d r row)); next_number = row.next_number + 1 }
+root_held d r row = record row {
+  slots = put Free row.slots r.sel (Held (next_root d r row));
+  next_number = row.next_number + 1;
+}
 
 -- a VPE with its roots and services, in the order of their lines
 unfoldable pub start_row : VpeDecl → VpeRow
@@ -35,7 +39,6 @@ start_row d = in_turn (root_held d) d.roots new_vpe
 abbrev pub row : List VpeRow → ℕ → VpeRow
 row rows v = slice_index_or rows v no_vpe
 
--- whether a VPE is alive
 abbrev pub is_alive : List VpeRow → ℕ → Bool
 is_alive rows v = (row rows v).alive
 
@@ -55,11 +58,11 @@ is_taken Promised = true
 abbrev pub with_row : ℕ → (VpeRow → VpeRow) → List VpeRow → List VpeRow
 with_row v f rows = put no_vpe rows v (f (row rows v))
 
--- one more call was made
+-- the VPE made one more call
 abbrev pub call_counted : ℕ → List VpeRow → List VpeRow
 call_counted v rows = with_row v (λ r. record r { next_call = r.next_call + 1 }) rows
 
--- one more number was drawn
+-- the VPE drew one more number
 abbrev pub drawn : ℕ → List VpeRow → List VpeRow
 drawn v rows = with_row v (λ r. record r { next_number = r.next_number + 1 }) rows
 
@@ -75,14 +78,17 @@ promised v sel rows = with_slot v sel Promised rows
 abbrev pub freed : ℕ → ℕ → List VpeRow → List VpeRow
 freed v sel rows = with_slot v sel Free rows
 
--- the VPE is asked, unless as many asks wait already as can
+-- the VPE gets one more ask, unless it has the most that can wait
 abbrev pub asked : ℕ → Ask → List VpeRow → List VpeRow
-asked v a rows = with_row v (λ r. record r { asks = if nat_lt (length r.asks) ASKS then r.asks ++ a ∷ [] else r.asks }) rows
+asked v a rows = with_row v (λ r. record r {
+  asks = if nat_lt (length r.asks) ASKS then r.asks ++ a ∷ []
+      else r.asks;
+}) rows
 
 -- the oldest ask is taken out
 abbrev pub ask_taken : ℕ → List VpeRow → List VpeRow
 ask_taken v rows = with_row v (λ r. record r { asks = drop 1 r.asks }) rows
 
--- the VPE is dead; what it was asked stays
+-- the VPE is dead; its asks stay
 abbrev pub died : ℕ → List VpeRow → List VpeRow
 died v rows = with_row v (λ r. record r { alive = false }) rows

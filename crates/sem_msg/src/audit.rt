@@ -1,7 +1,7 @@
 use crate::list::Seq;
 use sem_key::Key;
 
-/// A key that is held at the end, and the selector at which it stands.
+/// A key that is held at the end, and the selector that holds it.
 #[derive(Clone, Copy, Debug, PartialEq, Eq)]
 pub struct Held {
     pub key: Key,
@@ -11,7 +11,7 @@ pub struct Held {
 /// The keys that are held at the end.
 pub type HeldList = Seq<Held>;
 
-/// How many keys were made and how many were cut off, and what is held at the end.
+/// How many keys were made, how many were cut off, and which are held at the end.
 #[derive(Debug, Drop)]
 pub struct Audit {
     pub made: u64,

@@ -1,7 +1,7 @@
 /// A call that a VPE makes.
 #[derive(Clone, Copy, Debug, PartialEq, Eq)]
 pub enum Call {
-    /// Make a smaller memory capability of one that the VPE holds.
+    /// Make a smaller memory capability from one that the VPE holds.
     Derive {
         src: u8,
         dst: u8,
@@ -39,7 +39,7 @@ pub enum Call {
         session: u8,
         index: u8,
     },
-    /// Revoke a capability and all that was made from it.
+    /// Revoke a capability and everything made from it.
     Revoke {
         src: u8,
     },
@@ -69,9 +69,9 @@ pub enum Call {
     Credit {
         ep: u8,
     },
-    /// End.
+    /// End the VPE.
     Exit,
-    /// Revoke all that was made from a capability, and keep the capability.
+    /// Revoke everything made from a capability, but keep the capability.
     Clear {
         src: u8,
     },

@@ -10,7 +10,7 @@ pub enum Code {
     NoVpe,
     /// The other VPE is dead.
     Dead,
-    /// No capability is held there.
+    /// The selector holds no capability.
     NoCap,
     /// The capability is being revoked.
     Revoking,
@@ -18,11 +18,11 @@ pub enum Code {
     Refused,
     /// The destination is held or promised.
     Occupied,
-    /// All numbers were drawn.
+    /// The VPE has drawn all its numbers.
     Numbers,
     /// The capability is of the wrong kind.
     BadKind,
-    /// More is asked for than the capability gives.
+    /// The call asks for more than the capability gives.
     Wider,
     /// No such service is declared.
     NoService,

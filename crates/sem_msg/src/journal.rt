@@ -1,4 +1,5 @@
-ghost use Rattle.std.specs.Prelude.{◌≡◌, ◌+◌, ◌^◌, ◌<◌, ◌≤◌, [], ◌∷◌, ◌++◌, length, slice_get, OnOk};
+ghost use Rattle.std.specs.Prelude.{◌≡◌, ◌+◌, ◌^◌, ◌<◌, ◌≤◌, [], ◌∷◌, ◌++◌, length, slice_get};
+ghost use Rattle.std.specs.Prelude.{OnOk};
 
 use crate::entry::Entry;
 use crate::reserved;
@@ -6,7 +7,7 @@ use sem_key::OutOfMemory;
 use std::alloc::Global;
 use std::marker::Model;
 
-/// The entries of a run, in the order in which they were made.
+/// The entries of a run, in the order in which they were made. Only `room` takes memory.
 #[derive(Debug, Drop)]
 pub struct Journal {
     entries: Vec<Entry>,
@@ -18,11 +19,14 @@ impl Model for Journal {
 
     ghost Value = { JournalList };
 
-    ghost view = { λ j. record { entries = j.entries.items; spare = vec_capacity j.entries - vec_len j.entries } };
+    ghost view = { λ j. record {
+      entries = j.entries.items;
+      spare = vec_capacity j.entries - vec_len j.entries;
+    } };
 }
 
 impl Journal {
-    /// No entries. Takes no memory.
+    /// No entries.
     pub fn new(alloc: Global) -> Self
         ensures { result.entries ≡ [] }
     {
@@ -31,7 +35,7 @@ impl Journal {
         }
     }
 
-    /// How many entries there are.
+    /// The number of entries.
     pub fn len(&self) -> usize
         ensures { result ≡ length self.now.entries }
     {
@@ -45,14 +49,14 @@ impl Journal {
         self.entries.get(at).copied()
     }
 
-    /// The entries, in their order.
+    /// The entries, in order.
     pub fn as_slice(&self) -> &[Entry]
         ensures { result.now ≡ self.now.entries }
     {
         &self.entries
     }
 
-    /// Makes room for `more` entries, so that appending them takes no memory.
+    /// Makes room for `more` entries.
     pub fn room(&mut self, more: usize) -> Result<(), OutOfMemory>
         ensures room { OnOk result (more ≤ self.new.spare) }
         ensures entries { self.new.entries ≡ self.old.entries }
@@ -61,7 +65,7 @@ impl Journal {
         self.entries.reserve(more)
     }
 
-    /// Appends the entry. Takes no memory.
+    /// Appends the entry. There must be room for it.
     pub fn push(&mut self, entry: Entry)
         requires { 0 < self.old.spare }
         ensures entries { self.new.entries ≡ self.old.entries ++ entry ∷ [] }

@@ -1,8 +1,9 @@
-//! What kernels say to each other and what they keep: messages, calls, events, entries, the setup of
-//! a run, and the journal.
+//! What kernels say to each other and what they keep: messages, calls, events, entries, the setup
+//! of a run, and the journal.
 #![tactic(auto)]
 
 mod audit;
+mod bits;
 mod call;
 mod code;
 mod entry;
@@ -14,10 +15,12 @@ mod lookups;
 mod message;
 mod outboxes;
 mod reserved;
+mod same;
 mod setup;
 mod state;
 
 pub use audit::{Audit, Held, HeldList};
+pub use bits::{with_bit, without};
 pub use call::Call;
 pub use code::Code;
 pub use entry::{Consent, Detail, Entry, Outcome, Reply};
@@ -27,6 +30,7 @@ pub use limits::{ASKS, CALLS, ENDPOINTS, SELECTORS, WINDOW};
 pub use list::Seq;
 pub use message::{Message, Target};
 pub use outboxes::Outboxes;
+pub use same::{same_entry, same_message};
 pub use setup::{
     Calls, Denies, Kills, Offer, Offers, Root, Roots, Service, Services, Setup, VpeDecl, Vpes0,
 };

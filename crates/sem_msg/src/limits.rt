@@ -4,11 +4,11 @@ pub const SELECTORS: usize = 256;
 /// How many endpoints a VPE has.
 pub const ENDPOINTS: usize = 16;
 
-/// How many asks can wait for a VPE.
+/// The most asks that can wait for a VPE.
 pub const ASKS: usize = 128;
 
-/// How many calls a setup can have.
+/// The most calls of a setup.
 pub const CALLS: usize = 20_000;
 
-/// How many messages a link can hold, whatever its setup says.
+/// The largest window of a link.
 pub const WINDOW: u32 = 32;

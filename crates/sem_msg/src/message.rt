@@ -14,18 +14,18 @@ pub enum Target {
 /// A message from one kernel to another.
 #[derive(Clone, Copy, Debug, PartialEq, Eq)]
 pub enum Message {
-    /// A VPE asks for a capability, which would get that place.
+    /// A VPE asks for a capability; the child would get that place.
     ObtainReq {
         place: Place,
         target: Target,
     },
-    /// It is granted.
+    /// The request is granted.
     ObtainOk {
         parent: Key,
         key: Key,
         object: Object,
     },
-    /// It is refused, with a code from 1 to 15.
+    /// The request is refused, with a code from 1 to 15.
     ObtainNo {
         place: Place,
         code: u8,
@@ -37,17 +37,17 @@ pub enum Message {
         vpe: u16,
         sel: u8,
     },
-    /// It is accepted, and would get that key.
+    /// The offer is accepted; the child would get that key.
     DelegatePrepared {
         parent: Key,
         key: Key,
     },
-    /// It is refused, with a code from 1 to 15.
+    /// The offer is refused, with a code from 1 to 15.
     DelegateNo {
         parent: Key,
         code: u8,
     },
-    /// The accepted delegation holds, or does not.
+    /// Whether the accepted delegation holds.
     Ack {
         key: Key,
         yes: bool,
@@ -57,16 +57,16 @@ pub enum Message {
         parent: Key,
         key: Key,
     },
-    /// The child is to be revoked, for a job of the sender.
+    /// The receiver is to revoke the child, for a job of the sender.
     RevokeReq {
         key: Key,
         job: u32,
     },
-    /// What the job of the receiver asked for is revoked.
+    /// All that the receiver's job asked for is revoked.
     RevokeDone {
         job: u32,
     },
-    /// The child is gone, without its parent's doing.
+    /// The child is gone, and its parent did not cause it.
     Unlink {
         parent: Key,
         key: Key,

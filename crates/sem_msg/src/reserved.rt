@@ -1,5 +1,5 @@
-// Pushes for which there is room. They take the item by reference: std's own pushes, called by value
-// with an enum that holds an enum that holds keys, get no generated proof.
+// Pushes into room that is there. They take the item by reference: std's own pushes, called by
+// value with an enum that holds an enum that holds keys, get no generated proof.
 ghost use Rattle.std.specs.Prelude.{◌≡◌, ◌<◌, [], ◌∷◌, ◌++◌, vec_len, vec_capacity};
 ghost use Rattle.std.specs.VecDeque.{deque_len, deque_capacity};
 

@@ -40,10 +40,10 @@ pub type Services = Seq<Service>;
 /// The offers by name and index.
 pub type Offers = Seq<Offer>;
 
-/// Pairs of VPEs, by both; the first refuses what the second asks.
+/// Pairs of VPEs, ordered by both; the first denies what the second asks.
 pub type Denies = Seq<(u16, u16)>;
 
-/// Which VPE is killed after how many replies, by VPE.
+/// The VPEs that are killed, by number, and after how many replies each is.
 pub type Kills = Seq<(u16, u64)>;
 
 /// The VPEs by number.
@@ -72,12 +72,12 @@ impl VpeDecl {
     }
 }
 
-/// What a trace declares. Its type keeps all that a trace has to keep.
+/// What a trace declares. The type keeps every rule of a trace.
 #[derive(Debug, Drop)]
 pub struct Setup {
     /// The version of its text, 1 or 2. Kernels, PEs and VPEs have larger ranges in version 2.
     pub version: u8,
-    /// How many messages a link holds: 4 in version 1, 1 to 32 in version 2.
+    /// The most messages in a link: 4 in version 1, 1 to 32 in version 2.
     pub window: u32,
     /// How many kernels there are: 1 to 16 in version 1, 1 to 32 in version 2.
     pub kernels: u32,
@@ -139,7 +139,6 @@ impl Setup {
     }
 }
 
-// Equal declarations of all VPEs.
 fn copy_vpes(vpes: &Vpes0, alloc: Global) -> Result<Vpes0, OutOfMemory>
     ensures { IfOk result (λ copy. copy ≡ vpes.now) }
 {

@@ -4,23 +4,23 @@ use sem_key::{Key, Object, Place};
 /// A selector of a VPE.
 #[derive(Clone, Copy, Debug, PartialEq, Eq)]
 pub enum Slot {
-    /// Nothing stands there.
+    /// The selector holds nothing.
     Free,
-    /// The capability of that key stands there.
+    /// It holds the capability of that key.
     Held(Key),
-    /// It is kept for a capability that is asked for or offered.
+    /// It is kept for a capability that a call asks for or is offered.
     Promised,
 }
 
 /// What a VPE is asked to consent to.
 #[derive(Clone, Copy, Debug, PartialEq, Eq)]
 pub enum Ask {
-    /// To give; the child would get that place.
+    /// To give a capability; the child would get that place.
     Obtain {
         place: Place,
         target: Target,
     },
-    /// To take, at that selector.
+    /// To take a capability, at that selector.
     Delegate {
         parent: Key,
         object: Object,
@@ -36,20 +36,20 @@ pub enum Parked {
         number: u32,
         sel: u8,
     },
-    /// Its answer is there, and the capability is to be installed.
+    /// Its answer has come, and the capability is to be installed.
     ObtainReady {
         key: Key,
         parent: Key,
         object: Object,
         sel: u8,
     },
-    /// Its answer was revoked before it was installed.
+    /// Its answer came, but was revoked before it was installed.
     ObtainCancelled,
     /// A delegate that waits for its answer.
     DelegateWait {
         parent: Key,
     },
-    /// Its answer is there, and the grant is to be made.
+    /// Its answer has come, and the grant is to be made.
     DelegateReady {
         parent: Key,
         key: Key,

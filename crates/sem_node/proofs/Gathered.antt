@@ -32,7 +32,8 @@ record IsRun (T : Setup) (f : FabricValue) (k : KernelValue) : Type 0 where
 abbrev HasPart : List Entry → PassValue → Type 0
 HasPart J p = p.entries ≡ part J p.kernel
 
-runs-from : (T : Setup) (f : FabricValue) (ks : List KernelValue) (ps : List PassValue) → AllZip (HasRun T) ks ps → All (HasPart f.journal) ps → All (IsRun T f) ks
+runs-from : (T : Setup) (f : FabricValue) (ks : List KernelValue) (ps : List PassValue) → AllZip (HasRun T) ks ps → All (HasPart f.journal) ps →
+    All (IsRun T f) ks
 runs-from T f [] [] z parts = All-nil (IsRun T f)
 runs-from T f [] (p ∷ ps) z parts = absurd z
 runs-from T f (k ∷ ks) [] z parts = absurd z
@@ -51,7 +52,8 @@ from_zero : (i : ℕ) → 0 + i ≡ i
 from_zero i = omega arith
 
 -- The kernels ls, in order, each of which is what its part makes of it.
-module _ (T : Setup) (ls : List KernelValue) (f : FabricValue) (whole : IsWhole T f) (count : length ls ≡ T.kernels) (order : map (λ (k : KernelValue). k.id) ls ≡ range_with_len 0 T.kernels) (are : All (IsRun T f) ls) where
+module _ (T : Setup) (ls : List KernelValue) (f : FabricValue) (whole : IsWhole T f) (count : length ls ≡ T.kernels) (order : map (λ (k : KernelValue). k.id) ls
+    ≡ range_with_len 0 T.kernels) (are : All (IsRun T f) ls) where
   id-at : (i : ℕ) (d : KernelValue) → i < T.kernels → (get_or ls i d).id ≡ i
   id-at i d here =
       sym (get_or-map (λ (k : KernelValue). k.id) ls i d d.id (omega (arith, here, count)))
@@ -95,6 +97,7 @@ pub gathered : (T : Setup) (ks ls : List KernelValue) (ps : List PassValue) (f :
     → IsPermutation ks ls → IsNonDecreasingBy (λ (k : KernelValue). k.id) ls → HaveRun T ls f
 gathered T ks ls ps f zipped many whole parts once same sorted =
     let count : length ls ≡ T.kernels = length_permutation ks ls same ∙ (same_length T ks ps zipped ∙ many) in
-    let each : (k : ℕ) → 0 ≤ k → k < 0 + length ls → numbered k ls ≡ 1 = λ k _ lt. sum_by-IsPermutation (λ (x : KernelValue). cond (x.id == k) 1 0) ks ls same ∙ (same_numbers T k ks ps zipped ∙ once k (omega (arith, lt, count))) in
+    let each : (k : ℕ) → 0 ≤ k → k < 0 + length ls → numbered k ls ≡ 1 = λ k _ lt. sum_by-IsPermutation (λ (x : KernelValue). cond (x.id == k) 1 0) ks ls same
+    ∙ (same_numbers T k ks ps zipped ∙ once k (omega (arith, lt, count))) in
     have-run T ls f whole count (in_order 0 ls sorted each (λ k lt. absurd (omega (arith, lt))) ∙ ap (range_with_len 0) count)
     (All-permutation (IsRun T f) ks ls same (runs-from T f ks ps zipped parts))

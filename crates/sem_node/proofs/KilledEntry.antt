@@ -44,11 +44,13 @@ module _ (k : KernelValue) (f : FabricValue) (v : ℕ) (can : CanPut k f v) wher
       let put' : x ≡ entered (kill_entry k.id v) f = put ∙ ap (λ m. entered (kill_entry m v) f) i_is in
       let got' : MayGetPlace k.id x h = subst (λ m. MayGetPlace m x h) i_is got in
       record {
-        journal = entered-journal k.setup f x h (kill_entry k.id v) k.id refl put' got' ∙ ap (λ (e : Entry). f.journal ++ e ∷ []) (sym (kill-entry k.setup k.id k.side v));
+        journal = entered-journal k.setup f x h (kill_entry k.id v) k.id refl put' got'
+            ∙ ap (λ (e : Entry). f.journal ++ e ∷ []) (sym (kill-entry k.setup k.id k.side v));
         follows = entered-follows k.setup f x h (kill_entry k.id v) k.id refl put' got';
         whole = entered-whole k.setup f x h (kill_entry k.id v) k.id refl put' got'
             (subst (IsWhole k.setup) (sym put') (record {
-              agrees = agrees-kill k.setup f can.whole.agrees (kill_entry k.id v) (put-below k.id refl) v refl (subst (λ r. is_due k.setup r v ≡ true) counted due);
+              agrees = agrees-kill k.setup f can.whole.agrees (kill_entry k.id v) (put-below k.id refl) v refl
+                  (subst (λ r. is_due k.setup r v ≡ true) counted due);
               square = can.whole.square;
             }));
       }
@@ -59,7 +61,8 @@ module _ (k : KernelValue) (f : FabricValue) (v : ℕ) (can : CanPut k f v) wher
 
 -- The kernel k has the pass p, which holds the turn as u, with the fabric f.
 module _ (T : Setup) (k : KernelValue) (p u : PassValue) (f : FabricValue) (v : ℕ) (id : k.id ≡ p.kernel) (setup : k.setup ≡ T) (placed : p.placed ≡ true)
-    (took : u ≡ record p { taken = Some f }) (below : p.kernel < T.kernels) (entries : p.entries ≡ part f.journal p.kernel) (place : p.placed ≡ true → has_place f p.kernel ≡ true)
+    (took : u ≡ record p { taken = Some f }) (below : p.kernel < T.kernels) (entries : p.entries ≡ part f.journal p.kernel) (place : p.placed ≡ true →
+    has_place f p.kernel ≡ true)
     (whole : IsWhole T f) where
   pub can-put : CanPut k f v
   can-put = record {
@@ -92,7 +95,8 @@ module _ (T : Setup) (k : KernelValue) (p u : PassValue) (f : FabricValue) (v : 
         own : e.event.kernel ≡ u.kernel
         own = ap (λ (x : Entry). x.event.kernel) (kill-entry k.setup k.id k.side v) ∙ (id ∙ sym u-kernel)
 
-        by : (d : Bool) → MatchBool d (g.journal ≡ f.journal ++ e ∷ []) (g.journal ≡ f.journal) → MatchBool d (q.entries ≡ p.entries ++ e ∷ []) (q.entries ≡ p.entries)
+        by : (d : Bool) → MatchBool d (g.journal ≡ f.journal ++ e ∷ []) (g.journal ≡ f.journal) →
+            MatchBool d (q.entries ≡ p.entries ++ e ∷ []) (q.entries ≡ p.entries)
         by true j = back ∙ (ap (λ (J : List Entry). part J u.kernel) j ∙ (part-own f.journal e u.kernel own ∙ ap (λ (L : List Entry). L ++ e ∷ []) old))
         by false j = back ∙ (ap (λ (J : List Entry). part J u.kernel) j ∙ old)
 

@@ -1,5 +1,6 @@
 -- The step of a kernel that has the fabric: what it asks of the fabric, and what it leaves.
-use Rattle.std.proofs.Common.{◌≡◌, ◌≢◌, ℕ, ◌<◌, Bool, true, false, List, [], ◌∷◌, ◌++◌, length, drop, set, slice_get, Option, None, Some, refl, sym, ◌∙◌, ap, subst, arith}
+use Rattle.std.proofs.Common.{◌≡◌, ◌≢◌, ℕ, ◌<◌, Bool, true, false, List, [], ◌∷◌, ◌++◌, length, drop, set, slice_get, Option, None, Some, refl, sym, ◌∙◌, ap}
+use Rattle.std.proofs.Common.{subst, arith}
 use Rattle.std.specs.Prelude.{slice_index_or}
 use Rattle.std.proofs.lemmas.Option.{slice_get_within, get_or_from_slice_get}
 use Rattle.sem_msg.specs.declared.message.Message.{Message}
@@ -76,7 +77,8 @@ module _ (k l : KernelValue) (f x h : FabricValue) (act : Act) (input : Option M
 
   -- which has a place
   pub enter-place : slice_index_or x.places e.event.kernel false ≡ true
-  enter-place = subst (λ (y : List Bool × ℕ). slice_index_or y.0 y.1 false ≡ true) (λ n. (sym (ap (λ (y : FabricValue). y.places) moved) n, sym made-by n)) can.place
+  enter-place = subst (λ (y : List Bool × ℕ). slice_index_or y.0 y.1 false ≡ true) (λ n. (sym (ap (λ (y : FabricValue). y.places) moved) n, sym made-by n))
+      can.place
 
   -- so the step is one
   pub has-stepped : l ≡ record k { side = (local_step k.setup k.id k.side act input).side; ready = None } → IsInput act input → h ≡ entered e x
@@ -99,17 +101,20 @@ pub fetch-whole : (k : KernelValue) (f : FabricValue) (j : ℕ) (m : Message) �
 unfolding local_entry
 fetch-whole k f j m can first = record {
   agrees = agrees-fetch k.setup f can.whole.agrees (local_entry k.setup k.id k.side (Fetch j) (Some m)) (own-below k f (Fetch j) can) j m refl refl first;
-  square = square-put k.setup.kernels f.links j k.id (drop 1 (link_in f.links j k.id)) can.whole.square (enabled-peer k.setup k.id k.side (Fetch j) can.enabled).0 can.few;
+  square = square-put k.setup.kernels f.links j k.id (drop 1 (link_in f.links j k.id)) can.whole.square
+      (enabled-peer k.setup k.id k.side (Fetch j) can.enabled).0 can.few;
 }
 
-pub flush-whole : (k : KernelValue) (f : FabricValue) (j : ℕ) (m : Message) → CanStep k f (Flush j) → slice_get (outbox k.side j) 0 ≡ Some m → length (link_in f.links k.id j) < f.window
+pub flush-whole : (k : KernelValue) (f : FabricValue) (j : ℕ) (m : Message) → CanStep k f (Flush j) → slice_get (outbox k.side j) 0 ≡ Some m →
+    length (link_in f.links k.id j) < f.window
     → IsWhole k.setup (entered (local_entry k.setup k.id k.side (Flush j) None) (relinked k.id j (link_in f.links k.id j ++ m ∷ []) f))
 unfolding local_entry
 flush-whole k f j m can waits room =
     let carried = flush-carries k.setup k.id k.side j can.enabled in
     let same : carried.0 ≡ m = cc (sym carried.2 ∙ waits) in
     record {
-      agrees = agrees-flush k.setup f can.whole.agrees (local_entry k.setup k.id k.side (Flush j) None) (own-below k f (Flush j) can) j m refl (carried.1 ∙ ap (Carried j) same) room;
+      agrees = agrees-flush k.setup f can.whole.agrees (local_entry k.setup k.id k.side (Flush j) None) (own-below k f (Flush j) can) j m refl (carried.1
+          ∙ ap (Carried j) same) room;
       square = square-put k.setup.kernels f.links k.id j (link_in f.links k.id j ++ m ∷ []) can.whole.square can.few (flush-to k f j can);
     }
 

@@ -62,10 +62,12 @@ none_at n (k ∷ ks) h =
     let r : x ≡ 0 = omega (arith, m', rest', off) in r
 
 -- sorted kernels, one of each number from a on, are in order
-pub in_order : (a : ℕ) (ks : List KernelValue) → IsNonDecreasingBy (λ k. k.id) ks → ((k : ℕ) → a ≤ k → k < a + length ks → numbered k ks ≡ 1) → ((k : ℕ) → k < a → numbered k ks ≡ 0) → map (λ k. k.id) ks ≡ range_with_len a (length ks)
+pub in_order : (a : ℕ) (ks : List KernelValue) → IsNonDecreasingBy (λ k. k.id) ks → ((k : ℕ) → a ≤ k → k < a + length ks → numbered k ks ≡ 1) →
+    ((k : ℕ) → k < a → numbered k ks ≡ 0) → map (λ k. k.id) ks ≡ range_with_len a (length ks)
 in_order a [] sorted once none = refl
 in_order a (x ∷ xs) sorted once none =
-    let low : a ≤ x.id = dite (dec_le a x.id) (λ (le : a ≤ x.id). le) (λ gt. absurd (let z = none x.id (omega arith) in let m = numbered_cons x.id x xs in let o = hit_yes x.id x.id refl in omega (arith, z, m, o))) in
+    let low : a ≤ x.id = dite (dec_le a x.id) (λ (le : a ≤ x.id). le) (λ gt. absurd (let z = none x.id (omega arith) in let m = numbered_cons x.id x xs in
+    let o = hit_yes x.id x.id refl in omega (arith, z, m, o))) in
     let here : x.id ≡ a = dite (dec_le x.id a)
     (λ (le : x.id ≤ a). let r : x.id ≡ a = omega arith in r)
     (λ gt. absurd (
@@ -74,8 +76,10 @@ in_order a (x ∷ xs) sorted once none =
     omega (arith, z, o))) in
     let rest = in_order (a + 1) xs
     (λ i j d le lt. sorted (suc i) (suc j) d (omega arith) (omega arith))
-    (λ k le lt. let o = once k (omega arith) (omega arith) in let m = numbered_cons k x xs in let off = hit_no x.id k (λ e. omega arith) in omega (arith, o, m, off))
+    (λ k le lt. let o = once k (omega arith) (omega arith) in let m = numbered_cons k x xs in let off = hit_no x.id k (λ e. omega arith) in
+    omega (arith, o, m, off))
     (λ k lt. dite (dec_le a k)
-    (λ (le : a ≤ k). let same : x.id ≡ k = omega arith in let o = once k (omega arith) (omega arith) in let m = numbered_cons k x xs in let on = hit_yes x.id k same in omega (arith, o, m, on))
+    (λ (le : a ≤ k). let same : x.id ≡ k = omega arith in let o = once k (omega arith) (omega arith) in let m = numbered_cons k x xs in
+    let on = hit_yes x.id k same in omega (arith, o, m, on))
     (λ gt. let o = none k (omega arith) in let m = numbered_cons k x xs in omega (arith, o, m))) in
     λ i. here i ∷ rest i

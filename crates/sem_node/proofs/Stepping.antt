@@ -21,7 +21,14 @@ use Rattle.sem_node.specs.Running.{HasRun}
 
 -- room for an act changes nothing of the run
 pub run-roomed : (T : Setup) (k r : KernelValue) (p : PassValue) (act : Act) → HasRun T k p → r ≡ record k { ready = Some act } → HasRun T r p
-run-roomed T k r p act run same = subst (λ (x : KernelValue). HasRun T x p) (sym same) (record { valid = run.valid; setup = run.setup; id = run.id; few = run.few; runs = run.runs; sound = run.sound })
+run-roomed T k r p act run same = subst (λ (x : KernelValue). HasRun T x p) (sym same) (record {
+  valid = run.valid;
+  setup = run.setup;
+  id = run.id;
+  few = run.few;
+  runs = run.runs;
+  sound = run.sound;
+})
 
 -- what is enabled before there is room is enabled then
 pub enabled-roomed : (k r : KernelValue) (act : Act) (replies : ℕ) → r ≡ record k { ready = Some act }
@@ -80,7 +87,10 @@ own-input (Kill v) own = absurd own
 -- The kernel k, with the pass p, made the entry e and became l.
 module _ (T : Setup) (k l : KernelValue) (p : PassValue) (act : Act) (input : Option Message) (e : Entry)
     (run : HasRun T k p) (enabled : is_locally_enabled k.setup k.id k.side act ≡ true) (handed : IsInput act input)
-    (made : e ≡ local_entry k.setup k.id k.side act input) (stepped : l ≡ record k { side = (local_step k.setup k.id k.side act input).side; ready = None }) where
+    (made : e ≡ local_entry k.setup k.id k.side act input) (stepped : l ≡ record k {
+      side = (local_step k.setup k.id k.side act input).side;
+      ready = None;
+    }) where
   made-event : e.event ≡ record { kernel = k.id; act = act }
   made-event = ap (λ (x : Entry). x.event) made ∙ entry-event k.setup k.id k.side act input
 
@@ -97,8 +107,10 @@ module _ (T : Setup) (k l : KernelValue) (p : PassValue) (act : Act) (input : Op
   run-goes-on q same pushed =
       let id : l.id ≡ k.id = ap (λ (x : KernelValue). x.id) stepped in
       let able : is_locally_enabled T k.id k.side act ≡ true = subst (λ (S : Setup). is_locally_enabled S k.id k.side act ≡ true) run.setup enabled in
-      let entries : q.entries ≡ p.entries ++ local_entry T k.id k.side act input ∷ [] = pushed ∙ ap (λ (x : Entry). p.entries ++ x ∷ []) (made ∙ ap (λ (S : Setup). local_entry S k.id k.side act input) run.setup) in
-      let side : l.side ≡ (local_step T k.id k.side act input).side = ap (λ (x : KernelValue). x.side) stepped ∙ ap (λ (S : Setup). (local_step S k.id k.side act input).side) run.setup in
+      let entries : q.entries ≡ p.entries ++ local_entry T k.id k.side act input ∷ [] = pushed
+      ∙ ap (λ (x : Entry). p.entries ++ x ∷ []) (made ∙ ap (λ (S : Setup). local_entry S k.id k.side act input) run.setup) in
+      let side : l.side ≡ (local_step T k.id k.side act input).side = ap (λ (x : KernelValue). x.side) stepped
+      ∙ ap (λ (S : Setup). (local_step S k.id k.side act input).side) run.setup in
       record {
         valid = run.valid;
         setup = ap (λ (x : KernelValue). x.setup) stepped ∙ run.setup;
@@ -118,7 +130,8 @@ pub record IsMade (T : Setup) (l : KernelValue) (p : PassValue) (a : Act) (e : E
 
 -- a kernel tells that an act is enabled, makes room for it, and steps
 pub step-made : (T : Setup) (k r l : KernelValue) (p : PassValue) (act : Act) (replies : ℕ) (b : Bool) (input : Option Message) (e : Entry)
-    → HasRun T k p → b ≡ (is_locally_enabled k.setup k.id k.side act && is_timely k.setup replies act) → b ≡ true → r ≡ record k { ready = Some act } → IsInput act input
+    → HasRun T k p → b ≡ (is_locally_enabled k.setup k.id k.side act && is_timely k.setup replies act) → b ≡ true → r ≡ record k { ready = Some act } →
+    IsInput act input
     → e ≡ local_entry r.setup r.id r.side act input → l ≡ record r { side = (local_step r.setup r.id r.side act input).side; ready = None } → IsMade T l p act e
 step-made T k r l p act replies b input e run told on roomed handed made stepped =
     let now : HasRun T r p = run-roomed T k r p act run roomed in
@@ -135,5 +148,6 @@ pub made-on : (T : Setup) (l : KernelValue) (p w q : PassValue) (act : Act) (e :
 made-on T l p w q act e made same kernel pushed =
     made.on q (kernel ∙ ap (λ (x : PassValue). x.kernel) same) (pushed ∙ ap (λ (x : PassValue). x.entries ++ e ∷ []) same)
 
-pub made-kernel-on : (T : Setup) (l : KernelValue) (p w : PassValue) (act : Act) (e : Entry) → IsMade T l p act e → w ≡ record p { placed = w.placed } → e.event.kernel ≡ w.kernel
+pub made-kernel-on : (T : Setup) (l : KernelValue) (p w : PassValue) (act : Act) (e : Entry) → IsMade T l p act e → w ≡ record p { placed = w.placed } →
+    e.event.kernel ≡ w.kernel
 made-kernel-on T l p w act e made same = made.kernel ∙ sym (ap (λ (x : PassValue). x.kernel) same)

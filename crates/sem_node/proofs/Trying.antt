@@ -1,5 +1,6 @@
 -- Places that a kernel gets, and its try of an act within a turn, with the places before and after.
-use Rattle.std.proofs.Common.{◌≡◌, ℕ, ◌<◌, Bool, true, false, List, [], ◌∷◌, ◌++◌, get_or, get_or-set_other, Result, Ok, Err, sym, ◌∙◌, ap, subst, inl, inr, arith}
+use Rattle.std.proofs.Common.{◌≡◌, ℕ, ◌<◌, Bool, true, false, List, [], ◌∷◌, ◌++◌, get_or, get_or-set_other, Result, Ok, Err, sym, ◌∙◌, ap, subst, inl, inr}
+use Rattle.std.proofs.Common.{arith}
 use Rattle.std.specs.Prelude.{MatchBool, OnOk, OnErr, is_ok}
 use Rattle.sem_msg.specs.declared.event.Act.{Act}
 use Rattle.sem_msg.specs.declared.entry.Entry.{Entry}
@@ -49,7 +50,8 @@ module _ (T : Setup) (f x h : FabricValue) (e : Entry) (n : ℕ) (by : e.event.k
   pub entered-follows : Follows n f h
   entered-follows = (
     inr (e, by, entered-journal),
-    λ j apart. got-others n x h got j apart ∙ (ap (λ (y : FabricValue). has_place y j) put ∙ get_or-set_other f.places e.event.kernel j false false (λ is. apart (is ∙ by))),
+    λ j apart. got-others n x h got j apart
+        ∙ (ap (λ (y : FabricValue). has_place y j) put ∙ get_or-set_other f.places e.event.kernel j false false (λ is. apart (is ∙ by))),
   )
 
   pub entered-whole : IsWhole T x → IsWhole T h

@@ -75,19 +75,22 @@ module _ (T : Setup) (k r : KernelValue) (p u : PassValue) (act : Act) (n : ℕ)
     old = ap (λ m. part f.journal m) u-kernel ∙ sym entries
 
     -- once it is given back, the pass tells the run
-    run-on : (q : PassValue) → HasTried r f act l g → q ≡ record u { entries = part g.journal u.kernel; placed = has_place g u.kernel; taken = None } → HasRun T l q
+    run-on : (q : PassValue) → HasTried r f act l g → q ≡ record u { entries = part g.journal u.kernel; placed = has_place g u.kernel; taken = None } →
+        HasRun T l q
     run-on q (inl done) back =
         let by = made-kernel T r l p act done.input done.entry now able done.handed done.made done.kernel in
         let pushed : q.entries ≡ p.entries ++ done.entry ∷ [] =
         ap (λ (x : PassValue). x.entries) back
-        ∙ (ap (λ (J : List Entry). part J u.kernel) done.journal ∙ (part-own f.journal done.entry u.kernel (by ∙ sym u-kernel) ∙ ap (λ (L : List Entry). L ++ done.entry ∷ []) old)) in
+        ∙ (ap (λ (J : List Entry). part J u.kernel) done.journal
+        ∙ (part-own f.journal done.entry u.kernel (by ∙ sym u-kernel) ∙ ap (λ (L : List Entry). L ++ done.entry ∷ []) old)) in
         run-goes-on T r l p act done.input done.entry now able done.handed done.made done.kernel q (ap (λ (x : PassValue). x.kernel) back ∙ u-kernel) pushed
     run-on q (inr rest) back =
         let kept : q.entries ≡ p.entries = ap (λ (x : PassValue). x.entries) back ∙ (ap (λ (J : List Entry). part J u.kernel) rest.journal ∙ old) in
         subst (λ (x : KernelValue). HasRun T x q) (sym rest.kernel) (run-same T r p q now (ap (λ (x : PassValue). x.kernel) back ∙ u-kernel) kept)
 
     -- which is free, and has the place that the turn showed
-    pub cell-on : (q : PassValue) (b : Bool) → HasTried r f act l g → q ≡ record u { entries = part g.journal u.kernel; placed = has_place g u.kernel; taken = None }
+    pub cell-on : (q : PassValue) (b : Bool) → HasTried r f act l g →
+        q ≡ record u { entries = part g.journal u.kernel; placed = has_place g u.kernel; taken = None }
         → (b ≡ true → has_place g r.id ≡ true) → HasRun T l q × (q.taken ≡ None) × (b ≡ true → q.placed ≡ true)
     cell-on q b tried back shown = (
       run-on q tried back,

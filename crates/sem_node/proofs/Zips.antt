@@ -28,7 +28,8 @@ zip_push R (a ∷ xs) [] x y h r = absurd h
 zip_push R (a ∷ xs) (b ∷ ys) x y h r = (h.0, zip_push R xs ys x y h.1 r)
 
 -- the same, where they are told so
-pub zip_pushed : {A B : Type 0} (R : A → B → Type 0) (xs us : List A) (ys vs : List B) (x : A) (y : B) → us ≡ xs ++ x ∷ [] → vs ≡ ys ++ y ∷ [] → AllZip R xs ys → R x y → AllZip R us vs
+pub zip_pushed : {A B : Type 0} (R : A → B → Type 0) (xs us : List A) (ys vs : List B) (x : A) (y : B) → us ≡ xs ++ x ∷ [] → vs ≡ ys ++ y ∷ [] →
+    AllZip R xs ys → R x y → AllZip R us vs
 zip_pushed {A = A} {B = B} R xs us ys vs x y a b h r = subst (λ (z : List A × List B). AllZip R z.0 z.1) (λ i. (sym a i, sym b i)) (zip_push R xs ys x y h r)
 
 -- no passes of no kernels
@@ -49,7 +50,8 @@ free_new a zero = All-nil (λ (p : PassValue). p.taken ≡ None)
 free_new a (suc n) = All-cons (λ (p : PassValue). p.taken ≡ None) (new_pass a) (map new_pass (range_with_len (a + 1) n)) refl (free_new (a + 1) n)
 
 -- all kernels at the start, with the passes that the turn gives
-pub starts : (T U : Setup) (ks : List KernelValue) (ps : List PassValue) → IsSetup T → T ≡ U → ks ≡ map (booted T) (range_with_len 0 T.kernels) → ps ≡ new_passes U.kernels
+pub starts : (T U : Setup) (ks : List KernelValue) (ps : List PassValue) → IsSetup T → T ≡ U → ks ≡ map (booted T) (range_with_len 0 T.kernels) →
+    ps ≡ new_passes U.kernels
     → AllZip (HasRun U) ks ps
 starts T U ks ps valid same k p =
     subst (λ (x : List KernelValue × List PassValue). AllZip (HasRun U) x.0 x.1)

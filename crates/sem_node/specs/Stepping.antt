@@ -1,16 +1,13 @@
 -- The step of a kernel that has the fabric.
 use Rattle.std.specs.Prelude.{◌≡◌, ◌≢◌, ◌⊎◌, ℕ, ◌<◌, true, false, [], ◌∷◌, ◌++◌, Option, Some, None, slice_set}
-use Rattle.sem_msg.specs.declared.message.Message.{Message}
-use Rattle.sem_msg.specs.declared.event.Act.{Act}
-use Rattle.sem_msg.specs.declared.entry.Entry.{Entry}
-use Rattle.sem_msg.specs.Fabric.{FabricValue}
+use Rattle.sem_machine.specs.Prelude.{Message, Act, Entry, FabricValue, IsSound, is_locally_enabled, local_step}
+use Rattle.sem_machine.specs.Prelude.{local_entry}
 use Rattle.sem_fabric.specs.Fabrics.{placed}
-use Rattle.sem_machine.specs.Sound.{IsSound}
-use Rattle.sem_machine.specs.Machine.{is_locally_enabled, local_step, local_entry}
 use Rattle.sem_kernel.specs.KernelValue.{KernelValue, IsInput}
 use Rattle.sem_turn.specs.Passes.{has_place, IsWhole}
 
--- the kernel is ready for an act that is enabled as far as it can tell, and has a place in the fabric, which is whole
+-- the kernel is ready for an act that is enabled as far as it can tell, and has a place in the
+-- fabric, which is whole
 pub record CanStep (k : KernelValue) (f : FabricValue) (act : Act) : Type 0 where
   pub few : k.id < k.setup.kernels
   pub sound : IsSound k.setup k.id k.side
@@ -19,8 +16,10 @@ pub record CanStep (k : KernelValue) (f : FabricValue) (act : Act) : Type 0 wher
   pub ready : k.ready ≡ Some act
   pub place : has_place f k.id ≡ true
 
--- the kernel k did the act and became l, and its entry was entered into the fabric f, which became g and is whole again
-pub record HasStepped (k : KernelValue) (f : FabricValue) (act : Act) (l : KernelValue) (g : FabricValue) : Type 0 where
+-- kernel k did the act and became l; its entry went into the fabric f, which became g and is whole
+-- again
+pub record HasStepped (k : KernelValue) (f : FabricValue) (act : Act) (l : KernelValue)
+    (g : FabricValue) : Type 0 where
   pub input : Option Message
   pub entry : Entry
   pub handed : IsInput act input
@@ -45,11 +44,11 @@ pub record CanTry (k : KernelValue) (f : FabricValue) (act : Act) : Type 0 where
   pub enabled : is_locally_enabled k.setup k.id k.side act ≡ true
   pub ready : k.ready ≡ Some act
 
--- the kernels but k have their places as before
+-- the kernels other than k have the same places as before
 abbrev pub KeepsOthers : ℕ → FabricValue → FabricValue → Type 0
 KeepsOthers k f g = (j : ℕ) → j ≢ k → has_place g j ≡ has_place f j
 
--- In a turn in which it may get places, the kernel k did the act and became l, and its entry was entered.
+-- In a turn that may give it places, kernel k did the act and became l, and its entry was entered.
 pub record HasActed (k : KernelValue) (f : FabricValue) (act : Act) (l : KernelValue) (g : FabricValue) : Type 0 where
   pub input : Option Message
   pub entry : Entry
@@ -60,7 +59,7 @@ pub record HasActed (k : KernelValue) (f : FabricValue) (act : Act) (l : KernelV
   pub journal : g.journal ≡ f.journal ++ entry ∷ []
   pub others : KeepsOthers k.id f g
 
--- or it did nothing.
+-- or it did nothing
 pub record HasRested (k : KernelValue) (f : FabricValue) (l : KernelValue) (g : FabricValue) : Type 0 where
   pub kernel : l ≡ k
   pub whole : IsWhole k.setup g

@@ -1,18 +1,18 @@
-// What a thread sleeps on until another one rings.
+// A thread sleeps on this until another one rings.
 use std::sync::Wait;
 use std::sync::atomic::{AtomicU64, Ordering};
 
-// Nobody rang since the thread heard last, and it does not sleep.
+// No one has rung since the thread last heard, and the thread does not sleep.
 const AWAKE: u64 = 0;
 
-// Somebody rang, and the thread has not heard it yet.
+// Another thread has rung, and the thread has not heard it yet.
 const RUNG: u64 = 1;
 
 // The thread sleeps, or is about to.
 const ASLEEP: u64 = 2;
 
-/// The bell of one thread. The thread calls `hear`, looks for what it may do, and calls `sleep`
-/// where there is nothing. Others change what it looks at, and ring after that.
+/// The bell of one thread. The thread calls `hear`, looks for work, and calls `sleep` if there is
+/// none. Other threads first change what it looks at, and then ring.
 #[derive(Drop)]
 pub struct Bell {
     state: AtomicU64,
@@ -25,9 +25,9 @@ impl Bell {
         }
     }
 
-    /// Wakes the thread of the bell, or has its next sleep end at once.
+    /// Wakes the thread of the bell, or makes its next sleep end at once.
     pub fn ring(&self) {
-        // A bell that was rung already is heard later, and so is what was changed until now.
+        // A bell that has rung already is heard later, and with it all changes until now.
         if self.state.load(Ordering::SeqCst) != RUNG
             && self.state.swap(RUNG, Ordering::SeqCst) == ASLEEP
         {
@@ -35,12 +35,12 @@ impl Bell {
         }
     }
 
-    /// What was changed before the bell was rung is seen from now on.
+    /// From now on the thread sees what was changed before the bell rang.
     pub fn hear(&self) {
         self.state.store(AWAKE, Ordering::SeqCst);
     }
 
-    /// Sleeps until somebody has rung since the thread heard last.
+    /// Sleeps until another thread has rung since the thread last heard.
     pub fn sleep<R: Wait>(&self, rt: &R) {
         let slept = self
             .state

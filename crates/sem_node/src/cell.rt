@@ -19,11 +19,11 @@ use std::sync::atomic::AtomicBool;
 /// What became of an act.
 #[derive(Clone, Copy, Debug, PartialEq, Eq)]
 pub enum Progress {
-    /// It was not enabled, and nothing was done.
+    /// The act was not enabled, and nothing was done.
     Nothing,
-    /// It was done.
+    /// The act was done.
     Done,
-    /// It was done, and a call was answered by it. The journal has so many replies then.
+    /// The act was done and answered a call. The journal has that many replies then.
     Replied(u64),
 }
 
@@ -36,18 +36,19 @@ pub struct Caller<N: RunName> {
     pub of: PhantomData<N>,
     /// The bell of the thread that makes the calls.
     pub bell: Bell,
-    // Whether somebody is to ring it who found that its call can go on, or that it has ended.
+    // Whether a thread that finds that the call can go on, or that the VPE has ended, should ring
+    // the bell.
     pub due: AtomicBool,
     ghost own: { kernel_of N.setup vpe ≡ kernel },
 }
 
-/// A kernel with its pass, as they lie under the kernel's lock: the pass does not hold the turn, and
-/// its entries are a local run of the kernel.
+/// A kernel with its pass, guarded by the kernel's lock. The pass does not hold the turn, and its
+/// entries are a local run of the kernel.
 #[derive(Drop)]
 pub struct KernelCell<N: RunName> {
     pub(crate) kernel: Kernel,
     pub(crate) pass: Pass<N>,
-    // Whether the kernel has a place in the journal, as far as its last turn showed.
+    // Whether the kernel has a place in the journal, as of its last turn.
     placed: bool,
 }
 
@@ -64,7 +65,7 @@ impl<N: RunName> Model for KernelCell<N> {
         × (c.placed ≡ true → c.pass.placed ≡ true) };
 }
 
-// What became of an act that was entered, which may have answered a call.
+// What became of an entered act, which may have answered a call.
 fn progress_of(replied: bool, replies: u64) -> Progress {
     if replied {
         Progress::Replied(replies)
@@ -86,7 +87,7 @@ impl<N: RunName> KernelCell<N> {
         }
     }
 
-    /// The kernel and its pass.
+    /// The kernel and its pass, taken apart.
     pub fn into_parts(self) -> (Kernel, Pass<N>)
         ensures run { HasRun N.setup result.0 result.1 }
         ensures free { result.1.taken ≡ None }
@@ -99,8 +100,8 @@ impl<N: RunName> KernelCell<N> {
         (kernel, pass)
     }
 
-    /// Whether the act is enabled as far as the kernel can tell: of a fetch it does not know the link,
-    /// of a flush not whether the link has room, and of a kill not whether it is due.
+    /// Whether the act is enabled as far as the kernel can tell. For a fetch it does not know the
+    /// link, for a flush whether the link has room, and for a kill whether it is due.
     pub fn can(&self, act: Act) -> bool {
         self.kernel.enabled(act, u64::MAX)
     }
@@ -110,8 +111,8 @@ impl<N: RunName> KernelCell<N> {
         self.kernel.id() == caller.kernel && !self.kernel.is_alive(caller.vpe)
     }
 
-    /// Does an act that the kernel does alone: steps outside the turn, and enters in one turn, which
-    /// makes the next place too.
+    /// Does an act that the kernel does alone. It steps outside the turn, and enters in one turn,
+    /// which also makes the next place.
     pub fn act_alone<W: Wait, G: Gate>(
         &mut self,
         rt: &W,
@@ -134,8 +135,8 @@ impl<N: RunName> KernelCell<N> {
         Ok(progress_of(replied, entered.replies))
     }
 
-    /// Kills a VPE, if that is due: tests and enters in one turn, which makes the next place too, and
-    /// steps after it. Whether it was done.
+    /// Kills a VPE, if that is due. It tests and enters in one turn, which also makes the next
+    /// place, and steps after it. Returns whether it was done.
     pub fn kill<W: Wait, G: Gate>(
         &mut self,
         rt: &W,
@@ -158,8 +159,8 @@ impl<N: RunName> KernelCell<N> {
         Ok(killed.due)
     }
 
-    /// Does a fetch or a flush: tests, steps and enters in one turn, which makes the next place too.
-    /// None where the kernel cannot do the act, whatever the links are.
+    /// Does a fetch or a flush. It tests, steps and enters in one turn, which also makes the next
+    /// place. None if the kernel cannot do the act, whatever the links are.
     pub fn act_within<W: Wait, G: Gate>(
         &mut self,
         rt: &W,

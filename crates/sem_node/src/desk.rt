@@ -1,4 +1,4 @@
-// What the dispatcher of a kernel is told by other threads.
+// What other threads tell the dispatcher of a kernel.
 ghost use Rattle.std.specs.Prelude.{◌≡◌, ◌<◌};
 
 use crate::bell::Bell;
@@ -12,7 +12,7 @@ pub struct Due {
     pub vpe: u16,
     /// How many replies it waits for.
     pub number: u64,
-    // Whether there were so many.
+    // Whether there were that many.
     due: AtomicBool,
 }
 
@@ -30,20 +30,20 @@ impl Due {
     }
 }
 
-/// The bell of a dispatcher, with what it is rung for. None of it is promised: what a dispatcher is
-/// told it tests in the turn in which it acts.
+/// The bell of a dispatcher, with what it is rung for. None of this is promised: the dispatcher
+/// tests what it is told in the turn in which it acts.
 #[derive(Drop)]
 pub struct Desk {
     pub bell: Bell,
-    // By kernel, whether the link from it may hold a message.
+    // Whether the link from each kernel may hold a message.
     mail: Vec<AtomicBool>,
-    // By kernel, whether the link to it was full when it was tried last, and nobody has fetched since.
+    // Whether the link to each kernel was full when last tried, with no fetch since.
     full: Vec<AtomicBool>,
     // The kills of VPEs of the kernel.
     pub kills: Vec<Due>,
 }
 
-// So many flags, none of which is set.
+// That many flags, none of them set.
 fn flags(alloc: Global, count: u32) -> Result<Vec<AtomicBool>, OutOfMemory> {
     let mut flags = Vec::new(alloc);
     for _ in 0..count {
@@ -52,7 +52,6 @@ fn flags(alloc: Global, count: u32) -> Result<Vec<AtomicBool>, OutOfMemory> {
     Ok(flags)
 }
 
-// Whether the flag of the kernel is set.
 fn is_set(flags: &[AtomicBool], kernel: u32) -> bool {
     match flags.get(kernel as usize) {
         Some(flag) => flag.load(Ordering::SeqCst),
@@ -60,7 +59,7 @@ fn is_set(flags: &[AtomicBool], kernel: u32) -> bool {
     }
 }
 
-// Sets the flag of the kernel, or takes it away.
+// Sets or clears the flag of the kernel.
 fn set(flags: &[AtomicBool], kernel: u32, value: bool) {
     if let Some(flag) = flags.get(kernel as usize) {
         flag.store(value, Ordering::SeqCst);
@@ -68,7 +67,7 @@ fn set(flags: &[AtomicBool], kernel: u32, value: bool) {
 }
 
 impl Desk {
-    /// The desk of a kernel among so many, with the kills of its VPEs.
+    /// The desk of a kernel among that many, with the kills of its VPEs.
     pub fn new(alloc: Global, kernels: u32, kills: Vec<Due>) -> Result<Self, OutOfMemory> {
         Ok(Desk {
             bell: Bell::new(),
@@ -88,12 +87,12 @@ impl Desk {
         is_set(&self.full, to)
     }
 
-    /// The link from that kernel is looked at now, or holds a message still.
+    /// The link from that kernel is being looked at now, or still holds a message.
     pub fn note_mail(&self, from: u32, more: bool) {
         set(&self.mail, from, more);
     }
 
-    /// The link to that kernel is tried now, or was not full.
+    /// The link to that kernel is being tried now, or was not full.
     pub fn note_full(&self, to: u32, full: bool) {
         set(&self.full, to, full);
     }
@@ -104,13 +103,13 @@ impl Desk {
         self.bell.ring();
     }
 
-    /// The link to that kernel is not full any more.
+    /// The link to that kernel is no longer full.
     pub fn bring_room(&self, to: u32) {
         set(&self.full, to, false);
         self.bell.ring();
     }
 
-    /// So many replies were entered.
+    /// That many replies were entered.
     pub fn bring_replies(&self, replies: u64) {
         for kill in &self.kills {
             if kill.number == replies {

@@ -1,10 +1,10 @@
-/// What is called before each step of a kernel, and may hold the kernel's thread up.
+/// A hook before each step of a kernel; it may hold the kernel's thread up.
 pub trait Gate {
-    /// The kernel is to do an act of that number (`act_number`).
+    /// The kernel is about to do an act of that number (`act_number`).
     fn before(&self, kernel: u32, act: u8);
 }
 
-/// It holds nobody up.
+/// A gate that holds no thread up.
 #[derive(Drop)]
 pub struct OpenGate;
 

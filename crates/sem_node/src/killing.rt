@@ -1,4 +1,4 @@
-// The entry of a kill. It tells nothing of the kernel's step, so that the step can come after the turn.
+// The entry of a kill. It tells nothing of the kernel's step, so the step can come after the turn.
 ghost use Rattle.std.specs.Prelude.{◌≡◌, ◌++◌, ◌∷◌, [], MatchBool, None, true};
 ghost use Rattle.sem_msg.specs.declared.event.Act.TheVariants.{Kill};
 ghost use Rattle.sem_machine.specs.Machine.{local_entry};
@@ -13,10 +13,10 @@ use sem_msg::{Act, Detail, Entry, Event};
 use sem_turn::{Pass, RunName, Turn};
 use std::sync::Wait;
 
-/// What a turn shows in which a kill was tried.
+/// What a turn shows that tried a kill.
 #[derive(Clone, Copy, Debug)]
 pub struct Killed {
-    /// Whether it was due, so that it was entered.
+    /// Whether the kill was due, and so entered.
     pub due: bool,
     /// Whether the kernel has its next place in the journal.
     pub placed: bool,
@@ -63,7 +63,9 @@ pub fn enter_kill<N: RunName, W: Wait>(
     requires kernel { kernel.now.id ≡ pass.old.kernel }
     requires setup { kernel.now.setup ≡ N.setup }
     ensures kernel { pass.new.kernel ≡ pass.old.kernel }
-    ensures entries { MatchBool result.due (pass.new.entries ≡ pass.old.entries ++ local_entry kernel.now.setup kernel.now.id kernel.now.side (Kill vpe) None ∷ []) (pass.new.entries ≡ pass.old.entries) }
+    ensures entries { MatchBool result.due (pass.new.entries ≡ pass.old.entries
+        ++ local_entry kernel.now.setup kernel.now.id kernel.now.side (Kill vpe) None ∷ [])
+        (pass.new.entries ≡ pass.old.entries) }
     ensures free { pass.new.taken ≡ None }
     ensures place { result.placed ≡ true → pass.new.placed ≡ true }
 {

@@ -1,4 +1,4 @@
-//! Kernels in threads of their own, which make one journal together.
+//! Kernels, each in its own threads, which make one journal together.
 #![tactic(auto)]
 
 mod bell;

@@ -1,5 +1,5 @@
-// What a kernel does with the links while it has the turn: it tests, steps and enters, since what an
-// earlier turn showed of the links is not known in a later one.
+// What a kernel does with the links while it has the turn: it tests, steps and enters. A later turn
+// would not know what an earlier one showed of the links.
 ghost use Rattle.std.specs.Prelude.{◌≡◌, MatchBool, true};
 ghost use Rattle.sem_msg.specs.declared.event.Act.TheVariants.{Fetch, Flush};
 ghost use Rattle.sem_turn.specs.Passes.{has_place};
@@ -11,21 +11,23 @@ use sem_kernel::Kernel;
 use sem_key::OutOfMemory;
 use sem_msg::Act;
 
-/// What became of a fetch or a flush, and what was seen of its link.
+/// What became of a fetch or a flush, and what it saw of its link.
 #[derive(Clone, Copy, Debug, PartialEq, Eq)]
 pub struct Linked {
     /// Whether it was done.
     pub done: bool,
     /// Whether the link was full before.
     pub full: bool,
-    /// Whether the link holds a message still, once one was fetched.
+    /// Whether the link still holds a message after the fetch.
     pub more: bool,
 }
 
 // Takes the oldest message out of the link from that kernel into the inbox, if there is one.
 fn fetch(kernel: &mut Kernel, fabric: &mut Fabric, from: u32) -> Linked
     requires { CanStep kernel.old fabric.old (Fetch from) }
-    ensures { MatchBool result.done (HasStepped kernel.old fabric.old (Fetch from) kernel.new fabric.new) (IsUnchanged kernel.old fabric.old kernel.new fabric.new) }
+    ensures { MatchBool result.done
+        (HasStepped kernel.old fabric.old (Fetch from) kernel.new fabric.new)
+        (IsUnchanged kernel.old fabric.old kernel.new fabric.new) }
 {
     let id = kernel.id();
     let full = fabric.full(from, id);
@@ -48,11 +50,12 @@ fn fetch(kernel: &mut Kernel, fabric: &mut Fabric, from: u32) -> Linked
     }
 }
 
-// Puts the message that waited longest for that kernel at the end of the link to it, if there is
+// Puts the oldest message that waits for that kernel at the end of the link to it, if there is
 // room.
 fn flush(kernel: &mut Kernel, fabric: &mut Fabric, to: u32) -> bool
     requires { CanStep kernel.old fabric.old (Flush to) }
-    ensures { MatchBool result (HasStepped kernel.old fabric.old (Flush to) kernel.new fabric.new) (IsUnchanged kernel.old fabric.old kernel.new fabric.new) }
+    ensures { MatchBool result (HasStepped kernel.old fabric.old (Flush to) kernel.new fabric.new)
+        (IsUnchanged kernel.old fabric.old kernel.new fabric.new) }
 {
     let id = kernel.id();
     let Some(message) = kernel.front(to) else {
@@ -66,7 +69,7 @@ fn flush(kernel: &mut Kernel, fabric: &mut Fabric, to: u32) -> bool
     true
 }
 
-// What became of an act whose link was not looked at.
+// The result of an act that did not look at its link.
 fn unseen(done: bool) -> Linked
     ensures { result.done ≡ done }
 {
@@ -80,7 +83,8 @@ fn unseen(done: bool) -> Linked
 // Does a fetch or a flush, if the link allows it.
 fn link_step(kernel: &mut Kernel, fabric: &mut Fabric, act: Act) -> Linked
     requires { CanStep kernel.old fabric.old act }
-    ensures { MatchBool result.done (HasStepped kernel.old fabric.old act kernel.new fabric.new) (IsUnchanged kernel.old fabric.old kernel.new fabric.new) }
+    ensures { MatchBool result.done (HasStepped kernel.old fabric.old act kernel.new fabric.new)
+        (IsUnchanged kernel.old fabric.old kernel.new fabric.new) }
 {
     match act {
         Act::Fetch { from } => fetch(kernel, fabric, from),

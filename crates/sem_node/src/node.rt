@@ -21,19 +21,19 @@ pub struct Node<N: RunName> {
     pub callers: Vec<Caller<N>>,
 }
 
-/// What is to be told of an act to others, once the kernel is let go.
+/// What to tell others of an act, once the kernel is let go.
 #[derive(Clone, Copy, Debug)]
 enum News {
     Nothing,
     // A message was put into the link to that kernel.
     Mail { to: u32 },
-    // The link from that kernel was full, and is not any more.
+    // The link from that kernel was full, and no longer is.
     Room { from: u32 },
-    // A call was answered. The journal has so many replies then.
+    // A call was answered. The journal has that many replies then.
     Replies { count: u64 },
 }
 
-// What is to be told of an act that a kernel did alone.
+// What to tell others of an act that a kernel did alone.
 fn news_of(progress: Progress) -> News {
     match progress {
         Progress::Replied(count) => News::Replies { count },
@@ -41,7 +41,7 @@ fn news_of(progress: Progress) -> News {
     }
 }
 
-// The act by which a VPE makes its next call, or goes on with the one that waits.
+// The act that makes the VPE's next call, or lets its waiting call go on.
 fn call_act(vpe: u16, open: bool) -> Act
     ensures { IsOwnAct result }
 {
@@ -52,8 +52,8 @@ fn call_act(vpe: u16, open: bool) -> Act
     }
 }
 
-// A flush to the kernel or a fetch from it that the kernel and its desk allow, for all that they
-// tell; none where there is none.
+// A flush to the kernel, or a fetch from it, that the kernel and its desk allow as far as they can
+// tell; none if there is none.
 fn link_act<N: RunName>(cell: &KernelCell<N>, desk: &Desk, peer: u32) -> Option<Act> {
     let flush = Act::Flush { to: peer };
     if !desk.is_full(peer) && cell.can(flush) {
@@ -66,7 +66,7 @@ fn link_act<N: RunName>(cell: &KernelCell<N>, desk: &Desk, peer: u32) -> Option<
     None
 }
 
-// The same of a kill.
+// The same for a kill.
 fn kill_act<N: RunName>(cell: &KernelCell<N>, desk: &Desk) -> Option<Act> {
     for kill in &desk.kills {
         let act = Act::Kill { vpe: kill.vpe };
@@ -77,7 +77,7 @@ fn kill_act<N: RunName>(cell: &KernelCell<N>, desk: &Desk) -> Option<Act> {
     None
 }
 
-// The same of all three, where the links with other kernels are looked at from one of them on.
+// The same for all three; the links are looked at from that kernel on.
 fn turn_act<N: RunName>(
     cell: &KernelCell<N>,
     desk: &Desk,
@@ -103,7 +103,7 @@ fn turn_act<N: RunName>(
     None
 }
 
-// The kernel with which the act has to do, or that one.
+// The other kernel of the act, or that one if it has none.
 fn peer_of(act: Act, other: u32) -> u32 {
     match act {
         Act::Fetch { from } => from,
@@ -131,14 +131,14 @@ fn tell<N: RunName>(run: &Run<N>, id: u32, news: News) {
 }
 
 impl<N: RunName> Node<N> {
-    /// Rings for all calls that wait.
+    /// Rings for all waiting calls.
     pub fn wake(&self) {
         for caller in &self.callers {
             caller.bell.ring();
         }
     }
 
-    /// The dispatcher: does all but the calls, until none is left or the run is stopped.
+    /// The dispatcher: does everything but the calls, until nothing is left or the run is stopped.
     pub fn dispatch<R: Wait, G: Gate>(&self, rt: &R, run: &Run<N>, gate: &G) {
         if let Some(desk) = run.desk(self.id) {
             let mut peer = 0;
@@ -159,7 +159,7 @@ impl<N: RunName> Node<N> {
         self.wake();
     }
 
-    // Does one act of the dispatcher, and tells with which kernel to go on; none where there is
+    // Does one act of the dispatcher, and returns the kernel to go on with; none if there is
     // nothing to do.
     fn advance<R: Wait, G: Gate>(
         &self,
@@ -189,7 +189,7 @@ impl<N: RunName> Node<N> {
         Ok(Some(peer_of(act, peer)))
     }
 
-    // An act of the dispatcher that the kernel can do alone; none where there is none.
+    // An act of the dispatcher that the kernel can do alone; none if there is none.
     fn own_act(&self, cell: &KernelCell<N>) -> Option<Act>
         ensures { IfSome result IsOwnAct }
     {
@@ -205,8 +205,8 @@ impl<N: RunName> Node<N> {
         None
     }
 
-    // Does a fetch, a flush or a kill, if the links and the replies allow it. The desk is noted before
-    // the turn is taken: what others bring after the turn is not lost then.
+    // Does a fetch, a flush or a kill, if the links and the replies allow it. The desk is noted
+    // before the turn is taken, so that news after the turn is not lost.
     fn act_within<R: Wait, G: Gate>(
         &self,
         rt: &R,
@@ -250,7 +250,7 @@ impl<N: RunName> Node<N> {
         })
     }
 
-    // Marks the VPEs whose call can go on, and those that have ended.
+    // Marks the VPEs with a call that can go on, and those that have ended.
     fn mark(&self, cell: &KernelCell<N>) {
         for caller in &self.callers {
             let resume = Act::Resume { vpe: caller.vpe };
@@ -260,7 +260,7 @@ impl<N: RunName> Node<N> {
         }
     }
 
-    // Rings for the VPEs that are marked.
+    // Rings for the marked VPEs.
     fn ring(&self) {
         for caller in &self.callers {
             if caller.due.load(Ordering::SeqCst) {
@@ -270,8 +270,8 @@ impl<N: RunName> Node<N> {
         }
     }
 
-    /// The calls of a VPE, one after another, until it has made all, or has ended, or the run is
-    /// stopped.
+    /// Makes the calls of a VPE, one after another, until it has made all, or has ended, or the run
+    /// is stopped.
     pub fn call<R: Wait, G: Gate>(&self, rt: &R, run: &Run<N>, gate: &G, caller: &Caller<N>) {
         let mut left = caller.calls;
         let mut open = false;
@@ -295,7 +295,7 @@ impl<N: RunName> Node<N> {
         run.end_calls();
     }
 
-    // The next call of a VPE, or the one that waits, once it can go on; nothing where it never can.
+    // The next call of a VPE, or the waiting one, once it can go on; nothing if it never can.
     fn go_on<R: Wait, G: Gate>(
         &self,
         rt: &R,
@@ -332,7 +332,7 @@ impl<N: RunName> Node<N> {
         unreachable!()
     }
 
-    // The desk of the kernel, where there is something to do for the dispatcher.
+    // The desk of the kernel, if the dispatcher has something to do there.
     fn busy_desk<'a>(&self, run: &'a Run<N>, cell: &KernelCell<N>) -> Option<&'a Desk> {
         let desk = run.desk(self.id)?;
         let act = match self.own_act(cell) {

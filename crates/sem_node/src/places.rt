@@ -5,8 +5,8 @@ ghost use Rattle.sem_node.specs.Stepping.{MayGetPlace};
 
 use sem_fabric::Fabric;
 
-// Makes the kernel's next place. Whether it has one then: where there is no memory for it now, the
-// next act asks for it again.
+// Makes the kernel's next place, and returns whether the kernel has one then. If memory is refused
+// now, the next act asks again.
 pub fn next_place(fabric: &mut Fabric, kernel: u32) -> bool
     requires { kernel < fabric.old.kernels }
     ensures same { MayGetPlace kernel fabric.old fabric.new }

@@ -1,4 +1,4 @@
-// All kernels of a setup in threads, and what they are afterwards.
+// All kernels of a setup in threads, and the kernels afterwards.
 ghost use Rattle.std.specs.Prelude.{◌≡◌, ◌<◌, List, [], map, length, vec_len, All, IfOk, None};
 ghost use Rattle.std.specs.List.{AllZip, range_with_len};
 ghost use Rattle.std.specs.List.Sorted.{IsPermutation, IsNonDecreasingBy};
@@ -114,7 +114,7 @@ fn nodes_of<N: RunName>(
     Ok(nodes)
 }
 
-// The kernels and their passes, out of their locks.
+// Takes the kernels and their passes out of their locks.
 fn taken_out<N: RunName>(
     alloc: Global,
     mut nodes: Vec<Node<N>>,
@@ -138,7 +138,7 @@ fn taken_out<N: RunName>(
     Ok((kernels, passes))
 }
 
-// A lock tells only what its type says, so the kernels come out of them in no known order.
+// A lock tells only what its type says, so the kernels come out in no known order.
 fn put_in_order(kernels: &mut Vec<Kernel>)
     ensures same { IsPermutation kernels.old.items kernels.new.items }
     ensures order { IsNonDecreasingBy (λ k. k.id) kernels.new.items }
@@ -154,7 +154,7 @@ fn halt<N: RunName>(run: &Run<N>, nodes: &[Node<N>]) {
     }
 }
 
-// A dispatcher for each kernel, and a thread for each VPE. All have ended when it returns.
+// A dispatcher for each kernel, and a thread for each VPE. All have ended when this returns.
 fn run_all<N: RunName + Send + Sync, R: Threads + Wait + Sync, G: Gate + Sync>(
     rt: &R,
     run: &Run<N>,
@@ -187,10 +187,11 @@ fn run_named<N: RunName + Send + Sync, R: Threads + Wait + Sync, G: Gate + Sync>
 ) -> Result<(Vec<Kernel>, Fabric), OutOfMemory>
     requires named { (opened.table ≡ N.table) × (opened.setup ≡ N.setup) }
     requires setup { opened.setup ≡ setup.now }
-    requires booted { kernels.items ≡ map (booted_lem setup.now) (range_with_len 0 setup.now.kernels) }
+    requires booted { kernels.items
+        ≡ map (booted_lem setup.now) (range_with_len 0 setup.now.kernels) }
     ensures { IfOk result (λ r. HaveRun setup.now r.0.items r.1) }
 {
-    // So that the proof knows what a setup keeps.
+    // Shows the proof what a setup keeps.
     let _ = &setup.vpes;
     let (turn, first) = opened.named::<N>();
     let passes = turn.split(alloc, first, setup.kernels)?;
@@ -204,11 +205,11 @@ fn run_named<N: RunName + Send + Sync, R: Threads + Wait + Sync, G: Gate + Sync>
     Ok((kernels, fabric))
 }
 
-/// Runs each kernel in threads of its own: one that does all but the calls, and one for each VPE,
-/// which makes the VPE's calls. It may wait. After want of memory the kernels and the fabric are
-/// dropped; else they come back, with no thread left. They may stand anywhere in the run.
+/// Runs each kernel in its own threads: one that does everything but the calls, and one for each
+/// VPE, which makes the VPE's calls. It may wait. If memory is refused, the kernels and the fabric
+/// are dropped; otherwise they come back, with no thread left. They may stand anywhere in the run.
 ///
-/// The kernels are those of the setup at the start, in order, and the fabric is a new one of it.
+/// The kernels must be those of the setup at the start, in order, and the fabric a new one of it.
 pub fn run_threads<R: Threads + Wait + Sync, G: Gate + Sync>(
     rt: &R,
     alloc: Global,
@@ -217,7 +218,8 @@ pub fn run_threads<R: Threads + Wait + Sync, G: Gate + Sync>(
     fabric: Fabric,
     gate: &G,
 ) -> Result<(Vec<Kernel>, Fabric), OutOfMemory>
-    requires kernels { kernels.items ≡ map (booted_lem setup.now) (range_with_len 0 setup.now.kernels) }
+    requires kernels { kernels.items
+        ≡ map (booted_lem setup.now) (range_with_len 0 setup.now.kernels) }
     requires fabric { fabric ≡ new_fabric setup.now }
     ensures together { IfOk result (λ r. AreKernelsOf setup.now r.0.items r.1) }
     ensures schedule { IfOk result (λ r. IsSchedule setup.now r.1.journal) }

@@ -1,4 +1,3 @@
-// What all threads of a run share.
 ghost use Rattle.std.specs.Prelude.{◌≡◌};
 
 use crate::desk::Desk;
@@ -9,17 +8,17 @@ use std::sync::atomic::{AtomicBool, AtomicU64, Ordering};
 #[derive(Drop)]
 pub struct Run<N: RunName> {
     turn: Turn<N>,
-    // By kernel.
+    // The desks, by kernel.
     desks: Vec<Desk>,
     kernels: u32,
-    // Whether the threads are to end, whatever is left to do.
+    // Whether the threads should end, whatever is left to do.
     stopped: AtomicBool,
     // How many VPEs still make calls.
     calling: AtomicU64,
 }
 
 impl<N: RunName> Run<N> {
-    /// A run of so many kernels, in which so many VPEs make calls.
+    /// A run of that many kernels, with `calling` VPEs that make calls.
     pub fn new(turn: Turn<N>, desks: Vec<Desk>, kernels: u32, calling: u64) -> Self {
         Run {
             turn,
@@ -43,7 +42,7 @@ impl<N: RunName> Run<N> {
         self.desks.get(kernel as usize)
     }
 
-    /// The threads are to end. All dispatchers are rung for.
+    /// Tells the threads to end, and rings for all dispatchers.
     pub fn stop(&self) {
         self.stopped.store(true, Ordering::SeqCst);
         self.ring();
@@ -57,7 +56,7 @@ impl<N: RunName> Run<N> {
         self.is_stopped() || self.calling.load(Ordering::SeqCst) == 0
     }
 
-    /// A VPE makes no more calls. All dispatchers are rung for where it is the last one.
+    /// One VPE makes no more calls. If it is the last one, rings for all dispatchers.
     pub fn end_calls(&self) {
         if self.calling.fetch_sub(1, Ordering::SeqCst) == 1 {
             self.ring();
@@ -70,14 +69,14 @@ impl<N: RunName> Run<N> {
         }
     }
 
-    /// So many replies were entered.
+    /// That many replies were entered.
     pub fn bring_replies(&self, replies: u64) {
         for desk in &self.desks {
             desk.bring_replies(replies);
         }
     }
 
-    /// The turn alone.
+    /// The turn, without the desks.
     pub fn into_turn(self) -> Turn<N> {
         let Run {
             turn,

@@ -9,7 +9,7 @@ use sem_msg::Entry;
 use sem_turn::{Pass, RunName, Turn};
 use std::sync::Wait;
 
-// The pass's kernel has a place in the journal then. It takes a turn unless the kernel has one.
+// Gives the pass's kernel a place in the journal. This takes a turn, unless the kernel has a place.
 pub fn reserve<N: RunName, W: Wait>(
     rt: &W,
     turn: &Turn<N>,
@@ -41,8 +41,8 @@ pub struct Entered {
     pub replies: u64,
 }
 
-// Enters the entry of an act that the pass's kernel did alone, at the place that the kernel has,
-// and makes its next place.
+// Enters the entry of an act that the pass's kernel did alone, at the kernel's place, and makes its
+// next place.
 pub fn enter<N: RunName, W: Wait>(
     rt: &W,
     turn: &Turn<N>,

@@ -1,10 +1,12 @@
 -- The children of parts, as they grow.
-use Rattle.std.proofs.Common.{◌≡◌, ◌≢◌, ℕ, ◌+◌, ◌<◌, ◌≤◌, ◌^◌, arith, Vec, Global, List, [], ◌∷◌, ◌++◌, length, map, get_or, set, slice_get, Option, None, Some, refl, sym, ◌∙◌, ap, subst, inl, inr}
+use Rattle.std.proofs.Common.{◌≡◌, ◌≢◌, ℕ, ◌+◌, ◌<◌, ◌≤◌, ◌^◌, arith, Vec, Global, List, [], ◌∷◌, ◌++◌, length, map, get_or, set, slice_get, Option, None, Some}
+use Rattle.std.proofs.Common.{refl, sym, ◌∙◌, ap, subst, inl, inr}
 use Rattle.std.specs.List.{Contains, All}
 use Rattle.std.specs.Prelude.{IfNone}
 use Rattle.std.proofs.lemmas.Bool.{cases_eq, cases_lt}
 use Rattle.std.proofs.lemmas.Option.{slice_get_within, slice_get-get_or, get_or_from_slice_get}
-use Rattle.std.proofs.lemmas.List.{length_push, length-map, length-set, map-append, map-set, get_or-map, get_or_at, get_or_append_left, get_or_past, get_or-set_same, get_or-set_other}
+use Rattle.std.proofs.lemmas.List.{length_push, length-map, length-set, map-append, map-set, get_or-map, get_or_at, get_or_append_left, get_or_past}
+use Rattle.std.proofs.lemmas.List.{get_or-set_same, get_or-set_other}
 use Rattle.std.proofs.lemmas.List.Elements.{All-contains}
 use Rattle.sem_msg.specs.declared.message.Message.{Message}
 use Rattle.sem_msg.specs.declared.event.Event.{Event}
@@ -34,7 +36,8 @@ pub more-set : (cs : List (List ℕ)) (i : ℕ) (c : List ℕ) → i < length cs
 more-set cs i c here grow = record {
   long = let long = length-set cs i c in omega (arith, long);
   kept = λ j k among. elim (cases_eq j i) [
-    | inl same ↦ subst (λ m. Contains (get_or (set cs i c) m []) k) (sym same) (subst (λ ks. Contains ks k) (sym (get_or-set_same cs i c [] here)) (grow k (subst (λ m. Contains (get_or cs m []) k) same among)))
+    | inl same ↦ subst (λ m. Contains (get_or (set cs i c) m []) k) (sym same)
+        (subst (λ ks. Contains ks k) (sym (get_or-set_same cs i c [] here)) (grow k (subst (λ m. Contains (get_or cs m []) k) same among)))
     | inr apart ↦ subst (λ ks. Contains ks k) (sym (get_or-set_other cs i j c [] apart)) among
   ];
 }
@@ -46,18 +49,21 @@ children-kept nodes cs ds are more = record {
   among = λ k from e here. more.kept from k (are.among k from e here);
 }
 
-pub children-push : (nodes : List Node) (cs : List (List ℕ)) (from : ℕ) (e : Entry) → AreChildren nodes cs → length nodes + 1 < length cs → length nodes + 1 < 2 ^ 32
+pub children-push : (nodes : List Node) (cs : List (List ℕ)) (from : ℕ) (e : Entry) → AreChildren nodes cs → length nodes + 1 < length cs →
+    length nodes + 1 < 2 ^ 32
     → Contains (get_or cs from []) (length nodes) → AreChildren (nodes ++ (from, e) ∷ []) cs
 children-push nodes cs from e are long few there = record {
   long = let up = length_push nodes (from, e) in omega (arith, long, up);
   few = let up = length_push nodes (from, e) in omega (arith, few, up);
   among = λ k p x here. elim (cases_lt k (length nodes)) [
-    | inl less ↦ are.among k p x (slice_get-get_or nodes k (p, x) less ∙ ap Some (sym (get_or_append_left nodes ((from, e) ∷ []) (p, x) k less) ∙ get_or_from_slice_get (nodes ++ (from, e) ∷ []) k (p, x) (p, x) here))
+    | inl less ↦ are.among k p x (slice_get-get_or nodes k (p, x) less ∙ ap Some (sym (get_or_append_left nodes ((from, e) ∷ []) (p, x) k less)
+        ∙ get_or_from_slice_get (nodes ++ (from, e) ∷ []) k (p, x) (p, x) here))
     | inr past ↦
         let up = length_push nodes (from, e) in
         let within : k < length (nodes ++ (from, e) ∷ []) = slice_get_within (nodes ++ (from, e) ∷ []) k (p, x) here in
         let last : length nodes ≡ k = omega (arith, past, up, within) in
-        let node : (from, e) ≡ (p, x) = sym (get_or_at nodes (from, e) [] (p, x) k last) ∙ get_or_from_slice_get (nodes ++ (from, e) ∷ []) k (p, x) (p, x) here in
+        let node : (from, e) ≡ (p, x) = sym (get_or_at nodes (from, e) [] (p, x) k last)
+        ∙ get_or_from_slice_get (nodes ++ (from, e) ∷ []) k (p, x) (p, x) here in
         subst (λ (n : Node). Contains (get_or cs n.0 []) k) node (subst (Contains (get_or cs from [])) last there)
   ];
 }
@@ -73,7 +79,8 @@ node-among nodes cs are from e (k, within, is) =
 abbrev pub Others : List Node → ℕ → Event → Option Message → List ℕ → Type 0
 Others nodes from by input places = All (λ k. (e : Entry) → IsMadeBy by input e → slice_get nodes k ≡ Some (from, e) → ⊥) places
 
-pub missing : (nodes : List Node) (cs : List (List ℕ)) → AreChildren nodes cs → (from : ℕ) (by : Event) (input : Option Message) → Others nodes from by input (get_or cs from []) → IsMissing nodes from by input
+pub missing : (nodes : List Node) (cs : List (List ℕ)) → AreChildren nodes cs → (from : ℕ) (by : Event) (input : Option Message) →
+    Others nodes from by input (get_or cs from []) → IsMissing nodes from by input
 missing nodes cs are from by input none e made among =
     let (k, inside, here) = node-among nodes cs are from e among in
     All-contains (λ k. (x : Entry) → IsMadeBy by input x → slice_get nodes k ≡ Some (from, x) → ⊥) (get_or cs from []) k none inside e made here
@@ -104,7 +111,9 @@ module _ (cs : List (Vec ℕ Global)) (i : ℕ) (v w : Vec ℕ Global) (here : i
   within = let long = length-map cs (λ (x : Vec ℕ Global). x.items) in omega (arith, here, long)
 
   pub more-child : ((k : ℕ) → Contains v.items k → Contains w.items k) → HasMore (lists cs) (lists (set cs i w))
-  more-child grow = subst (HasMore (lists cs)) (sym (map-set (λ (x : Vec ℕ Global). x.items) cs i w)) (more-set (lists cs) i w.items within (λ k among. grow k (subst (λ ks. Contains ks k) read among)))
+  more-child grow = subst (HasMore (lists cs)) (sym (map-set (λ (x : Vec ℕ Global). x.items) cs i w))
+      (more-set (lists cs) i w.items within (λ k among. grow k (subst (λ ks. Contains ks k) read among)))
 
   pub child-there : (n : ℕ) → Contains w.items n → Contains (get_or (lists (set cs i w)) i []) n
-  child-there n among = subst (λ ks. Contains ks n) (sym (ap (λ l. get_or l i []) (map-set (λ (x : Vec ℕ Global). x.items) cs i w) ∙ get_or-set_same (lists cs) i w.items [] within)) among
+  child-there n among = subst (λ ks. Contains ks n) (sym (ap (λ l. get_or l i []) (map-set (λ (x : Vec ℕ Global). x.items) cs i w)
+      ∙ get_or-set_same (lists cs) i w.items [] within)) among

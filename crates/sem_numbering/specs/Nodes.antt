@@ -1,20 +1,20 @@
--- The nodes of a tree of parts, and what is looked for among them.
-use Rattle.std.specs.Prelude.{◌≡◌, ℕ, ◌+◌, ◌<◌, ◌≤◌, ◌^◌, List, [], length, slice_get, slice_index_or, Contains, Option, Some}
-use Rattle.sem_msg.specs.declared.message.Message.{Message}
-use Rattle.sem_msg.specs.declared.event.Event.{Event}
-use Rattle.sem_msg.specs.declared.entry.Entry.{Entry}
+-- The nodes of a tree of parts, and how one is found.
+use Rattle.std.specs.Prelude.{◌≡◌, ℕ, ◌+◌, ◌<◌, ◌≤◌, ◌^◌, List, [], length, slice_get, slice_index_or, Contains}
+use Rattle.std.specs.Prelude.{Option, Some}
+use Rattle.sem_machine.specs.Prelude.{Message, Event, Entry}
 use Rattle.sem_machine.specs.Schedules.{carried_in}
 
--- A node is the number of a part, and the entry that one more part has after it.
+-- A node is the number of a part, and the entry that a part one entry longer adds.
 abbrev pub Node : Type 0
 Node = ℕ × Entry
 
--- the entry is one of the event, with that message where it is a fetch
+-- the entry is one of the event, and carries that message if it is a fetch
 pub record IsMadeBy (by : Event) (input : Option Message) (e : Entry) : Type 0 where
   pub event : e.event ≡ by
   pub message : carried_in e.event.act e.detail ≡ input
 
--- the node at that place goes on from that part by an entry of the event, with that message where it is a fetch
+-- the node at that place goes on from that part by an entry of the event, with that message if it
+-- is a fetch
 pub record IsNode (nodes : List Node) (from : ℕ) (by : Event) (input : Option Message) (place : ℕ) : Type 0 where
   pub entry : Entry
   pub node : slice_get nodes place ≡ Some (from, entry)
@@ -26,7 +26,7 @@ pub record IsFound (nodes : List Node) (from : ℕ) (by : Event) (input : Option
   pub number : n ≡ place + 1
   pub node : IsNode nodes from by input place
 
--- there is no such node
+-- no such node exists
 abbrev pub IsMissing : List Node → ℕ → Event → Option Message → Type 0
 IsMissing nodes from by input = (e : Entry) → IsMadeBy by input e → Contains nodes (from, e) → ⊥
 
@@ -39,4 +39,5 @@ pub record HasMore (old new : List (List ℕ)) : Type 0 where
 pub record AreChildren (nodes : List Node) (children : List (List ℕ)) : Type 0 where
   pub long : length nodes < length children
   pub few : length nodes < 2 ^ 32
-  pub among : (k from : ℕ) (e : Entry) → slice_get nodes k ≡ Some (from, e) → Contains (slice_index_or children from []) k
+  pub among : (k from : ℕ) (e : Entry) → slice_get nodes k ≡ Some (from, e) →
+      Contains (slice_index_or children from []) k

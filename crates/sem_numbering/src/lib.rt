@@ -2,7 +2,6 @@
 #![tactic(auto)]
 
 mod lists;
-mod messages;
 mod parts;
 
 pub use lists::NumberLists;

@@ -1,4 +1,5 @@
-ghost use Rattle.std.specs.Prelude.{◌≡◌, ◌∷◌, ◌++◌, [], true, false, length, Contains, IfOk, OnErr, slice_get};
+ghost use Rattle.std.specs.Prelude.{◌≡◌, ◌∷◌, ◌++◌, [], true, false, length, Contains, IfOk, OnErr};
+ghost use Rattle.std.specs.Prelude.{slice_get};
 ghost use Rattle.std.specs.Option.{option_map};
 
 use indexmap::IndexSet;
@@ -6,7 +7,7 @@ use sem_key::OutOfMemory;
 use std::alloc::Global;
 use std::marker::Model;
 
-/// Lists of numbers, each once, in the order in which they came.
+/// Lists of numbers, each once, in the order in which they came. Only `add` takes memory.
 #[derive(Debug, Drop)]
 pub struct NumberLists {
     lists: IndexSet<Vec<u32>>,
@@ -21,7 +22,7 @@ impl Model for NumberLists {
 }
 
 impl NumberLists {
-    /// No lists. Takes no memory.
+    /// No lists.
     pub fn new(alloc: Global) -> Self
         ensures { result ≡ [] }
     {
@@ -30,7 +31,7 @@ impl NumberLists {
         }
     }
 
-    /// How many lists there are.
+    /// The number of lists.
     pub fn len(&self) -> usize
         ensures { result ≡ length self.now }
     {
@@ -47,7 +48,7 @@ impl NumberLists {
         }
     }
 
-    /// Adds the list at the end, unless it is there; and whether it was added.
+    /// Adds the list at the end, unless it is there, and returns whether it was added.
     pub fn add(&mut self, list: Vec<u32>) -> Result<bool, OutOfMemory>
         ensures added { IfOk result (λ added. added ≡ true → (Contains self.old list.items → ⊥)
             × (self.new ≡ self.old ++ list.items ∷ [])) }

@@ -1,21 +1,23 @@
-ghost use Rattle.std.specs.Prelude.{◌≡◌, ◌↔◌, ◌+◌, ◌≤◌, ◌<◌, ◌^◌, ◌∷◌, ◌++◌, [], All, Contains, length, map, slice_get, slice_index_or, Some, false, IsTrue, IfOk, IfSome, IfNone, OnOk, OnErr};
+ghost use Rattle.std.specs.Prelude.{◌≡◌, ◌↔◌, ◌+◌, ◌≤◌, ◌<◌, ◌^◌, ◌∷◌, ◌++◌, [], All, Contains};
+ghost use Rattle.std.specs.Prelude.{length, map, slice_get, slice_index_or, Some, false, IsTrue};
+ghost use Rattle.std.specs.Prelude.{IfOk, IfSome, IfNone, OnOk, OnErr};
 ghost use Rattle.sem_msg.specs.declared.entry.Entry.{Entry as EntryData};
 ghost use Rattle.sem_machine.specs.Schedules.{carried_in};
 ghost use Rattle.sem_numbering.specs.Nodes.{IsMadeBy, IsNode, IsFound, IsMissing, HasMore};
 
-use crate::messages::same_message;
 use sem_key::OutOfMemory;
-use sem_msg::{Act, Detail, Entry, Event, Message};
+use sem_msg::{Act, Detail, Entry, Event, Message, same_message};
 use std::alloc::Global;
 use std::marker::Model;
 
-/// The parts that a kernel has in the histories of a search, by number. Part 0 is empty. Each other
-/// part is a node: the number of the part that has one entry less, and that entry.
+/// The parts that a kernel has in the histories of a search, by number. Part 0 is empty. Every
+/// other part is a node: the number of the part that is one entry shorter, and that entry. Only
+/// `new` and `push` take memory.
 #[derive(Debug, Drop)]
 pub struct PartTree {
     // The nodes. The part of a node has the number after its place.
     nodes: Vec<(u32, Entry)>,
-    // By part, the places of the nodes that go on from it, and maybe others.
+    // For each part, the places of the nodes that go on from it, and maybe others.
     children: Vec<Vec<u32>>,
 }
 
@@ -31,7 +33,7 @@ impl Model for PartTree {
 }
 
 impl PartTree {
-    /// The empty part alone.
+    /// The tree with only the empty part.
     pub fn new(alloc: Global) -> Result<Self, OutOfMemory>
         ensures { IfOk result (λ tree. tree ≡ []) }
     {
@@ -43,8 +45,8 @@ impl PartTree {
         })
     }
 
-    /// The number of the part that goes on from that one by an entry of the event, with that message
-    /// where it is a fetch; none where there is no such part. Takes no memory.
+    /// The number of the part that goes on from that one by an entry of the event, with that
+    /// message if it is a fetch; none if there is no such part.
     pub fn find(&self, from: u32, event: Event, message: &Option<Message>) -> Option<u32>
         requires { from ≤ length self.now }
         ensures there { IfSome result (IsFound self.now from event message.now) }
@@ -60,7 +62,7 @@ impl PartTree {
         )
     }
 
-    /// Adds the part that goes on from that one by the entry. Its number.
+    /// Adds the part that goes on from that one by the entry, and returns its number.
     pub fn push(&mut self, alloc: Global, from: u32, entry: &Entry) -> Result<u32, OutOfMemory>
         requires { from ≤ length self.old }
         ensures number { IfOk result (λ number. number ≡ length self.new) }
@@ -111,8 +113,8 @@ fn add_child(children: &mut Vec<Vec<u32>>, from: u32, place: u32) -> Result<(), 
     Ok(())
 }
 
-// The number of the part of a node at one of the places that goes on from that part by an entry of
-// the event, with that message where it is a fetch.
+// The number of the part of a node at one of the places. The node goes on from that part by an
+// entry of the event, with that message if it is a fetch.
 fn find_node(
     nodes: &[(u32, Entry)],
     places: &[u32],
@@ -134,7 +136,7 @@ fn find_node(
 }
 
 // Whether the node at that place goes on from that part by an entry of the event, with that message
-// where it is a fetch.
+// if it is a fetch.
 fn is_node(
     nodes: &[(u32, Entry)],
     place: u32,
@@ -152,14 +154,14 @@ fn is_node(
     }
 }
 
-// Whether the entry is one of the event, with that message where it is a fetch.
+// Whether the entry is one of the event, and carries that message if it is a fetch.
 fn is_made_by(entry: &Entry, event: Event, message: &Option<Message>) -> bool
     ensures { IsTrue result ↔ IsMadeBy event message.now entry.now }
 {
     entry.event == event && same_input(&carried(entry), message)
 }
 
-// The message that the entry carries in, if it is a fetch.
+// The message that the entry brings, if it is a fetch.
 fn carried(entry: &Entry) -> Option<Message>
     ensures { result ≡ carried_in entry.now.event.act entry.now.detail }
 {
@@ -172,7 +174,7 @@ fn carried(entry: &Entry) -> Option<Message>
     }
 }
 
-// Whether both are the same message, or none.
+// Whether both are the same message, or both none.
 fn same_input(one: &Option<Message>, other: &Option<Message>) -> bool
     ensures { IsTrue result ↔ (one.now ≡ other.now) }
 {

@@ -16,7 +16,8 @@ use Rattle.sem_machine.specs.Resumes.{resume_row, resumed}
 use Rattle.sem_machine.specs.Stores.{with_caps, with_vpes, with_parks}
 use Rattle.sem_obtain.specs.Asking.{installing}
 
-pub ended-ready : (T : Setup) (s : Side) (v : ℕ) (caps caps' : CapStore) (vpes vpes' : VpeTable) (park park' : List (Option Parked)) (k p : KeyName) (o : Object) (sel : ℕ) (shown : Outcome)
+pub ended-ready : (T : Setup) (s : Side) (v : ℕ) (caps caps' : CapStore) (vpes vpes' : VpeTable) (park park' : List (Option Parked)) (k p : KeyName)
+    (o : Object) (sel : ℕ) (shown : Outcome)
     → state_of park v ≡ Some (ObtainReady k p o sel) → park' ≡ unparked park v
     → ((t : Side) → with_caps caps'.caps (with_vpes vpes'.rows t) ≡ installed k (Some p) sel o (with_caps caps.caps (with_vpes vpes.rows t)))
     → shown ≡ record { asked = None; grant = None; cut = None; reply = Some (code_number OkCode) }
@@ -24,5 +25,8 @@ pub ended-ready : (T : Setup) (s : Side) (v : ℕ) (caps caps' : CapStore) (vpes
 unfolding resume_row
 ended-ready T s v caps caps' vpes vpes' park park' k p o sel shown waits left row shows =
     (λ i. record { side = row (with_parks park' s) i; outcome = shows i })
-    ∙ (λ i. record { side = installed k (Some p) sel o (with_caps caps.caps (with_vpes vpes.rows (with_parks (left i) s))); outcome = record { asked = None; grant = None; cut = None; reply = Some (code_number OkCode) } })
+    ∙ (λ i. record {
+      side = installed k (Some p) sel o (with_caps caps.caps (with_vpes vpes.rows (with_parks (left i) s)));
+      outcome = record { asked = None; grant = None; cut = None; reply = Some (code_number OkCode) };
+    })
     ∙ ap (λ (state : Option Parked). resumed T state (installing caps vpes (unparked park v) s)) (sym waits)

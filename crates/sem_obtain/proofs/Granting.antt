@@ -31,33 +31,40 @@ use Rattle.sem_machine.proofs.FirstCodes.{unless-first}
 use Rattle.sem_obtain.specs.Asking.{is_unawaited, answer_to, installing, child_sent}
 
 -- an ask that is dropped
-pub decided-dropped : (T : Setup) (i v : ℕ) (place : PlaceName) (target : Target) (s : Side) → answer_to T i v s.parks place ≡ Dropped → ask_decided T i v (ObtainAsk place target) s ≡ asking place.vpe Dropped (plain s)
+pub decided-dropped : (T : Setup) (i v : ℕ) (place : PlaceName) (target : Target) (s : Side) → answer_to T i v s.parks place ≡ Dropped →
+    ask_decided T i v (ObtainAsk place target) s ≡ asking place.vpe Dropped (plain s)
 decided-dropped T i v place target s = from (is_unawaited T i s.parks place) (denies T v place.vpe) _ _ _
   where
-    from : (unawaited denied : Bool) (d n y : Step) → (if unawaited then Dropped else if denied then No else Yes) ≡ Dropped → (if unawaited then d else if denied then n else y) ≡ d
+    from : (unawaited denied : Bool) (d n y : Step) → (if unawaited then Dropped else if denied then No else Yes) ≡ Dropped →
+        (if unawaited then d else if denied then n else y) ≡ d
     from true denied d n y is = refl
     from false true d n y is = absurd cc
     from false false d n y is = absurd cc
 
 -- one that is denied
-pub decided-denied : (T : Setup) (i v : ℕ) (place : PlaceName) (target : Target) (s : Side) → answer_to T i v s.parks place ≡ No → ask_decided T i v (ObtainAsk place target) s ≡ asking place.vpe No (plain (ask_refused T i Refused (ObtainAsk place target) s))
+pub decided-denied : (T : Setup) (i v : ℕ) (place : PlaceName) (target : Target) (s : Side) → answer_to T i v s.parks place ≡ No →
+    ask_decided T i v (ObtainAsk place target) s ≡ asking place.vpe No (plain (ask_refused T i Refused (ObtainAsk place target) s))
 decided-denied T i v place target s = from (is_unawaited T i s.parks place) (denies T v place.vpe) _ _ _
   where
-    from : (unawaited denied : Bool) (d n y : Step) → (if unawaited then Dropped else if denied then No else Yes) ≡ No → (if unawaited then d else if denied then n else y) ≡ n
+    from : (unawaited denied : Bool) (d n y : Step) → (if unawaited then Dropped else if denied then No else Yes) ≡ No →
+        (if unawaited then d else if denied then n else y) ≡ n
     from true denied d n y is = absurd cc
     from false true d n y is = refl
     from false false d n y is = absurd cc
 
 -- one to which the VPE consents: an asker of this kernel waits for it
-pub decided-consented : (T : Setup) (i v : ℕ) (place : PlaceName) (target : Target) (s : Side) → answer_to T i v s.parks place ≡ Yes → ask_decided T i v (ObtainAsk place target) s ≡ asking place.vpe Yes (obtain_consent T i v place target s)
+pub decided-consented : (T : Setup) (i v : ℕ) (place : PlaceName) (target : Target) (s : Side) → answer_to T i v s.parks place ≡ Yes →
+    ask_decided T i v (ObtainAsk place target) s ≡ asking place.vpe Yes (obtain_consent T i v place target s)
 decided-consented T i v place target s = from (is_unawaited T i s.parks place) (denies T v place.vpe) _ _ _
   where
-    from : (unawaited denied : Bool) (d n y : Step) → (if unawaited then Dropped else if denied then No else Yes) ≡ Yes → (if unawaited then d else if denied then n else y) ≡ y
+    from : (unawaited denied : Bool) (d n y : Step) → (if unawaited then Dropped else if denied then No else Yes) ≡ Yes →
+        (if unawaited then d else if denied then n else y) ≡ y
     from true denied d n y is = absurd cc
     from false true d n y is = absurd cc
     from false false d n y is = refl
 
-pub consented-awaited : (T : Setup) (i v : ℕ) (park : List (Option Parked)) (place : PlaceName) → answer_to T i v park place ≡ Yes → kernel_of T place.vpe ≡ i → is_obtain_wait place.number (state_of park place.vpe) ≡ true
+pub consented-awaited : (T : Setup) (i v : ℕ) (park : List (Option Parked)) (place : PlaceName) → answer_to T i v park place ≡ Yes → kernel_of T place.vpe ≡ i →
+    is_obtain_wait place.number (state_of park place.vpe) ≡ true
 consented-awaited T i v park place is here =
     let waits : is_unawaited T i park place ≡ false = awaited (is_unawaited T i park place) is in
     not-false (is_obtain_wait place.number (state_of park place.vpe)) (rw (eq-eqb (kernel_of T place.vpe) i here) at waits)
@@ -67,11 +74,15 @@ consented-awaited T i v park place is here =
     awaited false is' = refl
 
 -- the first test that holds
-pub consent-refused : (T : Setup) (i v : ℕ) (place : PlaceName) (target : Target) (s : Side) (code : Code) → Some code ≡ first_code (source_tests target (source T s v target)) → obtain_consent T i v place target s ≡ plain (ask_refused T i code (ObtainAsk place target) s)
+pub consent-refused : (T : Setup) (i v : ℕ) (place : PlaceName) (target : Target) (s : Side) (code : Code) →
+    Some code ≡ first_code (source_tests target (source T s v target)) →
+    obtain_consent T i v place target s ≡ plain (ask_refused T i code (ObtainAsk place target) s)
 consent-refused T i v place target s code first = unless-first (source_tests target (source T s v target)) _ _ ∙ rw (← first) refl
 
 -- no test holds
-pub consent-given : (T : Setup) (i v : ℕ) (place : PlaceName) (target : Target) (s : Side) (p : Capability) → None ≡ first_code (source_tests target (source T s v target)) → Some p ≡ source T s v target → obtain_consent T i v place target s ≡ child_given T i place target s p
+pub consent-given : (T : Setup) (i v : ℕ) (place : PlaceName) (target : Target) (s : Side) (p : Capability) →
+    None ≡ first_code (source_tests target (source T s v target)) → Some p ≡ source T s v target →
+    obtain_consent T i v place target s ≡ child_given T i place target s p
 consent-given T i v place target s p none held = unless-first (source_tests target (source T s v target)) _ _ ∙ rw (← none, ← held) refl
 
 -- the child is of the kind of its object
@@ -81,11 +92,14 @@ given-kind (ServTarget service) asker p kind = refl
 given-kind (OfferTarget service index) asker p kind = sym kind
 
 -- the child is given
-pub child-given : (T : Setup) (i : ℕ) (place : PlaceName) (target : Target) (s : Side) (p : Capability) (k : KeyName) (o : Object) → k ≡ keyed place (given_kind target p) → o ≡ given target place.vpe p → granting p.key k (plain (child_sent T i p.key k o s)) ≡ child_given T i place target s p
+pub child-given : (T : Setup) (i : ℕ) (place : PlaceName) (target : Target) (s : Side) (p : Capability) (k : KeyName) (o : Object) →
+    k ≡ keyed place (given_kind target p) → o ≡ given target place.vpe p →
+    granting p.key k (plain (child_sent T i p.key k o s)) ≡ child_given T i place target s p
 child-given T i place target s p k o key object = λ j. granting p.key (key j) (plain (child_sent T i p.key (key j) (object j) s))
 
 -- the child of a VPE of this kernel
-pub child-here : (T : Setup) (i : ℕ) (parent key : KeyName) (object : Object) (s : Side) → kernel_of T key.vpe ≡ i → given_here key parent object (parked s key.vpe) (Sides.linked parent key s) ≡ child_sent T i parent key object s
+pub child-here : (T : Setup) (i : ℕ) (parent key : KeyName) (object : Object) (s : Side) → kernel_of T key.vpe ≡ i →
+    given_here key parent object (parked s key.vpe) (Sides.linked parent key s) ≡ child_sent T i parent key object s
 child-here T i parent key object s here = rw (eq-eqb (kernel_of T key.vpe) i here) refl
 
 -- it is installed, and the call will succeed

@@ -41,7 +41,8 @@ served d n (r ∷ rs) s among = elim (Contains-append_cases (service_with r.obje
 ]
 
 -- a service of the setup
-pub service-declared : (T : Setup) → IsSetup T → (name : ℕ) (s : Service) → Some s ≡ service_named T name → (is_declared T s.key.vpe ≡ true) × (s.key.kind ≡ ServKind)
+pub service-declared : (T : Setup) → IsSetup T → (name : ℕ) (s : Service) → Some s ≡ service_named T name →
+    (is_declared T s.key.vpe ≡ true) × (s.key.kind ≡ ServKind)
 service-declared T valid name s there =
     let among = (found (λ (x : Service). x.name == name) T.services s (sym there)).0 in
     let o = Contains-from_flat_map (λ (d : VpeDecl). services_from d 0 d.roots) T.vpes s ((valid.services s).0 among) in
@@ -59,7 +60,8 @@ named-declared T pe v at = from (decl T v) refl at
         list_any-at (λ (x : VpeDecl). x.vpe == v) T.vpes d at'.0 at'.1
 
 -- the service of a session
-pub session-declared : (T : Setup) (o : Option Capability) (k : KeyName) → IfSome o (λ c. IsSoundObject T c.object) → Some k ≡ option_and_then (λ c. session_service c.object) o → IsServiceKey k × (is_declared T k.vpe ≡ true)
+pub session-declared : (T : Setup) (o : Option Capability) (k : KeyName) → IfSome o (λ c. IsSoundObject T c.object) →
+    Some k ≡ option_and_then (λ c. session_service c.object) o → IsServiceKey k × (is_declared T k.vpe ≡ true)
 session-declared T None k sound is = absurd cc
 session-declared T (Some c) k sound is = of_object c.object sound is
   where

@@ -1,27 +1,18 @@
--- What the calls ask of the stores.
+-- What the calls need from the stores.
 use Rattle.std.specs.Prelude.{◌≡◌, ℕ, ◌==◌, Bool, true, not, ◌&&◌, List, Option, Some, None, if◌then◌else◌}
-use Rattle.sem_key.specs.declared.key.Kind.{Kind}
-use Rattle.sem_key.specs.declared.object.Object.{Object}
-use Rattle.sem_key.specs.KeyName.{KeyName}
-use Rattle.sem_key.specs.PlaceName.{PlaceName, keyed}
+use Rattle.sem_machine.specs.Prelude.{Kind, Object, KeyName, PlaceName, Capability, cap_of, ObtainOk, Yes, No, Parked}
+use Rattle.sem_machine.specs.Prelude.{ObtainReady, ObtainCancelled, Setup, kernel_of, owner_of, OutboxList, Side}
+use Rattle.sem_machine.specs.Prelude.{parked, send, is_obtain_wait, with_caps, with_vpes, with_parks, with_outs}
+use Rattle.sem_key.specs.PlaceName.{keyed}
 use Rattle.sem_key.specs.ObjectRanges.{object_kind, IsValidObject}
-use Rattle.sem_key.specs.Capability.{Capability}
-use Rattle.sem_key.specs.CapList.{cap_of}
-use Rattle.sem_msg.specs.declared.message.Message.TheVariants.{ObtainOk}
 use Rattle.sem_msg.specs.declared.entry.Consent.{Consent}
-use Rattle.sem_msg.specs.declared.entry.Consent.TheVariants.{Yes, No, Dropped}
-use Rattle.sem_msg.specs.declared.state.Parked.{Parked}
-use Rattle.sem_msg.specs.declared.state.Parked.TheVariants.{ObtainReady, ObtainCancelled}
-use Rattle.sem_msg.specs.Setup.{Setup}
-use Rattle.sem_msg.specs.Lookups.{kernel_of, owner_of, denies}
+use Rattle.sem_msg.specs.declared.entry.Consent.TheVariants.{Dropped}
+use Rattle.sem_msg.specs.Lookups.{denies}
 use Rattle.sem_msg.specs.ParkedStates.{state_of}
-use Rattle.sem_msg.specs.Outboxes.{OutboxList}
 use Rattle.sem_caps.specs.CapStore.{CapStore}
 use Rattle.sem_vpe.specs.VpeTable.{VpeTable}
-use Rattle.sem_machine.specs.Sides.{Side, parked, linked, send}
-use Rattle.sem_machine.specs.Asks.{is_obtain_wait}
+use Rattle.sem_machine.specs.Sides.{linked}
 use Rattle.sem_machine.specs.Upcalls.{given_here}
-use Rattle.sem_machine.specs.Stores.{with_caps, with_vpes, with_parks, with_outs}
 
 -- the side with these VPEs, waiting calls and outboxes
 abbrev pub asking : VpeTable → List (Option Parked) → OutboxList → Side → Side
@@ -41,9 +32,11 @@ giving caps vpes park outs s = with_caps caps.caps (asking vpes park outs s)
 
 -- whether the asker is of kernel i and does not wait for the answer
 abbrev pub is_unawaited : Setup → ℕ → List (Option Parked) → PlaceName → Bool
-is_unawaited T i park place = (kernel_of T place.vpe == i) && not (is_obtain_wait place.number (state_of park place.vpe))
+is_unawaited T i park place = (kernel_of T place.vpe == i)
+    && not (is_obtain_wait place.number (state_of park place.vpe))
 
--- the answer of v: the ask is dropped if nobody of kernel i waits for it, else denied as declared
+-- the answer of v: the ask is dropped if its asker is of kernel i and does not wait for it,
+-- otherwise denied as declared
 abbrev pub answer_to : Setup → ℕ → ℕ → List (Option Parked) → PlaceName → Consent
 answer_to T i v park place = if is_unawaited T i park place then Dropped else if denies T v place.vpe then No else Yes
 
@@ -55,17 +48,19 @@ child_sent T i parent key object s =
     then given_here key parent object (parked linking key.vpe) linking
     else send (owner_of T key) (ObtainOk parent key object) linking
 
--- a capability of which a child can be given: there is room, and its object is of its kind
+-- a capability that can be given a child: there is room, and its object has its kind
 pub record IsGivable (caps : CapStore) (c : Capability) : Type 0 where
   pub child_room : caps.child_room ≡ Some c.key
   pub object : IsValidObject c.object
   pub kind : c.key.kind ≡ object_kind c.object
 
--- no capability has the number of the place, if the call for which it was drawn waits
+-- no capability has the number of the place, if the call that drew it waits
 abbrev pub IsFree : CapStore → List (Option Parked) → PlaceName → Type 0
-IsFree caps park place = is_obtain_wait place.number (state_of park place.vpe) ≡ true → (kind : Kind) → cap_of caps.caps (keyed place kind) ≡ None
+IsFree caps park place = is_obtain_wait place.number (state_of park place.vpe) ≡ true → (kind : Kind) →
+    cap_of caps.caps (keyed place kind) ≡ None
 
--- a call in that state of the VPE can end: what it would install is a key of the VPE that is not held
+-- the call of the VPE in that state can end: the key that it would install is one of the VPE and is
+-- not held
 abbrev pub CanEnd : CapStore → ℕ → Option Parked → Type 0
 CanEnd caps v (Some (ObtainReady key parent object sel)) = (key.vpe ≡ v) × (cap_of caps.caps key ≡ None)
 CanEnd caps v (Some ObtainCancelled) = Unit {0}

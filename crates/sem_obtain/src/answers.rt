@@ -1,6 +1,8 @@
 ghost use Rattle.std.specs.Prelude.{◌≡◌, ◌≢◌, ℕ, ◌<◌, ◌≤◌, ◌+◌};
-ghost use Rattle.sem_msg.specs.declared.message.Message.TheVariants.{ObtainNo, ObtainOk, ObtainReq, Orphan};
-ghost use Rattle.sem_msg.specs.Lookups.{kernel_of as kernel_of_lem, owner_of as owner_of_lem, place_owner as place_owner_lem};
+ghost use Rattle.sem_msg.specs.declared.message.Message.TheVariants.{ObtainNo, ObtainOk, ObtainReq};
+ghost use Rattle.sem_msg.specs.declared.message.Message.TheVariants.{Orphan};
+ghost use Rattle.sem_msg.specs.Lookups.{kernel_of as kernel_of_lem, owner_of as owner_of_lem};
+ghost use Rattle.sem_msg.specs.Lookups.{place_owner as place_owner_lem};
 ghost use Rattle.sem_msg.specs.Message.{Fits, IsRefusal};
 ghost use Rattle.sem_msg.specs.Outboxes.{HasBoxes};
 ghost use Rattle.sem_vpe.specs.VpeTable.{AreOurs};
@@ -17,7 +19,7 @@ use sem_msg::{Ask, Code, Message, Outboxes, Parked, Setup, Target};
 use sem_park::Park;
 use sem_vpe::Vpes;
 
-// The message that the parent has a child which nobody holds.
+// The message that the parent has a child that no VPE holds.
 fn orphaned(parent: Key, key: Key) -> Message
     ensures message { result ≡ Orphan parent key }
     ensures fits { Fits result }
@@ -25,8 +27,8 @@ fn orphaned(parent: Key, key: Key) -> Message
     Message::Orphan { parent, key }
 }
 
-/// An answer to an asking call: the call is ready to install the capability, or, where its VPE is dead,
-/// the kernel of the parent is told. Takes no memory.
+/// An answer to an asking call: the call is ready to install the capability, or, if its VPE is
+/// dead, the kernel of the parent is told.
 #[tactic(auto, unfolding(sem_machine::specs::Handles::handle_row))]
 pub fn obtain_answer(
     setup: &Setup,
@@ -43,7 +45,10 @@ pub fn obtain_answer(
     requires owner { owner_of_lem setup.now parent < setup.now.kernels }
     requires boxes { HasBoxes setup.now outs.old }
     requires spare { 0 < outs.old.spare }
-    ensures row { (from : ℕ) (s : Side) → asking vpes.now park.new outs.new s ≡ handle_row setup.now kernel (asking vpes.now park.old outs.old s) from (ObtainOk parent key object) }
+    ensures row { (from : ℕ) (s : Side) →
+        asking vpes.now park.new outs.new s
+        ≡ handle_row setup.now kernel (asking vpes.now park.old outs.old s) from
+        (ObtainOk parent key object) }
     ensures boxes { HasBoxes setup.now outs.new }
     ensures spare { outs.old.spare ≤ outs.new.spare + 1 }
 {
@@ -62,7 +67,7 @@ pub fn obtain_answer(
     }
 }
 
-/// An asking call is refused: its promise is free, and it will be answered with the code. Takes no memory.
+/// An asking call is refused: its promised selector is free, and the code will answer it.
 #[tactic(auto, unfolding(sem_machine::specs::Handles::handle_row))]
 pub fn obtain_refused(
     setup: &Setup,
@@ -74,7 +79,10 @@ pub fn obtain_refused(
 )
     requires home { AreOurs setup.now kernel vpes.old }
     requires vpe { kernel_of_lem setup.now place.vpe ≡ kernel }
-    ensures row { (from : ℕ) (s : Side) → with_vpes vpes.new.rows (with_parks park.new s) ≡ handle_row setup.now kernel (with_vpes vpes.old.rows (with_parks park.old s)) from (ObtainNo place code) }
+    ensures row { (from : ℕ) (s : Side) →
+        with_vpes vpes.new.rows (with_parks park.new s)
+        ≡ handle_row setup.now kernel (with_vpes vpes.old.rows (with_parks park.old s)) from
+        (ObtainNo place code) }
     ensures ours { vpes.new.ours ≡ vpes.old.ours }
 {
     if vpes.alive(place.vpe) {
@@ -82,8 +90,8 @@ pub fn obtain_refused(
     }
 }
 
-/// A request from another kernel: the VPE of the target is asked, or, where it is dead, the kernel of the
-/// asker is told. Takes no memory.
+/// A request from another kernel: the VPE of the target gets the ask, or, if it is dead, the kernel
+/// of the asker is told.
 #[tactic(auto, unfolding(sem_machine::specs::Handles::handle_row))]
 pub fn obtain_request(
     setup: &Setup,
@@ -99,7 +107,10 @@ pub fn obtain_request(
     requires owner { place_owner_lem setup.now place < setup.now.kernels }
     requires boxes { HasBoxes setup.now outs.old }
     requires spare { 0 < outs.old.spare }
-    ensures row { (from : ℕ) (s : Side) → with_vpes vpes.new.rows (with_outs outs.new.boxes s) ≡ handle_row setup.now kernel (with_vpes vpes.old.rows (with_outs outs.old.boxes s)) from (ObtainReq place target) }
+    ensures row { (from : ℕ) (s : Side) →
+        with_vpes vpes.new.rows (with_outs outs.new.boxes s)
+        ≡ handle_row setup.now kernel (with_vpes vpes.old.rows (with_outs outs.old.boxes s)) from
+        (ObtainReq place target) }
     ensures ours { vpes.new.ours ≡ vpes.old.ours }
     ensures boxes { HasBoxes setup.now outs.new }
     ensures spare { outs.old.spare ≤ outs.new.spare + 1 }

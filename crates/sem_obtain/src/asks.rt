@@ -1,5 +1,4 @@
 ghost use Rattle.std.specs.Prelude.{◌≡◌, ◌<◌, ◌≤◌, ◌+◌, true, None};
-ghost use Rattle.sem_key.specs.declared.limits.TheConstants.{VPES};
 ghost use Rattle.sem_msg.specs.declared.message.Message.TheVariants.{ObtainReq};
 ghost use Rattle.sem_msg.specs.Lookups.{is_declared, kernel_of as kernel_of_lem};
 ghost use Rattle.sem_msg.specs.Message.{Fits, IsValidTarget};
@@ -17,20 +16,6 @@ use sem_msg::{Ask, Message, Outboxes, Parked, Setup, Target};
 use sem_park::Park;
 use sem_vpe::Vpes;
 
-// The kernel of a declared VPE.
-pub fn kernel_of(setup: &Setup, vpe: u16) -> u32
-    requires { is_declared setup.now vpe ≡ true }
-    ensures kernel { result ≡ kernel_of_lem setup.now vpe }
-    ensures below { result < setup.now.kernels }
-    ensures vpe { vpe < VPES }
-{
-    let kernel = setup.kernel_of(vpe);
-    if kernel >= setup.kernels {
-        unreachable!()
-    }
-    kernel
-}
-
 // The message that asks for a capability.
 fn request(place: Place, target: Target) -> Message
     requires { IsValidTarget target }
@@ -40,7 +25,7 @@ fn request(place: Place, target: Target) -> Message
     Message::ObtainReq { place, target }
 }
 
-// The VPE draws a number, promises the destination and waits; the other VPE, that of the target, is asked.
+// The VPE draws a number, promises the destination and waits; the VPE of the target gets the ask.
 pub fn make_ask(
     setup: &Setup,
     kernel: u32,
@@ -58,10 +43,13 @@ pub fn make_ask(
     requires other { other ≡ target_vpe_lem target }
     requires asked { is_declared setup.now other ≡ true }
     requires target { IsValidTarget target }
-    requires free { first_code (destination_tests (with_vpes vpes.old.rows no_side) vpe dst) ≡ None }
+    requires free { first_code (destination_tests (with_vpes vpes.old.rows no_side) vpe dst)
+        ≡ None }
     requires boxes { HasBoxes setup.now outs.old }
     requires spare { 0 < outs.old.spare }
-    ensures row { (s : Side) → plain (asking vpes.new park.new outs.new s) ≡ ask_made setup.now kernel vpe dst target (asking vpes.old park.old outs.old s) }
+    ensures row { (s : Side) →
+        plain (asking vpes.new park.new outs.new s)
+        ≡ ask_made setup.now kernel vpe dst target (asking vpes.old park.old outs.old s) }
     ensures ours { vpes.new.ours ≡ vpes.old.ours }
     ensures boxes { HasBoxes setup.now outs.new }
     ensures spare { outs.old.spare ≤ outs.new.spare + 1 }
@@ -75,7 +63,7 @@ pub fn make_ask(
     };
     park.park(vpe, Parked::ObtainWait { number, sel: dst });
     let place = Place { pe, vpe, number };
-    let owner = kernel_of(setup, other);
+    let owner = setup.declared_kernel(other);
     if owner == kernel {
         vpes.ask(other, Ask::Obtain { place, target });
     } else {

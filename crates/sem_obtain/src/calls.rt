@@ -1,6 +1,8 @@
 ghost use Rattle.std.specs.Prelude.{◌≡◌, ◌<◌, ◌≤◌, ◌+◌, true, IfSome};
 ghost use Rattle.sem_msg.specs.Lookups.{is_declared, kernel_of as kernel_of_lem};
-ghost use Rattle.sem_msg.specs.declared.message.Target.TheVariants.{Offer as OfferTarget, Sel as SelTarget, Serv as ServTarget};
+ghost use Rattle.sem_msg.specs.declared.message.Target.TheVariants.{Offer as OfferTarget};
+ghost use Rattle.sem_msg.specs.declared.message.Target.TheVariants.{Sel as SelTarget};
+ghost use Rattle.sem_msg.specs.declared.message.Target.TheVariants.{Serv as ServTarget};
 ghost use Rattle.sem_key.specs.declared.key.Kind.TheVariants.{Serv as ServKind};
 ghost use Rattle.sem_msg.specs.Message.{IsValidTarget};
 ghost use Rattle.sem_msg.specs.Outboxes.{HasBoxes};
@@ -10,9 +12,8 @@ ghost use Rattle.sem_machine.specs.Sound.{IsSoundObject};
 ghost use Rattle.sem_machine.specs.Calls.{obtain_row, offer_row, open_row};
 ghost use Rattle.sem_obtain.specs.Asking.{asking, giving, holding};
 
-use crate::asks::{kernel_of, make_ask};
+use crate::asks::make_ask;
 use crate::lookups::{service_key, session_service};
-use crate::outcomes::{answered, nothing};
 use crate::refusals::{obtain_refusal, offer_refusal, open_refusal};
 use sem_caps::Caps;
 use sem_key::Key;
@@ -20,8 +21,8 @@ use sem_msg::{Code, Outboxes, Outcome, Setup, Target};
 use sem_park::Park;
 use sem_vpe::Vpes;
 
-/// The call `obtain`: the VPE asks another one for the capability at its selector `src`, to stand at `dst`.
-/// It waits, unless it is refused at once. Takes no memory.
+/// The call `obtain`: the VPE asks another one for the capability at its selector `src`, to stand
+/// at `dst`. The call waits, unless it is refused at once.
 pub fn obtain_call(
     setup: &Setup,
     kernel: u32,
@@ -38,17 +39,19 @@ pub fn obtain_call(
     requires declared { is_declared setup.now vpe ≡ true }
     requires boxes { HasBoxes setup.now outs.old }
     requires spare { 0 < outs.old.spare }
-    ensures row { (s : Side) → record { side = asking vpes.new park.new outs.new s; outcome = result } ≡ obtain_row setup.now kernel (asking vpes.old park.old outs.old s) vpe dst other src }
+    ensures row { (s : Side) →
+        record { side = asking vpes.new park.new outs.new s; outcome = result }
+        ≡ obtain_row setup.now kernel (asking vpes.old park.old outs.old s) vpe dst other src }
     ensures ours { vpes.new.ours ≡ vpes.old.ours }
     ensures boxes { HasBoxes setup.now outs.new }
     ensures spare { outs.old.spare ≤ outs.new.spare + 1 }
 {
     if let Some(code) = obtain_refusal(setup, kernel, vpe, dst, other, vpes) {
-        return answered(code);
+        return Outcome::answered(code);
     }
     let target = selector(setup, other, src);
     make_ask(setup, kernel, vpe, dst, other, target, vpes, park, outs);
-    nothing()
+    Outcome::nothing()
 }
 
 // The selector of a declared VPE, as a target.
@@ -57,12 +60,12 @@ fn selector(setup: &Setup, vpe: u16, sel: u8) -> Target
     ensures target { result ≡ SelTarget vpe sel }
     ensures valid { IsValidTarget result }
 {
-    let _ = kernel_of(setup, vpe);
+    let _ = setup.declared_kernel(vpe);
     Target::Sel { vpe, sel }
 }
 
-/// The call `open`: the VPE asks for a session with the service of that name, to stand at `dst`. It
-/// waits, unless it is refused at once. Takes no memory.
+/// The call `open`: the VPE asks for a session with the service of that name, to stand at `dst`.
+/// The call waits, unless it is refused at once.
 pub fn open_call(
     setup: &Setup,
     kernel: u32,
@@ -78,16 +81,18 @@ pub fn open_call(
     requires declared { is_declared setup.now vpe ≡ true }
     requires boxes { HasBoxes setup.now outs.old }
     requires spare { 0 < outs.old.spare }
-    ensures row { (s : Side) → record { side = asking vpes.new park.new outs.new s; outcome = result } ≡ open_row setup.now kernel (asking vpes.old park.old outs.old s) vpe dst name }
+    ensures row { (s : Side) →
+        record { side = asking vpes.new park.new outs.new s; outcome = result }
+        ≡ open_row setup.now kernel (asking vpes.old park.old outs.old s) vpe dst name }
     ensures ours { vpes.new.ours ≡ vpes.old.ours }
     ensures boxes { HasBoxes setup.now outs.new }
     ensures spare { outs.old.spare ≤ outs.new.spare + 1 }
 {
     if let Some(code) = open_refusal(setup, kernel, vpe, dst, name, vpes) {
-        return answered(code);
+        return Outcome::answered(code);
     }
     let Some(service) = service_key(setup, name) else {
-        return answered(Code::NoService);
+        return Outcome::answered(Code::NoService);
     };
     let target = session_with(service);
     make_ask(
@@ -101,11 +106,11 @@ pub fn open_call(
         park,
         outs,
     );
-    nothing()
+    Outcome::nothing()
 }
 
 /// The call `ask`: the VPE asks for what the service of its session offers under an index, to stand
-/// at `dst`. It waits, unless it is refused at once. Takes no memory.
+/// at `dst`. The call waits, unless it is refused at once.
 pub fn offer_call(
     setup: &Setup,
     kernel: u32,
@@ -121,19 +126,23 @@ pub fn offer_call(
     requires home { AreOurs setup.now kernel vpes.old }
     requires vpe { kernel_of_lem setup.now vpe ≡ kernel }
     requires declared { is_declared setup.now vpe ≡ true }
-    requires session { IfSome (own (holding caps.now vpes.old no_side) vpe session) (λ c. IsSoundObject setup.now c.object) }
+    requires session { IfSome (own (holding caps.now vpes.old no_side) vpe session)
+        (λ c. IsSoundObject setup.now c.object) }
     requires boxes { HasBoxes setup.now outs.old }
     requires spare { 0 < outs.old.spare }
-    ensures row { (s : Side) → record { side = giving caps.now vpes.new park.new outs.new s; outcome = result } ≡ offer_row setup.now kernel (giving caps.now vpes.old park.old outs.old s) vpe dst session index }
+    ensures row { (s : Side) →
+        record { side = giving caps.now vpes.new park.new outs.new s; outcome = result }
+        ≡ offer_row setup.now kernel (giving caps.now vpes.old park.old outs.old s) vpe dst session
+        index }
     ensures ours { vpes.new.ours ≡ vpes.old.ours }
     ensures boxes { HasBoxes setup.now outs.new }
     ensures spare { outs.old.spare ≤ outs.new.spare + 1 }
 {
     if let Some(code) = offer_refusal(setup, kernel, vpe, dst, session, caps, vpes) {
-        return answered(code);
+        return Outcome::answered(code);
     }
     let Some(service) = session_service(caps, vpes, vpe, session) else {
-        return answered(Code::BadKind);
+        return Outcome::answered(Code::BadKind);
     };
     let target = offer_of(service, index);
     make_ask(
@@ -147,7 +156,7 @@ pub fn offer_call(
         park,
         outs,
     );
-    nothing()
+    Outcome::nothing()
 }
 
 // A session with the service of that key, as a target.

@@ -30,24 +30,28 @@ fn refusal(place: Place, code: Code) -> Message
     }
 }
 
-// The kernel of the asker is told that its asking call is refused.
+// Tells the kernel of the asker that its asking call is refused.
 pub fn send_refusal(setup: &Setup, place: Place, code: Code, outs: &mut Outboxes)
     requires refusal { IsRefusal (code_number code) }
     requires owner { place_owner_lem setup.now place < setup.now.kernels }
     requires boxes { HasBoxes setup.now outs.old }
     requires spare { 0 < outs.old.spare }
-    ensures sent { let to = place_owner_lem setup.now place in outs.new.boxes ≡ with_box outs.old.boxes to (box_for outs.old.boxes to ++ ObtainNo place (code_number code) ∷ []) }
+    ensures sent { let to = place_owner_lem setup.now place in
+        outs.new.boxes ≡ with_box outs.old.boxes to (box_for outs.old.boxes to
+        ++ ObtainNo place (code_number code) ∷ []) }
     ensures boxes { HasBoxes setup.now outs.new }
     ensures spare { outs.old.spare ≤ outs.new.spare + 1 }
 {
     outs.send(setup.place_owner(place), refusal(place, code));
 }
 
-// The asking call of the VPE will be answered with the code, and what it was promised is free.
+// The code will answer the asking call of the VPE, and its promised selector is free.
 pub fn refuse_call(vpe: u16, code: u8, vpes: &mut Vpes, park: &mut Park)
     requires vpe { vpe < VPES }
     requires ours { IsOurs vpes.old vpe }
-    ensures row { (s : Side) → with_vpes vpes.new.rows (with_parks park.new s) ≡ call_refused code vpe (with_vpes vpes.old.rows (with_parks park.old s)) }
+    ensures row { (s : Side) →
+        with_vpes vpes.new.rows (with_parks park.new s)
+        ≡ call_refused code vpe (with_vpes vpes.old.rows (with_parks park.old s)) }
     ensures ours { vpes.new.ours ≡ vpes.old.ours }
 {
     if let Some(Parked::ObtainWait { sel, .. }) = park.state(vpe) {
@@ -56,8 +60,8 @@ pub fn refuse_call(vpe: u16, code: u8, vpes: &mut Vpes, park: &mut Park)
     park.park(vpe, Parked::Ready { code });
 }
 
-// What was asked is refused: the asking call will be answered with the code, or, where it is of a
-// VPE of another kernel, that kernel is told.
+// The ask is refused: the code will answer the asking call, or, if that is a call of another
+// kernel, that kernel is told.
 pub fn refuse_ask(
     setup: &Setup,
     kernel: u32,
@@ -72,7 +76,10 @@ pub fn refuse_ask(
     requires owner { place_owner_lem setup.now place < setup.now.kernels }
     requires boxes { HasBoxes setup.now outs.old }
     requires spare { 0 < outs.old.spare }
-    ensures row { (target : Target) (s : Side) → asking vpes.new park.new outs.new s ≡ ask_refused setup.now kernel code (ObtainAsk place target) (asking vpes.old park.old outs.old s) }
+    ensures row { (target : Target) (s : Side) →
+        asking vpes.new park.new outs.new s
+        ≡ ask_refused setup.now kernel code (ObtainAsk place target)
+        (asking vpes.old park.old outs.old s) }
     ensures ours { vpes.new.ours ≡ vpes.old.ours }
     ensures boxes { HasBoxes setup.now outs.new }
     ensures spare { outs.old.spare ≤ outs.new.spare + 1 }

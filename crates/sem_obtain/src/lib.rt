@@ -1,4 +1,5 @@
-//! The calls by which a VPE asks another one for a capability, and what becomes of them.
+//! The calls by which a VPE asks another one for a capability, and what becomes of them. No
+//! function here takes memory.
 #![tactic(auto)]
 
 mod answers;
@@ -7,7 +8,6 @@ mod calls;
 mod ends;
 mod links;
 mod lookups;
-mod outcomes;
 mod refusals;
 mod resumes;
 mod upcalls;

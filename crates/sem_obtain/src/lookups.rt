@@ -3,7 +3,8 @@ ghost use Rattle.std.specs.Option.{option_and_then, option_map};
 ghost use Rattle.sem_key.specs.KeyName.{key_eq};
 ghost use Rattle.sem_key.specs.Capability.{capability_of};
 ghost use Rattle.sem_key.specs.declared.key.Kind.TheVariants.{Serv as ServKind};
-ghost use Rattle.sem_msg.specs.Lookups.{is_declared, denies as denies_lem, offer_named as offer_named_lem, offered as offered_lem, service_named as service_named_lem};
+ghost use Rattle.sem_msg.specs.Lookups.{is_declared, offer_named as offer_named_lem};
+ghost use Rattle.sem_msg.specs.Lookups.{offered as offered_lem, service_named as service_named_lem};
 ghost use Rattle.sem_vpe.specs.VpeTable.{IsOurs};
 ghost use Rattle.sem_machine.specs.Sides.{no_side, own};
 ghost use Rattle.sem_machine.specs.Calls.{session_service as session_service_lem};
@@ -15,7 +16,6 @@ use sem_key::{Cap, Key, Object, same_key};
 use sem_msg::{Service, Setup, Slot, Target};
 use sem_vpe::Vpes;
 
-// The service of that name.
 fn service_named(setup: &Setup, name: u8) -> Option<&Service>
     ensures { option_copied result ≡ service_named_lem setup.now name }
 {
@@ -26,29 +26,18 @@ fn service_named(setup: &Setup, name: u8) -> Option<&Service>
         .find(|service| service.name == name)
 }
 
-// The key of the service of that name. Its VPE is declared.
+// The key of the service of that name. The VPE of that key is declared.
 pub fn service_key(setup: &Setup, name: u8) -> Option<Key>
     ensures key { result ≡ option_map (λ s. s.key) (service_named_lem setup.now name) }
-    ensures declared { IfSome result (λ k. (is_declared setup.now k.vpe ≡ true) × (k.kind ≡ ServKind)) }
+    ensures declared { IfSome result (λ k. (is_declared setup.now k.vpe ≡ true)
+        × (k.kind ≡ ServKind)) }
 {
-    // So that the proof knows what a setup keeps.
+    // Shows the proof what a setup keeps.
     let _ = &setup.services;
     let service = service_named(setup, name)?;
     Some(service.key)
 }
 
-// Whether the VPE refuses what the asker asks.
-pub fn denies(setup: &Setup, vpe: u16, asker: u16) -> bool
-    ensures { result ≡ denies_lem setup.now vpe asker }
-{
-    setup
-        .denies
-        .as_slice()
-        .iter()
-        .any(|pair| pair.0 == vpe && pair.1 == asker)
-}
-
-// The service of that key.
 fn service_of(setup: &Setup, key: Key) -> Option<&Service>
     ensures { option_copied result ≡ find (λ s. key_eq s.key key) setup.now.services }
 {
@@ -76,11 +65,12 @@ fn offered(setup: &Setup, key: Key, index: u8) -> Option<u8>
     offer_named(setup, index, service.name)
 }
 
-// The capability at a selector of the VPE, which is of this kernel; none where nothing is held
-// there.
+// The capability at a selector of the VPE; none if the selector holds none. The VPE must be of this
+// kernel.
 pub fn own_cap<'a>(caps: &'a Caps, vpes: &Vpes, vpe: u16, sel: u8) -> Option<&'a Cap>
     requires { IsOurs vpes.now vpe }
-    ensures { option_map capability_of (option_copied result) ≡ own (holding caps.now vpes.now no_side) vpe sel }
+    ensures { option_map capability_of (option_copied result)
+        ≡ own (holding caps.now vpes.now no_side) vpe sel }
 {
     match vpes.selector(vpe, sel) {
         Slot::Held(key) => caps.get(key),
@@ -91,7 +81,8 @@ pub fn own_cap<'a>(caps: &'a Caps, vpes: &Vpes, vpe: u16, sel: u8) -> Option<&'a
 // The service of the session at a selector of the VPE.
 pub fn session_service(caps: &Caps, vpes: &Vpes, vpe: u16, sel: u8) -> Option<Key>
     requires { IsOurs vpes.now vpe }
-    ensures { result ≡ option_and_then (λ c. session_service_lem c.object) (own (holding caps.now vpes.now no_side) vpe sel) }
+    ensures { result ≡ option_and_then (λ c. session_service_lem c.object)
+        (own (holding caps.now vpes.now no_side) vpe sel) }
 {
     match own_cap(caps, vpes, vpe, sel)?.object {
         Object::Sess { service, .. } => Some(service),
@@ -99,8 +90,8 @@ pub fn session_service(caps: &Caps, vpes: &Vpes, vpe: u16, sel: u8) -> Option<Ke
     }
 }
 
-/// What the VPE is asked for: what stands at its selector, its service, or what its service offers.
-/// None where there is no such capability. The VPE is of this kernel. Takes no memory.
+/// What the VPE is asked for: the capability at its selector, its service, or what its service
+/// offers. None if there is no such capability. The VPE must be of this kernel.
 pub fn source<'a>(
     setup: &Setup,
     vpe: u16,
@@ -109,7 +100,8 @@ pub fn source<'a>(
     vpes: &Vpes,
 ) -> Option<&'a Cap>
     requires { IsOurs vpes.now vpe }
-    ensures { option_map capability_of (option_copied result) ≡ source_lem setup.now (holding caps.now vpes.now no_side) vpe target.now }
+    ensures { option_map capability_of (option_copied result)
+        ≡ source_lem setup.now (holding caps.now vpes.now no_side) vpe target.now }
 {
     match target {
         Target::Sel { sel, .. } => own_cap(caps, vpes, vpe, *sel),

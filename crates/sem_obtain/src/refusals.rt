@@ -4,36 +4,16 @@ ghost use Rattle.sem_msg.specs.Message.{IsRefusal};
 ghost use Rattle.sem_vpe.specs.VpeTable.{AreOurs, IsOurs};
 ghost use Rattle.sem_machine.specs.Sides.{no_side};
 ghost use Rattle.sem_machine.specs.Steps.{first_code};
-ghost use Rattle.sem_machine.specs.Calls.{destination_tests, is_local_dead as is_local_dead_lem, obtain_tests, offer_tests, open_tests};
+ghost use Rattle.sem_machine.specs.Calls.{obtain_tests, offer_tests, open_tests};
 ghost use Rattle.sem_machine.specs.Stores.{with_vpes};
 ghost use Rattle.sem_machine.specs.Upcalls.{source as source_lem, source_tests};
 ghost use Rattle.sem_obtain.specs.Asking.{holding};
 
 use crate::lookups::{own_cap, service_key, source};
 use sem_caps::Caps;
-use sem_key::{NUMBERS, Object};
-use sem_msg::{Code, Setup, Slot, Target};
+use sem_key::Object;
+use sem_msg::{Code, Setup, Target};
 use sem_vpe::Vpes;
-
-// Why the selector can't be the destination of a new capability.
-fn destination_refusal(vpes: &Vpes, vpe: u16, sel: u8) -> Option<Code>
-    requires { IsOurs vpes.now vpe }
-    ensures { result ≡ first_code (destination_tests (with_vpes vpes.now.rows no_side) vpe sel) }
-{
-    match vpes.selector(vpe, sel) {
-        Slot::Held(_) | Slot::Promised => Some(Code::Occupied),
-        Slot::Free if vpes.next_number(vpe) >= NUMBERS => Some(Code::Numbers),
-        Slot::Free => None,
-    }
-}
-
-// Whether the VPE belongs to this kernel and is dead.
-fn is_local_dead(setup: &Setup, kernel: u32, vpes: &Vpes, vpe: u16) -> bool
-    requires { AreOurs setup.now kernel vpes.now }
-    ensures { result ≡ is_local_dead_lem setup.now kernel (with_vpes vpes.now.rows no_side) vpe }
-{
-    setup.kernel_of(vpe) == kernel && !vpes.alive(vpe)
-}
 
 // Why the VPE can't obtain from the other one.
 pub fn obtain_refusal(
@@ -46,7 +26,8 @@ pub fn obtain_refusal(
 ) -> Option<Code>
     requires home { AreOurs setup.now kernel vpes.now }
     requires ours { IsOurs vpes.now vpe }
-    ensures { result ≡ first_code (obtain_tests setup.now kernel (with_vpes vpes.now.rows no_side) vpe dst other) }
+    ensures { result ≡ first_code
+        (obtain_tests setup.now kernel (with_vpes vpes.now.rows no_side) vpe dst other) }
 {
     if other == vpe {
         return Some(Code::SelfExchange);
@@ -54,10 +35,10 @@ pub fn obtain_refusal(
     if !setup.is_declared(other) {
         return Some(Code::NoVpe);
     }
-    if is_local_dead(setup, kernel, vpes, other) {
+    if vpes.is_local_dead(setup, kernel, other) {
         return Some(Code::Dead);
     }
-    destination_refusal(vpes, vpe, dst)
+    vpes.destination_refusal(vpe, dst)
 }
 
 // Why the VPE can't open a session with the service of that name.
@@ -71,7 +52,8 @@ pub fn open_refusal(
 ) -> Option<Code>
     requires home { AreOurs setup.now kernel vpes.now }
     requires ours { IsOurs vpes.now vpe }
-    ensures { result ≡ first_code (open_tests setup.now kernel (with_vpes vpes.now.rows no_side) vpe dst name) }
+    ensures { result ≡ first_code
+        (open_tests setup.now kernel (with_vpes vpes.now.rows no_side) vpe dst name) }
 {
     let Some(service) = service_key(setup, name) else {
         return Some(Code::NoService);
@@ -79,10 +61,10 @@ pub fn open_refusal(
     if service.vpe == vpe {
         return Some(Code::SelfExchange);
     }
-    if is_local_dead(setup, kernel, vpes, service.vpe) {
+    if vpes.is_local_dead(setup, kernel, service.vpe) {
         return Some(Code::Dead);
     }
-    destination_refusal(vpes, vpe, dst)
+    vpes.destination_refusal(vpe, dst)
 }
 
 // Why the VPE can't ask for what the service of that session offers.
@@ -97,7 +79,8 @@ pub fn offer_refusal(
 ) -> Option<Code>
     requires home { AreOurs setup.now kernel vpes.now }
     requires ours { IsOurs vpes.now vpe }
-    ensures { result ≡ first_code (offer_tests setup.now kernel (holding caps.now vpes.now no_side) vpe dst session) }
+    ensures { result ≡ first_code
+        (offer_tests setup.now kernel (holding caps.now vpes.now no_side) vpe dst session) }
 {
     let Some(cap) = own_cap(caps, vpes, vpe, session) else {
         return Some(Code::NoCap);
@@ -108,10 +91,10 @@ pub fn offer_refusal(
     let Object::Sess { service, .. } = cap.object else {
         return Some(Code::BadKind);
     };
-    if is_local_dead(setup, kernel, vpes, service.vpe) {
+    if vpes.is_local_dead(setup, kernel, service.vpe) {
         return Some(Code::Dead);
     }
-    destination_refusal(vpes, vpe, dst)
+    vpes.destination_refusal(vpe, dst)
 }
 
 // Why the VPE can't give what it is asked for.
@@ -123,7 +106,9 @@ pub fn source_refusal(
     vpes: &Vpes,
 ) -> Option<Code>
     requires { IsOurs vpes.now vpe }
-    ensures code { result ≡ first_code (source_tests target.now (source_lem setup.now (holding caps.now vpes.now no_side) vpe target.now)) }
+    ensures code { result
+        ≡ first_code (source_tests target.now
+        (source_lem setup.now (holding caps.now vpes.now no_side) vpe target.now)) }
     ensures refusal { IfSome result (λ code. IsRefusal (code_number code)) }
 {
     let Some(cap) = source(setup, vpe, target, caps, vpes) else {

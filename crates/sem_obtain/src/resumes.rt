@@ -9,22 +9,23 @@ ghost use Rattle.sem_key.specs.CapList.{cap_of};
 ghost use Rattle.sem_machine.specs.Resumes.{resume_row};
 ghost use Rattle.sem_obtain.specs.Asking.{CanEnd, installing};
 
-use crate::outcomes::answered;
 use sem_caps::Caps;
 use sem_key::{Key, Object};
 use sem_msg::{Code, Outcome, Parked};
 use sem_park::Park;
 use sem_vpe::Vpes;
 
-/// An asking call that was answered ends: the capability is installed, or, where it was revoked in the
-/// meantime, the call is answered that it is gone. Takes no memory.
+/// An asking call with an answer ends: the capability is installed, or, if it was revoked
+/// meanwhile, the call is answered that it is gone.
 #[tactic(auto, unfolding(sem_machine::specs::Resumes::resume_row))]
 pub fn obtain_resume(vpe: u16, caps: &mut Caps, vpes: &mut Vpes, park: &mut Park) -> Outcome
     requires vpe { vpe < VPES }
     requires ours { IsOurs vpes.old vpe }
     requires waits { CanEnd caps.old vpe (state_of park.old vpe) }
     requires spare { 0 < caps.old.spare }
-    ensures row { (T : SetupOf) (s : Side) → record { side = installing caps.new vpes.new park.new s; outcome = result } ≡ resume_row T (installing caps.old vpes.old park.old s) vpe }
+    ensures row { (T : SetupOf) (s : Side) →
+        record { side = installing caps.new vpes.new park.new s; outcome = result }
+        ≡ resume_row T (installing caps.old vpes.old park.old s) vpe }
     ensures ours { vpes.new.ours ≡ vpes.old.ours }
     ensures spare { caps.old.spare ≤ caps.new.spare + 1 }
 {
@@ -39,18 +40,21 @@ pub fn obtain_resume(vpe: u16, caps: &mut Caps, vpes: &mut Vpes, park: &mut Park
         },
     ) = &state
     else {
-        return answered(Code::Gone);
+        return Outcome::answered(Code::Gone);
     };
     install(*key, *parent, *object, *sel, caps, vpes);
-    answered(Code::Ok)
+    Outcome::answered(Code::Ok)
 }
 
-// The capability is held at the selector of its VPE.
+// Lets the selector of its VPE hold the capability.
 pub fn install(key: Key, parent: Key, object: Object, sel: u8, caps: &mut Caps, vpes: &mut Vpes)
     requires ours { IsOurs vpes.old key.vpe }
     requires absent { cap_of caps.old.caps key ≡ None }
     requires spare { 0 < caps.old.spare }
-    ensures row { (s : Side) → with_caps caps.new.caps (with_vpes vpes.new.rows s) ≡ installed key (Some parent) sel object (with_caps caps.old.caps (with_vpes vpes.old.rows s)) }
+    ensures row { (s : Side) →
+        with_caps caps.new.caps (with_vpes vpes.new.rows s)
+        ≡ installed key (Some parent) sel object
+        (with_caps caps.old.caps (with_vpes vpes.old.rows s)) }
     ensures ours { vpes.new.ours ≡ vpes.old.ours }
     ensures spare { caps.old.spare ≤ caps.new.spare + 1 }
 {

@@ -6,19 +6,21 @@ ghost use Rattle.sem_key.specs.ObjectRanges.{object_kind, IsValidObject};
 ghost use Rattle.sem_key.specs.PlaceName.{keyed as keyed_lem};
 ghost use Rattle.sem_msg.specs.declared.message.Message.TheVariants.{ObtainOk};
 ghost use Rattle.sem_msg.specs.declared.state.Ask.TheVariants.{Obtain as ObtainAsk};
-ghost use Rattle.sem_msg.specs.Lookups.{kernel_of as kernel_of_lem, owner_of as owner_of_lem, place_owner as place_owner_lem};
+ghost use Rattle.sem_msg.specs.Lookups.{kernel_of as kernel_of_lem, owner_of as owner_of_lem};
+ghost use Rattle.sem_msg.specs.Lookups.{place_owner as place_owner_lem};
 ghost use Rattle.sem_msg.specs.Message.{Fits, IsValidTarget};
 ghost use Rattle.sem_msg.specs.Outboxes.{HasBoxes};
 ghost use Rattle.sem_msg.specs.ParkedStates.{state_of};
 ghost use Rattle.sem_vpe.specs.VpeTable.{AreOurs, IsOurs};
 ghost use Rattle.sem_machine.specs.Asks.{is_obtain_wait};
 ghost use Rattle.sem_machine.specs.Sides.{Side, no_side};
-ghost use Rattle.sem_machine.specs.Upcalls.{ask_decided, given as given_lem, given_here, obtain_consent, source as source_lem};
-ghost use Rattle.sem_obtain.specs.Asking.{answer_to, is_unawaited as is_unawaited_lem, child_sent, giving, holding, installing, IsFree, IsGivable};
+ghost use Rattle.sem_machine.specs.Upcalls.{ask_decided, given as given_lem, given_here};
+ghost use Rattle.sem_machine.specs.Upcalls.{obtain_consent, source as source_lem};
+ghost use Rattle.sem_obtain.specs.Asking.{answer_to, is_unawaited as is_unawaited_lem, child_sent};
+ghost use Rattle.sem_obtain.specs.Asking.{giving, holding, installing, IsFree, IsGivable};
 
 use crate::ends::refuse_ask;
-use crate::lookups::{denies, source};
-use crate::outcomes::asked;
+use crate::lookups::source;
 use crate::refusals::source_refusal;
 use crate::resumes::install;
 use sem_caps::Caps;
@@ -28,9 +30,9 @@ use sem_park::Park;
 use sem_vpe::Vpes;
 
 /// The VPE is asked for the capability at one of its selectors, for a session with its service, or
-/// for what its service offers. The child that it gives is installed, or, where the asker is of
-/// another kernel, sent there. It may deny, or have nothing to give. Where the asker is of this
-/// kernel and waits no more, nothing is done. Takes no memory.
+/// for what its service offers. It may deny, or have nothing to give. Its child is installed, or,
+/// if the asker is of another kernel, sent there. If the asker is of this kernel and no longer
+/// waits, nothing is done.
 pub fn obtain_upcall(
     setup: &Setup,
     kernel: u32,
@@ -46,37 +48,40 @@ pub fn obtain_upcall(
     requires vpe { kernel_of_lem setup.now vpe ≡ kernel }
     requires owner { place_owner_lem setup.now place < setup.now.kernels }
     requires target { IsValidTarget target }
-    requires source { IfSome (source_lem setup.now (holding caps.old vpes.old no_side) vpe target) (IsGivable caps.old) }
+    requires source { IfSome (source_lem setup.now (holding caps.old vpes.old no_side) vpe target)
+        (IsGivable caps.old) }
     requires free { IsFree caps.old park.old place }
     requires spare { 0 < caps.old.spare }
     requires boxes { HasBoxes setup.now outs.old }
     requires messages { 0 < outs.old.spare }
-    ensures row { (s : Side) → record { side = giving caps.new vpes.new park.new outs.new s; outcome = result } ≡ ask_decided setup.now kernel vpe (ObtainAsk place target) (giving caps.old vpes.old park.old outs.old s) }
+    ensures row { (s : Side) →
+        record { side = giving caps.new vpes.new park.new outs.new s; outcome = result }
+        ≡ ask_decided setup.now kernel vpe (ObtainAsk place target)
+        (giving caps.old vpes.old park.old outs.old s) }
     ensures ours { vpes.new.ours ≡ vpes.old.ours }
     ensures spare { caps.old.spare ≤ caps.new.spare + 1 }
     ensures boxes { HasBoxes setup.now outs.new }
     ensures messages { outs.old.spare ≤ outs.new.spare + 1 }
 {
     match answer(setup, kernel, vpe, place, park) {
-        Consent::Dropped => asked(place.vpe, Consent::Dropped, None),
+        Consent::Dropped => Outcome::asked(place.vpe, Consent::Dropped, None),
         Consent::No => {
             refuse_ask(setup, kernel, place, Code::Refused, vpes, park, outs);
-            asked(place.vpe, Consent::No, None)
+            Outcome::asked(place.vpe, Consent::No, None)
         }
         Consent::Yes => {
             let grant = consent(setup, kernel, vpe, place, target, caps, vpes, park, outs);
-            asked(place.vpe, Consent::Yes, grant)
+            Outcome::asked(place.vpe, Consent::Yes, grant)
         }
     }
 }
 
-// What the VPE answers.
 fn answer(setup: &Setup, kernel: u32, vpe: u16, place: Place, park: &Park) -> Consent
     ensures { result ≡ answer_to setup.now kernel vpe park.now place }
 {
     if is_unawaited(setup, kernel, place, park) {
         Consent::Dropped
-    } else if denies(setup, vpe, place.vpe) {
+    } else if setup.denies(vpe, place.vpe) {
         Consent::No
     } else {
         Consent::Yes
@@ -105,7 +110,7 @@ fn waits_with(number: u32, state: &Option<Parked>) -> bool
     }
 }
 
-// The VPE gives what it is asked for, unless it can't. The parent and the child are returned.
+// The VPE gives what it is asked for, unless it can't. Returns the parent and the child.
 fn consent(
     setup: &Setup,
     kernel: u32,
@@ -121,12 +126,20 @@ fn consent(
     requires vpe { kernel_of_lem setup.now vpe ≡ kernel }
     requires owner { place_owner_lem setup.now place < setup.now.kernels }
     requires target { IsValidTarget target }
-    requires source { IfSome (source_lem setup.now (holding caps.old vpes.old no_side) vpe target) (IsGivable caps.old) }
-    requires free { (kind : Kind) → kernel_of_lem setup.now place.vpe ≡ kernel → cap_of caps.old.caps (keyed_lem place kind) ≡ None }
+    requires source { IfSome (source_lem setup.now (holding caps.old vpes.old no_side) vpe target)
+        (IsGivable caps.old) }
+    requires free { (kind : Kind) → kernel_of_lem setup.now place.vpe ≡ kernel →
+        cap_of caps.old.caps (keyed_lem place kind) ≡ None }
     requires spare { 0 < caps.old.spare }
     requires boxes { HasBoxes setup.now outs.old }
     requires messages { 0 < outs.old.spare }
-    ensures row { (s : Side) → record { side = giving caps.new vpes.new park.new outs.new s; outcome = record { asked = None; grant = result; cut = None; reply = None } } ≡ obtain_consent setup.now kernel vpe place target (giving caps.old vpes.old park.old outs.old s) }
+    ensures row { (s : Side) →
+        record {
+          side = giving caps.new vpes.new park.new outs.new s;
+          outcome = record { asked = None; grant = result; cut = None; reply = None };
+        }
+        ≡ obtain_consent setup.now kernel vpe place target
+        (giving caps.old vpes.old park.old outs.old s) }
     ensures ours { vpes.new.ours ≡ vpes.old.ours }
     ensures spare { caps.old.spare ≤ caps.new.spare + 1 }
     ensures boxes { HasBoxes setup.now outs.new }
@@ -178,7 +191,10 @@ fn give(
     requires spare { 0 < caps.old.spare }
     requires boxes { HasBoxes setup.now outs.old }
     requires messages { 0 < outs.old.spare }
-    ensures row { (s : Side) → giving caps.new vpes.new park.new outs.new s ≡ child_sent setup.now kernel parent key object (giving caps.old vpes.old park.old outs.old s) }
+    ensures row { (s : Side) →
+        giving caps.new vpes.new park.new outs.new s
+        ≡ child_sent setup.now kernel parent key object
+        (giving caps.old vpes.old park.old outs.old s) }
     ensures ours { vpes.new.ours ≡ vpes.old.ours }
     ensures spare { caps.old.spare ≤ caps.new.spare + 1 }
     ensures boxes { HasBoxes setup.now outs.new }
@@ -192,8 +208,7 @@ fn give(
     }
 }
 
-// The child is installed at the selector that the waiting call was promised, and the call will
-// succeed.
+// The child is installed at the selector promised to the waiting call, and the call will succeed.
 fn give_here(
     parent: Key,
     key: Key,
@@ -205,7 +220,10 @@ fn give_here(
     requires ours { IsOurs vpes.old key.vpe }
     requires absent { cap_of caps.old.caps key ≡ None }
     requires spare { 0 < caps.old.spare }
-    ensures row { (s : Side) → installing caps.new vpes.new park.new s ≡ given_here key parent object (state_of park.old key.vpe) (installing caps.old vpes.old park.old s) }
+    ensures row { (s : Side) →
+        installing caps.new vpes.new park.new s
+        ≡ given_here key parent object (state_of park.old key.vpe)
+        (installing caps.old vpes.old park.old s) }
     ensures ours { vpes.new.ours ≡ vpes.old.ours }
     ensures spare { caps.old.spare ≤ caps.new.spare + 1 }
 {

@@ -1,5 +1,6 @@
 -- The codes to a VPE, entry by entry; and outcomes that are compared.
-use Rattle.std.proofs.Common.{◌≡◌, ℕ, Bool, true, false, Vec, Global, List, [], ◌∷◌, ◌++◌, length, map, filter, arith, Option, None, Some, refl, sym, ◌∙◌, ap, append-nil}
+use Rattle.std.proofs.Common.{◌≡◌, ℕ, Bool, true, false, Vec, Global, List, [], ◌∷◌, ◌++◌, length, map, filter, arith, Option, None, Some, refl, sym, ◌∙◌, ap}
+use Rattle.std.proofs.Common.{append-nil}
 use Rattle.std.specs.Prelude.{◌==◌, nat_eq}
 use Rattle.std.specs.List.{cons_option}
 use Rattle.std.proofs.lemmas.Bool.{false≢true, and_parts, and_from, cond-true, cond-false}

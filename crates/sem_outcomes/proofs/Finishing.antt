@@ -24,7 +24,8 @@ module _ (T : Setup) (limit at : ℕ) (h : HistoriesValue) (way : IsUnderWay T l
       omega (arith, many, within, done)
 
   closed : IsClosed (HasSameParts T) T (journals T h.steps)
-  closed = searched-closed T (HasSameParts T) (itself ByParts T) (journals T h.steps) (subst (IsSearched (HasSameParts T) T (journals T h.steps)) all-gone way.searched)
+  closed = searched-closed T (HasSameParts T) (itself ByParts T) (journals T h.steps)
+      (subst (IsSearched (HasSameParts T) T (journals T h.steps)) all-gone way.searched)
 
   pub few-told : HasMoreThan (HasSameParts T) T limit → ⊥
   few-told more =

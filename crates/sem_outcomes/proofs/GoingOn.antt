@@ -85,7 +85,8 @@ module _ (T : Setup) (limit at : ℕ) (h v : HistoriesValue) (is : v ≡ h) (way
       ended-search = search-further T limit at h h within nothing-more
 
       pub ended-listed : (found found' : List Listed) → ListsEndings T (take at (journals T h.steps)) found
-          → ((V : List (List Entry)) → ListsEndings T V found → ListsEndings T (V ++ f.journal ∷ []) found') → ListsEndings T (take (at + 1) (journals T h.steps)) found'
+          → ((V : List (List Entry)) → ListsEndings T V found → ListsEndings T (V ++ f.journal ∷ []) found') →
+          ListsEndings T (take (at + 1) (journals T h.steps)) found'
       ended-listed found found' listed more =
           listed-further T limit at [] h h found' within (met-none T limit at h way)
           (subst (λ K. ListsEndings T (take at (journals T h.steps) ++ K ∷ []) found') is-journal (more (take at (journals T h.steps)) listed))
@@ -98,7 +99,8 @@ module _ (T : Setup) (limit at : ℕ) (h v : HistoriesValue) (is : v ≡ h) (way
       pub went-search : IsUnderWay T limit (at + 1) new
       went-search = search-further T limit at h new within all-met
 
-      pub went-listed : (found : List Listed) → ListsEndings T (take at (journals T h.steps)) found → ListsEndings T (take (at + 1) (journals T new.steps)) found
+      pub went-listed : (found : List Listed) → ListsEndings T (take at (journals T h.steps)) found →
+          ListsEndings T (take (at + 1) (journals T new.steps)) found
       went-listed found listed = listed-skip T limit at events h new found within more (λ quiet. some (are-enabled ∙ quiet)) listed
 
 -- the histories that are listed are fewer than numbers can tell

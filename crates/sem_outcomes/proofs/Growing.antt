@@ -63,7 +63,8 @@ module _ (T : Setup) where
       by_place : (steps : List Step) (s : Step) → (AreEarlier steps → (k : ℕ) (d : Step) → k < length steps
           → journal_at T steps (k + 1) ≡ and_then T (journal_at T steps (get_or steps k d).from) (get_or steps k d).event)
           → AreEarlier (steps ++ s ∷ []) → (k : ℕ) (d : Step) → (k < length steps) ⊎ (length steps ≡ k)
-          → journal_at T (steps ++ s ∷ []) (k + 1) ≡ and_then T (journal_at T (steps ++ s ∷ []) (get_or (steps ++ s ∷ []) k d).from) (get_or (steps ++ s ∷ []) k d).event
+          → journal_at T (steps ++ s ∷ []) (k + 1) ≡ and_then T (journal_at T (steps ++ s ∷ []) (get_or (steps ++ s ∷ []) k d).from)
+          (get_or (steps ++ s ∷ []) k d).event
       by_place steps s before earlier k d (inl less) =
           let low = earlier-front steps s earlier k d less in
           subst (λ (x : Step). journal_at T (steps ++ s ∷ []) (k + 1) ≡ and_then T (journal_at T (steps ++ s ∷ []) x.from) x.event)

@@ -36,7 +36,8 @@ module _ (T : Setup) (limit at : ℕ) (h v : HistoriesValue) (is : v ≡ h) (way
   longer : (numbers : List (List ℕ)) → numbers ≡ v.numbers ++ ns ∷ [] → numbers ≡ h.numbers ++ ns ∷ []
   longer numbers more = more ∙ ap (λ (g : HistoriesValue). g.numbers ++ ns ∷ []) is
 
-  pub when-many : (numbers : List (List ℕ)) → (Contains v.numbers ns → ⊥) → numbers ≡ v.numbers ++ ns ∷ [] → limit < length numbers → HasMoreThan (HasSameParts T) T limit
+  pub when-many : (numbers : List (List ℕ)) → (Contains v.numbers ns → ⊥) → numbers ≡ v.numbers ++ ns ∷ [] → limit < length numbers →
+      HasMoreThan (HasSameParts T) T limit
   when-many numbers new more past =
       put-many T limit at h way here ev enabled ns of_K (fresh new) limit (subst (λ (ms : List (List ℕ)). limit < length ms) (longer numbers more) past)
 
@@ -105,7 +106,8 @@ module _ (T : Setup) (h v : HistoriesValue) (is : v ≡ h) (met : AreMet T h) (a
       pub part-found : (n : ℕ) → IsFound nodes from ev input n → AreNumbersIn T h.trees (set (get_or h.numbers at []) ev.kernel n)
           (and_then T (journal_at T h.steps at) ev)
       part-found n found =
-          numbers-found T J runs ev enabled own h.trees met.trees ns of_J input by n (subst (λ (ms : List Node). IsFound ms (get_or ns ev.kernel 0) ev input n) read'
+          numbers-found T J runs ev enabled own h.trees met.trees ns of_J input by n
+          (subst (λ (ms : List Node). IsFound ms (get_or ns ev.kernel 0) ev input n) read'
           (subst (λ m. IsFound nodes m ev input n) is_from found))
 
       module _ (missing : IsMissing nodes from ev input) where
@@ -127,7 +129,11 @@ module _ (T : Setup) (h v : HistoriesValue) (is : v ≡ h) (met : AreMet T h) (a
             → trees ≡ set v.trees ev.kernel nodes'
             → AreMet T (record { steps = v.steps; numbers = v.numbers; trees = trees })
         put-met entry nodes' trees is_made put placed =
-            subst (AreMet T) (λ k. record { steps = (sym is k).steps; numbers = (sym is k).numbers; trees = sym (grown entry nodes' trees is_made put placed) k })
+            subst (AreMet T) (λ k. record {
+              steps = (sym is k).steps;
+              numbers = (sym is k).numbers;
+              trees = sym (grown entry nodes' trees is_made put placed) k;
+            })
             (met-trees T h met more (trees-more T J runs ev enabled own h.trees met.trees ns of_J input by missing')
             (trees-grow T J runs ev enabled own h.trees met.trees ns of_J input by missing'))
 

@@ -1,5 +1,6 @@
 -- The parts of a history that goes on, and the numbers that tell them.
-use Rattle.std.proofs.Common.{◌≡◌, ◌≢◌, ℕ, ◌<◌, ◌≤◌, true, arith, List, [], ◌∷◌, ◌++◌, length, map, get_or, set, Option, refl, sym, ◌∙◌, ap, subst, inl, inr, append-nil, length-append}
+use Rattle.std.proofs.Common.{◌≡◌, ◌≢◌, ℕ, ◌<◌, ◌≤◌, true, arith, List, [], ◌∷◌, ◌++◌, length, map, get_or, set, Option, refl, sym, ◌∙◌, ap, subst, inl, inr}
+use Rattle.std.proofs.Common.{append-nil, length-append}
 use Rattle.std.specs.List.{All}
 use Rattle.std.proofs.lemmas.Bool.{cases_eq}
 use Rattle.std.proofs.lemmas.Option.{slice_get_within, get_or_from_slice_get}
@@ -48,7 +49,8 @@ module _ (T : Setup) where
   pub trees-are : (trees : List (List Node)) → ArePartTrees T trees → AreTrees T (map parts_of trees)
   trees-are trees are i here = (get_or trees i [], subst (IsTree (get_or trees i [])) (sym (told trees i are.many here)) (are.each i here))
 
-  pub numbers-kept : (trees more : List (List Node)) (ns : List ℕ) (J : List Entry) → length trees ≡ T.kernels → length more ≡ T.kernels → TreesGrow T trees more
+  pub numbers-kept : (trees more : List (List Node)) (ns : List ℕ) (J : List Entry) → length trees ≡ T.kernels → length more ≡ T.kernels →
+      TreesGrow T trees more
       → AreNumbersIn T trees ns J → AreNumbersIn T more ns J
   numbers-kept trees more ns J many many' grow are = record {
     count = are.count;
@@ -69,7 +71,8 @@ module _ (T : Setup) where
           omega (arith, less, whole, long)
 
   -- the number of the kernel whose entry comes changes
-  pub numbers-next : (trees : List (List Node)) (ns : List ℕ) (J : List Entry) (x : Entry) (i n : ℕ) → length trees ≡ T.kernels → x.event.kernel ≡ i → i < T.kernels
+  pub numbers-next : (trees : List (List Node)) (ns : List ℕ) (J : List Entry) (x : Entry) (i n : ℕ) → length trees ≡ T.kernels → x.event.kernel ≡ i →
+      i < T.kernels
       → n < length (parts_of (get_or trees i [])) → get_or (parts_of (get_or trees i [])) n [] ≡ part J i ++ x ∷ []
       → AreNumbersIn T trees ns J → AreNumbersIn T trees (set ns i n) (J ++ x ∷ [])
   numbers-next trees ns J x i n many own here inside is are = record {
@@ -106,7 +109,8 @@ pub same-next : (T : Setup) (i : ℕ) (s : Side) (x y : Entry) → IsNext T i s 
     → carried_in x.event.act x.detail ≡ carried_in y.event.act y.detail → x ≡ y
 same-next T i s x y next next' event message = next.made ∙ ((λ k. local_entry T i s (event k).act (message k)) ∙ sym next'.made)
 
-module _ (T : Setup) (J : List Entry) (runs : IsSchedule T J) (ev : Event) (enabled : is_enabled T (world_after T J) ev ≡ true) (here : ev.kernel < T.kernels) where
+module _ (T : Setup) (J : List Entry) (runs : IsSchedule T J) (ev : Event) (enabled : is_enabled T (world_after T J) ev ≡ true)
+    (here : ev.kernel < T.kernels) where
   abbrev made : Entry
   made = entry_of T (world_after T J) ev
 
@@ -123,7 +127,8 @@ module _ (T : Setup) (J : List Entry) (runs : IsSchedule T J) (ev : Event) (enab
       (record { run = (schedule-parts T J runs).runs ev.kernel here; side = refl })
 
   -- another entry by the event and its message, after the same part, is that one
-  pub made-same : (message : Option Message) → IsMadeBy ev message made → (y : Entry) → IsMadeBy ev message y → IsLocalRun T ev.kernel (part J ev.kernel ++ y ∷ [])
+  pub made-same : (message : Option Message) → IsMadeBy ev message made → (y : Entry) → IsMadeBy ev message y →
+      IsLocalRun T ev.kernel (part J ev.kernel ++ y ∷ [])
       → made ≡ y
   made-same message by y by' run =
       same-next T ev.kernel (local_run T ev.kernel (part J ev.kernel)) made y (next-after made made-runs) (next-after y run)
@@ -173,7 +178,8 @@ module _ (T : Setup) (J : List Entry) (runs : IsSchedule T J) (ev : Event) (enab
 
       pub numbers-found : AreNumbersIn T trees (set ns ev.kernel n) (and_then T J ev)
       numbers-found =
-          let run : IsLocalRun T ev.kernel (part J ev.kernel ++ found.node.entry ∷ []) = subst (IsLocalRun T ev.kernel) n-below (are.runs ev.kernel here n [] n-within) in
+          let run : IsLocalRun T ev.kernel (part J ev.kernel ++ found.node.entry ∷ []) =
+          subst (IsLocalRun T ev.kernel) n-below (are.runs ev.kernel here n [] n-within) in
           numbers-next T trees ns J made ev.kernel n are.many made-own here n-within
           (n-below ∙ ap (λ y. part J ev.kernel ++ y ∷ []) (sym (made-same message by found.node.entry found.node.made run))) of_J
 

@@ -40,12 +40,14 @@ way-pop steps to (m ∷ ms) n from (same, many, (x, there, comes)) =
     record { step = inner.step; more = inner.more; here = inner.here; goes = inner.goes; before = (same, many, (x, there, inner.before)) }
 
 -- a way that is gone back on
-pub way-next : (steps : List Step) (to : ℕ) (ns new : List ℕ) (n : ℕ) (d : Step) → AreEarlier steps → ComesFrom steps to ns n → 0 < n → n ≤ length steps → new ≡ ns ++ n ∷ []
+pub way-next : (steps : List Step) (to : ℕ) (ns new : List ℕ) (n : ℕ) (d : Step) → AreEarlier steps → ComesFrom steps to ns n → 0 < n → n ≤ length steps →
+    new ≡ ns ++ n ∷ []
     → ComesFrom steps to new (get_or steps (n - 1) d).from × ((get_or steps (n - 1) d).from ≤ length steps)
 way-next steps to ns new n d earlier comes more few is =
     let less : n - 1 < length steps = omega (arith, more, few) in
     let low = earlier (n - 1) d less in (
-      subst (λ ks. ComesFrom steps to ks (get_or steps (n - 1) d).from) (sym is) (way-push steps to ns n (get_or steps (n - 1) d) comes more (slice_get-get_or steps (n - 1) d less)),
+      subst (λ ks. ComesFrom steps to ks (get_or steps (n - 1) d).from) (sym is)
+          (way-push steps to ns n (get_or steps (n - 1) d) comes more (slice_get-get_or steps (n - 1) d less)),
       omega (arith, low, less),
     )
 
@@ -83,10 +85,12 @@ pub record IsPlayed (T : Setup) (steps : List Step) (to : ℕ) (way : List ℕ) 
   pub left : ComesFrom steps to way at
   pub journal : f.journal ≡ journal_at T steps at
 
-pub played-start : (T : Setup) (steps : List Step) (to : ℕ) (way : List ℕ) (ks : List KernelValue) (f : FabricValue) → ComesFrom steps to way 0 → StandsAt T ks f → f.journal ≡ [] → IsPlayed T steps to way ks f
+pub played-start : (T : Setup) (steps : List Step) (to : ℕ) (way : List ℕ) (ks : List KernelValue) (f : FabricValue) → ComesFrom steps to way 0 →
+    StandsAt T ks f → f.journal ≡ [] → IsPlayed T steps to way ks f
 played-start T steps to way ks f comes stand none = record { stand = stand; at = 0; left = comes; journal = none ∙ sym (journal-zero T steps) }
 
-pub played-all : (T : Setup) (steps : List Step) (to : ℕ) (ks : List KernelValue) (f : FabricValue) → IsPlayed T steps to [] ks f → f.journal ≡ journal_at T steps to
+pub played-all : (T : Setup) (steps : List Step) (to : ℕ) (ks : List KernelValue) (f : FabricValue) → IsPlayed T steps to [] ks f →
+    f.journal ≡ journal_at T steps to
 played-all T steps to ks f is = is.journal ∙ ap (journal_at T steps) (sym is.left)
 
 module _ (T : Setup) (steps : List Step) (are : AreSteps T steps) (to n : ℕ) (ns : List ℕ) (ks : List KernelValue) (f : FabricValue)
@@ -101,9 +105,11 @@ module _ (T : Setup) (steps : List Step) (are : AreSteps T steps) (to n : ℕ) (
   played-within = slice_get_within steps (n - 1) played-last.step played-last.here
 
   pub played-enabled : is_enabled T (world_of ks f) played-last.step.event ≡ true
-  played-enabled = subst (λ (W : World). is_enabled T W played-last.step.event ≡ true) (sym played-world) (step-enabled T steps are n played-last.step played-last.more played-last.here)
+  played-enabled = subst (λ (W : World). is_enabled T W played-last.step.event ≡ true) (sym played-world)
+      (step-enabled T steps are n played-last.step played-last.more played-last.here)
 
-  pub played-more : (ls : List KernelValue) (g : FabricValue) → StandsAt T ls g → g.journal ≡ f.journal ++ entry_of T (world_of ks f) played-last.step.event ∷ []
+  pub played-more : (ls : List KernelValue) (g : FabricValue) → StandsAt T ls g →
+      g.journal ≡ f.journal ++ entry_of T (world_of ks f) played-last.step.event ∷ []
       → IsPlayed T steps to ns ls g
   played-more ls g stand entered = record {
     stand = stand;
@@ -136,7 +142,8 @@ module _ (T : Setup) (steps : List Step) (are : AreSteps T steps) (to n : ℕ) (
   pub go-enabled : (d : Step) → is_enabled T (world_of ks f) (get_or steps (n - 1) d).event ≡ true
   go-enabled d = subst (λ (x : Step). is_enabled T (world_of ks f) x.event ≡ true) (sym (at-step d)) (played-enabled T steps are to n ns ks f is-last)
 
-  pub go-more : (d : Step) (ls : List KernelValue) (g : FabricValue) → StandsAt T ls g → g.journal ≡ f.journal ++ entry_of T (world_of ks f) (get_or steps (n - 1) d).event ∷ []
+  pub go-more : (d : Step) (ls : List KernelValue) (g : FabricValue) → StandsAt T ls g →
+      g.journal ≡ f.journal ++ entry_of T (world_of ks f) (get_or steps (n - 1) d).event ∷ []
       → IsPlayed T steps to ns ls g
   go-more d ls g stand entered =
       played-more T steps are to n ns ks f is-last ls g stand (entered ∙ ap (λ (x : Step). f.journal ++ entry_of T (world_of ks f) x.event ∷ []) (at-step d))

@@ -1,5 +1,6 @@
 -- What a search has met, and how it goes on.
-use Rattle.std.proofs.Common.{◌≡◌, ◌≢◌, ℕ, suc, ◌+◌, ◌<◌, ◌≤◌, true, arith, List, [], ◌∷◌, ◌++◌, length, map, take, get_or, slice_get, Some, sym, ◌∙◌, ap, subst, inl, inr, ◌⊎◌, length-append, append-nil}
+use Rattle.std.proofs.Common.{◌≡◌, ◌≢◌, ℕ, suc, ◌+◌, ◌<◌, ◌≤◌, true, arith, List, [], ◌∷◌, ◌++◌, length, map, take, get_or, slice_get, Some, sym, ◌∙◌, ap}
+use Rattle.std.proofs.Common.{subst, inl, inr, ◌⊎◌, length-append, append-nil}
 use Rattle.std.specs.List.{Contains, All}
 use Rattle.std.proofs.lemmas.Bool.{cases_lt}
 use Rattle.std.proofs.lemmas.Option.{slice_get-get_or}
@@ -58,7 +59,8 @@ module _ (T : Setup) (h : HistoriesValue) (met : AreMet T h) where
           let many = many-journals in (
             journal_at T h.steps k,
             Contains-get_or (journals T h.steps) k [] (omega (arith, within, many)),
-            numbers-parts T (map parts_of h.trees) ns (get_or h.numbers k []) K (journal_at T h.steps k) (trees-are T h.trees met.trees) of_K (met.numbers k within)
+            numbers-parts T (map parts_of h.trees) ns (get_or h.numbers k []) K (journal_at T h.steps k) (trees-are T h.trees met.trees) of_K
+                (met.numbers k within)
                 (sym (get_or_default h.numbers k [] ns within ∙ is)),
           )
 
@@ -160,7 +162,8 @@ way-same T limit at h g way met steps numbers = record {
   searched = subst (λ (ss : List Step). IsSearched (HasSameParts T) T (journals T ss) at) (sym steps) way.searched;
 }
 
-pub met-same : (T : Setup) (limit at : ℕ) (es : List Event) (h g new : HistoriesValue) → g.steps ≡ h.steps → HasMet T limit at es g new → HasMet T limit at es h new
+pub met-same : (T : Setup) (limit at : ℕ) (es : List Event) (h g new : HistoriesValue) → g.steps ≡ h.steps → HasMet T limit at es g new →
+    HasMet T limit at es h new
 met-same T limit at es h g new steps is = record {
   now = is.now;
   grown = subst (λ (ss : List Step). GoesOn (journals T ss) (journals T new.steps)) steps is.grown;

@@ -1,7 +1,6 @@
 -- How histories end, counted.
 use Rattle.std.specs.Prelude.{◌≡◌, List, length, map, All}
-use Rattle.sem_msg.specs.declared.entry.Entry.{Entry}
-use Rattle.sem_msg.specs.Setup.{Setup}
+use Rattle.sem_machine.specs.Prelude.{Entry, Setup}
 use Rattle.sem_histories.specs.Listing.{Witness, IsEnding, HasCount, ListsOutcomes}
 use Rattle.sem_histories.specs.Closed.{CountsAs, ByParts, IsClosed}
 use Rattle.sem_histories.specs.Search.{AreApart}
@@ -11,7 +10,7 @@ use Rattle.sem_histories.specs.declared.witnesses.AllOutcomes.{AllOutcomes}
 abbrev pub witnesses_of : List Listed → List Witness
 witnesses_of found = map (λ l. l.witness) found
 
--- the outcome of each is that of so many of the histories, complete ones
+-- each outcome is that of exactly that many of the histories, all complete
 abbrev pub AreCounted : Setup → List (List Entry) → List Listed → Type 0
 AreCounted T V found = All (λ l. HasCount (IsEnding T l.witness.outcome) V l.histories) found
 
@@ -20,8 +19,8 @@ pub record ListsEndings (T : Setup) (V : List (List Entry)) (found : List Listed
   pub lists : ListsOutcomes T V (witnesses_of found)
   pub counts : AreCounted T V found
 
--- So many histories were met: no two of them have the same parts, no event leads out of them, and the outcome of each
--- witness is that of so many of them, complete ones.
+-- That many histories were met: no two of them have the same parts, and no event leads out of them.
+-- The outcome of each witness is that of exactly that many of them, all complete.
 pub record AreTold (T : Setup) (all : AllOutcomes) : Type 0 where
   pub met : List (List Entry)
   pub closed : IsClosed (CountsAs ByParts T) T met

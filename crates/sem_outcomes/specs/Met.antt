@@ -1,10 +1,7 @@
 -- The histories that a search has met, as contracts see them.
 use Rattle.std.specs.Prelude.{◌≡◌, ℕ, ◌+◌, ◌<◌, ◌≤◌, List, [], ◌∷◌, ◌++◌, length, map, fold, slice_index_or, All}
-use Rattle.sem_msg.specs.declared.entry.Entry.{Entry}
-use Rattle.sem_msg.specs.declared.event.Event.{Event}
-use Rattle.sem_msg.specs.Setup.{Setup}
-use Rattle.sem_msg.specs.Fabric.{FabricValue}
-use Rattle.sem_machine.specs.Schedules.{IsSchedule, IsLocalRun, world_after}
+use Rattle.sem_machine.specs.Prelude.{Entry, Event, Setup, FabricValue, IsSchedule, world_after}
+use Rattle.sem_machine.specs.Schedules.{IsLocalRun}
 use Rattle.sem_numbering.specs.Nodes.{Node}
 use Rattle.sem_histories.specs.Outcomes.{and_then}
 use Rattle.sem_histories.specs.Closed.{CountsAs, ByParts}
@@ -12,7 +9,8 @@ use Rattle.sem_histories.specs.Search.{IsSearched, HasGoneOn}
 use Rattle.sem_histories.specs.Trees.{IsTree, part_below, AreNumbersOf}
 use Rattle.sem_outcomes.specs.declared.steps.Step.{Step}
 
--- The journals of the histories, by number: the first is empty, each other one goes on from an earlier one by an event.
+-- The journals of the histories, by number: the first is empty, each other one goes on from an
+-- earlier one by an event.
 unfoldable pub journals : Setup → List Step → List (List Entry)
 journals T steps = fold (λ V s. V ++ and_then T (slice_index_or V s.from []) s.event ∷ []) ([] ∷ []) steps
 
@@ -43,7 +41,7 @@ pub record ArePartTrees (T : Setup) (trees : List (List Node)) : Type 0 where
 abbrev pub AreNumbersIn : Setup → List (List Node) → List ℕ → List Entry → Type 0
 AreNumbersIn T trees numbers J = AreNumbersOf T (map parts_of trees) numbers J
 
--- Each history but the first by its step, and each by the numbers of its parts.
+-- The histories: each but the first by its step, and each by the numbers of its parts.
 pub record HistoriesValue : Type 0 where
   pub steps : List Step
   pub numbers : List (List ℕ)
@@ -62,17 +60,17 @@ pub record HasLinks (T : Setup) (f : FabricValue) (J : List Entry) : Type 0 wher
   pub kernels : f.kernels ≡ T.kernels
   pub links : f.links ≡ (world_after T J).links
 
--- the list goes on
+-- the list continues the other
 abbrev pub GoesOn : List (List Entry) → List (List Entry) → Type 0
 GoesOn V W = (rest : List (List Entry)) × (W ≡ V ++ rest)
 
--- A search within its limit has gone on from the first histories, so many, and from no other.
+-- A search within its limit has gone on from exactly that many of the first histories.
 pub record IsUnderWay (T : Setup) (limit at : ℕ) (h : HistoriesValue) : Type 0 where
   pub met : AreMet T h
   pub few : length h.numbers ≤ limit
   pub searched : IsSearched (CountsAs ByParts T) T (journals T h.steps) at
 
--- it has met, too, what each of these events leads to from a history that it had before
+-- it has also met what each of these events leads to from a history that it had before
 pub record HasMet (T : Setup) (limit at : ℕ) (events : List Event) (old new : HistoriesValue) : Type 0 where
   pub now : IsUnderWay T limit at new
   pub grown : GoesOn (journals T old.steps) (journals T new.steps)

@@ -1,13 +1,13 @@
 -- The outcomes of the runs of a setup by seeds.
-use Rattle.std.specs.Prelude.{◌≡◌, ◌≢◌, ℕ, ◌+◌, ◌<◌, ◌≤◌, List, [], ◌∷◌, ◌++◌, map, slice_get, slice_set, Some, Contains, All, AllPairs}
+use Rattle.std.specs.Prelude.{◌≡◌, ◌≢◌, ℕ, ◌+◌, ◌<◌, ◌≤◌, List, [], ◌∷◌, ◌++◌, map, slice_get, slice_set, Some}
+use Rattle.std.specs.Prelude.{Contains, All, AllPairs}
 use Rattle.std.specs.List.{range_with_len}
-use Rattle.sem_msg.specs.Setup.{Setup}
-use Rattle.sem_machine.specs.Seeded.{seeded}
+use Rattle.sem_machine.specs.Prelude.{Setup, seeded}
 use Rattle.sem_histories.specs.Outcomes.{RunOutcome, outcome}
 use Rattle.sem_histories.specs.Listing.{Witness, HasCount}
 use Rattle.sem_histories.specs.declared.witnesses.Sampled.{Sampled}
 
--- what the run by a seed ends in
+-- the outcome of the run by a seed
 abbrev pub seeded_outcome : Setup → ℕ → RunOutcome
 seeded_outcome T seed = outcome T (seeded T seed)
 
@@ -18,8 +18,8 @@ sampled_outcomes found = map (λ s. s.witness.outcome) found
 abbrev pub seeds_of : ℕ → ℕ → List ℕ
 seeds_of from seeds = range_with_len from seeds
 
--- Of the seeds of the sample, so many end in the outcome. The given seed is the least of them, and the journal is that
--- of its run.
+-- Exactly that many seeds of the sample end with the outcome. The given seed is the least of them,
+-- and the journal is that of its run.
 pub record IsSampled (T : Setup) (from seeds : ℕ) (s : Sampled) : Type 0 where
   pub journal : s.witness.journal ≡ seeded T s.seed
   pub outcome : s.witness.outcome ≡ seeded_outcome T s.seed
@@ -27,10 +27,11 @@ pub record IsSampled (T : Setup) (from seeds : ℕ) (s : Sampled) : Type 0 where
   pub least : (seed : ℕ) → from ≤ seed → seed < s.seed → seeded_outcome T seed ≢ s.witness.outcome
   pub count : HasCount (λ seed. seeded_outcome T seed ≡ s.witness.outcome) (seeds_of from seeds) s.count
 
--- Each seed from `from` on, so many of them, ends in one of the outcomes, each of which is so sampled, and none stands
--- twice.
+-- Each of that many seeds from `from` on ends with one of the outcomes. Each outcome is sampled so,
+-- and none stands twice.
 pub record IsSample (T : Setup) (from seeds : ℕ) (found : List Sampled) : Type 0 where
-  pub all : (seed : ℕ) → Contains (seeds_of from seeds) seed → Contains (sampled_outcomes found) (seeded_outcome T seed)
+  pub all : (seed : ℕ) → Contains (seeds_of from seeds) seed →
+      Contains (sampled_outcomes found) (seeded_outcome T seed)
   pub sampled : All (IsSampled T from seeds) found
   pub once : AllPairs (λ a b. a ≢ b) (sampled_outcomes found)
 
@@ -40,7 +41,8 @@ pub record SampleValue : Type 0 where
   pub seeds : ℕ
   pub found : List Sampled
 
--- One run more is counted: where its outcome stands, or at the end of the list, if it stands nowhere.
+-- One more run is counted: where its outcome stands, or at the end of the list, if it stands
+-- nowhere.
 pub data NextSampled (old : List Sampled) (w : Witness) (seed : ℕ) (new : List Sampled) : Type 0 where
   again : (k : ℕ) (s : Sampled) → slice_get old k ≡ Some s → s.witness.outcome ≡ w.outcome
       → new ≡ slice_set old k (record s { count = s.count + 1 }) → NextSampled old w seed new

@@ -2,7 +2,8 @@
 use Rattle.std.specs.Prelude.{◌≡◌, ℕ, ◌-◌, ◌<◌, List, [], ◌∷◌, slice_get, Some}
 use Rattle.sem_outcomes.specs.declared.steps.Step.{Step}
 
--- History `to` comes from history `from` by these, of which the first is `to`, and each goes on from the one behind it.
+-- History `to` comes from history `from` by these. The first of them is `to`, and each goes on from
+-- the one after it.
 abbrev pub ComesFrom : List Step → ℕ → List ℕ → ℕ → Type 0
 ComesFrom steps to [] from = to ≡ from
 ComesFrom steps to (n ∷ ns) from =

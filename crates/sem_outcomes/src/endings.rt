@@ -1,4 +1,4 @@
-// What a run ended in.
+// The outcome of a run.
 ghost use Rattle.std.specs.Prelude.{◌≡◌, ◌↔◌, ◌∷◌, ◌++◌, [], IsTrue, IfOk, OnOk};
 ghost use Rattle.std.specs.Option.{option_to_list};
 ghost use Rattle.sem_outcomes.specs.Codes.{code_of};
@@ -16,7 +16,7 @@ use sem_key::OutOfMemory;
 use sem_msg::{Entry, Held, Reply, Setup};
 use std::alloc::Global;
 
-// What the run with these entries ended in, after which these are the kernels.
+// The outcome of the run with these entries, which ends with these kernels.
 pub fn outcome_of(
     alloc: Global,
     setup: &Setup,
@@ -33,7 +33,7 @@ pub fn outcome_of(
     })
 }
 
-// By VPE the codes of the replies to it, in their order.
+// The codes of the replies to each VPE, in order.
 fn all_codes(alloc: Global, setup: &Setup, entries: &[Entry]) -> Result<Vec<Vec<u8>>, OutOfMemory>
     ensures { IfOk result (λ codes. map (λ c. c.items) codes.items
         ≡ map (λ d. codes_to_lem entries.now d.vpe) setup.now.vpes) }
@@ -45,7 +45,7 @@ fn all_codes(alloc: Global, setup: &Setup, entries: &[Entry]) -> Result<Vec<Vec<
     Ok(codes)
 }
 
-// The codes of the replies to the VPE, in their order.
+// The codes of the replies to the VPE, in order.
 fn codes_to(alloc: Global, entries: &[Entry], vpe: u16) -> Result<Vec<u8>, OutOfMemory>
     ensures { IfOk result (λ codes. codes.items ≡ codes_to_lem entries.now vpe) }
 {
@@ -56,7 +56,7 @@ fn codes_to(alloc: Global, entries: &[Entry], vpe: u16) -> Result<Vec<u8>, OutOf
     Ok(codes)
 }
 
-// Adds the code that the entry tells the VPE, if it does.
+// Adds the code that the entry tells the VPE, if it tells one.
 fn add_code(codes: &mut Vec<u8>, entry: &Entry, vpe: u16) -> Result<(), OutOfMemory>
     ensures { OnOk result (codes.new.items ≡ codes.old.items ++ codes_to_lem (entry.now ∷ []) vpe) }
 {
@@ -66,7 +66,7 @@ fn add_code(codes: &mut Vec<u8>, entry: &Entry, vpe: u16) -> Result<(), OutOfMem
     Ok(())
 }
 
-// The code that the entry tells the VPE, if it does.
+// The code that the entry tells the VPE, if it tells one.
 fn code_to(entry: &Entry, vpe: u16) -> Option<u8>
     ensures { codes_to_lem (entry.now ∷ []) vpe ≡ option_to_list result }
 {
@@ -87,21 +87,19 @@ fn own_code(reply: Reply, vpe: u16) -> Option<u8>
     }
 }
 
-// Whether the outcomes are equal.
 pub fn same_outcome(one: &RunOutcome, other: &RunOutcome) -> bool
     ensures { IsTrue result ↔ (one.now ≡ other.now) }
 {
     same_codes(&one.codes, &other.codes) && same_held(one.held.as_slice(), other.held.as_slice())
 }
 
-// Whether the codes are the same.
 fn same_codes(one: &[Vec<u8>], other: &[Vec<u8>]) -> bool
     ensures { IsTrue result ↔ (map (λ c. c.items) one.now ≡ map (λ c. c.items) other.now) }
 {
     one == other
 }
 
-// Whether the same keys are held with the same selectors.
+// Whether the same keys are held at the same selectors.
 fn same_held(one: &[Held], other: &[Held]) -> bool
     ensures { IsTrue result ↔ (held_pairs one.now ≡ held_pairs other.now) }
 {

@@ -13,9 +13,9 @@ use std::marker::Model;
 #[derive(Debug, Drop)]
 pub struct Histories {
     pub steps: Vec<Step>,
-    /// By history, for each kernel the number of its part.
+    /// For each history, the number of each kernel's part.
     pub numbers: NumberLists,
-    /// By kernel.
+    /// The trees, by kernel.
     pub trees: Vec<PartTree>,
 }
 
@@ -24,11 +24,15 @@ impl Model for Histories {
 
     ghost Value = { HistoriesValue };
 
-    ghost view = { λ h. record { steps = h.steps.items; numbers = h.numbers; trees = h.trees.items } };
+    ghost view = { λ h. record {
+      steps = h.steps.items;
+      numbers = h.numbers;
+      trees = h.trees.items;
+    } };
 }
 
 impl Histories {
-    /// The empty history alone.
+    /// Only the empty history.
     pub fn new(alloc: Global, setup: &Setup) -> Result<Self, OutOfMemory>
         ensures met { IfOk result (AreMet setup.now) }
         ensures none { IfOk result (λ h. h.steps ≡ []) }
@@ -42,7 +46,7 @@ impl Histories {
         })
     }
 
-    /// How many histories there are.
+    /// How many histories were met, the empty one among them.
     pub fn len(&self) -> usize
         ensures { result ≡ length self.now.numbers }
     {
@@ -59,7 +63,7 @@ fn zeros(alloc: Global, setup: &Setup) -> Result<Vec<u32>, OutOfMemory>
     Ok(numbers)
 }
 
-// A tree with the empty part alone for each kernel.
+// For each kernel a tree with only the empty part.
 fn empty_trees(alloc: Global, setup: &Setup) -> Result<Vec<PartTree>, OutOfMemory>
     ensures { IfOk result (λ trees. trees.items ≡ replicate setup.now.kernels []) }
 {

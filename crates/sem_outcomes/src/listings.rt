@@ -1,5 +1,6 @@
 // The list of outcomes, as complete histories come in.
-ghost use Rattle.std.specs.Prelude.{◌≡◌, ◌≢◌, ◌+◌, ◌^◌, ◌<◌, ◌∷◌, ◌++◌, [], List, map, length, slice_get, All, IfSome, IfNone, OnOk};
+ghost use Rattle.std.specs.Prelude.{◌≡◌, ◌≢◌, ◌+◌, ◌^◌, ◌<◌, ◌∷◌, ◌++◌, [], List, map, length};
+ghost use Rattle.std.specs.Prelude.{slice_get, All, IfSome, IfNone, OnOk};
 ghost use Rattle.sem_msg.specs.declared.entry.Entry.{Entry as EntryData};
 ghost use Rattle.sem_machine.specs.Living.{IsComplete};
 ghost use Rattle.sem_machine.specs.Schedules.{world_after};
@@ -14,7 +15,7 @@ use sem_key::OutOfMemory;
 use sem_msg::{Journal, Setup};
 use std::alloc::Global;
 
-// Counts how the complete history ends at which these stand.
+// Counts the outcome of the complete history at which these kernels stand.
 pub fn list_ending(
     alloc: Global,
     setup: &Setup,
@@ -43,7 +44,7 @@ pub fn list_ending(
     Ok(())
 }
 
-// Where the outcome first stands in the list.
+// The first place of the outcome in the list.
 fn place_of(found: &[Listed], outcome: &RunOutcome) -> Option<usize>
     ensures there { IfSome result (λ place. slice_get (map (λ l. l.witness.outcome) found.now) place
         ≡ Some outcome.now) }

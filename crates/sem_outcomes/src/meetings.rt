@@ -1,12 +1,14 @@
 // The histories that events lead to.
-ghost use Rattle.std.specs.Prelude.{◌≡◌, ◌≢◌, ◌<◌, ◌≤◌, ◌∷◌, ◌++◌, [], true, length, All, slice_index_or, slice_set, IfOk, IsErrOf, OnOk};
+ghost use Rattle.std.specs.Prelude.{◌≡◌, ◌≢◌, ◌<◌, ◌≤◌, ◌∷◌, ◌++◌, [], true, length, All};
+ghost use Rattle.std.specs.Prelude.{slice_index_or, slice_set, IfOk, IsErrOf, OnOk};
 ghost use Rattle.sem_machine.specs.Machine.{is_enabled};
 ghost use Rattle.sem_machine.specs.Schedules.{world_after};
 ghost use Rattle.sem_kernel.specs.Worlds.{NamesPeer, taken};
 ghost use Rattle.sem_histories.specs.Outcomes.{and_then};
 ghost use Rattle.sem_histories.specs.Closed.{CountsAs, ByParts};
 ghost use Rattle.sem_histories.specs.Search.{HasMoreThan};
-ghost use Rattle.sem_outcomes.specs.Met.{AreMet, AreNumbersIn, HasLinks, IsUnderWay, HasMet, journal_at};
+ghost use Rattle.sem_outcomes.specs.Met.{AreMet, AreNumbersIn, HasLinks, IsUnderWay, HasMet};
+ghost use Rattle.sem_outcomes.specs.Met.{journal_at};
 
 use crate::faults::SearchError;
 use crate::histories::Histories;
@@ -18,8 +20,8 @@ use sem_msg::{Act, Event, Message, Setup};
 use sem_numbering::NumberLists;
 use std::alloc::Global;
 
-// Meets what each of the events, enabled ones, leads to from the history, whose links the fabric
-// has.
+// Meets what each of the events, all enabled, leads to from the history. The fabric has the
+// history's links.
 pub fn meet_all(
     alloc: Global,
     setup: &Setup,
@@ -44,7 +46,8 @@ pub fn meet_all(
     Ok(())
 }
 
-// Meets what the event, an enabled one, leads to from the history, whose links the fabric has.
+// Meets what the event, an enabled one, leads to from the history. The fabric has the history's
+// links.
 fn meet(
     alloc: Global,
     setup: &Setup,
@@ -68,8 +71,8 @@ fn meet(
     put(setup, histories, numbers, at, event, limit)
 }
 
-// Puts the history that goes on from that one by the event, an enabled one, and has these numbers,
-// unless it is there.
+// Adds the history that goes on from that one by the event, an enabled one, and that has these
+// numbers, unless it is there.
 fn put(
     setup: &Setup,
     histories: &mut Histories,
@@ -100,7 +103,7 @@ fn put(
     Ok(())
 }
 
-// Adds the step from the history, if its number is not too large.
+// Adds the step from the history, unless its number is too large.
 fn add_step(steps: &mut Vec<Step>, at: usize, event: Event) -> Result<(), OutOfMemory>
     ensures { OnOk result
         (steps.new.items ≡ steps.old.items ++ record { from = at; event = event } ∷ []) }
@@ -113,7 +116,7 @@ fn add_step(steps: &mut Vec<Step>, at: usize, event: Event) -> Result<(), OutOfM
     Ok(())
 }
 
-// By kernel the numbers of the parts of the history and one event more, an enabled one. The
+// The numbers of the parts of the history and one more event, an enabled one, by kernel. The
 // histories stay, and the trees tell their parts as before.
 fn numbers_after(
     alloc: Global,
@@ -153,7 +156,7 @@ fn numbers_of(alloc: Global, lists: &NumberLists, at: usize) -> Result<Vec<u32>,
 }
 
 // The number of the part that the kernel of the event, an enabled one, has after it; before it that
-// is part `from`. The part is put into the tree, if it is not there.
+// is part `from`. The part joins the tree, unless it is there.
 fn part_after(
     alloc: Global,
     setup: &Setup,

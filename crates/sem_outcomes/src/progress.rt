@@ -1,10 +1,11 @@
-/// Is told how far a search is.
+/// Learns how far a search is.
 pub trait Progress {
-    /// So many histories have been met, or are there seeds, and so many of them are done.
+    /// That many histories have been met, or that many seeds are to run; and that many of them are
+    /// done.
     fn met(&mut self, met: usize, done: usize);
 }
 
-/// Is told, and does nothing.
+/// Learns it, and does nothing.
 #[derive(Debug, Drop)]
 pub struct Quiet;
 

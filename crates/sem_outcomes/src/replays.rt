@@ -1,4 +1,4 @@
-// The way to a history, played again.
+// Plays the way to a history again.
 ghost use Rattle.std.specs.Prelude.{◌≡◌, ◌≤◌, ◌∷◌, ◌++◌, true, [], length, IfOk, OnOk};
 ghost use Rattle.sem_kernel.specs.Worlds.{world_of};
 ghost use Rattle.sem_machine.specs.Machine.{is_enabled, entry_of};
@@ -34,7 +34,7 @@ pub fn play(
     Ok((kernels, fabric))
 }
 
-// The event, an enabled one, happens.
+// Lets the event, an enabled one, happen.
 fn take_step(
     setup: &Setup,
     kernels: &mut Vec<Kernel>,
@@ -72,7 +72,7 @@ pub fn entry_after(
     happen_enabled(setup, &mut kernels, &mut fabric, event)
 }
 
-// The numbers of the histories on the way to that one, itself first.
+// The numbers of the histories on the way to that one, that one first.
 fn way_to(alloc: Global, steps: &[Step], at: usize) -> Result<Vec<usize>, OutOfMemory>
     requires earlier { AreEarlier steps.now }
     requires at { at ≤ length steps.now }

@@ -1,4 +1,5 @@
-ghost use Rattle.std.specs.Prelude.{◌≡◌, ◌≢◌, ◌+◌, ◌^◌, ◌<◌, ◌≤◌, [], map, slice_get, Some, All, IfOk, IfSome, IfNone, OnOk, OnErr};
+ghost use Rattle.std.specs.Prelude.{◌≡◌, ◌≢◌, ◌+◌, ◌^◌, ◌<◌, ◌≤◌, [], map, slice_get, Some, All};
+ghost use Rattle.std.specs.Prelude.{IfOk, IfSome, IfNone, OnOk, OnErr};
 ghost use Rattle.sem_machine.specs.Seeded.{seeded};
 ghost use Rattle.sem_histories.specs.Outcomes.{outcome};
 ghost use Rattle.sem_histories.specs.Listing.{witness_of};
@@ -13,7 +14,7 @@ use sem_serial::{boot, drain};
 use std::alloc::Global;
 use std::marker::Model;
 
-/// The outcomes of the runs of a setup by seeds, one seed after another.
+/// The outcomes of the runs of a setup by seeds, one seed after another. Only `next` takes memory.
 #[derive(Debug, Drop)]
 pub struct Sample {
     from: u64,
@@ -30,7 +31,7 @@ impl Model for Sample {
 }
 
 impl Sample {
-    /// No seed yet; the first will be `from`. Takes no memory.
+    /// No seed yet; the first will be `from`.
     pub fn new(alloc: Global, from: u64) -> Self
         ensures { result ≡ record { from = from; seeds = 0; found = [] } }
     {
@@ -41,8 +42,8 @@ impl Sample {
         }
     }
 
-    /// Runs the setup by the next seed, and counts what it ends in. That seed is at most 2^64 - 1,
-    /// and so is the number of seeds with it. If memory runs out the sample is as before.
+    /// Runs the setup by the next seed, and counts its outcome. That seed must be at most 2^64 - 1,
+    /// and so must the number of seeds with it. If memory is refused, the sample is as before.
     pub fn next(&mut self, alloc: Global, setup: &Setup) -> Result<(), OutOfMemory>
         requires range { self.old.from + self.old.seeds < 2 ^ 64 }
         requires seeds { self.old.seeds + 1 < 2 ^ 64 }
@@ -67,7 +68,7 @@ impl Sample {
         &self.found
     }
 
-    /// The outcomes alone.
+    /// The outcomes, without the rest of the sample.
     pub fn into_found(self) -> Vec<Sampled>
         ensures { result.items ≡ self.found }
     {
@@ -75,7 +76,7 @@ impl Sample {
     }
 }
 
-/// What the runs of the setup by so many seeds end in, the first of which is `from`.
+/// The outcomes of the runs of the setup by that many seeds, from the seed `from` on.
 pub fn sample_outcomes(
     alloc: Global,
     setup: &Setup,
@@ -88,7 +89,7 @@ pub fn sample_outcomes(
     sample_outcomes_told(alloc, setup, from, seeds, &mut Quiet)
 }
 
-/// As `sample_outcomes`, and tells how far it is.
+/// As `sample_outcomes`, and tells `progress` how far it is.
 pub fn sample_outcomes_told<P: Progress>(
     alloc: Global,
     setup: &Setup,
@@ -107,7 +108,7 @@ pub fn sample_outcomes_told<P: Progress>(
     Ok(sample.into_found())
 }
 
-// What the run by the seed ends in, and its journal.
+// The outcome of the run by the seed, and its journal.
 fn seeded_witness(alloc: Global, setup: &Setup, seed: u64) -> Result<Witness, OutOfMemory>
     ensures { IfOk result (λ w. w ≡ witness_of setup.now (seeded setup.now seed)) }
 {
@@ -118,7 +119,7 @@ fn seeded_witness(alloc: Global, setup: &Setup, seed: u64) -> Result<Witness, Ou
     Ok(Witness { journal, outcome })
 }
 
-// Counts what the run by the seed ended in, where no count is at its end.
+// Counts the outcome of the run by the seed. No count may be at its end.
 fn count_witness(found: &mut Vec<Sampled>, witness: Witness, seed: u64) -> Result<(), OutOfMemory>
     requires { All (λ s. s.count + 1 < 2 ^ 64) found.old.items }
     ensures ok { OnOk result (NextSampled found.old.items witness seed found.new.items) }
@@ -137,7 +138,7 @@ fn count_witness(found: &mut Vec<Sampled>, witness: Witness, seed: u64) -> Resul
     Ok(())
 }
 
-// Where the outcome stands in the list.
+// The place of the outcome in the list.
 fn place_of(found: &[Sampled], outcome: &RunOutcome) -> Option<usize>
     ensures there { IfSome result (λ place. slice_get (map (λ l. l.witness.outcome) found.now) place
         ≡ Some outcome.now) }

@@ -16,9 +16,9 @@ use sem_kernel::enabled_events;
 use sem_msg::Setup;
 use std::alloc::Global;
 
-/// All outcomes of the setup, each once, with a run that shows it and with how many complete
-/// histories end so. Runs in which each kernel does the same are one history. Where there are more
-/// histories than the limit, complete ones and others, there is no list.
+/// All outcomes of the setup, each once, with a run that shows it and the number of complete
+/// histories that end with it. Runs in which each kernel does the same are one history. If there
+/// are more histories than the limit, complete ones and others, there is no list.
 pub fn all_outcomes(alloc: Global, setup: &Setup, limit: usize) -> Result<AllOutcomes, SearchError>
     ensures all { IfOk result (λ all. ListsAllOutcomes setup.now (witnesses_of all.found.items)) }
     ensures counts { IfOk result (AreTold setup.now) }
@@ -29,7 +29,7 @@ pub fn all_outcomes(alloc: Global, setup: &Setup, limit: usize) -> Result<AllOut
     all_outcomes_told(alloc, setup, limit, &mut Quiet)
 }
 
-/// As `all_outcomes`, and tells how far it is.
+/// As `all_outcomes`, and tells `progress` how far it is.
 pub fn all_outcomes_told<P: Progress>(
     alloc: Global,
     setup: &Setup,
@@ -42,7 +42,7 @@ pub fn all_outcomes_told<P: Progress>(
     ensures many { IsErrOf result SearchError.TooMany
         → HasMoreThan (CountsAs ByParts setup.now) setup.now limit }
 {
-    // So that the proof knows what a setup keeps.
+    // Shows the proof what a setup keeps.
     let _ = &setup.vpes;
     if limit == 0 {
         return Err(SearchError::TooMany);
@@ -61,8 +61,8 @@ pub fn all_outcomes_told<P: Progress>(
     })
 }
 
-// Goes on from the history: lists how it ends, if it is complete, and else meets what its enabled
-// events lead to.
+// Goes on from the history: lists its outcome, if it is complete, and otherwise meets what its
+// enabled events lead to.
 fn go_on(
     alloc: Global,
     setup: &Setup,
@@ -81,7 +81,7 @@ fn go_on(
     ensures many { IsErrOf result SearchError.TooMany
         → HasMoreThan (CountsAs ByParts setup.now) setup.now limit }
 {
-    // So that the proof knows what a setup keeps.
+    // Shows the proof what a setup keeps.
     let _ = &setup.vpes;
     let (kernels, fabric) = play(alloc, setup, histories.steps.as_slice(), at)?;
     let mut events = Vec::new(alloc);

@@ -27,25 +27,32 @@ first-found ((false, code) ∷ tests) = first-found tests
 abbrev answering : Side → Code → Step
 answering s code = record { side = s; outcome = record { asked = None; grant = None; cut = None; reply = Some (code_number code) } }
 
-use-is : (op : Op) (v ep : ℕ) (s : Side) (o : Option Code) → o ≡ refusal op (endpoint s v ep) → use_row op v ep s ≡ option_map_or (answering s) o (answering (with_endpoints (use_done op v ep s.endpoints) s) OkCode)
+use-is : (op : Op) (v ep : ℕ) (s : Side) (o : Option Code) → o ≡ refusal op (endpoint s v ep) →
+    use_row op v ep s ≡ option_map_or (answering s) o (answering (with_endpoints (use_done op v ep s.endpoints) s) OkCode)
 use-is op v ep s o is =
     unless-first (use_tests op (endpoint s v ep)) (answering s) (answering (with_endpoints (use_done op v ep s.endpoints) s) OkCode)
-    ∙ ap (λ (code : Option Code). option_map_or (answering s) code (answering (with_endpoints (use_done op v ep s.endpoints) s) OkCode)) (first-found (use_tests op (endpoint s v ep)) ∙ sym is)
+    ∙ ap (λ (code : Option Code). option_map_or (answering s) code (answering (with_endpoints (use_done op v ep s.endpoints) s) OkCode))
+    (first-found (use_tests op (endpoint s v ep)) ∙ sym is)
 
 pub use-passed : (op : Op) (v ep : ℕ) (old new : EndpointTable) (s : Side) (o : Outcome) → None ≡ refusal op (endpoint (with_endpoints old.rows s) v ep)
     → new ≡ (if is_some (refusal op (endpoint (with_endpoints old.rows s) v ep)) then old else record old { rows = use_done op v ep old.rows })
-    → o ≡ record { asked = None; grant = None; cut = None; reply = Some (code_number OkCode) } → record { side = with_endpoints new.rows s; outcome = o } ≡ use_row op v ep (with_endpoints old.rows s)
+    → o ≡ record { asked = None; grant = None; cut = None; reply = Some (code_number OkCode) } →
+    record { side = with_endpoints new.rows s; outcome = o } ≡ use_row op v ep (with_endpoints old.rows s)
 use-passed op v ep old new s o is table shown =
-    let now : new ≡ record old { rows = use_done op v ep old.rows } = table ∙ ap (λ (code : Option Code). if is_some code then old else record old { rows = use_done op v ep old.rows }) (sym is) in
+    let now : new ≡ record old { rows = use_done op v ep old.rows } = table
+    ∙ ap (λ (code : Option Code). if is_some code then old else record old { rows = use_done op v ep old.rows }) (sym is) in
     (λ i. record { side = with_endpoints (now i).rows s; outcome = shown i }) ∙ sym (use-is op v ep (with_endpoints old.rows s) None is)
 
-pub use-refused : (op : Op) (v ep : ℕ) (old new : EndpointTable) (s : Side) (o : Outcome) (code : Code) → Some code ≡ refusal op (endpoint (with_endpoints old.rows s) v ep)
+pub use-refused : (op : Op) (v ep : ℕ) (old new : EndpointTable) (s : Side) (o : Outcome) (code : Code) →
+    Some code ≡ refusal op (endpoint (with_endpoints old.rows s) v ep)
     → new ≡ (if is_some (refusal op (endpoint (with_endpoints old.rows s) v ep)) then old else record old { rows = use_done op v ep old.rows })
-    → o ≡ record { asked = None; grant = None; cut = None; reply = Some (code_number code) } → record { side = with_endpoints new.rows s; outcome = o } ≡ use_row op v ep (with_endpoints old.rows s)
+    → o ≡ record { asked = None; grant = None; cut = None; reply = Some (code_number code) } →
+    record { side = with_endpoints new.rows s; outcome = o } ≡ use_row op v ep (with_endpoints old.rows s)
 use-refused op v ep old new s o code is table shown =
     let now : new ≡ old = table ∙ ap (λ (code : Option Code). if is_some code then old else record old { rows = use_done op v ep old.rows }) (sym is) in
     (λ i. record { side = with_endpoints (now i).rows s; outcome = shown i }) ∙ sym (use-is op v ep (with_endpoints old.rows s) (Some code) is)
 
 -- a bind that is not refused
-pub bind-done : (s : Side) (v ep src : ℕ) (p : Capability) → None ≡ first_code (bind_tests s v src) → Some p ≡ own s v src → bind_row s v ep src ≡ answer OkCode (with_endpoint v ep (Some (record { key = p.key; object = p.object; ring = [] })) s)
+pub bind-done : (s : Side) (v ep src : ℕ) (p : Capability) → None ≡ first_code (bind_tests s v src) → Some p ≡ own s v src →
+    bind_row s v ep src ≡ answer OkCode (with_endpoint v ep (Some (record { key = p.key; object = p.object; ring = [] })) s)
 bind-done s v ep src p first held = unless-first (bind_tests s v src) _ _ ∙ rw (← first, ← held) refl

@@ -1,16 +1,10 @@
--- What the calls ask of the stores.
+-- What the calls need from the stores.
 use Rattle.std.specs.Prelude.{◌≡◌, ℕ, Some, None}
-use Rattle.sem_key.specs.declared.key.Kind.{Kind}
-use Rattle.sem_key.specs.CapList.{cap_of}
-use Rattle.sem_msg.specs.declared.state.Slot.{Slot}
-use Rattle.sem_msg.specs.declared.state.Slot.TheVariants.{Free, Held, Promised}
-use Rattle.sem_msg.specs.Setup.{Setup}
+use Rattle.sem_machine.specs.Prelude.{Kind, cap_of, Slot, Free, Held, Promised, Setup, Side, with_caps, with_vpes}
 use Rattle.sem_msg.specs.Lookups.{pe_of}
 use Rattle.sem_msg.specs.VpeRows.{row}
 use Rattle.sem_caps.specs.CapStore.{CapStore, held_key}
 use Rattle.sem_vpe.specs.VpeTable.{VpeTable}
-use Rattle.sem_machine.specs.Sides.{Side}
-use Rattle.sem_machine.specs.Stores.{with_caps, with_vpes}
 
 -- the side with these capabilities and VPEs
 abbrev pub holding : CapStore → VpeTable → Side → Side
@@ -18,7 +12,8 @@ holding caps vpes s = with_caps caps.caps (with_vpes vpes.rows s)
 
 -- no capability has the number that the VPE draws next
 abbrev pub IsNextFree : Setup → CapStore → VpeTable → ℕ → Type 0
-IsNextFree T caps vpes v = (kind : Kind) → cap_of caps.caps (record { pe = pe_of T v; vpe = v; kind = kind; number = (row vpes.rows v).next_number }) ≡ None
+IsNextFree T caps vpes v = (kind : Kind) →
+    cap_of caps.caps (record { pe = pe_of T v; vpe = v; kind = kind; number = (row vpes.rows v).next_number }) ≡ None
 
 -- there is room for one more child of the capability in the slot
 abbrev pub HasChildRoom : CapStore → Slot → Type 0

@@ -5,17 +5,17 @@ ghost use Rattle.sem_msg.specs.Lookups.{is_declared};
 ghost use Rattle.sem_msg.specs.VpeRows.{row, slot};
 ghost use Rattle.sem_vpe.specs.VpeTable.{IsOurs};
 ghost use Rattle.sem_machine.specs.Sides.{Side};
-ghost use Rattle.sem_machine.specs.Calls.{child_made, derive_row, gate_row, narrowed as narrowed_lem};
+ghost use Rattle.sem_machine.specs.Calls.{child_made, derive_row, gate_row};
+ghost use Rattle.sem_machine.specs.Calls.{narrowed as narrowed_lem};
 ghost use Rattle.sem_own.specs.Holding.{holding, IsNextFree, HasChildRoom};
 
-use crate::outcomes::answered;
 use crate::refusals::{derive_refusal, gate_refusal, own_cap};
 use sem_caps::Caps;
 use sem_key::{Key, Object};
 use sem_msg::{Code, Outcome, Setup};
 use sem_vpe::Vpes;
 
-/// A part of a memory: where it begins in it, how long it is, and with which rights.
+/// A part of a memory: its offset in the memory, its length, and its rights.
 #[derive(Clone, Copy, Debug, PartialEq, Eq)]
 pub struct Part {
     pub off: u32,
@@ -23,7 +23,7 @@ pub struct Part {
     pub rights: u8,
 }
 
-/// The call `derive`: the VPE derives that part of the memory at `src`, to stand at `dst`.
+/// The call `derive`: the VPE derives that part of the memory at `src` into its selector `dst`.
 pub fn derive_call(
     setup: &Setup,
     vpe: u16,
@@ -38,22 +38,25 @@ pub fn derive_call(
     requires free { IsNextFree setup.now caps.old vpes.old vpe }
     requires child_room { HasChildRoom caps.old (slot vpes.old.rows vpe src) }
     requires spare { 0 < caps.old.spare }
-    ensures row { (s : Side) → record { side = holding caps.new vpes.new s; outcome = result } ≡ derive_row setup.now (holding caps.old vpes.old s) vpe src dst part.now.off part.now.len part.now.rights }
+    ensures row { (s : Side) →
+        record { side = holding caps.new vpes.new s; outcome = result }
+        ≡ derive_row setup.now (holding caps.old vpes.old s) vpe src dst part.now.off part.now.len
+        part.now.rights }
     ensures ours { vpes.new.ours ≡ vpes.old.ours }
     ensures spare { caps.old.spare ≤ caps.new.spare + 1 }
 {
     if let Some(code) = derive_refusal(caps, vpes, vpe, src, dst, part) {
-        return answered(code);
+        return Outcome::answered(code);
     }
     let Some(parent) = own_cap(caps, vpes, vpe, src) else {
-        return answered(Code::NoCap);
+        return Outcome::answered(Code::NoCap);
     };
     let key = parent.key;
     let object = narrowed(part, &parent.object);
     make_child(setup, vpe, dst, object, key, caps, vpes)
 }
 
-/// The call `gate`: the VPE makes a send gate for the receive gate at `src`, to stand at `dst`.
+/// The call `gate`: the VPE makes a send gate for the receive gate at `src`, at its selector `dst`.
 pub fn gate_call(
     setup: &Setup,
     vpe: u16,
@@ -69,15 +72,17 @@ pub fn gate_call(
     requires free { IsNextFree setup.now caps.old vpes.old vpe }
     requires child_room { HasChildRoom caps.old (slot vpes.old.rows vpe src) }
     requires spare { 0 < caps.old.spare }
-    ensures row { (s : Side) → record { side = holding caps.new vpes.new s; outcome = result } ≡ gate_row setup.now (holding caps.old vpes.old s) vpe src dst label credits }
+    ensures row { (s : Side) →
+        record { side = holding caps.new vpes.new s; outcome = result }
+        ≡ gate_row setup.now (holding caps.old vpes.old s) vpe src dst label credits }
     ensures ours { vpes.new.ours ≡ vpes.old.ours }
     ensures spare { caps.old.spare ≤ caps.new.spare + 1 }
 {
     if let Some(code) = gate_refusal(caps, vpes, vpe, src, dst, credits) {
-        return answered(code);
+        return Outcome::answered(code);
     }
     let Some(parent) = own_cap(caps, vpes, vpe, src) else {
-        return answered(Code::NoCap);
+        return Outcome::answered(Code::NoCap);
     };
     let key = parent.key;
     let object = Object::Send {
@@ -118,7 +123,9 @@ fn make_child(
     requires free { IsNextFree setup.now caps.old vpes.old vpe }
     requires child_room { caps.old.child_room ≡ Some parent }
     requires spare { 0 < caps.old.spare }
-    ensures row { (s : Side) → record { side = holding caps.new vpes.new s; outcome = result } ≡ child_made setup.now vpe dst object parent (holding caps.old vpes.old s) }
+    ensures row { (s : Side) →
+        record { side = holding caps.new vpes.new s; outcome = result }
+        ≡ child_made setup.now vpe dst object parent (holding caps.old vpes.old s) }
     ensures ours { vpes.new.ours ≡ vpes.old.ours }
     ensures spare { caps.old.spare ≤ caps.new.spare + 1 }
 {

@@ -10,82 +10,101 @@ ghost use Rattle.sem_machine.specs.Stores.{with_endpoints};
 ghost use Rattle.sem_own.specs.Holding.{holding};
 ghost use Rattle.sem_own.specs.Using.{use_row};
 
-use crate::outcomes::answered;
 use crate::refusals::{bind_refusal, own_cap};
 use sem_caps::Caps;
 use sem_dtu::{Dtus, Op};
 use sem_msg::{Code, Outcome};
 use sem_vpe::Vpes;
 
-/// The call `bind`: the VPE binds an endpoint to the capability at `src`. What it was bound to before,
-/// with the messages that were sent through it, is forgotten.
+/// The call `bind`: the VPE binds an endpoint to the capability at `src`. The old binding is
+/// forgotten, and so are the messages sent through it.
 pub fn bind_call(vpe: u16, ep: u8, src: u8, caps: &Caps, vpes: &Vpes, dtus: &mut Dtus) -> Outcome
     requires vpe { IsOurVpe vpes.now vpe }
     requires ours { IsOurs dtus.old vpe }
     requires ep { ep < ENDPOINTS }
-    requires valid { IfSome (own (holding caps.now vpes.now no_side) vpe src) (λ c. IsValidObject c.object) }
-    ensures row { (s : Side) → record { side = with_endpoints dtus.new.rows (holding caps.now vpes.now s); outcome = result } ≡ bind_row (with_endpoints dtus.old.rows (holding caps.now vpes.now s)) vpe ep src }
+    requires valid { IfSome (own (holding caps.now vpes.now no_side) vpe src)
+        (λ c. IsValidObject c.object) }
+    ensures row { (s : Side) →
+        record {
+          side = with_endpoints dtus.new.rows (holding caps.now vpes.now s);
+          outcome = result;
+        }
+        ≡ bind_row (with_endpoints dtus.old.rows (holding caps.now vpes.now s)) vpe ep src }
     ensures ours { dtus.new.ours ≡ dtus.old.ours }
 {
     if let Some(code) = bind_refusal(caps, vpes, vpe, src) {
-        return answered(code);
+        return Outcome::answered(code);
     }
     let Some(cap) = own_cap(caps, vpes, vpe, src) else {
-        return answered(Code::NoCap);
+        return Outcome::answered(Code::NoCap);
     };
     dtus.bind(vpe, ep, cap.key, cap.object);
-    answered(Code::Ok)
+    Outcome::answered(Code::Ok)
 }
 
-/// The call `read`: the VPE reads `len` bytes from the offset on, by the memory to which the endpoint is bound.
+/// The call `read`: the VPE reads `len` bytes from the offset on, from the memory that the endpoint
+/// is bound to.
 pub fn read_call(vpe: u16, ep: u8, off: u32, len: u32, dtus: &mut Dtus) -> Outcome
     requires ours { IsOurs dtus.old vpe }
     requires ep { ep < ENDPOINTS }
-    ensures row { (s : Side) → record { side = with_endpoints dtus.new.rows s; outcome = result } ≡ memory_row (with_endpoints dtus.old.rows s) vpe ep 1 off len }
+    ensures row { (s : Side) →
+        record { side = with_endpoints dtus.new.rows s; outcome = result }
+        ≡ memory_row (with_endpoints dtus.old.rows s) vpe ep 1 off len }
     ensures ours { dtus.new.ours ≡ dtus.old.ours }
 {
     used(vpe, ep, Op::Read { off, len }, dtus)
 }
 
-/// The call `write`: the VPE writes `len` bytes from the offset on, by the memory to which the endpoint is bound.
+/// The call `write`: the VPE writes `len` bytes from the offset on, to the memory that the endpoint
+/// is bound to.
 pub fn write_call(vpe: u16, ep: u8, off: u32, len: u32, dtus: &mut Dtus) -> Outcome
     requires ours { IsOurs dtus.old vpe }
     requires ep { ep < ENDPOINTS }
-    ensures row { (s : Side) → record { side = with_endpoints dtus.new.rows s; outcome = result } ≡ memory_row (with_endpoints dtus.old.rows s) vpe ep 2 off len }
+    ensures row { (s : Side) →
+        record { side = with_endpoints dtus.new.rows s; outcome = result }
+        ≡ memory_row (with_endpoints dtus.old.rows s) vpe ep 2 off len }
     ensures ours { dtus.new.ours ≡ dtus.old.ours }
 {
     used(vpe, ep, Op::Write { off, len }, dtus)
 }
 
-/// The call `send`: the VPE sends a message of `len` bytes by the gate to which the endpoint is bound.
+/// The call `send`: the VPE sends a message of `len` bytes through the gate that the endpoint is
+/// bound to.
 pub fn send_call(vpe: u16, ep: u8, len: u32, dtus: &mut Dtus) -> Outcome
     requires ours { IsOurs dtus.old vpe }
     requires ep { ep < ENDPOINTS }
-    ensures row { (s : Side) → record { side = with_endpoints dtus.new.rows s; outcome = result } ≡ send_row (with_endpoints dtus.old.rows s) vpe ep len }
+    ensures row { (s : Side) →
+        record { side = with_endpoints dtus.new.rows s; outcome = result }
+        ≡ send_row (with_endpoints dtus.old.rows s) vpe ep len }
     ensures ours { dtus.new.ours ≡ dtus.old.ours }
 {
     used(vpe, ep, Op::Send { len }, dtus)
 }
 
-/// The call `credit`: the VPE takes back the credit of the oldest message that it sent by the endpoint.
+/// The call `credit`: the VPE takes back the credit of the oldest message that it sent through the
+/// endpoint.
 pub fn credit_call(vpe: u16, ep: u8, dtus: &mut Dtus) -> Outcome
     requires ours { IsOurs dtus.old vpe }
     requires ep { ep < ENDPOINTS }
-    ensures row { (s : Side) → record { side = with_endpoints dtus.new.rows s; outcome = result } ≡ credit_row (with_endpoints dtus.old.rows s) vpe ep }
+    ensures row { (s : Side) →
+        record { side = with_endpoints dtus.new.rows s; outcome = result }
+        ≡ credit_row (with_endpoints dtus.old.rows s) vpe ep }
     ensures ours { dtus.new.ours ≡ dtus.old.ours }
 {
     used(vpe, ep, Op::Credit, dtus)
 }
 
-// Does the operation, or tells why not.
+// Does the operation, or says why not.
 fn used(vpe: u16, ep: u8, op: Op, dtus: &mut Dtus) -> Outcome
     requires ours { IsOurs dtus.old vpe }
     requires ep { ep < ENDPOINTS }
-    ensures row { (s : Side) → record { side = with_endpoints dtus.new.rows s; outcome = result } ≡ use_row op vpe ep (with_endpoints dtus.old.rows s) }
+    ensures row { (s : Side) →
+        record { side = with_endpoints dtus.new.rows s; outcome = result }
+        ≡ use_row op vpe ep (with_endpoints dtus.old.rows s) }
     ensures ours { dtus.new.ours ≡ dtus.old.ours }
 {
     match dtus.use_endpoint(vpe, ep, op) {
-        Ok(()) => answered(Code::Ok),
-        Err(fault) => answered(Code::from(fault)),
+        Ok(()) => Outcome::answered(Code::Ok),
+        Err(fault) => Outcome::answered(Code::from(fault)),
     }
 }

@@ -1,9 +1,9 @@
-//! The calls that a kernel does by what its own VPEs hold: derives, gates, and the use of endpoints.
+//! The calls that a kernel does with what its own VPEs hold: derives, gates, and the use of
+//! endpoints.
 #![tactic(auto)]
 
 mod children;
 mod endpoints;
-mod outcomes;
 mod refusals;
 
 pub use children::{Part, derive_call, gate_call};

@@ -4,37 +4,27 @@ ghost use Rattle.sem_key.specs.Capability.{capability_of};
 ghost use Rattle.sem_vpe.specs.VpeTable.{IsOurs};
 ghost use Rattle.sem_machine.specs.Sides.{no_side, own};
 ghost use Rattle.sem_machine.specs.Steps.{first_code};
-ghost use Rattle.sem_machine.specs.Calls.{bind_tests, derive_tests, destination_tests, exceeds_slots as exceeds_slots_lem, gate_tests, is_wider as is_wider_lem};
-ghost use Rattle.sem_machine.specs.Stores.{with_vpes};
+ghost use Rattle.sem_machine.specs.Calls.{bind_tests, derive_tests};
+ghost use Rattle.sem_machine.specs.Calls.{exceeds_slots as exceeds_slots_lem, gate_tests};
+ghost use Rattle.sem_machine.specs.Calls.{is_wider as is_wider_lem};
 ghost use Rattle.sem_own.specs.Holding.{holding};
 
 use crate::children::Part;
 use sem_caps::Caps;
-use sem_key::{Cap, NUMBERS, Object};
+use sem_key::{Cap, Object};
 use sem_msg::{Code, Slot};
 use sem_vpe::Vpes;
 
-/// The capability at a selector of the VPE, which is of this kernel; none where nothing is held
-/// there. Takes no memory.
+/// The capability at a selector of the VPE; none if the selector holds none. The VPE must be of
+/// this kernel. Takes no memory.
 pub fn own_cap<'a>(caps: &'a Caps, vpes: &Vpes, vpe: u16, sel: u8) -> Option<&'a Cap>
     requires { IsOurs vpes.now vpe }
-    ensures { option_map capability_of (option_copied result) ≡ own (holding caps.now vpes.now no_side) vpe sel }
+    ensures { option_map capability_of (option_copied result)
+        ≡ own (holding caps.now vpes.now no_side) vpe sel }
 {
     match vpes.selector(vpe, sel) {
         Slot::Held(key) => caps.get(key),
         Slot::Free | Slot::Promised => None,
-    }
-}
-
-// Why the selector can't be the destination of a new capability.
-pub fn destination_refusal(vpes: &Vpes, vpe: u16, sel: u8) -> Option<Code>
-    requires { IsOurs vpes.now vpe }
-    ensures { result ≡ first_code (destination_tests (with_vpes vpes.now.rows no_side) vpe sel) }
-{
-    match vpes.selector(vpe, sel) {
-        Slot::Held(_) | Slot::Promised => Some(Code::Occupied),
-        Slot::Free if vpes.next_number(vpe) >= NUMBERS => Some(Code::Numbers),
-        Slot::Free => None,
     }
 }
 
@@ -51,7 +41,7 @@ fn is_wider(part: &Part, object: &Object) -> bool
     }
 }
 
-// Why the VPE can't derive that part of what stands at `src`, to stand at `dst`.
+// Why the VPE can't derive that part of the memory at `src` into `dst`.
 pub fn derive_refusal(
     caps: &Caps,
     vpes: &Vpes,
@@ -61,7 +51,9 @@ pub fn derive_refusal(
     part: &Part,
 ) -> Option<Code>
     requires { IsOurs vpes.now vpe }
-    ensures { result ≡ first_code (derive_tests (holding caps.now vpes.now no_side) vpe src dst part.now.off part.now.len part.now.rights) }
+    ensures { result ≡ first_code
+        (derive_tests (holding caps.now vpes.now no_side) vpe src dst part.now.off part.now.len
+        part.now.rights) }
 {
     let Some(cap) = own_cap(caps, vpes, vpe, src) else {
         return Some(Code::NoCap);
@@ -71,12 +63,12 @@ pub fn derive_refusal(
     }
     match &cap.object {
         Object::Mem { .. } if is_wider(part, &cap.object) => Some(Code::Wider),
-        Object::Mem { .. } => destination_refusal(vpes, vpe, dst),
+        Object::Mem { .. } => vpes.destination_refusal(vpe, dst),
         _ => Some(Code::BadKind),
     }
 }
 
-// Why the VPE can't make a gate with so many credits for what stands at `src`, to stand at `dst`.
+// Why the VPE can't make a gate with that many credits for the receive gate at `src`, at `dst`.
 pub fn gate_refusal(
     caps: &Caps,
     vpes: &Vpes,
@@ -86,7 +78,8 @@ pub fn gate_refusal(
     credits: u8,
 ) -> Option<Code>
     requires { IsOurs vpes.now vpe }
-    ensures { result ≡ first_code (gate_tests (holding caps.now vpes.now no_side) vpe src dst credits) }
+    ensures { result ≡ first_code
+        (gate_tests (holding caps.now vpes.now no_side) vpe src dst credits) }
 {
     let Some(cap) = own_cap(caps, vpes, vpe, src) else {
         return Some(Code::NoCap);
@@ -96,12 +89,12 @@ pub fn gate_refusal(
     }
     match cap.object {
         Object::Recv { slots } if slots < credits => Some(Code::Wider),
-        Object::Recv { .. } => destination_refusal(vpes, vpe, dst),
+        Object::Recv { .. } => vpes.destination_refusal(vpe, dst),
         _ => Some(Code::BadKind),
     }
 }
 
-// Why the VPE can't bind an endpoint to what stands at `src`.
+// Why the VPE can't bind an endpoint to the capability at `src`.
 pub fn bind_refusal(caps: &Caps, vpes: &Vpes, vpe: u16, src: u8) -> Option<Code>
     requires { IsOurs vpes.now vpe }
     ensures { result ≡ first_code (bind_tests (holding caps.now vpes.now no_side) vpe src) }

@@ -1,4 +1,4 @@
-// What stands on the page.
+// The body of the page.
 pub const BODY: &str = r##"<header>
 <h1>A run of semper</h1>
 <span id="said" aria-live="polite"></span>

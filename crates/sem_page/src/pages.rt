@@ -7,21 +7,21 @@ use sem_draw::OutOfMemory;
 use sem_msg::{Act, Entry};
 use std::alloc::Global;
 
-/// What a page is made of. All are texts without a `<`.
+/// The parts of a page. All are texts without a `<`.
 #[derive(Clone, Copy, Debug)]
 pub struct PageParts<'a> {
-    /// The setup, the entries that are shown, and the audit, as lines of JSON.
+    /// The setup, the shown entries, and the audit, as lines of JSON.
     pub report: &'a str,
-    /// The lines of these entries, as the report has them.
+    /// The lines of these entries, as in the report.
     pub told: &'a str,
-    /// What changes in the forest, as lines of JSON: one for the forest before the first entry that
-    /// is shown, and one for each entry.
+    /// The changes of the forest, as lines of JSON: one for the forest before the first shown
+    /// entry, and one for each entry.
     pub forests: &'a str,
     /// The counts of the whole run, as JSON.
     pub stats: &'a str,
 }
 
-/// The page of the entries in the range, of these.
+/// The page of those of the entries that are in the range.
 pub fn page_text(
     alloc: Global,
     parts: &PageParts<'_>,
@@ -53,8 +53,8 @@ pub fn page_text(
     Ok(page)
 }
 
-// How many messages were sent and not taken by these entries, as members of a JSON object that are
-// named by a link, as "0 1".
+// How many messages these entries sent and did not take, as members of a JSON object named by link,
+// as "0 1".
 fn early_messages(alloc: Global, kernels: usize, entries: &[Entry]) -> Result<String, OutOfMemory> {
     let mut counts: Vec<u64> = Vec::new(alloc);
     counts.resize(kernels.saturating_mul(kernels), 0)?;

@@ -1,4 +1,4 @@
-// Which entries a page shows.
+// The entries that a page shows.
 use sem_chart::Range;
 use sem_draw::OutOfMemory;
 use std::alloc::Global;
@@ -6,8 +6,8 @@ use std::alloc::Global;
 /// The most entries of a page, each with a forest.
 pub const MOST_ENTRIES: u64 = 400;
 
-/// The entries that are asked for, of so many, or why there is no page of them. Where no last one is
-/// named it is the last one that the page has room for.
+/// The requested entries, out of that many, or why there is no page of them. If no last one is
+/// named, it is the last one that the page has room for.
 pub fn page_range(
     alloc: Global,
     entries: usize,

@@ -26,9 +26,9 @@ for (const change of changes) {
   forests.push(keys);
 }
 
-// Which entries belong together: the other end of a message, and the call and its reply. A link brings
-// messages in the order in which they were sent. A message that was sent before the first entry shown
-// has no other end here.
+// Which entries belong together: the other end of a message, and the call and its reply. A link
+// brings messages in the order in which they were sent. A message that was sent before the first
+// entry shown has no other end here.
 const other = new Array(entries.length).fill(null), calls = new Array(entries.length).fill(null);
 const sent = new Map(), fetched = new Map(), made = new Map();
 const early = new Map(Object.entries(about.early));
@@ -69,8 +69,8 @@ entries.forEach((entry, at) => {
 const keysOf = line => line.match(/\b\d+\.\d+\.\d+\.\d+\b/g) || [];
 const mentions = told.map(line => new Set(keysOf(line)));
 
-// The entries that the chosen one lights up: where its message was sent, taken and handled; its call,
-// or all that serve it and its reply.
+// The entries that the chosen one lights up: where its message was sent, taken and handled; its
+// call, or all that serve it and its reply.
 function together(at) {
   const found = new Set();
   const ends = it => {

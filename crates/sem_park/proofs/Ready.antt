@@ -38,7 +38,8 @@ not-ready k (Some (Ready code)) is = refl
 not-ready k None is = refl
 
 -- what was promised to the call of the key's VPE, as it was read
-module _ (states : List (Option Parked)) (k : KeyName) (place : ℕ) (at : place ≡ k.vpe) (within : k.vpe < length states) (read : Option Parked) (promise : Option ℕ) (is : promise ≡ promised_to k (get_or states place read)) where
+module _ (states : List (Option Parked)) (k : KeyName) (place : ℕ) (at : place ≡ k.vpe) (within : k.vpe < length states) (read : Option Parked)
+    (promise : Option ℕ) (is : promise ≡ promised_to k (get_or states place read)) where
   promised : promise ≡ promised_to k (state_of states k.vpe)
   promised = is ∙ (ap (λ n. promised_to k (get_or states n read)) at ∙ ap (promised_to k) (get_or_default states k.vpe read None within))
 

@@ -1,4 +1,4 @@
-//! The calls of VPEs that wait in a kernel, one for each VPE at most.
+//! The calls of VPEs that wait in a kernel, at most one for each VPE.
 #![tactic(auto)]
 
 mod park;

@@ -6,7 +6,7 @@ use sem_key::{Key, VPES, same_key};
 use sem_msg::Parked;
 use std::marker::Model;
 
-/// For each VPE, 0 to 127, the state in which its call waits, if it has one.
+/// For each VPE, 0 to 127, the state in which its call waits, if one does.
 #[derive(Clone, Copy, Debug)]
 pub struct Park {
     states: [Option<Parked>; VPES as usize],
@@ -27,7 +27,7 @@ impl Model for Park {
 }
 
 impl Park {
-    /// No call of any VPE waits.
+    /// No call waits.
     pub fn new() -> Self
         ensures none { result ≡ replicate VPES None }
         ensures park { IsPark result }
@@ -37,7 +37,8 @@ impl Park {
         }
     }
 
-    /// The state in which the call of the VPE waits; none where it has no such call. The VPE is 0 to 127.
+    /// The state in which the call of the VPE waits; none if no call of it waits. The VPE must be 0
+    /// to 127.
     pub fn state(&self, vpe: u16) -> Option<Parked>
         requires { vpe < VPES }
         ensures state { result ≡ state_of self.now vpe }
@@ -47,7 +48,8 @@ impl Park {
         self.states[place]
     }
 
-    /// Lets the call of the VPE wait in that state, in place of the one before. The VPE is 0 to 127.
+    /// Lets the call of the VPE wait in that state, in place of an earlier one. The VPE must be 0
+    /// to 127.
     pub fn park(&mut self, vpe: u16, state: Parked)
         requires { vpe < VPES }
         ensures states { self.new ≡ parked_as self.old vpe state }
@@ -56,7 +58,7 @@ impl Park {
         self.states[usize::from(vpe)] = Some(state);
     }
 
-    /// No call of the VPE waits any more. The VPE is 0 to 127.
+    /// No call of the VPE waits any more. The VPE must be 0 to 127.
     pub fn clear(&mut self, vpe: u16)
         requires { vpe < VPES }
         ensures states { self.new ≡ unparked self.old vpe }
@@ -65,8 +67,8 @@ impl Park {
         self.states[usize::from(vpe)] = None;
     }
 
-    /// Cancels the call that is about to install the key, and gives the selector that was promised to it; none where the
-    /// VPE of the key has no such call. Nothing changes then.
+    /// Cancels the call that is about to install the key, and returns the selector that was
+    /// promised to it. If the VPE of the key has no such call, returns none and changes nothing.
     pub fn cancel(&mut self, key: Key) -> Option<u8>
         ensures selector { result ≡ promised_to key (state_of self.old key.vpe) }
         ensures states { self.new ≡ cancelled self.old key }

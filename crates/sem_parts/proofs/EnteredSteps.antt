@@ -21,7 +21,8 @@ use Rattle.sem_parts.proofs.LocalRuns.{runs-next, next-made, next-side}
 module _ (T : Setup) (f : FabricValue) (is : FabricAgrees T f) (i : ℕ) (here : i < f.kernels) (s : Side) (runs : RunsTo T i (part f.journal i) s) where
   -- the runs, where the journal has the kernel's next entry more
   has-entered : (a : Act) (input : Option Message) (g : FabricValue) → IsHanded a input → is_locally_enabled T i s a ≡ true
-      → FabricAgrees T g → g.journal ≡ f.journal ++ local_entry T i s a input ∷ [] → HasEntered T i (local_entry T i s a input) (local_step T i s a input).side f g
+      → FabricAgrees T g → g.journal ≡ f.journal ++ local_entry T i s a input ∷ [] →
+      HasEntered T i (local_entry T i s a input) (local_step T i s a input).side f g
   unfolding local_entry
   has-entered a input g handed enabled agrees journal =
       let e : Entry = local_entry T i s a input in
@@ -37,7 +38,8 @@ module _ (T : Setup) (f : FabricValue) (is : FabricAgrees T f) (i : ℕ) (here :
   pub own-entered : (a : Act) → IsOwnAct a → is_locally_enabled T i s a ≡ true
       → HasEntered T i (local_entry T i s a None) (local_step T i s a None).side f (entered (local_entry T i s a None) f)
   unfolding local_entry
-  own-entered a own enabled = has-entered a None (entered (local_entry T i s a None) f) (handed a own) enabled (agrees-own T f is (local_entry T i s a None) here own) refl
+  own-entered a own enabled = has-entered a None (entered (local_entry T i s a None) f) (handed a own) enabled
+      (agrees-own T f is (local_entry T i s a None) here own) refl
     where
       handed : (b : Act) → IsOwnAct b → IsHanded b None
       handed (Calls v) ok = refl
@@ -49,24 +51,29 @@ module _ (T : Setup) (f : FabricValue) (is : FabricAgrees T f) (i : ℕ) (here :
       handed (Kill v) ok = absurd ok
 
   pub fetch-entered : (j : ℕ) (m : Message) → is_locally_enabled T i s (Fetch j) ≡ true → slice_get (link_in f.links j i) 0 ≡ Some m
-      → HasEntered T i (local_entry T i s (Fetch j) (Some m)) (local_step T i s (Fetch j) (Some m)).side f (entered (local_entry T i s (Fetch j) (Some m)) (relinked j i (drop 1 (link_in f.links j i)) f))
+      → HasEntered T i (local_entry T i s (Fetch j) (Some m)) (local_step T i s (Fetch j) (Some m)).side f
+      (entered (local_entry T i s (Fetch j) (Some m)) (relinked j i (drop 1 (link_in f.links j i)) f))
   unfolding local_entry
   fetch-entered j m enabled first =
       let e : Entry = local_entry T i s (Fetch j) (Some m) in
-      has-entered (Fetch j) (Some m) (entered e (relinked j i (drop 1 (link_in f.links j i)) f)) refl enabled (agrees-fetch T f is e here j m refl refl first) refl
+      has-entered (Fetch j) (Some m) (entered e (relinked j i (drop 1 (link_in f.links j i)) f)) refl enabled (agrees-fetch T f is e here j m refl refl first)
+      refl
 
   pub flush-entered : (j : ℕ) (m : Message) → is_locally_enabled T i s (Flush j) ≡ true → (local_entry T i s (Flush j) None).detail ≡ Carried j m
       → length (link_in f.links i j) < f.window
-      → HasEntered T i (local_entry T i s (Flush j) None) (local_step T i s (Flush j) None).side f (entered (local_entry T i s (Flush j) None) (relinked i j (link_in f.links i j ++ m ∷ []) f))
+      → HasEntered T i (local_entry T i s (Flush j) None) (local_step T i s (Flush j) None).side f
+      (entered (local_entry T i s (Flush j) None) (relinked i j (link_in f.links i j ++ m ∷ []) f))
   unfolding local_entry
   flush-entered j m enabled carried room =
       let e : Entry = local_entry T i s (Flush j) None in
-      has-entered (Flush j) None (entered e (relinked i j (link_in f.links i j ++ m ∷ []) f)) refl enabled (agrees-flush T f is e here j m refl carried room) refl
+      has-entered (Flush j) None (entered e (relinked i j (link_in f.links i j ++ m ∷ []) f)) refl enabled (agrees-flush T f is e here j m refl carried room)
+      refl
 
   pub kill-entered : (v : ℕ) → is_locally_enabled T i s (Kill v) ≡ true → is_due T (length (replies f.journal)) v ≡ true
       → HasEntered T i (local_entry T i s (Kill v) None) (local_step T i s (Kill v) None).side f (entered (local_entry T i s (Kill v) None) f)
   unfolding local_entry
-  kill-entered v enabled due = has-entered (Kill v) None (entered (local_entry T i s (Kill v) None) f) refl enabled (agrees-kill T f is (local_entry T i s (Kill v) None) here v refl due) refl
+  kill-entered v enabled due = has-entered (Kill v) None (entered (local_entry T i s (Kill v) None) f) refl enabled
+      (agrees-kill T f is (local_entry T i s (Kill v) None) here v refl due) refl
 
 -- The entry of a flush carries the front of the outbox.
 pub flush-carries : (T : Setup) (i : ℕ) (s : Side) (j : ℕ) → is_locally_enabled T i s (Flush j) ≡ true

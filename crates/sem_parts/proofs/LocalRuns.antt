@@ -20,15 +20,18 @@ module _ (T : Setup) (i : ℕ) where
   run-snoc s [] e = refl
   run-snoc s (x ∷ xs) e = run-snoc (side_after s x) xs e
 
-  pub IsLocalRun-snoc : (s : Side) (L : List Entry) (e : Entry) → IsLocalRunFrom T i s L → IsNext T i (local_run_from T i s L) e → IsLocalRunFrom T i s (L ++ e ∷ [])
+  pub IsLocalRun-snoc : (s : Side) (L : List Entry) (e : Entry) → IsLocalRunFrom T i s L → IsNext T i (local_run_from T i s L) e →
+      IsLocalRunFrom T i s (L ++ e ∷ [])
   unfolding IsLocalRunFrom
   IsLocalRun-snoc s [] e runs next = (next.enabled, next.brings, next.made, tt)
   IsLocalRun-snoc s (x ∷ xs) e (enabled, brings, made, rest) next = (enabled, brings, made, IsLocalRun-snoc (side_after s x) xs e rest next)
 
-  pub IsLocalRun-parts : (s : Side) (L : List Entry) (e : Entry) → IsLocalRunFrom T i s (L ++ e ∷ []) → IsLocalRunFrom T i s L × IsNext T i (local_run_from T i s L) e
+  pub IsLocalRun-parts : (s : Side) (L : List Entry) (e : Entry) → IsLocalRunFrom T i s (L ++ e ∷ []) →
+      IsLocalRunFrom T i s L × IsNext T i (local_run_from T i s L) e
   unfolding IsLocalRunFrom
   IsLocalRun-parts s [] e (enabled, brings, made, rest) = (tt, record { enabled = enabled; brings = brings; made = made })
-  IsLocalRun-parts s (x ∷ xs) e (enabled, brings, made, rest) = let inner = IsLocalRun-parts (side_after s x) xs e rest in ((enabled, brings, made, inner.0), inner.1)
+  IsLocalRun-parts s (x ∷ xs) e (enabled, brings, made, rest) = let inner = IsLocalRun-parts (side_after s x) xs e rest in
+      ((enabled, brings, made, inner.0), inner.1)
 
   pub runs-start : RunsTo T i [] (start_side T i)
   unfolding IsLocalRunFrom
@@ -74,10 +77,12 @@ module _ (T : Setup) (i : ℕ) (s : Side) where
   brings-input (Kill v) input is = tt
 
   -- what a kernel makes by an act that is locally enabled is what it makes next
-  pub next-made : (a : Act) (input : Option Message) (e : Entry) → IsHanded a input → is_locally_enabled T i s a ≡ true → e ≡ local_entry T i s a input → IsNext T i s e
+  pub next-made : (a : Act) (input : Option Message) (e : Entry) → IsHanded a input → is_locally_enabled T i s a ≡ true → e ≡ local_entry T i s a input →
+      IsNext T i s e
   next-made a input e is enabled made =
       let act : e.event.act ≡ a = ap (λ (x : Entry). x.event.act) made ∙ ap (λ x. x.act) (entry-event a input) in
-      let carried : carried_in e.event.act e.detail ≡ input = ap (λ b. carried_in b e.detail) act ∙ (ap (λ (x : Entry). carried_in a x.detail) made ∙ entry-input a input is) in
+      let carried : carried_in e.event.act e.detail ≡ input = ap (λ b. carried_in b e.detail) act
+      ∙ (ap (λ (x : Entry). carried_in a x.detail) made ∙ entry-input a input is) in
       record {
         enabled = subst (λ b. is_locally_enabled T i s b ≡ true) (sym act) enabled;
         brings = subst (λ (x : Act × Option Message). BringsMessage x.0 x.1) (λ k. (sym act k, sym carried k)) (brings-input a input is);
@@ -85,13 +90,17 @@ module _ (T : Setup) (i : ℕ) (s : Side) where
       }
 
   -- and the side after it is that after the step
-  pub next-side : (a : Act) (input : Option Message) (e : Entry) → IsHanded a input → e ≡ local_entry T i s a input → side_after T i s e ≡ (local_step T i s a input).side
+  pub next-side : (a : Act) (input : Option Message) (e : Entry) → IsHanded a input → e ≡ local_entry T i s a input →
+      side_after T i s e ≡ (local_step T i s a input).side
   next-side a input e is made =
       let act : e.event.act ≡ a = ap (λ (x : Entry). x.event.act) made ∙ ap (λ x. x.act) (entry-event a input) in
-      let carried : carried_in e.event.act e.detail ≡ input = ap (λ b. carried_in b e.detail) act ∙ (ap (λ (x : Entry). carried_in a x.detail) made ∙ entry-input a input is) in
+      let carried : carried_in e.event.act e.detail ≡ input = ap (λ b. carried_in b e.detail) act
+      ∙ (ap (λ (x : Entry). carried_in a x.detail) made ∙ entry-input a input is) in
       λ k. (local_step T i s (act k) (carried k)).side
 
 -- The run of a kernel goes on by its step.
 pub runs-step : (T : Setup) (i : ℕ) (L : List Entry) (s : Side) (a : Act) (input : Option Message) → RunsTo T i L s → IsHanded a input
     → is_locally_enabled T i s a ≡ true → RunsTo T i (L ++ local_entry T i s a input ∷ []) (local_step T i s a input).side
-runs-step T i L s a input is handed enabled = subst (RunsTo T i (L ++ local_entry T i s a input ∷ [])) (next-side T i s a input (local_entry T i s a input) handed refl) (runs-next T i L s (local_entry T i s a input) is (next-made T i s a input (local_entry T i s a input) handed enabled refl))
+runs-step T i L s a input is handed enabled =
+    subst (RunsTo T i (L ++ local_entry T i s a input ∷ [])) (next-side T i s a input (local_entry T i s a input) handed refl)
+    (runs-next T i L s (local_entry T i s a input) is (next-made T i s a input (local_entry T i s a input) handed enabled refl))

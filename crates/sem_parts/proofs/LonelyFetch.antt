@@ -1,5 +1,6 @@
 -- A fetch that brings nothing.
-use Rattle.std.proofs.Common.{◌≡◌, ℕ, zero, suc, true, false, cond, List, [], replicate, get_or, ◌∷◌, ◌++◌, Option, None, Some, refl, sym, ◌∙◌, ap, subst, inl, arith}
+use Rattle.std.proofs.Common.{◌≡◌, ℕ, zero, suc, true, false, cond, List, [], replicate, get_or, ◌∷◌, ◌++◌, Option, None, Some, refl, sym, ◌∙◌, ap, subst, inl}
+use Rattle.std.proofs.Common.{arith}
 use Rattle.std.specs.Prelude.{◌==◌, IsSome}
 use Rattle.std.proofs.lemmas.Bool.{false≢true}
 use Rattle.sem_msg.specs.declared.message.Message.{Message}
@@ -22,7 +23,11 @@ idle_fetch = local_entry lonely 0 (start_side lonely 0) (Fetch 1) None
 pub idle-agrees : Agrees lonely (idle_fetch ∷ [])
 unfolding local_entry
 idle-agrees = agrees-snoc lonely [] idle_fetch (agrees-none lonely)
-    (λ i j. record { rest = []; begins = flushed-snoc [] idle_fetch i j ∙ sym (ap (λ l. l ++ []) (fetched-snoc [] idle_fetch i j ∙ taken i j)); few = omega arith })
+    (λ i j. record {
+      rest = [];
+      begins = flushed-snoc [] idle_fetch i j ∙ sym (ap (λ l. l ++ []) (fetched-snoc [] idle_fetch i j ∙ taken i j));
+      few = omega arith;
+    })
     (not-kill lonely [] idle_fetch (λ v same. absurd cc))
   where
     taken : (i j : ℕ) → takes 0 (Fetch 1) Nothing i j ≡ []
@@ -51,7 +56,13 @@ lonely-valid = record {
   windowed = (omega arith, omega arith);
   some_kernel = omega arith;
   few_kernels = omega arith;
-  membership = record { some_kernel = omega arith; few_kernels = omega arith; all_pes = refl; owners_exist = λ pe kernel owned. let none : None ≡ Some kernel = sym (no_owner 128 pe) ∙ owned in absurd cc };
+  membership = record {
+    some_kernel = omega arith;
+    few_kernels = omega arith;
+    all_pes = refl;
+    owners_exist = λ pe kernel owned. let none : None ≡ Some kernel =
+        sym (no_owner 128 pe) ∙ owned in absurd cc;
+  };
   same_kernels = refl;
   owned_pes = λ pe owned. absurd (false≢true (subst IsSome (no_owner 128 pe) owned));
   vpes = λ k d lt. absurd (omega arith);

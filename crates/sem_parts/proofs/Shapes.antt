@@ -1,5 +1,6 @@
 -- After a schedule there is a side for each kernel and a link for each pair; so the world is told by what is read off it.
-use Rattle.std.proofs.Common.{◌≡◌, ℕ, ◌<◌, ◌&&◌, Bool, true, List, [], ◌∷◌, ◌++◌, length, drop, map, replicate, get_or, set, slice_get, Option, None, Some, is_some, is_none, refl, sym, ◌∙◌, ap, subst, inl, inr, arith, length-set}
+use Rattle.std.proofs.Common.{◌≡◌, ℕ, ◌<◌, ◌&&◌, Bool, true, List, [], ◌∷◌, ◌++◌, length, drop, map, replicate, get_or, set, slice_get, Option, None, Some}
+use Rattle.std.proofs.Common.{is_some, is_none, refl, sym, ◌∙◌, ap, subst, inl, inr, arith, length-set}
 use Rattle.std.specs.Prelude.{nat_lt, not, ◌==◌}
 use Rattle.std.specs.List.{range_with_len}
 use Rattle.std.specs.Option.{option_map_or}
@@ -13,7 +14,8 @@ use Rattle.sem_msg.specs.declared.entry.Entry.{Entry}
 use Rattle.sem_msg.specs.Setup.{Setup}
 use Rattle.sem_msg.specs.Journal.{part, replies, fetched}
 use Rattle.sem_machine.specs.Sides.{Side, no_side, outbox}
-use Rattle.sem_machine.specs.Machine.{World, start, start_side, side, link, after, event, with_side, is_enabled, is_locally_enabled, is_allowed, is_other_kernel, local_step, input_of}
+use Rattle.sem_machine.specs.Machine.{World, start, start_side, side, link, after, event, with_side, is_enabled, is_locally_enabled, is_allowed}
+use Rattle.sem_machine.specs.Machine.{is_other_kernel, local_step, input_of}
 use Rattle.sem_machine.specs.Schedules.{IsSchedule, world_after}
 use Rattle.sem_key.proofs.Puts.{length-put}
 use Rattle.sem_safety.proofs.GoingOn.{moved-sides, entry-enabled}
@@ -64,9 +66,15 @@ module _ (T : Setup) where
       by_act (Fetch j) here ok = square-put T.kernels W.links j i (drop 1 (link W j i)) is.square (other-kernel i j (is_none (side W i).inbox) ok) here
       by_act (Flush j) here ok = by_front (slice_get (outbox (side W i) j) 0)
         where
-          by_front : (o : Option Message) → IsSquare T.kernels (option_map_or (λ m. record (with_side i (local_step T i (side W i) (Flush j) None).side W) { links = link_put i j (link W i j ++ m ∷ []) W.links }) o (with_side i (local_step T i (side W i) (Flush j) None).side W)).links
+          by_front : (o : Option Message) →
+              IsSquare T.kernels
+              (option_map_or (λ m. record (with_side i (local_step T i (side W i) (Flush j) None).side W) {
+                links =
+                    link_put i j (link W i j ++ m ∷ []) W.links;
+              }) o (with_side i (local_step T i (side W i) (Flush j) None).side W)).links
           by_front None = is.square
-          by_front (Some m) = square-put T.kernels W.links i j (link W i j ++ m ∷ []) is.square here (other-kernel i j (is_some (slice_get (outbox (side W i) j) 0)) ok)
+          by_front (Some m) =
+              square-put T.kernels W.links i j (link W i j ++ m ∷ []) is.square here (other-kernel i j (is_some (slice_get (outbox (side W i) j) 0)) ok)
 
   pub schedule-shaped : (J : List Entry) → IsSchedule T J → IsShaped T (world_after T J)
   schedule-shaped J = snoc-induct (λ L. IsSchedule T L → IsShaped T (world_after T L)) (λ runs. shaped-start) (λ L e before runs.
@@ -85,7 +93,8 @@ module _ (T : Setup) where
         let W : World = world_after T f.journal in
         let stands = schedule-stands T f.journal stand-schedule in
         let shaped = schedule-shaped f.journal stand-schedule in
-        let same_sides : W.sides ≡ sides = same-list no_side T.kernels W.sides sides shaped.count is.count (λ i here. sym (stands.sides i here).side ∙ (is.runs i here).side) in
+        let same_sides : W.sides ≡ sides = same-list no_side T.kernels W.sides sides shaped.count is.count (λ i here. sym (stands.sides i here).side
+        ∙ (is.runs i here).side) in
         let same_links : W.links ≡ f.links = same-list [] T.kernels W.links f.links shaped.square.rows is.square.rows (λ i here.
         same-list [] T.kernels (get_or W.links i []) (get_or f.links i []) (shaped.square.each i here) (is.square.each i here) (λ j there.
         append_cancel_left (fetched f.journal i j) (link W i j) (link_in f.links i j) (sym (stands.fabric.linked i j) ∙ is.fabric.linked i j))) in
@@ -93,7 +102,8 @@ module _ (T : Setup) where
         λ k. record { sides = same_sides k; links = same_links k; replies = same_replies k }
 
     -- after a step of one kernel they stand at a schedule again
-    pub stand-next : (i : ℕ) (e : Entry) (t : Side) (g : FabricValue) → i < T.kernels → IsSquare T.kernels g.links → HasEntered T i e t f g → StandAt T (set sides i t) g
+    pub stand-next : (i : ℕ) (e : Entry) (t : Side) (g : FabricValue) → i < T.kernels → IsSquare T.kernels g.links → HasEntered T i e t f g →
+        StandAt T (set sides i t) g
     stand-next i e t g here square next =
         let count = is.count in
         let within : i < length sides = omega (arith, here, count) in
@@ -102,8 +112,10 @@ module _ (T : Setup) where
           square = square;
           fabric = next.fabric;
           runs = λ k inside. elim (cases_eq k i) [
-            | inl same ↦ subst (λ m. RunsTo T m (part g.journal m) (get_or (set sides i t) m no_side)) (sym same) (subst (RunsTo T i (part g.journal i)) (sym (get_or-set_same sides i t no_side within)) next.own)
-            | inr apart ↦ subst (RunsTo T k (part g.journal k)) (sym (get_or-set_other sides i k t no_side apart)) (subst (λ L. RunsTo T k L (get_or sides k no_side)) (sym (next.others k apart)) (is.runs k inside))
+            | inl same ↦ subst (λ m. RunsTo T m (part g.journal m) (get_or (set sides i t) m no_side)) (sym same)
+                (subst (RunsTo T i (part g.journal i)) (sym (get_or-set_same sides i t no_side within)) next.own)
+            | inr apart ↦ subst (RunsTo T k (part g.journal k)) (sym (get_or-set_other sides i k t no_side apart))
+                (subst (λ L. RunsTo T k L (get_or sides k no_side)) (sym (next.others k apart)) (is.runs k inside))
           ];
         }
 
@@ -112,11 +124,20 @@ module _ (T : Setup) where
       → IsSquare T.kernels g.links → HasEntered T i e t f g → world_with (set sides i t) g ≡ after T (world_with sides f) e.event
   stand-after sides f i e t g is here square next =
       let now = stand-next sides f is i e t g here square next in
-      sym (stand-world (set sides i t) g now) ∙ (ap (world_after T) next.journal ∙ (world-snoc T f.journal e ∙ ap (λ (W : World). after T W e.event) (stand-world sides f is)))
+      sym (stand-world (set sides i t) g now)
+      ∙ (ap (world_after T) next.journal ∙ (world-snoc T f.journal e ∙ ap (λ (W : World). after T W e.event) (stand-world sides f is)))
 
   -- The start and the world after a schedule.
 
-  pub stand-start : (places : List Bool) → StandAt T (map (start_side T) (range_with_len 0 T.kernels)) (record { kernels = T.kernels; window = T.window; kills = T.kills; journal = []; links = replicate T.kernels (replicate T.kernels []); places = places })
+  pub stand-start : (places : List Bool) →
+      StandAt T (map (start_side T) (range_with_len 0 T.kernels)) (record {
+        kernels = T.kernels;
+        window = T.window;
+        kills = T.kills;
+        journal = [];
+        links = replicate T.kernels (replicate T.kernels []);
+        places = places;
+      })
   unfolding start
   stand-start places = let stands = stands-start T in record {
     count = shaped-start.count;
@@ -125,7 +146,15 @@ module _ (T : Setup) where
     runs = stands.sides;
   }
 
-  pub schedule-stand : (J : List Entry) (places : List Bool) → IsSchedule T J → StandAt T (world_after T J).sides (record { kernels = T.kernels; window = T.window; kills = T.kills; journal = J; links = (world_after T J).links; places = places })
+  pub schedule-stand : (J : List Entry) (places : List Bool) → IsSchedule T J →
+      StandAt T (world_after T J).sides (record {
+        kernels = T.kernels;
+        window = T.window;
+        kills = T.kills;
+        journal = J;
+        links = (world_after T J).links;
+        places = places;
+      })
   schedule-stand J places runs =
       let stands = schedule-stands T J runs in
       let shaped = schedule-shaped J runs in

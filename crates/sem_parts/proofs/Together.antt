@@ -1,5 +1,6 @@
 -- A journal is a schedule exactly where its parts are runs of the kernels alone and agree.
-use Rattle.std.proofs.Common.{◌≡◌, ◌≢◌, ℕ, zero, suc, ◌+◌, ◌<◌, ◌≤◌, ◌&&◌, true, false, cond, List, [], ◌∷◌, ◌++◌, length, drop, replicate, get_or, slice_get, Option, None, Some, is_some, refl, sym, ◌∙◌, ap, subst, inl, inr, arith, append-nil, append_assoc, eq-eqb, ◌⊎◌}
+use Rattle.std.proofs.Common.{◌≡◌, ◌≢◌, ℕ, zero, suc, ◌+◌, ◌<◌, ◌≤◌, ◌&&◌, true, false, cond, List, [], ◌∷◌, ◌++◌, length, drop, replicate, get_or, slice_get}
+use Rattle.std.proofs.Common.{Option, None, Some, is_some, refl, sym, ◌∙◌, ap, subst, inl, inr, arith, append-nil, append_assoc, eq-eqb, ◌⊎◌}
 use Rattle.std.specs.Prelude.{◌==◌, nat_lt, nat_le, IfSome, IsSome}
 use Rattle.std.specs.List.{All, cons_option}
 use Rattle.std.specs.Option.{option_map, option_map_or}
@@ -17,7 +18,8 @@ use Rattle.sem_msg.specs.Setup.{Setup}
 use Rattle.sem_msg.specs.Lookups.{kernel_of}
 use Rattle.sem_msg.specs.Journal.{part, replies, message_in, fetched, kill_number, Agrees}
 use Rattle.sem_machine.specs.Sides.{Side, no_side, outbox, is_alive}
-use Rattle.sem_machine.specs.Machine.{World, start, start_side, side, link, after, entry_of, event, with_side, is_enabled, is_locally_enabled, is_allowed, is_other_kernel, local_step, local_entry, input_of, replied_vpe, link_moved, with_link}
+use Rattle.sem_machine.specs.Machine.{World, start, start_side, side, link, after, entry_of, event, with_side, is_enabled, is_locally_enabled, is_allowed}
+use Rattle.sem_machine.specs.Machine.{is_other_kernel, local_step, local_entry, input_of, replied_vpe, link_moved, with_link}
 use Rattle.sem_machine.specs.Schedules.{IsRun, IsSchedule, run, world_after, carried_in, BringsMessage, IsLocalRun}
 use Rattle.sem_key.proofs.Members.{Contains-head}
 use Rattle.sem_key.proofs.Puts.{get_or-put_same, get_or-put_other}
@@ -111,7 +113,8 @@ module _ (T : Setup) (W : World) (J : List Entry) (is : Stands T J W) where
       let (m, at, taken) = front (link W j i) allowed in
       let before = few j i in
       let long : length (link W j i) ≡ length (drop 1 (link W j i)) + 1 = ap length at ∙ omega arith in (
-        moved-fetch (entry_of T W (event i (Fetch j))) W.links i j m (ap (λ (o : Option Message). option_map_or (λ x. Carried j x) o Nothing) taken) (drop 1 (link W j i)) refl at,
+        moved-fetch (entry_of T W (event i (Fetch j))) W.links i j m (ap (λ (o : Option Message). option_map_or (λ x. Carried j x) o Nothing) taken)
+            (drop 1 (link W j i)) refl at,
         few-put T.window W.links j i (drop 1 (link W j i)) few (omega (arith, before, long)),
       )
   links-next i (Flush j) enabled allowed =
@@ -119,21 +122,27 @@ module _ (T : Setup) (W : World) (J : List Entry) (is : Stands T J W) where
       let room = ltb-true (length (link W i j)) T.window allowed in
       let long = length_push (link W i j) m in
       let now : (after T W (event i (Flush j))).links ≡ link_put i j (link W i j ++ m ∷ []) W.links = flushed-to (slice_get (outbox (side W i) j) 0) m taken in
-      subst (λ (links : List (List (List Message))). IsMoved (entry_of T W (event i (Flush j))) W.links links × ((x y : ℕ) → length (link_in links x y) ≤ T.window)) (sym now) (
+      subst (λ (links : List (List (List Message))). IsMoved (entry_of T W (event i (Flush j))) W.links links
+      × ((x y : ℕ) → length (link_in links x y) ≤ T.window)) (sym now) (
         moved-flush (entry_of T W (event i (Flush j))) W.links i j m (ap (λ (o : Option Message). option_map_or (λ x. Carried j x) o Nothing) taken) refl,
         few-put T.window W.links i j (link W i j ++ m ∷ []) few (omega (arith, room, long)),
       )
     where
       flushed-to : (o : Option Message) (m : Message) → o ≡ Some m
-          → (option_map_or (λ x. record (with_side i (local_step T i (side W i) (Flush j) None).side W) { links = link_put i j (link W i j ++ x ∷ []) W.links }) o (with_side i (local_step T i (side W i) (Flush j) None).side W)).links ≡ link_put i j (link W i j ++ m ∷ []) W.links
-      flushed-to o m is_some_m = subst (λ (p : Option Message). (option_map_or (λ x. record (with_side i (local_step T i (side W i) (Flush j) None).side W) { links = link_put i j (link W i j ++ x ∷ []) W.links }) p (with_side i (local_step T i (side W i) (Flush j) None).side W)).links ≡ link_put i j (link W i j ++ m ∷ []) W.links) (sym is_some_m) refl
+          → (option_map_or (λ x. record (with_side i (local_step T i (side W i) (Flush j) None).side W) { links = link_put i j (link W i j ++ x ∷ []) W.links })
+          o (with_side i (local_step T i (side W i) (Flush j) None).side W)).links ≡ link_put i j (link W i j ++ m ∷ []) W.links
+      flushed-to o m is_some_m =
+          subst (λ (p : Option Message).
+          (option_map_or (λ x. record (with_side i (local_step T i (side W i) (Flush j) None).side W) { links = link_put i j (link W i j ++ x ∷ []) W.links }) p
+          (with_side i (local_step T i (side W i) (Flush j) None).side W)).links ≡ link_put i j (link W i j ++ m ∷ []) W.links) (sym is_some_m) refl
 
   due-next : (i : ℕ) (a : Act) → is_allowed T W i a ≡ true → IsDue T J (entry_of T W (event i a))
   unfolding entry_of local_entry
   due-next i (Kill v) allowed w same =
       let vpe : v ≡ w = cc in
       let counted = is.replies in
-      subst (λ x. IfSome (kill_number T x) (λ k. k ≤ length (replies J))) vpe (subst (λ n. IfSome (kill_number T v) (λ k. k ≤ n)) counted (due-if W.replies (kill_number T v) allowed))
+      subst (λ x. IfSome (kill_number T x) (λ k. k ≤ length (replies J))) vpe
+      (subst (λ n. IfSome (kill_number T v) (λ k. k ≤ n)) counted (due-if W.replies (kill_number T v) allowed))
   due-next i (Calls v) allowed w same = absurd cc
   due-next i Handle allowed w same = absurd cc
   due-next i (Upcall v) allowed w same = absurd cc
@@ -159,7 +168,8 @@ module _ (T : Setup) (W : World) (J : List Entry) (is : Stands T J W) where
   replies-next : (i : ℕ) (a : Act) → (after T W (event i a)).replies ≡ length (replies (J ++ entry_of T W (event i a) ∷ []))
   unfolding after entry_of local_entry
   replies-next i a =
-      counted (replies-moved i (side W i) a (with_side i (local_step T i (side W i) a (input_of W i a)).side W) ∙ is.replies) (local_step T i (side W i) a (input_of W i a)).outcome.reply
+      counted (replies-moved i (side W i) a (with_side i (local_step T i (side W i) a (input_of W i a)).side W)
+      ∙ is.replies) (local_step T i (side W i) a (input_of W i a)).outcome.reply
       ∙ sym (ap length (filter_map-append (λ (x : Entry). x.reply) J (entry_of T W (event i a) ∷ [])))
     where
       counted : {n : ℕ} → n ≡ length (replies J) → (o : Option ℕ)
@@ -198,7 +208,8 @@ module _ (T : Setup) (W : World) (J : List Entry) (is : Stands T J W) where
       let (moved, short) = links-next i a local' allowed in
       let input = input-is i a allowed in
       record {
-        fabric = agree-entered T T.kernels T.window T.kills J W.links is.fabric e (after T W (event i a)).links moved (subst (λ k. k < T.kernels) (sym (ap (λ x. x.kernel) at)) here) short (due-next i a allowed);
+        fabric = agree-entered T T.kernels T.window T.kills J W.links is.fabric e (after T W (event i a)).links moved
+            (subst (λ k. k < T.kernels) (sym (ap (λ x. x.kernel) at)) here) short (due-next i a allowed);
         replies = replies-next i a;
         sides = λ j inside. elim (cases_eq j i) [
           | inl same ↦ subst (λ k. RunsTo T k (part (J ++ e ∷ []) k) (side (after T W (event i a)) k)) (sym same)
@@ -206,7 +217,8 @@ module _ (T : Setup) (W : World) (J : List Entry) (is : Stands T J W) where
               (subst (λ L. RunsTo T i L (local_step T i (side W i) a (input_of W i a)).side) (sym (part-own J e i (ap (λ x. x.kernel) at)))
               (subst (RunsTo T i (part J i ++ e ∷ [])) (next-side T i (side W i) a (input_of W i a) e input (made-so i a))
               (runs-next T i (part J i) (side W i) e (is.sides i here) (next-made T i (side W i) a (input_of W i a) e input local' (made-so i a))))))
-          | inr apart ↦ subst (RunsTo T j (part (J ++ e ∷ []) j)) (sym (side-other i j a apart)) (subst (λ L. RunsTo T j L (side W j)) (sym (part-other J e j (λ same. apart (sym same ∙ ap (λ x. x.kernel) at)))) (is.sides j inside))
+          | inr apart ↦ subst (RunsTo T j (part (J ++ e ∷ []) j)) (sym (side-other i j a apart))
+              (subst (λ L. RunsTo T j L (side W j)) (sym (part-other J e j (λ same. apart (sym same ∙ ap (λ x. x.kernel) at)))) (is.sides j inside))
         ];
       }
 
@@ -217,7 +229,8 @@ module _ (T : Setup) (W : World) (J : List Entry) (is : Stands T J W) where
 
   -- what the links say of an entry that agrees
   leads-so : (e : Entry) → Agrees T (J ++ e ∷ []) → (i j : ℕ)
-      → (rest : List Message) × (link W i j ++ sends e.event.kernel e.event.act e.detail i j ≡ takes e.event.kernel e.event.act e.detail i j ++ rest) × (length rest ≤ T.window)
+      → (rest : List Message) × (link W i j ++ sends e.event.kernel e.event.act e.detail i j ≡ takes e.event.kernel e.event.act e.detail i j ++ rest)
+      × (length rest ≤ T.window)
   leads-so e agrees i j =
       let lead = agrees-whole T (J ++ e ∷ []) agrees i j in
       let sent = sends e.event.kernel e.event.act e.detail i j in
@@ -246,18 +259,21 @@ module _ (T : Setup) (W : World) (J : List Entry) (is : Stands T J W) where
   allowed-so i (Upcall v) d enabled brings flushes leads due = (refl, refl)
   allowed-so i (Resume v) d enabled brings flushes leads due = (refl, refl)
   allowed-so i (Kill v) d enabled brings flushes leads due =
-      let some = (and_parts (is_alive (side W i) v) (is_some (kill_number T v)) (and_parts (kernel_of T v == i) (is_alive (side W i) v && is_some (kill_number T v)) enabled).1).1 in
+      let some = (and_parts (is_alive (side W i) v) (is_some (kill_number T v))
+      (and_parts (kernel_of T v == i) (is_alive (side W i) v && is_some (kill_number T v)) enabled).1).1 in
       (due-from W.replies (kill_number T v) some (subst (λ n. IfSome (kill_number T v) (λ k. k ≤ n)) (sym is.replies) (due v refl)), refl)
   allowed-so i (Flush j) d enabled brings flushes leads due =
       let (m, carried) = flushes j refl in
       let (rest, moved, short) = leads i j in
-      let one : cond (j == j) (cond (i == i) (message_in d) []) [] ≡ m ∷ [] = cond-true (j == j) (cond (i == i) (message_in d) []) [] (eq-eqb j j refl) ∙ (cond-true (i == i) (message_in d) [] (eq-eqb i i refl) ∙ ap message_in carried) in
+      let one : cond (j == j) (cond (i == i) (message_in d) []) [] ≡ m ∷ [] = cond-true (j == j) (cond (i == i) (message_in d) []) [] (eq-eqb j j refl)
+      ∙ (cond-true (i == i) (message_in d) [] (eq-eqb i i refl) ∙ ap message_in carried) in
       let same : link W i j ++ m ∷ [] ≡ rest = ap (λ l. link W i j ++ l) (sym one) ∙ moved in
       let long : length (link W i j) + 1 ≡ length rest = sym (length_push (link W i j) m) ∙ ap length same in
       (lt-ltb (length (link W i j)) T.window (omega (arith, long, short)), refl)
   allowed-so i (Fetch j) (Carried peer m) enabled brings flushes leads due =
       let (rest, moved, short) = leads j i in
-      let one : cond (j == j) (cond (i == i) (m ∷ []) []) [] ≡ m ∷ [] = cond-true (j == j) (cond (i == i) (m ∷ []) []) [] (eq-eqb j j refl) ∙ cond-true (i == i) (m ∷ []) [] (eq-eqb i i refl) in
+      let one : cond (j == j) (cond (i == i) (m ∷ []) []) [] ≡ m ∷ [] = cond-true (j == j) (cond (i == i) (m ∷ []) []) [] (eq-eqb j j refl)
+      ∙ cond-true (i == i) (m ∷ []) [] (eq-eqb i i refl) in
       let same : link W j i ≡ m ∷ rest = sym (append-nil (link W j i)) ∙ (moved ∙ ap (λ l. l ++ rest) one) in
       (ap (λ l. is_some (slice_get l 0)) same, sym (ap (λ l. slice_get l 0) same))
   allowed-so i (Fetch j) (Called index call) enabled brings flushes leads due = absurd brings
@@ -269,7 +285,8 @@ module _ (T : Setup) (W : World) (J : List Entry) (is : Stands T J W) where
   unfolding is_locally_enabled local_entry
   flush-carries i e next j act =
       let enabled : is_locally_enabled T i (side W i) (Flush j) ≡ true = subst (λ a. is_locally_enabled T i (side W i) a ≡ true) act next.enabled in
-      let made : e ≡ local_entry T i (side W i) (Flush j) (carried_in e.event.act e.detail) = subst (λ a. e ≡ local_entry T i (side W i) a (carried_in e.event.act e.detail)) act next.made in
+      let made : e ≡ local_entry T i (side W i) (Flush j) (carried_in e.event.act e.detail) =
+      subst (λ a. e ≡ local_entry T i (side W i) a (carried_in e.event.act e.detail)) act next.made in
       let (m, at, taken) = front (outbox (side W i) j) (and_parts (is_other_kernel T i j) (is_some (slice_get (outbox (side W i) j) 0)) enabled).1 in
       (m, ap (λ (x : Entry). x.detail) made ∙ ap (λ (o : Option Message). option_map_or (λ x. Carried j x) o Nothing) taken)
 
@@ -280,7 +297,8 @@ module _ (T : Setup) (W : World) (J : List Entry) (is : Stands T J W) where
       let i : ℕ = e.event.kernel in
       let a : Act = e.event.act in
       let (allowed, input) = allowed-so i a e.detail next.enabled next.brings (flush-carries i e next) (leads-so e agrees) (agrees-due T J e agrees) in (
-        and_from (nat_lt i T.kernels) (is_locally_enabled T i (side W i) a && is_allowed T W i a) (lt-ltb i T.kernels here) (and_from (is_locally_enabled T i (side W i) a) (is_allowed T W i a) next.enabled allowed),
+        and_from (nat_lt i T.kernels) (is_locally_enabled T i (side W i) a && is_allowed T W i a) (lt-ltb i T.kernels here)
+            (and_from (is_locally_enabled T i (side W i) a) (is_allowed T W i a) next.enabled allowed),
         next.made ∙ ap (local_entry T i (side W i) a) input,
       )
 
@@ -311,7 +329,8 @@ schedule-parts T J runs = let stands = schedule-stands T J runs in record {
 -- the parts without the last entry
 parts-front : (T : Setup) (J : List Entry) (e : Entry) → AreParts T (J ++ e ∷ []) → AreParts T J
 parts-front T J e is = record {
-  owned = subst (All (λ (x : Entry). x.event.kernel < T.kernels)) (take_at J (e ∷ []) (length J) refl) (All-take (λ (x : Entry). x.event.kernel < T.kernels) (length J) (J ++ e ∷ []) is.owned);
+  owned = subst (All (λ (x : Entry). x.event.kernel < T.kernels)) (take_at J (e ∷ []) (length J) refl)
+      (All-take (λ (x : Entry). x.event.kernel < T.kernels) (length J) (J ++ e ∷ []) is.owned);
   runs = λ i here. elim (cases_eq e.event.kernel i) [
     | inl same ↦ (IsLocalRun-parts T i (start_side T i) (part J i) e (subst (IsLocalRun T i) (part-own J e i same) (is.runs i here))).0
     | inr apart ↦ subst (IsLocalRun T i) (part-other J e i apart) (is.runs i here)
@@ -325,7 +344,8 @@ parts-schedule T J = snoc-induct (λ L. AreParts T L → IsSchedule T L) (λ is.
     let first = before (parts-front T L e is) in
     let stands = schedule-stands T L first in
     let i : ℕ = e.event.kernel in
-    let here : i < T.kernels = All-contains (λ (x : Entry). x.event.kernel < T.kernels) (L ++ e ∷ []) e is.owned (Contains-append_right L (e ∷ []) e (Contains-head e [])) in
+    let here : i < T.kernels = All-contains (λ (x : Entry). x.event.kernel < T.kernels) (L ++ e ∷ []) e is.owned
+    (Contains-append_right L (e ∷ []) e (Contains-head e [])) in
     let next = runs-before T i (part L i) (side (world_after T L) i) e (subst (IsLocalRun T i) (part-own L e i refl) (is.runs i here)) (stands.sides i here) in
     let (enabled, made) = next-enabled T (world_after T L) L stands e here next is.agrees in
     IsRun-snoc T (start T) L e first enabled made) J

@@ -1,6 +1,6 @@
 -- A setup of two kernels that have nothing to do.
 use Rattle.std.specs.Prelude.{[], None, replicate}
-use Rattle.sem_msg.specs.Setup.{Setup}
+use Rattle.sem_machine.specs.Prelude.{Setup}
 
 unfoldable pub lonely : Setup
 lonely = record {

@@ -1,16 +1,13 @@
 -- Kernels and a fabric that stand at a schedule, and what one step of a kernel leaves.
 use Rattle.std.specs.Prelude.{◌≡◌, ◌≢◌, ℕ, ◌<◌, Bool, List, [], ◌∷◌, ◌++◌, length, slice_index_or}
-use Rattle.sem_msg.specs.declared.message.Message.{Message}
-use Rattle.sem_msg.specs.declared.entry.Entry.{Entry}
-use Rattle.sem_msg.specs.Setup.{Setup}
-use Rattle.sem_msg.specs.Journal.{part, replies}
-use Rattle.sem_msg.specs.Fabric.{FabricValue, FabricAgrees, IsSquare}
-use Rattle.sem_machine.specs.Sides.{Side, no_side}
-use Rattle.sem_machine.specs.Machine.{World}
+use Rattle.sem_machine.specs.Prelude.{Message, Entry, Setup, part, replies, FabricValue, Side, World}
+use Rattle.sem_msg.specs.Fabric.{FabricAgrees, IsSquare}
+use Rattle.sem_machine.specs.Sides.{no_side}
 use Rattle.sem_parts.specs.Parts.{RunsTo}
 
--- Kernel i made the entry e, and is at the side t: the fabric g has that entry more than f, and agrees with its journal; the part of
--- the kernel runs to t, and the parts of the others are as they were.
+-- Kernel i made the entry e, and is at the side t. The fabric g has that one entry more than f, and
+-- agrees with its journal. The part of the kernel runs to t, and the parts of the others are as
+-- they were.
 pub record HasEntered (T : Setup) (i : ℕ) (e : Entry) (t : Side) (f g : FabricValue) : Type 0 where
   pub fabric : FabricAgrees T g
   pub journal : g.journal ≡ f.journal ++ e ∷ []
@@ -28,11 +25,12 @@ fabric_with T J links places = record {
   places = places;
 }
 
--- the world that these sides and the fabric are
+-- the world of these sides and the fabric
 abbrev pub world_with : List Side → FabricValue → World
 world_with sides f = record { sides = sides; links = f.links; replies = length (replies f.journal) }
 
--- the sides are those of all kernels of the setup, in order; the part of each runs to its side, and the fabric agrees with its journal
+-- the sides are those of all kernels of the setup, in order; the part of each runs to its side, and
+-- the fabric agrees with its journal
 pub record StandAt (T : Setup) (sides : List Side) (f : FabricValue) : Type 0 where
   pub count : length sides ≡ T.kernels
   pub square : IsSquare T.kernels f.links

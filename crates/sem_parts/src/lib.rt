@@ -1,4 +1,4 @@
-//! What a journal is to the kernels alone: the law of the parts, and kernels with a fabric that
+//! A journal, as each kernel alone sees it: the law of the parts, and kernels with a fabric that
 //! stand at a schedule.
 #![tactic(auto)]
 

@@ -6,7 +6,7 @@ use rand_core::utils::NextWord;
 use rand_pcg::Lcg64Xsh32;
 use std::marker::Model;
 
-/// The words of a seed, of which each is drawn once, in their order.
+/// The words of a seed; each is drawn once, in order. No call of it takes memory.
 #[derive(Debug, Drop)]
 pub struct Draws {
     words: Lcg64Xsh32,
@@ -21,7 +21,7 @@ impl Model for Draws {
 }
 
 impl Draws {
-    /// The words of that seed, all of which are still to be drawn.
+    /// The words of that seed, none drawn yet.
     pub fn new(seed: u64) -> Draws
         ensures { result ≡ started 64 multiplier_64 seed (increment_of 64 1) }
     {
@@ -30,7 +30,7 @@ impl Draws {
         }
     }
 
-    /// A number below `n`, which is at least 1: the remainder of the next word. Takes no memory.
+    /// A number below `n`, which is at least 1: the remainder of the next word.
     pub fn pick(&mut self, n: u32) -> u32
         requires positive { 0 < n }
         ensures number { result ≡ (pcg32 self.old).0 % n }
@@ -39,7 +39,7 @@ impl Draws {
         self.words.next_word() % n
     }
 
-    /// A place among `count`, which is at least 1: the remainder of the next word. Takes no memory.
+    /// A place among `count`, which is at least 1: the remainder of the next word.
     pub fn pick_place(&mut self, count: usize) -> usize
         requires positive { 0 < count }
         ensures place { result ≡ (pcg32 self.old).0 % count }

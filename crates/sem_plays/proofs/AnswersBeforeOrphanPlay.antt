@@ -16,5 +16,6 @@ use Rattle.sem_plays.specs.Played.{acted, backwards}
 use Rattle.sem_plays.specs.AnswersBeforeOrphan.{trace, events, journal, outcome, answers_before_orphan}
 
 pub holds : answers_before_orphan
-unfolding trace events journal outcome put in_turn unless root_keys_from services_from grow closed_here finish opened ended call_row upcall_row handle_row resume_row start_side start local_step local_entry is_locally_enabled is_enabled enabled after entry_of line_in cut_from acted backwards
+unfolding trace events journal outcome put in_turn unless root_keys_from services_from grow closed_here finish opened ended call_row upcall_row handle_row
+    resume_row start_side start local_step local_entry is_locally_enabled is_enabled enabled after entry_of line_in cut_from acted backwards
 holds = refl

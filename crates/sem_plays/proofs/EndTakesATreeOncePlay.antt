@@ -16,5 +16,6 @@ use Rattle.sem_plays.specs.Played.{acted, backwards}
 use Rattle.sem_plays.specs.EndTakesATreeOnce.{trace, events, journal, outcome, end_takes_a_tree_once}
 
 pub holds : end_takes_a_tree_once
-unfolding trace events journal outcome put in_turn unless root_keys_from services_from grow closed_here finish opened ended call_row upcall_row handle_row resume_row start_side start local_step local_entry is_locally_enabled is_enabled enabled after entry_of line_in cut_from acted backwards
+unfolding trace events journal outcome put in_turn unless root_keys_from services_from grow closed_here finish opened ended call_row upcall_row handle_row
+    resume_row start_side start local_step local_entry is_locally_enabled is_enabled enabled after entry_of line_in cut_from acted backwards
 holds = refl

@@ -14,7 +14,12 @@ use Rattle.sem_plays.specs.KilledRevoker
 use Rattle.sem_plays.specs.RevokeTakesClear
 use Rattle.sem_plays.specs.TwoRevokesMeet
 use Rattle.sem_plays.specs.WaiterOfClearIsKilled
-use Rattle.sem_plays.specs.Notions.{clear_is_one_job_cut, clear_is_one_job_answered, clear_of_no_child_cut, clear_of_no_child_answered, clear_takes_back_cut, clear_takes_back_answered, cleared_three_times_cut, cleared_three_times_answered, clearer_is_killed_cut, clearer_is_killed_answered, clearing_is_told_in_turn_cut, clearing_is_told_in_turn_answered, given_after_clear_cut, given_after_clear_answered, killed_after_clear_cut, killed_after_clear_answered, killed_revoker_cut, killed_revoker_answered, revoke_takes_clear_cut, revoke_takes_clear_answered, two_revokes_meet_cut, two_revokes_meet_answered, waiter_of_clear_is_killed_cut, waiter_of_clear_is_killed_answered}
+use Rattle.sem_plays.specs.Notions.{clear_is_one_job_cut, clear_is_one_job_answered, clear_of_no_child_cut, clear_of_no_child_answered, clear_takes_back_cut}
+use Rattle.sem_plays.specs.Notions.{clear_takes_back_answered, cleared_three_times_cut, cleared_three_times_answered, clearer_is_killed_cut}
+use Rattle.sem_plays.specs.Notions.{clearer_is_killed_answered, clearing_is_told_in_turn_cut, clearing_is_told_in_turn_answered, given_after_clear_cut}
+use Rattle.sem_plays.specs.Notions.{given_after_clear_answered, killed_after_clear_cut, killed_after_clear_answered, killed_revoker_cut}
+use Rattle.sem_plays.specs.Notions.{killed_revoker_answered, revoke_takes_clear_cut, revoke_takes_clear_answered, two_revokes_meet_cut}
+use Rattle.sem_plays.specs.Notions.{two_revokes_meet_answered, waiter_of_clear_is_killed_cut, waiter_of_clear_is_killed_answered}
 
 pub clear_is_one_job_cut_holds : clear_is_one_job_cut
 unfolding ClearIsOneJob.trace ClearIsOneJob.journal in_turn root_keys_from cut_from

@@ -16,9 +16,11 @@ use Rattle.sem_plays.specs.Played.{acted, backwards}
 use Rattle.sem_plays.specs.WindowHoldsRequests.{trace, events, journal, outcome, window_holds_requests, first_events, waiting, waits}
 
 pub holds : window_holds_requests
-unfolding trace events journal outcome put in_turn unless root_keys_from services_from grow closed_here finish opened ended call_row upcall_row handle_row resume_row start_side start local_step local_entry is_locally_enabled is_enabled enabled after entry_of line_in cut_from acted backwards
+unfolding trace events journal outcome put in_turn unless root_keys_from services_from grow closed_here finish opened ended call_row upcall_row handle_row
+    resume_row start_side start local_step local_entry is_locally_enabled is_enabled enabled after entry_of line_in cut_from acted backwards
 holds = refl
 
 pub told : waits
-unfolding trace first_events waiting put in_turn unless root_keys_from services_from grow closed_here finish opened ended call_row upcall_row handle_row resume_row start_side start local_step local_entry is_locally_enabled is_enabled enabled after entry_of line_in cut_from acted backwards
+unfolding trace first_events waiting put in_turn unless root_keys_from services_from grow closed_here finish opened ended call_row upcall_row handle_row
+    resume_row start_side start local_step local_entry is_locally_enabled is_enabled enabled after entry_of line_in cut_from acted backwards
 told = refl

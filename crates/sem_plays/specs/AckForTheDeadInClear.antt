@@ -1,16 +1,8 @@
 -- A delegate is acknowledged to a dead VPE when its root is being cleared.
 use Rattle.std.specs.Prelude.{◌≡◌, true, Some, None, List, [], ◌∷◌}
-use Rattle.sem_key.specs.declared.key.Kind.TheVariants.{Mem as MemKind}
-use Rattle.sem_key.specs.declared.object.Object.TheVariants.{Mem}
-use Rattle.sem_msg.specs.declared.message.Message.TheVariants.{DelegateReq, DelegatePrepared, Ack, Orphan, RevokeReq, RevokeDone}
-use Rattle.sem_msg.specs.declared.call.Call.TheVariants.{Derive, Delegate, Clear}
-use Rattle.sem_msg.specs.declared.event.Act.TheVariants.{Call as Calls, Fetch, Handle, Upcall, Resume, Flush, Kill}
-use Rattle.sem_msg.specs.declared.event.Event.{Event}
-use Rattle.sem_msg.specs.declared.entry.Consent.TheVariants.{Yes}
-use Rattle.sem_msg.specs.declared.entry.Detail.TheVariants.{Called, Carried, Asked, Nothing}
-use Rattle.sem_msg.specs.declared.entry.Entry.{Entry}
-use Rattle.sem_msg.specs.Setup.{Setup}
-use Rattle.sem_machine.specs.Machine.{event}
+use Rattle.sem_machine.specs.Prelude.{MemKind, Mem, DelegateReq, DelegatePrepared, Ack, Orphan, RevokeReq, RevokeDone}
+use Rattle.sem_machine.specs.Prelude.{Derive, Delegate, Clear, Calls, Fetch, Handle, Upcall, Resume, Flush, Kill}
+use Rattle.sem_machine.specs.Prelude.{Event, Yes, Called, Carried, Asked, Nothing, Entry, Setup, event}
 use Rattle.sem_plays.specs.Words.{key, grant, reply, entry, owners, root, vpe}
 use Rattle.sem_plays.specs.Played.{Played, played}
 

@@ -1,15 +1,7 @@
 -- One VPE has the asks of all 127 others.
 use Rattle.std.specs.Prelude.{◌≡◌, true, Some, None, List, [], ◌∷◌, replicate}
-use Rattle.sem_key.specs.declared.key.Kind.TheVariants.{Mem as MemKind}
-use Rattle.sem_key.specs.declared.object.Object.TheVariants.{Mem}
-use Rattle.sem_msg.specs.declared.call.Call.TheVariants.{Obtain}
-use Rattle.sem_msg.specs.declared.event.Act.TheVariants.{Call as Calls, Upcall, Resume}
-use Rattle.sem_msg.specs.declared.event.Event.{Event}
-use Rattle.sem_msg.specs.declared.entry.Consent.TheVariants.{Yes}
-use Rattle.sem_msg.specs.declared.entry.Detail.TheVariants.{Called, Asked, Nothing}
-use Rattle.sem_msg.specs.declared.entry.Entry.{Entry}
-use Rattle.sem_msg.specs.Setup.{Setup}
-use Rattle.sem_machine.specs.Machine.{event}
+use Rattle.sem_machine.specs.Prelude.{MemKind, Mem, Obtain, Calls, Upcall, Resume, Event, Yes, Called, Asked, Nothing}
+use Rattle.sem_machine.specs.Prelude.{Entry, Setup, event}
 use Rattle.sem_plays.specs.Words.{key, grant, reply, entry, owners, root, vpe}
 use Rattle.sem_plays.specs.Played.{Played, played, enabled_after}
 
@@ -155,7 +147,7 @@ trace = record {
   kills = [];
 }
 
--- the events up to the point where it is told what is enabled
+-- the events before the test of what is enabled
 unfoldable pub first_events : List Event
 first_events =
     event 0 (Calls 1)
@@ -1064,7 +1056,47 @@ outcome = record {
   left = [];
   made = 128;
   cut = 0;
-  held = (key 0 0 MemKind 0, 0) ∷ (key 1 1 MemKind 0, 0) ∷ (key 2 2 MemKind 0, 0) ∷ (key 3 3 MemKind 0, 0) ∷ (key 4 4 MemKind 0, 0) ∷ (key 5 5 MemKind 0, 0) ∷ (key 6 6 MemKind 0, 0) ∷ (key 7 7 MemKind 0, 0) ∷ (key 8 8 MemKind 0, 0) ∷ (key 9 9 MemKind 0, 0) ∷ (key 10 10 MemKind 0, 0) ∷ (key 11 11 MemKind 0, 0) ∷ (key 12 12 MemKind 0, 0) ∷ (key 13 13 MemKind 0, 0) ∷ (key 14 14 MemKind 0, 0) ∷ (key 15 15 MemKind 0, 0) ∷ (key 16 16 MemKind 0, 0) ∷ (key 17 17 MemKind 0, 0) ∷ (key 18 18 MemKind 0, 0) ∷ (key 19 19 MemKind 0, 0) ∷ (key 20 20 MemKind 0, 0) ∷ (key 21 21 MemKind 0, 0) ∷ (key 22 22 MemKind 0, 0) ∷ (key 23 23 MemKind 0, 0) ∷ (key 24 24 MemKind 0, 0) ∷ (key 25 25 MemKind 0, 0) ∷ (key 26 26 MemKind 0, 0) ∷ (key 27 27 MemKind 0, 0) ∷ (key 28 28 MemKind 0, 0) ∷ (key 29 29 MemKind 0, 0) ∷ (key 30 30 MemKind 0, 0) ∷ (key 31 31 MemKind 0, 0) ∷ (key 32 32 MemKind 0, 0) ∷ (key 33 33 MemKind 0, 0) ∷ (key 34 34 MemKind 0, 0) ∷ (key 35 35 MemKind 0, 0) ∷ (key 36 36 MemKind 0, 0) ∷ (key 37 37 MemKind 0, 0) ∷ (key 38 38 MemKind 0, 0) ∷ (key 39 39 MemKind 0, 0) ∷ (key 40 40 MemKind 0, 0) ∷ (key 41 41 MemKind 0, 0) ∷ (key 42 42 MemKind 0, 0) ∷ (key 43 43 MemKind 0, 0) ∷ (key 44 44 MemKind 0, 0) ∷ (key 45 45 MemKind 0, 0) ∷ (key 46 46 MemKind 0, 0) ∷ (key 47 47 MemKind 0, 0) ∷ (key 48 48 MemKind 0, 0) ∷ (key 49 49 MemKind 0, 0) ∷ (key 50 50 MemKind 0, 0) ∷ (key 51 51 MemKind 0, 0) ∷ (key 52 52 MemKind 0, 0) ∷ (key 53 53 MemKind 0, 0) ∷ (key 54 54 MemKind 0, 0) ∷ (key 55 55 MemKind 0, 0) ∷ (key 56 56 MemKind 0, 0) ∷ (key 57 57 MemKind 0, 0) ∷ (key 58 58 MemKind 0, 0) ∷ (key 59 59 MemKind 0, 0) ∷ (key 60 60 MemKind 0, 0) ∷ (key 61 61 MemKind 0, 0) ∷ (key 62 62 MemKind 0, 0) ∷ (key 63 63 MemKind 0, 0) ∷ (key 64 64 MemKind 0, 0) ∷ (key 65 65 MemKind 0, 0) ∷ (key 66 66 MemKind 0, 0) ∷ (key 67 67 MemKind 0, 0) ∷ (key 68 68 MemKind 0, 0) ∷ (key 69 69 MemKind 0, 0) ∷ (key 70 70 MemKind 0, 0) ∷ (key 71 71 MemKind 0, 0) ∷ (key 72 72 MemKind 0, 0) ∷ (key 73 73 MemKind 0, 0) ∷ (key 74 74 MemKind 0, 0) ∷ (key 75 75 MemKind 0, 0) ∷ (key 76 76 MemKind 0, 0) ∷ (key 77 77 MemKind 0, 0) ∷ (key 78 78 MemKind 0, 0) ∷ (key 79 79 MemKind 0, 0) ∷ (key 80 80 MemKind 0, 0) ∷ (key 81 81 MemKind 0, 0) ∷ (key 82 82 MemKind 0, 0) ∷ (key 83 83 MemKind 0, 0) ∷ (key 84 84 MemKind 0, 0) ∷ (key 85 85 MemKind 0, 0) ∷ (key 86 86 MemKind 0, 0) ∷ (key 87 87 MemKind 0, 0) ∷ (key 88 88 MemKind 0, 0) ∷ (key 89 89 MemKind 0, 0) ∷ (key 90 90 MemKind 0, 0) ∷ (key 91 91 MemKind 0, 0) ∷ (key 92 92 MemKind 0, 0) ∷ (key 93 93 MemKind 0, 0) ∷ (key 94 94 MemKind 0, 0) ∷ (key 95 95 MemKind 0, 0) ∷ (key 96 96 MemKind 0, 0) ∷ (key 97 97 MemKind 0, 0) ∷ (key 98 98 MemKind 0, 0) ∷ (key 99 99 MemKind 0, 0) ∷ (key 100 100 MemKind 0, 0) ∷ (key 101 101 MemKind 0, 0) ∷ (key 102 102 MemKind 0, 0) ∷ (key 103 103 MemKind 0, 0) ∷ (key 104 104 MemKind 0, 0) ∷ (key 105 105 MemKind 0, 0) ∷ (key 106 106 MemKind 0, 0) ∷ (key 107 107 MemKind 0, 0) ∷ (key 108 108 MemKind 0, 0) ∷ (key 109 109 MemKind 0, 0) ∷ (key 110 110 MemKind 0, 0) ∷ (key 111 111 MemKind 0, 0) ∷ (key 112 112 MemKind 0, 0) ∷ (key 113 113 MemKind 0, 0) ∷ (key 114 114 MemKind 0, 0) ∷ (key 115 115 MemKind 0, 0) ∷ (key 116 116 MemKind 0, 0) ∷ (key 117 117 MemKind 0, 0) ∷ (key 118 118 MemKind 0, 0) ∷ (key 119 119 MemKind 0, 0) ∷ (key 120 120 MemKind 0, 0) ∷ (key 121 121 MemKind 0, 0) ∷ (key 122 122 MemKind 0, 0) ∷ (key 123 123 MemKind 0, 0) ∷ (key 124 124 MemKind 0, 0) ∷ (key 125 125 MemKind 0, 0) ∷ (key 126 126 MemKind 0, 0) ∷ (key 127 127 MemKind 0, 0) ∷ [];
+  held = (key 0 0 MemKind 0, 0) ∷ (key 1 1 MemKind 0, 0) ∷ (key 2 2 MemKind 0, 0) ∷ (key 3 3 MemKind 0, 0)
+      ∷ (key 4 4 MemKind 0, 0) ∷ (key 5 5 MemKind 0, 0) ∷ (key 6 6 MemKind 0, 0) ∷ (key 7 7 MemKind 0, 0)
+      ∷ (key 8 8 MemKind 0, 0) ∷ (key 9 9 MemKind 0, 0) ∷ (key 10 10 MemKind 0, 0) ∷ (key 11 11 MemKind 0, 0)
+      ∷ (key 12 12 MemKind 0, 0) ∷ (key 13 13 MemKind 0, 0) ∷ (key 14 14 MemKind 0, 0) ∷ (key 15 15 MemKind 0, 0)
+      ∷ (key 16 16 MemKind 0, 0) ∷ (key 17 17 MemKind 0, 0) ∷ (key 18 18 MemKind 0, 0) ∷ (key 19 19 MemKind 0, 0)
+      ∷ (key 20 20 MemKind 0, 0) ∷ (key 21 21 MemKind 0, 0) ∷ (key 22 22 MemKind 0, 0) ∷ (key 23 23 MemKind 0, 0)
+      ∷ (key 24 24 MemKind 0, 0) ∷ (key 25 25 MemKind 0, 0) ∷ (key 26 26 MemKind 0, 0) ∷ (key 27 27 MemKind 0, 0)
+      ∷ (key 28 28 MemKind 0, 0) ∷ (key 29 29 MemKind 0, 0) ∷ (key 30 30 MemKind 0, 0) ∷ (key 31 31 MemKind 0, 0)
+      ∷ (key 32 32 MemKind 0, 0) ∷ (key 33 33 MemKind 0, 0) ∷ (key 34 34 MemKind 0, 0) ∷ (key 35 35 MemKind 0, 0)
+      ∷ (key 36 36 MemKind 0, 0) ∷ (key 37 37 MemKind 0, 0) ∷ (key 38 38 MemKind 0, 0) ∷ (key 39 39 MemKind 0, 0)
+      ∷ (key 40 40 MemKind 0, 0) ∷ (key 41 41 MemKind 0, 0) ∷ (key 42 42 MemKind 0, 0) ∷ (key 43 43 MemKind 0, 0)
+      ∷ (key 44 44 MemKind 0, 0) ∷ (key 45 45 MemKind 0, 0) ∷ (key 46 46 MemKind 0, 0) ∷ (key 47 47 MemKind 0, 0)
+      ∷ (key 48 48 MemKind 0, 0) ∷ (key 49 49 MemKind 0, 0) ∷ (key 50 50 MemKind 0, 0) ∷ (key 51 51 MemKind 0, 0)
+      ∷ (key 52 52 MemKind 0, 0) ∷ (key 53 53 MemKind 0, 0) ∷ (key 54 54 MemKind 0, 0) ∷ (key 55 55 MemKind 0, 0)
+      ∷ (key 56 56 MemKind 0, 0) ∷ (key 57 57 MemKind 0, 0) ∷ (key 58 58 MemKind 0, 0) ∷ (key 59 59 MemKind 0, 0)
+      ∷ (key 60 60 MemKind 0, 0) ∷ (key 61 61 MemKind 0, 0) ∷ (key 62 62 MemKind 0, 0) ∷ (key 63 63 MemKind 0, 0)
+      ∷ (key 64 64 MemKind 0, 0) ∷ (key 65 65 MemKind 0, 0) ∷ (key 66 66 MemKind 0, 0) ∷ (key 67 67 MemKind 0, 0)
+      ∷ (key 68 68 MemKind 0, 0) ∷ (key 69 69 MemKind 0, 0) ∷ (key 70 70 MemKind 0, 0) ∷ (key 71 71 MemKind 0, 0)
+      ∷ (key 72 72 MemKind 0, 0) ∷ (key 73 73 MemKind 0, 0) ∷ (key 74 74 MemKind 0, 0) ∷ (key 75 75 MemKind 0, 0)
+      ∷ (key 76 76 MemKind 0, 0) ∷ (key 77 77 MemKind 0, 0) ∷ (key 78 78 MemKind 0, 0) ∷ (key 79 79 MemKind 0, 0)
+      ∷ (key 80 80 MemKind 0, 0) ∷ (key 81 81 MemKind 0, 0) ∷ (key 82 82 MemKind 0, 0) ∷ (key 83 83 MemKind 0, 0)
+      ∷ (key 84 84 MemKind 0, 0) ∷ (key 85 85 MemKind 0, 0) ∷ (key 86 86 MemKind 0, 0) ∷ (key 87 87 MemKind 0, 0)
+      ∷ (key 88 88 MemKind 0, 0) ∷ (key 89 89 MemKind 0, 0) ∷ (key 90 90 MemKind 0, 0) ∷ (key 91 91 MemKind 0, 0)
+      ∷ (key 92 92 MemKind 0, 0) ∷ (key 93 93 MemKind 0, 0) ∷ (key 94 94 MemKind 0, 0) ∷ (key 95 95 MemKind 0, 0)
+      ∷ (key 96 96 MemKind 0, 0) ∷ (key 97 97 MemKind 0, 0) ∷ (key 98 98 MemKind 0, 0) ∷ (key 99 99 MemKind 0, 0)
+      ∷ (key 100 100 MemKind 0, 0) ∷ (key 101 101 MemKind 0, 0) ∷ (key 102 102 MemKind 0, 0) ∷ (
+        key 103 103 MemKind 0,
+        0,
+      ) ∷ (key 104 104 MemKind 0, 0) ∷ (key 105 105 MemKind 0, 0) ∷ (key 106 106 MemKind 0, 0)
+      ∷ (key 107 107 MemKind 0, 0) ∷ (key 108 108 MemKind 0, 0) ∷ (key 109 109 MemKind 0, 0) ∷ (
+        key 110 110 MemKind 0,
+        0,
+      ) ∷ (key 111 111 MemKind 0, 0) ∷ (key 112 112 MemKind 0, 0) ∷ (key 113 113 MemKind 0, 0)
+      ∷ (key 114 114 MemKind 0, 0) ∷ (key 115 115 MemKind 0, 0) ∷ (key 116 116 MemKind 0, 0) ∷ (
+        key 117 117 MemKind 0,
+        0,
+      ) ∷ (key 118 118 MemKind 0, 0) ∷ (key 119 119 MemKind 0, 0) ∷ (key 120 120 MemKind 0, 0)
+      ∷ (key 121 121 MemKind 0, 0) ∷ (key 122 122 MemKind 0, 0) ∷ (key 123 123 MemKind 0, 0) ∷ (
+        key 124 124 MemKind 0,
+        0,
+      ) ∷ (key 125 125 MemKind 0, 0) ∷ (key 126 126 MemKind 0, 0) ∷ (key 127 127 MemKind 0, 0) ∷ [];
   is_forest = true;
   is_linked = true;
   is_clean = true;
@@ -1078,6 +1110,6 @@ waiting =
     event 0 (Upcall 0)
     ∷ []
 
--- then these and no others are enabled
+-- then exactly these are enabled
 abbrev pub waits : Type 0
 waits = enabled_after trace first_events ≡ waiting

@@ -1,16 +1,8 @@
 -- The asks of an ended VPE are answered with Dead, whatever it denies, or dropped.
 use Rattle.std.specs.Prelude.{◌≡◌, true, Some, None, List, [], ◌∷◌}
-use Rattle.sem_key.specs.declared.key.Kind.TheVariants.{Mem as MemKind}
-use Rattle.sem_key.specs.declared.object.Object.TheVariants.{Mem}
-use Rattle.sem_msg.specs.declared.message.Target.TheVariants.{Sel as SelTarget}
-use Rattle.sem_msg.specs.declared.message.Message.TheVariants.{ObtainReq, ObtainNo}
-use Rattle.sem_msg.specs.declared.call.Call.TheVariants.{Obtain, Delegate}
-use Rattle.sem_msg.specs.declared.event.Act.TheVariants.{Call as Calls, Fetch, Handle, Resume, Flush, Kill}
-use Rattle.sem_msg.specs.declared.event.Event.{Event}
-use Rattle.sem_msg.specs.declared.entry.Detail.TheVariants.{Called, Carried, Nothing}
-use Rattle.sem_msg.specs.declared.entry.Entry.{Entry}
-use Rattle.sem_msg.specs.Setup.{Setup}
-use Rattle.sem_machine.specs.Machine.{event}
+use Rattle.sem_machine.specs.Prelude.{MemKind, Mem, SelTarget, ObtainReq, ObtainNo, Obtain, Delegate, Calls, Fetch}
+use Rattle.sem_machine.specs.Prelude.{Handle, Resume, Flush, Kill, Event, Called, Carried, Nothing, Entry, Setup}
+use Rattle.sem_machine.specs.Prelude.{event}
 use Rattle.sem_plays.specs.Words.{key, place, reply, entry, owners, root, vpe}
 use Rattle.sem_plays.specs.Played.{Played, played}
 

@@ -1,14 +1,7 @@
 -- An endpoint that is bound anew has an empty ring.
 use Rattle.std.specs.Prelude.{◌≡◌, true, Some, None, List, [], ◌∷◌}
-use Rattle.sem_key.specs.declared.key.Kind.TheVariants.{Recv as RecvKind, Send as SendKind}
-use Rattle.sem_key.specs.declared.object.Object.TheVariants.{Recv}
-use Rattle.sem_msg.specs.declared.call.Call.TheVariants.{Gate, Bind, Send as SendCall, Credit}
-use Rattle.sem_msg.specs.declared.event.Act.TheVariants.{Call as Calls}
-use Rattle.sem_msg.specs.declared.event.Event.{Event}
-use Rattle.sem_msg.specs.declared.entry.Detail.TheVariants.{Called}
-use Rattle.sem_msg.specs.declared.entry.Entry.{Entry}
-use Rattle.sem_msg.specs.Setup.{Setup}
-use Rattle.sem_machine.specs.Machine.{event}
+use Rattle.sem_machine.specs.Prelude.{RecvKind, SendKind, Recv, Gate, Bind, SendCall, Credit, Calls, Event, Called}
+use Rattle.sem_machine.specs.Prelude.{Entry, Setup, event}
 use Rattle.sem_plays.specs.Words.{key, grant, reply, entry, owners, root, vpe}
 use Rattle.sem_plays.specs.Played.{Played, played}
 
@@ -19,7 +12,8 @@ trace = record {
   kernels = 1;
   owners = owners 1 (Some 0 ∷ []);
   vpes =
-      vpe 0 0 (root 0 (Recv 2) ∷ []) (Gate 0 1 5 1 ∷ Bind 3 1 ∷ SendCall 3 8 ∷ SendCall 3 8 ∷ Bind 3 1 ∷ Credit 3 ∷ SendCall 3 9 ∷ Credit 3 ∷ [])
+      vpe 0 0 (root 0 (Recv 2) ∷ []) (Gate 0 1 5 1 ∷ Bind 3 1 ∷ SendCall 3 8 ∷ SendCall 3 8 ∷ Bind 3 1 ∷ Credit 3
+      ∷ SendCall 3 9 ∷ Credit 3 ∷ [])
       ∷ [];
   services = [];
   offers = [];

@@ -1,17 +1,9 @@
--- A chain of nine capabilities between two kernels, by a window of 1.
+-- A chain of nine capabilities between two kernels, with a window of 1.
 use Rattle.std.specs.Prelude.{◌≡◌, true, Some, None, List, [], ◌∷◌}
-use Rattle.sem_key.specs.declared.key.Kind.TheVariants.{Mem as MemKind}
-use Rattle.sem_key.specs.declared.object.Object.TheVariants.{Mem}
-use Rattle.sem_msg.specs.declared.message.Target.TheVariants.{Sel as SelTarget}
-use Rattle.sem_msg.specs.declared.message.Message.TheVariants.{ObtainReq, ObtainOk, DelegateReq, DelegatePrepared, Ack, RevokeReq, RevokeDone}
-use Rattle.sem_msg.specs.declared.call.Call.TheVariants.{Obtain, Delegate, Revoke}
-use Rattle.sem_msg.specs.declared.event.Act.TheVariants.{Call as Calls, Fetch, Handle, Upcall, Resume, Flush}
-use Rattle.sem_msg.specs.declared.event.Event.{Event}
-use Rattle.sem_msg.specs.declared.entry.Consent.TheVariants.{Yes}
-use Rattle.sem_msg.specs.declared.entry.Detail.TheVariants.{Called, Carried, Asked, Nothing}
-use Rattle.sem_msg.specs.declared.entry.Entry.{Entry}
-use Rattle.sem_msg.specs.Setup.{Setup}
-use Rattle.sem_machine.specs.Machine.{event}
+use Rattle.sem_machine.specs.Prelude.{MemKind, Mem, SelTarget, ObtainReq, ObtainOk, DelegateReq, DelegatePrepared}
+use Rattle.sem_machine.specs.Prelude.{Ack, RevokeReq, RevokeDone, Obtain, Delegate, Revoke, Calls, Fetch, Handle}
+use Rattle.sem_machine.specs.Prelude.{Upcall, Resume, Flush, Event, Yes, Called, Carried, Asked, Nothing, Entry}
+use Rattle.sem_machine.specs.Prelude.{Setup, event}
 use Rattle.sem_plays.specs.Words.{key, place, grant, reply, entry, owners, root, vpe}
 use Rattle.sem_plays.specs.Played.{Played, played}
 
@@ -22,7 +14,8 @@ trace = record {
   kernels = 2;
   owners = owners 2 (Some 0 ∷ Some 1 ∷ []);
   vpes =
-      vpe 0 0 (root 0 (Mem 0 4096 7) ∷ []) (Delegate 0 1 1 ∷ Obtain 2 1 1 ∷ Delegate 2 1 3 ∷ Obtain 4 1 3 ∷ Delegate 4 1 5 ∷ Obtain 6 1 5 ∷ Delegate 6 1 7 ∷ Obtain 8 1 7 ∷ Revoke 0 ∷ [])
+      vpe 0 0 (root 0 (Mem 0 4096 7) ∷ []) (Delegate 0 1 1 ∷ Obtain 2 1 1 ∷ Delegate 2 1 3 ∷ Obtain 4 1 3
+      ∷ Delegate 4 1 5 ∷ Obtain 6 1 5 ∷ Delegate 6 1 7 ∷ Obtain 8 1 7 ∷ Revoke 0 ∷ [])
       ∷ vpe 1 1 [] []
       ∷ [];
   services = [];

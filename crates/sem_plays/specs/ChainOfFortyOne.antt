@@ -1,17 +1,9 @@
 -- A chain of 41 capabilities between two kernels.
 use Rattle.std.specs.Prelude.{◌≡◌, true, Some, None, List, [], ◌∷◌}
-use Rattle.sem_key.specs.declared.key.Kind.TheVariants.{Mem as MemKind}
-use Rattle.sem_key.specs.declared.object.Object.TheVariants.{Mem}
-use Rattle.sem_msg.specs.declared.message.Target.TheVariants.{Sel as SelTarget}
-use Rattle.sem_msg.specs.declared.message.Message.TheVariants.{ObtainReq, ObtainOk, DelegateReq, DelegatePrepared, Ack, RevokeReq, RevokeDone}
-use Rattle.sem_msg.specs.declared.call.Call.TheVariants.{Obtain, Delegate, Revoke}
-use Rattle.sem_msg.specs.declared.event.Act.TheVariants.{Call as Calls, Fetch, Handle, Upcall, Resume, Flush}
-use Rattle.sem_msg.specs.declared.event.Event.{Event}
-use Rattle.sem_msg.specs.declared.entry.Consent.TheVariants.{Yes}
-use Rattle.sem_msg.specs.declared.entry.Detail.TheVariants.{Called, Carried, Asked, Nothing}
-use Rattle.sem_msg.specs.declared.entry.Entry.{Entry}
-use Rattle.sem_msg.specs.Setup.{Setup}
-use Rattle.sem_machine.specs.Machine.{event}
+use Rattle.sem_machine.specs.Prelude.{MemKind, Mem, SelTarget, ObtainReq, ObtainOk, DelegateReq, DelegatePrepared}
+use Rattle.sem_machine.specs.Prelude.{Ack, RevokeReq, RevokeDone, Obtain, Delegate, Revoke, Calls, Fetch, Handle}
+use Rattle.sem_machine.specs.Prelude.{Upcall, Resume, Flush, Event, Yes, Called, Carried, Asked, Nothing, Entry}
+use Rattle.sem_machine.specs.Prelude.{Setup, event}
 use Rattle.sem_plays.specs.Words.{key, place, grant, reply, entry, owners, root, vpe}
 use Rattle.sem_plays.specs.Played.{Played, played}
 
@@ -22,7 +14,14 @@ trace = record {
   kernels = 2;
   owners = owners 2 (Some 0 ∷ Some 1 ∷ []);
   vpes =
-      vpe 0 0 (root 0 (Mem 0 4096 7) ∷ []) (Delegate 0 1 1 ∷ Obtain 2 1 1 ∷ Delegate 2 1 3 ∷ Obtain 4 1 3 ∷ Delegate 4 1 5 ∷ Obtain 6 1 5 ∷ Delegate 6 1 7 ∷ Obtain 8 1 7 ∷ Delegate 8 1 9 ∷ Obtain 10 1 9 ∷ Delegate 10 1 11 ∷ Obtain 12 1 11 ∷ Delegate 12 1 13 ∷ Obtain 14 1 13 ∷ Delegate 14 1 15 ∷ Obtain 16 1 15 ∷ Delegate 16 1 17 ∷ Obtain 18 1 17 ∷ Delegate 18 1 19 ∷ Obtain 20 1 19 ∷ Delegate 20 1 21 ∷ Obtain 22 1 21 ∷ Delegate 22 1 23 ∷ Obtain 24 1 23 ∷ Delegate 24 1 25 ∷ Obtain 26 1 25 ∷ Delegate 26 1 27 ∷ Obtain 28 1 27 ∷ Delegate 28 1 29 ∷ Obtain 30 1 29 ∷ Delegate 30 1 31 ∷ Obtain 32 1 31 ∷ Delegate 32 1 33 ∷ Obtain 34 1 33 ∷ Delegate 34 1 35 ∷ Obtain 36 1 35 ∷ Delegate 36 1 37 ∷ Obtain 38 1 37 ∷ Delegate 38 1 39 ∷ Obtain 40 1 39 ∷ Revoke 0 ∷ [])
+      vpe 0 0 (root 0 (Mem 0 4096 7) ∷ []) (Delegate 0 1 1 ∷ Obtain 2 1 1 ∷ Delegate 2 1 3 ∷ Obtain 4 1 3
+      ∷ Delegate 4 1 5 ∷ Obtain 6 1 5 ∷ Delegate 6 1 7 ∷ Obtain 8 1 7 ∷ Delegate 8 1 9 ∷ Obtain 10 1 9
+      ∷ Delegate 10 1 11 ∷ Obtain 12 1 11 ∷ Delegate 12 1 13 ∷ Obtain 14 1 13 ∷ Delegate 14 1 15 ∷ Obtain 16 1 15
+      ∷ Delegate 16 1 17 ∷ Obtain 18 1 17 ∷ Delegate 18 1 19 ∷ Obtain 20 1 19 ∷ Delegate 20 1 21 ∷ Obtain 22 1 21
+      ∷ Delegate 22 1 23 ∷ Obtain 24 1 23 ∷ Delegate 24 1 25 ∷ Obtain 26 1 25 ∷ Delegate 26 1 27 ∷ Obtain 28 1 27
+      ∷ Delegate 28 1 29 ∷ Obtain 30 1 29 ∷ Delegate 30 1 31 ∷ Obtain 32 1 31 ∷ Delegate 32 1 33 ∷ Obtain 34 1 33
+      ∷ Delegate 34 1 35 ∷ Obtain 36 1 35 ∷ Delegate 36 1 37 ∷ Obtain 38 1 37 ∷ Delegate 38 1 39 ∷ Obtain 40 1 39
+      ∷ Revoke 0 ∷ [])
       ∷ vpe 1 1 [] []
       ∷ [];
   services = [];

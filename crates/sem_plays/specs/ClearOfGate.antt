@@ -1,17 +1,9 @@
 -- A clear of a send gate keeps the gate, and one of its receive gate takes it.
 use Rattle.std.specs.Prelude.{◌≡◌, true, Some, None, List, [], ◌∷◌}
-use Rattle.sem_key.specs.declared.key.Kind.TheVariants.{Recv as RecvKind, Send as SendKind}
-use Rattle.sem_key.specs.declared.object.Object.TheVariants.{Recv, Send}
-use Rattle.sem_msg.specs.declared.message.Target.TheVariants.{Sel as SelTarget}
-use Rattle.sem_msg.specs.declared.message.Message.TheVariants.{ObtainReq, ObtainOk, RevokeReq, RevokeDone}
-use Rattle.sem_msg.specs.declared.call.Call.TheVariants.{Gate, Obtain, Bind, Send as SendCall, Credit, Clear}
-use Rattle.sem_msg.specs.declared.event.Act.TheVariants.{Call as Calls, Fetch, Handle, Upcall, Resume, Flush}
-use Rattle.sem_msg.specs.declared.event.Event.{Event}
-use Rattle.sem_msg.specs.declared.entry.Consent.TheVariants.{Yes}
-use Rattle.sem_msg.specs.declared.entry.Detail.TheVariants.{Called, Carried, Asked, Nothing}
-use Rattle.sem_msg.specs.declared.entry.Entry.{Entry}
-use Rattle.sem_msg.specs.Setup.{Setup}
-use Rattle.sem_machine.specs.Machine.{event}
+use Rattle.sem_machine.specs.Prelude.{RecvKind, SendKind, Recv, Send, SelTarget, ObtainReq, ObtainOk, RevokeReq}
+use Rattle.sem_machine.specs.Prelude.{RevokeDone, Gate, Obtain, Bind, SendCall, Credit, Clear, Calls, Fetch, Handle}
+use Rattle.sem_machine.specs.Prelude.{Upcall, Resume, Flush, Event, Yes, Called, Carried, Asked, Nothing, Entry}
+use Rattle.sem_machine.specs.Prelude.{Setup, event}
 use Rattle.sem_plays.specs.Words.{key, place, grant, reply, entry, owners, root, vpe}
 use Rattle.sem_plays.specs.Played.{Played, played}
 
@@ -22,7 +14,8 @@ trace = record {
   kernels = 2;
   owners = owners 2 (Some 0 ∷ Some 1 ∷ Some 0 ∷ []);
   vpes =
-      vpe 0 0 (root 0 (Recv 8) ∷ []) (Gate 0 1 77 2 ∷ Bind 0 1 ∷ Bind 1 0 ∷ SendCall 0 5 ∷ Clear 1 ∷ SendCall 0 5 ∷ Bind 0 1 ∷ SendCall 0 5 ∷ SendCall 0 6 ∷ Clear 0 ∷ Credit 0 ∷ Bind 1 1 ∷ Bind 1 0 ∷ [])
+      vpe 0 0 (root 0 (Recv 8) ∷ []) (Gate 0 1 77 2 ∷ Bind 0 1 ∷ Bind 1 0 ∷ SendCall 0 5 ∷ Clear 1 ∷ SendCall 0 5
+      ∷ Bind 0 1 ∷ SendCall 0 5 ∷ SendCall 0 6 ∷ Clear 0 ∷ Credit 0 ∷ Bind 1 1 ∷ Bind 1 0 ∷ [])
       ∷ vpe 1 1 [] (Obtain 2 0 1 ∷ [])
       ∷ vpe 2 2 [] (Obtain 2 0 1 ∷ Bind 0 2 ∷ SendCall 0 16 ∷ SendCall 0 16 ∷ [])
       ∷ [];
@@ -83,9 +76,14 @@ journal =
     ∷ entry 0 (Fetch 1) (Carried 1 (ObtainReq (place 1 1 0) (SelTarget 0 1))) None None None
     ∷ entry 0 Handle (Carried 1 (ObtainReq (place 1 1 0) (SelTarget 0 1))) None None None
     ∷ entry 0 (Upcall 0) (Asked 1 Yes) (grant (key 0 0 SendKind 1) (key 1 1 SendKind 0)) None None
-    ∷ entry 0 (Flush 1) (Carried 1 (ObtainOk (key 0 0 SendKind 1) (key 1 1 SendKind 0) (Send (key 0 0 RecvKind 0) 77 2))) None None None
-    ∷ entry 1 (Fetch 0) (Carried 0 (ObtainOk (key 0 0 SendKind 1) (key 1 1 SendKind 0) (Send (key 0 0 RecvKind 0) 77 2))) None None None
-    ∷ entry 1 Handle (Carried 0 (ObtainOk (key 0 0 SendKind 1) (key 1 1 SendKind 0) (Send (key 0 0 RecvKind 0) 77 2))) None None None
+    ∷ entry 0 (Flush 1)
+    (Carried 1 (ObtainOk (key 0 0 SendKind 1) (key 1 1 SendKind 0) (Send (key 0 0 RecvKind 0) 77 2))) None None
+    None
+    ∷ entry 1 (Fetch 0)
+    (Carried 0 (ObtainOk (key 0 0 SendKind 1) (key 1 1 SendKind 0) (Send (key 0 0 RecvKind 0) 77 2))) None None
+    None
+    ∷ entry 1 Handle (Carried 0 (ObtainOk (key 0 0 SendKind 1) (key 1 1 SendKind 0) (Send (key 0 0 RecvKind 0) 77 2)))
+    None None None
     ∷ entry 1 (Resume 1) Nothing None None (reply 1 0)
     ∷ entry 0 (Calls 2) (Called 1 (Bind 0 2)) None None (reply 2 0)
     ∷ entry 0 (Calls 2) (Called 2 (SendCall 0 16)) None None (reply 2 0)

@@ -1,14 +1,7 @@
--- A clear of local children alone ends in its step.
+-- A clear with only local children ends in its own step.
 use Rattle.std.specs.Prelude.{◌≡◌, true, Some, None, List, [], ◌∷◌}
-use Rattle.sem_key.specs.declared.key.Kind.TheVariants.{Mem as MemKind}
-use Rattle.sem_key.specs.declared.object.Object.TheVariants.{Mem}
-use Rattle.sem_msg.specs.declared.call.Call.TheVariants.{Derive, Clear}
-use Rattle.sem_msg.specs.declared.event.Act.TheVariants.{Call as Calls, Resume}
-use Rattle.sem_msg.specs.declared.event.Event.{Event}
-use Rattle.sem_msg.specs.declared.entry.Detail.TheVariants.{Called, Nothing}
-use Rattle.sem_msg.specs.declared.entry.Entry.{Entry}
-use Rattle.sem_msg.specs.Setup.{Setup}
-use Rattle.sem_machine.specs.Machine.{event}
+use Rattle.sem_machine.specs.Prelude.{MemKind, Mem, Derive, Clear, Calls, Resume, Event, Called, Nothing, Entry}
+use Rattle.sem_machine.specs.Prelude.{Setup, event}
 use Rattle.sem_plays.specs.Words.{key, grant, reply, entry, owners, root, vpe}
 use Rattle.sem_plays.specs.Played.{Played, played, enabled_after}
 
@@ -27,7 +20,7 @@ trace = record {
   kills = [];
 }
 
--- the events up to the point where it is told what is enabled
+-- the events before the test of what is enabled
 unfoldable pub first_events : List Event
 first_events =
     event 0 (Calls 0)
@@ -43,7 +36,8 @@ events =
 
 unfoldable pub journal : List Entry
 journal =
-    entry 0 (Calls 0) (Called 0 (Derive 0 1 0 1024 1)) (grant (key 0 0 MemKind 0) (key 0 0 MemKind 1)) None (reply 0 0)
+    entry 0 (Calls 0) (Called 0 (Derive 0 1 0 1024 1)) (grant (key 0 0 MemKind 0) (key 0 0 MemKind 1)) None
+    (reply 0 0)
     ∷ entry 0 (Calls 0) (Called 1 (Clear 0)) None (Some (key 0 0 MemKind 0)) None
     ∷ entry 0 (Resume 0) Nothing None None (reply 0 0)
     ∷ []
@@ -69,6 +63,6 @@ waiting =
     event 0 (Resume 0)
     ∷ []
 
--- then these and no others are enabled
+-- then exactly these are enabled
 abbrev pub waits : Type 0
 waits = enabled_after trace first_events ≡ waiting

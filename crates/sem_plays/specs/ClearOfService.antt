@@ -1,17 +1,9 @@
--- A clear of a service ends its sessions; what it offered stays, and it is opened again.
+-- A clear of a service ends its sessions; what it offered stays, and it can be opened again.
 use Rattle.std.specs.Prelude.{◌≡◌, true, Some, None, List, [], ◌∷◌}
-use Rattle.sem_key.specs.declared.key.Kind.TheVariants.{Mem as MemKind, Serv as ServKind, Sess as SessKind}
-use Rattle.sem_key.specs.declared.object.Object.TheVariants.{Mem, Serv, Sess}
-use Rattle.sem_msg.specs.declared.message.Target.TheVariants.{Serv as ServTarget, Offer as OfferTarget}
-use Rattle.sem_msg.specs.declared.message.Message.TheVariants.{ObtainReq, ObtainOk, RevokeReq, RevokeDone}
-use Rattle.sem_msg.specs.declared.call.Call.TheVariants.{OpenSession, AskOffer, Clear}
-use Rattle.sem_msg.specs.declared.event.Act.TheVariants.{Call as Calls, Fetch, Handle, Upcall, Resume, Flush}
-use Rattle.sem_msg.specs.declared.event.Event.{Event}
-use Rattle.sem_msg.specs.declared.entry.Consent.TheVariants.{Yes}
-use Rattle.sem_msg.specs.declared.entry.Detail.TheVariants.{Called, Carried, Asked, Nothing}
-use Rattle.sem_msg.specs.declared.entry.Entry.{Entry}
-use Rattle.sem_msg.specs.Setup.{Setup}
-use Rattle.sem_machine.specs.Machine.{event}
+use Rattle.sem_machine.specs.Prelude.{MemKind, ServKind, SessKind, Mem, Serv, Sess, ServTarget, OfferTarget}
+use Rattle.sem_machine.specs.Prelude.{ObtainReq, ObtainOk, RevokeReq, RevokeDone, OpenSession, AskOffer, Clear, Calls}
+use Rattle.sem_machine.specs.Prelude.{Fetch, Handle, Upcall, Resume, Flush, Event, Yes, Called, Carried, Asked}
+use Rattle.sem_machine.specs.Prelude.{Nothing, Entry, Setup, event}
 use Rattle.sem_plays.specs.Words.{key, place, grant, reply, entry, owners, root, vpe, service, offer}
 use Rattle.sem_plays.specs.Played.{Played, played}
 
@@ -23,7 +15,8 @@ trace = record {
   owners = owners 2 (Some 0 ∷ Some 1 ∷ Some 0 ∷ []);
   vpes =
       vpe 0 0 (root 0 (Serv 1) ∷ root 1 (Mem 0 4096 7) ∷ []) (Clear 0 ∷ [])
-      ∷ vpe 1 1 [] (OpenSession 0 1 ∷ AskOffer 1 0 0 ∷ AskOffer 2 0 0 ∷ OpenSession 0 1 ∷ AskOffer 2 0 0 ∷ Clear 0 ∷ [])
+      ∷ vpe 1 1 [] (OpenSession 0 1 ∷ AskOffer 1 0 0 ∷ AskOffer 2 0 0 ∷ OpenSession 0 1 ∷ AskOffer 2 0 0 ∷ Clear 0
+      ∷ [])
       ∷ vpe 2 2 [] (OpenSession 0 1 ∷ AskOffer 1 0 0 ∷ [])
       ∷ [];
   services = service 1 (key 0 0 ServKind 0) ∷ [];
@@ -94,9 +87,12 @@ journal =
     ∷ entry 0 (Fetch 1) (Carried 1 (ObtainReq (place 1 1 0) (ServTarget (key 0 0 ServKind 0)))) None None None
     ∷ entry 0 Handle (Carried 1 (ObtainReq (place 1 1 0) (ServTarget (key 0 0 ServKind 0)))) None None None
     ∷ entry 0 (Upcall 0) (Asked 1 Yes) (grant (key 0 0 ServKind 0) (key 1 1 SessKind 0)) None None
-    ∷ entry 0 (Flush 1) (Carried 1 (ObtainOk (key 0 0 ServKind 0) (key 1 1 SessKind 0) (Sess (key 0 0 ServKind 0) 1))) None None None
-    ∷ entry 1 (Fetch 0) (Carried 0 (ObtainOk (key 0 0 ServKind 0) (key 1 1 SessKind 0) (Sess (key 0 0 ServKind 0) 1))) None None None
-    ∷ entry 1 Handle (Carried 0 (ObtainOk (key 0 0 ServKind 0) (key 1 1 SessKind 0) (Sess (key 0 0 ServKind 0) 1))) None None None
+    ∷ entry 0 (Flush 1) (Carried 1 (ObtainOk (key 0 0 ServKind 0) (key 1 1 SessKind 0) (Sess (key 0 0 ServKind 0) 1)))
+    None None None
+    ∷ entry 1 (Fetch 0) (Carried 0 (ObtainOk (key 0 0 ServKind 0) (key 1 1 SessKind 0) (Sess (key 0 0 ServKind 0) 1)))
+    None None None
+    ∷ entry 1 Handle (Carried 0 (ObtainOk (key 0 0 ServKind 0) (key 1 1 SessKind 0) (Sess (key 0 0 ServKind 0) 1)))
+    None None None
     ∷ entry 1 (Resume 1) Nothing None None (reply 1 0)
     ∷ entry 1 (Calls 1) (Called 1 (AskOffer 1 0 0)) None None None
     ∷ entry 1 (Flush 0) (Carried 0 (ObtainReq (place 1 1 1) (OfferTarget (key 0 0 ServKind 0) 0))) None None None
@@ -125,9 +121,12 @@ journal =
     ∷ entry 0 (Fetch 1) (Carried 1 (ObtainReq (place 1 1 2) (ServTarget (key 0 0 ServKind 0)))) None None None
     ∷ entry 0 Handle (Carried 1 (ObtainReq (place 1 1 2) (ServTarget (key 0 0 ServKind 0)))) None None None
     ∷ entry 0 (Upcall 0) (Asked 1 Yes) (grant (key 0 0 ServKind 0) (key 1 1 SessKind 2)) None None
-    ∷ entry 0 (Flush 1) (Carried 1 (ObtainOk (key 0 0 ServKind 0) (key 1 1 SessKind 2) (Sess (key 0 0 ServKind 0) 1))) None None None
-    ∷ entry 1 (Fetch 0) (Carried 0 (ObtainOk (key 0 0 ServKind 0) (key 1 1 SessKind 2) (Sess (key 0 0 ServKind 0) 1))) None None None
-    ∷ entry 1 Handle (Carried 0 (ObtainOk (key 0 0 ServKind 0) (key 1 1 SessKind 2) (Sess (key 0 0 ServKind 0) 1))) None None None
+    ∷ entry 0 (Flush 1) (Carried 1 (ObtainOk (key 0 0 ServKind 0) (key 1 1 SessKind 2) (Sess (key 0 0 ServKind 0) 1)))
+    None None None
+    ∷ entry 1 (Fetch 0) (Carried 0 (ObtainOk (key 0 0 ServKind 0) (key 1 1 SessKind 2) (Sess (key 0 0 ServKind 0) 1)))
+    None None None
+    ∷ entry 1 Handle (Carried 0 (ObtainOk (key 0 0 ServKind 0) (key 1 1 SessKind 2) (Sess (key 0 0 ServKind 0) 1)))
+    None None None
     ∷ entry 1 (Resume 1) Nothing None None (reply 1 0)
     ∷ entry 1 (Calls 1) (Called 4 (AskOffer 2 0 0)) None None None
     ∷ entry 1 (Flush 0) (Carried 0 (ObtainReq (place 1 1 3) (OfferTarget (key 0 0 ServKind 0) 0))) None None None
@@ -149,7 +148,8 @@ outcome = record {
   left = [];
   made = 7;
   cut = 2;
-  held = (key 0 0 MemKind 1, 1) ∷ (key 0 0 ServKind 0, 0) ∷ (key 1 1 MemKind 1, 1) ∷ (key 1 1 MemKind 3, 2) ∷ (key 1 1 SessKind 2, 0) ∷ [];
+  held = (key 0 0 MemKind 1, 1) ∷ (key 0 0 ServKind 0, 0) ∷ (key 1 1 MemKind 1, 1) ∷ (key 1 1 MemKind 3, 2)
+      ∷ (key 1 1 SessKind 2, 0) ∷ [];
   is_forest = true;
   is_linked = true;
   is_clean = true;

@@ -1,17 +1,8 @@
 -- A clear unbinds the endpoints of its root and of what goes, and no others.
 use Rattle.std.specs.Prelude.{◌≡◌, true, Some, None, List, [], ◌∷◌}
-use Rattle.sem_key.specs.declared.key.Kind.TheVariants.{Mem as MemKind}
-use Rattle.sem_key.specs.declared.object.Object.TheVariants.{Mem}
-use Rattle.sem_msg.specs.declared.message.Target.TheVariants.{Sel as SelTarget}
-use Rattle.sem_msg.specs.declared.message.Message.TheVariants.{ObtainReq, ObtainOk, RevokeReq, RevokeDone}
-use Rattle.sem_msg.specs.declared.call.Call.TheVariants.{Obtain, Bind, Write, Clear}
-use Rattle.sem_msg.specs.declared.event.Act.TheVariants.{Call as Calls, Fetch, Handle, Upcall, Resume, Flush}
-use Rattle.sem_msg.specs.declared.event.Event.{Event}
-use Rattle.sem_msg.specs.declared.entry.Consent.TheVariants.{Yes}
-use Rattle.sem_msg.specs.declared.entry.Detail.TheVariants.{Called, Carried, Asked, Nothing}
-use Rattle.sem_msg.specs.declared.entry.Entry.{Entry}
-use Rattle.sem_msg.specs.Setup.{Setup}
-use Rattle.sem_machine.specs.Machine.{event}
+use Rattle.sem_machine.specs.Prelude.{MemKind, Mem, SelTarget, ObtainReq, ObtainOk, RevokeReq, RevokeDone, Obtain}
+use Rattle.sem_machine.specs.Prelude.{Bind, Write, Clear, Calls, Fetch, Handle, Upcall, Resume, Flush, Event, Yes}
+use Rattle.sem_machine.specs.Prelude.{Called, Carried, Asked, Nothing, Entry, Setup, event}
 use Rattle.sem_plays.specs.Words.{key, place, grant, reply, entry, owners, root, vpe}
 use Rattle.sem_plays.specs.Played.{Played, played}
 
@@ -22,7 +13,8 @@ trace = record {
   kernels = 2;
   owners = owners 2 (Some 0 ∷ Some 0 ∷ Some 0 ∷ Some 1 ∷ []);
   vpes =
-      vpe 0 0 (root 0 (Mem 0 4096 7) ∷ root 3 (Mem 4096 16 7) ∷ []) (Bind 0 0 ∷ Bind 1 3 ∷ Write 0 0 16 ∷ Clear 0 ∷ Write 0 0 16 ∷ Write 1 0 16 ∷ Bind 0 0 ∷ Write 0 0 16 ∷ [])
+      vpe 0 0 (root 0 (Mem 0 4096 7) ∷ root 3 (Mem 4096 16 7) ∷ []) (Bind 0 0 ∷ Bind 1 3 ∷ Write 0 0 16 ∷ Clear 0
+      ∷ Write 0 0 16 ∷ Write 1 0 16 ∷ Bind 0 0 ∷ Write 0 0 16 ∷ [])
       ∷ vpe 1 1 [] []
       ∷ vpe 2 2 [] (Obtain 1 0 0 ∷ Bind 0 1 ∷ Write 0 0 16 ∷ Write 0 0 16 ∷ Bind 1 1 ∷ Bind 1 1 ∷ [])
       ∷ vpe 3 3 [] (Obtain 1 0 0 ∷ [])

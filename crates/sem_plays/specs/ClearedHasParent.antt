@@ -1,14 +1,7 @@
--- What was cleared is still below its parent, and goes with it.
+-- A cleared capability is still below its parent, and goes with it.
 use Rattle.std.specs.Prelude.{◌≡◌, true, Some, None, List, [], ◌∷◌}
-use Rattle.sem_key.specs.declared.key.Kind.TheVariants.{Mem as MemKind}
-use Rattle.sem_key.specs.declared.object.Object.TheVariants.{Mem}
-use Rattle.sem_msg.specs.declared.call.Call.TheVariants.{Derive, Revoke, Clear}
-use Rattle.sem_msg.specs.declared.event.Act.TheVariants.{Call as Calls, Resume}
-use Rattle.sem_msg.specs.declared.event.Event.{Event}
-use Rattle.sem_msg.specs.declared.entry.Detail.TheVariants.{Called, Nothing}
-use Rattle.sem_msg.specs.declared.entry.Entry.{Entry}
-use Rattle.sem_msg.specs.Setup.{Setup}
-use Rattle.sem_machine.specs.Machine.{event}
+use Rattle.sem_machine.specs.Prelude.{MemKind, Mem, Derive, Revoke, Clear, Calls, Resume, Event, Called, Nothing}
+use Rattle.sem_machine.specs.Prelude.{Entry, Setup, event}
 use Rattle.sem_plays.specs.Words.{key, grant, reply, entry, owners, root, vpe}
 use Rattle.sem_plays.specs.Played.{Played, played}
 
@@ -19,7 +12,8 @@ trace = record {
   kernels = 1;
   owners = owners 1 (Some 0 ∷ []);
   vpes =
-      vpe 0 0 (root 0 (Mem 0 4096 7) ∷ []) (Derive 0 1 0 1024 7 ∷ Derive 1 2 0 1 1 ∷ Clear 1 ∷ Derive 1 2 0 1 1 ∷ Revoke 0 ∷ Derive 1 3 0 1 1 ∷ [])
+      vpe 0 0 (root 0 (Mem 0 4096 7) ∷ []) (Derive 0 1 0 1024 7 ∷ Derive 1 2 0 1 1 ∷ Clear 1 ∷ Derive 1 2 0 1 1
+      ∷ Revoke 0 ∷ Derive 1 3 0 1 1 ∷ [])
       ∷ [];
   services = [];
   offers = [];
@@ -41,7 +35,8 @@ events =
 
 unfoldable pub journal : List Entry
 journal =
-    entry 0 (Calls 0) (Called 0 (Derive 0 1 0 1024 7)) (grant (key 0 0 MemKind 0) (key 0 0 MemKind 1)) None (reply 0 0)
+    entry 0 (Calls 0) (Called 0 (Derive 0 1 0 1024 7)) (grant (key 0 0 MemKind 0) (key 0 0 MemKind 1)) None
+    (reply 0 0)
     ∷ entry 0 (Calls 0) (Called 1 (Derive 1 2 0 1 1)) (grant (key 0 0 MemKind 1) (key 0 0 MemKind 2)) None (reply 0 0)
     ∷ entry 0 (Calls 0) (Called 2 (Clear 1)) None (Some (key 0 0 MemKind 1)) None
     ∷ entry 0 (Resume 0) Nothing None None (reply 0 0)

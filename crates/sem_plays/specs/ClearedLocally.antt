@@ -1,15 +1,8 @@
--- A clear takes a line of local descendants, their selectors are free, and the root is used as before.
+-- A clear takes a line of local descendants. Their selectors are free, and the root is used as
+-- before.
 use Rattle.std.specs.Prelude.{◌≡◌, true, Some, None, List, [], ◌∷◌}
-use Rattle.sem_key.specs.declared.key.Kind.TheVariants.{Mem as MemKind}
-use Rattle.sem_key.specs.declared.object.Object.TheVariants.{Mem}
-use Rattle.sem_msg.specs.declared.call.Call.TheVariants.{Derive, Obtain, Clear}
-use Rattle.sem_msg.specs.declared.event.Act.TheVariants.{Call as Calls, Upcall, Resume}
-use Rattle.sem_msg.specs.declared.event.Event.{Event}
-use Rattle.sem_msg.specs.declared.entry.Consent.TheVariants.{Yes}
-use Rattle.sem_msg.specs.declared.entry.Detail.TheVariants.{Called, Asked, Nothing}
-use Rattle.sem_msg.specs.declared.entry.Entry.{Entry}
-use Rattle.sem_msg.specs.Setup.{Setup}
-use Rattle.sem_machine.specs.Machine.{event}
+use Rattle.sem_machine.specs.Prelude.{MemKind, Mem, Derive, Obtain, Clear, Calls, Upcall, Resume, Event, Yes, Called}
+use Rattle.sem_machine.specs.Prelude.{Asked, Nothing, Entry, Setup, event}
 use Rattle.sem_plays.specs.Words.{key, grant, reply, entry, owners, root, vpe}
 use Rattle.sem_plays.specs.Played.{Played, played}
 
@@ -20,7 +13,8 @@ trace = record {
   kernels = 1;
   owners = owners 1 (Some 0 ∷ None ∷ Some 0 ∷ []);
   vpes =
-      vpe 0 0 (root 0 (Mem 0 4096 7) ∷ []) (Derive 0 1 0 1024 7 ∷ Derive 0 2 0 8 1 ∷ Clear 0 ∷ Derive 1 3 0 1 1 ∷ Derive 0 1 0 1 1 ∷ Derive 0 0 0 1 1 ∷ [])
+      vpe 0 0 (root 0 (Mem 0 4096 7) ∷ []) (Derive 0 1 0 1024 7 ∷ Derive 0 2 0 8 1 ∷ Clear 0 ∷ Derive 1 3 0 1 1
+      ∷ Derive 0 1 0 1 1 ∷ Derive 0 0 0 1 1 ∷ [])
       ∷ vpe 2 2 [] (Obtain 5 0 1 ∷ Derive 5 6 0 16 1 ∷ Derive 5 7 0 1 1 ∷ Obtain 6 0 0 ∷ [])
       ∷ [];
   services = [];
@@ -50,11 +44,13 @@ events =
 
 unfoldable pub journal : List Entry
 journal =
-    entry 0 (Calls 0) (Called 0 (Derive 0 1 0 1024 7)) (grant (key 0 0 MemKind 0) (key 0 0 MemKind 1)) None (reply 0 0)
+    entry 0 (Calls 0) (Called 0 (Derive 0 1 0 1024 7)) (grant (key 0 0 MemKind 0) (key 0 0 MemKind 1)) None
+    (reply 0 0)
     ∷ entry 0 (Calls 2) (Called 0 (Obtain 5 0 1)) None None None
     ∷ entry 0 (Upcall 0) (Asked 2 Yes) (grant (key 0 0 MemKind 1) (key 2 2 MemKind 0)) None None
     ∷ entry 0 (Resume 2) Nothing None None (reply 2 0)
-    ∷ entry 0 (Calls 2) (Called 1 (Derive 5 6 0 16 1)) (grant (key 2 2 MemKind 0) (key 2 2 MemKind 1)) None (reply 2 0)
+    ∷ entry 0 (Calls 2) (Called 1 (Derive 5 6 0 16 1)) (grant (key 2 2 MemKind 0) (key 2 2 MemKind 1)) None
+    (reply 2 0)
     ∷ entry 0 (Calls 0) (Called 1 (Derive 0 2 0 8 1)) (grant (key 0 0 MemKind 0) (key 0 0 MemKind 2)) None (reply 0 0)
     ∷ entry 0 (Calls 0) (Called 2 (Clear 0)) None (Some (key 0 0 MemKind 0)) None
     ∷ entry 0 (Resume 0) Nothing None None (reply 0 0)

@@ -1,14 +1,8 @@
--- A dead VPE of the same kernel is told, after the caller itself and what is not declared.
+-- A call learns of a dead VPE of the same kernel only after the tests for itself and for an
+-- undeclared VPE.
 use Rattle.std.specs.Prelude.{◌≡◌, true, Some, None, List, [], ◌∷◌}
-use Rattle.sem_key.specs.declared.key.Kind.TheVariants.{Mem as MemKind, Serv as ServKind}
-use Rattle.sem_key.specs.declared.object.Object.TheVariants.{Mem, Serv}
-use Rattle.sem_msg.specs.declared.call.Call.TheVariants.{Obtain, Delegate, OpenSession}
-use Rattle.sem_msg.specs.declared.event.Act.TheVariants.{Call as Calls, Kill}
-use Rattle.sem_msg.specs.declared.event.Event.{Event}
-use Rattle.sem_msg.specs.declared.entry.Detail.TheVariants.{Called, Nothing}
-use Rattle.sem_msg.specs.declared.entry.Entry.{Entry}
-use Rattle.sem_msg.specs.Setup.{Setup}
-use Rattle.sem_machine.specs.Machine.{event}
+use Rattle.sem_machine.specs.Prelude.{MemKind, ServKind, Mem, Serv, Obtain, Delegate, OpenSession, Calls, Kill, Event}
+use Rattle.sem_machine.specs.Prelude.{Called, Nothing, Entry, Setup, event}
 use Rattle.sem_plays.specs.Words.{key, reply, entry, owners, root, vpe, service}
 use Rattle.sem_plays.specs.Played.{Played, played}
 
@@ -19,7 +13,8 @@ trace = record {
   kernels = 1;
   owners = owners 1 (Some 0 ∷ Some 0 ∷ []);
   vpes =
-      vpe 0 0 (root 0 (Mem 0 4096 7) ∷ []) (Obtain 0 1 0 ∷ OpenSession 0 1 ∷ Delegate 0 1 3 ∷ Obtain 0 0 0 ∷ Delegate 9 0 0 ∷ Delegate 9 9 0 ∷ [])
+      vpe 0 0 (root 0 (Mem 0 4096 7) ∷ []) (Obtain 0 1 0 ∷ OpenSession 0 1 ∷ Delegate 0 1 3 ∷ Obtain 0 0 0
+      ∷ Delegate 9 0 0 ∷ Delegate 9 9 0 ∷ [])
       ∷ vpe 1 1 (root 0 (Serv 1) ∷ []) []
       ∷ [];
   services = service 1 (key 1 1 ServKind 0) ∷ [];

@@ -1,16 +1,9 @@
--- A delegate of what a clear has taken ends with Gone, and one of its root after the end stays.
+-- A delegate of a capability that a clear has taken ends with Gone; one of the clear's root after
+-- the end stays.
 use Rattle.std.specs.Prelude.{◌≡◌, true, false, Some, None, List, [], ◌∷◌}
-use Rattle.sem_key.specs.declared.key.Kind.TheVariants.{Mem as MemKind}
-use Rattle.sem_key.specs.declared.object.Object.TheVariants.{Mem}
-use Rattle.sem_msg.specs.declared.message.Message.TheVariants.{DelegateReq, DelegatePrepared, Ack}
-use Rattle.sem_msg.specs.declared.call.Call.TheVariants.{Obtain, Delegate, Clear}
-use Rattle.sem_msg.specs.declared.event.Act.TheVariants.{Call as Calls, Fetch, Handle, Upcall, Resume, Flush}
-use Rattle.sem_msg.specs.declared.event.Event.{Event}
-use Rattle.sem_msg.specs.declared.entry.Consent.TheVariants.{Yes}
-use Rattle.sem_msg.specs.declared.entry.Detail.TheVariants.{Called, Carried, Asked, Nothing}
-use Rattle.sem_msg.specs.declared.entry.Entry.{Entry}
-use Rattle.sem_msg.specs.Setup.{Setup}
-use Rattle.sem_machine.specs.Machine.{event}
+use Rattle.sem_machine.specs.Prelude.{MemKind, Mem, DelegateReq, DelegatePrepared, Ack, Obtain, Delegate, Clear}
+use Rattle.sem_machine.specs.Prelude.{Calls, Fetch, Handle, Upcall, Resume, Flush, Event, Yes, Called, Carried, Asked}
+use Rattle.sem_machine.specs.Prelude.{Nothing, Entry, Setup, event}
 use Rattle.sem_plays.specs.Words.{key, grant, reply, entry, owners, root, vpe}
 use Rattle.sem_plays.specs.Played.{Played, played}
 

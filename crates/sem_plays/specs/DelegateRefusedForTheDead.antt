@@ -1,16 +1,7 @@
 -- A refused delegate of a dead VPE ends with it.
 use Rattle.std.specs.Prelude.{◌≡◌, true, Some, None, List, [], ◌∷◌}
-use Rattle.sem_key.specs.declared.key.Kind.TheVariants.{Mem as MemKind}
-use Rattle.sem_key.specs.declared.object.Object.TheVariants.{Mem}
-use Rattle.sem_msg.specs.declared.message.Message.TheVariants.{DelegateReq, DelegateNo}
-use Rattle.sem_msg.specs.declared.call.Call.TheVariants.{Delegate}
-use Rattle.sem_msg.specs.declared.event.Act.TheVariants.{Call as Calls, Fetch, Handle, Upcall, Flush, Kill}
-use Rattle.sem_msg.specs.declared.event.Event.{Event}
-use Rattle.sem_msg.specs.declared.entry.Consent.TheVariants.{No}
-use Rattle.sem_msg.specs.declared.entry.Detail.TheVariants.{Called, Carried, Asked, Nothing}
-use Rattle.sem_msg.specs.declared.entry.Entry.{Entry}
-use Rattle.sem_msg.specs.Setup.{Setup}
-use Rattle.sem_machine.specs.Machine.{event}
+use Rattle.sem_machine.specs.Prelude.{MemKind, Mem, DelegateReq, DelegateNo, Delegate, Calls, Fetch, Handle, Upcall}
+use Rattle.sem_machine.specs.Prelude.{Flush, Kill, Event, No, Called, Carried, Asked, Nothing, Entry, Setup, event}
 use Rattle.sem_plays.specs.Words.{key, entry, owners, root, vpe}
 use Rattle.sem_plays.specs.Played.{Played, played}
 

@@ -1,14 +1,7 @@
 -- A derived capability goes with its root.
 use Rattle.std.specs.Prelude.{◌≡◌, true, Some, None, List, [], ◌∷◌}
-use Rattle.sem_key.specs.declared.key.Kind.TheVariants.{Mem as MemKind}
-use Rattle.sem_key.specs.declared.object.Object.TheVariants.{Mem}
-use Rattle.sem_msg.specs.declared.call.Call.TheVariants.{Derive, Revoke}
-use Rattle.sem_msg.specs.declared.event.Act.TheVariants.{Call as Calls, Resume}
-use Rattle.sem_msg.specs.declared.event.Event.{Event}
-use Rattle.sem_msg.specs.declared.entry.Detail.TheVariants.{Called, Nothing}
-use Rattle.sem_msg.specs.declared.entry.Entry.{Entry}
-use Rattle.sem_msg.specs.Setup.{Setup}
-use Rattle.sem_machine.specs.Machine.{event}
+use Rattle.sem_machine.specs.Prelude.{MemKind, Mem, Derive, Revoke, Calls, Resume, Event, Called, Nothing, Entry}
+use Rattle.sem_machine.specs.Prelude.{Setup, event}
 use Rattle.sem_plays.specs.Words.{key, grant, reply, entry, owners, root, vpe}
 use Rattle.sem_plays.specs.Played.{Played, played}
 
@@ -36,7 +29,8 @@ events =
 
 unfoldable pub journal : List Entry
 journal =
-    entry 0 (Calls 0) (Called 0 (Derive 0 1 0 1024 1)) (grant (key 0 0 MemKind 0) (key 0 0 MemKind 1)) None (reply 0 0)
+    entry 0 (Calls 0) (Called 0 (Derive 0 1 0 1024 1)) (grant (key 0 0 MemKind 0) (key 0 0 MemKind 1)) None
+    (reply 0 0)
     ∷ entry 0 (Calls 0) (Called 1 (Revoke 0)) None (Some (key 0 0 MemKind 0)) None
     ∷ entry 0 (Resume 0) Nothing None None (reply 0 0)
     ∷ []

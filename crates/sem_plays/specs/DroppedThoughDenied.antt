@@ -1,15 +1,8 @@
--- What a dead VPE of the same kernel asks is dropped, also where it is denied.
+-- The asks of a dead VPE of the same kernel are dropped, even if they are denied.
 use Rattle.std.specs.Prelude.{◌≡◌, true, Some, None, List, [], ◌∷◌}
-use Rattle.sem_key.specs.declared.key.Kind.TheVariants.{Mem as MemKind}
-use Rattle.sem_key.specs.declared.object.Object.TheVariants.{Mem}
-use Rattle.sem_msg.specs.declared.call.Call.TheVariants.{Obtain}
-use Rattle.sem_msg.specs.declared.event.Act.TheVariants.{Call as Calls, Upcall, Kill}
-use Rattle.sem_msg.specs.declared.event.Event.{Event}
+use Rattle.sem_machine.specs.Prelude.{MemKind, Mem, Obtain, Calls, Upcall, Kill, Event, Called, Asked, Nothing, Entry}
+use Rattle.sem_machine.specs.Prelude.{Setup, event}
 use Rattle.sem_msg.specs.declared.entry.Consent.TheVariants.{Dropped}
-use Rattle.sem_msg.specs.declared.entry.Detail.TheVariants.{Called, Asked, Nothing}
-use Rattle.sem_msg.specs.declared.entry.Entry.{Entry}
-use Rattle.sem_msg.specs.Setup.{Setup}
-use Rattle.sem_machine.specs.Machine.{event}
 use Rattle.sem_plays.specs.Words.{key, entry, owners, root, vpe}
 use Rattle.sem_plays.specs.Played.{Played, played}
 

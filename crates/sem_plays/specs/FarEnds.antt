@@ -1,17 +1,8 @@
 -- An obtain of the last VPE at the last kernel.
 use Rattle.std.specs.Prelude.{◌≡◌, true, Some, None, List, [], ◌∷◌, ◌++◌, replicate}
-use Rattle.sem_key.specs.declared.key.Kind.TheVariants.{Mem as MemKind}
-use Rattle.sem_key.specs.declared.object.Object.TheVariants.{Mem}
-use Rattle.sem_msg.specs.declared.message.Target.TheVariants.{Sel as SelTarget}
-use Rattle.sem_msg.specs.declared.message.Message.TheVariants.{ObtainReq, ObtainOk}
-use Rattle.sem_msg.specs.declared.call.Call.TheVariants.{Obtain}
-use Rattle.sem_msg.specs.declared.event.Act.TheVariants.{Call as Calls, Fetch, Handle, Upcall, Resume, Flush}
-use Rattle.sem_msg.specs.declared.event.Event.{Event}
-use Rattle.sem_msg.specs.declared.entry.Consent.TheVariants.{Yes}
-use Rattle.sem_msg.specs.declared.entry.Detail.TheVariants.{Called, Carried, Asked, Nothing}
-use Rattle.sem_msg.specs.declared.entry.Entry.{Entry}
-use Rattle.sem_msg.specs.Setup.{Setup}
-use Rattle.sem_machine.specs.Machine.{event}
+use Rattle.sem_machine.specs.Prelude.{MemKind, Mem, SelTarget, ObtainReq, ObtainOk, Obtain, Calls, Fetch, Handle}
+use Rattle.sem_machine.specs.Prelude.{Upcall, Resume, Flush, Event, Yes, Called, Carried, Asked, Nothing, Entry}
+use Rattle.sem_machine.specs.Prelude.{Setup, event}
 use Rattle.sem_plays.specs.Words.{key, place, grant, reply, entry, owners, root, vpe}
 use Rattle.sem_plays.specs.Played.{Played, played}
 
@@ -51,8 +42,10 @@ journal =
     ∷ entry 0 (Fetch 31) (Carried 31 (ObtainReq (place 127 127 0) (SelTarget 0 0))) None None None
     ∷ entry 0 Handle (Carried 31 (ObtainReq (place 127 127 0) (SelTarget 0 0))) None None None
     ∷ entry 0 (Upcall 0) (Asked 127 Yes) (grant (key 0 0 MemKind 0) (key 127 127 MemKind 0)) None None
-    ∷ entry 0 (Flush 31) (Carried 31 (ObtainOk (key 0 0 MemKind 0) (key 127 127 MemKind 0) (Mem 0 4096 7))) None None None
-    ∷ entry 31 (Fetch 0) (Carried 0 (ObtainOk (key 0 0 MemKind 0) (key 127 127 MemKind 0) (Mem 0 4096 7))) None None None
+    ∷ entry 0 (Flush 31) (Carried 31 (ObtainOk (key 0 0 MemKind 0) (key 127 127 MemKind 0) (Mem 0 4096 7))) None None
+    None
+    ∷ entry 31 (Fetch 0) (Carried 0 (ObtainOk (key 0 0 MemKind 0) (key 127 127 MemKind 0) (Mem 0 4096 7))) None None
+    None
     ∷ entry 31 Handle (Carried 0 (ObtainOk (key 0 0 MemKind 0) (key 127 127 MemKind 0) (Mem 0 4096 7))) None None None
     ∷ entry 31 (Resume 127) Nothing None None (reply 127 0)
     ∷ []

@@ -1,14 +1,8 @@
--- A gate may have as many credits as there are slots; what is wider is told before the destination.
+-- A gate may have as many credits as there are slots; too many credits are refused before the
+-- destination is tested.
 use Rattle.std.specs.Prelude.{◌≡◌, true, Some, None, List, [], ◌∷◌}
-use Rattle.sem_key.specs.declared.key.Kind.TheVariants.{Mem as MemKind, Recv as RecvKind, Send as SendKind}
-use Rattle.sem_key.specs.declared.object.Object.TheVariants.{Mem, Recv}
-use Rattle.sem_msg.specs.declared.call.Call.TheVariants.{Gate}
-use Rattle.sem_msg.specs.declared.event.Act.TheVariants.{Call as Calls}
-use Rattle.sem_msg.specs.declared.event.Event.{Event}
-use Rattle.sem_msg.specs.declared.entry.Detail.TheVariants.{Called}
-use Rattle.sem_msg.specs.declared.entry.Entry.{Entry}
-use Rattle.sem_msg.specs.Setup.{Setup}
-use Rattle.sem_machine.specs.Machine.{event}
+use Rattle.sem_machine.specs.Prelude.{MemKind, RecvKind, SendKind, Mem, Recv, Gate, Calls, Event, Called, Entry}
+use Rattle.sem_machine.specs.Prelude.{Setup, event}
 use Rattle.sem_plays.specs.Words.{key, grant, reply, entry, owners, root, vpe}
 use Rattle.sem_plays.specs.Played.{Played, played}
 
@@ -19,7 +13,8 @@ trace = record {
   kernels = 1;
   owners = owners 1 (Some 0 ∷ []);
   vpes =
-      vpe 0 0 (root 0 (Recv 2) ∷ root 1 (Mem 0 4096 7) ∷ []) (Gate 0 2 5 2 ∷ Gate 0 3 5 3 ∷ Gate 1 3 5 64 ∷ Gate 1 3 5 1 ∷ [])
+      vpe 0 0 (root 0 (Recv 2) ∷ root 1 (Mem 0 4096 7) ∷ []) (Gate 0 2 5 2 ∷ Gate 0 3 5 3 ∷ Gate 1 3 5 64
+      ∷ Gate 1 3 5 1 ∷ [])
       ∷ [];
   services = [];
   offers = [];

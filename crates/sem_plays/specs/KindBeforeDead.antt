@@ -1,15 +1,7 @@
--- A delegate tells the kind before the dead VPE.
+-- A delegate tests the kind before the dead VPE.
 use Rattle.std.specs.Prelude.{◌≡◌, true, Some, None, List, [], ◌∷◌}
-use Rattle.sem_key.specs.declared.key.Kind.TheVariants.{Serv as ServKind, Sess as SessKind}
-use Rattle.sem_key.specs.declared.object.Object.TheVariants.{Serv}
-use Rattle.sem_msg.specs.declared.call.Call.TheVariants.{Delegate, OpenSession}
-use Rattle.sem_msg.specs.declared.event.Act.TheVariants.{Call as Calls, Upcall, Resume, Kill}
-use Rattle.sem_msg.specs.declared.event.Event.{Event}
-use Rattle.sem_msg.specs.declared.entry.Consent.TheVariants.{Yes}
-use Rattle.sem_msg.specs.declared.entry.Detail.TheVariants.{Called, Asked, Nothing}
-use Rattle.sem_msg.specs.declared.entry.Entry.{Entry}
-use Rattle.sem_msg.specs.Setup.{Setup}
-use Rattle.sem_machine.specs.Machine.{event}
+use Rattle.sem_machine.specs.Prelude.{ServKind, SessKind, Serv, Delegate, OpenSession, Calls, Upcall, Resume, Kill}
+use Rattle.sem_machine.specs.Prelude.{Event, Yes, Called, Asked, Nothing, Entry, Setup, event}
 use Rattle.sem_plays.specs.Words.{key, grant, reply, entry, owners, root, vpe, service}
 use Rattle.sem_plays.specs.Played.{Played, played}
 

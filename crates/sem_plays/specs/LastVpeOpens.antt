@@ -1,17 +1,10 @@
 -- The session of the last VPE, and its clear by the service.
 use Rattle.std.specs.Prelude.{◌≡◌, true, Some, None, List, [], ◌∷◌, ◌++◌, replicate}
-use Rattle.sem_key.specs.declared.key.Kind.TheVariants.{Mem as MemKind, Serv as ServKind, Sess as SessKind}
-use Rattle.sem_key.specs.declared.object.Object.TheVariants.{Mem, Serv, Sess}
-use Rattle.sem_msg.specs.declared.message.Target.TheVariants.{Serv as ServTarget, Offer as OfferTarget}
-use Rattle.sem_msg.specs.declared.message.Message.TheVariants.{ObtainReq, ObtainOk, DelegateReq, DelegatePrepared, Ack, RevokeReq, RevokeDone}
-use Rattle.sem_msg.specs.declared.call.Call.TheVariants.{Delegate, OpenSession, AskOffer, Revoke, Clear}
-use Rattle.sem_msg.specs.declared.event.Act.TheVariants.{Call as Calls, Fetch, Handle, Upcall, Resume, Flush, Kill}
-use Rattle.sem_msg.specs.declared.event.Event.{Event}
-use Rattle.sem_msg.specs.declared.entry.Consent.TheVariants.{Yes}
-use Rattle.sem_msg.specs.declared.entry.Detail.TheVariants.{Called, Carried, Asked, Nothing}
-use Rattle.sem_msg.specs.declared.entry.Entry.{Entry}
-use Rattle.sem_msg.specs.Setup.{Setup}
-use Rattle.sem_machine.specs.Machine.{event}
+use Rattle.sem_machine.specs.Prelude.{MemKind, ServKind, SessKind, Mem, Serv, Sess, ServTarget, OfferTarget}
+use Rattle.sem_machine.specs.Prelude.{ObtainReq, ObtainOk, DelegateReq, DelegatePrepared, Ack, RevokeReq, RevokeDone}
+use Rattle.sem_machine.specs.Prelude.{Delegate, OpenSession, AskOffer, Revoke, Clear, Calls, Fetch, Handle, Upcall}
+use Rattle.sem_machine.specs.Prelude.{Resume, Flush, Kill, Event, Yes, Called, Carried, Asked, Nothing, Entry, Setup}
+use Rattle.sem_machine.specs.Prelude.{event}
 use Rattle.sem_plays.specs.Words.{key, place, grant, reply, entry, owners, root, vpe, service, offer}
 use Rattle.sem_plays.specs.Played.{Played, played}
 
@@ -107,22 +100,35 @@ events =
 unfoldable pub journal : List Entry
 journal =
     entry 31 (Calls 127) (Called 0 (OpenSession 0 1)) None None None
-    ∷ entry 31 (Flush 15) (Carried 15 (ObtainReq (place 127 127 0) (ServTarget (key 64 64 ServKind 0)))) None None None
-    ∷ entry 15 (Fetch 31) (Carried 31 (ObtainReq (place 127 127 0) (ServTarget (key 64 64 ServKind 0)))) None None None
+    ∷ entry 31 (Flush 15) (Carried 15 (ObtainReq (place 127 127 0) (ServTarget (key 64 64 ServKind 0)))) None None
+    None
+    ∷ entry 15 (Fetch 31) (Carried 31 (ObtainReq (place 127 127 0) (ServTarget (key 64 64 ServKind 0)))) None None
+    None
     ∷ entry 15 Handle (Carried 31 (ObtainReq (place 127 127 0) (ServTarget (key 64 64 ServKind 0)))) None None None
     ∷ entry 15 (Upcall 64) (Asked 127 Yes) (grant (key 64 64 ServKind 0) (key 127 127 SessKind 0)) None None
-    ∷ entry 15 (Flush 31) (Carried 31 (ObtainOk (key 64 64 ServKind 0) (key 127 127 SessKind 0) (Sess (key 64 64 ServKind 0) 127))) None None None
-    ∷ entry 31 (Fetch 15) (Carried 15 (ObtainOk (key 64 64 ServKind 0) (key 127 127 SessKind 0) (Sess (key 64 64 ServKind 0) 127))) None None None
-    ∷ entry 31 Handle (Carried 15 (ObtainOk (key 64 64 ServKind 0) (key 127 127 SessKind 0) (Sess (key 64 64 ServKind 0) 127))) None None None
+    ∷ entry 15 (Flush 31)
+    (Carried 31 (ObtainOk (key 64 64 ServKind 0) (key 127 127 SessKind 0) (Sess (key 64 64 ServKind 0) 127))) None
+    None None
+    ∷ entry 31 (Fetch 15)
+    (Carried 15 (ObtainOk (key 64 64 ServKind 0) (key 127 127 SessKind 0) (Sess (key 64 64 ServKind 0) 127))) None
+    None None
+    ∷ entry 31 Handle
+    (Carried 15 (ObtainOk (key 64 64 ServKind 0) (key 127 127 SessKind 0) (Sess (key 64 64 ServKind 0) 127))) None
+    None None
     ∷ entry 31 (Resume 127) Nothing None None (reply 127 0)
     ∷ entry 31 (Calls 127) (Called 1 (AskOffer 1 0 0)) None None None
-    ∷ entry 31 (Flush 15) (Carried 15 (ObtainReq (place 127 127 1) (OfferTarget (key 64 64 ServKind 0) 0))) None None None
-    ∷ entry 15 (Fetch 31) (Carried 31 (ObtainReq (place 127 127 1) (OfferTarget (key 64 64 ServKind 0) 0))) None None None
+    ∷ entry 31 (Flush 15) (Carried 15 (ObtainReq (place 127 127 1) (OfferTarget (key 64 64 ServKind 0) 0))) None None
+    None
+    ∷ entry 15 (Fetch 31) (Carried 31 (ObtainReq (place 127 127 1) (OfferTarget (key 64 64 ServKind 0) 0))) None None
+    None
     ∷ entry 15 Handle (Carried 31 (ObtainReq (place 127 127 1) (OfferTarget (key 64 64 ServKind 0) 0))) None None None
     ∷ entry 15 (Upcall 64) (Asked 127 Yes) (grant (key 64 64 MemKind 1) (key 127 127 MemKind 1)) None None
-    ∷ entry 15 (Flush 31) (Carried 31 (ObtainOk (key 64 64 MemKind 1) (key 127 127 MemKind 1) (Mem 0 4096 7))) None None None
-    ∷ entry 31 (Fetch 15) (Carried 15 (ObtainOk (key 64 64 MemKind 1) (key 127 127 MemKind 1) (Mem 0 4096 7))) None None None
-    ∷ entry 31 Handle (Carried 15 (ObtainOk (key 64 64 MemKind 1) (key 127 127 MemKind 1) (Mem 0 4096 7))) None None None
+    ∷ entry 15 (Flush 31) (Carried 31 (ObtainOk (key 64 64 MemKind 1) (key 127 127 MemKind 1) (Mem 0 4096 7))) None
+    None None
+    ∷ entry 31 (Fetch 15) (Carried 15 (ObtainOk (key 64 64 MemKind 1) (key 127 127 MemKind 1) (Mem 0 4096 7))) None
+    None None
+    ∷ entry 31 Handle (Carried 15 (ObtainOk (key 64 64 MemKind 1) (key 127 127 MemKind 1) (Mem 0 4096 7))) None None
+    None
     ∷ entry 31 (Resume 127) Nothing None None (reply 127 0)
     ∷ entry 31 (Calls 127) (Called 2 (Delegate 1 63 9)) None None None
     ∷ entry 31 (Flush 16) (Carried 16 (DelegateReq (key 127 127 MemKind 1) (Mem 0 4096 7) 63 9)) None None None
@@ -141,9 +147,15 @@ journal =
     ∷ entry 15 (Fetch 16) (Carried 16 (ObtainReq (place 63 63 1) (ServTarget (key 64 64 ServKind 0)))) None None None
     ∷ entry 15 Handle (Carried 16 (ObtainReq (place 63 63 1) (ServTarget (key 64 64 ServKind 0)))) None None None
     ∷ entry 15 (Upcall 64) (Asked 63 Yes) (grant (key 64 64 ServKind 0) (key 63 63 SessKind 1)) None None
-    ∷ entry 15 (Flush 16) (Carried 16 (ObtainOk (key 64 64 ServKind 0) (key 63 63 SessKind 1) (Sess (key 64 64 ServKind 0) 63))) None None None
-    ∷ entry 16 (Fetch 15) (Carried 15 (ObtainOk (key 64 64 ServKind 0) (key 63 63 SessKind 1) (Sess (key 64 64 ServKind 0) 63))) None None None
-    ∷ entry 16 Handle (Carried 15 (ObtainOk (key 64 64 ServKind 0) (key 63 63 SessKind 1) (Sess (key 64 64 ServKind 0) 63))) None None None
+    ∷ entry 15 (Flush 16)
+    (Carried 16 (ObtainOk (key 64 64 ServKind 0) (key 63 63 SessKind 1) (Sess (key 64 64 ServKind 0) 63))) None
+    None None
+    ∷ entry 16 (Fetch 15)
+    (Carried 15 (ObtainOk (key 64 64 ServKind 0) (key 63 63 SessKind 1) (Sess (key 64 64 ServKind 0) 63))) None
+    None None
+    ∷ entry 16 Handle
+    (Carried 15 (ObtainOk (key 64 64 ServKind 0) (key 63 63 SessKind 1) (Sess (key 64 64 ServKind 0) 63))) None
+    None None
     ∷ entry 16 (Resume 63) Nothing None None (reply 63 0)
     ∷ entry 15 (Calls 64) (Called 0 (Clear 0)) None (Some (key 64 64 ServKind 0)) None
     ∷ entry 15 (Flush 16) (Carried 16 (RevokeReq (key 63 63 SessKind 1) 0)) None None None

@@ -1,17 +1,9 @@
--- A marked source is told before its kind, and a service is given by no offer.
+-- A marked source is refused before its kind is tested, and no offer gives a service.
 use Rattle.std.specs.Prelude.{◌≡◌, true, Some, None, List, [], ◌∷◌}
-use Rattle.sem_key.specs.declared.key.Kind.TheVariants.{Serv as ServKind, Sess as SessKind}
-use Rattle.sem_key.specs.declared.object.Object.TheVariants.{Serv, Sess}
-use Rattle.sem_msg.specs.declared.message.Target.TheVariants.{Serv as ServTarget, Offer as OfferTarget}
-use Rattle.sem_msg.specs.declared.message.Message.TheVariants.{ObtainReq, ObtainOk, ObtainNo, RevokeReq, RevokeDone}
-use Rattle.sem_msg.specs.declared.call.Call.TheVariants.{Obtain, OpenSession, AskOffer, Revoke, Bind}
-use Rattle.sem_msg.specs.declared.event.Act.TheVariants.{Call as Calls, Fetch, Handle, Upcall, Resume, Flush}
-use Rattle.sem_msg.specs.declared.event.Event.{Event}
-use Rattle.sem_msg.specs.declared.entry.Consent.TheVariants.{Yes}
-use Rattle.sem_msg.specs.declared.entry.Detail.TheVariants.{Called, Carried, Asked, Nothing}
-use Rattle.sem_msg.specs.declared.entry.Entry.{Entry}
-use Rattle.sem_msg.specs.Setup.{Setup}
-use Rattle.sem_machine.specs.Machine.{event}
+use Rattle.sem_machine.specs.Prelude.{ServKind, SessKind, Serv, Sess, ServTarget, OfferTarget, ObtainReq, ObtainOk}
+use Rattle.sem_machine.specs.Prelude.{ObtainNo, RevokeReq, RevokeDone, Obtain, OpenSession, AskOffer, Revoke, Bind}
+use Rattle.sem_machine.specs.Prelude.{Calls, Fetch, Handle, Upcall, Resume, Flush, Event, Yes, Called, Carried, Asked}
+use Rattle.sem_machine.specs.Prelude.{Nothing, Entry, Setup, event}
 use Rattle.sem_plays.specs.Words.{key, place, grant, reply, entry, owners, root, vpe, service, offer}
 use Rattle.sem_plays.specs.Played.{Played, played, enabled_after}
 
@@ -32,7 +24,7 @@ trace = record {
   kills = [];
 }
 
--- the events up to the point where it is told what is enabled
+-- the events before the test of what is enabled
 unfoldable pub first_events : List Event
 first_events =
     event 1 (Calls 1)
@@ -118,9 +110,12 @@ journal =
     ∷ entry 0 (Fetch 1) (Carried 1 (ObtainReq (place 1 1 0) (ServTarget (key 0 0 ServKind 0)))) None None None
     ∷ entry 0 Handle (Carried 1 (ObtainReq (place 1 1 0) (ServTarget (key 0 0 ServKind 0)))) None None None
     ∷ entry 0 (Upcall 0) (Asked 1 Yes) (grant (key 0 0 ServKind 0) (key 1 1 SessKind 0)) None None
-    ∷ entry 0 (Flush 1) (Carried 1 (ObtainOk (key 0 0 ServKind 0) (key 1 1 SessKind 0) (Sess (key 0 0 ServKind 0) 1))) None None None
-    ∷ entry 1 (Fetch 0) (Carried 0 (ObtainOk (key 0 0 ServKind 0) (key 1 1 SessKind 0) (Sess (key 0 0 ServKind 0) 1))) None None None
-    ∷ entry 1 Handle (Carried 0 (ObtainOk (key 0 0 ServKind 0) (key 1 1 SessKind 0) (Sess (key 0 0 ServKind 0) 1))) None None None
+    ∷ entry 0 (Flush 1) (Carried 1 (ObtainOk (key 0 0 ServKind 0) (key 1 1 SessKind 0) (Sess (key 0 0 ServKind 0) 1)))
+    None None None
+    ∷ entry 1 (Fetch 0) (Carried 0 (ObtainOk (key 0 0 ServKind 0) (key 1 1 SessKind 0) (Sess (key 0 0 ServKind 0) 1)))
+    None None None
+    ∷ entry 1 Handle (Carried 0 (ObtainOk (key 0 0 ServKind 0) (key 1 1 SessKind 0) (Sess (key 0 0 ServKind 0) 1)))
+    None None None
     ∷ entry 1 (Resume 1) Nothing None None (reply 1 0)
     ∷ entry 1 (Calls 1) (Called 1 (AskOffer 1 0 0)) None None None
     ∷ entry 1 (Flush 0) (Carried 0 (ObtainReq (place 1 1 1) (OfferTarget (key 0 0 ServKind 0) 0))) None None None
@@ -176,6 +171,6 @@ waiting =
     ∷ event 0 (Flush 1)
     ∷ []
 
--- then these and no others are enabled
+-- then exactly these are enabled
 abbrev pub waits : Type 0
 waits = enabled_after trace first_events ≡ waiting

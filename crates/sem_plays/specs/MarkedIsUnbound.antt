@@ -1,17 +1,8 @@
--- What is marked is unbound at once.
+-- A marked capability is unbound at once.
 use Rattle.std.specs.Prelude.{◌≡◌, true, Some, None, List, [], ◌∷◌}
-use Rattle.sem_key.specs.declared.key.Kind.TheVariants.{Recv as RecvKind, Send as SendKind}
-use Rattle.sem_key.specs.declared.object.Object.TheVariants.{Recv, Send}
-use Rattle.sem_msg.specs.declared.message.Target.TheVariants.{Sel as SelTarget}
-use Rattle.sem_msg.specs.declared.message.Message.TheVariants.{ObtainReq, ObtainOk, RevokeReq, RevokeDone}
-use Rattle.sem_msg.specs.declared.call.Call.TheVariants.{Gate, Obtain, Revoke, Bind, Send as SendCall}
-use Rattle.sem_msg.specs.declared.event.Act.TheVariants.{Call as Calls, Fetch, Handle, Upcall, Resume, Flush}
-use Rattle.sem_msg.specs.declared.event.Event.{Event}
-use Rattle.sem_msg.specs.declared.entry.Consent.TheVariants.{Yes}
-use Rattle.sem_msg.specs.declared.entry.Detail.TheVariants.{Called, Carried, Asked, Nothing}
-use Rattle.sem_msg.specs.declared.entry.Entry.{Entry}
-use Rattle.sem_msg.specs.Setup.{Setup}
-use Rattle.sem_machine.specs.Machine.{event}
+use Rattle.sem_machine.specs.Prelude.{RecvKind, SendKind, Recv, Send, SelTarget, ObtainReq, ObtainOk, RevokeReq}
+use Rattle.sem_machine.specs.Prelude.{RevokeDone, Gate, Obtain, Revoke, Bind, SendCall, Calls, Fetch, Handle, Upcall}
+use Rattle.sem_machine.specs.Prelude.{Resume, Flush, Event, Yes, Called, Carried, Asked, Nothing, Entry, Setup, event}
 use Rattle.sem_plays.specs.Words.{key, place, grant, reply, entry, owners, root, vpe}
 use Rattle.sem_plays.specs.Played.{Played, played}
 
@@ -71,9 +62,14 @@ journal =
     ∷ entry 0 (Fetch 1) (Carried 1 (ObtainReq (place 2 2 0) (SelTarget 1 2))) None None None
     ∷ entry 0 Handle (Carried 1 (ObtainReq (place 2 2 0) (SelTarget 1 2))) None None None
     ∷ entry 0 (Upcall 1) (Asked 2 Yes) (grant (key 1 1 SendKind 0) (key 2 2 SendKind 0)) None None
-    ∷ entry 0 (Flush 1) (Carried 1 (ObtainOk (key 1 1 SendKind 0) (key 2 2 SendKind 0) (Send (key 0 0 RecvKind 0) 77 2))) None None None
-    ∷ entry 1 (Fetch 0) (Carried 0 (ObtainOk (key 1 1 SendKind 0) (key 2 2 SendKind 0) (Send (key 0 0 RecvKind 0) 77 2))) None None None
-    ∷ entry 1 Handle (Carried 0 (ObtainOk (key 1 1 SendKind 0) (key 2 2 SendKind 0) (Send (key 0 0 RecvKind 0) 77 2))) None None None
+    ∷ entry 0 (Flush 1)
+    (Carried 1 (ObtainOk (key 1 1 SendKind 0) (key 2 2 SendKind 0) (Send (key 0 0 RecvKind 0) 77 2))) None None
+    None
+    ∷ entry 1 (Fetch 0)
+    (Carried 0 (ObtainOk (key 1 1 SendKind 0) (key 2 2 SendKind 0) (Send (key 0 0 RecvKind 0) 77 2))) None None
+    None
+    ∷ entry 1 Handle (Carried 0 (ObtainOk (key 1 1 SendKind 0) (key 2 2 SendKind 0) (Send (key 0 0 RecvKind 0) 77 2)))
+    None None None
     ∷ entry 1 (Resume 2) Nothing None None (reply 2 0)
     ∷ entry 0 (Calls 1) (Called 1 (Bind 0 2)) None None (reply 1 0)
     ∷ entry 0 (Calls 1) (Called 2 (SendCall 0 16)) None None (reply 1 0)

@@ -1,17 +1,8 @@
--- Obtains that cross, and one of the caller itself.
+-- Obtains that cross, and one by a VPE from itself.
 use Rattle.std.specs.Prelude.{◌≡◌, true, Some, None, List, [], ◌∷◌}
-use Rattle.sem_key.specs.declared.key.Kind.TheVariants.{Mem as MemKind}
-use Rattle.sem_key.specs.declared.object.Object.TheVariants.{Mem}
-use Rattle.sem_msg.specs.declared.message.Target.TheVariants.{Sel as SelTarget}
-use Rattle.sem_msg.specs.declared.message.Message.TheVariants.{ObtainReq, ObtainOk}
-use Rattle.sem_msg.specs.declared.call.Call.TheVariants.{Obtain}
-use Rattle.sem_msg.specs.declared.event.Act.TheVariants.{Call as Calls, Fetch, Handle, Upcall, Resume, Flush}
-use Rattle.sem_msg.specs.declared.event.Event.{Event}
-use Rattle.sem_msg.specs.declared.entry.Consent.TheVariants.{Yes}
-use Rattle.sem_msg.specs.declared.entry.Detail.TheVariants.{Called, Carried, Asked, Nothing}
-use Rattle.sem_msg.specs.declared.entry.Entry.{Entry}
-use Rattle.sem_msg.specs.Setup.{Setup}
-use Rattle.sem_machine.specs.Machine.{event}
+use Rattle.sem_machine.specs.Prelude.{MemKind, Mem, SelTarget, ObtainReq, ObtainOk, Obtain, Calls, Fetch, Handle}
+use Rattle.sem_machine.specs.Prelude.{Upcall, Resume, Flush, Event, Yes, Called, Carried, Asked, Nothing, Entry}
+use Rattle.sem_machine.specs.Prelude.{Setup, event}
 use Rattle.sem_plays.specs.Words.{key, place, grant, reply, entry, owners, root, vpe}
 use Rattle.sem_plays.specs.Played.{Played, played}
 
@@ -70,8 +61,10 @@ journal =
     ∷ entry 1 (Fetch 0) (Carried 0 (ObtainOk (key 0 0 MemKind 0) (key 1 1 MemKind 1) (Mem 0 4096 7))) None None None
     ∷ entry 1 Handle (Carried 0 (ObtainOk (key 0 0 MemKind 0) (key 1 1 MemKind 1) (Mem 0 4096 7))) None None None
     ∷ entry 1 (Resume 1) Nothing None None (reply 1 0)
-    ∷ entry 1 (Flush 0) (Carried 0 (ObtainOk (key 1 1 MemKind 0) (key 0 0 MemKind 1) (Mem 4096 4096 7))) None None None
-    ∷ entry 0 (Fetch 1) (Carried 1 (ObtainOk (key 1 1 MemKind 0) (key 0 0 MemKind 1) (Mem 4096 4096 7))) None None None
+    ∷ entry 1 (Flush 0) (Carried 0 (ObtainOk (key 1 1 MemKind 0) (key 0 0 MemKind 1) (Mem 4096 4096 7))) None None
+    None
+    ∷ entry 0 (Fetch 1) (Carried 1 (ObtainOk (key 1 1 MemKind 0) (key 0 0 MemKind 1) (Mem 4096 4096 7))) None None
+    None
     ∷ entry 0 Handle (Carried 1 (ObtainOk (key 1 1 MemKind 0) (key 0 0 MemKind 1) (Mem 4096 4096 7))) None None None
     ∷ entry 0 (Resume 0) Nothing None None (reply 0 0)
     ∷ entry 0 (Calls 0) (Called 1 (Obtain 2 0 0)) None None (reply 0 15)

@@ -1,15 +1,7 @@
--- An offer is one of the service that is asked.
+-- An offer belongs to the service that is asked.
 use Rattle.std.specs.Prelude.{◌≡◌, true, Some, None, List, [], ◌∷◌}
-use Rattle.sem_key.specs.declared.key.Kind.TheVariants.{Mem as MemKind, Serv as ServKind, Sess as SessKind}
-use Rattle.sem_key.specs.declared.object.Object.TheVariants.{Mem, Serv}
-use Rattle.sem_msg.specs.declared.call.Call.TheVariants.{OpenSession, AskOffer}
-use Rattle.sem_msg.specs.declared.event.Act.TheVariants.{Call as Calls, Upcall, Resume}
-use Rattle.sem_msg.specs.declared.event.Event.{Event}
-use Rattle.sem_msg.specs.declared.entry.Consent.TheVariants.{Yes}
-use Rattle.sem_msg.specs.declared.entry.Detail.TheVariants.{Called, Asked, Nothing}
-use Rattle.sem_msg.specs.declared.entry.Entry.{Entry}
-use Rattle.sem_msg.specs.Setup.{Setup}
-use Rattle.sem_machine.specs.Machine.{event}
+use Rattle.sem_machine.specs.Prelude.{MemKind, ServKind, SessKind, Mem, Serv, OpenSession, AskOffer, Calls, Upcall}
+use Rattle.sem_machine.specs.Prelude.{Resume, Event, Yes, Called, Asked, Nothing, Entry, Setup, event}
 use Rattle.sem_plays.specs.Words.{key, grant, reply, entry, owners, root, vpe, service, offer}
 use Rattle.sem_plays.specs.Played.{Played, played}
 
@@ -57,7 +49,8 @@ outcome = record {
   left = [];
   made = 7;
   cut = 0;
-  held = (key 0 0 MemKind 1, 1) ∷ (key 0 0 ServKind 0, 0) ∷ (key 1 1 MemKind 1, 1) ∷ (key 1 1 MemKind 2, 3) ∷ (key 1 1 ServKind 0, 0) ∷ (key 2 2 MemKind 1, 1) ∷ (key 2 2 SessKind 0, 0) ∷ [];
+  held = (key 0 0 MemKind 1, 1) ∷ (key 0 0 ServKind 0, 0) ∷ (key 1 1 MemKind 1, 1) ∷ (key 1 1 MemKind 2, 3)
+      ∷ (key 1 1 ServKind 0, 0) ∷ (key 2 2 MemKind 1, 1) ∷ (key 2 2 SessKind 0, 0) ∷ [];
   is_forest = true;
   is_linked = true;
   is_clean = true;

@@ -1,28 +1,26 @@
--- A play: events are run from the start of a trace, and what comes of it is told.
-use Rattle.std.specs.Prelude.{ℕ, ◌==◌, Bool, true, false, not, ◌&&◌, List, [], ◌∷◌, length, map, filter, flat_map, is_none}
+-- A play: events run from the start of a trace, and what comes of them.
+use Rattle.std.specs.Prelude.{ℕ, ◌==◌, Bool, true, false, not, ◌&&◌, List, [], ◌∷◌, length, map, filter, flat_map}
+use Rattle.std.specs.Prelude.{is_none}
 use Rattle.std.specs.List.{list_all, enumerate_from}
 use Rattle.std.specs.Option.{option_map_or}
-use Rattle.sem_key.specs.KeyName.{KeyName}
-use Rattle.sem_key.specs.Capability.{Capability}
-use Rattle.sem_msg.specs.declared.event.Event.{Event}
-use Rattle.sem_msg.specs.declared.entry.Entry.{Entry}
-use Rattle.sem_msg.specs.declared.state.Slot.{Slot}
-use Rattle.sem_msg.specs.declared.state.Slot.TheVariants.{Free, Held, Promised}
-use Rattle.sem_msg.specs.Setup.{Setup}
-use Rattle.sem_msg.specs.Rows.{VpeRow}
-use Rattle.sem_machine.specs.Sides.{Side, cap}
-use Rattle.sem_key.specs.Region.{has_key}
-use Rattle.sem_machine.specs.Machine.{World, start, after, entry_of, is_enabled, enabled}
-use Rattle.sem_machine.specs.Journals.{made, cut, forest, grants, children_in}
+use Rattle.sem_machine.specs.Prelude.{KeyName, Capability, Event, Entry, Slot, Free, Held, Promised, Setup, VpeRow}
+use Rattle.sem_machine.specs.Prelude.{Side, cap, has_key, World, start, after, entry_of, is_enabled, enabled, made}
+use Rattle.sem_machine.specs.Prelude.{cut, forest, grants}
+use Rattle.sem_machine.specs.Journals.{children_in}
 
--- how far a play has come: its entries, the last first; whether each event was enabled in its turn; the world
+-- how far a play has come: its entries, the last first; whether each event was enabled in its turn;
+-- the world
 pub record Scene : Type 0 where
   pub entries : List Entry
   pub all_enabled : Bool
   pub world : World
 
 abbrev pub turn : Setup → Event → Scene → Scene
-turn T e x = record { entries = entry_of T x.world e ∷ x.entries; all_enabled = x.all_enabled && is_enabled T x.world e; world = after T x.world e }
+turn T e x = record {
+  entries = entry_of T x.world e ∷ x.entries;
+  all_enabled = x.all_enabled && is_enabled T x.world e;
+  world = after T x.world e;
+}
 
 unfoldable pub acted : Setup → List Event → Scene → Scene
 acted T [] x = x
@@ -46,15 +44,15 @@ all_held W = flat_map held_by W.sides
 abbrev pub same_keys : List KeyName → List KeyName → Bool
 same_keys xs ys = (length xs == length ys) && (list_all (has_key ys) xs && list_all (has_key xs) ys)
 
--- whether each link of the kernel's capabilities leads to a key that some kernel holds
+-- whether each child link of the kernel's capabilities leads to a key that some kernel holds
 abbrev pub links_lead : List KeyName → Side → Bool
 links_lead held s = list_all (λ c. list_all (has_key held) c.children) s.caps
 
--- the held keys that were granted below a parent, by the grants
+-- the held keys that were granted below a parent
 abbrev pub held_children : List (KeyName × KeyName) → List KeyName → KeyName → List KeyName
 held_children gs held p = filter (has_key held) (children_in gs p)
 
--- whether each capability leads to the held keys that were granted below it, and to no others
+-- whether each capability links exactly the held keys that were granted below it
 abbrev pub links_agree : List (KeyName × KeyName) → List KeyName → Side → Bool
 links_agree gs held s = list_all (λ c. same_keys c.children (held_children gs held c.key)) s.caps
 
@@ -66,7 +64,8 @@ is_settled s = list_all (λ c. is_none c.mark) s.caps && ((length s.jobs == 0) &
 abbrev pub is_held_as : Side → ℕ → ℕ → KeyName → Bool
 is_held_as s v sel k = option_map_or (λ c. (c.selector == sel) && (c.key.vpe == v)) (cap s k) false
 
--- a selector agrees if it holds a capability that stands there; only what a dead VPE was promised stays promised
+-- a selector agrees if it holds a capability that stands there; a selector stays promised only for
+-- a dead VPE
 abbrev pub slot_agrees : Side → Bool → ℕ → ℕ × Slot → Bool
 slot_agrees s alive v (sel, Free) = true
 slot_agrees s alive v (sel, Held k) = is_held_as s v sel k
@@ -80,11 +79,10 @@ abbrev pub slots_agree : Side → Bool
 slots_agree s = list_all (row_agrees s) (enumerate_from 0 s.vpes)
 
 pub record Played : Type 0 where
-  -- the entries
   pub entries : List Entry
   -- whether each event was enabled in its turn
   pub all_enabled : Bool
-  -- the events that are enabled after the last
+  -- the events that are enabled after the last entry
   pub left : List Event
   -- how many keys were made, and how many were cut
   pub made : ℕ
@@ -93,9 +91,10 @@ pub record Played : Type 0 where
   pub held : List (KeyName × ℕ)
   -- whether the held keys are those of the forest
   pub is_forest : Bool
-  -- whether each held capability leads to the held keys that were granted below it, and to no others
+  -- whether each held capability links exactly the held keys that were granted below it
   pub is_linked : Bool
-  -- whether nothing is left over: no mark, job or pending delegation, and links and selectors lead to what is held
+  -- whether nothing is left over: no mark, job or pending delegation, and all links and selectors
+  -- lead to held capabilities
   pub is_clean : Bool
 
 abbrev pub told : Setup → Scene → Played
@@ -118,6 +117,6 @@ told T x =
 abbrev pub played : Setup → List Event → Played
 played T es = told T (acted T es (opened T))
 
--- what is enabled after the events
+-- the events that are enabled after these
 abbrev pub enabled_after : Setup → List Event → List Event
 enabled_after T es = enabled T (acted T es (opened T)).world

@@ -1,17 +1,8 @@
 -- A refused obtain of a dead VPE ends with it.
 use Rattle.std.specs.Prelude.{◌≡◌, true, Some, None, List, [], ◌∷◌}
-use Rattle.sem_key.specs.declared.key.Kind.TheVariants.{Mem as MemKind}
-use Rattle.sem_key.specs.declared.object.Object.TheVariants.{Mem}
-use Rattle.sem_msg.specs.declared.message.Target.TheVariants.{Sel as SelTarget}
-use Rattle.sem_msg.specs.declared.message.Message.TheVariants.{ObtainReq, ObtainNo}
-use Rattle.sem_msg.specs.declared.call.Call.TheVariants.{Obtain}
-use Rattle.sem_msg.specs.declared.event.Act.TheVariants.{Call as Calls, Fetch, Handle, Upcall, Flush, Kill}
-use Rattle.sem_msg.specs.declared.event.Event.{Event}
-use Rattle.sem_msg.specs.declared.entry.Consent.TheVariants.{No}
-use Rattle.sem_msg.specs.declared.entry.Detail.TheVariants.{Called, Carried, Asked, Nothing}
-use Rattle.sem_msg.specs.declared.entry.Entry.{Entry}
-use Rattle.sem_msg.specs.Setup.{Setup}
-use Rattle.sem_machine.specs.Machine.{event}
+use Rattle.sem_machine.specs.Prelude.{MemKind, Mem, SelTarget, ObtainReq, ObtainNo, Obtain, Calls, Fetch, Handle}
+use Rattle.sem_machine.specs.Prelude.{Upcall, Flush, Kill, Event, No, Called, Carried, Asked, Nothing, Entry, Setup}
+use Rattle.sem_machine.specs.Prelude.{event}
 use Rattle.sem_plays.specs.Words.{key, place, entry, owners, root, vpe}
 use Rattle.sem_plays.specs.Played.{Played, played}
 

@@ -1,15 +1,8 @@
 -- Refusals by name.
 use Rattle.std.specs.Prelude.{◌≡◌, true, Some, None, List, [], ◌∷◌}
-use Rattle.sem_key.specs.declared.key.Kind.TheVariants.{Mem as MemKind, Recv as RecvKind, Send as SendKind}
-use Rattle.sem_key.specs.declared.object.Object.TheVariants.{Mem, Recv}
-use Rattle.sem_msg.specs.declared.call.Call.TheVariants.{Derive, Gate, Obtain, OpenSession, Bind, Read, Write, Send as SendCall, Credit, Exit}
-use Rattle.sem_msg.specs.declared.event.Act.TheVariants.{Call as Calls, Upcall, Resume}
-use Rattle.sem_msg.specs.declared.event.Event.{Event}
-use Rattle.sem_msg.specs.declared.entry.Consent.TheVariants.{No}
-use Rattle.sem_msg.specs.declared.entry.Detail.TheVariants.{Called, Asked, Nothing}
-use Rattle.sem_msg.specs.declared.entry.Entry.{Entry}
-use Rattle.sem_msg.specs.Setup.{Setup}
-use Rattle.sem_machine.specs.Machine.{event}
+use Rattle.sem_machine.specs.Prelude.{MemKind, RecvKind, SendKind, Mem, Recv, Derive, Gate, Obtain, OpenSession, Bind}
+use Rattle.sem_machine.specs.Prelude.{Read, Write, SendCall, Credit, Exit, Calls, Upcall, Resume, Event, No, Called}
+use Rattle.sem_machine.specs.Prelude.{Asked, Nothing, Entry, Setup, event}
 use Rattle.sem_plays.specs.Words.{key, grant, reply, entry, owners, root, vpe}
 use Rattle.sem_plays.specs.Played.{Played, played}
 
@@ -20,7 +13,10 @@ trace = record {
   kernels = 1;
   owners = owners 1 (Some 0 ∷ Some 0 ∷ []);
   vpes =
-      vpe 0 0 (root 0 (Mem 0 100 1) ∷ root 1 (Recv 2) ∷ []) (Obtain 5 9 0 ∷ Obtain 5 1 0 ∷ Derive 0 5 50 51 1 ∷ Derive 0 5 0 100 3 ∷ Derive 1 5 0 1 1 ∷ OpenSession 5 3 ∷ Bind 0 0 ∷ Write 0 0 1 ∷ Read 0 100 0 ∷ Read 0 100 1 ∷ Read 1 0 1 ∷ Gate 1 5 7 3 ∷ Gate 1 5 7 1 ∷ Bind 1 5 ∷ SendCall 1 8 ∷ SendCall 1 8 ∷ Credit 1 ∷ Credit 1 ∷ Derive 9 5 0 1 1 ∷ Obtain 5 1 0 ∷ Exit ∷ [])
+      vpe 0 0 (root 0 (Mem 0 100 1) ∷ root 1 (Recv 2) ∷ []) (Obtain 5 9 0 ∷ Obtain 5 1 0 ∷ Derive 0 5 50 51 1
+      ∷ Derive 0 5 0 100 3 ∷ Derive 1 5 0 1 1 ∷ OpenSession 5 3 ∷ Bind 0 0 ∷ Write 0 0 1 ∷ Read 0 100 0
+      ∷ Read 0 100 1 ∷ Read 1 0 1 ∷ Gate 1 5 7 3 ∷ Gate 1 5 7 1 ∷ Bind 1 5 ∷ SendCall 1 8 ∷ SendCall 1 8
+      ∷ Credit 1 ∷ Credit 1 ∷ Derive 9 5 0 1 1 ∷ Obtain 5 1 0 ∷ Exit ∷ [])
       ∷ vpe 1 1 (root 0 (Mem 100 100 7) ∷ []) []
       ∷ [];
   services = [];

@@ -1,15 +1,7 @@
--- Of one VPE the resume is listed before the upcall.
+-- For one VPE the resume is listed before the upcall.
 use Rattle.std.specs.Prelude.{◌≡◌, true, Some, None, List, [], ◌∷◌}
-use Rattle.sem_key.specs.declared.key.Kind.TheVariants.{Mem as MemKind}
-use Rattle.sem_key.specs.declared.object.Object.TheVariants.{Mem}
-use Rattle.sem_msg.specs.declared.call.Call.TheVariants.{Obtain, Revoke}
-use Rattle.sem_msg.specs.declared.event.Act.TheVariants.{Call as Calls, Upcall, Resume}
-use Rattle.sem_msg.specs.declared.event.Event.{Event}
-use Rattle.sem_msg.specs.declared.entry.Consent.TheVariants.{Yes}
-use Rattle.sem_msg.specs.declared.entry.Detail.TheVariants.{Called, Asked, Nothing}
-use Rattle.sem_msg.specs.declared.entry.Entry.{Entry}
-use Rattle.sem_msg.specs.Setup.{Setup}
-use Rattle.sem_machine.specs.Machine.{event}
+use Rattle.sem_machine.specs.Prelude.{MemKind, Mem, Obtain, Revoke, Calls, Upcall, Resume, Event, Yes, Called, Asked}
+use Rattle.sem_machine.specs.Prelude.{Nothing, Entry, Setup, event}
 use Rattle.sem_plays.specs.Words.{key, reply, entry, owners, root, vpe}
 use Rattle.sem_plays.specs.Played.{Played, played, enabled_after}
 
@@ -29,7 +21,7 @@ trace = record {
   kills = [];
 }
 
--- the events up to the point where it is told what is enabled
+-- the events before the test of what is enabled
 unfoldable pub first_events : List Event
 first_events =
     event 0 (Calls 1)
@@ -76,6 +68,6 @@ waiting =
     ∷ event 0 (Upcall 0)
     ∷ []
 
--- then these and no others are enabled
+-- then exactly these are enabled
 abbrev pub waits : Type 0
 waits = enabled_after trace first_events ≡ waiting

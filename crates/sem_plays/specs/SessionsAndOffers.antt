@@ -1,17 +1,9 @@
 -- Two sessions of a service, and what it offers.
 use Rattle.std.specs.Prelude.{◌≡◌, true, Some, None, List, [], ◌∷◌}
-use Rattle.sem_key.specs.declared.key.Kind.TheVariants.{Mem as MemKind, Serv as ServKind, Sess as SessKind}
-use Rattle.sem_key.specs.declared.object.Object.TheVariants.{Mem, Serv, Sess}
-use Rattle.sem_msg.specs.declared.message.Target.TheVariants.{Serv as ServTarget, Offer as OfferTarget}
-use Rattle.sem_msg.specs.declared.message.Message.TheVariants.{ObtainReq, ObtainOk, Unlink}
-use Rattle.sem_msg.specs.declared.call.Call.TheVariants.{OpenSession, AskOffer, Revoke, Bind, Read, Write}
-use Rattle.sem_msg.specs.declared.event.Act.TheVariants.{Call as Calls, Fetch, Handle, Upcall, Resume, Flush}
-use Rattle.sem_msg.specs.declared.event.Event.{Event}
-use Rattle.sem_msg.specs.declared.entry.Consent.TheVariants.{Yes}
-use Rattle.sem_msg.specs.declared.entry.Detail.TheVariants.{Called, Carried, Asked, Nothing}
-use Rattle.sem_msg.specs.declared.entry.Entry.{Entry}
-use Rattle.sem_msg.specs.Setup.{Setup}
-use Rattle.sem_machine.specs.Machine.{event}
+use Rattle.sem_machine.specs.Prelude.{MemKind, ServKind, SessKind, Mem, Serv, Sess, ServTarget, OfferTarget}
+use Rattle.sem_machine.specs.Prelude.{ObtainReq, ObtainOk, Unlink, OpenSession, AskOffer, Revoke, Bind, Read, Write}
+use Rattle.sem_machine.specs.Prelude.{Calls, Fetch, Handle, Upcall, Resume, Flush, Event, Yes, Called, Carried, Asked}
+use Rattle.sem_machine.specs.Prelude.{Nothing, Entry, Setup, event}
 use Rattle.sem_plays.specs.Words.{key, place, grant, reply, entry, owners, root, vpe, service, offer}
 use Rattle.sem_plays.specs.Played.{Played, played}
 
@@ -23,7 +15,8 @@ trace = record {
   owners = owners 2 (Some 0 ∷ Some 1 ∷ Some 1 ∷ []);
   vpes =
       vpe 0 0 (root 0 (Serv 1) ∷ root 1 (Mem 0 4096 7) ∷ root 2 (Mem 4096 4096 7) ∷ root 3 (Mem 8192 4096 7) ∷ []) []
-      ∷ vpe 1 1 [] (OpenSession 0 1 ∷ AskOffer 1 0 0 ∷ AskOffer 2 0 1 ∷ AskOffer 3 0 2 ∷ Bind 0 1 ∷ Read 0 0 4096 ∷ Bind 1 2 ∷ Write 1 4095 1 ∷ Bind 2 3 ∷ Read 2 0 1 ∷ Revoke 1 ∷ Revoke 2 ∷ Revoke 3 ∷ Revoke 0 ∷ [])
+      ∷ vpe 1 1 [] (OpenSession 0 1 ∷ AskOffer 1 0 0 ∷ AskOffer 2 0 1 ∷ AskOffer 3 0 2 ∷ Bind 0 1 ∷ Read 0 0 4096
+      ∷ Bind 1 2 ∷ Write 1 4095 1 ∷ Bind 2 3 ∷ Read 2 0 1 ∷ Revoke 1 ∷ Revoke 2 ∷ Revoke 3 ∷ Revoke 0 ∷ [])
       ∷ vpe 2 2 [] (OpenSession 0 1 ∷ Revoke 0 ∷ [])
       ∷ [];
   services = service 1 (key 0 0 ServKind 0) ∷ [];
@@ -120,18 +113,24 @@ journal =
     ∷ entry 0 (Fetch 1) (Carried 1 (ObtainReq (place 1 1 0) (ServTarget (key 0 0 ServKind 0)))) None None None
     ∷ entry 0 Handle (Carried 1 (ObtainReq (place 1 1 0) (ServTarget (key 0 0 ServKind 0)))) None None None
     ∷ entry 0 (Upcall 0) (Asked 1 Yes) (grant (key 0 0 ServKind 0) (key 1 1 SessKind 0)) None None
-    ∷ entry 0 (Flush 1) (Carried 1 (ObtainOk (key 0 0 ServKind 0) (key 1 1 SessKind 0) (Sess (key 0 0 ServKind 0) 1))) None None None
-    ∷ entry 1 (Fetch 0) (Carried 0 (ObtainOk (key 0 0 ServKind 0) (key 1 1 SessKind 0) (Sess (key 0 0 ServKind 0) 1))) None None None
-    ∷ entry 1 Handle (Carried 0 (ObtainOk (key 0 0 ServKind 0) (key 1 1 SessKind 0) (Sess (key 0 0 ServKind 0) 1))) None None None
+    ∷ entry 0 (Flush 1) (Carried 1 (ObtainOk (key 0 0 ServKind 0) (key 1 1 SessKind 0) (Sess (key 0 0 ServKind 0) 1)))
+    None None None
+    ∷ entry 1 (Fetch 0) (Carried 0 (ObtainOk (key 0 0 ServKind 0) (key 1 1 SessKind 0) (Sess (key 0 0 ServKind 0) 1)))
+    None None None
+    ∷ entry 1 Handle (Carried 0 (ObtainOk (key 0 0 ServKind 0) (key 1 1 SessKind 0) (Sess (key 0 0 ServKind 0) 1)))
+    None None None
     ∷ entry 1 (Resume 1) Nothing None None (reply 1 0)
     ∷ entry 1 (Calls 1) (Called 1 (AskOffer 1 0 0)) None None None
     ∷ entry 1 (Flush 0) (Carried 0 (ObtainReq (place 2 2 0) (ServTarget (key 0 0 ServKind 0)))) None None None
     ∷ entry 0 (Fetch 1) (Carried 1 (ObtainReq (place 2 2 0) (ServTarget (key 0 0 ServKind 0)))) None None None
     ∷ entry 0 Handle (Carried 1 (ObtainReq (place 2 2 0) (ServTarget (key 0 0 ServKind 0)))) None None None
     ∷ entry 0 (Upcall 0) (Asked 2 Yes) (grant (key 0 0 ServKind 0) (key 2 2 SessKind 0)) None None
-    ∷ entry 0 (Flush 1) (Carried 1 (ObtainOk (key 0 0 ServKind 0) (key 2 2 SessKind 0) (Sess (key 0 0 ServKind 0) 2))) None None None
-    ∷ entry 1 (Fetch 0) (Carried 0 (ObtainOk (key 0 0 ServKind 0) (key 2 2 SessKind 0) (Sess (key 0 0 ServKind 0) 2))) None None None
-    ∷ entry 1 Handle (Carried 0 (ObtainOk (key 0 0 ServKind 0) (key 2 2 SessKind 0) (Sess (key 0 0 ServKind 0) 2))) None None None
+    ∷ entry 0 (Flush 1) (Carried 1 (ObtainOk (key 0 0 ServKind 0) (key 2 2 SessKind 0) (Sess (key 0 0 ServKind 0) 2)))
+    None None None
+    ∷ entry 1 (Fetch 0) (Carried 0 (ObtainOk (key 0 0 ServKind 0) (key 2 2 SessKind 0) (Sess (key 0 0 ServKind 0) 2)))
+    None None None
+    ∷ entry 1 Handle (Carried 0 (ObtainOk (key 0 0 ServKind 0) (key 2 2 SessKind 0) (Sess (key 0 0 ServKind 0) 2)))
+    None None None
     ∷ entry 1 (Resume 2) Nothing None None (reply 2 0)
     ∷ entry 1 (Calls 2) (Called 1 (Revoke 0)) None (Some (key 2 2 SessKind 0)) None
     ∷ entry 1 (Resume 2) Nothing None None (reply 2 0)
@@ -151,8 +150,10 @@ journal =
     ∷ entry 0 (Fetch 1) (Carried 1 (ObtainReq (place 1 1 2) (OfferTarget (key 0 0 ServKind 0) 1))) None None None
     ∷ entry 0 Handle (Carried 1 (ObtainReq (place 1 1 2) (OfferTarget (key 0 0 ServKind 0) 1))) None None None
     ∷ entry 0 (Upcall 0) (Asked 1 Yes) (grant (key 0 0 MemKind 2) (key 1 1 MemKind 2)) None None
-    ∷ entry 0 (Flush 1) (Carried 1 (ObtainOk (key 0 0 MemKind 2) (key 1 1 MemKind 2) (Mem 4096 4096 7))) None None None
-    ∷ entry 1 (Fetch 0) (Carried 0 (ObtainOk (key 0 0 MemKind 2) (key 1 1 MemKind 2) (Mem 4096 4096 7))) None None None
+    ∷ entry 0 (Flush 1) (Carried 1 (ObtainOk (key 0 0 MemKind 2) (key 1 1 MemKind 2) (Mem 4096 4096 7))) None None
+    None
+    ∷ entry 1 (Fetch 0) (Carried 0 (ObtainOk (key 0 0 MemKind 2) (key 1 1 MemKind 2) (Mem 4096 4096 7))) None None
+    None
     ∷ entry 1 Handle (Carried 0 (ObtainOk (key 0 0 MemKind 2) (key 1 1 MemKind 2) (Mem 4096 4096 7))) None None None
     ∷ entry 1 (Resume 1) Nothing None None (reply 1 0)
     ∷ entry 1 (Calls 1) (Called 3 (AskOffer 3 0 2)) None None None
@@ -160,8 +161,10 @@ journal =
     ∷ entry 0 (Fetch 1) (Carried 1 (ObtainReq (place 1 1 3) (OfferTarget (key 0 0 ServKind 0) 2))) None None None
     ∷ entry 0 Handle (Carried 1 (ObtainReq (place 1 1 3) (OfferTarget (key 0 0 ServKind 0) 2))) None None None
     ∷ entry 0 (Upcall 0) (Asked 1 Yes) (grant (key 0 0 MemKind 3) (key 1 1 MemKind 3)) None None
-    ∷ entry 0 (Flush 1) (Carried 1 (ObtainOk (key 0 0 MemKind 3) (key 1 1 MemKind 3) (Mem 8192 4096 7))) None None None
-    ∷ entry 1 (Fetch 0) (Carried 0 (ObtainOk (key 0 0 MemKind 3) (key 1 1 MemKind 3) (Mem 8192 4096 7))) None None None
+    ∷ entry 0 (Flush 1) (Carried 1 (ObtainOk (key 0 0 MemKind 3) (key 1 1 MemKind 3) (Mem 8192 4096 7))) None None
+    None
+    ∷ entry 1 (Fetch 0) (Carried 0 (ObtainOk (key 0 0 MemKind 3) (key 1 1 MemKind 3) (Mem 8192 4096 7))) None None
+    None
     ∷ entry 1 Handle (Carried 0 (ObtainOk (key 0 0 MemKind 3) (key 1 1 MemKind 3) (Mem 8192 4096 7))) None None None
     ∷ entry 1 (Resume 1) Nothing None None (reply 1 0)
     ∷ entry 1 (Calls 1) (Called 4 (Bind 0 1)) None None (reply 1 0)

@@ -1,18 +1,12 @@
--- A small trace for lone steps: VPEs 0 and 2 at kernel 0, VPE 1 at kernel 1, a service of VPE 2.
+-- A small trace for lone steps: VPEs 0 and 2 at kernel 0, VPE 1 at kernel 1, and a service of VPE
+-- 2.
 use Rattle.std.specs.Prelude.{ℕ, true, false, Some, None, [], ◌∷◌, replicate}
-use Rattle.sem_key.specs.declared.key.Kind.TheVariants.{Mem as MemKind, Recv as RecvKind, Serv as ServKind, Sess as SessKind}
-use Rattle.sem_key.specs.declared.object.Object.TheVariants.{Mem, Recv, Serv, Sess}
-use Rattle.sem_msg.specs.declared.call.Call.TheVariants.{Derive, Revoke, Clear}
-use Rattle.sem_msg.specs.declared.message.Message.TheVariants.{RevokeDone}
-use Rattle.sem_msg.specs.declared.message.Target.TheVariants.{Sel as SelTarget}
-use Rattle.sem_msg.specs.declared.state.Ask.{Ask}
-use Rattle.sem_msg.specs.declared.state.Ask.TheVariants.{Obtain as ObtainAsk}
-use Rattle.sem_msg.specs.declared.state.Parked.TheVariants.{ObtainWait, DelegateWait, RevokeWait}
-use Rattle.sem_msg.specs.Setup.{Setup}
-use Rattle.sem_machine.specs.Sides.{Side, with_row, parked_as, buried, installed, promised, linked, mark_all, job_opened}
+use Rattle.sem_machine.specs.Prelude.{MemKind, RecvKind, ServKind, SessKind, Mem, Recv, Serv, Sess, Derive, Revoke}
+use Rattle.sem_machine.specs.Prelude.{Clear, RevokeDone, SelTarget, Ask, ObtainAsk, ObtainWait, DelegateWait}
+use Rattle.sem_machine.specs.Prelude.{RevokeWait, Setup, Side, start_side}
+use Rattle.sem_machine.specs.Sides.{with_row, parked_as, buried, installed, promised, linked, mark_all, job_opened}
 use Rattle.sem_machine.specs.Calls.{call_row}
 use Rattle.sem_machine.specs.Handles.{handled}
-use Rattle.sem_machine.specs.Machine.{start_side}
 use Rattle.sem_plays.specs.Words.{key, place, owners, root, vpe, service, offer}
 
 unfoldable pub trio : Setup
@@ -36,15 +30,15 @@ trio = record {
 unfoldable pub zero_side : Side
 zero_side = start_side trio 0
 
--- the same, when so many numbers of VPE 0 were drawn
+-- the same, after VPE 0 has drawn that many numbers
 unfoldable pub numbered : ℕ → Side
 numbered n = with_row 0 (λ r. record r { next_number = n }) zero_side
 
--- the same, when VPE 0 waits for an obtain under number 1 at selector 3
+-- the same, while VPE 0 waits for an obtain under number 1 at selector 3
 unfoldable pub obtaining : Side
 obtaining = parked_as 0 (ObtainWait 1 3) (promised 0 3 zero_side)
 
--- the same, when VPE 0 waits for the answer to a delegate of its root
+-- the same, while VPE 0 waits for the answer to a delegate of its root
 unfoldable pub delegating : Side
 delegating = parked_as 0 (DelegateWait (key 0 0 MemKind 0)) zero_side
 
@@ -52,13 +46,14 @@ delegating = parked_as 0 (DelegateWait (key 0 0 MemKind 0)) zero_side
 abbrev pub an_ask : Ask
 an_ask = ObtainAsk (place 1 1 1) (SelTarget 0 0)
 
--- so many asks wait for VPE 0
+-- that many asks wait for VPE 0
 unfoldable pub asked_often : ℕ → Side
 asked_often n = with_row 0 (λ r. record r { asks = replicate n an_ask }) zero_side
 
 -- VPE 0 has a session with the service of VPE 2, which is dead
 unfoldable pub bereft : Side
-bereft = buried 2 (installed (key 0 0 SessKind 1) (Some (key 2 2 ServKind 0)) 5 (Sess (key 2 2 ServKind 0) 0) zero_side)
+bereft = buried 2
+    (installed (key 0 0 SessKind 1) (Some (key 2 2 ServKind 0)) 5 (Sess (key 2 2 ServKind 0) 0) zero_side)
 
 -- VPE 1 has a child of the root of VPE 0
 unfoldable pub giving : Side
@@ -68,7 +63,7 @@ giving = linked (key 0 0 MemKind 0) (key 1 1 MemKind 1) zero_side
 unfoldable pub clearing : Side
 clearing = (call_row trio 0 giving 0 (Clear 0)).side
 
--- the same, when the clear has ended
+-- the same, after the clear has ended
 unfoldable pub cleared : Side
 cleared = handled trio 0 clearing 1 (RevokeDone 0)
 

@@ -1,17 +1,9 @@
--- The requests of a clear go out one by one by a window of 1, and their answers come back by theirs.
+-- With a window of 1 the requests of a clear go out one by one, and so do the answers on their own
+-- link.
 use Rattle.std.specs.Prelude.{◌≡◌, true, Some, None, List, [], ◌∷◌, ◌++◌, replicate}
-use Rattle.sem_key.specs.declared.key.Kind.TheVariants.{Mem as MemKind}
-use Rattle.sem_key.specs.declared.object.Object.TheVariants.{Mem}
-use Rattle.sem_msg.specs.declared.message.Target.TheVariants.{Sel as SelTarget}
-use Rattle.sem_msg.specs.declared.message.Message.TheVariants.{ObtainReq, ObtainOk, RevokeReq, RevokeDone}
-use Rattle.sem_msg.specs.declared.call.Call.TheVariants.{Obtain, Clear}
-use Rattle.sem_msg.specs.declared.event.Act.TheVariants.{Call as Calls, Fetch, Handle, Upcall, Resume, Flush}
-use Rattle.sem_msg.specs.declared.event.Event.{Event}
-use Rattle.sem_msg.specs.declared.entry.Consent.TheVariants.{Yes, No}
-use Rattle.sem_msg.specs.declared.entry.Detail.TheVariants.{Called, Carried, Asked, Nothing}
-use Rattle.sem_msg.specs.declared.entry.Entry.{Entry}
-use Rattle.sem_msg.specs.Setup.{Setup}
-use Rattle.sem_machine.specs.Machine.{event}
+use Rattle.sem_machine.specs.Prelude.{MemKind, Mem, SelTarget, ObtainReq, ObtainOk, RevokeReq, RevokeDone, Obtain}
+use Rattle.sem_machine.specs.Prelude.{Clear, Calls, Fetch, Handle, Upcall, Resume, Flush, Event, Yes, No, Called}
+use Rattle.sem_machine.specs.Prelude.{Carried, Asked, Nothing, Entry, Setup, event}
 use Rattle.sem_plays.specs.Words.{key, place, grant, reply, entry, owners, root, vpe}
 use Rattle.sem_plays.specs.Played.{Played, played, enabled_after}
 
@@ -32,7 +24,7 @@ trace = record {
   kills = [];
 }
 
--- the events up to the point where it is told what is enabled
+-- the events before the test of what is enabled
 unfoldable pub first_events : List Event
 first_events =
     event 1 (Calls 126)
@@ -109,8 +101,10 @@ journal =
     ∷ entry 0 (Fetch 1) (Carried 1 (ObtainReq (place 126 126 0) (SelTarget 0 0))) None None None
     ∷ entry 0 Handle (Carried 1 (ObtainReq (place 126 126 0) (SelTarget 0 0))) None None None
     ∷ entry 0 (Upcall 0) (Asked 126 Yes) (grant (key 0 0 MemKind 0) (key 126 126 MemKind 0)) None None
-    ∷ entry 0 (Flush 1) (Carried 1 (ObtainOk (key 0 0 MemKind 0) (key 126 126 MemKind 0) (Mem 0 4096 7))) None None None
-    ∷ entry 1 (Fetch 0) (Carried 0 (ObtainOk (key 0 0 MemKind 0) (key 126 126 MemKind 0) (Mem 0 4096 7))) None None None
+    ∷ entry 0 (Flush 1) (Carried 1 (ObtainOk (key 0 0 MemKind 0) (key 126 126 MemKind 0) (Mem 0 4096 7))) None None
+    None
+    ∷ entry 1 (Fetch 0) (Carried 0 (ObtainOk (key 0 0 MemKind 0) (key 126 126 MemKind 0) (Mem 0 4096 7))) None None
+    None
     ∷ entry 1 Handle (Carried 0 (ObtainOk (key 0 0 MemKind 0) (key 126 126 MemKind 0) (Mem 0 4096 7))) None None None
     ∷ entry 1 (Resume 126) Nothing None None (reply 126 0)
     ∷ entry 1 (Calls 127) (Called 0 (Obtain 1 0 0)) None None None
@@ -118,8 +112,10 @@ journal =
     ∷ entry 0 (Fetch 1) (Carried 1 (ObtainReq (place 127 127 0) (SelTarget 0 0))) None None None
     ∷ entry 0 Handle (Carried 1 (ObtainReq (place 127 127 0) (SelTarget 0 0))) None None None
     ∷ entry 0 (Upcall 0) (Asked 127 Yes) (grant (key 0 0 MemKind 0) (key 127 127 MemKind 0)) None None
-    ∷ entry 0 (Flush 1) (Carried 1 (ObtainOk (key 0 0 MemKind 0) (key 127 127 MemKind 0) (Mem 0 4096 7))) None None None
-    ∷ entry 1 (Fetch 0) (Carried 0 (ObtainOk (key 0 0 MemKind 0) (key 127 127 MemKind 0) (Mem 0 4096 7))) None None None
+    ∷ entry 0 (Flush 1) (Carried 1 (ObtainOk (key 0 0 MemKind 0) (key 127 127 MemKind 0) (Mem 0 4096 7))) None None
+    None
+    ∷ entry 1 (Fetch 0) (Carried 0 (ObtainOk (key 0 0 MemKind 0) (key 127 127 MemKind 0) (Mem 0 4096 7))) None None
+    None
     ∷ entry 1 Handle (Carried 0 (ObtainOk (key 0 0 MemKind 0) (key 127 127 MemKind 0) (Mem 0 4096 7))) None None None
     ∷ entry 1 (Resume 127) Nothing None None (reply 127 0)
     ∷ entry 0 (Calls 0) (Called 0 (Clear 0)) None (Some (key 0 0 MemKind 0)) None
@@ -163,6 +159,6 @@ waiting =
     ∷ event 1 (Calls 126)
     ∷ []
 
--- then these and no others are enabled
+-- then exactly these are enabled
 abbrev pub waits : Type 0
 waits = enabled_after trace first_events ≡ waiting

@@ -1,17 +1,8 @@
--- The window is that of each link and each direction.
+-- Each link and each direction has its own window.
 use Rattle.std.specs.Prelude.{◌≡◌, true, Some, None, List, [], ◌∷◌}
-use Rattle.sem_key.specs.declared.key.Kind.TheVariants.{Mem as MemKind}
-use Rattle.sem_key.specs.declared.object.Object.TheVariants.{Mem}
-use Rattle.sem_msg.specs.declared.message.Target.TheVariants.{Sel as SelTarget}
-use Rattle.sem_msg.specs.declared.message.Message.TheVariants.{ObtainReq, ObtainOk}
-use Rattle.sem_msg.specs.declared.call.Call.TheVariants.{Obtain}
-use Rattle.sem_msg.specs.declared.event.Act.TheVariants.{Call as Calls, Fetch, Handle, Upcall, Resume, Flush}
-use Rattle.sem_msg.specs.declared.event.Event.{Event}
-use Rattle.sem_msg.specs.declared.entry.Consent.TheVariants.{Yes}
-use Rattle.sem_msg.specs.declared.entry.Detail.TheVariants.{Called, Carried, Asked, Nothing}
-use Rattle.sem_msg.specs.declared.entry.Entry.{Entry}
-use Rattle.sem_msg.specs.Setup.{Setup}
-use Rattle.sem_machine.specs.Machine.{event}
+use Rattle.sem_machine.specs.Prelude.{MemKind, Mem, SelTarget, ObtainReq, ObtainOk, Obtain, Calls, Fetch, Handle}
+use Rattle.sem_machine.specs.Prelude.{Upcall, Resume, Flush, Event, Yes, Called, Carried, Asked, Nothing, Entry}
+use Rattle.sem_machine.specs.Prelude.{Setup, event}
 use Rattle.sem_plays.specs.Words.{key, place, grant, reply, entry, owners, root, vpe}
 use Rattle.sem_plays.specs.Played.{Played, played, enabled_after}
 
@@ -33,7 +24,7 @@ trace = record {
   kills = [];
 }
 
--- the events up to the point where it is told what is enabled
+-- the events before the test of what is enabled
 unfoldable pub first_events : List Event
 first_events =
     event 0 (Calls 0)
@@ -113,7 +104,8 @@ outcome = record {
   left = [];
   made = 6;
   cut = 0;
-  held = (key 0 0 MemKind 0, 0) ∷ (key 0 0 MemKind 1, 1) ∷ (key 1 1 MemKind 0, 0) ∷ (key 1 1 MemKind 1, 1) ∷ (key 2 2 MemKind 0, 1) ∷ (key 3 3 MemKind 0, 0) ∷ [];
+  held = (key 0 0 MemKind 0, 0) ∷ (key 0 0 MemKind 1, 1) ∷ (key 1 1 MemKind 0, 0) ∷ (key 1 1 MemKind 1, 1)
+      ∷ (key 2 2 MemKind 0, 1) ∷ (key 3 3 MemKind 0, 0) ∷ [];
   is_forest = true;
   is_linked = true;
   is_clean = true;
@@ -129,6 +121,6 @@ waiting =
     ∷ event 2 (Fetch 1)
     ∷ []
 
--- then these and no others are enabled
+-- then exactly these are enabled
 abbrev pub waits : Type 0
 waits = enabled_after trace first_events ≡ waiting

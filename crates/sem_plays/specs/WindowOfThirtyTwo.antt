@@ -1,17 +1,8 @@
--- By a window of 32 a link holds 32 messages.
+-- With a window of 32 a link holds 32 messages.
 use Rattle.std.specs.Prelude.{◌≡◌, true, Some, None, List, [], ◌∷◌, replicate}
-use Rattle.sem_key.specs.declared.key.Kind.TheVariants.{Mem as MemKind}
-use Rattle.sem_key.specs.declared.object.Object.TheVariants.{Mem}
-use Rattle.sem_msg.specs.declared.message.Target.TheVariants.{Sel as SelTarget}
-use Rattle.sem_msg.specs.declared.message.Message.TheVariants.{ObtainReq, ObtainOk}
-use Rattle.sem_msg.specs.declared.call.Call.TheVariants.{Obtain}
-use Rattle.sem_msg.specs.declared.event.Act.TheVariants.{Call as Calls, Fetch, Handle, Upcall, Resume, Flush}
-use Rattle.sem_msg.specs.declared.event.Event.{Event}
-use Rattle.sem_msg.specs.declared.entry.Consent.TheVariants.{Yes}
-use Rattle.sem_msg.specs.declared.entry.Detail.TheVariants.{Called, Carried, Asked, Nothing}
-use Rattle.sem_msg.specs.declared.entry.Entry.{Entry}
-use Rattle.sem_msg.specs.Setup.{Setup}
-use Rattle.sem_machine.specs.Machine.{event}
+use Rattle.sem_machine.specs.Prelude.{MemKind, Mem, SelTarget, ObtainReq, ObtainOk, Obtain, Calls, Fetch, Handle}
+use Rattle.sem_machine.specs.Prelude.{Upcall, Resume, Flush, Event, Yes, Called, Carried, Asked, Nothing, Entry}
+use Rattle.sem_machine.specs.Prelude.{Setup, event}
 use Rattle.sem_plays.specs.Words.{key, place, grant, reply, entry, owners, root, vpe}
 use Rattle.sem_plays.specs.Played.{Played, played, enabled_after}
 
@@ -63,7 +54,7 @@ trace = record {
   kills = [];
 }
 
--- the events up to the point where it is told what is enabled
+-- the events before the test of what is enabled
 unfoldable pub first_events : List Event
 first_events =
     event 1 (Calls 1)
@@ -742,7 +733,15 @@ outcome = record {
   left = [];
   made = 34;
   cut = 0;
-  held = (key 0 0 MemKind 0, 0) ∷ (key 1 1 MemKind 0, 1) ∷ (key 2 2 MemKind 0, 1) ∷ (key 3 3 MemKind 0, 1) ∷ (key 4 4 MemKind 0, 1) ∷ (key 5 5 MemKind 0, 1) ∷ (key 6 6 MemKind 0, 1) ∷ (key 7 7 MemKind 0, 1) ∷ (key 8 8 MemKind 0, 1) ∷ (key 9 9 MemKind 0, 1) ∷ (key 10 10 MemKind 0, 1) ∷ (key 11 11 MemKind 0, 1) ∷ (key 12 12 MemKind 0, 1) ∷ (key 13 13 MemKind 0, 1) ∷ (key 14 14 MemKind 0, 1) ∷ (key 15 15 MemKind 0, 1) ∷ (key 16 16 MemKind 0, 1) ∷ (key 17 17 MemKind 0, 1) ∷ (key 18 18 MemKind 0, 1) ∷ (key 19 19 MemKind 0, 1) ∷ (key 20 20 MemKind 0, 1) ∷ (key 21 21 MemKind 0, 1) ∷ (key 22 22 MemKind 0, 1) ∷ (key 23 23 MemKind 0, 1) ∷ (key 24 24 MemKind 0, 1) ∷ (key 25 25 MemKind 0, 1) ∷ (key 26 26 MemKind 0, 1) ∷ (key 27 27 MemKind 0, 1) ∷ (key 28 28 MemKind 0, 1) ∷ (key 29 29 MemKind 0, 1) ∷ (key 30 30 MemKind 0, 1) ∷ (key 31 31 MemKind 0, 1) ∷ (key 32 32 MemKind 0, 1) ∷ (key 33 33 MemKind 0, 1) ∷ [];
+  held = (key 0 0 MemKind 0, 0) ∷ (key 1 1 MemKind 0, 1) ∷ (key 2 2 MemKind 0, 1) ∷ (key 3 3 MemKind 0, 1)
+      ∷ (key 4 4 MemKind 0, 1) ∷ (key 5 5 MemKind 0, 1) ∷ (key 6 6 MemKind 0, 1) ∷ (key 7 7 MemKind 0, 1)
+      ∷ (key 8 8 MemKind 0, 1) ∷ (key 9 9 MemKind 0, 1) ∷ (key 10 10 MemKind 0, 1) ∷ (key 11 11 MemKind 0, 1)
+      ∷ (key 12 12 MemKind 0, 1) ∷ (key 13 13 MemKind 0, 1) ∷ (key 14 14 MemKind 0, 1) ∷ (key 15 15 MemKind 0, 1)
+      ∷ (key 16 16 MemKind 0, 1) ∷ (key 17 17 MemKind 0, 1) ∷ (key 18 18 MemKind 0, 1) ∷ (key 19 19 MemKind 0, 1)
+      ∷ (key 20 20 MemKind 0, 1) ∷ (key 21 21 MemKind 0, 1) ∷ (key 22 22 MemKind 0, 1) ∷ (key 23 23 MemKind 0, 1)
+      ∷ (key 24 24 MemKind 0, 1) ∷ (key 25 25 MemKind 0, 1) ∷ (key 26 26 MemKind 0, 1) ∷ (key 27 27 MemKind 0, 1)
+      ∷ (key 28 28 MemKind 0, 1) ∷ (key 29 29 MemKind 0, 1) ∷ (key 30 30 MemKind 0, 1) ∷ (key 31 31 MemKind 0, 1)
+      ∷ (key 32 32 MemKind 0, 1) ∷ (key 33 33 MemKind 0, 1) ∷ [];
   is_forest = true;
   is_linked = true;
   is_clean = true;
@@ -756,6 +755,6 @@ waiting =
     event 0 (Fetch 1)
     ∷ []
 
--- then these and no others are enabled
+-- then exactly these are enabled
 abbrev pub waits : Type 0
 waits = enabled_after trace first_events ≡ waiting

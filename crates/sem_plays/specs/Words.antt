@@ -1,17 +1,8 @@
 -- Short words for traces and journals, so that a play reads like its text.
 use Rattle.std.specs.Prelude.{ℕ, List, ◌++◌, length, replicate, Option, Some, None, ◌-◌}
-use Rattle.sem_key.specs.declared.key.Kind.{Kind}
-use Rattle.sem_key.specs.declared.object.Object.{Object}
-use Rattle.sem_key.specs.KeyName.{KeyName}
-use Rattle.sem_key.specs.PlaceName.{PlaceName}
+use Rattle.sem_machine.specs.Prelude.{Kind, Object, KeyName, PlaceName, Call, Act, Detail, Reply, Entry, Root}
+use Rattle.sem_machine.specs.Prelude.{VpeDecl}
 use Rattle.sem_key.specs.MembershipTable.{MembershipTable}
-use Rattle.sem_msg.specs.declared.call.Call.{Call}
-use Rattle.sem_msg.specs.declared.event.Act.{Act}
-use Rattle.sem_msg.specs.declared.entry.Detail.{Detail}
-use Rattle.sem_msg.specs.declared.entry.Reply.{Reply}
-use Rattle.sem_msg.specs.declared.entry.Entry.{Entry}
-use Rattle.sem_msg.specs.declared.setup.Root.{Root}
-use Rattle.sem_msg.specs.declared.setup.VpeDecl.{VpeDecl}
 use Rattle.sem_msg.specs.declared.setup.Service.{Service}
 use Rattle.sem_msg.specs.declared.setup.Offer.{Offer}
 
@@ -29,7 +20,13 @@ reply vpe code = Some (record { vpe = vpe; code = code })
 
 abbrev pub entry : ℕ → Act → Detail → Option (KeyName × KeyName) → Option KeyName → Option Reply → Entry
 entry kernel act detail granted cut replied =
-    record { event = record { kernel = kernel; act = act }; detail = detail; grant = granted; cut = cut; reply = replied }
+    record {
+      event = record { kernel = kernel; act = act };
+      detail = detail;
+      grant = granted;
+      cut = cut;
+      reply = replied;
+    }
 
 -- the owners of the first PEs; the others have none
 abbrev pub owners : ℕ → List (Option ℕ) → MembershipTable

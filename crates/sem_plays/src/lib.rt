@@ -5,30 +5,37 @@
 ghost use Rattle.sem_plays.specs.AckForTheDeadInClear.{ack_for_the_dead_in_clear};
 ghost use Rattle.sem_plays.specs.AnswersBeforeOrphan.{answers_before_orphan};
 ghost use Rattle.sem_plays.specs.AskedBeforeClear.{asked_before_clear};
-ghost use Rattle.sem_plays.specs.AsksOfAllOthers.{asks_of_all_others, waits as asks_of_all_others_waits};
+ghost use Rattle.sem_plays.specs.AsksOfAllOthers.{asks_of_all_others};
+ghost use Rattle.sem_plays.specs.AsksOfAllOthers.{waits as asks_of_all_others_waits};
 ghost use Rattle.sem_plays.specs.AsksOfTheEnded.{asks_of_the_ended};
 ghost use Rattle.sem_plays.specs.BoundAnewIsEmpty.{bound_anew_is_empty};
 ghost use Rattle.sem_plays.specs.ChainByWindowOfOne.{chain_by_window_of_one};
 ghost use Rattle.sem_plays.specs.ChainOfFortyOne.{chain_of_forty_one};
-ghost use Rattle.sem_plays.specs.ClearAdoptsRevoke.{clear_adopts_revoke, waits as clear_adopts_revoke_waits};
-ghost use Rattle.sem_plays.specs.ClearBelowClear.{clear_below_clear, waits as clear_below_clear_waits};
+ghost use Rattle.sem_plays.specs.ClearAdoptsRevoke.{clear_adopts_revoke};
+ghost use Rattle.sem_plays.specs.ClearAdoptsRevoke.{waits as clear_adopts_revoke_waits};
+ghost use Rattle.sem_plays.specs.ClearBelowClear.{clear_below_clear};
+ghost use Rattle.sem_plays.specs.ClearBelowClear.{waits as clear_below_clear_waits};
 ghost use Rattle.sem_plays.specs.ClearCancelsObtain.{clear_cancels_obtain};
 ghost use Rattle.sem_plays.specs.ClearIsOneJob.{clear_is_one_job, waits as clear_is_one_job_waits};
 ghost use Rattle.sem_plays.specs.ClearMeetsRevoke.{clear_meets_revoke};
 ghost use Rattle.sem_plays.specs.ClearOfGate.{clear_of_gate};
-ghost use Rattle.sem_plays.specs.ClearOfLocalChild.{clear_of_local_child, waits as clear_of_local_child_waits};
-ghost use Rattle.sem_plays.specs.ClearOfNoChild.{clear_of_no_child, waits as clear_of_no_child_waits};
+ghost use Rattle.sem_plays.specs.ClearOfLocalChild.{clear_of_local_child};
+ghost use Rattle.sem_plays.specs.ClearOfLocalChild.{waits as clear_of_local_child_waits};
+ghost use Rattle.sem_plays.specs.ClearOfNoChild.{clear_of_no_child};
+ghost use Rattle.sem_plays.specs.ClearOfNoChild.{waits as clear_of_no_child_waits};
 ghost use Rattle.sem_plays.specs.ClearOfService.{clear_of_service};
 ghost use Rattle.sem_plays.specs.ClearTakesBack.{clear_takes_back, waits as clear_takes_back_waits};
 ghost use Rattle.sem_plays.specs.ClearUnbinds.{clear_unbinds};
 ghost use Rattle.sem_plays.specs.ClearedHasParent.{cleared_has_parent};
-ghost use Rattle.sem_plays.specs.ClearedHasRemoteParent.{cleared_has_remote_parent, waits as cleared_has_remote_parent_waits};
+ghost use Rattle.sem_plays.specs.ClearedHasRemoteParent.{cleared_has_remote_parent};
+ghost use Rattle.sem_plays.specs.ClearedHasRemoteParent.{waits as cleared_has_remote_parent_waits};
 ghost use Rattle.sem_plays.specs.ClearedIsUnlinked.{cleared_is_unlinked};
 ghost use Rattle.sem_plays.specs.ClearedLocally.{cleared_locally};
 ghost use Rattle.sem_plays.specs.ClearedThreeTimes.{cleared_three_times};
 ghost use Rattle.sem_plays.specs.ClearerIsKilled.{clearer_is_killed};
 ghost use Rattle.sem_plays.specs.ClearingIsNotGiven.{clearing_is_not_given};
-ghost use Rattle.sem_plays.specs.ClearingIsToldInTurn.{clearing_is_told_in_turn, waits as clearing_is_told_in_turn_waits};
+ghost use Rattle.sem_plays.specs.ClearingIsToldInTurn.{clearing_is_told_in_turn};
+ghost use Rattle.sem_plays.specs.ClearingIsToldInTurn.{waits as clearing_is_told_in_turn_waits};
 ghost use Rattle.sem_plays.specs.ClearsMeet.{clears_meet};
 ghost use Rattle.sem_plays.specs.DeadIsTold.{dead_is_told};
 ghost use Rattle.sem_plays.specs.DeadObtainerSendsOrphan.{dead_obtainer_sends_orphan};
@@ -46,7 +53,8 @@ ghost use Rattle.sem_plays.specs.DerivedRightsAreFewer.{derived_rights_are_fewer
 ghost use Rattle.sem_plays.specs.DroppedThoughDenied.{dropped_though_denied};
 ghost use Rattle.sem_plays.specs.EndInKeyOrder.{end_in_key_order};
 ghost use Rattle.sem_plays.specs.EndTakesATreeOnce.{end_takes_a_tree_once};
-ghost use Rattle.sem_plays.specs.EveryTokenComesBack.{every_token_comes_back, waits as every_token_comes_back_waits};
+ghost use Rattle.sem_plays.specs.EveryTokenComesBack.{every_token_comes_back};
+ghost use Rattle.sem_plays.specs.EveryTokenComesBack.{waits as every_token_comes_back_waits};
 ghost use Rattle.sem_plays.specs.ExitRevokes.{exit_revokes};
 ghost use Rattle.sem_plays.specs.FarEnds.{far_ends};
 ghost use Rattle.sem_plays.specs.GateTakesAllSlots.{gate_takes_all_slots};
@@ -60,11 +68,13 @@ ghost use Rattle.sem_plays.specs.KilledRevoker.{killed_revoker};
 ghost use Rattle.sem_plays.specs.KindBeforeDead.{kind_before_dead};
 ghost use Rattle.sem_plays.specs.LastVpeOpens.{last_vpe_opens};
 ghost use Rattle.sem_plays.specs.LinkHoldsFour.{link_holds_four, waits as link_holds_four_waits};
-ghost use Rattle.sem_plays.specs.ListGoesRowByRow.{list_goes_row_by_row, waits as list_goes_row_by_row_waits};
+ghost use Rattle.sem_plays.specs.ListGoesRowByRow.{list_goes_row_by_row};
+ghost use Rattle.sem_plays.specs.ListGoesRowByRow.{waits as list_goes_row_by_row_waits};
 ghost use Rattle.sem_plays.specs.LocalDelegateOfMarked.{local_delegate_of_marked};
 ghost use Rattle.sem_plays.specs.LocalDelegateOfRevoked.{local_delegate_of_revoked};
 ghost use Rattle.sem_plays.specs.LocalDelegatesInClear.{local_delegates_in_clear};
-ghost use Rattle.sem_plays.specs.MarkedBeforeKind.{marked_before_kind, waits as marked_before_kind_waits};
+ghost use Rattle.sem_plays.specs.MarkedBeforeKind.{marked_before_kind};
+ghost use Rattle.sem_plays.specs.MarkedBeforeKind.{waits as marked_before_kind_waits};
 ghost use Rattle.sem_plays.specs.MarkedIsUnbound.{marked_is_unbound};
 ghost use Rattle.sem_plays.specs.ObtainAcrossKernels.{obtain_across_kernels};
 ghost use Rattle.sem_plays.specs.ObtainOfMarked.{obtain_of_marked};
@@ -76,29 +86,96 @@ ghost use Rattle.sem_plays.specs.PromisedIsOccupied.{promised_is_occupied};
 ghost use Rattle.sem_plays.specs.ReceiverOfClearIsKilled.{receiver_of_clear_is_killed};
 ghost use Rattle.sem_plays.specs.RefusalForTheDead.{refusal_for_the_dead};
 ghost use Rattle.sem_plays.specs.RefusalsByName.{refusals_by_name};
-ghost use Rattle.sem_plays.specs.RequestTakesClear.{request_takes_clear, waits as request_takes_clear_waits};
+ghost use Rattle.sem_plays.specs.RequestTakesClear.{request_takes_clear};
+ghost use Rattle.sem_plays.specs.RequestTakesClear.{waits as request_takes_clear_waits};
 ghost use Rattle.sem_plays.specs.RequestsRise.{requests_rise};
-ghost use Rattle.sem_plays.specs.ResumeComesBeforeUpcall.{resume_comes_before_upcall, waits as resume_comes_before_upcall_waits};
-ghost use Rattle.sem_plays.specs.RevokeAdoptsRevoke.{revoke_adopts_revoke, waits as revoke_adopts_revoke_waits};
+ghost use Rattle.sem_plays.specs.ResumeComesBeforeUpcall.{resume_comes_before_upcall};
+ghost use Rattle.sem_plays.specs.ResumeComesBeforeUpcall.{waits as resume_comes_before_upcall_waits};
+ghost use Rattle.sem_plays.specs.RevokeAdoptsRevoke.{revoke_adopts_revoke};
+ghost use Rattle.sem_plays.specs.RevokeAdoptsRevoke.{waits as revoke_adopts_revoke_waits};
 ghost use Rattle.sem_plays.specs.RevokeReachesOtherKernel.{revoke_reaches_other_kernel};
-ghost use Rattle.sem_plays.specs.RevokeTakesClear.{revoke_takes_clear, waits as revoke_takes_clear_waits};
+ghost use Rattle.sem_plays.specs.RevokeTakesClear.{revoke_takes_clear};
+ghost use Rattle.sem_plays.specs.RevokeTakesClear.{waits as revoke_takes_clear_waits};
 ghost use Rattle.sem_plays.specs.RevokedSelectorIsFree.{revoked_selector_is_free};
-ghost use Rattle.sem_plays.specs.RevokingIsToldInTurn.{revoking_is_told_in_turn, waits as revoking_is_told_in_turn_waits};
+ghost use Rattle.sem_plays.specs.RevokingIsToldInTurn.{revoking_is_told_in_turn};
+ghost use Rattle.sem_plays.specs.RevokingIsToldInTurn.{waits as revoking_is_told_in_turn_waits};
 ghost use Rattle.sem_plays.specs.SessionsAndOffers.{sessions_and_offers};
 ghost use Rattle.sem_plays.specs.TwoRevokesMeet.{two_revokes_meet, waits as two_revokes_meet_waits};
 ghost use Rattle.sem_plays.specs.UnlinkInClear.{unlink_in_clear, waits as unlink_in_clear_waits};
-ghost use Rattle.sem_plays.specs.WaiterOfClearIsKilled.{waiter_of_clear_is_killed, waits as waiter_of_clear_is_killed_waits};
-ghost use Rattle.sem_plays.specs.WindowHoldsRequests.{window_holds_requests, waits as window_holds_requests_waits};
-ghost use Rattle.sem_plays.specs.WindowLeavesInboxOut.{window_leaves_inbox_out, waits as window_leaves_inbox_out_waits};
-ghost use Rattle.sem_plays.specs.WindowOfEachLink.{window_of_each_link, waits as window_of_each_link_waits};
+ghost use Rattle.sem_plays.specs.WaiterOfClearIsKilled.{waiter_of_clear_is_killed};
+ghost use Rattle.sem_plays.specs.WaiterOfClearIsKilled.{waits as waiter_of_clear_is_killed_waits};
+ghost use Rattle.sem_plays.specs.WindowHoldsRequests.{window_holds_requests};
+ghost use Rattle.sem_plays.specs.WindowHoldsRequests.{waits as window_holds_requests_waits};
+ghost use Rattle.sem_plays.specs.WindowLeavesInboxOut.{window_leaves_inbox_out};
+ghost use Rattle.sem_plays.specs.WindowLeavesInboxOut.{waits as window_leaves_inbox_out_waits};
+ghost use Rattle.sem_plays.specs.WindowOfEachLink.{window_of_each_link};
+ghost use Rattle.sem_plays.specs.WindowOfEachLink.{waits as window_of_each_link_waits};
 ghost use Rattle.sem_plays.specs.WindowOfFive.{window_of_five, waits as window_of_five_waits};
 ghost use Rattle.sem_plays.specs.WindowOfFour.{window_of_four, waits as window_of_four_waits};
 ghost use Rattle.sem_plays.specs.WindowOfOne.{window_of_one, waits as window_of_one_waits};
-ghost use Rattle.sem_plays.specs.WindowOfThirtyTwo.{window_of_thirty_two, waits as window_of_thirty_two_waits};
-ghost use Rattle.sem_plays.specs.Notions.{clear_is_one_job_cut, clear_is_one_job_answered, clear_of_no_child_cut, clear_of_no_child_answered, clear_takes_back_cut, clear_takes_back_answered, cleared_three_times_cut, cleared_three_times_answered, clearer_is_killed_cut, clearer_is_killed_answered, clearing_is_told_in_turn_cut, clearing_is_told_in_turn_answered, given_after_clear_cut, given_after_clear_answered, killed_after_clear_cut, killed_after_clear_answered, killed_revoker_cut, killed_revoker_answered, revoke_takes_clear_cut, revoke_takes_clear_answered, two_revokes_meet_cut, two_revokes_meet_answered, waiter_of_clear_is_killed_cut, waiter_of_clear_is_killed_answered};
-ghost use Rattle.sem_plays.specs.LoneSteps.{obtain_of_an_undeclared_vpe, obtain_of_a_vpe_on_another_pe, obtain_from_a_vpe_elsewhere, obtain_from_an_undeclared_vpe, session_of_an_undeclared_service, offer_of_an_undeclared_service, obtain_request_of_a_local_vpe, grant_for_which_nobody_waits, grant_of_another_number, grant_for_a_delegate, grant_by_a_local_vpe, grant_by_an_undeclared_vpe, grant_to_a_vpe_elsewhere, grant_with_an_undeclared_gate, grant_with_an_undeclared_service, refusal_for_which_nobody_waits, refusal_of_another_number, refusal_for_a_vpe_elsewhere, refusal_for_an_undeclared_vpe, delegate_to_a_vpe_elsewhere, delegate_to_an_undeclared_vpe, delegate_of_a_local_vpe, delegate_of_an_undeclared_vpe, delegate_of_an_undeclared_gate, preparation_for_which_nobody_waits, preparation_of_another_parent, preparation_by_a_local_vpe, preparation_by_an_undeclared_vpe, preparation_for_a_vpe_elsewhere, denial_for_which_nobody_waits, denial_for_an_obtain, denial_for_a_vpe_elsewhere, acknowledgement_of_nothing, retraction_of_nothing, acknowledgement_for_a_vpe_elsewhere, orphan_of_a_parent_that_is_gone, orphan_that_is_no_child, unlink_of_a_parent_that_is_gone, unlink_of_no_child, root_after_a_clear, orphan_after_a_clear, unlink_after_a_clear, clear_of_what_is_being_cleared, another_job_keeps_the_root, done_for_no_job, request_for_a_key_that_is_not_held, number_4095_is_the_last, number_4096_is_not_drawn, occupied_comes_before_numbers, the_128th_ask_is_kept, the_129th_ask_is_lost, ask_of_a_dead_service, upcall_of_a_dead_vpe, call_of_a_dead_vpe, call_of_a_vpe_elsewhere, call_while_one_waits, resume_while_it_waits, fetch_from_the_own_kernel, fetch_from_no_kernel, fetch_from_another_kernel, fetch_with_a_full_inbox, flush_to_the_own_kernel, flush_of_nothing, kill_of_the_declared, kill_of_the_undeclared, enabled_at_the_start};
+ghost use Rattle.sem_plays.specs.WindowOfThirtyTwo.{window_of_thirty_two};
+ghost use Rattle.sem_plays.specs.WindowOfThirtyTwo.{waits as window_of_thirty_two_waits};
+ghost use Rattle.sem_plays.specs.Notions.{clear_is_one_job_cut, clear_is_one_job_answered};
+ghost use Rattle.sem_plays.specs.Notions.{clear_of_no_child_cut, clear_of_no_child_answered};
+ghost use Rattle.sem_plays.specs.Notions.{clear_takes_back_cut, clear_takes_back_answered};
+ghost use Rattle.sem_plays.specs.Notions.{cleared_three_times_cut, cleared_three_times_answered};
+ghost use Rattle.sem_plays.specs.Notions.{clearer_is_killed_cut, clearer_is_killed_answered};
+ghost use Rattle.sem_plays.specs.Notions.{clearing_is_told_in_turn_cut};
+ghost use Rattle.sem_plays.specs.Notions.{clearing_is_told_in_turn_answered, given_after_clear_cut};
+ghost use Rattle.sem_plays.specs.Notions.{given_after_clear_answered, killed_after_clear_cut};
+ghost use Rattle.sem_plays.specs.Notions.{killed_after_clear_answered, killed_revoker_cut};
+ghost use Rattle.sem_plays.specs.Notions.{killed_revoker_answered, revoke_takes_clear_cut};
+ghost use Rattle.sem_plays.specs.Notions.{revoke_takes_clear_answered, two_revokes_meet_cut};
+ghost use Rattle.sem_plays.specs.Notions.{two_revokes_meet_answered, waiter_of_clear_is_killed_cut};
+ghost use Rattle.sem_plays.specs.Notions.{waiter_of_clear_is_killed_answered};
+ghost use Rattle.sem_plays.specs.LoneSteps.{obtain_of_an_undeclared_vpe};
+ghost use Rattle.sem_plays.specs.LoneSteps.{obtain_of_a_vpe_on_another_pe};
+ghost use Rattle.sem_plays.specs.LoneSteps.{obtain_from_a_vpe_elsewhere};
+ghost use Rattle.sem_plays.specs.LoneSteps.{obtain_from_an_undeclared_vpe};
+ghost use Rattle.sem_plays.specs.LoneSteps.{session_of_an_undeclared_service};
+ghost use Rattle.sem_plays.specs.LoneSteps.{offer_of_an_undeclared_service};
+ghost use Rattle.sem_plays.specs.LoneSteps.{obtain_request_of_a_local_vpe};
+ghost use Rattle.sem_plays.specs.LoneSteps.{grant_for_which_nobody_waits, grant_of_another_number};
+ghost use Rattle.sem_plays.specs.LoneSteps.{grant_for_a_delegate, grant_by_a_local_vpe};
+ghost use Rattle.sem_plays.specs.LoneSteps.{grant_by_an_undeclared_vpe, grant_to_a_vpe_elsewhere};
+ghost use Rattle.sem_plays.specs.LoneSteps.{grant_with_an_undeclared_gate};
+ghost use Rattle.sem_plays.specs.LoneSteps.{grant_with_an_undeclared_service};
+ghost use Rattle.sem_plays.specs.LoneSteps.{refusal_for_which_nobody_waits};
+ghost use Rattle.sem_plays.specs.LoneSteps.{refusal_of_another_number, refusal_for_a_vpe_elsewhere};
+ghost use Rattle.sem_plays.specs.LoneSteps.{refusal_for_an_undeclared_vpe};
+ghost use Rattle.sem_plays.specs.LoneSteps.{delegate_to_a_vpe_elsewhere};
+ghost use Rattle.sem_plays.specs.LoneSteps.{delegate_to_an_undeclared_vpe, delegate_of_a_local_vpe};
+ghost use Rattle.sem_plays.specs.LoneSteps.{delegate_of_an_undeclared_vpe};
+ghost use Rattle.sem_plays.specs.LoneSteps.{delegate_of_an_undeclared_gate};
+ghost use Rattle.sem_plays.specs.LoneSteps.{preparation_for_which_nobody_waits};
+ghost use Rattle.sem_plays.specs.LoneSteps.{preparation_of_another_parent};
+ghost use Rattle.sem_plays.specs.LoneSteps.{preparation_by_a_local_vpe};
+ghost use Rattle.sem_plays.specs.LoneSteps.{preparation_by_an_undeclared_vpe};
+ghost use Rattle.sem_plays.specs.LoneSteps.{preparation_for_a_vpe_elsewhere};
+ghost use Rattle.sem_plays.specs.LoneSteps.{denial_for_which_nobody_waits, denial_for_an_obtain};
+ghost use Rattle.sem_plays.specs.LoneSteps.{denial_for_a_vpe_elsewhere, acknowledgement_of_nothing};
+ghost use Rattle.sem_plays.specs.LoneSteps.{retraction_of_nothing};
+ghost use Rattle.sem_plays.specs.LoneSteps.{acknowledgement_for_a_vpe_elsewhere};
+ghost use Rattle.sem_plays.specs.LoneSteps.{orphan_of_a_parent_that_is_gone};
+ghost use Rattle.sem_plays.specs.LoneSteps.{orphan_that_is_no_child};
+ghost use Rattle.sem_plays.specs.LoneSteps.{unlink_of_a_parent_that_is_gone, unlink_of_no_child};
+ghost use Rattle.sem_plays.specs.LoneSteps.{root_after_a_clear, orphan_after_a_clear};
+ghost use Rattle.sem_plays.specs.LoneSteps.{unlink_after_a_clear, clear_of_what_is_being_cleared};
+ghost use Rattle.sem_plays.specs.LoneSteps.{another_job_keeps_the_root, done_for_no_job};
+ghost use Rattle.sem_plays.specs.LoneSteps.{request_for_a_key_that_is_not_held};
+ghost use Rattle.sem_plays.specs.LoneSteps.{number_4095_is_the_last, number_4096_is_not_drawn};
+ghost use Rattle.sem_plays.specs.LoneSteps.{occupied_comes_before_numbers, the_128th_ask_is_kept};
+ghost use Rattle.sem_plays.specs.LoneSteps.{the_129th_ask_is_lost, ask_of_a_dead_service};
+ghost use Rattle.sem_plays.specs.LoneSteps.{upcall_of_a_dead_vpe, call_of_a_dead_vpe};
+ghost use Rattle.sem_plays.specs.LoneSteps.{call_of_a_vpe_elsewhere, call_while_one_waits};
+ghost use Rattle.sem_plays.specs.LoneSteps.{resume_while_it_waits, fetch_from_the_own_kernel};
+ghost use Rattle.sem_plays.specs.LoneSteps.{fetch_from_no_kernel, fetch_from_another_kernel};
+ghost use Rattle.sem_plays.specs.LoneSteps.{fetch_with_a_full_inbox, flush_to_the_own_kernel};
+ghost use Rattle.sem_plays.specs.LoneSteps.{flush_of_nothing, kill_of_the_declared};
+ghost use Rattle.sem_plays.specs.LoneSteps.{kill_of_the_undeclared, enabled_at_the_start};
 
-/// Plays of version 1 without `clear`: each schedule is possible, its entries are these, and this is made, cut, held and left at its end.
+/// Plays of version 1 without `clear`: each schedule is possible, has these entries, and ends with
+/// these made, cut, held and left.
 pub fn plays_of_version_one()
     ensures answers_before_orphan { answers_before_orphan }
     ensures asks_of_the_ended { asks_of_the_ended }
@@ -203,7 +280,7 @@ pub fn plays_of_version_two()
     ensures window_of_thirty_two { window_of_thirty_two }
 {}
 
-/// After so many events of a schedule these and no others are enabled.
+/// After that many events of a schedule exactly these are enabled.
 pub fn waits()
     ensures asks_of_all_others { asks_of_all_others_waits }
     ensures clear_adopts_revoke { clear_adopts_revoke_waits }
@@ -236,7 +313,8 @@ pub fn waits()
     ensures window_of_thirty_two { window_of_thirty_two_waits }
 {}
 
-/// What the journals of some plays tell: which keys were cut off, and which of them by calls that were answered with success.
+/// What the journals of some plays tell: which keys were cut off, and which of them by calls that
+/// succeeded.
 pub fn notions()
     ensures clear_is_one_job_cut { clear_is_one_job_cut }
     ensures clear_is_one_job_answered { clear_is_one_job_answered }
@@ -264,7 +342,7 @@ pub fn notions()
     ensures waiter_of_clear_is_killed_answered { waiter_of_clear_is_killed_answered }
 {}
 
-/// Steps that no schedule reaches: messages for which nobody waits, and the ends of the ranges.
+/// Steps that no schedule reaches: messages that no call waits for, and the ends of the ranges.
 pub fn lone_steps()
     ensures obtain_of_an_undeclared_vpe { obtain_of_an_undeclared_vpe }
     ensures obtain_of_a_vpe_on_another_pe { obtain_of_a_vpe_on_another_pe }

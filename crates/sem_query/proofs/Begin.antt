@@ -42,8 +42,12 @@ module _ (T : Setup) (valid : IsSetup T) (k : KeyName) where
   root-at root =
       let i : ℕ = kernel_of T k.vpe in
       let c = some-of (cap (side (start T) i) k) (root-held T valid k root) in
-      let home : owner_of T k ≡ i = schedule-homes T valid [] (nobody T valid k) i k c.0 c.1 in
-      (c.0, ap (λ j. cap (side (start T) j) k) home ∙ c.1, start-unmarked T i c.0 (found (λ (x : Capability). key_eq x.key k) (side (start T) i).caps c.0 c.1).0)
+      let home : owner_of T k ≡ i = schedule-homes T valid [] (nobody T valid k) i k c.0 c.1 in (
+        c.0,
+        ap (λ j. cap (side (start T) j) k) home
+            ∙ c.1,
+        start-unmarked T i c.0 (found (λ (x : Capability). key_eq x.key k) (side (start T) i).caps c.0 c.1).0,
+      )
 
   -- no other key is
   no-root : (Contains (root_keys T) k → ⊥) → at_owner ≡ None
@@ -51,19 +55,25 @@ module _ (T : Setup) (valid : IsSetup T) (k : KeyName) where
     where
       by : (o : Option Capability) → at_owner ≡ o → o ≡ None
       by None is = refl
-      by (Some c) is = absurd (none (first-made T valid k (used-made T [] (nobody T valid k) k (inl (inl (owner_of T k, subst (λ (o : Option Capability). IsSome o) (sym is) refl))))))
+      by (Some c) is = absurd
+          (none (first-made T valid k
+          (used-made T [] (nobody T valid k) k (inl (inl (owner_of T k, subst (λ (o : Option Capability). IsSome o) (sym is) refl))))))
 
   pub begun-is : begun_life k (option_map (λ (c : Capability). c.selector) at_owner) ≡ life_so_far T [] k
   begun-is = elim (cases_Bool (has_key (root_keys T) k)) [
     | inl root ↦
         let c = root-at (Contains-from_has_key (root_keys T) k root) in
-        let there : whereabouts T (start T) k ≡ Unmarked c.0.selector = ap (λ o. option_map_or held_as o (unheld (is_coming k (start T)))) c.1 ∙ ap (λ m. held_with m c.0.selector) c.2 in
+        let there : whereabouts T (start T) k ≡ Unmarked c.0.selector = ap (λ o. option_map_or held_as o (unheld (is_coming k (start T)))) c.1
+        ∙ ap (λ m. held_with m c.0.selector) c.2 in
         ap (λ (o : Option Capability). begun_life k (option_map (λ (x : Capability). x.selector) o)) c.1
         ∙ (ap (life_of_root k) (sym there)
-        ∙ sym (ap (λ (o : Option KeyLife). unwrap_or o (begun_life k None)) (cond-true (has_key (root_keys T) k) (Some (life_of_root k (whereabouts T (start T) k))) None root)))
+        ∙ sym (ap (λ (o : Option KeyLife). unwrap_or o (begun_life k None))
+        (cond-true (has_key (root_keys T) k) (Some (life_of_root k (whereabouts T (start T) k))) None root)))
     | inr other ↦
-        ap (λ (o : Option Capability). begun_life k (option_map (λ (x : Capability). x.selector) o)) (no-root (λ root. true≢false (sym (has_key-from_Contains (root_keys T) k root) ∙ other)))
-        ∙ sym (ap (λ (o : Option KeyLife). unwrap_or o (begun_life k None)) (cond-false (has_key (root_keys T) k) (Some (life_of_root k (whereabouts T (start T) k))) None other))
+        ap (λ (o : Option Capability). begun_life k (option_map (λ (x : Capability). x.selector) o))
+        (no-root (λ root. true≢false (sym (has_key-from_Contains (root_keys T) k root) ∙ other)))
+        ∙ sym (ap (λ (o : Option KeyLife). unwrap_or o (begun_life k None))
+        (cond-false (has_key (root_keys T) k) (Some (life_of_root k (whereabouts T (start T) k))) None other))
   ]
 
 module _ (T : Setup) (valid : IsSetup T) (J : List Entry) (runs : IsSchedule T J) where
@@ -72,7 +82,8 @@ module _ (T : Setup) (valid : IsSetup T) (J : List Entry) (runs : IsSchedule T J
   all-lives [] each = refl
   all-lives (k ∷ ks) each = by (life T J k) refl (each k (Contains-head k ks)) (all-lives ks (λ q among. each q (Contains-tail k ks q among)))
     where
-      by : (o : Option KeyLife) → life T J k ≡ o → IsSome o → map (life_so_far T J) ks ≡ filter_map (life T J) ks → life_so_far T J k ∷ map (life_so_far T J) ks ≡ cons_option (life T J k) (filter_map (life T J) ks)
+      by : (o : Option KeyLife) → life T J k ≡ o → IsSome o → map (life_so_far T J) ks ≡ filter_map (life T J) ks →
+          life_so_far T J k ∷ map (life_so_far T J) ks ≡ cons_option (life T J k) (filter_map (life T J) ks)
       by None none some rest = absurd cc
       by (Some l) is some rest =
           ap (λ (o : Option KeyLife). unwrap_or o (begun_life k None) ∷ map (life_so_far T J) ks) is

@@ -18,9 +18,11 @@ abbrev world_at : Setup → List Entry → WorldValue
 world_at T J = record { setup = T; world = world_after T J }
 
 -- It has come to the entry at a place.
-module _ (T : Setup) (valid : IsSetup T) (J : List Entry) (runs : IsSchedule T J) (place : ℕ) (e : Entry) (within : place < length J) (there : e ≡ get_or J place e) where
+module _ (T : Setup) (valid : IsSetup T) (J : List Entry) (runs : IsSchedule T J) (place : ℕ) (e : Entry) (within : place < length J) (there : e
+    ≡ get_or J place e) where
   with-it : J ≡ take place J ++ e ∷ drop (suc place) J
-  with-it = sym (ap (λ (xs : List Entry). take place J ++ xs) (sym (drop-cons J place e within ∙ ap (λ (x : Entry). x ∷ drop (suc place) J) (sym there))) ∙ take-append-drop place J)
+  with-it = sym (ap (λ (xs : List Entry). take place J ++ xs) (sym (drop-cons J place e within ∙ ap (λ (x : Entry). x ∷ drop (suc place) J) (sym there)))
+      ∙ take-append-drop place J)
 
   one-more : take (place + 1) J ≡ take place J ++ e ∷ []
   one-more = take_more J place e within ∙ ap (λ (x : Entry). take place J ++ x ∷ []) (sym there)
@@ -29,7 +31,8 @@ module _ (T : Setup) (valid : IsSetup T) (J : List Entry) (runs : IsSchedule T J
   count = length-take-le place J (omega (arith, within))
 
   -- the lives go on with it
-  pub next-lives : (now : WorldValue) → now ≡ world_at T (take place J) → (ks : List KeyName) (ls ls' : List KeyLife) → ls ≡ map (life_so_far T (take place J)) ks → IsFollowed T now.world place e ls ls' → ls' ≡ map (life_so_far T (take (place + 1) J)) ks
+  pub next-lives : (now : WorldValue) → now ≡ world_at T (take place J) → (ks : List KeyName) (ls ls' : List KeyLife) →
+      ls ≡ map (life_so_far T (take place J)) ks → IsFollowed T now.world place e ls ls' → ls' ≡ map (life_so_far T (take (place + 1) J)) ks
   next-lives now is ks ls ls' so_far follows =
       let W : World = world_after T (take place J) in
       let V : World = world_after T (take place J ++ e ∷ []) in

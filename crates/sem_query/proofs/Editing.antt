@@ -18,18 +18,22 @@ module _ (test : KeyLife → Bool) (f : KeyLife → KeyLife) where
       ∙ ap (λ xs. l ∷ xs) (change-none ls (λ i d within. none (suc i) d (omega (arith, within))))
 
   -- where one passes, that one is
-  change-one : (ls : List KeyLife) (at : ℕ) → at < length ls → ((d : KeyLife) → test (get_or ls at d) ≡ true) → ((i : ℕ) (d : KeyLife) → i < length ls → i ≢ at → test (get_or ls i d) ≡ false) → (new : KeyLife) → ((d : KeyLife) → new ≡ f (get_or ls at d)) → set ls at new ≡ change test f ls
+  change-one : (ls : List KeyLife) (at : ℕ) → at < length ls → ((d : KeyLife) → test (get_or ls at d) ≡ true) →
+      ((i : ℕ) (d : KeyLife) → i < length ls → i ≢ at → test (get_or ls i d) ≡ false) → (new : KeyLife) → ((d : KeyLife) → new ≡ f (get_or ls at d)) →
+      set ls at new ≡ change test f ls
   change-one [] at within pass others new is = absurd (omega (arith, within))
   change-one (l ∷ ls) zero within pass others new is =
       ap (λ x. x ∷ ls) (is l ∙ sym (cond-true (test l) (f l) l (pass l)))
       ∙ ap (λ xs. (if test l then f l else l) ∷ xs) (sym (change-none ls (λ i d below. others (suc i) d (omega (arith, below)) (omega arith))))
   change-one (l ∷ ls) (suc at) within pass others new is =
       ap (λ x. x ∷ set ls at new) (sym (cond-false (test l) (f l) l (others 0 l (omega arith) (omega arith))))
-      ∙ ap (λ xs. (if test l then f l else l) ∷ xs) (change-one ls at (omega (arith, within)) pass (λ i d below other. others (suc i) d (omega (arith, below)) (omega (arith, other))) new is)
+      ∙ ap (λ xs. (if test l then f l else l) ∷ xs)
+      (change-one ls at (omega (arith, within)) pass (λ i d below other. others (suc i) d (omega (arith, below)) (omega (arith, other))) new is)
 
 module _ (ls : List KeyLife) (are : AreLives ls) (k : KeyName) where
   -- the life at the place of the key is the one of that key
-  pub changed-at : (at : ℕ) → IsLifeAt ls k at → (f : KeyLife → KeyLife) (old new : KeyLife) → old ≡ get_or ls at old → new ≡ f old → set ls at new ≡ change (λ (l : KeyLife). key_eq l.key k) f ls
+  pub changed-at : (at : ℕ) → IsLifeAt ls k at → (f : KeyLife → KeyLife) (old new : KeyLife) → old ≡ get_or ls at old → new ≡ f old →
+      set ls at new ≡ change (λ (l : KeyLife). key_eq l.key k) f ls
   changed-at at place f old new there is = change-one (λ (l : KeyLife). key_eq l.key k) f ls at place.in_range
       (λ d. key_eq-from (get_or ls at d).key k (place.key d))
       (λ i d within other. let there = place.key d in key_eq-differs (get_or ls i d).key k (λ same. elim (cases_lt i at) [
@@ -53,11 +57,13 @@ module _ (ls : List KeyLife) (are : AreLives ls) (k : KeyName) where
         let high = key-at j d (omega (arith, within, length-set ls at new)) in
         let less = are.rising i j d lt (omega (arith, within, length-set ls at new)) in
         omega (arith, less, ap packed low, ap packed high);
-    valid = λ i d within. subst IsValidKey (sym (key-at i d (omega (arith, within, length-set ls at new)))) (are.valid i d (omega (arith, within, length-set ls at new)));
+    valid = λ i d within. subst IsValidKey (sym (key-at i d (omega (arith, within, length-set ls at new))))
+        (are.valid i d (omega (arith, within, length-set ls at new)));
   }
     where
       key-at : (i : ℕ) (d : KeyLife) → i < length ls → (get_or (set ls at new) i d).key ≡ (get_or ls i d).key
       key-at i d within = elim (cases_eq i at) [
-        | inl is ↦ ap (λ n. (get_or (set ls at new) n d).key) is ∙ (ap (λ (l : KeyLife). l.key) (get_or-set_same ls at new d place.in_range) ∙ (same ∙ (ap (λ (l : KeyLife). l.key) (there ∙ get_or_default ls at old d place.in_range) ∙ ap (λ n. (get_or ls n d).key) (sym is))))
+        | inl is ↦ ap (λ n. (get_or (set ls at new) n d).key) is ∙ (ap (λ (l : KeyLife). l.key) (get_or-set_same ls at new d place.in_range)
+            ∙ (same ∙ (ap (λ (l : KeyLife). l.key) (there ∙ get_or_default ls at old d place.in_range) ∙ ap (λ n. (get_or ls n d).key) (sym is))))
         | inr other ↦ ap (λ (l : KeyLife). l.key) (get_or-set_other ls at i new d other)
       ]

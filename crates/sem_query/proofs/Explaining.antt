@@ -1,5 +1,7 @@
--- Each denial of a schedule is explained: its code has a name, its VPE a last call, and some entry is the first after which that call is parked as it is just before the reply.
-use Rattle.std.proofs.Common.{◌≡◌, ℕ, zero, suc, ◌+◌, ◌≤◌, ◌<◌, ◌≢◌, ◌-◌, true, List, [], ◌∷◌, slice_get, length, Option, Some, None, refl, sym, ap, ◌∙◌, subst, inl, inr, arith}
+-- Each denial of a schedule is explained: its code has a name, its VPE a last call, and some entry is the first after which that call is parked as it is just
+-- before the reply.
+use Rattle.std.proofs.Common.{◌≡◌, ℕ, zero, suc, ◌+◌, ◌≤◌, ◌<◌, ◌≢◌, ◌-◌, true, List, [], ◌∷◌, slice_get, length, Option, Some, None, refl, sym, ap, ◌∙◌, subst}
+use Rattle.std.proofs.Common.{inl, inr, arith}
 use Rattle.std.specs.Prelude.{◌==◌}
 use Rattle.std.proofs.lemmas.Bool.{cases_eq, cases_lt, eqb-true, agree_below_at}
 use Rattle.std.proofs.lemmas.Option.{same_Some, slice_get_within}
@@ -19,7 +21,8 @@ use Rattle.sem_query.proofs.SameStates.{Decided, same-state}
 
 -- each number up to 15 is that of a code
 code-named : (n : ℕ) → n ≤ 15 → (code : Code) × (n ≡ code_number code)
-code-named n small = (code_of n, eqb-true n (code_number (code_of n)) (agree_below_at (λ m. m == code_number (code_of m)) (λ m. true) 16 n refl (omega (arith, small))))
+code-named n small =
+    (code_of n, eqb-true n (code_number (code_of n)) (agree_below_at (λ m. m == code_number (code_of m)) (λ m. true) 16 n refl (omega (arith, small))))
 
 -- The last call.
 
@@ -105,7 +108,8 @@ module _ (T : Setup) (valid : IsSetup T) (J : List Entry) (runs : IsSchedule T J
       parked-first b call early =
           let more : ℕ = n - suc b in
           let last : b + more + 1 ≡ n = omega arith in
-          let found = first-of (IsParkedAlike T J r.vpe n) (λ m. same-state (state_after T J r.vpe (m + 1)) (state_after T J r.vpe n)) more b (ap (state_after T J r.vpe) last) in
+          let found = first-of (IsParkedAlike T J r.vpe n) (λ m. same-state (state_after T J r.vpe (m + 1)) (state_after T J r.vpe n)) more b
+          (ap (state_after T J r.vpe) last) in
           (found.0, (let within = found.1 in omega (arith, within)), by_parking b found.0 call early found.2.from found.2.holds found.2.first)
 
   -- to the question why an entry denies there is an answer

@@ -1,5 +1,6 @@
 -- A key that is followed along a journal.
-use Rattle.std.proofs.Common.{◌≡◌, ◌⊎◌, ℕ, ◌<◌, ◌≤◌, zero-le, Bool, true, false, List, [], ◌∷◌, ◌++◌, length, take, Option, Some, None, IsSome, refl, sym, ap, ◌∙◌, subst, inl, inr, arith, eq-eqb}
+use Rattle.std.proofs.Common.{◌≡◌, ◌⊎◌, ℕ, ◌<◌, ◌≤◌, zero-le, Bool, true, false, List, [], ◌∷◌, ◌++◌, length, take, Option, Some, None, IsSome, refl, sym, ap}
+use Rattle.std.proofs.Common.{◌∙◌, subst, inl, inr, arith, eq-eqb}
 use Rattle.std.specs.Prelude.{◌==◌, ◌&&◌, ◌||◌, is_some}
 use Rattle.std.specs.Option.{option_map, option_map_or}
 use Rattle.std.proofs.lemmas.Bool.{and_from, and_parts, eqb-true, true≢false}
@@ -64,7 +65,8 @@ module _ (T : Setup) (valid : IsSetup T) (k : KeyName) where
   pub start-held : (c : Capability) → at_owner ≡ Some c → whereabouts T (start T) k ≡ Unmarked c.selector
   start-held c is =
       ap (λ o. option_map_or held_as o (unheld (is_coming k (start T)))) is
-      ∙ ap (λ m. held_with m c.selector) (start-unmarked T (owner_of T k) c (found (λ (x : Capability). key_eq x.key k) (side (start T) (owner_of T k)).caps c is).0)
+      ∙ ap (λ m. held_with m c.selector)
+      (start-unmarked T (owner_of T k) c (found (λ (x : Capability). key_eq x.key k) (side (start T) (owner_of T k)).caps c is).0)
 
   pub start-unheld : at_owner ≡ None → whereabouts T (start T) k ≡ No
   start-unheld none = dead-nowhere T valid k (start T) (whereabouts T (start T) k) (there T valid [] (nobody T valid k) k) dead
@@ -73,15 +75,18 @@ module _ (T : Setup) (valid : IsSetup T) (k : KeyName) where
       dead live = let held = live-held live in let clash : None ≡ Some held.0 = sym none ∙ held.1 in absurd cc
 
   -- by the selector at which its owner holds it
-  pub start-seen : (n : ℕ) (h : Holder) (o : Option ℕ) → o ≡ option_map (λ (c : Capability). c.selector) at_owner → h ≡ option_map_or Unmarked o No → h ≡ whereabouts_after T (take n []) k
+  pub start-seen : (n : ℕ) (h : Holder) (o : Option ℕ) → o ≡ option_map (λ (c : Capability). c.selector) at_owner → h ≡ option_map_or Unmarked o No →
+      h ≡ whereabouts_after T (take n []) k
   start-seen n h o sel is = by at_owner refl
     where
       first : whereabouts T (start T) k ≡ whereabouts_after T (take n []) k
       first = ap (λ J. whereabouts_after T J k) (sym (none-taken n))
 
       by : (p : Option Capability) → at_owner ≡ p → h ≡ whereabouts_after T (take n []) k
-      by (Some c) some = is ∙ (ap (λ q. option_map_or Unmarked q No) (sel ∙ ap (option_map (λ (c : Capability). c.selector)) some) ∙ (sym (start-held c some) ∙ first))
-      by None none = is ∙ (ap (λ q. option_map_or Unmarked q No) (sel ∙ ap (option_map (λ (c : Capability). c.selector)) none) ∙ (sym (start-unheld none) ∙ first))
+      by (Some c) some = is ∙ (ap (λ q. option_map_or Unmarked q No) (sel ∙ ap (option_map (λ (c : Capability). c.selector)) some)
+          ∙ (sym (start-held c some) ∙ first))
+      by None none = is ∙ (ap (λ q. option_map_or Unmarked q No) (sel ∙ ap (option_map (λ (c : Capability). c.selector)) none)
+          ∙ (sym (start-unheld none) ∙ first))
 
 -- Whether the entry may move the key.
 
@@ -163,24 +168,31 @@ module _ (T : Setup) (W : World) (e : Entry) (k : KeyName) where
   brought_it = is_key k (brought_by e.event.act e.detail)
 
   at-home-moves : owner_of T k ≡ i → moves_at_home k s e ≡ true → may_move T W e k ≡ true
-  at-home-moves home is = or-right brought_it ((owner_of T k == i) && moves_at_home k s e) (and_from (owner_of T k == i) (moves_at_home k s e) (eq-eqb (owner_of T k) i home) is)
+  at-home-moves home is =
+      or-right brought_it ((owner_of T k == i) && moves_at_home k s e) (and_from (owner_of T k == i) (moves_at_home k s e) (eq-eqb (owner_of T k) i home) is)
 
   rooted : IsRootOf e k → is_root k e ≡ true
   rooted (of_cut cuts) = or-left (is_key k e.cut) _ (is_key-from k e.cut cuts)
   rooted (of_request from j act detail) =
-      or-right (is_key k e.cut) _ (or-left (is_key k (requested e.event.act e.detail)) _ (is_key-from k (requested e.event.act e.detail) (ap (λ a. requested a e.detail) act ∙ ap (requested Handle) detail)))
+      or-right (is_key k e.cut) _
+      (or-left (is_key k (requested e.event.act e.detail)) _ (is_key-from k (requested e.event.act e.detail) (ap (λ a. requested a e.detail) act
+      ∙ ap (requested Handle) detail)))
   rooted (of_end over) =
-      or-right (is_key k e.cut) _ (or-right (is_key k (requested e.event.act e.detail)) _ (is_vpe-from k.vpe (ended_by e.event.act e.detail) (ends-by k.vpe e.event.act e.detail over)))
+      or-right (is_key k e.cut) _
+      (or-right (is_key k (requested e.event.act e.detail)) _ (is_vpe-from k.vpe (ended_by e.event.act e.detail) (ends-by k.vpe e.event.act e.detail over)))
 
   -- a cause by which it may change, but for a grant, is seen
   pub moves : MayChange T W e k → (grants_key k e ≡ true) ⊎ (may_move T W e k ≡ true)
   moves (by_grant granted) = inl granted
   moves (by_message from m act detail bringing) =
-      inr (or-left brought_it _ (is_key-from k (brought_by e.event.act e.detail) (ap (λ a. brought_by a e.detail) act ∙ (ap (brought_by Handle) detail ∙ brought k m bringing))))
+      inr (or-left brought_it _ (is_key-from k (brought_by e.event.act e.detail) (ap (λ a. brought_by a e.detail) act
+      ∙ (ap (brought_by Handle) detail ∙ brought k m bringing))))
   moves (by_resume home act is) =
-      inr (at-home-moves home (or-left going_on _ (and_from (is_vpe k.vpe (resumed e.event.act)) ready (is_vpe-from k.vpe (resumed e.event.act) (ap resumed act)) is)))
+      inr (at-home-moves home
+      (or-left going_on _ (and_from (is_vpe k.vpe (resumed e.event.act)) ready (is_vpe-from k.vpe (resumed e.event.act) (ap resumed act)) is)))
   moves (by_end home loud root is) =
-      inr (at-home-moves home (or-right going_on _ (and_from (is_revoking e) revoked loud (or-left (is_root k e && ready) _ (and_from (is_root k e) ready (rooted root) is)))))
+      inr (at-home-moves home
+      (or-right going_on _ (and_from (is_revoking e) revoked loud (or-left (is_root k e && ready) _ (and_from (is_root k e) ready (rooted root) is)))))
   moves (by_revoking home loud held) =
       inr (at-home-moves home (or-right going_on _ (and_from (is_revoking e) revoked loud (or-right (is_root k e && ready) _ (is-some (cap s k) held)))))
 
@@ -193,7 +205,8 @@ module _ (T : Setup) (W : World) (e : Entry) (k : KeyName) where
   from-resumed a act is home is_ready = absurd cc
 
   from-requested : (a : Act) (d : Detail) → e.event.act ≡ a → e.detail ≡ d → requested a d ≡ Some k → IsRootOf e k
-  from-requested Handle (Carried from (RevokeReq key j)) act detail is = of_request from j act (detail ∙ ap (λ q. Carried from (RevokeReq q j)) (same_Some key k is))
+  from-requested Handle (Carried from (RevokeReq key j)) act detail is = of_request from j act (detail
+      ∙ ap (λ q. Carried from (RevokeReq q j)) (same_Some key k is))
   from-requested a d act detail is = absurd cc
 
   from-root : is_root k e ≡ true → IsRootOf e k
@@ -227,7 +240,8 @@ module _ (T : Setup) (W : World) (e : Entry) (k : KeyName) where
 
 -- One entry more.
 
-module _ (T : Setup) (valid : IsSetup T) (past : List Entry) (e : Entry) (runs : IsSchedule T (past ++ e ∷ [])) (x : Sighting) (readied : IsReadied T past e x) where
+module _ (T : Setup) (valid : IsSetup T) (past : List Entry) (e : Entry) (runs : IsSchedule T (past ++ e ∷ [])) (x : Sighting)
+    (readied : IsReadied T past e x) where
   abbrev V : World
   V = world_after T (past ++ e ∷ [])
 
@@ -252,7 +266,8 @@ module _ (T : Setup) (valid : IsSetup T) (past : List Entry) (e : Entry) (runs :
     now h is = is ∙ ap (λ J. whereabouts_after T J key) (sym all-next)
 
     -- a granted key is held, or on its way
-    sees : (o : Option Capability) (coming : Bool) (a : Holder) → Passes true a (option_map_or held_as o (unheld coming)) → option_map_or held_as o Way ≡ option_map_or held_as o (unheld coming)
+    sees : (o : Option Capability) (coming : Bool) (a : Holder) → Passes true a (option_map_or held_as o (unheld coming)) →
+        option_map_or held_as o Way ≡ option_map_or held_as o (unheld coming)
     sees (Some c) coming a is = refl
     sees None true a is = refl
     sees None false a is = absurd (no a is)
@@ -261,11 +276,15 @@ module _ (T : Setup) (valid : IsSetup T) (past : List Entry) (e : Entry) (runs :
         no a h = elim h [ ]
 
     pub granted-seen : grants_key key e ≡ true → IsNext (seen_granted key (side V (owner_of T key)))
-    granted-seen granted = now _ (sees (cap (side V (owner_of T key)) key) (is_coming key V) (whereabouts T (world_after T past) key) (subst (λ g. Passes g (whereabouts T (world_after T past) key) (whereabouts T V key)) granted (passes T valid (past ++ e ∷ []) runs past [] e refl key)))
+    granted-seen granted =
+        now _ (sees (cap (side V (owner_of T key)) key) (is_coming key V) (whereabouts T (world_after T past) key)
+        (subst (λ g. Passes g (whereabouts T (world_after T past) key) (whereabouts T V key)) granted
+        (passes T valid (past ++ e ∷ []) runs past [] e refl key)))
 
     module _ (not_granted : grants_key key e ≡ false) where
       pub moved-seen : x.is_moving ≡ true → IsNext (seen_at_home key (side V (owner_of T key)))
-      moved-seen is = now _ (sym (at-home T valid (past ++ e ∷ []) runs past [] e refl key not_granted (moving T (world_after T past) e key (sym readied.moves ∙ is))))
+      moved-seen is = now _
+          (sym (at-home T valid (past ++ e ∷ []) runs past [] e refl key not_granted (moving T (world_after T past) e key (sym readied.moves ∙ is))))
 
       pub unmoved-seen : x.is_moving ≡ false → IsNext x.there
       unmoved-seen is = now x.there (readied.seen ∙ (ap (λ J. whereabouts_after T J key) all-past ∙ stays))

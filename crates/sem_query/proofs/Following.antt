@@ -65,7 +65,8 @@ abbrev is_marked : Holder → Bool
 is_marked (Marked sel) = true
 is_marked h = false
 
-marked-held : (o : Option Capability) (b : Bool) → is_marked (option_map_or held_as o (unheld b)) ≡ true → (j : ℕ) × (option_and_then (λ (c : Capability). c.mark) o ≡ Some j)
+marked-held : (o : Option Capability) (b : Bool) → is_marked (option_map_or held_as o (unheld b)) ≡ true →
+    (j : ℕ) × (option_and_then (λ (c : Capability). c.mark) o ≡ Some j)
 marked-held None true is = absurd cc
 marked-held None false is = absurd cc
 marked-held (Some c) b is = by c.mark refl is
@@ -74,7 +75,8 @@ marked-held (Some c) b is = by c.mark refl is
     by None none no' = absurd cc
     by (Some j) some yes' = (j, some)
 
-held-marked : (o : Option Capability) (b : Bool) (j : ℕ) → option_and_then (λ (c : Capability). c.mark) o ≡ Some j → is_marked (option_map_or held_as o (unheld b)) ≡ true
+held-marked : (o : Option Capability) (b : Bool) (j : ℕ) → option_and_then (λ (c : Capability). c.mark) o ≡ Some j →
+    is_marked (option_map_or held_as o (unheld b)) ≡ true
 held-marked o b j is =
     let c = mark-of o j is in
     ap (λ (x : Option Capability). is_marked (option_map_or held_as x (unheld b))) c.1 ∙ ap (λ m. is_marked (held_with m c.0.selector)) c.2
@@ -91,8 +93,12 @@ none-marked T k j = (
 )
 
 -- keys with their jobs
-in-markings : (T : Setup) (V : World) (ks : List KeyName) (k : KeyName) (j : ℕ) → Contains ks k → mark_at T V k ≡ Some j → Contains (flat_map (marking T V) ks) (k, j)
-in-markings T V ks k j among is = Contains-flat_map (marking T V) ks k (k, j) among (subst (λ (o : Option ℕ). Contains {X = KeyName × ℕ} (option_map_or (λ i. (k, i) ∷ []) o []) (k, j)) (sym is) (Contains-head (k, j) []))
+in-markings : (T : Setup) (V : World) (ks : List KeyName) (k : KeyName) (j : ℕ) → Contains ks k → mark_at T V k ≡ Some j →
+    Contains (flat_map (marking T V) ks) (k, j)
+in-markings T V ks k j among is = Contains-flat_map (marking T V) ks k (
+  k,
+  j,
+) among (subst (λ (o : Option ℕ). Contains {X = KeyName × ℕ} (option_map_or (λ i. (k, i) ∷ []) o []) (k, j)) (sym is) (Contains-head (k, j) []))
 
 from-markings : (T : Setup) (V : World) (ks : List KeyName) (k : KeyName) (j : ℕ) → Contains (flat_map (marking T V) ks) (k, j) → mark_at T V k ≡ Some j
 from-markings T V ks k j among =
@@ -146,18 +152,21 @@ module _ (T : Setup) (valid : IsSetup T) (before : List Entry) (e : Entry) (runs
         message (RevokeDone i) some = ap RevokeDone (same_Some i j some)
         message m none = absurd cc
 
-        by : (a : Act) (d : Detail) → e.event.act ≡ a → e.detail ≡ d → returned a d ≡ Some j → (e.event.act ≡ Handle) × (from : ℕ) × (e.detail ≡ Carried from (RevokeDone j))
+        by : (a : Act) (d : Detail) → e.event.act ≡ a → e.detail ≡ d → returned a d ≡ Some j →
+            (e.event.act ≡ Handle) × (from : ℕ) × (e.detail ≡ Carried from (RevokeDone j))
         by Handle (Carried from m) act detail some = (act, from, detail ∙ ap (Carried from) (message m some))
         by a d act detail none = absurd cc
 
     -- where none comes back to an entry that revokes, its message is another one
     no-token : returned e.event.act e.detail ≡ None → is_revoking e ≡ true → (from j : ℕ) → e.detail ≡ Carried from (RevokeDone j) → ⊥
-    no-token none loud from j detail = by e.event.act refl (ap (λ d. returned e.event.act d) (sym detail) ∙ none) (ap (revokes_by e.event.act) (sym detail) ∙ loud)
+    no-token none loud from j detail = by e.event.act refl (ap (λ d. returned e.event.act d) (sym detail) ∙ none) (ap (revokes_by e.event.act) (sym detail)
+        ∙ loud)
       where
         by : (a : Act) → e.event.act ≡ a → returned a (Carried from (RevokeDone j)) ≡ None → revokes_by a (Carried from (RevokeDone j)) ≡ true → ⊥
         by Handle act none' loud' = cc
         by (Kill v) act none' loud' =
-            let shown : e.detail ≡ Nothing = shown-detail T W e (made-so T valid J runs before [] e refl k) ∙ ap (λ a. detail_of T s a (input_of W n a) (stepped T W e.event).outcome) act in
+            let shown : e.detail ≡ Nothing = shown-detail T W e (made-so T valid J runs before [] e refl k)
+            ∙ ap (λ a. detail_of T s a (input_of W n a) (stepped T W e.event).outcome) act in
             let clash : Carried from (RevokeDone j) ≡ Nothing = sym detail ∙ shown in
             cc
         by (Calls v) act none' loud' = cc
@@ -201,7 +210,9 @@ module _ (T : Setup) (valid : IsSetup T) (before : List Entry) (e : Entry) (runs
           by home loud None is = let d = stays-held T valid J runs before [] e refl (no-token is loud) k home loud c j this.1 this.2 in held-so d.0 d.1 d.2.mark
           by home loud (Some i) is =
               let back = returned-is i is in
-              let d = returned-idle T valid J runs before [] e refl k back.1 i back.0 back.2 home c this.1 (λ q x at_home held some. none i q is at_home (mark-from (cap (side W (owner_of T q)) q) x i (ap (λ a. cap (side W a) q) at_home ∙ held) some)) in
+              let d = returned-idle T valid J runs before [] e refl k back.1 i back.0 back.2 home c this.1
+              (λ q x at_home held some. none i q is at_home (mark-from (cap (side W (owner_of T q)) q) x i (ap (λ a. cap (side W a) q) at_home
+              ∙ held) some)) in
               held-so d.0 d.1 d.2.mark
 
       module _ (t : Token) (seen : IsToken T W e t) where
@@ -212,7 +223,8 @@ module _ (T : Setup) (valid : IsSetup T) (before : List Entry) (e : Entry) (runs
         open-stays : owner_of T k ≡ n → mark_at T V t.key ≡ Some t.job → StaysSo
         open-stays home is =
             let q = mark-of (cap (side V (owner_of T t.key)) t.key) t.job is in
-            let d = returned-open T valid J runs before [] e refl k back.1 t.job back.0 back.2 home c this.1 t.key q.0 (ap (λ (U : World). cap (side U n) t.key) now-is ∙ (ap (λ i. cap (side V i) t.key) (sym seen.home) ∙ q.1)) q.2 in
+            let d = returned-open T valid J runs before [] e refl k back.1 t.job back.0 back.2 home c this.1 t.key q.0
+            (ap (λ (U : World). cap (side U n) t.key) now-is ∙ (ap (λ i. cap (side V i) t.key) (sym seen.home) ∙ q.1)) q.2 in
             held-so d.0 d.1 d.2.mark
 
         -- it is one of another job, and the one above marks still
@@ -220,13 +232,16 @@ module _ (T : Setup) (valid : IsSetup T) (before : List Entry) (e : Entry) (runs
         other-stays home other bounded =
             let r = mark-of (cap (side W (owner_of T t.key)) t.key) t.job seen.marked in
             let held_r : cap s t.key ≡ Some r.0 = ap (λ i. cap (side W i) t.key) (sym seen.home) ∙ r.1 in
-            let d = returned-rests T valid J runs before [] e refl k back.1 t.job back.0 back.2 home c this.1 j this.2 other t.key r.0 held_r r.2 (above held_r) in
+            let d = returned-rests T valid J runs before [] e refl k back.1 t.job back.0 back.2 home c this.1 j this.2 other t.key r.0 held_r r.2
+            (above held_r) in
             held-so d.0 d.1 d.2.mark
           where
-            above : {r : Capability} → cap s t.key ≡ Some r → (p : KeyName) (d : Capability) (i : ℕ) → r.parent ≡ Some p → cap s p ≡ Some d → d.mark ≡ Some i → (x : Capability) × (cap (side (world_after T J) n) p ≡ Some x) × (x.mark ≡ Some i)
+            above : {r : Capability} → cap s t.key ≡ Some r → (p : KeyName) (d : Capability) (i : ℕ) → r.parent ≡ Some p → cap s p ≡ Some d → d.mark ≡ Some i →
+                (x : Capability) × (cap (side (world_after T J) n) p ≡ Some x) × (x.mark ≡ Some i)
             above {r} held_r p d i parent held some =
                 let up : above_in s t.key ≡ Some (p, i) =
-                ap (λ (o : Option Capability). option_and_then (λ q. option_map (λ a. (q, a)) (mark_in s q)) (option_and_then (λ (x : Capability). x.parent) o)) held_r
+                ap (λ (o : Option Capability). option_and_then (λ q. option_map (λ a. (q, a)) (mark_in s q)) (option_and_then (λ (x : Capability). x.parent) o))
+                held_r
                 ∙ (ap (option_and_then (λ q. option_map (λ a. (q, a)) (mark_in s q))) parent
                 ∙ ap (option_map (λ a. (p, a))) (mark-from (cap s p) d i held some)) in
                 let at_home : owner_of T p ≡ n = schedule-homes T valid before was-runs n p d held in
@@ -261,7 +276,8 @@ module _ (T : Setup) (valid : IsSetup T) (before : List Entry) (e : Entry) (runs
 
   -- a key that is granted is not marked
   fresh-unmarked : (k : KeyName) (j : ℕ) → grants_key k e ≡ true → mark_at T V k ≡ Some j → ⊥
-  fresh-unmarked k j granted is = by (grants_key k e) (whereabouts T W k) (whereabouts T (world_after T J) k) (passes T valid J runs before [] e refl k) granted (ap (λ (U : World). is_marked (whereabouts T U k)) (now-is k) ∙ held-marked (cap (side V (owner_of T k)) k) (is_coming k V) j is)
+  fresh-unmarked k j granted is = by (grants_key k e) (whereabouts T W k) (whereabouts T (world_after T J) k) (passes T valid J runs before [] e refl k) granted
+      (ap (λ (U : World). is_marked (whereabouts T U k)) (now-is k) ∙ held-marked (cap (side V (owner_of T k)) k) (is_coming k V) j is)
     where
       by : (g : Bool) (a b : Holder) → Passes g a b → g ≡ true → is_marked b ≡ true → ⊥
       by _ _ _ born_on_its_way one two = cc
@@ -269,7 +285,8 @@ module _ (T : Setup) (valid : IsSetup T) (before : List Entry) (e : Entry) (runs
       by _ _ _ p one two = cc
 
   -- The keys that were listed, what is reached, the token, and the marked keys before the entry.
-  module _ (reached : List KeyName) (are : AreRevoked s.caps e reached) (o : Option Token) (seen : IsSeen T W e o) (marked kept : List (KeyName × ℕ)) (gone : List KeyName) (M : AreMarked T W marked) (P : AreParted T V e o marked kept gone) where
+  module _ (reached : List KeyName) (are : AreRevoked s.caps e reached) (o : Option Token) (seen : IsSeen T W e o) (marked kept : List (KeyName × ℕ))
+      (gone : List KeyName) (M : AreMarked T W marked) (P : AreParted T V e o marked kept gone) where
     abbrev first : List KeyName
     first = moved_by T W e reached
 
@@ -295,7 +312,8 @@ module _ (T : Setup) (valid : IsSetup T) (before : List Entry) (e : Entry) (runs
         let c = mark-of (cap (side W (owner_of T k)) k) is.0 ((M k is.0).0 is.1) in
         let t = some-token o seen is.3 in
         let back = returned-is k t.0.job t.1 in
-        by_revoking is.2 (ap (λ a. revokes_by a e.detail) back.0 ∙ ap (revokes_by Handle) back.2) (subst (λ (x : Option Capability). IsSome x) (sym (ap (λ i. cap (side W i) k) (sym is.2) ∙ c.1)) refl)
+        by_revoking is.2 (ap (λ a. revokes_by a e.detail) back.0
+        ∙ ap (revokes_by Handle) back.2) (subst (λ (x : Option Capability). IsSome x) (sym (ap (λ i. cap (side W i) k) (sym is.2) ∙ c.1)) refl)
 
     -- what was not listed stays
     stays-else : (k : KeyName) → grants_key k e ≡ false → (Contains (first ++ gone) k → ⊥) → later-is k
@@ -312,7 +330,8 @@ module _ (T : Setup) (valid : IsSetup T) (before : List Entry) (e : Entry) (runs
       where
         by : owner_of T k ≡ n → is_revoking e ≡ true → (c : Capability) → cap (side W (owner_of T k)) k ≡ Some c → (m : Option ℕ) → c.mark ≡ m → later-is k
         by home loud c held None none = then k (spared T valid J runs before [] e refl k home loud c held none (λ (a, root, is). (
-            absent (Contains-append_left first gone k (third T W e (low k) reached k loud (revoked-four T W e (low k) reached k ((are loud k).1 (a, root, is))))))))
+            absent (Contains-append_left first gone k
+            (third T W e (low k) reached k loud (revoked-four T W e (low k) reached k ((are loud k).1 (a, root, is))))))))
         by home loud c held (Some j) some =
             let mark : mark_at T W k ≡ Some j = mark-from (cap (side W (owner_of T k)) k) c j held some in
             elim (P.each k j ((M k j).1 mark)) [
@@ -355,21 +374,30 @@ module _ (T : Setup) (valid : IsSetup T) (before : List Entry) (e : Entry) (runs
             | inl granted ↦ absurd (fresh-unmarked k j granted is)
             | inr not_granted ↦
                 let absent : Contains (first ++ gone) k → ⊥ = λ among. true≢false (sym (has_key-from_Contains (first ++ gone) k among) ∙ away') in
-                let told : is_marked (whereabouts T W k) ≡ true = ap is_marked (stays-else k not_granted absent) ∙ held-marked (cap (side V (owner_of T k)) k) (is_coming k V) j is in
+                let told : is_marked (whereabouts T W k) ≡ true = ap is_marked (stays-else k not_granted absent)
+                ∙ held-marked (cap (side V (owner_of T k)) k) (is_coming k V) j is in
                 let was = marked-held (cap (side W (owner_of T k)) k) (is_coming k W) told in
                 by absent is was.0 was.1
           ]
         ]
 
 -- The same, as the code goes through it: V is the world after the entry.
-module _ (T : Setup) (valid : IsSetup T) (W : World) (e : Entry) (next : IsNext T W e) (reached : List KeyName) (are : AreRevoked (side W e.event.kernel).caps e reached) (o : Option Token) (seen : IsSeen T W e o) (marked kept : List (KeyName × ℕ)) (gone : List KeyName) (M : AreMarked T W marked) (V : World) (later : V ≡ after T W e.event) (P : AreParted T V e o marked kept gone) (first moved : List KeyName) (listed : first ≡ moved_by T W e reached) (all : moved ≡ first ++ gone) where
+module _ (T : Setup) (valid : IsSetup T) (W : World) (e : Entry) (next : IsNext T W e) (reached : List KeyName)
+    (are : AreRevoked (side W e.event.kernel).caps e reached) (o : Option Token) (seen : IsSeen T W e o) (marked kept : List (KeyName × ℕ))
+    (gone : List KeyName) (M : AreMarked T W marked) (V : World) (later : V ≡ after T W e.event) (P : AreParted T V e o marked kept gone)
+    (first moved : List KeyName) (listed : first ≡ moved_by T W e reached) (all : moved ≡ first ++ gone) where
   abbrev Both : World → Type 0
-  Both U = AreMoved T U e (moved_by T U e reached ++ gone) × AreMarked T (after T U e.event) (kept ++ flat_map (marking T (after T U e.event)) (moved_by T U e reached ++ gone))
+  Both U = AreMoved T U e (moved_by T U e reached ++ gone)
+      × AreMarked T (after T U e.event) (kept ++ flat_map (marking T (after T U e.event)) (moved_by T U e reached ++ gone))
 
   both : Both W
   both =
-      subst (λ (U : World). AreRevoked (side U e.event.kernel).caps e reached → IsSeen T U e o → AreMarked T U marked → AreParted T (after T U e.event) e o marked kept gone → Both U) (sym next.world)
-      (λ are' seen' M' P'. (moved-are T valid next.before e next.runs reached are' o seen' marked kept gone M' P', marked-are T valid next.before e next.runs reached are' o seen' marked kept gone M' P'))
+      subst (λ (U : World). AreRevoked (side U e.event.kernel).caps e reached → IsSeen T U e o → AreMarked T U marked →
+      AreParted T (after T U e.event) e o marked kept gone → Both U) (sym next.world)
+      (λ are' seen' M' P'. (
+        moved-are T valid next.before e next.runs reached are' o seen' marked kept gone M' P',
+        marked-are T valid next.before e next.runs reached are' o seen' marked kept gone M' P',
+      ))
       are seen M (subst (λ (U : World). AreParted T U e o marked kept gone) later P)
 
   moved-is : moved ≡ moved_by T W e reached ++ gone
@@ -381,7 +409,14 @@ module _ (T : Setup) (valid : IsSetup T) (W : World) (e : Entry) (next : IsNext 
   pub follows-marked : (now : List (KeyName × ℕ)) → now ≡ kept ++ flat_map (marking T V) moved → AreMarked T V now
   follows-marked now is =
       subst (λ (U : World). AreMarked T U now) (sym later)
-      (subst (AreMarked T (after T W e.event)) (sym (is ∙ (ap (λ (U : World). kept ++ flat_map (marking T U) moved) later ∙ ap (λ ks. kept ++ flat_map (marking T (after T W e.event)) ks) moved-is))) both.1)
+      (subst (AreMarked T (after T W e.event)) (sym (is
+      ∙ (ap (λ (U : World). kept ++ flat_map (marking T U) moved) later ∙ ap (λ ks. kept ++ flat_map (marking T (after T W e.event)) ks) moved-is))) both.1)
 
-  pub follows-lives : (n : ℕ) (old noted done : List KeyLife) → noted ≡ all_noted T V n moved old → done ≡ grant_noted T V n e.grant noted → IsFollowed T W n e old done
-  follows-lives n old noted done one two = (moved, follows-moved, two ∙ (ap (grant_noted T V n e.grant) one ∙ ap (λ (U : World). followed T U n e moved old) later))
+  pub follows-lives : (n : ℕ) (old noted done : List KeyLife) → noted ≡ all_noted T V n moved old → done ≡ grant_noted T V n e.grant noted →
+      IsFollowed T W n e old done
+  follows-lives n old noted done one two = (
+    moved,
+    follows-moved,
+    two
+        ∙ (ap (grant_noted T V n e.grant) one ∙ ap (λ (U : World). followed T U n e moved old) later),
+  )

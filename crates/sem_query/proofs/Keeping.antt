@@ -56,7 +56,8 @@ module _ (T : Setup) (valid : IsSetup T) (k : KeyName) (c : Capability) where
     still (inr gone) = inr (let few = fewer.0 in omega (arith, few, gone))
     still (inl (m, held, kin)) = by (cap (side (world_after T (J ++ e ∷ [])) (owner_of T k)) k) refl
       where
-        gone : (n : ℕ) → cap (side (world_after T (J ++ e ∷ [])) (owner_of T k)) k ≡ None → at_world k all_held (world_after T (J ++ e ∷ [])) ≡ n → at_world k all_held (world_after T (J ++ e ∷ [])) ≡ 0
+        gone : (n : ℕ) → cap (side (world_after T (J ++ e ∷ [])) (owner_of T k)) k ≡ None → at_world k all_held (world_after T (J ++ e ∷ [])) ≡ n →
+            at_world k all_held (world_after T (J ++ e ∷ [])) ≡ 0
         gone zero none is = is
         gone (suc n) none is =
             let was = counts T valid J before k in
@@ -66,7 +67,8 @@ module _ (T : Setup) (valid : IsSetup T) (k : KeyName) (c : Capability) where
             let most = was.most in
             absurd (omega (arith, coming, few, one, most))
 
-        by : (o : Option Capability) → cap (side (world_after T (J ++ e ∷ [])) (owner_of T k)) k ≡ o → Stands (world_after T (J ++ e ∷ [])) (cap (side (world_after T (J ++ e ∷ [])) (owner_of T k)) k)
+        by : (o : Option Capability) → cap (side (world_after T (J ++ e ∷ [])) (owner_of T k)) k ≡ o →
+            Stands (world_after T (J ++ e ∷ [])) (cap (side (world_after T (J ++ e ∷ [])) (owner_of T k)) k)
         by (Some d) is =
             let distinct = keys-distinct T valid J before (owner_of T k) in
             let distinct' = keys-distinct T valid (J ++ e ∷ []) after (owner_of T k) in

@@ -1,5 +1,6 @@
 -- Texts that are appended part by part, and the line of a key that is followed up to its root.
-use Rattle.std.proofs.Common.{◌≡◌, ℕ, zero, suc, ◌+◌, ◌-◌, ◌≤◌, ◌<◌, List, [], ◌∷◌, ◌++◌, map, Some, None, refl, sym, ap, ◌∙◌, subst, append-nil, append_assoc, arith}
+use Rattle.std.proofs.Common.{◌≡◌, ℕ, zero, suc, ◌+◌, ◌-◌, ◌≤◌, ◌<◌, List, [], ◌∷◌, ◌++◌, map, Some, None, refl, sym, ap, ◌∙◌, subst, append-nil, append_assoc}
+use Rattle.std.proofs.Common.{arith}
 use Rattle.std.specs.Option.{option_map_or}
 use Rattle.sem_key.specs.KeyName.{KeyName}
 use Rattle.sem_text.specs.Lines.{line, text}
@@ -42,10 +43,12 @@ module _ (cut : List KeyName) (gs : List (KeyName × KeyName)) where
       ∙ ap (λ ks. old ++ lines ks) (sym (line-above n gs k)))
 
   pub told-start : (n : ℕ) (k : KeyName) (old now : List ℕ) → now ≡ old ++ line (step_words cut k) → IsToldTo (old ++ lines (line_in n gs k)) now (n - 0) k
-  told-start n k old now is = let same : n ≡ n - 0 = omega arith in subst (λ m. IsToldTo (old ++ lines (line_in n gs k)) now m k) same (told-first n k old now is)
+  told-start n k old now is = let same : n ≡ n - 0 = omega arith in
+      subst (λ m. IsToldTo (old ++ lines (line_in n gs k)) now m k) same (told-first n k old now is)
 
   -- then its parent
-  pub told-next : (n i : ℕ) (k p : KeyName) (whole now new : List ℕ) → i < n → parent_in gs k ≡ Some p → IsToldTo whole now (n - i) k → new ≡ now ++ line (step_words cut p) → IsToldTo whole new (n - (i + 1)) p
+  pub told-next : (n i : ℕ) (k p : KeyName) (whole now new : List ℕ) → i < n → parent_in gs k ≡ Some p → IsToldTo whole now (n - i) k →
+      new ≡ now ++ line (step_words cut p) → IsToldTo whole new (n - (i + 1)) p
   told-next n i k p whole now new within some told is =
       let left : n - i ≡ suc (n - (i + 1)) = omega arith in
       let more = ap (λ m. lines (above m gs k)) left ∙ ap lines (above-some (n - (i + 1)) gs k p some) in

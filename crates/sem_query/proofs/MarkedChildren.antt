@@ -9,7 +9,8 @@ use Rattle.sem_key.proofs.KeyTests.{key_eq-true}
 use Rattle.sem_key.proofs.Members.{found, not_found}
 use Rattle.sem_msg.specs.declared.entry.Entry.{Entry}
 use Rattle.sem_msg.specs.declared.message.Message.{Message}
-use Rattle.sem_msg.specs.declared.message.Message.TheVariants.{ObtainReq, ObtainOk, ObtainNo, DelegateReq, DelegatePrepared, DelegateNo, Ack, Orphan, RevokeReq, RevokeDone, Unlink}
+use Rattle.sem_msg.specs.declared.message.Message.TheVariants.{ObtainReq, ObtainOk, ObtainNo, DelegateReq, DelegatePrepared, DelegateNo, Ack, Orphan, RevokeReq}
+use Rattle.sem_msg.specs.declared.message.Message.TheVariants.{RevokeDone, Unlink}
 use Rattle.sem_msg.specs.Rows.{JobRow}
 use Rattle.sem_msg.specs.Setup.{Setup, IsSetup}
 use Rattle.sem_msg.specs.Lookups.{owner_of}
@@ -38,7 +39,8 @@ job-found s is x among = from (job s x.id) refl
     from None none = absurd (true≢false (sym (eq-eqb x.id x.id refl) ∙ not_found (λ (y : JobRow). y.id == x.id) s.jobs x none among))
 
 -- a request of the kernel that owns its key is a stray
-stray-at_home : (owner : KeyName → ℕ) (k : KeyName) (i n from to : ℕ) (m : Message) → owner k ≡ i → 1 ≤ asking_message k i n from to m → 1 ≤ stray_message owner from to m
+stray-at_home : (owner : KeyName → ℕ) (k : KeyName) (i n from to : ℕ) (m : Message) → owner k ≡ i → 1 ≤ asking_message k i n from to m →
+    1 ≤ stray_message owner from to m
 stray-at_home owner k i n from to (RevokeReq key j) home some =
     let outer = and_parts (key_eq key k) ((from == i) && (j == n)) (one-more (key_eq key k && ((from == i) && (j == n))) some) in
     let inner = and_parts (from == i) (j == n) outer.1 in
@@ -66,7 +68,8 @@ module _ (T : Setup) (valid : IsSetup T) (J : List Entry) (runs : IsSchedule T J
   W = world_after T J
 
   -- what is held unmarked by the kernel that owns it has no mark
-  unmarked : (k : KeyName) (d : Capability) → HoldsCap W (owner_of T k) k d → d.mark ≡ None → (n : ℕ) (c : Capability) → HoldsCap W (owner_of T k) k c → c.mark ≡ Some n → ⊥
+  unmarked : (k : KeyName) (d : Capability) → HoldsCap W (owner_of T k) k d → d.mark ≡ None → (n : ℕ) (c : Capability) → HoldsCap W (owner_of T k) k c →
+      c.mark ≡ Some n → ⊥
   unmarked k d held none n c held' some =
       let marks = ap (λ (o : Option Capability). mark_in o) (sym held ∙ held') in
       let clash : ◌≡◌ {A = Option ℕ} None (Some n) = sym none ∙ (marks ∙ some) in
@@ -76,9 +79,11 @@ module _ (T : Setup) (valid : IsSetup T) (J : List Entry) (runs : IsSchedule T J
       mark_in None = None
       mark_in (Some x) = x.mark
 
-  pub marked-children : (i : ℕ) (p k : KeyName) (c d : Capability) (n : ℕ) → HoldsCap W i p c → c.mark ≡ Some n → Contains c.children k → HoldsCap W i k d → d.mark ≡ None → ⊥
+  pub marked-children : (i : ℕ) (p k : KeyName) (c d : Capability) (n : ℕ) → HoldsCap W i p c → c.mark ≡ Some n → Contains c.children k → HoldsCap W i k d →
+      d.mark ≡ None → ⊥
   marked-children i p k c d n held_p marked child held none =
-      elim (marks-spread T valid J runs p k c n (ap (λ a. cap (side W a) p) home_p ∙ held_p) marked child (inl (i, subst (λ (o : Option Capability). IsSome o) (sym held) refl))) [
+      elim (marks-spread T valid J runs p k c n (ap (λ a. cap (side W a) p) home_p
+      ∙ held_p) marked child (inl (i, subst (λ (o : Option Capability). IsSome o) (sym held) refl))) [
         | inl (same, (e, held', some)) ↦ unmarked k d at_home none n e held' some
         | inr asked ↦ by (world-some (asking k (owner_of T p) n) W asked)
       ]

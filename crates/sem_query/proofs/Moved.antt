@@ -77,7 +77,8 @@ module _ (T : Setup) (W : World) (e : Entry) (low : (i v : ℕ) (p : Parked) →
 
     -- of the call of its VPE
     ready-in : owner_of T k ≡ i → is_ready_with k (parked s k.vpe) ≡ true → Contains (ready_of T i s k.vpe) k
-    ready-in home ready = subst (λ ks. Contains ks k) (sym (cond-true (nat_lt k.vpe VPES) (chosen k.vpe) [] (ready-low ready))) (Contains-filter (λ q. (q.vpe == k.vpe) && (owner_of T q == i)) (option_to_list (ready_key (parked s k.vpe))) k
+    ready-in home ready = subst (λ ks. Contains ks k) (sym (cond-true (nat_lt k.vpe VPES) (chosen k.vpe) [] (ready-low ready)))
+        (Contains-filter (λ q. (q.vpe == k.vpe) && (owner_of T q == i)) (option_to_list (ready_key (parked s k.vpe))) k
         (in-option (ready_key (parked s k.vpe)) k (ready-is k (parked s k.vpe) ready))
         (and_from (k.vpe == k.vpe) (owner_of T k == i) (eq-eqb k.vpe k.vpe refl) (eq-eqb (owner_of T k) i home)))
 
@@ -85,8 +86,12 @@ module _ (T : Setup) (W : World) (e : Entry) (low : (i v : ℕ) (p : Parked) →
     from-chosen v among =
         let is = Contains-from_filter (λ q. (q.vpe == v) && (owner_of T q == i)) (option_to_list (ready_key (parked s v))) k among in
         let tests = and_parts (k.vpe == v) (owner_of T k == i) is.1 in
-        let vpe : k.vpe ≡ v = eqb-true k.vpe v tests.0 in
-        (vpe, eqb-true (owner_of T k) i tests.1, ap (λ u. is_ready_with k (parked s u)) vpe ∙ is-ready k (parked s v) (from-option (ready_key (parked s v)) k is.0))
+        let vpe : k.vpe ≡ v = eqb-true k.vpe v tests.0 in (
+          vpe,
+          eqb-true (owner_of T k) i tests.1,
+          ap (λ u. is_ready_with k (parked s u)) vpe
+              ∙ is-ready k (parked s v) (from-option (ready_key (parked s v)) k is.0),
+        )
 
     from-ready : (v : ℕ) → Contains (ready_of T i s v) k → (k.vpe ≡ v) × (owner_of T k ≡ i) × (is_ready_with k (parked s k.vpe) ≡ true)
     from-ready v among = elim (cases_Bool (nat_lt v VPES)) [
@@ -130,7 +135,9 @@ module _ (T : Setup) (W : World) (e : Entry) (low : (i v : ℕ) (p : Parked) →
     second among = Contains-append_right brought_keys (going_on ++ revoked) k (Contains-append_left going_on revoked k among)
 
     pub third : is_revoking e ≡ true → Contains (revoked_by T i s e reached) k → Contains (moved_by T W e reached) k
-    third loud among = Contains-append_right brought_keys (going_on ++ revoked) k (Contains-append_right going_on revoked k (subst (λ ks. Contains ks k) (sym (cond-true (is_revoking e) (revoked_by T i s e reached) [] loud)) among))
+    third loud among =
+        Contains-append_right brought_keys (going_on ++ revoked) k
+        (Contains-append_right going_on revoked k (subst (λ ks. Contains ks k) (sym (cond-true (is_revoking e) (revoked_by T i s e reached) [] loud)) among))
 
     abbrev at_cut : List KeyName
     at_cut = ready_among T i s e.cut
@@ -142,10 +149,14 @@ module _ (T : Setup) (W : World) (e : Entry) (low : (i v : ℕ) (p : Parked) →
     at_end = ready_by T i s (ended_by e.event.act e.detail)
 
     revoked-one : Contains at_cut k → Contains (revoked_by T i s e reached) k
-    revoked-one among = Contains-append_left (at_cut ++ at_request ++ at_end) reached k (Contains-append_left (at_cut ++ at_request) at_end k (Contains-append_left at_cut at_request k among))
+    revoked-one among =
+        Contains-append_left (at_cut ++ at_request ++ at_end) reached k
+        (Contains-append_left (at_cut ++ at_request) at_end k (Contains-append_left at_cut at_request k among))
 
     revoked-two : Contains at_request k → Contains (revoked_by T i s e reached) k
-    revoked-two among = Contains-append_left (at_cut ++ at_request ++ at_end) reached k (Contains-append_left (at_cut ++ at_request) at_end k (Contains-append_right at_cut at_request k among))
+    revoked-two among =
+        Contains-append_left (at_cut ++ at_request ++ at_end) reached k
+        (Contains-append_left (at_cut ++ at_request) at_end k (Contains-append_right at_cut at_request k among))
 
     revoked-three : Contains at_end k → Contains (revoked_by T i s e reached) k
     revoked-three among = Contains-append_left (at_cut ++ at_request ++ at_end) reached k (Contains-append_right (at_cut ++ at_request) at_end k among)
@@ -154,16 +165,19 @@ module _ (T : Setup) (W : World) (e : Entry) (low : (i v : ℕ) (p : Parked) →
     revoked-four among = Contains-append_right (at_cut ++ at_request ++ at_end) reached k among
 
     -- what may change is listed, unless it is held and not reached
-    pub lists : MayChange T W e k → (grants_key k e ≡ true) ⊎ (Contains (moved_by T W e reached) k ⊎ ((owner_of T k ≡ i) × (is_revoking e ≡ true) × IsSome (cap s k)))
+    pub lists : MayChange T W e k →
+        (grants_key k e ≡ true) ⊎ (Contains (moved_by T W e reached) k ⊎ ((owner_of T k ≡ i) × (is_revoking e ≡ true) × IsSome (cap s k)))
     lists (by_grant granted) = inl granted
     lists (by_message from m act detail bringing) =
-        inr (inl (first (in-option (brought_by e.event.act e.detail) k (ap (λ a. brought_by a e.detail) act ∙ (ap (brought_by Handle) detail ∙ brought k m bringing)))))
+        inr (inl (first (in-option (brought_by e.event.act e.detail) k (ap (λ a. brought_by a e.detail) act
+        ∙ (ap (brought_by Handle) detail ∙ brought k m bringing)))))
     lists (by_resume home act ready) = inr (inl (second (in-by (resumed e.event.act) (ap resumed act) home ready)))
     lists (by_end home loud root ready) = inr (inl (third loud (from-root root)))
       where
         from-root : IsRootOf e k → Contains (revoked_by T i s e reached) k
         from-root (of_cut cuts) = revoked-one (in-among e.cut cuts home ready)
-        from-root (of_request from j act detail) = revoked-two (in-among (requested e.event.act e.detail) (ap (λ a. requested a e.detail) act ∙ ap (requested Handle) detail) home ready)
+        from-root (of_request from j act detail) = revoked-two (in-among (requested e.event.act e.detail) (ap (λ a. requested a e.detail) act
+            ∙ ap (requested Handle) detail) home ready)
         from-root (of_end over) = revoked-three (in-by (ended_by e.event.act e.detail) (ends-by k.vpe e.event.act e.detail over) home ready)
     lists (by_revoking home loud held) = inr (inr (home, loud, held))
 
@@ -179,14 +193,16 @@ module _ (T : Setup) (W : World) (e : Entry) (low : (i v : ℕ) (p : Parked) →
     from-resumed (Resume v) act is home ready = by_resume home (act ∙ ap Resume (same_Some v k.vpe is)) ready
     from-resumed a act is home ready = absurd cc
 
-    from-revoked : is_revoking e ≡ true → (Contains reached k → (owner_of T k ≡ i) × IsSome (cap s k)) → Contains (revoked_by T i s e reached) k → MayChange T W e k
+    from-revoked : is_revoking e ≡ true → (Contains reached k → (owner_of T k ≡ i) × IsSome (cap s k)) → Contains (revoked_by T i s e reached) k →
+        MayChange T W e k
     from-revoked loud held among = elim (Contains-append_cases (at_cut ++ at_request ++ at_end) reached k among) [
       | inr here ↦ let is = held here in by_revoking is.0 loud is.1
       | inl ready ↦ elim (Contains-append_cases (at_cut ++ at_request) at_end k ready) [
         | inr over ↦ let is = from-by (ended_by e.event.act e.detail) over in by_end is.1 loud (of_end (by-ends k.vpe e.event.act e.detail is.0)) is.2
         | inl root ↦ elim (Contains-append_cases at_cut at_request k root) [
           | inl cuts ↦ let is = from-among e.cut cuts in by_end is.1 loud (of_cut is.0) is.2
-          | inr asks ↦ let is = from-among (requested e.event.act e.detail) asks in by_end is.1 loud (from-requested e k e.event.act e.detail refl refl is.0) is.2
+          | inr asks ↦ let is = from-among (requested e.event.act e.detail) asks in
+              by_end is.1 loud (from-requested e k e.event.act e.detail refl refl is.0) is.2
         ]
       ]
     ]

@@ -75,13 +75,15 @@ granted-note n k _ (born_held sel) = ap (λ x. noted n x (Unmarked sel) (life_gr
 abbrev Keyed : (KeyName → KeyLife) → Type 0
 Keyed f = (q : KeyName) → (f q).key ≡ q
 
-change-map : (k : KeyName) (g : KeyLife → KeyLife) (f : KeyName → KeyLife) → Keyed f → (ks : List KeyName) → change (λ (l : KeyLife). key_eq l.key k) g (map f ks) ≡ map (λ q. if key_eq q k then g (f q) else f q) ks
+change-map : (k : KeyName) (g : KeyLife → KeyLife) (f : KeyName → KeyLife) → Keyed f → (ks : List KeyName) →
+    change (λ (l : KeyLife). key_eq l.key k) g (map f ks) ≡ map (λ q. if key_eq q k then g (f q) else f q) ks
 change-map k g f keyed [] = refl
 change-map k g f keyed (q ∷ qs) =
     ap (λ x. (if key_eq x k then g (f q) else f q) ∷ change (λ (l : KeyLife). key_eq l.key k) g (map f qs)) (keyed q)
     ∙ ap (λ xs. (if key_eq q k then g (f q) else f q) ∷ xs) (change-map k g f keyed qs)
 
-keyed-change : (k : KeyName) (g : KeyLife → KeyLife) → ((l : KeyLife) → (g l).key ≡ l.key) → (f : KeyName → KeyLife) → Keyed f → Keyed (λ q. if key_eq q k then g (f q) else f q)
+keyed-change : (k : KeyName) (g : KeyLife → KeyLife) → ((l : KeyLife) → (g l).key ≡ l.key) → (f : KeyName → KeyLife) → Keyed f →
+    Keyed (λ q. if key_eq q k then g (f q) else f q)
 keyed-change k g same f keyed q = elim (cases_Bool (key_eq q k)) [
   | inl is ↦ ap (λ (l : KeyLife). l.key) (cond-true (key_eq q k) (g (f q)) (f q) is) ∙ (same (f q) ∙ keyed q)
   | inr is ↦ ap (λ (l : KeyLife). l.key) (cond-false (key_eq q k) (g (f q)) (f q) is) ∙ keyed q
@@ -155,11 +157,15 @@ module _ (n : ℕ) (see : KeyName → Holder) where
     | inl same ↦ each-done cs (noted_at c f) q (f q) again (here c q f same)
     | inr other ↦
         let same = away c q f other in
-        let rest : Contains cs q = elim (Contains-cons_cases c cs q among) [ inl is ↦ absurd (true≢false (sym (key_eq-from q c (sym is)) ∙ other)) | inr rest ↦ rest ] in
+        let rest : Contains cs q = elim (Contains-cons_cases c cs q among) [
+          | inl is ↦ absurd (true≢false (sym (key_eq-from q c (sym is)) ∙ other))
+          | inr rest ↦ rest
+        ] in
         each-some cs (noted_at c f) q (ap (λ l. N q (N q l)) same ∙ (again ∙ ap (N q) (sym same))) rest ∙ ap (N q) same
   ]
 
-module _ (T : Setup) (valid : IsSetup T) (J : List Entry) (runs : IsSchedule T J) (before later : List Entry) (e : Entry) (parts : J ≡ before ++ e ∷ later) where
+module _ (T : Setup) (valid : IsSetup T) (J : List Entry) (runs : IsSchedule T J) (before later : List Entry) (e : Entry) (parts : J ≡ before
+    ++ e ∷ later) where
   abbrev W : World
   W = world_after T before
 
@@ -216,15 +222,18 @@ module _ (T : Setup) (valid : IsSetup T) (J : List Entry) (runs : IsSchedule T J
       next = life-is false not_granted
 
       -- noted once more
-      note-if : (a b : Holder) (o : Option KeyLife) → StandsIf n a o → Passes false a b → noted_now n b (unwrap_or o (begun_life q None)) ≡ unwrap_or (option_map (noted n a b) o) (begun_life q None)
+      note-if : (a b : Holder) (o : Option KeyLife) → StandsIf n a o → Passes false a b →
+          noted_now n b (unwrap_or o (begun_life q None)) ≡ unwrap_or (option_map (noted n a b) o) (begun_life q None)
       note-if _ _ _ has_no_life stays_nowhere = unborn-stays n q
       note-if _ b _ (has_life a l is) passing' = note-is n a b l is
 
-      again-if : (a b : Holder) (o : Option KeyLife) → StandsIf n a o → Passes false a b → noted_now n b (unwrap_or (option_map (noted n a b) o) (begun_life q None)) ≡ unwrap_or (option_map (noted n a b) o) (begun_life q None)
+      again-if : (a b : Holder) (o : Option KeyLife) → StandsIf n a o → Passes false a b →
+          noted_now n b (unwrap_or (option_map (noted n a b) o) (begun_life q None)) ≡ unwrap_or (option_map (noted n a b) o) (begun_life q None)
       again-if _ _ _ has_no_life stays_nowhere = unborn-stays n q
       again-if _ b _ (has_life a l is) passing' = note-again n b (noted n a b l) (stands-next n a b l is passing')
 
-      same-if : (a : Holder) (o : Option KeyLife) → StandsIf n a o → unwrap_or (option_map (noted n a a) o) (begun_life q None) ≡ unwrap_or o (begun_life q None)
+      same-if : (a : Holder) (o : Option KeyLife) → StandsIf n a o →
+          unwrap_or (option_map (noted n a a) o) (begun_life q None) ≡ unwrap_or o (begun_life q None)
       same-if _ _ has_no_life = refl
       same-if _ _ (has_life a l is) = stands-same n n a l is
 
@@ -238,7 +247,8 @@ module _ (T : Setup) (valid : IsSetup T) (J : List Entry) (runs : IsSchedule T J
       noted-twice = ap (noted_now n b) L1-is ∙ (again-if a b (life T before q) stood goes ∙ sym L1-is)
 
       stays-so : a ≡ b → L0 q ≡ L1 q
-      stays-so same = sym (L1-is ∙ (ap (λ x. unwrap_or (option_map (noted n a x) (life T before q)) (begun_life q None)) (sym same) ∙ same-if a (life T before q) stood))
+      stays-so same = sym (L1-is ∙ (ap (λ x. unwrap_or (option_map (noted n a x) (life T before q)) (begun_life q None)) (sym same)
+          ∙ same-if a (life T before q) stood))
 
       -- by whether it is among the keys that may move
       module _ (ks : List KeyName) (are : AreMoved T W e ks) where
@@ -252,7 +262,8 @@ module _ (T : Setup) (valid : IsSetup T) (J : List Entry) (runs : IsSchedule T J
         by-among among =
             let is = seen (are.may q among) in
             let once : N n see q (L0 q) ≡ L1 q = ap (λ h. noted_now n h (L0 q)) is ∙ noted-once in
-            let twice : N n see q (N n see q (L0 q)) ≡ N n see q (L0 q) = ap (N n see q) once ∙ (ap (λ h. noted_now n h (L1 q)) is ∙ (noted-twice ∙ sym once)) in
+            let twice : N n see q (N n see q (L0 q)) ≡ N n see q (L0 q) = ap (N n see q) once
+            ∙ (ap (λ h. noted_now n h (L1 q)) is ∙ (noted-twice ∙ sym once)) in
             each-some n see ks L0 q twice among ∙ once
 
         by-absent : (Contains ks q → ⊥) → a ≡ b → Is
@@ -271,7 +282,8 @@ module _ (T : Setup) (valid : IsSetup T) (J : List Entry) (runs : IsSchedule T J
       abbrev at_owner : Option Capability
       at_owner = cap (side V (owner_of T q)) q
 
-      sees : (o : Option Capability) (c : Bool) → Passes true No (option_map_or held_as o (unheld c)) → option_map_or held_as o Way ≡ option_map_or held_as o (unheld c)
+      sees : (o : Option Capability) (c : Bool) → Passes true No (option_map_or held_as o (unheld c)) →
+          option_map_or held_as o Way ≡ option_map_or held_as o (unheld c)
       sees (Some x) c is = refl
       sees None true is = refl
       sees None false is = absurd (no is)
@@ -309,7 +321,8 @@ module _ (T : Setup) (valid : IsSetup T) (J : List Entry) (runs : IsSchedule T J
       | inl among ↦ by-among q not_granted ks are (Contains-from_has_key ks q among)
       | inr absent ↦
           let no : Contains ks q → ⊥ = λ among. true≢false (sym (has_key-from_Contains ks q among) ∙ absent) in
-          by-absent q not_granted ks are no (are.others q not_granted no ∙ ap (λ (U : World). whereabouts T U q) (sym (is-after T valid J runs before later e parts q)))
+          by-absent q not_granted ks are no (are.others q not_granted no
+          ∙ ap (λ (U : World). whereabouts T U q) (sym (is-after T valid J runs before later e parts q)))
     ]
 
     with-grant : (o : Option (KeyName × KeyName)) → e.grant ≡ o → (qs : List KeyName) → grant_noted T V n o (map F qs) ≡ map L1 qs
@@ -334,7 +347,10 @@ module _ (T : Setup) (valid : IsSetup T) (J : List Entry) (runs : IsSchedule T J
           | inr other ↦
               cond-false (key_eq q k) (noted_now n h (G q)) (G q) other
               ∙ (cond-false (key_eq q k) (begin (F q)) (F q) other
-              ∙ noted-all q (grants q ∙ elim (cases_Bool (key_eq k q)) [ inl is ↦ absurd (true≢false (sym (key_eq-from q k (sym (key_eq-true k q is))) ∙ other)) | inr is ↦ is ]))
+              ∙ noted-all q (grants q ∙ elim (cases_Bool (key_eq k q)) [
+                | inl is ↦ absurd (true≢false (sym (key_eq-from q k (sym (key_eq-true k q is))) ∙ other))
+                | inr is ↦ is
+              ]))
         ]) qs)
 
     pub followed-is : (qs : List KeyName) → followed T V n e ks (map L0 qs) ≡ map L1 qs

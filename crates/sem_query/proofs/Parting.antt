@@ -35,7 +35,8 @@ module _ (T : Setup) (W : World) (e : Entry) (marked : List (KeyName × ℕ)) (M
   idle-none none j k some home mark = (let clash : ◌≡◌ {A = Option ℕ} None (Some j) = sym none ∙ some in absurd cc)
 
   -- or to a job that marks none of them
-  pub idle-unlisted : (j : ℕ) → returned e.event.act e.detail ≡ Some j → ((k : KeyName) → owner_of T k ≡ e.event.kernel → Contains marked (k, j) → ⊥) → IsIdleToken T W e
+  pub idle-unlisted : (j : ℕ) → returned e.event.act e.detail ≡ Some j → ((k : KeyName) → owner_of T k ≡ e.event.kernel → Contains marked (k, j) → ⊥) →
+      IsIdleToken T W e
   idle-unlisted j is absent i k some home mark =
       let same : Some j ≡ Some i = sym is ∙ some in
       absent k home (subst (λ x. Contains marked (k, x)) (of_some same) ((M k i).1 mark))
@@ -73,7 +74,8 @@ module _ (T : Setup) (V : World) (e : Entry) (marked : List (KeyName × ℕ)) wh
       stays-so k j left = elim (cases_eq (owner_of T k) e.event.kernel) [
         | inr other ↦ elsewhere other
         | inl same ↦ by only refl (elim (cases_Bool (part_of (k, j))) [
-          | inl out ↦ absurd (true≢false (sym left ∙ ap not (and_from (owner_of T k == e.event.kernel) (part_of (k, j)) (eq-eqb (owner_of T k) e.event.kernel same) out)))
+          | inl out ↦ absurd (true≢false (sym left
+              ∙ ap not (and_from (owner_of T k == e.event.kernel) (part_of (k, j)) (eq-eqb (owner_of T k) e.event.kernel same) out)))
           | inr in' ↦ in'
         ])
       ]
@@ -86,15 +88,22 @@ module _ (T : Setup) (V : World) (e : Entry) (marked : List (KeyName × ℕ)) wh
               still false is = absurd cc
           by (Some i) some kept = of_other t refl (λ same. true≢false (sym (eq-eqb j i (same ∙ sym (alone i some).0)) ∙ kept)) (alone i some).1
 
-      pub parted-swept : (kept : List (KeyName × ℕ)) → kept ≡ filter (λ p. not (is_swept T V e.event.kernel only p)) marked → AreParted T V e (Some t) marked kept (map (λ (p : KeyName × ℕ). p.0) (filter (is_swept T V e.event.kernel only) marked))
+      pub parted-swept : (kept : List (KeyName × ℕ)) → kept ≡ filter (λ p. not (is_swept T V e.event.kernel only p)) marked →
+          AreParted T V e (Some t) marked kept (map (λ (p : KeyName × ℕ). p.0) (filter (is_swept T V e.event.kernel only) marked))
       parted-swept kept is = record {
         each = λ k j among. elim (cases_Bool (swept (k, j))) [
           | inl out ↦ inr (Contains-map (λ (p : KeyName × ℕ). p.0) (filter swept marked) (k, j) (Contains-filter swept marked (k, j) among out))
           | inr left ↦ inl (subst (λ ps. Contains ps (k, j)) (sym is) (Contains-filter (λ p. not (swept p)) marked (k, j) among (ap not left)))
         ];
-        stays = λ k j among. (let x = Contains-from_filter (λ p. not (swept p)) marked (k, j) (subst (λ ps. Contains ps (k, j)) is among) in (x.0, stays-so k j x.1));
+        stays = λ k j among. (let x = Contains-from_filter (λ p. not (swept p)) marked (k, j) (subst (λ ps. Contains ps (k, j)) is among) in
+            (x.0, stays-so k j x.1));
         goes = λ k among.
             (let p = Contains-from_map (λ (p : KeyName × ℕ). p.0) (filter swept marked) k among in
-            let x = Contains-from_filter swept marked p.0 p.1 in
-            (p.0.1, subst (λ q. Contains marked (q, p.0.1)) p.2 x.0, ap (owner_of T) (sym p.2) ∙ eqb-true (owner_of T p.0.0) e.event.kernel (and_parts (owner_of T p.0.0 == e.event.kernel) (part_of p.0) x.1).0, refl));
+            let x = Contains-from_filter swept marked p.0 p.1 in (
+              p.0.1,
+              subst (λ q. Contains marked (q, p.0.1)) p.2 x.0,
+              ap (owner_of T) (sym p.2)
+                  ∙ eqb-true (owner_of T p.0.0) e.event.kernel (and_parts (owner_of T p.0.0 == e.event.kernel) (part_of p.0) x.1).0,
+              refl,
+            ));
       }

@@ -1,5 +1,6 @@
 -- The keys that a kernel may move, appended part by part.
-use Rattle.std.proofs.Common.{◌≡◌, ℕ, Bool, true, false, List, [], ◌∷◌, ◌++◌, map, Option, Some, None, IsSome, arith, refl, sym, ap, ◌∙◌, subst, append_assoc, append-nil}
+use Rattle.std.proofs.Common.{◌≡◌, ℕ, Bool, true, false, List, [], ◌∷◌, ◌++◌, map, Option, Some, None, IsSome, arith, refl, sym, ap, ◌∙◌, subst, append_assoc}
+use Rattle.std.proofs.Common.{append-nil}
 use Rattle.std.specs.Prelude.{◌==◌, ◌&&◌, nat_lt, if◌then◌else◌}
 use Rattle.std.specs.List.{filter}
 use Rattle.std.specs.Option.{option_to_list}
@@ -70,19 +71,23 @@ nothing-reached s e none loud k = (λ among. absurd (Contains-nil k among), λ (
 
 -- what is gathered is held by one VPE
 pub held-joins : (v : ℕ) (cs ds : List Capability) → held_of (cs ++ ds) v ≡ held_of cs v ++ held_of ds v
-held-joins v cs ds = ap (filter (λ k. k.vpe == v)) (map-append (λ (c : Capability). c.key) cs ds) ∙ filter-append (λ k. k.vpe == v) (map (λ (c : Capability). c.key) cs) (map (λ (c : Capability). c.key) ds)
+held-joins v cs ds = ap (filter (λ k. k.vpe == v)) (map-append (λ (c : Capability). c.key) cs ds)
+    ∙ filter-append (λ k. k.vpe == v) (map (λ (c : Capability). c.key) cs) (map (λ (c : Capability). c.key) ds)
 
 module _ (T : Setup) (i : ℕ) (s : Side) (e : Entry) (reached old : List KeyName) where
-  pub pushed-all : (a b c now : List KeyName) → a ≡ old ++ ready_among T i s e.cut → b ≡ a ++ ready_among T i s (requested e.event.act e.detail) → c ≡ b ++ ready_by T i s (ended_by e.event.act e.detail) → now ≡ c ++ reached → now ≡ old ++ revoked_by T i s e reached
+  pub pushed-all : (a b c now : List KeyName) → a ≡ old ++ ready_among T i s e.cut → b ≡ a ++ ready_among T i s (requested e.event.act e.detail) →
+      c ≡ b ++ ready_by T i s (ended_by e.event.act e.detail) → now ≡ c ++ reached → now ≡ old ++ revoked_by T i s e reached
   pushed-all a b c now one two three four = four
       ∙ (ap (λ ks. ks ++ reached) (three
       ∙ (ap (λ ks. ks ++ ready_by T i s (ended_by e.event.act e.detail)) (two ∙ ap (λ ks. ks ++ ready_among T i s (requested e.event.act e.detail)) one)
-      ∙ (ap (λ ks. ks ++ ready_by T i s (ended_by e.event.act e.detail)) (append_assoc old (ready_among T i s e.cut) (ready_among T i s (requested e.event.act e.detail)))
+      ∙ (ap (λ ks. ks ++ ready_by T i s (ended_by e.event.act e.detail))
+      (append_assoc old (ready_among T i s e.cut) (ready_among T i s (requested e.event.act e.detail)))
       ∙ append_assoc old (ready_among T i s e.cut ++ ready_among T i s (requested e.event.act e.detail)) (ready_by T i s (ended_by e.event.act e.detail)))))
       ∙ append_assoc old (ready_keys T i s e) reached)
 
   -- all that it may move there
-  pub moved-loud : (a now : List KeyName) → is_revoking e ≡ true → a ≡ old ++ ready_by T i s (resumed e.event.act) → now ≡ a ++ revoked_by T i s e reached → now ≡ old ++ moved_at T i s e reached
+  pub moved-loud : (a now : List KeyName) → is_revoking e ≡ true → a ≡ old ++ ready_by T i s (resumed e.event.act) → now ≡ a ++ revoked_by T i s e reached →
+      now ≡ old ++ moved_at T i s e reached
   moved-loud a now loud one two = two
       ∙ (ap (λ ks. ks ++ revoked_by T i s e reached) one
       ∙ (append_assoc old (ready_by T i s (resumed e.event.act)) (revoked_by T i s e reached)
@@ -94,6 +99,7 @@ module _ (T : Setup) (i : ℕ) (s : Side) (e : Entry) (reached old : List KeyNam
       ∙ ap (λ ks. old ++ (ready_by T i s (resumed e.event.act) ++ ks)) (sym (cond-false (is_revoking e) (revoked_by T i s e reached) [] quiet)))
 
 -- all that it may move, beside what it brings
-pub moved-brought : (T : Setup) (W : World) (e : Entry) (reached a now : List KeyName) (o : Option KeyName) → o ≡ brought_by e.event.act e.detail → a ≡ option_to_list o → now ≡ a ++ moved_at T e.event.kernel (side W e.event.kernel) e reached → now ≡ moved_by T W e reached
+pub moved-brought : (T : Setup) (W : World) (e : Entry) (reached a now : List KeyName) (o : Option KeyName) → o ≡ brought_by e.event.act e.detail →
+    a ≡ option_to_list o → now ≡ a ++ moved_at T e.event.kernel (side W e.event.kernel) e reached → now ≡ moved_by T W e reached
 moved-brought T W e reached a now o brought first rest =
     rest ∙ ap (λ ks. ks ++ moved_at T e.event.kernel (side W e.event.kernel) e reached) (first ∙ ap (λ (x : Option KeyName). option_to_list x) brought)

@@ -1,5 +1,6 @@
 -- A reply goes to a VPE that made a call by then: only calls and resumes reply, and what resumes is parked, so calls of it were counted.
-use Rattle.std.proofs.Common.{◌≡◌, ℕ, zero, suc, ◌+◌, ◌≤◌, ◌<◌, true, List, [], ◌∷◌, ◌++◌, length, slice_get, Option, Some, None, refl, sym, ap, ◌∙◌, subst, inl, inr, arith, ◌⊎◌}
+use Rattle.std.proofs.Common.{◌≡◌, ℕ, zero, suc, ◌+◌, ◌≤◌, ◌<◌, true, List, [], ◌∷◌, ◌++◌, length, slice_get, Option, Some, None, refl, sym, ap, ◌∙◌, subst}
+use Rattle.std.proofs.Common.{inl, inr, arith, ◌⊎◌}
 use Rattle.std.specs.Prelude.{◌==◌, nat_lt}
 use Rattle.std.specs.List.{Contains}
 use Rattle.std.specs.Option.{option_map, option_map_or}
@@ -23,7 +24,8 @@ use Rattle.sem_machine.specs.Calls.{call_row}
 use Rattle.sem_machine.specs.Upcalls.{ask_decided, upcall_row}
 use Rattle.sem_machine.specs.Handles.{handled}
 use Rattle.sem_machine.specs.Resumes.{can_resume}
-use Rattle.sem_machine.specs.Machine.{World, side, start, next_call, local_step, local_entry, input_of, is_enabled, is_locally_enabled, after, entry_of, replied_vpe}
+use Rattle.sem_machine.specs.Machine.{World, side, start, next_call, local_step, local_entry, input_of, is_enabled, is_locally_enabled, after, entry_of}
+use Rattle.sem_machine.specs.Machine.{replied_vpe}
 use Rattle.sem_machine.specs.Schedules.{IsRun, IsSchedule, run, world_after}
 use Rattle.sem_machine.proofs.Folds.{option-keeps}
 use Rattle.sem_safety.proofs.CarryingWorlds.{stepped}
@@ -40,7 +42,8 @@ use Rattle.sem_query.specs.Denials.{IsAt, IsCallAt}
 
 -- without a call of its own no call of the VPE is counted
 module _ (T : Setup) (v : ℕ) where
-  step-same : (i : ℕ) (s : Side) (a : Act) (input : Option Message) → (a ≡ Calls v → ⊥) → (row (local_step T i s a input).side v).next_call ≡ (row s v).next_call
+  step-same : (i : ℕ) (s : Side) (a : Act) (input : Option Message) → (a ≡ Calls v → ⊥) →
+      (row (local_step T i s a input).side v).next_call ≡ (row s v).next_call
   unfolding local_step
   step-same i s a input other = (by a refl).1
     where
@@ -51,7 +54,11 @@ module _ (T : Setup) (v : ℕ) where
       S = (λ none. absurd none, refl)
 
       counted : (u : ℕ) → (u ≡ v → ⊥) → Steady v ⊥ n (call_counted u s)
-      counted u differs = (λ none. absurd none, ap (λ (r : VpeRow). r.next_call) (get_or-put_other no_vpe s.vpes u v (record (row s u) { next_call = (row s u).next_call + 1 }) (λ same. differs (sym same))))
+      counted u differs = (
+        λ none. absurd none,
+        ap (λ (r : VpeRow). r.next_call) (get_or-put_other no_vpe s.vpes u v (record (row s u) { next_call = (row s u).next_call + 1 })
+            (λ same. differs (sym same))),
+      )
 
       inbox : (o : Option (ℕ × Message)) → Steady v ⊥ n (option_map_or (λ m. handled T i (with_inbox None s) m.0 m.1) o s)
       inbox None = S
@@ -60,7 +67,8 @@ module _ (T : Setup) (v : ℕ) where
       by : (b : Act) → a ≡ b → Steady v ⊥ n (local_step T i s b input).side
       by (Calls u) act =
           let differs : u ≡ v → ⊥ = λ same. other (act ∙ ap Calls same) in
-          option-keeps (λ (y : Step). Steady v ⊥ n y.side) (call_row T i (call_counted u s) u) (next_call T s u) (plain s) (λ c there. steady-call v ⊥ n T i u c (call_counted u s) differs (counted u differs)) S
+          option-keeps (λ (y : Step). Steady v ⊥ n y.side) (call_row T i (call_counted u s) u) (next_call T s u) (plain s)
+          (λ c there. steady-call v ⊥ n T i u c (call_counted u s) differs (counted u differs)) S
       by (Resume u) act = steady-resume v ⊥ n T u s (λ same none. none) S
       by (Upcall u) act = steady-upcall v ⊥ n T i u s S
       by (Kill u) act = steady-ended v ⊥ n T i u s (λ same none. none) S
@@ -78,9 +86,11 @@ module _ (T : Setup) (v : ℕ) where
     | inr away ↦ ap (λ (t : Side). (row t v).next_call) (side-elsewhere T W e.kernel e.act k away)
   ]
 
-  run-same : (k : ℕ) (J : List Entry) (W : World) → ((e : Entry) → Contains J e → e.event.act ≡ Calls v → ⊥) → (row (side (run T W J) k) v).next_call ≡ (row (side W k) v).next_call
+  run-same : (k : ℕ) (J : List Entry) (W : World) → ((e : Entry) → Contains J e → e.event.act ≡ Calls v → ⊥) →
+      (row (side (run T W J) k) v).next_call ≡ (row (side W k) v).next_call
   run-same k [] W none = refl
-  run-same k (e ∷ es) W none = run-same k es (after T W e.event) (λ x among. none x (Contains-tail e es x among)) ∙ after-same k W e.event (none e (Contains-head e es))
+  run-same k (e ∷ es) W none = run-same k es (after T W e.event) (λ x among. none x (Contains-tail e es x among))
+      ∙ after-same k W e.event (none e (Contains-head e es))
 
 -- Calls that are found.
 
@@ -110,7 +120,8 @@ call-or-none (x ∷ xs) v = elim (is-call x.event.act v) [
   ]
 ]
   where
-    none-more : ((e : Entry) → Contains xs e → e.event.act ≡ Calls v → ⊥) → (x.event.act ≡ Calls v → ⊥) → (e : Entry) → Contains (x ∷ xs) e → e.event.act ≡ Calls v → ⊥
+    none-more : ((e : Entry) → Contains xs e → e.event.act ≡ Calls v → ⊥) → (x.event.act ≡ Calls v → ⊥) → (e : Entry) → Contains (x ∷ xs) e →
+        e.event.act ≡ Calls v → ⊥
     none-more none other e (zero, within, same) act = other (ap (λ (y : Entry). y.event.act) same ∙ act)
     none-more none other e (suc k, within, same) act = none e (k, omega arith, same) act
 
@@ -121,7 +132,13 @@ pub upcall-silent : (T : Setup) (i u : ℕ) (s : Side) → (upcall_row T i s u).
 unfolding upcall_row
 upcall-silent T i u s = option-keeps (λ (x : Step). x.outcome.reply ≡ None) (λ a. ask_decided T i u a (ask_taken u s)) (slice_get (row s u).asks 0) (plain s)
     (λ a there. decided-by (λ (x : Step). x.outcome.reply ≡ None) (λ w x is. is) (λ w x is. is) (λ w x is. is) T i u a (ask_taken u s)
-    (record { nothing = refl; refused = λ code. refl; given = λ place target p of. refl; here = λ parent object sel of. refl; prepared = λ parent object sel of. refl }))
+    (record {
+      nothing = refl;
+      refused = λ code. refl;
+      given = λ place target p of. refl;
+      here = λ parent object sel of. refl;
+      prepared = λ parent object sel of. refl;
+    }))
     refl
 
 -- the reply of an act, if it makes one
@@ -193,7 +210,9 @@ module _ (T : Setup) (valid : IsSetup T) where
     called-by = by e.event.act refl
       where
         quiet : (a : Act) → e.event.act ≡ a → (local_step T e.event.kernel (side W e.event.kernel) a (input_of W e.event.kernel a)).outcome.reply ≡ None → ⊥
-        quiet a act none = silent e.event.act (stepped T W e.event).outcome.reply r told (ap (λ b. (local_step T e.event.kernel (side W e.event.kernel) b (input_of W e.event.kernel b)).outcome.reply) act ∙ none)
+        quiet a act none =
+            silent e.event.act (stepped T W e.event).outcome.reply r told
+            (ap (λ b. (local_step T e.event.kernel (side W e.event.kernel) b (input_of W e.event.kernel b)).outcome.reply) act ∙ none)
 
         by : (a : Act) → e.event.act ≡ a → (e.event.act ≡ Calls r.vpe) ⊎ HasCall before r.vpe
         by (Calls u) act = inl (act ∙ ap Calls (sym (replied e.event.act (stepped T W e.event).outcome.reply r told ∙ ap replied_vpe act)))
@@ -220,10 +239,15 @@ module _ (T : Setup) (valid : IsSetup T) where
   call-first (b ∷ bs) later v (suc m) call = call-first bs later v m call
 
   -- a reply has a call of its VPE at or before it
-  pub reply-called : (J : List Entry) → IsSchedule T J → (n : ℕ) (e : Entry) (r : Reply) → IsAt J n e → e.reply ≡ Some r → (b : ℕ) × (b ≤ n) × IsCallAt J r.vpe b
+  pub reply-called : (J : List Entry) → IsSchedule T J → (n : ℕ) (e : Entry) (r : Reply) → IsAt J n e → e.reply ≡ Some r →
+      (b : ℕ) × (b ≤ n) × IsCallAt J r.vpe b
   reply-called J runs n e r at replies =
       let parts = before-at J n e at in
       elim (called-by J parts.0 parts.1 e runs parts.2 r replies) [
         | inl act ↦ (n, omega arith, (e, at, act))
-        | inr (m, within, call) ↦ (m, omega (arith, parts.3, within), subst (λ K. IsCallAt K r.vpe m) (sym parts.2) (call-first parts.0 (e ∷ parts.1) r.vpe m call))
+        | inr (m, within, call) ↦ (
+          m,
+          omega (arith, parts.3, within),
+          subst (λ K. IsCallAt K r.vpe m) (sym parts.2) (call-first parts.0 (e ∷ parts.1) r.vpe m call),
+        )
       ]

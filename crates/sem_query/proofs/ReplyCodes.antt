@@ -10,7 +10,8 @@ use Rattle.sem_key.specs.declared.limits.TheConstants.{VPES}
 use Rattle.sem_key.specs.Capability.{Capability}
 use Rattle.sem_msg.specs.declared.call.Call.{Call}
 use Rattle.sem_msg.specs.declared.code.Code.{Code}
-use Rattle.sem_msg.specs.declared.code.Code.TheVariants.{Ok as OkCode, NoVpe, Dead, NoCap, Revoking, Refused, Occupied, Numbers, BadKind, Wider, NoService, Gone, Unbound, Rights, Range, SelfExchange}
+use Rattle.sem_msg.specs.declared.code.Code.TheVariants.{Ok as OkCode, NoVpe, Dead, NoCap, Revoking, Refused, Occupied, Numbers, BadKind, Wider, NoService}
+use Rattle.sem_msg.specs.declared.code.Code.TheVariants.{Gone, Unbound, Rights, Range, SelfExchange}
 use Rattle.sem_msg.specs.Codes.{code_number}
 use Rattle.sem_msg.specs.declared.event.Act.{Act}
 use Rattle.sem_msg.specs.declared.event.Act.TheVariants.{Call as Calls, Fetch, Handle, Upcall, Resume, Flush, Kill}
@@ -93,9 +94,11 @@ resumed-small T i v (Some (DelegateReady parent key)) s sound = by_parent (cap s
 resumed-small T i v (Some (RevokeWait j)) s sound = tt
 resumed-small T i v (Some (Ready number)) s sound = sound (Ready number) refl
 
-step-small : (T : Setup) (i : ℕ) (s : Side) (a : Act) (input : Option Message) → ((v : ℕ) (p : Parked) → parked s v ≡ Some p → IsSoundCall T i v p) → IsSmall (local_step T i s a input).outcome.reply
+step-small : (T : Setup) (i : ℕ) (s : Side) (a : Act) (input : Option Message) → ((v : ℕ) (p : Parked) → parked s v ≡ Some p → IsSoundCall T i v p) →
+    IsSmall (local_step T i s a input).outcome.reply
 unfolding local_step resume_row
-step-small T i s (Calls v) input sound = option-keeps (λ (x : Step). IsSmall x.outcome.reply) (call_row T i (call_counted v s) v) (next_call T s v) (plain s) (λ c there. call-small T i v (call_counted v s) c) tt
+step-small T i s (Calls v) input sound = option-keeps (λ (x : Step). IsSmall x.outcome.reply) (call_row T i (call_counted v s) v) (next_call T s v) (plain s)
+    (λ c there. call-small T i v (call_counted v s) c) tt
 step-small T i s (Resume v) input sound = resumed-small T i v (parked s v) (unparked v s) (sound v)
 step-small T i s (Upcall v) input sound = subst IsSmall (sym (upcall-silent T i v s)) tt
 step-small T i s Handle input sound = tt

@@ -48,7 +48,8 @@ by-ends v (Calls w) (Called index Exit) is = eq-eqb w v (same_Some w v is)
 by-ends v a d is = absurd cc
 
 pub from-requested : (e : Entry) (k : KeyName) (a : Act) (d : Detail) → e.event.act ≡ a → e.detail ≡ d → requested a d ≡ Some k → IsRootOf e k
-from-requested e k Handle (Carried from (RevokeReq key j)) act detail is = of_request from j act (detail ∙ ap (λ q. Carried from (RevokeReq q j)) (same_Some key k is))
+from-requested e k Handle (Carried from (RevokeReq key j)) act detail is = of_request from j act (detail
+    ∙ ap (λ q. Carried from (RevokeReq q j)) (same_Some key k is))
 from-requested e k a d act detail is = absurd cc
 
 module _ (caps : List Capability) (e : Entry) where
@@ -85,7 +86,8 @@ module _ (caps : List Capability) (e : Entry) where
       (ap (λ b. requested b e.detail) act ∙ ap (requested Handle) detail)))
   roots-all a (of_end ended) c held =
       let of_c = found (λ (x : Capability). key_eq x.key a) caps c held in
-      let among : Contains (keys_of caps) a = subst (Contains (keys_of caps)) (key_eq-true c.key a of_c.1) (Contains-map (λ (x : Capability). x.key) caps c of_c.0) in
+      let among : Contains (keys_of caps) a =
+      subst (Contains (keys_of caps)) (key_eq-true c.key a of_c.1) (Contains-map (λ (x : Capability). x.key) caps c of_c.0) in
       Contains-append_right (cuts ++ asks) over a (subst (λ o. Contains (option_map_or (held_of caps) o []) a) (sym (ends-by a.vpe e.event.act e.detail ended))
       (Contains-filter (λ (k : KeyName). k.vpe == a.vpe) (keys_of caps) a among (eq-eqb a.vpe a.vpe refl)))
 

@@ -38,7 +38,8 @@ same-object o p = inr (λ is. absurd cc)
 
 same-parked : (p q : Parked) → Decided (p ≡ q)
 same-parked (ObtainWait a b) (ObtainWait x y) = along (λ h. cc) (λ is. ((cc), (cc))) (both (cases_eq a x) (cases_eq b y))
-same-parked (ObtainReady k l o a) (ObtainReady m n p x) = along (λ h. cc) (λ is. ((cc), ((cc), ((cc), (cc))))) (both (same-key k m) (both (same-key l n) (both (same-object o p) (cases_eq a x))))
+same-parked (ObtainReady k l o a) (ObtainReady m n p x) =
+    along (λ h. cc) (λ is. ((cc), ((cc), ((cc), (cc))))) (both (same-key k m) (both (same-key l n) (both (same-object o p) (cases_eq a x))))
 same-parked ObtainCancelled ObtainCancelled = inl refl
 same-parked (DelegateWait k) (DelegateWait l) = along (λ h. cc) (λ is. cc) (same-key k l)
 same-parked (DelegateReady k l) (DelegateReady m n) = along (λ h. cc) (λ is. ((cc), (cc))) (both (same-key k m) (same-key l n))

@@ -1,5 +1,6 @@
 -- What a search finds among lives in rising key order, and what an edit at that place does.
-use Rattle.std.proofs.Common.{◌≡◌, ℕ, zero, suc, ◌<◌, List, [], ◌∷◌, length, get_or, Some, None, Result, Ok, Err, IfOk, IfErr, refl, sym, ap, ◌∙◌, inl, inr, arith}
+use Rattle.std.proofs.Common.{◌≡◌, ℕ, zero, suc, ◌<◌, List, [], ◌∷◌, length, get_or, Some, None, Result, Ok, Err, IfOk, IfErr, refl, sym, ap, ◌∙◌, inl, inr}
+use Rattle.std.proofs.Common.{arith}
 use Rattle.std.specs.List.{find, slice_get}
 use Rattle.std.specs.List.Sorted.{IsSearchInRange, IsBinarySearchResult, IsNonDecreasingBy}
 use Rattle.std.specs.Ordering.{nat_cmp, ordering_index}
@@ -20,7 +21,9 @@ module _ (ls : List KeyLife) (are : AreLives ls) (k : KeyName) where
   ]
 
   -- a binary search by packed words ends at the life of the key, or at the gap for it
-  pub searched : IsValidKey k → (r : Result ℕ ℕ) → IsSearchInRange r (length ls) → IsBinarySearchResult (λ (l : KeyLife). nat_cmp (packed l.key) (packed k)) ls r → record { found : IfOk r (IsLifeAt ls k); absent : IfErr r (IsGapFor ls k) }
+  pub searched : IsValidKey k → (r : Result ℕ ℕ) → IsSearchInRange r (length ls) →
+      IsBinarySearchResult (λ (l : KeyLife). nat_cmp (packed l.key) (packed k)) ls r →
+      record { found : IfOk r (IsLifeAt ls k); absent : IfErr r (IsGapFor ls k) }
   searched valid (Ok at) in_range equal = record {
     found = record { in_range = in_range; key = λ d. packed-injective (get_or ls at d).key k (are.valid at d in_range) valid (ranked _ _ _ (sym (equal d))) };
     absent = tt;
@@ -38,7 +41,8 @@ module _ (ls : List KeyLife) (are : AreLives ls) (k : KeyName) where
   pub life-found : (at : ℕ) (x : KeyLife) → IsLifeAt ls k at → x ≡ get_or ls at x → find (λ l. key_eq l.key k) ls ≡ Some x
   life-found at x place is =
       find-at (λ (l : KeyLife). key_eq l.key k) ls at x
-      (λ i d low lt. let less = are.rising i at d lt place.in_range in let there = place.key d in key_eq-differs (get_or ls i d).key k (λ same. omega (arith, less, same, ap packed there)))
+      (λ i d low lt. let less = are.rising i at d lt place.in_range in let there = place.key d in
+      key_eq-differs (get_or ls i d).key k (λ same. omega (arith, less, same, ap packed there)))
       (key_eq-from (get_or ls at x).key k (place.key x))
       place.in_range
       ∙ ap Some (sym is)

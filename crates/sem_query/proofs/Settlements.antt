@@ -73,4 +73,5 @@ module _ (T : Setup) (J : List Entry) (v n b : ℕ) (call : IsLastCall J v n b) 
     pub settles-there : Settles T J v n (b + i)
     settles-there = by_parking b (b + i) call early (omega arith)
         (sym (state-at i (b + i) place-found refl) ∙ (place.found (let here = place-found in omega (arith, here, states-length)) ∙ last-state))
-        (λ m from before alike. place.first (m - b) (omega (arith, from, before)) (state-at (m - b) m (let here = place-found in omega (arith, here, before)) (omega (arith, from)) ∙ (alike ∙ sym last-state)))
+        (λ m from before alike. place.first (m - b) (omega (arith, from, before)) (state-at (m - b) m (let here = place-found in
+        omega (arith, here, before)) (omega (arith, from)) ∙ (alike ∙ sym last-state)))

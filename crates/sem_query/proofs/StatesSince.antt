@@ -36,9 +36,11 @@ states-same T J v b place early =
     ap (λ n. map (λ m. state_after T J v (m + 1)) (range_with_len b n)) same
 
 -- It has come to the entry at a place.
-module _ (T : Setup) (J : List Entry) (runs : IsSchedule T J) (place : ℕ) (e : Entry) (now : WorldValue) (so_far : now ≡ world_at T (take place J)) (within : place < length J) (at : e ≡ get_or J place e) where
+module _ (T : Setup) (J : List Entry) (runs : IsSchedule T J) (place : ℕ) (e : Entry) (now : WorldValue) (so_far : now ≡ world_at T (take place J))
+    (within : place < length J) (at : e ≡ get_or J place e) where
   with-it : J ≡ take place J ++ e ∷ drop (suc place) J
-  with-it = sym (ap (λ (xs : List Entry). take place J ++ xs) (sym (drop-cons J place e within ∙ ap (λ (x : Entry). x ∷ drop (suc place) J) (sym at))) ∙ take-append-drop place J)
+  with-it = sym (ap (λ (xs : List Entry). take place J ++ xs) (sym (drop-cons J place e within ∙ ap (λ (x : Entry). x ∷ drop (suc place) J) (sym at)))
+      ∙ take-append-drop place J)
 
   on : IsSchedule T (take place J) × (is_enabled T (world_after T (take place J)) e.event ≡ true) × (e ≡ entry_of T (world_after T (take place J)) e.event)
   on = entry-enabled T (take place J) (start T) e (drop (suc place) J) (subst (IsSchedule T) with-it runs)
@@ -55,7 +57,8 @@ module _ (T : Setup) (J : List Entry) (runs : IsSchedule T J) (place : ℕ) (e :
       ∙ ap (λ (W : World). record { setup = T; world = W }) (sym (ap (world_after T) one-more ∙ run-append T (take place J) (e ∷ []) (start T))))
 
 -- and the state of the call in that world is gathered
-pub states-more : (T : Setup) (J : List Entry) (v b place : ℕ) (new : WorldValue) (states : List (Option Parked)) → b ≤ place → new ≡ world_at T (take (place + 1) J) → states ≡ states_until T J v b place
+pub states-more : (T : Setup) (J : List Entry) (v b place : ℕ) (new : WorldValue) (states : List (Option Parked)) → b ≤ place →
+    new ≡ world_at T (take (place + 1) J) → states ≡ states_until T J v b place
     → states ++ parked (side new.world (kernel_of T v)) v ∷ [] ≡ states_until T J v b (place + 1)
 states-more T J v b place new states from is so_far =
     let f : ℕ → Option Parked = λ m. state_after T J v (m + 1) in

@@ -12,9 +12,11 @@ use Rattle.sem_key.specs.Lists.{in_turn}
 use Rattle.sem_key.proofs.KeyTests.{key_eq-true}
 use Rattle.sem_key.proofs.Members.{found}
 use Rattle.sem_msg.specs.declared.call.Call.{Call}
-use Rattle.sem_msg.specs.declared.call.Call.TheVariants.{Derive, Gate, Obtain, Delegate, OpenSession, AskOffer, Revoke, Bind, Read, Write, Send as SendCall, Credit, Exit, Clear}
+use Rattle.sem_msg.specs.declared.call.Call.TheVariants.{Derive, Gate, Obtain, Delegate, OpenSession, AskOffer, Revoke, Bind, Read, Write, Send as SendCall}
+use Rattle.sem_msg.specs.declared.call.Call.TheVariants.{Credit, Exit, Clear}
 use Rattle.sem_msg.specs.declared.message.Message.{Message}
-use Rattle.sem_msg.specs.declared.message.Message.TheVariants.{ObtainReq, ObtainOk, ObtainNo, DelegateReq, DelegatePrepared, DelegateNo, Ack, Orphan, RevokeReq, RevokeDone, Unlink}
+use Rattle.sem_msg.specs.declared.message.Message.TheVariants.{ObtainReq, ObtainOk, ObtainNo, DelegateReq, DelegatePrepared, DelegateNo, Ack, Orphan, RevokeReq}
+use Rattle.sem_msg.specs.declared.message.Message.TheVariants.{RevokeDone, Unlink}
 use Rattle.sem_msg.specs.declared.event.Act.{Act}
 use Rattle.sem_msg.specs.declared.event.Act.TheVariants.{Call as Calls, Fetch, Handle, Upcall, Resume, Flush, Kill}
 use Rattle.sem_msg.specs.declared.entry.Detail.TheVariants.{Carried, Nothing}
@@ -95,7 +97,8 @@ module _ (xs : List Capability) (T : Setup) (i : ℕ) where
   requested-stay from j k t S (Some c) held =
       let there = found (λ (x : Capability). key_eq x.key k) t.caps c held in
       asked-stay from j k c.mark t S (λ none. subst (IsFree xs) (key_eq-true c.key k there.1) (free-of xs t S c there.0 none))
-  requested-stay from j k t S None held = cond_both (is_ready_with k (parked t k.vpe)) (parked_as k.vpe ObtainCancelled (ready_freed (parked t k.vpe) k.vpe t)) t P (λ _. freed-stay (parked t k.vpe) k.vpe t S) (λ _. S)
+  requested-stay from j k t S None held = cond_both (is_ready_with k (parked t k.vpe)) (parked_as k.vpe ObtainCancelled (ready_freed (parked t k.vpe) k.vpe t))
+      t P (λ _. freed-stay (parked t k.vpe) k.vpe t S) (λ _. S)
 
   -- The end of a VPE.
   call_refused-stay : (number v : ℕ) (t : Side) → P t → P (call_refused number v t)
@@ -113,7 +116,8 @@ module _ (xs : List Capability) (T : Setup) (i : ℕ) where
 
   ask_ended-stay : (a : Ask) (t : Side) → P t → P (ask_ended T i a t)
   ask_ended-stay a t S = cond_both (is_unawaited T i t a) t (ask_refused T i Dead a t) P (λ _. S)
-      (λ _. cond_both (kernel_of T (asker a) == i) (call_refused (code_number Dead) (asker a) t) (refusal_sent T Dead a t) P (λ _. call_refused-stay (code_number Dead) (asker a) t S) (λ _. told a))
+      (λ _. cond_both (kernel_of T (asker a) == i) (call_refused (code_number Dead) (asker a) t) (refusal_sent T Dead a t) P
+      (λ _. call_refused-stay (code_number Dead) (asker a) t S) (λ _. told a))
     where
       told : (b : Ask) → P (refusal_sent T Dead b t)
       told (ObtainAsk place target) = S
@@ -153,8 +157,13 @@ module _ (xs : List Capability) (T : Setup) (i : ℕ) where
 
   call-stay : (v : ℕ) (c : Call) (t : Side) → revokes_call c ≡ true → P t → StaysSo (call_row T i t v c)
   unfolding call_row
-  call-stay v (Revoke src) t loud S = option-keeps StaysSo (λ (c : Capability). cutting c.key (plain (revoke_begun T i v c.key c.mark t))) (own t v src) (answer NoCap t) (λ c held. begun-stay v c.key c.mark t S (λ none. free-of xs t S c (own-among t v src c held) none)) S
-  call-stay v (Clear src) t loud S = unless-passed StaysSo (own_tests (own t v src)) _ _ (λ code. S) (λ passed. option-keeps StaysSo (λ (c : Capability). cutting c.key (plain (clear_begun T i v c.key t))) (own t v src) (answer NoCap t) (λ c held. begin-stay xs T i c.key None (v ∷ []) true (parked_as v (RevokeWait t.next_job) t) S tt (free-of xs t S c (own-among t v src c held) (unmarked-own (own t v src) c held passed.1.0))) S)
+  call-stay v (Revoke src) t loud S = option-keeps StaysSo (λ (c : Capability). cutting c.key (plain (revoke_begun T i v c.key c.mark t))) (own t v src)
+      (answer NoCap t) (λ c held. begun-stay v c.key c.mark t S (λ none. free-of xs t S c (own-among t v src c held) none)) S
+  call-stay v (Clear src) t loud S =
+      unless-passed StaysSo (own_tests (own t v src)) _ _ (λ code. S)
+      (λ passed. option-keeps StaysSo (λ (c : Capability). cutting c.key (plain (clear_begun T i v c.key t))) (own t v src) (answer NoCap t)
+      (λ c held. begin-stay xs T i c.key None (v ∷ []) true (parked_as v (RevokeWait t.next_job) t) S tt
+      (free-of xs t S c (own-among t v src c held) (unmarked-own (own t v src) c held passed.1.0))) S)
   call-stay v Exit t loud S = ended-stay v t S
   call-stay v (Derive src dst off len rights) t loud S = absurd cc
   call-stay v (Gate src dst label credits) t loud S = absurd cc
@@ -182,7 +191,8 @@ module _ (xs : List Capability) (T : Setup) (i : ℕ) where
   message-stay from (Orphan parent key) t loud other S = absurd cc
   message-stay from (Unlink parent key) t loud other S = absurd cc
 
-module _ (T : Setup) (valid : IsSetup T) (J : List Entry) (runs : IsSchedule T J) (before later : List Entry) (e : Entry) (parts : J ≡ before ++ e ∷ later) (other : (from j : ℕ) → e.detail ≡ Carried from (RevokeDone j) → ⊥) where
+module _ (T : Setup) (valid : IsSetup T) (J : List Entry) (runs : IsSchedule T J) (before later : List Entry) (e : Entry) (parts : J ≡ before ++ e ∷ later)
+    (other : (from j : ℕ) → e.detail ≡ Carried from (RevokeDone j) → ⊥) where
   abbrev W : World
   W = world_after T before
 
@@ -228,9 +238,11 @@ module _ (T : Setup) (valid : IsSetup T) (J : List Entry) (runs : IsSchedule T J
     step-stays Handle act loud = by s.inbox refl loud
       where
         shown : (m : ℕ × Message) → s.inbox ≡ Some m → e.detail ≡ Carried m.0 m.1
-        shown m full = shown-detail T W e told ∙ (ap (λ b. detail_of T s b (input_of W n b) (stepped T W e.event).outcome) act ∙ ap (λ o. option_map_or (λ (x : ℕ × Message). Carried x.0 x.1) o Nothing) full)
+        shown m full = shown-detail T W e told ∙ (ap (λ b. detail_of T s b (input_of W n b) (stepped T W e.event).outcome) act
+            ∙ ap (λ o. option_map_or (λ (x : ℕ × Message). Carried x.0 x.1) o Nothing) full)
 
-        by : (o : Option (ℕ × Message)) → s.inbox ≡ o → option_map_or (λ m. revokes_message m.1) o false ≡ true → Q (option_map_or (λ m. handled T n (with_inbox None s) m.0 m.1) o s)
+        by : (o : Option (ℕ × Message)) → s.inbox ≡ o → option_map_or (λ m. revokes_message m.1) o false ≡ true →
+            Q (option_map_or (λ m. handled T n (with_inbox None s) m.0 m.1) o s)
         by None none loud' = absurd cc
         by (Some m) full loud' = message-stay s.caps T n m.0 m.1 (with_inbox None s) loud' (λ j is. other m.0 j (shown m full ∙ ap (Carried m.0) is)) start-stay
     step-stays (Kill v) act loud = ended-stay s.caps T n v s start-stay
@@ -240,7 +252,8 @@ module _ (T : Setup) (valid : IsSetup T) (J : List Entry) (runs : IsSchedule T J
     step-stays (Flush j) act loud = absurd cc
 
   -- a marked key of the kernel is held on
-  pub stays-held : (k : KeyName) → owner_of T k ≡ n → is_revoking e ≡ true → (c : Capability) (j : ℕ) → cap (side W (owner_of T k)) k ≡ Some c → c.mark ≡ Some j → (d : Capability) × (cap (side (world_after T (before ++ e ∷ [])) (owner_of T k)) k ≡ Some d) × IsAlike c d
+  pub stays-held : (k : KeyName) → owner_of T k ≡ n → is_revoking e ≡ true → (c : Capability) (j : ℕ) → cap (side W (owner_of T k)) k ≡ Some c →
+      c.mark ≡ Some j → (d : Capability) × (cap (side (world_after T (before ++ e ∷ [])) (owner_of T k)) k ≡ Some d) × IsAlike c d
   stays-held k home loud c j held marked =
       let was = (at T valid J runs before later e parts k).0 in
       let told = made-so T valid J runs before later e parts k in
@@ -250,11 +263,13 @@ module _ (T : Setup) (valid : IsSetup T) (J : List Entry) (runs : IsSchedule T J
       let S = step-stays was told e.event.act refl (sym (revoking-is T valid J runs before later e parts k) ∙ loud) in
       let d = S.there c of_c.0 j marked in
       let distinct = keys-distinct T valid (before ++ e ∷ []) (with-e T valid J runs before later e parts k) (owner_of T k) in
-      let among : Contains (side V (owner_of T k)).caps d.0 = subst (λ (t : Side). Contains t.caps d.0) (sym (side-here T valid J runs before later e parts k (owner_of T k) home)) d.1 in
+      let among : Contains (side V (owner_of T k)).caps d.0 =
+      subst (λ (t : Side). Contains t.caps d.0) (sym (side-here T valid J runs before later e parts k (owner_of T k) home)) d.1 in
       (d.0, only-one k (side V (owner_of T k)).caps distinct d.0 among (d.2.kin.key ∙ key_eq-true c.key k of_c.1), d.2)
 
   -- so it stays where it is
-  pub stayed : (k : KeyName) → owner_of T k ≡ n → is_revoking e ≡ true → (c : Capability) (j : ℕ) → cap (side W (owner_of T k)) k ≡ Some c → c.mark ≡ Some j → whereabouts T W k ≡ whereabouts T (world_after T (before ++ e ∷ [])) k
+  pub stayed : (k : KeyName) → owner_of T k ≡ n → is_revoking e ≡ true → (c : Capability) (j : ℕ) → cap (side W (owner_of T k)) k ≡ Some c → c.mark ≡ Some j →
+      whereabouts T W k ≡ whereabouts T (world_after T (before ++ e ∷ [])) k
   stayed k home loud c j held marked =
       let d = stays-held k home loud c j held marked in
       held-same T valid J runs before later e parts k c d.0 held d.1 d.2.mark d.2.kin.selector

@@ -1,5 +1,6 @@
 -- A job that begins marks with an id of its own: what was marked before stays as it is, until a token comes back.
-use Rattle.std.proofs.Common.{◌≡◌, ◌⊎◌, ℕ, zero, suc, ◌+◌, ◌<◌, Bool, true, false, not, ◌&&◌, List, [], ◌∷◌, length, Option, Some, None, refl, sym, ap, ◌∙◌, subst, inl, inr, arith, eq-eqb}
+use Rattle.std.proofs.Common.{◌≡◌, ◌⊎◌, ℕ, zero, suc, ◌+◌, ◌<◌, Bool, true, false, not, ◌&&◌, List, [], ◌∷◌, length, Option, Some, None, refl, sym, ap, ◌∙◌}
+use Rattle.std.proofs.Common.{subst, inl, inr, arith, eq-eqb}
 use Rattle.std.specs.Prelude.{◌==◌, if◌then◌else◌}
 use Rattle.std.specs.List.{Contains, All, filter, list_any}
 use Rattle.std.specs.Option.{option_map_or, option_and_then, is_none}
@@ -22,7 +23,8 @@ use Rattle.sem_msg.specs.Setup.{Setup}
 use Rattle.sem_msg.specs.Lookups.{owner_of, is_local}
 use Rattle.sem_msg.specs.JobRows.{if_done, next_done}
 use Rattle.sem_machine.specs.Sides.{Side, cap, job, unlinked, mark_all, unbind_all, caps_removed, job_opened, job_removed, send}
-use Rattle.sem_machine.specs.Revokes.{count_raised, with_up, other_marker, adopted, request_or_adopt, root_spared, selectors_freed, swept, woken, left_parent, parent_left, up_told, closed_here, closed, finish, settled, opened, begin}
+use Rattle.sem_machine.specs.Revokes.{count_raised, with_up, other_marker, adopted, request_or_adopt, root_spared, selectors_freed, swept, woken, left_parent}
+use Rattle.sem_machine.specs.Revokes.{parent_left, up_told, closed_here, closed, finish, settled, opened, begin}
 use Rattle.sem_machine.proofs.Folds.{in_turn-keeps}
 use Rattle.sem_safety.proofs.JobIds.{IdsRise, HasIds, ids}
 use Rattle.sem_query.proofs.Bearing.{IsKin, IsAlike, alike-same, alike-next}
@@ -45,10 +47,12 @@ finish-none T i zero t = refl
 finish-none T i (suc n) t = refl
 
 -- what is in a region is not marked
-in-region : (caps : List Capability) (root k : KeyName) → has_key (region caps root) k ≡ true → (c : Capability) × Contains caps c × (c.key ≡ k) × (c.mark ≡ None)
+in-region : (caps : List Capability) (root k : KeyName) → has_key (region caps root) k ≡ true → (c : Capability) × Contains caps c × (c.key ≡ k)
+    × (c.mark ≡ None)
 in-region caps root k has =
     let reached : List KeyName = grow (length caps) caps (root ∷ []) in
-    let of = Contains-from_map (λ (c : Capability). c.key) (filter (λ c. is_none c.mark && has_key reached c.key) caps) k (Contains-from_has_key (region caps root) k has) in
+    let of = Contains-from_map (λ (c : Capability). c.key) (filter (λ c. is_none c.mark && has_key reached c.key) caps) k
+    (Contains-from_has_key (region caps root) k has) in
     let kept = Contains-from_filter (λ c. is_none c.mark && has_key reached c.key) caps of.0 of.1 in
     (of.0, kept.0, of.2, none of.0.mark (and_parts (is_none of.0.mark) (has_key reached of.0.key) kept.1).0)
   where
@@ -65,7 +69,8 @@ other-apart j (Some c) m is same = from c.mark is
     from None none = absurd cc
     from (Some q) some = elim (cases_Bool (q == j)) [
       | inl pass ↦ let clash : None ≡ Some m = sym (cond-true (q == j) None (Some q) pass) ∙ some in absurd cc
-      | inr fail ↦ let is_m : q ≡ m = same_Some q m (sym (cond-false (q == j) None (Some q) fail) ∙ some) in true≢false (sym (ap (λ x. x == j) is_m ∙ ap (λ x. x == j) same ∙ eq-same j) ∙ fail)
+      | inr fail ↦ let is_m : q ≡ m = same_Some q m (sym (cond-false (q == j) None (Some q) fail) ∙ some) in
+          true≢false (sym (ap (λ x. x == j) is_m ∙ ap (λ x. x == j) same ∙ eq-same j) ∙ fail)
     ]
       where
         eq-same : (n : ℕ) → (n == n) ≡ true
@@ -104,13 +109,15 @@ module _ (xs : List Capability) where
   pub with-jobs : (t : Side) → Stay t → (js : List JobRow) → HasIds (record t { jobs = js }) → Stay (record t { jobs = js })
   with-jobs t S js I = record { rise = I.rise; drawn = I.drawn; older = S.older; there = S.there; alone = S.alone }
 
-  pub changed-job : (t : Side) → Stay t → (j : ℕ) (f : JobRow → JobRow) → ((x : JobRow) → ((f x).id ≡ x.id) × ((f x).root ≡ x.root)) → Stay (record t { jobs = change (λ (x : JobRow). x.id == j) f t.jobs })
+  pub changed-job : (t : Side) → Stay t → (j : ℕ) (f : JobRow → JobRow) → ((x : JobRow) → ((f x).id ≡ x.id) × ((f x).root ≡ x.root)) →
+      Stay (record t { jobs = change (λ (x : JobRow). x.id == j) f t.jobs })
   changed-job t S j f same = with-jobs t S (change (λ (x : JobRow). x.id == j) f t.jobs) (ids.keeps_changed t (ids-of t S) j f same)
 
   -- Changes of capabilities.
 
   -- one that leaves keys and selectors, and marks none that was marked
-  changed : (t : Side) → Stay t → (test : Capability → Bool) (f : Capability → Capability) → ((c : Capability) → IsKin c (f c)) → ((c : Capability) → test c ≡ true → ((f c).mark ≡ c.mark) ⊎ IsFree c.key) → Stay (record t { caps = change test f t.caps })
+  changed : (t : Side) → Stay t → (test : Capability → Bool) (f : Capability → Capability) → ((c : Capability) → IsKin c (f c)) →
+      ((c : Capability) → test c ≡ true → ((f c).mark ≡ c.mark) ⊎ IsFree c.key) → Stay (record t { caps = change test f t.caps })
   changed t S test f kin marks = record {
     rise = S.rise;
     drawn = S.drawn;
@@ -131,13 +138,21 @@ module _ (xs : List Capability) where
       keys c = cond_both (test c) (f c) c (λ (x : Capability). x.key ≡ c.key) (λ _. (kin c).key) (λ _. refl)
 
       alike : (d c : Capability) → Contains xs c → d.key ≡ c.key → (m : ℕ) → c.mark ≡ Some m → IsAlike d (g d)
-      alike d c was key m some = cond_both (test d) (f d) d (IsAlike d) (λ pass. elim (marks d pass) [ inl same ↦ record { kin = kin d; mark = same } | inr free ↦ absurd (free c was (sym key) m some) ]) (λ _. alike-same d)
+      alike d c was key m some = cond_both (test d) (f d) d (IsAlike d) (λ pass. elim (marks d pass) [
+        | inl same ↦ record { kin = kin d; mark = same }
+        | inr free ↦ absurd (free c was (sym key) m some)
+      ]) (λ _. alike-same d)
 
   unlinked-stay : (t : Side) → Stay t → (p k : KeyName) → Stay (unlinked p k t)
-  unlinked-stay t S p k = changed t S (λ c. key_eq c.key p) (λ c. record c { children = without_key c.children k }) (λ c. record { key = refl; selector = refl; object = refl }) (λ c pass. inl refl)
+  unlinked-stay t S p k = changed t S (λ c. key_eq c.key p) (λ c. record c { children = without_key c.children k }) (λ c. record {
+    key = refl;
+    selector = refl;
+    object = refl;
+  }) (λ c pass. inl refl)
 
   marked-stay : (t : Side) → Stay t → (ks : List KeyName) (j : ℕ) → ((k : KeyName) → has_key ks k ≡ true → IsFree k) → Stay (mark_all ks j t)
-  marked-stay t S ks j free = changed t S (λ c. list_any (key_eq c.key) ks) (with_mark j) (λ c. record { key = refl; selector = refl; object = refl }) (λ c pass. inr (free c.key pass))
+  marked-stay t S ks j free = changed t S (λ c. list_any (key_eq c.key) ks) (with_mark j) (λ c. record { key = refl; selector = refl; object = refl })
+      (λ c pass. inr (free c.key pass))
 
   removed-stay : (t : Side) → Stay t → (j : ℕ) → AreOlder j → Stay (caps_removed j t)
   removed-stay t S j older = record {
@@ -147,7 +162,8 @@ module _ (xs : List Capability) where
     there = λ c was m some.
         let d = S.there c was m some in
         let below = older c was m some in
-        let stays : is_marked_by j d.0 ≡ false = ap (λ o. option_map_or (λ q. q == j) o false) (d.2.mark ∙ some) ∙ ne_eqb m j (λ same. omega (arith, below, same)) in
+        let stays : is_marked_by j d.0 ≡ false = ap (λ o. option_map_or (λ q. q == j) o false) (d.2.mark ∙ some)
+        ∙ ne_eqb m j (λ same. omega (arith, below, same)) in
         (d.0, Contains-filter (λ x. not (is_marked_by j x)) t.caps d.0 d.1 (ap not stays), d.2);
     alone = λ c was m some d among key. S.alone c was m some d (Contains-from_filter (λ x. not (is_marked_by j x)) t.caps d among).0 key;
   }
@@ -156,18 +172,23 @@ module _ (xs : List Capability) where
 
   spared-stay : (t : Side) → Stay t → (x : JobRow) → IsFree x.root → Stay (root_spared x t)
   spared-stay t S x free = cond_both x.keep (restored t.caps x.root) t.caps (λ cs. Stay (record t { caps = cs }))
-      (λ _. changed t S (λ c. key_eq c.key x.root) (λ c. record c { children = []; mark = None }) (λ c. record { key = refl; selector = refl; object = refl }) (λ c pass. inr (subst IsFree (sym (key_eq-true c.key x.root pass)) free)))
+      (λ _. changed t S (λ c. key_eq c.key x.root) (λ c. record c { children = []; mark = None }) (λ c. record { key = refl; selector = refl; object = refl })
+      (λ c pass. inr (subst IsFree (sym (key_eq-true c.key x.root pass)) free)))
       (λ _. S)
 
   swept-stay : (t : Side) → Stay t → (x : JobRow) → IsFree x.root → AreOlder x.id → Stay (swept x t)
   swept-stay t S x free older = removed-stay (selectors_freed x.id (root_spared x t)) (spared-stay t S x free) x.id older
 
   -- the job is given by its parts
-  left-stay : (T : Setup) (i id count : ℕ) (root : KeyName) (up : Option Up) (waiters : List ℕ) (keep : Bool) (o : Option KeyName) (t : Side) → Stay t → Stay (parent_left T i (record { id = id; root = root; up = up; waiters = waiters; count = count; keep = keep }) o t)
+  left-stay : (T : Setup) (i id count : ℕ) (root : KeyName) (up : Option Up) (waiters : List ℕ) (keep : Bool) (o : Option KeyName) (t : Side) → Stay t →
+      Stay (parent_left T i (record { id = id; root = root; up = up; waiters = waiters; count = count; keep = keep }) o t)
   left-stay T i id count root up waiters keep None t S = S
-  left-stay T i id count root None waiters keep (Some p) t S = cond_both (is_local T i p) (unlinked p root t) (send (owner_of T p) (Unlink p root) t) Stay (λ _. unlinked-stay t S p root) (λ _. S)
-  left-stay T i id count root (Some (Local j)) waiters keep (Some p) t S = cond_both (is_local T i p) (unlinked p root t) (send (owner_of T p) (Unlink p root) t) Stay (λ _. unlinked-stay t S p root) (λ _. S)
-  left-stay T i id count root (Some (Remote kernel j)) waiters keep (Some p) t S = cond_both (is_local T i p) (unlinked p root t) t Stay (λ _. unlinked-stay t S p root) (λ _. S)
+  left-stay T i id count root None waiters keep (Some p) t S = cond_both (is_local T i p) (unlinked p root t) (send (owner_of T p) (Unlink p root) t) Stay
+      (λ _. unlinked-stay t S p root) (λ _. S)
+  left-stay T i id count root (Some (Local j)) waiters keep (Some p) t S =
+      cond_both (is_local T i p) (unlinked p root t) (send (owner_of T p) (Unlink p root) t) Stay (λ _. unlinked-stay t S p root) (λ _. S)
+  left-stay T i id count root (Some (Remote kernel j)) waiters keep (Some p) t S =
+      cond_both (is_local T i p) (unlinked p root t) t Stay (λ _. unlinked-stay t S p root) (λ _. S)
 
   told-stay : (up : Option Up) → IsFar up → (t : Side) → Stay t → Stay (up_told up t)
   told-stay None far t S = S
@@ -179,7 +200,8 @@ module _ (xs : List Capability) where
   closed-stay T i x t S far free older =
       let gone : Side = job_removed x.id t in
       let out : Stay gone = with-jobs t S gone.jobs (ids.keeps_closed t (ids-of t S) x.id) in
-      told-stay x.up far (closed_here T i x gone) (left-stay T i x.id x.count x.root x.up x.waiters x.keep (left_parent gone x) (woken x.waiters (swept x gone)) (swept-stay gone out x free older))
+      told-stay x.up far (closed_here T i x gone) (left-stay T i x.id x.count x.root x.up x.waiters x.keep (left_parent gone x) (woken x.waiters (swept x gone))
+      (swept-stay gone out x free older))
 
   -- A job is opened.
   module _ (T : Setup) (i j : ℕ) (root : KeyName) (up : Option Up) where
@@ -192,7 +214,8 @@ module _ (xs : List Capability) where
       pub of : AreOf t.jobs
 
     -- a change of a job, which leaves root and `up` of that one
-    changed-of : (js : List JobRow) → AreOf js → (k : ℕ) (f : JobRow → JobRow) → ((x : JobRow) → (f x).id ≡ x.id) → ((x : JobRow) → k ≡ j → ((f x).root ≡ x.root) × ((f x).up ≡ x.up)) → AreOf (change (λ (x : JobRow). x.id == k) f js)
+    changed-of : (js : List JobRow) → AreOf js → (k : ℕ) (f : JobRow → JobRow) → ((x : JobRow) → (f x).id ≡ x.id) →
+        ((x : JobRow) → k ≡ j → ((f x).root ≡ x.root) × ((f x).up ≡ x.up)) → AreOf (change (λ (x : JobRow). x.id == k) f js)
     changed-of js of k f id keeps = λ y among.
         let x = Contains-from_map (λ (x : JobRow). if x.id == k then f x else x) js y among in
         subst (λ (z : JobRow). z.id ≡ j → (z.root ≡ root) × (z.up ≡ up)) x.2
@@ -242,9 +265,11 @@ module _ (xs : List Capability) where
 
         from : (o : Option JobRow) → job t j ≡ o → Stay (finish T i (length t.jobs) (if_done o) t)
         from None is = none (length t.jobs) t O.stay
-        from (Some x) is = cond_both (x.count == 0) (Some x) None (λ o. Stay (finish T i (length t.jobs) o t)) (λ _. some (length t.jobs) x is) (λ _. none (length t.jobs) t O.stay)
+        from (Some x) is = cond_both (x.count == 0) (Some x) None (λ o. Stay (finish T i (length t.jobs) o t)) (λ _. some (length t.jobs) x is)
+            (λ _. none (length t.jobs) t O.stay)
 
-  pub begin-stay : (T : Setup) (i : ℕ) (root : KeyName) (up : Option Up) (waiters : List ℕ) (keep : Bool) (t : Side) → Stay t → IsFar up → IsFree root → Stay (begin T i root up waiters keep t)
+  pub begin-stay : (T : Setup) (i : ℕ) (root : KeyName) (up : Option Up) (waiters : List ℕ) (keep : Bool) (t : Side) → Stay t → IsFar up → IsFree root →
+      Stay (begin T i root up waiters keep t)
   unfolding opened
   begin-stay T i root up waiters keep t S far free = settled-stay T i t.next_job root up (opened T i root up waiters keep t) opens far free S.older
     where
@@ -260,7 +285,13 @@ module _ (xs : List Capability) where
       stay-one : Stay one
       stay-one =
           let I = ids.keeps_opened t (ids-of t S) root up waiters keep in
-          record { rise = I.rise; drawn = I.drawn; older = λ c was m some. (let below = S.older c was m some in omega (arith, below)); there = S.there; alone = S.alone }
+          record {
+            rise = I.rise;
+            drawn = I.drawn;
+            older = λ c was m some. (let below = S.older c was m some in omega (arith, below));
+            there = S.there;
+            alone = S.alone;
+          }
 
       of-one : (x : JobRow) → Contains one.jobs x → x.id ≡ t.next_job → (x.root ≡ root) × (x.up ≡ up)
       of-one x among same = elim (Contains-append_cases t.jobs (row ∷ []) x among) [
@@ -275,5 +306,6 @@ module _ (xs : List Capability) where
       marks k has = let c = in-region t.caps root k has in subst IsFree c.2 (free-of t S c.0 c.1 c.3)
 
       opens : Opens T i t.next_job root up (opened T i root up waiters keep t)
-      opens = in_turn-keeps (Opens T i t.next_job root up) (request_or_adopt T i t.next_job) (λ k u here. request-opens T i t.next_job root up k u here) (children_of t.caps ks) (unbind_all ks (mark_all ks t.next_job one))
+      opens = in_turn-keeps (Opens T i t.next_job root up) (request_or_adopt T i t.next_job) (λ k u here. request-opens T i t.next_job root up k u here)
+          (children_of t.caps ks) (unbind_all ks (mark_all ks t.next_job one))
           (record { stay = marked-stay one stay-one ks t.next_job marks; of = of-one })

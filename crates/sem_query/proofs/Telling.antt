@@ -1,5 +1,6 @@
 -- The life of a key along a schedule tells where the key was, all along.
-use Rattle.std.proofs.Common.{◌≡◌, ◌⊎◌, ℕ, zero, suc, ◌+◌, ◌≤◌, Bool, true, false, List, [], ◌∷◌, ◌++◌, length, map, take, Option, Some, None, IsSome, refl, sym, ap, ◌∙◌, subst, inl, inr, arith, append-nil, append_assoc, get_or}
+use Rattle.std.proofs.Common.{◌≡◌, ◌⊎◌, ℕ, zero, suc, ◌+◌, ◌≤◌, Bool, true, false, List, [], ◌∷◌, ◌++◌, length, map, take, Option, Some, None, IsSome, refl}
+use Rattle.std.proofs.Common.{sym, ap, ◌∙◌, subst, inl, inr, arith, append-nil, append_assoc, get_or}
 use Rattle.std.specs.Prelude.{fold, if◌then◌else◌}
 use Rattle.std.specs.List.{Contains, range_with_len}
 use Rattle.std.specs.Option.{option_map, option_map_or}
@@ -56,7 +57,8 @@ module _ (T : Setup) (k : KeyName) where
   abbrev pub life_next : ℕ → World → World → Entry → Option KeyLife → Option KeyLife
   life_next n W V e o = option_map (noted n (whereabouts T W k) (whereabouts T V k)) (begun k n e o)
 
-  pub life-push : (before : List Entry) (e : Entry) → life T (before ++ e ∷ []) k ≡ life_next (length before) (world_after T before) (after T (world_after T before) e.event) e (life T before k)
+  pub life-push : (before : List Entry) (e : Entry) →
+      life T (before ++ e ∷ []) k ≡ life_next (length before) (world_after T before) (after T (world_after T before) e.event) e (life T before k)
   life-push before e =
       let x : Watched = fold (watched_next T k) (watched_first T k) before in
       let world : x.world ≡ world_after T before = watched-world before (watched_first T k) in
@@ -110,12 +112,17 @@ module _ (T : Setup) (valid : IsSetup T) (k : KeyName) where
   first-stands = elim (cases_Bool (has_key (root_keys T) k)) [
     | inl root ↦
         let at = root-there (Contains-from_has_key (root_keys T) k root) in
-        let there' : StandsIf 0 (whereabouts T (start T) k) (Some (life_of_root k (whereabouts T (start T) k))) = subst (λ h. StandsIf 0 h (Some (life_of_root k h))) (sym at.1) (has_life (Unmarked at.0) (life_of_root k (Unmarked at.0)) (as_unmarked k at.0 None None [] from_the_start tt refl)) in
-        subst (StandsIf 0 (whereabouts T (start T) k)) (sym (cond-true (has_key (root_keys T) k) (Some (life_of_root k (whereabouts T (start T) k))) None root)) there'
+        let there' : StandsIf 0 (whereabouts T (start T) k) (Some (life_of_root k (whereabouts T (start T) k))) =
+        subst (λ h. StandsIf 0 h (Some (life_of_root k h))) (sym at.1)
+        (has_life (Unmarked at.0) (life_of_root k (Unmarked at.0)) (as_unmarked k at.0 None None [] from_the_start tt refl)) in
+        subst (StandsIf 0 (whereabouts T (start T) k)) (sym (cond-true (has_key (root_keys T) k) (Some (life_of_root k (whereabouts T (start T) k))) None root))
+        there'
     | inr no_root ↦
-        let dead : IsLive (start T) k → ⊥ = λ live. true≢false (sym (has_key-from_Contains (root_keys T) k (first-made (used-made T [] nobody k (inl live)))) ∙ no_root) in
+        let dead : IsLive (start T) k → ⊥ = λ live. true≢false (sym (has_key-from_Contains (root_keys T) k (first-made (used-made T [] nobody k (inl live))))
+        ∙ no_root) in
         let nowhere : whereabouts T (start T) k ≡ No = dead-nowhere (start T) (whereabouts T (start T) k) (there T valid [] nobody k) dead in
-        subst (λ h. StandsIf 0 h (first_life T k)) (sym nowhere) (subst (StandsIf 0 No) (sym (cond-false (has_key (root_keys T) k) (Some (life_of_root k (whereabouts T (start T) k))) None no_root)) has_no_life)
+        subst (λ h. StandsIf 0 h (first_life T k)) (sym nowhere)
+        (subst (StandsIf 0 No) (sym (cond-false (has_key (root_keys T) k) (Some (life_of_root k (whereabouts T (start T) k))) None no_root)) has_no_life)
   ]
 
 -- One entry more.
@@ -134,7 +141,8 @@ stands-on k false n _ b _ (has_life a l is) passing = has_life b (noted n a b l)
 abbrev pub told_if : ℕ → Option KeyLife → Holder
 told_if n o = option_map_or (told n) o No
 
-told-on : (k : KeyName) (g : Bool) (m n : ℕ) (a b : Holder) (o : Option KeyLife) → m ≤ n → StandsIf n a o → Passes g a b → (g ≡ true → o ≡ None) → told_if m (next_by k g n a b o) ≡ told_if m o
+told-on : (k : KeyName) (g : Bool) (m n : ℕ) (a b : Holder) (o : Option KeyLife) → m ≤ n → StandsIf n a o → Passes g a b → (g ≡ true → o ≡ None) →
+    told_if m (next_by k g n a b o) ≡ told_if m o
 told-on k true m n _ b o before is born_on_its_way new = before-born m n k b before ∙ ap (told_if m) (sym (new refl))
 told-on k true m n _ b o before is (born_held sel) new = before-born m n k b before ∙ ap (told_if m) (sym (new refl))
 told-on k false m n _ _ _ before has_no_life stays_nowhere new = refl
@@ -150,35 +158,43 @@ module _ (T : Setup) (k : KeyName) (before : List Entry) (e : Entry) where
     where
       by : (o : Option (KeyName × KeyName)) → e.grant ≡ o → Contains (made T (before ++ e ∷ [])) k
       by None none = subst (λ gs. Contains (root_keys T ++ children gs) k) (sym (without_grant before e none)) was
-      by (Some g) some = subst (λ gs. Contains (root_keys T ++ children gs) k) (sym (with_grant before e g some)) (elim (Contains-append_cases (root_keys T) (children (grants before)) k was) [
-        | inl root ↦ Contains-append_left (root_keys T) (children (grants before ++ g ∷ [])) k root
-        | inr child ↦
-            let at = Contains-from_map (λ (h : KeyName × KeyName). h.1) (grants before) k child in
-            Contains-append_right (root_keys T) (children (grants before ++ g ∷ [])) k (subst (Contains (children (grants before ++ g ∷ []))) at.2 (Contains-map (λ (h : KeyName × KeyName). h.1) (grants before ++ g ∷ []) at.0 (Contains-append_left (grants before) (g ∷ []) at.0 at.1)))
-      ])
+      by (Some g) some = subst (λ gs. Contains (root_keys T ++ children gs) k) (sym (with_grant before e g some))
+          (elim (Contains-append_cases (root_keys T) (children (grants before)) k was) [
+            | inl root ↦ Contains-append_left (root_keys T) (children (grants before ++ g ∷ [])) k root
+            | inr child ↦
+                let at = Contains-from_map (λ (h : KeyName × KeyName). h.1) (grants before) k child in
+                Contains-append_right (root_keys T) (children (grants before ++ g ∷ [])) k
+                (subst (Contains (children (grants before ++ g ∷ []))) at.2 (Contains-map (λ (h : KeyName × KeyName). h.1) (grants before ++ g ∷ []) at.0
+                (Contains-append_left (grants before) (g ∷ []) at.0 at.1)))
+          ])
 
   made-granted : grants_key k e ≡ true → Contains (made T (before ++ e ∷ [])) k
   made-granted is =
       let g = granted-pair k e.grant is in
-      Contains-append_right (root_keys T) (children (grants (before ++ e ∷ []))) k (Contains-map (λ (h : KeyName × KeyName). h.1) (grants (before ++ e ∷ [])) (g.0, k) (among-grants (before ++ e ∷ []) e (g.0, k) (Contains-append_right before (e ∷ []) e (Contains-head e [])) g.1))
+      Contains-append_right (root_keys T) (children (grants (before ++ e ∷ []))) k (Contains-map (λ (h : KeyName × KeyName). h.1) (grants (before ++ e ∷ []))
+      (g.0, k) (among-grants (before ++ e ∷ []) e (g.0, k) (Contains-append_right before (e ∷ []) e (Contains-head e [])) g.1))
 
   made-cases : Contains (made T (before ++ e ∷ [])) k → Contains (made T before) k ⊎ (grants_key k e ≡ true)
   made-cases is = by e.grant refl
     where
       by : (o : Option (KeyName × KeyName)) → e.grant ≡ o → Contains (made T before) k ⊎ (grants_key k e ≡ true)
       by None none = inl (subst (λ gs. Contains (root_keys T ++ children gs) k) (without_grant before e none) is)
-      by (Some g) some = elim (Contains-append_cases (root_keys T) (children (grants before ++ g ∷ [])) k (subst (λ gs. Contains (root_keys T ++ children gs) k) (with_grant before e g some) is)) [
-        | inl root ↦ inl (Contains-append_left (root_keys T) (children (grants before)) k root)
-        | inr child ↦
-            let at = Contains-from_map (λ (h : KeyName × KeyName). h.1) (grants before ++ g ∷ []) k child in
-            elim (Contains-append_cases (grants before) (g ∷ []) at.0 at.1) [
-              | inl was ↦ inl (Contains-append_right (root_keys T) (children (grants before)) k (subst (Contains (children (grants before))) at.2 (Contains-map (λ (h : KeyName × KeyName). h.1) (grants before) at.0 was)))
-              | inr now ↦ elim (Contains-cons_cases g [] at.0 now) [
-                | inl same ↦ inr (ap (λ o. option_map_or (λ (h : KeyName × KeyName). key_eq h.1 k) o false) some ∙ key_eq-from g.1 k (ap (λ (h : KeyName × KeyName). h.1) same ∙ at.2))
-                | inr none ↦ absurd (Contains-nil at.0 none)
-              ]
-            ]
-      ]
+      by (Some g) some =
+          elim (Contains-append_cases (root_keys T) (children (grants before ++ g ∷ [])) k
+          (subst (λ gs. Contains (root_keys T ++ children gs) k) (with_grant before e g some) is)) [
+            | inl root ↦ inl (Contains-append_left (root_keys T) (children (grants before)) k root)
+            | inr child ↦
+                let at = Contains-from_map (λ (h : KeyName × KeyName). h.1) (grants before ++ g ∷ []) k child in
+                elim (Contains-append_cases (grants before) (g ∷ []) at.0 at.1) [
+                  | inl was ↦ inl (Contains-append_right (root_keys T) (children (grants before)) k
+                      (subst (Contains (children (grants before))) at.2 (Contains-map (λ (h : KeyName × KeyName). h.1) (grants before) at.0 was)))
+                  | inr now ↦ elim (Contains-cons_cases g [] at.0 now) [
+                    | inl same ↦ inr (ap (λ o. option_map_or (λ (h : KeyName × KeyName). key_eq h.1 k) o false) some
+                        ∙ key_eq-from g.1 k (ap (λ (h : KeyName × KeyName). h.1) same ∙ at.2))
+                    | inr none ↦ absurd (Contains-nil at.0 none)
+                  ]
+                ]
+          ]
 
 -- Along a schedule.
 
@@ -204,12 +220,15 @@ module _ (T : Setup) (valid : IsSetup T) (k : KeyName) where
   tells-first : Tells T k []
   tells-first = record {
     now = first-stands T valid k;
-    all_along = λ m few. let none : m ≡ 0 = omega (arith, few) in subst (λ n. told_if n (first_life T k) ≡ whereabouts T (world_after T (take n [])) k) (sym none) (told-now 0 (whereabouts T (start T) k) (first_life T k) (first-stands T valid k));
+    all_along = λ m few. let none : m ≡ 0 = omega (arith, few) in
+        subst (λ n. told_if n (first_life T k) ≡ whereabouts T (world_after T (take n [])) k) (sym none)
+        (told-now 0 (whereabouts T (start T) k) (first_life T k) (first-stands T valid k));
     was_made = λ some. elim (cases_Bool (has_key (root_keys T) k)) [
       | inl root ↦ Contains-append_left (root_keys T) [] k (Contains-from_has_key (root_keys T) k root)
       | inr none ↦ absurd (no-some (subst HasLife (cond-false (has_key (root_keys T) k) (Some root_life) None none) some))
     ];
-    has_life = λ there'. subst HasLife (sym (cond-true (has_key (root_keys T) k) (Some root_life) None (has_key-from_Contains (root_keys T) k (first-made T valid k there')))) refl;
+    has_life = λ there'. subst HasLife
+        (sym (cond-true (has_key (root_keys T) k) (Some root_life) None (has_key-from_Contains (root_keys T) k (first-made T valid k there')))) refl;
     of_key = λ l is. elim (cases_Bool (has_key (root_keys T) k)) [
       | inl root ↦ ap (λ (x : KeyLife). x.key) (sym (same_Some root_life l (sym (cond-true (has_key (root_keys T) k) (Some root_life) None root) ∙ is)))
       | inr none ↦ let no : None ≡ Some l = sym (cond-false (has_key (root_keys T) k) (Some root_life) None none) ∙ is in absurd cc
@@ -231,7 +250,8 @@ module _ (T : Setup) (valid : IsSetup T) (k : KeyName) where
   next-some false n a b None (inr never) = absurd cc
   next-some false n a b (Some l) is = refl
 
-  next-key : (g : Bool) (n : ℕ) (a b : Holder) (o : Option KeyLife) → ((l : KeyLife) → o ≡ Some l → l.key ≡ k) → (l : KeyLife) → next_by k g n a b o ≡ Some l → l.key ≡ k
+  next-key : (g : Bool) (n : ℕ) (a b : Holder) (o : Option KeyLife) → ((l : KeyLife) → o ≡ Some l → l.key ≡ k) → (l : KeyLife) → next_by k g n a b o ≡ Some l →
+      l.key ≡ k
   next-key true n a b o was l is = ap (λ (x : KeyLife). x.key) (sym (same_Some (noted n a b (life_granted k n)) l is))
   next-key false n a b None was l is = absurd cc
   next-key false n a b (Some x) was l is = ap (λ (y : KeyLife). y.key) (sym (same_Some (noted n a b x) l is)) ∙ was x refl
@@ -270,21 +290,26 @@ module _ (T : Setup) (valid : IsSetup T) (k : KeyName) where
 
     -- what is granted had no life
     new : g ≡ true → life T before k ≡ None
-    new granted = let p = granted-pair k e.grant granted in no-life (life T before k) (λ some. all-new T valid J runs before later e p.0 k parts p.1 (is.was_made some))
+    new granted = let p = granted-pair k e.grant granted in
+        no-life (life T before k) (λ some. all-new T valid J runs before later e p.0 k parts p.1 (is.was_made some))
 
     now' : StandsIf (length (before ++ e ∷ [])) b (life T (before ++ e ∷ []) k)
-    now' = subst (λ m. StandsIf m b (life T (before ++ e ∷ []) k)) (sym length-is) (subst (StandsIf (n + 1) b) (sym life-is) (stands-on k g n a b (life T before k) is.now passing))
+    now' = subst (λ m. StandsIf m b (life T (before ++ e ∷ []) k)) (sym length-is)
+        (subst (StandsIf (n + 1) b) (sym life-is) (stands-on k g n a b (life T before k) is.now passing))
 
     along : (m : ℕ) → m ≤ length (before ++ e ∷ []) → told_if m (life T (before ++ e ∷ []) k) ≡ whereabouts T (world_after T (take m (before ++ e ∷ []))) k
     along m few = elim (cases_eq m (n + 1)) [
       | inl last ↦
           let all : take m (before ++ e ∷ []) ≡ before ++ e ∷ [] = take_all m (before ++ e ∷ []) (let len = length-is in omega (arith, len, last)) in
           subst (λ K. told_if m (life T (before ++ e ∷ []) k) ≡ whereabouts T (world_after T K) k) (sym all)
-          (subst (λ x. told_if x (life T (before ++ e ∷ []) k) ≡ b) (length-is ∙ sym last) (told-now (length (before ++ e ∷ [])) b (life T (before ++ e ∷ []) k) now'))
+          (subst (λ x. told_if x (life T (before ++ e ∷ []) k) ≡ b) (length-is
+          ∙ sym last) (told-now (length (before ++ e ∷ [])) b (life T (before ++ e ∷ []) k) now'))
       | inr other ↦
           let len = length-is in
           let less : m ≤ n = omega (arith, few, other, len) in
-          ap (told_if m) life-is ∙ (told-on k g m n a b (life T before k) less is.now passing new ∙ (is.all_along m less ∙ ap (λ K. whereabouts T (world_after T K) k) (sym (take-append-le m before (e ∷ []) less))))
+          ap (told_if m) life-is
+          ∙ (told-on k g m n a b (life T before k) less is.now passing new
+          ∙ (is.all_along m less ∙ ap (λ K. whereabouts T (world_after T K) k) (sym (take-append-le m before (e ∷ []) less))))
     ]
 
     pub tells-next : Tells T k (before ++ e ∷ [])

@@ -1,5 +1,6 @@
 -- A walk from roots by child links through unmarked capabilities.
-use Rattle.std.proofs.Common.{◌≡◌, ℕ, ◌+◌, ◌<◌, ◌≤◌, Bool, true, false, not, ◌||◌, List, [], ◌∷◌, ◌++◌, length, take, get_or, Option, Some, None, is_none, refl, sym, ap, ◌∙◌, subst, inl, inr, arith, append_assoc, append-nil, length-append}
+use Rattle.std.proofs.Common.{◌≡◌, ℕ, ◌+◌, ◌<◌, ◌≤◌, Bool, true, false, not, ◌||◌, List, [], ◌∷◌, ◌++◌, length, take, get_or, Option, Some, None, is_none, refl}
+use Rattle.std.proofs.Common.{sym, ap, ◌∙◌, subst, inl, inr, arith, append_assoc, append-nil, length-append}
 use Rattle.std.specs.Prelude.{nat_eq, if◌then◌else◌}
 use Rattle.std.specs.List.{Contains, filter, list_any}
 use Rattle.std.specs.Option.{option_map_or}
@@ -20,7 +21,8 @@ use Rattle.sem_query.specs.Reaching.{IsReachedFrom, AreReached, Lists, has_word,
 
 -- How many pass a test.
 
-filter-cons : (p : Capability → Bool) (c : Capability) (cs : List Capability) (t : Bool) → p c ≡ t → length (filter p (c ∷ cs)) ≡ (if t then length (filter p cs) + 1 else length (filter p cs))
+filter-cons : (p : Capability → Bool) (c : Capability) (cs : List Capability) (t : Bool) → p c ≡ t →
+    length (filter p (c ∷ cs)) ≡ (if t then length (filter p cs) + 1 else length (filter p cs))
 filter-cons p c cs true is = ap length (cond-true (p c) (c ∷ filter p cs) (filter p cs) is) ∙ omega arith
 filter-cons p c cs false is = ap length (cond-false (p c) (c ∷ filter p cs) (filter p cs) is)
 
@@ -63,7 +65,8 @@ module _ (caps : List Capability) where
       none None _ = refl
       none (Some j) wrong = absurd cc
 
-      by : (o : Option Capability) → cap_of caps k ≡ o → option_map_or (λ (c : Capability). is_none c.mark) o false ≡ true → (c : Capability) × (cap_of caps k ≡ Some c) × (c.mark ≡ None)
+      by : (o : Option Capability) → cap_of caps k ≡ o → option_map_or (λ (c : Capability). is_none c.mark) o false ≡ true →
+          (c : Capability) × (cap_of caps k ≡ Some c) × (c.mark ≡ None)
       by None held wrong = absurd cc
       by (Some c) held unmarked = (c, held, none c.mark unmarked)
 
@@ -94,7 +97,8 @@ module _ (caps : List Capability) where
       right k there = Contains-append_right ps qs k there
 
   -- one key more
-  pub lists-more : (qs : List KeyName) (i : ℕ) (q : KeyName) (old mid new : List KeyName) → i < length qs → q ≡ get_or qs i q → Lists caps (take i qs) old mid → Lists caps (q ∷ []) mid new → Lists caps (take (i + 1) qs) old new
+  pub lists-more : (qs : List KeyName) (i : ℕ) (q : KeyName) (old mid new : List KeyName) → i < length qs → q ≡ get_or qs i q → Lists caps (take i qs) old mid →
+      Lists caps (q ∷ []) mid new → Lists caps (take (i + 1) qs) old new
   lists-more qs i q old mid new within at so_far one =
       subst (λ xs. Lists caps xs old new) (sym (take_more qs i q within ∙ ap (λ x. take i qs ++ x ∷ []) (sym at)))
       (lists-both (take i qs) (q ∷ []) old mid new so_far one)
@@ -118,11 +122,15 @@ module _ (caps : List Capability) where
   pub lists-push : (q : KeyName) (ks : List KeyName) → is_open caps q ≡ true → has_key ks q ≡ false → Lists caps (q ∷ []) ks (ks ++ q ∷ [])
   lists-push q ks open' absent = record {
     behind = (q ∷ [], refl);
-    only = λ k among. elim (Contains-push_cases ks q k among) [ inl before ↦ inl before | inr same ↦ inr (subst (Contains (q ∷ [])) same (Contains-head q []), subst (λ x. is_open caps x ≡ true) same open') ];
+    only = λ k among. elim (Contains-push_cases ks q k among) [
+      | inl before ↦ inl before
+      | inr same ↦ inr (subst (Contains (q ∷ [])) same (Contains-head q []), subst (λ x. is_open caps x ≡ true) same open')
+    ];
     all = λ k among is. subst (Contains (ks ++ q ∷ [])) (only-key q k among) (Contains-push ks q);
     room =
         let long = length-append ks (q ∷ []) in
-        let fewer = filter-fewer (λ (c : Capability). not (has_key ks c.key)) (λ (c : Capability). not (has_key (ks ++ q ∷ []) c.key)) rest caps c.0 of_c.0 (not_from_false (has_key ks c.0.key) (ap (has_key ks) key ∙ absent)) (listed_now c.0.key key) in
+        let fewer = filter-fewer (λ (c : Capability). not (has_key ks c.key)) (λ (c : Capability). not (has_key (ks ++ q ∷ []) c.key)) rest caps c.0 of_c.0
+        (not_from_false (has_key ks c.0.key) (ap (has_key ks) key ∙ absent)) (listed_now c.0.key key) in
         omega (arith, long, fewer);
   }
     where
@@ -140,7 +148,8 @@ module _ (caps : List Capability) where
 
       rest : (x : Capability) → not (has_key (ks ++ q ∷ []) x.key) ≡ true → not (has_key ks x.key) ≡ true
       rest x off = not_from_false (has_key ks x.key) (elim (cases_Bool (has_key ks x.key)) [
-        | inl on ↦ absurd (true≢false (sym (has_key-append ks (q ∷ []) x.key ∙ or_left (has_key ks x.key) (has_key (q ∷ []) x.key) on) ∙ not-true (has_key (ks ++ q ∷ []) x.key) off))
+        | inl on ↦ absurd (true≢false (sym (has_key-append ks (q ∷ []) x.key ∙ or_left (has_key ks x.key) (has_key (q ∷ []) x.key) on)
+            ∙ not-true (has_key (ks ++ q ∷ []) x.key) off))
         | inr off' ↦ off'
       ])
 
@@ -165,14 +174,16 @@ module _ (caps : List Capability) where
   }
 
   -- a child of what is reached is reached, where it is open
-  child-reached : (roots : List KeyName) (p k : KeyName) → IsReachedFrom caps roots p → Contains (children_at caps p) k → is_open caps k ≡ true → IsReachedFrom caps roots k
+  child-reached : (roots : List KeyName) (p k : KeyName) → IsReachedFrom caps roots p → Contains (children_at caps p) k → is_open caps k ≡ true →
+      IsReachedFrom caps roots k
   child-reached roots p k (a, root, reached) child open' = by (cap_of caps p) refl child
     where
       by : (o : Option Capability) → cap_of caps p ≡ o → Contains (option_map_or (λ (c : Capability). c.children) o []) k → IsReachedFrom caps roots k
       by None none child' = absurd (Contains-nil k child')
       by (Some c) held child' = let d = open-held k open' in (a, root, by_link p k c d.0 reached held (has_key-from_Contains c.children k child') d.1 d.2)
 
-  pub walk-next : (roots ks new : List KeyName) (at : ℕ) (p : KeyName) → IsWalk roots ks at → at < length ks → p ≡ get_or ks at p → Lists caps (children_at caps p) ks new → IsWalk roots new (at + 1)
+  pub walk-next : (roots ks new : List KeyName) (at : ℕ) (p : KeyName) → IsWalk roots ks at → at < length ks → p ≡ get_or ks at p →
+      Lists caps (children_at caps p) ks new → IsWalk roots new (at + 1)
   walk-next roots ks new at p W below is listed = record {
     within = omega (arith, below, long);
     rooted = λ k root open'. kept k (W.rooted k root open');
@@ -221,7 +232,8 @@ module _ {S : Type 0} where
   words-none words ks empty none k valid = ap (list_any (nat_eq _)) empty ∙ sym (ap (λ xs. has_key xs k) none)
 
   -- of one key more
-  pub words-push : (old new : HashSet ℕ S) (ks : List KeyName) (q : KeyName) → HasWords old (has_key ks) → HasWords new (λ k. has_word old k || key_eq k q) → HasWords new (has_key (ks ++ q ∷ []))
+  pub words-push : (old new : HashSet ℕ S) (ks : List KeyName) (q : KeyName) → HasWords old (has_key ks) → HasWords new (λ k. has_word old k || key_eq k q) →
+      HasWords new (has_key (ks ++ q ∷ []))
   words-push old new ks q so_far added k valid =
       added k valid
       ∙ (ap (λ b. b || key_eq k q) (so_far k valid)

@@ -1,25 +1,13 @@
--- How the lives of all keys come about, entry by entry. These words serve private functions.
-use Rattle.std.specs.Prelude.{◌≡◌, ℕ, ◌+◌, ◌==◌, nat_lt, ◌&&◌, false, List, [], ◌∷◌, ◌++◌, filter, Contains, Option, Some, None, unwrap_or, is_none, if◌then◌else◌}
+-- How the lives of all keys grow, entry by entry. These words serve private functions.
+use Rattle.std.specs.Prelude.{◌≡◌, ℕ, ◌+◌, ◌==◌, nat_lt, ◌&&◌, false, List, [], ◌∷◌, ◌++◌, filter, Contains, Option}
+use Rattle.std.specs.Prelude.{Some, None, unwrap_or, is_none, if◌then◌else◌}
 use Rattle.std.specs.Option.{option_map_or, option_and_then, option_to_list}
 use Rattle.sem_key.specs.declared.limits.TheConstants.{VPES}
-use Rattle.sem_key.specs.KeyName.{KeyName, key_eq}
-use Rattle.sem_key.specs.Lists.{change, in_turn}
-use Rattle.sem_msg.specs.declared.event.Act.{Act}
-use Rattle.sem_msg.specs.declared.event.Event.{Event}
-use Rattle.sem_msg.specs.declared.event.Act.TheVariants.{Handle, Resume}
-use Rattle.sem_msg.specs.declared.entry.Detail.{Detail}
-use Rattle.sem_msg.specs.declared.entry.Detail.TheVariants.{Carried}
-use Rattle.sem_msg.specs.declared.entry.Entry.{Entry}
-use Rattle.sem_msg.specs.declared.message.Message.{Message}
-use Rattle.sem_msg.specs.declared.message.Message.TheVariants.{ObtainOk, Ack, RevokeReq, RevokeDone}
-use Rattle.sem_msg.specs.declared.state.Parked.{Parked}
-use Rattle.sem_msg.specs.declared.state.Parked.TheVariants.{ObtainReady}
-use Rattle.sem_msg.specs.Setup.{Setup}
-use Rattle.sem_msg.specs.Lookups.{owner_of}
-use Rattle.sem_msg.specs.ParkedStates.{is_ready_with}
-use Rattle.sem_machine.specs.Sides.{Side, cap, parked}
-use Rattle.sem_machine.specs.Machine.{World, side, after}
-use Rattle.sem_machine.specs.Schedules.{IsSchedule, world_after}
+use Rattle.sem_machine.specs.Prelude.{KeyName, key_eq, in_turn, Act, Event, Handle, Resume, Detail, Carried, Entry}
+use Rattle.sem_machine.specs.Prelude.{Message, ObtainOk, Ack, RevokeReq, RevokeDone, Parked, ObtainReady, Setup}
+use Rattle.sem_machine.specs.Prelude.{owner_of, is_ready_with, Side, cap, parked, World, side, after, IsSchedule}
+use Rattle.sem_machine.specs.Prelude.{world_after}
+use Rattle.sem_key.specs.Lists.{change}
 use Rattle.sem_kernel.specs.Worlds.{WorldValue}
 use Rattle.sem_grants.specs.Ending.{ended_by}
 use Rattle.sem_query.specs.declared.holder.Holder.{Holder}
@@ -30,8 +18,8 @@ use Rattle.sem_query.specs.Lives.{KeyLife, noted, life_granted, life, told}
 
 -- Lives.
 
--- the life of a key that is held from the start at that selector, or of one that is to be granted
--- yet, which tells that the key is nowhere
+-- the life of a key that is held from the start at that selector, or of one that is yet to be
+-- granted; the latter says that the key is nowhere
 abbrev pub begun_life : KeyName → Option ℕ → KeyLife
 begun_life k sel = record {
   key = k;
@@ -42,11 +30,11 @@ begun_life k sel = record {
   gone = if is_none sel then Some 0 else None;
 }
 
--- the life of a key so far, also of one that is to be granted yet
+-- the life of a key so far, also of one that is yet to be granted
 abbrev pub life_so_far : Setup → List Entry → KeyName → KeyLife
 life_so_far T J k = unwrap_or (life T J k) (begun_life k None)
 
--- entry n is noted in a life, up to which all is noted, by where the key is after it
+-- entry n is noted in a life with all earlier entries noted, by where the key is after it
 abbrev pub noted_now : ℕ → Holder → KeyLife → KeyLife
 noted_now n later l = noted n (told (n + 1) l) later l
 
@@ -62,7 +50,7 @@ granted_of k n ls = change (λ l. key_eq l.key k) (λ l. life_granted l.key n) l
 abbrev pub all_noted : Setup → World → ℕ → List KeyName → List KeyLife → List KeyLife
 all_noted T V n ks ls = in_turn (λ k. noted_of k n (seen_at_home k (side V (owner_of T k)))) ks ls
 
--- where a key is that was just granted: held, or on its way
+-- where a just granted key is: held, or on its way
 abbrev pub seen_granted : KeyName → Side → Holder
 seen_granted k s = option_map_or held_as (cap s k) Way
 
@@ -72,7 +60,7 @@ grant_noted T V n None ls = ls
 grant_noted T V n (Some g) ls =
     noted_of g.1 n (seen_granted g.1 (side V (owner_of T g.1))) (granted_of g.1 n ls)
 
--- the lives after entry n, which may move these keys beside the one that it grants
+-- the lives after entry n, which may move these keys besides the one that it grants
 abbrev pub followed : Setup → World → ℕ → Entry → List KeyName → List KeyLife → List KeyLife
 followed T V n e moved ls = grant_noted T V n e.grant (all_noted T V n moved ls)
 
@@ -84,12 +72,12 @@ brought_in (ObtainOk parent key object) = Some key
 brought_in (Ack key accepted) = if accepted then Some key else None
 brought_in m = None
 
--- the message that is handled
+-- the message that the entry handles
 abbrev pub handled : Act → Detail → Option Message
 handled Handle (Carried from m) = Some m
 handled act detail = None
 
--- the key that is brought by it
+-- the key that this message brings
 abbrev pub brought_by : Act → Detail → Option KeyName
 brought_by act detail = option_and_then brought_in (handled act detail)
 
@@ -124,7 +112,7 @@ requested_in m = None
 abbrev pub requested : Act → Detail → Option KeyName
 requested act detail = option_and_then requested_in (handled act detail)
 
--- the job to which a token comes back
+-- the job that a token comes back to
 abbrev pub returned_in : Message → Option ℕ
 returned_in (RevokeDone job) = Some job
 returned_in m = None
@@ -132,12 +120,12 @@ returned_in m = None
 abbrev pub returned : Act → Detail → Option ℕ
 returned act detail = option_and_then returned_in (handled act detail)
 
--- those that the call of a VPE, if there is one, is ready to install
+-- the keys that the call of a VPE, if there is one, is ready to install
 abbrev pub ready_by : Setup → ℕ → Side → Option ℕ → List KeyName
 ready_by T i s o = option_map_or (ready_of T i s) o []
 
--- the keys that a revoking entry may move at kernel i: those that a call was ready to install which is
--- cancelled or ends, and these, which it reaches
+-- the keys that a revoking entry may move at kernel i: these, which it reaches, and those of ready
+-- calls that are cancelled or end
 abbrev pub revoked_by : Setup → ℕ → Side → Entry → List KeyName → List KeyName
 revoked_by T i s e reached =
     ready_among T i s e.cut
@@ -150,14 +138,14 @@ abbrev pub moved_at : Setup → ℕ → Side → Entry → List KeyName → List
 moved_at T i s e reached =
     ready_by T i s (resumed e.event.act) ++ (if is_revoking e then revoked_by T i s e reached else [])
 
--- the keys that the entry may move, but for the one that it grants and for marked ones, in the world
--- before it
+-- the keys that the entry may move in the world before it, except the one that it grants and the
+-- marked ones
 abbrev pub moved_by : Setup → World → Entry → List KeyName → List KeyName
 moved_by T W e reached =
     option_to_list (brought_by e.event.act e.detail)
     ++ moved_at T e.event.kernel (side W e.event.kernel) e reached
 
--- the entry may move these keys, and all others stay where they are, but for the one that it grants
+-- the entry may move these keys; all others stay where they are, except the one that it grants
 pub record AreMoved (T : Setup) (W : World) (e : Entry) (ks : List KeyName) : Type 0 where
   pub may : (k : KeyName) → Contains ks k → MayChange T W e k
   pub others : (k : KeyName) → grants_key k e ≡ false → (Contains ks k → ⊥)
@@ -165,13 +153,13 @@ pub record AreMoved (T : Setup) (W : World) (e : Entry) (ks : List KeyName) : Ty
 
 -- Entries of a schedule.
 
--- the entry is the next one of a schedule, after whose first entries the world is W
+-- the entry is the next one of a schedule, and W is the world after the entries before it
 pub record IsNext (T : Setup) (W : World) (e : Entry) : Type 0 where
   pub before : List Entry
   pub world : W ≡ world_after T before
   pub runs : IsSchedule T (before ++ e ∷ [])
 
--- the lives after entry n come about by noting it in those of the keys that it may move
+-- the lives after entry n come from noting it in the lives of the keys that it may move
 abbrev pub IsFollowed : Setup → World → ℕ → Entry → List KeyLife → List KeyLife → Type 0
 IsFollowed T W n e old new =
     (ks : List KeyName) × AreMoved T W e ks × (new ≡ followed T (after T W e.event) n e ks old)

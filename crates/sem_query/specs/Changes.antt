@@ -1,21 +1,9 @@
--- Which entries can change where a key is, and of which keys.
+-- Which entries can change where a key is, and for which keys.
 use Rattle.std.specs.Prelude.{◌≡◌, ℕ, Bool, true, false, Some, IsSome}
 use Rattle.std.specs.Option.{option_map_or}
-use Rattle.sem_key.specs.KeyName.{KeyName, key_eq}
-use Rattle.sem_msg.specs.declared.call.Call.{Call}
-use Rattle.sem_msg.specs.declared.call.Call.TheVariants.{Revoke, Clear, Exit}
-use Rattle.sem_msg.specs.declared.message.Message.{Message}
-use Rattle.sem_msg.specs.declared.message.Message.TheVariants.{RevokeReq, RevokeDone}
-use Rattle.sem_msg.specs.declared.event.Act.{Act}
-use Rattle.sem_msg.specs.declared.event.Act.TheVariants.{Call as Calls, Handle, Kill, Resume}
-use Rattle.sem_msg.specs.declared.entry.Detail.{Detail}
-use Rattle.sem_msg.specs.declared.entry.Detail.TheVariants.{Called, Carried}
-use Rattle.sem_msg.specs.declared.entry.Entry.{Entry}
-use Rattle.sem_msg.specs.Setup.{Setup}
-use Rattle.sem_msg.specs.Lookups.{owner_of}
-use Rattle.sem_msg.specs.ParkedStates.{is_ready_with}
-use Rattle.sem_machine.specs.Sides.{Side, cap, parked}
-use Rattle.sem_machine.specs.Machine.{World, side}
+use Rattle.sem_machine.specs.Prelude.{KeyName, key_eq, Call, Revoke, Clear, Exit, Message, RevokeReq, RevokeDone, Act}
+use Rattle.sem_machine.specs.Prelude.{Calls, Handle, Kill, Resume, Detail, Called, Carried, Entry, Setup, owner_of}
+use Rattle.sem_machine.specs.Prelude.{is_ready_with, Side, cap, parked, World, side}
 use Rattle.sem_machine.specs.Journals.{ends}
 use Rattle.sem_query.specs.declared.holder.Holder.{Holder}
 use Rattle.sem_query.specs.Whereabouts.{brings, held_as, unheld}
@@ -64,17 +52,17 @@ pub data MayChange (T : Setup) (W : World) (e : Entry) (k : KeyName) : Type 0 wh
   -- it handles a message that brings the key
   by_message : (from : ℕ) (m : Message) → e.event.act ≡ Handle → e.detail ≡ Carried from m
       → brings k m ≡ true → MayChange T W e k
-  -- a call of the key's VPE goes on that is ready to install the key
+  -- a call of the key's VPE that is ready to install the key goes on
   by_resume : owner_of T k ≡ e.event.kernel → e.event.act ≡ Resume k.vpe
       → IsReadyFor k (side W e.event.kernel) → MayChange T W e k
-  -- such a call was there: it is cancelled by a request for the key, or its VPE ends
+  -- there was such a call: a request for the key cancels it, or its VPE ends
   by_end : owner_of T k ≡ e.event.kernel → is_revoking e ≡ true → IsRootOf e k
       → IsReadyFor k (side W e.event.kernel) → MayChange T W e k
   -- it revokes at a kernel that holds the key
   by_revoking : owner_of T k ≡ e.event.kernel → is_revoking e ≡ true
       → IsSome (cap (side W e.event.kernel) k) → MayChange T W e k
 
--- Where a key is that the entry may have moved and does not grant, as the side of its owner tells:
--- held there, or on its way to a call that is ready to install it, or nowhere.
+-- The place of a key that the entry may have moved and does not grant, as the side of its owner
+-- tells it: held there, or on its way to a call that is ready to install it, or nowhere.
 abbrev pub seen_at_home : KeyName → Side → Holder
 seen_at_home k s = option_map_or held_as (cap s k) (unheld (is_ready_with k (parked s k.vpe)))

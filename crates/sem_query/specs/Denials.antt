@@ -1,20 +1,14 @@
 -- Why a call was denied: the entry that settled the code of its reply.
-use Rattle.std.specs.Prelude.{◌≡◌, ℕ, ◌+◌, ◌≤◌, ◌<◌, List, [], ◌∷◌, ◌++◌, take, slice_get, codes, decimal, Option, Some}
+use Rattle.std.specs.Prelude.{◌≡◌, ℕ, ◌+◌, ◌≤◌, ◌<◌, List, [], ◌∷◌, ◌++◌, take, slice_get, codes, decimal, Option}
+use Rattle.std.specs.Prelude.{Some}
 use Rattle.sem_msg.specs.declared.code.Code.{Code}
-use Rattle.sem_msg.specs.declared.code.Code.TheVariants.{Ok as OkCode, NoVpe, Dead, NoCap, Revoking, Refused, Occupied, Numbers, BadKind, Wider, NoService, Gone, Unbound, Rights, Range, SelfExchange}
+use Rattle.sem_machine.specs.Prelude.{OkCode, Dead, Revoking, Calls, Reply, Entry, Parked, Setup, kernel_of, parked}
+use Rattle.sem_machine.specs.Prelude.{side, world_after}
+use Rattle.sem_msg.specs.declared.code.Code.TheVariants.{NoVpe, NoCap, Refused, Occupied, Numbers, BadKind, Wider}
+use Rattle.sem_msg.specs.declared.code.Code.TheVariants.{NoService, Gone, Unbound, Rights, Range, SelfExchange}
 use Rattle.sem_msg.specs.Codes.{code_number}
-use Rattle.sem_msg.specs.declared.event.Act.TheVariants.{Call as Calls}
-use Rattle.sem_msg.specs.declared.entry.Reply.{Reply}
-use Rattle.sem_msg.specs.declared.entry.Entry.{Entry}
-use Rattle.sem_msg.specs.declared.state.Parked.{Parked}
-use Rattle.sem_msg.specs.Setup.{Setup}
-use Rattle.sem_msg.specs.Lookups.{kernel_of}
-use Rattle.sem_machine.specs.Sides.{parked}
-use Rattle.sem_machine.specs.Machine.{side}
-use Rattle.sem_machine.specs.Schedules.{world_after}
 use Rattle.sem_journal.specs.EntryText.{entry_line}
 
--- the name of a code
 abbrev pub code_name : Code → List ℕ
 code_name OkCode = codes "Ok"
 code_name NoVpe = codes "NoVpe"
@@ -55,9 +49,9 @@ state_after T J v n = parked (side (world_after T (take n J)) (kernel_of T v)) v
 abbrev pub IsParkedAlike : Setup → List Entry → ℕ → ℕ → ℕ → Type 0
 IsParkedAlike T J v n i = state_after T J v (i + 1) ≡ state_after T J v n
 
--- Entry i settles how the call of the VPE is answered that entry n answers: entry n itself, where it
--- is the call; else the first entry from the call on after which the call is parked as it is just
--- before entry n.
+-- Entry n answers a call of the VPE; entry i settles the answer. That is entry n itself, if it is
+-- the call. Otherwise it is the first entry from the call on after which the call is parked as it
+-- is just before entry n.
 pub data Settles (T : Setup) (J : List Entry) (v n : ℕ) : ℕ → Type 0 where
   at_once : IsLastCall J v n n → Settles T J v n n
   by_parking : (b i : ℕ) → IsLastCall J v n b → b < n → b ≤ i → IsParkedAlike T J v n i

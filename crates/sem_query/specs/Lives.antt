@@ -1,14 +1,11 @@
--- The life of a key, as a journal tells it: at which entries it was granted, became held, changed its
--- mark, and stopped being live.
-use Rattle.std.specs.Prelude.{ℕ, zero, suc, ◌+◌, nat_lt, Bool, true, false, not, ◌&&◌, ◌||◌, List, [], ◌∷◌, ◌++◌, map, filter, count_by, filter_map, find, fold, Option, Some, None, is_some, if◌then◌else◌}
+-- The life of a key, as a journal tells it: the entries at which it was granted, became held,
+-- changed its mark, and stopped being live.
+use Rattle.std.specs.Prelude.{ℕ, zero, suc, ◌+◌, nat_lt, Bool, true, false, not, ◌&&◌, ◌||◌, List, [], ◌∷◌, ◌++◌, map}
+use Rattle.std.specs.Prelude.{filter, count_by, filter_map, find, fold, Option, Some, None, is_some, if◌then◌else◌}
 use Rattle.std.specs.Option.{option_map, option_map_or}
-use Rattle.sem_key.specs.KeyName.{KeyName, key_eq, key_lt}
+use Rattle.sem_machine.specs.Prelude.{KeyName, key_eq, has_key, Entry, Setup, World, start, after, root_keys, made}
+use Rattle.sem_key.specs.KeyName.{key_lt}
 use Rattle.sem_key.specs.KeyList.{key_set}
-use Rattle.sem_key.specs.Region.{has_key}
-use Rattle.sem_msg.specs.declared.entry.Entry.{Entry}
-use Rattle.sem_msg.specs.Setup.{Setup}
-use Rattle.sem_machine.specs.Machine.{World, start, after}
-use Rattle.sem_machine.specs.Journals.{root_keys, made}
 use Rattle.sem_query.specs.declared.holder.Holder.{Holder}
 use Rattle.sem_query.specs.declared.holder.Holder.TheVariants.{Marked, Unmarked, Way, No}
 use Rattle.sem_query.specs.Whereabouts.{whereabouts}
@@ -16,18 +13,18 @@ use Rattle.sem_query.specs.Changes.{grants_key}
 
 pub record KeyLife : Type 0 where
   pub key : KeyName
-  -- the selector at which it was held, if it was
+  -- the selector that held it, if one did
   pub sel : ℕ
-  -- the entry that granted it; of a root or service there is none
+  -- the entry that granted it; none for a root or service
   pub granted : Option ℕ
-  -- the entry by which it became held; a root or service is held from the start
+  -- the entry that made it held; a root or service is held from the start
   pub held : Option ℕ
-  -- the entries before and after which it is held, and that change whether it is marked
+  -- the entries that change its mark; it is held before and after them
   pub marked : List ℕ
-  -- the entry by which it stopped being live
+  -- the entry that made it no longer live
   pub gone : Option ℕ
 
--- What is read off an answer.
+-- What an answer tells.
 
 abbrev pub is_live : Holder → Bool
 is_live (Marked sel) = true
@@ -41,7 +38,7 @@ is_held (Unmarked sel) = true
 is_held Way = false
 is_held No = false
 
--- the selector at which the key is held, or else this one
+-- the selector that holds the key, or this one if none does
 abbrev pub selector_or : ℕ → Holder → ℕ
 selector_or other (Marked sel) = sel
 selector_or other (Unmarked sel) = sel
@@ -72,7 +69,7 @@ noted n before later l = record l {
 
 -- The life along a journal.
 
--- a key that entry n grants, before it is told where it is
+-- a key that entry n grants, before its place is told
 abbrev pub life_granted : KeyName → ℕ → KeyLife
 life_granted k n =
     record { key = k; sel = 0; granted = Some n; held = None; marked = []; gone = None }
@@ -96,7 +93,7 @@ first_life T k =
 abbrev pub begun : KeyName → ℕ → Entry → Option KeyLife → Option KeyLife
 begun k n e o = if grants_key k e then Some (life_granted k n) else o
 
--- how far a journal was gone through: the world, how many entries, and the life so far
+-- how far a journal was followed: the world, how many entries, and the life so far
 pub record Watched : Type 0 where
   pub world : World
   pub entries : ℕ
@@ -130,7 +127,7 @@ lives T J = filter_map (λ k. life T J k) (key_set (made T J))
 abbrev pub is_below : ℕ → Option ℕ → Bool
 is_below n o = option_map_or (λ m. nat_lt m n) o false
 
--- whether the key is not granted by n, where it was granted at all
+-- whether the key, if it was ever granted, is not yet granted by n
 abbrev pub is_ungranted : ℕ → Option ℕ → Bool
 is_ungranted n o = option_map_or (λ m. not (nat_lt m n)) o false
 
@@ -138,7 +135,7 @@ abbrev pub is_odd : ℕ → Bool
 is_odd zero = false
 is_odd (suc n) = not (is_odd n)
 
--- where a held key stands
+-- where a held key is
 abbrev pub held_at : Bool → ℕ → Holder
 held_at marked sel = if marked then Marked sel else Unmarked sel
 
@@ -161,7 +158,7 @@ told_of ls k n = option_map_or (told n) (find (λ l. key_eq l.key k) ls) No
 abbrev pub with_life : List KeyLife → KeyLife → List KeyLife
 with_life ls l = filter (λ x. key_lt x.key l.key) ls ++ l ∷ filter (λ x. key_lt l.key x.key) ls
 
--- the lives when entry n has granted what it grants
+-- the lives once entry n has granted its key, if it grants one
 abbrev pub with_granted : ℕ → Entry → List KeyLife → List KeyLife
 with_granted n e ls = option_map_or (λ g. with_life ls (life_granted g.1 n)) e.grant ls
 

@@ -1,10 +1,10 @@
 -- Lives in rising key order, and where the life of a key stands among them.
 use Rattle.std.specs.Prelude.{◌≡◌, ℕ, ◌<◌, ◌≤◌, List, length, All, AllPairs, slice_index_or}
 use Rattle.std.specs.List.{AllWithin}
-use Rattle.sem_key.specs.KeyName.{KeyName, IsValidKey, packed}
+use Rattle.sem_machine.specs.Prelude.{KeyName, IsValidKey, packed}
 use Rattle.sem_query.specs.Lives.{KeyLife}
 
--- each key comes before all that stand after it, so each has one life
+-- each key comes before all that follow it, so each has one life
 pub record AreLives (ls : List KeyLife) : Type 0 where
   pub rising : AllPairs (λ a b. packed a.key < packed b.key) ls
   pub valid : All (λ l. IsValidKey l.key) ls

@@ -1,21 +1,15 @@
--- A key that is followed along a journal, from entry to entry.
+-- A key followed along a journal, from entry to entry.
 use Rattle.std.specs.Prelude.{◌≡◌, ℕ, ◌==◌, Bool, false, ◌&&◌, ◌||◌, List, take, Option, is_some}
 use Rattle.std.specs.Option.{option_map_or}
-use Rattle.sem_key.specs.KeyName.{KeyName, key_eq}
-use Rattle.sem_msg.specs.declared.entry.Entry.{Entry}
-use Rattle.sem_msg.specs.Setup.{Setup}
-use Rattle.sem_msg.specs.Lookups.{owner_of}
-use Rattle.sem_msg.specs.ParkedStates.{is_ready_with}
-use Rattle.sem_machine.specs.Sides.{Side, cap, parked}
-use Rattle.sem_machine.specs.Machine.{World, side}
-use Rattle.sem_machine.specs.Schedules.{world_after}
+use Rattle.sem_machine.specs.Prelude.{KeyName, key_eq, Entry, Setup, owner_of, is_ready_with, Side, cap, parked}
+use Rattle.sem_machine.specs.Prelude.{World, side, world_after}
 use Rattle.sem_grants.specs.Ending.{ended_by}
 use Rattle.sem_query.specs.declared.sighting.Sighting.{Sighting}
 use Rattle.sem_query.specs.Whereabouts.{whereabouts_after}
 use Rattle.sem_query.specs.Changes.{is_revoking}
 use Rattle.sem_query.specs.Building.{brought_by, requested, resumed}
 
--- what is followed tells where the key is after the first `count` of the entries so far
+-- the sighting tells where the key is after the first `count` of the entries so far
 abbrev pub IsSeen : Setup → List Entry → Sighting → Type 0
 IsSeen T J s = s.there ≡ whereabouts_after T (take s.count J) s.key
 
@@ -40,13 +34,13 @@ moves_at_home k s e =
     || (is_revoking e
     && ((is_root k e && is_ready_with k (parked s k.vpe)) || is_some (cap s k)))
 
--- whether the entry may move the key, but by granting it, in the world before it
+-- whether the entry may move the key, in the world before it and other than by granting it
 abbrev pub may_move : Setup → World → Entry → KeyName → Bool
 may_move T W e k =
     is_key k (brought_by e.event.act e.detail)
     || ((owner_of T k == e.event.kernel) && moves_at_home k (side W e.event.kernel) e)
 
--- it tells so too whether the entry that comes next may move the key
+-- the sighting also tells whether the next entry may move the key
 pub record IsReadied (T : Setup) (J : List Entry) (e : Entry) (s : Sighting) : Type 0 where
   pub seen : IsSeen T J s
   pub moves : s.is_moving ≡ may_move T (world_after T J) e s.key

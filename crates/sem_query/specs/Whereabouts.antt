@@ -1,19 +1,11 @@
--- Where a key is: held, with its selector and whether a job has marked it, or on its way, or nowhere.
-use Rattle.std.specs.Prelude.{◌≡◌, ℕ, nat_lt, Bool, true, false, ◌||◌, List, length, take, Option, Some, None, if◌then◌else◌}
+-- Where a key is: held, with its selector and whether a job has marked it; on its way; or nowhere.
+use Rattle.std.specs.Prelude.{◌≡◌, ℕ, nat_lt, Bool, true, false, ◌||◌, List, length, take, Option, Some, None}
+use Rattle.std.specs.Prelude.{if◌then◌else◌}
 use Rattle.std.specs.List.{list_any}
 use Rattle.std.specs.Option.{option_map_or}
-use Rattle.sem_key.specs.KeyName.{KeyName, key_eq}
-use Rattle.sem_key.specs.Capability.{Capability}
-use Rattle.sem_msg.specs.declared.message.Message.{Message}
-use Rattle.sem_msg.specs.declared.message.Message.TheVariants.{ObtainOk, Ack}
-use Rattle.sem_msg.specs.declared.entry.Entry.{Entry}
-use Rattle.sem_msg.specs.Setup.{Setup}
-use Rattle.sem_msg.specs.Lookups.{owner_of}
-use Rattle.sem_msg.specs.ParkedStates.{is_ready_with}
-use Rattle.sem_machine.specs.Sides.{Side, cap}
-use Rattle.sem_machine.specs.Machine.{World, side}
-use Rattle.sem_machine.specs.Schedules.{world_after}
-use Rattle.sem_machine.specs.Living.{HoldsCap, IsLive, IsOnItsWay}
+use Rattle.sem_machine.specs.Prelude.{KeyName, key_eq, Capability, Message, ObtainOk, Ack, Entry, Setup, owner_of}
+use Rattle.sem_machine.specs.Prelude.{is_ready_with, Side, cap, World, side, world_after, HoldsCap, IsLive}
+use Rattle.sem_machine.specs.Living.{IsOnItsWay}
 use Rattle.sem_query.specs.declared.holder.Holder.{Holder}
 use Rattle.sem_query.specs.declared.holder.Holder.TheVariants.{Marked, Unmarked, Way, No}
 
@@ -30,19 +22,19 @@ pub data IsThere (W : World) (k : KeyName) : Holder → Type 0 where
 
 -- The answer as a function.
 
--- whether the message is one by which the key will be held
+-- whether the key will be held by this message
 abbrev pub brings : KeyName → Message → Bool
 brings k (ObtainOk parent key object) = key_eq key k
 brings k (Ack key true) = key_eq key k
 brings k m = false
 
--- whether a call of the side is ready to install the key, or a message that brings it is there
+-- whether a call of the side is ready to install the key, or a message there brings it
 abbrev pub is_coming_to : KeyName → Side → Bool
 is_coming_to k s =
     list_any (is_ready_with k) s.parks
     || (option_map_or (λ m. brings k m.1) s.inbox false || list_any (list_any (brings k)) s.outs)
 
--- whether the key is to be held by something that is in the world
+-- whether something in the world will make the key held
 abbrev pub is_coming : KeyName → World → Bool
 is_coming k W =
     list_any (is_coming_to k) W.sides || list_any (list_any (list_any (brings k))) W.links
@@ -59,7 +51,7 @@ held_as c = held_with c.mark c.selector
 abbrev pub unheld : Bool → Holder
 unheld coming = if coming then Way else No
 
--- where the key is: a key is held by its owner alone
+-- where the key is; only its owner holds a key
 abbrev pub whereabouts : Setup → World → KeyName → Holder
 whereabouts T W k =
     option_map_or held_as (cap (side W (owner_of T k)) k) (unheld (is_coming k W))
@@ -68,11 +60,12 @@ whereabouts T W k =
 abbrev pub whereabouts_after : Setup → List Entry → KeyName → Holder
 whereabouts_after T J k = whereabouts T (world_after T J) k
 
--- where the key is after the first n entries; nowhere, if there are fewer
+-- where the key is after the first n entries; nowhere if there are fewer
 abbrev pub holder : Setup → List Entry → KeyName → ℕ → Holder
 holder T J k n = if nat_lt (length J) n then No else whereabouts_after T (take n J) k
 
--- What an entry may do to a key: by whether it grants the key, and where the key is before and after.
+-- What an entry may do to a key, by whether it grants the key, and where the key is before and
+-- after.
 pub data Passes : Bool → Holder → Holder → Type 0 where
   -- it is granted, and was nowhere
   born_on_its_way : Passes true No Way

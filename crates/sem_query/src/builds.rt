@@ -1,5 +1,6 @@
-// The lives of all keys that a schedule made.
-ghost use Rattle.std.specs.Prelude.{◌≡◌, ◌+◌, ◌<◌, ◌^◌, ◌++◌, true, [], map, flat_map, All, IfOk, OnOk};
+// The lives of all keys made by a schedule.
+ghost use Rattle.std.specs.Prelude.{◌≡◌, ◌+◌, ◌<◌, ◌^◌, ◌++◌, true, [], map, flat_map, All, IfOk};
+ghost use Rattle.std.specs.Prelude.{OnOk};
 ghost use Rattle.sem_key.specs.KeyName.{IsValidKey};
 ghost use Rattle.sem_key.specs.KeyList.{key_set};
 ghost use Rattle.sem_msg.specs.Setup.{IsSetup};
@@ -7,7 +8,8 @@ ghost use Rattle.sem_machine.specs.Machine.{is_enabled, start};
 ghost use Rattle.sem_machine.specs.Journals.{made};
 ghost use Rattle.sem_machine.specs.Schedules.{IsSchedule};
 ghost use Rattle.sem_query.specs.Lives.{lives};
-ghost use Rattle.sem_query.specs.Building.{life_so_far, all_noted, grant_noted, stepped_value, IsNext, IsFollowed};
+ghost use Rattle.sem_query.specs.Building.{life_so_far, all_noted, grant_noted, stepped_value};
+ghost use Rattle.sem_query.specs.Building.{IsNext, IsFollowed};
 ghost use Rattle.sem_query.specs.MarkedKeys.{marking, AreMarked};
 
 use crate::index::Index;
@@ -22,12 +24,12 @@ use sem_msg::{Entry, Journal, Setup};
 use std::alloc::Global;
 
 impl Index {
-    /// The lives of all keys that the schedule made. It goes through the events once.
+    /// The lives of all keys that the schedule made, by one pass through its events.
     pub fn build(alloc: Global, setup: &Setup, journal: &Journal) -> Result<Index, OutOfMemory>
         requires { IsSchedule setup.now journal.now.entries }
         ensures { IfOk result (λ index. index ≡ lives setup.now journal.now.entries) }
     {
-        // So that the proof knows what a setup keeps.
+        // Shows the proof what a setup keeps.
         let _ = &setup.vpes;
         let mut world = World::boot(alloc, setup)?;
         let mut index = begin(alloc, setup, journal, &world)?;
@@ -47,7 +49,8 @@ fn follow_all(
     requires setup { IsSetup setup.now }
     requires schedule { IsSchedule setup.now entries.now }
     requires start { world.old ≡ record { setup = setup.now; world = start setup.now } }
-    requires index { index.old ≡ map (life_so_far setup.now []) (key_set (made setup.now entries.now)) }
+    requires index { index.old
+        ≡ map (life_so_far setup.now []) (key_set (made setup.now entries.now)) }
     ensures { OnOk result (index.new ≡ lives setup.now entries.now) }
 {
     let mut marked = Vec::new(alloc);
@@ -80,7 +83,7 @@ fn begin(
     Ok(Index::new(lives))
 }
 
-// The life of the key at the start, also if it is to be granted yet.
+// The life of the key at the start, also if it is yet to be granted.
 fn first_life(alloc: Global, setup: &Setup, world: &World, key: Key) -> Life
     requires setup { IsSetup setup.now }
     requires start { world.now.world ≡ start setup.now }
@@ -89,7 +92,7 @@ fn first_life(alloc: Global, setup: &Setup, world: &World, key: Key) -> Life
     Life::new(alloc, key, held_selector(setup, world, key))
 }
 
-// Sorts the keys, which then stand each once.
+// Sorts the keys, and keeps each once.
 fn sort_keys(keys: &mut Vec<Key>)
     requires { All IsValidKey keys.old.items }
     ensures { keys.new.items ≡ key_set keys.old.items }
@@ -98,8 +101,8 @@ fn sort_keys(keys: &mut Vec<Key>)
     keys.dedup_by(|one, other| pack(*one) == pack(*other));
 }
 
-// The event of the entry happens, and the entry, number `n`, is noted. `marked` are the keys that
-// are held marked, with their jobs.
+// Lets the event of the entry happen, and notes the entry, number `n`. `marked` holds the held
+// marked keys, with their jobs.
 fn follow(
     alloc: Global,
     index: &mut Index,
@@ -128,7 +131,7 @@ fn follow(
     note_grant(alloc, index, setup, world, n, entry)
 }
 
-// Notes where the keys are after entry `n`, and appends those that are held marked then.
+// Notes where the keys are after entry `n`, and appends those that are then held marked.
 fn note_moved(
     index: &mut Index,
     marked: &mut Vec<(Key, u32)>,

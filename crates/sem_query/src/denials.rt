@@ -2,7 +2,8 @@ ghost use Rattle.std.specs.Prelude.{◌≡◌, ℕ, List, ◌++◌, ◌<◌, ◌
 ghost use Rattle.sem_msg.specs.declared.entry.Reply.{Reply as ReplyTo};
 ghost use Rattle.sem_msg.specs.Codes.{code_number};
 ghost use Rattle.sem_machine.specs.Schedules.{IsSchedule};
-ghost use Rattle.sem_query.specs.Denials.{code_name as code_name_lem, Denies, denied_line, IsDenied};
+ghost use Rattle.sem_query.specs.Denials.{code_name as code_name_lem, Denies, denied_line};
+ghost use Rattle.sem_query.specs.Denials.{IsDenied};
 
 use crate::settling::settling_entry;
 use sem_journal::push_entry;
@@ -12,8 +13,8 @@ use sem_text::push_number;
 use std::alloc::Global;
 
 /// Appends the line that tells why entry `n` denies a call: the code of its reply, and the entry
-/// that settled it. The line is `none` where the entry denies none. After lack of memory `out` is
-/// as before.
+/// that settled it. If the entry denies none, the line is `none`. If memory is refused, `out` is as
+/// before.
 pub fn denied(
     alloc: Global,
     setup: &Setup,
@@ -31,7 +32,7 @@ pub fn denied(
     out.extend_from_slice(&line)
 }
 
-// Appends the line that tells why entry `n` denies a call. After lack of memory it may have
+// Appends the line that tells why entry `n` denies a call. If memory is refused, it may have
 // appended a part.
 fn push_answer(
     alloc: Global,
@@ -44,7 +45,7 @@ fn push_answer(
     ensures { OnOk result ((t : List ℕ) × IsDenied setup.now journal.now.entries n t
         × (out.new.items ≡ out.old.items ++ t)) }
 {
-    // So that the proof knows what a setup keeps.
+    // Shows the proof what a setup keeps.
     let _ = &setup.vpes;
     let Some(reply) = denial_at(journal, n) else {
         return out.extend_from_slice(b"none\n");
@@ -65,7 +66,7 @@ fn denial_at(journal: &Journal, n: usize) -> Option<Reply>
     }
 }
 
-// The reply, if it is one with a code that is not 0.
+// The reply, if its code is not 0.
 fn denial_of(reply: Option<Reply>) -> Option<Reply>
     ensures { MatchOption result ((r : ReplyTo) → reply ≡ Some r → r.code ≡ 0)
         (λ r. (reply ≡ Some r) × (0 < r.code)) }
@@ -73,8 +74,8 @@ fn denial_of(reply: Option<Reply>) -> Option<Reply>
     reply.filter(|reply| reply.code > 0)
 }
 
-// Appends the line of a denial with that code, which the entry of that number settled. After lack
-// of memory it may have appended a part.
+// Appends the line of a denial with that code, settled by the entry of that number. If memory is
+// refused, it may have appended a part.
 fn push_denial(out: &mut Vec<u8>, code: Code, place: u64, entry: &Entry) -> Result<(), OutOfMemory>
     ensures { OnOk result (out.new.items ≡ out.old.items ++ denied_line code place entry.now) }
 {
@@ -88,7 +89,6 @@ fn push_denial(out: &mut Vec<u8>, code: Code, place: u64, entry: &Entry) -> Resu
     push_entry(out, entry)
 }
 
-// The code of that number.
 fn code_of(number: u8) -> Code
     requires { number ≤ 15 }
     ensures { code_number result ≡ number }
@@ -113,7 +113,6 @@ fn code_of(number: u8) -> Code
     }
 }
 
-// The name of the code.
 fn code_name(code: Code) -> &'static [u8]
     ensures { result.now ≡ code_name_lem code }
 {

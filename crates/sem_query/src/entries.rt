@@ -1,12 +1,14 @@
 // What an entry tells of the keys that it moves.
 ghost use Rattle.std.specs.Prelude.{◌≡◌, option_copied};
 ghost use Rattle.sem_query.specs.Changes.{is_revoking as is_revoking_lem};
-ghost use Rattle.sem_query.specs.Building.{handled as handled_lem, brought_in as brought_in_lem, brought_by, resumed as resumed_lem, requested as requested_lem, returned as returned_lem};
+ghost use Rattle.sem_query.specs.Building.{handled as handled_lem, brought_in as brought_in_lem};
+ghost use Rattle.sem_query.specs.Building.{brought_by, resumed as resumed_lem};
+ghost use Rattle.sem_query.specs.Building.{requested as requested_lem, returned as returned_lem};
 
 use sem_key::Key;
 use sem_msg::{Act, Call, Detail, Entry, Message};
 
-/// The key that the entry brings by the message that it handles.
+/// The key that the entry brings in the message that it handles.
 pub fn brought_key(entry: &Entry) -> Option<Key>
     ensures { result ≡ brought_by entry.now.event.act entry.now.detail }
 {
@@ -16,7 +18,6 @@ pub fn brought_key(entry: &Entry) -> Option<Key>
     }
 }
 
-// The message that the entry handles.
 fn handled(entry: &Entry) -> Option<&Message>
     ensures { option_copied result ≡ handled_lem entry.now.event.act entry.now.detail }
 {
@@ -76,7 +77,7 @@ pub fn requested(entry: &Entry) -> Option<Key>
     }
 }
 
-/// The job to which a token comes back.
+/// The job that a token comes back to.
 pub fn returned(entry: &Entry) -> Option<u32>
     ensures { result ≡ returned_lem entry.now.event.act entry.now.detail }
 {

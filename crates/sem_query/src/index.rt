@@ -10,7 +10,7 @@ use sem_key::{Key, OutOfMemory, pack};
 use std::alloc::Global;
 use std::marker::Model;
 
-/// The lives of keys, in rising key order.
+/// The lives of keys, in rising key order. Only `build` and `note` take memory.
 #[derive(Debug, Drop)]
 pub struct Index {
     lives: Vec<Life>,
@@ -29,7 +29,7 @@ impl Model for Index {
 }
 
 impl Index {
-    // These lives, which stand in rising key order.
+    // An index of these lives, which are in rising key order.
     pub(crate) fn new(lives: Vec<Life>) -> Index
         requires { AreLives lives.items }
         ensures { result ≡ lives.items }
@@ -44,7 +44,7 @@ impl Index {
         &self.lives
     }
 
-    /// Where the key is after the first `n` entries. Takes no memory.
+    /// Where the key is after the first `n` entries.
     pub fn holder(&self, key: Key, n: u64) -> Holder
         ensures { result ≡ told_of self.now key n }
     {
@@ -54,7 +54,7 @@ impl Index {
         }
     }
 
-    /// The life of the key; none where it has none. Takes no memory.
+    /// The life of the key; none if it has none.
     pub fn life(&self, key: Key) -> Option<&Life>
         ensures { option_copied result ≡ find (λ l. key_eq l.key key) self.now }
     {
@@ -67,7 +67,8 @@ impl Index {
         }
     }
 
-    // The life of the key begins with entry `n`, which grants the key. Where it has none, all stays.
+    // Begins the life of the key with entry `n`, which grants the key. If the key has no life, all
+    // stays.
     pub(crate) fn grant(&mut self, alloc: Global, key: Key, n: u64)
         ensures { self.new ≡ granted_of key n self.old }
     {
@@ -77,8 +78,8 @@ impl Index {
         }
     }
 
-    // Notes where the key is after entry `n`, up to which all is noted. Where it has no life, all
-    // stays.
+    // Notes where the key is after entry `n`; all earlier entries are noted. If the key has no
+    // life, all stays.
     pub(crate) fn note(&mut self, key: Key, n: u64, later: Holder) -> Result<(), OutOfMemory>
         requires { n + 1 < 2 ^ 64 }
         ensures { OnOk result (self.new ≡ noted_of key n later self.old) }
@@ -89,7 +90,7 @@ impl Index {
         }
     }
 
-    // Where the life of the key stands in the list, or where it would go.
+    // The place of the key's life in the list, or the place where it would go.
     fn place(&self, key: Key) -> Result<usize, usize>
         ensures found { IfOk result (IsLifeAt self.now key) }
         ensures absent { IfErr result (IsGapFor self.now key) }

@@ -1,7 +1,8 @@
-//! What the life of a key tells, which keys an entry can move, and that a denial has one text, as
-//! contracts of functions that do nothing.
+//! What the life of a key tells, which keys an entry can move, and that a denial has one text.
+//! These laws are contracts of functions that do nothing.
 
-ghost use Rattle.std.specs.Prelude.{◌≡◌, ℕ, ◌≤◌, true, false, List, [], ◌∷◌, ◌++◌, length, map, take, ◌⊎◌, Contains, Some, None, IsSome};
+ghost use Rattle.std.specs.Prelude.{◌≡◌, ℕ, ◌≤◌, true, false, List, [], ◌∷◌, ◌++◌, length, map};
+ghost use Rattle.std.specs.Prelude.{take, ◌⊎◌, Contains, Some, None, IsSome};
 ghost use Rattle.sem_key.specs.KeyName.{KeyName};
 ghost use Rattle.sem_key.specs.KeyList.{IsRising, key_set};
 ghost use Rattle.sem_key.specs.Capability.{Capability};
@@ -18,10 +19,13 @@ ghost use Rattle.sem_machine.specs.Schedules.{IsSchedule, world_after};
 ghost use Rattle.sem_machine.specs.Journals.{made, root_keys};
 ghost use Rattle.sem_machine.specs.Living.{HoldsCap};
 ghost use Rattle.sem_query.specs.declared.holder.Holder.{Holder};
-ghost use Rattle.sem_query.specs.Whereabouts.{IsThere, Passes, whereabouts, whereabouts_after, holder};
-ghost use Rattle.sem_query.specs.Changes.{is_revoking, grants_key, MayChange, IsRootOf, seen_at_home};
+ghost use Rattle.sem_query.specs.Whereabouts.{IsThere, Passes, whereabouts, whereabouts_after};
+ghost use Rattle.sem_query.specs.Whereabouts.{holder};
+ghost use Rattle.sem_query.specs.Changes.{is_revoking, grants_key, MayChange, IsRootOf};
+ghost use Rattle.sem_query.specs.Changes.{seen_at_home};
 ghost use Rattle.sem_query.specs.Denials.{IsAt, IsCallAt, IsDenied};
-ghost use Rattle.sem_query.specs.Lives.{KeyLife, life_of_root, life, lives, told_of, noted_in, lives_next};
+ghost use Rattle.sem_query.specs.Lives.{KeyLife, life_of_root, life, lives, told_of, noted_in};
+ghost use Rattle.sem_query.specs.Lives.{lives_next};
 
 /// After every schedule of every setup a key is where `whereabouts` says, and nowhere else: held by
 /// its owner, on its way, or nowhere.
@@ -33,18 +37,19 @@ pub fn keys_are_in_one_place()
         → IsThere (world_after T J) k h → h ≡ whereabouts_after T J k }
 {}
 
-/// What an entry of a schedule does to a key: a grant makes it live, and it was never live before;
-/// on its way it comes to be held unmarked, or is lost; held it stays at its selector, or is gone;
-/// and what is gone stays gone.
+/// What an entry of a schedule does to a key. A grant makes it live, and it was never live before.
+/// A key on its way stays so, comes to be held unmarked, or is lost. A held key stays at its
+/// selector, or is gone. A gone key stays gone.
 pub fn keys_live_once()
-    ensures passes { (T : Setup) → IsSetup T → (J before later : List Entry) (e : Entry) (k : KeyName)
+    ensures passes { (T : Setup) → IsSetup T →
+        (J before later : List Entry) (e : Entry) (k : KeyName)
         → IsSchedule T J → J ≡ before ++ e ∷ later
         → Passes (grants_key k e)
         (whereabouts_after T before k) (whereabouts_after T (before ++ e ∷ []) k) }
 {}
 
-/// A capability keeps its selector and its object as long as it is held: what is held of a key at
-/// one time and at a later one has the same of both.
+/// A capability keeps its selector and its object as long as it is held. If a key is held at one
+/// time and at a later one, its selector is the same, and so is its object.
 pub fn held_keys_stay_as_they_are()
     ensures kept { (T : Setup) → IsSetup T → (J later : List Entry) (k : KeyName) (c d : Capability)
         → IsSchedule T (J ++ later) → HoldsCap (world_after T J) (owner_of T k) k c
@@ -52,8 +57,8 @@ pub fn held_keys_stay_as_they_are()
         → (d.selector ≡ c.selector) × (d.object ≡ c.object) }
 {}
 
-/// The lives that a schedule tells are those of the made keys, and tell of each key where it was
-/// after each number of entries.
+/// The lives of a schedule are those of the made keys, and tell of each key where it was after each
+/// number of entries.
 pub fn lives_tell_where_keys_are()
     ensures made { (T : Setup) → IsSetup T → (J : List Entry) → IsSchedule T J → (k : KeyName)
         → Contains (made T J) k → IsSome (life T J k) }
@@ -69,13 +74,14 @@ pub fn lives_tell_where_keys_are()
         → n ≤ length J → IsThere (world_after T (take n J)) k (told_of (lives T J) k n) }
 {}
 
-/// How the lives of all made keys go on with each entry, so that a journal is gone through once. At
-/// first they are those of the roots and services. An entry that grants a key adds a life, and each
-/// life is noted in by where its key is before and after the entry; where the key stays, so does
-/// its life.
+/// How the lives of all made keys grow with each entry, so that one pass through a journal is
+/// enough. At first they are those of the roots and services. An entry that grants a key adds a
+/// life. Each life is noted in by where its key is before and after the entry; if the key stays, so
+/// does its life.
 pub fn lives_go_on()
     ensures first { (T : Setup)
-        → lives T [] ≡ map (λ k. life_of_root k (whereabouts T (start T) k)) (key_set (root_keys T)) }
+        → lives T [] ≡ map (λ k. life_of_root k (whereabouts T (start T) k))
+        (key_set (root_keys T)) }
     ensures next { (T : Setup) → IsSetup T → (before : List Entry) (e : Entry)
         → IsSchedule T (before ++ e ∷ [])
         → lives T (before ++ e ∷ []) ≡ lives_next T (length before)
@@ -86,18 +92,20 @@ pub fn lives_go_on()
         → noted_in T (length before) (world_after T before) W l ≡ l }
 {}
 
-/// Which keys an entry of a schedule may move: the one that it grants, the one that the message
-/// brings which it handles, the one that a call is ready to install which goes on, is cancelled or
-/// ends, and, if it revokes, those that its kernel holds. All others stay where they are.
+/// The keys that an entry of a schedule may move: the one that it grants; the one that its handled
+/// message brings; the one of a ready call that goes on, is cancelled or ends; and, if the entry
+/// revokes, those that its kernel holds. All others stay where they are.
 pub fn entries_move_few_keys()
-    ensures moves { (T : Setup) → IsSetup T → (J before later : List Entry) (e : Entry) (k : KeyName)
+    ensures moves { (T : Setup) → IsSetup T →
+        (J before later : List Entry) (e : Entry) (k : KeyName)
         → IsSchedule T J → J ≡ before ++ e ∷ later
         → (whereabouts_after T before k ≡ whereabouts_after T (before ++ e ∷ []) k)
         ⊎ MayChange T (world_after T before) e k }
 {}
 
-/// Where a key is that an entry of a schedule may have moved and does not grant, the side of its
-/// owner tells: held there, or on its way to a call that is ready to install it, or nowhere.
+/// If an entry of a schedule may have moved a key and does not grant it, the side of the key's
+/// owner tells where it is: held there, or on its way to a call that is ready to install it, or
+/// nowhere.
 pub fn moved_keys_are_seen_at_home()
     ensures seen { (T : Setup) → IsSetup T → (J before later : List Entry) (e : Entry) (k : KeyName)
         → IsSchedule T J → J ≡ before ++ e ∷ later
@@ -106,10 +114,10 @@ pub fn moved_keys_are_seen_at_home()
         ≡ seen_at_home k (side (world_after T (before ++ e ∷ [])) (owner_of T k)) }
 {}
 
-/// An entry that revokes leaves an unmarked key where it is, unless the key is reached from where
-/// the entry begins: from the key of a revoke or a clear, from one that another kernel asks for, or
-/// from a key of a VPE that ends. A key is reached by child links through unmarked capabilities of
-/// the entry's kernel. So a token that comes back moves marked keys alone.
+/// An entry that revokes leaves an unmarked key where it is, unless it reaches the key from where
+/// it begins: from the key of a revoke or a clear, from one that another kernel asks for, or from a
+/// key of a VPE that ends. It reaches keys by child links through unmarked capabilities of its
+/// kernel. So a token that comes back moves only marked keys.
 pub fn entries_revoke_what_is_reached()
     ensures spared { (T : Setup) → IsSetup T → (J before later : List Entry) (e : Entry)
         → (k : KeyName) (c : Capability)
@@ -133,8 +141,8 @@ pub fn marked_keys_wait_for_tokens()
         → whereabouts_after T before k ≡ whereabouts_after T (before ++ e ∷ []) k }
 {}
 
-/// A token that comes back to a job leaves each key that its kernel holds where it is, if the job
-/// marks one of them after it: then the job is not finished.
+/// A job may still mark a key of its kernel after a token came back to it. Then that entry leaves
+/// each key that the kernel holds where it is: the job is not finished.
 pub fn open_jobs_move_no_keys()
     ensures stays { (T : Setup) → IsSetup T → (J before later : List Entry) (e : Entry)
         → (k q : KeyName) (c d : Capability) (from j : ℕ)
@@ -152,13 +160,13 @@ pub fn replies_follow_calls()
         → (b : ℕ) × (b ≤ n) × IsCallAt J r.vpe b }
 {}
 
-/// To the question why an entry of a journal denies a call there is one answer at most.
+/// There is at most one answer to the question why an entry of a journal denies a call.
 pub fn denials_have_one_text()
     ensures one { (T : Setup) (J : List Entry) (n : ℕ) (text other : List ℕ)
         → IsDenied T J n text → IsDenied T J n other → text ≡ other }
 {}
 
-/// To the question why entry n of a schedule denies a call there is an answer: the line of a
+/// There is an answer to the question why entry n of a schedule denies a call: the line of a
 /// denial, or that the entry denies none.
 pub fn denials_are_explained()
     ensures answer { (T : Setup) → IsSetup T → (J : List Entry) → IsSchedule T J → (n : ℕ)

@@ -1,4 +1,4 @@
-//! Questions on a journal: where a key is after its first entries, along which line it was made,
+//! Questions about a journal: where a key is after its first entries, along which line it was made,
 //! and why a call was denied.
 #![tactic(auto)]
 

@@ -1,6 +1,9 @@
 // The life of one key.
-ghost use Rattle.std.specs.Prelude.{◌≡◌, ◌+◌, ◌<◌, ◌^◌, Some, None, nat_lt, count_by, if◌then◌else◌, OnOk};
-ghost use Rattle.sem_query.specs.Lives.{is_below as is_below_lem, is_ungranted as is_ungranted_lem, is_odd as is_odd_lem, held_at as held_at_lem, told as told_lem, life_granted};
+ghost use Rattle.std.specs.Prelude.{◌≡◌, ◌+◌, ◌<◌, ◌^◌, Some, None, nat_lt, count_by};
+ghost use Rattle.std.specs.Prelude.{if◌then◌else◌, OnOk};
+ghost use Rattle.sem_query.specs.Lives.{is_below as is_below_lem, is_ungranted as is_ungranted_lem};
+ghost use Rattle.sem_query.specs.Lives.{is_odd as is_odd_lem, held_at as held_at_lem};
+ghost use Rattle.sem_query.specs.Lives.{told as told_lem, life_granted};
 ghost use Rattle.sem_query.specs.Building.{noted_now, begun_life};
 
 use crate::holder::Holder;
@@ -12,19 +15,19 @@ use std::marker::Model;
 /// Numbers of entries, in rising order.
 pub type Marks = Seq<u64>;
 
-/// The life of a key, as a journal tells it.
+/// The life of a key, as a journal tells it. Only `note` takes memory.
 #[derive(Debug, Drop)]
 pub struct Life {
     pub key: Key,
-    /// The selector at which it was held; 0 where it was never held.
+    /// The selector that held it; 0 if it was never held.
     pub sel: u8,
     /// The entry that granted it; none for a root or service.
     pub granted: Option<u64>,
-    /// The entry by which it became held; none for a root or service, and where it was never held.
+    /// The entry that made it held; none for a root or service, or if it was never held.
     pub held: Option<u64>,
-    /// The entries before and after which it is held, and that change whether it is marked.
+    /// The entries that change its mark; it is held before and after them.
     pub marked: Marks,
-    /// The entry by which it stopped being live.
+    /// The entry that made it no longer live.
     pub gone: Option<u64>,
 }
 
@@ -33,11 +36,18 @@ impl Model for Life {
 
     ghost Value = { KeyLife };
 
-    ghost view = { λ l. record { key = l.key; sel = l.sel; granted = l.granted; held = l.held; marked = l.marked; gone = l.gone } };
+    ghost view = { λ l. record {
+      key = l.key;
+      sel = l.sel;
+      granted = l.granted;
+      held = l.held;
+      marked = l.marked;
+      gone = l.gone;
+    } };
 }
 
 impl Life {
-    // The life of a key that is held from the start at that selector, or that is to be granted yet.
+    // The life of a key that is held from the start at that selector, or that is yet to be granted.
     pub(crate) fn new(alloc: Global, key: Key, sel: Option<u8>) -> Life
         ensures { result ≡ begun_life key sel }
     {
@@ -51,7 +61,7 @@ impl Life {
         }
     }
 
-    // Begins with entry `n`, which grants the key.
+    // Begins the life with entry `n`, which grants the key.
     pub(crate) fn grant(&mut self, alloc: Global, n: u64)
         ensures { self.new ≡ life_granted self.old.key n }
     {
@@ -65,7 +75,7 @@ impl Life {
         };
     }
 
-    // Notes where the key is after entry `n`, up to which all is noted.
+    // Notes where the key is after entry `n`; all earlier entries are noted.
     pub(crate) fn note(&mut self, n: u64, later: Holder) -> Result<(), OutOfMemory>
         requires { n + 1 < 2 ^ 64 }
         ensures ok { OnOk result (self.new ≡ noted_now n later self.old) }
@@ -85,7 +95,7 @@ impl Life {
         Ok(())
     }
 
-    /// Where the key is after the first `n` entries. Takes no memory.
+    /// Where the key is after the first `n` entries.
     pub fn told(&self, n: u64) -> Holder
         ensures { result ≡ told_lem n self.now }
     {
@@ -126,14 +136,13 @@ fn changes_below(marked: &Marks, n: u64) -> usize
     marked.as_slice().iter().filter(|at| **at < n).count()
 }
 
-// Whether the number is odd.
 fn is_odd(number: usize) -> bool
     ensures { result ≡ is_odd_lem number }
 {
     number % 2 == 1
 }
 
-// Where a held key stands.
+// Where a held key is.
 fn held_at(is_marked: bool, sel: u8) -> Holder
     ensures { result ≡ held_at_lem is_marked sel }
 {

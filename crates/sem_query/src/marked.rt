@@ -1,10 +1,13 @@
-// The keys that are held marked and the jobs that have marked them, kept from entry to entry. A
-// token that comes back to a job can move these alone.
-ghost use Rattle.std.specs.Prelude.{◌≡◌, ◌++◌, List, map, filter, not, Contains, Some, IsTrue, IfSome, IfNone, OnOk};
+// The held marked keys and the jobs that have marked them, kept from entry to entry. A token that
+// comes back to a job can move only these.
+ghost use Rattle.std.specs.Prelude.{◌≡◌, ◌++◌, List, map, filter, not, Contains, Some, IsTrue};
+ghost use Rattle.std.specs.Prelude.{IfSome, IfNone, OnOk};
 ghost use Rattle.sem_key.specs.KeyName.{KeyName};
 ghost use Rattle.sem_msg.specs.Lookups.{owner_of};
 ghost use Rattle.sem_machine.specs.Machine.{side};
-ghost use Rattle.sem_query.specs.MarkedKeys.{mark_at, is_marked_by as is_marked_by_lem, AreMarked, marking, above_in, IsSeen, IsBounded, is_swept as is_swept_lem, AreParted};
+ghost use Rattle.sem_query.specs.MarkedKeys.{mark_at, is_marked_by as is_marked_by_lem, AreMarked};
+ghost use Rattle.sem_query.specs.MarkedKeys.{marking, above_in, IsSeen, IsBounded};
+ghost use Rattle.sem_query.specs.MarkedKeys.{is_swept as is_swept_lem, AreParted};
 
 use crate::entries::returned;
 use crate::sights::kernel_at;
@@ -13,7 +16,7 @@ use sem_key::{Key, OutOfMemory};
 use sem_msg::{Entry, Setup};
 use std::alloc::Global;
 
-/// A token that comes back to a job, as it is seen before the entry that handles it.
+/// A token that comes back to a job, as seen before the entry that handles it.
 #[derive(Clone, Copy, Debug)]
 pub struct Token {
     pub job: u32,
@@ -39,7 +42,7 @@ pub fn push_marked(
     Ok(())
 }
 
-// The job that has marked the key, if its owner holds it so.
+// The job that has marked the key, if its owner holds it marked.
 fn mark_of(setup: &Setup, world: &World, key: Key) -> Option<u32>
     ensures { result ≡ mark_at setup.now world.now.world key }
 {
@@ -60,8 +63,8 @@ fn is_marked_by(setup: &Setup, world: &World, key: Key, job: u32) -> bool
     }
 }
 
-/// The token that the entry handles, if one comes back to a job that marks a key. The world is the
-/// one before the entry.
+/// The token that the entry handles, if one comes back to a job that marks a key. The world must be
+/// the one before the entry.
 pub fn token_of(marked: &[(Key, u32)], setup: &Setup, world: &World, entry: &Entry) -> Option<Token>
     requires { AreMarked setup.now world.now.world marked.now }
     ensures { IsSeen setup.now world.now.world entry.now result }
@@ -94,7 +97,7 @@ fn first_marked(marked: &[(Key, u32)], setup: &Setup, number: u32, job: u32) -> 
     None
 }
 
-// The parent of the key with the job that has marked it, if the key's owner holds it so.
+// The parent of the key with the job that has marked it, if the key's owner holds it marked.
 fn above(setup: &Setup, world: &World, key: Key) -> Option<(Key, u32)>
     ensures { result ≡ above_in (side world.now.world (owner_of setup.now key)) key }
 {
@@ -104,8 +107,8 @@ fn above(setup: &Setup, world: &World, key: Key) -> Option<(Key, u32)>
     Some((parent, job))
 }
 
-/// Where a token came back, the marked keys that it may have taken away are appended to `moved`. The
-/// others stay marked. The world is the one after the entry.
+/// If a token came back, appends the marked keys that it may have taken away to `moved`. The others
+/// stay marked. The world must be the one after the entry.
 pub fn push_swept(
     alloc: Global,
     marked: &mut Vec<(Key, u32)>,
@@ -134,8 +137,7 @@ pub fn push_swept(
     Ok(())
 }
 
-// Whether the job that has marked the parent marks it still. Then no job is finished but that of the
-// token.
+// Whether the job that marked the parent still marks it. Then only the token's job finishes.
 fn is_bounded(setup: &Setup, world: &World, token: &Token) -> bool
     ensures { IsTrue result → IsBounded setup.now world.now.world token.now }
 {
@@ -145,8 +147,8 @@ fn is_bounded(setup: &Setup, world: &World, token: &Token) -> bool
     }
 }
 
-// Appends to `moved` the swept keys of the kernel of that number: those of one job, if one is
-// given, else those that are not marked as before. The others stay.
+// Appends the swept keys of the kernel of that number to `moved`: those of one job, if one is
+// given, otherwise those whose mark changed. The others stay.
 fn part(
     alloc: Global,
     marked: &mut Vec<(Key, u32)>,
@@ -173,7 +175,7 @@ fn part(
     Ok(())
 }
 
-// Whether the key is one of the kernel of that number that is swept.
+// Whether the key belongs to the kernel of that number and is swept.
 fn is_swept(
     setup: &Setup,
     world: &World,

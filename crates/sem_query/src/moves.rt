@@ -2,7 +2,8 @@
 ghost use Rattle.std.specs.Prelude.{◌≡◌, ◌++◌, List, OnOk, IfOk};
 ghost use Rattle.sem_key.specs.KeyName.{KeyName};
 ghost use Rattle.sem_machine.specs.Machine.{side};
-ghost use Rattle.sem_query.specs.Building.{ready_key as ready_key_lem, ready_among, ready_by, revoked_by, moved_at, moved_by};
+ghost use Rattle.sem_query.specs.Building.{ready_key as ready_key_lem, ready_among, ready_by};
+ghost use Rattle.sem_query.specs.Building.{revoked_by, moved_at, moved_by};
 ghost use Rattle.sem_query.specs.Reaching.{AreRevoked};
 
 use crate::entries::{brought_key, is_revoking, requested, resumed};
@@ -14,8 +15,8 @@ use sem_key::{Key, OutOfMemory, VPES};
 use sem_msg::{Entry, Parked, Setup};
 use std::alloc::Global;
 
-/// The keys that the entry may move, but for the one that it grants and for marked ones, in the
-/// world before it.
+/// The keys that the entry may move in the world before it, except the one that it grants and the
+/// marked ones.
 pub fn moved_keys(
     alloc: Global,
     setup: &Setup,

@@ -12,8 +12,8 @@ use sem_msg::{Entry, Journal, Setup};
 use sem_trace::{push_key_word, push_word};
 use std::alloc::Global;
 
-/// Appends the path of the key: a line for each key from it up to its root, which says whether the
-/// key was cut. The line `none` where the key was never made. After want of memory `out` is as
+/// Appends the path of the key: a line for each key from it up to its root, which says whether that
+/// key was cut. If the key was never made, the line is `none`. If memory is refused, `out` is as
 /// before.
 pub fn path(
     alloc: Global,
@@ -32,7 +32,7 @@ pub fn path(
     out.extend_from_slice(&lines)
 }
 
-// Appends the path of the key. After want of memory it may have appended a part.
+// Appends the path of the key. If memory is refused, it may have appended a part.
 fn push_path(
     alloc: Global,
     out: &mut Vec<u8>,

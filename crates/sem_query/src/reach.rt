@@ -1,11 +1,14 @@
 // The keys that a revoking entry reaches: from where it begins, by child links through unmarked
 // capabilities of its kernel.
-ghost use Rattle.std.specs.Prelude.{◌≡◌, ◌==◌, ◌||◌, [], ◌∷◌, ◌++◌, map, filter, slice_get, OnOk, IfOk};
+ghost use Rattle.std.specs.Prelude.{◌≡◌, ◌==◌, ◌||◌, [], ◌∷◌, ◌++◌, map, filter, slice_get, OnOk};
+ghost use Rattle.std.specs.Prelude.{IfOk};
 ghost use Rattle.std.specs.Option.{option_to_list};
 ghost use Rattle.sem_key.specs.KeyName.{IsValidKey, key_eq};
 ghost use Rattle.sem_key.specs.Region.{has_key};
 ghost use Rattle.sem_mark.specs.Walks.{is_open as is_open_lem, children_at};
-ghost use Rattle.sem_query.specs.Reaching.{AreReached, AreRevoked, held_of, roots_of as roots_of_lem, Lists, has_word as has_word_lem, HasWords};
+ghost use Rattle.sem_query.specs.Reaching.{AreReached, AreRevoked, held_of};
+ghost use Rattle.sem_query.specs.Reaching.{roots_of as roots_of_lem, Lists};
+ghost use Rattle.sem_query.specs.Reaching.{has_word as has_word_lem, HasWords};
 
 use crate::entries::requested;
 use sem_grants::ended_by;
@@ -23,7 +26,7 @@ pub fn reached_keys(alloc: Global, kernel: &Kernel, entry: &Entry) -> Result<Vec
     walk(alloc, kernel, &roots)
 }
 
-// Where the entry begins to revoke, as far as the kernel holds it.
+// Where the entry begins to revoke, as far as the kernel holds those keys.
 fn roots_of(alloc: Global, kernel: &Kernel, entry: &Entry) -> Result<Vec<Key>, OutOfMemory>
     ensures { IfOk result (λ keys. keys.items ≡ roots_of_lem kernel.now.side.caps entry.now) }
 {
@@ -138,7 +141,7 @@ fn list_words(
     Ok(())
 }
 
-// Lists the key, if the kernel holds it unmarked and it is not listed yet.
+// Lists the key, if the kernel holds it unmarked and it is not yet listed.
 fn list(
     keys: &mut Vec<Key>,
     words: &mut HashSet<u64>,
@@ -167,7 +170,6 @@ fn is_open(kernel: &Kernel, key: Key) -> bool
     }
 }
 
-// Whether the word of the key is there.
 fn has_word(words: &HashSet<u64>, key: Key) -> bool
     ensures word { result ≡ has_word_lem words.now key }
     ensures valid { IsValidKey key }
@@ -175,7 +177,6 @@ fn has_word(words: &HashSet<u64>, key: Key) -> bool
     words.contains(&pack(key))
 }
 
-// Adds the word of the key.
 fn add_word(words: &mut HashSet<u64>, key: Key) -> Result<(), OutOfMemory>
     ensures { OnOk result (HasWords words.new
         (λ k. has_word_lem words.old k || key_eq k key)) }

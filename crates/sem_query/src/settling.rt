@@ -1,4 +1,4 @@
-// Which entry settled how a call of a VPE is answered.
+// Which entry settled the answer to a call of a VPE.
 ghost use Rattle.std.specs.Prelude.{◌≡◌, ◌↔◌, ℕ, ◌≤◌, ◌<◌, length, IsTrue, IfOk};
 ghost use Rattle.sem_machine.specs.Sides.{parked};
 ghost use Rattle.sem_machine.specs.Machine.{side};
@@ -13,10 +13,10 @@ use sem_key::{OutOfMemory, VPES};
 use sem_msg::{Act, Entry, Journal, Parked, Setup};
 use std::alloc::Global;
 
-/// The entry that settled how the call of the VPE is answered that entry `n` answers. Where that is
-/// not the call itself, it goes through the events before entry `n` once more.
+/// Entry `n` answers a call of the VPE; returns the entry that settled the answer. If that is not
+/// the call itself, this goes through the events before entry `n` once more.
 ///
-/// The VPE made a call at or before entry `n`.
+/// The VPE must have made a call at or before entry `n`.
 pub fn settling_entry(
     alloc: Global,
     setup: &Setup,
@@ -30,7 +30,7 @@ pub fn settling_entry(
     ensures settles { IfOk result (λ i. Settles setup.now journal.now.entries vpe n i) }
     ensures by_then { IfOk result (λ i. i ≤ n) }
 {
-    // So that the proof knows what a setup keeps.
+    // Shows the proof what a setup keeps.
     let _ = &setup.vpes;
     let call = last_call(journal, vpe, n);
     if call == n {
@@ -63,8 +63,8 @@ fn is_call_at(journal: &Journal, vpe: u16, place: usize) -> bool
     }
 }
 
-// The states in which the call of the VPE is parked after each of the entries from one on. It goes
-// through the events once more.
+// The states of the VPE's parked call after each of the entries from one on. It goes through the
+// events once more.
 fn states_since(
     alloc: Global,
     setup: &Setup,
@@ -89,7 +89,7 @@ fn states_since(
     Ok(states)
 }
 
-// The first place of the state among these; where it is not among them, how many there are.
+// The first place of the state among these, or the number of states if it is not among them.
 fn first_place(states: &[Option<Parked>], state: &Option<Parked>) -> usize
     ensures { IsFirstPlace states.now state.now result }
 {

@@ -1,4 +1,4 @@
-// A key that is followed along a journal.
+// A key followed along a journal.
 ghost use Rattle.std.specs.Prelude.{◌≡◌, ◌++◌, ◌∷◌, [], ℕ, List, length};
 ghost use Rattle.std.specs.Option.{option_map_or};
 ghost use Rattle.sem_msg.specs.declared.entry.Entry.{Entry as EntryData};
@@ -7,7 +7,10 @@ ghost use Rattle.sem_machine.specs.Machine.{side, start};
 ghost use Rattle.sem_machine.specs.Schedules.{IsSchedule, world_after};
 ghost use Rattle.sem_query.specs.Whereabouts.{holder as holder_lem};
 ghost use Rattle.sem_query.specs.Changes.{grants_key};
-ghost use Rattle.sem_query.specs.Sightings.{IsSeen, IsReadied, is_key as is_key_lem, is_vpe as is_vpe_lem, is_root as is_root_lem, moves_at_home as moves_at_home_lem, may_move as may_move_lem};
+ghost use Rattle.sem_query.specs.Sightings.{IsSeen, IsReadied, is_key as is_key_lem};
+ghost use Rattle.sem_query.specs.Sightings.{is_vpe as is_vpe_lem, is_root as is_root_lem};
+ghost use Rattle.sem_query.specs.Sightings.{moves_at_home as moves_at_home_lem};
+ghost use Rattle.sem_query.specs.Sightings.{may_move as may_move_lem};
 
 use crate::entries::{brought_key, is_revoking, requested, resumed};
 use crate::holder::Holder;
@@ -39,7 +42,7 @@ impl Sighting {
         ensures key { self.new.key ≡ self.old.key }
         ensures count { self.new.count ≡ self.old.count }
     {
-        // So that the proof knows what a setup keeps.
+        // Shows the proof what a setup keeps.
         let _ = &setup.vpes;
         self.there = match held_selector(setup, world, self.key) {
             Some(sel) => Holder::Unmarked(sel),
@@ -67,7 +70,7 @@ impl Sighting {
         ensures key { self.new.key ≡ self.old.key }
         ensures count { self.new.count ≡ self.old.count }
     {
-        // So that the proof knows what a setup keeps.
+        // Shows the proof what a setup keeps.
         let _ = &setup.vpes;
         if past.len() as u64 >= self.count {
             return;
@@ -79,8 +82,8 @@ impl Sighting {
         }
     }
 
-    /// Where the key is after `count` entries of a journal that has so many and was followed to its
-    /// end; nowhere, if there are fewer.
+    /// Where the key is after `count` entries of a journal with that many entries, followed to its
+    /// end; nowhere if there are fewer.
     pub fn holder(&self, entries: u64) -> Holder
         ensures { (T : SetupData) (J : List EntryData) → length J ≡ entries → IsSeen T J self.now
             → result ≡ holder_lem T J self.now.key self.now.count }
@@ -93,7 +96,6 @@ impl Sighting {
     }
 }
 
-// Whether the entry grants the key.
 fn is_granted(entry: &Entry, key: Key) -> bool
     ensures { result ≡ grants_key key entry.now }
 {
@@ -103,7 +105,7 @@ fn is_granted(entry: &Entry, key: Key) -> bool
     }
 }
 
-// Whether the entry may move the key, but by granting it, in the world before it.
+// Whether the entry may move the key, in the world before it and other than by granting it.
 fn may_move(setup: &Setup, world: &World, entry: &Entry, key: Key) -> bool
     ensures { result ≡ may_move_lem setup.now world.now.world entry.now key }
 {
@@ -111,7 +113,7 @@ fn may_move(setup: &Setup, world: &World, entry: &Entry, key: Key) -> bool
         || (setup.owner_of(key) == entry.event.kernel && moves_at_home(world, entry, key))
 }
 
-// The same, of a key of the entry's kernel.
+// The same for a key of the entry's kernel.
 fn moves_at_home(world: &World, entry: &Entry, key: Key) -> bool
     ensures { result
         ≡ moves_at_home_lem key (side world.now.world entry.now.event.kernel) entry.now }

@@ -1,4 +1,4 @@
-// What is seen of a world, and how it goes on.
+// What a world shows, and how it goes on.
 ghost use Rattle.std.specs.Prelude.{◌≡◌, ◌<◌, true, is_some, option_copied, OnOk};
 ghost use Rattle.std.specs.Option.{option_map, option_map_or};
 ghost use Rattle.sem_key.specs.Capability.{capability_of};
@@ -15,7 +15,7 @@ use sem_kernel::{Kernel, StepError, World};
 use sem_key::{Cap, Key, OutOfMemory, VPES, same_key};
 use sem_msg::{Event, Parked, Setup};
 
-/// The kernel of that number; none where there is no such kernel.
+/// The kernel of that number; none if there is no such kernel.
 pub fn kernel_at(world: &World, number: u32) -> Option<&Kernel>
     ensures { option_map_or (λ k. k.side) (option_copied result) no_side
         ≡ side world.now.world number }
@@ -38,7 +38,7 @@ pub fn see(setup: &Setup, world: &World, key: Key) -> Holder
     }
 }
 
-/// The selector at which its owner holds the key, if it does.
+/// The selector at which the key's owner holds it, if it does.
 pub fn held_selector(setup: &Setup, world: &World, key: Key) -> Option<u8>
     ensures { result ≡ option_map (λ c. c.selector)
         (cap (side world.now.world (owner_of setup.now key)) key) }
@@ -50,7 +50,7 @@ pub fn held_selector(setup: &Setup, world: &World, key: Key) -> Option<u8>
     }
 }
 
-/// Where the key is that was just granted: held by its owner, or on its way.
+/// Where a just granted key is: held by its owner, or on its way.
 pub fn see_granted(setup: &Setup, world: &World, key: Key) -> Holder
     ensures { result ≡ seen_granted_lem key (side world.now.world (owner_of setup.now key)) }
 {
@@ -73,7 +73,7 @@ pub fn is_ready_with(key: Key, state: &Option<Parked>) -> bool
     }
 }
 
-/// The state in which the call of a VPE of the kernel is parked; none where it has no such call.
+/// The state in which the call of a VPE of the kernel is parked; none if no call of it is parked.
 pub fn parked_state(world: &World, kernel: u32, vpe: u16) -> Option<Parked>
     requires { vpe < VPES }
     ensures { result ≡ parked (side world.now.world kernel) vpe }
@@ -101,7 +101,7 @@ pub fn is_held_at(world: &World, kernel: u32, key: Key) -> bool
     }
 }
 
-// Where a key is that is held so.
+// Where a held key is, by its capability.
 fn held_as(cap: &Cap) -> Holder
     ensures { result ≡ held_as_lem (capability_of cap.now) }
 {

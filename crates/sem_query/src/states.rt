@@ -1,7 +1,7 @@
-// States in which calls are parked, compared.
+// Comparing the states in which calls are parked.
 ghost use Rattle.std.specs.Prelude.{◌≡◌, ◌↔◌, IsTrue};
 
-use sem_key::Object;
+use sem_key::same_object;
 use sem_msg::Parked;
 
 /// Whether the states are equal in all their parts.
@@ -17,7 +17,7 @@ pub fn same_state(one: &Option<Parked>, other: &Option<Parked>) -> bool
     }
 }
 
-// The same, of calls that are parked.
+// The same for parked calls.
 fn same_parked(one: &Parked, other: &Parked) -> bool
     ensures { IsTrue result ↔ (one.now ≡ other.now) }
 {
@@ -61,11 +61,4 @@ fn same_parked(one: &Parked, other: &Parked) -> bool
             _ => false,
         },
     }
-}
-
-// Whether the objects are equal in all their parts.
-fn same_object(one: &Object, other: &Object) -> bool
-    ensures { IsTrue result ↔ (one.now ≡ other.now) }
-{
-    one == other
 }

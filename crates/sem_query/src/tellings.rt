@@ -1,4 +1,4 @@
-// Where a key is, told.
+// Tells where a key is.
 ghost use Rattle.std.specs.Prelude.{◌≡◌, ◌∷◌, ◌++◌, codes, decimal, OnOk, OnErr};
 ghost use Rattle.sem_msg.specs.Setup.{Setup as SetupData};
 ghost use Rattle.sem_text.specs.Lines.{line};
@@ -12,8 +12,9 @@ use sem_msg::Journal;
 use sem_trace::{push_number_word, push_word};
 use std::alloc::Global;
 
-/// Appends the line that tells where the key is, which was followed along the journal, after the
-/// first `count` entries; `none` where there are fewer. After lack of memory `out` is as before.
+/// Appends the line that tells where the key, followed along the journal, is after the first
+/// `count` entries. If there are fewer, the line is `none`. If memory is refused, `out` is as
+/// before.
 pub fn push_whereabouts(
     alloc: Global,
     sighting: &Sighting,
@@ -44,7 +45,7 @@ fn push_holder(out: &mut Vec<u8>, holder: Holder) -> Result<(), OutOfMemory>
     Ok(out.push(b'\n')?)
 }
 
-// Appends the words of a key that is held, without the end of their line.
+// Appends the words of a held key, without the end of their line.
 fn push_held(out: &mut Vec<u8>, sel: u8, mark: &[u8]) -> Result<(), OutOfMemory>
     ensures { OnOk result (out.new.items ≡ out.old.items
         ++ (codes "held" ++ 32 ∷ decimal sel ++ 32 ∷ mark.now)) }

@@ -1,10 +1,7 @@
 -- The lives that some plays tell.
 use Rattle.std.specs.Prelude.{◌≡◌, ℕ, List, [], ◌∷◌, Option, Some, None, true}
-use Rattle.sem_key.specs.declared.key.Kind.TheVariants.{Mem as MemKind}
-use Rattle.sem_key.specs.KeyName.{KeyName}
-use Rattle.sem_msg.specs.declared.event.Act.TheVariants.{Call as Calls, Fetch, Handle, Upcall, Resume, Flush}
-use Rattle.sem_msg.specs.declared.event.Event.{Event}
-use Rattle.sem_machine.specs.Machine.{start, event}
+use Rattle.sem_machine.specs.Prelude.{MemKind, KeyName, Calls, Fetch, Handle, Upcall, Resume, Flush, Event, start}
+use Rattle.sem_machine.specs.Prelude.{event}
 use Rattle.sem_safety.specs.Walks.{all_enabled, journal_of}
 use Rattle.sem_plays.specs.Words.{key}
 use Rattle.sem_plays.specs.TwoRevokesMeet
@@ -15,7 +12,8 @@ abbrev pub lived : KeyName → ℕ → Option ℕ → Option ℕ → List ℕ �
 lived k sel granted held marked gone =
     record { key = k; sel = sel; granted = granted; held = held; marked = marked; gone = gone }
 
--- VPE 1 revokes what it obtained from VPE 0 and delegated to VPE 2, and VPE 0 what it gave.
+-- VPE 1 revokes a key that it obtained from VPE 0 and delegated to VPE 2, and VPE 0 revokes what it
+-- gave.
 abbrev pub two_revokes_meet_lives : Type 0
 two_revokes_meet_lives =
     lives TwoRevokesMeet.trace TwoRevokesMeet.journal
@@ -24,8 +22,8 @@ two_revokes_meet_lives =
     ∷ lived (key 2 2 MemKind 0) 1 (Some 17) (Some 20) [] (Some 28)
     ∷ []
 
--- The same, but VPE 0 alone revokes: by entry 21. Its child is at the other kernel, and is marked
--- there by entry 24.
+-- The same, but only VPE 0 revokes: by entry 21. Its child is at the other kernel, and entry 24
+-- marks it there.
 unfoldable pub one_revoke : List Event
 one_revoke =
     event 1 (Calls 1)
@@ -72,7 +70,7 @@ marked_when_asked_for =
     ∷ lived (key 2 2 MemKind 0) 1 (Some 17) (Some 20) [] (Some 27)
     ∷ []
 
--- A clear takes the mark of its root away again.
+-- A clear removes the mark of its root again.
 abbrev pub clear_takes_back_lives : Type 0
 clear_takes_back_lives =
     lives ClearTakesBack.trace ClearTakesBack.journal

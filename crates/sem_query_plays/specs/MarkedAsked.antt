@@ -1,10 +1,6 @@
 -- Why an obtain from another kernel was denied: its source was being revoked, as the answer says.
 use Rattle.std.specs.Prelude.{None}
-use Rattle.sem_msg.specs.declared.code.Code.TheVariants.{Revoking}
-use Rattle.sem_msg.specs.declared.event.Act.TheVariants.{Handle}
-use Rattle.sem_msg.specs.declared.message.Message.TheVariants.{ObtainNo}
-use Rattle.sem_msg.specs.declared.entry.Detail.TheVariants.{Carried}
-use Rattle.sem_msg.specs.declared.entry.Entry.{Entry}
+use Rattle.sem_machine.specs.Prelude.{Revoking, Handle, ObtainNo, Carried, Entry}
 use Rattle.sem_plays.specs.Words.{place, entry}
 use Rattle.sem_plays.specs.ObtainOfMarked.{trace, journal}
 use Rattle.sem_query.specs.Denials.{IsDenied, denied_line}

@@ -1,12 +1,7 @@
--- Questions on a derive, a revoke of what was derived, and a second revoke, which is refused.
+-- Questions about a derive, a revoke of the derived key, and a second revoke, which is refused.
 use Rattle.std.specs.Prelude.{◌≡◌, [], ◌∷◌, codes, None}
-use Rattle.sem_key.specs.declared.key.Kind.TheVariants.{Mem as MemKind}
-use Rattle.sem_key.specs.KeyName.{KeyName}
+use Rattle.sem_machine.specs.Prelude.{MemKind, KeyName, Revoke, Calls, Called, Entry}
 use Rattle.sem_msg.specs.declared.code.Code.TheVariants.{NoCap}
-use Rattle.sem_msg.specs.declared.call.Call.TheVariants.{Revoke}
-use Rattle.sem_msg.specs.declared.event.Act.TheVariants.{Call as Calls}
-use Rattle.sem_msg.specs.declared.entry.Detail.TheVariants.{Called}
-use Rattle.sem_msg.specs.declared.entry.Entry.{Entry}
 use Rattle.sem_trace.specs.Words.{key_word}
 use Rattle.sem_plays.specs.Words.{key, entry, reply}
 use Rattle.sem_plays.specs.RevokedSelectorIsFree.{trace, journal}
@@ -40,10 +35,10 @@ no_path = path_lines trace journal (key 0 0 MemKind 2) ≡ (codes "none" ∷ [])
 abbrev pub refused_entry : Entry
 refused_entry = entry 0 (Calls 0) (Called 2 (Revoke 1)) None None (reply 0 3)
 
--- what is refused at once settles itself: the answer is `denied 3 NoCap at 3` with that line
+-- a call that is refused at once settles itself: the answer is `denied 3 NoCap at 3` with that line
 abbrev pub refused_at_once : Type 0
 refused_at_once = IsDenied trace journal 3 (denied_line NoCap 3 refused_entry)
 
--- what succeeds is not denied
+-- a call that succeeds is not denied
 abbrev pub not_refused : Type 0
 not_refused = IsDenied trace journal 0 none_line

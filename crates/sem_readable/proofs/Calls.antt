@@ -2,7 +2,8 @@
 use Rattle.std.proofs.Common.{◌≡◌, ℕ, List, [], ◌∷◌, ◌++◌, None, refl, sym, arith, decimal}
 use Rattle.std.specs.Prelude.{codes}
 use Rattle.std.proofs.lemmas.Option.{none-some}
-use Rattle.sem_msg.specs.declared.call.Call.TheVariants.{Derive, Gate, Obtain, Delegate, OpenSession, AskOffer, Revoke, Bind, Read, Write, Send as SendCall, Credit, Exit, Clear}
+use Rattle.sem_msg.specs.declared.call.Call.TheVariants.{Derive, Gate, Obtain, Delegate, OpenSession, AskOffer, Revoke, Bind, Read, Write, Send as SendCall}
+use Rattle.sem_msg.specs.declared.call.Call.TheVariants.{Credit, Exit, Clear}
 use Rattle.sem_msg.specs.Calls.{IsValidCall}
 use Rattle.sem_msg.specs.Versions.{most_vpes}
 use Rattle.sem_trace.specs.declared.fault.Cause.TheVariants.{Missing}
@@ -22,18 +23,34 @@ module _ (version : ℕ) (more : List Place) where
   derive_row ws none =
       number 0 255 (omega arith) (λ ws. byte ∷ word ∷ word ∷ rights ∷ more) (λ ws. BeginsCall (codes "derive" ∷ ws)) ws none (λ src ws src_in none.
       number 0 255 (omega arith) (λ ws. word ∷ word ∷ rights ∷ more) (λ ws. BeginsCall (codes "derive" ∷ decimal src ∷ ws)) ws none (λ dst ws dst_in none.
-      number 0 4294967295 (omega arith) (λ ws. word ∷ rights ∷ more) (λ ws. BeginsCall (codes "derive" ∷ decimal src ∷ decimal dst ∷ ws)) ws none (λ off ws off_in none.
-      number 0 4294967295 (omega arith) (λ ws. rights ∷ more) (λ ws. BeginsCall (codes "derive" ∷ decimal src ∷ decimal dst ∷ decimal off ∷ ws)) ws none (λ len ws len_in none.
-      number 0 7 (omega arith) (λ ws. more) (λ ws. BeginsCall (codes "derive" ∷ decimal src ∷ decimal dst ∷ decimal off ∷ decimal len ∷ ws)) ws none (λ r rest r_in none.
-      record { value = Derive src dst off len r; rest = rest; is = refl; fits = (byte_fits src src_in.1, byte_fits dst dst_in.1, off_in.1, len_in.1, r_in.1); rest_fits = none })))))
+      number 0 4294967295 (omega arith) (λ ws. word ∷ rights ∷ more) (λ ws. BeginsCall (codes "derive" ∷ decimal src ∷ decimal dst ∷ ws)) ws none
+      (λ off ws off_in none.
+      number 0 4294967295 (omega arith) (λ ws. rights ∷ more) (λ ws. BeginsCall (codes "derive" ∷ decimal src ∷ decimal dst ∷ decimal off ∷ ws)) ws none
+      (λ len ws len_in none.
+      number 0 7 (omega arith) (λ ws. more) (λ ws. BeginsCall (codes "derive" ∷ decimal src ∷ decimal dst ∷ decimal off ∷ decimal len ∷ ws)) ws none
+      (λ r rest r_in none.
+      record {
+        value = Derive src dst off len r;
+        rest = rest;
+        is = refl;
+        fits = (byte_fits src src_in.1, byte_fits dst dst_in.1, off_in.1, len_in.1, r_in.1);
+        rest_fits = none;
+      })))))
 
   gate_row : (ws : List (List ℕ)) → CallRow ws (codes "gate") (byte ∷ byte ∷ word ∷ slots ∷ [])
   gate_row ws none =
       number 0 255 (omega arith) (λ ws. byte ∷ word ∷ slots ∷ more) (λ ws. BeginsCall (codes "gate" ∷ ws)) ws none (λ src ws src_in none.
       number 0 255 (omega arith) (λ ws. word ∷ slots ∷ more) (λ ws. BeginsCall (codes "gate" ∷ decimal src ∷ ws)) ws none (λ dst ws dst_in none.
-      number 0 4294967295 (omega arith) (λ ws. slots ∷ more) (λ ws. BeginsCall (codes "gate" ∷ decimal src ∷ decimal dst ∷ ws)) ws none (λ label ws label_in none.
+      number 0 4294967295 (omega arith) (λ ws. slots ∷ more) (λ ws. BeginsCall (codes "gate" ∷ decimal src ∷ decimal dst ∷ ws)) ws none
+      (λ label ws label_in none.
       number 1 64 (omega arith) (λ ws. more) (λ ws. BeginsCall (codes "gate" ∷ decimal src ∷ decimal dst ∷ decimal label ∷ ws)) ws none (λ n rest n_in none.
-      record { value = Gate src dst label n; rest = rest; is = refl; fits = (byte_fits src src_in.1, byte_fits dst dst_in.1, label_in.1, n_in.0, n_in.1); rest_fits = none }))))
+      record {
+        value = Gate src dst label n;
+        rest = rest;
+        is = refl;
+        fits = (byte_fits src src_in.1, byte_fits dst dst_in.1, label_in.1, n_in.0, n_in.1);
+        rest_fits = none;
+      }))))
 
   obtain_row : (ws : List (List ℕ)) → CallRow ws (codes "obtain") (byte ∷ node version ∷ byte ∷ [])
   obtain_row ws none =
@@ -60,7 +77,13 @@ module _ (version : ℕ) (more : List Place) where
       number 0 255 (omega arith) (λ ws. byte ∷ byte ∷ more) (λ ws. BeginsCall (codes "ask" ∷ ws)) ws none (λ dst ws dst_in none.
       number 0 255 (omega arith) (λ ws. byte ∷ more) (λ ws. BeginsCall (codes "ask" ∷ decimal dst ∷ ws)) ws none (λ session ws session_in none.
       number 0 255 (omega arith) (λ ws. more) (λ ws. BeginsCall (codes "ask" ∷ decimal dst ∷ decimal session ∷ ws)) ws none (λ index rest index_in none.
-      record { value = AskOffer dst session index; rest = rest; is = refl; fits = (byte_fits dst dst_in.1, byte_fits session session_in.1, index_in.1); rest_fits = none })))
+      record {
+        value = AskOffer dst session index;
+        rest = rest;
+        is = refl;
+        fits = (byte_fits dst dst_in.1, byte_fits session session_in.1, index_in.1);
+        rest_fits = none;
+      })))
 
   revoke_row : (ws : List (List ℕ)) → CallRow ws (codes "revoke") (byte ∷ [])
   revoke_row ws none =
@@ -110,6 +133,23 @@ module _ (version : ℕ) (more : List Place) where
   unfolding form_fault calls
   a_call [] none = absurd (none-some Missing (sym none))
   a_call (w ∷ ws) none =
-      chosen (calls version) (λ places. places ++ more) BeginsCall w ws
-      (derive_row ws, (gate_row ws, (obtain_row ws, (delegate_row ws, (open_row ws, (ask_row ws, (revoke_row ws, (bind_row ws, (read_row ws, (write_row ws, (send_row ws, (credit_row ws, (exit_row ws, (clear_row ws, tt))))))))))))))
+      chosen (calls version) (λ places. places ++ more) BeginsCall w ws (
+        derive_row ws,
+        (
+          gate_row ws,
+          (
+            obtain_row ws,
+            (
+              delegate_row ws,
+              (
+                open_row ws,
+                (
+                  ask_row ws,
+                  (revoke_row ws, (bind_row ws, (read_row ws, (write_row ws, (send_row ws, (credit_row ws, (exit_row ws, (clear_row ws, tt)))))))),
+                ),
+              ),
+            ),
+          ),
+        ),
+      )
       none

@@ -1,5 +1,6 @@
 -- Words that have the form of an entry are those of one.
-use Rattle.std.proofs.Common.{◌≡◌, ℕ, ◌+◌, ◌≤◌, ◌<◌, false, List, [], ◌∷◌, ◌++◌, length, drop, Option, Some, None, refl, ap, sym, subst, ◌∙◌, arith, decimal, drop-drop}
+use Rattle.std.proofs.Common.{◌≡◌, ℕ, ◌+◌, ◌≤◌, ◌<◌, false, List, [], ◌∷◌, ◌++◌, length, drop, Option, Some, None, refl, ap, sym, subst, ◌∙◌, arith, decimal}
+use Rattle.std.proofs.Common.{drop-drop}
 use Rattle.std.specs.Prelude.{codes}
 use Rattle.sem_key.specs.KeyName.{KeyName}
 use Rattle.sem_key.specs.declared.limits.TheConstants.{KERNELS}
@@ -27,7 +28,8 @@ pub record Spells {X : Type 0} (spelling : X → List (List ℕ)) (Fits : X → 
 
 module _ (version : ℕ) where
   -- a reply, behind its name
-  a_reply : (P : List (List ℕ) → Type 0) (ws : List (List ℕ)) → form_fault (node version ∷ code ∷ []) ws ≡ None → ((r : Reply) → ReplyFits version (Some r) → P (decimal r.vpe ∷ decimal r.code ∷ [])) → P ws
+  a_reply : (P : List (List ℕ) → Type 0) (ws : List (List ℕ)) → form_fault (node version ∷ code ∷ []) ws ≡ None →
+      ((r : Reply) → ReplyFits version (Some r) → P (decimal r.vpe ∷ decimal r.code ∷ [])) → P ws
   a_reply P ws none follows =
       vpe version (λ ws. code ∷ []) P ws none (λ v ws v_in none.
       number 0 15 (omega arith) (λ ws. []) (λ ws. P (decimal v ∷ ws)) ws none (λ c rest c_in none.
@@ -39,13 +41,18 @@ module _ (version : ℕ) where
   behind_a_cut (w ∷ ws) none = chosen (reply_row version ∷ []) (λ places. places) (Spells reply_words (ReplyFits version)) w ws (row, tt) none
     where
       row : form_fault (node version ∷ code ∷ []) ws ≡ None → Spells reply_words (ReplyFits version) (codes "reply" ∷ ws)
-      row none = a_reply (λ ws. Spells reply_words (ReplyFits version) (codes "reply" ∷ ws)) ws none (λ r fits. record { value = Some r; is = refl; fits = fits })
+      row none = a_reply (λ ws. Spells reply_words (ReplyFits version) (codes "reply" ∷ ws)) ws none (λ r fits. record {
+        value = Some r;
+        is = refl;
+        fits = fits;
+      })
 
   -- a cut and what stands behind it
   abbrev SpellsCut : List (List ℕ) → Type 0
   SpellsCut = Spells (λ (p : Option KeyName × Option Reply). cut_words p.0 ++ reply_words p.1) (λ p. CutFits version p.0 × ReplyFits version p.1)
 
-  a_cut : (P : List (List ℕ) → Type 0) (ws : List (List ℕ)) → form_fault (key version ∷ behind_cut version (drop 1 ws)) ws ≡ None → ((k : KeyName) (r : Option Reply) → CutFits version (Some k) → ReplyFits version r → P (key_word k ∷ reply_words r)) → P ws
+  a_cut : (P : List (List ℕ) → Type 0) (ws : List (List ℕ)) → form_fault (key version ∷ behind_cut version (drop 1 ws)) ws ≡ None →
+      ((k : KeyName) (r : Option Reply) → CutFits version (Some k) → ReplyFits version r → P (key_word k ∷ reply_words r)) → P ws
   a_cut P ws none follows =
       a_key version (λ ws. behind_cut version (drop 1 ws)) P ws none (λ k ws k_in none.
       let reply = behind_a_cut ws none in
@@ -54,7 +61,10 @@ module _ (version : ℕ) where
   behind_a_grant : (ws : List (List ℕ)) → form_fault (behind_grant version ws) ws ≡ None → SpellsCut ws
   unfolding behind_grant
   behind_a_grant [] none = record { value = (None, None); is = refl; fits = (tt, tt) }
-  behind_a_grant (w ∷ ws) none = chosen (cut_row version (w ∷ ws) ∷ reply_row version ∷ []) (λ places. places) SpellsCut w ws (cut_row_is, (reply_row_is, tt)) none
+  behind_a_grant (w ∷ ws) none = chosen (cut_row version (w ∷ ws) ∷ reply_row version ∷ []) (λ places. places) SpellsCut w ws (
+    cut_row_is,
+    (reply_row_is, tt),
+  ) none
     where
       cut_row_is : form_fault (key version ∷ behind_cut version (drop 1 ws)) ws ≡ None → SpellsCut (codes "cut" ∷ ws)
       cut_row_is none = a_cut (λ ws. SpellsCut (codes "cut" ∷ ws)) ws none (λ k r k_in r_in. record { value = (Some k, r); is = refl; fits = (k_in, r_in) })
@@ -90,7 +100,8 @@ module _ (version : ℕ) where
   pub behind_an_event : (ws : List (List ℕ)) → form_fault (behind_event version ws) ws ≡ None → Spells shown_words (ShownFits version) ws
   unfolding behind_event
   behind_an_event [] none = record { value = record { grant = None; cut = None; reply = None }; is = refl; fits = record { grant = tt; cut = tt; reply = tt } }
-  behind_an_event (w ∷ ws) none = chosen (grant_row version (w ∷ ws) ∷ cut_row version (w ∷ ws) ∷ reply_row version ∷ []) (λ places. places) SpellsShown w ws (with_grant ws, (with_cut ws, (with_reply ws, tt))) none
+  behind_an_event (w ∷ ws) none = chosen (grant_row version (w ∷ ws) ∷ cut_row version (w ∷ ws) ∷ reply_row version ∷ []) (λ places. places) SpellsShown w ws
+      (with_grant ws, (with_cut ws, (with_reply ws, tt))) none
 
 -- an entry by its parts
 module _ (version kernels : ℕ) (some : 1 ≤ kernels) (few : kernels ≤ KERNELS) where
@@ -100,18 +111,25 @@ module _ (version kernels : ℕ) (some : 1 ≤ kernels) (few : kernels ≤ KERNE
   behind_is : (n : ℕ) (word : List ℕ) (words : List (List ℕ)) → drop (1 + n) (word ∷ words) ≡ drop n words
   behind_is n word words = sym (drop-drop n 1 (word ∷ words))
 
-  past_event : (words rest : List (List ℕ)) (act : Act) (detail : Detail) → EventFits version kernels act detail → words ≡ event_words (act, detail) ++ rest → drop (length (event_form version kernels words)) words ≡ rest
+  past_event : (words rest : List (List ℕ)) (act : Act) (detail : Detail) → EventFits version kernels act detail → words ≡ event_words (act, detail) ++ rest →
+      drop (length (event_form version kernels words)) words ≡ rest
   past_event words rest act detail fits is =
       let grouped : words ≡ act_words act ++ detail_words detail ++ rest = is in
-      let fills : Fills (event_form version kernels words) words rest = rw grouped (λ more. (event_filled version kernels act detail some few fits (record { is = refl })).is) in
+      let fills : Fills (event_form version kernels words) words rest =
+      rw grouped (λ more. (event_filled version kernels act detail some few fits (record { is = refl })).is) in
       behind_filled (event_form version kernels words) words rest fills
 
-  entry_parts : (k : ℕ) (words : List (List ℕ)) → k < kernels → form_fault (event_form version kernels words ++ behind_event version (drop (1 + length (event_form version kernels words)) (decimal k ∷ words))) words ≡ None → SpellsEntry (decimal k ∷ words)
+  entry_parts : (k : ℕ) (words : List (List ℕ)) → k < kernels →
+      form_fault (event_form version kernels words ++ behind_event version (drop (1 + length (event_form version kernels words)) (decimal k ∷ words))) words
+      ≡ None → SpellsEntry (decimal k ∷ words)
   entry_parts k words k_in none short =
       let more : List Place = behind_event version (drop (1 + length (event_form version kernels words)) (decimal k ∷ words)) in
       let event = an_event version kernels some few more words none in
-      let past : drop (1 + length (event_form version kernels words)) (decimal k ∷ words) ≡ event.rest = behind_is (length (event_form version kernels words)) (decimal k) words ∙ past_event words event.rest event.value.0 event.value.1 event.fits event.is in
-      let shown = behind_an_event version event.rest (subst (λ (ws : List (List ℕ)). form_fault (behind_event version ws) event.rest ≡ None) past event.rest_fits) in
+      let past : drop (1 + length (event_form version kernels words)) (decimal k ∷ words) ≡ event.rest =
+      behind_is (length (event_form version kernels words)) (decimal k) words
+      ∙ past_event words event.rest event.value.0 event.value.1 event.fits event.is in
+      let shown = behind_an_event version event.rest (subst (λ (ws : List (List ℕ)). form_fault (behind_event version ws) event.rest
+      ≡ None) past event.rest_fits) in
       let e : Entry = entry k event.value.0 event.value.1 shown.value in
       let words_are : decimal k ∷ words ≡ entry_words e = entry_is k event.value.0 event.value.1 shown.value words event.rest event.is shown.is in
       record {
@@ -127,8 +145,10 @@ module _ (version kernels : ℕ) (some : 1 ≤ kernels) (few : kernels ≤ KERNE
         };
       }
 
-  pub an_entry : (words : List (List ℕ)) → form_fault (entry_form version kernels words) words ≡ None → has_long_memory words ≡ false → Spells entry_words (EntryFits version kernels) words
+  pub an_entry : (words : List (List ℕ)) → form_fault (entry_form version kernels words) words ≡ None → has_long_memory words ≡ false →
+      Spells entry_words (EntryFits version kernels) words
   unfolding entry_form
   an_entry words none =
-      a_kernel kernels some few (λ ws. event_form version kernels (drop 1 ws) ++ behind_event version (drop (1 + length (event_form version kernels (drop 1 ws))) ws)) SpellsEntry words none (λ k rest k_in none.
+      a_kernel kernels some few (λ ws. event_form version kernels (drop 1 ws)
+      ++ behind_event version (drop (1 + length (event_form version kernels (drop 1 ws))) ws)) SpellsEntry words none (λ k rest k_in none.
       entry_parts k rest k_in none)

@@ -30,7 +30,9 @@ kernel_word kernels some few w none = from (number_word 0 (kernels - 1) w (omega
     from : IsWordOf decimal (IsIn 0 (kernels - 1)) w → IsWordOf decimal (λ k. k < kernels) w
     from (k, is, inside) = (k, is, below k inside.1)
 
-pub a_kernel : (kernels : ℕ) → 1 ≤ kernels → kernels ≤ KERNELS → (more : List (List ℕ) → List Place) (G : List (List ℕ) → Type 0) (words : List (List ℕ)) → form_fault (kernel kernels ∷ more words) words ≡ None → ((k : ℕ) (rest : List (List ℕ)) → k < kernels → form_fault (more (decimal k ∷ rest)) rest ≡ None → G (decimal k ∷ rest)) → G words
+pub a_kernel : (kernels : ℕ) → 1 ≤ kernels → kernels ≤ KERNELS → (more : List (List ℕ) → List Place) (G : List (List ℕ) → Type 0) (words : List (List ℕ)) →
+    form_fault (kernel kernels ∷ more words) words ≡ None → ((k : ℕ) (rest : List (List ℕ)) → k < kernels → form_fault (more (decimal k ∷ rest)) rest ≡ None →
+    G (decimal k ∷ rest)) → G words
 a_kernel kernels some few = next decimal (λ k. k < kernels) (kernel kernels) (kernel_word kernels some few)
 
 abbrev pub event_words : Act × Detail → List (List ℕ)
@@ -46,30 +48,52 @@ module _ (version kernels : ℕ) (some : 1 ≤ kernels) (few : kernels ≤ KERNE
   call_row : (ws : List (List ℕ)) → Row ws (codes "call") (node version ∷ word ∷ choice (calls version) (word_at ws 2))
   call_row ws none =
       vpe version (λ ws. word ∷ choice (calls version) (word_at ws 2) ++ more) (λ ws. BeginsEvent (codes "call" ∷ ws)) ws none (λ v ws v_in none.
-      number 0 4294967295 (omega arith) (λ ws. choice (calls version) (word_at ws 1) ++ more) (λ ws. BeginsEvent (codes "call" ∷ decimal v ∷ ws)) ws none (λ i ws i_in none.
+      number 0 4294967295 (omega arith) (λ ws. choice (calls version) (word_at ws 1) ++ more) (λ ws. BeginsEvent (codes "call" ∷ decimal v ∷ ws)) ws none
+      (λ i ws i_in none.
       after_it (λ ws. BeginsEvent (codes "call" ∷ decimal v ∷ decimal i ∷ ws)) (a_call version more ws none) (λ c rest c_in none.
       record { value = (Calls v, Called i c); rest = rest; is = refl; fits = (v_in, i_in.1, c_in); rest_fits = none })))
 
   -- the other kernel and the message, behind the name
-  carried : (name : List ℕ) (ws : List (List ℕ)) → ((p : ℕ) (m : Message) (rest : List (List ℕ)) → p < kernels → MessageFits version m → form_fault more rest ≡ None → BeginsEvent (name ∷ decimal p ∷ message_words m ++ rest)) → Row ws name (kernel kernels ∷ message_form version (drop 1 ws))
+  carried : (name : List ℕ) (ws : List (List ℕ)) → ((p : ℕ) (m : Message) (rest : List (List ℕ)) → p < kernels → MessageFits version m →
+      form_fault more rest ≡ None → BeginsEvent (name ∷ decimal p ∷ message_words m ++ rest)) → Row ws name (kernel kernels ∷ message_form version (drop 1 ws))
   carried name ws made_of none =
       a_kernel kernels some few (λ ws. message_form version (drop 1 ws) ++ more) (λ ws. BeginsEvent (name ∷ ws)) ws none (λ p ws p_in none.
       after_it (λ ws. BeginsEvent (name ∷ decimal p ∷ ws)) (a_message version more ws none) (λ m rest m_in none.
       made_of p m rest p_in m_in none))
 
   fetch_row : (ws : List (List ℕ)) → Row ws (codes "fetch") (kernel kernels ∷ message_form version (drop 1 ws))
-  fetch_row ws = carried (codes "fetch") ws (λ p m rest p_in m_in none. record { value = (Fetch p, Carried p m); rest = rest; is = refl; fits = (refl, p_in, m_in); rest_fits = none })
+  fetch_row ws = carried (codes "fetch") ws (λ p m rest p_in m_in none. record {
+    value = (Fetch p, Carried p m);
+    rest = rest;
+    is = refl;
+    fits = (refl, p_in, m_in);
+    rest_fits = none;
+  })
 
   handle_row : (ws : List (List ℕ)) → Row ws (codes "handle") (kernel kernels ∷ message_form version (drop 1 ws))
-  handle_row ws = carried (codes "handle") ws (λ p m rest p_in m_in none. record { value = (Handle, Carried p m); rest = rest; is = refl; fits = (p_in, m_in); rest_fits = none })
+  handle_row ws = carried (codes "handle") ws (λ p m rest p_in m_in none. record {
+    value = (Handle, Carried p m);
+    rest = rest;
+    is = refl;
+    fits = (p_in, m_in);
+    rest_fits = none;
+  })
 
   flush_row : (ws : List (List ℕ)) → Row ws (codes "flush") (kernel kernels ∷ message_form version (drop 1 ws))
-  flush_row ws = carried (codes "flush") ws (λ p m rest p_in m_in none. record { value = (Flush p, Carried p m); rest = rest; is = refl; fits = (refl, p_in, m_in); rest_fits = none })
+  flush_row ws = carried (codes "flush") ws (λ p m rest p_in m_in none. record {
+    value = (Flush p, Carried p m);
+    rest = rest;
+    is = refl;
+    fits = (refl, p_in, m_in);
+    rest_fits = none;
+  })
 
   upcall_row : (ws : List (List ℕ)) → Row ws (codes "upcall") (node version ∷ node version ∷ Word (codes "yes" ∷ codes "no" ∷ codes "drop" ∷ []) ∷ [])
   upcall_row ws none =
-      vpe version (λ ws. node version ∷ Word (codes "yes" ∷ codes "no" ∷ codes "drop" ∷ []) ∷ more) (λ ws. BeginsEvent (codes "upcall" ∷ ws)) ws none (λ v ws v_in none.
-      vpe version (λ ws. Word (codes "yes" ∷ codes "no" ∷ codes "drop" ∷ []) ∷ more) (λ ws. BeginsEvent (codes "upcall" ∷ decimal v ∷ ws)) ws none (λ asker ws asker_in none.
+      vpe version (λ ws. node version ∷ Word (codes "yes" ∷ codes "no" ∷ codes "drop" ∷ []) ∷ more) (λ ws. BeginsEvent (codes "upcall" ∷ ws)) ws none
+      (λ v ws v_in none.
+      vpe version (λ ws. Word (codes "yes" ∷ codes "no" ∷ codes "drop" ∷ []) ∷ more) (λ ws. BeginsEvent (codes "upcall" ∷ decimal v ∷ ws)) ws none
+      (λ asker ws asker_in none.
       one_word (codes "yes" ∷ codes "no" ∷ codes "drop" ∷ []) more (λ ws. BeginsEvent (codes "upcall" ∷ decimal v ∷ decimal asker ∷ ws)) ws none (λ rest none. (
         record { value = (Upcall v, Asked asker Yes); rest = rest; is = refl; fits = (v_in, asker_in); rest_fits = none },
         (

@@ -1,5 +1,6 @@
 -- Lines without a fault are those of what they tell.
-use Rattle.std.proofs.Common.{◌≡◌, ℕ, zero, suc, ◌+◌, ◌≤◌, Bool, true, false, List, [], ◌∷◌, ◌++◌, length, map, replicate, Option, Some, None, refl, ap, sym, ◌∙◌, arith, decimal}
+use Rattle.std.proofs.Common.{◌≡◌, ℕ, zero, suc, ◌+◌, ◌≤◌, Bool, true, false, List, [], ◌∷◌, ◌++◌, length, map, replicate, Option, Some, None, refl, ap, sym}
+use Rattle.std.proofs.Common.{◌∙◌, arith, decimal}
 use Rattle.std.specs.Prelude.{codes, if◌then◌else◌}
 use Rattle.std.specs.List.{All}
 use Rattle.std.specs.Option.{option_map}
@@ -40,7 +41,8 @@ fine_line form whole none =
     let second = none_of (form_fault (form (words_in whole)) (words_in whole)) _ first.1 in
     from (has_long_memory (words_in whole)) refl second.0 second.1
   where
-    from : (b : Bool) → has_long_memory (words_in whole) ≡ b → form_fault (form (words_in whole)) (words_in whole) ≡ None → (if b then Some OutOfRange else (if bytes_eq whole (line (words_in whole)) then None else Some NotCanonical)) ≡ None → IsFine form whole
+    from : (b : Bool) → has_long_memory (words_in whole) ≡ b → form_fault (form (words_in whole)) (words_in whole) ≡ None →
+        (if b then Some OutOfRange else (if bytes_eq whole (line (words_in whole)) then None else Some NotCanonical)) ≡ None → IsFine form whole
     from true is fits none = absurd (none-some OutOfRange (sym none))
     from false is fits none = record { fits = fits; short = is; printed = spelled whole (line (words_in whole)) none }
 
@@ -53,7 +55,8 @@ Each (form ∷ forms) (whole ∷ lines) = IsFine form whole × Each forms lines
 pub each_fine : (n : ℕ) (forms : List Form) (lines : List (List ℕ)) → forms_fault n forms lines ≡ None → Each forms lines
 unfolding forms_fault
 each_fine n [] [] none = refl
-each_fine n [] (whole ∷ lines) none = absurd (none-some TooMany (sym (none_of (bytes_fault (content whole)) (Some TooMany) (mapped_none (fault_of n) _ none)).1))
+each_fine n [] (whole ∷ lines) none =
+    absurd (none-some TooMany (sym (none_of (bytes_fault (content whole)) (Some TooMany) (mapped_none (fault_of n) _ none)).1))
 each_fine n (form ∷ forms) [] none = absurd (none-some (fault_of n Missing) (sym none))
 each_fine n (form ∷ forms) (whole ∷ lines) none =
     let both = none_of (option_map (fault_of n) (report_line_fault form whole)) (forms_fault (n + 1) forms lines) none in
@@ -72,7 +75,9 @@ pub record Many {X : Type 0} (spelling : X → List (List ℕ)) (Fits : X → Ty
   pub count : length values ≡ n
   pub behind : Each more rest
 
-pub many : {X : Type 0} (spelling : X → List (List ℕ)) (Fits : X → Type 0) (form : Form) → ((whole : List ℕ) → IsFine form whole → IsLineOf spelling Fits whole) → (n : ℕ) (more : List Form) (lines : List (List ℕ)) → Each (replicate n form ++ more) lines → Many spelling Fits n more lines
+pub many : {X : Type 0} (spelling : X → List (List ℕ)) (Fits : X → Type 0) (form : Form) →
+    ((whole : List ℕ) → IsFine form whole → IsLineOf spelling Fits whole) → (n : ℕ) (more : List Form) (lines : List (List ℕ)) →
+    Each (replicate n form ++ more) lines → Many spelling Fits n more lines
 many {X} spelling Fits form read zero more lines each = record { values = []; rest = lines; is = refl; fits = All-nil Fits; count = refl; behind = each }
 many {X} spelling Fits form read (suc n) more [] each = absurd each
 many {X} spelling Fits form read (suc n) more (whole ∷ lines) each = from (read whole each.0) (many spelling Fits form read n more lines each.1)

@@ -2,7 +2,8 @@
 use Rattle.std.proofs.Common.{◌≡◌, ℕ, true, false, List, [], ◌∷◌, ◌++◌, None, refl, ap, sym, subst, arith, decimal, append_assoc}
 use Rattle.std.specs.Prelude.{codes}
 use Rattle.std.proofs.lemmas.Option.{none-some}
-use Rattle.sem_msg.specs.declared.message.Message.TheVariants.{ObtainReq, ObtainOk, ObtainNo, DelegateReq, DelegatePrepared, DelegateNo, Ack, Orphan, RevokeReq, RevokeDone, Unlink}
+use Rattle.sem_msg.specs.declared.message.Message.TheVariants.{ObtainReq, ObtainOk, ObtainNo, DelegateReq, DelegatePrepared, DelegateNo, Ack, Orphan, RevokeReq}
+use Rattle.sem_msg.specs.declared.message.Message.TheVariants.{RevokeDone, Unlink}
 use Rattle.sem_trace.specs.declared.fault.Cause.TheVariants.{Missing}
 use Rattle.sem_trace.specs.Forms.{Place, form_fault, choice, word_at, word, byte, node, key, key_place}
 use Rattle.sem_trace.specs.Forms.Place.{Word}
@@ -29,8 +30,10 @@ module _ (version : ℕ) (more : List Place) where
 
   obtain_ok_row : (ws : List (List ℕ)) → Row ws (codes "obtain-ok") (key version ∷ key version ∷ choice (objects version) (word_at ws 2))
   obtain_ok_row ws none =
-      a_key version (λ ws. key version ∷ choice (objects version) (word_at ws 2) ++ more) (λ ws. BeginsMessage (codes "obtain-ok" ∷ ws)) ws none (λ p ws p_in none.
-      a_key version (λ ws. choice (objects version) (word_at ws 1) ++ more) (λ ws. BeginsMessage (codes "obtain-ok" ∷ key_word p ∷ ws)) ws none (λ k ws k_in none.
+      a_key version (λ ws. key version ∷ choice (objects version) (word_at ws 2) ++ more) (λ ws. BeginsMessage (codes "obtain-ok" ∷ ws)) ws none
+      (λ p ws p_in none.
+      a_key version (λ ws. choice (objects version) (word_at ws 1) ++ more) (λ ws. BeginsMessage (codes "obtain-ok" ∷ key_word p ∷ ws)) ws none
+      (λ k ws k_in none.
       after_it (λ ws. BeginsMessage (codes "obtain-ok" ∷ key_word p ∷ key_word k ∷ ws)) (an_object version more ws none) (λ o rest o_in none.
       record { value = ObtainOk p k o; rest = rest; is = refl; fits = (p_in, k_in, o_in); rest_fits = none })))
 
@@ -42,11 +45,22 @@ module _ (version : ℕ) (more : List Place) where
 
   delegate_req_row : (ws : List (List ℕ)) → Row ws (codes "delegate-req") (key version ∷ choice (objects version) (word_at ws 1) ++ node version ∷ byte ∷ [])
   delegate_req_row ws none =
-      a_key version (λ ws. (choice (objects version) (word_at ws 1) ++ node version ∷ byte ∷ []) ++ more) (λ ws. BeginsMessage (codes "delegate-req" ∷ ws)) ws none (λ p ws p_in none.
-      after_it (λ ws. BeginsMessage (codes "delegate-req" ∷ key_word p ∷ ws)) (an_object version (node version ∷ byte ∷ more) ws (subst (λ (places : List Place). form_fault places ws ≡ None) (append_assoc (choice (objects version) (word_at ws 0)) (node version ∷ byte ∷ []) more) none)) (λ o ws o_in none.
+      a_key version (λ ws. (choice (objects version) (word_at ws 1) ++ node version ∷ byte ∷ []) ++ more) (λ ws. BeginsMessage (codes "delegate-req" ∷ ws)) ws
+      none (λ p ws p_in none.
+      after_it (λ ws. BeginsMessage (codes "delegate-req" ∷ key_word p ∷ ws))
+      (an_object version (node version ∷ byte ∷ more) ws
+      (subst (λ (places : List Place). form_fault places ws ≡ None) (append_assoc (choice (objects version) (word_at ws 0)) (node version ∷ byte ∷ []) more)
+      none)) (λ o ws o_in none.
       vpe version (λ ws. byte ∷ more) (λ ws. BeginsMessage (codes "delegate-req" ∷ key_word p ∷ (object_words o ++ ws))) ws none (λ v ws v_in none.
-      number 0 255 (omega arith) (λ ws. more) (λ ws. BeginsMessage (codes "delegate-req" ∷ key_word p ∷ (object_words o ++ (decimal v ∷ ws)))) ws none (λ s rest s_in none.
-      record { value = DelegateReq p o v s; rest = rest; is = ap (λ (ws : List (List ℕ)). codes "delegate-req" ∷ key_word p ∷ ws) (sym (append_assoc (object_words o) (decimal v ∷ decimal s ∷ []) rest)); fits = (p_in, o_in, v_in, byte_fits s s_in.1); rest_fits = none }))))
+      number 0 255 (omega arith) (λ ws. more) (λ ws. BeginsMessage (codes "delegate-req" ∷ key_word p ∷ (object_words o ++ (decimal v ∷ ws)))) ws none
+      (λ s rest s_in none.
+      record {
+        value = DelegateReq p o v s;
+        rest = rest;
+        is = ap (λ (ws : List (List ℕ)). codes "delegate-req" ∷ key_word p ∷ ws) (sym (append_assoc (object_words o) (decimal v ∷ decimal s ∷ []) rest));
+        fits = (p_in, o_in, v_in, byte_fits s s_in.1);
+        rest_fits = none;
+      }))))
 
   prepared_row : (ws : List (List ℕ)) → Row ws (codes "delegate-prepared") (key version ∷ key version ∷ [])
   prepared_row ws none =
@@ -95,6 +109,17 @@ module _ (version : ℕ) (more : List Place) where
   unfolding form_fault message_form messages
   a_message [] none = absurd (none-some Missing (sym none))
   a_message (w ∷ ws) none =
-      chosen (messages version (w ∷ ws)) (λ places. places ++ more) BeginsMessage w ws
-      (obtain_req_row ws, (obtain_ok_row ws, (obtain_no_row ws, (delegate_req_row ws, (prepared_row ws, (delegate_no_row ws, (ack_row ws, (orphan_row ws, (revoke_req_row ws, (revoke_done_row ws, (unlink_row ws, tt)))))))))))
+      chosen (messages version (w ∷ ws)) (λ places. places ++ more) BeginsMessage w ws (
+        obtain_req_row ws,
+        (
+          obtain_ok_row ws,
+          (
+            obtain_no_row ws,
+            (
+              delegate_req_row ws,
+              (prepared_row ws, (delegate_no_row ws, (ack_row ws, (orphan_row ws, (revoke_req_row ws, (revoke_done_row ws, (unlink_row ws, tt))))))),
+            ),
+          ),
+        ),
+      )
       none

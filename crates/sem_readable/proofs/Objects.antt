@@ -53,7 +53,10 @@ module _ (version : ℕ) (more : List Place) where
   pub an_object : (words : List (List ℕ)) → form_fault (choice (objects version) (word_at words 0) ++ more) words ≡ None → BeginsObject words
   unfolding form_fault objects
   an_object [] none = absurd (none-some Missing (sym none))
-  an_object (w ∷ ws) none = chosen (objects version) (λ places. places ++ more) BeginsObject w ws (mem_row ws, (recv_row ws, (send_row ws, (serv_row ws, (sess_row ws, tt))))) none
+  an_object (w ∷ ws) none = chosen (objects version) (λ places. places ++ more) BeginsObject w ws (
+    mem_row ws,
+    (recv_row ws, (send_row ws, (serv_row ws, (sess_row ws, tt)))),
+  ) none
 
   abbrev BeginsTarget : List (List ℕ) → Type 0
   BeginsTarget = Begins target_words (TargetFits version) more

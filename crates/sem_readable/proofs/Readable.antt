@@ -1,5 +1,6 @@
 -- A text without a refusal is the text of a report.
-use Rattle.std.proofs.Common.{◌≡◌, ℕ, ◌+◌, ◌<◌, ◌^◌, Bool, true, false, ◌⊎◌, inl, inr, List, [], ◌∷◌, ◌++◌, length, take, drop, map, nat_lt, Some, None, refl, ap, sym, subst, ◌∙◌, arith, decimal, append-nil}
+use Rattle.std.proofs.Common.{◌≡◌, ℕ, ◌+◌, ◌<◌, ◌^◌, Bool, true, false, ◌⊎◌, inl, inr, List, [], ◌∷◌, ◌++◌, length, take, drop, map, nat_lt, Some, None, refl}
+use Rattle.std.proofs.Common.{ap, sym, subst, ◌∙◌, arith, decimal, append-nil}
 use Rattle.std.specs.Prelude.{codes, if◌then◌else◌}
 use Rattle.std.specs.Option.{option_or}
 use Rattle.std.proofs.lemmas.Grind.{flat_map-append}
@@ -19,7 +20,8 @@ use Rattle.sem_journal.specs.ReportText.{held_line, journal_lines, audit_lines, 
 use Rattle.sem_journal.proofs.EntryParts.{nothing_more}
 use Rattle.sem_journal.proofs.PrintedPlaces.{value}
 use Rattle.sem_report.specs.WholeLines.{whole_lines}
-use Rattle.sem_report.specs.ReportRefusal.{words_in, report_form, report_version, forms_fault, forms_behind, fault_of, trace_section, trace_refusal, setup_in, refusal_behind, report_refusal}
+use Rattle.sem_report.specs.ReportRefusal.{words_in, report_form, report_version, forms_fault, forms_behind, fault_of, trace_section, trace_refusal, setup_in}
+use Rattle.sem_report.specs.ReportRefusal.{refusal_behind, report_refusal}
 use Rattle.sem_report.proofs.PrintedReport.{few_kernels, audit_whole, behind_whole}
 use Rattle.sem_report.proofs.TraceInReport.{whole-parts}
 use Rattle.sem_report.proofs.WholeReport.{report_is}
@@ -82,33 +84,44 @@ lines_text : (ls : List (List (List ℕ))) → joined (map line ls) ≡ text ls
 lines_text [] = refl
 lines_text (l ∷ ls) = ap (λ (bytes : List ℕ). line l ++ bytes) (lines_text ls)
 
-behind_text : (J : List Entry) (made cut : ℕ) (held : List (KeyName × ℕ)) → joined (behind_whole J made cut held) ≡ text (journal_lines J) ++ text (audit_lines made cut held)
+behind_text : (J : List Entry) (made cut : ℕ) (held : List (KeyName × ℕ)) →
+    joined (behind_whole J made cut held) ≡ text (journal_lines J) ++ text (audit_lines made cut held)
 behind_text J made cut held =
-    let audit : audit_whole made cut held ≡ map line (audit_lines made cut held) = ap (λ (ls : List (List ℕ)). line (codes "audit" ∷ []) ∷ line (codes "made" ∷ decimal made ∷ []) ∷ line (codes "cut" ∷ decimal cut ∷ []) ∷ line (codes "held" ∷ decimal (length held) ∷ []) ∷ ls) (sym (map-append line (map held_line held) ((codes "end" ∷ []) ∷ []))) in
-    let whole : behind_whole J made cut held ≡ map line (journal_lines J) ++ map line (audit_lines made cut held) = ap (λ (ls : List (List ℕ)). map line (journal_lines J) ++ ls) audit in
+    let audit : audit_whole made cut held ≡ map line (audit_lines made cut held) =
+    ap (λ (ls : List (List ℕ)). line (codes "audit" ∷ []) ∷ line (codes "made" ∷ decimal made ∷ []) ∷ line (codes "cut" ∷ decimal cut ∷ [])
+    ∷ line (codes "held" ∷ decimal (length held) ∷ []) ∷ ls) (sym (map-append line (map held_line held) ((codes "end" ∷ []) ∷ []))) in
+    let whole : behind_whole J made cut held ≡ map line (journal_lines J) ++ map line (audit_lines made cut held) =
+    ap (λ (ls : List (List ℕ)). map line (journal_lines J) ++ ls) audit in
     ap joined whole
     ∙ (flat_map-append (λ (l : List ℕ). l) (map line (journal_lines J)) (map line (audit_lines made cut held))
     ∙ (λ i. lines_text (journal_lines J) i ++ lines_text (audit_lines made cut held) i))
 
 -- the whole text, put together from its first line, its trace and what stands behind it
-whole_text : (T : Setup) (J : List Entry) (made cut : ℕ) (held : List (KeyName × ℕ)) (bytes : List ℕ) (lines section behind : List (List ℕ)) → whole_lines bytes ≡ line (header T.version) ∷ lines → section ++ behind ≡ lines → joined section ≡ canonical T → behind ≡ behind_whole J made cut held → bytes ≡ report_text T J made cut held
+whole_text : (T : Setup) (J : List Entry) (made cut : ℕ) (held : List (KeyName × ℕ)) (bytes : List ℕ) (lines section behind : List (List ℕ)) →
+    whole_lines bytes ≡ line (header T.version) ∷ lines → section ++ behind ≡ lines → joined section ≡ canonical T → behind ≡ behind_whole J made cut held →
+    bytes ≡ report_text T J made cut held
 whole_text T J made cut held bytes lines section behind first parts trace rest =
     let all : bytes ≡ line (header T.version) ++ joined lines = sym (whole-parts bytes) ∙ ap joined first in
-    let second : joined lines ≡ canonical T ++ joined behind = ap joined (sym parts) ∙ (flat_map-append (λ (l : List ℕ). l) section behind ∙ ap (λ (t : List ℕ). t ++ joined behind) trace) in
-    let third : joined behind ≡ text (journal_lines J) ++ text (audit_lines made cut held) ++ [] = (ap joined rest ∙ behind_text J made cut held) ∙ sym (append-nil _) in
+    let second : joined lines ≡ canonical T ++ joined behind = ap joined (sym parts)
+    ∙ (flat_map-append (λ (l : List ℕ). l) section behind ∙ ap (λ (t : List ℕ). t ++ joined behind) trace) in
+    let third : joined behind ≡ text (journal_lines J) ++ text (audit_lines made cut held) ++ [] = (ap joined rest ∙ behind_text J made cut held)
+    ∙ sym (append-nil _) in
     report_is T J made cut held bytes (joined lines) (joined behind) [] all second third refl
 
 -- a report whose first line tells that version
-with_version : (version : ℕ) (bytes : List ℕ) (lines : List (List ℕ)) → (version ≡ 1) ⊎ (version ≡ 2) → whole_lines bytes ≡ line (header version) ∷ lines → refusal_behind version lines ≡ None → IsReportText bytes
+with_version : (version : ℕ) (bytes : List ℕ) (lines : List (List ℕ)) → (version ≡ 1) ⊎ (version ≡ 2) → whole_lines bytes ≡ line (header version) ∷ lines →
+    refusal_behind version lines ≡ None → IsReportText bytes
 unfolding refusal_behind
 with_version version bytes lines versions first none =
     let section : List (List ℕ) = trace_section lines in
     let behind : List (List ℕ) = drop (length section) lines in
-    let both = none_of (trace_refusal version section) (forms_fault (2 + length section) (forms_behind version (setup_in section).kernels behind) behind) none in
+    let both = none_of (trace_refusal version section) (forms_fault (2 + length section) (forms_behind version (setup_in section).kernels behind) behind) none
+    in
     let trace = a_trace version section versions both.0 in
     from section behind trace (section_first lines) (each_fine _ _ behind both.1)
   where
-    from : (section behind : List (List ℕ)) → IsTrace version section (setup_in section) → section ++ behind ≡ lines → Each (forms_behind version (setup_in section).kernels behind) behind → IsReportText bytes
+    from : (section behind : List (List ℕ)) → IsTrace version section (setup_in section) → section ++ behind ≡ lines →
+        Each (forms_behind version (setup_in section).kernels behind) behind → IsReportText bytes
     from section behind trace parts each =
         let T : Setup = setup_in section in
         let same : version ≡ T.version = sym trace.tells in
@@ -138,9 +151,13 @@ unfolding report_refusal
 report_of bytes none = short (nat_lt 134217728 (length bytes)) none
   where
     from : IsHeaded (whole_lines bytes) → refusal_behind (report_version (whole_lines bytes)) (drop 1 (whole_lines bytes)) ≡ None → IsReportText bytes
-    from headed none = with_version headed.version bytes (drop 1 (whole_lines bytes)) headed.versions headed.is (subst (λ (v : ℕ). refusal_behind v (drop 1 (whole_lines bytes)) ≡ None) headed.reads none)
+    from headed none = with_version headed.version bytes (drop 1 (whole_lines bytes)) headed.versions headed.is
+        (subst (λ (v : ℕ). refusal_behind v (drop 1 (whole_lines bytes)) ≡ None) headed.reads none)
 
-    short : (b : Bool) → (if b then Some (fault_of 0 InputTooLong) else option_or (forms_fault 1 (report_form ∷ []) (take 1 (whole_lines bytes))) (refusal_behind (report_version (whole_lines bytes)) (drop 1 (whole_lines bytes)))) ≡ None → IsReportText bytes
+    short : (b : Bool) →
+        (if b then Some (fault_of 0 InputTooLong)
+        else option_or (forms_fault 1 (report_form ∷ []) (take 1 (whole_lines bytes)))
+        (refusal_behind (report_version (whole_lines bytes)) (drop 1 (whole_lines bytes)))) ≡ None → IsReportText bytes
     short true none = absurd (none-some (fault_of 0 InputTooLong) (sym none))
     short false none =
         let both = none_of (forms_fault 1 (report_form ∷ []) (take 1 (whole_lines bytes))) _ none in

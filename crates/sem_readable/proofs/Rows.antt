@@ -25,7 +25,9 @@ pub record Begins {X : Type 0} (spelling : X → List (List ℕ)) (Fits : X → 
   pub rest_fits : form_fault more rest ≡ None
 
 -- the next word is that of a value; which places follow may hang on the words
-pub next : {X : Type 0} (spell : X → List ℕ) (Fits : X → Type 0) (place : Place) → ((w : List ℕ) → place_fault place w ≡ None → IsWordOf spell Fits w) → (more : List (List ℕ) → List Place) (G : List (List ℕ) → Type 0) (words : List (List ℕ)) → form_fault (place ∷ more words) words ≡ None → ((x : X) (rest : List (List ℕ)) → Fits x → form_fault (more (spell x ∷ rest)) rest ≡ None → G (spell x ∷ rest)) → G words
+pub next : {X : Type 0} (spell : X → List ℕ) (Fits : X → Type 0) (place : Place) → ((w : List ℕ) → place_fault place w ≡ None → IsWordOf spell Fits w) →
+    (more : List (List ℕ) → List Place) (G : List (List ℕ) → Type 0) (words : List (List ℕ)) → form_fault (place ∷ more words) words ≡ None →
+    ((x : X) (rest : List (List ℕ)) → Fits x → form_fault (more (spell x ∷ rest)) rest ≡ None → G (spell x ∷ rest)) → G words
 unfolding form_fault
 next {X} spell Fits place read more G [] none follows = absurd (none-some Missing (sym none))
 next {X} spell Fits place read more G (w ∷ ws) none follows =
@@ -35,7 +37,9 @@ next {X} spell Fits place read more G (w ∷ ws) none follows =
     from : IsWordOf spell Fits w → form_fault (more (w ∷ ws)) ws ≡ None → G (w ∷ ws)
     from (x, is, fits) left = subst (λ (v : List ℕ). form_fault (more (v ∷ ws)) ws ≡ None → G (v ∷ ws)) (sym is) (follows x ws fits) left
 
-pub number : (least most : ℕ) → most < 2 ^ 64 → (more : List (List ℕ) → List Place) (G : List (List ℕ) → Type 0) (words : List (List ℕ)) → form_fault (Number least most ∷ more words) words ≡ None → ((n : ℕ) (rest : List (List ℕ)) → IsIn least most n → form_fault (more (decimal n ∷ rest)) rest ≡ None → G (decimal n ∷ rest)) → G words
+pub number : (least most : ℕ) → most < 2 ^ 64 → (more : List (List ℕ) → List Place) (G : List (List ℕ) → Type 0) (words : List (List ℕ)) →
+    form_fault (Number least most ∷ more words) words ≡ None →
+    ((n : ℕ) (rest : List (List ℕ)) → IsIn least most n → form_fault (more (decimal n ∷ rest)) rest ≡ None → G (decimal n ∷ rest)) → G words
 number least most small = next decimal (IsIn least most) (Number least most) (λ w. number_word least most w small)
 
 node_word : (version : ℕ) (w : List ℕ) → place_fault (node version) w ≡ None → IsWordOf decimal (IsNode version) w
@@ -44,13 +48,19 @@ node_word version w none = from (number_word 0 (most_vpes version - 1) w (omega 
     from : IsWordOf decimal (IsIn 0 (most_vpes version - 1)) w → IsWordOf decimal (IsNode version) w
     from (n, is, fits) = (n, is, node_in version n fits.1)
 
-pub vpe : (version : ℕ) (more : List (List ℕ) → List Place) (G : List (List ℕ) → Type 0) (words : List (List ℕ)) → form_fault (node version ∷ more words) words ≡ None → ((n : ℕ) (rest : List (List ℕ)) → IsNode version n → form_fault (more (decimal n ∷ rest)) rest ≡ None → G (decimal n ∷ rest)) → G words
+pub vpe : (version : ℕ) (more : List (List ℕ) → List Place) (G : List (List ℕ) → Type 0) (words : List (List ℕ)) →
+    form_fault (node version ∷ more words) words ≡ None →
+    ((n : ℕ) (rest : List (List ℕ)) → IsNode version n → form_fault (more (decimal n ∷ rest)) rest ≡ None → G (decimal n ∷ rest)) → G words
 vpe version = next decimal (IsNode version) (node version) (node_word version)
 
-pub a_key : (version : ℕ) (more : List (List ℕ) → List Place) (G : List (List ℕ) → Type 0) (words : List (List ℕ)) → form_fault (key version ∷ more words) words ≡ None → ((k : KeyName) (rest : List (List ℕ)) → IsKeyInText version k → form_fault (more (key_word k ∷ rest)) rest ≡ None → G (key_word k ∷ rest)) → G words
+pub a_key : (version : ℕ) (more : List (List ℕ) → List Place) (G : List (List ℕ) → Type 0) (words : List (List ℕ)) →
+    form_fault (key version ∷ more words) words ≡ None →
+    ((k : KeyName) (rest : List (List ℕ)) → IsKeyInText version k → form_fault (more (key_word k ∷ rest)) rest ≡ None → G (key_word k ∷ rest)) → G words
 a_key version = next key_word (IsKeyInText version) (key version) (key_of version)
 
-pub a_place : (version : ℕ) (more : List (List ℕ) → List Place) (G : List (List ℕ) → Type 0) (words : List (List ℕ)) → form_fault (key_place version ∷ more words) words ≡ None → ((p : PlaceName) (rest : List (List ℕ)) → IsPlaceInText version p → form_fault (more (place_word p ∷ rest)) rest ≡ None → G (place_word p ∷ rest)) → G words
+pub a_place : (version : ℕ) (more : List (List ℕ) → List Place) (G : List (List ℕ) → Type 0) (words : List (List ℕ)) →
+    form_fault (key_place version ∷ more words) words ≡ None →
+    ((p : PlaceName) (rest : List (List ℕ)) → IsPlaceInText version p → form_fault (more (place_word p ∷ rest)) rest ≡ None → G (place_word p ∷ rest)) → G words
 a_place version = next place_word (IsPlaceInText version) (key_place version) (place_of version)
 
 -- what holds of each row of a table, by its name and the places that follow
@@ -58,7 +68,8 @@ abbrev pub Rows : (List ℕ → List Place → Type 0) → Table → Type 0
 Rows F [] = Unit {0}
 Rows F ((name, places) ∷ table) = F name places × Rows F table
 
-by_row : (F : List ℕ → List Place → Type 0) (table : Table) (w : List ℕ) → Rows F table → list_any (bytes_eq w) (map (λ row. row.0) table) ≡ true → F w (behind table w)
+by_row : (F : List ℕ → List Place → Type 0) (table : Table) (w : List ℕ) → Rows F table → list_any (bytes_eq w) (map (λ row. row.0) table) ≡ true →
+    F w (behind table w)
 by_row F [] w rows any = absurd (true≢false (sym any))
 by_row F ((name, places) ∷ table) w rows any = elim (cases_Bool (bytes_eq w name)) [
   | inl same ↦ rw same (subst (λ (v : List ℕ). F v places) (sym ((bytes_eq-Decides w name).0 same)) rows.0)
@@ -72,14 +83,17 @@ among names w none = elim (cases_Bool (list_any (bytes_eq w) names)) [
 ]
 
 -- the next word is the name of a row; what holds where each of the names stands there
-pub chosen : (table : Table) (K : List Place → List Place) (G : List (List ℕ) → Type 0) (w : List ℕ) (ws : List (List ℕ)) → Rows (λ name places. form_fault (K places) ws ≡ None → G (name ∷ ws)) table → form_fault (Word (map (λ row. row.0) table) ∷ K (behind table w)) (w ∷ ws) ≡ None → G (w ∷ ws)
+pub chosen : (table : Table) (K : List Place → List Place) (G : List (List ℕ) → Type 0) (w : List ℕ) (ws : List (List ℕ)) →
+    Rows (λ name places. form_fault (K places) ws ≡ None → G (name ∷ ws)) table → form_fault (Word (map (λ row. row.0) table) ∷ K (behind table w)) (w ∷ ws)
+    ≡ None → G (w ∷ ws)
 unfolding form_fault
 chosen table K G w ws rows none =
     let both = none_of (place_fault (Word (map (λ row. row.0) table)) w) (form_fault (K (behind table w)) ws) none in
     by_row (λ name places. form_fault (K places) ws ≡ None → G (name ∷ ws)) table w rows (among _ w both.0) both.1
 
 -- what begins, and then what follows it
-pub after_it : {X : Type 0} {spelling : X → List (List ℕ)} {Fits : X → Type 0} {more : List Place} {words : List (List ℕ)} (G : List (List ℕ) → Type 0) → Begins spelling Fits more words → ((x : X) (rest : List (List ℕ)) → Fits x → form_fault more rest ≡ None → G (spelling x ++ rest)) → G words
+pub after_it : {X : Type 0} {spelling : X → List (List ℕ)} {Fits : X → Type 0} {more : List Place} {words : List (List ℕ)} (G : List (List ℕ) → Type 0) →
+    Begins spelling Fits more words → ((x : X) (rest : List (List ℕ)) → Fits x → form_fault more rest ≡ None → G (spelling x ++ rest)) → G words
 after_it G begins follows = subst G (sym begins.is) (follows begins.value begins.rest begins.fits begins.rest_fits)
 
 -- what holds of each of these words
@@ -95,7 +109,8 @@ of_one P (name ∷ names) w each any = elim (cases_Bool (bytes_eq w name)) [
 ]
 
 -- the next word is one of these; the places that follow do not hang on it
-pub one_word : (names : List (List ℕ)) (more : List Place) (G : List (List ℕ) → Type 0) (words : List (List ℕ)) → form_fault (Word names ∷ more) words ≡ None → ((rest : List (List ℕ)) → form_fault more rest ≡ None → OfEach (λ name. G (name ∷ rest)) names) → G words
+pub one_word : (names : List (List ℕ)) (more : List Place) (G : List (List ℕ) → Type 0) (words : List (List ℕ)) → form_fault (Word names ∷ more) words ≡ None →
+    ((rest : List (List ℕ)) → form_fault more rest ≡ None → OfEach (λ name. G (name ∷ rest)) names) → G words
 unfolding form_fault
 one_word names more G [] none each = absurd (none-some Missing (sym none))
 one_word names more G (w ∷ ws) none each =

@@ -30,7 +30,8 @@ no_difference n [] (other ∷ others) none = absurd (none-some n (sym none))
 no_difference n (whole ∷ lines) [] none = absurd (none-some n (sym none))
 no_difference n (whole ∷ lines) (other ∷ others) none =
     elim (cases_Bool (bytes_eq whole other)) [
-      | inl same ↦ let first : whole ≡ other = (bytes_eq-Decides whole other).0 same in let rest : lines ≡ others = no_difference (n + 1) lines others (rw same at none) in λ i. first i ∷ rest i
+      | inl same ↦ let first : whole ≡ other = (bytes_eq-Decides whole other).0 same in
+          let rest : lines ≡ others = no_difference (n + 1) lines others (rw same at none) in λ i. first i ∷ rest i
       | inr differ ↦ absurd (none-some n (sym (rw differ at none)))
     ]
 
@@ -49,13 +50,15 @@ pub record IsTrace (version : ℕ) (section : List (List ℕ)) (T : Setup) : Typ
   pub tells : T.version ≡ version
   pub text : joined section ≡ canonical T
 
-pub a_trace : (version : ℕ) (section : List (List ℕ)) → (version ≡ 1) ⊎ (version ≡ 2) → trace_refusal version section ≡ None → IsTrace version section (setup_in section)
+pub a_trace : (version : ℕ) (section : List (List ℕ)) → (version ≡ 1) ⊎ (version ≡ 2) → trace_refusal version section ≡ None →
+    IsTrace version section (setup_in section)
 unfolding setup_of
 a_trace version section versions none =
     let head = none_of (head_fault version 2 (map content section)) _ none in
     let lines = none_of (option_map line_later (lines_refusal (map content section))) (spelling_fault section (setup_in section)) head.1 in
     let accepted : lines_refusal (map content section) ≡ None = mapped_none line_later _ lines.0 in
-    let same : section ≡ whole_lines (canonical (setup_in section)) = no_difference 2 section (whole_lines (canonical (setup_in section))) (mapped_none _ _ lines.1) in
+    let same : section ≡ whole_lines (canonical (setup_in section)) =
+    no_difference 2 section (whole_lines (canonical (setup_in section))) (mapped_none _ _ lines.1) in
     record {
       setup = accepted_setup (map content section) accepted;
       tells = version_told version 2 (map content section) versions head.0 accepted;

@@ -1,5 +1,6 @@
 -- A place without a fault holds the word of a value in range.
-use Rattle.std.proofs.Common.{◌≡◌, ℕ, zero, suc, ◌-◌, ◌<◌, ◌≤◌, ◌^◌, true, true≢false, List, [], ◌∷◌, Option, Some, None, inl, inr, refl, sym, ◌∙◌, arith, decimal}
+use Rattle.std.proofs.Common.{◌≡◌, ℕ, zero, suc, ◌-◌, ◌<◌, ◌≤◌, ◌^◌, true, true≢false, List, [], ◌∷◌, Option, Some, None, inl, inr, refl, sym, ◌∙◌, arith}
+use Rattle.std.proofs.Common.{decimal}
 use Rattle.std.specs.Option.{option_or}
 use Rattle.std.proofs.lemmas.Bool.{cases_Bool, and_parts, leb-true}
 use Rattle.std.proofs.lemmas.Option.{none-some}
@@ -52,7 +53,8 @@ number_word least most w small none = elim (cases_Bool (is_number w)) [
 ]
 
 -- numbers between points
-dotted_good : (ranges : List (ℕ × ℕ)) (w : List ℕ) → place_fault (Dotted ranges) w ≡ None → (are_numbers ranges (parts_of w) ≡ true) × (are_within ranges (parts_of w) ≡ true)
+dotted_good : (ranges : List (ℕ × ℕ)) (w : List ℕ) → place_fault (Dotted ranges) w ≡ None → (are_numbers ranges (parts_of w) ≡ true)
+    × (are_within ranges (parts_of w) ≡ true)
 dotted_good ranges w none = elim (cases_Bool (are_numbers ranges (parts_of w))) [
   | inl numbers ↦ elim (cases_Bool (are_within ranges (parts_of w))) [
     | inl within ↦ (numbers, within)
@@ -70,7 +72,8 @@ abbrev AreValues : List (ℕ × ℕ) → List (List ℕ) → Type 0
 AreValues [] parts = parts ≡ []
 AreValues (range ∷ ranges) parts = (n : ℕ) × (rest : List (List ℕ)) × (parts ≡ decimal n ∷ rest) × (range.0 ≤ n) × (n ≤ range.1) × AreValues ranges rest
 
-values_of : (ranges : List (ℕ × ℕ)) (parts : List (List ℕ)) → AreSmall ranges → are_numbers ranges parts ≡ true → are_within ranges parts ≡ true → AreValues ranges parts
+values_of : (ranges : List (ℕ × ℕ)) (parts : List (List ℕ)) → AreSmall ranges → are_numbers ranges parts ≡ true → are_within ranges parts ≡ true →
+    AreValues ranges parts
 unfolding are_numbers are_within
 values_of [] [] small numbers within = refl
 values_of [] (part ∷ parts) small numbers within = absurd (true≢false (sym numbers))
@@ -107,18 +110,24 @@ key_of version w none =
     let good = dotted_good _ w none in
     from (values_of _ (parts_of w) (small_node version, (small_node version, (omega arith, (omega arith, tt)))) good.0 good.1)
   where
-    from : AreValues ((0, most_vpes version - 1) ∷ (0, most_vpes version - 1) ∷ (1, 5) ∷ (0, NUMBERS - 1) ∷ []) (parts_of w) → IsWordOf key_word (IsKeyInText version) w
+    from : AreValues ((0, most_vpes version - 1) ∷ (0, most_vpes version - 1) ∷ (1, 5) ∷ (0, NUMBERS - 1) ∷ []) (parts_of w) →
+        IsWordOf key_word (IsKeyInText version) w
     from (p, ps, p_is, p_least, p_in, (v, vs, v_is, v_least, v_in, (k, ks, k_is, k_least, k_most, (n, ns, n_is, n_least, n_in, end)))) =
         let kind = kind_of k k_least k_most in
-        let parts : parts_of w ≡ decimal p ∷ decimal v ∷ decimal (kind_number kind.0) ∷ decimal n ∷ [] = rw (p_is, v_is, k_is, n_is, end, kind.1) refl in
-        (record { pe = p; vpe = v; kind = kind.0; number = n }, joined w _ parts ∙ in_row4 _ _ _ _, (node_in version p p_in, node_in version v v_in, drawn_in n n_in))
+        let parts : parts_of w ≡ decimal p ∷ decimal v ∷ decimal (kind_number kind.0) ∷ decimal n ∷ [] = rw (p_is, v_is, k_is, n_is, end, kind.1) refl in (
+          record { pe = p; vpe = v; kind = kind.0; number = n },
+          joined w _ parts
+              ∙ in_row4 _ _ _ _,
+          (node_in version p p_in, node_in version v v_in, drawn_in n n_in),
+        )
 
 pub place_of : (version : ℕ) (w : List ℕ) → place_fault (key_place version) w ≡ None → IsWordOf place_word (IsPlaceInText version) w
 place_of version w none =
     let good = dotted_good _ w none in
     from (values_of _ (parts_of w) (small_node version, (small_node version, (omega arith, tt))) good.0 good.1)
   where
-    from : AreValues ((0, most_vpes version - 1) ∷ (0, most_vpes version - 1) ∷ (0, NUMBERS - 1) ∷ []) (parts_of w) → IsWordOf place_word (IsPlaceInText version) w
+    from : AreValues ((0, most_vpes version - 1) ∷ (0, most_vpes version - 1) ∷ (0, NUMBERS - 1) ∷ []) (parts_of w) →
+        IsWordOf place_word (IsPlaceInText version) w
     from (p, ps, p_is, p_least, p_in, (v, vs, v_is, v_least, v_in, (n, ns, n_is, n_least, n_in, end))) =
         let parts : parts_of w ≡ decimal p ∷ decimal v ∷ decimal n ∷ [] = rw (p_is, v_is, n_is, end) refl in
         (record { pe = p; vpe = v; number = n }, joined w _ parts ∙ in_row3 _ _ _, (node_in version p p_in, node_in version v v_in, drawn_in n n_in))

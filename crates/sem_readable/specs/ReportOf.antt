@@ -1,8 +1,7 @@
--- Which texts are those of reports ("The report" in docs/texts.md).
+-- Which texts are the texts of reports ("The report" in docs/texts.md).
 use Rattle.std.specs.Prelude.{◌≡◌, ℕ, List}
-use Rattle.sem_key.specs.KeyName.{KeyName}
+use Rattle.sem_msg.specs.Prelude.{KeyName, Setup}
 use Rattle.sem_msg.specs.declared.entry.Entry.{Entry}
-use Rattle.sem_msg.specs.Setup.{Setup}
 use Rattle.sem_journal.specs.ReportText.{report_text}
 use Rattle.sem_report.specs.ReportRanges.{ReportFits}
 

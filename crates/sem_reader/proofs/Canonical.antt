@@ -1,5 +1,6 @@
 -- What a printed setup says declares that setup.
-use Rattle.std.proofs.Common.{◌≡◌, ◌≢◌, ℕ, zero, suc, ◌+◌, ◌<◌, ◌≤◌, ◌==◌, ◌⊎◌, Bool, true, false, cond, true≢false, ◌&&◌, ◌||◌, List, [], ◌∷◌, map, get_or, Option, Some, None, refl, ap, sym, ◌∙◌, subst, arith, inl, inr, eqb-true, eq-eqb, ne_eqb, append-nil}
+use Rattle.std.proofs.Common.{◌≡◌, ◌≢◌, ℕ, zero, suc, ◌+◌, ◌<◌, ◌≤◌, ◌==◌, ◌⊎◌, Bool, true, false, cond, true≢false, ◌&&◌, ◌||◌, List, [], ◌∷◌, map, get_or}
+use Rattle.std.proofs.Common.{Option, Some, None, refl, ap, sym, ◌∙◌, subst, arith, inl, inr, eqb-true, eq-eqb, ne_eqb, append-nil}
 use Rattle.std.specs.List.{All, AllPairs, Contains, filter_map, flat_map, list_any, range_with_len}
 use Rattle.std.specs.Option.{option_or, option_map, option_map_or, is_some, IsSome}
 use Rattle.std.proofs.lemmas.Bool.{cases_Bool, cases_eq, cases_order}
@@ -22,16 +23,20 @@ use Rattle.sem_trace.specs.declared.limits.TheConstants.{LINK_WINDOW}
 use Rattle.sem_trace.proofs.Nodes.{node_small}
 use Rattle.sem_trace.specs.declared.declaration.Declaration.{Declaration}
 use Rattle.sem_trace.specs.declared.declaration.Declaration.TheVariants.{Window, Pe, Vpe, Memory, Receive, Service, Offer, Deny, Kill, Call as Calls}
-use Rattle.sem_trace.specs.Earlier.{first_some, said_window, window_in, said_owner, owner_in, said_pe, pe_in, said_root, roots_in, said_call, calls_in, vpe_in, said_offer, offer_in, says_deny, is_denied, said_kill, kill_in}
+use Rattle.sem_trace.specs.Earlier.{first_some, said_window, window_in, said_owner, owner_in, said_pe, pe_in, said_root, roots_in, said_call, calls_in, vpe_in}
+use Rattle.sem_trace.specs.Earlier.{said_offer, offer_in, says_deny, is_denied, said_kill, kill_in}
 use Rattle.sem_trace.specs.Refusal.{numbers}
 use Rattle.sem_trace.specs.Standing.{window_of, vpes_of, services_among, services_of, offer_of, offers_of, deny_of, denies_of, kills_of, setup_of}
 use Rattle.sem_reader.proofs.Enumerated.{in_cons, in_nil, here, there, pairs_head, pairs_tail, given, gives, joined, joins, range_has}
-use Rattle.sem_reader.proofs.Sections.{window_decls, all_pes, root_says, root_decl, vpe_decl, offer_decl, deny_decl, kill_decl, section, said_by, rank, in_map, map_has, in_first, has_pe, in_section, has_section, ranked}
+use Rattle.sem_reader.proofs.Sections.{window_decls, all_pes, root_says, root_decl, vpe_decl, offer_decl, deny_decl, kill_decl, section, said_by, rank, in_map}
+use Rattle.sem_reader.proofs.Sections.{map_has, in_first, has_pe, in_section, has_section, ranked}
 use Rattle.sem_reader.proofs.Printed.{first_there, any_there, all_accepted}
-use Rattle.sem_reader.proofs.SetupIs.{IsVpeOf, vpe_of, vpes_rise, services_rise, services_same, offers_rise, offer_of_setup, denies_rise, kills_rise, kill_of_setup, same_setup}
+use Rattle.sem_reader.proofs.SetupIs.{IsVpeOf, vpe_of, vpes_rise, services_rise, services_same, offers_rise, offer_of_setup, denies_rise, kills_rise}
+use Rattle.sem_reader.proofs.SetupIs.{kill_of_setup, same_setup}
 
 -- two lists that are in one order and have the same elements are one
-pub sorted_same : {X : Type 0} (R : X → X → Type 0) → ((x : X) → R x x → ⊥) → ((x y : X) → R x y → R y x → ⊥) → (xs ys : List X) → AllPairs R xs → AllPairs R ys → ((z : X) → Contains xs z → Contains ys z) → ((z : X) → Contains ys z → Contains xs z) → xs ≡ ys
+pub sorted_same : {X : Type 0} (R : X → X → Type 0) → ((x : X) → R x x → ⊥) → ((x y : X) → R x y → R y x → ⊥) → (xs ys : List X) → AllPairs R xs →
+    AllPairs R ys → ((z : X) → Contains xs z → Contains ys z) → ((z : X) → Contains ys z → Contains xs z) → xs ≡ ys
 sorted_same R self other [] [] px py to from = refl
 sorted_same R self other [] (y ∷ ys) px py to from = absurd (in_nil y (from y (here y ys)))
 sorted_same R self other (x ∷ xs) [] px py to from = absurd (in_nil x (to x (here x xs)))
@@ -255,7 +260,8 @@ one_vpe T fits a b (i, lt, is) (j, lt', is') same =
 pe_printed : (T : Setup) → IsSetup T → (d : VpeDecl) → Contains T.vpes d → pe_in (said_by T) d.vpe ≡ Some d.pe
 unfolding pe_in
 pe_printed T fits d within =
-    let some = first_there (said_pe d.vpe) (said_by T) (vpe_decl d) d.pe (has_section T (vpe_decl d) 1 (omega arith) (map_has vpe_decl T.vpes d within)) (same_if d.vpe _ _) in
+    let some = first_there (said_pe d.vpe) (said_by T) (vpe_decl d) d.pe (has_section T (vpe_decl d) 1 (omega arith) (map_has vpe_decl T.vpes d within))
+    (same_if d.vpe _ _) in
     let p = some_value (first_some (said_pe d.vpe) (said_by T)) some in
     let e = vpe_printed T fits d.vpe p.0 p.1 in
     let same : e.0 ≡ d = one_vpe T fits e.0 d e.1 within e.2 in
@@ -266,34 +272,45 @@ filter_none : {X : Type 0} (h : Declaration → Option X) (xs : List Declaration
 filter_none h [] none = refl
 filter_none h (x ∷ xs) none = rw (none x (here x xs)) (filter_none h xs (λ e within. none e (there x xs e within)))
 
-others_none : {X : Type 0} (h : Declaration → Option X) (lines : VpeDecl → List Declaration) (v : ℕ) (vpes : List VpeDecl) → ((e : VpeDecl) → Contains vpes e → e.vpe ≢ v) → ((e : VpeDecl) → e.vpe ≢ v → filter_map h (lines e) ≡ []) → filter_map h (flat_map lines vpes) ≡ []
+others_none : {X : Type 0} (h : Declaration → Option X) (lines : VpeDecl → List Declaration) (v : ℕ) (vpes : List VpeDecl) →
+    ((e : VpeDecl) → Contains vpes e → e.vpe ≢ v) → ((e : VpeDecl) → e.vpe ≢ v → filter_map h (lines e) ≡ []) → filter_map h (flat_map lines vpes) ≡ []
 others_none h lines v [] apart none = refl
-others_none h lines v (x ∷ xs) apart none = filter_map-append h (lines x) (flat_map lines xs) ∙ (rw (none x (apart x (here x xs)), others_none h lines v xs (λ e within. apart e (there x xs e within)) none) refl)
+others_none h lines v (x ∷ xs) apart none = filter_map-append h (lines x) (flat_map lines xs)
+    ∙ (rw (none x (apart x (here x xs)), others_none h lines v xs (λ e within. apart e (there x xs e within)) none) refl)
 
-own_items : {X : Type 0} (h : Declaration → Option X) (lines : VpeDecl → List Declaration) (own : List X) (vpes : List VpeDecl) (d : VpeDecl) → AllPairs (λ a b. a.vpe < b.vpe) vpes → Contains vpes d → filter_map h (lines d) ≡ own → ((e : VpeDecl) → e.vpe ≢ d.vpe → filter_map h (lines e) ≡ []) → filter_map h (flat_map lines vpes) ≡ own
+own_items : {X : Type 0} (h : Declaration → Option X) (lines : VpeDecl → List Declaration) (own : List X) (vpes : List VpeDecl) (d : VpeDecl) →
+    AllPairs (λ a b. a.vpe < b.vpe) vpes → Contains vpes d → filter_map h (lines d) ≡ own → ((e : VpeDecl) → e.vpe ≢ d.vpe → filter_map h (lines e) ≡ []) →
+    filter_map h (flat_map lines vpes) ≡ own
 own_items h lines own [] d rise within has none = absurd (in_nil d within)
 own_items h lines own (x ∷ xs) d rise within has none =
     let later : All (λ (e : VpeDecl). x.vpe < e.vpe) xs = pairs_head (λ (a b : VpeDecl). a.vpe < b.vpe) x xs rise in
     elim (in_cons x xs d within) [
       | inl same ↦
-          let rest : filter_map h (flat_map lines xs) ≡ [] = others_none h lines d.vpe xs (λ e inside equal. let l : x.vpe < e.vpe = All-contains (λ (e : VpeDecl). x.vpe < e.vpe) xs e later inside in let s : x.vpe ≡ d.vpe = ap (λ (y : VpeDecl). y.vpe) same in absurd (omega arith)) none in
+          let rest : filter_map h (flat_map lines xs) ≡ [] =
+          others_none h lines d.vpe xs (λ e inside equal. let l : x.vpe < e.vpe = All-contains (λ (e : VpeDecl). x.vpe < e.vpe) xs e later inside in
+          let s : x.vpe ≡ d.vpe = ap (λ (y : VpeDecl). y.vpe) same in absurd (omega arith)) none in
           filter_map-append h (lines x) (flat_map lines xs) ∙ (rw (rest, append-nil) (ap (λ (y : VpeDecl). filter_map h (lines y)) same ∙ has))
       | inr inside ↦
-          let first : filter_map h (lines x) ≡ [] = none x (λ equal. let l : x.vpe < d.vpe = All-contains (λ (e : VpeDecl). x.vpe < e.vpe) xs d later inside in absurd (omega arith)) in
-          filter_map-append h (lines x) (flat_map lines xs) ∙ (rw first (own_items h lines own xs d (pairs_tail (λ (a b : VpeDecl). a.vpe < b.vpe) x xs rise) inside has none))
+          let first : filter_map h (lines x) ≡ [] = none x (λ equal. let l : x.vpe < d.vpe = All-contains (λ (e : VpeDecl). x.vpe < e.vpe) xs d later inside in
+          absurd (omega arith)) in
+          filter_map-append h (lines x) (flat_map lines xs)
+          ∙ (rw first (own_items h lines own xs d (pairs_tail (λ (a b : VpeDecl). a.vpe < b.vpe) x xs rise) inside has none))
     ]
 
 -- the items of one section among those of all
-no_section : {X : Type 0} (T : Setup) → IsSetup T → (h : Declaration → Option X) (k : ℕ) → ((e : Declaration) → rank e ≢ k → h e ≡ None) → (a : ℕ) → a < 8 → a ≢ k → filter_map h (section T a) ≡ []
+no_section : {X : Type 0} (T : Setup) → IsSetup T → (h : Declaration → Option X) (k : ℕ) → ((e : Declaration) → rank e ≢ k → h e ≡ None) → (a : ℕ) → a < 8 →
+    a ≢ k → filter_map h (section T a) ≡ []
 no_section T fits h k none a small other = filter_none h (section T a) (λ e within. none e (λ same. other (sym (ranked T fits a small e within) ∙ same)))
 
-no_sections : {X : Type 0} (T : Setup) → IsSetup T → (h : Declaration → Option X) (k : ℕ) → ((e : Declaration) → rank e ≢ k → h e ≡ None) → (a n : ℕ) → a + n ≤ 8 → k < a → filter_map h (flat_map (section T) (range_with_len a n)) ≡ []
+no_sections : {X : Type 0} (T : Setup) → IsSetup T → (h : Declaration → Option X) (k : ℕ) → ((e : Declaration) → rank e ≢ k → h e ≡ None) → (a n : ℕ) →
+    a + n ≤ 8 → k < a → filter_map h (flat_map (section T) (range_with_len a n)) ≡ []
 no_sections T fits h k none a zero small past = refl
 no_sections T fits h k none a (suc n) small past =
     filter_map-append h (section T a) (flat_map (section T) (range_with_len (a + 1) n))
     ∙ (rw (no_section T fits h k none a (omega arith) (λ same. absurd (omega arith)), no_sections T fits h k none (a + 1) n (omega arith) (omega arith)) refl)
 
-one_section : {X : Type 0} (T : Setup) → IsSetup T → (h : Declaration → Option X) (k : ℕ) → ((e : Declaration) → rank e ≢ k → h e ≡ None) → (a n : ℕ) → a + n ≤ 8 → a ≤ k → k < a + n → filter_map h (flat_map (section T) (range_with_len a n)) ≡ filter_map h (section T k)
+one_section : {X : Type 0} (T : Setup) → IsSetup T → (h : Declaration → Option X) (k : ℕ) → ((e : Declaration) → rank e ≢ k → h e ≡ None) → (a n : ℕ) →
+    a + n ≤ 8 → a ≤ k → k < a + n → filter_map h (flat_map (section T) (range_with_len a n)) ≡ filter_map h (section T k)
 one_section T fits h k none a zero small low high = absurd (omega arith)
 one_section T fits h k none a (suc n) small low high =
     elim (cases_eq a k) [
@@ -352,13 +369,15 @@ roots_printed : (T : Setup) → IsSetup T → (d : VpeDecl) → Contains T.vpes 
 unfolding roots_in said_by
 roots_printed T fits d within =
     one_section T fits (said_root d.vpe) 2 (no_root d.vpe) 0 8 (omega arith) (omega arith) (omega arith)
-    ∙ own_items (said_root d.vpe) (λ (e : VpeDecl). map (root_decl e.vpe) e.roots) d.roots T.vpes d fits.vpes_rise within (own_roots d.vpe d.roots (All-contains (IsVpeDecl T) T.vpes d fits.vpes within).roots) (λ e other. other_roots d.vpe e.vpe e.roots other)
+    ∙ own_items (said_root d.vpe) (λ (e : VpeDecl). map (root_decl e.vpe) e.roots) d.roots T.vpes d fits.vpes_rise within
+    (own_roots d.vpe d.roots (All-contains (IsVpeDecl T) T.vpes d fits.vpes within).roots) (λ e other. other_roots d.vpe e.vpe e.roots other)
 
 calls_printed : (T : Setup) → IsSetup T → (d : VpeDecl) → Contains T.vpes d → calls_in (said_by T) d.vpe ≡ d.calls
 unfolding calls_in said_by
 calls_printed T fits d within =
     one_section T fits (said_call d.vpe) 6 (no_call d.vpe) 0 8 (omega arith) (omega arith) (omega arith)
-    ∙ own_items (said_call d.vpe) (λ (e : VpeDecl). map (Calls e.vpe) e.calls) d.calls T.vpes d fits.vpes_rise within (own_calls d.vpe d.calls) (λ e other. other_calls d.vpe e.vpe e.calls other)
+    ∙ own_items (said_call d.vpe) (λ (e : VpeDecl). map (Calls e.vpe) e.calls) d.calls T.vpes d fits.vpes_rise within (own_calls d.vpe d.calls)
+    (λ e other. other_calls d.vpe e.vpe e.calls other)
 
 -- the VPEs are those of the setup
 abbrev declares : ℕ → ℕ → List Root → List Call → VpeDecl
@@ -386,7 +405,8 @@ vpe_to T fits d within =
     gives (vpe_in (said_by T)) (range_with_len 0 128) d.vpe d (range_has 0 128 d.vpe (omega arith) (omega arith)) (vpe_told T fits d within)
 
 pub same_vpes : (T : Setup) → IsSetup T → T.vpes ≡ vpes_of (said_by T)
-same_vpes T fits = sorted_same (λ (a b : VpeDecl). a.vpe < b.vpe) (λ x less. absurd (omega arith)) (λ x y less more. absurd (omega arith)) T.vpes (vpes_of (said_by T)) fits.vpes_rise (vpes_rise (said_by T))
+same_vpes T fits = sorted_same (λ (a b : VpeDecl). a.vpe < b.vpe) (λ x less. absurd (omega arith)) (λ x y less more. absurd (omega arith)) T.vpes
+    (vpes_of (said_by T)) fits.vpes_rise (vpes_rise (said_by T))
     (vpe_to T fits) (λ z within. vpe_from T fits z (vpe_of (said_by T) z within))
 
 -- the services
@@ -394,7 +414,8 @@ pub same_services : (T : Setup) → IsSetup T → T.services ≡ services_of T.v
 same_services T fits =
     let v = same_vpes T fits in
     let iff = services_same T.version T.kernels (said_by T) (all_accepted T fits) in
-    rw v (sorted_same (λ (a b : ServiceData). a.name < b.name) (λ x less. absurd (omega arith)) (λ x y less more. absurd (omega arith)) T.services (services_of (vpes_of (said_by T))) fits.services_rise (services_rise (vpes_of (said_by T)))
+    rw v (sorted_same (λ (a b : ServiceData). a.name < b.name) (λ x less. absurd (omega arith)) (λ x y less more. absurd (omega arith)) T.services
+    (services_of (vpes_of (said_by T))) fits.services_rise (services_rise (vpes_of (said_by T)))
     (λ z within. (iff z).1 (subst (λ (vs : List VpeDecl). Contains (services_among vs) z) v ((fits.services z).0 within)))
     (λ z within. (fits.services z).1 (subst (λ (vs : List VpeDecl). Contains (services_among vs) z) (sym v) ((iff z).0 within))))
 
@@ -435,19 +456,23 @@ one_offer T fits a b (i, lt, is) (j, lt', is') name index =
             let r = fits.offers_rise i j a less lt' in
             let x : offer_place (get_or T.offers i a) ≡ offer_place a = ap offer_place is in
             let y : offer_place (get_or T.offers j a) ≡ offer_place b = ap offer_place (get_or_default T.offers j a b lt' ∙ is') in
-            absurd (pair_self (offer_place b) (subst (λ (p : ℕ × ℕ). ComesBefore p (offer_place b)) (x ∙ place_parts a.name b.name a.index b.index name index) (subst (λ (p : ℕ × ℕ). ComesBefore (offer_place (get_or T.offers i a)) p) y r)))
+            absurd (pair_self (offer_place b) (subst (λ (p : ℕ × ℕ). ComesBefore p (offer_place b)) (x
+            ∙ place_parts a.name b.name a.index b.index name index) (subst (λ (p : ℕ × ℕ). ComesBefore (offer_place (get_or T.offers i a)) p) y r)))
         | inr less ↦
             let r = fits.offers_rise j i a less lt in
             let x : offer_place (get_or T.offers i a) ≡ offer_place a = ap offer_place is in
             let y : offer_place (get_or T.offers j a) ≡ offer_place b = ap offer_place (get_or_default T.offers j a b lt' ∙ is') in
-            absurd (pair_self (offer_place b) (subst (λ (p : ℕ × ℕ). ComesBefore p (offer_place b)) y (subst (λ (p : ℕ × ℕ). ComesBefore (offer_place (get_or T.offers j a)) p) (x ∙ place_parts a.name b.name a.index b.index name index) r)))
+            absurd (pair_self (offer_place b)
+            (subst (λ (p : ℕ × ℕ). ComesBefore p (offer_place b)) y (subst (λ (p : ℕ × ℕ). ComesBefore (offer_place (get_or T.offers j a)) p) (x
+            ∙ place_parts a.name b.name a.index b.index name index) r)))
       ]
     ]
 
 offer_told : (T : Setup) → IsSetup T → (o : OfferData) → Contains T.offers o → offer_in (said_by T) o.name o.index ≡ Some o.sel
 unfolding offer_in
 offer_told T fits o within =
-    let some = first_there (said_offer o.name o.index) (said_by T) (offer_decl o) o.sel (has_section T (offer_decl o) 3 (omega arith) (map_has offer_decl T.offers o within)) (rw (same_both o.name o.index) refl) in
+    let some = first_there (said_offer o.name o.index) (said_by T) (offer_decl o) o.sel
+    (has_section T (offer_decl o) 3 (omega arith) (map_has offer_decl T.offers o within)) (rw (same_both o.name o.index) refl) in
     let s = some_value (first_some (said_offer o.name o.index) (said_by T)) some in
     let same = one_offer T fits (offers' o.name o.index s.0) o (offer_said T fits o.name o.index s.0 s.1) within refl refl in
     s.1 ∙ ap (λ (x : OfferData). Some x.sel) same
@@ -462,12 +487,20 @@ offer_to T fits o within =
     let s : ServiceData = valid.declared.1 in
     let name : s.name ≡ o.name = valid.declared.4 in
     let small : o.index ≤ 255 = valid.index in
-    let inside : Contains (filter_map (offer_of (said_by T) o.name) (range_with_len 0 256)) o = gives (offer_of (said_by T) o.name) (range_with_len 0 256) o.index o (range_has 0 256 o.index (omega arith) (omega arith)) (offer_made (said_by T) o (offer_told T fits o within)) in
-    joins (λ (x : ServiceData). filter_map (offer_of (said_by T) x.name) (range_with_len 0 256)) T.services s o (valid.declared.0, valid.declared.2, valid.declared.3) (subst (λ (n : ℕ). Contains (filter_map (offer_of (said_by T) n) (range_with_len 0 256)) o) (sym name) inside)
+    let inside : Contains (filter_map (offer_of (said_by T) o.name) (range_with_len 0 256)) o =
+    gives (offer_of (said_by T) o.name) (range_with_len 0 256) o.index o (range_has 0 256 o.index (omega arith) (omega arith))
+    (offer_made (said_by T) o (offer_told T fits o within)) in
+    joins (λ (x : ServiceData). filter_map (offer_of (said_by T) x.name) (range_with_len 0 256)) T.services s o (
+      valid.declared.0,
+      valid.declared.2,
+      valid.declared.3,
+    ) (subst (λ (n : ℕ). Contains (filter_map (offer_of (said_by T) n) (range_with_len 0 256)) o) (sym name) inside)
 
 pub same_offers : (T : Setup) → IsSetup T → T.offers ≡ offers_of (said_by T) T.services
 same_offers T fits =
-    sorted_same (λ (a b : OfferData). ComesBefore (offer_place a) (offer_place b)) (λ x. pair_self (offer_place x)) (λ x y. pair_other (offer_place x) (offer_place y)) T.offers (offers_of (said_by T) T.services) fits.offers_rise (offers_rise (said_by T) T.services fits.services_rise)
+    sorted_same (λ (a b : OfferData). ComesBefore (offer_place a) (offer_place b)) (λ x. pair_self (offer_place x))
+    (λ x y. pair_other (offer_place x) (offer_place y)) T.offers (offers_of (said_by T) T.services) fits.offers_rise
+    (offers_rise (said_by T) T.services fits.services_rise)
     (λ o within. offer_to T fits o within)
     (λ o within.
     let of = offer_of_setup (said_by T) T.services o within in
@@ -486,7 +519,9 @@ deny_said T fits v w some =
 
 deny_told : (T : Setup) → IsSetup T → (p : ℕ × ℕ) → Contains T.denies p → is_denied (said_by T) p.0 p.1 ≡ true
 unfolding is_denied
-deny_told T fits p within = any_there (says_deny p.0 p.1) (said_by T) (deny_decl p) (has_section T (deny_decl p) 4 (omega arith) (map_has deny_decl T.denies p within)) (same_both p.0 p.1)
+deny_told T fits p within =
+    any_there (says_deny p.0 p.1) (said_by T) (deny_decl p) (has_section T (deny_decl p) 4 (omega arith) (map_has deny_decl T.denies p within))
+    (same_both p.0 p.1)
 
 pub deny_made : (ds : List Declaration) (v w : ℕ) → is_denied ds v w ≡ true → deny_of ds v w ≡ Some (v, w)
 deny_made ds v w told = rw told refl
@@ -494,7 +529,8 @@ deny_made ds v w told = rw told refl
 pub deny_kept : (ds : List Declaration) (v w : ℕ) (p : ℕ × ℕ) → deny_of ds v w ≡ Some p → (is_denied ds v w ≡ true) × (v ≡ p.0) × (w ≡ p.1)
 deny_kept ds v w p some =
     elim (cases_Bool (is_denied ds v w)) [
-      | inl told ↦ let e : Some (pair v w) ≡ Some p = rw told at some in let s = same_Some (pair v w) p e in (told, ap (λ (q : ℕ × ℕ). q.0) s, ap (λ (q : ℕ × ℕ). q.1) s)
+      | inl told ↦ let e : Some (pair v w) ≡ Some p = rw told at some in let s = same_Some (pair v w) p e in
+          (told, ap (λ (q : ℕ × ℕ). q.0) s, ap (λ (q : ℕ × ℕ). q.1) s)
       | inr other ↦ let e : None ≡ Some p = rw other at some in absurd (none-some p e)
     ]
 
@@ -506,7 +542,8 @@ deny_to T fits p within =
     let e : VpeDecl = both.1.1 in
     let first : d.vpe ≡ p.0 = both.0.4 in
     let second : e.vpe ≡ p.1 = both.1.4 in
-    let made : deny_of (said_by T) d.vpe e.vpe ≡ Some p = ap (λ (v : ℕ). deny_of (said_by T) v e.vpe) first ∙ (ap (λ (w : ℕ). deny_of (said_by T) p.0 w) second ∙ deny_made (said_by T) p.0 p.1 (deny_told T fits p within)) in
+    let made : deny_of (said_by T) d.vpe e.vpe ≡ Some p = ap (λ (v : ℕ). deny_of (said_by T) v e.vpe) first
+    ∙ (ap (λ (w : ℕ). deny_of (said_by T) p.0 w) second ∙ deny_made (said_by T) p.0 p.1 (deny_told T fits p within)) in
     joins (λ (x : VpeDecl). filter_map (λ (y : VpeDecl). deny_of (said_by T) x.vpe y.vpe) T.vpes) T.vpes d p (both.0.0, both.0.2, both.0.3)
     (gives (λ (y : VpeDecl). deny_of (said_by T) d.vpe y.vpe) T.vpes e p (both.1.0, both.1.2, both.1.3) made)
 
@@ -519,7 +556,8 @@ deny_from T fits p within =
     subst (Contains T.denies) (place_parts j.from.vpe p.0 g.from.vpe p.1 k.1 k.2) (deny_said T fits j.from.vpe g.from.vpe k.0)
 
 pub same_denies : (T : Setup) → IsSetup T → T.denies ≡ denies_of (said_by T) T.vpes
-same_denies T fits = sorted_same ComesBefore pair_self pair_other T.denies (denies_of (said_by T) T.vpes) fits.denies_rise (denies_rise (said_by T) T.vpes fits.vpes_rise) (deny_to T fits) (deny_from T fits)
+same_denies T fits = sorted_same ComesBefore pair_self pair_other T.denies (denies_of (said_by T) T.vpes) fits.denies_rise
+    (denies_rise (said_by T) T.vpes fits.vpes_rise) (deny_to T fits) (deny_from T fits)
 
 -- the kills
 kill_said : (T : Setup) → IsSetup T → (v n : ℕ) → kill_in (said_by T) v ≡ Some n → Contains T.kills (v, n)
@@ -553,7 +591,8 @@ one_kill T fits a b (i, lt, is) (j, lt', is') same =
 kill_told : (T : Setup) → IsSetup T → (p : ℕ × ℕ) → Contains T.kills p → kill_in (said_by T) p.0 ≡ Some p.1
 unfolding kill_in
 kill_told T fits p within =
-    let some = first_there (said_kill p.0) (said_by T) (kill_decl p) p.1 (has_section T (kill_decl p) 5 (omega arith) (map_has kill_decl T.kills p within)) (same_if p.0 _ _) in
+    let some = first_there (said_kill p.0) (said_by T) (kill_decl p) p.1 (has_section T (kill_decl p) 5 (omega arith) (map_has kill_decl T.kills p within))
+    (same_if p.0 _ _) in
     let s = some_value (first_some (said_kill p.0) (said_by T)) some in
     let same = one_kill T fits (p.0, s.0) p (kill_said T fits p.0 s.0 s.1) within refl in
     s.1 ∙ ap (λ (x : ℕ × ℕ). Some x.1) same
@@ -577,7 +616,8 @@ kill_from T fits p within =
     kill_said T fits p.0 p.1 (ap (kill_in (said_by T)) (sym of.is) ∙ of.killed)
 
 pub same_kills : (T : Setup) → IsSetup T → T.kills ≡ kills_of (said_by T) T.vpes
-same_kills T fits = sorted_same (λ (a b : ℕ × ℕ). a.0 < b.0) (λ x less. absurd (omega arith)) (λ x y less more. absurd (omega arith)) T.kills (kills_of (said_by T) T.vpes) fits.kills_rise (kills_rise (said_by T) T.vpes fits.vpes_rise) (kill_to T fits) (kill_from T fits)
+same_kills T fits = sorted_same (λ (a b : ℕ × ℕ). a.0 < b.0) (λ x less. absurd (omega arith)) (λ x y less more. absurd (omega arith)) T.kills
+    (kills_of (said_by T) T.vpes) fits.kills_rise (kills_rise (said_by T) T.vpes fits.vpes_rise) (kill_to T fits) (kill_from T fits)
 
 -- the window
 window_line : (e : Declaration) (n : ℕ) → said_window e ≡ Some n → e ≡ Window n
@@ -607,9 +647,11 @@ window_there : (T : Setup) → (T.version == 1) ≡ false → IsSome (window_in 
 unfolding window_in
 window_there T two =
     let here' : Contains (window_decls T) (Window T.window) = rw two (here (Window T.window) []) in
-    first_there said_window (said_by T) (Window T.window) T.window (has_section T (Window T.window) 0 (omega arith) (Contains-append_left (window_decls T) (all_pes T) (Window T.window) here')) refl
+    first_there said_window (said_by T) (Window T.window) T.window
+    (has_section T (Window T.window) 0 (omega arith) (Contains-append_left (window_decls T) (all_pes T) (Window T.window) here')) refl
 
-window_told : (T : Setup) (o : Option ℕ) → (IsSome o → T.window ≡ option_map_or (λ n. n) o LINK_WINDOW) → (o ≡ None → T.window ≡ LINK_WINDOW) → T.window ≡ option_map_or (λ n. n) o LINK_WINDOW
+window_told : (T : Setup) (o : Option ℕ) → (IsSome o → T.window ≡ option_map_or (λ n. n) o LINK_WINDOW) → (o ≡ None → T.window ≡ LINK_WINDOW) →
+    T.window ≡ option_map_or (λ n. n) o LINK_WINDOW
 window_told T (Some n) some none = some refl
 window_told T None some none = none refl
 
@@ -637,6 +679,7 @@ same_window T fits =
 -- the setup is what its lines declare
 pub same_whole : (T : Setup) → IsSetup T → T ≡ setup_of T.version T.kernels (said_by T)
 same_whole T fits =
-    same_setup T.version T.kernels T.kernels T.window (said_by T) T.owners T.vpes T.services T.offers T.denies T.kills (same_window T fits) fits.membership.all_pes fits.same_kernels
+    same_setup T.version T.kernels T.kernels T.window (said_by T) T.owners T.vpes T.services T.offers T.denies T.kills
+    (same_window T fits) fits.membership.all_pes fits.same_kernels
     (λ p. owners_printed T fits p (owner_in (said_by T) p) refl)
     (sym fits.same_kernels) (same_vpes T fits) (same_services T fits) (same_offers T fits) (same_denies T fits) (same_kills T fits)

@@ -23,7 +23,9 @@ entry table n x i is = rw is (same_all n x i)
 pub size : {X : Type 0} (table : List X) (n : ℕ) (x : X) → table ≡ replicate n x → length table ≡ n
 size table n x is = ap length is ∙ length-replicate n x
 
-pub tells_nothing : (t : Tables) (a b c d e f i : ℕ) → t.version ≡ 1 → t.window ≡ None → t.owners ≡ record { kernels = 1; owners = replicate a None } → t.pes ≡ replicate b None → t.taken ≡ replicate c false → t.roots.items ≡ replicate d [] → t.calls.items ≡ replicate e [] → t.call_number ≡ 0 → t.named ≡ replicate f false → t.offers.entries ≡ [] → t.denied.keys ≡ [] → t.kills ≡ replicate i None → Tells 1 1 [] t
+pub tells_nothing : (t : Tables) (a b c d e f i : ℕ) → t.version ≡ 1 → t.window ≡ None → t.owners ≡ record { kernels = 1; owners = replicate a None } →
+    t.pes ≡ replicate b None → t.taken ≡ replicate c false → t.roots.items ≡ replicate d [] → t.calls.items ≡ replicate e [] → t.call_number ≡ 0 →
+    t.named ≡ replicate f false → t.offers.entries ≡ [] → t.denied.keys ≡ [] → t.kills ≡ replicate i None → Tells 1 1 [] t
 unfolding window_in owner_in pe_in is_taken roots_in calls_in has_service offer_in is_denied kill_in call_number
 tells_nothing t a b c d e f i version window owners pes taken roots calls count named offers denied kills = record {
   versions = inl refl;

@@ -1,5 +1,6 @@
 -- Lists that are made by going through numbers, or through another list.
-use Rattle.std.proofs.Common.{◌≡◌, ℕ, zero, suc, ◌+◌, ◌<◌, ◌≤◌, ◌⊎◌, List, [], ◌∷◌, ◌++◌, length, map, get_or, Option, Some, None, refl, ap, sym, ◌∙◌, subst, arith, inl, inr}
+use Rattle.std.proofs.Common.{◌≡◌, ℕ, zero, suc, ◌+◌, ◌<◌, ◌≤◌, ◌⊎◌, List, [], ◌∷◌, ◌++◌, length, map, get_or, Option, Some, None, refl, ap, sym, ◌∙◌, subst}
+use Rattle.std.proofs.Common.{arith, inl, inr}
 use Rattle.std.specs.List.{All, AllPairs, Contains, filter_map, flat_map, cons_option, range_with_len}
 use Rattle.std.proofs.lemmas.Bool.{cases_eq}
 use Rattle.std.proofs.lemmas.Option.{none-some, same_Some}
@@ -40,7 +41,8 @@ pairs_head R x xs pairs k d within = pairs zero (suc k) d (omega arith) (omega a
 pub pairs_tail : {X : Type 0} (R : X → X → Type 0) (x : X) (xs : List X) → AllPairs R (x ∷ xs) → AllPairs R xs
 pairs_tail R x xs pairs i j d lt within = pairs (suc i) (suc j) d (omega arith) (omega arith)
 
-pub pairs_append : {X : Type 0} (R : X → X → Type 0) (xs ys : List X) → AllPairs R xs → AllPairs R ys → ((x y : X) → Contains xs x → Contains ys y → R x y) → AllPairs R (xs ++ ys)
+pub pairs_append : {X : Type 0} (R : X → X → Type 0) (xs ys : List X) → AllPairs R xs → AllPairs R ys → ((x y : X) → Contains xs x → Contains ys y → R x y) →
+    AllPairs R (xs ++ ys)
 pairs_append R [] ys left right cross = right
 pairs_append R (x ∷ xs) ys left right cross =
     pairs_cons R x (xs ++ ys)
@@ -64,7 +66,8 @@ option_there : {X : Type 0} (o : Option X) (xs : List X) (z : X) → Contains xs
 option_there None xs z within = within
 option_there (Some x) xs z within = there x xs z within
 
-pairs_option : {X : Type 0} (R : X → X → Type 0) (o : Option X) (xs : List X) → ((x : X) → o ≡ Some x → All (R x) xs) → AllPairs R xs → AllPairs R (cons_option o xs)
+pairs_option : {X : Type 0} (R : X → X → Type 0) (o : Option X) (xs : List X) → ((x : X) → o ≡ Some x → All (R x) xs) → AllPairs R xs →
+    AllPairs R (cons_option o xs)
 pairs_option R None xs first rest = rest
 pairs_option R (Some x) xs first rest = pairs_cons R x xs (first x refl) rest
 
@@ -91,11 +94,13 @@ gives h (z ∷ zs) x y within is =
     ]
 
 -- where h keeps an order
-pub pairs_given : {X Y : Type 0} (h : X → Option Y) (S : X → X → Type 0) (R : Y → Y → Type 0) (xs : List X) → AllPairs S xs → ((x x' : X) (y y' : Y) → S x x' → h x ≡ Some y → h x' ≡ Some y' → R y y') → AllPairs R (filter_map h xs)
+pub pairs_given : {X Y : Type 0} (h : X → Option Y) (S : X → X → Type 0) (R : Y → Y → Type 0) (xs : List X) → AllPairs S xs →
+    ((x x' : X) (y y' : Y) → S x x' → h x ≡ Some y → h x' ≡ Some y' → R y y') → AllPairs R (filter_map h xs)
 pairs_given h S R [] pairs keeps = pairs_nil R
 pairs_given h S R (x ∷ xs) pairs keeps =
     pairs_option R (h x) (filter_map h xs)
-    (λ y gives. all_in (R y) (filter_map h xs) (λ y' within. let g = given h xs y' within in keeps x g.from y y' (All-contains (S x) xs g.from (pairs_head S x xs pairs) g.within) gives g.gives))
+    (λ y gives. all_in (R y) (filter_map h xs) (λ y' within. let g = given h xs y' within in
+    keeps x g.from y y' (All-contains (S x) xs g.from (pairs_head S x xs pairs) g.within) gives g.gives))
     (pairs_given h S R xs (pairs_tail S x xs pairs) keeps)
 
 -- where an element of a joined list comes from
@@ -120,12 +125,15 @@ joins h (z ∷ zs) x y within has =
       | inr rest ↦ Contains-append_right (h z) (flat_map h zs) y (joins h zs x y rest has)
     ]
 
-pub pairs_joined : {X Y : Type 0} (h : X → List Y) (S : X → X → Type 0) (R : Y → Y → Type 0) (xs : List X) → AllPairs S xs → ((x : X) → Contains xs x → AllPairs R (h x)) → ((x x' : X) (y y' : Y) → S x x' → Contains (h x) y → Contains (h x') y' → R y y') → AllPairs R (flat_map h xs)
+pub pairs_joined : {X Y : Type 0} (h : X → List Y) (S : X → X → Type 0) (R : Y → Y → Type 0) (xs : List X) → AllPairs S xs →
+    ((x : X) → Contains xs x → AllPairs R (h x)) → ((x x' : X) (y y' : Y) → S x x' → Contains (h x) y → Contains (h x') y' → R y y') →
+    AllPairs R (flat_map h xs)
 pairs_joined h S R [] pairs each cross = pairs_nil R
 pairs_joined h S R (x ∷ xs) pairs each cross =
     pairs_append R (h x) (flat_map h xs) (each x (here x xs))
     (pairs_joined h S R xs (pairs_tail S x xs pairs) (λ z within. each z (there x xs z within)) cross)
-    (λ y y' within within'. let g = joined h xs y' within' in cross x g.from y y' (All-contains (S x) xs g.from (pairs_head S x xs pairs) g.within) within g.has)
+    (λ y y' within within'. let g = joined h xs y' within' in
+    cross x g.from y y' (All-contains (S x) xs g.from (pairs_head S x xs pairs) g.within) within g.has)
 
 -- numbers one after another
 pub in_range : (a n v : ℕ) → Contains (range_with_len a n) v → (a ≤ v) × (v < a + n)
@@ -146,7 +154,9 @@ range_has a (suc n) v low high =
 
 pub range_rises : (a n : ℕ) → AllPairs (λ v w. v < w) (range_with_len a n)
 range_rises a zero = pairs_nil (λ (v w : ℕ). v < w)
-range_rises a (suc n) = pairs_cons (λ (v w : ℕ). v < w) a (range_with_len (a + 1) n) (all_in (λ (w : ℕ). a < w) (range_with_len (a + 1) n) (λ w within. let r = in_range (a + 1) n w within in omega arith)) (range_rises (a + 1) n)
+range_rises a (suc n) =
+    pairs_cons (λ (v w : ℕ). v < w) a (range_with_len (a + 1) n) (all_in (λ (w : ℕ). a < w) (range_with_len (a + 1) n) (λ w within. let r =
+    in_range (a + 1) n w within in omega arith)) (range_rises (a + 1) n)
 
 pub length-range : (a n : ℕ) → length (range_with_len a n) ≡ n
 length-range a zero = refl
@@ -163,12 +173,14 @@ in_table f a zero i x some = absurd (none-some x some)
 in_table f a (suc n) zero x some = let e : a + 0 ≡ a = omega arith in rw e some
 in_table f a (suc n) (suc i) x some = let e : a + suc i ≡ (a + 1) + i = omega arith in rw e (in_table f (a + 1) n i x some)
 
-pub same_table : {X : Type 0} (f : ℕ → Option X) (xs : List (Option X)) (a n : ℕ) → length xs ≡ n → ((i : ℕ) → get_or xs i None ≡ f (a + i)) → xs ≡ map f (range_with_len a n)
+pub same_table : {X : Type 0} (f : ℕ → Option X) (xs : List (Option X)) (a n : ℕ) → length xs ≡ n → ((i : ℕ) → get_or xs i None ≡ f (a + i)) →
+    xs ≡ map f (range_with_len a n)
 same_table f [] a zero long tells = refl
 same_table f [] a (suc n) long tells = absurd (omega arith)
 same_table f (x ∷ xs) a zero long tells = absurd (omega arith)
 same_table f (x ∷ xs) a (suc n) long tells =
     let e : a + 0 ≡ a = omega arith in
     let first : x ≡ f a = rw e at (tells 0) in
-    let rest : xs ≡ map f (range_with_len (a + 1) n) = same_table f xs (a + 1) n (omega arith) (λ i. tells (suc i) ∙ (let s : a + suc i ≡ (a + 1) + i = omega arith in ap f s)) in
+    let rest : xs ≡ map f (range_with_len (a + 1) n) = same_table f xs (a + 1) n (omega arith) (λ i. tells (suc i)
+    ∙ (let s : a + suc i ≡ (a + 1) + i = omega arith in ap f s)) in
     rw (first, rest) refl

@@ -1,5 +1,6 @@
 -- What a line says that has a form is in range.
-use Rattle.std.proofs.Common.{◌≡◌, ℕ, zero, suc, ◌-◌, ◌<◌, ◌≤◌, ◌==◌, Bool, true, false, cond, List, [], ◌∷◌, length, get_or, map, codes, Option, Some, None, inl, inr, refl, sym, subst, arith}
+use Rattle.std.proofs.Common.{◌≡◌, ℕ, zero, suc, ◌-◌, ◌<◌, ◌≤◌, ◌==◌, Bool, true, false, cond, List, [], ◌∷◌, length, get_or, map, codes, Option, Some, None}
+use Rattle.std.proofs.Common.{inl, inr, refl, sym, subst, arith}
 use Rattle.std.specs.List.{Contains, list_any}
 use Rattle.std.specs.Option.{option_or}
 use Rattle.std.specs.Str.{bytes_eq}
@@ -22,12 +23,14 @@ or_none None p none = (refl, none)
 or_none (Some cause) p none = absurd (none-some cause (sym none))
 
 -- each place of a form is filled without a fault
-pub at_place : (places : List Place) (words : List (List ℕ)) → form_fault places words ≡ None → (i : ℕ) → i < length places → place_fault (get_or places i (Word [])) (word_at words i) ≡ None
+pub at_place : (places : List Place) (words : List (List ℕ)) → form_fault places words ≡ None → (i : ℕ) → i < length places →
+    place_fault (get_or places i (Word [])) (word_at words i) ≡ None
 unfolding form_fault
 at_place [] words none i within = absurd (omega arith)
 at_place (place ∷ places) [] none i within = absurd (none-some Missing (sym none))
 at_place (place ∷ places) (word ∷ words) none zero within = (or_none (place_fault place word) (form_fault places words) none).0
-at_place (place ∷ places) (word ∷ words) none (suc i) within = at_place places words (or_none (place_fault place word) (form_fault places words) none).1 i (omega arith)
+at_place (place ∷ places) (word ∷ words) none (suc i) within = at_place places words (or_none (place_fault place word) (form_fault places words) none).1 i
+    (omega arith)
 
 -- a number without a fault is in its range
 within : (least most : ℕ) (w : List ℕ) → place_fault (Number least most) w ≡ None → (least ≤ number_value w) × (number_value w ≤ most)
@@ -41,8 +44,10 @@ within least most w none = elim (cases_Bool (is_number w)) [
     from false is none = absurd (none-some OutOfRange (sym none))
 
 -- the number at a place of a form
-pub number_in : (places : List Place) (words : List (List ℕ)) → form_fault places words ≡ None → (i least most : ℕ) → i < length places → get_or places i (Word []) ≡ Number least most → (least ≤ number_at words i) × (number_at words i ≤ most)
-number_in places words none i least most inside is = within least most (word_at words i) (subst (λ (p : Place). place_fault p (word_at words i) ≡ None) is (at_place places words none i inside))
+pub number_in : (places : List Place) (words : List (List ℕ)) → form_fault places words ≡ None → (i least most : ℕ) → i < length places →
+    get_or places i (Word []) ≡ Number least most → (least ≤ number_at words i) × (number_at words i ≤ most)
+number_in places words none i least most inside is =
+    within least most (word_at words i) (subst (λ (p : Place). place_fault p (word_at words i) ≡ None) is (at_place places words none i inside))
 
 -- a word without a fault is one of those that can stand in its place
 pub one_of : (names : List (List ℕ)) (w : List ℕ) → place_fault (Word names) w ≡ None → Contains names w
@@ -82,31 +87,54 @@ byte_fits n few = omega arith
 -- the rows of calls, each from its name on, behind the name of the line and a VPE
 module _ (version kernels : ℕ) (v : List ℕ) where
   abbrev IsCallRow : List ℕ → List (List ℕ) → Type 0
-  IsCallRow name ws = form_fault (form version kernels (codes "call" ∷ v ∷ name ∷ ws)) (codes "call" ∷ v ∷ name ∷ ws) ≡ None → IsValidCall (most_vpes version) (call_from (name ∷ ws))
+  IsCallRow name ws = form_fault (form version kernels (codes "call" ∷ v ∷ name ∷ ws)) (codes "call" ∷ v ∷ name ∷ ws) ≡ None →
+      IsValidCall (most_vpes version) (call_from (name ∷ ws))
 
   abbrev Numbers : List ℕ → List (List ℕ) → Type 0
   Numbers name ws =
-      (i least most : ℕ) → i < length (form version kernels (codes "call" ∷ v ∷ name ∷ ws)) → get_or (form version kernels (codes "call" ∷ v ∷ name ∷ ws)) i (Word []) ≡ Number least most
+      (i least most : ℕ) → i < length (form version kernels (codes "call" ∷ v ∷ name ∷ ws)) →
+      get_or (form version kernels (codes "call" ∷ v ∷ name ∷ ws)) i (Word []) ≡ Number least most
       → (least ≤ number_at (codes "call" ∷ v ∷ name ∷ ws) i) × (number_at (codes "call" ∷ v ∷ name ∷ ws) i ≤ most)
 
-  numbers_of : (name : List ℕ) (ws : List (List ℕ)) → form_fault (form version kernels (codes "call" ∷ v ∷ name ∷ ws)) (codes "call" ∷ v ∷ name ∷ ws) ≡ None → Numbers name ws
+  numbers_of : (name : List ℕ) (ws : List (List ℕ)) → form_fault (form version kernels (codes "call" ∷ v ∷ name ∷ ws)) (codes "call" ∷ v ∷ name ∷ ws) ≡ None →
+      Numbers name ws
   numbers_of name ws none = number_in (form version kernels (codes "call" ∷ v ∷ name ∷ ws)) (codes "call" ∷ v ∷ name ∷ ws) none
 
   derive_row : (ws : List (List ℕ)) → IsCallRow (codes "derive") ws
   unfolding form lines calls call_from
-  derive_row ws none = let n = numbers_of (codes "derive") ws none in (byte_fits _ (n 3 0 255 (omega arith) refl).1, byte_fits _ (n 4 0 255 (omega arith) refl).1, (n 5 0 4294967295 (omega arith) refl).1, (n 6 0 4294967295 (omega arith) refl).1, (n 7 0 7 (omega arith) refl).1)
+  derive_row ws none = let n = numbers_of (codes "derive") ws none in (
+    byte_fits _ (n 3 0 255 (omega arith) refl).1,
+    byte_fits _ (n 4 0 255 (omega arith) refl).1,
+    (n 5 0 4294967295 (omega arith) refl).1,
+    (n 6 0 4294967295 (omega arith) refl).1,
+    (n 7 0 7 (omega arith) refl).1,
+  )
 
   gate_row : (ws : List (List ℕ)) → IsCallRow (codes "gate") ws
   unfolding form lines calls call_from
-  gate_row ws none = let n = numbers_of (codes "gate") ws none in (byte_fits _ (n 3 0 255 (omega arith) refl).1, byte_fits _ (n 4 0 255 (omega arith) refl).1, (n 5 0 4294967295 (omega arith) refl).1, (n 6 1 64 (omega arith) refl).0, (n 6 1 64 (omega arith) refl).1)
+  gate_row ws none = let n = numbers_of (codes "gate") ws none in (
+    byte_fits _ (n 3 0 255 (omega arith) refl).1,
+    byte_fits _ (n 4 0 255 (omega arith) refl).1,
+    (n 5 0 4294967295 (omega arith) refl).1,
+    (n 6 1 64 (omega arith) refl).0,
+    (n 6 1 64 (omega arith) refl).1,
+  )
 
   obtain_row : (ws : List (List ℕ)) → IsCallRow (codes "obtain") ws
   unfolding form lines calls call_from
-  obtain_row ws none = let n = numbers_of (codes "obtain") ws none in (byte_fits _ (n 3 0 255 (omega arith) refl).1, node_fits version _ (n 4 0 (most_vpes version - 1) (omega arith) refl).1, byte_fits _ (n 5 0 255 (omega arith) refl).1)
+  obtain_row ws none = let n = numbers_of (codes "obtain") ws none in (
+    byte_fits _ (n 3 0 255 (omega arith) refl).1,
+    node_fits version _ (n 4 0 (most_vpes version - 1) (omega arith) refl).1,
+    byte_fits _ (n 5 0 255 (omega arith) refl).1,
+  )
 
   delegate_row : (ws : List (List ℕ)) → IsCallRow (codes "delegate") ws
   unfolding form lines calls call_from
-  delegate_row ws none = let n = numbers_of (codes "delegate") ws none in (byte_fits _ (n 3 0 255 (omega arith) refl).1, node_fits version _ (n 4 0 (most_vpes version - 1) (omega arith) refl).1, byte_fits _ (n 5 0 255 (omega arith) refl).1)
+  delegate_row ws none = let n = numbers_of (codes "delegate") ws none in (
+    byte_fits _ (n 3 0 255 (omega arith) refl).1,
+    node_fits version _ (n 4 0 (most_vpes version - 1) (omega arith) refl).1,
+    byte_fits _ (n 5 0 255 (omega arith) refl).1,
+  )
 
   open_row : (ws : List (List ℕ)) → IsCallRow (codes "open") ws
   unfolding form lines calls call_from
@@ -114,7 +142,8 @@ module _ (version kernels : ℕ) (v : List ℕ) where
 
   ask_row : (ws : List (List ℕ)) → IsCallRow (codes "ask") ws
   unfolding form lines calls call_from
-  ask_row ws none = let n = numbers_of (codes "ask") ws none in (byte_fits _ (n 3 0 255 (omega arith) refl).1, byte_fits _ (n 4 0 255 (omega arith) refl).1, (n 5 0 255 (omega arith) refl).1)
+  ask_row ws none = let n = numbers_of (codes "ask") ws none in
+      (byte_fits _ (n 3 0 255 (omega arith) refl).1, byte_fits _ (n 4 0 255 (omega arith) refl).1, (n 5 0 255 (omega arith) refl).1)
 
   revoke_row : (ws : List (List ℕ)) → IsCallRow (codes "revoke") ws
   unfolding form lines calls call_from
@@ -122,15 +151,18 @@ module _ (version kernels : ℕ) (v : List ℕ) where
 
   bind_row : (ws : List (List ℕ)) → IsCallRow (codes "bind") ws
   unfolding form lines calls call_from
-  bind_row ws none = let n = numbers_of (codes "bind") ws none in (endpoint_fits _ (n 3 0 15 (omega arith) refl).1, byte_fits _ (n 4 0 255 (omega arith) refl).1)
+  bind_row ws none = let n = numbers_of (codes "bind") ws none in
+      (endpoint_fits _ (n 3 0 15 (omega arith) refl).1, byte_fits _ (n 4 0 255 (omega arith) refl).1)
 
   read_row : (ws : List (List ℕ)) → IsCallRow (codes "read") ws
   unfolding form lines calls call_from
-  read_row ws none = let n = numbers_of (codes "read") ws none in (endpoint_fits _ (n 3 0 15 (omega arith) refl).1, (n 4 0 4294967295 (omega arith) refl).1, (n 5 0 4294967295 (omega arith) refl).1)
+  read_row ws none = let n = numbers_of (codes "read") ws none in
+      (endpoint_fits _ (n 3 0 15 (omega arith) refl).1, (n 4 0 4294967295 (omega arith) refl).1, (n 5 0 4294967295 (omega arith) refl).1)
 
   write_row : (ws : List (List ℕ)) → IsCallRow (codes "write") ws
   unfolding form lines calls call_from
-  write_row ws none = let n = numbers_of (codes "write") ws none in (endpoint_fits _ (n 3 0 15 (omega arith) refl).1, (n 4 0 4294967295 (omega arith) refl).1, (n 5 0 4294967295 (omega arith) refl).1)
+  write_row ws none = let n = numbers_of (codes "write") ws none in
+      (endpoint_fits _ (n 3 0 15 (omega arith) refl).1, (n 4 0 4294967295 (omega arith) refl).1, (n 5 0 4294967295 (omega arith) refl).1)
 
   send_row : (ws : List (List ℕ)) → IsCallRow (codes "send") ws
   unfolding form lines calls call_from
@@ -152,9 +184,27 @@ module _ (version kernels : ℕ) (v : List ℕ) where
   call_row : (name : List ℕ) (ws : List (List ℕ)) → IsCallRow name ws
   unfolding form lines calls
   call_row name ws =
-      λ none. of_one (λ w. IsCallRow w ws) (map (λ row. row.0) (calls version)) name
-      (derive_row ws, (gate_row ws, (obtain_row ws, (delegate_row ws, (open_row ws, (ask_row ws, (revoke_row ws, (bind_row ws, (read_row ws, (write_row ws, (send_row ws, (credit_row ws, (exit_row ws, (clear_row ws, tt))))))))))))))
-      (one_of (map (λ row. row.0) (calls version)) name (at_place (form version kernels (codes "call" ∷ v ∷ name ∷ ws)) (codes "call" ∷ v ∷ name ∷ ws) none 2 (omega arith)))
+      λ none. of_one (λ w. IsCallRow w ws) (map (λ row. row.0) (calls version)) name (
+        derive_row ws,
+        (
+          gate_row ws,
+          (
+            obtain_row ws,
+            (
+              delegate_row ws,
+              (
+                open_row ws,
+                (
+                  ask_row ws,
+                  (revoke_row ws, (bind_row ws, (read_row ws, (write_row ws, (send_row ws, (credit_row ws, (exit_row ws, (clear_row ws, tt)))))))),
+                ),
+              ),
+            ),
+          ),
+        ),
+      )
+      (one_of (map (λ row. row.0) (calls version)) name (at_place (form version kernels (codes "call" ∷ v ∷ name ∷ ws)) (codes "call" ∷ v ∷ name ∷ ws) none 2
+      (omega arith)))
       none
 
 -- the rows of lines
@@ -168,27 +218,33 @@ module _ (version kernels : ℕ) (some : 1 ≤ kernels) where
 
   pe_line : (ws : List (List ℕ)) → IsRow (codes "pe") ws
   unfolding form lines declaration
-  pe_line ws none = let n = number_in (form version kernels (codes "pe" ∷ ws)) (codes "pe" ∷ ws) none in (node_fits version _ (n 1 0 (most_vpes version - 1) (omega arith) refl).1, below _ kernels (n 2 0 (kernels - 1) (omega arith) refl).1 some)
+  pe_line ws none = let n = number_in (form version kernels (codes "pe" ∷ ws)) (codes "pe" ∷ ws) none in
+      (node_fits version _ (n 1 0 (most_vpes version - 1) (omega arith) refl).1, below _ kernels (n 2 0 (kernels - 1) (omega arith) refl).1 some)
 
   vpe_line : (ws : List (List ℕ)) → IsRow (codes "vpe") ws
   unfolding form lines declaration
-  vpe_line ws none = let n = number_in (form version kernels (codes "vpe" ∷ ws)) (codes "vpe" ∷ ws) none in (node_fits version _ (n 1 0 (most_vpes version - 1) (omega arith) refl).1, node_fits version _ (n 2 0 (most_vpes version - 1) (omega arith) refl).1)
+  vpe_line ws none = let n = number_in (form version kernels (codes "vpe" ∷ ws)) (codes "vpe" ∷ ws) none in
+      (node_fits version _ (n 1 0 (most_vpes version - 1) (omega arith) refl).1, node_fits version _ (n 2 0 (most_vpes version - 1) (omega arith) refl).1)
 
   service_line : (ws : List (List ℕ)) → IsRow (codes "service") ws
   unfolding form lines declaration
-  service_line ws none = let n = number_in (form version kernels (codes "service" ∷ ws)) (codes "service" ∷ ws) none in (node_fits version _ (n 1 0 (most_vpes version - 1) (omega arith) refl).1, byte_fits _ (n 2 0 255 (omega arith) refl).1, (n 3 0 255 (omega arith) refl).1)
+  service_line ws none = let n = number_in (form version kernels (codes "service" ∷ ws)) (codes "service" ∷ ws) none in
+      (node_fits version _ (n 1 0 (most_vpes version - 1) (omega arith) refl).1, byte_fits _ (n 2 0 255 (omega arith) refl).1, (n 3 0 255 (omega arith) refl).1)
 
   offer_line : (ws : List (List ℕ)) → IsRow (codes "offer") ws
   unfolding form lines declaration
-  offer_line ws none = let n = number_in (form version kernels (codes "offer" ∷ ws)) (codes "offer" ∷ ws) none in ((n 1 0 255 (omega arith) refl).1, (n 2 0 255 (omega arith) refl).1, byte_fits _ (n 3 0 255 (omega arith) refl).1)
+  offer_line ws none = let n = number_in (form version kernels (codes "offer" ∷ ws)) (codes "offer" ∷ ws) none in
+      ((n 1 0 255 (omega arith) refl).1, (n 2 0 255 (omega arith) refl).1, byte_fits _ (n 3 0 255 (omega arith) refl).1)
 
   deny_line : (ws : List (List ℕ)) → IsRow (codes "deny") ws
   unfolding form lines declaration
-  deny_line ws none = let n = number_in (form version kernels (codes "deny" ∷ ws)) (codes "deny" ∷ ws) none in (node_fits version _ (n 1 0 (most_vpes version - 1) (omega arith) refl).1, node_fits version _ (n 2 0 (most_vpes version - 1) (omega arith) refl).1)
+  deny_line ws none = let n = number_in (form version kernels (codes "deny" ∷ ws)) (codes "deny" ∷ ws) none in
+      (node_fits version _ (n 1 0 (most_vpes version - 1) (omega arith) refl).1, node_fits version _ (n 2 0 (most_vpes version - 1) (omega arith) refl).1)
 
   kill_line : (ws : List (List ℕ)) → IsRow (codes "kill") ws
   unfolding form lines declaration
-  kill_line ws none = let n = number_in (form version kernels (codes "kill" ∷ ws)) (codes "kill" ∷ ws) none in (node_fits version _ (n 1 0 (most_vpes version - 1) (omega arith) refl).1, (n 2 0 4294967295 (omega arith) refl).1)
+  kill_line ws none = let n = number_in (form version kernels (codes "kill" ∷ ws)) (codes "kill" ∷ ws) none in
+      (node_fits version _ (n 1 0 (most_vpes version - 1) (omega arith) refl).1, (n 2 0 4294967295 (omega arith) refl).1)
 
   end_line : (ws : List (List ℕ)) → IsRow (codes "end") ws
   unfolding form lines declaration
@@ -201,14 +257,23 @@ module _ (version kernels : ℕ) (some : 1 ≤ kernels) where
   mem_root : (v sel : List ℕ) (ws : List (List ℕ)) → IsRootRow v sel (codes "mem") ws
   unfolding form lines objects declaration root_from
   mem_root v sel ws none =
-      let n = number_in (form version kernels (codes "root" ∷ v ∷ sel ∷ codes "mem" ∷ ws)) (codes "root" ∷ v ∷ sel ∷ codes "mem" ∷ ws) none in
-      (node_fits version _ (n 1 0 (most_vpes version - 1) (omega arith) refl).1, byte_fits _ (n 2 0 255 (omega arith) refl).1, (n 4 0 4294967295 (omega arith) refl).1, (n 5 0 4294967295 (omega arith) refl).1, (n 6 0 7 (omega arith) refl).1)
+      let n = number_in (form version kernels (codes "root" ∷ v ∷ sel ∷ codes "mem" ∷ ws)) (codes "root" ∷ v ∷ sel ∷ codes "mem" ∷ ws) none in (
+        node_fits version _ (n 1 0 (most_vpes version - 1) (omega arith) refl).1,
+        byte_fits _ (n 2 0 255 (omega arith) refl).1,
+        (n 4 0 4294967295 (omega arith) refl).1,
+        (n 5 0 4294967295 (omega arith) refl).1,
+        (n 6 0 7 (omega arith) refl).1,
+      )
 
   recv_root : (v sel : List ℕ) (ws : List (List ℕ)) → IsRootRow v sel (codes "recv") ws
   unfolding form lines objects declaration root_from
   recv_root v sel ws none =
-      let n = number_in (form version kernels (codes "root" ∷ v ∷ sel ∷ codes "recv" ∷ ws)) (codes "root" ∷ v ∷ sel ∷ codes "recv" ∷ ws) none in
-      (node_fits version _ (n 1 0 (most_vpes version - 1) (omega arith) refl).1, byte_fits _ (n 2 0 255 (omega arith) refl).1, (n 4 1 64 (omega arith) refl).0, (n 4 1 64 (omega arith) refl).1)
+      let n = number_in (form version kernels (codes "root" ∷ v ∷ sel ∷ codes "recv" ∷ ws)) (codes "root" ∷ v ∷ sel ∷ codes "recv" ∷ ws) none in (
+        node_fits version _ (n 1 0 (most_vpes version - 1) (omega arith) refl).1,
+        byte_fits _ (n 2 0 255 (omega arith) refl).1,
+        (n 4 1 64 (omega arith) refl).0,
+        (n 4 1 64 (omega arith) refl).1,
+      )
 
   root_line : (ws : List (List ℕ)) → IsRow (codes "root") ws
   unfolding form lines objects form_fault
@@ -218,7 +283,8 @@ module _ (version kernels : ℕ) (some : 1 ≤ kernels) where
   root_line (v ∷ sel ∷ name ∷ ws) none =
       of_one (λ w. IsRootRow v sel w ws) (map (λ row. row.0) objects) name
       (mem_root v sel ws, (recv_root v sel ws, tt))
-      (one_of (map (λ row. row.0) objects) name (at_place (form version kernels (codes "root" ∷ v ∷ sel ∷ name ∷ ws)) (codes "root" ∷ v ∷ sel ∷ name ∷ ws) none 3 (omega arith)))
+      (one_of (map (λ row. row.0) objects) name (at_place (form version kernels (codes "root" ∷ v ∷ sel ∷ name ∷ ws)) (codes "root" ∷ v ∷ sel ∷ name ∷ ws) none
+      3 (omega arith)))
       none
 
   call_line : (ws : List (List ℕ)) → IsRow (codes "call") ws
@@ -232,7 +298,8 @@ module _ (version kernels : ℕ) (some : 1 ≤ kernels) where
   window_ranges : (version == 1) ≡ false → (ws : List (List ℕ)) → IsRow (codes "window") ws
   unfolding form lines declaration
   window_ranges other ws none =
-      number_in (form version kernels (codes "window" ∷ ws)) (codes "window" ∷ ws) none 1 (least_window version) (most_window version) (rw other (omega arith)) (rw other refl)
+      number_in (form version kernels (codes "window" ∷ ws)) (codes "window" ∷ ws) none 1 (least_window version) (most_window version) (rw other (omega arith))
+      (rw other refl)
 
   -- version 2 alone has a line of the window
   window_row : (ws : List (List ℕ)) → OfEach (λ w. IsRow w ws) (map (λ row. row.0) (window_line version))
@@ -244,13 +311,22 @@ module _ (version kernels : ℕ) (some : 1 ≤ kernels) where
   line_row : (name : List ℕ) (ws : List (List ℕ)) → IsRow name ws
   unfolding form lines
   line_row name ws none =
-      of_one (λ w. IsRow w ws) (map (λ row. row.0) (lines version kernels (name ∷ ws))) name
-      (kernels_line ws, (pe_line ws, (vpe_line ws, (root_line ws, (service_line ws, (offer_line ws, (deny_line ws, (kill_line ws, (call_line ws, (end_line ws, window_row ws))))))))))
+      of_one (λ w. IsRow w ws) (map (λ row. row.0) (lines version kernels (name ∷ ws))) name (
+        kernels_line ws,
+        (
+          pe_line ws,
+          (
+            vpe_line ws,
+            (root_line ws, (service_line ws, (offer_line ws, (deny_line ws, (kill_line ws, (call_line ws, (end_line ws, window_row ws))))))),
+          ),
+        ),
+      )
       (one_of (map (λ row. row.0) (lines version kernels (name ∷ ws))) name (at_place (form version kernels (name ∷ ws)) (name ∷ ws) none 0 (omega arith)))
       none
 
 -- what a line says behind the second is in range
-pub form_ranges : (version kernels : ℕ) (words : List (List ℕ)) → 1 ≤ kernels → form_fault (form version kernels words) words ≡ None → IsInRange version kernels (declaration words)
+pub form_ranges : (version kernels : ℕ) (words : List (List ℕ)) → 1 ≤ kernels → form_fault (form version kernels words) words ≡ None →
+    IsInRange version kernels (declaration words)
 unfolding form_fault form
 form_ranges version kernels [] some none = absurd (none-some Missing (sym none))
 form_ranges version kernels (name ∷ ws) some none = line_row version kernels some name ws none

@@ -1,5 +1,6 @@
 -- What is declared where one line more is said.
-use Rattle.std.proofs.Common.{◌≡◌, ℕ, ◌+◌, ◌<◌, ◌==◌, ◌⊎◌, inl, inr, Bool, true, false, cond, ◌||◌, ◌&&◌, List, [], ◌∷◌, ◌++◌, length, get_or, set, Option, Some, None, true≢false, subst, refl, ap, sym, ◌∙◌, eq-eqb, ne_eqb}
+use Rattle.std.proofs.Common.{◌≡◌, ℕ, ◌+◌, ◌<◌, ◌==◌, ◌⊎◌, inl, inr, Bool, true, false, cond, ◌||◌, ◌&&◌, List, [], ◌∷◌, ◌++◌, length, get_or, set, Option}
+use Rattle.std.proofs.Common.{Some, None, true≢false, subst, refl, ap, sym, ◌∙◌, eq-eqb, ne_eqb}
 use Rattle.std.specs.List.{filter_map, list_any, cons_option}
 use Rattle.std.specs.Option.{option_or, is_some}
 use Rattle.std.proofs.lemmas.Bool.{cases_eq}
@@ -7,7 +8,9 @@ use Rattle.std.proofs.lemmas.Option.{none-some}
 use Rattle.std.proofs.lemmas.List.Sums.{sum_by_push}
 use Rattle.std.proofs.lemmas.List.{get_or-set_same, get_or-set_other}
 use Rattle.sem_trace.specs.declared.declaration.Declaration.{Declaration}
-use Rattle.sem_trace.specs.Earlier.{first_some, said_window, window_in, said_owner, owner_in, said_pe, pe_in, says_on, is_taken, said_root, roots_in, said_call, calls_in, says_service, has_service, said_offer, offer_in, says_deny, is_denied, said_kill, kill_in, is_call, call_number, is_end, is_ended}
+use Rattle.sem_trace.specs.Earlier.{first_some, said_window, window_in, said_owner, owner_in, said_pe, pe_in, says_on, is_taken, said_root, roots_in, said_call}
+use Rattle.sem_trace.specs.Earlier.{calls_in, says_service, has_service, said_offer, offer_in, says_deny, is_denied, said_kill, kill_in, is_call, call_number}
+use Rattle.sem_trace.specs.Earlier.{is_end, is_ended}
 use Rattle.sem_msg.specs.declared.call.Call.{Call}
 use Rattle.sem_msg.specs.declared.setup.Root.{Root}
 use Rattle.sem_trace.specs.Ranges.{IsInRange}
@@ -100,7 +103,8 @@ pub other_number : {Y : Type 0} (m n : ℕ) (x y : Y) → (n ≡ m → ⊥) → 
 other_number m n x y other = rw (ne_eqb m n (λ e. other (sym e))) refl
 
 -- a table in which one entry is written
-pub table_set : {Y : Type 0} (table : List Y) (i : ℕ) (x d : Y) (f g : ℕ → Y) → i < length table → ((u : ℕ) → get_or table u d ≡ f u) → g i ≡ x → ((u : ℕ) → (u ≡ i → ⊥) → g u ≡ f u) → (u : ℕ) → get_or (set table i x) u d ≡ g u
+pub table_set : {Y : Type 0} (table : List Y) (i : ℕ) (x d : Y) (f g : ℕ → Y) → i < length table → ((u : ℕ) → get_or table u d ≡ f u) → g i ≡ x →
+    ((u : ℕ) → (u ≡ i → ⊥) → g u ≡ f u) → (u : ℕ) → get_or (set table i x) u d ≡ g u
 table_set table i x d f g within tells here others u =
     elim (cases_eq u i) [
       | inl same ↦ rw (same, get_or-set_same table i x d within) (sym here)
@@ -151,7 +155,8 @@ pub is_taken-new : (ds : List Declaration) (d : Declaration) (p : ℕ) → says_
 unfolding is_taken
 is_taken-new ds d p some = any_new (says_on p) ds d some
 
-pub has_service-same : (ds : List Declaration) (d : Declaration) (name : ℕ) → says_service name d ≡ false → has_service (ds ++ d ∷ []) name ≡ has_service ds name
+pub has_service-same : (ds : List Declaration) (d : Declaration) (name : ℕ) → says_service name d ≡ false →
+    has_service (ds ++ d ∷ []) name ≡ has_service ds name
 unfolding has_service
 has_service-same ds d name nothing = any_same (says_service name) ds d nothing
 
@@ -175,15 +180,18 @@ pub calls_in-new : (ds : List Declaration) (d : Declaration) (v : ℕ) (x : Call
 unfolding calls_in
 calls_in-new ds d v x some = all_new (said_call v) ds d x some
 
-pub offer_in-same : (ds : List Declaration) (d : Declaration) (name index : ℕ) → said_offer name index d ≡ None → offer_in (ds ++ d ∷ []) name index ≡ offer_in ds name index
+pub offer_in-same : (ds : List Declaration) (d : Declaration) (name index : ℕ) → said_offer name index d ≡ None →
+    offer_in (ds ++ d ∷ []) name index ≡ offer_in ds name index
 unfolding offer_in
 offer_in-same ds d name index nothing = first_same (said_offer name index) ds d nothing
 
-pub offer_in-new : (ds : List Declaration) (d : Declaration) (name index x : ℕ) → offer_in ds name index ≡ None → said_offer name index d ≡ Some x → offer_in (ds ++ d ∷ []) name index ≡ Some x
+pub offer_in-new : (ds : List Declaration) (d : Declaration) (name index x : ℕ) → offer_in ds name index ≡ None → said_offer name index d ≡ Some x →
+    offer_in (ds ++ d ∷ []) name index ≡ Some x
 unfolding offer_in
 offer_in-new ds d name index x none some = first_new (said_offer name index) ds d x none some
 
-pub is_denied-same : (ds : List Declaration) (d : Declaration) (v asker : ℕ) → says_deny v asker d ≡ false → is_denied (ds ++ d ∷ []) v asker ≡ is_denied ds v asker
+pub is_denied-same : (ds : List Declaration) (d : Declaration) (v asker : ℕ) → says_deny v asker d ≡ false →
+    is_denied (ds ++ d ∷ []) v asker ≡ is_denied ds v asker
 unfolding is_denied
 is_denied-same ds d v asker nothing = any_same (says_deny v asker) ds d nothing
 
@@ -205,7 +213,8 @@ unfolding call_number
 call_number-more ds d = sum_by_push (λ d. cond (is_call d) 1 0) ds d
 
 -- where nothing is wrong with a line, none of its tests holds
-pub no_fault : (ds : List Declaration) (d : Declaration) → context_fault ds d ≡ None → (is_too_long d ≡ false) × (is_undeclared ds d ≡ false) × (is_twice ds d ≡ false) × (is_call_too_many ds d ≡ false)
+pub no_fault : (ds : List Declaration) (d : Declaration) → context_fault ds d ≡ None → (is_too_long d ≡ false) × (is_undeclared ds d ≡ false)
+    × (is_twice ds d ≡ false) × (is_call_too_many ds d ≡ false)
 unfolding context_fault
 no_fault ds d none =
     let a = no_cond (is_too_long d) _ _ none in
@@ -215,7 +224,8 @@ no_fault ds d none =
     (a.0, b.0, c.0, e.0)
 
 -- the last of a list with one element more, or one before it
-last_or_before : (ds before after : List Declaration) (d e : Declaration) → ds ++ d ∷ [] ≡ before ++ e ∷ after → ((ds ≡ before) × (d ≡ e)) ⊎ ((rest : List Declaration) × (ds ≡ before ++ e ∷ rest))
+last_or_before : (ds before after : List Declaration) (d e : Declaration) → ds ++ d ∷ [] ≡ before ++ e ∷ after →
+    ((ds ≡ before) × (d ≡ e)) ⊎ ((rest : List Declaration) × (ds ≡ before ++ e ∷ rest))
 last_or_before [] [] after d e is = inl (refl, cc)
 last_or_before [] (x ∷ []) after d e is = absurd (cons_nil e after (cc))
 last_or_before [] (x ∷ y ∷ xs) after d e is = absurd (cons_nil y (xs ++ e ∷ after) (cc))
@@ -228,7 +238,8 @@ last_or_before (x ∷ xs) (y ∷ ys) after d e is =
     ]
 
 -- a line more with which nothing is wrong
-pub accepted_more : (version kernels : ℕ) (ds : List Declaration) (d : Declaration) → AreAccepted version kernels ds → IsInRange version kernels d → context_fault ds d ≡ None → AreAccepted version kernels (ds ++ d ∷ [])
+pub accepted_more : (version kernels : ℕ) (ds : List Declaration) (d : Declaration) → AreAccepted version kernels ds → IsInRange version kernels d →
+    context_fault ds d ≡ None → AreAccepted version kernels (ds ++ d ∷ [])
 accepted_more version kernels ds d accepted ranges fault before after e is =
     elim (last_or_before ds before after d e is) [
       | inl last ↦ (subst (IsInRange version kernels) last.1 ranges, rw (← last.0, ← last.1) fault)
@@ -255,7 +266,8 @@ pub kill_in-more : (ds : List Declaration) (d : Declaration) (v : ℕ) → kill_
 unfolding kill_in
 kill_in-more ds d v = first_more (said_kill v) ds d
 
-pub offer_in-more : (ds : List Declaration) (d : Declaration) (name index : ℕ) → offer_in (ds ++ d ∷ []) name index ≡ option_or (offer_in ds name index) (said_offer name index d)
+pub offer_in-more : (ds : List Declaration) (d : Declaration) (name index : ℕ) →
+    offer_in (ds ++ d ∷ []) name index ≡ option_or (offer_in ds name index) (said_offer name index d)
 unfolding offer_in
 offer_in-more ds d name index = first_more (said_offer name index) ds d
 

@@ -7,8 +7,12 @@ use Rattle.sem_trace.specs.TextLines.{lines_of}
 use Rattle.sem_trace.specs.Refusal.{version_of, kernels_of, declarations_of, refusal}
 use Rattle.sem_trace.specs.Standing.{setup_of, Stands}
 
-read_or_refused : (bytes : List ℕ) (o : Option TraceFault) → refusal bytes ≡ o → ((T : Setup) × Stands bytes T) ⊎ ((fault : TraceFault) × (refusal bytes ≡ Some fault))
-read_or_refused bytes None is = inl (setup_of (version_of (lines_of bytes)) (kernels_of (lines_of bytes)) (declarations_of (lines_of bytes)), record { accepted = is; declared = refl })
+read_or_refused : (bytes : List ℕ) (o : Option TraceFault) → refusal bytes ≡ o →
+    ((T : Setup) × Stands bytes T) ⊎ ((fault : TraceFault) × (refusal bytes ≡ Some fault))
+read_or_refused bytes None is = inl (
+  setup_of (version_of (lines_of bytes)) (kernels_of (lines_of bytes)) (declarations_of (lines_of bytes)),
+  record { accepted = is; declared = refl },
+)
 read_or_refused bytes (Some fault) is = inr (fault, is)
 
 pub either : (bytes : List ℕ) → ((T : Setup) × Stands bytes T) ⊎ ((fault : TraceFault) × (refusal bytes ≡ Some fault))

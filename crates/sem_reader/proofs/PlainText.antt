@@ -1,5 +1,6 @@
 -- The lines and words of a printed text are those that were printed.
-use Rattle.std.proofs.Common.{◌≡◌, ℕ, zero, suc, ◌+◌, ◌*◌, ◌<◌, ◌≤◌, ◌^◌, ◌==◌, Bool, true, false, ◌&&◌, nat_le, List, [], ◌∷◌, ◌++◌, length, map, None, true≢false, sym, ap, ◌∙◌, refl, arith, append_assoc, append-nil, decimal, length-append, le-ltb}
+use Rattle.std.proofs.Common.{◌≡◌, ℕ, zero, suc, ◌+◌, ◌*◌, ◌<◌, ◌≤◌, ◌^◌, ◌==◌, Bool, true, false, ◌&&◌, nat_le, List, [], ◌∷◌, ◌++◌, length, map, None}
+use Rattle.std.proofs.Common.{true≢false, sym, ap, ◌∙◌, refl, arith, append_assoc, append-nil, decimal, length-append, le-ltb}
 use Rattle.std.specs.List.{list_all, All, filter, slice_split}
 use Rattle.std.proofs.lemmas.Bool.Decides.{nat_tests}
 use Rattle.std.proofs.lemmas.List.Splits.{slice_split_none, slice_split_at}
@@ -90,11 +91,13 @@ ends-behind : (ws : List (List ℕ)) → are_plain ws ≡ true → All (λ b. (b
 ends-behind [] plain = All-nil (λ b. (b == 10) ≡ false)
 ends-behind (w ∷ ws) plain =
     All-cons (λ b. (b == 10) ≡ false) 32 (w ++ behind_blanks ws) refl
-    (All-append (λ b. (b == 10) ≡ false) w (behind_blanks ws) (no_ends w (and-right (is_word w) _ (and-left _ _ plain))) (ends-behind ws (and-right (is_plain_word w) _ plain)))
+    (All-append (λ b. (b == 10) ≡ false) w (behind_blanks ws) (no_ends w (and-right (is_word w) _ (and-left _ _ plain)))
+    (ends-behind ws (and-right (is_plain_word w) _ plain)))
 
 ends-bare : (ws : List (List ℕ)) → are_plain ws ≡ true → All (λ b. (b == 10) ≡ false) (bare ws)
 ends-bare [] plain = All-nil (λ b. (b == 10) ≡ false)
-ends-bare (w ∷ ws) plain = All-append (λ b. (b == 10) ≡ false) w (behind_blanks ws) (no_ends w (and-right (is_word w) _ (and-left _ _ plain))) (ends-behind ws (and-right (is_plain_word w) _ plain))
+ends-bare (w ∷ ws) plain = All-append (λ b. (b == 10) ≡ false) w (behind_blanks ws) (no_ends w (and-right (is_word w) _ (and-left _ _ plain)))
+    (ends-behind ws (and-right (is_plain_word w) _ plain))
 
 line_is : (ws : List (List ℕ)) (more : List ℕ) → line ws ++ more ≡ bare ws ++ 10 ∷ more
 line_is [] more = refl
@@ -121,11 +124,13 @@ lines_printed ls plain = ap without_empty_last (split-lines ls plain) ∙ drop_l
 -- the bytes of a printed line that is short
 text-behind : (ws : List (List ℕ)) → are_plain ws ≡ true → list_all is_text (behind_blanks ws) ≡ true
 text-behind [] plain = refl
-text-behind (w ∷ ws) plain = list_all-append is_text w (behind_blanks ws) ∙ (rw (all_text w (and-right (is_word w) _ (and-left _ _ plain)), text-behind ws (and-right (is_plain_word w) _ plain)) refl)
+text-behind (w ∷ ws) plain = list_all-append is_text w (behind_blanks ws)
+    ∙ (rw (all_text w (and-right (is_word w) _ (and-left _ _ plain)), text-behind ws (and-right (is_plain_word w) _ plain)) refl)
 
 text-bare : (ws : List (List ℕ)) → are_plain ws ≡ true → list_all is_text (bare ws) ≡ true
 text-bare [] plain = refl
-text-bare (w ∷ ws) plain = list_all-append is_text w (behind_blanks ws) ∙ (rw (all_text w (and-right (is_word w) _ (and-left _ _ plain)), text-behind ws (and-right (is_plain_word w) _ plain)) refl)
+text-bare (w ∷ ws) plain = list_all-append is_text w (behind_blanks ws)
+    ∙ (rw (all_text w (and-right (is_word w) _ (and-left _ _ plain)), text-behind ws (and-right (is_plain_word w) _ plain)) refl)
 
 pub bytes_fit : (ws : List (List ℕ)) → are_plain ws ≡ true → length (bare ws) ≤ 255 → bytes_fault (bare ws) ≡ None
 unfolding bytes_fault

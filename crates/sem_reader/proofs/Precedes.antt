@@ -1,5 +1,6 @@
 -- No line of a printed setup says what an earlier one says.
-use Rattle.std.proofs.Common.{◌≡◌, ◌≢◌, ℕ, zero, suc, ◌+◌, ◌<◌, ◌≤◌, ◌==◌, true, false, cond, true≢false, ◌&&◌, List, [], ◌∷◌, length, map, get_or, Option, Some, None, refl, ap, sym, ◌∙◌, subst, arith, inl, inr, eqb-true}
+use Rattle.std.proofs.Common.{◌≡◌, ◌≢◌, ℕ, zero, suc, ◌+◌, ◌<◌, ◌≤◌, ◌==◌, true, false, cond, true≢false, ◌&&◌, List, [], ◌∷◌, length, map, get_or, Option}
+use Rattle.std.proofs.Common.{Some, None, refl, ap, sym, ◌∙◌, subst, arith, inl, inr, eqb-true}
 use Rattle.std.specs.List.{AllPairs, Contains, enumerate_from, range_with_len, slice_get}
 use Rattle.std.proofs.lemmas.Bool.{cases_Bool, cases_order}
 use Rattle.std.proofs.lemmas.List.{get_or_default}
@@ -16,7 +17,8 @@ use Rattle.sem_trace.specs.declared.declaration.Declaration.{Declaration}
 use Rattle.sem_trace.specs.declared.declaration.Declaration.TheVariants.{Window, Pe, Vpe, Memory, Receive, Service, Offer, Deny, Kill}
 use Rattle.sem_trace.specs.Earlier.{said_window, said_owner, said_pe, says_on, said_root, says_service, said_offer, says_deny, said_kill}
 use Rattle.sem_reader.proofs.Enumerated.{here, pairs_nil, pairs_append, joins, pairs_joined, in_range, range_rises}
-use Rattle.sem_reader.proofs.Sections.{root_says, root_decl, pe_decls, window_decls, all_pes, in_window, in_pes, vpe_decl, offer_decl, deny_decl, kill_decl, section, said_by, rank, in_map, pairs_mapped, enumerate_rises, in_pe, root_rank, ranked}
+use Rattle.sem_reader.proofs.Sections.{root_says, root_decl, pe_decls, window_decls, all_pes, in_window, in_pes, vpe_decl, offer_decl, deny_decl, kill_decl}
+use Rattle.sem_reader.proofs.Sections.{section, said_by, rank, in_map, pairs_mapped, enumerate_rises, in_pe, root_rank, ranked}
 
 -- two lines say nothing that is one thing
 pub record Differ (a b : Declaration) : Type 0 where
@@ -87,7 +89,8 @@ apart : (m n k : ℕ) → k ≡ m → k ≡ n → m ≢ n → ⊥
 apart m n k a b other = other (sym a ∙ b)
 
 -- two lines of rank 0
-differ_pe : (a b : Declaration) → rank a ≡ 0 → ((m n : ℕ) → said_window a ≡ Some m → said_window b ≡ Some n → ⊥) → ((p k j : ℕ) → said_owner p a ≡ Some k → said_owner p b ≡ Some j → ⊥) → Differ a b
+differ_pe : (a b : Declaration) → rank a ≡ 0 → ((m n : ℕ) → said_window a ≡ Some m → said_window b ≡ Some n → ⊥) →
+    ((p k j : ℕ) → said_owner p a ≡ Some k → said_owner p b ≡ Some j → ⊥) → Differ a b
 differ_pe a b is own_window own_pe = record {
   window = own_window;
   pe = own_pe;
@@ -101,7 +104,8 @@ differ_pe a b is own_window own_pe = record {
 }
 
 -- two lines of rank 1
-differ_vpe : (a b : Declaration) → rank a ≡ 1 → ((v p q : ℕ) → said_pe v a ≡ Some p → said_pe v b ≡ Some q → ⊥) → ((p : ℕ) → says_on p a ≡ true → says_on p b ≡ true → ⊥) → Differ a b
+differ_vpe : (a b : Declaration) → rank a ≡ 1 → ((v p q : ℕ) → said_pe v a ≡ Some p → said_pe v b ≡ Some q → ⊥) →
+    ((p : ℕ) → says_on p a ≡ true → says_on p b ≡ true → ⊥) → Differ a b
 differ_vpe a b is own_vpe own_on = record {
   window = λ m n x y. apart 1 0 (rank a) is (rank_window a m x) (λ e. absurd (omega arith));
   pe = λ p k j x y. apart 1 0 (rank a) is (rank_owner p a k x) (λ e. absurd (omega arith));
@@ -115,7 +119,8 @@ differ_vpe a b is own_vpe own_on = record {
 }
 
 -- two lines of rank 2
-differ_root : (a b : Declaration) → rank a ≡ 2 → ((v : ℕ) (r s : Root) → said_root v a ≡ Some r → said_root v b ≡ Some s → r.sel ≡ s.sel → ⊥) → ((n : ℕ) → says_service n a ≡ true → says_service n b ≡ true → ⊥) → Differ a b
+differ_root : (a b : Declaration) → rank a ≡ 2 → ((v : ℕ) (r s : Root) → said_root v a ≡ Some r → said_root v b ≡ Some s → r.sel ≡ s.sel → ⊥) →
+    ((n : ℕ) → says_service n a ≡ true → says_service n b ≡ true → ⊥) → Differ a b
 differ_root a b is own_root own_service = record {
   window = λ m n x y. apart 2 0 (rank a) is (rank_window a m x) (λ e. absurd (omega arith));
   pe = λ p k j x y. apart 2 0 (rank a) is (rank_owner p a k x) (λ e. absurd (omega arith));
@@ -206,20 +211,24 @@ if_both a b c d x y some =
     ]
 
 pe_apart : (p k q j : ℕ) → p ≢ q → Differ (Pe p k) (Pe q j)
-pe_apart p k q j other = differ_pe (Pe p k) (Pe q j) refl (λ m n a b. absurd (none-some m a)) (λ x m n a b. other ((if_same p x k m a).0 ∙ sym (if_same q x j n b).0))
+pe_apart p k q j other = differ_pe (Pe p k) (Pe q j) refl (λ m n a b. absurd (none-some m a)) (λ x m n a b. other ((if_same p x k m a).0
+    ∙ sym (if_same q x j n b).0))
 
 -- the line of the window and one of a PE
 window_apart : (w q j : ℕ) → Differ (Window w) (Pe q j)
 window_apart w q j = differ_pe (Window w) (Pe q j) refl (λ m n a b. absurd (none-some n b)) (λ x m n a b. absurd (none-some m a))
 
 vpe_apart : (v p w q : ℕ) → v ≢ w → p ≢ q → Differ (Vpe v p) (Vpe w q)
-vpe_apart v p w q other on = differ_vpe (Vpe v p) (Vpe w q) refl (λ x m n a b. other ((if_same v x p m a).0 ∙ sym (if_same w x q n b).0)) (λ x a b. on (eqb-true p x a ∙ sym (eqb-true q x b)))
+vpe_apart v p w q other on = differ_vpe (Vpe v p) (Vpe w q) refl (λ x m n a b. other ((if_same v x p m a).0 ∙ sym (if_same w x q n b).0))
+    (λ x a b. on (eqb-true p x a ∙ sym (eqb-true q x b)))
 
 offer_apart : (n i s m j t : ℕ) → ((n ≡ m) × (i ≡ j) → ⊥) → Differ (Offer n i s) (Offer m j t)
-offer_apart n i s m j t other = differ_offer (Offer n i s) (Offer m j t) refl (λ x y a b c d. let e = if_both n x i y s a c in let f = if_both m x j y t b d in other (e.0 ∙ sym f.0, e.1 ∙ sym f.1))
+offer_apart n i s m j t other = differ_offer (Offer n i s) (Offer m j t) refl (λ x y a b c d. let e = if_both n x i y s a c in let f = if_both m x j y t b d in
+    other (e.0 ∙ sym f.0, e.1 ∙ sym f.1))
 
 deny_apart : (v w x y : ℕ) → ((v ≡ x) × (w ≡ y) → ⊥) → Differ (Deny v w) (Deny x y)
-deny_apart v w x y other = differ_deny (Deny v w) (Deny x y) refl (λ a b c d. let e = both_same v a w b c in let f = both_same x a y b d in other (e.0 ∙ sym f.0, e.1 ∙ sym f.1))
+deny_apart v w x y other = differ_deny (Deny v w) (Deny x y) refl (λ a b c d. let e = both_same v a w b c in let f = both_same x a y b d in
+    other (e.0 ∙ sym f.0, e.1 ∙ sym f.1))
 
 kill_apart : (v m w n : ℕ) → v ≢ w → Differ (Kill v m) (Kill w n)
 kill_apart v m w n other = differ_kill (Kill v m) (Kill w n) refl (λ x a b c d. other ((if_same v x m a c).0 ∙ sym (if_same w x n b d).0))
@@ -257,20 +266,24 @@ key_here : (o : Object) (k : KeyName) (n : ℕ) → o ≡ Serv n → Contains (s
 key_here o k n is = rw is (here (keyed n k) [])
 
 -- a root that is a service makes its VPE serve
-has_service_key : (d : VpeDecl) (a : ℕ) (rs : List Root) (i n : ℕ) (r : Root) → slice_get rs i ≡ Some r → r.object ≡ Serv n → Contains (services_from d a rs) (record { name = n; key = root_key d (a + i) r })
+has_service_key : (d : VpeDecl) (a : ℕ) (rs : List Root) (i n : ℕ) (r : Root) → slice_get rs i ≡ Some r → r.object ≡ Serv n →
+    Contains (services_from d a rs) (record { name = n; key = root_key d (a + i) r })
 unfolding services_from
 has_service_key d a [] i n r at is = absurd (none-some r at)
 has_service_key d a (s ∷ rs) zero n r at is =
     let e : a + 0 ≡ a = omega arith in
     let same : s ≡ r = same_Some s r at in
     let object : s.object ≡ Serv n = ap (λ (x : Root). x.object) same ∙ is in
-    rw e (Contains-append_left (service_with s.object (root_key d a s)) (services_from d (a + 1) rs) (keyed n (root_key d a r)) (subst (λ (x : Root). Contains (service_with s.object (root_key d a s)) (keyed n (root_key d a x))) same (key_here s.object (root_key d a s) n object)))
+    rw e (Contains-append_left (service_with s.object (root_key d a s)) (services_from d (a + 1) rs) (keyed n (root_key d a r))
+    (subst (λ (x : Root). Contains (service_with s.object (root_key d a s)) (keyed n (root_key d a x))) same (key_here s.object (root_key d a s) n object)))
 has_service_key d a (s ∷ rs) (suc i) n r at is =
     let e : a + suc i ≡ (a + 1) + i = omega arith in
-    rw e (Contains-append_right (service_with s.object (root_key d a s)) (services_from d (a + 1) rs) (keyed n (root_key d ((a + 1) + i) r)) (has_service_key d (a + 1) rs i n r at is))
+    rw e (Contains-append_right (service_with s.object (root_key d a s)) (services_from d (a + 1) rs) (keyed n (root_key d ((a + 1) + i) r))
+    (has_service_key d (a + 1) rs i n r at is))
 
 -- names that rise are names of one service each
-one_of_name : (services : List ServiceData) → AllPairs (λ a b. a.name < b.name) services → (s t : ServiceData) → Contains services s → Contains services t → s.name ≡ t.name → s ≡ t
+one_of_name : (services : List ServiceData) → AllPairs (λ a b. a.name < b.name) services → (s t : ServiceData) → Contains services s → Contains services t →
+    s.name ≡ t.name → s ≡ t
 one_of_name services rise s t (i, lt, is) (j, lt', is') same =
     elim (cases_order i j) [
       | inl e ↦ sym is ∙ (get_or_default services i s t lt ∙ (ap (λ (k : ℕ). get_or services k t) e ∙ is'))
@@ -297,8 +310,10 @@ pub record Has (T : Setup) (d : VpeDecl) (i n : ℕ) : Type 0 where
 
 pub has_once : (T : Setup) → IsSetup T → (d e : VpeDecl) (i j n : ℕ) → Has T d i n → Has T e j n → (d.vpe ≡ e.vpe) × (i ≡ j)
 has_once T fits d e i j n a b =
-    let s : Contains (declared_services T) (keyed n (root_key d (0 + i) a.root)) = joins (λ (x : VpeDecl). services_from x 0 x.roots) T.vpes d _ a.declared (has_service_key d 0 d.roots i n a.root a.at a.serves) in
-    let t : Contains (declared_services T) (keyed n (root_key e (0 + j) b.root)) = joins (λ (x : VpeDecl). services_from x 0 x.roots) T.vpes e _ b.declared (has_service_key e 0 e.roots j n b.root b.at b.serves) in
+    let s : Contains (declared_services T) (keyed n (root_key d (0 + i) a.root)) = joins (λ (x : VpeDecl). services_from x 0 x.roots) T.vpes d _ a.declared
+    (has_service_key d 0 d.roots i n a.root a.at a.serves) in
+    let t : Contains (declared_services T) (keyed n (root_key e (0 + j) b.root)) = joins (λ (x : VpeDecl). services_from x 0 x.roots) T.vpes e _ b.declared
+    (has_service_key e 0 e.roots j n b.root b.at b.serves) in
     let same = one_of_name T.services fits.services_rise _ _ ((fits.services _).1 s) ((fits.services _).1 t) refl in
     let number : 0 + i ≡ 0 + j = ap (λ (x : ServiceData). x.key.number) same in
     (ap (λ (x : ServiceData). x.key.vpe) same, omega arith)
@@ -316,11 +331,14 @@ one_pe p None = pairs_nil Differ
 one_pe p (Some k) = λ i j d lt within. absurd (omega arith)
 
 -- two roots of the setup in their order
-roots_apart : (T : Setup) → IsSetup T → (d e : VpeDecl) (i j : ℕ) (r s : Root) → Contains T.vpes d → Contains T.vpes e → slice_get d.roots i ≡ Some r → slice_get e.roots j ≡ Some s → IsRoot r → ((d.vpe ≡ e.vpe) × (i ≡ j) → ⊥) → (d.vpe ≡ e.vpe → r.sel ≡ s.sel → ⊥) → Differ (root_decl d.vpe r) (root_decl e.vpe s)
+roots_apart : (T : Setup) → IsSetup T → (d e : VpeDecl) (i j : ℕ) (r s : Root) → Contains T.vpes d → Contains T.vpes e → slice_get d.roots i ≡ Some r →
+    slice_get e.roots j ≡ Some s → IsRoot r → ((d.vpe ≡ e.vpe) × (i ≡ j) → ⊥) → (d.vpe ≡ e.vpe → r.sel ≡ s.sel → ⊥) →
+    Differ (root_decl d.vpe r) (root_decl e.vpe s)
 roots_apart T fits d e i j r s declared declared' at at' valid other sel =
     differ_root (root_decl d.vpe r) (root_decl e.vpe s) (root_ranked d.vpe r valid)
     (λ v x y a b same. let m = said_of_root v d.vpe r x a in let n = said_of_root v e.vpe s y b in sel (m.0 ∙ sym n.0) (m.1 ∙ (same ∙ sym n.1)))
-    (λ n a b. other (has_once T fits d e i j n (record { declared = declared; root = r; at = at; serves = service_of_root n d.vpe r a }) (record { declared = declared'; root = s; at = at'; serves = service_of_root n e.vpe s b })))
+    (λ n a b. other (has_once T fits d e i j n (record { declared = declared; root = r; at = at; serves = service_of_root n d.vpe r a })
+    (record { declared = declared'; root = s; at = at'; serves = service_of_root n e.vpe s b })))
 
 pub place_of : {X : Type 0} (xs : List X) (x : X) → Contains xs x → (i : ℕ) × (slice_get xs i ≡ Some x)
 place_of xs x (i, lt, is) = (i, at_place xs i x lt ∙ ap Some is)
@@ -342,14 +360,16 @@ pairs_differ T fits zero =
     (λ a b within within'.
     let n = in_pes T b within' in
     rw (in_window T a within, n.2) (window_apart T.window n.0 n.1))
-pairs_differ T fits (suc zero) = pairs_mapped vpe_decl Differ T.vpes (λ i j d lt within. vpe_apart _ _ _ _ (λ same. let l = fits.vpes_rise i j d lt within in absurd (omega arith)) (fits.pes_differ i j d lt within))
+pairs_differ T fits (suc zero) = pairs_mapped vpe_decl Differ T.vpes (λ i j d lt within. vpe_apart _ _ _ _ (λ same. let l = fits.vpes_rise i j d lt within in
+    absurd (omega arith)) (fits.pes_differ i j d lt within))
 pairs_differ T fits (suc (suc zero)) =
     pairs_joined (λ (d : VpeDecl). map (root_decl d.vpe) d.roots) (λ (a b : VpeDecl). Contains T.vpes a × Contains T.vpes b × (a.vpe < b.vpe)) Differ T.vpes
     (λ i j d lt within. (Contains-get_or T.vpes i d (omega arith), Contains-get_or T.vpes j d within, fits.vpes_rise i j d lt within))
     (λ d declared.
     let v = All-contains (IsVpeDecl T) T.vpes d fits.vpes declared in
     pairs_mapped (root_decl d.vpe) Differ d.roots (λ i j x lt within.
-    roots_apart T fits d d i j (get_or d.roots i x) (get_or d.roots j x) declared declared (at_place d.roots i x (omega arith)) (at_place d.roots j x within) (v.roots i x (omega arith)) (λ same. let e : i ≡ j = same.1 in absurd (omega arith)) (λ same. v.selectors_differ i j x lt within)))
+    roots_apart T fits d d i j (get_or d.roots i x) (get_or d.roots j x) declared declared (at_place d.roots i x (omega arith)) (at_place d.roots j x within)
+    (v.roots i x (omega arith)) (λ same. let e : i ≡ j = same.1 in absurd (omega arith)) (λ same. v.selectors_differ i j x lt within)))
     (λ d e a b cross within within'.
     let v = All-contains (IsVpeDecl T) T.vpes d fits.vpes cross.0 in
     let m = in_map (root_decl d.vpe) d.roots a within in
@@ -357,10 +377,17 @@ pairs_differ T fits (suc (suc zero)) =
     let x = place_of d.roots m.0 m.1 in
     let y = place_of e.roots n.0 n.1 in
     let less : d.vpe < e.vpe = cross.2 in
-    rw (← m.2, ← n.2) (roots_apart T fits d e x.0 y.0 m.0 n.0 cross.0 cross.1 x.1 y.1 (All-contains IsRoot d.roots m.0 v.roots m.1) (λ same. let f : d.vpe ≡ e.vpe = same.0 in absurd (omega arith)) (λ same sel. absurd (omega arith))))
-pairs_differ T fits (suc (suc (suc zero))) = pairs_mapped offer_decl Differ T.offers (λ i j d lt within. offer_apart _ _ _ _ _ _ (before_differs (offer_place (get_or T.offers i d)) (offer_place (get_or T.offers j d)) (fits.offers_rise i j d lt within)))
-pairs_differ T fits (suc (suc (suc (suc zero)))) = pairs_mapped deny_decl Differ T.denies (λ i j d lt within. deny_apart _ _ _ _ (before_differs (get_or T.denies i d) (get_or T.denies j d) (fits.denies_rise i j d lt within)))
-pairs_differ T fits (suc (suc (suc (suc (suc zero))))) = pairs_mapped kill_decl Differ T.kills (λ i j d lt within. kill_apart _ _ _ _ (λ same. let l = fits.kills_rise i j d lt within in absurd (omega arith)))
+    rw (← m.2, ← n.2) (roots_apart T fits d e x.0 y.0 m.0 n.0 cross.0 cross.1 x.1 y.1 (All-contains IsRoot d.roots m.0 v.roots m.1) (λ same. let f : d.vpe
+    ≡ e.vpe = same.0 in absurd (omega arith)) (λ same sel. absurd (omega arith))))
+pairs_differ T fits (suc (suc (suc zero))) =
+    pairs_mapped offer_decl Differ T.offers
+    (λ i j d lt within. offer_apart _ _ _ _ _ _ (before_differs (offer_place (get_or T.offers i d)) (offer_place (get_or T.offers j d))
+    (fits.offers_rise i j d lt within)))
+pairs_differ T fits (suc (suc (suc (suc zero)))) =
+    pairs_mapped deny_decl Differ T.denies
+    (λ i j d lt within. deny_apart _ _ _ _ (before_differs (get_or T.denies i d) (get_or T.denies j d) (fits.denies_rise i j d lt within)))
+pairs_differ T fits (suc (suc (suc (suc (suc zero))))) =
+    pairs_mapped kill_decl Differ T.kills (λ i j d lt within. kill_apart _ _ _ _ (λ same. let l = fits.kills_rise i j d lt within in absurd (omega arith)))
 pairs_differ T fits (suc (suc (suc (suc (suc (suc zero)))))) = λ i j d lt within.
     let x = Contains-get_or (section T 6) i d (omega arith) in
     differ_other _ _ (ranked T fits 6 (omega arith) _ x)
@@ -375,7 +402,8 @@ pub in_order : (T : Setup) → IsSetup T → AllPairs Precedes (said_by T)
 unfolding said_by
 in_order T fits =
     pairs_joined (section T) (λ (k l : ℕ). (l < 8) × (k < l)) Precedes (range_with_len 0 8)
-    (λ i j d lt within. let r = in_range 0 8 (get_or (range_with_len 0 8) j d) (Contains-get_or (range_with_len 0 8) j d within) in (omega arith, range_rises 0 8 i j d lt within))
+    (λ i j d lt within. let r = in_range 0 8 (get_or (range_with_len 0 8) j d) (Contains-get_or (range_with_len 0 8) j d within) in
+    (omega arith, range_rises 0 8 i j d lt within))
     (λ k within.
     let r = in_range 0 8 k within in
     λ i j d lt inside.

@@ -1,5 +1,6 @@
 -- What a printed setup says is accepted, line by line.
-use Rattle.std.proofs.Common.{◌≡◌, ◌≢◌, ℕ, zero, suc, ◌+◌, ◌<◌, ◌≤◌, ◌==◌, Bool, true, false, cond, not, true≢false, ◌&&◌, ◌||◌, List, [], ◌∷◌, ◌++◌, length, map, Option, Some, None, refl, ap, sym, ◌∙◌, subst, arith, inl, inr, eqb-true, eq-eqb, le-ltb}
+use Rattle.std.proofs.Common.{◌≡◌, ◌≢◌, ℕ, zero, suc, ◌+◌, ◌<◌, ◌≤◌, ◌==◌, Bool, true, false, cond, not, true≢false, ◌&&◌, ◌||◌, List, [], ◌∷◌, ◌++◌, length}
+use Rattle.std.proofs.Common.{map, Option, Some, None, refl, ap, sym, ◌∙◌, subst, arith, inl, inr, eqb-true, eq-eqb, le-ltb}
 use Rattle.std.specs.List.{AllPairs, Contains, filter_map, flat_map, list_any, range_with_len, slice_get, sum_by}
 use Rattle.std.specs.Option.{option_or, is_some, IsSome}
 use Rattle.std.proofs.lemmas.Bool.{cases_Bool, false_from_ne_true, lt-leb}
@@ -19,14 +20,17 @@ use Rattle.sem_msg.specs.Calls.{IsValidCall, IsWord}
 use Rattle.sem_msg.specs.Setup.{Setup, IsSetup, IsRoot, IsVpeDecl, IsOffer, IsDeclared, services_from, call_count}
 use Rattle.sem_msg.specs.Versions.{most_vpes}
 use Rattle.sem_trace.specs.declared.declaration.Declaration.{Declaration}
-use Rattle.sem_trace.specs.declared.declaration.Declaration.TheVariants.{Kernels, Window, Pe, Vpe, Memory, Receive, Service, Offer, Deny, Kill, Call as Calls, End}
-use Rattle.sem_trace.specs.Earlier.{first_some, said_window, window_in, said_owner, owner_in, said_pe, pe_in, says_on, is_taken, said_root, roots_in, holds_at, says_service, has_service, said_offer, offer_in, says_deny, is_denied, said_kill, kill_in, is_call, call_number}
+use Rattle.sem_trace.specs.declared.declaration.Declaration.TheVariants.{Kernels, Window, Pe, Vpe, Memory, Receive, Service, Offer, Deny, Kill, Call as Calls}
+use Rattle.sem_trace.specs.declared.declaration.Declaration.TheVariants.{End}
+use Rattle.sem_trace.specs.Earlier.{first_some, said_window, window_in, said_owner, owner_in, said_pe, pe_in, says_on, is_taken, said_root, roots_in, holds_at}
+use Rattle.sem_trace.specs.Earlier.{says_service, has_service, said_offer, offer_in, says_deny, is_denied, said_kill, kill_in, is_call, call_number}
 use Rattle.sem_trace.specs.Context.{context_fault, is_too_long, is_undeclared, is_twice, is_call_too_many}
 use Rattle.sem_trace.specs.Ranges.{IsNode, IsInRange}
 use Rattle.sem_reader.specs.Accepted.{AreAccepted}
 use Rattle.sem_reader.proofs.Enumerated.{in_cons, in_nil, here, there, pairs_head, pairs_tail, given, joined, joins}
 use Rattle.sem_reader.proofs.PrintedLines.{IsSaid}
-use Rattle.sem_reader.proofs.Sections.{ranked, root_says, root_decl, vpe_decl, offer_decl, deny_decl, kill_decl, section, said_by, rank, in_map, map_has, window_decls, all_pes, in_pes, has_pe, in_roots, has_section}
+use Rattle.sem_reader.proofs.Sections.{ranked, root_says, root_decl, vpe_decl, offer_decl, deny_decl, kill_decl, section, said_by, rank, in_map, map_has}
+use Rattle.sem_reader.proofs.Sections.{window_decls, all_pes, in_pes, has_pe, in_roots, has_section}
 use Rattle.sem_reader.proofs.SetupIs.{service_of_root}
 use Rattle.sem_reader.proofs.Precedes.{Differ, Precedes, in_order}
 
@@ -107,7 +111,8 @@ not_taken : (before : List Declaration) (v p : ℕ) → ((e : Declaration) → C
 unfolding is_taken
 not_taken before v p other = any_none (says_on p) before (λ e within some. (other e within).on p some (eq-eqb p p refl))
 
-not_held : (before : List Declaration) (d : Declaration) (v : ℕ) (r : Root) → said_root v d ≡ Some r → ((e : Declaration) → Contains before e → Differ e d) → holds_at (roots_in before v) r.sel ≡ false
+not_held : (before : List Declaration) (d : Declaration) (v : ℕ) (r : Root) → said_root v d ≡ Some r → ((e : Declaration) → Contains before e → Differ e d) →
+    holds_at (roots_in before v) r.sel ≡ false
 unfolding roots_in
 not_held before d v r says other = any_none (λ (s : Root). s.sel == r.sel) (filter_map (said_root v) before) (λ s within same.
     let g = given (said_root v) before s within in
@@ -119,7 +124,8 @@ not_served before v s n other = any_none (says_service n) before (λ e within so
 
 not_offered : (before : List Declaration) (n i s : ℕ) → ((e : Declaration) → Contains before e → Differ e (Offer n i s)) → offer_in before n i ≡ None
 unfolding offer_in
-not_offered before n i s other = first_none (said_offer n i) before (λ e within. none_from (said_offer n i e) (λ t some. (other e within).offer n i t s some (rw (same_both n i) refl)))
+not_offered before n i s other =
+    first_none (said_offer n i) before (λ e within. none_from (said_offer n i e) (λ t some. (other e within).offer n i t s some (rw (same_both n i) refl)))
 
 not_denied : (before : List Declaration) (v w : ℕ) → ((e : Declaration) → Contains before e → Differ e (Deny v w)) → is_denied before v w ≡ false
 unfolding is_denied
@@ -127,17 +133,20 @@ not_denied before v w other = any_none (says_deny v w) before (λ e within some.
 
 not_killed : (before : List Declaration) (v n : ℕ) → ((e : Declaration) → Contains before e → Differ e (Kill v n)) → kill_in before v ≡ None
 unfolding kill_in
-not_killed before v n other = first_none (said_kill v) before (λ e within. none_from (said_kill v e) (λ m some. (other e within).kill v m n some (same_if v _ _)))
+not_killed before v n other =
+    first_none (said_kill v) before (λ e within. none_from (said_kill v e) (λ m some. (other e within).kill v m n some (same_if v _ _)))
 
 -- so no line comes twice
-not_twice : (T : Setup) (before : List Declaration) (d : Declaration) → IsSaid T.version d → ((e : Declaration) → Contains before e → Differ e d) → is_twice before d ≡ false
+not_twice : (T : Setup) (before : List Declaration) (d : Declaration) → IsSaid T.version d → ((e : Declaration) → Contains before e → Differ e d) →
+    is_twice before d ≡ false
 not_twice T before (Kernels n) said other = absurd said
 not_twice T before (Window w) said other = not_some _ (no_window before w other)
 not_twice T before (Pe p k) said other = not_some _ (no_owner before p k other)
 not_twice T before (Vpe v p) said other = or_false_both _ _ (not_some _ (no_vpe before v p other)) (not_taken before v p other)
 not_twice T before (Memory v s b l g) said other = not_held before (Memory v s b l g) v (record { sel = s; object = Mem b l g }) (same_if v _ _) other
 not_twice T before (Receive v s n) said other = not_held before (Receive v s n) v (record { sel = s; object = Recv n }) (same_if v _ _) other
-not_twice T before (Service v s n) said other = or_false_both _ _ (not_held before (Service v s n) v (record { sel = s; object = Serv n }) (same_if v _ _) other) (not_served before v s n other)
+not_twice T before (Service v s n) said other =
+    or_false_both _ _ (not_held before (Service v s n) v (record { sel = s; object = Serv n }) (same_if v _ _) other) (not_served before v s n other)
 not_twice T before (Offer n i s) said other = not_some _ (not_offered before n i s other)
 not_twice T before (Deny v w) said other = not_denied before v w other
 not_twice T before (Kill v n) said other = not_some _ (not_killed before v n other)
@@ -162,7 +171,8 @@ pub pairs_middle : {X : Type 0} (R : X → X → Type 0) (before after : List X)
 pairs_middle R [] after x y pairs within = absurd (in_nil y within)
 pairs_middle R (z ∷ before) after x y pairs within =
     elim (in_cons z before y within) [
-      | inl same ↦ subst (λ w. R w x) same (All-contains (R z) (before ++ x ∷ after) x (pairs_head R z (before ++ x ∷ after) pairs) (Contains-append_right before (x ∷ after) x (here x after)))
+      | inl same ↦ subst (λ w. R w x) same (All-contains (R z) (before ++ x ∷ after) x (pairs_head R z (before ++ x ∷ after) pairs)
+          (Contains-append_right before (x ∷ after) x (here x after)))
       | inr rest ↦ pairs_middle R before after x y (pairs_tail R z (before ++ x ∷ after) pairs) rest
     ]
 
@@ -170,7 +180,8 @@ pairs_after : {X : Type 0} (R : X → X → Type 0) (before after : List X) (x y
 pairs_after R [] after x y pairs within = All-contains (R x) after y (pairs_head R x after pairs) within
 pairs_after R (z ∷ before) after x y pairs within = pairs_after R before after x y (pairs_tail R z (before ++ x ∷ after) pairs) within
 
-earlier : (before after : List Declaration) (d e : Declaration) → AllPairs Precedes (before ++ d ∷ after) → Contains (before ++ d ∷ after) e → rank e < rank d → Contains before e
+earlier : (before after : List Declaration) (d e : Declaration) → AllPairs Precedes (before ++ d ∷ after) → Contains (before ++ d ∷ after) e → rank e < rank d →
+    Contains before e
 earlier before after d e order within lower =
     elim (Contains-append_cases before (d ∷ after) e within) [
       | inl found ↦ found
@@ -182,7 +193,8 @@ earlier before after d e order within lower =
 
 -- a VPE of the setup has its line
 has_line : (T : Setup) (v : ℕ) → IsDeclared T v → (p : ℕ) × Contains (said_by T) (Vpe v p)
-has_line T v (k, d, lt, at, is) = (d.pe, subst (λ (w : ℕ). Contains (said_by T) (Vpe w d.pe)) is (has_section T (vpe_decl d) 1 (omega arith) (map_has vpe_decl T.vpes d (k, lt, at))))
+has_line T v (k, d, lt, at, is) =
+    (d.pe, subst (λ (w : ℕ). Contains (said_by T) (Vpe w d.pe)) is (has_section T (vpe_decl d) 1 (omega arith) (map_has vpe_decl T.vpes d (k, lt, at))))
 
 is_declared : (T : Setup) (d : VpeDecl) → Contains T.vpes d → IsDeclared T d.vpe
 is_declared T d (k, lt, at) = (k, d, lt, at, refl)
@@ -221,20 +233,37 @@ printed_vpe T fits d within =
       said = tt;
       ranges = (v.vpe, v.pe);
       short = refl;
-      needs = λ before there'. has_owner before d.pe k.0 (there' (Pe d.pe k.0) (has_section T (Pe d.pe k.0) 0 (omega arith) (has_pe T d.pe k.0 k.1)) (omega arith));
+      needs = λ before there'. has_owner before d.pe k.0 (there' (Pe d.pe k.0) (has_section T (Pe d.pe k.0) 0 (omega arith) (has_pe T d.pe k.0 k.1))
+          (omega arith));
     }
 
-printed_root : (T : Setup) → IsSetup T → (v s : ℕ) (o : Object) → IsNode T.version v → IsDeclared T v → IsRoot (record { sel = s; object = o }) → IsPrinted T (root_says v s o)
+printed_root : (T : Setup) → IsSetup T → (v s : ℕ) (o : Object) → IsNode T.version v → IsDeclared T v → IsRoot (record { sel = s; object = o }) →
+    IsPrinted T (root_says v s o)
 printed_root T fits v s (Mem b l g) small declared valid =
     let line = has_line T v declared in
     let r = valid.ranges in
-    record { said = tt; ranges = (small, valid.selector, r.0, r.1, r.2); short = le-ltb 4294967296 (b + l) r.3; needs = λ before there'. has_vpe before v line.0 (there' (Vpe v line.0) line.1 (omega arith)) }
+    record {
+      said = tt;
+      ranges = (small, valid.selector, r.0, r.1, r.2);
+      short = le-ltb 4294967296 (b + l) r.3;
+      needs = λ before there'. has_vpe before v line.0 (there' (Vpe v line.0) line.1 (omega arith));
+    }
 printed_root T fits v s (Recv n) small declared valid =
     let line = has_line T v declared in
-    record { said = tt; ranges = (small, valid.selector, valid.ranges.0, valid.ranges.1); short = refl; needs = λ before there'. has_vpe before v line.0 (there' (Vpe v line.0) line.1 (omega arith)) }
+    record {
+      said = tt;
+      ranges = (small, valid.selector, valid.ranges.0, valid.ranges.1);
+      short = refl;
+      needs = λ before there'. has_vpe before v line.0 (there' (Vpe v line.0) line.1 (omega arith));
+    }
 printed_root T fits v s (Serv n) small declared valid =
     let line = has_line T v declared in
-    record { said = tt; ranges = (small, valid.selector, valid.ranges); short = refl; needs = λ before there'. has_vpe before v line.0 (there' (Vpe v line.0) line.1 (omega arith)) }
+    record {
+      said = tt;
+      ranges = (small, valid.selector, valid.ranges);
+      short = refl;
+      needs = λ before there'. has_vpe before v line.0 (there' (Vpe v line.0) line.1 (omega arith));
+    }
 printed_root T fits v s (Send g l c) small declared valid = absurd valid.kind
 printed_root T fits v s (Sess k i) small declared valid = absurd valid.kind
 
@@ -251,8 +280,14 @@ service_line T fits s within =
     let v = All-contains (IsVpeDecl T) T.vpes j.from fits.vpes j.within in
     let held : Contains j.from.roots o.root = get_contains j.from.roots o.place o.root o.at in
     let valid = All-contains IsRoot j.from.roots o.root v.roots held in
-    let line : Contains (said_by T) (root_decl j.from.vpe o.root) = has_section T _ 2 (omega arith) (joins (λ (d : VpeDecl). map (root_decl d.vpe) d.roots) T.vpes j.from (root_decl j.from.vpe o.root) j.within (map_has (root_decl j.from.vpe) j.from.roots o.root held)) in
-    (j.from.vpe, o.root.sel, subst (λ (x : Object). Contains (said_by T) (root_says j.from.vpe o.root.sel x)) o.serves line, subst IsValidObject o.serves valid.ranges)
+    let line : Contains (said_by T) (root_decl j.from.vpe o.root) =
+    has_section T _ 2 (omega arith) (joins (λ (d : VpeDecl). map (root_decl d.vpe) d.roots) T.vpes j.from (root_decl j.from.vpe o.root) j.within
+    (map_has (root_decl j.from.vpe) j.from.roots o.root held)) in (
+      j.from.vpe,
+      o.root.sel,
+      subst (λ (x : Object). Contains (said_by T) (root_says j.from.vpe o.root.sel x)) o.serves line,
+      subst IsValidObject o.serves valid.ranges,
+    )
 
 printed_offer : (T : Setup) → IsSetup T → (o : OfferData) → IsOffer T o → IsPrinted T (offer_decl o)
 printed_offer T fits o valid =
@@ -279,7 +314,8 @@ printed_deny T fits p declared =
       said = tt;
       ranges = (declared_small T fits p.0 declared.0, declared_small T fits p.1 declared.1);
       short = refl;
-      needs = λ before there'. or_false_both _ _ (has_vpe before p.0 first.0 (there' (Vpe p.0 first.0) first.1 (omega arith))) (has_vpe before p.1 second.0 (there' (Vpe p.1 second.0) second.1 (omega arith)));
+      needs = λ before there'. or_false_both _ _ (has_vpe before p.0 first.0 (there' (Vpe p.0 first.0) first.1 (omega arith)))
+          (has_vpe before p.1 second.0 (there' (Vpe p.1 second.0) second.1 (omega arith)));
     }
 
 printed_kill : (T : Setup) → IsSetup T → (p : ℕ × ℕ) → IsDeclared T p.0 × IsWord p.1 → IsPrinted T (kill_decl p)
@@ -317,9 +353,12 @@ in_one_section T fits (suc (suc zero)) d within =
     let r = in_roots T fits d within in
     let v = All-contains (IsVpeDecl T) T.vpes r.vpe fits.vpes r.declared in
     subst (IsPrinted T) r.is (printed_root T fits r.vpe.vpe r.root.sel r.root.object v.vpe (is_declared T r.vpe r.declared) r.valid)
-in_one_section T fits (suc (suc (suc zero))) d within = let m = in_map offer_decl T.offers d within in subst (IsPrinted T) m.2 (printed_offer T fits m.0 (All-contains (IsOffer T) T.offers m.0 fits.offers m.1))
-in_one_section T fits (suc (suc (suc (suc zero)))) d within = let m = in_map deny_decl T.denies d within in subst (IsPrinted T) m.2 (printed_deny T fits m.0 (All-contains (λ (p : ℕ × ℕ). IsDeclared T p.0 × IsDeclared T p.1) T.denies m.0 fits.denies m.1))
-in_one_section T fits (suc (suc (suc (suc (suc zero))))) d within = let m = in_map kill_decl T.kills d within in subst (IsPrinted T) m.2 (printed_kill T fits m.0 (All-contains (λ (p : ℕ × ℕ). IsDeclared T p.0 × IsWord p.1) T.kills m.0 fits.kills m.1))
+in_one_section T fits (suc (suc (suc zero))) d within = let m = in_map offer_decl T.offers d within in
+    subst (IsPrinted T) m.2 (printed_offer T fits m.0 (All-contains (IsOffer T) T.offers m.0 fits.offers m.1))
+in_one_section T fits (suc (suc (suc (suc zero)))) d within = let m = in_map deny_decl T.denies d within in
+    subst (IsPrinted T) m.2 (printed_deny T fits m.0 (All-contains (λ (p : ℕ × ℕ). IsDeclared T p.0 × IsDeclared T p.1) T.denies m.0 fits.denies m.1))
+in_one_section T fits (suc (suc (suc (suc (suc zero))))) d within = let m = in_map kill_decl T.kills d within in
+    subst (IsPrinted T) m.2 (printed_kill T fits m.0 (All-contains (λ (p : ℕ × ℕ). IsDeclared T p.0 × IsWord p.1) T.kills m.0 fits.kills m.1))
 in_one_section T fits (suc (suc (suc (suc (suc (suc zero)))))) d within =
     let j = joined (λ (e : VpeDecl). map (Calls e.vpe) e.calls) T.vpes d within in
     let m = in_map (Calls j.from.vpe) j.from.calls d j.has in
@@ -352,7 +391,12 @@ calls_of_vpe v (c ∷ cs) = rw (sum_by-cons weight (Calls v c) (map (Calls v) cs
 
 calls_of_vpes : (vpes : List VpeDecl) → sum_by weight (flat_map (λ d. map (Calls d.vpe) d.calls) vpes) ≡ sum_by (λ (d : VpeDecl). length d.calls) vpes
 calls_of_vpes [] = refl
-calls_of_vpes (d ∷ ds) = rw (sum_by-append weight (map (Calls d.vpe) d.calls) (flat_map (λ (x : VpeDecl). map (Calls x.vpe) x.calls) ds), calls_of_vpe d.vpe d.calls, calls_of_vpes ds, sum_by-cons (λ (x : VpeDecl). length x.calls) d ds) refl
+calls_of_vpes (d ∷ ds) = rw (
+  sum_by-append weight (map (Calls d.vpe) d.calls) (flat_map (λ (x : VpeDecl). map (Calls x.vpe) x.calls) ds),
+  calls_of_vpe d.vpe d.calls,
+  calls_of_vpes ds,
+  sum_by-cons (λ (x : VpeDecl). length x.calls) d ds,
+) refl
 
 few_calls : (T : Setup) → IsSetup T → call_number (said_by T) ≤ 20000
 unfolding said_by call_number
@@ -379,17 +423,23 @@ not_too_many : (before : List Declaration) (d : Declaration) → (is_call d ≡ 
 not_too_many before (Calls v c) few = lt-leb 20000 (call_number before) (few refl)
 not_too_many before d few = refl
 
-fits_context : (before : List Declaration) (d : Declaration) → is_too_long d ≡ false → is_undeclared before d ≡ false → is_twice before d ≡ false → is_call_too_many before d ≡ false → context_fault before d ≡ None
+fits_context : (before : List Declaration) (d : Declaration) → is_too_long d ≡ false → is_undeclared before d ≡ false → is_twice before d ≡ false →
+    is_call_too_many before d ≡ false → context_fault before d ≡ None
 unfolding context_fault
 fits_context before d a b c e = rw (a, b, c, e) refl
 
 -- what the setup says is accepted
 pub all_accepted : (T : Setup) → IsSetup T → AreAccepted T.version T.kernels (said_by T)
 all_accepted T fits before after d is =
-    let within : Contains (said_by T) d = subst (λ (xs : List Declaration). Contains xs d) (sym is) (Contains-append_right before (d ∷ after) d (here d after)) in
+    let within : Contains (said_by T) d = subst (λ (xs : List Declaration). Contains xs d) (sym is) (Contains-append_right before (d ∷ after) d (here d after))
+    in
     let p = printed T fits d within in
     let order : AllPairs Precedes (before ++ d ∷ after) = subst (AllPairs Precedes) is (in_order T fits) in
     let other : (e : Declaration) → Contains before e → Differ e d = λ e inside. (pairs_middle Precedes before after d e order inside).differ in
-    let needed : (e : Declaration) → Contains (said_by T) e → rank e < rank d → Contains before e = λ e inside lower. earlier before after d e order (subst (λ (xs : List Declaration). Contains xs e) is inside) lower in
-    let few : call_number (before ++ d ∷ after) ≤ 20000 = subst (λ (xs : List Declaration). call_number xs ≤ 20000) is (few_calls T fits) in
-    (p.ranges, fits_context before d p.short (p.needs before needed) (not_twice T before d p.said other) (not_too_many before d (λ call. call_before before after d call few)))
+    let needed : (e : Declaration) → Contains (said_by T) e → rank e < rank d →
+    Contains before e = λ e inside lower. earlier before after d e order (subst (λ (xs : List Declaration). Contains xs e) is inside) lower in
+    let few : call_number (before ++ d ∷ after) ≤ 20000 = subst (λ (xs : List Declaration). call_number xs ≤ 20000) is (few_calls T fits) in (
+      p.ranges,
+      fits_context before d p.short (p.needs before needed) (not_twice T before d p.said other)
+          (not_too_many before d (λ call. call_before before after d call few)),
+    )

@@ -4,14 +4,17 @@ use Rattle.std.specs.Prelude.{codes}
 use Rattle.std.proofs.lemmas.Bool.{cases_Bool}
 use Rattle.sem_text.specs.Number.{number_value}
 use Rattle.sem_msg.specs.declared.call.Call.{Call}
-use Rattle.sem_msg.specs.declared.call.Call.TheVariants.{Derive, Gate, Obtain, Delegate, OpenSession, AskOffer, Revoke, Bind, Read, Write, Send as SendCall, Credit, Exit, Clear}
+use Rattle.sem_msg.specs.declared.call.Call.TheVariants.{Derive, Gate, Obtain, Delegate, OpenSession, AskOffer, Revoke, Bind, Read, Write, Send as SendCall}
+use Rattle.sem_msg.specs.declared.call.Call.TheVariants.{Credit, Exit, Clear}
 use Rattle.sem_msg.specs.Calls.{IsValidCall}
 use Rattle.sem_key.specs.declared.limits.TheConstants.{KERNELS, VPES}
 use Rattle.sem_msg.specs.Versions.{most_kernels, most_vpes, least_window, most_window, IsWindow}
 use Rattle.sem_trace.specs.declared.declaration.Declaration.{Declaration}
-use Rattle.sem_trace.specs.declared.declaration.Declaration.TheVariants.{Kernels, Window, Pe, Vpe, Memory, Receive, Service, Offer, Deny, Kill, Call as Calls, End}
+use Rattle.sem_trace.specs.declared.declaration.Declaration.TheVariants.{Kernels, Window, Pe, Vpe, Memory, Receive, Service, Offer, Deny, Kill, Call as Calls}
+use Rattle.sem_trace.specs.declared.declaration.Declaration.TheVariants.{End}
 use Rattle.sem_trace.specs.Words.{call_words}
-use Rattle.sem_trace.specs.Forms.{Place, place_fault, form_fault, choice, word_at, node, byte, endpoint, rights, slots, word, up_to, objects, calls, lines, form, kernel_count, window, first_form, second_form, third_form}
+use Rattle.sem_trace.specs.Forms.{Place, place_fault, form_fault, choice, word_at, node, byte, endpoint, rights, slots, word, up_to, objects, calls, lines}
+use Rattle.sem_trace.specs.Forms.{form, kernel_count, window, first_form, second_form, third_form}
 use Rattle.sem_trace.specs.Forms.Place.{Number}
 use Rattle.sem_trace.specs.Declarations.{call_from, root_from, declaration, number_at}
 use Rattle.sem_trace.specs.Refusal.{version_in}
@@ -49,10 +52,13 @@ number_fits : (least most n : ℕ) → least ≤ n → n ≤ most → n < 2 ^ 64
 number_fits least most n low high fits = rw (is_number-decimal n fits, value n fits, le-leb least n low, le-leb n most high) refl
 
 -- a number that is printed fills its place
-fill : (least most n : ℕ) (places : List Place) (words : List (List ℕ)) → least ≤ n → n ≤ most → n < 2 ^ 64 → form_fault (Number least most ∷ places) (decimal n ∷ words) ≡ form_fault places words
-fill least most n places words low high fits = fills places (Number least most) (decimal n) words (decimal n ∷ words) refl (number_fits least most n low high fits)
+fill : (least most n : ℕ) (places : List Place) (words : List (List ℕ)) → least ≤ n → n ≤ most → n < 2 ^ 64 →
+    form_fault (Number least most ∷ places) (decimal n ∷ words) ≡ form_fault places words
+fill least most n places words low high fits = fills places (Number least most) (decimal n) words (decimal n ∷ words) refl
+    (number_fits least most n low high fits)
 
-fill_node : (version n : ℕ) (places : List Place) (words : List (List ℕ)) → IsNode version n → form_fault (node version ∷ places) (decimal n ∷ words) ≡ form_fault places words
+fill_node : (version n : ℕ) (places : List Place) (words : List (List ℕ)) → IsNode version n →
+    form_fault (node version ∷ places) (decimal n ∷ words) ≡ form_fault places words
 fill_node version n places words within =
     let some : 1 ≤ most_vpes version = some_vpe version in
     let small : n < VPES = node_small version n within in
@@ -66,7 +72,8 @@ window_small version n within =
       | inr other ↦ let most : n ≤ most_window version = within.1 in let is : most_window version ≡ 32 = rw other refl in omega arith
     ]
 
-fill_window : (version n : ℕ) (places : List Place) (words : List (List ℕ)) → IsWindow version n → form_fault (window version ∷ places) (decimal n ∷ words) ≡ form_fault places words
+fill_window : (version n : ℕ) (places : List Place) (words : List (List ℕ)) → IsWindow version n →
+    form_fault (window version ∷ places) (decimal n ∷ words) ≡ form_fault places words
 fill_window version n places words within =
     let small : n ≤ 32 = window_small version n within in
     fill (least_window version) (most_window version) n places words within.0 within.1 (omega arith)
@@ -76,19 +83,23 @@ unfolding form_fault
 filled = refl
 
 -- the first word of a call
-call_derive : (version : ℕ) (ws : List (List ℕ)) → form_fault (choice (calls version) (codes "derive")) (codes "derive" ∷ ws) ≡ form_fault (byte ∷ byte ∷ word ∷ word ∷ rights ∷ []) ws
+call_derive : (version : ℕ) (ws : List (List ℕ)) → form_fault (choice (calls version) (codes "derive")) (codes "derive" ∷ ws)
+    ≡ form_fault (byte ∷ byte ∷ word ∷ word ∷ rights ∷ []) ws
 unfolding form_fault calls
 call_derive version ws = refl
 
-call_gate : (version : ℕ) (ws : List (List ℕ)) → form_fault (choice (calls version) (codes "gate")) (codes "gate" ∷ ws) ≡ form_fault (byte ∷ byte ∷ word ∷ slots ∷ []) ws
+call_gate : (version : ℕ) (ws : List (List ℕ)) →
+    form_fault (choice (calls version) (codes "gate")) (codes "gate" ∷ ws) ≡ form_fault (byte ∷ byte ∷ word ∷ slots ∷ []) ws
 unfolding form_fault calls
 call_gate version ws = refl
 
-call_obtain : (version : ℕ) (ws : List (List ℕ)) → form_fault (choice (calls version) (codes "obtain")) (codes "obtain" ∷ ws) ≡ form_fault (byte ∷ node version ∷ byte ∷ []) ws
+call_obtain : (version : ℕ) (ws : List (List ℕ)) → form_fault (choice (calls version) (codes "obtain")) (codes "obtain" ∷ ws)
+    ≡ form_fault (byte ∷ node version ∷ byte ∷ []) ws
 unfolding form_fault calls
 call_obtain version ws = refl
 
-call_delegate : (version : ℕ) (ws : List (List ℕ)) → form_fault (choice (calls version) (codes "delegate")) (codes "delegate" ∷ ws) ≡ form_fault (byte ∷ node version ∷ byte ∷ []) ws
+call_delegate : (version : ℕ) (ws : List (List ℕ)) → form_fault (choice (calls version) (codes "delegate")) (codes "delegate" ∷ ws)
+    ≡ form_fault (byte ∷ node version ∷ byte ∷ []) ws
 unfolding form_fault calls
 call_delegate version ws = refl
 
@@ -108,11 +119,13 @@ call_bind : (version : ℕ) (ws : List (List ℕ)) → form_fault (choice (calls
 unfolding form_fault calls
 call_bind version ws = refl
 
-call_read : (version : ℕ) (ws : List (List ℕ)) → form_fault (choice (calls version) (codes "read")) (codes "read" ∷ ws) ≡ form_fault (endpoint ∷ word ∷ word ∷ []) ws
+call_read : (version : ℕ) (ws : List (List ℕ)) →
+    form_fault (choice (calls version) (codes "read")) (codes "read" ∷ ws) ≡ form_fault (endpoint ∷ word ∷ word ∷ []) ws
 unfolding form_fault calls
 call_read version ws = refl
 
-call_write : (version : ℕ) (ws : List (List ℕ)) → form_fault (choice (calls version) (codes "write")) (codes "write" ∷ ws) ≡ form_fault (endpoint ∷ word ∷ word ∷ []) ws
+call_write : (version : ℕ) (ws : List (List ℕ)) → form_fault (choice (calls version) (codes "write")) (codes "write" ∷ ws)
+    ≡ form_fault (endpoint ∷ word ∷ word ∷ []) ws
 unfolding form_fault calls
 call_write version ws = refl
 
@@ -133,61 +146,84 @@ unfolding form_fault calls
 call_clear version ws = refl
 
 -- a call as it is printed
-pub call_fits : (version : ℕ) (c : Call) → IsValidCall (most_vpes version) c → form_fault (choice (calls version) (word_at (call_words c) 0)) (call_words c) ≡ None
+pub call_fits : (version : ℕ) (c : Call) → IsValidCall (most_vpes version) c → form_fault (choice (calls version) (word_at (call_words c) 0)) (call_words c)
+    ≡ None
 call_fits version (Derive src dst off len rights) valid =
     let high0 : src < 256 = valid.0 in
     let high1 : dst < 256 = valid.1 in
     let high2 : off ≤ 4294967295 = valid.2 in
     let high3 : len ≤ 4294967295 = valid.3 in
     let high4 : rights ≤ 7 = valid.4 in
-    call_derive version _ ∙ (fill 0 255 src _ _ (omega arith) (omega arith) (omega arith) ∙ (fill 0 255 dst _ _ (omega arith) (omega arith) (omega arith) ∙ (fill 0 4294967295 off _ _ (omega arith) (omega arith) (omega arith) ∙ (fill 0 4294967295 len _ _ (omega arith) (omega arith) (omega arith) ∙ (fill 0 7 rights _ _ (omega arith) (omega arith) (omega arith) ∙ (filled))))))
+    call_derive version _
+    ∙ (fill 0 255 src _ _ (omega arith) (omega arith) (omega arith)
+    ∙ (fill 0 255 dst _ _ (omega arith) (omega arith) (omega arith)
+    ∙ (fill 0 4294967295 off _ _ (omega arith) (omega arith) (omega arith)
+    ∙ (fill 0 4294967295 len _ _ (omega arith) (omega arith) (omega arith) ∙ (fill 0 7 rights _ _ (omega arith) (omega arith) (omega arith) ∙ (filled))))))
 call_fits version (Gate src dst label credits) valid =
     let high0 : src < 256 = valid.0 in
     let high1 : dst < 256 = valid.1 in
     let high2 : label ≤ 4294967295 = valid.2 in
     let low3 : 1 ≤ credits = valid.3 in
     let high3 : credits ≤ 64 = valid.4 in
-    call_gate version _ ∙ (fill 0 255 src _ _ (omega arith) (omega arith) (omega arith) ∙ (fill 0 255 dst _ _ (omega arith) (omega arith) (omega arith) ∙ (fill 0 4294967295 label _ _ (omega arith) (omega arith) (omega arith) ∙ (fill 1 64 credits _ _ (omega arith) (omega arith) (omega arith) ∙ (filled)))))
+    call_gate version _
+    ∙ (fill 0 255 src _ _ (omega arith) (omega arith) (omega arith)
+    ∙ (fill 0 255 dst _ _ (omega arith) (omega arith) (omega arith) ∙ (fill 0 4294967295 label _ _ (omega arith) (omega arith) (omega arith)
+    ∙ (fill 1 64 credits _ _ (omega arith) (omega arith) (omega arith) ∙ (filled)))))
 call_fits version (Obtain dst vpe src) valid =
     let high0 : dst < 256 = valid.0 in
     let high1 : vpe < VPES = node_small version vpe valid.1 in
     let high2 : src < 256 = valid.2 in
-    call_obtain version _ ∙ (fill 0 255 dst _ _ (omega arith) (omega arith) (omega arith) ∙ (fill_node version vpe _ _ valid.1 ∙ (fill 0 255 src _ _ (omega arith) (omega arith) (omega arith) ∙ (filled))))
+    call_obtain version _
+    ∙ (fill 0 255 dst _ _ (omega arith) (omega arith) (omega arith)
+    ∙ (fill_node version vpe _ _ valid.1 ∙ (fill 0 255 src _ _ (omega arith) (omega arith) (omega arith) ∙ (filled))))
 call_fits version (Delegate src vpe dst) valid =
     let high0 : src < 256 = valid.0 in
     let high1 : vpe < VPES = node_small version vpe valid.1 in
     let high2 : dst < 256 = valid.2 in
-    call_delegate version _ ∙ (fill 0 255 src _ _ (omega arith) (omega arith) (omega arith) ∙ (fill_node version vpe _ _ valid.1 ∙ (fill 0 255 dst _ _ (omega arith) (omega arith) (omega arith) ∙ (filled))))
+    call_delegate version _
+    ∙ (fill 0 255 src _ _ (omega arith) (omega arith) (omega arith)
+    ∙ (fill_node version vpe _ _ valid.1 ∙ (fill 0 255 dst _ _ (omega arith) (omega arith) (omega arith) ∙ (filled))))
 call_fits version (OpenSession dst name) valid =
     let high0 : dst < 256 = valid.0 in
     let high1 : name ≤ 255 = valid.1 in
-    call_open version _ ∙ (fill 0 255 dst _ _ (omega arith) (omega arith) (omega arith) ∙ (fill 0 255 name _ _ (omega arith) (omega arith) (omega arith) ∙ (filled)))
+    call_open version _
+    ∙ (fill 0 255 dst _ _ (omega arith) (omega arith) (omega arith) ∙ (fill 0 255 name _ _ (omega arith) (omega arith) (omega arith) ∙ (filled)))
 call_fits version (AskOffer dst session index) valid =
     let high0 : dst < 256 = valid.0 in
     let high1 : session < 256 = valid.1 in
     let high2 : index ≤ 255 = valid.2 in
-    call_ask version _ ∙ (fill 0 255 dst _ _ (omega arith) (omega arith) (omega arith) ∙ (fill 0 255 session _ _ (omega arith) (omega arith) (omega arith) ∙ (fill 0 255 index _ _ (omega arith) (omega arith) (omega arith) ∙ (filled))))
+    call_ask version _
+    ∙ (fill 0 255 dst _ _ (omega arith) (omega arith) (omega arith)
+    ∙ (fill 0 255 session _ _ (omega arith) (omega arith) (omega arith) ∙ (fill 0 255 index _ _ (omega arith) (omega arith) (omega arith) ∙ (filled))))
 call_fits version (Revoke src) valid =
     let high0 : src < 256 = valid in
     call_revoke version _ ∙ (fill 0 255 src _ _ (omega arith) (omega arith) (omega arith) ∙ (filled))
 call_fits version (Bind ep src) valid =
     let high0 : ep < 16 = valid.0 in
     let high1 : src < 256 = valid.1 in
-    call_bind version _ ∙ (fill 0 15 ep _ _ (omega arith) (omega arith) (omega arith) ∙ (fill 0 255 src _ _ (omega arith) (omega arith) (omega arith) ∙ (filled)))
+    call_bind version _
+    ∙ (fill 0 15 ep _ _ (omega arith) (omega arith) (omega arith) ∙ (fill 0 255 src _ _ (omega arith) (omega arith) (omega arith) ∙ (filled)))
 call_fits version (Read ep off len) valid =
     let high0 : ep < 16 = valid.0 in
     let high1 : off ≤ 4294967295 = valid.1 in
     let high2 : len ≤ 4294967295 = valid.2 in
-    call_read version _ ∙ (fill 0 15 ep _ _ (omega arith) (omega arith) (omega arith) ∙ (fill 0 4294967295 off _ _ (omega arith) (omega arith) (omega arith) ∙ (fill 0 4294967295 len _ _ (omega arith) (omega arith) (omega arith) ∙ (filled))))
+    call_read version _
+    ∙ (fill 0 15 ep _ _ (omega arith) (omega arith) (omega arith)
+    ∙ (fill 0 4294967295 off _ _ (omega arith) (omega arith) (omega arith)
+    ∙ (fill 0 4294967295 len _ _ (omega arith) (omega arith) (omega arith) ∙ (filled))))
 call_fits version (Write ep off len) valid =
     let high0 : ep < 16 = valid.0 in
     let high1 : off ≤ 4294967295 = valid.1 in
     let high2 : len ≤ 4294967295 = valid.2 in
-    call_write version _ ∙ (fill 0 15 ep _ _ (omega arith) (omega arith) (omega arith) ∙ (fill 0 4294967295 off _ _ (omega arith) (omega arith) (omega arith) ∙ (fill 0 4294967295 len _ _ (omega arith) (omega arith) (omega arith) ∙ (filled))))
+    call_write version _
+    ∙ (fill 0 15 ep _ _ (omega arith) (omega arith) (omega arith)
+    ∙ (fill 0 4294967295 off _ _ (omega arith) (omega arith) (omega arith)
+    ∙ (fill 0 4294967295 len _ _ (omega arith) (omega arith) (omega arith) ∙ (filled))))
 call_fits version (SendCall ep len) valid =
     let high0 : ep < 16 = valid.0 in
     let high1 : len ≤ 4294967295 = valid.1 in
-    call_send version _ ∙ (fill 0 15 ep _ _ (omega arith) (omega arith) (omega arith) ∙ (fill 0 4294967295 len _ _ (omega arith) (omega arith) (omega arith) ∙ (filled)))
+    call_send version _
+    ∙ (fill 0 15 ep _ _ (omega arith) (omega arith) (omega arith) ∙ (fill 0 4294967295 len _ _ (omega arith) (omega arith) (omega arith) ∙ (filled)))
 call_fits version (Credit ep) valid =
     let high0 : ep < 16 = valid in
     call_credit version _ ∙ (fill 0 15 ep _ _ (omega arith) (omega arith) (omega arith) ∙ (filled))
@@ -261,39 +297,48 @@ call_says version (Clear src) valid =
     rw (value src (omega arith)) refl
 
 -- the first word of a line
-line_kernels : (version k : ℕ) (ws : List (List ℕ)) → form_fault (form version k (codes "kernels" ∷ ws)) (codes "kernels" ∷ ws) ≡ form_fault (kernel_count version ∷ []) ws
+line_kernels : (version k : ℕ) (ws : List (List ℕ)) → form_fault (form version k (codes "kernels" ∷ ws)) (codes "kernels" ∷ ws)
+    ≡ form_fault (kernel_count version ∷ []) ws
 unfolding form_fault form lines
 line_kernels version k ws = refl
 
-line_pe : (version k : ℕ) (ws : List (List ℕ)) → form_fault (form version k (codes "pe" ∷ ws)) (codes "pe" ∷ ws) ≡ form_fault (node version ∷ up_to (k - 1) ∷ []) ws
+line_pe : (version k : ℕ) (ws : List (List ℕ)) →
+    form_fault (form version k (codes "pe" ∷ ws)) (codes "pe" ∷ ws) ≡ form_fault (node version ∷ up_to (k - 1) ∷ []) ws
 unfolding form_fault form lines
 line_pe version k ws = refl
 
-line_vpe : (version k : ℕ) (ws : List (List ℕ)) → form_fault (form version k (codes "vpe" ∷ ws)) (codes "vpe" ∷ ws) ≡ form_fault (node version ∷ node version ∷ []) ws
+line_vpe : (version k : ℕ) (ws : List (List ℕ)) →
+    form_fault (form version k (codes "vpe" ∷ ws)) (codes "vpe" ∷ ws) ≡ form_fault (node version ∷ node version ∷ []) ws
 unfolding form_fault form lines
 line_vpe version k ws = refl
 
-line_service : (version k : ℕ) (ws : List (List ℕ)) → form_fault (form version k (codes "service" ∷ ws)) (codes "service" ∷ ws) ≡ form_fault (node version ∷ byte ∷ byte ∷ []) ws
+line_service : (version k : ℕ) (ws : List (List ℕ)) → form_fault (form version k (codes "service" ∷ ws)) (codes "service" ∷ ws)
+    ≡ form_fault (node version ∷ byte ∷ byte ∷ []) ws
 unfolding form_fault form lines
 line_service version k ws = refl
 
-line_offer : (version k : ℕ) (ws : List (List ℕ)) → form_fault (form version k (codes "offer" ∷ ws)) (codes "offer" ∷ ws) ≡ form_fault (byte ∷ byte ∷ byte ∷ []) ws
+line_offer : (version k : ℕ) (ws : List (List ℕ)) →
+    form_fault (form version k (codes "offer" ∷ ws)) (codes "offer" ∷ ws) ≡ form_fault (byte ∷ byte ∷ byte ∷ []) ws
 unfolding form_fault form lines
 line_offer version k ws = refl
 
-line_deny : (version k : ℕ) (ws : List (List ℕ)) → form_fault (form version k (codes "deny" ∷ ws)) (codes "deny" ∷ ws) ≡ form_fault (node version ∷ node version ∷ []) ws
+line_deny : (version k : ℕ) (ws : List (List ℕ)) →
+    form_fault (form version k (codes "deny" ∷ ws)) (codes "deny" ∷ ws) ≡ form_fault (node version ∷ node version ∷ []) ws
 unfolding form_fault form lines
 line_deny version k ws = refl
 
-line_kill : (version k : ℕ) (ws : List (List ℕ)) → form_fault (form version k (codes "kill" ∷ ws)) (codes "kill" ∷ ws) ≡ form_fault (node version ∷ word ∷ []) ws
+line_kill : (version k : ℕ) (ws : List (List ℕ)) →
+    form_fault (form version k (codes "kill" ∷ ws)) (codes "kill" ∷ ws) ≡ form_fault (node version ∷ word ∷ []) ws
 unfolding form_fault form lines
 line_kill version k ws = refl
 
-line_call : (version k : ℕ) (ws : List (List ℕ)) → form_fault (form version k (codes "call" ∷ ws)) (codes "call" ∷ ws) ≡ form_fault (node version ∷ choice (calls version) (word_at ws 1)) ws
+line_call : (version k : ℕ) (ws : List (List ℕ)) →
+    form_fault (form version k (codes "call" ∷ ws)) (codes "call" ∷ ws) ≡ form_fault (node version ∷ choice (calls version) (word_at ws 1)) ws
 unfolding form_fault form lines
 line_call version k ws = refl
 
-line_root : (version k : ℕ) (ws : List (List ℕ)) → form_fault (form version k (codes "root" ∷ ws)) (codes "root" ∷ ws) ≡ form_fault (node version ∷ byte ∷ choice objects (word_at ws 2)) ws
+line_root : (version k : ℕ) (ws : List (List ℕ)) →
+    form_fault (form version k (codes "root" ∷ ws)) (codes "root" ∷ ws) ≡ form_fault (node version ∷ byte ∷ choice objects (word_at ws 2)) ws
 unfolding form_fault form lines
 line_root version k ws = refl
 
@@ -301,7 +346,8 @@ line_end : (version k : ℕ) (ws : List (List ℕ)) → form_fault (form version
 unfolding form_fault form lines
 line_end version k ws = refl
 
-line_window : (version k : ℕ) (ws : List (List ℕ)) → (version == 1) ≡ false → form_fault (form version k (codes "window" ∷ ws)) (codes "window" ∷ ws) ≡ form_fault (window version ∷ []) ws
+line_window : (version k : ℕ) (ws : List (List ℕ)) → (version == 1) ≡ false →
+    form_fault (form version k (codes "window" ∷ ws)) (codes "window" ∷ ws) ≡ form_fault (window version ∷ []) ws
 unfolding form_fault form lines
 line_window version k ws two = rw two refl
 
@@ -314,7 +360,8 @@ unfolding form_fault objects
 object_recv ws = refl
 
 -- a line as it is printed has its form
-pub line_fits : (version k : ℕ) (d : Declaration) → 1 ≤ k → k ≤ KERNELS → IsInRange version k d → IsSaid version d → form_fault (form version k (spelled d)) (spelled d) ≡ None
+pub line_fits : (version k : ℕ) (d : Declaration) → 1 ≤ k → k ≤ KERNELS → IsInRange version k d → IsSaid version d →
+    form_fault (form version k (spelled d)) (spelled d) ≡ None
 line_fits version k (Kernels n) some few ranges said = absurd said
 line_fits version k (Window w) some few ranges said = line_window version k _ said ∙ (fill_window version w _ _ ranges ∙ filled)
 line_fits version k (Pe p j) some few ranges said =
@@ -331,23 +378,33 @@ line_fits version k (Memory v s b l g) some few ranges said =
     let d : b ≤ 4294967295 = ranges.2 in
     let e : l ≤ 4294967295 = ranges.3 in
     let f : g ≤ 7 = ranges.4 in
-    line_root version k _ ∙ (fill_node version v _ _ ranges.0 ∙ (fill 0 255 s _ _ (omega arith) (omega arith) (omega arith) ∙ (object_mem _ ∙ (fill 0 4294967295 b _ _ (omega arith) (omega arith) (omega arith) ∙ (fill 0 4294967295 l _ _ (omega arith) (omega arith) (omega arith) ∙ (fill 0 7 g _ _ (omega arith) (omega arith) (omega arith) ∙ filled))))))
+    line_root version k _
+    ∙ (fill_node version v _ _ ranges.0
+    ∙ (fill 0 255 s _ _ (omega arith) (omega arith) (omega arith)
+    ∙ (object_mem _ ∙ (fill 0 4294967295 b _ _ (omega arith) (omega arith) (omega arith)
+    ∙ (fill 0 4294967295 l _ _ (omega arith) (omega arith) (omega arith) ∙ (fill 0 7 g _ _ (omega arith) (omega arith) (omega arith) ∙ filled))))))
 line_fits version k (Receive v s n) some few ranges said =
     let a : v < VPES = node_small version v ranges.0 in
     let c : s < 256 = ranges.1 in
     let d : 1 ≤ n = ranges.2 in
     let e : n ≤ 64 = ranges.3 in
-    line_root version k _ ∙ (fill_node version v _ _ ranges.0 ∙ (fill 0 255 s _ _ (omega arith) (omega arith) (omega arith) ∙ (object_recv _ ∙ (fill 1 64 n _ _ (omega arith) (omega arith) (omega arith) ∙ filled))))
+    line_root version k _
+    ∙ (fill_node version v _ _ ranges.0
+    ∙ (fill 0 255 s _ _ (omega arith) (omega arith) (omega arith) ∙ (object_recv _ ∙ (fill 1 64 n _ _ (omega arith) (omega arith) (omega arith) ∙ filled))))
 line_fits version k (Service v s n) some few ranges said =
     let a : v < VPES = node_small version v ranges.0 in
     let c : s < 256 = ranges.1 in
     let d : n ≤ 255 = ranges.2 in
-    line_service version k _ ∙ (fill_node version v _ _ ranges.0 ∙ (fill 0 255 s _ _ (omega arith) (omega arith) (omega arith) ∙ (fill 0 255 n _ _ (omega arith) (omega arith) (omega arith) ∙ filled)))
+    line_service version k _
+    ∙ (fill_node version v _ _ ranges.0
+    ∙ (fill 0 255 s _ _ (omega arith) (omega arith) (omega arith) ∙ (fill 0 255 n _ _ (omega arith) (omega arith) (omega arith) ∙ filled)))
 line_fits version k (Offer n i s) some few ranges said =
     let a : n ≤ 255 = ranges.0 in
     let c : i ≤ 255 = ranges.1 in
     let d : s < 256 = ranges.2 in
-    line_offer version k _ ∙ (fill 0 255 n _ _ (omega arith) (omega arith) (omega arith) ∙ (fill 0 255 i _ _ (omega arith) (omega arith) (omega arith) ∙ (fill 0 255 s _ _ (omega arith) (omega arith) (omega arith) ∙ filled)))
+    line_offer version k _
+    ∙ (fill 0 255 n _ _ (omega arith) (omega arith) (omega arith)
+    ∙ (fill 0 255 i _ _ (omega arith) (omega arith) (omega arith) ∙ (fill 0 255 s _ _ (omega arith) (omega arith) (omega arith) ∙ filled)))
 line_fits version k (Deny v w) some few ranges said =
     let a : v < VPES = node_small version v ranges.0 in
     let c : w < VPES = node_small version w ranges.1 in

@@ -1,5 +1,6 @@
 -- One line more is read.
-use Rattle.std.proofs.Common.{◌≡◌, ℕ, ◌≤◌, ◌==◌, ◌⊎◌, Bool, true, false, true≢false, cond, not, List, [], ◌∷◌, ◌++◌, map, Some, None, replicate, refl, ap, sym, subst, ◌∙◌, inl, inr}
+use Rattle.std.proofs.Common.{◌≡◌, ℕ, ◌≤◌, ◌==◌, ◌⊎◌, Bool, true, false, true≢false, cond, not, List, [], ◌∷◌, ◌++◌, map, Some, None, replicate, refl, ap, sym}
+use Rattle.std.proofs.Common.{subst, ◌∙◌, inl, inr}
 use Rattle.std.proofs.lemmas.Bool.{cases_Bool}
 use Rattle.sem_key.specs.MembershipTable.{MembershipTable}
 use Rattle.sem_msg.specs.Versions.{most_kernels}
@@ -52,7 +53,8 @@ tells_version version t versions told = record {
 }
 
 -- so many kernels, and nothing is declared
-pub tells_kernels : (version kernels n : ℕ) (t : Tables) (owners : MembershipTable) → 1 ≤ kernels → kernels ≤ most_kernels version → owners ≡ record { kernels = kernels; owners = replicate n None } → Tells version 1 [] t → Tells version kernels [] (record t { owners = owners })
+pub tells_kernels : (version kernels n : ℕ) (t : Tables) (owners : MembershipTable) → 1 ≤ kernels → kernels ≤ most_kernels version →
+    owners ≡ record { kernels = kernels; owners = replicate n None } → Tells version 1 [] t → Tells version kernels [] (record t { owners = owners })
 tells_kernels version kernels n t owners some few is told = record {
   versions = told.versions;
   some = some;
@@ -74,13 +76,16 @@ tells_kernels version kernels n t owners some few is told = record {
   kill = told.kill;
 }
 
-pub first_line : (stage : Stage) (lines : List (List (List ℕ))) (words : List (List ℕ)) (t : Tables) (version : ℕ) → stage ≡ Start → IsReadTo stage lines t → form_fault first_form words ≡ None → version ≡ version_in words → (version ≡ 1) ⊎ (version ≡ 2) → (words_fault lines words ≡ None) × IsReadTo Named (lines ++ words ∷ []) (record t { version = version })
+pub first_line : (stage : Stage) (lines : List (List (List ℕ))) (words : List (List ℕ)) (t : Tables) (version : ℕ) → stage ≡ Start → IsReadTo stage lines t →
+    form_fault first_form words ≡ None → version ≡ version_in words → (version ≡ 1) ⊎ (version ≡ 2) →
+    (words_fault lines words ≡ None) × IsReadTo Named (lines ++ words ∷ []) (record t { version = version })
 unfolding words_fault
 first_line stage lines words t version at read fits is versions =
     let start : IsReadTo Start lines t = subst (λ (s : Stage). IsReadTo s lines t) at read in
     (rw start.0 fits, (words, rw start.0 refl, subst (λ (v : ℕ). Tells v 1 [] (record t { version = version })) is (tells_version version t versions start.1)))
 
-pub first_refused : (stage : Stage) (lines : List (List (List ℕ))) (words : List (List ℕ)) (t : Tables) (cause : Cause) → stage ≡ Start → form_fault first_form words ≡ Some cause → IsReadTo stage lines t → words_fault lines words ≡ Some cause
+pub first_refused : (stage : Stage) (lines : List (List (List ℕ))) (words : List (List ℕ)) (t : Tables) (cause : Cause) → stage ≡ Start →
+    form_fault first_form words ≡ Some cause → IsReadTo stage lines t → words_fault lines words ≡ Some cause
 unfolding words_fault
 first_refused stage lines words t cause at fault read =
     let start : IsReadTo Start lines t = subst (λ (s : Stage). IsReadTo s lines t) at read in
@@ -91,12 +96,16 @@ behind_second : (one : Bool) (lines : List (List (List ℕ))) (t : Tables) → I
 behind_second true lines t opened = opened
 behind_second false lines t opened = opened
 
-pub second_line : (stage : Stage) (lines : List (List (List ℕ))) (words : List (List ℕ)) (t : Tables) (kernels n : ℕ) (owners : MembershipTable) → stage ≡ Named → IsReadTo stage lines t → form_fault (second_form t.version) words ≡ None → kernels ≡ number_at words 1 → 1 ≤ kernels → kernels ≤ most_kernels t.version → owners ≡ record { kernels = kernels; owners = replicate n None } → (words_fault lines words ≡ None) × IsReadTo (cond (t.version == 1) Open Counted) (lines ++ words ∷ []) (record t { owners = owners })
+pub second_line : (stage : Stage) (lines : List (List (List ℕ))) (words : List (List ℕ)) (t : Tables) (kernels n : ℕ) (owners : MembershipTable) →
+    stage ≡ Named → IsReadTo stage lines t → form_fault (second_form t.version) words ≡ None → kernels ≡ number_at words 1 → 1 ≤ kernels →
+    kernels ≤ most_kernels t.version → owners ≡ record { kernels = kernels; owners = replicate n None } →
+    (words_fault lines words ≡ None) × IsReadTo (cond (t.version == 1) Open Counted) (lines ++ words ∷ []) (record t { owners = owners })
 unfolding words_fault is_ended
 second_line stage lines words t kernels n owners at read fits is some few empty =
     let named : IsReadTo Named lines t = subst (λ (s : Stage). IsReadTo s lines t) at read in
     let same : t.version ≡ version_in named.0 = named.2.same_version in
-    let told : Tells (version_in named.0) kernels [] (record t { owners = owners }) = tells_kernels (version_in named.0) kernels n t owners some (subst (λ (v : ℕ). kernels ≤ most_kernels v) same few) empty named.2 in (
+    let told : Tells (version_in named.0) kernels [] (record t { owners = owners }) =
+    tells_kernels (version_in named.0) kernels n t owners some (subst (λ (v : ℕ). kernels ≤ most_kernels v) same few) empty named.2 in (
       rw (named.1, ← same) fits,
       behind_second (t.version == 1) (lines ++ words ∷ []) (record t { owners = owners }) (record {
         first = named.0;
@@ -109,7 +118,8 @@ second_line stage lines words t kernels n owners at read fits is some few empty 
       }),
     )
 
-pub second_refused : (stage : Stage) (lines : List (List (List ℕ))) (words : List (List ℕ)) (t : Tables) (cause : Cause) → stage ≡ Named → form_fault (second_form t.version) words ≡ Some cause → IsReadTo stage lines t → words_fault lines words ≡ Some cause
+pub second_refused : (stage : Stage) (lines : List (List (List ℕ))) (words : List (List ℕ)) (t : Tables) (cause : Cause) → stage ≡ Named →
+    form_fault (second_form t.version) words ≡ Some cause → IsReadTo stage lines t → words_fault lines words ≡ Some cause
 unfolding words_fault
 second_refused stage lines words t cause at fault read =
     let named : IsReadTo Named lines t = subst (λ (s : Stage). IsReadTo s lines t) at read in
@@ -143,15 +153,20 @@ pub counted : (stage : Stage) (lines : List (List (List ℕ))) (t : Tables) → 
 counted stage lines t at read = subst (λ (s : Stage). IsReadTo s lines t) at read
 
 -- nothing is wrong with it
-pub window_accepted : (lines : List (List (List ℕ))) (t : Tables) (d : Declaration) → (read : IsOpened lines t true false) → IsWindowLine d → context_fault (map declaration read.earlier) d ≡ None
+pub window_accepted : (lines : List (List (List ℕ))) (t : Tables) (d : Declaration) → (read : IsOpened lines t true false) → IsWindowLine d →
+    context_fault (map declaration read.earlier) d ≡ None
 unfolding context_fault window_in
 window_accepted lines t d read (window, is) = rw (none_earlier (version_in read.first) read.earlier read.due, is) refl
 
-pub third_line : (lines : List (List (List ℕ))) (words : List (List ℕ)) (t after : Tables) (d : Declaration) → (read : IsOpened lines t true false) → form_fault (third_form t.version) words ≡ None → d ≡ declaration words → IsWindowLine d → Tells (version_in read.first) (number_at read.second 1) (map declaration read.earlier ++ d ∷ []) after → (words_fault lines words ≡ None) × IsReadTo Open (lines ++ words ∷ []) after
+pub third_line : (lines : List (List (List ℕ))) (words : List (List ℕ)) (t after : Tables) (d : Declaration) → (read : IsOpened lines t true false) →
+    form_fault (third_form t.version) words ≡ None → d ≡ declaration words → IsWindowLine d →
+    Tells (version_in read.first) (number_at read.second 1) (map declaration read.earlier ++ d ∷ []) after →
+    (words_fault lines words ≡ None) × IsReadTo Open (lines ++ words ∷ []) after
 unfolding words_fault body_fault is_ended
 third_line lines words t after d read fits says window told =
     let same : t.version ≡ version_in read.first = read.tells.same_version in
-    let more : map declaration (read.earlier ++ words ∷ []) ≡ map declaration read.earlier ++ d ∷ [] = map-push declaration read.earlier words ∙ ap (λ (e : Declaration). map declaration read.earlier ++ e ∷ []) (sym says) in
+    let more : map declaration (read.earlier ++ words ∷ []) ≡ map declaration read.earlier ++ d ∷ [] = map-push declaration read.earlier words
+    ∙ ap (λ (e : Declaration). map declaration read.earlier ++ e ∷ []) (sym says) in
     let goes_on : is_end d ≡ false = rw window.1 refl in (
       rw (read.are, read.due, ← same) fits,
       record {
@@ -165,7 +180,8 @@ third_line lines words t after d read fits says window told =
       },
     )
 
-pub third_refused : (lines : List (List (List ℕ))) (words : List (List ℕ)) (t : Tables) (cause : Cause) → (read : IsOpened lines t true false) → form_fault (third_form t.version) words ≡ Some cause → words_fault lines words ≡ Some cause
+pub third_refused : (lines : List (List (List ℕ))) (words : List (List ℕ)) (t : Tables) (cause : Cause) → (read : IsOpened lines t true false) →
+    form_fault (third_form t.version) words ≡ Some cause → words_fault lines words ≡ Some cause
 unfolding words_fault body_fault
 third_refused lines words t cause read fault = rw (read.are, read.due, ← read.tells.same_version) fault
 
@@ -173,12 +189,17 @@ third_refused lines words t cause read fault = rw (read.are, read.due, ← read.
 pub opened : (stage : Stage) (lines : List (List (List ℕ))) (t : Tables) → stage ≡ Open → IsReadTo stage lines t → IsOpened lines t false false
 opened stage lines t at read = subst (λ (s : Stage). IsReadTo s lines t) at read
 
-pub open_line : (lines : List (List (List ℕ))) (words : List (List ℕ)) (t after : Tables) (kernels : ℕ) (d : Declaration) → (read : IsOpened lines t false false) → kernels ≡ t.owners.kernels → form_fault (form t.version kernels words) words ≡ None → d ≡ declaration words → context_fault (map declaration read.earlier) d ≡ None → Tells (version_in read.first) (number_at read.second 1) (map declaration read.earlier ++ d ∷ []) after → (words_fault lines words ≡ None) × IsReadTo (cond (is_end d) Ended Open) (lines ++ words ∷ []) after
+pub open_line : (lines : List (List (List ℕ))) (words : List (List ℕ)) (t after : Tables) (kernels : ℕ) (d : Declaration) →
+    (read : IsOpened lines t false false) → kernels ≡ t.owners.kernels → form_fault (form t.version kernels words) words ≡ None → d ≡ declaration words →
+    context_fault (map declaration read.earlier) d ≡ None →
+    Tells (version_in read.first) (number_at read.second 1) (map declaration read.earlier ++ d ∷ []) after →
+    (words_fault lines words ≡ None) × IsReadTo (cond (is_end d) Ended Open) (lines ++ words ∷ []) after
 unfolding words_fault body_fault
 open_line lines words t after kernels d read is fits says accepted told =
     let number : kernels ≡ number_at read.second 1 = is ∙ read.tells.number in
     let same : t.version ≡ version_in read.first = read.tells.same_version in
-    let more : map declaration (read.earlier ++ words ∷ []) ≡ map declaration read.earlier ++ d ∷ [] = map-push declaration read.earlier words ∙ ap (λ (e : Declaration). map declaration read.earlier ++ e ∷ []) (sym says) in (
+    let more : map declaration (read.earlier ++ words ∷ []) ≡ map declaration read.earlier ++ d ∷ [] = map-push declaration read.earlier words
+    ∙ ap (λ (e : Declaration). map declaration read.earlier ++ e ∷ []) (sym says) in (
       rw (read.are, read.due, read.said, ← number, ← same, fits, ← says) accepted,
       stage_read (is_end d) (lines ++ words ∷ []) after (record {
         first = read.first;
@@ -191,19 +212,24 @@ open_line lines words t after kernels d read is fits says accepted told =
       }),
     )
 
-pub open_ill_formed : (lines : List (List (List ℕ))) (words : List (List ℕ)) (t : Tables) (kernels : ℕ) (cause : Cause) → (read : IsOpened lines t false false) → kernels ≡ t.owners.kernels → form_fault (form t.version kernels words) words ≡ Some cause → words_fault lines words ≡ Some cause
+pub open_ill_formed : (lines : List (List (List ℕ))) (words : List (List ℕ)) (t : Tables) (kernels : ℕ) (cause : Cause) →
+    (read : IsOpened lines t false false) → kernels ≡ t.owners.kernels → form_fault (form t.version kernels words) words ≡ Some cause →
+    words_fault lines words ≡ Some cause
 unfolding words_fault body_fault
 open_ill_formed lines words t kernels cause read is fault =
     let number : kernels ≡ number_at read.second 1 = is ∙ read.tells.number in
     rw (read.are, read.due, read.said, ← number, ← read.tells.same_version, fault) refl
 
-pub open_refused : (lines : List (List (List ℕ))) (words : List (List ℕ)) (t : Tables) (kernels : ℕ) (d : Declaration) (cause : Cause) → (read : IsOpened lines t false false) → kernels ≡ t.owners.kernels → form_fault (form t.version kernels words) words ≡ None → d ≡ declaration words → context_fault (map declaration read.earlier) d ≡ Some cause → words_fault lines words ≡ Some cause
+pub open_refused : (lines : List (List (List ℕ))) (words : List (List ℕ)) (t : Tables) (kernels : ℕ) (d : Declaration) (cause : Cause) →
+    (read : IsOpened lines t false false) → kernels ≡ t.owners.kernels → form_fault (form t.version kernels words) words ≡ None → d ≡ declaration words →
+    context_fault (map declaration read.earlier) d ≡ Some cause → words_fault lines words ≡ Some cause
 unfolding words_fault body_fault
 open_refused lines words t kernels d cause read is fits says fault =
     let number : kernels ≡ number_at read.second 1 = is ∙ read.tells.number in
     rw (read.are, read.due, read.said, ← number, ← read.tells.same_version, fits, ← says) fault
 
-pub ended_refused : (stage : Stage) (lines : List (List (List ℕ))) (words : List (List ℕ)) (t : Tables) → stage ≡ Ended → IsReadTo stage lines t → words_fault lines words ≡ Some TooMany
+pub ended_refused : (stage : Stage) (lines : List (List (List ℕ))) (words : List (List ℕ)) (t : Tables) → stage ≡ Ended → IsReadTo stage lines t →
+    words_fault lines words ≡ Some TooMany
 unfolding words_fault body_fault
 ended_refused stage lines words t at read =
     let ended : IsOpened lines t false true = subst (λ (s : Stage). IsReadTo s lines t) at read in
@@ -215,16 +241,20 @@ unfolding line_fault
 bad_bytes lines line cause fault = rw fault refl
 
 -- a line that says nothing
-pub skipped : (lines : List (List (List ℕ))) (line : List ℕ) (P : List (List (List ℕ)) → Type 0) → bytes_fault line ≡ None → is_significant (words_of line) ≡ false → P lines → (line_fault lines line ≡ None) × P (with_line lines line)
+pub skipped : (lines : List (List (List ℕ))) (line : List ℕ) (P : List (List (List ℕ)) → Type 0) → bytes_fault line ≡ None →
+    is_significant (words_of line) ≡ false → P lines → (line_fault lines line ≡ None) × P (with_line lines line)
 unfolding line_fault
 skipped lines line P fits nothing holds = (rw (fits, nothing) refl, rw nothing holds)
 
 -- a line that says something
-pub said : (lines : List (List (List ℕ))) (line : List ℕ) (P : List (List (List ℕ)) → Type 0) → bytes_fault line ≡ None → is_significant (words_of line) ≡ true → (words_fault lines (words_of line) ≡ None) × P (lines ++ words_of line ∷ []) → (line_fault lines line ≡ None) × P (with_line lines line)
+pub said : (lines : List (List (List ℕ))) (line : List ℕ) (P : List (List (List ℕ)) → Type 0) → bytes_fault line ≡ None →
+    is_significant (words_of line) ≡ true → (words_fault lines (words_of line) ≡ None) × P (lines ++ words_of line ∷ []) →
+    (line_fault lines line ≡ None) × P (with_line lines line)
 unfolding line_fault
 said lines line P fits something holds = (rw (fits, something) holds.0, rw something holds.1)
 
-pub refused : (lines : List (List (List ℕ))) (line : List ℕ) (cause : Cause) → bytes_fault line ≡ None → is_significant (words_of line) ≡ true → words_fault lines (words_of line) ≡ Some cause → line_fault lines line ≡ Some cause
+pub refused : (lines : List (List (List ℕ))) (line : List ℕ) (cause : Cause) → bytes_fault line ≡ None → is_significant (words_of line) ≡ true →
+    words_fault lines (words_of line) ≡ Some cause → line_fault lines line ≡ Some cause
 unfolding line_fault
 refused lines line cause fits something fault = rw (fits, something) fault
 

@@ -1,5 +1,6 @@
 -- What the lines of a printed setup say, section by section.
-use Rattle.std.proofs.Common.{◌≡◌, ℕ, zero, suc, ◌+◌, ◌<◌, ◌≤◌, ◌==◌, ◌⊎◌, cond, List, [], ◌∷◌, ◌++◌, map, get_or, Option, Some, None, refl, ap, sym, ◌∙◌, subst, arith, inl, inr}
+use Rattle.std.proofs.Common.{◌≡◌, ℕ, zero, suc, ◌+◌, ◌<◌, ◌≤◌, ◌==◌, ◌⊎◌, cond, List, [], ◌∷◌, ◌++◌, map, get_or, Option, Some, None, refl, ap, sym, ◌∙◌}
+use Rattle.std.proofs.Common.{subst, arith, inl, inr}
 use Rattle.std.specs.List.{AllPairs, Contains, flat_map, enumerate_from, range_with_len}
 use Rattle.std.proofs.lemmas.Option.{none-some}
 use Rattle.std.proofs.lemmas.Bool.{cases_Bool}
@@ -12,8 +13,10 @@ use Rattle.sem_msg.specs.declared.setup.Offer.{Offer as OfferData}
 use Rattle.sem_msg.specs.declared.setup.VpeDecl.{VpeDecl}
 use Rattle.sem_msg.specs.Setup.{Setup, IsSetup, IsRootObject, IsRoot, IsVpeDecl}
 use Rattle.sem_trace.specs.declared.declaration.Declaration.{Declaration}
-use Rattle.sem_trace.specs.declared.declaration.Declaration.TheVariants.{Kernels, Window, Pe, Vpe, Memory, Receive, Service, Offer, Deny, Kill, Call as Calls, End}
-use Rattle.sem_reader.proofs.Enumerated.{in_cons, in_nil, here, there, all_in, pairs_cons, pairs_nil, pairs_head, pairs_tail, joined, joins, in_range, range_has}
+use Rattle.sem_trace.specs.declared.declaration.Declaration.TheVariants.{Kernels, Window, Pe, Vpe, Memory, Receive, Service, Offer, Deny, Kill, Call as Calls}
+use Rattle.sem_trace.specs.declared.declaration.Declaration.TheVariants.{End}
+use Rattle.sem_reader.proofs.Enumerated.{in_cons, in_nil, here, there, all_in, pairs_cons, pairs_nil, pairs_head, pairs_tail, joined, joins, in_range}
+use Rattle.sem_reader.proofs.Enumerated.{range_has}
 
 -- what the line of a root says
 abbrev pub root_says : ℕ → ℕ → Object → Declaration
@@ -99,7 +102,8 @@ pub pairs_mapped : {X Y : Type 0} (f : X → Y) (R : Y → Y → Type 0) (xs : L
 pairs_mapped f R [] pairs = pairs_nil R
 pairs_mapped {X} {Y} f R (x ∷ xs) pairs =
     pairs_cons R (f x) (map f xs)
-    (all_in (R (f x)) (map f xs) (λ y within. let r = in_map f xs y within in subst (R (f x)) r.2 (All-contains (λ (z : X). R (f x) (f z)) xs r.0 (pairs_head (λ (a b : X). R (f a) (f b)) x xs pairs) r.1)))
+    (all_in (R (f x)) (map f xs) (λ y within. let r = in_map f xs y within in
+    subst (R (f x)) r.2 (All-contains (λ (z : X). R (f x) (f z)) xs r.0 (pairs_head (λ (a b : X). R (f a) (f b)) x xs pairs) r.1)))
     (pairs_mapped f R xs (pairs_tail (λ (a b : X). R (f a) (f b)) x xs pairs))
 
 -- elements with their places
@@ -113,15 +117,21 @@ in_enumerate a (x ∷ xs) z within =
 
 enumerate_has : (a : ℕ) (xs : List (Option ℕ)) (i k : ℕ) → get_or xs i None ≡ Some k → Contains (enumerate_from a xs) (a + i, Some k)
 enumerate_has a [] i k some = absurd (none-some k some)
-enumerate_has a (x ∷ xs) zero k some = let e : a + 0 ≡ a = omega arith in rw e (subst (λ (o : Option ℕ). Contains ((a, x) ∷ enumerate_from (a + 1) xs) (a, o)) some (here (a, x) (enumerate_from (a + 1) xs)))
-enumerate_has a (x ∷ xs) (suc i) k some = let e : a + suc i ≡ (a + 1) + i = omega arith in rw e (there (a, x) (enumerate_from (a + 1) xs) ((a + 1) + i, Some k) (enumerate_has (a + 1) xs i k some))
+enumerate_has a (x ∷ xs) zero k some = let e : a + 0 ≡ a = omega arith in
+    rw e (subst (λ (o : Option ℕ). Contains ((a, x) ∷ enumerate_from (a + 1) xs) (a, o)) some (here (a, x) (enumerate_from (a + 1) xs)))
+enumerate_has a (x ∷ xs) (suc i) k some = let e : a + suc i ≡ (a + 1) + i = omega arith in
+    rw e (there (a, x) (enumerate_from (a + 1) xs) ((a + 1) + i, Some k) (enumerate_has (a + 1) xs i k some))
 
 enumerate_above : (a : ℕ) (xs : List (Option ℕ)) (z : ℕ × Option ℕ) → Contains (enumerate_from a xs) z → a ≤ z.0
 enumerate_above a xs z within = let r = in_enumerate a xs z within in let e : z.0 ≡ a + r.0 = r.1 in omega arith
 
 pub enumerate_rises : (a : ℕ) (xs : List (Option ℕ)) → AllPairs (λ x y. x.0 < y.0) (enumerate_from a xs)
 enumerate_rises a [] = pairs_nil (λ (x y : ℕ × Option ℕ). x.0 < y.0)
-enumerate_rises a (x ∷ xs) = pairs_cons (λ (x y : ℕ × Option ℕ). x.0 < y.0) (a, x) (enumerate_from (a + 1) xs) (all_in (λ (y : ℕ × Option ℕ). a < y.0) (enumerate_from (a + 1) xs) (λ z within. let low : a + 1 ≤ z.0 = enumerate_above (a + 1) xs z within in omega arith)) (enumerate_rises (a + 1) xs)
+enumerate_rises a (x ∷ xs) = pairs_cons (λ (x y : ℕ × Option ℕ). x.0 < y.0) (
+  a,
+  x,
+) (enumerate_from (a + 1) xs) (all_in (λ (y : ℕ × Option ℕ). a < y.0) (enumerate_from (a + 1) xs) (λ z within. let low : a + 1 ≤ z.0 =
+    enumerate_above (a + 1) xs z within in omega arith)) (enumerate_rises (a + 1) xs)
 
 pub in_pe : (p : ℕ) (o : Option ℕ) (e : Declaration) → Contains (pe_decls (p, o)) e → (k : ℕ) × (o ≡ Some k) × (e ≡ Pe p k)
 in_pe p None e within = absurd (in_nil e within)
@@ -162,7 +172,8 @@ in_first T e within =
 pub has_pe : (T : Setup) (p k : ℕ) → owner_at T.owners p ≡ Some k → Contains (section T 0) (Pe p k)
 has_pe T p k owned =
     let e : 0 + p ≡ p = omega arith in
-    let at : Contains (enumerate_from 0 T.owners.owners) (p, Some k) = subst (λ (n : ℕ). Contains (enumerate_from 0 T.owners.owners) (n, Some k)) e (enumerate_has 0 T.owners.owners p k owned) in
+    let at : Contains (enumerate_from 0 T.owners.owners) (p, Some k) = subst (λ (n : ℕ). Contains (enumerate_from 0 T.owners.owners) (n, Some k)) e
+    (enumerate_has 0 T.owners.owners p k owned) in
     Contains-append_right (window_decls T) (all_pes T) (Pe p k) (joins pe_decls (enumerate_from 0 T.owners.owners) (p, Some k) (Pe p k) at (here (Pe p k) []))
 
 -- the line of a root is one of a root

@@ -1,5 +1,6 @@
 -- What accepted lines declare is a setup.
-use Rattle.std.proofs.Common.{◌≡◌, ◌≢◌, ℕ, zero, suc, ◌+◌, ◌<◌, ◌≤◌, ◌==◌, ◌⊎◌, ◌↔◌, Bool, true, false, cond, true≢false, List, [], ◌∷◌, ◌++◌, length, map, get_or, Option, Some, None, refl, ap, sym, ◌∙◌, subst, arith, inl, inr, eqb-true, eq-eqb, ne_eqb, length-append, eqb, ◌||◌}
+use Rattle.std.proofs.Common.{◌≡◌, ◌≢◌, ℕ, zero, suc, ◌+◌, ◌<◌, ◌≤◌, ◌==◌, ◌⊎◌, ◌↔◌, Bool, true, false, cond, true≢false, List, [], ◌∷◌, ◌++◌, length, map}
+use Rattle.std.proofs.Common.{get_or, Option, Some, None, refl, ap, sym, ◌∙◌, subst, arith, inl, inr, eqb-true, eq-eqb, ne_eqb, length-append, eqb, ◌||◌}
 use Rattle.std.specs.List.{All, AllPairs, Any, Contains, filter_map, list_any, cons_option, range_with_len, slice_get, sum_by}
 use Rattle.std.specs.Option.{option_map, option_map_or, IsSome}
 use Rattle.std.proofs.lemmas.Bool.{cases_Bool, cases_eq}
@@ -33,7 +34,8 @@ use Rattle.sem_trace.specs.Standing.{window_of, vpes_of, services_among, named, 
 use Rattle.sem_reader.specs.Accepted.{AreAccepted}
 use Rattle.sem_reader.specs.Tells.{IsPlainVpe}
 use Rattle.sem_reader.proofs.OneMore.{calls_in-same, calls_in-new, call_number-more}
-use Rattle.sem_reader.proofs.Enumerated.{in_cons, in_nil, here, there, all_in, given, gives, pairs_given, joined, pairs_joined, in_range, range_has, range_rises, length-range, table_has, in_table, same_table}
+use Rattle.sem_reader.proofs.Enumerated.{in_cons, in_nil, here, there, all_in, given, gives, pairs_given, joined, pairs_joined, in_range, range_has}
+use Rattle.sem_reader.proofs.Enumerated.{range_rises, length-range, table_has, in_table, same_table}
 use Rattle.sem_reader.proofs.Sound as sound
 
 -- what a VPE of the setup is
@@ -43,7 +45,8 @@ pub record IsVpeOf (ds : List Declaration) (d : VpeDecl) : Type 0 where
   pub roots : d.roots ≡ roots_in ds d.vpe
   pub calls : d.calls ≡ calls_in ds d.vpe
 
-said_vpe : (ds : List Declaration) (v : ℕ) (d : VpeDecl) (o : Option ℕ) → v < VPES → pe_in ds v ≡ o → option_map (λ p. record { vpe = v; pe = p; roots = roots_in ds v; calls = calls_in ds v }) o ≡ Some d → IsVpeOf ds d × (v ≡ d.vpe)
+said_vpe : (ds : List Declaration) (v : ℕ) (d : VpeDecl) (o : Option ℕ) → v < VPES → pe_in ds v ≡ o →
+    option_map (λ p. record { vpe = v; pe = p; roots = roots_in ds v; calls = calls_in ds v }) o ≡ Some d → IsVpeOf ds d × (v ≡ d.vpe)
 said_vpe ds v d None small on some = absurd (none-some d some)
 said_vpe ds v d (Some p) small on some =
     let is : record { vpe = v; pe = p; roots = roots_in ds v; calls = calls_in ds v } ≡ d = same_Some _ d some in
@@ -53,7 +56,8 @@ vpe_is : (ds : List Declaration) (v : ℕ) (d : VpeDecl) → v < VPES → vpe_in
 unfolding vpe_in
 vpe_is ds v d small some = said_vpe ds v d (pe_in ds v) small refl some
 
-number : (v p : ℕ) (o : Option ℕ) (rs : List Root) (cs : List Call) (d : VpeDecl) → option_map (λ p. record { vpe = v; pe = p; roots = rs; calls = cs }) o ≡ Some d → v ≡ d.vpe
+number : (v p : ℕ) (o : Option ℕ) (rs : List Root) (cs : List Call) (d : VpeDecl) →
+    option_map (λ p. record { vpe = v; pe = p; roots = rs; calls = cs }) o ≡ Some d → v ≡ d.vpe
 number v p None rs cs d some = absurd (none-some d some)
 number v p (Some q) rs cs d some = ap (λ (e : VpeDecl). e.vpe) (same_Some _ d some)
 
@@ -70,7 +74,8 @@ vpe_of ds d within =
 
 pub vpes_rise : (ds : List Declaration) → AllPairs (λ a b. a.vpe < b.vpe) (vpes_of ds)
 unfolding vpes_of numbers
-vpes_rise ds = pairs_given (vpe_in ds) (λ (v w : ℕ). v < w) (λ (a b : VpeDecl). a.vpe < b.vpe) (range_with_len 0 128) (range_rises 0 128) (λ v w a b less some some'. rw (← vpe_number ds v a some, ← vpe_number ds w b some') less)
+vpes_rise ds = pairs_given (vpe_in ds) (λ (v w : ℕ). v < w) (λ (a b : VpeDecl). a.vpe < b.vpe) (range_with_len 0 128) (range_rises 0 128)
+    (λ v w a b less some some'. rw (← vpe_number ds v a some, ← vpe_number ds w b some') less)
 
 or_cases : (a b : Bool) → (a || b) ≡ true → (a ≡ true) ⊎ (b ≡ true)
 or_cases true b some = inl refl
@@ -99,7 +104,9 @@ selectors_below (r ∷ rs) all q some =
 pub few_roots : (roots : List Root) → All IsRoot roots → AllPairs (λ a b. a.sel ≢ b.sel) roots → length roots ≤ 256
 few_roots roots all differ =
     let apart : AllPairs (λ (x y : ℕ). x ≢ y) (map (λ (r : Root). r.sel) roots) = pairs_map roots differ in
-    let long : length (map (λ (r : Root). r.sel) roots) ≤ 256 = length-le_from_distinct_below (map (λ (r : Root). r.sel) roots) 256 (IsDistinct-from_AllPairs Decides-eqb (map (λ (r : Root). r.sel) roots) apart) (selectors_below roots all) in
+    let long : length (map (λ (r : Root). r.sel) roots) ≤ 256 =
+    length-le_from_distinct_below (map (λ (r : Root). r.sel) roots) 256 (IsDistinct-from_AllPairs Decides-eqb (map (λ (r : Root). r.sel) roots) apart)
+    (selectors_below roots all) in
     rw length-map at long
 
 pub plain_vpes : (version kernels : ℕ) (ds : List Declaration) → AreAccepted version kernels ds → All IsPlainVpe (vpes_of ds)
@@ -186,11 +193,14 @@ same_vpe ds a b va vb same =
     vpe_parts a.vpe b.vpe a.pe b.pe a.roots b.roots a.calls b.calls same pe roots calls
 
 -- two services of the setup with one name are one
-same_service : (version kernels : ℕ) (ds : List Declaration) → AreAccepted version kernels ds → (s t : ServiceData) → IsServed ds (vpes_of ds) s → IsServed ds (vpes_of ds) t → s.name ≡ t.name → s ≡ t
+same_service : (version kernels : ℕ) (ds : List Declaration) → AreAccepted version kernels ds → (s t : ServiceData) → IsServed ds (vpes_of ds) s →
+    IsServed ds (vpes_of ds) t → s.name ≡ t.name → s ≡ t
 same_service version kernels ds accepted s t a b name =
-    let once = (sound.named version kernels ds accepted).once a.vpe.vpe a.service.place b.vpe.vpe b.service.place t.name (subst (sound.Serves ds a.vpe.vpe a.service.place) name a.serves) b.serves in
+    let once = (sound.named version kernels ds accepted).once a.vpe.vpe a.service.place b.vpe.vpe b.service.place t.name
+    (subst (sound.Serves ds a.vpe.vpe a.service.place) name a.serves) b.serves in
     let vpe : a.vpe ≡ b.vpe = same_vpe ds a.vpe b.vpe (vpe_of ds a.vpe a.declared) (vpe_of ds b.vpe b.declared) once.0 in
-    let at : slice_get b.vpe.roots b.service.place ≡ Some a.service.root = subst (λ (d : VpeDecl). slice_get d.roots b.service.place ≡ Some a.service.root) vpe (subst (λ (i : ℕ). slice_get a.vpe.roots i ≡ Some a.service.root) once.1 a.service.at) in
+    let at : slice_get b.vpe.roots b.service.place ≡ Some a.service.root = subst (λ (d : VpeDecl). slice_get d.roots b.service.place ≡ Some a.service.root) vpe
+    (subst (λ (i : ℕ). slice_get a.vpe.roots i ≡ Some a.service.root) once.1 a.service.at) in
     let root : a.service.root ≡ b.service.root = same_Some a.service.root b.service.root (sym at ∙ b.service.at) in
     a.service.is ∙ (same_made a.vpe b.vpe a.service.place b.service.place a.service.root b.service.root s.name t.name vpe once.1 root name ∙ sym b.service.is)
 
@@ -209,7 +219,8 @@ found_name (t ∷ ts) name s some =
           (there t ts s f.0, f.1)
     ]
 
-finds_name : (services : List ServiceData) (s : ServiceData) → Contains services s → ((t : ServiceData) → Contains services t → t.name ≡ s.name → t ≡ s) → named services s.name ≡ Some s
+finds_name : (services : List ServiceData) (s : ServiceData) → Contains services s → ((t : ServiceData) → Contains services t → t.name ≡ s.name → t ≡ s) →
+    named services s.name ≡ Some s
 finds_name [] s within once = absurd (in_nil s within)
 finds_name (t ∷ ts) s within once =
     elim (cases_Bool (t.name == s.name)) [
@@ -223,16 +234,21 @@ finds_name (t ∷ ts) s within once =
 
 pub services_rise : (vpes : List VpeDecl) → AllPairs (λ a b. a.name < b.name) (services_of vpes)
 unfolding services_of numbers
-services_rise vpes = pairs_given (named (services_among vpes)) (λ (m n : ℕ). m < n) (λ (a b : ServiceData). a.name < b.name) (range_with_len 0 256) (range_rises 0 256) (λ m n a b less some some'. rw ((found_name (services_among vpes) m a some).1, (found_name (services_among vpes) n b some').1) less)
+services_rise vpes = pairs_given (named (services_among vpes)) (λ (m n : ℕ). m < n) (λ (a b : ServiceData). a.name < b.name) (range_with_len 0 256)
+    (range_rises 0 256) (λ m n a b less some some'. rw ((found_name (services_among vpes) m a some).1, (found_name (services_among vpes) n b some').1) less)
 
-pub services_same : (version kernels : ℕ) (ds : List Declaration) → AreAccepted version kernels ds → (s : ServiceData) → Contains (services_of (vpes_of ds)) s ↔ Contains (services_among (vpes_of ds)) s
+pub services_same : (version kernels : ℕ) (ds : List Declaration) → AreAccepted version kernels ds → (s : ServiceData) → Contains (services_of (vpes_of ds)) s
+    ↔ Contains (services_among (vpes_of ds)) s
 unfolding services_of numbers
 services_same version kernels ds accepted s = (
-  λ within. let g = given (named (services_among (vpes_of ds))) (range_with_len 0 256) s within in (found_name (services_among (vpes_of ds)) g.from s g.gives).0,
+  λ within. let g = given (named (services_among (vpes_of ds))) (range_with_len 0 256) s within in
+      (found_name (services_among (vpes_of ds)) g.from s g.gives).0,
   λ within.
       let a = service_served ds s within in
       let small : s.name ≤ 255 = (sound.named version kernels ds accepted).small a.vpe.vpe a.service.place s.name a.serves in
-      gives (named (services_among (vpes_of ds))) (range_with_len 0 256) s.name s (range_has 0 256 s.name (omega arith) (omega arith)) (finds_name (services_among (vpes_of ds)) s within (λ t within' same. same_service version kernels ds accepted t s (service_served ds t within') a same)),
+      gives (named (services_among (vpes_of ds))) (range_with_len 0 256) s.name s (range_has 0 256 s.name (omega arith) (omega arith))
+      (finds_name (services_among (vpes_of ds)) s within
+      (λ t within' same. same_service version kernels ds accepted t s (service_served ds t within') a same)),
 )
 
 -- an offer of the setup
@@ -243,13 +259,16 @@ pub record IsOfferOf (ds : List Declaration) (services : List ServiceData) (o : 
   pub index : o.index ≤ 255
   pub offered : offer_in ds o.name o.index ≡ Some o.sel
 
-offer_is : (ds : List Declaration) (name index : ℕ) (o : OfferData) (sel : Option ℕ) → offer_in ds name index ≡ sel → option_map (λ sel. record { name = name; index = index; sel = sel }) sel ≡ Some o → (name ≡ o.name) × (index ≡ o.index) × (offer_in ds name index ≡ Some o.sel)
+offer_is : (ds : List Declaration) (name index : ℕ) (o : OfferData) (sel : Option ℕ) → offer_in ds name index ≡ sel →
+    option_map (λ sel. record { name = name; index = index; sel = sel }) sel ≡ Some o →
+    (name ≡ o.name) × (index ≡ o.index) × (offer_in ds name index ≡ Some o.sel)
 offer_is ds name index o None told some = absurd (none-some o some)
 offer_is ds name index o (Some sel) told some =
     let is : record { name = name; index = index; sel = sel } ≡ o = same_Some _ o some in
     (ap (λ (x : OfferData). x.name) is, ap (λ (x : OfferData). x.index) is, told ∙ ap (λ (x : OfferData). Some x.sel) is)
 
-offered : (ds : List Declaration) (name : ℕ) (o : OfferData) → Contains (filter_map (offer_of ds name) (numbers 256)) o → (name ≡ o.name) × (o.index ≤ 255) × (offer_in ds o.name o.index ≡ Some o.sel)
+offered : (ds : List Declaration) (name : ℕ) (o : OfferData) → Contains (filter_map (offer_of ds name) (numbers 256)) o →
+    (name ≡ o.name) × (o.index ≤ 255) × (offer_in ds o.name o.index ≡ Some o.sel)
 unfolding numbers
 offered ds name o within =
     let g = given (offer_of ds name) (range_with_len 0 256) o within in
@@ -265,11 +284,14 @@ offer_of_setup ds services o within =
     let is = offered ds j.from.name o j.has in
     record { service = j.from; declared = j.within; name = is.0; index = is.1; offered = is.2 }
 
-pub offers_rise : (ds : List Declaration) (services : List ServiceData) → AllPairs (λ a b. a.name < b.name) services → AllPairs (λ a b. ComesBefore (offer_place a) (offer_place b)) (offers_of ds services)
+pub offers_rise : (ds : List Declaration) (services : List ServiceData) → AllPairs (λ a b. a.name < b.name) services →
+    AllPairs (λ a b. ComesBefore (offer_place a) (offer_place b)) (offers_of ds services)
 unfolding offers_of numbers
 offers_rise ds services rise =
-    pairs_joined (λ (s : ServiceData). filter_map (offer_of ds s.name) (range_with_len 0 256)) (λ (a b : ServiceData). a.name < b.name) (λ (a b : OfferData). ComesBefore (offer_place a) (offer_place b)) services rise
-    (λ s within. pairs_given (offer_of ds s.name) (λ (i j : ℕ). i < j) (λ (a b : OfferData). ComesBefore (offer_place a) (offer_place b)) (range_with_len 0 256) (range_rises 0 256) (λ i j a b less some some'.
+    pairs_joined (λ (s : ServiceData). filter_map (offer_of ds s.name) (range_with_len 0 256)) (λ (a b : ServiceData). a.name < b.name)
+    (λ (a b : OfferData). ComesBefore (offer_place a) (offer_place b)) services rise
+    (λ s within. pairs_given (offer_of ds s.name) (λ (i j : ℕ). i < j) (λ (a b : OfferData). ComesBefore (offer_place a) (offer_place b)) (range_with_len 0 256)
+    (range_rises 0 256) (λ i j a b less some some'.
     let x = offer_is ds s.name i a (offer_in ds s.name i) refl some in
     let y = offer_is ds s.name j b (offer_in ds s.name j) refl some' in
     inr (sym x.0 ∙ y.0, rw (← x.1, ← y.1) less)))
@@ -297,7 +319,13 @@ unfolding denies_of
 deny_of_setup ds vpes p within =
     let j = joined (λ (d : VpeDecl). filter_map (λ (e : VpeDecl). deny_of ds d.vpe e.vpe) vpes) vpes p within in
     let g = given (λ (e : VpeDecl). deny_of ds j.from.vpe e.vpe) vpes p j.has in
-    record { first = j.from; second = g.from; has_first = j.within; has_second = g.within; is = deny_is (is_denied ds j.from.vpe g.from.vpe) j.from.vpe g.from.vpe p g.gives }
+    record {
+      first = j.from;
+      second = g.from;
+      has_first = j.within;
+      has_second = g.within;
+      is = deny_is (is_denied ds j.from.vpe g.from.vpe) j.from.vpe g.from.vpe p g.gives;
+    }
 
 pub denies_rise : (ds : List Declaration) (vpes : List VpeDecl) → AllPairs (λ a b. a.vpe < b.vpe) vpes → AllPairs ComesBefore (denies_of ds vpes)
 unfolding denies_of
@@ -315,7 +343,8 @@ denies_rise ds vpes rise =
     rw (← x, ← y) (inl less))
 
 -- a kill of the setup
-kill_is : (ds : List Declaration) (v : ℕ) (p : ℕ × ℕ) (n : Option ℕ) → kill_in ds v ≡ n → option_map (λ replies. (v, replies)) n ≡ Some p → (v ≡ p.0) × (kill_in ds v ≡ Some p.1)
+kill_is : (ds : List Declaration) (v : ℕ) (p : ℕ × ℕ) (n : Option ℕ) → kill_in ds v ≡ n → option_map (λ replies. (v, replies)) n ≡ Some p →
+    (v ≡ p.0) × (kill_in ds v ≡ Some p.1)
 kill_is ds v p None told some = absurd (none-some p some)
 kill_is ds v p (Some n) told some =
     let is : (v, n) ≡ p = same_Some (v, n) p some in
@@ -337,7 +366,8 @@ kill_of_setup ds vpes p within =
 pub kills_rise : (ds : List Declaration) (vpes : List VpeDecl) → AllPairs (λ a b. a.vpe < b.vpe) vpes → AllPairs (λ a b. a.0 < b.0) (kills_of ds vpes)
 unfolding kills_of
 kills_rise ds vpes rise =
-    pairs_given (λ (d : VpeDecl). option_map (λ replies. (d.vpe, replies)) (kill_in ds d.vpe)) (λ (a b : VpeDecl). a.vpe < b.vpe) (λ (p q : ℕ × ℕ). p.0 < q.0) vpes rise (λ a b p q less some some'.
+    pairs_given (λ (d : VpeDecl). option_map (λ replies. (d.vpe, replies)) (kill_in ds d.vpe)) (λ (a b : VpeDecl). a.vpe < b.vpe)
+    (λ (p q : ℕ × ℕ). p.0 < q.0) vpes rise (λ a b p q less some some'.
     let x = kill_is ds a.vpe p (kill_in ds a.vpe) refl some in
     let y = kill_is ds b.vpe q (kill_in ds b.vpe) refl some' in
     rw (← x.0, ← y.0) less)
@@ -380,7 +410,9 @@ call_more ds (Calls w c) a n = total_more (λ v. length (calls_in ds v)) (λ v. 
     (let new : calls_in (ds ++ Calls w c ∷ []) w ≡ calls_in ds w ++ c ∷ [] = calls_in-new ds (Calls w c) w c (rw (eq-eqb w w refl) refl) in
     rw new (omega (arith, length-append (calls_in ds w) (c ∷ []))))
 call_more ds d a n =
-    let same : total (λ v. length (calls_in (ds ++ d ∷ []) v)) a n ≡ total (λ v. length (calls_in ds v)) a n = total_same (λ v. length (calls_in ds v)) (λ v. length (calls_in (ds ++ d ∷ []) v)) a n (λ v low. ap (λ (cs : List Call). length cs) (calls_in-same ds d v refl)) in
+    let same : total (λ v. length (calls_in (ds ++ d ∷ []) v)) a n ≡ total (λ v. length (calls_in ds v)) a n =
+    total_same (λ v. length (calls_in ds v)) (λ v. length (calls_in (ds ++ d ∷ []) v)) a n
+    (λ v low. ap (λ (cs : List Call). length cs) (calls_in-same ds d v refl)) in
     omega arith
 
 -- there are no more calls than lines that declare one
@@ -397,21 +429,24 @@ calls_counted version kernels = sound.by_lines version kernels (λ ds. (a n : �
     let old = so_far a n in
     rw (call_number-more ds d) (omega arith))
 
-sum_option : (ds : List Declaration) (v : ℕ) (o : Option VpeDecl) (vpes : List VpeDecl) (rest : ℕ) → ((d : VpeDecl) → o ≡ Some d → d.calls ≡ calls_in ds v) → sum_by (λ (d : VpeDecl). length d.calls) vpes ≤ rest → sum_by (λ (d : VpeDecl). length d.calls) (cons_option o vpes) ≤ calls_at ds v + rest
+sum_option : (ds : List Declaration) (v : ℕ) (o : Option VpeDecl) (vpes : List VpeDecl) (rest : ℕ) → ((d : VpeDecl) → o ≡ Some d → d.calls ≡ calls_in ds v) →
+    sum_by (λ (d : VpeDecl). length d.calls) vpes ≤ rest → sum_by (λ (d : VpeDecl). length d.calls) (cons_option o vpes) ≤ calls_at ds v + rest
 unfolding calls_at
 sum_option ds v None vpes rest has below = omega arith
 sum_option ds v (Some d) vpes rest has below =
     let calls : length d.calls ≡ length (calls_in ds v) = ap (λ (cs : List Call). length cs) (has d refl) in
     rw (sum_by-cons (λ (e : VpeDecl). length e.calls) d vpes) (omega arith)
 
-vpe_calls : (v : ℕ) (o : Option ℕ) (rs : List Root) (cs : List Call) (d : VpeDecl) → option_map (λ p. record { vpe = v; pe = p; roots = rs; calls = cs }) o ≡ Some d → d.calls ≡ cs
+vpe_calls : (v : ℕ) (o : Option ℕ) (rs : List Root) (cs : List Call) (d : VpeDecl) →
+    option_map (λ p. record { vpe = v; pe = p; roots = rs; calls = cs }) o ≡ Some d → d.calls ≡ cs
 vpe_calls v None rs cs d some = absurd (none-some d some)
 vpe_calls v (Some p) rs cs d some = ap (λ (e : VpeDecl). e.calls) (sym (same_Some _ d some))
 
 sum_vpes : (ds : List Declaration) (a n : ℕ) → sum_by (λ (d : VpeDecl). length d.calls) (filter_map (vpe_in ds) (range_with_len a n)) ≤ total (calls_at ds) a n
 unfolding total vpe_in
 sum_vpes ds a zero = omega arith
-sum_vpes ds a (suc n) = sum_option ds a (vpe_in ds a) (filter_map (vpe_in ds) (range_with_len (a + 1) n)) (total (calls_at ds) (a + 1) n) (λ d some. vpe_calls a (pe_in ds a) (roots_in ds a) (calls_in ds a) d some) (sum_vpes ds (a + 1) n)
+sum_vpes ds a (suc n) = sum_option ds a (vpe_in ds a) (filter_map (vpe_in ds) (range_with_len (a + 1) n)) (total (calls_at ds) (a + 1) n)
+    (λ d some. vpe_calls a (pe_in ds a) (roots_in ds a) (calls_in ds a) d some) (sum_vpes ds (a + 1) n)
 
 few_calls : (version kernels : ℕ) (ds : List Declaration) → AreAccepted version kernels ds → sum_by (λ (d : VpeDecl). length d.calls) (vpes_of ds) ≤ 20000
 unfolding vpes_of numbers
@@ -425,7 +460,8 @@ few_calls version kernels ds accepted =
 abbrev owners : ℕ → List Declaration → MembershipTable
 owners kernels ds = record { kernels = kernels; owners = map (owner_in ds) (numbers PES) }
 
-owners_are : (version kernels : ℕ) (ds : List Declaration) → 1 ≤ kernels → kernels ≤ most_kernels version → AreAccepted version kernels ds → IsMembership (owners kernels ds)
+owners_are : (version kernels : ℕ) (ds : List Declaration) → 1 ≤ kernels → kernels ≤ most_kernels version → AreAccepted version kernels ds →
+    IsMembership (owners kernels ds)
 unfolding numbers
 owners_are version kernels ds some few accepted = record {
   some_kernel = some;
@@ -449,7 +485,8 @@ owned_in version kernels ds p small some =
 any_in : {X : Type 0} (P : X → Type 0) (xs : List X) (x : X) → Contains xs x → P x → Any P xs
 any_in P xs x (k, lt, is) holds = (k, x, lt, is, holds)
 
-vpe_is_declared : (version kernels : ℕ) (ds : List Declaration) (T : Setup) (d : VpeDecl) → AreAccepted version kernels ds → T.version ≡ version → T.owners ≡ owners kernels ds → Contains (vpes_of ds) d → IsVpeDecl T d
+vpe_is_declared : (version kernels : ℕ) (ds : List Declaration) (T : Setup) (d : VpeDecl) → AreAccepted version kernels ds → T.version ≡ version →
+    T.owners ≡ owners kernels ds → Contains (vpes_of ds) d → IsVpeDecl T d
 vpe_is_declared version kernels ds T d accepted first table within =
     let v = vpe_of ds d within in
     let placed = sound.placed version kernels ds accepted d.vpe d.pe v.pe in
@@ -464,7 +501,8 @@ vpe_is_declared version kernels ds T d accepted first table within =
     }
 
 -- a PE that has an owner is one of which a text can speak
-owned_small : (version kernels : ℕ) (ds : List Declaration) → AreAccepted version kernels ds → (p : ℕ) → IsSome (owner_at (owners kernels ds) p) → p < most_vpes version
+owned_small : (version kernels : ℕ) (ds : List Declaration) → AreAccepted version kernels ds → (p : ℕ) → IsSome (owner_at (owners kernels ds) p) →
+    p < most_vpes version
 unfolding numbers
 owned_small version kernels ds accepted p some =
     let e : 0 + p ≡ p = omega arith in
@@ -483,7 +521,8 @@ window_fits version None each =
     ]
 
 -- what accepted lines declare is a setup
-pub setup_is : (version kernels : ℕ) (ds : List Declaration) → (version ≡ 1) ⊎ (version ≡ 2) → 1 ≤ kernels → kernels ≤ most_kernels version → AreAccepted version kernels ds → IsSetup (setup_of version kernels ds)
+pub setup_is : (version kernels : ℕ) (ds : List Declaration) → (version ≡ 1) ⊎ (version ≡ 2) → 1 ≤ kernels → kernels ≤ most_kernels version →
+    AreAccepted version kernels ds → IsSetup (setup_of version kernels ds)
 unfolding setup_of
 setup_is version kernels ds versions some few accepted =
     let rise : AllPairs (λ (a b : VpeDecl). a.vpe < b.vpe) (vpes_of ds) = vpes_rise ds in
@@ -497,7 +536,8 @@ setup_is version kernels ds versions some few accepted =
       membership = owners_are version kernels ds some few accepted;
       same_kernels = refl;
       owned_pes = owned_small version kernels ds accepted;
-      vpes = all_in (IsVpeDecl (setup_of version kernels ds)) (vpes_of ds) (λ d within. vpe_is_declared version kernels ds (setup_of version kernels ds) d accepted refl refl within);
+      vpes = all_in (IsVpeDecl (setup_of version kernels ds)) (vpes_of ds)
+          (λ d within. vpe_is_declared version kernels ds (setup_of version kernels ds) d accepted refl refl within);
       vpes_rise = rise;
       pes_differ = λ i j d lt within same.
           let a = vpe_of ds (get_or (vpes_of ds) i d) (Contains-get_or (vpes_of ds) i d (omega arith)) in
@@ -515,9 +555,12 @@ setup_is version kernels ds versions some few accepted =
             declared = any_in (λ (s : ServiceData). s.name ≡ o.name) (services_of (vpes_of ds)) is.service is.declared is.name;
           });
       offers_rise = offers_rise ds (services_of (vpes_of ds)) served;
-      denies = all_in (λ (p : ℕ × ℕ). IsDeclared (setup_of version kernels ds) p.0 × IsDeclared (setup_of version kernels ds) p.1) (denies_of ds (vpes_of ds)) (λ p within.
-          let is = deny_of_setup ds (vpes_of ds) p within in
-          (any_in (λ (d : VpeDecl). d.vpe ≡ p.0) (vpes_of ds) is.first is.has_first (ap (λ (q : ℕ × ℕ). q.0) is.is), any_in (λ (d : VpeDecl). d.vpe ≡ p.1) (vpes_of ds) is.second is.has_second (ap (λ (q : ℕ × ℕ). q.1) is.is)));
+      denies = all_in (λ (p : ℕ × ℕ). IsDeclared (setup_of version kernels ds) p.0 × IsDeclared (setup_of version kernels ds) p.1) (denies_of ds (vpes_of ds))
+          (λ p within.
+          let is = deny_of_setup ds (vpes_of ds) p within in (
+            any_in (λ (d : VpeDecl). d.vpe ≡ p.0) (vpes_of ds) is.first is.has_first (ap (λ (q : ℕ × ℕ). q.0) is.is),
+            any_in (λ (d : VpeDecl). d.vpe ≡ p.1) (vpes_of ds) is.second is.has_second (ap (λ (q : ℕ × ℕ). q.1) is.is),
+          ));
       denies_rise = denies_rise ds (vpes_of ds) rise;
       kills = all_in (λ (p : ℕ × ℕ). IsDeclared (setup_of version kernels ds) p.0 × IsWord p.1) (kills_of ds (vpes_of ds)) (λ p within.
           let is = kill_of_setup ds (vpes_of ds) p within in
@@ -527,7 +570,17 @@ setup_is version kernels ds versions some few accepted =
     }
 
 abbrev pub made_setup : (version window k : ℕ) → MembershipTable → List VpeDecl → List ServiceData → List OfferData → List (ℕ × ℕ) → List (ℕ × ℕ) → Setup
-made_setup version window k table vpes services offers denies kills = record { version = version; window = window; kernels = k; owners = table; vpes = vpes; services = services; offers = offers; denies = denies; kills = kills }
+made_setup version window k table vpes services offers denies kills = record {
+  version = version;
+  window = window;
+  kernels = k;
+  owners = table;
+  vpes = vpes;
+  services = services;
+  offers = offers;
+  denies = denies;
+  kills = kills;
+}
 
 abbrev table_of : ℕ → List (Option ℕ) → MembershipTable
 table_of k list = record { kernels = k; owners = list }
@@ -536,9 +589,13 @@ same_owners : (k kernels : ℕ) (a b : List (Option ℕ)) → k ≡ kernels → 
 same_owners k kernels a b number list = rw (number, list) refl
 
 -- what the code makes of its tables is that setup
-pub same_setup : (version kernels k window : ℕ) (ds : List Declaration) (table : MembershipTable) (vpes : List VpeDecl) (services : List ServiceData) (offers : List OfferData) (denies kills : List (ℕ × ℕ)) → window ≡ window_of ds → length table.owners ≡ PES → table.kernels ≡ kernels → ((p : ℕ) → owner_at table p ≡ owner_in ds p) → k ≡ table.kernels → vpes ≡ vpes_of ds → services ≡ services_of vpes → offers ≡ offers_of ds services → denies ≡ denies_of ds vpes → kills ≡ kills_of ds vpes → made_setup version window k table vpes services offers denies kills ≡ setup_of version kernels ds
+pub same_setup : (version kernels k window : ℕ) (ds : List Declaration) (table : MembershipTable) (vpes : List VpeDecl) (services : List ServiceData)
+    (offers : List OfferData) (denies kills : List (ℕ × ℕ)) → window ≡ window_of ds → length table.owners ≡ PES → table.kernels ≡ kernels →
+    ((p : ℕ) → owner_at table p ≡ owner_in ds p) → k ≡ table.kernels → vpes ≡ vpes_of ds → services ≡ services_of vpes → offers ≡ offers_of ds services →
+    denies ≡ denies_of ds vpes → kills ≡ kills_of ds vpes → made_setup version window k table vpes services offers denies kills ≡ setup_of version kernels ds
 unfolding setup_of numbers
 same_setup version kernels k window ds table vpes services offers denies kills told long number tells is v s o d l =
-    let list : table.owners ≡ map (owner_in ds) (range_with_len 0 PES) = same_table (owner_in ds) table.owners 0 PES long (λ i. tells i ∙ (let e : i ≡ 0 + i = omega arith in ap (owner_in ds) e)) in
+    let list : table.owners ≡ map (owner_in ds) (range_with_len 0 PES) = same_table (owner_in ds) table.owners 0 PES long (λ i. tells i
+    ∙ (let e : i ≡ 0 + i = omega arith in ap (owner_in ds) e)) in
     let whole : table ≡ owners kernels ds = same_owners table.kernels kernels table.owners (map (owner_in ds) (range_with_len 0 PES)) number list in
     rw (told, is, number, whole, l, d, o, s, v) refl

@@ -1,5 +1,7 @@
 -- What holds of lines that are accepted one after another.
-use Rattle.std.proofs.Common.{◌≡◌, ◌≢◌, ℕ, zero, suc, ◌+◌, ◌<◌, ◌≤◌, ◌==◌, ◌⊎◌, Bool, true, false, not, cond, true≢false, ◌||◌, ◌&&◌, List, [], ◌∷◌, ◌++◌, length, get_or, Option, Some, None, refl, ap, sym, ◌∙◌, subst, arith, append_assoc, append-nil, eqb-true, eq-eqb, ltb-false, leb-false, inl, inr}
+use Rattle.std.proofs.Common.{◌≡◌, ◌≢◌, ℕ, zero, suc, ◌+◌, ◌<◌, ◌≤◌, ◌==◌, ◌⊎◌, Bool, true, false, not, cond, true≢false, ◌||◌, ◌&&◌, List, [], ◌∷◌, ◌++◌}
+use Rattle.std.proofs.Common.{length, get_or, Option, Some, None, refl, ap, sym, ◌∙◌, subst, arith, append_assoc, append-nil, eqb-true, eq-eqb, ltb-false}
+use Rattle.std.proofs.Common.{leb-false, inl, inr}
 use Rattle.std.specs.List.{All, AllPairs, slice_get}
 use Rattle.std.specs.Option.{option_or, is_some, is_none, IsSome}
 use Rattle.std.proofs.lemmas.Bool.{cases_Bool}
@@ -15,14 +17,18 @@ use Rattle.sem_msg.specs.Setup.{IsRoot}
 use Rattle.sem_msg.specs.Versions.{most_vpes, IsWindow}
 use Rattle.sem_trace.specs.declared.declaration.Declaration.{Declaration}
 use Rattle.sem_trace.specs.declared.declaration.Declaration.TheVariants.{Window, Pe, Vpe, Memory, Receive, Service, Offer, Deny, Kill, Call as Calls}
-use Rattle.sem_trace.specs.Earlier.{said_window, window_in, said_owner, owner_in, said_pe, pe_in, is_taken, said_root, roots_in, holds_at, said_call, calls_in, says_service, has_service, said_offer, offer_in, says_deny, is_denied, said_kill, kill_in, call_number, is_call}
+use Rattle.sem_trace.specs.Earlier.{said_window, window_in, said_owner, owner_in, said_pe, pe_in, is_taken, said_root, roots_in, holds_at, said_call, calls_in}
+use Rattle.sem_trace.specs.Earlier.{says_service, has_service, said_offer, offer_in, says_deny, is_denied, said_kill, kill_in, call_number, is_call}
 use Rattle.sem_trace.specs.Context.{context_fault}
 use Rattle.sem_trace.specs.Ranges.{IsInRange}
 use Rattle.sem_reader.specs.Accepted.{AreAccepted}
-use Rattle.sem_reader.proofs.OneMore.{window_in-more, no_fault, is_denied-same, has_service-same, is_taken-new, roots_in-same, roots_in-new, calls_in-same, calls_in-new, has_service-new, call_number-more, is_taken-kept, has_service-kept, offer_in-more, owner_in-more, pe_in-more, kill_in-more}
+use Rattle.sem_reader.proofs.OneMore.{window_in-more, no_fault, is_denied-same, has_service-same, is_taken-new, roots_in-same, roots_in-new, calls_in-same}
+use Rattle.sem_reader.proofs.OneMore.{calls_in-new, has_service-new, call_number-more, is_taken-kept, has_service-kept, offer_in-more, owner_in-more}
+use Rattle.sem_reader.proofs.OneMore.{pe_in-more, kill_in-more}
 
 -- what holds of no lines, and of one more where it holds of those before it, holds of accepted lines
-module _ (version kernels : ℕ) (P : List Declaration → Type 0) (none : P []) (more : (ds : List Declaration) (d : Declaration) → P ds → IsInRange version kernels d → context_fault ds d ≡ None → P (ds ++ d ∷ [])) where
+module _ (version kernels : ℕ) (P : List Declaration → Type 0) (none : P []) (more : (ds : List Declaration) (d : Declaration) → P ds →
+    IsInRange version kernels d → context_fault ds d ≡ None → P (ds ++ d ∷ [])) where
   from_front : (before after : List Declaration) → AreAccepted version kernels (before ++ after) → P before → P (before ++ after)
   from_front before [] accepted so_far = subst P (sym (append-nil before)) so_far
   from_front before (d ∷ after) accepted so_far =
@@ -75,7 +81,8 @@ nobody : (p x : ℕ) → owner_in [] p ≡ Some x → ⊥
 unfolding owner_in
 nobody p x some = none-some x some
 
-pub owners_exist : (version kernels : ℕ) (ds : List Declaration) → AreAccepted version kernels ds → (p kernel : ℕ) → owner_in ds p ≡ Some kernel → kernel < kernels
+pub owners_exist : (version kernels : ℕ) (ds : List Declaration) → AreAccepted version kernels ds → (p kernel : ℕ) → owner_in ds p ≡ Some kernel →
+    kernel < kernels
 owners_exist version kernels = by_lines version kernels (λ ds. (p kernel : ℕ) → owner_in ds p ≡ Some kernel → kernel < kernels)
     (λ p kernel some. absurd (nobody p kernel some))
     (λ ds d so_far ranges fault p kernel some.
@@ -89,7 +96,8 @@ said_owner_small : (version kernels p : ℕ) (d : Declaration) (kernel : ℕ) �
 said_owner_small version kernels p (Pe q k) kernel ranges some = let same = if_same q p k kernel some in rw (← same.0) ranges.0
 said_owner_small version kernels p d kernel ranges some = absurd (none-some kernel some)
 
-pub owners_small : (version kernels : ℕ) (ds : List Declaration) → AreAccepted version kernels ds → (p kernel : ℕ) → owner_in ds p ≡ Some kernel → p < most_vpes version
+pub owners_small : (version kernels : ℕ) (ds : List Declaration) → AreAccepted version kernels ds → (p kernel : ℕ) → owner_in ds p ≡ Some kernel →
+    p < most_vpes version
 owners_small version kernels = by_lines version kernels (λ ds. (p kernel : ℕ) → owner_in ds p ≡ Some kernel → p < most_vpes version)
     (λ p kernel some. absurd (nobody p kernel some))
     (λ ds d so_far ranges fault p kernel some.
@@ -122,7 +130,8 @@ still_placed version ds d v p placed = record {
   taken = is_taken-kept ds d p placed.taken;
 }
 
-new_placed : (version kernels : ℕ) (ds : List Declaration) (v p : ℕ) → IsInRange version kernels (Vpe v p) → context_fault ds (Vpe v p) ≡ None → IsPlaced version (ds ++ Vpe v p ∷ []) v p
+new_placed : (version kernels : ℕ) (ds : List Declaration) (v p : ℕ) → IsInRange version kernels (Vpe v p) → context_fault ds (Vpe v p) ≡ None →
+    IsPlaced version (ds ++ Vpe v p ∷ []) v p
 new_placed version kernels ds v p ranges fault =
     let owned : IsSome (owner_in ds p) = not_none (owner_in ds p) (no_fault ds (Vpe v p) fault).1 in
     record {
@@ -156,10 +165,12 @@ pub record AreApart (ds : List Declaration) : Type 0 where
   pub on : (v p : ℕ) → pe_in ds v ≡ Some p → is_taken ds p ≡ true
   pub apart : (v w p : ℕ) → pe_in ds v ≡ Some p → pe_in ds w ≡ Some p → v ≡ w
 
-one_vpe_more : (version kernels : ℕ) (ds : List Declaration) (d : Declaration) → AreApart ds → IsInRange version kernels d → context_fault ds d ≡ None → AreApart (ds ++ d ∷ [])
+one_vpe_more : (version kernels : ℕ) (ds : List Declaration) (d : Declaration) → AreApart ds → IsInRange version kernels d → context_fault ds d ≡ None →
+    AreApart (ds ++ d ∷ [])
 one_vpe_more version kernels ds d so_far ranges fault =
     let told = λ (v p : ℕ) (some : pe_in (ds ++ d ∷ []) v ≡ Some p). or_last (pe_in ds v) (said_pe v d) p (sym (pe_in-more ds d v) ∙ some) in
-    let free : (v p : ℕ) → said_pe v d ≡ Some p → is_taken ds p ≡ false = λ v p new. let is : d ≡ Vpe v p = said_vpe v d p new in or_right _ _ (no_fault ds (Vpe v p) (rw is at fault)).2 in
+    let free : (v p : ℕ) → said_pe v d ≡ Some p → is_taken ds p ≡ false = λ v p new. let is : d ≡ Vpe v p = said_vpe v d p new in
+    or_right _ _ (no_fault ds (Vpe v p) (rw is at fault)).2 in
     record {
       on = λ v p some.
           elim (told v p some) [
@@ -189,21 +200,25 @@ pub record IsNewRoot (ds : List Declaration) (v : ℕ) (r : Root) : Type 0 where
   pub valid : IsRoot r
   pub free : holds_at (roots_in ds v) r.sel ≡ false
 
-new_memory : (version kernels : ℕ) (ds : List Declaration) (v s b l g : ℕ) → IsInRange version kernels (Memory v s b l g) → context_fault ds (Memory v s b l g) ≡ None → IsNewRoot ds v (record { sel = s; object = Mem b l g })
+new_memory : (version kernels : ℕ) (ds : List Declaration) (v s b l g : ℕ) → IsInRange version kernels (Memory v s b l g) →
+    context_fault ds (Memory v s b l g) ≡ None → IsNewRoot ds v (record { sel = s; object = Mem b l g })
 new_memory version kernels ds v s b l g ranges fault =
     let tests = no_fault ds (Memory v s b l g) fault in
     let short : b + l ≤ 4294967296 = ltb-false 4294967296 (b + l) tests.0 in
     record { valid = record { selector = ranges.1; kind = tt; ranges = (ranges.2, ranges.3, ranges.4, short) }; free = tests.2 }
 
-new_receive : (version kernels : ℕ) (ds : List Declaration) (v s n : ℕ) → IsInRange version kernels (Receive v s n) → context_fault ds (Receive v s n) ≡ None → IsNewRoot ds v (record { sel = s; object = Recv n })
+new_receive : (version kernels : ℕ) (ds : List Declaration) (v s n : ℕ) → IsInRange version kernels (Receive v s n) → context_fault ds (Receive v s n) ≡ None →
+    IsNewRoot ds v (record { sel = s; object = Recv n })
 new_receive version kernels ds v s n ranges fault =
     record { valid = record { selector = ranges.1; kind = tt; ranges = (ranges.2, ranges.3) }; free = (no_fault ds (Receive v s n) fault).2 }
 
-new_service : (version kernels : ℕ) (ds : List Declaration) (v s n : ℕ) → IsInRange version kernels (Service v s n) → context_fault ds (Service v s n) ≡ None → IsNewRoot ds v (record { sel = s; object = Serv n })
+new_service : (version kernels : ℕ) (ds : List Declaration) (v s n : ℕ) → IsInRange version kernels (Service v s n) → context_fault ds (Service v s n) ≡ None →
+    IsNewRoot ds v (record { sel = s; object = Serv n })
 new_service version kernels ds v s n ranges fault =
     record { valid = record { selector = ranges.1; kind = tt; ranges = ranges.2 }; free = and_left _ _ (no_fault ds (Service v s n) fault).2 }
 
-new_root : (version kernels : ℕ) (ds : List Declaration) (d : Declaration) (v : ℕ) (r : Root) → IsInRange version kernels d → context_fault ds d ≡ None → said_root v d ≡ Some r → IsNewRoot ds v r
+new_root : (version kernels : ℕ) (ds : List Declaration) (d : Declaration) (v : ℕ) (r : Root) → IsInRange version kernels d → context_fault ds d ≡ None →
+    said_root v d ≡ Some r → IsNewRoot ds v r
 new_root version kernels ds (Memory w s b l g) v r ranges fault some =
     let same = if_same w v (record { sel = s; object = Mem b l g }) r some in
     subst (λ (x : ℕ). IsNewRoot ds x r) same.0 (subst (IsNewRoot ds w) same.1 (new_memory version kernels ds w s b l g ranges fault))
@@ -229,7 +244,8 @@ pub record AreRoots (roots : List Root) : Type 0 where
   pub valid : All IsRoot roots
   pub differ : AllPairs (λ a b. a.sel ≢ b.sel) roots
 
-one_root_more : (version kernels : ℕ) (ds : List Declaration) (d : Declaration) → ((v : ℕ) → AreRoots (roots_in ds v)) → IsInRange version kernels d → context_fault ds d ≡ None → (v : ℕ) → AreRoots (roots_in (ds ++ d ∷ []) v)
+one_root_more : (version kernels : ℕ) (ds : List Declaration) (d : Declaration) → ((v : ℕ) → AreRoots (roots_in ds v)) → IsInRange version kernels d →
+    context_fault ds d ≡ None → (v : ℕ) → AreRoots (roots_in (ds ++ d ∷ []) v)
 one_root_more version kernels ds d so_far ranges fault v =
     elim (some_or_none (said_root v d)) [
       | inl none ↦ rw (roots_in-same ds d v none) (so_far v)
@@ -247,7 +263,8 @@ roots version kernels = by_lines version kernels (λ ds. (v : ℕ) → AreRoots 
     (one_root_more version kernels)
 
 -- the calls of a VPE are calls
-said_call_is : (version kernels : ℕ) (v : ℕ) (d : Declaration) (call : Call) → IsInRange version kernels d → said_call v d ≡ Some call → IsValidCall (most_vpes version) call
+said_call_is : (version kernels : ℕ) (v : ℕ) (d : Declaration) (call : Call) → IsInRange version kernels d → said_call v d ≡ Some call →
+    IsValidCall (most_vpes version) call
 said_call_is version kernels v (Calls w c) call ranges some = subst (IsValidCall (most_vpes version)) (if_same w v c call some).1 ranges.1
 said_call_is version kernels v d call ranges some = absurd (none-some call some)
 
@@ -261,7 +278,8 @@ calls version kernels = by_lines version kernels (λ ds. (v : ℕ) → All (IsVa
     (λ ds d so_far ranges fault v.
     elim (some_or_none (said_call v d)) [
       | inl none ↦ rw (calls_in-same ds d v none) (so_far v)
-      | inr some ↦ rw (calls_in-new ds d v some.0 some.1) (All-push (IsValidCall (most_vpes version)) (calls_in ds v) some.0 (so_far v) (said_call_is version kernels v d some.0 ranges some.1))
+      | inr some ↦ rw (calls_in-new ds d v some.0 some.1) (All-push (IsValidCall (most_vpes version)) (calls_in ds v) some.0 (so_far v)
+          (said_call_is version kernels v d some.0 ranges some.1))
     ])
 
 -- the selectors of offers, and the numbers of kills
@@ -391,7 +409,8 @@ said_service v (Service w s n) r name some is =
 said_service v d r name some is = absurd (none-some r some)
 
 -- a service at a place is one that was there, or that the last line declares at the end
-served : (ds : List Declaration) (d : Declaration) (v i name : ℕ) → Serves (ds ++ d ∷ []) v i name → Serves ds v i name ⊎ ((s : ℕ) × (d ≡ Service v s name) × (i ≡ length (roots_in ds v)))
+served : (ds : List Declaration) (d : Declaration) (v i name : ℕ) → Serves (ds ++ d ∷ []) v i name →
+    Serves ds v i name ⊎ ((s : ℕ) × (d ≡ Service v s name) × (i ≡ length (roots_in ds v)))
 served ds d v i name serves =
     elim (some_or_none (said_root v d)) [
       | inl none ↦ inl (record { root = serves.root; at = rw (roots_in-same ds d v none) at serves.at; is = serves.is })
@@ -409,9 +428,11 @@ pub record AreNamed (ds : List Declaration) : Type 0 where
   pub once : (v i w j name : ℕ) → Serves ds v i name → Serves ds w j name → (v ≡ w) × (i ≡ j)
   pub small : (v i name : ℕ) → Serves ds v i name → name ≤ 255
 
-one_service_more : (version kernels : ℕ) (ds : List Declaration) (d : Declaration) → AreNamed ds → IsInRange version kernels d → context_fault ds d ≡ None → AreNamed (ds ++ d ∷ [])
+one_service_more : (version kernels : ℕ) (ds : List Declaration) (d : Declaration) → AreNamed ds → IsInRange version kernels d → context_fault ds d ≡ None →
+    AreNamed (ds ++ d ∷ [])
 one_service_more version kernels ds d so_far ranges fault =
-    let free : (v s name : ℕ) → d ≡ Service v s name → has_service ds name ≡ false = λ v s name is. or_right _ _ (no_fault ds (Service v s name) (rw is at fault)).2 in
+    let free : (v s name : ℕ) → d ≡ Service v s name →
+    has_service ds name ≡ false = λ v s name is. or_right _ _ (no_fault ds (Service v s name) (rw is at fault)).2 in
     record {
       named = λ v i name serves.
           elim (served ds d v i name serves) [
@@ -440,7 +461,11 @@ one_service_more version kernels ds d so_far ranges fault =
 
 pub named : (version kernels : ℕ) (ds : List Declaration) → AreAccepted version kernels ds → AreNamed ds
 named version kernels = by_lines version kernels AreNamed
-    (record { named = λ v i name serves. absurd (no_server v i name serves); once = λ v i w j name serves serves'. absurd (no_server v i name serves); small = λ v i name serves. absurd (no_server v i name serves) })
+    (record {
+      named = λ v i name serves. absurd (no_server v i name serves);
+      once = λ v i w j name serves serves'. absurd (no_server v i name serves);
+      small = λ v i name serves. absurd (no_server v i name serves);
+    })
     (one_service_more version kernels)
 
 -- the VPEs of a denied pair are declared
@@ -448,7 +473,8 @@ both_true : (a b : Bool) → (a && b) ≡ true → (a ≡ true) × (b ≡ true)
 both_true true b some = (refl, some)
 both_true false b some = absurd (true≢false (sym some))
 
-says_declared : (ds : List Declaration) (d : Declaration) (v w : ℕ) → says_deny v w d ≡ true → context_fault ds d ≡ None → IsSome (pe_in ds v) × IsSome (pe_in ds w)
+says_declared : (ds : List Declaration) (d : Declaration) (v w : ℕ) → says_deny v w d ≡ true → context_fault ds d ≡ None →
+    IsSome (pe_in ds v) × IsSome (pe_in ds w)
 says_declared ds (Deny a b) v w says fault =
     let none = (no_fault ds (Deny a b) fault).1 in
     let same = both_true (a == v) (b == w) says in
@@ -464,7 +490,8 @@ nobody_denied v w some = true≢false (sym some)
 still_declared : (ds : List Declaration) (d : Declaration) (v : ℕ) → IsSome (pe_in ds v) → IsSome (pe_in (ds ++ d ∷ []) v)
 still_declared ds d v some = rw (pe_in-more ds d v) (some_or (pe_in ds v) (said_pe v d) some)
 
-pub denied : (version kernels : ℕ) (ds : List Declaration) → AreAccepted version kernels ds → (v w : ℕ) → is_denied ds v w ≡ true → IsSome (pe_in ds v) × IsSome (pe_in ds w)
+pub denied : (version kernels : ℕ) (ds : List Declaration) → AreAccepted version kernels ds → (v w : ℕ) → is_denied ds v w ≡ true →
+    IsSome (pe_in ds v) × IsSome (pe_in ds w)
 denied version kernels = by_lines version kernels (λ ds. (v w : ℕ) → is_denied ds v w ≡ true → IsSome (pe_in ds v) × IsSome (pe_in ds w))
     (λ v w some. absurd (nobody_denied v w some))
     (λ ds d so_far ranges fault v w some.
@@ -477,13 +504,16 @@ denied version kernels = by_lines version kernels (λ ds. (v w : ℕ) → is_den
     (still_declared ds d v both.0, still_declared ds d w both.1))
 
 -- what is offered has a service and a small index
-said_offer_declared : (version kernels : ℕ) (ds : List Declaration) (d : Declaration) (name index s : ℕ) → IsInRange version kernels d → context_fault ds d ≡ None → said_offer name index d ≡ Some s → (has_service ds name ≡ true) × (index ≤ 255)
+said_offer_declared : (version kernels : ℕ) (ds : List Declaration) (d : Declaration) (name index s : ℕ) → IsInRange version kernels d →
+    context_fault ds d ≡ None → said_offer name index d ≡ Some s → (has_service ds name ≡ true) × (index ≤ 255)
 said_offer_declared version kernels ds (Offer n i t) name index s ranges fault some =
     elim (cases_Bool ((n == name) && (i == index))) [
       | inl same ↦
           let both = both_true (n == name) (i == index) same in
-          let small : i ≤ 255 = ranges.1 in
-          (subst (λ (m : ℕ). has_service ds m ≡ true) (eqb-true n name both.0) (not_false (has_service ds n) (no_fault ds (Offer n i t) fault).1), subst (λ (j : ℕ). j ≤ 255) (eqb-true i index both.1) small)
+          let small : i ≤ 255 = ranges.1 in (
+            subst (λ (m : ℕ). has_service ds m ≡ true) (eqb-true n name both.0) (not_false (has_service ds n) (no_fault ds (Offer n i t) fault).1),
+            subst (λ (j : ℕ). j ≤ 255) (eqb-true i index both.1) small,
+          )
       | inr other ↦ let e : None ≡ Some s = rw other at some in absurd (none-some s e)
     ]
   where
@@ -492,8 +522,10 @@ said_offer_declared version kernels ds (Offer n i t) name index s ranges fault s
     not_false false no' = absurd (true≢false no')
 said_offer_declared version kernels ds d name index s ranges fault some = absurd (none-some s some)
 
-pub offer_declared : (version kernels : ℕ) (ds : List Declaration) → AreAccepted version kernels ds → (name index s : ℕ) → offer_in ds name index ≡ Some s → (has_service ds name ≡ true) × (index ≤ 255)
-offer_declared version kernels = by_lines version kernels (λ ds. (name index s : ℕ) → offer_in ds name index ≡ Some s → (has_service ds name ≡ true) × (index ≤ 255))
+pub offer_declared : (version kernels : ℕ) (ds : List Declaration) → AreAccepted version kernels ds → (name index s : ℕ) → offer_in ds name index ≡ Some s →
+    (has_service ds name ≡ true) × (index ≤ 255)
+offer_declared version kernels = by_lines version kernels (λ ds. (name index s : ℕ) → offer_in ds name index ≡ Some s →
+    (has_service ds name ≡ true) × (index ≤ 255))
     (λ name index s some. absurd (no_offer name index s some))
     (λ ds d so_far ranges fault name index s some.
     let both : (has_service ds name ≡ true) × (index ≤ 255) =
@@ -524,7 +556,11 @@ still_serves : (ds : List Declaration) (d : Declaration) (v i name : ℕ) → Se
 still_serves ds d v i name serves =
     elim (some_or_none (said_root v d)) [
       | inl none ↦ record { root = serves.root; at = rw (roots_in-same ds d v none) serves.at; is = serves.is }
-      | inr some ↦ record { root = serves.root; at = rw (roots_in-new ds d v some.0 some.1) (get_kept (roots_in ds v) (some.0 ∷ []) serves.root i serves.at); is = serves.is }
+      | inr some ↦ record {
+        root = serves.root;
+        at = rw (roots_in-new ds d v some.0 some.1) (get_kept (roots_in ds v) (some.0 ∷ []) serves.root i serves.at);
+        is = serves.is;
+      }
     ]
 
 now_serves : (ds : List Declaration) (d : Declaration) (name : ℕ) → says_service name d ≡ true → context_fault ds d ≡ None → IsServedBy (ds ++ d ∷ []) name
@@ -535,7 +571,11 @@ now_serves ds (Service v s n) name says fault =
     record {
       vpe = v;
       place = length (roots_in ds v);
-      serves = record { root = root; at = rw (roots_in-new ds (Service v s n) v root said) (get_end (roots_in ds v) root); is = ap Serv (eqb-true n name says) };
+      serves = record {
+        root = root;
+        at = rw (roots_in-new ds (Service v s n) v root said) (get_end (roots_in ds v) root);
+        is = ap Serv (eqb-true n name says);
+      };
       declared = still_declared ds (Service v s n) v there';
     }
 now_serves ds d name says fault = absurd (true≢false (sym says))
@@ -552,5 +592,10 @@ served_by version kernels = by_lines version kernels (λ ds. (name : ℕ) → ha
       | inl says ↦ now_serves ds d name says fault
       | inr other ↦
           let old = so_far name (sym (has_service-same ds d name other) ∙ some) in
-          record { vpe = old.vpe; place = old.place; serves = still_serves ds d old.vpe old.place name old.serves; declared = still_declared ds d old.vpe old.declared }
+          record {
+            vpe = old.vpe;
+            place = old.place;
+            serves = still_serves ds d old.vpe old.place name old.serves;
+            declared = still_declared ds d old.vpe old.declared;
+          }
     ])

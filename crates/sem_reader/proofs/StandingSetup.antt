@@ -1,5 +1,6 @@
 -- The setup for which a text stands is a setup: no line has a fault, so all that the lines say is accepted.
-use Rattle.std.proofs.Common.{◌≡◌, ℕ, zero, suc, ◌+◌, ◌≤◌, ◌⊎◌, Bool, true, false, true≢false, cond, List, [], ◌∷◌, ◌++◌, length, map, take, drop, get_or, codes, Option, Some, None, inl, inr, refl, sym, ap, ◌∙◌, subst, arith}
+use Rattle.std.proofs.Common.{◌≡◌, ℕ, zero, suc, ◌+◌, ◌≤◌, ◌⊎◌, Bool, true, false, true≢false, cond, List, [], ◌∷◌, ◌++◌, length, map, take, drop, get_or}
+use Rattle.std.proofs.Common.{codes, Option, Some, None, inl, inr, refl, sym, ap, ◌∙◌, subst, arith}
 use Rattle.std.specs.Option.{option_map, option_or}
 use Rattle.std.specs.Prelude.{nat_lt}
 use Rattle.std.proofs.lemmas.List.{take_more, take_all, map-append}
@@ -16,7 +17,8 @@ use Rattle.sem_trace.specs.Declarations.{number_at, declaration}
 use Rattle.sem_trace.specs.Ranges.{IsInRange}
 use Rattle.sem_trace.specs.Earlier.{first_some, window_in, is_ended}
 use Rattle.sem_trace.specs.Context.{context_fault}
-use Rattle.sem_trace.specs.Refusal.{version_in, is_third, body_fault, words_fault, line_fault, numbers, fault_at, first_fault, version_of, kernels_of, declarations_of, end_fault, lines_refusal, refusal}
+use Rattle.sem_trace.specs.Refusal.{version_in, is_third, body_fault, words_fault, line_fault, numbers, fault_at, first_fault, version_of, kernels_of}
+use Rattle.sem_trace.specs.Refusal.{declarations_of, end_fault, lines_refusal, refusal}
 use Rattle.sem_trace.specs.Standing.{setup_of, Stands}
 use Rattle.sem_reader.specs.Accepted.{AreAccepted}
 use Rattle.sem_reader.specs.Reads.{with_line}
@@ -55,7 +57,8 @@ IsGood (first ∷ second ∷ earlier) =
 first_good : (words : List (List ℕ)) → form_fault first_form words ≡ None → (version_in words ≡ 1) ⊎ (version_in words ≡ 2)
 unfolding first_form
 first_good words none =
-    elim (Contains-cons_cases (codes "1") (codes "2" ∷ []) (word_at words 2) (one_of (codes "1" ∷ codes "2" ∷ []) (word_at words 2) (at_place first_form words none 2 (omega arith)))) [
+    elim (Contains-cons_cases (codes "1") (codes "2" ∷ []) (word_at words 2)
+    (one_of (codes "1" ∷ codes "2" ∷ []) (word_at words 2) (at_place first_form words none 2 (omega arith)))) [
       | inl one ↦ inl (ap number_value (sym one))
       | inr later ↦ elim (Contains-cons_cases (codes "2") [] (word_at words 2) later) [
         | inl two ↦ inr (ap number_value (sym two))
@@ -63,30 +66,41 @@ first_good words none =
       ]
     ]
 
-second_good : (version : ℕ) (words : List (List ℕ)) → form_fault (second_form version) words ≡ None → (1 ≤ number_at words 1) × (number_at words 1 ≤ most_kernels version)
+second_good : (version : ℕ) (words : List (List ℕ)) → form_fault (second_form version) words ≡ None →
+    (1 ≤ number_at words 1) × (number_at words 1 ≤ most_kernels version)
 unfolding second_form
 second_good version words none = number_in (second_form version) words none 1 1 (most_kernels version) (omega arith) refl
 
 -- the third line of version 2
-third_good : (version kernels : ℕ) (words : List (List ℕ)) → form_fault (third_form version) words ≡ None → IsInRange version kernels (declaration words) × (context_fault [] (declaration words) ≡ None)
+third_good : (version kernels : ℕ) (words : List (List ℕ)) → form_fault (third_form version) words ≡ None → IsInRange version kernels (declaration words)
+    × (context_fault [] (declaration words) ≡ None)
 unfolding third_form form_fault declaration context_fault window_in
 third_good version kernels [] none = absurd (none-some Missing (sym none))
 third_good version kernels (name ∷ ws) none =
     elim (Contains-cons_cases (codes "window") [] name (one_of (codes "window" ∷ []) name (at_place (third_form version) (name ∷ ws) none 0 (omega arith)))) [
-      | inl is ↦ subst (λ (w : List ℕ). IsInRange version kernels (declaration (w ∷ ws)) × (context_fault [] (declaration (w ∷ ws)) ≡ None)) is (number_in (third_form version) (name ∷ ws) none 1 (least_window version) (most_window version) (omega arith) refl, refl)
+      | inl is ↦ subst (λ (w : List ℕ). IsInRange version kernels (declaration (w ∷ ws)) × (context_fault [] (declaration (w ∷ ws)) ≡ None)) is
+          (number_in (third_form version) (name ∷ ws) none 1 (least_window version) (most_window version) (omega arith) refl, refl)
       | inr past ↦ absurd (Contains-nil name past)
     ]
 
 -- a line behind the second
-body_good : (version kernels : ℕ) (earlier : List (List (List ℕ))) (words : List (List ℕ)) → 1 ≤ kernels → body_fault version kernels earlier words ≡ None → IsInRange version kernels (declaration words) × (context_fault (map declaration earlier) (declaration words) ≡ None)
+body_good : (version kernels : ℕ) (earlier : List (List (List ℕ))) (words : List (List ℕ)) → 1 ≤ kernels → body_fault version kernels earlier words ≡ None →
+    IsInRange version kernels (declaration words) × (context_fault (map declaration earlier) (declaration words) ≡ None)
 unfolding body_fault
 body_good version kernels earlier words some none = third earlier (is_third version earlier) refl none
   where
-    behind_third : (earlier : List (List (List ℕ))) (b : Bool) → is_ended (map declaration earlier) ≡ b → cond b (Some TooMany) (option_or (form_fault (form version kernels words) words) (context_fault (map declaration earlier) (declaration words))) ≡ None → IsInRange version kernels (declaration words) × (context_fault (map declaration earlier) (declaration words) ≡ None)
+    behind_third : (earlier : List (List (List ℕ))) (b : Bool) → is_ended (map declaration earlier) ≡ b →
+        cond b (Some TooMany) (option_or (form_fault (form version kernels words) words) (context_fault (map declaration earlier) (declaration words))) ≡ None →
+        IsInRange version kernels (declaration words) × (context_fault (map declaration earlier) (declaration words) ≡ None)
     behind_third earlier true is none = absurd (none-some TooMany (sym none))
-    behind_third earlier false is none = let parts = both_none (form_fault (form version kernels words) words) _ none in (form_ranges version kernels words some parts.0, parts.1)
+    behind_third earlier false is none = let parts = both_none (form_fault (form version kernels words) words) _ none in
+        (form_ranges version kernels words some parts.0, parts.1)
 
-    third : (earlier : List (List (List ℕ))) (b : Bool) → is_third version earlier ≡ b → cond b (form_fault (third_form version) words) (cond (is_ended (map declaration earlier)) (Some TooMany) (option_or (form_fault (form version kernels words) words) (context_fault (map declaration earlier) (declaration words)))) ≡ None → IsInRange version kernels (declaration words) × (context_fault (map declaration earlier) (declaration words) ≡ None)
+    third : (earlier : List (List (List ℕ))) (b : Bool) → is_third version earlier ≡ b →
+        cond b (form_fault (third_form version) words)
+        (cond (is_ended (map declaration earlier)) (Some TooMany)
+        (option_or (form_fault (form version kernels words) words) (context_fault (map declaration earlier) (declaration words)))) ≡ None →
+        IsInRange version kernels (declaration words) × (context_fault (map declaration earlier) (declaration words) ≡ None)
     third earlier false is none = behind_third earlier (is_ended (map declaration earlier)) refl none
     third [] true is none = third_good version kernels words none
     third (e ∷ es) true is none = absurd (true≢false (sym is))
@@ -95,10 +109,16 @@ body_good version kernels earlier words some none = third earlier (is_third vers
 good_more : (ls : List (List (List ℕ))) (words : List (List ℕ)) → IsGood ls → words_fault ls words ≡ None → IsGood (ls ++ words ∷ [])
 unfolding words_fault
 good_more [] words good none = first_good words none
-good_more (first ∷ []) words good none = let kernels = second_good (version_in first) words none in (good, kernels.0, kernels.1, accepted_none (version_in first) (number_at words 1))
+good_more (first ∷ []) words good none = let kernels = second_good (version_in first) words none in
+    (good, kernels.0, kernels.1, accepted_none (version_in first) (number_at words 1))
 good_more (first ∷ second ∷ earlier) words good none =
-    let more = body_good (version_in first) (number_at second 1) earlier words good.1 none in
-    (good.0, good.1, good.2, subst (AreAccepted (version_in first) (number_at second 1)) (sym (map-append declaration earlier (words ∷ []))) (accepted_more (version_in first) (number_at second 1) (map declaration earlier) (declaration words) good.3 more.0 more.1))
+    let more = body_good (version_in first) (number_at second 1) earlier words good.1 none in (
+      good.0,
+      good.1,
+      good.2,
+      subst (AreAccepted (version_in first) (number_at second 1)) (sym (map-append declaration earlier (words ∷ [])))
+          (accepted_more (version_in first) (number_at second 1) (map declaration earlier) (declaration words) good.3 more.0 more.1),
+    )
 
 -- the same of a line that may say nothing
 good_line : (ls : List (List (List ℕ))) (line : List ℕ) → IsGood ls → line_fault ls line ≡ None → IsGood (with_line ls line)
@@ -115,13 +135,17 @@ unfolding fault_at
 good_lines lines zero few none = tt
 good_lines lines (suc n) few none =
     let next : suc n ≡ n + 1 = omega arith in
-    let parts = first_parts (fault_at lines) (numbers n) n (subst (λ (ks : List ℕ). first_some (fault_at lines) ks ≡ None) (ap numbers next ∙ numbers-more n) none) in
+    let parts = first_parts (fault_at lines) (numbers n) n (subst (λ (ks : List ℕ). first_some (fault_at lines) ks ≡ None) (ap numbers next
+    ∙ numbers-more n) none) in
     let before = good_lines lines n (omega arith) parts.0 in
-    let here = good_line (significant (take n lines)) (get_or lines n []) before (unmapped _ (line_fault (significant (take n lines)) (get_or lines n [])) parts.1) in
-    subst IsGood (sym (ap (λ (k : ℕ). significant (take k lines)) next ∙ (ap significant (take_more lines n [] (omega arith)) ∙ significant-push (take n lines) (get_or lines n [])))) here
+    let here = good_line (significant (take n lines)) (get_or lines n []) before
+    (unmapped _ (line_fault (significant (take n lines)) (get_or lines n [])) parts.1) in
+    subst IsGood (sym (ap (λ (k : ℕ). significant (take k lines)) next
+    ∙ (ap significant (take_more lines n [] (omega arith)) ∙ significant-push (take n lines) (get_or lines n [])))) here
 
 -- what such lines declare, if the last of them is there
-good_setup : (ls : List (List (List ℕ))) → IsGood ls → is_ended (map declaration (drop 2 ls)) ≡ true → IsSetup (setup_of (version_in (get_or ls 0 [])) (number_at (get_or ls 1 []) 1) (map declaration (drop 2 ls)))
+good_setup : (ls : List (List (List ℕ))) → IsGood ls → is_ended (map declaration (drop 2 ls)) ≡ true →
+    IsSetup (setup_of (version_in (get_or ls 0 [])) (number_at (get_or ls 1 []) 1) (map declaration (drop 2 ls)))
 unfolding is_ended
 good_setup [] good ended = absurd (true≢false (sym ended))
 good_setup (first ∷ []) good ended = absurd (true≢false (sym ended))
@@ -132,10 +156,13 @@ accepted_setup : (lines : List (List ℕ)) → lines_refusal lines ≡ None → 
 unfolding first_fault end_fault version_of kernels_of declarations_of
 accepted_setup lines none =
     let parts = both_none (first_fault lines) (end_fault lines) none in
-    let good = subst (λ (ls : List (List ℕ)). IsGood (significant ls)) (take_all (length lines) lines (omega arith)) (good_lines lines (length lines) (omega arith) parts.0) in
+    let good = subst (λ (ls : List (List ℕ)). IsGood (significant ls)) (take_all (length lines) lines (omega arith))
+    (good_lines lines (length lines) (omega arith) parts.0) in
     good_setup (significant lines) good (ended (is_ended (map declaration (drop 2 (significant lines)))) refl parts.1)
   where
-    ended : (b : Bool) → is_ended (map declaration (drop 2 (significant lines))) ≡ b → cond {A = Option TraceFault} b None (Some (record { line = length lines + 1; cause = Missing })) ≡ None → is_ended (map declaration (drop 2 (significant lines))) ≡ true
+    ended : (b : Bool) → is_ended (map declaration (drop 2 (significant lines))) ≡ b →
+        cond {A = Option TraceFault} b None (Some (record { line = length lines + 1; cause = Missing })) ≡ None →
+        is_ended (map declaration (drop 2 (significant lines))) ≡ true
     ended true is none = is
     ended false is none = absurd (none-some _ (sym none))
 
@@ -143,6 +170,7 @@ pub stands_setup : (bytes : List ℕ) (T : Setup) → Stands bytes T → IsSetup
 unfolding refusal
 stands_setup bytes T stands = subst IsSetup (sym stands.declared) (accepted_setup (lines_of bytes) (from (nat_lt 8388608 (length bytes)) stands.accepted))
   where
-    from : (b : Bool) → cond {A = Option TraceFault} b (Some (record { line = 0; cause = InputTooLong })) (lines_refusal (lines_of bytes)) ≡ None → lines_refusal (lines_of bytes) ≡ None
+    from : (b : Bool) → cond {A = Option TraceFault} b (Some (record { line = 0; cause = InputTooLong })) (lines_refusal (lines_of bytes)) ≡ None →
+        lines_refusal (lines_of bytes) ≡ None
     from true none = absurd (none-some _ (sym none))
     from false none = none

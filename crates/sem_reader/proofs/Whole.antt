@@ -1,5 +1,6 @@
 -- The canonical text of a setup stands for it.
-use Rattle.std.proofs.Common.{◌≡◌, ◌≢◌, ℕ, zero, suc, ◌<◌, ◌≤◌, ◌==◌, inl, inr, Bool, true, false, true≢false, not, List, [], ◌∷◌, ◌++◌, length, map, take, drop, get_or, Option, None, refl, ap, sym, ◌∙◌, subst, arith, decimal, le-ltb}
+use Rattle.std.proofs.Common.{◌≡◌, ◌≢◌, ℕ, zero, suc, ◌<◌, ◌≤◌, ◌==◌, inl, inr, Bool, true, false, true≢false, not, List, [], ◌∷◌, ◌++◌, length, map, take}
+use Rattle.std.proofs.Common.{drop, get_or, Option, None, refl, ap, sym, ◌∙◌, subst, arith, decimal, le-ltb}
 use Rattle.std.specs.Prelude.{codes, slice_index_or}
 use Rattle.std.specs.List.{AllPairs, Contains, list_all, filter, flat_map, range_with_len}
 use Rattle.std.proofs.lemmas.Bool.{cases_Bool, cases_eq}
@@ -18,7 +19,8 @@ use Rattle.sem_trace.specs.Forms.{form, form_fault, first_form, second_form, thi
 use Rattle.sem_trace.specs.Declarations.{number_at, declaration}
 use Rattle.sem_trace.specs.Earlier.{first_some, is_end, is_ended}
 use Rattle.sem_trace.specs.Context.{context_fault}
-use Rattle.sem_trace.specs.Refusal.{version_in, is_third, body_fault, words_fault, line_fault, numbers, fault_at, first_fault, version_of, kernels_of, declarations_of, end_fault, refusal}
+use Rattle.sem_trace.specs.Refusal.{version_in, is_third, body_fault, words_fault, line_fault, numbers, fault_at, first_fault, version_of, kernels_of}
+use Rattle.sem_trace.specs.Refusal.{declarations_of, end_fault, refusal}
 use Rattle.sem_trace.specs.Standing.{setup_of, Stands}
 use Rattle.sem_trace.proofs.Nodes.{few_kernels}
 use Rattle.sem_reader.proofs.Enumerated.{in_cons, here, there, all_in, pairs_joined, in_range, range_rises}
@@ -54,7 +56,8 @@ small_version T fits = elim fits.versioned [
 ]
 
 kernels_few : (T : Setup) → IsSetup T → T.kernels ≤ KERNELS
-kernels_few T fits = let most : most_kernels T.version ≤ KERNELS = few_kernels T.version in let few : T.kernels ≤ most_kernels T.version = fits.few_kernels in omega arith
+kernels_few T fits = let most : most_kernels T.version ≤ KERNELS = few_kernels T.version in let few : T.kernels ≤ most_kernels T.version = fits.few_kernels in
+    omega arith
 
 not_true : (b : Bool) → not b ≡ true → b ≡ false
 not_true true is = absurd (true≢false (sym is))
@@ -78,7 +81,10 @@ good_line T fits ws within =
             | inr rest ↦
                 let m = in_map spelled (said_by T) ws rest in
                 let p = printed T fits m.0 m.1 in
-                subst IsGood m.2 (record { short = line_short T.version T.kernels m.0 (kernels_few T fits) p.ranges p.said; says = line_significant T.version m.0 p.said })
+                subst IsGood m.2 (record {
+                  short = line_short T.version T.kernels m.0 (kernels_few T fits) p.ranges p.said;
+                  says = line_significant T.version m.0 p.said;
+                })
           ]
     ]
 
@@ -97,24 +103,29 @@ all_said (l ∷ ls) good =
     ∙ (kept l (map words_of (map bare ls)) g.says ∙ ap (λ (rest : List (List (List ℕ))). l ∷ rest) (all_said ls (λ ws within. good ws (there l ls ws within))))
 
 -- a line of which nothing is wrong
-line_good : (earlier : List (List (List ℕ))) (ws : List (List ℕ)) (bytes : List ℕ) → bytes_fault bytes ≡ None → words_of bytes ≡ ws → is_significant ws ≡ true → words_fault earlier ws ≡ None → line_fault earlier bytes ≡ None
+line_good : (earlier : List (List (List ℕ))) (ws : List (List ℕ)) (bytes : List ℕ) → bytes_fault bytes ≡ None → words_of bytes ≡ ws → is_significant ws ≡ true →
+    words_fault earlier ws ≡ None → line_fault earlier bytes ≡ None
 unfolding line_fault
 line_good earlier ws bytes a b c d = rw (a, b, c, d) refl
 
-place_good : (lines : List (List ℕ)) (i : ℕ) (earlier : List (List (List ℕ))) (line : List ℕ) → significant (take i lines) ≡ earlier → slice_index_or lines i [] ≡ line → line_fault earlier line ≡ None → fault_at lines i ≡ None
+place_good : (lines : List (List ℕ)) (i : ℕ) (earlier : List (List (List ℕ))) (line : List ℕ) → significant (take i lines) ≡ earlier →
+    slice_index_or lines i [] ≡ line → line_fault earlier line ≡ None → fault_at lines i ≡ None
 unfolding fault_at
 place_good lines i earlier line a b c =
-    let is : line_fault (significant (take i lines)) (slice_index_or lines i []) ≡ None = ap (λ (e : List (List (List ℕ))). line_fault e (slice_index_or lines i [])) a ∙ (ap (line_fault earlier) b ∙ c) in
+    let is : line_fault (significant (take i lines)) (slice_index_or lines i []) ≡ None =
+    ap (λ (e : List (List (List ℕ))). line_fault e (slice_index_or lines i [])) a ∙ (ap (line_fault earlier) b ∙ c) in
     rw is refl
 
-no_fault : (ls : List (List (List ℕ))) (i : ℕ) → i < length ls → ((ws : List (List ℕ)) → Contains ls ws → IsGood ws) → words_fault (take i ls) (slice_index_or ls i []) ≡ None → fault_at (map bare ls) i ≡ None
+no_fault : (ls : List (List (List ℕ))) (i : ℕ) → i < length ls → ((ws : List (List ℕ)) → Contains ls ws → IsGood ws) →
+    words_fault (take i ls) (slice_index_or ls i []) ≡ None → fault_at (map bare ls) i ≡ None
 no_fault ls i lt good fine =
     let s = parted ls i [] lt in
     let w : List (List ℕ) = slice_index_or ls i [] in
     let g : IsGood w = good w (subst (λ (xs : List (List (List ℕ))). Contains xs w) (sym s.1) (Contains-append_right (take i ls) (w ∷ s.0) w (here w s.0))) in
     let before : significant (take i (map bare ls)) ≡ take i ls =
     ap (λ (xs : List (List ℕ)). significant xs) (take_map bare i ls)
-    ∙ all_said (take i ls) (λ ws within. good ws (subst (λ (xs : List (List (List ℕ))). Contains xs ws) (sym s.1) (Contains-append_left (take i ls) (w ∷ s.0) ws within))) in
+    ∙ all_said (take i ls)
+    (λ ws within. good ws (subst (λ (xs : List (List (List ℕ))). Contains xs ws) (sym s.1) (Contains-append_left (take i ls) (w ∷ s.0) ws within))) in
     let narrow : width w ≤ 60 = g.short.narrow in
     let long = length-bare w in
     place_good (map bare ls) i (take i ls) (bare w) before (index_map bare ls i [] [] lt)
@@ -133,9 +144,11 @@ ends_last : (T : Setup) → IsSetup T → AllPairs (λ a b. rank a ≢ 7) (said_
 unfolding said_by
 ends_last T fits =
     pairs_joined (section T) (λ (k l : ℕ). (l < 8) × (k < l)) (λ (a b : Declaration). rank a ≢ 7) (range_with_len 0 8)
-    (λ i j d lt within. let r = in_range 0 8 (get_or (range_with_len 0 8) j d) (Contains-get_or (range_with_len 0 8) j d within) in (omega arith, range_rises 0 8 i j d lt within))
+    (λ i j d lt within. let r = in_range 0 8 (get_or (range_with_len 0 8) j d) (Contains-get_or (range_with_len 0 8) j d within) in
+    (omega arith, range_rises 0 8 i j d lt within))
     (λ k within. let r = in_range 0 8 k within in ends_section T fits k (omega arith))
-    (λ k l a b less within within'. let s : l < 8 = less.0 in let t : k < l = less.1 in let x = ranked T fits k (omega arith) a within in λ same. absurd (omega arith))
+    (λ k l a b less within within'. let s : l < 8 = less.0 in let t : k < l = less.1 in let x = ranked T fits k (omega arith) a within in
+    λ same. absurd (omega arith))
 
 not_end : (e : Declaration) → rank e ≢ 7 → is_end e ≡ false
 not_end End other = absurd (other refl)
@@ -147,14 +160,18 @@ not_ended [] other = refl
 not_ended (d ∷ ds) other = rw (not_end d (other d (here d ds)), not_ended ds (λ e within. other e (there d ds e within))) refl
 
 -- the words of printed lines say what was printed
-says_all : (T : Setup) → IsSetup T → (ds : List Declaration) → ((e : Declaration) → Contains ds e → Contains (said_by T) e) → map declaration (map spelled ds) ≡ ds
+says_all : (T : Setup) → IsSetup T → (ds : List Declaration) → ((e : Declaration) → Contains ds e → Contains (said_by T) e) →
+    map declaration (map spelled ds) ≡ ds
 says_all T fits [] within = refl
 says_all T fits (d ∷ ds) within =
     let p = printed T fits d (within d (here d ds)) in
     rw (line_says T.version T.kernels d (kernels_few T fits) p.ranges p.said, says_all T fits ds (λ e inside. within e (there d ds e inside))) refl
 
 -- nothing is wrong with a line behind the second, be it the third of version 2 or another
-steps : (first second : List (List ℕ)) (earlier : List (List (List ℕ))) (ws : List (List ℕ)) (ds : List Declaration) (version k : ℕ) (d : Declaration) → version_in first ≡ version → (is_third version earlier ≡ true → form_fault (third_form version) ws ≡ None) → map declaration earlier ≡ ds → is_ended ds ≡ false → number_at second 1 ≡ k → form_fault (form version k ws) ws ≡ None → declaration ws ≡ d → context_fault ds d ≡ None → words_fault (first ∷ second ∷ earlier) ws ≡ None
+steps : (first second : List (List ℕ)) (earlier : List (List (List ℕ))) (ws : List (List ℕ)) (ds : List Declaration) (version k : ℕ) (d : Declaration) →
+    version_in first ≡ version → (is_third version earlier ≡ true → form_fault (third_form version) ws ≡ None) → map declaration earlier ≡ ds →
+    is_ended ds ≡ false → number_at second 1 ≡ k → form_fault (form version k ws) ws ≡ None → declaration ws ≡ d → context_fault ds d ≡ None →
+    words_fault (first ∷ second ∷ earlier) ws ≡ None
 unfolding words_fault body_fault
 steps first second earlier ws ds version k d told third a b c e f g =
     elim (cases_Bool (is_third version earlier)) [
@@ -167,21 +184,27 @@ first_said : (T : Setup) (d : Declaration) (after : List Declaration) → (T.ver
 unfolding said_by
 first_said T d after two is =
     let windows : window_decls T ≡ Window T.window ∷ [] = rw two refl in
-    let whole : said_by T ≡ (Window T.window ∷ []) ++ (all_pes T ++ flat_map (section T) (range_with_len 1 7)) = ap (λ (ws : List Declaration). (ws ++ all_pes T) ++ flat_map (section T) (range_with_len 1 7)) windows in
+    let whole : said_by T ≡ (Window T.window ∷ []) ++ (all_pes T ++ flat_map (section T) (range_with_len 1 7)) =
+    ap (λ (ws : List Declaration). (ws ++ all_pes T) ++ flat_map (section T) (range_with_len 1 7)) windows in
     cons_first d (Window T.window) after _ (sym is ∙ whole)
 
-third_due : (T : Setup) → IsSetup T → (before after : List Declaration) (d : Declaration) → said_by T ≡ before ++ d ∷ after → is_third T.version (map spelled before) ≡ true → form_fault (third_form T.version) (spelled d) ≡ None
+third_due : (T : Setup) → IsSetup T → (before after : List Declaration) (d : Declaration) → said_by T ≡ before ++ d ∷ after →
+    is_third T.version (map spelled before) ≡ true → form_fault (third_form T.version) (spelled d) ≡ None
 third_due T fits [] after d is due =
     let two : (T.version == 1) ≡ false = not_true (T.version == 1) due in
     rw (first_said T d after two is) (third_fits T.version T.window fits.windowed)
 third_due T fits (e ∷ before) after d is due = absurd (true≢false (sym due))
 
-later_fits : (T : Setup) → IsSetup T → (before after : List Declaration) (d : Declaration) → said_by T ≡ before ++ d ∷ after → words_fault ((codes "semper" ∷ codes "trace" ∷ decimal T.version ∷ []) ∷ (codes "kernels" ∷ decimal T.kernels ∷ []) ∷ map spelled before) (spelled d) ≡ None
+later_fits : (T : Setup) → IsSetup T → (before after : List Declaration) (d : Declaration) → said_by T ≡ before ++ d ∷ after →
+    words_fault ((codes "semper" ∷ codes "trace" ∷ decimal T.version ∷ []) ∷ (codes "kernels" ∷ decimal T.kernels ∷ []) ∷ map spelled before) (spelled d) ≡ None
 later_fits T fits before after d is =
-    let in_all : (e : Declaration) → Contains (before ++ d ∷ after) e → Contains (said_by T) e = λ e inside. subst (λ (xs : List Declaration). Contains xs e) (sym is) inside in
+    let in_all : (e : Declaration) → Contains (before ++ d ∷ after) e →
+    Contains (said_by T) e = λ e inside. subst (λ (xs : List Declaration). Contains xs e) (sym is) inside in
     let p = printed T fits d (in_all d (Contains-append_right before (d ∷ after) d (here d after))) in
-    let order : AllPairs (λ (a b : Declaration). rank a ≢ 7) (before ++ d ∷ after) = subst (AllPairs (λ (a b : Declaration). rank a ≢ 7)) is (ends_last T fits) in
-    steps (codes "semper" ∷ codes "trace" ∷ decimal T.version ∷ []) (codes "kernels" ∷ decimal T.kernels ∷ []) (map spelled before) (spelled d) before T.version T.kernels d
+    let order : AllPairs (λ (a b : Declaration). rank a ≢ 7) (before ++ d ∷ after) =
+    subst (AllPairs (λ (a b : Declaration). rank a ≢ 7)) is (ends_last T fits) in
+    steps (codes "semper" ∷ codes "trace" ∷ decimal T.version ∷ []) (codes "kernels" ∷ decimal T.kernels ∷ []) (map spelled before)
+    (spelled d) before T.version T.kernels d
     (first_says T.version fits.versioned) (third_due T fits before after d is)
     (says_all T fits before (λ e inside. in_all e (Contains-append_left before (d ∷ after) e inside)))
     (not_ended before (λ e inside. pairs_middle (λ (a b : Declaration). rank a ≢ 7) before after d e order inside))
@@ -194,19 +217,23 @@ first_line : (ws : List (List ℕ)) → form_fault first_form ws ≡ None → wo
 unfolding words_fault
 first_line ws fits = fits
 
-second_line : (first ws : List (List ℕ)) (version : ℕ) → version_in first ≡ version → form_fault (second_form version) ws ≡ None → words_fault (first ∷ []) ws ≡ None
+second_line : (first ws : List (List ℕ)) (version : ℕ) → version_in first ≡ version → form_fault (second_form version) ws ≡ None →
+    words_fault (first ∷ []) ws ≡ None
 unfolding words_fault
 second_line first ws version told fits = rw told fits
 
 words_fit : (T : Setup) → IsSetup T → (i : ℕ) → i < length (all_lines T) → words_fault (take i (all_lines T)) (slice_index_or (all_lines T) i []) ≡ None
 words_fit T fits zero lt = first_line (codes "semper" ∷ codes "trace" ∷ decimal T.version ∷ []) (first_fits T.version fits.versioned)
-words_fit T fits (suc zero) lt = second_line (codes "semper" ∷ codes "trace" ∷ decimal T.version ∷ []) (codes "kernels" ∷ decimal T.kernels ∷ []) T.version (first_says T.version fits.versioned) (second_fits T.version T.kernels fits.some_kernel fits.few_kernels)
+words_fit T fits (suc zero) lt = second_line (codes "semper" ∷ codes "trace" ∷ decimal T.version ∷ []) (codes "kernels" ∷ decimal T.kernels ∷ []) T.version
+    (first_says T.version fits.versioned) (second_fits T.version T.kernels fits.some_kernel fits.few_kernels)
 words_fit T fits (suc (suc j)) lt =
     let less : j < length (said_by T) = omega (arith, length-map (said_by T) spelled) in
     let s = parted (said_by T) j End less in
     let fine = later_fits T fits (take j (said_by T)) s.0 (slice_index_or (said_by T) j End) s.1 in
-    ap (λ (e : List (List (List ℕ))). words_fault ((codes "semper" ∷ codes "trace" ∷ decimal T.version ∷ []) ∷ (codes "kernels" ∷ decimal T.kernels ∷ []) ∷ e) (slice_index_or (map spelled (said_by T)) j [])) (take_map spelled j (said_by T))
-    ∙ (ap (λ (ws : List (List ℕ)). words_fault ((codes "semper" ∷ codes "trace" ∷ decimal T.version ∷ []) ∷ (codes "kernels" ∷ decimal T.kernels ∷ []) ∷ map spelled (take j (said_by T))) ws) (index_map spelled (said_by T) j End [] less) ∙ fine)
+    ap (λ (e : List (List (List ℕ))). words_fault ((codes "semper" ∷ codes "trace" ∷ decimal T.version ∷ []) ∷ (codes "kernels" ∷ decimal T.kernels ∷ []) ∷ e)
+    (slice_index_or (map spelled (said_by T)) j [])) (take_map spelled j (said_by T))
+    ∙ (ap (λ (ws : List (List ℕ)). words_fault ((codes "semper" ∷ codes "trace" ∷ decimal T.version ∷ []) ∷ (codes "kernels" ∷ decimal T.kernels ∷ [])
+    ∷ map spelled (take j (said_by T))) ws) (index_map spelled (said_by T) j End [] less) ∙ fine)
 
 -- the text is not refused
 none_first : (h : ℕ → Option TraceFault) (xs : List ℕ) → ((x : ℕ) → Contains xs x → h x ≡ None) → first_some h xs ≡ None
@@ -215,19 +242,26 @@ none_first h (x ∷ xs) fine = rw (fine x (here x xs)) (none_first h xs (λ y wi
 
 no_first : (lines : List (List ℕ)) → ((i : ℕ) → i < length lines → fault_at lines i ≡ None) → first_fault lines ≡ None
 unfolding first_fault numbers
-no_first lines fine = none_first (fault_at lines) (range_with_len 0 (length lines)) (λ i within. fine i (let r = in_range 0 (length lines) i within in omega arith))
+no_first lines fine = none_first (fault_at lines) (range_with_len 0 (length lines)) (λ i within. fine i (let r = in_range 0 (length lines) i within in
+    omega arith))
 
 no_missing : (lines : List (List ℕ)) → is_ended (declarations_of lines) ≡ true → end_fault lines ≡ None
 unfolding end_fault
 no_missing lines ended = rw ended refl
 
-not_refused : (bytes : List ℕ) (lines : List (List ℕ)) → length bytes ≤ 8388608 → lines_of bytes ≡ lines → first_fault lines ≡ None → end_fault lines ≡ None → refusal bytes ≡ None
+not_refused : (bytes : List ℕ) (lines : List (List ℕ)) → length bytes ≤ 8388608 → lines_of bytes ≡ lines → first_fault lines ≡ None → end_fault lines ≡ None →
+    refusal bytes ≡ None
 unfolding refusal
 not_refused bytes lines short are first last = rw (le-ltb _ _ short, are, first, last) refl
 
-behind_two : (lines : List (List ℕ)) (first second : List (List ℕ)) (rest : List (List (List ℕ))) → significant lines ≡ first ∷ second ∷ rest → (version_in first ≡ version_of lines) × (number_at second 1 ≡ kernels_of lines) × (map declaration rest ≡ declarations_of lines)
+behind_two : (lines : List (List ℕ)) (first second : List (List ℕ)) (rest : List (List (List ℕ))) → significant lines ≡ first ∷ second ∷ rest →
+    (version_in first ≡ version_of lines) × (number_at second 1 ≡ kernels_of lines) × (map declaration rest ≡ declarations_of lines)
 unfolding version_of kernels_of declarations_of
-behind_two lines first second rest is = (sym (ap (λ (s : List (List (List ℕ))). version_in (slice_index_or s 0 [])) is), sym (ap (λ (s : List (List (List ℕ))). number_at (slice_index_or s 1 []) 1) is), sym (ap (λ (s : List (List (List ℕ))). map declaration (drop 2 s)) is))
+behind_two lines first second rest is = (
+  sym (ap (λ (s : List (List (List ℕ))). version_in (slice_index_or s 0 [])) is),
+  sym (ap (λ (s : List (List (List ℕ))). number_at (slice_index_or s 1 []) 1) is),
+  sym (ap (λ (s : List (List (List ℕ))). map declaration (drop 2 s)) is),
+)
 
 ended : (T : Setup) → is_ended (said_by T) ≡ true
 unfolding is_ended
@@ -236,18 +270,28 @@ ended T = any_there is_end (said_by T) End (has_section T End 7 (omega arith) (h
 pub stands : (T : Setup) → IsSetup T → Stands (canonical T) T
 stands T fits =
     let good = good_line T fits in
-    let are : lines_of (canonical T) ≡ map bare (all_lines T) = ap (λ (ls : List (List (List ℕ))). lines_of (text ls)) (trace_is T fits) ∙ lines_printed (all_lines T) (all_plain (all_lines T) good) in
+    let are : lines_of (canonical T) ≡ map bare (all_lines T) = ap (λ (ls : List (List (List ℕ))). lines_of (text ls)) (trace_is T fits)
+    ∙ lines_printed (all_lines T) (all_plain (all_lines T) good) in
     let length_is : length (canonical T) ≡ length (text (all_lines T)) = ap (λ (ls : List (List (List ℕ))). length (text ls)) (trace_is T fits) in
     let few = few_lines T fits in
     let long = length-text (all_lines T) (all_in (λ (ws : List (List ℕ)). width ws ≤ 60) (all_lines T) (λ ws within. (good ws within).short.narrow)) in
     let short : length (canonical T) ≤ 8388608 = omega arith in
-    let two = behind_two (map bare (all_lines T)) (codes "semper" ∷ codes "trace" ∷ decimal T.version ∷ []) (codes "kernels" ∷ decimal T.kernels ∷ []) (map spelled (said_by T)) (all_said (all_lines T) good) in
-    let version : T.version ≡ version_of (lines_of (canonical T)) = sym (first_says T.version fits.versioned) ∙ (two.0 ∙ ap (λ (l : List (List ℕ)). version_of l) (sym are)) in
-    let kernels : T.kernels ≡ kernels_of (lines_of (canonical T)) = sym (second_says T.kernels (kernels_few T fits)) ∙ (two.1 ∙ ap (λ (l : List (List ℕ)). kernels_of l) (sym are)) in
+    let two = behind_two (map bare (all_lines T)) (codes "semper" ∷ codes "trace" ∷ decimal T.version ∷ []) (codes "kernels" ∷ decimal T.kernels ∷ [])
+    (map spelled (said_by T)) (all_said (all_lines T) good) in
+    let version : T.version ≡ version_of (lines_of (canonical T)) = sym (first_says T.version fits.versioned)
+    ∙ (two.0 ∙ ap (λ (l : List (List ℕ)). version_of l) (sym are)) in
+    let kernels : T.kernels ≡ kernels_of (lines_of (canonical T)) = sym (second_says T.kernels (kernels_few T fits))
+    ∙ (two.1 ∙ ap (λ (l : List (List ℕ)). kernels_of l) (sym are)) in
     let said : said_by T ≡ declarations_of (map bare (all_lines T)) = sym (says_all T fits (said_by T) (λ e within. within)) ∙ two.2 in
-    let first : first_fault (map bare (all_lines T)) ≡ None = no_first (map bare (all_lines T)) (λ i lt. no_fault (all_lines T) i (let l = length-map (all_lines T) bare in omega arith) good (words_fit T fits i (let l = length-map (all_lines T) bare in omega arith))) in
-    let last : end_fault (map bare (all_lines T)) ≡ None = no_missing (map bare (all_lines T)) (ap (λ (ds : List Declaration). is_ended ds) (sym said) ∙ ended T) in
+    let first : first_fault (map bare (all_lines T)) ≡ None =
+    no_first (map bare (all_lines T)) (λ i lt. no_fault (all_lines T) i (let l = length-map (all_lines T) bare in
+    omega arith) good (words_fit T fits i (let l = length-map (all_lines T) bare in omega arith))) in
+    let last : end_fault (map bare (all_lines T)) ≡ None = no_missing (map bare (all_lines T)) (ap (λ (ds : List Declaration). is_ended ds) (sym said)
+    ∙ ended T) in
     record {
       accepted = not_refused (canonical T) (map bare (all_lines T)) short are first last;
-      declared = same_whole T fits ∙ (ap (λ (v : ℕ). setup_of v T.kernels (said_by T)) version ∙ (ap (λ (k : ℕ). setup_of (version_of (lines_of (canonical T))) k (said_by T)) kernels ∙ ap (setup_of (version_of (lines_of (canonical T))) (kernels_of (lines_of (canonical T)))) (said ∙ ap (λ (l : List (List ℕ)). declarations_of l) (sym are))));
+      declared = same_whole T fits
+          ∙ (ap (λ (v : ℕ). setup_of v T.kernels (said_by T)) version ∙ (ap (λ (k : ℕ). setup_of (version_of (lines_of (canonical T))) k (said_by T)) kernels
+          ∙ ap (setup_of (version_of (lines_of (canonical T))) (kernels_of (lines_of (canonical T)))) (said
+          ∙ ap (λ (l : List (List ℕ)). declarations_of l) (sym are))));
     }

@@ -1,5 +1,6 @@
 -- A printed setup has few lines, and each of them is short and plain.
-use Rattle.std.proofs.Common.{◌≡◌, ℕ, suc, ◌+◌, ◌*◌, ◌<◌, ◌≤◌, ◌==◌, inl, inr, Bool, true, ◌&&◌, List, [], ◌∷◌, ◌++◌, length, map, Option, Some, None, refl, ap, sym, ◌∙◌, subst, arith, decimal, length-append, append_assoc}
+use Rattle.std.proofs.Common.{◌≡◌, ℕ, suc, ◌+◌, ◌*◌, ◌<◌, ◌≤◌, ◌==◌, inl, inr, Bool, true, ◌&&◌, List, [], ◌∷◌, ◌++◌, length, map, Option, Some, None, refl, ap}
+use Rattle.std.proofs.Common.{sym, ◌∙◌, subst, arith, decimal, length-append, append_assoc}
 use Rattle.std.specs.Prelude.{codes}
 use Rattle.std.specs.List.{All, Contains, filter_map, flat_map, enumerate_from, range_with_len, cons_option, sum_by}
 use Rattle.std.proofs.lemmas.Bool.{cases_Bool}
@@ -11,7 +12,8 @@ use Rattle.std.proofs.lemmas.List.Elements.{All-contains, All-head, All-tail}
 use Rattle.sem_key.specs.declared.object.Object.{Object}
 use Rattle.sem_key.specs.declared.object.Object.TheVariants.{Mem, Recv, Send, Serv, Sess}
 use Rattle.sem_msg.specs.declared.call.Call.{Call}
-use Rattle.sem_msg.specs.declared.call.Call.TheVariants.{Derive, Gate, Obtain, Delegate, OpenSession, AskOffer, Revoke, Bind, Read, Write, Send as SendCall, Credit, Exit, Clear}
+use Rattle.sem_msg.specs.declared.call.Call.TheVariants.{Derive, Gate, Obtain, Delegate, OpenSession, AskOffer, Revoke, Bind, Read, Write, Send as SendCall}
+use Rattle.sem_msg.specs.declared.call.Call.TheVariants.{Credit, Exit, Clear}
 use Rattle.sem_msg.specs.Calls.{IsValidCall}
 use Rattle.sem_msg.specs.declared.setup.Root.{Root}
 use Rattle.sem_msg.specs.declared.setup.Service.{Service as ServiceData}
@@ -21,7 +23,8 @@ use Rattle.sem_msg.specs.Setup.{Setup, IsSetup, IsRoot, IsRootObject, IsVpeDecl,
 use Rattle.sem_key.specs.declared.limits.TheConstants.{KERNELS, VPES}
 use Rattle.sem_msg.specs.Versions.{most_vpes}
 use Rattle.sem_trace.specs.declared.declaration.Declaration.{Declaration}
-use Rattle.sem_trace.specs.declared.declaration.Declaration.TheVariants.{Kernels, Window, Pe, Vpe, Memory, Receive, Service, Offer, Deny, Kill, Call as Calls, End}
+use Rattle.sem_trace.specs.declared.declaration.Declaration.TheVariants.{Kernels, Window, Pe, Vpe, Memory, Receive, Service, Offer, Deny, Kill, Call as Calls}
+use Rattle.sem_trace.specs.declared.declaration.Declaration.TheVariants.{End}
 use Rattle.sem_trace.specs.Words.{call_words}
 use Rattle.sem_trace.specs.TextLines.{is_significant}
 use Rattle.sem_trace.specs.TraceText.{pe_line, vpe_line, root_line_of, root_line, offer_line, deny_line, kill_line, window_lines, trace_lines}
@@ -49,7 +52,11 @@ none : IsShort 0 []
 none = record { plain = refl; narrow = omega arith }
 
 fixed : (w : List ℕ) (k n : ℕ) (ws : List (List ℕ)) → length w ≡ k → is_plain_word w ≡ true → IsShort n ws → IsShort (1 + k + n) (w ∷ ws)
-fixed w k n ws long plain rest = record { plain = both (is_plain_word w) (are_plain ws) plain rest.plain; narrow = let m : width ws ≤ n = rest.narrow in omega arith }
+fixed w k n ws long plain rest = record {
+  plain = both (is_plain_word w) (are_plain ws) plain rest.plain;
+  narrow = let m : width ws ≤ n = rest.narrow in
+      omega arith;
+}
 
 small : (x n : ℕ) (ws : List (List ℕ)) → x ≤ 255 → IsShort n ws → IsShort (4 + n) (decimal x ∷ ws)
 small x n ws low rest = record {
@@ -73,23 +80,30 @@ call_short version (Derive src dst off len rights) valid =
     let c : off ≤ 4294967295 = valid.2 in
     let d : len ≤ 4294967295 = valid.3 in
     let e : rights ≤ 7 = valid.4 in
-    wider _ 50 _ (omega arith) (fixed (codes "derive") 6 _ _ refl refl (small src _ _ (omega arith) (small dst _ _ (omega arith) (great off _ _ (omega arith) (great len _ _ (omega arith) (small rights _ _ (omega arith) none))))))
+    wider _ 50 _ (omega arith)
+    (fixed (codes "derive") 6 _ _ refl refl
+    (small src _ _ (omega arith)
+    (small dst _ _ (omega arith) (great off _ _ (omega arith) (great len _ _ (omega arith) (small rights _ _ (omega arith) none))))))
 call_short version (Gate src dst label credits) valid =
     let a : src < 256 = valid.0 in
     let b : dst < 256 = valid.1 in
     let c : label ≤ 4294967295 = valid.2 in
     let d : credits ≤ 64 = valid.4 in
-    wider _ 50 _ (omega arith) (fixed (codes "gate") 4 _ _ refl refl (small src _ _ (omega arith) (small dst _ _ (omega arith) (great label _ _ (omega arith) (small credits _ _ (omega arith) none)))))
+    wider _ 50 _ (omega arith)
+    (fixed (codes "gate") 4 _ _ refl refl
+    (small src _ _ (omega arith) (small dst _ _ (omega arith) (great label _ _ (omega arith) (small credits _ _ (omega arith) none)))))
 call_short version (Obtain dst vpe src) valid =
     let a : dst < 256 = valid.0 in
     let b : vpe < VPES = node_small version vpe valid.1 in
     let c : src < 256 = valid.2 in
-    wider _ 50 _ (omega arith) (fixed (codes "obtain") 6 _ _ refl refl (small dst _ _ (omega arith) (small vpe _ _ (omega arith) (small src _ _ (omega arith) none))))
+    wider _ 50 _ (omega arith)
+    (fixed (codes "obtain") 6 _ _ refl refl (small dst _ _ (omega arith) (small vpe _ _ (omega arith) (small src _ _ (omega arith) none))))
 call_short version (Delegate src vpe dst) valid =
     let a : src < 256 = valid.0 in
     let b : vpe < VPES = node_small version vpe valid.1 in
     let c : dst < 256 = valid.2 in
-    wider _ 50 _ (omega arith) (fixed (codes "delegate") 8 _ _ refl refl (small src _ _ (omega arith) (small vpe _ _ (omega arith) (small dst _ _ (omega arith) none))))
+    wider _ 50 _ (omega arith)
+    (fixed (codes "delegate") 8 _ _ refl refl (small src _ _ (omega arith) (small vpe _ _ (omega arith) (small dst _ _ (omega arith) none))))
 call_short version (OpenSession dst name) valid =
     let a : dst < 256 = valid.0 in
     let b : name ≤ 255 = valid.1 in
@@ -98,7 +112,8 @@ call_short version (AskOffer dst session index) valid =
     let a : dst < 256 = valid.0 in
     let b : session < 256 = valid.1 in
     let c : index ≤ 255 = valid.2 in
-    wider _ 50 _ (omega arith) (fixed (codes "ask") 3 _ _ refl refl (small dst _ _ (omega arith) (small session _ _ (omega arith) (small index _ _ (omega arith) none))))
+    wider _ 50 _ (omega arith)
+    (fixed (codes "ask") 3 _ _ refl refl (small dst _ _ (omega arith) (small session _ _ (omega arith) (small index _ _ (omega arith) none))))
 call_short version (Revoke src) valid =
     let a : src < 256 = valid in
     wider _ 50 _ (omega arith) (fixed (codes "revoke") 6 _ _ refl refl (small src _ _ (omega arith) none))
@@ -110,12 +125,14 @@ call_short version (Read ep off len) valid =
     let a : ep < 16 = valid.0 in
     let b : off ≤ 4294967295 = valid.1 in
     let c : len ≤ 4294967295 = valid.2 in
-    wider _ 50 _ (omega arith) (fixed (codes "read") 4 _ _ refl refl (small ep _ _ (omega arith) (great off _ _ (omega arith) (great len _ _ (omega arith) none))))
+    wider _ 50 _ (omega arith)
+    (fixed (codes "read") 4 _ _ refl refl (small ep _ _ (omega arith) (great off _ _ (omega arith) (great len _ _ (omega arith) none))))
 call_short version (Write ep off len) valid =
     let a : ep < 16 = valid.0 in
     let b : off ≤ 4294967295 = valid.1 in
     let c : len ≤ 4294967295 = valid.2 in
-    wider _ 50 _ (omega arith) (fixed (codes "write") 5 _ _ refl refl (small ep _ _ (omega arith) (great off _ _ (omega arith) (great len _ _ (omega arith) none))))
+    wider _ 50 _ (omega arith)
+    (fixed (codes "write") 5 _ _ refl refl (small ep _ _ (omega arith) (great off _ _ (omega arith) (great len _ _ (omega arith) none))))
 call_short version (SendCall ep len) valid =
     let a : ep < 16 = valid.0 in
     let b : len ≤ 4294967295 = valid.1 in
@@ -148,17 +165,24 @@ line_short version k (Memory v s b l g) few ranges said =
     let d : b ≤ 4294967295 = ranges.2 in
     let e : l ≤ 4294967295 = ranges.3 in
     let f : g ≤ 7 = ranges.4 in
-    wider _ 60 _ (omega arith) (fixed (codes "root") 4 _ _ refl refl (small v _ _ (omega arith) (small s _ _ (omega arith) (fixed (codes "mem") 3 _ _ refl refl (great b _ _ (omega arith) (great l _ _ (omega arith) (small g _ _ (omega arith) none)))))))
+    wider _ 60 _ (omega arith)
+    (fixed (codes "root") 4 _ _ refl refl
+    (small v _ _ (omega arith)
+    (small s _ _ (omega arith)
+    (fixed (codes "mem") 3 _ _ refl refl (great b _ _ (omega arith) (great l _ _ (omega arith) (small g _ _ (omega arith) none)))))))
 line_short version k (Receive v s n) few ranges said =
     let a : v < VPES = node_small version v ranges.0 in
     let c : s < 256 = ranges.1 in
     let d : n ≤ 64 = ranges.3 in
-    wider _ 60 _ (omega arith) (fixed (codes "root") 4 _ _ refl refl (small v _ _ (omega arith) (small s _ _ (omega arith) (fixed (codes "recv") 4 _ _ refl refl (small n _ _ (omega arith) none)))))
+    wider _ 60 _ (omega arith)
+    (fixed (codes "root") 4 _ _ refl refl
+    (small v _ _ (omega arith) (small s _ _ (omega arith) (fixed (codes "recv") 4 _ _ refl refl (small n _ _ (omega arith) none)))))
 line_short version k (Service v s n) few ranges said =
     let a : v < VPES = node_small version v ranges.0 in
     let c : s < 256 = ranges.1 in
     let d : n ≤ 255 = ranges.2 in
-    wider _ 60 _ (omega arith) (fixed (codes "service") 7 _ _ refl refl (small v _ _ (omega arith) (small s _ _ (omega arith) (small n _ _ (omega arith) none))))
+    wider _ 60 _ (omega arith)
+    (fixed (codes "service") 7 _ _ refl refl (small v _ _ (omega arith) (small s _ _ (omega arith) (small n _ _ (omega arith) none))))
 line_short version k (Offer n i s) few ranges said =
     let a : n ≤ 255 = ranges.0 in
     let c : i ≤ 255 = ranges.1 in
@@ -237,9 +261,12 @@ roots_of_one : (v : ℕ) (rs : List Root) → All IsRoot rs → map spelled (map
 roots_of_one v [] all = refl
 roots_of_one v (r ∷ rs) all = rw (root_spelled v r.sel r.object (All-head IsRoot r rs all).kind, roots_of_one v rs (All-tail IsRoot r rs all)) refl
 
-roots_spelled : (vs : List VpeDecl) → ((d : VpeDecl) → Contains vs d → All IsRoot d.roots) → map spelled (flat_map (λ (d : VpeDecl). map (root_decl d.vpe) d.roots) vs) ≡ flat_map (λ (d : VpeDecl). map (root_line d.vpe) d.roots) vs
+roots_spelled : (vs : List VpeDecl) → ((d : VpeDecl) → Contains vs d → All IsRoot d.roots) →
+    map spelled (flat_map (λ (d : VpeDecl). map (root_decl d.vpe) d.roots) vs) ≡ flat_map (λ (d : VpeDecl). map (root_line d.vpe) d.roots) vs
 roots_spelled [] all = refl
-roots_spelled (v ∷ vs) all = join (map (root_decl v.vpe) v.roots) (flat_map (λ (d : VpeDecl). map (root_decl d.vpe) d.roots) vs) (map (root_line v.vpe) v.roots) (flat_map (λ (d : VpeDecl). map (root_line d.vpe) d.roots) vs) (roots_of_one v.vpe v.roots (all v (here v vs))) (roots_spelled vs (λ d within. all d (there v vs d within)))
+roots_spelled (v ∷ vs) all = join (map (root_decl v.vpe) v.roots) (flat_map (λ (d : VpeDecl). map (root_decl d.vpe) d.roots) vs) (map (root_line v.vpe) v.roots)
+    (flat_map (λ (d : VpeDecl). map (root_line d.vpe) d.roots) vs) (roots_of_one v.vpe v.roots (all v (here v vs)))
+    (roots_spelled vs (λ d within. all d (there v vs d within)))
 
 offers_spelled : (os : List OfferData) → map spelled (map offer_decl os) ≡ map offer_line os
 offers_spelled [] = refl
@@ -257,11 +284,16 @@ calls_of_one : (v : ℕ) (cs : List Call) → map spelled (map (Calls v) cs) ≡
 calls_of_one v [] = refl
 calls_of_one v (c ∷ cs) = ap (λ zs. (codes "call" ∷ decimal v ∷ call_words c) ∷ zs) (calls_of_one v cs)
 
-calls_spelled : (vs : List VpeDecl) → map spelled (flat_map (λ (d : VpeDecl). map (Calls d.vpe) d.calls) vs) ≡ flat_map (λ (d : VpeDecl). map (λ (c : Call). codes "call" ∷ decimal d.vpe ∷ call_words c) d.calls) vs
+calls_spelled : (vs : List VpeDecl) →
+    map spelled (flat_map (λ (d : VpeDecl). map (Calls d.vpe) d.calls) vs)
+    ≡ flat_map (λ (d : VpeDecl). map (λ (c : Call). codes "call" ∷ decimal d.vpe ∷ call_words c) d.calls) vs
 calls_spelled [] = refl
-calls_spelled (v ∷ vs) = join (map (Calls v.vpe) v.calls) (flat_map (λ (d : VpeDecl). map (Calls d.vpe) d.calls) vs) (map (λ (c : Call). codes "call" ∷ decimal v.vpe ∷ call_words c) v.calls) (flat_map (λ (d : VpeDecl). map (λ (c : Call). codes "call" ∷ decimal d.vpe ∷ call_words c) d.calls) vs) (calls_of_one v.vpe v.calls) (calls_spelled vs)
+calls_spelled (v ∷ vs) = join (map (Calls v.vpe) v.calls) (flat_map (λ (d : VpeDecl). map (Calls d.vpe) d.calls) vs)
+    (map (λ (c : Call). codes "call" ∷ decimal v.vpe ∷ call_words c) v.calls)
+    (flat_map (λ (d : VpeDecl). map (λ (c : Call). codes "call" ∷ decimal d.vpe ∷ call_words c) d.calls) vs) (calls_of_one v.vpe v.calls) (calls_spelled vs)
 
-said_nested : (T : Setup) → said_by T ≡ section T 0 ++ (section T 1 ++ (section T 2 ++ (section T 3 ++ (section T 4 ++ (section T 5 ++ (section T 6 ++ End ∷ []))))))
+said_nested : (T : Setup) →
+    said_by T ≡ section T 0 ++ (section T 1 ++ (section T 2 ++ (section T 3 ++ (section T 4 ++ (section T 5 ++ (section T 6 ++ End ∷ []))))))
 unfolding said_by
 said_nested T = refl
 
@@ -271,7 +303,10 @@ all_eight a b c d e f g h = rw (append_assoc, append_assoc, append_assoc, append
 said_flat : (T : Setup) → said_by T ≡ section T 0 ++ section T 1 ++ section T 2 ++ section T 3 ++ section T 4 ++ section T 5 ++ section T 6 ++ End ∷ []
 said_flat T = said_nested T ∙ all_eight (section T 0) (section T 1) (section T 2) (section T 3) (section T 4) (section T 5) (section T 6) (End ∷ [])
 
-sections_spelled : (T : Setup) → IsSetup T → map spelled (said_by T) ≡ window_lines T ++ flat_map pe_line (enumerate_from 0 T.owners.owners) ++ map vpe_line T.vpes ++ flat_map (λ (d : VpeDecl). map (root_line d.vpe) d.roots) T.vpes ++ map offer_line T.offers ++ map deny_line T.denies ++ map kill_line T.kills ++ flat_map (λ (d : VpeDecl). map (λ (c : Call). codes "call" ∷ decimal d.vpe ∷ call_words c) d.calls) T.vpes ++ (codes "end" ∷ []) ∷ []
+sections_spelled : (T : Setup) → IsSetup T → map spelled (said_by T) ≡ window_lines T ++ flat_map pe_line (enumerate_from 0 T.owners.owners)
+    ++ map vpe_line T.vpes ++ flat_map (λ (d : VpeDecl). map (root_line d.vpe) d.roots) T.vpes ++ map offer_line T.offers ++ map deny_line T.denies
+    ++ map kill_line T.kills ++ flat_map (λ (d : VpeDecl). map (λ (c : Call). codes "call" ∷ decimal d.vpe ∷ call_words c) d.calls) T.vpes
+    ++ (codes "end" ∷ []) ∷ []
 sections_spelled T fits =
     ap (λ (ds : List Declaration). map spelled ds) (said_flat T)
     ∙ join _ (End ∷ []) _ _
@@ -280,7 +315,8 @@ sections_spelled T fits =
     (join _ (section T 4) _ _
     (join _ (section T 3) _ _
     (join _ (section T 2) _ _
-    (join (section T 0) (section T 1) _ _ (join (window_decls T) (all_pes T) _ _ (window_spelled T) (pes_spelled (enumerate_from 0 T.owners.owners))) (vpes_spelled T.vpes))
+    (join (section T 0) (section T 1) _ _ (join (window_decls T) (all_pes T) _ _ (window_spelled T) (pes_spelled (enumerate_from 0 T.owners.owners)))
+    (vpes_spelled T.vpes))
     (roots_spelled T.vpes (λ d within. (All-contains (IsVpeDecl T) T.vpes d fits.vpes within).roots)))
     (offers_spelled T.offers))
     (denies_spelled T.denies))
@@ -289,7 +325,8 @@ sections_spelled T fits =
     refl
 
 pub trace_is : (T : Setup) → IsSetup T → trace_lines T ≡ all_lines T
-trace_is T fits = ap (λ (rest : List (List (List ℕ))). (codes "semper" ∷ codes "trace" ∷ decimal T.version ∷ []) ∷ (codes "kernels" ∷ decimal T.kernels ∷ []) ∷ rest) (sym (sections_spelled T fits))
+trace_is T fits = ap (λ (rest : List (List (List ℕ))). (codes "semper" ∷ codes "trace" ∷ decimal T.version ∷ []) ∷ (codes "kernels" ∷ decimal T.kernels ∷ [])
+    ∷ rest) (sym (sections_spelled T fits))
 
 -- how many lines there are
 cons_few : {Y : Type 0} (o : Option Y) (ys : List Y) (n : ℕ) → length ys ≤ n → length (cons_option o ys) ≤ suc n
@@ -336,15 +373,18 @@ few_vpes T fits =
 few_services : (T : Setup) → IsSetup T → length T.services ≤ 256
 unfolding services_of numbers
 few_services T fits =
-    let same : length T.services ≡ length (filter_map (named (services_among T.vpes)) (range_with_len 0 256)) = ap (λ (xs : List ServiceData). length xs) (same_services T fits) in
+    let same : length T.services ≡ length (filter_map (named (services_among T.vpes)) (range_with_len 0 256)) =
+    ap (λ (xs : List ServiceData). length xs) (same_services T fits) in
     let few = filter_few (named (services_among T.vpes)) (range_with_len 0 256) in
     omega (arith, length-range_with_len 0 256)
 
 few_offers : (T : Setup) → IsSetup T → length T.offers ≤ 65536
 unfolding offers_of numbers
 few_offers T fits =
-    let same : length T.offers ≡ length (flat_map (λ (s : ServiceData). filter_map (offer_of (said_by T) s.name) (range_with_len 0 256)) T.services) = ap (λ (xs : List OfferData). length xs) (same_offers T fits) in
-    let few = joined_256 (λ (s : ServiceData). filter_map (offer_of (said_by T) s.name) (range_with_len 0 256)) T.services (λ s within. let each = filter_few (offer_of (said_by T) s.name) (range_with_len 0 256) in omega (arith, length-range_with_len 0 256)) in
+    let same : length T.offers ≡ length (flat_map (λ (s : ServiceData). filter_map (offer_of (said_by T) s.name) (range_with_len 0 256)) T.services) =
+    ap (λ (xs : List OfferData). length xs) (same_offers T fits) in
+    let few = joined_256 (λ (s : ServiceData). filter_map (offer_of (said_by T) s.name) (range_with_len 0 256)) T.services (λ s within. let each =
+    filter_few (offer_of (said_by T) s.name) (range_with_len 0 256) in omega (arith, length-range_with_len 0 256)) in
     let services = few_services T fits in
     omega arith
 
@@ -352,8 +392,10 @@ few_denies : (T : Setup) → IsSetup T → length T.denies ≤ 16384
 unfolding denies_of
 few_denies T fits =
     let vpes = few_vpes T fits in
-    let same : length T.denies ≡ length (flat_map (λ (d : VpeDecl). filter_map (λ (e : VpeDecl). deny_of (said_by T) d.vpe e.vpe) T.vpes) T.vpes) = ap (λ (xs : List (ℕ × ℕ)). length xs) (same_denies T fits) in
-    let few = joined_128 (λ (d : VpeDecl). filter_map (λ (e : VpeDecl). deny_of (said_by T) d.vpe e.vpe) T.vpes) T.vpes (λ d within. let each = filter_few (λ (e : VpeDecl). deny_of (said_by T) d.vpe e.vpe) T.vpes in omega arith) in
+    let same : length T.denies ≡ length (flat_map (λ (d : VpeDecl). filter_map (λ (e : VpeDecl). deny_of (said_by T) d.vpe e.vpe) T.vpes) T.vpes) =
+    ap (λ (xs : List (ℕ × ℕ)). length xs) (same_denies T fits) in
+    let few = joined_128 (λ (d : VpeDecl). filter_map (λ (e : VpeDecl). deny_of (said_by T) d.vpe e.vpe) T.vpes) T.vpes (λ d within. let each =
+    filter_few (λ (e : VpeDecl). deny_of (said_by T) d.vpe e.vpe) T.vpes in omega arith) in
     omega arith
 
 few_kills : (T : Setup) → IsSetup T → length T.kills ≤ 128
@@ -375,14 +417,22 @@ many_roots T fits =
 
 calls_number : (vs : List VpeDecl) → length (flat_map (λ (d : VpeDecl). map (Calls d.vpe) d.calls) vs) ≡ sum_by (λ (d : VpeDecl). length d.calls) vs
 calls_number [] = refl
-calls_number (v ∷ vs) = rw (sum_by-cons (λ (d : VpeDecl). length d.calls) v vs, ← calls_number vs) (omega (arith, length-append (map (Calls v.vpe) v.calls) (flat_map (λ (d : VpeDecl). map (Calls d.vpe) d.calls) vs), length-map v.calls (Calls v.vpe)))
+calls_number (v ∷ vs) = rw (
+  sum_by-cons (λ (d : VpeDecl). length d.calls) v vs,
+  ← calls_number vs,
+) (omega (
+  arith,
+  length-append (map (Calls v.vpe) v.calls) (flat_map (λ (d : VpeDecl). map (Calls d.vpe) d.calls) vs),
+  length-map v.calls (Calls v.vpe),
+))
 
 append_few : {X : Type 0} (xs ys : List X) (m n : ℕ) → length xs ≤ m → length ys ≤ n → length (xs ++ ys) ≤ m + n
 append_few xs ys m n few more = omega (arith, length-append xs ys)
 
 few_said : (T : Setup) → IsSetup T → length (said_by T) ≤ 129 + (128 + (32768 + (65536 + (16384 + (128 + (20000 + 1))))))
 few_said T fits =
-    let pes : length (section T 0) ≤ 129 = let long = fits.membership.all_pes in let few = few_pes 0 T.owners.owners in let one = few_windows T in omega (arith, length-append (window_decls T) (all_pes T)) in
+    let pes : length (section T 0) ≤ 129 = let long = fits.membership.all_pes in let few = few_pes 0 T.owners.owners in let one = few_windows T in
+    omega (arith, length-append (window_decls T) (all_pes T)) in
     let vpes : length (section T 1) ≤ 128 = let few = few_vpes T fits in omega (arith, length-map T.vpes vpe_decl) in
     let offers : length (section T 3) ≤ 65536 = let few = few_offers T fits in omega (arith, length-map T.offers offer_decl) in
     let denies : length (section T 4) ≤ 16384 = let few = few_denies T fits in omega (arith, length-map T.denies deny_decl) in

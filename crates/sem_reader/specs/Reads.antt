@@ -1,5 +1,6 @@
 -- What the reader keeps of the lines so far that say something, each as its words.
-use Rattle.std.specs.Prelude.{◌≡◌, ℕ, ◌+◌, ◌≤◌, Bool, true, false, List, [], ◌∷◌, ◌++◌, length, map, None, Some, if◌then◌else◌}
+use Rattle.std.specs.Prelude.{◌≡◌, ℕ, ◌+◌, ◌≤◌, Bool, true, false, List, [], ◌∷◌, ◌++◌, length, map, None, Some}
+use Rattle.std.specs.Prelude.{if◌then◌else◌}
 use Rattle.sem_trace.specs.declared.fault.Cause.{Cause}
 use Rattle.sem_trace.specs.declared.fault.TraceError.{TraceError}
 use Rattle.sem_trace.specs.declared.fault.TraceError.TheVariants.{Refused as RefusedText, Memory as NoMemory}
@@ -15,7 +16,8 @@ use Rattle.sem_reader.specs.declared.reader.Reader.{Reader}
 use Rattle.sem_reader.specs.declared.tables.Tables.{Tables}
 use Rattle.sem_reader.specs.Tells.{Tells, HasSizes}
 
--- behind the second line: whether the third line of version 2 comes next, and whether the last line was read
+-- after the second line: whether the third line of version 2 comes next, and whether the last line
+-- was read
 pub record IsOpened (lines : List (List (List ℕ))) (t : Tables) (third ended : Bool) : Type 0 where
   pub first : List (List ℕ)
   pub second : List (List ℕ)
@@ -32,27 +34,29 @@ IsReadTo Counted lines t = IsOpened lines t true false
 IsReadTo Open lines t = IsOpened lines t false false
 IsReadTo Ended lines t = IsOpened lines t false true
 
--- the reader has read these lines, and nothing was wrong with any
+-- the reader has read these lines and found nothing wrong with any
 abbrev pub IsRead : List (List (List ℕ)) → Reader → Type 0
 IsRead lines r = IsReadTo r.stage lines r.tables
 
 -- nothing is wrong with a line of these words, and the reader has read it too
 abbrev pub Accepts : List (List ℕ) → Reader → Reader → Type 0
-Accepts words old new = (lines : List (List (List ℕ))) → IsRead lines old → (words_fault lines words ≡ None) × IsRead (lines ++ words ∷ []) new
+Accepts words old new = (lines : List (List (List ℕ))) → IsRead lines old →
+    (words_fault lines words ≡ None) × IsRead (lines ++ words ∷ []) new
 
--- that is wrong with a line of these words
+-- the cause is what is wrong with a line of these words
 abbrev pub Refuses : List (List ℕ) → Reader → Cause → Type 0
 Refuses words old cause = (lines : List (List (List ℕ))) → IsRead lines old → words_fault lines words ≡ Some cause
 
--- the lines with one more, if it says something
+-- the lines, and the line too, if it says something
 abbrev pub with_line : List (List (List ℕ)) → List ℕ → List (List (List ℕ))
 with_line lines line = if is_significant (words_of line) then lines ++ words_of line ∷ [] else lines
 
--- the same of a line that may say nothing
+-- the same for a line that may say nothing
 abbrev pub AcceptsLine : List ℕ → Reader → Reader → Type 0
-AcceptsLine line old new = (lines : List (List (List ℕ))) → IsRead lines old → (line_fault lines line ≡ None) × IsRead (with_line lines line) new
+AcceptsLine line old new = (lines : List (List (List ℕ))) → IsRead lines old →
+    (line_fault lines line ≡ None) × IsRead (with_line lines line) new
 
--- why a line is not read: what is wrong with it, or memory is wanted
+-- why a line is not read: what is wrong with it, or memory was refused
 abbrev pub Stops : (Cause → Type 0) → LineError → Type 0
 Stops refuses (Refused cause) = refuses cause
 Stops refuses Memory = Unit {0}
@@ -60,7 +64,7 @@ Stops refuses Memory = Unit {0}
 abbrev pub RefusesLine : List ℕ → Reader → Cause → Type 0
 RefusesLine line old cause = (lines : List (List (List ℕ))) → IsRead lines old → line_fault lines line ≡ Some cause
 
--- The lines of a text are read but for those that are left, and nothing was wrong with any of them.
+-- All lines of a text but those that are left are read, and nothing was wrong with any of them.
 pub record IsReadUpTo (bytes : List ℕ) (left : List (List ℕ)) (number : ℕ) (r : Reader) : Type 0 where
   pub before : List (List ℕ)
   pub lines : lines_of bytes ≡ before ++ left
@@ -70,7 +74,7 @@ pub record IsReadUpTo (bytes : List ℕ) (left : List (List ℕ)) (number : ℕ)
   pub sizes : HasSizes r.tables
   pub room : number + length left ≤ length bytes
 
--- why a text is not read, where that line of it is not
+-- why a text is not read, if that line of it is not
 abbrev pub at_line : ℕ → LineError → TraceError
 at_line line (Refused cause) = RefusedText (record { line = line; cause = cause })
 at_line line Memory = NoMemory

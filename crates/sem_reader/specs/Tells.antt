@@ -2,24 +2,25 @@
 use Rattle.std.specs.Prelude.{◌≡◌, ℕ, ◌<◌, ◌≤◌, ◌⊎◌, false, List, [], length, None, slice_index_or}
 use Rattle.indexmap.specs.IndexMap.{get}
 use Rattle.indexmap.specs.IndexSet.{contains}
-use Rattle.sem_key.specs.declared.limits.TheConstants.{PES, VPES}
+use Rattle.sem_msg.specs.Prelude.{PES, VPES}
 use Rattle.sem_key.specs.MembershipTable.{owner_at}
 use Rattle.sem_msg.specs.declared.limits.TheConstants.{SELECTORS}
 use Rattle.sem_msg.specs.declared.setup.VpeDecl.{VpeDecl}
 use Rattle.sem_msg.specs.Versions.{most_kernels}
 use Rattle.sem_trace.specs.declared.declaration.Declaration.{Declaration}
-use Rattle.sem_trace.specs.Earlier.{window_in, owner_in, pe_in, is_taken, roots_in, calls_in, has_service, offer_in, is_denied, kill_in, call_number}
+use Rattle.sem_trace.specs.Earlier.{window_in, owner_in, pe_in, is_taken, roots_in, calls_in, has_service, offer_in}
+use Rattle.sem_trace.specs.Earlier.{is_denied, kill_in, call_number}
 use Rattle.sem_reader.specs.declared.tables.Tables.{Tables}
 use Rattle.sem_reader.specs.Pairs.{is_same_pair}
 use Rattle.sem_reader.specs.Accepted.{AreAccepted}
 
--- each table is as long as there are numbers
+-- each table has a place for each number
 pub record HasSizes (t : Tables) : Type 0 where
   pub owners : length t.owners.owners ≡ PES
   pub roots : length t.roots.items ≡ VPES
   pub calls : length t.calls.items ≡ VPES
 
--- the tables tell what so many kernels and these lines declare, in a text of that version
+-- the tables tell what that many kernels and these lines declare, in a text of that version
 pub record Tells (version kernels : ℕ) (ds : List Declaration) (t : Tables) : Type 0 where
   pub versions : (version ≡ 1) ⊎ (version ≡ 2)
   pub some : 1 ≤ kernels
@@ -47,7 +48,7 @@ pub record IsTold (t : Tables) : Type 0 where
   pub ds : List Declaration
   pub tells : Tells version kernels ds t
 
--- the numbers of a VPE are in range, and it holds no more than there are selectors
+-- the numbers of a VPE are in range, and it has no more roots than selectors
 pub record IsPlainVpe (d : VpeDecl) : Type 0 where
   pub vpe : d.vpe < VPES
   pub pe : d.pe < VPES

@@ -1,9 +1,12 @@
-// What is wrong with a line because of the lines before it.
+// What earlier lines make wrong with a line.
 ghost use Rattle.std.specs.Prelude.{◌≡◌, ℕ, ◌<◌, ◌≤◌, List, is_none};
 ghost use Rattle.sem_key.specs.declared.limits.TheConstants.{VPES};
 ghost use Rattle.sem_trace.specs.declared.declaration.Declaration.{Declaration as DeclarationData};
 ghost use Rattle.sem_trace.specs.Earlier.{pe_in, roots_in, holds_at};
-ghost use Rattle.sem_trace.specs.Context.{is_too_long as is_too_long_lem, is_undeclared as is_undeclared_lem, is_twice as is_twice_lem, is_call_too_many as is_call_too_many_lem, context_fault};
+ghost use Rattle.sem_trace.specs.Context.{is_too_long as is_too_long_lem};
+ghost use Rattle.sem_trace.specs.Context.{is_undeclared as is_undeclared_lem};
+ghost use Rattle.sem_trace.specs.Context.{is_twice as is_twice_lem};
+ghost use Rattle.sem_trace.specs.Context.{is_call_too_many as is_call_too_many_lem, context_fault};
 ghost use Rattle.sem_trace.specs.Ranges.{IsInRange};
 ghost use Rattle.sem_reader.specs.Tells.{Tells, HasSizes};
 
@@ -21,7 +24,7 @@ fn holds(roots: &[Root], sel: u8) -> bool
     roots.iter().any(|root| root.sel == sel)
 }
 
-// Whether it is memory that ends past 2 ^ 32.
+// Whether the line declares memory that ends past 2 ^ 32.
 fn is_too_long(d: &Declaration) -> bool
     ensures { result ≡ is_too_long_lem d.now }
 {
@@ -35,7 +38,8 @@ impl Tables {
     // Whether no line declares the VPE.
     fn is_unknown(&self, vpe: u16) -> bool
         requires { vpe < VPES }
-        ensures { (version kernels : ℕ) (ds : List DeclarationData) → Tells version kernels ds self.now → result ≡ is_none (pe_in ds vpe) }
+        ensures { (version kernels : ℕ) (ds : List DeclarationData) →
+            Tells version kernels ds self.now → result ≡ is_none (pe_in ds vpe) }
     {
         self.pes[usize::from(vpe)].is_none()
     }
@@ -44,15 +48,17 @@ impl Tables {
     fn holds_at(&self, vpe: u16, sel: u8) -> bool
         requires vpe { vpe < VPES }
         requires sizes { HasSizes self.now }
-        ensures { (version kernels : ℕ) (ds : List DeclarationData) → Tells version kernels ds self.now → result ≡ holds_at (roots_in ds vpe) sel }
+        ensures { (version kernels : ℕ) (ds : List DeclarationData) →
+            Tells version kernels ds self.now → result ≡ holds_at (roots_in ds vpe) sel }
     {
         holds(self.roots[usize::from(vpe)].as_slice(), sel)
     }
 
-    // Whether the line speaks of what no line declares.
+    // Whether the line names something that no line declares.
     fn is_undeclared(&self, d: &Declaration) -> bool
         requires { IsInRange self.now.version self.now.owners.kernels d.now }
-        ensures { (version kernels : ℕ) (ds : List DeclarationData) → Tells version kernels ds self.now → result ≡ is_undeclared_lem ds d.now }
+        ensures { (version kernels : ℕ) (ds : List DeclarationData) →
+            Tells version kernels ds self.now → result ≡ is_undeclared_lem ds d.now }
     {
         match *d {
             Declaration::Kernels { .. }
@@ -70,11 +76,12 @@ impl Tables {
         }
     }
 
-    // Whether a line says that already.
+    // Whether an earlier line says that already.
     fn is_twice(&self, d: &Declaration) -> bool
         requires range { IsInRange self.now.version self.now.owners.kernels d.now }
         requires sizes { HasSizes self.now }
-        ensures { (version kernels : ℕ) (ds : List DeclarationData) → Tells version kernels ds self.now → result ≡ is_twice_lem ds d.now }
+        ensures { (version kernels : ℕ) (ds : List DeclarationData) →
+            Tells version kernels ds self.now → result ≡ is_twice_lem ds d.now }
     {
         match *d {
             Declaration::Kernels { .. } => true,
@@ -96,9 +103,10 @@ impl Tables {
         }
     }
 
-    // Whether it is one call more than there may be.
+    // Whether it is one call too many.
     fn is_call_too_many(&self, d: &Declaration) -> bool
-        ensures { (version kernels : ℕ) (ds : List DeclarationData) → Tells version kernels ds self.now → result ≡ is_call_too_many_lem ds d.now }
+        ensures { (version kernels : ℕ) (ds : List DeclarationData) →
+            Tells version kernels ds self.now → result ≡ is_call_too_many_lem ds d.now }
     {
         match d {
             Declaration::Call { .. } => self.call_number >= MOST_CALLS,
@@ -106,12 +114,13 @@ impl Tables {
         }
     }
 
-    /// What is wrong with the line because of the lines so far. Takes no memory.
+    /// What earlier lines make wrong with the line. Takes no memory.
     #[tactic(auto, unfolding(sem_trace::specs::Context::context_fault))]
     pub(crate) fn fault(&self, d: &Declaration) -> Option<Cause>
         requires range { IsInRange self.now.version self.now.owners.kernels d.now }
         requires sizes { HasSizes self.now }
-        ensures { (version kernels : ℕ) (ds : List DeclarationData) → Tells version kernels ds self.now → result ≡ context_fault ds d.now }
+        ensures { (version kernels : ℕ) (ds : List DeclarationData) →
+            Tells version kernels ds self.now → result ≡ context_fault ds d.now }
     {
         if is_too_long(d) {
             Some(Cause::OutOfRange)

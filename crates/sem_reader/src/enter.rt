@@ -1,5 +1,6 @@
-// A line that is accepted is entered into the tables.
-ghost use Rattle.std.specs.Prelude.{◌≡◌, ℕ, ◌<◌, ◌≤◌, Some, List, [], ◌∷◌, ◌++◌, ◌+◌, ◌*◌, true, None, length, slice_index_or, slice_set, OnOk};
+// Enters an accepted line into the tables.
+ghost use Rattle.std.specs.Prelude.{◌≡◌, ℕ, ◌<◌, ◌≤◌, Some, List, [], ◌∷◌, ◌++◌, ◌+◌, ◌*◌, true};
+ghost use Rattle.std.specs.Prelude.{None, length, slice_index_or, slice_set, OnOk};
 ghost use Rattle.sem_key.specs.declared.limits.TheConstants.{VPES};
 ghost use Rattle.sem_trace.specs.declared.declaration.Declaration.{Declaration as DeclarationData};
 ghost use Rattle.sem_trace.specs.Context.{context_fault};
@@ -18,7 +19,9 @@ use sem_trace::Declaration;
 // Appends a root to those of the VPE.
 fn push_root(lists: &mut Vec<Roots>, vpe: u16, sel: u8, object: Object) -> Result<(), OutOfMemory>
     requires { vpe < length lists.old.items }
-    ensures ok { OnOk result (lists.new.items ≡ slice_set lists.old.items vpe (slice_index_or lists.old.items vpe [] ++ record { sel = sel; object = object } ∷ [])) }
+    ensures ok { OnOk result (lists.new.items
+        ≡ slice_set lists.old.items vpe (slice_index_or lists.old.items vpe []
+        ++ record { sel = sel; object = object } ∷ [])) }
 {
     lists[usize::from(vpe)].push(Root { sel, object })
 }
@@ -26,7 +29,8 @@ fn push_root(lists: &mut Vec<Roots>, vpe: u16, sel: u8, object: Object) -> Resul
 // Appends a call to those of the VPE.
 fn push_call(lists: &mut Vec<Calls>, vpe: u16, call: Call) -> Result<(), OutOfMemory>
     requires { vpe < length lists.old.items }
-    ensures ok { OnOk result (lists.new.items ≡ slice_set lists.old.items vpe (slice_index_or lists.old.items vpe [] ++ call ∷ [])) }
+    ensures ok { OnOk result (lists.new.items
+        ≡ slice_set lists.old.items vpe (slice_index_or lists.old.items vpe [] ++ call ∷ [])) }
 {
     lists[usize::from(vpe)].push(call)
 }
@@ -38,7 +42,10 @@ fn put_offer(
     index: u8,
     sel: u8,
 ) -> Result<(), OutOfMemory>
-    ensures ok { OnOk result (map.Updates is_same_pair offers.old offers.new (name, index) (Some sel)) }
+    ensures ok { OnOk result (map.Updates is_same_pair offers.old offers.new (
+      name,
+      index,
+    ) (Some sel)) }
 {
     offers.insert((name, index), sel)?;
     Ok(())
@@ -53,12 +60,14 @@ fn put_deny(denied: &mut IndexSet<(u16, u16)>, vpe: u16, asker: u16) -> Result<(
 }
 
 impl Tables {
-    /// Enters what a line says with which nothing is wrong.
+    /// Enters what a line says; nothing may be wrong with it.
     pub(crate) fn enter(&mut self, d: Declaration) -> Result<(), OutOfMemory>
         requires range { IsInRange self.old.version self.old.owners.kernels d }
         requires sizes { HasSizes self.old }
         requires few { self.old.call_number ≤ 20000 }
-        ensures ok { OnOk result ((version kernels : ℕ) (ds : List DeclarationData) → Tells version kernels ds self.old → context_fault ds d ≡ None → Tells version kernels (ds ++ d ∷ []) self.new) }
+        ensures ok { OnOk result ((version kernels : ℕ) (ds : List DeclarationData) →
+            Tells version kernels ds self.old → context_fault ds d ≡ None →
+            Tells version kernels (ds ++ d ∷ []) self.new) }
         ensures sizes { OnOk result (HasSizes self.new) }
     {
         match d {

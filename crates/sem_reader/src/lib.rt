@@ -1,4 +1,4 @@
-//! The reader of traces: for which setup a text stands, or why it is refused.
+//! The reader of traces: the setup that a text stands for, or why it is refused.
 #![tactic(auto)]
 
 mod context;

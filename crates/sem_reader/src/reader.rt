@@ -5,7 +5,8 @@ ghost use Rattle.sem_trace.specs.Standing.{Declare, Stands, IsWhy};
 ghost use Rattle.sem_trace.specs.declared.fault.TraceError.TheVariants.{Refused as RefusedText};
 ghost use Rattle.sem_trace.specs.Earlier.{is_end};
 ghost use Rattle.sem_reader.specs.Tells.{HasSizes};
-ghost use Rattle.sem_reader.specs.Reads.{Accepts, Refuses, AcceptsLine, RefusesLine, Stops, IsReadUpTo, at_line as at_line_lem};
+ghost use Rattle.sem_reader.specs.Reads.{Accepts, Refuses, AcceptsLine, RefusesLine, Stops};
+ghost use Rattle.sem_reader.specs.Reads.{IsReadUpTo, at_line as at_line_lem};
 ghost use Rattle.sem_reader.specs.declared.reader.LineError.TheVariants.{Refused, Memory};
 
 use crate::tables::Tables;
@@ -60,7 +61,7 @@ struct Reader {
     tables: Tables,
 }
 
-// Where the reader is behind the second line of a text of the version.
+// The stage of the reader after the second line of a text of the version.
 fn stage_behind(version: u8) -> Stage
     ensures { result ≡ (if version == 1 then Stage.Open else Stage.Counted) }
 {
@@ -71,7 +72,7 @@ fn stage_behind(version: u8) -> Stage
     }
 }
 
-// Where the reader is after a line behind those that come first.
+// The stage of the reader after a line after the first ones.
 fn stage_after(d: &Declaration) -> Stage
     ensures { result ≡ (if is_end d.now then Stage.Ended else Stage.Open) }
 {
@@ -82,7 +83,6 @@ fn stage_after(d: &Declaration) -> Stage
 }
 
 impl Reader {
-    // Reads the first line.
     fn first(&mut self, line: &[u8]) -> Result<(), Cause>
         requires stage { self.old.stage ≡ Stage.Start }
         requires sizes { HasSizes self.old.tables }
@@ -95,7 +95,6 @@ impl Reader {
         Ok(())
     }
 
-    // Reads the second line.
     fn second(&mut self, line: &[u8]) -> Result<(), Cause>
         requires stage { self.old.stage ≡ Stage.Named }
         requires sizes { HasSizes self.old.tables }
@@ -124,7 +123,7 @@ impl Reader {
         Ok(())
     }
 
-    // Reads a line behind the second.
+    // Reads a line after the second.
     fn open(&mut self, line: &[u8]) -> Result<(), LineError>
         requires stage { self.old.stage ≡ Stage.Open }
         requires sizes { HasSizes self.old.tables }
@@ -142,7 +141,6 @@ impl Reader {
         Ok(())
     }
 
-    // Reads a line.
     fn line(&mut self, line: &[u8]) -> Result<(), LineError>
         requires sizes { HasSizes self.old.tables }
         requires few { self.old.tables.call_number ≤ 20000 }
@@ -173,7 +171,7 @@ fn refused(line: u64, cause: Cause) -> TraceError
     TraceError::Refused(TraceFault { line, cause })
 }
 
-// Why a text is not read, where that line of it is not.
+// Why a text is not read, if that line of it is not.
 fn at_line(line: u64, e: LineError) -> TraceError
     ensures { result ≡ at_line_lem line e }
 {
@@ -183,7 +181,7 @@ fn at_line(line: u64, e: LineError) -> TraceError
     }
 }
 
-// Reads all lines, and tells how many there are.
+// Reads all lines, and returns how many there are.
 fn read_lines(alloc: Global, bytes: &[u8]) -> Result<(Reader, u64), TraceError>
     ensures read { IfOk result (λ r. IsReadUpTo bytes.now [] r.1 r.0) }
     ensures refused { IfErr result (IsWhy (first_fault (lines_of bytes.now))) }
@@ -206,7 +204,8 @@ fn read_lines(alloc: Global, bytes: &[u8]) -> Result<(Reader, u64), TraceError>
     Ok((reader, number))
 }
 
-/// The setup that the lines of the text declare, however many bytes they are. They are refused at the first bad one.
+/// The setup that the lines of the text declare, however many bytes they are. The text is refused
+/// at its first bad line.
 pub fn read_section(alloc: Global, bytes: &[u8]) -> Result<Setup, TraceError>
     ensures declared { IfOk result (Declare (lines_of bytes.now)) }
     ensures refused { IfErr result (IsWhy (lines_refusal (lines_of bytes.now))) }
@@ -221,11 +220,11 @@ pub fn read_section(alloc: Global, bytes: &[u8]) -> Result<Setup, TraceError>
     }
 }
 
-/// The setup for which the text stands. The text is refused at its first bad line.
+/// The setup that the text stands for. The text is refused at its first bad line.
 pub fn read_trace(alloc: Global, bytes: &[u8]) -> Result<Setup, TraceError>
-    // What is read is what the text stands for, and then it is not refused.
+    // If the text is read, it stands for the result, and is not refused.
     ensures stands { IfOk result (Stands bytes.now) }
-    // Where it is refused, it is refused so.
+    // If it is refused, this is its refusal.
     ensures refused { IfErr result (IsWhy (refusal bytes.now)) }
 {
     if bytes.len() > TRACE_BYTES {

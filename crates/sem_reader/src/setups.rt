@@ -1,12 +1,15 @@
-// The setup that the tables tell.
-ghost use Rattle.std.specs.Prelude.{map as list_map, ◌≡◌, ℕ, ◌<◌, ◌≤◌, ◌++◌, List, All, filter_map, option_map, option_to_list, IfOk, OnOk};
+// The setup of the tables.
+ghost use Rattle.std.specs.Prelude.{map as list_map, ◌≡◌, ℕ, ◌<◌, ◌≤◌, ◌++◌, List, All, filter_map};
+ghost use Rattle.std.specs.Prelude.{option_map, option_to_list, IfOk, OnOk};
 ghost use Rattle.sem_key.specs.declared.limits.TheConstants.{NUMBERS};
 ghost use Rattle.sem_msg.specs.Setup.{services_from, service_with as service_with_lem};
 ghost use Rattle.sem_key.specs.declared.limits.TheConstants.{VPES as VPES_LEM};
 ghost use Rattle.sem_trace.specs.declared.declaration.Declaration.{Declaration as DeclarationData};
 ghost use Rattle.sem_trace.specs.Earlier.{vpe_in, kill_in};
 ghost use Rattle.sem_trace.specs.Refusal.{numbers};
-ghost use Rattle.sem_trace.specs.Standing.{vpes_of, services_among as services_among_lem, named as named_lem, services_of as services_of_lem, offers_of, denies_of, kills_of, setup_of};
+ghost use Rattle.sem_trace.specs.Standing.{vpes_of, services_among as services_among_lem};
+ghost use Rattle.sem_trace.specs.Standing.{named as named_lem, services_of as services_of_lem};
+ghost use Rattle.sem_trace.specs.Standing.{offers_of, denies_of, kills_of, setup_of};
 ghost use Rattle.std.specs.List.Sorted.{IsPermutation, IsSorted};
 ghost use Rattle.indexmap.specs.IndexMap as map;
 ghost use Rattle.indexmap.specs.IndexSet.{IsUnique};
@@ -31,12 +34,18 @@ fn push_some<T: Drop>(list: &mut Seq<T>, item: Option<T>) -> Result<(), OutOfMem
     }
 }
 
-// The service that the root at that place is, if it is one.
+// The service of the root at that place, if the root is one.
 fn service_with(pe: u8, vpe: u16, number: u32, object: &Object) -> Option<Service>
     requires pe { pe < VPES_LEM }
     requires vpe { vpe < VPES_LEM }
     requires number { number < NUMBERS }
-    ensures { option_to_list result ≡ service_with_lem object.now (record { pe = pe; vpe = vpe; kind = object_kind object.now; number = number }) }
+    ensures { option_to_list result
+        ≡ service_with_lem object.now (record {
+          pe = pe;
+          vpe = vpe;
+          kind = object_kind object.now;
+          number = number;
+        }) }
 {
     match object {
         Object::Serv { name } => Some(Service {
@@ -55,7 +64,8 @@ fn service_with(pe: u8, vpe: u16, number: u32, object: &Object) -> Option<Servic
 // Appends the services among the roots of a VPE.
 fn push_services(services: &mut Services, declared: &VpeDecl) -> Result<(), OutOfMemory>
     requires { IsPlainVpe declared.now }
-    ensures ok { OnOk result (services.new ≡ services.old ++ services_from declared.now 0 declared.now.roots) }
+    ensures ok { OnOk result (services.new ≡ services.old
+        ++ services_from declared.now 0 declared.now.roots) }
 {
     for (number, root) in declared.roots.as_slice().iter().enumerate() {
         let service = service_with(declared.pe, declared.vpe, number as u32, &root.object);
@@ -101,7 +111,7 @@ fn services_of(alloc: Global, vpes: &Vpes0) -> Result<Services, OutOfMemory>
     Ok(services)
 }
 
-// The pairs, by both parts.
+// The pairs, ordered by both parts.
 fn sorted_pairs(alloc: Global, pairs: &IndexSet<(u16, u16)>) -> Result<Vec<(u16, u16)>, OutOfMemory>
     ensures same { IfOk result (λ sorted. IsPermutation pairs.now.keys sorted.items) }
     ensures rise { IfOk result (λ sorted. IsSorted compare_pairs sorted.items) }
@@ -140,7 +150,6 @@ fn sorted_offers(
     Ok(sorted)
 }
 
-// A list of the offers.
 fn offers_from(alloc: Global, entries: &[((u8, u8), u8)]) -> Result<Offers, OutOfMemory>
     ensures { IfOk result (λ offers. offers ≡ list_map offer_with entries.now) }
 {
@@ -161,7 +170,8 @@ impl Tables {
     fn vpe(&self, alloc: Global, vpe: u16) -> Result<Option<VpeDecl>, OutOfMemory>
         requires vpe { vpe < VPES_LEM }
         requires sizes { HasSizes self.now }
-        ensures { (version kernels : ℕ) (ds : List DeclarationData) → Tells version kernels ds self.now → IfOk result (λ found. found ≡ vpe_in ds vpe) }
+        ensures { (version kernels : ℕ) (ds : List DeclarationData) →
+            Tells version kernels ds self.now → IfOk result (λ found. found ≡ vpe_in ds vpe) }
     {
         let Some(pe) = self.pes[usize::from(vpe)] else {
             return Ok(None);
@@ -174,10 +184,11 @@ impl Tables {
         }))
     }
 
-    // The VPEs that are declared, by number.
+    // The declared VPEs, by number.
     fn vpes(&self, alloc: Global) -> Result<Vpes0, OutOfMemory>
         requires { HasSizes self.now }
-        ensures { (version kernels : ℕ) (ds : List DeclarationData) → Tells version kernels ds self.now → IfOk result (λ vpes. vpes ≡ vpes_of ds) }
+        ensures { (version kernels : ℕ) (ds : List DeclarationData) →
+            Tells version kernels ds self.now → IfOk result (λ vpes. vpes ≡ vpes_of ds) }
     {
         let mut vpes = Vpes0::new(alloc);
         for vpe in 0..VPES {
@@ -188,15 +199,19 @@ impl Tables {
 
     // The offers, by name and index.
     fn offers(&self, alloc: Global) -> Result<Offers, OutOfMemory>
-        ensures { (version kernels : ℕ) (ds : List DeclarationData) → Tells version kernels ds self.now → IfOk result (λ offers. offers ≡ offers_of ds (services_of_lem (vpes_of ds))) }
+        ensures { (version kernels : ℕ) (ds : List DeclarationData) →
+            Tells version kernels ds self.now →
+            IfOk result (λ offers. offers ≡ offers_of ds (services_of_lem (vpes_of ds))) }
     {
         let entries = sorted_offers(alloc, &self.offers)?;
         offers_from(alloc, &entries)
     }
 
-    // The denied pairs, by both.
+    // The denied pairs, by both VPEs.
     fn denies(&self, alloc: Global) -> Result<Denies, OutOfMemory>
-        ensures { (version kernels : ℕ) (ds : List DeclarationData) → Tells version kernels ds self.now → IfOk result (λ denies. denies ≡ denies_of ds (vpes_of ds)) }
+        ensures { (version kernels : ℕ) (ds : List DeclarationData) →
+            Tells version kernels ds self.now →
+            IfOk result (λ denies. denies ≡ denies_of ds (vpes_of ds)) }
     {
         let pairs = sorted_pairs(alloc, &self.denied)?;
         denies_from(alloc, &pairs)
@@ -205,7 +220,9 @@ impl Tables {
     // The kill of the VPE, if it is killed.
     fn kill(&self, vpe: u16) -> Option<(u16, u64)>
         requires { vpe < VPES_LEM }
-        ensures { (version kernels : ℕ) (ds : List DeclarationData) → Tells version kernels ds self.now → result ≡ option_map (λ replies. (vpe, replies)) (kill_in ds vpe) }
+        ensures { (version kernels : ℕ) (ds : List DeclarationData) →
+            Tells version kernels ds self.now →
+            result ≡ option_map (λ replies. (vpe, replies)) (kill_in ds vpe) }
     {
         let replies = self.kills[usize::from(vpe)]?;
         Some((vpe, replies))
@@ -214,7 +231,9 @@ impl Tables {
     // The kills of these VPEs, by VPE.
     fn kills_of(&self, alloc: Global, vpes: &Vpes0) -> Result<Kills, OutOfMemory>
         requires { All IsPlainVpe vpes.now }
-        ensures { (version kernels : ℕ) (ds : List DeclarationData) → Tells version kernels ds self.now → IfOk result (λ kills. kills ≡ kills_of ds vpes.now) }
+        ensures { (version kernels : ℕ) (ds : List DeclarationData) →
+            Tells version kernels ds self.now →
+            IfOk result (λ kills. kills ≡ kills_of ds vpes.now) }
     {
         let mut kills = Kills::new(alloc);
         for declared in vpes.as_slice() {
@@ -223,11 +242,13 @@ impl Tables {
         Ok(kills)
     }
 
-    /// The setup that is declared.
+    /// The declared setup.
     pub(crate) fn setup(&self, alloc: Global) -> Result<Setup, OutOfMemory>
         requires sizes { HasSizes self.now }
         requires told { IsTold self.now }
-        ensures setup { (version kernels : ℕ) (ds : List DeclarationData) → Tells version kernels ds self.now → IfOk result (λ setup. setup ≡ setup_of version kernels ds) }
+        ensures setup { (version kernels : ℕ) (ds : List DeclarationData) →
+            Tells version kernels ds self.now →
+            IfOk result (λ setup. setup ≡ setup_of version kernels ds) }
     {
         let vpes = self.vpes(alloc)?;
         let services = services_of(alloc, &vpes)?;

@@ -8,7 +8,7 @@ use sem_key::{Membership, OutOfMemory};
 use sem_msg::{Calls, Roots};
 use std::alloc::Global;
 
-/// How many PEs, and how many VPEs, a text can speak of.
+/// How many PEs, and how many VPEs, a text can name.
 pub(crate) const VPES: usize = sem_key::VPES as usize;
 
 /// How many selectors, names and indexes there can be.
@@ -19,7 +19,7 @@ pub(crate) const BYTES: usize = 256;
 pub(crate) struct Tables {
     /// The version of the text.
     pub version: u8,
-    /// How many messages a link holds, if it is told.
+    /// The window, if a line tells it.
     pub window: Option<u32>,
     /// Which kernel owns which PE.
     pub owners: Membership,
@@ -66,7 +66,7 @@ fn no_calls(alloc: Global) -> Result<Vec<Calls>, OutOfMemory>
 }
 
 impl Tables {
-    /// Nothing is declared but one kernel, in a text of version 1.
+    /// One kernel in a text of version 1, and nothing else declared.
     pub(crate) fn new(alloc: Global) -> Result<Tables, OutOfMemory>
         ensures tells { IfOk result (Tells 1 1 []) }
         ensures sizes { IfOk result HasSizes }

@@ -8,9 +8,9 @@ use sem_serial::{PlayError, boot, drain, play};
 use std::alloc::Global;
 use std::test::Fail;
 
-/// Whether a run by the words of the seed goes on from where a replay stands. From a replay of
-/// nothing, and from one of the report's whole journal, it makes that journal; from one of the first
-/// half, a journal that begins with that half.
+/// Whether a run by the words of the seed goes on from a replay. From a replay of nothing, and from
+/// one of the report's whole journal, it makes that journal. From one of the first half, it makes a
+/// journal that begins with that half.
 pub fn draws_on(alloc: Global, seed: u64, report: &[u8]) -> Result<bool, Fail> {
     match read_report(alloc, report) {
         Ok(read) => draws_on_from_each(alloc, &read.0, seed, read.1.as_slice()),
@@ -66,7 +66,7 @@ fn goes_on_to(
 }
 
 /// The place of the first of these events that is not enabled after those before it, and how many
-/// entries these make; none where each is enabled.
+/// entries those make; none if every event is enabled.
 pub fn stops_at(alloc: Global, trace: &[u8], events: &[Event]) -> Option<(usize, usize)> {
     match read_trace(alloc, trace) {
         Ok(setup) => {
@@ -80,8 +80,8 @@ pub fn stops_at(alloc: Global, trace: &[u8], events: &[Event]) -> Option<(usize,
     }
 }
 
-/// Whether the run of the trace ends by the words of each of so many seeds, after so many grants,
-/// with nothing held.
+/// Whether the run of the trace, by the words of each of that many seeds, ends after that many
+/// grants with nothing held.
 pub fn ends_empty(alloc: Global, trace: &[u8], seeds: u64, grants: usize) -> bool {
     match read_trace(alloc, trace) {
         Ok(setup) => (0..seeds).all(|seed| drains_empty(alloc, &setup, seed, grants)),

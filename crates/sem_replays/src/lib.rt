@@ -1,5 +1,5 @@
-//! Seeded runs and plays beside the answers of two independent reference programs, as tests; nothing
-//! that runs.
+//! Tests that compare seeded runs and plays with the answers of two independent reference programs.
+//! No program uses this crate.
 #![tactic(auto)]
 
 #[cfg(test)]

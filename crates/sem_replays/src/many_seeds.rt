@@ -1,4 +1,4 @@
-//! Runs by a hundred seeds each, which all end with nothing held.
+//! Runs by a hundred seeds each; all end with nothing held.
 
 use crate::answers::ends_empty;
 

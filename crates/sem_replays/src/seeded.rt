@@ -1,4 +1,4 @@
-//! Runs that go on from where a replay stands. The wanted journal comes from two independent reference
+//! Runs that go on from a replay. The expected journals come from two independent reference
 //! programs.
 
 use crate::answers::draws_on;

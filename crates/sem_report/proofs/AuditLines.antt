@@ -1,5 +1,6 @@
 -- The first line in which two reports of one setup and journal differ, whose audits are compared.
-use Rattle.std.proofs.Common.{◌≡◌, ◌≢◌, ℕ, zero, suc, ◌+◌, ◌-◌, ◌<◌, ◌≤◌, true, false, List, [], ◌∷◌, ◌++◌, length, take, drop, map, Option, Some, None, refl, ap, sym, ◌∙◌, subst, arith, decimal, append_assoc, inl, inr, slice_index_or}
+use Rattle.std.proofs.Common.{◌≡◌, ◌≢◌, ℕ, zero, suc, ◌+◌, ◌-◌, ◌<◌, ◌≤◌, true, false, List, [], ◌∷◌, ◌++◌, length, take, drop, map, Option, Some, None, refl}
+use Rattle.std.proofs.Common.{ap, sym, ◌∙◌, subst, arith, decimal, append_assoc, inl, inr, slice_index_or}
 use Rattle.std.specs.Prelude.{codes}
 use Rattle.std.specs.List.{All}
 use Rattle.std.specs.Str.{bytes_eq}
@@ -46,12 +47,14 @@ at_other n l m a b other = elim (cases_Bool (bytes_eq l m)) [
 abbrev keys : List (KeyName × ℕ) → List (List ℕ)
 keys ks = map line (map held_line ks) ++ line (codes "end" ∷ []) ∷ []
 
-same-line : (version : ℕ) (x y : Held) → HeldFits version (x.key, x.sel) → HeldFits version (y.key, y.sel) → line (held_line (x.key, x.sel)) ≡ line (held_line (y.key, y.sel)) → x ≡ y
+same-line : (version : ℕ) (x y : Held) → HeldFits version (x.key, x.sel) → HeldFits version (y.key, y.sel) →
+    line (held_line (x.key, x.sel)) ≡ line (held_line (y.key, y.sel)) → x ≡ y
 same-line version x y fits fits' same =
     let pair : (x.key, x.sel) ≡ (y.key, y.sel) = same_held version (x.key, x.sel) (y.key, y.sel) fits fits' same in
     λ i. record { key = (pair i).0; sel = (pair i).1 }
 
-first-key : (version n : ℕ) (xs ys : List Held) (at : ℕ) → DifferFirst xs ys at → All (HeldFits version) (held_pairs xs) → All (HeldFits version) (held_pairs ys) → first_difference n (keys (held_pairs xs)) (keys (held_pairs ys)) ≡ Some (n + at)
+first-key : (version n : ℕ) (xs ys : List Held) (at : ℕ) → DifferFirst xs ys at → All (HeldFits version) (held_pairs xs) →
+    All (HeldFits version) (held_pairs ys) → first_difference n (keys (held_pairs xs)) (keys (held_pairs ys)) ≡ Some (n + at)
 first-key version n [] ys at differ all all' = let within = differ.there in absurd (omega (arith, within))
 first-key version n (x ∷ xs) [] at differ all all' = let within = differ.there_too in absurd (omega (arith, within))
 first-key version n (x ∷ xs) (y ∷ ys) zero differ all all' =
@@ -97,9 +100,11 @@ module _ (T : Setup) (J : List Entry) where
       let audit : List (List ℕ) = line (codes "audit" ∷ []) ∷ [] in
       let trace : List (List ℕ) = map line (trace_lines T) in
       let inner : entries ++ (audit ++ tail) ≡ (entries ++ audit) ++ tail = sym (append_assoc entries audit tail) in
-      let outer : trace ++ ((journal ∷ (entries ++ audit)) ++ tail) ≡ (trace ++ (journal ∷ (entries ++ audit))) ++ tail = sym (append_assoc trace (journal ∷ (entries ++ audit)) tail) in
+      let outer : trace ++ ((journal ∷ (entries ++ audit)) ++ tail) ≡ (trace ++ (journal ∷ (entries ++ audit))) ++ tail =
+      sym (append_assoc trace (journal ∷ (entries ++ audit)) tail) in
       report_whole T J a.made a.cut held (few_kernels T fits.trace) fits.entries
-      ∙ ap (λ (ls : List (List ℕ)). line (codes "semper" ∷ codes "report" ∷ decimal T.version ∷ []) ∷ ls) (ap (λ (ls : List (List ℕ)). trace ++ (journal ∷ ls)) inner ∙ outer)
+      ∙ ap (λ (ls : List (List ℕ)). line (codes "semper" ∷ codes "report" ∷ decimal T.version ∷ []) ∷ ls)
+      (ap (λ (ls : List (List ℕ)). trace ++ (journal ∷ ls)) inner ∙ outer)
 
   module _ (bytes : List ℕ) (told due : Audit) (spelled : bytes ≡ audited T J told) (fits : AuditFits T J told) (fits' : AuditFits T J due) where
     abbrev hs : List (KeyName × ℕ)
@@ -115,9 +120,11 @@ module _ (T : Setup) (J : List Entry) where
     pub is-made_line : (m : ℕ) → m ≡ length (whole_lines bytes) - length told.held - 3 → m ≡ made_line
     is-made_line m is =
         let all : length (whole_lines bytes) ≡ length (front T J ++ numbers told.made told.cut hs) = ap length (ap whole_lines spelled ∙ lines-are told fits) in
-        let parts : length (front T J ++ numbers told.made told.cut hs) ≡ length (front T J) + length (numbers told.made told.cut hs) = length-append (front T J) (numbers told.made told.cut hs) in
+        let parts : length (front T J ++ numbers told.made told.cut hs) ≡ length (front T J) + length (numbers told.made told.cut hs) =
+        length-append (front T J) (numbers told.made told.cut hs) in
         let last : length (keys hs) ≡ length (map line (map held_line hs)) + 1 = length-append (map line (map held_line hs)) (line (codes "end" ∷ []) ∷ []) in
-        let few : length (map line (map held_line hs)) ≡ length told.held = length-map (map held_line hs) line ∙ (length-map hs held_line ∙ length-map told.held _) in
+        let few : length (map line (map held_line hs)) ≡ length told.held = length-map (map held_line hs) line
+        ∙ (length-map hs held_line ∙ length-map told.held _) in
         omega (arith, all, parts, last, few, is)
 
     -- the lines before the numbers are the same
@@ -128,32 +135,40 @@ module _ (T : Setup) (J : List Entry) where
         ∙ past_front 1 (front T J) _ _)
 
     pub made-differ : told.made ≢ due.made → Some made_line ≡ differing_line bytes T J due
-    made-differ other = sym (from-made ∙ at_other made_line _ _ _ _ (λ same. other (same_count (codes "made") told.made due.made refl fits.few_made fits'.few_made same)))
+    made-differ other = sym (from-made
+        ∙ at_other made_line _ _ _ _ (λ same. other (same_count (codes "made") told.made due.made refl fits.few_made fits'.few_made same)))
 
     module _ (same-made : told.made ≡ due.made) where
-      from-cut : differing_line bytes T J due ≡ first_difference (made_line + 1) (line (codes "cut" ∷ decimal told.cut ∷ []) ∷ line (codes "held" ∷ decimal (length hs) ∷ []) ∷ keys hs) (line (codes "cut" ∷ decimal due.cut ∷ []) ∷ line (codes "held" ∷ decimal (length gs) ∷ []) ∷ keys gs)
+      from-cut : differing_line bytes T J due
+          ≡ first_difference (made_line + 1) (line (codes "cut" ∷ decimal told.cut ∷ []) ∷ line (codes "held" ∷ decimal (length hs) ∷ []) ∷ keys hs)
+          (line (codes "cut" ∷ decimal due.cut ∷ []) ∷ line (codes "held" ∷ decimal (length gs) ∷ []) ∷ keys gs)
       from-cut =
           from-made
           ∙ (ap (λ n. first_difference made_line (numbers told.made told.cut hs) (numbers n due.cut gs)) (sym same-made)
           ∙ past_same made_line _ _ _)
 
       pub cut-differ : told.cut ≢ due.cut → Some (made_line + 1) ≡ differing_line bytes T J due
-      cut-differ other = sym (from-cut ∙ at_other (made_line + 1) _ _ _ _ (λ same. other (same_count (codes "cut") told.cut due.cut refl fits.few_cut fits'.few_cut same)))
+      cut-differ other = sym (from-cut
+          ∙ at_other (made_line + 1) _ _ _ _ (λ same. other (same_count (codes "cut") told.cut due.cut refl fits.few_cut fits'.few_cut same)))
 
       module _ (same-cut : told.cut ≡ due.cut) where
-        from-held : differing_line bytes T J due ≡ first_difference (made_line + 2) (line (codes "held" ∷ decimal (length hs) ∷ []) ∷ keys hs) (line (codes "held" ∷ decimal (length gs) ∷ []) ∷ keys gs)
+        from-held : differing_line bytes T J due ≡ first_difference (made_line + 2) (line (codes "held" ∷ decimal (length hs) ∷ []) ∷ keys hs)
+            (line (codes "held" ∷ decimal (length gs) ∷ []) ∷ keys gs)
         from-held =
             let sum : made_line + 1 + 1 ≡ made_line + 2 = omega arith in
             from-cut
-            ∙ (ap (λ n. first_difference (made_line + 1) (line (codes "cut" ∷ decimal told.cut ∷ []) ∷ line (codes "held" ∷ decimal (length hs) ∷ []) ∷ keys hs) (line (codes "cut" ∷ decimal n ∷ []) ∷ line (codes "held" ∷ decimal (length gs) ∷ []) ∷ keys gs)) (sym same-cut)
+            ∙ (ap (λ n. first_difference (made_line + 1) (line (codes "cut" ∷ decimal told.cut ∷ []) ∷ line (codes "held" ∷ decimal (length hs) ∷ []) ∷ keys hs)
+            (line (codes "cut" ∷ decimal n ∷ []) ∷ line (codes "held" ∷ decimal (length gs) ∷ []) ∷ keys gs)) (sym same-cut)
             ∙ (past_same (made_line + 1) _ _ _
-            ∙ ap (λ i. first_difference i (line (codes "held" ∷ decimal (length hs) ∷ []) ∷ keys hs) (line (codes "held" ∷ decimal (length gs) ∷ []) ∷ keys gs)) sum))
+            ∙ ap (λ i. first_difference i (line (codes "held" ∷ decimal (length hs) ∷ []) ∷ keys hs) (line (codes "held" ∷ decimal (length gs) ∷ []) ∷ keys gs))
+            sum))
 
         pub counts-differ : length told.held ≢ length due.held → Some (made_line + 2) ≡ differing_line bytes T J due
         counts-differ other =
             let told-count : length hs ≡ length told.held = length-map told.held _ in
             let due-count : length gs ≡ length due.held = length-map due.held _ in
-            sym (from-held ∙ at_other (made_line + 2) _ _ _ _ (λ same. other (sym told-count ∙ (same_count (codes "held") (length hs) (length gs) refl fits.few_held fits'.few_held same ∙ due-count))))
+            sym (from-held ∙ at_other (made_line + 2) _ _ _ _ (λ same. other (sym told-count
+            ∙ (same_count (codes "held") (length hs) (length gs) refl fits.few_held fits'.few_held same ∙ due-count))))
 
         module _ (same-count : length told.held ≡ length due.held) where
           from-keys : differing_line bytes T J due ≡ first_difference (made_line + 3) (keys hs) (keys gs)
@@ -161,12 +176,14 @@ module _ (T : Setup) (J : List Entry) where
               let sum : made_line + 2 + 1 ≡ made_line + 3 = omega arith in
               let count : length hs ≡ length gs = length-map told.held _ ∙ (same-count ∙ sym (length-map due.held _)) in
               from-held
-              ∙ (ap (λ n. first_difference (made_line + 2) (line (codes "held" ∷ decimal (length hs) ∷ []) ∷ keys hs) (line (codes "held" ∷ decimal n ∷ []) ∷ keys gs)) (sym count)
+              ∙ (ap (λ n. first_difference (made_line + 2) (line (codes "held" ∷ decimal (length hs) ∷ []) ∷ keys hs) (line (codes "held" ∷ decimal n ∷ [])
+              ∷ keys gs)) (sym count)
               ∙ (past_same (made_line + 2) _ _ _
               ∙ ap (λ i. first_difference i (keys hs) (keys gs)) sum))
 
           pub none-differ : told.held ≡ due.held → None ≡ differing_line bytes T J due
-          none-differ same = sym (from-keys ∙ (ap (λ ks. first_difference (made_line + 3) (keys hs) (keys (held_pairs ks))) (sym same) ∙ same_lines (made_line + 3) (keys hs)))
+          none-differ same = sym (from-keys ∙ (ap (λ ks. first_difference (made_line + 3) (keys hs) (keys (held_pairs ks))) (sym same)
+              ∙ same_lines (made_line + 3) (keys hs)))
 
           pub key-differs : (at : ℕ) → DifferFirst told.held due.held at → Some (made_line + 3 + at) ≡ differing_line bytes T J due
           key-differs at differ = sym (from-keys ∙ first-key T.version (made_line + 3) told.held due.held at differ fits.keys fits'.keys)

@@ -24,23 +24,30 @@ unfolding first_difference
 nothing_differs n [] = refl
 nothing_differs n (line ∷ lines) = rw ((bytes_eq-Decides line line).1 refl) (nothing_differs (n + 1) lines)
 
-pub shorter_differs : (first number : ℕ) (a b rest others others' : List (List ℕ)) (other : List ℕ) → first_difference first a b ≡ first_difference number rest others → rest ≡ [] → others ≡ other ∷ others' → Some number ≡ first_difference first a b
+pub shorter_differs : (first number : ℕ) (a b rest others others' : List (List ℕ)) (other : List ℕ) →
+    first_difference first a b ≡ first_difference number rest others → rest ≡ [] → others ≡ other ∷ others' → Some number ≡ first_difference first a b
 unfolding first_difference
 shorter_differs first number a b rest others others' other same none some = sym (same ∙ (rw (none, some) refl))
 
-pub both_end : (first number : ℕ) (a b rest others : List (List ℕ)) → first_difference first a b ≡ first_difference number rest others → rest ≡ [] → others ≡ [] → None ≡ first_difference first a b
+pub both_end : (first number : ℕ) (a b rest others : List (List ℕ)) → first_difference first a b ≡ first_difference number rest others → rest ≡ [] →
+    others ≡ [] → None ≡ first_difference first a b
 unfolding first_difference
 both_end first number a b rest others same none none' = sym (same ∙ (rw (none, none') refl))
 
-pub longer_differs : (first number : ℕ) (a b rest others rest' : List (List ℕ)) (line : List ℕ) → first_difference first a b ≡ first_difference number rest others → rest ≡ line ∷ rest' → others ≡ [] → Some number ≡ first_difference first a b
+pub longer_differs : (first number : ℕ) (a b rest others rest' : List (List ℕ)) (line : List ℕ) →
+    first_difference first a b ≡ first_difference number rest others → rest ≡ line ∷ rest' → others ≡ [] → Some number ≡ first_difference first a b
 unfolding first_difference
 longer_differs first number a b rest others rest' line same some none = sym (same ∙ (rw (some, none) refl))
 
-pub line_differs : (first number : ℕ) (a b rest others rest' others' : List (List ℕ)) (line other : List ℕ) → first_difference first a b ≡ first_difference number rest others → rest ≡ line ∷ rest' → others ≡ other ∷ others' → bytes_eq line other ≡ false → Some number ≡ first_difference first a b
+pub line_differs : (first number : ℕ) (a b rest others rest' others' : List (List ℕ)) (line other : List ℕ) →
+    first_difference first a b ≡ first_difference number rest others → rest ≡ line ∷ rest' → others ≡ other ∷ others' → bytes_eq line other ≡ false →
+    Some number ≡ first_difference first a b
 unfolding first_difference
 line_differs first number a b rest others rest' others' line other same is is' differ = sym (same ∙ (rw (is, is', differ) refl))
 
-pub line_same : (first number : ℕ) (a b rest others rest' others' : List (List ℕ)) (line other : List ℕ) → first_difference first a b ≡ first_difference number rest others → rest ≡ line ∷ rest' → others ≡ other ∷ others' → bytes_eq line other ≡ true → first_difference first a b ≡ first_difference (number + 1) rest' others'
+pub line_same : (first number : ℕ) (a b rest others rest' others' : List (List ℕ)) (line other : List ℕ) →
+    first_difference first a b ≡ first_difference number rest others → rest ≡ line ∷ rest' → others ≡ other ∷ others' → bytes_eq line other ≡ true →
+    first_difference first a b ≡ first_difference (number + 1) rest' others'
 unfolding first_difference
 line_same first number a b rest others rest' others' line other same is is' equal = same ∙ (rw (is, is', equal) refl)
 
@@ -49,15 +56,20 @@ pub bytes_bad : (form : Form) (whole : List ℕ) (cause : Cause) → bytes_fault
 unfolding report_line_fault
 bytes_bad form whole cause bad = rw bad refl
 
-pub words_bad : (form : Form) (whole : List ℕ) (cause : Cause) → bytes_fault (content whole) ≡ None → form_fault (form (words_in whole)) (words_in whole) ≡ Some cause → report_line_fault form whole ≡ Some cause
+pub words_bad : (form : Form) (whole : List ℕ) (cause : Cause) → bytes_fault (content whole) ≡ None →
+    form_fault (form (words_in whole)) (words_in whole) ≡ Some cause → report_line_fault form whole ≡ Some cause
 unfolding report_line_fault
 words_bad form whole cause text bad = rw (text, bad) refl
 
-pub spelling_bad : (form : Form) (whole : List ℕ) (words : List (List ℕ)) (cause : Cause) → bytes_fault (content whole) ≡ None → form_fault (form (words_in whole)) (words_in whole) ≡ None → words_in whole ≡ words → has_long_memory words ≡ false → (if bytes_eq whole (line words) then None else Some NotCanonical) ≡ Some cause → report_line_fault form whole ≡ Some cause
+pub spelling_bad : (form : Form) (whole : List ℕ) (words : List (List ℕ)) (cause : Cause) → bytes_fault (content whole) ≡ None →
+    form_fault (form (words_in whole)) (words_in whole) ≡ None → words_in whole ≡ words → has_long_memory words ≡ false →
+    (if bytes_eq whole (line words) then None else Some NotCanonical) ≡ Some cause → report_line_fault form whole ≡ Some cause
 unfolding report_line_fault
 spelling_bad form whole words cause text fits are short bad = rw (text, fits, are, short) bad
 
-pub line_good : (form : Form) (whole : List ℕ) (words : List (List ℕ)) → bytes_fault (content whole) ≡ None → form_fault (form (words_in whole)) (words_in whole) ≡ None → words_in whole ≡ words → has_long_memory words ≡ false → (if bytes_eq whole (line words) then None else Some NotCanonical) ≡ None → report_line_fault form whole ≡ None
+pub line_good : (form : Form) (whole : List ℕ) (words : List (List ℕ)) → bytes_fault (content whole) ≡ None →
+    form_fault (form (words_in whole)) (words_in whole) ≡ None → words_in whole ≡ words → has_long_memory words ≡ false →
+    (if bytes_eq whole (line words) then None else Some NotCanonical) ≡ None → report_line_fault form whole ≡ None
 unfolding report_line_fault
 line_good form whole words text fits are short good = rw (text, fits, are, short) good
 
@@ -69,7 +81,8 @@ spelled whole printed good = elim (cases_Bool (bytes_eq whole printed)) [
 ]
 
 -- the fault of an entry is that of its words or of its memory
-pub entry_words_bad : (version kernels : ℕ) (whole : List ℕ) (cause : Cause) → bytes_fault (content whole) ≡ None → entry_fault version kernels (words_in whole) ≡ Some cause → report_line_fault (entry_form version kernels) whole ≡ Some cause
+pub entry_words_bad : (version kernels : ℕ) (whole : List ℕ) (cause : Cause) → bytes_fault (content whole) ≡ None →
+    entry_fault version kernels (words_in whole) ≡ Some cause → report_line_fault (entry_form version kernels) whole ≡ Some cause
 unfolding report_line_fault entry_fault
 entry_words_bad version kernels whole cause text bad =
     elim (cases_Option (form_fault (entry_form version kernels (words_in whole)) (words_in whole))) [
@@ -80,7 +93,8 @@ entry_words_bad version kernels whole cause text bad =
       | inr some ↦ rw (text, some.1) (rw some.1 at bad)
     ]
 
-pub entry_words_good : (version kernels : ℕ) (words : List (List ℕ)) → entry_fault version kernels words ≡ None → (form_fault (entry_form version kernels words) words ≡ None) × (has_long_memory words ≡ false)
+pub entry_words_good : (version kernels : ℕ) (words : List (List ℕ)) → entry_fault version kernels words ≡ None →
+    (form_fault (entry_form version kernels words) words ≡ None) × (has_long_memory words ≡ false)
 unfolding entry_fault
 entry_words_good version kernels words good =
     elim (cases_Option (form_fault (entry_form version kernels words) words)) [

@@ -1,5 +1,6 @@
 -- The text of lines that are appended one after another.
-use Rattle.std.proofs.Common.{◌≡◌, ℕ, zero, suc, ◌+◌, List, [], ◌∷◌, ◌++◌, length, take, map, Result, Ok, Err, OnOk, refl, arith, add-one, append_assoc, append-nil}
+use Rattle.std.proofs.Common.{◌≡◌, ℕ, zero, suc, ◌+◌, List, [], ◌∷◌, ◌++◌, length, take, map, Result, Ok, Err, OnOk, refl, arith, add-one, append_assoc}
+use Rattle.std.proofs.Common.{append-nil}
 use Rattle.std.specs.Prelude.{codes, decimal}
 use Rattle.std.specs.List.{slice_get}
 use Rattle.std.specs.Option.{option_to_list}
@@ -26,24 +27,35 @@ take-suc-read (x ∷ xs) zero = refl
 take-suc-read (x ∷ xs) (suc i) = rw (take-suc-read xs i) refl
 
 -- `now` ends with the lines of the elements before place i; with those of the element there, they are the lines of one more
-pub text-read-more : {X : Type 0} (f : X → List (List ℕ)) (xs : List X) (i : ℕ) (before now after : List ℕ) → now ≡ before ++ text (map f (take i xs)) → after ≡ now ++ text (map f (option_to_list (slice_get xs i))) → after ≡ before ++ text (map f (take (i + 1) xs))
+pub text-read-more : {X : Type 0} (f : X → List (List ℕ)) (xs : List X) (i : ℕ) (before now after : List ℕ) → now ≡ before ++ text (map f (take i xs)) →
+    after ≡ now ++ text (map f (option_to_list (slice_get xs i))) → after ≡ before ++ text (map f (take (i + 1) xs))
 text-read-more f xs i before now after so_far more =
     rw (add-one, take-suc-read xs i, map-append, flat_map-append) (grind (arith, common_steps, append_assoc))
 
 -- a text of four lines, some lines more, and a last one
-text-framed : (p q r s last : List (List ℕ)) (more : List (List (List ℕ))) (before a b c d e after : List ℕ) → a ≡ before ++ line p → b ≡ a ++ line q → c ≡ b ++ line r → d ≡ c ++ line s → e ≡ d ++ text more → after ≡ e ++ line last → after ≡ before ++ text (p ∷ q ∷ r ∷ s ∷ more ++ last ∷ [])
+text-framed : (p q r s last : List (List ℕ)) (more : List (List (List ℕ))) (before a b c d e after : List ℕ) → a ≡ before ++ line p → b ≡ a ++ line q →
+    c ≡ b ++ line r → d ≡ c ++ line s → e ≡ d ++ text more → after ≡ e ++ line last → after ≡ before ++ text (p ∷ q ∷ r ∷ s ∷ more ++ last ∷ [])
 text-framed p q r s last more before a b c d e after at_p at_q at_r at_s at_more at_last =
     rw (at_last, at_more, at_s, at_r, at_q, at_p) (simp (flat_map-append, append_assoc, append-nil))
 
 -- the lines of an audit, in six pieces
-pub text-audit : (made cut : ℕ) (held : List (KeyName × ℕ)) (before a b c d e after : List ℕ) → a ≡ before ++ line (codes "audit" ∷ []) → b ≡ a ++ line (codes "made" ∷ decimal made ∷ []) → c ≡ b ++ line (codes "cut" ∷ decimal cut ∷ []) → d ≡ c ++ line (codes "held" ∷ decimal (length held) ∷ []) → e ≡ d ++ text (map held_line held) → after ≡ e ++ line (codes "end" ∷ []) → after ≡ before ++ text (audit_lines made cut held)
-text-audit made cut held = text-framed (codes "audit" ∷ []) (codes "made" ∷ decimal made ∷ []) (codes "cut" ∷ decimal cut ∷ []) (codes "held" ∷ decimal (length held) ∷ []) (codes "end" ∷ []) (map held_line held)
+pub text-audit : (made cut : ℕ) (held : List (KeyName × ℕ)) (before a b c d e after : List ℕ) → a ≡ before ++ line (codes "audit" ∷ []) →
+    b ≡ a ++ line (codes "made" ∷ decimal made ∷ []) → c ≡ b ++ line (codes "cut" ∷ decimal cut ∷ []) →
+    d ≡ c ++ line (codes "held" ∷ decimal (length held) ∷ []) → e ≡ d ++ text (map held_line held) → after ≡ e ++ line (codes "end" ∷ []) →
+    after ≡ before ++ text (audit_lines made cut held)
+text-audit made cut held = text-framed (codes "audit" ∷ []) (codes "made" ∷ decimal made ∷ []) (codes "cut" ∷ decimal cut ∷ [])
+    (codes "held" ∷ decimal (length held) ∷ []) (codes "end" ∷ []) (map held_line held)
 
 -- a text of a line and three parts more
-text-parts : (first : List (List ℕ)) (xs ys zs : List (List (List ℕ))) (before a b c after : List ℕ) → a ≡ before ++ line first → b ≡ a ++ text xs → c ≡ b ++ text ys → after ≡ c ++ text zs → after ≡ before ++ text (first ∷ xs ++ ys ++ zs)
+text-parts : (first : List (List ℕ)) (xs ys zs : List (List (List ℕ))) (before a b c after : List ℕ) → a ≡ before ++ line first → b ≡ a ++ text xs →
+    c ≡ b ++ text ys → after ≡ c ++ text zs → after ≡ before ++ text (first ∷ xs ++ ys ++ zs)
 text-parts first xs ys zs before a b c after at_first at_xs at_ys at_zs =
     rw (at_zs, at_ys, at_xs, at_first) (simp (flat_map-append, append_assoc))
 
 -- the text of a report, in four pieces
-pub text-report : (T : Setup) (J : List Entry) (made cut : ℕ) (held : List (KeyName × ℕ)) (before a b c after : List ℕ) → a ≡ before ++ line (codes "semper" ∷ codes "report" ∷ decimal T.version ∷ []) → b ≡ a ++ text (trace_lines T) → c ≡ b ++ text ((codes "journal" ∷ decimal (length J) ∷ []) ∷ map entry_words J) → after ≡ c ++ text (audit_lines made cut held) → after ≡ before ++ report_text T J made cut held
-text-report T J made cut held = text-parts (codes "semper" ∷ codes "report" ∷ decimal T.version ∷ []) (trace_lines T) ((codes "journal" ∷ decimal (length J) ∷ []) ∷ map entry_words J) (audit_lines made cut held)
+pub text-report : (T : Setup) (J : List Entry) (made cut : ℕ) (held : List (KeyName × ℕ)) (before a b c after : List ℕ) →
+    a ≡ before ++ line (codes "semper" ∷ codes "report" ∷ decimal T.version ∷ []) → b ≡ a ++ text (trace_lines T) →
+    c ≡ b ++ text ((codes "journal" ∷ decimal (length J) ∷ []) ∷ map entry_words J) → after ≡ c ++ text (audit_lines made cut held) →
+    after ≡ before ++ report_text T J made cut held
+text-report T J made cut held = text-parts (codes "semper" ∷ codes "report" ∷ decimal T.version ∷ []) (trace_lines T)
+    ((codes "journal" ∷ decimal (length J) ∷ []) ∷ map entry_words J) (audit_lines made cut held)

@@ -1,5 +1,6 @@
 -- The lines of a trace are plain, and none but the last ends it.
-use Rattle.std.proofs.Common.{◌≡◌, ℕ, ◌==◌, inl, inr, Bool, true, false, not, ◌&&◌, List, [], ◌∷◌, ◌++◌, map, Option, Some, None, refl, ap, sym, ◌∙◌, append_assoc, true≢false, decimal}
+use Rattle.std.proofs.Common.{◌≡◌, ℕ, ◌==◌, inl, inr, Bool, true, false, not, ◌&&◌, List, [], ◌∷◌, ◌++◌, map, Option, Some, None, refl, ap, sym, ◌∙◌}
+use Rattle.std.proofs.Common.{append_assoc, true≢false, decimal}
 use Rattle.std.specs.Prelude.{codes, flat_map}
 use Rattle.std.specs.List.{list_all, enumerate_from}
 use Rattle.std.proofs.lemmas.Bool.{cases_Bool}
@@ -9,7 +10,8 @@ use Rattle.sem_key.specs.declared.object.Object.{Object}
 use Rattle.sem_key.specs.declared.object.Object.TheVariants.{Mem, Recv, Send, Serv, Sess}
 use Rattle.sem_key.specs.KeyName.{KeyName, kind_number}
 use Rattle.sem_msg.specs.declared.call.Call.{Call}
-use Rattle.sem_msg.specs.declared.call.Call.TheVariants.{Derive, Gate, Obtain, Delegate, OpenSession, AskOffer, Revoke, Bind, Read, Write, Send as SendCall, Credit, Exit, Clear}
+use Rattle.sem_msg.specs.declared.call.Call.TheVariants.{Derive, Gate, Obtain, Delegate, OpenSession, AskOffer, Revoke, Bind, Read, Write, Send as SendCall}
+use Rattle.sem_msg.specs.declared.call.Call.TheVariants.{Credit, Exit, Clear}
 use Rattle.sem_msg.specs.declared.setup.VpeDecl.{VpeDecl}
 use Rattle.sem_msg.specs.Setup.{Setup}
 use Rattle.sem_text.specs.Lines.{line}
@@ -66,8 +68,10 @@ with_number : (word : List ℕ) (n : ℕ) → is_plain_word word ≡ true → is
 with_number word n plain =
     let digits : list_all is_plain (decimal n) ≡ true = and-right (is_word (decimal n)) _ (decimal_plain n) in
     let bytes : list_all is_plain word ≡ true = and-right (is_word word) _ plain in
-    let all : list_all is_plain (word ++ 46 ∷ decimal n) ≡ true = list_all-append is_plain word (46 ∷ decimal n) ∙ both (list_all is_plain word) (list_all is_plain (46 ∷ decimal n)) bytes digits in
-    both (is_word (word ++ 46 ∷ decimal n)) (list_all is_plain (word ++ 46 ∷ decimal n)) (longer_word word (46 ∷ decimal n) (and-left (is_word word) _ plain)) all
+    let all : list_all is_plain (word ++ 46 ∷ decimal n) ≡ true = list_all-append is_plain word (46 ∷ decimal n)
+    ∙ both (list_all is_plain word) (list_all is_plain (46 ∷ decimal n)) bytes digits in
+    both (is_word (word ++ 46 ∷ decimal n)) (list_all is_plain (word ++ 46 ∷ decimal n)) (longer_word word (46 ∷ decimal n) (and-left (is_word word) _ plain))
+    all
 
 pub key_plain : (k : KeyName) → is_plain_word (key_word k) ≡ true
 key_plain k =
@@ -83,7 +87,14 @@ root_inner v sel (Serv name) = rw (decimal_plain v, decimal_plain sel, decimal_p
 root_inner v sel (Sess service ident) = rw (decimal_plain v, decimal_plain sel, key_plain service, decimal_plain ident) refl
 
 call_inner : (v : ℕ) (c : Call) → is_inner (codes "call" ∷ decimal v ∷ call_words c) ≡ true
-call_inner v (Derive src dst off len rights) = rw (decimal_plain v, decimal_plain src, decimal_plain dst, decimal_plain off, decimal_plain len, decimal_plain rights) refl
+call_inner v (Derive src dst off len rights) = rw (
+  decimal_plain v,
+  decimal_plain src,
+  decimal_plain dst,
+  decimal_plain off,
+  decimal_plain len,
+  decimal_plain rights,
+) refl
 call_inner v (Gate src dst label credits) = rw (decimal_plain v, decimal_plain src, decimal_plain dst, decimal_plain label, decimal_plain credits) refl
 call_inner v (Obtain dst vpe src) = rw (decimal_plain v, decimal_plain dst, decimal_plain vpe, decimal_plain src) refl
 call_inner v (Delegate src vpe dst) = rw (decimal_plain v, decimal_plain src, decimal_plain vpe, decimal_plain dst) refl
@@ -109,15 +120,19 @@ pub all_inner : (T : Setup) → list_all is_inner (inner_lines T) ≡ true
 all_inner T =
     let pes = inner_flat pe_line (enumerate_from 0 T.owners.owners) pes_inner in
     let vpes = inner_map vpe_line T.vpes (λ d. rw (decimal_plain d.vpe, decimal_plain d.pe) refl) in
-    let roots = inner_flat (λ (d : VpeDecl). map (root_line d.vpe) d.roots) T.vpes (λ d. inner_map (root_line d.vpe) d.roots (λ r. root_inner d.vpe r.sel r.object)) in
+    let roots = inner_flat (λ (d : VpeDecl). map (root_line d.vpe) d.roots) T.vpes
+    (λ d. inner_map (root_line d.vpe) d.roots (λ r. root_inner d.vpe r.sel r.object)) in
     let offers = inner_map offer_line T.offers (λ o. rw (decimal_plain o.name, decimal_plain o.index, decimal_plain o.sel) refl) in
     let denies = inner_map deny_line T.denies (λ d. rw (decimal_plain d.0, decimal_plain d.1) refl) in
     let kills = inner_map kill_line T.kills (λ k. rw (decimal_plain k.0, decimal_plain k.1) refl) in
-    let calls = inner_flat (λ (d : VpeDecl). map (λ c. codes "call" ∷ decimal d.vpe ∷ call_words c) d.calls) T.vpes (λ d. inner_map (λ c. codes "call" ∷ decimal d.vpe ∷ call_words c) d.calls (λ c. call_inner d.vpe c)) in
+    let calls = inner_flat (λ (d : VpeDecl). map (λ c. codes "call" ∷ decimal d.vpe ∷ call_words c) d.calls) T.vpes
+    (λ d. inner_map (λ c. codes "call" ∷ decimal d.vpe ∷ call_words c) d.calls (λ c. call_inner d.vpe c)) in
     let first : is_inner (codes "semper" ∷ codes "trace" ∷ decimal T.version ∷ []) ≡ true = rw (decimal_plain T.version) refl in
     let second : is_inner (codes "kernels" ∷ decimal T.kernels ∷ []) ≡ true = rw (decimal_plain T.kernels) refl in
     both (is_inner (codes "semper" ∷ codes "trace" ∷ decimal T.version ∷ [])) _ first
-    (both (is_inner (codes "kernels" ∷ decimal T.kernels ∷ [])) _ second (inner_append (inner_append (inner_append (inner_append (inner_append (inner_append (inner_append (window_inner T) pes) vpes) roots) offers) denies) kills) calls).are)
+    (both (is_inner (codes "kernels" ∷ decimal T.kernels ∷ [])) _ second
+    (inner_append (inner_append (inner_append (inner_append (inner_append (inner_append (inner_append (window_inner T) pes) vpes) roots) offers) denies)
+    kills) calls).are)
 
 inner_plain : (ls : List (List (List ℕ))) → list_all is_inner ls ≡ true → list_all are_plain ls ≡ true
 inner_plain [] inner = refl
@@ -134,13 +149,17 @@ no_end_line : (ws : List (List ℕ)) → is_inner ws ≡ true → is_end_line (l
 no_end_line ws inner = rw (words_line ws (and-left (are_plain ws) _ inner)) (no_true _ (and-right (are_plain ws) _ inner))
 
 -- lines of which the last ends a trace
-section_is : (ls : List (List (List ℕ))) (rest : List (List ℕ)) → list_all is_inner ls ≡ true → trace_section (map line ls ++ line (codes "end" ∷ []) ∷ rest) ≡ map line ls ++ line (codes "end" ∷ []) ∷ []
+section_is : (ls : List (List (List ℕ))) (rest : List (List ℕ)) → list_all is_inner ls ≡ true →
+    trace_section (map line ls ++ line (codes "end" ∷ []) ∷ rest) ≡ map line ls ++ line (codes "end" ∷ []) ∷ []
 unfolding trace_section
 section_is [] rest inner = rw (words_line (codes "end" ∷ []) refl) refl
-section_is (l ∷ ls) rest inner = rw (no_end_line l (and-left _ _ inner)) (ap (λ (more : List (List ℕ)). line l ∷ more) (section_is ls rest (and-right (is_inner l) _ inner)))
+section_is (l ∷ ls) rest inner =
+    rw (no_end_line l (and-left _ _ inner)) (ap (λ (more : List (List ℕ)). line l ∷ more) (section_is ls rest (and-right (is_inner l) _ inner)))
 
 pub section_printed : (T : Setup) (rest : List (List ℕ)) → trace_section (map line (trace_lines T) ++ rest) ≡ map line (trace_lines T)
 section_printed T rest =
-    let lines : map line (trace_lines T) ≡ map line (inner_lines T) ++ line (codes "end" ∷ []) ∷ [] = map-append line (inner_lines T) ((codes "end" ∷ []) ∷ []) in
-    let all : map line (trace_lines T) ++ rest ≡ map line (inner_lines T) ++ line (codes "end" ∷ []) ∷ rest = ap (λ (ls : List (List ℕ)). ls ++ rest) lines ∙ append_assoc (map line (inner_lines T)) (line (codes "end" ∷ []) ∷ []) rest in
+    let lines : map line (trace_lines T) ≡ map line (inner_lines T) ++ line (codes "end" ∷ []) ∷ [] =
+    map-append line (inner_lines T) ((codes "end" ∷ []) ∷ []) in
+    let all : map line (trace_lines T) ++ rest ≡ map line (inner_lines T) ++ line (codes "end" ∷ []) ∷ rest = ap (λ (ls : List (List ℕ)). ls ++ rest) lines
+    ∙ append_assoc (map line (inner_lines T)) (line (codes "end" ∷ []) ∷ []) rest in
     ap trace_section all ∙ (section_is (inner_lines T) rest (all_inner T) ∙ sym lines)

@@ -1,5 +1,6 @@
 -- What is printed of a report is not refused.
-use Rattle.std.proofs.Common.{◌≡◌, ℕ, zero, suc, ◌+◌, ◌≤◌, true, List, [], ◌∷◌, ◌++◌, length, map, replicate, None, refl, ap, sym, ◌∙◌, arith, decimal, append_assoc, inl, inr, nat_lt, slice_index_or}
+use Rattle.std.proofs.Common.{◌≡◌, ℕ, zero, suc, ◌+◌, ◌≤◌, true, List, [], ◌∷◌, ◌++◌, length, map, replicate, None, refl, ap, sym, ◌∙◌, arith, decimal}
+use Rattle.std.proofs.Common.{append_assoc, inl, inr, nat_lt, slice_index_or}
 use Rattle.std.specs.Prelude.{codes}
 use Rattle.std.specs.List.{All, list_all}
 use Rattle.std.proofs.Math.Seq.{drop-append_seam}
@@ -23,7 +24,8 @@ use Rattle.sem_journal.specs.EntryRanges.{EntryFits}
 use Rattle.sem_journal.specs.ReportText.{held_line, audit_lines, journal_lines, report_lines, report_text}
 use Rattle.sem_report.specs.ReportRanges.{ReportFits}
 use Rattle.sem_report.specs.WholeLines.{whole_lines}
-use Rattle.sem_report.specs.ReportRefusal.{words_in, count_at, report_form, name_form, count_form, held_form, audit_forms, forms_behind, trace_section, trace_refusal, setup_in, first_difference, report_refusal}
+use Rattle.sem_report.specs.ReportRefusal.{words_in, count_at, report_form, name_form, count_form, held_form, audit_forms, forms_behind, trace_section}
+use Rattle.sem_report.specs.ReportRefusal.{trace_refusal, setup_in, first_difference, report_refusal}
 use Rattle.sem_reader.proofs.PlainText.{are_plain}
 use Rattle.sem_journal.proofs.PrintedPlaces.{value}
 use Rattle.sem_journal.proofs.PlainEntries.{printed_words}
@@ -49,7 +51,9 @@ behind_whole J made cut held = line (codes "journal" ∷ decimal (length J) ∷ 
 
 behind_is : (J : List Entry) (made cut : ℕ) (held : List (KeyName × ℕ)) → map line (journal_lines J ++ audit_lines made cut held) ≡ behind_whole J made cut held
 behind_is J made cut held =
-    let audit : map line (audit_lines made cut held) ≡ audit_whole made cut held = ap (λ (ls : List (List ℕ)). line (codes "audit" ∷ []) ∷ line (codes "made" ∷ decimal made ∷ []) ∷ line (codes "cut" ∷ decimal cut ∷ []) ∷ line (codes "held" ∷ decimal (length held) ∷ []) ∷ ls) (map-append line (map held_line held) ((codes "end" ∷ []) ∷ [])) in
+    let audit : map line (audit_lines made cut held) ≡ audit_whole made cut held =
+    ap (λ (ls : List (List ℕ)). line (codes "audit" ∷ []) ∷ line (codes "made" ∷ decimal made ∷ []) ∷ line (codes "cut" ∷ decimal cut ∷ [])
+    ∷ line (codes "held" ∷ decimal (length held) ∷ []) ∷ ls) (map-append line (map held_line held) ((codes "end" ∷ []) ∷ [])) in
     map-append line (journal_lines J) (audit_lines made cut held) ∙ ap (λ (ls : List (List ℕ)). map line (journal_lines J) ++ ls) audit
 
 -- all lines are plain
@@ -73,49 +77,71 @@ pub few_kernels : (T : Setup) → IsSetup T → T.kernels ≤ KERNELS
 few_kernels T setup = omega (arith, setup.few_kernels, few_for T.version)
 
 journal_plain : (version kernels : ℕ) (J : List Entry) → kernels ≤ KERNELS → All (EntryFits version kernels) J → list_all are_plain (journal_lines J) ≡ true
-journal_plain version kernels J few fits = rw (decimal_plain (length J)) (plain_map entry_words J (λ k e within. printed_words version kernels (slice_index_or J k e) few (fits k e within)))
+journal_plain version kernels J few fits =
+    rw (decimal_plain (length J)) (plain_map entry_words J (λ k e within. printed_words version kernels (slice_index_or J k e) few (fits k e within)))
 
-pub report_whole : (T : Setup) (J : List Entry) (made cut : ℕ) (held : List (KeyName × ℕ)) → T.kernels ≤ KERNELS → All (EntryFits T.version T.kernels) J → whole_lines (report_text T J made cut held) ≡ line (codes "semper" ∷ codes "report" ∷ decimal T.version ∷ []) ∷ (map line (trace_lines T) ++ behind_whole J made cut held)
+pub report_whole : (T : Setup) (J : List Entry) (made cut : ℕ) (held : List (KeyName × ℕ)) → T.kernels ≤ KERNELS → All (EntryFits T.version T.kernels) J →
+    whole_lines (report_text T J made cut held) ≡ line (codes "semper" ∷ codes "report" ∷ decimal T.version ∷ [])
+    ∷ (map line (trace_lines T) ++ behind_whole J made cut held)
 report_whole T J made cut held few fits =
     let first : List (List ℕ) = codes "semper" ∷ codes "report" ∷ decimal T.version ∷ [] in
-    let grouped : report_lines T J made cut held ≡ first ∷ (trace_lines T ++ (journal_lines J ++ audit_lines made cut held)) = ap (λ (ls : List (List (List ℕ))). first ∷ ls) (append_assoc (trace_lines T) (journal_lines J) (audit_lines made cut held)) in
-    let plain : list_all are_plain (first ∷ (trace_lines T ++ (journal_lines J ++ audit_lines made cut held))) ≡ true = both (are_plain first) _ (rw (decimal_plain T.version) refl) (plain_append (trace_lines T) _ (trace_plain T) (plain_append (journal_lines J) (audit_lines made cut held) (journal_plain T.version T.kernels J few fits) (audit_plain made cut held))) in
+    let grouped : report_lines T J made cut held ≡ first ∷ (trace_lines T ++ (journal_lines J ++ audit_lines made cut held)) =
+    ap (λ (ls : List (List (List ℕ))). first ∷ ls) (append_assoc (trace_lines T) (journal_lines J) (audit_lines made cut held)) in
+    let plain : list_all are_plain (first ∷ (trace_lines T ++ (journal_lines J ++ audit_lines made cut held))) ≡ true =
+    both (are_plain first) _ (rw (decimal_plain T.version) refl)
+    (plain_append (trace_lines T) _ (trace_plain T)
+    (plain_append (journal_lines J) (audit_lines made cut held) (journal_plain T.version T.kernels J few fits) (audit_plain made cut held))) in
     ap (λ (ls : List (List (List ℕ))). whole_lines (text ls)) grouped
     ∙ (whole_text (first ∷ (trace_lines T ++ (journal_lines J ++ audit_lines made cut held))) plain
-    ∙ ap (λ (ls : List (List ℕ)). line first ∷ ls) (map-append line (trace_lines T) (journal_lines J ++ audit_lines made cut held) ∙ ap (λ (ls : List (List ℕ)). map line (trace_lines T) ++ ls) (behind_is J made cut held)))
+    ∙ ap (λ (ls : List (List ℕ)). line first ∷ ls) (map-append line (trace_lines T) (journal_lines J ++ audit_lines made cut held)
+    ∙ ap (λ (ls : List (List ℕ)). map line (trace_lines T) ++ ls) (behind_is J made cut held)))
 
 -- what the lines tell of how many others there are
-line_past : {X : Type 0} (f : X → List ℕ) (xs : List X) (more : List (List ℕ)) (i k : ℕ) → i ≡ length xs + k → slice_index_or (map f xs ++ more) i [] ≡ slice_index_or more k []
+line_past : {X : Type 0} (f : X → List ℕ) (xs : List X) (more : List (List ℕ)) (i k : ℕ) → i ≡ length xs + k →
+    slice_index_or (map f xs ++ more) i [] ≡ slice_index_or more k []
 line_past f [] more i k is = let same : i ≡ k = omega arith in rw same refl
 line_past f (x ∷ xs) more zero k is = absurd (omega arith)
 line_past f (x ∷ xs) more (suc i) k is = line_past f xs more i k (omega arith)
 
 pub journal_count : (J : List Entry) (made cut : ℕ) (held : List (KeyName × ℕ)) → length J ≤ 4294967295 → count_at (behind_whole J made cut held) 0 ≡ length J
-journal_count J made cut held few = rw (words_line (codes "journal" ∷ decimal (length J) ∷ []) (rw (decimal_plain (length J)) refl)) (value (length J) (omega arith))
+journal_count J made cut held few = rw (words_line (codes "journal" ∷ decimal (length J) ∷ []) (rw (decimal_plain (length J)) refl))
+    (value (length J) (omega arith))
 
-pub held_count : (J : List Entry) (made cut : ℕ) (held : List (KeyName × ℕ)) → length held ≤ 4294967295 → count_at (behind_whole J made cut held) (length J + 4) ≡ length held
+pub held_count : (J : List Entry) (made cut : ℕ) (held : List (KeyName × ℕ)) → length held ≤ 4294967295 →
+    count_at (behind_whole J made cut held) (length J + 4) ≡ length held
 held_count J made cut held few =
     let next : length J + 4 ≡ suc (length J + 3) = omega arith in
     let many : length (map entry_words J) ≡ length J = length-map J entry_words in
-    let past : slice_index_or (map line (map entry_words J) ++ audit_whole made cut held) (length J + 3) [] ≡ slice_index_or (audit_whole made cut held) 3 [] = line_past line (map entry_words J) (audit_whole made cut held) (length J + 3) 3 (omega arith) in
-    let at : slice_index_or (behind_whole J made cut held) (length J + 4) [] ≡ line (codes "held" ∷ decimal (length held) ∷ []) = ap (λ (i : ℕ). slice_index_or (behind_whole J made cut held) i []) next ∙ past in
+    let past : slice_index_or (map line (map entry_words J) ++ audit_whole made cut held) (length J + 3) [] ≡ slice_index_or (audit_whole made cut held) 3 [] =
+    line_past line (map entry_words J) (audit_whole made cut held) (length J + 3) 3 (omega arith) in
+    let at : slice_index_or (behind_whole J made cut held) (length J + 4) [] ≡ line (codes "held" ∷ decimal (length held) ∷ []) =
+    ap (λ (i : ℕ). slice_index_or (behind_whole J made cut held) i []) next ∙ past in
     rw (at, words_line (codes "held" ∷ decimal (length held) ∷ []) (rw (decimal_plain (length held)) refl)) (value (length held) (omega arith))
 
-pub forms_printed : (version kernels : ℕ) (J : List Entry) (made cut : ℕ) (held : List (KeyName × ℕ)) → length J ≤ 4294967295 → length held ≤ 4294967295 → forms_behind version kernels (behind_whole J made cut held) ≡ count_form (codes "journal") ∷ (replicate (length J) (entry_form version kernels) ++ audit_forms version (length held))
+pub forms_printed : (version kernels : ℕ) (J : List Entry) (made cut : ℕ) (held : List (KeyName × ℕ)) → length J ≤ 4294967295 → length held ≤ 4294967295 →
+    forms_behind version kernels (behind_whole J made cut held) ≡ count_form (codes "journal") ∷ (replicate (length J) (entry_form version kernels)
+    ++ audit_forms version (length held))
 unfolding forms_behind
 forms_printed version kernels J made cut held few few_held = rw (journal_count J made cut held few, held_count J made cut held few_held) refl
 
-behind_fine : (T : Setup) (J : List Entry) (made cut : ℕ) (held : List (KeyName × ℕ)) → ReportFits T J made cut held → AreFine (forms_behind T.version T.kernels (behind_whole J made cut held)) (behind_whole J made cut held)
+behind_fine : (T : Setup) (J : List Entry) (made cut : ℕ) (held : List (KeyName × ℕ)) → ReportFits T J made cut held →
+    AreFine (forms_behind T.version T.kernels (behind_whole J made cut held)) (behind_whole J made cut held)
 behind_fine T J made cut held fits =
-    let last : AreFine (name_form (codes "end") ∷ []) (line (codes "end" ∷ []) ∷ []) = fine_more _ [] _ [] (name_fine (codes "end") refl (omega arith)) fine_none in
-    let keys : AreFine (replicate (length held) (held_form T.version) ++ name_form (codes "end") ∷ []) (map line (map held_line held) ++ line (codes "end" ∷ []) ∷ []) = fine_each held_line (held_form T.version) held _ _ (λ k h within. held_fine T.version (slice_index_or held k h) (fits.keys k h within)) last in
+    let last : AreFine (name_form (codes "end") ∷ []) (line (codes "end" ∷ []) ∷ []) =
+    fine_more _ [] _ [] (name_fine (codes "end") refl (omega arith)) fine_none in
+    let keys : AreFine (replicate (length held) (held_form T.version) ++ name_form (codes "end") ∷ []) (map line (map held_line held)
+    ++ line (codes "end" ∷ []) ∷ []) =
+    fine_each held_line (held_form T.version) held _ _ (λ k h within. held_fine T.version (slice_index_or held k h) (fits.keys k h within)) last in
     let audit : AreFine (audit_forms T.version (length held)) (audit_whole made cut held) =
     fine_more _ _ _ _ (name_fine (codes "audit") refl (omega arith))
     (fine_more _ _ _ _ (count_fine (codes "made") made refl (omega arith) fits.few_made)
     (fine_more _ _ _ _ (count_fine (codes "cut") cut refl (omega arith) fits.few_cut)
     (fine_more _ _ _ _ (count_fine (codes "held") (length held) refl (omega arith) fits.few_held) keys))) in
-    let entries = fine_each entry_words (entry_form T.version T.kernels) J _ _ (λ k e within. entry_fine T.version T.kernels (slice_index_or J k e) fits.trace.some_kernel (few_kernels T fits.trace) (fits.entries k e within)) audit in
-    let all : AreFine (count_form (codes "journal") ∷ (replicate (length J) (entry_form T.version T.kernels) ++ audit_forms T.version (length held))) (behind_whole J made cut held) = fine_more _ _ _ _ (count_fine (codes "journal") (length J) refl (omega arith) fits.few_entries) entries in
+    let entries = fine_each entry_words (entry_form T.version T.kernels) J _ _
+    (λ k e within. entry_fine T.version T.kernels (slice_index_or J k e) fits.trace.some_kernel (few_kernels T fits.trace) (fits.entries k e within)) audit
+    in
+    let all : AreFine (count_form (codes "journal") ∷ (replicate (length J) (entry_form T.version T.kernels) ++ audit_forms T.version (length held)))
+    (behind_whole J made cut held) = fine_more _ _ _ _ (count_fine (codes "journal") (length J) refl (omega arith) fits.few_entries) entries in
     λ n. rw (forms_printed T.version T.kernels J made cut held fits.few_entries fits.few_held) (all n)
 
 -- the trace
@@ -142,13 +168,16 @@ pub trace_read : (T : Setup) → Stands (canonical T) T → T ≡ setup_in (map 
 trace_read T stands = section_declares (canonical T) (map line (trace_lines T)) T (trace_whole T) (declares T stands)
 
 trace_fine : (T : Setup) → IsSetup T → Stands (canonical T) T → trace_refusal T.version (map line (trace_lines T)) ≡ None
-trace_fine T setup stands = section_spelled T.version (canonical T) (canonical T) (map line (trace_lines T)) T None (trace_whole T) (declares T stands) (head_printed T setup.versioned) refl (sym (same_lines 2 (whole_lines (canonical T))))
+trace_fine T setup stands = section_spelled T.version (canonical T) (canonical T) (map line (trace_lines T)) T None (trace_whole T) (declares T stands)
+    (head_printed T setup.versioned) refl (sym (same_lines 2 (whole_lines (canonical T))))
 
 -- the version that the first line tells
 first_told : (T : Setup) → IsSetup T → version_in (words_in (line (codes "semper" ∷ codes "report" ∷ decimal T.version ∷ []))) ≡ T.version
-first_told T setup = ap version_in (words_line (codes "semper" ∷ codes "report" ∷ decimal T.version ∷ []) (rw (decimal_plain T.version) refl)) ∙ value T.version (small_version T.version setup.versioned)
+first_told T setup = ap version_in (words_line (codes "semper" ∷ codes "report" ∷ decimal T.version ∷ []) (rw (decimal_plain T.version) refl))
+    ∙ value T.version (small_version T.version setup.versioned)
 
-pub report_read : ((T : Setup) → IsSetup T → Stands (canonical T) T) → (T : Setup) (J : List Entry) (made cut : ℕ) (held : List (KeyName × ℕ)) → ReportFits T J made cut held → length (report_text T J made cut held) ≤ 134217728 → report_refusal (report_text T J made cut held) ≡ None
+pub report_read : ((T : Setup) → IsSetup T → Stands (canonical T) T) → (T : Setup) (J : List Entry) (made cut : ℕ) (held : List (KeyName × ℕ)) →
+    ReportFits T J made cut held → length (report_text T J made cut held) ≤ 134217728 → report_refusal (report_text T J made cut held) ≡ None
 report_read stands T J made cut held fits short =
     let behind : List (List ℕ) = behind_whole J made cut held in
     let section : List (List ℕ) = map line (trace_lines T) in
@@ -167,4 +196,5 @@ report_read stands T J made cut held fits short =
       rest = rw is (sym (drop-append_seam section behind));
       number = rw is refl;
     } in
-    behind_trace T.version (report_text T J made cut held) (section ++ behind) behind T (1 + length section) headed traced ∙ behind_fine T J made cut held fits (1 + length section + 1)
+    behind_trace T.version (report_text T J made cut held) (section ++ behind) behind T (1 + length section) headed traced
+    ∙ behind_fine T J made cut held fits (1 + length section + 1)

@@ -1,5 +1,7 @@
 -- A text as lines with their ends.
-use Rattle.std.proofs.Common.{◌≡◌, ◌≢◌, ℕ, suc, ◌+◌, ◌<◌, ◌≤◌, ◌==◌, inl, inr, Bool, true, false, cond, not, true≢false, min, List, [], ◌∷◌, ◌++◌, length, take, drop, map, Some, None, ap, sym, ◌∙◌, refl, arith, one-add, add-one, append_assoc, append-nil, eq-eqb, eqb-true, length-append, nat_lt, ltb-true, ltb-false}
+use Rattle.std.proofs.Common.{◌≡◌, ◌≢◌, ℕ, suc, ◌+◌, ◌<◌, ◌≤◌, ◌==◌, inl, inr, Bool, true, false, cond, not, true≢false, min, List, [], ◌∷◌, ◌++◌, length, take}
+use Rattle.std.proofs.Common.{drop, map, Some, None, ap, sym, ◌∙◌, refl, arith, one-add, add-one, append_assoc, append-nil, eq-eqb, eqb-true, length-append}
+use Rattle.std.proofs.Common.{nat_lt, ltb-true, ltb-false}
 use Rattle.std.specs.List.{slice_split, onto_first, position_or_len}
 use Rattle.std.proofs.Math.Seq.{take-append_seam}
 use Rattle.std.proofs.lemmas.Bool.{cases_Bool}
@@ -25,7 +27,8 @@ split_some (b ∷ bs) =
       | inr other ↦ let more = split_some bs in (b ∷ more.0, more.1, rw (other, more.2) refl)
     ]
 
-last-onto : (b : ℕ) (part : List ℕ) (parts : List (List ℕ)) → without_empty_last (onto_first b (part ∷ parts)) ≡ onto_first b (without_empty_last (part ∷ parts))
+last-onto : (b : ℕ) (part : List ℕ) (parts : List (List ℕ)) →
+    without_empty_last (onto_first b (part ∷ parts)) ≡ onto_first b (without_empty_last (part ∷ parts))
 last-onto b [] [] = refl
 last-onto b (c ∷ cs) [] = refl
 last-onto b [] (part ∷ parts) = refl
@@ -37,7 +40,8 @@ ten b end = eqb-true b 10 end
 keep_first : (bs : List ℕ) → without_empty_last ([] ∷ slice_split (λ b. b == 10) bs) ≡ [] ∷ without_empty_last (slice_split (λ b. b == 10) bs)
 keep_first bs = let more = split_some bs in rw more.2 refl
 
-keep_onto : (b : ℕ) (bs : List ℕ) → without_empty_last (onto_first b (slice_split (λ b. b == 10) bs)) ≡ onto_first b (without_empty_last (slice_split (λ b. b == 10) bs))
+keep_onto : (b : ℕ) (bs : List ℕ) →
+    without_empty_last (onto_first b (slice_split (λ b. b == 10) bs)) ≡ onto_first b (without_empty_last (slice_split (λ b. b == 10) bs))
 keep_onto b bs = let more = split_some bs in rw more.2 (last-onto b more.0 more.1)
 
 -- the lines of a text are the whole lines without their ends
@@ -50,7 +54,8 @@ lines-whole (b ∷ bs) =
       | inr other ↦ rw other (keep_onto b bs ∙ (ap (onto_first b) (lines-whole bs) ∙ sym (content-onto b (whole_lines bs) other)))
     ]
 
-first_whole : (bs : List ℕ) → 0 < length bs → whole_lines bs ≡ take (suc (position_or_len (λ b. b == 10) bs)) bs ∷ whole_lines (drop (suc (position_or_len (λ b. b == 10) bs)) bs)
+first_whole : (bs : List ℕ) → 0 < length bs →
+    whole_lines bs ≡ take (suc (position_or_len (λ b. b == 10) bs)) bs ∷ whole_lines (drop (suc (position_or_len (λ b. b == 10) bs)) bs)
 unfolding whole_lines
 first_whole [] some = absurd (omega arith)
 first_whole (b ∷ []) some =
@@ -69,7 +74,8 @@ unfolding whole_lines
 no_whole = refl
 
 -- a first line that has its end, before any other text
-lead_ended : (bs x : List ℕ) → position_or_len (λ b. b == 10) bs < length bs → whole_lines (take (suc (position_or_len (λ b. b == 10) bs)) bs ++ x) ≡ take (suc (position_or_len (λ b. b == 10) bs)) bs ∷ whole_lines x
+lead_ended : (bs x : List ℕ) → position_or_len (λ b. b == 10) bs < length bs →
+    whole_lines (take (suc (position_or_len (λ b. b == 10) bs)) bs ++ x) ≡ take (suc (position_or_len (λ b. b == 10) bs)) bs ∷ whole_lines x
 unfolding whole_lines
 lead_ended [] x within = absurd (omega arith)
 lead_ended (b ∷ bs) x within =
@@ -81,7 +87,8 @@ lead_ended (b ∷ bs) x within =
     ]
 
 -- the last line alone
-lead_last : (bs : List ℕ) → 0 < length bs → drop (suc (position_or_len (λ b. b == 10) bs)) bs ≡ [] → whole_lines (take (suc (position_or_len (λ b. b == 10) bs)) bs) ≡ take (suc (position_or_len (λ b. b == 10) bs)) bs ∷ []
+lead_last : (bs : List ℕ) → 0 < length bs → drop (suc (position_or_len (λ b. b == 10) bs)) bs ≡ [] →
+    whole_lines (take (suc (position_or_len (λ b. b == 10) bs)) bs) ≡ take (suc (position_or_len (λ b. b == 10) bs)) bs ∷ []
 unfolding whole_lines
 lead_last bs some nothing =
     let n : ℕ = position_or_len (λ b. b == 10) bs in
@@ -90,7 +97,8 @@ lead_last bs some nothing =
     let lines : whole_lines bs ≡ take (suc n) bs ∷ whole_lines (drop (suc n) bs) = first_whole bs some in
     ap whole_lines front ∙ (rw nothing at lines)
 
-lead : (bs x : List ℕ) → 0 < length bs → (drop (suc (position_or_len (λ b. b == 10) bs)) bs ≡ [] → x ≡ []) → whole_lines (take (suc (position_or_len (λ b. b == 10) bs)) bs ++ x) ≡ take (suc (position_or_len (λ b. b == 10) bs)) bs ∷ whole_lines x
+lead : (bs x : List ℕ) → 0 < length bs → (drop (suc (position_or_len (λ b. b == 10) bs)) bs ≡ [] → x ≡ []) →
+    whole_lines (take (suc (position_or_len (λ b. b == 10) bs)) bs ++ x) ≡ take (suc (position_or_len (λ b. b == 10) bs)) bs ∷ whole_lines x
 lead bs x some room =
     let n : ℕ = position_or_len (λ b. b == 10) bs in
     elim (cases_Bool (nat_lt n (length bs))) [
@@ -120,7 +128,8 @@ pub record FirstWhole (text : List ℕ) (end next : ℕ) : Type 0 where
   pub content : take end text ≡ content (take next text)
   pub lead : (x : List ℕ) → (drop next text ≡ [] → x ≡ []) → whole_lines (take next text ++ x) ≡ take next text ∷ whole_lines x
 
-found_whole : (text : List ℕ) → 0 < length text → FirstWhole text (position_or_len (λ b. b == 10) text) (min (position_or_len (λ b. b == 10) text + 1) (length text))
+found_whole : (text : List ℕ) → 0 < length text →
+    FirstWhole text (position_or_len (λ b. b == 10) text) (min (position_or_len (λ b. b == 10) text + 1) (length text))
 found_whole text some =
     let n : ℕ = position_or_len (λ b. b == 10) text in
     let next : n + 1 ≡ suc n = add-one n in
@@ -145,7 +154,10 @@ none_cond false y found = absurd (none-some y (sym found))
 pub whole_found : (text : List ℕ) (end next : ℕ) → Some (end, next) ≡ line_from text 0 → FirstWhole text end next
 whole_found text end next found =
     let n : ℕ = 0 + position_or_len (λ b. b == 10) text in
-    let h : ((0 == length text) ≡ false) × ((end, next) ≡ (n, min (n + 1) (length text))) = found_cond (0 == length text) (end, next) (n, min (n + 1) (length text)) found in
+    let h : ((0 == length text) ≡ false) × ((end, next) ≡ (n, min (n + 1) (length text))) = found_cond (0 == length text) (end, next) (
+      n,
+      min (n + 1) (length text),
+    ) found in
     let ends : end ≡ n = ap (λ (q : ℕ × ℕ). q.0) h.1 in
     let begins : next ≡ min (n + 1) (length text) = ap (λ (q : ℕ × ℕ). q.1) h.1 in
     let zero' : n ≡ position_or_len (λ b. b == 10) text = omega arith in
@@ -192,15 +204,18 @@ pub record OneLine (rest line behind : List ℕ) : Type 0 where
   pub lead : (x : List ℕ) → (behind ≡ [] → x ≡ []) → whole_lines (line ++ x) ≡ line ∷ whole_lines x
 
 -- the front with one line more
-longer_front : (text rest line behind : List ℕ) (end number : ℕ) → IsCut text rest end number → rest ≡ line ++ behind → take (end + length line) text ≡ take end text ++ line
+longer_front : (text rest line behind : List ℕ) (end number : ℕ) → IsCut text rest end number → rest ≡ line ++ behind →
+    take (end + length line) text ≡ take end text ++ line
 longer_front text rest line behind end number cut is =
-    let whole : text ≡ (take end text ++ line) ++ behind = cut.parts ∙ (ap (λ (r : List ℕ). take end text ++ r) is ∙ sym (append_assoc (take end text) line behind)) in
+    let whole : text ≡ (take end text ++ line) ++ behind = cut.parts
+    ∙ (ap (λ (r : List ℕ). take end text ++ r) is ∙ sym (append_assoc (take end text) line behind)) in
     let len : length (take end text) ≡ end = length-take-le end text (omega (arith, cut.within)) in
     let size : length (take end text ++ line) ≡ end + length line = length-append (take end text) line ∙ ap (λ (n : ℕ). n + length line) len in
     ap (take (end + length line)) whole ∙ (rw (← size) (take-append_seam (take end text ++ line) behind))
 
 -- one line more is taken off
-pub cut_more : (text rest line behind : List ℕ) (end number : ℕ) → IsCut text rest end number → OneLine rest line behind → is_end_line line ≡ false → IsCut text behind (end + length line) (number + 1)
+pub cut_more : (text rest line behind : List ℕ) (end number : ℕ) → IsCut text rest end number → OneLine rest line behind → is_end_line line ≡ false →
+    IsCut text behind (end + length line) (number + 1)
 unfolding trace_section
 cut_more text rest line behind end number cut one other =
     let longer : take (end + length line) text ≡ take end text ++ line = longer_front text rest line behind end number cut one.text in
@@ -209,7 +224,8 @@ cut_more text rest line behind end number cut one other =
       lines = cut.lines ++ line ∷ [];
       within = omega (arith, cut.within, size);
       parts = cut.parts ∙ (rw (one.text, longer) (sym (append_assoc (take end text) line behind)));
-      front = λ x room. rw (longer, append_assoc) (cut.front (line ++ x) (λ none. absurd (some_not_none line behind one.some (sym one.text ∙ none))) ∙ (rw (one.lead x room) (sym (append_assoc cut.lines (line ∷ []) (whole_lines x)))));
+      front = λ x room. rw (longer, append_assoc) (cut.front (line ++ x) (λ none. absurd (some_not_none line behind one.some (sym one.text ∙ none)))
+          ∙ (rw (one.lead x room) (sym (append_assoc cut.lines (line ∷ []) (whole_lines x)))));
       count = rw (cut.count, length-append) refl;
       few = omega (arith, cut.few, one.some);
       section = cut.section ∙ (rw (one.lines, other) (sym (append_assoc cut.lines (line ∷ []) (trace_section (whole_lines behind)))));
@@ -222,7 +238,8 @@ pub record IsSection (text section behind : List ℕ) (number : ℕ) : Type 0 wh
   pub count : number ≡ length (trace_section (whole_lines text))
   pub parts : text ≡ section ++ behind
 
-pub section_ends : (text rest line behind section : List ℕ) (end number : ℕ) → IsCut text rest end number → OneLine rest line behind → is_end_line line ≡ true → section ≡ take (end + length line) text → IsSection text section behind (number + 1)
+pub section_ends : (text rest line behind section : List ℕ) (end number : ℕ) → IsCut text rest end number → OneLine rest line behind → is_end_line line ≡ true →
+    section ≡ take (end + length line) text → IsSection text section behind (number + 1)
 unfolding trace_section
 section_ends text rest line behind section end number cut one last is =
     let longer : section ≡ take end text ++ line = is ∙ longer_front text rest line behind end number cut one.text in
@@ -231,14 +248,16 @@ section_ends text rest line behind section end number cut one last is =
     let alone : whole_lines (line ++ []) ≡ line ∷ [] = one.lead [] (λ none. refl) ∙ ap (λ (ls : List (List ℕ)). line ∷ ls) no_whole in
     let all : whole_lines text ≡ cut.lines ++ whole_lines rest = ap whole_lines cut.parts ∙ cut.front rest (λ none. none) in
     record {
-      section_lines = rw (whole, longer) (ap (λ (l : List ℕ). whole_lines (take end text ++ l)) (sym (append-nil line)) ∙ (cut.front (line ++ []) (λ none. absurd (not_empty none)) ∙ ap (λ (ls : List (List ℕ)). cut.lines ++ ls) alone));
+      section_lines = rw (whole, longer) (ap (λ (l : List ℕ). whole_lines (take end text ++ l)) (sym (append-nil line))
+          ∙ (cut.front (line ++ []) (λ none. absurd (not_empty none)) ∙ ap (λ (ls : List (List ℕ)). cut.lines ++ ls) alone));
       behind_lines = rw whole (all ∙ (rw one.lines (sym (append_assoc cut.lines (line ∷ []) (whole_lines behind)))));
       count = rw (whole, length-append, cut.count) refl;
       parts = cut.parts ∙ (rw (one.text, longer) (sym (append_assoc (take end text) line behind)));
     }
 
 -- the section, where no line ends it
-pub section_open : (text rest section : List ℕ) (end number : ℕ) → IsCut text rest end number → rest ≡ [] → section ≡ take end text → IsSection text section rest number
+pub section_open : (text rest section : List ℕ) (end number : ℕ) → IsCut text rest end number → rest ≡ [] → section ≡ take end text →
+    IsSection text section rest number
 unfolding trace_section
 section_open text rest section end number cut none is =
     let lines_none : whole_lines rest ≡ [] = ap whole_lines none ∙ no_whole in

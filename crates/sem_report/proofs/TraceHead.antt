@@ -1,5 +1,6 @@
 -- The first line of the trace in a report tells the version of the report.
-use Rattle.std.proofs.Common.{◌≡◌, ℕ, ◌+◌, ◌<◌, ◌≤◌, ◌^◌, true, false, ◌⊎◌, inl, inr, List, [], ◌∷◌, length, map, Option, Some, None, refl, ap, sym, ◌∙◌, arith, decimal, length-append}
+use Rattle.std.proofs.Common.{◌≡◌, ℕ, ◌+◌, ◌<◌, ◌≤◌, ◌^◌, true, false, ◌⊎◌, inl, inr, List, [], ◌∷◌, length, map, Option, Some, None, refl, ap, sym, ◌∙◌, arith}
+use Rattle.std.proofs.Common.{decimal, length-append}
 use Rattle.std.specs.Prelude.{codes, slice_index_or}
 use Rattle.std.specs.Option.{option_or, option_map}
 use Rattle.std.proofs.lemmas.Bool.{cases_Bool}
@@ -44,13 +45,15 @@ words_tell : (version : ℕ) (words : List (List ℕ)) → version < 2 ^ 64 → 
 words_tell version words small fits = ap version_in (exactly_is (first_words version) words fits) ∙ (digits-decimal version small).1
 
 -- the first line that says something tells the version
-first_tells : (version n : ℕ) (lines : List (List ℕ)) → version < 2 ^ 64 → head_fault version n lines ≡ None → (significant lines ≡ []) ⊎ (version_in (slice_index_or (significant lines) 0 []) ≡ version)
+first_tells : (version n : ℕ) (lines : List (List ℕ)) → version < 2 ^ 64 → head_fault version n lines ≡ None →
+    (significant lines ≡ []) ⊎ (version_in (slice_index_or (significant lines) 0 []) ≡ version)
 unfolding head_fault
 first_tells version n [] small none = inl refl
 first_tells version n (line ∷ lines) small none =
     let both = or_none (option_map (fault_of n) (bytes_fault line)) _ none in
     elim (cases_Bool (is_significant (words_of line))) [
-      | inl says ↦ rw says (inr (words_tell version (words_of line) small (mapped_none n (form_fault (trace_form version) (words_of line)) (rw says at both.1))))
+      | inl says ↦ rw says
+          (inr (words_tell version (words_of line) small (mapped_none n (form_fault (trace_form version) (words_of line)) (rw says at both.1))))
       | inr silent ↦ rw silent (first_tells version (n + 1) lines small (rw silent at both.1))
     ]
 
@@ -61,7 +64,8 @@ says_something lines accepted nothing =
     let none : end_fault lines ≡ None = (or_none (first_fault lines) (end_fault lines) accepted).1 in
     absurd (none-some _ (sym (rw nothing at none)))
 
-pub version_told : (version n : ℕ) (lines : List (List ℕ)) → (version ≡ 1) ⊎ (version ≡ 2) → head_fault version n lines ≡ None → lines_refusal lines ≡ None → version_of lines ≡ version
+pub version_told : (version n : ℕ) (lines : List (List ℕ)) → (version ≡ 1) ⊎ (version ≡ 2) → head_fault version n lines ≡ None → lines_refusal lines ≡ None →
+    version_of lines ≡ version
 unfolding version_of
 version_told version n lines versions none accepted =
     elim (first_tells version n lines (small_version version versions) none) [
@@ -70,19 +74,27 @@ version_told version n lines versions none accepted =
     ]
 
 -- The lines of a section, one after another.
-pub head_nothing : (version first number : ℕ) (all rest : List (List ℕ)) → head_fault version first (map content all) ≡ head_fault version number (map content rest) → rest ≡ [] → None ≡ head_fault version first (map content all)
+pub head_nothing : (version first number : ℕ) (all rest : List (List ℕ)) →
+    head_fault version first (map content all) ≡ head_fault version number (map content rest) → rest ≡ [] → None ≡ head_fault version first (map content all)
 unfolding head_fault
 head_nothing version first number all rest same none = sym (same ∙ (rw none refl))
 
-pub head_bytes : (version first number : ℕ) (all rest behind : List (List ℕ)) (whole : List ℕ) (cause : Cause) → head_fault version first (map content all) ≡ head_fault version number (map content rest) → rest ≡ whole ∷ behind → bytes_fault (content whole) ≡ Some cause → Some (fault_of number cause) ≡ head_fault version first (map content all)
+pub head_bytes : (version first number : ℕ) (all rest behind : List (List ℕ)) (whole : List ℕ) (cause : Cause) →
+    head_fault version first (map content all) ≡ head_fault version number (map content rest) → rest ≡ whole ∷ behind →
+    bytes_fault (content whole) ≡ Some cause → Some (fault_of number cause) ≡ head_fault version first (map content all)
 unfolding head_fault
 head_bytes version first number all rest behind whole cause same is bad = sym (same ∙ (rw (is, bad) refl))
 
-pub head_words : (version first number : ℕ) (all rest behind : List (List ℕ)) (whole : List ℕ) (o : Option Cause) → head_fault version first (map content all) ≡ head_fault version number (map content rest) → rest ≡ whole ∷ behind → bytes_fault (content whole) ≡ None → is_significant (words_of (content whole)) ≡ true → form_fault (trace_form version) (words_of (content whole)) ≡ o → option_map (fault_of number) o ≡ head_fault version first (map content all)
+pub head_words : (version first number : ℕ) (all rest behind : List (List ℕ)) (whole : List ℕ) (o : Option Cause) →
+    head_fault version first (map content all) ≡ head_fault version number (map content rest) → rest ≡ whole ∷ behind → bytes_fault (content whole) ≡ None →
+    is_significant (words_of (content whole)) ≡ true → form_fault (trace_form version) (words_of (content whole)) ≡ o →
+    option_map (fault_of number) o ≡ head_fault version first (map content all)
 unfolding head_fault
 head_words version first number all rest behind whole o same is good says fault = sym (same ∙ (rw (is, good, says, fault) refl))
 
-pub head_next : (version first number : ℕ) (all rest behind : List (List ℕ)) (whole : List ℕ) → head_fault version first (map content all) ≡ head_fault version number (map content rest) → rest ≡ whole ∷ behind → bytes_fault (content whole) ≡ None → is_significant (words_of (content whole)) ≡ false → head_fault version first (map content all) ≡ head_fault version (number + 1) (map content behind)
+pub head_next : (version first number : ℕ) (all rest behind : List (List ℕ)) (whole : List ℕ) →
+    head_fault version first (map content all) ≡ head_fault version number (map content rest) → rest ≡ whole ∷ behind → bytes_fault (content whole) ≡ None →
+    is_significant (words_of (content whole)) ≡ false → head_fault version first (map content all) ≡ head_fault version (number + 1) (map content behind)
 unfolding head_fault
 head_next version first number all rest behind whole same is good silent = same ∙ (rw (is, good, silent) refl)
 

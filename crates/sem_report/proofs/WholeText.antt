@@ -1,5 +1,6 @@
 -- A printed text in lines with their ends.
-use Rattle.std.proofs.Common.{◌≡◌, ℕ, zero, suc, ◌/◌, ◌%◌, ◌<◌, ◌==◌, Bool, true, false, ◌&&◌, not, List, [], ◌∷◌, ◌++◌, map, ap, ◌∙◌, refl, arith, append_assoc, decimal, inl, inr, lt-ltb}
+use Rattle.std.proofs.Common.{◌≡◌, ℕ, zero, suc, ◌/◌, ◌%◌, ◌<◌, ◌==◌, Bool, true, false, ◌&&◌, not, List, [], ◌∷◌, ◌++◌, map, ap, ◌∙◌, refl, arith}
+use Rattle.std.proofs.Common.{append_assoc, decimal, inl, inr, lt-ltb}
 use Rattle.std.specs.List.{list_all, onto_first}
 use Rattle.std.specs.Fmt.{digits, digits_onto, digit_glyph}
 use Rattle.std.proofs.lemmas.Bool.{cases_Bool}
@@ -59,11 +60,13 @@ word_inside (b ∷ bs) plain = both _ _ (plain_inside b (and-left _ _ plain)) (w
 
 behind_inside : (ws : List (List ℕ)) → are_plain ws ≡ true → list_all is_inside (behind_blanks ws) ≡ true
 behind_inside [] plain = refl
-behind_inside (w ∷ ws) plain = list_all-append is_inside w (behind_blanks ws) ∙ both _ _ (word_inside w (and-right (is_word w) _ (and-left _ _ plain))) (behind_inside ws (and-right (is_plain_word w) _ plain))
+behind_inside (w ∷ ws) plain = list_all-append is_inside w (behind_blanks ws)
+    ∙ both _ _ (word_inside w (and-right (is_word w) _ (and-left _ _ plain))) (behind_inside ws (and-right (is_plain_word w) _ plain))
 
 bare_inside : (ws : List (List ℕ)) → are_plain ws ≡ true → list_all is_inside (bare ws) ≡ true
 bare_inside [] plain = refl
-bare_inside (w ∷ ws) plain = list_all-append is_inside w (behind_blanks ws) ∙ both _ _ (word_inside w (and-right (is_word w) _ (and-left _ _ plain))) (behind_inside ws (and-right (is_plain_word w) _ plain))
+bare_inside (w ∷ ws) plain = list_all-append is_inside w (behind_blanks ws)
+    ∙ both _ _ (word_inside w (and-right (is_word w) _ (and-left _ _ plain))) (behind_inside ws (and-right (is_plain_word w) _ plain))
 
 pub line_bare : (ws : List (List ℕ)) → line ws ≡ bare ws ++ 10 ∷ []
 line_bare [] = refl
@@ -94,4 +97,5 @@ words_line ws plain = ap words_of (content_line ws plain) ∙ words_printed ws p
 pub whole_text : (ls : List (List (List ℕ))) → list_all are_plain ls ≡ true → whole_lines (text ls) ≡ map line ls
 unfolding whole_lines
 whole_text [] plain = refl
-whole_text (l ∷ ls) plain = whole_line l (text ls) (and-left _ _ plain) ∙ ap (λ (more : List (List ℕ)). line l ∷ more) (whole_text ls (and-right (are_plain l) _ plain))
+whole_text (l ∷ ls) plain = whole_line l (text ls) (and-left _ _ plain)
+    ∙ ap (λ (more : List (List ℕ)). line l ∷ more) (whole_text ls (and-right (are_plain l) _ plain))

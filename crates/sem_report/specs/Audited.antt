@@ -1,10 +1,10 @@
--- Audits that are compared: where what is told of one setup and journal differs from what is due.
+-- Comparing audits: where the told audit of a setup and journal differs from the due one.
 use Rattle.std.specs.Prelude.{◌≡◌, ◌≢◌, ℕ, ◌<◌, List, length, take, slice_index_or, Option}
 use Rattle.sem_msg.specs.declared.audit.Audit.{Audit}
 use Rattle.sem_msg.specs.declared.audit.Held.{Held}
 use Rattle.sem_msg.specs.declared.entry.Entry.{Entry}
 use Rattle.sem_msg.specs.Audits.{held_pairs}
-use Rattle.sem_msg.specs.Setup.{Setup}
+use Rattle.sem_msg.specs.Prelude.{Setup}
 use Rattle.sem_journal.specs.ReportText.{report_text}
 use Rattle.sem_report.specs.WholeLines.{whole_lines}
 use Rattle.sem_report.specs.ReportRefusal.{first_difference}
@@ -18,7 +18,7 @@ audited T J a = report_text T J a.made a.cut (held_pairs a.held)
 abbrev pub AuditFits : Setup → List Entry → Audit → Type 0
 AuditFits T J a = ReportFits T J a.made a.cut (held_pairs a.held)
 
--- the first line in which a text differs from the report with the audit that is due
+-- the first line in which a text differs from the report with the due audit
 abbrev pub differing_line : List ℕ → Setup → List Entry → Audit → Option ℕ
 differing_line bytes T J due = first_difference 1 (whole_lines bytes) (whole_lines (audited T J due))
 

@@ -1,4 +1,4 @@
--- Lines of a report that are read one after another, and why one is not read.
+-- Lines of a report, read one after another, and why one is not read.
 use Rattle.std.specs.Prelude.{◌≡◌, ℕ, ◌+◌, ◌<◌, List, [], ◌∷◌, ◌++◌, Option, Some}
 use Rattle.sem_trace.specs.declared.fault.Cause.{Cause}
 use Rattle.sem_trace.specs.declared.fault.Cause.TheVariants.{Missing}
@@ -14,43 +14,45 @@ use Rattle.sem_report.specs.declared.report_lines.LineError.TheVariants.{Refused
 use Rattle.sem_report.specs.WholeLines.{whole_lines}
 use Rattle.sem_report.specs.ReportRefusal.{Form, forms_fault, fault_of, line_later}
 
--- why a line is not read: what is wrong with it, or memory is wanted
+-- why a line is not read: what is wrong with it, or memory was refused
 abbrev pub Because : Option Cause → LineError → Type 0
 Because fault (Refused cause) = fault ≡ Some cause
 Because fault Memory = Unit {0}
 
--- lines from number n on have these forms, and what is wrong with all is what is wrong with the rest behind, from number m on
+-- lines from number n on have these forms, and what is wrong with all of them is what is wrong with
+-- the rest, from number m on
 abbrev pub Follows : List Form → ℕ → List (List ℕ) → ℕ → List (List ℕ) → Type 0
 Follows forms n lines m rest = (more : List Form) → forms_fault n (forms ++ more) lines ≡ forms_fault m more rest
 
--- lines from number n on do not have these forms, or memory is wanted
+-- lines from number n on do not have these forms, or memory was refused
 abbrev pub Stops : List Form → ℕ → List (List ℕ) → TraceError → Type 0
 Stops forms n lines (RefusedText fault) = (more : List Form) → forms_fault n (forms ++ more) lines ≡ Some fault
 Stops forms n lines NoMemory = Unit {0}
 
--- the first line of a text after n lines, and the text behind it after m
+-- the first line of a text after n lines, and the text after it, after m lines
 pub record NextLine (n : ℕ) (text whole : List ℕ) (m : ℕ) (behind : List ℕ) : Type 0 where
   pub number : m ≡ n + 1
   pub lines : whole_lines text ≡ whole ∷ whole_lines behind
   pub parts : text ≡ whole ++ behind
 
--- there are no lines, where line n should be
+-- no lines are left where line n should be
 abbrev pub IsMissing : ℕ → List (List ℕ) → TraceError → Type 0
 IsMissing n lines e = (lines ≡ []) × (e ≡ RefusedText (fault_of n Missing))
 
--- why a report is not read, where line n of it is not
+-- why a report is not read, if line n of it is not
 abbrev pub at_line : ℕ → LineError → TraceError
 at_line n (Refused cause) = RefusedText (fault_of n cause)
 at_line n Memory = NoMemory
 
--- the first line of a text is that of an entry of a report of that version, which comes to the end of a list
+-- the first line of a text is that of an entry of a report of that version, and the entry joins the
+-- end of a list
 pub record OneEntry (version kernels : ℕ) (text behind : List ℕ) (before after : List Entry) : Type 0 where
   pub entry : Entry
   pub parts : text ≡ line (entry_words entry) ++ behind
   pub added : after ≡ before ++ entry ∷ []
   pub fits : EntryFits version kernels entry
 
--- a text is refused so
+-- a text has that refusal
 abbrev pub IsRefused : Option TraceFault → TraceError → Type 0
 IsRefused refused (RefusedText fault) = refused ≡ Some fault
 IsRefused refused NoMemory = ⊥

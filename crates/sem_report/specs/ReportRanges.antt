@@ -1,13 +1,13 @@
--- Which reports can be told: what their parts may be ("The report" in docs/texts.md).
+-- Which reports can be told: the ranges of their parts ("The report" in docs/texts.md).
 use Rattle.std.specs.Prelude.{ℕ, ◌≤◌, List, length}
 use Rattle.std.specs.List.{All}
-use Rattle.sem_key.specs.KeyName.{KeyName}
+use Rattle.sem_msg.specs.Prelude.{KeyName, Setup}
 use Rattle.sem_msg.specs.declared.entry.Entry.{Entry}
-use Rattle.sem_msg.specs.Setup.{Setup, IsSetup}
+use Rattle.sem_msg.specs.Setup.{IsSetup}
 use Rattle.sem_trace.specs.Ranges.{IsKeyInText}
 use Rattle.sem_journal.specs.EntryRanges.{EntryFits}
 
--- a key that is held, with its selector, in a report of that version
+-- a held key with its selector, in a report of that version
 abbrev pub HeldFits : ℕ → KeyName × ℕ → Type 0
 HeldFits version h = IsKeyInText version h.0 × (h.1 ≤ 255)
 

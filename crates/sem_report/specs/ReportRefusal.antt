@@ -1,8 +1,9 @@
 -- Which texts are refused as reports, at which line and why ("The report" in docs/texts.md).
-use Rattle.std.specs.Prelude.{ℕ, ◌+◌, nat_lt, Bool, List, [], ◌∷◌, ◌++◌, length, take, drop, map, codes, decimal, replicate, slice_index_or, Option, Some, None, option_map, if◌then◌else◌}
+use Rattle.std.specs.Prelude.{ℕ, ◌+◌, nat_lt, Bool, List, [], ◌∷◌, ◌++◌, length, take, drop, map, codes, decimal}
+use Rattle.std.specs.Prelude.{replicate, slice_index_or, Option, Some, None, option_map, if◌then◌else◌}
 use Rattle.std.specs.Option.{option_or}
 use Rattle.std.specs.Str.{bytes_eq}
-use Rattle.sem_msg.specs.Setup.{Setup}
+use Rattle.sem_msg.specs.Prelude.{Setup}
 use Rattle.sem_text.specs.Lines.{line}
 use Rattle.sem_trace.specs.declared.fault.Cause.{Cause}
 use Rattle.sem_trace.specs.declared.fault.Cause.TheVariants.{OutOfRange, Missing, TooMany, InputTooLong, NotCanonical}
@@ -21,11 +22,12 @@ use Rattle.sem_report.specs.WholeLines.{whole_lines, content}
 abbrev pub words_in : List ℕ → List (List ℕ)
 words_in line = words_of (content line)
 
--- what words of a line can stand in its places
+-- which words of a line can stand in its places
 abbrev pub Form : Type 0
 Form = List (List ℕ) → List Place
 
--- what is wrong with a line of that form: with its bytes, its words, the memory that it tells, or its spelling
+-- what is wrong with a line of that form: with its bytes, its words, the memory that it tells, or
+-- its spelling
 unfoldable pub report_line_fault : Form → List ℕ → Option Cause
 report_line_fault form whole =
     let words : List (List ℕ) = words_in whole in
@@ -37,12 +39,13 @@ report_line_fault form whole =
 abbrev pub fault_of : ℕ → Cause → TraceFault
 fault_of n cause = record { line = n; cause = cause }
 
--- the first fault of lines of these forms, the first of which has that number
+-- the first fault of lines of these forms; the first line has that number
 unfoldable pub forms_fault : ℕ → List Form → List (List ℕ) → Option TraceFault
 forms_fault n [] [] = None
 forms_fault n [] (whole ∷ lines) = option_map (fault_of n) (option_or (bytes_fault (content whole)) (Some TooMany))
 forms_fault n (form ∷ forms) [] = Some (fault_of n Missing)
-forms_fault n (form ∷ forms) (whole ∷ lines) = option_or (option_map (fault_of n) (report_line_fault form whole)) (forms_fault (n + 1) forms lines)
+forms_fault n (form ∷ forms) (whole ∷ lines) =
+    option_or (option_map (fault_of n) (report_line_fault form whole)) (forms_fault (n + 1) forms lines)
 
 -- the first line
 abbrev pub report_form : Form
@@ -60,7 +63,7 @@ name_form name words = Word (name ∷ []) ∷ []
 abbrev pub count_form : List ℕ → Form
 count_form name words = Word (name ∷ []) ∷ word ∷ []
 
--- the line of a key that is held, in a report of that version
+-- the line of a held key, in a report of that version
 abbrev pub held_form : ℕ → Form
 held_form version words = Word (codes "key" ∷ []) ∷ key version ∷ byte ∷ []
 
@@ -68,15 +71,18 @@ held_form version words = Word (codes "key" ∷ []) ∷ key version ∷ byte ∷
 abbrev pub count_at : List (List ℕ) → ℕ → ℕ
 count_at lines i = number_at (words_in (slice_index_or lines i [])) 1
 
--- the lines of the audit, where so many keys are held, and the last line
+-- the lines of the audit with that many held keys, and the last line
 abbrev pub audit_forms : (version held : ℕ) → List Form
-audit_forms version held = name_form (codes "audit") ∷ count_form (codes "made") ∷ count_form (codes "cut") ∷ count_form (codes "held") ∷ replicate held (held_form version) ++ name_form (codes "end") ∷ []
+audit_forms version held = name_form (codes "audit") ∷ count_form (codes "made") ∷ count_form (codes "cut")
+    ∷ count_form (codes "held") ∷ replicate held (held_form version) ++ name_form (codes "end") ∷ []
 
--- the lines behind the trace: how many entries, each of them, and the audit, which says in its fourth line how many keys are held
+-- the lines after the trace: how many entries, each of them, and the audit, which says in its
+-- fourth line how many keys are held
 unfoldable pub forms_behind : (version kernels : ℕ) → List (List ℕ) → List Form
 forms_behind version kernels lines =
     let entries : ℕ = count_at lines 0 in
-    count_form (codes "journal") ∷ replicate entries (entry_form version kernels) ++ audit_forms version (count_at lines (entries + 4))
+    count_form (codes "journal") ∷ replicate entries (entry_form version kernels)
+    ++ audit_forms version (count_at lines (entries + 4))
 
 -- whether the first word of a line is `end`
 abbrev pub is_end_line : List ℕ → Bool
@@ -89,13 +95,15 @@ trace_section (whole ∷ lines) = if is_end_line whole then whole ∷ [] else wh
 
 -- the setup that the lines of a trace declare
 abbrev pub setup_in : List (List ℕ) → Setup
-setup_in section = setup_of (version_of (map content section)) (kernels_of (map content section)) (declarations_of (map content section))
+setup_in section = setup_of (version_of (map content section)) (kernels_of (map content section))
+    (declarations_of (map content section))
 
 -- the first line of the trace in a report of that version
 abbrev pub trace_form : ℕ → List Place
 trace_form version = Word (codes "semper" ∷ []) ∷ Word (codes "trace" ∷ []) ∷ Word (decimal version ∷ []) ∷ []
 
--- what is wrong with the first of these lines that says something, against that form, or with one before it; the first of all has that number
+-- what is wrong with the first of these lines that says something, against that form, or with an
+-- earlier one; the first of all has that number
 unfoldable pub head_fault : (version n : ℕ) → List (List ℕ) → Option TraceFault
 head_fault version n [] = None
 head_fault version n (line ∷ lines) =
@@ -107,33 +115,40 @@ head_fault version n (line ∷ lines) =
 abbrev pub line_later : TraceFault → TraceFault
 line_later fault = record { line = fault.line + 1; cause = fault.cause }
 
--- the number of the first line in which two texts differ, where the first lines have that number
+-- the number of the first line in which two texts differ, if the first lines have that number
 unfoldable pub first_difference : ℕ → List (List ℕ) → List (List ℕ) → Option ℕ
 first_difference n [] [] = None
 first_difference n [] (other ∷ others) = Some n
 first_difference n (whole ∷ lines) [] = Some n
-first_difference n (whole ∷ lines) (other ∷ others) = if bytes_eq whole other then first_difference (n + 1) lines others else Some n
+first_difference n (whole ∷ lines) (other ∷ others) = if bytes_eq whole other
+    then first_difference (n + 1) lines others else Some n
 
--- the first line in which the trace differs from the canonical text; it begins with the second line of the report
+-- the first line in which the trace differs from the canonical text; the trace begins with the
+-- second line of the report
 abbrev pub spelling_fault : List (List ℕ) → Setup → Option TraceFault
-spelling_fault section T = option_map (λ n. fault_of n NotCanonical) (first_difference 2 section (whole_lines (canonical T)))
+spelling_fault section T =
+    option_map (λ n. fault_of n NotCanonical) (first_difference 2 section (whole_lines (canonical T)))
 
--- the refusal of the trace in a report of that version: that of its first line, then that of all its lines, and then the first line of another spelling
+-- the refusal of the trace in a report of that version: that of its first line, then that of all
+-- its lines, then that of the first line with another spelling
 abbrev pub trace_refusal : ℕ → List (List ℕ) → Option TraceFault
 trace_refusal version section =
     option_or (head_fault version 2 (map content section))
     (option_or (option_map line_later (lines_refusal (map content section)))
     (spelling_fault section (setup_in section)))
 
--- the refusal of the lines behind the first, which tells that version: that of the trace, and then that of the lines behind it
+-- the refusal of the lines after the first, which tells that version: that of the trace, then that
+-- of the lines after it
 unfoldable pub refusal_behind : ℕ → List (List ℕ) → Option TraceFault
 refusal_behind version lines =
     let section : List (List ℕ) = trace_section lines in
     let behind : List (List ℕ) = drop (length section) lines in
-    option_or (trace_refusal version section) (forms_fault (2 + length section) (forms_behind version (setup_in section).kernels behind) behind)
+    option_or (trace_refusal version section)
+    (forms_fault (2 + length section) (forms_behind version (setup_in section).kernels behind) behind)
 
 -- the refusal of a text as a report, if it is refused
 unfoldable pub report_refusal : List ℕ → Option TraceFault
 report_refusal bytes =
     if nat_lt 134217728 (length bytes) then Some (fault_of 0 InputTooLong)
-    else option_or (forms_fault 1 (report_form ∷ []) (take 1 (whole_lines bytes))) (refusal_behind (report_version (whole_lines bytes)) (drop 1 (whole_lines bytes)))
+    else option_or (forms_fault 1 (report_form ∷ []) (take 1 (whole_lines bytes)))
+    (refusal_behind (report_version (whole_lines bytes)) (drop 1 (whole_lines bytes)))

@@ -1,4 +1,4 @@
-// Audits that are compared.
+// Comparing audits.
 ghost use Rattle.std.specs.Prelude.{◌≡◌, ◌-◌, ◌≤◌, ℕ, List, length, MatchOption};
 ghost use Rattle.sem_msg.specs.declared.entry.Entry.{Entry as EntryData};
 ghost use Rattle.sem_msg.specs.Setup.{Setup as SetupRecord};
@@ -8,8 +8,8 @@ ghost use Rattle.sem_report.specs.Audited.{audited, AuditFits, differing_line, D
 use crate::lines::next_whole_line;
 use sem_msg::{Audit, Held};
 
-/// The number of the first line that the audit of a report tells otherwise than is due. The text
-/// is the report with the audit that it tells. Takes no memory.
+/// The number of the first line in which the report's audit differs from the due one. The text must
+/// be the report with the told audit. Takes no memory.
 pub fn audit_difference(bytes: &[u8], told: &Audit, due: &Audit) -> Option<u64>
     requires few { length bytes.now ≤ 1000000000 }
     ensures { (T : SetupRecord) (J : List EntryData) → bytes.now ≡ audited T J told.now
@@ -31,8 +31,8 @@ pub fn audit_difference(bytes: &[u8], told: &Audit, due: &Audit) -> Option<u64>
     }
 }
 
-// The number of the line that tells how many keys were made, in the report with that audit. Behind
-// it stand two, one for each key, and the last.
+// The number of the line that tells how many keys were made, in the report with that audit. After
+// it come two more counts, one line for each key, and the last line.
 fn made_line(bytes: &[u8], told: &Audit) -> u64
     requires few { length bytes.now ≤ 1000000000 }
     ensures line { result ≡ length (whole_lines bytes.now) - length told.now.held - 3 }
@@ -58,7 +58,7 @@ fn line_count(bytes: &[u8]) -> u64
     count
 }
 
-// The first place at which the lists, which are of one length, differ.
+// The first place at which the lists, which have the same length, differ.
 fn first_other(told: &[Held], due: &[Held]) -> Option<usize>
     requires { length told.now ≡ length due.now }
     ensures { MatchOption result (told.now ≡ due.now) (DifferFirst told.now due.now) }

@@ -1,8 +1,10 @@
 // The lines of a text, from the front, each with its line end.
-ghost use Rattle.std.specs.Prelude.{◌≡◌, ℕ, ◌+◌, ◌≤◌, ◌<◌, List, [], ◌∷◌, ◌++◌, length, MatchOption, IfSome};
+ghost use Rattle.std.specs.Prelude.{◌≡◌, ℕ, ◌+◌, ◌≤◌, ◌<◌, List, [], ◌∷◌, ◌++◌, length};
+ghost use Rattle.std.specs.Prelude.{MatchOption, IfSome};
 ghost use Rattle.std.specs.Str.{bytes_eq};
 ghost use Rattle.sem_report.specs.WholeLines.{whole_lines, content as content_lem};
-ghost use Rattle.sem_report.specs.ReportRefusal.{first_difference as first_difference_lem, trace_section, is_end_line as is_end_line_lem};
+ghost use Rattle.sem_report.specs.ReportRefusal.{first_difference as first_difference_lem};
+ghost use Rattle.sem_report.specs.ReportRefusal.{trace_section, is_end_line as is_end_line_lem};
 
 use sem_text::line_at;
 use sem_trace::{is, next_word};
@@ -14,7 +16,7 @@ pub struct Line<'a> {
     pub content: &'a [u8],
 }
 
-/// The first line, and the text behind it; none where there is no text. Takes no memory.
+/// The first line, and the text after it; none if there is no text. Takes no memory.
 pub fn next_whole_line(text: &[u8]) -> Option<(Line<'_>, &[u8])>
     ensures lines { MatchOption result (whole_lines text.now ≡ [])
         (λ p. whole_lines text.now ≡ p.0.whole.now ∷ whole_lines p.1.now) }
@@ -37,13 +39,13 @@ pub fn same(text: &[u8], other: &[u8]) -> bool
     text == other
 }
 
-/// The number of the first line in which two texts differ, where their first lines have that
-/// number. Takes no memory.
+/// The number of the first line in which two texts differ, if their first lines have that number.
+/// Takes no memory.
 pub fn first_difference(text: &[u8], other: &[u8], first: u64) -> Option<u64>
     requires { first + length text.now ≤ 1000000000 }
     ensures { result ≡ first_difference_lem first (whole_lines text.now) (whole_lines other.now) }
 {
-    // Mostly there is none, and two texts are compared faster than their lines.
+    // Mostly they do not differ, and two texts are compared faster than their lines.
     if same(text, other) {
         return None;
     }
@@ -80,7 +82,7 @@ fn is_end_line(line: &Line) -> bool
     }
 }
 
-/// The lines up to the first that ends a trace, what is behind them, and how many they are. Takes
+/// The lines up to the first that ends a trace, the text after them, and how many they are. Takes
 /// no memory.
 pub fn split_section(text: &[u8]) -> (&[u8], &[u8], u64)
     requires { length text.now ≤ 1000000000 }

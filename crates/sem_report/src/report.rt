@@ -1,6 +1,7 @@
-// The text of a report. After want of memory each of these functions but `print_report` may have
+// The text of a report. If memory is refused, each of these functions but `print_report` may have
 // appended a part.
-ghost use Rattle.std.specs.Prelude.{◌≡◌, [], ◌∷◌, ◌++◌, length, map, codes, decimal, slice_get, OnOk, OnErr};
+ghost use Rattle.std.specs.Prelude.{◌≡◌, [], ◌∷◌, ◌++◌, length, map, codes, decimal, slice_get};
+ghost use Rattle.std.specs.Prelude.{OnOk, OnErr};
 ghost use Rattle.std.specs.Option.{option_to_list};
 ghost use Rattle.sem_key.specs.KeyName.{KeyName};
 ghost use Rattle.sem_text.specs.Lines.{line, text};
@@ -36,7 +37,7 @@ fn push_entries(out: &mut Vec<u8>, journal: &Journal) -> Result<(), OutOfMemory>
     Ok(())
 }
 
-// Appends the line that says how many entries there are, and theirs.
+// Appends the line that says how many entries there are, and the lines of the entries.
 fn push_journal(out: &mut Vec<u8>, journal: &Journal) -> Result<(), OutOfMemory>
     ensures ok { OnOk result (out.new.items ≡ out.old.items
         ++ text ((codes "journal" ∷ decimal (length journal.now.entries) ∷ [])
@@ -46,7 +47,7 @@ fn push_journal(out: &mut Vec<u8>, journal: &Journal) -> Result<(), OutOfMemory>
     push_entries(out, journal)
 }
 
-/// Appends the line of a key that is held.
+/// Appends the line of a held key.
 pub fn push_held(out: &mut Vec<u8>, held: &Held) -> Result<(), OutOfMemory>
     ensures ok { OnOk result
         (out.new.items ≡ out.old.items ++ line (held_line (held.now.key, held.now.sel))) }
@@ -57,7 +58,7 @@ pub fn push_held(out: &mut Vec<u8>, held: &Held) -> Result<(), OutOfMemory>
     Ok(out.push(b'\n')?)
 }
 
-// Appends a line for each key that is held.
+// Appends a line for each held key.
 fn push_all_held(out: &mut Vec<u8>, held: &HeldList) -> Result<(), OutOfMemory>
     ensures ok { OnOk result
         (out.new.items ≡ out.old.items ++ text (map held_line (held_pairs held.now))) }
@@ -68,8 +69,8 @@ fn push_all_held(out: &mut Vec<u8>, held: &HeldList) -> Result<(), OutOfMemory>
     Ok(())
 }
 
-/// Appends the lines of the audit, from `audit` on to the last line of a report. After lack of
-/// memory it may have appended a part.
+/// Appends the lines of the audit, from `audit` on to the last line of a report. If memory is
+/// refused, it may have appended a part.
 pub fn push_audit(out: &mut Vec<u8>, audit: &Audit) -> Result<(), OutOfMemory>
     ensures ok { OnOk result (out.new.items ≡ out.old.items
         ++ text (audit_lines audit.now.made audit.now.cut (held_pairs audit.now.held))) }
@@ -90,7 +91,6 @@ fn push_header(out: &mut Vec<u8>, setup: &Setup) -> Result<(), OutOfMemory>
     push_line(out, b"semper report", &[u64::from(setup.version)])
 }
 
-// Appends the text of the report.
 fn push_report(
     out: &mut Vec<u8>,
     setup: &Setup,
@@ -107,7 +107,7 @@ fn push_report(
     push_audit(out, audit)
 }
 
-/// Appends the text of the report. After want of memory `out` is as before.
+/// Appends the text of the report. If memory is refused, `out` is as before.
 pub fn print_report(
     alloc: Global,
     setup: &Setup,
@@ -122,7 +122,7 @@ pub fn print_report(
 {
     let mut report = Vec::new(alloc);
     push_report(&mut report, setup, journal, audit)?;
-    // A long text need not be copied where nothing is before it.
+    // If nothing comes before it, a long text needs no copy.
     if out.is_empty() {
         *out = report;
         return Ok(());

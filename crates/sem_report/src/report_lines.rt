@@ -1,5 +1,6 @@
 // The lines of a report, each against its form and its canonical spelling.
-ghost use Rattle.std.specs.Prelude.{◌≡◌, ◌≤◌, ◌⊎◌, [], ◌∷◌, codes, decimal, None, Some, IfOk, IfErr, OnOk, if◌then◌else◌};
+ghost use Rattle.std.specs.Prelude.{◌≡◌, ◌≤◌, ◌⊎◌, [], ◌∷◌, codes, decimal, None, Some, IfOk};
+ghost use Rattle.std.specs.Prelude.{IfErr, OnOk, if◌then◌else◌};
 ghost use Rattle.std.specs.Result.{result_err};
 ghost use Rattle.std.specs.Str.{bytes_eq};
 ghost use Rattle.sem_text.specs.Lines.{line as line_lem};
@@ -14,7 +15,8 @@ ghost use Rattle.sem_journal.specs.EntryRanges.{EntryFits};
 ghost use Rattle.sem_journal.specs.EntryText.{entry_words};
 ghost use Rattle.sem_journal.specs.ReportText.{held_line as held_words_lem};
 ghost use Rattle.sem_report.specs.WholeLines.{content as content_lem};
-ghost use Rattle.sem_report.specs.ReportRefusal.{words_in, report_line_fault, report_form, name_form, count_form, held_form};
+ghost use Rattle.sem_report.specs.ReportRefusal.{words_in, report_line_fault, report_form};
+ghost use Rattle.sem_report.specs.ReportRefusal.{name_form, count_form, held_form};
 ghost use Rattle.sem_report.specs.ReadsReport.{Because};
 ghost use Rattle.sem_report.specs.ReportRanges.{HeldFits};
 
@@ -48,7 +50,7 @@ impl From<OutOfMemory> for LineError {
     }
 }
 
-// Sees that the line is short and is text.
+// Checks that the line is short and is text.
 fn is_text(line: &Line) -> Result<(), Cause>
     requires { line.now.content.now ≡ content_lem line.now.whole.now }
     ensures { bytes_fault_lem (content_lem line.now.whole.now) ≡ result_err result }
@@ -59,7 +61,7 @@ fn is_text(line: &Line) -> Result<(), Cause>
     }
 }
 
-// Sees that the line is spelled as it is printed.
+// Checks that the line is spelled as it is printed.
 fn is_canonical(line: &Line, printed: &[u8]) -> Result<(), Cause>
     ensures { (if bytes_eq line.now.whole.now printed.now then None else Some NotCanonical)
         ≡ result_err result }
@@ -71,7 +73,7 @@ fn is_canonical(line: &Line, printed: &[u8]) -> Result<(), Cause>
     }
 }
 
-// The word is the only one.
+// Checks that the word is the only one.
 #[tactic(auto, using(sem_journal::proofs::EntryParts::nothing_more))]
 fn name_words(words: &[u8], name: &[u8]) -> Result<(), Cause>
     ensures fault { form_fault (name_form name.now (words_of words.now)) (words_of words.now)
@@ -83,7 +85,7 @@ fn name_words(words: &[u8], name: &[u8]) -> Result<(), Cause>
     words.no_more()
 }
 
-// The number behind the word.
+// The number after the word.
 #[tactic(auto, using(sem_journal::proofs::EntryParts::nothing_more))]
 fn count_words(words: &[u8], name: &[u8]) -> Result<u64, Cause>
     ensures fault { form_fault (count_form name.now (words_of words.now)) (words_of words.now)
@@ -98,7 +100,7 @@ fn count_words(words: &[u8], name: &[u8]) -> Result<u64, Cause>
     Ok(number)
 }
 
-// The key that is held, and its selector, in a report of the version.
+// The held key and its selector, in a report of the version.
 #[tactic(auto, using(sem_journal::proofs::EntryParts::nothing_more))]
 fn held_words(words: &[u8], version: u8) -> Result<Held, Cause>
     ensures fault { form_fault (held_form version (words_of words.now)) (words_of words.now)
@@ -118,7 +120,7 @@ fn held_words(words: &[u8], version: u8) -> Result<Held, Cause>
     })
 }
 
-/// Reads a line of one word. What was printed before means nothing.
+/// Reads a line of one word. The old content of `printed` means nothing.
 pub fn name_line(line: &Line, name: &[u8], printed: &mut Vec<u8>) -> Result<(), LineError>
     requires { line.now.content.now ≡ content_lem line.now.whole.now }
     ensures ok { OnOk result (report_line_fault (name_form name.now) line.now.whole.now ≡ None) }
@@ -134,7 +136,8 @@ pub fn name_line(line: &Line, name: &[u8], printed: &mut Vec<u8>) -> Result<(), 
     Ok(())
 }
 
-/// Reads a line of a word and a number, at most 4294967295. What was printed before means nothing.
+/// Reads a line of a word and a number, at most 4294967295. The old content of `printed` means
+/// nothing.
 pub fn count_line(line: &Line, name: &[u8], printed: &mut Vec<u8>) -> Result<u64, LineError>
     requires { line.now.content.now ≡ content_lem line.now.whole.now }
     ensures ok { OnOk result (report_line_fault (count_form name.now) line.now.whole.now ≡ None) }
@@ -152,7 +155,7 @@ pub fn count_line(line: &Line, name: &[u8], printed: &mut Vec<u8>) -> Result<u64
     Ok(number)
 }
 
-/// Reads the line of a key that is held, in a report of the version. What was printed before means
+/// Reads the line of a held key, in a report of the version. The old content of `printed` means
 /// nothing.
 pub fn held_line(line: &Line, version: u8, printed: &mut Vec<u8>) -> Result<Held, LineError>
     requires { line.now.content.now ≡ content_lem line.now.whole.now }
@@ -171,8 +174,8 @@ pub fn held_line(line: &Line, version: u8, printed: &mut Vec<u8>) -> Result<Held
     Ok(held)
 }
 
-/// Reads the line of an entry, in a report of the version, where there are so many kernels. What
-/// was printed before means nothing.
+/// Reads the line of an entry, in a report of the version with that many kernels. The old content
+/// of `printed` means nothing.
 pub fn entry_line(
     line: &Line,
     version: u8,
@@ -213,7 +216,7 @@ fn header_words(words: &[u8]) -> Result<u8, Cause>
     Ok(version)
 }
 
-/// Reads the first line, which tells the version. What was printed before means nothing.
+/// Reads the first line, which tells the version. The old content of `printed` means nothing.
 pub fn header_line(line: &Line, printed: &mut Vec<u8>) -> Result<u8, LineError>
     requires { line.now.content.now ≡ content_lem line.now.whole.now }
     ensures ok { OnOk result (report_line_fault report_form line.now.whole.now ≡ None) }

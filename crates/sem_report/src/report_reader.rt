@@ -1,5 +1,6 @@
 // Reports, read line by line.
-ghost use Rattle.std.specs.Prelude.{◌≡◌, ◌+◌, ◌≤◌, ◌⊎◌, [], ◌∷◌, ◌++◌, length, take, drop, map, replicate, All, codes, decimal, None, IfOk, IfErr, OnOk};
+ghost use Rattle.std.specs.Prelude.{◌≡◌, ◌+◌, ◌≤◌, ◌⊎◌, [], ◌∷◌, ◌++◌, length, take, drop, map};
+ghost use Rattle.std.specs.Prelude.{replicate, All, codes, decimal, None, IfOk, IfErr, OnOk};
 ghost use Rattle.sem_text.specs.Lines.{line as line_lem, text};
 ghost use Rattle.sem_trace.specs.declared.fault.TraceError.TheVariants.{Refused as RefusedText};
 ghost use Rattle.sem_trace.specs.Standing.{IsWhy};
@@ -8,10 +9,16 @@ ghost use Rattle.sem_msg.specs.Audits.{held_pairs};
 ghost use Rattle.sem_journal.specs.EntryForms.{entry_form};
 ghost use Rattle.sem_journal.specs.EntryRanges.{EntryFits};
 ghost use Rattle.sem_journal.specs.EntryText.{entry_words};
-ghost use Rattle.sem_journal.specs.ReportText.{held_line as held_words_lem, journal_lines, audit_lines, report_text};
+ghost use Rattle.sem_journal.specs.ReportText.{held_line as held_words_lem, journal_lines};
+ghost use Rattle.sem_journal.specs.ReportText.{audit_lines, report_text};
 ghost use Rattle.sem_report.specs.WholeLines.{whole_lines, content as content_lem};
-ghost use Rattle.sem_report.specs.ReportRefusal.{report_form, report_version, name_form, count_form, held_form, audit_forms, count_at, fault_of, forms_fault, forms_behind, trace_section, trace_refusal, setup_in, report_refusal};
-ghost use Rattle.sem_report.specs.ReadsReport.{Follows, Stops, NextLine, OneEntry, IsMissing, IsRefused, IsBelow, later, at_line as at_line_lem};
+ghost use Rattle.sem_report.specs.ReportRefusal.{report_form, report_version, name_form};
+ghost use Rattle.sem_report.specs.ReportRefusal.{count_form, held_form, audit_forms, count_at};
+ghost use Rattle.sem_report.specs.ReportRefusal.{fault_of, forms_fault, forms_behind};
+ghost use Rattle.sem_report.specs.ReportRefusal.{trace_section, trace_refusal, setup_in};
+ghost use Rattle.sem_report.specs.ReportRefusal.{report_refusal};
+ghost use Rattle.sem_report.specs.ReadsReport.{Follows, Stops, NextLine, OneEntry, IsMissing};
+ghost use Rattle.sem_report.specs.ReadsReport.{IsRefused, IsBelow, later, at_line as at_line_lem};
 ghost use Rattle.sem_report.specs.ReportRanges.{HeldFits, ReportFits};
 
 use crate::lines::{Line, first_difference, next_whole_line, split_section};
@@ -25,7 +32,7 @@ use std::alloc::Global;
 /// The most bytes of a report.
 const REPORT_BYTES: usize = 134217728;
 
-// The lines of a report that are not read yet, how many are, and what was printed of the last one.
+// The unread lines of a report, how many were read, and what was printed for the last one.
 #[derive(Drop)]
 struct Lines<'a> {
     rest: &'a [u8],
@@ -40,7 +47,7 @@ fn refused(line: u64, cause: Cause) -> TraceError
     TraceError::Refused(TraceFault { line, cause })
 }
 
-// Why a report is not read, where that line of it is not.
+// Why a report is not read, if that line of it is not.
 fn at_line(line: u64, e: LineError) -> TraceError
     ensures { result ≡ at_line_lem line e }
 {
@@ -50,7 +57,7 @@ fn at_line(line: u64, e: LineError) -> TraceError
     }
 }
 
-// Why a report is not read, where its trace is not read so: the trace begins one line later.
+// Why a report is not read, given why its trace is not: the trace begins one line later.
 fn line_later(e: TraceError) -> TraceError
     requires { IsBelow 500000002 e }
     ensures { result ≡ later e }
@@ -62,7 +69,6 @@ fn line_later(e: TraceError) -> TraceError
 }
 
 impl<'a> Lines<'a> {
-    // The next line.
     fn next(&mut self) -> Result<Line<'a>, TraceError>
         requires { self.old.number + length self.old.rest.now ≤ 1000000000 }
         ensures ok { IfOk result (λ l. NextLine self.old.number self.old.rest.now l.whole.now
@@ -149,7 +155,7 @@ impl<'a> Lines<'a> {
         }
     }
 
-    // Reads the line of a key that is held.
+    // Reads the line of a held key.
     fn held(&mut self, version: u8) -> Result<Held, TraceError>
         requires room { self.old.number + length self.old.rest.now ≤ 1000000000 }
         ensures ok { OnOk result (Follows (held_form version ∷ []) (self.old.number + 1)
@@ -169,7 +175,6 @@ impl<'a> Lines<'a> {
         }
     }
 
-    // Reads the line of an entry.
     fn entry(&mut self, version: u8, kernels: u32) -> Result<Entry, TraceError>
         requires room { self.old.number + length self.old.rest.now ≤ 1000000000 }
         requires kernels { 1 ≤ kernels }
@@ -224,7 +229,7 @@ impl<'a> Lines<'a> {
         }
     }
 
-    // Reads the lines of so many entries.
+    // Reads the lines of that many entries.
     fn entries(
         &mut self,
         alloc: Global,
@@ -254,7 +259,7 @@ impl<'a> Lines<'a> {
         Ok(journal)
     }
 
-    // Reads the lines of so many keys that are held.
+    // Reads the lines of that many held keys.
     fn held_keys(&mut self, alloc: Global, number: u64, version: u8) -> Result<HeldList, TraceError>
         requires { self.old.number + length self.old.rest.now ≤ 1000000000 }
         ensures ok { OnOk result (Follows (replicate number (held_form version))
@@ -306,7 +311,7 @@ impl<'a> Lines<'a> {
         Ok(Audit { made, cut, held })
     }
 
-    // Sees that there is no line more.
+    // Checks that no line is left.
     fn finish(&self) -> Result<(), TraceError>
         requires { self.now.number + length self.now.rest.now ≤ 1000000000 }
         ensures ok { OnOk result
@@ -365,7 +370,7 @@ impl<'a> Lines<'a> {
         Ok(setup)
     }
 
-    // Reads the lines behind the trace but for what is behind the last one.
+    // Reads the lines after the trace, up to the last one.
     fn behind(
         &mut self,
         alloc: Global,
@@ -398,18 +403,18 @@ impl<'a> Lines<'a> {
     }
 }
 
-/// The setup, the journal and the audit that the text of a report tells. The text is refused at
-/// its first bad line. Only the text is tested: whether the entries are those of a run, and the
-/// audit theirs, is not.
+/// The setup, the journal and the audit that the text of a report tells. The text is refused at its
+/// first bad line. Only the text is tested: not whether the entries are those of a run, nor whether
+/// the audit is theirs.
 pub fn read_report(alloc: Global, bytes: &[u8]) -> Result<(Setup, Journal, Audit), TraceError>
-    // What is read is what the text tells: it is printed so.
+    // If the text is read, it tells the result: the result is printed so.
     ensures read { IfOk result
         (λ r. bytes.now ≡ report_text r.0 r.1.entries r.2.made r.2.cut (held_pairs r.2.held)) }
-    // Then it is not refused.
+    // Then the text is not refused.
     ensures accepted { OnOk result (report_refusal bytes.now ≡ None) }
-    // Where it is refused, it is refused so.
+    // If it is refused, this is its refusal.
     ensures refused { IfErr result (IsWhy (report_refusal bytes.now)) }
-    // What is told is in its ranges.
+    // What the text tells is in its ranges.
     ensures fits { IfOk result
         (λ r. ReportFits r.0 r.1.entries r.2.made r.2.cut (held_pairs r.2.held)) }
 {

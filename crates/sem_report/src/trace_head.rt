@@ -9,7 +9,6 @@ ghost use Rattle.sem_report.specs.ReportRefusal.{trace_form, head_fault as head_
 use crate::lines::next_whole_line;
 use sem_trace::{Cause, TraceFault, Words, bytes_fault, is_significant};
 
-// The word of the version.
 fn version_word(version: u8) -> &'static [u8]
     requires { (version ≡ 1) ⊎ (version ≡ 2) }
     ensures { result.now ≡ decimal version }
@@ -17,7 +16,7 @@ fn version_word(version: u8) -> &'static [u8]
     if version == 1 { b"1" } else { b"2" }
 }
 
-// Sees that the words are those of the first line of a trace of the version.
+// Checks that the words are those of the first line of a trace of the version.
 fn is_first(line: &[u8], version: u8) -> Result<(), Cause>
     requires { (version ≡ 1) ⊎ (version ≡ 2) }
     ensures { form_fault (trace_form version) (words_of line.now) ≡ result_err result }
@@ -29,8 +28,8 @@ fn is_first(line: &[u8], version: u8) -> Result<(), Cause>
     words.no_more()
 }
 
-/// What is wrong with the first line of a trace of the version, or with a line before it, which
-/// says nothing. The first line of the section has that number. Takes no memory.
+/// What is wrong with the first line of a trace of the version, or with an earlier line, which says
+/// nothing. The first line of the section has that number. Takes no memory.
 pub fn head_fault(section: &[u8], version: u8, first: u64) -> Option<TraceFault>
     requires version { (version ≡ 1) ⊎ (version ≡ 2) }
     requires room { first + length section.now ≤ 1000000000 }

@@ -40,17 +40,26 @@ module _ (T : Setup) (valid : IsSetup T) (J : List Entry) (runs : IsSchedule T J
   W = world_after T J
 
   under-parent : (k : KeyName) (a b : ℕ) → Under (owner_of T) (Par (grants J)) (Made T (grants J)) (whole T W) k a b → HasMarkedParent J W a b k
-  under-parent k a b (p, granted, at, (c, held, marked)) = record { parent = p; granted = granted; capability = c; held = ap (λ n. cap (side W n) p) (sym at) ∙ held; marked = marked }
+  under-parent k a b (p, granted, at, (c, held, marked)) = record {
+    parent = p;
+    granted = granted;
+    capability = c;
+    held = ap (λ n. cap (side W n) p) (sym at)
+        ∙ held;
+    marked = marked;
+  }
 
   pub waited-below : (i' n : ℕ) (y : JobRow) → job (side W i') n ≡ Some y → (i j : ℕ) → Names y.up i' i j → HasMarkedParent J W i j y.root
   waited-below i' n y open_ i j named_so =
       let there = found (λ (x : JobRow). x.id == n) (side W i').jobs y open_ in
-      let one = one-true (key_eq y.root y.root && names i' y.up i j) (and_from (key_eq y.root y.root) (names i' y.up i j) (key_eq-same y.root) (named y.up i' i j named_so)) in
+      let one = one-true (key_eq y.root y.root && names i' y.up i j) (and_from (key_eq y.root y.root) (names i' y.up i j) (key_eq-same y.root)
+      (named y.up i' i j named_so)) in
       let among = weigh-among ((asking y.root i j).job i') (side W i').jobs y there.0 in
       let part = jobs-part (asking y.root i j) W i' in
       under-parent y.root i j ((holds T valid J runs).asking y.root i j (omega (arith, one, among, part)))
 
-  pub marked-below : (i : ℕ) (k : KeyName) (c : Capability) (j : ℕ) (x : JobRow) → HoldsCap W i k c → c.mark ≡ Some j → job (side W i) j ≡ Some x → (k ≡ x.root) ⊎ HasMarkedParent J W i j k
+  pub marked-below : (i : ℕ) (k : KeyName) (c : Capability) (j : ℕ) (x : JobRow) → HoldsCap W i k c → c.mark ≡ Some j → job (side W i) j ≡ Some x →
+      (k ≡ x.root) ⊎ HasMarkedParent J W i j k
   marked-below i k c j x held marked open_ =
       let home : owner_of T k ≡ i = schedule-homes T valid J runs i k c held in
       let y = (holds T valid J runs).marks k j (c, ap (λ a. cap (side W a) k) home ∙ held, marked) in

@@ -7,7 +7,8 @@ use Rattle.sem_key.specs.KeyName.{KeyName, key_eq}
 use Rattle.sem_key.proofs.KeyTests.{key_eq-same}
 use Rattle.sem_msg.specs.declared.entry.Entry.{Entry}
 use Rattle.sem_msg.specs.declared.message.Message.{Message}
-use Rattle.sem_msg.specs.declared.message.Message.TheVariants.{ObtainReq, ObtainOk, ObtainNo, DelegateReq, DelegatePrepared, DelegateNo, Ack, Orphan, RevokeReq, RevokeDone, Unlink}
+use Rattle.sem_msg.specs.declared.message.Message.TheVariants.{ObtainReq, ObtainOk, ObtainNo, DelegateReq, DelegatePrepared, DelegateNo, Ack, Orphan, RevokeReq}
+use Rattle.sem_msg.specs.declared.message.Message.TheVariants.{RevokeDone, Unlink}
 use Rattle.sem_msg.specs.declared.state.Pending.{Pending}
 use Rattle.sem_msg.specs.Rows.{JobRow}
 use Rattle.sem_msg.specs.Setup.{Setup, IsSetup}
@@ -75,7 +76,8 @@ module _ (k0 : KeyName) where
       let rest = list-parts ms in
       omega (arith, one, two, three, four, here, rest)
 
-  lists-parts : (i n : ℕ) (ls : List (List Message)) → sum_from (of_messages SP i) n ls + (sum_from (of_messages SY i) n ls + sum_from (of_messages SN i) n ls) ≤ sum_by (Delegations.of_messages k0) ls
+  lists-parts : (i n : ℕ) (ls : List (List Message)) →
+      sum_from (of_messages SP i) n ls + (sum_from (of_messages SY i) n ls + sum_from (of_messages SN i) n ls) ≤ sum_by (Delegations.of_messages k0) ls
   lists-parts i n [] = omega arith
   lists-parts i n (ms ∷ ls) =
       let four = sum_by-cons (Delegations.of_messages k0) ms ls in
@@ -94,7 +96,8 @@ module _ (k0 : KeyName) where
   abbrev calls : Side → ℕ
   calls s = sum_by (of_parked k0) s.parks
 
-  sides-parts : (n : ℕ) (ss : List Side) → sum_by calls ss + (sum_from (of_side SP) n ss + (sum_from (of_side SY) n ss + sum_from (of_side SN) n ss)) ≤ sum_by (Delegations.of_side k0) ss
+  sides-parts : (n : ℕ) (ss : List Side) →
+      sum_by calls ss + (sum_from (of_side SP) n ss + (sum_from (of_side SY) n ss + sum_from (of_side SN) n ss)) ≤ sum_by (Delegations.of_side k0) ss
   sides-parts n [] = omega arith
   sides-parts n (s ∷ ss) =
       let zero' = sum_by-cons calls s ss in
@@ -105,7 +108,9 @@ module _ (k0 : KeyName) where
       let rest = sides-parts (n + 1) ss in
       omega (arith, zero', four, jobs, inbox, outs, rest)
 
-  rows-parts : (n : ℕ) (lls : List (List (List Message))) → sum_from (λ i ls. sum_from (of_messages SP i) 0 ls) n lls + (sum_from (λ i ls. sum_from (of_messages SY i) 0 ls) n lls + sum_from (λ i ls. sum_from (of_messages SN i) 0 ls) n lls) ≤ Delegations.of_links k0 lls
+  rows-parts : (n : ℕ) (lls : List (List (List Message))) →
+      sum_from (λ i ls. sum_from (of_messages SP i) 0 ls) n lls + (sum_from (λ i ls. sum_from (of_messages SY i) 0 ls) n lls + sum_from
+      (λ i ls. sum_from (of_messages SN i) 0 ls) n lls) ≤ Delegations.of_links k0 lls
   rows-parts n [] = omega arith
   rows-parts n (ls ∷ lls) =
       let four = sum_by-cons (λ qs. sum_by (Delegations.of_messages k0) qs) ls lls in
@@ -119,7 +124,8 @@ module _ (k0 : KeyName) where
   own : of_key k0 k0 ≡ 1
   own = cond-true (key_eq k0 k0) 1 0 (key_eq-same k0)
 
-  pub acked-parent : (T : Setup) → IsSetup T → (J : List Entry) → IsSchedule T J → (i a b : ℕ) (p : Pending) → pending (side (world_after T J) i) k0 ≡ Some p → Contains (way (world_after T J) a b) (Ack k0 true) → Contains (grants J) (p.parent, k0)
+  pub acked-parent : (T : Setup) → IsSetup T → (J : List Entry) → IsSchedule T J → (i a b : ℕ) (p : Pending) → pending (side (world_after T J) i) k0 ≡ Some p →
+      Contains (way (world_after T J) a b) (Ack k0 true) → Contains (grants J) (p.parent, k0)
   acked-parent T valid J runs i a b p there among = from (all-pend T valid k0 J runs i p there)
     where
       W : World

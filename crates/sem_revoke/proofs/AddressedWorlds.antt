@@ -1,5 +1,6 @@
 -- After every schedule each message on its way is addressed as it should be.
-use Rattle.std.proofs.Common.{◌≡◌, ◌⊎◌, ℕ, ◌+◌, ◌<◌, Bool, true, false, List, [], ◌∷◌, ◌++◌, Option, Some, None, append-nil, append_assoc, refl, sym, ap, ◌∙◌, subst, inl, inr, arith}
+use Rattle.std.proofs.Common.{◌≡◌, ◌⊎◌, ℕ, ◌+◌, ◌<◌, Bool, true, false, List, [], ◌∷◌, ◌++◌, Option, Some, None, append-nil, append_assoc, refl, sym, ap, ◌∙◌}
+use Rattle.std.proofs.Common.{subst, inl, inr, arith}
 use Rattle.std.specs.Prelude.{◌==◌}
 use Rattle.std.specs.List.{Contains, sum_by}
 use Rattle.std.specs.Option.{option_map_or}
@@ -34,12 +35,16 @@ use Rattle.sem_revoke.proofs.Readying.{enabled-low}
 use Rattle.sem_revoke.proofs.Revoking.{enabled-parts, world-none}
 
 -- the VPE of an event is one of its kernel
-pub vpe-local : (T : Setup) (i : ℕ) (s : Side) (a : Act) → is_locally_enabled T i s a ≡ true → (v : ℕ) → (a ≡ Calls v) ⊎ ((a ≡ Upcall v) ⊎ ((a ≡ Resume v) ⊎ (a ≡ Kill v))) → kernel_of T v ≡ i
+pub vpe-local : (T : Setup) (i : ℕ) (s : Side) (a : Act) → is_locally_enabled T i s a ≡ true → (v : ℕ) →
+    (a ≡ Calls v) ⊎ ((a ≡ Upcall v) ⊎ ((a ≡ Resume v) ⊎ (a ≡ Kill v))) → kernel_of T v ≡ i
 unfolding is_locally_enabled
 vpe-local T i s a enabled v (inl act) = eqb-true (kernel_of T v) i (and_parts (kernel_of T v == i) _ (ap (is_locally_enabled T i s) (sym act) ∙ enabled)).0
-vpe-local T i s a enabled v (inr (inl act)) = eqb-true (kernel_of T v) i (and_parts (kernel_of T v == i) _ (ap (is_locally_enabled T i s) (sym act) ∙ enabled)).0
-vpe-local T i s a enabled v (inr (inr (inl act))) = eqb-true (kernel_of T v) i (and_parts (kernel_of T v == i) _ (ap (is_locally_enabled T i s) (sym act) ∙ enabled)).0
-vpe-local T i s a enabled v (inr (inr (inr act))) = eqb-true (kernel_of T v) i (and_parts (kernel_of T v == i) _ (ap (is_locally_enabled T i s) (sym act) ∙ enabled)).0
+vpe-local T i s a enabled v (inr (inl act)) = eqb-true (kernel_of T v) i (and_parts (kernel_of T v == i) _ (ap (is_locally_enabled T i s) (sym act)
+    ∙ enabled)).0
+vpe-local T i s a enabled v (inr (inr (inl act))) = eqb-true (kernel_of T v) i (and_parts (kernel_of T v == i) _ (ap (is_locally_enabled T i s) (sym act)
+    ∙ enabled)).0
+vpe-local T i s a enabled v (inr (inr (inr act))) = eqb-true (kernel_of T v) i (and_parts (kernel_of T v == i) _ (ap (is_locally_enabled T i s) (sym act)
+    ∙ enabled)).0
 
 module _ (T : Setup) (valid : IsSetup T) where
   abbrev S : Scale
@@ -63,7 +68,10 @@ module _ (T : Setup) (valid : IsSetup T) where
     stepped-right (Calls v) enabled still =
         let sound = (schedule-sound T valid before runs).sides i low in
         let local = vpe-local T i s (Calls v) (enabled-parts T W i (Calls v) enabled).0 v (inl refl) in
-        option-keeps (λ (x : Step). Right T valid i low n x.side) (call_row T i (call_counted v s) v) (next_call T s v) (plain s) (λ c there. call-right T valid i low n v local (call_counted v s) (counted-sound T valid i low None None None None s sound v local (slice_get_within (calls_of T v) (row s v).next_call c there)) c (omega arith)) (omega arith)
+        option-keeps (λ (x : Step). Right T valid i low n x.side) (call_row T i (call_counted v s) v) (next_call T s v) (plain s)
+        (λ c there. call-right T valid i low n v local (call_counted v s)
+        (counted-sound T valid i low None None None None s sound v local (slice_get_within (calls_of T v) (row s v).next_call c there)) c (omega arith))
+        (omega arith)
     stepped-right (Upcall v) enabled still =
         let sound = (schedule-sound T valid before runs).sides i low in
         let local = vpe-local T i s (Upcall v) (enabled-parts T W i (Upcall v) enabled).0 v (inr (inl refl)) in
@@ -76,7 +84,8 @@ module _ (T : Setup) (valid : IsSetup T) where
       where
         by : (o : Option (ℕ × Message)) → s.inbox ≡ o → Right T valid i low n (option_map_or (λ m. handled T i (with_inbox None s) m.0 m.1) o s)
         by None is = omega arith
-        by (Some (from, m)) is = handled-right T valid i low n (with_inbox None s) from m (right m (let part = inbox-part S W i in let weight : of_inbox S i s.inbox ≡ one_if (is_misaddressed T i m) = ap (of_inbox S i) is in omega (arith, part, weight, none))) (omega arith)
+        by (Some (from, m)) is = handled-right T valid i low n (with_inbox None s) from m (right m (let part = inbox-part S W i in
+            let weight : of_inbox S i s.inbox ≡ one_if (is_misaddressed T i m) = ap (of_inbox S i) is in omega (arith, part, weight, none))) (omega arith)
           where
             right : (q : Message) → one_if (is_misaddressed T i q) ≡ 0 → is_misaddressed T i q ≡ false
             right q zero' = test (is_misaddressed T i q) zero'
@@ -108,14 +117,16 @@ module _ (T : Setup) (valid : IsSetup T) where
 
   -- each message on a way is addressed as it should be
   pub way-right : (J : List Entry) → IsSchedule T J → (a b : ℕ) (m : Message) → Contains (way (world_after T J) a b) m → is_misaddressed T b m ≡ false
-  way-right J runs a b m among = from (is_misaddressed T b m) (let weighs = way-weighs T valid J runs S a b m among in let none = all-right J runs in omega (arith, weighs, none))
+  way-right J runs a b m among = from (is_misaddressed T b m) (let weighs = way-weighs T valid J runs S a b m among in let none = all-right J runs in
+      omega (arith, weighs, none))
     where
       from : (t : Bool) → one_if t ≡ 0 → t ≡ false
       from true one = absurd (omega (arith, one))
       from false one = refl
 
   -- so is what was fetched
-  pub inbox-right : (J : List Entry) → IsSchedule T J → (i from : ℕ) (m : Message) → (side (world_after T J) i).inbox ≡ Some (from, m) → is_misaddressed T i m ≡ false
+  pub inbox-right : (J : List Entry) → IsSchedule T J → (i from : ℕ) (m : Message) → (side (world_after T J) i).inbox ≡ Some (from, m) →
+      is_misaddressed T i m ≡ false
   inbox-right J runs i from m full =
       let part = inbox-part S (world_after T J) i in
       let weight : of_inbox S i (side (world_after T J) i).inbox ≡ one_if (is_misaddressed T i m) = ap (of_inbox S i) full in

@@ -34,7 +34,8 @@ module _ (T : Setup) (valid : IsSetup T) (J : List Entry) (runs : IsSchedule T J
   used-alive k (inl live) = live-alive T valid J runs (Par (grants J)) (Made T (grants J)) k live
   used-alive k (inr (v, n, binds)) =
       let sound = all-endpoints T valid J runs binds.kernel v n binds.bound binds.at_endpoint in
-      let held : cap (side (world_after T J) binds.kernel) k ≡ Some sound.capability = subst (λ q. cap (side (world_after T J) binds.kernel) q ≡ Some sound.capability) binds.to_key sound.held in
+      let held : cap (side (world_after T J) binds.kernel) k ≡ Some sound.capability =
+      subst (λ q. cap (side (world_after T J) binds.kernel) q ≡ Some sound.capability) binds.to_key sound.held in
       inl (sound.capability, ap (λ a. cap (side (world_after T J) a) k) (schedule-homes T valid J runs binds.kernel k sound.capability held) ∙ held)
 
   -- an ancestor is the key itself, or held
@@ -46,7 +47,8 @@ module _ (T : Setup) (valid : IsSetup T) (J : List Entry) (runs : IsSchedule T J
     | inr above ↦ inr (from (parent_in (grants J) k) refl (λ p live there. ancestor-held n p a live there) above)
   ]
     where
-      from : (o : Option KeyName) → parent_in (grants J) k ≡ o → ((p : KeyName) → IsAliveNow p → Contains (line_in n (grants J) p) a → (p ≡ a) ⊎ IsHeldNow a) → Contains (option_map_or (line_in n (grants J)) o []) a → IsHeldNow a
+      from : (o : Option KeyName) → parent_in (grants J) k ≡ o → ((p : KeyName) → IsAliveNow p → Contains (line_in n (grants J) p) a → (p ≡ a) ⊎ IsHeldNow a) →
+          Contains (option_map_or (line_in n (grants J)) o []) a → IsHeldNow a
       from None none rest above = absurd (Contains-nil a above)
       from (Some p) some rest above =
           let leads = (holds T valid J runs).linked p k (parent-granted (grants J) k p some) alive in

@@ -7,10 +7,12 @@ use Rattle.std.proofs.lemmas.Bool.{true≢false, cond-true}
 use Rattle.sem_key.specs.KeyName.{KeyName, key_eq}
 use Rattle.sem_key.specs.Capability.{Capability}
 use Rattle.sem_msg.specs.declared.call.Call.{Call}
-use Rattle.sem_msg.specs.declared.call.Call.TheVariants.{Derive, Gate, Obtain, Delegate, OpenSession, AskOffer, Revoke, Bind, Read, Write, Send as SendCall, Credit, Exit, Clear}
+use Rattle.sem_msg.specs.declared.call.Call.TheVariants.{Derive, Gate, Obtain, Delegate, OpenSession, AskOffer, Revoke, Bind, Read, Write, Send as SendCall}
+use Rattle.sem_msg.specs.declared.call.Call.TheVariants.{Credit, Exit, Clear}
 use Rattle.sem_msg.specs.declared.entry.Detail.TheVariants.{Called}
 use Rattle.sem_msg.specs.declared.message.Message.{Message}
-use Rattle.sem_msg.specs.declared.message.Message.TheVariants.{ObtainReq, ObtainOk, ObtainNo, DelegateReq, DelegatePrepared, DelegateNo, Ack, Orphan, RevokeReq, RevokeDone, Unlink}
+use Rattle.sem_msg.specs.declared.message.Message.TheVariants.{ObtainReq, ObtainOk, ObtainNo, DelegateReq, DelegatePrepared, DelegateNo, Ack, Orphan, RevokeReq}
+use Rattle.sem_msg.specs.declared.message.Message.TheVariants.{RevokeDone, Unlink}
 use Rattle.sem_msg.specs.declared.state.Parked.TheVariants.{RevokeWait}
 use Rattle.sem_msg.specs.Setup.{Setup}
 use Rattle.sem_msg.specs.declared.code.Code.TheVariants.{NoCap}
@@ -38,7 +40,8 @@ use Rattle.sem_revoke.proofs.Events.{own-cap}
 use Rattle.sem_revoke.proofs.Growing.{IsPlainCall}
 use Rattle.sem_revoke.proofs.Waits.{Resting, same-caps, same-jobs, resting-on, row-at}
 use Rattle.sem_revoke.proofs.Waiting.{Waiting, row-kept, waiting-parked, waiting-unlinked, waiting-requested, waiting-done}
-use Rattle.sem_revoke.proofs.Resting.{Quiet, Busy, Unrooted, Uncut, Unrevoked, Unbrought, busy-calling, busy-with, kept-q, call-q, upcall-q, resumed-q, handled-q, waiting-ended, waiting-beginning, waiting-revoked}
+use Rattle.sem_revoke.proofs.Resting.{Quiet, Busy, Unrooted, Uncut, Unrevoked, Unbrought, busy-calling, busy-with, kept-q, call-q, upcall-q, resumed-q}
+use Rattle.sem_revoke.proofs.Resting.{handled-q, waiting-ended, waiting-beginning, waiting-revoked}
 
 pair-of : (g : KeyName × KeyName) (r k : KeyName) → g.0 ≡ r → g.1 ≡ k → g ≡ (r, k)
 pair-of (p, q) r k one two = ap (λ z. (z, q)) one ∙ ap (λ z. (r, z)) two
@@ -71,7 +74,8 @@ module _ (T : Setup) (i : ℕ) (s : Side) (gs : List (KeyName × KeyName)) (pend
 
   quiet-rest : (base t : Side) → Quiet pend base t → AtRest t
   quiet-rest base t Q = (
-    λ v k r pends. resting-on None (record t { caps = base.caps }) t k r v (parked t v) (Q.marks v k r pends) (same-jobs k r v (record t { caps = base.caps }) t refl) (omega arith) (λ down. down) (Q.waiting.rests v k r pends),
+    λ v k r pends. resting-on None (record t { caps = base.caps }) t k r v (parked t v) (Q.marks v k r pends)
+        (same-jobs k r v (record t { caps = base.caps }) t refl) (omega arith) (λ down. down) (Q.waiting.rests v k r pends),
     Q.waiting.keepers,
   )
 
@@ -101,28 +105,38 @@ module _ (T : Setup) (i : ℕ) (s : Side) (gs : List (KeyName × KeyName)) (pend
     own-counted src c held = owns v src c (ap (λ (r : VpeRow). cap_in s (slice_index_or r.slots src Free)) (sym same) ∙ held)
       where
         same : row counted v ≡ record (row s v) { next_call = (row s v).next_call + 1 }
-        same = row-at v (λ r. record r { next_call = r.next_call + 1 }) s v ∙ cond-true (v == v) (record (row s v) { next_call = (row s v).next_call + 1 }) (row s v) (eq-eqb v v refl)
+        same = row-at v (λ r. record r { next_call = r.next_call + 1 }) s v
+            ∙ cond-true (v == v) (record (row s v) { next_call = (row s v).next_call + 1 }) (row s v) (eq-eqb v v refl)
 
     plain-rest : (c : Call) → IsPlainCall c → Fresh (call_row T i counted v c) → AtRest (call_row T i counted v c).side
-    plain-rest c quiet fresh = quiet-rest s (call_row T i counted v c).side (call-q pend s T i counted v c quiet busy (kept-q pend s s v (λ r. record r { next_call = r.next_call + 1 }) (λ down. down) quiet-start) fresh)
+    plain-rest c quiet fresh =
+        quiet-rest s (call_row T i counted v c).side
+        (call-q pend s T i counted v c quiet busy (kept-q pend s s v (λ r. record r { next_call = r.next_call + 1 }) (λ down. down) quiet-start) fresh)
 
     abbrev CallRest : ℕ → Call → Step → Type 0
-    CallRest index c x = ((w : ℕ) (k r : KeyName) → pend w k r ⊎ Begins v (Called index c) x.outcome.cut w k r → Resting None x.side k r w (parked x.side w)) × AreKept x.side
+    CallRest index c x = ((w : ℕ) (k r : KeyName) → pend w k r ⊎ Begins v (Called index c) x.outcome.cut w k r → Resting None x.side k r w (parked x.side w))
+        × AreKept x.side
 
     -- nothing waits that did not
     refused-rest : (index : ℕ) (c : Call) (x : Step) → ◌≡◌ {A = Option KeyName} x.outcome.cut None → AtRest x.side → CallRest index c x
-    refused-rest index c x uncut rest = (λ w k r which. elim which [ inl pends ↦ rest.0 w k r pends | inr (here, cut, among) ↦ (let two : None ≡ Some r = sym uncut ∙ cut in absurd cc) ], rest.1)
+    refused-rest index c x uncut rest = (
+      λ w k r which. elim which [ inl pends ↦ rest.0 w k r pends | inr (here, cut, among) ↦ (let two : None ≡ Some r = sym uncut ∙ cut in absurd cc) ],
+      rest.1,
+    )
 
     revoke-rest : (index src : ℕ) → CallRest index (Revoke src) (call_row T i counted v (Revoke src))
     unfolding call_row
     revoke-rest index src = from (own counted v src) refl
       where
-        from : (o : Option Capability) → own counted v src ≡ o → CallRest index (Revoke src) (option_map_or (λ (c : Capability). cutting c.key (plain (revoke_begun T i v c.key c.mark counted))) o (answer NoCap counted))
+        from : (o : Option Capability) → own counted v src ≡ o →
+            CallRest index (Revoke src) (option_map_or (λ (c : Capability). cutting c.key (plain (revoke_begun T i v c.key c.mark counted))) o
+            (answer NoCap counted))
         from None no' = refused-rest index (Revoke src) (answer NoCap counted) refl (waiting-rest counted counted-waiting)
         from (Some c) held =
             let more : ℕ → KeyName → KeyName → Type 0 = λ w k r. pend w k r ⊎ ((w ≡ v) × (r ≡ c.key) × (k ≡ c.key)) in
             let W : Waiting more None (revoke_begun T i v c.key c.mark counted) =
-            waiting-revoked pend more v c.key (λ k. k ≡ c.key) (λ w k r is. is) T i counted c (own-cap counted v src c held) busy-self (own-counted src c held) counted-waiting
+            waiting-revoked pend more v c.key (λ k. k ≡ c.key) (λ w k r is. is) T i counted c (own-cap counted v src c held) busy-self
+            (own-counted src c held) counted-waiting
             (λ n marked. drawn_marks c.key c n (own-cap counted v src c held) marked)
             (λ n waits. let two : None ≡ Some (RevokeWait n) = sym none ∙ waits in absurd cc) in (
               λ w k r which. W.rests w k r (elim which [
@@ -137,15 +151,18 @@ module _ (T : Setup) (i : ℕ) (s : Side) (gs : List (KeyName × KeyName)) (pend
     clear-rest : (index src : ℕ) → CallRest index (Clear src) (call_row T i counted v (Clear src))
     unfolding call_row
     clear-rest index src =
-        unless-passed (CallRest index (Clear src)) (own_tests (own counted v src)) _ _ (λ code. refused-rest index (Clear src) (answer code counted) refl (waiting-rest counted counted-waiting))
+        unless-passed (CallRest index (Clear src)) (own_tests (own counted v src)) _ _
+        (λ code. refused-rest index (Clear src) (answer code counted) refl (waiting-rest counted counted-waiting))
         (λ passed. from (own counted v src) refl passed.1.0)
       where
-        from : (o : Option Capability) → own counted v src ≡ o → is_marked o ≡ false → CallRest index (Clear src) (option_map_or (λ (c : Capability). cutting c.key (plain (clear_begun T i v c.key counted))) o (answer NoCap counted))
+        from : (o : Option Capability) → own counted v src ≡ o → is_marked o ≡ false →
+            CallRest index (Clear src) (option_map_or (λ (c : Capability). cutting c.key (plain (clear_begun T i v c.key counted))) o (answer NoCap counted))
         from None no' test = refused-rest index (Clear src) (answer NoCap counted) refl (waiting-rest counted counted-waiting)
         from (Some c) held test =
             let more : ℕ → KeyName → KeyName → Type 0 = λ w k r. pend w k r ⊎ ((w ≡ v) × (r ≡ c.key) × (k ≡ c.key → ⊥)) in
             let W : Waiting more None (clear_begun T i v c.key counted) =
-            waiting-beginning pend more v c.key (λ k. k ≡ c.key → ⊥) (λ w k r is. is) T i counted c (own-cap counted v src c held) busy-self (own-counted src c held) counted-waiting true
+            waiting-beginning pend more v c.key (λ k. k ≡ c.key → ⊥) (λ w k r is. is) T i counted c (own-cap counted v src c held) busy-self
+            (own-counted src c held) counted-waiting true
             (λ k other same. absurd (other same)) (unmarked-own (Some c) c refl test) in (
               λ w k r which. W.rests w k r (elim which [
                 | inl pends ↦ inl pends
@@ -158,7 +175,8 @@ module _ (T : Setup) (i : ℕ) (s : Side) (gs : List (KeyName × KeyName)) (pend
 
     exit-rest : (index : ℕ) → CallRest index Exit (call_row T i counted v Exit)
     unfolding call_row
-    exit-rest index = refused-rest index Exit (call_row T i counted v Exit) refl (waiting-rest (ended T i v counted) (waiting-ended pend T i v counted counted-waiting))
+    exit-rest index =
+        refused-rest index Exit (call_row T i counted v Exit) refl (waiting-rest (ended T i v counted) (waiting-ended pend T i v counted counted-waiting))
 
     abbrev Plainly : ℕ → Call → Type 0
     Plainly index c = Fresh (call_row T i counted v c) → CallRest index c (call_row T i counted v c)
@@ -187,7 +205,9 @@ module _ (T : Setup) (i : ℕ) (s : Side) (gs : List (KeyName × KeyName)) (pend
   -- a side with the same capabilities, jobs and calls
   pub still-rest : (t : Side) → t.caps ≡ s.caps → t.jobs ≡ s.jobs → t.next_job ≡ s.next_job → t.vpes ≡ s.vpes → t.parks ≡ s.parks → AtRest t
   still-rest t caps jobs next vpes parks = (
-    λ v k r pends. subst (Resting None t k r v) (ap (λ ps. state_of ps v) (sym parks)) (resting-on None s t k r v (parked s v) (same-caps k r s t (λ q. ap (λ cs. cap_of cs q) caps)) (same-jobs k r v s t jobs) (omega (arith, next)) (λ down. ap (λ rows. VpeRows.is_alive rows v) vpes ∙ down) (R.rests v k r pends)),
+    λ v k r pends. subst (Resting None t k r v) (ap (λ ps. state_of ps v) (sym parks))
+        (resting-on None s t k r v (parked s v) (same-caps k r s t (λ q. ap (λ cs. cap_of cs q) caps)) (same-jobs k r v s t jobs) (omega (arith, next))
+        (λ down. ap (λ rows. VpeRows.is_alive rows v) vpes ∙ down) (R.rests v k r pends)),
     λ x among. R.keepers x (subst (λ xs. Contains xs x) jobs among),
   )
 
@@ -198,10 +218,15 @@ module _ (T : Setup) (i : ℕ) (s : Side) (gs : List (KeyName × KeyName)) (pend
   kill-rest v = waiting-rest (ended T i v s) (waiting-ended pend T i v s R)
 
   -- v, whose call goes on, does not wait any more
-  pub resume-rest : (v : ℕ) → ((k r : KeyName) → pend v k r → ⊥) → can_resume (parked s v) ≡ true → Unrevoked pend s (parked s v) → Fresh (resume_row T s v) → AtRest (resume_row T s v).side
+  pub resume-rest : (v : ℕ) → ((k r : KeyName) → pend v k r → ⊥) → can_resume (parked s v) ≡ true → Unrevoked pend s (parked s v) → Fresh (resume_row T s v) →
+      AtRest (resume_row T s v).side
   unfolding resume_row
   resume-rest v over can new fresh = quiet-rest s (resumed T (parked s v) (unparked v s)).side (resumed-q pend s T (parked s v) (unparked v s) new
-      (record { waiting = waiting-parked pend None s R v None (λ k r pends. absurd (over k r pends)) (λ x among open_ waits. absurd (no-wait x.id (R.waiters x among open_ v waits))); marks = λ w k r pends c held. (c, held, λ n marked. marked, λ none. none) }) fresh)
+      (record {
+        waiting = waiting-parked pend None s R v None (λ k r pends. absurd (over k r pends))
+            (λ x among open_ waits. absurd (no-wait x.id (R.waiters x among open_ v waits)));
+        marks = λ w k r pends c held. (c, held, λ n marked. marked, λ none. none);
+      }) fresh)
     where
       no-wait : (n : ℕ) → parked s v ≡ Some (RevokeWait n) → ⊥
       no-wait n is = true≢false (sym can ∙ ap can_resume is)
@@ -211,7 +236,8 @@ module _ (T : Setup) (i : ℕ) (s : Side) (gs : List (KeyName × KeyName)) (pend
 
   inboxed : Waiting pend None emptied
   inboxed = record {
-    rests = λ v k r pends. resting-on None s emptied k r v (parked s v) (same-caps k r s emptied (λ q. refl)) (same-jobs k r v s emptied refl) (omega arith) (λ down. down) (R.rests v k r pends);
+    rests = λ v k r pends. resting-on None s emptied k r v (parked s v) (same-caps k r s emptied (λ q. refl)) (same-jobs k r v s emptied refl) (omega arith)
+        (λ down. down) (R.rests v k r pends);
     waiters = R.waiters;
     keepers = R.keepers;
     roots = R.roots;

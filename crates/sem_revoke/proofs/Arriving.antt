@@ -1,5 +1,6 @@
 -- A request for a key that is not held finds nothing of the key on its way; so revocation is so along every schedule of every setup.
-use Rattle.std.proofs.Common.{◌≡◌, ◌≢◌, ◌⊎◌, ℕ, suc, ◌+◌, ◌≤◌, ◌++◌, Bool, true, false, not, ◌&&◌, List, [], ◌∷◌, get_or, drop, Option, Some, None, is_some, is_none, slice_get, option_to_list, append-nil, append_assoc, refl, sym, ap, ◌∙◌, subst, inl, inr, arith, eq-eqb}
+use Rattle.std.proofs.Common.{◌≡◌, ◌≢◌, ◌⊎◌, ℕ, suc, ◌+◌, ◌≤◌, ◌++◌, Bool, true, false, not, ◌&&◌, List, [], ◌∷◌, get_or, drop, Option, Some, None, is_some}
+use Rattle.std.proofs.Common.{is_none, slice_get, option_to_list, append-nil, append_assoc, refl, sym, ap, ◌∙◌, subst, inl, inr, arith, eq-eqb}
 use Rattle.std.specs.Prelude.{◌==◌}
 use Rattle.std.specs.List.{Contains, sum_by}
 use Rattle.std.specs.Option.{option_map, option_map_or}
@@ -23,7 +24,8 @@ use Rattle.sem_machine.specs.Steps.{plain}
 use Rattle.sem_machine.specs.Calls.{call_row}
 use Rattle.sem_machine.specs.Ends.{ended}
 use Rattle.sem_machine.specs.Revokes.{ready_freed, obtain_cancelled}
-use Rattle.sem_machine.specs.Machine.{World, side, link, with_side, with_link, input_of, start, local_step, next_call, after, event, is_enabled, is_locally_enabled, is_allowed, is_other_kernel}
+use Rattle.sem_machine.specs.Machine.{World, side, link, with_side, with_link, input_of, start, local_step, next_call, after, event, is_enabled}
+use Rattle.sem_machine.specs.Machine.{is_locally_enabled, is_allowed, is_other_kernel}
 use Rattle.sem_machine.specs.Living.{fetched_from, way}
 use Rattle.sem_machine.specs.Schedules.{IsSchedule, world_after}
 use Rattle.sem_machine.specs.Journals.{grants, root_keys}
@@ -63,7 +65,8 @@ some-of w d (x ∷ xs) more =
     ]
 
 -- the key that a call is ready to install
-ready-key : (k : KeyName) (p : Option Parked) → 1 ≤ at_parked k p → (parent : KeyName) × (object : Object) × (sel : ℕ) × (p ≡ Some (ObtainReady k parent object sel))
+ready-key : (k : KeyName) (p : Option Parked) → 1 ≤ at_parked k p → (parent : KeyName) × (object : Object) × (sel : ℕ)
+    × (p ≡ Some (ObtainReady k parent object sel))
 ready-key k None some = absurd (omega (arith, some))
 ready-key k (Some (ObtainWait number sel)) some = absurd (omega (arith, some))
 ready-key k (Some (ObtainReady key parent object sel)) some = elim (cases_Bool (key_eq key k)) [
@@ -76,10 +79,12 @@ ready-key k (Some (DelegateReady parent key)) some = absurd (omega (arith, some)
 ready-key k (Some (RevokeWait j)) some = absurd (omega (arith, some))
 ready-key k (Some (Ready code)) some = absurd (omega (arith, some))
 
-ready-parked : (k : KeyName) (p : Option Parked) → is_ready_with k p ≡ true → (parent : KeyName) × (object : Object) × (sel : ℕ) × (p ≡ Some (ObtainReady k parent object sel))
+ready-parked : (k : KeyName) (p : Option Parked) → is_ready_with k p ≡ true → (parent : KeyName) × (object : Object) × (sel : ℕ)
+    × (p ≡ Some (ObtainReady k parent object sel))
 ready-parked k None no' = absurd cc
 ready-parked k (Some (ObtainWait number sel)) no' = absurd cc
-ready-parked k (Some (ObtainReady key parent object sel)) same = (parent, object, sel, ap (λ z. Some (ObtainReady z parent object sel)) (key_eq-true key k same))
+ready-parked k (Some (ObtainReady key parent object sel)) same =
+    (parent, object, sel, ap (λ z. Some (ObtainReady z parent object sel)) (key_eq-true key k same))
 ready-parked k (Some ObtainCancelled) no' = absurd cc
 ready-parked k (Some (DelegateWait parent)) no' = absurd cc
 ready-parked k (Some (DelegateReady parent key)) no' = absurd cc
@@ -92,7 +97,8 @@ flush-some T i s j enabled = (and_parts (is_other_kernel T i j) (is_some (slice_
 
 module _ (T : Setup) (valid : IsSetup T) where
   -- A request is handled.
-  module _ (J : List Entry) (runs : IsSchedule T J) (H : Holds T (grants J) (world_after T J)) (O : Ordered T (grants J) (world_after T J)) (i from j : ℕ) (k : KeyName) (full : (side (world_after T J) i).inbox ≡ Some (from, RevokeReq k j)) where
+  module _ (J : List Entry) (runs : IsSchedule T J) (H : Holds T (grants J) (world_after T J)) (O : Ordered T (grants J) (world_after T J)) (i from j : ℕ)
+      (k : KeyName) (full : (side (world_after T J) i).inbox ≡ Some (from, RevokeReq k j)) where
     abbrev W : World
     W = world_after T J
 
@@ -107,7 +113,8 @@ module _ (T : Setup) (valid : IsSetup T) where
     under =
         let part = inbox-part (asking k from j) W i in
         let weight : of_inbox (asking k from j) i s.inbox ≡ one_if (key_eq k k && ((from == from) && (j == j))) = ap (of_inbox (asking k from j) i) full in
-        let one = one-true (key_eq k k && ((from == from) && (j == j))) (and_from (key_eq k k) ((from == from) && (j == j)) (key_eq-same k) (and_from (from == from) (j == j) (eq-eqb from from refl) (eq-eqb j j refl))) in
+        let one = one-true (key_eq k k && ((from == from) && (j == j)))
+        (and_from (key_eq k k) ((from == from) && (j == j)) (key_eq-same k) (and_from (from == from) (j == j) (eq-eqb from from refl) (eq-eqb j j refl))) in
         H.asking k from j (omega (arith, part, weight, one))
 
     -- the key is this kernel's
@@ -115,8 +122,11 @@ module _ (T : Setup) (valid : IsSetup T) where
     home =
         let part = inbox-part (straying (owner_of T)) W i in
         let none = H.placed in
-        let weight : of_inbox (straying (owner_of T)) i s.inbox ≡ one_if (not ((owner_of T k == i) && not (owner_of T k == from))) = ap (of_inbox (straying (owner_of T)) i) full in
-        eqb-true (owner_of T k) i (and_parts (owner_of T k == i) (not (owner_of T k == from)) (test ((owner_of T k == i) && not (owner_of T k == from)) (omega (arith, part, none, weight)))).0
+        let weight : of_inbox (straying (owner_of T)) i s.inbox ≡ one_if (not ((owner_of T k == i) && not (owner_of T k == from))) =
+        ap (of_inbox (straying (owner_of T)) i) full in
+        eqb-true (owner_of T k) i
+        (and_parts (owner_of T k == i) (not (owner_of T k == from))
+        (test ((owner_of T k == i) && not (owner_of T k == from)) (omega (arith, part, none, weight)))).0
       where
         test : (t : Bool) → one_if (not t) ≡ 0 → t ≡ true
         test true none = refl
@@ -125,9 +135,12 @@ module _ (T : Setup) (valid : IsSetup T) where
     -- behind the request there is no gift
     behind : at_messages k (link W from i) + at_messages k (outbox (side W from) i) ≡ 0
     behind =
-        let front : way W from i ≡ ((RevokeReq k j ∷ []) ++ link W from i) ++ outbox (side W from) i = ap (λ xs. (xs ++ link W from i) ++ outbox (side W from) i) (ap (fetched_from from) full ∙ cond-true (from == from) (RevokeReq k j ∷ []) [] (eq-eqb from from refl)) in
+        let front : way W from i ≡ ((RevokeReq k j ∷ []) ++ link W from i) ++ outbox (side W from) i =
+        ap (λ xs. (xs ++ link W from i) ++ outbox (side W from) i) (ap (fetched_from from) full
+        ∙ cond-true (from == from) (RevokeReq k j ∷ []) [] (eq-eqb from from refl)) in
         let none : late k (RevokeReq k j ∷ (link W from i ++ outbox (side W from) i)) ≡ 0 = ap (late k) (sym front) ∙ O.order k from i in
-        let at = cond-true (key_eq k k) (at_messages k (link W from i ++ outbox (side W from) i)) (late k (link W from i ++ outbox (side W from) i)) (key_eq-same k) in
+        let at = cond-true (key_eq k k) (at_messages k (link W from i ++ outbox (side W from) i)) (late k (link W from i ++ outbox (side W from) i))
+        (key_eq-same k) in
         let both = sum_by-append (at_message k) (link W from i) (outbox (side W from) i) in
         omega (arith, none, at, both)
 
@@ -138,7 +151,8 @@ module _ (T : Setup) (valid : IsSetup T) where
         let two = sum_by-append (at_message k) (fetched_from a (side W b).inbox) (link W a b) in
         let at = O.place under.0 k a b under.1 (omega (arith, one, two, some)) in
         let none = behind in
-        let is : at_messages k (link W a b) ≡ at_messages k (link W from i) = ap (λ n. at_messages k (link W n b)) (sym at.0 ∙ under.2) ∙ ap (λ n. at_messages k (link W from n)) (sym at.1 ∙ home) in
+        let is : at_messages k (link W a b) ≡ at_messages k (link W from i) = ap (λ n. at_messages k (link W n b)) (sym at.0 ∙ under.2)
+        ∙ ap (λ n. at_messages k (link W from n)) (sym at.1 ∙ home) in
         omega (arith, some, is, none)
 
     no-outbox : (a b : ℕ) → 1 ≤ at_messages k (outbox (side W a) b) → ⊥
@@ -146,7 +160,8 @@ module _ (T : Setup) (valid : IsSetup T) where
         let one = sum_by-append (at_message k) (fetched_from a (side W b).inbox ++ link W a b) (outbox (side W a) b) in
         let at = O.place under.0 k a b under.1 (omega (arith, one, some)) in
         let none = behind in
-        let is : at_messages k (outbox (side W a) b) ≡ at_messages k (outbox (side W from) i) = ap (λ n. at_messages k (outbox (side W n) b)) (sym at.0 ∙ under.2) ∙ ap (λ n. at_messages k (outbox (side W from) n)) (sym at.1 ∙ home) in
+        let is : at_messages k (outbox (side W a) b) ≡ at_messages k (outbox (side W from) i) = ap (λ n. at_messages k (outbox (side W n) b)) (sym at.0
+        ∙ under.2) ∙ ap (λ n. at_messages k (outbox (side W from) n)) (sym at.1 ∙ home) in
         omega (arith, some, is, none)
 
     no-inbox : (b : ℕ) → b ≢ i → (o : Option (ℕ × Message)) → (side W b).inbox ≡ o → 1 ≤ at_inbox k o → ⊥
@@ -169,13 +184,15 @@ module _ (T : Setup) (valid : IsSetup T) where
           let sound = (schedule-sound T valid J runs).sides a below in
           let call = (sound.calls v (ObtainReady k p.0 p.1 p.2) p.3).1 in
           let here' : a ≡ i = sym call.1.1 ∙ home in
-          let ready : is_ready_with k (parked s k.vpe) ≡ true = ap (λ n. is_ready_with k (parked s n)) call.0 ∙ (ap (λ n. is_ready_with k (parked (side W n) v)) (sym here') ∙ (ap (is_ready_with k) p.3 ∙ key_eq-same k)) in
+          let ready : is_ready_with k (parked s k.vpe) ≡ true = ap (λ n. is_ready_with k (parked s n)) call.0
+          ∙ (ap (λ n. is_ready_with k (parked (side W n) v)) (sym here') ∙ (ap (is_ready_with k) p.3 ∙ key_eq-same k)) in
           true≢false (sym ready ∙ unready)
       | inr (inr above) ↦ past (omega (arith, above))
     ]
       where
         past : T.kernels ≤ a → ⊥
-        past beyond = let is : at_parked k (parked (side W a) v) ≡ 0 = ap (λ (x : Side). at_parked k (parked x v)) (schedule-past T J runs a beyond) in omega (arith, some, is)
+        past beyond = let is : at_parked k (parked (side W a) v) ≡ 0 = ap (λ (x : Side). at_parked k (parked x v)) (schedule-past T J runs a beyond) in
+            omega (arith, some, is)
 
     -- with nothing to cancel
     unready-none : is_ready_with k (parked s k.vpe) ≡ false → at_world k on_its_way (with_side i base W) ≡ 0
@@ -203,30 +220,35 @@ module _ (T : Setup) (valid : IsSetup T) where
       ])
     ]
       where
-        no-side : (a : ℕ) (x : Side) → x.parks ≡ (side W a).parks → x.outs ≡ (side W a).outs → (x.inbox ≡ None) ⊎ ((a ≢ i) × (x.inbox ≡ (side W a).inbox)) → 1 ≤ at_side k on_its_way x → ⊥
+        no-side : (a : ℕ) (x : Side) → x.parks ≡ (side W a).parks → x.outs ≡ (side W a).outs → (x.inbox ≡ None) ⊎ ((a ≢ i) × (x.inbox ≡ (side W a).inbox)) →
+            1 ≤ at_side k on_its_way x → ⊥
         no-side a x parks outs inbox big =
             let caps = weigh-none (at_cap k on_its_way) x.caps (λ c among. refl) in
             elim (cases_eq (sum_by (at_parked k) x.parks) 0) [
               | inr some ↦
                   let v = some-of (at_parked k) None x.parks (omega (arith, some)) in
-                  let is : at_parked k (parked x v.0) ≡ at_parked k (parked (side W a) v.0) = ap (λ (ps : List (Option Parked)). at_parked k (get_or ps v.0 None)) parks in
+                  let is : at_parked k (parked x v.0) ≡ at_parked k (parked (side W a) v.0) =
+                  ap (λ (ps : List (Option Parked)). at_parked k (get_or ps v.0 None)) parks in
                   let one = v.1 in
                   no-row a v.0 (omega (arith, is, one)) unready
               | inl none ↦ elim (cases_eq (sum_by (at_messages k) x.outs) 0) [
                 | inr some ↦
                     let b = some-of (at_messages k) [] x.outs (omega (arith, some)) in
-                    let is : at_messages k (get_or x.outs b.0 []) ≡ at_messages k (outbox (side W a) b.0) = ap (λ (bs : List (List Message)). at_messages k (get_or bs b.0 [])) outs in
+                    let is : at_messages k (get_or x.outs b.0 []) ≡ at_messages k (outbox (side W a) b.0) =
+                    ap (λ (bs : List (List Message)). at_messages k (get_or bs b.0 [])) outs in
                     let one = b.1 in
                     no-outbox a b.0 (omega (arith, is, one))
                 | inl empty ↦ elim inbox [
                   | inl nothing ↦ let zero' : at_inbox k x.inbox ≡ 0 = ap (at_inbox k) nothing in omega (arith, caps, none, empty, zero', big)
-                  | inr (away, same) ↦ let is : at_inbox k x.inbox ≡ at_inbox k (side W a).inbox = ap (at_inbox k) same in no-inbox a away (side W a).inbox refl (omega (arith, caps, none, empty, is, big))
+                  | inr (away, same) ↦ let is : at_inbox k x.inbox ≡ at_inbox k (side W a).inbox = ap (at_inbox k) same in
+                      no-inbox a away (side W a).inbox refl (omega (arith, caps, none, empty, is, big))
                 ]
               ]
             ]
 
     -- and with a ready obtain, which was the one place
-    ready-none : is_ready_with k (parked s k.vpe) ≡ true → at_world k on_its_way (with_side i (parked_as k.vpe ObtainCancelled (ready_freed (parked base k.vpe) k.vpe base)) W) ≡ 0
+    ready-none : is_ready_with k (parked s k.vpe) ≡ true →
+        at_world k on_its_way (with_side i (parked_as k.vpe ObtainCancelled (ready_freed (parked base k.vpe) k.vpe base)) W) ≡ 0
     ready-none ready =
         let p = ready-parked k (parked s k.vpe) ready in
         let once = lives-once k all_held T valid J runs in
@@ -236,18 +258,24 @@ module _ (T : Setup) (valid : IsSetup T) where
         let world = world-side k on_its_way W i t in
         let calls = lives-park k on_its_way u k.vpe (Some ObtainCancelled) in
         let inbox = lives-inbox k on_its_way s None in
-        let free = subst (λ z. at_side k on_its_way (ready_freed z k.vpe base) + 1 ≤ at_side k on_its_way base + at_parked k (parked (ready_freed z k.vpe base) k.vpe)) (sym p.3) (freed-le p.0 p.1 p.2 p.3) in
+        let free = subst (λ z. at_side k on_its_way (ready_freed z k.vpe base) + 1 ≤ at_side k on_its_way base + at_parked k
+        (parked (ready_freed z k.vpe base) k.vpe)) (sym p.3) (freed-le p.0 p.1 p.2 p.3) in
         omega (arith, once, parts, world, calls, inbox, free)
       where
-        freed-le : (parent : KeyName) (object : Object) (sel : ℕ) → parked s k.vpe ≡ Some (ObtainReady k parent object sel) → at_side k on_its_way (freed k.vpe sel base) + 1 ≤ at_side k on_its_way base + at_parked k (parked (freed k.vpe sel base) k.vpe)
+        freed-le : (parent : KeyName) (object : Object) (sel : ℕ) → parked s k.vpe ≡ Some (ObtainReady k parent object sel) →
+            at_side k on_its_way (freed k.vpe sel base) + 1 ≤ at_side k on_its_way base + at_parked k (parked (freed k.vpe sel base) k.vpe)
         freed-le parent object sel is =
             let here' : at_parked k (parked s k.vpe) ≡ 1 = ap (at_parked k) is ∙ cond-true (key_eq k k) 1 0 (key_eq-same k) in
             omega (arith, here')
 
     pub nothing-late : at_world k on_its_way (with_side i (obtain_cancelled k base) W) ≡ 0
     nothing-late = elim (cases_Bool (is_ready_with k (parked s k.vpe))) [
-      | inl ready ↦ ap (λ (t : Side). at_world k on_its_way (with_side i t W)) (cond-true (is_ready_with k (parked base k.vpe)) (parked_as k.vpe ObtainCancelled (ready_freed (parked base k.vpe) k.vpe base)) base ready) ∙ ready-none ready
-      | inr unready ↦ ap (λ (t : Side). at_world k on_its_way (with_side i t W)) (cond-false (is_ready_with k (parked base k.vpe)) (parked_as k.vpe ObtainCancelled (ready_freed (parked base k.vpe) k.vpe base)) base unready) ∙ unready-none unready
+      | inl ready ↦ ap (λ (t : Side). at_world k on_its_way (with_side i t W))
+          (cond-true (is_ready_with k (parked base k.vpe)) (parked_as k.vpe ObtainCancelled (ready_freed (parked base k.vpe) k.vpe base)) base ready)
+          ∙ ready-none ready
+      | inr unready ↦ ap (λ (t : Side). at_world k on_its_way (with_side i t W))
+          (cond-false (is_ready_with k (parked base k.vpe)) (parked_as k.vpe ObtainCancelled (ready_freed (parked base k.vpe) k.vpe base)) base unready)
+          ∙ unready-none unready
     ]
 
   pub no-late : (J : List Entry) (runs : IsSchedule T J) → Holds T (grants J) (world_after T J) → Ordered T (grants J) (world_after T J) → NoLate T valid J
@@ -261,10 +289,12 @@ module _ (T : Setup) (valid : IsSetup T) where
   }
     where
       nowhere : (k : KeyName) → at_world k on_its_way (start T) ≡ 0
-      nowhere k = let few = start-lives k on_its_way T in let none = weigh-none (at_root k on_its_way) (root_keys T) (λ q among. refl) in omega (arith, few, none)
+      nowhere k = let few = start-lives k on_its_way T in let none = weigh-none (at_root k on_its_way) (root_keys T) (λ q among. refl) in
+          omega (arith, few, none)
 
   -- An event.
-  module _ (before : List Entry) (runs : IsSchedule T before) (H : Holds T (grants before) (world_after T before)) (O : Ordered T (grants before) (world_after T before)) (i : ℕ) where
+  module _ (before : List Entry) (runs : IsSchedule T before) (H : Holds T (grants before) (world_after T before))
+      (O : Ordered T (grants before) (world_after T before)) (i : ℕ) where
     abbrev V : World
     V = world_after T before
 
@@ -281,7 +311,9 @@ module _ (T : Setup) (valid : IsSetup T) where
     list-front [] m none = absurd cc
     list-front (x ∷ xs) m some = ap (λ y. y ∷ xs) (same_Some x m some)
 
-    stepped-ordered : (a : Act) (o : Option (KeyName × KeyName)) → ◌≡◌ {A = Option (KeyName × KeyName)} o (stepped T V (event i a)).outcome.grant → Told T gs (stepped T V (event i a)).outcome.grant → (base t : Side) → base.outs ≡ now.outs → (base.inbox ≡ now.inbox) ⊎ (base.inbox ≡ None) → Sends T gs V fits H (anything gs V) i o base t → Ordered T (gs ++ option_to_list o) (with_side i t V)
+    stepped-ordered : (a : Act) (o : Option (KeyName × KeyName)) → ◌≡◌ {A = Option (KeyName × KeyName)} o (stepped T V (event i a)).outcome.grant →
+        Told T gs (stepped T V (event i a)).outcome.grant → (base t : Side) → base.outs ≡ now.outs → (base.inbox ≡ now.inbox) ⊎ (base.inbox ≡ None) →
+        Sends T gs V fits H (anything gs V) i o base t → Ordered T (gs ++ option_to_list o) (with_side i t V)
     stepped-ordered a o is told base t boxes inboxes S =
         ordered-on T gs (gs ++ option_to_list o) V fits H (anything gs V) O i o (λ p k granted. last-granted T valid gs o p k granted)
         (λ p k now'. told.new p k (sym is ∙ now'))
@@ -289,14 +321,36 @@ module _ (T : Setup) (valid : IsSetup T) where
         (λ p k now'. let held = local_step-below T i now a (input_of V i a) p k (sym is ∙ now') in schedule-homes T valid before runs i p held.0 held.1)
         base t boxes inboxes S
 
-    event-ordered : (a : Act) → is_enabled T V (event i a) ≡ true → Told T gs (stepped T V (event i a)).outcome.grant → Ordered T (gs ++ option_to_list (stepped T V (event i a)).outcome.grant) (after T V (event i a))
+    event-ordered : (a : Act) → is_enabled T V (event i a) ≡ true → Told T gs (stepped T V (event i a)).outcome.grant →
+        Ordered T (gs ++ option_to_list (stepped T V (event i a)).outcome.grant) (after T V (event i a))
     unfolding after local_step
-    event-ordered (Calls v) enabled told = ordered-same T (gs ++ option_to_list (stepped T V (event i (Calls v))).outcome.grant) (with_side i (stepped T V (event i (Calls v))).side V) (after T V (event i (Calls v))) (λ a b. refl) (stepped-ordered (Calls v) (stepped T V (event i (Calls v))).outcome.grant refl told now (stepped T V (event i (Calls v))).side refl (inl refl) (option-keeps (Keeps T gs V fits H (anything gs V) i) (call_row T i (call_counted v now) v) (next_call T now v) (plain now) (λ c there. by-call T gs V fits H (anything gs V) i v c (anything-loses gs T now (Calls v) c there)) (λ _. row-step T gs V fits H (anything gs V) i now (in_row T gs V fits H (anything gs V) i)) (facts-of T gs V fits H (anything gs V) i (Calls v) (stepped T V (event i (Calls v))) refl told (λ k. after-lives k all_held T V i (Calls v)))).1)
-    event-ordered (Upcall v) enabled told = ordered-same T (gs ++ option_to_list (stepped T V (event i (Upcall v))).outcome.grant) (with_side i (stepped T V (event i (Upcall v))).side V) (after T V (event i (Upcall v))) (λ a b. refl) (stepped-ordered (Upcall v) (stepped T V (event i (Upcall v))).outcome.grant refl told now (stepped T V (event i (Upcall v))).side refl (inl refl) (by-upcall T gs V fits H (anything gs V) i v (facts-of T gs V fits H (anything gs V) i (Upcall v) (stepped T V (event i (Upcall v))) refl told (λ k. after-lives k all_held T V i (Upcall v)))).1)
-    event-ordered (Resume v) enabled told = ordered-same T (gs ++ option_to_list (stepped T V (event i (Resume v))).outcome.grant) (with_side i (stepped T V (event i (Resume v))).side V) (after T V (event i (Resume v))) (λ a b. refl) (stepped-ordered (Resume v) (stepped T V (event i (Resume v))).outcome.grant refl told now (stepped T V (event i (Resume v))).side refl (inl refl) (by-resume T gs V fits H (anything gs V) i v (facts-of T gs V fits H (anything gs V) i (Resume v) (stepped T V (event i (Resume v))) refl told (λ k. after-lives k all_held T V i (Resume v)))).1)
-    event-ordered (Kill v) enabled told = ordered-same T (gs ++ option_to_list None) (with_side i (stepped T V (event i (Kill v))).side V) (after T V (event i (Kill v))) (λ a b. refl) (stepped-ordered (Kill v) None refl told now (ended T i v now) refl (inl refl) (row-step T gs V fits H (anything gs V) i (ended T i v now) (row-ended (here T gs V fits H (anything gs V) i) v now (λ k same. tt) (in_row T gs V fits H (anything gs V) i))).1)
-    event-ordered Handle enabled told = ordered-same T (gs ++ option_to_list None) (with_side i (stepped T V (event i Handle)).side V) (after T V (event i Handle)) (λ a b. refl) (stepped-ordered Handle None refl told (with_inbox None now) (stepped T V (event i Handle)).side refl (inr refl) (by-inbox T gs V fits H (anything gs V) i now.inbox refl (facts-of T gs V fits H (anything gs V) i Handle (stepped T V (event i Handle)) refl told (λ k. after-lives k all_held T V i Handle))).1)
-    event-ordered (Fetch j) enabled told = subst (λ xs. Ordered T xs (after T V (event i (Fetch j)))) (sym (append-nil gs)) (fetched (slice_get (link V j i) 0) refl)
+    event-ordered (Calls v) enabled told = ordered-same T (gs ++ option_to_list (stepped T V (event i (Calls v))).outcome.grant)
+        (with_side i (stepped T V (event i (Calls v))).side V) (after T V (event i (Calls v))) (λ a b. refl)
+        (stepped-ordered (Calls v) (stepped T V (event i (Calls v))).outcome.grant refl told now (stepped T V (event i (Calls v))).side refl (inl refl)
+        (option-keeps (Keeps T gs V fits H (anything gs V) i) (call_row T i (call_counted v now) v) (next_call T now v) (plain now)
+        (λ c there. by-call T gs V fits H (anything gs V) i v c (anything-loses gs T now (Calls v) c there))
+        (λ _. row-step T gs V fits H (anything gs V) i now (in_row T gs V fits H (anything gs V) i))
+        (facts-of T gs V fits H (anything gs V) i (Calls v) (stepped T V (event i (Calls v))) refl told (λ k. after-lives k all_held T V i (Calls v)))).1)
+    event-ordered (Upcall v) enabled told = ordered-same T (gs ++ option_to_list (stepped T V (event i (Upcall v))).outcome.grant)
+        (with_side i (stepped T V (event i (Upcall v))).side V) (after T V (event i (Upcall v))) (λ a b. refl)
+        (stepped-ordered (Upcall v) (stepped T V (event i (Upcall v))).outcome.grant refl told now (stepped T V (event i (Upcall v))).side refl (inl refl)
+        (by-upcall T gs V fits H (anything gs V) i v (facts-of T gs V fits H (anything gs V) i (Upcall v) (stepped T V (event i (Upcall v))) refl told
+        (λ k. after-lives k all_held T V i (Upcall v)))).1)
+    event-ordered (Resume v) enabled told = ordered-same T (gs ++ option_to_list (stepped T V (event i (Resume v))).outcome.grant)
+        (with_side i (stepped T V (event i (Resume v))).side V) (after T V (event i (Resume v))) (λ a b. refl)
+        (stepped-ordered (Resume v) (stepped T V (event i (Resume v))).outcome.grant refl told now (stepped T V (event i (Resume v))).side refl (inl refl)
+        (by-resume T gs V fits H (anything gs V) i v (facts-of T gs V fits H (anything gs V) i (Resume v) (stepped T V (event i (Resume v))) refl told
+        (λ k. after-lives k all_held T V i (Resume v)))).1)
+    event-ordered (Kill v) enabled told = ordered-same T (gs ++ option_to_list None) (with_side i (stepped T V (event i (Kill v))).side V)
+        (after T V (event i (Kill v))) (λ a b. refl) (stepped-ordered (Kill v) None refl told now (ended T i v now) refl (inl refl)
+        (row-step T gs V fits H (anything gs V) i (ended T i v now)
+        (row-ended (here T gs V fits H (anything gs V) i) v now (λ k same. tt) (in_row T gs V fits H (anything gs V) i))).1)
+    event-ordered Handle enabled told = ordered-same T (gs ++ option_to_list None) (with_side i (stepped T V (event i Handle)).side V)
+        (after T V (event i Handle)) (λ a b. refl) (stepped-ordered Handle None refl told (with_inbox None now) (stepped T V (event i Handle)).side refl
+        (inr refl) (by-inbox T gs V fits H (anything gs V) i now.inbox refl
+        (facts-of T gs V fits H (anything gs V) i Handle (stepped T V (event i Handle)) refl told (λ k. after-lives k all_held T V i Handle))).1)
+    event-ordered (Fetch j) enabled told = subst (λ xs. Ordered T xs (after T V (event i (Fetch j)))) (sym (append-nil gs))
+        (fetched (slice_get (link V j i) 0) refl)
       where
         outer : (is_locally_enabled T i now (Fetch j) ≡ true) × (is_allowed T V i (Fetch j) ≡ true)
         outer = enabled-parts T V i (Fetch j) enabled
@@ -308,8 +362,10 @@ module _ (T : Setup) (valid : IsSetup T) where
         fetched : (o : Option Message) → slice_get (link V j i) 0 ≡ o → Ordered T gs (after T V (event i (Fetch j)))
         fetched None none = absurd (true≢false (sym outer.1 ∙ ap is_some none))
         fetched (Some m) some = ordered-same T gs V (after T V (event i (Fetch j)))
-            (λ a b. subst (λ o. way (with_link j i (drop 1 (link V j i)) (with_side i (with_inbox (option_map (λ q. (j, q)) o) now) V)) a b ≡ way V a b) (sym some) (way-fetched j i m (drop 1 (link V j i)) V (list-front (link V j i) m some) (empty now.inbox refl) a b)) O
-    event-ordered (Flush j) enabled told = subst (λ xs. Ordered T xs (after T V (event i (Flush j)))) (sym (append-nil gs)) (flushed (slice_get (outbox now j) 0) refl)
+            (λ a b. subst (λ o. way (with_link j i (drop 1 (link V j i)) (with_side i (with_inbox (option_map (λ q. (j, q)) o) now) V)) a b ≡ way V a b)
+            (sym some) (way-fetched j i m (drop 1 (link V j i)) V (list-front (link V j i) m some) (empty now.inbox refl) a b)) O
+    event-ordered (Flush j) enabled told = subst (λ xs. Ordered T xs (after T V (event i (Flush j)))) (sym (append-nil gs))
+        (flushed (slice_get (outbox now j) 0) refl)
       where
         outer : (is_locally_enabled T i now (Flush j) ≡ true) × (is_allowed T V i (Flush j) ≡ true)
         outer = enabled-parts T V i (Flush j) enabled
@@ -317,14 +373,17 @@ module _ (T : Setup) (valid : IsSetup T) where
         flushed : (o : Option Message) → slice_get (outbox now j) 0 ≡ o → Ordered T gs (after T V (event i (Flush j)))
         flushed None none = absurd (true≢false (sym (flush-some T i now j outer.0) ∙ ap is_some none))
         flushed (Some m) some = ordered-same T gs V (after T V (event i (Flush j)))
-            (λ a b. subst (λ o. way (option_map_or (λ q. with_link i j (link V i j ++ q ∷ []) (with_side i (sent j now) V)) o (with_side i (sent j now) V)) a b ≡ way V a b) (sym some) (way-flushed i j m (drop 1 (outbox now j)) V (list-front (outbox now j) m some) a b)) O
+            (λ a b. subst (λ o. way (option_map_or (λ q. with_link i j (link V i j ++ q ∷ []) (with_side i (sent j now) V)) o (with_side i (sent j now) V)) a b
+            ≡ way V a b) (sym some) (way-flushed i j m (drop 1 (outbox now j)) V (list-front (outbox now j) m some) a b)) O
 
   -- Along every schedule of every setup.
   pub schedule-revokes : (J : List Entry) → IsSchedule T J → Holds T (grants J) (world_after T J) × Ordered T (grants J) (world_after T J)
   schedule-revokes J runs = from [] J refl (start-holds T) start-ordered
     where
-      from : (before later : List Entry) → J ≡ before ++ later → Holds T (grants before) (world_after T before) → Ordered T (grants before) (world_after T before) → Holds T (grants J) (world_after T J) × Ordered T (grants J) (world_after T J)
-      from before [] parts H O = subst (λ K. Holds T (grants K) (world_after T K) × Ordered T (grants K) (world_after T K)) (sym (parts ∙ append-nil before)) (H, O)
+      from : (before later : List Entry) → J ≡ before ++ later → Holds T (grants before) (world_after T before) →
+          Ordered T (grants before) (world_after T before) → Holds T (grants J) (world_after T J) × Ordered T (grants J) (world_after T J)
+      from before [] parts H O = subst (λ K. Holds T (grants K) (world_after T K) × Ordered T (grants K) (world_after T K)) (sym (parts ∙ append-nil before))
+          (H, O)
       from before (e ∷ es) parts H O =
           let V : World = world_after T before in
           let runs' : IsSchedule T (before ++ e ∷ es) = subst (IsSchedule T) parts runs in
@@ -336,11 +395,15 @@ module _ (T : Setup) (valid : IsSetup T) where
           let told : Told T (grants before) o = record {
             next = subst (IsGrown (root_keys T)) gs (all-grown T valid (before ++ e ∷ []) prefix);
             new = λ p k is. all-new T valid J runs before es e p k parts (shows ∙ is);
-            valid = λ p k is. schedule-valid T valid (before ++ e ∷ []) prefix p k (subst (λ xs. Contains xs (p, k)) (sym gs) (granted-last (grants before) o p k is));
+            valid = λ p k is. schedule-valid T valid (before ++ e ∷ []) prefix p k
+                (subst (λ xs. Contains xs (p, k)) (sym gs) (granted-last (grants before) o p k is));
           } in
           let world : world_after T (before ++ e ∷ []) ≡ after T V e.event = run-append T before (e ∷ []) (start T) in
-          let holds : Holds T (grants before ++ option_to_list o) (after T V e.event) = event-holds T (grants before) V (fits before at.0 H O e.event.kernel) H (anything (grants before) V) e.event.kernel e.event.act (anything-loses (grants before) T (side V e.event.kernel) e.event.act) at.1 told in
-          let ordered : Ordered T (grants before ++ option_to_list o) (after T V e.event) = event-ordered before at.0 H O e.event.kernel e.event.act at.1 told in
+          let holds : Holds T (grants before ++ option_to_list o) (after T V e.event) =
+          event-holds T (grants before) V (fits before at.0 H O e.event.kernel) H (anything (grants before) V) e.event.kernel e.event.act
+          (anything-loses (grants before) T (side V e.event.kernel) e.event.act) at.1 told in
+          let ordered : Ordered T (grants before ++ option_to_list o) (after T V e.event) =
+          event-ordered before at.0 H O e.event.kernel e.event.act at.1 told in
           from (before ++ e ∷ []) es (parts ∙ sym (append_assoc before (e ∷ []) es))
           (subst (λ xs. Holds T xs (world_after T (before ++ e ∷ []))) (sym gs) (subst (Holds T (grants before ++ option_to_list o)) (sym world) holds))
           (subst (λ xs. Ordered T xs (world_after T (before ++ e ∷ []))) (sym gs) (subst (Ordered T (grants before ++ option_to_list o)) (sym world) ordered))

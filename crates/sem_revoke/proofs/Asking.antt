@@ -2,7 +2,8 @@
 use Rattle.sem_key.specs.PlaceName.{PlaceName}
 use Rattle.sem_key.specs.declared.key.Kind.TheVariants.{Mem as MemKind}
 use Rattle.sem_msg.specs.declared.limits.TheConstants.{ASKS}
-use Rattle.std.proofs.Common.{◌≡◌, ◌⊎◌, ℕ, ◌+◌, ◌≤◌, ◌<◌, ◌++◌, true, false, not, ◌&&◌, List, [], ◌∷◌, get_or, Option, Some, None, is_none, append-nil, append_assoc, refl, sym, ap, ◌∙◌, subst, inl, inr, arith, nat_lt, length}
+use Rattle.std.proofs.Common.{◌≡◌, ◌⊎◌, ℕ, ◌+◌, ◌≤◌, ◌<◌, ◌++◌, true, false, not, ◌&&◌, List, [], ◌∷◌, get_or, Option, Some, None, is_none, append-nil}
+use Rattle.std.proofs.Common.{append_assoc, refl, sym, ap, ◌∙◌, subst, inl, inr, arith, nat_lt, length}
 use Rattle.std.specs.Prelude.{◌==◌, if◌then◌else◌}
 use Rattle.std.specs.List.{All, Contains, sum_by}
 use Rattle.std.proofs.lemmas.Bool.{cases_eq, cases_Bool, cond-true, cond_both, and_from, true≢false}
@@ -13,13 +14,15 @@ use Rattle.sem_key.specs.KeyName.{KeyName}
 use Rattle.sem_key.specs.Lists.{put}
 use Rattle.sem_key.proofs.Puts.{get_or-put_same, get_or-put_other}
 use Rattle.sem_msg.specs.declared.call.Call.{Call}
-use Rattle.sem_msg.specs.declared.call.Call.TheVariants.{Derive, Gate, Obtain, Delegate, OpenSession, AskOffer, Revoke, Bind, Read, Write, Send as SendCall, Credit, Exit, Clear}
+use Rattle.sem_msg.specs.declared.call.Call.TheVariants.{Derive, Gate, Obtain, Delegate, OpenSession, AskOffer, Revoke, Bind, Read, Write, Send as SendCall}
+use Rattle.sem_msg.specs.declared.call.Call.TheVariants.{Credit, Exit, Clear}
 use Rattle.sem_msg.specs.declared.code.Code.TheVariants.{NoService, BadKind}
 use Rattle.sem_msg.specs.declared.entry.Entry.{Entry}
 use Rattle.sem_msg.specs.declared.event.Act.{Act}
 use Rattle.sem_msg.specs.declared.event.Act.TheVariants.{Call as Calls, Fetch, Handle, Upcall, Resume, Flush, Kill}
 use Rattle.sem_msg.specs.declared.message.Message.{Message}
-use Rattle.sem_msg.specs.declared.message.Message.TheVariants.{ObtainReq, ObtainOk, ObtainNo, DelegateReq, DelegatePrepared, DelegateNo, Ack, Orphan, RevokeReq, RevokeDone, Unlink}
+use Rattle.sem_msg.specs.declared.message.Message.TheVariants.{ObtainReq, ObtainOk, ObtainNo, DelegateReq, DelegatePrepared, DelegateNo, Ack, Orphan, RevokeReq}
+use Rattle.sem_msg.specs.declared.message.Message.TheVariants.{RevokeDone, Unlink}
 use Rattle.sem_msg.specs.declared.message.Target.{Target}
 use Rattle.sem_msg.specs.declared.message.Target.TheVariants.{Sel as SelTarget, Serv as ServTarget, Offer as OfferTarget}
 use Rattle.sem_msg.specs.declared.setup.Service.{Service}
@@ -99,7 +102,8 @@ sides-split v (s ∷ ss) =
     omega (arith, one, two, three, more)
 
 -- a living VPE of which something is about waits
-pub about-waits : (T : Setup) → IsSetup T → (J : List Entry) → IsSchedule T J → (v j : ℕ) → HasAbout (world_after T J) v → is_alive (side (world_after T J) j) v ≡ true → waits (parked (side (world_after T J) j) v) ≡ true
+pub about-waits : (T : Setup) → IsSetup T → (J : List Entry) → IsSchedule T J → (v j : ℕ) → HasAbout (world_after T J) v →
+    is_alive (side (world_after T J) j) v ≡ true → waits (parked (side (world_after T J) j) v) ≡ true
 about-waits T valid J runs v j some alive =
     let W : World = world_after T J in
     let most = single T valid J runs v in
@@ -108,7 +112,8 @@ about-waits T valid J runs v j some alive =
     elim (cases_Bool (waits (parked (side W j) v))) [
       | inl busy ↦ busy
       | inr idle ↦
-          let one : free (row (side W j) v) (parked (side W j) v) ≡ 1 = cond-true ((row (side W j) v).alive && not (waits (parked (side W j) v))) 1 0 (and_from (row (side W j) v).alive (not (waits (parked (side W j) v))) alive (ap not idle)) in
+          let one : free (row (side W j) v) (parked (side W j) v) ≡ 1 = cond-true ((row (side W j) v).alive && not (waits (parked (side W j) v))) 1 0
+          (and_from (row (side W j) v).alive (not (waits (parked (side W j) v))) alive (ap not idle)) in
           absurd (omega (arith, most, split, part, one, some))
     ]
 
@@ -160,7 +165,8 @@ module _ (A B A' B' : ℕ → ℕ → Type 0) (C C' : ℕ → Type 0) (W : World
 
   inbox-seen : (s : Side) → Contains W.sides s → (o : Option (ℕ × Message)) → s.inbox ≡ o → BringsFrom F o → BringsFrom G o
   inbox-seen s among None is here' = tt
-  inbox-seen s among (Some m) is here' = brings-seen m.1 (λ v some. let weighs : of_inbox v s.inbox ≡ of_message v m.1 = ap (of_inbox v) is in in-side s among v (omega (arith, some, weighs))) here'
+  inbox-seen s among (Some m) is here' = brings-seen m.1 (λ v some. let weighs : of_inbox v s.inbox ≡ of_message v m.1 = ap (of_inbox v) is in
+      in-side s among v (omega (arith, some, weighs))) here'
 
   side-seen : (s : Side) → Contains W.sides s → InSide F s → InSide G s
   side-seen s among is = record {
@@ -182,7 +188,8 @@ module _ (A B A' B' : ℕ → ℕ → Type 0) (C C' : ℕ → Type 0) (W : World
   world-seen : InWorld F W → InWorld G W
   world-seen is = record {
     sides = All-seen (InSide F) (InSide G) W.sides side-seen is.sides;
-    links = All-seen (λ (r : List (List Message)). All (BringsAll F) r) (λ (r : List (List Message)). All (BringsAll G) r) W.links (λ r inside here'. All-seen (BringsAll F) (BringsAll G) r (λ ms there these. All-seen (Brings F) (Brings G) ms (λ m last one. brings-seen m (λ v some.
+    links = All-seen (λ (r : List (List Message)). All (BringsAll F) r) (λ (r : List (List Message)). All (BringsAll G) r) W.links
+        (λ r inside here'. All-seen (BringsAll F) (BringsAll G) r (λ ms there these. All-seen (Brings F) (Brings G) ms (λ m last one. brings-seen m (λ v some.
         let first = weigh-among (of_message v) ms m last in
         let second = weigh-among (of_messages v) r ms there in
         let all = weigh-among (λ ls. sum_by (of_messages v) ls) W.links r inside in
@@ -216,7 +223,8 @@ Called t v x = (next x.side v ≡ next t v) ⊎ ((next x.side v ≡ next t v + 1
 
 kept-next : (t : Side) (w : ℕ) (r : VpeRow) (v : ℕ) → r.next_number ≡ next t w → next (record t { vpes = put no_vpe t.vpes w r }) v ≡ next t v
 kept-next t w r v same = elim (cases_eq v w) [
-  | inl here' ↦ ap (next (record t { vpes = put no_vpe t.vpes w r })) here' ∙ (ap (λ (x : VpeRow). x.next_number) (get_or-put_same no_vpe t.vpes w r) ∙ (same ∙ ap (next t) (sym here')))
+  | inl here' ↦ ap (next (record t { vpes = put no_vpe t.vpes w r })) here' ∙ (ap (λ (x : VpeRow). x.next_number) (get_or-put_same no_vpe t.vpes w r)
+      ∙ (same ∙ ap (next t) (sym here')))
   | inr other ↦ ap (λ (x : VpeRow). x.next_number) (get_or-put_other no_vpe t.vpes w v r other)
 ]
 
@@ -226,18 +234,32 @@ ask-called T i v dst target t =
     let drawing : Side = drawn v t in
     let promising : Side = promised v dst drawing in
     let waiting : Side = parked_as v (ObtainWait (next t v) dst) promising in
-    let one : next drawing v ≡ next t v + 1 = ap (λ (x : VpeRow). x.next_number) (get_or-put_same no_vpe t.vpes v (record (row t v) { next_number = (row t v).next_number + 1 })) in
+    let one : next drawing v ≡ next t v + 1 =
+    ap (λ (x : VpeRow). x.next_number) (get_or-put_same no_vpe t.vpes v (record (row t v) { next_number = (row t v).next_number + 1 })) in
     let two : next promising v ≡ next drawing v = kept-next drawing v (record (row drawing v) { slots = put Free (row drawing v).slots dst Promised }) v refl in
     let there : parked waiting v ≡ Some (ObtainWait (next t v) dst) = parked-here promising v (Some (ObtainWait (next t v) dst)) in
-    inr (cond_both (kernel_of T w == i) (asked w (ObtainAsk (next_place T t v) target) waiting) (send (kernel_of T w) (ObtainReq (next_place T t v) target) waiting) (λ (u : Side). (next u v ≡ next t v + 1) × ((sel : ℕ) × (parked u v ≡ Some (ObtainWait (next t v) sel))))
-    (λ _. (kept-next waiting w (record (row waiting w) { asks = if nat_lt (length (row waiting w).asks) ASKS then (row waiting w).asks ++ ObtainAsk (next_place T t v) target ∷ [] else (row waiting w).asks }) v refl ∙ (two ∙ one), (dst, there)))
+    inr (cond_both (kernel_of T w == i) (asked w (ObtainAsk (next_place T t v) target) waiting)
+    (send (kernel_of T w) (ObtainReq (next_place T t v) target) waiting) (λ (u : Side). (next u v ≡ next t v + 1)
+    × ((sel : ℕ) × (parked u v ≡ Some (ObtainWait (next t v) sel))))
+    (λ _. (
+      kept-next waiting w (record (row waiting w) {
+        asks = if nat_lt (length (row waiting w).asks) ASKS
+            then (row waiting w).asks ++ ObtainAsk (next_place T t v) target ∷ [] else (row waiting w).asks;
+      }) v refl ∙ (two ∙ one),
+      (dst, there),
+    ))
     (λ _. (two ∙ one, (dst, there))))
 
 asking-called : (T : Setup) (i v : ℕ) (c : Call) (t : Side) → IsAsking c → Called t v (call_row T i t v c)
 unfolding call_row
-asking-called T i v (Obtain dst w src) t asks = unless-keeps (Called t v) (obtain_tests T i t v dst w) _ _ (λ code. inl refl) (ask-called T i v dst (SelTarget w src) t)
-asking-called T i v (OpenSession dst name) t asks = unless-keeps (Called t v) (open_tests T i t v dst name) _ _ (λ code. inl refl) (option-keeps (Called t v) (λ (x : Service). ask_made T i v dst (ServTarget x.key) t) (service_named T name) (answer NoService t) (λ x there. ask-called T i v dst (ServTarget x.key) t) (inl refl))
-asking-called T i v (AskOffer dst session index) t asks = unless-keeps (Called t v) (offer_tests T i t v dst session) _ _ (λ code. inl refl) (option-keeps (Called t v) (λ (k : KeyName). ask_made T i v dst (OfferTarget k index) t) _ (answer BadKind t) (λ k there. ask-called T i v dst (OfferTarget k index) t) (inl refl))
+asking-called T i v (Obtain dst w src) t asks = unless-keeps (Called t v) (obtain_tests T i t v dst w) _ _ (λ code. inl refl)
+    (ask-called T i v dst (SelTarget w src) t)
+asking-called T i v (OpenSession dst name) t asks = unless-keeps (Called t v) (open_tests T i t v dst name) _ _ (λ code. inl refl)
+    (option-keeps (Called t v) (λ (x : Service). ask_made T i v dst (ServTarget x.key) t) (service_named T name) (answer NoService t)
+    (λ x there. ask-called T i v dst (ServTarget x.key) t) (inl refl))
+asking-called T i v (AskOffer dst session index) t asks = unless-keeps (Called t v) (offer_tests T i t v dst session) _ _ (λ code. inl refl)
+    (option-keeps (Called t v) (λ (k : KeyName). ask_made T i v dst (OfferTarget k index) t) _ (answer BadKind t)
+    (λ k there. ask-called T i v dst (OfferTarget k index) t) (inl refl))
 asking-called T i v (Derive src dst off len rights) t asks = absurd asks
 asking-called T i v (Gate src dst label credits) t asks = absurd asks
 asking-called T i v (Delegate src w dst) t asks = absurd asks
@@ -262,7 +284,8 @@ any_vpe v = Unit {0}
 abbrev pub Awaited : Setup → World → Type 0
 Awaited T W = InWorld (about any_place any_vpe (Waits T W)) W
 
-module _ (T : Setup) (valid : IsSetup T) (J : List Entry) (runs : IsSchedule T J) (before : List Entry) (e : Entry) (later : List Entry) (parts : J ≡ before ++ e ∷ later) (I : Awaited T (world_after T before)) where
+module _ (T : Setup) (valid : IsSetup T) (J : List Entry) (runs : IsSchedule T J) (before : List Entry) (e : Entry) (later : List Entry) (parts : J ≡ before
+    ++ e ∷ later) (I : Awaited T (world_after T before)) where
   abbrev W : World
   W = world_after T before
 
@@ -355,8 +378,18 @@ module _ (T : Setup) (valid : IsSetup T) (J : List Entry) (runs : IsSchedule T J
   carried-now : InWorld Now (after T W e.event)
   unfolding entry_of local_entry
   carried-now = after-in Now (λ v. kernel_of T v ≡ i) T W e.event (may_draw T W e.event enabled.1)
-      (world-weaker (about any_place any_vpe (Waits T W)) Now (record { key = λ k o is. tt; acked = λ k is. tt; asked = λ v n is. inl is; offered = λ k o is. tt; pends = λ p is. tt; prepared = λ p k is. tt; link = λ p k. tt; doomed = λ k. tt }) W I)
-      fitting (gives e.event.act refl) (dies e.event.act) (in-grant (stepped T W e.event).outcome.grant) (λ v n may low below. (may, (low, below))) (in-cut (stepped T W e.event).outcome.cut)
+      (world-weaker (about any_place any_vpe (Waits T W)) Now (record {
+        key = λ k o is. tt;
+        acked = λ k is. tt;
+        asked = λ v n is. inl is;
+        offered = λ k o is. tt;
+        pends = λ p is. tt;
+        prepared = λ p k is. tt;
+        link = λ p k. tt;
+        doomed = λ k. tt;
+      }) W I)
+      fitting (gives e.event.act refl) (dies e.event.act) (in-grant (stepped T W e.event).outcome.grant) (λ v n may low below. (may, (low, below)))
+      (in-cut (stepped T W e.event).outcome.cut)
 
   at-i : (j : ℕ) → j ≡ i → side V j ≡ t
   at-i j same = side-here T valid J runs before e later parts (all-caused T valid J runs before (e ∷ later) parts) j same
@@ -398,8 +431,10 @@ module _ (T : Setup) (valid : IsSetup T) (J : List Entry) (runs : IsSchedule T J
       let j : ℕ = kernel_of T v in
       let busy = about-waits T valid (before ++ e ∷ []) prefix v j some alive in
       let u : Side = call_counted v s in
-      let step : t ≡ (call_row T i u v c).side = ap (λ a. (local_step T i s a (input_of W i a)).side) act ∙ ap (λ (x : Step). x.side) (call-step T i s v (input_of W i (Calls v)) c there) in
-      let counted : next u v ≡ next s v = ap (λ (x : VpeRow). x.next_number) (get_or-put_same no_vpe s.vpes v (record (row s v) { next_call = (row s v).next_call + 1 })) in
+      let step : t ≡ (call_row T i u v c).side = ap (λ a. (local_step T i s a (input_of W i a)).side) act
+      ∙ ap (λ (x : Step). x.side) (call-step T i s v (input_of W i (Calls v)) c there) in
+      let counted : next u v ≡ next s v =
+      ap (λ (x : VpeRow). x.next_number) (get_or-put_same no_vpe s.vpes v (record (row s v) { next_call = (row s v).next_call + 1 })) in
       let after_is : next t v ≡ next (call_row T i u v c).side v = ap (λ (x : Side). next x v) step in
       elim (asking-called T i v c u asks) [
         | inl same ↦ absurd (omega (arith, same, counted, after_is, low, below))
@@ -419,15 +454,18 @@ all-awaited T valid J runs = from [] J refl (start-in (about any_place any_vpe (
   where
     from : (before later : List Entry) → J ≡ before ++ later → Awaited T (world_after T before) → Awaited T (world_after T J)
     from before [] parts is = subst (λ K. Awaited T (world_after T K)) (sym (parts ∙ append-nil before)) is
-    from before (e ∷ later) parts is = from (before ++ e ∷ []) later (parts ∙ sym (append_assoc before (e ∷ []) later)) (next-awaited T valid J runs before e later parts is)
+    from before (e ∷ later) parts is = from (before ++ e ∷ []) later (parts
+        ∙ sym (append_assoc before (e ∷ []) later)) (next-awaited T valid J runs before e later parts is)
 
-pub asks-awaited : (T : Setup) → IsSetup T → (J : List Entry) → IsSchedule T J → (i u : ℕ) (place : PlaceName) (target : Target) → Contains (row (side (world_after T J) i) u).asks (ObtainAsk place target) → Waits T (world_after T J) place.vpe place.number
+pub asks-awaited : (T : Setup) → IsSetup T → (J : List Entry) → IsSchedule T J → (i u : ℕ) (place : PlaceName) (target : Target) →
+    Contains (row (side (world_after T J) i) u).asks (ObtainAsk place target) → Waits T (world_after T J) place.vpe place.number
 asks-awaited T valid J runs i u place target among =
     let W : World = world_after T J in
     let G : Facts = about any_place any_vpe (Waits T W) in
     All-contains (AsksFor G) (row (side W i) u).asks (ObtainAsk place target) (row-in G (side W i) (side-in G W (all-awaited T valid J runs) i) u) among
 
-pub requests-awaited : (T : Setup) → IsSetup T → (J : List Entry) → IsSchedule T J → (place : PlaceName) (target : Target) → InFlight (world_after T J) (ObtainReq place target) → Waits T (world_after T J) place.vpe place.number
+pub requests-awaited : (T : Setup) → IsSetup T → (J : List Entry) → IsSchedule T J → (place : PlaceName) (target : Target) →
+    InFlight (world_after T J) (ObtainReq place target) → Waits T (world_after T J) place.vpe place.number
 requests-awaited T valid J runs place target flight =
     let W : World = world_after T J in
     flight-in (about any_place any_vpe (Waits T W)) W (all-awaited T valid J runs) (ObtainReq place target) flight

@@ -1,9 +1,11 @@
 -- A job is closed, and those that are done by that, one after the other.
-use Rattle.std.proofs.Common.{◌≡◌, ℕ, zero, suc, ◌+◌, ◌≤◌, Bool, true, false, not, ◌&&◌, List, length, Option, Some, None, refl, sym, ap, ◌∙◌, subst, inl, inr, arith, eq-eqb, ◌⊎◌}
+use Rattle.std.proofs.Common.{◌≡◌, ℕ, zero, suc, ◌+◌, ◌≤◌, Bool, true, false, not, ◌&&◌, List, length, Option, Some, None, refl, sym, ap, ◌∙◌, subst, inl, inr}
+use Rattle.std.proofs.Common.{arith, eq-eqb, ◌⊎◌}
 use Rattle.std.specs.Prelude.{◌==◌, if◌then◌else◌}
 use Rattle.std.specs.List.{sum_by}
 use Rattle.std.specs.Option.{option_map, option_map_or, option_and_then}
-use Rattle.std.proofs.lemmas.Bool.{cases_Bool, cases_eq, cond-true, cond-false, cond_both, eqb-true, eqb-false, ne_eqb, and_from, true≢false, false_from_ne_true}
+use Rattle.std.proofs.lemmas.Bool.{cases_Bool, cases_eq, cond-true, cond-false, cond_both, eqb-true, eqb-false, ne_eqb, and_from, true≢false}
+use Rattle.std.proofs.lemmas.Bool.{false_from_ne_true}
 use Rattle.std.proofs.lemmas.Option.{same_Some}
 use Rattle.sem_key.specs.KeyName.{KeyName, key_eq}
 use Rattle.sem_key.specs.Lists.{put}
@@ -19,7 +21,8 @@ use Rattle.sem_msg.specs.Rows.{JobRow, VpeRow, no_vpe}
 use Rattle.sem_machine.specs.Machine.{side}
 use Rattle.sem_msg.specs.Lookups.{is_local}
 use Rattle.sem_machine.specs.Sides.{Side, row, cap, job, freed, parked_as, unlinked, caps_removed, job_removed, send}
-use Rattle.sem_machine.specs.Revokes.{all_freed, spared, selectors_freed, swept, all_woken, woken, parent_left, up_told, closed, count_lowered, finish, settled, closed_here}
+use Rattle.sem_machine.specs.Revokes.{all_freed, spared, selectors_freed, swept, all_woken, woken, parent_left, up_told, closed, count_lowered, finish, settled}
+use Rattle.sem_machine.specs.Revokes.{closed_here}
 use Rattle.sem_machine.proofs.Late.{closed_here-late}
 use Rattle.sem_msg.specs.JobRows.{if_done, next_done}
 use Rattle.sem_key.proofs.KeyTests.{key_eq-same, key_eq-true, key_eq-from}
@@ -34,7 +37,8 @@ use Rattle.sem_revoke.specs.Views.{Hand, free_hand, token, closing}
 use Rattle.sem_revoke.specs.Scales.{of_side, one_if, names, asking, naming, counting, noticing, straying}
 use Rattle.sem_revoke.proofs.Keeping.{HoldsOn, holds-same, fit-on, keep, Sweeps, keep_swept, fit-swept, not-gone}
 use Rattle.sem_revoke.proofs.Scaling.{side-removed}
-use Rattle.sem_revoke.proofs.Viewing.{on_its_way, Rises, rises_distinct, Scene, one-more, one-true, owner, view, IsAlive, IsGone, IsMarked, Row, hold-here, hold-away, job-here, mark-lost, job-away, job-id, rows-changed, row-sent, rehand}
+use Rattle.sem_revoke.proofs.Viewing.{on_its_way, Rises, rises_distinct, Scene, one-more, one-true, owner, view, IsAlive, IsGone, IsMarked, Row, hold-here}
+use Rattle.sem_revoke.proofs.Viewing.{hold-away, job-here, mark-lost, job-away, job-id, rows-changed, row-sent, rehand}
 use Rattle.sem_revoke.proofs.Restoring.{cleared, oldest-root, Restores, fit-restored, keep_restored}
 use Rattle.sem_revoke.proofs.Closing.{changed-rises, asked-token, open-count, counted-open, row-lowered, back-cap, unlinked-gone, row-unlinked}
 
@@ -63,7 +67,8 @@ module _ (n : ℕ) (s : Side) (distinct : AreDistinct s.caps) where
       from (Some q) some = ne_eqb q n (λ same. other (some ∙ ap Some same))
 
   stays-cap : (k : KeyName) (c : Capability) → cap s k ≡ Some c → (c.mark ≡ Some n → ⊥) → cap swept_side k ≡ Some c
-  stays-cap k c held other = cap-t k ∙ (ap (if_kept (λ c. not (is_marked_by n c))) held ∙ cond-true (not (is_marked_by n c)) (Some c) None (ap not (unmarked c other)))
+  stays-cap k c held other = cap-t k
+      ∙ (ap (if_kept (λ c. not (is_marked_by n c))) held ∙ cond-true (not (is_marked_by n c)) (Some c) None (ap not (unmarked c other)))
 
   -- what is held is swept or stays
   pub swept-or : (k : KeyName) (c : Capability) → cap s k ≡ Some c → (cap swept_side k ≡ Some c) ⊎ (c.mark ≡ Some n)
@@ -83,10 +88,12 @@ module _ (n : ℕ) (s : Side) (distinct : AreDistinct s.caps) where
       from None none = let no' : None ≡ Some c = sym (cap-t k ∙ ap (if_kept (λ c. not (is_marked_by n c))) none) ∙ held in absurd cc
       from (Some d) some = elim (cases_Bool (is_marked_by n d)) [
         | inl swept_one ↦
-            let no' : None ≡ Some c = sym (cap-t k ∙ (ap (if_kept (λ c. not (is_marked_by n c))) some ∙ cond-false (not (is_marked_by n d)) (Some d) None (ap not swept_one))) ∙ held in
+            let no' : None ≡ Some c = sym (cap-t k
+            ∙ (ap (if_kept (λ c. not (is_marked_by n c))) some ∙ cond-false (not (is_marked_by n d)) (Some d) None (ap not swept_one))) ∙ held in
             absurd cc
         | inr kept_one ↦
-            let same : Some d ≡ Some c = sym (cap-t k ∙ (ap (if_kept (λ c. not (is_marked_by n c))) some ∙ cond-true (not (is_marked_by n d)) (Some d) None (ap not kept_one))) ∙ held in (
+            let same : Some d ≡ Some c = sym (cap-t k
+            ∙ (ap (if_kept (λ c. not (is_marked_by n c))) some ∙ cond-true (not (is_marked_by n d)) (Some d) None (ap not kept_one))) ∙ held in (
               same,
               λ marked.
                   let is_so : is_marked_by n c ≡ true = ap (λ m. option_map_or (λ q. q == n) m false) marked ∙ eq-eqb n n refl in
@@ -99,10 +106,12 @@ module _ (C : Scene) where
   i = C.kernel
 
   pub freed-row : (h : Hand) (v sel : ℕ) (s : Side) → Row C h s → Row C h (freed v sel s)
-  freed-row h v sel s R = rows-changed C h s (put no_vpe s.vpes v (record (row s v) { slots = put Free (row s v).slots sel Free })) s.endpoints s.parks (λ k. omega arith) R
+  freed-row h v sel s R = rows-changed C h s (put no_vpe s.vpes v (record (row s v) { slots = put Free (row s v).slots sel Free })) s.endpoints s.parks
+      (λ k. omega arith) R
 
   pub parked-row : (h : Hand) (v code : ℕ) (s : Side) → Row C h s → Row C h (parked_as v (Ready code) s)
-  parked-row h v code s R = rows-changed C h s s.vpes s.endpoints (put None s.parks v (Some (Ready code))) (λ k. let less = lives-parked k on_its_way s v (Ready code) in omega (arith, less)) R
+  parked-row h v code s R = rows-changed C h s s.vpes s.endpoints (put None s.parks v (Some (Ready code))) (λ k. let less =
+      lives-parked k on_its_way s v (Ready code) in omega (arith, less)) R
 
   -- A job that is being closed: nothing is marked by it. Its root is gone, or kept, and then no job waits for it.
   pub record Closing (x : JobRow) (s : Side) : Type 0 where
@@ -131,7 +140,8 @@ module _ (C : Scene) where
   root-of x s R open_ = elim (R.revokes.roots i x.id x (job-here C s x.id ∙ open_)) [ inl no' ↦ absurd no' | inr is ↦ is ]
 
   -- what it marks is lost, but for a root that it keeps
-  marked-lost : (x : JobRow) (s : Side) → Row C free_hand s → job s x.id ≡ Some x → (k : KeyName) (c : Capability) → cap s k ≡ Some c → c.mark ≡ Some x.id → (x.root ≡ k → x.keep ≡ false) → C.lost k
+  marked-lost : (x : JobRow) (s : Side) → Row C free_hand s → job s x.id ≡ Some x → (k : KeyName) (c : Capability) → cap s k ≡ Some c → c.mark ≡ Some x.id →
+      (x.root ≡ k → x.keep ≡ false) → C.lost k
   marked-lost x s R open_ k c held marked leaves =
       let at = R.homes k c held in
       mark-lost C free_hand s R k x.id x (c, hold-here C s k at ∙ held, marked) (ap (λ a. (view C s).job a x.id) at ∙ (job-here C s x.id ∙ open_)) leaves
@@ -148,11 +158,13 @@ module _ (C : Scene) where
     sweeps = record {
       swept = λ k c here held marked. hold-here C t k here ∙ swept-cap n s (rises_distinct s.caps R.rises) k c (sym (hold-here C s k here) ∙ held) marked;
       stays = λ k c held other. elim (cases_eq (owner C k) i) [
-        | inl here ↦ hold-here C t k here ∙ stays-cap n s (rises_distinct s.caps R.rises) k c (sym (hold-here C s k here) ∙ held) (λ marked. other (here, marked))
+        | inl here ↦ hold-here C t k here ∙ stays-cap n s (rises_distinct s.caps R.rises) k c (sym (hold-here C s k here)
+            ∙ held) (λ marked. other (here, marked))
         | inr away ↦ hold-away C t k away ∙ (sym (hold-away C s k away) ∙ held)
       ];
       back = λ k c held. elim (cases_eq (owner C k) i) [
-        | inl here ↦ let b = back-swept n s (rises_distinct s.caps R.rises) k c (sym (hold-here C t k here) ∙ held) in (hold-here C s k here ∙ b.0, λ (at', marked). b.1 marked)
+        | inl here ↦ let b = back-swept n s (rises_distinct s.caps R.rises) k c (sym (hold-here C t k here) ∙ held) in
+            (hold-here C s k here ∙ b.0, λ (at', marked). b.1 marked)
         | inr away ↦ (hold-away C s k away ∙ (sym (hold-away C t k away) ∙ held), λ (at', marked). away at')
       ];
       fewer = λ k. let same = caps-no-gifts k s t.caps in omega (arith, same);
@@ -214,10 +226,13 @@ module _ (C : Scene) where
     cap-spared k = ap (λ (z : Seen). z.cap k) (seen-cap_changed x.root cleared s (λ c. refl))
 
     root-spared : (c : Capability) → cap s x.root ≡ Some c → cap spared_side x.root ≡ Some (cleared c)
-    root-spared c held = cap-spared x.root ∙ (cond-true (key_eq x.root x.root) (option_map cleared (cap s x.root)) (cap s x.root) (key_eq-same x.root) ∙ ap (option_map cleared) held)
+    root-spared c held = cap-spared x.root ∙ (cond-true (key_eq x.root x.root) (option_map cleared (cap s x.root)) (cap s x.root) (key_eq-same x.root)
+        ∙ ap (option_map cleared) held)
 
     other-spared : (k : KeyName) → (k ≡ x.root → ⊥) → cap spared_side k ≡ cap s k
-    other-spared k other = cap-spared k ∙ cond-false (key_eq k x.root) (option_map cleared (cap s k)) (cap s k) (false_from_ne_true (key_eq k x.root) (λ same. other (key_eq-true k x.root same)))
+    other-spared k other = cap-spared k
+        ∙ cond-false (key_eq k x.root) (option_map cleared (cap s k)) (cap s k)
+        (false_from_ne_true (key_eq k x.root) (λ same. other (key_eq-true k x.root same)))
 
     -- all that is held but the root was held so
     back-cap-u : (k : KeyName) (c : Capability) → (k ≡ x.root → ⊥) → cap restored_side k ≡ Some c → (cap s k ≡ Some c) × (c.mark ≡ Some m → ⊥)
@@ -236,16 +251,21 @@ module _ (C : Scene) where
           here = root.0;
           root_marked = root.1;
           oldest = oldest-root (owner C) C.parent C.one_parent C.made C.rank C.older free_hand (view C s) R.revokes i m x (job-here C s m ∙ open_);
-          restored = λ c held. hold-here C restored_side x.root root.0 ∙ stays-cap m spared_side distinct-spared x.root (cleared c) (root-spared c (sym (hold-here C s x.root root.0) ∙ held)) (λ no'. absurd cc);
-          swept = λ k c other here held marked. hold-here C restored_side k here ∙ swept-cap m spared_side distinct-spared k c (other-spared k other ∙ (sym (hold-here C s k here) ∙ held)) marked;
+          restored = λ c held. hold-here C restored_side x.root root.0
+              ∙ stays-cap m spared_side distinct-spared x.root (cleared c) (root-spared c (sym (hold-here C s x.root root.0) ∙ held)) (λ no'. absurd cc);
+          swept = λ k c other here held marked. hold-here C restored_side k here
+              ∙ swept-cap m spared_side distinct-spared k c (other-spared k other ∙ (sym (hold-here C s k here) ∙ held)) marked;
           stays = λ k c held other. elim (cases_eq (owner C k) i) [
             | inl here ↦
                 let held' : cap s k ≡ Some c = sym (hold-here C s k here) ∙ held in
-                hold-here C restored_side k here ∙ stays-cap m spared_side distinct-spared k c (other-spared k (λ same. other (here, stays-root k c same here held')) ∙ held') (λ marked. other (here, marked))
+                hold-here C restored_side k here
+                ∙ stays-cap m spared_side distinct-spared k c (other-spared k (λ same. other (here, stays-root k c same here held'))
+                ∙ held') (λ marked. other (here, marked))
             | inr away ↦ hold-away C restored_side k away ∙ (sym (hold-away C s k away) ∙ held)
           ];
           back = λ k c other held. elim (cases_eq (owner C k) i) [
-            | inl here ↦ let b = back-cap-u k c other (sym (hold-here C restored_side k here) ∙ held) in (hold-here C s k here ∙ b.0, λ (at', marked). b.1 marked)
+            | inl here ↦ let b = back-cap-u k c other (sym (hold-here C restored_side k here) ∙ held) in
+                (hold-here C s k here ∙ b.0, λ (at', marked). b.1 marked)
             | inr away ↦ (hold-away C s k away ∙ (sym (hold-away C restored_side k away) ∙ held), λ (at', marked). away at')
           ];
           fewer = λ k. let same = caps-no-gifts k s restored_side.caps in omega (arith, same);
@@ -275,7 +295,11 @@ module _ (C : Scene) where
             | inl same ↦
                 let is_root : k ≡ x.root = key_eq-true k x.root same in
                 let at : cap s x.root ≡ Some e = ap (cap s) (sym is_root) ∙ held in
-                inl (cleared e, ap (cap restored_side) is_root ∙ stays-cap m spared_side distinct-spared x.root (cleared e) (root-spared e at) (λ no'. absurd cc))
+                inl (
+                  cleared e,
+                  ap (cap restored_side) is_root
+                      ∙ stays-cap m spared_side distinct-spared x.root (cleared e) (root-spared e at) (λ no'. absurd cc),
+                )
             | inr differ ↦
                 let other : k ≡ x.root → ⊥ = λ is_root. true≢false (sym (key_eq-from k x.root is_root) ∙ differ) in
                 elim (swept-or m spared_side distinct-spared k e (other-spared k other ∙ held)) [
@@ -305,10 +329,13 @@ module _ (C : Scene) where
 
   told-closing : (x : JobRow) (s : Side) (j : ℕ) (p : KeyName) → x.keep ≡ false → Closing x s → Closing x (send j (Unlink p x.root) s)
   told-closing x s j p leaves K = record {
-    row = row-sent C (closing i x.id) (closing i x.id) s j (Unlink p x.root) (λ k a b. refl) (λ k. refl) refl (λ a b. refl) (λ a b k alive care. care) (λ a b k care. care) (λ a n loose. loose)
-        (λ k more. let same : x.root ≡ k = key_eq-true x.root k (one-more (key_eq x.root k) more) in subst (λ z. IsGone C s z × C.made z) same (K.gone leaves)) K.row;
+    row = row-sent C (closing i x.id) (closing i x.id) s j (Unlink p x.root) (λ k a b. refl) (λ k. refl) refl (λ a b. refl) (λ a b k alive care. care)
+        (λ a b k care. care) (λ a n loose. loose)
+        (λ k more. let same : x.root ≡ k = key_eq-true x.root k (one-more (key_eq x.root k) more) in
+        subst (λ z. IsGone C s z × C.made z) same (K.gone leaves)) K.row;
     open_ = K.open_;
-    gone = λ _. let gifts = lives-send x.root on_its_way s j (Unlink p x.root) in let is = K.gone leaves in let zero' = is.0.1 in ((is.0.0, omega (arith, gifts, zero')), is.1);
+    gone = λ _. let gifts = lives-send x.root on_its_way s j (Unlink p x.root) in let is = K.gone leaves in let zero' = is.0.1 in
+        ((is.0.0, omega (arith, gifts, zero')), is.1);
     kept = K.kept;
     clean = K.clean;
   }
@@ -316,7 +343,8 @@ module _ (C : Scene) where
   -- the job is given by its parts
   left-closing : (id count : ℕ) (root : KeyName) (up : Option Up) (waiters : List ℕ) (keep : Bool) (o : Option KeyName) (s : Side)
       → Closing (record { id = id; root = root; up = up; waiters = waiters; count = count; keep = keep }) s
-      → Closing (record { id = id; root = root; up = up; waiters = waiters; count = count; keep = keep }) (parent_left C.setup i (record { id = id; root = root; up = up; waiters = waiters; count = count; keep = keep }) (if keep then None else o) s)
+      → Closing (record { id = id; root = root; up = up; waiters = waiters; count = count; keep = keep })
+      (parent_left C.setup i (record { id = id; root = root; up = up; waiters = waiters; count = count; keep = keep }) (if keep then None else o) s)
   left-closing id count root up waiters true o s K = K
   left-closing id count root up waiters false None s K = K
   left-closing id count root (Some (Remote kernel j)) waiters false (Some p) s K =
@@ -324,10 +352,12 @@ module _ (C : Scene) where
       cond_both (is_local C.setup i p) (unlinked p root s) s (Closing x) (λ _. unlinked-closing x s p refl K) (λ _. K)
   left-closing id count root (Some (Local j)) waiters false (Some p) s K =
       let x : JobRow = record { id = id; root = root; up = Some (Local j); waiters = waiters; count = count; keep = false } in
-      cond_both (is_local C.setup i p) (unlinked p root s) (send (owner C p) (Unlink p root) s) (Closing x) (λ _. unlinked-closing x s p refl K) (λ _. told-closing x s (owner C p) p refl K)
+      cond_both (is_local C.setup i p) (unlinked p root s) (send (owner C p) (Unlink p root) s) (Closing x) (λ _. unlinked-closing x s p refl K)
+      (λ _. told-closing x s (owner C p) p refl K)
   left-closing id count root None waiters false (Some p) s K =
       let x : JobRow = record { id = id; root = root; up = None; waiters = waiters; count = count; keep = false } in
-      cond_both (is_local C.setup i p) (unlinked p root s) (send (owner C p) (Unlink p root) s) (Closing x) (λ _. unlinked-closing x s p refl K) (λ _. told-closing x s (owner C p) p refl K)
+      cond_both (is_local C.setup i p) (unlinked p root s) (send (owner C p) (Unlink p root) s) (Closing x) (λ _. unlinked-closing x s p refl K)
+      (λ _. told-closing x s (owner C p) p refl K)
 
   -- those who are woken wait to install nothing
   woken-less : (k : KeyName) (vs : List ℕ) (ps : List (Option Parked)) → sum_by (at_parked k) (all_woken vs ps) ≤ sum_by (at_parked k) ps
@@ -381,9 +411,11 @@ module _ (C : Scene) where
       | inl same ↦ elim (cases_Bool x.keep) [
         | inl keeps ↦
             let sum = removed-asks k a b in
-            let none : one_if (key_eq x.root k && names i x.up a b) ≡ 0 = ap (λ up. one_if (key_eq x.root k && names i up a b)) (K.kept keeps) ∙ ap (λ t. one_if (t && false)) same in
+            let none : one_if (key_eq x.root k && names i x.up a b) ≡ 0 = ap (λ up. one_if (key_eq x.root k && names i up a b)) (K.kept keeps)
+            ∙ ap (λ t. one_if (t && false)) same in
             omega (arith, sum, none, more)
-        | inr leaves ↦ absurd (not-gone (owner C) C.parent C.one_parent C.made (view C s) k (subst (IsGone C s) (key_eq-true x.root k same) (K.gone leaves).0) alive)
+        | inr leaves ↦ absurd (not-gone (owner C) C.parent C.one_parent C.made (view C s) k (subst (IsGone C s) (key_eq-true x.root k same) (K.gone leaves).0)
+            alive)
       ]
       | inr differ ↦
           let sum = removed-asks k a b in
@@ -403,9 +435,14 @@ module _ (C : Scene) where
       revokes = keep (owner C) C.parent C.one_parent C.made (view C s) (view C u) H (closing i x.id) (above i x.up) K.row.fit K.row.revokes
           (λ k a b alive under before. inr (inl (elim before [ inl more ↦ still-asked k a b alive more | inr care ↦ absurd care ])))
           (λ k a b more. let sum = removed-asks k a b in inl (omega (arith, sum, more)))
-          (λ k m y (c, held, marked) open_. (y, job-stays (owner C k) m y (λ (here, same). K.clean k c (sym (hold-here C s k here) ∙ held) (marked ∙ ap Some same)) open_, refl))
+          (λ k m y (c, held, marked) open_. (
+            y,
+            job-stays (owner C k) m y (λ (here, same). K.clean k c (sym (hold-here C s k here) ∙ held) (marked ∙ ap Some same)) open_,
+            refl,
+          ))
           (λ a m y open_. let was = job-was a m y open_ in (y, was.0, refl, λ is. is, λ loose. was.1 loose))
-          (λ a b. let sum = side-removed (naming a b) i s x.id x K.row.ids.rise K.open_ in let count = removed-count a b in let is = K.row.revokes.counted a b in omega (arith, sum, count, is))
+          (λ a b. let sum = side-removed (naming a b) i s x.id x K.row.ids.rise K.open_ in let count = removed-count a b in
+          let is = K.row.revokes.counted a b in omega (arith, sum, count, is))
           (λ k a b. let sum = removed-asks k a b in let most = K.row.revokes.single.0 k a b in omega (arith, sum, most), λ k a b care. absurd care)
           (λ k more. let sum = side-removed (noticing k) i s x.id x K.row.ids.rise K.open_ in inl (omega (arith, sum, more)))
           (let sum = side-removed (straying (owner C)) i s x.id x K.row.ids.rise K.open_ in let is = K.row.revokes.placed in omega (arith, sum, is));
@@ -433,10 +470,12 @@ module _ (C : Scene) where
   told-row : (up : Option Up) (s : Side) → Row C (above i up) s → Row C free_hand (up_told up s)
   told-row None s R = rehand C (above i None) free_hand s (λ k a b alive under care. absurd care) (λ k a b care. care) (λ a m loose. loose) (λ a b. refl) R
   told-row (Some (Local j)) s R = row-back s j R
-  told-row (Some (Remote kernel j)) s R = row-sent C (above i (Some (Remote kernel j))) free_hand s kernel (RevokeDone j) (λ k a b. refl) (λ k. refl) refl (λ a b. omega arith) (λ a b k alive care. care) (λ a b k care. care) (λ a m loose. loose) (λ k more. absurd (omega (arith, more))) R
+  told-row (Some (Remote kernel j)) s R = row-sent C (above i (Some (Remote kernel j))) free_hand s kernel (RevokeDone j) (λ k a b. refl) (λ k. refl) refl
+      (λ a b. omega arith) (λ a b k alive care. care) (λ a b k care. care) (λ a m loose. loose) (λ k more. absurd (omega (arith, more))) R
 
   -- what the job marked is swept
-  row-swept : (x : JobRow) (s : Side) → job s x.id ≡ Some x → x.count ≡ 0 → Row C free_hand s → (b : Bool) → x.keep ≡ b → Closing x (caps_removed x.id (selectors_freed x.id (record s { caps = spared b x.root s.caps })))
+  row-swept : (x : JobRow) (s : Side) → job s x.id ≡ Some x → x.count ≡ 0 → Row C free_hand s → (b : Bool) → x.keep ≡ b →
+      Closing x (caps_removed x.id (selectors_freed x.id (record s { caps = spared b x.root s.caps })))
   row-swept x s open_ done R true keeps =
       let freed_rows : List VpeRow = all_freed (marked_by x.id (restored s.caps x.root)) s.vpes in
       row-restored x (record s { vpes = freed_rows }) (rows-changed C free_hand s freed_rows s.endpoints s.parks (λ k. omega arith) R) open_ done keeps
@@ -475,7 +514,8 @@ module _ (C : Scene) where
   next-is (Some (Local j)) s y next = done-is s j y next
   next-is (Some (Remote kernel j)) s y next = absurd cc
 
-  pub row-finish : (n : ℕ) (o : Option JobRow) (s : Side) → ((x : JobRow) → o ≡ Some x → (job s x.id ≡ Some x) × (x.count ≡ 0)) → Row C free_hand s → Row C free_hand (finish C.setup i n o s)
+  pub row-finish : (n : ℕ) (o : Option JobRow) (s : Side) → ((x : JobRow) → o ≡ Some x → (job s x.id ≡ Some x) × (x.count ≡ 0)) → Row C free_hand s →
+      Row C free_hand (finish C.setup i n o s)
   unfolding finish
   row-finish zero o s is R = R
   row-finish (suc n) None s is R = R

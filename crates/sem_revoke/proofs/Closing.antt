@@ -1,16 +1,19 @@
 -- A job without a token out is closed: what it marked is swept, the parent of its root is left, the job is removed, and the job above it gets its token back.
-use Rattle.std.proofs.Common.{◌≡◌, ◌≢◌, ◌⊎◌, ℕ, suc, ◌+◌, ◌-◌, ◌≤◌, Bool, true, false, not, ◌&&◌, List, [], ◌∷◌, get_or, Option, Some, None, refl, sym, ap, ◌∙◌, subst, inl, inr, arith, eq-eqb}
+use Rattle.std.proofs.Common.{◌≡◌, ◌≢◌, ◌⊎◌, ℕ, suc, ◌+◌, ◌-◌, ◌≤◌, Bool, true, false, not, ◌&&◌, List, [], ◌∷◌, get_or, Option, Some, None, refl, sym, ap, ◌∙◌}
+use Rattle.std.proofs.Common.{subst, inl, inr, arith, eq-eqb}
 use Rattle.std.specs.Prelude.{◌==◌, if◌then◌else◌}
 use Rattle.std.specs.List.{sum_by}
 use Rattle.std.specs.Option.{option_map}
-use Rattle.std.proofs.lemmas.Bool.{cases_Bool, cases_eq, cond-true, cond-false, cond_both, ne_eqb, and_parts, and_from, true≢false, not-true, not_from_false, false_from_ne_true}
+use Rattle.std.proofs.lemmas.Bool.{cases_Bool, cases_eq, cond-true, cond-false, cond_both, ne_eqb, and_parts, and_from, true≢false, not-true, not_from_false}
+use Rattle.std.proofs.lemmas.Bool.{false_from_ne_true}
 use Rattle.std.proofs.lemmas.Option.{same_Some}
 use Rattle.sem_key.specs.KeyName.{KeyName, key_eq}
 use Rattle.sem_key.specs.KeyList.{without_key}
 use Rattle.sem_key.specs.Lists.{change}
 use Rattle.sem_key.specs.Capability.{Capability}
 use Rattle.sem_msg.specs.declared.message.Message.{Message}
-use Rattle.sem_msg.specs.declared.message.Message.TheVariants.{ObtainReq, ObtainOk, ObtainNo, DelegateReq, DelegatePrepared, DelegateNo, Ack, Orphan, RevokeReq, RevokeDone, Unlink}
+use Rattle.sem_msg.specs.declared.message.Message.TheVariants.{ObtainReq, ObtainOk, ObtainNo, DelegateReq, DelegatePrepared, DelegateNo, Ack, Orphan, RevokeReq}
+use Rattle.sem_msg.specs.declared.message.Message.TheVariants.{RevokeDone, Unlink}
 use Rattle.sem_msg.specs.Rows.{JobRow}
 use Rattle.sem_machine.specs.Sides.{Side, no_side, cap, job, unlinked, job_removed}
 use Rattle.sem_key.specs.Region.{has_key}
@@ -27,14 +30,18 @@ use Rattle.sem_safety.proofs.LiveWorlds.{sum-le}
 use Rattle.sem_safety.proofs.JobIds.{HasIds, ids}
 use Rattle.sem_sound.proofs.Rising.{mapped-rises}
 use Rattle.sem_revoke.specs.Views.{Hand, free_hand, token}
-use Rattle.sem_revoke.specs.Scales.{Scale, sum_from, of_messages, of_inbox, of_side, of_world, one_if, names, asking, naming, counting, noticing, straying, asking_message, token_message}
+use Rattle.sem_revoke.specs.Scales.{Scale, sum_from, of_messages, of_inbox, of_side, of_world, one_if, names, asking, naming, counting, noticing, straying}
+use Rattle.sem_revoke.specs.Scales.{asking_message, token_message}
 use Rattle.sem_revoke.proofs.Keeping.{HoldsOn, holds-same, cases_Option, not-gone}
 use Rattle.sem_revoke.proofs.Scaling.{side-changed, side-removed}
-use Rattle.sem_revoke.proofs.Viewing.{on_its_way, Rises, Scene, owner, elsewhere, view, IsAlive, IsGone, Row, hold-here, hold-away, job-id, no-roots, changed-roots, step, one-true}
+use Rattle.sem_revoke.proofs.Viewing.{on_its_way, Rises, Scene, owner, elsewhere, view, IsAlive, IsGone, Row, hold-here, hold-away, job-id, no-roots}
+use Rattle.sem_revoke.proofs.Viewing.{changed-roots, step, one-true}
 
 -- Keys that rise, where no capability changes its key, and where some go.
-pub changed-rises : (test : Capability → Bool) (f : Capability → Capability) → ((c : Capability) → (f c).key ≡ c.key) → (cs : List Capability) → Rises cs → Rises (change test f cs)
-changed-rises test f same cs rise = mapped-rises (λ c. if test c then f c else c) (λ c. cond_both (test c) (f c) c (λ (x : Capability). x.key ≡ c.key) (λ _. same c) (λ _. refl)) cs rise
+pub changed-rises : (test : Capability → Bool) (f : Capability → Capability) → ((c : Capability) → (f c).key ≡ c.key) → (cs : List Capability) → Rises cs →
+    Rises (change test f cs)
+changed-rises test f same cs rise = mapped-rises (λ c. if test c then f c
+    else c) (λ c. cond_both (test c) (f c) c (λ (x : Capability). x.key ≡ c.key) (λ _. same c) (λ _. refl)) cs rise
 
 -- Scales that are below one another.
 
@@ -124,12 +131,14 @@ module _ (C : Scene) where
 
       at_place : (k : ℕ) → (k ≡ i) ⊎ (k ≢ i) → of_side (counting i b) (0 + k) (get_or (elsewhere C).sides k no_side) ≡ 0
       at_place k (inl here) =
-          let gone : get_or (elsewhere C).sides k no_side ≡ no_side = ap (λ n. get_or (elsewhere C).sides n no_side) here ∙ get_or-put_same no_side C.world.sides i no_side in
+          let gone : get_or (elsewhere C).sides k no_side ≡ no_side = ap (λ n. get_or (elsewhere C).sides n no_side) here
+          ∙ get_or-put_same no_side C.world.sides i no_side in
           ap (of_side (counting i b) (0 + k)) gone
       at_place k (inr away) =
           let s : Side = get_or (elsewhere C).sides k no_side in
           let other : ((0 + k) == i) ≡ false = ne_eqb (0 + k) i (λ same. away (omega (arith, same))) in
-          let jobs = weigh-none (λ (x : JobRow). if ((0 + k) == i) && (x.id == b) then x.count else 0) s.jobs (λ x among. ap (λ t. if t && (x.id == b) then x.count else 0) other) in
+          let jobs = weigh-none (λ (x : JobRow). if ((0 + k) == i) && (x.id == b) then x.count
+          else 0) s.jobs (λ x among. ap (λ t. if t && (x.id == b) then x.count else 0) other) in
           let inbox = no-inbox (0 + k) s.inbox in
           let outs = no-row (0 + k) s.outs in
           omega (arith, jobs, inbox, outs)
@@ -150,12 +159,16 @@ module _ (C : Scene) where
       let world = counts-here n in
       let here = side-removed (counting i n) i s n x is.rise open_ in
       let rest = no-others (job_removed n s) i n in
-      let none = weigh-none (λ (y : JobRow). if (i == i) && (y.id == n) then y.count else 0) (job_removed n s).jobs (λ y among. ap (λ t. if t then y.count else 0) (off y (Contains-from_filter (λ (z : JobRow). not (z.id == n)) s.jobs y among).1)) in
-      let this : (if (i == i) && (x.id == n) then x.count else 0) ≡ x.count = cond-true ((i == i) && (x.id == n)) x.count 0 (and_from (i == i) (x.id == n) (eq-eqb i i refl) (eq-eqb x.id n (job-id C s n x open_))) in
+      let none = weigh-none (λ (y : JobRow). if (i == i) && (y.id == n) then y.count
+      else 0) (job_removed n s).jobs (λ y among. ap (λ t. if t then y.count
+      else 0) (off y (Contains-from_filter (λ (z : JobRow). not (z.id == n)) s.jobs y among).1)) in
+      let this : (if (i == i) && (x.id == n) then x.count else 0) ≡ x.count =
+      cond-true ((i == i) && (x.id == n)) x.count 0 (and_from (i == i) (x.id == n) (eq-eqb i i refl) (eq-eqb x.id n (job-id C s n x open_))) in
       omega (arith, world, here, rest, none, this)
     where
       off : (y : JobRow) → not (y.id == n) ≡ true → ((i == i) && (y.id == n)) ≡ false
-      off y pass = false_from_ne_true ((i == i) && (y.id == n)) (λ both. let fail = not-true (y.id == n) pass in let parts = and_parts (i == i) (y.id == n) both in true≢false (sym parts.1 ∙ fail))
+      off y pass = false_from_ne_true ((i == i) && (y.id == n)) (λ both. let fail = not-true (y.id == n) pass in
+          let parts = and_parts (i == i) (y.id == n) both in true≢false (sym parts.1 ∙ fail))
 
   -- a job that has a token out is open
   pub counted-open : (s : Side) (n : ℕ) → 1 ≤ (view C s).count i n → (x : JobRow) × (job s n ≡ Some x)
@@ -164,7 +177,10 @@ module _ (C : Scene) where
     | inr none ↦
         let world = counts-here n in
         let here = no-others s i n in
-        let nothing = weigh-none (λ (y : JobRow). if (i == i) && (y.id == n) then y.count else 0) s.jobs (λ y among. ap (λ t. if t then y.count else 0) (false_from_ne_true ((i == i) && (y.id == n)) (λ both. let fail = not_found (λ (z : JobRow). z.id == n) s.jobs y none among in true≢false (sym (and_parts (i == i) (y.id == n) both).1 ∙ fail)))) in
+        let nothing = weigh-none (λ (y : JobRow). if (i == i) && (y.id == n) then y.count
+        else 0) s.jobs (λ y among. ap (λ t. if t then y.count
+        else 0) (false_from_ne_true ((i == i) && (y.id == n)) (λ both. let fail = not_found (λ (z : JobRow). z.id == n) s.jobs y none among in
+        true≢false (sym (and_parts (i == i) (y.id == n) both).1 ∙ fail)))) in
         absurd (omega (arith, world, here, nothing, more))
   ]
 
@@ -175,7 +191,11 @@ module _ (C : Scene) where
       (holds-same (owner C) C.parent C.one_parent C.made (view C s) (view C (count_lowered j s)) (λ k. refl) (λ k. omega arith))
       (changed-roots C s j lower (λ x. (refl, refl)) (λ x there. (λ is. is, λ is. is)))
       R.rises (ids.keeps_changed s R.ids j lower (λ x. (refl, refl))) R.homes (record { inbox = R.sent.inbox; sends = R.sent.sends })
-      (λ k a b alive under before. inr (inl (elim before [ inl more ↦ (let same = side-changed (asking k a b) i s j lower x R.ids.rise open_ in omega (arith, same, more)) | inr care ↦ absurd care ])))
+      (λ k a b alive under before. inr
+      (inl (elim before [
+        | inl more ↦ (let same = side-changed (asking k a b) i s j lower x R.ids.rise open_ in omega (arith, same, more))
+        | inr care ↦ absurd care
+      ])))
       (λ k a b more. let same = side-changed (asking k a b) i s j lower x R.ids.rise open_ in inl (omega (arith, same, more)))
       (λ a n loose. loose)
       (λ a b.
@@ -184,8 +204,11 @@ module _ (C : Scene) where
       let less = lowered-count ((i == a) && (x.id == b)) x.count some in
       let id : one_if ((i == a) && (x.id == b)) ≡ one_if ((i == a) && (j == b)) = ap (λ n. one_if ((i == a) && (n == b))) (job-id C s j x open_) in
       let is = R.revokes.counted a b in
-      omega (arith, tokens, counts, less, id, is))
-      (λ k a b. let same = side-changed (asking k a b) i s j lower x R.ids.rise open_ in let most = R.revokes.single.0 k a b in omega (arith, same, most), λ k a b care. absurd care)
+      omega (arith, tokens, counts, less, id, is)) (
+        λ k a b. let same = side-changed (asking k a b) i s j lower x R.ids.rise open_ in let most = R.revokes.single.0 k a b in
+            omega (arith, same, most),
+        λ k a b care. absurd care,
+      )
       (λ k more. let same = side-changed (noticing k) i s j lower x R.ids.rise open_ in inl (omega (arith, same, more)))
       (let same = side-changed (straying (owner C)) i s j lower x R.ids.rise open_ in let is = R.revokes.placed in omega (arith, same, is))
       R
@@ -217,11 +240,19 @@ module _ (C : Scene) where
     still ks q has = has_key-from_Contains ks q (Contains-from_filter (λ x. not (key_eq x k)) ks q (Contains-from_has_key (without_key ks k) q has)).0
 
     left : (ks : List KeyName) (q : KeyName) → (q ≡ k → ⊥) → has_key ks q ≡ true → has_key (without_key ks k) q ≡ true
-    left ks q other has = has_key-from_Contains (without_key ks k) q (Contains-filter (λ x. not (key_eq x k)) ks q (Contains-from_has_key ks q has) (not_from_false (key_eq q k) (false_from_ne_true (key_eq q k) (λ same. other (key_eq-true q k same)))))
+    left ks q other has =
+        has_key-from_Contains (without_key ks k) q (Contains-filter (λ x. not (key_eq x k)) ks q (Contains-from_has_key ks q has)
+        (not_from_false (key_eq q k) (false_from_ne_true (key_eq q k) (λ same. other (key_eq-true q k same)))))
 
-    on-cap : (q : KeyName) (d : Capability) → cap s q ≡ Some d → (e : Capability) × (cap t q ≡ Some e) × (e.mark ≡ d.mark) × ((r : KeyName) → (r ≡ k → ⊥) → has_key d.children r ≡ true → has_key e.children r ≡ true)
+    on-cap : (q : KeyName) (d : Capability) → cap s q ≡ Some d → (e : Capability) × (cap t q ≡ Some e) × (e.mark ≡ d.mark)
+        × ((r : KeyName) → (r ≡ k → ⊥) → has_key d.children r ≡ true → has_key e.children r ≡ true)
     on-cap q d held = elim (cases_Bool (key_eq q p)) [
-      | inl same ↦ (f d, cap-t q ∙ (cond-true (key_eq q p) (option_map f (cap s q)) (cap s q) same ∙ ap (option_map f) held), refl, λ r other child. left d.children r other child)
+      | inl same ↦ (
+        f d,
+        cap-t q ∙ (cond-true (key_eq q p) (option_map f (cap s q)) (cap s q) same ∙ ap (option_map f) held),
+        refl,
+        λ r other child. left d.children r other child,
+      )
       | inr differ ↦ (d, cap-t q ∙ (cond-false (key_eq q p) (option_map f (cap s q)) (cap s q) differ ∙ held), refl, λ r other child. child)
     ]
 
@@ -229,7 +260,8 @@ module _ (C : Scene) where
     mapped None e none = absurd cc
     mapped (Some d) e some = (d, refl, same_Some (f d) e some)
 
-    pub back-cap : (q : KeyName) (e : Capability) → cap t q ≡ Some e → (d : Capability) × (cap s q ≡ Some d) × (d.mark ≡ e.mark) × ((r : KeyName) → has_key e.children r ≡ true → has_key d.children r ≡ true)
+    pub back-cap : (q : KeyName) (e : Capability) → cap t q ≡ Some e → (d : Capability) × (cap s q ≡ Some d) × (d.mark ≡ e.mark)
+        × ((r : KeyName) → has_key e.children r ≡ true → has_key d.children r ≡ true)
     back-cap q e held = elim (cases_Bool (key_eq q p)) [
       | inl same ↦
           let d = mapped (cap s q) e (sym (cap-t q ∙ cond-true (key_eq q p) (option_map f (cap s q)) (cap s q) same) ∙ held) in
@@ -248,7 +280,8 @@ module _ (C : Scene) where
     unlinked-gone r (none, zero') = (
       elim (cases_Option ((view C t).hold r)) [
         | inl (c, held) ↦ elim (cases_eq (owner C r) i) [
-          | inl here ↦ let d = back-cap r c (sym (hold-here C t r here) ∙ held) in let no' : None ≡ Some d.0 = sym none ∙ (hold-here C s r here ∙ d.1) in absurd cc
+          | inl here ↦ let d = back-cap r c (sym (hold-here C t r here) ∙ held) in let no' : None ≡ Some d.0 = sym none ∙ (hold-here C s r here ∙ d.1) in
+              absurd cc
           | inr away ↦ let no' : None ≡ Some c = sym none ∙ (hold-away C s r away ∙ (sym (hold-away C t r away) ∙ held)) in absurd cc
         ]
         | inr none' ↦ none'
@@ -270,7 +303,8 @@ module _ (C : Scene) where
       pub unlinked-holds : HoldsOn (owner C) C.parent C.one_parent C.made (view C s) (view C t)
       unlinked-holds = record {
         on = λ q d held. elim (cases_eq (owner C q) i) [
-          | inl here ↦ let e = on-cap q d (sym (hold-here C s q here) ∙ held) in (e.0, hold-here C t q here ∙ e.1, e.2, λ r alive child. e.3 r (alive-other r alive) child)
+          | inl here ↦ let e = on-cap q d (sym (hold-here C s q here) ∙ held) in
+              (e.0, hold-here C t q here ∙ e.1, e.2, λ r alive child. e.3 r (alive-other r alive) child)
           | inr away ↦ (d, hold-away C t q away ∙ (sym (hold-away C s q away) ∙ held), refl, λ r alive child. child)
         ];
         back = λ q e held. elim (cases_eq (owner C q) i) [
@@ -282,7 +316,8 @@ module _ (C : Scene) where
 
       pub row-unlinked : (h : Hand) → Row C h s → Row C h t
       row-unlinked h R =
-          step C h h s t unlinked-holds (no-roots C s t refl) (changed-rises (λ c. key_eq c.key p) f (λ c. refl) s.caps R.rises) (record { rise = R.ids.rise; drawn = R.ids.drawn })
+          step C h h s t unlinked-holds (no-roots C s t refl) (changed-rises (λ c. key_eq c.key p) f (λ c. refl) s.caps R.rises)
+          (record { rise = R.ids.rise; drawn = R.ids.drawn })
           (λ q c held. let d = back-cap q c held in R.homes q d.0 d.1) (record { inbox = R.sent.inbox; sends = R.sent.sends })
           (λ q a b alive under before. inr before)
           (λ q a b more. inl more)

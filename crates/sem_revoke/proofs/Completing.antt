@@ -1,5 +1,6 @@
 -- A quiet world in which no call is parked is the end of a complete schedule.
-use Rattle.std.proofs.Common.{◌≡◌, ℕ, ◌+◌, ◌<◌, ◌≤◌, true, ◌&&◌, List, length, nat_lt, is_some, is_none, Option, Some, None, refl, sym, ap, ◌∙◌, subst, inl, inr, arith, eq-eqb}
+use Rattle.std.proofs.Common.{◌≡◌, ℕ, ◌+◌, ◌<◌, ◌≤◌, true, ◌&&◌, List, length, nat_lt, is_some, is_none, Option, Some, None, refl, sym, ap, ◌∙◌, subst, inl}
+use Rattle.std.proofs.Common.{inr, arith, eq-eqb}
 use Rattle.std.specs.Prelude.{◌==◌}
 use Rattle.std.specs.List.{Contains}
 use Rattle.std.proofs.lemmas.Bool.{cases_Bool, and_from, true≢false, lt-ltb, ltb-true, ltb-false}
@@ -24,7 +25,8 @@ use Rattle.sem_revoke.proofs.Readying.{schedule-past}
 use Rattle.sem_revoke.proofs.Replying.{one, replies-told}
 
 -- a VPE that is alive, with a call left and none parked, can call
-calls-enabled : (T : Setup) (W : World) (v : ℕ) → kernel_of T v < T.kernels → is_alive (side W (kernel_of T v)) v ≡ true → parked (side W (kernel_of T v)) v ≡ None → is_some (next_call T (side W (kernel_of T v)) v) ≡ true → is_enabled T W (event (kernel_of T v) (Calls v)) ≡ true
+calls-enabled : (T : Setup) (W : World) (v : ℕ) → kernel_of T v < T.kernels → is_alive (side W (kernel_of T v)) v ≡ true →
+    parked (side W (kernel_of T v)) v ≡ None → is_some (next_call T (side W (kernel_of T v)) v) ≡ true → is_enabled T W (event (kernel_of T v) (Calls v)) ≡ true
 unfolding is_enabled is_locally_enabled
 calls-enabled T W v low alive none some =
     let k : ℕ = kernel_of T v in
@@ -32,7 +34,8 @@ calls-enabled T W v low alive none some =
     let free : is_none (parked s v) ≡ true = ap is_none none in
     let here : ((k == k) && (is_alive s v && (is_none (parked s v) && is_some (next_call T s v)))) ≡ true =
     and_from (k == k) _ (eq-eqb k k refl) (and_from (is_alive s v) _ alive (and_from (is_none (parked s v)) (is_some (next_call T s v)) free some)) in
-    and_from (nat_lt k T.kernels) _ (lt-ltb k T.kernels low) (and_from ((k == k) && (is_alive s v && (is_none (parked s v) && is_some (next_call T s v)))) true here refl)
+    and_from (nat_lt k T.kernels) _ (lt-ltb k T.kernels low)
+    (and_from ((k == k) && (is_alive s v && (is_none (parked s v) && is_some (next_call T s v)))) true here refl)
 
 module _ (T : Setup) (valid : IsSetup T) (J : List Entry) (runs : IsSchedule T J) where
   abbrev W : World

@@ -2,7 +2,8 @@
 use Rattle.sem_msg.specs.JobRows.{without_number}
 use Rattle.std.specs.List.{list_any}
 use Rattle.sem_key.specs.Region.{children_of}
-use Rattle.std.proofs.Common.{◌≡◌, ℕ, ◌<◌, Bool, true, false, not, ◌&&◌, List, [], ◌∷◌, Option, Some, None, is_some, refl, sym, ap, ◌∙◌, subst, inl, inr, eq-eqb}
+use Rattle.std.proofs.Common.{◌≡◌, ℕ, ◌<◌, Bool, true, false, not, ◌&&◌, List, [], ◌∷◌, Option, Some, None, is_some, refl, sym, ap, ◌∙◌, subst, inl, inr}
+use Rattle.std.proofs.Common.{eq-eqb}
 use Rattle.std.specs.Prelude.{◌==◌, if◌then◌else◌}
 use Rattle.std.specs.List.{Contains}
 use Rattle.std.specs.Option.{option_map_or}
@@ -58,7 +59,14 @@ module _ (k : KeyName) where
     restores = λ u t x was among keeps is. is;
     bound = λ t es is. is;
     jobs = λ t js less is. λ y among keeps same. let x = less y among in is x.0 x.1 (x.4 keeps) (sym x.3 ∙ same);
-    opens = λ t root up ws is. λ y among keeps same. elim (Contains-append_cases t.jobs (record { id = t.next_job; root = root; up = up; waiters = ws; count = 0; keep = false } ∷ []) y among) [
+    opens = λ t root up ws is. λ y among keeps same. elim (Contains-append_cases t.jobs (record {
+      id = t.next_job;
+      root = root;
+      up = up;
+      waiters = ws;
+      count = 0;
+      keep = false;
+    } ∷ []) y among) [
       | inl old ↦ is y old keeps same
       | inr new ↦ elim (Contains-cons_cases (record { id = t.next_job; root = root; up = up; waiters = ws; count = 0; keep = false }) [] y new) [
         | inl now ↦ let no' : false ≡ true = ap (λ (z : JobRow). z.keep) now ∙ keeps in absurd cc
@@ -81,7 +89,8 @@ module _ (k : KeyName) where
             | inl root ↦
                 let at' : d.0.key ≡ c.key = ap (λ (y : Capability). y.key) (sym (cond-true (key_eq d.0.key x.root) (f d.0) d.0 root) ∙ d.2) in
                 absurd (was.1 x among keeps (sym (key_eq-true d.0.key x.root root) ∙ (at' ∙ same)))
-            | inr other ↦ let at' : d.0 ≡ c = sym (Rattle.std.proofs.lemmas.Bool.cond-false (key_eq d.0.key x.root) (f d.0) d.0 other) ∙ d.2 in subst (λ (y : Capability). is_some y.mark ≡ true) at' (is.0 d.0 d.1 (ap (λ (y : Capability). y.key) at' ∙ same))
+            | inr other ↦ let at' : d.0 ≡ c = sym (Rattle.std.proofs.lemmas.Bool.cond-false (key_eq d.0.key x.root) (f d.0) d.0 other) ∙ d.2 in
+                subst (λ (y : Capability). is_some y.mark ≡ true) at' (is.0 d.0 d.1 (ap (λ (y : Capability). y.key) at' ∙ same))
           ]),
       is.1,
     );
@@ -116,7 +125,9 @@ module _ (k : KeyName) where
         marks : (c : Capability) → cap t k ≡ Some c → c.mark ≡ None → IsDoomed (mark_all ks j one)
         marks d held unmarked c among same =
             let o = Contains-from_map (λ (x : Capability). if list_any (key_eq x.key) ks then with_mark j x else x) t.caps c among in
-            let key : o.0.key ≡ c.key = sym (cond_both (list_any (key_eq o.0.key) ks) (with_mark j o.0) o.0 (λ (y : Capability). y.key ≡ o.0.key) (λ _. refl) (λ _. refl)) ∙ ap (λ (y : Capability). y.key) o.2 in
+            let key : o.0.key ≡ c.key =
+            sym (cond_both (list_any (key_eq o.0.key) ks) (with_mark j o.0) o.0 (λ (y : Capability). y.key ≡ o.0.key) (λ _. refl) (λ _. refl))
+            ∙ ap (λ (y : Capability). y.key) o.2 in
             let has : list_any (key_eq o.0.key) ks ≡ true = ap (λ q. list_any (key_eq q) ks) (key ∙ same) ∙ in-region d held unmarked in
             ap (λ (y : Capability). is_some y.mark) (sym (sym (cond-true (list_any (key_eq o.0.key) ks) (with_mark j o.0) o.0 has) ∙ o.2))
           where
@@ -126,11 +137,17 @@ module _ (k : KeyName) where
         begun : (c : Capability) → cap t k ≡ Some c → c.mark ≡ None → Buried (begin T i k None [] false t)
         begun c held unmarked =
             let base : Buried (unbind_all ks (mark_all ks j one)) = (marks c held unmarked, unkept-steady.opens t k None [] unkept) in
-            settled-steady Buried buried-steady T i j (opened T i k None [] false t) (in_turn-keeps Buried (request_or_adopt T i j) (λ q u here. asks_for-steady Buried buried-steady T i j q u here) (children_of t.caps ks) (unbind_all ks (mark_all ks j one)) base)
+            settled-steady Buried buried-steady T i j (opened T i k None [] false t)
+            (in_turn-keeps Buried (request_or_adopt T i j) (λ q u here. asks_for-steady Buried buried-steady T i j q u here) (children_of t.caps ks)
+            (unbind_all ks (mark_all ks j one)) base)
 
         by_mark : (c : Capability) → cap t k ≡ Some c → (m : Option ℕ) → c.mark ≡ m → Buried (option_map_or (λ n. t) m (begin T i k None [] false t))
         by_mark c held None unmarked = begun c held unmarked
-        by_mark c held (Some n) marked = ((λ d among same. ap (λ (y : Capability). is_some y.mark) (same_Some d c (sym (one-held t sound d among same) ∙ held)) ∙ ap (λ (o : Option ℕ). is_some o) marked), unkept)
+        by_mark c held (Some n) marked = (
+          (λ d among same. ap (λ (y : Capability). is_some y.mark) (same_Some d c (sym (one-held t sound d among same) ∙ held))
+              ∙ ap (λ (o : Option ℕ). is_some o) marked),
+          unkept,
+        )
 
         by : (o : Option Capability) → cap t k ≡ o → Buried (revoked_if_there T i k o t)
         by None none = ((λ c among same. let no' : None ≡ Some c = sym none ∙ one-held t sound c among same in absurd cc), unkept)
@@ -140,11 +157,14 @@ module _ (k : KeyName) where
     unfolding in_turn
     all-revoked [] t sound unkept among = absurd (Contains-nil k among)
     all-revoked (q ∷ qs) t sound unkept among = elim (Contains-cons_cases q qs k among) [
-      | inl same ↦ in_turn-keeps Buried (revoked_if_left T i) (λ p u here. rest-steady Buried buried-steady T i p u here) qs (revoked_if_left T i q t) (subst (λ p. Buried (revoked_if_left T i p t)) (sym same) (revoked-now t sound unkept))
-      | inr later ↦ all-revoked qs (revoked_if_left T i q t) (revoked-sound T valid i low q (cap t q) t refl sound).0 (rest-steady Unkept unkept-steady T i q t unkept) later
+      | inl same ↦ in_turn-keeps Buried (revoked_if_left T i) (λ p u here. rest-steady Buried buried-steady T i p u here) qs (revoked_if_left T i q t)
+          (subst (λ p. Buried (revoked_if_left T i p t)) (sym same) (revoked-now t sound unkept))
+      | inr later ↦ all-revoked qs (revoked_if_left T i q t) (revoked-sound T valid i low q (cap t q) t refl sound).0
+          (rest-steady Unkept unkept-steady T i q t unkept) later
     ]
 
-    module _ (s : Side) (sound : IsSound T i s) (local : kernel_of T k.vpe ≡ i) (keepers : (x : JobRow) → Contains s.jobs x → x.keep ≡ true → Contains x.waiters x.root.vpe) where
+    module _ (s : Side) (sound : IsSound T i s) (local : kernel_of T k.vpe ≡ i) (keepers : (x : JobRow) → Contains s.jobs x → x.keep ≡ true →
+        Contains x.waiters x.root.vpe) where
       abbrev v : ℕ
       v = k.vpe
 
@@ -168,15 +188,18 @@ module _ (k : KeyName) where
       awaits false w none here = absurd cc
 
       asks-stay : (a : Ask) (t : Side) → Stays t → Stays (ask_ended T i a t)
-      asks-stay a t here = cond_both (is_unawaited T i t a) t (ask_refused T i Dead a t) Stays (λ _. here) (λ awaited. cond_both (kernel_of T (asker a) == i) _ _ Stays (λ at'. refuses awaited at') (λ _. sends a))
+      asks-stay a t here = cond_both (is_unawaited T i t a) t (ask_refused T i Dead a t) Stays (λ _. here)
+          (λ awaited. cond_both (kernel_of T (asker a) == i) _ _ Stays (λ at'. refuses awaited at') (λ _. sends a))
         where
           refuses : is_unawaited T i t a ≡ false → (kernel_of T (asker a) == i) ≡ true → Stays (call_refused (code_number Dead) (asker a) t)
           refuses awaited at' =
               let freeing = freed-same (parked t (asker a)) (asker a) t in (
                 freeing.0 ∙ here.0,
                 λ n waits.
-                    let other : v ≡ asker a → ⊥ = λ same. asks-wait a n (ap (waits_for a) (sym (here.1 n waits) ∙ ap (parked t) same) ∙ awaits (kernel_of T (asker a) == i) (waits_for a (parked t (asker a))) awaited at') in
-                    parked-other (promise_freed (parked t (asker a)) (asker a) t) (asker a) (Some (Ready (code_number Dead))) v other ∙ (ap (λ ps. state_of ps v) freeing.1 ∙ here.1 n waits),
+                    let other : v ≡ asker a → ⊥ = λ same. asks-wait a n (ap (waits_for a) (sym (here.1 n waits) ∙ ap (parked t) same)
+                    ∙ awaits (kernel_of T (asker a) == i) (waits_for a (parked t (asker a))) awaited at') in
+                    parked-other (promise_freed (parked t (asker a)) (asker a) t) (asker a) (Some (Ready (code_number Dead))) v other
+                    ∙ (ap (λ ps. state_of ps v) freeing.1 ∙ here.1 n waits),
               )
 
           sends : (b : Ask) → Stays (refusal_sent T Dead b t)
@@ -198,12 +221,18 @@ module _ (k : KeyName) where
 
       unkept-left : (p : Option Parked) → parked answered v ≡ p → Unkept (call_ended T p v (unparked v answered))
       unkept-left None at x among keeps root = let no' : None ≡ Some (RevokeWait x.id) = sym at ∙ keeper x among keeps root in absurd cc
-      unkept-left (Some (ObtainWait number sel)) at x among keeps root = let no' : Some (ObtainWait number sel) ≡ Some (RevokeWait x.id) = sym at ∙ keeper x among keeps root in absurd cc
-      unkept-left (Some (ObtainReady key parent object sel)) at x among keeps root = let no' : Some (ObtainReady key parent object sel) ≡ Some (RevokeWait x.id) = sym at ∙ keeper x among keeps root in absurd cc
-      unkept-left (Some ObtainCancelled) at x among keeps root = let no' : Some ObtainCancelled ≡ Some (RevokeWait x.id) = sym at ∙ keeper x among keeps root in absurd cc
-      unkept-left (Some (DelegateWait parent)) at x among keeps root = let no' : Some (DelegateWait parent) ≡ Some (RevokeWait x.id) = sym at ∙ keeper x among keeps root in absurd cc
-      unkept-left (Some (DelegateReady parent key)) at x among keeps root = let no' : Some (DelegateReady parent key) ≡ Some (RevokeWait x.id) = sym at ∙ keeper x among keeps root in absurd cc
-      unkept-left (Some (Ready code)) at x among keeps root = let no' : Some (Ready code) ≡ Some (RevokeWait x.id) = sym at ∙ keeper x among keeps root in absurd cc
+      unkept-left (Some (ObtainWait number sel)) at x among keeps root = let no' : Some (ObtainWait number sel) ≡ Some (RevokeWait x.id) = sym at
+          ∙ keeper x among keeps root in absurd cc
+      unkept-left (Some (ObtainReady key parent object sel)) at x among keeps root = let no' : Some (ObtainReady key parent object sel)
+          ≡ Some (RevokeWait x.id) = sym at ∙ keeper x among keeps root in absurd cc
+      unkept-left (Some ObtainCancelled) at x among keeps root = let no' : Some ObtainCancelled ≡ Some (RevokeWait x.id) = sym at ∙ keeper x among keeps root in
+          absurd cc
+      unkept-left (Some (DelegateWait parent)) at x among keeps root = let no' : Some (DelegateWait parent) ≡ Some (RevokeWait x.id) = sym at
+          ∙ keeper x among keeps root in absurd cc
+      unkept-left (Some (DelegateReady parent key)) at x among keeps root = let no' : Some (DelegateReady parent key) ≡ Some (RevokeWait x.id) = sym at
+          ∙ keeper x among keeps root in absurd cc
+      unkept-left (Some (Ready code)) at x among keeps root = let no' : Some (Ready code) ≡ Some (RevokeWait x.id) = sym at ∙ keeper x among keeps root in
+          absurd cc
       unkept-left (Some (RevokeWait j)) at y among keeps root =
           let f : JobRow → JobRow = λ x. record x { waiters = without_number x.waiters v; keep = x.keep && not ((x.id == j) && (x.root.vpe == v)) } in
           let o = Contains-from_map f answered.jobs y among in
@@ -211,7 +240,9 @@ module _ (k : KeyName) where
           let same-root : o.0.root ≡ k = ap (λ (z : JobRow). z.root) is ∙ root in
           let kept = and_parts o.0.keep (not ((o.0.id == j) && (o.0.root.vpe == v))) (ap (λ (z : JobRow). z.keep) is ∙ keeps) in
           let id : j ≡ o.0.id = wait-id j o.0.id (sym at ∙ keeper o.0 o.1 kept.0 same-root) in
-          absurd (true≢false (sym (and_from (o.0.id == j) (o.0.root.vpe == v) (eq-eqb o.0.id j (sym id)) (eq-eqb o.0.root.vpe v (ap (λ (q : KeyName). q.vpe) same-root))) ∙ not-true ((o.0.id == j) && (o.0.root.vpe == v)) kept.1))
+          absurd (true≢false
+          (sym (and_from (o.0.id == j) (o.0.root.vpe == v) (eq-eqb o.0.id j (sym id)) (eq-eqb o.0.root.vpe v (ap (λ (q : KeyName). q.vpe) same-root)))
+          ∙ not-true ((o.0.id == j) && (o.0.root.vpe == v)) kept.1))
 
       -- when its VPE ends, it is marked
       pub ended-buried : Buried (ended T i v s)
@@ -228,8 +259,11 @@ module _ (k : KeyName) where
           unkept = unkept-left (parked answered v) refl
 
           by : (o : Option Capability) → cap left k ≡ o → Buried (in_turn (revoked_if_left T i) (keys_of left v) left)
-          by None none = in_turn-keeps Buried (revoked_if_left T i) (λ q u here. rest-steady Buried buried-steady T i q u here) (keys_of left v) left ((λ c among same. let no' : None ≡ Some c = sym none ∙ one-held left sound-left c among same in absurd cc), unkept)
+          by None none = in_turn-keeps Buried (revoked_if_left T i) (λ q u here. rest-steady Buried buried-steady T i q u here) (keys_of left v) left
+              ((λ c among same. let no' : None ≡ Some c = sym none ∙ one-held left sound-left c among same in absurd cc), unkept)
           by (Some c) held =
               let there = found (λ (x : Capability). key_eq x.key k) left.caps c held in
-              let among : Contains (CapList.keys_of left.caps) k = subst (Contains (CapList.keys_of left.caps)) (key_eq-true c.key k there.1) (Contains-map (λ (x : Capability). x.key) left.caps c there.0) in
-              all-revoked (keys_of left v) left sound-left unkept (Contains-filter (λ (q : KeyName). q.vpe == v) (CapList.keys_of left.caps) k among (eq-eqb v v refl))
+              let among : Contains (CapList.keys_of left.caps) k = subst (Contains (CapList.keys_of left.caps)) (key_eq-true c.key k there.1)
+              (Contains-map (λ (x : Capability). x.key) left.caps c there.0) in
+              all-revoked (keys_of left v) left sound-left unkept (Contains-filter (λ (q : KeyName). q.vpe == v) (CapList.keys_of left.caps) k among
+              (eq-eqb v v refl))

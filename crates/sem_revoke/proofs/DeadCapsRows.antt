@@ -44,13 +44,14 @@ module _ (k : KeyName) (T : Setup) (i : ℕ) where
   -- another key is installed
   installed-buried : (t : Side) (q : KeyName) (parent : Option KeyName) (sel : ℕ) (object : Object) → (q ≡ k → ⊥) → B t → B (installed q parent sel object t)
   installed-buried t q parent sel object other is = (
-    (λ c among same. elim (Contains-append_cases (filter (λ x. key_lt x.key q) t.caps) (fresh q parent sel object ∷ filter (λ x. not (key_lt x.key q)) t.caps) c among) [
-      | inl before ↦ is.0 c (Contains-from_filter (λ (x : Capability). key_lt x.key q) t.caps c before).0 same
-      | inr rest ↦ elim (Contains-cons_cases (fresh q parent sel object) (filter (λ x. not (key_lt x.key q)) t.caps) c rest) [
-        | inl new ↦ absurd (other (ap (λ (y : Capability). y.key) new ∙ same))
-        | inr after ↦ is.0 c (Contains-from_filter (λ (x : Capability). not (key_lt x.key q)) t.caps c after).0 same
-      ]
-    ]),
+    (λ c among same. elim (Contains-append_cases (filter (λ x. key_lt x.key q) t.caps) (fresh q parent sel object ∷ filter (λ x. not (key_lt x.key q)) t.caps) c
+        among) [
+          | inl before ↦ is.0 c (Contains-from_filter (λ (x : Capability). key_lt x.key q) t.caps c before).0 same
+          | inr rest ↦ elim (Contains-cons_cases (fresh q parent sel object) (filter (λ x. not (key_lt x.key q)) t.caps) c rest) [
+            | inl new ↦ absurd (other (ap (λ (y : Capability). y.key) new ∙ same))
+            | inr after ↦ is.0 c (Contains-from_filter (λ (x : Capability). not (key_lt x.key q)) t.caps c after).0 same
+          ]
+        ]),
     is.1,
   )
 
@@ -59,8 +60,10 @@ module _ (k : KeyName) (T : Setup) (i : ℕ) where
     (λ c among same.
         let f : Capability → Capability = λ d. record d { children = with_key d.children q } in
         let d = Contains-from_map (λ (y : Capability). if key_eq y.key p then f y else y) t.caps c among in
-        let kept : ((if key_eq d.0.key p then f d.0 else d.0).key ≡ d.0.key) × ((if key_eq d.0.key p then f d.0 else d.0).mark ≡ d.0.mark) = cond_both (key_eq d.0.key p) (f d.0) d.0 (λ (y : Capability). (y.key ≡ d.0.key) × (y.mark ≡ d.0.mark)) (λ _. (refl, refl)) (λ _. (refl, refl)) in
-        ap (λ (o : Option ℕ). is_some o) (sym (ap (λ (y : Capability). y.mark) d.2) ∙ kept.1) ∙ is.0 d.0 d.1 (sym kept.0 ∙ (ap (λ (y : Capability). y.key) d.2 ∙ same))),
+        let kept : ((if key_eq d.0.key p then f d.0 else d.0).key ≡ d.0.key) × ((if key_eq d.0.key p then f d.0 else d.0).mark ≡ d.0.mark) =
+        cond_both (key_eq d.0.key p) (f d.0) d.0 (λ (y : Capability). (y.key ≡ d.0.key) × (y.mark ≡ d.0.mark)) (λ _. (refl, refl)) (λ _. (refl, refl)) in
+        ap (λ (o : Option ℕ). is_some o) (sym (ap (λ (y : Capability). y.mark) d.2) ∙ kept.1)
+        ∙ is.0 d.0 d.1 (sym kept.0 ∙ (ap (λ (y : Capability). y.key) d.2 ∙ same))),
     is.1,
   )
 
@@ -86,9 +89,12 @@ module _ (k : KeyName) (T : Setup) (i : ℕ) where
   other-ended w s is =
       let asks : List Ask = (row s w).asks in
       let answered : Side = in_turn (ask_ended T i) asks (buried w s) in
-      let told : B answered = in_turn-keeps B (ask_ended T i) (λ a t here. cond_both (is_unawaited T i t a) t (ask_refused T i Dead a t) B (λ _. here) (λ _. refused-buried Dead a t here)) asks (buried w s) is in
+      let told : B answered =
+      in_turn-keeps B (ask_ended T i) (λ a t here. cond_both (is_unawaited T i t a) t (ask_refused T i Dead a t) B (λ _. here)
+      (λ _. refused-buried Dead a t here)) asks (buried w s) is in
       let last : Side = call_ended T (parked answered w) w (unparked w answered) in
-      in_turn-keeps B (revoked_if_left T i) (λ q t here. rest-steady B (buried-steady k) T i q t here) (keys_of last w) last (owes (parked answered w) (unparked w answered) told)
+      in_turn-keeps B (revoked_if_left T i) (λ q t here. rest-steady B (buried-steady k) T i q t here) (keys_of last w) last
+      (owes (parked answered w) (unparked w answered) told)
     where
       owes : (p : Option Parked) (t : Side) → B t → B (call_ended T p w t)
       owes None t here = here
@@ -107,39 +113,49 @@ module _ (k : KeyName) (T : Setup) (i : ℕ) where
   apart q other same = other (ap (λ (x : KeyName). x.vpe) same)
 
   -- Calls of another VPE.
-  pub call-buried : (w : ℕ) → (w ≡ k.vpe → ⊥) → (s : Side) → ((src : ℕ) (c : Capability) → own s w src ≡ Some c → c.key.vpe ≡ w) → B s → (c : Call) → B (call_row T i s w c).side
+  pub call-buried : (w : ℕ) → (w ≡ k.vpe → ⊥) → (s : Side) → ((src : ℕ) (c : Capability) → own s w src ≡ Some c → c.key.vpe ≡ w) → B s → (c : Call) →
+      B (call_row T i s w c).side
   call-buried w other s owns is c = call_row-by (λ (y : Step). B y.side) T i w s (record {
     answered = λ code. is;
-    child = λ src dst object p held. let q : KeyName = next_key T s w (object_kind object) in installed-buried (linked p.key q (drawn w s)) q (Some p.key) dst object (apart q other) (linked-buried (drawn w s) p.key q is);
+    child = λ src dst object p held. let q : KeyName = next_key T s w (object_kind object) in
+        installed-buried (linked p.key q (drawn w s)) q (Some p.key) dst object (apart q other) (linked-buried (drawn w s) p.key q is);
     ask = λ dst target. cond_both (kernel_of T (target_vpe target) == i) _ _ B (λ _. is) (λ _. is);
     offer = λ src u dst p held. cond_both (kernel_of T u == i) _ _ B (λ _. is) (λ _. is);
     revoke = λ src c held. revoked-steady B (buried-steady k) T i w c.key c.mark s (λ j. is);
-    clear = λ src c held unmarked. cleared-steady B (buried-steady k) T i w c.key s (is.0, opens c.key (apart c.key (λ same. other (sym (owns src c held) ∙ same))));
+    clear = λ src c held unmarked. cleared-steady B (buried-steady k) T i w c.key s (
+      is.0,
+      opens c.key (apart c.key (λ same. other (sym (owns src c held) ∙ same))),
+    );
     bound = λ ep src c held. is;
     rung = λ ep f. is;
     ends = other-ended w s is;
   }) c
     where
       opens : (root : KeyName) → (root ≡ k → ⊥) → Unkept k (job_opened root None (w ∷ []) true s)
-      opens root apart' y among keeps same = elim (Contains-append_cases s.jobs (record { id = s.next_job; root = root; up = None; waiters = w ∷ []; count = 0; keep = true } ∷ []) y among) [
-        | inl old ↦ is.1 y old keeps same
-        | inr new ↦ elim (Contains-cons_cases (record { id = s.next_job; root = root; up = None; waiters = w ∷ []; count = 0; keep = true }) [] y new) [
-          | inl now ↦ apart' (ap (λ (z : JobRow). z.root) now ∙ same)
-          | inr none ↦ absurd (Contains-nil y none)
-        ]
-      ]
+      opens root apart' y among keeps same =
+          elim (Contains-append_cases s.jobs (record { id = s.next_job; root = root; up = None; waiters = w ∷ []; count = 0; keep = true } ∷ []) y among) [
+            | inl old ↦ is.1 y old keeps same
+            | inr new ↦ elim (Contains-cons_cases (record { id = s.next_job; root = root; up = None; waiters = w ∷ []; count = 0; keep = true }) [] y new) [
+              | inl now ↦ apart' (ap (λ (z : JobRow). z.root) now ∙ same)
+              | inr none ↦ absurd (Contains-nil y none)
+            ]
+          ]
 
   -- Upcalls: who is asked, and who waits for what it asked for, is another VPE.
   pub upcall-buried : (w : ℕ) → (w ≡ k.vpe → ⊥) → (s : Side) → ((u : ℕ) (p : Parked) → parked s u ≡ Some p → u ≡ k.vpe → ⊥) → B s → B (upcall_row T i s w).side
   unfolding upcall_row
-  upcall-buried w other s waits is = option-keeps (λ (y : Step). B y.side) (λ (a : Ask). ask_decided T i w a (ask_taken w s)) (slice_get (row s w).asks 0) (plain s) (λ a there. decided a) is
+  upcall-buried w other s waits is = option-keeps (λ (y : Step). B y.side) (λ (a : Ask). ask_decided T i w a (ask_taken w s)) (slice_get (row s w).asks 0)
+      (plain s) (λ a there. decided a) is
     where
       t : Side
       t = ask_taken w s
 
-      gives : (place : PlaceName) (p : KeyName) (q : KeyName) (object : Object) → q.vpe ≡ place.vpe → (o : Option Parked) → parked s place.vpe ≡ o → B (given_here q p object o (linked p q t))
+      gives : (place : PlaceName) (p : KeyName) (q : KeyName) (object : Object) → q.vpe ≡ place.vpe → (o : Option Parked) → parked s place.vpe ≡ o →
+          B (given_here q p object o (linked p q t))
       gives place p q object of None at = linked-buried t p q is
-      gives place p q object of (Some (ObtainWait number sel)) at = installed-buried (linked p q t) q (Some p) sel object (apart q (λ same. waits place.vpe (ObtainWait number sel) at (sym of ∙ same))) (linked-buried t p q is)
+      gives place p q object of (Some (ObtainWait number sel)) at =
+          installed-buried (linked p q t) q (Some p) sel object (apart q (λ same. waits place.vpe (ObtainWait number sel) at (sym of ∙ same)))
+          (linked-buried t p q is)
       gives place p q object of (Some (ObtainReady key parent object' sel)) at = linked-buried t p q is
       gives place p q object of (Some ObtainCancelled) at = linked-buried t p q is
       gives place p q object of (Some (DelegateWait parent)) at = linked-buried t p q is
@@ -154,13 +170,17 @@ module _ (k : KeyName) (T : Setup) (i : ℕ) where
         given = λ place target p of.
             let q : KeyName = keyed place (given_kind target p) in
             let object : Object = given target place.vpe p in
-            cond_both (kernel_of T place.vpe == i) (given_here q p.key object (parked (linked p.key q t) place.vpe) (linked p.key q t)) _ B (λ _. gives place p.key q object refl (parked s place.vpe) refl) (λ _. linked-buried t p.key q is);
-        here = λ parent object sel of. let q : KeyName = next_key T t w parent.kind in installed-buried (linked parent q (drawn w t)) q (Some parent) sel object (apart q other) (linked-buried (drawn w t) parent q is);
+            cond_both (kernel_of T place.vpe == i) (given_here q p.key object (parked (linked p.key q t) place.vpe) (linked p.key q t)) _ B
+            (λ _. gives place p.key q object refl (parked s place.vpe) refl) (λ _. linked-buried t p.key q is);
+        here = λ parent object sel of. let q : KeyName = next_key T t w parent.kind in
+            installed-buried (linked parent q (drawn w t)) q (Some parent) sel object (apart q other) (linked-buried (drawn w t) parent q is);
         prepared = λ parent object sel of. is;
       })
 
   -- Parked calls of another VPE that go on.
-  pub resume-buried : (w : ℕ) → (w ≡ k.vpe → ⊥) → (s : Side) → ((key parent : KeyName) (object : Object) (sel : ℕ) → parked s w ≡ Some (ObtainReady key parent object sel) → key.vpe ≡ w) → B s → B (resume_row T s w).side
+  pub resume-buried : (w : ℕ) → (w ≡ k.vpe → ⊥) → (s : Side) →
+      ((key parent : KeyName) (object : Object) (sel : ℕ) → parked s w ≡ Some (ObtainReady key parent object sel) → key.vpe ≡ w) → B s →
+      B (resume_row T s w).side
   unfolding resume_row
   resume-buried w other s owns is = by (parked s w) refl
     where
@@ -175,7 +195,8 @@ module _ (k : KeyName) (T : Setup) (i : ℕ) where
       by : (p : Option Parked) → parked s w ≡ p → B (resumed T p (unparked w s)).side
       by None at = is
       by (Some (ObtainWait number sel)) at = is
-      by (Some (ObtainReady key parent object sel)) at = installed-buried (unparked w s) key (Some parent) sel object (apart key (λ same. other (sym (owns key parent object sel at) ∙ same))) is
+      by (Some (ObtainReady key parent object sel)) at =
+          installed-buried (unparked w s) key (Some parent) sel object (apart key (λ same. other (sym (owns key parent object sel at) ∙ same))) is
       by (Some ObtainCancelled) at = is
       by (Some (DelegateWait parent)) at = is
       by (Some (DelegateReady parent key)) at = answered parent key (cap (unparked w s) parent)
@@ -223,5 +244,7 @@ module _ (k : KeyName) (T : Setup) (i : ℕ) where
       ready parent key object (Some (Ready code)) = is
 
       acks : (key : KeyName) (accepted : Bool) (p : Pending) → B (acknowledged T key accepted s p)
-      acks key true p = cond_both (is_alive s key.vpe) _ _ B (λ lives. installed-buried (pending_removed key s) key (Some p.parent) p.sel p.object (λ same. true≢false (sym lives ∙ (ap (λ (q : KeyName). is_alive s q.vpe) same ∙ dead))) is) (λ _. is)
+      acks key true p =
+          cond_both (is_alive s key.vpe) _ _ B (λ lives. installed-buried (pending_removed key s) key (Some p.parent) p.sel p.object
+          (λ same. true≢false (sym lives ∙ (ap (λ (q : KeyName). is_alive s q.vpe) same ∙ dead))) is) (λ _. is)
       acks key false p = is

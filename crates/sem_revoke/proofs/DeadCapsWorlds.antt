@@ -1,5 +1,6 @@
 -- After every schedule what a dead VPE holds is marked.
-use Rattle.std.proofs.Common.{◌≡◌, ℕ, ◌<◌, true, false, List, [], ◌∷◌, ◌++◌, Option, Some, None, is_some, append-nil, append_assoc, refl, sym, ap, ◌∙◌, subst, inl, inr, arith}
+use Rattle.std.proofs.Common.{◌≡◌, ℕ, ◌<◌, true, false, List, [], ◌∷◌, ◌++◌, Option, Some, None, is_some, append-nil, append_assoc, refl, sym, ap, ◌∙◌, subst}
+use Rattle.std.proofs.Common.{inl, inr, arith}
 use Rattle.std.specs.Prelude.{◌==◌}
 use Rattle.std.specs.List.{Contains}
 use Rattle.std.specs.Option.{option_map_or}
@@ -89,7 +90,8 @@ module _ (T : Setup) (valid : IsSetup T) (k : KeyName) where
     dead-on dead (Upcall w) input enabled =
         upcall-buried k T i w (λ same. true≢false (sym (enabled-upcall T i s w enabled) ∙ (ap (λ u. is_alive s u) same ∙ dead))) s
         (λ u p at same. true≢false (sym (parkers-live T valid before runs i u p at) ∙ (ap (λ n. (row s n).alive) same ∙ dead))) (is dead)
-    dead-on dead (Resume w) input enabled = resume-buried k T i w (other (parked s w) refl (enabled-resume T i s w enabled).1) s (λ key parent object sel at. (sound.calls w (ObtainReady key parent object sel) at).1.0) (is dead)
+    dead-on dead (Resume w) input enabled = resume-buried k T i w (other (parked s w) refl (enabled-resume T i s w enabled).1) s
+        (λ key parent object sel at. (sound.calls w (ObtainReady key parent object sel) at).1.0) (is dead)
       where
         other : (o : Option Parked) → parked s w ≡ o → can_resume o ≡ true → w ≡ v → ⊥
         other None at can same = absurd cc
@@ -102,7 +104,8 @@ module _ (T : Setup) (valid : IsSetup T) (k : KeyName) where
     exits None at none = absurd cc
     exits (Some c) at exit =
         let counted = counted-sound T valid i low None None None None s sound v local (slice_get_within (calls_of T v) (row s v).next_call c at) in
-        subst (λ d. Buried k (call_row T i (call_counted v s) v d).side) (sym (same_Some c Exit exit)) (ended-buried k T valid i low (call_counted v s) counted local keepers)
+        subst (λ d. Buried k (call_row T i (call_counted v s) v d).side) (sym (same_Some c Exit exit))
+        (ended-buried k T valid i low (call_counted v s) counted local keepers)
 
     ends-now : (a : Act) (input : Option Message) → EndsBy T s a v → Buried k (local_step T i s a input).side
     unfolding local_step
@@ -128,11 +131,13 @@ module _ (T : Setup) (valid : IsSetup T) (k : KeyName) where
       no-job x among keeps root = Contains-nil x (subst (λ xs. Contains xs x) (start-each T (λ (s : Side). s.jobs ≡ []) refl (λ a. (start-bare T a).0) h) among)
 
       from : (o : Option VpeDecl) → decl T v ≡ o → h < T.kernels → {X : Type 0} → X
-      from None none low = absurd (let at' : h ≡ T.kernels = ap (λ o. option_map_or (λ (d : VpeDecl). pe_owner T d.pe) o T.kernels) none in omega (arith, at', low))
+      from None none low = absurd (let at' : h ≡ T.kernels = ap (λ o. option_map_or (λ (d : VpeDecl). pe_owner T d.pe) o T.kernels) none in
+          omega (arith, at', low))
       from (Some d) some low =
           let there = found (λ (x : VpeDecl). x.vpe == v) T.vpes d some in
           let at' : h ≡ pe_owner T d.pe = ap (λ o. option_map_or (λ (x : VpeDecl). pe_owner T x.pe) o T.kernels) some in
-          let over = dead-ended T valid [] tt d there.0 (ap (λ n. is_alive (side (start T) n) d.vpe) (sym at') ∙ (ap (λ n. is_alive (side (start T) h) n) (eqb-true d.vpe v there.1) ∙ dead)) in
+          let over = dead-ended T valid [] tt d there.0 (ap (λ n. is_alive (side (start T) n) d.vpe) (sym at')
+          ∙ (ap (λ n. is_alive (side (start T) h) n) (eqb-true d.vpe v there.1) ∙ dead)) in
           absurd (true≢false (sym over))
 
   all-over : (J : List Entry) → IsSchedule T J → Over (side (world_after T J) h)
@@ -149,11 +154,13 @@ module _ (T : Setup) (valid : IsSetup T) (k : KeyName) where
           from (before ++ e ∷ []) later (parts ∙ sym (append_assoc before (e ∷ []) later)) (elim (cases_eq h i) [
             | inr away ↦ subst Over (sym (ap (λ (X : World). side X h) onward ∙ side-elsewhere T W i e.event.act h away)) is
             | inl here ↦ subst Over (sym (ap (λ (X : World). side X h) onward ∙ (ap (side (after T W e.event)) here ∙ side-after T W e.event)))
-                (next-over before y.0 i low here (subst (λ n. Over (side W n)) here is) e.event.act (input_of W i e.event.act) (enabled-parts T W i e.event.act y.1).0)
+                (next-over before y.0 i low here (subst (λ n. Over (side W n)) here is) e.event.act (input_of W i e.event.act)
+                (enabled-parts T W i e.event.act y.1).0)
           ])
 
 -- what a dead VPE holds is marked
-pub dead-marked : (T : Setup) → IsSetup T → (J : List Entry) → IsSchedule T J → (k : KeyName) (c : Capability) → HoldsCap (world_after T J) (kernel_of T k.vpe) k c → is_alive (side (world_after T J) (kernel_of T k.vpe)) k.vpe ≡ false → is_some c.mark ≡ true
+pub dead-marked : (T : Setup) → IsSetup T → (J : List Entry) → IsSchedule T J → (k : KeyName) (c : Capability) →
+    HoldsCap (world_after T J) (kernel_of T k.vpe) k c → is_alive (side (world_after T J) (kernel_of T k.vpe)) k.vpe ≡ false → is_some c.mark ≡ true
 dead-marked T valid J runs k c held dead =
     let there = found (λ (x : Capability). key_eq x.key k) (side (world_after T J) (kernel_of T k.vpe)).caps c held in
     (all-over T valid k J runs dead).0 c there.0 (key_eq-true c.key k there.1)

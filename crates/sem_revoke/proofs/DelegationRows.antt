@@ -1,5 +1,6 @@
 -- What a step does to the tokens of a delegation: one is added only where its VPE draws the number and prepares it, and the Ack that is handled is one less.
-use Rattle.std.proofs.Common.{◌≡◌, ℕ, ◌+◌, ◌<◌, ◌≤◌, ◌⊎◌, inl, inr, Bool, true, false, List, [], ◌∷◌, ◌++◌, drop, find, Option, Some, None, slice_get, refl, sym, ap, ◌∙◌, arith}
+use Rattle.std.proofs.Common.{◌≡◌, ℕ, ◌+◌, ◌<◌, ◌≤◌, ◌⊎◌, inl, inr, Bool, true, false, List, [], ◌∷◌, ◌++◌, drop, find, Option, Some, None, slice_get, refl}
+use Rattle.std.proofs.Common.{sym, ap, ◌∙◌, arith}
 use Rattle.std.specs.Prelude.{◌==◌}
 use Rattle.std.specs.Option.{option_map_or}
 use Rattle.std.proofs.lemmas.Bool.{cases_Bool, cond_both, cond-true, cond-false}
@@ -14,7 +15,8 @@ use Rattle.sem_msg.specs.declared.code.Code.TheVariants.{Ok as OkCode, Dead}
 use Rattle.sem_msg.specs.Codes.{code_number}
 use Rattle.sem_msg.specs.declared.event.Act.TheVariants.{Call as Calls, Handle, Resume, Kill}
 use Rattle.sem_msg.specs.declared.message.Message.{Message}
-use Rattle.sem_msg.specs.declared.message.Message.TheVariants.{ObtainReq, ObtainOk, ObtainNo, DelegateReq, DelegatePrepared, DelegateNo, Ack, Orphan, RevokeReq, RevokeDone, Unlink}
+use Rattle.sem_msg.specs.declared.message.Message.TheVariants.{ObtainReq, ObtainOk, ObtainNo, DelegateReq, DelegatePrepared, DelegateNo, Ack, Orphan, RevokeReq}
+use Rattle.sem_msg.specs.declared.message.Message.TheVariants.{RevokeDone, Unlink}
 use Rattle.sem_msg.specs.declared.state.Ask.{Ask}
 use Rattle.sem_msg.specs.declared.state.Ask.TheVariants.{Obtain as ObtainAsk, Delegate as DelegateAsk}
 use Rattle.sem_msg.specs.declared.state.Parked.{Parked}
@@ -23,7 +25,8 @@ use Rattle.sem_msg.specs.declared.state.Pending.{Pending}
 use Rattle.sem_msg.specs.Rows.{VpeRow, no_vpe}
 use Rattle.sem_msg.specs.Setup.{Setup}
 use Rattle.sem_msg.specs.Lookups.{kernel_of, owner_of, place_owner, pe_of}
-use Rattle.sem_machine.specs.Sides.{Side, row, cap, parked, pending, is_alive, call_counted, drawn, promised, parked_as, unparked, asked, ask_taken, installed, linked, send, with_inbox, pending_added, pending_removed}
+use Rattle.sem_machine.specs.Sides.{Side, row, cap, parked, pending, is_alive, call_counted, drawn, promised, parked_as, unparked, asked, ask_taken, installed}
+use Rattle.sem_machine.specs.Sides.{linked, send, with_inbox, pending_added, pending_removed}
 use Rattle.sem_machine.specs.Steps.{Step, plain}
 use Rattle.sem_machine.specs.Asks.{target_vpe}
 use Rattle.sem_machine.specs.Calls.{next_key, next_place, call_row}
@@ -36,7 +39,8 @@ use Rattle.sem_safety.specs.Onward.{IsOnward}
 use Rattle.sem_safety.proofs.Onwards.{onward-same, onward, drawn-below}
 use Rattle.sem_safety.proofs.Skeleton.{call_row-by, decided-by, handled-by}
 use Rattle.sem_revoke.specs.Delegations.{of_key, of_message, of_parked, of_inbox, of_side}
-use Rattle.sem_revoke.proofs.Delegations.{Few, side-parked, side-unparked, side-send, side-inbox, few-send, few-park, few-ready, few-refused, few-ask_refused, few-ended, few-revoked, few-cleared, few-requested, few-done}
+use Rattle.sem_revoke.proofs.Delegations.{Few, side-parked, side-unparked, side-send, side-inbox, few-send, few-park, few-ready, few-refused, few-ask_refused}
+use Rattle.sem_revoke.proofs.Delegations.{few-ended, few-revoked, few-cleared, few-requested, few-done}
 
 -- what a message turns into when it is handled, and what ends with it
 abbrev pub of_returned : KeyName → Message → ℕ
@@ -65,11 +69,13 @@ message-parts k0 (RevokeDone job) = refl
 message-parts k0 (Unlink parent key) = refl
 
 -- what is added is found
-added-found : (k0 : KeyName) (p : Pending) (xs : List Pending) → key_eq p.key k0 ≡ true → (q : Pending) × (find (λ (y : Pending). key_eq y.key k0) (xs ++ p ∷ []) ≡ Some q)
+added-found : (k0 : KeyName) (p : Pending) (xs : List Pending) → key_eq p.key k0 ≡ true →
+    (q : Pending) × (find (λ (y : Pending). key_eq y.key k0) (xs ++ p ∷ []) ≡ Some q)
 added-found k0 p [] same = (p, cond-true (key_eq p.key k0) (Some p) None same)
 added-found k0 p (y ∷ ys) same = elim (cases_Bool (key_eq y.key k0)) [
   | inl first ↦ (y, cond-true (key_eq y.key k0) (Some y) (find (λ (y : Pending). key_eq y.key k0) (ys ++ p ∷ [])) first)
-  | inr other ↦ let rest = added-found k0 p ys same in (rest.0, cond-false (key_eq y.key k0) (Some y) (find (λ (y : Pending). key_eq y.key k0) (ys ++ p ∷ [])) other ∙ rest.1)
+  | inr other ↦ let rest = added-found k0 p ys same in
+      (rest.0, cond-false (key_eq y.key k0) (Some y) (find (λ (y : Pending). key_eq y.key k0) (ys ++ p ∷ [])) other ∙ rest.1)
 ]
 
 -- the VPE draws the number of the key, and the delegation is pending
@@ -96,11 +102,13 @@ module _ (k0 : KeyName) where
           let w : ℕ = target_vpe target in
           let waiting : Side = parked_as u (ObtainWait place.number dst) (promised u dst (drawn u s)) in
           let waits' : F waiting = few-park k0 m (promised u dst (drawn u s)) u (Some (ObtainWait place.number dst)) refl is in
-          cond_both (kernel_of T w == i) (asked w (ObtainAsk place target) waiting) (send (kernel_of T w) (ObtainReq place target) waiting) F (λ _. waits') (λ _. few-send k0 m (kernel_of T w) (ObtainReq place target) waiting refl waits');
+          cond_both (kernel_of T w == i) (asked w (ObtainAsk place target) waiting) (send (kernel_of T w) (ObtainReq place target) waiting) F (λ _. waits')
+          (λ _. few-send k0 m (kernel_of T w) (ObtainReq place target) waiting refl waits');
       offer = λ src w dst p held.
           let waiting : Side = parked_as u (DelegateWait p.key) s in
           let waits' : F waiting = few-park k0 m s u (Some (DelegateWait p.key)) refl is in
-          cond_both (kernel_of T w == i) (asked w (DelegateAsk p.key p.object dst) waiting) (send (kernel_of T w) (DelegateReq p.key p.object w dst) waiting) F (λ _. waits') (λ _. few-send k0 m (kernel_of T w) (DelegateReq p.key p.object w dst) waiting refl waits');
+          cond_both (kernel_of T w == i) (asked w (DelegateAsk p.key p.object dst) waiting) (send (kernel_of T w) (DelegateReq p.key p.object w dst) waiting) F
+          (λ _. waits') (λ _. few-send k0 m (kernel_of T w) (DelegateReq p.key p.object w dst) waiting refl waits');
       revoke = λ src c held. few-revoked k0 m T i u c.key c.mark s is;
       clear = λ src c held unmarked. few-cleared k0 m T i u c.key s is;
       bound = λ ep src c held. is;
@@ -129,15 +137,19 @@ module _ (k0 : KeyName) where
     few-obtained parent key object (Some (Ready code)) s is = is
 
     few-acknowledged : (T : Setup) (key : KeyName) (accepted : Bool) (s : Side) (p : Pending) → F s → F (acknowledged T key accepted s p)
-    few-acknowledged T key true s p is = cond_both (is_alive s key.vpe) (installed key (Some p.parent) p.sel p.object (pending_removed key s)) (send (owner_of T p.parent) (Orphan p.parent key) (pending_removed key s)) F (λ _. is) (λ _. few-send k0 m (owner_of T p.parent) (Orphan p.parent key) (pending_removed key s) refl is)
+    few-acknowledged T key true s p is = cond_both (is_alive s key.vpe) (installed key (Some p.parent) p.sel p.object (pending_removed key s))
+        (send (owner_of T p.parent) (Orphan p.parent key) (pending_removed key s)) F (λ _. is)
+        (λ _. few-send k0 m (owner_of T p.parent) (Orphan p.parent key) (pending_removed key s) refl is)
     few-acknowledged T key false s p is = is
 
     -- Parked calls, from the side without the call.
-    few-granted : (T : Setup) (parent key : KeyName) (mark : Option ℕ) (s : Side) → of_side k0 s + of_key k0 key ≤ m → F (delegate_granted T parent key mark s).side
+    few-granted : (T : Setup) (parent key : KeyName) (mark : Option ℕ) (s : Side) → of_side k0 s + of_key k0 key ≤ m →
+        F (delegate_granted T parent key mark s).side
     few-granted T parent key None s is = let sum = side-send k0 (linked parent key s) (owner_of T key) (Ack key true) in omega (arith, sum, is)
     few-granted T parent key (Some j) s is = let sum = side-send k0 s (owner_of T key) (Ack key false) in omega (arith, sum, is)
 
-    few-delegated : (T : Setup) (parent key : KeyName) (o : Option Capability) (s : Side) → of_side k0 s + of_key k0 key ≤ m → F (delegate_resumed T parent key o s).side
+    few-delegated : (T : Setup) (parent key : KeyName) (o : Option Capability) (s : Side) → of_side k0 s + of_key k0 key ≤ m →
+        F (delegate_resumed T parent key o s).side
     few-delegated T parent key None s is = let sum = side-send k0 s (owner_of T key) (Ack key false) in omega (arith, sum, is)
     few-delegated T parent key (Some c) s is = few-granted T parent key c.mark s is
 
@@ -170,8 +182,11 @@ module _ (k0 : KeyName) where
         let promising : Side = promised v sel (drawn v u) in
         let preparing : Side = pending_added p promising in
         let O = (onward (drawn v u)).kept in
-        let after : IsOnward (drawn v u) x.side = O.keeps_send preparing (O.keeps_pending_added promising (O.keeps_slot (drawn v u) (onward-same (drawn v u)) v sel _ tt) p tt) (owner_of T parent) (DelegatePrepared parent k) tt in
-        let same : (row u v).next_number ≡ (row s v).next_number = ap (λ (r : VpeRow). r.next_number) (get_or-put_same no_vpe s.vpes v (record (row s v) { asks = drop 1 (row s v).asks })) in
+        let after : IsOnward (drawn v u) x.side =
+        O.keeps_send preparing (O.keeps_pending_added promising (O.keeps_slot (drawn v u) (onward-same (drawn v u)) v sel _ tt) p tt) (owner_of T parent)
+        (DelegatePrepared parent k) tt in
+        let same : (row u v).next_number ≡ (row s v).next_number =
+        ap (λ (r : VpeRow). r.next_number) (get_or-put_same no_vpe s.vpes v (record (row s v) { asks = drop 1 (row s v).asks })) in
         let low = drawn-below v u x.side after in
         let sum : of_side k0 x.side ≡ n + of_key k0 k = side-send k0 preparing (owner_of T parent) (DelegatePrepared parent k) in
         elim (cases_Bool (key_eq k k0)) [
@@ -198,7 +213,10 @@ module _ (k0 : KeyName) where
           given = λ place target p of.
               let k : KeyName = keyed place (given_kind target p) in
               let linking : Side = linked p.key k u in
-              inl (cond_both (kernel_of T place.vpe == i) (given_here k p.key (given target place.vpe p) (parked linking place.vpe) linking) (send (place_owner T place) (ObtainOk p.key k (given target place.vpe p)) linking) (Few k0 n) (λ _. few-given n k p.key (given target place.vpe p) (parked linking place.vpe) linking is) (λ _. few-send k0 n (place_owner T place) (ObtainOk p.key k (given target place.vpe p)) linking refl is));
+              inl (cond_both (kernel_of T place.vpe == i) (given_here k p.key (given target place.vpe p) (parked linking place.vpe) linking)
+              (send (place_owner T place) (ObtainOk p.key k (given target place.vpe p)) linking) (Few k0 n)
+              (λ _. few-given n k p.key (given target place.vpe p) (parked linking place.vpe) linking is)
+              (λ _. few-send k0 n (place_owner T place) (ObtainOk p.key k (given target place.vpe p)) linking refl is));
           here = λ parent object sel of.
               let k : KeyName = next_key T u v parent.kind in
               inl (few-ready k0 n (code_number OkCode) parent.vpe (installed k (Some parent) sel object (linked parent k (drawn v u))) is);
@@ -245,7 +263,8 @@ module _ (k0 : KeyName) where
   call-few T i s v input =
       let n : ℕ = of_side k0 s in
       let is : Few k0 n s = omega arith in
-      option-keeps (λ (x : Step). Few k0 n x.side) (call_row T i (call_counted v s) v) (next_call T s v) (plain s) (λ c there. few-call n T i v c (call_counted v s) is) is
+      option-keeps (λ (x : Step). Few k0 n x.side) (call_row T i (call_counted v s) v) (next_call T s v) (plain s)
+      (λ c there. few-call n T i v c (call_counted v s) is) is
 
   pub resume-few : (T : Setup) (i : ℕ) (s : Side) (v : ℕ) (input : Option Message) → of_side k0 (local_step T i s (Resume v) input).side ≤ of_side k0 s
   unfolding local_step resume_row
@@ -255,11 +274,13 @@ module _ (k0 : KeyName) where
   unfolding local_step
   kill-few T i s v input = few-ended k0 (of_side k0 s) T i v s (omega arith)
 
-  pub handle-few : (T : Setup) (i : ℕ) (s : Side) (input : Option Message) → of_side k0 (local_step T i s Handle input).side + of_settled k0 s.inbox ≤ of_side k0 s
+  pub handle-few : (T : Setup) (i : ℕ) (s : Side) (input : Option Message) →
+      of_side k0 (local_step T i s Handle input).side + of_settled k0 s.inbox ≤ of_side k0 s
   unfolding local_step
   handle-few T i s input = from s.inbox refl
     where
-      from : (o : Option (ℕ × Message)) → s.inbox ≡ o → of_side k0 (option_map_or (λ m. handled T i (with_inbox None s) m.0 m.1) o s) + of_settled k0 o ≤ of_side k0 s
+      from : (o : Option (ℕ × Message)) → s.inbox ≡ o →
+          of_side k0 (option_map_or (λ m. handled T i (with_inbox None s) m.0 m.1) o s) + of_settled k0 o ≤ of_side k0 s
       from None none = omega arith
       from (Some m) some =
           let few = handled-few T i (with_inbox None s) m.0 m.1 in

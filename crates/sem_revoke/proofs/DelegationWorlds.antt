@@ -1,5 +1,6 @@
 -- A delegation has one token at most, and is pending while it has one, along every schedule of every setup.
-use Rattle.std.proofs.Common.{◌≡◌, ◌⊎◌, ℕ, suc, ◌+◌, ◌<◌, ◌≤◌, Bool, true, List, [], ◌∷◌, ◌++◌, drop, get_or, map, replicate, Option, Some, None, slice_get, append-nil, append_assoc, refl, sym, ap, ◌∙◌, subst, inl, inr, arith}
+use Rattle.std.proofs.Common.{◌≡◌, ◌⊎◌, ℕ, suc, ◌+◌, ◌<◌, ◌≤◌, Bool, true, List, [], ◌∷◌, ◌++◌, drop, get_or, map, replicate, Option, Some, None, slice_get}
+use Rattle.std.proofs.Common.{append-nil, append_assoc, refl, sym, ap, ◌∙◌, subst, inl, inr, arith}
 use Rattle.std.specs.Prelude.{◌==◌}
 use Rattle.std.specs.List.{Contains, filter, range_with_len, sum_by}
 use Rattle.std.specs.Option.{option_map, option_map_or}
@@ -18,7 +19,8 @@ use Rattle.sem_msg.specs.declared.state.Pending.{Pending}
 use Rattle.sem_msg.specs.Setup.{Setup, IsSetup}
 use Rattle.sem_msg.specs.Lookups.{kernel_of, owner_of, pe_of, pe_owner}
 use Rattle.sem_machine.specs.Sides.{Side, no_side, row, outbox, parked, pending, sent, with_inbox}
-use Rattle.sem_machine.specs.Machine.{World, side, link, with_side, with_link, start, start_side, empty_side, root_added, vpe_added, vpe_fresh, local_step, after, event, is_enabled}
+use Rattle.sem_machine.specs.Machine.{World, side, link, with_side, with_link, start, start_side, empty_side, root_added, vpe_added, vpe_fresh, local_step}
+use Rattle.sem_machine.specs.Machine.{after, event, is_enabled}
 use Rattle.sem_machine.specs.Schedules.{IsSchedule, world_after}
 use Rattle.sem_machine.proofs.Folds.{in_turn-keeps}
 use Rattle.sem_machine.proofs.Weighing.{of_option, weigh-put, weigh-drop, weigh-replicate, weigh-none}
@@ -67,9 +69,11 @@ module _ (k0 : KeyName) where
       omega (arith, new, moved, front, inbox, same)
 
   -- a message moves from an outbox into the link
-  link-more : (V : World) (i j : ℕ) (o : Option Message) → of_world k0 (option_map_or (λ m. with_link i j (link V i j ++ m ∷ []) V) o V) ≡ of_world k0 V + of_option (of_message k0) o
+  link-more : (V : World) (i j : ℕ) (o : Option Message) → of_world k0 (option_map_or (λ m. with_link i j (link V i j ++ m ∷ []) V) o V)
+      ≡ of_world k0 V + of_option (of_message k0) o
   link-more V i j None = omega arith
-  link-more V i j (Some m) = let more = world-link V i j (link V i j ++ m ∷ []) in let push = sum_by_push (of_message k0) (link V i j) m in omega (arith, more, push)
+  link-more V i j (Some m) = let more = world-link V i j (link V i j ++ m ∷ []) in let push = sum_by_push (of_message k0) (link V i j) m in
+      omega (arith, more, push)
 
   flushed : (T : Setup) (W : World) (i j : ℕ) → of_world k0 (after T W (event i (Flush j))) ≤ of_world k0 W
   unfolding after local_step
@@ -88,7 +92,8 @@ module _ (k0 : KeyName) where
 
   -- the act prepares the delegation
   abbrev IsPreparing : Setup → World → ℕ → Act → Type 0
-  IsPreparing T W i a = (v : ℕ) × (a ≡ Upcall v) × Prepares k0 T v (side W i) (stepped T W (event i a)).side × (of_world k0 (after T W (event i a)) ≤ of_world k0 W + 1)
+  IsPreparing T W i a = (v : ℕ) × (a ≡ Upcall v) × Prepares k0 T v (side W i) (stepped T W (event i a)).side
+      × (of_world k0 (after T W (event i a)) ≤ of_world k0 W + 1)
 
   -- The world after an event.
   event-adds : (T : Setup) (W : World) (i : ℕ) (a : Act) → (of_world k0 (after T W (event i a)) + settled_in (side W i) a ≤ of_world k0 W) ⊎ IsPreparing T W i a
@@ -126,14 +131,19 @@ module _ (k0 : KeyName) where
       let calls = weigh-replicate (of_parked k0) 128 None refl in
       let outs = weigh-replicate (of_messages k0) T.kernels [] refl in
       let empty : Few k0 0 (empty_side T) = omega (arith, calls, outs) in
-      let all = in_turn-keeps (Few k0 0) vpe_added (λ d t few. in_turn-keeps (Few k0 0) (root_added d) (λ r u one. one) d.roots (vpe_fresh d t) few) (filter (λ d. pe_owner T d.pe == i) T.vpes) (empty_side T) empty in
+      let all = in_turn-keeps (Few k0 0) vpe_added (λ d t few. in_turn-keeps (Few k0 0) (root_added d) (λ r u one. one) d.roots (vpe_fresh d t) few)
+      (filter (λ d. pe_owner T d.pe == i) T.vpes) (empty_side T) empty in
       omega (arith, all)
 
   world-none : (T : Setup) → of_world k0 (start T) ≡ 0
   unfolding start
   world-none T =
-      let sides : sum_by (of_side k0) (map (start_side T) (range_with_len 0 T.kernels)) ≡ 0 = weigh-none (of_side k0) (map (start_side T) (range_with_len 0 T.kernels)) (λ s among. from s (Contains-from_map (start_side T) (range_with_len 0 T.kernels) s among)) in
-      let links : of_links k0 (replicate T.kernels (replicate T.kernels [])) ≡ 0 = weigh-replicate (λ (ls : List (List Message)). sum_by (of_messages k0) ls) T.kernels (replicate T.kernels []) (weigh-replicate (of_messages k0) T.kernels [] refl) in
+      let sides : sum_by (of_side k0) (map (start_side T) (range_with_len 0 T.kernels)) ≡ 0 =
+      weigh-none (of_side k0) (map (start_side T) (range_with_len 0 T.kernels))
+      (λ s among. from s (Contains-from_map (start_side T) (range_with_len 0 T.kernels) s among)) in
+      let links : of_links k0 (replicate T.kernels (replicate T.kernels [])) ≡ 0 =
+      weigh-replicate (λ (ls : List (List Message)). sum_by (of_messages k0) ls) T.kernels (replicate T.kernels [])
+      (weigh-replicate (of_messages k0) T.kernels [] refl) in
       omega (arith, sides, links)
     where
       from : (s : Side) → (i : ℕ) × Contains (range_with_len 0 T.kernels) i × (start_side T i ≡ s) → of_side k0 s ≡ 0
@@ -156,7 +166,8 @@ module _ (k0 : KeyName) where
   idle-is : (a : Act) (u : ℕ) → a ≡ Calls u → u ≡ idle a → ⊥
   idle-is a u act same = let is : idle a ≡ suc u = ap idle act in omega (arith, same, is)
 
-  module _ (T : Setup) (valid : IsSetup T) (J : List Entry) (runs : IsSchedule T J) (before : List Entry) (e : Entry) (later : List Entry) (parts : J ≡ before ++ e ∷ later) (I : IsOne T (world_after T before)) where
+  module _ (T : Setup) (valid : IsSetup T) (J : List Entry) (runs : IsSchedule T J) (before : List Entry) (e : Entry) (later : List Entry) (parts : J ≡ before
+      ++ e ∷ later) (I : IsOne T (world_after T before)) where
     abbrev W : World
     W = world_after T before
 
@@ -185,10 +196,12 @@ module _ (k0 : KeyName) where
     at-i j same = ap (λ X. side X j) (sym world-is) ∙ side-here T valid J runs before e later parts (all-caused T valid J runs before (e ∷ later) parts) j same
 
     not-at : (j : ℕ) → (j ≡ i → ⊥) → side V j ≡ side W j
-    not-at j away = ap (λ X. side X j) (sym world-is) ∙ side-other T valid J runs before e later parts (all-caused T valid J runs before (e ∷ later) parts) j away
+    not-at j away = ap (λ X. side X j) (sym world-is)
+        ∙ side-other T valid J runs before e later parts (all-caused T valid J runs before (e ∷ later) parts) j away
 
     -- it goes on to be pending, unless the Ack is handled
-    pends-on : (p : Pending) → (of_world k0 V + settled_in s e.event.act ≤ of_world k0 W) → 1 ≤ of_world k0 V → pending (side W home) k0 ≡ Some p → pending (side V home) k0 ≡ Some p
+    pends-on : (p : Pending) → (of_world k0 V + settled_in s e.event.act ≤ of_world k0 W) → 1 ≤ of_world k0 V → pending (side W home) k0 ≡ Some p →
+        pending (side V home) k0 ≡ Some p
     pends-on p fewer some was = elim (cases_eq home i) [
       | inr away ↦ ap (λ (x : Side). pending x k0) (not-at home away) ∙ was
       | inl here ↦
@@ -226,9 +239,11 @@ module _ (k0 : KeyName) where
     next-prepared (v, act, is, more) =
         let here : kernel_of T v ≡ i = subst (MayDraw (λ w. kernel_of T w ≡ i)) act (may_draw T W e.event enabled) in
         let same : kernel_of T k0.vpe ≡ i = ap (kernel_of T) is.vpe ∙ here in
-        let at : (row (side W (kernel_of T k0.vpe)) k0.vpe).next_number ≡ k0.number = ap (λ j. (row (side W j) k0.vpe).next_number) same ∙ (ap (λ w. (row s w).next_number) is.vpe ∙ is.number) in
+        let at : (row (side W (kernel_of T k0.vpe)) k0.vpe).next_number ≡ k0.number = ap (λ j. (row (side W j) k0.vpe).next_number) same
+        ∙ (ap (λ w. (row s w).next_number) is.vpe ∙ is.number) in
         let none = I.undrawn (omega (arith, at)) in
-        let next : (row (side V (kernel_of T k0.vpe)) k0.vpe).next_number ≡ (row t v).next_number = ap (λ (x : Side). (row x k0.vpe).next_number) (at-i (kernel_of T k0.vpe) same) ∙ ap (λ w. (row t w).next_number) is.vpe in
+        let next : (row (side V (kernel_of T k0.vpe)) k0.vpe).next_number ≡ (row t v).next_number =
+        ap (λ (x : Side). (row x k0.vpe).next_number) (at-i (kernel_of T k0.vpe) same) ∙ ap (λ w. (row t w).next_number) is.vpe in
         let low = is.below in
         let number = is.number in
         let few = enabled-low T W e.event enabled in
@@ -249,10 +264,12 @@ module _ (k0 : KeyName) where
     where
       from : (before later : List Entry) → J ≡ before ++ later → IsOne T (world_after T before) → IsOne T (world_after T J)
       from before [] parts is = subst (λ K. IsOne T (world_after T K)) (sym (parts ∙ append-nil before)) is
-      from before (e ∷ later) parts is = from (before ++ e ∷ []) later (parts ∙ sym (append_assoc before (e ∷ []) later)) (next-one T valid J runs before e later parts is)
+      from before (e ∷ later) parts is = from (before ++ e ∷ []) later (parts
+          ∙ sym (append_assoc before (e ∷ []) later)) (next-one T valid J runs before e later parts is)
 
 pub one-each : (T : Setup) → IsSetup T → (J : List Entry) → IsSchedule T J → (k : KeyName) → of_world k (world_after T J) ≤ 1
 one-each T valid J runs k = (schedule-one k T valid J runs).one
 
-pub each-pends : (T : Setup) → IsSetup T → (J : List Entry) → IsSchedule T J → (k : KeyName) → 1 ≤ of_world k (world_after T J) → (p : Pending) × (pending (side (world_after T J) (owner_of T k)) k ≡ Some p)
+pub each-pends : (T : Setup) → IsSetup T → (J : List Entry) → IsSchedule T J → (k : KeyName) → 1 ≤ of_world k (world_after T J) →
+    (p : Pending) × (pending (side (world_after T J) (owner_of T k)) k ≡ Some p)
 each-pends T valid J runs k some = (schedule-one k T valid J runs).pends some

@@ -1,6 +1,7 @@
 -- What is marked is doomed, but for a root that is kept; what a kernel asks another to revoke is doomed.
 use Rattle.sem_safety.proofs.GoingOn.{entry-enabled}
-use Rattle.std.proofs.Common.{◌≡◌, ◌⊎◌, ℕ, ◌≤◌, zero, suc, ◌<◌, true, List, [], ◌&&◌, Some, append-nil, refl, sym, ap, ◌∙◌, subst, inl, inr, arith, eq-eqb, ◌++◌, ◌∷◌}
+use Rattle.std.proofs.Common.{◌≡◌, ◌⊎◌, ℕ, ◌≤◌, zero, suc, ◌<◌, true, List, [], ◌&&◌, Some, append-nil, refl, sym, ap, ◌∙◌, subst, inl, inr, arith, eq-eqb}
+use Rattle.std.proofs.Common.{◌++◌, ◌∷◌}
 use Rattle.std.specs.Prelude.{◌==◌}
 use Rattle.std.proofs.lemmas.Bool.{cases_Bool, and_from}
 use Rattle.sem_key.specs.KeyName.{KeyName, key_eq}
@@ -70,13 +71,15 @@ module _ (T : Setup) (valid : IsSetup T) (J : List Entry) (runs : IsSchedule T J
       let x = (holds T valid before begun).marks p n marked in
       elim x.2 [
         | inl root ↦ (caused (owner_of T p) n x.0 x.1).1 k (subst (λ q. Par (grants before) q k) (sym root) granted)
-        | inr (q, above, at, marked') ↦ lower-all T valid J runs p k (grants-on T valid J runs before later parts p k granted) (below-mark m q p n (let less = older q p above in omega (arith, few, less)) marked' above)
+        | inr (q, above, at, marked') ↦ lower-all T valid J runs p k (grants-on T valid J runs before later parts p k granted)
+            (below-mark m q p n (let less = older q p above in omega (arith, few, less)) marked' above)
       ]
 
   under-doomed : (k : KeyName) (a b : ℕ) → IsUnder k a b → IsDoomed J k
   under-doomed k a b (p, granted, at, marked) = below-mark (rank p) p k b (omega arith) marked granted
 
-  pub marked-doomed : (i n : ℕ) (k : KeyName) (c : Capability) → HoldsCap W i k c → c.mark ≡ Some n → IsDoomed J k ⊎ ((x : JobRow) × (job (side W i) n ≡ Some x) × (x.root ≡ k) × (x.keep ≡ true))
+  pub marked-doomed : (i n : ℕ) (k : KeyName) (c : Capability) → HoldsCap W i k c → c.mark ≡ Some n →
+      IsDoomed J k ⊎ ((x : JobRow) × (job (side W i) n ≡ Some x) × (x.root ≡ k) × (x.keep ≡ true))
   marked-doomed i n k c held marked =
       let home : owner_of T k ≡ i = schedule-homes T valid before begun i k c held in
       let x = (holds T valid before begun).marks k n (c, ap (λ a. cap (side W a) k) home ∙ held, marked) in
@@ -91,12 +94,15 @@ module _ (T : Setup) (valid : IsSetup T) (J : List Entry) (runs : IsSchedule T J
   pub asked-doomed : (k : KeyName) (j : ℕ) → InFlight W (RevokeReq k j) → IsDoomed J k
   asked-doomed k j (a, b, among) =
       let weighs = way-weighs T valid before begun (asking k a j) a b (RevokeReq k j) among in
-      let one = one-true ((key_eq k k) && ((a == a) && (j == j))) (and_from (key_eq k k) ((a == a) && (j == j)) (key_eq-same k) (and_from (a == a) (j == j) (eq-eqb a a refl) (eq-eqb j j refl))) in
+      let one = one-true ((key_eq k k) && ((a == a) && (j == j)))
+      (and_from (key_eq k k) ((a == a) && (j == j)) (key_eq-same k) (and_from (a == a) (j == j) (eq-eqb a a refl) (eq-eqb j j refl))) in
       under-doomed k a j ((holds T valid before begun).asking k a j (omega (arith, weighs, one)))
 
-pub mark-doomed : (T : Setup) → IsSetup T → (J : List Entry) → IsSchedule T J → (i n : ℕ) (k : KeyName) (c : Capability) → HoldsCap (world_after T J) i k c → c.mark ≡ Some n
+pub mark-doomed : (T : Setup) → IsSetup T → (J : List Entry) → IsSchedule T J → (i n : ℕ) (k : KeyName) (c : Capability) → HoldsCap (world_after T J) i k c →
+    c.mark ≡ Some n
     → IsDoomed J k ⊎ ((x : JobRow) × (job (side (world_after T J) i) n ≡ Some x) × (x.root ≡ k) × (x.keep ≡ true))
 mark-doomed T valid J runs = marked-doomed T valid J runs J [] (sym (append-nil J))
 
-pub request-doomed : (T : Setup) → IsSetup T → (J : List Entry) → IsSchedule T J → (k : KeyName) (j : ℕ) → InFlight (world_after T J) (RevokeReq k j) → IsDoomed J k
+pub request-doomed : (T : Setup) → IsSetup T → (J : List Entry) → IsSchedule T J → (k : KeyName) (j : ℕ) → InFlight (world_after T J) (RevokeReq k j) →
+    IsDoomed J k
 request-doomed T valid J runs = asked-doomed T valid J runs J [] (sym (append-nil J))

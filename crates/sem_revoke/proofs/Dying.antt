@@ -8,7 +8,8 @@ use Rattle.sem_msg.specs.Lookups.{pe_owner}
 use Rattle.sem_msg.specs.VpeRows.{new_vpe, root_held}
 use Rattle.sem_msg.specs.declared.setup.Root.{Root}
 use Rattle.sem_msg.specs.declared.setup.VpeDecl.{VpeDecl}
-use Rattle.std.proofs.Common.{◌≡◌, ◌⊎◌, ℕ, ◌+◌, ◌++◌, true, false, List, [], ◌∷◌, Option, Some, None, get_or, append-nil, append_assoc, refl, sym, ap, ◌∙◌, subst, inl, inr, arith, eq-eqb, ◌<◌}
+use Rattle.std.proofs.Common.{◌≡◌, ◌⊎◌, ℕ, ◌+◌, ◌++◌, true, false, List, [], ◌∷◌, Option, Some, None, get_or, append-nil, append_assoc, refl, sym, ap, ◌∙◌}
+use Rattle.std.proofs.Common.{subst, inl, inr, arith, eq-eqb, ◌<◌}
 use Rattle.std.specs.Prelude.{◌==◌}
 use Rattle.std.specs.List.{Contains, filter}
 use Rattle.std.proofs.lemmas.Bool.{cases_eq, true≢false}
@@ -19,12 +20,14 @@ use Rattle.sem_key.specs.Lists.{put, in_turn}
 use Rattle.sem_key.proofs.Puts.{get_or-put_same, get_or-put_other}
 use Rattle.sem_key.proofs.Members.{Contains-head, list_any-at, Contains-nil, Contains-cons_cases, Contains-filter}
 use Rattle.sem_msg.specs.declared.call.Call.{Call}
-use Rattle.sem_msg.specs.declared.call.Call.TheVariants.{Derive, Gate, Obtain, Delegate, OpenSession, AskOffer, Revoke, Bind, Read, Write, Send as SendCall, Credit, Exit, Clear}
+use Rattle.sem_msg.specs.declared.call.Call.TheVariants.{Derive, Gate, Obtain, Delegate, OpenSession, AskOffer, Revoke, Bind, Read, Write, Send as SendCall}
+use Rattle.sem_msg.specs.declared.call.Call.TheVariants.{Credit, Exit, Clear}
 use Rattle.sem_msg.specs.declared.entry.Entry.{Entry}
 use Rattle.sem_msg.specs.declared.event.Act.{Act}
 use Rattle.sem_msg.specs.declared.event.Act.TheVariants.{Call as Calls, Fetch, Handle, Upcall, Resume, Flush, Kill}
 use Rattle.sem_msg.specs.declared.message.Message.{Message}
-use Rattle.sem_msg.specs.declared.message.Message.TheVariants.{ObtainReq, ObtainOk, ObtainNo, DelegateReq, DelegatePrepared, DelegateNo, Ack, Orphan, RevokeReq, RevokeDone, Unlink}
+use Rattle.sem_msg.specs.declared.message.Message.TheVariants.{ObtainReq, ObtainOk, ObtainNo, DelegateReq, DelegatePrepared, DelegateNo, Ack, Orphan, RevokeReq}
+use Rattle.sem_msg.specs.declared.message.Message.TheVariants.{RevokeDone, Unlink}
 use Rattle.sem_msg.specs.declared.state.Ask.{Ask}
 use Rattle.sem_msg.specs.declared.state.Ask.TheVariants.{Obtain as ObtainAsk, Delegate as DelegateAsk}
 use Rattle.sem_msg.specs.declared.state.Parked.{Parked}
@@ -71,14 +74,19 @@ module _ (v : ℕ) (Ended : Type 0) where
   row-lives : (t : Side) → Lives t → (w : ℕ) (r : VpeRow) → r.alive ≡ (row t w).alive → Lives (record t { vpes = put no_vpe t.vpes w r })
   row-lives t (inr is) w r same = inr is
   row-lives t (inl is) w r same = elim (cases_eq v w) [
-    | inl here ↦ inl (ap (λ n. (get_or (put no_vpe t.vpes w r) n no_vpe).alive) here ∙ (ap (λ (x : VpeRow). x.alive) (get_or-put_same no_vpe t.vpes w r) ∙ (same ∙ (ap (λ n. (row t n).alive) (sym here) ∙ is))))
+    | inl here ↦ inl (ap (λ n. (get_or (put no_vpe t.vpes w r) n no_vpe).alive) here
+        ∙ (ap (λ (x : VpeRow). x.alive) (get_or-put_same no_vpe t.vpes w r) ∙ (same ∙ (ap (λ n. (row t n).alive) (sym here) ∙ is))))
     | inr other ↦ inl (ap (λ (x : VpeRow). x.alive) (get_or-put_other no_vpe t.vpes w v r other) ∙ is)
   ]
 
-  buried-lives : (t : Side) → Lives t → (w : ℕ) → (w ≡ v → Ended) → Lives (record t { vpes = put no_vpe t.vpes w (record (row t w) { alive = false; asks = [] }) })
+  buried-lives : (t : Side) → Lives t → (w : ℕ) → (w ≡ v → Ended) →
+      Lives (record t { vpes = put no_vpe t.vpes w (record (row t w) { alive = false; asks = [] }) })
   buried-lives t is w ends' = elim (cases_eq v w) [
     | inl here ↦ inr (ends' (sym here))
-    | inr other ↦ elim is [ inl lives ↦ inl (ap (λ (x : VpeRow). x.alive) (get_or-put_other no_vpe t.vpes w v (record (row t w) { alive = false; asks = [] }) other) ∙ lives) | inr over ↦ inr over ]
+    | inr other ↦ elim is [
+      | inl lives ↦ inl (ap (λ (x : VpeRow). x.alive) (get_or-put_other no_vpe t.vpes w v (record (row t w) { alive = false; asks = [] }) other) ∙ lives)
+      | inr over ↦ inr over
+    ]
   ]
 
   living : IsKept E Lives
@@ -226,7 +234,15 @@ module _ (v : ℕ) (Ended : Type 0) where
 -- At the start each declared VPE lives.
 
 root-lives : (v : ℕ) (d : VpeDecl) (r : Root) (t : Side) → Lives v ⊥ t → Lives v ⊥ (root_added d r t)
-root-lives v d r t is = row-lives v ⊥ (cap_added (record { key = root_key d (row t d.vpe).next_number r; parent = None; children = []; mark = None; selector = r.sel; object = r.object }) t) is d.vpe (root_held d r (row t d.vpe)) refl
+root-lives v d r t is =
+    row-lives v ⊥ (cap_added (record {
+      key = root_key d (row t d.vpe).next_number r;
+      parent = None;
+      children = [];
+      mark = None;
+      selector = r.sel;
+      object = r.object;
+    }) t) is d.vpe (root_held d r (row t d.vpe)) refl
 
 added-lives : (v : ℕ) (d : VpeDecl) (s : Side) → (d.vpe ≡ v → ⊥) → Lives v ⊥ s → Lives v ⊥ (vpe_added d s)
 added-lives v d s other is = in_turn-keeps (Lives v ⊥) (root_added d) (λ r t here. root-lives v d r t here) d.roots (vpe_fresh d s) (elim is [
@@ -235,16 +251,21 @@ added-lives v d s other is = in_turn-keeps (Lives v ⊥) (root_added d) (λ r t 
 ])
 
 new-lives : (d : VpeDecl) (s : Side) → Lives d.vpe ⊥ (vpe_added d s)
-new-lives d s = in_turn-keeps (Lives d.vpe ⊥) (root_added d) (λ r t here. root-lives d.vpe d r t here) d.roots (vpe_fresh d s) (inl (ap (λ (x : VpeRow). x.alive) (get_or-put_same no_vpe s.vpes d.vpe new_vpe)))
+new-lives d s = in_turn-keeps (Lives d.vpe ⊥) (root_added d) (λ r t here. root-lives d.vpe d r t here) d.roots (vpe_fresh d s)
+    (inl (ap (λ (x : VpeRow). x.alive) (get_or-put_same no_vpe s.vpes d.vpe new_vpe)))
 
 again-lives : (v : ℕ) (d : VpeDecl) (s : Side) → Lives v ⊥ s → Lives v ⊥ (vpe_added d s)
-again-lives v d s is = elim (cases_eq d.vpe v) [ inl same ↦ subst (λ w. Lives w ⊥ (vpe_added d s)) same (new-lives d s) | inr other ↦ added-lives v d s other is ]
+again-lives v d s is = elim (cases_eq d.vpe v) [
+  | inl same ↦ subst (λ w. Lives w ⊥ (vpe_added d s)) same (new-lives d s)
+  | inr other ↦ added-lives v d s other is
+]
 
 all-live : (ds : List VpeDecl) (d : VpeDecl) (s : Side) → Contains ds d → Lives d.vpe ⊥ (in_turn vpe_added ds s)
 unfolding in_turn
 all-live [] d s among = absurd (Contains-nil d among)
 all-live (x ∷ xs) d s among = elim (Contains-cons_cases x xs d among) [
-  | inl same ↦ in_turn-keeps (Lives d.vpe ⊥) vpe_added (λ y t here. again-lives d.vpe y t here) xs (vpe_added x s) (subst (λ (y : VpeDecl). Lives y.vpe ⊥ (vpe_added x s)) same (new-lives x s))
+  | inl same ↦ in_turn-keeps (Lives d.vpe ⊥) vpe_added (λ y t here. again-lives d.vpe y t here) xs (vpe_added x s)
+      (subst (λ (y : VpeDecl). Lives y.vpe ⊥ (vpe_added x s)) same (new-lives x s))
   | inr later ↦ all-live xs d (vpe_added x s) later
 ]
 
@@ -253,9 +274,12 @@ unfolding start start_side
 started-lives T valid d among =
     let i : ℕ = pe_owner T d.pe in
     let declared : IsVpeDecl T d = All-contains (IsVpeDecl T) T.vpes d valid.vpes among in
-    let few : i < T.kernels = owner-is T.kernels (owner_at T.owners d.pe) declared.owned (λ j there. subst (λ n. j < n) valid.same_kernels (valid.membership.owners_exist d.pe j there)) in
+    let few : i < T.kernels =
+    owner-is T.kernels (owner_at T.owners d.pe) declared.owned
+    (λ j there. subst (λ n. j < n) valid.same_kernels (valid.membership.owners_exist d.pe j there)) in
     let at : side (start T) i ≡ start_side T i = get_or-map-range_with_len (start_side T) 0 T.kernels i i no_side few (omega arith) in
-    subst (Lives d.vpe ⊥) (sym at) (all-live (filter (λ (x : VpeDecl). pe_owner T x.pe == i) T.vpes) d (empty_side T) (Contains-filter (λ (x : VpeDecl). pe_owner T x.pe == i) T.vpes d among (eq-eqb i i refl)))
+    subst (Lives d.vpe ⊥) (sym at) (all-live (filter (λ (x : VpeDecl). pe_owner T x.pe == i) T.vpes) d (empty_side T)
+    (Contains-filter (λ (x : VpeDecl). pe_owner T x.pe == i) T.vpes d among (eq-eqb i i refl)))
 
 -- Along the journal.
 module _ (T : Setup) (valid : IsSetup T) (J : List Entry) (runs : IsSchedule T J) (v j : ℕ) where
@@ -265,7 +289,8 @@ module _ (T : Setup) (valid : IsSetup T) (J : List Entry) (runs : IsSchedule T J
   abbrev Over : Facts
   Over = facts_of (λ k. Unit {0}) (λ w n. Unit {0}) (λ p k. Unit {0}) (λ k. has_ended J k.vpe ≡ true)
 
-  next-lives : (before : List Entry) (e : Entry) (later : List Entry) → J ≡ before ++ e ∷ later → Lives v Ended (side (world_after T before) j) → Lives v Ended (side (world_after T (before ++ e ∷ [])) j)
+  next-lives : (before : List Entry) (e : Entry) (later : List Entry) → J ≡ before ++ e ∷ later → Lives v Ended (side (world_after T before) j) →
+      Lives v Ended (side (world_after T (before ++ e ∷ [])) j)
   next-lives before e later parts is =
       let W : World = world_after T before in
       let i : ℕ = e.event.kernel in
@@ -273,12 +298,15 @@ module _ (T : Setup) (valid : IsSetup T) (J : List Entry) (runs : IsSchedule T J
       let enabled = entry-enabled T before (start T) e later (subst (IsSchedule T) parts runs) in
       elim (cases_eq j i) [
         | inl here ↦ subst (Lives v Ended) (sym (side-here T valid J runs before e later parts caused j here))
-            (step-lives v Ended T i (side W i) e.event.act (input_of W i e.event.act) (who e.event.act (entry-dies Over T W e.event (subst (Ends Over) enabled.2 over))) (subst (λ n. Lives v Ended (side W n)) here is))
+            (step-lives v Ended T i (side W i) e.event.act (input_of W i e.event.act)
+            (who e.event.act (entry-dies Over T W e.event (subst (Ends Over) enabled.2 over))) (subst (λ n. Lives v Ended (side W n)) here is))
         | inr away ↦ subst (Lives v Ended) (sym (side-other T valid J runs before e later parts caused j away)) is
       ]
     where
       over : (w : ℕ) → ends w e.event.act e.detail ≡ true → (k : KeyName) → k.vpe ≡ w → has_ended J k.vpe ≡ true
-      over w ends' k same = ap (has_ended J) same ∙ list_any-at (λ (x : Entry). ends w x.event.act x.detail) J e (subst (λ xs. Contains xs e) (sym parts) (Contains-append_right before (e ∷ later) e (Contains-head e later))) ends'
+      over w ends' k same = ap (has_ended J) same
+          ∙ list_any-at (λ (x : Entry). ends w x.event.act x.detail) J e
+          (subst (λ xs. Contains xs e) (sym parts) (Contains-append_right before (e ∷ later) e (Contains-head e later))) ends'
 
       who : (a : Act) → Dies Over T (side (world_after T before) e.event.kernel) a → ActEnds v Ended T (side (world_after T before) e.event.kernel) a
       who (Calls w) dies' = λ exits same. subst (λ u. has_ended J u ≡ true) same (dies' exits (record { pe = 0; vpe = w; kind = MemKind; number = 0 }) refl)
@@ -293,7 +321,8 @@ module _ (T : Setup) (valid : IsSetup T) (J : List Entry) (runs : IsSchedule T J
   lives-from xs [] parts is = subst (λ K. Lives v Ended (side (world_after T K) j)) (sym (parts ∙ append-nil xs)) is
   lives-from xs (e ∷ later) parts is = lives-from (xs ++ e ∷ []) later (parts ∙ sym (append_assoc xs (e ∷ []) later)) (next-lives xs e later parts is)
 
-pub dead-ended : (T : Setup) → IsSetup T → (J : List Entry) → IsSchedule T J → (d : VpeDecl) → Contains T.vpes d → is_alive (side (world_after T J) (pe_owner T d.pe)) d.vpe ≡ false → has_ended J d.vpe ≡ true
+pub dead-ended : (T : Setup) → IsSetup T → (J : List Entry) → IsSchedule T J → (d : VpeDecl) → Contains T.vpes d →
+    is_alive (side (world_after T J) (pe_owner T d.pe)) d.vpe ≡ false → has_ended J d.vpe ≡ true
 dead-ended T valid J runs d among dead =
     elim (lives-from T valid J runs d.vpe (pe_owner T d.pe) [] J refl (elim (started-lives T valid d among) [ inl lives ↦ inl lives | inr none ↦ absurd none ])) [
       | inl lives ↦ absurd (true≢false (sym lives ∙ dead))

@@ -1,5 +1,6 @@
 -- A VPE that has ended is dead.
-use Rattle.std.proofs.Common.{◌≡◌, ℕ, true, false, List, [], ◌∷◌, ◌++◌, Option, Some, None, get_or, append-nil, append_assoc, refl, sym, ap, ◌∙◌, subst, inl, inr}
+use Rattle.std.proofs.Common.{◌≡◌, ℕ, true, false, List, [], ◌∷◌, ◌++◌, Option, Some, None, get_or, append-nil, append_assoc, refl, sym, ap, ◌∙◌, subst, inl}
+use Rattle.std.proofs.Common.{inr}
 use Rattle.std.specs.Prelude.{◌==◌}
 use Rattle.std.specs.Option.{option_map_or}
 use Rattle.std.proofs.lemmas.Bool.{cases_eq, cond_both, eqb-true}
@@ -8,7 +9,8 @@ use Rattle.sem_key.specs.Lists.{in_turn, put}
 use Rattle.sem_key.proofs.Members.{list_any-at, Contains-nil, Contains-cons_cases, list_any-some}
 use Rattle.sem_key.proofs.Puts.{get_or-put_same, get_or-put_other}
 use Rattle.sem_msg.specs.declared.call.Call.{Call}
-use Rattle.sem_msg.specs.declared.call.Call.TheVariants.{Derive, Gate, Obtain, Delegate, OpenSession, AskOffer, Revoke, Bind, Read, Write, Send as SendCall, Credit, Exit, Clear}
+use Rattle.sem_msg.specs.declared.call.Call.TheVariants.{Derive, Gate, Obtain, Delegate, OpenSession, AskOffer, Revoke, Bind, Read, Write, Send as SendCall}
+use Rattle.sem_msg.specs.declared.call.Call.TheVariants.{Credit, Exit, Clear}
 use Rattle.sem_msg.specs.declared.code.Code.TheVariants.{Dead}
 use Rattle.sem_msg.specs.declared.entry.Detail.TheVariants.{Called, Nothing}
 use Rattle.sem_msg.specs.declared.entry.Entry.{Entry}
@@ -49,7 +51,8 @@ module _ (v : ℕ) where
   slot-dead t u sel dead =
       let r : VpeRow = record (row t u) { slots = put Free (row t u).slots sel Free } in
       elim (cases_eq v u) [
-        | inl here ↦ ap (λ (y : VpeRow). y.alive) (ap (λ q. get_or (put no_vpe t.vpes u r) q no_vpe) here ∙ get_or-put_same no_vpe t.vpes u r) ∙ (ap (λ q. (row t q).alive) (sym here) ∙ dead)
+        | inl here ↦ ap (λ (y : VpeRow). y.alive) (ap (λ q. get_or (put no_vpe t.vpes u r) q no_vpe) here ∙ get_or-put_same no_vpe t.vpes u r)
+            ∙ (ap (λ q. (row t q).alive) (sym here) ∙ dead)
         | inr other ↦ ap (λ (y : VpeRow). y.alive) (get_or-put_other no_vpe t.vpes u v r other) ∙ dead
       ]
 
@@ -71,10 +74,13 @@ module _ (v : ℕ) where
   ended-dead T i s =
       let asks : List Ask = (row s v).asks in
       let answered : Side = in_turn (ask_ended T i) asks (buried v s) in
-      let told : IsDead answered = in_turn-keeps IsDead (ask_ended T i) (λ a t here. cond_both (is_unawaited T i t a) t (ask_refused T i Dead a t) IsDead (λ _. here) (λ _. refuses a t here)) asks (buried v s)
+      let told : IsDead answered =
+      in_turn-keeps IsDead (ask_ended T i) (λ a t here. cond_both (is_unawaited T i t a) t (ask_refused T i Dead a t) IsDead (λ _. here)
+      (λ _. refuses a t here)) asks (buried v s)
       (ap (λ (r : VpeRow). r.alive) (get_or-put_same no_vpe s.vpes v (record (row s v) { alive = false; asks = [] }))) in
       let last : Side = call_ended T (parked answered v) v (unparked v answered) in
-      in_turn-keeps IsDead (revoked_if_left T i) (λ k t here. rest-steady IsDead steady T i k t here) (keys_of last v) last (owes (parked answered v) (unparked v answered) told)
+      in_turn-keeps IsDead (revoked_if_left T i) (λ k t here. rest-steady IsDead steady T i k t here) (keys_of last v) last
+      (owes (parked answered v) (unparked v answered) told)
     where
       refuses : (a : Ask) (t : Side) → IsDead t → IsDead (ask_refused T i Dead a t)
       refuses a t here = cond_both (kernel_of T (asker a) == i) _ _ IsDead (λ _. frees (parked t (asker a)) (asker a)) (λ _. sends a)
@@ -106,7 +112,8 @@ module _ (v : ℕ) where
   step-dead : (T : Setup) (i : ℕ) (s : Side) (a : Act) (input : Option Message) → EndsBy T s a v → IsDead (local_step T i s a input).side
   unfolding local_step call_row
   step-dead T i s a input (inl kills) = ap (λ b. (row (local_step T i s b input).side v).alive) kills ∙ ended-dead T i s
-  step-dead T i s a input (inr (asks, exits)) = ap (λ b. (row (local_step T i s b input).side v).alive) asks ∙ (ap (λ o. (row (option_map_or (call_row T i (call_counted v s) v) o (plain s)).side v).alive) exits ∙ ended-dead T i (call_counted v s))
+  step-dead T i s a input (inr (asks, exits)) = ap (λ b. (row (local_step T i s b input).side v).alive) asks
+      ∙ (ap (λ o. (row (option_map_or (call_row T i (call_counted v s) v) o (plain s)).side v).alive) exits ∙ ended-dead T i (call_counted v s))
 
   -- an entry that tells of an end
   call-exits : (w n : ℕ) (c : Call) → ends v (Calls w) (Called n c) ≡ true → (w ≡ v) × (c ≡ Exit)
@@ -131,26 +138,37 @@ module _ (v : ℕ) where
       s : Side
       s = side W e.event.kernel
 
-      called : (w : ℕ) (o : Option Call) → next_call T s w ≡ o → ends v (Calls w) (option_map_or (λ call. Called (row s w).next_call call) o Nothing) ≡ true → (w ≡ v) × (next_call T s w ≡ Some Exit)
+      called : (w : ℕ) (o : Option Call) → next_call T s w ≡ o → ends v (Calls w) (option_map_or (λ call. Called (row s w).next_call call) o Nothing) ≡ true →
+          (w ≡ v) × (next_call T s w ≡ Some Exit)
       called w None none no' = absurd cc
       called w (Some c) some over = let both = call-exits w (row s w).next_call c over in (both.0, some ∙ ap Some both.1)
 
-      by : (a : Act) → e.event.act ≡ a → ends v e.event.act (detail_of T s e.event.act (input_of W e.event.kernel e.event.act) (stepped T W e.event).outcome) ≡ true → EndsBy T s e.event.act v
-      by (Kill w) at over = inl (at ∙ ap Kill (eqb-true w v (sym (ap (λ b. ends v b (detail_of T s b (input_of W e.event.kernel b) (stepped T W e.event).outcome)) at) ∙ over)))
+      by : (a : Act) → e.event.act ≡ a → ends v e.event.act (detail_of T s e.event.act (input_of W e.event.kernel e.event.act) (stepped T W e.event).outcome)
+          ≡ true → EndsBy T s e.event.act v
+      by (Kill w) at over = inl (at
+          ∙ ap Kill (eqb-true w v (sym (ap (λ b. ends v b (detail_of T s b (input_of W e.event.kernel b) (stepped T W e.event).outcome)) at) ∙ over)))
       by (Calls w) at over =
-          let both = called w (next_call T s w) refl (sym (ap (λ b. ends v b (detail_of T s b (input_of W e.event.kernel b) (stepped T W e.event).outcome)) at) ∙ over) in
+          let both = called w (next_call T s w) refl (sym (ap (λ b. ends v b (detail_of T s b (input_of W e.event.kernel b) (stepped T W e.event).outcome)) at)
+          ∙ over) in
           inr (at ∙ ap Calls both.0, subst (λ u. next_call T s u ≡ Some Exit) both.0 both.1)
-      by (Fetch j) at over = let no' : false ≡ true = sym (ap (λ b. ends v b (detail_of T s b (input_of W e.event.kernel b) (stepped T W e.event).outcome)) at) ∙ over in absurd cc
-      by Handle at over = let no' : false ≡ true = sym (ap (λ b. ends v b (detail_of T s b (input_of W e.event.kernel b) (stepped T W e.event).outcome)) at) ∙ over in absurd cc
-      by (Upcall w) at over = let no' : false ≡ true = sym (ap (λ b. ends v b (detail_of T s b (input_of W e.event.kernel b) (stepped T W e.event).outcome)) at) ∙ over in absurd cc
-      by (Resume w) at over = let no' : false ≡ true = sym (ap (λ b. ends v b (detail_of T s b (input_of W e.event.kernel b) (stepped T W e.event).outcome)) at) ∙ over in absurd cc
-      by (Flush j) at over = let no' : false ≡ true = sym (ap (λ b. ends v b (detail_of T s b (input_of W e.event.kernel b) (stepped T W e.event).outcome)) at) ∙ over in absurd cc
+      by (Fetch j) at over = let no' : false ≡ true = sym (ap (λ b. ends v b (detail_of T s b (input_of W e.event.kernel b) (stepped T W e.event).outcome)) at)
+          ∙ over in absurd cc
+      by Handle at over = let no' : false ≡ true = sym (ap (λ b. ends v b (detail_of T s b (input_of W e.event.kernel b) (stepped T W e.event).outcome)) at)
+          ∙ over in absurd cc
+      by (Upcall w) at over = let no' : false ≡ true = sym (ap (λ b. ends v b (detail_of T s b (input_of W e.event.kernel b) (stepped T W e.event).outcome)) at)
+          ∙ over in absurd cc
+      by (Resume w) at over = let no' : false ≡ true = sym (ap (λ b. ends v b (detail_of T s b (input_of W e.event.kernel b) (stepped T W e.event).outcome)) at)
+          ∙ over in absurd cc
+      by (Flush j) at over = let no' : false ≡ true = sym (ap (λ b. ends v b (detail_of T s b (input_of W e.event.kernel b) (stepped T W e.event).outcome)) at)
+          ∙ over in absurd cc
 
   module _ (T : Setup) where
     abbrev h : ℕ
     h = kernel_of T v
 
-    next-dead : (before : List Entry) (e : Entry) → is_enabled T (world_after T before) e.event ≡ true → e ≡ entry_of T (world_after T before) e.event → (has_ended before v ≡ true → IsDead (side (world_after T before) h)) → has_ended (before ++ e ∷ []) v ≡ true → IsDead (side (world_after T (before ++ e ∷ [])) h)
+    next-dead : (before : List Entry) (e : Entry) → is_enabled T (world_after T before) e.event ≡ true → e ≡ entry_of T (world_after T before) e.event →
+        (has_ended before v ≡ true → IsDead (side (world_after T before) h)) → has_ended (before ++ e ∷ []) v ≡ true →
+        IsDead (side (world_after T (before ++ e ∷ [])) h)
     next-dead before e enabled made' is over =
         let W : World = world_after T before in
         let i : ℕ = e.event.kernel in
@@ -161,16 +179,20 @@ module _ (v : ℕ) where
             | inr none ↦ absurd (Contains-nil some.0 none)
             | inl same ↦
                 let by = ends-by T W e made' (ap (λ (x : Entry). ends v x.event.act x.detail) same ∙ some.2) in
-                let local : h ≡ i = vpe-local T i (side W i) e.event.act (enabled-parts T W i e.event.act enabled).0 v (elim by [ inl kills ↦ inr (inr (inr kills)) | inr exits ↦ inl exits.0 ]) in
+                let local : h ≡ i = vpe-local T i (side W i) e.event.act (enabled-parts T W i e.event.act enabled).0 v
+                (elim by [ inl kills ↦ inr (inr (inr kills)) | inr exits ↦ inl exits.0 ]) in
                 let onward : world_after T (before ++ e ∷ []) ≡ after T W e.event = run-append T before (e ∷ []) (start T) in
-                ap (λ (X : World). (row (side X h) v).alive) onward ∙ (ap (λ n. (row (side (after T W e.event) n) v).alive) local ∙ (ap (λ (t : Side). (row t v).alive) (side-after T W e.event) ∙ step-dead T i (side W i) e.event.act (input_of W i e.event.act) by))
+                ap (λ (X : World). (row (side X h) v).alive) onward
+                ∙ (ap (λ n. (row (side (after T W e.event) n) v).alive) local
+                ∙ (ap (λ (t : Side). (row t v).alive) (side-after T W e.event) ∙ step-dead T i (side W i) e.event.act (input_of W i e.event.act) by))
           ]
         ]
 
     pub all-dead : (J : List Entry) → IsSchedule T J → has_ended J v ≡ true → is_alive (side (world_after T J) h) v ≡ false
     all-dead J runs = from [] J refl (λ no'. absurd cc)
       where
-        from : (before later : List Entry) → J ≡ before ++ later → (has_ended before v ≡ true → IsDead (side (world_after T before) h)) → has_ended J v ≡ true → is_alive (side (world_after T J) h) v ≡ false
+        from : (before later : List Entry) → J ≡ before ++ later → (has_ended before v ≡ true → IsDead (side (world_after T before) h)) → has_ended J v ≡ true →
+            is_alive (side (world_after T J) h) v ≡ false
         from before [] parts is = subst (λ K. has_ended K v ≡ true → IsDead (side (world_after T K) h)) (sym (parts ∙ append-nil before)) is
         from before (e ∷ later) parts is =
             let y = entry-enabled T before (start T) e later (subst (IsSchedule T) parts runs) in

@@ -1,5 +1,6 @@
 -- Each event keeps what is so of the revocation of a world.
-use Rattle.std.proofs.Common.{◌≡◌, ℕ, ◌+◌, ◌≤◌, ◌<◌, List, [], ◌∷◌, ◌++◌, map, Option, Some, None, option_to_list, append-nil, refl, sym, ap, ◌∙◌, subst, inl, inr, arith}
+use Rattle.std.proofs.Common.{◌≡◌, ℕ, ◌+◌, ◌≤◌, ◌<◌, List, [], ◌∷◌, ◌++◌, map, Option, Some, None, option_to_list, append-nil, refl, sym, ap, ◌∙◌, subst, inl}
+use Rattle.std.proofs.Common.{inr, arith}
 use Rattle.std.specs.List.{Contains, sum_by}
 use Rattle.std.specs.Prelude.{if◌then◌else◌}
 use Rattle.std.proofs.lemmas.Bool.{cases_Bool, cases_eq, cond-true, cond-false, false_from_ne_true}
@@ -9,7 +10,8 @@ use Rattle.sem_key.specs.KeyName.{KeyName, IsValidKey, key_eq}
 use Rattle.sem_key.specs.Capability.{Capability}
 use Rattle.sem_key.specs.CapList.{cap_of}
 use Rattle.sem_msg.specs.JobRows.{job_of}
-use Rattle.sem_msg.specs.declared.message.Message.TheVariants.{ObtainReq, ObtainOk, ObtainNo, DelegateReq, DelegatePrepared, DelegateNo, Ack, Orphan, RevokeReq, RevokeDone, Unlink}
+use Rattle.sem_msg.specs.declared.message.Message.TheVariants.{ObtainReq, ObtainOk, ObtainNo, DelegateReq, DelegatePrepared, DelegateNo, Ack, Orphan, RevokeReq}
+use Rattle.sem_msg.specs.declared.message.Message.TheVariants.{RevokeDone, Unlink}
 use Rattle.sem_msg.specs.declared.state.Slot.{Slot}
 use Rattle.sem_msg.specs.declared.state.Slot.TheVariants.{Free, Held, Promised}
 use Rattle.sem_msg.specs.Rows.{JobRow}
@@ -50,7 +52,8 @@ one-parent T gs grown_so p q k one two = same_Some p q (sym (parent-is (root_key
 abbrev pub Ranks : List (KeyName × KeyName) → Type 0
 Ranks gs = (rank : KeyName → ℕ) × ((p k : KeyName) → Par gs p k → rank p < rank k)
 
-rank-next : (T : Setup) (gs : List (KeyName × KeyName)) (p k : KeyName) → IsGrown (root_keys T) gs → Made T gs p → (Made T gs k → ⊥) → Ranks gs → Ranks (gs ++ (p, k) ∷ [])
+rank-next : (T : Setup) (gs : List (KeyName × KeyName)) (p k : KeyName) → IsGrown (root_keys T) gs → Made T gs p → (Made T gs k → ⊥) → Ranks gs →
+    Ranks (gs ++ (p, k) ∷ [])
 rank-next T gs p k grown_so above new before = (next, further)
   where
     next : KeyName → ℕ
@@ -58,7 +61,8 @@ rank-next T gs p k grown_so above new before = (next, further)
 
     -- a key that was there keeps its rank
     old : (q : KeyName) → Made T gs q → next q ≡ before.0 q
-    old q there = cond-false (key_eq q k) (before.0 p + 1) (before.0 q) (false_from_ne_true (key_eq q k) (λ same. new (subst (Made T gs) (key_eq-true q k same) there)))
+    old q there = cond-false (key_eq q k) (before.0 p + 1) (before.0 q)
+        (false_from_ne_true (key_eq q k) (λ same. new (subst (Made T gs) (key_eq-true q k same) there)))
 
     child : next k ≡ before.0 p + 1
     child = cond-true (key_eq k k) (before.0 p + 1) (before.0 k) (key_eq-same k)
@@ -89,7 +93,8 @@ pub record IsReady (T : Setup) (gs : List (KeyName × KeyName)) (W : World) : Ty
   pub homes : (i : ℕ) (k : KeyName) (c : Capability) → cap (side W i) k ≡ Some c → owner_of T k ≡ i
   pub valid : (p k : KeyName) → Par gs p k → IsValidKey k
   -- no gift comes behind the request for its key, and a call that is ready to install is that of the key's VPE
-  pub late : (i from j : ℕ) (k : KeyName) → (side W i).inbox ≡ Some (from, RevokeReq k j) → cap (side W i) k ≡ None → at_world k on_its_way (with_side i (obtain_cancelled k (with_inbox None (side W i))) W) ≡ 0
+  pub late : (i from j : ℕ) (k : KeyName) → (side W i).inbox ≡ Some (from, RevokeReq k j) → cap (side W i) k ≡ None →
+      at_world k on_its_way (with_side i (obtain_cancelled k (with_inbox None (side W i))) W) ≡ 0
 
 -- what may be lost, what was made from that, and that each open job has a cause
 pub record Losing (gs : List (KeyName × KeyName)) (W : World) : Type 1 where
@@ -128,13 +133,28 @@ of_asking k a b from to (Unlink parent' key) is = refl
 
 module _ (T : Setup) (gs : List (KeyName × KeyName)) (W : World) (R : IsReady T gs W) (H : Holds T gs W) (L : Losing gs W) (i : ℕ) where
   abbrev pub C : Scene
-  C = record { setup = T; parent = Par gs; one_parent = one-parent T gs R.grown_so; valid = R.valid; rank = (ranked T gs R.grown_so).0; older = (ranked T gs R.grown_so).1; made = Made T gs; lost = L.lost; lower = L.lower; world = W; kernel = i; others = L.caused; before = side W i }
+  C = record {
+    setup = T;
+    parent = Par gs;
+    one_parent = one-parent T gs R.grown_so;
+    valid = R.valid;
+    rank = (ranked T gs R.grown_so).0;
+    older = (ranked T gs R.grown_so).1;
+    made = Made T gs;
+    lost = L.lost;
+    lower = L.lower;
+    world = W;
+    kernel = i;
+    others = L.caused;
+    before = side W i;
+  }
 
   abbrev pub s : Side
   s = side W i
 
   pub entered : Row C free_hand s
-  entered = enter C R.fit H (R.rises i) (R.ids i) (R.homes i) (record { inbox = refl; sends = λ j. ([], sym (append-nil (outbox (side W i) j)), λ k. refl) }) (L.caused i) (λ k c was. inl (c, was))
+  entered = enter C R.fit H (R.rises i) (R.ids i) (R.homes i) (record { inbox = refl; sends = λ j. ([], sym (append-nil (outbox (side W i) j)), λ k. refl) })
+      (L.caused i) (λ k c was. inl (c, was))
 
   pub left : (t : Side) → Row C free_hand t → Holds T gs (with_side i t W)
   left t S = leave C t S
@@ -157,12 +177,14 @@ module _ (T : Setup) (gs : List (KeyName × KeyName)) (W : World) (R : IsReady T
         → (next : IsGrown (root_keys T) (more o))
         → (new : (p k : KeyName) → link_of p k → Made T gs k → ⊥)
         → (below : (p k : KeyName) → link_of p k → (d : Capability) × (cap s p ≡ Some d) × (d.mark ≡ None))
-        → (valid : (p k : KeyName) → link_of p k → IsValidKey k) (absent : (p k : KeyName) → link_of p k → cap base k ≡ None) (parent : (p k : KeyName) → link_of p k → (d : Capability) × (cap base p ≡ Some d))
+        → (valid : (p k : KeyName) → link_of p k → IsValidKey k) (absent : (p k : KeyName) → link_of p k → cap base k ≡ None) (parent : (p k : KeyName) →
+        link_of p k → (d : Capability) × (cap base p ≡ Some d))
         → ((k : KeyName) → at_world k all_held (with_side i t W) ≤ at_world k all_held W + at_grant k o)
         → Grown (owner_of T) i base link_of valid absent parent link_of t
         → Holds T (more o) (with_side i t W)
     grown-holds caps jobs outs quiet next new below valid absent parent few G =
-        revokes-grown (owner_of T) (Par gs) (Par (more o)) (one-parent T (more o) next) (Made T gs) (Made T (more o)) link_of (whole T W) (whole T V) grows R.fit.links H
+        revokes-grown (owner_of T) (Par gs) (Par (more o)) (one-parent T (more o) next) (Made T gs) (Made T (more o)) link_of (whole T W)
+        (whole T V) grows R.fit.links H
       where
         V : World
         V = with_side i t W
@@ -274,11 +296,15 @@ module _ (T : Setup) (gs : List (KeyName × KeyName)) (W : World) (R : IsReady T
           child = λ p k granted. child-grown (root_keys T) gs p k granted;
           alive_made = λ k alive. R.fit.made k alive;
           more = λ p k granted. Contains-append_left gs (option_to_list o) (p, k) granted;
-          less = λ p k granted. elim (Contains-append_cases gs (option_to_list o) (p, k) granted) [ inl before ↦ inl before | inr now ↦ inr (in-more p k o now) ];
+          less = λ p k granted. elim (Contains-append_cases gs (option_to_list o) (p, k) granted) [
+            | inl before ↦ inl before
+            | inr now ↦ inr (in-more p k o now)
+          ];
           granted = λ p k now. Contains-append_right gs (option_to_list o) (p, k) (to-more p k o now);
           made_more = λ k made. made-more k made;
           job = λ a n. elim (cases_eq a i) [
-            | inl here ↦ ap (λ b. job (side V b) n) here ∙ (ap (λ (x : Side). job x n) at-i ∙ (ap (λ (xs : List JobRow). job_of xs n) (G.jobs ∙ jobs) ∙ ap (λ b. job (side W b) n) (sym here)))
+            | inl here ↦ ap (λ b. job (side V b) n) here
+                ∙ (ap (λ (x : Side). job x n) at-i ∙ (ap (λ (xs : List JobRow). job_of xs n) (G.jobs ∙ jobs) ∙ ap (λ b. job (side W b) n) (sym here)))
             | inr away ↦ ap (λ (x : Side). job x n) (get_or-put_other no_side W.sides i a t away)
           ];
           asked = λ k a b. sum-same (asking k a b) (of_asking k a b);
@@ -293,5 +319,7 @@ module _ (T : Setup) (gs : List (KeyName × KeyName)) (W : World) (R : IsReady T
               | inl root ↦ Contains-append_left (root_keys T) (map (λ (g : KeyName × KeyName). g.1) (more o)) k root
               | inr child ↦
                   let g = Contains-from_map (λ (g : KeyName × KeyName). g.1) gs k child in
-                  Contains-append_right (root_keys T) (map (λ (g : KeyName × KeyName). g.1) (more o)) k (subst (Contains (map (λ (g : KeyName × KeyName). g.1) (more o))) g.2 (Contains-map (λ (g : KeyName × KeyName). g.1) (more o) g.0 (Contains-append_left gs (option_to_list o) g.0 g.1)))
+                  Contains-append_right (root_keys T) (map (λ (g : KeyName × KeyName). g.1) (more o)) k
+                  (subst (Contains (map (λ (g : KeyName × KeyName). g.1) (more o))) g.2
+                  (Contains-map (λ (g : KeyName × KeyName). g.1) (more o) g.0 (Contains-append_left gs (option_to_list o) g.0 g.1)))
             ]

@@ -1,5 +1,6 @@
 -- After every schedule a call that waits for the answer to an ask is one of a living VPE, and something of its exchange is under way.
-use Rattle.std.proofs.Common.{◌≡◌, ℕ, zero, suc, ◌+◌, ◌≤◌, ◌<◌, true, not, ◌&&◌, List, [], ◌∷◌, ◌++◌, Option, Some, None, get_or, replicate, length, append-nil, append_assoc, refl, sym, ap, ◌∙◌, subst, inl, inr, arith}
+use Rattle.std.proofs.Common.{◌≡◌, ℕ, zero, suc, ◌+◌, ◌≤◌, ◌<◌, true, not, ◌&&◌, List, [], ◌∷◌, ◌++◌, Option, Some, None, get_or, replicate, length, append-nil}
+use Rattle.std.proofs.Common.{append_assoc, refl, sym, ap, ◌∙◌, subst, inl, inr, arith}
 use Rattle.std.specs.List.{sum_by}
 use Rattle.std.specs.Option.{option_map_or}
 use Rattle.std.proofs.lemmas.Bool.{cases_eq, cond-true, and_from, true≢false}
@@ -21,7 +22,8 @@ use Rattle.sem_machine.specs.Sides.{Side, no_side, row, parked, is_alive, call_c
 use Rattle.sem_machine.specs.Steps.{Step, plain}
 use Rattle.sem_machine.specs.Calls.{call_row}
 use Rattle.sem_machine.specs.Handles.{handled}
-use Rattle.sem_machine.specs.Machine.{World, side, with_side, start, start_side, empty_side, root_added, vpe_added, vpe_fresh, next_call, local_step, after, event, is_enabled}
+use Rattle.sem_machine.specs.Machine.{World, side, with_side, start, start_side, empty_side, root_added, vpe_added, vpe_fresh, next_call, local_step, after}
+use Rattle.sem_machine.specs.Machine.{event, is_enabled}
 use Rattle.sem_machine.specs.Schedules.{IsSchedule, world_after}
 use Rattle.sem_machine.proofs.Folds.{in_turn-keeps, option-keeps}
 use Rattle.sem_machine.proofs.Weighing.{weigh-none, weigh-put}
@@ -50,12 +52,14 @@ use Rattle.sem_revoke.proofs.Serving.{enabled-call}
 
 -- who waits lives, and has a token
 abbrev pub Owed : Setup → Exchange → World → Type 0
-Owed T x W = is_waiting x (parked (side W (kernel_of T (waiter x))) (waiter x)) ≡ true → (is_alive (side W (kernel_of T (waiter x))) (waiter x) ≡ true) × (1 ≤ tokens x W)
+Owed T x W = is_waiting x (parked (side W (kernel_of T (waiter x))) (waiter x)) ≡ true → (is_alive (side W (kernel_of T (waiter x))) (waiter x) ≡ true)
+    × (1 ≤ tokens x W)
 
 -- At the start no call is parked.
 side-unparked : (T : Setup) (i : ℕ) → (v : ℕ) → parked (start_side T i) v ≡ None
 unfolding start_side
-side-unparked T i = in_turn-keeps Unparked vpe_added (λ d t here. in_turn-keeps Unparked (root_added d) (λ r u is. is) d.roots (vpe_fresh d t) here) (own_vpes T i) (empty_side T) (empty VPES)
+side-unparked T i = in_turn-keeps Unparked vpe_added (λ d t here. in_turn-keeps Unparked (root_added d) (λ r u is. is) d.roots (vpe_fresh d t) here)
+    (own_vpes T i) (empty_side T) (empty VPES)
   where
     Unparked : Side → Type 0
     Unparked s = (v : ℕ) → parked s v ≡ None
@@ -71,7 +75,8 @@ start-unparked T i = start-each T (λ (s : Side). (v : ℕ) → parked s v ≡ N
 -- the side of another kernel after an event
 pub side-elsewhere : (T : Setup) (W : World) (i : ℕ) (a : Act) (j : ℕ) → (j ≡ i → ⊥) → side (after T W (event i a)) j ≡ side W j
 unfolding after
-side-elsewhere T W i a j away = ap (λ (ss : List Side). get_or ss j no_side) (moved-sides i (side W i) a (with_side i (stepped T W (event i a)).side W)) ∙ get_or-put_other no_side W.sides i j (stepped T W (event i a)).side away
+side-elsewhere T W i a j away = ap (λ (ss : List Side). get_or ss j no_side) (moved-sides i (side W i) a (with_side i (stepped T W (event i a)).side W))
+    ∙ get_or-put_other no_side W.sides i j (stepped T W (event i a)).side away
 
 -- all sides after an event
 pub sides-after : (T : Setup) (W : World) (i : ℕ) (a : Act) → (after T W (event i a)).sides ≡ put no_side W.sides i (stepped T W (event i a)).side
@@ -108,7 +113,8 @@ module _ (T : Setup) (valid : IsSetup T) (x : Exchange) where
         let calls = enabled-call T i s w (enabled-parts T W i (Calls w) enabled).0 in
         let t : Side = call_counted w s in
         let r : VpeRow = record (row s w) { next_call = (row s w).next_call + 1 } in
-        let may : free (row s w) (parked s w) ≡ 1 = ap (free (row s w)) calls.2 ∙ cond-true ((row s w).alive && not (waits None)) 1 0 (and_from (row s w).alive true calls.1 refl) in
+        let may : free (row s w) (parked s w) ≡ 1 = ap (free (row s w)) calls.2
+        ∙ cond-true ((row s w).alive && not (waits None)) 1 0 (and_from (row s w).alive true calls.1 refl) in
         let same = tok-row x T i s s w r refl in
         option-keeps (λ (y : Step). Steps y.side) (call_row T i t w) (next_call T s w) (plain s)
         (λ c there.
@@ -119,7 +125,9 @@ module _ (T : Setup) (valid : IsSetup T) (x : Exchange) where
         (kept-start x T i s)
     stepped-kept (Upcall w) enabled still = upcall-kept x T i s w
     stepped-kept (Resume w) enabled still = resume-kept x T i s w
-    stepped-kept (Kill w) enabled still = kept-ended x T i s w s (tok s) (omega arith) (vpe-local T i s (Kill w) (enabled-parts T W i (Kill w) enabled).0 w (inr (inr (inr refl)))) (λ home. (refl, refl))
+    stepped-kept (Kill w) enabled still =
+        kept-ended x T i s w s (tok s) (omega arith) (vpe-local T i s (Kill w) (enabled-parts T W i (Kill w) enabled).0 w (inr (inr (inr refl))))
+        (λ home. (refl, refl))
     stepped-kept (Fetch j) enabled still = absurd (still tt)
     stepped-kept (Flush j) enabled still = absurd (still tt)
     stepped-kept Handle enabled still = by s.inbox refl
@@ -148,9 +156,11 @@ module _ (T : Setup) (valid : IsSetup T) (x : Exchange) where
       t = (stepped T W (event i a)).side
 
       rows-sum : sum_by (of_rows x) V.sides + of_rows x s ≡ sum_by (of_rows x) W.sides + of_rows x t
-      rows-sum = let sum = weigh-put (of_rows x) no_side refl W.sides i t in let same = ap (sum_by (of_rows x)) (sides-after T W i a) in omega (arith, sum, same)
+      rows-sum = let sum = weigh-put (of_rows x) no_side refl W.sides i t in let same = ap (sum_by (of_rows x)) (sides-after T W i a) in
+          omega (arith, sum, same)
 
-      acted-sum : of_world (exchanging x) V + of_side (exchanging x) i s ≡ of_world (exchanging x) W + of_side (exchanging x) i t → tokens x V + tok s ≡ tokens x W + tok t
+      acted-sum : of_world (exchanging x) V + of_side (exchanging x) i s ≡ of_world (exchanging x) W + of_side (exchanging x) i t →
+          tokens x V + tok s ≡ tokens x W + tok t
       acted-sum acted = let rows = rows-sum in let one = no-jobs s.jobs in let two = no-jobs t.jobs in omega (arith, acted, rows, one, two)
 
       at-home : h ≡ i → side V h ≡ t
@@ -178,9 +188,14 @@ module _ (T : Setup) (valid : IsSetup T) (x : Exchange) where
             let same-rows : of_rows x t ≡ of_rows x s = ap (sum_by (of_row x)) rows.0 in
             elim (cases_eq h i) [
               | inl home ↦
-                  let back = owed (ap (λ n. is_waiting x (parked (side W n) v)) home ∙ (ap (λ ps. is_waiting x (get_or ps v None)) (sym rows.1) ∙ (ap (λ (u : Side). is_waiting x (parked u v)) (sym (at-home home)) ∙ now))) in
-                  let some = back.1 in
-                  (ap (λ (u : Side). is_alive u v) (at-home home) ∙ (ap (λ vs. VpeRows.is_alive vs v) rows.0 ∙ (ap (λ n. is_alive (side W n) v) (sym home) ∙ back.0)), omega (arith, some, same, sum, same-rows))
+                  let back = owed (ap (λ n. is_waiting x (parked (side W n) v)) home
+                  ∙ (ap (λ ps. is_waiting x (get_or ps v None)) (sym rows.1) ∙ (ap (λ (u : Side). is_waiting x (parked u v)) (sym (at-home home)) ∙ now)))
+                  in
+                  let some = back.1 in (
+                    ap (λ (u : Side). is_alive u v) (at-home home)
+                        ∙ (ap (λ vs. VpeRows.is_alive vs v) rows.0 ∙ (ap (λ n. is_alive (side W n) v) (sym home) ∙ back.0)),
+                    omega (arith, some, same, sum, same-rows),
+                  )
               | inr away ↦
                   let at = side-elsewhere T W i a h away in
                   let back = owed (ap (λ (u : Side). is_waiting x (parked u v)) (sym at) ∙ now) in
@@ -195,10 +210,13 @@ module _ (T : Setup) (valid : IsSetup T) (x : Exchange) where
           local sum (inr held) = elim (cases_eq h i) [
             | inl home ↦ elim (held.1 home) [
               | inl same ↦
-                  let back = owed (ap (λ n. is_waiting x (parked (side W n) v)) home ∙ (ap (is_waiting x) (sym same.0) ∙ (ap (λ (u : Side). is_waiting x (parked u v)) (sym (at-home home)) ∙ now))) in
+                  let back = owed (ap (λ n. is_waiting x (parked (side W n) v)) home
+                  ∙ (ap (is_waiting x) (sym same.0) ∙ (ap (λ (u : Side). is_waiting x (parked u v)) (sym (at-home home)) ∙ now))) in
                   let some = back.1 in
-                  let few = held.0 in
-                  (ap (λ (u : Side). is_alive u v) (at-home home) ∙ (same.1 ∙ (ap (λ n. is_alive (side W n) v) (sym home) ∙ back.0)), omega (arith, sum, some, few))
+                  let few = held.0 in (
+                    ap (λ (u : Side). is_alive u v) (at-home home) ∙ (same.1 ∙ (ap (λ n. is_alive (side W n) v) (sym home) ∙ back.0)),
+                    omega (arith, sum, some, few),
+                  )
               | inr has ↦
                   let some = has.0 in
                   let among = part in

@@ -1,5 +1,6 @@
 -- The small changes of a side keep the tokens of an exchange while its call waits.
-use Rattle.std.proofs.Common.{◌≡◌, ◌⊎◌, ℕ, ◌+◌, ◌≤◌, ◌<◌, true, false, not, ◌&&◌, List, [], ◌∷◌, ◌++◌, Option, Some, None, get_or, length, nat_lt, refl, sym, ap, ◌∙◌, inl, inr, arith}
+use Rattle.std.proofs.Common.{◌≡◌, ◌⊎◌, ℕ, ◌+◌, ◌≤◌, ◌<◌, true, false, not, ◌&&◌, List, [], ◌∷◌, ◌++◌, Option, Some, None, get_or, length, nat_lt, refl, sym}
+use Rattle.std.proofs.Common.{ap, ◌∙◌, inl, inr, arith}
 use Rattle.std.specs.Prelude.{◌==◌, if◌then◌else◌}
 use Rattle.std.specs.List.{sum_by}
 use Rattle.std.proofs.lemmas.Bool.{cases_eq, cond_both, cond-true, and_parts, eqb-true, lt-ltb, not-true}
@@ -40,13 +41,16 @@ use Rattle.sem_msg.specs.declared.code.Code.TheVariants.{Ok as OkCode, Dead}
 
 -- an ask that counts is of the VPE that waits, and it waits for that ask
 pub ask-asker : (x : Exchange) (a : Ask) → 1 ≤ of_ask x a → asker a ≡ waiter x
-ask-asker (Obtaining v n) (ObtainAsk place target) some = eqb-true place.vpe v (and_parts (place.vpe == v) (place.number == n) (one-more ((place.vpe == v) && (place.number == n)) some)).0
+ask-asker (Obtaining v n) (ObtainAsk place target) some =
+    eqb-true place.vpe v (and_parts (place.vpe == v) (place.number == n) (one-more ((place.vpe == v) && (place.number == n)) some)).0
 ask-asker (Obtaining v n) (DelegateAsk parent object sel) some = absurd (omega (arith, some))
 ask-asker (Delegating p) (ObtainAsk place target) some = absurd (omega (arith, some))
 ask-asker (Delegating p) (DelegateAsk parent object sel) some = ap (λ (k : KeyName). k.vpe) (key_eq-true parent p (one-more (key_eq parent p) some))
 
 pub ask-waits : (x : Exchange) (a : Ask) (p : Option Parked) → 1 ≤ of_ask x a → is_waiting x p ≡ waits_for a p
-ask-waits (Obtaining v n) (ObtainAsk place target) p some = ap (λ m. is_obtain_wait m p) (sym (eqb-true place.number n (and_parts (place.vpe == v) (place.number == n) (one-more ((place.vpe == v) && (place.number == n)) some)).1))
+ask-waits (Obtaining v n) (ObtainAsk place target) p some =
+    ap (λ m. is_obtain_wait m p)
+    (sym (eqb-true place.number n (and_parts (place.vpe == v) (place.number == n) (one-more ((place.vpe == v) && (place.number == n)) some)).1))
 ask-waits (Obtaining v n) (DelegateAsk parent object sel) p some = absurd (omega (arith, some))
 ask-waits (Delegating q) (ObtainAsk place target) p some = absurd (omega (arith, some))
 ask-waits (Delegating q) (DelegateAsk parent object sel) p some = ap (λ k. is_delegate_wait k p) (sym (key_eq-true parent q (one-more (key_eq parent q) some)))
@@ -56,7 +60,8 @@ pub no-obtain : (x : Exchange) (place : PlaceName) (target : Target) (code : ℕ
 no-obtain (Obtaining v n) place target code = refl
 no-obtain (Delegating p) place target code = refl
 
-pub no-delegate : (x : Exchange) (parent : KeyName) (object : Object) (sel code : ℕ) → of_ask x (DelegateAsk parent object sel) ≡ of_message x (DelegateNo parent code)
+pub no-delegate : (x : Exchange) (parent : KeyName) (object : Object) (sel code : ℕ) →
+    of_ask x (DelegateAsk parent object sel) ≡ of_message x (DelegateNo parent code)
 no-delegate (Obtaining v n) parent object sel code = refl
 no-delegate (Delegating p) parent object sel code = refl
 
@@ -125,7 +130,8 @@ module _ (x : Exchange) (T : Setup) (i : ℕ) (s0 : Side) where
   home-or = cases_eq (kernel_of T v) i
 
   -- A row changed: it lives as before, and has no ask less.
-  pub kept-row : (m : ℕ) (t : Side) (w : ℕ) (r : VpeRow) → (w ≡ v → Home → r.alive ≡ (row t w).alive) → of_row x (row t w) ≤ of_row x r → Kept m t → Kept m (record t { vpes = put no_vpe t.vpes w r })
+  pub kept-row : (m : ℕ) (t : Side) (w : ℕ) (r : VpeRow) → (w ≡ v → Home → r.alive ≡ (row t w).alive) → of_row x (row t w) ≤ of_row x r → Kept m t →
+      Kept m (record t { vpes = put no_vpe t.vpes w r })
   kept-row m t w r alive more (inl loose) = inl loose
   kept-row m t w r alive more (inr held) =
       let sum = weigh-put (of_row x) no_vpe refl t.vpes w r in
@@ -140,7 +146,8 @@ module _ (x : Exchange) (T : Setup) (i : ℕ) (s0 : Side) where
     where
       lives : Home → (row (record t { vpes = put no_vpe t.vpes w r }) v).alive ≡ (row t v).alive
       lives home = elim (cases_eq v w) [
-        | inl same ↦ ap (λ (y : VpeRow). y.alive) (ap (λ u. get_or (put no_vpe t.vpes w r) u no_vpe) same ∙ get_or-put_same no_vpe t.vpes w r) ∙ (alive (sym same) home ∙ ap (λ u. (row t u).alive) (sym same))
+        | inl same ↦ ap (λ (y : VpeRow). y.alive) (ap (λ u. get_or (put no_vpe t.vpes w r) u no_vpe) same ∙ get_or-put_same no_vpe t.vpes w r)
+            ∙ (alive (sym same) home ∙ ap (λ u. (row t u).alive) (sym same))
         | inr other ↦ ap (λ (y : VpeRow). y.alive) (get_or-put_other no_vpe t.vpes w v r other)
       ]
 
@@ -148,10 +155,15 @@ module _ (x : Exchange) (T : Setup) (i : ℕ) (s0 : Side) where
   kept-slot m t w sel state is = kept-row m t w (record (row t w) { slots = put Free (row t w).slots sel state }) (λ same home. refl) (omega arith) is
 
   -- A call is parked, or is no more.
-  pub kept-park : (m : ℕ) (t : Side) (w : ℕ) (p : Option Parked) → (w ≡ v → Home → is_waiting x p ≡ false) → Kept m t → Kept m (record t { parks = put None t.parks w p })
+  pub kept-park : (m : ℕ) (t : Side) (w : ℕ) (p : Option Parked) → (w ≡ v → Home → is_waiting x p ≡ false) → Kept m t →
+      Kept m (record t { parks = put None t.parks w p })
   kept-park m t w p waits is = elim (cases_eq v w) [
     | inl same ↦ elim home-or [
-      | inl home ↦ inl (home, ap (λ u. is_waiting x (get_or (put None t.parks w p) u None)) same ∙ (ap (is_waiting x) (parked-here t w p) ∙ waits (sym same) home))
+      | inl home ↦ inl (
+        home,
+        ap (λ u. is_waiting x (get_or (put None t.parks w p) u None)) same
+            ∙ (ap (is_waiting x) (parked-here t w p) ∙ waits (sym same) home),
+      )
       | inr away ↦ elim is [ inl loose ↦ absurd (away loose.0) | inr held ↦ inr (held.0, λ home. absurd (away home)) ]
     ]
     | inr other ↦ elim is [
@@ -187,7 +199,8 @@ module _ (x : Exchange) (T : Setup) (i : ℕ) (s0 : Side) where
       let asks : List Ask = (row t w).asks in
       let more : List Ask = if nat_lt (length asks) ASKS then asks ++ a ∷ [] else asks in
       let push = sum_by_push (of_ask x) asks a in
-      let all : sum_by (of_ask x) more ≡ sum_by (of_ask x) (asks ++ a ∷ []) = ap (sum_by (of_ask x)) (cond-true (nat_lt (length asks) ASKS) (asks ++ a ∷ []) asks (lt-ltb (length asks) ASKS room)) in
+      let all : sum_by (of_ask x) more ≡ sum_by (of_ask x) (asks ++ a ∷ []) =
+      ap (sum_by (of_ask x)) (cond-true (nat_lt (length asks) ASKS) (asks ++ a ∷ []) asks (lt-ltb (length asks) ASKS room)) in
       let sum = weigh-put (of_row x) no_vpe refl t.vpes w (record (row t w) { asks = more }) in
       let few = held.0 in
       let rest = kept-row m t w (record (row t w) { asks = more }) (λ same home. refl) (omega (arith, all, push)) (inr held) in
@@ -212,19 +225,31 @@ module _ (x : Exchange) (T : Setup) (i : ℕ) (s0 : Side) where
 
   -- of the waiter itself: it waits no more
   pub loose-refused : (code w : ℕ) (t : Side) → w ≡ v → Home → Loose (call_refused code w t)
-  loose-refused code w t same home = (home, ap (λ u. is_waiting x (parked (call_refused code w t) u)) (sym same) ∙ (ap (is_waiting x) (parked-here (promise_freed (parked t w) w t) w (Some (Ready code))) ∙ ready-waits x code))
+  loose-refused code w t same home = (
+    home,
+    ap (λ u. is_waiting x (parked (call_refused code w t) u)) (sym same)
+        ∙ (ap (is_waiting x) (parked-here (promise_freed (parked t w) w t) w (Some (Ready code))) ∙ ready-waits x code),
+  )
 
   -- An ask is refused: its token is in the refusal, or its waiter waits no more.
   pub kept-ask_refused : (m : ℕ) (code : Code) (a : Ask) (t : Side) → Kept m t → Kept (m + of_ask x a) (ask_refused T i code a t)
-  kept-ask_refused m code a t is = cond_both (kernel_of T (asker a) == i) _ _ (Kept (m + of_ask x a)) (λ here. local (eqb-true (kernel_of T (asker a)) i here) (cases_some (of_ask x a))) (λ _. remote a)
+  kept-ask_refused m code a t is =
+      cond_both (kernel_of T (asker a) == i) _ _ (Kept (m + of_ask x a)) (λ here. local (eqb-true (kernel_of T (asker a)) i here) (cases_some (of_ask x a)))
+      (λ _. remote a)
     where
       local : kernel_of T (asker a) ≡ i → (of_ask x a ≡ 0) ⊎ (1 ≤ of_ask x a) → Kept (m + of_ask x a) (call_refused (code_number code) (asker a) t)
-      local here (inl none) = kept-less m (m + of_ask x a) (call_refused (code_number code) (asker a) t) (omega (arith, none)) (kept-refused m (code_number code) (asker a) t is)
+      local here (inl none) = kept-less m (m + of_ask x a) (call_refused (code_number code) (asker a) t) (omega (arith, none))
+          (kept-refused m (code_number code) (asker a) t is)
       local here (inr some) = let who = ask-asker x a some in inl (loose-refused (code_number code) (asker a) t who (ap (kernel_of T) (sym who) ∙ here))
 
       remote : (b : Ask) → Kept (m + of_ask x b) (refusal_sent T code b t)
-      remote (ObtainAsk place target) = let same = no-obtain x place target (code_number code) in kept-less (m + of_message x (ObtainNo place (code_number code))) (m + of_ask x (ObtainAsk place target)) (refusal_sent T code (ObtainAsk place target) t) (omega (arith, same)) (kept-send m t (place_owner T place) (ObtainNo place (code_number code)) is)
-      remote (DelegateAsk parent object sel) = let same = no-delegate x parent object sel (code_number code) in kept-less (m + of_message x (DelegateNo parent (code_number code))) (m + of_ask x (DelegateAsk parent object sel)) (refusal_sent T code (DelegateAsk parent object sel) t) (omega (arith, same)) (kept-send m t (owner_of T parent) (DelegateNo parent (code_number code)) is)
+      remote (ObtainAsk place target) = let same = no-obtain x place target (code_number code) in
+          kept-less (m + of_message x (ObtainNo place (code_number code))) (m + of_ask x (ObtainAsk place target))
+          (refusal_sent T code (ObtainAsk place target) t) (omega (arith, same)) (kept-send m t (place_owner T place) (ObtainNo place (code_number code)) is)
+      remote (DelegateAsk parent object sel) = let same = no-delegate x parent object sel (code_number code) in
+          kept-less (m + of_message x (DelegateNo parent (code_number code))) (m + of_ask x (DelegateAsk parent object sel))
+          (refusal_sent T code (DelegateAsk parent object sel) t) (omega (arith, same))
+          (kept-send m t (owner_of T parent) (DelegateNo parent (code_number code)) is)
 
   -- An ask that is dropped is waited for by nobody.
   pub kept-dropped : (m : ℕ) (a : Ask) (t : Side) → is_unawaited T i t a ≡ true → Kept m t → Kept (m + of_ask x a) t
@@ -235,14 +260,20 @@ module _ (x : Exchange) (T : Setup) (i : ℕ) (s0 : Side) where
       by (inr some) =
           let who = ask-asker x a some in
           let parts = and_parts (kernel_of T (asker a) == i) (not (waits_for a (parked t (asker a)))) drops in
-          inl (ap (kernel_of T) (sym who) ∙ eqb-true (kernel_of T (asker a)) i parts.0, ask-waits x a (parked t v) some ∙ (ap (λ u. waits_for a (parked t u)) (sym who) ∙ not-true (waits_for a (parked t (asker a))) parts.1))
+          inl (
+            ap (kernel_of T) (sym who) ∙ eqb-true (kernel_of T (asker a)) i parts.0,
+            ask-waits x a (parked t v) some
+                ∙ (ap (λ u. waits_for a (parked t u)) (sym who) ∙ not-true (waits_for a (parked t (asker a))) parts.1),
+          )
 
   pub kept-ask_ended : (m : ℕ) (a : Ask) (t : Side) → Kept m t → Kept (m + of_ask x a) (ask_ended T i a t)
-  kept-ask_ended m a t is = cond_both (is_unawaited T i t a) t (ask_refused T i Dead a t) (Kept (m + of_ask x a)) (λ drops. kept-dropped m a t drops is) (λ _. kept-ask_refused m Dead a t is)
+  kept-ask_ended m a t is = cond_both (is_unawaited T i t a) t (ask_refused T i Dead a t) (Kept (m + of_ask x a)) (λ drops. kept-dropped m a t drops is)
+      (λ _. kept-ask_refused m Dead a t is)
 
   pub kept-asks_ended : (asks : List Ask) (m : ℕ) (t : Side) → Kept m t → Kept (m + sum_by (of_ask x) asks) (in_turn (ask_ended T i) asks t)
   unfolding in_turn
   kept-asks_ended [] m t is = kept-less m (m + 0) t (omega arith) is
   kept-asks_ended (a ∷ rest) m t is =
       let all = sum_by-cons (of_ask x) a rest in
-      kept-less (m + of_ask x a + sum_by (of_ask x) rest) (m + sum_by (of_ask x) (a ∷ rest)) (in_turn (ask_ended T i) rest (ask_ended T i a t)) (omega (arith, all)) (kept-asks_ended rest (m + of_ask x a) (ask_ended T i a t) (kept-ask_ended m a t is))
+      kept-less (m + of_ask x a + sum_by (of_ask x) rest) (m + sum_by (of_ask x) (a ∷ rest)) (in_turn (ask_ended T i) rest (ask_ended T i a t))
+      (omega (arith, all)) (kept-asks_ended rest (m + of_ask x a) (ask_ended T i a t) (kept-ask_ended m a t is))

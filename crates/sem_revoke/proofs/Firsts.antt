@@ -44,14 +44,16 @@ module _ (k0 : KeyName) where
   roots-more d [] s = omega arith
   roots-more d (r ∷ rs) s = let one = root-weighs d r s in let rest = roots-more d rs (root_added d r s) in omega (arith, one, rest)
 
-  roots-held : (d : VpeDecl) (rs : List Root) (n : ℕ) (s : Side) → (row s d.vpe).next_number ≡ n → Contains (root_keys_from d n rs) k0 → 1 ≤ weight (in_turn (root_added d) rs s)
+  roots-held : (d : VpeDecl) (rs : List Root) (n : ℕ) (s : Side) → (row s d.vpe).next_number ≡ n → Contains (root_keys_from d n rs) k0 →
+      1 ≤ weight (in_turn (root_added d) rs s)
   unfolding in_turn root_keys_from
   roots-held d [] n s number among = absurd (Contains-nil k0 among)
   roots-held d (r ∷ rs) n s number among = elim (Contains-cons_cases (root_key d n r) (root_keys_from d (n + 1) rs) k0 among) [
     | inl same ↦
         let key : root_key d (row s d.vpe).next_number r ≡ k0 = ap (λ m. root_key d m r) number ∙ same in
         let weighs = root-weighs d r s in
-        let one : at_key k0 (root_key d (row s d.vpe).next_number r) ≡ 1 = cond-true (key_eq (root_key d (row s d.vpe).next_number r) k0) 1 0 (key_eq-from (root_key d (row s d.vpe).next_number r) k0 key) in
+        let one : at_key k0 (root_key d (row s d.vpe).next_number r) ≡ 1 =
+        cond-true (key_eq (root_key d (row s d.vpe).next_number r) k0) 1 0 (key_eq-from (root_key d (row s d.vpe).next_number r) k0 key) in
         let rest = roots-more d rs (root_added d r s) in
         omega (arith, weighs, one, rest)
     | inr later ↦ roots-held d rs (n + 1) (root_added d r s) (root-next d r s ∙ ap (λ m. m + 1) number) later
@@ -72,7 +74,8 @@ module _ (k0 : KeyName) where
   unfolding in_turn
   vpes-held [] d s within among = absurd (Contains-nil d within)
   vpes-held (x ∷ xs) d s within among = elim (Contains-cons_cases x xs d within) [
-    | inl same ↦ let one = vpe-held x s (subst (λ (y : VpeDecl). Contains (root_keys_from y 0 y.roots) k0) (sym same) among) in let rest = vpes-more xs (vpe_added x s) in omega (arith, one, rest)
+    | inl same ↦ let one = vpe-held x s (subst (λ (y : VpeDecl). Contains (root_keys_from y 0 y.roots) k0) (sym same) among) in
+        let rest = vpes-more xs (vpe_added x s) in omega (arith, one, rest)
     | inr rest ↦ vpes-held xs d (vpe_added x s) rest among
   ]
 
@@ -86,9 +89,12 @@ module _ (k0 : KeyName) where
       by_decl d among root =
           let i : ℕ = pe_owner T d.pe in
           let declared : IsVpeDecl T d = All-contains (IsVpeDecl T) T.vpes d valid.vpes among in
-          let few : i < T.kernels = owner-is T.kernels (owner_at T.owners d.pe) declared.owned (λ j there. subst (λ n. j < n) valid.same_kernels (valid.membership.owners_exist d.pe j there)) in
+          let few : i < T.kernels =
+          owner-is T.kernels (owner_at T.owners d.pe) declared.owned
+          (λ j there. subst (λ n. j < n) valid.same_kernels (valid.membership.owners_exist d.pe j there)) in
           let at : side (start T) i ≡ start_side T i = get_or-map-range_with_len (start_side T) 0 T.kernels i i no_side few (omega arith) in
-          let held : 1 ≤ weight (start_side T i) = vpes-held (filter (λ (x : VpeDecl). pe_owner T x.pe == i) T.vpes) d (empty_side T) (Contains-filter (λ (x : VpeDecl). pe_owner T x.pe == i) T.vpes d among (eq-eqb i i refl)) root in
+          let held : 1 ≤ weight (start_side T i) = vpes-held (filter (λ (x : VpeDecl). pe_owner T x.pe == i) T.vpes) d (empty_side T)
+          (Contains-filter (λ (x : VpeDecl). pe_owner T x.pe == i) T.vpes d among (eq-eqb i i refl)) root in
           (i, subst (λ (s : Side). 1 ≤ weight s) (sym at) held)
 
   -- so it is valid

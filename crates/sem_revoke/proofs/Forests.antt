@@ -4,11 +4,13 @@ use Rattle.sem_revoke.proofs.Worlds.{caps-some}
 use Rattle.sem_revoke.proofs.Lasting.{grants-on, held-lasts}
 use Rattle.sem_revoke.specs.Revocation.{IsDoomed}
 use Rattle.sem_revoke.specs.Resting.{IsCutOff}
-use Rattle.sem_msg.specs.declared.call.Call.TheVariants.{Derive, Gate, Obtain, Delegate, OpenSession, AskOffer, Revoke, Bind, Read, Write, Send as SendCall, Credit, Exit, Clear}
+use Rattle.sem_msg.specs.declared.call.Call.TheVariants.{Derive, Gate, Obtain, Delegate, OpenSession, AskOffer, Revoke, Bind, Read, Write, Send as SendCall}
+use Rattle.sem_msg.specs.declared.call.Call.TheVariants.{Credit, Exit, Clear}
 use Rattle.std.specs.Option.{option_map_or, IsSome}
 use Rattle.sem_msg.specs.declared.entry.Detail.TheVariants.{Called, Carried, Asked, Nothing}
 use Rattle.sem_msg.specs.declared.entry.Detail.{Detail}
-use Rattle.std.proofs.Common.{◌≡◌, ℕ, false, not, List, [], ◌∷◌, ◌++◌, length, map, Option, Some, None, refl, sym, ap, ◌∙◌, subst, inl, inr, ◌⊎◌, append-nil, append_assoc}
+use Rattle.std.proofs.Common.{◌≡◌, ℕ, false, not, List, [], ◌∷◌, ◌++◌, length, map, Option, Some, None, refl, sym, ap, ◌∙◌, subst, inl, inr, ◌⊎◌, append-nil}
+use Rattle.std.proofs.Common.{append_assoc}
 use Rattle.std.specs.Prelude.{◌==◌, filter_map, slice_get}
 use Rattle.std.specs.List.{Contains, cons_option, filter}
 use Rattle.std.proofs.lemmas.Bool.{cond_both, true≢false, not-true}
@@ -54,11 +56,15 @@ NoCut x = ◌≡◌ {A = Option KeyName} x.outcome.cut None
 
 upcall-cut : (T : Setup) (i : ℕ) (s : Side) (v : ℕ) → NoCut (upcall_row T i s v)
 unfolding upcall_row
-upcall-cut T i s v = option-keeps NoCut (λ a. ask_decided T i v a (ask_taken v s)) (slice_get (row s v).asks 0) (plain s) (λ a there. cond_both (is_unawaited T i (ask_taken v s) a) _ _ NoCut (λ _. refl) (λ _. cond_both (denies T v (asker a)) _ _ NoCut (λ _. refl) (λ _. consent a (ask_taken v s)))) refl
+upcall-cut T i s v = option-keeps NoCut (λ a. ask_decided T i v a (ask_taken v s)) (slice_get (row s v).asks 0) (plain s)
+    (λ a there. cond_both (is_unawaited T i (ask_taken v s) a) _ _ NoCut (λ _. refl)
+    (λ _. cond_both (denies T v (asker a)) _ _ NoCut (λ _. refl) (λ _. consent a (ask_taken v s)))) refl
   where
     consent : (a : Ask) (u : Side) → NoCut (consented T i v a u)
-    consent (ObtainAsk place target) u = unless-keeps NoCut (source_tests target (source T u v target)) _ _ (λ code. refl) (option-keeps NoCut (child_given T i place target u) (source T u v target) (plain u) (λ p there. refl) refl)
-    consent (DelegateAsk parent object sel) u = cond_both (kernel_of T parent.vpe == i) _ _ NoCut (λ _. unless-keeps NoCut _ _ _ (λ code. refl) refl) (λ _. unless-keeps NoCut _ _ _ (λ code. refl) refl)
+    consent (ObtainAsk place target) u = unless-keeps NoCut (source_tests target (source T u v target)) _ _ (λ code. refl)
+        (option-keeps NoCut (child_given T i place target u) (source T u v target) (plain u) (λ p there. refl) refl)
+    consent (DelegateAsk parent object sel) u = cond_both (kernel_of T parent.vpe == i) _ _ NoCut (λ _. unless-keeps NoCut _ _ _ (λ code. refl) refl)
+        (λ _. unless-keeps NoCut _ _ _ (λ code. refl) refl)
 
 resume-cut : (T : Setup) (s : Side) (v : ℕ) → NoCut (resume_row T s v)
 unfolding resume_row
@@ -94,14 +100,19 @@ act-cut T i s (Flush j) input = λ k some. absurd cc
 act-cut T i s (Kill v) input = λ k some. absurd cc
 
 -- a grant stands at an entry, with what is before and behind it
-pub granted-at : (h : Entry → Option (KeyName × KeyName)) (xs : List Entry) (y : KeyName × KeyName) → Contains (filter_map h xs) y → (before : List Entry) × (x : Entry) × (later : List Entry) × (xs ≡ before ++ x ∷ later) × (h x ≡ Some y)
+pub granted-at : (h : Entry → Option (KeyName × KeyName)) (xs : List Entry) (y : KeyName × KeyName) → Contains (filter_map h xs) y →
+    (before : List Entry) × (x : Entry) × (later : List Entry) × (xs ≡ before ++ x ∷ later) × (h x ≡ Some y)
 granted-at h [] y among = absurd (Contains-nil y among)
 granted-at h (x ∷ xs) y among = from (h x) refl (λ rest. granted-at h xs y rest) among
   where
-    later' : (before : List Entry) × (z : Entry) × (later : List Entry) × (xs ≡ before ++ z ∷ later) × (h z ≡ Some y) → (before : List Entry) × (z : Entry) × (later : List Entry) × (x ∷ xs ≡ before ++ z ∷ later) × (h z ≡ Some y)
+    later' : (before : List Entry) × (z : Entry) × (later : List Entry) × (xs ≡ before ++ z ∷ later) × (h z ≡ Some y) →
+        (before : List Entry) × (z : Entry) × (later : List Entry) × (x ∷ xs ≡ before ++ z ∷ later) × (h z ≡ Some y)
     later' at = (x ∷ at.0, at.1, at.2, ap (λ zs. x ∷ zs) at.3, at.4)
 
-    from : (o : Option (KeyName × KeyName)) → h x ≡ o → (Contains (filter_map h xs) y → (before : List Entry) × (z : Entry) × (later : List Entry) × (xs ≡ before ++ z ∷ later) × (h z ≡ Some y)) → Contains (cons_option o (filter_map h xs)) y → (before : List Entry) × (z : Entry) × (later : List Entry) × (x ∷ xs ≡ before ++ z ∷ later) × (h z ≡ Some y)
+    from : (o : Option (KeyName × KeyName)) → h x ≡ o →
+        (Contains (filter_map h xs) y → (before : List Entry) × (z : Entry) × (later : List Entry) × (xs ≡ before ++ z ∷ later) × (h z ≡ Some y)) →
+        Contains (cons_option o (filter_map h xs)) y → (before : List Entry) × (z : Entry) × (later : List Entry) × (x ∷ xs ≡ before ++ z ∷ later)
+        × (h z ≡ Some y)
     from None none rest among = later' (rest among)
     from (Some w) some rest among = elim (Contains-cons_cases w (filter_map h xs) y among) [
       | inl same ↦ ([], x, xs, refl, some ∙ ap Some same)
@@ -109,7 +120,8 @@ granted-at h (x ∷ xs) y among = from (h x) refl (λ rest. granted-at h xs y re
     ]
 
 -- what is cut off stands at an entry
-cut-at : (xs ys : List Entry) (k : KeyName) → Contains (cut_from xs ys) k → (before : List Entry) × (e : Entry) × (later : List Entry) × (ys ≡ before ++ e ∷ later) × Contains (cut_by (xs ++ before) e) k
+cut-at : (xs ys : List Entry) (k : KeyName) → Contains (cut_from xs ys) k → (before : List Entry) × (e : Entry) × (later : List Entry)
+    × (ys ≡ before ++ e ∷ later) × Contains (cut_by (xs ++ before) e) k
 unfolding cut_from
 cut-at xs [] k among = absurd (Contains-nil k among)
 cut-at xs (y ∷ ys) k among = elim (Contains-append_cases (cut_by xs y) (cut_from (xs ++ y ∷ []) ys) k among) [
@@ -120,13 +132,17 @@ cut-at xs (y ∷ ys) k among = elim (Contains-append_cases (cut_by xs y) (cut_fr
 ]
 
 -- the key at which an entry cuts, and what it cuts off
-cut-key : (gs : List (KeyName × KeyName)) (d : Detail) (o : Option KeyName) (k : KeyName) → Contains (option_map_or (cut_off gs d) o []) k → (r : KeyName) × (o ≡ Some r) × Contains (cut_off gs d r) k
+cut-key : (gs : List (KeyName × KeyName)) (d : Detail) (o : Option KeyName) (k : KeyName) → Contains (option_map_or (cut_off gs d) o []) k →
+    (r : KeyName) × (o ≡ Some r) × Contains (cut_off gs d r) k
 cut-key gs d None k among = absurd (Contains-nil k among)
 cut-key gs d (Some r) k among = (r, refl, among)
 
 -- it is that key, or was granted below it
 cut-of : (gs : List (KeyName × KeyName)) (d : Detail) (r k : KeyName) → Contains (cut_off gs d r) k → (k ≡ r) ⊎ Contains gs (r, k)
-cut-of gs (Called index (Revoke src)) r k among = elim (Contains-cons_cases r [] k among) [ inl same ↦ inl (sym same) | inr none ↦ absurd (Contains-nil k none) ]
+cut-of gs (Called index (Revoke src)) r k among = elim (Contains-cons_cases r [] k among) [
+  | inl same ↦ inl (sym same)
+  | inr none ↦ absurd (Contains-nil k none)
+]
 cut-of gs (Called index (Clear src)) r k among =
     let from = Contains-from_map (λ (g : KeyName × KeyName). g.1) (filter (λ (g : KeyName × KeyName). key_eq g.0 r) gs) k among in
     let there = Contains-from_filter (λ (g : KeyName × KeyName). key_eq g.0 r) gs from.0 from.1 in
@@ -150,10 +166,12 @@ cut-of gs Nothing r k among = absurd (Contains-nil k among)
 module _ (T : Setup) (valid : IsSetup T) (J : List Entry) (runs : IsSchedule T J) where
   shown-cut : (W : World) (e : Entry) → e ≡ entry_of T W e.event → (k : KeyName) → e.cut ≡ Some k → (c : Capability) × (cap (side W e.event.kernel) k ≡ Some c)
   unfolding entry_of local_entry
-  shown-cut W e made' k some = act-cut T e.event.kernel (side W e.event.kernel) e.event.act (input_of W e.event.kernel e.event.act) k (sym (ap (λ (x : Entry). x.cut) made') ∙ some)
+  shown-cut W e made' k some = act-cut T e.event.kernel (side W e.event.kernel) e.event.act (input_of W e.event.kernel e.event.act) k
+      (sym (ap (λ (x : Entry). x.cut) made') ∙ some)
 
   granted-made : (p k : KeyName) → Contains (grants J) (p, k) → Contains (made T J) k
-  granted-made p k granted = Contains-append_right (root_keys T) (map (λ (g : KeyName × KeyName). g.1) (grants J)) k (Contains-map (λ (g : KeyName × KeyName). g.1) (grants J) (p, k) granted)
+  granted-made p k granted = Contains-append_right (root_keys T) (map (λ (g : KeyName × KeyName). g.1) (grants J)) k
+      (Contains-map (λ (g : KeyName × KeyName). g.1) (grants J) (p, k) granted)
 
   -- what was made by then was made
   made-on : (before later : List Entry) → J ≡ before ++ later → (k : KeyName) → Contains (made T before) k → Contains (made T J) k
@@ -172,14 +190,17 @@ module _ (T : Setup) (valid : IsSetup T) (J : List Entry) (runs : IsSchedule T J
       let enabled = entry-enabled T at.0 (start T) at.1 at.2 (subst (IsSchedule T) at.3 runs) in
       let held = shown-cut (world_after T at.0) at.1 enabled.2 by.0 by.1 in
       elim (cut-of (grants at.0) at.1.detail by.0 k by.2) [
-        | inl same ↦ made-on at.0 (at.1 ∷ at.2) at.3 k (used-made T at.0 enabled.0 k (inl (inl (at.1.event.kernel, subst (λ o. IsSome o) (sym (ap (cap (side (world_after T at.0) at.1.event.kernel)) same ∙ held.1)) refl))))
+        | inl same ↦ made-on at.0 (at.1 ∷ at.2) at.3 k
+            (used-made T at.0 enabled.0 k
+            (inl (inl (at.1.event.kernel, subst (λ o. IsSome o) (sym (ap (cap (side (world_after T at.0) at.1.event.kernel)) same ∙ held.1)) refl))))
         | inr granted ↦ granted-made by.0 k (grants-on T valid J runs at.0 (at.1 ∷ at.2) at.3 by.0 k granted)
       ]
 
   pub made-valid : (k : KeyName) → Contains (made T J) k → IsValidKey k
   made-valid k there = elim (Contains-append_cases (root_keys T) (map (λ (g : KeyName × KeyName). g.1) (grants J)) k there) [
     | inl root ↦ started-valid k T valid root
-    | inr child ↦ let at = Contains-from_map (λ (g : KeyName × KeyName). g.1) (grants J) k child in subst IsValidKey at.2 (schedule-valid T valid J runs at.0.0 at.0.1 at.1)
+    | inr child ↦ let at = Contains-from_map (λ (g : KeyName × KeyName). g.1) (grants J) k child in
+        subst IsValidKey at.2 (schedule-valid T valid J runs at.0.0 at.0.1 at.1)
   ]
 
   -- what is cut off, or of a VPE that has ended, is in the cut
@@ -202,11 +223,13 @@ module _ (T : Setup) (valid : IsSetup T) (J : List Entry) (runs : IsSchedule T J
         parts.0,
         λ cause.
             let there : Contains (made T J) cause.0 = line-grown (root_keys T) (grants J) (all-grown T valid J runs) (length J) k cause.0 parts.0 cause.1 in
-            true≢false (sym (list_any-at (has_key (cut T J)) (line J k) cause.0 cause.1 (has_key-from_Contains (cut T J) cause.0 (in-cut cause.0 there cause.2))) ∙ free),
+            true≢false (sym (list_any-at (has_key (cut T J)) (line J k) cause.0 cause.1
+            (has_key-from_Contains (cut T J) cause.0 (in-cut cause.0 there cause.2))) ∙ free),
       )
 
   -- what a kernel held once, and is in the forest, it holds
-  pub held-not-lost : (before later : List Entry) → J ≡ before ++ later → (i : ℕ) (k : KeyName) (c : Capability) → HoldsCap (world_after T before) i k c → Contains (forest T J) k → IsSome (cap (side (world_after T J) i) k)
+  pub held-not-lost : (before later : List Entry) → J ≡ before ++ later → (i : ℕ) (k : KeyName) (c : Capability) → HoldsCap (world_after T before) i k c →
+      Contains (forest T J) k → IsSome (cap (side (world_after T J) i) k)
   held-not-lost before later parts i k c held in_forest = elim (held-lasts T valid J runs before later i k c parts held) [
     | inl (d, holds) ↦ subst (λ o. IsSome o) (sym holds) refl
     | inr cause ↦ absurd ((forest-spared k in_forest).1 cause)

@@ -13,7 +13,8 @@ use Rattle.sem_key.specs.ObjectRanges.{IsValidObject, object_kind, narrows}
 use Rattle.sem_key.specs.PlaceName.{PlaceName}
 use Rattle.sem_key.specs.Capability.{Capability}
 use Rattle.sem_msg.specs.declared.call.Call.{Call}
-use Rattle.sem_msg.specs.declared.call.Call.TheVariants.{Derive, Gate, Obtain, Delegate, OpenSession, AskOffer, Revoke, Bind, Read, Write, Send as SendCall, Credit, Exit, Clear}
+use Rattle.sem_msg.specs.declared.call.Call.TheVariants.{Derive, Gate, Obtain, Delegate, OpenSession, AskOffer, Revoke, Bind, Read, Write, Send as SendCall}
+use Rattle.sem_msg.specs.declared.call.Call.TheVariants.{Credit, Exit, Clear}
 use Rattle.sem_msg.specs.declared.event.Act.{Act}
 use Rattle.sem_msg.specs.declared.event.Act.TheVariants.{Call as Calls, Fetch, Handle, Upcall, Resume, Flush, Kill}
 use Rattle.sem_msg.specs.declared.message.Message.{Message}
@@ -31,7 +32,8 @@ use Rattle.sem_machine.specs.Sides.{Side, row, cap, own, endpoint, parked, call_
 use Rattle.sem_machine.specs.Steps.{Step, plain, answer}
 use Rattle.sem_machine.specs.Asks.{asker, is_unawaited}
 use Rattle.sem_msg.specs.Uses.{memory_tests, send_tests, credit_tests}
-use Rattle.sem_machine.specs.Calls.{own_tests, is_of, stays_at_home, is_wider, exceeds_slots, object_passes, destination_tests, child_made, narrowed, derive_tests, gate_tests, ask_made, obtain_tests, open_tests, offer_tests, delegate_tests, bind_tests, call_row}
+use Rattle.sem_machine.specs.Calls.{own_tests, is_of, stays_at_home, is_wider, exceeds_slots, object_passes, destination_tests, child_made, narrowed}
+use Rattle.sem_machine.specs.Calls.{derive_tests, gate_tests, ask_made, obtain_tests, open_tests, offer_tests, delegate_tests, bind_tests, call_row}
 use Rattle.sem_machine.specs.Upcalls.{source, source_tests, may_not_give, given, child_given, parent_tests, consented, ask_decided, upcall_row}
 use Rattle.sem_machine.specs.Resumes.{delegate_granted, delegate_resumed, resumed, resume_row}
 use Rattle.sem_machine.specs.Machine.{next_call, local_step}
@@ -81,43 +83,70 @@ pub record Known (s : Side) (ob : KeyName → Object) : Type 0 where
   pub valid : (k : KeyName) (c : Capability) → cap s k ≡ Some c → IsValidObject c.object
   pub kind : (k : KeyName) (c : Capability) → cap s k ≡ Some c → c.key.kind ≡ object_kind c.object
   pub object : (k : KeyName) (c : Capability) → cap s k ≡ Some c → c.object ≡ ob k
-  pub targets : (v : ℕ) (place : PlaceName) (service : KeyName) → slice_get (row s v).asks 0 ≡ Some (ObtainAsk place (ServTarget service)) → service.kind ≡ ServKind
-  pub asked : (v : ℕ) (parent : KeyName) (object : Object) (sel : ℕ) → slice_get (row s v).asks 0 ≡ Some (DelegateAsk parent object sel) → (ob parent ≡ object) × (stays_at_home object ≡ false)
+  pub targets : (v : ℕ) (place : PlaceName) (service : KeyName) → slice_get (row s v).asks 0 ≡ Some (ObtainAsk place (ServTarget service)) →
+      service.kind ≡ ServKind
+  pub asked : (v : ℕ) (parent : KeyName) (object : Object) (sel : ℕ) → slice_get (row s v).asks 0 ≡ Some (DelegateAsk parent object sel) →
+      (ob parent ≡ object) × (stays_at_home object ≡ false)
   pub waits : (v : ℕ) (parent key : KeyName) → parked s v ≡ Some (DelegateReady parent key) → stays_at_home (ob parent) ≡ false
 
 module _ (T : Setup) (i : ℕ) (s : Side) (ob : KeyName → Object) (R : Known s ob) where
   abbrev pub Under : Object → Step → Type 0
-  Under o x = (p k : KeyName) → ◌≡◌ {A = Option (KeyName × KeyName)} x.outcome.grant (Some (p, k)) → (c : Capability) × (cap s p ≡ Some c) × (narrows o p c.object ≡ true)
+  Under o x = (p k : KeyName) → ◌≡◌ {A = Option (KeyName × KeyName)} x.outcome.grant (Some (p, k)) → (c : Capability) × (cap s p ≡ Some c)
+      × (narrows o p c.object ≡ true)
 
-  one : (o : Object) (q k : KeyName) (c : Capability) → cap s q ≡ Some c → narrows o q c.object ≡ true → (p r : KeyName) → ◌≡◌ {A = Option (KeyName × KeyName)} (Some (q, k)) (Some (p, r)) → (d : Capability) × (cap s p ≡ Some d) × (narrows o p d.object ≡ true)
-  one o q k c held less p r some = subst (λ z. (d : Capability) × (cap s z ≡ Some d) × (narrows o z d.object ≡ true)) (ap (λ (g : KeyName × KeyName). g.0) (same_Some (q, k) (p, r) some)) (c, held, less)
+  one : (o : Object) (q k : KeyName) (c : Capability) → cap s q ≡ Some c → narrows o q c.object ≡ true → (p r : KeyName) →
+      ◌≡◌ {A = Option (KeyName × KeyName)} (Some (q, k)) (Some (p, r)) → (d : Capability) × (cap s p ≡ Some d) × (narrows o p d.object ≡ true)
+  one o q k c held less p r some = subst (λ z. (d : Capability) × (cap s z ≡ Some d)
+      × (narrows o z d.object ≡ true)) (ap (λ (g : KeyName × KeyName). g.0) (same_Some (q, k) (p, r) some)) (c, held, less)
 
   call-under : (v : ℕ) (c : Call) → Under (call_object (call_counted v s) v c) (call_row T i (call_counted v s) v c)
   unfolding call_row
   call-under v (Derive src dst off len rights) =
       let t : Side = call_counted v s in
       let o : Object = call_object t v (Derive src dst off len rights) in
-      unless-passed (Under o) (derive_tests t v src dst off len rights) _ _ (λ code p k some. absurd cc) (λ passed. option-keeps (Under o) (λ (p : Capability). child_made T v dst (narrowed off len rights p.object) p.key t) (own t v src) (answer NoCap t) (λ p held.
+      unless-passed (Under o) (derive_tests t v src dst off len rights) _ _ (λ code p k some. absurd cc)
+      (λ passed. option-keeps (Under o) (λ (p : Capability). child_made T v dst (narrowed off len rights p.object) p.key t) (own t v src) (answer NoCap t)
+      (λ p held.
       let at = own-cap t v src p held in
-      one o p.key _ p at (subst (λ q. narrows q p.key p.object ≡ true) (sym (ap (λ x. option_map_or (λ (y : Capability). narrowed off len rights y.object) x (Recv 0)) held)) (narrows-derived p.key off len rights p.object (sym (ap (object_passes (is_wider off len rights)) held) ∙ passed.1.1.1.0) (R.valid p.key p at)))) (λ p k some. absurd cc))
+      one o p.key _ p at
+      (subst (λ q. narrows q p.key p.object ≡ true) (sym (ap (λ x. option_map_or (λ (y : Capability). narrowed off len rights y.object) x (Recv 0)) held))
+      (narrows-derived p.key off len rights p.object (sym (ap (object_passes (is_wider off len rights)) held) ∙ passed.1.1.1.0) (R.valid p.key p at))))
+      (λ p k some. absurd cc))
   call-under v (Gate src dst label credits) =
       let t : Side = call_counted v s in
       let o : Object = call_object t v (Gate src dst label credits) in
-      unless-passed (Under o) (gate_tests t v src dst credits) _ _ (λ code p k some. absurd cc) (λ passed. option-keeps (Under o) (λ (p : Capability). child_made T v dst (Send p.key label credits) p.key t) (own t v src) (answer NoCap t) (λ p held.
+      unless-passed (Under o) (gate_tests t v src dst credits) _ _ (λ code p k some. absurd cc)
+      (λ passed. option-keeps (Under o) (λ (p : Capability). child_made T v dst (Send p.key label credits) p.key t) (own t v src) (answer NoCap t)
+      (λ p held.
       let at = own-cap t v src p held in
-      one o p.key _ p at (subst (λ q. narrows q p.key p.object ≡ true) (sym (ap (λ x. option_map_or (λ (y : Capability). Send y.key label credits) x (Recv 0)) held)) (narrows-gate p.key label credits p.object (sym (ap (object_passes (exceeds_slots credits)) held) ∙ passed.1.1.1.0)))) (λ p k some. absurd cc))
-  call-under v (Obtain dst w src) = unless-keeps (Under (Recv 0)) (obtain_tests T i (call_counted v s) v dst w) _ _ (λ code p k some. absurd cc) (λ p k some. absurd cc)
-  call-under v (Delegate src w dst) = unless-keeps (Under (Recv 0)) (delegate_tests T i (call_counted v s) v src w) _ _ (λ code p k some. absurd cc) (option-keeps (Under (Recv 0)) _ (own (call_counted v s) v src) (answer NoCap (call_counted v s)) (λ q held p k some. absurd cc) (λ p k some. absurd cc))
-  call-under v (OpenSession dst name) = unless-keeps (Under (Recv 0)) (open_tests T i (call_counted v s) v dst name) _ _ (λ code p k some. absurd cc) (option-keeps (Under (Recv 0)) (λ (x : Service). ask_made T i v dst (ServTarget x.key) (call_counted v s)) (service_named T name) (answer NoService (call_counted v s)) (λ x there p k some. absurd cc) (λ p k some. absurd cc))
-  call-under v (AskOffer dst session index) = unless-keeps (Under (Recv 0)) (offer_tests T i (call_counted v s) v dst session) _ _ (λ code p k some. absurd cc) (option-keeps (Under (Recv 0)) (λ (k : KeyName). ask_made T i v dst (OfferTarget k index) (call_counted v s)) _ (answer BadKind (call_counted v s)) (λ q there p k some. absurd cc) (λ p k some. absurd cc))
-  call-under v (Revoke src) = option-keeps (Under (Recv 0)) _ (own (call_counted v s) v src) (answer NoCap (call_counted v s)) (λ q held p k some. absurd cc) (λ p k some. absurd cc)
-  call-under v (Bind ep src) = unless-keeps (Under (Recv 0)) (bind_tests (call_counted v s) v src) _ _ (λ code p k some. absurd cc) (option-keeps (Under (Recv 0)) _ (own (call_counted v s) v src) (answer NoCap (call_counted v s)) (λ q held p k some. absurd cc) (λ p k some. absurd cc))
-  call-under v (Read ep off len) = unless-keeps (Under (Recv 0)) (memory_tests 1 off len (endpoint (call_counted v s) v ep)) _ _ (λ code p k some. absurd cc) (λ p k some. absurd cc)
-  call-under v (Write ep off len) = unless-keeps (Under (Recv 0)) (memory_tests 2 off len (endpoint (call_counted v s) v ep)) _ _ (λ code p k some. absurd cc) (λ p k some. absurd cc)
-  call-under v (SendCall ep len) = unless-keeps (Under (Recv 0)) (send_tests (endpoint (call_counted v s) v ep)) _ _ (λ code p k some. absurd cc) (λ p k some. absurd cc)
-  call-under v (Credit ep) = unless-keeps (Under (Recv 0)) (credit_tests (endpoint (call_counted v s) v ep)) _ _ (λ code p k some. absurd cc) (λ p k some. absurd cc)
+      one o p.key _ p at
+      (subst (λ q. narrows q p.key p.object ≡ true) (sym (ap (λ x. option_map_or (λ (y : Capability). Send y.key label credits) x (Recv 0)) held))
+      (narrows-gate p.key label credits p.object (sym (ap (object_passes (exceeds_slots credits)) held) ∙ passed.1.1.1.0)))) (λ p k some. absurd cc))
+  call-under v (Obtain dst w src) = unless-keeps (Under (Recv 0)) (obtain_tests T i (call_counted v s) v dst w) _ _ (λ code p k some. absurd cc)
+      (λ p k some. absurd cc)
+  call-under v (Delegate src w dst) = unless-keeps (Under (Recv 0)) (delegate_tests T i (call_counted v s) v src w) _ _ (λ code p k some. absurd cc)
+      (option-keeps (Under (Recv 0)) _ (own (call_counted v s) v src) (answer NoCap (call_counted v s)) (λ q held p k some. absurd cc) (λ p k some. absurd cc))
+  call-under v (OpenSession dst name) = unless-keeps (Under (Recv 0)) (open_tests T i (call_counted v s) v dst name) _ _ (λ code p k some. absurd cc)
+      (option-keeps (Under (Recv 0)) (λ (x : Service). ask_made T i v dst (ServTarget x.key) (call_counted v s)) (service_named T name)
+      (answer NoService (call_counted v s)) (λ x there p k some. absurd cc) (λ p k some. absurd cc))
+  call-under v (AskOffer dst session index) = unless-keeps (Under (Recv 0)) (offer_tests T i (call_counted v s) v dst session) _ _ (λ code p k some. absurd cc)
+      (option-keeps (Under (Recv 0)) (λ (k : KeyName). ask_made T i v dst (OfferTarget k index) (call_counted v s)) _ (answer BadKind (call_counted v s))
+      (λ q there p k some. absurd cc) (λ p k some. absurd cc))
+  call-under v (Revoke src) = option-keeps (Under (Recv 0)) _ (own (call_counted v s) v src) (answer NoCap (call_counted v s)) (λ q held p k some. absurd cc)
+      (λ p k some. absurd cc)
+  call-under v (Bind ep src) = unless-keeps (Under (Recv 0)) (bind_tests (call_counted v s) v src) _ _ (λ code p k some. absurd cc)
+      (option-keeps (Under (Recv 0)) _ (own (call_counted v s) v src) (answer NoCap (call_counted v s)) (λ q held p k some. absurd cc) (λ p k some. absurd cc))
+  call-under v (Read ep off len) = unless-keeps (Under (Recv 0)) (memory_tests 1 off len (endpoint (call_counted v s) v ep)) _ _ (λ code p k some. absurd cc)
+      (λ p k some. absurd cc)
+  call-under v (Write ep off len) = unless-keeps (Under (Recv 0)) (memory_tests 2 off len (endpoint (call_counted v s) v ep)) _ _ (λ code p k some. absurd cc)
+      (λ p k some. absurd cc)
+  call-under v (SendCall ep len) = unless-keeps (Under (Recv 0)) (send_tests (endpoint (call_counted v s) v ep)) _ _ (λ code p k some. absurd cc)
+      (λ p k some. absurd cc)
+  call-under v (Credit ep) = unless-keeps (Under (Recv 0)) (credit_tests (endpoint (call_counted v s) v ep)) _ _ (λ code p k some. absurd cc)
+      (λ p k some. absurd cc)
   call-under v Exit = λ p k some. absurd cc
-  call-under v (Clear src) = unless-keeps (Under (Recv 0)) (own_tests (own (call_counted v s) v src)) _ _ (λ code p k some. absurd cc) (option-keeps (Under (Recv 0)) _ (own (call_counted v s) v src) (answer NoCap (call_counted v s)) (λ q held p k some. absurd cc) (λ p k some. absurd cc))
+  call-under v (Clear src) = unless-keeps (Under (Recv 0)) (own_tests (own (call_counted v s) v src)) _ _ (λ code p k some. absurd cc)
+      (option-keeps (Under (Recv 0)) _ (own (call_counted v s) v src) (answer NoCap (call_counted v s)) (λ q held p k some. absurd cc) (λ p k some. absurd cc))
 
   found-key : (k : KeyName) (c : Capability) → cap s k ≡ Some c → c.key ≡ k
   found-key k c held = key_eq-true c.key k (found (λ (x : Capability). key_eq x.key k) s.caps c held).1
@@ -131,7 +160,8 @@ module _ (T : Setup) (i : ℕ) (s : Side) (ob : KeyName → Object) (R : Known s
       from None none = absurd cc
       from (Some sel) some = own-cap (ask_taken v s) v sel p some
 
-  serves : (v : ℕ) (place : PlaceName) (target : Target) → slice_get (row s v).asks 0 ≡ Some (ObtainAsk place target) → (p : Capability) → source T (ask_taken v s) v target ≡ Some p → (service : KeyName) → target ≡ ServTarget service → (p.key ≡ service) × (is_of ServKind p.object ≡ true)
+  serves : (v : ℕ) (place : PlaceName) (target : Target) → slice_get (row s v).asks 0 ≡ Some (ObtainAsk place target) → (p : Capability) →
+      source T (ask_taken v s) v target ≡ Some p → (service : KeyName) → target ≡ ServTarget service → (p.key ≡ service) × (is_of ServKind p.object ≡ true)
   serves v place (SelTarget w sel) there p held service is = absurd cc
   serves v place (OfferTarget q index) there p held service is = absurd cc
   serves v place (ServTarget q) there p held service is =
@@ -149,15 +179,21 @@ module _ (T : Setup) (i : ℕ) (s : Side) (ob : KeyName → Object) (R : Known s
   consented-under v (ObtainAsk place target) there =
       let t : Side = ask_taken v s in
       let o : Object = ask_object T t v (ObtainAsk place target) in
-      unless-passed (Under o) (source_tests target (source T t v target)) _ _ (λ code p k some. absurd cc) (λ passed. option-keeps (Under o) (child_given T i place target t) (source T t v target) (plain t) (λ p held.
-      one o p.key _ p (source-cap v target p held) (subst (λ q. narrows q p.key p.object ≡ true) (sym (ap (λ x. option_map_or (given target place.vpe) x (Recv 0)) held)) (narrows-given target place.vpe p (serves v place target there p held) (sym (ap (object_passes (may_not_give target)) held) ∙ passed.1.1.0)))) (λ p k some. absurd cc))
+      unless-passed (Under o) (source_tests target (source T t v target)) _ _ (λ code p k some. absurd cc)
+      (λ passed. option-keeps (Under o) (child_given T i place target t) (source T t v target) (plain t) (λ p held.
+      one o p.key _ p (source-cap v target p held)
+      (subst (λ q. narrows q p.key p.object ≡ true) (sym (ap (λ x. option_map_or (given target place.vpe) x (Recv 0)) held))
+      (narrows-given target place.vpe p (serves v place target there p held) (sym (ap (object_passes (may_not_give target)) held) ∙ passed.1.1.0))))
+      (λ p k some. absurd cc))
   consented-under v (DelegateAsk parent object sel) there =
       let t : Side = ask_taken v s in
       cond_both (kernel_of T parent.vpe == i) _ _ (Under object)
-      (λ _. unless-passed (Under object) (parent_tests (cap t parent) ++ destination_tests t v sel) _ _ (λ code p k some. absurd cc) (λ passed. held (cap s parent) refl passed.0))
+      (λ _. unless-passed (Under object) (parent_tests (cap t parent) ++ destination_tests t v sel) _ _ (λ code p k some. absurd cc)
+      (λ passed. held (cap s parent) refl passed.0))
       (λ _. unless-keeps (Under object) (destination_tests t v sel) _ _ (λ code p k some. absurd cc) (λ p k some. absurd cc))
     where
-      held : (o : Option Capability) → cap s parent ≡ o → is_none o ≡ false → {k : KeyName} → (p r : KeyName) → ◌≡◌ {A = Option (KeyName × KeyName)} (Some (parent, k)) (Some (p, r)) → (d : Capability) × (cap s p ≡ Some d) × (narrows object p d.object ≡ true)
+      held : (o : Option Capability) → cap s parent ≡ o → is_none o ≡ false → {k : KeyName} → (p r : KeyName) →
+          ◌≡◌ {A = Option (KeyName × KeyName)} (Some (parent, k)) (Some (p, r)) → (d : Capability) × (cap s p ≡ Some d) × (narrows object p d.object ≡ true)
       held None at none = absurd cc
       held (Some c) at some =
           let ask = R.asked v parent object sel there in
@@ -167,15 +203,19 @@ module _ (T : Setup) (i : ℕ) (s : Side) (ob : KeyName → Object) (R : Known s
   unfolding upcall_row
   upcall-under v = from (slice_get (row s v).asks 0) refl
     where
-      from : (o : Option Ask) → slice_get (row s v).asks 0 ≡ o → Under (option_map_or (ask_object T (ask_taken v s) v) o (Recv 0)) (option_map_or (λ (a : Ask). ask_decided T i v a (ask_taken v s)) o (plain s))
+      from : (o : Option Ask) → slice_get (row s v).asks 0 ≡ o →
+          Under (option_map_or (ask_object T (ask_taken v s) v) o (Recv 0)) (option_map_or (λ (a : Ask). ask_decided T i v a (ask_taken v s)) o (plain s))
       from None none = λ p k some. absurd cc
-      from (Some a) there = cond_both (is_unawaited T i (ask_taken v s) a) _ _ (Under (ask_object T (ask_taken v s) v a)) (λ _ p k some. absurd cc) (λ _. cond_both (denies T v (asker a)) _ _ (Under (ask_object T (ask_taken v s) v a)) (λ _ p k some. absurd cc) (λ _. consented-under v a there))
+      from (Some a) there = cond_both (is_unawaited T i (ask_taken v s) a) _ _ (Under (ask_object T (ask_taken v s) v a)) (λ _ p k some. absurd cc)
+          (λ _. cond_both (denies T v (asker a)) _ _ (Under (ask_object T (ask_taken v s) v a)) (λ _ p k some. absurd cc) (λ _. consented-under v a there))
 
   resumed-under : (v : ℕ) (p : Option Parked) → parked s v ≡ p → Under (parked_object ob p) (resumed T p (unparked v s))
   resumed-under v (Some (DelegateReady parent key)) there = from (cap s parent) refl
     where
       by_mark : (c : Capability) (m : Option ℕ) → cap s parent ≡ Some c → Under (ob parent) (delegate_granted T parent key m (unparked v s))
-      by_mark c None at = one (ob parent) parent key c at (subst (λ z. narrows (ob parent) parent z ≡ true) (sym (R.object parent c at)) (narrows-same parent (ob parent) (R.waits v parent key there)))
+      by_mark c None at =
+          one (ob parent) parent key c at (subst (λ z. narrows (ob parent) parent z ≡ true) (sym (R.object parent c at))
+          (narrows-same parent (ob parent) (R.waits v parent key there)))
       by_mark c (Some j) at = λ p k some. absurd cc
 
       from : (o : Option Capability) → cap s parent ≡ o → Under (ob parent) (delegate_resumed T parent key o (unparked v s))
@@ -193,7 +233,8 @@ module _ (T : Setup) (i : ℕ) (s : Side) (ob : KeyName → Object) (R : Known s
   unfolding local_step resume_row
   step-under (Calls v) input = from (next_call T s v)
     where
-      from : (o : Option Call) → Under (option_map_or (call_object (call_counted v s) v) o (Recv 0)) (option_map_or (call_row T i (call_counted v s) v) o (plain s))
+      from : (o : Option Call) →
+          Under (option_map_or (call_object (call_counted v s) v) o (Recv 0)) (option_map_or (call_row T i (call_counted v s) v) o (plain s))
       from None = λ p k some. absurd cc
       from (Some c) = call-under v c
   step-under (Fetch from) input = λ p k some. absurd cc

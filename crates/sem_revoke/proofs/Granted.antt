@@ -1,5 +1,6 @@
 -- What is granted is live from then on, or doomed: a call holds it at once, and the Ack of a delegation finds it pending. So nothing is lost.
-use Rattle.std.proofs.Common.{◌≡◌, ◌⊎◌, ℕ, ◌++◌, true, false, not, List, [], ◌∷◌, map, Option, Some, None, is_none, append-nil, append_assoc, refl, sym, ap, ◌∙◌, subst, inl, inr, arith, eq-eqb}
+use Rattle.std.proofs.Common.{◌≡◌, ◌⊎◌, ℕ, ◌++◌, true, false, not, List, [], ◌∷◌, map, Option, Some, None, is_none, append-nil, append_assoc, refl, sym, ap}
+use Rattle.std.proofs.Common.{◌∙◌, subst, inl, inr, arith, eq-eqb}
 use Rattle.std.specs.List.{Contains}
 use Rattle.std.specs.Option.{option_map_or, IsSome}
 use Rattle.std.specs.Prelude.{if◌then◌else◌}
@@ -25,7 +26,8 @@ use Rattle.sem_msg.specs.declared.state.Parked.TheVariants.{ObtainWait, ObtainRe
 use Rattle.sem_msg.specs.declared.state.Pending.{Pending}
 use Rattle.sem_msg.specs.Setup.{Setup, IsSetup}
 use Rattle.sem_msg.specs.Lookups.{owner_of, kernel_of}
-use Rattle.sem_machine.specs.Sides.{Side, no_side, cap, outbox, parked, pending, is_alive, call_counted, drawn, installed, linked, unparked, pending_removed, send, with_inbox}
+use Rattle.sem_machine.specs.Sides.{Side, no_side, cap, outbox, parked, pending, is_alive, call_counted, drawn, installed, linked, unparked, pending_removed}
+use Rattle.sem_machine.specs.Sides.{send, with_inbox}
 use Rattle.sem_machine.specs.Steps.{Step, plain}
 use Rattle.sem_machine.specs.Calls.{next_key, child_made, call_row}
 use Rattle.sem_machine.specs.Handles.{is_key_declared, is_here, is_stray, acknowledged, handle_row, handled}
@@ -100,8 +102,10 @@ resume-acks T s v = by (parked s v)
     granted parent key None = λ p k some.
         let j : ℕ = owner_of T key in
         let old : List Message = outbox t j in
-        subst (λ (g : KeyName × KeyName). Contains (outbox (delegate_granted T parent key None t).side (owner_of T g.1)) (Ack g.1 true)) (same_Some (parent, key) (p, k) some)
-        (subst (λ xs. Contains xs (Ack key true)) (sym (get_or-put_same [] t.outs j (old ++ Ack key true ∷ []))) (Contains-append_right old (Ack key true ∷ []) (Ack key true) (Contains-head (Ack key true) [])))
+        subst (λ (g : KeyName × KeyName). Contains (outbox (delegate_granted T parent key None t).side (owner_of T g.1)) (Ack g.1 true))
+        (same_Some (parent, key) (p, k) some)
+        (subst (λ xs. Contains xs (Ack key true)) (sym (get_or-put_same [] t.outs j (old ++ Ack key true ∷ [])))
+        (Contains-append_right old (Ack key true ∷ []) (Ack key true) (Contains-head (Ack key true) [])))
     granted parent key (Some j) = λ p k some. absurd cc
 
     answered : (parent key : KeyName) (o : Option Capability) → Acks T (delegate_resumed T parent key o t)
@@ -119,7 +123,8 @@ resume-acks T s v = by (parked s v)
     by (Some (Ready code)) = λ p k some. absurd cc
 
 -- An event.
-module _ (T : Setup) (valid : IsSetup T) (J : List Entry) (runs : IsSchedule T J) (before : List Entry) (e : Entry) (later : List Entry) (parts : J ≡ before ++ e ∷ later) where
+module _ (T : Setup) (valid : IsSetup T) (J : List Entry) (runs : IsSchedule T J) (before : List Entry) (e : Entry) (later : List Entry) (parts : J ≡ before
+    ++ e ∷ later) where
   abbrev W : World
   W = world_after T before
 
@@ -149,8 +154,10 @@ module _ (T : Setup) (valid : IsSetup T) (J : List Entry) (runs : IsSchedule T J
   shows a act = ap (λ n. (step-of n).outcome.grant) (sym act) ∙ sym (shown T W e (at T valid J runs before e later parts).2)
 
   -- the Ack stands in the inbox: the key is installed, or its VPE is dead, and an orphan is sent
-  pub ack-handled : (p k : KeyName) (a : ℕ) → Contains (grants before) (p, k) → s.inbox ≡ Some (a, Ack k true) → e.event.act ≡ Handle → Contains (way W a i) (Ack k true)
-      → ((c : Capability) × (cap (side V i) k ≡ Some c)) ⊎ ((is_key_declared T k ≡ true) × (owner_of T k ≡ i) × (is_alive s k.vpe ≡ false) × (q : Pending) × (pending s k ≡ Some q) × (side V i ≡ send (owner_of T q.parent) (Orphan q.parent k) (pending_removed k (with_inbox None s))))
+  pub ack-handled : (p k : KeyName) (a : ℕ) → Contains (grants before) (p, k) → s.inbox ≡ Some (a, Ack k true) → e.event.act ≡ Handle →
+      Contains (way W a i) (Ack k true)
+      → ((c : Capability) × (cap (side V i) k ≡ Some c)) ⊎ ((is_key_declared T k ≡ true) × (owner_of T k ≡ i) × (is_alive s k.vpe ≡ false) × (q : Pending)
+      × (pending s k ≡ Some q) × (side V i ≡ send (owner_of T q.parent) (Orphan q.parent k) (pending_removed k (with_inbox None s))))
   unfolding local_step handle_row
   ack-handled p k a granted full act among =
       let m : Message = Ack k true in
@@ -165,10 +172,23 @@ module _ (T : Setup) (valid : IsSetup T) (J : List Entry) (runs : IsSchedule T J
       let pends = (schedule-one k T valid before begun).pends (omega (arith, inbox, token, part)) in
       let there : pending s k ≡ Some pends.0 = ap (λ n. pending (side W n) k) (sym place.1) ∙ pends.1 in
       elim (cases_Bool (is_alive s k.vpe)) [
-        | inr dead ↦ inr (declared, place.1, dead, pends.0, there, step-is declared home pends.0 there ∙ cond-false (is_alive u k.vpe) (held pends.0) (send (owner_of T pends.0.parent) (Orphan pends.0.parent k) (pending_removed k u)) dead)
+        | inr dead ↦ inr (
+          declared,
+          place.1,
+          dead,
+          pends.0,
+          there,
+          step-is declared home pends.0 there
+              ∙ cond-false (is_alive u k.vpe) (held pends.0) (send (owner_of T pends.0.parent) (Orphan pends.0.parent k) (pending_removed k u)) dead,
+        )
         | inl alive ↦
-            let now' = step-is declared home pends.0 there ∙ cond-true (is_alive u k.vpe) (held pends.0) (send (owner_of T pends.0.parent) (Orphan pends.0.parent k) (pending_removed k u)) alive in
-            inl (fresh k (Some pends.0.parent) pends.0.sel pends.0.object, ap (λ (x : Side). cap x k) now' ∙ installed-held k (Some pends.0.parent) pends.0.sel pends.0.object (pending_removed k u))
+            let now' = step-is declared home pends.0 there
+            ∙ cond-true (is_alive u k.vpe) (held pends.0) (send (owner_of T pends.0.parent) (Orphan pends.0.parent k) (pending_removed k u)) alive in
+            inl (
+              fresh k (Some pends.0.parent) pends.0.sel pends.0.object,
+              ap (λ (x : Side). cap x k) now'
+                  ∙ installed-held k (Some pends.0.parent) pends.0.sel pends.0.object (pending_removed k u),
+            )
       ]
     where
       u : Side
@@ -182,12 +202,15 @@ module _ (T : Setup) (valid : IsSetup T) (J : List Entry) (runs : IsSchedule T J
           → side V i ≡ (if is_alive u k.vpe then held q else send (owner_of T q.parent) (Orphan q.parent k) (pending_removed k u))
       step-is declared home q pends =
           let m : Message = Ack k true in
-          let stray : is_stray T i u m ≡ false = or-false (not (is_key_declared T k)) _ (ap not declared) (or-false (not (is_here T i k.vpe)) _ (ap not (eq-eqb (kernel_of T k.vpe) i home)) (ap is_none pends)) in
+          let stray : is_stray T i u m ≡ false =
+          or-false (not (is_key_declared T k)) _ (ap not declared) (or-false (not (is_here T i k.vpe)) _ (ap not (eq-eqb (kernel_of T k.vpe) i home))
+          (ap is_none pends)) in
           now Handle act
           ∙ (ap (λ x. option_map_or (λ y. handled T i (with_inbox None s) y.0 y.1) x s) full
           ∙ (cond-false (is_stray T i u m) u (handle_row T i u a m) stray ∙ ap (λ o. option_map_or (acknowledged T k true u) o u) pends))
 
-  handled-ack : (p k : KeyName) (a : ℕ) → Contains (grants before) (p, k) → s.inbox ≡ Some (a, Ack k true) → e.event.act ≡ Handle → Contains (way W a i) (Ack k true)
+  handled-ack : (p k : KeyName) (a : ℕ) → Contains (grants before) (p, k) → s.inbox ≡ Some (a, Ack k true) → e.event.act ≡ Handle →
+      Contains (way W a i) (Ack k true)
       → Held (side V i) k ⊎ IsDoomed J k
   handled-ack p k a granted full act among = elim (ack-handled p k a granted full act among) [
     | inl held ↦ inl held
@@ -201,21 +224,30 @@ module _ (T : Setup) (valid : IsSetup T) (J : List Entry) (runs : IsSchedule T J
   ]
 
 -- An Ack along the journal.
-acked-lasts : (T : Setup) → IsSetup T → (J : List Entry) → IsSchedule T J → (before later : List Entry) (p k : KeyName) → J ≡ before ++ later → Contains (grants before) (p, k) → InFlight (world_after T before) (Ack k true) → IsLive (world_after T J) k ⊎ IsDoomed J k
-acked-lasts T valid J runs before [] p k parts granted flight = inl (inr (inr (inl (subst (λ K. InFlight (world_after T K) (Ack k true)) (sym (parts ∙ append-nil before)) flight))))
+acked-lasts : (T : Setup) → IsSetup T → (J : List Entry) → IsSchedule T J → (before later : List Entry) (p k : KeyName) → J ≡ before ++ later →
+    Contains (grants before) (p, k) → InFlight (world_after T before) (Ack k true) → IsLive (world_after T J) k ⊎ IsDoomed J k
+acked-lasts T valid J runs before [] p k parts granted flight =
+    inl (inr (inr (inl (subst (λ K. InFlight (world_after T K) (Ack k true)) (sym (parts ∙ append-nil before)) flight))))
 acked-lasts T valid J runs before (e ∷ later) p k parts granted (a, b, among) = elim (goes T valid J runs before e later parts a b (Ack k true) among) [
   | inl still ↦ acked-lasts T valid J runs (before ++ e ∷ []) later p k (parts ∙ sym (append_assoc before (e ∷ []) later))
-      (subst (λ gs. Contains gs (p, k)) (sym (filter_map-append (λ (x : Entry). x.grant) before (e ∷ []))) (Contains-append_left (grants before) (grants (e ∷ [])) (p, k) granted))
+      (subst (λ gs. Contains gs (p, k)) (sym (filter_map-append (λ (x : Entry). x.grant) before (e ∷ [])))
+      (Contains-append_left (grants before) (grants (e ∷ [])) (p, k) granted))
       (a, b, still)
-  | inr (here, full, act) ↦ elim (handled-ack T valid J runs before e later parts p k a granted full act (subst (λ n. Contains (way (world_after T before) a n) (Ack k true)) here among)) [
-    | inl held ↦ held-live T valid J runs before e later parts e.event.kernel k held
-    | inr doomed ↦ inr doomed
-  ]
+  | inr (
+    here,
+    full,
+    act,
+  ) ↦ elim (handled-ack T valid J runs before e later parts p k a granted full act
+      (subst (λ n. Contains (way (world_after T before) a n) (Ack k true)) here among)) [
+        | inl held ↦ held-live T valid J runs before e later parts e.event.kernel k held
+        | inr doomed ↦ inr doomed
+      ]
 ]
 
 module _ (T : Setup) (valid : IsSetup T) (J : List Entry) (runs : IsSchedule T J) where
   -- what an entry grants
-  pub granted-lasts : (before : List Entry) (e : Entry) (later : List Entry) (p k : KeyName) → J ≡ before ++ e ∷ later → e.grant ≡ Some (p, k) → IsLive (world_after T J) k ⊎ IsDoomed J k
+  pub granted-lasts : (before : List Entry) (e : Entry) (later : List Entry) (p k : KeyName) → J ≡ before ++ e ∷ later → e.grant ≡ Some (p, k) →
+      IsLive (world_after T J) k ⊎ IsDoomed J k
   unfolding local_step
   granted-lasts before e later p k parts granted = by e.event.act refl
     where
@@ -229,15 +261,21 @@ module _ (T : Setup) (valid : IsSetup T) (J : List Entry) (runs : IsSchedule T J
       by (Calls v) act =
           let i : ℕ = e.event.kernel in
           let s : Side = side (world_after T before) i in
-          let held = option-keeps Holds (call_row T i (call_counted v s) v) (next_call T s v) (plain s) (λ c there. call-holds T i v (call_counted v s) c) (λ p' k' some. absurd cc) p k (grants' (Calls v) act) in
-          held-live T valid J runs before e later parts i k (held.0, ap (λ (x : Side). cap x k) (now T valid J runs before e later parts (Calls v) act) ∙ held.1)
+          let held = option-keeps Holds (call_row T i (call_counted v s) v) (next_call T s v) (plain s) (λ c there. call-holds T i v (call_counted v s) c)
+          (λ p' k' some. absurd cc) p k (grants' (Calls v) act) in
+          held-live T valid J runs before e later parts i k (
+            held.0,
+            ap (λ (x : Side). cap x k) (now T valid J runs before e later parts (Calls v) act)
+                ∙ held.1,
+          )
       by (Upcall u) act = given-lasts T valid J runs before e later u p k parts act granted
       by (Resume v) act =
           let V : World = world_after T (before ++ e ∷ []) in
           let i : ℕ = e.event.kernel in
           let j : ℕ = owner_of T k in
           let out = resume-acks T (side (world_after T before) i) v p k (grants' (Resume v) act) in
-          let there : Contains (way V i j) (Ack k true) = Contains-append_right (fetched_from i (side V j).inbox ++ link V i j) (outbox (side V i) j) (Ack k true)
+          let there : Contains (way V i j) (Ack k true) = Contains-append_right (fetched_from i (side V j).inbox ++ link V i j) (outbox (side V i) j)
+          (Ack k true)
           (subst (λ (x : Side). Contains (outbox x j) (Ack k true)) (sym (now T valid J runs before e later parts (Resume v) act)) out) in
           acked-lasts T valid J runs (before ++ e ∷ []) later p k (next T valid J runs before e later parts)
           (among-grants (before ++ e ∷ []) e (p, k) (Contains-append_right before (e ∷ []) e (Contains-head e [])) granted) (i, j, there)

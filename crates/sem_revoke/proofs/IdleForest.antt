@@ -1,5 +1,6 @@
 -- What an idle world holds is the forest: what was cut off is gone, and so is all below it.
-use Rattle.std.proofs.Common.{◌≡◌, ◌⊎◌, ℕ, zero, suc, ◌≤◌, true, false, not, List, [], ◌∷◌, ◌++◌, Option, Some, None, is_some, length, filter, refl, sym, ap, ◌∙◌, subst, inl, inr, arith}
+use Rattle.std.proofs.Common.{◌≡◌, ◌⊎◌, ℕ, zero, suc, ◌≤◌, true, false, not, List, [], ◌∷◌, ◌++◌, Option, Some, None, is_some, length, filter, refl, sym, ap}
+use Rattle.std.proofs.Common.{◌∙◌, subst, inl, inr, arith}
 use Rattle.std.specs.Prelude.{◌↔◌, IsSome}
 use Rattle.std.specs.List.{Contains}
 use Rattle.std.specs.Option.{option_map_or}
@@ -109,9 +110,11 @@ module _ (T : Setup) (valid : IsSetup T) (J : List Entry) (runs : IsSchedule T J
           let rest : Resting None (side W (owner_of T w.0)) k w.0 B.vpe (parked (side W (owner_of T w.0)) B.vpe) = w.1.rest in
           let none = unparked-so T valid J runs idle (owner_of T w.0) B.vpe in
           let dead : is_alive (side W (owner_of T w.0)) B.vpe ≡ false = subst (Resting None (side W (owner_of T w.0)) k w.0 B.vpe) none rest in
-          let over : is_alive (side W (kernel_of T B.own.vpe)) B.own.vpe ≡ false = ap (λ u. is_alive (side W (kernel_of T u)) u) B.whose ∙ (ap (λ n. is_alive (side W n) B.vpe) w.1.home ∙ dead) in
+          let over : is_alive (side W (kernel_of T B.own.vpe)) B.own.vpe ≡ false = ap (λ u. is_alive (side W (kernel_of T u)) u) B.whose
+          ∙ (ap (λ n. is_alive (side W n) B.vpe) w.1.home ∙ dead) in
           elim B.below [
-            | inl same ↦ let there = held-cap k held in none-dead there.0 k there.1 there.2 (ap (λ (q : KeyName). is_alive (side W (kernel_of T q.vpe)) q.vpe) same ∙ over)
+            | inl same ↦ let there = held-cap k held in
+                none-dead there.0 k there.1 there.2 (ap (λ (q : KeyName). is_alive (side W (kernel_of T q.vpe)) q.vpe) same ∙ over)
             | inr granted ↦ let up = all-linked T valid J runs B.own k (inl held) granted in none-dead (owner_of T B.own) B.own up.0 up.1 over
           ]
 
@@ -129,18 +132,22 @@ module _ (T : Setup) (valid : IsSetup T) (J : List Entry) (runs : IsSchedule T J
       let grown_so = all-grown T valid J runs in
       let few = few-grants J in
       let there = child-grown (root_keys T) gs p k granted in
-      let longer : line J k ≡ line_in (suc (length J)) gs k = line-enough (root_keys T) gs grown_so (length J) (suc (length J)) k few (omega (arith, few)) there in
+      let longer : line J k ≡ line_in (suc (length J)) gs k =
+      line-enough (root_keys T) gs grown_so (length J) (suc (length J)) k few (omega (arith, few)) there in
       from (subst (λ ks. Contains ks a) longer among)
     where
       from : Contains (line_in (suc (length J)) gs k) a → (k ≡ a) ⊎ Contains (line J p) a
-      from here = Contains-cons_cases k (line J p) a (subst (λ (o : Option KeyName). Contains (k ∷ option_map_or (line_in (length J) gs) o []) a) (parent-is (root_keys T) gs (all-grown T valid J runs) p k granted) here)
+      from here = Contains-cons_cases k (line J p) a (subst (λ (o : Option KeyName). Contains (k ∷ option_map_or (line_in (length J) gs) o []) a)
+          (parent-is (root_keys T) gs (all-grown T valid J runs) p k granted) here)
 
   -- nor was what is above it
-  uncut-step : (k : KeyName) → IsHeld W k → (a : KeyName) → Contains (line J k) a → IsCutOff J a → ((p : KeyName) → Contains gs (p, k) → IsHeld W p → Contains (line J p) a → ⊥) → ⊥
+  uncut-step : (k : KeyName) → IsHeld W k → (a : KeyName) → Contains (line J k) a → IsCutOff J a →
+      ((p : KeyName) → Contains gs (p, k) → IsHeld W p → Contains (line J p) a → ⊥) → ⊥
   uncut-step k held a among cut' rest = from (parent_in gs k) refl
     where
       from : (o : Option KeyName) → parent_in gs k ≡ o → ⊥
-      from None at = uncut-itself k held (subst (IsCutOff J) (sym (only (Contains-cons_cases k [] a (subst (λ ks. Contains ks a) (line-alone (length J) gs k at) among)))) cut')
+      from None at = uncut-itself k held
+          (subst (IsCutOff J) (sym (only (Contains-cons_cases k [] a (subst (λ ks. Contains ks a) (line-alone (length J) gs k at) among)))) cut')
         where
           only : (k ≡ a) ⊎ Contains [] a → k ≡ a
           only (inl same) = same
@@ -153,8 +160,10 @@ module _ (T : Setup) (valid : IsSetup T) (J : List Entry) (runs : IsSchedule T J
           ]
 
   uncut : (n : ℕ) (k : KeyName) → IsHeld W k → depth k ≤ n → (a : KeyName) → Contains (line J k) a → IsCutOff J a → ⊥
-  uncut zero k held small a among cut' = uncut-step k held a among cut' (λ p granted held' above. let more = deeper T valid J runs p k granted in absurd (omega (arith, more, small)))
-  uncut (suc n) k held small a among cut' = uncut-step k held a among cut' (λ p granted held' above. let more = deeper T valid J runs p k granted in uncut n p held' (omega (arith, more, small)) a above cut')
+  uncut zero k held small a among cut' = uncut-step k held a among cut' (λ p granted held' above. let more = deeper T valid J runs p k granted in
+      absurd (omega (arith, more, small)))
+  uncut (suc n) k held small a among cut' = uncut-step k held a among cut' (λ p granted held' above. let more = deeper T valid J runs p k granted in
+      uncut n p held' (omega (arith, more, small)) a above cut')
 
   abbrev cuts : List KeyName
   cuts = cut_from [] J
@@ -173,7 +182,10 @@ module _ (T : Setup) (valid : IsSetup T) (J : List Entry) (runs : IsSchedule T J
 
   -- what is held is the forest
   pub forest-held : (k : KeyName) → IsHeld W k ↔ Contains (forest T J) k
-  forest-held k = (λ held. Contains-filter (λ q. not (descends_from_any J (cut T J) q)) (made T J) k (used-made T J runs k (inl (inl held))) (free held), λ among. live-held k (nothing-lost T valid J runs k among))
+  forest-held k = (
+    λ held. Contains-filter (λ q. not (descends_from_any J (cut T J) q)) (made T J) k (used-made T J runs k (inl (inl held))) (free held),
+    λ among. live-held k (nothing-lost T valid J runs k among),
+  )
     where
       free : IsHeld W k → not (descends_from_any J (cut T J) k) ≡ true
       free held = ap not (false_from_ne_true (descends_from_any J (cut T J) k) (λ descends.

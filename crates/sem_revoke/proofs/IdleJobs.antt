@@ -1,5 +1,7 @@
--- In an idle world after a schedule no job is open, since below each there would be another, deeper among the grants; so nothing is marked, no call is parked, and no delegation is pending.
-use Rattle.std.proofs.Common.{◌≡◌, ℕ, zero, suc, ◌+◌, ◌≤◌, true, false, List, [], ◌∷◌, ◌++◌, length, Option, Some, None, is_some, refl, ap, subst, ◌∙◌, inl, inr, arith}
+-- In an idle world after a schedule no job is open, since below each there would be another, deeper among the grants; so nothing is marked, no call is parked,
+-- and no delegation is pending.
+use Rattle.std.proofs.Common.{◌≡◌, ℕ, zero, suc, ◌+◌, ◌≤◌, true, false, List, [], ◌∷◌, ◌++◌, length, Option, Some, None, is_some, refl, ap, subst, ◌∙◌, inl}
+use Rattle.std.proofs.Common.{inr, arith}
 use Rattle.std.specs.List.{Contains}
 use Rattle.std.specs.Option.{option_map_or}
 use Rattle.sem_key.specs.KeyName.{KeyName}
@@ -39,7 +41,8 @@ still W idle (by_message m (i, j, among)) = Contains-nil m (subst (λ ms. Contai
     none (Some x) h = absurd cc
 
     empty : way W i j ≡ []
-    empty = ap (λ o. (fetched_from i o ++ link W i j) ++ outbox (side W i) j) (none (side W j).inbox (idle.inboxes j)) ∙ (ap (λ ms. ms ++ outbox (side W i) j) (idle.links i j) ∙ idle.outboxes i j)
+    empty = ap (λ o. (fetched_from i o ++ link W i j) ++ outbox (side W i) j) (none (side W j).inbox (idle.inboxes j))
+        ∙ (ap (λ ms. ms ++ outbox (side W i) j) (idle.links i j) ∙ idle.outboxes i j)
 
 -- a line is no longer than the bound by which it is read
 line-short : (n : ℕ) (gs : List (KeyName × KeyName)) (k : KeyName) → length (line_in n gs k) ≤ n + 1
@@ -64,8 +67,10 @@ module _ (T : Setup) (valid : IsSetup T) (J : List Entry) (runs : IsSchedule T J
   deeper p k granted =
       let grown_so = all-grown T valid J runs in
       let few = few-grants J in
-      let at : option_map_or (line_in (length J) gs) (parent_in gs k) [] ≡ line_in (length J) gs p = ap (λ o. option_map_or (line_in (length J) gs) o []) (parent-is (root_keys T) gs grown_so p k granted) in
-      let enough : line_in (length J) gs p ≡ line_in (suc (length J)) gs p = line-enough (root_keys T) gs grown_so (length J) (suc (length J)) p few (omega (arith, few)) (parent-grown (root_keys T) gs grown_so p k granted) in
+      let at : option_map_or (line_in (length J) gs) (parent_in gs k) [] ≡ line_in (length J) gs p =
+      ap (λ o. option_map_or (line_in (length J) gs) o []) (parent-is (root_keys T) gs grown_so p k granted) in
+      let enough : line_in (length J) gs p ≡ line_in (suc (length J)) gs p =
+      line-enough (root_keys T) gs grown_so (length J) (suc (length J)) p few (omega (arith, few)) (parent-grown (root_keys T) gs grown_so p k granted) in
       let count = ap length (at ∙ enough) in
       omega (arith, count)
 
@@ -74,15 +79,19 @@ module _ (T : Setup) (valid : IsSetup T) (J : List Entry) (runs : IsSchedule T J
     W = world_after T J
 
     -- what a job marks is no less deep than its root
-    below-step : (i j : ℕ) (x : JobRow) → job (side W i) j ≡ Some x → (k : KeyName) (c : Capability) → HoldsCap W i k c → c.mark ≡ Some j → ((up : HasMarkedParent J W i j k) → depth x.root ≤ depth up.parent) → depth x.root ≤ depth k
+    below-step : (i j : ℕ) (x : JobRow) → job (side W i) j ≡ Some x → (k : KeyName) (c : Capability) → HoldsCap W i k c → c.mark ≡ Some j →
+        ((up : HasMarkedParent J W i j k) → depth x.root ≤ depth up.parent) → depth x.root ≤ depth k
     below-step i j x open_so k c held marked rest = elim (marked-below T valid J runs i k c j x held marked open_so) [
       | inl same ↦ let equal = ap depth same in omega (arith, equal)
       | inr up ↦ let more = deeper up.parent k up.granted in let above = rest up in omega (arith, more, above)
     ]
 
-    below-root : (n i j : ℕ) (x : JobRow) → job (side W i) j ≡ Some x → (k : KeyName) (c : Capability) → HoldsCap W i k c → c.mark ≡ Some j → depth k ≤ n → depth x.root ≤ depth k
-    below-root zero i j x open_so k c held marked small = below-step i j x open_so k c held marked (λ up. let more = deeper up.parent k up.granted in absurd (omega (arith, more, small)))
-    below-root (suc n) i j x open_so k c held marked small = below-step i j x open_so k c held marked (λ up. let more = deeper up.parent k up.granted in below-root n i j x open_so up.parent up.capability up.held up.marked (omega (arith, more, small)))
+    below-root : (n i j : ℕ) (x : JobRow) → job (side W i) j ≡ Some x → (k : KeyName) (c : Capability) → HoldsCap W i k c → c.mark ≡ Some j → depth k ≤ n →
+        depth x.root ≤ depth k
+    below-root zero i j x open_so k c held marked small = below-step i j x open_so k c held marked (λ up. let more = deeper up.parent k up.granted in
+        absurd (omega (arith, more, small)))
+    below-root (suc n) i j x open_so k c held marked small = below-step i j x open_so k c held marked (λ up. let more = deeper up.parent k up.granted in
+        below-root n i j x open_so up.parent up.capability up.held up.marked (omega (arith, more, small)))
 
     -- so there is no job: below each there would be a deeper one
     job-step : (i j : ℕ) (x : JobRow) → job (side W i) j ≡ Some x → ((lower : HasJobBelow W i j) → depth x.root + 1 ≤ depth lower.below.root → ⊥) → ⊥
@@ -97,7 +106,8 @@ module _ (T : Setup) (valid : IsSetup T) (J : List Entry) (runs : IsSchedule T J
 
     no-job : (n i j : ℕ) (x : JobRow) → job (side W i) j ≡ Some x → length J + 3 ≤ depth x.root + n → ⊥
     no-job zero i j x open_so deep = let short = line-short (suc (length J)) gs x.root in omega (arith, short, deep)
-    no-job (suc n) i j x open_so deep = job-step i j x open_so (λ lower step. no-job n lower.kernel lower.id lower.below lower.open_below (omega (arith, deep, step)))
+    no-job (suc n) i j x open_so deep =
+        job-step i j x open_so (λ lower step. no-job n lower.kernel lower.id lower.below lower.open_below (omega (arith, deep, step)))
 
     pub no-jobs : (i j : ℕ) → job (side W i) j ≡ None
     no-jobs i j = from (job (side W i) j) refl

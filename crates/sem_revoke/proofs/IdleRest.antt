@@ -27,10 +27,16 @@ module _ (T : Setup) (valid : IsSetup T) (J : List Entry) (runs : IsSchedule T J
   W = world_after T J
 
   -- each link leads to a held capability, which has the holder of the link as its parent
-  links-so : (i : ℕ) (p k : KeyName) (c : Capability) → HoldsCap W i p c → Contains c.children k → (j : ℕ) × (d : Capability) × HoldsCap W j k d × (d.parent ≡ Some p)
+  links-so : (i : ℕ) (p k : KeyName) (c : Capability) → HoldsCap W i p c → Contains c.children k → (j : ℕ) × (d : Capability) × HoldsCap W j k d
+      × (d.parent ≡ Some p)
   links-so i p k c held child =
       let home : owner_of T p ≡ i = schedule-homes T valid J runs i p c held in
-      let granted : Par (grants J) p k = (schedule-fit T valid J runs).links p k (c, ap (λ n. cap (side W n) p) home ∙ held, has_key-from_Contains c.children k child) in
+      let granted : Par (grants J) p k = (schedule-fit T valid J runs).links p k (
+        c,
+        ap (λ n. cap (side W n) p) home
+            ∙ held,
+        has_key-from_Contains c.children k child,
+      ) in
       let there : IsHeld W k = elim (links-lead T valid J runs i p k c held (no-marks T valid J runs idle i p c held) child) [
         | inl live ↦ live-held T valid J runs idle k live
         | inr (inl orphan) ↦ absurd (still W idle (by_message (Orphan p k) orphan))

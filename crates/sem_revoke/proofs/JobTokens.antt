@@ -1,5 +1,6 @@
 -- An open job has a token out: a message on its way, or a job below it that names it.
-use Rattle.std.proofs.Common.{◌≡◌, refl, ◌⊎◌, ℕ, zero, suc, ◌+◌, ◌≤◌, ◌<◌, true, ◌&&◌, List, [], ◌∷◌, ◌++◌, get_or, Option, Some, None, sym, ap, ◌∙◌, subst, inl, inr, arith, eq-eqb}
+use Rattle.std.proofs.Common.{◌≡◌, refl, ◌⊎◌, ℕ, zero, suc, ◌+◌, ◌≤◌, ◌<◌, true, ◌&&◌, List, [], ◌∷◌, ◌++◌, get_or, Option, Some, None, sym, ap, ◌∙◌, subst}
+use Rattle.std.proofs.Common.{inl, inr, arith, eq-eqb}
 use Rattle.std.specs.Prelude.{◌==◌, if◌then◌else◌}
 use Rattle.std.specs.List.{Contains, sum_by}
 use Rattle.std.proofs.lemmas.Bool.{cases_eq, cases_lt, cond-true, and_from, and_parts, eqb-true, true≢false}
@@ -77,8 +78,14 @@ module _ (S : Scale) (W : World) where
   links-some some =
       let i = from-some0 (λ i ls. sum_from (of_messages S i) 0 ls) [] W.links some in
       let j = from-some0 (of_messages S i.0) [] (get_or W.links i.0 []) i.1 in
-      let m = some-in (S.message i.0 j.0) (link W i.0 j.0) j.1 in
-      (i.0, j.0, m.0, Contains-append_left (fetched_from i.0 (side W j.0).inbox ++ link W i.0 j.0) (outbox (side W i.0) j.0) m.0 (Contains-append_right (fetched_from i.0 (side W j.0).inbox) (link W i.0 j.0) m.0 m.1), m.2)
+      let m = some-in (S.message i.0 j.0) (link W i.0 j.0) j.1 in (
+        i.0,
+        j.0,
+        m.0,
+        Contains-append_left (fetched_from i.0 (side W j.0).inbox ++ link W i.0 j.0) (outbox (side W i.0) j.0) m.0
+            (Contains-append_right (fetched_from i.0 (side W j.0).inbox) (link W i.0 j.0) m.0 m.1),
+        m.2,
+      )
 
   side-some : (i : ℕ) → 1 ≤ of_side S i (side W i) → HasWeight
   side-some i some = elim (cases_eq (sum_by (S.job i) (side W i).jobs) 0) [
@@ -128,7 +135,8 @@ module _ (T : Setup) (valid : IsSetup T) (J : List Entry) (runs : IsSchedule T J
       let there = found (λ (y : JobRow). y.id == j) (side W i).jobs x open_ in
       let sound = (schedule-sound T valid J runs).sides i (kernel-low i j x open_) in
       let some : 0 < x.count = elim (sound.counted x there.0 (λ no'. absurd cc)) [ inl is ↦ is | inr no' ↦ absurd cc ] in
-      let weight : (if (i == i) && (x.id == j) then x.count else 0) ≡ x.count = cond-true ((i == i) && (x.id == j)) x.count 0 (and_from (i == i) (x.id == j) (eq-eqb i i refl) there.1) in
+      let weight : (if (i == i) && (x.id == j) then x.count else 0) ≡ x.count =
+      cond-true ((i == i) && (x.id == j)) x.count 0 (and_from (i == i) (x.id == j) (eq-eqb i i refl) there.1) in
       let among = weigh-among ((counting i j).job i) (side W i).jobs x there.0 in
       let part = jobs-part (counting i j) W i in
       let same = tokens-counted T valid J runs i j in

@@ -1,4 +1,5 @@
--- Small steps of a revoke keep what is so of a view, from one hand to the next. Here a view is any functions; what the changes of a side do to them comes later.
+-- Small steps of a revoke keep what is so of a view, from one hand to the next. Here a view is any functions; what the changes of a side do to them comes
+-- later.
 use Rattle.std.proofs.Common.{◌≡◌, ◌⊎◌, ℕ, ◌+◌, ◌≤◌, Bool, true, false, Option, Some, None, refl, sym, ap, ◌∙◌, subst, inl, inr, arith}
 use Rattle.std.proofs.lemmas.Bool.{cases_Bool, cases_eq}
 use Rattle.std.proofs.lemmas.Option.{same_Some}
@@ -29,8 +30,10 @@ module _ (owner : KeyName → ℕ) (G : KeyName → KeyName → Type 0) (one : (
 
   -- a change after which the same is held, but for children that are gone
   pub record HoldsOn (V U : View) : Type 0 where
-    pub on : (p : KeyName) (d : Capability) → V.hold p ≡ Some d → (e : Capability) × (U.hold p ≡ Some e) × (e.mark ≡ d.mark) × ((k : KeyName) → Alive owner G M U k → has_key d.children k ≡ true → has_key e.children k ≡ true)
-    pub back : (p : KeyName) (e : Capability) → U.hold p ≡ Some e → (d : Capability) × (V.hold p ≡ Some d) × (d.mark ≡ e.mark) × ((k : KeyName) → has_key e.children k ≡ true → has_key d.children k ≡ true)
+    pub on : (p : KeyName) (d : Capability) → V.hold p ≡ Some d → (e : Capability) × (U.hold p ≡ Some e) × (e.mark ≡ d.mark)
+        × ((k : KeyName) → Alive owner G M U k → has_key d.children k ≡ true → has_key e.children k ≡ true)
+    pub back : (p : KeyName) (e : Capability) → U.hold p ≡ Some e → (d : Capability) × (V.hold p ≡ Some d) × (d.mark ≡ e.mark)
+        × ((k : KeyName) → has_key e.children k ≡ true → has_key d.children k ≡ true)
     pub fewer : (k : KeyName) → U.gifts k ≤ V.gifts k
 
   -- the same is held
@@ -56,7 +59,13 @@ module _ (owner : KeyName → ℕ) (G : KeyName → KeyName → Type 0) (one : (
     alive-back k (inr more) = let few = H.fewer k in inr (omega (arith, few, more))
 
     pub gone-on : (k : KeyName) → Gone owner G M V k → Gone owner G M U k
-    gone-on k (none, zero') = (elim (cases_Option (U.hold k)) [ inl (c, held) ↦ (let d = H.back k c held in let no' : None ≡ Some d.0 = sym none ∙ d.1 in absurd cc) | inr no' ↦ no' ], let few = H.fewer k in omega (arith, few, zero'))
+    gone-on k (none, zero') = (
+      elim (cases_Option (U.hold k)) [
+        | inl (c, held) ↦ (let d = H.back k c held in let no' : None ≡ Some d.0 = sym none ∙ d.1 in absurd cc)
+        | inr no' ↦ no'
+      ],
+      let few = H.fewer k in omega (arith, few, zero'),
+    )
 
     pub fit-on : IsFit owner G M V → IsFit owner G M U
     fit-on fit = record {
@@ -71,8 +80,10 @@ module _ (owner : KeyName → ℕ) (G : KeyName → KeyName → Type 0) (one : (
     pub keep : (h h' : Hand) → IsFit owner G M V → Revokes owner G M h V
         → ((k : KeyName) (a b : ℕ) → Alive owner G M U k → Under owner G M V k a b → (1 ≤ V.asked k a b) ⊎ h.cares a b k → Caught owner G M h' U a b k)
         → ((k : KeyName) (a b : ℕ) → 1 ≤ U.asked k a b → (1 ≤ V.asked k a b) ⊎ Under owner G M V k a b)
-        → ((k : KeyName) (n : ℕ) (x : JobRow) → Marked owner G M V k n → V.job (owner k) n ≡ Some x → (y : JobRow) × (U.job (owner k) n ≡ Some y) × (y.root ≡ x.root))
-        → ((a n : ℕ) (y : JobRow) → U.job a n ≡ Some y → (x : JobRow) × (V.job a n ≡ Some x) × (x.root ≡ y.root) × (IsAlone x → IsAlone y) × (h.loose a n → h'.loose a n))
+        → ((k : KeyName) (n : ℕ) (x : JobRow) → Marked owner G M V k n → V.job (owner k) n ≡ Some x → (y : JobRow) × (U.job (owner k) n ≡ Some y)
+        × (y.root ≡ x.root))
+        → ((a n : ℕ) (y : JobRow) → U.job a n ≡ Some y → (x : JobRow) × (V.job a n ≡ Some x) × (x.root ≡ y.root) × (IsAlone x → IsAlone y)
+        × (h.loose a n → h'.loose a n))
         → ((a b : ℕ) → U.tokens a b + h'.owed a b ≡ U.count a b)
         → IsSingle owner G M h' U
         → ((k : KeyName) → 1 ≤ U.notices k → (1 ≤ V.notices k) ⊎ (Gone owner G M U k × M k))
@@ -103,7 +114,8 @@ module _ (owner : KeyName → ℕ) (G : KeyName → KeyName → Type 0) (one : (
       placed = placed';
     }
       where
-        caught-on : (p k : KeyName) (n : ℕ) → Alive owner G M U k → Under owner G M V k (owner p) n → Caught owner G M h V (owner p) n k → Caught owner G M h' U (owner p) n k
+        caught-on : (p k : KeyName) (n : ℕ) → Alive owner G M U k → Under owner G M V k (owner p) n → Caught owner G M h V (owner p) n k →
+            Caught owner G M h' U (owner p) n k
         caught-on p k n alive under (inl (at, marked)) = inl (at, marked-on k n marked)
         caught-on p k n alive under (inr before) = caught' k (owner p) n alive under before
 
@@ -133,16 +145,23 @@ module _ (owner : KeyName → ℕ) (G : KeyName → KeyName → Type 0) (one : (
     pub once : (k : KeyName) (a b : ℕ) → U.asked k a b ≤ 1
 
   module _ (h : Hand) (i j : ℕ) (root : KeyName) (region : KeyName → Bool) (child : KeyName → Bool) (V U : View) (B : Begins h i j root region child V U) where
-    opened-on : (p : KeyName) (d : Capability) → V.hold p ≡ Some d → (e : Capability) × (U.hold p ≡ Some e) × (e.children ≡ d.children) × ((n : ℕ) → d.mark ≡ Some n → e.mark ≡ Some n)
+    opened-on : (p : KeyName) (d : Capability) → V.hold p ≡ Some d → (e : Capability) × (U.hold p ≡ Some e) × (e.children ≡ d.children)
+        × ((n : ℕ) → d.mark ≡ Some n → e.mark ≡ Some n)
     opened-on p d held = elim (cases_Bool (region p)) [
       | inl here ↦
           let c = B.inside p here in
-          let same : c.0 ≡ d = same_Some c.0 d (sym c.1 ∙ held) in
-          (with_mark j d, B.marked_in p d here held, refl, λ n marked. let none : None ≡ Some n = sym c.2 ∙ (ap (λ (x : Capability). x.mark) same ∙ marked) in absurd cc)
+          let same : c.0 ≡ d = same_Some c.0 d (sym c.1 ∙ held) in (
+            with_mark j d,
+            B.marked_in p d here held,
+            refl,
+            λ n marked. let none : None ≡ Some n = sym c.2 ∙ (ap (λ (x : Capability). x.mark) same ∙ marked) in
+                absurd cc,
+          )
       | inr out ↦ (d, B.same_out p out ∙ held, refl, λ n marked. marked)
     ]
 
-    opened-back : (p : KeyName) (e : Capability) → U.hold p ≡ Some e → (d : Capability) × (V.hold p ≡ Some d) × (e.children ≡ d.children) × (((region p ≡ true) × (e.mark ≡ Some j)) ⊎ ((region p ≡ false) × (e.mark ≡ d.mark)))
+    opened-back : (p : KeyName) (e : Capability) → U.hold p ≡ Some e → (d : Capability) × (V.hold p ≡ Some d) × (e.children ≡ d.children)
+        × (((region p ≡ true) × (e.mark ≡ Some j)) ⊎ ((region p ≡ false) × (e.mark ≡ d.mark)))
     opened-back p e held = elim (cases_Bool (region p)) [
       | inl here ↦
           let c = B.inside p here in
@@ -162,7 +181,13 @@ module _ (owner : KeyName → ℕ) (G : KeyName → KeyName → Type 0) (one : (
     opened-alive k (inr more) = let few = B.fewer k in inr (omega (arith, few, more))
 
     opened-gone : (k : KeyName) → Gone owner G M V k → Gone owner G M U k
-    opened-gone k (none, zero') = (elim (cases_Option (U.hold k)) [ inl (c, held) ↦ (let d = opened-back k c held in let no' : None ≡ Some d.0 = sym none ∙ d.1 in absurd cc) | inr no' ↦ no' ], let few = B.fewer k in omega (arith, few, zero'))
+    opened-gone k (none, zero') = (
+      elim (cases_Option (U.hold k)) [
+        | inl (c, held) ↦ (let d = opened-back k c held in let no' : None ≡ Some d.0 = sym none ∙ d.1 in absurd cc)
+        | inr no' ↦ no'
+      ],
+      let few = B.fewer k in omega (arith, few, zero'),
+    )
 
     region-marked : (k : KeyName) → region k ≡ true → Marked owner G M U k j
     region-marked k here = let c = B.inside k here in (with_mark j c.0, B.marked_in k c.0 here c.1, refl)
@@ -176,9 +201,11 @@ module _ (owner : KeyName → ℕ) (G : KeyName → KeyName → Type 0) (one : (
       made = λ k alive. fit.made k (opened-alive k alive);
     }
 
-    pub keep_begun : (h' : Hand) → ((k : KeyName) → child k ≡ true → h'.cares i j k) → ((a b : ℕ) → h'.owed a b ≡ 0) → ((k : KeyName) (a b : ℕ) → h'.cares a b k → U.asked k a b ≡ 0) → IsFit owner G M V → Revokes owner G M h V → Revokes owner G M h' U
+    pub keep_begun : (h' : Hand) → ((k : KeyName) → child k ≡ true → h'.cares i j k) → ((a b : ℕ) → h'.owed a b ≡ 0) →
+        ((k : KeyName) (a b : ℕ) → h'.cares a b k → U.asked k a b ≡ 0) → IsFit owner G M V → Revokes owner G M h V → Revokes owner G M h' U
     keep_begun h' cares owes unasked fit R = record {
-      linked = λ p k granted alive. let d = R.linked p k granted (opened-alive k alive) in let e = opened-on p d.0 d.1 in (e.0, e.1, ap (λ ks. has_key ks k) e.2 ∙ d.2);
+      linked = λ p k granted alive. let d = R.linked p k granted (opened-alive k alive) in let e = opened-on p d.0 d.1 in
+          (e.0, e.1, ap (λ ks. has_key ks k) e.2 ∙ d.2);
       caught = λ p k e n held marked among alive.
           let d = opened-back p e held in
           let before : has_key d.0.children k ≡ true = ap (λ ks. has_key ks k) (sym d.2) ∙ among in
@@ -210,7 +237,10 @@ module _ (owner : KeyName → ℕ) (G : KeyName → KeyName → Type 0) (one : (
           ];
       roots = λ a n x open_. elim (B.jobs_back a n x open_) [
         | inl before ↦ elim (R.roots a n x before) [ inl loose ↦ absurd (B.tight a n loose) | inr (at, marked) ↦ inr (at, opened-marked x.root n marked) ]
-        | inr (at, job, is_root, alone) ↦ inr (ap owner is_root ∙ ((B.inside root B.root_in).3 ∙ sym at), subst (λ k. Marked owner G M U k n) (sym is_root) (subst (Marked owner G M U root) (sym job) (region-marked root B.root_in)))
+        | inr (at, job, is_root, alone) ↦ inr (
+          ap owner is_root ∙ ((B.inside root B.root_in).3 ∙ sym at),
+          subst (λ k. Marked owner G M U k n) (sym is_root) (subst (Marked owner G M U root) (sym job) (region-marked root B.root_in)),
+        )
       ];
       alone = λ a n x open_. elim (B.jobs_back a n x open_) [ inl before ↦ R.alone a n x before | inr (at, job, is_root, alone) ↦ alone ];
       counted = λ a b. let few = B.counts a b in let none = owes a b in omega (arith, few, none);
@@ -243,7 +273,13 @@ module _ (owner : KeyName → ℕ) (G : KeyName → KeyName → Type 0) (one : (
     swept-alive k (inr more) = let few = S.fewer k in inr (omega (arith, few, more))
 
     pub swept-gone : (k : KeyName) → Gone owner G M V k → Gone owner G M U k
-    swept-gone k (none, zero') = (elim (cases_Option (U.hold k)) [ inl (c, held) ↦ (let no' : None ≡ Some c = sym none ∙ (S.back k c held).0 in absurd cc) | inr no' ↦ no' ], let few = S.fewer k in omega (arith, few, zero'))
+    swept-gone k (none, zero') = (
+      elim (cases_Option (U.hold k)) [
+        | inl (c, held) ↦ (let no' : None ≡ Some c = sym none ∙ (S.back k c held).0 in absurd cc)
+        | inr no' ↦ no'
+      ],
+      let few = S.fewer k in omega (arith, few, zero'),
+    )
 
     -- what another job marks stays marked
     swept-marked : (k : KeyName) (m : ℕ) → Marked owner G M V k m → ((owner k ≡ i) × (m ≡ n) → ⊥) → Marked owner G M U k m
@@ -268,7 +304,8 @@ module _ (owner : KeyName → ℕ) (G : KeyName → KeyName → Type 0) (one : (
         let zero' = fit.apart k c held in
         let few = S.fewer k in
         not-gone U k (gone, omega (arith, zero', few)) alive
-    orphan-gone p k fit (inr (inl more)) here alive = let zero' = S.none k in let same : V.asked k (owner p) n ≡ V.asked k i n = ap (λ a. V.asked k a n) here in omega (arith, more, zero', same)
+    orphan-gone p k fit (inr (inl more)) here alive = let zero' = S.none k in let same : V.asked k (owner p) n ≡ V.asked k i n = ap (λ a. V.asked k a n) here in
+        omega (arith, more, zero', same)
     orphan-gone p k fit (inr (inr care)) here alive = care
 
     pub keep_swept : IsFit owner G M V → Revokes owner G M free_hand V → Revokes owner G M (closing i n) U
@@ -282,11 +319,16 @@ module _ (owner : KeyName → ℕ) (G : KeyName → KeyName → Type 0) (one : (
       asking = λ k a b more.
           let same = S.asked_on k a b in
           let before : 1 ≤ V.asked k a b = omega (arith, more, same) in
-          swept-under k a b (R.asking k a b before) (λ (at, job). let zero' = S.none k in let here : V.asked k a b ≡ V.asked k i n = ap (λ c. V.asked k c b) at ∙ ap (V.asked k i) job in omega (arith, before, zero', here));
+          swept-under k a b (R.asking k a b before) (λ (at, job). let zero' = S.none k in let here : V.asked k a b ≡ V.asked k i n = ap (λ c. V.asked k c b) at
+          ∙ ap (V.asked k i) job in omega (arith, before, zero', here));
       marks = λ k m (c, held, marked).
           let b = S.back k c held in
-          let x = R.marks k m (c, b.0, marked) in
-          (x.0, S.jobs_on (owner k) m ∙ x.1, elim x.2 [ inl is_root ↦ inl is_root | inr under ↦ inr (swept-under k (owner k) m under (λ (at, job). b.1 (at, marked ∙ ap Some job))) ]);
+          let x = R.marks k m (c, b.0, marked) in (
+            x.0,
+            S.jobs_on (owner k) m
+                ∙ x.1,
+            elim x.2 [ inl is_root ↦ inl is_root | inr under ↦ inr (swept-under k (owner k) m under (λ (at, job). b.1 (at, marked ∙ ap Some job))) ],
+          );
       roots = λ a m x open_. elim (R.roots a m x (sym (S.jobs_on a m) ∙ open_)) [
         | inl no' ↦ absurd no'
         | inr (at, marked) ↦ elim (cases_eq m n) [
@@ -304,7 +346,8 @@ module _ (owner : KeyName → ℕ) (G : KeyName → KeyName → Type 0) (one : (
       placed = S.misplaced;
     }
       where
-        old : (p k : KeyName) (m : ℕ) → ((owner p ≡ i) × (m ≡ n) → ⊥) → Caught owner G M free_hand V (owner p) m k → Caught owner G M (closing i n) U (owner p) m k
+        old : (p k : KeyName) (m : ℕ) → ((owner p ≡ i) × (m ≡ n) → ⊥) → Caught owner G M free_hand V (owner p) m k →
+            Caught owner G M (closing i n) U (owner p) m k
         old p k m other (inl (at, marked)) = inl (at, swept-marked k m marked (λ (here, job). other (sym at ∙ here, job)))
         old p k m other (inr (inl more)) = let same = S.asked_on k (owner p) m in inr (inl (omega (arith, more, same)))
         old p k m other (inr (inr care)) = absurd care

@@ -3,7 +3,8 @@ use Rattle.sem_msg.specs.declared.code.Code.TheVariants.{Revoking}
 use Rattle.sem_msg.specs.declared.message.Message.{Message}
 use Rattle.sem_msg.specs.JobRows.{job_of}
 use Rattle.sem_key.proofs.KeyTests.{key_eq-same}
-use Rattle.std.proofs.Common.{◌≡◌, ◌⊎◌, ℕ, ◌++◌, List, [], ◌∷◌, length, Option, Some, None, option_to_list, is_some, append-nil, append_assoc, get_or, refl, sym, ap, ◌∙◌, subst, inl, inr, true}
+use Rattle.std.proofs.Common.{◌≡◌, ◌⊎◌, ℕ, ◌++◌, List, [], ◌∷◌, length, Option, Some, None, option_to_list, is_some, append-nil, append_assoc, get_or, refl}
+use Rattle.std.proofs.Common.{sym, ap, ◌∙◌, subst, inl, inr, true}
 use Rattle.std.specs.Prelude.{if◌then◌else◌}
 use Rattle.std.specs.List.{Contains, filter}
 use Rattle.std.specs.Option.{option_map_or}
@@ -13,7 +14,8 @@ use Rattle.std.proofs.lemmas.List.Elements.{Contains-append_left, Contains-appen
 use Rattle.sem_key.specs.KeyName.{KeyName, key_eq}
 use Rattle.sem_key.specs.Capability.{Capability}
 use Rattle.sem_msg.specs.declared.call.Call.{Call}
-use Rattle.sem_msg.specs.declared.call.Call.TheVariants.{Derive, Gate, Obtain, Delegate, OpenSession, AskOffer, Revoke, Bind, Read, Write, Send as SendCall, Credit, Exit, Clear}
+use Rattle.sem_msg.specs.declared.call.Call.TheVariants.{Derive, Gate, Obtain, Delegate, OpenSession, AskOffer, Revoke, Bind, Read, Write, Send as SendCall}
+use Rattle.sem_msg.specs.declared.call.Call.TheVariants.{Credit, Exit, Clear}
 use Rattle.sem_msg.specs.declared.code.Code.{Code}
 use Rattle.sem_msg.specs.declared.entry.Detail.TheVariants.{Called, Nothing}
 use Rattle.sem_msg.specs.declared.entry.Entry.{Entry}
@@ -56,8 +58,10 @@ use Rattle.sem_revoke.proofs.Turning.{CallLoses}
 -- what an entry of a journal cuts off
 cut-among : (xs ys : List Entry) (e : Entry) (later : List Entry) (k : KeyName) → Contains (cut_by (xs ++ ys) e) k → Contains (cut_from xs (ys ++ e ∷ later)) k
 unfolding cut_from
-cut-among xs [] e later k among = Contains-append_left (cut_by xs e) (cut_from (xs ++ e ∷ []) later) k (subst (λ zs. Contains (cut_by zs e) k) (append-nil xs) among)
-cut-among xs (y ∷ ys) e later k among = Contains-append_right (cut_by xs y) (cut_from (xs ++ y ∷ []) (ys ++ e ∷ later)) k (cut-among (xs ++ y ∷ []) ys e later k (subst (λ zs. Contains (cut_by zs e) k) (sym (append_assoc xs (y ∷ []) ys)) among))
+cut-among xs [] e later k among =
+    Contains-append_left (cut_by xs e) (cut_from (xs ++ e ∷ []) later) k (subst (λ zs. Contains (cut_by zs e) k) (append-nil xs) among)
+cut-among xs (y ∷ ys) e later k among = Contains-append_right (cut_by xs y) (cut_from (xs ++ y ∷ []) (ys ++ e ∷ later)) k
+    (cut-among (xs ++ y ∷ []) ys e later k (subst (λ zs. Contains (cut_by zs e) k) (sym (append_assoc xs (y ∷ []) ys)) among))
 
 -- the tests of a capability that is held and not marked pass
 own-pass : (o : Option Capability) (c : Capability) (refuse : Code → Step) (done : Step) → o ≡ Some c → c.mark ≡ None → unless (own_tests o) refuse done ≡ done
@@ -65,23 +69,31 @@ unfolding unless
 own-pass o c refuse done held unmarked = ap (λ x. unless (own_tests x) refuse done) held ∙ ap (λ m. if is_some m then refuse Revoking else done) unmarked
 
 -- what is cut by a call on what is held
-revoke-cuts : (T : Setup) (i : ℕ) (s : Side) (v src : ℕ) (c : Capability) → own s v src ≡ Some c → ◌≡◌ {A = Option KeyName} (call_row T i s v (Revoke src)).outcome.cut (Some c.key)
+revoke-cuts : (T : Setup) (i : ℕ) (s : Side) (v src : ℕ) (c : Capability) → own s v src ≡ Some c →
+    ◌≡◌ {A = Option KeyName} (call_row T i s v (Revoke src)).outcome.cut (Some c.key)
 unfolding call_row
 revoke-cuts T i s v src c held = ap (λ o. (with_held o (λ (c : Capability). cutting c.key (plain (revoke_begun T i v c.key c.mark s))) s).outcome.cut) held
 
-clear-cuts : (T : Setup) (i : ℕ) (s : Side) (v src : ℕ) (c : Capability) → own s v src ≡ Some c → c.mark ≡ None → ◌≡◌ {A = Option KeyName} (call_row T i s v (Clear src)).outcome.cut (Some c.key)
+clear-cuts : (T : Setup) (i : ℕ) (s : Side) (v src : ℕ) (c : Capability) → own s v src ≡ Some c → c.mark ≡ None →
+    ◌≡◌ {A = Option KeyName} (call_row T i s v (Clear src)).outcome.cut (Some c.key)
 unfolding call_row
 clear-cuts T i s v src c held unmarked =
-    ap (λ (x : Step). x.outcome.cut) (own-pass (own s v src) c (λ code. answer code s) (with_held (own s v src) (λ (c : Capability). cutting c.key (plain (clear_begun T i v c.key s))) s) held unmarked)
+    ap (λ (x : Step). x.outcome.cut)
+    (own-pass (own s v src) c (λ code. answer code s) (with_held (own s v src) (λ (c : Capability). cutting c.key (plain (clear_begun T i v c.key s))) s)
+    held unmarked)
     ∙ ap (λ o. (with_held o (λ (c : Capability). cutting c.key (plain (clear_begun T i v c.key s))) s).outcome.cut) held
 
-pub call-step : (T : Setup) (i : ℕ) (s : Side) (v : ℕ) (input : Option Message) (c : Call) → next_call T s v ≡ Some c → local_step T i s (Calls v) input ≡ call_row T i (call_counted v s) v c
+pub call-step : (T : Setup) (i : ℕ) (s : Side) (v : ℕ) (input : Option Message) (c : Call) → next_call T s v ≡ Some c →
+    local_step T i s (Calls v) input ≡ call_row T i (call_counted v s) v c
 unfolding local_step
 call-step T i s v input c there = ap (λ o. option_map_or (call_row T i (call_counted v s) v) o (plain s)) there
 
 -- a child of a key is among the keys that were granted below it
 among-children : (gs : List (KeyName × KeyName)) (p k : KeyName) → Par gs p k → Contains (children_in gs p) k
-among-children gs p k granted = Contains-map (λ (g : KeyName × KeyName). g.1) (filter (λ (g : KeyName × KeyName). key_eq g.0 p) gs) (p, k) (Contains-filter (λ (g : KeyName × KeyName). key_eq g.0 p) gs (p, k) granted (key_eq-same p))
+among-children gs p k granted = Contains-map (λ (g : KeyName × KeyName). g.1) (filter (λ (g : KeyName × KeyName). key_eq g.0 p) gs) (
+  p,
+  k,
+) (Contains-filter (λ (g : KeyName × KeyName). key_eq g.0 p) gs (p, k) granted (key_eq-same p))
 
 module _ (T : Setup) (valid : IsSetup T) (J : List Entry) (runs : IsSchedule T J) where
   abbrev lost : KeyName → Type 0
@@ -91,17 +103,26 @@ module _ (T : Setup) (valid : IsSetup T) (J : List Entry) (runs : IsSchedule T J
   itself k is = (k, line-self (length J) (grants J) k, is)
 
   pub grants-on : (before later : List Entry) → J ≡ before ++ later → (p k : KeyName) → Par (grants before) p k → Par (grants J) p k
-  grants-on before later parts p k granted = subst (λ gs. Contains gs (p, k)) (sym (ap grants parts ∙ filter_map-append (λ (e : Entry). e.grant) before later)) (Contains-append_left (grants before) (grants later) (p, k) granted)
+  grants-on before later parts p k granted = subst (λ gs. Contains gs (p, k)) (sym (ap grants parts ∙ filter_map-append (λ (e : Entry). e.grant) before later))
+      (Contains-append_left (grants before) (grants later) (p, k) granted)
 
   pub lower-all : (p k : KeyName) → Par (grants J) p k → lost p → lost k
-  lower-all p k granted (a, among, is) =
-      (a, line-above (root_keys T) (grants J) (all-grown T valid J runs) (length J) k p a (few-grants J) (child-grown (root_keys T) (grants J) p k granted) (above T valid J runs p k granted) among, is)
+  lower-all p k granted (a, among, is) = (
+    a,
+    line-above (root_keys T) (grants J) (all-grown T valid J runs) (length J) k p a (few-grants J) (child-grown (root_keys T) (grants J) p k granted)
+        (above T valid J runs p k granted) among,
+    is,
+  )
 
   abbrev pub Caused : List Entry → Type 0
   Caused before = (a n : ℕ) (x : JobRow) → job (side (world_after T before) a) n ≡ Some x → IsCaused (Par (grants before)) lost x
 
   abbrev pub losing : (before later : List Entry) → J ≡ before ++ later → Caused before → Losing (grants before) (world_after T before)
-  losing before later parts caused = record { lost = lost; lower = λ p k granted is. lower-all p k (grants-on before later parts p k granted) is; caused = caused }
+  losing before later parts caused = record {
+    lost = lost;
+    lower = λ p k granted is. lower-all p k (grants-on before later parts p k granted) is;
+    caused = caused;
+  }
 
   -- An entry.
   module _ (before : List Entry) (e : Entry) (later : List Entry) (parts : J ≡ before ++ e ∷ later) where
@@ -146,31 +167,45 @@ module _ (T : Setup) (valid : IsSetup T) (J : List Entry) (runs : IsSchedule T J
 
     -- what it cuts off
     cuts-off : (k q : KeyName) → ◌≡◌ {A = Option KeyName} e.cut (Some k) → Contains (cut_off gs e.detail k) q → IsCutOff J q
-    cuts-off k q cuts among = inl (subst (λ xs. Contains (cut_from [] xs) q) (sym parts) (cut-among [] before e later q (subst (λ x. Contains (option_map_or (cut_off gs e.detail) x []) q) (sym cuts) among)))
+    cuts-off k q cuts among =
+        inl (subst (λ xs. Contains (cut_from [] xs) q) (sym parts)
+        (cut-among [] before e later q (subst (λ x. Contains (option_map_or (cut_off gs e.detail) x []) q) (sym cuts) among)))
 
     -- the call of the entry, which cuts at k
-    by-call : (v : ℕ) (c : Call) (k q : KeyName) → e.event.act ≡ Calls v → next_call T s v ≡ Some c → ◌≡◌ {A = Option KeyName} (call_row T i (call_counted v s) v c).outcome.cut (Some k) → ((n : ℕ) → Contains (cut_off gs (Called n c) k) q) → IsCutOff J q
+    by-call : (v : ℕ) (c : Call) (k q : KeyName) → e.event.act ≡ Calls v → next_call T s v ≡ Some c →
+        ◌≡◌ {A = Option KeyName} (call_row T i (call_counted v s) v c).outcome.cut (Some k) → ((n : ℕ) → Contains (cut_off gs (Called n c) k) q) → IsCutOff J q
     unfolding entry_of local_entry
     by-call v c k q act there cuts among =
         let shows : ◌≡◌ {A = Option KeyName} e.cut (Some k) =
-        ap (λ (x : Entry). x.cut) at.2 ∙ (ap (λ a. (local_step T i s a (input_of W i a)).outcome.cut) act ∙ (ap (λ (x : Step). x.outcome.cut) (call-step T i s v (input_of W i (Calls v)) c there) ∙ cuts)) in
+        ap (λ (x : Entry). x.cut) at.2
+        ∙ (ap (λ a. (local_step T i s a (input_of W i a)).outcome.cut) act
+        ∙ (ap (λ (x : Step). x.outcome.cut) (call-step T i s v (input_of W i (Calls v)) c there) ∙ cuts)) in
         let detail : e.detail ≡ Called (row s v).next_call c =
-        ap (λ (x : Entry). x.detail) at.2 ∙ (ap (λ a. detail_of T s a (input_of W i a) (local_step T i s a (input_of W i a)).outcome) act ∙ ap (λ x. option_map_or (λ call. Called (row s v).next_call call) x Nothing) there) in
+        ap (λ (x : Entry). x.detail) at.2 ∙ (ap (λ a. detail_of T s a (input_of W i a) (local_step T i s a (input_of W i a)).outcome) act
+        ∙ ap (λ x. option_map_or (λ call. Called (row s v).next_call call) x Nothing) there) in
         cuts-off k q shows (subst (λ d. Contains (cut_off gs d k) q) (sym detail) (among (row s v).next_call))
 
     -- the keys of a VPE that it ends
     pub ended : Dies (facts_of Any AnyPlace (λ p k. Unit {0}) lost) T s e.event.act
-    ended = entry-dies (facts_of Any AnyPlace (λ p k. Unit {0}) lost) T W e.event (subst (Ends (facts_of Any AnyPlace (λ p k. Unit {0}) lost)) at.2 (λ v over k same. itself k (inr (subst (λ w. has_ended J w ≡ true) (sym same) (over-in v over)))))
+    ended = entry-dies (facts_of Any AnyPlace (λ p k. Unit {0}) lost) T W e.event
+        (subst (Ends (facts_of Any AnyPlace (λ p k. Unit {0}) lost)) at.2
+        (λ v over k same. itself k (inr (subst (λ w. has_ended J w ≡ true) (sym same) (over-in v over)))))
       where
         over-in : (v : ℕ) → ends v e.event.act e.detail ≡ true → has_ended J v ≡ true
-        over-in v over = list_any-at (λ (x : Entry). ends v x.event.act x.detail) J e (subst (λ xs. Contains xs e) (sym parts) (Contains-append_right before (e ∷ later) e (Contains-head e later))) over
+        over-in v over = list_any-at (λ (x : Entry). ends v x.event.act x.detail) J e
+            (subst (λ xs. Contains xs e) (sym parts) (Contains-append_right before (e ∷ later) e (Contains-head e later))) over
 
     pub loses : (a : Act) → e.event.act ≡ a → ActLoses gs lost T s a
     loses (Calls v) act = λ c there. call c there (subst (Dies (facts_of Any AnyPlace (λ p k. Unit {0}) lost) T s) act ended)
       where
-        call : (c : Call) → next_call T s v ≡ Some c → (next_call T s v ≡ Some Exit → (k : KeyName) → k.vpe ≡ v → lost k) → CallLoses gs lost (call_counted v s) v c
-        call (Revoke src) there dies = λ c held. itself c.key (by-call v (Revoke src) c.key c.key act there (revoke-cuts T i (call_counted v s) v src c held) (λ n. Contains-head c.key []))
-        call (Clear src) there dies = λ c held unmarked k granted. itself k (by-call v (Clear src) c.key k act there (clear-cuts T i (call_counted v s) v src c held unmarked) (λ n. among-children gs c.key k granted))
+        call : (c : Call) → next_call T s v ≡ Some c → (next_call T s v ≡ Some Exit → (k : KeyName) → k.vpe ≡ v → lost k) →
+            CallLoses gs lost (call_counted v s) v c
+        call (Revoke src) there dies =
+            λ c held. itself c.key (by-call v (Revoke src) c.key c.key act there (revoke-cuts T i (call_counted v s) v src c held)
+            (λ n. Contains-head c.key []))
+        call (Clear src) there dies =
+            λ c held unmarked k granted. itself k (by-call v (Clear src) c.key k act there (clear-cuts T i (call_counted v s) v src c held unmarked)
+            (λ n. among-children gs c.key k granted))
         call Exit there dies = dies there
         call (Derive src dst off len rights) there dies = tt
         call (Gate src dst label credits) there dies = tt
@@ -204,7 +239,8 @@ module _ (T : Setup) (valid : IsSetup T) (J : List Entry) (runs : IsSchedule T J
       unfolding after
       side-other j away =
           ap (λ (V : World). side V j) world-next
-          ∙ (ap (λ (ss : List Side). get_or ss j no_side) (moved-sides i s e.event.act (with_side i (stepped T W e.event).side W)) ∙ get_or-put_other no_side W.sides i j (stepped T W e.event).side away)
+          ∙ (ap (λ (ss : List Side). get_or ss j no_side) (moved-sides i s e.event.act (with_side i (stepped T W e.event).side W))
+          ∙ get_or-put_other no_side W.sides i j (stepped T W e.event).side away)
 
       -- what is granted is not below the root of a job
       not-below : (a n : ℕ) (x : JobRow) (k : KeyName) → job (side W a) n ≡ Some x → ◌≡◌ {A = Option (KeyName × KeyName)} o (Some (x.root, k)) → ⊥
@@ -218,8 +254,15 @@ module _ (T : Setup) (valid : IsSetup T) (J : List Entry) (runs : IsSchedule T J
             absurd cc
       ]
 
-      caused-more : (x : JobRow) → ((k : KeyName) → ◌≡◌ {A = Option (KeyName × KeyName)} o (Some (x.root, k)) → ⊥) → IsCaused (Par gs) lost x → IsCaused (Par (grants (before ++ e ∷ []))) lost x
-      caused-more x none is = (is.0, λ k granted. elim (last-granted T valid gs o x.root k (subst (λ xs. Contains xs (x.root, k)) more granted)) [ inl old ↦ is.1 k old | inr now ↦ absurd (none k now) ])
+      caused-more : (x : JobRow) → ((k : KeyName) → ◌≡◌ {A = Option (KeyName × KeyName)} o (Some (x.root, k)) → ⊥) → IsCaused (Par gs) lost x →
+          IsCaused (Par (grants (before ++ e ∷ []))) lost x
+      caused-more x none is = (
+        is.0,
+        λ k granted. elim (last-granted T valid gs o x.root k (subst (λ xs. Contains xs (x.root, k)) more granted)) [
+          | inl old ↦ is.1 k old
+          | inr now ↦ absurd (none k now)
+        ],
+      )
 
       next-caused : Caused (before ++ e ∷ [])
       next-caused a n x open_ = elim (cases_eq a i) [
@@ -231,7 +274,8 @@ module _ (T : Setup) (valid : IsSetup T) (J : List Entry) (runs : IsSchedule T J
             caused-more x (λ k is. not-below a n x k open' is) (caused a n x open')
       ]
 
-      pub next-held : (j : ℕ) (k : KeyName) (c : Capability) → HoldsCap W j k c → ((d : Capability) × HoldsCap (world_after T (before ++ e ∷ [])) j k d) ⊎ lost k
+      pub next-held : (j : ℕ) (k : KeyName) (c : Capability) → HoldsCap W j k c → ((d : Capability) × HoldsCap (world_after T (before ++ e ∷ [])) j k d)
+          ⊎ lost k
       next-held j k c held = elim (cases_eq j i) [
         | inl here ↦ elim (leaves.lasts k c (ap (λ a. cap (side W a) k) (sym here) ∙ held)) [
           | inl (d, holds) ↦ inl (d, ap (λ (t : Side). cap t k) (side-here j here) ∙ holds)
@@ -242,7 +286,8 @@ module _ (T : Setup) (valid : IsSetup T) (J : List Entry) (runs : IsSchedule T J
 
   -- Along the journal.
   no-jobs : Caused []
-  no-jobs a n x open_ = let none = start-each T (λ (t : Side). t.jobs ≡ []) refl (λ b. (start-bare T b).0) a in let no' : None ≡ Some x = ap (λ xs. job_of xs n) (sym none) ∙ open_ in absurd cc
+  no-jobs a n x open_ = let none = start-each T (λ (t : Side). t.jobs ≡ []) refl (λ b. (start-bare T b).0) a in
+      let no' : None ≡ Some x = ap (λ xs. job_of xs n) (sym none) ∙ open_ in absurd cc
 
   caused-from : (xs ys later : List Entry) → J ≡ (xs ++ ys) ++ later → Caused xs → Caused (xs ++ ys)
   caused-from xs [] later parts caused = subst Caused (sym (append-nil xs)) caused
@@ -254,7 +299,8 @@ module _ (T : Setup) (valid : IsSetup T) (J : List Entry) (runs : IsSchedule T J
   pub all-caused : (before later : List Entry) → J ≡ before ++ later → Caused before
   all-caused before later parts = caused-from [] before later parts no-jobs
 
-  pub held-lasts : (before later : List Entry) (i : ℕ) (k : KeyName) (c : Capability) → J ≡ before ++ later → HoldsCap (world_after T before) i k c → ((d : Capability) × HoldsCap (world_after T J) i k d) ⊎ lost k
+  pub held-lasts : (before later : List Entry) (i : ℕ) (k : KeyName) (c : Capability) → J ≡ before ++ later → HoldsCap (world_after T before) i k c →
+      ((d : Capability) × HoldsCap (world_after T J) i k d) ⊎ lost k
   held-lasts before [] i k c parts held = inl (c, subst (λ K. HoldsCap (world_after T K) i k c) (sym (parts ∙ append-nil before)) held)
   held-lasts before (e ∷ later) i k c parts held = elim (next-held before e later parts (all-caused before (e ∷ later) parts) i k c held) [
     | inl (d, holds) ↦ held-lasts (before ++ e ∷ []) later i k d (parts ∙ sym (append_assoc before (e ∷ []) later)) holds

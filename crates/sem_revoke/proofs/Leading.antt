@@ -1,5 +1,6 @@
 -- Where the link from an unmarked capability leads: what a change of a side does to one link, and to the key that it leads to.
-use Rattle.std.proofs.Common.{◌≡◌, ◌⊎◌, ℕ, get_or, Bool, true, false, not, List, [], ◌∷◌, filter, map, Option, Some, None, is_some, refl, sym, ap, ◌∙◌, subst, inl, inr}
+use Rattle.std.proofs.Common.{◌≡◌, ◌⊎◌, ℕ, get_or, Bool, true, false, not, List, [], ◌∷◌, filter, map, Option, Some, None, is_some, refl, sym, ap, ◌∙◌, subst}
+use Rattle.std.proofs.Common.{inl, inr}
 use Rattle.std.specs.Prelude.{if◌then◌else◌}
 use Rattle.std.specs.List.{Contains}
 use Rattle.std.proofs.lemmas.Bool.{cases_Bool, cond_both, true≢false}
@@ -60,12 +61,14 @@ module _ (p k : KeyName) (Was : Type 0) where
       let d = Contains-from_map (λ (y : Capability). if key_eq y.key root then f y else y) t.caps c there in
       elim (chosen (key_eq d.0.key root) (f d.0) d.0 c d.2) [
         | inl (at, same) ↦ (let no' : false ≡ true = ap (λ (y : Capability). has_key y.children k) same ∙ child in absurd cc)
-        | inr (off, same) ↦ is d.0 d.1 (ap (λ (y : Capability). y.key) same ∙ key) (ap (λ (y : Capability). y.mark) same ∙ unmarked) (ap (λ (y : Capability). has_key y.children k) same ∙ child)
+        | inr (off, same) ↦ is d.0 d.1 (ap (λ (y : Capability). y.key) same ∙ key) (ap (λ (y : Capability). y.mark) same
+            ∙ unmarked) (ap (λ (y : Capability). has_key y.children k) same ∙ child)
       ]
 
   pub linking-steady : IsSteady (Linking p k Was)
   linking-steady = record {
-    caps = λ t cs thin is c among key unmarked child. let d = thin c among in is d.0 d.1 (sym d.2.key ∙ key) (unmarked-was d.0.mark c.mark d.2.marks unmarked) (d.2.children k child);
+    caps = λ t cs thin is c among key unmarked child. let d = thin c among in
+        is d.0 d.1 (sym d.2.key ∙ key) (unmarked-was d.0.mark c.mark d.2.marks unmarked) (d.2.children k child);
     restores = λ u t x was among keeps is. linking-restored t x.root is;
     bound = λ t es is. is;
     jobs = λ t js less is. is;
@@ -81,7 +84,8 @@ module _ (p k : KeyName) (Was : Type 0) where
       let f : Capability → Capability = λ d. record d { children = with_key d.children r } in
       let d = Contains-from_map (λ (y : Capability). if key_eq y.key q then f y else y) t.caps c there in
       elim (chosen (key_eq d.0.key q) (f d.0) d.0 c d.2) [
-        | inr (off, same) ↦ is d.0 d.1 (ap (λ (y : Capability). y.key) same ∙ key) (ap (λ (y : Capability). y.mark) same ∙ unmarked) (ap (λ (y : Capability). has_key y.children k) same ∙ child)
+        | inr (off, same) ↦ is d.0 d.1 (ap (λ (y : Capability). y.key) same ∙ key) (ap (λ (y : Capability). y.mark) same
+            ∙ unmarked) (ap (λ (y : Capability). has_key y.children k) same ∙ child)
         | inl (at, same) ↦
             let here : d.0.key ≡ p = ap (λ (y : Capability). y.key) same ∙ key in
             let more : has_key (with_key d.0.children r) k ≡ true = ap (λ (y : Capability). has_key y.children k) same ∙ child in
@@ -93,13 +97,14 @@ module _ (p k : KeyName) (Was : Type 0) where
 
   linking-installed : (t : Side) (r : KeyName) (parent : Option KeyName) (sel : ℕ) (object : Object) → Linking p k Was t
       → Linking p k Was (installed r parent sel object t)
-  linking-installed t r parent sel object is c among key unmarked child = elim (Contains-append_cases (filter (λ x. key_lt x.key r) t.caps) (fresh r parent sel object ∷ filter (λ x. not (key_lt x.key r)) t.caps) c among) [
-    | inl before ↦ is c (Contains-from_filter (λ (x : Capability). key_lt x.key r) t.caps c before).0 key unmarked child
-    | inr rest ↦ elim (Contains-cons_cases (fresh r parent sel object) (filter (λ x. not (key_lt x.key r)) t.caps) c rest) [
-      | inl same ↦ let no' : false ≡ true = ap (λ (y : Capability). has_key y.children k) same ∙ child in absurd cc
-      | inr after ↦ is c (Contains-from_filter (λ (x : Capability). not (key_lt x.key r)) t.caps c after).0 key unmarked child
-    ]
-  ]
+  linking-installed t r parent sel object is c among key unmarked child =
+      elim (Contains-append_cases (filter (λ x. key_lt x.key r) t.caps) (fresh r parent sel object ∷ filter (λ x. not (key_lt x.key r)) t.caps) c among) [
+        | inl before ↦ is c (Contains-from_filter (λ (x : Capability). key_lt x.key r) t.caps c before).0 key unmarked child
+        | inr rest ↦ elim (Contains-cons_cases (fresh r parent sel object) (filter (λ x. not (key_lt x.key r)) t.caps) c rest) [
+          | inl same ↦ let no' : false ≡ true = ap (λ (y : Capability). has_key y.children k) same ∙ child in absurd cc
+          | inr after ↦ is c (Contains-from_filter (λ (x : Capability). not (key_lt x.key r)) t.caps c after).0 key unmarked child
+        ]
+      ]
 
   -- where no link from p to k is made
   pub linking-kept : (G : KeyName → KeyName → Type 0) → ((q r : KeyName) → G q r → q ≡ p → r ≡ k → ⊥) → IsKept G (Linking p k Was)
@@ -140,7 +145,8 @@ module _ (p k : KeyName) (j : ℕ) (Near E : Type 0) where
   pub off-steady : IsSteady Off
   off-steady = record {
     caps = λ t cs thin is. onto t (record t { caps = cs }) (λ sent. sent) (λ cut. cut-steady.caps t cs thin cut) is;
-    restores = λ u t x was among keeps is. onto t (record t { caps = CapList.restored t.caps x.root }) (λ sent. sent) (λ cut. linking-restored p k ⊥ t x.root cut) is;
+    restores = λ u t x was among keeps is. onto t (record t { caps = CapList.restored t.caps x.root }) (λ sent. sent)
+        (λ cut. linking-restored p k ⊥ t x.root cut) is;
     bound = λ t es is. is;
     jobs = λ t js less is. is;
     opens = λ t root up ws is. is;
@@ -173,9 +179,11 @@ module _ (k : KeyName) where
   has-installed t r parent sel object (c, among, key) = (
     c,
     elim (cases_Bool (key_lt c.key r)) [
-      | inl less ↦ Contains-append_left (filter (λ x. key_lt x.key r) t.caps) (fresh r parent sel object ∷ filter (λ x. not (key_lt x.key r)) t.caps) c (Contains-filter (λ (x : Capability). key_lt x.key r) t.caps c among less)
+      | inl less ↦ Contains-append_left (filter (λ x. key_lt x.key r) t.caps) (fresh r parent sel object ∷ filter (λ x. not (key_lt x.key r)) t.caps) c
+          (Contains-filter (λ (x : Capability). key_lt x.key r) t.caps c among less)
       | inr more ↦ Contains-append_right (filter (λ x. key_lt x.key r) t.caps) (fresh r parent sel object ∷ filter (λ x. not (key_lt x.key r)) t.caps) c
-          (Contains-tail (fresh r parent sel object) (filter (λ x. not (key_lt x.key r)) t.caps) c (Contains-filter (λ (x : Capability). not (key_lt x.key r)) t.caps c among (ap not more)))
+          (Contains-tail (fresh r parent sel object) (filter (λ x. not (key_lt x.key r)) t.caps) c
+          (Contains-filter (λ (x : Capability). not (key_lt x.key r)) t.caps c among (ap not more)))
     ],
     key,
   )
@@ -195,7 +203,10 @@ either-kept G P Q A B = record {
   other = λ s t caps outs is. elim is [ inl one ↦ inl (A.other s t caps outs one) | inr two ↦ inr (B.other s t caps outs two) ];
   sends = λ t j m is. elim is [ inl one ↦ inl (A.sends t j m one) | inr two ↦ inr (B.sends t j m two) ];
   links = λ t q r link is. elim is [ inl one ↦ inl (A.links t q r link one) | inr two ↦ inr (B.links t q r link two) ];
-  installs = λ t r parent sel object is. elim is [ inl one ↦ inl (A.installs t r parent sel object one) | inr two ↦ inr (B.installs t r parent sel object two) ];
+  installs = λ t r parent sel object is. elim is [
+    | inl one ↦ inl (A.installs t r parent sel object one)
+    | inr two ↦ inr (B.installs t r parent sel object two)
+  ];
   unlinks = λ t q r is. elim is [ inl one ↦ inl (A.unlinks t q r one) | inr two ↦ inr (B.unlinks t q r two) ];
 }
 

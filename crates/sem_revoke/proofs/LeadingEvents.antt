@@ -29,7 +29,8 @@ use Rattle.sem_revoke.proofs.Turning.{here, there, in_row, counted-row, request-
 use Rattle.sem_revoke.proofs.Viewing.{Scene, Row}
 
 -- The revokes of kernel i that begin in a world. p is the parent of k by a grant, and what the kernel holds of k names it.
-module _ (T : Setup) (gs : List (KeyName × KeyName)) (W : World) (R : IsReady T gs W) (H : Holds T gs W) (i : ℕ) (p k : KeyName) (granted : Par gs p k) (below : Below p k (side W i)) where
+module _ (T : Setup) (gs : List (KeyName × KeyName)) (W : World) (R : IsReady T gs W) (H : Holds T gs W) (i : ℕ) (p k : KeyName) (granted : Par gs p k)
+    (below : Below p k (side W i)) where
   abbrev A : Losing gs W
   A = anything gs W
 
@@ -49,9 +50,11 @@ module _ (T : Setup) (gs : List (KeyName × KeyName)) (W : World) (R : IsReady T
   K = leads-kept C p k granted
 
   -- a job begins for nobody else
-  begun : (root : KeyName) (ws : List ℕ) (keep : Bool) (t : Side) (c : Capability) → cap t root ≡ Some c → c.mark ≡ None → Row C free_hand t → Below p k t → Led t
+  begun : (root : KeyName) (ws : List ℕ) (keep : Bool) (t : Side) (c : Capability) → cap t root ≡ Some c → c.mark ≡ None → Row C free_hand t → Below p k t →
+      Led t
       → Led (begin T i root None ws keep t)
-  begun root ws keep t c held unmarked R' B L = leads-begun C p k granted root None ws keep t (row-opened_at C root ws keep (λ _. tt, λ q g. tt) t c held unmarked R') B L
+  begun root ws keep t c held unmarked R' B L =
+      leads-begun C p k granted root None ws keep t (row-opened_at C root ws keep (λ _. tt, λ q g. tt) t c held unmarked R') B L
 
   left : (q : KeyName) (t : Side) → Row C free_hand t → Below p k t → Led t → Led (revoked_if_left T i q t)
   left q t R' B L = from (cap t q) refl
@@ -71,7 +74,8 @@ module _ (T : Setup) (gs : List (KeyName × KeyName)) (W : World) (R : IsReady T
       (λ q u (row', below', led'). (row-left C q u tt row', rest-steady (Below p k) (below-steady p k) T i q u below', left q u row' below' led'))
       (keys_of last v) last (
         row-ended_but_held C v t (λ q same. tt) R',
-        ended-led T i (Below p k) (λ a b caps outs is. subst (λ cs. (c : Capability) → Contains cs c → c.key ≡ k → c.parent ≡ Some p) (sym caps) is) (λ a j m is. is) v t B,
+        ended-led T i (Below p k) (λ a b caps outs is. subst (λ cs. (c : Capability) → Contains cs c → c.key ≡ k → c.parent ≡ Some p) (sym caps) is)
+            (λ a j m is. is) v t B,
         ended-led T i Led K.other K.sends v t L,
       ) in
       all-ended T i Led K.other K.sends v t all.2
@@ -82,18 +86,21 @@ module _ (T : Setup) (gs : List (KeyName × KeyName)) (W : World) (R : IsReady T
     clears = λ v src c held unmarked.
         let t : Side = call_counted v s in
         let w : Side = parked_as v (RevokeWait t.next_job) t in
-        begun c.key (v ∷ []) true w c (own-cap t v src c held) unmarked (row-parked C free_hand v (RevokeWait t.next_job) t (λ q. refl) (counted-row T gs W R H A i v)) below (K.other s w refl refl L);
+        begun c.key (v ∷ []) true w c (own-cap t v src c held) unmarked
+        (row-parked C free_hand v (RevokeWait t.next_job) t (λ q. refl) (counted-row T gs W R H A i v)) below (K.other s w refl refl L);
     exits = λ v. ends v (call_counted v s) (counted-row T gs W R H A i v) below (K.other s (call_counted v s) refl refl L);
     kills = λ v. ends v s (in_row T gs W R H A i) below L;
     requests = λ from q j full. requested from q j full (cap (with_inbox None s) q) refl;
     dones = λ from j full. settles from j full (job (with_inbox None s) j) refl;
   }
     where
-      revoke : (v : ℕ) (c : Capability) → cap (call_counted v s) c.key ≡ Some c → (m : Option ℕ) → c.mark ≡ m → Led (revoke_begun T i v c.key m (call_counted v s))
+      revoke : (v : ℕ) (c : Capability) → cap (call_counted v s) c.key ≡ Some c → (m : Option ℕ) → c.mark ≡ m →
+          Led (revoke_begun T i v c.key m (call_counted v s))
       revoke v c held None unmarked =
           let t : Side = call_counted v s in
           let w : Side = parked_as v (RevokeWait t.next_job) t in
-          begun c.key (v ∷ []) false w c held unmarked (row-parked C free_hand v (RevokeWait t.next_job) t (λ q. refl) (counted-row T gs W R H A i v)) below (K.other s w refl refl L)
+          begun c.key (v ∷ []) false w c held unmarked (row-parked C free_hand v (RevokeWait t.next_job) t (λ q. refl) (counted-row T gs W R H A i v)) below
+          (K.other s w refl refl L)
       revoke v c held (Some j) marked = K.other s (waiter_added j v (parked_as v (RevokeWait j) (call_counted v s))) refl refl L
 
       base : Side
@@ -113,7 +120,9 @@ module _ (T : Setup) (gs : List (KeyName × KeyName)) (W : World) (R : IsReady T
       freed-ready q (Some (Ready code)) = taken
 
       cancelled : (q : KeyName) → Led (obtain_cancelled q base)
-      cancelled q = cond_both (is_ready_with q (parked base q.vpe)) _ base Led (λ _. K.other (ready_freed (parked base q.vpe) q.vpe base) (parked_as q.vpe ObtainCancelled (ready_freed (parked base q.vpe) q.vpe base)) refl refl (freed-ready q (parked base q.vpe))) (λ _. taken)
+      cancelled q = cond_both (is_ready_with q (parked base q.vpe)) _ base Led
+          (λ _. K.other (ready_freed (parked base q.vpe) q.vpe base) (parked_as q.vpe ObtainCancelled (ready_freed (parked base q.vpe) q.vpe base)) refl refl
+          (freed-ready q (parked base q.vpe))) (λ _. taken)
 
       requested : (from : ℕ) (q : KeyName) (j : ℕ) → s.inbox ≡ Some (from, RevokeReq q j) → (o : Option Capability) → cap base q ≡ o
           → Led (revoke_requested T i from j q o base)
@@ -128,4 +137,6 @@ module _ (T : Setup) (gs : List (KeyName × KeyName)) (W : World) (R : IsReady T
 
       settles : (from j : ℕ) → s.inbox ≡ Some (from, RevokeDone j) → (o : Option JobRow) → job base j ≡ o → Led (settled_if_there T i j o base)
       settles from j full None none = taken
-      settles from j full (Some x) some = leads-settled D p k granted j (count_lowered j base) (row-lowered D base j x some (token-hand T gs W R H A i from j full)) below (K.other base (count_lowered j base) refl refl taken)
+      settles from j full (Some x) some =
+          leads-settled D p k granted j (count_lowered j base) (row-lowered D base j x some (token-hand T gs W R H A i from j full)) below
+          (K.other base (count_lowered j base) refl refl taken)

@@ -1,5 +1,6 @@
 -- What a job that is closed sweeps: the parent is swept too, or leads to it no more, or an Unlink is sent, or another kernel has marked the parent.
-use Rattle.std.proofs.Common.{◌≡◌, ◌⊎◌, ℕ, zero, suc, Bool, true, false, not, ◌&&◌, List, [], ◌∷◌, find, filter, length, Option, Some, None, refl, sym, ap, ◌∙◌, subst, inl, inr, arith, eq-eqb}
+use Rattle.std.proofs.Common.{◌≡◌, ◌⊎◌, ℕ, zero, suc, Bool, true, false, not, ◌&&◌, List, [], ◌∷◌, find, filter, length, Option, Some, None, refl, sym, ap, ◌∙◌}
+use Rattle.std.proofs.Common.{subst, inl, inr, arith, eq-eqb}
 use Rattle.std.specs.Prelude.{◌==◌, if◌then◌else◌}
 use Rattle.std.specs.List.{Contains, list_any}
 use Rattle.std.specs.Option.{option_map_or, option_and_then}
@@ -20,7 +21,8 @@ use Rattle.sem_msg.specs.Setup.{Setup}
 use Rattle.sem_msg.specs.Lookups.{owner_of, is_local}
 use Rattle.sem_machine.specs.Sides.{Side, cap, job, mark_all, unbind_all, job_opened, job_removed}
 use Rattle.sem_machine.specs.Machine.{side}
-use Rattle.sem_machine.specs.Revokes.{other_marker, adopted, request_or_adopt, spared, swept, woken, parent_left, left_parent, up_told, count_lowered, closed_here, closed, finish, settled, opened, begin}
+use Rattle.sem_machine.specs.Revokes.{other_marker, adopted, request_or_adopt, spared, swept, woken, parent_left, left_parent, up_told, count_lowered}
+use Rattle.sem_machine.specs.Revokes.{closed_here, closed, finish, settled, opened, begin}
 use Rattle.sem_machine.proofs.Folds.{in_turn-keeps}
 use Rattle.sem_safety.specs.Seen.{AreDistinct}
 use Rattle.sem_revoke.specs.Views.{free_hand}
@@ -39,7 +41,8 @@ only-one k [] distinct c among key = absurd (Contains-nil c among)
 only-one k (x ∷ xs) distinct c among key = elim (cases_Bool (key_eq x.key k)) [
   | inl pass ↦ cond-true (key_eq x.key k) (Some x) (find (λ (y : Capability). key_eq y.key k) xs) pass ∙ elim (Contains-cons_cases x xs c among) [
     | inl same ↦ ap Some same
-    | inr later ↦ absurd (true≢false (sym (key_eq-from x.key c.key (key_eq-true x.key k pass ∙ sym key)) ∙ pairs-head (λ (a b : Capability). key_eq a.key b.key ≡ false) x xs distinct c later))
+    | inr later ↦ absurd (true≢false (sym (key_eq-from x.key c.key (key_eq-true x.key k pass ∙ sym key))
+        ∙ pairs-head (λ (a b : Capability). key_eq a.key b.key ≡ false) x xs distinct c later))
   ]
   | inr fail ↦ cond-false (key_eq x.key k) (Some x) (find (λ (y : Capability). key_eq y.key k) xs) fail ∙ elim (Contains-cons_cases x xs c among) [
     | inl same ↦ absurd (true≢false (sym (key_eq-from x.key k (ap (λ (y : Capability). y.key) same ∙ key)) ∙ fail))
@@ -52,8 +55,10 @@ module _ (G : KeyName → KeyName → Type 0) (P : Side → Type 0) (K : IsKept 
   left-kept : (T : Setup) (i id count : ℕ) (root : KeyName) (up : Option Up) (ws : List ℕ) (keep : Bool) (o : Option KeyName) (t : Side) → P t
       → P (parent_left T i (record { id = id; root = root; up = up; waiters = ws; count = count; keep = keep }) o t)
   left-kept T i id count root up ws keep None t is = is
-  left-kept T i id count root None ws keep (Some p) t is = cond_both (is_local T i p) _ _ P (λ _. K.unlinks t p root is) (λ _. K.sends t (owner_of T p) (Unlink p root) is)
-  left-kept T i id count root (Some (Local j)) ws keep (Some p) t is = cond_both (is_local T i p) _ _ P (λ _. K.unlinks t p root is) (λ _. K.sends t (owner_of T p) (Unlink p root) is)
+  left-kept T i id count root None ws keep (Some p) t is =
+      cond_both (is_local T i p) _ _ P (λ _. K.unlinks t p root is) (λ _. K.sends t (owner_of T p) (Unlink p root) is)
+  left-kept T i id count root (Some (Local j)) ws keep (Some p) t is =
+      cond_both (is_local T i p) _ _ P (λ _. K.unlinks t p root is) (λ _. K.sends t (owner_of T p) (Unlink p root) is)
   left-kept T i id count root (Some (Remote kernel j)) ws keep (Some p) t is = cond_both (is_local T i p) _ _ P (λ _. K.unlinks t p root is) (λ _. is)
 
   told-kept : (up : Option Up) (t : Side) → P t → P (up_told up t)
@@ -82,7 +87,8 @@ module _ (C : Scene) (p k : KeyName) (granted : C.parent p k) where
   NoGrant q r = q ≡ p → r ≡ k → ⊥
 
   pub leads-kept : IsKept NoGrant Leads
-  leads-kept = either-kept NoGrant (Has k) (Off p k (owner C p) Near Away) (has-kept k NoGrant) (off-kept p k (owner C p) Near Away NoGrant (λ q r apart. apart))
+  leads-kept = either-kept NoGrant (Has k) (Off p k (owner C p) Near Away) (has-kept k NoGrant)
+      (off-kept p k (owner C p) Near Away NoGrant (λ q r apart. apart))
 
   steady : IsSteady (Off p k (owner C p) Near Away)
   steady = off-steady p k (owner C p) Near Away
@@ -114,7 +120,8 @@ module _ (C : Scene) (p k : KeyName) (granted : C.parent p k) where
     -- what it does not sweep stays
     has-swept : (u : Side) (c : Capability) → Contains u.caps c → c.key ≡ k → (b : Bool) → x.keep ≡ b
         → (is_marked_by x.id c ≡ false) ⊎ ((b ≡ true) × (key_eq c.key x.root ≡ true)) → Has k (swept x u)
-    has-swept u c among key b keeps stays = subst (λ v. (d : Capability) × Contains (filter (λ y. not (is_marked_by x.id y)) (spared v x.root u.caps)) d × (d.key ≡ k)) (sym keeps) (by b stays)
+    has-swept u c among key b keeps stays = subst (λ v. (d : Capability) × Contains (filter (λ y. not (is_marked_by x.id y)) (spared v x.root u.caps)) d
+        × (d.key ≡ k)) (sym keeps) (by b stays)
       where
         f : Capability → Capability
         f d = record d { children = []; mark = None }
@@ -131,8 +138,12 @@ module _ (C : Scene) (p k : KeyName) (granted : C.parent p k) where
               | inl off ↦ cond_both (key_eq c.key x.root) (f c) c (λ (y : Capability). is_marked_by x.id y ≡ false) (λ _. refl) (λ _. off)
               | inr (yes', at) ↦ ap (is_marked_by x.id) (cond-true (key_eq c.key x.root) (f c) c at)
             ] in
-            let same : e.key ≡ c.key = cond_both (key_eq c.key x.root) (f c) c (λ (y : Capability). y.key ≡ c.key) (λ _. refl) (λ _. refl) in
-            (e, Contains-filter (λ (y : Capability). not (is_marked_by x.id y)) (restored u.caps x.root) e (Contains-map (λ (y : Capability). if key_eq y.key x.root then f y else y) u.caps c among) (ap not unmarked), same ∙ key)
+            let same : e.key ≡ c.key = cond_both (key_eq c.key x.root) (f c) c (λ (y : Capability). y.key ≡ c.key) (λ _. refl) (λ _. refl) in (
+              e,
+              Contains-filter (λ (y : Capability). not (is_marked_by x.id y)) (restored u.caps x.root) e
+                  (Contains-map (λ (y : Capability). if key_eq y.key x.root then f y else y) u.caps c among) (ap not unmarked),
+              same ∙ key,
+            )
 
     -- and is there when the job is closed
     has-closed : (c : Capability) → Contains t.caps c → c.key ≡ k → (is_marked_by x.id c ≡ false) ⊎ ((x.keep ≡ true) × (key_eq c.key x.root ≡ true))
@@ -141,7 +152,8 @@ module _ (C : Scene) (p k : KeyName) (granted : C.parent p k) where
     has-closed c among key stays =
         let u : Side = job_removed x.id t in
         told-kept NoGrant (Has k) (has-kept k NoGrant) x.up (closed_here C.setup i x u)
-        (left-kept NoGrant (Has k) (has-kept k NoGrant) C.setup i x.id x.count x.root x.up x.waiters x.keep (left_parent u x) (woken x.waiters (swept x u)) (has-swept u c among key x.keep refl stays))
+        (left-kept NoGrant (Has k) (has-kept k NoGrant) C.setup i x.id x.count x.root x.up x.waiters x.keep (left_parent u x) (woken x.waiters (swept x u))
+        (has-swept u c among key x.keep refl stays))
 
     -- The root is swept: its parent is left.
     -- a job that another kernel waits for is below a mark of it
@@ -157,9 +169,15 @@ module _ (C : Scene) (p k : KeyName) (granted : C.parent p k) where
     left-off : (id count : ℕ) (up : Option Up) (ws : List ℕ) (keep : Bool) (u : Side)
         → ((a n : ℕ) → up ≡ Some (Remote a n) → (is_local C.setup i p ≡ false) → Off p k (owner C p) Near Away u)
         → Off p k (owner C p) Near Away (parent_left C.setup i (record { id = id; root = k; up = up; waiters = ws; count = count; keep = keep }) (Some p) u)
-    left-off id count None ws keep u by_up = cond_both (is_local C.setup i p) _ _ (Off p k (owner C p) Near Away) (λ local. inr (inl (eqb-true (owner C p) i local, linking-cut p k ⊥ u))) (λ _. inl (outbox-sent u (owner C p) (Unlink p k)))
-    left-off id count (Some (Local j)) ws keep u by_up = cond_both (is_local C.setup i p) _ _ (Off p k (owner C p) Near Away) (λ local. inr (inl (eqb-true (owner C p) i local, linking-cut p k ⊥ u))) (λ _. inl (outbox-sent u (owner C p) (Unlink p k)))
-    left-off id count (Some (Remote a n)) ws keep u by_up = cond_both (is_local C.setup i p) _ _ (Off p k (owner C p) Near Away) (λ local. inr (inl (eqb-true (owner C p) i local, linking-cut p k ⊥ u))) (λ away. by_up a n refl away)
+    left-off id count None ws keep u by_up =
+        cond_both (is_local C.setup i p) _ _ (Off p k (owner C p) Near Away) (λ local. inr (inl (eqb-true (owner C p) i local, linking-cut p k ⊥ u)))
+        (λ _. inl (outbox-sent u (owner C p) (Unlink p k)))
+    left-off id count (Some (Local j)) ws keep u by_up =
+        cond_both (is_local C.setup i p) _ _ (Off p k (owner C p) Near Away) (λ local. inr (inl (eqb-true (owner C p) i local, linking-cut p k ⊥ u)))
+        (λ _. inl (outbox-sent u (owner C p) (Unlink p k)))
+    left-off id count (Some (Remote a n)) ws keep u by_up =
+        cond_both (is_local C.setup i p) _ _ (Off p k (owner C p) Near Away) (λ local. inr (inl (eqb-true (owner C p) i local, linking-cut p k ⊥ u)))
+        (λ away. by_up a n refl away)
 
     -- so where the root is the key, and is swept
     root-off : x.root ≡ k → x.keep ≡ false → (c : Capability) → Contains t.caps c → c.key ≡ k → Off p k (owner C p) Near Away (closed C.setup i x t)
@@ -168,10 +186,12 @@ module _ (C : Scene) (p k : KeyName) (granted : C.parent p k) where
         let u : Side = job_removed x.id t in
         let w : Side = woken x.waiters (swept x u) in
         let held : cap t x.root ≡ Some c = ap (cap t) root ∙ only-one k t.caps (rises_distinct t.caps R.rises) c among key in
-        let left : left_parent u x ≡ Some p = cond-false x.keep None (option_and_then (λ (d : Capability). d.parent) (cap t x.root)) leaves ∙ (ap (option_and_then (λ (d : Capability). d.parent)) held ∙ below c among key) in
+        let left : left_parent u x ≡ Some p = cond-false x.keep None (option_and_then (λ (d : Capability). d.parent) (cap t x.root)) leaves
+        ∙ (ap (option_and_then (λ (d : Capability). d.parent)) held ∙ below c among key) in
         told-kept NoGrant (Off p k (owner C p) Near Away) (off-kept p k (owner C p) Near Away NoGrant (λ q r apart. apart)) x.up (closed_here C.setup i x u)
         (subst (λ o. Off p k (owner C p) Near Away (parent_left C.setup i x o w)) (sym left)
-        (subst (λ r. Off p k (owner C p) Near Away (parent_left C.setup i (record { id = x.id; root = r; up = x.up; waiters = x.waiters; count = x.count; keep = x.keep }) (Some p) w)) (sym root)
+        (subst (λ r. Off p k (owner C p) Near Away
+        (parent_left C.setup i (record { id = x.id; root = r; up = x.up; waiters = x.waiters; count = x.count; keep = x.keep }) (Some p) w)) (sym root)
         (left-off x.id x.count x.up x.waiters x.keep w (λ a n up away. inr (inr (asked-away root a n up (λ here. eqb-false (owner C p) i away here)))))))
 
     mark-is : (m : Option ℕ) → option_map_or (λ q. q == x.id) m false ≡ true → m ≡ Some x.id
@@ -180,7 +200,8 @@ module _ (C : Scene) (p k : KeyName) (granted : C.parent p k) where
 
     -- the key is there still, or its link is gone
     pub leads-closed : Leads t → Leads (closed C.setup i x t)
-    leads-closed (inr off) = inr (closed-steady (Off p k (owner C p) Near Away) steady C.setup i x t (found (λ (y : JobRow). y.id == x.id) t.jobs x open_).0 off)
+    leads-closed (inr off) =
+        inr (closed-steady (Off p k (owner C p) Near Away) steady C.setup i x t (found (λ (y : JobRow). y.id == x.id) t.jobs x open_).0 off)
     leads-closed (inl (c, among, key)) = elim (cases_Bool (is_marked_by x.id c)) [
       | inr off ↦ inl (has-closed c among key (inl off))
       | inl on ↦
@@ -189,7 +210,8 @@ module _ (C : Scene) (p k : KeyName) (granted : C.parent p k) where
           let y = R.revokes.marks k x.id (c, hold-here C t k home ∙ held, mark-is c.mark on) in
           let same : y.0 ≡ x = same_Some y.0 x (sym y.1 ∙ (ap (λ a. (view C t).job a x.id) home ∙ (job-here C t x.id ∙ open_))) in
           elim y.2 [
-            | inr under ↦ inr (closed-steady (Off p k (owner C p) Near Away) steady C.setup i x t (found (λ (z : JobRow). z.id == x.id) t.jobs x open_).0 (under-off t (owner C k) x.id R under))
+            | inr under ↦ inr (closed-steady (Off p k (owner C p) Near Away) steady C.setup i x t (found (λ (z : JobRow). z.id == x.id) t.jobs x open_).0
+                (under-off t (owner C k) x.id R under))
             | inl is_root ↦
                 let root : x.root ≡ k = ap (λ (z : JobRow). z.root) (sym same) ∙ is_root in
                 elim (cases_Bool x.keep) [
@@ -226,13 +248,18 @@ module _ (C : Scene) (p k : KeyName) (granted : C.parent p k) where
       let j : ℕ = s.next_job in
       let ks : List KeyName = region s.caps root in
       let marked : Side = unbind_all ks (mark_all ks j (job_opened root up ws keep s)) in
-      in_turn-keeps (Has k) (request_or_adopt C.setup i j) (λ q t here. cond_both (is_local C.setup i q) _ _ (Has k) (λ _. adopts j (other_marker j (cap t q)) t here) (λ _. here)) (children_of s.caps ks) marked
+      in_turn-keeps (Has k) (request_or_adopt C.setup i j)
+      (λ q t here. cond_both (is_local C.setup i q) _ _ (Has k) (λ _. adopts j (other_marker j (cap t q)) t here) (λ _. here))
+      (children_of s.caps ks) marked
       (has-mapped k (λ c. list_any (key_eq c.key) ks) (with_mark j) (λ c. refl) s.caps is)
 
   leads-opened : (root : KeyName) (up : Option Up) (ws : List ℕ) (keep : Bool) (s : Side) → Leads s → Leads (opened C.setup i root up ws keep s)
   leads-opened root up ws keep s (inr off) = inr (opened-steady (Off p k (owner C p) Near Away) steady C.setup i root up ws keep s off)
   leads-opened root up ws keep s (inl has) = inl (has-opened root up ws keep s has)
 
-  pub leads-begun : (root : KeyName) (up : Option Up) (ws : List ℕ) (keep : Bool) (s : Side) → Row C free_hand (opened C.setup i root up ws keep s) → Below p k s
+  pub leads-begun : (root : KeyName) (up : Option Up) (ws : List ℕ) (keep : Bool) (s : Side) → Row C free_hand (opened C.setup i root up ws keep s) →
+      Below p k s
       → Leads s → Leads (begin C.setup i root up ws keep s)
-  leads-begun root up ws keep s R below L = leads-settled s.next_job (opened C.setup i root up ws keep s) R (opened-steady (Below p k) (below-steady p k) C.setup i root up ws keep s below) (leads-opened root up ws keep s L)
+  leads-begun root up ws keep s R below L =
+      leads-settled s.next_job (opened C.setup i root up ws keep s) R (opened-steady (Below p k) (below-steady p k) C.setup i root up ws keep s below)
+      (leads-opened root up ws keep s L)

@@ -15,7 +15,8 @@ use Rattle.sem_msg.specs.declared.call.Call.{Call}
 use Rattle.sem_msg.specs.declared.event.Act.{Act}
 use Rattle.sem_msg.specs.declared.event.Act.TheVariants.{Call as Calls, Fetch, Handle, Upcall, Resume, Flush, Kill}
 use Rattle.sem_msg.specs.declared.message.Message.{Message}
-use Rattle.sem_msg.specs.declared.message.Message.TheVariants.{ObtainReq, ObtainOk, ObtainNo, DelegateReq, DelegatePrepared, DelegateNo, Ack, Orphan, RevokeReq, RevokeDone}
+use Rattle.sem_msg.specs.declared.message.Message.TheVariants.{ObtainReq, ObtainOk, ObtainNo, DelegateReq, DelegatePrepared, DelegateNo, Ack, Orphan, RevokeReq}
+use Rattle.sem_msg.specs.declared.message.Message.TheVariants.{RevokeDone}
 use Rattle.sem_msg.specs.Codes.{code_number}
 use Rattle.sem_msg.specs.declared.state.Ask.{Ask}
 use Rattle.sem_msg.specs.declared.state.Ask.TheVariants.{Obtain as ObtainAsk, Delegate as DelegateAsk}
@@ -24,7 +25,8 @@ use Rattle.sem_msg.specs.declared.state.Parked.TheVariants.{ObtainWait, ObtainRe
 use Rattle.sem_msg.specs.declared.state.Pending.{Pending}
 use Rattle.sem_msg.specs.Setup.{Setup}
 use Rattle.sem_msg.specs.Lookups.{kernel_of, owner_of, place_owner}
-use Rattle.sem_machine.specs.Sides.{Side, row, cap, own, parked, is_alive, call_counted, drawn, promised, parked_as, unparked, asked, ask_taken, buried, linked, installed, freed, send, with_inbox, pending_added, pending_removed}
+use Rattle.sem_machine.specs.Sides.{Side, row, cap, own, parked, is_alive, call_counted, drawn, promised, parked_as, unparked, asked, ask_taken, buried, linked}
+use Rattle.sem_machine.specs.Sides.{installed, freed, send, with_inbox, pending_added, pending_removed}
 use Rattle.sem_machine.specs.Steps.{Step, plain}
 use Rattle.sem_machine.specs.Asks.{target_vpe, asker, is_unawaited, promise_freed, call_refused, refusal_sent, ask_refused}
 use Rattle.sem_machine.specs.Calls.{next_key, next_place, call_row}
@@ -51,7 +53,8 @@ pub record Revokings (T : Setup) (i : ℕ) (P : Side → Type 0) (s : Side) : Ty
   pub dones : (from j : ℕ) → s.inbox ≡ Some (from, RevokeDone j) → P (revoke_done T i j (with_inbox None s))
 
 -- What reads capabilities and outboxes alone, and is kept when a message is sent.
-module _ (T : Setup) (i : ℕ) (P : Side → Type 0) (other : (s t : Side) → t.caps ≡ s.caps → t.outs ≡ s.outs → P s → P t) (sends : (t : Side) (j : ℕ) (m : Message) → P t → P (send j m t)) where
+module _ (T : Setup) (i : ℕ) (P : Side → Type 0) (other : (s t : Side) → t.caps ≡ s.caps → t.outs ≡ s.outs → P s →
+    P t) (sends : (t : Side) (j : ℕ) (m : Message) → P t → P (send j m t)) where
   freed-led : (p : Option Parked) (v : ℕ) (t : Side) → P t → P (promise_freed p v t)
   freed-led None v t is = is
   freed-led (Some (ObtainWait number sel)) v t is = other t (freed v sel t) refl refl is
@@ -82,7 +85,9 @@ module _ (T : Setup) (i : ℕ) (P : Side → Type 0) (other : (s t : Side) → t
   ended-led v s is =
       let asks : List Ask = (row s v).asks in
       let answered : Side = in_turn (ask_ended T i) asks (buried v s) in
-      let told : P answered = in_turn-keeps P (ask_ended T i) (λ a t here. cond_both (is_unawaited T i t a) t (ask_refused T i Dead a t) P (λ _. here) (λ _. refused-led Dead a t here)) asks (buried v s) (other s (buried v s) refl refl is) in
+      let told : P answered =
+      in_turn-keeps P (ask_ended T i) (λ a t here. cond_both (is_unawaited T i t a) t (ask_refused T i Dead a t) P (λ _. here)
+      (λ _. refused-led Dead a t here)) asks (buried v s) (other s (buried v s) refl refl is) in
       owes (parked answered v) (unparked v answered) (other answered (unparked v answered) refl refl told)
     where
       owes : (p : Option Parked) (t : Side) → P t → P (call_ended T p v t)
@@ -98,16 +103,19 @@ module _ (T : Setup) (i : ℕ) (P : Side → Type 0) (other : (s t : Side) → t
   -- what is kept by each part of a revoke is kept by each revoke
   pub steady-revokings : IsSteady P → (s : Side) → P s → Revokings T i P s
   steady-revokings S s is = record {
-    revokes = λ v src c held. revoked-steady P S T i v c.key c.mark (call_counted v s) (λ j. other s (parked_as v (RevokeWait j) (call_counted v s)) refl refl is);
+    revokes = λ v src c held. revoked-steady P S T i v c.key c.mark (call_counted v s)
+        (λ j. other s (parked_as v (RevokeWait j) (call_counted v s)) refl refl is);
     clears = λ v src c held unmarked. cleared-steady P S T i v c.key (call_counted v s) (other s _ refl refl is);
     exits = λ v. ends v (call_counted v s) (other s (call_counted v s) refl refl is);
     kills = λ v. ends v s is;
-    requests = λ from key j full. requested-steady P S T i from j key (cap (with_inbox None s) key) (with_inbox None s) (λ u ready same here. other u (parked_as key.vpe ObtainCancelled u) refl refl here) (other s (with_inbox None s) refl refl is);
+    requests = λ from key j full. requested-steady P S T i from j key (cap (with_inbox None s) key) (with_inbox None s)
+        (λ u ready same here. other u (parked_as key.vpe ObtainCancelled u) refl refl here) (other s (with_inbox None s) refl refl is);
     dones = λ from j full. done-steady P S T i j (with_inbox None s) (other s (with_inbox None s) refl refl is);
   }
     where
       ends : (v : ℕ) (t : Side) → P t → P (ended T i v t)
-      ends v t here = all-ended v t (in_turn-keeps P (revoked_if_left T i) (λ k u now. rest-steady P S T i k u now) (keys_of (ended_but_held T i v t) v) (ended_but_held T i v t) (ended-led v t here))
+      ends v t here = all-ended v t (in_turn-keeps P (revoked_if_left T i) (λ k u now. rest-steady P S T i k u now) (keys_of (ended_but_held T i v t) v)
+          (ended_but_held T i v t) (ended-led v t here))
 
 module _ (T : Setup) (i : ℕ) (G : KeyName → KeyName → Type 0) (P : Side → Type 0) (K : IsKept G P) where
   refused-kept : (code : Code) (a : Ask) (t : Side) → P t → P (ask_refused T i code a t)
@@ -128,16 +136,20 @@ module _ (T : Setup) (i : ℕ) (G : KeyName → KeyName → Type 0) (P : Side �
     answered = λ code told. is;
     child = λ src dst object p held told.
         let k : KeyName = next_key T s w (object_kind object) in
-        K.installs (linked p.key k (drawn w s)) k (Some p.key) dst object (K.links (drawn w s) p.key k (told p.key k refl) (K.other s (drawn w s) refl refl is));
+        K.installs (linked p.key k (drawn w s)) k (Some p.key) dst object
+        (K.links (drawn w s) p.key k (told p.key k refl) (K.other s (drawn w s) refl refl is));
     ask = λ dst target told.
         let place : PlaceName = next_place T s w in
         let waiting : Side = parked_as w (ObtainWait place.number dst) (promised w dst (drawn w s)) in
         let waits : P waiting = K.other s waiting refl refl is in
-        cond_both (kernel_of T (target_vpe target) == i) _ _ P (λ _. K.other waiting (asked (target_vpe target) (ObtainAsk place target) waiting) refl refl waits) (λ _. K.sends waiting (kernel_of T (target_vpe target)) (ObtainReq place target) waits);
+        cond_both (kernel_of T (target_vpe target) == i) _ _ P
+        (λ _. K.other waiting (asked (target_vpe target) (ObtainAsk place target) waiting) refl refl waits)
+        (λ _. K.sends waiting (kernel_of T (target_vpe target)) (ObtainReq place target) waits);
     offer = λ src u dst p held told.
         let waiting : Side = parked_as w (DelegateWait p.key) s in
         let waits : P waiting = K.other s waiting refl refl is in
-        cond_both (kernel_of T u == i) _ _ P (λ _. K.other waiting (asked u (DelegateAsk p.key p.object dst) waiting) refl refl waits) (λ _. K.sends waiting (kernel_of T u) (DelegateReq p.key p.object u dst) waits);
+        cond_both (kernel_of T u == i) _ _ P (λ _. K.other waiting (asked u (DelegateAsk p.key p.object dst) waiting) refl refl waits)
+        (λ _. K.sends waiting (kernel_of T u) (DelegateReq p.key p.object u dst) waits);
     revoke = λ src c held told. R.revokes w src c held;
     clear = λ src c held unmarked told. R.clears w src c held unmarked;
     bound = λ ep src c held told. K.other s _ refl refl is;
@@ -149,7 +161,8 @@ module _ (T : Setup) (i : ℕ) (G : KeyName → KeyName → Type 0) (P : Side �
       s = call_counted w s'
 
   given-led : (k p : KeyName) (object : Object) (state : Option Parked) (t : Side) → P t → P (given_here k p object state t)
-  given-led k p object (Some (ObtainWait number sel)) t is = K.other (installed k (Some p) sel object t) (given_here k p object (Some (ObtainWait number sel)) t) refl refl (K.installs t k (Some p) sel object is)
+  given-led k p object (Some (ObtainWait number sel)) t is =
+      K.other (installed k (Some p) sel object t) (given_here k p object (Some (ObtainWait number sel)) t) refl refl (K.installs t k (Some p) sel object is)
   given-led k p object None t is = is
   given-led k p object (Some (ObtainReady key parent object' sel)) t is = is
   given-led k p object (Some ObtainCancelled) t is = is
@@ -167,11 +180,14 @@ module _ (T : Setup) (i : ℕ) (G : KeyName → KeyName → Type 0) (P : Side �
         let object : Object = given target place.vpe p in
         let linking : Side = linked p.key k s in
         let links : P linking = K.links s p.key k (told p.key k refl) is in
-        cond_both (kernel_of T place.vpe == i) _ _ P (λ _. given-led k p.key object (parked linking place.vpe) linking links) (λ _. K.sends linking (place_owner T place) (ObtainOk p.key k object) links);
+        cond_both (kernel_of T place.vpe == i) _ _ P (λ _. given-led k p.key object (parked linking place.vpe) linking links)
+        (λ _. K.sends linking (place_owner T place) (ObtainOk p.key k object) links);
     here = λ parent object sel of told.
         let k : KeyName = next_key T s w parent.kind in
         let t : Side = installed k (Some parent) sel object (linked parent k (drawn w s)) in
-        K.other t _ refl refl (K.installs (linked parent k (drawn w s)) k (Some parent) sel object (K.links (drawn w s) parent k (told parent k refl) (K.other s (drawn w s) refl refl is)));
+        K.other t _ refl refl
+        (K.installs (linked parent k (drawn w s)) k (Some parent) sel object
+        (K.links (drawn w s) parent k (told parent k refl) (K.other s (drawn w s) refl refl is)));
     prepared = λ parent object sel of told.
         let k : KeyName = next_key T s w parent.kind in
         let preparing : Side = pending_added (record { key = k; parent = parent; object = object; sel = sel }) (promised w sel (drawn w s)) in
@@ -180,7 +196,8 @@ module _ (T : Setup) (i : ℕ) (G : KeyName → KeyName → Type 0) (P : Side �
 
   upcall-led : (w : ℕ) (s : Side) → P s → Q (upcall_row T i s w)
   unfolding upcall_row
-  upcall-led w s is = option-keeps Q (λ (a : Ask). ask_decided T i w a (ask_taken w s)) (slice_get (row s w).asks 0) (plain s) (λ a there. decided-led w a (ask_taken w s) (K.other s (ask_taken w s) refl refl is)) (λ told. is)
+  upcall-led w s is = option-keeps Q (λ (a : Ask). ask_decided T i w a (ask_taken w s)) (slice_get (row s w).asks 0) (plain s)
+      (λ a there. decided-led w a (ask_taken w s) (K.other s (ask_taken w s) refl refl is)) (λ told. is)
 
   resume-led : (w : ℕ) (s : Side) → P s → Q (resume_row T s w)
   unfolding resume_row
@@ -193,7 +210,8 @@ module _ (T : Setup) (i : ℕ) (G : KeyName → KeyName → Type 0) (P : Side �
       gone = K.other s (unparked w s) refl refl is
 
       granted : (parent key : KeyName) (m : Option ℕ) → Q (delegate_granted T parent key m (unparked w s))
-      granted parent key None = λ told. K.sends (linked parent key (unparked w s)) (owner_of T key) (Ack key true) (K.links (unparked w s) parent key (told parent key refl) gone)
+      granted parent key None = λ told. K.sends (linked parent key (unparked w s)) (owner_of T key) (Ack key true)
+          (K.links (unparked w s) parent key (told parent key refl) gone)
       granted parent key (Some j) = λ told. K.sends (unparked w s) (owner_of T key) (Ack key false) gone
 
       answered : (parent key : KeyName) (o : Option Capability) → Q (delegate_resumed T parent key o (unparked w s))
@@ -244,13 +262,15 @@ module _ (T : Setup) (i : ℕ) (G : KeyName → KeyName → Type 0) (P : Side �
       removed key = K.other s (pending_removed key s) refl refl is
 
       acked : (key : KeyName) (accepted : Bool) (p : Pending) → P (acknowledged T key accepted s p)
-      acked key true p = cond_both (is_alive s key.vpe) _ _ P (λ _. K.installs (pending_removed key s) key (Some p.parent) p.sel p.object (removed key)) (λ _. K.sends (pending_removed key s) (owner_of T p.parent) (Orphan p.parent key) (removed key))
+      acked key true p = cond_both (is_alive s key.vpe) _ _ P (λ _. K.installs (pending_removed key s) key (Some p.parent) p.sel p.object (removed key))
+          (λ _. K.sends (pending_removed key s) (owner_of T p.parent) (Orphan p.parent key) (removed key))
       acked key false p = K.other (pending_removed key s) (freed key.vpe p.sel (pending_removed key s)) refl refl (removed key)
 
   pub step-led : (s : Side) (a : Act) (input : Option Message) → (Moves a → ⊥) → P s → Revokings T i P s → Grants (local_step T i s a input)
       → P (local_step T i s a input).side
   unfolding local_step
-  step-led s (Calls w) input still is R told = option-keeps Q (call_row T i (call_counted w s) w) (next_call T s w) (plain s) (λ c there. call-led w c s R (K.other s (call_counted w s) refl refl is)) (λ told'. is) told
+  step-led s (Calls w) input still is R told = option-keeps Q (call_row T i (call_counted w s) w) (next_call T s w) (plain s)
+      (λ c there. call-led w c s R (K.other s (call_counted w s) refl refl is)) (λ told'. is) told
   step-led s (Upcall w) input still is R told = upcall-led w s is told
   step-led s (Resume w) input still is R told = resume-led w s is told
   step-led s (Kill w) input still is R told = R.kills w
@@ -260,4 +280,5 @@ module _ (T : Setup) (i : ℕ) (G : KeyName → KeyName → Type 0) (P : Side �
     where
       handling : (o : Option (ℕ × Message)) → s.inbox ≡ o → P (option_map_or (λ m. handled T i (with_inbox None s) m.0 m.1) o s)
       handling None none = is
-      handling (Some (from, m)) full = handled-led from m (with_inbox None s) (λ key j of. R.requests from key j (full ∙ ap (λ z. Some (from, z)) of)) (λ j of. R.dones from j (full ∙ ap (λ z. Some (from, z)) of)) (K.other s (with_inbox None s) refl refl is)
+      handling (Some (from, m)) full = handled-led from m (with_inbox None s) (λ key j of. R.requests from key j (full ∙ ap (λ z. Some (from, z)) of))
+          (λ j of. R.dones from j (full ∙ ap (λ z. Some (from, z)) of)) (K.other s (with_inbox None s) refl refl is)

@@ -99,12 +99,16 @@ module _ (T : Setup) (i w sel : ℕ) (p k : KeyName) (o : Object) where
       let answered : Side = in_turn (ask_ended T i) asks (buried w s) in
       let same : Stays answered = in_turn-keeps_each Stays (ask_ended T i) asks (λ a among t here. ask-stays a t (apart a among) here) (buried w s) there in
       let last : Side = call_ended T (parked answered w) w (unparked w answered) in
-      let sent : Orphaned last = subst (λ x. Orphaned (call_ended T x w (unparked w answered))) (sym same) (outbox-sent (unparked w answered) (owner_of T p) (Orphan p k)) in
-      in_turn-keeps Orphaned (revoked_if_left T i) (λ r t here. rest-steady Orphaned (waits-steady (owner_of T p) (Orphan p k)) T i r t here) (keys_of last w) last sent
+      let sent : Orphaned last = subst (λ x. Orphaned (call_ended T x w (unparked w answered))) (sym same)
+      (outbox-sent (unparked w answered) (owner_of T p) (Orphan p k)) in
+      in_turn-keeps Orphaned (revoked_if_left T i) (λ r t here. rest-steady Orphaned (waits-steady (owner_of T p) (Orphan p k)) T i r t here)
+      (keys_of last w) last sent
 
 -- An entry. k was granted below p before, and p is held unmarked.
-module _ (T : Setup) (valid : IsSetup T) (J : List Entry) (runs : IsSchedule T J) (before : List Entry) (e : Entry) (later : List Entry) (parts : J ≡ before ++ e ∷ later)
-    (p k : KeyName) (granted : Contains (grants before) (p, k)) (d : Capability) (held : HoldsCap (world_after T before) (owner_of T p) p d) (unmarked : d.mark ≡ None) where
+module _ (T : Setup) (valid : IsSetup T) (J : List Entry) (runs : IsSchedule T J) (before : List Entry) (e : Entry) (later : List Entry) (parts : J ≡ before
+    ++ e ∷ later)
+    (p k : KeyName) (granted : Contains (grants before) (p, k)) (d : Capability) (held : HoldsCap (world_after T before) (owner_of T p) p d) (unmarked : d.mark
+    ≡ None) where
   abbrev W : World
   W = world_after T before
 
@@ -131,7 +135,8 @@ module _ (T : Setup) (valid : IsSetup T) (J : List Entry) (runs : IsSchedule T J
 
   -- what waits to be sent is on its way
   pub sent-way : (u : Side) → side V i ≡ u → (j : ℕ) (m : Message) → Contains (outbox u j) m → Contains (way V i j) m
-  sent-way u same j m among = Contains-append_right (fetched_from i (side V j).inbox ++ link V i j) (outbox (side V i) j) m (subst (λ (x : Side). Contains (outbox x j) m) (sym same) among)
+  sent-way u same j m among = Contains-append_right (fetched_from i (side V j).inbox ++ link V i j) (outbox (side V i) j) m
+      (subst (λ (x : Side). Contains (outbox x j) m) (sym same) among)
 
   -- an ObtainOk comes on, or is taken
   pub ok-next : (o : Object) (a b : ℕ) → Contains (way W a b) (ObtainOk p k o) → Waits T W k.vpe k.number → IsLed T V p k
@@ -140,10 +145,19 @@ module _ (T : Setup) (valid : IsSetup T) (J : List Entry) (runs : IsSchedule T J
         let one = here-one k.vpe in
         let about' = flight-about V k.vpe a b (ObtainOk p k o) still (omega (arith, one)) in
         inl (by_ok o (a, b, still) (waits-on T valid J runs before e later parts (all-awaited T valid before begun) k.vpe k.number about' waits))
-    | inr (here, full, act) ↦ elim (ok-handled T valid J runs before e later parts p k o a granted full act (subst (λ n. Contains (way W a n) (ObtainOk p k o)) here among) waits) [
-      | inl (sel, parks, alive) ↦ inl (by_ready i k.vpe sel o parks)
-      | inr (declared, home, dead, gone) ↦ inr (i, inl (sent-way (send (owner_of T p) (Orphan p k) (with_inbox None s)) gone (owner_of T p) (Orphan p k) (outbox-sent (with_inbox None s) (owner_of T p) (Orphan p k))))
-    ]
+    | inr (
+      here,
+      full,
+      act,
+    ) ↦ elim (ok-handled T valid J runs before e later parts p k o a granted full act (subst (λ n. Contains (way W a n) (ObtainOk p k o)) here among)
+        waits) [
+          | inl (sel, parks, alive) ↦ inl (by_ready i k.vpe sel o parks)
+          | inr (declared, home, dead, gone) ↦ inr (
+            i,
+            inl (sent-way (send (owner_of T p) (Orphan p k) (with_inbox None s)) gone (owner_of T p) (Orphan p k)
+                (outbox-sent (with_inbox None s) (owner_of T p) (Orphan p k))),
+          )
+        ]
   ]
 
   -- an Ack comes on, or is taken
@@ -155,9 +169,11 @@ module _ (T : Setup) (valid : IsSetup T) (J : List Entry) (runs : IsSchedule T J
         elim (ack-handled T valid J runs before e later parts p k a granted full act there) [
           | inl (c, holds) ↦ inl (by_cap i c holds)
           | inr (declared, home, dead, q, pends, gone) ↦
-              let same : q.parent ≡ p = one-parent T (grants before) (all-grown T valid before begun) q.parent p k (acked-parent k T valid before begun i a i q pends there) granted in
+              let same : q.parent ≡ p = one-parent T (grants before) (all-grown T valid before begun) q.parent p k
+              (acked-parent k T valid before begun i a i q pends there) granted in
               let out : Contains (way V i (owner_of T q.parent)) (Orphan q.parent k) =
-              sent-way (send (owner_of T q.parent) (Orphan q.parent k) (pending_removed k (with_inbox None s))) gone (owner_of T q.parent) (Orphan q.parent k) (outbox-sent (pending_removed k (with_inbox None s)) (owner_of T q.parent) (Orphan q.parent k)) in
+              sent-way (send (owner_of T q.parent) (Orphan q.parent k) (pending_removed k (with_inbox None s))) gone (owner_of T q.parent) (Orphan q.parent k)
+              (outbox-sent (pending_removed k (with_inbox None s)) (owner_of T q.parent) (Orphan q.parent k)) in
               inr (i, inl (subst (λ z. Contains (way V i (owner_of T z)) (Orphan z k)) same out))
         ]
   ]
@@ -171,7 +187,8 @@ module _ (T : Setup) (valid : IsSetup T) (J : List Entry) (runs : IsSchedule T J
     Touched = (e.event.act ≡ Resume v) ⊎ ((e.event.act ≡ Kill v) ⊎ ((from : ℕ) × (j : ℕ) × (s.inbox ≡ Some (from, RevokeReq k j))))
 
     frees : AskWeights.free (row s v) (parked s v) ≡ 1
-    frees = ap (AskWeights.free (row s v)) there ∙ cond-true ((row s v).alive && true) 1 0 (and_from (row s v).alive true (parkers-live T valid before begun i v q there) refl)
+    frees = ap (AskWeights.free (row s v)) there
+        ∙ cond-true ((row s v).alive && true) 1 0 (and_from (row s v).alive true (parkers-live T valid before begun i v q there) refl)
 
     apart : (a : Ask) (u : ℕ) → Contains (row s u).asks a → asker a ≡ v → ⊥
     apart a u among who =
@@ -184,9 +201,16 @@ module _ (T : Setup) (valid : IsSetup T) (J : List Entry) (runs : IsSchedule T J
     touched-next : Touched → IsLed T V p k
     unfolding local_step
     touched-next (inl act) = inl (by_cap i _ (ap (λ (x : Side). cap x k) at-i ∙ resumed-held T valid J runs before e later parts v k p o sel act there))
-    touched-next (inr (inl act)) = inr (i, inl (sent-way (ended T i v s) (at-i ∙ ap (λ a. (local_step T i s a (input_of W i a)).side) act) (owner_of T p) (Orphan p k) (ended-orphans T i v sel p k o s there (λ a among who. apart a v among who))))
+    touched-next (inr (inl act)) =
+        inr (
+          i,
+          inl (sent-way (ended T i v s) (at-i ∙ ap (λ a. (local_step T i s a (input_of W i a)).side) act) (owner_of T p) (Orphan p k)
+              (ended-orphans T i v sel p k o s there (λ a among who. apart a v among who))),
+        )
     touched-next (inr (inr (from, j, full))) =
-        let mark = (asked-below T valid before begun k from i j (in-way T valid k J runs before e later parts (λ n x pend. PendingOwed.all-pend T valid k before begun n x pend) from (RevokeReq k j) full) p d granted held).1 in
+        let mark = (asked-below T valid before begun k from i j
+        (in-way T valid k J runs before e later parts (λ n x pend. PendingOwed.all-pend T valid k before begun n x pend) from (RevokeReq k j) full) p d
+        granted held).1 in
         let no' : None ≡ Some j = sym unmarked ∙ mark in
         absurd cc
 
@@ -206,9 +230,15 @@ module _ (T : Setup) (valid : IsSetup T) (J : List Entry) (runs : IsSchedule T J
         (λ u act same. let none = calls-unparked T valid J runs before e later parts u act in busy (parked s u) none (ap (parked s) same ∙ there))
         (λ u act same. inl (act ∙ ap Resume same))
         (λ u act same. inr (inl (act ∙ ap Kill same)))
-        (λ from m full one. let weighs : AskWeights.of_inbox v s.inbox ≡ AskWeights.of_message v m = ap (AskWeights.of_inbox v) full in absurd (omega (arith, own', most, part, one, weighs)))
+        (λ from m full one. let weighs : AskWeights.of_inbox v s.inbox ≡ AskWeights.of_message v m = ap (AskWeights.of_inbox v) full in
+        absurd (omega (arith, own', most, part, one, weighs)))
         (λ from accepted act full x none. absurd cc)
-        (λ from k' j full ready same. inr (inr (from, j, full ∙ ap (λ z. Some (from, RevokeReq z j)) (cancelled k' (ap (is_ready_with k') (sym (ap (parked s) same ∙ there)) ∙ ready)))))
+        (λ from k' j full ready same. inr (inr (
+          from,
+          j,
+          full
+              ∙ ap (λ z. Some (from, RevokeReq z j)) (cancelled k' (ap (is_ready_with k') (sym (ap (parked s) same ∙ there)) ∙ ready)),
+        )))
         in
         elim Q.park [
           | inl same ↦ inl (by_ready i v sel o (ap (λ (x : Side). parked x v) at-i ∙ same))

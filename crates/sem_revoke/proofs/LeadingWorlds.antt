@@ -94,7 +94,8 @@ has-held k t (c, among, key) = from (cap t k) refl
     from None is = absurd (true≢false (sym (key_eq-from c.key k key) ∙ not_found (λ (x : Capability). key_eq x.key k) t.caps c is among))
 
 -- An entry.
-module _ (T : Setup) (valid : IsSetup T) (J : List Entry) (runs : IsSchedule T J) (before : List Entry) (e : Entry) (later : List Entry) (parts : J ≡ before ++ e ∷ later) where
+module _ (T : Setup) (valid : IsSetup T) (J : List Entry) (runs : IsSchedule T J) (before : List Entry) (e : Entry) (later : List Entry) (parts : J ≡ before
+    ++ e ∷ later) where
   abbrev W : World
   W = world_after T before
 
@@ -136,7 +137,8 @@ module _ (T : Setup) (valid : IsSetup T) (J : List Entry) (runs : IsSchedule T J
   step-of a = local_step T i s a (input_of W i a)
 
   sent-on : (a : Act) → e.event.act ≡ a → (b : ℕ) (m : Message) → Contains (outbox (step-of a).side b) m → Contains (way V i b) m
-  sent-on a act b m among = Contains-append_right (fetched_from i (side V b).inbox ++ link V i b) (outbox (side V i) b) m (subst (λ (x : Side). Contains (outbox x b) m) (sym (at-i ∙ ap (λ n. (step-of n).side) act)) among)
+  sent-on a act b m among = Contains-append_right (fetched_from i (side V b).inbox ++ link V i b) (outbox (side V i) b) m
+      (subst (λ (x : Side). Contains (outbox x b) m) (sym (at-i ∙ ap (λ n. (step-of n).side) act)) among)
 
   -- what a step grants is held
   abbrev HoldsNew : Step → Type 0
@@ -159,7 +161,8 @@ module _ (T : Setup) (valid : IsSetup T) (J : List Entry) (runs : IsSchedule T J
       by : (a : Act) → e.event.act ≡ a → IsThere T V p k
       by (Calls v) act =
           let t' : Side = call_counted v s in
-          holds (Calls v) act (option-keeps HoldsNew (call_row T i t' v) (next_call T s v) (plain s) (λ c there. call-holds T i v t' c) (λ p' k' some. absurd cc) p k (grants' (Calls v) act))
+          holds (Calls v) act (option-keeps HoldsNew (call_row T i t' v) (next_call T s v) (plain s) (λ c there. call-holds T i v t' c)
+          (λ p' k' some. absurd cc) p k (grants' (Calls v) act))
       by (Upcall u) act = elim (upcall-gives T i s u p k (grants' (Upcall u) act)) [
         | inl held ↦ holds (Upcall u) act held
         | inr (a, among, (place, target, object, is, vpe, number, out)) ↦
@@ -178,10 +181,12 @@ module _ (T : Setup) (valid : IsSetup T) (J : List Entry) (runs : IsSchedule T J
       by (Kill v) act = none (grants' (Kill v) act)
 
   -- A link of an unmarked capability now, from a grant before.
-  module _ (p k : KeyName) (c : Capability) (held : HoldsCap V (owner_of T p) p c) (unmarked : c.mark ≡ None) (child : Contains c.children k) (granted : Par gs p k) where
+  module _ (p k : KeyName) (c : Capability) (held : HoldsCap V (owner_of T p) p c) (unmarked : c.mark ≡ None) (child : Contains c.children k)
+      (granted : Par gs p k) where
     -- no grant of this entry is its own
     apart : (q r : KeyName) → ◌≡◌ {A = Option (KeyName × KeyName)} o (Some (q, r)) → q ≡ p → r ≡ k → ⊥
-    apart q r is same_p same_k = (told T valid J runs before e later parts).new q r is (subst (Made T gs) (sym same_k) (child-grown (root_keys T) gs p k granted))
+    apart q r is same_p same_k =
+        (told T valid J runs before e later parts).new q r is (subst (Made T gs) (sym same_k) (child-grown (root_keys T) gs p k granted))
 
     abbrev Was : Type 0
     Was = (d : Capability) × HoldsCap W (owner_of T p) p d × (d.mark ≡ None) × Contains d.children k
@@ -192,7 +197,8 @@ module _ (T : Setup) (valid : IsSetup T) (J : List Entry) (runs : IsSchedule T J
     -- the kernel that acts owns p
     linking : owner_of T p ≡ i → Linking p k Was t
     linking here = elim (moves-or e.event.act) [
-      | inl moves ↦ subst (λ cs. (d : Capability) → Contains cs d → d.key ≡ p → d.mark ≡ None → has_key d.children k ≡ true → Was) (sym (moved-caps T W i e.event.act moves)) at-first
+      | inl moves ↦ subst (λ cs. (d : Capability) → Contains cs d → d.key ≡ p → d.mark ≡ None → has_key d.children k ≡ true →
+          Was) (sym (moved-caps T W i e.event.act moves)) at-first
       | inr still ↦ let K = linking-kept p k Was (λ q r. q ≡ p → r ≡ k → ⊥) (λ q r no'. no') in
           step-led T i (λ q r. q ≡ p → r ≡ k → ⊥) (Linking p k Was) K s e.event.act (input_of W i e.event.act) still at-first
           (steady-revokings T i (Linking p k Was) K.other K.sends (linking-steady p k Was) s at-first) apart
@@ -206,14 +212,16 @@ module _ (T : Setup) (valid : IsSetup T) (J : List Entry) (runs : IsSchedule T J
     was = elim (cases_eq (owner_of T p) i) [
       | inr away ↦ (c, ap (λ (x : Side). cap x p) (sym (not-at (owner_of T p) away)) ∙ held, unmarked, child)
       | inl here ↦
-          let there = found (λ (x : Capability). key_eq x.key p) t.caps c (ap (λ (x : Side). cap x p) (sym at-i) ∙ (ap (λ j. cap (side V j) p) (sym here) ∙ held)) in
+          let there = found (λ (x : Capability). key_eq x.key p) t.caps c (ap (λ (x : Side). cap x p) (sym at-i)
+          ∙ (ap (λ j. cap (side V j) p) (sym here) ∙ held)) in
           linking here c there.0 (key_eq-true c.key p there.1) unmarked (has_key-from_Contains c.children k child)
     ]
 
     -- p has the link still
     linked-on : owner_of T p ≡ i → Linking p k ⊥ t → ⊥
     linked-on here cut =
-        let there = found (λ (x : Capability). key_eq x.key p) t.caps c (ap (λ (x : Side). cap x p) (sym at-i) ∙ (ap (λ j. cap (side V j) p) (sym here) ∙ held)) in
+        let there = found (λ (x : Capability). key_eq x.key p) t.caps c (ap (λ (x : Side). cap x p) (sym at-i)
+        ∙ (ap (λ j. cap (side V j) p) (sym here) ∙ held)) in
         cut c there.0 (key_eq-true c.key p there.1) unmarked (has_key-from_Contains c.children k child)
 
     -- A key that is held.
@@ -233,7 +241,8 @@ module _ (T : Setup) (valid : IsSetup T) (J : List Entry) (runs : IsSchedule T J
     led-step : Has k s → Led T gs W R' H' i p k granted below t
     led-step has = elim (moves-or e.event.act) [
       | inl moves ↦ inl (subst (λ cs. (d : Capability) × Contains cs d × (d.key ≡ k)) (sym (moved-caps T W i e.event.act moves)) has)
-      | inr still ↦ step-led T i (NoGrant S p k granted) (Led T gs W R' H' i p k granted below) (leads-kept S p k granted) s e.event.act (input_of W i e.event.act) still (inl has)
+      | inr still ↦ step-led T i (NoGrant S p k granted) (Led T gs W R' H' i p k granted below) (leads-kept S p k granted) s e.event.act
+          (input_of W i e.event.act) still (inl has)
           (revokings T gs W R' H' i p k granted below (inl has)) apart
     ]
 
@@ -246,7 +255,8 @@ module _ (T : Setup) (valid : IsSetup T) (J : List Entry) (runs : IsSchedule T J
             | inl has ↦ (let f = has-held k t has in inl (by_cap i f.0 (ap (λ (x : Side). cap x k) at-i ∙ f.1)))
             | inr (inl sent) ↦ inr (i, inr (sent-on e.event.act refl (owner_of T p) (Unlink p k) sent))
             | inr (inr (inl (near, cut))) ↦ absurd (linked-on near cut)
-            | inr (inr (inr (away, f, holds', m, marked))) ↦ (let w = was in let same : f ≡ w.0 = same_Some f w.0 (sym holds' ∙ w.1) in let no' : None ≡ Some m = sym w.2 ∙ (ap (λ (x : Capability). x.mark) (sym same) ∙ marked) in absurd cc)
+            | inr (inr (inr (away, f, holds', m, marked))) ↦ (let w = was in let same : f ≡ w.0 = same_Some f w.0 (sym holds' ∙ w.1) in
+                let no' : None ≡ Some m = sym w.2 ∙ (ap (λ (x : Capability). x.mark) (sym same) ∙ marked) in absurd cc)
           ]
     ]
 
@@ -258,12 +268,25 @@ module _ (T : Setup) (valid : IsSetup T) (J : List Entry) (runs : IsSchedule T J
     taken a m is full act =
         ap (λ n. (local_step T i s n (input_of W i n)).side) act
         ∙ (ap (λ x. option_map_or (λ y. handled T i (with_inbox None s) y.0 y.1) x s) full
-        ∙ elim is [ inl one ↦ ap (handled T i (with_inbox None s) a) one ∙ orphan-row T i (with_inbox None s) a p k | inr two ↦ ap (handled T i (with_inbox None s) a) two ∙ unlink-row T i (with_inbox None s) a p k ])
+        ∙ elim is [
+          | inl one ↦ ap (handled T i (with_inbox None s) a) one ∙ orphan-row T i (with_inbox None s) a p k
+          | inr two ↦ ap (handled T i (with_inbox None s) a) two ∙ unlink-row T i (with_inbox None s) a p k
+        ])
 
     noticed-next : (a : ℕ) (m : Message) → (m ≡ Orphan p k) ⊎ (m ≡ Unlink p k) → Contains (way W a (owner_of T p)) m → IsNoticed T V p k
     noticed-next a m is among = elim (goes T valid J runs before e later parts a (owner_of T p) m among) [
-      | inl still ↦ (a, elim is [ inl one ↦ inl (subst (Contains (way V a (owner_of T p))) one still) | inr two ↦ inr (subst (Contains (way V a (owner_of T p))) two still) ])
-      | inr (here, full, act) ↦ absurd (linked-on here (subst (λ (x : Side). Linking p k ⊥ x) (sym (taken a m is full act)) (linking-cut p k ⊥ (with_inbox None s))))
+      | inl still ↦ (
+        a,
+        elim is [
+          | inl one ↦ inl (subst (Contains (way V a (owner_of T p))) one still)
+          | inr two ↦ inr (subst (Contains (way V a (owner_of T p))) two still)
+        ],
+      )
+      | inr (
+        here,
+        full,
+        act,
+      ) ↦ absurd (linked-on here (subst (λ (x : Side). Linking p k ⊥ x) (sym (taken a m is full act)) (linking-cut p k ⊥ (with_inbox None s))))
     ]
 
     next : IsLed T W p k → IsLed T V p k
@@ -279,7 +302,8 @@ module _ (T : Setup) (valid : IsSetup T) (J : List Entry) (runs : IsSchedule T J
       let home : owner_of T p ≡ j = schedule-homes T valid now' prefix j p c held in
       let there : HoldsCap V (owner_of T p) p c = ap (λ n. cap (side V n) p) home ∙ held in
       let granted : Par (grants now') p k = (schedule-fit T valid now' prefix).links p k (c, there, has_key-from_Contains c.children k child) in
-      elim (last-granted T valid gs o p k (subst (λ xs. Contains xs (p, k)) (more-grants before e o (shown T W e (at T valid J runs before e later parts).2)) granted)) [
+      elim (last-granted T valid gs o p k (subst (λ xs. Contains xs (p, k)) (more-grants before e o (shown T W e (at T valid J runs before e later parts).2))
+      granted)) [
         | inr new ↦ inl (born p k new)
         | inl old ↦ let w = was p k c there unmarked child old in next p k c there unmarked child old (L (owner_of T p) p k w.0 w.1 w.2 w.3)
       ]
@@ -292,12 +316,14 @@ all-led T valid J runs = from [] J refl at-first
     at-first : AllLed T []
     at-first j p k c held unmarked child =
         let there = found (λ (x : Capability). key_eq x.key p) (side (start T) j).caps c held in
-        let first = All-contains IsFirst (side (start T) j).caps c (start-each T (λ (x : Side). All IsFirst x.caps) (All-nil IsFirst) (λ n. first-bare T n) j) there.0 in
+        let first = All-contains IsFirst (side (start T) j).caps c (start-each T (λ (x : Side). All IsFirst x.caps) (All-nil IsFirst) (λ n. first-bare T n) j)
+        there.0 in
         absurd (Contains-nil k (subst (λ ks. Contains ks k) first.childless child))
 
     from : (before later : List Entry) → J ≡ before ++ later → AllLed T before → AllLed T J
     from before [] parts L = subst (AllLed T) (sym (parts ∙ append-nil before)) L
-    from before (e ∷ later) parts L = from (before ++ e ∷ []) later (parts ∙ sym (append_assoc before (e ∷ []) later)) (next-led T valid J runs before e later parts L)
+    from before (e ∷ later) parts L = from (before ++ e ∷ []) later (parts
+        ∙ sym (append_assoc before (e ∷ []) later)) (next-led T valid J runs before e later parts L)
 
 -- a link of an unmarked capability leads to a live key, or a notice is on its way
 pub links-lead : (T : Setup) → IsSetup T → (J : List Entry) → IsSchedule T J → links_lead T J
@@ -310,6 +336,7 @@ links-lead T valid J runs j p k c held unmarked child = by (all-led T valid J ru
     by (inl (by_cap n d holds)) = inl (inl (n, subst IsSome (sym holds) refl))
     by (inl (by_ok object flight waits)) = inl (inr (inl (record { parent = p; object = object; arriving = flight })))
     by (inl (by_ack flight)) = inl (inr (inr (inl flight)))
-    by (inl (by_ready n v sel object there)) = inl (inr (inr (inr (record { kernel = n; vpe = v; selector = sel; parent = p; object = object; ready = there }))))
+    by (inl (by_ready n v sel object there)) =
+        inl (inr (inr (inr (record { kernel = n; vpe = v; selector = sel; parent = p; object = object; ready = there }))))
     by (inr (a, inl one)) = inr (inl (a, owner_of T p, one))
     by (inr (a, inr two)) = inr (inr (a, owner_of T p, two))

@@ -46,13 +46,16 @@ flight-coming k W m (a, b, among) one = elim (cases_eq (at_world k on_its_way W)
 ]
 
 -- what is live is alive
-pub live-alive : (T : Setup) (valid : IsSetup T) (J : List Entry) → IsSchedule T J → (G : KeyName → KeyName → Type 0) (M : KeyName → Type 0) (k : KeyName) → IsLive (world_after T J) k → Alive (owner_of T) G M (whole T (world_after T J)) k
+pub live-alive : (T : Setup) (valid : IsSetup T) (J : List Entry) → IsSchedule T J → (G : KeyName → KeyName → Type 0) (M : KeyName → Type 0) (k : KeyName) →
+    IsLive (world_after T J) k → Alive (owner_of T) G M (whole T (world_after T J)) k
 live-alive T valid J runs G M k (inl (i, some)) =
     let c = some-cap (cap (side (world_after T J) i) k) some in
     let home = schedule-homes T valid J runs i k c.0 c.1 in
     inl (c.0, ap (λ a. cap (side (world_after T J) a) k) home ∙ c.1)
-live-alive T valid J runs G M k (inr (inl granted)) = inr (flight-coming k (world_after T J) (ObtainOk granted.parent k granted.object) granted.arriving (cond-true (key_eq k k) 1 0 (key_eq-same k)))
-live-alive T valid J runs G M k (inr (inr (inl flight))) = inr (flight-coming k (world_after T J) (Ack k true) flight (cond-true (key_eq k k) 1 0 (key_eq-same k)))
+live-alive T valid J runs G M k (inr (inl granted)) =
+    inr (flight-coming k (world_after T J) (ObtainOk granted.parent k granted.object) granted.arriving (cond-true (key_eq k k) 1 0 (key_eq-same k)))
+live-alive T valid J runs G M k (inr (inr (inl flight))) =
+    inr (flight-coming k (world_after T J) (Ack k true) flight (cond-true (key_eq k k) 1 0 (key_eq-same k)))
 live-alive T valid J runs G M k (inr (inr (inr ready))) =
     let W : World = world_after T J in
     let calls = weigh-at (at_parked k) None refl (side W ready.kernel).parks ready.vpe in
@@ -91,7 +94,8 @@ module _ (T : Setup) (valid : IsSetup T) (J : List Entry) (runs : IsSchedule T J
       let weighs = way-weighs (noticing k) a b m among in
       let is = one a b in
       let gone = (holds.noticed k (omega (arith, weighs, is))).0 in
-      not-gone (owner_of T) (Par (grants J)) (one-parent T (grants J) (all-grown T valid J runs)) (Made T (grants J)) (whole T W) k gone (live-alive T valid J runs (Par (grants J)) (Made T (grants J)) k live)
+      not-gone (owner_of T) (Par (grants J)) (one-parent T (grants J) (all-grown T valid J runs)) (Made T (grants J)) (whole T W) k gone
+      (live-alive T valid J runs (Par (grants J)) (Made T (grants J)) k live)
 
   pub orphans-dead : (p k : KeyName) → InFlight W (Orphan p k) → IsLive W k → ⊥
   orphans-dead p k flight live = noticed-dead k (Orphan p k) (λ a b. one-true (key_eq k k) (key_eq-same k)) flight live
@@ -100,10 +104,12 @@ module _ (T : Setup) (valid : IsSetup T) (J : List Entry) (runs : IsSchedule T J
   unlinked-dead p k flight live = noticed-dead k (Unlink p k) (λ a b. one-true (key_eq k k) (key_eq-same k)) flight live
 
   -- what is asked for is below a mark of the job that asks
-  pub asked-below : (k : KeyName) (a b j : ℕ) → Contains (way W a b) (RevokeReq k j) → (p : KeyName) (c : Capability) → Contains (grants J) (p, k) → HoldsCap W (owner_of T p) p c → (owner_of T p ≡ a) × (c.mark ≡ Some j)
+  pub asked-below : (k : KeyName) (a b j : ℕ) → Contains (way W a b) (RevokeReq k j) → (p : KeyName) (c : Capability) → Contains (grants J) (p, k) →
+      HoldsCap W (owner_of T p) p c → (owner_of T p ≡ a) × (c.mark ≡ Some j)
   asked-below k a b j among p c granted held =
       let weighs = way-weighs (asking k a j) a b (RevokeReq k j) among in
-      let one = one-true ((key_eq k k) && ((a == a) && (j == j))) (and_from (key_eq k k) ((a == a) && (j == j)) (key_eq-same k) (and_from (a == a) (j == j) (eq-eqb a a refl) (eq-eqb j j refl))) in
+      let one = one-true ((key_eq k k) && ((a == a) && (j == j)))
+      (and_from (key_eq k k) ((a == a) && (j == j)) (key_eq-same k) (and_from (a == a) (j == j) (eq-eqb a a refl) (eq-eqb j j refl))) in
       let u = holds.asking k a j (omega (arith, weighs, one)) in
       let same : u.0 ≡ p = one-parent T (grants J) (all-grown T valid J runs) u.0 p k u.1 granted in
       let cap' : u.3.0 ≡ c = same_Some u.3.0 c (sym u.3.1 ∙ (ap (λ q. cap (side W (owner_of T q)) q) same ∙ held)) in
@@ -114,8 +120,12 @@ module _ (T : Setup) (valid : IsSetup T) (J : List Entry) (runs : IsSchedule T J
   late-apart k [] after j none = sym (cond-true (key_eq k k) (at_messages k after) (late k after) (key_eq-same k)) ∙ none
   late-apart k (m ∷ before) after j none = late-apart k before after j (late-rest k m (before ++ RevokeReq k j ∷ after) none)
 
-  pub first-capability : (k : KeyName) (a b j : ℕ) (before after : List Message) → way W a b ≡ before ++ RevokeReq k j ∷ after → ((p : KeyName) (o : Object) → Contains after (ObtainOk p k o) → ⊥) × (Contains after (Ack k true) → ⊥)
+  pub first-capability : (k : KeyName) (a b j : ℕ) (before after : List Message) → way W a b ≡ before ++ RevokeReq k j ∷ after →
+      ((p : KeyName) (o : Object) → Contains after (ObtainOk p k o) → ⊥) × (Contains after (Ack k true) → ⊥)
   first-capability k a b j before after parts =
       let none = late-apart k before after j (ap (late k) (sym parts) ∙ (schedule-revokes T valid J runs).1.order k a b) in
-      let one : at_key k k ≡ 1 = cond-true (key_eq k k) 1 0 (key_eq-same k) in
-      (λ p o among. let weighs = weigh-among (at_message k) after (ObtainOk p k o) among in omega (arith, none, weighs, one), λ among. let weighs = weigh-among (at_message k) after (Ack k true) among in omega (arith, none, weighs, one))
+      let one : at_key k k ≡ 1 = cond-true (key_eq k k) 1 0 (key_eq-same k) in (
+        λ p o among. let weighs = weigh-among (at_message k) after (ObtainOk p k o) among in
+            omega (arith, none, weighs, one),
+        λ among. let weighs = weigh-among (at_message k) after (Ack k true) among in omega (arith, none, weighs, one),
+      )

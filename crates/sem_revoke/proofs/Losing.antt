@@ -38,13 +38,25 @@ module _ (T : Setup) (gs : List (KeyName × KeyName)) (W : World) (R : IsReady T
   taken-leaves : (o : Option (KeyName × KeyName)) (t : Side) → Sends T gs W R H L i o (with_inbox None now) t → Leaves o t
   taken-leaves o t S = record { lasts = S.lasts; caused = S.caused; steady = S.steady }
 
-  pub event-leaves : (a : Act) → ActLoses gs L.lost T now a → Told T gs (stepped T W (event i a)).outcome.grant → Leaves (stepped T W (event i a)).outcome.grant (stepped T W (event i a)).side
+  pub event-leaves : (a : Act) → ActLoses gs L.lost T now a → Told T gs (stepped T W (event i a)).outcome.grant →
+      Leaves (stepped T W (event i a)).outcome.grant (stepped T W (event i a)).side
   unfolding after local_step
-  event-leaves (Calls v) loses told = sent-leaves _ _ (option-keeps (Keeps T gs W R H L i) (call_row T i (call_counted v now) v) (next_call T now v) (plain now) (λ c there. by-call T gs W R H L i v c (loses c there)) (λ _. row-step T gs W R H L i now (in_row T gs W R H L i)) (facts-of T gs W R H L i (Calls v) (stepped T W (event i (Calls v))) refl told (λ k. after-lives k all_held T W i (Calls v)))).1
-  event-leaves (Upcall v) loses told = sent-leaves _ _ (by-upcall T gs W R H L i v (facts-of T gs W R H L i (Upcall v) (stepped T W (event i (Upcall v))) refl told (λ k. after-lives k all_held T W i (Upcall v)))).1
-  event-leaves (Resume v) loses told = sent-leaves _ _ (by-resume T gs W R H L i v (facts-of T gs W R H L i (Resume v) (stepped T W (event i (Resume v))) refl told (λ k. after-lives k all_held T W i (Resume v)))).1
-  event-leaves (Kill v) loses told = sent-leaves None (ended T i v now) (row-step T gs W R H L i (ended T i v now) (row-ended (here T gs W R H L i) v now loses (in_row T gs W R H L i))).1
-  event-leaves Handle loses told = taken-leaves None _ (by-inbox T gs W R H L i now.inbox refl (facts-of T gs W R H L i Handle (stepped T W (event i Handle)) refl told (λ k. after-lives k all_held T W i Handle))).1
+  event-leaves (Calls v) loses told =
+      sent-leaves _ _ (option-keeps (Keeps T gs W R H L i) (call_row T i (call_counted v now) v) (next_call T now v) (plain now)
+      (λ c there. by-call T gs W R H L i v c (loses c there)) (λ _. row-step T gs W R H L i now (in_row T gs W R H L i))
+      (facts-of T gs W R H L i (Calls v) (stepped T W (event i (Calls v))) refl told (λ k. after-lives k all_held T W i (Calls v)))).1
+  event-leaves (Upcall v) loses told =
+      sent-leaves _ _ (by-upcall T gs W R H L i v (facts-of T gs W R H L i (Upcall v) (stepped T W (event i (Upcall v))) refl told
+      (λ k. after-lives k all_held T W i (Upcall v)))).1
+  event-leaves (Resume v) loses told =
+      sent-leaves _ _ (by-resume T gs W R H L i v (facts-of T gs W R H L i (Resume v) (stepped T W (event i (Resume v))) refl told
+      (λ k. after-lives k all_held T W i (Resume v)))).1
+  event-leaves (Kill v) loses told =
+      sent-leaves None (ended T i v now) (row-step T gs W R H L i (ended T i v now) (row-ended (here T gs W R H L i) v now loses (in_row T gs W R H L i))).1
+  event-leaves Handle loses told =
+      taken-leaves None _
+      (by-inbox T gs W R H L i now.inbox refl (facts-of T gs W R H L i Handle (stepped T W (event i Handle)) refl told
+      (λ k. after-lives k all_held T W i Handle))).1
   event-leaves (Fetch j) loses told = record { lasts = λ k c held. inl (c, held); caused = L.caused i; steady = λ p k none. refl }
   event-leaves (Flush j) loses told = record { lasts = λ k c held. inl (c, held); caused = L.caused i; steady = λ p k none. refl }
 
@@ -66,10 +78,23 @@ module _ (T : Setup) (gs : List (KeyName × KeyName)) (W : World) (R : IsReady T
 
   pub event-grows : (a : Act) → ActLoses gs L.lost T now a → Told T gs (stepped T W (event i a)).outcome.grant → Grows a (stepped T W (event i a)).side
   unfolding after local_step
-  event-grows (Calls v) loses told = let S = (option-keeps (Keeps T gs W R H L i) (call_row T i (call_counted v now) v) (next_call T now v) (plain now) (λ c there. by-call T gs W R H L i v c (loses c there)) (λ _. row-step T gs W R H L i now (in_row T gs W R H L i)) (facts-of T gs W R H L i (Calls v) (stepped T W (event i (Calls v))) refl told (λ k. after-lives k all_held T W i (Calls v)))).1 in (S.inbox, boxes (stepped T W (event i (Calls v))).outcome.grant now (stepped T W (event i (Calls v))).side refl S)
-  event-grows (Upcall v) loses told = let S = (by-upcall T gs W R H L i v (facts-of T gs W R H L i (Upcall v) (stepped T W (event i (Upcall v))) refl told (λ k. after-lives k all_held T W i (Upcall v)))).1 in (S.inbox, boxes (stepped T W (event i (Upcall v))).outcome.grant now (stepped T W (event i (Upcall v))).side refl S)
-  event-grows (Resume v) loses told = let S = (by-resume T gs W R H L i v (facts-of T gs W R H L i (Resume v) (stepped T W (event i (Resume v))) refl told (λ k. after-lives k all_held T W i (Resume v)))).1 in (S.inbox, boxes (stepped T W (event i (Resume v))).outcome.grant now (stepped T W (event i (Resume v))).side refl S)
-  event-grows (Kill v) loses told = let S = (row-step T gs W R H L i (ended T i v now) (row-ended (here T gs W R H L i) v now loses (in_row T gs W R H L i))).1 in (S.inbox, boxes None now (ended T i v now) refl S)
-  event-grows Handle loses told = let S = (by-inbox T gs W R H L i now.inbox refl (facts-of T gs W R H L i Handle (stepped T W (event i Handle)) refl told (λ k. after-lives k all_held T W i Handle))).1 in (inl S.inbox, boxes None (with_inbox None now) (stepped T W (event i Handle)).side refl S)
+  event-grows (Calls v) loses told = let S =
+      (option-keeps (Keeps T gs W R H L i) (call_row T i (call_counted v now) v) (next_call T now v) (plain now)
+      (λ c there. by-call T gs W R H L i v c (loses c there)) (λ _. row-step T gs W R H L i now (in_row T gs W R H L i))
+      (facts-of T gs W R H L i (Calls v) (stepped T W (event i (Calls v))) refl told (λ k. after-lives k all_held T W i (Calls v)))).1 in
+      (S.inbox, boxes (stepped T W (event i (Calls v))).outcome.grant now (stepped T W (event i (Calls v))).side refl S)
+  event-grows (Upcall v) loses told = let S =
+      (by-upcall T gs W R H L i v (facts-of T gs W R H L i (Upcall v) (stepped T W (event i (Upcall v))) refl told
+      (λ k. after-lives k all_held T W i (Upcall v)))).1 in
+      (S.inbox, boxes (stepped T W (event i (Upcall v))).outcome.grant now (stepped T W (event i (Upcall v))).side refl S)
+  event-grows (Resume v) loses told = let S =
+      (by-resume T gs W R H L i v (facts-of T gs W R H L i (Resume v) (stepped T W (event i (Resume v))) refl told
+      (λ k. after-lives k all_held T W i (Resume v)))).1 in
+      (S.inbox, boxes (stepped T W (event i (Resume v))).outcome.grant now (stepped T W (event i (Resume v))).side refl S)
+  event-grows (Kill v) loses told = let S = (row-step T gs W R H L i (ended T i v now) (row-ended (here T gs W R H L i) v now loses (in_row T gs W R H L i))).1
+      in (S.inbox, boxes None now (ended T i v now) refl S)
+  event-grows Handle loses told = let S =
+      (by-inbox T gs W R H L i now.inbox refl (facts-of T gs W R H L i Handle (stepped T W (event i Handle)) refl told
+      (λ k. after-lives k all_held T W i Handle))).1 in (inl S.inbox, boxes None (with_inbox None now) (stepped T W (event i Handle)).side refl S)
   event-grows (Fetch j) loses told = tt
   event-grows (Flush j) loses told = tt

@@ -22,14 +22,19 @@ module _ (T : Setup) (valid : IsSetup T) (J : List Entry) (runs : IsSchedule T J
   abbrev IsMarkedBy : KeyName → ℕ → Type 0
   IsMarkedBy k n = (c : Capability) × HoldsCap (world_after T J) (owner_of T k) k c × (c.mark ≡ Some n)
 
-  pub marks-spread : (p k : KeyName) (d : Capability) (n : ℕ) → HoldsCap (world_after T J) (owner_of T p) p d → d.mark ≡ Some n → Contains d.children k → IsLive (world_after T J) k → ((owner_of T k ≡ owner_of T p) × IsMarkedBy k n) ⊎ (1 ≤ of_world (asking k (owner_of T p) n) (world_after T J))
-  marks-spread p k d n held marked child live = elim ((holds T valid J runs).caught p k d n held marked (has_key-from_Contains d.children k child) (live-alive T valid J runs (Par (grants J)) (Made T (grants J)) k live)) [
-    | inl same ↦ inl same
-    | inr (inl more) ↦ inr more
-    | inr (inr none) ↦ absurd none
-  ]
+  pub marks-spread : (p k : KeyName) (d : Capability) (n : ℕ) → HoldsCap (world_after T J) (owner_of T p) p d → d.mark ≡ Some n → Contains d.children k →
+      IsLive (world_after T J) k → ((owner_of T k ≡ owner_of T p) × IsMarkedBy k n) ⊎ (1 ≤ of_world (asking k (owner_of T p) n) (world_after T J))
+  marks-spread p k d n held marked child live =
+      elim ((holds T valid J runs).caught p k d n held marked (has_key-from_Contains d.children k child)
+      (live-alive T valid J runs (Par (grants J)) (Made T (grants J)) k live)) [
+        | inl same ↦ inl same
+        | inr (inl more) ↦ inr more
+        | inr (inr none) ↦ absurd none
+      ]
 
-  pub marks-named : (k : KeyName) (c : Capability) (n : ℕ) → HoldsCap (world_after T J) (owner_of T k) k c → c.mark ≡ Some n → (x : JobRow) × (job (side (world_after T J) (owner_of T k)) n ≡ Some x) × ((x.root ≡ k) ⊎ ((p : KeyName) × Contains (grants J) (p, k) × (owner_of T p ≡ owner_of T k) × IsMarkedBy p n))
+  pub marks-named : (k : KeyName) (c : Capability) (n : ℕ) → HoldsCap (world_after T J) (owner_of T k) k c → c.mark ≡ Some n →
+      (x : JobRow) × (job (side (world_after T J) (owner_of T k)) n ≡ Some x)
+      × ((x.root ≡ k) ⊎ ((p : KeyName) × Contains (grants J) (p, k) × (owner_of T p ≡ owner_of T k) × IsMarkedBy p n))
   marks-named k c n held marked = (holds T valid J runs).marks k n (c, held, marked)
 
   pub roots-marked : (a n : ℕ) (x : JobRow) → job (side (world_after T J) a) n ≡ Some x → (owner_of T x.root ≡ a) × IsMarkedBy x.root n

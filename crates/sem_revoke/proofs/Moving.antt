@@ -1,5 +1,7 @@
--- What an event does to a sum over the messages and jobs of a world: a fetch and a flush leave it, and any other event changes it as the side of its kernel changes.
-use Rattle.std.proofs.Common.{◌≡◌, ◌⊎◌, ℕ, ◌+◌, true, List, [], ◌∷◌, ◌++◌, drop, Option, Some, None, slice_get, is_some, is_none, refl, sym, ap, ◌∙◌, subst, inl, inr, arith}
+-- What an event does to a sum over the messages and jobs of a world: a fetch and a flush leave it, and any other event changes it as the side of its kernel
+-- changes.
+use Rattle.std.proofs.Common.{◌≡◌, ◌⊎◌, ℕ, ◌+◌, true, List, [], ◌∷◌, ◌++◌, drop, Option, Some, None, slice_get, is_some, is_none, refl, sym, ap, ◌∙◌, subst}
+use Rattle.std.proofs.Common.{inl, inr, arith}
 use Rattle.std.specs.Option.{option_map, option_map_or}
 use Rattle.std.proofs.lemmas.Bool.{true≢false}
 use Rattle.std.proofs.lemmas.List.Sums.{sum_by_push}
@@ -29,30 +31,39 @@ module _ (S : Scale) (T : Setup) (W : World) (i : ℕ) where
   abbrev now : Side
   now = side W i
 
-  front-of : (from to : ℕ) (ms : List Message) (m : Message) → slice_get ms 0 ≡ Some m → of_messages S from to (drop 1 ms) + S.message from to m ≡ of_messages S from to ms
-  front-of from to ms m front = let sum = weigh-drop (S.message from to) ms in let one : of_option (S.message from to) (slice_get ms 0) ≡ S.message from to m = ap (of_option (S.message from to)) front in omega (arith, sum, one)
+  front-of : (from to : ℕ) (ms : List Message) (m : Message) → slice_get ms 0 ≡ Some m →
+      of_messages S from to (drop 1 ms) + S.message from to m ≡ of_messages S from to ms
+  front-of from to ms m front = let sum = weigh-drop (S.message from to) ms in let one : of_option (S.message from to) (slice_get ms 0) ≡ S.message from to m =
+      ap (of_option (S.message from to)) front in omega (arith, sum, one)
 
-  fetched-sum : (j : ℕ) (m : Message) → slice_get (link W j i) 0 ≡ Some m → now.inbox ≡ None → of_world S (with_link j i (drop 1 (link W j i)) (with_side i (with_inbox (Some (j, m)) now) W)) ≡ of_world S W
+  fetched-sum : (j : ℕ) (m : Message) → slice_get (link W j i) 0 ≡ Some m → now.inbox ≡ None →
+      of_world S (with_link j i (drop 1 (link W j i)) (with_side i (with_inbox (Some (j, m)) now) W)) ≡ of_world S W
   fetched-sum j m front empty =
       let t : Side = with_inbox (Some (j, m)) now in
       let V : World = with_side i t W in
       let world = world-side S W i t in
-      let moved : of_world S (with_link j i (drop 1 (link W j i)) V) + of_messages S j i (link W j i) ≡ of_world S V + of_messages S j i (drop 1 (link W j i)) = world-link S V j i (drop 1 (link W j i)) in
+      let moved : of_world S (with_link j i (drop 1 (link W j i)) V) + of_messages S j i (link W j i) ≡ of_world S V + of_messages S j i (drop 1 (link W j i)) =
+      world-link S V j i (drop 1 (link W j i)) in
       let first = front-of j i (link W j i) m front in
       let inbox = side-inbox S i now (Some (j, m)) in
       let none : of_inbox S i now.inbox ≡ 0 = ap (of_inbox S i) empty in
       omega (arith, world, moved, first, inbox, none)
 
-  flushed-more : (V : World) (j : ℕ) (o : Option Message) → of_world S (option_map_or (λ m. with_link i j (link V i j ++ m ∷ []) V) o V) ≡ of_world S V + of_option (S.message i j) o
+  flushed-more : (V : World) (j : ℕ) (o : Option Message) → of_world S (option_map_or (λ m. with_link i j (link V i j ++ m ∷ []) V) o V)
+      ≡ of_world S V + of_option (S.message i j) o
   flushed-more V j None = omega arith
-  flushed-more V j (Some m) = let more' = world-link S V i j (link V i j ++ m ∷ []) in let push = sum_by_push (S.message i j) (link V i j) m in omega (arith, more', push)
+  flushed-more V j (Some m) = let more' = world-link S V i j (link V i j ++ m ∷ []) in let push = sum_by_push (S.message i j) (link V i j) m in
+      omega (arith, more', push)
 
-  flushed-sum : (j : ℕ) → of_world S (option_map_or (λ m. with_link i j (link W i j ++ m ∷ []) (with_side i (sent j now) W)) (slice_get (outbox now j) 0) (with_side i (sent j now) W)) ≡ of_world S W
+  flushed-sum : (j : ℕ) →
+      of_world S (option_map_or (λ m. with_link i j (link W i j ++ m ∷ []) (with_side i (sent j now) W)) (slice_get (outbox now j) 0)
+      (with_side i (sent j now) W)) ≡ of_world S W
   flushed-sum j =
       let V : World = with_side i (sent j now) W in
       let world = world-side S W i (sent j now) in
       let gone = side-sent S i now j in
-      let more' : of_world S (option_map_or (λ m. with_link i j (link W i j ++ m ∷ []) V) (slice_get (outbox now j) 0) V) ≡ of_world S V + of_option (S.message i j) (slice_get (outbox now j) 0) = flushed-more V j (slice_get (outbox now j) 0) in
+      let more' : of_world S (option_map_or (λ m. with_link i j (link W i j ++ m ∷ []) V) (slice_get (outbox now j) 0) V)
+      ≡ of_world S V + of_option (S.message i j) (slice_get (outbox now j) 0) = flushed-more V j (slice_get (outbox now j) 0) in
       omega (arith, world, gone, more')
 
   abbrev Acted : Act → Type 0
@@ -77,4 +88,5 @@ module _ (S : Scale) (T : Setup) (W : World) (i : ℕ) where
 
       fetched : (o : Option Message) → slice_get (link W j i) 0 ≡ o → of_world S (after T W (event i (Fetch j))) ≡ of_world S W
       fetched None none = absurd (true≢false (sym outer.1 ∙ ap is_some none))
-      fetched (Some m) some = subst (λ o. of_world S (with_link j i (drop 1 (link W j i)) (with_side i (with_inbox (option_map (λ m. (j, m)) o) now) W)) ≡ of_world S W) (sym some) (fetched-sum j m some (empty now.inbox refl))
+      fetched (Some m) some = subst (λ o. of_world S (with_link j i (drop 1 (link W j i)) (with_side i (with_inbox (option_map (λ m. (j, m)) o) now) W))
+          ≡ of_world S W) (sym some) (fetched-sum j m some (empty now.inbox refl))

@@ -1,5 +1,6 @@
 -- Narrowing, along every schedule of every setup: objects stay, and what is granted grants no more than its parent.
-use Rattle.std.proofs.Common.{◌≡◌, ℕ, ◌<◌, ◌≤◌, ◌++◌, Bool, true, false, if◌then◌else◌, List, [], ◌∷◌, map, Option, Some, None, slice_get, option_to_list, nat_lt, refl, sym, ap, ◌∙◌, subst, inl, inr, arith}
+use Rattle.std.proofs.Common.{◌≡◌, ℕ, ◌<◌, ◌≤◌, ◌++◌, Bool, true, false, if◌then◌else◌, List, [], ◌∷◌, map, Option, Some, None, slice_get, option_to_list}
+use Rattle.std.proofs.Common.{nat_lt, refl, sym, ap, ◌∙◌, subst, inl, inr, arith}
 use Rattle.std.specs.List.{Contains}
 use Rattle.std.specs.Option.{option_map_or}
 use Rattle.std.proofs.lemmas.Bool.{cases_Bool, cond-true, cond-false, ltb-true, lt-ltb}
@@ -13,7 +14,8 @@ use Rattle.sem_key.specs.ObjectRanges.{object_kind, narrows}
 use Rattle.sem_key.specs.Capability.{Capability}
 use Rattle.sem_msg.specs.Message.{IsDelegable}
 use Rattle.sem_msg.specs.declared.call.Call.{Call}
-use Rattle.sem_msg.specs.declared.call.Call.TheVariants.{Derive, Gate, Obtain, Delegate, OpenSession, AskOffer, Revoke, Bind, Read, Write, Send as SendCall, Credit, Exit, Clear}
+use Rattle.sem_msg.specs.declared.call.Call.TheVariants.{Derive, Gate, Obtain, Delegate, OpenSession, AskOffer, Revoke, Bind, Read, Write, Send as SendCall}
+use Rattle.sem_msg.specs.declared.call.Call.TheVariants.{Credit, Exit, Clear}
 use Rattle.sem_msg.specs.declared.event.Act.{Act}
 use Rattle.sem_msg.specs.declared.event.Act.TheVariants.{Call as Calls, Fetch, Handle, Upcall, Resume, Flush, Kill}
 use Rattle.sem_msg.specs.declared.event.Event.{Event}
@@ -86,7 +88,10 @@ abbrev granted : Option (KeyName × KeyName) → KeyName → Bool
 granted None k = false
 granted (Some g) k = key_eq g.1 k
 
-module _ (T : Setup) (valid : IsSetup T) (J : List Entry) (runs : IsSchedule T J) (I : Objects T (grants J) (world_after T J)) (e : Event) (enabled : is_enabled T (world_after T J) e ≡ true) (up : (v : ℕ) → drawn_by T (world_after T J) v ≤ drawn_by T (after T (world_after T J) e) v) (new : (p k : KeyName) → ◌≡◌ {A = Option (KeyName × KeyName)} (stepped T (world_after T J) e).outcome.grant (Some (p, k)) → Made T (grants J) k → ⊥) (parents : (p k : KeyName) → Contains (grants J) (p, k) → Made T (grants J) p) where
+module _ (T : Setup) (valid : IsSetup T) (J : List Entry) (runs : IsSchedule T J) (I : Objects T (grants J) (world_after T J)) (e : Event)
+    (enabled : is_enabled T (world_after T J) e ≡ true) (up : (v : ℕ) → drawn_by T (world_after T J) v ≤ drawn_by T (after T (world_after T J) e) v)
+    (new : (p k : KeyName) → ◌≡◌ {A = Option (KeyName × KeyName)} (stepped T (world_after T J) e).outcome.grant (Some (p, k)) → Made T (grants J) k →
+    ⊥) (parents : (p k : KeyName) → Contains (grants J) (p, k) → Made T (grants J) p) where
   abbrev W : World
   W = world_after T J
 
@@ -154,11 +159,16 @@ module _ (T : Setup) (valid : IsSetup T) (J : List Entry) (runs : IsSchedule T J
     | inl root ↦ Contains-append_left (root_keys T) (map (λ (q : KeyName × KeyName). q.1) gs') k root
     | inr child ↦
         let q = Contains-from_map (λ (q : KeyName × KeyName). q.1) gs k child in
-        Contains-append_right (root_keys T) (map (λ (q : KeyName × KeyName). q.1) gs') k (subst (Contains (map (λ (q : KeyName × KeyName). q.1) gs')) q.2 (Contains-map (λ (q : KeyName × KeyName). q.1) gs' q.0 (Contains-append_left gs (option_to_list g) q.0 q.1)))
+        Contains-append_right (root_keys T) (map (λ (q : KeyName × KeyName). q.1) gs') k
+        (subst (Contains (map (λ (q : KeyName × KeyName). q.1) gs')) q.2
+        (Contains-map (λ (q : KeyName × KeyName). q.1) gs' q.0 (Contains-append_left gs (option_to_list g) q.0 q.1)))
   ]
 
   new-made : (p k : KeyName) → ◌≡◌ {A = Option (KeyName × KeyName)} g (Some (p, k)) → Made T gs' k
-  new-made p k is = Contains-append_right (root_keys T) (map (λ (q : KeyName × KeyName). q.1) gs') k (Contains-map (λ (q : KeyName × KeyName). q.1) gs' (p, k) (Contains-append_right gs (option_to_list g) (p, k) (in-more p k g is)))
+  new-made p k is = Contains-append_right (root_keys T) (map (λ (q : KeyName × KeyName). q.1) gs') k (Contains-map (λ (q : KeyName × KeyName). q.1) gs' (
+    p,
+    k,
+  ) (Contains-append_right gs (option_to_list g) (p, k) (in-more p k g is)))
 
   ob-old : (k : KeyName) → Made T gs k → ob' k ≡ I.ob k
   ob-old k made = from g refl
@@ -192,7 +202,17 @@ module _ (T : Setup) (valid : IsSetup T) (J : List Entry) (runs : IsSchedule T J
     asked = λ v m is. tt;
     offered = λ k x is. (old-made k is.0, ob-old k is.0 ∙ is.1);
     pends = λ p is. (further p.key is.0, prepared-old p.key is.0 ∙ is.1);
-    prepared = λ p k is. (old-made p is.0, (further k is.1.0, (prepared-old k is.1.0 ∙ (is.1.1.0 ∙ sym (ob-old p is.0)), ap stays_at_home (ob-old p is.0) ∙ is.1.1.1)));
+    prepared = λ p k is. (
+      old-made p is.0,
+      (
+        further k is.1.0,
+        (
+          prepared-old k is.1.0 ∙ (is.1.1.0 ∙ sym (ob-old p is.0)),
+          ap stays_at_home (ob-old p is.0)
+              ∙ is.1.1.1,
+        ),
+      ),
+    );
     link = λ p k. tt;
     doomed = λ k. tt;
   }) W I.right
@@ -202,7 +222,10 @@ module _ (T : Setup) (valid : IsSetup T) (J : List Entry) (runs : IsSchedule T J
     spreads = λ p k l d. tt;
     asks = λ v m calls is. tt;
     offers = λ k x is. is;
-    prepares = λ parent key object sel offered place handed. ((place.1, prepared-new key place.0 ∙ handed.0), (offered.0, (place.1, (prepared-new key place.0 ∙ (handed.0 ∙ sym offered.1), ap stays_at_home offered.1 ∙ handed.1))));
+    prepares = λ parent key object sel offered place handed. (
+      (place.1, prepared-new key place.0 ∙ handed.0),
+      (offered.0, (place.1, (prepared-new key place.0 ∙ (handed.0 ∙ sym offered.1), ap stays_at_home offered.1 ∙ handed.1))),
+    );
     acks = λ parent key prep offered now. (now.0, (prep.1.0, prep.1.1.0 ∙ (offered.1 ∙ sym now.1)));
     settles = λ p is acked. (acked.0, sym acked.1.1 ∙ is.1);
   }
@@ -211,8 +234,10 @@ module _ (T : Setup) (valid : IsSetup T) (J : List Entry) (runs : IsSchedule T J
   of-grant x is k there = (there.0, there.1 ∙ is)
 
   call-gives : (v : ℕ) (c : Call) → o ≡ call_object (call_counted v s) v c → CallGives F1 (call_counted v s) v c
-  call-gives v (Derive src dst off len rights) is = λ p held. of-grant (narrowed off len rights p.object) (is ∙ ap (λ x. option_map_or (λ (q : Capability). narrowed off len rights q.object) x (Recv 0)) held)
-  call-gives v (Gate src dst label credits) is = λ p held. of-grant (Send p.key label credits) (is ∙ ap (λ x. option_map_or (λ (q : Capability). Send q.key label credits) x (Recv 0)) held)
+  call-gives v (Derive src dst off len rights) is = λ p held. of-grant (narrowed off len rights p.object) (is
+      ∙ ap (λ x. option_map_or (λ (q : Capability). narrowed off len rights q.object) x (Recv 0)) held)
+  call-gives v (Gate src dst label credits) is = λ p held. of-grant (Send p.key label credits) (is
+      ∙ ap (λ x. option_map_or (λ (q : Capability). Send q.key label credits) x (Recv 0)) held)
   call-gives v (Obtain dst w src) is = tt
   call-gives v (Delegate src w dst) is = tt
   call-gives v (OpenSession dst name) is = tt
@@ -227,7 +252,8 @@ module _ (T : Setup) (valid : IsSetup T) (J : List Entry) (runs : IsSchedule T J
   call-gives v (Clear src) is = tt
 
   ask-gives : (v : ℕ) (a : Ask) → slice_get (row s v).asks 0 ≡ Some a → o ≡ ask_object T (ask_taken v s) v a → AskGives F1 T (ask_taken v s) v a
-  ask-gives v (ObtainAsk place target) there is = λ p held. of-grant (given target place.vpe p) (is ∙ ap (λ x. option_map_or (given target place.vpe) x (Recv 0)) held)
+  ask-gives v (ObtainAsk place target) there is = λ p held. of-grant (given target place.vpe p) (is
+      ∙ ap (λ x. option_map_or (given target place.vpe) x (Recv 0)) held)
   ask-gives v (DelegateAsk parent object sel) there is = (of-grant object is, (is, (known.asked v parent object sel there).1))
 
   act-gives : (a : Act) → e.act ≡ a → ActGives F1 T s a
@@ -261,7 +287,10 @@ module _ (T : Setup) (valid : IsSetup T) (J : List Entry) (runs : IsSchedule T J
   after-right : InWorld F1 V
   unfolding entry_of local_entry
   after-right = after-in F1 (λ v. kernel_of T v ≡ e.kernel) T W e (may_draw T W e enabled) before fitting (act-gives e.act refl) (dies e.act) (in-grant g refl)
-      (λ v m may low below. (subst (λ a. (row (side W a) v).next_number ≤ m) (sym may) low, subst (λ a. m < (row (side V a) v).next_number) (sym may) (subst (λ (t : Side). m < (row t v).next_number) (sym (side-after T W e)) below)))
+      (λ v m may low below. (
+        subst (λ a. (row (side W a) v).next_number ≤ m) (sym may) low,
+        subst (λ a. m < (row (side V a) v).next_number) (sym may) (subst (λ (t : Side). m < (row t v).next_number) (sym (side-after T W e)) below),
+      ))
       (in-cut (stepped T W e).outcome.cut)
 
   pub next-objects : Objects T gs' V
@@ -281,8 +310,10 @@ module _ (T : Setup) (valid : IsSetup T) (J : List Entry) (runs : IsSchedule T J
     narrower = λ p k among. elim (last-granted T valid gs g p k among) [
       | inl old ↦
           let made-p = parents p k old in
-          let made-k : Made T gs k = Contains-append_right (root_keys T) (map (λ (q : KeyName × KeyName). q.1) gs) k (Contains-map (λ (q : KeyName × KeyName). q.1) gs (p, k) old) in
-          subst (λ x. narrows x p (ob' p) ≡ true) (sym (ob-old k made-k)) (subst (λ x. narrows (I.ob k) p x ≡ true) (sym (ob-old p made-p)) (I.narrower p k old))
+          let made-k : Made T gs k = Contains-append_right (root_keys T) (map (λ (q : KeyName × KeyName). q.1) gs) k
+          (Contains-map (λ (q : KeyName × KeyName). q.1) gs (p, k) old) in
+          subst (λ x. narrows x p (ob' p) ≡ true) (sym (ob-old k made-k))
+          (subst (λ x. narrows (I.ob k) p x ≡ true) (sym (ob-old p made-p)) (I.narrower p k old))
       | inr now ↦
           let u = step-under T e.kernel s I.ob known e.act (input_of W e.kernel e.act) p k now in
           let at = cap-right p u.0 u.1 in

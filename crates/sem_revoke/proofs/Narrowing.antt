@@ -1,5 +1,6 @@
 -- What is granted grants no more than what it is granted from: the object of each kind of grant.
-use Rattle.std.proofs.Common.{◌≡◌, ◌⊎◌, ℕ, zero, suc, ◌+◌, ◌%◌, ◌<◌, ◌≤◌, Bool, true, false, not, ◌&&◌, ◌||◌, nat_le, nat_lt, bit_and, refl, sym, subst, inl, inr, arith, le-leb, ltb-false, eq-eqb}
+use Rattle.std.proofs.Common.{◌≡◌, ◌⊎◌, ℕ, zero, suc, ◌+◌, ◌%◌, ◌<◌, ◌≤◌, Bool, true, false, not, ◌&&◌, ◌||◌, nat_le, nat_lt, bit_and, refl, sym, subst, inl}
+use Rattle.std.proofs.Common.{inr, arith, le-leb, ltb-false, eq-eqb}
 use Rattle.std.specs.Prelude.{◌==◌}
 use Rattle.std.proofs.lemmas.Bool.{cases_Bool, and_from, eqb-false, not-false}
 use lib.Bits.{and_self}
@@ -31,7 +32,8 @@ or-fails false b fail = (refl, fail)
 pub narrows-same : (parent : KeyName) (o : Object) → stays_at_home o ≡ false → narrows o parent o ≡ true
 narrows-same parent (Mem base len rights) given =
     and_from (range_within base len base len) (is_subset rights rights)
-    (or-right (len == 0) (nat_le base base && nat_le (base + len) (base + len)) (and_from (nat_le base base) (nat_le (base + len) (base + len)) (le-leb base base (omega arith)) (le-leb (base + len) (base + len) (omega arith))))
+    (or-right (len == 0) (nat_le base base && nat_le (base + len) (base + len))
+    (and_from (nat_le base base) (nat_le (base + len) (base + len)) (le-leb base base (omega arith)) (le-leb (base + len) (base + len) (omega arith))))
     (eq-eqb (bit_and rights rights) rights (and_self rights))
 narrows-same parent (Recv slots) given = eq-eqb slots slots refl
 narrows-same parent (Send gate label credits) given =
@@ -42,7 +44,8 @@ narrows-same parent (Serv name) given = absurd cc
 narrows-same parent (Sess service ident) given = absurd cc
 
 -- a part of a memory
-pub narrows-derived : (parent : KeyName) (off len rights : ℕ) (o : Object) → is_wider off len rights o ≡ false → IsValidObject o → narrows (narrowed off len rights o) parent o ≡ true
+pub narrows-derived : (parent : KeyName) (off len rights : ℕ) (o : Object) → is_wider off len rights o ≡ false → IsValidObject o →
+    narrows (narrowed off len rights o) parent o ≡ true
 narrows-derived parent off len rights (Mem base size among) wider valid =
     let fits = or-fails (nat_lt size (off + len)) (not (is_subset rights among)) wider in
     and_from (range_within ((base + off) % 4294967296) len base size) (is_subset rights among)
@@ -73,7 +76,8 @@ narrows-derived parent off len rights (Sess service ident) wider valid = absurd 
 
 -- a send gate of a receive gate
 pub narrows-gate : (parent : KeyName) (label credits : ℕ) (o : Object) → exceeds_slots credits o ≡ false → narrows (Send parent label credits) parent o ≡ true
-narrows-gate parent label credits (Recv slots) wider = and_from (key_eq parent parent) (nat_le credits slots) (key_eq-same parent) (le-leb credits slots (ltb-false slots credits wider))
+narrows-gate parent label credits (Recv slots) wider = and_from (key_eq parent parent) (nat_le credits slots) (key_eq-same parent)
+    (le-leb credits slots (ltb-false slots credits wider))
 narrows-gate parent label credits (Mem base len rights) wider = absurd cc
 narrows-gate parent label credits (Send gate label' credits') wider = absurd cc
 narrows-gate parent label credits (Serv name) wider = absurd cc
@@ -88,7 +92,9 @@ narrows-session service ident (Send gate label credits) is = absurd cc
 narrows-session service ident (Sess service' ident') is = absurd cc
 
 -- what an obtain gives: a session of the service that is asked, else the object of the source
-pub narrows-given : (target : Target) (asker : ℕ) (c : Capability) → ((service : KeyName) → target ≡ ServTarget service → (c.key ≡ service) × (is_of ServKind c.object ≡ true)) → may_not_give target c.object ≡ false → narrows (given target asker c) c.key c.object ≡ true
+pub narrows-given : (target : Target) (asker : ℕ) (c : Capability) →
+    ((service : KeyName) → target ≡ ServTarget service → (c.key ≡ service) × (is_of ServKind c.object ≡ true)) → may_not_give target c.object ≡ false →
+    narrows (given target asker c) c.key c.object ≡ true
 narrows-given (SelTarget vpe sel) asker c services passed = narrows-same c.key c.object passed
 narrows-given (ServTarget service) asker c services passed =
     let is = services service refl in

@@ -1,5 +1,6 @@
 -- Narrowing, along every schedule of every setup.
-use Rattle.std.proofs.Common.{true, ◌≡◌, ◌≤◌, ℕ, ◌++◌, List, [], ◌∷◌, replicate, get_or, Option, Some, None, option_to_list, append-nil, append_assoc, refl, sym, ap, ◌∙◌, subst, inl, inr, arith}
+use Rattle.std.proofs.Common.{true, ◌≡◌, ◌≤◌, ℕ, ◌++◌, List, [], ◌∷◌, replicate, get_or, Option, Some, None, option_to_list, append-nil, append_assoc, refl}
+use Rattle.std.proofs.Common.{sym, ap, ◌∙◌, subst, inl, inr, arith}
 use Rattle.std.specs.List.{Contains, All, filter, find, sum_by}
 use Rattle.std.specs.Prelude.{◌==◌}
 use Rattle.std.specs.Option.{option_map_or, IsSome}
@@ -46,7 +47,8 @@ use Rattle.sem_revoke.proofs.Linking.{all-linked}
 use Rattle.sem_revoke.proofs.Narrowed.{drawn_by, said, Objects, next-objects}
 
 -- a key that is held once is found
-one-found : (k : KeyName) (cs : List Capability) (c : Capability) → c.key ≡ k → Contains cs c → sum_by (at_cap k all_held) cs ≤ 1 → find (λ x. key_eq x.key k) cs ≡ Some c
+one-found : (k : KeyName) (cs : List Capability) (c : Capability) → c.key ≡ k → Contains cs c → sum_by (at_cap k all_held) cs ≤ 1 →
+    find (λ x. key_eq x.key k) cs ≡ Some c
 one-found k [] c same among once = absurd (Contains-nil c among)
 one-found k (x ∷ xs) c same among once =
     let all = sum_by-cons (at_cap k all_held) x xs in
@@ -82,7 +84,11 @@ module _ (T : Setup) (valid : IsSetup T) where
       let held : cap (side (start T) i) c.key ≡ Some c = one-found c.key (side (start T) i).caps c refl among (held-once c.key T valid [] (no-run T) i) in
       let home = schedule-homes T valid [] (no-run T) i c.key c held in
       record {
-        key = (used-made T [] (no-run T) c.key (inl (inl (i, subst IsSome (sym held) refl))), ap (λ a. option_map_or (λ (x : Capability). x.object) (cap (side (start T) a) c.key) (Recv 0)) home ∙ ap (λ o. option_map_or (λ (x : Capability). x.object) o (Recv 0)) held);
+        key = (
+          used-made T [] (no-run T) c.key (inl (inl (i, subst IsSome (sym held) refl))),
+          ap (λ a. option_map_or (λ (x : Capability). x.object) (cap (side (start T) a) c.key) (Recv 0)) home
+              ∙ ap (λ o. option_map_or (λ (x : Capability). x.object) o (Recv 0)) held,
+        );
         links = λ n d within. tt;
         mark = λ j marked. tt;
       }
@@ -95,8 +101,10 @@ module _ (T : Setup) (valid : IsSetup T) where
   unfolding start_side
   first-bare i =
       in_turn-keeps IsBare vpe_added (λ d s here.
-      in_turn-keeps IsBare (root_added d) (λ r t is. put_row-in F (record t { caps = [] }) is d.vpe (root_held d r (row t d.vpe)) (row-in F (record t { caps = [] }) is d.vpe))
-      d.roots (vpe_fresh d s) (put_endpoints-in F (record (with_row d.vpe (λ v. new_vpe) s) { caps = [] }) (put_row-in F (record s { caps = [] }) here d.vpe new_vpe (All-nil (AsksFor F))) d.vpe (replicate 16 None) (All-replicate (InEndpoint F) 16 None tt)))
+      in_turn-keeps IsBare (root_added d) (λ r t is. put_row-in F (record t { caps = [] }) is d.vpe (root_held d r (row t d.vpe))
+      (row-in F (record t { caps = [] }) is d.vpe))
+      d.roots (vpe_fresh d s) (put_endpoints-in F (record (with_row d.vpe (λ v. new_vpe) s) { caps = [] })
+      (put_row-in F (record s { caps = [] }) here d.vpe new_vpe (All-nil (AsksFor F))) d.vpe (replicate 16 None) (All-replicate (InEndpoint F) 16 None tt)))
       (filter (λ d. pe_owner T d.pe == i) T.vpes) (empty_side T) (record {
         caps = All-nil (InCap F);
         rows = All-replicate (InRow F) 128 no_vpe (no_vpe-in F);
@@ -122,7 +130,8 @@ module _ (T : Setup) (valid : IsSetup T) where
 
   first-links : All (λ (r : List (List Message)). All (BringsAll F) r) (start T).links
   unfolding start
-  first-links = All-replicate (λ (r : List (List Message)). All (BringsAll F) r) T.kernels (replicate T.kernels []) (All-replicate (BringsAll F) T.kernels [] (All-nil (Brings F)))
+  first-links = All-replicate (λ (r : List (List Message)). All (BringsAll F) r) T.kernels (replicate T.kernels [])
+      (All-replicate (BringsAll F) T.kernels [] (All-nil (Brings F)))
 
   first-objects : Objects T [] (start T)
   first-objects = record {
@@ -147,9 +156,13 @@ module _ (T : Setup) (valid : IsSetup T) where
           let o : Option (KeyName × KeyName) = (stepped T W e.event).outcome.grant in
           let shows : e.grant ≡ o = shown T W e at.2 in
           let gs : grants (before ++ e ∷ []) ≡ grants before ++ option_to_list o = more-grants before e o shows in
-          let next : Objects T (grants before ++ option_to_list o) (after T W e.event) = next-objects T valid before at.0 is e.event at.1 (λ v. ((after-onward T W e.event).sides (kernel_of T v)).numbers v) (λ p k now. all-new T valid J runs before es e p k parts (shows ∙ now)) (λ p k. parent-grown (root_keys T) (grants before) (all-grown T valid before at.0) p k) in
+          let next : Objects T (grants before ++ option_to_list o) (after T W e.event) =
+          next-objects T valid before at.0 is e.event at.1 (λ v. ((after-onward T W e.event).sides (kernel_of T v)).numbers v)
+          (λ p k now. all-new T valid J runs before es e p k parts (shows ∙ now))
+          (λ p k. parent-grown (root_keys T) (grants before) (all-grown T valid before at.0) p k) in
           from (before ++ e ∷ []) es (parts ∙ sym (append_assoc before (e ∷ []) es))
-          (subst (λ xs. Objects T xs (world_after T (before ++ e ∷ []))) (sym gs) (subst (Objects T (grants before ++ option_to_list o)) (sym (run-append T before (e ∷ []) (start T))) next))
+          (subst (λ xs. Objects T xs (world_after T (before ++ e ∷ []))) (sym gs)
+          (subst (Objects T (grants before ++ option_to_list o)) (sym (run-append T before (e ∷ []) (start T))) next))
 
 module _ (T : Setup) (valid : IsSetup T) (J : List Entry) (runs : IsSchedule T J) where
   abbrev W : World
@@ -164,7 +177,8 @@ module _ (T : Setup) (valid : IsSetup T) (J : List Entry) (runs : IsSchedule T J
   held-right : (i : ℕ) (k : KeyName) (c : Capability) → cap (side W i) k ≡ Some c → objects.ob k ≡ c.object
   held-right i k c held =
       let at = found (λ (x : Capability). key_eq x.key k) (side W i).caps c held in
-      subst (λ q. objects.ob q ≡ c.object) (key_eq-true c.key k at.1) (All-contains (InCap Now) (side W i).caps c (side-in Now W objects.right i).caps at.0).key.1
+      subst (λ q. objects.ob q ≡ c.object) (key_eq-true c.key k at.1)
+      (All-contains (InCap Now) (side W i).caps c (side-in Now W objects.right i).caps at.0).key.1
 
   object-right : (k : KeyName) (o : Object) → HasObject W k o → objects.ob k ≡ o
   object-right k o (as_held i c held same) = held-right i k c held ∙ same
@@ -183,5 +197,7 @@ all-narrowing T valid J runs = λ p k live granted.
       kernel = owner_of T p;
       parent = above.0;
       held = above.1;
-      narrower = λ o has. subst (λ x. narrows x p above.0.object ≡ true) (object-right T valid J runs k o has) (subst (λ x. narrows ((objects T valid J runs).ob k) p x ≡ true) (held-right T valid J runs (owner_of T p) p above.0 above.1) ((objects T valid J runs).narrower p k granted));
+      narrower = λ o has. subst (λ x. narrows x p above.0.object ≡ true) (object-right T valid J runs k o has)
+          (subst (λ x. narrows ((objects T valid J runs).ob k) p x ≡ true) (held-right T valid J runs (owner_of T p) p above.0 above.1)
+          ((objects T valid J runs).narrower p k granted));
     }

@@ -39,17 +39,20 @@ flight-counts k W a b m among some =
     fetched : (o : Option (ℕ × Message)) → of_messages k (fetched_from a o) ≤ of_inbox k o
     fetched None = omega arith
     fetched (Some x) = elim (cases_Bool (x.0 == a)) [
-      | inl same ↦ let is = ap (of_messages k) (cond-true (x.0 == a) (x.1 ∷ []) [] same) in let all = sum_by-cons (of_message k) x.1 [] in omega (arith, is, all)
+      | inl same ↦ let is = ap (of_messages k) (cond-true (x.0 == a) (x.1 ∷ []) [] same) in let all = sum_by-cons (of_message k) x.1 [] in
+          omega (arith, is, all)
       | inr other ↦ let is = ap (of_messages k) (cond-false (x.0 == a) (x.1 ∷ []) [] other) in omega (arith, is)
     ]
 
     positive : (x y : ℕ) → 1 ≤ x + (x + y) → 1 ≤ x + y
     positive x y more = omega (arith, more)
 
-pub live-object : (T : Setup) → IsSetup T → (J : List Entry) → IsSchedule T J → (k : KeyName) → IsLive (world_after T J) k → (object : Object) × HasObject (world_after T J) k object
+pub live-object : (T : Setup) → IsSetup T → (J : List Entry) → IsSchedule T J → (k : KeyName) → IsLive (world_after T J) k →
+    (object : Object) × HasObject (world_after T J) k object
 live-object T valid J runs k (inl held) = of_cap (cap (side (world_after T J) held.0) k) refl held.1
   where
-    of_cap : (o : Option Capability) → cap (side (world_after T J) held.0) k ≡ o → IsSome (cap (side (world_after T J) held.0) k) → (object : Object) × HasObject (world_after T J) k object
+    of_cap : (o : Option Capability) → cap (side (world_after T J) held.0) k ≡ o → IsSome (cap (side (world_after T J) held.0) k) →
+        (object : Object) × HasObject (world_after T J) k object
     of_cap None none some = absurd (cc)
     of_cap (Some c) here some = (c.object, as_held held.0 c here refl)
 live-object T valid J runs k (inr (inl granted)) = (granted.object, as_granted granted.parent granted.arriving)

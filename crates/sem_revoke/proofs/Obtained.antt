@@ -1,5 +1,6 @@
 -- What an ObtainOk brings is not lost: its VPE waits for it, or has ended.
-use Rattle.std.proofs.Common.{◌≡◌, ◌⊎◌, ℕ, ◌+◌, ◌≤◌, ◌++◌, Bool, true, false, not, ◌&&◌, ◌||◌, List, [], ◌∷◌, get_or, Option, Some, None, append-nil, append_assoc, refl, sym, ap, ◌∙◌, subst, inl, inr, arith, eq-eqb, length}
+use Rattle.std.proofs.Common.{◌≡◌, ◌⊎◌, ℕ, ◌+◌, ◌≤◌, ◌++◌, Bool, true, false, not, ◌&&◌, ◌||◌, List, [], ◌∷◌, get_or, Option, Some, None, append-nil}
+use Rattle.std.proofs.Common.{append_assoc, refl, sym, ap, ◌∙◌, subst, inl, inr, arith, eq-eqb, length}
 use Rattle.std.specs.Prelude.{◌==◌, if◌then◌else◌}
 use Rattle.std.specs.List.{Contains, sum_by}
 use Rattle.std.specs.Option.{option_map_or}
@@ -69,7 +70,8 @@ flight-about W v a b m among some =
     fetched : (o : Option (ℕ × Message)) → of_messages v (fetched_from a o) ≤ of_inbox v o
     fetched None = omega arith
     fetched (Some x) = elim (cases_Bool (x.0 == a)) [
-      | inl same ↦ let is = ap (of_messages v) (cond-true (x.0 == a) (x.1 ∷ []) [] same) in let all = sum_by-cons (of_message v) x.1 [] in omega (arith, is, all)
+      | inl same ↦ let is = ap (of_messages v) (cond-true (x.0 == a) (x.1 ∷ []) [] same) in let all = sum_by-cons (of_message v) x.1 [] in
+          omega (arith, is, all)
       | inr other ↦ let is = ap (of_messages v) (cond-false (x.0 == a) (x.1 ∷ []) [] other) in omega (arith, is)
     ]
 
@@ -80,17 +82,22 @@ flight-about W v a b m among some =
 pub kernel-owner : (T : Setup) (k : KeyName) → is_key_declared T k ≡ true → kernel_of T k.vpe ≡ owner_of T k
 kernel-owner T k declared = from (decl T k.vpe) declared
   where
-    from : (o : Option VpeDecl) → option_map_or (λ (d : VpeDecl). d.pe == k.pe) o false ≡ true → option_map_or (λ (d : VpeDecl). pe_owner T d.pe) o T.kernels ≡ owner_of T k
+    from : (o : Option VpeDecl) → option_map_or (λ (d : VpeDecl). d.pe == k.pe) o false ≡ true →
+        option_map_or (λ (d : VpeDecl). pe_owner T d.pe) o T.kernels ≡ owner_of T k
     from None none = absurd cc
     from (Some d) same = ap (pe_owner T) (eqb-true d.pe k.pe same)
 
 -- what narrows a named object below a named key is named
-narrowed-named : (T : Setup) (o : Object) (p : KeyName) (q : Object) → narrows o p q ≡ true → IsObjectNamed T q → is_key_declared T p ≡ true → is_object_declared T o ≡ true
+narrowed-named : (T : Setup) (o : Object) (p : KeyName) (q : Object) → narrows o p q ≡ true → IsObjectNamed T q → is_key_declared T p ≡ true →
+    is_object_declared T o ≡ true
 narrowed-named T (Mem base len rights) p q less named declared = refl
 narrowed-named T (Recv slots) p q less named declared = refl
 narrowed-named T (Serv name) p q less named declared = refl
-narrowed-named T (Send gate label credits) p (Recv slots) less named declared = subst (λ z. is_key_declared T z ≡ true) (sym (key_eq-true gate p (and_parts (key_eq gate p) _ less).0)) declared
-narrowed-named T (Send gate label credits) p (Send gate' label' credits') less named declared = subst (λ z. is_key_declared T z ≡ true) (sym (key_eq-true gate gate' (and_parts (key_eq gate gate') _ (and_parts (key_eq gate gate' && (label == label')) _ less).0).0)) named.1
+narrowed-named T (Send gate label credits) p (Recv slots) less named declared =
+    subst (λ z. is_key_declared T z ≡ true) (sym (key_eq-true gate p (and_parts (key_eq gate p) _ less).0)) declared
+narrowed-named T (Send gate label credits) p (Send gate' label' credits') less named declared =
+    subst (λ z. is_key_declared T z ≡ true)
+    (sym (key_eq-true gate gate' (and_parts (key_eq gate gate') _ (and_parts (key_eq gate gate' && (label == label')) _ less).0).0)) named.1
 narrowed-named T (Send gate label credits) p (Mem base len rights) less named declared = absurd cc
 narrowed-named T (Send gate label credits) p (Serv name) less named declared = absurd cc
 narrowed-named T (Send gate label credits) p (Sess service ident) less named declared = absurd cc
@@ -104,23 +111,33 @@ narrowed-named T (Sess service ident) p (Sess service' ident') less named declar
 declared-as : (T : Setup) (k : KeyName) → is_key_declared T k ≡ true → (d : VpeDecl) × Contains T.vpes d × (d.vpe ≡ k.vpe) × (pe_owner T d.pe ≡ owner_of T k)
 declared-as T k declared = from (decl T k.vpe) refl declared
   where
-    from : (o : Option VpeDecl) → decl T k.vpe ≡ o → option_map_or (λ (d : VpeDecl). d.pe == k.pe) o false ≡ true → (d : VpeDecl) × Contains T.vpes d × (d.vpe ≡ k.vpe) × (pe_owner T d.pe ≡ owner_of T k)
+    from : (o : Option VpeDecl) → decl T k.vpe ≡ o → option_map_or (λ (d : VpeDecl). d.pe == k.pe) o false ≡ true →
+        (d : VpeDecl) × Contains T.vpes d × (d.vpe ≡ k.vpe) × (pe_owner T d.pe ≡ owner_of T k)
     from None is none = absurd cc
-    from (Some d) is same = let there = found (λ (x : VpeDecl). x.vpe == k.vpe) T.vpes d is in (d, there.0, eqb-true d.vpe k.vpe there.1, ap (pe_owner T) (eqb-true d.pe k.pe same))
+    from (Some d) is same = let there = found (λ (x : VpeDecl). x.vpe == k.vpe) T.vpes d is in
+        (d, there.0, eqb-true d.vpe k.vpe there.1, ap (pe_owner T) (eqb-true d.pe k.pe same))
 
 -- a key of a VPE that is dead is doomed
-pub dead-doomed : (T : Setup) → IsSetup T → (J : List Entry) → IsSchedule T J → (before later : List Entry) → J ≡ before ++ later → IsSchedule T before → (k : KeyName) (i : ℕ)
+pub dead-doomed : (T : Setup) → IsSetup T → (J : List Entry) → IsSchedule T J → (before later : List Entry) → J ≡ before ++ later → IsSchedule T before →
+    (k : KeyName) (i : ℕ)
     → is_key_declared T k ≡ true → owner_of T k ≡ i → is_alive (side (world_after T before) i) k.vpe ≡ false → IsDoomed J k
 dead-doomed T valid J runs before later parts begun k i declared home dead =
     let W : World = world_after T before in
     let d = declared-as T k declared in
-    let down : is_alive (side W (pe_owner T d.0.pe)) d.0.vpe ≡ false = ap (λ n. is_alive (side W n) d.0.vpe) (d.3 ∙ home) ∙ (ap (is_alive (side W i)) d.2 ∙ dead) in
+    let down : is_alive (side W (pe_owner T d.0.pe)) d.0.vpe ≡ false = ap (λ n. is_alive (side W n) d.0.vpe) (d.3 ∙ home)
+    ∙ (ap (is_alive (side W i)) d.2 ∙ dead) in
     let ended = dead-ended T valid before begun d.0 d.1 down in
-    let x = list_any-some (λ (x : Entry). ends d.0.vpe x.event.act x.detail) before ended in
-    (k, line-self (length J) (grants J) k, inr (ap (has_ended J) (sym d.2) ∙ list_any-at (λ (y : Entry). ends d.0.vpe y.event.act y.detail) J x.0 (subst (λ ys. Contains ys x.0) (sym parts) (Contains-append_left before later x.0 x.1)) x.2))
+    let x = list_any-some (λ (x : Entry). ends d.0.vpe x.event.act x.detail) before ended in (
+      k,
+      line-self (length J) (grants J) k,
+      inr (ap (has_ended J) (sym d.2)
+          ∙ list_any-at (λ (y : Entry). ends d.0.vpe y.event.act y.detail) J x.0
+          (subst (λ ys. Contains ys x.0) (sym parts) (Contains-append_left before later x.0 x.1)) x.2),
+    )
 
 -- An event.
-module _ (T : Setup) (valid : IsSetup T) (J : List Entry) (runs : IsSchedule T J) (before : List Entry) (e : Entry) (later : List Entry) (parts : J ≡ before ++ e ∷ later) (p k : KeyName) (o : Object) where
+module _ (T : Setup) (valid : IsSetup T) (J : List Entry) (runs : IsSchedule T J) (before : List Entry) (e : Entry) (later : List Entry) (parts : J ≡ before
+    ++ e ∷ later) (p k : KeyName) (o : Object) where
   abbrev W : World
   W = world_after T before
 
@@ -141,7 +158,8 @@ module _ (T : Setup) (valid : IsSetup T) (J : List Entry) (runs : IsSchedule T J
 
   -- it stands in the inbox: the VPE is ready to install it, or is dead, and an orphan is sent
   pub ok-handled : (a : ℕ) → Contains (grants before) (p, k) → s.inbox ≡ Some (a, m) → e.event.act ≡ Handle → Contains (way W a i) m → Waits T W k.vpe k.number
-      → ((sel : ℕ) × (parked (side V i) k.vpe ≡ Some (ObtainReady k p o sel)) × (is_alive (side V i) k.vpe ≡ true)) ⊎ ((is_key_declared T k ≡ true) × (owner_of T k ≡ i) × (is_alive s k.vpe ≡ false) × (side V i ≡ send (owner_of T p) (Orphan p k) (with_inbox None s)))
+      → ((sel : ℕ) × (parked (side V i) k.vpe ≡ Some (ObtainReady k p o sel)) × (is_alive (side V i) k.vpe ≡ true))
+      ⊎ ((is_key_declared T k ≡ true) × (owner_of T k ≡ i) × (is_alive s k.vpe ≡ false) × (side V i ≡ send (owner_of T p) (Orphan p k) (with_inbox None s)))
   unfolding local_step handle_row
   ok-handled a granted full act among q =
       let world = schedule-sound T valid before begun in
@@ -169,15 +187,18 @@ module _ (T : Setup) (valid : IsSetup T) (J : List Entry) (runs : IsSchedule T J
       u = with_inbox None s
 
       -- it is no stray
-      step-is : kernel_of T k.vpe ≡ i → is_key_declared T k ≡ true → is_key_declared T p ≡ true → is_object_declared T o ≡ true → (kernel_of T p.vpe == i) ≡ false
+      step-is : kernel_of T k.vpe ≡ i → is_key_declared T k ≡ true → is_key_declared T p ≡ true → is_object_declared T o ≡ true →
+          (kernel_of T p.vpe == i) ≡ false
           → lives_without (is_obtain_wait k.number) u k.vpe ≡ false
           → side V i ≡ (if is_alive u k.vpe then obtain_ready p k o (parked u k.vpe) u else send (owner_of T p) (Orphan p k) u)
       step-is home dk dp dob away busy =
           let stray : is_stray T i u m ≡ false =
-          or-false (not (is_key_declared T p)) _ (ap not dp) (or-false (not (is_key_declared T k)) _ (ap not dk) (or-false (not (is_object_declared T o)) _ (ap not dob)
+          or-false (not (is_key_declared T p)) _ (ap not dp)
+          (or-false (not (is_key_declared T k)) _ (ap not dk) (or-false (not (is_object_declared T o)) _ (ap not dob)
           (or-false (not (is_here T i k.vpe)) _ (ap not (eq-eqb (kernel_of T k.vpe) i home)) (or-false (is_here T i p.vpe) _ away busy)))) in
           side-here T valid J runs before e later parts (all-caused T valid J runs before (e ∷ later) parts) i refl
-          ∙ (ap (λ n. (local_step T i s n (input_of W i n)).side) act ∙ (ap (λ x. option_map_or (λ y. handled T i (with_inbox None s) y.0 y.1) x s) full ∙ cond-false (is_stray T i u m) u (handle_row T i u a m) stray))
+          ∙ (ap (λ n. (local_step T i s n (input_of W i n)).side) act ∙ (ap (λ x. option_map_or (λ y. handled T i (with_inbox None s) y.0 y.1) x s) full
+          ∙ cond-false (is_stray T i u m) u (handle_row T i u a m) stray))
 
       gone : kernel_of T k.vpe ≡ i → is_key_declared T k ≡ true → is_key_declared T p ≡ true → is_object_declared T o ≡ true → (kernel_of T p.vpe == i) ≡ false
           → is_alive s k.vpe ≡ false → side V i ≡ send (owner_of T p) (Orphan p k) u
@@ -187,13 +208,15 @@ module _ (T : Setup) (valid : IsSetup T) (J : List Entry) (runs : IsSchedule T J
 
       ready : kernel_of T k.vpe ≡ i → is_key_declared T k ≡ true → is_key_declared T p ≡ true → is_object_declared T o ≡ true → (kernel_of T p.vpe == i) ≡ false
           → is_alive s k.vpe ≡ true
-          → (sel : ℕ) × (parked (side W (kernel_of T k.vpe)) k.vpe ≡ Some (ObtainWait k.number sel)) → (sel : ℕ) × (parked (side V i) k.vpe ≡ Some (ObtainReady k p o sel)) × (is_alive (side V i) k.vpe ≡ true)
+          → (sel : ℕ) × (parked (side W (kernel_of T k.vpe)) k.vpe ≡ Some (ObtainWait k.number sel)) →
+          (sel : ℕ) × (parked (side V i) k.vpe ≡ Some (ObtainReady k p o sel)) × (is_alive (side V i) k.vpe ≡ true)
       ready home dk dp dob away alive (sel, there) =
           let now : parked s k.vpe ≡ Some (ObtainWait k.number sel) = ap (λ n. parked (side W n) k.vpe) (sym home) ∙ there in
           let waits : is_obtain_wait k.number (parked s k.vpe) ≡ true = ap (is_obtain_wait k.number) now ∙ eq-eqb k.number k.number refl in
           let busy : lives_without (is_obtain_wait k.number) u k.vpe ≡ false = ap (λ b. is_alive s k.vpe && not b) waits ∙ ap (λ b. b && false) alive in
           let v : side V i ≡ obtain_ready p k o (Some (ObtainWait k.number sel)) u =
-          step-is home dk dp dob away busy ∙ (cond-true (is_alive u k.vpe) (obtain_ready p k o (parked u k.vpe) u) _ alive ∙ ap (λ x. obtain_ready p k o x u) now) in
+          step-is home dk dp dob away busy ∙ (cond-true (is_alive u k.vpe) (obtain_ready p k o (parked u k.vpe) u) _ alive
+          ∙ ap (λ x. obtain_ready p k o x u) now) in
           (sel, ap (λ (x : Side). parked x k.vpe) v ∙ parked-here u k.vpe (Some (ObtainReady k p o sel)), ap (λ (x : Side). is_alive x k.vpe) v ∙ alive)
 
   handled-ok : (a : ℕ) → Contains (grants before) (p, k) → s.inbox ≡ Some (a, m) → e.event.act ≡ Handle → Contains (way W a i) m → Waits T W k.vpe k.number
@@ -204,10 +227,15 @@ module _ (T : Setup) (valid : IsSetup T) (J : List Entry) (runs : IsSchedule T J
   ]
 
 -- Along the journal.
-pub obtained-lasts : (T : Setup) → IsSetup T → (J : List Entry) → IsSchedule T J → (before later : List Entry) (p k : KeyName) (o : Object) → J ≡ before ++ later → Contains (grants before) (p, k)
+pub obtained-lasts : (T : Setup) → IsSetup T → (J : List Entry) → IsSchedule T J → (before later : List Entry) (p k : KeyName) (o : Object) →
+    J ≡ before ++ later → Contains (grants before) (p, k)
     → InFlight (world_after T before) (ObtainOk p k o) → Waits T (world_after T before) k.vpe k.number → IsLive (world_after T J) k ⊎ IsDoomed J k
 obtained-lasts T valid J runs before [] p k o parts granted flight q =
-    inl (inr (inl (record { parent = p; object = o; arriving = subst (λ K. InFlight (world_after T K) (ObtainOk p k o)) (sym (parts ∙ append-nil before)) flight })))
+    inl (inr (inl (record {
+      parent = p;
+      object = o;
+      arriving = subst (λ K. InFlight (world_after T K) (ObtainOk p k o)) (sym (parts ∙ append-nil before)) flight;
+    })))
 obtained-lasts T valid J runs before (e ∷ later) p k o parts granted (a, b, among) q =
     let next : J ≡ (before ++ e ∷ []) ++ later = parts ∙ sym (append_assoc before (e ∷ []) later) in
     elim (goes T valid J runs before e later parts a b (ObtainOk p k o) among) [
@@ -215,10 +243,17 @@ obtained-lasts T valid J runs before (e ∷ later) p k o parts granted (a, b, am
           let one = here-one k.vpe in
           let about' = flight-about (world_after T (before ++ e ∷ [])) k.vpe a b (ObtainOk p k o) still (omega (arith, one)) in
           obtained-lasts T valid J runs (before ++ e ∷ []) later p k o next
-          (subst (λ gs. Contains gs (p, k)) (sym (filter_map-append (λ (x : Entry). x.grant) before (e ∷ []))) (Contains-append_left (grants before) (grants (e ∷ [])) (p, k) granted))
-          (a, b, still) (waits-on T valid J runs before e later parts (all-awaited T valid before (at T valid J runs before e later parts).0) k.vpe k.number about' q)
-      | inr (here, full, act) ↦ elim (handled-ok T valid J runs before e later parts p k o a granted full act (subst (λ n. Contains (way (world_after T before) a n) (ObtainOk p k o)) here among) q) [
-        | inl (sel, parks, alive) ↦ ready-lasts T valid J runs (before ++ e ∷ []) later e.event.kernel k.vpe sel k p o next parks alive
-        | inr doomed ↦ inr doomed
-      ]
+          (subst (λ gs. Contains gs (p, k)) (sym (filter_map-append (λ (x : Entry). x.grant) before (e ∷ [])))
+          (Contains-append_left (grants before) (grants (e ∷ [])) (p, k) granted))
+          (a, b, still) (waits-on T valid J runs before e later parts (all-awaited T valid before (at T valid J runs before e later parts).0) k.vpe k.number
+          about' q)
+      | inr (
+        here,
+        full,
+        act,
+      ) ↦ elim (handled-ok T valid J runs before e later parts p k o a granted full act
+          (subst (λ n. Contains (way (world_after T before) a n) (ObtainOk p k o)) here among) q) [
+            | inl (sel, parks, alive) ↦ ready-lasts T valid J runs (before ++ e ∷ []) later e.event.kernel k.vpe sel k p o next parks alive
+            | inr doomed ↦ inr doomed
+          ]
     ]

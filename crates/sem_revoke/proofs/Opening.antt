@@ -1,5 +1,6 @@
 -- A job begins: its region is marked, and the children of that come into the hand.
-use Rattle.std.proofs.Common.{◌≡◌, ◌⊎◌, ℕ, ◌<◌, Bool, is_none, true, false, ◌&&◌, List, [], ◌∷◌, Option, Some, None, refl, sym, ap, ◌∙◌, subst, inl, inr, arith, eq-eqb}
+use Rattle.std.proofs.Common.{◌≡◌, ◌⊎◌, ℕ, ◌<◌, Bool, is_none, true, false, ◌&&◌, List, [], ◌∷◌, Option, Some, None, refl, sym, ap, ◌∙◌, subst, inl, inr, arith}
+use Rattle.std.proofs.Common.{eq-eqb}
 use Rattle.std.specs.Prelude.{◌==◌, if◌then◌else◌}
 use Rattle.std.specs.List.{Contains, filter, list_any}
 use Rattle.std.specs.Option.{option_map, option_or}
@@ -18,7 +19,8 @@ use Rattle.sem_key.specs.Region.{has_key, Reached, linked_from, region, children
 use Rattle.sem_machine.specs.Revokes.{request_or_adopt}
 use Rattle.sem_key.specs.Region.Reached.{at_root, by_link}
 use Rattle.sem_key.proofs.KeyTests.{key_eq-true, Contains-from_has_key, has_key-from_Contains}
-use Rattle.sem_key.proofs.Members.{Contains-nil, Contains-head, Contains-tail, Contains-filter, Contains-from_filter, Contains-flat_map, Contains-from_flat_map, found}
+use Rattle.sem_key.proofs.Members.{Contains-nil, Contains-head, Contains-tail, Contains-filter, Contains-from_filter, Contains-flat_map, Contains-from_flat_map}
+use Rattle.sem_key.proofs.Members.{found}
 use Rattle.sem_key.proofs.Regions.{find-at, reached_cap, region-exact}
 use Rattle.sem_safety.specs.Seen.{Seen}
 use Rattle.sem_key.proofs.KeySets.{with_key-from, key_set-has}
@@ -35,15 +37,19 @@ use Rattle.sem_revoke.proofs.Settling.{Settling, settle-all, settled-all, AreApa
 use Rattle.sem_sound.proofs.Rising.{key_set-rises}
 
 -- What is linked from unmarked capabilities: each child of one whose key is among these.
-linked : (caps : List Capability) (ks : List KeyName) (p : Capability) (k : KeyName) → Contains caps p → p.mark ≡ None → has_key ks p.key ≡ true → has_key p.children k ≡ true → has_key (linked_from caps ks) k ≡ true
+linked : (caps : List Capability) (ks : List KeyName) (p : Capability) (k : KeyName) → Contains caps p → p.mark ≡ None → has_key ks p.key ≡ true →
+    has_key p.children k ≡ true → has_key (linked_from caps ks) k ≡ true
 linked caps ks p k in_caps unmarked has child =
     has_key-from_Contains (linked_from caps ks) k
     (Contains-flat_map (λ (c : Capability). c.children) (filter (λ c. is_none c.mark && has_key ks c.key) caps) p k
-    (Contains-filter (λ c. is_none c.mark && has_key ks c.key) caps p in_caps (and_from (is_none p.mark) (has_key ks p.key) (ap is_none unmarked) has)) (Contains-from_has_key p.children k child))
+    (Contains-filter (λ c. is_none c.mark && has_key ks c.key) caps p in_caps (and_from (is_none p.mark) (has_key ks p.key) (ap is_none unmarked) has))
+    (Contains-from_has_key p.children k child))
 
-linked_parent : (caps : List Capability) (ks : List KeyName) (k : KeyName) → has_key (linked_from caps ks) k ≡ true → (p : Capability) × Contains caps p × (p.mark ≡ None) × (has_key ks p.key ≡ true) × (has_key p.children k ≡ true)
+linked_parent : (caps : List Capability) (ks : List KeyName) (k : KeyName) → has_key (linked_from caps ks) k ≡ true →
+    (p : Capability) × Contains caps p × (p.mark ≡ None) × (has_key ks p.key ≡ true) × (has_key p.children k ≡ true)
 linked_parent caps ks k has =
-    let origin = Contains-from_flat_map (λ (c : Capability). c.children) (filter (λ c. is_none c.mark && has_key ks c.key) caps) k (Contains-from_has_key (linked_from caps ks) k has) in
+    let origin = Contains-from_flat_map (λ (c : Capability). c.children) (filter (λ c. is_none c.mark && has_key ks c.key) caps) k
+    (Contains-from_has_key (linked_from caps ks) k has) in
     let kept = Contains-from_filter (λ c. is_none c.mark && has_key ks c.key) caps origin.0 origin.1 in
     let parts = and_parts (is_none origin.0.mark) (has_key ks origin.0.key) kept.1 in
     (origin.0, kept.0, none origin.0.mark parts.0, parts.1, has_key-from_Contains origin.0.children k origin.2)
@@ -76,11 +82,13 @@ nothing false = refl
 rising-apart : (ks : List KeyName) → IsRising ks → AreApart ks
 rising-apart [] rises = tt
 rising-apart (k ∷ ks) rises = (
-  false_from_ne_true (has_key ks k) (λ has. let below : packed k < packed k = pairs-head (λ a b. packed a < packed b) k ks rises k (Contains-from_has_key ks k has) in omega (arith, below)),
+  false_from_ne_true (has_key ks k) (λ has. let below : packed k < packed k =
+      pairs-head (λ a b. packed a < packed b) k ks rises k (Contains-from_has_key ks k has) in omega (arith, below)),
   rising-apart ks (pairs-tail (λ a b. packed a < packed b) k ks rises),
 )
 
-module _ (C : Scene) (h : Hand) (root : KeyName) (up : Option Up) (waiters : List ℕ) (keep : Bool) (alone_new : keep ≡ true → up ≡ None) (caused_new : (keep ≡ false → C.lost root) × ((k : KeyName) → C.parent root k → C.lost k)) (s : Side) (R : Row C h s) where
+module _ (C : Scene) (h : Hand) (root : KeyName) (up : Option Up) (waiters : List ℕ) (keep : Bool) (alone_new : keep ≡ true →
+    up ≡ None) (caused_new : (keep ≡ false → C.lost root) × ((k : KeyName) → C.parent root k → C.lost k)) (s : Side) (R : Row C h s) where
   abbrev i : ℕ
   i = C.kernel
 
@@ -106,7 +114,8 @@ module _ (C : Scene) (h : Hand) (root : KeyName) (up : Option Up) (waiters : Lis
   cap-marked k = ap (λ (z : Seen). z.cap k) (seen-mark_all ks j opened)
 
   in-marked : (k : KeyName) (c : Capability) → has_key ks k ≡ true → cap s k ≡ Some c → cap marked k ≡ Some (with_mark j c)
-  in-marked k c has held = cap-marked k ∙ (cond-true (has_key ks k) (option_map {T = Capability} (λ c. record c { mark = Some j }) (cap s k)) (cap s k) has ∙ ap (option_map {T = Capability} (λ c. record c { mark = Some j })) held)
+  in-marked k c has held = cap-marked k ∙ (cond-true (has_key ks k) (option_map {T = Capability} (λ c. record c { mark = Some j }) (cap s k)) (cap s k) has
+      ∙ ap (option_map {T = Capability} (λ c. record c { mark = Some j })) held)
 
   out-marked : (k : KeyName) → has_key ks k ≡ false → cap marked k ≡ cap s k
   out-marked k out = cap-marked k ∙ cond-false (has_key ks k) (option_map {T = Capability} (λ c. record c { mark = Some j }) (cap s k)) (cap s k) out
@@ -133,8 +142,10 @@ module _ (C : Scene) (h : Hand) (root : KeyName) (up : Option Up) (waiters : Lis
       let p = linked_parent s.caps ks k (has_key-from_Contains (linked_from s.caps ks) k among) in
       C.valid p.0.key k (granted p.0 k p.1 p.4)
 
-  kid-from : (k : KeyName) → has_key kids k ≡ true → (p : Capability) × Contains s.caps p × (p.mark ≡ None) × (has_key ks p.key ≡ true) × (has_key p.children k ≡ true)
-  kid-from k has = linked_parent s.caps ks k (has_key-from_Contains (linked_from s.caps ks) k (key_set-from (linked_from s.caps ks) k (Contains-from_has_key kids k has)))
+  kid-from : (k : KeyName) → has_key kids k ≡ true → (p : Capability) × Contains s.caps p × (p.mark ≡ None) × (has_key ks p.key ≡ true)
+      × (has_key p.children k ≡ true)
+  kid-from k has = linked_parent s.caps ks k
+      (has_key-from_Contains (linked_from s.caps ks) k (key_set-from (linked_from s.caps ks) k (Contains-from_has_key kids k has)))
 
   kid-of : (p k : KeyName) (d : Capability) → has_key ks p ≡ true → cap s p ≡ Some d → has_key d.children k ≡ true → has_key kids k ≡ true
   kid-of p k d has held child =
@@ -177,11 +188,13 @@ module _ (C : Scene) (h : Hand) (root : KeyName) (up : Option Up) (waiters : Lis
     | inl (y, before) ↦ inl (before ∙ (sym (job-on n y before) ∙ open_))
     | inr none ↦ elim (cases_Bool (j == n)) [
       | inl same ↦
-          let at : job marked n ≡ Some new = job-marked n ∙ (ap (λ o. option_or o (if j == n then Some new else None)) none ∙ cond-true (j == n) (Some new) None same) in
+          let at : job marked n ≡ Some new = job-marked n
+          ∙ (ap (λ o. option_or o (if j == n then Some new else None)) none ∙ cond-true (j == n) (Some new) None same) in
           let is : x ≡ new = same_Some x new (sym open_ ∙ at) in
           inr (sym (eqb-true j n same), ap (λ (z : JobRow). z.root) is, subst IsAlone (sym is) alone_new, subst (IsCaused C.parent C.lost) (sym is) caused_new)
       | inr other ↦
-          let no' : None ≡ Some x = sym (job-marked n ∙ (ap (λ o. option_or o (if j == n then Some new else None)) none ∙ cond-false (j == n) (Some new) None other)) ∙ open_ in
+          let no' : None ≡ Some x = sym (job-marked n
+          ∙ (ap (λ o. option_or o (if j == n then Some new else None)) none ∙ cond-false (j == n) (Some new) None other)) ∙ open_ in
           absurd cc
     ]
   ]
@@ -225,7 +238,8 @@ module _ (C : Scene) (h : Hand) (root : KeyName) (up : Option Up) (waiters : Lis
         | inr away ↦ inl (job-away C s a n away ∙ (sym (job-away C marked a n away) ∙ open_))
       ];
       asked_on = λ k a b. let sum = side-opened (asking k a b) i s root up waiters keep in omega (arith, sum);
-      cared = λ k a b care. let sum = side-opened (asking k a b) i s root up waiters keep in let one = one-true (key_eq root k && names i up a b) (cares k a b care) in omega (arith, sum, one);
+      cared = λ k a b care. let sum = side-opened (asking k a b) i s root up waiters keep in
+          let one = one-true (key_eq root k && names i up a b) (cares k a b care) in omega (arith, sum, one);
       asked_back = λ k a b more. let sum = side-opened (asking k a b) i s root up waiters keep in elim (cases_Bool (key_eq root k && names i up a b)) [
         | inl pass ↦ inr (new-under k a b pass)
         | inr fail ↦ let none = one-false (key_eq root k && names i up a b) fail in inl (omega (arith, sum, none, more))
@@ -244,19 +258,22 @@ module _ (C : Scene) (h : Hand) (root : KeyName) (up : Option Up) (waiters : Lis
           let sum = side-opened (asking k a b) i s root up waiters keep in
           let most = R.revokes.single.0 k a b in
           elim (cases_Bool (key_eq root k && names i up a b)) [
-            | inl pass ↦ let none = R.revokes.single.1 k a b (cared k a b pass) in let one = one-true (key_eq root k && names i up a b) pass in omega (arith, sum, none, one)
+            | inl pass ↦ let none = R.revokes.single.1 k a b (cared k a b pass) in let one = one-true (key_eq root k && names i up a b) pass in
+                omega (arith, sum, none, one)
             | inr fail ↦ let one = one-false (key_eq root k && names i up a b) fail in omega (arith, sum, most, one)
           ];
     }
       where
         new-under : (k : KeyName) (a b : ℕ) → (key_eq root k && names i up a b) ≡ true → IsUnder C s k a b
-        new-under k a b pass = let parts = and_parts (key_eq root k) (names i up a b) pass in subst (λ z. IsUnder C s z a b) (key_eq-true root k parts.0) (above a b parts.1)
+        new-under k a b pass = let parts = and_parts (key_eq root k) (names i up a b) pass in
+            subst (λ z. IsUnder C s z a b) (key_eq-true root k parts.0) (above a b parts.1)
 
     settling : Settling C j kids marked
     settling = record {
       row = record {
         fit = fit-begun (owner C) C.parent C.one_parent C.made h i j root (has_key ks) (has_key kids) (view C s) (view C marked) begins R.fit;
-        revokes = keep_begun (owner C) C.parent C.one_parent C.made h i j root (has_key ks) (has_key kids) (view C s) (view C marked) begins (children i j kids) (λ k has. (refl, refl, has)) (λ a b. refl) unasked R.fit R.revokes;
+        revokes = keep_begun (owner C) C.parent C.one_parent C.made h i j root (has_key ks) (has_key kids) (view C s) (view C marked) begins (children i j kids)
+            (λ k has. (refl, refl, has)) (λ a b. refl) unasked R.fit R.revokes;
         rises = changed-rises (λ c. list_any (key_eq c.key) ks) (with_mark j) (λ c. refl) s.caps R.rises;
         ids = ids.keeps_marked opened (ids.keeps_opened s R.ids root up waiters keep) ks j (λ q has. tt);
         homes = homes;
@@ -275,7 +292,8 @@ module _ (C : Scene) (h : Hand) (root : KeyName) (up : Option Up) (waiters : Lis
       };
       open_ = (new, job-new);
       distinct = rising-apart kids (key_set-rises (linked_from s.caps ks));
-      under = λ k has. let p = kid-from k has in let q = here p.0.key p.3 in (p.0.key, granted p.0 k p.1 p.4, q.3, (with_mark j q.0, hold-here C marked p.0.key q.3 ∙ in-marked p.0.key q.0 p.3 q.1, refl));
+      under = λ k has. let p = kid-from k has in let q = here p.0.key p.3 in
+          (p.0.key, granted p.0 k p.1 p.4, q.3, (with_mark j q.0, hold-here C marked p.0.key q.3 ∙ in-marked p.0.key q.0 p.3 q.1, refl));
       closed = λ k d has at held' none. elim (cases_Bool (has_key ks k)) [
         | inl inside ↦
             let q = here k inside in
@@ -295,7 +313,10 @@ module _ (C : Scene) (h : Hand) (root : KeyName) (up : Option Up) (waiters : Lis
         unasked-now k = elim (cases_eq ((view C marked).asked k i j) 0) [
           | inl none ↦ none
           | inr some ↦
-              let under : IsUnder C s k i j = elim (begins.asked_back k i j (omega (arith, some))) [ inl before ↦ R.revokes.asking k i j before | inr is ↦ is ] in
+              let under : IsUnder C s k i j = elim (begins.asked_back k i j (omega (arith, some))) [
+                | inl before ↦ R.revokes.asking k i j before
+                | inr is ↦ is
+              ] in
               let open_ = R.revokes.marks under.0 j under.3 in
               let there : job s j ≡ Some open_.0 = sym (job-here C s j) ∙ (ap (λ a. (view C s).job a j) (sym under.2) ∙ open_.1) in
               let no' : None ≡ Some open_.0 = sym fresh ∙ there in

@@ -1,12 +1,14 @@
 -- A gift of a key never stands behind a request for it, and stands on the way from the owner of the parent to the owner of the key.
-use Rattle.std.proofs.Common.{◌≡◌, ◌⊎◌, ℕ, zero, suc, ◌+◌, ◌≤◌, ◌++◌, Bool, false, ◌&&◌, List, [], ◌∷◌, get_or, Option, Some, None, append-nil, append_assoc, refl, sym, ap, ◌∙◌, subst, inl, inr, arith, eq-eqb}
+use Rattle.std.proofs.Common.{◌≡◌, ◌⊎◌, ℕ, zero, suc, ◌+◌, ◌≤◌, ◌++◌, Bool, false, ◌&&◌, List, [], ◌∷◌, get_or, Option, Some, None, append-nil, append_assoc}
+use Rattle.std.proofs.Common.{refl, sym, ap, ◌∙◌, subst, inl, inr, arith, eq-eqb}
 use Rattle.std.specs.Prelude.{◌==◌, if◌then◌else◌}
 use Rattle.std.specs.List.{sum_by}
 use Rattle.std.proofs.lemmas.Bool.{cases_Bool, cases_eq, cond-true, cond-false, cond_both, eqb-true, and_from}
 use Rattle.std.proofs.lemmas.List.Sums.{sum_by-cons, sum_by-append}
 use Rattle.sem_key.specs.KeyName.{KeyName, key_eq}
 use Rattle.sem_msg.specs.declared.message.Message.{Message}
-use Rattle.sem_msg.specs.declared.message.Message.TheVariants.{ObtainReq, ObtainOk, ObtainNo, DelegateReq, DelegatePrepared, DelegateNo, Ack, Orphan, RevokeReq, RevokeDone, Unlink}
+use Rattle.sem_msg.specs.declared.message.Message.TheVariants.{ObtainReq, ObtainOk, ObtainNo, DelegateReq, DelegatePrepared, DelegateNo, Ack, Orphan, RevokeReq}
+use Rattle.sem_msg.specs.declared.message.Message.TheVariants.{RevokeDone, Unlink}
 use Rattle.sem_msg.specs.Setup.{Setup}
 use Rattle.sem_msg.specs.Lookups.{owner_of}
 use Rattle.sem_machine.specs.Sides.{Side, no_side, outbox}
@@ -69,7 +71,8 @@ module _ (k : KeyName) where
   late-unasked : (from to : ℕ) (ms : List Message) → ((b : ℕ) → sum_by (asking_message k from b from to) ms ≡ 0) → late ms ≡ 0
   late-unasked from to [] none = refl
   late-unasked from to (m ∷ ms) none =
-      cond-false (is_request m) (at_messages k ms) (late ms) (no-request m (λ b. let all = sum_by-cons (asking_message k from b from to) m ms in let zero' = none b in omega (arith, all, zero')))
+      cond-false (is_request m) (at_messages k ms) (late ms) (no-request m (λ b. let all = sum_by-cons (asking_message k from b from to) m ms in
+      let zero' = none b in omega (arith, all, zero')))
       ∙ late-unasked from to ms (λ b. let all = sum_by-cons (asking_message k from b from to) m ms in let zero' = none b in omega (arith, all, zero'))
     where
       no-request : (m : Message) → ((b : ℕ) → asking_message k from b from to m ≡ 0) → is_request m ≡ false
@@ -84,7 +87,9 @@ module _ (k : KeyName) where
       no-request (RevokeReq key j) zero' = elim (cases_Bool (key_eq key k)) [
         | inr other ↦ other
         | inl same ↦
-            let one : one_if (key_eq key k && ((from == from) && (j == j))) ≡ 1 = cond-true (key_eq key k && ((from == from) && (j == j))) 1 0 (and_from (key_eq key k) ((from == from) && (j == j)) same (and_from (from == from) (j == j) (eq-eqb from from refl) (eq-eqb j j refl))) in
+            let one : one_if (key_eq key k && ((from == from) && (j == j))) ≡ 1 =
+            cond-true (key_eq key k && ((from == from) && (j == j))) 1 0
+            (and_from (key_eq key k) ((from == from) && (j == j)) same (and_from (from == from) (j == j) (eq-eqb from from refl) (eq-eqb j j refl))) in
             let none' = zero' j in
             absurd (omega (arith, one, none'))
       ]
@@ -115,7 +120,8 @@ from-at f d none n (x ∷ xs) (suc i) =
     omega (arith, rest, same)
 
 from-here : {X : Type 0} (f : ℕ → X → ℕ) (d : X) → ((n : ℕ) → f n d ≡ 0) → (xs : List X) (i : ℕ) → f i (get_or xs i d) ≤ sum_from f 0 xs
-from-here f d none xs i = let at = from-at f d none 0 xs i in let same : f (0 + i) (get_or xs i d) ≡ f i (get_or xs i d) = ap (λ m. f m (get_or xs i d)) (omega arith) in omega (arith, at, same)
+from-here f d none xs i = let at = from-at f d none 0 xs i in
+    let same : f (0 + i) (get_or xs i d) ≡ f i (get_or xs i d) = ap (λ m. f m (get_or xs i d)) (omega arith) in omega (arith, at, same)
 
 module _ (S : Scale) (W : World) where
   pub side-part : (b : ℕ) → of_side S b (side W b) ≤ of_world S W
@@ -143,16 +149,19 @@ pub fetched-le : (S : Scale) (a b : ℕ) (o : Option (ℕ × Message)) → of_me
 fetched-le S a b None = omega arith
 fetched-le S a b (Some m) = elim (cases_Bool (m.0 == a)) [
   | inl same ↦
-      let list : of_messages S a b (fetched_from a (Some m)) ≡ of_messages S a b (m.1 ∷ []) = ap (of_messages S a b) (cond-true (m.0 == a) (m.1 ∷ []) [] same) in
+      let list : of_messages S a b (fetched_from a (Some m)) ≡ of_messages S a b (m.1 ∷ []) =
+      ap (of_messages S a b) (cond-true (m.0 == a) (m.1 ∷ []) [] same) in
       let one = sum_by-cons (S.message a b) m.1 [] in
       let is : S.message m.0 b m.1 ≡ S.message a b m.1 = ap (λ n. S.message n b m.1) (eqb-true m.0 a same) in
       omega (arith, list, one, is)
-  | inr other ↦ let list : of_messages S a b (fetched_from a (Some m)) ≡ 0 = ap (of_messages S a b) (cond-false (m.0 == a) (m.1 ∷ []) [] other) in omega (arith, list)
+  | inr other ↦ let list : of_messages S a b (fetched_from a (Some m)) ≡ 0 = ap (of_messages S a b) (cond-false (m.0 == a) (m.1 ∷ []) [] other) in
+      omega (arith, list)
 ]
 
 gift-fetched : (k : KeyName) (a : ℕ) (o : Option (ℕ × Message)) → at_messages k (fetched_from a o) ≤ at_inbox k o
 gift-fetched k a None = omega arith
-gift-fetched k a (Some m) = cond_both (m.0 == a) (m.1 ∷ []) [] (λ xs. at_messages k xs ≤ at_inbox k (Some m)) (λ _. let one = sum_by-cons (at_message k) m.1 [] in omega (arith, one)) (λ _. omega arith)
+gift-fetched k a (Some m) = cond_both (m.0 == a) (m.1 ∷ []) [] (λ xs. at_messages k xs ≤ at_inbox k (Some m)) (λ _. let one =
+    sum_by-cons (at_message k) m.1 [] in omega (arith, one)) (λ _. omega arith)
 
 -- the gifts on a way are counted in the world
 pub way-gifts : (k : KeyName) (W : World) (a b : ℕ) → at_world k on_its_way W ≡ 0 → at_messages k (way W a b) ≡ 0
@@ -169,12 +178,14 @@ way-gifts k W a b none =
 
 -- An event that moves no message.
 
-module _ (T : Setup) (gs gs' : List (KeyName × KeyName)) (W : World) (R : IsReady T gs W) (H : Holds T gs W) (L : Losing gs W) (O : Ordered T gs W) (i : ℕ) (o : Option (KeyName × KeyName))
+module _ (T : Setup) (gs gs' : List (KeyName × KeyName)) (W : World) (R : IsReady T gs W) (H : Holds T gs W) (L : Losing gs W) (O : Ordered T gs W) (i : ℕ)
+    (o : Option (KeyName × KeyName))
     (more : (p k : KeyName) → Par gs' p k → Par gs p k ⊎ (◌≡◌ {A = Option (KeyName × KeyName)} o (Some (p, k))))
     (new : (p k : KeyName) → ◌≡◌ {A = Option (KeyName × KeyName)} o (Some (p, k)) → Made T gs k → ⊥)
     (none_on : (k : KeyName) → (Made T gs k → ⊥) → at_world k on_its_way W ≡ 0)
     (held : (p k : KeyName) → ◌≡◌ {A = Option (KeyName × KeyName)} o (Some (p, k)) → owner_of T p ≡ i)
-    (base t : Side) (boxes : base.outs ≡ (side W i).outs) (inboxes : (base.inbox ≡ (side W i).inbox) ⊎ (base.inbox ≡ None)) (S : Sends T gs W R H L i o base t) where
+    (base t : Side) (boxes : base.outs ≡ (side W i).outs) (inboxes : (base.inbox ≡ (side W i).inbox)
+    ⊎ (base.inbox ≡ None)) (S : Sends T gs W R H L i o base t) where
   abbrev V : World
   V = with_side i t W
 
@@ -207,12 +218,14 @@ module _ (T : Setup) (gs gs' : List (KeyName × KeyName)) (W : World) (R : IsRea
       elim (cases_eq a i) [
         | inl same ↦
             let sends = S.sends b in
-            let box : outbox t b ≡ outbox (side W a) b ++ sends.0 = sends.1 ∙ ap (λ xs. xs ++ sends.0) (ap (λ (bs : List (List Message)). get_or bs b []) boxes ∙ ap (λ n. outbox (side W n) b) (sym same)) in
+            let box : outbox t b ≡ outbox (side W a) b ++ sends.0 = sends.1 ∙ ap (λ xs. xs ++ sends.0) (ap (λ (bs : List (List Message)). get_or bs b []) boxes
+            ∙ ap (λ n. outbox (side W n) b) (sym same)) in
             let out : outbox (side V a) b ≡ outbox (side W a) b ++ sends.0 = ap (λ n. outbox (side V n) b) same ∙ (ap (λ (x : Side). outbox x b) at-i ∙ box) in
             record {
               front = f.0;
               ms = sends.0;
-              whole_way = ap (λ xs. (xs ++ link W a b) ++ outbox (side V a) b) f.1 ∙ (ap (λ xs. (f.0 ++ link W a b) ++ xs) out ∙ sym (append_assoc (f.0 ++ link W a b) (outbox (side W a) b) sends.0));
+              whole_way = ap (λ xs. (xs ++ link W a b) ++ outbox (side V a) b) f.1
+                  ∙ (ap (λ xs. (f.0 ++ link W a b) ++ xs) out ∙ sym (append_assoc (f.0 ++ link W a b) (outbox (side W a) b) sends.0));
               fronts = f.2;
               gifts = λ k some. let g = sends.2 k some in (same, g.0, g.1);
               boxed = inr (same, box);
@@ -220,7 +233,9 @@ module _ (T : Setup) (gs gs' : List (KeyName × KeyName)) (W : World) (R : IsRea
         | inr other ↦ record {
           front = f.0;
           ms = [];
-          whole_way = ap (λ xs. (xs ++ link W a b) ++ outbox (side V a) b) f.1 ∙ (ap (λ (x : Side). (f.0 ++ link W a b) ++ outbox x b) (get_or-put_other no_side W.sides i a t other) ∙ sym (append-nil ((f.0 ++ link W a b) ++ outbox (side W a) b)));
+          whole_way = ap (λ xs. (xs ++ link W a b) ++ outbox (side V a) b) f.1
+              ∙ (ap (λ (x : Side). (f.0 ++ link W a b) ++ outbox x b) (get_or-put_other no_side W.sides i a t other)
+              ∙ sym (append-nil ((f.0 ++ link W a b) ++ outbox (side W a) b)));
           fronts = f.2;
           gifts = λ k some. absurd (omega (arith, some));
           boxed = inl refl;
@@ -228,11 +243,15 @@ module _ (T : Setup) (gs gs' : List (KeyName × KeyName)) (W : World) (R : IsRea
       ]
 
   -- what was on the way and is left
-  old-late : (k : KeyName) (a b : ℕ) (front : List Message) → (front ≡ fetched_from a (side W b).inbox) ⊎ (front ≡ []) → late k ((front ++ link W a b) ++ outbox (side W a) b) ≡ 0
+  old-late : (k : KeyName) (a b : ℕ) (front : List Message) → (front ≡ fetched_from a (side W b).inbox) ⊎ (front ≡ []) →
+      late k ((front ++ link W a b) ++ outbox (side W a) b) ≡ 0
   old-late k a b front (inl same) = ap (λ xs. late k ((xs ++ link W a b) ++ outbox (side W a) b)) same ∙ O.order k a b
-  old-late k a b front (inr none) = ap (λ xs. late k ((xs ++ link W a b) ++ outbox (side W a) b)) none ∙ front-gone (λ xs. late k ((xs ++ link W a b) ++ outbox (side W a) b) ≡ 0) (λ m is. late-rest k m (link W a b ++ outbox (side W a) b) is) a (side W b).inbox (O.order k a b)
+  old-late k a b front (inr none) = ap (λ xs. late k ((xs ++ link W a b) ++ outbox (side W a) b)) none
+      ∙ front-gone (λ xs. late k ((xs ++ link W a b) ++ outbox (side W a) b) ≡ 0) (λ m is. late-rest k m (link W a b ++ outbox (side W a) b) is) a
+      (side W b).inbox (O.order k a b)
 
-  old-gifts : (k : KeyName) (a b : ℕ) (front : List Message) → (front ≡ fetched_from a (side W b).inbox) ⊎ (front ≡ []) → at_messages k ((front ++ link W a b) ++ outbox (side W a) b) ≤ at_messages k (way W a b)
+  old-gifts : (k : KeyName) (a b : ℕ) (front : List Message) → (front ≡ fetched_from a (side W b).inbox) ⊎ (front ≡ []) →
+      at_messages k ((front ++ link W a b) ++ outbox (side W a) b) ≤ at_messages k (way W a b)
   old-gifts k a b front (inl same) = let is = ap (λ xs. at_messages k ((xs ++ link W a b) ++ outbox (side W a) b)) same in omega (arith, is)
   old-gifts k a b front (inr none) =
       let is = ap (λ xs. at_messages k ((xs ++ link W a b) ++ outbox (side W a) b)) none in

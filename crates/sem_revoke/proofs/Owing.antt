@@ -36,14 +36,16 @@ token-stirs x W some = elim (cases_eq (of_world (exchanging x) W) 0) [
   | inl none ↦
       let i = some-at (of_rows x) no_side W.sides (omega (arith, some, none)) in
       let v = some-at (of_row x) no_vpe (side W i.0).vpes i.1 in
-      by_ask i.0 v.0 (λ empty. let zero' : of_row x (row (side W i.0) v.0) ≡ 0 = ap (sum_by (of_ask x)) empty in let weighs = v.1 in omega (arith, zero', weighs))
+      by_ask i.0 v.0 (λ empty. let zero' : of_row x (row (side W i.0) v.0) ≡ 0 = ap (sum_by (of_ask x)) empty in let weighs = v.1 in
+      omega (arith, zero', weighs))
   | inr more ↦ elim (world-some (exchanging x) W (positive (of_world (exchanging x) W) more)) [
     | inl (a, b, m, among, weighs) ↦ by_message m (a, b, among)
     | inr (i, y, among, weighs) ↦ absurd (omega (arith, weighs))
   ]
 ]
 
-pub exchanges-owed : (T : Setup) → IsSetup T → (J : List Entry) → IsSchedule T J → (i v : ℕ) (p : Parked) → parked (side (world_after T J) i) v ≡ Some p → IsExchange p → IsStirring (world_after T J)
+pub exchanges-owed : (T : Setup) → IsSetup T → (J : List Entry) → IsSchedule T J → (i v : ℕ) (p : Parked) → parked (side (world_after T J) i) v ≡ Some p →
+    IsExchange p → IsStirring (world_after T J)
 exchanges-owed T valid J runs i v (ObtainWait number sel) at is =
     let W : World = world_after T J in
     let call = ((schedule-sound T valid J runs).sides i (parked-low T J runs i v (ObtainWait number sel) at)).calls v (ObtainWait number sel) at in
@@ -53,7 +55,8 @@ exchanges-owed T valid J runs i v (DelegateWait parent) at is =
     let W : World = world_after T J in
     let call = ((schedule-sound T valid J runs).sides i (parked-low T J runs i v (DelegateWait parent) at)).calls v (DelegateWait parent) at in
     let who : parent.vpe ≡ v = call.1.0 in
-    let there : parked (side W (kernel_of T parent.vpe)) parent.vpe ≡ Some (DelegateWait parent) = ap (λ n. parked (side W (kernel_of T n)) n) who ∙ (ap (λ n. parked (side W n) v) call.0 ∙ at) in
+    let there : parked (side W (kernel_of T parent.vpe)) parent.vpe ≡ Some (DelegateWait parent) = ap (λ n. parked (side W (kernel_of T n)) n) who
+    ∙ (ap (λ n. parked (side W n) v) call.0 ∙ at) in
     token-stirs (Delegating parent) W (all-owed T valid (Delegating parent) J runs (ap (is_waiting (Delegating parent)) there ∙ key_eq-same parent)).1
 exchanges-owed T valid J runs i v (ObtainReady key parent object sel) at is = absurd is
 exchanges-owed T valid J runs i v ObtainCancelled at is = absurd is

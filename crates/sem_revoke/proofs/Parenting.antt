@@ -1,5 +1,6 @@
 -- A held capability has the parent that its grant tells: so it is of what is on its way to be held, and of all that is installed.
-use Rattle.std.proofs.Common.{◌≡◌, ℕ, ◌+◌, ◌≤◌, Bool, true, false, not, ◌&&◌, List, [], ◌∷◌, filter, Option, Some, None, slice_get, refl, sym, ap, ◌∙◌, subst, inl, inr, arith}
+use Rattle.std.proofs.Common.{◌≡◌, ℕ, ◌+◌, ◌≤◌, Bool, true, false, not, ◌&&◌, List, [], ◌∷◌, filter, Option, Some, None, slice_get, refl, sym, ap, ◌∙◌, subst}
+use Rattle.std.proofs.Common.{inl, inr, arith}
 use Rattle.std.specs.Prelude.{◌==◌, if◌then◌else◌}
 use Rattle.std.specs.List.{Contains}
 use Rattle.std.specs.Option.{option_map_or}
@@ -23,7 +24,8 @@ use Rattle.sem_msg.specs.declared.call.Call.{Call}
 use Rattle.sem_msg.specs.declared.event.Act.{Act}
 use Rattle.sem_msg.specs.declared.event.Act.TheVariants.{Call as Calls, Fetch, Handle, Upcall, Resume, Flush, Kill}
 use Rattle.sem_msg.specs.declared.message.Message.{Message}
-use Rattle.sem_msg.specs.declared.message.Message.TheVariants.{ObtainReq, ObtainOk, ObtainNo, DelegateReq, DelegatePrepared, DelegateNo, Ack, Orphan, RevokeReq, RevokeDone, Unlink}
+use Rattle.sem_msg.specs.declared.message.Message.TheVariants.{ObtainReq, ObtainOk, ObtainNo, DelegateReq, DelegatePrepared, DelegateNo, Ack, Orphan, RevokeReq}
+use Rattle.sem_msg.specs.declared.message.Message.TheVariants.{RevokeDone, Unlink}
 use Rattle.sem_msg.specs.declared.state.Ask.{Ask}
 use Rattle.sem_msg.specs.declared.state.Ask.TheVariants.{Obtain as ObtainAsk, Delegate as DelegateAsk}
 use Rattle.sem_msg.specs.declared.state.Parked.{Parked}
@@ -31,7 +33,8 @@ use Rattle.sem_msg.specs.declared.state.Parked.TheVariants.{ObtainWait, ObtainRe
 use Rattle.sem_msg.specs.declared.state.Pending.{Pending}
 use Rattle.sem_msg.specs.Setup.{Setup}
 use Rattle.sem_msg.specs.Lookups.{kernel_of, owner_of, place_owner}
-use Rattle.sem_machine.specs.Sides.{Side, row, cap, parked, pending, is_alive, call_counted, drawn, promised, parked_as, unparked, asked, ask_taken, buried, linked, installed, freed, send, with_inbox, pending_added, pending_removed}
+use Rattle.sem_machine.specs.Sides.{Side, row, cap, parked, pending, is_alive, call_counted, drawn, promised, parked_as, unparked, asked, ask_taken, buried}
+use Rattle.sem_machine.specs.Sides.{linked, installed, freed, send, with_inbox, pending_added, pending_removed}
 use Rattle.sem_machine.specs.Steps.{Step, plain}
 use Rattle.sem_machine.specs.Asks.{target_vpe, asker, is_unawaited, promise_freed, refusal_sent, ask_refused}
 use Rattle.sem_machine.specs.Calls.{next_key, next_place, call_row}
@@ -105,7 +108,8 @@ module _ (T : Setup) (i : ℕ) (G : KeyName → KeyName → Type 0) (R : KeyName
   quiet-parented : (t : Side) (j : ℕ) (m : Message) → ((p k : KeyName) → giving_message p k m ≡ 0) → Parented t → Parented (send j m t)
   quiet-parented t j m none is = sent-parented t j m (λ p k some. let zero' = none p k in absurd (omega (arith, zero', some))) is
 
-  parked-parented : (t : Side) (w : ℕ) (q : Option Parked) → ((k p : KeyName) (o : Object) (sel : ℕ) → q ≡ Some (ObtainReady k p o sel) → G p k) → Parented t → Parented (record t { parks = put None t.parks w q })
+  parked-parented : (t : Side) (w : ℕ) (q : Option Parked) → ((k p : KeyName) (o : Object) (sel : ℕ) → q ≡ Some (ObtainReady k p o sel) → G p k) → Parented t →
+      Parented (record t { parks = put None t.parks w q })
   parked-parented t w q so is = record {
     caps = is.caps;
     calls = λ v k p o sel there. elim (cases_eq v w) [
@@ -129,8 +133,11 @@ module _ (T : Setup) (i : ℕ) (G : KeyName → KeyName → Type 0) (R : KeyName
       caps = λ c there.
           let f : Capability → Capability = λ d. record d { children = []; mark = None } in
           let d = Contains-from_map (λ (y : Capability). if key_eq y.key x.root then f y else y) t.caps c there in
-          let same : ((if key_eq d.0.key x.root then f d.0 else d.0).key ≡ d.0.key) × ((if key_eq d.0.key x.root then f d.0 else d.0).parent ≡ d.0.parent) = cond_both (key_eq d.0.key x.root) (f d.0) d.0 (λ (y : Capability). (y.key ≡ d.0.key) × (y.parent ≡ d.0.parent)) (λ _. (refl, refl)) (λ _. (refl, refl)) in
-          subst (λ (y : Capability). IsRight y.parent y.key) d.2 (subst (IsRight (if key_eq d.0.key x.root then f d.0 else d.0).parent) (sym same.0) (subst (λ q. IsRight q d.0.key) (sym same.1) (is.caps d.0 d.1)));
+          let same : ((if key_eq d.0.key x.root then f d.0 else d.0).key ≡ d.0.key) × ((if key_eq d.0.key x.root then f d.0 else d.0).parent ≡ d.0.parent) =
+          cond_both (key_eq d.0.key x.root) (f d.0) d.0 (λ (y : Capability). (y.key ≡ d.0.key) × (y.parent ≡ d.0.parent)) (λ _. (refl, refl))
+          (λ _. (refl, refl)) in
+          subst (λ (y : Capability). IsRight y.parent y.key) d.2 (subst (IsRight (if key_eq d.0.key x.root then f d.0 else d.0).parent) (sym same.0)
+          (subst (λ q. IsRight q d.0.key) (sym same.1) (is.caps d.0 d.1)));
       calls = is.calls;
       gives = is.gives;
     };
@@ -142,15 +149,17 @@ module _ (T : Setup) (i : ℕ) (G : KeyName → KeyName → Type 0) (R : KeyName
     sends = λ t j m loud is. quiet-parented t j m (λ p k. loud-none p k m loud) is;
   }
 
-  installed-parented : (t : Side) (k : KeyName) (parent : Option KeyName) (sel : ℕ) (object : Object) → IsRight parent k → Parented t → Parented (installed k parent sel object t)
+  installed-parented : (t : Side) (k : KeyName) (parent : Option KeyName) (sel : ℕ) (object : Object) → IsRight parent k → Parented t →
+      Parented (installed k parent sel object t)
   installed-parented t k parent sel object right is = record {
-    caps = λ c among. elim (Contains-append_cases (filter (λ x. key_lt x.key k) t.caps) (fresh k parent sel object ∷ filter (λ x. not (key_lt x.key k)) t.caps) c among) [
-      | inl before ↦ is.caps c (Contains-from_filter (λ (x : Capability). key_lt x.key k) t.caps c before).0
-      | inr rest ↦ elim (Contains-cons_cases (fresh k parent sel object) (filter (λ x. not (key_lt x.key k)) t.caps) c rest) [
-        | inl same ↦ subst (λ (y : Capability). IsRight y.parent y.key) same right
-        | inr after ↦ is.caps c (Contains-from_filter (λ (x : Capability). not (key_lt x.key k)) t.caps c after).0
-      ]
-    ];
+    caps = λ c among. elim (Contains-append_cases (filter (λ x. key_lt x.key k) t.caps) (fresh k parent sel object ∷ filter (λ x. not (key_lt x.key k)) t.caps)
+        c among) [
+          | inl before ↦ is.caps c (Contains-from_filter (λ (x : Capability). key_lt x.key k) t.caps c before).0
+          | inr rest ↦ elim (Contains-cons_cases (fresh k parent sel object) (filter (λ x. not (key_lt x.key k)) t.caps) c rest) [
+            | inl same ↦ subst (λ (y : Capability). IsRight y.parent y.key) same right
+            | inr after ↦ is.caps c (Contains-from_filter (λ (x : Capability). not (key_lt x.key k)) t.caps c after).0
+          ]
+        ];
     calls = is.calls;
     gives = is.gives;
   }
@@ -160,14 +169,19 @@ module _ (T : Setup) (i : ℕ) (G : KeyName → KeyName → Type 0) (R : KeyName
     caps = λ c among.
         let f : Capability → Capability = λ d. record d { children = with_key d.children k } in
         let d = Contains-from_map (λ (y : Capability). if key_eq y.key p then f y else y) t.caps c among in
-        let same : ((if key_eq d.0.key p then f d.0 else d.0).key ≡ d.0.key) × ((if key_eq d.0.key p then f d.0 else d.0).parent ≡ d.0.parent) = cond_both (key_eq d.0.key p) (f d.0) d.0 (λ (y : Capability). (y.key ≡ d.0.key) × (y.parent ≡ d.0.parent)) (λ _. (refl, refl)) (λ _. (refl, refl)) in
-        subst (λ (y : Capability). IsRight y.parent y.key) d.2 (subst (IsRight (if key_eq d.0.key p then f d.0 else d.0).parent) (sym same.0) (subst (λ q. IsRight q d.0.key) (sym same.1) (is.caps d.0 d.1)));
+        let same : ((if key_eq d.0.key p then f d.0 else d.0).key ≡ d.0.key) × ((if key_eq d.0.key p then f d.0 else d.0).parent ≡ d.0.parent) =
+        cond_both (key_eq d.0.key p) (f d.0) d.0 (λ (y : Capability). (y.key ≡ d.0.key) × (y.parent ≡ d.0.parent)) (λ _. (refl, refl))
+        (λ _. (refl, refl)) in
+        subst (λ (y : Capability). IsRight y.parent y.key) d.2 (subst (IsRight (if key_eq d.0.key p then f d.0 else d.0).parent) (sym same.0)
+        (subst (λ q. IsRight q d.0.key) (sym same.1) (is.caps d.0 d.1)));
     calls = is.calls;
     gives = is.gives;
   }
 
   refused-parented : (code : Code) (a : Ask) (t : Side) → Parented t → Parented (ask_refused T i code a t)
-  refused-parented code a t is = cond_both (kernel_of T (asker a) == i) _ _ Parented (λ _. parked-parented (promise_freed (parked t (asker a)) (asker a) t) (asker a) (Some (Ready (code_number code))) (λ k p o sel no'. absurd cc) (free (parked t (asker a)) (asker a))) (λ _. sends a)
+  refused-parented code a t is =
+      cond_both (kernel_of T (asker a) == i) _ _ Parented (λ _. parked-parented (promise_freed (parked t (asker a)) (asker a) t) (asker a)
+      (Some (Ready (code_number code))) (λ k p o sel no'. absurd cc) (free (parked t (asker a)) (asker a))) (λ _. sends a)
     where
       free : (p : Option Parked) (v : ℕ) → Parented (promise_freed p v t)
       free None v = is
@@ -188,9 +202,12 @@ module _ (T : Setup) (i : ℕ) (G : KeyName → KeyName → Type 0) (R : KeyName
   ended-parented v s is =
       let asks : List Ask = (row s v).asks in
       let answered : Side = in_turn (ask_ended T i) asks (buried v s) in
-      let told : Parented answered = in_turn-keeps Parented (ask_ended T i) (λ a t here. cond_both (is_unawaited T i t a) t (ask_refused T i Dead a t) Parented (λ _. here) (λ _. refused-parented Dead a t here)) asks (buried v s) (vpes-parented s (buried v s).vpes is) in
+      let told : Parented answered =
+      in_turn-keeps Parented (ask_ended T i) (λ a t here. cond_both (is_unawaited T i t a) t (ask_refused T i Dead a t) Parented (λ _. here)
+      (λ _. refused-parented Dead a t here)) asks (buried v s) (vpes-parented s (buried v s).vpes is) in
       let last : Side = call_ended T (parked answered v) v (unparked v answered) in
-      in_turn-keeps Parented (revoked_if_left T i) (λ k t here. rest-steady Parented steady T i k t here) (keys_of last v) last (owes (parked answered v) (unparked v answered) (parked-parented answered v None (λ k p o sel no'. absurd cc) told))
+      in_turn-keeps Parented (revoked_if_left T i) (λ k t here. rest-steady Parented steady T i k t here) (keys_of last v) last
+      (owes (parked answered v) (unparked v answered) (parked-parented answered v None (λ k p o sel no'. absurd cc) told))
     where
       owes : (p : Option Parked) (t : Side) → Parented t → Parented (call_ended T p v t)
       owes None t here = here
@@ -214,19 +231,27 @@ module _ (T : Setup) (i : ℕ) (G : KeyName → KeyName → Type 0) (R : KeyName
     answered = λ code told. is;
     child = λ src dst object p held told.
         let k : KeyName = next_key T s w (object_kind object) in
-        installed-parented (linked p.key k (drawn w s)) k (Some p.key) dst object (told p.key k refl) (linked-parented (drawn w s) p.key k (vpes-parented s (drawn w s).vpes is));
+        installed-parented (linked p.key k (drawn w s)) k (Some p.key) dst object (told p.key k refl)
+        (linked-parented (drawn w s) p.key k (vpes-parented s (drawn w s).vpes is));
     ask = λ dst target told.
         let place : PlaceName = next_place T s w in
         let promising : Side = promised w dst (drawn w s) in
         let waiting : Side = parked_as w (ObtainWait place.number dst) promising in
-        let waits : Parented waiting = parked-parented promising w (Some (ObtainWait place.number dst)) (λ k p o sel no'. absurd cc) (vpes-parented s promising.vpes is) in
-        cond_both (kernel_of T (target_vpe target) == i) _ _ Parented (λ _. vpes-parented waiting (asked (target_vpe target) (ObtainAsk place target) waiting).vpes waits) (λ _. quiet-parented waiting (kernel_of T (target_vpe target)) (ObtainReq place target) (λ p k. refl) waits);
+        let waits : Parented waiting = parked-parented promising w (Some (ObtainWait place.number dst)) (λ k p o sel no'. absurd cc)
+        (vpes-parented s promising.vpes is) in
+        cond_both (kernel_of T (target_vpe target) == i) _ _ Parented
+        (λ _. vpes-parented waiting (asked (target_vpe target) (ObtainAsk place target) waiting).vpes waits)
+        (λ _. quiet-parented waiting (kernel_of T (target_vpe target)) (ObtainReq place target) (λ p k. refl) waits);
     offer = λ src u dst p held told.
         let waiting : Side = parked_as w (DelegateWait p.key) s in
         let waits : Parented waiting = parked-parented s w (Some (DelegateWait p.key)) (λ k q o sel no'. absurd cc) is in
-        cond_both (kernel_of T u == i) _ _ Parented (λ _. vpes-parented waiting (asked u (DelegateAsk p.key p.object dst) waiting).vpes waits) (λ _. quiet-parented waiting (kernel_of T u) (DelegateReq p.key p.object u dst) (λ q k. refl) waits);
-    revoke = λ src c held told. revoked-steady Parented steady T i w c.key c.mark s (λ j. parked-parented s w (Some (RevokeWait j)) (λ k p o sel no'. absurd cc) is);
-    clear = λ src c held unmarked told. cleared-steady Parented steady T i w c.key s (let waits = parked-parented s w (Some (RevokeWait s.next_job)) (λ k p o sel no'. absurd cc) is in record { caps = waits.caps; calls = waits.calls; gives = waits.gives });
+        cond_both (kernel_of T u == i) _ _ Parented (λ _. vpes-parented waiting (asked u (DelegateAsk p.key p.object dst) waiting).vpes waits)
+        (λ _. quiet-parented waiting (kernel_of T u) (DelegateReq p.key p.object u dst) (λ q k. refl) waits);
+    revoke = λ src c held told. revoked-steady Parented steady T i w c.key c.mark s
+        (λ j. parked-parented s w (Some (RevokeWait j)) (λ k p o sel no'. absurd cc) is);
+    clear = λ src c held unmarked told. cleared-steady Parented steady T i w c.key s (let waits =
+        parked-parented s w (Some (RevokeWait s.next_job)) (λ k p o sel no'. absurd cc) is in
+        record { caps = waits.caps; calls = waits.calls; gives = waits.gives });
     bound = λ ep src c held told. record { caps = is.caps; calls = is.calls; gives = is.gives };
     rung = λ ep f told. record { caps = is.caps; calls = is.calls; gives = is.gives };
     ends = λ told. ended-parented w s is;
@@ -243,11 +268,15 @@ module _ (T : Setup) (i : ℕ) (G : KeyName → KeyName → Type 0) (R : KeyName
         let links : Parented linking = linked-parented s p.key k is in
         let right : G p.key k = told p.key k refl in
         cond_both (kernel_of T place.vpe == i) _ _ Parented (λ _. here k p.key object right (parked linking place.vpe) linking links)
-        (λ _. sent-parented linking (place_owner T place) (ObtainOk p.key k object) (λ q r some. let pass = and_parts (key_eq p.key q) (key_eq k r) (one-more (key_eq p.key q && key_eq k r) some) in subst (λ z. G z r) (key_eq-true p.key q pass.0) (subst (G p.key) (key_eq-true k r pass.1) right)) links);
+        (λ _. sent-parented linking (place_owner T place) (ObtainOk p.key k object) (λ q r some. let pass =
+        and_parts (key_eq p.key q) (key_eq k r) (one-more (key_eq p.key q && key_eq k r) some) in
+        subst (λ z. G z r) (key_eq-true p.key q pass.0) (subst (G p.key) (key_eq-true k r pass.1) right)) links);
     here = λ parent object sel of told.
         let k : KeyName = next_key T s w parent.kind in
         let t : Side = installed k (Some parent) sel object (linked parent k (drawn w s)) in
-        parked-parented t parent.vpe (Some (Ready (code_number OkCode))) (λ q p o n no'. absurd cc) (installed-parented (linked parent k (drawn w s)) k (Some parent) sel object (told parent k refl) (linked-parented (drawn w s) parent k (vpes-parented s (drawn w s).vpes is)));
+        parked-parented t parent.vpe (Some (Ready (code_number OkCode))) (λ q p o n no'. absurd cc)
+        (installed-parented (linked parent k (drawn w s)) k (Some parent) sel object (told parent k refl)
+        (linked-parented (drawn w s) parent k (vpes-parented s (drawn w s).vpes is)));
     prepared = λ parent object sel of told.
         let k : KeyName = next_key T s w parent.kind in
         let preparing : Side = pending_added (record { key = k; parent = parent; object = object; sel = sel }) (promised w sel (drawn w s)) in
@@ -255,7 +284,8 @@ module _ (T : Setup) (i : ℕ) (G : KeyName → KeyName → Type 0) (R : KeyName
   })
     where
       here : (k p : KeyName) (object : Object) → G p k → (state : Option Parked) (t : Side) → Parented t → Parented (given_here k p object state t)
-      here k p object right (Some (ObtainWait number sel)) t is' = parked-parented (installed k (Some p) sel object t) k.vpe (Some (Ready (code_number OkCode))) (λ q r o n no'. absurd cc) (installed-parented t k (Some p) sel object right is')
+      here k p object right (Some (ObtainWait number sel)) t is' = parked-parented (installed k (Some p) sel object t) k.vpe (Some (Ready (code_number OkCode)))
+          (λ q r o n no'. absurd cc) (installed-parented t k (Some p) sel object right is')
       here k p object right None t is' = is'
       here k p object right (Some (ObtainReady key parent object' sel)) t is' = is'
       here k p object right (Some ObtainCancelled) t is' = is'
@@ -266,7 +296,8 @@ module _ (T : Setup) (i : ℕ) (G : KeyName → KeyName → Type 0) (R : KeyName
 
   upcall-parented : (w : ℕ) (s : Side) → Parented s → Q (upcall_row T i s w)
   unfolding upcall_row
-  upcall-parented w s is = option-keeps Q (λ (a : Ask). ask_decided T i w a (ask_taken w s)) (slice_get (row s w).asks 0) (plain s) (λ a there. decided-parented w a (ask_taken w s) (vpes-parented s (ask_taken w s).vpes is)) (λ told. is)
+  upcall-parented w s is = option-keeps Q (λ (a : Ask). ask_decided T i w a (ask_taken w s)) (slice_get (row s w).asks 0) (plain s)
+      (λ a there. decided-parented w a (ask_taken w s) (vpes-parented s (ask_taken w s).vpes is)) (λ told. is)
 
   resume-parented : (w : ℕ) (s : Side) → Parented s → Parented (resume_row T s w).side
   unfolding resume_row
@@ -279,7 +310,8 @@ module _ (T : Setup) (i : ℕ) (G : KeyName → KeyName → Type 0) (R : KeyName
       gone = parked-parented s w None (λ k p o sel no'. absurd cc) is
 
       granted : (parent key : KeyName) (m : Option ℕ) → Parented (delegate_granted T parent key m (unparked w s)).side
-      granted parent key None = quiet-parented (linked parent key (unparked w s)) (owner_of T key) (Ack key true) (λ p k. refl) (linked-parented (unparked w s) parent key gone)
+      granted parent key None = quiet-parented (linked parent key (unparked w s)) (owner_of T key) (Ack key true) (λ p k. refl)
+          (linked-parented (unparked w s) parent key gone)
       granted parent key (Some j) = quiet-parented (unparked w s) (owner_of T key) (Ack key false) (λ p k. refl) gone
 
       answered : (parent key : KeyName) (o : Option Capability) → Parented (delegate_resumed T parent key o (unparked w s)).side
@@ -289,14 +321,16 @@ module _ (T : Setup) (i : ℕ) (G : KeyName → KeyName → Type 0) (R : KeyName
       by : (p : Option Parked) → parked s w ≡ p → Parented (resumed T p (unparked w s)).side
       by None at = gone
       by (Some (ObtainWait number sel)) at = gone
-      by (Some (ObtainReady key parent object sel)) at = installed-parented (unparked w s) key (Some parent) sel object (is.calls w key parent object sel at) gone
+      by (Some (ObtainReady key parent object sel)) at =
+          installed-parented (unparked w s) key (Some parent) sel object (is.calls w key parent object sel at) gone
       by (Some ObtainCancelled) at = gone
       by (Some (DelegateWait parent)) at = gone
       by (Some (DelegateReady parent key)) at = answered parent key (cap (unparked w s) parent)
       by (Some (RevokeWait j)) at = gone
       by (Some (Ready code)) at = gone
 
-  handled-parented : (from : ℕ) (m : Message) (s : Side) → ((parent key : KeyName) (object : Object) → m ≡ ObtainOk parent key object → G parent key) → ((key : KeyName) (p : Pending) → m ≡ Ack key true → pending s key ≡ Some p → G p.parent key) → Parented s → Parented (handled T i s from m)
+  handled-parented : (from : ℕ) (m : Message) (s : Side) → ((parent key : KeyName) (object : Object) → m ≡ ObtainOk parent key object → G parent key) →
+      ((key : KeyName) (p : Pending) → m ≡ Ack key true → pending s key ≡ Some p → G p.parent key) → Parented s → Parented (handled T i s from m)
   handled-parented from m s gives acks is = handled-by Parented T i s from m (record {
     same = is;
     asked_obtain = λ place target of. vpes-parented s (asked (target_vpe target) (ObtainAsk place target) s).vpes is;
@@ -305,13 +339,16 @@ module _ (T : Setup) (i : ℕ) (G : KeyName → KeyName → Type 0) (R : KeyName
     dead_delegate = λ parent object vpe sel of. refused-parented Dead (DelegateAsk parent object sel) s is;
     given = λ parent key object of. ready parent key object (gives parent key object of) (parked s key.vpe);
     orphaned = λ parent key object of. quiet-parented s (owner_of T parent) (Orphan parent key) (λ p k. refl) is;
-    no_obtain = λ place code of. parked-parented (promise_freed (parked s place.vpe) place.vpe s) place.vpe (Some (Ready code)) (λ k p o sel no'. absurd cc) (free (parked s place.vpe) place.vpe);
+    no_obtain = λ place code of. parked-parented (promise_freed (parked s place.vpe) place.vpe s) place.vpe (Some (Ready code)) (λ k p o sel no'. absurd cc)
+        (free (parked s place.vpe) place.vpe);
     prepared = λ parent key of. parked-parented s parent.vpe (Some (DelegateReady parent key)) (λ k p o sel no'. absurd cc) is;
     given_up = λ parent key of. quiet-parented s (owner_of T key) (Ack key false) (λ p k. refl) is;
-    no_delegate = λ parent code of. parked-parented (promise_freed (parked s parent.vpe) parent.vpe s) parent.vpe (Some (Ready code)) (λ k p o sel no'. absurd cc) (free (parked s parent.vpe) parent.vpe);
+    no_delegate = λ parent code of. parked-parented (promise_freed (parked s parent.vpe) parent.vpe s) parent.vpe (Some (Ready code))
+        (λ k p o sel no'. absurd cc) (free (parked s parent.vpe) parent.vpe);
     acked = λ key accepted p of there. acked key accepted p of there;
     unlinks = λ parent key. unlinked-steady Parented steady parent key s is;
-    requests = λ key j of. requested-steady Parented steady T i from j key (cap s key) s (λ u ready' same here. parked-parented u key.vpe (Some ObtainCancelled) (λ k p o sel no'. absurd cc) here) is;
+    requests = λ key j of. requested-steady Parented steady T i from j key (cap s key) s
+        (λ u ready' same here. parked-parented u key.vpe (Some ObtainCancelled) (λ k p o sel no'. absurd cc) here) is;
     dones = λ j of. done-steady Parented steady T i j s is;
   })
     where
@@ -326,7 +363,9 @@ module _ (T : Setup) (i : ℕ) (G : KeyName → KeyName → Type 0) (R : KeyName
       free (Some (Ready number)) v = is
 
       ready : (parent key : KeyName) (object : Object) → G parent key → (p : Option Parked) → Parented (obtain_ready parent key object p s)
-      ready parent key object right (Some (ObtainWait number sel)) = parked-parented s key.vpe (Some (ObtainReady key parent object sel)) (λ k p o n same. subst (λ (q : Parked). Below q) (same_Some (ObtainReady key parent object sel) (ObtainReady k p o n) same) right) is
+      ready parent key object right (Some (ObtainWait number sel)) =
+          parked-parented s key.vpe (Some (ObtainReady key parent object sel))
+          (λ k p o n same. subst (λ (q : Parked). Below q) (same_Some (ObtainReady key parent object sel) (ObtainReady k p o n) same) right) is
         where
           Below : Parked → Type 0
           Below (ObtainReady k p o n) = G p k
@@ -348,7 +387,9 @@ module _ (T : Setup) (i : ℕ) (G : KeyName → KeyName → Type 0) (R : KeyName
       removed key = record { caps = is.caps; calls = is.calls; gives = is.gives }
 
       acked : (key : KeyName) (accepted : Bool) (p : Pending) → m ≡ Ack key accepted → pending s key ≡ Some p → Parented (acknowledged T key accepted s p)
-      acked key true p of there = cond_both (is_alive s key.vpe) _ _ Parented (λ _. installed-parented (pending_removed key s) key (Some p.parent) p.sel p.object (acks key p of there) (removed key)) (λ _. quiet-parented (pending_removed key s) (owner_of T p.parent) (Orphan p.parent key) (λ q k. refl) (removed key))
+      acked key true p of there =
+          cond_both (is_alive s key.vpe) _ _ Parented (λ _. installed-parented (pending_removed key s) key (Some p.parent) p.sel p.object (acks key p of there)
+          (removed key)) (λ _. quiet-parented (pending_removed key s) (owner_of T p.parent) (Orphan p.parent key) (λ q k. refl) (removed key))
       acked key false p of there = vpes-parented (pending_removed key s) (freed key.vpe p.sel (pending_removed key s)).vpes (removed key)
 
   pub step-parented : (s : Side) (a : Act) (input : Option Message) → (Moves a → ⊥) → Parented s
@@ -358,7 +399,8 @@ module _ (T : Setup) (i : ℕ) (G : KeyName → KeyName → Type 0) (R : KeyName
   step-parented s a input still is acks told = by a still told
     where
       by : (b : Act) → (Moves b → ⊥) → Grants (local_step T i s b input) → Parented (local_step T i s b input).side
-      by (Calls w) still told = option-keeps Q (call_row T i (call_counted w s) w) (next_call T s w) (plain s) (λ c there. call-parented w c (call_counted w s) (vpes-parented s (call_counted w s).vpes is)) (λ told'. is) told
+      by (Calls w) still told = option-keeps Q (call_row T i (call_counted w s) w) (next_call T s w) (plain s)
+          (λ c there. call-parented w c (call_counted w s) (vpes-parented s (call_counted w s).vpes is)) (λ told'. is) told
       by (Upcall w) still told = upcall-parented w s is told
       by (Resume w) still told = resume-parented w s is
       by (Kill w) still told = ended-parented w s is
@@ -370,7 +412,10 @@ module _ (T : Setup) (i : ℕ) (G : KeyName → KeyName → Type 0) (R : KeyName
           handling None none = is
           handling (Some (from, m)) full = handled-parented from m (with_inbox None s)
               (λ parent key object of.
-              let weight : of_inbox (giving parent key) i s.inbox ≡ 1 = ap (of_inbox (giving parent key) i) full ∙ (ap (giving_message parent key) of ∙ one-true (key_eq parent parent && key_eq key key) (and_from (key_eq parent parent) (key_eq key key) (key_eq-same parent) (key_eq-same key))) in
+              let weight : of_inbox (giving parent key) i s.inbox ≡ 1 = ap (of_inbox (giving parent key) i) full
+              ∙ (ap (giving_message parent key) of
+              ∙ one-true (key_eq parent parent && key_eq key key) (and_from (key_eq parent parent) (key_eq key key) (key_eq-same parent) (key_eq-same key)))
+              in
               is.gives parent key (omega (arith, weight)))
               (λ key p of there. acks from key p (full ∙ ap (λ z. Some (from, z)) of) there)
               (record { caps = is.caps; calls = is.calls; gives = λ p k some. is.gives p k (omega (arith, some)) })

@@ -1,5 +1,6 @@
 -- After every schedule a held capability has the parent that its grant tells.
-use Rattle.std.proofs.Common.{◌≡◌, ◌⊎◌, ℕ, ◌≤◌, true, List, [], ◌∷◌, ◌++◌, Option, Some, None, map, append-nil, append_assoc, refl, sym, ap, ◌∙◌, subst, inl, inr, arith}
+use Rattle.std.proofs.Common.{◌≡◌, ◌⊎◌, ℕ, ◌≤◌, true, List, [], ◌∷◌, ◌++◌, Option, Some, None, map, append-nil, append_assoc, refl, sym, ap, ◌∙◌, subst, inl}
+use Rattle.std.proofs.Common.{inr, arith}
 use Rattle.std.specs.List.{Contains, sum_by, All}
 use Rattle.std.specs.Prelude.{IsSome}
 use Rattle.std.proofs.lemmas.Bool.{cases_eq, true≢false}
@@ -61,7 +62,8 @@ module _ (T : Setup) (valid : IsSetup T) where
   no-jobs : (xs : List JobRow) → sum_by (λ (x : JobRow). 0) xs ≡ 0
   no-jobs xs = weigh-none (λ (x : JobRow). 0) xs (λ x among. refl)
 
-  module _ (J : List Entry) (runs : IsSchedule T J) (before : List Entry) (e : Entry) (later : List Entry) (parts : J ≡ before ++ e ∷ later) (I : AllParented before) where
+  module _ (J : List Entry) (runs : IsSchedule T J) (before : List Entry) (e : Entry) (later : List Entry) (parts : J ≡ before ++ e ∷ later)
+      (I : AllParented before) where
     abbrev W : World
     W = world_after T before
 
@@ -91,7 +93,8 @@ module _ (T : Setup) (valid : IsSetup T) where
     world-is = run-append T before (e ∷ []) (start T)
 
     more : (p k : KeyName) → G before p k → G now' p k
-    more p k among = subst (λ gs. Contains gs (p, k)) (sym (filter_map-append (λ (x : Entry). x.grant) before (e ∷ []))) (Contains-append_left (grants before) (grants (e ∷ [])) (p, k) among)
+    more p k among = subst (λ gs. Contains gs (p, k)) (sym (filter_map-append (λ (x : Entry). x.grant) before (e ∷ [])))
+        (Contains-append_left (grants before) (grants (e ∷ [])) (p, k) among)
 
     right-more : (o : Option KeyName) (k : KeyName) → IsRight T i (G before) R o k → IsRight T i (G now') R o k
     right-more None k is = is
@@ -126,7 +129,9 @@ module _ (T : Setup) (valid : IsSetup T) where
 
     stepped-parented : (Moves e.event.act → ⊥) → Parented T i (G now') R t
     stepped-parented still = step-parented T i (G now') R s e.event.act (input_of W i e.event.act) still side-parented
-        (λ from key p full there. more p.parent key (acked-parent key T valid before entry.0 i from i p there (in-way T valid key J runs before e later parts (λ j q pend. PendingOwed.all-pend T valid key before entry.0 j q pend) from (Ack key true) full)))
+        (λ from key p full there. more p.parent key
+        (acked-parent key T valid before entry.0 i from i p there
+        (in-way T valid key J runs before e later parts (λ j q pend. PendingOwed.all-pend T valid key before entry.0 j q pend) from (Ack key true) full)))
         (λ p k some. among-grants now' e (p, k) (Contains-append_right before (e ∷ []) e (Contains-head e [])) (entry-grant ∙ some))
 
     at-i : side V i ≡ t
@@ -175,7 +180,10 @@ module _ (T : Setup) (valid : IsSetup T) where
     where
       -- what is held at the start is a root
       first : (i : ℕ) (c : Capability) → Contains (side (start T) i).caps c → c.parent ≡ None → IsRight T i (G []) R c.parent c.key
-      first i c among none = subst (λ o. IsRight T i (G []) R o c.key) (sym none) (subst (λ ks. Contains ks c.key) (append-nil (root_keys T)) (used-made T [] (no-entries T) c.key (inl (inl (i, some (cap (side (start T) i) c.key) refl)))))
+      first i c among none =
+          subst (λ o. IsRight T i (G []) R o c.key) (sym none)
+          (subst (λ ks. Contains ks c.key) (append-nil (root_keys T))
+          (used-made T [] (no-entries T) c.key (inl (inl (i, some (cap (side (start T) i) c.key) refl)))))
         where
           some : (o : Option Capability) → cap (side (start T) i) c.key ≡ o → IsSome (cap (side (start T) i) c.key)
           some (Some d) is = subst IsSome (sym is) refl
@@ -183,25 +191,31 @@ module _ (T : Setup) (valid : IsSetup T) where
 
       start-parented : AllParented []
       start-parented = record {
-        caps = λ i c among. first i c among (All-contains IsFirst (side (start T) i).caps c (start-each T (λ (x : Side). All IsFirst x.caps) (All-nil IsFirst) (λ n. first-bare T n) i) among).parentless;
+        caps = λ i c among. first i c among
+            (All-contains IsFirst (side (start T) i).caps c (start-each T (λ (x : Side). All IsFirst x.caps) (All-nil IsFirst) (λ n. first-bare T n) i)
+            among).parentless;
         calls = λ i w k p o sel there. let none : None ≡ Some (ObtainReady k p o sel) = sym (start-unparked T i w) ∙ there in absurd cc;
         gives = λ p k some. let none = world-none T (giving p k) in absurd (omega (arith, none, some));
       }
 
       from : (before later : List Entry) → J ≡ before ++ later → AllParented before → AllParented J
       from before [] parts is = subst AllParented (sym (parts ∙ append-nil before)) is
-      from before (e ∷ later) parts is = from (before ++ e ∷ []) later (parts ∙ sym (append_assoc before (e ∷ []) later)) (next-parented J runs before e later parts is)
+      from before (e ∷ later) parts is = from (before ++ e ∷ []) later (parts
+          ∙ sym (append_assoc before (e ∷ []) later)) (next-parented J runs before e later parts is)
 
 -- no root is the child of a grant
-root-apart : (roots : List KeyName) (gs : List (KeyName × KeyName)) → IsGrown roots gs → (k : KeyName) → Contains roots k → (p : KeyName) → Contains gs (p, k) → ⊥
+root-apart : (roots : List KeyName) (gs : List (KeyName × KeyName)) → IsGrown roots gs → (k : KeyName) → Contains roots k → (p : KeyName) → Contains gs (p, k) →
+    ⊥
 root-apart roots _ no_grants k root p among = absurd (Contains-nil (p, k) among)
 root-apart roots _ (granted_next gs q c grown' above new) k root p among = elim (Contains-push_cases gs (q, c) (p, k) among) [
   | inl before ↦ root-apart roots gs grown' k root p before
-  | inr same ↦ new (Contains-append_left roots (map (λ (g : KeyName × KeyName). g.1) gs) c (subst (Contains roots) (sym (ap (λ (g : KeyName × KeyName). g.1) same)) root))
+  | inr same ↦ new (Contains-append_left roots (map (λ (g : KeyName × KeyName). g.1) gs) c
+      (subst (Contains roots) (sym (ap (λ (g : KeyName × KeyName). g.1) same)) root))
 ]
 
 -- a held capability has the parent of its grant
-pub parent-held : (T : Setup) → IsSetup T → (J : List Entry) → IsSchedule T J → (i : ℕ) (p k : KeyName) (c : Capability) → HoldsCap (world_after T J) i k c → Contains (grants J) (p, k) → c.parent ≡ Some p
+pub parent-held : (T : Setup) → IsSetup T → (J : List Entry) → IsSchedule T J → (i : ℕ) (p k : KeyName) (c : Capability) → HoldsCap (world_after T J) i k c →
+    Contains (grants J) (p, k) → c.parent ≡ Some p
 parent-held T valid J runs i p k c held granted =
     let there = found (λ (x : Capability). key_eq x.key k) (side (world_after T J) i).caps c held in
     let key : c.key ≡ k = key_eq-true c.key k there.1 in

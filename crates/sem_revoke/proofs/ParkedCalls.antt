@@ -1,5 +1,6 @@
 -- What the rows leave of a VPE: its parked call stays parked, but by its own resume and its end, and no call of it is counted.
-use Rattle.std.proofs.Common.{◌≡◌, ℕ, zero, suc, ◌+◌, Bool, true, false, List, [], ◌∷◌, length, get_or, is_some, Option, Some, None, slice_get, refl, sym, ap, ◌∙◌, inl, inr}
+use Rattle.std.proofs.Common.{◌≡◌, ℕ, zero, suc, ◌+◌, Bool, true, false, List, [], ◌∷◌, length, get_or, is_some, Option, Some, None, slice_get, refl, sym, ap}
+use Rattle.std.proofs.Common.{◌∙◌, inl, inr}
 use Rattle.std.specs.Prelude.{◌==◌}
 use Rattle.std.proofs.lemmas.Bool.{cases_eq, cond_both}
 use Rattle.sem_key.specs.declared.object.Object.{Object}
@@ -31,11 +32,14 @@ use Rattle.sem_msg.specs.VpeRows
 use Rattle.sem_msg.specs.ParkedStates.{is_ready_with}
 use Rattle.sem_msg.specs.Setup.{Setup}
 use Rattle.sem_msg.specs.Lookups.{kernel_of, is_local}
-use Rattle.sem_machine.specs.Sides.{Side, row, cap, job, parked, is_alive, ready, parked_as, unparked, asked, ask_taken, buried, with_slot, drawn, promised, installed, linked, pending_removed, job_removed, mark_all, unbind_all, job_opened}
+use Rattle.sem_machine.specs.Sides.{Side, row, cap, job, parked, is_alive, ready, parked_as, unparked, asked, ask_taken, buried, with_slot, drawn, promised}
+use Rattle.sem_machine.specs.Sides.{installed, linked, pending_removed, job_removed, mark_all, unbind_all, job_opened}
 use Rattle.sem_machine.specs.Steps.{Step, plain}
 use Rattle.sem_machine.specs.Asks.{target_vpe, promise_freed, call_refused, ask_refused}
 use Rattle.sem_machine.specs.Calls.{next_key, next_place, call_row}
-use Rattle.sem_machine.specs.Revokes.{other_marker, adopted, request_or_adopt, root_spared, all_freed, swept, woken, parent_left, up_told, left_parent, closed_here, closed, finish, settled, opened, begin, revoke_begun, clear_begun, ready_freed, request_begun, revoke_requested, revoke_done, count_lowered}
+use Rattle.sem_machine.specs.Revokes.{other_marker, adopted, request_or_adopt, root_spared, all_freed, swept, woken, parent_left, up_told, left_parent}
+use Rattle.sem_machine.specs.Revokes.{closed_here, closed, finish, settled, opened, begin, revoke_begun, clear_begun, ready_freed, request_begun}
+use Rattle.sem_machine.specs.Revokes.{revoke_requested, revoke_done, count_lowered}
 use Rattle.sem_machine.specs.Ends.{ask_ended, call_ended, revoked_if_left, keys_of, ended}
 use Rattle.sem_machine.specs.Upcalls.{given, given_kind, given_here, ask_decided, upcall_row}
 use Rattle.sem_machine.specs.Handles.{obtain_ready, acknowledged, handled}
@@ -68,7 +72,8 @@ module _ (v : ℕ) (B : Type 0) (n : ℕ) where
   steady-row t S w r same = (
     S.0,
     elim (cases_eq v w) [
-      | inl here ↦ ap (λ (x : VpeRow). x.next_call) (ap (λ m. get_or (put no_vpe t.vpes w r) m no_vpe) here ∙ get_or-put_same no_vpe t.vpes w r) ∙ (same ∙ (ap (λ m. (row t m).next_call) (sym here) ∙ S.1))
+      | inl here ↦ ap (λ (x : VpeRow). x.next_call) (ap (λ m. get_or (put no_vpe t.vpes w r) m no_vpe) here ∙ get_or-put_same no_vpe t.vpes w r)
+          ∙ (same ∙ (ap (λ m. (row t m).next_call) (sym here) ∙ S.1))
       | inr other ↦ ap (λ (x : VpeRow). x.next_call) (get_or-put_other no_vpe t.vpes w v r other) ∙ S.1
     ],
   )
@@ -91,16 +96,19 @@ module _ (v : ℕ) (B : Type 0) (n : ℕ) where
   -- A job is closed.
 
   steady-freed_rows : (cs : List Capability) (t : Side) → Steady t → Steady (record t { vpes = all_freed cs t.vpes })
-  steady-freed_rows cs t S = in_turn-keeps (λ rows. Steady (record t { vpes = rows })) (λ (c : Capability) rows. VpeRows.freed c.key.vpe c.selector rows) (λ c rows is. steady-slot (record t { vpes = rows }) is c.key.vpe c.selector Free) cs t.vpes S
+  steady-freed_rows cs t S = in_turn-keeps (λ rows. Steady (record t { vpes = rows })) (λ (c : Capability) rows. VpeRows.freed c.key.vpe c.selector rows)
+      (λ c rows is. steady-slot (record t { vpes = rows }) is c.key.vpe c.selector Free) cs t.vpes S
 
   steady-swept : (x : JobRow) (t : Side) → Steady t → Steady (swept x t)
   steady-swept x t S = steady-freed_rows (marked_by x.id (root_spared x t).caps) (root_spared x t) S
 
   steady-woken : (vs : List ℕ) (t : Side) → Steady t → Steady (woken vs t)
-  steady-woken vs t S = in_turn-keeps (λ ps. Steady (record t { parks = ps })) (λ w ps. put None ps w (Some (Ready (code_number OkCode)))) (λ w ps is. steady-park (record t { parks = ps }) is w (Ready (code_number OkCode))) vs t.parks S
+  steady-woken vs t S = in_turn-keeps (λ ps. Steady (record t { parks = ps })) (λ w ps. put None ps w (Some (Ready (code_number OkCode))))
+      (λ w ps is. steady-park (record t { parks = ps }) is w (Ready (code_number OkCode))) vs t.parks S
 
   -- the job is given by its parts
-  steady-left : (T : Setup) (i id count : ℕ) (root : KeyName) (up : Option Up) (ws : List ℕ) (keep : Bool) (o : Option KeyName) (t : Side) → Steady t → Steady (parent_left T i (record { id = id; root = root; up = up; waiters = ws; count = count; keep = keep }) o t)
+  steady-left : (T : Setup) (i id count : ℕ) (root : KeyName) (up : Option Up) (ws : List ℕ) (keep : Bool) (o : Option KeyName) (t : Side) → Steady t →
+      Steady (parent_left T i (record { id = id; root = root; up = up; waiters = ws; count = count; keep = keep }) o t)
   steady-left T i id count root up ws keep None t S = S
   steady-left T i id count root None ws keep (Some p) t S = cond_both (is_local T i p) _ _ Steady (λ _. S) (λ _. S)
   steady-left T i id count root (Some (Local j)) ws keep (Some p) t S = cond_both (is_local T i p) _ _ Steady (λ _. S) (λ _. S)
@@ -115,7 +123,8 @@ module _ (v : ℕ) (B : Type 0) (n : ℕ) where
   unfolding closed_here
   steady-closed T i x t S =
       let gone : Side = job_removed x.id t in
-      steady-told x.up (closed_here T i x gone) (steady-left T i x.id x.count x.root x.up x.waiters x.keep (left_parent gone x) (woken x.waiters (swept x gone)) (steady-woken x.waiters (swept x gone) (steady-swept x gone S)))
+      steady-told x.up (closed_here T i x gone) (steady-left T i x.id x.count x.root x.up x.waiters x.keep (left_parent gone x) (woken x.waiters (swept x gone))
+      (steady-woken x.waiters (swept x gone) (steady-swept x gone S)))
 
   steady-finish : (T : Setup) (i m : ℕ) (o : Option JobRow) (t : Side) → Steady t → Steady (finish T i m o t)
   unfolding finish
@@ -140,7 +149,8 @@ module _ (v : ℕ) (B : Type 0) (n : ℕ) where
   steady-begin T i root up ws keep t S =
       let j : ℕ = t.next_job in
       let ks : List KeyName = region t.caps root in
-      steady-settled T i j (opened T i root up ws keep t) (in_turn-keeps Steady (request_or_adopt T i j) (λ k u is. steady-asks_for T i j k u is) (children_of t.caps ks) (unbind_all ks (mark_all ks j (job_opened root up ws keep t))) S)
+      steady-settled T i j (opened T i root up ws keep t) (in_turn-keeps Steady (request_or_adopt T i j) (λ k u is. steady-asks_for T i j k u is)
+      (children_of t.caps ks) (unbind_all ks (mark_all ks j (job_opened root up ws keep t))) S)
 
   -- Refusals.
 
@@ -158,8 +168,10 @@ module _ (v : ℕ) (B : Type 0) (n : ℕ) where
       from (Some (Ready code)) = S
 
   steady-ask_refused : (T : Setup) (i : ℕ) (code : Code) (a : Ask) (t : Side) → Steady t → Steady (ask_refused T i code a t)
-  steady-ask_refused T i code (ObtainAsk place target) t S = cond_both (kernel_of T place.vpe == i) _ _ Steady (λ _. steady-refused (code_number code) place.vpe t S) (λ _. S)
-  steady-ask_refused T i code (DelegateAsk parent object sel) t S = cond_both (kernel_of T parent.vpe == i) _ _ Steady (λ _. steady-refused (code_number code) parent.vpe t S) (λ _. S)
+  steady-ask_refused T i code (ObtainAsk place target) t S =
+      cond_both (kernel_of T place.vpe == i) _ _ Steady (λ _. steady-refused (code_number code) place.vpe t S) (λ _. S)
+  steady-ask_refused T i code (DelegateAsk parent object sel) t S =
+      cond_both (kernel_of T parent.vpe == i) _ _ Steady (λ _. steady-refused (code_number code) parent.vpe t S) (λ _. S)
 
   -- The end of a VPE.
 
@@ -168,9 +180,12 @@ module _ (v : ℕ) (B : Type 0) (n : ℕ) where
   steady-ended T i u t none S =
       let buried' : Steady (buried u t) = steady-row t S u (record (row t u) { alive = false; asks = [] }) refl in
       let answered : Side = in_turn (ask_ended T i) (row t u).asks (buried u t) in
-      let told : Steady answered = in_turn-keeps Steady (ask_ended T i) (λ a s is. cond_both _ s (ask_refused T i Dead a s) Steady (λ _. is) (λ _. steady-ask_refused T i Dead a s is)) (row t u).asks (buried u t) buried' in
+      let told : Steady answered =
+      in_turn-keeps Steady (ask_ended T i) (λ a s is. cond_both _ s (ask_refused T i Dead a s) Steady (λ _. is) (λ _. steady-ask_refused T i Dead a s is))
+      (row t u).asks (buried u t) buried' in
       let last : Side = call_ended T (parked answered u) u (unparked u answered) in
-      in_turn-keeps Steady (revoked_if_left T i) (λ k s is. left k s is) (keys_of last u) last (owes (parked answered u) (unparked u answered) (steady-unparked answered told u none))
+      in_turn-keeps Steady (revoked_if_left T i) (λ k s is. left k s is) (keys_of last u) last
+      (owes (parked answered u) (unparked u answered) (steady-unparked answered told u none))
     where
       owes : (p : Option Parked) (s : Side) → Steady s → Steady (call_ended T p u s)
       owes None s is = is
@@ -191,7 +206,8 @@ module _ (v : ℕ) (B : Type 0) (n : ℕ) where
 
   -- A revoke, a clear, and what comes from other kernels.
 
-  pub steady-revoked : (T : Setup) (i u : ℕ) (k : KeyName) (m : Option ℕ) (t : Side) → Steady (parked_as u (RevokeWait t.next_job) t) × ((j : ℕ) → Steady (parked_as u (RevokeWait j) t)) → Steady (revoke_begun T i u k m t)
+  pub steady-revoked : (T : Setup) (i u : ℕ) (k : KeyName) (m : Option ℕ) (t : Side) → Steady (parked_as u (RevokeWait t.next_job) t)
+      × ((j : ℕ) → Steady (parked_as u (RevokeWait j) t)) → Steady (revoke_begun T i u k m t)
   steady-revoked T i u k None t S = steady-begin T i k None (u ∷ []) false (parked_as u (RevokeWait t.next_job) t) S.0
   steady-revoked T i u k (Some j) t S = S.1 j
 
@@ -199,7 +215,9 @@ module _ (v : ℕ) (B : Type 0) (n : ℕ) where
   steady-cleared T i u k t S = steady-begin T i k None (u ∷ []) true (parked_as u (RevokeWait t.next_job) t) S
 
   steady-requested : (T : Setup) (i from j : ℕ) (k : KeyName) (o : Option Capability) (t : Side) → Steady t → Steady (revoke_requested T i from j k o t)
-  steady-requested T i from j k None t S = cond_both (is_ready_with k (parked t k.vpe)) _ t Steady (λ is. steady-park (ready_freed (parked t k.vpe) k.vpe t) (free (parked t k.vpe)) k.vpe ObtainCancelled) (λ _. S)
+  steady-requested T i from j k None t S =
+      cond_both (is_ready_with k (parked t k.vpe)) _ t Steady
+      (λ is. steady-park (ready_freed (parked t k.vpe) k.vpe t) (free (parked t k.vpe)) k.vpe ObtainCancelled) (λ _. S)
     where
       free : (p : Option Parked) → Steady (ready_freed p k.vpe t)
       free None = S
@@ -232,12 +250,15 @@ module _ (v : ℕ) (B : Type 0) (n : ℕ) where
   pub steady-call : (T : Setup) (i u : ℕ) (c : Call) (s : Side) → (u ≡ v → ⊥) → Steady s → Steady (call_row T i s u c).side
   steady-call T i u c s other S = call_row-by (λ (x : Step). Steady x.side) T i u s (record {
     answered = λ code. S;
-    child = λ src dst object p held. steady-installed (linked p.key (next_key T s u (object_kind object)) (drawn u s)) (steady-drawn s S u) (next_key T s u (object_kind object)) (Some p.key) dst object;
+    child = λ src dst object p held. steady-installed (linked p.key (next_key T s u (object_kind object)) (drawn u s)) (steady-drawn s S u)
+        (next_key T s u (object_kind object)) (Some p.key) dst object;
     ask = λ dst target.
         let promising : Side = promised u dst (drawn u s) in
         let waiting : Side = parked_as u (ObtainWait (next_place T s u).number dst) promising in
-        let waits : Steady waiting = steady-park promising (steady-slot (drawn u s) (steady-drawn s S u) u dst Promised) u (ObtainWait (next_place T s u).number dst) in
-        cond_both (kernel_of T (target_vpe target) == i) _ _ Steady (λ _. steady-asked waiting waits (target_vpe target) (ObtainAsk (next_place T s u) target)) (λ _. waits);
+        let waits : Steady waiting = steady-park promising (steady-slot (drawn u s) (steady-drawn s S u) u dst Promised) u
+        (ObtainWait (next_place T s u).number dst) in
+        cond_both (kernel_of T (target_vpe target) == i) _ _ Steady (λ _. steady-asked waiting waits (target_vpe target) (ObtainAsk (next_place T s u) target))
+        (λ _. waits);
     offer = λ src w dst p held.
         let waiting : Side = parked_as u (DelegateWait p.key) s in
         let waits : Steady waiting = steady-park s S u (DelegateWait p.key) in
@@ -250,7 +271,8 @@ module _ (v : ℕ) (B : Type 0) (n : ℕ) where
   }) c
 
   steady-given : (k p : KeyName) (object : Object) (state : Option Parked) (s : Side) → Steady s → Steady (given_here k p object state s)
-  steady-given k p object (Some (ObtainWait number sel)) s S = steady-ready (installed k (Some p) sel object s) (steady-installed s S k (Some p) sel object) (code_number OkCode) k.vpe
+  steady-given k p object (Some (ObtainWait number sel)) s S = steady-ready (installed k (Some p) sel object s) (steady-installed s S k (Some p) sel object)
+      (code_number OkCode) k.vpe
   steady-given k p object None s S = S
   steady-given k p object (Some (ObtainReady key parent object' sel)) s S = S
   steady-given k p object (Some ObtainCancelled) s S = S
@@ -270,13 +292,15 @@ module _ (v : ℕ) (B : Type 0) (n : ℕ) where
     here = λ parent object sel of.
         let k : KeyName = next_key T s u parent.kind in
         let linking : Side = linked parent k (drawn u s) in
-        steady-ready (installed k (Some parent) sel object linking) (steady-installed linking (steady-drawn s S u) k (Some parent) sel object) (code_number OkCode) parent.vpe;
+        steady-ready (installed k (Some parent) sel object linking) (steady-installed linking (steady-drawn s S u) k (Some parent) sel object)
+        (code_number OkCode) parent.vpe;
     prepared = λ parent object sel of. steady-slot (drawn u s) (steady-drawn s S u) u sel Promised;
   })
 
   pub steady-upcall : (T : Setup) (i u : ℕ) (s : Side) → Steady s → Steady (upcall_row T i s u).side
   unfolding upcall_row
-  steady-upcall T i u s S = option-keeps (λ (x : Step). Steady x.side) (λ (a : Ask). ask_decided T i u a (ask_taken u s)) (slice_get (row s u).asks 0) (plain s) (λ a there. steady-decided T i u a (ask_taken u s) (steady-taken s S u)) S
+  steady-upcall T i u s S = option-keeps (λ (x : Step). Steady x.side) (λ (a : Ask). ask_decided T i u a (ask_taken u s)) (slice_get (row s u).asks 0) (plain s)
+      (λ a there. steady-decided T i u a (ask_taken u s) (steady-taken s S u)) S
 
   -- a parked call that goes on
   pub steady-resume : (T : Setup) (u : ℕ) (s : Side) → (u ≡ v → B → ⊥) → Steady s → Steady (resume_row T s u).side
@@ -319,7 +343,8 @@ module _ (v : ℕ) (B : Type 0) (n : ℕ) where
   steady-obtain_ready parent key object (Some (Ready code)) s S = S
 
   steady-acked : (T : Setup) (key : KeyName) (accepted : Bool) (s : Side) (p : Pending) → Steady s → Steady (acknowledged T key accepted s p)
-  steady-acked T key true s p S = cond_both (is_alive s key.vpe) _ _ Steady (λ _. steady-installed (pending_removed key s) S key (Some p.parent) p.sel p.object) (λ _. S)
+  steady-acked T key true s p S = cond_both (is_alive s key.vpe) _ _ Steady (λ _. steady-installed (pending_removed key s) S key (Some p.parent) p.sel p.object)
+      (λ _. S)
   steady-acked T key false s p S = steady-slot (pending_removed key s) S key.vpe p.sel Free
 
   pub steady-handled : (T : Setup) (i : ℕ) (s : Side) (from : ℕ) (m : Message) → Steady s → Steady (handled T i s from m)

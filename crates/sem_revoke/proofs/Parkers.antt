@@ -1,5 +1,6 @@
 -- After every schedule a parked call is one of a living VPE.
-use Rattle.std.proofs.Common.{◌≡◌, ◌⊎◌, ℕ, ◌≤◌, ◌<◌, true, List, [], ◌∷◌, ◌++◌, Option, Some, None, slice_get, append-nil, append_assoc, refl, sym, ap, ◌∙◌, subst, inl, inr, arith}
+use Rattle.std.proofs.Common.{◌≡◌, ◌⊎◌, ℕ, ◌≤◌, ◌<◌, true, List, [], ◌∷◌, ◌++◌, Option, Some, None, slice_get, append-nil, append_assoc, refl, sym, ap, ◌∙◌}
+use Rattle.std.proofs.Common.{subst, inl, inr, arith}
 use Rattle.std.specs.List.{Contains}
 use Rattle.std.specs.Option.{option_map_or}
 use Rattle.std.proofs.lemmas.Bool.{cases_eq}
@@ -57,7 +58,8 @@ abbrev pub EndsBy : Setup → Side → Act → ℕ → Type 0
 EndsBy T s a v = (a ≡ Kill v) ⊎ ((a ≡ Calls v) × (next_call T s v ≡ Some Exit))
 
 -- a VPE that lives goes on to do so, unless it ends by the act
-pub lives-on : (T : Setup) (i : ℕ) (s : Side) (a : Act) (input : Option Message) (v : ℕ) → (row s v).alive ≡ true → ((row (local_step T i s a input).side v).alive ≡ true) ⊎ EndsBy T s a v
+pub lives-on : (T : Setup) (i : ℕ) (s : Side) (a : Act) (input : Option Message) (v : ℕ) → (row s v).alive ≡ true →
+    ((row (local_step T i s a input).side v).alive ≡ true) ⊎ EndsBy T s a v
 lives-on T i s a input v alive = step-lives v (EndsBy T s a v) T i s a input (who a) (inl alive)
   where
     who : (b : Act) → ActEnds v (EndsBy T s b v) T s b
@@ -74,22 +76,26 @@ module _ (T : Setup) (valid : IsSetup T) (i : ℕ) (low : i < T.kernels) (s : Si
   abbrev Fewer : ℕ → Side → Type 0
   Fewer v t = one_if (parked t v) ≤ one_if (parked s v)
 
-  called : (w v : ℕ) → (v ≡ w → ⊥) → kernel_of T w ≡ i → parked s w ≡ None → (o : Option Call) → next_call T s w ≡ o → Fewer v (option_map_or (call_row T i (call_counted w s) w) o (plain s)).side
+  called : (w v : ℕ) → (v ≡ w → ⊥) → kernel_of T w ≡ i → parked s w ≡ None → (o : Option Call) → next_call T s w ≡ o →
+      Fewer v (option_map_or (call_row T i (call_counted w s) w) o (plain s)).side
   called w v other local idle None at = omega arith
   called w v other local idle (Some c) at =
       let t : Side = call_counted w s in
       let counted = counted-sound T valid i low None None None None s sound w local (slice_get_within (calls_of T w) (row s w).next_call c at) in
-      (call_row-sound T valid i low t counted w local idle (counted-pays T valid i low None None None None s sound w local) c (call-valid T valid i low w (row s w).next_call c at)).1.0.0 v other
+      (call_row-sound T valid i low t counted w local idle (counted-pays T valid i low None None None None s sound w local) c
+      (call-valid T valid i low w (row s w).next_call c at)).1.0.0 v other
 
   -- who exits has no call parked
-  exited : (w : ℕ) → kernel_of T w ≡ i → parked s w ≡ None → (o : Option Call) → next_call T s w ≡ o → o ≡ Some Exit → one_if (parked (option_map_or (call_row T i (call_counted w s) w) o (plain s)).side w) ≡ 0
+  exited : (w : ℕ) → kernel_of T w ≡ i → parked s w ≡ None → (o : Option Call) → next_call T s w ≡ o → o ≡ Some Exit →
+      one_if (parked (option_map_or (call_row T i (call_counted w s) w) o (plain s)).side w) ≡ 0
   unfolding call_row
   exited w local idle None at exits = absurd cc
   exited w local idle (Some c) at exits =
       let t : Side = call_counted w s in
       let is : c ≡ Exit = same_Some c Exit exits in
       let counted = counted-sound T valid i low None None None None s sound w local (slice_get_within (calls_of T w) (row s w).next_call c at) in
-      let few = (call_row-sound T valid i low t counted w local idle (counted-pays T valid i low None None None None s sound w local) c (call-valid T valid i low w (row s w).next_call c at)).1.1 in
+      let few = (call_row-sound T valid i low t counted w local idle (counted-pays T valid i low None None None None s sound w local) c
+      (call-valid T valid i low w (row s w).next_call c at)).1.1 in
       let one : one_if (call_row T i t w c).outcome.reply ≡ 1 = ap (λ d. one_if (call_row T i t w d).outcome.reply) is in
       omega (arith, few, one)
 
@@ -99,11 +105,15 @@ module _ (T : Setup) (valid : IsSetup T) (i : ℕ) (low : i < T.kernels) (s : Si
     where
       from : (o : Option Ask) → slice_get (row s w).asks 0 ≡ o → Fewer v (option_map_or (λ a. ask_decided T i w a (ask_taken w s)) o (plain s)).side
       from None at = omega arith
-      from (Some a) at = (decided-sound T valid i low (ask_taken w s) (taken-sound T valid i low None None None None s sound w local) w local a ((sound.rows w).asks a (first-among (row s w).asks a at))).1.0.0 v
+      from (Some a) at =
+          (decided-sound T valid i low (ask_taken w s) (taken-sound T valid i low None None None None s sound w local) w local a
+          ((sound.rows w).asks a (first-among (row s w).asks a at))).1.0.0 v
 
   handles : (v : ℕ) (o : Option (ℕ × Message)) → s.inbox ≡ o → Fewer v (option_map_or (λ m. handled T i (with_inbox None s) m.0 m.1) o s)
   handles v None at = omega arith
-  handles v (Some (k, m)) at = (handled-sound T valid i low (with_inbox None s) (inbox-sound T valid i low None None None None s sound None (λ q x none. absurd cc)) k m (sound.inbox k m at)).1.0 v
+  handles v (Some (k, m)) at =
+      (handled-sound T valid i low (with_inbox None s) (inbox-sound T valid i low None None None None s sound None (λ q x none. absurd cc)) k m
+      (sound.inbox k m at)).1.0 v
 
   resumes : (w v : ℕ) → is_locally_enabled T i s (Resume w) ≡ true → Fewer v (resume_row T s w).side
   unfolding resume_row
@@ -117,16 +127,20 @@ module _ (T : Setup) (valid : IsSetup T) (i : ℕ) (low : i < T.kernels) (s : Si
 
   step-fewer : (v : ℕ) (a : Act) (input : Option Message) → is_locally_enabled T i s a ≡ true → (a ≡ Calls v → ⊥) → Fewer v (local_step T i s a input).side
   unfolding local_step
-  step-fewer v (Calls w) input enabled apart = let may = enabled-call T i s w enabled in called w v (λ same. apart (ap Calls (sym same))) may.0 may.2 (next_call T s w) refl
+  step-fewer v (Calls w) input enabled apart = let may = enabled-call T i s w enabled in
+      called w v (λ same. apart (ap Calls (sym same))) may.0 may.2 (next_call T s w) refl
   step-fewer v (Fetch j) input enabled apart = omega arith
   step-fewer v Handle input enabled apart = handles v s.inbox refl
   step-fewer v (Upcall w) input enabled apart = upcalled w v (vpe-local T i s (Upcall w) enabled w (inr (inl refl)))
   step-fewer v (Resume w) input enabled apart = resumes w v enabled
   step-fewer v (Flush j) input enabled apart = omega arith
-  step-fewer v (Kill w) input enabled apart = (chained s (unparked w s) (ended T i w s) (unparked-no_more s w) (ended-sound T valid i low s sound w (vpe-local T i s (Kill w) enabled w (inr (inr (inr refl))))).1).0 v
+  step-fewer v (Kill w) input enabled apart =
+      (chained s (unparked w s) (ended T i w s) (unparked-no_more s w)
+      (ended-sound T valid i low s sound w (vpe-local T i s (Kill w) enabled w (inr (inr (inr refl))))).1).0 v
 
   -- who ends has no call parked
-  step-ends : (v : ℕ) (a : Act) (input : Option Message) → is_locally_enabled T i s a ≡ true → EndsBy T s a v → one_if (parked (local_step T i s a input).side v) ≡ 0
+  step-ends : (v : ℕ) (a : Act) (input : Option Message) → is_locally_enabled T i s a ≡ true → EndsBy T s a v →
+      one_if (parked (local_step T i s a input).side v) ≡ 0
   unfolding local_step
   step-ends v a input enabled (inl kills) =
       let local = vpe-local T i s a enabled v (inr (inr (inr kills))) in
@@ -139,7 +153,8 @@ module _ (T : Setup) (valid : IsSetup T) (i : ℕ) (low : i < T.kernels) (s : Si
       ap (λ b. one_if (parked (local_step T i s b input).side v)) asks ∙ exited v may.0 may.2 (next_call T s v) refl exits
 
   -- a parked call is one of a living VPE, if it was so before
-  step-parks : ((v : ℕ) (p : Parked) → parked s v ≡ Some p → (row s v).alive ≡ true) → (a : Act) (input : Option Message) → is_locally_enabled T i s a ≡ true → (v : ℕ) (p : Parked) → parked (local_step T i s a input).side v ≡ Some p → (row (local_step T i s a input).side v).alive ≡ true
+  step-parks : ((v : ℕ) (p : Parked) → parked s v ≡ Some p → (row s v).alive ≡ true) → (a : Act) (input : Option Message) → is_locally_enabled T i s a ≡ true →
+      (v : ℕ) (p : Parked) → parked (local_step T i s a input).side v ≡ Some p → (row (local_step T i s a input).side v).alive ≡ true
   unfolding caller
   step-parks is a input enabled v p at = elim (lives-on T i s a input v (was a refl)) [
     | inl lives ↦ lives
@@ -147,7 +162,8 @@ module _ (T : Setup) (valid : IsSetup T) (i : ℕ) (low : i < T.kernels) (s : Si
   ]
     where
       before : (o : Option Parked) → parked s v ≡ o → one_if (parked (local_step T i s a input).side v) ≤ one_if (parked s v) → (row s v).alive ≡ true
-      before None none fewer = let one = ap (λ (o : Option Parked). one_if o) at in let zero' = ap (λ (o : Option Parked). one_if o) none in absurd (omega (arith, one, zero', fewer))
+      before None none fewer = let one = ap (λ (o : Option Parked). one_if o) at in let zero' = ap (λ (o : Option Parked). one_if o) none in
+          absurd (omega (arith, one, zero', fewer))
       before (Some q) some fewer = is v q some
 
       was : (b : Act) → a ≡ b → (row s v).alive ≡ true
@@ -166,7 +182,8 @@ module _ (T : Setup) (valid : IsSetup T) where
   abbrev ParkersLive : World → Type 0
   ParkersLive W = (i v : ℕ) (p : Parked) → parked (side W i) v ≡ Some p → (row (side W i) v).alive ≡ true
 
-  next-parks : (before : List Entry) (e : Entry) → IsSchedule T before → is_enabled T (world_after T before) e.event ≡ true → ParkersLive (world_after T before) → ParkersLive (world_after T (before ++ e ∷ []))
+  next-parks : (before : List Entry) (e : Entry) → IsSchedule T before → is_enabled T (world_after T before) e.event ≡ true →
+      ParkersLive (world_after T before) → ParkersLive (world_after T (before ++ e ∷ []))
   next-parks before e runs enabled is j v p at =
       let W : World = world_after T before in
       let i : ℕ = e.event.kernel in
@@ -176,12 +193,16 @@ module _ (T : Setup) (valid : IsSetup T) where
             let same : side (world_after T (before ++ e ∷ [])) j ≡ side W j = ap (λ (X : World). side X j) onward ∙ side-elsewhere T W i e.event.act j away in
             ap (λ (t : Side). (row t v).alive) same ∙ is j v p (sym (ap (λ (t : Side). parked t v) same) ∙ at)
         | inl here ↦
-            let same : side (world_after T (before ++ e ∷ [])) j ≡ (stepped T W e.event).side = ap (λ (X : World). side X j) onward ∙ (ap (side (after T W e.event)) here ∙ side-after T W e.event) in
+            let same : side (world_after T (before ++ e ∷ [])) j ≡ (stepped T W e.event).side = ap (λ (X : World). side X j) onward
+            ∙ (ap (side (after T W e.event)) here ∙ side-after T W e.event) in
             let low = enabled-low T W e.event enabled in
-            ap (λ (t : Side). (row t v).alive) same ∙ step-parks T valid i low (side W i) ((schedule-sound T valid before runs).sides i low) (is i) e.event.act (input_of W i e.event.act) (enabled-parts T W i e.event.act enabled).0 v p (sym (ap (λ (t : Side). parked t v) same) ∙ at)
+            ap (λ (t : Side). (row t v).alive) same
+            ∙ step-parks T valid i low (side W i) ((schedule-sound T valid before runs).sides i low) (is i) e.event.act (input_of W i e.event.act)
+            (enabled-parts T W i e.event.act enabled).0 v p (sym (ap (λ (t : Side). parked t v) same) ∙ at)
       ]
 
-  pub parkers-live : (J : List Entry) → IsSchedule T J → (i v : ℕ) (p : Parked) → parked (side (world_after T J) i) v ≡ Some p → (row (side (world_after T J) i) v).alive ≡ true
+  pub parkers-live : (J : List Entry) → IsSchedule T J → (i v : ℕ) (p : Parked) → parked (side (world_after T J) i) v ≡ Some p →
+      (row (side (world_after T J) i) v).alive ≡ true
   parkers-live J runs = from [] J refl (λ i v p at. let no' : None ≡ Some p = sym (start-unparked T i v) ∙ at in absurd cc)
     where
       from : (before later : List Entry) → J ≡ before ++ later → ParkersLive (world_after T before) → ParkersLive (world_after T J)

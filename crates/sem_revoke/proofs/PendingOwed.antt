@@ -1,5 +1,6 @@
 -- Along the journal a pending delegation goes from its DelegatePrepared to the call that is ready to grant it, and on to its Ack.
-use Rattle.std.proofs.Common.{◌≡◌, ◌⊎◌, ℕ, ◌<◌, Bool, true, false, not, ◌&&◌, ◌||◌, List, [], ◌∷◌, ◌++◌, find, Option, Some, None, is_none, append-nil, append_assoc, refl, sym, ap, ◌∙◌, subst, inl, inr, arith, eq-eqb}
+use Rattle.std.proofs.Common.{◌≡◌, ◌⊎◌, ℕ, ◌<◌, Bool, true, false, not, ◌&&◌, ◌||◌, List, [], ◌∷◌, ◌++◌, find, Option, Some, None, is_none, append-nil}
+use Rattle.std.proofs.Common.{append_assoc, refl, sym, ap, ◌∙◌, subst, inl, inr, arith, eq-eqb}
 use Rattle.std.specs.Prelude.{◌==◌}
 use Rattle.std.specs.List.{Contains}
 use Rattle.std.specs.Option.{option_map_or}
@@ -24,7 +25,8 @@ use Rattle.sem_machine.specs.Asks.{asker, is_delegate_wait}
 use Rattle.sem_machine.specs.Handles.{is_key_declared, is_here, lives_without, is_stray, acknowledged, handle_row, handled}
 use Rattle.sem_machine.specs.Resumes.{can_resume, resume_row}
 use Rattle.sem_machine.specs.Ends.{ended}
-use Rattle.sem_machine.specs.Machine.{World, side, link, start, start_side, empty_side, root_added, vpe_added, vpe_fresh, local_entry, entry_of, input_of, local_step}
+use Rattle.sem_machine.specs.Machine.{World, side, link, start, start_side, empty_side, root_added, vpe_added, vpe_fresh, local_entry, entry_of, input_of}
+use Rattle.sem_machine.specs.Machine.{local_step}
 use Rattle.sem_machine.specs.Schedules.{IsSchedule, world_after}
 use Rattle.sem_machine.specs.Living.{way, fetched_from}
 use Rattle.sem_machine.proofs.Folds.{in_turn-keeps}
@@ -56,10 +58,12 @@ use Rattle.sem_machine.specs.Journals.{grants}
 -- At the start nothing is pending.
 side-bare : (T : Setup) (i : ℕ) → (start_side T i).pendings ≡ []
 unfolding start_side
-side-bare T i = in_turn-keeps (λ (t : Side). t.pendings ≡ []) vpe_added (λ d t here. in_turn-keeps (λ (u : Side). u.pendings ≡ []) (root_added d) (λ r u same. same) d.roots (vpe_fresh d t) here) (own_vpes T i) (empty_side T) refl
+side-bare T i = in_turn-keeps (λ (t : Side). t.pendings ≡ []) vpe_added (λ d t here. in_turn-keeps (λ (u : Side). u.pendings ≡ []) (root_added d)
+    (λ r u same. same) d.roots (vpe_fresh d t) here) (own_vpes T i) (empty_side T) refl
 
 -- a kernel at which a delegation is pending is one of the setup
-pending-low : (T : Setup) (J : List Entry) → IsSchedule T J → (k : KeyName) (i : ℕ) (p : Pending) → pending (side (world_after T J) i) k ≡ Some p → i < T.kernels
+pending-low : (T : Setup) (J : List Entry) → IsSchedule T J → (k : KeyName) (i : ℕ) (p : Pending) → pending (side (world_after T J) i) k ≡ Some p →
+    i < T.kernels
 pending-low T J runs k i p at' = elim (cases_lt i T.kernels) [
   | inl low ↦ low
   | inr high ↦ let none : None ≡ Some p = sym (ap (λ (s : Side). pending s k) (schedule-past T J runs i high)) ∙ at' in absurd cc
@@ -80,7 +84,8 @@ module _ (T : Setup) (valid : IsSetup T) (k0 : KeyName) where
   abbrev pub Pends : List Entry → Type 0
   Pends K = (i : ℕ) (p : Pending) → pending (side (world_after T K) i) k0 ≡ Some p → Token K p.parent
 
-  module _ (J : List Entry) (runs : IsSchedule T J) (before : List Entry) (e : Entry) (later : List Entry) (parts : J ≡ before ++ e ∷ later) (pends : Pends before) where
+  module _ (J : List Entry) (runs : IsSchedule T J) (before : List Entry) (e : Entry) (later : List Entry) (parts : J ≡ before ++ e ∷ later)
+      (pends : Pends before) where
     abbrev W : World
     W = world_after T before
 
@@ -92,7 +97,8 @@ module _ (T : Setup) (valid : IsSetup T) (k0 : KeyName) where
 
     -- grants stay
     grants-more : (r : KeyName) → Contains (grants before) (r, k0) → Contains (grants now') (r, k0)
-    grants-more r among = subst (λ gs. Contains gs (r, k0)) (sym (filter_map-append (λ (x : Entry). x.grant) before (e ∷ []))) (Contains-append_left (grants before) (grants (e ∷ [])) (r, k0) among)
+    grants-more r among = subst (λ gs. Contains gs (r, k0)) (sym (filter_map-append (λ (x : Entry). x.grant) before (e ∷ [])))
+        (Contains-append_left (grants before) (grants (e ∷ [])) (r, k0) among)
 
     grants-new : (r : KeyName) → ◌≡◌ {A = Option (KeyName × KeyName)} e.grant (Some (r, k0)) → Contains (grants now') (r, k0)
     grants-new r some = among-grants now' e (r, k0) (Contains-append_right before (e ∷ []) e (Contains-head e [])) some
@@ -125,7 +131,8 @@ module _ (T : Setup) (valid : IsSetup T) (k0 : KeyName) where
 
     -- what waits to be sent is on its way
     sent-flight : (j : ℕ) (m : Message) → Contains (outbox t j) m → Contains (way V i j) m
-    sent-flight j m among = Contains-append_right (fetched_from i (side V j).inbox ++ link V i j) (outbox (side V i) j) m (subst (λ (u : Side). Contains (outbox u j) m) (sym (at-i i refl)) among)
+    sent-flight j m among = Contains-append_right (fetched_from i (side V j).inbox ++ link V i j) (outbox (side V i) j) m
+        (subst (λ (u : Side). Contains (outbox u j) m) (sym (at-i i refl)) among)
 
     pub in-way : (a : ℕ) (m : Message) → s.inbox ≡ Some (a, m) → Contains (way W a i) m
     in-way a m full =
@@ -135,10 +142,12 @@ module _ (T : Setup) (valid : IsSetup T) (k0 : KeyName) where
 
     handling : (a : ℕ) (m : Message) → e.event.act ≡ Handle → s.inbox ≡ Some (a, m) → t ≡ handled T i (with_inbox None s) a m
     unfolding local_step
-    handling a m act full = ap (λ n. (local_step T i s n (input_of W i n)).side) act ∙ ap (λ o. option_map_or (λ y. handled T i (with_inbox None s) y.0 y.1) o s) full
+    handling a m act full = ap (λ n. (local_step T i s n (input_of W i n)).side) act
+        ∙ ap (λ o. option_map_or (λ y. handled T i (with_inbox None s) y.0 y.1) o s) full
 
     -- a living VPE for which a DelegatePrepared comes waits for it
-    awaited : (a : ℕ) (q : KeyName) → s.inbox ≡ Some (a, DelegatePrepared q k0) → kernel_of T q.vpe ≡ i → is_alive s q.vpe ≡ true → is_delegate_wait q (parked s q.vpe) ≡ true
+    awaited : (a : ℕ) (q : KeyName) → s.inbox ≡ Some (a, DelegatePrepared q k0) → kernel_of T q.vpe ≡ i → is_alive s q.vpe ≡ true →
+        is_delegate_wait q (parked s q.vpe) ≡ true
     awaited a q full home alive =
         let m : Message = DelegatePrepared q k0 in
         let v : ℕ = q.vpe in
@@ -168,7 +177,8 @@ module _ (T : Setup) (valid : IsSetup T) (k0 : KeyName) where
           | inr differ ↦
               let call = ((schedule-sound T valid before begun).sides i low).calls v (DelegateWait r) at' in
               let who : r.vpe ≡ v = call.1.0 in
-              let there : parked (side W (kernel_of T r.vpe)) r.vpe ≡ Some (DelegateWait r) = ap (λ n. parked (side W (kernel_of T n)) n) who ∙ (ap (λ j. parked (side W j) v) home ∙ at') in
+              let there : parked (side W (kernel_of T r.vpe)) r.vpe ≡ Some (DelegateWait r) = ap (λ n. parked (side W (kernel_of T n)) n) who
+              ∙ (ap (λ j. parked (side W j) v) home ∙ at') in
               let has = (all-owed T valid (Delegating r) before begun (ap (is_waiting (Delegating r)) there ∙ key_eq-same r)).1 in
               let one : here r.vpe q.vpe ≡ 1 = ap (here r.vpe) (sym who) ∙ here-one r.vpe in
               absurd (no-token (Delegating r) T valid before begun i a m full (cond-false (key_eq q r) 1 0 differ) (omega (arith, one)) has)
@@ -189,33 +199,53 @@ module _ (T : Setup) (valid : IsSetup T) (k0 : KeyName) where
         let m : Message = DelegatePrepared q k0 in
         let u : Side = with_inbox None s in
         let right = inbox-right T valid before begun i a m full in
-        let home : kernel_of T q.vpe ≡ i = eqb-true (kernel_of T q.vpe) i (third4 (not (is_key_declared T q)) (not (is_key_declared T k0)) (is_here T i q.vpe) (is_here T i k0.vpe) right) in
-        let stray-is = skip4 (not (is_key_declared T q)) (not (is_key_declared T k0)) (not (is_here T i q.vpe)) (is_here T i k0.vpe) (lives_without (is_delegate_wait q) u q.vpe) right in
+        let home : kernel_of T q.vpe ≡ i =
+        eqb-true (kernel_of T q.vpe) i (third4 (not (is_key_declared T q)) (not (is_key_declared T k0)) (is_here T i q.vpe) (is_here T i k0.vpe) right) in
+        let stray-is = skip4 (not (is_key_declared T q)) (not (is_key_declared T k0)) (not (is_here T i q.vpe)) (is_here T i k0.vpe)
+        (lives_without (is_delegate_wait q) u q.vpe) right in
         let now = handling a m act full in
         elim (cases_Bool (is_alive s q.vpe)) [
           | inr dead ↦
               let stray : is_stray T i u m ≡ false = stray-is ∙ ap (λ b. b && not (is_delegate_wait q (parked s q.vpe))) dead in
-              let is : t ≡ send (owner_of T k0) (Ack k0 false) u = now ∙ (cond-false (is_stray T i u m) u (handle_row T i u a m) stray ∙ cond-false (is_alive u q.vpe) (parked_as q.vpe (DelegateReady q k0) u) (send (owner_of T k0) (Ack k0 false) u) dead) in
-              inr (inl (i, owner_of T k0, false, sent-flight (owner_of T k0) (Ack k0 false) (subst (λ (x : Side). Contains (outbox x (owner_of T k0)) (Ack k0 false)) (sym is) (outbox-sent u (owner_of T k0) (Ack k0 false))), λ no'. absurd cc))
+              let is : t ≡ send (owner_of T k0) (Ack k0 false) u = now
+              ∙ (cond-false (is_stray T i u m) u (handle_row T i u a m) stray
+              ∙ cond-false (is_alive u q.vpe) (parked_as q.vpe (DelegateReady q k0) u) (send (owner_of T k0) (Ack k0 false) u) dead) in
+              inr (inl (
+                i,
+                owner_of T k0,
+                false,
+                sent-flight (owner_of T k0) (Ack k0 false) (subst (λ (x : Side). Contains (outbox x (owner_of T k0)) (Ack k0 false)) (sym is)
+                    (outbox-sent u (owner_of T k0) (Ack k0 false))),
+                λ no'. absurd cc,
+              ))
           | inl alive ↦
               let waits' = awaited a q full home alive in
               let stray : is_stray T i u m ≡ false = stray-is ∙ (ap (λ b. b && not (is_delegate_wait q (parked s q.vpe))) alive ∙ ap not waits') in
-              let is : t ≡ parked_as q.vpe (DelegateReady q k0) u = now ∙ (cond-false (is_stray T i u m) u (handle_row T i u a m) stray ∙ cond-true (is_alive u q.vpe) (parked_as q.vpe (DelegateReady q k0) u) (send (owner_of T k0) (Ack k0 false) u) alive) in
-              inr (inr (i, q.vpe, ap (λ (x : Side). parked x q.vpe) (at-i i refl ∙ is) ∙ parked-here u q.vpe (Some (DelegateReady q k0)), ap (λ (x : Side). is_alive x q.vpe) (at-i i refl ∙ is) ∙ alive))
+              let is : t ≡ parked_as q.vpe (DelegateReady q k0) u = now
+              ∙ (cond-false (is_stray T i u m) u (handle_row T i u a m) stray
+              ∙ cond-true (is_alive u q.vpe) (parked_as q.vpe (DelegateReady q k0) u) (send (owner_of T k0) (Ack k0 false) u) alive) in
+              inr (inr (
+                i,
+                q.vpe,
+                ap (λ (x : Side). parked x q.vpe) (at-i i refl ∙ is) ∙ parked-here u q.vpe (Some (DelegateReady q k0)),
+                ap (λ (x : Side). is_alive x q.vpe) (at-i i refl ∙ is) ∙ alive,
+              ))
         ]
 
     -- The delegation is pending now: it was so before, or came to be so.
     step-pending : (j : ℕ) (p : Pending) → pending (side V j) k0 ≡ Some p → (pending (side W j) k0 ≡ Some p) ⊎ Token now' p.parent
     step-pending j p there = elim (cases_eq j i) [
       | inr away ↦ inl (ap (λ (x : Side). pending x k0) (sym (not-at j away)) ∙ there)
-      | inl same ↦ elim (step-prepared T k0 (pending s k0) i s e.event.act (input_of W i e.event.act) refl p (ap (λ (x : Side). pending x k0) (sym (at-i j same)) ∙ there)) [
-        | inl before' ↦ inl (ap (λ n. pending (side W n) k0) same ∙ before')
-        | inr out ↦ inr (inl (i, owner_of T p.parent, sent-flight (owner_of T p.parent) (DelegatePrepared p.parent k0) out))
-      ]
+      | inl same ↦ elim (step-prepared T k0 (pending s k0) i s e.event.act (input_of W i e.event.act) refl p
+          (ap (λ (x : Side). pending x k0) (sym (at-i j same)) ∙ there)) [
+            | inl before' ↦ inl (ap (λ n. pending (side W n) k0) same ∙ before')
+            | inr out ↦ inr (inl (i, owner_of T p.parent, sent-flight (owner_of T p.parent) (DelegatePrepared p.parent k0) out))
+          ]
     ]
 
     -- An Ack is handled: then the delegation is not pending, unless it came to be so now.
-    ack-handled : (a : ℕ) (accepted : Bool) (j : ℕ) (p : Pending) → e.event.act ≡ Handle → s.inbox ≡ Some (a, Ack k0 accepted) → pending (side V j) k0 ≡ Some p → Token now' p.parent
+    ack-handled : (a : ℕ) (accepted : Bool) (j : ℕ) (p : Pending) → e.event.act ≡ Handle → s.inbox ≡ Some (a, Ack k0 accepted) →
+        pending (side V j) k0 ≡ Some p → Token now' p.parent
     unfolding handle_row
     ack-handled a accepted j p act full there =
         let m : Message = Ack k0 accepted in
@@ -228,7 +258,8 @@ module _ (T : Setup) (valid : IsSetup T) (k0 : KeyName) where
           | inr away ↦ elsewhere away right
         ]
       where
-        by : (o : Option Pending) → pending s k0 ≡ o → is_stray T i (with_inbox None s) (Ack k0 accepted) ≡ is_none (pending s k0) → t ≡ handled T i (with_inbox None s) a (Ack k0 accepted) → pending t k0 ≡ Some p → j ≡ i → Token now' p.parent
+        by : (o : Option Pending) → pending s k0 ≡ o → is_stray T i (with_inbox None s) (Ack k0 accepted) ≡ is_none (pending s k0) →
+            t ≡ handled T i (with_inbox None s) a (Ack k0 accepted) → pending t k0 ≡ Some p → j ≡ i → Token now' p.parent
         by None none stray-is now there' same = elim (step-pending j p there) [
           | inl was ↦ (let no' : None ≡ Some p = sym none ∙ (ap (λ n. pending (side W n) k0) (sym same) ∙ was) in absurd cc)
           | inr token ↦ token
@@ -236,7 +267,8 @@ module _ (T : Setup) (valid : IsSetup T) (k0 : KeyName) where
         by (Some q) some stray-is now there' same =
             let u : Side = with_inbox None s in
             let stray : is_stray T i u (Ack k0 accepted) ≡ false = stray-is ∙ ap is_none some in
-            let is : t ≡ acknowledged T k0 accepted u q = now ∙ (cond-false (is_stray T i u (Ack k0 accepted)) u (handle_row T i u a (Ack k0 accepted)) stray ∙ ap (λ o. option_map_or (acknowledged T k0 accepted u) o u) some) in
+            let is : t ≡ acknowledged T k0 accepted u q = now ∙ (cond-false (is_stray T i u (Ack k0 accepted)) u (handle_row T i u a (Ack k0 accepted)) stray
+            ∙ ap (λ o. option_map_or (acknowledged T k0 accepted u) o u) some) in
             absurd (acked-gone T k0 None accepted u q p (ap (λ (x : Side). pending x k0) (sym is) ∙ there'))
 
         -- an Ack is handled where its delegation is pending
@@ -260,9 +292,11 @@ module _ (T : Setup) (valid : IsSetup T) (k0 : KeyName) where
       frees = ap (free (row s w)) there ∙ cond-true ((row s w).alive && true) 1 0 (and_from (row s w).alive true alive refl)
 
       apart : (a : Ask) → Contains (row s w).asks a → asker a ≡ w → ⊥
-      apart a among who = let one = ask-weighs w s w a among who in let part = side-le w W i in let most = single T valid before begun w in let f = frees in omega (arith, f, most, part, one)
+      apart a among who = let one = ask-weighs w s w a among who in let part = side-le w W i in let most = single T valid before begun w in let f = frees in
+          omega (arith, f, most, part, one)
 
-      granted-by : e.event.act ≡ Resume w → ◌≡◌ {A = Option (KeyName × KeyName)} (resume_row T s w).outcome.grant (Some (q, k0)) → ◌≡◌ {A = Option (KeyName × KeyName)} e.grant (Some (q, k0))
+      granted-by : e.event.act ≡ Resume w → ◌≡◌ {A = Option (KeyName × KeyName)} (resume_row T s w).outcome.grant (Some (q, k0)) →
+          ◌≡◌ {A = Option (KeyName × KeyName)} e.grant (Some (q, k0))
       unfolding local_step
       granted-by act some = entry-grant ∙ (ap (λ n. (local_step T i s n (input_of W i n)).outcome.grant) act ∙ some)
 
@@ -271,10 +305,23 @@ module _ (T : Setup) (valid : IsSetup T) (k0 : KeyName) where
       touched-so (inl act) =
           let a = resumed-acks T k0 None s w q there in
           let is : t ≡ (resume_row T s w).side = ap (λ n. (local_step T i s n (input_of W i n)).side) act in
-          inr (inl (i, owner_of T k0, a.0, sent-flight (owner_of T k0) (Ack k0 a.0) (subst (λ (x : Side). Contains (outbox x (owner_of T k0)) (Ack k0 a.0)) (sym is) a.1), λ yes'. grants-new q (granted-by act (a.2 yes'))))
+          inr (inl (
+            i,
+            owner_of T k0,
+            a.0,
+            sent-flight (owner_of T k0) (Ack k0 a.0) (subst (λ (x : Side). Contains (outbox x (owner_of T k0)) (Ack k0 a.0)) (sym is) a.1),
+            λ yes'. grants-new q (granted-by act (a.2 yes')),
+          ))
       touched-so (inr act) =
           let is : t ≡ ended T i w s = ap (λ n. (local_step T i s n (input_of W i n)).side) act in
-          inr (inl (i, owner_of T k0, false, sent-flight (owner_of T k0) (Ack k0 false) (subst (λ (x : Side). Contains (outbox x (owner_of T k0)) (Ack k0 false)) (sym is) (ended-acks T k0 None i s w q there apart)), λ no'. absurd cc))
+          inr (inl (
+            i,
+            owner_of T k0,
+            false,
+            sent-flight (owner_of T k0) (Ack k0 false) (subst (λ (x : Side). Contains (outbox x (owner_of T k0)) (Ack k0 false)) (sym is)
+                (ended-acks T k0 None i s w q there apart)),
+            λ no'. absurd cc,
+          ))
 
       ready-step : Token now' q
       ready-step =
@@ -292,7 +339,8 @@ module _ (T : Setup) (valid : IsSetup T) (k0 : KeyName) where
           (λ u act same. let none = calls-unparked T valid J runs before e later parts u act in busy (parked s u) none (ap (parked s) same ∙ there))
           (λ u act same. inl (act ∙ ap Resume same))
           (λ u act same. inr (act ∙ ap Kill same))
-          (λ from m full one. let weighs : AskWeights.of_inbox w s.inbox ≡ AskWeights.of_message w m = ap (AskWeights.of_inbox w) full in absurd (omega (arith, f, most, part, one, weighs)))
+          (λ from m full one. let weighs : AskWeights.of_inbox w s.inbox ≡ AskWeights.of_message w m = ap (AskWeights.of_inbox w) full in
+          absurd (omega (arith, f, most, part, one, weighs)))
           (λ from accepted act full x none. absurd cc)
           (λ from k' j full ready same. let no' : false ≡ true = sym (ap (is_ready_with k') (ap (parked s) same ∙ there)) ∙ ready in absurd cc)
           in
@@ -329,14 +377,17 @@ module _ (T : Setup) (valid : IsSetup T) (k0 : KeyName) where
     ]
 
   pub all-pend : (J : List Entry) → IsSchedule T J → Pends J
-  all-pend J runs = from [] J refl (λ i p there. let bare = start-each T (λ (x : Side). x.pendings ≡ []) refl (λ n. side-bare T n) i in let no' : None ≡ Some p = sym (ap (find (λ (y : Pending). key_eq y.key k0)) bare) ∙ there in absurd cc)
+  all-pend J runs = from [] J refl (λ i p there. let bare = start-each T (λ (x : Side). x.pendings ≡ []) refl (λ n. side-bare T n) i in
+      let no' : None ≡ Some p = sym (ap (find (λ (y : Pending). key_eq y.key k0)) bare) ∙ there in absurd cc)
     where
       from : (before later : List Entry) → J ≡ before ++ later → Pends before → Pends J
       from before [] parts is = subst Pends (sym (parts ∙ append-nil before)) is
-      from before (e ∷ later) parts is = from (before ++ e ∷ []) later (parts ∙ sym (append_assoc before (e ∷ []) later)) (next-pends J runs before e later parts is)
+      from before (e ∷ later) parts is = from (before ++ e ∷ []) later (parts
+          ∙ sym (append_assoc before (e ∷ []) later)) (next-pends J runs before e later parts is)
 
 -- so something stirs
-pub pendings-owed : (T : Setup) → IsSetup T → (J : List Entry) → IsSchedule T J → (i : ℕ) (k : KeyName) (p : Pending) → pending (side (world_after T J) i) k ≡ Some p → IsStirring (world_after T J)
+pub pendings-owed : (T : Setup) → IsSetup T → (J : List Entry) → IsSchedule T J → (i : ℕ) (k : KeyName) (p : Pending) →
+    pending (side (world_after T J) i) k ≡ Some p → IsStirring (world_after T J)
 pendings-owed T valid J runs i k p there = from (all-pend T valid k J runs i p there)
   where
     from : Token T valid k J p.parent → IsStirring (world_after T J)

@@ -8,7 +8,8 @@ use Rattle.sem_key.specs.KeyName.{KeyName, key_eq}
 use Rattle.sem_key.proofs.KeyTests.{key_eq-true}
 use Rattle.sem_msg.specs.declared.entry.Entry.{Entry}
 use Rattle.sem_msg.specs.declared.message.Message.{Message}
-use Rattle.sem_msg.specs.declared.message.Message.TheVariants.{ObtainReq, ObtainOk, ObtainNo, DelegateReq, DelegatePrepared, DelegateNo, Ack, Orphan, RevokeReq, RevokeDone, Unlink}
+use Rattle.sem_msg.specs.declared.message.Message.TheVariants.{ObtainReq, ObtainOk, ObtainNo, DelegateReq, DelegatePrepared, DelegateNo, Ack, Orphan, RevokeReq}
+use Rattle.sem_msg.specs.declared.message.Message.TheVariants.{RevokeDone, Unlink}
 use Rattle.sem_msg.specs.declared.state.Ask.{Ask}
 use Rattle.sem_msg.specs.declared.state.Ask.TheVariants.{Obtain as ObtainAsk, Delegate as DelegateAsk}
 use Rattle.sem_msg.specs.Rows.{JobRow, VpeRow}
@@ -72,7 +73,8 @@ message-le (Delegating p) (Unlink parent key) = omega arith
 
 sum-le : {X : Type 0} (f g : X → ℕ) → ((x : X) → f x ≤ g x) → (xs : List X) → sum_by f xs ≤ sum_by g xs
 sum-le f g less [] = omega arith
-sum-le f g less (x ∷ xs) = let one = sum_by-cons f x xs in let two = sum_by-cons g x xs in let here' = less x in let rest = sum-le f g less xs in omega (arith, one, two, here', rest)
+sum-le f g less (x ∷ xs) = let one = sum_by-cons f x xs in let two = sum_by-cons g x xs in let here' = less x in let rest = sum-le f g less xs in
+    omega (arith, one, two, here', rest)
 
 from-le : {X : Type 0} (f : ℕ → X → ℕ) (g : X → ℕ) → ((n : ℕ) (x : X) → f n x ≤ g x) → (n : ℕ) (xs : List X) → sum_from f n xs ≤ sum_by g xs
 from-le f g less n [] = omega arith
@@ -120,7 +122,8 @@ module _ (x : Exchange) where
       omega (arith, one, two, here', rest)
 
   -- a message that is of the VPE, and not of this exchange, comes on top
-  sides-more : (n : ℕ) (ss : List Side) (i : ℕ) (m : ℕ × Message) → (get_or ss i no_side).inbox ≡ Some m → of_message x m.1 ≡ 0 → 1 ≤ AskWeights.of_message v m.1 → sum_by (of_rows x) ss + sum_from (of_side (exchanging x)) n ss + 1 ≤ sum_by (AskWeights.of_side v) ss
+  sides-more : (n : ℕ) (ss : List Side) (i : ℕ) (m : ℕ × Message) → (get_or ss i no_side).inbox ≡ Some m → of_message x m.1 ≡ 0 →
+      1 ≤ AskWeights.of_message v m.1 → sum_by (of_rows x) ss + sum_from (of_side (exchanging x)) n ss + 1 ≤ sum_by (AskWeights.of_side v) ss
   sides-more n [] i m full none some = absurd cc
   sides-more n (s ∷ ss) zero m full none some =
       let one = sum_by-cons (of_rows x) s ss in
@@ -138,10 +141,12 @@ module _ (x : Exchange) where
       omega (arith, one, two, here', rest)
 
   links-le : (W : World) → sum_from (λ i ls. sum_from (of_messages (exchanging x) i) 0 ls) 0 W.links ≤ AskWorlds.of_links v W.links
-  links-le W = from-le (λ i ls. sum_from (of_messages (exchanging x) i) 0 ls) (λ ls. sum_by (AskWeights.of_messages v) ls) (λ i ls. from-le (of_messages (exchanging x) i) (AskWeights.of_messages v) (λ j ms. messages-le i j ms) 0 ls) 0 W.links
+  links-le W = from-le (λ i ls. sum_from (of_messages (exchanging x) i) 0 ls) (λ ls. sum_by (AskWeights.of_messages v) ls)
+      (λ i ls. from-le (of_messages (exchanging x) i) (AskWeights.of_messages v) (λ j ms. messages-le i j ms) 0 ls) 0 W.links
 
   -- so where another message of the VPE is handled, the exchange has no token
-  pub no-token : (T : Setup) → IsSetup T → (J : List Entry) → IsSchedule T J → (i from : ℕ) (m : Message) → (side (world_after T J) i).inbox ≡ Some (from, m) → of_message x m ≡ 0 → 1 ≤ AskWeights.of_message v m → 1 ≤ tokens x (world_after T J) → ⊥
+  pub no-token : (T : Setup) → IsSetup T → (J : List Entry) → IsSchedule T J → (i from : ℕ) (m : Message) → (side (world_after T J) i).inbox ≡ Some (from, m) →
+      of_message x m ≡ 0 → 1 ≤ AskWeights.of_message v m → 1 ≤ tokens x (world_after T J) → ⊥
   no-token T valid J runs i from m full none some has =
       let W : World = world_after T J in
       let most = single T valid J runs v in

@@ -1,5 +1,7 @@
--- A delegation comes to be pending with its DelegatePrepared, and stays so until its Ack is handled; the call that is ready to grant it acknowledges it when it goes on or its VPE ends.
-use Rattle.std.proofs.Common.{◌≡◌, ◌⊎◌, ℕ, Bool, true, false, not, List, [], ◌∷◌, ◌++◌, find, filter, Option, Some, None, slice_get, refl, sym, ap, ◌∙◌, subst, inl, inr, eq-eqb}
+-- A delegation comes to be pending with its DelegatePrepared, and stays so until its Ack is handled; the call that is ready to grant it acknowledges it when it
+-- goes on or its VPE ends.
+use Rattle.std.proofs.Common.{◌≡◌, ◌⊎◌, ℕ, Bool, true, false, not, List, [], ◌∷◌, ◌++◌, find, filter, Option, Some, None, slice_get, refl, sym, ap, ◌∙◌, subst}
+use Rattle.std.proofs.Common.{inl, inr, eq-eqb}
 use Rattle.std.specs.Prelude.{◌==◌}
 use Rattle.std.specs.List.{Contains}
 use Rattle.std.specs.Option.{option_map_or}
@@ -26,7 +28,8 @@ use Rattle.sem_msg.specs.declared.state.Parked.TheVariants.{ObtainWait, ObtainRe
 use Rattle.sem_msg.specs.declared.state.Pending.{Pending}
 use Rattle.sem_msg.specs.Setup.{Setup}
 use Rattle.sem_msg.specs.Lookups.{kernel_of, owner_of, place_owner}
-use Rattle.sem_machine.specs.Sides.{Side, row, cap, parked, pending, is_alive, outbox, call_counted, drawn, promised, parked_as, unparked, ask_taken, buried, linked, freed, send, with_inbox, pending_added, pending_removed}
+use Rattle.sem_machine.specs.Sides.{Side, row, cap, parked, pending, is_alive, outbox, call_counted, drawn, promised, parked_as, unparked, ask_taken, buried}
+use Rattle.sem_machine.specs.Sides.{linked, freed, send, with_inbox, pending_added, pending_removed}
 use Rattle.sem_machine.specs.Steps.{Step, plain}
 use Rattle.sem_machine.specs.Asks.{target_vpe, asker, is_unawaited, promise_freed, call_refused, refusal_sent, ask_refused}
 use Rattle.sem_machine.specs.Calls.{next_key, next_place, call_row}
@@ -46,14 +49,17 @@ use Rattle.sem_revoke.proofs.Waits.{parked-other}
 
 -- what waits to be sent goes on to wait when more is sent, and what is sent waits
 pub outbox-sent : (t : Side) (j : ℕ) (m : Message) → Contains (outbox (send j m t) j) m
-outbox-sent t j m = subst (λ xs. Contains xs m) (sym (ap (λ (z : Seen). z.outbox j) (seen-send j m t) ∙ cond-true (j == j) (outbox t j ++ m ∷ []) (outbox t j) (eq-eqb j j refl))) (Contains-append_right (outbox t j) (m ∷ []) m (Contains-head m []))
+outbox-sent t j m = subst (λ xs. Contains xs m) (sym (ap (λ (z : Seen). z.outbox j) (seen-send j m t)
+    ∙ cond-true (j == j) (outbox t j ++ m ∷ []) (outbox t j) (eq-eqb j j refl))) (Contains-append_right (outbox t j) (m ∷ []) m (Contains-head m []))
 
 pub outbox-more : (t : Side) (j k : ℕ) (m q : Message) → Contains (outbox t k) q → Contains (outbox (send j m t) k) q
 outbox-more t j k m q among = elim (cases_Bool (k == j)) [
   | inl same ↦
       let is : k ≡ j = eqb-true k j same in
-      subst (λ xs. Contains xs q) (sym (ap (λ (z : Seen). z.outbox k) (seen-send j m t) ∙ cond-true (k == j) (outbox t j ++ m ∷ []) (outbox t k) same)) (Contains-append_left (outbox t j) (m ∷ []) q (subst (λ n. Contains (outbox t n) q) is among))
-  | inr other ↦ subst (λ xs. Contains xs q) (sym (ap (λ (z : Seen). z.outbox k) (seen-send j m t) ∙ cond-false (k == j) (outbox t j ++ m ∷ []) (outbox t k) other)) among
+      subst (λ xs. Contains xs q) (sym (ap (λ (z : Seen). z.outbox k) (seen-send j m t) ∙ cond-true (k == j) (outbox t j ++ m ∷ []) (outbox t k) same))
+      (Contains-append_left (outbox t j) (m ∷ []) q (subst (λ n. Contains (outbox t n) q) is among))
+  | inr other ↦ subst (λ xs. Contains xs q) (sym (ap (λ (z : Seen). z.outbox k) (seen-send j m t)
+      ∙ cond-false (k == j) (outbox t j ++ m ∷ []) (outbox t k) other)) among
 ]
 
 -- what waits to be sent stays through revokes
@@ -76,7 +82,10 @@ module _ (T : Setup) (k0 : KeyName) (was : Option Pending) where
   Prepared t = (p : Pending) → pending t k0 ≡ Some p → (was ≡ Some p) ⊎ Contains (outbox t (owner_of T p.parent)) (DelegatePrepared p.parent k0)
 
   prepared-send : (t : Side) (j : ℕ) (m : Message) → Prepared t → Prepared (send j m t)
-  prepared-send t j m is = λ p there. elim (is p there) [ inl before ↦ inl before | inr out ↦ inr (outbox-more t j (owner_of T p.parent) m (DelegatePrepared p.parent k0) out) ]
+  prepared-send t j m is = λ p there. elim (is p there) [
+    | inl before ↦ inl before
+    | inr out ↦ inr (outbox-more t j (owner_of T p.parent) m (DelegatePrepared p.parent k0) out)
+  ]
 
   steady : IsSteady Prepared
   steady = record {
@@ -112,9 +121,12 @@ module _ (T : Setup) (k0 : KeyName) (was : Option Pending) where
   ended-prepared i v s is =
       let asks : List Ask = (row s v).asks in
       let answered : Side = in_turn (ask_ended T i) asks (buried v s) in
-      let told : Prepared answered = in_turn-keeps Prepared (ask_ended T i) (λ a t here. cond_both (is_unawaited T i t a) t (ask_refused T i Dead a t) Prepared (λ _. here) (λ _. refused-prepared i Dead a t here)) asks (buried v s) is in
+      let told : Prepared answered =
+      in_turn-keeps Prepared (ask_ended T i) (λ a t here. cond_both (is_unawaited T i t a) t (ask_refused T i Dead a t) Prepared (λ _. here)
+      (λ _. refused-prepared i Dead a t here)) asks (buried v s) is in
       let last : Side = call_ended T (parked answered v) v (unparked v answered) in
-      in_turn-keeps Prepared (revoked_if_left T i) (λ k t here. rest-steady Prepared steady T i k t here) (keys_of last v) last (owes (parked answered v) (unparked v answered) told)
+      in_turn-keeps Prepared (revoked_if_left T i) (λ k t here. rest-steady Prepared steady T i k t here) (keys_of last v) last
+      (owes (parked answered v) (unparked v answered) told)
     where
       owes : (p : Option Parked) (t : Side) → Prepared t → Prepared (call_ended T p v t)
       owes None t here = here
@@ -130,8 +142,11 @@ module _ (T : Setup) (k0 : KeyName) (was : Option Pending) where
   call-prepared i w c s is = call_row-by (λ (y : Step). Prepared y.side) T i w s (record {
     answered = λ code. is;
     child = λ src dst object p held. is;
-    ask = λ dst target. let waiting : Side = parked_as w (ObtainWait (next_place T s w).number dst) (promised w dst (drawn w s)) in cond_both (kernel_of T (target_vpe target) == i) _ _ Prepared (λ _. is) (λ _. prepared-send waiting (kernel_of T (target_vpe target)) (ObtainReq (next_place T s w) target) is);
-    offer = λ src u dst p held. let waiting : Side = parked_as w (DelegateWait p.key) s in cond_both (kernel_of T u == i) _ _ Prepared (λ _. is) (λ _. prepared-send waiting (kernel_of T u) (DelegateReq p.key p.object u dst) is);
+    ask = λ dst target. let waiting : Side = parked_as w (ObtainWait (next_place T s w).number dst) (promised w dst (drawn w s)) in
+        cond_both (kernel_of T (target_vpe target) == i) _ _ Prepared (λ _. is)
+        (λ _. prepared-send waiting (kernel_of T (target_vpe target)) (ObtainReq (next_place T s w) target) is);
+    offer = λ src u dst p held. let waiting : Side = parked_as w (DelegateWait p.key) s in
+        cond_both (kernel_of T u == i) _ _ Prepared (λ _. is) (λ _. prepared-send waiting (kernel_of T u) (DelegateReq p.key p.object u dst) is);
     revoke = λ src c held. revoked-steady Prepared steady T i w c.key c.mark s (λ j. is);
     clear = λ src c held unmarked. cleared-steady Prepared steady T i w c.key s is;
     bound = λ ep src c held. is;
@@ -140,13 +155,15 @@ module _ (T : Setup) (k0 : KeyName) (was : Option Pending) where
   }) c
 
   -- one more is pending: it is that one, or was pending
-  push-find : (xs : List Pending) (y p : Pending) → find (λ (z : Pending). key_eq z.key k0) (xs ++ y ∷ []) ≡ Some p → (find (λ (z : Pending). key_eq z.key k0) xs ≡ Some p) ⊎ ((y ≡ p) × (y.key ≡ k0))
+  push-find : (xs : List Pending) (y p : Pending) → find (λ (z : Pending). key_eq z.key k0) (xs ++ y ∷ []) ≡ Some p →
+      (find (λ (z : Pending). key_eq z.key k0) xs ≡ Some p) ⊎ ((y ≡ p) × (y.key ≡ k0))
   push-find [] y p some = elim (cases_Bool (key_eq y.key k0)) [
     | inl same ↦ inr (same_Some y p (sym (cond-true (key_eq y.key k0) (Some y) None same) ∙ some), key_eq-true y.key k0 same)
     | inr differ ↦ (let none : None ≡ Some p = sym (cond-false (key_eq y.key k0) (Some y) None differ) ∙ some in absurd cc)
   ]
   push-find (x ∷ xs) y p some = elim (cases_Bool (key_eq x.key k0)) [
-    | inl same ↦ inl (cond-true (key_eq x.key k0) (Some x) (find (λ (z : Pending). key_eq z.key k0) xs) same ∙ (sym (cond-true (key_eq x.key k0) (Some x) (find (λ (z : Pending). key_eq z.key k0) (xs ++ y ∷ [])) same) ∙ some))
+    | inl same ↦ inl (cond-true (key_eq x.key k0) (Some x) (find (λ (z : Pending). key_eq z.key k0) xs) same
+        ∙ (sym (cond-true (key_eq x.key k0) (Some x) (find (λ (z : Pending). key_eq z.key k0) (xs ++ y ∷ [])) same) ∙ some))
     | inr differ ↦ elim (push-find xs y p (sym (cond-false (key_eq x.key k0) (Some x) (find (λ (z : Pending). key_eq z.key k0) (xs ++ y ∷ [])) differ) ∙ some)) [
       | inl before ↦ inl (cond-false (key_eq x.key k0) (Some x) (find (λ (z : Pending). key_eq z.key k0) xs) differ ∙ before)
       | inr is ↦ inr is
@@ -160,16 +177,24 @@ module _ (T : Setup) (k0 : KeyName) (was : Option Pending) where
     given = λ place target p of.
         let k : KeyName = keyed place (given_kind target p) in
         let linking : Side = linked p.key k s in
-        cond_both (kernel_of T place.vpe == i) _ _ Prepared (λ _. here k p.key (given target place.vpe p) (parked linking place.vpe) linking is) (λ _. prepared-send linking (place_owner T place) (ObtainOk p.key k (given target place.vpe p)) is);
+        cond_both (kernel_of T place.vpe == i) _ _ Prepared (λ _. here k p.key (given target place.vpe p) (parked linking place.vpe) linking is)
+        (λ _. prepared-send linking (place_owner T place) (ObtainOk p.key k (given target place.vpe p)) is);
     here = λ parent object sel of. is;
     prepared = λ parent object sel of.
         let k : KeyName = next_key T s w parent.kind in
         let q : Pending = record { key = k; parent = parent; object = object; sel = sel } in
         let promising : Side = promised w sel (drawn w s) in
         λ p there. elim (push-find s.pendings q p there) [
-          | inl before ↦ elim (is p before) [ inl early ↦ inl early | inr out ↦ inr (outbox-more (pending_added q promising) (owner_of T parent) (owner_of T p.parent) (DelegatePrepared parent k) (DelegatePrepared p.parent k0) out) ]
-          | inr (same, key) ↦ inr (subst (λ (z : Pending). Contains (outbox (send (owner_of T parent) (DelegatePrepared parent k) (pending_added q promising)) (owner_of T z.parent)) (DelegatePrepared z.parent k0)) same
-              (subst (λ z. Contains (outbox (send (owner_of T parent) (DelegatePrepared parent k) (pending_added q promising)) (owner_of T parent)) (DelegatePrepared parent z)) key (outbox-sent (pending_added q promising) (owner_of T parent) (DelegatePrepared parent k))))
+          | inl before ↦ elim (is p before) [
+            | inl early ↦ inl early
+            | inr out ↦ inr (outbox-more (pending_added q promising) (owner_of T parent) (owner_of T p.parent) (DelegatePrepared parent k)
+                (DelegatePrepared p.parent k0) out)
+          ]
+          | inr (same, key) ↦ inr
+              (subst (λ (z : Pending). Contains (outbox (send (owner_of T parent) (DelegatePrepared parent k) (pending_added q promising))
+              (owner_of T z.parent)) (DelegatePrepared z.parent k0)) same
+              (subst (λ z. Contains (outbox (send (owner_of T parent) (DelegatePrepared parent k) (pending_added q promising)) (owner_of T parent))
+              (DelegatePrepared parent z)) key (outbox-sent (pending_added q promising) (owner_of T parent) (DelegatePrepared parent k))))
         ];
   })
     where
@@ -185,7 +210,8 @@ module _ (T : Setup) (k0 : KeyName) (was : Option Pending) where
 
   upcall-prepared : (i w : ℕ) (s : Side) → Prepared s → Prepared (upcall_row T i s w).side
   unfolding upcall_row
-  upcall-prepared i w s is = option-keeps (λ (y : Step). Prepared y.side) (λ (q : Ask). ask_decided T i w q (ask_taken w s)) (slice_get (row s w).asks 0) (plain s) (λ q there. decided-prepared i w q (ask_taken w s) is) is
+  upcall-prepared i w s is = option-keeps (λ (y : Step). Prepared y.side) (λ (q : Ask). ask_decided T i w q (ask_taken w s)) (slice_get (row s w).asks 0)
+      (plain s) (λ q there. decided-prepared i w q (ask_taken w s) is) is
 
   resume-prepared : (w : ℕ) (s : Side) → Prepared s → Prepared (resume_row T s w).side
   unfolding resume_row
@@ -210,7 +236,8 @@ module _ (T : Setup) (k0 : KeyName) (was : Option Pending) where
       by (Some (Ready code)) = is
 
   -- what is pending when another is no more was pending
-  removed-find : (xs : List Pending) (k : KeyName) (p : Pending) → find (λ (z : Pending). key_eq z.key k0) (filter (λ (z : Pending). not (key_eq z.key k)) xs) ≡ Some p → (k ≡ k0 → ⊥) × (find (λ (z : Pending). key_eq z.key k0) xs ≡ Some p)
+  removed-find : (xs : List Pending) (k : KeyName) (p : Pending) → find (λ (z : Pending). key_eq z.key k0) (filter (λ (z : Pending). not (key_eq z.key k)) xs)
+      ≡ Some p → (k ≡ k0 → ⊥) × (find (λ (z : Pending). key_eq z.key k0) xs ≡ Some p)
   removed-find xs k p some =
       let there = found (λ (z : Pending). key_eq z.key k0) (filter (λ (z : Pending). not (key_eq z.key k)) xs) p some in
       let kept = Contains-from_filter (λ (z : Pending). not (key_eq z.key k)) xs p there.0 in
@@ -218,17 +245,29 @@ module _ (T : Setup) (k0 : KeyName) (was : Option Pending) where
       let apart : k ≡ k0 → ⊥ = λ same. true≢false (sym (key_eq-from p.key k (key ∙ sym same)) ∙ not-true (key_eq p.key k) kept.1) in
       (apart, back xs apart some)
     where
-      back : (ys : List Pending) → (k ≡ k0 → ⊥) → find (λ (z : Pending). key_eq z.key k0) (filter (λ (z : Pending). not (key_eq z.key k)) ys) ≡ Some p → find (λ (z : Pending). key_eq z.key k0) ys ≡ Some p
+      back : (ys : List Pending) → (k ≡ k0 → ⊥) → find (λ (z : Pending). key_eq z.key k0) (filter (λ (z : Pending). not (key_eq z.key k)) ys) ≡ Some p →
+          find (λ (z : Pending). key_eq z.key k0) ys ≡ Some p
       back [] apart none = none
       back (y ∷ ys) apart some' = elim (cases_Bool (key_eq y.key k0)) [
         | inl same ↦
-            let differs : key_eq y.key k ≡ false = false_from_ne_true (key_eq y.key k) (λ is. apart (sym (key_eq-true y.key k is) ∙ key_eq-true y.key k0 same)) in
-            let first : filter (λ (z : Pending). not (key_eq z.key k)) (y ∷ ys) ≡ y ∷ filter (λ (z : Pending). not (key_eq z.key k)) ys = cond-true (not (key_eq y.key k)) (y ∷ filter (λ (z : Pending). not (key_eq z.key k)) ys) (filter (λ (z : Pending). not (key_eq z.key k)) ys) (ap not differs) in
-            cond-true (key_eq y.key k0) (Some y) (find (λ (z : Pending). key_eq z.key k0) ys) same ∙ (sym (cond-true (key_eq y.key k0) (Some y) (find (λ (z : Pending). key_eq z.key k0) (filter (λ (z : Pending). not (key_eq z.key k)) ys)) same) ∙ (sym (ap (find (λ (z : Pending). key_eq z.key k0)) first) ∙ some'))
-        | inr differ ↦ cond-false (key_eq y.key k0) (Some y) (find (λ (z : Pending). key_eq z.key k0) ys) differ ∙ back ys apart (elim (cases_Bool (not (key_eq y.key k))) [
-          | inl keeps ↦ sym (cond-false (key_eq y.key k0) (Some y) (find (λ (z : Pending). key_eq z.key k0) (filter (λ (z : Pending). not (key_eq z.key k)) ys)) differ) ∙ (sym (ap (find (λ (z : Pending). key_eq z.key k0)) (cond-true (not (key_eq y.key k)) (y ∷ filter (λ (z : Pending). not (key_eq z.key k)) ys) (filter (λ (z : Pending). not (key_eq z.key k)) ys) keeps)) ∙ some')
-          | inr drops ↦ sym (ap (find (λ (z : Pending). key_eq z.key k0)) (cond-false (not (key_eq y.key k)) (y ∷ filter (λ (z : Pending). not (key_eq z.key k)) ys) (filter (λ (z : Pending). not (key_eq z.key k)) ys) drops)) ∙ some'
-        ])
+            let differs : key_eq y.key k ≡ false = false_from_ne_true (key_eq y.key k) (λ is. apart (sym (key_eq-true y.key k is)
+            ∙ key_eq-true y.key k0 same)) in
+            let first : filter (λ (z : Pending). not (key_eq z.key k)) (y ∷ ys) ≡ y ∷ filter (λ (z : Pending). not (key_eq z.key k)) ys =
+            cond-true (not (key_eq y.key k)) (y ∷ filter (λ (z : Pending). not (key_eq z.key k)) ys) (filter (λ (z : Pending). not (key_eq z.key k)) ys)
+            (ap not differs) in
+            cond-true (key_eq y.key k0) (Some y) (find (λ (z : Pending). key_eq z.key k0) ys) same
+            ∙ (sym (cond-true (key_eq y.key k0) (Some y) (find (λ (z : Pending). key_eq z.key k0) (filter (λ (z : Pending). not (key_eq z.key k)) ys)) same)
+            ∙ (sym (ap (find (λ (z : Pending). key_eq z.key k0)) first) ∙ some'))
+        | inr differ ↦ cond-false (key_eq y.key k0) (Some y) (find (λ (z : Pending). key_eq z.key k0) ys) differ
+            ∙ back ys apart (elim (cases_Bool (not (key_eq y.key k))) [
+              | inl keeps ↦ sym (cond-false (key_eq y.key k0) (Some y) (find (λ (z : Pending). key_eq z.key k0) (filter (λ (z : Pending). not (key_eq z.key k)) ys))
+                  differ) ∙ (sym (ap (find (λ (z : Pending). key_eq z.key k0))
+                  (cond-true (not (key_eq y.key k)) (y ∷ filter (λ (z : Pending). not (key_eq z.key k)) ys) (filter (λ (z : Pending). not (key_eq z.key k)) ys)
+                  keeps)) ∙ some')
+              | inr drops ↦ sym (ap (find (λ (z : Pending). key_eq z.key k0))
+                  (cond-false (not (key_eq y.key k)) (y ∷ filter (λ (z : Pending). not (key_eq z.key k)) ys) (filter (λ (z : Pending). not (key_eq z.key k)) ys)
+                  drops)) ∙ some'
+            ])
       ]
 
   removed-prepared : (s : Side) (k : KeyName) → Prepared s → Prepared (pending_removed k s)
@@ -236,7 +275,8 @@ module _ (T : Setup) (k0 : KeyName) (was : Option Pending) where
 
   -- after an Ack of the key the delegation is not pending
   pub acked-gone : (accepted : Bool) (s : Side) (p q : Pending) → pending (acknowledged T k0 accepted s p) k0 ≡ Some q → ⊥
-  acked-gone true s p q = cond_both (is_alive s k0.vpe) _ _ (λ (t : Side). pending t k0 ≡ Some q → ⊥) (λ _ there. (removed-find s.pendings k0 q there).0 refl) (λ _ there. (removed-find s.pendings k0 q there).0 refl)
+  acked-gone true s p q = cond_both (is_alive s k0.vpe) _ _ (λ (t : Side). pending t k0 ≡ Some q →
+      ⊥) (λ _ there. (removed-find s.pendings k0 q there).0 refl) (λ _ there. (removed-find s.pendings k0 q there).0 refl)
   acked-gone false s p q = λ there. (removed-find s.pendings k0 q there).0 refl
 
   handled-prepared : (i from : ℕ) (m : Message) (s : Side) → Prepared s → Prepared (handled T i s from m)
@@ -279,7 +319,8 @@ module _ (T : Setup) (k0 : KeyName) (was : Option Pending) where
       ready parent key object (Some (Ready code)) = is
 
       acks : (key : KeyName) (accepted : Bool) (p : Pending) → Prepared (acknowledged T key accepted s p)
-      acks key true p = cond_both (is_alive s key.vpe) _ _ Prepared (λ _. removed-prepared s key is) (λ _. prepared-send (pending_removed key s) (owner_of T p.parent) (Orphan p.parent key) (removed-prepared s key is))
+      acks key true p = cond_both (is_alive s key.vpe) _ _ Prepared (λ _. removed-prepared s key is)
+          (λ _. prepared-send (pending_removed key s) (owner_of T p.parent) (Orphan p.parent key) (removed-prepared s key is))
       acks key false p = removed-prepared s key is
 
   -- so it is after any step
@@ -291,7 +332,8 @@ module _ (T : Setup) (k0 : KeyName) (was : Option Pending) where
       base = λ p there. inl (sym before ∙ there)
 
       by : (b : Act) → Prepared (local_step T i s b input).side
-      by (Calls w) = option-keeps (λ (y : Step). Prepared y.side) (call_row T i (call_counted w s) w) (next_call T s w) (plain s) (λ c there. call-prepared i w c (call_counted w s) base) base
+      by (Calls w) = option-keeps (λ (y : Step). Prepared y.side) (call_row T i (call_counted w s) w) (next_call T s w) (plain s)
+          (λ c there. call-prepared i w c (call_counted w s) base) base
       by (Fetch j) = base
       by (Flush j) = λ p there. inl (sym before ∙ there)
       by (Upcall w) = upcall-prepared i w s base
@@ -305,7 +347,8 @@ module _ (T : Setup) (k0 : KeyName) (was : Option Pending) where
 
   -- The call that is ready to grant the delegation acknowledges it when it goes on, and with success if it grants it,
   abbrev pub Acks : KeyName → Step → Type 0
-  Acks q x = (accepted : Bool) × Contains (outbox x.side (owner_of T k0)) (Ack k0 accepted) × (accepted ≡ true → ◌≡◌ {A = Option (KeyName × KeyName)} x.outcome.grant (Some (q, k0)))
+  Acks q x = (accepted : Bool) × Contains (outbox x.side (owner_of T k0)) (Ack k0 accepted)
+      × (accepted ≡ true → ◌≡◌ {A = Option (KeyName × KeyName)} x.outcome.grant (Some (q, k0)))
 
   pub resumed-acks : (s : Side) (w : ℕ) (q : KeyName) → parked s w ≡ Some (DelegateReady q k0) → Acks q (resume_row T s w)
   unfolding resume_row
@@ -320,18 +363,26 @@ module _ (T : Setup) (k0 : KeyName) (was : Option Pending) where
       by (Some c) = granted c.mark
 
   -- and when its VPE ends, which asks itself nothing.
-  pub ended-acks : (i : ℕ) (s : Side) (w : ℕ) (q : KeyName) → parked s w ≡ Some (DelegateReady q k0) → ((a : Ask) → Contains (row s w).asks a → asker a ≡ w → ⊥) → Contains (outbox (ended T i w s) (owner_of T k0)) (Ack k0 false)
+  pub ended-acks : (i : ℕ) (s : Side) (w : ℕ) (q : KeyName) → parked s w ≡ Some (DelegateReady q k0) →
+      ((a : Ask) → Contains (row s w).asks a → asker a ≡ w → ⊥) → Contains (outbox (ended T i w s) (owner_of T k0)) (Ack k0 false)
   unfolding ended
   ended-acks i s w q there apart =
       let asks : List Ask = (row s w).asks in
       let answered : Side = in_turn (ask_ended T i) asks (buried w s) in
-      let same : parked answered w ≡ Some (DelegateReady q k0) = in_turn-keeps_each (λ (t : Side). parked t w ≡ Some (DelegateReady q k0)) (ask_ended T i) asks (λ a among t here. other a t (apart a among) here) (buried w s) there in
+      let same : parked answered w ≡ Some (DelegateReady q k0) = in_turn-keeps_each (λ (t : Side). parked t w ≡ Some (DelegateReady q k0)) (ask_ended T i) asks
+      (λ a among t here. other a t (apart a among) here) (buried w s) there in
       let last : Side = call_ended T (parked answered w) w (unparked w answered) in
-      let acks : Contains (outbox last (owner_of T k0)) (Ack k0 false) = subst (λ p. Contains (outbox (call_ended T p w (unparked w answered)) (owner_of T k0)) (Ack k0 false)) (sym same) (outbox-sent (unparked w answered) (owner_of T k0) (Ack k0 false)) in
-      in_turn-keeps (λ (t : Side). Contains (outbox t (owner_of T k0)) (Ack k0 false)) (revoked_if_left T i) (λ k t here. rest-steady (λ (u : Side). Contains (outbox u (owner_of T k0)) (Ack k0 false)) (waits-steady (owner_of T k0) (Ack k0 false)) T i k t here) (keys_of last w) last acks
+      let acks : Contains (outbox last (owner_of T k0)) (Ack k0 false) =
+      subst (λ p. Contains (outbox (call_ended T p w (unparked w answered)) (owner_of T k0)) (Ack k0 false)) (sym same)
+      (outbox-sent (unparked w answered) (owner_of T k0) (Ack k0 false)) in
+      in_turn-keeps (λ (t : Side). Contains (outbox t (owner_of T k0)) (Ack k0 false)) (revoked_if_left T i)
+      (λ k t here. rest-steady (λ (u : Side). Contains (outbox u (owner_of T k0)) (Ack k0 false)) (waits-steady (owner_of T k0) (Ack k0 false)) T i k t
+      here) (keys_of last w) last acks
     where
       other : (a : Ask) (t : Side) → (asker a ≡ w → ⊥) → parked t w ≡ Some (DelegateReady q k0) → parked (ask_ended T i a t) w ≡ Some (DelegateReady q k0)
-      other a t away here = cond_both (is_unawaited T i t a) t (ask_refused T i Dead a t) (λ (u : Side). parked u w ≡ Some (DelegateReady q k0)) (λ _. here) (λ _. cond_both (kernel_of T (asker a) == i) (call_refused (code_number Dead) (asker a) t) (refusal_sent T Dead a t) (λ (u : Side). parked u w ≡ Some (DelegateReady q k0)) (λ _. free (parked t (asker a)) (asker a) away) (λ _. sends a))
+      other a t away here = cond_both (is_unawaited T i t a) t (ask_refused T i Dead a t) (λ (u : Side). parked u w ≡ Some (DelegateReady q k0)) (λ _. here)
+          (λ _. cond_both (kernel_of T (asker a) == i) (call_refused (code_number Dead) (asker a) t) (refusal_sent T Dead a t) (λ (u : Side). parked u w
+          ≡ Some (DelegateReady q k0)) (λ _. free (parked t (asker a)) (asker a) away) (λ _. sends a))
         where
           free : (p : Option Parked) (n : ℕ) → (n ≡ w → ⊥) → parked (parked_as n (Ready (code_number Dead)) (promise_freed p n t)) w ≡ Some (DelegateReady q k0)
           free None n off = parked-other t n (Some (Ready (code_number Dead))) w (λ same. off (sym same)) ∙ here

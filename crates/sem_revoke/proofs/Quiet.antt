@@ -1,6 +1,8 @@
--- Who changes the parked call of a VPE: the VPE itself, an ask or a message of it, or a job for which it waits. Where nothing of these is about, the call stays as it is; and a pending delegation stays until it is acknowledged.
+-- Who changes the parked call of a VPE: the VPE itself, an ask or a message of it, or a job for which it waits. Where nothing of these is about, the call stays
+-- as it is; and a pending delegation stays until it is acknowledged.
 use Rattle.sem_msg.specs.ParkedStates.{is_ready_with}
-use Rattle.std.proofs.Common.{◌≡◌, ◌⊎◌, ℕ, zero, suc, ◌+◌, ◌-◌, Bool, true, false, not, ◌&&◌, List, [], ◌∷◌, ◌++◌, drop, filter, find, length, get_or, nat_lt, Option, Some, None, refl, sym, ap, ◌∙◌, subst, inl, inr}
+use Rattle.std.proofs.Common.{◌≡◌, ◌⊎◌, ℕ, zero, suc, ◌+◌, ◌-◌, Bool, true, false, not, ◌&&◌, List, [], ◌∷◌, ◌++◌, drop, filter, find, length, get_or, nat_lt}
+use Rattle.std.proofs.Common.{Option, Some, None, refl, sym, ap, ◌∙◌, subst, inl, inr}
 use Rattle.std.specs.Prelude.{◌==◌, if◌then◌else◌}
 use Rattle.std.specs.List.{Contains}
 use Rattle.std.proofs.lemmas.Bool.{cases_Bool, cases_eq, cond_both, cond-true, cond-false, false_from_ne_true}
@@ -34,9 +36,12 @@ use Rattle.sem_msg.specs.JobRows.{if_done, next_done, with_number, without_numbe
 use Rattle.sem_msg.specs.VpeRows
 use Rattle.sem_msg.specs.Setup.{Setup}
 use Rattle.sem_msg.specs.Lookups.{owner_of, place_owner, is_local, kernel_of}
-use Rattle.sem_machine.specs.Sides.{Side, row, cap, job, parked, pending, with_slot, ready, parked_as, unparked, asked, ask_taken, buried, drawn, installed, unlinked, mark_all, unbind_all, pending_added, pending_removed, job_opened, job_changed, job_removed, send, cap_added}
+use Rattle.sem_machine.specs.Sides.{Side, row, cap, job, parked, pending, with_slot, ready, parked_as, unparked, asked, ask_taken, buried, drawn, installed}
+use Rattle.sem_machine.specs.Sides.{unlinked, mark_all, unbind_all, pending_added, pending_removed, job_opened, job_changed, job_removed, send, cap_added}
 use Rattle.sem_machine.specs.Asks.{asker, is_unawaited, promise_freed, call_refused, refusal_sent, ask_refused}
-use Rattle.sem_machine.specs.Revokes.{count_raised, count_lowered, with_up, other_marker, adopted, request_or_adopt, root_spared, selectors_freed, all_freed, swept, woken, parent_left, up_told, left_parent, closed_here, closed, finish, settled, opened, begin, waiter_left, revoke_begun, clear_begun, ready_freed, obtain_cancelled, request_begun, revoke_requested, revoke_done}
+use Rattle.sem_machine.specs.Revokes.{count_raised, count_lowered, with_up, other_marker, adopted, request_or_adopt, root_spared, selectors_freed, all_freed}
+use Rattle.sem_machine.specs.Revokes.{swept, woken, parent_left, up_told, left_parent, closed_here, closed, finish, settled, opened, begin, waiter_left}
+use Rattle.sem_machine.specs.Revokes.{revoke_begun, clear_begun, ready_freed, obtain_cancelled, request_begun, revoke_requested, revoke_done}
 use Rattle.sem_machine.specs.Ends.{ask_ended, call_ended, revoked_if_left, keys_of, ended}
 use Rattle.sem_machine.proofs.Folds.{in_turn-keeps, in_turn-keeps_each, option-keeps}
 use Rattle.sem_safety.proofs.JobIds.{done-among, next-among}
@@ -76,17 +81,24 @@ module _ (v : ℕ) (k0 : KeyName) (Touched : Type 0) (q : Option Parked) (d : Op
     pend = Q.pend;
   }
 
-  pub quiet-row : (t : Side) → Quiet t → (w : ℕ) (r : VpeRow) → (r.alive ≡ (row t w).alive) ⊎ (w ≡ v → Touched) → ((a : Ask) → Contains r.asks a → Contains (row t w).asks a ⊎ (asker a ≡ v → Touched)) → Quiet (record t { vpes = put no_vpe t.vpes w r })
+  pub quiet-row : (t : Side) → Quiet t → (w : ℕ) (r : VpeRow) → (r.alive ≡ (row t w).alive) ⊎ (w ≡ v → Touched) →
+      ((a : Ask) → Contains r.asks a → Contains (row t w).asks a ⊎ (asker a ≡ v → Touched)) → Quiet (record t { vpes = put no_vpe t.vpes w r })
   quiet-row t Q w r lives old = record {
     park = Q.park;
     life = elim (cases_eq v w) [
       | inl same ↦
           let at : get_or (put no_vpe t.vpes w r) v no_vpe ≡ r = ap (λ n. get_or (put no_vpe t.vpes w r) n no_vpe) same ∙ get_or-put_same no_vpe t.vpes w r in
           elim lives [
-            | inl alive ↦ elim Q.life [ inl before ↦ inl (ap (λ (x : VpeRow). x.alive) at ∙ (alive ∙ (ap (λ n. (row t n).alive) (sym same) ∙ before))) | inr touched ↦ inr touched ]
+            | inl alive ↦ elim Q.life [
+              | inl before ↦ inl (ap (λ (x : VpeRow). x.alive) at ∙ (alive ∙ (ap (λ n. (row t n).alive) (sym same) ∙ before)))
+              | inr touched ↦ inr touched
+            ]
             | inr touched ↦ inr (touched (sym same))
           ]
-      | inr other ↦ elim Q.life [ inl before ↦ inl (ap (λ (x : VpeRow). x.alive) (get_or-put_other no_vpe t.vpes w v r other) ∙ before) | inr touched ↦ inr touched ]
+      | inr other ↦ elim Q.life [
+        | inl before ↦ inl (ap (λ (x : VpeRow). x.alive) (get_or-put_other no_vpe t.vpes w v r other) ∙ before)
+        | inr touched ↦ inr touched
+      ]
     ];
     waiters = Q.waiters;
     asks = λ u a among who. elim (cases_eq u w) [
@@ -105,11 +117,18 @@ module _ (v : ℕ) (k0 : KeyName) (Touched : Type 0) (q : Option Parked) (d : Op
   quiet-drawn t Q w = quiet-row t Q w (record (row t w) { next_number = (row t w).next_number + 1 }) (inl refl) (λ a among. inl among)
 
   pub quiet-asked : (t : Side) → Quiet t → (w : ℕ) (a : Ask) → (asker a ≡ v → Touched) → Quiet (asked w a t)
-  quiet-asked t Q w a touched = quiet-row t Q w (record (row t w) { asks = if nat_lt (length (row t w).asks) ASKS then (row t w).asks ++ a ∷ [] else (row t w).asks }) (inl refl)
-      (λ b. cond_both (nat_lt (length (row t w).asks) ASKS) ((row t w).asks ++ a ∷ []) (row t w).asks (λ xs. Contains xs b → Contains (row t w).asks b ⊎ (asker b ≡ v → Touched))
+  quiet-asked t Q w a touched = quiet-row t Q w (record (row t w) {
+    asks = if nat_lt (length (row t w).asks) ASKS then (row t w).asks ++ a ∷ []
+        else (row t w).asks;
+  }) (inl refl)
+      (λ b. cond_both (nat_lt (length (row t w).asks) ASKS) ((row t w).asks ++ a ∷ []) (row t w).asks (λ xs. Contains xs b →
+      Contains (row t w).asks b ⊎ (asker b ≡ v → Touched))
       (λ _ among. elim (Contains-append_cases (row t w).asks (a ∷ []) b among) [
         | inl before ↦ inl before
-        | inr now ↦ elim (Contains-cons_cases a [] b now) [ inl same ↦ inr (subst (λ x. asker x ≡ v → Touched) same touched) | inr none ↦ absurd (Contains-nil b none) ]
+        | inr now ↦ elim (Contains-cons_cases a [] b now) [
+          | inl same ↦ inr (subst (λ x. asker x ≡ v → Touched) same touched)
+          | inr none ↦ absurd (Contains-nil b none)
+        ]
       ])
       (λ _ among. inl among))
 
@@ -121,32 +140,49 @@ module _ (v : ℕ) (k0 : KeyName) (Touched : Type 0) (q : Option Parked) (d : Op
       behind (x ∷ xs) a among = Contains-tail x xs a among
 
   pub quiet-installed : (t : Side) → Quiet t → (k : KeyName) (parent : Option KeyName) (sel : ℕ) (object : Object) → Quiet (installed k parent sel object t)
-  quiet-installed t Q k parent sel object = quiet-slot (cap_added (fresh k parent sel object) t) (quiet-caps (cap_added (fresh k parent sel object) t).caps t Q) k.vpe sel (Held k)
+  quiet-installed t Q k parent sel object = quiet-slot (cap_added (fresh k parent sel object) t) (quiet-caps (cap_added (fresh k parent sel object) t).caps t Q)
+      k.vpe sel (Held k)
 
   pub quiet-added : (t : Side) → Quiet t → (p : Pending) → Quiet (pending_added p t)
   quiet-added t Q p = record { park = Q.park; life = Q.life; waiters = Q.waiters; asks = Q.asks; pend = λ x is. kept t.pendings (Q.pend x is) }
     where
-      kept : {x : Pending} → (xs : List Pending) → find (λ (y : Pending). key_eq y.key k0) xs ≡ Some x → find (λ (y : Pending). key_eq y.key k0) (xs ++ p ∷ []) ≡ Some x
+      kept : {x : Pending} → (xs : List Pending) → find (λ (y : Pending). key_eq y.key k0) xs ≡ Some x →
+          find (λ (y : Pending). key_eq y.key k0) (xs ++ p ∷ []) ≡ Some x
       kept [] none = absurd cc
       kept (y ∷ ys) some = elim (cases_Bool (key_eq y.key k0)) [
-        | inl same ↦ cond-true (key_eq y.key k0) (Some y) (find (λ (y : Pending). key_eq y.key k0) (ys ++ p ∷ [])) same ∙ (sym (cond-true (key_eq y.key k0) (Some y) (find (λ (y : Pending). key_eq y.key k0) ys) same) ∙ some)
-        | inr differ ↦ cond-false (key_eq y.key k0) (Some y) (find (λ (y : Pending). key_eq y.key k0) (ys ++ p ∷ [])) differ ∙ kept ys (sym (cond-false (key_eq y.key k0) (Some y) (find (λ (y : Pending). key_eq y.key k0) ys) differ) ∙ some)
+        | inl same ↦ cond-true (key_eq y.key k0) (Some y) (find (λ (y : Pending). key_eq y.key k0) (ys ++ p ∷ [])) same
+            ∙ (sym (cond-true (key_eq y.key k0) (Some y) (find (λ (y : Pending). key_eq y.key k0) ys) same) ∙ some)
+        | inr differ ↦ cond-false (key_eq y.key k0) (Some y) (find (λ (y : Pending). key_eq y.key k0) (ys ++ p ∷ [])) differ
+            ∙ kept ys (sym (cond-false (key_eq y.key k0) (Some y) (find (λ (y : Pending). key_eq y.key k0) ys) differ) ∙ some)
       ]
 
   pub quiet-removed : (t : Side) → Quiet t → (k : KeyName) → (k ≡ k0 → (x : Pending) → d ≡ Some x → ⊥) → Quiet (pending_removed k t)
-  quiet-removed t Q k other = record { park = Q.park; life = Q.life; waiters = Q.waiters; asks = Q.asks; pend = λ x is. kept (λ same. other same x is) t.pendings (Q.pend x is) }
+  quiet-removed t Q k other = record {
+    park = Q.park;
+    life = Q.life;
+    waiters = Q.waiters;
+    asks = Q.asks;
+    pend = λ x is. kept (λ same. other same x is) t.pendings (Q.pend x is);
+  }
     where
-      kept : {x : Pending} → (k ≡ k0 → ⊥) → (xs : List Pending) → find (λ (y : Pending). key_eq y.key k0) xs ≡ Some x → find (λ (y : Pending). key_eq y.key k0) (filter (λ (y : Pending). not (key_eq y.key k)) xs) ≡ Some x
+      kept : {x : Pending} → (k ≡ k0 → ⊥) → (xs : List Pending) → find (λ (y : Pending). key_eq y.key k0) xs ≡ Some x →
+          find (λ (y : Pending). key_eq y.key k0) (filter (λ (y : Pending). not (key_eq y.key k)) xs) ≡ Some x
       kept apart [] none = absurd cc
       kept {x} apart (y ∷ ys) some = elim (cases_Bool (key_eq y.key k0)) [
         | inl same ↦
-            let differs : key_eq y.key k ≡ false = false_from_ne_true (key_eq y.key k) (λ is. apart (sym (key_eq-true y.key k is) ∙ key_eq-true y.key k0 same)) in
-            subst (λ zs. find (λ (y : Pending). key_eq y.key k0) zs ≡ Some x) (sym (cond-true (not (key_eq y.key k)) (y ∷ filter (λ (y : Pending). not (key_eq y.key k)) ys) (filter (λ (y : Pending). not (key_eq y.key k)) ys) (ap not differs)))
-            (cond-true (key_eq y.key k0) (Some y) (find (λ (y : Pending). key_eq y.key k0) (filter (λ (y : Pending). not (key_eq y.key k)) ys)) same ∙ (sym (cond-true (key_eq y.key k0) (Some y) (find (λ (y : Pending). key_eq y.key k0) ys) same) ∙ some))
+            let differs : key_eq y.key k ≡ false = false_from_ne_true (key_eq y.key k) (λ is. apart (sym (key_eq-true y.key k is)
+            ∙ key_eq-true y.key k0 same)) in
+            subst (λ zs. find (λ (y : Pending). key_eq y.key k0) zs ≡ Some x)
+            (sym (cond-true (not (key_eq y.key k)) (y ∷ filter (λ (y : Pending). not (key_eq y.key k)) ys)
+            (filter (λ (y : Pending). not (key_eq y.key k)) ys) (ap not differs)))
+            (cond-true (key_eq y.key k0) (Some y) (find (λ (y : Pending). key_eq y.key k0) (filter (λ (y : Pending). not (key_eq y.key k)) ys)) same
+            ∙ (sym (cond-true (key_eq y.key k0) (Some y) (find (λ (y : Pending). key_eq y.key k0) ys) same) ∙ some))
         | inr differ ↦
             let rest = kept apart ys (sym (cond-false (key_eq y.key k0) (Some y) (find (λ (y : Pending). key_eq y.key k0) ys) differ) ∙ some) in
-            cond_both (not (key_eq y.key k)) (y ∷ filter (λ (y : Pending). not (key_eq y.key k)) ys) (filter (λ (y : Pending). not (key_eq y.key k)) ys) (λ zs. find (λ (y : Pending). key_eq y.key k0) zs ≡ Some x)
-            (λ _. cond-false (key_eq y.key k0) (Some y) (find (λ (y : Pending). key_eq y.key k0) (filter (λ (y : Pending). not (key_eq y.key k)) ys)) differ ∙ rest)
+            cond_both (not (key_eq y.key k)) (y ∷ filter (λ (y : Pending). not (key_eq y.key k)) ys) (filter (λ (y : Pending). not (key_eq y.key k)) ys)
+            (λ zs. find (λ (y : Pending). key_eq y.key k0) zs ≡ Some x)
+            (λ _. cond-false (key_eq y.key k0) (Some y) (find (λ (y : Pending). key_eq y.key k0) (filter (λ (y : Pending). not (key_eq y.key k)) ys)) differ
+            ∙ rest)
             (λ _. rest)
       ]
 
@@ -154,7 +190,8 @@ module _ (v : ℕ) (k0 : KeyName) (Touched : Type 0) (q : Option Parked) (d : Op
   quiet-jobs t Q xs touched = record { park = Q.park; life = Q.life; waiters = touched; asks = Q.asks; pend = Q.pend }
 
   -- a change of jobs after which nobody more waits, but for who may touch
-  pub quiet-changed : (t : Side) → Quiet t → (j : ℕ) (f : JobRow → JobRow) → ((x : JobRow) → Contains (f x).waiters v → Contains x.waiters v ⊎ Touched) → Quiet (job_changed j f t)
+  pub quiet-changed : (t : Side) → Quiet t → (j : ℕ) (f : JobRow → JobRow) → ((x : JobRow) → Contains (f x).waiters v → Contains x.waiters v ⊎ Touched) →
+      Quiet (job_changed j f t)
   quiet-changed t Q j f fewer = quiet-jobs t Q (change (λ x. x.id == j) f t.jobs) (λ y among waits'.
       let x = Contains-from_map (λ (x : JobRow). if x.id == j then f x else x) t.jobs y among in
       cond_both (x.0.id == j) (f x.0) x.0 (λ (z : JobRow). Contains z.waiters v → Touched)
@@ -177,7 +214,8 @@ module _ (v : ℕ) (k0 : KeyName) (Touched : Type 0) (q : Option Parked) (d : Op
   -- A job is closed.
 
   quiet-freed_rows : (cs : List Capability) (t : Side) → Quiet t → Quiet (record t { vpes = all_freed cs t.vpes })
-  quiet-freed_rows cs t Q = in_turn-keeps (λ rows. Quiet (record t { vpes = rows })) (λ c rows. VpeRows.freed c.key.vpe c.selector rows) (λ c rows is. quiet-slot (record t { vpes = rows }) is c.key.vpe c.selector Free) cs t.vpes Q
+  quiet-freed_rows cs t Q = in_turn-keeps (λ rows. Quiet (record t { vpes = rows })) (λ c rows. VpeRows.freed c.key.vpe c.selector rows)
+      (λ c rows is. quiet-slot (record t { vpes = rows }) is c.key.vpe c.selector Free) cs t.vpes Q
 
   quiet-swept : (x : JobRow) (t : Side) → Quiet t → Quiet (swept x t)
   quiet-swept x t Q =
@@ -186,14 +224,20 @@ module _ (v : ℕ) (k0 : KeyName) (Touched : Type 0) (q : Option Parked) (d : Op
       quiet-caps (swept x t).caps (selectors_freed x.id spared) free
 
   quiet-woken : (vs : List ℕ) (t : Side) → (Contains vs v → Touched) → Quiet t → Quiet (woken vs t)
-  quiet-woken vs t touched Q = in_turn-keeps_each (λ ps. Quiet (record t { parks = ps })) (λ w ps. put None ps w (Some (Ready (code_number OkCode)))) vs (λ w among ps is. quiet-park (record t { parks = ps }) is w (Some (Ready (code_number OkCode))) (λ same. (refl, touched (subst (Contains vs) same among)))) t.parks Q
+  quiet-woken vs t touched Q = in_turn-keeps_each (λ ps. Quiet (record t { parks = ps })) (λ w ps. put None ps w (Some (Ready (code_number OkCode)))) vs
+      (λ w among ps is. quiet-park (record t { parks = ps }) is w (Some (Ready (code_number OkCode)))
+      (λ same. (refl, touched (subst (Contains vs) same among)))) t.parks Q
 
   -- the job is given by its parts
-  quiet-left : (T : Setup) (i id count : ℕ) (root : KeyName) (up : Option Up) (ws : List ℕ) (keep : Bool) (o : Option KeyName) (t : Side) → Quiet t → Quiet (parent_left T i (record { id = id; root = root; up = up; waiters = ws; count = count; keep = keep }) o t)
+  quiet-left : (T : Setup) (i id count : ℕ) (root : KeyName) (up : Option Up) (ws : List ℕ) (keep : Bool) (o : Option KeyName) (t : Side) → Quiet t →
+      Quiet (parent_left T i (record { id = id; root = root; up = up; waiters = ws; count = count; keep = keep }) o t)
   quiet-left T i id count root up ws keep None t Q = Q
-  quiet-left T i id count root None ws keep (Some p) t Q = cond_both (is_local T i p) _ _ Quiet (λ _. quiet-caps (unlinked p root t).caps t Q) (λ _. quiet-send (owner_of T p) (Unlink p root) t Q)
-  quiet-left T i id count root (Some (Local j)) ws keep (Some p) t Q = cond_both (is_local T i p) _ _ Quiet (λ _. quiet-caps (unlinked p root t).caps t Q) (λ _. quiet-send (owner_of T p) (Unlink p root) t Q)
-  quiet-left T i id count root (Some (Remote kernel j)) ws keep (Some p) t Q = cond_both (is_local T i p) _ _ Quiet (λ _. quiet-caps (unlinked p root t).caps t Q) (λ _. Q)
+  quiet-left T i id count root None ws keep (Some p) t Q = cond_both (is_local T i p) _ _ Quiet (λ _. quiet-caps (unlinked p root t).caps t Q)
+      (λ _. quiet-send (owner_of T p) (Unlink p root) t Q)
+  quiet-left T i id count root (Some (Local j)) ws keep (Some p) t Q = cond_both (is_local T i p) _ _ Quiet (λ _. quiet-caps (unlinked p root t).caps t Q)
+      (λ _. quiet-send (owner_of T p) (Unlink p root) t Q)
+  quiet-left T i id count root (Some (Remote kernel j)) ws keep (Some p) t Q =
+      cond_both (is_local T i p) _ _ Quiet (λ _. quiet-caps (unlinked p root t).caps t Q) (λ _. Q)
 
   quiet-told : (up : Option Up) (t : Side) → Quiet t → Quiet (up_told up t)
   quiet-told None t Q = Q
@@ -205,7 +249,8 @@ module _ (v : ℕ) (k0 : KeyName) (Touched : Type 0) (q : Option Parked) (d : Op
   quiet-closed T i x t among Q =
       let gone : Side = job_removed x.id t in
       let one : Quiet gone = quiet-jobs t Q gone.jobs (λ y there. Q.waiters y (Contains-from_filter (λ (z : JobRow). not (z.id == x.id)) t.jobs y there).0) in
-      quiet-told x.up (closed_here T i x gone) (quiet-left T i x.id x.count x.root x.up x.waiters x.keep (left_parent gone x) (woken x.waiters (swept x gone)) (quiet-woken x.waiters (swept x gone) (Q.waiters x among) (quiet-swept x gone one)))
+      quiet-told x.up (closed_here T i x gone) (quiet-left T i x.id x.count x.root x.up x.waiters x.keep (left_parent gone x) (woken x.waiters (swept x gone))
+      (quiet-woken x.waiters (swept x gone) (Q.waiters x among) (quiet-swept x gone one)))
 
   quiet-finish : (T : Setup) (i n : ℕ) (o : Option JobRow) (t : Side) → ((x : JobRow) → o ≡ Some x → Contains t.jobs x) → Quiet t → Quiet (finish T i n o t)
   unfolding finish
@@ -225,9 +270,11 @@ module _ (v : ℕ) (k0 : KeyName) (Touched : Type 0) (q : Option Parked) (d : Op
   quiet-adopted j (Some m) t Q = quiet-raised (with_up (Local j) m t) (quiet-up t Q (Local j) m) j
 
   quiet-asks_for : (T : Setup) (i j : ℕ) (k : KeyName) (t : Side) → Quiet t → Quiet (request_or_adopt T i j k t)
-  quiet-asks_for T i j k t Q = cond_both (is_local T i k) _ _ Quiet (λ _. quiet-adopted j (other_marker j (cap t k)) t Q) (λ _. quiet-raised (send (owner_of T k) (RevokeReq k j) t) (quiet-send (owner_of T k) (RevokeReq k j) t Q) j)
+  quiet-asks_for T i j k t Q = cond_both (is_local T i k) _ _ Quiet (λ _. quiet-adopted j (other_marker j (cap t k)) t Q)
+      (λ _. quiet-raised (send (owner_of T k) (RevokeReq k j) t) (quiet-send (owner_of T k) (RevokeReq k j) t Q) j)
 
-  pub quiet-begin : (T : Setup) (i : ℕ) (root : KeyName) (up : Option Up) (ws : List ℕ) (keep : Bool) (t : Side) → (Contains ws v → Touched) → Quiet t → Quiet (begin T i root up ws keep t)
+  pub quiet-begin : (T : Setup) (i : ℕ) (root : KeyName) (up : Option Up) (ws : List ℕ) (keep : Bool) (t : Side) → (Contains ws v → Touched) → Quiet t →
+      Quiet (begin T i root up ws keep t)
   unfolding opened
   quiet-begin T i root up ws keep t touched Q =
       let j : ℕ = t.next_job in
@@ -238,13 +285,23 @@ module _ (v : ℕ) (k0 : KeyName) (Touched : Type 0) (q : Option Parked) (d : Op
         life = Q.life;
         waiters = λ y among w. elim (Contains-append_cases t.jobs (new ∷ []) y among) [
           | inl before ↦ Q.waiters y before w
-          | inr now ↦ elim (Contains-cons_cases new [] y now) [ inl same ↦ touched (subst (λ (z : JobRow). Contains z.waiters v) (sym same) w) | inr none ↦ absurd (Contains-nil y none) ]
+          | inr now ↦ elim (Contains-cons_cases new [] y now) [
+            | inl same ↦ touched (subst (λ (z : JobRow). Contains z.waiters v) (sym same) w)
+            | inr none ↦ absurd (Contains-nil y none)
+          ]
         ];
         asks = Q.asks;
         pend = Q.pend;
       } in
-      let marked : Quiet (unbind_all ks (mark_all ks j (job_opened root up ws keep t))) = record { park = one.park; life = one.life; waiters = one.waiters; asks = one.asks; pend = one.pend } in
-      quiet-settled T i j (opened T i root up ws keep t) (in_turn-keeps Quiet (request_or_adopt T i j) (λ k u is. quiet-asks_for T i j k u is) (children_of t.caps ks) (unbind_all ks (mark_all ks j (job_opened root up ws keep t))) marked)
+      let marked : Quiet (unbind_all ks (mark_all ks j (job_opened root up ws keep t))) = record {
+        park = one.park;
+        life = one.life;
+        waiters = one.waiters;
+        asks = one.asks;
+        pend = one.pend;
+      } in
+      quiet-settled T i j (opened T i root up ws keep t) (in_turn-keeps Quiet (request_or_adopt T i j) (λ k u is. quiet-asks_for T i j k u is)
+      (children_of t.caps ks) (unbind_all ks (mark_all ks j (job_opened root up ws keep t))) marked)
 
   one-waiter : (w : ℕ) → (w ≡ v → Touched) → Contains (w ∷ []) v → Touched
   one-waiter w touched among = elim (Contains-cons_cases w [] v among) [ inl same ↦ touched same | inr none ↦ absurd (Contains-nil v none) ]
@@ -265,7 +322,8 @@ module _ (v : ℕ) (k0 : KeyName) (Touched : Type 0) (q : Option Parked) (d : Op
       from (Some (Ready code)) = Q
 
   pub quiet-ask_refused : (T : Setup) (i : ℕ) (code : Code) (a : Ask) (t : Side) → (asker a ≡ v → Touched) → Quiet t → Quiet (ask_refused T i code a t)
-  quiet-ask_refused T i code a t touched Q = cond_both (kernel_of T (asker a) == i) _ _ Quiet (λ _. quiet-refused (code_number code) (asker a) t touched Q) (λ _. from a)
+  quiet-ask_refused T i code a t touched Q = cond_both (kernel_of T (asker a) == i) _ _ Quiet (λ _. quiet-refused (code_number code) (asker a) t touched Q)
+      (λ _. from a)
     where
       from : (b : Ask) → Quiet (refusal_sent T code b t)
       from (ObtainAsk place target) = quiet-send (place_owner T place) (ObtainNo place (code_number code)) t Q
@@ -276,11 +334,15 @@ module _ (v : ℕ) (k0 : KeyName) (Touched : Type 0) (q : Option Parked) (d : Op
   pub quiet-ended : (T : Setup) (i u : ℕ) (t : Side) → (u ≡ v → Touched) → Quiet t → Quiet (ended T i u t)
   unfolding ended
   quiet-ended T i u t touched Q =
-      let buried' : Quiet (buried u t) = quiet-row t Q u (record (row t u) { alive = false; asks = [] }) (inr touched) (λ a none. absurd (Contains-nil a none)) in
+      let buried' : Quiet (buried u t) = quiet-row t Q u (record (row t u) { alive = false; asks = [] }) (inr touched) (λ a none. absurd (Contains-nil a none))
+      in
       let answered : Side = in_turn (ask_ended T i) (row t u).asks (buried u t) in
-      let told : Quiet answered = in_turn-keeps_each Quiet (ask_ended T i) (row t u).asks (λ a among s is. cond_both (is_unawaited T i s a) s (ask_refused T i Dead a s) Quiet (λ _. is) (λ _. quiet-ask_refused T i Dead a s (Q.asks u a among) is)) (buried u t) buried' in
+      let told : Quiet answered =
+      in_turn-keeps_each Quiet (ask_ended T i) (row t u).asks (λ a among s is. cond_both (is_unawaited T i s a) s (ask_refused T i Dead a s) Quiet (λ _. is)
+      (λ _. quiet-ask_refused T i Dead a s (Q.asks u a among) is)) (buried u t) buried' in
       let last : Side = call_ended T (parked answered u) u (unparked u answered) in
-      in_turn-keeps Quiet (revoked_if_left T i) (λ k s is. left k s is) (keys_of last u) last (owes (parked answered u) (unparked u answered) (quiet-park answered told u None (λ same. (refl, touched same))))
+      in_turn-keeps Quiet (revoked_if_left T i) (λ k s is. left k s is) (keys_of last u) last
+      (owes (parked answered u) (unparked u answered) (quiet-park answered told u None (λ same. (refl, touched same))))
     where
       owes : (p : Option Parked) (s : Side) → Quiet s → Quiet (call_ended T p u s)
       owes None s is = is
@@ -290,7 +352,8 @@ module _ (v : ℕ) (k0 : KeyName) (Touched : Type 0) (q : Option Parked) (d : Op
       owes (Some (DelegateWait parent)) s is = is
       owes (Some (DelegateReady parent key)) s is = quiet-send (owner_of T key) (Ack key false) s is
       owes (Some (RevokeWait j)) s is = quiet-jobs s is (waiter_left j u s).jobs (λ y among w.
-          let x = Contains-from_map (λ (x : JobRow). record x { waiters = without_number x.waiters u; keep = x.keep && not ((x.id == j) && (x.root.vpe == u)) }) s.jobs y among in
+          let x = Contains-from_map (λ (x : JobRow). record x { waiters = without_number x.waiters u; keep = x.keep && not ((x.id == j) && (x.root.vpe == u)) })
+          s.jobs y among in
           is.waiters x.0 x.1 (Contains-from_filter (λ n. not (n == u)) x.0.waiters v (subst (λ (z : JobRow). Contains z.waiters v) (sym x.2) w)).0)
       owes (Some (Ready code)) s is = is
 
@@ -299,14 +362,17 @@ module _ (v : ℕ) (k0 : KeyName) (Touched : Type 0) (q : Option Parked) (d : Op
         where
           by_cap : (o : Option Capability) → Quiet (revoked_if_there T i k o s)
           by_cap None = is
-          by_cap (Some c) = option-keeps Quiet (λ (m : ℕ). s) c.mark (begin T i k None [] false s) (λ m marked. is) (quiet-begin T i k None [] false s (λ none. absurd (Contains-nil v none)) is)
+          by_cap (Some c) = option-keeps Quiet (λ (m : ℕ). s) c.mark (begin T i k None [] false s) (λ m marked. is)
+              (quiet-begin T i k None [] false s (λ none. absurd (Contains-nil v none)) is)
 
   -- A revoke, a clear, and what comes from other kernels.
 
   pub quiet-revoked : (T : Setup) (i u : ℕ) (k : KeyName) (m : Option ℕ) (t : Side) → (u ≡ v → ⊥) → Quiet t → Quiet (revoke_begun T i u k m t)
-  quiet-revoked T i u k None t other Q = quiet-begin T i k None (u ∷ []) false (parked_as u (RevokeWait t.next_job) t) (one-waiter u (λ same. absurd (other same))) (quiet-park t Q u (Some (RevokeWait t.next_job)) (λ same. absurd (other same)))
+  quiet-revoked T i u k None t other Q = quiet-begin T i k None (u ∷ []) false (parked_as u (RevokeWait t.next_job) t)
+      (one-waiter u (λ same. absurd (other same))) (quiet-park t Q u (Some (RevokeWait t.next_job)) (λ same. absurd (other same)))
   quiet-revoked T i u k (Some j) t other Q =
-      quiet-changed (parked_as u (RevokeWait j) t) (quiet-park t Q u (Some (RevokeWait j)) (λ same. absurd (other same))) j (λ x. record x { waiters = with_number x.waiters u })
+      quiet-changed (parked_as u (RevokeWait j) t) (quiet-park t Q u (Some (RevokeWait j)) (λ same. absurd (other same))) j
+      (λ x. record x { waiters = with_number x.waiters u })
       (λ x w. elim (Contains-append_cases (filter (λ n. nat_lt n u) x.waiters) (u ∷ filter (λ n. nat_lt u n) x.waiters) v w) [
         | inl before ↦ inl (Contains-from_filter (λ n. nat_lt n u) x.waiters v before).0
         | inr rest ↦ elim (Contains-cons_cases u (filter (λ n. nat_lt u n) x.waiters) v rest) [
@@ -316,11 +382,15 @@ module _ (v : ℕ) (k0 : KeyName) (Touched : Type 0) (q : Option Parked) (d : Op
       ])
 
   pub quiet-cleared : (T : Setup) (i u : ℕ) (k : KeyName) (t : Side) → (u ≡ v → ⊥) → Quiet t → Quiet (clear_begun T i u k t)
-  quiet-cleared T i u k t other Q = quiet-begin T i k None (u ∷ []) true (parked_as u (RevokeWait t.next_job) t) (one-waiter u (λ same. absurd (other same))) (quiet-park t Q u (Some (RevokeWait t.next_job)) (λ same. absurd (other same)))
+  quiet-cleared T i u k t other Q = quiet-begin T i k None (u ∷ []) true (parked_as u (RevokeWait t.next_job) t) (one-waiter u (λ same. absurd (other same)))
+      (quiet-park t Q u (Some (RevokeWait t.next_job)) (λ same. absurd (other same)))
 
-  pub quiet-requested : (T : Setup) (i from j : ℕ) (k : KeyName) (o : Option Capability) (t : Side) → (is_ready_with k (parked t k.vpe) ≡ true → k.vpe ≡ v → Touched) → Quiet t → Quiet (revoke_requested T i from j k o t)
+  pub quiet-requested : (T : Setup) (i from j : ℕ) (k : KeyName) (o : Option Capability) (t : Side) →
+      (is_ready_with k (parked t k.vpe) ≡ true → k.vpe ≡ v → Touched) → Quiet t → Quiet (revoke_requested T i from j k o t)
   quiet-requested T i from j k None t touched Q =
-      quiet-send from (RevokeDone j) (obtain_cancelled k t) (cond_both (is_ready_with k (parked t k.vpe)) _ t Quiet (λ is. quiet-park (ready_freed (parked t k.vpe) k.vpe t) (free (parked t k.vpe)) k.vpe (Some ObtainCancelled) (λ same. (refl, touched is same))) (λ _. Q))
+      quiet-send from (RevokeDone j) (obtain_cancelled k t)
+      (cond_both (is_ready_with k (parked t k.vpe)) _ t Quiet (λ is. quiet-park (ready_freed (parked t k.vpe) k.vpe t) (free (parked t k.vpe)) k.vpe
+      (Some ObtainCancelled) (λ same. (refl, touched is same))) (λ _. Q))
     where
       free : (p : Option Parked) → Quiet (ready_freed p k.vpe t)
       free None = Q

@@ -1,5 +1,6 @@
 -- A world in which no event is enabled is idle.
-use Rattle.std.proofs.Common.{◌≡◌, ℕ, ◌≤◌, ◌<◌, true, false, not, ◌&&◌, List, [], ◌∷◌, Option, Some, None, is_some, is_none, slice_get, length, refl, sym, ap, ◌∙◌, subst, inl, inr, arith, eq-eqb}
+use Rattle.std.proofs.Common.{◌≡◌, ℕ, ◌≤◌, ◌<◌, true, false, not, ◌&&◌, List, [], ◌∷◌, Option, Some, None, is_some, is_none, slice_get, length, refl, sym, ap}
+use Rattle.std.proofs.Common.{◌∙◌, subst, inl, inr, arith, eq-eqb}
 use Rattle.std.specs.Prelude.{◌==◌, nat_lt, IsNone}
 use Rattle.std.specs.List.{Contains}
 use Rattle.std.proofs.lemmas.Bool.{cases_Bool, cases_eq, cases_lt, cond_both, and_from, ne_eqb, true≢false, ltb-true, lt-ltb}
@@ -32,9 +33,11 @@ least-one : (version : ℕ) → 1 ≤ least_window version
 least-one version = cond_both (version == 1) 4 1 (λ n. 1 ≤ n) (λ _. omega arith) (λ _. omega arith)
 
 -- an act is enabled that its side and the links allow
-pub enabled-so : (T : Setup) (W : World) (i : ℕ) (a : Act) → i < T.kernels → is_locally_enabled T i (side W i) a ≡ true → is_allowed T W i a ≡ true → is_enabled T W (event i a) ≡ true
+pub enabled-so : (T : Setup) (W : World) (i : ℕ) (a : Act) → i < T.kernels → is_locally_enabled T i (side W i) a ≡ true → is_allowed T W i a ≡ true →
+    is_enabled T W (event i a) ≡ true
 unfolding is_enabled
-enabled-so T W i a low local allowed = and_from (nat_lt i T.kernels) (is_locally_enabled T i (side W i) a && is_allowed T W i a) (lt-ltb i T.kernels low) (and_from (is_locally_enabled T i (side W i) a) (is_allowed T W i a) local allowed)
+enabled-so T W i a low local allowed = and_from (nat_lt i T.kernels) (is_locally_enabled T i (side W i) a && is_allowed T W i a) (lt-ltb i T.kernels low)
+    (and_from (is_locally_enabled T i (side W i) a) (is_allowed T W i a) local allowed)
 
 -- in a quiet world none is
 pub never-enabled : (T : Setup) (W : World) → IsQuiet T W → (e : Event) → is_enabled T W e ≡ true → ⊥
@@ -83,9 +86,12 @@ module _ (T : Setup) (valid : IsSetup T) (J : List Entry) (runs : IsSchedule T J
         | inr high ↦ let none : [] ≡ m ∷ ms = sym (ap (λ (s : Side). outbox s j) (schedule-past T J runs i high)) ∙ is in absurd cc
         | inl low ↦
             let sent = ((schedule-sound T valid J runs).sides i low).outs j m (subst (λ xs. Contains xs m) (sym is) (Contains-head m ms)) in
-            let room : length (link W i j) < T.window = let none = ap length (link-none i j) in let wide = valid.windowed.0 in let least = least-one T.version in omega (arith, none, wide, least) in
+            let room : length (link W i j) < T.window = let none = ap length (link-none i j) in let wide = valid.windowed.0 in
+            let least = least-one T.version in omega (arith, none, wide, least) in
             absurd (stuck i (Flush j) low
-            (and_from (is_other_kernel T i j) (is_some (slice_get (outbox (side W i) j) 0)) (and_from (nat_lt j T.kernels) (not (j == i)) (lt-ltb j T.kernels sent.1) (ap not (ne_eqb j i sent.2))) (ap (λ (xs : List Message). is_some (slice_get xs 0)) is))
+            (and_from (is_other_kernel T i j) (is_some (slice_get (outbox (side W i) j) 0))
+            (and_from (nat_lt j T.kernels) (not (j == i)) (lt-ltb j T.kernels sent.1) (ap not (ne_eqb j i sent.2)))
+            (ap (λ (xs : List Message). is_some (slice_get xs 0)) is))
             (lt-ltb (length (link W i j)) T.window room))
       ]
 
@@ -98,11 +104,14 @@ module _ (T : Setup) (valid : IsSetup T) (J : List Entry) (runs : IsSchedule T J
       by (a ∷ qs) is = elim (cases_lt i T.kernels) [
         | inr high ↦ let none : [] ≡ a ∷ qs = sym (ap (λ (s : Side). (row s v).asks) (schedule-past T J runs i high)) ∙ is in absurd cc
         | inl low ↦ elim (cases_eq (kernel_of T v) i) [
-          | inr other ↦ let none : [] ≡ a ∷ qs = sym (ap (λ (r : VpeRow). r.asks) ((((schedule-sound T valid J runs).sides i low).rows v).others other)) ∙ is in absurd cc
+          | inr other ↦ let none : [] ≡ a ∷ qs = sym (ap (λ (r : VpeRow). r.asks) ((((schedule-sound T valid J runs).sides i low).rows v).others other)) ∙ is in
+              absurd cc
           | inl own ↦ elim (cases_Bool (is_alive (side W i) v)) [
             | inr dead ↦ let none : [] ≡ a ∷ qs = sym (all-unasked T J i v dead) ∙ is in absurd cc
             | inl alive ↦ absurd (stuck i (Upcall v) low
-                (and_from (kernel_of T v == i) _ (eq-eqb (kernel_of T v) i own) (and_from (is_alive (side W i) v) (is_some (slice_get (row (side W i) v).asks 0)) alive (ap (λ (xs : List Ask). is_some (slice_get xs 0)) is)))
+                (and_from (kernel_of T v == i) _ (eq-eqb (kernel_of T v) i own)
+                (and_from (is_alive (side W i) v) (is_some (slice_get (row (side W i) v).asks 0)) alive
+                (ap (λ (xs : List Ask). is_some (slice_get xs 0)) is)))
                 refl)
           ]
         ]

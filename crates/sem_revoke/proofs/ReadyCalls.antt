@@ -6,7 +6,8 @@ use Rattle.sem_revoke.proofs.Dooming.{asked-doomed}
 use Rattle.sem_revoke.specs.Revocation.{IsDoomed}
 use Rattle.sem_safety.proofs.GrownLines.{line-self}
 use Rattle.std.proofs.lemmas.List.Elements.{Contains-append_left, Contains-append_right}
-use Rattle.std.proofs.Common.{◌≡◌, ◌⊎◌, ℕ, ◌+◌, ◌≤◌, ◌<◌, zero, suc, ◌++◌, Bool, true, ◌&&◌, List, [], ◌∷◌, get_or, Option, Some, None, is_none, is_some, append-nil, append_assoc, refl, sym, ap, ◌∙◌, subst, inl, inr, arith, eq-eqb, length}
+use Rattle.std.proofs.Common.{◌≡◌, ◌⊎◌, ℕ, ◌+◌, ◌≤◌, ◌<◌, zero, suc, ◌++◌, Bool, true, ◌&&◌, List, [], ◌∷◌, get_or, Option, Some, None, is_none, is_some}
+use Rattle.std.proofs.Common.{append-nil, append_assoc, refl, sym, ap, ◌∙◌, subst, inl, inr, arith, eq-eqb, length}
 use Rattle.std.specs.Prelude.{◌==◌, nat_lt}
 use Rattle.std.specs.List.{Contains, AllPairs, sum_by}
 use Rattle.std.specs.Option.{option_map_or, IsSome}
@@ -68,7 +69,8 @@ once-declared v (d ∷ ds) rise =
     elim (cases_Bool (d.vpe == v)) [
       | inl same ↦
           let one : here v d.vpe ≡ 1 = cond-true (d.vpe == v) 1 0 same in
-          let none = above ds (λ n x within. let less = rise zero (suc n) x (omega arith) (omega (arith, within)) in let is = eqb-true d.vpe v same in omega (arith, less, is)) in
+          let none = above ds (λ n x within. let less = rise zero (suc n) x (omega arith) (omega (arith, within)) in let is = eqb-true d.vpe v same in
+          omega (arith, less, is)) in
           omega (arith, all, one, none)
       | inr differ ↦
           let none : here v d.vpe ≡ 0 = cond-false (d.vpe == v) 1 0 differ in
@@ -95,7 +97,8 @@ pub here-one : (v : ℕ) → here v v ≡ 1
 here-one v = cond-true (v == v) 1 0 (eq-eqb v v refl)
 
 pub waiter-weighs : (v : ℕ) (s : Side) (x : JobRow) → Contains s.jobs x → Contains x.waiters v → 1 ≤ sum_by (of_job v) s.jobs
-waiter-weighs v s x among w = let one = weigh-among (here v) x.waiters v w in let all = weigh-among (of_job v) s.jobs x among in let is = here-one v in omega (arith, one, all, is)
+waiter-weighs v s x among w = let one = weigh-among (here v) x.waiters v w in let all = weigh-among (of_job v) s.jobs x among in let is = here-one v in
+    omega (arith, one, all, is)
 
 pub ask-weighs : (v : ℕ) (s : Side) (u : ℕ) (a : Ask) → Contains (row s u).asks a → asker a ≡ v → 1 ≤ sum_by (of_asks v) s.vpes
 ask-weighs v s u a among who =
@@ -105,11 +108,14 @@ ask-weighs v s u a among who =
     omega (arith, one, all, is)
 
 -- what is installed is held
-pub installed-held : (k : KeyName) (parent : Option KeyName) (sel : ℕ) (object : Object) (t : Side) → cap (installed k parent sel object t) k ≡ Some (fresh k parent sel object)
-installed-held k parent sel object t = ap (λ (z : Seen). z.cap k) (seen-cap_added (fresh k parent sel object) t) ∙ cond-true (key_eq k k) (Some (fresh k parent sel object)) (cap t k) (key_eq-same k)
+pub installed-held : (k : KeyName) (parent : Option KeyName) (sel : ℕ) (object : Object) (t : Side) →
+    cap (installed k parent sel object t) k ≡ Some (fresh k parent sel object)
+installed-held k parent sel object t = ap (λ (z : Seen). z.cap k) (seen-cap_added (fresh k parent sel object) t)
+    ∙ cond-true (key_eq k k) (Some (fresh k parent sel object)) (cap t k) (key_eq-same k)
 
 -- An event.
-module _ (T : Setup) (valid : IsSetup T) (J : List Entry) (runs : IsSchedule T J) (before : List Entry) (e : Entry) (later : List Entry) (parts : J ≡ before ++ e ∷ later) where
+module _ (T : Setup) (valid : IsSetup T) (J : List Entry) (runs : IsSchedule T J) (before : List Entry) (e : Entry) (later : List Entry) (parts : J ≡ before
+    ++ e ∷ later) where
   abbrev W : World
   W = world_after T before
 
@@ -132,7 +138,8 @@ module _ (T : Setup) (valid : IsSetup T) (J : List Entry) (runs : IsSchedule T J
       from : (x : Slot) → slot t u src ≡ x → cap_in t x ≡ Some p → p.key.vpe ≡ u
       from Free at' none = absurd cc
       from Promised at' none = absurd cc
-      from (Held k) at' some = ap (λ (z : KeyName). z.vpe) (key_eq-true p.key k (found (λ (x : Capability). key_eq x.key k) t.caps p some).1) ∙ is.own_slots u src k at'
+      from (Held k) at' some = ap (λ (z : KeyName). z.vpe) (key_eq-true p.key k (found (λ (x : Capability). key_eq x.key k) t.caps p some).1)
+          ∙ is.own_slots u src k at'
 
   -- what may not touch a call leaves it
   pub quiet-event : (v : ℕ) (k0 : KeyName) (Touched : Type 0) (q : Option Parked) (d : Option Pending) → Quiet v k0 Touched q d s
@@ -146,7 +153,8 @@ module _ (T : Setup) (valid : IsSetup T) (J : List Entry) (runs : IsSchedule T J
   unfolding local_step
   quiet-event v k0 Touched q d Q calls resumes kills tokens settles cancels = by e.event.act refl
     where
-      inbox : e.event.act ≡ Handle → (o : Option (ℕ × Message)) → s.inbox ≡ o → Quiet v k0 Touched q d (option_map_or (λ m. handled T i (with_inbox None s) m.0 m.1) o s)
+      inbox : e.event.act ≡ Handle → (o : Option (ℕ × Message)) → s.inbox ≡ o →
+          Quiet v k0 Touched q d (option_map_or (λ m. handled T i (with_inbox None s) m.0 m.1) o s)
       inbox act None none = Q
       inbox act (Some (from, m)) full = quiet-handled v k0 Touched q d T i (with_inbox None s) from m (tokens from m full)
           (λ accepted is. settles from accepted act (full ∙ ap (λ z. Some (from, z)) is))
@@ -156,9 +164,11 @@ module _ (T : Setup) (valid : IsSetup T) (J : List Entry) (runs : IsSchedule T J
       by : (a : Act) → e.event.act ≡ a → Quiet v k0 Touched q d (local_step T i s a (input_of W i a)).side
       by (Calls u) act =
           let t : Side = call_counted u s in
-          let counted : Quiet v k0 Touched q d t = quiet-row v k0 Touched q d s Q u (record (row s u) { next_call = (row s u).next_call + 1 }) (inl refl) (λ a among. inl among) in
+          let counted : Quiet v k0 Touched q d t = quiet-row v k0 Touched q d s Q u (record (row s u) { next_call = (row s u).next_call + 1 }) (inl refl)
+          (λ a among. inl among) in
           let kept : IsSoundSide t = sound.keeps_counted s sound-now u in
-          option-keeps (λ (x : Step). Quiet v k0 Touched q d x.side) (call_row T i t u) (next_call T s u) (plain s) (λ c there. quiet-call v k0 Touched q d T i u c t (calls u act) (owns t kept u) counted) Q
+          option-keeps (λ (x : Step). Quiet v k0 Touched q d x.side) (call_row T i t u) (next_call T s u) (plain s)
+          (λ c there. quiet-call v k0 Touched q d T i u c t (calls u act) (owns t kept u) counted) Q
       by (Upcall u) act = quiet-upcall v k0 Touched q d T i u s Q
       by (Resume u) act = quiet-resume v k0 Touched q d T u s (resumes u act) Q
       by (Kill u) act = quiet-ended v k0 Touched q d T i u s (kills u act) Q
@@ -171,15 +181,20 @@ module _ (T : Setup) (valid : IsSetup T) (J : List Entry) (runs : IsSchedule T J
   unfolding is_enabled is_locally_enabled
   calls-unparked u act =
       let enabled : is_enabled T W (record { kernel = i; act = Calls u }) ≡ true = ap (λ a. is_enabled T W (record { kernel = i; act = a })) (sym act) ∙ at.1 in
-      let outer = (and_parts ((kernel_of T u == i) && (is_alive s u && (is_none (parked s u) && is_some (next_call T s u)))) _ (and_parts (nat_lt i T.kernels) _ enabled).1).0 in
+      let outer = (and_parts ((kernel_of T u == i) && (is_alive s u && (is_none (parked s u) && is_some (next_call T s u)))) _
+      (and_parts (nat_lt i T.kernels) _ enabled).1).0 in
       let inner = and_parts (is_alive s u) (is_none (parked s u) && is_some (next_call T s u)) (and_parts (kernel_of T u == i) _ outer).1 in
       (and_parts (is_none (parked s u)) (is_some (next_call T s u)) inner.1).0
 
   -- a VPE that is killed has ended
   killed-ended : (v : ℕ) → e.event.act ≡ Kill v → has_ended J v ≡ true
-  killed-ended v act = list_any-at (λ (x : Entry). ends v x.event.act x.detail) J e (subst (λ xs. Contains xs e) (sym parts) (Contains-append_right before (e ∷ later) e (Contains-head e later))) (ap (λ a. ends v a e.detail) act ∙ eq-eqb v v refl)
+  killed-ended v act =
+      list_any-at (λ (x : Entry). ends v x.event.act x.detail) J e
+      (subst (λ xs. Contains xs e) (sym parts) (Contains-append_right before (e ∷ later) e (Contains-head e later))) (ap (λ a. ends v a e.detail) act
+      ∙ eq-eqb v v refl)
 
-  pub resumed-held : (v : ℕ) (k parent : KeyName) (object : Object) (sel : ℕ) → e.event.act ≡ Resume v → parked s v ≡ Some (ObtainReady k parent object sel) → cap (stepped T W e.event).side k ≡ Some (fresh k (Some parent) sel object)
+  pub resumed-held : (v : ℕ) (k parent : KeyName) (object : Object) (sel : ℕ) → e.event.act ≡ Resume v → parked s v ≡ Some (ObtainReady k parent object sel) →
+      cap (stepped T W e.event).side k ≡ Some (fresh k (Some parent) sel object)
   unfolding local_step resume_row
   resumed-held v k parent object sel act there =
       ap (λ a. cap (local_step T i s a (input_of W i a)).side k) act
@@ -199,7 +214,8 @@ module _ (T : Setup) (valid : IsSetup T) (J : List Entry) (runs : IsSchedule T J
     ready-step : parked s v ≡ Some q → is_alive s v ≡ true → Becomes i (stepped T W e.event).side
     ready-step there alive =
         let call = ((schedule-sound T valid before at.0).sides i (enabled-low T W e.event at.1)).calls v q there in
-        let frees : free (row s v) (parked s v) ≡ 1 = ap (free (row s v)) there ∙ cond-true ((row s v).alive && true) 1 0 (and_from (row s v).alive true alive refl) in
+        let frees : free (row s v) (parked s v) ≡ 1 = ap (free (row s v)) there
+        ∙ cond-true ((row s v).alive && true) 1 0 (and_from (row s v).alive true alive refl) in
         let most = single T valid before at.0 v in
         let part = side-le v W i in
         let Q = quiet-event v k Touched (Some q) None
@@ -215,7 +231,8 @@ module _ (T : Setup) (valid : IsSetup T) (J : List Entry) (runs : IsSchedule T J
         (λ u act same. inl (k, line-self (length J) (grants J) k, inr (ap (has_ended J) call.1.0 ∙ killed-ended v (act ∙ ap Kill same))))
         (λ from m full one. let weighs : of_inbox v s.inbox ≡ of_message v m = ap (of_inbox v) full in absurd (omega (arith, frees, most, part, one, weighs)))
         (λ from accepted act full x none. absurd cc)
-        (λ from k' j full ready same. inl (subst (IsDoomed J) (cancelled k' (ap (is_ready_with k') (sym (ap (parked s) same ∙ there)) ∙ ready)) (asked-doomed T valid J runs before (e ∷ later) parts k' j (from, i, fetched from (RevokeReq k' j) full))))
+        (λ from k' j full ready same. inl (subst (IsDoomed J) (cancelled k' (ap (is_ready_with k') (sym (ap (parked s) same ∙ there)) ∙ ready))
+        (asked-doomed T valid J runs before (e ∷ later) parts k' j (from, i, fetched from (RevokeReq k' j) full))))
         in
         elim Q.park [
           | inl same ↦ elim Q.life [ inl lives ↦ inl (same, lives) | inr touched ↦ touched-so there touched ]
@@ -233,7 +250,8 @@ module _ (T : Setup) (valid : IsSetup T) (J : List Entry) (runs : IsSchedule T J
         fetched from m full =
             Contains-append_left (fetched_from from s.inbox ++ link W from i) (outbox (side W from) i) m
             (Contains-append_left (fetched_from from s.inbox) (link W from i) m
-            (subst (λ xs. Contains xs m) (sym (ap (fetched_from from) full ∙ cond-true (from == from) (m ∷ []) [] (eq-eqb from from refl))) (Contains-head m [])))
+            (subst (λ xs. Contains xs m) (sym (ap (fetched_from from) full ∙ cond-true (from == from) (m ∷ []) [] (eq-eqb from from refl)))
+            (Contains-head m [])))
 
         touched-so : parked s v ≡ Some q → Touched → Becomes i (stepped T W e.event).side
         touched-so there (inl doomed) = inr (inr doomed)
@@ -241,18 +259,28 @@ module _ (T : Setup) (valid : IsSetup T) (J : List Entry) (runs : IsSchedule T J
 
     ready-next : (j : ℕ) → parked (side W j) v ≡ Some q → is_alive (side W j) v ≡ true → Becomes j (side (world_after T (before ++ e ∷ [])) j)
     ready-next j there alive = elim (cases_eq j i) [
-      | inl here ↦ subst (λ t. Becomes j t) (sym (side-here T valid J runs before e later parts (all-caused T valid J runs before (e ∷ later) parts) j here)) (ready-step (ap (λ n. parked (side W n) v) (sym here) ∙ there) (ap (λ n. is_alive (side W n) v) (sym here) ∙ alive))
+      | inl here ↦ subst (λ t. Becomes j t) (sym (side-here T valid J runs before e later parts (all-caused T valid J runs before (e ∷ later) parts) j here))
+          (ready-step (ap (λ n. parked (side W n) v) (sym here) ∙ there) (ap (λ n. is_alive (side W n) v) (sym here) ∙ alive))
       | inr away ↦
           let same = side-other T valid J runs before e later parts (all-caused T valid J runs before (e ∷ later) parts) j away in
           inl (ap (λ t. parked t v) same ∙ there, ap (λ t. is_alive t v) same ∙ alive)
     ]
 
 -- Along the journal.
-pub ready-lasts : (T : Setup) → IsSetup T → (J : List Entry) → IsSchedule T J → (before later : List Entry) (i v sel : ℕ) (k parent : KeyName) (object : Object) → J ≡ before ++ later
-    → parked (side (world_after T before) i) v ≡ Some (ObtainReady k parent object sel) → is_alive (side (world_after T before) i) v ≡ true → IsLive (world_after T J) k ⊎ IsDoomed J k
+pub ready-lasts : (T : Setup) → IsSetup T → (J : List Entry) → IsSchedule T J →
+    (before later : List Entry) (i v sel : ℕ) (k parent : KeyName) (object : Object) → J ≡ before ++ later
+    → parked (side (world_after T before) i) v ≡ Some (ObtainReady k parent object sel) → is_alive (side (world_after T before) i) v ≡ true →
+    IsLive (world_after T J) k ⊎ IsDoomed J k
 ready-lasts T valid J runs before [] i v sel k parent object parts there alive =
     let same : before ≡ J = sym (parts ∙ append-nil before) in
-    inl (inr (inr (inr (record { kernel = i; vpe = v; selector = sel; parent = parent; object = object; ready = subst (λ K. parked (side (world_after T K) i) v ≡ Some (ObtainReady k parent object sel)) same there }))))
+    inl (inr (inr (inr (record {
+      kernel = i;
+      vpe = v;
+      selector = sel;
+      parent = parent;
+      object = object;
+      ready = subst (λ K. parked (side (world_after T K) i) v ≡ Some (ObtainReady k parent object sel)) same there;
+    }))))
 ready-lasts T valid J runs before (e ∷ later) i v sel k parent object parts there alive =
     let next : J ≡ (before ++ e ∷ []) ++ later = parts ∙ sym (append_assoc before (e ∷ []) later) in
     elim (ready-next T valid J runs before e later parts v sel k parent object i there alive) [

@@ -1,5 +1,6 @@
 -- Every world of a schedule is ready for revocation, but for the order of gifts and requests.
-use Rattle.std.proofs.Common.{◌≡◌, ◌⊎◌, ℕ, zero, suc, ◌+◌, ◌≤◌, ◌<◌, ◌++◌, true, false, List, [], ◌∷◌, map, get_or, Option, Some, None, option_to_list, append-nil, append_assoc, refl, sym, ap, ◌∙◌, subst, inl, inr, arith}
+use Rattle.std.proofs.Common.{◌≡◌, ◌⊎◌, ℕ, zero, suc, ◌+◌, ◌≤◌, ◌<◌, ◌++◌, true, false, List, [], ◌∷◌, map, get_or, Option, Some, None, option_to_list}
+use Rattle.std.proofs.Common.{append-nil, append_assoc, refl, sym, ap, ◌∙◌, subst, inl, inr, arith}
 use Rattle.std.specs.Prelude.{◌==◌, nat_lt}
 use Rattle.std.specs.List.{Contains, range_with_len}
 use Rattle.std.specs.Option.{option_map_or}
@@ -57,7 +58,8 @@ start-past : (T : Setup) (j : ℕ) → T.kernels ≤ j → side (start T) j ≡ 
 unfolding start
 start-past T j past = range-past T 0 T.kernels j past
 
-after-past : (T : Setup) (W : World) (e : Event) → is_enabled T W e ≡ true → ((j : ℕ) → T.kernels ≤ j → side W j ≡ no_side) → (j : ℕ) → T.kernels ≤ j → side (after T W e) j ≡ no_side
+after-past : (T : Setup) (W : World) (e : Event) → is_enabled T W e ≡ true → ((j : ℕ) → T.kernels ≤ j → side W j ≡ no_side) → (j : ℕ) → T.kernels ≤ j →
+    side (after T W e) j ≡ no_side
 unfolding after is_enabled
 after-past T W e enabled before j past =
     let x : Side = (stepped T W e).side in
@@ -68,7 +70,8 @@ after-past T W e enabled before j past =
 pub schedule-past : (T : Setup) (J : List Entry) → IsSchedule T J → (j : ℕ) → T.kernels ≤ j → side (world_after T J) j ≡ no_side
 schedule-past T J runs = from [] J refl (start-past T)
   where
-    from : (before later : List Entry) → J ≡ before ++ later → ((j : ℕ) → T.kernels ≤ j → side (world_after T before) j ≡ no_side) → (j : ℕ) → T.kernels ≤ j → side (world_after T J) j ≡ no_side
+    from : (before later : List Entry) → J ≡ before ++ later → ((j : ℕ) → T.kernels ≤ j → side (world_after T before) j ≡ no_side) → (j : ℕ) → T.kernels ≤ j →
+        side (world_after T J) j ≡ no_side
     from before [] parts is = λ j past. ap (λ K. side (world_after T K) j) (parts ∙ append-nil before) ∙ is j past
     from before (e ∷ es) parts is =
         let at = entry-enabled T before (start T) e es (subst (IsSchedule T) parts runs) in
@@ -98,34 +101,57 @@ module _ (T : Setup) (valid : IsSetup T) where
   pub unmade-none : (J : List Entry) → IsSchedule T J → (k : KeyName) → (Contains (made T J) k → ⊥) → at_world k all_held (world_after T J) ≡ 0
   unmade-none J runs k unmade =
       let few = schedule-lives k all_held T J runs in
-      let roots = weigh-none (at_root k all_held) (root_keys T) (λ q among. cond-false (key_eq q k) 1 0 (false_from_ne_true (key_eq q k) (λ same. unmade (Contains-append_left (root_keys T) (map (λ g. g.1) (grants J)) k (subst (Contains (root_keys T)) (key_eq-true q k same) among))))) in
-      let children = weigh-none (λ (g : KeyName × KeyName). at_key k g.1) (grants J) (λ g among. cond-false (key_eq g.1 k) 1 0 (false_from_ne_true (key_eq g.1 k) (λ same. unmade (Contains-append_right (root_keys T) (map (λ g. g.1) (grants J)) k (subst (Contains (map (λ (g : KeyName × KeyName). g.1) (grants J))) (key_eq-true g.1 k same) (Contains-map (λ (g : KeyName × KeyName). g.1) (grants J) g among)))))) in
+      let roots = weigh-none (at_root k all_held) (root_keys T)
+      (λ q among. cond-false (key_eq q k) 1 0
+      (false_from_ne_true (key_eq q k)
+      (λ same. unmade (Contains-append_left (root_keys T) (map (λ g. g.1) (grants J)) k (subst (Contains (root_keys T)) (key_eq-true q k same) among))))) in
+      let children = weigh-none (λ (g : KeyName × KeyName). at_key k g.1) (grants J)
+      (λ g among. cond-false (key_eq g.1 k) 1 0
+      (false_from_ne_true (key_eq g.1 k)
+      (λ same. unmade (Contains-append_right (root_keys T) (map (λ g. g.1) (grants J)) k
+      (subst (Contains (map (λ (g : KeyName × KeyName). g.1) (grants J))) (key_eq-true g.1 k same)
+      (Contains-map (λ (g : KeyName × KeyName). g.1) (grants J) g among)))))) in
       omega (arith, few, roots, children)
 
   pub alive-made : (J : List Entry) → IsSchedule T J → (k : KeyName) → 1 ≤ at_world k all_held (world_after T J) → Contains (made T J) k
   alive-made J runs k more = elim (cases_Bool (has_key (made T J) k)) [
     | inl has ↦ Contains-from_has_key (made T J) k has
-    | inr none ↦ let zero' = unmade-none J runs k (λ among. true≢false (sym (has_key-from_Contains (made T J) k among) ∙ none)) in absurd (omega (arith, more, zero'))
+    | inr none ↦ let zero' = unmade-none J runs k (λ among. true≢false (sym (has_key-from_Contains (made T J) k among) ∙ none)) in
+        absurd (omega (arith, more, zero'))
   ]
 
   -- Each grant is of a named key, which is never on its way where the parent has the same owner.
   abbrev pub IsTidy : List Entry → Type 0
-  IsTidy J = (p k : KeyName) → Contains (grants J) (p, k) → (is_declared_at T k.pe k.vpe ≡ true) × (owner_of T p ≡ owner_of T k → at_world k on_its_way (world_after T J) ≡ 0)
+  IsTidy J = (p k : KeyName) → Contains (grants J) (p, k) → (is_declared_at T k.pe k.vpe ≡ true)
+      × (owner_of T p ≡ owner_of T k → at_world k on_its_way (world_after T J) ≡ 0)
 
-  pub grant-weighs : (k : KeyName) (o : Option (KeyName × KeyName)) → ((p : KeyName) → ◌≡◌ {A = Option (KeyName × KeyName)} o (Some (p, k)) → ⊥) → at_grant k o ≡ 0
+  pub grant-weighs : (k : KeyName) (o : Option (KeyName × KeyName)) → ((p : KeyName) → ◌≡◌ {A = Option (KeyName × KeyName)} o (Some (p, k)) → ⊥) →
+      at_grant k o ≡ 0
   grant-weighs k None not_now = refl
-  grant-weighs k (Some g) not_now = cond-false (key_eq g.1 k) 1 0 (false_from_ne_true (key_eq g.1 k) (λ same. not_now g.0 (subst (λ z. ◌≡◌ {A = Option (KeyName × KeyName)} (Some g) (Some (g.0, z))) (key_eq-true g.1 k same) refl)))
+  grant-weighs k (Some g) not_now =
+      cond-false (key_eq g.1 k) 1 0
+      (false_from_ne_true (key_eq g.1 k)
+      (λ same. not_now g.0 (subst (λ z. ◌≡◌ {A = Option (KeyName × KeyName)} (Some g) (Some (g.0, z))) (key_eq-true g.1 k same) refl)))
 
-  pub last-granted : (gs : List (KeyName × KeyName)) (o : Option (KeyName × KeyName)) (p k : KeyName) → Contains (gs ++ option_to_list o) (p, k) → Contains gs (p, k) ⊎ (◌≡◌ {A = Option (KeyName × KeyName)} o (Some (p, k)))
+  pub last-granted : (gs : List (KeyName × KeyName)) (o : Option (KeyName × KeyName)) (p k : KeyName) → Contains (gs ++ option_to_list o) (p, k) →
+      Contains gs (p, k) ⊎ (◌≡◌ {A = Option (KeyName × KeyName)} o (Some (p, k)))
   last-granted gs None p k among = elim (Contains-append_cases gs [] (p, k) among) [ inl before ↦ inl before | inr none ↦ absurd (Contains-nil (p, k) none) ]
-  last-granted gs (Some g) p k among = elim (Contains-append_cases gs (g ∷ []) (p, k) among) [ inl before ↦ inl before | inr now ↦ elim (Contains-cons_cases g [] (p, k) now) [ inl same ↦ inr (ap Some same) | inr none ↦ absurd (Contains-nil (p, k) none) ] ]
+  last-granted gs (Some g) p k among = elim (Contains-append_cases gs (g ∷ []) (p, k) among) [
+    | inl before ↦ inl before
+    | inr now ↦ elim (Contains-cons_cases g [] (p, k) now) [ inl same ↦ inr (ap Some same) | inr none ↦ absurd (Contains-nil (p, k) none) ]
+  ]
 
   -- a grant of this event within one kernel leaves nothing on its way
-  granted-here : (W : World) (i : ℕ) (a : Act) (p k : KeyName) → ◌≡◌ {A = Option (KeyName × KeyName)} (stepped T W (event i a)).outcome.grant (Some (p, k)) → at_side k on_its_way (stepped T W (event i a)).side ≤ at_side k on_its_way (side W i) → at_world k on_its_way W ≡ 0 → at_world k on_its_way (after T W (event i a)) ≡ 0
+  granted-here : (W : World) (i : ℕ) (a : Act) (p k : KeyName) → ◌≡◌ {A = Option (KeyName × KeyName)} (stepped T W (event i a)).outcome.grant (Some (p, k)) →
+      at_side k on_its_way (stepped T W (event i a)).side ≤ at_side k on_its_way (side W i) → at_world k on_its_way W ≡ 0 →
+      at_world k on_its_way (after T W (event i a)) ≡ 0
   unfolding after local_step
-  granted-here W i (Calls v) p k some less none = let world = world-side k on_its_way W i (local_step T i (side W i) (Calls v) None).side in omega (arith, world, less, none)
-  granted-here W i (Upcall v) p k some less none = let world = world-side k on_its_way W i (local_step T i (side W i) (Upcall v) None).side in omega (arith, world, less, none)
-  granted-here W i (Resume v) p k some less none = let world = world-side k on_its_way W i (local_step T i (side W i) (Resume v) None).side in omega (arith, world, less, none)
+  granted-here W i (Calls v) p k some less none = let world = world-side k on_its_way W i (local_step T i (side W i) (Calls v) None).side in
+      omega (arith, world, less, none)
+  granted-here W i (Upcall v) p k some less none = let world = world-side k on_its_way W i (local_step T i (side W i) (Upcall v) None).side in
+      omega (arith, world, less, none)
+  granted-here W i (Resume v) p k some less none = let world = world-side k on_its_way W i (local_step T i (side W i) (Resume v) None).side in
+      omega (arith, world, less, none)
   granted-here W i (Kill v) p k some less none = absurd cc
   granted-here W i Handle p k some less none = absurd cc
   granted-here W i (Fetch j) p k some less none = absurd cc
@@ -146,11 +172,13 @@ module _ (T : Setup) (valid : IsSetup T) where
           let world : world_after T (before ++ e ∷ []) ≡ after T W e.event = run-append T before (e ∷ []) (start T) in
           let low : i < T.kernels = enabled-low T W e.event at.1 in
           let sound = (schedule-sound T valid before at.0).sides i low in
-          let named = step-named T valid i low (λ k. at_side k on_its_way (side W i)) (side W i) e.event.act (input_of W i e.event.act) sound (enabled-parts T W i e.event.act at.1).0 (λ k. omega arith) in
+          let named = step-named T valid i low (λ k. at_side k on_its_way (side W i)) (side W i) e.event.act (input_of W i e.event.act) sound
+          (enabled-parts T W i e.event.act at.1).0 (λ k. omega arith) in
           let next : IsTidy (before ++ e ∷ []) = λ p k granted. elim (last-granted (grants before) o p k (subst (λ xs. Contains xs (p, k)) gs granted)) [
             | inl old ↦
                 let was = is p k old in
-                let not_now = grant-weighs k o (λ q now. all-new T valid J runs before es e q k parts (shows ∙ now) (child-grown (root_keys T) (grants before) p k old)) in
+                let not_now = grant-weighs k o (λ q now. all-new T valid J runs before es e q k parts (shows
+                ∙ now) (child-grown (root_keys T) (grants before) p k old)) in
                 let less = after-lives k on_its_way T W i e.event.act in
                 (was.0, λ same. let none = was.1 same in let moved = ap (at_world k on_its_way) world in omega (arith, none, not_now, less, moved))
             | inr now ↦
@@ -186,7 +214,8 @@ module _ (T : Setup) (valid : IsSetup T) where
   schedule-valid J runs p k granted =
       let declared = (schedule-tidy J runs p k granted).0 in
       let places = declared-valid k.pe k.vpe declared in
-      let low : kernel_of T k.vpe < T.kernels = subst (λ n. n < T.kernels) (sym (declared-kernel T k.pe k.vpe declared)) (declared-below T valid k.pe k.vpe declared) in
+      let low : kernel_of T k.vpe < T.kernels = subst (λ n. n < T.kernels) (sym (declared-kernel T k.pe k.vpe declared))
+      (declared-below T valid k.pe k.vpe declared) in
       let sound = (schedule-sound T valid J runs).sides (kernel_of T k.vpe) low in
       let drawn = made-drawn T valid J runs k (child-grown (root_keys T) (grants J) p k granted) in
       let most = (sound.rows k.vpe).next_number in
@@ -195,7 +224,8 @@ module _ (T : Setup) (valid : IsSetup T) where
   pub schedule-fit : (J : List Entry) → IsSchedule T J → IsFit (owner_of T) (Par (grants J)) (Made T (grants J)) (whole T (world_after T J))
   schedule-fit J runs = record {
     links = λ p k (c, held, child). link-granted T valid J runs (owner_of T p) p k c held (Contains-from_has_key c.children k child);
-    apart = λ k c held. let once = lives-once k all_held T valid J runs in let parts = held-parts T W k in let one = held-weighs T W k (owner_of T k) c held in omega (arith, once, parts, one);
+    apart = λ k c held. let once = lives-once k all_held T valid J runs in let parts = held-parts T W k in let one = held-weighs T W k (owner_of T k) c held in
+        omega (arith, once, parts, one);
     few = λ k. let once = lives-once k all_held T valid J runs in let parts = held-parts T W k in omega (arith, once, parts);
     near = λ p k granted same. (schedule-tidy J runs p k granted).1 same;
     made = λ k alive. alive-made J runs k (alive-weighs T W k (Par (grants J)) (Made T (grants J)) alive);
@@ -217,7 +247,8 @@ module _ (T : Setup) (valid : IsSetup T) where
 
   -- no gift comes behind the request for its key
   abbrev pub NoLate : List Entry → Type 0
-  NoLate J = (i from j : ℕ) (k : KeyName) → (side (world_after T J) i).inbox ≡ Some (from, RevokeReq k j) → cap (side (world_after T J) i) k ≡ None → at_world k on_its_way (with_side i (obtain_cancelled k (with_inbox None (side (world_after T J) i))) (world_after T J)) ≡ 0
+  NoLate J = (i from j : ℕ) (k : KeyName) → (side (world_after T J) i).inbox ≡ Some (from, RevokeReq k j) → cap (side (world_after T J) i) k ≡ None →
+      at_world k on_its_way (with_side i (obtain_cancelled k (with_inbox None (side (world_after T J) i))) (world_after T J)) ≡ 0
 
   pub schedule-ready : (J : List Entry) → IsSchedule T J → NoLate J → IsReady T (grants J) (world_after T J)
   schedule-ready J runs late = record {

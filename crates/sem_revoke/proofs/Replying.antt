@@ -1,5 +1,8 @@
--- A living VPE has as many replies as it made calls, and one less while a call of it is parked. So in a quiet world in which no call is parked each call of a living VPE is answered.
-use Rattle.std.proofs.Common.{◌≡◌, ℕ, zero, suc, ◌+◌, Bool, true, false, ◌&&◌, List, [], ◌∷◌, ◌++◌, length, map, filter, replicate, get_or, slice_get, is_some, is_none, Option, Some, None, append-nil, append_assoc, length-append, refl, sym, ap, ◌∙◌, subst, inl, inr, arith, eq-eqb, if◌then◌else◌}
+-- A living VPE has as many replies as it made calls, and one less while a call of it is parked. So in a quiet world in which no call is parked each call of a
+-- living VPE is answered.
+use Rattle.std.proofs.Common.{◌≡◌, ℕ, zero, suc, ◌+◌, Bool, true, false, ◌&&◌, List, [], ◌∷◌, ◌++◌, length, map, filter, replicate, get_or, slice_get, is_some}
+use Rattle.std.proofs.Common.{is_none, Option, Some, None, append-nil, append_assoc, length-append, refl, sym, ap, ◌∙◌, subst, inl, inr, arith, eq-eqb}
+use Rattle.std.proofs.Common.{if◌then◌else◌}
 use Rattle.std.specs.Prelude.{◌==◌, nat_lt}
 use Rattle.std.specs.List.{range_with_len}
 use Rattle.std.specs.Option.{option_map, option_map_or}
@@ -36,14 +39,16 @@ use Rattle.sem_key.specs.declared.limits.TheConstants.{VPES}
 use Rattle.sem_key.specs.Lists.{put}
 use Rattle.sem_machine.specs.Endpoints.{with_ring}
 use Rattle.sem_machine.specs.Revokes.{revoke_begun, clear_begun}
-use Rattle.sem_machine.specs.Sides.{Side, no_side, row, parked, is_alive, parked_as, unparked, call_counted, drawn, promised, linked, ask_taken, with_endpoint, installed, cap, with_inbox}
+use Rattle.sem_machine.specs.Sides.{Side, no_side, row, parked, is_alive, parked_as, unparked, call_counted, drawn, promised, linked, ask_taken, with_endpoint}
+use Rattle.sem_machine.specs.Sides.{installed, cap, with_inbox}
 use Rattle.sem_machine.specs.Steps.{Step, plain, answer, replied, cutting}
 use Rattle.sem_machine.specs.Asks.{target_vpe}
 use Rattle.sem_machine.specs.Calls.{next_key, next_place, call_row, child_made, ask_made, offer_made}
 use Rattle.sem_machine.specs.Upcalls.{ask_decided, upcall_row}
 use Rattle.sem_machine.specs.Handles.{handled}
 use Rattle.sem_machine.specs.Resumes.{can_resume, delegate_granted, delegate_resumed, resumed, resume_row}
-use Rattle.sem_machine.specs.Machine.{World, side, start, start_side, empty_side, root_added, vpe_added, vpe_fresh, next_call, local_step, local_entry, input_of, is_enabled, is_locally_enabled, with_side, after, entry_of, replied_vpe}
+use Rattle.sem_machine.specs.Machine.{World, side, start, start_side, empty_side, root_added, vpe_added, vpe_fresh, next_call, local_step, local_entry}
+use Rattle.sem_machine.specs.Machine.{input_of, is_enabled, is_locally_enabled, with_side, after, entry_of, replied_vpe}
 use Rattle.sem_machine.specs.Schedules.{IsSchedule, world_after}
 use Rattle.sem_machine.specs.Living.{reply_count}
 use Rattle.sem_machine.proofs.Folds.{in_turn-keeps, option-keeps}
@@ -54,7 +59,8 @@ use Rattle.sem_safety.proofs.EndedVpes.{killed-dead}
 use Rattle.sem_safety.proofs.GoingOn.{entry-enabled, moved-sides, after-onward, run-append}
 use Rattle.sem_safety.proofs.Skeleton.{call_row-by, decided-by}
 use Rattle.sem_revoke.proofs.ReadyCalls.{single, side-le, waiter-weighs, ask-weighs, quiet-event}
-use Rattle.sem_revoke.proofs.ParkedCalls.{Steady, steady-row, steady-slot, steady-drawn, steady-asked, steady-installed, steady-ended, steady-revoked, steady-cleared, steady-call, steady-upcall, steady-resume, steady-handled}
+use Rattle.sem_revoke.proofs.ParkedCalls.{Steady, steady-row, steady-slot, steady-drawn, steady-asked, steady-installed, steady-ended, steady-revoked}
+use Rattle.sem_revoke.proofs.ParkedCalls.{steady-cleared, steady-call, steady-upcall, steady-resume, steady-handled}
 use Rattle.sem_revoke.proofs.Waits.{parked-here}
 
 -- one, if a call is parked
@@ -83,8 +89,10 @@ reply_count-push J e v =
     last : (o : Option Reply) → e.reply ≡ o → length (filter (λ (r : Reply). r.vpe == v) (replies (e ∷ []))) ≡ told v e.reply
     last None none = rw none refl
     last (Some r) some = rw some (elim (cases_Bool (r.vpe == v)) [
-      | inl same ↦ let is = ap (λ (xs : List Reply). length xs) (cond-true (r.vpe == v) (r ∷ []) [] same) in let value : told v (Some r) ≡ 1 = cond-true (r.vpe == v) 1 0 same in is ∙ sym value
-      | inr other ↦ let is = ap (λ (xs : List Reply). length xs) (cond-false (r.vpe == v) (r ∷ []) [] other) in let value : told v (Some r) ≡ 0 = cond-false (r.vpe == v) 1 0 other in is ∙ sym value
+      | inl same ↦ let is = ap (λ (xs : List Reply). length xs) (cond-true (r.vpe == v) (r ∷ []) [] same) in
+          let value : told v (Some r) ≡ 1 = cond-true (r.vpe == v) 1 0 same in is ∙ sym value
+      | inr other ↦ let is = ap (λ (xs : List Reply). length xs) (cond-false (r.vpe == v) (r ∷ []) [] other) in
+          let value : told v (Some r) ≡ 0 = cond-false (r.vpe == v) 1 0 other in is ∙ sym value
     ])
 
 told-says : (v : ℕ) (act : Act) (o : Option ℕ) → told v (option_map (λ code. record { vpe = replied_vpe act; code = code }) o) ≡ says v act o
@@ -102,7 +110,13 @@ upcall-silent : (T : Setup) (i u : ℕ) (s : Side) → (upcall_row T i s u).outc
 unfolding upcall_row
 upcall-silent T i u s = option-keeps (λ (x : Step). x.outcome.reply ≡ None) (λ a. ask_decided T i u a (ask_taken u s)) (slice_get (row s u).asks 0) (plain s)
     (λ a there. decided-by (λ (x : Step). x.outcome.reply ≡ None) (λ w x is. is) (λ w x is. is) (λ w x is. is) T i u a (ask_taken u s)
-    (record { nothing = refl; refused = λ code. refl; given = λ place target p of. refl; here = λ parent object sel of. refl; prepared = λ parent object sel of. refl }))
+    (record {
+      nothing = refl;
+      refused = λ code. refl;
+      given = λ place target p of. refl;
+      here = λ parent object sel of. refl;
+      prepared = λ parent object sel of. refl;
+    }))
     refl
 
 -- Its own call.
@@ -135,20 +149,25 @@ module _ (T : Setup) (i v n : ℕ) (s : Side) (unparked' : parked s v ≡ None) 
   child-good : (dst : ℕ) (object : Object) (parent : KeyName) → IsDone (child_made T v dst object parent s)
   child-good dst object parent =
       let k : KeyName = next_key T s v (object_kind object) in
-      answers (child_made T v dst object parent s) (code_number OkCode) refl unparked' (steady-installed v ⊥ n (linked parent k (drawn v s)) (steady-drawn v ⊥ n s idle v) k (Some parent) dst object).1
+      answers (child_made T v dst object parent s) (code_number OkCode) refl unparked'
+      (steady-installed v ⊥ n (linked parent k (drawn v s)) (steady-drawn v ⊥ n s idle v) k (Some parent) dst object).1
 
   ask-good : (dst : ℕ) (target : Target) → IsDone (ask_made T i v dst target s)
   ask-good dst target =
       let promising : Side = promised v dst (drawn v s) in
       let waiting : Side = parked_as v (ObtainWait (next_place T s v).number dst) promising in
-      let waits : Steady v (Unit {0}) n waiting = parked-now promising (ObtainWait (next_place T s v).number dst) (steady-slot v ⊥ n (drawn v s) (steady-drawn v ⊥ n s idle v) v dst Promised).1 in
-      parks (ask_made T i v dst target s) refl (cond_both (kernel_of T (target_vpe target) == i) _ _ (Steady v (Unit {0}) n) (λ _. steady-asked v (Unit {0}) n waiting waits (target_vpe target) (ObtainAsk (next_place T s v) target)) (λ _. waits))
+      let waits : Steady v (Unit {0}) n waiting =
+      parked-now promising (ObtainWait (next_place T s v).number dst) (steady-slot v ⊥ n (drawn v s) (steady-drawn v ⊥ n s idle v) v dst Promised).1 in
+      parks (ask_made T i v dst target s) refl (cond_both (kernel_of T (target_vpe target) == i) _ _ (Steady v (Unit {0}) n)
+      (λ _. steady-asked v (Unit {0}) n waiting waits (target_vpe target) (ObtainAsk (next_place T s v) target)) (λ _. waits))
 
   offer-good : (w dst : ℕ) (p : Capability) → IsDone (offer_made T i v w dst p s)
   offer-good w dst p =
       let waiting : Side = parked_as v (DelegateWait p.key) s in
       let waits : Steady v (Unit {0}) n waiting = parked-now s (DelegateWait p.key) made in
-      parks (offer_made T i v w dst p s) refl (cond_both (kernel_of T w == i) _ _ (Steady v (Unit {0}) n) (λ _. steady-asked v (Unit {0}) n waiting waits w (DelegateAsk p.key p.object dst)) (λ _. waits))
+      parks (offer_made T i v w dst p s) refl
+      (cond_both (kernel_of T w == i) _ _ (Steady v (Unit {0}) n) (λ _. steady-asked v (Unit {0}) n waiting waits w (DelegateAsk p.key p.object dst))
+      (λ _. waits))
 
   own-good : (c : Call) → Good (call_row T i s v c)
   own-good c = call_row-by Good T i v s (record {
@@ -156,9 +175,12 @@ module _ (T : Setup) (i v n : ℕ) (s : Side) (unparked' : parked s v ≡ None) 
     child = λ src dst object p held lives. child-good dst object p.key;
     ask = λ dst target lives. ask-good dst target;
     offer = λ src w dst p held lives. offer-good w dst p;
-    revoke = λ src k held lives. parks (cutting k.key (plain (revoke_begun T i v k.key k.mark s))) refl (steady-revoked v (Unit {0}) n T i v k.key k.mark s (parked-now s (RevokeWait s.next_job) made, λ j. parked-now s (RevokeWait j) made));
-    clear = λ src k held unmarked lives. parks (cutting k.key (plain (clear_begun T i v k.key s))) refl (steady-cleared v (Unit {0}) n T i v k.key s (parked-now s (RevokeWait s.next_job) made));
-    bound = λ ep src k held lives. answers (answer OkCode (with_endpoint v ep (Some (record { key = k.key; object = k.object; ring = [] })) s)) (code_number OkCode) refl unparked' made;
+    revoke = λ src k held lives. parks (cutting k.key (plain (revoke_begun T i v k.key k.mark s))) refl
+        (steady-revoked v (Unit {0}) n T i v k.key k.mark s (parked-now s (RevokeWait s.next_job) made, λ j. parked-now s (RevokeWait j) made));
+    clear = λ src k held unmarked lives. parks (cutting k.key (plain (clear_begun T i v k.key s))) refl
+        (steady-cleared v (Unit {0}) n T i v k.key s (parked-now s (RevokeWait s.next_job) made));
+    bound = λ ep src k held lives. answers (answer OkCode (with_endpoint v ep (Some (record { key = k.key; object = k.object; ring = [] })) s))
+        (code_number OkCode) refl unparked' made;
     rung = λ ep f lives. answers (answer OkCode (with_ring v ep f s)) (code_number OkCode) refl unparked' made;
     ends = λ lives. let dead = killed-dead T i v s in absurd (true≢false (sym lives ∙ dead));
   }) c
@@ -184,7 +206,8 @@ module _ (T : Setup) (v n : ℕ) (s : Side) (made : (row s v).next_call ≡ n) w
   resumed-ends : (p : Option Parked) → can_resume p ≡ true → Ends (resumed T p t)
   resumed-ends None none = absurd cc
   resumed-ends (Some (ObtainWait number sel)) none = absurd cc
-  resumed-ends (Some (ObtainReady key parent object sel)) some = out (answer OkCode (installed key (Some parent) sel object t)) (code_number OkCode) refl gone (steady-installed v ⊥ n t (λ none. absurd none, made) key (Some parent) sel object).1
+  resumed-ends (Some (ObtainReady key parent object sel)) some = out (answer OkCode (installed key (Some parent) sel object t)) (code_number OkCode) refl gone
+      (steady-installed v ⊥ n t (λ none. absurd none, made) key (Some parent) sel object).1
   resumed-ends (Some ObtainCancelled) some = out (answer Gone t) (code_number Gone) refl gone made
   resumed-ends (Some (DelegateWait parent)) none = absurd cc
   resumed-ends (Some (DelegateReady parent key)) some = by (cap t parent)
@@ -236,7 +259,8 @@ module _ (v : ℕ) where
   first-fresh d t is = (
     is.0,
     elim (cases_eq v d.vpe) [
-      | inl same ↦ ap (λ (r : VpeRow). r.next_call) (ap (λ m. get_or (put no_vpe t.vpes d.vpe new_vpe) m no_vpe) same ∙ get_or-put_same no_vpe t.vpes d.vpe new_vpe)
+      | inl same ↦ ap (λ (r : VpeRow). r.next_call) (ap (λ m. get_or (put no_vpe t.vpes d.vpe new_vpe) m no_vpe) same
+          ∙ get_or-put_same no_vpe t.vpes d.vpe new_vpe)
       | inr other ↦ ap (λ (r : VpeRow). r.next_call) (get_or-put_other no_vpe t.vpes d.vpe v new_vpe other) ∙ is.1
     ],
   )
@@ -248,7 +272,8 @@ module _ (v : ℕ) where
 
   side-fresh : (T : Setup) (i : ℕ) → Fresh (start_side T i)
   unfolding start_side
-  side-fresh T i = in_turn-keeps Fresh vpe_added (λ d t is. in_turn-keeps Fresh (root_added d) (λ r u here. root-fresh d r u here) d.roots (vpe_fresh d t) (first-fresh d t is)) (filter (λ (d : VpeDecl). pe_owner T d.pe == i) T.vpes) (empty_side T) (empty-fresh T)
+  side-fresh T i = in_turn-keeps Fresh vpe_added (λ d t is. in_turn-keeps Fresh (root_added d) (λ r u here. root-fresh d r u here) d.roots (vpe_fresh d t)
+      (first-fresh d t is)) (filter (λ (d : VpeDecl). pe_owner T d.pe == i) T.vpes) (empty_side T) (empty-fresh T)
 
   start-fresh : (T : Setup) (i : ℕ) → Fresh (side (start T) i)
   unfolding start
@@ -263,7 +288,8 @@ module _ (v : ℕ) where
 abbrev pub Told : Setup → ℕ → List Entry → Type 0
 Told T v J = let s : Side = side (world_after T J) (kernel_of T v) in is_alive s v ≡ true → reply_count J v + one (parked s v) ≡ (row s v).next_call
 
-module _ (T : Setup) (valid : IsSetup T) (J : List Entry) (runs : IsSchedule T J) (before : List Entry) (e : Entry) (later : List Entry) (parts : J ≡ before ++ e ∷ later) (v : ℕ) where
+module _ (T : Setup) (valid : IsSetup T) (J : List Entry) (runs : IsSchedule T J) (before : List Entry) (e : Entry) (later : List Entry) (parts : J ≡ before
+    ++ e ∷ later) (v : ℕ) where
   abbrev W : World
   W = world_after T before
 
@@ -319,7 +345,8 @@ module _ (T : Setup) (valid : IsSetup T) (J : List Entry) (runs : IsSchedule T J
       by (Kill u) act = rw act refl
 
   -- What others do leaves it parked, or not.
-  module _ (calls : (u : ℕ) → e.event.act ≡ Calls u → u ≡ v → ⊥) (resumes : (u : ℕ) → e.event.act ≡ Resume u → u ≡ v → ⊥) (kills : (u : ℕ) → e.event.act ≡ Kill u → u ≡ v → ⊥) where
+  module _ (calls : (u : ℕ) → e.event.act ≡ Calls u → u ≡ v → ⊥) (resumes : (u : ℕ) → e.event.act ≡ Resume u → u ≡ v → ⊥) (kills : (u : ℕ) →
+      e.event.act ≡ Kill u → u ≡ v → ⊥) where
     abbrev B : Type 0
     B = is_some (parked s v) ≡ true
 
@@ -331,14 +358,19 @@ module _ (T : Setup) (valid : IsSetup T) (J : List Entry) (runs : IsSchedule T J
         S = (λ b. b, refl)
 
         counted : (u : ℕ) → (u ≡ v → ⊥) → Steady v B (row s v).next_call (call_counted u s)
-        counted u other = (λ b. b, ap (λ (r : VpeRow). r.next_call) (get_or-put_other no_vpe s.vpes u v (record (row s u) { next_call = (row s u).next_call + 1 }) (λ same. other (sym same))))
+        counted u other = (
+          λ b. b,
+          ap (λ (r : VpeRow). r.next_call) (get_or-put_other no_vpe s.vpes u v (record (row s u) { next_call = (row s u).next_call + 1 })
+              (λ same. other (sym same))),
+        )
 
         inbox : (o : Option (ℕ × Message)) → Steady v B (row s v).next_call (option_map_or (λ m. handled T i (with_inbox None s) m.0 m.1) o s)
         inbox None = S
         inbox (Some (from, m)) = steady-handled v B (row s v).next_call T i (with_inbox None s) from m S
 
         by : (a : Act) → e.event.act ≡ a → Steady v B (row s v).next_call (local_step T i s a (input_of W i a)).side
-        by (Calls u) act = option-keeps (λ (y : Step). Steady v B (row s v).next_call y.side) (call_row T i (call_counted u s) u) (next_call T s u) (plain s) (λ c there. steady-call v B (row s v).next_call T i u c (call_counted u s) (calls u act) (counted u (calls u act))) S
+        by (Calls u) act = option-keeps (λ (y : Step). Steady v B (row s v).next_call y.side) (call_row T i (call_counted u s) u) (next_call T s u) (plain s)
+            (λ c there. steady-call v B (row s v).next_call T i u c (call_counted u s) (calls u act) (counted u (calls u act))) S
         by (Resume u) act = steady-resume v B (row s v).next_call T u s (λ same b. resumes u act same) S
         by (Upcall u) act = steady-upcall v B (row s v).next_call T i u s S
         by (Kill u) act = steady-ended v B (row s v).next_call T i u s (λ same b. kills u act same) S
@@ -351,7 +383,8 @@ module _ (T : Setup) (valid : IsSetup T) (J : List Entry) (runs : IsSchedule T J
 
     still-none : is_alive s v ≡ true → parked s v ≡ None → parked x.side v ≡ None
     still-none alive none =
-        let frees : free (row s v) (parked s v) ≡ 1 = ap (free (row s v)) none ∙ cond-true ((row s v).alive && true) 1 0 (and_from (row s v).alive true alive refl) in
+        let frees : free (row s v) (parked s v) ≡ 1 = ap (free (row s v)) none
+        ∙ cond-true ((row s v).alive && true) 1 0 (and_from (row s v).alive true alive refl) in
         let most = single T valid before at.0 v in
         let part = side-le v W i in
         let Q = quiet-event T valid J runs before e later parts v k0 ⊥ None None
@@ -369,7 +402,8 @@ module _ (T : Setup) (valid : IsSetup T) (J : List Entry) (runs : IsSchedule T J
         in
         elim Q.park [ inl same ↦ same | inr (quiet, touched) ↦ absurd touched ]
 
-    others-told : is_alive s v ≡ true → (r : ℕ) → r + one (parked s v) ≡ (row s v).next_call → (r + says v e.event.act x.outcome.reply) + one (parked x.side v) ≡ (row x.side v).next_call
+    others-told : is_alive s v ≡ true → (r : ℕ) → r + one (parked s v) ≡ (row s v).next_call →
+        (r + says v e.event.act x.outcome.reply) + one (parked x.side v) ≡ (row x.side v).next_call
     others-told alive r is =
         let says-none = silent calls resumes in
         let calls-same = steady-event.1 in
@@ -385,7 +419,8 @@ module _ (T : Setup) (valid : IsSetup T) (J : List Entry) (runs : IsSchedule T J
         by (Some p) some = one-of (parked x.side v) (steady-event.0 (ap is_some some)) ∙ sym (ap one some)
 
   -- Its own acts.
-  own-told : is_alive s v ≡ true → is_alive x.side v ≡ true → (r : ℕ) → r + one (parked s v) ≡ (row s v).next_call → (r + says v e.event.act x.outcome.reply) + one (parked x.side v) ≡ (row x.side v).next_call
+  own-told : is_alive s v ≡ true → is_alive x.side v ≡ true → (r : ℕ) → r + one (parked s v) ≡ (row s v).next_call →
+      (r + says v e.event.act x.outcome.reply) + one (parked x.side v) ≡ (row x.side v).next_call
   unfolding local_step resume_row
   own-told alive lives r is = by e.event.act refl
     where
@@ -397,12 +432,15 @@ module _ (T : Setup) (valid : IsSetup T) (J : List Entry) (runs : IsSchedule T J
       resumed-one None none = absurd cc
       resumed-one (Some p) some = refl
 
-      called : (act : e.event.act ≡ Calls v) (o : Option Call) → next_call T s v ≡ o → is_some o ≡ true → is_alive (option_map_or (call_row T i (call_counted v s) v) o (plain s)).side v ≡ true
-          → let y : Step = option_map_or (call_row T i (call_counted v s) v) o (plain s) in (r + says v (Calls v) y.outcome.reply) + one (parked y.side v) ≡ (row y.side v).next_call
+      called : (act : e.event.act ≡ Calls v) (o : Option Call) → next_call T s v ≡ o → is_some o ≡ true →
+          is_alive (option_map_or (call_row T i (call_counted v s) v) o (plain s)).side v ≡ true
+          → let y : Step = option_map_or (call_row T i (call_counted v s) v) o (plain s) in
+          (r + says v (Calls v) y.outcome.reply) + one (parked y.side v) ≡ (row y.side v).next_call
       called act None at-none none lives' = absurd cc
       called act (Some c) at-some some lives' =
           let free' : parked s v ≡ None = none-one (parked s v) (caller v act).1 in
-          let counted : (row (call_counted v s) v).next_call ≡ (row s v).next_call + 1 = ap (λ (q : VpeRow). q.next_call) (get_or-put_same no_vpe s.vpes v (record (row s v) { next_call = (row s v).next_call + 1 })) in
+          let counted : (row (call_counted v s) v).next_call ≡ (row s v).next_call + 1 =
+          ap (λ (q : VpeRow). q.next_call) (get_or-put_same no_vpe s.vpes v (record (row s v) { next_call = (row s v).next_call + 1 })) in
           let good = own-good T i v ((row s v).next_call + 1) (call_counted v s) free' counted c lives' in
           let none' = ap one free' in
           let sum = good.0 in
@@ -413,19 +451,24 @@ module _ (T : Setup) (valid : IsSetup T) (J : List Entry) (runs : IsSchedule T J
       by (Calls u) act = elim (cases_eq u v) [
         | inl same ↦
             let is-v : e.event.act ≡ Calls v = act ∙ ap Calls same in
-            subst (λ a. let y : Step = local_step T i s a (input_of W i a) in (r + says v a y.outcome.reply) + one (parked y.side v) ≡ (row y.side v).next_call) (sym is-v)
+            subst (λ a. let y : Step = local_step T i s a (input_of W i a) in (r + says v a y.outcome.reply) + one (parked y.side v) ≡ (row y.side v).next_call)
+            (sym is-v)
             (called is-v (next_call T s v) refl (caller v is-v).2 (subst (λ a. is_alive (local_step T i s a (input_of W i a)).side v ≡ true) is-v lives))
-        | inr other ↦ others-told (λ w act' same. other (call-same (sym act ∙ act') ∙ same)) (λ w act' same. absurd (cc (act, act'))) (λ w act' same. absurd (cc (act, act'))) alive r is
+        | inr other ↦ others-told (λ w act' same. other (call-same (sym act ∙ act') ∙ same)) (λ w act' same. absurd (cc (act, act')))
+            (λ w act' same. absurd (cc (act, act'))) alive r is
       ]
       by (Resume u) act = elim (cases_eq u v) [
         | inl same ↦
             let is-v : e.event.act ≡ Resume v = act ∙ ap Resume same in
-            subst (λ a. let y : Step = local_step T i s a (input_of W i a) in (r + says v a y.outcome.reply) + one (parked y.side v) ≡ (row y.side v).next_call) (sym is-v)
+            subst (λ a. let y : Step = local_step T i s a (input_of W i a) in (r + says v a y.outcome.reply) + one (parked y.side v) ≡ (row y.side v).next_call)
+            (sym is-v)
             (resumes-so (resumer v is-v).1)
-        | inr other ↦ others-told (λ w act' same. absurd (cc (act, act'))) (λ w act' same. other (resume-same (sym act ∙ act') ∙ same)) (λ w act' same. absurd (cc (act, act'))) alive r is
+        | inr other ↦ others-told (λ w act' same. absurd (cc (act, act'))) (λ w act' same. other (resume-same (sym act ∙ act') ∙ same))
+            (λ w act' same. absurd (cc (act, act'))) alive r is
       ]
         where
-          resumes-so : can_resume (parked s v) ≡ true → (r + says v (Resume v) (resume_row T s v).outcome.reply) + one (parked (resume_row T s v).side v) ≡ (row (resume_row T s v).side v).next_call
+          resumes-so : can_resume (parked s v) ≡ true → (r + says v (Resume v) (resume_row T s v).outcome.reply) + one (parked (resume_row T s v).side v)
+              ≡ (row (resume_row T s v).side v).next_call
           resumes-so can =
               let ends = resumed-ends T v (row s v).next_call s refl (parked s v) can in
               let was = resumed-one (parked s v) can in
@@ -436,12 +479,17 @@ module _ (T : Setup) (valid : IsSetup T) (J : List Entry) (runs : IsSchedule T J
         | inl same ↦
             let dead : is_alive x.side v ≡ false = ap (λ a. is_alive (local_step T i s a (input_of W i a)).side v) (act ∙ ap Kill same) ∙ killed-dead T i v s in
             absurd (true≢false (sym lives ∙ dead))
-        | inr other ↦ others-told (λ w act' same. absurd (cc (act, act'))) (λ w act' same. absurd (cc (act, act'))) (λ w act' same. other (kill-same (sym act ∙ act') ∙ same)) alive r is
+        | inr other ↦ others-told (λ w act' same. absurd (cc (act, act'))) (λ w act' same. absurd (cc (act, act')))
+            (λ w act' same. other (kill-same (sym act ∙ act') ∙ same)) alive r is
       ]
-      by (Upcall u) act = others-told (λ w act' same. absurd (cc (act, act'))) (λ w act' same. absurd (cc (act, act'))) (λ w act' same. absurd (cc (act, act'))) alive r is
-      by Handle act = others-told (λ w act' same. absurd (cc (act, act'))) (λ w act' same. absurd (cc (act, act'))) (λ w act' same. absurd (cc (act, act'))) alive r is
-      by (Fetch j) act = others-told (λ w act' same. absurd (cc (act, act'))) (λ w act' same. absurd (cc (act, act'))) (λ w act' same. absurd (cc (act, act'))) alive r is
-      by (Flush j) act = others-told (λ w act' same. absurd (cc (act, act'))) (λ w act' same. absurd (cc (act, act'))) (λ w act' same. absurd (cc (act, act'))) alive r is
+      by (Upcall u) act = others-told (λ w act' same. absurd (cc (act, act'))) (λ w act' same. absurd (cc (act, act'))) (λ w act' same. absurd (cc (act, act')))
+          alive r is
+      by Handle act = others-told (λ w act' same. absurd (cc (act, act'))) (λ w act' same. absurd (cc (act, act'))) (λ w act' same. absurd (cc (act, act')))
+          alive r is
+      by (Fetch j) act = others-told (λ w act' same. absurd (cc (act, act'))) (λ w act' same. absurd (cc (act, act'))) (λ w act' same. absurd (cc (act, act')))
+          alive r is
+      by (Flush j) act = others-told (λ w act' same. absurd (cc (act, act'))) (λ w act' same. absurd (cc (act, act'))) (λ w act' same. absurd (cc (act, act')))
+          alive r is
 
   -- One entry more.
   abbrev k : ℕ
@@ -454,7 +502,8 @@ module _ (T : Setup) (valid : IsSetup T) (J : List Entry) (runs : IsSchedule T J
         let now : side V k ≡ x.side = ap (side V) home ∙ (ap (λ (Z : World). side Z i) world-is ∙ side-after T W e.event) in
         let lives' : is_alive x.side v ≡ true = ap (λ (t : Side). is_alive t v) (sym now) ∙ lives in
         let before' = was alive in
-        let was' : reply_count before v + one (parked s v) ≡ (row s v).next_call = subst (λ j. reply_count before v + one (parked (side W j) v) ≡ (row (side W j) v).next_call) home before' in
+        let was' : reply_count before v + one (parked s v) ≡ (row s v).next_call =
+        subst (λ j. reply_count before v + one (parked (side W j) v) ≡ (row (side W j) v).next_call) home before' in
         let sum = own-told (subst (λ j. is_alive (side W j) v ≡ true) home alive) lives' (reply_count before v) was' in
         let count = reply_count-push before e v in
         let reply = entry-reply in
@@ -462,7 +511,8 @@ module _ (T : Setup) (valid : IsSetup T) (J : List Entry) (runs : IsSchedule T J
     | inr away ↦
         let same : side V k ≡ side W k = ap (λ (Z : World). side Z k) world-is ∙ elsewhere away in
         let before' = was alive in
-        let none = silent (λ u act is. away (ap (kernel_of T) (sym is) ∙ (caller u act).0)) (λ u act is. away (ap (kernel_of T) (sym is) ∙ (resumer u act).0)) in
+        let none = silent (λ u act is. away (ap (kernel_of T) (sym is) ∙ (caller u act).0)) (λ u act is. away (ap (kernel_of T) (sym is)
+        ∙ (resumer u act).0)) in
         let count = reply_count-push before e v in
         let reply = entry-reply in
         subst (λ (t : Side). reply_count (before ++ e ∷ []) v + one (parked t v) ≡ (row t v).next_call) (sym same) (omega (arith, before', none, count, reply))
@@ -491,4 +541,5 @@ replies-told T valid J runs v = from [] J refl first
 
     from : (before later : List Entry) → J ≡ before ++ later → Told T v before → Told T v J
     from before [] parts is = subst (Told T v) (sym (parts ∙ append-nil before)) is
-    from before (e ∷ later) parts is = from (before ++ e ∷ []) later (parts ∙ sym (append_assoc before (e ∷ []) later)) (next-told T valid J runs before e later parts v is)
+    from before (e ∷ later) parts is = from (before ++ e ∷ []) later (parts
+        ∙ sym (append_assoc before (e ∷ []) later)) (next-told T valid J runs before e later parts v is)

@@ -16,9 +16,11 @@ cleared c = record c { children = []; mark = None }
 
 module _ (owner : KeyName → ℕ) (G : KeyName → KeyName → Type 0) (one : (p q k : KeyName) → G p k → G q k → p ≡ q) (M : KeyName → Type 0) where
   -- The root of a job is nearer to a root of all than what else the job marks, so the job does not mark its parent.
-  module _ (rank : KeyName → ℕ) (older : (p k : KeyName) → G p k → rank p < rank k) (h : Hand) (V : View) (R : Revokes owner G M h V) (i n : ℕ) (x : JobRow) (open_ : V.job i n ≡ Some x) where
+  module _ (rank : KeyName → ℕ) (older : (p k : KeyName) → G p k → rank p < rank k) (h : Hand) (V : View) (R : Revokes owner G M h V) (i n : ℕ) (x : JobRow)
+      (open_ : V.job i n ≡ Some x) where
     -- the root of the job that marks what is here is that of x
-    root-or-under : (k : KeyName) → owner k ≡ i → Marked owner G M V k n → (rank x.root ≡ rank k) ⊎ ((p : KeyName) × G p k × (owner p ≡ i) × Marked owner G M V p n)
+    root-or-under : (k : KeyName) → owner k ≡ i → Marked owner G M V k n →
+        (rank x.root ≡ rank k) ⊎ ((p : KeyName) × G p k × (owner p ≡ i) × Marked owner G M V p n)
     root-or-under k at marked =
         let y = R.marks k n marked in
         let is_x : y.0 ≡ x = same_Some y.0 x (sym y.1 ∙ (ap (λ a. V.job a n) at ∙ open_)) in
@@ -59,7 +61,10 @@ module _ (owner : KeyName → ℕ) (G : KeyName → KeyName → Type 0) (one : (
 
   module _ (i n : ℕ) (root : KeyName) (V U : View) (S : Restores i n root V U) where
     is-root : (k : KeyName) → (k ≡ root) ⊎ (k ≡ root → ⊥)
-    is-root k = elim (cases_Bool (key_eq k root)) [ inl same ↦ inl (key_eq-true k root same) | inr differ ↦ inr (λ same. (let yes' = key_eq-from k root same in absurd cc)) ]
+    is-root k = elim (cases_Bool (key_eq k root)) [
+      | inl same ↦ inl (key_eq-true k root same)
+      | inr differ ↦ inr (λ same. (let yes' = key_eq-from k root same in absurd cc))
+    ]
 
     root-cap : (c : Capability) → U.hold root ≡ Some c → (d : Capability) × (V.hold root ≡ Some d) × (cleared d ≡ c)
     root-cap c held = let d = S.root_marked in (d.0, d.1, same_Some (cleared d.0) c (sym (S.restored d.0 d.1) ∙ held))
@@ -126,15 +131,21 @@ module _ (owner : KeyName → ℕ) (G : KeyName → KeyName → Type 0) (one : (
     under-on k a b (p, granted, at, marked) other = (p, granted, at, marked-on p b marked (λ (here, job'). other (sym at ∙ here, job')))
 
     -- a child of what the job marked is gone
-    child-gone : (p k : KeyName) (d : Capability) → IsFit owner G M V → Revokes owner G M free_hand V → owner p ≡ i → V.hold p ≡ Some d → d.mark ≡ Some n → has_key d.children k ≡ true → Alive owner G M U k → ⊥
+    child-gone : (p k : KeyName) (d : Capability) → IsFit owner G M V → Revokes owner G M free_hand V → owner p ≡ i → V.hold p ≡ Some d → d.mark ≡ Some n →
+        has_key d.children k ≡ true → Alive owner G M U k → ⊥
     child-gone p k d fit R at held marked child alive = from (R.caught p k d n held marked child (alive-before k alive))
       where
         from : Caught owner G M free_hand V (owner p) n k → ⊥
         from (inl (same, (c, held', marked'))) = elim (is-root k) [
           | inl root' ↦ S.oldest (p, subst (G p) root' (fit.links p k (d, held, child)), at, (d, held, marked))
-          | inr other ↦ not-gone owner G one M U k (S.swept k c other (same ∙ at) held' marked', let zero' = fit.apart k c held' in let few = S.fewer k in omega (arith, zero', few)) alive
+          | inr other ↦ not-gone owner G one M U k (
+            S.swept k c other (same ∙ at) held' marked',
+            let zero' = fit.apart k c held' in let few = S.fewer k in
+                omega (arith, zero', few),
+          ) alive
         ]
-        from (inr (inl more)) = let zero' = S.none k in let same : V.asked k (owner p) n ≡ V.asked k i n = ap (λ a. V.asked k a n) at in omega (arith, more, zero', same)
+        from (inr (inl more)) = let zero' = S.none k in let same : V.asked k (owner p) n ≡ V.asked k i n = ap (λ a. V.asked k a n) at in
+            omega (arith, more, zero', same)
         from (inr (inr care)) = care
 
     pub keep_restored : IsFit owner G M V → Revokes owner G M free_hand V → Revokes owner G M (closing i n) U
@@ -148,7 +159,8 @@ module _ (owner : KeyName → ℕ) (G : KeyName → KeyName → Type 0) (one : (
       asking = λ k a b more.
           let same = S.asked_on k a b in
           let before : 1 ≤ V.asked k a b = omega (arith, more, same) in
-          under-on k a b (R.asking k a b before) (λ (at, job'). let zero' = S.none k in let here : V.asked k a b ≡ V.asked k i n = ap (λ c. V.asked k c b) at ∙ ap (V.asked k i) job' in omega (arith, before, zero', here));
+          under-on k a b (R.asking k a b before) (λ (at, job'). let zero' = S.none k in let here : V.asked k a b ≡ V.asked k i n = ap (λ c. V.asked k c b) at
+          ∙ ap (V.asked k i) job' in omega (arith, before, zero', here));
       marks = λ k m (c, held, marked).
           let b = marked-back k c m held marked in
           let x = R.marks k m (c, b.0, marked) in
@@ -170,7 +182,8 @@ module _ (owner : KeyName → ℕ) (G : KeyName → KeyName → Type 0) (one : (
       placed = S.misplaced;
     }
       where
-        old : (p k : KeyName) (m : ℕ) → ((owner p ≡ i) × (m ≡ n) → ⊥) → Caught owner G M free_hand V (owner p) m k → Caught owner G M (closing i n) U (owner p) m k
+        old : (p k : KeyName) (m : ℕ) → ((owner p ≡ i) × (m ≡ n) → ⊥) → Caught owner G M free_hand V (owner p) m k →
+            Caught owner G M (closing i n) U (owner p) m k
         old p k m other (inl (at, marked)) = inl (at, marked-on k m marked (λ (here, job'). other (sym at ∙ here, job')))
         old p k m other (inr (inl more)) = let same = S.asked_on k (owner p) m in inr (inl (omega (arith, more, same)))
         old p k m other (inr (inr care)) = absurd care

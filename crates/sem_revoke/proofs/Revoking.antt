@@ -1,7 +1,9 @@
 -- Along every schedule whose worlds are ready, revocation is so.
-use Rattle.sem_msg.specs.declared.call.Call.TheVariants.{Derive, Gate, Obtain, Delegate, OpenSession, AskOffer, Revoke, Bind, Read, Write, Send as SendCall, Credit, Exit, Clear}
+use Rattle.sem_msg.specs.declared.call.Call.TheVariants.{Derive, Gate, Obtain, Delegate, OpenSession, AskOffer, Revoke, Bind, Read, Write, Send as SendCall}
+use Rattle.sem_msg.specs.declared.call.Call.TheVariants.{Credit, Exit, Clear}
 use Rattle.sem_msg.specs.declared.call.Call.{Call}
-use Rattle.std.proofs.Common.{◌≡◌, ℕ, zero, suc, ◌+◌, ◌≤◌, true, ◌&&◌, List, [], ◌∷◌, ◌++◌, map, get_or, drop, replicate, Option, Some, None, slice_get, is_some, is_none, option_to_list, append-nil, append_assoc, refl, sym, ap, ◌∙◌, subst, arith}
+use Rattle.std.proofs.Common.{◌≡◌, ℕ, zero, suc, ◌+◌, ◌≤◌, true, ◌&&◌, List, [], ◌∷◌, ◌++◌, map, get_or, drop, replicate, Option, Some, None, slice_get}
+use Rattle.std.proofs.Common.{is_some, is_none, option_to_list, append-nil, append_assoc, refl, sym, ap, ◌∙◌, subst, arith}
 use Rattle.std.specs.Prelude.{◌==◌, nat_lt}
 use Rattle.std.specs.List.{Contains, All, filter, range_with_len, sum_by}
 use Rattle.std.specs.Option.{option_map}
@@ -22,7 +24,8 @@ use Rattle.sem_machine.specs.Sides.{Side, no_side, with_inbox, job, call_counted
 use Rattle.sem_machine.specs.Steps.{Step, plain}
 use Rattle.sem_machine.specs.Ends.{ended}
 use Rattle.sem_machine.specs.Calls.{call_row}
-use Rattle.sem_machine.specs.Machine.{World, side, link, with_side, with_link, input_of, is_other_kernel, start, start_side, empty_side, root_added, vpe_fresh, vpe_added, local_step, local_entry, next_call, after, entry_of, event, is_enabled, is_locally_enabled, is_allowed}
+use Rattle.sem_machine.specs.Machine.{World, side, link, with_side, with_link, input_of, is_other_kernel, start, start_side, empty_side, root_added, vpe_fresh}
+use Rattle.sem_machine.specs.Machine.{vpe_added, local_step, local_entry, next_call, after, entry_of, event, is_enabled, is_locally_enabled, is_allowed}
 use Rattle.sem_machine.specs.Schedules.{IsSchedule, world_after}
 use Rattle.sem_machine.specs.Journals.{grants, root_keys}
 use Rattle.sem_key.proofs.Members.{found, Contains-nil, Contains-head}
@@ -53,9 +56,11 @@ pub record Told (T : Setup) (gs : List (KeyName × KeyName)) (o : Option (KeyNam
   pub new : (p k : KeyName) → ◌≡◌ {A = Option (KeyName × KeyName)} o (Some (p, k)) → Made T gs k → ⊥
   pub valid : (p k : KeyName) → ◌≡◌ {A = Option (KeyName × KeyName)} o (Some (p, k)) → IsValidKey k
 
-pub enabled-parts : (T : Setup) (W : World) (i : ℕ) (a : Act) → is_enabled T W (event i a) ≡ true → (is_locally_enabled T i (side W i) a ≡ true) × (is_allowed T W i a ≡ true)
+pub enabled-parts : (T : Setup) (W : World) (i : ℕ) (a : Act) → is_enabled T W (event i a) ≡ true → (is_locally_enabled T i (side W i) a ≡ true)
+    × (is_allowed T W i a ≡ true)
 unfolding is_enabled
-enabled-parts T W i a enabled = let one = and_parts (nat_lt i T.kernels) (is_locally_enabled T i (side W i) a && is_allowed T W i a) enabled in and_parts (is_locally_enabled T i (side W i) a) (is_allowed T W i a) one.1
+enabled-parts T W i a enabled = let one = and_parts (nat_lt i T.kernels) (is_locally_enabled T i (side W i) a && is_allowed T W i a) enabled in
+    and_parts (is_locally_enabled T i (side W i) a) (is_allowed T W i a) one.1
 
 pub fetch-empty : (T : Setup) (i : ℕ) (s : Side) (j : ℕ) → is_locally_enabled T i s (Fetch j) ≡ true → is_none s.inbox ≡ true
 unfolding is_locally_enabled
@@ -101,7 +106,8 @@ module _ (T : Setup) (gs : List (KeyName × KeyName)) (W : World) (R : IsReady T
   abbrev now : Side
   now = side W i
 
-  pub facts-of : (a : Act) (x : Step) → x ≡ stepped T W (event i a) → Told T gs x.outcome.grant → ((k : KeyName) → at_world k all_held (with_side i x.side W) ≤ at_world k all_held W + at_grant k x.outcome.grant) → Facts T gs W R H L i x
+  pub facts-of : (a : Act) (x : Step) → x ≡ stepped T W (event i a) → Told T gs x.outcome.grant →
+      ((k : KeyName) → at_world k all_held (with_side i x.side W) ≤ at_world k all_held W + at_grant k x.outcome.grant) → Facts T gs W R H L i x
   facts-of a x same told few = record {
     next = told.next;
     new = told.new;
@@ -110,14 +116,22 @@ module _ (T : Setup) (gs : List (KeyName × KeyName)) (W : World) (R : IsReady T
     few = few;
   }
 
-  pub event-holds : (a : Act) → ActLoses gs L.lost T now a → is_enabled T W (event i a) ≡ true → Told T gs (stepped T W (event i a)).outcome.grant → Holds T (gs ++ option_to_list (stepped T W (event i a)).outcome.grant) (after T W (event i a))
+  pub event-holds : (a : Act) → ActLoses gs L.lost T now a → is_enabled T W (event i a) ≡ true → Told T gs (stepped T W (event i a)).outcome.grant →
+      Holds T (gs ++ option_to_list (stepped T W (event i a)).outcome.grant) (after T W (event i a))
   unfolding after local_step
-  event-holds (Calls v) loses enabled told = (option-keeps (Keeps T gs W R H L i) (call_row T i (call_counted v now) v) (next_call T now v) (plain now) (λ c there. by-call T gs W R H L i v c (loses c there)) (λ _. row-step T gs W R H L i now (in_row T gs W R H L i)) (facts-of (Calls v) (stepped T W (event i (Calls v))) refl told (λ k. after-lives k all_held T W i (Calls v)))).0
-  event-holds (Upcall v) loses enabled told = (by-upcall T gs W R H L i v (facts-of (Upcall v) (stepped T W (event i (Upcall v))) refl told (λ k. after-lives k all_held T W i (Upcall v)))).0
-  event-holds (Resume v) loses enabled told = (by-resume T gs W R H L i v (facts-of (Resume v) (stepped T W (event i (Resume v))) refl told (λ k. after-lives k all_held T W i (Resume v)))).0
+  event-holds (Calls v) loses enabled told =
+      (option-keeps (Keeps T gs W R H L i) (call_row T i (call_counted v now) v) (next_call T now v) (plain now)
+      (λ c there. by-call T gs W R H L i v c (loses c there)) (λ _. row-step T gs W R H L i now (in_row T gs W R H L i))
+      (facts-of (Calls v) (stepped T W (event i (Calls v))) refl told (λ k. after-lives k all_held T W i (Calls v)))).0
+  event-holds (Upcall v) loses enabled told =
+      (by-upcall T gs W R H L i v (facts-of (Upcall v) (stepped T W (event i (Upcall v))) refl told (λ k. after-lives k all_held T W i (Upcall v)))).0
+  event-holds (Resume v) loses enabled told =
+      (by-resume T gs W R H L i v (facts-of (Resume v) (stepped T W (event i (Resume v))) refl told (λ k. after-lives k all_held T W i (Resume v)))).0
   event-holds (Kill v) loses enabled told = (row-step T gs W R H L i (ended T i v now) (row-ended (here T gs W R H L i) v now loses (in_row T gs W R H L i))).0
-  event-holds Handle loses enabled told = subst (λ xs. Holds T xs (after T W (event i Handle))) (sym (append-nil gs)) (by-inbox T gs W R H L i now.inbox refl (facts-of Handle (stepped T W (event i Handle)) refl told (λ k. after-lives k all_held T W i Handle))).0
-  event-holds (Fetch j) loses enabled told = subst (λ xs. Holds T xs (after T W (event i (Fetch j)))) (sym (append-nil gs)) (fetched (slice_get (link W j i) 0) refl)
+  event-holds Handle loses enabled told = subst (λ xs. Holds T xs (after T W (event i Handle))) (sym (append-nil gs))
+      (by-inbox T gs W R H L i now.inbox refl (facts-of Handle (stepped T W (event i Handle)) refl told (λ k. after-lives k all_held T W i Handle))).0
+  event-holds (Fetch j) loses enabled told = subst (λ xs. Holds T xs (after T W (event i (Fetch j)))) (sym (append-nil gs))
+      (fetched (slice_get (link W j i) 0) refl)
     where
       outer : (is_locally_enabled T i now (Fetch j) ≡ true) × (is_allowed T W i (Fetch j) ≡ true)
       outer = enabled-parts T W i (Fetch j) enabled
@@ -126,13 +140,16 @@ module _ (T : Setup) (gs : List (KeyName × KeyName)) (W : World) (R : IsReady T
       fetched None none = absurd (true≢false (sym outer.1 ∙ ap is_some none))
       fetched (Some m) some =
           moved T gs W R H L i (with_inbox (option_map (λ m. (j, m)) (slice_get (link W j i) 0)) now) (after T W (event i (Fetch j))) refl refl refl
-          (λ S. subst (λ o. of_world S (with_link j i (drop 1 (link W j i)) (with_side i (with_inbox (option_map (λ m. (j, m)) o) now) W)) ≡ of_world S W) (sym some) (fetched-sum T gs W R H L i S j m some (empty now.inbox refl)))
+          (λ S. subst (λ o. of_world S (with_link j i (drop 1 (link W j i)) (with_side i (with_inbox (option_map (λ m. (j, m)) o) now) W)) ≡ of_world S W)
+          (sym some) (fetched-sum T gs W R H L i S j m some (empty now.inbox refl)))
           (λ k. let less = after-lives k on_its_way T W i (Fetch j) in omega (arith, less))
         where
           empty : (o : Option (ℕ × Message)) → now.inbox ≡ o → now.inbox ≡ None
           empty None none = none
           empty (Some x) full = absurd (true≢false (sym (fetch-empty T i now j outer.0) ∙ ap is_none full))
-  event-holds (Flush j) loses enabled told = subst (λ xs. Holds T xs (after T W (event i (Flush j)))) (sym (append-nil gs)) (moved T gs W R H L i (sent j now) (after T W (event i (Flush j))) (moved-sides i now (Flush j) (with_side i (sent j now) W)) refl refl (λ S. flushed-sum T gs W R H L i S j) (λ k. let less = after-lives k on_its_way T W i (Flush j) in omega (arith, less)))
+  event-holds (Flush j) loses enabled told = subst (λ xs. Holds T xs (after T W (event i (Flush j)))) (sym (append-nil gs))
+      (moved T gs W R H L i (sent j now) (after T W (event i (Flush j))) (moved-sides i now (Flush j) (with_side i (sent j now) W)) refl refl
+      (λ S. flushed-sum T gs W R H L i S j) (λ k. let less = after-lives k on_its_way T W i (Flush j) in omega (arith, less)))
 
 -- The start.
 
@@ -147,7 +164,8 @@ start-each T P none each i = from (range_with_len 0 T.kernels) i
 
 pub start-bare : (T : Setup) (i : ℕ) → ((start_side T i).jobs ≡ []) × ((start_side T i).inbox ≡ None)
 unfolding start_side
-start-bare T i = in_turn-keeps (λ (t : Side). (t.jobs ≡ []) × (t.inbox ≡ None)) vpe_added (λ d t here. in_turn-keeps (λ (u : Side). (u.jobs ≡ []) × (u.inbox ≡ None)) (root_added d) (λ r u same. same) d.roots (vpe_fresh d t) here) (filter (λ d. pe_owner T d.pe == i) T.vpes) (empty_side T) (refl, refl)
+start-bare T i = in_turn-keeps (λ (t : Side). (t.jobs ≡ []) × (t.inbox ≡ None)) vpe_added (λ d t here. in_turn-keeps (λ (u : Side). (u.jobs ≡ [])
+    × (u.inbox ≡ None)) (root_added d) (λ r u same. same) d.roots (vpe_fresh d t) here) (filter (λ d. pe_owner T d.pe == i) T.vpes) (empty_side T) (refl, refl)
 
 module _ (T : Setup) where
   side-none : (S : Scale) (i n : ℕ) → of_side S n (start_side T i) ≡ 0
@@ -155,16 +173,19 @@ module _ (T : Setup) where
       let bare = start-bare T i in
       let jobs : sum_by (S.job n) (start_side T i).jobs ≡ 0 = ap (sum_by (S.job n)) bare.0 in
       let inbox : of_inbox S n (start_side T i).inbox ≡ 0 = ap (of_inbox S n) bare.1 in
-      let outs : sum_from (of_messages S n) 0 (start_side T i).outs ≡ 0 = ap (sum_from (of_messages S n) 0) (first-outs T i) ∙ from-replicate (of_messages S n) [] (λ m. refl) 0 T.kernels [] (λ m. refl) in
+      let outs : sum_from (of_messages S n) 0 (start_side T i).outs ≡ 0 = ap (sum_from (of_messages S n) 0) (first-outs T i)
+      ∙ from-replicate (of_messages S n) [] (λ m. refl) 0 T.kernels [] (λ m. refl) in
       omega (arith, jobs, inbox, outs)
 
   links-none : (S : Scale) → of_links S (start T).links ≡ 0
   unfolding start
-  links-none S = from-replicate (λ i ls. sum_from (of_messages S i) 0 ls) [] (λ m. refl) 0 T.kernels (replicate T.kernels []) (λ i. from-replicate (of_messages S i) [] (λ m. refl) 0 T.kernels [] (λ m. refl))
+  links-none S = from-replicate (λ i ls. sum_from (of_messages S i) 0 ls) [] (λ m. refl) 0 T.kernels (replicate T.kernels [])
+      (λ i. from-replicate (of_messages S i) [] (λ m. refl) 0 T.kernels [] (λ m. refl))
 
   pub world-none : (S : Scale) → of_world S (start T) ≡ 0
   world-none S =
-      let sides = from-none (of_side S) no_side 0 (start T).sides (λ k. start-each T (λ (s : Side). of_side S (0 + k) s ≡ 0) refl (λ i. side-none S i (0 + k)) k) in
+      let sides = from-none (of_side S) no_side 0 (start T).sides
+      (λ k. start-each T (λ (s : Side). of_side S (0 + k) s ≡ 0) refl (λ i. side-none S i (0 + k)) k) in
       let links = links-none S in
       omega (arith, sides, links)
 
@@ -201,7 +222,8 @@ pub more-grants : (J : List Entry) (e : Entry) (o : Option (KeyName × KeyName))
 more-grants J e None none = without_grant J e none ∙ sym (append-nil (grants J))
 more-grants J e (Some g) some = with_grant J e g some
 
-pub granted-last : (gs : List (KeyName × KeyName)) (o : Option (KeyName × KeyName)) (p k : KeyName) → ◌≡◌ {A = Option (KeyName × KeyName)} o (Some (p, k)) → Contains (gs ++ option_to_list o) (p, k)
+pub granted-last : (gs : List (KeyName × KeyName)) (o : Option (KeyName × KeyName)) (p k : KeyName) → ◌≡◌ {A = Option (KeyName × KeyName)} o (Some (p, k)) →
+    Contains (gs ++ option_to_list o) (p, k)
 granted-last gs None p k none = absurd cc
 granted-last gs (Some g) p k some = Contains-append_right gs (g ∷ []) (p, k) (subst (Contains (g ∷ [])) (same_Some g (p, k) some) (Contains-head g []))
 
@@ -209,7 +231,8 @@ pub shown : (T : Setup) (W : World) (e : Entry) → e ≡ entry_of T W e.event �
 unfolding entry_of local_entry
 shown T W e made' = ap (λ (x : Entry). x.grant) made'
 
-pub schedule-holds : (T : Setup) → IsSetup T → ((J : List Entry) → IsSchedule T J → IsReady T (grants J) (world_after T J)) → (J : List Entry) → IsSchedule T J → Holds T (grants J) (world_after T J)
+pub schedule-holds : (T : Setup) → IsSetup T → ((J : List Entry) → IsSchedule T J → IsReady T (grants J) (world_after T J)) → (J : List Entry) →
+    IsSchedule T J → Holds T (grants J) (world_after T J)
 schedule-holds T valid ready J runs = from [] J refl start-so
   where
     start-so : Holds T (grants []) (world_after T [])
@@ -230,6 +253,9 @@ schedule-holds T valid ready J runs = from [] J refl start-so
           new = λ p k is. all-new T valid J runs before es e p k parts (shows ∙ is);
           valid = λ p k is. (ready (before ++ e ∷ []) prefix).valid p k (subst (λ xs. Contains xs (p, k)) (sym gs) (granted-last (grants before) o p k is));
         } in
-        let next : Holds T (grants before ++ option_to_list o) (after T W e.event) = event-holds T (grants before) W (ready before at.0) is (anything (grants before) W) e.event.kernel e.event.act (anything-loses (grants before) T (side W e.event.kernel) e.event.act) at.1 told in
+        let next : Holds T (grants before ++ option_to_list o) (after T W e.event) =
+        event-holds T (grants before) W (ready before at.0) is (anything (grants before) W) e.event.kernel e.event.act
+        (anything-loses (grants before) T (side W e.event.kernel) e.event.act) at.1 told in
         from (before ++ e ∷ []) es (parts ∙ sym (append_assoc before (e ∷ []) es))
-        (subst (λ xs. Holds T xs (world_after T (before ++ e ∷ []))) (sym gs) (subst (Holds T (grants before ++ option_to_list o)) (sym (run-append T before (e ∷ []) (start T))) next))
+        (subst (λ xs. Holds T xs (world_after T (before ++ e ∷ []))) (sym gs)
+        (subst (Holds T (grants before ++ option_to_list o)) (sym (run-append T before (e ∷ []) (start T))) next))

@@ -1,7 +1,8 @@
 -- The rows that revoke: a revoke, a request from another kernel, a token that comes back, a notice, and the end of a VPE.
 use Rattle.sem_key.specs.CapList
 use Rattle.sem_key.proofs.Members.{Contains-from_filter}
-use Rattle.std.proofs.Common.{◌≡◌, ◌≢◌, ◌⊎◌, ℕ, ◌+◌, ◌≤◌, Bool, true, false, not, ◌&&◌, List, [], ◌∷◌, map, Option, Some, None, refl, sym, ap, ◌∙◌, subst, inl, inr, arith, eq-eqb, append-nil}
+use Rattle.std.proofs.Common.{◌≡◌, ◌≢◌, ◌⊎◌, ℕ, ◌+◌, ◌≤◌, Bool, true, false, not, ◌&&◌, List, [], ◌∷◌, map, Option, Some, None, refl, sym, ap, ◌∙◌, subst, inl}
+use Rattle.std.proofs.Common.{inr, arith, eq-eqb, append-nil}
 use Rattle.std.specs.Prelude.{◌==◌, if◌then◌else◌}
 use Rattle.std.specs.List.{find}
 use Rattle.std.specs.Option.{option_map, option_map_or}
@@ -27,7 +28,8 @@ use Rattle.sem_msg.specs.declared.code.Code.TheVariants.{Dead}
 use Rattle.sem_msg.specs.Codes.{code_number}
 use Rattle.sem_machine.specs.Sides.{Side, row, cap, job, parked, outbox, parked_as, unparked, buried, send, with_inbox}
 use Rattle.sem_machine.specs.Asks.{asker, is_unawaited, promise_freed, call_refused, refusal_sent, ask_refused}
-use Rattle.sem_machine.specs.Revokes.{begin, count_lowered, with_up, waiter_added, waiter_left, revoke_begun, clear_begun, ready_freed, obtain_cancelled, request_begun, revoke_requested, revoke_done, settled, opened}
+use Rattle.sem_machine.specs.Revokes.{begin, count_lowered, with_up, waiter_added, waiter_left, revoke_begun, clear_begun, ready_freed, obtain_cancelled}
+use Rattle.sem_machine.specs.Revokes.{request_begun, revoke_requested, revoke_done, settled, opened}
 use Rattle.sem_machine.specs.Ends.{ask_ended, call_ended, revoked_if_left, keys_of, ended_but_held, ended}
 use Rattle.sem_key.proofs.KeyTests.{key_eq-same, key_eq-true, key_eq-from}
 use Rattle.sem_machine.proofs.Folds.{in_turn-keeps, in_turn-keeps_each}
@@ -38,13 +40,16 @@ use Rattle.sem_revoke.specs.Views.{Hand, IsCaused, free_hand, token, request}
 use Rattle.sem_revoke.specs.Scales.{Scale, of_side, of_inbox, one_if, names, asking, naming, counting, noticing, straying, asking_message, token_message}
 use Rattle.sem_revoke.proofs.Keeping.{holds-same, same-mark, cases_Option, not-gone}
 use Rattle.sem_revoke.proofs.Scaling.{side-changed, side-inbox}
-use Rattle.sem_revoke.proofs.Viewing.{on_its_way, Scene, one-more, one-true, one-false, owner, view, IsAlive, IsGone, IsMarked, IsUnder, Row, hold-here, job-here, job-weighs, StaysSo, under-lost, same-roots, changed-roots, no-roots, IsSent, step_from, step, rows-changed, row-sent}
+use Rattle.sem_revoke.proofs.Viewing.{on_its_way, Scene, one-more, one-true, one-false, owner, view, IsAlive, IsGone, IsMarked, IsUnder, Row, hold-here}
+use Rattle.sem_revoke.proofs.Viewing.{job-here, job-weighs, StaysSo, under-lost, same-roots, changed-roots, no-roots, IsSent, step_from, step, rows-changed}
+use Rattle.sem_revoke.proofs.Viewing.{row-sent}
 use Rattle.sem_revoke.proofs.Opening.{row-opened}
 use Rattle.sem_revoke.proofs.Closing.{row-lowered, counted-open}
 use Rattle.sem_revoke.proofs.Chaining.{freed-row, parked-row, row-settled}
 
 -- a job that is found, where all are changed and keep their ids
-find-mapped : (g : JobRow → JobRow) → ((x : JobRow) → (g x).id ≡ x.id) → (n : ℕ) (xs : List JobRow) → find (λ x. x.id == n) (map g xs) ≡ option_map g (find (λ x. x.id == n) xs)
+find-mapped : (g : JobRow → JobRow) → ((x : JobRow) → (g x).id ≡ x.id) → (n : ℕ) (xs : List JobRow) →
+    find (λ x. x.id == n) (map g xs) ≡ option_map g (find (λ x. x.id == n) xs)
 find-mapped g same n [] = refl
 find-mapped g same n (x ∷ xs) =
     let test : ((g x).id == n) ≡ (x.id == n) = ap (λ m. m == n) (same x) in
@@ -65,7 +70,9 @@ module _ (C : Scene) where
   i = C.kernel
 
   -- Who waits for a job changes.
-  module _ (h : Hand) (s : Side) (g : JobRow → JobRow) (same : (x : JobRow) → ((g x).id ≡ x.id) × ((g x).root ≡ x.root)) (ups : (x : JobRow) → (g x).up ≡ x.up) (counts : (x : JobRow) → (g x).count ≡ x.count) (so : (x : JobRow) → StaysSo C x (g x)) (is : HasIds (record s { jobs = map g s.jobs })) (R : Row C h s) where
+  module _ (h : Hand) (s : Side) (g : JobRow → JobRow) (same : (x : JobRow) → ((g x).id ≡ x.id) × ((g x).root ≡ x.root)) (ups : (x : JobRow) →
+      (g x).up ≡ x.up) (counts : (x : JobRow) → (g x).count ≡ x.count) (so : (x : JobRow) →
+      StaysSo C x (g x)) (is : HasIds (record s { jobs = map g s.jobs })) (R : Row C h s) where
     abbrev t : Side
     t = record s { jobs = map g s.jobs }
 
@@ -74,10 +81,17 @@ module _ (C : Scene) where
 
     mapped : (o : Option JobRow) (y : JobRow) → option_map g o ≡ Some y → (x : JobRow) × (o ≡ Some x) × (x.root ≡ y.root) × StaysSo C x y
     mapped None y none = absurd cc
-    mapped (Some x) y some = (x, refl, sym (same x).1 ∙ ap (λ (z : JobRow). z.root) (same_Some (g x) y some), subst (StaysSo C x) (same_Some (g x) y some) (so x))
+    mapped (Some x) y some = (
+      x,
+      refl,
+      sym (same x).1 ∙ ap (λ (z : JobRow). z.root) (same_Some (g x) y some),
+      subst (StaysSo C x) (same_Some (g x) y some) (so x),
+    )
 
     asked-same : (k : KeyName) (a b : ℕ) → of_side (asking k a b) i t ≡ of_side (asking k a b) i s
-    asked-same k a b = let sum = weigh-map (λ (x : JobRow). one_if (key_eq x.root k && names i x.up a b)) g (λ x. ap (λ q. one_if (key_eq q k && names i (g x).up a b)) (same x).1 ∙ ap (λ u. one_if (key_eq x.root k && names i u a b)) (ups x)) s.jobs in omega (arith, sum)
+    asked-same k a b = let sum = weigh-map (λ (x : JobRow). one_if (key_eq x.root k && names i x.up a b)) g
+        (λ x. ap (λ q. one_if (key_eq q k && names i (g x).up a b)) (same x).1 ∙ ap (λ u. one_if (key_eq x.root k && names i u a b)) (ups x)) s.jobs in
+        omega (arith, sum)
 
     pub row-mapped : Row C h t
     row-mapped =
@@ -89,10 +103,15 @@ module _ (C : Scene) where
         (λ a n loose. loose)
         (λ a b.
         let tokens = weigh-map (λ (x : JobRow). one_if (names i x.up a b)) g (λ x. ap (λ u. one_if (names i u a b)) (ups x)) s.jobs in
-        let count = weigh-map (λ (x : JobRow). if (i == a) && (x.id == b) then x.count else 0) g (λ x. ap (λ n. if (i == a) && (n == b) then (g x).count else 0) (same x).0 ∙ ap (λ c. if (i == a) && (x.id == b) then c else 0) (counts x)) s.jobs in
+        let count = weigh-map (λ (x : JobRow). if (i == a) && (x.id == b) then x.count
+        else 0) g (λ x. ap (λ n. if (i == a) && (n == b) then (g x).count else 0) (same x).0
+        ∙ ap (λ c. if (i == a) && (x.id == b) then c else 0) (counts x)) s.jobs in
         let before = R.revokes.counted a b in
-        omega (arith, tokens, count, before))
-        (λ k a b. let sum = asked-same k a b in let most = R.revokes.single.0 k a b in omega (arith, sum, most), λ k a b care. let sum = asked-same k a b in let none = R.revokes.single.1 k a b care in omega (arith, sum, none))
+        omega (arith, tokens, count, before)) (
+          λ k a b. let sum = asked-same k a b in let most = R.revokes.single.0 k a b in omega (arith, sum, most),
+          λ k a b care. let sum = asked-same k a b in
+              let none = R.revokes.single.1 k a b care in omega (arith, sum, none),
+        )
         (λ k more. let sum = weigh-map (λ (x : JobRow). 0) g (λ x. refl) s.jobs in inl (omega (arith, sum, more)))
         (let sum = weigh-map (λ (x : JobRow). 0) g (λ x. refl) s.jobs in let before = R.revokes.placed in omega (arith, sum, before))
         R
@@ -100,7 +119,8 @@ module _ (C : Scene) where
   -- where the VPE has ended, what it had is lost
   pub row-unwaited : (h : Hand) (j v : ℕ) (s : Side) → ((k : KeyName) → k.vpe ≡ v → C.lost k) → Row C h s → Row C h (waiter_left j v s)
   row-unwaited h j v s ends R =
-      row-mapped h s (λ (x : JobRow). record x { waiters = without_number x.waiters v; keep = x.keep && not ((x.id == j) && (x.root.vpe == v)) }) (λ x. (refl, refl)) (λ x. refl) (λ x. refl)
+      row-mapped h s (λ (x : JobRow). record x { waiters = without_number x.waiters v; keep = x.keep && not ((x.id == j) && (x.root.vpe == v)) })
+      (λ x. (refl, refl)) (λ x. refl) (λ x. refl)
       (λ x. (λ is keeps. is (and_parts x.keep (not ((x.id == j) && (x.root.vpe == v))) keeps).0, λ is. (λ leaves. root-lost x is leaves, is.1)))
       (ids.keeps_left s R.ids j v) R
     where
@@ -108,7 +128,8 @@ module _ (C : Scene) where
       root-lost x is leaves = elim (cases_Bool x.keep) [
         | inr fails ↦ is.0 fails
         | inl keeps ↦
-            let test : ((x.id == j) && (x.root.vpe == v)) ≡ true = not-false ((x.id == j) && (x.root.vpe == v)) (sym (ap (λ b. b && not ((x.id == j) && (x.root.vpe == v))) keeps) ∙ leaves) in
+            let test : ((x.id == j) && (x.root.vpe == v)) ≡ true =
+            not-false ((x.id == j) && (x.root.vpe == v)) (sym (ap (λ b. b && not ((x.id == j) && (x.root.vpe == v))) keeps) ∙ leaves) in
             ends x.root (eqb-true x.root.vpe v (and_parts (x.id == j) (x.root.vpe == v) test).1)
       ]
 
@@ -124,7 +145,8 @@ module _ (C : Scene) where
 
   -- a call is parked in a state that installs nothing
   pub row-parked : (h : Hand) (v : ℕ) (p : Parked) (s : Side) → ((k : KeyName) → at_parked k (Some p) ≡ 0) → Row C h s → Row C h (parked_as v p s)
-  row-parked h v p s none R = rows-changed C h s s.vpes s.endpoints (put None s.parks v (Some p)) (λ k. let less = lives-parked k on_its_way s v p in let zero' = none k in omega (arith, less, zero')) R
+  row-parked h v p s none R = rows-changed C h s s.vpes s.endpoints (put None s.parks v (Some p)) (λ k. let less = lives-parked k on_its_way s v p in
+      let zero' = none k in omega (arith, less, zero')) R
 
   -- Begin.
 
@@ -136,35 +158,47 @@ module _ (C : Scene) where
   pub row-opened_at : (root : KeyName) (waiters : List ℕ) (keep : Bool) → (keep ≡ false → C.lost root) × ((k : KeyName) → C.parent root k → C.lost k)
       → (s : Side) (c : Capability) → cap s root ≡ Some c → c.mark ≡ None → Row C free_hand s → Row C free_hand (opened C.setup i root None waiters keep s)
   unfolding opened
-  row-opened_at root waiters keep caused s c held unmarked R = row-opened C free_hand root None waiters keep (λ _. refl) caused s R c held unmarked (λ a b loose. loose) (λ k a b care. absurd care) (λ k a b pass. let parts = and_parts (key_eq root k) false pass in absurd (true≢false (sym parts.1))) (λ a b. refl) (λ a b no'. absurd cc)
+  row-opened_at root waiters keep caused s c held unmarked R = row-opened C free_hand root None waiters keep (λ _. refl) caused s R c held unmarked
+      (λ a b loose. loose) (λ k a b care. absurd care) (λ k a b pass. let parts = and_parts (key_eq root k) false pass in
+      absurd (true≢false (sym parts.1))) (λ a b. refl) (λ a b no'. absurd cc)
 
   pub row-begun : (root : KeyName) (waiters : List ℕ) (keep : Bool) → (keep ≡ false → C.lost root) × ((k : KeyName) → C.parent root k → C.lost k)
       → (s : Side) (c : Capability) → cap s root ≡ Some c → c.mark ≡ None → Row C free_hand s → Row C free_hand (begin C.setup i root None waiters keep s)
-  row-begun root waiters keep caused s c held unmarked R = row-settled C s.next_job (opened C.setup i root None waiters keep s) (row-opened_at root waiters keep caused s c held unmarked R)
+  row-begun root waiters keep caused s c held unmarked R =
+      row-settled C s.next_job (opened C.setup i root None waiters keep s) (row-opened_at root waiters keep caused s c held unmarked R)
 
   pub row-opened_for : (root : KeyName) (from j : ℕ) (s : Side) (c : Capability) → cap s root ≡ Some c → c.mark ≡ None → IsUnder C s root from j
       → Row C (request root from j) s → Row C free_hand (opened C.setup i root (Some (Remote from j)) [] false s)
   unfolding opened
   row-opened_for root from j s c held unmarked under R =
-      row-opened C (request root from j) root (Some (Remote from j)) [] false (λ no'. absurd cc) (all-lost root (under-lost C (request root from j) s R root from j under)) s R c held unmarked (λ a b loose. loose)
-      (λ k a b (at, job', same). and_from (key_eq root k) ((from == a) && (j == b)) (key_eq-from root k (sym same)) (and_from (from == a) (j == b) (eq-eqb from a (sym at)) (eq-eqb j b (sym job'))))
-      (λ k a b pass. let outer = and_parts (key_eq root k) ((from == a) && (j == b)) pass in let inner = and_parts (from == a) (j == b) outer.1 in (sym (eqb-true from a inner.0), sym (eqb-true j b inner.1), sym (key_eq-true root k outer.0)))
+      row-opened C (request root from j) root (Some (Remote from j)) [] false (λ no'. absurd cc)
+      (all-lost root (under-lost C (request root from j) s R root from j under)) s R c held unmarked (λ a b loose. loose)
+      (λ k a b (at, job', same). and_from (key_eq root k) ((from == a) && (j == b)) (key_eq-from root k (sym same))
+      (and_from (from == a) (j == b) (eq-eqb from a (sym at)) (eq-eqb j b (sym job'))))
+      (λ k a b pass. let outer = and_parts (key_eq root k) ((from == a) && (j == b)) pass in let inner = and_parts (from == a) (j == b) outer.1 in
+      (sym (eqb-true from a inner.0), sym (eqb-true j b inner.1), sym (key_eq-true root k outer.0)))
       (λ a b. refl)
-      (λ a b pass. let parts = and_parts (from == a) (j == b) pass in subst (λ c. IsUnder C s root c b) (eqb-true from a parts.0) (subst (λ d. IsUnder C s root from d) (eqb-true j b parts.1) under))
+      (λ a b pass. let parts = and_parts (from == a) (j == b) pass in
+      subst (λ c. IsUnder C s root c b) (eqb-true from a parts.0) (subst (λ d. IsUnder C s root from d) (eqb-true j b parts.1) under))
 
   row-begun_for : (root : KeyName) (from j : ℕ) (s : Side) (c : Capability) → cap s root ≡ Some c → c.mark ≡ None → IsUnder C s root from j
       → Row C (request root from j) s → Row C free_hand (begin C.setup i root (Some (Remote from j)) [] false s)
-  row-begun_for root from j s c held unmarked under R = row-settled C s.next_job (opened C.setup i root (Some (Remote from j)) [] false s) (row-opened_for root from j s c held unmarked under R)
+  row-begun_for root from j s c held unmarked under R = row-settled C s.next_job (opened C.setup i root (Some (Remote from j)) [] false s)
+      (row-opened_for root from j s c held unmarked under R)
 
-  pub row-revoked : (v : ℕ) (k : KeyName) (s : Side) (c : Capability) → cap s k ≡ Some c → C.lost k → Row C free_hand s → Row C free_hand (revoke_begun C.setup i v k c.mark s)
+  pub row-revoked : (v : ℕ) (k : KeyName) (s : Side) (c : Capability) → cap s k ≡ Some c → C.lost k → Row C free_hand s →
+      Row C free_hand (revoke_begun C.setup i v k c.mark s)
   row-revoked v k s c held is_lost R = from c.mark refl
     where
       from : (m : Option ℕ) → c.mark ≡ m → Row C free_hand (revoke_begun C.setup i v k m s)
-      from None unmarked = row-begun k (v ∷ []) false (all-lost k is_lost) (parked_as v (RevokeWait s.next_job) s) c held unmarked (row-parked free_hand v (RevokeWait s.next_job) s (λ q. refl) R)
+      from None unmarked = row-begun k (v ∷ []) false (all-lost k is_lost) (parked_as v (RevokeWait s.next_job) s) c held unmarked
+          (row-parked free_hand v (RevokeWait s.next_job) s (λ q. refl) R)
       from (Some j) marked = row-waiting free_hand j v (parked_as v (RevokeWait j) s) (row-parked free_hand v (RevokeWait j) s (λ q. refl) R)
 
-  pub row-cleared : (v : ℕ) (k : KeyName) (s : Side) (c : Capability) → cap s k ≡ Some c → c.mark ≡ None → ((q : KeyName) → C.parent k q → C.lost q) → Row C free_hand s → Row C free_hand (clear_begun C.setup i v k s)
-  row-cleared v k s c held unmarked lost R = row-begun k (v ∷ []) true (λ no'. absurd cc, lost) (parked_as v (RevokeWait s.next_job) s) c held unmarked (row-parked free_hand v (RevokeWait s.next_job) s (λ q. refl) R)
+  pub row-cleared : (v : ℕ) (k : KeyName) (s : Side) (c : Capability) → cap s k ≡ Some c → c.mark ≡ None → ((q : KeyName) → C.parent k q → C.lost q) →
+      Row C free_hand s → Row C free_hand (clear_begun C.setup i v k s)
+  row-cleared v k s c held unmarked lost R = row-begun k (v ∷ []) true (λ no'. absurd cc, lost) (parked_as v (RevokeWait s.next_job) s) c held unmarked
+      (row-parked free_hand v (RevokeWait s.next_job) s (λ q. refl) R)
 
   -- A request from another kernel.
   module _ (k : KeyName) (from j : ℕ) (s : Side) (here : owner C k ≡ i) (away : from ≢ i) (under : IsUnder C s k from j) (R : Row C (request k from j) s) where
@@ -174,7 +208,10 @@ module _ (C : Scene) where
         let is_marked : IsMarked C s k m = (c, hold-here C s k here ∙ held, marked) in
         let found = R.revokes.marks k m is_marked in
         let open_ : job s m ≡ Some found.0 = sym (job-here C s m) ∙ (ap (λ a. (view C s).job a m) (sym here) ∙ found.1) in
-        let root : found.0.root ≡ k = elim found.2 [ inl is ↦ is | inr under' ↦ absurd (away ((same-mark (owner C) C.parent C.one_parent C.made (view C s) k from j (owner C k) m under under').0 ∙ here)) ] in
+        let root : found.0.root ≡ k = elim found.2 [
+          | inl is ↦ is
+          | inr under' ↦ absurd (away ((same-mark (owner C) C.parent C.one_parent C.made (view C s) k from j (owner C k) m under under').0 ∙ here))
+        ] in
         with_it found.0 open_ root
       where
         f : JobRow → JobRow
@@ -191,7 +228,9 @@ module _ (C : Scene) where
               | inl pass ↦
                   let parts = and_parts (key_eq x.root q) ((from == a) && (j == b)) pass in
                   let at = and_parts (from == a) (j == b) parts.1 in
-                  inr (subst (λ z. IsUnder C s z a b) (sym root ∙ key_eq-true x.root q parts.0) (subst (λ d. IsUnder C s k d b) (eqb-true from a at.0) (subst (λ d. IsUnder C s k from d) (eqb-true j b at.1) under)))
+                  inr (subst (λ z. IsUnder C s z a b) (sym root
+                  ∙ key_eq-true x.root q parts.0)
+                  (subst (λ d. IsUnder C s k d b) (eqb-true from a at.0) (subst (λ d. IsUnder C s k from d) (eqb-true j b at.1) under)))
               | inr fail ↦ let none = one-false (key_eq x.root q && ((from == a) && (j == b))) fail in inl (omega (arith, sum, none, more))
             ])
             (λ a n loose. loose)
@@ -210,7 +249,8 @@ module _ (C : Scene) where
             t = with_up (Remote from j) m s
 
             root-lost : (z : JobRow) → job s m ≡ Some z → C.lost z.root
-            root-lost z there = subst C.lost (sym (ap (λ (w : JobRow). w.root) (same_Some z x (sym there ∙ open_)) ∙ root)) (under-lost C (request k from j) s R k from j under)
+            root-lost z there = subst C.lost (sym (ap (λ (w : JobRow). w.root) (same_Some z x (sym there ∙ open_)) ∙ root))
+                (under-lost C (request k from j) s R k from j under)
 
             -- no job waits for it yet
             alone : (a b : ℕ) → names i x.up a b ≡ false
@@ -222,7 +262,8 @@ module _ (C : Scene) where
                 let none = R.revokes.single.1 k a b (mark.0, mark.1, refl) in
                 omega (arith, asked, none))
 
-            asks : (q : KeyName) (a b : ℕ) → of_side (asking q a b) i t + one_if (key_eq x.root q && names i x.up a b) ≡ of_side (asking q a b) i s + one_if (key_eq x.root q && ((from == a) && (j == b)))
+            asks : (q : KeyName) (a b : ℕ) → of_side (asking q a b) i t + one_if (key_eq x.root q && names i x.up a b)
+                ≡ of_side (asking q a b) i s + one_if (key_eq x.root q && ((from == a) && (j == b)))
             asks q a b = side-changed (asking q a b) i s m f x R.ids.rise open_
 
             once : (q : KeyName) (a b : ℕ) → (view C t).asked q a b ≤ 1
@@ -233,7 +274,11 @@ module _ (C : Scene) where
                   | inl pass ↦
                       let parts = and_parts (key_eq x.root q) ((from == a) && (j == b)) pass in
                       let at = and_parts (from == a) (j == b) parts.1 in
-                      let none = R.revokes.single.1 q a b (sym (eqb-true from a at.0), sym (eqb-true j b at.1), sym (sym root ∙ key_eq-true x.root q parts.0)) in
+                      let none = R.revokes.single.1 q a b (
+                        sym (eqb-true from a at.0),
+                        sym (eqb-true j b at.1),
+                        sym (sym root ∙ key_eq-true x.root q parts.0),
+                      ) in
                       let one = one-true (key_eq x.root q && ((from == a) && (j == b))) pass in
                       omega (arith, sum, none, one)
                   | inr fail ↦ let one = one-false (key_eq x.root q && ((from == a) && (j == b))) fail in omega (arith, sum, most, one)
@@ -242,7 +287,9 @@ module _ (C : Scene) where
             now : 1 ≤ (view C t).asked k from j
             now =
                 let sum = asks k from j in
-                let one = one-true (key_eq x.root k && ((from == from) && (j == j))) (and_from (key_eq x.root k) ((from == from) && (j == j)) (key_eq-from x.root k root) (and_from (from == from) (j == j) (eq-eqb from from refl) (eq-eqb j j refl))) in
+                let one = one-true (key_eq x.root k && ((from == from) && (j == j)))
+                (and_from (key_eq x.root k) ((from == from) && (j == j)) (key_eq-from x.root k root)
+                (and_from (from == from) (j == j) (eq-eqb from from refl) (eq-eqb j j refl))) in
                 let weighs = job-weighs C (asking k from j) s m x open_ in
                 omega (arith, sum, one, weighs)
 
@@ -251,7 +298,8 @@ module _ (C : Scene) where
               | inl same ↦
                   let is_q : k ≡ q = sym root ∙ key_eq-true x.root q same in
                   let mark = same-mark (owner C) C.parent C.one_parent C.made (view C s) q from j a b (subst (λ z. IsUnder C s z from j) is_q under) under' in
-                  subst (λ z. 1 ≤ (view C t).asked z a b) is_q (subst (λ c. 1 ≤ (view C t).asked k c b) mark.0 (subst (λ d. 1 ≤ (view C t).asked k from d) mark.1 now))
+                  subst (λ z. 1 ≤ (view C t).asked z a b) is_q
+                  (subst (λ c. 1 ≤ (view C t).asked k c b) mark.0 (subst (λ d. 1 ≤ (view C t).asked k from d) mark.1 now))
               | inr differ ↦ old before differ
             ]
               where
@@ -264,7 +312,8 @@ module _ (C : Scene) where
                 old (inr (at, job', same)) differ = absurd (true≢false (sym (key_eq-from x.root q (root ∙ sym same)) ∙ differ))
 
     cancelled : Row C (request k from j) (obtain_cancelled k s)
-    cancelled = cond_both (is_ready_with k (parked s k.vpe)) _ s (Row C (request k from j)) (λ _. row-parked (request k from j) k.vpe ObtainCancelled (ready_freed (parked s k.vpe) k.vpe s) (λ q. refl) (freed-ready (parked s k.vpe))) (λ _. R)
+    cancelled = cond_both (is_ready_with k (parked s k.vpe)) _ s (Row C (request k from j))
+        (λ _. row-parked (request k from j) k.vpe ObtainCancelled (ready_freed (parked s k.vpe) k.vpe s) (λ q. refl) (freed-ready (parked s k.vpe))) (λ _. R)
       where
         freed-ready : (p : Option Parked) → Row C (request k from j) (ready_freed p k.vpe s)
         freed-ready None = R
@@ -280,7 +329,8 @@ module _ (C : Scene) where
     missed : IsGone C (obtain_cancelled k s) k → Row C free_hand (send from (RevokeDone j) (obtain_cancelled k s))
     missed gone =
         row-sent C (request k from j) free_hand (obtain_cancelled k s) from (RevokeDone j) (λ q a b. refl) (λ q. refl) refl (λ a b. omega arith)
-        (λ a b q alive (at, job', same). not-gone (owner C) C.parent C.one_parent C.made (view C (obtain_cancelled k s)) k gone (subst (IsAlive C (obtain_cancelled k s)) same alive))
+        (λ a b q alive (at, job', same). not-gone (owner C) C.parent C.one_parent C.made (view C (obtain_cancelled k s)) k gone
+        (subst (IsAlive C (obtain_cancelled k s)) same alive))
         (λ a b q care. absurd care)
         (λ a n loose. loose) (λ q more. absurd (omega (arith, more))) cancelled
 
@@ -311,7 +361,9 @@ module _ (C : Scene) where
   -- The end of a VPE.
 
   pub row-refused : (code : Code) (a : Ask) (s : Side) → Row C free_hand s → Row C free_hand (ask_refused C.setup i code a s)
-  row-refused code a s R = cond_both (kernel_of C.setup (asker a) == i) (call_refused (code_number code) (asker a) s) (refusal_sent C.setup code a s) (Row C free_hand) (λ _. parked-row C free_hand (asker a) (code_number code) (promise_freed (parked s (asker a)) (asker a) s) (freed-promise (parked s (asker a)) (asker a))) (λ _. refusal a)
+  row-refused code a s R = cond_both (kernel_of C.setup (asker a) == i) (call_refused (code_number code) (asker a) s) (refusal_sent C.setup code a s)
+      (Row C free_hand) (λ _. parked-row C free_hand (asker a) (code_number code) (promise_freed (parked s (asker a)) (asker a) s)
+      (freed-promise (parked s (asker a)) (asker a))) (λ _. refusal a)
     where
       freed-promise : (p : Option Parked) (v : ℕ) → Row C free_hand (promise_freed p v s)
       freed-promise None v = R
@@ -324,14 +376,18 @@ module _ (C : Scene) where
       freed-promise (Some (Ready code)) v = R
 
       refusal : (a : Ask) → Row C free_hand (refusal_sent C.setup code a s)
-      refusal (ObtainAsk place target) = row-sent C free_hand free_hand s (place_owner C.setup place) (ObtainNo place (code_number code)) (λ k a b. refl) (λ k. refl) refl (λ a b. refl) (λ a b k alive care. care) (λ a b k care. care) (λ a n loose. loose) (λ k more. absurd (omega (arith, more))) R
-      refusal (DelegateAsk parent object sel) = row-sent C free_hand free_hand s (owner C parent) (DelegateNo parent (code_number code)) (λ k a b. refl) (λ k. refl) refl (λ a b. refl) (λ a b k alive care. care) (λ a b k care. care) (λ a n loose. loose) (λ k more. absurd (omega (arith, more))) R
+      refusal (ObtainAsk place target) = row-sent C free_hand free_hand s (place_owner C.setup place) (ObtainNo place (code_number code)) (λ k a b. refl)
+          (λ k. refl) refl (λ a b. refl) (λ a b k alive care. care) (λ a b k care. care) (λ a n loose. loose) (λ k more. absurd (omega (arith, more))) R
+      refusal (DelegateAsk parent object sel) = row-sent C free_hand free_hand s (owner C parent) (DelegateNo parent (code_number code)) (λ k a b. refl)
+          (λ k. refl) refl (λ a b. refl) (λ a b k alive care. care) (λ a b k care. care) (λ a n loose. loose) (λ k more. absurd (omega (arith, more))) R
 
   unparked-row : (v : ℕ) (s : Side) → Row C free_hand s → Row C free_hand (unparked v s)
-  unparked-row v s R = rows-changed C free_hand s s.vpes s.endpoints (put None s.parks v None) (λ k. let less = lives-unparked k on_its_way s v in omega (arith, less)) R
+  unparked-row v s R = rows-changed C free_hand s s.vpes s.endpoints (put None s.parks v None) (λ k. let less = lives-unparked k on_its_way s v in
+      omega (arith, less)) R
 
   -- what the parked call of the dead VPE owes
-  row-call_ended : (v : ℕ) (s : Side) → ((k : KeyName) → k.vpe ≡ v → C.lost k) → Row C free_hand s → Row C free_hand (call_ended C.setup (parked s v) v (unparked v s))
+  row-call_ended : (v : ℕ) (s : Side) → ((k : KeyName) → k.vpe ≡ v → C.lost k) → Row C free_hand s →
+      Row C free_hand (call_ended C.setup (parked s v) v (unparked v s))
   row-call_ended v s ends R = from (parked s v) refl
     where
       t : Side
@@ -361,18 +417,21 @@ module _ (C : Scene) where
       from (Some (ObtainWait number sel)) is = U
       from (Some (ObtainReady key parent object sel)) is =
           let gone = orphan key parent (Some (ObtainReady key parent object sel)) is (cond-true (key_eq key key) 1 0 (key_eq-same key)) in
-          row-sent C free_hand free_hand t (owner C parent) (Orphan parent key) (λ k a b. refl) (λ k. refl) refl (λ a b. refl) (λ a b k alive care. care) (λ a b k care. care) (λ a n loose. loose)
+          row-sent C free_hand free_hand t (owner C parent) (Orphan parent key) (λ k a b. refl) (λ k. refl) refl (λ a b. refl) (λ a b k alive care. care)
+          (λ a b k care. care) (λ a n loose. loose)
           (λ k more. let same : key ≡ k = key_eq-true key k (one-more (key_eq key k) more) in subst (λ z. IsGone C t z × C.made z) same gone) U
       from (Some ObtainCancelled) is = U
       from (Some (DelegateWait parent)) is = U
-      from (Some (DelegateReady parent key)) is = row-sent C free_hand free_hand t (owner C key) (Ack key false) (λ k a b. refl) (λ k. refl) refl (λ a b. refl) (λ a b k alive care. care) (λ a b k care. care) (λ a n loose. loose) (λ k more. absurd (omega (arith, more))) U
+      from (Some (DelegateReady parent key)) is = row-sent C free_hand free_hand t (owner C key) (Ack key false) (λ k a b. refl) (λ k. refl) refl (λ a b. refl)
+          (λ a b k alive care. care) (λ a b k care. care) (λ a n loose. loose) (λ k more. absurd (omega (arith, more))) U
       from (Some (RevokeWait j)) is = row-unwaited free_hand j v t ends U
       from (Some (Ready code)) is = U
 
   pub row-left : (k : KeyName) (s : Side) → C.lost k → Row C free_hand s → Row C free_hand (revoked_if_left C.setup i k s)
   row-left k s is_lost R = from (cap s k) refl
     where
-      by_mark : (c : Capability) → cap s k ≡ Some c → (m : Option ℕ) → c.mark ≡ m → Row C free_hand (option_map_or (λ m. s) m (begin C.setup i k None [] false s))
+      by_mark : (c : Capability) → cap s k ≡ Some c → (m : Option ℕ) → c.mark ≡ m →
+          Row C free_hand (option_map_or (λ m. s) m (begin C.setup i k None [] false s))
       by_mark c held None unmarked = row-begun k [] false (all-lost k is_lost) s c held unmarked R
       by_mark c held (Some m) marked = R
 
@@ -383,16 +442,21 @@ module _ (C : Scene) where
   pub row-ended_but_held : (v : ℕ) (s : Side) → ((k : KeyName) → k.vpe ≡ v → C.lost k) → Row C free_hand s → Row C free_hand (ended_but_held C.setup i v s)
   row-ended_but_held v s ends R =
       let asks : List Ask = (row s v).asks in
-      let dead : Row C free_hand (buried v s) = rows-changed C free_hand s (put no_vpe s.vpes v (record (row s v) { alive = false; asks = [] })) s.endpoints s.parks (λ k. omega arith) R in
+      let dead : Row C free_hand (buried v s) = rows-changed C free_hand s (put no_vpe s.vpes v (record (row s v) { alive = false; asks = [] })) s.endpoints
+      s.parks (λ k. omega arith) R in
       let answered : Side = in_turn (ask_ended C.setup i) asks (buried v s) in
-      let told : Row C free_hand answered = in_turn-keeps (Row C free_hand) (ask_ended C.setup i) (λ a t here. cond_both (is_unawaited C.setup i t a) t (ask_refused C.setup i Dead a t) (Row C free_hand) (λ _. here) (λ _. row-refused Dead a t here)) asks (buried v s) dead in
+      let told : Row C free_hand answered =
+      in_turn-keeps (Row C free_hand) (ask_ended C.setup i) (λ a t here. cond_both (is_unawaited C.setup i t a) t (ask_refused C.setup i Dead a t)
+      (Row C free_hand) (λ _. here) (λ _. row-refused Dead a t here)) asks (buried v s) dead in
       row-call_ended v answered ends told
 
   pub row-ended : (v : ℕ) (s : Side) → ((k : KeyName) → k.vpe ≡ v → C.lost k) → Row C free_hand s → Row C free_hand (ended C.setup i v s)
   unfolding ended
   row-ended v s ends R =
       let last : Side = ended_but_held C.setup i v s in
-      in_turn-keeps_each (Row C free_hand) (revoked_if_left C.setup i) (keys_of last v) (λ k among t here. row-left k t (ends k (eqb-true k.vpe v (Contains-from_filter (λ (q : KeyName). q.vpe == v) (CapList.keys_of last.caps) k among).1)) here) last (row-ended_but_held v s ends R)
+      in_turn-keeps_each (Row C free_hand) (revoked_if_left C.setup i) (keys_of last v)
+      (λ k among t here. row-left k t (ends k (eqb-true k.vpe v (Contains-from_filter (λ (q : KeyName). q.vpe == v) (CapList.keys_of last.caps) k among).1))
+      here) last (row-ended_but_held v s ends R)
 
   -- A message is taken out of the inbox.
   pub row-taken : (h : Hand) (s : Side) (from : ℕ) (m : Message) → s.inbox ≡ Some (from, m)
@@ -402,7 +466,8 @@ module _ (C : Scene) where
       → Row C free_hand s → Row (record C { before = with_inbox None s }) h (with_inbox None s)
   row-taken h s from m full cares owed cared R =
       step_from D free_hand h s t
-      (holds-same (owner C) C.parent C.one_parent C.made (view C s) (view C t) (λ k. refl) (λ k. let sum = lives-inbox k on_its_way s None in omega (arith, sum)))
+      (holds-same (owner C) C.parent C.one_parent C.made (view C s) (view C t) (λ k. refl) (λ k. let sum = lives-inbox k on_its_way s None in
+      omega (arith, sum)))
       (no-roots D s t refl) R.rises (record { rise = R.ids.rise; drawn = R.ids.drawn }) R.homes here
       (λ k a b alive under before. inr (elim before [
         | inl more ↦ elim (cases_eq (asking_message k a b from i m) 0) [
@@ -413,8 +478,12 @@ module _ (C : Scene) where
       ]))
       (λ k a b more. let sum = out (asking k a b) in inl (omega (arith, sum, more)))
       (λ a n loose. absurd loose)
-      (λ a b. let sum = out (naming a b) in let count = out (counting a b) in let few = owed a b in let before = R.revokes.counted a b in omega (arith, sum, count, few, before))
-      (λ k a b. let sum = out (asking k a b) in let most = R.revokes.single.0 k a b in omega (arith, sum, most), λ k a b care. let sum = out (asking k a b) in let most = R.revokes.single.0 k a b in let some = cared k a b care in omega (arith, sum, most, some))
+      (λ a b. let sum = out (naming a b) in let count = out (counting a b) in let few = owed a b in let before = R.revokes.counted a b in
+      omega (arith, sum, count, few, before)) (
+        λ k a b. let sum = out (asking k a b) in let most = R.revokes.single.0 k a b in omega (arith, sum, most),
+        λ k a b care. let sum = out (asking k a b) in
+            let most = R.revokes.single.0 k a b in let some = cared k a b care in omega (arith, sum, most, some),
+      )
       (λ k more. let sum = out (noticing k) in inl (omega (arith, sum, more)))
       (let sum = out (straying (owner C)) in let before = R.revokes.placed in omega (arith, sum, before))
       R.caused (λ k c was. inl (c, was)) R.fit R.revokes

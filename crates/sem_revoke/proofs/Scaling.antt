@@ -1,5 +1,6 @@
 -- What the changes of a side, and the moves of messages between kernels, do to a sum over messages and jobs.
-use Rattle.std.proofs.Common.{◌≡◌, ℕ, zero, suc, ◌+◌, ◌<◌, Bool, true, false, not, List, [], ◌∷◌, ◌++◌, drop, get_or, replicate, Option, Some, slice_get, refl, sym, ap, ◌∙◌, subst, inl, inr, arith}
+use Rattle.std.proofs.Common.{◌≡◌, ℕ, zero, suc, ◌+◌, ◌<◌, Bool, true, false, not, List, [], ◌∷◌, ◌++◌, drop, get_or, replicate, Option, Some, slice_get, refl}
+use Rattle.std.proofs.Common.{sym, ap, ◌∙◌, subst, inl, inr, arith}
 use Rattle.std.specs.Prelude.{◌==◌, if◌then◌else◌}
 use Rattle.std.specs.List.{AllPairs, Contains, filter, sum_by}
 use Rattle.std.proofs.lemmas.Bool.{cases_Bool, cond-true, cond-false, eqb-true, ne_eqb}
@@ -64,7 +65,8 @@ pub pairs-tail : {X : Type 0} (S : X → X → Type 0) (x : X) (xs : List X) →
 pairs-tail S x xs pairs = λ i j d lt within. pairs (suc i) (suc j) d (omega arith) (omega arith)
 
 -- a change of what is not there leaves a sum
-change-none : {X : Type 0} (w : X → ℕ) (test : X → Bool) (f : X → X) (xs : List X) → ((x : X) → Contains xs x → test x ≡ false) → sum_by w (change test f xs) ≡ sum_by w xs
+change-none : {X : Type 0} (w : X → ℕ) (test : X → Bool) (f : X → X) (xs : List X) → ((x : X) → Contains xs x → test x ≡ false) →
+    sum_by w (change test f xs) ≡ sum_by w xs
 change-none w test f [] none = refl
 change-none w test f (x ∷ xs) none =
     let rest = change-none w test f xs (λ y among. none y (Contains-tail x xs y among)) in
@@ -75,10 +77,12 @@ change-none w test f (x ∷ xs) none =
 
 module _ (w : JobRow → ℕ) where
   id-none : (m : ℕ) (x : JobRow) (xs : List JobRow) → IdsRise (x ∷ xs) → (x.id == m) ≡ true → (y : JobRow) → Contains xs y → (y.id == m) ≡ false
-  id-none m x xs rise here y among = ne_eqb y.id m (λ same. let below = pairs-head (λ (a b : JobRow). a.id < b.id) x xs rise y among in let at = eqb-true x.id m here in omega (arith, below, at, same))
+  id-none m x xs rise here y among = ne_eqb y.id m (λ same. let below = pairs-head (λ (a b : JobRow). a.id < b.id) x xs rise y among in
+      let at = eqb-true x.id m here in omega (arith, below, at, same))
 
   -- the job of an id changed
-  pub jobs-changed : (f : JobRow → JobRow) (m : ℕ) (xs : List JobRow) (x : JobRow) → IdsRise xs → job_of xs m ≡ Some x → sum_by w (change (λ x. x.id == m) f xs) + w x ≡ sum_by w xs + w (f x)
+  pub jobs-changed : (f : JobRow → JobRow) (m : ℕ) (xs : List JobRow) (x : JobRow) → IdsRise xs → job_of xs m ≡ Some x →
+      sum_by w (change (λ x. x.id == m) f xs) + w x ≡ sum_by w xs + w (f x)
   jobs-changed f m [] x rise none = absurd cc
   jobs-changed f m (y ∷ ys) x rise open_ =
       let new = sum_by-cons w (if y.id == m then f y else y) (change (λ x. x.id == m) f ys) in
@@ -92,7 +96,8 @@ module _ (w : JobRow → ℕ) where
             omega (arith, new, old, here, this, rest)
         | inr fail ↦
             let here : w (if y.id == m then f y else y) ≡ w y = ap w (cond-false (y.id == m) (f y) y fail) in
-            let rest = jobs-changed f m ys x (pairs-tail (λ (a b : JobRow). a.id < b.id) y ys rise) (sym (cond-false (y.id == m) (Some y) (job_of ys m) fail) ∙ open_) in
+            let rest = jobs-changed f m ys x (pairs-tail (λ (a b : JobRow). a.id < b.id) y ys rise) (sym (cond-false (y.id == m) (Some y) (job_of ys m) fail)
+            ∙ open_) in
             omega (arith, new, old, here, rest)
       ]
 
@@ -101,14 +106,16 @@ module _ (w : JobRow → ℕ) where
   kept-all m (y ∷ ys) none =
       let rest = kept-all m ys (λ z among. none z (Contains-tail y ys z among)) in
       let fail = none y (Contains-head y ys) in
-      let first : filter (λ x. not (x.id == m)) (y ∷ ys) ≡ y ∷ filter (λ x. not (x.id == m)) ys = cond-true (not (y.id == m)) (y ∷ filter (λ x. not (x.id == m)) ys) (filter (λ x. not (x.id == m)) ys) (ap not fail) in
+      let first : filter (λ x. not (x.id == m)) (y ∷ ys) ≡ y ∷ filter (λ x. not (x.id == m)) ys =
+      cond-true (not (y.id == m)) (y ∷ filter (λ x. not (x.id == m)) ys) (filter (λ x. not (x.id == m)) ys) (ap not fail) in
       let one = ap (sum_by w) first in
       let two = sum_by-cons w y (filter (λ x. not (x.id == m)) ys) in
       let all = sum_by-cons w y ys in
       omega (arith, rest, one, two, all)
 
   -- the job of an id removed
-  pub jobs-removed : (m : ℕ) (xs : List JobRow) (x : JobRow) → IdsRise xs → job_of xs m ≡ Some x → sum_by w (filter (λ x. not (x.id == m)) xs) + w x ≡ sum_by w xs
+  pub jobs-removed : (m : ℕ) (xs : List JobRow) (x : JobRow) → IdsRise xs → job_of xs m ≡ Some x →
+      sum_by w (filter (λ x. not (x.id == m)) xs) + w x ≡ sum_by w xs
   jobs-removed m [] x rise none = absurd cc
   jobs-removed m (y ∷ ys) x rise open_ =
       let all = sum_by-cons w y ys in
@@ -116,15 +123,18 @@ module _ (w : JobRow → ℕ) where
         | inl pass ↦
             let same : y ≡ x = same_Some y x (sym (cond-true (y.id == m) (Some y) (job_of ys m) pass) ∙ open_) in
             let this : w y ≡ w x = ap w same in
-            let first : filter (λ x. not (x.id == m)) (y ∷ ys) ≡ filter (λ x. not (x.id == m)) ys = cond-false (not (y.id == m)) (y ∷ filter (λ x. not (x.id == m)) ys) (filter (λ x. not (x.id == m)) ys) (ap not pass) in
+            let first : filter (λ x. not (x.id == m)) (y ∷ ys) ≡ filter (λ x. not (x.id == m)) ys =
+            cond-false (not (y.id == m)) (y ∷ filter (λ x. not (x.id == m)) ys) (filter (λ x. not (x.id == m)) ys) (ap not pass) in
             let one = ap (sum_by w) first in
             let rest = kept-all m ys (id-none m y ys rise pass) in
             omega (arith, all, this, one, rest)
         | inr fail ↦
-            let first : filter (λ x. not (x.id == m)) (y ∷ ys) ≡ y ∷ filter (λ x. not (x.id == m)) ys = cond-true (not (y.id == m)) (y ∷ filter (λ x. not (x.id == m)) ys) (filter (λ x. not (x.id == m)) ys) (ap not fail) in
+            let first : filter (λ x. not (x.id == m)) (y ∷ ys) ≡ y ∷ filter (λ x. not (x.id == m)) ys =
+            cond-true (not (y.id == m)) (y ∷ filter (λ x. not (x.id == m)) ys) (filter (λ x. not (x.id == m)) ys) (ap not fail) in
             let one = ap (sum_by w) first in
             let two = sum_by-cons w y (filter (λ x. not (x.id == m)) ys) in
-            let rest = jobs-removed m ys x (pairs-tail (λ (a b : JobRow). a.id < b.id) y ys rise) (sym (cond-false (y.id == m) (Some y) (job_of ys m) fail) ∙ open_) in
+            let rest = jobs-removed m ys x (pairs-tail (λ (a b : JobRow). a.id < b.id) y ys rise) (sym (cond-false (y.id == m) (Some y) (job_of ys m) fail)
+            ∙ open_) in
             omega (arith, all, one, two, rest)
       ]
 
@@ -146,13 +156,18 @@ module _ (S : Scale) where
       let front = weigh-drop (S.message i j) (outbox s j) in
       omega (arith, outs, front)
 
-  pub side-inbox : (i : ℕ) (s : Side) (message : Option (ℕ × Message)) → of_side S i (with_inbox message s) + of_inbox S i s.inbox ≡ of_side S i s + of_inbox S i message
+  pub side-inbox : (i : ℕ) (s : Side) (message : Option (ℕ × Message)) →
+      of_side S i (with_inbox message s) + of_inbox S i s.inbox ≡ of_side S i s + of_inbox S i message
   side-inbox i s message = omega arith
 
-  pub side-opened : (i : ℕ) (s : Side) (root : KeyName) (up : Option Up) (waiters : List ℕ) (keep : Bool) → of_side S i (job_opened root up waiters keep s) ≡ of_side S i s + S.job i (record { id = s.next_job; root = root; up = up; waiters = waiters; count = 0; keep = keep })
-  side-opened i s root up waiters keep = let push = sum_by_push (S.job i) s.jobs (record { id = s.next_job; root = root; up = up; waiters = waiters; count = 0; keep = keep }) in omega (arith, push)
+  pub side-opened : (i : ℕ) (s : Side) (root : KeyName) (up : Option Up) (waiters : List ℕ) (keep : Bool) →
+      of_side S i (job_opened root up waiters keep s)
+      ≡ of_side S i s + S.job i (record { id = s.next_job; root = root; up = up; waiters = waiters; count = 0; keep = keep })
+  side-opened i s root up waiters keep = let push =
+      sum_by_push (S.job i) s.jobs (record { id = s.next_job; root = root; up = up; waiters = waiters; count = 0; keep = keep }) in omega (arith, push)
 
-  pub side-changed : (i : ℕ) (s : Side) (m : ℕ) (f : JobRow → JobRow) (x : JobRow) → IdsRise s.jobs → job s m ≡ Some x → of_side S i (job_changed m f s) + S.job i x ≡ of_side S i s + S.job i (f x)
+  pub side-changed : (i : ℕ) (s : Side) (m : ℕ) (f : JobRow → JobRow) (x : JobRow) → IdsRise s.jobs → job s m ≡ Some x →
+      of_side S i (job_changed m f s) + S.job i x ≡ of_side S i s + S.job i (f x)
   side-changed i s m f x rise open_ = let jobs = jobs-changed (S.job i) f m s.jobs x rise open_ in omega (arith, jobs)
 
   pub side-removed : (i : ℕ) (s : Side) (m : ℕ) (x : JobRow) → IdsRise s.jobs → job s m ≡ Some x → of_side S i (job_removed m s) + S.job i x ≡ of_side S i s
@@ -180,7 +195,8 @@ module _ (S : Scale) where
   no-row : (n : ℕ) → sum_from (of_messages S n) 0 [] ≡ 0
   no-row n = refl
 
-  pub world-link : (W : World) (i j : ℕ) (ms : List Message) → of_world S (with_link i j ms W) + of_messages S i j (link W i j) ≡ of_world S W + of_messages S i j ms
+  pub world-link : (W : World) (i j : ℕ) (ms : List Message) →
+      of_world S (with_link i j ms W) + of_messages S i j (link W i j) ≡ of_world S W + of_messages S i j ms
   world-link W i j ms =
       let row : List (List Message) = get_or W.links i [] in
       let rows = put-from (λ i ls. sum_from (of_messages S i) 0 ls) [] no-row W.links i (put [] row j ms) in

@@ -26,7 +26,8 @@ use Rattle.sem_revoke.proofs.Serving.{Waits, schedule-served, ends-dead}
 
 module _ (T : Setup) (valid : IsSetup T) (J : List Entry) (runs : IsSchedule T J) where
   -- the states in which a call that waits is parked
-  rest-state : (s : Side) (k r : KeyName) (v : ℕ) (p : Option Parked) → parked s v ≡ p → Resting None s k r v p → (is_alive s v ≡ false) ⊎ (((n : ℕ) × (parked s v ≡ Some (RevokeWait n))) ⊎ ((code : ℕ) × (parked s v ≡ Some (Ready code))))
+  rest-state : (s : Side) (k r : KeyName) (v : ℕ) (p : Option Parked) → parked s v ≡ p → Resting None s k r v p →
+      (is_alive s v ≡ false) ⊎ (((n : ℕ) × (parked s v ≡ Some (RevokeWait n))) ⊎ ((code : ℕ) × (parked s v ≡ Some (Ready code))))
   rest-state s k r v None at is = inl is
   rest-state s k r v (Some (ObtainWait number sel)) at is = absurd is
   rest-state s k r v (Some (ObtainReady key parent object sel)) at is = absurd is
@@ -46,7 +47,8 @@ module _ (T : Setup) (valid : IsSetup T) (J : List Entry) (runs : IsSchedule T J
           served.0,
           λ x open_. let there = found (λ (y : JobRow). y.id == n) at-home.jobs x open_ in served.1 x there.0 (eqb-true x.id n there.1),
         );
-    ready = λ ready live. ends-dead T valid J runs v k r w (λ c held. (subst (Resting None at-home k r v) ready w.rest).1 c held) (live-alive T valid J runs (Par (grants J)) (Made T (grants J)) k live);
+    ready = λ ready live. ends-dead T valid J runs v k r w (λ c held. (subst (Resting None at-home k r v) ready w.rest).1 c held)
+        (live-alive T valid J runs (Par (grants J)) (Made T (grants J)) k live);
   }
     where
       at-home : Side
@@ -55,11 +57,13 @@ module _ (T : Setup) (valid : IsSetup T) (J : List Entry) (runs : IsSchedule T J
   pub revokers-wait : (v : ℕ) (ks : List KeyName) (k : KeyName) → Contains (history J).waiting (v, ks) → Contains ks k → (r : KeyName) × IsWaiting T J v k r
   revokers-wait v ks k among cuts = let w = (schedule-served T valid J runs).rest v ks k among cuts in (w.0, is-waiting v k w.0 w.1)
 
-  pub keepers-waited_for : (i n : ℕ) (x : JobRow) → job (side (world_after T J) i) n ≡ Some x → x.keep ≡ true → parked (side (world_after T J) i) x.root.vpe ≡ Some (RevokeWait n)
+  pub keepers-waited_for : (i n : ℕ) (x : JobRow) → job (side (world_after T J) i) n ≡ Some x → x.keep ≡ true →
+      parked (side (world_after T J) i) x.root.vpe ≡ Some (RevokeWait n)
   keepers-waited_for i n x open_ keeps = elim (cases_order i T.kernels) [
     | inl same ↦ past (omega (arith, same))
     | inr (inl below) ↦
-        ((schedule-sound T valid J runs).sides i below).waiters x x.root.vpe there.0 (λ none. absurd cc) ((schedule-served T valid J runs).keepers i x there.0 keeps)
+        ((schedule-sound T valid J runs).sides i below).waiters x x.root.vpe there.0 (λ none. absurd cc)
+        ((schedule-served T valid J runs).keepers i x there.0 keeps)
         ∙ ap (λ m. Some (RevokeWait m)) (eqb-true x.id n there.1)
     | inr (inr above) ↦ past (omega (arith, above))
   ]

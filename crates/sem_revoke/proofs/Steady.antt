@@ -1,5 +1,7 @@
--- What no part of a revoke changes: where it is so of a side, it is so after each step of revokes, clears, requests and tokens, and of the end of what a VPE holds.
-use Rattle.std.proofs.Common.{◌≡◌, inl, inr, sym, ap, ◌∙◌, subst, is_some, refl, ℕ, zero, suc, ◌+◌, ◌-◌, Bool, true, false, not, ◌&&◌, List, [], ◌∷◌, length, filter, map, Option, Some, None}
+-- What no part of a revoke changes: where it is so of a side, it is so after each step of revokes, clears, requests and tokens, and of the end of what a VPE
+-- holds.
+use Rattle.std.proofs.Common.{◌≡◌, inl, inr, sym, ap, ◌∙◌, subst, is_some, refl, ℕ, zero, suc, ◌+◌, ◌-◌, Bool, true, false, not, ◌&&◌, List, [], ◌∷◌, length}
+use Rattle.std.proofs.Common.{filter, map, Option, Some, None}
 use Rattle.std.specs.Prelude.{◌==◌, if◌then◌else◌}
 use Rattle.std.specs.List.{Contains, list_any}
 use Rattle.std.proofs.lemmas.Bool.{cases_Bool, cond_both, cond-true, cond-false, and_parts}
@@ -28,7 +30,9 @@ use Rattle.sem_msg.specs.ParkedStates.{is_ready_with}
 use Rattle.sem_msg.specs.Setup.{Setup}
 use Rattle.sem_msg.specs.Lookups.{owner_of, is_local}
 use Rattle.sem_machine.specs.Sides.{Side, cap, job, parked, freed, parked_as, unlinked, mark_all, unbind_all, job_opened, job_removed, send}
-use Rattle.sem_machine.specs.Revokes.{count_raised, count_lowered, with_up, other_marker, adopted, request_or_adopt, spared, root_spared, selectors_freed, all_freed, swept, woken, parent_left, up_told, left_parent, closed_here, closed, finish, settled, opened, begin, waiter_left, revoke_begun, clear_begun, ready_freed, obtain_cancelled, request_begun, revoke_requested, revoke_done}
+use Rattle.sem_machine.specs.Revokes.{count_raised, count_lowered, with_up, other_marker, adopted, request_or_adopt, spared, root_spared, selectors_freed}
+use Rattle.sem_machine.specs.Revokes.{all_freed, swept, woken, parent_left, up_told, left_parent, closed_here, closed, finish, settled, opened, begin}
+use Rattle.sem_machine.specs.Revokes.{waiter_left, revoke_begun, clear_begun, ready_freed, obtain_cancelled, request_begun, revoke_requested, revoke_done}
 use Rattle.sem_machine.specs.Ends.{revoked_if_left}
 use Rattle.sem_machine.proofs.Folds.{in_turn-keeps, option-keeps}
 use Rattle.sem_revoke.proofs.Growing.{is_plain}
@@ -51,7 +55,8 @@ KeepsLess xs ys = (y : JobRow) → Contains ys y → (x : JobRow) × Contains xs
 itself : (c : Capability) → IsThinned c c
 itself c = record { key = refl; parent = refl; children = λ k has. has; marks = λ is. is }
 
-thin-change : (test : Capability → Bool) (f : Capability → Capability) → ((c : Capability) → IsThinned c (f c)) → (xs : List Capability) → Thins xs (change test f xs)
+thin-change : (test : Capability → Bool) (f : Capability → Capability) → ((c : Capability) → IsThinned c (f c)) → (xs : List Capability) →
+    Thins xs (change test f xs)
 thin-change test f thin xs = λ c among.
     let o = Contains-from_map (λ (x : Capability). if test x then f x else x) xs c among in
     (o.0, o.1, subst (IsThinned o.0) o.2 (cond_both (test o.0) (f o.0) o.0 (IsThinned o.0) (λ _. thin o.0) (λ _. itself o.0)))
@@ -60,25 +65,47 @@ thin-filter : (test : Capability → Bool) (xs : List Capability) → Thins xs (
 thin-filter test xs = λ c among. (c, (Contains-from_filter test xs c among).0, itself c)
 
 thin-unlinked : (k : KeyName) (c : Capability) → IsThinned c (record c { children = without_key c.children k })
-thin-unlinked k c = record { key = refl; parent = refl; children = λ q has. has_key-from_Contains c.children q (Contains-from_filter (λ x. not (key_eq x k)) c.children q (Contains-from_has_key (without_key c.children k) q has)).0; marks = λ is. is }
+thin-unlinked k c =
+    record {
+      key = refl;
+      parent = refl;
+      children = λ q has. has_key-from_Contains c.children q
+          (Contains-from_filter (λ x. not (key_eq x k)) c.children q (Contains-from_has_key (without_key c.children k) q has)).0;
+      marks = λ is. is;
+    }
 
 thin-marked : (j : ℕ) (c : Capability) → IsThinned c (with_mark j c)
 thin-marked j c = record { key = refl; parent = refl; children = λ q has. has; marks = λ is. refl }
 
-less-change : (test : JobRow → Bool) (f : JobRow → JobRow) → ((x : JobRow) → ((f x).id ≡ x.id) × ((f x).root ≡ x.root) × ((f x).keep ≡ true → x.keep ≡ true)) → (xs : List JobRow) → KeepsLess xs (change test f xs)
+less-change : (test : JobRow → Bool) (f : JobRow → JobRow) → ((x : JobRow) → ((f x).id ≡ x.id) × ((f x).root ≡ x.root) × ((f x).keep ≡ true → x.keep ≡ true)) →
+    (xs : List JobRow) → KeepsLess xs (change test f xs)
 less-change test f so xs = λ y among.
     let o = Contains-from_map (λ (x : JobRow). if test x then f x else x) xs y among in
-    let is = cond_both (test o.0) (f o.0) o.0 (λ (z : JobRow). (z.id ≡ o.0.id) × (z.root ≡ o.0.root) × (z.keep ≡ true → o.0.keep ≡ true)) (λ _. so o.0) (λ _. (refl, refl, λ k. k)) in
-    (o.0, o.1, ap (λ (z : JobRow). z.id) (sym o.2) ∙ is.0, ap (λ (z : JobRow). z.root) (sym o.2) ∙ is.1, λ keeps. is.2 (ap (λ (z : JobRow). z.keep) o.2 ∙ keeps))
+    let is = cond_both (test o.0) (f o.0) o.0 (λ (z : JobRow). (z.id ≡ o.0.id) × (z.root ≡ o.0.root) × (z.keep ≡ true → o.0.keep ≡ true)) (λ _. so o.0)
+    (λ _. (refl, refl, λ k. k)) in (
+      o.0,
+      o.1,
+      ap (λ (z : JobRow). z.id) (sym o.2) ∙ is.0,
+      ap (λ (z : JobRow). z.root) (sym o.2)
+          ∙ is.1,
+      λ keeps. is.2 (ap (λ (z : JobRow). z.keep) o.2 ∙ keeps),
+    )
 
 less-filter : (test : JobRow → Bool) (xs : List JobRow) → KeepsLess xs (filter test xs)
 less-filter test xs = λ y among. (y, (Contains-from_filter test xs y among).0, refl, refl, λ k. k)
 
-less-map : (f : JobRow → JobRow) → ((x : JobRow) → ((f x).id ≡ x.id) × ((f x).root ≡ x.root) × ((f x).keep ≡ true → x.keep ≡ true)) → (xs : List JobRow) → KeepsLess xs (map f xs)
+less-map : (f : JobRow → JobRow) → ((x : JobRow) → ((f x).id ≡ x.id) × ((f x).root ≡ x.root) × ((f x).keep ≡ true → x.keep ≡ true)) → (xs : List JobRow) →
+    KeepsLess xs (map f xs)
 less-map f so xs = λ y among.
     let o = Contains-from_map f xs y among in
-    let is = so o.0 in
-    (o.0, o.1, ap (λ (z : JobRow). z.id) (sym o.2) ∙ is.0, ap (λ (z : JobRow). z.root) (sym o.2) ∙ is.1, λ keeps. is.2 (ap (λ (z : JobRow). z.keep) o.2 ∙ keeps))
+    let is = so o.0 in (
+      o.0,
+      o.1,
+      ap (λ (z : JobRow). z.id) (sym o.2) ∙ is.0,
+      ap (λ (z : JobRow). z.root) (sym o.2)
+          ∙ is.1,
+      λ keeps. is.2 (ap (λ (z : JobRow). z.keep) o.2 ∙ keeps),
+    )
 
 -- a job that is done, or comes next, is among the jobs
 pub done-among : (xs : List JobRow) (j : ℕ) (y : JobRow) → if_done (job_of xs j) ≡ Some y → Contains xs y
@@ -109,7 +136,9 @@ pub record IsSteady (P : Side → Type 0) : Type 0 where
   pub sends : (s : Side) (j : ℕ) (m : Message) → is_plain m ≡ false → P s → P (send j m s)
 
 module _ (P : Side → Type 0) (S : IsSteady P) where
-  changed-steady : (t : Side) → P t → (j : ℕ) (f : JobRow → JobRow) → ((x : JobRow) → ((f x).id ≡ x.id) × ((f x).root ≡ x.root) × ((f x).keep ≡ true → x.keep ≡ true)) → P (record t { jobs = change (λ (x : JobRow). x.id == j) f t.jobs })
+  changed-steady : (t : Side) → P t → (j : ℕ) (f : JobRow → JobRow) →
+      ((x : JobRow) → ((f x).id ≡ x.id) × ((f x).root ≡ x.root) × ((f x).keep ≡ true → x.keep ≡ true)) →
+      P (record t { jobs = change (λ (x : JobRow). x.id == j) f t.jobs })
   changed-steady t is j f so = S.jobs t (change (λ (x : JobRow). x.id == j) f t.jobs) (less-change (λ (x : JobRow). x.id == j) f so t.jobs) is
 
   raised-steady : (t : Side) → P t → (j : ℕ) → P (count_raised j t)
@@ -122,10 +151,12 @@ module _ (P : Side → Type 0) (S : IsSteady P) where
   up-steady t is up m = changed-steady t is m (λ x. record x { up = Some up; keep = false }) (λ x. (refl, refl, λ k. absurd cc))
 
   freed_rows-steady : (cs : List Capability) (t : Side) → P t → P (record t { vpes = all_freed cs t.vpes })
-  freed_rows-steady cs t is = in_turn-keeps (λ rows. P (record t { vpes = rows })) (λ c rows. VpeRows.freed c.key.vpe c.selector rows) (λ c rows here. S.frees (record t { vpes = rows }) c.key.vpe c.selector here) cs t.vpes is
+  freed_rows-steady cs t is = in_turn-keeps (λ rows. P (record t { vpes = rows })) (λ c rows. VpeRows.freed c.key.vpe c.selector rows)
+      (λ c rows here. S.frees (record t { vpes = rows }) c.key.vpe c.selector here) cs t.vpes is
 
   pub unlinked-steady : (p k : KeyName) (t : Side) → P t → P (unlinked p k t)
-  unlinked-steady p k t is = S.caps t (unlinked p k t).caps (thin-change (λ c. key_eq c.key p) (λ c. record c { children = without_key c.children k }) (thin-unlinked k) t.caps) is
+  unlinked-steady p k t is =
+      S.caps t (unlinked p k t).caps (thin-change (λ c. key_eq c.key p) (λ c. record c { children = without_key c.children k }) (thin-unlinked k) t.caps) is
 
   -- x is a job of a side before
   swept-steady : (x : JobRow) (s t : Side) → P s → Contains s.jobs x → P t → P (swept x t)
@@ -139,13 +170,17 @@ module _ (P : Side → Type 0) (S : IsSteady P) where
       spare false leaves = is
 
   woken-steady : (vs : List ℕ) (t : Side) → P t → P (woken vs t)
-  woken-steady vs t is = in_turn-keeps (λ ps. P (record t { parks = ps })) (λ w ps. put None ps w (Some (Ready (code_number OkCode)))) (λ w ps here. S.wakes (record t { parks = ps }) w here) vs t.parks is
+  woken-steady vs t is = in_turn-keeps (λ ps. P (record t { parks = ps })) (λ w ps. put None ps w (Some (Ready (code_number OkCode))))
+      (λ w ps here. S.wakes (record t { parks = ps }) w here) vs t.parks is
 
   -- the job is given by its parts
-  left-steady : (T : Setup) (i id count : ℕ) (root : KeyName) (up : Option Up) (ws : List ℕ) (keep : Bool) (o : Option KeyName) (t : Side) → P t → P (parent_left T i (record { id = id; root = root; up = up; waiters = ws; count = count; keep = keep }) o t)
+  left-steady : (T : Setup) (i id count : ℕ) (root : KeyName) (up : Option Up) (ws : List ℕ) (keep : Bool) (o : Option KeyName) (t : Side) → P t →
+      P (parent_left T i (record { id = id; root = root; up = up; waiters = ws; count = count; keep = keep }) o t)
   left-steady T i id count root up ws keep None t is = is
-  left-steady T i id count root None ws keep (Some p) t is = cond_both (is_local T i p) _ _ P (λ _. unlinked-steady p root t is) (λ _. S.sends t (owner_of T p) (Unlink p root) refl is)
-  left-steady T i id count root (Some (Local j)) ws keep (Some p) t is = cond_both (is_local T i p) _ _ P (λ _. unlinked-steady p root t is) (λ _. S.sends t (owner_of T p) (Unlink p root) refl is)
+  left-steady T i id count root None ws keep (Some p) t is =
+      cond_both (is_local T i p) _ _ P (λ _. unlinked-steady p root t is) (λ _. S.sends t (owner_of T p) (Unlink p root) refl is)
+  left-steady T i id count root (Some (Local j)) ws keep (Some p) t is =
+      cond_both (is_local T i p) _ _ P (λ _. unlinked-steady p root t is) (λ _. S.sends t (owner_of T p) (Unlink p root) refl is)
   left-steady T i id count root (Some (Remote kernel j)) ws keep (Some p) t is = cond_both (is_local T i p) _ _ P (λ _. unlinked-steady p root t is) (λ _. is)
 
   told-steady : (up : Option Up) (t : Side) → P t → P (up_told up t)
@@ -158,13 +193,15 @@ module _ (P : Side → Type 0) (S : IsSteady P) where
   closed-steady T i x t among is =
       let gone : Side = job_removed x.id t in
       let one : P gone = S.jobs t gone.jobs (less-filter (λ (y : JobRow). not (y.id == x.id)) t.jobs) is in
-      told-steady x.up (closed_here T i x gone) (left-steady T i x.id x.count x.root x.up x.waiters x.keep (left_parent gone x) (woken x.waiters (swept x gone)) (woken-steady x.waiters (swept x gone) (swept-steady x t gone is among one)))
+      told-steady x.up (closed_here T i x gone) (left-steady T i x.id x.count x.root x.up x.waiters x.keep (left_parent gone x) (woken x.waiters (swept x gone))
+      (woken-steady x.waiters (swept x gone) (swept-steady x t gone is among one)))
 
   finish-steady : (T : Setup) (i n : ℕ) (o : Option JobRow) (t : Side) → ((x : JobRow) → o ≡ Some x → Contains t.jobs x) → P t → P (finish T i n o t)
   unfolding finish
   finish-steady T i zero o t among is = is
   finish-steady T i (suc n) None t among is = is
-  finish-steady T i (suc n) (Some x) t among is = let t2 : Side = closed T i x t in finish-steady T i n (next_done x.up t2.jobs) t2 (λ y next. next-among x.up t2.jobs y next) (closed-steady T i x t (among x refl) is)
+  finish-steady T i (suc n) (Some x) t among is = let t2 : Side = closed T i x t in
+      finish-steady T i n (next_done x.up t2.jobs) t2 (λ y next. next-among x.up t2.jobs y next) (closed-steady T i x t (among x refl) is)
 
   pub settled-steady : (T : Setup) (i j : ℕ) (t : Side) → P t → P (settled T i j t)
   settled-steady T i j t is = finish-steady T i (length t.jobs) (if_done (job t j)) t (λ y done. done-among t.jobs j y done) is
@@ -174,20 +211,24 @@ module _ (P : Side → Type 0) (S : IsSteady P) where
   adopted-steady j (Some m) t is = raised-steady (with_up (Local j) m t) (up-steady t is (Local j) m) j
 
   pub asks_for-steady : (T : Setup) (i j : ℕ) (k : KeyName) (t : Side) → P t → P (request_or_adopt T i j k t)
-  asks_for-steady T i j k t is = cond_both (is_local T i k) _ _ P (λ _. adopted-steady j (other_marker j (cap t k)) t is) (λ _. raised-steady (send (owner_of T k) (RevokeReq k j) t) (S.sends t (owner_of T k) (RevokeReq k j) refl is) j)
+  asks_for-steady T i j k t is = cond_both (is_local T i k) _ _ P (λ _. adopted-steady j (other_marker j (cap t k)) t is)
+      (λ _. raised-steady (send (owner_of T k) (RevokeReq k j) t) (S.sends t (owner_of T k) (RevokeReq k j) refl is) j)
 
   -- a job is opened
-  pub opened-steady : (T : Setup) (i : ℕ) (root : KeyName) (up : Option Up) (ws : List ℕ) (keep : Bool) (t : Side) → P (job_opened root up ws keep t) → P (opened T i root up ws keep t)
+  pub opened-steady : (T : Setup) (i : ℕ) (root : KeyName) (up : Option Up) (ws : List ℕ) (keep : Bool) (t : Side) → P (job_opened root up ws keep t) →
+      P (opened T i root up ws keep t)
   unfolding opened
   opened-steady T i root up ws keep t opens =
       let j : ℕ = t.next_job in
       let ks : List KeyName = region t.caps root in
       let one : Side = job_opened root up ws keep t in
-      let marks : P (mark_all ks j one) = S.caps one (mark_all ks j one).caps (thin-change (λ c. list_any (key_eq c.key) ks) (with_mark j) (thin-marked j) t.caps) opens in
+      let marks : P (mark_all ks j one) =
+      S.caps one (mark_all ks j one).caps (thin-change (λ c. list_any (key_eq c.key) ks) (with_mark j) (thin-marked j) t.caps) opens in
       let marked : P (unbind_all ks (mark_all ks j one)) = S.bound (mark_all ks j one) (unbind_all ks (mark_all ks j one)).endpoints marks in
       in_turn-keeps P (request_or_adopt T i j) (λ k u here. asks_for-steady T i j k u here) (children_of t.caps ks) (unbind_all ks (mark_all ks j one)) marked
 
-  begin-kept : (T : Setup) (i : ℕ) (root : KeyName) (up : Option Up) (ws : List ℕ) (keep : Bool) (t : Side) → P (job_opened root up ws keep t) → P (begin T i root up ws keep t)
+  begin-kept : (T : Setup) (i : ℕ) (root : KeyName) (up : Option Up) (ws : List ℕ) (keep : Bool) (t : Side) → P (job_opened root up ws keep t) →
+      P (begin T i root up ws keep t)
   begin-kept T i root up ws keep t opens = settled-steady T i t.next_job (opened T i root up ws keep t) (opened-steady T i root up ws keep t opens)
 
   pub begin-steady : (T : Setup) (i : ℕ) (root : KeyName) (up : Option Up) (ws : List ℕ) (t : Side) → P t → P (begin T i root up ws false t)
@@ -202,15 +243,22 @@ module _ (P : Side → Type 0) (S : IsSteady P) where
       by_cap (Some c) = option-keeps P (λ (m : ℕ). t) c.mark (begin T i k None [] false t) (λ m marked. is) (begin-steady T i k None [] t is)
 
   -- the VPE waits, and then the job begins, or is waited for
-  pub revoked-steady : (T : Setup) (i u : ℕ) (k : KeyName) (m : Option ℕ) (t : Side) → ((j : ℕ) → P (parked_as u (RevokeWait j) t)) → P (revoke_begun T i u k m t)
+  pub revoked-steady : (T : Setup) (i u : ℕ) (k : KeyName) (m : Option ℕ) (t : Side) → ((j : ℕ) → P (parked_as u (RevokeWait j) t)) →
+      P (revoke_begun T i u k m t)
   revoked-steady T i u k None t waits = begin-steady T i k None (u ∷ []) (parked_as u (RevokeWait t.next_job) t) (waits t.next_job)
-  revoked-steady T i u k (Some j) t waits = changed-steady (parked_as u (RevokeWait j) t) (waits j) j (λ x. record x { waiters = with_number x.waiters u }) (λ x. (refl, refl, λ keeps. keeps))
+  revoked-steady T i u k (Some j) t waits = changed-steady (parked_as u (RevokeWait j) t) (waits j) j (λ x. record x { waiters = with_number x.waiters u })
+      (λ x. (refl, refl, λ keeps. keeps))
 
-  pub cleared-steady : (T : Setup) (i u : ℕ) (k : KeyName) (t : Side) → P (job_opened k None (u ∷ []) true (parked_as u (RevokeWait t.next_job) t)) → P (clear_begun T i u k t)
+  pub cleared-steady : (T : Setup) (i u : ℕ) (k : KeyName) (t : Side) → P (job_opened k None (u ∷ []) true (parked_as u (RevokeWait t.next_job) t)) →
+      P (clear_begun T i u k t)
   cleared-steady T i u k t opens = begin-kept T i k None (u ∷ []) true (parked_as u (RevokeWait t.next_job) t) opens
 
-  pub requested-steady : (T : Setup) (i from j : ℕ) (k : KeyName) (o : Option Capability) (t : Side) → ((u : Side) → is_ready_with k (parked t k.vpe) ≡ true → u.parks ≡ t.parks → P u → P (parked_as k.vpe ObtainCancelled u)) → P t → P (revoke_requested T i from j k o t)
-  requested-steady T i from j k None t cancels is = S.sends (obtain_cancelled k t) from (RevokeDone j) refl (cond_both (is_ready_with k (parked t k.vpe)) _ t P (λ ready. by_call ready (parked t k.vpe)) (λ _. is))
+  pub requested-steady : (T : Setup) (i from j : ℕ) (k : KeyName) (o : Option Capability) (t : Side) →
+      ((u : Side) → is_ready_with k (parked t k.vpe) ≡ true → u.parks ≡ t.parks → P u → P (parked_as k.vpe ObtainCancelled u)) → P t →
+      P (revoke_requested T i from j k o t)
+  requested-steady T i from j k None t cancels is =
+      S.sends (obtain_cancelled k t) from (RevokeDone j) refl (cond_both (is_ready_with k (parked t k.vpe)) _ t P (λ ready. by_call ready (parked t k.vpe))
+      (λ _. is))
     where
       by_call : is_ready_with k (parked t k.vpe) ≡ true → (p : Option Parked) → P (parked_as k.vpe ObtainCancelled (ready_freed p k.vpe t))
       by_call ready None = cancels t ready refl is
@@ -235,4 +283,7 @@ module _ (P : Side → Type 0) (S : IsSteady P) where
       by_job (Some x) = settled-steady T i j (count_lowered j t) (lowered-steady t is j)
 
   pub left_job-steady : (j v : ℕ) (t : Side) → P t → P (waiter_left j v t)
-  left_job-steady j v t is = S.jobs t (waiter_left j v t).jobs (less-map (λ (x : JobRow). record x { waiters = without_number x.waiters v; keep = x.keep && not ((x.id == j) && (x.root.vpe == v)) }) (λ x. (refl, refl, λ keeps. (and_parts x.keep (not ((x.id == j) && (x.root.vpe == v))) keeps).0)) t.jobs) is
+  left_job-steady j v t is =
+      S.jobs t (waiter_left j v t).jobs
+      (less-map (λ (x : JobRow). record x { waiters = without_number x.waiters v; keep = x.keep && not ((x.id == j) && (x.root.vpe == v)) })
+      (λ x. (refl, refl, λ keeps. (and_parts x.keep (not ((x.id == j) && (x.root.vpe == v))) keeps).0)) t.jobs) is

@@ -1,5 +1,6 @@
 -- After every schedule links carry messages from a kernel of the setup to another one.
-use Rattle.std.proofs.Common.{◌≡◌, ℕ, ◌+◌, ◌<◌, Bool, true, false, not, ◌&&◌, List, [], ◌∷◌, ◌++◌, Option, Some, None, get_or, append-nil, append_assoc, refl, sym, ap, ◌∙◌, subst, inl, inr, arith}
+use Rattle.std.proofs.Common.{◌≡◌, ℕ, ◌+◌, ◌<◌, Bool, true, false, not, ◌&&◌, List, [], ◌∷◌, ◌++◌, Option, Some, None, get_or, append-nil, append_assoc, refl}
+use Rattle.std.proofs.Common.{sym, ap, ◌∙◌, subst, inl, inr, arith}
 use Rattle.std.specs.Prelude.{◌==◌, nat_lt}
 use Rattle.std.specs.List.{Contains}
 use Rattle.std.proofs.lemmas.Bool.{and_parts, and_from, lt-ltb, ne_eqb}
@@ -32,13 +33,17 @@ module _ (T : Setup) where
   straying = record { message = λ from to m. one_if (crooked from to); job = λ i x. 0 }
 
   straight : (a b : ℕ) → a < T.kernels → b < T.kernels → (b ≡ a → ⊥) → one_if (crooked a b) ≡ 0
-  straight a b low high apart = ap (λ t. one_if (not t)) (and_from (nat_lt a T.kernels && nat_lt b T.kernels) (not (b == a)) (and_from (nat_lt a T.kernels) (nat_lt b T.kernels) (lt-ltb a T.kernels low) (lt-ltb b T.kernels high)) (ap not (ne_eqb b a apart)))
+  straight a b low high apart =
+      ap (λ t. one_if (not t))
+      (and_from (nat_lt a T.kernels && nat_lt b T.kernels) (not (b == a)) (and_from (nat_lt a T.kernels) (nat_lt b T.kernels) (lt-ltb a T.kernels low)
+      (lt-ltb b T.kernels high)) (ap not (ne_eqb b a apart)))
 
   -- what a sound side has sent and fetched is from a kernel to another one
   sound-none : (i : ℕ) → i < T.kernels → (s : Side) → IsSound T i s → of_side straying i s ≡ 0
   sound-none i low s sound =
       let jobs = weigh-none (λ (x : JobRow). 0) s.jobs (λ x among. refl) in
-      let outs = from-none (of_messages straying i) [] 0 s.outs (λ j. weigh-none (λ (m : Message). one_if (crooked i (0 + j))) (get_or s.outs j []) (λ m among. box j m among)) in
+      let outs = from-none (of_messages straying i) [] 0 s.outs (λ j. weigh-none (λ (m : Message). one_if (crooked i (0 + j))) (get_or s.outs j [])
+      (λ m among. box j m among)) in
       let inbox' = inbox s.inbox refl in
       omega (arith, jobs, outs, inbox')
     where
@@ -50,7 +55,8 @@ module _ (T : Setup) where
       inbox (Some (from, m)) full = let is = sound.inbox from m full in straight from i is.1 low (λ same. is.2 (sym same))
 
   module _ (valid : IsSetup T) where
-    next-straight : (before : List Entry) (e : Entry) (later J : List Entry) → IsSchedule T J → J ≡ before ++ e ∷ later → of_world straying (world_after T before) ≡ 0 → of_world straying (world_after T (before ++ e ∷ [])) ≡ 0
+    next-straight : (before : List Entry) (e : Entry) (later J : List Entry) → IsSchedule T J → J ≡ before ++ e ∷ later →
+        of_world straying (world_after T before) ≡ 0 → of_world straying (world_after T (before ++ e ∷ [])) ≡ 0
     next-straight before e later J runs parts none =
         let W : World = world_after T before in
         let i : ℕ = e.event.kernel in
@@ -58,7 +64,8 @@ module _ (T : Setup) where
         let low = enabled-low T W e.event entry.1 in
         let is : world_after T (before ++ e ∷ []) ≡ after T W e.event = run-append T before (e ∷ []) (start T) in
         let prefix : IsSchedule T (before ++ e ∷ []) = run-prefix T before later e (start T) (subst (IsSchedule T) parts runs) in
-        let sound : IsSound T i (stepped T W e.event).side = subst (IsSound T i) (ap (λ (X : World). side X i) is ∙ side-after T W e.event) ((schedule-sound T valid (before ++ e ∷ []) prefix).sides i low) in
+        let sound : IsSound T i (stepped T W e.event).side = subst (IsSound T i) (ap (λ (X : World). side X i) is
+        ∙ side-after T W e.event) ((schedule-sound T valid (before ++ e ∷ []) prefix).sides i low) in
         let zero' = sound-none i low (stepped T W e.event).side sound in
         let same = ap (of_world straying) is in
         elim (moved-sum straying T W i e.event.act entry.1) [
@@ -71,10 +78,12 @@ module _ (T : Setup) where
       where
         from : (before later : List Entry) → J ≡ before ++ later → of_world straying (world_after T before) ≡ 0 → of_world straying (world_after T J) ≡ 0
         from before [] parts is = subst (λ K. of_world straying (world_after T K) ≡ 0) (sym (parts ∙ append-nil before)) is
-        from before (e ∷ later) parts is = from (before ++ e ∷ []) later (parts ∙ sym (append_assoc before (e ∷ []) later)) (next-straight before e later J runs parts is)
+        from before (e ∷ later) parts is = from (before ++ e ∷ []) later (parts
+            ∙ sym (append_assoc before (e ∷ []) later)) (next-straight before e later J runs parts is)
 
     -- a link that has a message is from a kernel to another one
-    pub link-straight : (J : List Entry) → IsSchedule T J → (a b : ℕ) (m : Message) → Contains (link (world_after T J) a b) m → (nat_lt a T.kernels ≡ true) × ((nat_lt b T.kernels ≡ true) × (not (b == a) ≡ true))
+    pub link-straight : (J : List Entry) → IsSchedule T J → (a b : ℕ) (m : Message) → Contains (link (world_after T J) a b) m →
+        (nat_lt a T.kernels ≡ true) × ((nat_lt b T.kernels ≡ true) × (not (b == a) ≡ true))
     link-straight J runs a b m among =
         let weighs = weigh-among (λ (q : Message). one_if (crooked a b)) (link (world_after T J) a b) m among in
         let part = link-part straying (world_after T J) a b in

@@ -1,5 +1,6 @@
 -- The dead are asked nothing: an ask comes to a VPE only while it lives, and its end answers all that wait.
-use Rattle.std.proofs.Common.{◌≡◌, ℕ, ◌+◌, Bool, true, false, not, ◌&&◌, List, [], ◌∷◌, ◌++◌, drop, Option, Some, None, slice_get, get_or, length, refl, sym, ap, ◌∙◌, inl, inr}
+use Rattle.std.proofs.Common.{◌≡◌, ℕ, ◌+◌, Bool, true, false, not, ◌&&◌, List, [], ◌∷◌, ◌++◌, drop, Option, Some, None, slice_get, get_or, length, refl, sym}
+use Rattle.std.proofs.Common.{ap, ◌∙◌, inl, inr}
 use Rattle.std.specs.Prelude.{◌==◌, nat_lt, if◌then◌else◌}
 use Rattle.std.specs.Option.{option_and_then}
 use Rattle.std.proofs.lemmas.Bool.{cases_eq, cond_both, true≢false}
@@ -11,11 +12,13 @@ use Rattle.sem_key.specs.Lists.{in_turn, put}
 use Rattle.sem_key.specs.Capability.{Capability}
 use Rattle.sem_key.proofs.Puts.{get_or-put_same, get_or-put_other}
 use Rattle.sem_msg.specs.declared.call.Call.{Call}
-use Rattle.sem_msg.specs.declared.call.Call.TheVariants.{Derive, Gate, Obtain, Delegate, OpenSession, AskOffer, Revoke, Bind, Read, Write, Send as SendCall, Credit, Exit, Clear}
+use Rattle.sem_msg.specs.declared.call.Call.TheVariants.{Derive, Gate, Obtain, Delegate, OpenSession, AskOffer, Revoke, Bind, Read, Write, Send as SendCall}
+use Rattle.sem_msg.specs.declared.call.Call.TheVariants.{Credit, Exit, Clear}
 use Rattle.sem_msg.specs.declared.code.Code.{Code}
 use Rattle.sem_msg.specs.declared.code.Code.TheVariants.{Dead, NoService, BadKind, NoCap}
 use Rattle.sem_msg.specs.declared.message.Message.{Message}
-use Rattle.sem_msg.specs.declared.message.Message.TheVariants.{ObtainReq, ObtainOk, ObtainNo, DelegateReq, DelegatePrepared, DelegateNo, Ack, Orphan, RevokeReq, RevokeDone, Unlink}
+use Rattle.sem_msg.specs.declared.message.Message.TheVariants.{ObtainReq, ObtainOk, ObtainNo, DelegateReq, DelegatePrepared, DelegateNo, Ack, Orphan, RevokeReq}
+use Rattle.sem_msg.specs.declared.message.Message.TheVariants.{RevokeDone, Unlink}
 use Rattle.sem_msg.specs.declared.message.Target.{Target}
 use Rattle.sem_msg.specs.declared.message.Target.TheVariants.{Sel as SelTarget, Serv as ServTarget, Offer as OfferTarget}
 use Rattle.sem_msg.specs.declared.limits.TheConstants.{ASKS}
@@ -33,10 +36,13 @@ use Rattle.sem_msg.specs.VpeRows.{new_vpe, root_held}
 use Rattle.sem_msg.specs.Setup.{Setup}
 use Rattle.sem_msg.specs.Lookups.{kernel_of, service_named}
 use Rattle.sem_msg.specs.Uses.{memory_tests, send_tests, credit_tests}
-use Rattle.sem_machine.specs.Sides.{Side, row, cap, own, parked, pending, is_alive, call_counted, drawn, promised, parked_as, unparked, asked, ask_taken, buried, linked, installed, with_slot, send, endpoint, pending_removed}
+use Rattle.sem_machine.specs.Sides.{Side, row, cap, own, parked, pending, is_alive, call_counted, drawn, promised, parked_as, unparked, asked, ask_taken}
+use Rattle.sem_machine.specs.Sides.{buried, linked, installed, with_slot, send, endpoint, pending_removed}
 use Rattle.sem_machine.specs.Steps.{Step, plain, answer}
 use Rattle.sem_machine.specs.Asks.{target_vpe, asker, is_unawaited, promise_freed, ask_refused, refusal_sent}
-use Rattle.sem_machine.specs.Calls.{next_place, next_key, child_made, narrowed, session_service, own_tests, derive_tests, gate_tests, ask_made, is_local_dead, is_service_dead, object_passes, service_passes, obtain_tests, open_tests, offer_tests, offer_made, delegate_tests, bind_tests, call_row}
+use Rattle.sem_machine.specs.Calls.{next_place, next_key, child_made, narrowed, session_service, own_tests, derive_tests, gate_tests, ask_made, is_local_dead}
+use Rattle.sem_machine.specs.Calls.{is_service_dead, object_passes, service_passes, obtain_tests, open_tests, offer_tests, offer_made, delegate_tests}
+use Rattle.sem_machine.specs.Calls.{bind_tests, call_row}
 use Rattle.sem_machine.specs.Upcalls.{given, given_kind, given_here, ask_decided, upcall_row}
 use Rattle.sem_machine.specs.Handles.{is_stray, obtain_ready, acknowledged, handle_row, handled}
 use Rattle.sem_machine.specs.Resumes.{delegate_granted, delegate_resumed, resumed, resume_row}
@@ -65,7 +71,8 @@ row-kept t v r ok is u dead = elim (cases_eq u v) [
 
 alive-kept : (t : Side) (v : ℕ) (r : VpeRow) → r.alive ≡ (row t v).alive → (u : ℕ) → (row (record t { vpes = put no_vpe t.vpes v r }) u).alive ≡ (row t u).alive
 alive-kept t v r same u = elim (cases_eq u v) [
-  | inl here ↦ ap (λ (y : VpeRow). y.alive) (ap (λ n. get_or (put no_vpe t.vpes v r) n no_vpe) here ∙ get_or-put_same no_vpe t.vpes v r) ∙ (same ∙ ap (λ n. (row t n).alive) (sym here))
+  | inl here ↦ ap (λ (y : VpeRow). y.alive) (ap (λ n. get_or (put no_vpe t.vpes v r) n no_vpe) here ∙ get_or-put_same no_vpe t.vpes v r)
+      ∙ (same ∙ ap (λ n. (row t n).alive) (sym here))
   | inr other ↦ ap (λ (y : VpeRow). y.alive) (get_or-put_other no_vpe t.vpes v u r other)
 ]
 
@@ -81,7 +88,8 @@ counted-kept t v is = row-kept t v (record (row t v) { next_call = (row t v).nex
 
 -- who is asked lives
 asked-kept : (t : Side) (v : ℕ) (a : Ask) → (row t v).alive ≡ true → Unasked t → Unasked (asked v a t)
-asked-kept t v a lives is = row-kept t v (record (row t v) { asks = if nat_lt (length (row t v).asks) ASKS then (row t v).asks ++ a ∷ [] else (row t v).asks }) (λ dead. absurd (true≢false (sym lives ∙ dead))) is
+asked-kept t v a lives is = row-kept t v (record (row t v) { asks = if nat_lt (length (row t v).asks) ASKS then (row t v).asks ++ a ∷ [] else (row t v).asks })
+    (λ dead. absurd (true≢false (sym lives ∙ dead))) is
 
 taken-kept : (t : Side) (v : ℕ) → Unasked t → Unasked (ask_taken v t)
 taken-kept t v is = row-kept t v (record (row t v) { asks = drop 1 (row t v).asks }) (λ dead. ap (drop 1) (is v dead)) is
@@ -137,9 +145,12 @@ module _ (T : Setup) (i : ℕ) where
   ended-unasked v s is =
       let asks : List Ask = (row s v).asks in
       let answered : Side = in_turn (ask_ended T i) asks (buried v s) in
-      let told : Unasked answered = in_turn-keeps Unasked (ask_ended T i) (λ a t here. cond_both (is_unawaited T i t a) t (ask_refused T i Dead a t) Unasked (λ _. here) (λ _. refused-kept T i Dead a t here)) asks (buried v s) (buried-kept s v is) in
+      let told : Unasked answered =
+      in_turn-keeps Unasked (ask_ended T i) (λ a t here. cond_both (is_unawaited T i t a) t (ask_refused T i Dead a t) Unasked (λ _. here)
+      (λ _. refused-kept T i Dead a t here)) asks (buried v s) (buried-kept s v is) in
       let last : Side = call_ended T (parked answered v) v (unparked v answered) in
-      in_turn-keeps Unasked (revoked_if_left T i) (λ k t here. rest-steady Unasked steady T i k t here) (keys_of last v) last (owes (parked answered v) (unparked v answered) told)
+      in_turn-keeps Unasked (revoked_if_left T i) (λ k t here. rest-steady Unasked steady T i k t here) (keys_of last v) last
+      (owes (parked answered v) (unparked v answered) told)
     where
       owes : (p : Option Parked) (t : Side) → Unasked t → Unasked (call_ended T p v t)
       owes None t here = here
@@ -158,7 +169,9 @@ module _ (T : Setup) (i : ℕ) where
         let place : PlaceName = next_place T s v in
         let w : ℕ = target_vpe target in
         let waiting : Side = parked_as v (ObtainWait place.number dst) (promised v dst (drawn v s)) in
-        let same : (row waiting w).alive ≡ (row s w).alive = alive-kept (drawn v s) v (record (row (drawn v s) v) { slots = put Free (row (drawn v s) v).slots dst Promised }) refl w ∙ alive-kept s v (record (row s v) { next_number = (row s v).next_number + 1 }) refl w in
+        let same : (row waiting w).alive ≡ (row s w).alive =
+        alive-kept (drawn v s) v (record (row (drawn v s) v) { slots = put Free (row (drawn v s) v).slots dst Promised }) refl w
+        ∙ alive-kept s v (record (row s v) { next_number = (row s v).next_number + 1 }) refl w in
         let kept : Unasked waiting = slot-kept (drawn v s) v dst Promised (drawn-kept s v is) in
         cond_both (kernel_of T w == i) (asked w (ObtainAsk place target) waiting) (send (kernel_of T w) (ObtainReq place target) waiting) Unasked
         (λ here. asked-kept waiting w (ObtainAsk place target) (same ∙ lives-so (kernel_of T w == i) (is_alive s w) lives here) kept)
@@ -167,15 +180,18 @@ module _ (T : Setup) (i : ℕ) where
     offer-unasked : (w dst : ℕ) (p : Capability) → is_local_dead T i s w ≡ false → Unasked (offer_made T i v w dst p s).side
     offer-unasked w dst p lives =
         let waiting : Side = parked_as v (DelegateWait p.key) s in
-        cond_both (kernel_of T w == i) (asked w (DelegateAsk p.key p.object dst) waiting) (send (kernel_of T w) (DelegateReq p.key p.object w dst) waiting) Unasked
+        cond_both (kernel_of T w == i) (asked w (DelegateAsk p.key p.object dst) waiting) (send (kernel_of T w) (DelegateReq p.key p.object w dst) waiting)
+        Unasked
         (λ here. asked-kept waiting w (DelegateAsk p.key p.object dst) (lives-so (kernel_of T w == i) (is_alive s w) lives here) is)
         (λ _. is)
 
     child-unasked : (dst : ℕ) (object : Object) (p : KeyName) → Unasked (child_made T v dst object p s).side
-    child-unasked dst object p = let k : KeyName = next_key T s v (object_kind object) in installed-kept (linked p k (drawn v s)) k (Some p) dst object (drawn-kept s v is)
+    child-unasked dst object p = let k : KeyName = next_key T s v (object_kind object) in
+        installed-kept (linked p k (drawn v s)) k (Some p) dst object (drawn-kept s v is)
 
     -- the service of a session lives
-    session-lives : (o : Option Capability) → object_passes (is_service_dead T i s) o ≡ false → (k : KeyName) → option_and_then (λ (c : Capability). session_service c.object) o ≡ Some k → is_local_dead T i s k.vpe ≡ false
+    session-lives : (o : Option Capability) → object_passes (is_service_dead T i s) o ≡ false → (k : KeyName) →
+        option_and_then (λ (c : Capability). session_service c.object) o ≡ Some k → is_local_dead T i s k.vpe ≡ false
     session-lives None none k is' = absurd cc
     session-lives (Some c) none k is' = of c.object none is'
       where
@@ -188,13 +204,25 @@ module _ (T : Setup) (i : ℕ) where
 
     pub call-unasked : (c : Call) → Unasked (call_row T i s v c).side
     unfolding call_row
-    call-unasked (Derive src dst off len rights) = unless-keeps Q (derive_tests s v src dst off len rights) _ _ (λ code. is) (option-keeps Q (λ (p : Capability). child_made T v dst (narrowed off len rights p.object) p.key s) (own s v src) (answer NoCap s) (λ p held. child-unasked dst (narrowed off len rights p.object) p.key) is)
-    call-unasked (Gate src dst label credits) = unless-keeps Q (gate_tests s v src dst credits) _ _ (λ code. is) (option-keeps Q (λ (p : Capability). child_made T v dst (SendObject p.key label credits) p.key s) (own s v src) (answer NoCap s) (λ p held. child-unasked dst (SendObject p.key label credits) p.key) is)
+    call-unasked (Derive src dst off len rights) = unless-keeps Q (derive_tests s v src dst off len rights) _ _ (λ code. is)
+        (option-keeps Q (λ (p : Capability). child_made T v dst (narrowed off len rights p.object) p.key s) (own s v src) (answer NoCap s)
+        (λ p held. child-unasked dst (narrowed off len rights p.object) p.key) is)
+    call-unasked (Gate src dst label credits) =
+        unless-keeps Q (gate_tests s v src dst credits) _ _ (λ code. is)
+        (option-keeps Q (λ (p : Capability). child_made T v dst (SendObject p.key label credits) p.key s) (own s v src) (answer NoCap s)
+        (λ p held. child-unasked dst (SendObject p.key label credits) p.key) is)
     call-unasked (Obtain dst w src) = unless-passed Q (obtain_tests T i s v dst w) _ _ (λ code. is) (λ passed. ask-unasked dst (SelTarget w src) passed.1.1.0)
-    call-unasked (Delegate src w dst) = unless-passed Q (delegate_tests T i s v src w) _ _ (λ code. is) (λ passed. option-keeps Q (λ (p : Capability). offer_made T i v w dst p s) (own s v src) (answer NoCap s) (λ p held. offer-unasked w dst p passed.1.1.1.1.1.0) is)
-    call-unasked (OpenSession dst name) = unless-passed Q (open_tests T i s v dst name) _ _ (λ code. is) (λ passed. option-keeps Q (λ (x : Service). ask_made T i v dst (ServTarget x.key) s) (service_named T name) (answer NoService s)
+    call-unasked (Delegate src w dst) =
+        unless-passed Q (delegate_tests T i s v src w) _ _ (λ code. is) (λ passed. option-keeps Q (λ (p : Capability). offer_made T i v w dst p s) (own s v src)
+        (answer NoCap s) (λ p held. offer-unasked w dst p passed.1.1.1.1.1.0) is)
+    call-unasked (OpenSession dst name) =
+        unless-passed Q (open_tests T i s v dst name) _ _ (λ code. is) (λ passed. option-keeps Q (λ (x : Service). ask_made T i v dst (ServTarget x.key) s)
+        (service_named T name) (answer NoService s)
         (λ x there. ask-unasked dst (ServTarget x.key) (sym (ap (service_passes (is_local_dead T i s)) there) ∙ passed.1.1.0)) is)
-    call-unasked (AskOffer dst session index) = unless-passed Q (offer_tests T i s v dst session) _ _ (λ code. is) (λ passed. option-keeps Q (λ (k : KeyName). ask_made T i v dst (OfferTarget k index) s) (option_and_then (λ (c : Capability). session_service c.object) (own s v session)) (answer BadKind s)
+    call-unasked (AskOffer dst session index) =
+        unless-passed Q (offer_tests T i s v dst session) _ _ (λ code. is)
+        (λ passed. option-keeps Q (λ (k : KeyName). ask_made T i v dst (OfferTarget k index) s)
+        (option_and_then (λ (c : Capability). session_service c.object) (own s v session)) (answer BadKind s)
         (λ k there. ask-unasked dst (OfferTarget k index) (session-lives (own s v session) passed.1.1.1.0 k there)) is)
     call-unasked (Revoke src) = option-keeps Q _ (own s v src) (answer NoCap s) (λ c held. revoked-steady Unasked steady T i v c.key c.mark s (λ j. is)) is
     call-unasked (Bind ep src) = unless-keeps Q (bind_tests s v src) _ _ (λ code. is) (option-keeps Q _ (own s v src) (answer NoCap s) (λ c held. is) is)
@@ -203,7 +231,9 @@ module _ (T : Setup) (i : ℕ) where
     call-unasked (SendCall ep len) = unless-keeps Q (send_tests (endpoint s v ep)) _ _ (λ code. is) is
     call-unasked (Credit ep) = unless-keeps Q (credit_tests (endpoint s v ep)) _ _ (λ code. is) is
     call-unasked Exit = ended-unasked v s is
-    call-unasked (Clear src) = unless-keeps Q (own_tests (own s v src)) _ _ (λ code. is) (option-keeps Q _ (own s v src) (answer NoCap s) (λ c held. cleared-steady Unasked steady T i v c.key s is) is)
+    call-unasked (Clear src) =
+        unless-keeps Q (own_tests (own s v src)) _ _ (λ code. is)
+        (option-keeps Q _ (own s v src) (answer NoCap s) (λ c held. cleared-steady Unasked steady T i v c.key s is) is)
 
   -- Upcalls.
   given-unasked : (k p : KeyName) (object : Object) (q : Option Parked) (t : Side) → Unasked t → Unasked (given_here k p object q t)
@@ -224,14 +254,17 @@ module _ (T : Setup) (i : ℕ) where
         let k : KeyName = keyed place (given_kind target p) in
         let object : Object = given target place.vpe p in
         let linking : Side = linked p.key k s in
-        cond_both (kernel_of T place.vpe == i) (given_here k p.key object (parked linking place.vpe) linking) _ Unasked (λ _. given-unasked k p.key object (parked linking place.vpe) linking is) (λ _. is);
-    here = λ parent object sel of. let k : KeyName = next_key T s v parent.kind in installed-kept (linked parent k (drawn v s)) k (Some parent) sel object (drawn-kept s v is);
+        cond_both (kernel_of T place.vpe == i) (given_here k p.key object (parked linking place.vpe) linking) _ Unasked
+        (λ _. given-unasked k p.key object (parked linking place.vpe) linking is) (λ _. is);
+    here = λ parent object sel of. let k : KeyName = next_key T s v parent.kind in
+        installed-kept (linked parent k (drawn v s)) k (Some parent) sel object (drawn-kept s v is);
     prepared = λ parent object sel of. slot-kept (drawn v s) v sel Promised (drawn-kept s v is);
   })
 
   pub upcall-unasked : (v : ℕ) (s : Side) → Unasked s → Unasked (upcall_row T i s v).side
   unfolding upcall_row
-  upcall-unasked v s is = option-keeps Q (λ (a : Ask). ask_decided T i v a (ask_taken v s)) (slice_get (row s v).asks 0) (plain s) (λ a there. decided-unasked v a (ask_taken v s) (taken-kept s v is)) is
+  upcall-unasked v s is = option-keeps Q (λ (a : Ask). ask_decided T i v a (ask_taken v s)) (slice_get (row s v).asks 0) (plain s)
+      (λ a there. decided-unasked v a (ask_taken v s) (taken-kept s v is)) is
 
   -- Parked calls that go on.
   pub resume-unasked : (v : ℕ) (s : Side) → Unasked s → Unasked (resume_row T s v).side
@@ -269,12 +302,18 @@ module _ (T : Setup) (i : ℕ) where
 
   handle-unasked : (s : Side) (from : ℕ) (m : Message) → Unasked s → Unasked (handle_row T i s from m)
   unfolding handle_row
-  handle-unasked s from (ObtainReq place target) is = cond_both (is_alive s (target_vpe target)) _ _ Unasked (λ lives. asked-kept s (target_vpe target) (ObtainAsk place target) lives is) (λ _. refused-kept T i Dead (ObtainAsk place target) s is)
-  handle-unasked s from (ObtainOk parent key object) is = cond_both (is_alive s key.vpe) _ _ Unasked (λ _. ready-unasked parent key object (parked s key.vpe) s is) (λ _. is)
+  handle-unasked s from (ObtainReq place target) is =
+      cond_both (is_alive s (target_vpe target)) _ _ Unasked (λ lives. asked-kept s (target_vpe target) (ObtainAsk place target) lives is)
+      (λ _. refused-kept T i Dead (ObtainAsk place target) s is)
+  handle-unasked s from (ObtainOk parent key object) is =
+      cond_both (is_alive s key.vpe) _ _ Unasked (λ _. ready-unasked parent key object (parked s key.vpe) s is) (λ _. is)
   handle-unasked s from (ObtainNo place code) is = cond_both (is_alive s place.vpe) _ _ Unasked (λ _. freed-kept (parked s place.vpe) place.vpe s is) (λ _. is)
-  handle-unasked s from (DelegateReq parent object vpe sel) is = cond_both (is_alive s vpe) _ _ Unasked (λ lives. asked-kept s vpe (DelegateAsk parent object sel) lives is) (λ _. refused-kept T i Dead (DelegateAsk parent object sel) s is)
+  handle-unasked s from (DelegateReq parent object vpe sel) is =
+      cond_both (is_alive s vpe) _ _ Unasked (λ lives. asked-kept s vpe (DelegateAsk parent object sel) lives is)
+      (λ _. refused-kept T i Dead (DelegateAsk parent object sel) s is)
   handle-unasked s from (DelegatePrepared parent key) is = cond_both (is_alive s parent.vpe) _ _ Unasked (λ _. is) (λ _. is)
-  handle-unasked s from (DelegateNo parent code) is = cond_both (is_alive s parent.vpe) _ _ Unasked (λ _. freed-kept (parked s parent.vpe) parent.vpe s is) (λ _. is)
+  handle-unasked s from (DelegateNo parent code) is = cond_both (is_alive s parent.vpe) _ _ Unasked (λ _. freed-kept (parked s parent.vpe) parent.vpe s is)
+      (λ _. is)
   handle-unasked s from (Ack key accepted) is = option-keeps Unasked (acknowledged T key accepted s) (pending s key) s (λ p there. acks accepted p) is
     where
       acks : (b : Bool) (p : Pending) → Unasked (acknowledged T key b s p)
@@ -290,4 +329,5 @@ module _ (T : Setup) (i : ℕ) where
 
 -- A side at the start.
 pub vpe-unasked : (d : VpeDecl) (s : Side) → Unasked s → Unasked (vpe_added d s)
-vpe-unasked d s is = in_turn-keeps Unasked (root_added d) (λ r t here. row-kept t d.vpe (root_held d r (row t d.vpe)) (here d.vpe) here) d.roots (vpe_fresh d s) (row-kept s d.vpe new_vpe (λ dead. absurd cc) is)
+vpe-unasked d s is = in_turn-keeps Unasked (root_added d) (λ r t here. row-kept t d.vpe (root_held d r (row t d.vpe)) (here d.vpe) here) d.roots (vpe_fresh d s)
+    (row-kept s d.vpe new_vpe (λ dead. absurd cc) is)

@@ -1,5 +1,6 @@
 -- After every schedule the dead are asked nothing.
-use Rattle.std.proofs.Common.{◌≡◌, ℕ, zero, suc, List, [], ◌∷◌, ◌++◌, Option, Some, None, replicate, get_or, append-nil, append_assoc, refl, sym, ap, ◌∙◌, subst, inl, inr}
+use Rattle.std.proofs.Common.{◌≡◌, ℕ, zero, suc, List, [], ◌∷◌, ◌++◌, Option, Some, None, replicate, get_or, append-nil, append_assoc, refl, sym, ap, ◌∙◌}
+use Rattle.std.proofs.Common.{subst, inl, inr}
 use Rattle.std.specs.Option.{option_map_or}
 use Rattle.std.proofs.lemmas.Bool.{cases_eq}
 use Rattle.sem_key.specs.declared.limits.TheConstants.{VPES}
@@ -39,7 +40,8 @@ module _ (T : Setup) where
 
   stepped-unasked : (W : World) (i : ℕ) (a : Act) → Unasked (side W i) → Unasked (stepped T W (event i a)).side
   unfolding local_step
-  stepped-unasked W i (Calls v) is = option-keeps (λ (x : Step). Unasked x.side) (call_row T i (call_counted v (side W i)) v) (next_call T (side W i) v) (plain (side W i)) (λ c there. call-unasked T i v (call_counted v (side W i)) (counted-kept (side W i) v is) c) is
+  stepped-unasked W i (Calls v) is = option-keeps (λ (x : Step). Unasked x.side) (call_row T i (call_counted v (side W i)) v) (next_call T (side W i) v)
+      (plain (side W i)) (λ c there. call-unasked T i v (call_counted v (side W i)) (counted-kept (side W i) v is) c) is
   stepped-unasked W i (Upcall v) is = upcall-unasked T i v (side W i) is
   stepped-unasked W i (Resume v) is = resume-unasked T i v (side W i) is
   stepped-unasked W i (Kill v) is = ended-unasked T i v (side W i) is
@@ -61,8 +63,10 @@ module _ (T : Setup) where
   pub all-unasked : (J : List Entry) (j : ℕ) → Unasked (side (world_after T J) j)
   all-unasked J = from [] J refl start-unasked
     where
-      from : (before later : List Entry) → J ≡ before ++ later → ((j : ℕ) → Unasked (side (world_after T before) j)) → (j : ℕ) → Unasked (side (world_after T J) j)
+      from : (before later : List Entry) → J ≡ before ++ later → ((j : ℕ) → Unasked (side (world_after T before) j)) → (j : ℕ) →
+          Unasked (side (world_after T J) j)
       from before [] parts is = subst (λ K. (j : ℕ) → Unasked (side (world_after T K) j)) (sym (parts ∙ append-nil before)) is
       from before (e ∷ later) parts is =
           from (before ++ e ∷ []) later (parts ∙ sym (append_assoc before (e ∷ []) later))
-          (subst (λ (V : World). (j : ℕ) → Unasked (side V j)) (sym (run-append T before (e ∷ []) (start T))) (next-unasked (world_after T before) e.event.kernel e.event.act is))
+          (subst (λ (V : World). (j : ℕ) →
+          Unasked (side V j)) (sym (run-append T before (e ∷ []) (start T))) (next-unasked (world_after T before) e.event.kernel e.event.act is))

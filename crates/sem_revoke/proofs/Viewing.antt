@@ -1,5 +1,6 @@
 -- The view of a world whose kernel i has a given side, and the steps of a row that change no capability.
-use Rattle.std.proofs.Common.{◌≡◌, ◌⊎◌, ℕ, zero, suc, ◌+◌, ◌≤◌, ◌<◌, get_or, map, Bool, true, false, List, [], ◌∷◌, ◌++◌, Option, Some, None, refl, sym, ap, ◌∙◌, subst, inl, inr, arith, eq-eqb, append_assoc}
+use Rattle.std.proofs.Common.{◌≡◌, ◌⊎◌, ℕ, zero, suc, ◌+◌, ◌≤◌, ◌<◌, get_or, map, Bool, true, false, List, [], ◌∷◌, ◌++◌, Option, Some, None, refl, sym, ap}
+use Rattle.std.proofs.Common.{◌∙◌, subst, inl, inr, arith, eq-eqb, append_assoc}
 use Rattle.std.specs.Prelude.{◌==◌, if◌then◌else◌}
 use Rattle.std.specs.List.{sum_by}
 use Rattle.std.specs.Option.{option_map}
@@ -27,7 +28,8 @@ use Rattle.sem_safety.proofs.Lives.{at_message, at_parked, at_side, lives-send}
 use Rattle.sem_safety.proofs.LiveWorlds.{at_world}
 use Rattle.sem_safety.proofs.JobIds.{HasIds}
 use Rattle.sem_revoke.specs.Views.{View, Hand, IsAlone, IsCaused, Alive, Gone, Marked, Under, Caught, IsFit, Revokes, IsSingle}
-use Rattle.sem_revoke.specs.Scales.{Scale, of_side, of_world, one_if, asking, naming, counting, noticing, straying, asking_message, token_message, notice_message, stray_message}
+use Rattle.sem_revoke.specs.Scales.{Scale, of_side, of_world, one_if, asking, naming, counting, noticing, straying, asking_message, token_message}
+use Rattle.sem_revoke.specs.Scales.{notice_message, stray_message}
 use Rattle.sem_revoke.proofs.Keeping.{HoldsOn, holds-same, fit-on, keep}
 use Rattle.sem_revoke.proofs.Scaling.{side-send}
 
@@ -61,7 +63,8 @@ Rises cs = IsRising (map (λ (c : Capability). c.key) cs)
 
 pub rises_distinct : (cs : List Capability) → Rises cs → AreDistinct cs
 rises_distinct cs rise = λ m n d lt within. false_from_ne_true (key_eq (get_or cs m d).key (get_or cs n d).key) (λ same.
-    let below : packed (get_or cs m d).key < packed (get_or cs n d).key = AllPairs-from_map (λ a b. packed a < packed b) (λ (c : Capability). c.key) cs rise m n d lt within in
+    let below : packed (get_or cs m d).key < packed (get_or cs n d).key =
+    AllPairs-from_map (λ a b. packed a < packed b) (λ (c : Capability). c.key) cs rise m n d lt within in
     let one = ap packed (key_eq-true (get_or cs m d).key (get_or cs n d).key same) in
     omega (arith, below, one))
 
@@ -118,8 +121,13 @@ module _ (C : Scene) where
     sends = λ q. elim (cases_Bool (q == j)) [
       | inl same ↦
           let before = is.sends j in
-          let at : outbox (send j m s) q ≡ outbox s j ++ m ∷ [] = out q ∙ cond-true (q == j) (outbox s j ++ m ∷ []) (outbox s q) same in
-          (before.0 ++ m ∷ [], at ∙ (ap (λ xs. xs ++ m ∷ []) before.1 ∙ (append_assoc (outbox C.before j) before.0 (m ∷ []) ∙ ap (λ n. outbox C.before n ++ (before.0 ++ m ∷ [])) (sym (eqb-true q j same)))), λ k. let push = sum_by_push (at_message k) before.0 m in let old = before.2 k in let zero' = none k in omega (arith, push, old, zero'))
+          let at : outbox (send j m s) q ≡ outbox s j ++ m ∷ [] = out q ∙ cond-true (q == j) (outbox s j ++ m ∷ []) (outbox s q) same in (
+            before.0 ++ m ∷ [],
+            at
+                ∙ (ap (λ xs. xs ++ m ∷ []) before.1
+                ∙ (append_assoc (outbox C.before j) before.0 (m ∷ []) ∙ ap (λ n. outbox C.before n ++ (before.0 ++ m ∷ [])) (sym (eqb-true q j same)))),
+            λ k. let push = sum_by_push (at_message k) before.0 m in let old = before.2 k in let zero' = none k in omega (arith, push, old, zero'),
+          )
       | inr other ↦ let before = is.sends q in (before.0, out q ∙ (cond-false (q == j) (outbox s j ++ m ∷ []) (outbox s q) other ∙ before.1), before.2)
     ];
   }
@@ -176,7 +184,8 @@ module _ (C : Scene) where
     pub back : (a n : ℕ) (y : JobRow) → (view t).job a n ≡ Some y → (x : JobRow) × ((view s).job a n ≡ Some x) × (x.root ≡ y.root) × StaysSo x y
 
   -- from the jobs of this kernel
-  pub same-roots : (s t : Side) → ((n : ℕ) (x : JobRow) → job s n ≡ Some x → (y : JobRow) × (job t n ≡ Some y) × (y.root ≡ x.root)) → ((n : ℕ) (y : JobRow) → job t n ≡ Some y → (x : JobRow) × (job s n ≡ Some x) × (x.root ≡ y.root) × StaysSo x y) → SameRoots s t
+  pub same-roots : (s t : Side) → ((n : ℕ) (x : JobRow) → job s n ≡ Some x → (y : JobRow) × (job t n ≡ Some y) × (y.root ≡ x.root)) →
+      ((n : ℕ) (y : JobRow) → job t n ≡ Some y → (x : JobRow) × (job s n ≡ Some x) × (x.root ≡ y.root) × StaysSo x y) → SameRoots s t
   same-roots s t on back = record {
     on = λ a n x open_. elim (cases_eq a C.kernel) [
       | inl here ↦
@@ -196,10 +205,12 @@ module _ (C : Scene) where
     ];
   }
 
-  pub changed-job : (s : Side) (m : ℕ) (f : JobRow → JobRow) → ((x : JobRow) → ((f x).id ≡ x.id) × ((f x).root ≡ x.root)) → (n : ℕ) → job (job_changed m f s) n ≡ (if n == m then option_map f (job s n) else job s n)
+  pub changed-job : (s : Side) (m : ℕ) (f : JobRow → JobRow) → ((x : JobRow) → ((f x).id ≡ x.id) × ((f x).root ≡ x.root)) → (n : ℕ) →
+      job (job_changed m f s) n ≡ (if n == m then option_map f (job s n) else job s n)
   changed-job s m f same n = ap (λ (z : Seen). z.job n) (seen-job_changed m f s (λ x. (same x).0))
 
-  pub changed-roots : (s : Side) (m : ℕ) (f : JobRow → JobRow) → ((x : JobRow) → ((f x).id ≡ x.id) × ((f x).root ≡ x.root)) → ((x : JobRow) → job s m ≡ Some x → StaysSo x (f x)) → SameRoots s (job_changed m f s)
+  pub changed-roots : (s : Side) (m : ℕ) (f : JobRow → JobRow) → ((x : JobRow) → ((f x).id ≡ x.id) × ((f x).root ≡ x.root)) →
+      ((x : JobRow) → job s m ≡ Some x → StaysSo x (f x)) → SameRoots s (job_changed m f s)
   changed-roots s m f same so = same-roots s (job_changed m f s) on back
     where
       on : (n : ℕ) (x : JobRow) → job s n ≡ Some x → (y : JobRow) × (job (job_changed m f s) n ≡ Some y) × (y.root ≡ x.root)
@@ -210,18 +221,30 @@ module _ (C : Scene) where
 
       mapped : (o : Option JobRow) (y : JobRow) → job s m ≡ o → option_map f o ≡ Some y → (x : JobRow) × (o ≡ Some x) × (x.root ≡ y.root) × StaysSo x y
       mapped None y is none = absurd cc
-      mapped (Some x) y is some = (x, refl, sym (same x).1 ∙ ap (λ (z : JobRow). z.root) (same_Some (f x) y some), subst (StaysSo x) (same_Some (f x) y some) (so x is))
+      mapped (Some x) y is some = (
+        x,
+        refl,
+        sym (same x).1 ∙ ap (λ (z : JobRow). z.root) (same_Some (f x) y some),
+        subst (StaysSo x) (same_Some (f x) y some) (so x is),
+      )
 
       back : (n : ℕ) (y : JobRow) → job (job_changed m f s) n ≡ Some y → (x : JobRow) × (job s n ≡ Some x) × (x.root ≡ y.root) × StaysSo x y
       back n y open_ = elim (cases_Bool (n == m)) [
-        | inl here ↦ mapped (job s n) y (ap (job s) (sym (eqb-true n m here))) (sym (cond-true (n == m) (option_map f (job s n)) (job s n) here) ∙ (sym (changed-job s m f same n) ∙ open_))
-        | inr other ↦ (y, sym (cond-false (n == m) (option_map f (job s n)) (job s n) other) ∙ (sym (changed-job s m f same n) ∙ open_), refl, (λ is. is, λ caused. caused))
+        | inl here ↦ mapped (job s n) y (ap (job s) (sym (eqb-true n m here))) (sym (cond-true (n == m) (option_map f (job s n)) (job s n) here)
+            ∙ (sym (changed-job s m f same n) ∙ open_))
+        | inr other ↦ (
+          y,
+          sym (cond-false (n == m) (option_map f (job s n)) (job s n) other) ∙ (sym (changed-job s m f same n) ∙ open_),
+          refl,
+          (λ is. is, λ caused. caused),
+        )
       ]
 
   pub roots-joined : (s t u : Side) → SameRoots s t → SameRoots t u → SameRoots s u
   roots-joined s t u first second = record {
     on = λ a n x open_. let y = first.on a n x open_ in let z = second.on a n y.0 y.1 in (z.0, z.1, z.2 ∙ y.2);
-    back = λ a n z open_. let y = second.back a n z open_ in let x = first.back a n y.0 y.1 in (x.0, x.1, x.2 ∙ y.2, (λ is. y.3.0 (x.3.0 is), λ is. y.3.1 (x.3.1 is)));
+    back = λ a n z open_. let y = second.back a n z open_ in let x = first.back a n y.0 y.1 in
+        (x.0, x.1, x.2 ∙ y.2, (λ is. y.3.0 (x.3.0 is), λ is. y.3.1 (x.3.1 is)));
   }
 
   -- Steps that change no capability, and no root of a job.
@@ -278,14 +301,21 @@ module _ (C : Scene) where
       R.fit R.revokes
 
   pub no-roots : (s t : Side) → t.jobs ≡ s.jobs → SameRoots s t
-  no-roots s t same = same-roots s t (λ n x open_. (x, ap (λ xs. job_of xs n) same ∙ open_, refl)) (λ n y open_. (y, ap (λ xs. job_of xs n) (sym same) ∙ open_, refl, (λ is. is, λ caused. caused)))
+  no-roots s t same = same-roots s t (λ n x open_. (x, ap (λ xs. job_of xs n) same ∙ open_, refl)) (λ n y open_. (
+    y,
+    ap (λ xs. job_of xs n) (sym same)
+        ∙ open_,
+    refl,
+    (λ is. is, λ caused. caused),
+  ))
 
   -- What is kept of the VPEs changes, with endpoints and parked calls, and nothing comes on its way.
   pub rows-changed : (h : Hand) (s : Side) (vs : List VpeRow) (es : List (List (Option Endpoint))) (ps : List (Option Parked))
       → ((k : KeyName) → sum_by (at_parked k) ps ≤ sum_by (at_parked k) s.parks) → Row h s → Row h (record s { vpes = vs; endpoints = es; parks = ps })
   rows-changed h s vs es ps few R =
       step h h s (record s { vpes = vs; endpoints = es; parks = ps })
-      (holds-same owner C.parent C.one_parent C.made (view s) (view (record s { vpes = vs; endpoints = es; parks = ps })) (λ k. refl) (λ k. let less = few k in omega (arith, less)))
+      (holds-same owner C.parent C.one_parent C.made (view s) (view (record s { vpes = vs; endpoints = es; parks = ps })) (λ k. refl) (λ k. let less = few k in
+      omega (arith, less)))
       (no-roots s (record s { vpes = vs; endpoints = es; parks = ps }) refl)
       R.rises (record { rise = R.ids.rise; drawn = R.ids.drawn }) R.homes (record { inbox = R.sent.inbox; sends = R.sent.sends })
       (λ k a b alive under before. inr before)
@@ -326,14 +356,24 @@ module _ (C : Scene) where
       → Row h s → Row h' (send j m s)
   row-sent h h' s j m asks gives strays tokens cares cared loose notices R =
       let t : Side = send j m s in
-      let H = holds-same owner C.parent C.one_parent C.made (view s) (view t) (λ k. refl) (λ k. let sum = lives-send k on_its_way s j m in let none = gives k in omega (arith, sum, none)) in
-      let asked : (k : KeyName) (a b : ℕ) → of_side (asking k a b) C.kernel t ≡ of_side (asking k a b) C.kernel s = λ k a b. let sum = side-send (asking k a b) C.kernel s j m in let none = asks k a b in omega (arith, sum, none) in
+      let H = holds-same owner C.parent C.one_parent C.made (view s) (view t) (λ k. refl) (λ k. let sum = lives-send k on_its_way s j m in let none = gives k in
+      omega (arith, sum, none)) in
+      let asked : (k : KeyName) (a b : ℕ) → of_side (asking k a b) C.kernel t ≡ of_side (asking k a b) C.kernel s = λ k a b. let sum =
+      side-send (asking k a b) C.kernel s j m in let none = asks k a b in omega (arith, sum, none) in
       step h h' s t H (no-roots s t refl) R.rises (record { rise = R.ids.rise; drawn = R.ids.drawn }) R.homes (sent-more s j m gives R.sent)
-      (λ k a b alive under before. inr (elim before [ inl more ↦ (let same = asked k a b in inl (omega (arith, more, same))) | inr care ↦ inr (cares a b k (alive-before k alive) care) ]))
+      (λ k a b alive under before. inr (elim before [
+        | inl more ↦ (let same = asked k a b in inl (omega (arith, more, same)))
+        | inr care ↦ inr (cares a b k (alive-before k alive) care)
+      ]))
       (λ k a b more. let same = asked k a b in inl (omega (arith, more, same)))
       loose
-      (λ a b. let sum = side-send (naming a b) C.kernel s j m in let few = tokens a b in let is = R.revokes.counted a b in let count : of_side (counting a b) C.kernel t ≡ of_side (counting a b) C.kernel s + 0 = side-send (counting a b) C.kernel s j m in omega (arith, sum, few, is, count))
-      (λ k a b. let same = asked k a b in let most = R.revokes.single.0 k a b in omega (arith, same, most), λ k a b care. let same = asked k a b in let none = R.revokes.single.1 k a b (cared a b k care) in omega (arith, same, none))
+      (λ a b. let sum = side-send (naming a b) C.kernel s j m in let few = tokens a b in let is = R.revokes.counted a b in
+      let count : of_side (counting a b) C.kernel t ≡ of_side (counting a b) C.kernel s + 0 = side-send (counting a b) C.kernel s j m in
+      omega (arith, sum, few, is, count)) (
+        λ k a b. let same = asked k a b in let most = R.revokes.single.0 k a b in omega (arith, same, most),
+        λ k a b care. let same = asked k a b in
+            let none = R.revokes.single.1 k a b (cared a b k care) in omega (arith, same, none),
+      )
       (λ k more. let sum = side-send (noticing k) C.kernel s j m in new k sum more)
       (let sum = side-send (straying owner) C.kernel s j m in let is = R.revokes.placed in omega (arith, sum, strays, is))
       R
@@ -342,7 +382,8 @@ module _ (C : Scene) where
       alive-before k (inl held) = inl held
       alive-before k (inr more) = let sum = lives-send k on_its_way s j m in let none = gives k in inr (omega (arith, sum, none, more))
 
-      new : (k : KeyName) → of_side (noticing k) C.kernel (send j m s) ≡ of_side (noticing k) C.kernel s + notice_message k C.kernel j m → 1 ≤ (view (send j m s)).notices k → (1 ≤ (view s).notices k) ⊎ (IsGone (send j m s) k × C.made k)
+      new : (k : KeyName) → of_side (noticing k) C.kernel (send j m s) ≡ of_side (noticing k) C.kernel s + notice_message k C.kernel j m →
+          1 ≤ (view (send j m s)).notices k → (1 ≤ (view s).notices k) ⊎ (IsGone (send j m s) k × C.made k)
       new k sum more = elim (cases_eq (notice_message k C.kernel j m) 0) [
         | inl none ↦ inl (omega (arith, sum, more, none))
         | inr some ↦
@@ -361,7 +402,8 @@ module _ (C : Scene) where
       → ((a b : ℕ) → h'.owed a b ≡ h.owed a b)
       → Row h s → Row h' s
   rehand h h' s cares cared loose owed R =
-      step h h' s s (holds-same owner C.parent C.one_parent C.made (view s) (view s) (λ k. refl) (λ k. omega arith)) (no-roots s s refl) R.rises R.ids R.homes R.sent
+      step h h' s s (holds-same owner C.parent C.one_parent C.made (view s) (view s) (λ k. refl) (λ k. omega arith)) (no-roots s s refl) R.rises R.ids R.homes
+      R.sent
       (λ k a b alive under before. elim before [ inl more ↦ inr (inl more) | inr care ↦ cares k a b alive under care ])
       (λ k a b more. inl more)
       loose
@@ -399,7 +441,8 @@ module _ (C : Scene) where
   under-lost h s R k a b (p, granted, at, marked) = below-mark h s R (C.rank p) p k b (omega arith) marked granted
 
   -- what a job marks is lost, but for a root that it keeps
-  pub mark-lost : (h : Hand) (s : Side) → Row h s → (k : KeyName) (n : ℕ) (x : JobRow) → IsMarked s k n → (view s).job (owner k) n ≡ Some x → (x.root ≡ k → x.keep ≡ false) → C.lost k
+  pub mark-lost : (h : Hand) (s : Side) → Row h s → (k : KeyName) (n : ℕ) (x : JobRow) → IsMarked s k n → (view s).job (owner k) n ≡ Some x →
+      (x.root ≡ k → x.keep ≡ false) → C.lost k
   mark-lost h s R k n x marked open_ leaves =
       let y = R.revokes.marks k n marked in
       let same : y.0 ≡ x = same_Some y.0 x (sym y.1 ∙ open_) in

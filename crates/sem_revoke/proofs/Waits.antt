@@ -60,7 +60,8 @@ Resting closes s k r v (Some (Ready code)) = (code ≡ 0) × ((c : Capability) �
 
 -- what a step may do to the capability of r, and to the jobs
 abbrev pub CapsOn : KeyName → KeyName → Side → Side → Type 0
-CapsOn k r s t = (c : Capability) → cap t r ≡ Some c → (d : Capability) × (cap s r ≡ Some d) × ((n : ℕ) → d.mark ≡ Some n → c.mark ≡ Some n) × (has_key d.children k ≡ false → has_key c.children k ≡ false)
+CapsOn k r s t = (c : Capability) → cap t r ≡ Some c → (d : Capability) × (cap s r ≡ Some d) × ((n : ℕ) → d.mark ≡ Some n → c.mark ≡ Some n)
+    × (has_key d.children k ≡ false → has_key c.children k ≡ false)
 
 abbrev pub JobsOn : KeyName → KeyName → ℕ → Side → Side → Type 0
 JobsOn k r v s t = (y : JobRow) → Contains t.jobs y → y.id < s.next_job → (x : JobRow) × Contains s.jobs x × (x.id ≡ y.id) × (Serves x k r v → Serves y k r v)
@@ -72,7 +73,8 @@ pub same-jobs : (k r : KeyName) (v : ℕ) (s t : Side) → t.jobs ≡ s.jobs →
 same-jobs k r v s t same y among low = (y, subst (λ xs. Contains xs y) same among, refl, λ is. is)
 
 -- it rests on
-pub resting-on : (closes : Option JobRow) (s t : Side) (k r : KeyName) (v : ℕ) (p : Option Parked) → CapsOn k r s t → JobsOn k r v s t → s.next_job ≤ t.next_job → (is_alive s v ≡ false → is_alive t v ≡ false) → Resting closes s k r v p → Resting closes t k r v p
+pub resting-on : (closes : Option JobRow) (s t : Side) (k r : KeyName) (v : ℕ) (p : Option Parked) → CapsOn k r s t → JobsOn k r v s t →
+    s.next_job ≤ t.next_job → (is_alive s v ≡ false → is_alive t v ≡ false) → Resting closes s k r v p → Resting closes t k r v p
 resting-on closes s t k r v None caps jobs next dead is = dead is
 resting-on closes s t k r v (Some (ObtainWait number sel)) caps jobs next dead is = is
 resting-on closes s t k r v (Some (ObtainReady key parent object sel)) caps jobs next dead is = is
@@ -87,7 +89,11 @@ resting-on closes s t k r v (Some (RevokeWait n)) caps jobs next dead is = (
       (d.2 n served.0, λ y among same. let low = is.0 in let x = jobs y among (omega (arith, low, same)) in x.3 (served.1 x.0 x.1 (x.2 ∙ same))),
   λ x closing same c held. let d = caps c held in let ends = is.2 x closing same d.0 d.1 in ((ends.0.0, d.3 ends.0.1), ends.1),
 )
-resting-on closes s t k r v (Some (Ready code)) caps jobs next dead is = (is.0, λ c held. let d = caps c held in let ends = is.1 d.0 d.1 in (ends.0, d.3 ends.1))
+resting-on closes s t k r v (Some (Ready code)) caps jobs next dead is = (
+  is.0,
+  λ c held. let d = caps c held in let ends = is.1 d.0 d.1 in
+      (ends.0, d.3 ends.1),
+)
 
 -- a state in which a call asks, or is to install, is not at rest
 pub asks-rest : (s : Side) (k r : KeyName) (v : ℕ) (a : Ask) (p : Option Parked) → waits_for a p ≡ true → Resting None s k r v p → ⊥
@@ -122,7 +128,8 @@ ready-rest s k r q v (Some (DelegateReady parent key)) ready is = is
 ready-rest s k r q v (Some (RevokeWait n)) ready is = absurd cc
 ready-rest s k r q v (Some (Ready code)) ready is = absurd cc
 
-unlinked-mapped : (k : KeyName) (o : Option Capability) (c : Capability) → option_map (λ (x : Capability). record x { children = without_key x.children k }) o ≡ Some c → (d : Capability) × (o ≡ Some d) × (d.mark ≡ c.mark) × (c.children ≡ without_key d.children k)
+unlinked-mapped : (k : KeyName) (o : Option Capability) (c : Capability) → option_map (λ (x : Capability). record x { children = without_key x.children k }) o
+    ≡ Some c → (d : Capability) × (o ≡ Some d) × (d.mark ≡ c.mark) × (c.children ≡ without_key d.children k)
 unlinked-mapped k None c none = absurd cc
 unlinked-mapped k (Some d) c some =
     let same = same_Some (record d { children = without_key d.children k }) c some in
@@ -130,7 +137,10 @@ unlinked-mapped k (Some d) c some =
 
 -- a child that is not there is not there once another is gone
 still-none : (ks : List KeyName) (q k : KeyName) → has_key ks k ≡ false → has_key (without_key ks q) k ≡ false
-still-none ks q k none = false_from_ne_true (has_key (without_key ks q) k) (λ has. true≢false (sym (has_key-from_Contains ks k (Contains-from_filter (λ x. not (key_eq x q)) ks k (Contains-from_has_key (without_key ks q) k has)).0) ∙ none))
+still-none ks q k none =
+    false_from_ne_true (has_key (without_key ks q) k)
+    (λ has. true≢false (sym (has_key-from_Contains ks k (Contains-from_filter (λ x. not (key_eq x q)) ks k (Contains-from_has_key (without_key ks q) k has)).0)
+    ∙ none))
 
 -- what is held once a link is gone was held, with the same mark and no link less
 pub unlinked-caps : (s : Side) (p q k r : KeyName) → CapsOn k r s (unlinked p q s)
@@ -152,14 +162,23 @@ pub parked-other : (s : Side) (v : ℕ) (p : Option Parked) (w : ℕ) → (w ≡
 parked-other s v p w other = get_or-put_other None s.parks v w p other
 
 -- those who are woken are ready, and the others stay
-pub woken-at : (vs : List ℕ) (ps : List (Option Parked)) (w : ℕ) → (Contains vs w × (state_of (all_woken vs ps) w ≡ Some (Ready 0))) ⊎ ((Contains vs w → ⊥) × (state_of (all_woken vs ps) w ≡ state_of ps w))
+pub woken-at : (vs : List ℕ) (ps : List (Option Parked)) (w : ℕ) → (Contains vs w × (state_of (all_woken vs ps) w ≡ Some (Ready 0)))
+    ⊎ ((Contains vs w → ⊥) × (state_of (all_woken vs ps) w ≡ state_of ps w))
 unfolding in_turn
 woken-at [] ps w = inr (Contains-nil w, refl)
 woken-at (v ∷ vs) ps w = elim (woken-at vs (put None ps v (Some (Ready 0))) w) [
   | inl (among, ready) ↦ inl (Contains-tail v vs w among, ready)
   | inr (others, same) ↦ elim (cases_eq w v) [
-    | inl here ↦ inl (subst (Contains (v ∷ vs)) (sym here) (Contains-head v vs), same ∙ (ap (state_of (put None ps v (Some (Ready 0)))) here ∙ get_or-put_same None ps v (Some (Ready 0))))
-    | inr away ↦ inr (λ among. elim (Contains-cons_cases v vs w among) [ inl is ↦ away (sym is) | inr later ↦ others later ], same ∙ get_or-put_other None ps v w (Some (Ready 0)) away)
+    | inl here ↦ inl (
+      subst (Contains (v ∷ vs)) (sym here) (Contains-head v vs),
+      same
+          ∙ (ap (state_of (put None ps v (Some (Ready 0)))) here ∙ get_or-put_same None ps v (Some (Ready 0))),
+    )
+    | inr away ↦ inr (
+      λ among. elim (Contains-cons_cases v vs w among) [ inl is ↦ away (sym is) | inr later ↦ others later ],
+      same
+          ∙ get_or-put_other None ps v w (Some (Ready 0)) away,
+    )
   ]
 ]
 

@@ -1,5 +1,6 @@
 -- A message in flight stays in flight, until it is handled.
-use Rattle.std.proofs.Common.{◌≡◌, ◌⊎◌, ℕ, ◌++◌, true, List, [], ◌∷◌, drop, get_or, Option, Some, None, is_none, is_some, slice_get, refl, sym, ap, ◌∙◌, subst, inl, inr, eq-eqb}
+use Rattle.std.proofs.Common.{◌≡◌, ◌⊎◌, ℕ, ◌++◌, true, List, [], ◌∷◌, drop, get_or, Option, Some, None, is_none, is_some, slice_get, refl, sym, ap, ◌∙◌, subst}
+use Rattle.std.proofs.Common.{inl, inr, eq-eqb}
 use Rattle.std.specs.Prelude.{◌==◌}
 use Rattle.std.specs.List.{Contains}
 use Rattle.std.specs.Option.{option_map, option_map_or}
@@ -40,7 +41,8 @@ fetched-is a (Some x) m among = elim (cases_Bool (x.0 == a)) [
   | inr differ ↦ absurd (Contains-nil m (subst (λ xs. Contains xs m) (cond-false (x.0 == a) (x.1 ∷ []) [] differ) among))
 ]
 
-module _ (T : Setup) (valid : IsSetup T) (J : List Entry) (runs : IsSchedule T J) (before : List Entry) (e : Entry) (later : List Entry) (parts : J ≡ before ++ e ∷ later) where
+module _ (T : Setup) (valid : IsSetup T) (J : List Entry) (runs : IsSchedule T J) (before : List Entry) (e : Entry) (later : List Entry) (parts : J ≡ before
+    ++ e ∷ later) where
   abbrev W : World
   W = world_after T before
 
@@ -58,7 +60,8 @@ module _ (T : Setup) (valid : IsSetup T) (J : List Entry) (runs : IsSchedule T J
   Goes a b m = Contains (way V a b) m ⊎ ((b ≡ i) × (s.inbox ≡ Some (a, m)) × (e.event.act ≡ Handle))
 
   -- where the links stay and the outboxes grow
-  module _ (links : V.links ≡ W.links) (box : Boxes T (grants before) W (R T valid J runs before e later parts) (H T valid J runs before e later parts) (losing T valid J runs before (e ∷ later) parts (all-caused T valid J runs before (e ∷ later) parts)) i (stepped T W e.event).side) where
+  module _ (links : V.links ≡ W.links) (box : Boxes T (grants before) W (R T valid J runs before e later parts) (H T valid J runs before e later parts)
+      (losing T valid J runs before (e ∷ later) parts (all-caused T valid J runs before (e ∷ later) parts)) i (stepped T W e.event).side) where
     link-same : (a b : ℕ) → link V a b ≡ link W a b
     link-same a b = ap (λ ls. get_or (get_or ls a []) b []) links
 
@@ -66,16 +69,20 @@ module _ (T : Setup) (valid : IsSetup T) (J : List Entry) (runs : IsSchedule T J
     out-more a b m among = elim (cases_eq a i) [
       | inl here ↦
           let x = box b in
-          let now : outbox (side V a) b ≡ outbox s b ++ x.0 = ap (λ t. outbox t b) (side-here T valid J runs before e later parts (all-caused T valid J runs before (e ∷ later) parts) a here) ∙ x.1 in
+          let now : outbox (side V a) b ≡ outbox s b ++ x.0 =
+          ap (λ t. outbox t b) (side-here T valid J runs before e later parts (all-caused T valid J runs before (e ∷ later) parts) a here) ∙ x.1 in
           subst (λ xs. Contains xs m) (sym now) (Contains-append_left (outbox s b) x.0 m (subst (λ n. Contains (outbox (side W n) b) m) here among))
-      | inr away ↦ subst (λ t. Contains (outbox t b) m) (sym (side-other T valid J runs before e later parts (all-caused T valid J runs before (e ∷ later) parts) a away)) among
+      | inr away ↦ subst (λ t. Contains (outbox t b) m)
+          (sym (side-other T valid J runs before e later parts (all-caused T valid J runs before (e ∷ later) parts) a away)) among
     ]
 
     tail-more : (a b : ℕ) (m : Message) → Contains (link W a b) m ⊎ Contains (outbox (side W a) b) m → Contains (way V a b) m
-    tail-more a b m (inl linked) = Contains-append_left (fetched_from a (side V b).inbox ++ link V a b) (outbox (side V a) b) m (Contains-append_right (fetched_from a (side V b).inbox) (link V a b) m (subst (λ xs. Contains xs m) (sym (link-same a b)) linked))
+    tail-more a b m (inl linked) = Contains-append_left (fetched_from a (side V b).inbox ++ link V a b) (outbox (side V a) b) m
+        (Contains-append_right (fetched_from a (side V b).inbox) (link V a b) m (subst (λ xs. Contains xs m) (sym (link-same a b)) linked))
     tail-more a b m (inr out) = Contains-append_right (fetched_from a (side V b).inbox ++ link V a b) (outbox (side V a) b) m (out-more a b m out)
 
-    stays : (a b : ℕ) (m : Message) → ((b ≡ i) → (s.inbox ≡ Some (a, m)) → Contains (way V a b) m ⊎ (e.event.act ≡ Handle)) → Contains (way W a b) m → Goes a b m
+    stays : (a b : ℕ) (m : Message) → ((b ≡ i) → (s.inbox ≡ Some (a, m)) → Contains (way V a b) m ⊎ (e.event.act ≡ Handle)) → Contains (way W a b) m →
+        Goes a b m
     stays a b m handled among = elim (Contains-append_cases (fetched_from a (side W b).inbox ++ link W a b) (outbox (side W a) b) m among) [
       | inr out ↦ inl (tail-more a b m (inr out))
       | inl front ↦ elim (Contains-append_cases (fetched_from a (side W b).inbox) (link W a b) m front) [
@@ -84,7 +91,10 @@ module _ (T : Setup) (valid : IsSetup T) (J : List Entry) (runs : IsSchedule T J
           | inl here ↦
               let full : s.inbox ≡ Some (a, m) = ap (λ n. (side W n).inbox) (sym here) ∙ fetched-is a (side W b).inbox m first in
               elim (handled here full) [ inl still ↦ inl still | inr act ↦ inr (here, full, act) ]
-          | inr away ↦ inl (Contains-append_left (fetched_from a (side V b).inbox ++ link V a b) (outbox (side V a) b) m (Contains-append_left (fetched_from a (side V b).inbox) (link V a b) m (subst (λ t. Contains (fetched_from a t.inbox) m) (sym (side-other T valid J runs before e later parts (all-caused T valid J runs before (e ∷ later) parts) b away)) first)))
+          | inr away ↦ inl (Contains-append_left (fetched_from a (side V b).inbox ++ link V a b) (outbox (side V a) b) m
+              (Contains-append_left (fetched_from a (side V b).inbox) (link V a b) m
+              (subst (λ t. Contains (fetched_from a t.inbox) m)
+              (sym (side-other T valid J runs before e later parts (all-caused T valid J runs before (e ∷ later) parts) b away)) first)))
         ]
       ]
     ]
@@ -92,17 +102,25 @@ module _ (T : Setup) (valid : IsSetup T) (J : List Entry) (runs : IsSchedule T J
     -- where the inbox stays too
     inbox-stays : (stepped T W e.event).side.inbox ≡ s.inbox → (a b : ℕ) (m : Message) → b ≡ i → s.inbox ≡ Some (a, m) → Contains (way V a b) m
     inbox-stays same a b m here full =
-        let now : (side V b).inbox ≡ Some (a, m) = ap (λ (t : Side). t.inbox) (side-here T valid J runs before e later parts (all-caused T valid J runs before (e ∷ later) parts) b here) ∙ (same ∙ full) in
-        Contains-append_left (fetched_from a (side V b).inbox ++ link V a b) (outbox (side V a) b) m (Contains-append_left (fetched_from a (side V b).inbox) (link V a b) m (subst (λ xs. Contains xs m) (sym (ap (fetched_from a) now ∙ cond-true (a == a) (m ∷ []) [] (eq-eqb a a refl))) (Contains-head m [])))
+        let now : (side V b).inbox ≡ Some (a, m) =
+        ap (λ (t : Side). t.inbox) (side-here T valid J runs before e later parts (all-caused T valid J runs before (e ∷ later) parts) b here)
+        ∙ (same ∙ full) in
+        Contains-append_left (fetched_from a (side V b).inbox ++ link V a b) (outbox (side V a) b) m
+        (Contains-append_left (fetched_from a (side V b).inbox) (link V a b) m
+        (subst (λ xs. Contains xs m) (sym (ap (fetched_from a) now ∙ cond-true (a == a) (m ∷ []) [] (eq-eqb a a refl))) (Contains-head m [])))
 
-  grows : Grows T (grants before) W (R T valid J runs before e later parts) (H T valid J runs before e later parts) (losing T valid J runs before (e ∷ later) parts (all-caused T valid J runs before (e ∷ later) parts)) i e.event.act (stepped T W e.event).side
-  grows = event-grows T (grants before) W (R T valid J runs before e later parts) (H T valid J runs before e later parts) (losing T valid J runs before (e ∷ later) parts (all-caused T valid J runs before (e ∷ later) parts)) i e.event.act (loses T valid J runs before e later parts e.event.act refl) (told T valid J runs before e later parts)
+  grows : Grows T (grants before) W (R T valid J runs before e later parts) (H T valid J runs before e later parts)
+      (losing T valid J runs before (e ∷ later) parts (all-caused T valid J runs before (e ∷ later) parts)) i e.event.act (stepped T W e.event).side
+  grows = event-grows T (grants before) W (R T valid J runs before e later parts) (H T valid J runs before e later parts)
+      (losing T valid J runs before (e ∷ later) parts (all-caused T valid J runs before (e ∷ later) parts)) i e.event.act
+      (loses T valid J runs before e later parts e.event.act refl) (told T valid J runs before e later parts)
 
   world-is : (a : Act) → e.event.act ≡ a → V ≡ after T W (event i a)
   world-is a act = run-append T before (e ∷ []) (start T) ∙ ap (λ x. after T W (event i x)) act
 
   abbrev GrowsBy : Act → Type 0
-  GrowsBy a = Grows T (grants before) W (R T valid J runs before e later parts) (H T valid J runs before e later parts) (losing T valid J runs before (e ∷ later) parts (all-caused T valid J runs before (e ∷ later) parts)) i a (stepped T W e.event).side
+  GrowsBy a = Grows T (grants before) W (R T valid J runs before e later parts) (H T valid J runs before e later parts)
+      (losing T valid J runs before (e ∷ later) parts (all-caused T valid J runs before (e ∷ later) parts)) i a (stepped T W e.event).side
 
   pub goes : (a b : ℕ) (m : Message) → Contains (way W a b) m → Goes a b m
   unfolding after local_step
@@ -112,10 +130,16 @@ module _ (T : Setup) (valid : IsSetup T) (J : List Entry) (runs : IsSchedule T J
       same n act ways = inl (subst (λ xs. Contains xs m) (sym (ap (λ X. way X a b) (world-is n act) ∙ ways a b)) among)
 
       by : (n : Act) → e.event.act ≡ n → GrowsBy n → Goes a b m
-      by (Calls v) act g = stays (ap (λ (X : World). X.links) (world-is (Calls v) act)) g.1 a b m (λ here full. inl (inbox-stays (ap (λ (X : World). X.links) (world-is (Calls v) act)) g.1 g.0 a b m here full)) among
-      by (Upcall v) act g = stays (ap (λ (X : World). X.links) (world-is (Upcall v) act)) g.1 a b m (λ here full. inl (inbox-stays (ap (λ (X : World). X.links) (world-is (Upcall v) act)) g.1 g.0 a b m here full)) among
-      by (Resume v) act g = stays (ap (λ (X : World). X.links) (world-is (Resume v) act)) g.1 a b m (λ here full. inl (inbox-stays (ap (λ (X : World). X.links) (world-is (Resume v) act)) g.1 g.0 a b m here full)) among
-      by (Kill v) act g = stays (ap (λ (X : World). X.links) (world-is (Kill v) act)) g.1 a b m (λ here full. inl (inbox-stays (ap (λ (X : World). X.links) (world-is (Kill v) act)) g.1 g.0 a b m here full)) among
+      by (Calls v) act g =
+          stays (ap (λ (X : World). X.links) (world-is (Calls v) act)) g.1 a b m
+          (λ here full. inl (inbox-stays (ap (λ (X : World). X.links) (world-is (Calls v) act)) g.1 g.0 a b m here full)) among
+      by (Upcall v) act g = stays (ap (λ (X : World). X.links) (world-is (Upcall v) act)) g.1 a b m
+          (λ here full. inl (inbox-stays (ap (λ (X : World). X.links) (world-is (Upcall v) act)) g.1 g.0 a b m here full)) among
+      by (Resume v) act g = stays (ap (λ (X : World). X.links) (world-is (Resume v) act)) g.1 a b m
+          (λ here full. inl (inbox-stays (ap (λ (X : World). X.links) (world-is (Resume v) act)) g.1 g.0 a b m here full)) among
+      by (Kill v) act g =
+          stays (ap (λ (X : World). X.links) (world-is (Kill v) act)) g.1 a b m
+          (λ here full. inl (inbox-stays (ap (λ (X : World). X.links) (world-is (Kill v) act)) g.1 g.0 a b m here full)) among
       by Handle act g = stays (ap (λ (X : World). X.links) (world-is Handle act)) g.1 a b m (λ here full. inr act) among
       by (Fetch j) act g = same (Fetch j) act (fetched (slice_get (link W j i) 0) refl)
         where
@@ -128,7 +152,8 @@ module _ (T : Setup) (valid : IsSetup T) (J : List Entry) (runs : IsSchedule T J
 
           fetched : (o : Option Message) → slice_get (link W j i) 0 ≡ o → (x y : ℕ) → way (after T W (event i (Fetch j))) x y ≡ way W x y
           fetched None none x y = absurd (true≢false (sym outer.1 ∙ ap is_some none))
-          fetched (Some q) some x y = subst (λ o. way (with_link j i (drop 1 (link W j i)) (with_side i (with_inbox (option_map (λ z. (j, z)) o) s) W)) x y ≡ way W x y) (sym some) (way-fetched j i q (drop 1 (link W j i)) W (list-front (link W j i) q some) (empty s.inbox refl) x y)
+          fetched (Some q) some x y = subst (λ o. way (with_link j i (drop 1 (link W j i)) (with_side i (with_inbox (option_map (λ z. (j, z)) o) s) W)) x y
+              ≡ way W x y) (sym some) (way-fetched j i q (drop 1 (link W j i)) W (list-front (link W j i) q some) (empty s.inbox refl) x y)
       by (Flush j) act g = same (Flush j) act (flushed (slice_get (outbox s j) 0) refl)
         where
           outer : (is_locally_enabled T i s (Flush j) ≡ true) × (is_allowed T W i (Flush j) ≡ true)
@@ -136,10 +161,14 @@ module _ (T : Setup) (valid : IsSetup T) (J : List Entry) (runs : IsSchedule T J
 
           flushed : (o : Option Message) → slice_get (outbox s j) 0 ≡ o → (x y : ℕ) → way (after T W (event i (Flush j))) x y ≡ way W x y
           flushed None none x y = absurd (true≢false (sym (flush-some T i s j outer.0) ∙ ap is_some none))
-          flushed (Some q) some x y = subst (λ o. way (option_map_or (λ z. with_link i j (link W i j ++ z ∷ []) (with_side i (sent j s) W)) o (with_side i (sent j s) W)) x y ≡ way W x y) (sym some) (way-flushed i j q (drop 1 (outbox s j)) W (list-front (outbox s j) q some) x y)
+          flushed (Some q) some x y =
+              subst (λ o. way (option_map_or (λ z. with_link i j (link W i j ++ z ∷ []) (with_side i (sent j s) W)) o (with_side i (sent j s) W)) x y
+              ≡ way W x y) (sym some) (way-flushed i j q (drop 1 (outbox s j)) W (list-front (outbox s j) q some) x y)
 
-pub all-go : (T : Setup) → IsSetup T → (J : List Entry) → IsSchedule T J → (before : List Entry) (e : Entry) (later : List Entry) → J ≡ before ++ e ∷ later → (a b : ℕ) (m : Message) → Contains (way (world_after T before) a b) m
-    → Contains (way (world_after T (before ++ e ∷ [])) a b) m ⊎ ((b ≡ e.event.kernel) × ((side (world_after T before) b).inbox ≡ Some (a, m)) × (e.event.act ≡ Handle))
+pub all-go : (T : Setup) → IsSetup T → (J : List Entry) → IsSchedule T J → (before : List Entry) (e : Entry) (later : List Entry) → J ≡ before ++ e ∷ later →
+    (a b : ℕ) (m : Message) → Contains (way (world_after T before) a b) m
+    → Contains (way (world_after T (before ++ e ∷ [])) a b) m ⊎ ((b ≡ e.event.kernel) × ((side (world_after T before) b).inbox ≡ Some (a, m))
+    × (e.event.act ≡ Handle))
 all-go T valid J runs before e later parts a b m among = elim (goes T valid J runs before e later parts a b m among) [
   | inl still ↦ inl still
   | inr (here, full, act) ↦ inr (here, ap (λ n. (side (world_after T before) n).inbox) here ∙ full, act)

@@ -6,7 +6,8 @@ use Rattle.sem_key.specs.declared.object.Object.{Object}
 use Rattle.sem_key.specs.KeyName.{KeyName}
 use Rattle.sem_key.specs.Capability.{Capability}
 use Rattle.sem_msg.specs.declared.message.Message.{Message}
-use Rattle.sem_msg.specs.declared.message.Message.TheVariants.{ObtainReq, ObtainOk, ObtainNo, DelegateReq, DelegatePrepared, DelegateNo, Ack, Orphan, RevokeReq, RevokeDone, Unlink}
+use Rattle.sem_msg.specs.declared.message.Message.TheVariants.{ObtainReq, ObtainOk, ObtainNo, DelegateReq, DelegatePrepared, DelegateNo, Ack, Orphan, RevokeReq}
+use Rattle.sem_msg.specs.declared.message.Message.TheVariants.{RevokeDone, Unlink}
 use Rattle.sem_msg.specs.declared.state.Ask.{Ask}
 use Rattle.sem_msg.specs.declared.state.Ask.TheVariants.{Obtain as ObtainAsk, Delegate as DelegateAsk}
 use Rattle.sem_msg.specs.declared.state.Parked.{Parked}
@@ -70,7 +71,11 @@ module _ (F G : Facts) (W : IsWeaker F G) where
   all-brings ms is = All-weaker (Brings F) (Brings G) brings-weaker ms is
 
   cap-weaker : (c : Capability) → InCap F c → InCap G c
-  cap-weaker c is = record { key = W.key c.key c.object is.key; links = All-weaker (F.link c.key) (G.link c.key) (λ k l. W.link c.key k) c.children is.links; mark = λ j marked. W.doomed c.key }
+  cap-weaker c is = record {
+    key = W.key c.key c.object is.key;
+    links = All-weaker (F.link c.key) (G.link c.key) (λ k l. W.link c.key k) c.children is.links;
+    mark = λ j marked. W.doomed c.key;
+  }
 
   side-weaker : (s : Side) → InSide F s → InSide G s
   side-weaker s is = record {
@@ -86,5 +91,6 @@ module _ (F G : Facts) (W : IsWeaker F G) where
   pub world-weaker : (V : World) → InWorld F V → InWorld G V
   world-weaker V is = record {
     sides = All-weaker (InSide F) (InSide G) side-weaker V.sides is.sides;
-    links = All-weaker (λ (r : List (List Message)). All (BringsAll F) r) (λ (r : List (List Message)). All (BringsAll G) r) (λ r here. All-weaker (BringsAll F) (BringsAll G) all-brings r here) V.links is.links;
+    links = All-weaker (λ (r : List (List Message)). All (BringsAll F) r) (λ (r : List (List Message)). All (BringsAll G) r)
+        (λ r here. All-weaker (BringsAll F) (BringsAll G) all-brings r here) V.links is.links;
   }

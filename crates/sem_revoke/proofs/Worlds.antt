@@ -49,7 +49,8 @@ pub record Same (V U : View) : Type 0 where
   pub notices : (k : KeyName) → U.notices k ≡ V.notices k
   pub misplaced : U.misplaced ≡ V.misplaced
 
-module _ (own : KeyName → ℕ) (G : KeyName → KeyName → Type 0) (one : (p q k : KeyName) → G p k → G q k → p ≡ q) (M : KeyName → Type 0) (V U : View) (S : Same V U) where
+module _ (own : KeyName → ℕ) (G : KeyName → KeyName → Type 0) (one : (p q k : KeyName) → G p k → G q k → p ≡ q) (M : KeyName →
+    Type 0) (V U : View) (S : Same V U) where
   same-holds : HoldsOn own G one M V U
   same-holds = holds-same own G one M V U S.hold S.gifts
 
@@ -86,14 +87,16 @@ module _ (C : Scene) where
       | inl here ↦
           let at : side (with_side i t C.world) (owner C k) ≡ t = ap (side (with_side i t C.world)) here ∙ get_or-put_same no_side C.world.sides i t in
           ap (λ (x : Side). cap x k) at ∙ sym (cond-true (owner C k == i) (cap t k) (cap (side C.world (owner C k)) k) (eq-eqb (owner C k) i here))
-      | inr away ↦ ap (λ (x : Side). cap x k) (get_or-put_other no_side C.world.sides i (owner C k) t away) ∙ sym (cond-false (owner C k == i) (cap t k) (cap (side C.world (owner C k)) k) (ne_eqb (owner C k) i away))
+      | inr away ↦ ap (λ (x : Side). cap x k) (get_or-put_other no_side C.world.sides i (owner C k) t away)
+          ∙ sym (cond-false (owner C k == i) (cap t k) (cap (side C.world (owner C k)) k) (ne_eqb (owner C k) i away))
     ];
     gifts = λ k. let same = gifts-parts k t in omega (arith, same);
     job = λ a n. elim (cases_eq a i) [
       | inl here ↦
           let at : side (with_side i t C.world) a ≡ t = ap (side (with_side i t C.world)) here ∙ get_or-put_same no_side C.world.sides i t in
           ap (λ (x : Side). job x n) at ∙ sym (cond-true (a == i) (job t n) (job (side C.world a) n) (eq-eqb a i here))
-      | inr away ↦ ap (λ (x : Side). job x n) (get_or-put_other no_side C.world.sides i a t away) ∙ sym (cond-false (a == i) (job t n) (job (side C.world a) n) (ne_eqb a i away))
+      | inr away ↦ ap (λ (x : Side). job x n) (get_or-put_other no_side C.world.sides i a t away)
+          ∙ sym (cond-false (a == i) (job t n) (job (side C.world a) n) (ne_eqb a i away))
     ];
     asked = λ k a b. world-parts (asking k a b) C.world i t;
     tokens = λ a b. world-parts (naming a b) C.world i t;
@@ -105,7 +108,8 @@ module _ (C : Scene) where
   pub same-entering : Same (whole C.setup C.world) (view C (side C.world i))
   same-entering = record {
     hold = λ k. elim (cases_eq (owner C k) i) [
-      | inl here ↦ cond-true (owner C k == i) (cap (side C.world i) k) (cap (side C.world (owner C k)) k) (eq-eqb (owner C k) i here) ∙ ap (λ a. cap (side C.world a) k) (sym here)
+      | inl here ↦ cond-true (owner C k == i) (cap (side C.world i) k) (cap (side C.world (owner C k)) k) (eq-eqb (owner C k) i here)
+          ∙ ap (λ a. cap (side C.world a) k) (sym here)
       | inr away ↦ cond-false (owner C k == i) (cap (side C.world i) k) (cap (side C.world (owner C k)) k) (ne_eqb (owner C k) i away)
     ];
     gifts = λ k.
@@ -124,7 +128,11 @@ module _ (C : Scene) where
   }
 
   -- what is so of the world is so of the side in it
-  pub enter : IsFit (owner C) C.parent C.made (whole C.setup C.world) → Revokes (owner C) C.parent C.made free_hand (whole C.setup C.world) → Rises (side C.world i).caps → HasIds (side C.world i) → ((k : KeyName) (c : Capability) → cap (side C.world i) k ≡ Some c → owner C k ≡ i) → IsSent C (side C.world i) → ((n : ℕ) (x : JobRow) → job (side C.world i) n ≡ Some x → IsCaused C.parent C.lost x) → ((k : KeyName) (c : Capability) → cap C.before k ≡ Some c → ((d : Capability) × (cap (side C.world i) k ≡ Some d)) ⊎ C.lost k) → Row C free_hand (side C.world i)
+  pub enter : IsFit (owner C) C.parent C.made (whole C.setup C.world) → Revokes (owner C) C.parent C.made free_hand (whole C.setup C.world) →
+      Rises (side C.world i).caps → HasIds (side C.world i) → ((k : KeyName) (c : Capability) → cap (side C.world i) k ≡ Some c → owner C k ≡ i) →
+      IsSent C (side C.world i) → ((n : ℕ) (x : JobRow) → job (side C.world i) n ≡ Some x → IsCaused C.parent C.lost x) →
+      ((k : KeyName) (c : Capability) → cap C.before k ≡ Some c → ((d : Capability) × (cap (side C.world i) k ≡ Some d)) ⊎ C.lost k) →
+      Row C free_hand (side C.world i)
   enter fit R rises ids homes sent' caused lasts = record {
     fit = fit-same (owner C) C.parent C.one_parent C.made (whole C.setup C.world) (view C (side C.world i)) same-entering fit;
     revokes = revokes-same (owner C) C.parent C.one_parent C.made (whole C.setup C.world) (view C (side C.world i)) same-entering fit R;
@@ -142,7 +150,8 @@ module _ (C : Scene) where
 -- What is alive, counted.
 
 module _ (T : Setup) (W : World) (k : KeyName) where
-  sides-parts : (ss : List Side) → sum_by (at_side k all_held) ss ≡ sum_by (at_side k on_its_way) ss + sum_by (λ (s : Side). sum_by (at_cap k all_held) s.caps) ss
+  sides-parts : (ss : List Side) →
+      sum_by (at_side k all_held) ss ≡ sum_by (at_side k on_its_way) ss + sum_by (λ (s : Side). sum_by (at_cap k all_held) s.caps) ss
   sides-parts [] = refl
   sides-parts (s ∷ ss) =
       let one = sum_by-cons (at_side k all_held) s ss in
@@ -156,7 +165,8 @@ module _ (T : Setup) (W : World) (k : KeyName) where
   held-parts = let parts = sides-parts W.sides in omega (arith, parts)
 
   -- what is held weighs
-  side-weighs : (ss : List Side) (i : ℕ) (c : Capability) → cap (get_or ss i no_side) k ≡ Some c → 1 ≤ sum_by (λ (s : Side). sum_by (at_cap k all_held) s.caps) ss
+  side-weighs : (ss : List Side) (i : ℕ) (c : Capability) → cap (get_or ss i no_side) k ≡ Some c →
+      1 ≤ sum_by (λ (s : Side). sum_by (at_cap k all_held) s.caps) ss
   side-weighs [] i c held = absurd cc
   side-weighs (s ∷ ss) zero c held =
       let there = found (λ x. key_eq x.key k) s.caps c held in
@@ -164,7 +174,8 @@ module _ (T : Setup) (W : World) (k : KeyName) where
       let among = weigh-among (at_cap k all_held) s.caps c there.0 in
       let all = sum_by-cons (λ (s : Side). sum_by (at_cap k all_held) s.caps) s ss in
       omega (arith, one, among, all)
-  side-weighs (s ∷ ss) (suc i) c held = let rest = side-weighs ss i c held in let all = sum_by-cons (λ (s : Side). sum_by (at_cap k all_held) s.caps) s ss in omega (arith, rest, all)
+  side-weighs (s ∷ ss) (suc i) c held = let rest = side-weighs ss i c held in let all = sum_by-cons (λ (s : Side). sum_by (at_cap k all_held) s.caps) s ss in
+      omega (arith, rest, all)
 
   pub held-weighs : (i : ℕ) (c : Capability) → cap (side W i) k ≡ Some c → 1 ≤ sum_by (λ (s : Side). sum_by (at_cap k all_held) s.caps) W.sides
   held-weighs i c held = side-weighs W.sides i c held
@@ -180,7 +191,8 @@ module _ (T : Setup) (W : World) (k : KeyName) where
         (rest.0, cond-false (key_eq c.key k) (Some c) (find (λ (x : Capability). key_eq x.key k) cs) differ ∙ rest.1)
   ]
 
-  side-some : (ss : List Side) → 1 ≤ sum_by (λ (s : Side). sum_by (at_cap k all_held) s.caps) ss → (i : ℕ) × (c : Capability) × (cap (get_or ss i no_side) k ≡ Some c)
+  side-some : (ss : List Side) → 1 ≤ sum_by (λ (s : Side). sum_by (at_cap k all_held) s.caps) ss →
+      (i : ℕ) × (c : Capability) × (cap (get_or ss i no_side) k ≡ Some c)
   side-some [] more = absurd (omega (arith, more))
   side-some (s ∷ ss) more = elim (cases_eq (sum_by (at_cap k all_held) s.caps) 0) [
     | inl none ↦
@@ -195,7 +207,8 @@ module _ (T : Setup) (W : World) (k : KeyName) where
   alive-weighs G M (inl (c, held)) = let parts = held-parts in let one = held-weighs (owner_of T k) c held in omega (arith, parts, one)
   alive-weighs G M (inr more) = let parts = held-parts in omega (arith, parts, more)
 
-  pub weighs-alive : (G : KeyName → KeyName → Type 0) (M : KeyName → Type 0) → ((i : ℕ) (c : Capability) → cap (side W i) k ≡ Some c → owner_of T k ≡ i) → 1 ≤ at_world k all_held W → Alive (owner_of T) G M (whole T W) k
+  pub weighs-alive : (G : KeyName → KeyName → Type 0) (M : KeyName → Type 0) → ((i : ℕ) (c : Capability) → cap (side W i) k ≡ Some c → owner_of T k ≡ i) →
+      1 ≤ at_world k all_held W → Alive (owner_of T) G M (whole T W) k
   weighs-alive G M homes more = elim (cases_eq (at_world k on_its_way W) 0) [
     | inl none ↦
         let parts = held-parts in
@@ -206,10 +219,13 @@ module _ (T : Setup) (W : World) (k : KeyName) where
 
 -- An event that revokes nothing.
 
-module _ (own : KeyName → ℕ) (G G' : KeyName → KeyName → Type 0) (one : (p q k : KeyName) → G' p k → G' q k → p ≡ q) (M M' : KeyName → Type 0) (link : KeyName → KeyName → Type 0) where
+module _ (own : KeyName → ℕ) (G G' : KeyName → KeyName → Type 0) (one : (p q k : KeyName) → G' p k → G' q k → p ≡ q) (M M' : KeyName → Type 0) (link : KeyName →
+    KeyName → Type 0) where
   pub record Grows (V U : View) : Type 0 where
-    pub on : (p : KeyName) (d : Capability) → V.hold p ≡ Some d → (e : Capability) × (U.hold p ≡ Some e) × (e.mark ≡ d.mark) × ((k : KeyName) → has_key d.children k ≡ true → has_key e.children k ≡ true)
-    pub back : (p : KeyName) (e : Capability) (n : ℕ) → U.hold p ≡ Some e → e.mark ≡ Some n → (d : Capability) × (V.hold p ≡ Some d) × (d.mark ≡ Some n) × ((k : KeyName) → has_key e.children k ≡ true → (has_key d.children k ≡ true) ⊎ link p k)
+    pub on : (p : KeyName) (d : Capability) → V.hold p ≡ Some d → (e : Capability) × (U.hold p ≡ Some e) × (e.mark ≡ d.mark)
+        × ((k : KeyName) → has_key d.children k ≡ true → has_key e.children k ≡ true)
+    pub back : (p : KeyName) (e : Capability) (n : ℕ) → U.hold p ≡ Some e → e.mark ≡ Some n → (d : Capability) × (V.hold p ≡ Some d) × (d.mark ≡ Some n)
+        × ((k : KeyName) → has_key e.children k ≡ true → (has_key d.children k ≡ true) ⊎ link p k)
     pub alive : (k : KeyName) → Alive own G' M' U k → Alive own G M V k ⊎ ((p : KeyName) × link p k)
     pub new : (p k : KeyName) → link p k → (e : Capability) × (U.hold p ≡ Some e) × (e.mark ≡ None) × (has_key e.children k ≡ true)
     pub fresh : (p k : KeyName) → link p k → M k → ⊥
@@ -271,7 +287,10 @@ module _ (own : KeyName → ℕ) (G G' : KeyName → KeyName → Type 0) (one : 
           let d = S.back k c n held marked in
           let x = R.marks k n (d.0, d.1, d.2) in
           (x.0, S.job (own k) n ∙ x.1, elim x.2 [ inl root ↦ inl root | inr under ↦ inr (under-on k (own k) n under) ]);
-      roots = λ a n x open_. elim (R.roots a n x (sym (S.job a n) ∙ open_)) [ inl loose ↦ absurd loose | inr (at, marked) ↦ inr (at, marked-on x.root n marked) ];
+      roots = λ a n x open_. elim (R.roots a n x (sym (S.job a n) ∙ open_)) [
+        | inl loose ↦ absurd loose
+        | inr (at, marked) ↦ inr (at, marked-on x.root n marked)
+      ];
       alone = λ a n x open_. R.alone a n x (sym (S.job a n) ∙ open_);
       counted = λ a b. let tokens = S.tokens a b in let count = S.count a b in let is = R.counted a b in omega (arith, tokens, count, is);
       single = (λ k a b. let same = S.asked k a b in let most = R.single.0 k a b in omega (arith, same, most), λ k a b care. absurd care);

@@ -1,19 +1,10 @@
--- The tokens of a delegation to another kernel: its DelegatePrepared and its Ack in flight, and the call that is ready to grant it ("What is lost is doomed" in docs/proof.md).
+-- The tokens of a delegation to another kernel: its DelegatePrepared and its Ack in flight, and the
+-- call that is ready to grant it ("What is lost is doomed" in docs/proof.md).
 use Rattle.std.specs.Prelude.{◌≡◌, ℕ, ◌+◌, ◌≤◌, List, Option, Some, None, if◌then◌else◌, sum_by}
-use Rattle.sem_key.specs.KeyName.{KeyName, key_eq}
-use Rattle.sem_msg.specs.declared.message.Message.{Message}
-use Rattle.sem_msg.specs.declared.message.Message.TheVariants.{DelegatePrepared, Ack}
-use Rattle.sem_msg.specs.declared.state.Parked.{Parked}
-use Rattle.sem_msg.specs.declared.state.Parked.TheVariants.{DelegateReady}
-use Rattle.sem_msg.specs.declared.entry.Entry.{Entry}
-use Rattle.sem_msg.specs.declared.state.Pending.{Pending}
-use Rattle.sem_msg.specs.Setup.{Setup}
-use Rattle.sem_msg.specs.Lookups.{owner_of}
-use Rattle.sem_machine.specs.Sides.{Side, pending}
-use Rattle.sem_machine.specs.Machine.{World, side}
-use Rattle.sem_machine.specs.Schedules.{world_after}
+use Rattle.sem_machine.specs.Prelude.{KeyName, key_eq, Message, DelegatePrepared, Ack, Parked, DelegateReady, Entry}
+use Rattle.sem_machine.specs.Prelude.{Pending, Setup, owner_of, Side, pending, World, side, world_after}
 
--- how many tokens there are of the delegation of a key
+-- how many tokens the delegation of a key has
 module _ (k0 : KeyName) where
   -- one, if it is that key
   abbrev pub of_key : KeyName → ℕ
@@ -45,10 +36,11 @@ module _ (k0 : KeyName) where
   abbrev pub of_world : World → ℕ
   of_world W = sum_by of_side W.sides + of_links W.links
 
--- each delegation has one token at most
+-- each delegation has at most one token
 abbrev pub one_token_each : Setup → List Entry → Type 0
 one_token_each T J = (k : KeyName) → of_world k (world_after T J) ≤ 1
 
--- and while it has one, the owner of its key has it pending
+-- while it has one, the owner of its key has it pending
 abbrev pub tokens_pend : Setup → List Entry → Type 0
-tokens_pend T J = (k : KeyName) → 1 ≤ of_world k (world_after T J) → (p : Pending) × (pending (side (world_after T J) (owner_of T k)) k ≡ Some p)
+tokens_pend T J = (k : KeyName) → 1 ≤ of_world k (world_after T J) →
+    (p : Pending) × (pending (side (world_after T J) (owner_of T k)) k ≡ Some p)

@@ -1,15 +1,10 @@
--- The tokens of an exchange: what is under way for a call that waits for the answer to an ask ("Idle worlds" in docs/proof.md).
+-- The tokens of an exchange: all that is under way for a call that waits for the answer to an ask
+-- ("Idle worlds" in docs/proof.md).
 use Rattle.std.specs.Prelude.{ℕ, ◌+◌, ◌==◌, Bool, ◌&&◌, Option, sum_by}
-use Rattle.sem_key.specs.KeyName.{KeyName, key_eq}
-use Rattle.sem_msg.specs.declared.message.Message.{Message}
-use Rattle.sem_msg.specs.declared.message.Message.TheVariants.{ObtainReq, ObtainOk, ObtainNo, DelegateReq, DelegatePrepared, DelegateNo, Ack, Orphan, RevokeReq, RevokeDone, Unlink}
-use Rattle.sem_msg.specs.declared.state.Ask.{Ask}
-use Rattle.sem_msg.specs.declared.state.Ask.TheVariants.{Obtain as ObtainAsk, Delegate as DelegateAsk}
-use Rattle.sem_msg.specs.declared.state.Parked.{Parked}
-use Rattle.sem_msg.specs.Rows.{VpeRow}
-use Rattle.sem_machine.specs.Asks.{is_obtain_wait, is_delegate_wait}
-use Rattle.sem_machine.specs.Machine.{World}
-use Rattle.sem_machine.specs.Sides.{Side}
+use Rattle.sem_machine.specs.Prelude.{KeyName, key_eq, Message, ObtainReq, ObtainOk, ObtainNo, DelegateReq}
+use Rattle.sem_machine.specs.Prelude.{DelegatePrepared, DelegateNo, Ack, Orphan, RevokeReq, RevokeDone, Unlink, Ask}
+use Rattle.sem_machine.specs.Prelude.{ObtainAsk, DelegateAsk, Parked, VpeRow, is_obtain_wait, World, Side}
+use Rattle.sem_machine.specs.Asks.{is_delegate_wait}
 use Rattle.sem_revoke.specs.Scales.{Scale, one_if, of_world}
 
 -- an ask of a VPE for the place of that number, or a delegate of that capability
@@ -22,7 +17,7 @@ abbrev pub waiter : Exchange → ℕ
 waiter (Obtaining v n) = v
 waiter (Delegating p) = p.vpe
 
--- whether a call in that state waits for it
+-- whether a call in that state waits for the exchange
 abbrev pub is_waiting : Exchange → Option Parked → Bool
 is_waiting (Obtaining v n) p = is_obtain_wait n p
 is_waiting (Delegating q) p = is_delegate_wait q p

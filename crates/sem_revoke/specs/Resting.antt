@@ -1,20 +1,12 @@
--- What an idle world is like, and words of the facts from which that follows ("Idle worlds" in docs/proof.md).
+-- What an idle world is like, and words for the facts that this follows from ("Idle worlds" in
+-- docs/proof.md).
 use Rattle.std.specs.Prelude.{◌≡◌, ◌≢◌, ℕ, true, ◌⊎◌, ◌↔◌, List, [], Contains, Option, Some, None}
-use Rattle.sem_key.specs.KeyName.{KeyName}
-use Rattle.sem_key.specs.Capability.{Capability}
-use Rattle.sem_msg.specs.declared.entry.Entry.{Entry}
-use Rattle.sem_msg.specs.declared.message.Message.{Message}
-use Rattle.sem_msg.specs.declared.state.Parked.{Parked}
-use Rattle.sem_msg.specs.declared.state.Parked.TheVariants.{ObtainWait, ObtainReady, ObtainCancelled, DelegateWait, DelegateReady, RevokeWait, Ready}
-use Rattle.sem_msg.specs.declared.state.Up.{Up}
-use Rattle.sem_msg.specs.declared.state.Up.TheVariants.{Local, Remote}
-use Rattle.sem_msg.specs.Rows.{JobRow}
-use Rattle.sem_msg.specs.Setup.{Setup}
-use Rattle.sem_machine.specs.Sides.{row, parked, pending, job}
+use Rattle.sem_machine.specs.Prelude.{KeyName, Capability, Entry, Message, Parked, ObtainWait, ObtainReady}
+use Rattle.sem_machine.specs.Prelude.{ObtainCancelled, DelegateWait, DelegateReady, RevokeWait, Ready, Up, Local}
+use Rattle.sem_machine.specs.Prelude.{Remote, JobRow, Setup, row, parked, pending, job, World, side, grants, forest}
+use Rattle.sem_machine.specs.Prelude.{cut_from, has_ended, InFlight, HoldsCap}
 use Rattle.sem_machine.specs.Resumes.{can_resume}
-use Rattle.sem_machine.specs.Machine.{World, side}
-use Rattle.sem_machine.specs.Journals.{grants, forest, cut_from, has_ended}
-use Rattle.sem_machine.specs.Living.{InFlight, HoldsCap, IsHeld}
+use Rattle.sem_machine.specs.Living.{IsHeld}
 
 -- the key was cut off: a revoke began at it, a clear at its parent, or its VPE ended
 abbrev pub IsCutOff : List Entry → KeyName → Type 0
@@ -30,7 +22,7 @@ IsExchange (DelegateReady parent key) = ⊥
 IsExchange (RevokeWait job) = ⊥
 IsExchange (Ready code) = ⊥
 
--- something that an idle world has not: a message, an ask, or a parked call that can go on
+-- something that an idle world lacks: a message, an ask, or a parked call that can go on
 pub data IsStirring (W : World) : Type 0 where
   by_message : (m : Message) → InFlight W m → IsStirring W
   by_ask : (i v : ℕ) → (row (side W i) v).asks ≢ [] → IsStirring W
@@ -50,7 +42,7 @@ pub record HasMarkedParent (J : List Entry) (W : World) (i j : ℕ) (k : KeyName
   pub held : HoldsCap W i parent capability
   pub marked : capability.mark ≡ Some j
 
--- a job is waited for by one that is open below it
+-- a job below it is open, and names it as the one that waits
 pub record HasJobBelow (W : World) (i j : ℕ) : Type 0 where
   pub kernel : ℕ
   pub id : ℕ
@@ -64,5 +56,6 @@ pub record IsAtRest (T : Setup) (J : List Entry) (W : World) : Type 0 where
   pub no_jobs : (i j : ℕ) → job (side W i) j ≡ None
   pub no_marks : (i : ℕ) (k : KeyName) (c : Capability) → HoldsCap W i k c → c.mark ≡ None
   pub no_pendings : (i : ℕ) (k : KeyName) → pending (side W i) k ≡ None
-  pub links : (i : ℕ) (p k : KeyName) (c : Capability) → HoldsCap W i p c → Contains c.children k → (j : ℕ) × (d : Capability) × HoldsCap W j k d × (d.parent ≡ Some p)
+  pub links : (i : ℕ) (p k : KeyName) (c : Capability) → HoldsCap W i p c → Contains c.children k →
+      (j : ℕ) × (d : Capability) × HoldsCap W j k d × (d.parent ≡ Some p)
   pub held : (k : KeyName) → IsHeld W k ↔ Contains (forest T J) k

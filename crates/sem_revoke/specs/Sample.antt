@@ -1,14 +1,8 @@
--- A schedule of two kernels: an obtain across them, a bound endpoint, a revoke that is answered, an obtain again, and a clear that is answered. The law of safety speaks of it.
+-- A schedule of two kernels: an obtain across them, a bound endpoint, a revoke with its answer,
+-- another obtain, and a clear with its answer. The law of safety covers it.
 use Rattle.std.specs.Prelude.{ℕ, List, [], ◌∷◌, ◌++◌}
-use Rattle.sem_key.specs.declared.key.Kind.TheVariants.{Mem as MemKind}
-use Rattle.sem_key.specs.KeyName.{KeyName}
-use Rattle.sem_msg.specs.declared.call.Call.{Call}
-use Rattle.sem_msg.specs.declared.call.Call.TheVariants.{Derive, Obtain, Revoke, Clear, Bind}
-use Rattle.sem_msg.specs.declared.event.Act.TheVariants.{Call as Calls, Fetch, Handle, Upcall, Resume, Flush}
-use Rattle.sem_msg.specs.declared.event.Event.{Event}
-use Rattle.sem_msg.specs.declared.entry.Entry.{Entry}
-use Rattle.sem_msg.specs.Setup.{Setup}
-use Rattle.sem_machine.specs.Machine.{event}
+use Rattle.sem_machine.specs.Prelude.{MemKind, KeyName, Call, Derive, Obtain, Revoke, Clear, Bind, Calls, Fetch}
+use Rattle.sem_machine.specs.Prelude.{Handle, Upcall, Resume, Flush, Event, Entry, Setup, event}
 use Rattle.sem_safety.specs.Walks.{journal_of, pair}
 
 -- VPE 0 derives a part of its memory, revokes it, and clears the memory
@@ -22,7 +16,7 @@ obtainer_calls = Obtain 0 0 1 ∷ Bind 0 0 ∷ Obtain 1 0 0 ∷ []
 unfoldable pub sample : Setup
 sample = pair owner_calls obtainer_calls []
 
--- the memory, and the part that is derived of it
+-- the memory, and the part derived from it
 abbrev pub memory_key : KeyName
 memory_key = record { pe = 0; vpe = 0; kind = MemKind; number = 0 }
 
@@ -37,17 +31,18 @@ obtained_key n = record { pe = 1; vpe = 1; kind = MemKind; number = n }
 abbrev pub asked : List Event
 asked = event 1 (Calls 1) ∷ event 1 (Flush 0) ∷ event 0 (Fetch 1) ∷ event 0 Handle ∷ event 0 (Upcall 0) ∷ []
 
--- what was given arrives, and is installed
+-- the child arrives, and is installed
 abbrev pub installed : List Event
 installed = event 0 (Flush 1) ∷ event 1 (Fetch 0) ∷ event 1 Handle ∷ event 1 (Resume 1) ∷ []
 
--- VPE 0 revokes or clears: kernel 1 is asked to, it does, and VPE 0 has its answer
+-- VPE 0 revokes or clears: kernel 1 gets the request, does it, and VPE 0 has its answer
 abbrev pub recalled : List Event
 recalled =
     event 0 (Calls 0) ∷ event 0 (Flush 1) ∷ event 1 (Fetch 0) ∷ event 1 Handle
     ∷ event 1 (Flush 0) ∷ event 0 (Fetch 1) ∷ event 0 Handle ∷ event 0 (Resume 0) ∷ []
 
--- the journal up to the grant of the part, to the bind, to the answer of the revoke, and to that of the clear
+-- the journal up to the grant of the part, to the bind, to the answer of the revoke, and to that of
+-- the clear
 abbrev pub to_grant : List Event
 to_grant = event 0 (Calls 0) ∷ asked
 

@@ -1,6 +1,7 @@
-//! What is revoked is gone everywhere, after every schedule of every setup: revokes and clears follow the links across kernels,
-//! jobs answer for what they mark, and who revokes waits until it is gone. Live keys grant no more than their parents, and no
-//! key is lost but for a cause. Each law is the contract of a function that does nothing.
+//! What is revoked is gone everywhere, after every schedule of every setup. Revokes and clears
+//! follow the links across kernels, jobs answer for what they mark, and a revoking call waits until
+//! all of it is gone. Live keys grant no more than their parents, and every lost key has a cause.
+//! Each law is the contract of a function that does nothing.
 #![tactic(auto)]
 
 pub mod laws;

@@ -3,62 +3,77 @@ ghost use Rattle.sem_msg.specs.declared.entry.Entry.{Entry};
 ghost use Rattle.sem_msg.specs.Setup.{Setup, IsSetup};
 ghost use Rattle.sem_machine.specs.Schedules.{IsSchedule, world_after};
 ghost use Rattle.sem_machine.specs.Living.{IsIdle, IsQuiet, IsComplete};
-ghost use Rattle.sem_revoke.specs.Rest.{jobs_owed, exchanges_owed, pendings_owed, parents_granted, links_lead, cuts_answered, holds_the_forest, dead_are_marked, WaitsForNothing};
+ghost use Rattle.sem_revoke.specs.Rest.{jobs_owed, exchanges_owed, pendings_owed, parents_granted};
+ghost use Rattle.sem_revoke.specs.Rest.{links_lead, cuts_answered, holds_the_forest};
+ghost use Rattle.sem_revoke.specs.Rest.{dead_are_marked, WaitsForNothing};
 
-/// After every schedule of every setup an open job has something that stirs, or an open job below it that names it as the one to
-/// tell: a job counts the tokens that are out, and no token of it is lost.
+/// After every schedule of every setup an open job has something that stirs, or an open job below
+/// it that names it as the one to tell. A job counts its tokens that are out, and none of them is
+/// lost.
 pub fn jobs_are_owed()
     ensures owed { (T : Setup) → IsSetup T → (J : List Entry) → IsSchedule T J → jobs_owed T J }
 {}
 
-/// After every schedule of every setup a call that waits for the answer to an ask has something that stirs: its ask in a queue, or
-/// a message of it on its way. No such message is a stray, and no queue is full.
+/// After every schedule of every setup a call that waits for the answer to an ask has something
+/// that stirs: its ask in a queue, or a message of it on its way. No such message is a stray, and
+/// no queue is full.
 pub fn exchanges_are_owed()
-    ensures owed { (T : Setup) → IsSetup T → (J : List Entry) → IsSchedule T J → exchanges_owed T J }
+    ensures owed { (T : Setup) → IsSetup T → (J : List Entry) → IsSchedule T J →
+        exchanges_owed T J }
 {}
 
-/// After every schedule of every setup a pending delegation has its `DelegatePrepared` or its `Ack` on its way, or the call that is
-/// ready to grant it. A held capability has the parent that its grant tells.
+/// After every schedule of every setup a pending delegation has its `DelegatePrepared` or its `Ack`
+/// on its way, or the call that is ready to grant it. A held capability has the parent that its
+/// grant tells.
 pub fn delegations_are_owed()
     ensures owed { (T : Setup) → IsSetup T → (J : List Entry) → IsSchedule T J → pendings_owed T J }
-    ensures parents { (T : Setup) → IsSetup T → (J : List Entry) → IsSchedule T J → parents_granted T J }
+    ensures parents { (T : Setup) → IsSetup T → (J : List Entry) → IsSchedule T J →
+        parents_granted T J }
 {}
 
-/// After every schedule of every setup the link of an unmarked capability leads to a live key, or an Orphan or an Unlink of the two
-/// is in flight: what takes a key away takes the link to it too, or has it taken.
+/// After every schedule of every setup a child link of an unmarked capability leads to a live key,
+/// or an Orphan or an Unlink of the two is in flight. So a lost key also loses the link to it, at
+/// once or by a message.
 pub fn unmarked_links_lead()
     ensures lead { (T : Setup) → IsSetup T → (J : List Entry) → IsSchedule T J → links_lead T J }
 {}
 
-/// In an idle world after a schedule, of every setup, nobody waits for anything: no call is parked, no job is open, nothing is
-/// marked, and no delegation is pending.
+/// In an idle world after a schedule of any setup no call waits and nothing is left: no call is
+/// parked, no job is open, nothing is marked, and no delegation is pending.
 pub fn idle_worlds_wait_for_nothing()
-    ensures idle { (T : Setup) → IsSetup T → (J : List Entry) → IsSchedule T J → IsIdle (world_after T J) → WaitsForNothing (world_after T J) }
+    ensures idle { (T : Setup) → IsSetup T → (J : List Entry) → IsSchedule T J →
+        IsIdle (world_after T J) → WaitsForNothing (world_after T J) }
 {}
 
-/// A world after a schedule, of every setup, in which no event is enabled is idle.
+/// If no event is enabled in a world after a schedule of any setup, the world is idle.
 pub fn quiet_worlds_are_idle()
-    ensures idle { (T : Setup) → IsSetup T → (J : List Entry) → IsSchedule T J → IsQuiet T (world_after T J) → IsIdle (world_after T J) }
+    ensures idle { (T : Setup) → IsSetup T → (J : List Entry) → IsSchedule T J →
+        IsQuiet T (world_after T J) → IsIdle (world_after T J) }
 {}
 
-/// A schedule of any setup after which no event is enabled is complete: each call of a VPE that is alive has its reply.
+/// If no event is enabled after a schedule of any setup, the schedule is complete: each call of a
+/// VPE that is alive has its reply.
 pub fn quiet_schedules_are_complete()
-    ensures complete { (T : Setup) → IsSetup T → (J : List Entry) → IsSchedule T J → IsQuiet T (world_after T J) → IsComplete T J }
+    ensures complete { (T : Setup) → IsSetup T → (J : List Entry) → IsSchedule T J →
+        IsQuiet T (world_after T J) → IsComplete T J }
 {}
 
-/// After every schedule of every setup what a revoke or a clear cut off was answered with success, or its call is not answered yet:
-/// a call that cuts off is answered with nothing but success.
+/// After every schedule of every setup, the revoke or the clear that cut off a key succeeded, or
+/// has no answer yet: success is the only answer to a call that cuts off.
 pub fn cuts_are_answered()
-    ensures answered { (T : Setup) → IsSetup T → (J : List Entry) → IsSchedule T J → cuts_answered J }
+    ensures answered { (T : Setup) → IsSetup T → (J : List Entry) → IsSchedule T J →
+        cuts_answered J }
 {}
 
-/// After every schedule of every setup what a dead VPE still holds is marked by a job: its end marks all of it, and it gets nothing
-/// more.
+/// After every schedule of every setup a job has marked all that a dead VPE still holds: the end of
+/// the VPE marks all of it, and the VPE gets nothing more.
 pub fn dead_vpes_lose_what_they_hold()
-    ensures marked { (T : Setup) → IsSetup T → (J : List Entry) → IsSchedule T J → dead_are_marked T J }
+    ensures marked { (T : Setup) → IsSetup T → (J : List Entry) → IsSchedule T J →
+        dead_are_marked T J }
 {}
 
-/// In an idle world after a schedule, of every setup, the held keys are exactly the forest.
+/// In an idle world after a schedule of any setup, the held keys are exactly the forest.
 pub fn idle_worlds_hold_the_forest()
-    ensures forest { (T : Setup) → IsSetup T → (J : List Entry) → IsSchedule T J → IsIdle (world_after T J) → holds_the_forest T J }
+    ensures forest { (T : Setup) → IsSetup T → (J : List Entry) → IsSchedule T J →
+        IsIdle (world_after T J) → holds_the_forest T J }
 {}

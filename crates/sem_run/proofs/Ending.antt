@@ -40,7 +40,8 @@ module _ (g : Given) (J : List Entry) (text : List ℕ) where
 
   module _ (seed : ℕ) (T : Setup) (trace : ReadsTrace g T) (quiet : IsQuietlyRead g) (runs : IsSchedule T J) where
     pub run-ends : (status : Status) → Asks g (Run seed) → EndsRun T J text status → (status ≡ Done → J ≡ seeded T seed) → WouldEnd g J text status
-    run-ends Done asked ends made = inl (record { setup = T; seed = seed; run = record { command = asked; trace = trace; seeded = made refl }; complete = ends.0; told = ends.1 })
+    run-ends Done asked ends made =
+        inl (record { setup = T; seed = seed; run = record { command = asked; trace = trace; seeded = made refl }; complete = ends.0; told = ends.1 })
     run-ends Usage asked ends made = absurd ends
     run-ends TraceRefused asked ends made = absurd ends
     run-ends ReadFault asked ends made = absurd ends
@@ -74,7 +75,12 @@ module _ (g : Given) (J : List Entry) (text : List ℕ) where
     files-end TraceRefused ends made = absurd ends
     files-end ReadFault ends made = absurd ends
     files-end WriteFault ends made = absurd ends
-    files-end Memory ends made = record { part = inr (T, is_compiled seed service.files asked service.read service.made service.valid, runs); read = (service.read.text, service.read.taken); quiet = quiet; told = ends }
+    files-end Memory ends made = record {
+      part = inr (T, is_compiled seed service.files asked service.read service.made service.valid, runs);
+      read = (service.read.text, service.read.taken);
+      quiet = quiet;
+      told = ends;
+    }
     files-end ReportRefused ends made = absurd ends
 
   -- a text that is refused
@@ -91,14 +97,28 @@ module _ (g : Given) (J : List Entry) (text : List ℕ) where
     module _ (seed : ℕ) (fault : TraceFault) where
       -- it is no trace
       pub fault-ends : AsksRun g seed → IsRefused g fault → (status : Status) → IsRefusalTold (refused_line fault) text status → WouldEnd g J text status
-      fault-ends asked refused = text-ends (refused_line fault) (λ told. inl (record { seed = seed; command = asked; fault = fault; refused = refused; read = read; quiet = quiet; no_journal = empty; told = told }))
+      fault-ends asked refused =
+          text-ends (refused_line fault) (λ told. inl (record {
+            seed = seed;
+            command = asked;
+            fault = fault;
+            refused = refused;
+            read = read;
+            quiet = quiet;
+            no_journal = empty;
+            told = told;
+          }))
 
       -- it is no text of file commands
-      pub files-fault-ends : Asks g (Files seed) → AreRefused g fault → (status : Status) → IsRefusalTold (files_refused_line fault) text status → WouldEnd g J text status
-      files-fault-ends asked refused = text-ends (files_refused_line fault) (λ told. inr (record { seed = seed; command = asked; fault = fault; refused = refused; read = read; quiet = quiet; no_journal = empty; told = told }))
+      pub files-fault-ends : Asks g (Files seed) → AreRefused g fault → (status : Status) → IsRefusalTold (files_refused_line fault) text status →
+          WouldEnd g J text status
+      files-fault-ends asked refused =
+          text-ends (files_refused_line fault)
+          (λ told. inr (record { seed = seed; command = asked; fault = fault; refused = refused; read = read; quiet = quiet; no_journal = empty; told = told }))
 
   -- a load: the laws of complete schedules say the rest
-  module _ (seed vpes calls : ℕ) (T : Setup) (asked : Asks g (Soak seed vpes calls)) (is : T ≡ generated seed vpes calls) (valid : IsSetup T) (untouched : IsUntouched g) where
+  module _ (seed vpes calls : ℕ) (T : Setup) (asked : Asks g (Soak seed vpes calls)) (is : T ≡ generated seed vpes calls) (valid : IsSetup T)
+      (untouched : IsUntouched g) where
     pub soak-ends : IsComplete T J → text ≡ summary vpes (vpes * calls) (length (replies J)) (stray_count T J (world_after T J).sides) → WouldEnd g J text Done
     soak-ends complete told = inr (inr (inr (inr (inl (record {
       setup = T;
@@ -110,14 +130,20 @@ module _ (g : Given) (J : List Entry) (text : List ℕ) where
       valid = valid;
       untouched = untouched;
       complete = complete;
-      all_answered = all-answered T valid (subst (λ U. U.kills ≡ []) (sym is) (none-killed seed vpes calls)) (subst (λ (U : Setup). (d : VpeDecl) → Contains U.vpes d → Contains d.calls Exit → ⊥) (sym is) (none-exits seed vpes calls)) J complete ∙ (ap call_count is ∙ calls-counted seed vpes calls);
+      all_answered = all-answered T valid (subst (λ U. U.kills ≡ []) (sym is) (none-killed seed vpes calls)) (subst (λ (U : Setup). (d : VpeDecl) →
+          Contains U.vpes d → Contains d.calls Exit → ⊥) (sym is) (none-exits seed vpes calls)) J complete ∙ (ap call_count is ∙ calls-counted seed vpes calls);
       none_stray = none-stray T valid J complete;
       told = told;
     })))))
 
     -- memory was lacking on the way
     pub soak-part : IsSchedule T J → text ≡ [] → WouldEnd g J text Memory
-    soak-part runs told = record { part = inr (T, is_generated seed vpes calls asked is valid, runs); read = untouched-part g untouched; quiet = untouched.quiet; told = told }
+    soak-part runs told = record {
+      part = inr (T, is_generated seed vpes calls asked is valid, runs);
+      read = untouched-part g untouched;
+      quiet = untouched.quiet;
+      told = told;
+    }
 
     pub load-ends : IsComplete T J → (status : Status) → IsLoadTold T J vpes (vpes * calls) text status → WouldEnd g J text status
     load-ends complete Done told = soak-ends complete told
@@ -133,5 +159,6 @@ module _ (g : Given) (J : List Entry) (text : List ℕ) where
   nothing-done untouched empty told = record { part = inl empty; read = untouched-part g untouched; quiet = untouched.quiet; told = told }
 
 -- a response for lack of memory
-pub memory-ends : (g : Given) (r : Response) (J : List Entry) → r.status ≡ Memory → r.text.items ≡ [] → r.journal.entries ≡ J → WouldEnd g J [] Memory → WouldEnd g r.journal.entries r.text.items r.status
+pub memory-ends : (g : Given) (r : Response) (J : List Entry) → r.status ≡ Memory → r.text.items ≡ [] → r.journal.entries ≡ J → WouldEnd g J [] Memory →
+    WouldEnd g r.journal.entries r.text.items r.status
 memory-ends g r J status text journal ends = rw (status, text, journal) ends

@@ -1,5 +1,6 @@
 -- What the bytes that were read tell of the input. One byte more is read than a text may have.
-use Rattle.std.proofs.Common.{◌≡◌, ℕ, ◌+◌, ◌<◌, ◌≤◌, false, List, [], ◌∷◌, ◌++◌, length, take, Option, Some, None, IfSome, refl, sym, ◌∙◌, ap, subst, arith, inl, inr}
+use Rattle.std.proofs.Common.{◌≡◌, ℕ, ◌+◌, ◌<◌, ◌≤◌, false, List, [], ◌∷◌, ◌++◌, length, take, Option, Some, None, IfSome, refl, sym, ◌∙◌, ap, subst, arith}
+use Rattle.std.proofs.Common.{inl, inr}
 use Rattle.std.specs.Prelude.{nat_lt}
 use Rattle.std.proofs.lemmas.Bool.{cases_lt, cond-true, lt-ltb, false≢true}
 use Rattle.std.proofs.lemmas.List.{length-append, take_all, length-take}
@@ -91,18 +92,23 @@ module _ (limit : ℕ) where
 
 module _ (why : List ℕ → Option TraceFault) (too-long : (bytes : List ℕ) → 8388608 < length bytes → why bytes ≡ Some long_fault) where
   -- the text is refused for what the reader told
-  text-refused : (left : Option (List ℕ)) (read given : List ℕ) (fault : TraceFault) (e : TraceError) → IsRead 8388608 left read → given ≡ read → IsWhy (why given) e → e ≡ RefusedText fault → IfSome left (λ bytes. why bytes ≡ Some fault)
+  text-refused : (left : Option (List ℕ)) (read given : List ℕ) (fault : TraceFault) (e : TraceError) → IsRead 8388608 left read → given ≡ read →
+      IsWhy (why given) e → e ≡ RefusedText fault → IfSome left (λ bytes. why bytes ≡ Some fault)
   text-refused None read given fault e is same refused told = tt
-  text-refused (Some bytes) read given fault e is same refused told = same-refusal 8388608 why too-long bytes read is ∙ (ap why (sym same) ∙ subst (IsWhy (why given)) told refused)
+  text-refused (Some bytes) read given fault e is same refused told = same-refusal 8388608 why too-long bytes read is
+      ∙ (ap why (sym same) ∙ subst (IsWhy (why given)) told refused)
 
-pub reads-refused : (left : Option (List ℕ)) (read given : List ℕ) (fault : TraceFault) (e : TraceError) → IsRead 8388608 left read → given ≡ read → IsWhy (refusal given) e → e ≡ RefusedText fault → IfSome left (λ bytes. refusal bytes ≡ Some fault)
+pub reads-refused : (left : Option (List ℕ)) (read given : List ℕ) (fault : TraceFault) (e : TraceError) → IsRead 8388608 left read → given ≡ read →
+    IsWhy (refusal given) e → e ≡ RefusedText fault → IfSome left (λ bytes. refusal bytes ≡ Some fault)
 reads-refused = text-refused refusal long-trace
 
-pub files-refused : (left : Option (List ℕ)) (read given : List ℕ) (fault : TraceFault) (e : TraceError) → IsRead 8388608 left read → given ≡ read → IsWhy (files_refusal given) e → e ≡ RefusedText fault → IfSome left (λ bytes. files_refusal bytes ≡ Some fault)
+pub files-refused : (left : Option (List ℕ)) (read given : List ℕ) (fault : TraceFault) (e : TraceError) → IsRead 8388608 left read → given ≡ read →
+    IsWhy (files_refusal given) e → e ≡ RefusedText fault → IfSome left (λ bytes. files_refusal bytes ≡ Some fault)
 files-refused = text-refused files_refusal long-files
 
 -- where it stands for a setup, it was read to its end
-pub reads-trace : (g : Given) (read : List ℕ) → IsRead 8388608 g.before read → (T : Setup) → Takes g.before g.after read → Stands read T → IsSetup T → ReadsTrace g T
+pub reads-trace : (g : Given) (read : List ℕ) → IsRead 8388608 g.before read → (T : Setup) → Takes g.before g.after read → Stands read T → IsSetup T →
+    ReadsTrace g T
 reads-trace g read is T taken stands valid = record {
   valid = valid;
   text = read;
@@ -112,7 +118,8 @@ reads-trace g read is T taken stands valid = record {
 }
 
 -- where it stands for file commands, it was read to its end
-pub reads-files : (g : Given) (read : List ℕ) → IsRead 8388608 g.before read → (F : Files) → Takes g.before g.after read → FilesStand read F → AreFiles F → ReadsFiles g F
+pub reads-files : (g : Given) (read : List ℕ) → IsRead 8388608 g.before read → (F : Files) → Takes g.before g.after read → FilesStand read F → AreFiles F →
+    ReadsFiles g F
 reads-files g read is F taken stands valid = record {
   valid = valid;
   text = read;
@@ -136,7 +143,8 @@ module _ (bytes read : List ℕ) (is : read ≡ take (134217728 + 1) bytes) wher
   same-verdict (NotOver journal next) found = subst (λ x. IsVerdict x (NotOver journal next)) (told-whole found.1.accepted) found
   same-verdict (BadAudit line due) found = subst (λ x. IsVerdict x (BadAudit line due)) (told-whole found.2.tells.accepted) found
 
-input-verdict : (left : Option (List ℕ)) (read : List ℕ) (verdict : Verdict) → IsRead 134217728 left read → IsVerdict read verdict → (bytes : List ℕ) × IfSome left (λ all. all ≡ bytes) × IsVerdict bytes verdict
+input-verdict : (left : Option (List ℕ)) (read : List ℕ) (verdict : Verdict) → IsRead 134217728 left read → IsVerdict read verdict →
+    (bytes : List ℕ) × IfSome left (λ all. all ≡ bytes) × IsVerdict bytes verdict
 input-verdict None read verdict is found = (read, tt, found)
 input-verdict (Some bytes) read verdict is found = (bytes, refl, same-verdict bytes read is verdict found)
 
@@ -157,7 +165,8 @@ if-accepted P T J (NotOver journal next) is so = tt
 if-accepted P T J (BadAudit line due) is so = tt
 
 -- what is not accepted is told by its line
-refused-line : (question : Question) (verdict : Verdict) (text : List ℕ) → is_accepted verdict ≡ false → Tells question verdict text → text ≡ verdict_line verdict
+refused-line : (question : Question) (verdict : Verdict) (text : List ℕ) → is_accepted verdict ≡ false → Tells question verdict text →
+    text ≡ verdict_line verdict
 refused-line question (Accepted T journal due) text refused told = absurd (false≢true (sym refused))
 refused-line question (BadLine fault) text refused told = told
 refused-line question (BadEntry journal n entered replayed) text refused told = told
@@ -165,7 +174,8 @@ refused-line question (NotOver journal next) text refused told = told
 refused-line question (BadAudit line due) text refused told = told
 
 -- how a question about what was read ends
-module _ (g : Given) (J : List Entry) (text read : List ℕ) (question : Question) (asked : Asks g (Ask question)) (is : IsRead 134217728 g.before read) (taken : Takes g.before g.after read) (quiet : IsQuietlyRead g) (empty : J ≡ []) where
+module _ (g : Given) (J : List Entry) (text read : List ℕ) (question : Question) (asked : Asks g (Ask question)) (is : IsRead 134217728 g.before read)
+    (taken : Takes g.before g.after read) (quiet : IsQuietlyRead g) (empty : J ≡ []) where
   accepted-ends : (verdict : Verdict) → IsVerdict read verdict → IsVerdictTold question verdict text Done → WouldEnd g J text Done
   accepted-ends (Accepted T journal due) found told = inr (inl (record {
     question = question;

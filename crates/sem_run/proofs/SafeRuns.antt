@@ -29,11 +29,15 @@ unfolding drain IsRun
 drain-run zero T W g = tt
 drain-run (suc n) T W g = by_pick (picked (pcg32 g).0 (enabled T W)) refl (λ e. drain-run n T (after T W e) (pcg32 g).1)
   where
-    by_pick : (o : Option Event) → picked (pcg32 g).0 (enabled T W) ≡ o → ((e : Event) → IsRun T (after T W e) (drain n T (after T W e) (pcg32 g).1)) → IsRun T W (option_map_or (λ e. entry_of T W e ∷ drain n T (after T W e) (pcg32 g).1) o [])
+    by_pick : (o : Option Event) → picked (pcg32 g).0 (enabled T W) ≡ o → ((e : Event) → IsRun T (after T W e) (drain n T (after T W e) (pcg32 g).1)) →
+        IsRun T W (option_map_or (λ e. entry_of T W e ∷ drain n T (after T W e) (pcg32 g).1) o [])
     by_pick None none rest = tt
     by_pick (Some e) some rest =
-        let event : (entry_of T W e).event ≡ e = entry_of-event T W e in
-        (subst (λ (x : Event). is_enabled T W x ≡ true) (sym event) (picked-enabled T W (pcg32 g).0 e some), ap (entry_of T W) (sym event), subst (λ (x : Event). IsRun T (after T W x) (drain n T (after T W e) (pcg32 g).1)) (sym event) (rest e))
+        let event : (entry_of T W e).event ≡ e = entry_of-event T W e in (
+          subst (λ (x : Event). is_enabled T W x ≡ true) (sym event) (picked-enabled T W (pcg32 g).0 e some),
+          ap (entry_of T W) (sym event),
+          subst (λ (x : Event). IsRun T (after T W x) (drain n T (after T W e) (pcg32 g).1)) (sym event) (rest e),
+        )
 
 seeded-schedule : (T : Setup) (seed : ℕ) → IsSchedule T (seeded T seed)
 seeded-schedule T seed = drain-run (entry_limit T - length {A = Entry} []) T (start T) (generator_of seed)

@@ -52,7 +52,8 @@ module _ (g : Given) (J : List Entry) (text : List ℕ) where
   usage ReportRefused ends none = absurd (none-some (Ask ends.question) (sym none ∙ ends.command))
 
   -- a command that reads nothing
-  pub unread : (command : Command) → reads_input command ≡ false → Asks g command → (status : Status) → WouldEnd g J text status → (status ≡ Done) ⊎ ((status ≡ WriteFault) ⊎ (status ≡ Memory))
+  pub unread : (command : Command) → reads_input command ≡ false → Asks g command → (status : Status) → WouldEnd g J text status →
+      (status ≡ Done) ⊎ ((status ≡ WriteFault) ⊎ (status ≡ Memory))
   unread command lacks asked Done ends = inl refl
   unread command lacks asked Usage ends = absurd (none-some command (sym ends.no_command ∙ asked))
   unread command lacks asked TraceRefused (inr ends) = absurd (not-both g command (Files ends.seed) reads_input asked ends.command lacks refl)
@@ -76,12 +77,16 @@ module _ (g : Given) (J : List Entry) (text : List ℕ) where
   refuses_traces Done (inl ends) seed bytes fault asked left refused = absurd (stands ends.setup ends.run.trace)
     where
       stands : (T : Setup) → ReadsTrace g T → ⊥
-      stands T trace = none-some fault (sym trace.stands.accepted ∙ (ap refusal (whole g.before g.after trace.text bytes trace.taken trace.to_end left) ∙ refused))
+      stands T trace = none-some fault (sym trace.stands.accepted ∙ (ap refusal (whole g.before g.after trace.text bytes trace.taken trace.to_end left)
+          ∙ refused))
   refuses_traces Done (inr (inl ends)) seed bytes fault asked left refused = absurd (no-run g (Ask ends.question) ends.command refl seed asked)
-  refuses_traces Done (inr (inr (inl ends))) seed bytes fault asked left refused = absurd (no-run g (Generate ends.seed ends.vpes ends.calls) ends.command refl seed asked)
+  refuses_traces Done (inr (inr (inl ends))) seed bytes fault asked left refused =
+      absurd (no-run g (Generate ends.seed ends.vpes ends.calls) ends.command refl seed asked)
   refuses_traces Done (inr (inr (inr (inl ends)))) seed bytes fault asked left refused =
-      absurd (none-some fault (sym ends.trace.stands.accepted ∙ (ap refusal (whole g.before g.after ends.trace.text bytes ends.trace.taken ends.trace.to_end left) ∙ refused)))
-  refuses_traces Done (inr (inr (inr (inr (inl ends))))) seed bytes fault asked left refused = absurd (no-load ends.seed ends.vpes ends.calls seed ends.command asked)
+      absurd (none-some fault (sym ends.trace.stands.accepted
+      ∙ (ap refusal (whole g.before g.after ends.trace.text bytes ends.trace.taken ends.trace.to_end left) ∙ refused)))
+  refuses_traces Done (inr (inr (inr (inr (inl ends))))) seed bytes fault asked left refused =
+      absurd (no-load ends.seed ends.vpes ends.calls seed ends.command asked)
   refuses_traces Done (inr (inr (inr (inr (inr ends))))) seed bytes fault asked left refused = absurd (no-files g seed ends.seed asked ends.command)
   refuses_traces Usage ends seed bytes fault asked left refused = absurd (no-words seed asked)
     where
@@ -115,11 +120,14 @@ module _ (g : Given) (J : List Entry) (text : List ℕ) where
   pub refuses_files : (status : Status) → WouldEnd g J text status → RefusesFiles g status
   refuses_files Done (inl ends) seed bytes fault asked left refused = absurd (no-files g ends.seed seed (inl ends.run.command) asked)
   refuses_files Done (inr (inl ends)) seed bytes fault asked left refused = absurd (not-run g (Ask ends.question) (Files seed) ends.command refl asked refl)
-  refuses_files Done (inr (inr (inl ends))) seed bytes fault asked left refused = absurd (not-run g (Generate ends.seed ends.vpes ends.calls) (Files seed) ends.command refl asked refl)
+  refuses_files Done (inr (inr (inl ends))) seed bytes fault asked left refused =
+      absurd (not-run g (Generate ends.seed ends.vpes ends.calls) (Files seed) ends.command refl asked refl)
   refuses_files Done (inr (inr (inr (inl ends)))) seed bytes fault asked left refused = absurd (no-files g ends.seed seed (inr ends.command) asked)
-  refuses_files Done (inr (inr (inr (inr (inl ends))))) seed bytes fault asked left refused = absurd (not-both g (Soak ends.seed ends.vpes ends.calls) (Files seed) is_files ends.command asked refl refl)
+  refuses_files Done (inr (inr (inr (inr (inl ends))))) seed bytes fault asked left refused =
+      absurd (not-both g (Soak ends.seed ends.vpes ends.calls) (Files seed) is_files ends.command asked refl refl)
   refuses_files Done (inr (inr (inr (inr (inr ends))))) seed bytes fault asked left refused =
-      absurd (none-some fault (sym ends.read.stands.accepted ∙ (ap files_refusal (whole g.before g.after ends.read.text bytes ends.read.taken ends.read.to_end left) ∙ refused)))
+      absurd (none-some fault (sym ends.read.stands.accepted
+      ∙ (ap files_refusal (whole g.before g.after ends.read.text bytes ends.read.taken ends.read.to_end left) ∙ refused)))
   refuses_files Usage ends seed bytes fault asked left refused = absurd (none-some (Files seed) (sym ends.no_command ∙ asked))
   refuses_files TraceRefused ends seed bytes fault asked left refused = inl refl
   refuses_files ReadFault ends seed bytes fault asked left refused = inr (inl refl)
@@ -146,10 +154,13 @@ module _ (g : Given) (J : List Entry) (text : List ℕ) where
   refuses_reports Done (inr (inl ends)) question bytes asked left isnt =
       let is : report ends.setup ends.entries ≡ bytes = whole g.before g.after (report ends.setup ends.entries) bytes ends.input.taken ends.input.to_end left in
       absurd (isnt (record { setup = ends.setup; entries = ends.entries; valid = ends.valid; complete = ends.complete; spelled = sym is }))
-  refuses_reports Done (inr (inr (inl ends))) question bytes asked left isnt = absurd (not-both g (Generate ends.seed ends.vpes ends.calls) (Ask question) reads_input ends.command asked refl refl)
+  refuses_reports Done (inr (inr (inl ends))) question bytes asked left isnt =
+      absurd (not-both g (Generate ends.seed ends.vpes ends.calls) (Ask question) reads_input ends.command asked refl refl)
   refuses_reports Done (inr (inr (inr (inl ends)))) question bytes asked left isnt = absurd (no-run g (Ask question) asked refl ends.seed (inr ends.command))
-  refuses_reports Done (inr (inr (inr (inr (inl ends))))) question bytes asked left isnt = absurd (not-both g (Soak ends.seed ends.vpes ends.calls) (Ask question) reads_input ends.command asked refl refl)
-  refuses_reports Done (inr (inr (inr (inr (inr ends))))) question bytes asked left isnt = absurd (not-run g (Ask question) (Files ends.seed) asked refl ends.command refl)
+  refuses_reports Done (inr (inr (inr (inr (inl ends))))) question bytes asked left isnt =
+      absurd (not-both g (Soak ends.seed ends.vpes ends.calls) (Ask question) reads_input ends.command asked refl refl)
+  refuses_reports Done (inr (inr (inr (inr (inr ends))))) question bytes asked left isnt =
+      absurd (not-run g (Ask question) (Files ends.seed) asked refl ends.command refl)
   refuses_reports Usage ends question bytes asked left isnt = absurd (none-some (Ask question) (sym ends.no_command ∙ asked))
   refuses_reports TraceRefused (inl ends) question bytes asked left isnt = absurd (no-run g (Ask question) asked refl ends.seed ends.command)
   refuses_reports TraceRefused (inr ends) question bytes asked left isnt = absurd (not-run g (Ask question) (Files ends.seed) asked refl ends.command refl)
@@ -174,7 +185,8 @@ module _ (g : Given) (J : List Entry) (text : List ℕ) where
         absurd (false≢true (sym ends.refused.refused ∙ yes))
 
     -- the text was written
-    pub written : (status : Status) (before after : Option (List ℕ)) (faults faults' : ℕ) → WouldEnd g J text status → Appends before after text → Serves g (record { status = status; journal = J; before = before; after = after; faults_before = faults; faults_after = faults' })
+    pub written : (status : Status) (before after : Option (List ℕ)) (faults faults' : ℕ) → WouldEnd g J text status → Appends before after text →
+        Serves g (record { status = status; journal = J; before = before; after = after; faults_before = faults; faults_after = faults' })
     written status before after faults faults' ends appended =
         record {
           ends = ends-with status ends;
@@ -191,7 +203,8 @@ module _ (g : Given) (J : List Entry) (text : List ℕ) where
           soaks = λ seed vpes calls asked. unread (Soak seed vpes calls) refl asked status ends;
         }
       where
-        ends-with : (s : Status) → WouldEnd g J text s → EndsWith s g (record { status = status; journal = J; before = before; after = after; faults_before = faults; faults_after = faults' })
+        ends-with : (s : Status) → WouldEnd g J text s →
+            EndsWith s g (record { status = status; journal = J; before = before; after = after; faults_before = faults; faults_after = faults' })
         ends-with Done ends = (text, ends, appended)
         ends-with Usage ends = (text, ends, appended)
         ends-with TraceRefused ends = (text, ends, appended)
@@ -201,7 +214,9 @@ module _ (g : Given) (J : List Entry) (text : List ℕ) where
         ends-with ReportRefused ends = (text, ends, appended)
 
     -- a write failed
-    pub unwritten : (status : Status) (before after : Option (List ℕ)) (faults faults' : ℕ) → WouldEnd g J text status → AppendsPrefix before after text → Rose faults faults' → Serves g (record { status = WriteFault; journal = J; before = before; after = after; faults_before = faults; faults_after = faults' })
+    pub unwritten : (status : Status) (before after : Option (List ℕ)) (faults faults' : ℕ) → WouldEnd g J text status → AppendsPrefix before after text →
+        Rose faults faults' →
+        Serves g (record { status = WriteFault; journal = J; before = before; after = after; faults_before = faults; faults_after = faults' })
     unwritten status before after faults faults' ends appended rose = record {
       ends = (status, (text, ends, appended));
       write_fault = λ is. rose;

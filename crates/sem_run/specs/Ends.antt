@@ -1,17 +1,13 @@
--- How the program ends: for each status why it comes, what text is written, and what the journal is
--- ("The command line" in docs/texts.md).
+-- How the program ends: for each status why it comes, which text is written, and which journal is
+-- left ("The command line" in docs/texts.md).
 use Rattle.std.specs.Prelude.{◌≤◌, ◌+◌, ◌*◌, length, ◌≡◌, ◌≢◌, ℕ, ◌⊎◌, true, List, [], Option, None, IfSome}
-use Rattle.sem_msg.specs.declared.entry.Entry.{Entry}
-use Rattle.sem_msg.specs.Setup.{Setup, IsSetup, call_count, kill_count}
-use Rattle.sem_msg.specs.Journal.{replies}
+use Rattle.sem_machine.specs.Prelude.{Entry, Setup, IsSetup, replies, IsSchedule, world_after, seeded, IsComplete}
+use Rattle.sem_msg.specs.Setup.{call_count, kill_count}
 use Rattle.sem_io.specs.Count.{Rose}
 use Rattle.sem_io.specs.SinkBytes.{Appends, AppendsPrefix}
 use Rattle.sem_trace.specs.declared.fault.TraceFault.{TraceFault}
 use Rattle.sem_trace.specs.TraceText.{canonical}
 use Rattle.sem_gen.specs.Generated.{generated}
-use Rattle.sem_machine.specs.Schedules.{IsSchedule, world_after}
-use Rattle.sem_machine.specs.Seeded.{seeded}
-use Rattle.sem_machine.specs.Living.{IsComplete}
 use Rattle.sem_machine.specs.Safety.{IsSafe}
 use Rattle.sem_audit.specs.HeldKeys.{report}
 use Rattle.sem_access.specs.ContentsText.{contents}
@@ -26,24 +22,26 @@ use Rattle.sem_cli.specs.declared.forms.Command.TheVariants.{Run, Threads, Files
 use Rattle.sem_cli.specs.declared.forms.Question.{Question}
 use Rattle.sem_cli.specs.declared.forms.Question.TheVariants.{Check, Contents, Holder, Path, Denied}
 use Rattle.sem_cli.specs.declared.statuses.Status.{Status}
-use Rattle.sem_cli.specs.declared.statuses.Status.TheVariants.{Done, Usage, TraceRefused, ReadFault, WriteFault, Memory, ReportRefused}
+use Rattle.sem_cli.specs.declared.statuses.Status.TheVariants.{Done, Usage, TraceRefused, ReadFault, WriteFault}
+use Rattle.sem_cli.specs.declared.statuses.Status.TheVariants.{Memory, ReportRefused}
 use Rattle.sem_cli.specs.Summary.{summary}
 use Rattle.sem_cli.specs.Messages.{usage_line, ok_line, refused_line, files_refused_line}
-use Rattle.sem_run.specs.Inputs.{Given, Asks, AsksRun, IsUntouched, ReadsPart, ReadsAll, ReadsTrace, ReadsFiles, RunsSetup, IsRefused, AreRefused, IsQuietlyRead, is_run, reads_input}
+use Rattle.sem_run.specs.Inputs.{Given, Asks, AsksRun, IsUntouched, ReadsPart, ReadsAll, ReadsTrace, ReadsFiles}
+use Rattle.sem_run.specs.Inputs.{RunsSetup, IsRefused, AreRefused, IsQuietlyRead, is_run, reads_input}
 use Rattle.sem_run.specs.Reports.{IsRefusedReport}
 
 -- What the program leaves: its status, the journal, and its output before and after the call.
 pub record Output : Type 0 where
   pub status : Status
   pub journal : List Entry
-  -- the bytes that were written before and after, where they are known
+  -- the bytes written before and after, if they are known
   pub before : Option (List ℕ)
   pub after : Option (List ℕ)
   -- how many faults the output has had before and after
   pub faults_before : ℕ
   pub faults_after : ℕ
 
--- this status, journal and output, which tells what was written to it and its count of faults
+-- this status, journal and output; the output tells the bytes written to it and its count of faults
 abbrev pub left : {K : Type 0}
     → (K → Option (List ℕ)) → (K → ℕ) → Status → List Entry → K → K → Output
 left written faults status journal old new = record {
@@ -108,8 +106,8 @@ pub record EndsThreaded (g : Given) (J : List Entry) (text : List ℕ) : Type 0 
   pub complete : IsComplete setup J
   pub told : text ≡ report setup J
 
--- Status 0 of `soak`: the journal is complete for the setup that is generated, it has a reply to each
--- call, no key is stray after it, and the text is the summary that tells so; nothing was read.
+-- Status 0 of `soak`: the journal is complete for the generated setup, it has a reply to each call,
+-- no key is stray after it, and the text is the summary that says so; nothing was read.
 pub record EndsSoaked (g : Given) (J : List Entry) (text : List ℕ) : Type 0 where
   pub setup : Setup
   pub seed : ℕ
@@ -125,8 +123,8 @@ pub record EndsSoaked (g : Given) (J : List Entry) (text : List ℕ) : Type 0 wh
   pub told : text ≡ summary vpes (vpes * calls) (length (replies J))
       (stray_count setup J (world_after setup J).sides)
 
--- Status 0 of `files`: the journal is the seeded one of the setup that the file commands are
--- compiled to, it is complete, and the text is its report.
+-- Status 0 of `files`: the journal is the seeded one of the setup that the file commands compile
+-- to, it is complete, and the text is its report.
 pub record EndsFiled (g : Given) (J : List Entry) (text : List ℕ) : Type 0 where
   pub files : FileCommands
   pub seed : ℕ
@@ -154,7 +152,7 @@ pub record EndsUsage (g : Given) (J : List Entry) (text : List ℕ) : Type 0 whe
   pub no_journal : J ≡ []
   pub told : text ≡ usage_line
 
--- Status 2 of a command that reads a trace: the input is none. At most a prefix of it was read.
+-- Status 2 of a command that reads a trace: the input is no trace. At most a prefix of it was read.
 pub record EndsTraceRefused (g : Given) (J : List Entry) (text : List ℕ) : Type 0 where
   pub seed : ℕ
   pub command : AsksRun g seed
@@ -180,7 +178,7 @@ pub record EndsFilesRefused (g : Given) (J : List Entry) (text : List ℕ) : Typ
 abbrev pub EndsRefused : Given → List Entry → List ℕ → Type 0
 EndsRefused g J text = EndsTraceRefused g J text ⊎ EndsFilesRefused g J text
 
--- Status 3: a command that reads, and a read that failed, behind a prefix of the input.
+-- Status 3: the command reads, and a read failed after a prefix of the input.
 pub record EndsReadFault (g : Given) (J : List Entry) (text : List ℕ) : Type 0 where
   pub asked : Command
   pub command : Asks g asked
@@ -194,15 +192,15 @@ pub record EndsReadFault (g : Given) (J : List Entry) (text : List ℕ) : Type 0
 abbrev pub IsPartOfRun : Given → List Entry → Type 0
 IsPartOfRun g J = (J ≡ []) ⊎ ((T : Setup) × RunsSetup g T × IsSchedule T J)
 
--- Status 5: memory was lacking. At most a prefix of the input was read, and no read failed.
+-- Status 5: memory was refused. At most a prefix of the input was read, and no read failed.
 pub record EndsMemory (g : Given) (J : List Entry) (text : List ℕ) : Type 0 where
   pub part : IsPartOfRun g J
   pub read : ReadsPart g
   pub quiet : IsQuietlyRead g
   pub told : text ≡ []
 
--- Status 9: the input is not the report of a complete schedule, and the text tells why. It is told of
--- some bytes, which are the input where that is known. At most a prefix of it was read.
+-- Status 9: the input is not the report of a complete schedule, and the text tells why. It tells so
+-- of some bytes, which are the input if that is known. At most a prefix of it was read.
 pub record EndsReportRefused (g : Given) (J : List Entry) (text : List ℕ) : Type 0 where
   pub question : Question
   pub command : Asks g (Ask question)
@@ -223,16 +221,16 @@ WouldEnd g J text WriteFault = ⊥
 WouldEnd g J text Memory = EndsMemory g J text
 WouldEnd g J text ReportRefused = EndsReportRefused g J text
 
--- a text of which something holds was appended to the output
+-- a text with that property was appended to the output
 abbrev pub Writes : Output → (List ℕ → Type 0) → Type 0
 Writes o P = (text : List ℕ) × P text × Appends o.before o.after text
 
--- a prefix of such a text was appended
+-- a prefix of such a text was appended to the output
 abbrev pub WritesPrefix : Output → (List ℕ → Type 0) → Type 0
 WritesPrefix o P = (text : List ℕ) × P text × AppendsPrefix o.before o.after text
 
--- why the program ended with that status: with 4 it wrote a prefix of the text of some other status,
--- and all else is as that one says
+-- why the program ended with that status: with 4 it wrote a prefix of the text of some other
+-- status, and all else is as for that one
 abbrev pub EndsWith : Status → Given → Output → Type 0
 EndsWith Done g o = Writes o (EndsDone g o.journal)
 EndsWith Usage g o = Writes o (EndsUsage g o.journal)
@@ -257,8 +255,8 @@ pub record IsSafeRun (g : Given) (J : List Entry) : Type 0 where
   pub safe : IsSafe setup J
   pub few : length J ≤ 21 * call_count setup + kill_count setup
 
--- whether a run left the journal: with status 0 where the command runs a setup, with 4 and 5 where it
--- is not empty
+-- whether a run left the journal: with status 0 if the command runs a setup, with 4 and 5 if the
+-- journal is not empty
 abbrev pub IsOfRun : Given → Status → List Entry → Type 0
 IsOfRun g Done J = (asked : Command) × Asks g asked × (is_run asked ≡ true)
 IsOfRun g Usage J = ⊥

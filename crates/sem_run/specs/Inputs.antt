@@ -1,6 +1,7 @@
--- What the program is asked and given to read ("The command line" in docs/texts.md).
-use Rattle.std.specs.Prelude.{◌≡◌, ◌⊎◌, ℕ, Bool, true, false, List, [], Option, Some, IfSome, map, string_bytes, String}
-use Rattle.sem_msg.specs.Setup.{Setup, IsSetup}
+-- What the program is asked, and its input ("The command line" in docs/texts.md).
+use Rattle.std.specs.Prelude.{◌≡◌, ◌⊎◌, ℕ, Bool, true, false, List, [], Option, Some, IfSome, map, string_bytes}
+use Rattle.std.specs.Prelude.{String}
+use Rattle.sem_machine.specs.Prelude.{Setup, IsSetup}
 use Rattle.sem_io.specs.SourceBytes.{Takes}
 use Rattle.sem_trace.specs.declared.fault.TraceFault.{TraceFault}
 use Rattle.sem_trace.specs.Refusal.{refusal}
@@ -14,11 +15,11 @@ use Rattle.sem_cli.specs.declared.forms.Command.TheVariants.{Run, Threads, Files
 use Rattle.sem_cli.specs.Commands.{command_of}
 use Rattle.sem_gen.specs.Generated.{generated}
 
--- the command that the words are, if they are one
+-- the command of the words, if they are one
 abbrev pub asked_by : {A : Type 0} → List (String A) → Option Command
 asked_by words = command_of (map string_bytes words)
 
--- whether one thread does what the command asks for
+-- whether one thread does all of the command
 abbrev pub is_alone : Command → Bool
 is_alone (Run seed) = true
 is_alone (Threads seed) = false
@@ -45,18 +46,17 @@ reads_input (Generate seed vpes calls) = false
 reads_input (Soak seed vpes calls) = false
 reads_input (Ask question) = true
 
--- What the program is given: the command that its words are, and its input before and after the
--- call.
+-- What the program is given: the command of its words, and its input before and after the call.
 pub record Given : Type 0 where
   pub asked : Option Command
-  -- the bytes that are left of the input before and after, where they are known
+  -- the bytes that are left of the input before and after, if they are known
   pub before : Option (List ℕ)
   pub after : Option (List ℕ)
   -- how many faults the input has had before and after
   pub faults_before : ℕ
   pub faults_after : ℕ
 
--- this command and this input, which tells what is left of it and how many faults it has had
+-- this command and this input; the input tells what is left of it and how many faults it has had
 abbrev pub given : {S : Type 0} → (S → Option (List ℕ)) → (S → ℕ) → Option Command → S → S → Given
 given left faults asked old new = record {
   asked = asked;
@@ -70,7 +70,7 @@ given left faults asked old new = record {
 abbrev pub Asks : Given → Command → Type 0
 Asks g command = g.asked ≡ Some command
 
--- the words are a run of a trace by that seed, on one thread or in threads
+-- the words ask for a run of a trace by that seed, on one thread or in threads
 abbrev pub AsksRun : Given → ℕ → Type 0
 AsksRun g seed = Asks g (Run seed) ⊎ Asks g (Threads seed)
 
@@ -104,8 +104,8 @@ pub record ReadsFiles (g : Given) (F : FileCommands) : Type 0 where
   pub stands : FilesStand text F
   pub to_end : IfSome g.after (λ rest. rest ≡ [])
 
--- The setup that a command runs: the one that was read, the one that the file commands that were
--- read are compiled to, or the one that `soak` generates.
+-- The setup that a command runs: the one in the input, the one that the file commands in the input
+-- compile to, or the one that `soak` generates.
 pub data RunsSetup (g : Given) (T : Setup) : Type 0 where
   is_read : (seed : ℕ) → AsksRun g seed → ReadsTrace g T → RunsSetup g T
   is_compiled : (seed : ℕ) (F : FileCommands)

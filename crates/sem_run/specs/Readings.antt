@@ -1,20 +1,16 @@
 -- Words of private contracts: what a response says, and how a run of a setup ends.
 use Rattle.std.specs.Prelude.{◌≡◌, ℕ, true, false, List, [], length, map, Option, None, Result, Ok, Err}
-use Rattle.sem_msg.specs.declared.audit.Audit.{Audit}
-use Rattle.sem_msg.specs.declared.entry.Entry.{Entry}
-use Rattle.sem_msg.specs.Journal.{replies}
-use Rattle.sem_msg.specs.Setup.{Setup, IsSetup}
+use Rattle.sem_machine.specs.Prelude.{Audit, Entry, replies, Setup, IsSetup, world_after, IsComplete}
 use Rattle.sem_files.specs.Files.{Files}
 use Rattle.sem_files.specs.Compiled.{compiled}
-use Rattle.sem_machine.specs.Schedules.{world_after}
-use Rattle.sem_machine.specs.Living.{IsComplete}
 use Rattle.sem_kernel.specs.KernelValue.{KernelValue}
 use Rattle.sem_audit.specs.HeldKeys.{report}
 use Rattle.sem_audit.specs.Straying.{stray_count}
 use Rattle.sem_cli.specs.declared.forms.Command.{Command}
 use Rattle.sem_cli.specs.declared.forms.Question.{Question}
 use Rattle.sem_cli.specs.declared.statuses.Status.{Status}
-use Rattle.sem_cli.specs.declared.statuses.Status.TheVariants.{Done, Usage, TraceRefused, ReadFault, WriteFault, Memory, ReportRefused}
+use Rattle.sem_cli.specs.declared.statuses.Status.TheVariants.{Done, Usage, TraceRefused, ReadFault, WriteFault}
+use Rattle.sem_cli.specs.declared.statuses.Status.TheVariants.{Memory, ReportRefused}
 use Rattle.sem_cli.specs.Summary.{summary}
 use Rattle.sem_cli.specs.Commands.{command_of}
 use Rattle.sem_run.specs.declared.response.Response.{Response}
@@ -26,7 +22,7 @@ use Rattle.sem_run.specs.Inputs.{Given, ReadsFiles}
 use Rattle.sem_run.specs.Reports.{is_accepted, verdict_line}
 use Rattle.sem_run.specs.Ends.{IsAnswer, WouldEnd}
 
--- it is what some words ask for
+-- some words ask for that command
 abbrev pub IsAsked : Option Command → Type 0
 IsAsked asked = (words : List (List ℕ)) × (command_of words ≡ asked)
 
@@ -34,7 +30,7 @@ IsAsked asked = (words : List (List ℕ)) × (command_of words ≡ asked)
 abbrev pub Responds : Given → Response → Type 0
 Responds g r = WouldEnd g r.journal.entries r.text.items r.status
 
--- the input is refused with this line, or memory is lacking
+-- the input is refused with this line, or memory was refused
 abbrev pub IsRefusalTold : List ℕ → List ℕ → Status → Type 0
 IsRefusalTold line text Done = ⊥
 IsRefusalTold line text Usage = ⊥
@@ -48,7 +44,7 @@ IsRefusalTold line text ReportRefused = ⊥
 abbrev pub TellsRefusal : List ℕ → Response → Type 0
 TellsRefusal line r = (r.journal.entries ≡ []) × IsRefusalTold line r.text.items r.status
 
--- The input was read to its end, and stands for file commands that are compiled to the setup.
+-- The input was read to its end, and stands for file commands that compile to the setup.
 pub record ReadsService (g : Given) (T : Setup) : Type 0 where
   pub files : Files
   pub read : ReadsFiles g files
@@ -65,13 +61,13 @@ EndsRun T J text WriteFault = ⊥
 EndsRun T J text Memory = text ≡ []
 EndsRun T J text ReportRefused = ⊥
 
--- it is a success, and of its value that holds
+-- it is a success, and its value has that property
 abbrev pub IsOkWith : {A E : Type 0} → (A → Type 0) → Result A E → Type 0
 IsOkWith P (Ok a) = P a
 IsOkWith P (Err e) = ⊥
 
--- how the run of a load of so many VPEs and calls ends: with the summary of its journal, or for lack
--- of memory
+-- how the run of a load of that many VPEs and calls ends: with the summary of its journal, or for
+-- lack of memory
 abbrev pub IsLoadTold : Setup → List Entry → ℕ → ℕ → List ℕ → Status → Type 0
 IsLoadTold T J vpes calls text Done =
     text ≡ summary vpes calls (length (replies J)) (stray_count T J (world_after T J).sides)
@@ -86,7 +82,7 @@ IsLoadTold T J vpes calls text ReportRefused = ⊥
 abbrev pub AreAfter : Setup → List Entry → List KernelValue → Type 0
 AreAfter T J kernels = map (λ k. k.side) kernels ≡ (world_after T J).sides
 
--- the text answers the question where the report is accepted, else it tells the verdict
+-- if the report is accepted, the text answers the question, otherwise it tells the verdict
 abbrev pub Tells : Question → Verdict → List ℕ → Type 0
 Tells question (Accepted T journal due) text = IsAnswer question T journal.entries text
 Tells question (BadLine fault) text = text ≡ verdict_line (BadLine fault)
@@ -95,7 +91,7 @@ Tells question (BadEntry journal n entered replayed) text =
 Tells question (NotOver journal next) text = text ≡ verdict_line (NotOver journal next)
 Tells question (BadAudit line due) text = text ≡ verdict_line (BadAudit line due)
 
--- a verdict is told, or memory is lacking
+-- a verdict is told, or memory was refused
 abbrev pub IsVerdictTold : Question → Verdict → List ℕ → Status → Type 0
 IsVerdictTold question verdict text Done =
     (is_accepted verdict ≡ true) × Tells question verdict text

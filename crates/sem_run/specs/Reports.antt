@@ -1,12 +1,8 @@
--- Which texts are the report of a complete schedule, and the verdict on any text
--- ("The command line" in docs/texts.md).
+-- Which texts are the report of a complete schedule, and the verdict on any text ("The command
+-- line" in docs/texts.md).
 use Rattle.std.specs.Prelude.{◌≡◌, ℕ, Bool, true, false, List, length, Some, None}
-use Rattle.sem_key.specs.KeyName.{KeyName}
-use Rattle.sem_msg.specs.declared.audit.Audit.{Audit}
-use Rattle.sem_msg.specs.declared.entry.Entry.{Entry}
-use Rattle.sem_msg.specs.Setup.{Setup, IsSetup}
+use Rattle.sem_machine.specs.Prelude.{KeyName, Audit, Entry, Setup, IsSetup, IsComplete}
 use Rattle.sem_trace.specs.declared.fault.Cause.TheVariants.{NotCanonical}
-use Rattle.sem_machine.specs.Living.{IsComplete}
 use Rattle.sem_journal.specs.ReportText.{report_text}
 use Rattle.sem_report.specs.declared.verdict.Verdict.{Verdict}
 use Rattle.sem_report.specs.declared.verdict.Verdict.TheVariants.{Accepted, BadLine, BadEntry, NotOver, BadAudit}
@@ -42,8 +38,8 @@ pub record TellsComplete (bytes : List ℕ) (T : Setup) (J : List Entry) (due : 
   pub complete : IsComplete T J
   pub audit : IsAuditOf T J due
 
--- What is found of bytes. Each verdict supposes that none that stands above it here, the first apart,
--- is right.
+-- The verdict on bytes. Each verdict but the first supposes that no verdict between the first and
+-- it applies.
 abbrev pub IsVerdict : List ℕ → Verdict → Type 0
 -- they are the report of a complete schedule
 IsVerdict bytes (Accepted T journal due) =
@@ -58,7 +54,7 @@ IsVerdict bytes (BadEntry journal n entered replayed) =
 IsVerdict bytes (NotOver journal next) =
     (T : Setup) × TellsReport bytes T journal.entries
     × GoesOn T journal.entries (length journal.entries) next
--- the schedule is complete, and a line, which is one of the audit, is not as in its report
+-- the schedule is complete, and one line, a line of the audit, differs from its report
 IsVerdict bytes (BadAudit line due) =
     (T : Setup) × (J : List Entry) × TellsComplete bytes T J due
     × (differing_line bytes T J due ≡ Some line)
@@ -78,7 +74,7 @@ verdict_line (BadEntry journal n entered replayed) = differing_entry n entered r
 verdict_line (NotOver journal next) = going_on_line (length journal.entries) next
 verdict_line (BadAudit line due) = bad_line (fault_of line NotCanonical)
 
--- Why bytes are refused as the report of a complete schedule, with the text that is told.
+-- Why bytes are refused as the report of a complete schedule, with the text that says so.
 pub record IsRefusedReport (bytes text : List ℕ) : Type 0 where
   pub verdict : Verdict
   pub found : IsVerdict bytes verdict

@@ -1,7 +1,7 @@
--- What the program promises of each call: the facts of the top call
--- ("The command line" in docs/texts.md).
+-- What the program promises of each call: the facts of the top call ("The command line" in
+-- docs/texts.md).
 use Rattle.std.specs.Prelude.{◌≡◌, ◌⊎◌, ℕ, List, Some, None}
-use Rattle.sem_msg.specs.Setup.{Setup}
+use Rattle.sem_machine.specs.Prelude.{Setup}
 use Rattle.sem_io.specs.Count.{Rose}
 use Rattle.sem_trace.specs.declared.fault.TraceFault.{TraceFault}
 use Rattle.sem_trace.specs.Refusal.{refusal}
@@ -12,17 +12,18 @@ use Rattle.sem_files.specs.Standing.{FilesStand}
 use Rattle.sem_cli.specs.declared.forms.Command.TheVariants.{Files, Generate, Soak, Ask}
 use Rattle.sem_cli.specs.declared.forms.Question.{Question}
 use Rattle.sem_cli.specs.declared.statuses.Status.{Status}
-use Rattle.sem_cli.specs.declared.statuses.Status.TheVariants.{Done, Usage, TraceRefused, ReadFault, WriteFault, Memory, ReportRefused}
+use Rattle.sem_cli.specs.declared.statuses.Status.TheVariants.{Done, Usage, TraceRefused, ReadFault, WriteFault}
+use Rattle.sem_cli.specs.declared.statuses.Status.TheVariants.{Memory, ReportRefused}
 use Rattle.sem_run.specs.Inputs.{Given, Asks, AsksRun}
 use Rattle.sem_run.specs.Reports.{IsReport}
 use Rattle.sem_run.specs.Ends.{Output, Ends, IsOfRun, IsSafeRun}
 
--- the status is this one, unless a read or a write failed or memory was lacking
+-- the status is this one, unless a read or a write failed or memory was refused
 abbrev pub IsOrFails : Status → Status → Type 0
 IsOrFails expected status =
     (status ≡ expected) ⊎ ((status ≡ ReadFault) ⊎ ((status ≡ WriteFault) ⊎ (status ≡ Memory)))
 
--- the same, of commands that read nothing
+-- the same, for commands that read nothing
 abbrev pub IsOrUnwritten : Status → Status → Type 0
 IsOrUnwritten expected status = (status ≡ expected) ⊎ ((status ≡ WriteFault) ⊎ (status ≡ Memory))
 
@@ -63,8 +64,8 @@ RefusesReports g status =
     → Asks g (Ask question) → g.before ≡ Some bytes → ¬ IsReport bytes
     → IsOrFails ReportRefused status
 
--- every question about the report of a complete schedule is answered: so what a run writes, a check
--- accepts
+-- every question about the report of a complete schedule is answered: so a check accepts what a run
+-- writes
 abbrev pub AcceptsReports : Given → Status → Type 0
 AcceptsReports g status =
     (question : Question) (bytes : List ℕ)
@@ -82,13 +83,14 @@ SoaksLoads g status =
 
 -- The program serves what it is given, and leaves this.
 pub record Serves (g : Given) (o : Output) : Type 0 where
-  -- why it ended with its status, with the journal and with what was written
+  -- why the program ended with its status, this journal and this output
   pub ends : Ends g o
   -- with status 4 a write has failed
   pub write_fault : o.status ≡ WriteFault → Rose o.faults_before o.faults_after
-  -- what a run leaves, whole or cut short, is a schedule of its setup, and safe; it has few entries
+  -- the journal of a run, whole or cut short, is a schedule of its setup, and safe; it has few
+  -- entries
   pub safe : IsOfRun g o.status o.journal → IsSafeRun g o.journal
-  -- and each command does what it is for, unless a read or a write fails or memory is lacking
+  -- each command does what it is for, unless a read or a write fails or memory is refused
   pub usage : TellsUsage g o.status
   pub refuses_traces : RefusesTraces g o.status
   pub runs : RunsTraces g o.status

@@ -1,10 +1,10 @@
-// A law of reports. The function does nothing: what it promises holds of all texts.
+// A law of reports. The function does nothing: its promise holds for all texts.
 ghost use Rattle.std.specs.Prelude.{◌≡◌, true, ℕ, List};
 ghost use Rattle.sem_report.specs.declared.verdict.Verdict.{Verdict};
 ghost use Rattle.sem_run.specs.Reports.{IsReport, IsVerdict, is_accepted, verdict_line};
 
-/// Bytes are accepted exactly where they are the report of a complete schedule, and whatever is
-/// found of them is told by the same line.
+/// Bytes are accepted exactly if they are the report of a complete schedule, and all verdicts on
+/// the same bytes are told by the same line.
 pub fn reports_are_accepted()
     ensures accepts { (bytes : List ℕ) (verdict : Verdict) → IsReport bytes
         → IsVerdict bytes verdict → is_accepted verdict ≡ true }

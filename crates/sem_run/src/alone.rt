@@ -11,9 +11,10 @@ use sem_msg::Journal;
 use std::alloc::Global;
 
 /// Does what the words ask for: reads the input, writes to the sink, leaves the journal of the run,
-/// and waits for nobody. The status tells how it ended.
+/// and never waits. The status tells how it ended.
 ///
-/// The journal is empty, and the words are neither `threads SEED` nor `soak SEED VPES CALLS`.
+/// The journal must be empty, and the words must be neither `threads SEED` nor `soak SEED VPES
+/// CALLS`.
 pub fn semper_alone<S: Source, K: Sink>(
     alloc: Global,
     words: &[String],

@@ -1,4 +1,4 @@
-// Questions about a report that is read.
+// Questions about the report in the input.
 ghost use Rattle.std.specs.Prelude.{◌≡◌, [], Some, OnOk};
 ghost use Rattle.sem_machine.specs.Schedules.{IsSchedule};
 ghost use Rattle.sem_cli.specs.declared.forms.Command.TheVariants.{Ask};
@@ -24,8 +24,8 @@ use std::alloc::Global;
 /// The most bytes of a report.
 const REPORT_BYTES: usize = 134_217_728;
 
-/// Checks the report that is read. The response answers the question if it is accepted, and else
-/// is the line of its verdict.
+/// Checks the report in the input. The response answers the question if the report is accepted, and
+/// otherwise is the line of its verdict.
 pub fn answer<S: Source>(alloc: Global, question: Question, input: &mut S) -> Response
     ensures { Responds (given S.left S.faults (Some (Ask question)) input.old input.new) result }
 {
@@ -60,7 +60,7 @@ fn is_accepted(verdict: &Verdict) -> bool
     matches!(verdict, Verdict::Accepted { .. })
 }
 
-// Answers the question, or tells the verdict. After lack of memory a part may be there.
+// Answers the question, or tells the verdict. If memory is refused, a part may be there.
 fn push_verdict(
     alloc: Global,
     out: &mut Vec<u8>,
@@ -93,7 +93,7 @@ fn push_verdict(
     }
 }
 
-// Answers the question. After lack of memory a part may be there.
+// Answers the question. If memory is refused, a part may be there.
 fn push_answer(
     alloc: Global,
     out: &mut Vec<u8>,
@@ -107,7 +107,7 @@ fn push_answer(
     ensures { OnOk result
         (IsAnswer (question_of finding.now) setup.now journal.now.entries out.new.items) }
 {
-    // So that the proof knows what a setup keeps.
+    // Shows the proof what a setup keeps.
     let _ = &setup.vpes;
     match finding {
         Finding::Nothing => out.extend_from_slice(ok()),

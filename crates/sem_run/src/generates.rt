@@ -14,7 +14,7 @@ use sem_msg::Journal;
 use sem_trace::push_trace;
 use std::alloc::Global;
 
-/// The response is the trace that the seed generates.
+/// Responds with the trace that the seed generates.
 pub fn generate_trace(alloc: Global, seed: u64, vpes: u32, calls: u32) -> Response
     requires vpes { (1 ≤ vpes) × (vpes ≤ 128) }
     requires calls { vpes * calls ≤ 20000 }

@@ -1,4 +1,4 @@
-// The verdict on a text that is to be the report of a complete schedule.
+// The verdict on a text that should be the report of a complete schedule.
 ghost use Rattle.std.specs.Prelude.{◌≡◌, ◌≤◌, length, IfOk, OnOk};
 ghost use Rattle.sem_machine.specs.Living.{IsComplete};
 ghost use Rattle.sem_check.specs.Verdicts.{TellsDifference, TellsNext};
@@ -15,8 +15,8 @@ use sem_report::{Verdict, audit_difference, read_report};
 use sem_trace::TraceError;
 use std::alloc::Global;
 
-/// Whether the bytes are the report of a complete schedule, else the first thing that is wrong with
-/// them. They are at most one more than a report may have.
+/// Whether the bytes are the report of a complete schedule, otherwise the first thing wrong with
+/// them. They must be at most one more than a report may have.
 pub fn judge(alloc: Global, bytes: &[u8]) -> Result<Verdict, OutOfMemory>
     requires { length bytes.now ≤ 134217729 }
     ensures { IfOk result (IsVerdict bytes.now) }
@@ -24,7 +24,7 @@ pub fn judge(alloc: Global, bytes: &[u8]) -> Result<Verdict, OutOfMemory>
     judge_watched(alloc, bytes, &mut Unwatched)
 }
 
-/// The same, under the eyes of who watches.
+/// The same, while `watch` sees every world on the way.
 pub fn judge_watched<W: Watch>(
     alloc: Global,
     bytes: &[u8],
@@ -60,8 +60,8 @@ pub fn judge_watched<W: Watch>(
     }
 }
 
-// The audit of a journal that is a complete schedule of the setup, else what is wrong with it. The
-// world of the replay is gone before anything is told, so that its memory is free again.
+// The audit of a journal that is a complete schedule of the setup, otherwise what is wrong with it.
+// The world of the replay is dropped before anything is told, so that its memory is free again.
 fn audit_complete<W: Watch>(
     alloc: Global,
     setup: &Setup,
@@ -85,7 +85,7 @@ fn audit_complete<W: Watch>(
     }
 }
 
-// The verdict on bytes that tell this journal, a complete schedule, with one audit, where another
+// The verdict on bytes that tell this journal, a complete schedule, with one audit, while another
 // may be due.
 fn judge_audit(bytes: &[u8], setup: Setup, journal: Journal, told: &Audit, due: Audit) -> Verdict
     requires few { length bytes.now ≤ 134217729 }

@@ -1,5 +1,5 @@
-//! What the program does with the words of its command line: it runs traces and file commands,
-//! and answers questions about reports.
+//! What the program does with the words of its command line: it runs traces and file commands, and
+//! answers questions about reports.
 #![tactic(auto)]
 
 mod accepts;
@@ -9,6 +9,7 @@ mod findings;
 mod generates;
 mod judging;
 mod process;
+mod refusals;
 mod response;
 mod responses;
 mod runs;

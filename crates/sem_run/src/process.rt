@@ -3,24 +3,28 @@ ghost use Rattle.std.specs.Prelude.{◌≡◌};
 ghost use Rattle.std.specs.Process.{exit_status};
 ghost use Rattle.sem_cli.specs.Statuses.{status_number};
 
+use crate::refusals::refusal_line;
 use crate::top::semper;
 use crate::usage::usage_fault;
-use sem_cli::Status;
-use sem_io::{ReadSource, WriteSink};
+use sem_cli::{Status, command};
+use sem_io::{KeptSource, ReadSource, WriteSink};
 use sem_msg::Journal;
 use sem_node::OpenGate;
-use std::alloc::AllocError as OutOfMemory;
+use std::alloc::{AllocError as OutOfMemory, Global};
 use std::env;
 use std::io::ErrorKind;
 use std::process::ExitCode;
 use std::sync::Wait;
 use std::thread::Threads;
 
-/// The program: its words, standard input and standard output, and its exit status. Standard error
-/// tells in one line why it ended otherwise than it was asked to: what was wanting, which word of the
-/// command line is wrong, or where a refusal is explained. The second handle is that of its threads.
+// The most bytes of an input of which standard error tells why it is refused.
+const KEPT: usize = 65536;
+
+/// The program: its words, standard input and standard output, and its exit status. If it could not
+/// do what it was asked for, one line on standard error says why: what failed, which word of the
+/// command line is wrong, or which word of the input. The second handle is that of its threads.
 pub fn program<R: Threads + Wait + Sync>(rt: &HostRuntime, threads: &R) -> ExitCode {
-    let mut input = ReadSource::new(rt.stdin());
+    let mut input = KeptSource::new(rt.alloc(), ReadSource::new(rt.stdin()), KEPT);
     let mut out = WriteSink::new(rt.stdout());
     let mut journal = Journal::new(rt.alloc());
     let words = match words(rt) {
@@ -40,14 +44,9 @@ pub fn program<R: Threads + Wait + Sync>(rt: &HostRuntime, threads: &R) -> ExitC
         &OpenGate,
         &mut journal,
     );
-    match (status, &words) {
-        (Status::Usage, None) => tell(rt, "a word is no text"),
-        (Status::Usage, Some(words)) => {
-            if let Ok(fault) = usage_fault(rt.alloc(), words.as_slice()) {
-                tell(rt, fault.as_str());
-            }
-        }
-        _ => {
+    match detail(rt.alloc(), status, words.as_ref(), input.kept()) {
+        Ok(Some(line)) => tell(rt, line.as_str()),
+        Ok(None) | Err(OutOfMemory) => {
             if let Some(line) = reason(status) {
                 tell(rt, line);
             }
@@ -56,12 +55,12 @@ pub fn program<R: Threads + Wait + Sync>(rt: &HostRuntime, threads: &R) -> ExitC
     exit_code(status)
 }
 
-// Tells it on standard error. Where that takes nothing either, the exit status alone tells it.
+// Writes the line to standard error. If that fails too, only the exit status tells it.
 fn tell(rt: &HostRuntime, line: &str) {
     let _ = eprintln!(rt; "semper: {line}");
 }
 
-// The words after the program's name; none where a word is no text.
+// The words after the program's name; none if a word is no text.
 fn words(rt: &HostRuntime) -> Result<Option<Vec<String>>, OutOfMemory> {
     match env::args(rt) {
         Ok(words) => Ok(Some(words.skip(1).collect(rt.alloc())?)),
@@ -70,10 +69,11 @@ fn words(rt: &HostRuntime) -> Result<Option<Vec<String>>, OutOfMemory> {
     }
 }
 
-// The line on standard error; none where the program did what it was asked for. Standard output has
-// the line and the cause of a refusal, which are not told again.
+// Why the program ended so, in general; none if it did what it was asked for.
 fn reason(status: Status) -> Option<&'static str> {
     match status {
+        Status::Done => None,
+        Status::Usage => Some("these words are no command"),
         Status::ReadFault => Some("the input could not be read"),
         Status::WriteFault => Some("the output could not be written"),
         Status::Memory => Some("out of memory"),
@@ -83,7 +83,31 @@ fn reason(status: Status) -> Option<&'static str> {
         Status::ReportRefused => Some(
             "the report is refused; semper-view explain tells why, in words",
         ),
-        Status::Done | Status::Usage => None,
+    }
+}
+
+// Which word is wrong, of the command line or of the input, if that can be told. There are no words
+// if one of them is no text, and no bytes if the input was not kept.
+fn detail(
+    alloc: Global,
+    status: Status,
+    words: Option<&Vec<String>>,
+    bytes: Option<&[u8]>,
+) -> Result<Option<String>, OutOfMemory> {
+    let Some(words) = words else {
+        return Ok(Some(String::from_str(alloc, "a word is no text")?));
+    };
+    match (status, bytes, command(words)) {
+        (Status::Usage, _, _) => Ok(Some(usage_fault(alloc, words)?)),
+        (Status::TraceRefused | Status::ReportRefused, Some(bytes), Some(command)) => {
+            match refusal_line(alloc, command, bytes)? {
+                Some(line) => Ok(Some(format!(in alloc;
+                    "{line} (semper-view explain shows more)"
+                )?)),
+                None => Ok(None),
+            }
+        }
+        _ => Ok(None),
     }
 }
 

@@ -35,7 +35,7 @@ impl Response {
         }
     }
 
-    /// The response where memory was lacking, and a run had come so far.
+    /// The response if memory was refused, with the journal of the run so far.
     pub fn out_of_memory(alloc: Global, journal: Journal) -> Self
         ensures status { result.status ≡ Status.Memory }
         ensures text { result.text.items ≡ [] }
@@ -48,7 +48,7 @@ impl Response {
         }
     }
 
-    /// The response where the input could not be read.
+    /// The response if the input could not be read.
     pub fn unread(alloc: Global, error: ReadError) -> Self
         ensures fault { error ≡ ReadError.Fault → result.status ≡ Status.ReadFault }
         ensures memory { error ≡ ReadError.Memory → result.status ≡ Status.Memory }
@@ -62,7 +62,7 @@ impl Response {
         Response::told(alloc, status, Vec::new(alloc))
     }
 
-    /// Writes the text, and leaves the journal. The status with which the program ends.
+    /// Writes the text, leaves the journal, and returns the status that the program ends with.
     pub fn leave<K: Sink>(self, out: &mut K, journal: &mut Journal) -> Status
         ensures { (g : GivenRecord) → Responds g self → Serves g
             (left K.written K.faults result journal.new.entries out.old out.new) }

@@ -19,7 +19,7 @@ use std::alloc::Global;
 use std::sync::Wait;
 use std::thread::Threads;
 
-/// What the program does, in threads where the words ask for them.
+/// What the program does, in threads if the words ask for them.
 pub fn respond_to<R: Threads + Wait + Sync, S: Source, G: Gate + Sync>(
     rt: &R,
     alloc: Global,
@@ -37,7 +37,7 @@ pub fn respond_to<R: Threads + Wait + Sync, S: Source, G: Gate + Sync>(
     }
 }
 
-/// What one thread does about words that it serves.
+/// What one thread does with words that it serves.
 pub fn respond<S: Source>(alloc: Global, asked: Option<Command>, input: &mut S) -> Response
     requires asked { IsAsked asked }
     requires alone { (c : CommandData) → asked ≡ Some c → is_alone c ≡ true }

@@ -29,7 +29,7 @@ use std::alloc::Global;
 /// The most bytes of a trace, or of file commands.
 pub const MOST_BYTES: usize = 8_388_608;
 
-/// The kernels of a setup and their fabric, where there was memory for them.
+/// The kernels of a setup and their fabric, unless memory was refused for them.
 pub type Started = Result<(Vec<Kernel>, Fabric), OutOfMemory>;
 
 /// A run of a setup: its journal, and its kernels if it came to its end.
@@ -39,7 +39,7 @@ pub struct Run {
     pub kernels: Result<Vec<Kernel>, OutOfMemory>,
 }
 
-/// Runs the trace that is read, on one thread.
+/// Runs the trace in the input, on one thread.
 pub fn run_trace<S: Source>(alloc: Global, seed: u64, input: &mut S) -> Response
     ensures { Responds (given S.left S.faults (Some (RunCommand seed)) input.old input.new) result }
 {
@@ -52,7 +52,7 @@ pub fn run_trace<S: Source>(alloc: Global, seed: u64, input: &mut S) -> Response
     }
 }
 
-/// The setup that is read; else the response of a command that wants one.
+/// The setup in the input, or else the response of the command that needs it.
 pub fn read_setup<S: Source>(alloc: Global, input: &mut S) -> Result<Setup, Response>
     ensures reads { IfOk result (λ setup. (asked : Option CommandData)
         → ReadsTrace (given S.left S.faults asked input.old input.new) setup) }
@@ -67,7 +67,7 @@ pub fn read_setup<S: Source>(alloc: Global, input: &mut S) -> Result<Setup, Resp
     };
     match read_trace(alloc, &bytes) {
         Ok(setup) => {
-            // So that the proof knows what a setup keeps.
+            // Shows the proof what a setup keeps.
             let _ = &setup.vpes;
             Ok(setup)
         }
@@ -87,7 +87,7 @@ fn refuse_trace(alloc: Global, fault: &TraceFault) -> Response
     }
 }
 
-/// Runs the setup on to its end, by the seed. The response is the report of its journal.
+/// Runs the setup on to its end, by the seed. Responds with the report of its journal.
 pub fn report_run(alloc: Global, setup: &Setup, started: Started, seed: u64) -> Response
     requires { IfOk started (λ s. StandsAt setup.now s.0.items s.1) }
     ensures schedule { IsSchedule setup.now result.journal.entries }
@@ -139,7 +139,7 @@ pub fn run_to_end(alloc: Global, setup: &Setup, started: Started, seed: u64) -> 
     }
 }
 
-// The report of a journal after which these are the kernels.
+// The report of a journal that ends with these kernels.
 fn report_of(
     alloc: Global,
     setup: &Setup,
@@ -155,8 +155,8 @@ fn report_of(
     Ok(text)
 }
 
-// The audit of a journal after which these are the kernels. They are dropped here, so that their
-// memory is free before the report is made.
+// The audit of a journal that ends with these kernels. They are dropped here, so that their memory
+// is free before the report is made.
 fn audit_of_run(
     alloc: Global,
     setup: &Setup,

@@ -1,4 +1,4 @@
-// Runs of what file commands are compiled to.
+// Runs of the setups that file commands compile to.
 ghost use Rattle.std.specs.Prelude.{◌≡◌, ℕ, Option, Some, IfOk, IfErr, OnOk};
 ghost use Rattle.sem_cli.specs.Messages.{files_refused_line};
 ghost use Rattle.sem_cli.specs.declared.forms.Command.{Command as CommandData};
@@ -17,7 +17,7 @@ use sem_msg::{Journal, Setup};
 use sem_trace::{TraceError, TraceFault};
 use std::alloc::Global;
 
-/// Runs what the file commands that are read are compiled to, on one thread.
+/// Runs the setup that the file commands in the input compile to, on one thread.
 pub fn run_files<S: Source>(alloc: Global, seed: u64, input: &mut S) -> Response
     ensures { Responds (given S.left S.faults (Some (FilesCommand seed)) input.old input.new)
         result }
@@ -31,7 +31,7 @@ pub fn run_files<S: Source>(alloc: Global, seed: u64, input: &mut S) -> Response
     }
 }
 
-// The setup that the file commands that are read are compiled to; else the response of the command.
+// The setup that the file commands in the input compile to, or else the response of the command.
 fn read_service<S: Source>(alloc: Global, input: &mut S) -> Result<Setup, Response>
     ensures reads { IfOk result (λ setup. (asked : Option CommandData)
         → ReadsService (given S.left S.faults asked input.old input.new) setup) }
@@ -53,7 +53,7 @@ fn read_service<S: Source>(alloc: Global, input: &mut S) -> Result<Setup, Respon
     };
     match compile(alloc, &files) {
         Ok(setup) => {
-            // So that the proof knows what file commands and a setup keep.
+            // Shows the proof what file commands and a setup keep.
             let _ = &files.kernels;
             let _ = &setup.vpes;
             Ok(setup)

@@ -1,4 +1,4 @@
-// The run of a generated load with each kernel in threads of its own, and its summary.
+// The run of a generated load, each kernel in its own threads, and its summary.
 ghost use Rattle.std.specs.Prelude.{◌≡◌, ◌≤◌, ◌*◌, List, ℕ, Some, IfOk, length};
 ghost use Rattle.sem_msg.specs.Journal.{replies};
 ghost use Rattle.sem_machine.specs.Schedules.{IsSchedule, world_after};
@@ -22,7 +22,7 @@ use std::alloc::Global;
 use std::sync::Wait;
 use std::thread::Threads;
 
-/// Runs a generated load in threads, and by the seed what is left then. The response is the
+/// Runs a generated load in threads, and then what is left of it by the seed. Responds with the
 /// summary.
 pub fn soak_load<R: Threads + Wait + Sync, G: Gate + Sync>(
     rt: &R,
@@ -41,7 +41,7 @@ pub fn soak_load<R: Threads + Wait + Sync, G: Gate + Sync>(
         Ok(setup) => setup,
         Err(_) => return Response::out_of_memory(alloc, Journal::new(alloc)),
     };
-    // So that the proof knows what a setup keeps.
+    // Shows the proof what a setup keeps.
     let _ = &setup.vpes;
     let started = run_in_threads(rt, alloc, &setup, gate);
     let Run { journal, kernels } = run_to_end(alloc, &setup, started, seed);
@@ -52,7 +52,7 @@ pub fn soak_load<R: Threads + Wait + Sync, G: Gate + Sync>(
     }
 }
 
-// The response that tells of a journal after which these are the kernels.
+// The response that tells of a journal that ends with these kernels.
 fn tell_load(
     alloc: Global,
     setup: &Setup,
@@ -77,7 +77,7 @@ fn tell_load(
     }
 }
 
-// The summary of a journal after which these are the kernels.
+// The summary of a journal that ends with these kernels.
 fn summary_of(
     alloc: Global,
     setup: &Setup,

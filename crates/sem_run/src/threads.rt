@@ -1,4 +1,4 @@
-// Runs of a setup with each kernel in threads of its own.
+// Runs of a setup with each kernel in its own threads.
 ghost use Rattle.std.specs.Prelude.{◌≡◌, Some, IfOk};
 ghost use Rattle.sem_cli.specs.declared.forms.Command.TheVariants.{Threads as InThreads};
 ghost use Rattle.sem_kernel.specs.Standing.{StandsAt};
@@ -16,8 +16,8 @@ use std::alloc::Global;
 use std::sync::Wait;
 use std::thread::Threads;
 
-/// Runs the trace that is read with each kernel in threads of its own, and by the seed what is left
-/// then.
+/// Runs the trace in the input with each kernel in its own threads, and then what is left of it by
+/// the seed.
 pub fn thread_trace<R: Threads + Wait + Sync, S: Source, G: Gate + Sync>(
     rt: &R,
     alloc: Global,
@@ -45,7 +45,7 @@ pub fn run_in_threads<R: Threads + Wait + Sync, G: Gate + Sync>(
 ) -> Started
     ensures { IfOk result (λ r. StandsAt setup.now r.0.items r.1) }
 {
-    // So that the proof knows what a setup keeps.
+    // Shows the proof what a setup keeps.
     let _ = &setup.vpes;
     let kernels = boot_kernels(alloc, setup)?;
     let fabric = Fabric::new(alloc, setup, Journal::new(alloc))?;

@@ -14,9 +14,9 @@ use std::thread::Threads;
 
 /// Does what the words ask for: reads the input, writes to the sink, leaves the journal of the run.
 /// The status tells how it ended. `threads SEED` and `soak SEED VPES CALLS` may wait, and each step
-/// of a kernel asks the gate first; one thread does all else, as `semper_alone`.
+/// of a kernel asks the gate first. One thread does everything else, as `semper_alone`.
 ///
-/// The journal is empty.
+/// The journal must be empty.
 pub fn semper<R: Threads + Wait + Sync, S: Source, K: Sink, G: Gate + Sync>(
     rt: &R,
     alloc: Global,

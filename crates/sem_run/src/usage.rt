@@ -4,7 +4,7 @@ use sem_text::number;
 use sem_trace::read_key;
 use std::alloc::Global;
 
-// What a word has to be: a number up to that one, or a key.
+// What a word must be: a number up to a limit, or a key.
 #[derive(Clone, Copy, Debug)]
 enum Wanted {
     Number {
@@ -39,7 +39,7 @@ const CALLS: Wanted = Wanted::Number {
     most: 20_000,
 };
 
-// The most letters of a word that are shown.
+// The most letters of a word that a message shows.
 const LETTERS: usize = 40;
 
 /// What is wrong with these words, which are no command.
@@ -64,7 +64,7 @@ pub fn usage_fault(alloc: Global, words: &[String]) -> Result<String, OutOfMemor
     String::from_str(alloc, "VPES times CALLS is more than 20000")
 }
 
-// What the command of that name takes, in words and word by word; none where there is no such command.
+// What the command of that name takes, in words and word by word; none if there is no such command.
 fn wanted_by(name: &str, words: &[String]) -> Option<(&'static str, &'static [Wanted])> {
     let is_query = match words {
         [query, _, ..] => query.as_str() == "query",
@@ -83,7 +83,7 @@ fn wanted_by(name: &str, words: &[String]) -> Option<(&'static str, &'static [Wa
     }
 }
 
-// What is wrong with a word, if something is.
+// What is wrong with a word, if anything is.
 fn word_fault(alloc: Global, word: &str, wanted: Wanted) -> Result<Option<String>, OutOfMemory> {
     match wanted {
         Wanted::Number { name, least, most } => number_fault(alloc, word, name, (least, most)),
@@ -96,7 +96,7 @@ fn word_fault(alloc: Global, word: &str, wanted: Wanted) -> Result<Option<String
     }
 }
 
-// What is wrong with a word that is to be a number of that range, if something is.
+// What is wrong with a word that should be a number of that range, if anything is.
 fn number_fault(
     alloc: Global,
     word: &str,
@@ -118,7 +118,7 @@ fn number_fault(
     }
 }
 
-// The word, of a long one the first letters.
+// The word; of a long one, the first letters.
 fn shown(alloc: Global, word: &str) -> Result<String, OutOfMemory> {
     let mut text = String::new(alloc);
     for (place, letter) in word.chars().enumerate() {

@@ -1,4 +1,4 @@
-// What is found of a report while it is checked.
+// What is found in a report while it is checked.
 ghost use Rattle.std.specs.Prelude.{◌≡◌, OnOk};
 ghost use Rattle.sem_run.specs.Findings.{question_of, IsNew, IsFound, IsFoundBefore};
 
@@ -13,7 +13,7 @@ use sem_query::Sighting;
 use std::alloc::Global;
 
 impl Finding {
-    /// Nothing is found yet of what the question is about.
+    /// Nothing is found yet for the question.
     pub fn new(alloc: Global, question: Question) -> Self
         ensures question { question_of result ≡ question }
         ensures new { IsNew result }

@@ -1,4 +1,4 @@
-//! A report in which a byte of the journal is changed.
+//! A report with one byte of the journal changed.
 
 use crate::endings::ended;
 use sem_cli::Status;
@@ -23,7 +23,7 @@ end
 #[test]
 fn a_journal_with_a_changed_byte_is_refused(rt: HostRuntime) -> Result<(), Fail> {
     let report = ended(&rt, rt.alloc(), "run 3897", THREE_KERNELS, &OpenGate)?.written;
-    // The journal begins at the byte 170 and ends behind the byte 1259.
+    // The journal begins at byte 170 and ends after byte 1259.
     for place in (170..1270usize).step_by(11) {
         let mut changed = report.to_vec(rt.alloc())?;
         if let Some(byte) = changed.get_mut(place) {

@@ -61,7 +61,7 @@ pub(crate) fn ended<R: Threads + Wait + Sync, G: Gate + Sync>(
     ended_over(rt, alloc, line, source, sink, gate)
 }
 
-// What the trace leaves that is run in threads with the gate, and whose report a check accepts.
+// What the trace leaves, run in threads with the gate; a check accepts its report.
 pub(crate) fn accepted<R: Threads + Wait + Sync + Abort, G: Gate + Sync>(
     rt: &R,
     alloc: Global,

@@ -9,7 +9,7 @@ use std::test::Fail;
 /// The most bytes of a call.
 const STEP: usize = 64;
 
-// Words, what they read, what they write, and how many entries they leave.
+// Words, their input, their output, and how many entries they leave.
 struct Row {
     line: &'static str,
     input: &'static str,
@@ -17,7 +17,7 @@ struct Row {
     entries: usize,
 }
 
-// A trace of a derive and a revoke.
+// A trace with a derive and a revoke.
 const TRACE: &str = "semper trace 1
 kernels 1
 pe 0 0
@@ -49,7 +49,7 @@ held 0
 end
 ";
 
-// File commands by which a client opens a file and reads it.
+// File commands of a client that opens a file and reads it.
 const FILES: &str = "semper files 1
 kernels 1
 file 0 1
@@ -95,7 +95,7 @@ key 1.1.5.0 0
 end
 ";
 
-// Each command that reads or writes.
+// Every command that reads or writes.
 const ROWS: [Row; 7] = [
     Row {
         line: "check",

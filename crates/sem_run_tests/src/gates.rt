@@ -1,4 +1,4 @@
-// Runs in threads whose gates hold the threads up.
+// Runs in threads with gates that hold the threads up.
 use crate::endings::accepted;
 use crate::seeds::CHAIN_OF_FORTY_ONE;
 use crate::threads::{CROSSING, is_set};
@@ -10,13 +10,13 @@ use std::test::Fail;
 // The number of a kill.
 const KILL: u8 = 7;
 
-// How long a gate holds a step up at most that it delays at random: so many turns of a loop.
+// The longest time that a gate holds up a step that it delays at random, in turns of a loop.
 const DELAY: u64 = 4096;
 
-// How long a gate holds up each step of a kernel that it lets starve.
+// How long a gate holds up each step of a kernel that it starves.
 const HUNGER: u64 = 30_000;
 
-// A gate that holds each step of one kernel up for long, or, where it starves none, each step for
+// A gate that holds up each step of one kernel for long, or, if it starves none, each step for
 // another time.
 #[derive(Drop)]
 struct Delaying {
@@ -42,7 +42,7 @@ impl Gate for Delaying {
 struct Killing {
     steps: AtomicUsize,
     killed: AtomicBool,
-    // How often it waited in vain.
+    // How often it waited without success.
     missed: AtomicUsize,
 }
 

@@ -1,4 +1,4 @@
-//! Tests of whole runs, on one thread and in threads; nothing that runs.
+//! Tests of whole runs, on one thread and in threads. No program uses this crate.
 #![tactic(auto)]
 
 #[cfg(test)]

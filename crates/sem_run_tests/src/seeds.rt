@@ -1,5 +1,5 @@
-//! Whole runs that come to the same by every seed, and in threads. What they come to is known from
-//! two independent reference programs.
+//! Whole runs with the same result by every seed, and in threads. The result is known from two
+//! independent reference programs.
 
 use crate::endings::ended;
 use crate::threads::CROSSING;
@@ -11,13 +11,13 @@ use std::sync::Wait;
 use std::test::Fail;
 use std::thread::Threads;
 
-// By how many seeds each text is run.
+// How many seeds run each text.
 const SEEDS: u64 = 100;
 
 // The numbers of the VPEs are below this.
 const VPES: u16 = 3;
 
-// A text in two parts, the command that runs it by a seed, and what each run of it comes to.
+// A text in two parts, the command that runs it by a seed, and the result of each run.
 struct Row {
     command: &'static str,
     head: &'static str,
@@ -25,7 +25,7 @@ struct Row {
     entries: usize,
     // A line for each VPE: its number, and the codes of its replies.
     replies: &'static str,
-    // The end of the report: the journal and the audit where there is one journal alone.
+    // The end of the report: the audit, and the journal too if there is only one.
     told: &'static str,
 }
 
@@ -126,8 +126,8 @@ held 0
 end
 ";
 
-// Two kernels delegate and obtain in turn what the first one revokes at last. The kernels are
-// declared by a line before this part.
+// Two kernels delegate and obtain in turn, until the first one revokes all of it. A line before
+// this part declares the kernels.
 pub(crate) const CHAIN_OF_FORTY_ONE: &str = "pe 0 0
 pe 1 1
 vpe 0 0
@@ -177,7 +177,7 @@ call 0 revoke 0
 end
 ";
 
-// All of a chain goes with its owner, who is killed.
+// A whole chain goes with its owner, who is killed.
 const KILL_OF_CHAIN: &str = "pe 0 0
 pe 1 1
 vpe 0 0
@@ -189,7 +189,8 @@ kill 0 2
 end
 ";
 
-// A VPE opens a session, asks for three offers, uses them and revokes all; another VPE opens one.
+// A VPE opens a session, asks for three offers, uses them and revokes all of them; another VPE
+// opens a session.
 const SESSIONS_AND_OFFERS: &str = "semper trace 1
 kernels 2
 pe 0 0
@@ -383,7 +384,7 @@ end
     },
 ];
 
-// Asserts what these words and the text of the row come to.
+// Asserts the result of these words with the text of the row.
 fn comes_to<R: Threads + Wait + Sync + Abort>(
     rt: &R,
     alloc: Global,

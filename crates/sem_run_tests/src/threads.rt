@@ -89,11 +89,11 @@ const FLUSH: u8 = 6;
 // What a gate has seen of a kernel.
 #[derive(Drop)]
 struct Seen {
-    // Whether it was to do something.
+    // Whether the kernel was about to do something.
     begun: AtomicBool,
-    // Whether it was to flush.
+    // Whether the kernel was about to flush.
     flushed: AtomicBool,
-    // How many acts it was to do, and their numbers.
+    // How many acts the kernel was about to do, and their numbers.
     count: AtomicUsize,
     acts: Vec<AtomicU8>,
 }
@@ -112,7 +112,7 @@ impl Seen {
         })
     }
 
-    // Whether the acts of the kernel's entries are among those that were kept, in their order.
+    // Whether the acts of the kernel's entries are among the kept ones, in order.
     fn leads(&self, journal: &Journal, kernel: u32) -> bool {
         let kept = self.count.load(Ordering::SeqCst);
         let mut from = 0usize;
@@ -139,13 +139,13 @@ impl Seen {
     }
 }
 
-// A gate of two kernels, which keeps what they do. The first step of each waits for the first step
-// of the other, or, where one is held up, its first step waits for a flush of the other.
+// A gate of two kernels, which keeps their acts. The first step of each waits for the first step of
+// the other. If one kernel is held up, its first step waits for a flush of the other.
 #[derive(Drop)]
 struct Meeting {
     held: Option<u32>,
     kernels: [Seen; 2],
-    // How often a kernel waited in vain.
+    // How often a kernel waited without success.
     missed: AtomicUsize,
 }
 
@@ -176,7 +176,7 @@ impl Gate for Meeting {
     }
 }
 
-// Looks at the flag until it is set, at most so often. Whether it is.
+// Looks at the flag until it is set, at most that often. Returns whether it is set.
 pub(crate) fn is_set(flag: &AtomicBool) -> bool {
     for _ in 0..TURNS {
         if flag.load(Ordering::SeqCst) {

@@ -7,7 +7,7 @@ use std::io;
 use std::io::{Cursor, ErrorKind, Read, Write};
 use std::test::Fail;
 
-/// The bytes 0, 1, 2 and so on, so many of them.
+/// That many bytes: 0, 1, 2 and so on.
 fn counting(alloc: Global, count: u8) -> Result<Vec<u8>, AllocError> {
     let mut bytes = Vec::with_capacity(alloc, count as usize)?;
     for byte in 0..count {
@@ -16,7 +16,7 @@ fn counting(alloc: Global, count: u8) -> Result<Vec<u8>, AllocError> {
     Ok(bytes)
 }
 
-/// Gives its bytes three at a call, and fails once, at the call that comes after these.
+/// Gives its bytes three at a call, and fails once, at the call after these.
 #[derive(Drop)]
 struct Stumbling<'a> {
     bytes: &'a [u8],
@@ -35,7 +35,7 @@ impl<'a> Read for Stumbling<'a> {
     }
 }
 
-/// Takes three bytes at a call for so many calls. Then it takes nothing, or fails.
+/// Takes three bytes at a call for that many calls. Then it takes nothing, or fails.
 #[derive(Drop)]
 struct Stopping {
     got: Vec<u8>,

@@ -57,15 +57,15 @@ fn handled(kernel: u32) -> Entry
     }
 }
 
-// Does nothing for so many turns of a loop.
+// Does nothing for that many turns of a loop.
 fn idle(turns: u32) {
     for _ in 0..turns {
         hint::spin_loop();
     }
 }
 
-// An entry of the pass's kernel: its place in one turn, and the entry itself in another, which is
-// held for a while.
+// Makes an entry of the pass's kernel: its place in one turn, and the entry itself in another,
+// which is held for a while.
 fn enter<N: RunName, W: Wait>(
     rt: &W,
     turn: &Turn<N>,
@@ -89,7 +89,7 @@ fn enter<N: RunName, W: Wait>(
     Ok(())
 }
 
-// So many entries of the pass's kernel.
+// Makes that many entries of the pass's kernel.
 fn enter_all<N: RunName, W: Wait>(
     rt: &W,
     turn: &Turn<N>,
@@ -106,8 +106,8 @@ fn enter_all<N: RunName, W: Wait>(
     Ok(pass)
 }
 
-// Two kernels make entries side by side, for each of which the turn is held for a while; the journal
-// of both.
+// Two kernels make entries side by side; the turn is held for a while for each of them. Returns the
+// journal of both.
 fn entered<N: RunName + Send + Sync, R: Threads + Wait + Sync>(
     rt: &R,
     alloc: Global,
@@ -144,7 +144,7 @@ fn entered<N: RunName + Send + Sync, R: Threads + Wait + Sync>(
 
 #[test]
 fn two_kernels_make_entries_side_by_side(rt: HostRuntime) -> Result<(), Fail> {
-    // A thread sleeps that waits for a turn which is held for long, and is woken.
+    // A thread waits for a turn that is held for long: it sleeps, and is woken.
     for held in [0, 20_000] {
         let opened = opened(rt.alloc(), 2)?;
         let journal = entered::<Brand, HostRuntime>(&rt, rt.alloc(), opened, held)?;

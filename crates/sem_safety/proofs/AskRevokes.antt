@@ -26,10 +26,13 @@ use Rattle.sem_msg.specs.declared.code.Code.{Code}
 use Rattle.sem_msg.specs.declared.code.Code.TheVariants.{Ok as OkCode, Dead}
 use Rattle.sem_msg.specs.JobRows.{if_done, next_done}
 use Rattle.sem_msg.specs.Codes.{code_number}
-use Rattle.sem_machine.specs.Sides.{Side, job_removed, ready, row, cap, job, parked, freed, parked_as, unparked, buried, unlinked, mark_all, unbind_all, job_opened, send}
+use Rattle.sem_machine.specs.Sides.{Side, job_removed, ready, row, cap, job, parked, freed, parked_as, unparked, buried, unlinked, mark_all, unbind_all}
+use Rattle.sem_machine.specs.Sides.{job_opened, send}
 use Rattle.sem_machine.specs.Asks.{asker, is_unawaited, promise_freed, call_refused, refusal_sent, ask_refused}
 use Rattle.sem_key.specs.Region.{region, children_of}
-use Rattle.sem_machine.specs.Revokes.{count_raised, count_lowered, with_up, other_marker, adopted, request_or_adopt, root_spared, swept, woken, parent_left, left_parent, up_told, closed_here, closed, finish, settled, opened, begin, clear_begun, revoke_begun, ready_freed, obtain_cancelled, request_begun, revoke_requested, revoke_done}
+use Rattle.sem_machine.specs.Revokes.{count_raised, count_lowered, with_up, other_marker, adopted, request_or_adopt, root_spared, swept, woken, parent_left}
+use Rattle.sem_machine.specs.Revokes.{left_parent, up_told, closed_here, closed, finish, settled, opened, begin, clear_begun, revoke_begun, ready_freed}
+use Rattle.sem_machine.specs.Revokes.{obtain_cancelled, request_begun, revoke_requested, revoke_done}
 use Rattle.sem_machine.specs.Ends.{ask_ended, call_ended, revoked_if_left, keys_of, ended}
 use Rattle.sem_key.proofs.Puts.{get_or-put_same}
 use Rattle.sem_safety.specs.Onward.{IsOnward}
@@ -39,7 +42,8 @@ use Rattle.sem_safety.proofs.Layers.{facts}
 use Rattle.sem_machine.proofs.Folds.{in_turn-keeps}
 use Rattle.sem_safety.proofs.Onwards.{Any, AnyPlace, onward-same, onward}
 use Rattle.sem_safety.proofs.JobIds.{IdsRise, done-among, next-among}
-use Rattle.sem_safety.proofs.AskWeights.{waits, here, of_ask, of_side, free_at, side-slot, parked-costs, side-waiting, side-same, side-unparked_dead, side-buried, side-marked, side-send, side-opened, side-changed, side-waiter, side-left, side-closed, id-weighs}
+use Rattle.sem_safety.proofs.AskWeights.{waits, here, of_ask, of_side, free_at, side-slot, parked-costs, side-waiting, side-same, side-unparked_dead}
+use Rattle.sem_safety.proofs.AskWeights.{side-buried, side-marked, side-send, side-opened, side-changed, side-waiter, side-left, side-closed, id-weighs}
 
 module _ (v0 : ℕ) where
   -- no more than m
@@ -47,27 +51,38 @@ module _ (v0 : ℕ) where
   Bounded m t = of_side v0 t ≤ m
 
   swept-bounded : (x : JobRow) (s : Side) → Bounded (of_side v0 s) (swept x s)
-  swept-bounded x s = in_turn-keeps (λ rows. Bounded (of_side v0 s) (record s { vpes = rows })) (λ (c : Capability) rows. VpeRows.freed c.key.vpe c.selector rows) (λ c rows is. let less = side-slot v0 (record s { vpes = rows }) c.key.vpe c.selector Free in omega (arith, less, is)) (marked_by x.id (root_spared x s).caps) s.vpes (omega arith)
+  swept-bounded x s = in_turn-keeps (λ rows. Bounded (of_side v0 s) (record s { vpes = rows }))
+      (λ (c : Capability) rows. VpeRows.freed c.key.vpe c.selector rows) (λ c rows is. let less =
+      side-slot v0 (record s { vpes = rows }) c.key.vpe c.selector Free in omega (arith, less, is)) (marked_by x.id (root_spared x s).caps) s.vpes (omega arith)
 
   woken-bounded : (vs : List ℕ) (t : Side) → Bounded (of_side v0 t + sum_by (here v0) vs) (woken vs t)
   unfolding in_turn
   woken-bounded [] t = omega arith
   woken-bounded (v ∷ vs) t =
-      let light : of_side v0 (woken (v ∷ vs) t) ≤ of_side v0 (ready (code_number OkCode) v t) + sum_by (here v0) vs = woken-bounded vs (ready (code_number OkCode) v t) in
+      let light : of_side v0 (woken (v ∷ vs) t) ≤ of_side v0 (ready (code_number OkCode) v t) + sum_by (here v0) vs =
+      woken-bounded vs (ready (code_number OkCode) v t) in
       let one = parked-costs v0 t v (Ready (code_number OkCode)) in
       let all = sum_by-cons (here v0) v vs in
       omega (arith, light, one, all)
 
-  left-bounded : (T : Setup) (i id count : ℕ) (root : KeyName) (up : Option Up) (waiters : List ℕ) (keep : Bool) (o : Option KeyName) (t : Side) → Bounded (of_side v0 t) (parent_left T i (record { id = id; root = root; up = up; waiters = waiters; count = count; keep = keep }) o t)
+  left-bounded : (T : Setup) (i id count : ℕ) (root : KeyName) (up : Option Up) (waiters : List ℕ) (keep : Bool) (o : Option KeyName) (t : Side) →
+      Bounded (of_side v0 t) (parent_left T i (record { id = id; root = root; up = up; waiters = waiters; count = count; keep = keep }) o t)
   left-bounded T i id count root up waiters keep None t = omega arith
-  left-bounded T i id count root None waiters keep (Some p) t = cond_both (is_local T i p) (unlinked p root t) (send (owner_of T p) (Unlink p root) t) (Bounded (of_side v0 t)) (λ _. omega arith) (λ _. let more : of_side v0 (send (owner_of T p) (Unlink p root) t) ≡ of_side v0 t + 0 = side-send v0 t (owner_of T p) (Unlink p root) in omega (arith, more))
-  left-bounded T i id count root (Some (Local j)) waiters keep (Some p) t = cond_both (is_local T i p) (unlinked p root t) (send (owner_of T p) (Unlink p root) t) (Bounded (of_side v0 t)) (λ _. omega arith) (λ _. let more : of_side v0 (send (owner_of T p) (Unlink p root) t) ≡ of_side v0 t + 0 = side-send v0 t (owner_of T p) (Unlink p root) in omega (arith, more))
-  left-bounded T i id count root (Some (Remote kernel j)) waiters keep (Some p) t = cond_both (is_local T i p) (unlinked p root t) t (Bounded (of_side v0 t)) (λ _. omega arith) (λ _. omega arith)
+  left-bounded T i id count root None waiters keep (Some p) t = cond_both (is_local T i p) (unlinked p root t) (send (owner_of T p) (Unlink p root) t)
+      (Bounded (of_side v0 t)) (λ _. omega arith) (λ _. let more : of_side v0 (send (owner_of T p) (Unlink p root) t) ≡ of_side v0 t + 0 =
+      side-send v0 t (owner_of T p) (Unlink p root) in omega (arith, more))
+  left-bounded T i id count root (Some (Local j)) waiters keep (Some p) t =
+      cond_both (is_local T i p) (unlinked p root t) (send (owner_of T p) (Unlink p root) t) (Bounded (of_side v0 t)) (λ _. omega arith)
+      (λ _. let more : of_side v0 (send (owner_of T p) (Unlink p root) t) ≡ of_side v0 t + 0 = side-send v0 t (owner_of T p) (Unlink p root) in
+      omega (arith, more))
+  left-bounded T i id count root (Some (Remote kernel j)) waiters keep (Some p) t = cond_both (is_local T i p) (unlinked p root t) t (Bounded (of_side v0 t))
+      (λ _. omega arith) (λ _. omega arith)
 
   told-bounded : (up : Option Up) (t : Side) → of_side v0 (up_told up t) ≤ of_side v0 t
   told-bounded None t = omega arith
   told-bounded (Some (Local j)) t = let less = side-changed v0 t j (λ x. record x { count = x.count - 1 }) (λ x. refl) in omega (arith, less)
-  told-bounded (Some (Remote kernel j)) t = let more : of_side v0 (send kernel (RevokeDone j) t) ≡ of_side v0 t + 0 = side-send v0 t kernel (RevokeDone j) in omega (arith, more)
+  told-bounded (Some (Remote kernel j)) t = let more : of_side v0 (send kernel (RevokeDone j) t) ≡ of_side v0 t + 0 = side-send v0 t kernel (RevokeDone j) in
+      omega (arith, more)
 
   closed-fewer : (T : Setup) (i : ℕ) (x : JobRow) (s : Side) → Contains s.jobs x → of_side v0 (closed T i x s) ≤ of_side v0 s
   unfolding closed_here
@@ -84,7 +99,8 @@ module _ (v0 : ℕ) where
       let pays = id-weighs v0 s.jobs x among in
       omega (arith, w1, w2, w3, w4, out, pays)
 
-  finish-fewer : (T : Setup) (i n : ℕ) (o : Option JobRow) (s : Side) → ((x : JobRow) → o ≡ Some x → Contains s.jobs x) → of_side v0 (finish T i n o s) ≤ of_side v0 s
+  finish-fewer : (T : Setup) (i n : ℕ) (o : Option JobRow) (s : Side) → ((x : JobRow) → o ≡ Some x → Contains s.jobs x) →
+      of_side v0 (finish T i n o s) ≤ of_side v0 s
   unfolding finish
   finish-fewer T i zero o s among = omega arith
   finish-fewer T i (suc n) None s among = omega arith
@@ -106,14 +122,16 @@ module _ (v0 : ℕ) where
 
   request-same : (T : Setup) (i j : ℕ) (k : KeyName) (t : Side) → of_side v0 (request_or_adopt T i j k t) ≡ of_side v0 t
   request-same T i j k t =
-      cond_both (is_local T i k) (adopted j (other_marker j (cap t k)) t) (count_raised j (send (owner_of T k) (RevokeReq k j) t)) (λ u. of_side v0 u ≡ of_side v0 t)
+      cond_both (is_local T i k) (adopted j (other_marker j (cap t k)) t) (count_raised j (send (owner_of T k) (RevokeReq k j) t)) (λ u. of_side v0 u
+      ≡ of_side v0 t)
       (λ _. adopted-same j (other_marker j (cap t k)) t)
       (λ _.
       let more : of_side v0 (send (owner_of T k) (RevokeReq k j) t) ≡ of_side v0 t + 0 = side-send v0 t (owner_of T k) (RevokeReq k j) in
       let count = side-changed v0 (send (owner_of T k) (RevokeReq k j) t) j (λ x. record x { count = x.count + 1 }) (λ x. refl) in
       omega (arith, more, count))
 
-  pub begin-costs : (T : Setup) (i : ℕ) (root : KeyName) (up : Option Up) (waiters : List ℕ) (keep : Bool) (s : Side) → of_side v0 (begin T i root up waiters keep s) ≤ of_side v0 s + sum_by (here v0) waiters
+  pub begin-costs : (T : Setup) (i : ℕ) (root : KeyName) (up : Option Up) (waiters : List ℕ) (keep : Bool) (s : Side) →
+      of_side v0 (begin T i root up waiters keep s) ≤ of_side v0 s + sum_by (here v0) waiters
   unfolding opened
   begin-costs T i root up waiters keep s =
       let j : ℕ = s.next_job in
@@ -125,12 +143,14 @@ module _ (v0 : ℕ) where
       let one = side-opened v0 s root up waiters keep in
       let two = side-marked v0 with_job ks j in
       let m : ℕ = of_side v0 marked in
-      let three : of_side v0 asked ≡ m = in_turn-keeps (λ t. of_side v0 t ≡ m) (request_or_adopt T i j) (λ k t is. request-same T i j k t ∙ is) children marked refl in
+      let three : of_side v0 asked ≡ m = in_turn-keeps (λ t. of_side v0 t ≡ m) (request_or_adopt T i j) (λ k t is. request-same T i j k t
+      ∙ is) children marked refl in
       let four = settled-fewer T i j asked in
       omega (arith, one, two, three, four)
 
   -- a VPE that may call begins to wait
-  pub cleared-costs : (T : Setup) (i v : ℕ) (k : KeyName) (s : Side) → free_at v0 v (row s v) (parked s v) ≡ here v0 v → of_side v0 (clear_begun T i v k s) ≤ of_side v0 s
+  pub cleared-costs : (T : Setup) (i v : ℕ) (k : KeyName) (s : Side) → free_at v0 v (row s v) (parked s v) ≡ here v0 v →
+      of_side v0 (clear_begun T i v k s) ≤ of_side v0 s
   cleared-costs T i v k s may =
       let waiting : Side = parked_as v (RevokeWait s.next_job) s in
       let park = side-waiting v0 s v (RevokeWait s.next_job) refl in
@@ -139,7 +159,8 @@ module _ (v0 : ℕ) where
       let none : sum_by (here v0) [] ≡ 0 = refl in
       omega (arith, park, begins, may, one, none)
 
-  pub begun-costs : (T : Setup) (i v : ℕ) (k : KeyName) (mark : Option ℕ) (s : Side) → IdsRise s.jobs → free_at v0 v (row s v) (parked s v) ≡ here v0 v → of_side v0 (revoke_begun T i v k mark s) ≤ of_side v0 s
+  pub begun-costs : (T : Setup) (i v : ℕ) (k : KeyName) (mark : Option ℕ) (s : Side) → IdsRise s.jobs → free_at v0 v (row s v) (parked s v) ≡ here v0 v →
+      of_side v0 (revoke_begun T i v k mark s) ≤ of_side v0 s
   begun-costs T i v k None s rise may =
       let waiting : Side = parked_as v (RevokeWait s.next_job) s in
       let park = side-waiting v0 s v (RevokeWait s.next_job) refl in
@@ -156,7 +177,8 @@ module _ (v0 : ℕ) where
   cancelled-same : (k : KeyName) (s : Side) → of_side v0 (obtain_cancelled k s) ≤ of_side v0 s
   cancelled-same k s = from (parked s k.vpe) refl
     where
-      from : (p : Option Parked) → parked s k.vpe ≡ p → of_side v0 (if is_ready_with k p then parked_as k.vpe ObtainCancelled (ready_freed p k.vpe s) else s) ≤ of_side v0 s
+      from : (p : Option Parked) → parked s k.vpe ≡ p →
+          of_side v0 (if is_ready_with k p then parked_as k.vpe ObtainCancelled (ready_freed p k.vpe s) else s) ≤ of_side v0 s
       from None at = omega arith
       from (Some (ObtainReady key parent object sel)) at =
           let t : Side = freed k.vpe sel s in
@@ -171,13 +193,17 @@ module _ (v0 : ℕ) where
       from (Some (Ready code)) at = omega arith
 
   request_begun-fewer : (T : Setup) (i from j : ℕ) (k : KeyName) (mark : Option ℕ) (s : Side) → of_side v0 (request_begun T i from j k mark s) ≤ of_side v0 s
-  request_begun-fewer T i from j k None s = let begins = begin-costs T i k (Some (Remote from j)) [] false s in let none : sum_by (here v0) [] ≡ 0 = refl in omega (arith, begins, none)
-  request_begun-fewer T i from j k (Some m) s = let same = side-changed v0 s m (λ x. record x { up = Some (Remote from j); keep = false }) (λ x. refl) in omega (arith, same)
+  request_begun-fewer T i from j k None s = let begins = begin-costs T i k (Some (Remote from j)) [] false s in let none : sum_by (here v0) [] ≡ 0 = refl in
+      omega (arith, begins, none)
+  request_begun-fewer T i from j k (Some m) s = let same = side-changed v0 s m (λ x. record x { up = Some (Remote from j); keep = false }) (λ x. refl) in
+      omega (arith, same)
 
-  pub requested-fewer : (T : Setup) (i from j : ℕ) (k : KeyName) (o : Option Capability) (s : Side) → of_side v0 (revoke_requested T i from j k o s) ≤ of_side v0 s
+  pub requested-fewer : (T : Setup) (i from j : ℕ) (k : KeyName) (o : Option Capability) (s : Side) →
+      of_side v0 (revoke_requested T i from j k o s) ≤ of_side v0 s
   requested-fewer T i from j k (Some c) s = request_begun-fewer T i from j k c.mark s
   requested-fewer T i from j k None s =
-      let more : of_side v0 (send from (RevokeDone j) (obtain_cancelled k s)) ≡ of_side v0 (obtain_cancelled k s) + 0 = side-send v0 (obtain_cancelled k s) from (RevokeDone j) in
+      let more : of_side v0 (send from (RevokeDone j) (obtain_cancelled k s)) ≡ of_side v0 (obtain_cancelled k s) + 0 =
+      side-send v0 (obtain_cancelled k s) from (RevokeDone j) in
       let less = cancelled-same k s in
       omega (arith, more, less)
 
@@ -214,14 +240,18 @@ module _ (v0 : ℕ) where
       omega (arith, same, more)
 
   refusal-costs : (T : Setup) (code : Code) (a : Ask) (s : Side) → of_side v0 (refusal_sent T code a s) ≤ of_side v0 s + of_ask v0 a
-  refusal-costs T code (ObtainAsk place target) s = let more : of_side v0 (send (place_owner T place) (ObtainNo place (code_number code)) s) ≡ of_side v0 s + here v0 place.vpe = side-send v0 s (place_owner T place) (ObtainNo place (code_number code)) in omega (arith, more)
-  refusal-costs T code (DelegateAsk parent object sel) s = let more : of_side v0 (send (owner_of T parent) (DelegateNo parent (code_number code)) s) ≡ of_side v0 s + here v0 parent.vpe = side-send v0 s (owner_of T parent) (DelegateNo parent (code_number code)) in omega (arith, more)
+  refusal-costs T code (ObtainAsk place target) s = let more : of_side v0 (send (place_owner T place) (ObtainNo place (code_number code)) s)
+      ≡ of_side v0 s + here v0 place.vpe = side-send v0 s (place_owner T place) (ObtainNo place (code_number code)) in omega (arith, more)
+  refusal-costs T code (DelegateAsk parent object sel) s = let more : of_side v0 (send (owner_of T parent) (DelegateNo parent (code_number code)) s)
+      ≡ of_side v0 s + here v0 parent.vpe = side-send v0 s (owner_of T parent) (DelegateNo parent (code_number code)) in omega (arith, more)
 
   pub ask_refused-costs : (T : Setup) (i : ℕ) (code : Code) (a : Ask) (s : Side) → of_side v0 (ask_refused T i code a s) ≤ of_side v0 s + of_ask v0 a
-  ask_refused-costs T i code a s = cond_both (kernel_of T (asker a) == i) (call_refused (code_number code) (asker a) s) (refusal_sent T code a s) (λ u. of_side v0 u ≤ of_side v0 s + of_ask v0 a) (λ _. call_refused-costs (code_number code) (asker a) s) (λ _. refusal-costs T code a s)
+  ask_refused-costs T i code a s = cond_both (kernel_of T (asker a) == i) (call_refused (code_number code) (asker a) s) (refusal_sent T code a s)
+      (λ u. of_side v0 u ≤ of_side v0 s + of_ask v0 a) (λ _. call_refused-costs (code_number code) (asker a) s) (λ _. refusal-costs T code a s)
 
   ask_ended-costs : (T : Setup) (i : ℕ) (a : Ask) (s : Side) → of_side v0 (ask_ended T i a s) ≤ of_side v0 s + of_ask v0 a
-  ask_ended-costs T i a s = cond_both (is_unawaited T i s a) s (ask_refused T i Dead a s) (λ u. of_side v0 u ≤ of_side v0 s + of_ask v0 a) (λ _. omega arith) (λ _. ask_refused-costs T i Dead a s)
+  ask_ended-costs T i a s = cond_both (is_unawaited T i s a) s (ask_refused T i Dead a s) (λ u. of_side v0 u ≤ of_side v0 s + of_ask v0 a) (λ _. omega arith)
+      (λ _. ask_refused-costs T i Dead a s)
 
   asks_ended-cost : (T : Setup) (i : ℕ) (asks : List Ask) (s : Side) → of_side v0 (in_turn (ask_ended T i) asks s) ≤ of_side v0 s + sum_by (of_ask v0) asks
   unfolding in_turn
@@ -235,10 +265,12 @@ module _ (v0 : ℕ) where
   call_ended-fewer : (T : Setup) (p : Option Parked) (v : ℕ) (s : Side) → of_side v0 (call_ended T p v s) ≤ of_side v0 s
   call_ended-fewer T None v s = omega arith
   call_ended-fewer T (Some (ObtainWait number sel)) v s = omega arith
-  call_ended-fewer T (Some (ObtainReady key parent object sel)) v s = let more : of_side v0 (send (owner_of T parent) (Orphan parent key) s) ≡ of_side v0 s + 0 = side-send v0 s (owner_of T parent) (Orphan parent key) in omega (arith, more)
+  call_ended-fewer T (Some (ObtainReady key parent object sel)) v s = let more : of_side v0 (send (owner_of T parent) (Orphan parent key) s)
+      ≡ of_side v0 s + 0 = side-send v0 s (owner_of T parent) (Orphan parent key) in omega (arith, more)
   call_ended-fewer T (Some ObtainCancelled) v s = omega arith
   call_ended-fewer T (Some (DelegateWait parent)) v s = omega arith
-  call_ended-fewer T (Some (DelegateReady parent key)) v s = let more : of_side v0 (send (owner_of T key) (Ack key false) s) ≡ of_side v0 s + 0 = side-send v0 s (owner_of T key) (Ack key false) in omega (arith, more)
+  call_ended-fewer T (Some (DelegateReady parent key)) v s = let more : of_side v0 (send (owner_of T key) (Ack key false) s) ≡ of_side v0 s + 0 =
+      side-send v0 s (owner_of T key) (Ack key false) in omega (arith, more)
   call_ended-fewer T (Some (RevokeWait j)) v s = side-left v0 s j v
   call_ended-fewer T (Some (Ready code)) v s = omega arith
 
@@ -261,12 +293,17 @@ module _ (v0 : ℕ) where
       let asks : List Ask = (row s v).asks in
       let answered : Side = in_turn (ask_ended T i) asks (buried v s) in
       let left : Side = call_ended T (parked answered v) v (unparked v answered) in
-      let on : IsOnward (buried v s) answered = in_turn-keeps (IsOnward (buried v s)) (ask_ended T i) (λ a t is. ask_ended-in (facts Any AnyPlace) AnyVpe (IsOnward (buried v s)) (onward (buried v s)).kept T i a t is) asks (buried v s) (onward-same (buried v s)) in
-      let gone : (row (buried v s) v).alive ≡ false = ap (λ (r : VpeRow). r.alive) (get_or-put_same no_vpe s.vpes v (record (row s v) { alive = false; asks = [] })) in
-      let dead : (row answered v).alive ≡ false = false_from_ne_true (row answered v).alive (λ lives. let before = on.dead v lives in absurd (cc (before, gone))) in
+      let on : IsOnward (buried v s) answered =
+      in_turn-keeps (IsOnward (buried v s)) (ask_ended T i) (λ a t is. ask_ended-in (facts Any AnyPlace) AnyVpe (IsOnward (buried v s))
+      (onward (buried v s)).kept T i a t is) asks (buried v s) (onward-same (buried v s)) in
+      let gone : (row (buried v s) v).alive ≡ false =
+      ap (λ (r : VpeRow). r.alive) (get_or-put_same no_vpe s.vpes v (record (row s v) { alive = false; asks = [] })) in
+      let dead : (row answered v).alive ≡ false = false_from_ne_true (row answered v).alive (λ lives. let before = on.dead v lives in
+      absurd (cc (before, gone))) in
       let one = side-buried v0 s v in
       let two = asks_ended-cost T i asks (buried v s) in
       let three = side-unparked_dead v0 answered v dead in
       let four = call_ended-fewer T (parked answered v) v (unparked v answered) in
       let light : of_side v0 left ≤ m = omega (arith, one, two, three, four) in
-      in_turn-keeps (λ t. of_side v0 t ≤ m) (revoked_if_left T i) (λ k t is. let fewer = revoked-fewer T i k (cap t k) t in omega (arith, is, fewer)) (keys_of left v) left light
+      in_turn-keeps (λ t. of_side v0 t ≤ m) (revoked_if_left T i) (λ k t is. let fewer = revoked-fewer T i k (cap t k) t in
+      omega (arith, is, fewer)) (keys_of left v) left light

@@ -1,5 +1,7 @@
--- One exchange at a time: what is under way for a VPE that asks, revokes or delegates, and whether it may call. Each change of a side adds no more than it is handed.
-use Rattle.std.proofs.Common.{◌≡◌, ℕ, ◌+◌, ◌≤◌, ◌&&◌, Bool, true, false, not, List, [], ◌∷◌, ◌++◌, length, drop, get_or, Option, Some, None, slice_get, refl, sym, ap, subst, ◌∙◌, inl, inr, arith, eq-eqb, ◌<◌}
+-- One exchange at a time: what is under way for a VPE that asks, revokes or delegates, and whether it may call. Each change of a side adds no more than it is
+-- handed.
+use Rattle.std.proofs.Common.{◌≡◌, ℕ, ◌+◌, ◌≤◌, ◌&&◌, Bool, true, false, not, List, [], ◌∷◌, ◌++◌, length, drop, get_or, Option, Some, None, slice_get, refl}
+use Rattle.std.proofs.Common.{sym, ap, subst, ◌∙◌, inl, inr, arith, eq-eqb, ◌<◌}
 use Rattle.std.specs.Prelude.{◌==◌, nat_lt, if◌then◌else◌}
 use Rattle.std.specs.List.{Contains, AllPairs, filter, sum_by}
 use Rattle.std.proofs.lemmas.Bool.{cases_eq, cond-true, cond-false, cond_both, eqb-true, ne_eqb}
@@ -8,7 +10,8 @@ use Rattle.sem_key.specs.KeyName.{KeyName}
 use Rattle.sem_key.specs.Lists.{put}
 use Rattle.sem_msg.specs.declared.limits.TheConstants.{ASKS}
 use Rattle.sem_msg.specs.declared.message.Message.{Message}
-use Rattle.sem_msg.specs.declared.message.Message.TheVariants.{ObtainReq, ObtainOk, ObtainNo, DelegateReq, DelegatePrepared, DelegateNo, Ack, Orphan, RevokeReq, RevokeDone, Unlink}
+use Rattle.sem_msg.specs.declared.message.Message.TheVariants.{ObtainReq, ObtainOk, ObtainNo, DelegateReq, DelegatePrepared, DelegateNo, Ack, Orphan, RevokeReq}
+use Rattle.sem_msg.specs.declared.message.Message.TheVariants.{RevokeDone, Unlink}
 use Rattle.sem_msg.specs.declared.state.Ask.{Ask}
 use Rattle.sem_msg.specs.declared.state.Parked.{Parked}
 use Rattle.sem_msg.specs.declared.state.Parked.TheVariants.{ObtainWait, ObtainReady, ObtainCancelled, DelegateWait, DelegateReady, RevokeWait, Ready}
@@ -18,7 +21,8 @@ use Rattle.sem_msg.specs.declared.state.Up.{Up}
 use Rattle.sem_msg.specs.Rows.{Endpoint, JobRow, VpeRow, no_vpe}
 use Rattle.sem_msg.specs.JobRows.{with_number, without_number}
 use Rattle.sem_machine.specs.Asks.{asker}
-use Rattle.sem_machine.specs.Sides.{Side, row, outbox, call_counted, drawn, with_slot, parked_as, unparked, asked, ask_taken, buried, with_endpoint, unbind_all, job_opened, job_changed, job_removed, mark_all, send, sent, with_inbox, parked}
+use Rattle.sem_machine.specs.Sides.{Side, row, outbox, call_counted, drawn, with_slot, parked_as, unparked, asked, ask_taken, buried, with_endpoint, unbind_all}
+use Rattle.sem_machine.specs.Sides.{job_opened, job_changed, job_removed, mark_all, send, sent, with_inbox, parked}
 use Rattle.sem_machine.specs.Resumes.{can_resume}
 use Rattle.sem_machine.specs.Revokes.{waiter_left}
 use Rattle.sem_machine.specs.Endpoints.{with_ring}
@@ -86,38 +90,50 @@ module _ (v0 : ℕ) where
   free_at v r p = if v == v0 then free r p else 0
 
   pub free-most : (v : ℕ) (r : VpeRow) (p : Option Parked) → free_at v r p ≤ here v
-  free-most v r p = cond_both (v == v0) (free r p) 0 (λ n. n ≤ here v) (λ same. let one : here v ≡ 1 = cond-true (v == v0) 1 0 same in let most : free r p ≤ 1 = cond_both (r.alive && not (waits p)) 1 0 (λ n. n ≤ 1) (λ _. omega arith) (λ _. omega arith) in omega (arith, one, most)) (λ _. omega arith)
+  free-most v r p = cond_both (v == v0) (free r p) 0 (λ n. n ≤ here v) (λ same. let one : here v ≡ 1 = cond-true (v == v0) 1 0 same in
+      let most : free r p ≤ 1 = cond_both (r.alive && not (waits p)) 1 0 (λ n. n ≤ 1) (λ _. omega arith) (λ _. omega arith) in
+      omega (arith, one, most)) (λ _. omega arith)
 
   -- Rows.
 
   -- a row comes in for another
-  pub side-row : (s : Side) (v : ℕ) (r : VpeRow) → of_side (record s { vpes = put no_vpe s.vpes v r }) + (free_at v (row s v) (parked s v) + of_asks (row s v)) ≡ of_side s + (free_at v r (parked s v) + of_asks r)
+  pub side-row : (s : Side) (v : ℕ) (r : VpeRow) → of_side (record s { vpes = put no_vpe s.vpes v r }) + (free_at v (row s v) (parked s v) + of_asks (row s v))
+      ≡ of_side s + (free_at v r (parked s v) + of_asks r)
   side-row s v r =
       let rows = weigh-put of_asks no_vpe refl s.vpes v r in
       elim (cases_eq v v0) [
         | inl same ↦
-            let now : free (row (record s { vpes = put no_vpe s.vpes v r }) v0) (parked s v0) ≡ free r (parked s v) = ap (λ x. free x (parked s v0)) (subst (λ w. get_or (put no_vpe s.vpes v r) w no_vpe ≡ r) same (get_or-put_same no_vpe s.vpes v r)) ∙ ap (λ w. free r (parked s w)) (sym same) in
-            let old : free_at v (row s v) (parked s v) ≡ free (row s v0) (parked s v0) = cond-true (v == v0) (free (row s v) (parked s v)) 0 (eq-eqb v v0 same) ∙ ap (λ w. free (row s w) (parked s w)) same in
+            let now : free (row (record s { vpes = put no_vpe s.vpes v r }) v0) (parked s v0) ≡ free r (parked s v) =
+            ap (λ x. free x (parked s v0)) (subst (λ w. get_or (put no_vpe s.vpes v r) w no_vpe ≡ r) same (get_or-put_same no_vpe s.vpes v r))
+            ∙ ap (λ w. free r (parked s w)) (sym same) in
+            let old : free_at v (row s v) (parked s v) ≡ free (row s v0) (parked s v0) = cond-true (v == v0) (free (row s v) (parked s v)) 0 (eq-eqb v v0 same)
+            ∙ ap (λ w. free (row s w) (parked s w)) same in
             let new : free_at v r (parked s v) ≡ free r (parked s v) = cond-true (v == v0) (free r (parked s v)) 0 (eq-eqb v v0 same) in
             omega (arith, rows, now, old, new)
         | inr other ↦
-            let now : free (row (record s { vpes = put no_vpe s.vpes v r }) v0) (parked s v0) ≡ free (row s v0) (parked s v0) = ap (λ x. free x (parked s v0)) (get_or-put_other no_vpe s.vpes v v0 r (λ same. other (sym same))) in
+            let now : free (row (record s { vpes = put no_vpe s.vpes v r }) v0) (parked s v0) ≡ free (row s v0) (parked s v0) =
+            ap (λ x. free x (parked s v0)) (get_or-put_other no_vpe s.vpes v v0 r (λ same. other (sym same))) in
             let old : free_at v (row s v) (parked s v) ≡ 0 = cond-false (v == v0) (free (row s v) (parked s v)) 0 (ne_eqb v v0 other) in
             let new : free_at v r (parked s v) ≡ 0 = cond-false (v == v0) (free r (parked s v)) 0 (ne_eqb v v0 other) in
             omega (arith, rows, now, old, new)
       ]
 
   -- a parked call, or none, comes in for another
-  side-park : (s : Side) (v : ℕ) (p : Option Parked) → of_side (record s { parks = put None s.parks v p }) + free_at v (row s v) (parked s v) ≡ of_side s + free_at v (row s v) p
+  side-park : (s : Side) (v : ℕ) (p : Option Parked) → of_side (record s { parks = put None s.parks v p }) + free_at v (row s v) (parked s v)
+      ≡ of_side s + free_at v (row s v) p
   side-park s v p =
       elim (cases_eq v v0) [
         | inl same ↦
-            let now : free (row s v0) (parked (record s { parks = put None s.parks v p }) v0) ≡ free (row s v) p = ap (free (row s v0)) (subst (λ w. get_or (put None s.parks v p) w None ≡ p) same (get_or-put_same None s.parks v p)) ∙ ap (λ w. free (row s w) p) (sym same) in
-            let old : free_at v (row s v) (parked s v) ≡ free (row s v0) (parked s v0) = cond-true (v == v0) (free (row s v) (parked s v)) 0 (eq-eqb v v0 same) ∙ ap (λ w. free (row s w) (parked s w)) same in
+            let now : free (row s v0) (parked (record s { parks = put None s.parks v p }) v0) ≡ free (row s v) p =
+            ap (free (row s v0)) (subst (λ w. get_or (put None s.parks v p) w None ≡ p) same (get_or-put_same None s.parks v p))
+            ∙ ap (λ w. free (row s w) p) (sym same) in
+            let old : free_at v (row s v) (parked s v) ≡ free (row s v0) (parked s v0) = cond-true (v == v0) (free (row s v) (parked s v)) 0 (eq-eqb v v0 same)
+            ∙ ap (λ w. free (row s w) (parked s w)) same in
             let new : free_at v (row s v) p ≡ free (row s v) p = cond-true (v == v0) (free (row s v) p) 0 (eq-eqb v v0 same) in
             omega (arith, now, old, new)
         | inr other ↦
-            let now : free (row s v0) (parked (record s { parks = put None s.parks v p }) v0) ≡ free (row s v0) (parked s v0) = ap (free (row s v0)) (get_or-put_other None s.parks v v0 p (λ same. other (sym same))) in
+            let now : free (row s v0) (parked (record s { parks = put None s.parks v p }) v0) ≡ free (row s v0) (parked s v0) =
+            ap (free (row s v0)) (get_or-put_other None s.parks v v0 p (λ same. other (sym same))) in
             let old : free_at v (row s v) (parked s v) ≡ 0 = cond-false (v == v0) (free (row s v) (parked s v)) 0 (ne_eqb v v0 other) in
             let new : free_at v (row s v) p ≡ 0 = cond-false (v == v0) (free (row s v) p) 0 (ne_eqb v v0 other) in
             omega (arith, now, old, new)
@@ -166,13 +182,15 @@ module _ (v0 : ℕ) where
   pub side-same : (s : Side) (v : ℕ) (p : Parked) → waits (parked s v) ≡ false → waits (Some p) ≡ false → of_side (parked_as v p s) ≡ of_side s
   side-same s v p before now =
       let rows = side-parked s v p in
-      let same : free_at v (row s v) (parked s v) ≡ free_at v (row s v) (Some p) = ap (λ b. if v == v0 then (if (row s v).alive && not b then 1 else 0) else 0) (before ∙ sym now) in
+      let same : free_at v (row s v) (parked s v) ≡ free_at v (row s v) (Some p) = ap (λ b. if v == v0 then (if (row s v).alive && not b then 1 else 0)
+      else 0) (before ∙ sym now) in
       omega (arith, rows, same)
 
   pub side-unparked : (s : Side) (v : ℕ) → can_resume (parked s v) ≡ true → of_side (unparked v s) ≡ of_side s
   side-unparked s v can =
       let rows = side-park s v None in
-      let same : free_at v (row s v) (parked s v) ≡ free_at v (row s v) None = ap (λ b. if v == v0 then (if (row s v).alive && not b then 1 else 0) else 0) (from (parked s v) can) in
+      let same : free_at v (row s v) (parked s v) ≡ free_at v (row s v) None = ap (λ b. if v == v0 then (if (row s v).alive && not b then 1 else 0)
+      else 0) (from (parked s v) can) in
       omega (arith, rows, same)
     where
       from : (p : Option Parked) → can_resume p ≡ true → waits p ≡ false
@@ -186,7 +204,8 @@ module _ (v0 : ℕ) where
       from (Some (Ready code)) h = refl
 
   dead-none : (v : ℕ) (r : VpeRow) (p : Option Parked) → r.alive ≡ false → free_at v r p ≡ 0
-  dead-none v r p dead = cond_both (v == v0) (free r p) 0 (λ n. n ≡ 0) (λ _. cond-false (r.alive && not (waits p)) 1 0 (ap (λ b. b && not (waits p)) dead)) (λ _. refl)
+  dead-none v r p dead = cond_both (v == v0) (free r p) 0 (λ n. n ≡ 0) (λ _. cond-false (r.alive && not (waits p)) 1 0 (ap (λ b. b && not (waits p)) dead))
+      (λ _. refl)
 
   pub side-unparked_dead : (s : Side) (v : ℕ) → (row s v).alive ≡ false → of_side (unparked v s) ≤ of_side s
   side-unparked_dead s v dead =
@@ -205,7 +224,9 @@ module _ (v0 : ℕ) where
       let asks : List Ask = (row s v).asks in
       let more : List Ask = if nat_lt (length asks) ASKS then asks ++ a ∷ [] else asks in
       let push = sum_by_push of_ask asks a in
-      let sum : sum_by of_ask more ≤ sum_by of_ask asks + of_ask a = cond_both (nat_lt (length asks) ASKS) (asks ++ a ∷ []) asks (λ xs. sum_by of_ask xs ≤ sum_by of_ask asks + of_ask a) (λ _. omega (arith, push)) (λ _. omega arith) in
+      let sum : sum_by of_ask more ≤ sum_by of_ask asks + of_ask a =
+      cond_both (nat_lt (length asks) ASKS) (asks ++ a ∷ []) asks (λ xs. sum_by of_ask xs ≤ sum_by of_ask asks + of_ask a) (λ _. omega (arith, push))
+      (λ _. omega arith) in
       let rows = side-row s v (record (row s v) { asks = more }) in
       omega (arith, rows, sum)
 
@@ -238,7 +259,8 @@ module _ (v0 : ℕ) where
 
   -- Jobs.
 
-  pub side-opened : (s : Side) (root : KeyName) (up : Option Up) (waiters : List ℕ) (keep : Bool) → of_side (job_opened root up waiters keep s) ≡ of_side s + sum_by here waiters
+  pub side-opened : (s : Side) (root : KeyName) (up : Option Up) (waiters : List ℕ) (keep : Bool) →
+      of_side (job_opened root up waiters keep s) ≡ of_side s + sum_by here waiters
   side-opened s root up waiters keep =
       let push = sum_by_push of_job s.jobs (record { id = s.next_job; root = root; up = up; waiters = waiters; count = 0; keep = keep }) in
       omega (arith, push)
@@ -246,7 +268,8 @@ module _ (v0 : ℕ) where
   -- a change that leaves those who wait
   pub side-changed : (s : Side) (j : ℕ) (f : JobRow → JobRow) → ((x : JobRow) → of_job (f x) ≡ of_job x) → of_side (job_changed j f s) ≡ of_side s
   side-changed s j f same =
-      let jobs = weigh-map of_job (λ x. if x.id == j then f x else x) (λ x. cond_both (x.id == j) (f x) x (λ y. of_job y ≡ of_job x) (λ _. same x) (λ _. refl)) s.jobs in
+      let jobs = weigh-map of_job (λ x. if x.id == j then f x else x) (λ x. cond_both (x.id == j) (f x) x (λ y. of_job y ≡ of_job x) (λ _. same x) (λ _. refl))
+      s.jobs in
       omega (arith, jobs)
 
   number-more : (vs : List ℕ) (v : ℕ) → sum_by here (with_number vs v) ≤ sum_by here vs + here v
@@ -258,8 +281,10 @@ module _ (v0 : ℕ) where
 
   pub side-waiter : (s : Side) (v j : ℕ) → IdsRise s.jobs → of_side (job_changed j (λ x. record x { waiters = with_number x.waiters v }) s) ≤ of_side s + here v
   side-waiter s v j rise =
-      let pairs : AllPairs (λ (a b : JobRow). (a.id == j) ≡ true → (b.id == j) ≡ false) s.jobs = λ m n e lt within at. apart (get_or s.jobs m e).id (get_or s.jobs n e).id (rise m n e lt within) at in
-      let jobs = change-once of_job (λ x. x.id == j) (λ x. record x { waiters = with_number x.waiters v }) (here v) s.jobs pairs (λ x _. number-more x.waiters v) in
+      let pairs : AllPairs (λ (a b : JobRow). (a.id == j) ≡ true → (b.id == j) ≡ false) s.jobs =
+      λ m n e lt within at. apart (get_or s.jobs m e).id (get_or s.jobs n e).id (rise m n e lt within) at in
+      let jobs = change-once of_job (λ x. x.id == j) (λ x. record x { waiters = with_number x.waiters v }) (here v) s.jobs pairs
+      (λ x _. number-more x.waiters v) in
       omega (arith, jobs)
     where
       apart : (a b : ℕ) → a < b → (a == j) ≡ true → (b == j) ≡ false
@@ -267,7 +292,10 @@ module _ (v0 : ℕ) where
 
   pub side-left : (s : Side) (j v : ℕ) → of_side (waiter_left j v s) ≤ of_side s
   side-left s j v =
-      let jobs = weigh-map_less of_job (λ (x : JobRow). record x { waiters = without_number x.waiters v; keep = x.keep && not ((x.id == j) && (x.root.vpe == v)) }) (λ x. weigh-filter here (λ w. not (w == v)) x.waiters) s.jobs in
+      let jobs = weigh-map_less of_job (λ (x : JobRow). record x {
+        waiters = without_number x.waiters v;
+        keep = x.keep && not ((x.id == j) && (x.root.vpe == v));
+      }) (λ x. weigh-filter here (λ w. not (w == v)) x.waiters) s.jobs in
       omega (arith, jobs)
 
   abbrev pub of_id : ℕ → List JobRow → ℕ

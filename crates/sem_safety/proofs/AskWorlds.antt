@@ -1,5 +1,6 @@
 -- One exchange at a time: along every schedule there is for each declared VPE one thing under way at most, or the VPE may call, and for no other anything.
-use Rattle.std.proofs.Common.{◌≡◌, ℕ, zero, suc, ◌+◌, ◌≤◌, ◌&&◌, true, List, [], ◌∷◌, ◌++◌, drop, replicate, get_or, Option, Some, None, is_some, is_none, slice_get, refl, sym, ◌∙◌, ap, subst, arith, append-nil, append_assoc}
+use Rattle.std.proofs.Common.{◌≡◌, ℕ, zero, suc, ◌+◌, ◌≤◌, ◌&&◌, true, List, [], ◌∷◌, ◌++◌, drop, replicate, get_or, Option, Some, None, is_some, is_none}
+use Rattle.std.proofs.Common.{slice_get, refl, sym, ◌∙◌, ap, subst, arith, append-nil, append_assoc}
 use Rattle.std.specs.Prelude.{◌==◌, nat_lt, if◌then◌else◌, not}
 use Rattle.std.specs.List.{range_with_len, sum_by}
 use Rattle.std.specs.Option.{option_map, option_map_or}
@@ -26,7 +27,8 @@ use Rattle.sem_machine.specs.Upcalls.{ask_decided, upcall_row}
 use Rattle.sem_machine.specs.Handles.{handled}
 use Rattle.sem_machine.specs.Resumes.{can_resume, resume_row}
 use Rattle.sem_msg.specs.VpeRows.{new_vpe, root_held}
-use Rattle.sem_machine.specs.Machine.{World, side, link, with_side, with_link, start, start_side, empty_side, root_added, vpe_added, vpe_fresh, next_call, local_step, after, event, is_enabled, is_locally_enabled}
+use Rattle.sem_machine.specs.Machine.{World, side, link, with_side, with_link, start, start_side, empty_side, root_added, vpe_added, vpe_fresh, next_call}
+use Rattle.sem_machine.specs.Machine.{local_step, after, event, is_enabled, is_locally_enabled}
 use Rattle.sem_machine.specs.Schedules.{IsSchedule, world_after}
 use Rattle.sem_key.proofs.Puts.{get_or-put_same}
 use Rattle.sem_safety.proofs.GoingOn.{run-append, entry-enabled}
@@ -37,7 +39,8 @@ use Rattle.sem_safety.proofs.SoundEndpoints.{IsSoundSide, sound}
 use Rattle.sem_safety.proofs.SoundWorlds.{start-sound}
 use Rattle.sem_machine.proofs.Weighing.{of_option, weigh-put, weigh-drop, weigh-replicate}
 use Rattle.sem_safety.proofs.JobIds.{IdsRise, HasIds, ids, start-ids}
-use Rattle.sem_safety.proofs.AskWeights.{waits, free, here, of_message, of_ask, of_asks, of_inbox, of_messages, of_side, free_at, free-most, side-row, side-counted, side-taken, side-unparked, side-inbox, side-sent}
+use Rattle.sem_safety.proofs.AskWeights.{waits, free, here, of_message, of_ask, of_asks, of_inbox, of_messages, of_side, free_at, free-most, side-row}
+use Rattle.sem_safety.proofs.AskWeights.{side-counted, side-taken, side-unparked, side-inbox, side-sent}
 use Rattle.sem_safety.proofs.AskRevokes.{ended-fewer}
 use Rattle.sem_safety.proofs.AskRows.{call_row-few, decided-costs, resumed-same, handled-costs}
 use Rattle.sem_key.specs.declared.limits.TheConstants.{VPES}
@@ -55,23 +58,27 @@ module _ (v0 : ℕ) where
   may-call : (s : Side) (v : ℕ) → is_alive s v ≡ true → is_none (parked s v) ≡ true → free_at v0 v (row (call_counted v s) v) (parked s v) ≡ here v0 v
   may-call s v lives idle =
       let r : VpeRow = record (row s v) { next_call = (row s v).next_call + 1 } in
-      let at : free_at v0 v (row (call_counted v s) v) (parked s v) ≡ free_at v0 v r (parked s v) = ap (λ x. free_at v0 v x (parked s v)) (get_or-put_same no_vpe s.vpes v r) in
+      let at : free_at v0 v (row (call_counted v s) v) (parked s v) ≡ free_at v0 v r (parked s v) =
+      ap (λ x. free_at v0 v x (parked s v)) (get_or-put_same no_vpe s.vpes v r) in
       let quiet : not (waits (parked s v)) ≡ true = from (parked s v) idle in
-      let one : free r (parked s v) ≡ 1 = cond-true ((row s v).alive && not (waits (parked s v))) 1 0 (and_from (row s v).alive (not (waits (parked s v))) lives quiet) in
+      let one : free r (parked s v) ≡ 1 =
+      cond-true ((row s v).alive && not (waits (parked s v))) 1 0 (and_from (row s v).alive (not (waits (parked s v))) lives quiet) in
       at ∙ ap (λ n. if v == v0 then n else 0) one
     where
       from : (p : Option Parked) → is_none p ≡ true → not (waits p) ≡ true
       from None h = refl
       from (Some p) h = absurd cc
 
-  called-few : (T : Setup) (i : ℕ) (s : Side) (v : ℕ) (input : Option Message) → IsSoundSide s → IdsRise s.jobs → is_alive s v ≡ true → is_none (parked s v) ≡ true → of_side v0 (local_step T i s (Calls v) input).side ≤ of_side v0 s
+  called-few : (T : Setup) (i : ℕ) (s : Side) (v : ℕ) (input : Option Message) → IsSoundSide s → IdsRise s.jobs → is_alive s v ≡ true →
+      is_none (parked s v) ≡ true → of_side v0 (local_step T i s (Calls v) input).side ≤ of_side v0 s
   unfolding local_step
   called-few T i s v input sound' rise lives idle =
       let t : Side = call_counted v s in
       let same = side-counted v0 s v in
       let r : VpeRow = record (row s v) { next_call = (row s v).next_call + 1 } in
       let sound_t : IsSoundSide t = sound.keeps_counted s sound' v in
-      option-keeps (λ (x : Step). of_side v0 x.side ≤ of_side v0 s) (call_row T i t v) (next_call T s v) (plain s) (λ c there. let few = call_row-few v0 t v (may-call s v lives idle) T i c sound_t rise in omega (arith, same, few)) (omega arith)
+      option-keeps (λ (x : Step). of_side v0 x.side ≤ of_side v0 s) (call_row T i t v) (next_call T s v) (plain s) (λ c there. let few =
+      call_row-few v0 t v (may-call s v lives idle) T i c sound_t rise in omega (arith, same, few)) (omega arith)
 
   upcalled-few : (T : Setup) (i : ℕ) (s : Side) (v : ℕ) (input : Option Message) → of_side v0 (local_step T i s (Upcall v) input).side ≤ of_side v0 s
   unfolding local_step upcall_row
@@ -84,7 +91,8 @@ module _ (v0 : ℕ) where
       omega (arith, taken, first, costs))
       (omega arith)
 
-  resumed-few : (T : Setup) (i : ℕ) (s : Side) (v : ℕ) (input : Option Message) → can_resume (parked s v) ≡ true → of_side v0 (local_step T i s (Resume v) input).side ≤ of_side v0 s
+  resumed-few : (T : Setup) (i : ℕ) (s : Side) (v : ℕ) (input : Option Message) → can_resume (parked s v) ≡ true →
+      of_side v0 (local_step T i s (Resume v) input).side ≤ of_side v0 s
   unfolding local_step resume_row
   resumed-few T i s v input can =
       let out = side-unparked v0 s v can in
@@ -136,9 +144,11 @@ module _ (v0 : ℕ) where
       let same = in_inbox j input in
       omega (arith, new, moved, front, inbox, same)
 
-  link-more : (V : World) (i j : ℕ) (o : Option Message) → of_world (option_map_or (λ m. with_link i j (link V i j ++ m ∷ []) V) o V) ≡ of_world V + of_option (of_message v0) o
+  link-more : (V : World) (i j : ℕ) (o : Option Message) → of_world (option_map_or (λ m. with_link i j (link V i j ++ m ∷ []) V) o V)
+      ≡ of_world V + of_option (of_message v0) o
   link-more V i j None = omega arith
-  link-more V i j (Some m) = let more = world-link V i j (link V i j ++ m ∷ []) in let push = sum_by_push (of_message v0) (link V i j) m in omega (arith, more, push)
+  link-more V i j (Some m) = let more = world-link V i j (link V i j ++ m ∷ []) in let push = sum_by_push (of_message v0) (link V i j) m in
+      omega (arith, more, push)
 
   flushed : (T : Setup) (W : World) (i j : ℕ) → of_world (after T W (event i (Flush j))) ≤ of_world W
   unfolding after local_step
@@ -150,11 +160,13 @@ module _ (v0 : ℕ) where
       let more = link-more V i j (slice_get (outbox s j) 0) in
       omega (arith, new, gone, more)
 
-  pub after-few : (T : Setup) (W : World) (i : ℕ) (a : Act) → IsSoundSide (side W i) → IdsRise (side W i).jobs → is_enabled T W (event i a) ≡ true → of_world (after T W (event i a)) ≤ of_world W
+  pub after-few : (T : Setup) (W : World) (i : ℕ) (a : Act) → IsSoundSide (side W i) → IdsRise (side W i).jobs → is_enabled T W (event i a) ≡ true →
+      of_world (after T W (event i a)) ≤ of_world W
   unfolding after is_enabled is_locally_enabled
   after-few T W i (Calls v) sound' rise enabled =
       let s : Side = side W i in
-      let here' = (and_parts ((kernel_of T v == i) && (is_alive s v && (is_none (parked s v) && is_some (next_call T s v)))) _ (and_parts (nat_lt i T.kernels) _ enabled).1).0 in
+      let here' = (and_parts ((kernel_of T v == i) && (is_alive s v && (is_none (parked s v) && is_some (next_call T s v)))) _
+      (and_parts (nat_lt i T.kernels) _ enabled).1).0 in
       let two = and_parts (is_alive s v) (is_none (parked s v) && is_some (next_call T s v)) (and_parts (kernel_of T v == i) _ here').1 in
       let few = called-few T i s v None sound' rise two.0 (and_parts (is_none (parked s v)) (is_some (next_call T s v)) two.1).0 in
       let new = world-side W i (local_step T i s (Calls v) None).side in
@@ -237,14 +249,17 @@ module _ (v0 : ℕ) where
       let mapped = sum-of_map (of_side v0) (start_side T) kernels in
       let each = sum-le (λ i. of_side v0 (start_side T i)) (λ i. sum_by declared (own_vpes T i)) (side-first T) kernels in
       let owned = owned-once (λ (d : VpeDecl). pe_owner T d.pe) declared T.kernels T.vpes in
-      let links : of_links (replicate T.kernels (replicate T.kernels [])) ≡ 0 = weigh-replicate (λ (ls : List (List Message)). sum_by (of_messages v0) ls) T.kernels (replicate T.kernels []) (weigh-replicate (of_messages v0) T.kernels [] refl) in
+      let links : of_links (replicate T.kernels (replicate T.kernels [])) ≡ 0 =
+      weigh-replicate (λ (ls : List (List Message)). sum_by (of_messages v0) ls) T.kernels (replicate T.kernels [])
+      (weigh-replicate (of_messages v0) T.kernels [] refl) in
       omega (arith, mapped, each, owned, links)
 
   -- A schedule.
   pub one-exchange : (T : Setup) (J : List Entry) → IsSchedule T J → of_world (world_after T J) ≤ sum_by (λ (d : VpeDecl). here v0 d.vpe) T.vpes
   one-exchange T J runs = from [] J refl (start-first T)
     where
-      from : (before later : List Entry) → J ≡ before ++ later → of_world (world_after T before) ≤ sum_by declared T.vpes → of_world (world_after T J) ≤ sum_by declared T.vpes
+      from : (before later : List Entry) → J ≡ before ++ later → of_world (world_after T before) ≤ sum_by declared T.vpes →
+          of_world (world_after T J) ≤ sum_by declared T.vpes
       from before [] parts is = subst (λ K. of_world (world_after T K) ≤ sum_by declared T.vpes) (sym (parts ∙ append-nil before)) is
       from before (e ∷ es) parts is =
           let W : World = world_after T before in

@@ -39,10 +39,12 @@ sum_to-le (suc n) f i within = elim (cases_eq i n) [
 ]
 
 -- where two functions of two numbers differ only at one pair
-sums-but : (n : ℕ) (f g : ℕ → ℕ → ℕ) (i j : ℕ) → i < n → j < n → ((a b : ℕ) → ((a ≡ i) × (b ≡ j) → ⊥) → g a b ≡ f a b) → sum_to n (λ a. sum_to n (g a)) + f i j ≡ sum_to n (λ a. sum_to n (f a)) + g i j
+sums-but : (n : ℕ) (f g : ℕ → ℕ → ℕ) (i j : ℕ) → i < n → j < n → ((a b : ℕ) → ((a ≡ i) × (b ≡ j) → ⊥) → g a b ≡ f a b) →
+    sum_to n (λ a. sum_to n (g a)) + f i j ≡ sum_to n (λ a. sum_to n (f a)) + g i j
 sums-but n f g i j in_i in_j same =
     let row = sum_to-but n (f i) (g i) j in_j (λ b other. same i b (λ both. other both.1)) in
-    let rows = sum_to-but n (λ a. sum_to n (f a)) (λ a. sum_to n (g a)) i in_i (λ a other. sum_to-same n (g a) (f a) (λ b lt. same a b (λ both. other both.0))) in
+    let rows = sum_to-but n (λ a. sum_to n (f a)) (λ a. sum_to n (g a)) i in_i (λ a other. sum_to-same n (g a) (f a) (λ b lt. same a b (λ both. other both.0)))
+    in
     omega arith
 
 -- Messages.
@@ -55,24 +57,32 @@ module _ (test : Message → Bool) where
   count-end ms m = sum_by-append (one_if test) ms (m ∷ []) ∙ ap (λ n. count_by test ms + n) (omega arith)
 
   -- a flush and a fetch leave the number
-  pub in_flight-flushed : (n i j : ℕ) (m : Message) (rest : List Message) (W : World) → outbox (side W i) j ≡ m ∷ rest → in_flight n test (with_link i j (link W i j ++ m ∷ []) (with_side i (sent j (side W i)) W)) ≡ in_flight n test W
+  pub in_flight-flushed : (n i j : ℕ) (m : Message) (rest : List Message) (W : World) → outbox (side W i) j ≡ m ∷ rest →
+      in_flight n test (with_link i j (link W i j ++ m ∷ []) (with_side i (sent j (side W i)) W)) ≡ in_flight n test W
   in_flight-flushed n i j m rest W front = sum_to-same n _ _ (λ a lt. sum_to-same n _ _ (λ b below. ap (count_by test) (way-flushed i j m rest W front a b)))
 
-  pub in_flight-fetched : (n i j : ℕ) (m : Message) (rest : List Message) (W : World) → link W i j ≡ m ∷ rest → (side W j).inbox ≡ None → in_flight n test (with_link i j rest (with_side j (with_inbox (Some (i, m)) (side W j)) W)) ≡ in_flight n test W
-  in_flight-fetched n i j m rest W front empty = sum_to-same n _ _ (λ a lt. sum_to-same n _ _ (λ b below. ap (count_by test) (way-fetched i j m rest W front empty a b)))
+  pub in_flight-fetched : (n i j : ℕ) (m : Message) (rest : List Message) (W : World) → link W i j ≡ m ∷ rest → (side W j).inbox ≡ None →
+      in_flight n test (with_link i j rest (with_side j (with_inbox (Some (i, m)) (side W j)) W)) ≡ in_flight n test W
+  in_flight-fetched n i j m rest W front empty =
+      sum_to-same n _ _ (λ a lt. sum_to-same n _ _ (λ b below. ap (count_by test) (way-fetched i j m rest W front empty a b)))
 
   -- what is handled is one less
-  pub in_flight-handled : (n i j : ℕ) (m : Message) (W : World) → i < n → j < n → (side W j).inbox ≡ Some (i, m) → in_flight n test W ≡ in_flight n test (with_side j (with_inbox None (side W j)) W) + one_if test m
+  pub in_flight-handled : (n i j : ℕ) (m : Message) (W : World) → i < n → j < n → (side W j).inbox ≡ Some (i, m) →
+      in_flight n test W ≡ in_flight n test (with_side j (with_inbox None (side W j)) W) + one_if test m
   in_flight-handled n i j m W in_i in_j held =
       let V : World = with_side j (with_inbox None (side W j)) W in
-      let apart = sums-but n (λ a b. count_by test (way W a b)) (λ a b. count_by test (way V a b)) i j in_i in_j (λ a b other. ap (count_by test) (way-taken_other i j m W held a b other)) in
-      let here : count_by test (way W i j) ≡ one_if test m + count_by test (way V i j) = ap (count_by test) (way-taken i j m W held) ∙ count-front m (way V i j) in
+      let apart = sums-but n (λ a b. count_by test (way W a b)) (λ a b. count_by test (way V a b)) i j in_i in_j
+      (λ a b other. ap (count_by test) (way-taken_other i j m W held a b other)) in
+      let here : count_by test (way W i j) ≡ one_if test m + count_by test (way V i j) = ap (count_by test) (way-taken i j m W held)
+      ∙ count-front m (way V i j) in
       omega arith
 
   -- what is sent is one more
-  pub in_flight-sent : (n i j : ℕ) (m : Message) (W : World) → i < n → j < n → in_flight n test (with_side i (send j m (side W i)) W) ≡ in_flight n test W + one_if test m
+  pub in_flight-sent : (n i j : ℕ) (m : Message) (W : World) → i < n → j < n →
+      in_flight n test (with_side i (send j m (side W i)) W) ≡ in_flight n test W + one_if test m
   in_flight-sent n i j m W in_i in_j =
       let V : World = with_side i (send j m (side W i)) W in
-      let apart = sums-but n (λ a b. count_by test (way W a b)) (λ a b. count_by test (way V a b)) i j in_i in_j (λ a b other. ap (count_by test) (way-posted_other i j m W a b other)) in
+      let apart = sums-but n (λ a b. count_by test (way W a b)) (λ a b. count_by test (way V a b)) i j in_i in_j
+      (λ a b other. ap (count_by test) (way-posted_other i j m W a b other)) in
       let here : count_by test (way V i j) ≡ count_by test (way W i j) + one_if test m = ap (count_by test) (way-posted i j m W) ∙ count-end (way W i j) m in
       omega arith

@@ -17,7 +17,9 @@ use Rattle.sem_safety.proofs.GoingOn.{moved-sides}
 -- the side after the step of an event
 pub side-after : (T : Setup) (W : World) (e : Event) → side (after T W e) e.kernel ≡ (stepped T W e).side
 unfolding after
-side-after T W e = ap (λ (sides : List Side). get_or sides e.kernel no_side) (moved-sides e.kernel (side W e.kernel) e.act (with_side e.kernel (stepped T W e).side W)) ∙ get_or-put_same no_side W.sides e.kernel (stepped T W e).side
+side-after T W e =
+    ap (λ (sides : List Side). get_or sides e.kernel no_side) (moved-sides e.kernel (side W e.kernel) e.act (with_side e.kernel (stepped T W e).side W))
+    ∙ get_or-put_same no_side W.sides e.kernel (stepped T W e).side
 
 -- an enabled event draws for a VPE of its kernel
 may_act_here : (T : Setup) (i : ℕ) (s : Side) (a : Act) → is_locally_enabled T i s a ≡ true → MayDraw (λ v. kernel_of T v ≡ i) a
@@ -32,4 +34,6 @@ may_act_here T i s (Kill v) allowed = tt
 
 pub may_draw : (T : Setup) (W : World) (e : Event) → is_enabled T W e ≡ true → MayDraw (λ v. kernel_of T v ≡ e.kernel) e.act
 unfolding is_enabled
-may_draw T W e enabled = may_act_here T e.kernel (side W e.kernel) e.act (and_parts (is_locally_enabled T e.kernel (side W e.kernel) e.act) (is_allowed T W e.kernel e.act) (and_parts (nat_lt e.kernel T.kernels) _ enabled).1).0
+may_draw T W e enabled =
+    may_act_here T e.kernel (side W e.kernel) e.act (and_parts (is_locally_enabled T e.kernel (side W e.kernel) e.act) (is_allowed T W e.kernel e.act)
+    (and_parts (nat_lt e.kernel T.kernels) _ enabled).1).0

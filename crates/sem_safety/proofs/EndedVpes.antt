@@ -31,5 +31,6 @@ ended-on T i v s =
 pub killed-dead : (T : Setup) (i v : ℕ) (s : Side) → (row (ended T i v s) v).alive ≡ false
 killed-dead T i v s = false_from_ne_true (row (ended T i v s) v).alive (λ lives.
     let before = (ended-on T i v s).dead v lives in
-    let dead : (row (buried v s) v).alive ≡ false = ap (λ (r : VpeRow). r.alive) (get_or-put_same no_vpe s.vpes v (record (row s v) { alive = false; asks = [] })) in
+    let dead : (row (buried v s) v).alive ≡ false =
+    ap (λ (r : VpeRow). r.alive) (get_or-put_same no_vpe s.vpes v (record (row s v) { alive = false; asks = [] })) in
     absurd (cc (before, dead)))

@@ -28,7 +28,8 @@ without_one : ℕ → List ℕ → List ℕ
 without_one x [] = []
 without_one x (y ∷ ys) = if y == x then ys else y ∷ without_one x ys
 
-there-is : (x : ℕ) (ys : List ℕ) → 1 ≤ sum_by (here x) ys → (length (without_one x ys) + 1 ≡ length ys) × ((v : ℕ) → sum_by (here v) (without_one x ys) + here v x ≡ sum_by (here v) ys)
+there-is : (x : ℕ) (ys : List ℕ) → 1 ≤ sum_by (here x) ys → (length (without_one x ys) + 1 ≡ length ys)
+    × ((v : ℕ) → sum_by (here v) (without_one x ys) + here v x ≡ sum_by (here v) ys)
 unfolding without_one
 there-is x [] some = absurd (omega (arith, some))
 there-is x (y ∷ ys) some = elim (cases_Bool (y == x)) [
@@ -68,22 +69,27 @@ counted-shorter (x ∷ xs) ys few =
     let whole = few x in
     let inner = there-is x ys (omega (arith, first, one, whole)) in
     let count = inner.0 in
-    let rest = counted-shorter xs (without_one x ys) (λ v. let all = sum_by-cons (here v) x xs in let part = inner.1 v in let fewer = few v in omega (arith, all, part, fewer)) in
+    let rest = counted-shorter xs (without_one x ys) (λ v. let all = sum_by-cons (here v) x xs in let part = inner.1 v in let fewer = few v in
+    omega (arith, all, part, fewer)) in
     omega (arith, rest, count)
 
 -- a rising list of numbers below n has no more than n
-rising-short : (n a : ℕ) (ds : List VpeDecl) → AllPairs (λ (x y : VpeDecl). x.vpe < y.vpe) ds → All (λ (x : VpeDecl). (a ≤ x.vpe) × (x.vpe < n)) ds → a ≤ n → length ds + a ≤ n
+rising-short : (n a : ℕ) (ds : List VpeDecl) → AllPairs (λ (x y : VpeDecl). x.vpe < y.vpe) ds → All (λ (x : VpeDecl). (a ≤ x.vpe) × (x.vpe < n)) ds → a ≤ n →
+    length ds + a ≤ n
 rising-short n a [] rise all few = omega (arith, few)
 rising-short n a (d ∷ ds) rise all few =
     let here' : (a ≤ d.vpe) × (d.vpe < n) = all zero d (omega arith) in
     let low = here'.0 in
     let high = here'.1 in
-    let rest = rising-short n (d.vpe + 1) ds (λ i j e lt within. rise (suc i) (suc j) e (omega (arith, lt)) (omega (arith, within))) (λ k e within. let above = rise zero (suc k) e (omega arith) (omega (arith, within)) in let next : (a ≤ (get_or ds k e).vpe) × ((get_or ds k e).vpe < n) = all (suc k) e (omega (arith, within)) in let below = next.1 in (omega (arith, above), below)) (omega (arith, high)) in
+    let rest = rising-short n (d.vpe + 1) ds (λ i j e lt within. rise (suc i) (suc j) e (omega (arith, lt)) (omega (arith, within))) (λ k e within. let above =
+    rise zero (suc k) e (omega arith) (omega (arith, within)) in let next : (a ≤ (get_or ds k e).vpe)
+    × ((get_or ds k e).vpe < n) = all (suc k) e (omega (arith, within)) in let below = next.1 in (omega (arith, above), below)) (omega (arith, high)) in
     omega (arith, rest, low)
 
 pub few-vpes : (T : Setup) → IsSetup T → length T.vpes ≤ 128
 few-vpes T valid =
-    let all = rising-short 128 0 T.vpes valid.vpes_rise (λ k d within. let declared = valid.vpes k d within in let few = declared.vpe in let most = most_vpes-le T.version in (omega arith, omega (arith, few, most))) (omega arith) in
+    let all = rising-short 128 0 T.vpes valid.vpes_rise (λ k d within. let declared = valid.vpes k d within in let few = declared.vpe in
+    let most = most_vpes-le T.version in (omega arith, omega (arith, few, most))) (omega arith) in
     omega (arith, all)
 
 module _ (T : Setup) (J : List Entry) (runs : IsSchedule T J) where
@@ -94,7 +100,8 @@ module _ (T : Setup) (J : List Entry) (runs : IsSchedule T J) where
   vpes = map (λ (d : VpeDecl). d.vpe) T.vpes
 
   -- a queue, with one more ask that is under way, has no more asks than there are VPEs
-  with-one : (i w v : ℕ) → ((v0 : ℕ) → here v0 v + of_asks v0 (row (side (world_after T J) i) w) ≤ of_world v0 (world_after T J)) → length (row (side (world_after T J) i) w).asks + 1 ≤ length T.vpes
+  with-one : (i w v : ℕ) → ((v0 : ℕ) → here v0 v + of_asks v0 (row (side (world_after T J) i) w) ≤ of_world v0 (world_after T J)) →
+      length (row (side (world_after T J) i) w).asks + 1 ≤ length T.vpes
   with-one i w v under_way =
       let asks : List Ask = (row (side (world_after T J) i) w).asks in
       let shorter = counted-shorter (v ∷ askers i w) vpes (λ v0.
@@ -121,7 +128,8 @@ module _ (T : Setup) (J : List Entry) (runs : IsSchedule T J) where
       omega (arith, queue, part)
 
   -- where a message of an asker is handled, no queue of its kernel is full
-  pub room-at-handling : IsSetup T → (i w v from : ℕ) (m : Message) → (side (world_after T J) i).inbox ≡ Some (from, m) → ((v0 : ℕ) → of_message v0 m ≡ here v0 v) → length (row (side (world_after T J) i) w).asks < ASKS
+  pub room-at-handling : IsSetup T → (i w v from : ℕ) (m : Message) → (side (world_after T J) i).inbox ≡ Some (from, m) →
+      ((v0 : ℕ) → of_message v0 m ≡ here v0 v) → length (row (side (world_after T J) i) w).asks < ASKS
   room-at-handling valid i w v from m fetched of_asker =
       let few = few-vpes T valid in
       let one = with-one i w v (λ v0.
@@ -132,7 +140,8 @@ module _ (T : Setup) (J : List Entry) (runs : IsSchedule T J) where
       omega (arith, few, one)
 
   -- nor where a VPE that may call asks one of its own kernel
-  pub room-at-call : IsSetup T → (i w v : ℕ) → free (row (side (world_after T J) i) v) (parked (side (world_after T J) i) v) ≡ 1 → length (row (side (world_after T J) i) w).asks < ASKS
+  pub room-at-call : IsSetup T → (i w v : ℕ) → free (row (side (world_after T J) i) v) (parked (side (world_after T J) i) v) ≡ 1 →
+      length (row (side (world_after T J) i) w).asks < ASKS
   room-at-call valid i w v may =
       let few = few-vpes T valid in
       let one = with-one i w v (λ v0. beside v0) in

@@ -49,7 +49,9 @@ may_act (Flush to) = tt
 may_act (Kill v) = tt
 
 pub local_step-onward : (T : Setup) (i : ℕ) (s : Side) (a : Act) (input : Option Message) → IsOnward s (local_step T i s a input).side
-local_step-onward T i s a input = local_step-keeps (facts Any AnyPlace) AnyVpe (IsOnward s) (onward s) T i s a input (may_act a) (onward-same s) (blind-act (facts Any AnyPlace) (facts-blind Any AnyPlace (λ p k. Unit {0}) (λ k. Unit {0})) T s a) (any_end T s a) (any_input input) (any_grant (local_step T i s a input).outcome.grant, λ v n may low below. tt, any_cut (local_step T i s a input).outcome.cut)
+local_step-onward T i s a input = local_step-keeps (facts Any AnyPlace) AnyVpe (IsOnward s) (onward s) T i s a input (may_act a) (onward-same s)
+    (blind-act (facts Any AnyPlace) (facts-blind Any AnyPlace (λ p k. Unit {0}) (λ k. Unit {0})) T s a) (any_end T s a) (any_input input)
+    (any_grant (local_step T i s a input).outcome.grant, λ v n may low below. tt, any_cut (local_step T i s a input).outcome.cut)
 
 -- Worlds.
 
@@ -57,7 +59,10 @@ pub worlds-same : (W : World) → IsOnwardWorld W W
 worlds-same W = record { sides = λ i. onward-same (side W i); replies = omega arith }
 
 pub worlds-next : (U V W : World) → IsOnwardWorld U V → IsOnwardWorld V W → IsOnwardWorld U W
-worlds-next U V W first second = record { sides = λ i. onward-next (side U i) (side V i) (side W i) (first.sides i) (second.sides i); replies = let a = first.replies in let b = second.replies in omega arith }
+worlds-next U V W first second = record {
+  sides = λ i. onward-next (side U i) (side V i) (side W i) (first.sides i) (second.sides i);
+  replies = let a = first.replies in let b = second.replies in omega arith;
+}
 
 -- the links are moved; the sides stay
 flushed-sides : (i j : ℕ) (W : World) (front : Option Message) → (option_map_or (λ m. with_link i j (link W i j ++ m ∷ []) W) front W).sides ≡ W.sides
@@ -92,7 +97,8 @@ moved-replies i s (Kill v) W = refl
 
 with_side-onward : (W : World) (i : ℕ) (t : Side) → IsOnward (side W i) t → (j : ℕ) → IsOnward (side W j) (side (with_side i t W) j)
 with_side-onward W i t here j = elim (cases_eq j i) [
-  | inl same ↦ subst (λ n. IsOnward (side W n) (side (with_side i t W) n)) (sym same) (subst (IsOnward (side W i)) (sym (get_or-put_same no_side W.sides i t)) here)
+  | inl same ↦ subst (λ n. IsOnward (side W n) (side (with_side i t W) n)) (sym same)
+      (subst (IsOnward (side W i)) (sym (get_or-put_same no_side W.sides i t)) here)
   | inr other ↦ subst (IsOnward (side W j)) (sym (get_or-put_other no_side W.sides i j t other)) (onward-same (side W j))
 ]
 
@@ -103,8 +109,10 @@ after-onward T W e =
     let V : World = with_side e.kernel x.side W in
     let M : World = link_moved e.kernel (side W e.kernel) e.act V in
     record {
-      sides = λ j. subst (λ (sides : List Side). IsOnward (side W j) (get_or sides j no_side)) (sym (moved-sides e.kernel (side W e.kernel) e.act V)) (with_side-onward W e.kernel x.side (local_step-onward T e.kernel (side W e.kernel) e.act (input_of W e.kernel e.act)) j);
-      replies = subst (λ n. W.replies ≤ option_map_or (λ code. n + 1) x.outcome.reply n) (sym (moved-replies e.kernel (side W e.kernel) e.act V)) (counted W.replies x.outcome.reply);
+      sides = λ j. subst (λ (sides : List Side). IsOnward (side W j) (get_or sides j no_side)) (sym (moved-sides e.kernel (side W e.kernel) e.act V))
+          (with_side-onward W e.kernel x.side (local_step-onward T e.kernel (side W e.kernel) e.act (input_of W e.kernel e.act)) j);
+      replies = subst (λ n. W.replies ≤ option_map_or (λ code. n + 1) x.outcome.reply n) (sym (moved-replies e.kernel (side W e.kernel) e.act V))
+          (counted W.replies x.outcome.reply);
     }
 
 pub run-onward : (T : Setup) (J : List Entry) (W : World) → IsOnwardWorld W (run T W J)
@@ -115,17 +123,21 @@ pub run-append : (T : Setup) (before later : List Entry) (W : World) → run T W
 run-append T [] later W = refl
 run-append T (e ∷ es) later W = run-append T es later (after T W e.event)
 
-pub dead-later : (T : Setup) (before later : List Entry) (i v : ℕ) → is_alive (side (world_after T before) i) v ≡ false → is_alive (side (world_after T (before ++ later)) i) v ≡ false
+pub dead-later : (T : Setup) (before later : List Entry) (i v : ℕ) → is_alive (side (world_after T before) i) v ≡ false →
+    is_alive (side (world_after T (before ++ later)) i) v ≡ false
 dead-later T before later i v dead =
     let onward = run-onward T later (world_after T before) in
-    let still : is_alive (side (run T (world_after T before) later) i) v ≡ false = false_from_ne_true (is_alive (side (run T (world_after T before) later) i) v) (λ lives. let both : false ≡ true = sym dead ∙ (onward.sides i).dead v lives in absurd cc) in
+    let still : is_alive (side (run T (world_after T before) later) i) v ≡ false = false_from_ne_true (is_alive (side (run T (world_after T before) later) i) v)
+    (λ lives. let both : false ≡ true = sym dead ∙ (onward.sides i).dead v lives in absurd cc) in
     subst (λ (W : World). is_alive (side W i) v ≡ false) (sym (run-append T before later (start T))) still
 
 -- a run that goes on with an entry makes it where it stands, by an event that is enabled there
-pub entry-enabled : (T : Setup) (before : List Entry) (W : World) (e : Entry) (later : List Entry) → IsRun T W (before ++ e ∷ later) → IsRun T W before × (is_enabled T (run T W before) e.event ≡ true) × (e ≡ entry_of T (run T W before) e.event)
+pub entry-enabled : (T : Setup) (before : List Entry) (W : World) (e : Entry) (later : List Entry) → IsRun T W (before ++ e ∷ later) →
+    IsRun T W before × (is_enabled T (run T W before) e.event ≡ true) × (e ≡ entry_of T (run T W before) e.event)
 unfolding IsRun
 entry-enabled T [] W e later (allowed, made, rest) = (tt, allowed, made)
-entry-enabled T (b ∷ bs) W e later (allowed, made, rest) = let inner = entry-enabled T bs (after T W b.event) e later rest in ((allowed, made, inner.0), inner.1, inner.2)
+entry-enabled T (b ∷ bs) W e later (allowed, made, rest) = let inner = entry-enabled T bs (after T W b.event) e later rest in
+    ((allowed, made, inner.0), inner.1, inner.2)
 
 -- and is a run up to that entry
 pub run-prefix : (T : Setup) (before : List Entry) (later : List Entry) (e : Entry) (W : World) → IsRun T W (before ++ e ∷ later) → IsRun T W (before ++ e ∷ [])

@@ -32,7 +32,8 @@ weigh-two w d none [] i j apart = omega (arith, none)
 weigh-two w d none (x ∷ xs) zero zero apart = absurd (apart refl)
 weigh-two w d none (x ∷ xs) zero (suc j) apart = let all = sum_by-cons w x xs in let one = weigh-at w d none xs j in omega (arith, all, one)
 weigh-two w d none (x ∷ xs) (suc i) zero apart = let all = sum_by-cons w x xs in let one = weigh-at w d none xs i in omega (arith, all, one)
-weigh-two w d none (x ∷ xs) (suc i) (suc j) apart = let all = sum_by-cons w x xs in let rest = weigh-two w d none xs i j (λ same. apart (ap suc same)) in omega (arith, all, rest)
+weigh-two w d none (x ∷ xs) (suc i) (suc j) apart = let all = sum_by-cons w x xs in let rest = weigh-two w d none xs i j (λ same. apart (ap suc same)) in
+    omega (arith, all, rest)
 
 -- what is held weighs
 held-weighs : (k : KeyName) (s : Side) (c : Capability) → cap s k ≡ Some c → 1 ≤ at_side k all_held s
@@ -42,7 +43,8 @@ held-weighs k s c held =
     let among = weigh-among (at_cap k all_held) s.caps c there.0 in
     omega (arith, one, among)
 
-pub one-kernel : (T : Setup) → IsSetup T → (J : List Entry) → IsSchedule T J → (i j : ℕ) (k : KeyName) (c d : Capability) → HoldsCap (world_after T J) i k c → HoldsCap (world_after T J) j k d → i ≡ j
+pub one-kernel : (T : Setup) → IsSetup T → (J : List Entry) → IsSchedule T J → (i j : ℕ) (k : KeyName) (c d : Capability) → HoldsCap (world_after T J) i k c →
+    HoldsCap (world_after T J) j k d → i ≡ j
 one-kernel T valid J runs i j k c d first second = elim (cases_eq i j) [
   | inl same ↦ same
   | inr apart ↦
@@ -55,12 +57,14 @@ one-kernel T valid J runs i j k c d first second = elim (cases_eq i j) [
 ]
 
 pub keys-distinct : (T : Setup) → IsSetup T → (J : List Entry) → IsSchedule T J → (i : ℕ) → AreDistinct (side (world_after T J) i).caps
-keys-distinct T valid J runs i = λ a b d before within. elim (cases_Bool (key_eq (get_or (side (world_after T J) i).caps a d).key (get_or (side (world_after T J) i).caps b d).key)) [
-  | inr differ ↦ differ
-  | inl same ↦ absurd (twice (side (world_after T J) i).caps a b d before within same (λ k. held-once k T valid J runs i))
-]
+keys-distinct T valid J runs i =
+    λ a b d before within. elim (cases_Bool (key_eq (get_or (side (world_after T J) i).caps a d).key (get_or (side (world_after T J) i).caps b d).key)) [
+      | inr differ ↦ differ
+      | inl same ↦ absurd (twice (side (world_after T J) i).caps a b d before within same (λ k. held-once k T valid J runs i))
+    ]
   where
-    twice : (cs : List Capability) (a b : ℕ) (d : Capability) → a < b → b < length cs → key_eq (get_or cs a d).key (get_or cs b d).key ≡ true → ((k : KeyName) → sum_by (at_cap k all_held) cs ≤ 1) → ⊥
+    twice : (cs : List Capability) (a b : ℕ) (d : Capability) → a < b → b < length cs → key_eq (get_or cs a d).key (get_or cs b d).key ≡ true →
+        ((k : KeyName) → sum_by (at_cap k all_held) cs ≤ 1) → ⊥
     twice [] a b d before within same once = omega (arith, within)
     twice (c ∷ cs) zero zero d before within same once = omega (arith, before)
     twice (c ∷ cs) (suc a) zero d before within same once = omega (arith, before)
@@ -68,8 +72,10 @@ keys-distinct T valid J runs i = λ a b d before within. elim (cases_Bool (key_e
         let k : KeyName = c.key in
         let all = sum_by-cons (at_cap k all_held) c cs in
         let one : at_cap k all_held c ≡ 1 = cond-true (key_eq c.key k) 1 0 (key_eq-same k) in
-        let two : at_cap k all_held (get_or cs b d) ≡ 1 = cond-true (key_eq (get_or cs b d).key k) 1 0 (key_eq-from (get_or cs b d).key k (sym (key_eq-true c.key (get_or cs b d).key same))) in
+        let two : at_cap k all_held (get_or cs b d) ≡ 1 =
+        cond-true (key_eq (get_or cs b d).key k) 1 0 (key_eq-from (get_or cs b d).key k (sym (key_eq-true c.key (get_or cs b d).key same))) in
         let among = weigh-among (at_cap k all_held) cs (get_or cs b d) (Contains-get_or cs b d (omega (arith, within))) in
         let most = once k in
         omega (arith, all, one, two, among, most)
-    twice (c ∷ cs) (suc a) (suc b) d before within same once = twice cs a b d (omega (arith, before)) (omega (arith, within)) same (λ k. let all = sum_by-cons (at_cap k all_held) c cs in let most = once k in omega (arith, all, most))
+    twice (c ∷ cs) (suc a) (suc b) d before within same once = twice cs a b d (omega (arith, before)) (omega (arith, within)) same (λ k. let all =
+        sum_by-cons (at_cap k all_held) c cs in let most = once k in omega (arith, all, most))

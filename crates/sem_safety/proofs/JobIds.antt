@@ -31,12 +31,16 @@ pub record HasIds (s : Side) : Type 0 where
 
 -- a change that leaves the ids
 rise-map : (f : JobRow → JobRow) → ((x : JobRow) → (f x).id ≡ x.id) → (xs : List JobRow) → IdsRise xs → IdsRise (map f xs)
-rise-map f same xs rise = AllPairs-map (λ a b. a.id < b.id) f xs (λ i j d lt within. let one = same (get_or xs i d) in let two = same (get_or xs j d) in let below = rise i j d lt within in omega (arith, one, two, below))
+rise-map f same xs rise = AllPairs-map (λ a b. a.id < b.id) f xs (λ i j d lt within. let one = same (get_or xs i d) in let two = same (get_or xs j d) in
+    let below = rise i j d lt within in omega (arith, one, two, below))
 
-drawn-map : (n : ℕ) (f : JobRow → JobRow) → ((x : JobRow) → (f x).id ≡ x.id) → (xs : List JobRow) → All (λ (x : JobRow). x.id < n) xs → All (λ (x : JobRow). x.id < n) (map f xs)
-drawn-map n f same xs drawn = All-map (λ (x : JobRow). x.id < n) f xs (All-weaker (λ (x : JobRow). x.id < n) (λ x. (f x).id < n) (λ x below. let one = same x in omega (arith, one, below)) xs drawn)
+drawn-map : (n : ℕ) (f : JobRow → JobRow) → ((x : JobRow) → (f x).id ≡ x.id) → (xs : List JobRow) → All (λ (x : JobRow). x.id < n) xs →
+    All (λ (x : JobRow). x.id < n) (map f xs)
+drawn-map n f same xs drawn = All-map (λ (x : JobRow). x.id < n) f xs (All-weaker (λ (x : JobRow). x.id < n) (λ x. (f x).id < n) (λ x below. let one = same x in
+    omega (arith, one, below)) xs drawn)
 
-ids-changed : (s : Side) → HasIds s → (j : ℕ) (f : JobRow → JobRow) → ((x : JobRow) → ((f x).id ≡ x.id) × ((f x).root ≡ x.root)) → HasIds (record s { jobs = change (λ x. x.id == j) f s.jobs })
+ids-changed : (s : Side) → HasIds s → (j : ℕ) (f : JobRow → JobRow) → ((x : JobRow) → ((f x).id ≡ x.id) × ((f x).root ≡ x.root)) →
+    HasIds (record s { jobs = change (λ x. x.id == j) f s.jobs })
 ids-changed s is j f same =
     let g : JobRow → JobRow = λ x. if x.id == j then f x else x in
     let keeps : (x : JobRow) → (g x).id ≡ x.id = λ x. cond_both (x.id == j) (f x) x (λ (y : JobRow). y.id ≡ x.id) (λ _. (same x).0) (λ _. refl) in
@@ -63,17 +67,31 @@ ids = record {
   keeps_pending_added = λ s is p pends. record { rise = is.rise; drawn = is.drawn };
   keeps_pending_removed = λ s is k. record { rise = is.rise; drawn = is.drawn };
   keeps_opened = λ s is root up waiters keep. record {
-    rise = all_pairs_push (λ a b. a.id < b.id) s.jobs (record { id = s.next_job; root = root; up = up; waiters = waiters; count = 0; keep = keep }) is.rise is.drawn;
-    drawn = All-append (λ (x : JobRow). x.id < s.next_job + 1) s.jobs (record { id = s.next_job; root = root; up = up; waiters = waiters; count = 0; keep = keep } ∷ [])
+    rise = all_pairs_push (λ a b. a.id < b.id) s.jobs (record { id = s.next_job; root = root; up = up; waiters = waiters; count = 0; keep = keep }) is.rise
+        is.drawn;
+    drawn = All-append (λ (x : JobRow). x.id < s.next_job + 1) s.jobs (record {
+      id = s.next_job;
+      root = root;
+      up = up;
+      waiters = waiters;
+      count = 0;
+      keep = keep;
+    } ∷ [])
         (All-weaker (λ (x : JobRow). x.id < s.next_job) (λ (x : JobRow). x.id < s.next_job + 1) (λ x below. omega (arith, below)) s.jobs is.drawn)
-        (All-cons (λ (x : JobRow). x.id < s.next_job + 1) (record { id = s.next_job; root = root; up = up; waiters = waiters; count = 0; keep = keep }) [] (omega arith) (All-nil (λ (x : JobRow). x.id < s.next_job + 1)));
+        (All-cons (λ (x : JobRow). x.id < s.next_job + 1) (record { id = s.next_job; root = root; up = up; waiters = waiters; count = 0; keep = keep }) []
+        (omega arith) (All-nil (λ (x : JobRow). x.id < s.next_job + 1)));
   };
   keeps_changed = λ s is j f same. ids-changed s is j f same;
   keeps_left = λ s is j v. record {
-    rise = rise-map (λ (x : JobRow). record x { waiters = without_number x.waiters v; keep = x.keep && not ((x.id == j) && (x.root.vpe == v)) }) (λ x. refl) s.jobs is.rise;
-    drawn = drawn-map s.next_job (λ (x : JobRow). record x { waiters = without_number x.waiters v; keep = x.keep && not ((x.id == j) && (x.root.vpe == v)) }) (λ x. refl) s.jobs is.drawn;
+    rise = rise-map (λ (x : JobRow). record x { waiters = without_number x.waiters v; keep = x.keep && not ((x.id == j) && (x.root.vpe == v)) })
+        (λ x. refl) s.jobs is.rise;
+    drawn = drawn-map s.next_job (λ (x : JobRow). record x { waiters = without_number x.waiters v; keep = x.keep && not ((x.id == j) && (x.root.vpe == v)) })
+        (λ x. refl) s.jobs is.drawn;
   };
-  keeps_closed = λ s is j. record { rise = AllPairs-filter (λ a b. a.id < b.id) (λ x. not (x.id == j)) s.jobs is.rise; drawn = All-filter (λ (x : JobRow). not (x.id == j)) (λ (x : JobRow). x.id < s.next_job) s.jobs is.drawn };
+  keeps_closed = λ s is j. record {
+    rise = AllPairs-filter (λ a b. a.id < b.id) (λ x. not (x.id == j)) s.jobs is.rise;
+    drawn = All-filter (λ (x : JobRow). not (x.id == j)) (λ (x : JobRow). x.id < s.next_job) s.jobs is.drawn;
+  };
   keeps_send = λ s is j msg here. record { rise = is.rise; drawn = is.drawn };
   keeps_sent = λ s is j. record { rise = is.rise; drawn = is.drawn };
   keeps_inbox = λ s is message here. record { rise = is.rise; drawn = is.drawn };
@@ -95,7 +113,9 @@ bare s none = record {
 
 pub side-ids : (T : Setup) (i : ℕ) → HasIds (start_side T i)
 unfolding start_side
-side-ids T i = bare _ (in_turn-keeps (λ (t : Side). t.jobs ≡ []) vpe_added (λ d t here. in_turn-keeps (λ (u : Side). u.jobs ≡ []) (root_added d) (λ r u same. same) d.roots (vpe_fresh d t) here) (filter (λ d. pe_owner T d.pe == i) T.vpes) (empty_side T) refl)
+side-ids T i = bare _
+    (in_turn-keeps (λ (t : Side). t.jobs ≡ []) vpe_added (λ d t here. in_turn-keeps (λ (u : Side). u.jobs ≡ []) (root_added d) (λ r u same. same) d.roots
+    (vpe_fresh d t) here) (filter (λ d. pe_owner T d.pe == i) T.vpes) (empty_side T) refl)
 
 pub start-ids : (T : Setup) (i : ℕ) → HasIds (side (start T) i)
 unfolding start

@@ -14,7 +14,8 @@ use Rattle.sem_key.specs.PlaceName.{PlaceName}
 use Rattle.sem_key.specs.Lists.{in_turn}
 use Rattle.sem_key.specs.Capability.{Capability}
 use Rattle.sem_msg.specs.declared.call.Call.{Call}
-use Rattle.sem_msg.specs.declared.call.Call.TheVariants.{Derive, Gate, Obtain, Delegate, OpenSession, AskOffer, Revoke, Bind, Read, Write, Send as SendCall, Credit, Exit, Clear}
+use Rattle.sem_msg.specs.declared.call.Call.TheVariants.{Derive, Gate, Obtain, Delegate, OpenSession, AskOffer, Revoke, Bind, Read, Write, Send as SendCall}
+use Rattle.sem_msg.specs.declared.call.Call.TheVariants.{Credit, Exit, Clear}
 use Rattle.sem_msg.specs.declared.message.Target.{Target}
 use Rattle.sem_msg.specs.declared.message.Target.TheVariants.{Sel as SelTarget, Serv as ServTarget, Offer as OfferTarget}
 use Rattle.sem_msg.specs.declared.message.Message.TheVariants.{ObtainReq, ObtainNo, DelegateReq, DelegateNo, Ack, Orphan}
@@ -36,7 +37,8 @@ use Rattle.sem_machine.specs.Asks.{target_vpe, asker, is_unawaited, promise_free
 use Rattle.sem_machine.specs.Revokes.{begin}
 use Rattle.sem_msg.specs.Uses.{memory_tests, send_tests, credit_tests}
 use Rattle.sem_machine.specs.Ends.{ask_ended, call_ended, revoked_if_left, ended}
-use Rattle.sem_machine.specs.Calls.{own_tests, next_key, next_place, child_made, with_held, derive_tests, narrowed, gate_tests, ask_made, obtain_tests, open_tests, offer_tests, delegate_tests, offer_made, bind_tests, call_row}
+use Rattle.sem_machine.specs.Calls.{own_tests, next_key, next_place, child_made, with_held, derive_tests, narrowed, gate_tests, ask_made, obtain_tests}
+use Rattle.sem_machine.specs.Calls.{open_tests, offer_tests, delegate_tests, offer_made, bind_tests, call_row}
 use Rattle.sem_safety.proofs.Layers.{InGrant}
 use Rattle.sem_safety.specs.Onward.{IsOnward}
 use Rattle.sem_safety.proofs.Onwards.{onward-same, onward, drawn-below}
@@ -91,7 +93,8 @@ module _ (F : Facts) (D : ℕ → Type 0) (P : Side → Type 0) (L : IsKept F P)
   refusal_sent-in T code (DelegateAsk parent object sel) s is = L.keeps_send s is (owner_of T parent) (DelegateNo parent (code_number code)) tt
 
   pub ask_refused-in : (T : Setup) (i : ℕ) (code : Code) (a : Ask) (s : Side) → P s → P (ask_refused T i code a s)
-  ask_refused-in T i code a s is = cond_both (kernel_of T (asker a) == i) (call_refused (code_number code) (asker a) s) (refusal_sent T code a s) P (λ _. call_refused-in (code_number code) (asker a) s is) (λ _. refusal_sent-in T code a s is)
+  ask_refused-in T i code a s is = cond_both (kernel_of T (asker a) == i) (call_refused (code_number code) (asker a) s) (refusal_sent T code a s) P
+      (λ _. call_refused-in (code_number code) (asker a) s is) (λ _. refusal_sent-in T code a s is)
 
   -- The end of a VPE.
   pub ask_ended-in : (T : Setup) (i : ℕ) (a : Ask) (s : Side) → P s → P (ask_ended T i a s)
@@ -114,22 +117,29 @@ module _ (F : Facts) (D : ℕ → Type 0) (P : Side → Type 0) (L : IsKept F P)
 
   pub revoked_if_there-in : (T : Setup) (i : ℕ) (k : KeyName) (o : Option Capability) (s : Side) → P s → F.doomed k → P (revoked_if_there T i k o s)
   revoked_if_there-in T i k None s is doomed = is
-  revoked_if_there-in T i k (Some c) s is doomed = option-keeps P (λ (m : ℕ). s) c.mark (begin T i k None [] false s) (λ m marked. is) (begin-in F P L T i k None [] false s is doomed)
+  revoked_if_there-in T i k (Some c) s is doomed = option-keeps P (λ (m : ℕ). s) c.mark (begin T i k None [] false s) (λ m marked. is)
+      (begin-in F P L T i k None [] false s is doomed)
 
   pub ended-in : (T : Setup) (i v : ℕ) (s : Side) → P s → ((k : KeyName) → k.vpe ≡ v → F.doomed k) → F.ends v → P (ended T i v s)
   unfolding ended
   ended-in T i v s is dies ends =
       let told = in_turn-keeps P (ask_ended T i) (λ a t here. ask_ended-in T i a t here) (row s v).asks (buried v s) (L.keeps_buried s is v ends) in
-      let left = call_ended-in T (parked (in_turn (ask_ended T i) (row s v).asks (buried v s)) v) v (unparked v (in_turn (ask_ended T i) (row s v).asks (buried v s))) (L.keeps_unparked (in_turn (ask_ended T i) (row s v).asks (buried v s)) told v) in
-      in_turn-keeps_each P (revoked_if_left T i) _ (λ k among t here. revoked_if_there-in T i k (cap t k) t here (dies k (eqb-true k.vpe v (Contains-from_filter (λ (x : KeyName). x.vpe == v) _ k among).1))) _ left
+      let left = call_ended-in T (parked (in_turn (ask_ended T i) (row s v).asks (buried v s)) v) v
+      (unparked v (in_turn (ask_ended T i) (row s v).asks (buried v s))) (L.keeps_unparked (in_turn (ask_ended T i) (row s v).asks (buried v s)) told v) in
+      in_turn-keeps_each P (revoked_if_left T i) _
+      (λ k among t here. revoked_if_there-in T i k (cap t k) t here
+      (dies k (eqb-true k.vpe v (Contains-from_filter (λ (x : KeyName). x.vpe == v) _ k among).1))) _ left
 
   -- Calls.
-  child_made-keeps : (T : Setup) (v dst : ℕ) (object : Object) (parent : KeyName) (s : Side) → P s → Gives F object → Keeps s (child_made T v dst object parent s)
+  child_made-keeps : (T : Setup) (v dst : ℕ) (object : Object) (parent : KeyName) (s : Side) → P s → Gives F object →
+      Keeps s (child_made T v dst object parent s)
   child_made-keeps T v dst object parent s is gives = λ here.
       let k : KeyName = next_key T s v (object_kind object) in
-      installed-in F P L (linked parent k (drawn v s)) (L.keeps_linked (drawn v s) (L.keeps_drawn s is v) parent k here.0.1) k (Some parent) dst object (gives k here.0.0)
+      installed-in F P L (linked parent k (drawn v s)) (L.keeps_linked (drawn v s) (L.keeps_drawn s is v) parent k here.0.1) k (Some parent) dst object
+      (gives k here.0.0)
 
-  with_held-keeps : (o : Option Capability) (f : Capability → Step) (s : Side) → P s → ((c : Capability) → o ≡ Some c → Keeps s (f c)) → Keeps s (with_held o f s)
+  with_held-keeps : (o : Option Capability) (f : Capability → Step) (s : Side) → P s → ((c : Capability) → o ≡ Some c → Keeps s (f c)) →
+      Keeps s (with_held o f s)
   with_held-keeps o f s is each = option-keeps (Keeps s) f o (answer NoCap s) each (λ _. is)
 
   ask_made-keeps : (T : Setup) (i v dst : ℕ) (target : Target) (s : Side) → F.calls v → D v → P s → Keeps s (ask_made T i v dst target s)
@@ -137,20 +147,29 @@ module _ (F : Facts) (D : ℕ → Type 0) (P : Side → Type 0) (L : IsKept F P)
       let place : PlaceName = next_place T s v in
       let w : ℕ = target_vpe target in
       let waiting : Side = parked_as v (ObtainWait place.number dst) (promised v dst (drawn v s)) in
-      let kept : P waiting = L.keeps_parked (promised v dst (drawn v s)) (L.keeps_slot (drawn v s) (L.keeps_drawn s is v) v dst Promised tt) v (ObtainWait place.number dst) tt in
+      let kept : P waiting = L.keeps_parked (promised v dst (drawn v s)) (L.keeps_slot (drawn v s) (L.keeps_drawn s is v) v dst Promised tt) v
+      (ObtainWait place.number dst) tt in
       let O = (onward (drawn v s)).kept in
-      let on : IsOnward (drawn v s) waiting = O.keeps_parked (promised v dst (drawn v s)) (O.keeps_slot (drawn v s) (onward-same (drawn v s)) v dst Promised tt) v (ObtainWait place.number dst) tt in
-      let after : IsOnward (drawn v s) (ask_made T i v dst target s).side = cond_both (kernel_of T w == i) (asked w (ObtainAsk place target) waiting) (send (kernel_of T w) (ObtainReq place target) waiting) (IsOnward (drawn v s)) (λ _. O.keeps_asked waiting on w (ObtainAsk place target) tt) (λ _. O.keeps_send waiting on (kernel_of T w) (ObtainReq place target) tt) in
-      let number : F.asked v place.number = L.asks v place.number calls (hand.1 v place.number may (omega arith) (drawn-below v s (ask_made T i v dst target s).side after)) in
-      cond_both (kernel_of T w == i) (asked w (ObtainAsk place target) waiting) (send (kernel_of T w) (ObtainReq place target) waiting) P (λ _. L.keeps_asked waiting kept w (ObtainAsk place target) number) (λ _. L.keeps_send waiting kept (kernel_of T w) (ObtainReq place target) number)
+      let on : IsOnward (drawn v s) waiting = O.keeps_parked (promised v dst (drawn v s)) (O.keeps_slot (drawn v s) (onward-same (drawn v s)) v dst Promised tt)
+      v (ObtainWait place.number dst) tt in
+      let after : IsOnward (drawn v s) (ask_made T i v dst target s).side = cond_both (kernel_of T w == i) (asked w (ObtainAsk place target) waiting)
+      (send (kernel_of T w) (ObtainReq place target) waiting) (IsOnward (drawn v s)) (λ _. O.keeps_asked waiting on w (ObtainAsk place target) tt)
+      (λ _. O.keeps_send waiting on (kernel_of T w) (ObtainReq place target) tt) in
+      let number : F.asked v place.number =
+      L.asks v place.number calls (hand.1 v place.number may (omega arith) (drawn-below v s (ask_made T i v dst target s).side after)) in
+      cond_both (kernel_of T w == i) (asked w (ObtainAsk place target) waiting) (send (kernel_of T w) (ObtainReq place target) waiting) P
+      (λ _. L.keeps_asked waiting kept w (ObtainAsk place target) number) (λ _. L.keeps_send waiting kept (kernel_of T w) (ObtainReq place target) number)
 
   offer_made-keeps : (T : Setup) (i v w dst : ℕ) (p : Capability) (s : Side) → P s → F.key p.key p.object → Keeps s (offer_made T i v w dst p s)
   offer_made-keeps T i v w dst p s is here = λ _.
       let waiting : Side = parked_as v (DelegateWait p.key) s in
       let kept : P waiting = L.keeps_parked s is v (DelegateWait p.key) tt in
-      cond_both (kernel_of T w == i) (asked w (DelegateAsk p.key p.object dst) waiting) (send (kernel_of T w) (DelegateReq p.key p.object w dst) waiting) P (λ _. L.keeps_asked waiting kept w (DelegateAsk p.key p.object dst) (L.offers p.key p.object here)) (λ _. L.keeps_send waiting kept (kernel_of T w) (DelegateReq p.key p.object w dst) (L.offers p.key p.object here))
+      cond_both (kernel_of T w == i) (asked w (DelegateAsk p.key p.object dst) waiting) (send (kernel_of T w) (DelegateReq p.key p.object w dst) waiting) P
+      (λ _. L.keeps_asked waiting kept w (DelegateAsk p.key p.object dst) (L.offers p.key p.object here))
+      (λ _. L.keeps_send waiting kept (kernel_of T w) (DelegateReq p.key p.object w dst) (L.offers p.key p.object here))
 
-  own-in : (s : Side) → ((k : KeyName) (c : Capability) → cap s k ≡ Some c → F.key c.key c.object) → (v sel : ℕ) (c : Capability) → own s v sel ≡ Some c → F.key c.key c.object
+  own-in : (s : Side) → ((k : KeyName) (c : Capability) → cap s k ≡ Some c → F.key c.key c.object) → (v sel : ℕ) (c : Capability) → own s v sel ≡ Some c →
+      F.key c.key c.object
   own-in s caps v sel c held = from (slot s v sel) held
     where
       from : (x : Slot) → cap_in s x ≡ Some c → F.key c.key c.object
@@ -158,19 +177,39 @@ module _ (F : Facts) (D : ℕ → Type 0) (P : Side → Type 0) (L : IsKept F P)
       from (Held k) some = caps k c some
       from Promised none = absurd cc
 
-  pub call_row-keeps : (T : Setup) (i : ℕ) (s : Side) (v : ℕ) (c : Call) → D v → P s → (c ≡ Exit → (k : KeyName) → k.vpe ≡ v → F.doomed k) → ((k : KeyName) (p : Capability) → cap s k ≡ Some p → F.key p.key p.object) → CallGives F s v c → Keeps s (call_row T i s v c)
+  pub call_row-keeps : (T : Setup) (i : ℕ) (s : Side) (v : ℕ) (c : Call) → D v → P s → (c ≡ Exit → (k : KeyName) → k.vpe ≡ v → F.doomed k) →
+      ((k : KeyName) (p : Capability) → cap s k ≡ Some p → F.key p.key p.object) → CallGives F s v c → Keeps s (call_row T i s v c)
   unfolding call_row
-  call_row-keeps T i s v (Derive src dst off len rights) may is dies caps gives = unless-keeps (Keeps s) (derive_tests s v src dst off len rights) _ _ (λ code _. is) (with_held-keeps (own s v src) _ s is (λ p held. child_made-keeps T v dst (narrowed off len rights p.object) p.key s is (gives p held)))
-  call_row-keeps T i s v (Gate src dst label credits) may is dies caps gives = unless-keeps (Keeps s) (gate_tests s v src dst credits) _ _ (λ code _. is) (with_held-keeps (own s v src) _ s is (λ p held. child_made-keeps T v dst (Send p.key label credits) p.key s is (gives p held)))
-  call_row-keeps T i s v (Obtain dst w src) may is dies caps gives = unless-keeps (Keeps s) (obtain_tests T i s v dst w) _ _ (λ code _. is) (ask_made-keeps T i v dst (SelTarget w src) s gives may is)
-  call_row-keeps T i s v (Delegate src w dst) may is dies caps gives = unless-keeps (Keeps s) (delegate_tests T i s v src w) _ _ (λ code _. is) (with_held-keeps (own s v src) _ s is (λ p held. offer_made-keeps T i v w dst p s is (own-in s caps v src p held)))
-  call_row-keeps T i s v (OpenSession dst name) may is dies caps gives = unless-keeps (Keeps s) (open_tests T i s v dst name) _ _ (λ code _. is) (option-keeps (Keeps s) (λ (x : Service). ask_made T i v dst (ServTarget x.key) s) (service_named T name) (answer NoService s) (λ x there. ask_made-keeps T i v dst (ServTarget x.key) s gives may is) (λ _. is))
-  call_row-keeps T i s v (AskOffer dst session index) may is dies caps gives = unless-keeps (Keeps s) (offer_tests T i s v dst session) _ _ (λ code _. is) (option-keeps (Keeps s) (λ (k : KeyName). ask_made T i v dst (OfferTarget k index) s) _ (answer BadKind s) (λ k there. ask_made-keeps T i v dst (OfferTarget k index) s gives may is) (λ _. is))
-  call_row-keeps T i s v (Revoke src) may is dies caps gives = with_held-keeps (own s v src) _ s is (λ c held hand. begun-in F P L T i v c.key c.mark s is hand.2)
-  call_row-keeps T i s v (Bind ep src) may is dies caps gives = unless-passed (Keeps s) (bind_tests s v src) _ _ (λ code _. is) (λ passed. with_held-keeps (own s v src) _ s is (λ c held _. L.keeps_bound s is v ep src c held (unmarked-own (own s v src) c held passed.1.0) (own-in s caps v src c held)))
-  call_row-keeps T i s v (Read ep off len) may is dies caps gives = unless-keeps (Keeps s) (memory_tests 1 off len (endpoint s v ep)) _ _ (λ code _. is) (λ _. is)
-  call_row-keeps T i s v (Write ep off len) may is dies caps gives = unless-keeps (Keeps s) (memory_tests 2 off len (endpoint s v ep)) _ _ (λ code _. is) (λ _. is)
-  call_row-keeps T i s v (SendCall ep len) may is dies caps gives = unless-keeps (Keeps s) (send_tests (endpoint s v ep)) _ _ (λ code _. is) (λ _. L.keeps_rung s is v ep (λ ring. ring ++ len ∷ []))
-  call_row-keeps T i s v (Credit ep) may is dies caps gives = unless-keeps (Keeps s) (credit_tests (endpoint s v ep)) _ _ (λ code _. is) (λ _. L.keeps_rung s is v ep _)
-  call_row-keeps T i s v (Clear src) may is dies caps gives = unless-keeps (Keeps s) (own_tests (own s v src)) _ _ (λ code _. is) (with_held-keeps (own s v src) _ s is (λ c held hand. cleared-in F P L T i v c.key s is hand.2))
+  call_row-keeps T i s v (Derive src dst off len rights) may is dies caps gives =
+      unless-keeps (Keeps s) (derive_tests s v src dst off len rights) _ _ (λ code _. is)
+      (with_held-keeps (own s v src) _ s is (λ p held. child_made-keeps T v dst (narrowed off len rights p.object) p.key s is (gives p held)))
+  call_row-keeps T i s v (Gate src dst label credits) may is dies caps gives = unless-keeps (Keeps s) (gate_tests s v src dst credits) _ _ (λ code _. is)
+      (with_held-keeps (own s v src) _ s is (λ p held. child_made-keeps T v dst (Send p.key label credits) p.key s is (gives p held)))
+  call_row-keeps T i s v (Obtain dst w src) may is dies caps gives =
+      unless-keeps (Keeps s) (obtain_tests T i s v dst w) _ _ (λ code _. is) (ask_made-keeps T i v dst (SelTarget w src) s gives may is)
+  call_row-keeps T i s v (Delegate src w dst) may is dies caps gives = unless-keeps (Keeps s) (delegate_tests T i s v src w) _ _ (λ code _. is)
+      (with_held-keeps (own s v src) _ s is (λ p held. offer_made-keeps T i v w dst p s is (own-in s caps v src p held)))
+  call_row-keeps T i s v (OpenSession dst name) may is dies caps gives =
+      unless-keeps (Keeps s) (open_tests T i s v dst name) _ _ (λ code _. is) (option-keeps (Keeps s) (λ (x : Service). ask_made T i v dst (ServTarget x.key) s)
+      (service_named T name) (answer NoService s) (λ x there. ask_made-keeps T i v dst (ServTarget x.key) s gives may is) (λ _. is))
+  call_row-keeps T i s v (AskOffer dst session index) may is dies caps gives = unless-keeps (Keeps s) (offer_tests T i s v dst session) _ _ (λ code _. is)
+      (option-keeps (Keeps s) (λ (k : KeyName). ask_made T i v dst (OfferTarget k index) s) _ (answer BadKind s)
+      (λ k there. ask_made-keeps T i v dst (OfferTarget k index) s gives may is) (λ _. is))
+  call_row-keeps T i s v (Revoke src) may is dies caps gives =
+      with_held-keeps (own s v src) _ s is (λ c held hand. begun-in F P L T i v c.key c.mark s is hand.2)
+  call_row-keeps T i s v (Bind ep src) may is dies caps gives =
+      unless-passed (Keeps s) (bind_tests s v src) _ _ (λ code _. is)
+      (λ passed. with_held-keeps (own s v src) _ s is (λ c held _. L.keeps_bound s is v ep src c held (unmarked-own (own s v src) c held passed.1.0)
+      (own-in s caps v src c held)))
+  call_row-keeps T i s v (Read ep off len) may is dies caps gives = unless-keeps (Keeps s) (memory_tests 1 off len (endpoint s v ep)) _ _ (λ code _. is)
+      (λ _. is)
+  call_row-keeps T i s v (Write ep off len) may is dies caps gives = unless-keeps (Keeps s) (memory_tests 2 off len (endpoint s v ep)) _ _ (λ code _. is)
+      (λ _. is)
+  call_row-keeps T i s v (SendCall ep len) may is dies caps gives = unless-keeps (Keeps s) (send_tests (endpoint s v ep)) _ _ (λ code _. is)
+      (λ _. L.keeps_rung s is v ep (λ ring. ring ++ len ∷ []))
+  call_row-keeps T i s v (Credit ep) may is dies caps gives = unless-keeps (Keeps s) (credit_tests (endpoint s v ep)) _ _ (λ code _. is)
+      (λ _. L.keeps_rung s is v ep _)
+  call_row-keeps T i s v (Clear src) may is dies caps gives =
+      unless-keeps (Keeps s) (own_tests (own s v src)) _ _ (λ code _. is)
+      (with_held-keeps (own s v src) _ s is (λ c held hand. cleared-in F P L T i v c.key s is hand.2))
   call_row-keeps T i s v Exit may is dies caps gives = λ _. ended-in T i v s is (dies refl) gives

@@ -1,6 +1,7 @@
 -- Upcalls, messages, parked calls that go on, and whole steps keep a layer.
 use Rattle.sem_msg.specs.declared.call.Call.{Call}
-use Rattle.sem_msg.specs.declared.call.Call.TheVariants.{Derive, Gate, Obtain, Delegate, OpenSession, AskOffer, Revoke, Bind, Read, Write, Send as SendCall, Credit, Exit, Clear}
+use Rattle.sem_msg.specs.declared.call.Call.TheVariants.{Derive, Gate, Obtain, Delegate, OpenSession, AskOffer, Revoke, Bind, Read, Write, Send as SendCall}
+use Rattle.sem_msg.specs.declared.call.Call.TheVariants.{Credit, Exit, Clear}
 use Rattle.sem_key.specs.declared.object.Object.TheVariants.{Send}
 use Rattle.std.proofs.Common.{◌∙◌, ap, ◌≡◌, ℕ, ◌++◌, Bool, true, false, Option, Some, None, slice_get, refl, arith}
 use Rattle.std.specs.Prelude.{◌==◌}
@@ -14,7 +15,8 @@ use Rattle.sem_msg.specs.declared.event.Act.{Act}
 use Rattle.sem_msg.specs.declared.event.Act.TheVariants.{Call as Calls, Fetch, Handle, Upcall, Resume, Flush, Kill}
 use Rattle.sem_msg.specs.declared.message.Target.{Target}
 use Rattle.sem_msg.specs.declared.message.Message.{Message}
-use Rattle.sem_msg.specs.declared.message.Message.TheVariants.{ObtainReq, ObtainOk, ObtainNo, DelegateReq, DelegatePrepared, DelegateNo, Ack, Orphan, RevokeReq, RevokeDone, Unlink}
+use Rattle.sem_msg.specs.declared.message.Message.TheVariants.{ObtainReq, ObtainOk, ObtainNo, DelegateReq, DelegatePrepared, DelegateNo, Ack, Orphan, RevokeReq}
+use Rattle.sem_msg.specs.declared.message.Message.TheVariants.{RevokeDone, Unlink}
 use Rattle.sem_msg.specs.declared.state.Ask.{Ask}
 use Rattle.sem_msg.specs.declared.state.Ask.TheVariants.{Obtain as ObtainAsk, Delegate as DelegateAsk}
 use Rattle.sem_msg.specs.declared.state.Parked.{Parked}
@@ -25,11 +27,13 @@ use Rattle.sem_msg.specs.Setup.{Setup}
 use Rattle.sem_msg.specs.Lookups.{kernel_of, owner_of, place_owner, denies}
 use Rattle.sem_msg.specs.Codes.{code_number}
 use Rattle.sem_msg.specs.declared.code.Code.TheVariants.{Ok as OkCode, Dead, Refused}
-use Rattle.sem_machine.specs.Sides.{Side, row, cap, parked, pending, is_alive, drawn, promised, parked_as, unparked, asked, ask_taken, call_counted, linked, installed, pending_added, pending_removed, send, with_inbox}
+use Rattle.sem_machine.specs.Sides.{Side, row, cap, parked, pending, is_alive, drawn, promised, parked_as, unparked, asked, ask_taken, call_counted, linked}
+use Rattle.sem_machine.specs.Sides.{installed, pending_added, pending_removed, send, with_inbox}
 use Rattle.sem_machine.specs.Steps.{plain}
 use Rattle.sem_machine.specs.Asks.{target_vpe, asker, is_unawaited, ask_refused, call_refused}
 use Rattle.sem_machine.specs.Calls.{destination_tests, narrowed, next_key, call_row}
-use Rattle.sem_machine.specs.Upcalls.{source, source_tests, given, given_kind, given_here, child_given, obtain_consent, parent_tests, delegate_here, delegate_prepared, delegate_consent, consented, ask_decided, upcall_row}
+use Rattle.sem_machine.specs.Upcalls.{source, source_tests, given, given_kind, given_here, child_given, obtain_consent, parent_tests, delegate_here}
+use Rattle.sem_machine.specs.Upcalls.{delegate_prepared, delegate_consent, consented, ask_decided, upcall_row}
 use Rattle.sem_machine.specs.Handles.{is_stray, obtain_ready, acknowledged, handle_row, handled}
 use Rattle.sem_machine.specs.Resumes.{delegate_granted, delegate_resumed, resumed, resume_row}
 use Rattle.sem_machine.specs.Machine.{next_call, local_step}
@@ -123,13 +127,15 @@ blind-act F blind T s (Resume v) = λ parent key there. blind.offered parent F.g
 blind-act F blind T s (Flush to) = tt
 blind-act F blind T s (Kill v) = blind.ends v
 
-pub facts-blind : (Q : KeyName → Type 0) (R : ℕ → ℕ → Type 0) (link : KeyName → KeyName → Type 0) (doomed : KeyName → Type 0) → IsBlind (facts_of Q R link doomed)
+pub facts-blind : (Q : KeyName → Type 0) (R : ℕ → ℕ → Type 0) (link : KeyName → KeyName → Type 0) (doomed : KeyName → Type 0) →
+    IsBlind (facts_of Q R link doomed)
 facts-blind Q R link doomed = record { calls = λ v. tt; ends = λ v. tt; gives = λ o k is. is; handed = λ o. tt; offered = λ k o. tt }
 
 module _ (F : Facts) (D : ℕ → Type 0) (P : Side → Type 0) (L : IsKept F P) where
   -- Upcalls.
   pub given_here-in : (k p : KeyName) (object : Object) (state : Option Parked) (s : Side) → P s → F.key k object → P (given_here k p object state s)
-  given_here-in k p object (Some (ObtainWait number sel)) s is here = ready-in F P L (installed k (Some p) sel object s) (installed-in F P L s is k (Some p) sel object here) (code_number OkCode) k.vpe
+  given_here-in k p object (Some (ObtainWait number sel)) s is here =
+      ready-in F P L (installed k (Some p) sel object s) (installed-in F P L s is k (Some p) sel object here) (code_number OkCode) k.vpe
   given_here-in k p object None s is here = is
   given_here-in k p object (Some (ObtainReady key parent object' sel)) s is here = is
   given_here-in k p object (Some ObtainCancelled) s is here = is
@@ -138,42 +144,59 @@ module _ (F : Facts) (D : ℕ → Type 0) (P : Side → Type 0) (L : IsKept F P)
   given_here-in k p object (Some (RevokeWait j)) s is here = is
   given_here-in k p object (Some (Ready code)) s is here = is
 
-  child_given-keeps : (T : Setup) (i : ℕ) (place : PlaceName) (target : Target) (s : Side) (p : Capability) → P s → Gives F (given target place.vpe p) → Keeps F D P L s (child_given T i place target s p)
+  child_given-keeps : (T : Setup) (i : ℕ) (place : PlaceName) (target : Target) (s : Side) (p : Capability) → P s → Gives F (given target place.vpe p) →
+      Keeps F D P L s (child_given T i place target s p)
   child_given-keeps T i place target s p is gives = λ hand.
       let k : KeyName = keyed place (given_kind target p) in
       let object : Object = given target place.vpe p in
       let here = gives k hand.0.0 in
       let linking : Side = linked p.key k s in
       let kept : P linking = L.keeps_linked s is p.key k hand.0.1 in
-      cond_both (kernel_of T place.vpe == i) (given_here k p.key object (parked linking place.vpe) linking) (send (place_owner T place) (ObtainOk p.key k object) linking) P (λ _. given_here-in k p.key object (parked linking place.vpe) linking kept here) (λ _. L.keeps_send linking kept (place_owner T place) (ObtainOk p.key k object) here)
+      cond_both (kernel_of T place.vpe == i) (given_here k p.key object (parked linking place.vpe) linking)
+      (send (place_owner T place) (ObtainOk p.key k object) linking) P (λ _. given_here-in k p.key object (parked linking place.vpe) linking kept here)
+      (λ _. L.keeps_send linking kept (place_owner T place) (ObtainOk p.key k object) here)
 
-  obtain_consent-keeps : (T : Setup) (i v : ℕ) (place : PlaceName) (target : Target) (s : Side) → P s → AskGives F T s v (ObtainAsk place target) → Keeps F D P L s (obtain_consent T i v place target s)
-  obtain_consent-keeps T i v place target s is gives = unless-keeps (Keeps F D P L s) (source_tests target (source T s v target)) _ _ (λ code _. ask_refused-in F D P L T i code (ObtainAsk place target) s is) (option-keeps (Keeps F D P L s) (child_given T i place target s) (source T s v target) (plain s) (λ p held. child_given-keeps T i place target s p is (gives p held)) (λ _. is))
+  obtain_consent-keeps : (T : Setup) (i v : ℕ) (place : PlaceName) (target : Target) (s : Side) → P s → AskGives F T s v (ObtainAsk place target) →
+      Keeps F D P L s (obtain_consent T i v place target s)
+  obtain_consent-keeps T i v place target s is gives = unless-keeps (Keeps F D P L s) (source_tests target (source T s v target)) _ _
+      (λ code _. ask_refused-in F D P L T i code (ObtainAsk place target) s is)
+      (option-keeps (Keeps F D P L s) (child_given T i place target s) (source T s v target) (plain s)
+      (λ p held. child_given-keeps T i place target s p is (gives p held)) (λ _. is))
 
-  delegate_here-keeps : (T : Setup) (v : ℕ) (parent : KeyName) (object : Object) (sel : ℕ) (s : Side) → P s → Gives F object → Keeps F D P L s (delegate_here T v parent object sel s)
+  delegate_here-keeps : (T : Setup) (v : ℕ) (parent : KeyName) (object : Object) (sel : ℕ) (s : Side) → P s → Gives F object →
+      Keeps F D P L s (delegate_here T v parent object sel s)
   delegate_here-keeps T v parent object sel s is gives = λ hand.
       let k : KeyName = next_key T s v parent.kind in
       let here = gives k hand.0.0 in
       let linking : Side = linked parent k (drawn v s) in
-      ready-in F P L (installed k (Some parent) sel object linking) (installed-in F P L linking (L.keeps_linked (drawn v s) (L.keeps_drawn s is v) parent k hand.0.1) k (Some parent) sel object here) (code_number OkCode) parent.vpe
+      ready-in F P L (installed k (Some parent) sel object linking)
+      (installed-in F P L linking (L.keeps_linked (drawn v s) (L.keeps_drawn s is v) parent k hand.0.1) k (Some parent) sel object here)
+      (code_number OkCode) parent.vpe
 
-  delegate_prepared-keeps : (T : Setup) (v : ℕ) (parent : KeyName) (object : Object) (sel : ℕ) (s : Side) → D v → P s → F.offered parent object → F.handed object → Keeps F D P L s (delegate_prepared T v parent object sel s)
+  delegate_prepared-keeps : (T : Setup) (v : ℕ) (parent : KeyName) (object : Object) (sel : ℕ) (s : Side) → D v → P s → F.offered parent object →
+      F.handed object → Keeps F D P L s (delegate_prepared T v parent object sel s)
   delegate_prepared-keeps T v parent object sel s may is offered handed = λ hand.
       let k : KeyName = next_key T s v parent.kind in
       let p : Pending = record { key = k; parent = parent; object = object; sel = sel } in
       let promising : Side = promised v sel (drawn v s) in
       let preparing : Side = pending_added p promising in
       let O = (onward (drawn v s)).kept in
-      let after : IsOnward (drawn v s) (delegate_prepared T v parent object sel s).side = O.keeps_send preparing (O.keeps_pending_added promising (O.keeps_slot (drawn v s) (onward-same (drawn v s)) v sel Promised tt) p tt) (owner_of T parent) (DelegatePrepared parent k) tt in
+      let after : IsOnward (drawn v s) (delegate_prepared T v parent object sel s).side =
+      O.keeps_send preparing (O.keeps_pending_added promising (O.keeps_slot (drawn v s) (onward-same (drawn v s)) v sel Promised tt) p tt)
+      (owner_of T parent) (DelegatePrepared parent k) tt in
       let number : F.place v k.number = hand.1 v k.number may (omega arith) (drawn-below v s (delegate_prepared T v parent object sel s).side after) in
       let ready = L.prepares parent k object sel offered number handed in
-      L.keeps_send preparing (L.keeps_pending_added promising (L.keeps_slot (drawn v s) (L.keeps_drawn s is v) v sel Promised tt) p ready.0) (owner_of T parent) (DelegatePrepared parent k) ready.1
+      L.keeps_send preparing (L.keeps_pending_added promising (L.keeps_slot (drawn v s) (L.keeps_drawn s is v) v sel Promised tt) p ready.0) (owner_of T parent)
+      (DelegatePrepared parent k) ready.1
 
-  delegate_consent-keeps : (T : Setup) (i v : ℕ) (parent : KeyName) (object : Object) (sel : ℕ) (s : Side) → D v → P s → AskGives F T s v (DelegateAsk parent object sel) → F.offered parent object → Keeps F D P L s (delegate_consent T i v parent object sel s)
+  delegate_consent-keeps : (T : Setup) (i v : ℕ) (parent : KeyName) (object : Object) (sel : ℕ) (s : Side) → D v → P s →
+      AskGives F T s v (DelegateAsk parent object sel) → F.offered parent object → Keeps F D P L s (delegate_consent T i v parent object sel s)
   delegate_consent-keeps T i v parent object sel s may is gives offered =
       cond_both (kernel_of T parent.vpe == i) _ _ (Keeps F D P L s)
-      (λ _. unless-keeps (Keeps F D P L s) (parent_tests (cap s parent) ++ destination_tests s v sel) _ _ (λ code _. ask_refused-in F D P L T i code (DelegateAsk parent object sel) s is) (delegate_here-keeps T v parent object sel s is gives.0))
-      (λ _. unless-keeps (Keeps F D P L s) (destination_tests s v sel) _ _ (λ code _. ask_refused-in F D P L T i code (DelegateAsk parent object sel) s is) (delegate_prepared-keeps T v parent object sel s may is offered gives.1))
+      (λ _. unless-keeps (Keeps F D P L s) (parent_tests (cap s parent) ++ destination_tests s v sel) _ _
+      (λ code _. ask_refused-in F D P L T i code (DelegateAsk parent object sel) s is) (delegate_here-keeps T v parent object sel s is gives.0))
+      (λ _. unless-keeps (Keeps F D P L s) (destination_tests s v sel) _ _ (λ code _. ask_refused-in F D P L T i code (DelegateAsk parent object sel) s is)
+      (delegate_prepared-keeps T v parent object sel s may is offered gives.1))
 
   consented-keeps : (T : Setup) (i v : ℕ) (a : Ask) (s : Side) → D v → P s → AskGives F T s v a → AsksFor F a → Keeps F D P L s (consented T i v a s)
   consented-keeps T i v (ObtainAsk place target) s may is gives asks = obtain_consent-keeps T i v place target s is gives
@@ -182,14 +205,19 @@ module _ (F : Facts) (D : ℕ → Type 0) (P : Side → Type 0) (L : IsKept F P)
   ask_decided-keeps : (T : Setup) (i v : ℕ) (a : Ask) (s : Side) → D v → P s → AskGives F T s v a → AsksFor F a → Keeps F D P L s (ask_decided T i v a s)
   ask_decided-keeps T i v a s may is gives asks =
       cond_both (is_unawaited T i s a) _ _ (Keeps F D P L s) (λ _ _. is)
-      (λ _. cond_both (denies T v (asker a)) _ _ (Keeps F D P L s) (λ _ _. ask_refused-in F D P L T i Refused a s is) (λ _. consented-keeps T i v a s may is gives asks))
+      (λ _. cond_both (denies T v (asker a)) _ _ (Keeps F D P L s) (λ _ _. ask_refused-in F D P L T i Refused a s is)
+      (λ _. consented-keeps T i v a s may is gives asks))
 
-  pub upcall_row-keeps : (T : Setup) (i : ℕ) (s : Side) (v : ℕ) → D v → P s → ActGives F T s (Upcall v) → Takes F s (Upcall v) → Keeps F D P L s (upcall_row T i s v)
+  pub upcall_row-keeps : (T : Setup) (i : ℕ) (s : Side) (v : ℕ) → D v → P s → ActGives F T s (Upcall v) → Takes F s (Upcall v) →
+      Keeps F D P L s (upcall_row T i s v)
   unfolding upcall_row
-  upcall_row-keeps T i s v may is gives asks = option-keeps (Keeps F D P L s) (λ (a : Ask). ask_decided T i v a (ask_taken v s)) (slice_get (row s v).asks 0) (plain s) (λ a there. keeps-later F D P L s (ask_taken v s) (ask_decided T i v a (ask_taken v s)) ((onward s).kept.keeps_taken s (onward-same s) v) (ask_decided-keeps T i v a (ask_taken v s) may (L.keeps_taken s is v) (gives a there) (asks a there))) (λ _. is)
+  upcall_row-keeps T i s v may is gives asks = option-keeps (Keeps F D P L s) (λ (a : Ask). ask_decided T i v a (ask_taken v s)) (slice_get (row s v).asks 0)
+      (plain s) (λ a there. keeps-later F D P L s (ask_taken v s) (ask_decided T i v a (ask_taken v s)) ((onward s).kept.keeps_taken s (onward-same s) v)
+      (ask_decided-keeps T i v a (ask_taken v s) may (L.keeps_taken s is v) (gives a there) (asks a there))) (λ _. is)
 
   -- Messages.
-  obtain_ready-in : (parent key : KeyName) (object : Object) (state : Option Parked) (s : Side) → P s → F.key key object → P (obtain_ready parent key object state s)
+  obtain_ready-in : (parent key : KeyName) (object : Object) (state : Option Parked) (s : Side) → P s → F.key key object →
+      P (obtain_ready parent key object state s)
   obtain_ready-in parent key object (Some (ObtainWait number sel)) s is here = L.keeps_parked s is key.vpe (ObtainReady key parent object sel) here
   obtain_ready-in parent key object None s is here = is
   obtain_ready-in parent key object (Some (ObtainReady key' parent' object' sel)) s is here = is
@@ -199,19 +227,35 @@ module _ (F : Facts) (D : ℕ → Type 0) (P : Side → Type 0) (L : IsKept F P)
   obtain_ready-in parent key object (Some (RevokeWait j)) s is here = is
   obtain_ready-in parent key object (Some (Ready code)) s is here = is
 
-  acknowledged-in : (T : Setup) (key : KeyName) (accepted : Bool) (s : Side) (p : Pending) → P s → pending s key ≡ Some p → Brings F (Ack key accepted) → P (acknowledged T key accepted s p)
-  acknowledged-in T key true s p is there here = cond_both (is_alive s key.vpe) (installed key (Some p.parent) p.sel p.object (pending_removed key s)) (send (owner_of T p.parent) (Orphan p.parent key) (pending_removed key s)) P (λ _. installed-in F P L (pending_removed key s) (L.keeps_pending_removed s is key) key (Some p.parent) p.sel p.object (L.of_pending s is key p there here)) (λ _. L.keeps_send (pending_removed key s) (L.keeps_pending_removed s is key) (owner_of T p.parent) (Orphan p.parent key) tt)
+  acknowledged-in : (T : Setup) (key : KeyName) (accepted : Bool) (s : Side) (p : Pending) → P s → pending s key ≡ Some p → Brings F (Ack key accepted) →
+      P (acknowledged T key accepted s p)
+  acknowledged-in T key true s p is there here = cond_both (is_alive s key.vpe) (installed key (Some p.parent) p.sel p.object (pending_removed key s))
+      (send (owner_of T p.parent) (Orphan p.parent key) (pending_removed key s)) P
+      (λ _. installed-in F P L (pending_removed key s) (L.keeps_pending_removed s is key) key (Some p.parent) p.sel p.object
+      (L.of_pending s is key p there here)) (λ _. L.keeps_send (pending_removed key s) (L.keeps_pending_removed s is key) (owner_of T p.parent)
+      (Orphan p.parent key) tt)
   acknowledged-in T key false s p is there here = freed-in F P L (pending_removed key s) (L.keeps_pending_removed s is key) key.vpe p.sel
 
   handle_row-in : (T : Setup) (i : ℕ) (s : Side) (from : ℕ) (m : Message) → P s → Brings F m → P (handle_row T i s from m)
   unfolding handle_row
-  handle_row-in T i s from (ObtainReq place target) is here = cond_both (is_alive s (target_vpe target)) (asked (target_vpe target) (ObtainAsk place target) s) (ask_refused T i Dead (ObtainAsk place target) s) P (λ _. L.keeps_asked s is (target_vpe target) (ObtainAsk place target) here) (λ _. ask_refused-in F D P L T i Dead (ObtainAsk place target) s is)
-  handle_row-in T i s from (ObtainOk parent key object) is here = cond_both (is_alive s key.vpe) (obtain_ready parent key object (parked s key.vpe) s) (send (owner_of T parent) (Orphan parent key) s) P (λ _. obtain_ready-in parent key object (parked s key.vpe) s is here) (λ _. L.keeps_send s is (owner_of T parent) (Orphan parent key) tt)
-  handle_row-in T i s from (ObtainNo place code) is here = cond_both (is_alive s place.vpe) (call_refused code place.vpe s) s P (λ _. call_refused-in F D P L code place.vpe s is) (λ _. is)
-  handle_row-in T i s from (DelegateReq parent object vpe sel) is here = cond_both (is_alive s vpe) (asked vpe (DelegateAsk parent object sel) s) (ask_refused T i Dead (DelegateAsk parent object sel) s) P (λ _. L.keeps_asked s is vpe (DelegateAsk parent object sel) here) (λ _. ask_refused-in F D P L T i Dead (DelegateAsk parent object sel) s is)
-  handle_row-in T i s from (DelegatePrepared parent key) is here = cond_both (is_alive s parent.vpe) (parked_as parent.vpe (DelegateReady parent key) s) (send (owner_of T key) (Ack key false) s) P (λ _. L.keeps_parked s is parent.vpe (DelegateReady parent key) here) (λ _. L.keeps_send s is (owner_of T key) (Ack key false) tt)
-  handle_row-in T i s from (DelegateNo parent code) is here = cond_both (is_alive s parent.vpe) (call_refused code parent.vpe s) s P (λ _. call_refused-in F D P L code parent.vpe s is) (λ _. is)
-  handle_row-in T i s from (Ack key accepted) is here = option-keeps P (acknowledged T key accepted s) (pending s key) s (λ p there. acknowledged-in T key accepted s p is there here) is
+  handle_row-in T i s from (ObtainReq place target) is here = cond_both (is_alive s (target_vpe target)) (asked (target_vpe target) (ObtainAsk place target) s)
+      (ask_refused T i Dead (ObtainAsk place target) s) P (λ _. L.keeps_asked s is (target_vpe target) (ObtainAsk place target) here)
+      (λ _. ask_refused-in F D P L T i Dead (ObtainAsk place target) s is)
+  handle_row-in T i s from (ObtainOk parent key object) is here = cond_both (is_alive s key.vpe) (obtain_ready parent key object (parked s key.vpe) s)
+      (send (owner_of T parent) (Orphan parent key) s) P (λ _. obtain_ready-in parent key object (parked s key.vpe) s is here)
+      (λ _. L.keeps_send s is (owner_of T parent) (Orphan parent key) tt)
+  handle_row-in T i s from (ObtainNo place code) is here =
+      cond_both (is_alive s place.vpe) (call_refused code place.vpe s) s P (λ _. call_refused-in F D P L code place.vpe s is) (λ _. is)
+  handle_row-in T i s from (DelegateReq parent object vpe sel) is here = cond_both (is_alive s vpe) (asked vpe (DelegateAsk parent object sel) s)
+      (ask_refused T i Dead (DelegateAsk parent object sel) s) P (λ _. L.keeps_asked s is vpe (DelegateAsk parent object sel) here)
+      (λ _. ask_refused-in F D P L T i Dead (DelegateAsk parent object sel) s is)
+  handle_row-in T i s from (DelegatePrepared parent key) is here = cond_both (is_alive s parent.vpe) (parked_as parent.vpe (DelegateReady parent key) s)
+      (send (owner_of T key) (Ack key false) s) P (λ _. L.keeps_parked s is parent.vpe (DelegateReady parent key) here)
+      (λ _. L.keeps_send s is (owner_of T key) (Ack key false) tt)
+  handle_row-in T i s from (DelegateNo parent code) is here =
+      cond_both (is_alive s parent.vpe) (call_refused code parent.vpe s) s P (λ _. call_refused-in F D P L code parent.vpe s is) (λ _. is)
+  handle_row-in T i s from (Ack key accepted) is here =
+      option-keeps P (acknowledged T key accepted s) (pending s key) s (λ p there. acknowledged-in T key accepted s p is there here) is
   handle_row-in T i s from (Orphan parent key) is here = L.keeps_unlinked s is parent key
   handle_row-in T i s from (RevokeReq key j) is here = requested-in F P L T i from j key (cap s key) s is here
   handle_row-in T i s from (RevokeDone j) is here = done-in F P L T i j s is
@@ -221,15 +265,19 @@ module _ (F : Facts) (D : ℕ → Type 0) (P : Side → Type 0) (L : IsKept F P)
   handled-in T i s from m is here = cond_both (is_stray T i s m) s (handle_row T i s from m) P (λ _. is) (λ _. handle_row-in T i s from m is here)
 
   -- Parked calls.
-  granted-keeps : (T : Setup) (parent key : KeyName) (mark : Option ℕ) (s : Side) → P s → F.prepared parent key → F.offered parent F.given → Keeps F D P L s (delegate_granted T parent key mark s)
-  granted-keeps T parent key None s is prepared offered = λ here. L.keeps_send (linked parent key s) (L.keeps_linked s is parent key here.0.1) (owner_of T key) (Ack key true) (L.acks parent key prepared offered here.0.0)
+  granted-keeps : (T : Setup) (parent key : KeyName) (mark : Option ℕ) (s : Side) → P s → F.prepared parent key → F.offered parent F.given →
+      Keeps F D P L s (delegate_granted T parent key mark s)
+  granted-keeps T parent key None s is prepared offered = λ here. L.keeps_send (linked parent key s) (L.keeps_linked s is parent key here.0.1) (owner_of T key)
+      (Ack key true) (L.acks parent key prepared offered here.0.0)
   granted-keeps T parent key (Some j) s is prepared offered = λ _. L.keeps_send s is (owner_of T key) (Ack key false) tt
 
-  delegate_resumed-keeps : (T : Setup) (parent key : KeyName) (o : Option Capability) (s : Side) → P s → F.prepared parent key → F.offered parent F.given → Keeps F D P L s (delegate_resumed T parent key o s)
+  delegate_resumed-keeps : (T : Setup) (parent key : KeyName) (o : Option Capability) (s : Side) → P s → F.prepared parent key → F.offered parent F.given →
+      Keeps F D P L s (delegate_resumed T parent key o s)
   delegate_resumed-keeps T parent key None s is prepared offered = λ _. L.keeps_send s is (owner_of T key) (Ack key false) tt
   delegate_resumed-keeps T parent key (Some c) s is prepared offered = granted-keeps T parent key c.mark s is prepared offered
 
-  resumed-keeps : (T : Setup) (p : Option Parked) (s : Side) → P s → Awaits F p → ((parent key : KeyName) → p ≡ Some (DelegateReady parent key) → F.offered parent F.given) → Keeps F D P L s (resumed T p s)
+  resumed-keeps : (T : Setup) (p : Option Parked) (s : Side) → P s → Awaits F p →
+      ((parent key : KeyName) → p ≡ Some (DelegateReady parent key) → F.offered parent F.given) → Keeps F D P L s (resumed T p s)
   resumed-keeps T (Some (Ready number)) s is here gives = λ _. is
   resumed-keeps T (Some (ObtainReady key parent object sel)) s is here gives = λ _. installed-in F P L s is key (Some parent) sel object here
   resumed-keeps T (Some ObtainCancelled) s is here gives = λ _. is
@@ -241,20 +289,26 @@ module _ (F : Facts) (D : ℕ → Type 0) (P : Side → Type 0) (L : IsKept F P)
 
   pub resume_row-keeps : (T : Setup) (s : Side) (v : ℕ) → P s → Awaits F (parked s v) → ActGives F T s (Resume v) → Keeps F D P L s (resume_row T s v)
   unfolding resume_row
-  resume_row-keeps T s v is here gives = keeps-later F D P L s (unparked v s) (resumed T (parked s v) (unparked v s)) ((onward s).kept.keeps_unparked s (onward-same s) v) (resumed-keeps T (parked s v) (unparked v s) (L.keeps_unparked s is v) here gives)
+  resume_row-keeps T s v is here gives = keeps-later F D P L s (unparked v s) (resumed T (parked s v) (unparked v s))
+      ((onward s).kept.keeps_unparked s (onward-same s) v) (resumed-keeps T (parked s v) (unparked v s) (L.keeps_unparked s is v) here gives)
 
   -- A step of a side, which is handed the message that it fetches.
   fetched-in : (from : ℕ) (input : Option Message) (s : Side) → P s → BringsIn F input → P (with_inbox (option_map (λ m. (from, m)) input) s)
   fetched-in from None s is here = L.keeps_inbox s is None tt
   fetched-in from (Some m) s is here = L.keeps_inbox s is (Some (from, m)) here
 
-  taken_out-in : (T : Setup) (i : ℕ) (s : Side) (inbox : Option (ℕ × Message)) → P s → BringsFrom F inbox → P (option_map_or (λ m. handled T i (with_inbox None s) m.0 m.1) inbox s)
+  taken_out-in : (T : Setup) (i : ℕ) (s : Side) (inbox : Option (ℕ × Message)) → P s → BringsFrom F inbox →
+      P (option_map_or (λ m. handled T i (with_inbox None s) m.0 m.1) inbox s)
   taken_out-in T i s None is here = is
   taken_out-in T i s (Some m) is here = handled-in T i (with_inbox None s) m.0 m.1 (L.keeps_inbox s is None tt) here
 
-  pub local_step-kept : (T : Setup) (i : ℕ) (s : Side) (a : Act) (input : Option Message) → MayDraw D a → P s → ((k : KeyName) (p : Capability) → cap s k ≡ Some p → F.key p.key p.object) → Takes F s a → ActGives F T s a → Dies F T s a → BringsIn F input → Keeps F D P L s (local_step T i s a input)
+  pub local_step-kept : (T : Setup) (i : ℕ) (s : Side) (a : Act) (input : Option Message) → MayDraw D a → P s →
+      ((k : KeyName) (p : Capability) → cap s k ≡ Some p → F.key p.key p.object) → Takes F s a → ActGives F T s a → Dies F T s a → BringsIn F input →
+      Keeps F D P L s (local_step T i s a input)
   unfolding local_step
-  local_step-kept T i s (Calls v) input may is caps takes gives dies here = option-keeps (Keeps F D P L s) (call_row T i (call_counted v s) v) (next_call T s v) (plain s) (λ c there. keeps-later F D P L s (call_counted v s) (call_row T i (call_counted v s) v c) ((onward s).kept.keeps_counted s (onward-same s) v) (call_row-keeps F D P L T i (call_counted v s) v c may (L.keeps_counted s is v) (λ exit. dies (there ∙ ap Some exit)) caps (gives c there))) (λ _. is)
+  local_step-kept T i s (Calls v) input may is caps takes gives dies here = option-keeps (Keeps F D P L s) (call_row T i (call_counted v s) v) (next_call T s v)
+      (plain s) (λ c there. keeps-later F D P L s (call_counted v s) (call_row T i (call_counted v s) v c) ((onward s).kept.keeps_counted s (onward-same s) v)
+      (call_row-keeps F D P L T i (call_counted v s) v c may (L.keeps_counted s is v) (λ exit. dies (there ∙ ap Some exit)) caps (gives c there))) (λ _. is)
   local_step-kept T i s (Fetch from) input may is caps takes gives dies here = λ _. fetched-in from input s is here
   local_step-kept T i s Handle input may is caps takes gives dies here = λ _. taken_out-in T i s s.inbox is takes
   local_step-kept T i s (Upcall v) input may is caps takes gives dies here = upcall_row-keeps T i s v may is gives takes
@@ -272,5 +326,6 @@ module _ (F : Facts) (D : ℕ → Type 0) (P : Side → Type 0) (L : IsLayer F P
   takes s (Flush to) is = tt
   takes s (Kill v) is = tt
 
-  pub local_step-keeps : (T : Setup) (i : ℕ) (s : Side) (a : Act) (input : Option Message) → MayDraw D a → P s → ActGives F T s a → Dies F T s a → BringsIn F input → Keeps F D P L.kept s (local_step T i s a input)
+  pub local_step-keeps : (T : Setup) (i : ℕ) (s : Side) (a : Act) (input : Option Message) → MayDraw D a → P s → ActGives F T s a → Dies F T s a →
+      BringsIn F input → Keeps F D P L.kept s (local_step T i s a input)
   local_step-keeps T i s a input may is gives dies here = local_step-kept F D P L.kept T i s a input may is (L.of_cap s is) (takes s a is) gives dies here

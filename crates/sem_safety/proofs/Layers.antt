@@ -1,4 +1,5 @@
--- A layer: what is so of a side, together with what is so of the keys that the side carries, and that each named change keeps it. The rows of the machine are composed of these changes, so each row keeps every layer.
+-- A layer: what is so of a side, together with what is so of the keys that the side carries, and that each named change keeps it. The rows of the machine are
+-- composed of these changes, so each row keeps every layer.
 use Rattle.std.specs.List.{Contains}
 use Rattle.sem_key.specs.Region.{has_key}
 use Rattle.std.proofs.Common.{◌≡◌, ℕ, Bool, true, false, List, [], Option, Some, None, slice_get}
@@ -8,7 +9,8 @@ use Rattle.sem_key.specs.KeyName.{KeyName}
 use Rattle.sem_key.specs.Capability.{Capability}
 use Rattle.sem_key.specs.CapList.{restored}
 use Rattle.sem_msg.specs.declared.message.Message.{Message}
-use Rattle.sem_msg.specs.declared.message.Message.TheVariants.{ObtainReq, ObtainOk, ObtainNo, DelegateReq, DelegatePrepared, DelegateNo, Ack, Orphan, RevokeReq, RevokeDone, Unlink}
+use Rattle.sem_msg.specs.declared.message.Message.TheVariants.{ObtainReq, ObtainOk, ObtainNo, DelegateReq, DelegatePrepared, DelegateNo, Ack, Orphan, RevokeReq}
+use Rattle.sem_msg.specs.declared.message.Message.TheVariants.{RevokeDone, Unlink}
 use Rattle.sem_msg.specs.declared.state.Ask.{Ask}
 use Rattle.sem_msg.specs.declared.state.Ask.TheVariants.{Obtain as ObtainAsk, Delegate as DelegateAsk}
 use Rattle.sem_msg.specs.declared.state.Parked.{Parked}
@@ -18,7 +20,9 @@ use Rattle.sem_msg.specs.declared.state.Slot.{Slot}
 use Rattle.sem_msg.specs.declared.state.Slot.TheVariants.{Free, Held, Promised}
 use Rattle.sem_msg.specs.declared.state.Up.{Up}
 use Rattle.sem_msg.specs.Rows.{Endpoint, JobRow}
-use Rattle.sem_machine.specs.Sides.{Side, own, row, cap, parked, pending, call_counted, drawn, with_slot, parked_as, unparked, asked, ask_taken, buried, with_endpoint, unbind_all, cap_added, linked, unlinked, mark_all, caps_removed, pending_added, pending_removed, job_opened, job_changed, job_removed, send, sent, with_inbox}
+use Rattle.sem_machine.specs.Sides.{Side, own, row, cap, parked, pending, call_counted, drawn, with_slot, parked_as, unparked, asked, ask_taken, buried}
+use Rattle.sem_machine.specs.Sides.{with_endpoint, unbind_all, cap_added, linked, unlinked, mark_all, caps_removed, pending_added, pending_removed, job_opened}
+use Rattle.sem_machine.specs.Sides.{job_changed, job_removed, send, sent, with_inbox}
 use Rattle.sem_machine.specs.Revokes.{waiter_left}
 use Rattle.sem_machine.specs.Endpoints.{with_ring}
 
@@ -139,7 +143,8 @@ pub record IsKept (F : Facts) (P : Side → Type 0) : Type 0 where
   pub keeps_asked : (s : Side) → P s → (v : ℕ) (a : Ask) → AsksFor F a → P (asked v a s)
   pub keeps_taken : (s : Side) → P s → (v : ℕ) → P (ask_taken v s)
   pub keeps_buried : (s : Side) → P s → (v : ℕ) → F.ends v → P (buried v s)
-  pub keeps_bound : (s : Side) → P s → (v ep src : ℕ) (c : Capability) → own s v src ≡ Some c → c.mark ≡ None → F.key c.key c.object → P (with_endpoint v ep (Some (record { key = c.key; object = c.object; ring = [] })) s)
+  pub keeps_bound : (s : Side) → P s → (v ep src : ℕ) (c : Capability) → own s v src ≡ Some c → c.mark ≡ None → F.key c.key c.object →
+      P (with_endpoint v ep (Some (record { key = c.key; object = c.object; ring = [] })) s)
   pub keeps_rung : (s : Side) → P s → (v ep : ℕ) (f : List ℕ → List ℕ) → P (with_ring v ep f s)
   -- capabilities
   pub keeps_added : (s : Side) → P s → (c : Capability) → F.key c.key c.object → c.children ≡ [] → c.mark ≡ None → P (cap_added c s)
@@ -166,7 +171,8 @@ pub record IsKept (F : Facts) (P : Side → Type 0) : Type 0 where
   pub asks : (v n : ℕ) → F.calls v → F.place v n → F.asked v n
   pub offers : (k : KeyName) (o : Object) → F.key k o → F.offered k o
   -- a delegation is prepared of what was offered, under a number that was drawn for it; its grant is acknowledged; then it gives what is pending
-  pub prepares : (parent k : KeyName) (object : Object) (sel : ℕ) → F.offered parent object → F.place k.vpe k.number → F.handed object → F.pends (record { key = k; parent = parent; object = object; sel = sel }) × F.prepared parent k
+  pub prepares : (parent k : KeyName) (object : Object) (sel : ℕ) → F.offered parent object → F.place k.vpe k.number → F.handed object →
+      F.pends (record { key = k; parent = parent; object = object; sel = sel }) × F.prepared parent k
   pub acks : (parent k : KeyName) → F.prepared parent k → F.offered parent F.given → F.key k F.given → F.acked k
   pub of_pending : (s : Side) → P s → (k : KeyName) (p : Pending) → pending s k ≡ Some p → F.acked k → F.key k p.object
 

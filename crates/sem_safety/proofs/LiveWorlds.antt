@@ -1,5 +1,6 @@
 -- The places in which a key is live in a world: along every schedule it is one at most.
-use Rattle.std.proofs.Common.{◌≡◌, ℕ, zero, suc, ◌+◌, ◌<◌, ◌≤◌, Bool, List, [], ◌∷◌, ◌++◌, drop, map, replicate, get_or, Option, Some, None, slice_get, refl, sym, ◌∙◌, ap, subst, inl, inr, arith, append-nil, append_assoc, eq-eqb, ◌&&◌}
+use Rattle.std.proofs.Common.{◌≡◌, ℕ, zero, suc, ◌+◌, ◌<◌, ◌≤◌, Bool, List, [], ◌∷◌, ◌++◌, drop, map, replicate, get_or, Option, Some, None, slice_get, refl}
+use Rattle.std.proofs.Common.{sym, ◌∙◌, ap, subst, inl, inr, arith, append-nil, append_assoc, eq-eqb, ◌&&◌}
 use Rattle.std.specs.Prelude.{◌==◌, if◌then◌else◌}
 use Rattle.std.specs.List.{filter, flat_map, range_with_len, sum_by}
 use Rattle.std.specs.Option.{option_map, option_map_or}
@@ -20,7 +21,8 @@ use Rattle.sem_msg.specs.Setup.{Setup, IsSetup, root_key}
 use Rattle.sem_msg.specs.Lookups.{pe_owner}
 use Rattle.sem_machine.specs.Sides.{Side, no_side, row, outbox, sent, with_slot, cap_added, with_inbox}
 use Rattle.sem_msg.specs.VpeRows.{new_vpe}
-use Rattle.sem_machine.specs.Machine.{World, side, link, with_side, with_link, start, start_side, empty_side, root_added, vpe_added, local_step, local_entry, after, entry_of, event, vpe_fresh}
+use Rattle.sem_machine.specs.Machine.{World, side, link, with_side, with_link, start, start_side, empty_side, root_added, vpe_added, local_step, local_entry}
+use Rattle.sem_machine.specs.Machine.{after, entry_of, event, vpe_fresh}
 use Rattle.sem_machine.specs.Schedules.{IsSchedule, world_after}
 use Rattle.sem_machine.specs.Journals.{grants, root_keys_from, root_keys}
 use Rattle.sem_key.proofs.KeyTests.{key_eq-true}
@@ -101,14 +103,16 @@ sum-plus w u v plus (x ∷ xs) =
     omega (arith, one, two, three, here, rest)
 
 -- each element has one owner, so all owners together have no more than all
-pub owned-once : {X : Type 0} (owner weight : X → ℕ) (n : ℕ) (xs : List X) → sum_by (λ i. sum_by weight (filter (λ x. owner x == i) xs)) (range_with_len 0 n) ≤ sum_by weight xs
+pub owned-once : {X : Type 0} (owner weight : X → ℕ) (n : ℕ) (xs : List X) →
+    sum_by (λ i. sum_by weight (filter (λ x. owner x == i) xs)) (range_with_len 0 n) ≤ sum_by weight xs
 owned-once owner weight n [] = let none = nothing n 0 in omega (arith, none)
   where
     nothing : (n a : ℕ) → sum_by (λ i. 0) (range_with_len a n) ≡ 0
     nothing zero a = refl
     nothing (suc n) a = let all = sum_by-cons (λ i. 0) a (range_with_len (a + 1) n) in let rest = nothing n (a + 1) in omega (arith, all, rest)
 owned-once owner weight n (x ∷ xs) =
-    let split = sum-plus (λ i. sum_by weight (filter (λ x. owner x == i) (x ∷ xs))) (if_here (owner x) (weight x)) (λ i. sum_by weight (filter (λ x. owner x == i) xs)) here (range_with_len 0 n) in
+    let split = sum-plus (λ i. sum_by weight (filter (λ x. owner x == i) (x ∷ xs))) (if_here (owner x) (weight x))
+    (λ i. sum_by weight (filter (λ x. owner x == i) xs)) here (range_with_len 0 n) in
     let first = range-once (owner x) (weight x) 0 n in
     let rest = owned-once owner weight n xs in
     let all = sum_by-cons weight x xs in
@@ -117,13 +121,15 @@ owned-once owner weight n (x ∷ xs) =
     here : (i : ℕ) → sum_by weight (filter (λ y. owner y == i) (x ∷ xs)) ≡ if_here (owner x) (weight x) i + sum_by weight (filter (λ y. owner y == i) xs)
     here i = elim (cases_Bool (owner x == i)) [
       | inl same ↦
-          let kept : filter (λ y. owner y == i) (x ∷ xs) ≡ x ∷ filter (λ y. owner y == i) xs = cond-true (owner x == i) (x ∷ filter (λ y. owner y == i) xs) (filter (λ y. owner y == i) xs) same in
+          let kept : filter (λ y. owner y == i) (x ∷ xs) ≡ x ∷ filter (λ y. owner y == i) xs =
+          cond-true (owner x == i) (x ∷ filter (λ y. owner y == i) xs) (filter (λ y. owner y == i) xs) same in
           let one = ap (sum_by weight) kept in
           let two = sum_by-cons weight x (filter (λ y. owner y == i) xs) in
           let three : if_here (owner x) (weight x) i ≡ weight x = cond-true (owner x == i) (weight x) 0 same in
           omega (arith, one, two, three)
       | inr other ↦
-          let left : filter (λ y. owner y == i) (x ∷ xs) ≡ filter (λ y. owner y == i) xs = cond-false (owner x == i) (x ∷ filter (λ y. owner y == i) xs) (filter (λ y. owner y == i) xs) other in
+          let left : filter (λ y. owner y == i) (x ∷ xs) ≡ filter (λ y. owner y == i) xs =
+          cond-false (owner x == i) (x ∷ filter (λ y. owner y == i) xs) (filter (λ y. owner y == i) xs) other in
           let one = ap (sum_by weight) left in
           let three : if_here (owner x) (weight x) i ≡ 0 = cond-false (owner x == i) (weight x) 0 other in
           omega (arith, one, three)
@@ -164,9 +170,11 @@ module _ (k0 : KeyName) (counts : Option KeyName → Bool) where
       let same = in_inbox j input in
       omega (arith, new, moved, front, inbox, same)
 
-  link-more : (V : World) (i j : ℕ) (o : Option Message) → at_world (option_map_or (λ m. with_link i j (link V i j ++ m ∷ []) V) o V) ≡ at_world V + of_option (at_message k0) o
+  link-more : (V : World) (i j : ℕ) (o : Option Message) → at_world (option_map_or (λ m. with_link i j (link V i j ++ m ∷ []) V) o V)
+      ≡ at_world V + of_option (at_message k0) o
   link-more V i j None = omega arith
-  link-more V i j (Some m) = let more = world-link V i j (link V i j ++ m ∷ []) in let push = sum_by_push (at_message k0) (link V i j) m in omega (arith, more, push)
+  link-more V i j (Some m) = let more = world-link V i j (link V i j ++ m ∷ []) in let push = sum_by_push (at_message k0) (link V i j) m in
+      omega (arith, more, push)
 
   flushed : (T : Setup) (W : World) (i j : ℕ) → at_world (after T W (event i (Flush j))) ≤ at_world W
   unfolding after local_step
@@ -179,7 +187,8 @@ module _ (k0 : KeyName) (counts : Option KeyName → Bool) where
       omega (arith, new, gone, more)
 
   -- The world after an event.
-  pub after-lives : (T : Setup) (W : World) (i : ℕ) (a : Act) → at_world (after T W (event i a)) ≤ at_world W + at_grant k0 (stepped T W (event i a)).outcome.grant
+  pub after-lives : (T : Setup) (W : World) (i : ℕ) (a : Act) →
+      at_world (after T W (event i a)) ≤ at_world W + at_grant k0 (stepped T W (event i a)).outcome.grant
   unfolding after
   after-lives T W i (Calls v) =
       let few = step-within k0 counts T i (side W i) (Calls v) None tt in
@@ -211,7 +220,8 @@ module _ (k0 : KeyName) (counts : Option KeyName → Bool) where
   root-less : (k : KeyName) → at_root k ≤ at_key k0 k
   root-less k = cond_both (counts None) (at_key k0 k) 0 (λ n. n ≤ at_key k0 k) (λ _. omega arith) (λ _. omega arith)
 
-  root-lives : (d : VpeDecl) (r : Root) (s : Side) → at_side k0 counts (root_added d r s) ≤ at_side k0 counts s + at_root (root_key d (row s d.vpe).next_number r)
+  root-lives : (d : VpeDecl) (r : Root) (s : Side) →
+      at_side k0 counts (root_added d r s) ≤ at_side k0 counts s + at_root (root_key d (row s d.vpe).next_number r)
   root-lives d r s =
       let k : KeyName = root_key d (row s d.vpe).next_number r in
       let c : Capability = record { key = k; parent = None; children = []; mark = None; selector = r.sel; object = r.object } in
@@ -219,7 +229,8 @@ module _ (k0 : KeyName) (counts : Option KeyName → Bool) where
       let added = lives-added k0 counts s c in
       L.keeps_drawn (with_slot d.vpe r.sel (Held k) (cap_added c s)) (L.keeps_slot (cap_added c s) (omega (arith, added)) d.vpe r.sel (Held k) refl) d.vpe
 
-  roots-live : (d : VpeDecl) (rs : List Root) (n : ℕ) (s : Side) → (row s d.vpe).next_number ≡ n → at_side k0 counts (in_turn (root_added d) rs s) ≤ at_side k0 counts s + sum_by at_root (root_keys_from d n rs)
+  roots-live : (d : VpeDecl) (rs : List Root) (n : ℕ) (s : Side) → (row s d.vpe).next_number ≡ n →
+      at_side k0 counts (in_turn (root_added d) rs s) ≤ at_side k0 counts s + sum_by at_root (root_keys_from d n rs)
   unfolding in_turn root_keys_from
   roots-live d [] n s number = omega arith
   roots-live d (r ∷ rs) n s number =
@@ -259,17 +270,21 @@ module _ (k0 : KeyName) (counts : Option KeyName → Bool) where
   start-lives T =
       let kernels : List ℕ = range_with_len 0 T.kernels in
       let mapped = sum-of_map (at_side k0 counts) (start_side T) kernels in
-      let each = sum-le (λ i. at_side k0 counts (start_side T i)) (λ i. sum_by roots_weight (filter (λ d. pe_owner T d.pe == i) T.vpes)) (side-lives T) kernels in
+      let each = sum-le (λ i. at_side k0 counts (start_side T i)) (λ i. sum_by roots_weight (filter (λ d. pe_owner T d.pe == i) T.vpes))
+      (side-lives T) kernels in
       let owned = owned-once (λ (d : VpeDecl). pe_owner T d.pe) roots_weight T.kernels T.vpes in
       let roots = sum-of_flat_map (at_root) (λ (d : VpeDecl). root_keys_from d 0 d.roots) T.vpes in
-      let links : at_links (replicate T.kernels (replicate T.kernels [])) ≡ 0 = weigh-replicate (λ (ls : List (List Message)). sum_by (at_messages k0) ls) T.kernels (replicate T.kernels []) (weigh-replicate (at_messages k0) T.kernels [] refl) in
+      let links : at_links (replicate T.kernels (replicate T.kernels [])) ≡ 0 =
+      weigh-replicate (λ (ls : List (List Message)). sum_by (at_messages k0) ls) T.kernels (replicate T.kernels [])
+      (weigh-replicate (at_messages k0) T.kernels [] refl) in
       omega (arith, mapped, each, owned, roots, links)
 
   -- A schedule.
   abbrev pub made_weight : Setup → List (KeyName × KeyName) → ℕ
   made_weight T gs = sum_by at_root (root_keys T) + sum_by (λ (g : KeyName × KeyName). at_key k0 g.1) gs
 
-  granted-weight : (gs : List (KeyName × KeyName)) (o : Option (KeyName × KeyName)) → sum_by (λ (g : KeyName × KeyName). at_key k0 g.1) (with_granted 0 0 gs o) ≡ sum_by (λ (g : KeyName × KeyName). at_key k0 g.1) gs + at_grant k0 o
+  granted-weight : (gs : List (KeyName × KeyName)) (o : Option (KeyName × KeyName)) → sum_by (λ (g : KeyName × KeyName). at_key k0 g.1) (with_granted 0 0 gs o)
+      ≡ sum_by (λ (g : KeyName × KeyName). at_key k0 g.1) gs + at_grant k0 o
   granted-weight gs None = omega arith
   granted-weight gs (Some g) = sum_by_push (λ (h : KeyName × KeyName). at_key k0 h.1) gs g
 
@@ -284,7 +299,8 @@ module _ (k0 : KeyName) (counts : Option KeyName → Bool) where
   pub schedule-lives : (T : Setup) (J : List Entry) → IsSchedule T J → at_world (world_after T J) ≤ made_weight T (grants J)
   schedule-lives T J runs = from [] J refl (let first = start-lives T in omega (arith, first))
     where
-      from : (before later : List Entry) → J ≡ before ++ later → at_world (world_after T before) ≤ made_weight T (grants before) → at_world (world_after T J) ≤ made_weight T (grants J)
+      from : (before later : List Entry) → J ≡ before ++ later → at_world (world_after T before) ≤ made_weight T (grants before) →
+          at_world (world_after T J) ≤ made_weight T (grants J)
       from before [] parts is = subst (λ K. at_world (world_after T K) ≤ made_weight T (grants K)) (sym (parts ∙ append-nil before)) is
       from before (e ∷ es) parts is =
           let W : World = world_after T before in
@@ -292,7 +308,8 @@ module _ (k0 : KeyName) (counts : Option KeyName → Bool) where
           let next = after-lives T W e.event.kernel e.event.act in
           let o : Option (KeyName × KeyName) = (stepped T W e.event).outcome.grant in
           let world : at_world (after T W e.event) ≡ at_world (world_after T (before ++ e ∷ [])) = ap at_world (sym (run-append T before (e ∷ []) (start T))) in
-          let gs : made_weight T (with_granted 0 0 (grants before) o) ≡ made_weight T (grants (before ++ e ∷ [])) = ap (made_weight T) (granted-is before e o (shown T W e at.2)) in
+          let gs : made_weight T (with_granted 0 0 (grants before) o) ≡ made_weight T (grants (before ++ e ∷ [])) =
+          ap (made_weight T) (granted-is before e o (shown T W e at.2)) in
           let more = granted-weight (grants before) o in
           from (before ++ e ∷ []) es (parts ∙ sym (append_assoc before (e ∷ []) es)) (omega (arith, is, next, world, gs, more))
 
@@ -300,7 +317,9 @@ module _ (k0 : KeyName) (counts : Option KeyName → Bool) where
   pub at-place : (k : KeyName) → at_key k0 k ≤ of_key k0.vpe k0.number k
   at-place k = elim (cases_Bool (key_eq k k0)) [
     | inl same ↦
-        let here : of_key k0.vpe k0.number k ≡ 1 = ap (of_key k0.vpe k0.number) (key_eq-true k k0 same) ∙ cond-true ((k0.vpe == k0.vpe) && (k0.number == k0.number)) 1 0 (and_from (k0.vpe == k0.vpe) (k0.number == k0.number) (eq-eqb k0.vpe k0.vpe refl) (eq-eqb k0.number k0.number refl)) in
+        let here : of_key k0.vpe k0.number k ≡ 1 = ap (of_key k0.vpe k0.number) (key_eq-true k k0 same)
+        ∙ cond-true ((k0.vpe == k0.vpe) && (k0.number == k0.number)) 1 0 (and_from (k0.vpe == k0.vpe) (k0.number == k0.number) (eq-eqb k0.vpe k0.vpe refl)
+        (eq-eqb k0.number k0.number refl)) in
         let one : at_key k0 k ≡ 1 = cond-true (key_eq k k0) 1 0 same in
         omega (arith, here, one)
     | inr other ↦ let none : at_key k0 k ≡ 0 = cond-false (key_eq k k0) 1 0 other in omega (arith, none)
@@ -313,5 +332,6 @@ module _ (k0 : KeyName) (counts : Option KeyName → Bool) where
       let once = (schedule-once k0.vpe k0.number T valid J runs).once in
       let fewer = sum-le at_root (at_key k0) root-less (root_keys T) in
       let roots = sum-le (at_key k0) (of_key k0.vpe k0.number) at-place (root_keys T) in
-      let children = sum-le (λ (g : KeyName × KeyName). at_key k0 g.1) (λ (g : KeyName × KeyName). of_key k0.vpe k0.number g.1) (λ g. at-place g.1) (grants J) in
+      let children = sum-le (λ (g : KeyName × KeyName). at_key k0 g.1) (λ (g : KeyName × KeyName). of_key k0.vpe k0.number g.1) (λ g. at-place g.1)
+      (grants J) in
       omega (arith, few, once, fewer, roots, children)

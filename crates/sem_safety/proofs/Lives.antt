@@ -11,7 +11,8 @@ use Rattle.sem_key.specs.Capability.{Capability}
 use Rattle.sem_key.specs.Lists.{change, put}
 use Rattle.sem_key.specs.CapList.{is_marked_by}
 use Rattle.sem_msg.specs.declared.message.Message.{Message}
-use Rattle.sem_msg.specs.declared.message.Message.TheVariants.{ObtainReq, ObtainOk, ObtainNo, DelegateReq, DelegatePrepared, DelegateNo, Ack, Orphan, RevokeReq, RevokeDone, Unlink}
+use Rattle.sem_msg.specs.declared.message.Message.TheVariants.{ObtainReq, ObtainOk, ObtainNo, DelegateReq, DelegatePrepared, DelegateNo, Ack, Orphan, RevokeReq}
+use Rattle.sem_msg.specs.declared.message.Message.TheVariants.{RevokeDone, Unlink}
 use Rattle.sem_msg.specs.declared.state.Parked.{Parked}
 use Rattle.sem_msg.specs.declared.state.Parked.TheVariants.{ObtainWait, ObtainReady, ObtainCancelled, DelegateWait, DelegateReady, RevokeWait, Ready}
 use Rattle.sem_machine.specs.Sides.{Side, outbox, cap_added, send, sent, parked_as, unparked, with_inbox, parked}
@@ -114,7 +115,8 @@ module _ (k0 : KeyName) (counts : Option KeyName → Bool) where
 
   -- Parked calls.
 
-  pub lives-park : (s : Side) (v : ℕ) (p : Option Parked) → at_side (record s { parks = put None s.parks v p }) + (at_parked k0) (parked s v) ≡ at_side s + (at_parked k0) p
+  pub lives-park : (s : Side) (v : ℕ) (p : Option Parked) → at_side (record s { parks = put None s.parks v p }) + (at_parked k0) (parked s v)
+      ≡ at_side s + (at_parked k0) p
   lives-park s v p = let calls = weigh-put (at_parked k0) None refl s.parks v p in omega (arith, calls)
 
   pub lives-parked : (s : Side) (v : ℕ) (p : Parked) → at_side (parked_as v p s) ≤ at_side s + (at_parked k0) (Some p)
@@ -132,9 +134,11 @@ module _ (k0 : KeyName) (counts : Option KeyName → Bool) where
       let first = sum_by-cons at_cap c (filter (λ x. not (key_lt x.key c.key)) s.caps) in
       omega (arith, parts, joined, first)
 
-  lives-changed : (s : Side) (test : Capability → Bool) (f : Capability → Capability) → ((c : Capability) → at_cap (f c) ≡ at_cap c) → at_side (record s { caps = change test f s.caps }) ≡ at_side s
+  lives-changed : (s : Side) (test : Capability → Bool) (f : Capability → Capability) → ((c : Capability) → at_cap (f c) ≡ at_cap c) →
+      at_side (record s { caps = change test f s.caps }) ≡ at_side s
   lives-changed s test f keeps =
-      let caps = weigh-map at_cap (λ x. if test x then f x else x) (λ x. cond_both (test x) (f x) x (λ y. at_cap y ≡ at_cap x) (λ _. keeps x) (λ _. refl)) s.caps in
+      let caps = weigh-map at_cap (λ x. if test x then f x else x) (λ x. cond_both (test x) (f x) x (λ y. at_cap y ≡ at_cap x) (λ _. keeps x) (λ _. refl))
+      s.caps in
       omega (arith, caps)
 
   -- Messages.
@@ -168,10 +172,14 @@ module _ (k0 : KeyName) (counts : Option KeyName → Bool) where
     keeps_bound = λ s is v ep src c held unmarked here. is;
     keeps_rung = λ s is v ep f. is;
     keeps_added = λ s is c here childless unmarked. let new = lives-added s c in let less = cap-less c in omega (arith, is, new, here, less);
-    keeps_linked = λ s is p k here. let new = lives-changed s (λ c. key_eq c.key p) (λ c. record c { children = with_key c.children k }) (λ c. refl) in omega (arith, is, new);
-    keeps_unlinked = λ s is p k. let new = lives-changed s (λ c. key_eq c.key p) (λ c. record c { children = without_key c.children k }) (λ c. refl) in omega (arith, is, new);
-    keeps_marked = λ s is ks j here. let new = lives-changed s (λ c. list_any (key_eq c.key) ks) (λ c. record c { mark = Some j }) (λ c. refl) in omega (arith, is, new);
-    keeps_restored = λ s is k. let new = lives-changed s (λ c. key_eq c.key k) (λ c. record c { children = []; mark = None }) (λ c. refl) in omega (arith, is, new);
+    keeps_linked = λ s is p k here. let new = lives-changed s (λ c. key_eq c.key p) (λ c. record c { children = with_key c.children k }) (λ c. refl) in
+        omega (arith, is, new);
+    keeps_unlinked = λ s is p k. let new = lives-changed s (λ c. key_eq c.key p) (λ c. record c { children = without_key c.children k }) (λ c. refl) in
+        omega (arith, is, new);
+    keeps_marked = λ s is ks j here. let new = lives-changed s (λ c. list_any (key_eq c.key) ks) (λ c. record c { mark = Some j }) (λ c. refl) in
+        omega (arith, is, new);
+    keeps_restored = λ s is k. let new = lives-changed s (λ c. key_eq c.key k) (λ c. record c { children = []; mark = None }) (λ c. refl) in
+        omega (arith, is, new);
     keeps_removed = λ s is j. let new = weigh-filter at_cap (λ c. not (is_marked_by j c)) s.caps in omega (arith, is, new);
     keeps_pending_added = λ s is p pends. is;
     keeps_pending_removed = λ s is k. is;

@@ -1,4 +1,5 @@
--- Marks have a cause, and links are grants: along every schedule each link of a held capability is a grant, and what is marked, or asked to be revoked, has a cut ancestor.
+-- Marks have a cause, and links are grants: along every schedule each link of a held capability is a grant, and what is marked, or asked to be revoked, has a
+-- cut ancestor.
 use Rattle.std.proofs.Common.{◌≡◌, ℕ, true, List, length, map, Option, Some, None, refl, sym, subst, inl, inr, arith}
 use Rattle.std.specs.List.{Contains}
 use Rattle.std.proofs.lemmas.List.Elements.{All-contains, Contains-append_left, Contains-append_right}
@@ -40,7 +41,9 @@ module _ (T : Setup) (valid : IsSetup T) (J : List Entry) (runs : IsSchedule T J
 
   -- the parent of a grant is an ancestor of its child
   pub above : (p k : KeyName) → Contains gs (p, k) → Contains (line J k) p
-  above p k granted = subst (λ ks. Contains ks p) (line-enough (root_keys T) gs grown_so (length gs) (length J) k (omega arith) (few-grants J) (child-grown (root_keys T) gs p k granted)) (parent-ancestor (root_keys T) gs grown_so p k granted)
+  above p k granted =
+      subst (λ ks. Contains ks p) (line-enough (root_keys T) gs grown_so (length gs) (length J) k (omega arith) (few-grants J)
+      (child-grown (root_keys T) gs p k granted)) (parent-ancestor (root_keys T) gs grown_so p k granted)
 
   -- a cut ancestor of a parent is one of its children
   pub spread : (p k : KeyName) → Contains gs (p, k) → IsDoomed p → IsDoomed k
@@ -65,23 +68,28 @@ module _ (T : Setup) (valid : IsSetup T) (J : List Entry) (runs : IsSchedule T J
   fit e among = record {
     granted = granted_so e among e.grant refl;
     cut_so = cut_so e among e.cut refl;
-    ended_so = λ v over k same. itself k (inr (subst (λ w. has_ended J w ≡ true) (sym same) (list_any-at (λ (x : Entry). ends v x.event.act x.detail) J e among over)));
+    ended_so = λ v over k same. itself k
+        (inr (subst (λ w. has_ended J w ≡ true) (sym same) (list_any-at (λ (x : Entry). ends v x.event.act x.detail) J e among over)));
   }
 
   pub world-caused : InWorld causes (world_after T J)
   world-caused =
-      run-in causes (facts-blind (Contains (made T J)) AnyPlace (λ p k. Contains gs (p, k)) IsDoomed) (λ v n. tt) (plain-fitting (Contains (made T J)) AnyPlace (λ p k. Contains gs (p, k)) IsDoomed spread) T J (start T) runs
+      run-in causes (facts-blind (Contains (made T J)) AnyPlace (λ p k. Contains gs (p, k)) IsDoomed) (λ v n. tt)
+      (plain-fitting (Contains (made T J)) AnyPlace (λ p k. Contains gs (p, k)) IsDoomed spread) T J (start T) runs
       (start-in causes T (λ k root o. Contains-append_left (root_keys T) (map (λ g. g.1) gs) k root))
       (each-entry (IsFit causes) J fit)
 
   -- what a kernel holds
   held-so : (i : ℕ) (k : KeyName) (c : Capability) → cap (side (world_after T J) i) k ≡ Some c → (InCap causes c) × (c.key ≡ k)
   held-so i k c held =
-      let there = found (λ x. key_eq x.key k) (side (world_after T J) i).caps c held in
-      (All-contains (InCap causes) (side (world_after T J) i).caps c (side-in causes (world_after T J) world-caused i).caps there.0, key_eq-true c.key k there.1)
+      let there = found (λ x. key_eq x.key k) (side (world_after T J) i).caps c held in (
+        All-contains (InCap causes) (side (world_after T J) i).caps c (side-in causes (world_after T J) world-caused i).caps there.0,
+        key_eq-true c.key k there.1,
+      )
 
   pub link-granted : (i : ℕ) (p k : KeyName) (c : Capability) → cap (side (world_after T J) i) p ≡ Some c → Contains c.children k → Contains (grants J) (p, k)
-  link-granted i p k c held child = let is = held-so i p c held in subst (λ q. Contains gs (q, k)) is.1 (All-contains (λ q. Contains gs (c.key, q)) c.children k is.0.links child)
+  link-granted i p k c held child = let is = held-so i p c held in
+      subst (λ q. Contains gs (q, k)) is.1 (All-contains (λ q. Contains gs (c.key, q)) c.children k is.0.links child)
 
   pub mark-caused : (i : ℕ) (k : KeyName) (c : Capability) (j : ℕ) → cap (side (world_after T J) i) k ≡ Some c → c.mark ≡ Some j → HasCutAncestor J k
   mark-caused i k c j held marked = let is = held-so i k c held in subst (HasCutAncestor J) is.1 (is.0.mark j marked is.0.key)

@@ -15,7 +15,8 @@ pub with_grant : (J : List Entry) (e : Entry) (g : KeyName × KeyName) → e.gra
 with_grant [] e g is = rw is refl
 with_grant (x ∷ xs) e g is = by_first x.grant refl (with_grant xs e g is)
   where
-    by_first : (o : Option (KeyName × KeyName)) → x.grant ≡ o → grants (xs ++ e ∷ []) ≡ grants xs ++ g ∷ [] → grants (x ∷ xs ++ e ∷ []) ≡ grants (x ∷ xs) ++ g ∷ []
+    by_first : (o : Option (KeyName × KeyName)) → x.grant ≡ o → grants (xs ++ e ∷ []) ≡ grants xs ++ g ∷ [] →
+        grants (x ∷ xs ++ e ∷ []) ≡ grants (x ∷ xs) ++ g ∷ []
     by_first None none rest = rw none rest
     by_first (Some h) some rest = rw some (ap (λ gs. h ∷ gs) rest)
 
@@ -36,7 +37,9 @@ new-grown T J runs new = from [] J refl no_grants
       where
         by_grant : (o : Option (KeyName × KeyName)) → e.grant ≡ o → IsGrown (root_keys T) (grants (before ++ e ∷ []))
         by_grant None none = subst (IsGrown (root_keys T)) (sym (without_grant before e none)) is
-        by_grant (Some (p, k)) some = subst (IsGrown (root_keys T)) (sym (with_grant before e (p, k) some)) (granted_next (grants before) p k is (parent-made T J before es e p k runs parts some) (new before es e p k parts some))
+        by_grant (Some (p, k)) some =
+            subst (IsGrown (root_keys T)) (sym (with_grant before e (p, k) some))
+            (granted_next (grants before) p k is (parent-made T J before es e p k runs parts some) (new before es e p k parts some))
 
 pub new-sound : (T : Setup) (J : List Entry) → IsSchedule T J → AreNew T J → sound_grants T J
 new-sound T J runs new = λ before later e p k parts some. (journal-below T J before later e p k runs parts some, new before later e p k parts some)

@@ -1,5 +1,6 @@
 -- Each key is made once: along every schedule a place has one token or one made key at most, so what is granted was never made before.
-use Rattle.std.proofs.Common.{◌≡◌, ℕ, zero, suc, ◌+◌, ◌<◌, ◌≤◌, ◌&&◌, List, [], ◌∷◌, ◌++◌, map, replicate, Option, Some, None, refl, sym, ◌∙◌, ap, subst, inl, inr, arith, eq-eqb, append-nil, append_assoc}
+use Rattle.std.proofs.Common.{◌≡◌, ℕ, zero, suc, ◌+◌, ◌<◌, ◌≤◌, ◌&&◌, List, [], ◌∷◌, ◌++◌, map, replicate, Option, Some, None, refl, sym, ◌∙◌, ap, subst, inl}
+use Rattle.std.proofs.Common.{inr, arith, eq-eqb, append-nil, append_assoc}
 use Rattle.std.specs.Prelude.{◌==◌}
 use Rattle.std.specs.List.{All, AllPairs, Contains, filter, flat_map, range_with_len, sum_by}
 use Rattle.std.proofs.lemmas.Bool.{cases_Bool, cases_eq, cases_order, cond-true, cond-false, and_parts, and_from, eqb-true, ne_eqb}
@@ -34,7 +35,10 @@ use Rattle.sem_safety.proofs.Tokens.{of_key, of_messages, of_parked, of_row, of_
 use Rattle.sem_safety.proofs.TokenWorlds.{of_world, of_links, IsOnce, with_granted, event-once}
 
 AllPairs-first : {X : Type 0} (S : X → X → Type 0) (x : X) (xs : List X) → AllPairs S (x ∷ xs) → All (S x) xs × AllPairs S xs
-AllPairs-first S x xs pairs = (λ k d within. pairs zero (suc k) d (omega arith) (omega arith), λ i j d lt within. pairs (suc i) (suc j) d (omega arith) (omega arith))
+AllPairs-first S x xs pairs = (
+  λ k d within. pairs zero (suc k) d (omega arith) (omega arith),
+  λ i j d lt within. pairs (suc i) (suc j) d (omega arith) (omega arith),
+)
 
 module _ (v0 n0 : ℕ) where
   -- a key of another place has no weight
@@ -144,8 +148,12 @@ module _ (v0 n0 : ℕ) where
   world-none : (T : Setup) → of_world v0 n0 (start T) ≡ 0
   unfolding start
   world-none T =
-      let sides : sum_by (of_side v0 n0) (map (start_side T) (range_with_len 0 T.kernels)) ≡ 0 = weigh-none (of_side v0 n0) (map (start_side T) (range_with_len 0 T.kernels)) (λ s among. from s (Contains-from_map (start_side T) (range_with_len 0 T.kernels) s among)) in
-      let links : of_links v0 n0 (replicate T.kernels (replicate T.kernels [])) ≡ 0 = weigh-replicate (λ (ls : List (List Message)). sum_by (of_messages v0 n0) ls) T.kernels (replicate T.kernels []) (weigh-replicate (of_messages v0 n0) T.kernels [] refl) in
+      let sides : sum_by (of_side v0 n0) (map (start_side T) (range_with_len 0 T.kernels)) ≡ 0 =
+      weigh-none (of_side v0 n0) (map (start_side T) (range_with_len 0 T.kernels))
+      (λ s among. from s (Contains-from_map (start_side T) (range_with_len 0 T.kernels) s among)) in
+      let links : of_links v0 n0 (replicate T.kernels (replicate T.kernels [])) ≡ 0 =
+      weigh-replicate (λ (ls : List (List Message)). sum_by (of_messages v0 n0) ls) T.kernels (replicate T.kernels [])
+      (weigh-replicate (of_messages v0 n0) T.kernels [] refl) in
       omega (arith, sides, links)
     where
       from : (s : Side) → (i : ℕ) × Contains (range_with_len 0 T.kernels) i × (start_side T i ≡ s) → of_side v0 n0 s ≡ 0
@@ -168,7 +176,8 @@ module _ (v0 n0 : ℕ) where
       }
 
   -- A schedule.
-  granted-is : (before : List Entry) (e : Entry) (o : Option (KeyName × KeyName)) → e.grant ≡ o → with_granted v0 n0 (grants before) o ≡ grants (before ++ e ∷ [])
+  granted-is : (before : List Entry) (e : Entry) (o : Option (KeyName × KeyName)) → e.grant ≡ o →
+      with_granted v0 n0 (grants before) o ≡ grants (before ++ e ∷ [])
   granted-is before e None none = sym (without_grant before e none)
   granted-is before e (Some g) some = sym (with_grant before e g some)
 
@@ -179,14 +188,18 @@ module _ (v0 n0 : ℕ) where
   pub schedule-once : (T : Setup) → IsSetup T → (J : List Entry) → IsSchedule T J → IsOnce v0 n0 T (world_after T J) (root_keys T) (grants J)
   schedule-once T valid J runs = from [] J refl (start-once T valid)
     where
-      from : (before later : List Entry) → J ≡ before ++ later → IsOnce v0 n0 T (world_after T before) (root_keys T) (grants before) → IsOnce v0 n0 T (world_after T J) (root_keys T) (grants J)
+      from : (before later : List Entry) → J ≡ before ++ later → IsOnce v0 n0 T (world_after T before) (root_keys T) (grants before) →
+          IsOnce v0 n0 T (world_after T J) (root_keys T) (grants J)
       from before [] parts is = subst (λ K. IsOnce v0 n0 T (world_after T K) (root_keys T) (grants K)) (sym (parts ∙ append-nil before)) is
       from before (e ∷ es) parts is =
           let at = entry-enabled T before (start T) e es (subst (IsSchedule T) parts runs) in
           let next = event-once v0 n0 T (world_after T before) (root_keys T) (grants before) is e.event at.1 in
           let world : after T (world_after T before) e.event ≡ world_after T (before ++ e ∷ []) = sym (run-append T before (e ∷ []) (start T)) in
-          let gs : with_granted v0 n0 (grants before) (stepped T (world_after T before) e.event).outcome.grant ≡ grants (before ++ e ∷ []) = granted-is before e (stepped T (world_after T before) e.event).outcome.grant (shown T (world_after T before) e at.2) in
-          from (before ++ e ∷ []) es (parts ∙ sym (append_assoc before (e ∷ []) es)) (subst (λ W. IsOnce v0 n0 T W (root_keys T) (grants (before ++ e ∷ []))) world (subst (λ g. IsOnce v0 n0 T (after T (world_after T before) e.event) (root_keys T) g) gs next))
+          let gs : with_granted v0 n0 (grants before) (stepped T (world_after T before) e.event).outcome.grant ≡ grants (before ++ e ∷ []) =
+          granted-is before e (stepped T (world_after T before) e.event).outcome.grant (shown T (world_after T before) e at.2) in
+          from (before ++ e ∷ []) es (parts
+          ∙ sym (append_assoc before (e ∷ []) es)) (subst (λ W. IsOnce v0 n0 T W (root_keys T) (grants (before ++ e ∷ []))) world
+          (subst (λ g. IsOnce v0 n0 T (after T (world_after T before) e.event) (root_keys T) g) gs next))
 
   -- a made key of the place weighs among what was made
   sum-map : (gs : List (KeyName × KeyName)) → sum_by (of_key v0 n0) (map (λ g. g.1) gs) ≡ sum_by (λ (g : KeyName × KeyName). of_key v0 n0 g.1) gs
@@ -198,17 +211,21 @@ module _ (v0 n0 : ℕ) where
       omega (arith, one, two, rest)
 
 -- a made key weighs among what was made
-made-weighs : (T : Setup) (J : List Entry) (k : KeyName) → Contains (made T J) k → 1 ≤ sum_by (of_key k.vpe k.number) (root_keys T) + sum_by (λ (g : KeyName × KeyName). of_key k.vpe k.number g.1) (grants J)
+made-weighs : (T : Setup) (J : List Entry) (k : KeyName) → Contains (made T J) k →
+    1 ≤ sum_by (of_key k.vpe k.number) (root_keys T) + sum_by (λ (g : KeyName × KeyName). of_key k.vpe k.number g.1) (grants J)
 made-weighs T J k there =
     let gs : List (KeyName × KeyName) = grants J in
-    let here : of_key k.vpe k.number k ≡ 1 = cond-true ((k.vpe == k.vpe) && (k.number == k.number)) 1 0 (and_from (k.vpe == k.vpe) (k.number == k.number) (eq-eqb k.vpe k.vpe refl) (eq-eqb k.number k.number refl)) in
+    let here : of_key k.vpe k.number k ≡ 1 =
+    cond-true ((k.vpe == k.vpe) && (k.number == k.number)) 1 0 (and_from (k.vpe == k.vpe) (k.number == k.number) (eq-eqb k.vpe k.vpe refl)
+    (eq-eqb k.number k.number refl)) in
     let all = sum_by-append (of_key k.vpe k.number) (root_keys T) (map (λ (g : KeyName × KeyName). g.1) gs) in
     let among : of_key k.vpe k.number k ≤ sum_by (of_key k.vpe k.number) (made T J) = weigh-among (of_key k.vpe k.number) (made T J) k there in
     let mapped = sum-map k.vpe k.number gs in
     omega (arith, here, all, among, mapped)
 
 -- the number of a made key was drawn by its VPE
-pub made-drawn : (T : Setup) → IsSetup T → (J : List Entry) → IsSchedule T J → (k : KeyName) → Contains (made T J) k → k.number < (row (side (world_after T J) (kernel_of T k.vpe)) k.vpe).next_number
+pub made-drawn : (T : Setup) → IsSetup T → (J : List Entry) → IsSchedule T J → (k : KeyName) → Contains (made T J) k →
+    k.number < (row (side (world_after T J) (kernel_of T k.vpe)) k.vpe).next_number
 made-drawn T valid J runs k there = elim (cases_order k.number (row (side (world_after T J) (kernel_of T k.vpe)) k.vpe).next_number) [
   | inr (inl below) ↦ below
   | inl same ↦ absurd (undrawn (omega (arith, same)))
@@ -227,8 +244,13 @@ all-new T valid J runs = λ before later e p k parts granted there.
     let gs : List (KeyName × KeyName) = grants before in
     let schedule : IsSchedule T (before ++ e ∷ []) = run-prefix T before later e (start T) (subst (IsSchedule T) parts runs) in
     let once = (schedule-once k.vpe k.number T valid (before ++ e ∷ []) schedule).once in
-    let sum : sum_by (λ (g : KeyName × KeyName). of_key k.vpe k.number g.1) (grants (before ++ e ∷ [])) ≡ sum_by (λ (g : KeyName × KeyName). of_key k.vpe k.number g.1) gs + of_key k.vpe k.number k = ap (λ hs. sum_by (λ (g : KeyName × KeyName). of_key k.vpe k.number g.1) hs) (with_grant before e (p, k) granted) ∙ sum_by_push (λ (g : KeyName × KeyName). of_key k.vpe k.number g.1) gs (p, k) in
-    let here : of_key k.vpe k.number k ≡ 1 = cond-true ((k.vpe == k.vpe) && (k.number == k.number)) 1 0 (and_from (k.vpe == k.vpe) (k.number == k.number) (eq-eqb k.vpe k.vpe refl) (eq-eqb k.number k.number refl)) in
+    let sum : sum_by (λ (g : KeyName × KeyName). of_key k.vpe k.number g.1) (grants (before ++ e ∷ []))
+    ≡ sum_by (λ (g : KeyName × KeyName). of_key k.vpe k.number g.1) gs + of_key k.vpe k.number k =
+    ap (λ hs. sum_by (λ (g : KeyName × KeyName). of_key k.vpe k.number g.1) hs) (with_grant before e (p, k) granted)
+    ∙ sum_by_push (λ (g : KeyName × KeyName). of_key k.vpe k.number g.1) gs (p, k) in
+    let here : of_key k.vpe k.number k ≡ 1 =
+    cond-true ((k.vpe == k.vpe) && (k.number == k.number)) 1 0 (and_from (k.vpe == k.vpe) (k.number == k.number) (eq-eqb k.vpe k.vpe refl)
+    (eq-eqb k.number k.number refl)) in
     let some = made-weighs T before k there in
     omega (arith, once, sum, here, some)
 

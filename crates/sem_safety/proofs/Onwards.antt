@@ -4,7 +4,8 @@ use Rattle.std.proofs.lemmas.Bool.{cases_eq}
 use Rattle.sem_key.specs.KeyName.{KeyName}
 use Rattle.sem_key.specs.Lists.{put}
 use Rattle.sem_msg.specs.declared.message.Message.{Message}
-use Rattle.sem_msg.specs.declared.message.Message.TheVariants.{ObtainReq, ObtainOk, ObtainNo, DelegateReq, DelegatePrepared, DelegateNo, Ack, Orphan, RevokeReq, RevokeDone, Unlink}
+use Rattle.sem_msg.specs.declared.message.Message.TheVariants.{ObtainReq, ObtainOk, ObtainNo, DelegateReq, DelegatePrepared, DelegateNo, Ack, Orphan, RevokeReq}
+use Rattle.sem_msg.specs.declared.message.Message.TheVariants.{RevokeDone, Unlink}
 use Rattle.sem_msg.specs.declared.state.Ask.{Ask}
 use Rattle.sem_msg.specs.declared.state.Ask.TheVariants.{Obtain as ObtainAsk, Delegate as DelegateAsk}
 use Rattle.sem_msg.specs.declared.state.Parked.{Parked}
@@ -88,7 +89,8 @@ put-onward : (s : Side) (v : ℕ) (r : VpeRow) → IsOnwardRow (row s v) r → I
 put-onward s v r here = by_rows s (record s { vpes = put no_vpe s.vpes v r }) (λ w. by_place w (cases_eq w v)) (omega arith)
   where
     by_place : (w : ℕ) → (w ≡ v) ⊎ (w ≡ v → ⊥) → IsOnwardRow (row s w) (row (record s { vpes = put no_vpe s.vpes v r }) w)
-    by_place w (inl same) = subst (λ n. IsOnwardRow (row s n) (row (record s { vpes = put no_vpe s.vpes v r }) n)) (sym same) (subst (IsOnwardRow (row s v)) (sym (get_or-put_same no_vpe s.vpes v r)) here)
+    by_place w (inl same) = subst (λ n. IsOnwardRow (row s n) (row (record s { vpes = put no_vpe s.vpes v r }) n)) (sym same)
+        (subst (IsOnwardRow (row s v)) (sym (get_or-put_same no_vpe s.vpes v r)) here)
     by_place w (inr other) = subst (IsOnwardRow (row s w)) (sym (get_or-put_other no_vpe s.vpes v w r other)) (row-same (row s w))
 
 module _ (z : Side) where
@@ -97,8 +99,10 @@ module _ (z : Side) where
   kept_row s is v r here = onward-next z s (record s { vpes = put no_vpe s.vpes v r }) is (put-onward s v r here)
 
   -- another row with the same counts
-  kept_plain : (s : Side) → IsOnward z s → (v : ℕ) (r : VpeRow) → r.next_number ≡ (row s v).next_number → r.next_call ≡ (row s v).next_call → r.alive ≡ (row s v).alive → IsOnward z (record s { vpes = put no_vpe s.vpes v r })
-  kept_plain s is v r numbers calls alive = kept_row s is v r (record { numbers = omega (arith, numbers); calls = omega (arith, calls); dead = λ lives. sym alive ∙ lives })
+  kept_plain : (s : Side) → IsOnward z s → (v : ℕ) (r : VpeRow) → r.next_number ≡ (row s v).next_number → r.next_call ≡ (row s v).next_call →
+      r.alive ≡ (row s v).alive → IsOnward z (record s { vpes = put no_vpe s.vpes v r })
+  kept_plain s is v r numbers calls alive =
+      kept_row s is v r (record { numbers = omega (arith, numbers); calls = omega (arith, calls); dead = λ lives. sym alive ∙ lives })
 
   pub onward : IsLayer (facts Any AnyPlace) (IsOnward z)
   onward = record {
@@ -145,6 +149,7 @@ module _ (z : Side) where
 -- a number that was drawn is below the next
 pub drawn-below : (v : ℕ) (s t : Side) → IsOnward (drawn v s) t → (row s v).next_number < (row t v).next_number
 drawn-below v s t is =
-    let next : (row (drawn v s) v).next_number ≡ (row s v).next_number + 1 = ap (λ (r : VpeRow). r.next_number) (get_or-put_same no_vpe s.vpes v (record (row s v) { next_number = (row s v).next_number + 1 })) in
+    let next : (row (drawn v s) v).next_number ≡ (row s v).next_number + 1 =
+    ap (λ (r : VpeRow). r.next_number) (get_or-put_same no_vpe s.vpes v (record (row s v) { next_number = (row s v).next_number + 1 })) in
     let on = is.numbers v in
     omega (arith, next)

@@ -35,7 +35,9 @@ any_taken s (Kill v) = tt
 
 module _ (P : Side → Type 0) (kept : IsKept (facts Any AnyPlace) P) (T : Setup) where
   pub step-kept : (i : ℕ) (s : Side) (a : Act) (input : Option Message) → P s → P (local_step T i s a input).side
-  step-kept i s a input is = local_step-kept (facts Any AnyPlace) AnyVpe P kept T i s a input (may_act a) is (λ k c held. tt) (any_taken s a) (blind-act (facts Any AnyPlace) (facts-blind Any AnyPlace (λ p k. Unit {0}) (λ k. Unit {0})) T s a) (any_end T s a) (any_input input) (any_grant (local_step T i s a input).outcome.grant, λ v n may low below. tt, any_cut (local_step T i s a input).outcome.cut)
+  step-kept i s a input is = local_step-kept (facts Any AnyPlace) AnyVpe P kept T i s a input (may_act a) is (λ k c held. tt) (any_taken s a)
+      (blind-act (facts Any AnyPlace) (facts-blind Any AnyPlace (λ p k. Unit {0}) (λ k. Unit {0})) T s a) (any_end T s a) (any_input input)
+      (any_grant (local_step T i s a input).outcome.grant, λ v n may low below. tt, any_cut (local_step T i s a input).outcome.cut)
 
   pub after-kept : (W : World) (e : Event) → ((i : ℕ) → P (side W i)) → (i : ℕ) → P (side (after T W e) i)
   unfolding after

@@ -67,10 +67,17 @@ root-sound d r s is =
     let t : Side = cap_added c s in
     let kept : IsSoundSide t = sound.keeps_added s is c tt refl refl in
     let held : IsSoundSide (with_slot d.vpe r.sel (Held k) t) = sound.keeps_slot t kept d.vpe r.sel (Held k) refl in
-    with_sound_row t kept d.vpe (root_held d r (row s d.vpe)) (λ sel q at. held.own_slots d.vpe sel q (ap (λ (x : VpeRow). get_or x.slots sel Free) (get_or-put_same no_vpe t.vpes d.vpe (record (row t d.vpe) { slots = put Free (row t d.vpe).slots r.sel (Held k) })) ∙ at))
+    with_sound_row t kept d.vpe (root_held d r (row s d.vpe))
+    (λ sel q at. held.own_slots d.vpe sel q
+    (ap (λ (x : VpeRow). get_or x.slots sel Free)
+    (get_or-put_same no_vpe t.vpes d.vpe (record (row t d.vpe) { slots = put Free (row t d.vpe).slots r.sel (Held k) })) ∙ at))
 
 vpe-sound : (d : VpeDecl) (s : Side) → IsSoundSide s → IsSoundSide (vpe_added d s)
-vpe-sound d s is = in_turn-keeps IsSoundSide (root_added d) (root-sound d) d.roots _ (with_sound_endpoints (with_row d.vpe (λ v. new_vpe) s) (with_sound_row s is d.vpe new_vpe (λ sel k at. absurd (not-held (get_or (replicate 256 Free) sel Free) k (read-same 256 sel Free Free) at))) d.vpe (replicate 16 None) (λ ep e at. absurd (not-bound (get_or (replicate 16 None) ep None) e (read-same 16 ep None None) at)))
+vpe-sound d s is =
+    in_turn-keeps IsSoundSide (root_added d) (root-sound d) d.roots _
+    (with_sound_endpoints (with_row d.vpe (λ v. new_vpe) s)
+    (with_sound_row s is d.vpe new_vpe (λ sel k at. absurd (not-held (get_or (replicate 256 Free) sel Free) k (read-same 256 sel Free Free) at))) d.vpe
+    (replicate 16 None) (λ ep e at. absurd (not-bound (get_or (replicate 16 None) ep None) e (read-same 16 ep None None) at)))
 
 side-sound : (T : Setup) (i : ℕ) → IsSoundSide (start_side T i)
 unfolding start_side
@@ -90,7 +97,8 @@ start-sound T i = from (range_with_len 0 T.kernels) i
 
 -- A key that is held once is found.
 
-one-found : (k : KeyName) (cs : List Capability) (c : Capability) → c.key ≡ k → Contains cs c → sum_by (at_cap k all_held) cs ≤ 1 → find (λ x. key_eq x.key k) cs ≡ Some c
+one-found : (k : KeyName) (cs : List Capability) (c : Capability) → c.key ≡ k → Contains cs c → sum_by (at_cap k all_held) cs ≤ 1 →
+    find (λ x. key_eq x.key k) cs ≡ Some c
 one-found k [] c same among once = absurd (Contains-nil c among)
 one-found k (x ∷ xs) c same among once =
     let all = sum_by-cons (at_cap k all_held) x xs in
@@ -110,7 +118,8 @@ one-found k (x ∷ xs) c same among once =
     ]
 
 -- a kernel holds a key once
-pub held-once : (k : KeyName) (T : Setup) → IsSetup T → (J : List Entry) → IsSchedule T J → (i : ℕ) → sum_by (at_cap k all_held) (side (world_after T J) i).caps ≤ 1
+pub held-once : (k : KeyName) (T : Setup) → IsSetup T → (J : List Entry) → IsSchedule T J → (i : ℕ) →
+    sum_by (at_cap k all_held) (side (world_after T J) i).caps ≤ 1
 held-once k T valid J runs i =
     let once = lives-once k all_held T valid J runs in
     let part = world-side k all_held (world_after T J) i no_side in

@@ -1,5 +1,6 @@
 -- The tokens of a place in a world, and along a run: there is one at most, or a key of that place was made, and before the number is drawn there is neither.
-use Rattle.std.proofs.Common.{◌≡◌, ℕ, ◌+◌, ◌<◌, ◌≤◌, true, List, [], ◌∷◌, ◌++◌, drop, get_or, Option, Some, None, slice_get, refl, sym, ◌∙◌, ap, subst, inl, inr, arith}
+use Rattle.std.proofs.Common.{◌≡◌, ℕ, ◌+◌, ◌<◌, ◌≤◌, true, List, [], ◌∷◌, ◌++◌, drop, get_or, Option, Some, None, slice_get, refl, sym, ◌∙◌, ap, subst, inl}
+use Rattle.std.proofs.Common.{inr, arith}
 use Rattle.std.specs.List.{sum_by}
 use Rattle.std.specs.Option.{option_map, option_map_or}
 use Rattle.std.proofs.lemmas.List.Sums.{sum_by_push}
@@ -44,7 +45,8 @@ module _ (v0 n0 : ℕ) where
   in_inbox j None = refl
   in_inbox j (Some m) = refl
 
-  fetched : (T : Setup) (W : World) (i j : ℕ) → of_world (after T W (event i (Fetch j))) + of_grant v0 n0 (stepped T W (event i (Fetch j))).outcome.grant ≤ of_world W + 0
+  fetched : (T : Setup) (W : World) (i j : ℕ) →
+      of_world (after T W (event i (Fetch j))) + of_grant v0 n0 (stepped T W (event i (Fetch j))).outcome.grant ≤ of_world W + 0
   unfolding after local_step
   fetched T W i j =
       let s : Side = side W i in
@@ -60,11 +62,14 @@ module _ (v0 n0 : ℕ) where
       omega (arith, new, moved, front, inbox, same)
 
   -- a message moves from an outbox into the link
-  link-more : (V : World) (i j : ℕ) (o : Option Message) → of_world (option_map_or (λ m. with_link i j (link V i j ++ m ∷ []) V) o V) ≡ of_world V + of_option (of_message v0 n0) o
+  link-more : (V : World) (i j : ℕ) (o : Option Message) → of_world (option_map_or (λ m. with_link i j (link V i j ++ m ∷ []) V) o V)
+      ≡ of_world V + of_option (of_message v0 n0) o
   link-more V i j None = omega arith
-  link-more V i j (Some m) = let more = world-link V i j (link V i j ++ m ∷ []) in let push = sum_by_push (of_message v0 n0) (link V i j) m in omega (arith, more, push)
+  link-more V i j (Some m) = let more = world-link V i j (link V i j ++ m ∷ []) in let push = sum_by_push (of_message v0 n0) (link V i j) m in
+      omega (arith, more, push)
 
-  flushed : (T : Setup) (W : World) (i j : ℕ) → of_world (after T W (event i (Flush j))) + of_grant v0 n0 (stepped T W (event i (Flush j))).outcome.grant ≤ of_world W + 0
+  flushed : (T : Setup) (W : World) (i j : ℕ) →
+      of_world (after T W (event i (Flush j))) + of_grant v0 n0 (stepped T W (event i (Flush j))).outcome.grant ≤ of_world W + 0
   unfolding after local_step
   flushed T W i j =
       let s : Side = side W i in
@@ -84,7 +89,8 @@ module _ (v0 n0 : ℕ) where
       by_act a = 0
 
   -- The world after an event.
-  after-weighed : (T : Setup) (W : World) (i : ℕ) (a : Act) → of_world (after T W (event i a)) + of_grant v0 n0 (stepped T W (event i a)).outcome.grant ≤ of_world W + drawn_in T W (event i a)
+  after-weighed : (T : Setup) (W : World) (i : ℕ) (a : Act) →
+      of_world (after T W (event i a)) + of_grant v0 n0 (stepped T W (event i a)).outcome.grant ≤ of_world W + drawn_in T W (event i a)
   unfolding after
   after-weighed T W i (Calls v) =
       let few = call-within v0 n0 T i (side W i) v None in
@@ -123,7 +129,8 @@ module _ (v0 n0 : ℕ) where
   with_granted gs None = gs
   with_granted gs (Some g) = gs ++ g ∷ []
 
-  granted-sum : (gs : List (KeyName × KeyName)) (o : Option (KeyName × KeyName)) → sum_by (λ (g : KeyName × KeyName). of_key v0 n0 g.1) (with_granted gs o) ≡ sum_by (λ (g : KeyName × KeyName). of_key v0 n0 g.1) gs + of_grant v0 n0 o
+  granted-sum : (gs : List (KeyName × KeyName)) (o : Option (KeyName × KeyName)) → sum_by (λ (g : KeyName × KeyName). of_key v0 n0 g.1) (with_granted gs o)
+      ≡ sum_by (λ (g : KeyName × KeyName). of_key v0 n0 g.1) gs + of_grant v0 n0 o
   granted-sum gs None = omega arith
   granted-sum gs (Some g) = sum_by_push (λ (h : KeyName × KeyName). of_key v0 n0 h.1) gs g
 
@@ -144,13 +151,16 @@ module _ (v0 n0 : ℕ) where
         }
 
     -- an event in which it is
-    drawn-once : (e : Event) → drawn_in v0 n0 T W e ≤ 1 → kernel_of T v0 ≡ e.kernel → (row (side W e.kernel) v0).next_number ≡ n0 → (row (side W e.kernel) v0).next_number < (row (stepped T W e).side v0).next_number → IsOnce T (after T W e) roots (with_granted gs (stepped T W e).outcome.grant)
+    drawn-once : (e : Event) → drawn_in v0 n0 T W e ≤ 1 → kernel_of T v0 ≡ e.kernel → (row (side W e.kernel) v0).next_number ≡ n0 →
+        (row (side W e.kernel) v0).next_number < (row (stepped T W e).side v0).next_number →
+        IsOnce T (after T W e) roots (with_granted gs (stepped T W e).outcome.grant)
     drawn-once e one here now drawn_now =
         let weighed = after-weighed v0 n0 T W e.kernel e.act in
         let sum = granted-sum gs (stepped T W e).outcome.grant in
         let at : (row (side W (kernel_of T v0)) v0).next_number ≡ n0 = ap (λ i. (row (side W i) v0).next_number) here ∙ now in
         let none = is.undrawn (omega (arith, at)) in
-        let next : (row (side (after T W e) (kernel_of T v0)) v0).next_number ≡ (row (stepped T W e).side v0).next_number = ap (λ i. (row (side (after T W e) i) v0).next_number) here ∙ ap (λ (t : Side). (row t v0).next_number) (side-after T W e) in
+        let next : (row (side (after T W e) (kernel_of T v0)) v0).next_number ≡ (row (stepped T W e).side v0).next_number =
+        ap (λ i. (row (side (after T W e) i) v0).next_number) here ∙ ap (λ (t : Side). (row t v0).next_number) (side-after T W e) in
         record {
           once = omega (arith, weighed, sum, one, none);
           undrawn = λ still. absurd (omega (arith, still, next, now, drawn_now));
@@ -159,15 +169,19 @@ module _ (v0 n0 : ℕ) where
     pub event-once : (e : Event) → is_enabled T W e ≡ true → IsOnce T (after T W e) roots (with_granted gs (stepped T W e).outcome.grant)
     event-once e enabled = by_act e.kernel e.act (may_draw T W e enabled)
       where
-        for_vpe : (i v : ℕ) (a : Act) → kernel_of T v ≡ i → drawn_in v0 n0 T W (event i a) ≡ drawing v0 n0 (side W i) v (stepped T W (event i a)) → IsOnce T (after T W (event i a)) roots (with_granted gs (stepped T W (event i a)).outcome.grant)
+        for_vpe : (i v : ℕ) (a : Act) → kernel_of T v ≡ i → drawn_in v0 n0 T W (event i a) ≡ drawing v0 n0 (side W i) v (stepped T W (event i a)) →
+            IsOnce T (after T W (event i a)) roots (with_granted gs (stepped T W (event i a)).outcome.grant)
         for_vpe i v a here same = elim (drawing-cases v0 n0 (side W i) v (stepped T W (event i a))) [
           | inl none ↦ plain-once (event i a) (same ∙ none)
           | inr (this, number, now) ↦
               let one = drawing-one v0 n0 (side W i) v (stepped T W (event i a)) in
-              drawn-once (event i a) (omega (arith, same, one)) (ap (kernel_of T) (sym this) ∙ here) (subst (λ w. (row (side W i) w).next_number ≡ n0) this number) (subst (λ w. (row (side W i) w).next_number < (row (stepped T W (event i a)).side w).next_number) this now)
+              drawn-once (event i a) (omega (arith, same, one)) (ap (kernel_of T) (sym this)
+              ∙ here) (subst (λ w. (row (side W i) w).next_number ≡ n0) this number)
+              (subst (λ w. (row (side W i) w).next_number < (row (stepped T W (event i a)).side w).next_number) this now)
         ]
 
-        by_act : (i : ℕ) (a : Act) → MayDraw (λ v. kernel_of T v ≡ i) a → IsOnce T (after T W (event i a)) roots (with_granted gs (stepped T W (event i a)).outcome.grant)
+        by_act : (i : ℕ) (a : Act) → MayDraw (λ v. kernel_of T v ≡ i) a →
+            IsOnce T (after T W (event i a)) roots (with_granted gs (stepped T W (event i a)).outcome.grant)
         by_act i (Calls v) here = for_vpe i v (Calls v) here refl
         by_act i (Upcall v) here = for_vpe i v (Upcall v) here refl
         by_act i (Fetch j) here = plain-once (event i (Fetch j)) refl

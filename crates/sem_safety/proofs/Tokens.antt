@@ -9,7 +9,8 @@ use Rattle.sem_key.specs.KeyName.{KeyName}
 use Rattle.sem_key.specs.Lists.{put}
 use Rattle.sem_msg.specs.declared.limits.TheConstants.{ASKS}
 use Rattle.sem_msg.specs.declared.message.Message.{Message}
-use Rattle.sem_msg.specs.declared.message.Message.TheVariants.{ObtainReq, ObtainOk, ObtainNo, DelegateReq, DelegatePrepared, DelegateNo, Ack, Orphan, RevokeReq, RevokeDone, Unlink}
+use Rattle.sem_msg.specs.declared.message.Message.TheVariants.{ObtainReq, ObtainOk, ObtainNo, DelegateReq, DelegatePrepared, DelegateNo, Ack, Orphan, RevokeReq}
+use Rattle.sem_msg.specs.declared.message.Message.TheVariants.{RevokeDone, Unlink}
 use Rattle.sem_msg.specs.declared.state.Ask.{Ask}
 use Rattle.sem_msg.specs.declared.state.Ask.TheVariants.{Obtain as ObtainAsk, Delegate as DelegateAsk}
 use Rattle.sem_msg.specs.declared.state.Parked.{Parked}
@@ -144,7 +145,9 @@ module _ (v0 n0 : ℕ) where
       let asks : List Ask = (row s v).asks in
       let more : List Ask = if nat_lt (length asks) ASKS then asks ++ a ∷ [] else asks in
       let push = sum_by_push of_ask asks a in
-      let sum : sum_by of_ask more ≤ sum_by of_ask asks + of_ask a = cond_both (nat_lt (length asks) ASKS) (asks ++ a ∷ []) asks (λ xs. sum_by of_ask xs ≤ sum_by of_ask asks + of_ask a) (λ _. omega (arith, push)) (λ _. omega arith) in
+      let sum : sum_by of_ask more ≤ sum_by of_ask asks + of_ask a =
+      cond_both (nat_lt (length asks) ASKS) (asks ++ a ∷ []) asks (λ xs. sum_by of_ask xs ≤ sum_by of_ask asks + of_ask a) (λ _. omega (arith, push))
+      (λ _. omega arith) in
       let rows = side-row s v (record (row s v) { asks = more }) in
       omega (arith, rows, sum)
 
@@ -177,7 +180,8 @@ module _ (v0 n0 : ℕ) where
   weighed m = record {
     keeps_counted = λ s is v. let new = side-lighter s v (record (row s v) { next_call = (row s v).next_call + 1 }) (omega arith) in omega (arith, is, new);
     keeps_drawn = λ s is v. let new = side-lighter s v (record (row s v) { next_number = (row s v).next_number + 1 }) (omega arith) in omega (arith, is, new);
-    keeps_slot = λ s is v sel state of_vpe. let new = side-lighter s v (record (row s v) { slots = put Free (row s v).slots sel state }) (omega arith) in omega (arith, is, new);
+    keeps_slot = λ s is v sel state of_vpe. let new = side-lighter s v (record (row s v) { slots = put Free (row s v).slots sel state }) (omega arith) in
+        omega (arith, is, new);
     keeps_parked = λ s is v p here. let new = side-parked s v p in let none = parked-none (Some p) here in omega (arith, is, new, none);
     keeps_unparked = λ s is v. let new = side-unparked s v in omega (arith, is, new);
     keeps_asked = λ s is v a here. let new = side-asked s v a in let none = ask-none a here in omega (arith, is, new, none);

@@ -1,5 +1,6 @@
 -- Events that are enabled in their turn make a schedule; and two kernels with a VPE each are a setup.
-use Rattle.std.proofs.Common.{◌≡◌, refl, ℕ, zero, suc, ◌+◌, ◌<◌, ◌≤◌, true, List, [], ◌∷◌, length, Option, Some, None, replicate, get_or, sym, ap, subst, arith, rules, inr, IsSome}
+use Rattle.std.proofs.Common.{◌≡◌, refl, ℕ, zero, suc, ◌+◌, ◌<◌, ◌≤◌, true, List, [], ◌∷◌, length, Option, Some, None, replicate, get_or, sym, ap, subst, arith}
+use Rattle.std.proofs.Common.{rules, inr, IsSome}
 use Rattle.std.specs.List.{slice_set, All, AllPairs}
 use Rattle.std.specs.Prelude.{◌≢◌}
 use Rattle.std.proofs.lemmas.Bool.{and_parts}
@@ -21,8 +22,11 @@ unfolding IsRun walked all_enabled
 walked-runs T W [] all = tt
 walked-runs T W (e ∷ es) all =
     let parts = and_parts (is_enabled T W e) (all_enabled T (after T W e) es) all in
-    let same : (entry_of T W e).event ≡ e = entry_of-event T W e in
-    (subst (λ f. is_enabled T W f ≡ true) (sym same) parts.0, ap (entry_of T W) (sym same), subst (λ f. IsRun T (after T W f) (walked T (after T W e) es)) (sym same) (walked-runs T (after T W e) es parts.1))
+    let same : (entry_of T W e).event ≡ e = entry_of-event T W e in (
+      subst (λ f. is_enabled T W f ≡ true) (sym same) parts.0,
+      ap (entry_of T W) (sym same),
+      subst (λ f. IsRun T (after T W f) (walked T (after T W e) es)) (sym same) (walked-runs T (after T W e) es parts.1),
+    )
 
 pub journal-schedule : (T : Setup) (es : List Event) → all_enabled T (start T) es ≡ true → IsSchedule T (journal_of T es)
 journal-schedule T es all = walked-runs T (start T) es all
@@ -80,7 +84,8 @@ module _ (calls calls' : List Call) (kills : List (ℕ × ℕ)) (valid : All (Is
     calls = valid';
   }
 
-  pub pair-setup : length calls + length calls' ≤ CALLS → All (λ (k : ℕ × ℕ). IsDeclared (pair calls calls' kills) k.0 × IsWord k.1) kills → AllPairs (λ (a b : ℕ × ℕ). a.0 < b.0) kills → IsSetup (pair calls calls' kills)
+  pub pair-setup : length calls + length calls' ≤ CALLS → All (λ (k : ℕ × ℕ). IsDeclared (pair calls calls' kills) k.0 × IsWord k.1) kills →
+      AllPairs (λ (a b : ℕ × ℕ). a.0 < b.0) kills → IsSetup (pair calls calls' kills)
   unfolding pair services_from
   pair-setup few declared rise = record {
     versioned = inr refl;
@@ -90,7 +95,8 @@ module _ (calls calls' : List Call) (kills : List (ℕ × ℕ)) (valid : All (Is
     membership = record { some_kernel = omega arith; few_kernels = omega arith; all_pes = refl; owners_exist = owner_exists };
     same_kernels = refl;
     owned_pes = owned_first;
-    vpes = All-cons (IsVpeDecl (pair calls calls' kills)) (first_vpe calls) (second_vpe calls' ∷ []) is_first (All-cons (IsVpeDecl (pair calls calls' kills)) (second_vpe calls') [] is_second (All-nil (IsVpeDecl (pair calls calls' kills))));
+    vpes = All-cons (IsVpeDecl (pair calls calls' kills)) (first_vpe calls) (second_vpe calls' ∷ []) is_first
+        (All-cons (IsVpeDecl (pair calls calls' kills)) (second_vpe calls') [] is_second (All-nil (IsVpeDecl (pair calls calls' kills))));
     vpes_rise = one-pair (λ (a b : VpeDecl). a.vpe < b.vpe) (first_vpe calls) (second_vpe calls') (omega arith);
     pes_differ = one-pair (λ (a b : VpeDecl). a.pe ≢ b.pe) (first_vpe calls) (second_vpe calls') (λ same. omega (arith, same));
     services_rise = λ i j d lt within. absurd (omega arith);

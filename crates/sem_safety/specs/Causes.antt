@@ -1,8 +1,7 @@
--- Why a key may be marked, or its capability lost: it has an ancestor at which a revoke or a clear began, or whose VPE ended ("Marks have a cause" in docs/proof.md).
+-- Why a key may be marked, or its capability lost: a revoke or a clear began at one of its
+-- ancestors, or the VPE of an ancestor ended ("Marks have a cause" in docs/proof.md).
 use Rattle.std.specs.Prelude.{◌≡◌, ◌⊎◌, true, List, filter_map, Contains}
-use Rattle.sem_key.specs.KeyName.{KeyName}
-use Rattle.sem_msg.specs.declared.entry.Entry.{Entry}
-use Rattle.sem_machine.specs.Journals.{line, has_ended}
+use Rattle.sem_machine.specs.Prelude.{KeyName, Entry, line, has_ended}
 
 -- a revoke or a clear began at the key, or its VPE ended
 abbrev pub IsCut : List Entry → KeyName → Type 0

@@ -1,7 +1,6 @@
 -- How many messages of a kind are in flight.
 use Rattle.std.specs.Prelude.{ℕ, zero, suc, ◌+◌, Bool, count_by, if◌then◌else◌}
-use Rattle.sem_msg.specs.declared.message.Message.{Message}
-use Rattle.sem_machine.specs.Machine.{World}
+use Rattle.sem_machine.specs.Prelude.{Message, World}
 use Rattle.sem_machine.specs.Living.{way}
 
 -- the sum of the values of a function below n

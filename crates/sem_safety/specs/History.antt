@@ -1,27 +1,22 @@
 -- What a proof keeps of a journal so far ("Histories" in docs/proof.md).
-use Rattle.std.specs.Prelude.{ℕ, ◌+◌, ◌==◌, Bool, false, not, ◌&&◌, List, [], ◌∷◌, ◌++◌, filter, flat_map, fold, Option, Some, None, option_to_list}
+use Rattle.std.specs.Prelude.{ℕ, ◌+◌, ◌==◌, Bool, false, not, ◌&&◌, List, [], ◌∷◌, ◌++◌, filter, flat_map, fold}
+use Rattle.std.specs.Prelude.{Option, Some, None, option_to_list}
 use Rattle.std.specs.Option.{option_map_or}
-use Rattle.sem_key.specs.KeyName.{KeyName}
-use Rattle.sem_msg.specs.declared.call.Call.TheVariants.{Exit}
-use Rattle.sem_msg.specs.declared.event.Act.{Act}
-use Rattle.sem_msg.specs.declared.event.Act.TheVariants.{Call as Calls, Kill}
-use Rattle.sem_msg.specs.declared.entry.Detail.{Detail}
-use Rattle.sem_msg.specs.declared.entry.Detail.TheVariants.{Called}
-use Rattle.sem_msg.specs.declared.entry.Entry.{Entry}
+use Rattle.sem_machine.specs.Prelude.{KeyName, Exit, Act, Calls, Kill, Detail, Called, Entry}
 use Rattle.sem_machine.specs.Journals.{cut_off}
 
 pub record History : Type 0 where
-  -- each a parent and its child, in their order
+  -- the grants: each a parent and its child, in order
   pub grants : List (KeyName × KeyName)
   -- the keys at which revokes and clears began
   pub cuts : List KeyName
-  -- what they cut off
+  -- the keys that they cut off
   pub cut : List KeyName
   -- the VPEs that have ended
   pub ended : List ℕ
-  -- the calls that are not answered yet: the VPE and the keys that it cut off
+  -- the calls without an answer yet: the VPE and the keys that it cut off
   pub waiting : List (ℕ × List KeyName)
-  -- the keys that were cut off by calls which were answered with success
+  -- the keys that calls which succeeded cut off
   pub answered : List KeyName
   -- how many entries there are
   pub entries : ℕ
@@ -36,11 +31,11 @@ ended_by (Kill w) detail = Some w
 ended_by (Calls w) (Called index Exit) = Some w
 ended_by act detail = None
 
--- what an entry cuts off, by the grants before it
+-- what an entry cuts off, given the grants before it
 abbrev pub cut_at : List (KeyName × KeyName) → Entry → List KeyName
 cut_at gs e = option_map_or (cut_off gs e.detail) e.cut []
 
--- the call that begins with an act, if one does, and cuts off these keys
+-- the call that begins with an act, if one does, and that cuts off these keys
 abbrev pub call_by : Act → List KeyName → List (ℕ × List KeyName)
 call_by (Calls v) ks = (v, ks) ∷ []
 call_by act ks = []
@@ -52,7 +47,7 @@ replies_to e v = option_map_or (λ r. r.vpe == v) e.reply false
 abbrev pub succeeds : Entry → Bool
 succeeds e = option_map_or (λ r. r.code == 0) e.reply false
 
--- the history with one entry more
+-- the history with one more entry
 abbrev pub note : History → Entry → History
 note h e = record {
   grants = h.grants ++ option_to_list e.grant;

@@ -1,7 +1,7 @@
--- What only goes on: numbers and ids that are drawn, calls that are made and replies that are given are never taken back, and what is dead stays dead ("What only goes on" in docs/proof.md).
+-- What only goes on: drawn numbers and ids, calls made and replies given are never taken back, and
+-- the dead stay dead ("What only goes on" in docs/proof.md).
 use Rattle.std.specs.Prelude.{◌≡◌, ℕ, ◌≤◌, true}
-use Rattle.sem_machine.specs.Sides.{Side, row}
-use Rattle.sem_machine.specs.Machine.{World, side}
+use Rattle.sem_machine.specs.Prelude.{Side, row, World, side}
 
 -- the side t is not before the side s
 pub record IsOnward (s t : Side) : Type 0 where

@@ -1,14 +1,11 @@
--- What is observed of a side and of a world: functions read off them. Facts about schedules are stated over these ("Observations" in docs/proof.md).
-use Rattle.std.specs.Prelude.{◌≡◌, ℕ, ◌==◌, Bool, false, List, [], slice_index_or, Option, Some, None, AllPairs, if◌then◌else◌}
+-- What is observed of a side and of a world: functions read off them. Facts about schedules are
+-- stated with these ("Observations" in docs/proof.md).
+use Rattle.std.specs.Prelude.{◌≡◌, ℕ, ◌==◌, Bool, false, List, [], slice_index_or, Option, Some, None, AllPairs}
+use Rattle.std.specs.Prelude.{if◌then◌else◌}
 use Rattle.std.specs.Option.{option_map, option_and_then}
-use Rattle.sem_key.specs.KeyName.{KeyName, key_eq}
-use Rattle.sem_key.specs.Capability.{Capability}
-use Rattle.sem_msg.specs.declared.message.Message.{Message}
-use Rattle.sem_msg.specs.declared.state.Parked.{Parked}
-use Rattle.sem_msg.specs.declared.state.Pending.{Pending}
-use Rattle.sem_msg.specs.Rows.{JobRow, Endpoint, VpeRow}
-use Rattle.sem_machine.specs.Sides.{Side, cap, row, parked, pending, job, outbox}
-use Rattle.sem_machine.specs.Machine.{World, side, link}
+use Rattle.sem_machine.specs.Prelude.{KeyName, key_eq, Capability, Message, Parked, Pending, JobRow, VpeRow, Side}
+use Rattle.sem_machine.specs.Prelude.{cap, row, parked, pending, job, outbox, World, side, link}
+use Rattle.sem_msg.specs.Rows.{Endpoint}
 
 -- what is seen of a side
 pub record Seen : Type 0 where
@@ -34,11 +31,21 @@ abbrev pub endpoints : Side → ℕ → List (Option Endpoint)
 endpoints s v = slice_index_or s.endpoints v []
 
 abbrev pub seen : Side → Seen
-seen s = record { cap = cap s; row = row s; endpoints = endpoints s; parked = parked s; pending = pending s; job = job s; next_job = s.next_job; inbox = s.inbox; outbox = outbox s }
+seen s = record {
+  cap = cap s;
+  row = row s;
+  endpoints = endpoints s;
+  parked = parked s;
+  pending = pending s;
+  job = job s;
+  next_job = s.next_job;
+  inbox = s.inbox;
+  outbox = outbox s;
+}
 
 -- what is seen of a world
 pub record Observed : Type 0 where
-  -- of the side of a kernel
+  -- what is seen of the side of a kernel
   pub kernel : ℕ → Seen
   -- the link from a kernel to another
   pub link : ℕ → ℕ → List Message
@@ -56,10 +63,11 @@ abbrev pub at_key : {X : Type 0} → KeyName → X → (KeyName → X) → KeyNa
 at_key k x f q = if key_eq q k then x else f q
 
 -- the capabilities whose keys pass a test, changed
-abbrev pub caps_changed : (KeyName → Bool) → (Capability → Capability) → (KeyName → Option Capability) → KeyName → Option Capability
+abbrev pub caps_changed : (KeyName → Bool) → (Capability → Capability) → (KeyName → Option Capability) → KeyName →
+    Option Capability
 caps_changed test f caps q = if test q then option_map f (caps q) else caps q
 
--- the capability, where it passes the test
+-- the capability, if it passes the test
 abbrev pub if_kept : (Capability → Bool) → Option Capability → Option Capability
 if_kept test o = option_and_then (λ c. if test c then Some c else None) o
 

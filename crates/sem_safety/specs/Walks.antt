@@ -1,22 +1,15 @@
--- Journals that are made by computation, from events that are given; and a setup of two kernels for them.
+-- Journals made by computation from given events, and a setup of two kernels for them.
 use Rattle.std.specs.Prelude.{ℕ, Bool, true, ◌&&◌, List, [], ◌∷◌, Some, None, replicate}
 use Rattle.std.specs.List.{slice_set}
-use Rattle.sem_key.specs.declared.limits.TheConstants.{PES}
-use Rattle.sem_key.specs.declared.object.Object.TheVariants.{Mem}
-use Rattle.sem_msg.specs.declared.call.Call.{Call}
-use Rattle.sem_msg.specs.declared.event.Event.{Event}
-use Rattle.sem_msg.specs.declared.entry.Entry.{Entry}
-use Rattle.sem_msg.specs.declared.setup.Root.{Root}
-use Rattle.sem_msg.specs.declared.setup.VpeDecl.{VpeDecl}
-use Rattle.sem_msg.specs.Setup.{Setup}
-use Rattle.sem_machine.specs.Machine.{World, start, after, entry_of, is_enabled}
+use Rattle.sem_machine.specs.Prelude.{PES, Mem, Call, Event, Entry, Root, VpeDecl, Setup, World, start, after}
+use Rattle.sem_machine.specs.Prelude.{entry_of, is_enabled}
 
 -- the entries that the events make from a world on
 unfoldable pub walked : Setup → World → List Event → List Entry
 walked T W [] = []
 walked T W (e ∷ es) = entry_of T W e ∷ walked T (after T W e) es
 
--- whether each is enabled in its turn
+-- whether each event is enabled in its turn
 unfoldable pub all_enabled : Setup → World → List Event → Bool
 all_enabled T W [] = true
 all_enabled T W (e ∷ es) = is_enabled T W e && all_enabled T (after T W e) es

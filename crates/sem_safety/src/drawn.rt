@@ -10,5 +10,7 @@ ghost use Rattle.sem_machine.specs.Journals.{made};
 
 /// The number of each made key was drawn by its VPE, at its kernel.
 pub fn made_keys_were_drawn()
-    ensures drawn { (T : Setup) (J : List Entry) → IsSetup T → IsSchedule T J → (k : KeyName) → Contains (made T J) k → k.number < (row (side (world_after T J) (kernel_of T k.vpe)) k.vpe).next_number }
+    ensures drawn { (T : Setup) (J : List Entry) → IsSetup T → IsSchedule T J → (k : KeyName) →
+        Contains (made T J) k →
+        k.number < (row (side (world_after T J) (kernel_of T k.vpe)) k.vpe).next_number }
 {}

@@ -10,16 +10,24 @@ ghost use Rattle.sem_machine.specs.Safety.{HoldsUnmarked, sound_grants};
 ghost use Rattle.sem_safety.specs.Growth.{IsGrown};
 ghost use Rattle.sem_safety.specs.NewGrants.{AreNew};
 
-/// Just before a grant its kernel holds the parent, and no job has marked it; so the parent was made by then. This is the half
-/// of the sentence of sound grants that speaks of the parent.
+/// Just before a grant its kernel holds the parent, unmarked; so the parent was made by then. This
+/// is the half of sound grants that speaks of the parent.
 pub fn grants_are_below_what_is_held()
-    ensures event { (T : Setup) (W : World) (e : Event) (p k : KeyName) → (entry_of T W e).grant ≡ Some (p, k) → HoldsUnmarked W e.kernel p }
-    ensures entry { (T : Setup) (J before later : List Entry) (e : Entry) (p k : KeyName) → IsSchedule T J → J ≡ before ++ e ∷ later → e.grant ≡ Some (p, k) → HoldsUnmarked (world_after T before) e.event.kernel p }
-    ensures made { (T : Setup) (J before later : List Entry) (e : Entry) (p k : KeyName) → IsSchedule T J → J ≡ before ++ e ∷ later → e.grant ≡ Some (p, k) → Contains (made T before) p }
+    ensures event { (T : Setup) (W : World) (e : Event) (p k : KeyName) →
+        (entry_of T W e).grant ≡ Some (p, k) → HoldsUnmarked W e.kernel p }
+    ensures entry { (T : Setup) (J before later : List Entry) (e : Entry) (p k : KeyName) →
+        IsSchedule T J → J ≡ before ++ e ∷ later → e.grant ≡ Some (p, k) →
+        HoldsUnmarked (world_after T before) e.event.kernel p }
+    ensures made { (T : Setup) (J before later : List Entry) (e : Entry) (p k : KeyName) →
+        IsSchedule T J → J ≡ before ++ e ∷ later → e.grant ≡ Some (p, k) →
+        Contains (made T before) p }
 {}
 
-/// Where each grant of a schedule is of a key that was never made before, the grants grow key by key, and are sound.
+/// If each grant of a schedule is of a key that was never made before, the grants grow key by key,
+/// and are sound.
 pub fn new_grants_are_sound()
-    ensures grown { (T : Setup) (J : List Entry) → IsSchedule T J → AreNew T J → IsGrown (root_keys T) (grants J) }
-    ensures sound_grants { (T : Setup) (J : List Entry) → IsSchedule T J → AreNew T J → sound_grants T J }
+    ensures grown { (T : Setup) (J : List Entry) → IsSchedule T J → AreNew T J →
+        IsGrown (root_keys T) (grants J) }
+    ensures sound_grants { (T : Setup) (J : List Entry) → IsSchedule T J → AreNew T J →
+        sound_grants T J }
 {}

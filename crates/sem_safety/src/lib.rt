@@ -1,7 +1,9 @@
-//! The proof of safety, as far as it goes: what is observed of a world, how each change that the machine makes shows in it, what
-//! is kept of a journal, the lines of keys, that what is in use was made, that what is dead stays dead, that each key is made
-//! once and live in one place, that marks have a cause; so lineage, sound grants and sound endpoints hold of every schedule.
-//! Each VPE has one exchange under way at most. Each law is the contract of a function that does nothing.
+//! The proof of safety, as far as this crate takes it. It shows what is observed of a world, how
+//! each change of the machine appears there, and what is kept of a journal. It follows the lines of
+//! keys: every key in use was made, each key is made once and live in one place, the dead stay
+//! dead, and marks have a cause. So lineage, sound grants and sound endpoints hold for every
+//! schedule. Each VPE has at most one exchange under way. Each law is the contract of a function
+//! that does nothing.
 #![tactic(auto)]
 
 mod causes;

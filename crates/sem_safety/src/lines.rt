@@ -4,14 +4,27 @@ ghost use Rattle.sem_machine.specs.Journals.{line_in};
 ghost use Rattle.sem_machine.specs.Safety.{IsLineage};
 ghost use Rattle.sem_safety.specs.Growth.{grown, IsGrown};
 
-/// The lines of keys, where each grant was of a new key below one that was there: each ends in a root, by grants; one grant
-/// more leaves the lines that there were, and puts the child before the line of its parent; as many turns as there are grants
-/// are enough; an ancestor is there, and its ancestors are ancestors too.
+/// The lines of keys, if each grant was of a new key below one that was there. Each line ends in a
+/// root, by grants. One more grant leaves the old lines, and puts the child before the line of its
+/// parent. As many turns as there are grants are enough. An ancestor is there, and its ancestors
+/// are ancestors too.
 pub fn lines_lead_to_roots()
-    ensures lineage { (roots : List KeyName) (gs : List (KeyName × KeyName)) → IsGrown roots gs → (n : ℕ) (k : KeyName) → length gs ≤ n → Contains (grown roots gs) k → IsLineage roots gs (line_in n gs k) }
-    ensures stays { (roots : List KeyName) (gs : List (KeyName × KeyName)) → IsGrown roots gs → (p c : KeyName) → (Contains (grown roots gs) c → ⊥) → (n : ℕ) (k : KeyName) → Contains (grown roots gs) k → line_in n (gs ++ (p, c) ∷ []) k ≡ line_in n gs k }
-    ensures child { (roots : List KeyName) (gs : List (KeyName × KeyName)) → IsGrown roots gs → (p c : KeyName) → (Contains (grown roots gs) c → ⊥) → (n : ℕ) → Contains (grown roots gs) p → line_in (suc n) (gs ++ (p, c) ∷ []) c ≡ c ∷ line_in n gs p }
-    ensures enough { (roots : List KeyName) (gs : List (KeyName × KeyName)) → IsGrown roots gs → (n m : ℕ) (k : KeyName) → length gs ≤ n → length gs ≤ m → Contains (grown roots gs) k → line_in n gs k ≡ line_in m gs k }
-    ensures there { (roots : List KeyName) (gs : List (KeyName × KeyName)) → IsGrown roots gs → (n : ℕ) (k a : KeyName) → Contains (grown roots gs) k → Contains (line_in n gs k) a → Contains (grown roots gs) a }
-    ensures above { (roots : List KeyName) (gs : List (KeyName × KeyName)) → IsGrown roots gs → (n : ℕ) (k a b : KeyName) → length gs ≤ n → Contains (grown roots gs) k → Contains (line_in n gs k) a → Contains (line_in n gs a) b → Contains (line_in n gs k) b }
+    ensures lineage { (roots : List KeyName) (gs : List (KeyName × KeyName)) → IsGrown roots gs →
+        (n : ℕ) (k : KeyName) → length gs ≤ n → Contains (grown roots gs) k →
+        IsLineage roots gs (line_in n gs k) }
+    ensures stays { (roots : List KeyName) (gs : List (KeyName × KeyName)) → IsGrown roots gs →
+        (p c : KeyName) → (Contains (grown roots gs) c → ⊥) → (n : ℕ) (k : KeyName) →
+        Contains (grown roots gs) k → line_in n (gs ++ (p, c) ∷ []) k ≡ line_in n gs k }
+    ensures child { (roots : List KeyName) (gs : List (KeyName × KeyName)) → IsGrown roots gs →
+        (p c : KeyName) → (Contains (grown roots gs) c → ⊥) → (n : ℕ) →
+        Contains (grown roots gs) p → line_in (suc n) (gs ++ (p, c) ∷ []) c ≡ c ∷ line_in n gs p }
+    ensures enough { (roots : List KeyName) (gs : List (KeyName × KeyName)) → IsGrown roots gs →
+        (n m : ℕ) (k : KeyName) → length gs ≤ n → length gs ≤ m → Contains (grown roots gs) k →
+        line_in n gs k ≡ line_in m gs k }
+    ensures there { (roots : List KeyName) (gs : List (KeyName × KeyName)) → IsGrown roots gs →
+        (n : ℕ) (k a : KeyName) → Contains (grown roots gs) k → Contains (line_in n gs k) a →
+        Contains (grown roots gs) a }
+    ensures above { (roots : List KeyName) (gs : List (KeyName × KeyName)) → IsGrown roots gs →
+        (n : ℕ) (k a b : KeyName) → length gs ≤ n → Contains (grown roots gs) k →
+        Contains (line_in n gs k) a → Contains (line_in n gs a) b → Contains (line_in n gs k) b }
 {}

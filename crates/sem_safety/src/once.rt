@@ -12,24 +12,32 @@ ghost use Rattle.sem_safety.specs.Growth.{IsGrown};
 ghost use Rattle.sem_safety.specs.NewGrants.{AreNew};
 ghost use Rattle.sem_safety.specs.Seen.{AreDistinct};
 
-/// In every schedule of every setup each grant is of a key that was never made before. So the grants grow key by key: no key is
-/// the child of two grants, and no root is the child of one.
+/// In every schedule of every setup each grant is of a key that was never made before. So the
+/// grants grow key by key: no key is the child of two grants, and no root is the child of one.
 pub fn each_key_is_made_once()
     ensures new { (T : Setup) → IsSetup T → (J : List Entry) → IsSchedule T J → AreNew T J }
-    ensures grown { (T : Setup) → IsSetup T → (J : List Entry) → IsSchedule T J → IsGrown (root_keys T) (grants J) }
+    ensures grown { (T : Setup) → IsSetup T → (J : List Entry) → IsSchedule T J →
+        IsGrown (root_keys T) (grants J) }
 {}
 
-/// A key is held by one kernel at most, and no kernel holds it twice, so the keys that a kernel holds are distinct.
+/// At most one kernel holds a key, and no kernel holds it twice, so the keys that a kernel holds
+/// are distinct.
 pub fn each_key_is_held_once()
-    ensures kernel { (T : Setup) → IsSetup T → (J : List Entry) → IsSchedule T J → (i j : ℕ) (k : KeyName) (c d : Capability) → HoldsCap (world_after T J) i k c → HoldsCap (world_after T J) j k d → i ≡ j }
-    ensures distinct { (T : Setup) → IsSetup T → (J : List Entry) → IsSchedule T J → (i : ℕ) → AreDistinct (side (world_after T J) i).caps }
+    ensures kernel { (T : Setup) → IsSetup T → (J : List Entry) → IsSchedule T J →
+        (i j : ℕ) (k : KeyName) (c d : Capability) → HoldsCap (world_after T J) i k c →
+        HoldsCap (world_after T J) j k d → i ≡ j }
+    ensures distinct { (T : Setup) → IsSetup T → (J : List Entry) → IsSchedule T J → (i : ℕ) →
+        AreDistinct (side (world_after T J) i).caps }
 {}
 
-/// Three of the sentences of safety, of every schedule of every setup: what is in use derives from a root by accepted exchanges;
-/// each grant is of a new key below one that its kernel holds unmarked; and what an endpoint is bound to is held, unmarked, a
-/// key of its VPE, with the object that the endpoint keeps.
+/// Three of the sentences of safety, for every schedule of every setup. Every key in use derives
+/// from a root by accepted exchanges. Each grant is of a new key below one that its kernel holds
+/// unmarked. An endpoint is bound to a key of its VPE that is held and unmarked, with the object
+/// that the endpoint keeps.
 pub fn grants_lines_and_endpoints_are_sound()
     ensures lineage { (T : Setup) → IsSetup T → (J : List Entry) → IsSchedule T J → lineage T J }
-    ensures sound_grants { (T : Setup) → IsSetup T → (J : List Entry) → IsSchedule T J → sound_grants T J }
-    ensures sound_endpoints { (T : Setup) → IsSetup T → (J : List Entry) → IsSchedule T J → sound_endpoints T J }
+    ensures sound_grants { (T : Setup) → IsSetup T → (J : List Entry) → IsSchedule T J →
+        sound_grants T J }
+    ensures sound_endpoints { (T : Setup) → IsSetup T → (J : List Entry) → IsSchedule T J →
+        sound_endpoints T J }
 {}

@@ -1,11 +1,12 @@
 -- How many events and entries there can be.
-use Rattle.std.proofs.Common.{◌≡◌, ℕ, ◌+◌, ◌^◌, ◌<◌, ◌≤◌, zero, suc, Bool, List, [], ◌∷◌, ◌++◌, length, map, get_or, sym, ◌∙◌, ap, subst, arith, inl, inr}
+use Rattle.std.proofs.Common.{◌≡◌, ℕ, ◌+◌, ◌-◌, ◌^◌, ◌<◌, ◌≤◌, zero, suc, Bool, List, [], ◌∷◌, ◌++◌, length, map, set, get_or, sym, ◌∙◌, ap, subst, arith, inl}
+use Rattle.std.proofs.Common.{inr}
 use Rattle.std.specs.Prelude.{◌==◌, sum_by}
 use Rattle.std.specs.List.{All, AllPairs, filter, range_with_len}
 use Rattle.std.proofs.lemmas.Bool.{cases_Bool, cond-true, cond-false, cond_both}
 use Rattle.std.proofs.lemmas.List.{length-append, length-map, get_or-map}
 use Rattle.std.proofs.lemmas.List.Elements.{All-nil, All-cons}
-use Rattle.std.proofs.lemmas.List.Sums.{sum_by-le}
+use Rattle.std.proofs.lemmas.List.Sums.{sum_by-le, sum_by-set, get_or-le-sum_by}
 use Rattle.std.proofs.lemmas.List.FromFn.{length-map-range_with_len}
 use Rattle.sem_key.specs.declared.limits.TheConstants.{VPES}
 use Rattle.sem_msg.specs.declared.event.Act.TheVariants.{Call as Calls, Fetch, Handle, Upcall, Resume, Flush, Kill}
@@ -17,14 +18,16 @@ use Rattle.sem_msg.proofs.Declared.{most_vpes-le}
 use Rattle.sem_machine.specs.Machine.{World, event, is_enabled, kernel_events}
 use Rattle.sem_machine.specs.Seeded.{entry_limit}
 use Rattle.sem_kernel.specs.Listing.{enabled_of}
-use Rattle.sem_serial.specs.Listed.{AreListed}
+use Rattle.sem_serial.specs.Listed.{AreListed, most_enabled, most_listed}
 
 -- no more of a list are kept than it has
 few-kept : {X : Type 0} (p : X → Bool) (xs : List X) → length (filter p xs) ≤ length xs
 few-kept p [] = omega arith
 few-kept p (x ∷ xs) = elim (cases_Bool (p x)) [
-  | inl kept ↦ let rest = few-kept p xs in let long = ap (λ (ys : List _). length ys) (cond-true (p x) (x ∷ filter p xs) (filter p xs) kept) in omega (arith, rest, long)
-  | inr left ↦ let rest = few-kept p xs in let long = ap (λ (ys : List _). length ys) (cond-false (p x) (x ∷ filter p xs) (filter p xs) left) in omega (arith, rest, long)
+  | inl kept ↦ let rest = few-kept p xs in let long = ap (λ (ys : List _). length ys) (cond-true (p x) (x ∷ filter p xs) (filter p xs) kept) in
+      omega (arith, rest, long)
+  | inr left ↦ let rest = few-kept p xs in let long = ap (λ (ys : List _). length ys) (cond-false (p x) (x ∷ filter p xs) (filter p xs) left) in
+      omega (arith, rest, long)
 ]
 
 -- Rising numbers that are below n are at most n.
@@ -45,7 +48,8 @@ module _ {X : Type 0} (number : X → ℕ) (n : ℕ) where
 
 module _ (T : Setup) (valid : IsSetup T) where
   pub few-vpes : length T.vpes ≤ VPES
-  few-vpes = rising-few (λ (d : VpeDecl). d.vpe) VPES T.vpes valid.vpes_rise (λ k d within. let declared : IsVpeDecl T (get_or T.vpes k d) = valid.vpes k d within in let low = declared.vpe in let most = most_vpes-le T.version in omega (arith, low, most))
+  few-vpes = rising-few (λ (d : VpeDecl). d.vpe) VPES T.vpes valid.vpes_rise (λ k d within. let declared : IsVpeDecl T (get_or T.vpes k d) =
+      valid.vpes k d within in let low = declared.vpe in let most = most_vpes-le T.version in omega (arith, low, most))
 
   -- a VPE that is killed is declared, so its number is below 128
   few-kills : length T.kills ≤ VPES
@@ -59,7 +63,8 @@ module _ (T : Setup) (valid : IsSetup T) where
           omega (arith, low, most, is)
 
   few-kernels : T.kernels ≤ 32
-  few-kernels = let few = valid.few_kernels in let most = cond_both (T.version == 1) 16 32 (λ n. n ≤ 32) (λ _. omega arith) (λ _. omega arith) in omega (arith, few, most)
+  few-kernels = let few = valid.few_kernels in let most = cond_both (T.version == 1) 16 32 (λ n. n ≤ 32) (λ _. omega arith) (λ _. omega arith) in
+      omega (arith, few, most)
 
   -- the number of entries of a run is no large one
   pub small-limit : entry_limit T < 2 ^ 64
@@ -69,7 +74,7 @@ module _ (T : Setup) (valid : IsSetup T) where
   small-calls = let calls = valid.few_calls in omega (arith, calls)
 
   -- a kernel has few events
-  few-events : (i : ℕ) → length (kernel_events T i) ≤ 1000
+  few-events : (i : ℕ) → length (kernel_events T i) ≤ most_enabled
   few-events i =
       let vpes = few-vpes in
       let kills = few-kills in
@@ -95,22 +100,35 @@ module _ (T : Setup) (valid : IsSetup T) where
       let lf : length ends ≡ length T.kills = length-map T.kills (λ (x : ℕ × ℕ). event i (Kill x.0)) in
       omega (arith, vpes, kills, kernels, a, b, c, d, e, f, la, lb, lc, ld, le, lf)
 
-  few-enabled : (W : World) (i : ℕ) → length (enabled_of T W i) ≤ 1000
+  pub few-enabled : (W : World) (i : ℕ) → length (enabled_of T W i) ≤ most_enabled
   few-enabled W i = let kept = few-kept (is_enabled T W) (kernel_events T i) in let few = few-events i in omega (arith, kept, few)
 
   -- so there are few of them together
-  pub few-listed : {X : Type 0} (f : X → List Event) (W : World) (xs : List X) → AreListed T W (map f xs) → sum_by (λ x. length (f x)) xs < 2 ^ 64
+  pub few-listed : {X : Type 0} (f : X → List Event) (W : World) (xs : List X) → AreListed T W (map f xs) → sum_by (λ x. length (f x)) xs ≤ most_listed
   few-listed {X = X} f W xs listed =
-      let each : All (λ (es : List Event). length es ≤ 1000) (map (enabled_of T W) (range_with_len 0 T.kernels)) = all-mapped (range_with_len 0 T.kernels) in
-      let few : All (λ x. length (f x) ≤ 1000) xs = all-back xs (subst (All (λ (es : List Event). length es ≤ 1000)) (sym listed) each) in
-      let sum = sum_by-le (λ x. length (f x)) 1000 xs few in
-      let count : length xs ≡ T.kernels = sym (length-map xs f) ∙ (ap (λ (ls : List (List Event)). length ls) listed ∙ length-map-range_with_len (enabled_of T W) 0 T.kernels) in
+      let each : All (λ (es : List Event). length es ≤ most_enabled) (map (enabled_of T W) (range_with_len 0 T.kernels)) =
+      all-mapped (range_with_len 0 T.kernels) in
+      let few : All (λ x. length (f x) ≤ most_enabled) xs = all-back xs (subst (All (λ (es : List Event). length es ≤ most_enabled)) (sym listed) each) in
+      let sum = sum_by-le (λ x. length (f x)) most_enabled xs few in
+      let count : length xs ≡ T.kernels = sym (length-map xs f)
+      ∙ (ap (λ (ls : List (List Event)). length ls) listed ∙ length-map-range_with_len (enabled_of T W) 0 T.kernels) in
       let kernels = few-kernels in
       omega (arith, sum, count, kernels)
     where
-      all-mapped : (ns : List ℕ) → All (λ (es : List Event). length es ≤ 1000) (map (enabled_of T W) ns)
-      all-mapped [] = All-nil (λ (es : List Event). length es ≤ 1000)
-      all-mapped (n ∷ ns) = All-cons (λ (es : List Event). length es ≤ 1000) (enabled_of T W n) (map (enabled_of T W) ns) (few-enabled W n) (all-mapped ns)
+      all-mapped : (ns : List ℕ) → All (λ (es : List Event). length es ≤ most_enabled) (map (enabled_of T W) ns)
+      all-mapped [] = All-nil (λ (es : List Event). length es ≤ most_enabled)
+      all-mapped (n ∷ ns) = All-cons (λ (es : List Event). length es ≤ most_enabled) (enabled_of T W n) (map (enabled_of T W) ns) (few-enabled W n)
+          (all-mapped ns)
 
-      all-back : (ys : List X) → All (λ (es : List Event). length es ≤ 1000) (map f ys) → All (λ y. length (f y) ≤ 1000) ys
-      all-back ys all k d within = subst (λ (es : List Event). length es ≤ 1000) (get_or-map f ys k d (f d) within) (all k (f d) (let long = length-map ys f in omega (arith, within, long)))
+      all-back : (ys : List X) → All (λ (es : List Event). length es ≤ most_enabled) (map f ys) → All (λ y. length (f y) ≤ most_enabled) ys
+      all-back ys all k d within = subst (λ (es : List Event). length es ≤ most_enabled) (get_or-map f ys k d (f d) within)
+          (all k (f d) (let long = length-map ys f in omega (arith, within, long)))
+
+-- one list is another now
+pub recounted : {X : Type 0} (f : X → List Event) (xs : List X) (i : ℕ) (x y : X) (count : ℕ) → i < length xs → x ≡ get_or xs i x →
+    count ≡ sum_by (λ z. length (f z)) xs → (length (f x) ≤ count) × (count - length (f x) + length (f y) ≡ sum_by (λ z. length (f z)) (set xs i y))
+recounted f xs i x y count within is counted =
+    let sum = sum_by-set (λ z. length (f z)) xs i y x within in
+    let le = get_or-le-sum_by (λ z. length (f z)) xs i x within in
+    let same = ap (λ z. length (f z)) is in
+    (omega (arith, le, same, counted), omega (arith, sum, le, same, counted))

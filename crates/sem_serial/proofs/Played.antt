@@ -1,5 +1,6 @@
 -- Given events that happen one after another.
-use Rattle.std.proofs.Common.{◌≡◌, ℕ, ◌+◌, ◌<◌, ◌≤◌, Bool, true, false, List, [], ◌∷◌, ◌++◌, length, take, get_or, Some, Result, Ok, Err, refl, sym, ◌∙◌, ap, subst, length-append}
+use Rattle.std.proofs.Common.{◌≡◌, ℕ, ◌+◌, ◌<◌, ◌≤◌, Bool, true, false, List, [], ◌∷◌, ◌++◌, length, take, get_or, Some, Result, Ok, Err, refl, sym, ◌∙◌, ap}
+use Rattle.std.proofs.Common.{subst, length-append}
 use Rattle.std.specs.Prelude.{◌↔◌, IsErrOf}
 use Rattle.std.proofs.lemmas.Option.{slice_get-get_or}
 use Rattle.std.proofs.lemmas.List.{map-append, take_more, take_all}
@@ -22,7 +23,8 @@ pub record IsPlaying (T : Setup) (events : List Event) (w : WorldValue) (J : Lis
   pub many : length J ≡ n
   pub made : events_of J ≡ take n events
 
-pub playing-start : (T : Setup) (events : List Event) (w : WorldValue) (J : List Entry) → J ≡ [] → w ≡ record { setup = T; world = start T } → IsPlaying T events w J 0
+pub playing-start : (T : Setup) (events : List Event) (w : WorldValue) (J : List Entry) → J ≡ [] → w ≡ record { setup = T; world = start T } →
+    IsPlaying T events w J 0
 playing-start T events w J none booted = record {
   world = booted ∙ ap (λ K. record { setup = T; world = world_after T K }) (sym none);
   schedule = schedule-empty T J none;
@@ -42,15 +44,19 @@ module _ (T : Setup) (events : List Event) (w : WorldValue) (J : List Entry) (n 
   pub playing-world : w.world ≡ world_after T J
   playing-world = ap (λ (x : WorldValue). x.world) so_far.world
 
-  pub playing-more : (e : Event) (x : Entry) (v : WorldValue) (K : List Entry) → n < length events → e ≡ get_or events n e → is_enabled w.setup w.world e ≡ true → x ≡ entry_of w.setup w.world e → v ≡ record { setup = w.setup; world = after w.setup w.world e } → K ≡ J ++ x ∷ [] → IsPlaying T events v K (n + 1)
+  pub playing-more : (e : Event) (x : Entry) (v : WorldValue) (K : List Entry) → n < length events → e ≡ get_or events n e →
+      is_enabled w.setup w.world e ≡ true → x ≡ entry_of w.setup w.world e → v ≡ record { setup = w.setup; world = after w.setup w.world e } → K ≡ J ++ x ∷ [] →
+      IsPlaying T events v K (n + 1)
   playing-more e x v K within at enabled made moved entered =
-      let journal : K ≡ J ++ entry_of T (world_after T J) e ∷ [] = entered ∙ ap (λ y. J ++ y ∷ []) (made ∙ ap (λ (z : WorldValue). entry_of z.setup z.world e) so_far.world) in
+      let journal : K ≡ J ++ entry_of T (world_after T J) e ∷ [] = entered
+      ∙ ap (λ y. J ++ y ∷ []) (made ∙ ap (λ (z : WorldValue). entry_of z.setup z.world e) so_far.world) in
       record {
         world =
             moved
             ∙ (ap (λ (z : WorldValue). record { setup = z.setup; world = after z.setup z.world e }) so_far.world
             ∙ ap (λ V. record { setup = T; world = V }) (sym (world_after-push T J e) ∙ ap (world_after T) (sym journal)));
-        schedule = subst (IsSchedule T) (sym journal) (schedule-push T J e so_far.schedule (ap (λ (z : WorldValue). is_enabled z.setup z.world e) (sym so_far.world) ∙ enabled));
+        schedule = subst (IsSchedule T) (sym journal)
+            (schedule-push T J e so_far.schedule (ap (λ (z : WorldValue). is_enabled z.setup z.world e) (sym so_far.world) ∙ enabled));
         many = ap length journal ∙ (length-append J (entry_of T (world_after T J) e ∷ []) ∙ ap (λ k. k + 1) so_far.many);
         made =
             ap events_of journal
@@ -67,7 +73,8 @@ module _ (T : Setup) (events : List Event) (w : WorldValue) (J : List Entry) (n 
   playing-all all = so_far.made ∙ take_all n events all
 
   -- what is not enabled stops the play
-  pub stops : (e : Event) → n < length events → e ≡ get_or events n e → is_enabled w.setup w.world e ≡ false → (K : List Entry) → K ≡ J → (m : ℕ) → IsErrOf {T = World} (Err (NotEnabled n)) (NotEnabled m) → StopsAt T events K m
+  pub stops : (e : Event) → n < length events → e ≡ get_or events n e → is_enabled w.setup w.world e ≡ false → (K : List Entry) → K ≡ J → (m : ℕ) →
+      IsErrOf {T = World} (Err (NotEnabled n)) (NotEnabled m) → StopsAt T events K m
   stops e within at disabled K journal m same =
       subst (StopsAt T events K) (ap stopped_of same) (record {
         next = sym so_far.many ∙ ap length (sym journal);

@@ -1,5 +1,6 @@
 -- The lists of enabled events, kernel by kernel, and what is picked of them.
-use Rattle.std.proofs.Common.{◌≡◌, ℕ, ◌+◌, ◌-◌, ◌<◌, ◌≤◌, ◌&&◌, zero, suc, Bool, cond, true, false, List, [], ◌∷◌, ◌++◌, length, map, set, drop, get_or, Option, Some, None, is_some, slice_get, refl, sym, ◌∙◌, ap, subst, arith, inl, inr, ◌⊎◌, length-set, get_or-set_same, get_or-set_other}
+use Rattle.std.proofs.Common.{◌≡◌, ℕ, ◌+◌, ◌-◌, ◌<◌, ◌≤◌, ◌&&◌, zero, suc, Bool, cond, true, false, List, [], ◌∷◌, ◌++◌, length, map, set, drop, get_or, Option}
+use Rattle.std.proofs.Common.{Some, None, is_some, slice_get, refl, sym, ◌∙◌, ap, subst, arith, inl, inr, ◌⊎◌, length-set, get_or-set_same, get_or-set_other}
 use Rattle.std.specs.List.{filter, flat_map, range_with_len}
 use Rattle.std.specs.Prelude.{◌||◌, nat_lt}
 use Rattle.std.proofs.lemmas.Bool.{cases_eq, and_parts}
@@ -18,7 +19,8 @@ use Rattle.sem_serial.specs.Listed.{AreListed, comes_due, touched_peer}
 use Rattle.sem_serial.proofs.Touching.{untouched-same}
 
 -- one list more
-pub listed-more : (T : Setup) (W : World) (n : ℕ) (lists : List (List Event)) (list : List Event) → lists ≡ map (enabled_of T W) (range_with_len 0 n) → list ≡ enabled_of T W n → lists ++ list ∷ [] ≡ map (enabled_of T W) (range_with_len 0 (n + 1))
+pub listed-more : (T : Setup) (W : World) (n : ℕ) (lists : List (List Event)) (list : List Event) → lists ≡ map (enabled_of T W) (range_with_len 0 n) →
+    list ≡ enabled_of T W n → lists ++ list ∷ [] ≡ map (enabled_of T W) (range_with_len 0 (n + 1))
 listed-more T W n lists list before is =
     ap (λ xs. xs ++ list ∷ []) before
     ∙ (ap (λ x. map (enabled_of T W) (range_with_len 0 n) ++ x ∷ []) is
@@ -57,7 +59,9 @@ pub record AreRenewedBut (T : Setup) (now : World) (P : ℕ → Type 0) (lists :
   pub each : (k : ℕ) → k < T.kernels → P k ⊎ (get_or lists k [] ≡ enabled_of T now k)
 
 -- before any is renewed
-pub renewing-start : (T : Setup) (before now : World) (e : Event) (replied : Bool) (lists : List (List Event)) → now ≡ after T before e → replied ≡ is_some (entry_of T before e).reply → comes_due T now.replies replied ≡ false → AreListed T before lists → AreRenewedBut T now (λ k. (k ≡ e.kernel) ⊎ (touched_peer T now e.kernel e.act ≡ Some k)) lists
+pub renewing-start : (T : Setup) (before now : World) (e : Event) (replied : Bool) (lists : List (List Event)) → now ≡ after T before e →
+    replied ≡ is_some (entry_of T before e).reply → comes_due T now.replies replied ≡ false → AreListed T before lists →
+    AreRenewedBut T now (λ k. (k ≡ e.kernel) ⊎ (touched_peer T now e.kernel e.act ≡ Some k)) lists
 renewing-start T before now e replied lists happened told silent listed = record {
   count = ap length listed ∙ length-map-range_with_len (enabled_of T before) 0 T.kernels;
   each = λ k within. elim (cases_eq k e.kernel) [
@@ -67,7 +71,8 @@ renewing-start T before now e replied lists happened told silent listed = record
       | inr apart ↦ inr (
           ap (λ ls. get_or ls k []) listed
           ∙ (get_or-map-range_with_len (enabled_of T before) 0 T.kernels k k [] within (omega arith)
-          ∙ (sym (untouched-same T before e k other (subst (λ W. touched_peer T W e.kernel e.act ≡ Some k → ⊥) happened apart) replied told (subst (λ W. comes_due T W.replies replied ≡ false) happened silent))
+          ∙ (sym (untouched-same T before e k other (subst (λ W. touched_peer T W e.kernel e.act ≡ Some k → ⊥) happened apart) replied told
+          (subst (λ W. comes_due T W.replies replied ≡ false) happened silent))
           ∙ ap (λ W. enabled_of T W k) (sym happened))))
     ]
   ];
@@ -81,13 +86,15 @@ renewing-start T before now e replied lists happened told silent listed = record
     ]
 
 -- one of them is renewed
-pub renewing-one : (T : Setup) (now : World) (P Q : ℕ → Type 0) (i : ℕ) (lists more : List (List Event)) → ((k : ℕ) → P k → (k ≡ i) ⊎ Q k) → AreRenewedBut T now P lists → i < T.kernels → more ≡ set lists i (enabled_of T now i) → AreRenewedBut T now Q more
+pub renewing-one : (T : Setup) (now : World) (P Q : ℕ → Type 0) (i : ℕ) (lists more : List (List Event)) → ((k : ℕ) → P k → (k ≡ i) ⊎ Q k) →
+    AreRenewedBut T now P lists → i < T.kernels → more ≡ set lists i (enabled_of T now i) → AreRenewedBut T now Q more
 renewing-one T now P Q i lists more left so_far within is = subst (AreRenewedBut T now Q) (sym is) (
     let inside : i < length lists = let count = so_far.count in omega (arith, within, count) in
     record {
       count = length-set lists i (enabled_of T now i) ∙ so_far.count;
       each = λ k few. elim (cases_eq k i) [
-        | inl same ↦ inr (subst (λ j. get_or (set lists i (enabled_of T now i)) j [] ≡ enabled_of T now j) (sym same) (get_or-set_same lists i (enabled_of T now i) [] inside))
+        | inl same ↦ inr (subst (λ j. get_or (set lists i (enabled_of T now i)) j [] ≡ enabled_of T now j) (sym same)
+            (get_or-set_same lists i (enabled_of T now i) [] inside))
         | inr other ↦ elim (so_far.each k few) [
           | inl waits ↦ elim (left k waits) [
             | inl same ↦ absurd (other same)
@@ -99,7 +106,8 @@ renewing-one T now P Q i lists more left so_far within is = subst (AreRenewedBut
     })
 
 -- all are
-pub renewing-all : (T : Setup) (now : World) (P : ℕ → Type 0) (lists : List (List Event)) → ((k : ℕ) → P k → ⊥) → AreRenewedBut T now P lists → AreListed T now lists
+pub renewing-all : (T : Setup) (now : World) (P : ℕ → Type 0) (lists : List (List Event)) → ((k : ℕ) → P k → ⊥) → AreRenewedBut T now P lists →
+    AreListed T now lists
 renewing-all T now P lists none so_far =
     same_lists lists (map (enabled_of T now) (range_with_len 0 T.kernels))
     (so_far.count ∙ sym (length-map-range_with_len (enabled_of T now) 0 T.kernels))
@@ -122,7 +130,9 @@ renewed-count f xs ys i list is = sym (length-map ys f) ∙ (ap length is ∙ (l
 -- an enabled event names another kernel
 pub enabled-names : (T : Setup) (W : World) (e : Event) → is_enabled T W e ≡ true → NamesPeer T.kernels e.kernel e.act
 unfolding is_enabled
-enabled-names T W e enabled = enabled-peer T e.kernel (side W e.kernel) e.act (and_parts (is_locally_enabled T e.kernel (side W e.kernel) e.act) (is_allowed T W e.kernel e.act) (and_parts (nat_lt e.kernel T.kernels) (is_locally_enabled T e.kernel (side W e.kernel) e.act && is_allowed T W e.kernel e.act) enabled).1).0
+enabled-names T W e enabled =
+    enabled-peer T e.kernel (side W e.kernel) e.act (and_parts (is_locally_enabled T e.kernel (side W e.kernel) e.act) (is_allowed T W e.kernel e.act)
+    (and_parts (nat_lt e.kernel T.kernels) (is_locally_enabled T e.kernel (side W e.kernel) e.act && is_allowed T W e.kernel e.act) enabled).1).0
 
 -- what is touched is that one
 given : (b : Bool) (j p : ℕ) → cond {A = Option ℕ} b None (Some j) ≡ Some p → j ≡ p
@@ -141,16 +151,19 @@ peer-few T W i (Kill v) p names none = absurd cc
 -- What stands at a place of them together.
 
 -- it stands in the list at hand, or so much further on in the rest
-pub flat-here : (list : List Event) (rest : List Event) (place : ℕ) → place < length list → (d : Event) → slice_get (list ++ rest) place ≡ Some (get_or list place d)
+pub flat-here : (list : List Event) (rest : List Event) (place : ℕ) → place < length list → (d : Event) →
+    slice_get (list ++ rest) place ≡ Some (get_or list place d)
 flat-here [] rest place within d = absurd (omega (arith, within))
 flat-here (e ∷ es) rest zero within d = refl
 flat-here (e ∷ es) rest (suc n) within d = flat-here es rest n (omega (arith, within)) d
 
-pub flat-later : (list : List Event) (rest : List Event) (place : ℕ) → length list ≤ place → slice_get (list ++ rest) place ≡ slice_get rest (place - length list)
+pub flat-later : (list : List Event) (rest : List Event) (place : ℕ) → length list ≤ place →
+    slice_get (list ++ rest) place ≡ slice_get rest (place - length list)
 flat-later [] rest place past = ap (slice_get rest) (omega arith)
 flat-later (e ∷ es) rest zero past = absurd (omega (arith, past))
 flat-later (e ∷ es) rest (suc n) past = flat-later es rest n (omega (arith, past)) ∙ ap (slice_get rest) (omega arith)
 
 -- the lists from a place on are the one at that place and those behind it
-pub flat-at : {X : Type 0} (f : X → List Event) (xs : List X) (i : ℕ) (x : X) → i < length xs → x ≡ get_or xs i x → flat_map f (drop i xs) ≡ f x ++ flat_map f (drop (i + 1) xs)
+pub flat-at : {X : Type 0} (f : X → List Event) (xs : List X) (i : ℕ) (x : X) → i < length xs → x ≡ get_or xs i x →
+    flat_map f (drop i xs) ≡ f x ++ flat_map f (drop (i + 1) xs)
 flat-at f xs i x within at = ap (flat_map f) (drop_more xs i x within ∙ ap (λ y. y ∷ drop (i + 1) xs) (sym at))

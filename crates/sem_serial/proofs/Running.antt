@@ -1,5 +1,6 @@
 -- A run that goes on by one event at a time.
-use Rattle.std.proofs.Common.{◌≡◌, ℕ, zero, suc, ◌+◌, ◌-◌, ◌<◌, ◌%◌, true, List, [], ◌∷◌, ◌++◌, length, Option, Some, None, refl, sym, ◌∙◌, ap, subst, arith, length-append, append_assoc, append-nil}
+use Rattle.std.proofs.Common.{◌≡◌, ℕ, zero, suc, ◌+◌, ◌-◌, ◌<◌, ◌%◌, true, List, [], ◌∷◌, ◌++◌, length, Option, Some, None, refl, sym, ◌∙◌, ap, subst, arith}
+use Rattle.std.proofs.Common.{length-append, append_assoc, append-nil}
 use Rattle.std.proofs.lemmas.Option.{slice_get-get_or, slice_get_within, get_or_from_slice_get}
 use Rattle.rand_pcg.specs.Lcg.{Lcg}
 use Rattle.rand_pcg.specs.Pcg.{pcg32}
@@ -44,7 +45,8 @@ picked-enabled T W word e some =
 
 -- What the words make.
 
-drain-more : (n : ℕ) (T : Setup) (W : World) (g : Lcg) (e : Event) → 0 < n → picked (pcg32 g).0 (enabled T W) ≡ Some e → drain n T W g ≡ entry_of T W e ∷ drain (n - 1) T (after T W e) (pcg32 g).1
+drain-more : (n : ℕ) (T : Setup) (W : World) (g : Lcg) (e : Event) → 0 < n → picked (pcg32 g).0 (enabled T W) ≡ Some e →
+    drain n T W g ≡ entry_of T W e ∷ drain (n - 1) T (after T W e) (pcg32 g).1
 unfolding drain
 drain-more zero T W g e some_left some = absurd (omega arith)
 drain-more (suc n) T W g e some_left some =
@@ -61,7 +63,8 @@ module _ (T : Setup) (J : List Entry) (g : Lcg) where
   W = world_after T J
 
   -- one more event
-  drained-more : (e : Event) → length J < entry_limit T → picked (pcg32 g).0 (enabled T W) ≡ Some e → drained_on T (J ++ entry_of T W e ∷ []) (pcg32 g).1 ≡ drained_on T J g
+  drained-more : (e : Event) → length J < entry_limit T → picked (pcg32 g).0 (enabled T W) ≡ Some e →
+      drained_on T (J ++ entry_of T W e ∷ []) (pcg32 g).1 ≡ drained_on T J g
   drained-more e left some =
       let x : Entry = entry_of T W e in
       let long : length (J ++ x ∷ []) ≡ length J + 1 = length-append J (x ∷ []) in
@@ -81,13 +84,17 @@ pub record IsDraining (T : Setup) (P : List Entry) (first : Lcg) (ks : List Kern
   pub listed : AreListed T (world_of ks f) lists
   pub to_come : drained_on T f.journal g ≡ drained_on T P first
 
-module _ (T : Setup) (P : List Entry) (first : Lcg) (ks : List KernelValue) (f : FabricValue) (lists : List (List Event)) (g : Lcg) (so_far : IsDraining T P first ks f lists g) where
+module _ (T : Setup) (P : List Entry) (first : Lcg) (ks : List KernelValue) (f : FabricValue) (lists : List (List Event)) (g : Lcg)
+    (so_far : IsDraining T P first ks f lists g) where
   picked-after : (o : Option Event) → picked (pcg32 g).0 (enabled T (world_of ks f)) ≡ o → picked (pcg32 g).0 (enabled T (world_after T f.journal)) ≡ o
   picked-after o at = ap (λ V. picked (pcg32 g).0 (enabled T V)) (sym so_far.stand.world) ∙ at
 
   -- where it stands is a part of the run
   pub part : (J : List Entry) → J ≡ f.journal → (rest : List Entry) × (J ++ rest ≡ drained_on T P first)
-  part J same = (drain (entry_limit T - length f.journal) T (world_after T f.journal) g, ap (λ K. K ++ drain (entry_limit T - length f.journal) T (world_after T f.journal) g) same ∙ so_far.to_come)
+  part J same = (
+    drain (entry_limit T - length f.journal) T (world_after T f.journal) g,
+    ap (λ K. K ++ drain (entry_limit T - length f.journal) T (world_after T f.journal) g) same ∙ so_far.to_come,
+  )
 
   pub quiet-drained : picked (pcg32 g).0 (enabled T (world_of ks f)) ≡ None → f.journal ≡ drained_on T P first
   quiet-drained none = drained-quiet T f.journal g (picked-after None none) ∙ so_far.to_come
@@ -97,12 +104,14 @@ module _ (T : Setup) (P : List Entry) (first : Lcg) (ks : List KernelValue) (f :
   quiet-after none = subst (IsQuiet T) so_far.stand.world (picked-none (pcg32 g).0 (enabled T (world_of ks f)) none)
 
   -- one more event
-  pub to-come-more : (e : Event) → picked (pcg32 g).0 (enabled T (world_of ks f)) ≡ Some e → length f.journal < entry_limit T → (x : Entry) → x ≡ entry_of T (world_of ks f) e → (J : List Entry) → J ≡ f.journal ++ x ∷ [] → (h : Lcg) → h ≡ (pcg32 g).1 → drained_on T J h ≡ drained_on T P first
+  pub to-come-more : (e : Event) → picked (pcg32 g).0 (enabled T (world_of ks f)) ≡ Some e → length f.journal < entry_limit T → (x : Entry) →
+      x ≡ entry_of T (world_of ks f) e → (J : List Entry) → J ≡ f.journal ++ x ∷ [] → (h : Lcg) → h ≡ (pcg32 g).1 → drained_on T J h ≡ drained_on T P first
   to-come-more e some left x made J entered h words =
       ap (λ K. drained_on T K h) (entered ∙ ap (λ y. f.journal ++ y ∷ []) (made ∙ ap (λ V. entry_of T V e) so_far.stand.world))
       ∙ (ap (drained_on T (f.journal ++ entry_of T (world_after T f.journal) e ∷ [])) words
       ∙ (drained-more T f.journal g e left (picked-after (Some e) some) ∙ so_far.to_come))
 
 -- a part of a run that is longer by what is to come
-pub part-of : (T : Setup) (P : List Entry) (first : Lcg) (J : List Entry) (g : Lcg) → drained_on T J g ≡ drained_on T P first → (rest : List Entry) × (J ++ rest ≡ drained_on T P first)
+pub part-of : (T : Setup) (P : List Entry) (first : Lcg) (J : List Entry) (g : Lcg) → drained_on T J g ≡ drained_on T P first →
+    (rest : List Entry) × (J ++ rest ≡ drained_on T P first)
 part-of T P first J g to_come = (drain (entry_limit T - length J) T (world_after T J) g, to_come)

@@ -1,5 +1,6 @@
 -- The enabled events of a kernel that an event does not touch.
-use Rattle.std.proofs.Common.{◌≡◌, ℕ, ◌+◌, ◌-◌, ◌<◌, ◌&&◌, Bool, cond, true, false, not, List, [], ◌∷◌, ◌++◌, length, map, drop, get_or, Option, Some, None, is_none, is_some, slice_get, refl, sym, ◌∙◌, ap, arith, inl, inr, ◌⊎◌, length-append}
+use Rattle.std.proofs.Common.{◌≡◌, ℕ, ◌+◌, ◌-◌, ◌<◌, ◌&&◌, Bool, cond, true, false, not, List, [], ◌∷◌, ◌++◌, length, map, drop, get_or, Option, Some, None}
+use Rattle.std.proofs.Common.{is_none, is_some, slice_get, refl, sym, ◌∙◌, ap, arith, inl, inr, ◌⊎◌, length-append}
 use Rattle.std.specs.Prelude.{◌||◌, ◌==◌, nat_lt, nat_le}
 use Rattle.std.specs.List.{filter, find, list_any, range_with_len}
 use Rattle.std.specs.Option.{option_map, option_map_or}
@@ -20,7 +21,8 @@ use Rattle.sem_msg.specs.Journal.{kill_number}
 use Rattle.sem_msg.proofs.Moves.{link_in-same, link_in-other}
 use Rattle.sem_machine.specs.Sides.{Side, no_side, outbox}
 use Rattle.sem_machine.specs.Steps.{Step}
-use Rattle.sem_machine.specs.Machine.{World, side, link, with_side, with_link, event, local_step, local_entry, input_of, link_moved, reply_counted, is_locally_enabled, is_other_kernel, is_allowed, is_enabled, kernel_events, after, entry_of, replied_vpe}
+use Rattle.sem_machine.specs.Machine.{World, side, link, with_side, with_link, event, local_step, local_entry, input_of, link_moved, reply_counted}
+use Rattle.sem_machine.specs.Machine.{is_locally_enabled, is_other_kernel, is_allowed, is_enabled, kernel_events, after, entry_of, replied_vpe}
 use Rattle.sem_safety.proofs.GoingOn.{moved-sides}
 use Rattle.sem_kernel.specs.Listing.{enabled_of}
 use Rattle.sem_kernel.proofs.Passing.{some-within}
@@ -100,11 +102,16 @@ le-alike n a b (inr more) other = elim (cases_lt a n) [
   | inr early ↦ le-leb n b (omega (arith, more, early)) ∙ sym (le-leb n a early)
 ]
 
-due-alike : (v a b : ℕ) → (b ≡ a) ⊎ (b ≡ a + 1) → (kills : List (ℕ × ℕ)) → list_any (λ k. k.1 == b) kills ≡ false → option_map_or (λ n. nat_le n b) (option_map (λ (k : ℕ × ℕ). k.1) (find (λ k. k.0 == v) kills)) false ≡ option_map_or (λ n. nat_le n a) (option_map (λ (k : ℕ × ℕ). k.1) (find (λ k. k.0 == v) kills)) false
+due-alike : (v a b : ℕ) → (b ≡ a) ⊎ (b ≡ a + 1) → (kills : List (ℕ × ℕ)) → list_any (λ k. k.1 == b) kills ≡ false →
+    option_map_or (λ n. nat_le n b) (option_map (λ (k : ℕ × ℕ). k.1) (find (λ k. k.0 == v) kills)) false
+    ≡ option_map_or (λ n. nat_le n a) (option_map (λ (k : ℕ × ℕ). k.1) (find (λ k. k.0 == v) kills)) false
 due-alike v a b step [] none = refl
 due-alike v a b step (k ∷ kills) none = from (k.0 == v) (due-alike v a b step kills (or-then (k.1 == b) (list_any (λ x. x.1 == b) kills) none))
   where
-    from : (test : Bool) → option_map_or (λ n. nat_le n b) (option_map (λ (x : ℕ × ℕ). x.1) (find (λ x. x.0 == v) kills)) false ≡ option_map_or (λ n. nat_le n a) (option_map (λ (x : ℕ × ℕ). x.1) (find (λ x. x.0 == v) kills)) false → option_map_or (λ n. nat_le n b) (option_map (λ (x : ℕ × ℕ). x.1) (cond test (Some k) (find (λ x. x.0 == v) kills))) false ≡ option_map_or (λ n. nat_le n a) (option_map (λ (x : ℕ × ℕ). x.1) (cond test (Some k) (find (λ x. x.0 == v) kills))) false
+    from : (test : Bool) → option_map_or (λ n. nat_le n b) (option_map (λ (x : ℕ × ℕ). x.1) (find (λ x. x.0 == v) kills)) false
+        ≡ option_map_or (λ n. nat_le n a) (option_map (λ (x : ℕ × ℕ). x.1) (find (λ x. x.0 == v) kills)) false →
+        option_map_or (λ n. nat_le n b) (option_map (λ (x : ℕ × ℕ). x.1) (cond test (Some k) (find (λ x. x.0 == v) kills))) false
+        ≡ option_map_or (λ n. nat_le n a) (option_map (λ (x : ℕ × ℕ). x.1) (cond test (Some k) (find (λ x. x.0 == v) kills))) false
     from true rest = le-alike k.1 a b step (eqb-false k.1 b (or-first (k.1 == b) (list_any (λ x. x.1 == b) kills) none))
     from false rest = rest
 
@@ -157,7 +164,8 @@ module _ (T : Setup) (W : World) (e : Event) where
   unfolding after entry_of local_entry
   replies-left none = counted x.outcome.reply none ∙ moved-replies e.act
     where
-      counted : (o : Option ℕ) → is_some (option_map reply_to o) ≡ false → option_map_or (λ code. (moved e.act).replies + 1) o (moved e.act).replies ≡ (moved e.act).replies
+      counted : (o : Option ℕ) → is_some (option_map reply_to o) ≡ false → option_map_or (λ code. (moved e.act).replies + 1) o (moved e.act).replies
+          ≡ (moved e.act).replies
       counted None no' = refl
       counted (Some code) some = absurd (false≢true (sym some))
 
@@ -165,7 +173,8 @@ module _ (T : Setup) (W : World) (e : Event) where
   unfolding after
   replies-more = counted x.outcome.reply
     where
-      counted : (o : Option ℕ) → (option_map_or (λ code. (moved e.act).replies + 1) o (moved e.act).replies ≡ W.replies) ⊎ (option_map_or (λ code. (moved e.act).replies + 1) o (moved e.act).replies ≡ W.replies + 1)
+      counted : (o : Option ℕ) → (option_map_or (λ code. (moved e.act).replies + 1) o (moved e.act).replies ≡ W.replies)
+          ⊎ (option_map_or (λ code. (moved e.act).replies + 1) o (moved e.act).replies ≡ W.replies + 1)
       counted None = inl (moved-replies e.act)
       counted (Some code) = inr (ap (λ n. n + 1) (moved-replies e.act))
 
@@ -189,15 +198,18 @@ module _ (T : Setup) (W : World) (e : Event) where
         from (Upcall v) far = refl
         from Handle far = refl
         from (Kill v) far = refl
-        from (Fetch a) far = ap (λ ms. is_locally_enabled T k (side W k) (Fetch j) && is_some (slice_get ms 0)) (link_in-other V.links a e.kernel j k (drop 1 (link V a e.kernel)) (λ both. other both.1))
+        from (Fetch a) far = ap (λ ms. is_locally_enabled T k (side W k) (Fetch j) && is_some (slice_get ms 0))
+            (link_in-other V.links a e.kernel j k (drop 1 (link V a e.kernel)) (λ both. other both.1))
         from (Flush a) far = waiting (slice_get (outbox (side W e.kernel) a) 0) far
           where
             waiting : (o : Option Message) → (touched_peer T (flushed a o) e.kernel (Flush a) ≡ Some k → ⊥) → passes j (flushed a o) ≡ passes j W
             waiting None far = refl
             waiting (Some m) far = elim (cases_eq k a) [
-              | inr away ↦ ap (λ ms. is_locally_enabled T k (side W k) (Fetch j) && is_some (slice_get ms 0)) (link_in-other V.links e.kernel a j k (link V e.kernel a ++ m ∷ []) (λ both. away both.1))
+              | inr away ↦ ap (λ ms. is_locally_enabled T k (side W k) (Fetch j) && is_some (slice_get ms 0))
+                  (link_in-other V.links e.kernel a j k (link V e.kernel a ++ m ∷ []) (λ both. away both.1))
               | inl to ↦ elim (cases_eq j e.kernel) [
-                | inr away ↦ ap (λ ms. is_locally_enabled T k (side W k) (Fetch j) && is_some (slice_get ms 0)) (link_in-other V.links e.kernel a j k (link V e.kernel a ++ m ∷ []) (λ both. away both.0))
+                | inr away ↦ ap (λ ms. is_locally_enabled T k (side W k) (Fetch j) && is_some (slice_get ms 0))
+                    (link_in-other V.links e.kernel a j k (link V e.kernel a ++ m ∷ []) (λ both. away both.0))
                 | inl own ↦
                     let ms : List Message = link V e.kernel a in
                     let S : World = flushed a (Some m) in
@@ -205,13 +217,15 @@ module _ (T : Setup) (W : World) (e : Event) where
                     let there : link S j k ≡ link S e.kernel a = λ q. link S (own q) (to q) in
                     let before : link V j k ≡ ms = λ q. link V (own q) (to q) in
                     let there_side : side V k ≡ side V a = λ q. side V (to q) in
-                    elim (or-either (is_some (side S a).inbox) (nat_lt 1 (length (link S e.kernel a))) (spared (is_some (side S a).inbox || nat_lt 1 (length (link S e.kernel a))) a k far to)) [
+                    elim (or-either (is_some (side S a).inbox) (nat_lt 1 (length (link S e.kernel a)))
+                    (spared (is_some (side S a).inbox || nat_lt 1 (length (link S e.kernel a))) a k far to)) [
                       | inl inbox ↦
                           let off = deaf j (ap (λ s. is_some s.inbox) (sym (side-put k other) ∙ there_side) ∙ inbox) in
                           ap (λ b. b && is_some (slice_get (link S j k) 0)) off ∙ sym (ap (λ b. b && is_some (slice_get (link W j k) 0)) off)
                       | inr two ↦
                           let after_two = sym (ap (λ (xs : List Message). nat_lt 1 (length xs)) same) ∙ two in
-                          ap (λ b. is_locally_enabled T k (side W k) (Fetch j) && b) (ap (λ xs. is_some (slice_get xs 0)) (there ∙ same) ∙ (one-some ms m ∙ sym (ap (λ xs. is_some (slice_get xs 0)) before ∙ two-some ms m after_two)))
+                          ap (λ b. is_locally_enabled T k (side W k) (Fetch j) && b) (ap (λ xs. is_some (slice_get xs 0)) (there ∙ same)
+                          ∙ (one-some ms m ∙ sym (ap (λ xs. is_some (slice_get xs 0)) before ∙ two-some ms m after_two)))
                     ]
               ]
             ]
@@ -221,16 +235,19 @@ module _ (T : Setup) (W : World) (e : Event) where
     unfolding after
     flush-passes j = from e.act apart
       where
-        from : (act : Act) → (touched_peer T (moved act) e.kernel act ≡ Some k → ⊥) → nat_lt (length (link (moved act) k j)) T.window ≡ nat_lt (length (link V k j)) T.window
+        from : (act : Act) → (touched_peer T (moved act) e.kernel act ≡ Some k → ⊥) →
+            nat_lt (length (link (moved act) k j)) T.window ≡ nat_lt (length (link V k j)) T.window
         from (Calls v) far = refl
         from (Resume v) far = refl
         from (Upcall v) far = refl
         from Handle far = refl
         from (Kill v) far = refl
         from (Fetch a) far = elim (cases_eq k a) [
-          | inr away ↦ ap (λ (ms : List Message). nat_lt (length ms) T.window) (link_in-other V.links a e.kernel k j (drop 1 (link V a e.kernel)) (λ both. away both.0))
+          | inr away ↦ ap (λ (ms : List Message). nat_lt (length ms) T.window)
+              (link_in-other V.links a e.kernel k j (drop 1 (link V a e.kernel)) (λ both. away both.0))
           | inl own ↦ elim (cases_eq j e.kernel) [
-            | inr away ↦ ap (λ (ms : List Message). nat_lt (length ms) T.window) (link_in-other V.links a e.kernel k j (drop 1 (link V a e.kernel)) (λ both. away both.1))
+            | inr away ↦ ap (λ (ms : List Message). nat_lt (length ms) T.window)
+                (link_in-other V.links a e.kernel k j (drop 1 (link V a e.kernel)) (λ both. away both.1))
             | inl to ↦
                 let ms : List Message = link V a e.kernel in
                 let S : World = moved (Fetch a) in
@@ -247,11 +264,14 @@ module _ (T : Setup) (W : World) (e : Event) where
           where
             waiting : (o : Option Message) → nat_lt (length (link (flushed a o) k j)) T.window ≡ nat_lt (length (link V k j)) T.window
             waiting None = refl
-            waiting (Some m) = ap (λ (ms : List Message). nat_lt (length ms) T.window) (link_in-other V.links e.kernel a k j (link V e.kernel a ++ m ∷ []) (λ both. other both.0))
+            waiting (Some m) =
+                ap (λ (ms : List Message). nat_lt (length ms) T.window)
+                (link_in-other V.links e.kernel a k j (link V e.kernel a ++ m ∷ []) (λ both. other both.0))
 
     module _ (replied : Bool) (told : replied ≡ is_some (entry_of T W e).reply) (silent : comes_due T U.replies replied ≡ false) where
       -- an act that is let pass as before is enabled as before
-      alike : (act : Act) → (is_locally_enabled T k (side W k) act && is_allowed T U k act) ≡ (is_locally_enabled T k (side W k) act && is_allowed T W k act) → is_enabled T U (event k act) ≡ is_enabled T W (event k act)
+      alike : (act : Act) → (is_locally_enabled T k (side W k) act && is_allowed T U k act) ≡ (is_locally_enabled T k (side W k) act && is_allowed T W k act) →
+          is_enabled T U (event k act) ≡ is_enabled T W (event k act)
       unfolding is_enabled
       alike act same =
           ap (λ s. nat_lt k T.kernels && (is_locally_enabled T k s act && is_allowed T U k act)) (side-left k other)

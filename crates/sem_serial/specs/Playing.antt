@@ -1,10 +1,6 @@
 -- Given events, one after another.
 use Rattle.std.specs.Prelude.{◌≡◌, ℕ, false, List, length, map, slice_get, Option, Some}
-use Rattle.sem_msg.specs.declared.event.Event.{Event}
-use Rattle.sem_msg.specs.declared.entry.Entry.{Entry}
-use Rattle.sem_msg.specs.Setup.{Setup}
-use Rattle.sem_machine.specs.Machine.{is_enabled}
-use Rattle.sem_machine.specs.Schedules.{world_after}
+use Rattle.sem_machine.specs.Prelude.{Event, Entry, Setup, is_enabled, world_after}
 
 -- the events of a journal
 abbrev pub events_of : List Entry → List Event

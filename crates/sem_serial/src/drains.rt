@@ -1,4 +1,5 @@
-ghost use Rattle.std.specs.Prelude.{◌≡◌, ◌≤◌, true, ◌++◌, ◌∷◌, ◌+◌, ◌*◌, [], List, length, map, is_some, OnOk, OnErr, IfOk};
+ghost use Rattle.std.specs.Prelude.{◌≡◌, ◌≤◌, true, ◌++◌, ◌∷◌, ◌+◌, ◌*◌, [], List, length, map};
+ghost use Rattle.std.specs.Prelude.{is_some, OnOk, OnErr, IfOk};
 ghost use Rattle.sem_msg.specs.declared.entry.Entry.{Entry as EntryData};
 ghost use Rattle.sem_msg.specs.Setup.{call_count, kill_count};
 ghost use Rattle.sem_machine.specs.Living.{IsComplete};
@@ -9,17 +10,17 @@ ghost use Rattle.sem_kernel.specs.Standing.{StandsAt};
 ghost use Rattle.sem_serial.specs.Draining.{drained_on};
 ghost use Rattle.sem_serial.specs.Listed.{AreListed};
 
-use crate::lists::{list_all, pick, renew};
+use crate::lists::{event_count, list_all, pick, renew};
 use sem_fabric::Fabric;
-use sem_kernel::{Kernel, happen_enabled};
+use sem_kernel::{Kernel, advance};
 use sem_key::OutOfMemory;
 use sem_msg::{Event, Setup};
 use sem_pick::Draws;
 use std::alloc::Global;
 
 /// Runs on by the words of the seed until no event is enabled: at each step one word picks one of
-/// the enabled events. The kernels and the fabric are those of the setup, and stand at a schedule of
-/// it, which the journal of the fabric is; so they do after an error too, within the same run. It
+/// the enabled events. The kernels and the fabric must be those of the setup, and stand at a
+/// schedule, the journal of the fabric. They do so after an error too, within the same run. The run
 /// ends, since a schedule has at most 21 entries for each call of the setup and one for each kill.
 pub fn drain(
     alloc: Global,
@@ -31,18 +32,19 @@ pub fn drain(
     requires { StandsAt setup.now kernels.old.items fabric.old }
     ensures stand { StandsAt setup.now kernels.new.items fabric.new }
     ensures few { length fabric.new.journal ≤ 21 * call_count setup.now + kill_count setup.now }
-    ensures prefix { (rest : List EntryData) × (fabric.new.journal ++ rest ≡ drained setup.now fabric.old.journal seed) }
+    ensures prefix { (rest : List EntryData)
+        × (fabric.new.journal ++ rest ≡ drained setup.now fabric.old.journal seed) }
     ensures drained { OnOk result (fabric.new.journal ≡ drained setup.now fabric.old.journal seed) }
     ensures complete { OnOk result (IsComplete setup.now fabric.new.journal) }
 {
-    // So that the proof knows what a setup keeps.
+    // Shows the proof what a setup keeps.
     let _ = &setup.vpes;
     let mut lists = list_all(alloc, setup, kernels.as_slice(), fabric)?;
     let mut draws = Draws::new(seed);
     run_on(alloc, setup, kernels, fabric, &mut draws, &mut lists)
 }
 
-// Runs on by the words until no event is enabled. The lists are the enabled events.
+// Runs on by the words until no event is enabled. The lists hold the enabled events.
 fn run_on(
     alloc: Global,
     setup: &Setup,
@@ -52,7 +54,8 @@ fn run_on(
     lists: &mut Vec<Vec<Event>>,
 ) -> Result<(), OutOfMemory>
     requires stand { StandsAt setup.now kernels.old.items fabric.old }
-    requires listed { AreListed setup.now (world_of kernels.old.items fabric.old) (map (λ list. list.items) lists.old.items) }
+    requires listed { AreListed setup.now (world_of kernels.old.items fabric.old)
+        (map (λ list. list.items) lists.old.items) }
     ensures stand { StandsAt setup.now kernels.new.items fabric.new }
     ensures prefix { (rest : List EntryData)
         × (fabric.new.journal ++ rest ≡ drained_on setup.now fabric.old.journal draws.old) }
@@ -60,24 +63,27 @@ fn run_on(
         (fabric.new.journal ≡ drained_on setup.now fabric.old.journal draws.old) }
     ensures complete { OnOk result (IsComplete setup.now fabric.new.journal) }
 {
-    // So that the proof knows what a setup keeps.
+    // Shows the proof what a setup keeps.
     let _ = &setup.vpes;
-    while let Some(event) = pick(lists.as_slice(), draws) {
+    let mut count = event_count(lists.as_slice());
+    while let Some(event) = pick(lists.as_slice(), count, draws) {
         let replied = make_entry(setup, kernels, fabric, event)?;
-        renew(
+        count = renew(
             alloc,
             setup,
             kernels.as_slice(),
             fabric,
             event,
             replied,
+            count,
             lists,
         )?;
     }
     Ok(())
 }
 
-// The enabled event happens. Whether it made a reply; after want of memory nothing has happened.
+// Lets the enabled event happen, and returns whether it made a reply. If memory is refused, nothing
+// has happened.
 fn make_entry(
     setup: &Setup,
     kernels: &mut Vec<Kernel>,
@@ -87,13 +93,13 @@ fn make_entry(
     requires stand { StandsAt setup.now kernels.old.items fabric.old }
     requires enabled { is_enabled setup.now (world_of kernels.old.items fabric.old) event ≡ true }
     ensures stand { StandsAt setup.now kernels.new.items fabric.new }
-    ensures replied { IfOk result (λ b. b ≡ is_some (entry_of setup.now (world_of kernels.old.items fabric.old) event).reply) }
-    ensures after { OnOk result (world_of kernels.new.items fabric.new ≡ after setup.now (world_of kernels.old.items fabric.old) event) }
-    ensures journal { OnOk result (fabric.new.journal ≡ fabric.old.journal ++ entry_of setup.now (world_of kernels.old.items fabric.old) event ∷ []) }
+    ensures replied { IfOk result (λ b. b
+        ≡ is_some (entry_of setup.now (world_of kernels.old.items fabric.old) event).reply) }
+    ensures after { OnOk result (world_of kernels.new.items fabric.new
+        ≡ after setup.now (world_of kernels.old.items fabric.old) event) }
+    ensures journal { OnOk result (fabric.new.journal ≡ fabric.old.journal
+        ++ entry_of setup.now (world_of kernels.old.items fabric.old) event ∷ []) }
     ensures same { OnErr result (fabric.new.journal ≡ fabric.old.journal) }
 {
-    match happen_enabled(setup, kernels, fabric, event) {
-        Ok(entry) => Ok(entry.reply.is_some()),
-        Err(error) => Err(error),
-    }
+    advance(setup, kernels, fabric, event)
 }

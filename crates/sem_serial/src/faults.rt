@@ -1,10 +1,10 @@
-// Why given events do not all happen.
+// Why not all given events happen.
 ghost use Rattle.std.specs.Prelude.{◌≡◌};
 
 use sem_key::OutOfMemory;
 use thiserror::Error;
 
-/// Why given events did not all happen.
+/// Why not all given events happened.
 #[derive(Clone, Copy, Debug, PartialEq, Eq, Error)]
 pub enum PlayError {
     /// The event at this place, counted from 0, is not enabled after those before it.

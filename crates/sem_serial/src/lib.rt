@@ -1,4 +1,5 @@
-//! Runs of kernels and their fabric, one event after another: by the words of a seed, and by given events.
+//! Runs of kernels and their fabric, one event after another: by the words of a seed, and by given
+//! events.
 #![tactic(auto)]
 
 mod drains;

@@ -1,5 +1,6 @@
 // The enabled events of each kernel, kept from event to event.
-ghost use Rattle.std.specs.Prelude.{◌≡◌, ◌^◌, ◌<◌, ◌==◌, true, List, length, map, slice_get, slice_set, sum_by, is_some, OnSome, OnOk, IfOk};
+ghost use Rattle.std.specs.Prelude.{◌≡◌, ◌^◌, ◌+◌, ◌<◌, ◌≤◌, ◌==◌, true, List, length, map};
+ghost use Rattle.std.specs.Prelude.{slice_get, slice_set, sum_by, is_some, OnSome, OnOk, IfOk};
 ghost use Rattle.std.specs.List.{flat_map, list_any};
 ghost use Rattle.rand_pcg.specs.Pcg.{pcg32};
 ghost use Rattle.sem_msg.specs.Journal.{replies as replies_in};
@@ -7,7 +8,9 @@ ghost use Rattle.sem_machine.specs.Machine.{World, after, entry_of, is_enabled};
 ghost use Rattle.sem_machine.specs.Seeded.{picked};
 ghost use Rattle.sem_kernel.specs.Listing.{enabled_of};
 ghost use Rattle.sem_kernel.specs.Worlds.{world_of, AreKernelsOf, NamesPeer};
-ghost use Rattle.sem_serial.specs.Listed.{AreListed, comes_due as comes_due_lem, touched_peer as touched_peer_lem};
+ghost use Rattle.sem_serial.specs.Listed.{AreListed, most_enabled, most_listed};
+ghost use Rattle.sem_serial.specs.Listed.{comes_due as comes_due_lem};
+ghost use Rattle.sem_serial.specs.Listed.{touched_peer as touched_peer_lem};
 
 use sem_fabric::Fabric;
 use sem_kernel::{Kernel, append_enabled};
@@ -16,7 +19,7 @@ use sem_msg::{Act, Event, Setup};
 use sem_pick::Draws;
 use std::alloc::Global;
 
-// The enabled events of each kernel, where these kernels and this fabric are those of the setup.
+// The enabled events of each kernel. The kernels and the fabric must be those of the setup.
 pub fn list_all(
     alloc: Global,
     setup: &Setup,
@@ -24,7 +27,9 @@ pub fn list_all(
     fabric: &Fabric,
 ) -> Result<Vec<Vec<Event>>, OutOfMemory>
     requires { AreKernelsOf setup.now kernels.now fabric.now }
-    ensures { IfOk result (λ lists. AreListed setup.now (world_of kernels.now fabric.now) (map (λ list. list.items) lists.items)) }
+    ensures { IfOk result
+        (λ lists. AreListed setup.now (world_of kernels.now fabric.now)
+        (map (λ list. list.items) lists.items)) }
 {
     let mut lists = Vec::new(alloc);
     for kernel in 0..setup.kernels {
@@ -35,8 +40,8 @@ pub fn list_all(
     Ok(lists)
 }
 
-// Renews the lists of the kernels whose enabled events can be others after the event, an enabled
-// one, which made a reply or not.
+// Renews the lists of the kernels whose enabled events can differ after the event, an enabled one,
+// which made a reply or not. Takes the number of all events before, and gives the number after.
 pub fn renew(
     alloc: Global,
     setup: &Setup,
@@ -44,43 +49,60 @@ pub fn renew(
     fabric: &Fabric,
     event: Event,
     replied: bool,
+    count: usize,
     lists: &mut Vec<Vec<Event>>,
-) -> Result<(), OutOfMemory>
+) -> Result<usize, OutOfMemory>
     requires together { AreKernelsOf setup.now kernels.now fabric.now }
+    requires count { count ≡ sum_by (λ list. length list.items) lists.old.items }
     requires happened { (before : World) × (is_enabled setup.now before event ≡ true)
         × (world_of kernels.now fabric.now ≡ after setup.now before event)
         × (replied ≡ is_some (entry_of setup.now before event).reply)
         × AreListed setup.now before (map (λ list. list.items) lists.old.items) }
-    ensures { OnOk result (AreListed setup.now (world_of kernels.now fabric.now) (map (λ list. list.items) lists.new.items)) }
+    ensures listed { OnOk result
+        (AreListed setup.now (world_of kernels.now fabric.now)
+        (map (λ list. list.items) lists.new.items)) }
+    ensures count { IfOk result (λ n. n ≡ sum_by (λ list. length list.items) lists.new.items) }
 {
+    // Shows the proof what a setup keeps.
+    let _ = &setup.vpes;
     if comes_due(setup, fabric, replied) {
         *lists = list_all(alloc, setup, kernels, fabric)?;
-        return Ok(());
+        return Ok(event_count(lists.as_slice()));
     }
-    renew_list(setup, kernels, fabric, event.kernel, lists)?;
+    let own = renew_list(setup, kernels, fabric, event.kernel, count, lists)?;
     let Some(peer) = touched_peer(setup, kernels, fabric, event) else {
-        return Ok(());
+        return Ok(own);
     };
-    renew_list(setup, kernels, fabric, peer, lists)?;
-    Ok(())
+    let both = renew_list(setup, kernels, fabric, peer, own, lists)?;
+    Ok(both)
 }
 
-// Renews the list of a kernel.
+// Renews the list of a kernel. Takes the number of all events before, and gives the number after.
 fn renew_list(
     setup: &Setup,
     kernels: &[Kernel],
     fabric: &Fabric,
     kernel: u32,
+    count: usize,
     lists: &mut Vec<Vec<Event>>,
-) -> Result<(), OutOfMemory>
+) -> Result<usize, OutOfMemory>
     requires together { AreKernelsOf setup.now kernels.now fabric.now }
     requires kernel { kernel < length lists.old.items }
-    ensures { OnOk result (map (λ list. list.items) lists.new.items ≡ slice_set (map (λ list. list.items) lists.old.items) kernel (enabled_of setup.now (world_of kernels.now fabric.now) kernel)) }
+    requires count { count ≡ sum_by (λ list. length list.items) lists.old.items }
+    requires few { count ≤ most_listed + most_enabled }
+    ensures renewed { OnOk result (map (λ list. list.items) lists.new.items
+        ≡ slice_set (map (λ list. list.items) lists.old.items) kernel
+        (enabled_of setup.now (world_of kernels.now fabric.now) kernel)) }
+    ensures count { IfOk result (λ n. n ≡ sum_by (λ list. length list.items) lists.new.items) }
+    ensures few { IfOk result (λ n. n ≤ count + most_enabled) }
 {
+    // Shows the proof what a setup keeps.
+    let _ = &setup.vpes;
     let list = &mut lists[kernel as usize];
+    let before = list.len();
     list.clear();
     append_enabled(setup, kernels, fabric, kernel, list)?;
-    Ok(())
+    Ok(count - before + list.len())
 }
 
 // Whether a kill comes due with the reply of the last event, if it made one.
@@ -90,20 +112,21 @@ fn comes_due(setup: &Setup, fabric: &Fabric, replied: bool) -> bool
     replied && is_kill_number(setup, fabric.replies())
 }
 
-// Whether a kill waits for just so many replies.
+// Whether a kill waits for exactly that many replies.
 fn is_kill_number(setup: &Setup, replies: u64) -> bool
     ensures { result ≡ list_any (λ k. k.1 == replies) setup.now.kills }
 {
     setup.kills.as_slice().iter().any(|kill| kill.1 == replies)
 }
 
-// The other kernel whose enabled events can be others after the event, if there is one: a fetch
-// makes room in a link that was full, and a flush is the first message that can be fetched.
+// The other kernel whose enabled events can differ after the event, if there is one: a fetch makes
+// room in a link that was full, and a flush brings the first message that can be fetched.
 fn touched_peer(setup: &Setup, kernels: &[Kernel], fabric: &Fabric, event: Event) -> Option<u32>
     requires together { AreKernelsOf setup.now kernels.now fabric.now }
     requires own { event.kernel < setup.now.kernels }
     requires peer { NamesPeer setup.now.kernels event.kernel event.act }
-    ensures { result ≡ touched_peer_lem setup.now (world_of kernels.now fabric.now) event.kernel event.act }
+    ensures { result ≡ touched_peer_lem setup.now (world_of kernels.now fabric.now) event.kernel
+        event.act }
 {
     match event.act {
         Act::Fetch { from } => {
@@ -125,21 +148,20 @@ fn touched_peer(setup: &Setup, kernels: &[Kernel], fabric: &Fabric, event: Event
     }
 }
 
-// The event that the next word picks among those of the lists, if there is one.
-pub fn pick(lists: &[Vec<Event>], draws: &mut Draws) -> Option<Event>
-    requires { sum_by (λ list. length list.items) lists.now < 2 ^ 64 }
+// The event that the next word picks among those of the lists, that many, if there is one.
+pub fn pick(lists: &[Vec<Event>], count: usize, draws: &mut Draws) -> Option<Event>
+    requires { count ≡ sum_by (λ list. length list.items) lists.now }
     ensures event { result ≡ picked (pcg32 draws.old).0 (flat_map (λ list. list.items) lists.now) }
     ensures draws { OnSome result (draws.new ≡ (pcg32 draws.old).1) }
 {
-    let count = event_count(lists);
     if count == 0 {
         return None;
     }
     event_at(lists, draws.pick_place(count))
 }
 
-// How many events there are in the lists.
-fn event_count(lists: &[Vec<Event>]) -> usize
+// The number of events in the lists.
+pub fn event_count(lists: &[Vec<Event>]) -> usize
     requires { sum_by (λ list. length list.items) lists.now < 2 ^ 64 }
     ensures { result ≡ sum_by (λ list. length list.items) lists.now }
 {

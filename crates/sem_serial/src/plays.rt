@@ -8,9 +8,9 @@ use sem_kernel::{StepError, World};
 use sem_msg::{Event, Journal, Setup};
 use std::alloc::Global;
 
-/// Runs the given events of the setup from its start, until one is not enabled, and gives the world
-/// after them. The journal, which is to be empty, gets their entries, also where an event is not
-/// enabled; if memory runs out it stays empty. It is a schedule, and safe.
+/// Runs the given events of the setup from its start, until one is not enabled, and returns the
+/// world after them. The journal must be empty. It gets the entries, even if an event is not
+/// enabled; if memory is refused, it stays empty. It is a schedule, and safe.
 pub fn play(
     alloc: Global,
     setup: &Setup,
@@ -22,11 +22,13 @@ pub fn play(
     ensures safe { IsSafe setup.now journal.new.entries }
     ensures events { events_of journal.new.entries ≡ take (length journal.new.entries) events.now }
     ensures all { OnOk result (events_of journal.new.entries ≡ events.now) }
-    ensures world { IfOk result (λ world. world ≡ record { setup = setup.now; world = world_after setup.now journal.new.entries }) }
-    ensures not_enabled { (at : ℕ) → IsErrOf result (PlayError.NotEnabled at) → StopsAt setup.now events.now journal.new.entries at }
+    ensures world { IfOk result (λ world. world
+        ≡ record { setup = setup.now; world = world_after setup.now journal.new.entries }) }
+    ensures not_enabled { (at : ℕ) → IsErrOf result (PlayError.NotEnabled at) →
+        StopsAt setup.now events.now journal.new.entries at }
     ensures memory { IsErrOf result PlayError.Memory → journal.new.entries ≡ [] }
 {
-    // So that the proof knows what a setup keeps.
+    // Shows the proof what a setup keeps.
     let _ = &setup.vpes;
     let mut world = World::boot(alloc, setup)?;
     let mut played = Journal::new(alloc);

@@ -1,7 +1,8 @@
 -- Changes of what is kept of a VPE keep a side sound.
 use Rattle.sem_msg.specs.declared.limits.TheConstants.{ASKS}
 use Rattle.sem_key.specs.declared.limits.TheConstants.{VPES, NUMBERS}
-use Rattle.std.proofs.Common.{◌≡◌, ◌≢◌, ℕ, ◌+◌, ◌<◌, ◌≤◌, ◌⊎◌, true, false, List, [], ◌∷◌, ◌++◌, ◌&&◌, length, drop, get_or, Option, Some, None, refl, sym, ap, subst, ◌∙◌, inl, inr, arith}
+use Rattle.std.proofs.Common.{◌≡◌, ◌≢◌, ℕ, ◌+◌, ◌<◌, ◌≤◌, ◌⊎◌, true, false, List, [], ◌∷◌, ◌++◌, ◌&&◌, length, drop, get_or, Option, Some, None, refl, sym, ap}
+use Rattle.std.proofs.Common.{subst, ◌∙◌, inl, inr, arith}
 use Rattle.std.specs.Prelude.{◌==◌, nat_lt, if◌then◌else◌}
 use Rattle.std.specs.List.{Contains, sum_by}
 use Rattle.std.proofs.lemmas.Bool.{cases_eq, cases_order, ne_eqb, and_right, cond_both, ltb-true, lt-ltb, le-ltb}
@@ -18,7 +19,8 @@ use Rattle.sem_msg.specs.declared.state.Pending.{Pending}
 use Rattle.sem_msg.specs.Rows.{Endpoint, JobRow, VpeRow, no_vpe}
 use Rattle.sem_msg.specs.Setup.{Setup, IsSetup}
 use Rattle.sem_msg.specs.Lookups.{kernel_of, calls_of}
-use Rattle.sem_machine.specs.Sound.{IsSoundCall, IsSoundAsk, bit, kept, keeps_number, keeps_selector, one_if, in_hand, is_promised, IsSoundRow, IsSoundBut, IsSoundEndpoint, ids_owed, ids_paid}
+use Rattle.sem_machine.specs.Sound.{IsSoundCall, IsSoundAsk, bit, kept, keeps_number, keeps_selector, one_if, in_hand, is_promised, IsSoundRow, IsSoundBut}
+use Rattle.sem_machine.specs.Sound.{IsSoundEndpoint, ids_owed, ids_paid}
 use Rattle.sem_machine.specs.Sides.{Side, row, slot, parked, call_counted, drawn, with_slot, asked, ask_taken, buried, with_endpoint}
 use Rattle.sem_key.proofs.Puts.{get_or-put_same, get_or-put_other}
 use Rattle.sem_key.proofs.Members.{Contains-nil, Contains-tail}
@@ -61,7 +63,8 @@ module _ (T : Setup) (valid : IsSetup T) (i : ℕ) (few : i < T.kernels) where
       | inr other ↦ subst (P w) (sym (get_or-put_other no_vpe s.vpes v w r other)) (others w other)
     ]
 
-  pub row-changed : (n p n' p' : Option (ℕ × ℕ)) (g d : Option ℕ) (s : Side) → IsSoundBut T i n p g d 0 s → (v : ℕ) → kernel_of T v ≡ i → (r : VpeRow) → RowStep n p n' p' g s v r → IsSoundBut T i n' p' g d 0 (record s { vpes = put no_vpe s.vpes v r })
+  pub row-changed : (n p n' p' : Option (ℕ × ℕ)) (g d : Option ℕ) (s : Side) → IsSoundBut T i n p g d 0 s → (v : ℕ) → kernel_of T v ≡ i → (r : VpeRow) →
+      RowStep n p n' p' g s v r → IsSoundBut T i n' p' g d 0 (record s { vpes = put no_vpe s.vpes v r })
   row-changed n p n' p' g d s is v local r step = record {
     caps = is.caps;
     caps_rise = is.caps_rise;
@@ -85,14 +88,16 @@ module _ (T : Setup) (valid : IsSetup T) (i : ℕ) (few : i < T.kernels) where
     promises = by_row s v r (λ w x. (sel : ℕ) → keeps_selector sel (kept (parked s w)) + qs w sel + in_hand p' w sel ≤ is_promised (get_or x.slots sel Free))
         (λ sel. let before = is.promises v sel in let more = step.promises sel in omega (arith, before, more))
         (λ w other sel. let before = is.promises w sel in let more = step.promises_else w sel other in omega (arith, before, more));
-    no_other_promise = by_row s v r (λ w x. (sel : ℕ) → x.alive ≡ true → is_promised (get_or x.slots sel Free) ≤ keeps_selector sel (kept (parked s w)) + qs w sel + in_hand p' w sel)
+    no_other_promise = by_row s v r (λ w x. (sel : ℕ) → x.alive ≡ true →
+        is_promised (get_or x.slots sel Free) ≤ keeps_selector sel (kept (parked s w)) + qs w sel + in_hand p' w sel)
         (λ sel lives. let before = is.no_other_promise v sel (step.alive lives) in let more = step.promises_least sel lives in omega (arith, before, more))
         (λ w other sel lives. let before = is.no_other_promise w sel lives in let more = step.promises_else w sel other in omega (arith, before, more));
     at_selector = λ c among. by_row s v r (λ w x. c.key.vpe ≡ w → get_or x.slots c.selector Free ≡ Held c.key)
         (λ here. step.slots_on c.selector c.key (subst (λ w. slot s w c.selector ≡ Held c.key) here (is.at_selector c among)))
         (λ w other here. subst (λ w. slot s w c.selector ≡ Held c.key) here (is.at_selector c among))
         c.key.vpe refl;
-    held = λ w sel k at. by_row s v r (λ w x. get_or x.slots sel Free ≡ Held k → (k.vpe ≡ w) × ((c : Capability) × Contains s.caps c × (c.key ≡ k) × (c.selector ≡ sel)))
+    held = λ w sel k at. by_row s v r (λ w x. get_or x.slots sel Free ≡ Held k →
+        (k.vpe ≡ w) × ((c : Capability) × Contains s.caps c × (c.key ≡ k) × (c.selector ≡ sel)))
         (λ at. is.held v sel k (step.slots_back sel k at))
         (λ w other at. is.held w sel k at)
         w at;
@@ -117,18 +122,21 @@ module _ (T : Setup) (valid : IsSetup T) (i : ℕ) (few : i < T.kernels) where
       qs w sel = sum_by (λ (q : Pending). bit ((q.key.vpe == w) && (q.sel == sel))) s.pendings
 
   -- What is so of the new call and of each other is so of each.
-  by_call : (s : Side) (v : ℕ) (o : Option Parked) (P : ℕ → Option Parked → Type 0) → P v o → ((w : ℕ) → (w ≡ v → ⊥) → P w (parked s w)) → (w : ℕ) → P w (get_or (put None s.parks v o) w None)
+  by_call : (s : Side) (v : ℕ) (o : Option Parked) (P : ℕ → Option Parked → Type 0) → P v o → ((w : ℕ) → (w ≡ v → ⊥) → P w (parked s w)) → (w : ℕ) →
+      P w (get_or (put None s.parks v o) w None)
   by_call s v o P here others w = elim (cases_eq w v) [
     | inl same ↦ subst (λ x. P x (get_or (put None s.parks v o) x None)) (sym same) (subst (P v) (sym (get_or-put_same None s.parks v o)) here)
     | inr other ↦ subst (P w) (sym (get_or-put_other None s.parks v w o other)) (others w other)
   ]
 
-  pub call-changed : (n p n' p' : Option (ℕ × ℕ)) (g d : Option ℕ) (s : Side) → IsSoundBut T i n p g d 0 s → (v : ℕ) → kernel_of T v ≡ i → (o : Option Parked) → CallStep n p n' p' g s v o → IsSoundBut T i n' p' g d 0 (record s { parks = put None s.parks v o })
+  pub call-changed : (n p n' p' : Option (ℕ × ℕ)) (g d : Option ℕ) (s : Side) → IsSoundBut T i n p g d 0 s → (v : ℕ) → kernel_of T v ≡ i → (o : Option Parked) →
+      CallStep n p n' p' g s v o → IsSoundBut T i n' p' g d 0 (record s { parks = put None s.parks v o })
   call-changed n p n' p' g d s is v local o step = record {
     caps = is.caps;
     caps_rise = is.caps_rise;
     rows = is.rows;
-    calls = by_call s v o (λ w x. (q : Parked) → x ≡ Some q → (kernel_of T w ≡ i) × IsSoundCall T i w q) (λ q at. (local, step.sound q at)) (λ w other q at. is.calls w q at);
+    calls = by_call s v o (λ w x. (q : Parked) → x ≡ Some q → (kernel_of T w ≡ i) × IsSoundCall T i w q) (λ q at. (local, step.sound q at))
+        (λ w other q at. is.calls w q at);
     pendings = is.pendings;
     ups = is.ups;
     waiters_rise = is.waiters_rise;
@@ -147,7 +155,8 @@ module _ (T : Setup) (valid : IsSetup T) (i : ℕ) (few : i < T.kernels) where
     promises = by_call s v o (λ w x. (sel : ℕ) → keeps_selector sel (kept x) + qs w sel + in_hand p' w sel ≤ is_promised (slot s w sel))
         (λ sel. let before = is.promises v sel in let more = step.promises sel in omega (arith, before, more))
         (λ w other sel. let before = is.promises w sel in let more = step.promises_else w sel other in omega (arith, before, more));
-    no_other_promise = by_call s v o (λ w x. (sel : ℕ) → (row s w).alive ≡ true → is_promised (slot s w sel) ≤ keeps_selector sel (kept x) + qs w sel + in_hand p' w sel)
+    no_other_promise = by_call s v o (λ w x. (sel : ℕ) → (row s w).alive ≡ true →
+        is_promised (slot s w sel) ≤ keeps_selector sel (kept x) + qs w sel + in_hand p' w sel)
         (λ sel lives. let before = is.no_other_promise v sel lives in let more = step.promises sel in omega (arith, before, more))
         (λ w other sel lives. let before = is.no_other_promise w sel lives in let more = step.promises_else w sel other in omega (arith, before, more));
     at_selector = is.at_selector;
@@ -177,7 +186,8 @@ module _ (T : Setup) (valid : IsSetup T) (i : ℕ) (few : i < T.kernels) where
 
   -- Rows of which selectors and numbers stay.
   module _ (n p : Option (ℕ × ℕ)) (g d : Option ℕ) (s : Side) (is : IsSoundBut T i n p g d 0 s) (v : ℕ) (local : kernel_of T v ≡ i) where
-    calm-row : (r : VpeRow) → IsSoundRow T i v r → (r.alive ≡ true → (row s v).alive ≡ true) → r.slots ≡ (row s v).slots → r.next_number ≡ (row s v).next_number → (row s v).next_call ≤ r.next_call → IsSoundBut T i n p g d 0 (record s { vpes = put no_vpe s.vpes v r })
+    calm-row : (r : VpeRow) → IsSoundRow T i v r → (r.alive ≡ true → (row s v).alive ≡ true) → r.slots ≡ (row s v).slots →
+        r.next_number ≡ (row s v).next_number → (row s v).next_call ≤ r.next_call → IsSoundBut T i n p g d 0 (record s { vpes = put no_vpe s.vpes v r })
     calm-row r sound alive slots number calls = row-changed n p n p g d s is v local r (record {
       sound = sound;
       alive = alive;
@@ -195,7 +205,13 @@ module _ (T : Setup) (valid : IsSetup T) (i : ℕ) (few : i < T.kernels) where
     pub counted-sound : (row s v).next_call < length (calls_of T v) → IsSoundBut T i n p g d 0 (call_counted v s)
     counted-sound more =
         let r = is.rows v in
-        calm-row (record (row s v) { next_call = (row s v).next_call + 1 }) (record { others = λ remote. absurd (remote local); next_number = r.next_number; next_call = omega (arith, more); asks = r.asks; few_asks = r.few_asks }) (λ lives. lives) refl refl (omega arith)
+        calm-row (record (row s v) { next_call = (row s v).next_call + 1 }) (record {
+          others = λ remote. absurd (remote local);
+          next_number = r.next_number;
+          next_call = omega (arith, more);
+          asks = r.asks;
+          few_asks = r.few_asks;
+        }) (λ lives. lives) refl refl (omega arith)
 
     -- an ask comes, or is taken
     pub asked-sound : (a : Ask) → IsSoundAsk T a → IsSoundBut T i n p g d 0 (asked v a s)
@@ -207,8 +223,13 @@ module _ (T : Setup) (valid : IsSetup T) (i : ℕ) (few : i < T.kernels) where
           others = λ remote. absurd (remote local);
           next_number = r.next_number;
           next_call = r.next_call;
-          asks = cond_both (nat_lt (length asks) ASKS) (asks ++ a ∷ []) asks (λ xs. (b : Ask) → Contains xs b → IsSoundAsk T b) (λ _ b among. elim (Contains-push_cases asks a b among) [ inl before ↦ r.asks b before | inr same ↦ subst (IsSoundAsk T) same sound ]) (λ _. r.asks);
-          few_asks = cond_both (nat_lt (length asks) ASKS) (asks ++ a ∷ []) asks (λ xs. length xs ≤ ASKS) (λ room. let below = ltb-true (length asks) ASKS room in let long = longer asks a in omega (arith, below, long)) (λ _. r.few_asks);
+          asks = cond_both (nat_lt (length asks) ASKS) (asks ++ a ∷ []) asks (λ xs. (b : Ask) → Contains xs b →
+              IsSoundAsk T b) (λ _ b among. elim (Contains-push_cases asks a b among) [
+                | inl before ↦ r.asks b before
+                | inr same ↦ subst (IsSoundAsk T) same sound
+              ]) (λ _. r.asks);
+          few_asks = cond_both (nat_lt (length asks) ASKS) (asks ++ a ∷ []) asks (λ xs. length xs ≤ ASKS) (λ room. let below =
+              ltb-true (length asks) ASKS room in let long = longer asks a in omega (arith, below, long)) (λ _. r.few_asks);
         }) (λ lives. lives) refl refl (omega arith)
       where
         longer : (xs : List Ask) (x : Ask) → length (xs ++ x ∷ []) ≡ length xs + 1
@@ -218,7 +239,14 @@ module _ (T : Setup) (valid : IsSetup T) (i : ℕ) (few : i < T.kernels) where
     pub taken-sound : IsSoundBut T i n p g d 0 (ask_taken v s)
     taken-sound =
         let r = is.rows v in
-        calm-row (record (row s v) { asks = drop 1 (row s v).asks }) (record { others = λ remote. absurd (remote local); next_number = r.next_number; next_call = r.next_call; asks = λ b among. r.asks b (later (row s v).asks b among); few_asks = let less = shorter (row s v).asks in let few' = r.few_asks in omega (arith, less, few') }) (λ lives. lives) refl refl (omega arith)
+        calm-row (record (row s v) { asks = drop 1 (row s v).asks }) (record {
+          others = λ remote. absurd (remote local);
+          next_number = r.next_number;
+          next_call = r.next_call;
+          asks = λ b among. r.asks b (later (row s v).asks b among);
+          few_asks = let less = shorter (row s v).asks in
+              let few' = r.few_asks in omega (arith, less, few');
+        }) (λ lives. lives) refl refl (omega arith)
       where
         later : (xs : List Ask) (b : Ask) → Contains (drop 1 xs) b → Contains xs b
         later [] b among = among
@@ -236,7 +264,8 @@ module _ (T : Setup) (valid : IsSetup T) (i : ℕ) (few : i < T.kernels) where
         omega (arith, paid, before)
 
     -- an endpoint is bound, or its ring changed
-    pub endpoint-sound : (ep : ℕ) (e : Option Endpoint) → ((x : Endpoint) → e ≡ Some x → IsSoundEndpoint T i v x) → IsSoundBut T i n p g d 0 (with_endpoint v ep e s)
+    pub endpoint-sound : (ep : ℕ) (e : Option Endpoint) → ((x : Endpoint) → e ≡ Some x → IsSoundEndpoint T i v x) →
+        IsSoundBut T i n p g d 0 (with_endpoint v ep e s)
     endpoint-sound ep e sound = record {
       caps = is.caps;
       caps_rise = is.caps_rise;
@@ -253,7 +282,8 @@ module _ (T : Setup) (valid : IsSetup T) (i : ℕ) (few : i < T.kernels) where
       park_places = is.park_places;
       boxes = is.boxes;
       endpoints = λ w q x at. elim (cases_eq w v) [
-        | inl same ↦ subst (λ u. IsSoundEndpoint T i u x) (sym same) (in_row q x (sym (ap (λ es. get_or es q None) (ap (λ u. get_or (put [] s.endpoints v new) u []) same ∙ get_or-put_same [] s.endpoints v new)) ∙ at))
+        | inl same ↦ subst (λ u. IsSoundEndpoint T i u x) (sym same)
+            (in_row q x (sym (ap (λ es. get_or es q None) (ap (λ u. get_or (put [] s.endpoints v new) u []) same ∙ get_or-put_same [] s.endpoints v new)) ∙ at))
         | inr other ↦ is.endpoints w q x (sym (ap (λ es. get_or es q None) (get_or-put_other [] s.endpoints v w new other)) ∙ at)
       ];
       endpoint_places = length-put [] s.endpoints VPES v new is.endpoint_places (local-place v local);
@@ -285,14 +315,21 @@ module _ (T : Setup) (valid : IsSetup T) (i : ℕ) (few : i < T.kernels) where
     pub buried-sound : IsSoundBut T i n p g d 0 (buried v s)
     buried-sound =
         let r = is.rows v in
-        calm-row (record (row s v) { alive = false; asks = [] }) (record { others = λ remote. absurd (remote local); next_number = r.next_number; next_call = r.next_call; asks = λ b among. absurd (Contains-nil b among); few_asks = omega arith }) (λ lives. absurd cc) refl refl (omega arith)
+        calm-row (record (row s v) { alive = false; asks = [] }) (record {
+          others = λ remote. absurd (remote local);
+          next_number = r.next_number;
+          next_call = r.next_call;
+          asks = λ b among. absurd (Contains-nil b among);
+          few_asks = omega arith;
+        }) (λ lives. absurd cc) refl refl (omega arith)
 
     -- no job has the VPE among its waiters
     abbrev pub WaitsForNone : Type 0
     WaitsForNone = (x : JobRow) → Contains s.jobs x → g ≢ Some x.id → Contains x.waiters v → ⊥
 
     -- another parked call, which keeps what the one before kept
-    pub parked-same : (o : Option Parked) → ((q : Parked) → o ≡ Some q → IsSoundCall T i v q) → WaitsForNone → kept o ≡ kept (parked s v) → IsSoundBut T i n p g d 0 (record s { parks = put None s.parks v o })
+    pub parked-same : (o : Option Parked) → ((q : Parked) → o ≡ Some q → IsSoundCall T i v q) → WaitsForNone → kept o ≡ kept (parked s v) →
+        IsSoundBut T i n p g d 0 (record s { parks = put None s.parks v o })
     parked-same o sound none same = call-changed n p n p g d s is v local o (record {
       sound = sound;
       waits = λ x among still in_v. absurd (none x among still in_v);
@@ -330,7 +367,13 @@ module _ (T : Setup) (valid : IsSetup T) (i : ℕ) (few : i < T.kernels) where
         let r = is.rows v in
         let next : ℕ = (row s v).next_number in
         row-changed None p (Some (v, next)) p g d s is v local (record (row s v) { next_number = next + 1 }) (record {
-          sound = record { others = λ remote. absurd (remote local); next_number = omega (arith, below); next_call = r.next_call; asks = r.asks; few_asks = r.few_asks };
+          sound = record {
+            others = λ remote. absurd (remote local);
+            next_number = omega (arith, below);
+            next_call = r.next_call;
+            asks = r.asks;
+            few_asks = r.few_asks;
+          };
           alive = λ lives. lives;
           slots_back = λ sel k at. at;
           slots_on = λ sel k at. at;
@@ -385,17 +428,25 @@ module _ (T : Setup) (valid : IsSetup T) (i : ℕ) (few : i < T.kernels) where
         from Promised one = refl
 
     -- the rows with a selector in a state that holds nothing
-    slot-row : (n p' : Option (ℕ × ℕ)) (sel : ℕ) (state : Slot) → IsSoundBut T i n p g d 0 s → ((k : KeyName) → state ≡ Held k → ⊥) → ((k : KeyName) → slot s v sel ≡ Held k → ⊥)
+    slot-row : (n p' : Option (ℕ × ℕ)) (sel : ℕ) (state : Slot) → IsSoundBut T i n p g d 0 s → ((k : KeyName) → state ≡ Held k → ⊥) →
+        ((k : KeyName) → slot s v sel ≡ Held k → ⊥)
         → in_hand p' v sel + is_promised (slot s v sel) ≡ in_hand p v sel + is_promised state
         → ((w q : ℕ) → (w ≡ v → ⊥) ⊎ (q ≡ sel → ⊥) → in_hand p' w q ≡ in_hand p w q)
         → IsSoundBut T i n p' g d 0 (with_slot v sel state s)
     slot-row n p' sel state is new old here others =
         let r = is.rows v in
         row-changed n p n p' g d s is v local (record (row s v) { slots = put Free (row s v).slots sel state }) (record {
-          sound = record { others = λ remote. absurd (remote local); next_number = r.next_number; next_call = r.next_call; asks = r.asks; few_asks = r.few_asks };
+          sound = record {
+            others = λ remote. absurd (remote local);
+            next_number = r.next_number;
+            next_call = r.next_call;
+            asks = r.asks;
+            few_asks = r.few_asks;
+          };
           alive = λ lives. lives;
           slots_back = λ q k at. elim (cases_eq q sel) [
-            | inl same ↦ absurd (new k (sym (ap (λ x. get_or (put Free (row s v).slots sel state) x Free) same ∙ get_or-put_same Free (row s v).slots sel state) ∙ at))
+            | inl same ↦ absurd (new k (sym (ap (λ x. get_or (put Free (row s v).slots sel state) x Free) same ∙ get_or-put_same Free (row s v).slots sel state)
+                ∙ at))
             | inr other ↦ sym (get_or-put_other Free (row s v).slots sel q state other) ∙ at
           ];
           slots_on = λ q k at. elim (cases_eq q sel) [
@@ -412,8 +463,11 @@ module _ (T : Setup) (valid : IsSetup T) (i : ℕ) (few : i < T.kernels) where
       where
         at : (q : ℕ) → in_hand p' v q + is_promised (slot s v q) ≡ in_hand p v q + is_promised (get_or (put Free (row s v).slots sel state) q Free)
         at q = elim (cases_eq q sel) [
-          | inl same ↦ subst (λ x. in_hand p' v x + is_promised (slot s v x) ≡ in_hand p v x + is_promised (get_or (put Free (row s v).slots sel state) x Free)) (sym same) (let now : is_promised (get_or (put Free (row s v).slots sel state) sel Free) ≡ is_promised state = ap is_promised (get_or-put_same Free (row s v).slots sel state) in omega (arith, here, now))
-          | inr other ↦ let stays = ap is_promised (get_or-put_other Free (row s v).slots sel q state other) in let hand = others v q (inr other) in omega (arith, stays, hand)
+          | inl same ↦ subst (λ x. in_hand p' v x + is_promised (slot s v x) ≡ in_hand p v x + is_promised (get_or (put Free (row s v).slots sel state) x Free))
+              (sym same) (let now : is_promised (get_or (put Free (row s v).slots sel state) sel Free) ≡ is_promised state =
+              ap is_promised (get_or-put_same Free (row s v).slots sel state) in omega (arith, here, now))
+          | inr other ↦ let stays = ap is_promised (get_or-put_other Free (row s v).slots sel q state other) in let hand = others v q (inr other) in
+              omega (arith, stays, hand)
         ]
 
   pub in_hand-apart : (v sel w q : ℕ) → (w ≡ v → ⊥) ⊎ (q ≡ sel → ⊥) → in_hand (Some (v, sel)) w q ≡ 0
@@ -479,25 +533,33 @@ module _ (T : Setup) (valid : IsSetup T) (i : ℕ) (few : i < T.kernels) where
         clash none = cc
 
   -- A parked call takes what is in hand, or gives it up.
-  module _ (g d : Option ℕ) (s : Side) (v : ℕ) (local : kernel_of T v ≡ i) (o : Option Parked) (sound : (q : Parked) → o ≡ Some q → IsSoundCall T i v q) (m sel : ℕ) where
-    pub parked-taking : (is : IsSoundBut T i (Some (v, m)) (Some (v, sel)) g d 0 s) → WaitsForNone (Some (v, m)) (Some (v, sel)) g d s is v local → kept (parked s v) ≡ None → kept o ≡ Some (m, sel) → IsSoundBut T i None None g d 0 (record s { parks = put None s.parks v o })
+  module _ (g d : Option ℕ) (s : Side) (v : ℕ) (local : kernel_of T v ≡ i) (o : Option Parked) (sound : (q : Parked) → o ≡ Some q →
+      IsSoundCall T i v q) (m sel : ℕ) where
+    pub parked-taking : (is : IsSoundBut T i (Some (v, m)) (Some (v, sel)) g d 0 s) → WaitsForNone (Some (v, m)) (Some (v, sel)) g d s is v local →
+        kept (parked s v) ≡ None → kept o ≡ Some (m, sel) → IsSoundBut T i None None g d 0 (record s { parks = put None s.parks v o })
     parked-taking is none before now = call-changed (Some (v, m)) (Some (v, sel)) None None g d s is v local o (record {
       sound = sound;
       waits = λ x among still in_v. absurd (none x among still in_v);
-      numbers = λ k. let a : keeps_number k (kept o) ≡ bit (m == k) = ap (keeps_number k) now in let b : keeps_number k (kept (parked s v)) ≡ 0 = ap (keeps_number k) before in let c = in_hand-same v m k in omega (arith, a, b, c);
+      numbers = λ k. let a : keeps_number k (kept o) ≡ bit (m == k) = ap (keeps_number k) now in
+          let b : keeps_number k (kept (parked s v)) ≡ 0 = ap (keeps_number k) before in let c = in_hand-same v m k in omega (arith, a, b, c);
       numbers_else = λ w k other. omega arith;
-      promises = λ q. let a : keeps_selector q (kept o) ≡ bit (sel == q) = ap (keeps_selector q) now in let b : keeps_selector q (kept (parked s v)) ≡ 0 = ap (keeps_selector q) before in let c = in_hand-same v sel q in omega (arith, a, b, c);
+      promises = λ q. let a : keeps_selector q (kept o) ≡ bit (sel == q) = ap (keeps_selector q) now in
+          let b : keeps_selector q (kept (parked s v)) ≡ 0 = ap (keeps_selector q) before in let c = in_hand-same v sel q in omega (arith, a, b, c);
       promises_else = λ w q other. sym (in_hand-other v sel w q other);
       ids = let a : one_if (kept o) ≡ 1 = ap (λ k. one_if k) now in let b : one_if (kept (parked s v)) ≡ 0 = ap (λ k. one_if k) before in omega (arith, a, b);
     })
 
-    pub parked-giving : (is : IsSoundBut T i None None g d 0 s) → WaitsForNone None None g d s is v local → kept (parked s v) ≡ Some (m, sel) → kept o ≡ None → IsSoundBut T i (Some (v, m)) (Some (v, sel)) g d 0 (record s { parks = put None s.parks v o })
+    pub parked-giving : (is : IsSoundBut T i None None g d 0 s) → WaitsForNone None None g d s is v local → kept (parked s v) ≡ Some (m, sel) → kept o ≡ None →
+        IsSoundBut T i (Some (v, m)) (Some (v, sel)) g d 0 (record s { parks = put None s.parks v o })
     parked-giving is none before now = call-changed None None (Some (v, m)) (Some (v, sel)) g d s is v local o (record {
       sound = sound;
       waits = λ x among still in_v. absurd (none x among still in_v);
-      numbers = λ k. let a : keeps_number k (kept o) ≡ 0 = ap (keeps_number k) now in let b : keeps_number k (kept (parked s v)) ≡ bit (m == k) = ap (keeps_number k) before in let c = in_hand-same v m k in omega (arith, a, b, c);
+      numbers = λ k. let a : keeps_number k (kept o) ≡ 0 = ap (keeps_number k) now in
+          let b : keeps_number k (kept (parked s v)) ≡ bit (m == k) = ap (keeps_number k) before in let c = in_hand-same v m k in omega (arith, a, b, c);
       numbers_else = λ w k other. let c = in_hand-other v m w k other in omega (arith, c);
-      promises = λ q. let a : keeps_selector q (kept o) ≡ 0 = ap (keeps_selector q) now in let b : keeps_selector q (kept (parked s v)) ≡ bit (sel == q) = ap (keeps_selector q) before in let c = in_hand-same v sel q in omega (arith, a, b, c);
+      promises = λ q. let a : keeps_selector q (kept o) ≡ 0 = ap (keeps_selector q) now in
+          let b : keeps_selector q (kept (parked s v)) ≡ bit (sel == q) = ap (keeps_selector q) before in let c = in_hand-same v sel q in
+          omega (arith, a, b, c);
       promises_else = λ w q other. in_hand-other v sel w q other;
       ids = let a : one_if (kept o) ≡ 0 = ap (λ k. one_if k) now in let b : one_if (kept (parked s v)) ≡ 1 = ap (λ k. one_if k) before in omega (arith, a, b);
     })

@@ -28,7 +28,8 @@ module _ (T : Setup) (valid : IsSetup T) where
   pub kernel-decl : (v : ℕ) → kernel_of T v < T.kernels → (d : VpeDecl) × (decl T v ≡ Some d) × Contains T.vpes d × (d.vpe ≡ v)
   kernel-decl v below = from (decl T v) refl below
     where
-      from : (o : Option VpeDecl) → decl T v ≡ o → option_map_or (λ d. pe_owner T d.pe) o T.kernels < T.kernels → (d : VpeDecl) × (decl T v ≡ Some d) × Contains T.vpes d × (d.vpe ≡ v)
+      from : (o : Option VpeDecl) → decl T v ≡ o → option_map_or (λ d. pe_owner T d.pe) o T.kernels < T.kernels →
+          (d : VpeDecl) × (decl T v ≡ Some d) × Contains T.vpes d × (d.vpe ≡ v)
       from None none low = absurd (omega (arith, low))
       from (Some d) some low = let there = found (λ (x : VpeDecl). x.vpe == v) T.vpes d some in (d, some, there.0, eqb-true d.vpe v there.1)
 
@@ -52,7 +53,8 @@ module _ (T : Setup) (valid : IsSetup T) where
     where
       from : (o : Option VpeDecl) → decl T v ≡ o → option_map_or (λ d. d.pe == pe) o false ≡ true → pe_owner T pe < T.kernels
       from None none no' = absurd cc
-      from (Some d) some same = subst (λ p. pe_owner T p < T.kernels) (eqb-true d.pe pe same) (decl-owner d (found (λ (x : VpeDecl). x.vpe == v) T.vpes d some).0)
+      from (Some d) some same =
+          subst (λ p. pe_owner T p < T.kernels) (eqb-true d.pe pe same) (decl-owner d (found (λ (x : VpeDecl). x.vpe == v) T.vpes d some).0)
 
   -- a VPE of a kernel is declared with its PE, which is one of the table
   pub own-declared : (v : ℕ) → kernel_of T v < T.kernels → (is_declared_at T (pe_of T v) v ≡ true) × (pe_of T v < PES)

@@ -2,7 +2,8 @@
 use Rattle.sem_msg.proofs.Declared.{most_vpes-le}
 use Rattle.sem_msg.specs.declared.limits.TheConstants.{SELECTORS}
 use Rattle.sem_key.specs.declared.limits.TheConstants.{VPES}
-use Rattle.std.proofs.Common.{◌≡◌, ◌≢◌, ℕ, suc, ◌+◌, ◌<◌, ◌≤◌, ◌%◌, true, false, eqb, List, [], ◌∷◌, length, map, get_or, Option, Some, None, refl, sym, ap, subst, ◌∙◌, inl, inr, arith, eq-eqb}
+use Rattle.std.proofs.Common.{◌≡◌, ◌≢◌, ℕ, suc, ◌+◌, ◌<◌, ◌≤◌, ◌%◌, true, false, eqb, List, [], ◌∷◌, length, map, get_or, Option, Some, None, refl, sym, ap}
+use Rattle.std.proofs.Common.{subst, ◌∙◌, inl, inr, arith, eq-eqb}
 use Rattle.std.specs.Prelude.{◌==◌, nat_lt}
 use Rattle.std.specs.List.{All, AllPairs, Contains, list_any}
 use Rattle.std.specs.Option.{option_map_or}
@@ -46,7 +47,8 @@ recv-kind (Serv name) test = absurd cc
 recv-kind (Sess service ident) test = absurd cc
 
 -- a derived range is a range
-pub narrowed-sound : (T : Setup) (off len rights : ℕ) (o : Object) → IsSoundObject T o → is_of MemKind o ≡ true → is_wider off len rights o ≡ false → IsWord off → IsWord len → rights ≤ 7 → IsSoundObject T (narrowed off len rights o)
+pub narrowed-sound : (T : Setup) (off len rights : ℕ) (o : Object) → IsSoundObject T o → is_of MemKind o ≡ true → is_wider off len rights o ≡ false →
+    IsWord off → IsWord len → rights ≤ 7 → IsSoundObject T (narrowed off len rights o)
 narrowed-sound T off len rights (Mem base size rights') sound mem narrow small_off small_len small_rights =
     let fits : off + len ≤ size = ltb-false size (off + len) (or_parts (nat_lt size (off + len)) _ narrow).0 in
     let ends : base + size ≤ 4294967296 = sound.0.3 in
@@ -73,18 +75,21 @@ selectors_small : (roots : List Root) → All IsRoot roots → (q : ℕ) → lis
 selectors_small [] all q some = absurd cc
 selectors_small (r ∷ rs) all q some = elim (cases_Bool (eqb q r.sel)) [
   | inl same ↦ let is : q ≡ r.sel = eqb-true q r.sel same in let small : r.sel < SELECTORS = (all 0 r (omega arith)).selector in omega (arith, is, small)
-  | inr other ↦ let rest : list_any (eqb q) (map (λ (x : Root). x.sel) rs) ≡ true = rw other at some in selectors_small rs (λ k d lt. all (suc k) d (omega arith)) q rest
+  | inr other ↦ let rest : list_any (eqb q) (map (λ (x : Root). x.sel) rs) ≡ true = rw other at some in
+      selectors_small rs (λ k d lt. all (suc k) d (omega arith)) q rest
 ]
 
 pub few-roots : (roots : List Root) → All IsRoot roots → AllPairs (λ (a b : Root). a.sel ≢ b.sel) roots → length roots ≤ SELECTORS
 few-roots roots all differ =
     let sels : List ℕ = map (λ (r : Root). r.sel) roots in
-    rw (length-map roots (λ (r : Root). r.sel)) at (length-le_from_distinct_below sels SELECTORS (IsDistinct-from_AllPairs Decides-eqb sels (selectors_differ roots differ)) (selectors_small roots all))
+    rw (length-map roots (λ (r : Root). r.sel)) at
+    (length-le_from_distinct_below sels SELECTORS (IsDistinct-from_AllPairs Decides-eqb sels (selectors_differ roots differ)) (selectors_small roots all))
 
 -- Services.
 
 -- a service among roots has the key of a root, of the kind of services
-service-of : (d : VpeDecl) (rs : List Root) (n : ℕ) (s : Service) → Contains (services_from d n rs) s → (s.key.pe ≡ d.pe) × (s.key.vpe ≡ d.vpe) × (s.key.kind ≡ ServKind) × (s.key.number < n + length rs)
+service-of : (d : VpeDecl) (rs : List Root) (n : ℕ) (s : Service) → Contains (services_from d n rs) s → (s.key.pe ≡ d.pe) × (s.key.vpe ≡ d.vpe)
+    × (s.key.kind ≡ ServKind) × (s.key.number < n + length rs)
 unfolding services_from
 service-of d [] n s among = absurd (Contains-nil s among)
 service-of d (r ∷ rs) n s among = elim (Contains-append_cases (service_with r.object (root_key d n r)) (services_from d (n + 1) rs) s among) [
@@ -93,9 +98,13 @@ service-of d (r ∷ rs) n s among = elim (Contains-append_cases (service_with r.
 ]
   where
     of_key : (name : ℕ) (k : KeyName) → Contains (record { name = name; key = k } ∷ []) s → s.key ≡ k
-    of_key name k in_one = elim (Contains-cons_cases (record { name = name; key = k }) [] s in_one) [ inl same ↦ ap (λ (x : Service). x.key) (sym same) | inr none ↦ absurd (Contains-nil s none) ]
+    of_key name k in_one = elim (Contains-cons_cases (record { name = name; key = k }) [] s in_one) [
+      | inl same ↦ ap (λ (x : Service). x.key) (sym same)
+      | inr none ↦ absurd (Contains-nil s none)
+    ]
 
-    by_object : (o : Object) → Contains (service_with o (record { pe = d.pe; vpe = d.vpe; kind = object_kind o; number = n })) s → (s.key.pe ≡ d.pe) × (s.key.vpe ≡ d.vpe) × (s.key.kind ≡ ServKind) × (s.key.number < n + length (r ∷ rs))
+    by_object : (o : Object) → Contains (service_with o (record { pe = d.pe; vpe = d.vpe; kind = object_kind o; number = n })) s →
+        (s.key.pe ≡ d.pe) × (s.key.vpe ≡ d.vpe) × (s.key.kind ≡ ServKind) × (s.key.number < n + length (r ∷ rs))
     by_object (Mem base len rights) in_one = absurd (Contains-nil s in_one)
     by_object (Recv slots) in_one = absurd (Contains-nil s in_one)
     by_object (Send gate label credits) in_one = absurd (Contains-nil s in_one)
@@ -105,7 +114,8 @@ service-of d (r ∷ rs) n s among = elim (Contains-append_cases (service_with r.
         let number : s.key.number ≡ n = ap (λ (k : KeyName). k.number) key in
         (ap (λ (k : KeyName). k.pe) key, ap (λ (k : KeyName). k.vpe) key, ap (λ (k : KeyName). k.kind) key, omega (arith, number))
 
-    one : (x : Root) → Contains (service_with x.object (root_key d n x)) s → (s.key.pe ≡ d.pe) × (s.key.vpe ≡ d.vpe) × (s.key.kind ≡ ServKind) × (s.key.number < n + length (r ∷ rs))
+    one : (x : Root) → Contains (service_with x.object (root_key d n x)) s → (s.key.pe ≡ d.pe) × (s.key.vpe ≡ d.vpe) × (s.key.kind ≡ ServKind)
+        × (s.key.number < n + length (r ∷ rs))
     one x in_one = by_object x.object in_one
 
 module _ (T : Setup) (valid : IsSetup T) where
@@ -146,5 +156,7 @@ module _ (T : Setup) (valid : IsSetup T) where
       let vpe_small = declared.vpe in
       let pe = at.0 in
       let vpe = at.1 in
-      let number = at.3 in
-      (((omega (arith, pe_small, most, pe), omega (arith, vpe_small, most, vpe), omega (arith, few, number)), at.2), subst (λ v. is_declared_at T s.key.pe v ≡ true) (sym vpe) (subst (λ p. is_declared_at T p d.vpe ≡ true) (sym pe) (decl-at d o.1)))
+      let number = at.3 in (
+        ((omega (arith, pe_small, most, pe), omega (arith, vpe_small, most, vpe), omega (arith, few, number)), at.2),
+        subst (λ v. is_declared_at T s.key.pe v ≡ true) (sym vpe) (subst (λ p. is_declared_at T p d.vpe ≡ true) (sym pe) (decl-at d o.1)),
+      )

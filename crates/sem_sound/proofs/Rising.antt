@@ -17,20 +17,25 @@ use Rattle.sem_key.proofs.Members.{AllPairs-map, AllPairs-from_map, Contains-hea
 all-from : {X : Type 0} (P : X → Type 0) (xs : List X) → ((x : X) → Contains xs x → P x) → All P xs
 all-from P xs each k d within = each (get_or xs k d) (Contains-get_or xs k d within)
 
-pairs-append : {X : Type 0} (R : X → X → Type 0) (xs ys : List X) → AllPairs R xs → AllPairs R ys → ((x y : X) → Contains xs x → Contains ys y → R x y) → AllPairs R (xs ++ ys)
+pairs-append : {X : Type 0} (R : X → X → Type 0) (xs ys : List X) → AllPairs R xs → AllPairs R ys → ((x y : X) → Contains xs x → Contains ys y → R x y) →
+    AllPairs R (xs ++ ys)
 pairs-append R [] ys first second across = second
 pairs-append R (x ∷ xs) ys first second across =
     AllPairs-cons R x (xs ++ ys)
-    (All-append (R x) xs ys (λ k d within. first zero (suc k) d (omega arith) (omega arith)) (all-from (R x) ys (λ y in_ys. across x y (Contains-head x xs) in_ys)))
-    (pairs-append R xs ys (λ m n d lt within. first (suc m) (suc n) d (omega arith) (omega arith)) second (λ a b in_xs in_ys. across a b (Contains-tail x xs a in_xs) in_ys))
+    (All-append (R x) xs ys (λ k d within. first zero (suc k) d (omega arith) (omega arith))
+    (all-from (R x) ys (λ y in_ys. across x y (Contains-head x xs) in_ys)))
+    (pairs-append R xs ys (λ m n d lt within. first (suc m) (suc n) d (omega arith) (omega arith)) second
+    (λ a b in_xs in_ys. across a b (Contains-tail x xs a in_xs) in_ys))
 
 module _ {X : Type 0} (w : X → ℕ) where
   abbrev Below : X → X → Type 0
   Below a b = w a < w b
 
-  pub rising-middle : (p q : X → Bool) (xs : List X) (k : X) → ((x : X) → p x ≡ true → w x < w k) → ((x : X) → q x ≡ true → w k < w x) → AllPairs Below xs → AllPairs Below (filter p xs ++ k ∷ filter q xs)
+  pub rising-middle : (p q : X → Bool) (xs : List X) (k : X) → ((x : X) → p x ≡ true → w x < w k) → ((x : X) → q x ≡ true → w k < w x) → AllPairs Below xs →
+      AllPairs Below (filter p xs ++ k ∷ filter q xs)
   rising-middle p q xs k low high rise = pairs-append Below (filter p xs) (k ∷ filter q xs) (AllPairs-filter Below p xs rise)
-      (AllPairs-cons Below k (filter q xs) (all-from (Below k) (filter q xs) (λ y kept. high y (Contains-from_filter q xs y kept).1)) (AllPairs-filter Below q xs rise))
+      (AllPairs-cons Below k (filter q xs) (all-from (Below k) (filter q xs) (λ y kept. high y (Contains-from_filter q xs y kept).1))
+      (AllPairs-filter Below q xs rise))
       (λ x y first second. let below = low x (Contains-from_filter p xs x first).1 in elim (Contains-cons_cases k (filter q xs) y second) [
         | inl same ↦ subst (Below x) same below
         | inr later ↦ let above = high y (Contains-from_filter q xs y later).1 in omega (arith, below, above)
@@ -43,7 +48,8 @@ module _ {X : Type 0} (w : X → ℕ) where
       let here = within x (Contains-head x xs) in
       let low = here.0 in
       let high = here.1 in
-      let rest = rising-from n (m + 1) xs (omega (arith, low, high)) (λ a b d lt inside. rise (suc a) (suc b) d (omega arith) (omega arith)) (λ y among. (above y among low, (within y (Contains-tail x xs y among)).1)) in
+      let rest = rising-from n (m + 1) xs (omega (arith, low, high)) (λ a b d lt inside. rise (suc a) (suc b) d (omega arith) (omega arith))
+      (λ y among. (above y among low, (within y (Contains-tail x xs y among)).1)) in
       omega (arith, rest)
     where
       above : (y : X) → Contains xs y → m ≤ w x → m + 1 ≤ w y
@@ -53,10 +59,12 @@ module _ {X : Type 0} (w : X → ℕ) where
   rising-few n xs rise below = let all = rising-from n 0 xs (omega arith) rise (λ x among. (omega arith, below x among)) in omega (arith, all)
 
 pub with_key-rises : (ks : List KeyName) (k : KeyName) → IsRising ks → IsRising (with_key ks k)
-with_key-rises ks k rise = rising-middle packed (λ q. key_lt q k) (λ q. key_lt k q) ks k (λ x low. ltb-true (packed x) (packed k) low) (λ x high. ltb-true (packed k) (packed x) high) rise
+with_key-rises ks k rise = rising-middle packed (λ q. key_lt q k) (λ q. key_lt k q) ks k (λ x low. ltb-true (packed x) (packed k) low)
+    (λ x high. ltb-true (packed k) (packed x) high) rise
 
 pub with_number-rises : (vs : List ℕ) (v : ℕ) → AllPairs (λ a b. a < b) vs → AllPairs (λ a b. a < b) (with_number vs v)
-with_number-rises vs v rise = rising-middle (λ (a : ℕ). a) (λ w. nat_lt w v) (λ w. nat_lt v w) vs v (λ x low. ltb-true x v low) (λ x high. ltb-true v x high) rise
+with_number-rises vs v rise = rising-middle (λ (a : ℕ). a) (λ w. nat_lt w v) (λ w. nat_lt v w) vs v (λ x low. ltb-true x v low)
+    (λ x high. ltb-true v x high) rise
 
 set-rises : (ks found : List KeyName) → IsRising found → IsRising (in_turn (λ k list. with_key list k) ks found)
 unfolding in_turn
@@ -86,12 +94,16 @@ pub keys-few : (ks : List KeyName) → IsRising ks → ((k : KeyName) → Contai
 keys-few ks rise valid = rising-few packed 9223372036854775808 ks rise (λ k among. packed-small k (valid k among))
 
 -- capabilities that are changed, each with its key, still rise; so do those that pass a test
-pub mapped-rises : (f : Capability → Capability) → ((c : Capability) → (f c).key ≡ c.key) → (cs : List Capability) → IsRising (map (λ c. c.key) cs) → IsRising (map (λ c. c.key) (map f cs))
-mapped-rises f same cs rise = AllPairs-map (λ a b. packed a < packed b) (λ (c : Capability). c.key) (map f cs) (AllPairs-map (λ (a b : Capability). packed a.key < packed b.key) f cs (λ m n d lt within.
+pub mapped-rises : (f : Capability → Capability) → ((c : Capability) → (f c).key ≡ c.key) → (cs : List Capability) → IsRising (map (λ c. c.key) cs) →
+    IsRising (map (λ c. c.key) (map f cs))
+mapped-rises f same cs rise = AllPairs-map (λ a b. packed a < packed b) (λ (c : Capability). c.key) (map f cs)
+    (AllPairs-map (λ (a b : Capability). packed a.key < packed b.key) f cs (λ m n d lt within.
     let one = ap packed (same (get_or cs m d)) in
     let two = ap packed (same (get_or cs n d)) in
     let below = AllPairs-from_map (λ a b. packed a < packed b) (λ (c : Capability). c.key) cs rise m n d lt within in
     omega (arith, one, two, below)))
 
 pub filtered-rises : (p : Capability → Bool) (cs : List Capability) → IsRising (map (λ c. c.key) cs) → IsRising (map (λ c. c.key) (filter p cs))
-filtered-rises p cs rise = AllPairs-map (λ a b. packed a < packed b) (λ (c : Capability). c.key) (filter p cs) (AllPairs-filter (λ (a b : Capability). packed a.key < packed b.key) p cs (AllPairs-from_map (λ a b. packed a < packed b) (λ (c : Capability). c.key) cs rise))
+filtered-rises p cs rise = AllPairs-map (λ a b. packed a < packed b) (λ (c : Capability). c.key) (filter p cs)
+    (AllPairs-filter (λ (a b : Capability). packed a.key < packed b.key) p cs
+    (AllPairs-from_map (λ a b. packed a < packed b) (λ (c : Capability). c.key) cs rise))

@@ -1,5 +1,6 @@
 -- After every schedule each side is sound, and what is in the links fits.
-use Rattle.std.proofs.Common.{◌+◌, ◌≤◌, ◌∙◌, length, map, ◌≡◌, ℕ, zero, suc, ◌<◌, true, List, [], ◌∷◌, ◌++◌, replicate, drop, get_or, Option, Some, None, slice_get, refl, sym, ap, subst, inl, inr, arith}
+use Rattle.std.proofs.Common.{◌+◌, ◌≤◌, ◌∙◌, length, map, ◌≡◌, ℕ, zero, suc, ◌<◌, true, List, [], ◌∷◌, ◌++◌, replicate, drop, get_or, Option, Some, None}
+use Rattle.std.proofs.Common.{slice_get, refl, sym, ap, subst, inl, inr, arith}
 use Rattle.std.specs.Prelude.{nat_lt}
 use Rattle.std.specs.List.{Contains}
 use Rattle.std.specs.Option.{option_map_or}
@@ -16,7 +17,8 @@ use Rattle.sem_msg.specs.declared.message.Message.{Message}
 use Rattle.sem_msg.specs.Message.{Fits}
 use Rattle.sem_msg.specs.Setup.{Setup, IsSetup}
 use Rattle.sem_machine.specs.Sides.{Side, no_side, outbox}
-use Rattle.sem_machine.specs.Machine.{World, side, link, with_side, with_link, start, start_side, local_step, link_moved, input_of, after, is_enabled, is_locally_enabled, is_allowed, empty_side, vpe_added, vpe_fresh, root_added}
+use Rattle.sem_machine.specs.Machine.{World, side, link, with_side, with_link, start, start_side, local_step, link_moved, input_of, after, is_enabled}
+use Rattle.sem_machine.specs.Machine.{is_locally_enabled, is_allowed, empty_side, vpe_added, vpe_fresh, root_added}
 use Rattle.sem_machine.specs.Schedules.{IsRun, IsSchedule, run, world_after}
 use Rattle.sem_key.proofs.Puts.{get_or-put_same, get_or-put_other}
 use Rattle.sem_key.proofs.Members.{Contains-nil, Contains-head, Contains-tail, Contains-from_map}
@@ -77,25 +79,33 @@ module _ (T : Setup) (valid : IsSetup T) where
   moved-replies i s (Kill v) V = refl
 
   -- a link with other messages
-  link-put : (V : World) (i j : ℕ) (ms : List Message) → IsSoundLink ms → ((a b : ℕ) → IsSoundLink (link V a b)) → (a b : ℕ) → IsSoundLink (link (with_link i j ms V) a b)
+  link-put : (V : World) (i j : ℕ) (ms : List Message) → IsSoundLink ms → ((a b : ℕ) → IsSoundLink (link V a b)) → (a b : ℕ) →
+      IsSoundLink (link (with_link i j ms V) a b)
   link-put V i j ms new old a b = elim (cases_eq a i) [
     | inl same ↦
         let row : List (List Message) = put [] (get_or V.links i []) j ms in
-        let inner : link (with_link i j ms V) a b ≡ get_or row b [] = ap (λ k. link (with_link i j ms V) k b) same ∙ ap (λ (ls : List (List Message)). get_or ls b []) (get_or-put_same [] V.links i row) in
+        let inner : link (with_link i j ms V) a b ≡ get_or row b [] = ap (λ k. link (with_link i j ms V) k b) same
+        ∙ ap (λ (ls : List (List Message)). get_or ls b []) (get_or-put_same [] V.links i row) in
         subst IsSoundLink (sym inner) (elim (cases_eq b j) [
           | inl at ↦ subst (λ k. IsSoundLink (get_or row k [])) (sym at) (subst IsSoundLink (sym (get_or-put_same [] (get_or V.links i []) j ms)) new)
           | inr other ↦ subst IsSoundLink (sym (get_or-put_other [] (get_or V.links i []) j b ms other)) (old i b)
         ])
-    | inr other ↦ subst (λ (ls : List (List Message)). IsSoundLink (get_or ls b [])) (sym (get_or-put_other [] V.links i a (put [] (get_or V.links i []) j ms) other)) (old a b)
+    | inr other ↦ subst (λ (ls : List (List Message)). IsSoundLink (get_or ls b []))
+        (sym (get_or-put_other [] V.links i a (put [] (get_or V.links i []) j ms) other)) (old a b)
   ]
 
   module _ (W : World) (is : IsSoundWorld T W) where
     each-link : (a b : ℕ) → IsSoundLink (link W a b)
     each-link a b = (is.links a b, is.windows a b)
 
-    moved-links : (i : ℕ) → i < T.kernels → (x : Side) (act : Act) → is_allowed T W i act ≡ true → (a b : ℕ) → IsSoundLink (link (link_moved i (side W i) act (with_side i x W)) a b)
+    moved-links : (i : ℕ) → i < T.kernels → (x : Side) (act : Act) → is_allowed T W i act ≡ true → (a b : ℕ) →
+        IsSoundLink (link (link_moved i (side W i) act (with_side i x W)) a b)
     moved-links i few x (Calls v) allowed a b = each-link a b
-    moved-links i few x (Fetch j) allowed a b = link-put (with_side i x W) j i (drop 1 (link W j i)) ((λ q later. is.links j i q (later-among (link W j i) q later)), (let less = shorter (link W j i) in let before = is.windows j i in omega (arith, less, before))) each-link a b
+    moved-links i few x (Fetch j) allowed a b =
+        link-put (with_side i x W) j i (drop 1 (link W j i)) (
+          (λ q later. is.links j i q (later-among (link W j i) q later)),
+          (let less = shorter (link W j i) in let before = is.windows j i in omega (arith, less, before)),
+        ) each-link a b
       where
         shorter : (ms : List Message) → length (drop 1 ms) ≤ length ms
         shorter [] = omega arith
@@ -106,10 +116,14 @@ module _ (T : Setup) (valid : IsSetup T) where
     moved-links i few x (Kill v) allowed a b = each-link a b
     moved-links i few x (Flush j) allowed a b = from (slice_get (outbox (side W i) j) 0) refl
       where
-        from : (o : Option Message) → slice_get (outbox (side W i) j) 0 ≡ o → IsSoundLink (link (option_map_or (λ q. with_link i j (link (with_side i x W) i j ++ q ∷ []) (with_side i x W)) o (with_side i x W)) a b)
+        from : (o : Option Message) → slice_get (outbox (side W i) j) 0 ≡ o →
+            IsSoundLink (link (option_map_or (λ q. with_link i j (link (with_side i x W) i j ++ q ∷ []) (with_side i x W)) o (with_side i x W)) a b)
         from None at = each-link a b
         from (Some q) at = link-put (with_side i x W) i j (link W i j ++ q ∷ []) (
-          (λ y in_link. elim (Contains-push_cases (link W i j) q y in_link) [ inl before ↦ is.links i j y before | inr same ↦ subst Fits same ((is.sides i few).outs j q (front-among (outbox (side W i) j) q at)).0 ]),
+          (λ y in_link. elim (Contains-push_cases (link W i j) q y in_link) [
+            | inl before ↦ is.links i j y before
+            | inr same ↦ subst Fits same ((is.sides i few).outs j q (front-among (outbox (side W i) j) q at)).0
+          ]),
           (let room = ltb-true (length (link W i j)) T.window allowed in let long = length_push (link W i j) q in omega (arith, room, long)),
         )
             each-link a b
@@ -127,7 +141,8 @@ module _ (T : Setup) (valid : IsSetup T) where
     fetched-fits i (Flush j) = tt
     fetched-fits i (Kill v) = tt
 
-    pub after-sound : (e : Event) → is_enabled T W e ≡ true → IsSoundWorld T (after T W e) × ((after T W e).replies + all_parked_calls (after T W e) ≤ W.replies + all_parked_calls W + bit (is_call e.act))
+    pub after-sound : (e : Event) → is_enabled T W e ≡ true →
+        IsSoundWorld T (after T W e) × ((after T W e).replies + all_parked_calls (after T W e) ≤ W.replies + all_parked_calls W + bit (is_call e.act))
     unfolding after is_enabled
     after-sound e enabled =
         let i : ℕ = e.kernel in
@@ -148,11 +163,13 @@ module _ (T : Setup) (valid : IsSetup T) where
         let told = counted z.outcome.reply V.replies in (
           record {
             sides = λ j kernel. subst (λ (ss : List Side). IsSound T j (get_or ss j no_side)) (sym same) (elim (cases_eq j i) [
-              | inl at ↦ subst (λ k. IsSound T k (get_or (put no_side W.sides i x) k no_side)) (sym at) (subst (IsSound T i) (sym (get_or-put_same no_side W.sides i x)) steps)
+              | inl at ↦ subst (λ k. IsSound T k (get_or (put no_side W.sides i x) k no_side)) (sym at)
+                  (subst (IsSound T i) (sym (get_or-put_same no_side W.sides i x)) steps)
               | inr other ↦ subst (IsSound T j) (sym (get_or-put_other no_side W.sides i j x other)) (is.sides j kernel)
             ]);
             counts = λ j kernel. subst (λ (ss : List Side). CountsFit (get_or ss j no_side)) (sym same) (elim (cases_eq j i) [
-              | inl at ↦ subst (λ k. CountsFit (get_or (put no_side W.sides i x) k no_side)) (sym at) (subst CountsFit (sym (get_or-put_same no_side W.sides i x)) fits)
+              | inl at ↦ subst (λ k. CountsFit (get_or (put no_side W.sides i x) k no_side)) (sym at)
+                  (subst CountsFit (sym (get_or-put_same no_side W.sides i x)) fits)
               | inr other ↦ subst CountsFit (sym (get_or-put_other no_side W.sides i j x other)) (is.counts j kernel)
             ]);
             links = λ a b. (moved-links i few x e.act here.1 a b).0;
@@ -178,13 +195,15 @@ module _ (T : Setup) (valid : IsSetup T) where
   -- at the start no job is open
   start-jobs : (i : ℕ) → (start_side T i).jobs ≡ []
   unfolding start_side
-  start-jobs i = in_turn-keeps (λ s. s.jobs ≡ []) vpe_added (λ d s here. in_turn-keeps (λ t. t.jobs ≡ []) (root_added d) (λ r t same. same) d.roots (vpe_fresh d s) here) (own_vpes T i) (empty_side T) refl
+  start-jobs i = in_turn-keeps (λ s. s.jobs ≡ []) vpe_added (λ d s here. in_turn-keeps (λ t. t.jobs ≡ []) (root_added d) (λ r t same. same) d.roots
+      (vpe_fresh d s) here) (own_vpes T i) (empty_side T) refl
 
   start-world : IsSoundWorld T (start T)
   unfolding start
   start-world = record {
     sides = λ i few. subst (IsSound T i) (sym (get_or-map-range_with_len (start_side T) 0 T.kernels i i no_side few (omega arith))) (start-sound T valid i few);
-    counts = λ i few. subst CountsFit (sym (get_or-map-range_with_len (start_side T) 0 T.kernels i i no_side few (omega arith))) (λ x among. absurd (Contains-nil x (subst (λ xs. Contains xs x) (start-jobs i) among)));
+    counts = λ i few. subst CountsFit (sym (get_or-map-range_with_len (start_side T) 0 T.kernels i i no_side few (omega arith)))
+        (λ x among. absurd (Contains-nil x (subst (λ xs. Contains xs x) (start-jobs i) among)));
     links = λ a b m among. absurd (no-links T.kernels a b m among);
     windows = λ a b. empty (link (start T) a b) (λ m among. no-links T.kernels a b m among);
   }
@@ -197,14 +216,17 @@ module _ (T : Setup) (valid : IsSetup T) where
   start-parks : (i : ℕ) → parked_calls (start_side T i) ≡ 0
   unfolding start_side
   start-parks i =
-      let parks = in_turn-keeps (λ s. s.parks ≡ replicate VPES None) vpe_added (λ d s here. in_turn-keeps (λ t. t.parks ≡ replicate VPES None) (root_added d) (λ r t same. same) d.roots (vpe_fresh d s) here) (own_vpes T i) (empty_side T) refl in
+      let parks = in_turn-keeps (λ s. s.parks ≡ replicate VPES None) vpe_added (λ d s here. in_turn-keeps (λ t. t.parks ≡ replicate VPES None) (root_added d)
+      (λ r t same. same) d.roots (vpe_fresh d s) here) (own_vpes T i) (empty_side T) refl in
       ap (sum_by (λ (p : Option Parked). one_if p)) parks ∙ weigh-replicate (λ (p : Option Parked). one_if p) VPES None refl
 
   start-parked : all_parked_calls (start T) ≡ 0
   unfolding start
-  start-parked = weigh-none parked_calls (map (start_side T) (range_with_len 0 T.kernels)) (λ s among. let from = Contains-from_map (start_side T) (range_with_len 0 T.kernels) s among in ap parked_calls (sym from.2) ∙ start-parks from.0)
+  start-parked = weigh-none parked_calls (map (start_side T) (range_with_len 0 T.kernels)) (λ s among. let from =
+      Contains-from_map (start_side T) (range_with_len 0 T.kernels) s among in ap parked_calls (sym from.2) ∙ start-parks from.0)
 
-  run-sound : (J : List Entry) (W : World) → IsSoundWorld T W → IsRun T W J → IsSoundWorld T (run T W J) × ((run T W J).replies + all_parked_calls (run T W J) ≤ W.replies + all_parked_calls W + count_by (λ e. is_call e.event.act) J)
+  run-sound : (J : List Entry) (W : World) → IsSoundWorld T W → IsRun T W J →
+      IsSoundWorld T (run T W J) × ((run T W J).replies + all_parked_calls (run T W J) ≤ W.replies + all_parked_calls W + count_by (λ e. is_call e.event.act) J)
   unfolding IsRun
   run-sound [] W is runs = (is, omega arith)
   run-sound (e ∷ es) W is runs =

@@ -1,5 +1,6 @@
 -- The start is sound.
-use Rattle.std.proofs.Common.{◌≡◌, ◌≢◌, ℕ, zero, suc, ◌+◌, ◌<◌, ◌≤◌, ◌&&◌, true, false, List, [], ◌∷◌, length, replicate, get_or, Option, Some, None, refl, sym, ap, subst, ◌∙◌, inl, inr, arith}
+use Rattle.std.proofs.Common.{◌≡◌, ◌≢◌, ℕ, zero, suc, ◌+◌, ◌<◌, ◌≤◌, ◌&&◌, true, false, List, [], ◌∷◌, length, replicate, get_or, Option, Some, None, refl, sym}
+use Rattle.std.proofs.Common.{ap, subst, ◌∙◌, inl, inr, arith}
 use Rattle.std.specs.Prelude.{◌==◌, nat_lt}
 use Rattle.std.specs.List.{All, AllPairs, Contains, filter, sum_by}
 use Rattle.std.specs.Option.{option_map_or}
@@ -49,7 +50,13 @@ get_or-replicate (suc n) x zero = refl
 get_or-replicate (suc n) x (suc k) = get_or-replicate n x k
 
 no-row : (T : Setup) (i v : ℕ) → IsSoundRow T i v no_vpe
-no-row T i v = record { others = λ _. refl; next_number = omega arith; next_call = omega arith; asks = λ a none. absurd (Contains-nil a none); few_asks = omega arith }
+no-row T i v = record {
+  others = λ _. refl;
+  next_number = omega arith;
+  next_call = omega arith;
+  asks = λ a none. absurd (Contains-nil a none);
+  few_asks = omega arith;
+}
 
 root-object : (T : Setup) (o : Object) → IsRootObject o → IsValidObject o → IsSoundObject T o
 root-object T (Mem base len rights) root ranges = (ranges, tt)
@@ -129,7 +136,13 @@ module _ (T : Setup) (valid : IsSetup T) (i : ℕ) (few : i < T.kernels) where
       caps = is.caps;
       caps_rise = is.caps_rise;
       calls = is.calls;
-      rows = by_row T valid i few s v new_vpe (λ w x. IsSoundRow T i w x) (record { others = λ remote. absurd (remote local); next_number = omega arith; next_call = omega arith; asks = λ a none. absurd (Contains-nil a none); few_asks = omega arith }) (λ w other. is.rows w);
+      rows = by_row T valid i few s v new_vpe (λ w x. IsSoundRow T i w x) (record {
+        others = λ remote. absurd (remote local);
+        next_number = omega arith;
+        next_call = omega arith;
+        asks = λ a none. absurd (Contains-nil a none);
+        few_asks = omega arith;
+      }) (λ w other. is.rows w);
       pendings = is.pendings;
       ups = is.ups;
       waiters_rise = is.waiters_rise;
@@ -142,23 +155,28 @@ module _ (T : Setup) (valid : IsSetup T) (i : ℕ) (few : i < T.kernels) where
       park_places = is.park_places;
       boxes = is.boxes;
       endpoints = λ w ep e at. elim (cases_eq w v) [
-        | inl same ↦ absurd (unbound e (sym (get_or-replicate ENDPOINTS None ep) ∙ (sym (ap (λ es. get_or es ep None) (ap (λ u. get_or (put [] s.endpoints v no_endpoint_bound) u []) same ∙ get_or-put_same [] s.endpoints v no_endpoint_bound)) ∙ at)))
+        | inl same ↦ absurd (unbound e (sym (get_or-replicate ENDPOINTS None ep)
+            ∙ (sym (ap (λ es. get_or es ep None) (ap (λ u. get_or (put [] s.endpoints v no_endpoint_bound) u []) same
+            ∙ get_or-put_same [] s.endpoints v no_endpoint_bound)) ∙ at)))
         | inr other ↦ is.endpoints w ep e (sym (ap (λ es. get_or es ep None) (get_or-put_other [] s.endpoints v w no_endpoint_bound other)) ∙ at)
       ];
       numbers = by_row T valid i few s v new_vpe (λ w x. (m : ℕ) → keeps_number m (kept (parked s w)) + (ps w m + cs w m) + 0 ≤ bit (nat_lt m x.next_number))
           (λ m. let before = is.numbers v m in let next = ap (λ (r : VpeRow). bit (nat_lt m r.next_number)) absent in omega (arith, before, next))
           (λ w other m. is.numbers w m);
-      promises = by_row T valid i few s v new_vpe (λ w x. (sel : ℕ) → keeps_selector sel (kept (parked s w)) + qs w sel + 0 ≤ is_promised (get_or x.slots sel Free))
+      promises = by_row T valid i few s v new_vpe (λ w x. (sel : ℕ) →
+          keeps_selector sel (kept (parked s w)) + qs w sel + 0 ≤ is_promised (get_or x.slots sel Free))
           (λ sel. let before = is.promises v sel in let was = ap is_promised (no-slot sel) in omega (arith, before, was))
           (λ w other sel. is.promises w sel);
-      no_other_promise = by_row T valid i few s v new_vpe (λ w x. (sel : ℕ) → x.alive ≡ true → is_promised (get_or x.slots sel Free) ≤ keeps_selector sel (kept (parked s w)) + qs w sel + 0)
+      no_other_promise = by_row T valid i few s v new_vpe (λ w x. (sel : ℕ) → x.alive ≡ true →
+          is_promised (get_or x.slots sel Free) ≤ keeps_selector sel (kept (parked s w)) + qs w sel + 0)
           (λ sel lives. let now : is_promised (get_or new_vpe.slots sel Free) ≡ 0 = ap is_promised (new-slot sel) in omega (arith, now))
           (λ w other sel lives. is.no_other_promise w sel lives);
       at_selector = λ c among. by_row T valid i few s v new_vpe (λ w x. c.key.vpe ≡ w → get_or x.slots c.selector Free ≡ Held c.key)
           (λ here. absurd (unheld c.key (sym (no-slot c.selector) ∙ subst (λ w. slot s w c.selector ≡ Held c.key) here (is.at_selector c among))))
           (λ w other here. subst (λ w. slot s w c.selector ≡ Held c.key) here (is.at_selector c among))
           c.key.vpe refl;
-      held = λ w sel k at. by_row T valid i few s v new_vpe (λ w x. get_or x.slots sel Free ≡ Held k → (k.vpe ≡ w) × ((c : Capability) × Contains s.caps c × (c.key ≡ k) × (c.selector ≡ sel)))
+      held = λ w sel k at. by_row T valid i few s v new_vpe (λ w x. get_or x.slots sel Free ≡ Held k →
+          (k.vpe ≡ w) × ((c : Capability) × Contains s.caps c × (c.key ≡ k) × (c.selector ≡ sel)))
           (λ at. absurd (unheld k (sym (new-slot sel) ∙ at)))
           (λ w other at. is.held w sel k at)
           w at;
@@ -188,7 +206,8 @@ module _ (T : Setup) (valid : IsSetup T) (i : ℕ) (few : i < T.kernels) where
     local-decl : kernel_of T d.vpe ≡ i
     local-decl = ap (λ (o : Option VpeDecl). option_map_or (λ x. pe_owner T x.pe) o T.kernels) (find-decl T.vpes d valid.vpes_rise among) ∙ owned
 
-    root-sound : (r : Root) → IsRoot r → (s : Side) → IsSound T i s → slot s d.vpe r.sel ≡ Free → (row s d.vpe).next_number < NUMBERS → IsSound T i (root_added d r s)
+    root-sound : (r : Root) → IsRoot r → (s : Side) → IsSound T i s → slot s d.vpe r.sel ≡ Free → (row s d.vpe).next_number < NUMBERS →
+        IsSound T i (root_added d r s)
     root-sound r root s is free below =
         let v : ℕ = d.vpe in
         let n : ℕ = (row s v).next_number in
@@ -196,21 +215,36 @@ module _ (T : Setup) (valid : IsSetup T) (i : ℕ) (few : i < T.kernels) where
         let pe_small = declared.pe in
         let vpe_small = declared.vpe in
         let most = most_vpes-le T.version in
-        let key : IsLocalName T i k = (((omega (arith, pe_small, most), omega (arith, vpe_small, most), omega (arith, below)), decl-at T valid d among), owned) in
+        let key : IsLocalName T i k = (
+          ((omega (arith, pe_small, most), omega (arith, vpe_small, most), omega (arith, below)), decl-at T valid d among),
+          owned,
+        ) in
         let draws = drawn-sound T valid i few None None None s v local-decl is below in
         let object = root-object T r.object root.kind root.ranges in
-        let holds = installed-sound T valid i few None None None (drawn v s) k None r.sel r.object draws (inl (refl, drawn-slot s v r.sel ∙ free)) (record { own = key; kind = refl; object = object; selector = root.selector; parent = λ p none. absurd cc; children = λ q none. absurd (Contains-nil q none); children_rise = λ a b d lt within. absurd (omega (arith, lt, within)) }) in
+        let holds = installed-sound T valid i few None None None (drawn v s) k None r.sel r.object draws (inl (refl, drawn-slot s v r.sel ∙ free))
+        (record {
+          own = key;
+          kind = refl;
+          object = object;
+          selector = root.selector;
+          parent = λ p none. absurd cc;
+          children = λ q none. absurd (Contains-nil q none);
+          children_rise = λ a b d lt within. absurd (omega (arith, lt, within));
+        }) in
         let u : Side = cap_added (fresh k None r.sel r.object) s in
-        let swap : root_added d r s ≡ installed k None r.sel r.object (drawn v s) = sym (row-twice v (λ x. record x { slots = put Free x.slots r.sel (Held k) }) (λ x. record x { next_number = x.next_number + 1 }) u) in
+        let swap : root_added d r s ≡ installed k None r.sel r.object (drawn v s) =
+        sym (row-twice v (λ x. record x { slots = put Free x.slots r.sel (Held k) }) (λ x. record x { next_number = x.next_number + 1 }) u) in
         subst (IsSound T i) (sym swap) holds
 
     root-slot : (r : Root) (s : Side) (sel : ℕ) → (sel ≡ r.sel → ⊥) → slot (root_added d r s) d.vpe sel ≡ slot s d.vpe sel
     root-slot r s sel other =
         let v : ℕ = d.vpe in
         let k : KeyName = root_key d (row s v).next_number r in
-        ap (λ (x : VpeRow). get_or x.slots sel Free) (get_or-put_same no_vpe s.vpes v (root_held d r (row s v))) ∙ get_or-put_other Free (row s v).slots r.sel sel (Held k) other
+        ap (λ (x : VpeRow). get_or x.slots sel Free) (get_or-put_same no_vpe s.vpes v (root_held d r (row s v)))
+        ∙ get_or-put_other Free (row s v).slots r.sel sel (Held k) other
 
-    roots-sound : (rs : List Root) (s : Side) → AllPairs (λ (a b : Root). a.sel ≢ b.sel) rs → All IsRoot rs → IsSound T i s → ((r : Root) → Contains rs r → slot s d.vpe r.sel ≡ Free) → (row s d.vpe).next_number + length rs ≤ SELECTORS → IsSound T i (in_turn (root_added d) rs s)
+    roots-sound : (rs : List Root) (s : Side) → AllPairs (λ (a b : Root). a.sel ≢ b.sel) rs → All IsRoot rs → IsSound T i s →
+        ((r : Root) → Contains rs r → slot s d.vpe r.sel ≡ Free) → (row s d.vpe).next_number + length rs ≤ SELECTORS → IsSound T i (in_turn (root_added d) rs s)
     unfolding in_turn
     roots-sound [] s differ roots is free short = is
     roots-sound (r ∷ rs) s differ roots is free short =
@@ -229,15 +263,20 @@ module _ (T : Setup) (valid : IsSetup T) (i : ℕ) (few : i < T.kernels) where
         let fresh' : row t d.vpe ≡ new_vpe = get_or-put_same no_vpe s.vpes d.vpe new_vpe in
         let next : (row t d.vpe).next_number ≡ 0 = ap (λ (r : VpeRow). r.next_number) fresh' in
         let short = few-roots d.roots declared.roots declared.selectors_differ in
-        roots-sound d.roots t declared.selectors_differ declared.roots (born-sound s is d.vpe local-decl absent) (λ r in_roots. ap (λ (x : VpeRow). get_or x.slots r.sel Free) fresh' ∙ get_or-replicate SELECTORS Free r.sel) (omega (arith, next, short))
+        roots-sound d.roots t declared.selectors_differ declared.roots (born-sound s is d.vpe local-decl absent)
+        (λ r in_roots. ap (λ (x : VpeRow). get_or x.slots r.sel Free) fresh' ∙ get_or-replicate SELECTORS Free r.sel) (omega (arith, next, short))
 
   -- VPEs, one after the other.
 
   -- nothing changes of another VPE
   row-other : (d : VpeDecl) (s : Side) (w : ℕ) → (w ≡ d.vpe → ⊥) → row (vpe_added d s) w ≡ row s w
-  row-other d s w other = in_turn-keeps (λ t. row t w ≡ row s w) (root_added d) (λ r t here. get_or-put_other no_vpe t.vpes d.vpe w (root_held d r (row t d.vpe)) other ∙ here) d.roots (vpe_fresh d s) (get_or-put_other no_vpe s.vpes d.vpe w new_vpe other)
+  row-other d s w other =
+      in_turn-keeps (λ t. row t w ≡ row s w) (root_added d) (λ r t here. get_or-put_other no_vpe t.vpes d.vpe w (root_held d r (row t d.vpe)) other
+      ∙ here) d.roots (vpe_fresh d s) (get_or-put_other no_vpe s.vpes d.vpe w new_vpe other)
 
-  vpes-sound : (ds : List VpeDecl) (s : Side) → AllPairs (λ (a b : VpeDecl). a.vpe < b.vpe) ds → ((d : VpeDecl) → Contains ds d → Contains T.vpes d × (pe_owner T d.pe ≡ i)) → IsSound T i s → ((d : VpeDecl) → Contains ds d → row s d.vpe ≡ no_vpe) → IsSound T i (in_turn vpe_added ds s)
+  vpes-sound : (ds : List VpeDecl) (s : Side) → AllPairs (λ (a b : VpeDecl). a.vpe < b.vpe) ds →
+      ((d : VpeDecl) → Contains ds d → Contains T.vpes d × (pe_owner T d.pe ≡ i)) → IsSound T i s → ((d : VpeDecl) → Contains ds d → row s d.vpe ≡ no_vpe) →
+      IsSound T i (in_turn vpe_added ds s)
   unfolding in_turn
   vpes-sound [] s rise own is absent = is
   vpes-sound (d ∷ ds) s rise own is absent =

@@ -1,5 +1,6 @@
 -- Every act that is locally enabled keeps a side sound.
-use Rattle.std.proofs.Common.{◌≡◌, ◌≢◌, ℕ, ◌+◌, sym, ◌<◌, ◌≤◌, ◌&&◌, true, not, List, [], Option, Some, None, is_none, is_some, slice_get, refl, subst, arith, ◌∙◌}
+use Rattle.std.proofs.Common.{◌≡◌, ◌≢◌, ℕ, ◌+◌, sym, ◌<◌, ◌≤◌, ◌&&◌, true, not, List, [], Option, Some, None, is_none, is_some, slice_get, refl, subst, arith}
+use Rattle.std.proofs.Common.{◌∙◌}
 use Rattle.std.specs.Prelude.{◌==◌, nat_lt}
 use Rattle.std.specs.List.{Contains}
 use Rattle.std.specs.Option.{option_map, option_map_or}
@@ -75,18 +76,21 @@ module _ (T : Setup) (valid : IsSetup T) (i : ℕ) (few : i < T.kernels) where
         let three = and_parts (is_none (parked s v)) (is_some (next_call T s v)) two.1 in
         from (eqb-true (kernel_of T v) i one.0) (none-is (parked s v) three.0) (next_call T s v) refl
       where
-        from : kernel_of T v ≡ i → parked s v ≡ None → (o : Option Call) → next_call T s v ≡ o → Kept (Calls v) (option_map_or (call_row T i (call_counted v s) v) o (plain s))
+        from : kernel_of T v ≡ i → parked s v ≡ None → (o : Option Call) → next_call T s v ≡ o →
+            Kept (Calls v) (option_map_or (call_row T i (call_counted v s) v) o (plain s))
         from local idle None at = (is, omega arith, λ fit. fit)
         from local idle (Some c) at =
             let t : Side = call_counted v s in
             let counted = counted-sound T valid i few None None None None s is v local (slice_get_within (calls_of T v) (row s v).next_call c at) in
             let still : parked t v ≡ None = idle in
             let x : Step = call_row T i t v c in
-            let done = call_row-sound T valid i few t counted v local still (counted-pays T valid i few None None None None s is v local) c (call-valid v (row s v).next_call c at) in
+            let done = call_row-sound T valid i few t counted v local still (counted-pays T valid i few None None None None s is v local) c
+            (call-valid v (row s v).next_call c at) in
             let place = local-place T valid i few v local in
             let long = is.park_places in
             let here = done.1.1 in
-            let all = sums-but (λ (p : Option Parked). one_if p) None (one_if x.outcome.reply) 1 x.side.parks s.parks v (done.0.park_places ∙ sym is.park_places) (omega (arith, place, long)) done.1.0.0 (omega (arith, here)) in
+            let all = sums-but (λ (p : Option Parked). one_if p) None (one_if x.outcome.reply) 1 x.side.parks s.parks v (done.0.park_places
+            ∙ sym is.park_places) (omega (arith, place, long)) done.1.0.0 (omega (arith, here)) in
             (done.0, omega (arith, all), done.1.0.1)
 
     upcalled-sound : (v : ℕ) → kernel_of T v ≡ i → Kept (Upcall v) (upcall_row T i s v)
@@ -95,9 +99,12 @@ module _ (T : Setup) (valid : IsSetup T) (i : ℕ) (few : i < T.kernels) where
       where
         from : (o : Option Ask) → slice_get (row s v).asks 0 ≡ o → Kept (Upcall v) (option_map_or (λ a. ask_decided T i v a (ask_taken v s)) o (plain s))
         from None at = (is, omega arith, λ fit. fit)
-        from (Some a) at = decides a (decided-sound T valid i few (ask_taken v s) (taken-sound T valid i few None None None None s is v local) v local a ((is.rows v).asks a (first-among (row s v).asks a at)))
+        from (Some a) at =
+            decides a (decided-sound T valid i few (ask_taken v s) (taken-sound T valid i few None None None None s is v local) v local a
+            ((is.rows v).asks a (first-among (row s v).asks a at)))
           where
-            decides : (a : Ask) → IsSound T i (ask_decided T i v a (ask_taken v s)).side × Unanswered (ask_taken v s) (ask_decided T i v a (ask_taken v s)) → Kept (Upcall v) (ask_decided T i v a (ask_taken v s))
+            decides : (a : Ask) → IsSound T i (ask_decided T i v a (ask_taken v s)).side × Unanswered (ask_taken v s) (ask_decided T i v a (ask_taken v s)) →
+                Kept (Upcall v) (ask_decided T i v a (ask_taken v s))
             decides a done = quiet (Upcall v) (ask_decided T i v a (ask_taken v s)) (done.0, done.1.0) done.1.1
 
     went-on : (v : ℕ) → kernel_of T v ≡ i → can_resume (parked s v) ≡ true → Kept (Resume v) (resume_row T s v)
@@ -110,7 +117,8 @@ module _ (T : Setup) (valid : IsSetup T) (i : ℕ) (few : i < T.kernels) where
         let was = can-one (parked s v) can in
         let place = local-place T valid i few v local in
         let long = is.park_places in
-        let all = sums-but (λ (p : Option Parked). one_if p) None 1 0 x.side.parks s.parks v (done.0.park_places ∙ sym is.park_places) (omega (arith, place, long)) unparks.0.0 (omega (arith, none, was)) in
+        let all = sums-but (λ (p : Option Parked). one_if p) None 1 0 x.side.parks s.parks v (done.0.park_places
+        ∙ sym is.park_places) (omega (arith, place, long)) unparks.0.0 (omega (arith, none, was)) in
         let most = reply-most x.outcome.reply in
         (done.0, omega (arith, all, most), unparks.0.1)
       where
@@ -122,14 +130,20 @@ module _ (T : Setup) (valid : IsSetup T) (i : ℕ) (few : i < T.kernels) where
         reply-most None = omega arith
         reply-most (Some n) = omega arith
 
-    pub step-sound : (act : Act) → is_locally_enabled T i s act ≡ true → (input : Option Message) → IsSoundInput act input → Kept act (local_step T i s act input)
+    pub step-sound : (act : Act) → is_locally_enabled T i s act ≡ true → (input : Option Message) → IsSoundInput act input →
+        Kept act (local_step T i s act input)
     unfolding local_step is_locally_enabled
     step-sound (Calls v) enabled input fits = called-sound v input enabled
     step-sound (Fetch from) enabled input fits =
-        let other = and_parts (nat_lt from T.kernels) (not (from == i)) (and_parts (is_other_kernel T i from) (is_none s.inbox) enabled).0 in
-        (inbox-sound T valid i few None None None None s is (option_map {U = ℕ × Message} (λ m. (from, m)) input) (fetched input fits (ltb-true from T.kernels other.0) (eqb-false from i (not-true (from == i) other.1))), omega arith, λ fit. fit)
+        let other = and_parts (nat_lt from T.kernels) (not (from == i)) (and_parts (is_other_kernel T i from) (is_none s.inbox) enabled).0 in (
+          inbox-sound T valid i few None None None None s is (option_map {U = ℕ × Message} (λ m. (from, m)) input)
+              (fetched input fits (ltb-true from T.kernels other.0) (eqb-false from i (not-true (from == i) other.1))),
+          omega arith,
+          λ fit. fit,
+        )
       where
-        fetched : (o : Option Message) → IsSoundInput (Fetch from) o → from < T.kernels → from ≢ i → (k : ℕ) (m : Message) → option_map {U = ℕ × Message} (λ x. (from, x)) o ≡ Some (k, m) → IsSoundMessage T i k m
+        fetched : (o : Option Message) → IsSoundInput (Fetch from) o → from < T.kernels → from ≢ i → (k : ℕ) (m : Message) →
+            option_map {U = ℕ × Message} (λ x. (from, x)) o ≡ Some (k, m) → IsSoundMessage T i k m
         fetched None fits' kernel other k m none = absurd cc
         fetched (Some x) fits' kernel other k m some =
             let parts = some_pair_parts from k x m some in
@@ -138,8 +152,12 @@ module _ (T : Setup) (valid : IsSetup T) (i : ℕ) (few : i < T.kernels) where
       where
         from : (o : Option (ℕ × Message)) → s.inbox ≡ o → Kept Handle (plain (option_map_or (λ m. handled T i (with_inbox None s) m.0 m.1) o s))
         from None at = (is, omega arith, λ fit. fit)
-        from (Some (k, m)) at = quiet Handle (plain (handled T i (with_inbox None s) k m)) (handled-sound T valid i few (with_inbox None s) (inbox-sound T valid i few None None None None s is None (λ q x none. absurd cc)) k m (is.inbox k m at)) refl
-    step-sound (Upcall v) enabled input fits = upcalled-sound v (eqb-true (kernel_of T v) i (and_parts (kernel_of T v == i) (is_alive s v && is_some (slice_get (row s v).asks 0)) enabled).0)
+        from (Some (k, m)) at =
+            quiet Handle (plain (handled T i (with_inbox None s) k m))
+            (handled-sound T valid i few (with_inbox None s) (inbox-sound T valid i few None None None None s is None (λ q x none. absurd cc)) k m
+            (is.inbox k m at)) refl
+    step-sound (Upcall v) enabled input fits =
+        upcalled-sound v (eqb-true (kernel_of T v) i (and_parts (kernel_of T v == i) (is_alive s v && is_some (slice_get (row s v).asks 0)) enabled).0)
     step-sound (Resume v) enabled input fits =
         let both = and_parts (kernel_of T v == i) (can_resume (parked s v)) enabled in
         went-on v (eqb-true (kernel_of T v) i both.0) both.1

@@ -1,17 +1,11 @@
--- What is so of the messages that a kernel fetches, and of all kernels together ("Sound stores" in docs/proof.md).
+-- What holds of the messages that a kernel fetches, and of all kernels together ("Sound stores" in
+-- docs/proof.md).
 use Rattle.std.specs.Prelude.{ℕ, ◌<◌, ◌≤◌, length, sum_by, Contains, Option, Some, None}
-use Rattle.sem_msg.specs.declared.state.Parked.{Parked}
-use Rattle.sem_msg.specs.declared.message.Message.{Message}
-use Rattle.sem_msg.specs.declared.event.Act.{Act}
-use Rattle.sem_msg.specs.declared.event.Act.TheVariants.{Fetch}
-use Rattle.sem_msg.specs.Rows.{JobRow}
+use Rattle.sem_machine.specs.Prelude.{Parked, Message, Act, Fetch, JobRow, Setup, World, side, link, Side, IsSound}
 use Rattle.sem_msg.specs.Message.{Fits}
-use Rattle.sem_msg.specs.Setup.{Setup}
-use Rattle.sem_machine.specs.Machine.{World, side, link}
-use Rattle.sem_machine.specs.Sides.{Side}
-use Rattle.sem_machine.specs.Sound.{one_if, IsSound}
+use Rattle.sem_machine.specs.Sound.{one_if}
 
--- what a fetch takes out of a link fits
+-- the message that a fetch takes out of a link fits
 abbrev pub IsSoundInput : Act → Option Message → Type 0
 IsSoundInput (Fetch from) None = Unit {0}
 IsSoundInput (Fetch from) (Some m) = Fits m
@@ -21,7 +15,8 @@ IsSoundInput act input = Unit {0}
 abbrev pub CountsFit : Side → Type 0
 CountsFit s = (x : JobRow) → Contains s.jobs x → x.count ≤ 9223372036854775808
 
--- the sides of all kernels are sound, and counts fit; what is in the links fits, and is no more than the window of the setup
+-- the sides of all kernels are sound, and their counts fit; the messages in each link fit, and are
+-- no more than the window of the setup
 pub record IsSoundWorld (T : Setup) (W : World) : Type 0 where
   pub sides : (i : ℕ) → i < T.kernels → IsSound T i (side W i)
   pub counts : (i : ℕ) → i < T.kernels → CountsFit (side W i)

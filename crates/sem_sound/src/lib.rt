@@ -1,5 +1,5 @@
-//! What a kernel keeps of its side is always sound: at the start, and after every act that is locally enabled, whatever fitting messages
-//! it fetches. So every call of the stores meets what the store asks for.
+//! A kernel's side is always sound: at the start, and after every locally enabled act, whatever
+//! fitting messages it fetches. So every call of a store meets what the store needs.
 #![tactic(auto)]
 
 pub mod stores;

@@ -14,7 +14,7 @@ const MEMORY: Object = Object::Mem {
     rights: 3,
 };
 
-// The key of a memory of that VPE, which runs on the PE of its number.
+// The key of a memory of that VPE, which is on the PE of the same number.
 fn key(vpe: u8, number: u32) -> Key
     requires vpe_in_range { vpe < VPES }
     requires number_in_range { number ≤ 4095 }
@@ -27,7 +27,7 @@ fn key(vpe: u8, number: u32) -> Key
     }
 }
 
-// Inserts a capability that is not held.
+// Inserts a capability under a key that is not held.
 fn put(
     rt: &impl Abort,
     caps: &mut Caps,
@@ -41,7 +41,7 @@ fn put(
     Ok(())
 }
 
-// Links the child to a capability that is held.
+// Links the child to a held capability.
 fn link(rt: &impl Abort, caps: &mut Caps, parent: Key, child: Key) -> Result<(), OutOfMemory> {
     assert!(rt; caps.get(parent).is_some());
     caps.room(0, Some(parent))?;
@@ -49,7 +49,7 @@ fn link(rt: &impl Abort, caps: &mut Caps, parent: Key, child: Key) -> Result<(),
     Ok(())
 }
 
-// The children of a capability that is held.
+// The children of a held capability.
 fn children<'a>(rt: &impl Abort, caps: &'a Caps, key: Key) -> &'a [KeyWord] {
     assert!(rt; caps.get(key).is_some());
     caps.children_sorted(key)
@@ -65,11 +65,25 @@ fn is_unmarked(caps: &Caps, key: Key) -> bool
     }
 }
 
-// Removes what the job has marked.
-fn sweep(alloc: Global, caps: &mut Caps, job: u32) -> Result<Vec<(Key, u8)>, OutOfMemory> {
+// Removes what the job has marked; its root may be given.
+fn sweep(
+    alloc: Global,
+    caps: &mut Caps,
+    job: u32,
+    root: Option<Key>,
+) -> Result<Vec<(Key, u8)>, OutOfMemory> {
     let mut gone = Vec::with_capacity(alloc, caps.len())?;
-    caps.remove_marked(job, &mut gone);
+    match root {
+        Some(_) => caps.remove_marked_of(job, root, &mut gone),
+        None => caps.remove_marked(job, &mut gone),
+    }
     Ok(gone)
+}
+
+// Lets a job mark a capability that is held without a mark.
+fn mark(rt: &impl Abort, caps: &mut Caps, key: Key, job: u32) {
+    assert!(rt; is_unmarked(caps, key));
+    caps.mark(key, job);
 }
 
 // Four capabilities, the second below the first.
@@ -129,7 +143,7 @@ fn a_link_stands_once_until_it_is_taken_away(rt: HostRuntime) -> Result<(), Fail
         children(&rt, &caps, parent),
         [KeyWord::new(key(8, 1)), KeyWord::new(key(9, 1))].as_slice()
     );
-    // It stood, it is gone, and there is no such parent.
+    // In turn: it was there, it is gone, and there is no such parent.
     for (parent, child, stood) in [
         (parent, key(9, 1), true),
         (parent, key(9, 1), false),
@@ -175,8 +189,8 @@ fn a_restored_capability_has_no_mark_and_no_child(rt: HostRuntime) -> Result<(),
     Ok(())
 }
 
-// 4,096 capabilities of one VPE, inserted in falling order. One job has marked a third of them,
-// and another job another third.
+// 4,096 capabilities of one VPE, inserted in falling order. One job has marked a third of them, and
+// another job another third.
 fn three_thirds(rt: &impl Abort, alloc: Global) -> Result<Caps, OutOfMemory> {
     let mut caps = Caps::new(alloc)?;
     for number in (0..4096).rev() {
@@ -194,7 +208,7 @@ fn three_thirds(rt: &impl Abort, alloc: Global) -> Result<Caps, OutOfMemory> {
 fn what_a_job_has_marked_goes_in_key_order_and_no_other_moves(rt: HostRuntime) -> Result<(), Fail> {
     let mut caps = three_thirds(&rt, rt.alloc())?;
     let place = caps.place_of(key(5, 4095));
-    let gone = sweep(rt.alloc(), &mut caps, 1)?;
+    let gone = sweep(rt.alloc(), &mut caps, 1, None)?;
     assert_eq!(rt; (gone.len(), caps.len()), (1365, 2731));
     for (at, (gone, selector)) in gone.iter().enumerate() {
         assert_eq!(rt;
@@ -209,6 +223,28 @@ fn what_a_job_has_marked_goes_in_key_order_and_no_other_moves(rt: HostRuntime) -
 }
 
 #[test]
+fn what_a_job_alone_has_marked_goes_and_no_mark_is_mixed_up(rt: HostRuntime) -> Result<(), Fail> {
+    let alloc = rt.alloc();
+    let mut caps = four(&rt, alloc)?;
+    // The marks of these two jobs are counted together.
+    mark(&rt, &mut caps, key(1, 7), 1);
+    mark(&rt, &mut caps, key(3, 9), 257);
+    assert!(rt; sweep(alloc, &mut caps, 2, Some(key(1, 7)))?.is_empty());
+    let first = sweep(alloc, &mut caps, 1, Some(key(1, 7)))?;
+    assert_eq!(rt; first.as_slice(), [(key(1, 7), 5)].as_slice());
+    assert!(rt; sweep(alloc, &mut caps, 1, Some(key(3, 9)))?.is_empty());
+    assert_eq!(rt; caps.len(), 3);
+    // One alone is marked, and is not the root; then it is.
+    mark(&rt, &mut caps, key(2, 0), 3);
+    let second = sweep(alloc, &mut caps, 3, Some(key(1, 2)))?;
+    let third = sweep(alloc, &mut caps, 257, Some(key(3, 9)))?;
+    assert_eq!(rt; second.as_slice(), [(key(2, 0), 4)].as_slice());
+    assert_eq!(rt; third.as_slice(), [(key(3, 9), 6)].as_slice());
+    assert!(rt; caps.len() == 1 && is_unmarked(&caps, key(1, 2)));
+    Ok(())
+}
+
+#[test]
 fn after_lack_of_memory_all_is_as_before(rt: HostRuntime) -> Result<(), Fail> {
     let mut caps = Caps::new(rt.alloc())?;
     let parent = key(1, 0);
@@ -216,8 +252,8 @@ fn after_lack_of_memory_all_is_as_before(rt: HostRuntime) -> Result<(), Fail> {
     put(&rt, &mut caps, parent, None, 1)?;
     put(&rt, &mut caps, other, Some(parent), 2)?;
     link(&rt, &mut caps, parent, other)?;
-    // With `rt try --test --fail-alloc 4` there is no memory for the slab here, with 5 none for the
-    // list, and with 6 none for the children.
+    // With `rt try --test --fail-alloc 5` memory for the slab is refused here, with 6 for the list,
+    // and with 7 for the children.
     let is_refused = caps.room(100, Some(other)).is_err();
     assert_eq!(rt; caps.len(), 2, "refused: {is_refused}");
     let left = [KeyWord::new(other)];

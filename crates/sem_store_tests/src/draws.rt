@@ -1,6 +1,6 @@
 use sem_pick::Draws;
 
-// The first words of these seeds, as they are without the remainder.
+// The first words of these seeds, before any remainder is taken.
 const WORDS: [(u64, [u32; 4]); 5] = [
     (0, [0x0f5d_eba9, 0x1842_96dd, 0x3576_43f4, 0xf8e8_4c31]),
     (1, [0xc982_8f91, 0x1592_e274, 0xc026_2657, 0xa5c2_b6d3]),

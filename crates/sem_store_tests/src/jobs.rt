@@ -21,7 +21,7 @@ fn root(number: u32) -> Key
     }
 }
 
-// Opens a job for which that job and that VPE wait, if they are given.
+// Opens a job that this job and this VPE wait for, if they are given.
 fn open(
     rt: &impl Abort,
     jobs: &mut Jobs,
@@ -36,7 +36,7 @@ fn open(
     Ok(jobs.begin(root, up, waiter))
 }
 
-// One token more is out for the job, which is there.
+// One more token is out for the job, which is there.
 fn add(rt: &impl Abort, jobs: &mut Jobs, job: u32) -> Result<(), Fail> {
     let Some(open) = jobs.get(job) else {
         return Err(Fail::new("it is there"));
@@ -46,7 +46,7 @@ fn add(rt: &impl Abort, jobs: &mut Jobs, job: u32) -> Result<(), Fail> {
     Ok(())
 }
 
-// Whether the job is there, of that root, with so many tokens out, and that job waits for it.
+// Whether the job is there, has that root, has that many tokens out, and that job waits for it.
 fn is_as(jobs: &Jobs, job: u32, root: Key, count: u64, up: Option<Up>) -> bool {
     match jobs.get(job) {
         Some(open) => (open.id, open.root, open.outstanding, open.up) == (job, root, count, up),
@@ -164,7 +164,7 @@ fn four(
     Ok(jobs)
 }
 
-// How many of the jobs are finished with the first, in the order of their numbers.
+// How many of the jobs finish with the first, in the order of their numbers.
 fn finished(rt: &impl Abort, alloc: Global, jobs: &mut Jobs) -> Result<usize, Fail> {
     let mut gone = Vec::with_capacity(alloc, jobs.len())?;
     let Some(first) = jobs.get(0) else {
@@ -185,7 +185,7 @@ fn a_chain_is_finished_up_to_a_job_that_waits_for_more(rt: HostRuntime) -> Resul
     let three = Some(Up::Local { job: 3 });
     let itself = Some(Up::Local { job: 0 });
     let none = Some(Up::Local { job: 7 });
-    // How many jobs are finished, and how many are left.
+    // How many jobs finish, and how many are left.
     for (ups, tokens, ended) in [
         ([one, two, three, None], [0, 1, 1, 1], (4, 0)),
         ([one, two, three, none], [0, 1, 1, 1], (4, 0)),
@@ -222,7 +222,7 @@ fn after_lack_of_memory_the_jobs_are_as_before(rt: HostRuntime) -> Result<(), Fa
     let mut jobs = Jobs::new(rt.alloc())?;
     open(&rt, &mut jobs, root(1), None, Some(5))?;
     assert!(rt; jobs.room(usize::MAX).is_err());
-    // With `rt try --test --fail-alloc 3` and `4` there is no memory here either.
+    // With `rt try --test --fail-alloc 3` and `4` memory is refused here too.
     let is_refused = jobs.room(100).is_err();
     assert_eq!(rt; jobs.len(), 1, "refused: {is_refused}");
     assert!(rt; is_as(&jobs, 0, root(1), 0, None));
@@ -237,7 +237,8 @@ fn after_lack_of_memory_the_working_space_is_as_before(rt: HostRuntime) -> Resul
     scratch.links.push_reserved(root(3));
     scratch.gone.push_reserved((root(2), 9));
     for (keys, jobs) in [(usize::MAX, 1), (1, usize::MAX), (1000, 1000)] {
-        // With `rt try --test --fail-alloc N`, N from 5 to 8, the last of these lacks memory.
+        // With `rt try --test --fail-alloc N`, N from 5 to 8, memory is refused for the last of
+        // these.
         if scratch.room(keys, jobs).is_err() {
             assert_eq!(rt; scratch.keys.as_slice(), [root(1)].as_slice());
             assert_eq!(rt; scratch.links.as_slice(), [root(3)].as_slice());

@@ -91,7 +91,7 @@ fn memory(base: u32, len: u32) -> Object {
     }
 }
 
-// A gate to the receive gate of VPE 1.
+// A send gate to the receive gate of VPE 1.
 fn gate(credits: u8) -> Object {
     Object::Send {
         gate: key(1, 1, Kind::Recv, 0),

@@ -1,4 +1,4 @@
-//! Tests of keys, of what a kernel stores, and of what a seed draws; nothing that runs.
+//! Tests of keys, of what a kernel stores, and of what a seed draws. No program uses this crate.
 #![tactic(auto)]
 
 #[cfg(test)]

@@ -21,7 +21,8 @@ first-told : (h : KeyName → Holder) (k : KeyName) (ks : List KeyName) → told
 first-told h k [] e = cc
 first-told h k (q ∷ ks) e = by (key_eq q k) (find (λ (l : KeyLife). key_eq l.key k) (map (λ (x : KeyName). life_of_root x (h x)) ks)) (first-told h k ks) e
   where
-    by : (b : Bool) (rest : Option KeyLife) → (option_map_or (told 0) rest No ≡ Way → ⊥) → option_map_or (told 0) (if b then Some (life_of_root q (h q)) else rest) No ≡ Way → ⊥
+    by : (b : Bool) (rest : Option KeyLife) → (option_map_or (told 0) rest No ≡ Way → ⊥) →
+        option_map_or (told 0) (if b then Some (life_of_root q (h q)) else rest) No ≡ Way → ⊥
     by true rest others is = cc
     by false rest others is = others is
 
@@ -30,12 +31,17 @@ not-coming true apart = absurd (apart refl)
 not-coming false apart = refl
 
 -- so its kernel tells all at the start
-pub stage-first : (T : Setup) (k : KeyName) → lives T [] ≡ map (λ (q : KeyName). life_of_root q (whereabouts T (start T) q)) (key_set (root_keys T)) → told_of (lives T []) k 0 ≡ whereabouts T (start T) k → seen_by k (side (start T) (owner_of T k)) ≡ stage_in T (start T) k
+pub stage-first : (T : Setup) (k : KeyName) → lives T [] ≡ map (λ (q : KeyName). life_of_root q (whereabouts T (start T) q)) (key_set (root_keys T)) →
+    told_of (lives T []) k 0 ≡ whereabouts T (start T) k → seen_by k (side (start T) (owner_of T k)) ≡ stage_in T (start T) k
 stage-first T k first tells = by (cap (side (start T) (owner_of T k)) k) refl
   where
     here : whereabouts T (start T) k ≡ Way → ⊥
-    here way = first-told (λ (q : KeyName). whereabouts T (start T) q) k (key_set (root_keys T)) (ap (λ (ls : List KeyLife). told_of ls k 0) (sym first) ∙ (tells ∙ way))
+    here way = first-told (λ (q : KeyName). whereabouts T (start T) q) k (key_set (root_keys T)) (ap (λ (ls : List KeyLife). told_of ls k 0) (sym first)
+        ∙ (tells ∙ way))
 
-    by : (o : Option Capability) → cap (side (start T) (owner_of T k)) k ≡ o → stage_of o (is_ready k (side (start T) (owner_of T k))) false ≡ stage_of o (is_ready k (side (start T) (owner_of T k))) (is_coming k (start T))
+    by : (o : Option Capability) → cap (side (start T) (owner_of T k)) k ≡ o →
+        stage_of o (is_ready k (side (start T) (owner_of T k))) false ≡ stage_of o (is_ready k (side (start T) (owner_of T k))) (is_coming k (start T))
     by (Some c) is = refl
-    by None is = ap (stage_of None (is_ready k (side (start T) (owner_of T k)))) (sym (not-coming (is_coming k (start T)) (λ way. here (ap (λ (o : Option Capability). option_map_or held_as o (unheld (is_coming k (start T)))) is ∙ way))))
+    by None is = ap (stage_of None (is_ready k (side (start T) (owner_of T k))))
+        (sym (not-coming (is_coming k (start T)) (λ way. here (ap (λ (o : Option Capability). option_map_or held_as o (unheld (is_coming k (start T)))) is
+        ∙ way))))

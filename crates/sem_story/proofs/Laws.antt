@@ -1,5 +1,6 @@
 -- The laws of where a key is, as what is known of an entry.
-use Rattle.std.proofs.Common.{◌≡◌, ◌⊎◌, ℕ, zero, suc, Bool, true, false, List, [], ◌∷◌, ◌++◌, Option, Some, None, IsSome, refl, sym, ap, ◌∙◌, subst, inl, inr, get_or, eq-eqb}
+use Rattle.std.proofs.Common.{◌≡◌, ◌⊎◌, ℕ, zero, suc, Bool, true, false, List, [], ◌∷◌, ◌++◌, Option, Some, None, IsSome, refl, sym, ap, ◌∙◌, subst, inl, inr}
+use Rattle.std.proofs.Common.{get_or, eq-eqb}
 use Rattle.std.specs.Prelude.{◌==◌, ◌&&◌, ◌||◌}
 use Rattle.std.specs.List.{list_any}
 use Rattle.std.specs.Option.{option_map_or}
@@ -8,7 +9,8 @@ use Rattle.sem_key.specs.KeyName.{KeyName, key_eq}
 use Rattle.sem_key.specs.Capability.{Capability}
 use Rattle.sem_key.proofs.KeyTests.{key_eq-same, key_eq-true}
 use Rattle.sem_msg.specs.declared.message.Message.{Message}
-use Rattle.sem_msg.specs.declared.message.Message.TheVariants.{ObtainReq, ObtainOk, ObtainNo, DelegateReq, DelegatePrepared, DelegateNo, Ack, Orphan, RevokeReq, RevokeDone, Unlink}
+use Rattle.sem_msg.specs.declared.message.Message.TheVariants.{ObtainReq, ObtainOk, ObtainNo, DelegateReq, DelegatePrepared, DelegateNo, Ack, Orphan, RevokeReq}
+use Rattle.sem_msg.specs.declared.message.Message.TheVariants.{RevokeDone, Unlink}
 use Rattle.sem_msg.specs.declared.event.Act.{Act}
 use Rattle.sem_msg.specs.declared.event.Act.TheVariants.{Call as Calls, Fetch, Handle, Upcall, Resume, Flush, Kill}
 use Rattle.sem_msg.specs.declared.entry.Detail.{Detail}
@@ -24,7 +26,8 @@ use Rattle.sem_machine.specs.Journals.{ends}
 use Rattle.sem_query.specs.declared.holder.Holder.{Holder}
 use Rattle.sem_query.specs.declared.holder.Holder.TheVariants.{No}
 use Rattle.sem_query.specs.Whereabouts.{is_coming_to, is_coming, held_as, unheld, whereabouts_after, Passes}
-use Rattle.sem_query.specs.Whereabouts.Passes.{born_on_its_way, born_held, stays_nowhere, stays_on_its_way, arrives, is_lost, stays_unmarked, stays_marked, gets_marked, loses_mark, is_swept, is_removed}
+use Rattle.sem_query.specs.Whereabouts.Passes.{born_on_its_way, born_held, stays_nowhere, stays_on_its_way, arrives, is_lost, stays_unmarked, stays_marked}
+use Rattle.sem_query.specs.Whereabouts.Passes.{gets_marked, loses_mark, is_swept, is_removed}
 use Rattle.sem_query.specs.Changes.{is_revoking, grants_key, IsRootOf, IsReadyFor, MayChange, seen_at_home}
 use Rattle.sem_query.specs.Changes.IsRootOf.{of_cut, of_request, of_end}
 use Rattle.sem_query.specs.Changes.MayChange.{by_grant, by_message, by_resume, by_end, by_revoking}
@@ -126,17 +129,19 @@ module _ (T : Setup) (W : World) (e : Entry) (k : KeyName) where
   cut-root None cut is = absurd cc
 
   begins-root : begins_at k e ≡ true → IsRootOf e k
-  begins-root is = elim (or-parts (option_map_or (λ (root : KeyName). key_eq root k) e.cut false) (is_asked_by k e.event.act e.detail || ends k.vpe e.event.act e.detail) is) [
-    | inl at_cut ↦ cut-root e.cut refl at_cut
-    | inr rest ↦ elim (or-parts (is_asked_by k e.event.act e.detail) (ends k.vpe e.event.act e.detail) rest) [
-      | inl asked ↦ asked-root e.event.act e.detail refl refl asked
-      | inr ended ↦ of_end ended
-    ]
-  ]
+  begins-root is = elim (or-parts (option_map_or (λ (root : KeyName). key_eq root k) e.cut false) (is_asked_by k e.event.act e.detail
+      || ends k.vpe e.event.act e.detail) is) [
+        | inl at_cut ↦ cut-root e.cut refl at_cut
+        | inr rest ↦ elim (or-parts (is_asked_by k e.event.act e.detail) (ends k.vpe e.event.act e.detail) rest) [
+          | inl asked ↦ asked-root e.event.act e.detail refl refl asked
+          | inr ended ↦ of_end ended
+        ]
+      ]
 
   root-begins : IsRootOf e k → begins_at k e ≡ true
   root-begins (of_cut is) = or_left _ _ (ap (λ (o : Option KeyName). option_map_or (λ (root : KeyName). key_eq root k) o false) is ∙ key_eq-same k)
-  root-begins (of_request from j act told) = or_right _ _ (or_left _ _ (ap (λ (a : Act). is_asked_by k a e.detail) act ∙ (ap (is_asked_by k Handle) told ∙ key_eq-same k)))
+  root-begins (of_request from j act told) = or_right _ _ (or_left _ _ (ap (λ (a : Act). is_asked_by k a e.detail) act
+      ∙ (ap (is_asked_by k Handle) told ∙ key_eq-same k)))
   root-begins (of_end is) = or_right _ _ (or_right _ _ is)
 
   -- a call that is ready leaves only by an entry that may change where the key is
@@ -151,33 +156,45 @@ module _ (T : Setup) (W : World) (e : Entry) (k : KeyName) where
       ]
 
   -- what an entry that may change where the key is, and does not grant it, does
-  may-cause : grants_key k e ≡ false → MayChange T W e k → (is_brought_by k e.event.act e.detail ≡ true) ⊎ ((is_ready k (side W i) ≡ true) × (leaves_by T k e ≡ true)) ⊎ IsSome (cap (side W i) k)
+  may-cause : grants_key k e ≡ false → MayChange T W e k → (is_brought_by k e.event.act e.detail ≡ true)
+      ⊎ ((is_ready k (side W i) ≡ true) × (leaves_by T k e ≡ true)) ⊎ IsSome (cap (side W i) k)
   may-cause not_granted (by_grant granted) = let bad : false ≡ true = sym not_granted ∙ granted in absurd cc
-  may-cause not_granted (by_message from m act told bringing) = inl (ap (λ (a : Act). is_brought_by k a e.detail) act ∙ (ap (is_brought_by k Handle) told ∙ bringing))
+  may-cause not_granted (by_message from m act told bringing) = inl (ap (λ (a : Act). is_brought_by k a e.detail) act
+      ∙ (ap (is_brought_by k Handle) told ∙ bringing))
   may-cause not_granted (by_resume here act ready) =
       let resumed : resumes k.vpe e.event.act ≡ true = ap (resumes k.vpe) act ∙ eq-eqb k.vpe k.vpe refl in
       inr (inl (ap (λ (j : ℕ). is_ready k (side W j)) here ∙ ready, and_from _ _ (eq-eqb i e.event.kernel here) (or_left _ _ resumed)))
   may-cause not_granted (by_end here revoking root ready) =
-      inr (inl (ap (λ (j : ℕ). is_ready k (side W j)) here ∙ ready, and_from _ _ (eq-eqb i e.event.kernel here) (or_right _ _ (and_from _ _ revoking (root-begins root)))))
+      inr (inl (
+        ap (λ (j : ℕ). is_ready k (side W j)) here
+            ∙ ready,
+        and_from _ _ (eq-eqb i e.event.kernel here) (or_right _ _ (and_from _ _ revoking (root-begins root))),
+      ))
   may-cause not_granted (by_revoking here revoking held) = inr (inr (subst (λ (j : ℕ). IsSome (cap (side W j) k)) (sym here) held))
 
 -- What the laws say of the key and the entry that follows a schedule.
 pub record Laws (T : Setup) (J : List Entry) (e : Entry) (k : KeyName) : Type 0 where
   pub moves : (whereabouts_after T J k ≡ whereabouts_after T (J ++ e ∷ []) k) ⊎ MayChange T (world_after T J) e k
-  pub home : grants_key k e ≡ false → MayChange T (world_after T J) e k → whereabouts_after T (J ++ e ∷ []) k ≡ seen_at_home k (side (world_after T (J ++ e ∷ [])) (owner_of T k))
+  pub home : grants_key k e ≡ false → MayChange T (world_after T J) e k →
+      whereabouts_after T (J ++ e ∷ []) k ≡ seen_at_home k (side (world_after T (J ++ e ∷ [])) (owner_of T k))
   pub passes : Passes (grants_key k e) (whereabouts_after T J k) (whereabouts_after T (J ++ e ∷ []) k)
 
 -- so what has become of the key before it and what its kernel tells after it tell what has become of it after it
-pub stage-told : (T : Setup) (J : List Entry) (e : Entry) (k : KeyName) → Laws T J e k → stage_after T k e (stage_in T (world_after T J) k) (seen_by k (side (world_after T (J ++ e ∷ [])) (owner_of T k))) ≡ stage_in T (world_after T (J ++ e ∷ [])) k
+pub stage-told : (T : Setup) (J : List Entry) (e : Entry) (k : KeyName) → Laws T J e k →
+    stage_after T k e (stage_in T (world_after T J) k) (seen_by k (side (world_after T (J ++ e ∷ [])) (owner_of T k)))
+    ≡ stage_in T (world_after T (J ++ e ∷ [])) k
 stage-told T J e k L =
     let W : World = world_after T J in
     let V : World = world_after T (J ++ e ∷ []) in
     let i : ℕ = owner_of T k in
-    stage-next (cap (side W i) k) (cap (side V i) k) (is_ready k (side W i)) (is_ready k (side V i)) (is_coming k W) (is_coming k V) (grants_key k e) (is_brought_by k e.event.act e.detail) (leaves_by T k e) (MayChange T W e k)
+    stage-next (cap (side W i) k) (cap (side V i) k) (is_ready k (side W i)) (is_ready k (side V i)) (is_coming k W) (is_coming k V) (grants_key k e)
+    (is_brought_by k e.event.act e.detail) (leaves_by T k e) (MayChange T W e k)
     (record {
       moves = L.moves;
       home = L.home;
-      born = λ granted none. coming-of (is_coming k V) (λ no. born-somewhere (grants_key k e) (whereabouts_after T J k) (whereabouts_after T (J ++ e ∷ []) k) L.passes granted (ap (λ (o : Option Capability). option_map_or held_as o (unheld (is_coming k V))) none ∙ no));
+      born = λ granted none. coming-of (is_coming k V)
+          (λ no. born-somewhere (grants_key k e) (whereabouts_after T J k) (whereabouts_after T (J ++ e ∷ []) k) L.passes granted
+          (ap (λ (o : Option Capability). option_map_or held_as o (unheld (is_coming k V))) none ∙ no));
       waits = ready-comes k W i;
       by_message = brought-may T W e k e.event.act e.detail refl refl;
       by_call = leaves-may T W e k;

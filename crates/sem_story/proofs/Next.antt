@@ -39,7 +39,8 @@ no-some None is h = cc
 no-some (Some c) is h = cc
 
 -- of a key of which its kernel tells nothing
-unseen-next : (oW : Option Capability) (rW bW bV granted brought leaves : Bool) (May : Type 0) → Known oW None rW false bW bV granted brought leaves May → unseen_stage granted brought leaves (stage_of oW rW bW) ≡ stage_of None false bV
+unseen-next : (oW : Option Capability) (rW bW bV granted brought leaves : Bool) (May : Type 0) → Known oW None rW false bW bV granted brought leaves May →
+    unseen_stage granted brought leaves (stage_of oW rW bW) ≡ stage_of None false bV
 unseen-next oW rW bW true true brought leaves May K = refl
 unseen-next oW rW bW false true brought leaves May K = let bad : false ≡ true = K.born refl refl in absurd cc
 unseen-next (Some c) rW bW true false brought leaves May K = elim K.moves [
@@ -79,7 +80,8 @@ unseen-next None false true false false false leaves May K = elim K.moves [
 ]
 
 -- of any key
-pub stage-next : (oW oV : Option Capability) (rW rV bW bV granted brought leaves : Bool) (May : Type 0) → Known oW oV rW rV bW bV granted brought leaves May → seen_stage (unseen_stage granted brought leaves (stage_of oW rW bW)) (stage_of oV rV false) ≡ stage_of oV rV bV
+pub stage-next : (oW oV : Option Capability) (rW rV bW bV granted brought leaves : Bool) (May : Type 0) → Known oW oV rW rV bW bV granted brought leaves May →
+    seen_stage (unseen_stage granted brought leaves (stage_of oW rW bW)) (stage_of oV rV false) ≡ stage_of oV rV bV
 stage-next oW (Some c) rW rV bW bV granted brought leaves May K = refl
 stage-next oW None rW true bW bV granted brought leaves May K = refl
 stage-next oW None rW false bW bV granted brought leaves May K = unseen-next oW rW bW bV granted brought leaves May K

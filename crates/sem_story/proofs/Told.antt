@@ -25,7 +25,8 @@ abbrev then_told : ℕ → Stage → StoryRow → Stage
 then_told n stage r = if nat_lt n (entries_of r) then stage else r.stage
 
 -- the last row tells what they tell of n entries, if all tell of no more
-told-last : (n : ℕ) (stage : Stage) (rows : List StoryRow) → All (λ (r : StoryRow). entries_of r ≤ n) rows → fold (then_told n) stage rows ≡ fold (λ (s : Stage) (r : StoryRow). r.stage) stage rows
+told-last : (n : ℕ) (stage : Stage) (rows : List StoryRow) → All (λ (r : StoryRow). entries_of r ≤ n) rows →
+    fold (then_told n) stage rows ≡ fold (λ (s : Stage) (r : StoryRow). r.stage) stage rows
 told-last n stage [] within = refl
 told-last n stage (r ∷ rows) within =
     let first : entries_of r ≤ n = All-head (λ (x : StoryRow). entries_of x ≤ n) r rows within in
@@ -34,7 +35,8 @@ told-last n stage (r ∷ rows) within =
 
 -- a row of more entries tells nothing of n
 told-earlier : (n : ℕ) (rows : List StoryRow) (r : StoryRow) → n < entries_of r → stage_at n (rows ++ r ∷ []) ≡ stage_at n rows
-told-earlier n rows r more = fold-append (then_told n) Nowhere rows (r ∷ []) ∙ cond-true (nat_lt n (entries_of r)) (stage_at n rows) r.stage (lt-ltb n (entries_of r) more)
+told-earlier n rows r more = fold-append (then_told n) Nowhere rows (r ∷ [])
+    ∙ cond-true (nat_lt n (entries_of r)) (stage_at n rows) r.stage (lt-ltb n (entries_of r) more)
 
 pub last-push : (rows : List StoryRow) (r : StoryRow) → last_stage (rows ++ r ∷ []) ≡ r.stage
 last-push rows r = fold-append (λ (s : Stage) (x : StoryRow). x.stage) Nowhere rows (r ∷ [])
@@ -64,7 +66,8 @@ module _ (T : Setup) (k : KeyName) where
   }
 
   -- a row more, of the last entry
-  pub noted-more : (J : List Entry) (rows : List StoryRow) (r : StoryRow) → entries_of r ≡ length J → r.stage ≡ stage_in T (world_after T J) k → AreNoted T J k rows → AreNoted T J k (rows ++ r ∷ [])
+  pub noted-more : (J : List Entry) (rows : List StoryRow) (r : StoryRow) → entries_of r ≡ length J → r.stage ≡ stage_in T (world_after T J) k →
+      AreNoted T J k rows → AreNoted T J k (rows ++ r ∷ [])
   noted-more J rows r all is are = record {
     told = All-push (IsTold T J k) rows r are.told (told-now J r all is);
     rising = IsNonDecreasingBy-push entries_of rows r are.rising (λ d some.
@@ -81,7 +84,8 @@ module _ (T : Setup) (k : KeyName) where
     rising = are.rising;
     whole = λ n within. elim (cases_eq n (length J)) [
       | inl same ↦
-          let all : All (λ (r : StoryRow). entries_of r ≤ n) rows = All-weaker (IsTold T J k) (λ (r : StoryRow). entries_of r ≤ n) (λ r told. let in_all = told.within in omega (arith, in_all, same)) rows are.told in
+          let all : All (λ (r : StoryRow). entries_of r ≤ n) rows = All-weaker (IsTold T J k) (λ (r : StoryRow). entries_of r ≤ n) (λ r told. let in_all =
+          told.within in omega (arith, in_all, same)) rows are.told in
           told-last n Nowhere rows all ∙ (last ∙ ap (λ (K : List Entry). stage_in T (world_after T K) k) (sym (take_all n J (omega (arith, same)))))
       | inr other ↦ are.earlier n (omega (arith, other, within))
     ];
@@ -90,8 +94,10 @@ module _ (T : Setup) (k : KeyName) where
   -- then the last row tells what has become of the key in the end
   pub told-end : (J : List Entry) (rows : List StoryRow) → AreTold T J k rows → last_stage rows ≡ stage_in T (world_after T J) k
   told-end J rows are =
-      let all : All (λ (r : StoryRow). entries_of r ≤ length J) rows = All-weaker (IsTold T J k) (λ (r : StoryRow). entries_of r ≤ length J) (λ r told. told.within) rows are.told in
-      sym (told-last (length J) Nowhere rows all) ∙ (are.whole (length J) (omega arith) ∙ ap (λ (K : List Entry). stage_in T (world_after T K) k) (take_all (length J) J (omega arith)))
+      let all : All (λ (r : StoryRow). entries_of r ≤ length J) rows =
+      All-weaker (IsTold T J k) (λ (r : StoryRow). entries_of r ≤ length J) (λ r told. told.within) rows are.told in
+      sym (told-last (length J) Nowhere rows all)
+      ∙ (are.whole (length J) (omega arith) ∙ ap (λ (K : List Entry). stage_in T (world_after T K) k) (take_all (length J) J (omega arith)))
 
   -- no rows tell of no entry
   noted-none : AreNoted T [] k []

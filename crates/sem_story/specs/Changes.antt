@@ -1,16 +1,8 @@
--- What an entry does to a key, by what had become of it. These words serve private functions.
+-- What an entry does to a key, by the key's stage before. These words serve private functions.
 use Rattle.std.specs.Prelude.{ℕ, Bool, true, false, ◌==◌, ◌&&◌, ◌||◌, if◌then◌else◌}
 use Rattle.std.specs.Option.{option_map_or}
-use Rattle.sem_key.specs.KeyName.{KeyName, key_eq}
-use Rattle.sem_msg.specs.declared.event.Act.{Act}
-use Rattle.sem_msg.specs.declared.event.Act.TheVariants.{Handle, Resume}
-use Rattle.sem_msg.specs.declared.entry.Detail.{Detail}
-use Rattle.sem_msg.specs.declared.entry.Detail.TheVariants.{Carried}
-use Rattle.sem_msg.specs.declared.entry.Entry.{Entry}
-use Rattle.sem_msg.specs.declared.message.Message.{Message}
-use Rattle.sem_msg.specs.declared.message.Message.TheVariants.{RevokeReq}
-use Rattle.sem_msg.specs.Setup.{Setup}
-use Rattle.sem_msg.specs.Lookups.{owner_of}
+use Rattle.sem_machine.specs.Prelude.{KeyName, key_eq, Act, Handle, Resume, Detail, Carried, Entry, Message}
+use Rattle.sem_machine.specs.Prelude.{RevokeReq, Setup, owner_of}
 use Rattle.sem_machine.specs.Journals.{ends}
 use Rattle.sem_query.specs.Whereabouts.{brings}
 use Rattle.sem_query.specs.Changes.{is_revoking, grants_key}
@@ -41,14 +33,14 @@ abbrev pub resumes : ℕ → Act → Bool
 resumes v (Resume u) = u == v
 resumes v act = false
 
--- whether a call that is ready to install the key does so by the entry, or is cancelled, or ends
+-- whether the entry lets a call that is ready to install the key do so, or cancels it, or ends it
 abbrev pub leaves_by : Setup → KeyName → Entry → Bool
 leaves_by T k e =
     (owner_of T k == e.event.kernel)
     && (resumes k.vpe e.event.act || (is_revoking e && begins_at k e))
 
--- what has become of a key of which its kernel tells nothing after the entry: whether the entry grants it,
--- and whether it ends what brings it
+-- the stage of a key that its kernel tells nothing of after the entry: by whether the entry grants
+-- it, and whether it ends what brings it
 abbrev pub unseen_stage : Bool → Bool → Bool → Stage → Stage
 unseen_stage true brought leaves before = OnItsWay
 unseen_stage false brought leaves OnItsWay = if brought then Nowhere else OnItsWay
@@ -62,7 +54,7 @@ seen_stage unseen OnItsWay = OnItsWay
 seen_stage unseen Arrived = Arrived
 seen_stage unseen (Held selector mark) = Held selector mark
 
--- what has become of the key by the entry
+-- the stage of the key after the entry
 abbrev pub stage_after : Setup → KeyName → Entry → Stage → Stage → Stage
 stage_after T k e before seen =
     seen_stage (unseen_stage (grants_key k e) (is_brought_by k e.event.act e.detail) (leaves_by T k e) before) seen

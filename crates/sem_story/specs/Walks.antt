@@ -1,12 +1,7 @@
 -- How far a walk has come. These words serve private functions.
 use Rattle.std.specs.Prelude.{◌≡◌, ℕ, ◌+◌, ◌<◌, ◌⊎◌, List, [], All, length, take}
 use Rattle.std.specs.List.Sorted.{IsNonDecreasingBy}
-use Rattle.sem_key.specs.KeyName.{KeyName}
-use Rattle.sem_msg.specs.declared.event.Event.{Event}
-use Rattle.sem_msg.specs.declared.entry.Entry.{Entry}
-use Rattle.sem_msg.specs.Setup.{Setup}
-use Rattle.sem_machine.specs.Machine.{start, after}
-use Rattle.sem_machine.specs.Schedules.{world_after}
+use Rattle.sem_machine.specs.Prelude.{KeyName, Event, Entry, Setup, start, after, world_after}
 use Rattle.sem_kernel.specs.Worlds.{WorldValue}
 use Rattle.sem_story.specs.declared.rows.StoryRow.{StoryRow}
 use Rattle.sem_story.specs.declared.stages.Stage.{Stage}
@@ -15,7 +10,7 @@ use Rattle.sem_story.specs.declared.walks.When.{When}
 use Rattle.sem_story.specs.Stages.{stage_in}
 use Rattle.sem_story.specs.Telling.{entries_of, stage_at, IsTold, AreTold}
 
--- the rows of a key of which this has become before the first entry
+-- the rows of a key with this stage before the first entry
 abbrev pub AreFirst : Stage → List StoryRow → Type 0
 AreFirst stage rows = (T : Setup) (k : KeyName) → stage ≡ stage_in T (start T) k → AreTold T [] k rows
 
@@ -23,13 +18,13 @@ AreFirst stage rows = (T : Setup) (k : KeyName) → stage ≡ stage_in T (start 
 abbrev pub stepped_value : WorldValue → Event → WorldValue
 stepped_value w e = record { setup = w.setup; world = after w.setup w.world e }
 
--- The rows tell of the journal, whose last entry is being noted: of its end they need not tell yet.
+-- The rows tell of the journal, whose last entry is being noted: they need not yet tell of its end.
 pub record AreNoted (T : Setup) (J : List Entry) (k : KeyName) (rows : List StoryRow) : Type 0 where
   pub told : All (IsTold T J k) rows
   pub rising : IsNonDecreasingBy entries_of rows
   pub earlier : (n : ℕ) → n < length J → stage_at n rows ≡ stage_in T (world_after T (take n J)) k
 
--- what is noted when an entry has happened tells what has become of the key by it
+-- the rows noted for an entry tell the stage of the key after it
 abbrev pub Notes : When → List StoryRow → List StoryRow → Type 0
 Notes when old new =
     (T : Setup) (J : List Entry) (k : KeyName)

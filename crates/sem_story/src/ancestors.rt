@@ -1,11 +1,11 @@
-// The keys from which a key was made, and which entry takes one of them back.
+// The keys that a key was made from, and the entry that takes one of them back.
 use sem_grants::ended_by;
 use sem_key::{Key, OutOfMemory, pack, same_key};
 use sem_msg::{Call, Detail, Entry};
 use std::alloc::Global;
 
-// A key of a line, and the entry that made the next key from it; none for the first key, from which
-// the line has none.
+// A key of a line, and the entry that made the next key from it; none for the first key, since the
+// line makes no key from it.
 #[derive(Clone, Copy, Debug)]
 struct Ancestor {
     key: Key,
@@ -15,9 +15,9 @@ struct Ancestor {
 /// The line of a key: the key, the one that it was made from, and so on up to a root.
 #[derive(Drop)]
 pub struct Line {
-    /// The key from which the first one was made; a root has none.
+    /// The key that the first one was made from; a root has none.
     pub parent: Option<Key>,
-    // By the packed words of the keys, in rising order.
+    // The keys, by packed word, in rising order.
     keys: Vec<Ancestor>,
 }
 
@@ -58,7 +58,7 @@ impl Line {
     }
 
     // Whether the entry takes a key of the line back: it begins a revoke of one, or a clear of one
-    // from which the line went on, or the VPE of one ends.
+    // that the line goes on from, or the VPE of one ends.
     fn is_taken_by(&self, number: usize, entry: &Entry) -> bool {
         if let Some(vpe) = ended_by(entry) {
             return self.keys.iter().any(|ancestor| ancestor.key.vpe == vpe);
@@ -80,7 +80,6 @@ impl Line {
     }
 }
 
-// Whether the entry is a clear.
 fn is_clear(entry: &Entry) -> bool {
     match entry.detail {
         Detail::Called {

@@ -1,4 +1,4 @@
-// The rows of a story as moments that can be drawn.
+// The rows of a story as drawable moments.
 use crate::rows::{Happening, StoryRow};
 use crate::starts::{root_at, root_name, root_text};
 use sem_draw::Moment;
@@ -8,18 +8,19 @@ use sem_key::{Key, OutOfMemory};
 use sem_msg::{Act, Detail, Entry, Setup};
 use std::alloc::Global;
 
-/// What the rows are told from: the key and its kernel, the entries and what they tell of its line.
+/// What the texts of the rows need: the key and its kernel, the entries and what they tell of its
+/// line.
 #[derive(Clone, Copy)]
 pub struct Source<'a> {
     pub setup: &'a Setup,
     pub entries: &'a [Entry],
     pub key: Key,
     pub kernel: u32,
-    /// The first entry that takes the key or one above it back.
+    /// The first entry that takes the key, or one above it, back.
     pub taker: Option<usize>,
 }
 
-/// The moments of the rows, of which each is one.
+/// The moments of the rows, one for each.
 pub fn moments_of(
     alloc: Global,
     source: &Source,
@@ -37,7 +38,7 @@ pub fn moments_of(
     Ok(moments)
 }
 
-// What is said of a row.
+// The text about a row.
 fn happening_text(alloc: Global, source: &Source, row: &StoryRow) -> Result<String, OutOfMemory> {
     let kernel = source.kernel;
     match row.happening {
@@ -61,7 +62,7 @@ fn happening_text(alloc: Global, source: &Source, row: &StoryRow) -> Result<Stri
     }
 }
 
-// By which call the entry of that number made the key.
+// The call by which the entry of that number made the key.
 fn granted_text(alloc: Global, source: &Source, number: usize) -> Result<String, OutOfMemory> {
     let mut text = String::from_str(alloc, "granted")?;
     let Some((call, entry)) = call_of(source.entries, number) else {
@@ -100,7 +101,7 @@ fn caller_of(entry: &Entry) -> Option<u16> {
     }
 }
 
-// By what the key is gone.
+// The reason why the key is gone.
 fn gone_text(alloc: Global, source: &Source) -> Result<String, OutOfMemory> {
     let mut text = String::from_str(alloc, "gone")?;
     if let Some(taker) = source.taker {
@@ -110,7 +111,7 @@ fn gone_text(alloc: Global, source: &Source) -> Result<String, OutOfMemory> {
     Ok(text)
 }
 
-// The line of the row in the report: that of its entry, or that of the trace which declares the key.
+// The line of the row in the report: that of its entry, or that of the trace that declares the key.
 fn line_text(alloc: Global, source: &Source, row: &StoryRow) -> Result<String, OutOfMemory> {
     let mut words = Vec::new(alloc);
     match (row.entry, row.happening) {

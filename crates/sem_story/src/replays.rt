@@ -8,7 +8,7 @@ use sem_key::OutOfMemory;
 use sem_msg::{Journal, Setup};
 use std::alloc::Global;
 
-/// The longest schedule with which the first `count` entries of a journal begin.
+/// The longest schedule that the first `count` entries of a journal begin with.
 pub fn first_schedule(
     alloc: Global,
     setup: &Setup,
@@ -23,7 +23,7 @@ pub fn first_schedule(
     longest_schedule(alloc, setup, &first)
 }
 
-// The longest schedule with which a journal begins.
+// The longest schedule that a journal begins with.
 fn longest_schedule(alloc: Global, setup: &Setup, journal: &Journal) -> Result<Journal, OutOfMemory>
     ensures schedule { IfOk result (λ first. IsSchedule setup.now first.entries) }
     ensures longest { IfOk result
@@ -33,7 +33,7 @@ fn longest_schedule(alloc: Global, setup: &Setup, journal: &Journal) -> Result<J
     Ok(fabric.into_journal())
 }
 
-// The journal of the first entries of a journal, at most so many.
+// The journal of the first entries of a journal, at most that many.
 fn first_entries(alloc: Global, journal: &Journal, count: usize) -> Result<Journal, OutOfMemory>
     ensures { IfOk result (λ first. first.entries ≡ take count journal.now.entries) }
 {

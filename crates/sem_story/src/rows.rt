@@ -11,13 +11,13 @@ pub enum Happening {
     Granted,
     /// It was sent to the kernel of its VPE.
     Sent,
-    /// It arrived there.
+    /// It arrived at that kernel.
     Arrived,
     /// It is held at this selector.
     Held { selector: u8 },
     /// This endpoint was bound to it.
     Bound { endpoint: u8 },
-    /// This endpoint is not bound to it any more.
+    /// This endpoint is no longer bound to it.
     Unbound { endpoint: u8 },
     /// This key was made from it.
     Child { key: Key },
@@ -29,8 +29,8 @@ pub enum Happening {
     Gone,
 }
 
-/// What happened to the key, by the entry of that number, none at the start; and what has become of
-/// the key by the entry.
+/// What happened to the key, the number of the entry that did it (none at the start), and the key's
+/// stage after it.
 #[derive(Clone, Copy, Debug)]
 pub struct StoryRow {
     pub entry: Option<u64>,

@@ -1,4 +1,4 @@
-// What has become of a key.
+// The stages of a key.
 ghost use Rattle.std.specs.Prelude.{◌≡◌, false, option_copied};
 ghost use Rattle.std.specs.Option.{option_map_or};
 ghost use Rattle.sem_key.specs.KeyName.{key_eq};
@@ -10,28 +10,32 @@ ghost use Rattle.sem_machine.specs.Journals.{ends};
 ghost use Rattle.sem_query.specs.Whereabouts.{brings as brings_lem};
 ghost use Rattle.sem_query.specs.Changes.{is_revoking as is_revoking_lem, grants_key};
 ghost use Rattle.sem_story.specs.Stages.{seen_by};
-ghost use Rattle.sem_story.specs.Changes.{is_brought_by as is_brought_by_lem, asks_for as asks_for_lem, is_asked_by as is_asked_by_lem, begins_at as begins_at_lem, resumes as resumes_lem, leaves_by as leaves_by_lem, stage_after as stage_after_lem};
+ghost use Rattle.sem_story.specs.Changes.{is_brought_by as is_brought_by_lem};
+ghost use Rattle.sem_story.specs.Changes.{asks_for as asks_for_lem, is_asked_by as is_asked_by_lem};
+ghost use Rattle.sem_story.specs.Changes.{begins_at as begins_at_lem, resumes as resumes_lem};
+ghost use Rattle.sem_story.specs.Changes.{leaves_by as leaves_by_lem};
+ghost use Rattle.sem_story.specs.Changes.{stage_after as stage_after_lem};
 
 use sem_draw::State;
 use sem_kernel::{Kernel, World};
 use sem_key::{Key, Object, same_key};
 use sem_msg::{Act, Call, Detail, Entry, Message, Parked, Setup};
 
-/// What has become of a key.
+/// The stage of a key.
 #[derive(Clone, Copy, Debug, PartialEq, Eq)]
 pub enum Stage {
-    /// It is nowhere: not made yet, not held any more, or never to be.
+    /// It is nowhere: not yet made, no longer held, or never to be.
     Nowhere,
     /// It was granted to a VPE of another kernel, and has not arrived there.
     OnItsWay,
-    /// It has arrived there, and is not installed yet.
+    /// It has arrived there, and is not yet installed.
     Arrived,
-    /// It is held at this selector, and marked by this job, if by one.
+    /// It is held at this selector, and marked by this job, if by any.
     Held { selector: u8, mark: Option<u32> },
 }
 
 impl Stage {
-    /// How it is drawn.
+    /// The state in which it is drawn.
     pub fn state(self) -> State {
         match self {
             Stage::Nowhere => State::Gone,
@@ -42,8 +46,8 @@ impl Stage {
     }
 }
 
-/// What the kernel of its VPE tells of a key: that it is held, or ready to be installed; nowhere
-/// where it tells neither.
+/// What the kernel of its VPE tells of a key: that it is held, or ready to be installed; nowhere if
+/// it tells neither.
 pub fn seen_at_home(setup: &Setup, world: &World, key: Key) -> Stage
     ensures { result ≡ seen_by key (side world.now.world (owner_of setup.now key)) }
 {
@@ -60,7 +64,7 @@ pub fn seen_at_home(setup: &Setup, world: &World, key: Key) -> Stage
     }
 }
 
-// The kernel of that number; none where there is no such kernel.
+// The kernel of that number; none if there is no such kernel.
 fn kernel_at(world: &World, number: u32) -> Option<&Kernel>
     ensures { option_map_or (λ k. k.side) (option_copied result) no_side
         ≡ side world.now.world number }
@@ -84,8 +88,8 @@ pub fn object_of(world: &World, kernel: u32, key: Key) -> Option<Object> {
     Some(cap.object)
 }
 
-/// What a child gives its holder that the kernel has just granted: the kernel holds it, or what it
-/// was made from.
+/// What a child that the kernel has just granted gives its holder. The kernel holds the child, or
+/// what it was made from.
 pub fn object_given(world: &World, kernel: u32, parent: Key, child: Key) -> Option<Object> {
     if let Some(object) = object_of(world, kernel, child) {
         return Some(object);
@@ -99,8 +103,8 @@ pub fn object_given(world: &World, kernel: u32, parent: Key, child: Key) -> Opti
     })
 }
 
-/// What has become of the key by the entry, where `before` had become of it, and its kernel tells
-/// `seen` after the entry.
+/// The stage of the key after the entry. `before` is its stage before it, and `seen` is what its
+/// kernel tells after it.
 pub fn stage_after(setup: &Setup, key: Key, entry: &Entry, before: Stage, seen: Stage) -> Stage
     ensures { result ≡ stage_after_lem setup.now key entry.now before seen }
 {
@@ -119,7 +123,6 @@ pub fn stage_after(setup: &Setup, key: Key, entry: &Entry, before: Stage, seen: 
     }
 }
 
-// Whether the entry grants the key.
 fn grants(entry: &Entry, key: Key) -> bool
     ensures { result ≡ grants_key key entry.now }
 {
@@ -139,7 +142,6 @@ fn is_brought_by(entry: &Entry, key: Key) -> bool
     }
 }
 
-// Whether the message brings the key.
 fn brings(message: &Message, key: Key) -> bool
     ensures { result ≡ brings_lem key message.now }
 {
@@ -150,7 +152,7 @@ fn brings(message: &Message, key: Key) -> bool
     }
 }
 
-// Whether a call that is ready to install the key does so by the entry, or is cancelled, or ends.
+// Whether the entry lets a call that is ready to install the key do so, or cancels it, or ends it.
 fn leaves_by(setup: &Setup, entry: &Entry, key: Key) -> bool
     ensures { result ≡ leaves_by_lem setup.now key entry.now }
 {
@@ -158,7 +160,7 @@ fn leaves_by(setup: &Setup, entry: &Entry, key: Key) -> bool
         && (resumes(entry, key.vpe) || is_revoking(entry) && begins_at(entry, key))
 }
 
-// Whether a call of the VPE goes on by the entry.
+// Whether the entry lets a call of the VPE go on.
 fn resumes(entry: &Entry, vpe: u16) -> bool
     ensures { result ≡ resumes_lem vpe entry.now.event.act }
 {

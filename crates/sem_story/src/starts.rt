@@ -1,11 +1,11 @@
-// What the trace declares of a key.
+// What the trace declares about a key.
 use sem_hint::text_of;
 use sem_key::{Key, Kind, Object, OutOfMemory};
 use sem_msg::{Root, Setup};
 use sem_trace::{push_named, push_object};
 use std::alloc::Global;
 
-/// The root or service of the trace that is held at the selector of the VPE of the key.
+/// The root or service that the trace declares at the selector of the key's VPE.
 pub fn root_at(setup: &Setup, key: Key, selector: u8) -> Option<Root> {
     let decl = setup.decl(key.vpe)?;
     decl.roots
@@ -15,7 +15,7 @@ pub fn root_at(setup: &Setup, key: Key, selector: u8) -> Option<Root> {
         .copied()
 }
 
-/// What the trace declares such a key as.
+/// The kind of line that declares such a key.
 pub fn root_name(key: Key) -> &'static str {
     if key.kind == Kind::Serv {
         "service"
@@ -24,7 +24,7 @@ pub fn root_name(key: Key) -> &'static str {
     }
 }
 
-/// The line of a root or service of a VPE, as the trace has it.
+/// The line of a root or service of a VPE, as in the trace.
 pub fn root_text(alloc: Global, vpe: u16, root: &Root) -> Result<String, OutOfMemory> {
     let mut words = Vec::new(alloc);
     let numbers = [u64::from(vpe), u64::from(root.sel)];

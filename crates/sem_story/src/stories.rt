@@ -1,4 +1,4 @@
-// What is asked for, and what is answered.
+// Requests for the life of a key, and their answers.
 ghost use Rattle.std.specs.Prelude.{◌≡◌, IfSome};
 ghost use Rattle.sem_trace.specs.Words.{key_word};
 ghost use Rattle.sem_machine.specs.Schedules.{IsSchedule};
@@ -19,7 +19,7 @@ use std::alloc::Global;
 /// The most rows of a story.
 pub const ROWS: usize = 10_000;
 
-/// What is asked for: the life of the key in the first `at` entries, or in all of them.
+/// A request for the life of the key in the first `at` entries, or in all of them.
 #[derive(Clone, Copy, Debug)]
 pub struct StoryRequest {
     pub picture: Picture,
@@ -66,13 +66,13 @@ fn story_of(
     story_along(alloc, request, setup, first.as_slice())
 }
 
-// The answer where the report has fewer entries than are asked for.
+// The answer if the report has fewer entries than were asked for.
 fn too_few_entries(alloc: Global, at: u64, all: u64) -> Result<Answer, OutOfMemory> {
     let text = format!(in alloc; "there are no {at} entries: the report has {all}\n")?;
     Ok(Answer::failed(alloc, Ending::WrongWords, text))
 }
 
-// The answer where the machine makes another entry than the one of that number.
+// The answer if the machine makes another entry than the one of that number.
 fn wrong_entry(alloc: Global, number: u64) -> Result<Answer, OutOfMemory> {
     let text = format!(in alloc;
         "entry {number} is not the one that the machine makes: semper-view explain tells more\n"
@@ -93,7 +93,7 @@ fn story_along(
     story_of_walk(alloc, request, setup, entries, &walk)
 }
 
-// The answer to the request, where the walk of the key has gone through the entries.
+// The answer to the request, once the walk of the key has gone through the entries.
 fn story_of_walk(
     alloc: Global,
     request: &StoryRequest,
@@ -112,14 +112,14 @@ fn story_of_walk(
     Ok(Answer::done(alloc, draw(alloc, &timeline, request.picture)?))
 }
 
-// The answer where so many entries make no such key.
+// The answer if that many entries make no such key.
 fn never_made(alloc: Global, key: Key, at: usize) -> Result<Answer, OutOfMemory> {
     let key = key_text(alloc, &key)?;
     let text = format!(in alloc; "{key} was never made in these {at} entries\n")?;
     Ok(Answer::failed(alloc, Ending::WrongWords, text))
 }
 
-// The answer where the story would be too long.
+// The answer if the story would be too long.
 fn too_many_rows(alloc: Global, count: usize) -> Result<Answer, OutOfMemory> {
     let text = format!(in alloc;
         "the story would have {count} rows, and {ROWS} are the most: name fewer entries by --at\n"
@@ -151,7 +151,8 @@ fn timeline_of(
     })
 }
 
-// What is said of the key: what it gives its holder, whose it is, and from which key it was made.
+// The head of the story: what the key gives its holder, whose it is, and which key it was made
+// from.
 fn head_text(
     alloc: Global,
     source: &Source,
@@ -178,7 +179,6 @@ fn head_text(
     Ok(text)
 }
 
-// The timeline, drawn.
 fn draw(alloc: Global, timeline: &Timeline, picture: Picture) -> Result<String, OutOfMemory> {
     match picture {
         Picture::Svg => timeline_as_svg(alloc, timeline),

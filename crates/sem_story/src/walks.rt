@@ -22,18 +22,18 @@ use std::alloc::Global;
 /// The world after some entries, and what happened to a key by then.
 #[derive(Drop)]
 pub struct Walk {
-    /// What happened to it, in the order of the entries.
+    /// What happened to the key, in the order of the entries.
     pub rows: Vec<StoryRow>,
     /// What the key gives its holder, once it is made.
     pub object: Option<Object>,
-    /// What has become of the key.
+    /// The stage of the key.
     pub stage: Stage,
     world: World,
     // The endpoints that are bound to the key.
     bound: Vec<u8>,
 }
 
-// When something happens: by the entry of that number, and what has become of the key by it.
+// When something happens: the number of the entry, and the stage of the key after it.
 #[derive(Clone, Copy)]
 struct When {
     number: u64,
@@ -45,7 +45,7 @@ impl Walk {
     fn start(alloc: Global, setup: &Setup, key: Key) -> Result<Walk, OutOfMemory>
         ensures { IfOk result (λ w. IsAfter setup.now [] key w) }
     {
-        // So that the proof knows what a setup keeps.
+        // Shows the proof what a setup keeps.
         let _ = &setup.vpes;
         lives_go_on();
         lives_tell_where_keys_are();
@@ -74,7 +74,7 @@ impl Walk {
             → IsAfter setup.now before key self.old
             → IsAfter setup.now (before ++ entry.now ∷ []) key self.new) }
     {
-        // So that the proof knows what a setup keeps.
+        // Shows the proof what a setup keeps.
         let _ = &setup.vpes;
         entries_move_few_keys();
         moved_keys_are_seen_at_home();
@@ -122,7 +122,7 @@ pub fn walk_through(
     Ok(walk)
 }
 
-// The event, which is enabled, happens.
+// Lets the event, an enabled one, happen.
 fn happen(world: &mut World, event: Event) -> Result<(), OutOfMemory>
     requires { is_enabled world.old.setup world.old.world event ≡ true }
     ensures { OnOk result (world.new ≡ stepped_value world.old event) }
@@ -150,7 +150,7 @@ fn first_rows(alloc: Global, stage: Stage) -> Result<Vec<StoryRow>, OutOfMemory>
     Ok(rows)
 }
 
-// What happened to a key that is somewhere before the first entry.
+// What happened to a key that has a place before the first entry.
 fn declared(stage: Stage) -> Happening {
     match stage {
         Stage::Held { selector, .. } => Happening::Declared { selector },
@@ -158,7 +158,7 @@ fn declared(stage: Stage) -> Happening {
     }
 }
 
-// What the key gives its holder, once it is made, where `before` was so before the entry.
+// What the key gives its holder, once it is made; `before` is what was known before the entry.
 fn object_after(world: &World, key: Key, entry: &Entry, before: Option<Object>) -> Option<Object> {
     match entry.grant {
         Some((parent, child)) if same_key(&child, &key) => {
@@ -201,7 +201,7 @@ fn note_grant(
     }
 }
 
-// Notes what has become of the key, where it was something else before.
+// Notes the stage of the key, if it changed.
 fn note_stage(rows: &mut Vec<StoryRow>, when: When, before: Stage) -> Result<(), OutOfMemory>
     ensures notes { OnOk result (Notes when rows.old.items rows.new.items) }
     ensures last { OnOk result (IsOneOf (last_stage rows.old.items) before when.stage
@@ -213,7 +213,7 @@ fn note_stage(rows: &mut Vec<StoryRow>, when: When, before: Stage) -> Result<(),
     note(rows, when, changed(before, when.stage))
 }
 
-// What happens to a key where something else becomes of it.
+// What happens to a key whose stage changes.
 fn changed(before: Stage, later: Stage) -> Happening {
     match (before, later) {
         (_, Stage::Nowhere) => Happening::Gone,
@@ -231,7 +231,7 @@ fn changed(before: Stage, later: Stage) -> Happening {
     }
 }
 
-// Notes which endpoints are not bound to the key any more, and, where the VPE calls, which are now.
+// Notes which endpoints are no longer bound to the key, and, if the VPE calls, which are now.
 fn note_bindings(
     rows: &mut Vec<StoryRow>,
     bound: &mut Vec<u8>,
@@ -271,7 +271,7 @@ fn is_bound(world: &World, key: Key, endpoint: u8) -> bool
     }
 }
 
-// Notes that the endpoint was unbound, or else that it was bound.
+// Notes that the endpoint was unbound, or otherwise that it was bound.
 fn note_binding(
     rows: &mut Vec<StoryRow>,
     bound: &mut Vec<u8>,

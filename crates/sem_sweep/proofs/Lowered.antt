@@ -17,7 +17,9 @@ use Rattle.sem_machine.specs.Handles.{handle_row}
 use Rattle.sem_sweep.proofs.Swept.{finish-none, job-id}
 
 -- the job, if it is done, is finished: that is what the message does
-pub done-row : (T : Setup) (i from j : ℕ) (o : Option ℕ) (old new : JobStore) (s : Side) → new ≡ record old { jobs = JobRows.count_lowered j old.jobs } → option_and_then (job_of new.jobs) o ≡ if_done (job_of new.jobs j) → finished T i o (with_jobs new.jobs new.next s) ≡ handle_row T i (with_jobs old.jobs old.next s) from (RevokeDone j)
+pub done-row : (T : Setup) (i from j : ℕ) (o : Option ℕ) (old new : JobStore) (s : Side) → new ≡ record old { jobs = JobRows.count_lowered j old.jobs } →
+    option_and_then (job_of new.jobs) o ≡ if_done (job_of new.jobs j) →
+    finished T i o (with_jobs new.jobs new.next s) ≡ handle_row T i (with_jobs old.jobs old.next s) from (RevokeDone j)
 unfolding handle_row
 done-row T i from j o old new s lowered next =
     ap (λ p. finish T i (length new.jobs) p (with_jobs new.jobs new.next s)) next
@@ -28,7 +30,8 @@ done-row T i from j o old new s lowered next =
     settled_if_there T i j None s = s
     settled_if_there T i j (Some x) s = settled T i j (count_lowered j s)
 
-    by_job : (p : Option JobRow) → job_of old.jobs j ≡ p → settled T i j (count_lowered j (with_jobs old.jobs old.next s)) ≡ settled_if_there T i j p (with_jobs old.jobs old.next s)
+    by_job : (p : Option JobRow) → job_of old.jobs j ≡ p →
+        settled T i j (count_lowered j (with_jobs old.jobs old.next s)) ≡ settled_if_there T i j p (with_jobs old.jobs old.next s)
     by_job None none =
         ap (λ (xs : List JobRow). settled T i j (with_jobs xs old.next s)) (changed-absent j _ old.jobs none)
         ∙ ap (λ p. finish T i (length old.jobs) (if_done p) (with_jobs old.jobs old.next s)) none
@@ -36,7 +39,8 @@ done-row T i from j o old new s lowered next =
     by_job (Some x) some = refl
 
 -- it is the job that got the token
-pub answered-job : (j : ℕ) (xs : List JobRow) (o : Option ℕ) → option_and_then (job_of xs) o ≡ if_done (job_of xs j) → IfSome o (λ k. IsSome (job_of xs k)) → IfSome o (λ k. k ≡ j)
+pub answered-job : (j : ℕ) (xs : List JobRow) (o : Option ℕ) → option_and_then (job_of xs) o ≡ if_done (job_of xs j) → IfSome o (λ k. IsSome (job_of xs k)) →
+    IfSome o (λ k. k ≡ j)
 answered-job j xs None next there = tt
 answered-job j xs (Some k) next there = by_jobs (job_of xs k) (job_of xs j) refl refl next there
   where

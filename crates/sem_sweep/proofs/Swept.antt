@@ -1,5 +1,6 @@
 -- What sweeping leaves of capabilities, VPEs, waiting calls and jobs.
-use Rattle.std.proofs.Common.{◌≡◌, ℕ, zero, suc, ◌+◌, ◌-◌, ◌<◌, ◌≤◌, Bool, true, false, not, cond, List, [], ◌∷◌, ◌++◌, length, map, get_or, Option, Some, None, refl, sym, ◌∙◌, ap, subst, inl, inr, arith}
+use Rattle.std.proofs.Common.{◌≡◌, ℕ, zero, suc, ◌+◌, ◌-◌, ◌<◌, ◌≤◌, Bool, true, false, not, cond, List, [], ◌∷◌, ◌++◌, length, map, get_or, Option, Some, None}
+use Rattle.std.proofs.Common.{refl, sym, ◌∙◌, ap, subst, inl, inr, arith}
 use Rattle.std.specs.Prelude.{nat_lt, ◌==◌, IfSome, if◌then◌else◌}
 use Rattle.std.specs.List.{All, AllPairs, Contains, filter}
 use Rattle.std.specs.Option.{option_and_then}
@@ -39,32 +40,41 @@ unfolding in_turn
 pairs_freed-caps [] rows = refl
 pairs_freed-caps (c ∷ cs) rows = pairs_freed-caps cs _
 
-pub pairs-ours : (vpes : VpeTable) (p : Capability → Bool) (cs : List Capability) → All (λ c. IsOurs vpes c.key.vpe) cs → All (λ (q : KeyName × ℕ). IsOurs vpes q.0.vpe) (map key_and_selector (filter p cs))
-pairs-ours vpes p cs ours = All-map (λ (q : KeyName × ℕ). IsOurs vpes q.0.vpe) key_and_selector (filter p cs) (All-filter p (λ c. IsOurs vpes c.key.vpe) cs ours)
+pub pairs-ours : (vpes : VpeTable) (p : Capability → Bool) (cs : List Capability) → All (λ c. IsOurs vpes c.key.vpe) cs →
+    All (λ (q : KeyName × ℕ). IsOurs vpes q.0.vpe) (map key_and_selector (filter p cs))
+pairs-ours vpes p cs ours = All-map (λ (q : KeyName × ℕ). IsOurs vpes q.0.vpe) key_and_selector (filter p cs)
+    (All-filter p (λ c. IsOurs vpes c.key.vpe) cs ours)
 
 -- Capabilities.
 
 -- a capability with other children is swept as before
-unlinked-cap : (T : Setup) (i : ℕ) (c : Capability) (t : Bool) (ks : List KeyName) → CanSweepCap T i c → CanSweepCap T i (cond {A = Capability} t (record c { children = ks }) c)
+unlinked-cap : (T : Setup) (i : ℕ) (c : Capability) (t : Bool) (ks : List KeyName) → CanSweepCap T i c →
+    CanSweepCap T i (cond {A = Capability} t (record c { children = ks }) c)
 unlinked-cap T i c true ks can = record { own = can.own; parent = can.parent }
 unlinked-cap T i c false ks can = can
 
-pub unlinked-kept : (T : Setup) (i : ℕ) (cs : List Capability) (parent child : KeyName) → All (CanSweepCap T i) cs → All (CanSweepCap T i) (unlinked cs parent child)
-unlinked-kept T i cs parent child can = All-map (CanSweepCap T i) (λ c. cond {A = Capability} (key_eq c.key parent) (record c { children = without_key c.children child }) c) cs (λ k d lt. unlinked-cap T i _ _ _ (can k d lt))
+pub unlinked-kept : (T : Setup) (i : ℕ) (cs : List Capability) (parent child : KeyName) → All (CanSweepCap T i) cs →
+    All (CanSweepCap T i) (unlinked cs parent child)
+unlinked-kept T i cs parent child can =
+    All-map (CanSweepCap T i) (λ c. cond {A = Capability} (key_eq c.key parent) (record c { children = without_key c.children child }) c) cs
+    (λ k d lt. unlinked-cap T i _ _ _ (can k d lt))
 
 -- and one without mark and children
-restored-cap : (T : Setup) (i : ℕ) (c : Capability) (t : Bool) → CanSweepCap T i c → CanSweepCap T i (cond {A = Capability} t (record c { children = []; mark = None }) c)
+restored-cap : (T : Setup) (i : ℕ) (c : Capability) (t : Bool) → CanSweepCap T i c →
+    CanSweepCap T i (cond {A = Capability} t (record c { children = []; mark = None }) c)
 restored-cap T i c true can = record { own = can.own; parent = can.parent }
 restored-cap T i c false can = can
 
 pub restored-kept : (T : Setup) (i : ℕ) (cs : List Capability) (root : KeyName) → All (CanSweepCap T i) cs → All (CanSweepCap T i) (restored cs root)
-restored-kept T i cs root can = All-map (CanSweepCap T i) (λ c. cond {A = Capability} (key_eq c.key root) (record c { children = []; mark = None }) c) cs (λ k d lt. restored-cap T i _ _ (can k d lt))
+restored-kept T i cs root can = All-map (CanSweepCap T i) (λ c. cond {A = Capability} (key_eq c.key root) (record c { children = []; mark = None }) c) cs
+    (λ k d lt. restored-cap T i _ _ (can k d lt))
 
 -- a root that is not held is spared as it is
 pub restored-absent : (cs : List Capability) (root : KeyName) → cap_of cs root ≡ None → restored cs root ≡ cs
 restored-absent cs root none = change-absent (λ c. key_eq c.key root) _ cs none
 
-pub spared-kept : (T : Setup) (i : ℕ) (cs : List Capability) (root : KeyName) (keep : Bool) → All (CanSweepCap T i) cs → All (CanSweepCap T i) (spared keep root cs)
+pub spared-kept : (T : Setup) (i : ℕ) (cs : List Capability) (root : KeyName) (keep : Bool) → All (CanSweepCap T i) cs →
+    All (CanSweepCap T i) (spared keep root cs)
 spared-kept T i cs root true can = restored-kept T i cs root can
 spared-kept T i cs root false can = can
 
@@ -114,10 +124,12 @@ below-there v (w ∷ ws) rises there = elim (Contains-cons_cases w ws v there) [
       let later : (x : ℕ) → Contains ws x → w < x = rises-head w ws rises in
       let none : below v ws ≡ [] = below-none v ws (λ x at. let lt = later x at in omega arith) in
       let none' : below (v + 1) ws ≡ [] = below-none (v + 1) ws (λ x at. let lt = later x at in omega arith) in
-      below-cons (v + 1) w ws (omega arith) ∙ (ap (λ xs. w ∷ xs) none' ∙ (ap (λ x. x ∷ []) same ∙ sym (ap (λ xs. xs ++ v ∷ []) (below-skip v w ws (omega arith) ∙ none))))
+      below-cons (v + 1) w ws (omega arith)
+      ∙ (ap (λ xs. w ∷ xs) none' ∙ (ap (λ x. x ∷ []) same ∙ sym (ap (λ xs. xs ++ v ∷ []) (below-skip v w ws (omega arith) ∙ none))))
   | inr rest ↦
       let lt = rises-head w ws rises v rest in
-      below-cons (v + 1) w ws (omega arith) ∙ (ap (λ xs. w ∷ xs) (below-there v ws (rises-tail w ws rises) rest) ∙ sym (ap (λ xs. xs ++ v ∷ []) (below-cons v w ws lt)))
+      below-cons (v + 1) w ws (omega arith)
+      ∙ (ap (λ xs. w ∷ xs) (below-there v ws (rises-tail w ws rises) rest) ∙ sym (ap (λ xs. xs ++ v ∷ []) (below-cons v w ws lt)))
 ]
 
 -- and none, where it is not
@@ -134,7 +146,8 @@ below-absent v (w ∷ ws) absent =
 -- The parent of a job's root.
 
 -- a parent that is left has an owner
-pub left-owner : (T : Setup) (i : ℕ) (cs : List Capability) (x : JobRow) (o : Option KeyName) → All (CanSweepCap T i) cs → o ≡ (if x.keep then None else option_and_then (λ c. c.parent) (cap_of cs x.root)) → IfSome o (HasOwner T)
+pub left-owner : (T : Setup) (i : ℕ) (cs : List Capability) (x : JobRow) (o : Option KeyName) → All (CanSweepCap T i) cs →
+    o ≡ (if x.keep then None else option_and_then (λ c. c.parent) (cap_of cs x.root)) → IfSome o (HasOwner T)
 left-owner T i cs x o can is = rw is (from x.keep (cap_of cs x.root) refl)
   where
     from : (keep : Bool) (o : Option Capability) → cap_of cs x.root ≡ o → IfSome (if keep then None else option_and_then (λ c. c.parent) o) (HasOwner T)
@@ -152,7 +165,8 @@ abbrev UpsOf : Setup → List JobRow → Type 0
 UpsOf T xs = All (λ (x : JobRow). IsUpOf T x.up) xs
 
 lowered-kept : (T : Setup) (j : ℕ) (xs : List JobRow) → UpsOf T xs → UpsOf T (count_lowered j xs)
-lowered-kept T j xs ups = All-map (λ (x : JobRow). IsUpOf T x.up) (λ x. cond {A = JobRow} (x.id == j) (record x { count = x.count - 1 }) x) xs (λ k d lt. lowered-up T _ _ _ (ups k d lt))
+lowered-kept T j xs ups = All-map (λ (x : JobRow). IsUpOf T x.up) (λ x. cond {A = JobRow} (x.id == j) (record x { count = x.count - 1 }) x) xs
+    (λ k d lt. lowered-up T _ _ _ (ups k d lt))
 
 pub removed-kept : (T : Setup) (j : ℕ) (xs : List JobRow) → UpsOf T xs → UpsOf T (job_removed j xs)
 removed-kept T j xs ups = All-filter (λ x. not (x.id == j)) (λ (x : JobRow). IsUpOf T x.up) xs ups
@@ -193,6 +207,7 @@ finish-none T i zero s = refl
 finish-none T i (suc n) s = refl
 
 -- what is finished next, after a job was closed
-pub finish-turn : (T : Setup) (i n m : ℕ) (x : JobRow) (up : Option Up) (s s3 : Side) (o p : Option JobRow) → m ≡ suc n → p ≡ Some x → up ≡ x.up → s3 ≡ closed T i x s → o ≡ next_done up s3.jobs → finish T i n o s3 ≡ finish T i m p s
+pub finish-turn : (T : Setup) (i n m : ℕ) (x : JobRow) (up : Option Up) (s s3 : Side) (o p : Option JobRow) → m ≡ suc n → p ≡ Some x → up ≡ x.up →
+    s3 ≡ closed T i x s → o ≡ next_done up s3.jobs → finish T i n o s3 ≡ finish T i m p s
 unfolding finish
 finish-turn T i n m x up s s3 o p one is same here next = rw (one, is, next, here, same) refl

@@ -1,5 +1,6 @@
 -- The asks of a dead VPE: one is taken out and answered after the other.
-use Rattle.std.proofs.Common.{◌≡◌, ◌≢◌, ℕ, zero, suc, ◌+◌, Bool, true, false, List, [], ◌∷◌, drop, length, get_or, slice_get, Option, Some, None, refl, sym, ◌∙◌, ap, subst, inl, inr, eq-eqb, arith}
+use Rattle.std.proofs.Common.{◌≡◌, ◌≢◌, ℕ, zero, suc, ◌+◌, Bool, true, false, List, [], ◌∷◌, drop, length, get_or, slice_get, Option, Some, None, refl, sym}
+use Rattle.std.proofs.Common.{◌∙◌, ap, subst, inl, inr, eq-eqb, arith}
 use Rattle.std.specs.Prelude.{◌==◌, if◌then◌else◌}
 use Rattle.std.specs.List.{All}
 use Rattle.std.proofs.lemmas.Bool.{cases_Bool, eqb-true, true≢false}
@@ -50,7 +51,8 @@ row-twice v f g rows =
     ∙ ap (λ r. put no_vpe rows v (f r)) (get_or-put_same no_vpe rows v (g (VpeRows.row rows v)))
 
 -- two changes that commute on a row commute on the rows
-rows-commute : (f g : VpeRow → VpeRow) → ((r : VpeRow) → f (g r) ≡ g (f r)) → (v w : ℕ) (rows : List VpeRow) → with_row v f (with_row w g rows) ≡ with_row w g (with_row v f rows)
+rows-commute : (f g : VpeRow → VpeRow) → ((r : VpeRow) → f (g r) ≡ g (f r)) → (v w : ℕ) (rows : List VpeRow) →
+    with_row v f (with_row w g rows) ≡ with_row w g (with_row v f rows)
 rows-commute f g commute v w rows = elim (cases_Bool (v == w)) [
   | inl same ↦ subst (λ u. with_row v f (with_row u g rows) ≡ with_row u g (with_row v f rows)) (eqb-true v w same)
       (row-twice v f g rows ∙ ap (put no_vpe rows v) (commute (VpeRows.row rows v)) ∙ sym (row-twice v g f rows))
@@ -64,7 +66,8 @@ rows-commute f g commute v w rows = elim (cases_Bool (v == w)) [
 ]
 
 -- what a change of a row leaves of the asks of any VPE
-pub asks-kept : (g : VpeRow → VpeRow) → ((r : VpeRow) → (g r).asks ≡ r.asks) → (v w : ℕ) (rows : List VpeRow) → (VpeRows.row (with_row w g rows) v).asks ≡ (VpeRows.row rows v).asks
+pub asks-kept : (g : VpeRow → VpeRow) → ((r : VpeRow) → (g r).asks ≡ r.asks) → (v w : ℕ) (rows : List VpeRow) →
+    (VpeRows.row (with_row w g rows) v).asks ≡ (VpeRows.row rows v).asks
 asks-kept g keeps v w rows = elim (cases_Bool (v == w)) [
   | inl same ↦ subst (λ u. (VpeRows.row (with_row u g rows) v).asks ≡ (VpeRows.row rows v).asks) (eqb-true v w same)
       (ap (λ (r : VpeRow). r.asks) (get_or-put_same no_vpe rows v (g (VpeRows.row rows v))) ∙ keeps (VpeRows.row rows v))
@@ -139,9 +142,11 @@ sent-parks T (ObtainAsk place target) s = refl
 sent-parks T (DelegateAsk parent object sel) s = refl
 
 -- a call that will end with a code owes nothing
-parks-owe : (T : Setup) (v w number : ℕ) (parks : List (Option Parked)) → CanOwe T (get_or parks v None) → CanOwe T (get_or (put None parks w (Some (Ready number))) v None)
+parks-owe : (T : Setup) (v w number : ℕ) (parks : List (Option Parked)) → CanOwe T (get_or parks v None) →
+    CanOwe T (get_or (put None parks w (Some (Ready number))) v None)
 parks-owe T v w number parks can = elim (cases_Bool (v == w)) [
-  | inl same ↦ subst (λ u. CanOwe T (get_or (put None parks u (Some (Ready number))) v None)) (eqb-true v w same) (subst (CanOwe T) (sym (get_or-put_same None parks v (Some (Ready number)))) tt)
+  | inl same ↦ subst (λ u. CanOwe T (get_or (put None parks u (Some (Ready number))) v None)) (eqb-true v w same)
+      (subst (CanOwe T) (sym (get_or-put_same None parks v (Some (Ready number)))) tt)
   | inr other ↦ subst (CanOwe T) (sym (get_or-put_other None parks w v (Some (Ready number)) (λ same. true≢false (sym (eq-eqb v w same) ∙ other)))) can
 ]
 
@@ -150,7 +155,8 @@ ended-owes T i v a s can = from (is_unawaited T i s a) (kernel_of T (asker a) ==
   where
     from : (t u : Bool) → CanOwe T (parked (if t then s else (if u then call_refused (code_number Dead) (asker a) s else refusal_sent T Dead a s)) v)
     from true u = can
-    from false true = subst (λ (ps : List (Option Parked)). CanOwe T (get_or (put None ps (asker a) (Some (Ready (code_number Dead)))) v None)) (sym (promise-parks (asker a) (parked s (asker a)) s)) (parks-owe T v (asker a) (code_number Dead) s.parks can)
+    from false true = subst (λ (ps : List (Option Parked)). CanOwe T (get_or (put None ps (asker a) (Some (Ready (code_number Dead)))) v None))
+        (sym (promise-parks (asker a) (parked s (asker a)) s)) (parks-owe T v (asker a) (code_number Dead) s.parks can)
     from false false = subst (λ (ps : List (Option Parked)). CanOwe T (get_or ps v None)) (sym (sent-parks T a s)) can
 
 -- The turns.
@@ -173,17 +179,20 @@ rest-length a [] front = absurd cc
 rest-length a (b ∷ bs) front = omega arith
 
 taken-unasked : (v : ℕ) (s : Side) → unasked v (ask_taken v s) ≡ unasked v s
-taken-unasked v s = ap (λ (rows : List VpeRow). record s { vpes = rows }) (row-twice v (λ r. record r { asks = [] }) (λ r. record r { asks = drop 1 r.asks }) s.vpes)
+taken-unasked v s =
+    ap (λ (rows : List VpeRow). record s { vpes = rows }) (row-twice v (λ r. record r { asks = [] }) (λ r. record r { asks = drop 1 r.asks }) s.vpes)
 
 taken-asks : (v : ℕ) (s : Side) → (row (ask_taken v s) v).asks ≡ drop 1 (row s v).asks
 taken-asks v s = ap (λ (r : VpeRow). r.asks) (get_or-put_same no_vpe s.vpes v (record (row s v) { asks = drop 1 (row s v).asks }))
 
 -- what is left of the asks after a turn
 pub turn-asks : (T : Setup) (i v : ℕ) (a : Ask) (s s1 s2 : Side) → s1 ≡ ask_taken v s → s2 ≡ ask_ended T i a s1 → (row s2 v).asks ≡ drop 1 (row s v).asks
-turn-asks T i v a s s1 s2 taken answered = ap (λ (t : Side). (row t v).asks) answered ∙ ended-asks T i v a s1 ∙ ap (λ (t : Side). (row t v).asks) taken ∙ taken-asks v s
+turn-asks T i v a s s1 s2 taken answered = ap (λ (t : Side). (row t v).asks) answered ∙ ended-asks T i v a s1 ∙ ap (λ (t : Side). (row t v).asks) taken
+    ∙ taken-asks v s
 
 -- to answer what is left after a turn is to answer all
-pub turn-row : (T : Setup) (i v : ℕ) (a : Ask) (s s1 s2 : Side) → s1 ≡ ask_taken v s → s2 ≡ ask_ended T i a s1 → Some a ≡ slice_get (row s v).asks 0 → in_turn (ask_ended T i) (row s2 v).asks (unasked v s2) ≡ in_turn (ask_ended T i) (row s v).asks (unasked v s)
+pub turn-row : (T : Setup) (i v : ℕ) (a : Ask) (s s1 s2 : Side) → s1 ≡ ask_taken v s → s2 ≡ ask_ended T i a s1 → Some a ≡ slice_get (row s v).asks 0 →
+    in_turn (ask_ended T i) (row s2 v).asks (unasked v s2) ≡ in_turn (ask_ended T i) (row s v).asks (unasked v s)
 unfolding in_turn
 turn-row T i v a s s1 s2 taken answered front =
     let rest : List Ask = drop 1 (row s v).asks in
@@ -195,7 +204,8 @@ turn-row T i v a s s1 s2 taken answered front =
     ∙ ap (λ asks. in_turn (ask_ended T i) asks (unasked v s)) (sym (front-rest a (row s v).asks front))
 
 -- nothing is left
-pub last-row : (T : Setup) (i v : ℕ) (s s1 : Side) → s1 ≡ ask_taken v s → None ≡ slice_get (row s v).asks 0 → s1 ≡ in_turn (ask_ended T i) (row s v).asks (unasked v s)
+pub last-row : (T : Setup) (i v : ℕ) (s s1 : Side) → s1 ≡ ask_taken v s → None ≡ slice_get (row s v).asks 0 →
+    s1 ≡ in_turn (ask_ended T i) (row s v).asks (unasked v s)
 unfolding in_turn
 last-row T i v s s1 taken front =
     let none : (row s v).asks ≡ [] = front-none (row s v).asks front in

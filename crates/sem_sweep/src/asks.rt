@@ -4,9 +4,11 @@ ghost use Rattle.sem_key.specs.Lists.{in_turn};
 ghost use Rattle.sem_key.specs.declared.object.Object.{Object as ObjectOf};
 ghost use Rattle.sem_msg.specs.declared.code.Code.TheVariants.{Dead};
 ghost use Rattle.sem_msg.specs.declared.message.Target.{Target};
-ghost use Rattle.sem_msg.specs.declared.state.Ask.TheVariants.{Obtain as ObtainAsk, Delegate as DelegateAsk};
+ghost use Rattle.sem_msg.specs.declared.state.Ask.TheVariants.{Obtain as ObtainAsk};
+ghost use Rattle.sem_msg.specs.declared.state.Ask.TheVariants.{Delegate as DelegateAsk};
 ghost use Rattle.sem_msg.specs.Codes.{code_number};
-ghost use Rattle.sem_msg.specs.Lookups.{kernel_of as kernel_of_lem, owner_of as owner_of_lem, place_owner as place_owner_lem};
+ghost use Rattle.sem_msg.specs.Lookups.{kernel_of as kernel_of_lem, owner_of as owner_of_lem};
+ghost use Rattle.sem_msg.specs.Lookups.{place_owner as place_owner_lem};
 ghost use Rattle.sem_msg.specs.Outboxes.{HasBoxes};
 ghost use Rattle.sem_msg.specs.ParkedStates.{parked_as, state_of};
 ghost use Rattle.sem_msg.specs.declared.state.Parked.TheVariants.{Ready};
@@ -24,7 +26,7 @@ use sem_msg::{Ask, Code, Outboxes, Parked, Setup};
 use sem_park::Park;
 use sem_vpe::Vpes;
 
-// The asks of the dead VPE are taken out and answered, oldest first.
+// Takes out and answers the asks of the dead VPE, oldest first.
 pub fn answer_asks(
     setup: &Setup,
     kernel: u32,
@@ -39,7 +41,10 @@ pub fn answer_asks(
     requires owes { CanOwe setup.now (state_of park.old vpe) }
     requires boxes { HasBoxes setup.now outs.old }
     requires spare { length (row vpes.old.rows vpe).asks ≤ outs.old.spare }
-    ensures row { (s : Side) → answering vpes.new park.new outs.new s ≡ in_turn (ask_ended setup.now kernel) (row vpes.old.rows vpe).asks (unasked vpe (answering vpes.old park.old outs.old s)) }
+    ensures row { (s : Side) →
+        answering vpes.new park.new outs.new s
+        ≡ in_turn (ask_ended setup.now kernel) (row vpes.old.rows vpe).asks
+        (unasked vpe (answering vpes.old park.old outs.old s)) }
     ensures owes { CanOwe setup.now (state_of park.new vpe) }
     ensures ours { vpes.new.ours ≡ vpes.old.ours }
     ensures boxes { HasBoxes setup.now outs.new }
@@ -50,7 +55,8 @@ pub fn answer_asks(
     }
 }
 
-// An ask of the dead VPE is answered, or dropped where nobody of this kernel waits for it.
+// Answers an ask of the dead VPE, or drops it if its asker is of this kernel and does not wait for
+// it.
 fn end_ask(
     setup: &Setup,
     kernel: u32,
@@ -63,7 +69,9 @@ fn end_ask(
     requires asker { HasAsker setup.now ask.now }
     requires boxes { HasBoxes setup.now outs.old }
     requires spare { 0 < outs.old.spare }
-    ensures row { (s : Side) → answering vpes.new park.new outs.new s ≡ ask_ended setup.now kernel ask.now (answering vpes.old park.old outs.old s) }
+    ensures row { (s : Side) →
+        answering vpes.new park.new outs.new s
+        ≡ ask_ended setup.now kernel ask.now (answering vpes.old park.old outs.old s) }
     ensures ours { vpes.new.ours ≡ vpes.old.ours }
     ensures boxes { HasBoxes setup.now outs.new }
     ensures spare { outs.old.spare ≤ outs.new.spare + 1 }
@@ -74,8 +82,7 @@ fn end_ask(
     }
 }
 
-// The ask of an obtaining call is answered: its kernel is told, or the call here, if it waits, is
-// refused.
+// Answers the ask of an obtaining call: tells its kernel, or refuses the call here, if it waits.
 fn end_obtain(
     setup: &Setup,
     kernel: u32,
@@ -88,7 +95,10 @@ fn end_obtain(
     requires owner { place_owner_lem setup.now place < setup.now.kernels }
     requires boxes { HasBoxes setup.now outs.old }
     requires spare { 0 < outs.old.spare }
-    ensures row { (target : Target) (s : Side) → answering vpes.new park.new outs.new s ≡ ask_ended setup.now kernel (ObtainAsk place target) (answering vpes.old park.old outs.old s) }
+    ensures row { (target : Target) (s : Side) →
+        answering vpes.new park.new outs.new s
+        ≡ ask_ended setup.now kernel (ObtainAsk place target)
+        (answering vpes.old park.old outs.old s) }
     ensures ours { vpes.new.ours ≡ vpes.old.ours }
     ensures boxes { HasBoxes setup.now outs.new }
     ensures spare { outs.old.spare ≤ outs.new.spare + 1 }
@@ -100,11 +110,13 @@ fn end_obtain(
     }
 }
 
-// The obtaining call of that place, if it waits, will end with the code of a dead VPE, and what it
-// was promised is free.
+// The obtaining call of that place, if it waits, will end with the code of a dead VPE, and its
+// promised selector is free.
 fn end_obtain_here(place: Place, vpes: &mut Vpes, park: &mut Park)
     requires ours { IsOurs vpes.old place.vpe }
-    ensures row { (s : Side) → with_vpes vpes.new.rows (with_parks park.new s) ≡ obtain_ended place (with_vpes vpes.old.rows (with_parks park.old s)) }
+    ensures row { (s : Side) →
+        with_vpes vpes.new.rows (with_parks park.new s)
+        ≡ obtain_ended place (with_vpes vpes.old.rows (with_parks park.old s)) }
     ensures ours { vpes.new.ours ≡ vpes.old.ours }
 {
     let Some(Parked::ObtainWait { number, sel }) = park.state(place.vpe) else {
@@ -141,12 +153,15 @@ fn is_offered(parent: Key, park: &Park) -> bool
     }
 }
 
-// The ask of a delegate is answered: its kernel is told, or the call here, if it waits, is refused.
+// Answers the ask of a delegate: tells its kernel, or refuses the call here, if it waits.
 fn end_offer(setup: &Setup, kernel: u32, parent: Key, park: &mut Park, outs: &mut Outboxes)
     requires owner { owner_of_lem setup.now parent < setup.now.kernels }
     requires boxes { HasBoxes setup.now outs.old }
     requires spare { 0 < outs.old.spare }
-    ensures row { (object : ObjectOf) (sel : ℕ) (s : Side) → with_parks park.new (with_outs outs.new.boxes s) ≡ ask_ended setup.now kernel (DelegateAsk parent object sel) (with_parks park.old (with_outs outs.old.boxes s)) }
+    ensures row { (object : ObjectOf) (sel : ℕ) (s : Side) →
+        with_parks park.new (with_outs outs.new.boxes s)
+        ≡ ask_ended setup.now kernel (DelegateAsk parent object sel)
+        (with_parks park.old (with_outs outs.old.boxes s)) }
     ensures boxes { HasBoxes setup.now outs.new }
     ensures spare { outs.old.spare ≤ outs.new.spare + 1 }
 {

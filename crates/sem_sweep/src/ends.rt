@@ -19,8 +19,8 @@ use sem_msg::{Outboxes, Parked, Setup};
 use sem_park::Park;
 use sem_vpe::Vpes;
 
-/// The end of a VPE, but for what it holds: it is dead, its asks are answered, its waiting call is
-/// taken out. Takes no memory.
+/// The end of a VPE, apart from what it holds: it is dead, its asks are answered, its waiting call
+/// is taken out.
 pub fn end_vpe(
     setup: &Setup,
     kernel: u32,
@@ -36,7 +36,9 @@ pub fn end_vpe(
     requires call { CanOwe setup.now (state_of park.old vpe) }
     requires boxes { HasBoxes setup.now outs.old }
     requires spare { length (row vpes.old.rows vpe).asks + 1 ≤ outs.old.spare }
-    ensures row { (s : Side) → ending vpes.new jobs.new park.new outs.new s ≡ ended_but_held setup.now kernel vpe (ending vpes.old jobs.old park.old outs.old s) }
+    ensures row { (s : Side) →
+        ending vpes.new jobs.new park.new outs.new s
+        ≡ ended_but_held setup.now kernel vpe (ending vpes.old jobs.old park.old outs.old s) }
     ensures ours { vpes.new.ours ≡ vpes.old.ours }
     ensures boxes { HasBoxes setup.now outs.new }
     ensures spare { outs.old.spare ≤ outs.new.spare + (length (row vpes.old.rows vpe).asks + 1) }
@@ -44,20 +46,23 @@ pub fn end_vpe(
     ensures next { jobs.new.next ≡ jobs.old.next }
     ensures count { length jobs.new.jobs ≡ length jobs.old.jobs }
 {
-    // So that the proof knows that the VPE has a place.
+    // Shows the proof that the VPE has a place.
     let _ = vpes.alive(vpe);
     vpes.end(vpe);
     answer_asks(setup, kernel, vpe, vpes, park, outs);
     end_call(setup, vpe, jobs, park, outs);
 }
 
-// The call of the dead VPE is taken out, and what it owes is sent; it waits for no job any more.
+// Takes out the call of the dead VPE and sends what it owes; the VPE no longer waits for a job.
 fn end_call(setup: &Setup, vpe: u16, jobs: &mut Jobs, park: &mut Park, outs: &mut Outboxes)
     requires vpe { vpe < VPES }
     requires owes { CanOwe setup.now (state_of park.old vpe) }
     requires boxes { HasBoxes setup.now outs.old }
     requires spare { 0 < outs.old.spare }
-    ensures row { (s : Side) → with_jobs jobs.new.jobs jobs.new.next (with_parks park.new (with_outs outs.new.boxes s)) ≡ call_taken setup.now vpe (with_jobs jobs.old.jobs jobs.old.next (with_parks park.old (with_outs outs.old.boxes s))) }
+    ensures row { (s : Side) →
+        with_jobs jobs.new.jobs jobs.new.next (with_parks park.new (with_outs outs.new.boxes s))
+        ≡ call_taken setup.now vpe
+        (with_jobs jobs.old.jobs jobs.old.next (with_parks park.old (with_outs outs.old.boxes s))) }
     ensures boxes { HasBoxes setup.now outs.new }
     ensures spare { outs.old.spare ≤ outs.new.spare + 1 }
     ensures job_spare { jobs.new.spare ≡ jobs.old.spare }
@@ -78,7 +83,7 @@ fn end_call(setup: &Setup, vpe: u16, jobs: &mut Jobs, park: &mut Park, outs: &mu
     }
 }
 
-// The VPE, which waited for the job, waits for no job, and keeps no root by it.
+// The VPE, which waited for the job, waits for no job, and no job keeps a root for it.
 fn leave_job(vpe: u16, job: u32, jobs: &mut Jobs)
     ensures jobs { jobs.new ≡ record jobs.old { jobs = waiter_left job vpe jobs.old.jobs } }
     ensures count { length jobs.new.jobs ≡ length jobs.old.jobs }
@@ -87,7 +92,7 @@ fn leave_job(vpe: u16, job: u32, jobs: &mut Jobs)
     jobs.leave(vpe);
 }
 
-// The job keeps its root no longer, where that is a capability of the VPE.
+// If the root of the job is a capability of the VPE, the job no longer keeps it.
 fn give_up_root(vpe: u16, job: u32, jobs: &mut Jobs)
     ensures { jobs.new ≡ record jobs.old { jobs = root_left job vpe jobs.old.jobs } }
 {

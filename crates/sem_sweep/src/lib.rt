@@ -1,4 +1,5 @@
-//! How revocation comes to an end: what a finished job sweeps and who is told, and the end of a VPE.
+//! How revocation ends: what a finished job sweeps and who is told, and the end of a VPE. No
+//! function here takes memory.
 #![tactic(auto)]
 
 mod asks;

@@ -1,6 +1,7 @@
-// The messages of a job that is finished and of a VPE that ends; all of them fit.
+// The messages of a job that finishes and of a VPE that ends; all of them fit.
 ghost use Rattle.std.specs.Prelude.{◌≡◌, ◌<◌, ◌≤◌, ◌+◌, [], ◌∷◌, ◌++◌, false};
-ghost use Rattle.sem_msg.specs.declared.message.Message.TheVariants.{Ack, DelegateNo, ObtainNo, Orphan, RevokeDone, Unlink};
+ghost use Rattle.sem_msg.specs.declared.message.Message.TheVariants.{Ack, DelegateNo, ObtainNo};
+ghost use Rattle.sem_msg.specs.declared.message.Message.TheVariants.{Orphan, RevokeDone, Unlink};
 ghost use Rattle.sem_msg.specs.declared.code.Code.TheVariants.{Dead};
 ghost use Rattle.sem_msg.specs.Codes.{code_number};
 ghost use Rattle.sem_msg.specs.Lookups.{owner_of as owner_of_lem};
@@ -10,7 +11,7 @@ ghost use Rattle.sem_msg.specs.Outboxes.{HasBoxes, box_for, with_box};
 use sem_key::{Key, Place};
 use sem_msg::{Code, Message, Outboxes, Setup};
 
-// The parent leads to the key no more.
+// The parent loses its link to the key.
 pub fn unlinking(parent: Key, key: Key) -> Message
     ensures message { result ≡ Unlink parent key }
     ensures fits { Fits result }
@@ -37,7 +38,7 @@ pub fn obtain_refusal(place: Place) -> Message
     }
 }
 
-// The VPE to which the capability was offered is dead.
+// The VPE that the capability was offered to is dead.
 pub fn offer_refusal(parent: Key) -> Message
     ensures message { result ≡ DelegateNo parent (code_number Dead) }
     ensures fits { Fits result }
@@ -48,7 +49,7 @@ pub fn offer_refusal(parent: Key) -> Message
     }
 }
 
-// The parent has a child which nobody holds.
+// The parent has a child that no VPE holds.
 pub fn orphaned(parent: Key, key: Key) -> Message
     ensures message { result ≡ Orphan parent key }
     ensures fits { Fits result }
@@ -70,11 +71,12 @@ pub fn tell(setup: &Setup, to: u32, message: Message, outs: &mut Outboxes)
     requires to { to < setup.now.kernels }
     requires boxes { HasBoxes setup.now outs.old }
     requires spare { 0 < outs.old.spare }
-    ensures sent { outs.new.boxes ≡ with_box outs.old.boxes to (box_for outs.old.boxes to ++ message ∷ []) }
+    ensures sent { outs.new.boxes
+        ≡ with_box outs.old.boxes to (box_for outs.old.boxes to ++ message ∷ []) }
     ensures boxes { HasBoxes setup.now outs.new }
     ensures spare { outs.new.spare + 1 ≡ outs.old.spare }
 {
-    // So that the proof knows how many kernels there are.
+    // Shows the proof how many kernels there are.
     let _ = &setup.kernels;
     outs.send(to, message);
 }
@@ -85,7 +87,9 @@ pub fn tell_owner(setup: &Setup, key: Key, message: Message, outs: &mut Outboxes
     requires owner { owner_of_lem setup.now key < setup.now.kernels }
     requires boxes { HasBoxes setup.now outs.old }
     requires spare { 0 < outs.old.spare }
-    ensures sent { outs.new.boxes ≡ with_box outs.old.boxes (owner_of_lem setup.now key) (box_for outs.old.boxes (owner_of_lem setup.now key) ++ message ∷ []) }
+    ensures sent { outs.new.boxes
+        ≡ with_box outs.old.boxes (owner_of_lem setup.now key)
+        (box_for outs.old.boxes (owner_of_lem setup.now key) ++ message ∷ []) }
     ensures boxes { HasBoxes setup.now outs.new }
     ensures spare { outs.new.spare + 1 ≡ outs.old.spare }
 {

@@ -1,4 +1,5 @@
-ghost use Rattle.std.specs.Prelude.{◌≡◌, ℕ, ◌+◌, ◌<◌, ◌≤◌, All, IfSome, IsSome, length, vec_capacity};
+ghost use Rattle.std.specs.Prelude.{◌≡◌, ℕ, ◌+◌, ◌<◌, ◌≤◌, All, IfSome, IsSome, length};
+ghost use Rattle.std.specs.Prelude.{vec_capacity};
 ghost use Rattle.std.specs.Option.{option_and_then};
 ghost use Rattle.sem_key.specs.declared.limits.TheConstants.{VPES};
 ghost use Rattle.sem_key.specs.CapList.{restored};
@@ -12,8 +13,11 @@ ghost use Rattle.sem_msg.specs.Setup.{Setup as SetupOf};
 ghost use Rattle.sem_vpe.specs.VpeTable.{AreOurs, IsOurs};
 ghost use Rattle.sem_machine.specs.Sides.{Side, no_side};
 ghost use Rattle.sem_machine.specs.Stores.{with_caps, with_jobs, with_outs, with_vpes};
-ghost use Rattle.sem_machine.specs.Revokes.{all_woken, closed_here, finish, left_parent, parent_left, spared, swept, up_told};
-ghost use Rattle.sem_sweep.specs.Sweeping.{CanSweepCap, HasOwner, IsUpOf, closing, is_remote as is_remote_lem, marked_removed, parent_messages, sweeping, up_messages};
+ghost use Rattle.sem_machine.specs.Revokes.{all_woken, closed_here, finish, left_parent};
+ghost use Rattle.sem_machine.specs.Revokes.{parent_left, spared, swept, up_told};
+ghost use Rattle.sem_sweep.specs.Sweeping.{CanSweepCap, HasOwner, IsUpOf, closing};
+ghost use Rattle.sem_sweep.specs.Sweeping.{is_remote as is_remote_lem, marked_removed};
+ghost use Rattle.sem_sweep.specs.Sweeping.{parent_messages, sweeping, up_messages};
 
 use crate::messages::{tell, tell_owner, token, unlinking};
 use sem_caps::Caps;
@@ -23,7 +27,7 @@ use sem_msg::{Code, Outboxes, Parked, Setup, Up};
 use sem_park::Park;
 use sem_vpe::Vpes;
 
-/// Finishes the job, and then each that is done by that. Takes no memory.
+/// Finishes the job, and then every job that this finishes.
 pub fn sweep(
     setup: &Setup,
     kernel: u32,
@@ -42,7 +46,10 @@ pub fn sweep(
     requires boxes { HasBoxes setup.now outs.old }
     requires spare { length jobs.old.jobs ≤ outs.old.spare }
     requires space { length caps.old.caps ≤ vec_capacity scratch.old.gone }
-    ensures row { (s : Side) → sweeping caps.new vpes.new jobs.new park.new outs.new s ≡ finish setup.now kernel (length jobs.old.jobs) (job_of jobs.old.jobs job) (sweeping caps.old vpes.old jobs.old park.old outs.old s) }
+    ensures row { (s : Side) →
+        sweeping caps.new vpes.new jobs.new park.new outs.new s
+        ≡ finish setup.now kernel (length jobs.old.jobs) (job_of jobs.old.jobs job)
+        (sweeping caps.old vpes.old jobs.old park.old outs.old s) }
     ensures ours { vpes.new.ours ≡ vpes.old.ours }
     ensures boxes { HasBoxes setup.now outs.new }
     ensures spare { outs.old.spare + length jobs.new.jobs ≤ outs.new.spare + length jobs.old.jobs }
@@ -71,7 +78,7 @@ pub fn sweep(
     }
 }
 
-// A job that was taken out is closed, save that the job which waits for it is not told.
+// Closes a job that was taken out, but does not tell the job that waits for it.
 fn close(
     setup: &Setup,
     kernel: u32,
@@ -87,7 +94,10 @@ fn close(
     requires boxes { HasBoxes setup.now outs.old }
     requires spare { parent_messages finished.now.up ≤ outs.old.spare }
     requires space { length caps.old.caps ≤ vec_capacity gone.old }
-    ensures row { (s : Side) → closing caps.new vpes.new park.new outs.new s ≡ closed_here setup.now kernel finished.now (closing caps.old vpes.old park.old outs.old s) }
+    ensures row { (s : Side) →
+        closing caps.new vpes.new park.new outs.new s
+        ≡ closed_here setup.now kernel finished.now
+        (closing caps.old vpes.old park.old outs.old s) }
     ensures caps { All (CanSweepCap setup.now kernel) caps.new.caps }
     ensures count { length caps.new.caps ≤ length caps.old.caps }
     ensures ours { vpes.new.ours ≡ vpes.old.ours }
@@ -98,12 +108,12 @@ fn close(
 {
     let parent = parent_to_leave(finished, caps);
     spare_root(finished, caps);
-    remove_caps(finished.id, caps, vpes, gone);
+    remove_caps(finished.id, finished.root, caps, vpes, gone);
     wake_all(&finished.slots, park);
     leave_parent(setup, kernel, finished, parent, caps, outs);
 }
 
-// The parent that the root of a finished job leaves: none, if the job keeps its root.
+// The parent that loses the root of a finished job: none, if the job keeps its root.
 fn parent_to_leave(finished: &Job, caps: &Caps) -> Option<Key>
     ensures { result ≡ left_parent (with_caps caps.now.caps no_side) finished.now }
 {
@@ -114,11 +124,12 @@ fn parent_to_leave(finished: &Job, caps: &Caps) -> Option<Key>
     cap.parent
 }
 
-// The root of a job that keeps it loses its mark and its links to children.
+// If the job keeps its root, the root loses its mark and its child links.
 fn spare_root(finished: &Job, caps: &mut Caps)
     ensures caps { caps.new.caps ≡ spared finished.now.keep finished.now.root caps.old.caps }
     ensures spare { caps.new.spare ≡ caps.old.spare }
-    ensures kept { (T : SetupOf) (i : ℕ) → All (CanSweepCap T i) caps.old.caps → All (CanSweepCap T i) caps.new.caps }
+    ensures kept { (T : SetupOf) (i : ℕ) → All (CanSweepCap T i) caps.old.caps →
+        All (CanSweepCap T i) caps.new.caps }
     ensures count { length caps.new.caps ≡ length caps.old.caps }
 {
     if finished.keep {
@@ -126,7 +137,7 @@ fn spare_root(finished: &Job, caps: &mut Caps)
     }
 }
 
-// The capability of that key, if it is held, loses its mark and its links to children.
+// The capability of that key, if it is held, loses its mark and its child links.
 fn restore(root: Key, caps: &mut Caps)
     ensures caps { caps.new.caps ≡ restored caps.old.caps root }
     ensures spare { caps.new.spare ≡ caps.old.spare }
@@ -136,19 +147,22 @@ fn restore(root: Key, caps: &mut Caps)
     }
 }
 
-// What the job has marked is removed, and its selectors are free.
-fn remove_caps(job: u32, caps: &mut Caps, vpes: &mut Vpes, gone: &mut Vec<(Key, u8)>)
+// Removes all that the job of that root has marked, and frees its selectors.
+fn remove_caps(job: u32, root: Key, caps: &mut Caps, vpes: &mut Vpes, gone: &mut Vec<(Key, u8)>)
     requires ours { All (λ c. IsOurs vpes.old c.key.vpe) caps.old.caps }
     requires space { length caps.old.caps ≤ vec_capacity gone.old }
-    ensures row { (s : Side) → with_caps caps.new.caps (with_vpes vpes.new.rows s) ≡ marked_removed job (with_caps caps.old.caps (with_vpes vpes.old.rows s)) }
-    ensures kept { (T : SetupOf) (i : ℕ) → All (CanSweepCap T i) caps.old.caps → All (CanSweepCap T i) caps.new.caps }
+    ensures row { (s : Side) →
+        with_caps caps.new.caps (with_vpes vpes.new.rows s)
+        ≡ marked_removed job (with_caps caps.old.caps (with_vpes vpes.old.rows s)) }
+    ensures kept { (T : SetupOf) (i : ℕ) → All (CanSweepCap T i) caps.old.caps →
+        All (CanSweepCap T i) caps.new.caps }
     ensures count { length caps.new.caps ≤ length caps.old.caps }
     ensures ours { vpes.new.ours ≡ vpes.old.ours }
     ensures spare { caps.old.spare ≤ caps.new.spare }
     ensures space { vec_capacity gone.new ≡ vec_capacity gone.old }
 {
     gone.clear();
-    caps.remove_marked(job, gone);
+    caps.remove_marked_of(job, Some(root), gone);
     for at in 0..gone.len() {
         let (key, sel) = gone[at];
         vpes.release(key.vpe, sel);
@@ -159,14 +173,13 @@ fn remove_caps(job: u32, caps: &mut Caps, vpes: &mut Vpes, gone: &mut Vec<(Key, 
 fn wake_all(waiters: &VpeList, park: &mut Park)
     ensures { park.new ≡ all_woken waiters.now park.old }
 {
-    for vpe in 0..VPES {
+    for vpe in waiters.first()..VPES {
         if waiters.has(vpe) {
             wake(vpe, park);
         }
     }
 }
 
-// The waiting call of the VPE will succeed.
 fn wake(vpe: u16, park: &mut Park)
     requires { vpe < VPES }
     ensures { park.new ≡ parked_as park.old vpe (Ready (code_number OkCode)) }
@@ -186,7 +199,7 @@ fn is_remote(up: Option<Up>) -> bool
     matches!(up, Some(Up::Remote { .. }))
 }
 
-// The parent of the root of a finished job leads to it no more. The kernel of a remote parent is
+// The parent of the root of a finished job loses its link to it. The kernel of a remote parent is
 // told, unless a job there waits.
 fn leave_parent(
     setup: &Setup,
@@ -199,8 +212,12 @@ fn leave_parent(
     requires owner { IfSome parent (HasOwner setup.now) }
     requires boxes { HasBoxes setup.now outs.old }
     requires spare { parent_messages finished.now.up ≤ outs.old.spare }
-    ensures row { (s : Side) → with_caps caps.new.caps (with_outs outs.new.boxes s) ≡ parent_left setup.now kernel finished.now parent (with_caps caps.old.caps (with_outs outs.old.boxes s)) }
-    ensures kept { (i : ℕ) → All (CanSweepCap setup.now i) caps.old.caps → All (CanSweepCap setup.now i) caps.new.caps }
+    ensures row { (s : Side) →
+        with_caps caps.new.caps (with_outs outs.new.boxes s)
+        ≡ parent_left setup.now kernel finished.now parent
+        (with_caps caps.old.caps (with_outs outs.old.boxes s)) }
+    ensures kept { (i : ℕ) → All (CanSweepCap setup.now i) caps.old.caps →
+        All (CanSweepCap setup.now i) caps.new.caps }
     ensures count { length caps.new.caps ≡ length caps.old.caps }
     ensures boxes { HasBoxes setup.now outs.new }
     ensures spare { outs.old.spare ≤ outs.new.spare + parent_messages finished.now.up }
@@ -216,12 +233,14 @@ fn leave_parent(
     }
 }
 
-// Tells the job that waits for a finished one. Gives its id where it is finished next.
+// Tells the job that waits for a finished one. Returns its id if it finishes next.
 fn tell_up(setup: &Setup, up: Option<Up>, jobs: &mut Jobs, outs: &mut Outboxes) -> Option<u32>
     requires boxes { HasBoxes setup.now outs.old }
     requires up { IsUpOf setup.now up }
     requires spare { up_messages up ≤ outs.old.spare }
-    ensures row { (s : Side) → with_jobs jobs.new.jobs jobs.new.next (with_outs outs.new.boxes s) ≡ up_told up (with_jobs jobs.old.jobs jobs.old.next (with_outs outs.old.boxes s)) }
+    ensures row { (s : Side) →
+        with_jobs jobs.new.jobs jobs.new.next (with_outs outs.new.boxes s)
+        ≡ up_told up (with_jobs jobs.old.jobs jobs.old.next (with_outs outs.old.boxes s)) }
     ensures next { option_and_then (job_of jobs.new.jobs) result ≡ next_done up jobs.new.jobs }
     ensures told { jobs.new ≡ record jobs.old { jobs = told up jobs.old.jobs } }
     ensures there { IfSome result (λ j. IsSome (job_of jobs.new.jobs j)) }

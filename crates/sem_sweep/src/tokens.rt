@@ -9,10 +9,11 @@ ghost use Rattle.sem_machine.specs.Handles.{handle_row};
 
 use sem_jobs::Jobs;
 
-/// A token came back to the job, if it is there. Gives its id where it is to be finished now.
-/// Takes no memory.
+/// A token came back to the job, if it is there. Returns its id if it is to finish now.
 pub fn revoke_done(job: u32, jobs: &mut Jobs) -> Option<u32>
-    ensures row { (T : SetupOf) (i from : ℕ) (s : Side) → finished T i result (with_jobs jobs.new.jobs jobs.new.next s) ≡ handle_row T i (with_jobs jobs.old.jobs jobs.old.next s) from (RevokeDone job) }
+    ensures row { (T : SetupOf) (i from : ℕ) (s : Side) →
+        finished T i result (with_jobs jobs.new.jobs jobs.new.next s)
+        ≡ handle_row T i (with_jobs jobs.old.jobs jobs.old.next s) from (RevokeDone job) }
     ensures lowered { jobs.new ≡ record jobs.old { jobs = count_lowered job jobs.old.jobs } }
     ensures answer { IfSome result (λ j. j ≡ job) }
     ensures done { IsSome result → IsSomeAnd (job_of jobs.new.jobs job) (λ x. x.count ≡ 0) }

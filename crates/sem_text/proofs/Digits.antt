@@ -1,5 +1,6 @@
 -- Numbers read digit by digit.
-use Rattle.std.proofs.Common.{◌≡◌, ℕ, ◌+◌, ◌-◌, ◌*◌, ◌/◌, ◌%◌, ◌<◌, ◌≤◌, true, List, [], ◌∷◌, ◌++◌, length, take, drop, get_or, decimal, Err, refl, ap, sym, ◌∙◌, append_assoc, arith}
+use Rattle.std.proofs.Common.{◌≡◌, ℕ, ◌+◌, ◌-◌, ◌*◌, ◌/◌, ◌%◌, ◌<◌, ◌≤◌, true, List, [], ◌∷◌, ◌++◌, length, take, drop, get_or, decimal, Err, refl, ap, sym}
+use Rattle.std.proofs.Common.{◌∙◌, append_assoc, arith}
 use Rattle.std.specs.List.{fold}
 use Rattle.std.proofs.lemmas.Bool.Decides.{nat_tests}
 use Rattle.std.proofs.lemmas.Fmt.{decimal_step}
@@ -15,10 +16,12 @@ fold_grows n [] = omega arith
 fold_grows n (b ∷ bs) = let tail = fold_grows (n * 10 + (b - 48)) bs in omega arith
 
 -- a value that is out of range stays so with more digits
-pub out_of_range : (word : List ℕ) (i most : ℕ) → is_number word ≡ true → i < length word → most < number_value (take i word) * 10 + (get_or word i 0 - 48) → number_of word most ≡ Err Range
+pub out_of_range : (word : List ℕ) (i most : ℕ) → is_number word ≡ true → i < length word → most < number_value (take i word) * 10 + (get_or word i 0 - 48) →
+    number_of word most ≡ Err Range
 out_of_range word i most number within above =
     let step : number_value (take (i + 1) word) ≡ number_value (take i word) * 10 + (get_or word i 0 - 48) = grind (arith, common_steps) in
-    let whole : fold (λ n b. n * 10 + (b - 48)) (number_value (take (i + 1) word)) (drop (i + 1) word) ≡ number_value word = rw (← fold-append, take-append-drop) refl in
+    let whole : fold (λ n b. n * 10 + (b - 48)) (number_value (take (i + 1) word)) (drop (i + 1) word) ≡ number_value word =
+    rw (← fold-append, take-append-drop) refl in
     let grows = fold_grows (number_value (take (i + 1) word)) (drop (i + 1) word) in
     let more : most < number_value word = omega arith in
     grind (arith, nat_tests)
@@ -41,7 +44,8 @@ last_digits out n more few =
     decimal_step n (omega arith) (omega arith)
     ∙ ap (λ ds. ds ++ ((48 + n % 10) ∷ [])) (decimal_step (n / 10) (omega arith) (omega arith)
     ∙ ap (λ ds. ds ++ ((48 + n / 10 % 10) ∷ [])) (decimal_step (n / 10 / 10) (omega arith) (omega arith))) in
-    let same : decimal (n / 10 / 10 / 10) ++ ((48 + n / 10 / 10 % 10) ∷ (48 + n / 10 % 10) ∷ (48 + n % 10) ∷ []) ≡ decimal (n / 1000) ++ three_digits (n % 1000) =
+    let same : decimal (n / 10 / 10 / 10) ++ ((48 + n / 10 / 10 % 10) ∷ (48 + n / 10 % 10) ∷ (48 + n % 10) ∷ []) ≡ decimal (n / 1000)
+    ++ three_digits (n % 1000) =
     λ i. decimal (front i) ++ ((48 + a i) ∷ (48 + b i) ∷ (48 + c i) ∷ []) in
     append_assoc out (decimal (n / 1000)) (three_digits (n % 1000))
     ∙ ap (λ ds. out ++ ds) (sym (steps ∙ (joined _ _ _ _ ∙ same)))

@@ -10,7 +10,7 @@ is_blank b = (b == 32) || (b == 9)
 abbrev pub word_begin : List ℕ → ℕ → ℕ
 word_begin line from = from + prefix_len is_blank (drop from line)
 
--- where the next word begins and where it ends; where only blanks are left there is no word
+-- where the next word begins and where it ends; no word if only blanks are left
 abbrev pub word_from : List ℕ → ℕ → Option (ℕ × ℕ)
 word_from line from =
     let begin : ℕ = word_begin line from in

@@ -16,7 +16,7 @@ pub fn line_at(bytes: &[u8], from: usize) -> Option<(usize, usize)>
     Some((end, bytes.len().min(end + 1)))
 }
 
-/// Where the next word of the line begins and ends, from `from` on; none where only blanks and tabs
+/// Where the next word of the line begins and ends, from `from` on; none if only blanks and tabs
 /// are left. Takes no memory.
 pub fn word_at(line: &[u8], from: usize) -> Option<(usize, usize)>
     requires { from ≤ length line.now }
@@ -29,7 +29,7 @@ pub fn word_at(line: &[u8], from: usize) -> Option<(usize, usize)>
     Some((begin, begin + word_len(&line[begin..])))
 }
 
-// How many bytes come before the first line end, or in all.
+// How many bytes come before the first line end, or all if there is none.
 fn line_len(bytes: &[u8]) -> usize
     ensures within { result ≤ length bytes.now }
     ensures first { result ≡ position_or_len (λ b. b == 10) bytes.now }

@@ -1,14 +1,16 @@
-ghost use Rattle.std.specs.Prelude.{◌≡◌, ◌+◌, ◌*◌, ◌<◌, ◌≤◌, [], ◌∷◌, ◌++◌, nat_lt, decimal, OnOk, OnErr, Ok, Err, if◌then◌else◌};
+ghost use Rattle.std.specs.Prelude.{◌≡◌, ◌+◌, ◌*◌, ◌<◌, ◌≤◌, [], ◌∷◌, ◌++◌, nat_lt, decimal, OnOk};
+ghost use Rattle.std.specs.Prelude.{OnErr, Ok, Err, if◌then◌else◌};
 ghost use Rattle.std.specs.List.{list_all};
 ghost use Rattle.std.specs.Vec.{vec_len, vec_capacity};
-ghost use Rattle.sem_text.specs.Number.{number_of, is_digit, three_digits, is_number as is_number_lem};
+ghost use Rattle.sem_text.specs.Number.{number_of, is_digit, three_digits};
+ghost use Rattle.sem_text.specs.Number.{is_number as is_number_lem};
 ghost use Rattle.sem_text.specs.declared.numbers.NumberFault.TheVariants.{Range};
 
 use itoa::Buffer;
 use std::alloc::AllocError as OutOfMemory;
 use thiserror::Error;
 
-/// Why a word is not the wanted number.
+/// Why a word is not a number up to the limit.
 #[derive(Clone, Copy, Debug, PartialEq, Eq, Error)]
 pub enum NumberFault {
     #[error("not a number")]
@@ -32,7 +34,6 @@ pub fn number(word: &[u8], most: u64) -> Result<u64, NumberFault>
     Ok(value)
 }
 
-// Whether the word is a number.
 fn is_number(word: &[u8]) -> bool
     ensures { result ≡ is_number_lem word.now }
 {
@@ -43,17 +44,17 @@ fn is_number(word: &[u8]) -> bool
     }
 }
 
-// Whether all bytes are digits.
 fn all_digits(bytes: &[u8]) -> bool
     ensures { result ≡ list_all is_digit bytes.now }
 {
     bytes.iter().all(|byte| byte.is_ascii_digit())
 }
 
-// The value with one more digit behind it, if that is at most `most`.
+// The value with one more digit after it, if that is at most `most`.
 fn with_digit(value: u64, digit: u8, most: u64) -> Result<u64, NumberFault>
     requires { digit < 10 }
-    ensures { result ≡ (if nat_lt most (value * 10 + digit) then Err Range else Ok (value * 10 + digit)) }
+    ensures { result ≡ (if nat_lt most (value * 10 + digit) then Err Range
+        else Ok (value * 10 + digit)) }
 {
     match value
         .checked_mul(10)
@@ -64,7 +65,7 @@ fn with_digit(value: u64, digit: u8, most: u64) -> Result<u64, NumberFault>
     }
 }
 
-/// Appends the decimal text of the number. After want of memory `out` is as before.
+/// Appends the decimal text of the number. If memory is refused, `out` is as before.
 // Most numbers have one digit, and their way is inlined.
 #[inline(always)]
 pub fn push_number(out: &mut Vec<u8>, value: u64) -> Result<(), OutOfMemory>
@@ -79,8 +80,8 @@ pub fn push_number(out: &mut Vec<u8>, value: u64) -> Result<(), OutOfMemory>
     push_digits(out, value)
 }
 
-/// Appends the byte, and the decimal text of the number behind it. After want of memory a part may
-/// be there.
+/// Appends the byte, and then the decimal text of the number. If memory is refused, a part may be
+/// there.
 #[inline(always)]
 pub fn push_number_behind(out: &mut Vec<u8>, byte: u8, value: u64) -> Result<(), OutOfMemory>
     ensures ok { OnOk result (out.new.items ≡ out.old.items ++ byte ∷ decimal value) }
@@ -94,7 +95,6 @@ pub fn push_number_behind(out: &mut Vec<u8>, byte: u8, value: u64) -> Result<(),
     push_digits_behind(out, byte, value)
 }
 
-// Appends the decimal text of the number.
 #[inline(never)]
 fn push_digits(out: &mut Vec<u8>, value: u64) -> Result<(), OutOfMemory>
     ensures ok { OnOk result (out.new.items ≡ out.old.items ++ decimal value) }
@@ -108,7 +108,6 @@ fn push_digits(out: &mut Vec<u8>, value: u64) -> Result<(), OutOfMemory>
     push_long(out, value)
 }
 
-// Appends the byte, and the decimal text of the number behind it.
 #[inline(never)]
 fn push_digits_behind(out: &mut Vec<u8>, byte: u8, value: u64) -> Result<(), OutOfMemory>
     ensures ok { OnOk result (out.new.items ≡ out.old.items ++ byte ∷ decimal value) }
@@ -137,7 +136,7 @@ fn push_long(out: &mut Vec<u8>, value: u64) -> Result<(), OutOfMemory>
     out.extend_from_slice(Buffer::new().format(value).as_bytes())
 }
 
-// Appends the decimal text of a number below 1,000,000,000, for which there is room.
+// Appends the decimal text of a number below 1,000,000,000. There must be room for it.
 fn put_digits(out: &mut Vec<u8>, value: u32)
     requires few { value < 1000000000 }
     requires room { vec_len out.old + 9 ≤ vec_capacity out.old }
@@ -155,7 +154,7 @@ fn put_digits(out: &mut Vec<u8>, value: u32)
     }
 }
 
-// Appends the last three digits of a number, for which there is room.
+// Appends the last three digits of a number. There must be room for them.
 fn put_last_digits(out: &mut Vec<u8>, value: u32)
     requires few { value < 1000 }
     requires room { vec_len out.old + 3 ≤ vec_capacity out.old }
@@ -168,7 +167,7 @@ fn put_last_digits(out: &mut Vec<u8>, value: u32)
     put_digit(out, (value % 10) as u8);
 }
 
-// Appends the decimal text of a number below 1,000, for which there is room.
+// Appends the decimal text of a number below 1,000. There must be room for it.
 #[inline(always)]
 fn put_three_digits(out: &mut Vec<u8>, value: u32)
     requires few { value < 1000 }
@@ -185,7 +184,7 @@ fn put_three_digits(out: &mut Vec<u8>, value: u32)
     }
 }
 
-// Appends the decimal text of a number below 100, for which there is room.
+// Appends the decimal text of a number below 100. There must be room for it.
 fn put_two_digits(out: &mut Vec<u8>, value: u32)
     requires few { value < 100 }
     requires room { vec_len out.old + 2 ≤ vec_capacity out.old }
@@ -201,7 +200,7 @@ fn put_two_digits(out: &mut Vec<u8>, value: u32)
     }
 }
 
-// Appends a digit, for which there is room.
+// Appends a digit. There must be room for it.
 fn put_digit(out: &mut Vec<u8>, digit: u8)
     requires digit { digit < 10 }
     requires room { vec_len out.old < vec_capacity out.old }

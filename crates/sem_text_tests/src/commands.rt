@@ -15,7 +15,7 @@ const LAST: Key = Key {
     number: 4095,
 };
 
-// Lines, parted by blanks, and which command the words are, if any.
+// Lines with words separated by blanks, and the command of the words, if they are one.
 const LINES: [(&str, Option<Command>); 47] = [
     (
         "check",

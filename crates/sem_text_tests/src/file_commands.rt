@@ -48,7 +48,7 @@ fn a_client_writes_across_two_extents(rt: HostRuntime) -> Result<(), Fail> {
     Ok(())
 }
 
-// Where the text is refused and why, if it is.
+// The line and the cause for which the text is refused, if it is.
 fn refusal(alloc: Global, text: &[u8]) -> Option<TraceFault> {
     match read_files(alloc, text) {
         Err(TraceError::Refused(fault)) => Some(fault),
@@ -56,7 +56,7 @@ fn refusal(alloc: Global, text: &[u8]) -> Option<TraceFault> {
     }
 }
 
-// Sees that the text is refused at that line, for that cause.
+// Checks that the text is refused at that line, for that cause.
 fn refuses(rt: &impl Abort, alloc: Global, text: &str, line: u64, cause: Cause) {
     let found = refusal(alloc, text.as_bytes());
     assert_eq!(rt; found, Some(TraceFault { line, cause }));
@@ -104,7 +104,7 @@ fn a_number_is_used_once(rt: HostRuntime) -> Result<(), Fail> {
     Ok(())
 }
 
-// The text with so many openings by client 1 in all, each closed.
+// The text with that many openings by client 1 in all, each closed.
 fn openings(alloc: Global, number: u32) -> Result<String, Fail> {
     let mut text = String::from_str(alloc, BEGIN)?;
     for _ in 1..number {
@@ -124,7 +124,7 @@ fn a_client_opens_a_thousand_times(rt: HostRuntime) -> Result<(), Fail> {
     Ok(())
 }
 
-// The text with 20,000 calls, and what else client 1 does.
+// The text with 20,000 calls, and what client 1 does besides.
 fn most_calls(alloc: Global, more: &str) -> Result<String, Fail> {
     let begin = "semper files 1\nkernels 2\nfile 0 4\nfile 1 1\nclient 1\ndo 1 open 0 0\n";
     let mut text = String::from_str(alloc, begin)?;

@@ -1,5 +1,5 @@
 //! Tests of traces, entries, reports and records, read and printed, and of the words of a command
-//! line; nothing that runs.
+//! line. No program uses this crate.
 #![tactic(auto)]
 
 #[cfg(test)]

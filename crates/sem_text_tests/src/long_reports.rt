@@ -1,12 +1,12 @@
-// Long reports, whose entries are all alike. `bench/report_texts` runs each of these tests alone
-// and measures it.
+// Long reports of equal entries. `bench/report_texts` runs each of these tests on its own and
+// measures it.
 
 use sem_report::{print_report, read_report};
 use std::alloc::Global;
 use std::process::Abort;
 use std::test::Fail;
 
-// Sees that a report with so many entries is read, and printed as it was.
+// Checks that a report with that many entries is read, and is printed as it was.
 fn is_read(rt: &impl Abort, alloc: Global, entries: usize, count: &str) -> Result<(), Fail> {
     let mut text = Vec::new(alloc);
     text.extend_from_slice(b"semper report 1\nsemper trace 1\nkernels 1\nend\njournal ")?;

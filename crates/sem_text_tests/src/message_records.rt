@@ -1,5 +1,5 @@
-// What an independent program makes of records: the eight words of each in hexadecimal, and on
-// the next line its message or what is wrong with it.
+// What an independent program makes of records: the eight words of each in hexadecimal, and on the
+// next line its message or what is wrong with it.
 // Records of messages.
 pub const MESSAGES: &str = "\
 101000500000000 7f007f00000002c4 0 0 0 0 0 0

@@ -1,4 +1,4 @@
-//! Records of messages beside what an independent program tells of them.
+//! Records of messages, compared with what an independent program tells of them.
 
 use crate::message_records::MESSAGES;
 use crate::wrong_records::CHANGED;
@@ -17,7 +17,7 @@ fn record(line: &str) -> Result<[u8; RECORD], Fail> {
     Ok(bytes)
 }
 
-// Asserts that the bytes are the record of the message that is told so, or have that fault.
+// Asserts that the bytes are the record of the message told by these words, or have that fault.
 fn check(rt: &impl Abort, alloc: Global, bytes: &[u8; RECORD], told: &str) -> Result<(), Fail> {
     match decode(bytes) {
         Ok(message) => {
@@ -54,8 +54,8 @@ fn records_are_those_of_the_messages_in_the_tables(rt: HostRuntime) -> Result<()
     Ok(())
 }
 
-// Two grants of memory, and what each is told to be with one byte changed to 255: the first and the
-// last such byte, and what is wrong or which message it is.
+// Two grants of memory. Each line tells of one byte changed to 255: the first and the last place
+// with that result, and the fault or the message.
 const GRANTS: [(&str, &str); 2] = [
     (
         "200000000000000 100000000 100010100000000 1000000 0 1000 7 0",

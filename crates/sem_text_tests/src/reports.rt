@@ -1,4 +1,4 @@
-//! Reports that are read and printed, and texts that are none.
+//! Reports that are read and printed, and texts that are no reports.
 
 use sem_report::{print_report, read_report};
 use sem_trace::{Cause, TraceError};
@@ -57,7 +57,7 @@ key 1.1.1.0 5
 end
 ";
 
-// The same in version 2, where both VPEs and both kernels have the numbers farthest apart.
+// The same in version 2; both VPEs and both kernels have the numbers farthest apart.
 const FAR_PAIR: &str = "\
 semper report 2
 semper trace 2
@@ -105,8 +105,8 @@ fn a_report_is_read_as_it_is_printed(rt: HostRuntime) -> Result<(), Fail> {
     Ok(())
 }
 
-// A part of the first report, what stands in its place, and the line and the cause for which what
-// comes of it is refused.
+// A part of the first report, its replacement, and the line and the cause for which the result is
+// refused.
 const CHANGES: [(&str, &str, u64, Cause); 38] = [
     // The first line.
     ("report 1", "report 3", 1, Cause::UnknownWord),
@@ -118,7 +118,7 @@ const CHANGES: [(&str, &str, u64, Cause); 38] = [
         1,
         Cause::NotCanonical,
     ),
-    // The trace, which is looked at as a whole before its spelling is.
+    // The trace, which is tested as a whole before its spelling is.
     ("semper trace 1", "semper trace 2", 2, Cause::UnknownWord),
     ("kernels 1\n", "kernels 1\n# more\n", 4, Cause::NotCanonical),
     ("pe 0 0\nvpe 0 0", "pe  0 0\nvpe 0 64", 5, Cause::OutOfRange),
@@ -162,14 +162,14 @@ const CHANGES: [(&str, &str, u64, Cause); 38] = [
     ("trace 1", "trace 1 2", 2, Cause::TooMany),
     ("trace 1", "trace", 2, Cause::Missing),
     ("semper trace 1", "\x7f", 2, Cause::NotText),
-    // What is wrong behind it is not told.
+    // What is wrong after it is not told.
     (
         "trace 1\nkernels 1",
         "trace 2\nkernels 99",
         2,
         Cause::UnknownWord,
     ),
-    // A line that says nothing is passed over, and then it is told itself.
+    // A line that says nothing is skipped first, and then told itself.
     (
         "semper trace 1",
         "# more\nsemper trace 2",
@@ -189,7 +189,7 @@ const CHANGES: [(&str, &str, u64, Cause); 38] = [
         4,
         Cause::UnknownWord,
     ),
-    // The numbers behind the trace go as far as the version allows.
+    // The numbers after the trace go as far as the version allows.
     ("0.0.1.1", "0.64.1.1", 11, Cause::OutOfRange),
 ];
 

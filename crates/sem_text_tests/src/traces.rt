@@ -1,12 +1,12 @@
-//! Traces that are read and printed, and texts that are none: every form of a line with each fault
-//! that a line can have by its form alone, and each fault that it has by the lines before it.
+//! Traces that are read and printed, and texts that are no traces: every form of a line, with each
+//! fault of its form, and each fault that earlier lines cause.
 
 use sem_reader::read_trace;
 use sem_trace::{Cause, TraceError, print_trace};
 use std::alloc::Global;
 use std::test::Fail;
 
-// A line of each form in version 1, and what bounds the numbers of version 2.
+// A line of each form in version 1, and the bounds of the numbers of version 2.
 const TRACES: [&str; 2] = [
     "\
 semper trace 1
@@ -69,7 +69,7 @@ fn a_trace_is_read_as_it_is_printed(rt: HostRuntime) -> Result<(), Fail> {
     Ok(())
 }
 
-// The line and the cause for which the parts together are refused as a trace, if they are.
+// The line and the cause for which the parts, joined, are refused as a trace, if they are.
 fn refusal(alloc: Global, parts: &[&str]) -> Result<Option<(u64, Cause)>, Fail> {
     let mut text = Vec::new(alloc);
     for part in parts {
@@ -85,9 +85,9 @@ fn refusal(alloc: Global, parts: &[&str]) -> Result<Option<(u64, Cause)>, Fail> 
 // A version of the texts.
 #[derive(Clone, Copy)]
 struct Version {
-    // Lines behind which each line below may stand.
+    // Lines that each line below may follow.
     base: &'static str,
-    // The number of such a line.
+    // The number of the line that follows them.
     line: u64,
     // The first number that is no PE and no VPE.
     nodes: &'static str,
@@ -123,7 +123,7 @@ service 0 2 9
     },
 ];
 
-// What stands for that number in the table.
+// The word in the table for that number.
 const NODES: &str = "nodes";
 
 // A line of each form, and for each of its numbers the first above its range.
@@ -167,10 +167,10 @@ const FORMS: [(&str, &[&str]); 22] = [
     ("call 0 clear 255", &[NODES, "256"]),
 ];
 
-// What ends each trace behind such a line.
+// The end of each trace after such a line.
 const END: &str = "\nend\n";
 
-// A quarter of the bytes that no line has.
+// A quarter of the bytes of a line that is too long.
 const BLANKS: &str = "                                                                ";
 
 #[test]
@@ -232,7 +232,7 @@ fn a_line_of_each_form_is_refused_at_each_of_its_words(rt: HostRuntime) -> Resul
     Ok(())
 }
 
-// Ten lines before the line that is tried.
+// Ten lines before the tested line.
 const BASE: &str = "\
 semper trace 1
 kernels 2
@@ -259,7 +259,7 @@ fn what_is_above_a_limit_is_refused(rt: HostRuntime) -> Result<(), Fail> {
     assert_eq!(rt; refusal(alloc, &[base, calls.as_str(), "end\n"])?, None);
     let more = refusal(alloc, &[base, calls.as_str(), "call 0 exit", END])?;
     assert_eq!(rt; more, Some((20008, Cause::TooMany)));
-    // An undeclared caller is told before the number of the call.
+    // An undeclared caller is refused before the number of the call.
     let other = refusal(alloc, &[base, calls.as_str(), "call 1 exit", END])?;
     assert_eq!(rt; other, Some((20008, Cause::Undeclared)));
     Ok(())

@@ -1,6 +1,6 @@
-// What an independent program makes of records: the eight words of each in hexadecimal, and on
-// the next line its message or what is wrong with it.
-// Records in which a byte or two are changed, most of them of no message.
+// What an independent program makes of records: the eight words of each in hexadecimal, and on the
+// next line its message or what is wrong with it.
+// Records with a byte or two changed, most of them of no message.
 pub const CHANGED: &str = "\
 0 0 0 900000000 0 0 0 0
 Tag

@@ -1,5 +1,6 @@
 -- The first line of a text and the first word of a line.
-use Rattle.std.proofs.Common.{◌≡◌, ◌≢◌, ℕ, suc, ◌+◌, ◌<◌, ◌≤◌, ◌==◌, ◌⊎◌, inl, inr, Bool, true, false, cond, not, true≢false, min, List, [], ◌∷◌, length, take, drop, Some, None, ap, sym, ◌∙◌, refl, arith, drop-drop, one-add, length-drop, length-take, eq-eqb, eqb-true}
+use Rattle.std.proofs.Common.{◌≡◌, ◌≢◌, ℕ, suc, ◌+◌, ◌<◌, ◌≤◌, ◌==◌, ◌⊎◌, inl, inr, Bool, true, false, cond, not, true≢false, min, List, [], ◌∷◌, length, take}
+use Rattle.std.proofs.Common.{drop, Some, None, ap, sym, ◌∙◌, refl, arith, drop-drop, one-add, length-drop, length-take, eq-eqb, eqb-true}
 use Rattle.std.specs.List.{filter, slice_split, prefix_len, position_or_len}
 use Rattle.std.proofs.lemmas.Bool.{cases_Bool}
 use Rattle.std.proofs.lemmas.List.{drop_all, drop_min, drop-take}
@@ -20,7 +21,8 @@ module _ (p : ℕ → Bool) where
       ]
 
   -- what is behind it begins with that element
-  rest_begins : (xs : List ℕ) → filter is_word (drop 1 (slice_split p (drop (position_or_len p xs) xs))) ≡ filter is_word (slice_split p (drop (position_or_len p xs) xs))
+  rest_begins : (xs : List ℕ) → filter is_word (drop 1 (slice_split p (drop (position_or_len p xs) xs)))
+      ≡ filter is_word (slice_split p (drop (position_or_len p xs) xs))
   rest_begins [] = refl
   rest_begins (x ∷ xs) =
       elim (cases_Bool (p x)) [
@@ -47,7 +49,9 @@ module _ (p : ℕ → Bool) where
       ]
 
   -- the first part that is not empty
-  first_filled : (xs : List ℕ) → prefix_len p xs ≢ length xs → filter is_word (slice_split p xs) ≡ take (position_or_len p (drop (prefix_len p xs) xs)) (drop (prefix_len p xs) xs) ∷ filter is_word (slice_split p (drop (position_or_len p (drop (prefix_len p xs) xs)) (drop (prefix_len p xs) xs)))
+  first_filled : (xs : List ℕ) → prefix_len p xs ≢ length xs →
+      filter is_word (slice_split p xs) ≡ take (position_or_len p (drop (prefix_len p xs) xs)) (drop (prefix_len p xs) xs)
+      ∷ filter is_word (slice_split p (drop (position_or_len p (drop (prefix_len p xs) xs)) (drop (prefix_len p xs) xs)))
   first_filled xs more =
       let rest : List ℕ = drop (prefix_len p xs) xs in
       skip_front xs ∙ (rw (first_part rest, part_begins xs more) (ap (λ parts. take (position_or_len p rest) rest ∷ parts) (rest_begins rest)))
@@ -57,7 +61,8 @@ module _ (p : ℕ → Bool) where
   split_is_cons xs = (_, _, first_part xs)
 
   -- what stands behind the first part: nothing, or an element that passes
-  pub behind_part : (xs : List ℕ) → (drop (position_or_len p xs) xs ≡ []) ⊎ ((x : ℕ) × (rest : List ℕ) × (drop (position_or_len p xs) xs ≡ x ∷ rest) × (p x ≡ true))
+  pub behind_part : (xs : List ℕ) → (drop (position_or_len p xs) xs ≡ []) ⊎ ((x : ℕ) × (rest : List ℕ) × (drop (position_or_len p xs) xs ≡ x ∷ rest)
+      × (p x ≡ true))
   behind_part [] = inl refl
   behind_part (x ∷ xs) =
       elim (cases_Bool (p x)) [
@@ -94,7 +99,10 @@ none_cond false y found = absurd (none-some y (sym found))
 pub word_found : (line : List ℕ) (begin end : ℕ) → Some (begin, end) ≡ word_from line 0 → FirstWord line begin end
 word_found line begin end found =
     let n : ℕ = 0 + prefix_len is_blank line in
-    let h : ((n == length line) ≡ false) × ((begin, end) ≡ (n, n + prefix_len (λ b. not (is_blank b)) (drop n line))) = found_cond (n == length line) (begin, end) (n, n + prefix_len (λ b. not (is_blank b)) (drop n line)) found in
+    let h : ((n == length line) ≡ false) × ((begin, end) ≡ (n, n + prefix_len (λ b. not (is_blank b)) (drop n line))) = found_cond (n == length line) (
+      begin,
+      end,
+    ) (n, n + prefix_len (λ b. not (is_blank b)) (drop n line)) found in
     let begins : begin ≡ n = ap (λ (q : ℕ × ℕ). q.0) h.1 in
     let ends : end ≡ n + prefix_len (λ b. not (is_blank b)) (drop n line) = ap (λ (q : ℕ × ℕ). q.1) h.1 in
     rw (begins, ends) (found_word line n (omega arith) (λ e. true≢false (sym (eq-eqb _ _ e) ∙ h.0)))
@@ -118,7 +126,8 @@ keep_last [] some = absurd (omega arith)
 keep_last (b ∷ bs) some = refl
 
 -- the lines of a text whose first line is `first`, and behind which `rest` stands
-lines_behind : (first rest : List ℕ) → 0 < length first + length rest → (rest ≡ []) ⊎ ((b : ℕ) × (bs : List ℕ) × (rest ≡ b ∷ bs) × ((b == 10) ≡ true)) → without_empty_last (first ∷ drop 1 (slice_split (λ b. b == 10) rest)) ≡ first ∷ without_empty_last (slice_split (λ b. b == 10) (drop 1 rest))
+lines_behind : (first rest : List ℕ) → 0 < length first + length rest → (rest ≡ []) ⊎ ((b : ℕ) × (bs : List ℕ) × (rest ≡ b ∷ bs) × ((b == 10) ≡ true)) →
+    without_empty_last (first ∷ drop 1 (slice_split (λ b. b == 10) rest)) ≡ first ∷ without_empty_last (slice_split (λ b. b == 10) (drop 1 rest))
 lines_behind first rest some (inl none) = rw none (keep_last first (let short : length rest ≡ 0 = ap length none in omega arith))
 lines_behind first rest some (inr (b, bs, is, ends)) =
     let split = split_is_cons (λ b. b == 10) bs in
@@ -131,7 +140,8 @@ pub record FirstLine (text : List ℕ) (end next : ℕ) : Type 0 where
   pub some : 0 < next
   pub lines : lines_of text ≡ take end text ∷ lines_of (drop next text)
 
-found_line : (text : List ℕ) → 0 < length text → FirstLine text (position_or_len (λ b. b == 10) text) (min (position_or_len (λ b. b == 10) text + 1) (length text))
+found_line : (text : List ℕ) → 0 < length text →
+    FirstLine text (position_or_len (λ b. b == 10) text) (min (position_or_len (λ b. b == 10) text + 1) (length text))
 unfolding lines_of
 found_line text some =
     let n : ℕ = position_or_len (λ b. b == 10) text in
@@ -141,13 +151,17 @@ found_line text some =
       within = front;
       next_within = omega arith;
       some = omega arith;
-      lines = rw (drop_min (n + 1) text, ← drop-drop 1 n text) (ap without_empty_last (first_part (λ b. b == 10) text) ∙ lines_behind (take n text) (drop n text) long (behind_part (λ b. b == 10) text));
+      lines = rw (drop_min (n + 1) text, ← drop-drop 1 n text) (ap without_empty_last (first_part (λ b. b == 10) text)
+          ∙ lines_behind (take n text) (drop n text) long (behind_part (λ b. b == 10) text));
     }
 
 pub line_found : (text : List ℕ) (end next : ℕ) → Some (end, next) ≡ line_from text 0 → FirstLine text end next
 line_found text end next found =
     let n : ℕ = 0 + position_or_len (λ b. b == 10) text in
-    let h : ((0 == length text) ≡ false) × ((end, next) ≡ (n, min (n + 1) (length text))) = found_cond (0 == length text) (end, next) (n, min (n + 1) (length text)) found in
+    let h : ((0 == length text) ≡ false) × ((end, next) ≡ (n, min (n + 1) (length text))) = found_cond (0 == length text) (end, next) (
+      n,
+      min (n + 1) (length text),
+    ) found in
     let ends : end ≡ n = ap (λ (q : ℕ × ℕ). q.0) h.1 in
     let begins : next ≡ min (n + 1) (length text) = ap (λ (q : ℕ × ℕ). q.1) h.1 in
     let zero : n ≡ position_or_len (λ b. b == 10) text = omega arith in
@@ -163,7 +177,8 @@ no_line (b ∷ bs) found =
     absurd (omega arith)
 
 -- a first line that goes on
-goes_on : (x n : ℕ) (part : List ℕ) (parts : List (List ℕ)) → length (without_empty_last (part ∷ parts)) ≤ n → length (without_empty_last ((x ∷ part) ∷ parts)) ≤ suc n
+goes_on : (x n : ℕ) (part : List ℕ) (parts : List (List ℕ)) → length (without_empty_last (part ∷ parts)) ≤ n →
+    length (without_empty_last ((x ∷ part) ∷ parts)) ≤ suc n
 goes_on x n [] [] few = omega arith
 goes_on x n (b ∷ bs) [] few = omega arith
 goes_on x n [] (p ∷ parts) few = omega arith

@@ -56,8 +56,14 @@ in_node version n range is below =
     omega arith
 
 -- places behind one that is that of these
-pub node_filled : (version : ℕ) (place : Place) (behind : List Place) (words rest : List (List ℕ)) → place ≡ node version → ((more : List Place) → form_fault (place ∷ behind ++ more) words ≡ form_fault more rest) → (more : List Place) → form_fault (node version ∷ behind ++ more) words ≡ form_fault more rest
-node_filled version place behind words rest is filled = subst (λ (p : Place). (more : List Place) → form_fault (p ∷ behind ++ more) words ≡ form_fault more rest) is filled
+pub node_filled : (version : ℕ) (place : Place) (behind : List Place) (words rest : List (List ℕ)) → place ≡ node version →
+    ((more : List Place) → form_fault (place ∷ behind ++ more) words ≡ form_fault more rest) → (more : List Place) →
+    form_fault (node version ∷ behind ++ more) words ≡ form_fault more rest
+node_filled version place behind words rest is filled = subst (λ (p : Place). (more : List Place) →
+    form_fault (p ∷ behind ++ more) words ≡ form_fault more rest) is filled
 
-pub node_failed : (version : ℕ) (place : Place) (behind : List Place) (words : List (List ℕ)) (cause : Cause) → place ≡ node version → ((more : List Place) → form_fault (place ∷ behind ++ more) words ≡ Some cause) → (more : List Place) → form_fault (node version ∷ behind ++ more) words ≡ Some cause
-node_failed version place behind words cause is failed = subst (λ (p : Place). (more : List Place) → form_fault (p ∷ behind ++ more) words ≡ Some cause) is failed
+pub node_failed : (version : ℕ) (place : Place) (behind : List Place) (words : List (List ℕ)) (cause : Cause) → place ≡ node version →
+    ((more : List Place) → form_fault (place ∷ behind ++ more) words ≡ Some cause) → (more : List Place) →
+    form_fault (node version ∷ behind ++ more) words ≡ Some cause
+node_failed version place behind words cause is failed = subst (λ (p : Place). (more : List Place) →
+    form_fault (p ∷ behind ++ more) words ≡ Some cause) is failed

@@ -1,5 +1,7 @@
 -- A number that is read is the one that is printed; the parts of a word with points.
-use Rattle.std.proofs.Common.{◌≡◌, ℕ, ◌+◌, ◌-◌, ◌*◌, ◌^◌, ◌<◌, ◌≤◌, ◌==◌, Bool, true, false, ◌&&◌, not, nat_le, nat_lt, true≢false, List, [], ◌∷◌, ◌++◌, length, take, drop, Result, Ok, Err, Some, None, inl, inr, refl, sym, ap, ◌∙◌, arith, decimal, append-nil, append_assoc, take-append-drop, length-drop}
+use Rattle.std.proofs.Common.{◌≡◌, ℕ, ◌+◌, ◌-◌, ◌*◌, ◌^◌, ◌<◌, ◌≤◌, ◌==◌, Bool, true, false, ◌&&◌, not, nat_le, nat_lt, true≢false, List, [], ◌∷◌, ◌++◌, length}
+use Rattle.std.proofs.Common.{take, drop, Result, Ok, Err, Some, None, inl, inr, refl, sym, ap, ◌∙◌, arith, decimal, append-nil, append_assoc, take-append-drop}
+use Rattle.std.proofs.Common.{length-drop}
 use Rattle.std.specs.Result.{is_ok}
 use Rattle.std.specs.List.{list_all, All, fold, position_or_len, join_with_byte}
 use Rattle.std.proofs.Math.Seq.{take-length, drop-length}
@@ -119,18 +121,21 @@ one_number range word =
   where
     whole : (word : List ℕ) → drop (position_or_len (λ b. b == 46) word) word ≡ [] → take (position_or_len (λ b. b == 46) word) word ≡ word
     whole word nothing =
-        let all : take (position_or_len (λ b. b == 46) word) word ++ drop (position_or_len (λ b. b == 46) word) word ≡ word = take-append-drop (position_or_len (λ b. b == 46) word) word in
+        let all : take (position_or_len (λ b. b == 46) word) word ++ drop (position_or_len (λ b. b == 46) word) word ≡ word =
+        take-append-drop (position_or_len (λ b. b == 46) word) word in
         sym (append-nil _) ∙ (rw nothing at all)
 
 -- the number in its range, where the word is a number
-pub in_range : (least most : ℕ) (word : List ℕ) → is_number word ≡ true → place_fault (Number least most) word ≡ None → (nat_le least (number_value word) && nat_le (number_value word) most) ≡ true
+pub in_range : (least most : ℕ) (word : List ℕ) → is_number word ≡ true → place_fault (Number least most) word ≡ None →
+    (nat_le least (number_value word) && nat_le (number_value word) most) ≡ true
 in_range least most word number fits =
     elim (cases_Bool (nat_le least (number_value word) && nat_le (number_value word) most)) [
       | inl within ↦ within
       | inr beyond ↦ absurd (none-some OutOfRange (sym (rw (number, beyond) at fits)))
     ]
 
-pub out_of_range : (least most : ℕ) (word : List ℕ) (cause : Cause) → is_number word ≡ true → place_fault (Number least most) word ≡ Some cause → (cause ≡ OutOfRange) × ((nat_le least (number_value word) && nat_le (number_value word) most) ≡ false)
+pub out_of_range : (least most : ℕ) (word : List ℕ) (cause : Cause) → is_number word ≡ true → place_fault (Number least most) word ≡ Some cause →
+    (cause ≡ OutOfRange) × ((nat_le least (number_value word) && nat_le (number_value word) most) ≡ false)
 out_of_range least most word cause number fault =
     elim (cases_Bool (nat_le least (number_value word) && nat_le (number_value word) most)) [
       | inl within ↦ absurd (none-some cause (rw (number, within) at fault))
@@ -144,11 +149,13 @@ too_few [] parts few = absurd (omega arith)
 too_few (range ∷ ranges) [] few = refl
 too_few (range ∷ ranges) (part ∷ parts) few = rw (too_few ranges parts (omega arith)) (and-no (is_number part))
 
-pub few_parts : (ranges : List (ℕ × ℕ)) (word : List ℕ) (cause : Cause) → cause ≡ BadNumber → length (parts_of word) < length ranges → place_fault (Dotted ranges) word ≡ Some cause
+pub few_parts : (ranges : List (ℕ × ℕ)) (word : List ℕ) (cause : Cause) → cause ≡ BadNumber → length (parts_of word) < length ranges →
+    place_fault (Dotted ranges) word ≡ Some cause
 few_parts ranges word cause is few = rw (is, too_few ranges (parts_of word) few) refl
 
 -- the part before a point, where the text is not so many numbers
-pub first_not_number : (part : List ℕ) (rest : List (List ℕ)) (ranges : List (ℕ × ℕ)) (range : ℕ × ℕ) → is_number part ≡ false → are_numbers (range ∷ ranges) (part ∷ rest) ≡ false
+pub first_not_number : (part : List ℕ) (rest : List (List ℕ)) (ranges : List (ℕ × ℕ)) (range : ℕ × ℕ) → is_number part ≡ false →
+    are_numbers (range ∷ ranges) (part ∷ rest) ≡ false
 unfolding are_numbers
 first_not_number part rest ranges range no' = rw no' refl
 
@@ -157,10 +164,12 @@ unfolding are_numbers
 short_parts text ranges a b is = rw is (and-no (is_number text))
 
 -- a text that is cut at its first point
-pub cut_at_point : (text : List ℕ) (at : ℕ) (front rest behind : List ℕ) → at ≡ position_or_len (λ b. b == 46) text → at < length text → front ≡ take at text → behind ≡ drop 1 rest → rest ≡ drop at text → parts_of text ≡ front ∷ parts_of behind
+pub cut_at_point : (text : List ℕ) (at : ℕ) (front rest behind : List ℕ) → at ≡ position_or_len (λ b. b == 46) text → at < length text → front ≡ take at text →
+    behind ≡ drop 1 rest → rest ≡ drop at text → parts_of text ≡ front ∷ parts_of behind
 cut_at_point text at front rest behind first within front_is behind_is rest_is =
     rw (front_is, behind_is, rest_is, first) (elim (behind_part (λ b. b == 46) text) [
-      | inl nothing ↦ absurd (let none : length (drop (position_or_len (λ b. b == 46) text) text) ≡ 0 = ap length nothing in omega (arith, length-drop (position_or_len (λ b. b == 46) text) text))
+      | inl nothing ↦ absurd (let none : length (drop (position_or_len (λ b. b == 46) text) text) ≡ 0 = ap length nothing in
+          omega (arith, length-drop (position_or_len (λ b. b == 46) text) text))
       | inr (b, bs, is, point) ↦ first_part (λ b. b == 46) text ∙ (rw (is, point) refl)
     ])
 

@@ -1,10 +1,13 @@
--- What is wrong with a line because of the lines before it ("The trace" in docs/texts.md).
-use Rattle.std.specs.Prelude.{◌+◌, nat_lt, nat_le, Bool, true, false, not, ◌||◌, List, is_some, is_none, Option, Some, None, if◌then◌else◌}
+-- What earlier lines make wrong with a line ("The trace" in docs/texts.md).
+use Rattle.std.specs.Prelude.{◌+◌, nat_lt, nat_le, Bool, true, false, not, ◌||◌, List, is_some, is_none, Option, Some}
+use Rattle.std.specs.Prelude.{None, if◌then◌else◌}
 use Rattle.sem_trace.specs.declared.fault.Cause.{Cause}
 use Rattle.sem_trace.specs.declared.fault.Cause.TheVariants.{OutOfRange, Undeclared, Twice, TooMany}
 use Rattle.sem_trace.specs.declared.declaration.Declaration.{Declaration}
-use Rattle.sem_trace.specs.declared.declaration.Declaration.TheVariants.{Kernels, Window, Pe, Vpe, Memory, Receive, Service, Offer, Deny, Kill, Call, End}
-use Rattle.sem_trace.specs.Earlier.{window_in, owner_in, pe_in, is_taken, roots_in, holds_at, has_service, offer_in, is_denied, kill_in, call_number}
+use Rattle.sem_trace.specs.declared.declaration.Declaration.TheVariants.{Kernels, Window, Pe, Vpe, Memory, Receive}
+use Rattle.sem_trace.specs.declared.declaration.Declaration.TheVariants.{Service, Offer, Deny, Kill, Call, End}
+use Rattle.sem_trace.specs.Earlier.{window_in, owner_in, pe_in, is_taken, roots_in, holds_at, has_service, offer_in}
+use Rattle.sem_trace.specs.Earlier.{is_denied, kill_in, call_number}
 
 -- memory that ends past 2 ^ 32
 abbrev pub is_too_long : Declaration → Bool
@@ -26,7 +29,9 @@ is_undeclared earlier (Kill v replies) = is_none (pe_in earlier v)
 is_undeclared earlier (Call v call) = is_none (pe_in earlier v)
 is_undeclared earlier End = false
 
--- whether an earlier line says that already: the number of kernels, the window, a PE, a VPE, a VPE on that PE, something at that selector, a service of that name, an offer under that index, a denied pair, a kill
+-- whether an earlier line says that already: the number of kernels, the window, a PE, a VPE, a VPE
+-- on that PE, something at that selector, a service of that name, an offer under that index, a
+-- denied pair, a kill
 abbrev pub is_twice : List Declaration → Declaration → Bool
 is_twice earlier (Kernels kernels) = true
 is_twice earlier (Window window) = is_some (window_in earlier)
@@ -41,12 +46,11 @@ is_twice earlier (Kill v replies) = is_some (kill_in earlier v)
 is_twice earlier (Call v call) = false
 is_twice earlier End = false
 
--- whether it is one call more than there may be
 abbrev pub is_call_too_many : List Declaration → Declaration → Bool
 is_call_too_many earlier (Call v call) = nat_le 20000 (call_number earlier)
 is_call_too_many earlier d = false
 
--- what is wrong with what a line says behind what the earlier lines say
+-- what is wrong with what a line says, after what the earlier lines say
 unfoldable pub context_fault : List Declaration → Declaration → Option Cause
 context_fault earlier d =
     if is_too_long d then Some OutOfRange

@@ -1,12 +1,15 @@
--- What the words of a line say, where they have a form ("The trace" in docs/texts.md).
+-- What the words of a line with a form say ("The trace" in docs/texts.md).
 use Rattle.std.specs.Prelude.{ℕ, List, drop, codes, Bool, if◌then◌else◌}
 use Rattle.std.specs.Str.{bytes_eq}
 use Rattle.sem_msg.specs.declared.call.Call.{Call}
-use Rattle.sem_msg.specs.declared.call.Call.TheVariants.{Derive, Gate, Obtain, Delegate, OpenSession, AskOffer, Revoke, Bind, Read, Write, Send, Credit, Exit, Clear}
+use Rattle.sem_msg.specs.declared.call.Call.TheVariants.{Derive, Gate, Obtain, Delegate, OpenSession, AskOffer}
+use Rattle.sem_msg.specs.declared.call.Call.TheVariants.{Revoke, Bind, Read, Write, Send, Credit, Exit, Clear}
 use Rattle.sem_text.specs.Number.{number_value}
 use Rattle.sem_trace.specs.Forms.{word_at}
 use Rattle.sem_trace.specs.declared.declaration.Declaration.{Declaration}
-use Rattle.sem_trace.specs.declared.declaration.Declaration.TheVariants.{Kernels, Window, Pe, Vpe, Memory, Receive, Service, Offer, Deny, Kill, Call as Calls, End}
+use Rattle.sem_trace.specs.declared.declaration.Declaration.TheVariants.{Kernels, Window, Pe, Vpe, Memory, Receive}
+use Rattle.sem_trace.specs.declared.declaration.Declaration.TheVariants.{Service, Offer, Deny, Kill, Call as Calls}
+use Rattle.sem_trace.specs.declared.declaration.Declaration.TheVariants.{End}
 
 -- whether that word stands at the place
 abbrev pub stands_at : List (List ℕ) → ℕ → List ℕ → Bool
@@ -36,13 +39,13 @@ call_from words =
     else (if is (codes "clear") then Clear (n 1)
     else Exit))))))))))))
 
--- the root of words that stand behind `root`
+-- the root of the words after `root`
 unfoldable pub root_from : List (List ℕ) → Declaration
 root_from words =
     let n : ℕ → ℕ = number_at words in
     if stands_at words 2 (codes "mem") then Memory (n 0) (n 1) (n 3) (n 4) (n 5) else Receive (n 0) (n 1) (n 3)
 
--- what a line behind the second says
+-- what a line after the second says
 unfoldable pub declaration : List (List ℕ) → Declaration
 declaration words =
     let is : List ℕ → Bool = stands_at words 0 in

@@ -1,15 +1,17 @@
--- What lines declare, read off the list of what they say ("The trace" in docs/texts.md).
-use Rattle.std.specs.Prelude.{ℕ, ◌==◌, Bool, false, true, ◌&&◌, List, [], ◌∷◌, filter_map, count_by, Option, Some, None, option_map, if◌then◌else◌}
+-- What lines declare, read from the list of what they say ("The trace" in docs/texts.md).
+use Rattle.std.specs.Prelude.{ℕ, ◌==◌, Bool, false, true, ◌&&◌, List, [], ◌∷◌, filter_map, count_by, Option, Some}
+use Rattle.std.specs.Prelude.{None, option_map, if◌then◌else◌}
 use Rattle.std.specs.List.{list_any}
 use Rattle.std.specs.Option.{option_or}
-use Rattle.sem_key.specs.declared.object.Object.TheVariants.{Mem, Recv, Serv}
+use Rattle.sem_msg.specs.Prelude.{Mem, Recv, Serv}
 use Rattle.sem_msg.specs.declared.call.Call.{Call}
 use Rattle.sem_msg.specs.declared.setup.Root.{Root}
 use Rattle.sem_msg.specs.declared.setup.VpeDecl.{VpeDecl}
 use Rattle.sem_trace.specs.declared.declaration.Declaration.{Declaration}
-use Rattle.sem_trace.specs.declared.declaration.Declaration.TheVariants.{Window, Pe, Vpe, Memory, Receive, Service, Offer, Deny, Kill, Call as Calls, End}
+use Rattle.sem_trace.specs.declared.declaration.Declaration.TheVariants.{Window, Pe, Vpe, Memory, Receive, Service}
+use Rattle.sem_trace.specs.declared.declaration.Declaration.TheVariants.{Offer, Deny, Kill, Call as Calls, End}
 
--- the first that h gives
+-- the first result that h gives
 abbrev pub first_some : {X Y : Type 0} → (X → Option Y) → List X → Option Y
 first_some h [] = None
 first_some h (x ∷ xs) = option_or (h x) (first_some h xs)
@@ -48,7 +50,8 @@ is_taken ds p = list_any (says_on p) ds
 
 -- what a VPE holds at the start
 abbrev pub said_root : ℕ → Declaration → Option Root
-said_root v (Memory w s base len rights) = if w == v then Some (record { sel = s; object = Mem base len rights }) else None
+said_root v (Memory w s base len rights) = if w == v then Some (record { sel = s; object = Mem base len rights })
+    else None
 said_root v (Receive w s slots) = if w == v then Some (record { sel = s; object = Recv slots }) else None
 said_root v (Service w s name) = if w == v then Some (record { sel = s; object = Serv name }) else None
 said_root v d = None
@@ -88,7 +91,7 @@ said_offer name index d = None
 unfoldable pub offer_in : List Declaration → ℕ → ℕ → Option ℕ
 offer_in ds name index = first_some (said_offer name index) ds
 
--- whether a VPE denies another what it asks
+-- whether a VPE denies what another asks
 abbrev pub says_deny : ℕ → ℕ → Declaration → Bool
 says_deny v asker (Deny w other) = (w == v) && (other == asker)
 says_deny v asker d = false
@@ -112,7 +115,7 @@ is_call d = false
 unfoldable pub call_number : List Declaration → ℕ
 call_number ds = count_by is_call ds
 
--- whether it was said that nothing more is said
+-- whether the last line was said
 abbrev pub is_end : Declaration → Bool
 is_end End = true
 is_end d = false

@@ -1,16 +1,19 @@
--- The forms of the lines of a trace, and the first fault of words against a form ("The trace" in docs/texts.md).
-use Rattle.std.specs.Prelude.{ℕ, ◌-◌, ◌==◌, nat_le, Bool, true, false, not, ◌&&◌, List, [], ◌∷◌, map, codes, slice_index_or, Option, Some, None, if◌then◌else◌}
+-- The forms of the lines of a trace, and the first fault of words against a form ("The trace" in
+-- docs/texts.md).
+use Rattle.std.specs.Prelude.{ℕ, ◌-◌, ◌==◌, nat_le, Bool, true, false, not, ◌&&◌, List, [], ◌∷◌, map, codes}
+use Rattle.std.specs.Prelude.{slice_index_or, Option, Some, None, if◌then◌else◌}
 use Rattle.std.specs.List.{list_any, slice_split}
 use Rattle.std.specs.Option.{option_or}
 use Rattle.std.specs.Str.{bytes_eq}
-use Rattle.sem_key.specs.declared.limits.TheConstants.{NUMBERS}
+use Rattle.sem_msg.specs.Prelude.{NUMBERS, most_vpes}
 use Rattle.sem_msg.specs.declared.limits.TheConstants.{ENDPOINTS}
-use Rattle.sem_msg.specs.Versions.{most_kernels, most_vpes, least_window, most_window}
+use Rattle.sem_msg.specs.Versions.{most_kernels, least_window, most_window}
 use Rattle.sem_text.specs.Number.{is_number, number_value}
 use Rattle.sem_trace.specs.declared.fault.Cause.{Cause}
 use Rattle.sem_trace.specs.declared.fault.Cause.TheVariants.{UnknownWord, BadNumber, OutOfRange, Missing, TooMany}
 
--- what can stand in a place of a line: one of some words, a number of a range, or numbers of such ranges with points between
+-- what can stand in a place of a line: one of some words, a number of a range, or numbers of such
+-- ranges with points between
 pub data Place : Type 0 where
   Word : (names : List (List ℕ)) → Place
   Number : (least most : ℕ) → Place
@@ -20,14 +23,14 @@ pub data Place : Type 0 where
 abbrev pub parts_of : List ℕ → List (List ℕ)
 parts_of word = slice_split (λ b. b == 46) word
 
--- whether they are so many numbers
+-- whether they are that many numbers
 unfoldable pub are_numbers : List (ℕ × ℕ) → List (List ℕ) → Bool
 are_numbers [] [] = true
 are_numbers [] (part ∷ parts) = false
 are_numbers (range ∷ ranges) [] = false
 are_numbers (range ∷ ranges) (part ∷ parts) = is_number part && are_numbers ranges parts
 
--- whether the number that a word is lies between two others, or is one of them
+-- whether the number of a word is in a range, its ends included
 abbrev pub is_between : ℕ × ℕ → List ℕ → Bool
 is_between range word = nat_le range.0 (number_value word) && nat_le (number_value word) range.1
 
@@ -54,7 +57,7 @@ form_fault [] (word ∷ words) = Some TooMany
 form_fault (place ∷ places) [] = Some Missing
 form_fault (place ∷ places) (word ∷ words) = option_or (place_fault place word) (form_fault places words)
 
--- the word at a place, counted from 0; past the end there is none
+-- the word at a place, counted from 0; none past the end
 abbrev pub word_at : List (List ℕ) → ℕ → List ℕ
 word_at words i = slice_index_or words i []
 
@@ -62,12 +65,12 @@ word_at words i = slice_index_or words i []
 abbrev pub Table : Type 0
 Table = List (List ℕ × List Place)
 
--- the places that follow a word
+-- the places after a word
 abbrev pub behind : Table → List ℕ → List Place
 behind [] word = []
 behind ((name, places) ∷ table) word = if bytes_eq word name then places else behind table word
 
--- the place of one of the names, and those that follow the word that stands there
+-- the place of one of the names, and the places after the word that stands there
 abbrev pub choice : Table → List ℕ → List Place
 choice table word = Word (map (λ row. row.0) table) ∷ behind table word
 
@@ -137,11 +140,11 @@ calls version =
     ∷ (codes "clear", byte ∷ [])
     ∷ []
 
--- the line that version 2 has beside those of version 1
+-- the line that version 2 has and version 1 has not
 abbrev pub window_line : ℕ → Table
 window_line version = if version == 1 then [] else (codes "window", window version ∷ []) ∷ []
 
--- the lines behind the second, where there are so many kernels
+-- the lines after the second, in a text with that many kernels
 unfoldable pub lines : (version kernels : ℕ) → List (List ℕ) → Table
 lines version kernels words =
     (codes "kernels", kernel_count version ∷ [])
@@ -168,6 +171,6 @@ second_form version = Word (codes "kernels" ∷ []) ∷ kernel_count version ∷
 unfoldable pub third_form : ℕ → List Place
 third_form version = Word (codes "window" ∷ []) ∷ window version ∷ []
 
--- a line behind the second
+-- a line after the second
 unfoldable pub form : (version kernels : ℕ) → List (List ℕ) → List Place
 form version kernels words = choice (lines version kernels words) (word_at words 0)

@@ -1,5 +1,6 @@
 -- Ranges of numbers as places of a line, and what a reader of places promises.
-use Rattle.std.specs.Prelude.{◌≡◌, ℕ, ◌<◌, ◌≤◌, List, ◌++◌, Some, length, slice_index, slice_index_or, Result, MatchResult}
+use Rattle.std.specs.Prelude.{◌≡◌, ℕ, ◌<◌, ◌≤◌, List, ◌++◌, Some, length, slice_index, slice_index_or, Result}
+use Rattle.std.specs.Prelude.{MatchResult}
 use Rattle.sem_trace.specs.declared.forms.Range.{Range}
 use Rattle.sem_trace.specs.declared.fault.Cause.{Cause}
 use Rattle.sem_trace.specs.Forms.{Place, form_fault}
@@ -14,7 +15,7 @@ pub record IsWithin (range : Range) (n : ℕ) : Type 0 where
   pub least : range.least ≤ n
   pub most : n ≤ range.most
 
--- the range at a place of a list; past the end it has 0 alone
+-- the range at a place of a list; past the end the range of 0 only
 abbrev pub range_at : List Range → ℕ → Range
 range_at ranges i = slice_index_or ranges i (record { least = 0; most = 0 })
 
@@ -34,7 +35,8 @@ pub record AreNumbers (ranges : List Range) (words : List (List ℕ)) (numbers :
 abbrev pub bounds : Range → ℕ × ℕ
 bounds range = (range.least, range.most)
 
--- the first words fill the places: what is wrong with all of them is what is wrong with the rest behind, whatever places follow
+-- the first words fill the places: whatever places follow, the fault of all words is the fault of
+-- the rest
 abbrev pub Fills : List Place → List (List ℕ) → List (List ℕ) → Type 0
 Fills places words rest = (more : List Place) → form_fault (places ++ more) words ≡ form_fault more rest
 
@@ -42,11 +44,14 @@ Fills places words rest = (more : List Place) → form_fault (places ++ more) wo
 abbrev pub Fails : List Place → List (List ℕ) → Cause → Type 0
 Fails places words cause = (more : List Place) → form_fault (places ++ more) words ≡ Some cause
 
--- what is spelled by the first words, which fill the places, is read, and the words behind them are left
+-- the words that spell what is read come first and fill the places, and the words after them are
+-- left
 pub record IsRead (places : List Place) (spelling old new : List (List ℕ)) : Type 0 where
   pub filled : Fills places old new
   pub spelled : old ≡ spelling ++ new
 
--- what a reader of these places promises: it reads what the first words spell, or its cause is their leftmost fault
-abbrev pub Reads : {X : Type 0} → List Place → (X → List (List ℕ)) → List (List ℕ) → List (List ℕ) → Result X Cause → Type 0
+-- what a reader of these places promises: it reads what the first words spell, or its cause is
+-- their leftmost fault
+abbrev pub Reads : {X : Type 0} → List Place → (X → List (List ℕ)) → List (List ℕ) → List (List ℕ) → Result X Cause →
+    Type 0
 Reads places spelling old new result = MatchResult result (λ x. IsRead places (spelling x) old new) (Fails places old)

@@ -1,8 +1,7 @@
 -- What the readers of calls and of declarations promise.
 use Rattle.std.specs.Prelude.{◌≡◌, ℕ, List, Result, IfOk}
 use Rattle.std.specs.Result.{result_err}
-use Rattle.sem_msg.specs.Versions.{most_vpes}
-use Rattle.sem_msg.specs.Calls.{IsValidCall}
+use Rattle.sem_msg.specs.Prelude.{most_vpes, IsValidCall}
 use Rattle.sem_msg.specs.declared.call.Call.{Call}
 use Rattle.sem_trace.specs.declared.fault.Cause.{Cause}
 use Rattle.sem_trace.specs.declared.declaration.Declaration.{Declaration}
@@ -19,7 +18,7 @@ pub record ReadsCall (version : ℕ) (old new : List (List ℕ)) (result : Resul
   pub value : IfOk result (λ call. call ≡ call_from old)
   pub valid : IfOk result (IsValidCall (most_vpes version))
 
--- what a line with these words says is read, where there are so many kernels
+-- what a line with these words says is read, in a text with that many kernels
 pub record ReadsLine (version kernels : ℕ) (words : List (List ℕ)) (result : Result Declaration Cause) : Type 0 where
   pub fault : form_fault (form version kernels words) words ≡ result_err result
   pub value : IfOk result (λ d. d ≡ declaration words)

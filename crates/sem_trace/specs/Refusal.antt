@@ -1,5 +1,6 @@
 -- Which texts are refused, at which line and why ("The trace" in docs/texts.md).
-use Rattle.std.specs.Prelude.{ℕ, ◌+◌, ◌==◌, nat_lt, Bool, false, not, List, [], ◌∷◌, length, take, drop, map, slice_index_or, Option, Some, None, option_map, if◌then◌else◌}
+use Rattle.std.specs.Prelude.{ℕ, ◌+◌, ◌==◌, nat_lt, Bool, false, not, List, [], ◌∷◌, length, take, drop, map}
+use Rattle.std.specs.Prelude.{slice_index_or, Option, Some, None, option_map, if◌then◌else◌}
 use Rattle.std.specs.List.{range_with_len}
 use Rattle.std.specs.Option.{option_or}
 use Rattle.sem_trace.specs.declared.fault.Cause.{Cause}
@@ -16,35 +17,41 @@ use Rattle.sem_trace.specs.Context.{context_fault}
 abbrev pub version_in : List (List ℕ) → ℕ
 version_in first = number_at first 2
 
--- whether a line behind the second is the third of version 2, which says how many messages a link holds
+-- whether a line after the second is the third of version 2, which says how many messages a link
+-- holds
 abbrev pub is_third : ℕ → List (List (List ℕ)) → Bool
 is_third version [] = not (version == 1)
 is_third version (line ∷ earlier) = false
 
--- what is wrong with the words of a line behind the second, and behind those of the earlier lines behind it
+-- what is wrong with the words of a line after the second, given the words of the earlier lines
+-- after the second
 unfoldable pub body_fault : (version kernels : ℕ) → List (List (List ℕ)) → List (List ℕ) → Option Cause
 body_fault version kernels earlier words =
     if is_third version earlier then form_fault (third_form version) words
     else (if is_ended (map declaration earlier) then Some TooMany
-    else option_or (form_fault (form version kernels words) words) (context_fault (map declaration earlier) (declaration words)))
+    else option_or (form_fault (form version kernels words) words)
+    (context_fault (map declaration earlier) (declaration words)))
 
--- what is wrong with the words of a line, behind the words of the earlier lines that say something
+-- what is wrong with the words of a line, given the words of the earlier lines that say something
 unfoldable pub words_fault : List (List (List ℕ)) → List (List ℕ) → Option Cause
 words_fault [] words = form_fault first_form words
 words_fault (first ∷ []) words = form_fault (second_form (version_in first)) words
 words_fault (first ∷ second ∷ earlier) words = body_fault (version_in first) (number_at second 1) earlier words
 
--- what is wrong with a line behind such lines
+-- what is wrong with a line after such lines
 unfoldable pub line_fault : List (List (List ℕ)) → List ℕ → Option Cause
-line_fault earlier line = option_or (bytes_fault line) (if is_significant (words_of line) then words_fault earlier (words_of line) else None)
+line_fault earlier line = option_or (bytes_fault line) (if is_significant (words_of line)
+    then words_fault earlier (words_of line) else None)
 
 -- the numbers below n
 unfoldable pub numbers : ℕ → List ℕ
 numbers n = range_with_len 0 n
 
--- the fault of the line at a place, counted from 0, behind all lines before it
+-- the fault of the line at a place, counted from 0, after all lines before it
 unfoldable pub fault_at : List (List ℕ) → ℕ → Option TraceFault
-fault_at lines i = option_map (λ cause. record { line = i + 1; cause = cause }) (line_fault (significant (take i lines)) (slice_index_or lines i []))
+fault_at lines i =
+    option_map (λ cause. record { line = i + 1; cause = cause })
+    (line_fault (significant (take i lines)) (slice_index_or lines i []))
 
 -- the first fault of a line
 unfoldable pub first_fault : List (List ℕ) → Option TraceFault
@@ -58,13 +65,14 @@ version_of lines = version_in (slice_index_or (significant lines) 0 [])
 unfoldable pub kernels_of : List (List ℕ) → ℕ
 kernels_of lines = number_at (slice_index_or (significant lines) 1 []) 1
 
--- what the lines behind the second say
+-- what the lines after the second say
 unfoldable pub declarations_of : List (List ℕ) → List Declaration
 declarations_of lines = map declaration (drop 2 (significant lines))
 
 -- the lines have no last line
 unfoldable pub end_fault : List (List ℕ) → Option TraceFault
-end_fault lines = if is_ended (declarations_of lines) then None else Some (record { line = length lines + 1; cause = Missing })
+end_fault lines = if is_ended (declarations_of lines) then None
+    else Some (record { line = length lines + 1; cause = Missing })
 
 -- the refusal of lines: that of the first bad one, or that the last line is missing
 abbrev pub lines_refusal : List (List ℕ) → Option TraceFault

@@ -1,11 +1,13 @@
--- The setup that lines declare, and for which setup a text stands ("The trace" in docs/texts.md).
-use Rattle.std.specs.Prelude.{◌≡◌, ℕ, ◌==◌, List, map, filter_map, flat_map, find, Option, Some, None, option_map, if◌then◌else◌}
+-- The setup that lines declare, and the setup that a text stands for ("The trace" in
+-- docs/texts.md).
+use Rattle.std.specs.Prelude.{◌≡◌, ℕ, ◌==◌, List, map, filter_map, flat_map, find, Option, Some, None, option_map}
+use Rattle.std.specs.Prelude.{if◌then◌else◌}
 use Rattle.std.specs.Option.{option_map_or}
-use Rattle.sem_key.specs.declared.limits.TheConstants.{PES, VPES}
+use Rattle.sem_msg.specs.Prelude.{PES, VPES, Setup}
 use Rattle.sem_msg.specs.declared.setup.Service.{Service}
 use Rattle.sem_msg.specs.declared.setup.Offer.{Offer}
 use Rattle.sem_msg.specs.declared.setup.VpeDecl.{VpeDecl}
-use Rattle.sem_msg.specs.Setup.{Setup, services_from}
+use Rattle.sem_msg.specs.Setup.{services_from}
 use Rattle.sem_trace.specs.declared.limits.TheConstants.{LINK_WINDOW}
 use Rattle.sem_trace.specs.declared.declaration.Declaration.{Declaration}
 use Rattle.sem_trace.specs.declared.fault.TraceFault.{TraceFault}
@@ -15,7 +17,7 @@ use Rattle.sem_trace.specs.TextLines.{lines_of}
 use Rattle.sem_trace.specs.Earlier.{window_in, owner_in, vpe_in, offer_in, is_denied, kill_in}
 use Rattle.sem_trace.specs.Refusal.{numbers, version_of, kernels_of, declarations_of, lines_refusal, refusal}
 
--- the VPEs that are declared, by number
+-- the declared VPEs, by number
 unfoldable pub vpes_of : List Declaration → List VpeDecl
 vpes_of ds = filter_map (vpe_in ds) (numbers VPES)
 
@@ -51,11 +53,11 @@ denies_of ds vpes = flat_map (λ d. filter_map (λ e. deny_of ds d.vpe e.vpe) vp
 unfoldable pub kills_of : List Declaration → List VpeDecl → List (ℕ × ℕ)
 kills_of ds vpes = filter_map (λ d. option_map (λ replies. (d.vpe, replies)) (kill_in ds d.vpe)) vpes
 
--- how many messages a link holds: what is declared, or else 4
+-- how many messages a link holds: the declared number, or 4 if none is declared
 abbrev pub window_of : List Declaration → ℕ
 window_of ds = option_map_or (λ n. n) (window_in ds) LINK_WINDOW
 
--- the setup of that version and so many kernels with what is declared
+-- the setup of that version and that many kernels with these declarations
 unfoldable pub setup_of : (version kernels : ℕ) → List Declaration → Setup
 setup_of version kernels ds = record {
   version = version;
@@ -77,9 +79,10 @@ pub record Declare (lines : List (List ℕ)) (T : Setup) : Type 0 where
 -- the text is not refused, and its lines declare the setup
 pub record Stands (bytes : List ℕ) (T : Setup) : Type 0 where
   pub accepted : refusal bytes ≡ None
-  pub declared : T ≡ setup_of (version_of (lines_of bytes)) (kernels_of (lines_of bytes)) (declarations_of (lines_of bytes))
+  pub declared : T ≡ setup_of (version_of (lines_of bytes)) (kernels_of (lines_of bytes))
+      (declarations_of (lines_of bytes))
 
--- why a text is not read: it is refused so, or memory is wanted
+-- why a text is not read: it has that refusal, or memory was refused
 abbrev pub IsWhy : Option TraceFault → TraceError → Type 0
 IsWhy refused (Refused fault) = refused ≡ Some fault
 IsWhy refused Memory = Unit {0}

@@ -1,11 +1,12 @@
 -- The lines of a text and the words of a line ("Lines and words" in docs/texts.md).
-use Rattle.std.specs.Prelude.{ℕ, ◌==◌, nat_le, nat_lt, Bool, true, false, not, ◌&&◌, ◌||◌, List, [], ◌∷◌, length, map, filter, Option, Some, None, if◌then◌else◌}
+use Rattle.std.specs.Prelude.{ℕ, ◌==◌, nat_le, nat_lt, Bool, true, false, not, ◌&&◌, ◌||◌, List, [], ◌∷◌, length, map}
+use Rattle.std.specs.Prelude.{filter, Option, Some, None, if◌then◌else◌}
 use Rattle.std.specs.List.{slice_split, list_all}
 use Rattle.sem_text.specs.Words.{is_blank}
 use Rattle.sem_trace.specs.declared.fault.Cause.{Cause}
 use Rattle.sem_trace.specs.declared.fault.Cause.TheVariants.{NotText, LineTooLong}
 
--- the parts between line ends, but for the last one where that is empty
+-- the parts between line ends, without the last one if it is empty
 abbrev pub without_empty_last : List (List ℕ) → List (List ℕ)
 without_empty_last [] = []
 without_empty_last ([] ∷ []) = []
@@ -41,7 +42,7 @@ significant lines = filter is_significant (map words_of lines)
 abbrev pub is_text : ℕ → Bool
 is_text b = (b == 9) || (nat_le 32 b && nat_le b 126)
 
--- what is wrong with a line whatever it says
+-- what is wrong with the bytes of a line, whatever it says
 unfoldable pub bytes_fault : List ℕ → Option Cause
 bytes_fault line =
     if nat_lt 255 (length line) then Some LineTooLong

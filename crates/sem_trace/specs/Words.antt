@@ -1,11 +1,10 @@
 -- How keys, objects and calls are written, as words ("The trace" in docs/texts.md).
 use Rattle.std.specs.Prelude.{ℕ, List, [], ◌∷◌, ◌++◌, codes, decimal}
-use Rattle.sem_key.specs.declared.object.Object.{Object}
-use Rattle.sem_key.specs.declared.object.Object.TheVariants.{Mem, Recv, Send, Serv, Sess}
-use Rattle.sem_key.specs.KeyName.{KeyName, kind_number}
-use Rattle.sem_key.specs.PlaceName.{PlaceName}
+use Rattle.sem_msg.specs.Prelude.{Object, Mem, Recv, Send, Serv, Sess, KeyName, kind_number, PlaceName}
 use Rattle.sem_msg.specs.declared.call.Call.{Call}
-use Rattle.sem_msg.specs.declared.call.Call.TheVariants.{Derive, Gate, Obtain, Delegate, OpenSession, AskOffer, Revoke, Bind, Read, Write, Send as SendCall, Credit, Exit, Clear}
+use Rattle.sem_msg.specs.declared.call.Call.TheVariants.{Derive, Gate, Obtain, Delegate, OpenSession, AskOffer}
+use Rattle.sem_msg.specs.declared.call.Call.TheVariants.{Revoke, Bind, Read, Write, Send as SendCall, Credit, Exit}
+use Rattle.sem_msg.specs.declared.call.Call.TheVariants.{Clear}
 
 -- numbers with points (byte 46) between
 abbrev pub key_word : KeyName → List ℕ
@@ -22,8 +21,10 @@ object_words (Serv name) = codes "serv" ∷ decimal name ∷ []
 object_words (Sess service ident) = codes "sess" ∷ key_word service ∷ decimal ident ∷ []
 
 abbrev pub call_words : Call → List (List ℕ)
-call_words (Derive src dst off len rights) = codes "derive" ∷ decimal src ∷ decimal dst ∷ decimal off ∷ decimal len ∷ decimal rights ∷ []
-call_words (Gate src dst label credits) = codes "gate" ∷ decimal src ∷ decimal dst ∷ decimal label ∷ decimal credits ∷ []
+call_words (Derive src dst off len rights) = codes "derive" ∷ decimal src ∷ decimal dst ∷ decimal off ∷ decimal len
+    ∷ decimal rights ∷ []
+call_words (Gate src dst label credits) = codes "gate" ∷ decimal src ∷ decimal dst ∷ decimal label ∷ decimal credits
+    ∷ []
 call_words (Obtain dst vpe src) = codes "obtain" ∷ decimal dst ∷ decimal vpe ∷ decimal src ∷ []
 call_words (Delegate src vpe dst) = codes "delegate" ∷ decimal src ∷ decimal vpe ∷ decimal dst ∷ []
 call_words (OpenSession dst name) = codes "open" ∷ decimal dst ∷ decimal name ∷ []

@@ -10,7 +10,7 @@ use crate::forms::{BYTE, ENDPOINT, RIGHTS, SLOTS, WORD, is, node};
 use sem_msg::Call;
 
 impl Words<'_> {
-    /// The next words, a call of a text of the version, from its name on. Takes no memory.
+    /// The next words, a call of a text of the version, from its name on.
     pub fn call(&mut self, version: u8) -> Result<Call, Cause>
         ensures { ReadsCall version self.old self.new result }
     {

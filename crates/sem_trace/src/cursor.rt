@@ -9,7 +9,8 @@ use crate::fault::Cause;
 use crate::text_lines::{next_line, next_word};
 use std::marker::Model;
 
-/// The lines of a text that are not read yet, each without its line end.
+/// The lines of a text that are not read yet, each without its line end. No call of it takes
+/// memory.
 #[derive(Drop)]
 pub struct Lines<'a> {
     text: &'a [u8],
@@ -33,9 +34,10 @@ impl<'a> Lines<'a> {
         Lines { text }
     }
 
-    /// The next line; none where no line is left. Takes no memory.
+    /// The next line; none if no line is left.
     pub fn next_line(&mut self) -> Option<&'a [u8]>
-        ensures { MatchOption result ((self.old ≡ []) × (self.new ≡ [])) (λ line. self.old ≡ line.now ∷ self.new) }
+        ensures { MatchOption result ((self.old ≡ []) × (self.new ≡ [])) (λ line. self.old
+            ≡ line.now ∷ self.new) }
     {
         let (line, rest) = next_line(self.text)?;
         self.text = rest;
@@ -43,7 +45,8 @@ impl<'a> Lines<'a> {
     }
 }
 
-/// The words of a line that are not read yet. Which these are after an error is not said.
+/// The words of a line that are not read yet. After an error nothing is said of which these are. No
+/// call of it takes memory.
 #[derive(Drop)]
 pub struct Words<'a> {
     line: &'a [u8],
@@ -66,16 +69,17 @@ impl<'a> Words<'a> {
         Words { line }
     }
 
-    /// The next word; none where no word is left. Takes no memory.
+    /// The next word; none if no word is left.
     pub fn next_word(&mut self) -> Option<&'a [u8]>
-        ensures { MatchOption result ((self.old ≡ []) × (self.new ≡ [])) (λ word. self.old ≡ word.now ∷ self.new) }
+        ensures { MatchOption result ((self.old ≡ []) × (self.new ≡ [])) (λ word. self.old
+            ≡ word.now ∷ self.new) }
     {
         let (word, rest) = next_word(self.line)?;
         self.line = rest;
         Some(word)
     }
 
-    /// The next word. Takes no memory.
+    /// The next word; an error if no word is left.
     pub fn word(&mut self) -> Result<&'a [u8], Cause>
         ensures ok { IfOk result (λ word. self.old ≡ word.now ∷ self.new) }
         ensures err { IfErr result (λ cause. (place : Place) → Fails (place ∷ []) self.old cause) }
@@ -83,7 +87,7 @@ impl<'a> Words<'a> {
         self.next_word().ok_or(Cause::Missing)
     }
 
-    /// No word is left. Takes no memory.
+    /// Refuses if a word is left.
     pub fn no_more(&self) -> Result<(), Cause>
         ensures { form_fault [] self.now ≡ result_err result }
     {

@@ -1,6 +1,6 @@
 use sem_msg::Call;
 
-/// What a line says that stands between the first line and the last.
+/// What a line between the first and the last says.
 #[derive(Clone, Copy, Debug, PartialEq, Eq)]
 pub enum Declaration {
     /// How many kernels there are.
@@ -41,18 +41,18 @@ pub enum Declaration {
         sel: u8,
         name: u8,
     },
-    /// The service of that name offers what stands at the selector.
+    /// The service of that name offers the capability at the selector.
     Offer {
         name: u8,
         index: u8,
         sel: u8,
     },
-    /// A VPE refuses what the other asks.
+    /// A VPE denies what the other asks.
     Deny {
         vpe: u16,
         asker: u16,
     },
-    /// A VPE is killed after so many replies.
+    /// A VPE is killed after that many replies.
     Kill {
         vpe: u16,
         replies: u64,
@@ -62,6 +62,6 @@ pub enum Declaration {
         vpe: u16,
         call: Call,
     },
-    /// Nothing more is said.
+    /// Nothing more is said: the last line.
     End,
 }

@@ -7,7 +7,8 @@ ghost use Rattle.sem_trace.specs.declared.declaration.Declaration.TheVariants.{M
 ghost use Rattle.sem_key.specs.declared.limits.TheConstants.{VPES};
 ghost use Rattle.sem_msg.specs.Versions.{most_kernels};
 ghost use Rattle.sem_trace.specs.TextLines.{words_of};
-ghost use Rattle.sem_trace.specs.Forms.{form_fault, first_form, second_form, third_form, word, rights as rights_lem, slots as slots_lem};
+ghost use Rattle.sem_trace.specs.Forms.{form_fault, first_form, second_form, third_form, word};
+ghost use Rattle.sem_trace.specs.Forms.{rights as rights_lem, slots as slots_lem};
 ghost use Rattle.sem_trace.specs.Declarations.{number_at, declaration};
 ghost use Rattle.sem_trace.specs.Refusal.{version_in};
 ghost use Rattle.sem_trace.specs.Forms.Place.{Word};
@@ -21,9 +22,10 @@ use crate::fault::Cause;
 use crate::forms::{BYTE, RIGHTS, Range, SLOTS, WORD, is, kernel_count, node, window};
 
 impl Words<'_> {
-    /// The next word, a version of the texts: 1 or 2. Takes no memory.
+    /// The next word, a version of the texts: 1 or 2.
     pub fn version(&mut self) -> Result<u8, Cause>
-        ensures reads { Reads (Word (codes "1" ∷ codes "2" ∷ []) ∷ []) (λ n. decimal n ∷ []) self.old self.new result }
+        ensures reads { Reads (Word (codes "1" ∷ codes "2" ∷ []) ∷ [])
+            (λ n. decimal n ∷ []) self.old self.new result }
         ensures value { IfOk result (λ n. n ≡ number_at self.old 0) }
         ensures versions { IfOk result (λ n. (n ≡ 1) ⊎ (n ≡ 2)) }
     {
@@ -38,7 +40,7 @@ impl Words<'_> {
     }
 }
 
-/// The version that the line tells, where it is the first of a trace. Takes no memory.
+/// The version that the first line of a trace tells. Takes no memory.
 #[tactic(auto, unfolding(crate::specs::Forms::first_form))]
 pub fn read_first(line: &[u8]) -> Result<u8, Cause>
     ensures fault { form_fault first_form (words_of line.now) ≡ result_err result }
@@ -53,8 +55,7 @@ pub fn read_first(line: &[u8]) -> Result<u8, Cause>
     Ok(version)
 }
 
-/// How many kernels the line says that there are, where it is the second of a trace of the
-/// version. Takes no memory.
+/// The number of kernels that the second line of a trace of the version tells. Takes no memory.
 #[tactic(auto, unfolding(crate::specs::Forms::second_form))]
 pub fn read_second(line: &[u8], version: u8) -> Result<u32, Cause>
     ensures fault { form_fault (second_form version) (words_of line.now) ≡ result_err result }
@@ -68,8 +69,7 @@ pub fn read_second(line: &[u8], version: u8) -> Result<u32, Cause>
     Ok(kernels as u32)
 }
 
-/// How many messages a link holds, where the line is the third of a trace of the version. Takes
-/// no memory.
+/// The window that the third line of a trace of the version tells. Takes no memory.
 #[tactic(auto, unfolding(crate::specs::Forms::third_form))]
 pub fn read_third(line: &[u8], version: u8) -> Result<Declaration, Cause>
     ensures fault { form_fault (third_form version) (words_of line.now) ≡ result_err result }
@@ -85,8 +85,8 @@ pub fn read_third(line: &[u8], version: u8) -> Result<Declaration, Cause>
     })
 }
 
-/// What the line of a trace of the version says behind the second, where there are so many
-/// kernels. Takes no memory.
+/// What a line after the second says, in a trace of the version with that many kernels. Takes no
+/// memory.
 pub fn read_declaration(line: &[u8], version: u8, kernels: u32) -> Result<Declaration, Cause>
     requires { 1 ≤ kernels }
     ensures { ReadsLine version kernels (words_of line.now) result }
@@ -212,8 +212,10 @@ fn pe_line(words: &mut Words<'_>, version: u8, kernels: u32) -> Result<Declarati
 fn memory(vpe: u16, sel: u8, words: &mut Words<'_>) -> Result<Declaration, Cause>
     requires { vpe < VPES }
     ensures fault { form_fault (word ∷ word ∷ rights_lem ∷ []) words.old ≡ result_err result }
-    ensures value { let n = number_at words.old in IfOk result (λ d. d ≡ Memory vpe sel (n 0) (n 1) (n 2)) }
-    ensures ranges { (version kernels : ℕ) → IsNode version vpe → IfOk result (IsInRange version kernels) }
+    ensures value { let n = number_at words.old in
+        IfOk result (λ d. d ≡ Memory vpe sel (n 0) (n 1) (n 2)) }
+    ensures ranges { (version kernels : ℕ) → IsNode version vpe →
+        IfOk result (IsInRange version kernels) }
 {
     let [base, len, rights, ..] = words.last_numbers(&[WORD, WORD, RIGHTS])?;
     Ok(Declaration::Memory {
@@ -229,7 +231,8 @@ fn receive(vpe: u16, sel: u8, words: &mut Words<'_>) -> Result<Declaration, Caus
     requires { vpe < VPES }
     ensures fault { form_fault (slots_lem ∷ []) words.old ≡ result_err result }
     ensures value { let n = number_at words.old in IfOk result (λ d. d ≡ Receive vpe sel (n 0)) }
-    ensures ranges { (version kernels : ℕ) → IsNode version vpe → IfOk result (IsInRange version kernels) }
+    ensures ranges { (version kernels : ℕ) → IsNode version vpe →
+        IfOk result (IsInRange version kernels) }
 {
     let [slots, ..] = words.last_numbers(&[SLOTS])?;
     Ok(Declaration::Receive {

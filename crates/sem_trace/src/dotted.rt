@@ -1,10 +1,12 @@
 // Keys and places: numbers with points between.
-ghost use Rattle.std.specs.Prelude.{◌≡◌, ℕ, ◌≤◌, ◌==◌, true, false, length, List, [], ◌∷◌, decimal, IfOk, IfErr, MatchOption};
+ghost use Rattle.std.specs.Prelude.{◌≡◌, ℕ, ◌≤◌, ◌==◌, true, false, length, List, [], ◌∷◌, decimal};
+ghost use Rattle.std.specs.Prelude.{IfOk, IfErr, MatchOption};
 ghost use Rattle.std.specs.List.{position_or_len};
 ghost use Rattle.std.specs.Result.{result_err};
 ghost use Rattle.sem_key.specs.KeyName.{kind_number};
 ghost use Rattle.sem_trace.specs.Words.{key_word, place_word};
-ghost use Rattle.sem_trace.specs.Forms.{place_fault, parts_of, are_numbers, is_between, key as key_lem, key_place};
+ghost use Rattle.sem_trace.specs.Forms.{place_fault, parts_of, are_numbers, is_between};
+ghost use Rattle.sem_trace.specs.Forms.{key as key_lem, key_place};
 ghost use Rattle.sem_text.specs.Number.{is_number as is_number_lem};
 ghost use Rattle.sem_trace.specs.declared.fault.Cause.TheVariants.{BadNumber, OutOfRange};
 ghost use Rattle.sem_trace.specs.Ranges.{IsKeyInText, IsPlaceInText};
@@ -25,7 +27,7 @@ const DRAWN: Range = Range {
     most: NUMBERS as u64 - 1,
 };
 
-// How many bytes come before the first point, or in all.
+// How many bytes come before the first point, or all if there is none.
 fn front_len(text: &[u8]) -> usize
     ensures within { result ≤ length text.now }
     ensures first { result ≡ position_or_len (λ b. b == 46) text.now }
@@ -33,9 +35,10 @@ fn front_len(text: &[u8]) -> usize
     text.iter().take_while(|byte| **byte != b'.').count()
 }
 
-// What stands before the first point and what stands behind it.
+// The text before the first point and the text after it.
 fn split_point(text: &[u8]) -> Option<(&[u8], &[u8])>
-    ensures { MatchOption result (parts_of text.now ≡ text.now ∷ []) (λ p. parts_of text.now ≡ p.0.now ∷ parts_of p.1.now) }
+    ensures { MatchOption result (parts_of text.now ≡ text.now ∷ []) (λ p. parts_of text.now
+        ≡ p.0.now ∷ parts_of p.1.now) }
 {
     let end = front_len(text);
     if end == text.len() {
@@ -46,19 +49,19 @@ fn split_point(text: &[u8]) -> Option<(&[u8], &[u8])>
     Some((front, behind))
 }
 
-// Whether the word is a number.
 fn is_number(word: &[u8]) -> bool
     ensures { result ≡ is_number_lem word.now }
 {
     !matches!(number(word, u64::MAX), Err(NumberFault::Bad))
 }
 
-// The number before the first point and what stands behind it.
+// The number before the first point, and the text after it.
 fn first_part(text: &[u8]) -> Result<(&[u8], &[u8]), Cause>
     ensures parts { IfOk result (λ p. parts_of text.now ≡ p.0.now ∷ parts_of p.1.now) }
     ensures number { IfOk result (λ p. is_number_lem p.0.now ≡ true) }
     ensures cause { IfErr result (λ cause. cause ≡ BadNumber) }
-    ensures err { IfErr result (λ _. (a b : ℕ × ℕ) (ranges : List (ℕ × ℕ)) → are_numbers (a ∷ b ∷ ranges) (parts_of text.now) ≡ false) }
+    ensures err { IfErr result (λ _. (a b : ℕ × ℕ) (ranges : List (ℕ × ℕ)) →
+        are_numbers (a ∷ b ∷ ranges) (parts_of text.now) ≡ false) }
 {
     let Some((part, rest)) = split_point(text) else {
         return Err(Cause::BadNumber);
@@ -75,7 +78,8 @@ fn last_part(text: &[u8]) -> Result<&[u8], Cause>
     ensures part { IfOk result (λ part. parts_of text.now ≡ part.now ∷ []) }
     ensures number { IfOk result (λ part. is_number_lem part.now ≡ true) }
     ensures cause { IfErr result (λ cause. cause ≡ BadNumber) }
-    ensures err { IfErr result (λ _. (a : ℕ × ℕ) → are_numbers (a ∷ []) (parts_of text.now) ≡ false) }
+    ensures err { IfErr result (λ _. (a : ℕ × ℕ) →
+        are_numbers (a ∷ []) (parts_of text.now) ≡ false) }
 {
     if is_number(text) {
         Ok(text)
@@ -150,18 +154,20 @@ fn place(word: &[u8], version: u8) -> Result<Place, Cause>
 }
 
 impl Words<'_> {
-    /// The next word, a key of a text of the version. Takes no memory.
+    /// The next word, a key of a text of the version.
     pub fn key(&mut self, version: u8) -> Result<Key, Cause>
-        ensures reads { Reads (key_lem version ∷ []) (λ k. key_word k ∷ []) self.old self.new result }
+        ensures reads { Reads (key_lem version ∷ []) (λ k. key_word k ∷ []) self.old self.new
+            result }
         ensures told { IfOk result (IsKeyInText version) }
     {
         let word = self.word()?;
         read_key(word, version)
     }
 
-    /// The next word, the place of a key, in a text of the version. Takes no memory.
+    /// The next word, the place of a key, in a text of the version.
     pub fn place(&mut self, version: u8) -> Result<Place, Cause>
-        ensures reads { Reads (key_place version ∷ []) (λ p. place_word p ∷ []) self.old self.new result }
+        ensures reads { Reads (key_place version ∷ []) (λ p. place_word p ∷ []) self.old self.new
+            result }
         ensures told { IfOk result (IsPlaceInText version) }
     {
         let word = self.word()?;

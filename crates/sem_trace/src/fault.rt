@@ -6,25 +6,25 @@ pub enum Cause {
     /// A byte that is neither a tab nor printable.
     #[error("NotText")]
     NotText,
-    /// Another word than those that can stand in its place.
+    /// A word that cannot stand in its place.
     #[error("UnknownWord")]
     UnknownWord,
-    /// A word that is no number, where one belongs.
+    /// A word that is no number, in the place of one.
     #[error("BadNumber")]
     BadNumber,
     /// A number that its place does not allow, or memory that ends too far.
     #[error("OutOfRange")]
     OutOfRange,
-    /// What an earlier line says already.
+    /// An earlier line says this already.
     #[error("Twice")]
     Twice,
-    /// It speaks of what no earlier line declares.
+    /// It names something that no earlier line declares.
     #[error("Undeclared")]
     Undeclared,
     /// A place without a word, or a text without its last line.
     #[error("Missing")]
     Missing,
-    /// A word behind the last place, a line behind the last one, or a call too many.
+    /// A word after the last place, a line after the last one, or a call too many.
     #[error("TooMany")]
     TooMany,
     /// More bytes than a line may have.
@@ -33,12 +33,12 @@ pub enum Cause {
     /// More bytes than a text may have.
     #[error("InputTooLong")]
     InputTooLong,
-    /// Another spelling than the canonical one. Only a report is refused so.
+    /// Another spelling than the canonical one. Only a report is refused for it.
     #[error("NotCanonical")]
     NotCanonical,
 }
 
-/// The first bad line, counted from 1, and its cause. A text that is too long has it at line 0.
+/// The first bad line, counted from 1, and its cause. A text that is too long is refused at line 0.
 #[derive(Clone, Copy, Debug, PartialEq, Eq, Error)]
 #[error("line {line}: {cause}")]
 pub struct TraceFault {
@@ -49,7 +49,7 @@ pub struct TraceFault {
 /// Why a text is not read.
 #[derive(Clone, Copy, Debug, PartialEq, Eq, Error)]
 pub enum TraceError {
-    /// It stands for nothing.
+    /// It stands for no setup.
     #[error("{0}")]
     Refused(TraceFault),
     /// Memory was refused.

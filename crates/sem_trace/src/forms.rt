@@ -1,11 +1,13 @@
 // The places of a line, read from the left.
-ghost use Rattle.std.specs.Prelude.{◌≡◌, ℕ, ◌<◌, ◌≤◌, [], ◌∷◌, map, length, take, drop, decimal, slice_index, IfOk, OnOk};
+ghost use Rattle.std.specs.Prelude.{◌≡◌, ℕ, ◌<◌, ◌≤◌, [], ◌∷◌, map, length, take, drop, decimal};
+ghost use Rattle.std.specs.Prelude.{slice_index, IfOk, OnOk};
 ghost use Rattle.std.specs.Bool.{Decides};
 ghost use Rattle.std.specs.Result.{result_err};
 ghost use Rattle.sem_text.specs.Number.{number_value};
 ghost use Rattle.sem_key.specs.declared.limits.TheConstants.{VPES, KERNELS};
 ghost use Rattle.sem_msg.specs.declared.limits.TheConstants.{WINDOW as WINDOW_LEM};
-ghost use Rattle.sem_trace.specs.Forms.{place_fault, form_fault, node as node_lem, kernel_count as kernel_count_lem, window as window_lem};
+ghost use Rattle.sem_trace.specs.Forms.{place_fault, form_fault, node as node_lem};
+ghost use Rattle.sem_trace.specs.Forms.{kernel_count as kernel_count_lem, window as window_lem};
 ghost use Rattle.sem_trace.specs.Forms.Place.{Word};
 ghost use Rattle.sem_trace.specs.Declarations.{number_at};
 ghost use Rattle.sem_trace.specs.Places.{Reads, AreNumbers, number_place, IsWithin};
@@ -47,7 +49,7 @@ pub const WORD: Range = Range {
     most: 4294967295,
 };
 
-/// The most numbers that stand side by side.
+/// The most numbers side by side in a place.
 const MOST_NUMBERS: usize = 5;
 
 /// A PE, or a VPE, in a text of the version.
@@ -87,7 +89,7 @@ pub fn window(version: u8) -> Range
     }
 }
 
-// The number that the word is, if it can stand in that place.
+// The number of the word, if it can stand in that place.
 pub(crate) fn number_in(word: &[u8], range: Range) -> Result<u64, Cause>
     ensures fault { place_fault (number_place range) word.now ≡ result_err result }
     ensures value { IfOk result (λ value. value ≡ number_value word.now) }
@@ -109,7 +111,7 @@ pub fn is(word: &[u8], name: &[u8]) -> bool
 }
 
 impl Words<'_> {
-    /// Sees that the next word is that one. Takes no memory.
+    /// Checks that the next word is that one.
     pub fn fixed(&mut self, name: &[u8]) -> Result<(), Cause>
         ensures { Reads (Word (name.now ∷ []) ∷ []) (λ _. name.now ∷ []) self.old self.new result }
     {
@@ -121,9 +123,10 @@ impl Words<'_> {
         }
     }
 
-    /// The next word, a number of that range. Takes no memory.
+    /// The next word, a number of that range.
     pub fn number(&mut self, range: Range) -> Result<u64, Cause>
-        ensures reads { Reads (number_place range ∷ []) (λ n. decimal n ∷ []) self.old self.new result }
+        ensures reads { Reads (number_place range ∷ []) (λ n. decimal n ∷ []) self.old self.new
+            result }
         ensures value { IfOk result (λ n. n ≡ number_at self.old 0) }
         ensures within { IfOk result (IsWithin range) }
     {
@@ -131,10 +134,11 @@ impl Words<'_> {
         number_in(word, range)
     }
 
-    /// The next words, numbers of those ranges, 5 at most. Takes no memory.
+    /// The next words, numbers of those ranges, 5 at most.
     pub fn numbers(&mut self, ranges: &[Range]) -> Result<[u64; MOST_NUMBERS], Cause>
         requires { length ranges.now ≤ 5 }
-        ensures reads { Reads (map number_place ranges.now) (λ ns. map decimal (take (length ranges.now) ns)) self.old self.new result }
+        ensures reads { Reads (map number_place ranges.now)
+            (λ ns. map decimal (take (length ranges.now) ns)) self.old self.new result }
         ensures numbers { IfOk result (AreNumbers ranges.now self.old) }
         ensures behind { OnOk result (self.new ≡ drop (length ranges.now) self.old) }
     {
@@ -145,7 +149,7 @@ impl Words<'_> {
         Ok(values)
     }
 
-    /// The last words, numbers of those ranges, 5 at most. Takes no memory.
+    /// The last words, numbers of those ranges, 5 at most.
     pub fn last_numbers(&mut self, ranges: &[Range]) -> Result<[u64; MOST_NUMBERS], Cause>
         requires { length ranges.now ≤ 5 }
         ensures fault { form_fault (map number_place ranges.now) self.old ≡ result_err result }

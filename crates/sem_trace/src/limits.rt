@@ -1,14 +1,16 @@
 // What the versions of a text allow.
 ghost use Rattle.std.specs.Prelude.{◌≡◌, ◌≤◌};
-ghost use Rattle.sem_key.specs.declared.limits.TheConstants.{VPES as VPES_LEM, KERNELS as KERNELS_LEM};
-ghost use Rattle.sem_msg.specs.Versions.{most_kernels as most_kernels_lem, most_vpes as most_vpes_lem};
+ghost use Rattle.sem_key.specs.declared.limits.TheConstants.{VPES as VPES_LEM};
+ghost use Rattle.sem_key.specs.declared.limits.TheConstants.{KERNELS as KERNELS_LEM};
+ghost use Rattle.sem_msg.specs.Versions.{most_kernels as most_kernels_lem};
+ghost use Rattle.sem_msg.specs.Versions.{most_vpes as most_vpes_lem};
 
 use sem_key::{KERNELS, VPES};
 
-/// How many messages a link holds where the text does not say it.
+/// How many messages a link holds if the text does not say it.
 pub const LINK_WINDOW: u32 = 4;
 
-/// How many kernels a text of the version can declare.
+/// The most kernels that a text of the version can declare.
 pub fn most_kernels(version: u8) -> u32
     ensures number { result ≡ most_kernels_lem version }
     ensures most { result ≤ KERNELS_LEM }
@@ -16,7 +18,7 @@ pub fn most_kernels(version: u8) -> u32
     if version == 1 { 16 } else { KERNELS }
 }
 
-/// How many VPEs a text of the version can speak of, and as many PEs.
+/// The most VPEs, and the most PEs, that a text of the version can name.
 pub fn most_vpes(version: u8) -> u16
     ensures number { result ≡ most_vpes_lem version }
     ensures least { 1 ≤ result }

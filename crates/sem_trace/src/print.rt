@@ -1,22 +1,25 @@
-// The lines of a trace. After want of memory each of these functions but `print_trace` may have
+// The lines of a trace. If memory is refused, each of these functions but `print_trace` may have
 // appended a part.
-ghost use Rattle.std.specs.Prelude.{◌≡◌, ℕ, [], ◌∷◌, ◌++◌, length, map, flat_map, codes, decimal, OnOk, OnErr};
+ghost use Rattle.std.specs.Prelude.{◌≡◌, ℕ, [], ◌∷◌, ◌++◌, length, map, flat_map, codes, decimal};
+ghost use Rattle.std.specs.Prelude.{OnOk, OnErr};
 ghost use Rattle.std.specs.List.{enumerate_from};
 ghost use Rattle.sem_key.specs.MembershipTable.{owner_at};
 ghost use Rattle.sem_key.specs.declared.limits.TheConstants.{PES};
 ghost use Rattle.sem_text.specs.Lines.{behind_blanks, line, text};
 ghost use Rattle.sem_trace.specs.Words.{call_words};
-ghost use Rattle.sem_trace.specs.TraceText.{pe_line, vpe_line, root_line, offer_line, deny_line, kill_line, window_lines, trace_lines, canonical};
+ghost use Rattle.sem_trace.specs.TraceText.{pe_line, vpe_line, root_line, offer_line, deny_line};
+ghost use Rattle.sem_trace.specs.TraceText.{kill_line, window_lines, trace_lines, canonical};
 
 use crate::push::{push_call, push_numbers, push_object};
 use sem_key::{Membership, Object, OutOfMemory, PES};
 use sem_msg::{Calls, Denies, Kills, Offers, Root, Roots, Setup, Vpes0};
 use std::alloc::Global;
 
-/// Appends the first words of a line: the name, and the numbers, each behind a blank.
+/// Appends the first words of a line: the name, and the numbers, each after a blank.
 #[inline(always)]
 pub fn push_start(out: &mut Vec<u8>, name: &[u8], values: &[u64]) -> Result<(), OutOfMemory>
-    ensures ok { OnOk result (out.new.items ≡ out.old.items ++ (name.now ++ behind_blanks (map decimal values.now))) }
+    ensures ok { OnOk result (out.new.items ≡ out.old.items
+        ++ (name.now ++ behind_blanks (map decimal values.now))) }
 {
     out.extend_from_slice(name)?;
     push_numbers(out, values)
@@ -25,7 +28,8 @@ pub fn push_start(out: &mut Vec<u8>, name: &[u8], values: &[u64]) -> Result<(), 
 /// Appends a line: the name and the numbers.
 #[inline(always)]
 pub fn push_line(out: &mut Vec<u8>, name: &[u8], values: &[u64]) -> Result<(), OutOfMemory>
-    ensures ok { OnOk result (out.new.items ≡ out.old.items ++ line (name.now ∷ map decimal values.now)) }
+    ensures ok { OnOk result (out.new.items ≡ out.old.items
+        ++ line (name.now ∷ map decimal values.now)) }
 {
     push_start(out, name, values)?;
     Ok(out.push(b'\n')?)
@@ -33,7 +37,8 @@ pub fn push_line(out: &mut Vec<u8>, name: &[u8], values: &[u64]) -> Result<(), O
 
 // Appends the line of the PE, if a kernel owns it.
 fn push_owner(out: &mut Vec<u8>, owners: &Membership, pe: u8) -> Result<(), OutOfMemory>
-    ensures ok { OnOk result (out.new.items ≡ out.old.items ++ text (pe_line (pe, owner_at owners.now pe))) }
+    ensures ok { OnOk result (out.new.items ≡ out.old.items
+        ++ text (pe_line (pe, owner_at owners.now pe))) }
 {
     match owners.owner(pe) {
         Some(kernel) => push_line(out, b"pe", &[u64::from(pe), u64::from(kernel)]),
@@ -44,7 +49,8 @@ fn push_owner(out: &mut Vec<u8>, owners: &Membership, pe: u8) -> Result<(), OutO
 // Appends a line for each PE that a kernel owns.
 fn push_owners(out: &mut Vec<u8>, owners: &Membership) -> Result<(), OutOfMemory>
     requires { length owners.now.owners ≡ PES }
-    ensures ok { OnOk result (out.new.items ≡ out.old.items ++ text (flat_map pe_line (enumerate_from 0 owners.now.owners))) }
+    ensures ok { OnOk result (out.new.items ≡ out.old.items
+        ++ text (flat_map pe_line (enumerate_from 0 owners.now.owners))) }
 {
     for pe in 0..PES {
         push_owner(out, owners, pe as u8)?;
@@ -81,7 +87,8 @@ fn push_root(out: &mut Vec<u8>, vpe: u16, root: &Root) -> Result<(), OutOfMemory
 
 // Appends a line for each root of the VPE.
 fn push_roots(out: &mut Vec<u8>, vpe: u16, roots: &Roots) -> Result<(), OutOfMemory>
-    ensures ok { OnOk result (out.new.items ≡ out.old.items ++ text (map (root_line vpe) roots.now)) }
+    ensures ok { OnOk result (out.new.items ≡ out.old.items
+        ++ text (map (root_line vpe) roots.now)) }
 {
     for root in roots.as_slice() {
         push_root(out, vpe, root)?;
@@ -91,7 +98,8 @@ fn push_roots(out: &mut Vec<u8>, vpe: u16, roots: &Roots) -> Result<(), OutOfMem
 
 // Appends a line for each root of each VPE.
 fn push_all_roots(out: &mut Vec<u8>, vpes: &Vpes0) -> Result<(), OutOfMemory>
-    ensures ok { OnOk result (out.new.items ≡ out.old.items ++ text (flat_map (λ d. map (root_line d.vpe) d.roots) vpes.now)) }
+    ensures ok { OnOk result (out.new.items ≡ out.old.items
+        ++ text (flat_map (λ d. map (root_line d.vpe) d.roots) vpes.now)) }
 {
     for declared in vpes.as_slice() {
         push_roots(out, declared.vpe, &declared.roots)?;
@@ -136,7 +144,8 @@ fn push_kills(out: &mut Vec<u8>, kills: &Kills) -> Result<(), OutOfMemory>
 
 // Appends a line for each call of the VPE.
 fn push_calls(out: &mut Vec<u8>, vpe: u16, calls: &Calls) -> Result<(), OutOfMemory>
-    ensures ok { OnOk result (out.new.items ≡ out.old.items ++ text (map (λ c. codes "call" ∷ decimal vpe ∷ call_words c) calls.now)) }
+    ensures ok { OnOk result (out.new.items ≡ out.old.items
+        ++ text (map (λ c. codes "call" ∷ decimal vpe ∷ call_words c) calls.now)) }
 {
     for call in calls.as_slice() {
         push_start(out, b"call", &[u64::from(vpe)])?;
@@ -148,7 +157,9 @@ fn push_calls(out: &mut Vec<u8>, vpe: u16, calls: &Calls) -> Result<(), OutOfMem
 
 // Appends a line for each call of each VPE.
 fn push_all_calls(out: &mut Vec<u8>, vpes: &Vpes0) -> Result<(), OutOfMemory>
-    ensures ok { OnOk result (out.new.items ≡ out.old.items ++ text (flat_map (λ d. map (λ c. codes "call" ∷ decimal d.vpe ∷ call_words c) d.calls) vpes.now)) }
+    ensures ok { OnOk result (out.new.items ≡ out.old.items
+        ++ text (flat_map (λ d. map (λ c. codes "call" ∷ decimal d.vpe ∷ call_words c) d.calls)
+        vpes.now)) }
 {
     for declared in vpes.as_slice() {
         push_calls(out, declared.vpe, &declared.calls)?;
@@ -158,7 +169,8 @@ fn push_all_calls(out: &mut Vec<u8>, vpes: &Vpes0) -> Result<(), OutOfMemory>
 
 // Appends the line that tells the version.
 fn push_first(out: &mut Vec<u8>, setup: &Setup) -> Result<(), OutOfMemory>
-    ensures ok { OnOk result (out.new.items ≡ out.old.items ++ line (codes "semper trace" ∷ decimal setup.now.version ∷ [])) }
+    ensures ok { OnOk result (out.new.items ≡ out.old.items
+        ++ line (codes "semper trace" ∷ decimal setup.now.version ∷ [])) }
 {
     push_line(out, b"semper trace", &[u64::from(setup.version)])
 }
@@ -174,9 +186,12 @@ fn push_window(out: &mut Vec<u8>, setup: &Setup) -> Result<(), OutOfMemory>
     }
 }
 
-// Appends the lines that say which kernels, PEs and VPEs there are.
+// Appends the lines that declare the kernels, PEs and VPEs.
 fn push_members(out: &mut Vec<u8>, setup: &Setup) -> Result<(), OutOfMemory>
-    ensures ok { OnOk result (out.new.items ≡ out.old.items ++ text ((codes "kernels" ∷ decimal setup.now.kernels ∷ []) ∷ window_lines setup.now ++ flat_map pe_line (enumerate_from 0 setup.now.owners.owners) ++ map vpe_line setup.now.vpes)) }
+    ensures ok { OnOk result (out.new.items ≡ out.old.items
+        ++ text ((codes "kernels" ∷ decimal setup.now.kernels ∷ []) ∷ window_lines setup.now
+        ++ flat_map pe_line (enumerate_from 0 setup.now.owners.owners)
+        ++ map vpe_line setup.now.vpes)) }
 {
     push_line(out, b"kernels", &[u64::from(setup.kernels)])?;
     push_window(out, setup)?;
@@ -186,7 +201,10 @@ fn push_members(out: &mut Vec<u8>, setup: &Setup) -> Result<(), OutOfMemory>
 
 // Appends the lines of the roots, the offers, the denies and the kills.
 fn push_terms(out: &mut Vec<u8>, setup: &Setup) -> Result<(), OutOfMemory>
-    ensures ok { OnOk result (out.new.items ≡ out.old.items ++ text (flat_map (λ d. map (root_line d.vpe) d.roots) setup.now.vpes ++ map offer_line setup.now.offers ++ map deny_line setup.now.denies ++ map kill_line setup.now.kills)) }
+    ensures ok { OnOk result (out.new.items ≡ out.old.items
+        ++ text (flat_map (λ d. map (root_line d.vpe) d.roots) setup.now.vpes
+        ++ map offer_line setup.now.offers ++ map deny_line setup.now.denies
+        ++ map kill_line setup.now.kills)) }
 {
     push_all_roots(out, &setup.vpes)?;
     push_offers(out, &setup.offers)?;
@@ -206,7 +224,7 @@ pub fn push_trace(out: &mut Vec<u8>, setup: &Setup) -> Result<(), OutOfMemory>
     Ok(())
 }
 
-/// Appends the canonical text of the setup. After want of memory `out` is as before.
+/// Appends the canonical text of the setup. If memory is refused, `out` is as before.
 pub fn print_trace(alloc: Global, setup: &Setup, out: &mut Vec<u8>) -> Result<(), OutOfMemory>
     ensures ok { OnOk result (out.new.items ≡ out.old.items ++ canonical setup.now) }
     ensures err { OnErr result (out.new.items ≡ out.old.items) }

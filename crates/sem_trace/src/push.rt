@@ -1,4 +1,4 @@
-// Words of a line. After want of memory each of these functions may have appended a part.
+// Words of a line. If memory is refused, each of these functions may have appended a part.
 ghost use Rattle.std.specs.Prelude.{◌≡◌, ◌∷◌, ◌++◌, map, decimal, OnOk};
 ghost use Rattle.sem_key.specs.KeyName.{kind_number};
 ghost use Rattle.sem_text.specs.Lines.{behind_blanks};
@@ -8,7 +8,7 @@ use sem_key::{Key, Object, OutOfMemory, Place};
 use sem_msg::Call;
 use sem_text::{push_number, push_number_behind};
 
-/// Appends the word behind a blank.
+/// Appends a blank and the word.
 #[inline(always)]
 pub fn push_word(out: &mut Vec<u8>, word: &[u8]) -> Result<(), OutOfMemory>
     ensures ok { OnOk result (out.new.items ≡ out.old.items ++ 32 ∷ word.now) }
@@ -17,7 +17,7 @@ pub fn push_word(out: &mut Vec<u8>, word: &[u8]) -> Result<(), OutOfMemory>
     out.extend_from_slice(word)
 }
 
-/// Appends the number behind a blank.
+/// Appends a blank and the number.
 #[inline(always)]
 pub fn push_number_word(out: &mut Vec<u8>, value: u64) -> Result<(), OutOfMemory>
     ensures ok { OnOk result (out.new.items ≡ out.old.items ++ 32 ∷ decimal value) }
@@ -25,10 +25,11 @@ pub fn push_number_word(out: &mut Vec<u8>, value: u64) -> Result<(), OutOfMemory
     push_number_behind(out, b' ', value)
 }
 
-/// Appends the numbers, each behind a blank.
+/// Appends the numbers, each after a blank.
 #[inline(always)]
 pub fn push_numbers(out: &mut Vec<u8>, values: &[u64]) -> Result<(), OutOfMemory>
-    ensures ok { OnOk result (out.new.items ≡ out.old.items ++ behind_blanks (map decimal values.now)) }
+    ensures ok { OnOk result (out.new.items ≡ out.old.items
+        ++ behind_blanks (map decimal values.now)) }
 {
     for value in values {
         push_number_word(out, *value)?;
@@ -36,16 +37,17 @@ pub fn push_numbers(out: &mut Vec<u8>, values: &[u64]) -> Result<(), OutOfMemory
     Ok(())
 }
 
-/// Appends the name and then the numbers, each behind a blank.
+/// Appends the name and then the numbers, each after a blank.
 #[inline(always)]
 pub fn push_named(out: &mut Vec<u8>, name: &[u8], values: &[u64]) -> Result<(), OutOfMemory>
-    ensures ok { OnOk result (out.new.items ≡ out.old.items ++ behind_blanks (name.now ∷ map decimal values.now)) }
+    ensures ok { OnOk result (out.new.items ≡ out.old.items
+        ++ behind_blanks (name.now ∷ map decimal values.now)) }
 {
     push_word(out, name)?;
     push_numbers(out, values)
 }
 
-// Appends the number behind a point.
+// Appends a point and the number.
 #[inline(always)]
 fn push_part(out: &mut Vec<u8>, value: u64) -> Result<(), OutOfMemory>
     ensures ok { OnOk result (out.new.items ≡ out.old.items ++ 46 ∷ decimal value) }
@@ -56,7 +58,8 @@ fn push_part(out: &mut Vec<u8>, value: u64) -> Result<(), OutOfMemory>
 // Appends what follows the PE of a key.
 fn push_key_parts(out: &mut Vec<u8>, key: &Key) -> Result<(), OutOfMemory>
     ensures ok { OnOk result (out.new.items ≡ out.old.items
-        ++ 46 ∷ decimal key.now.vpe ++ 46 ∷ decimal (kind_number key.now.kind) ++ 46 ∷ decimal key.now.number) }
+        ++ 46 ∷ decimal key.now.vpe ++ 46 ∷ decimal (kind_number key.now.kind)
+        ++ 46 ∷ decimal key.now.number) }
 {
     push_part(out, u64::from(key.vpe))?;
     push_part(out, u64::from(key.kind.number()))?;
@@ -71,7 +74,7 @@ pub fn push_key(out: &mut Vec<u8>, key: &Key) -> Result<(), OutOfMemory>
     push_key_parts(out, key)
 }
 
-/// Appends the key behind a blank.
+/// Appends a blank and the key.
 pub fn push_key_word(out: &mut Vec<u8>, key: &Key) -> Result<(), OutOfMemory>
     ensures ok { OnOk result (out.new.items ≡ out.old.items ++ 32 ∷ key_word key.now) }
 {
@@ -96,7 +99,7 @@ pub fn push_place(out: &mut Vec<u8>, place: &Place) -> Result<(), OutOfMemory>
     push_place_parts(out, place)
 }
 
-/// Appends the place behind a blank.
+/// Appends a blank and the place.
 pub fn push_place_word(out: &mut Vec<u8>, place: &Place) -> Result<(), OutOfMemory>
     ensures ok { OnOk result (out.new.items ≡ out.old.items ++ 32 ∷ place_word place.now) }
 {
@@ -104,9 +107,10 @@ pub fn push_place_word(out: &mut Vec<u8>, place: &Place) -> Result<(), OutOfMemo
     push_place_parts(out, place)
 }
 
-/// Appends the words of the object, each behind a blank.
+/// Appends the words of the object, each after a blank.
 pub fn push_object(out: &mut Vec<u8>, object: &Object) -> Result<(), OutOfMemory>
-    ensures ok { OnOk result (out.new.items ≡ out.old.items ++ behind_blanks (object_words object.now)) }
+    ensures ok { OnOk result (out.new.items ≡ out.old.items
+        ++ behind_blanks (object_words object.now)) }
 {
     match object {
         Object::Mem { base, len, rights } => {
@@ -132,9 +136,10 @@ pub fn push_object(out: &mut Vec<u8>, object: &Object) -> Result<(), OutOfMemory
     }
 }
 
-/// Appends the words of the call, each behind a blank.
+/// Appends the words of the call, each after a blank.
 pub fn push_call(out: &mut Vec<u8>, call: &Call) -> Result<(), OutOfMemory>
-    ensures ok { OnOk result (out.new.items ≡ out.old.items ++ behind_blanks (call_words call.now)) }
+    ensures ok { OnOk result (out.new.items ≡ out.old.items
+        ++ behind_blanks (call_words call.now)) }
 {
     match call {
         Call::Derive {

@@ -1,7 +1,9 @@
 // Lines of a text and words of a line, from the front.
 ghost use Rattle.std.specs.Prelude.{◌≡◌, MatchOption, ◌∷◌, []};
 ghost use Rattle.std.specs.List.{list_all};
-ghost use Rattle.sem_trace.specs.TextLines.{lines_of, words_of, is_text as is_text_lem, is_significant as is_significant_lem, bytes_fault as bytes_fault_lem};
+ghost use Rattle.sem_trace.specs.TextLines.{lines_of, words_of, is_text as is_text_lem};
+ghost use Rattle.sem_trace.specs.TextLines.{is_significant as is_significant_lem};
+ghost use Rattle.sem_trace.specs.TextLines.{bytes_fault as bytes_fault_lem};
 
 use crate::fault::Cause;
 use sem_text::{line_at, word_at};
@@ -9,9 +11,10 @@ use sem_text::{line_at, word_at};
 /// The most bytes of a line, without its end.
 const LINE_BYTES: usize = 255;
 
-/// The first line, and the text behind it; none where there is no text. Takes no memory.
+/// The first line, and the text after it; none if there is no text. Takes no memory.
 pub fn next_line(text: &[u8]) -> Option<(&[u8], &[u8])>
-    ensures { MatchOption result (lines_of text.now ≡ []) (λ p. lines_of text.now ≡ p.0.now ∷ lines_of p.1.now) }
+    ensures { MatchOption result (lines_of text.now ≡ []) (λ p. lines_of text.now
+        ≡ p.0.now ∷ lines_of p.1.now) }
 {
     let (end, next) = line_at(text, 0)?;
     let (line, _) = text.split_at(end);
@@ -19,9 +22,10 @@ pub fn next_line(text: &[u8]) -> Option<(&[u8], &[u8])>
     Some((line, rest))
 }
 
-/// The first word, and what is behind it; none where there is no word. Takes no memory.
+/// The first word, and the rest after it; none if there is no word. Takes no memory.
 pub fn next_word(line: &[u8]) -> Option<(&[u8], &[u8])>
-    ensures { MatchOption result (words_of line.now ≡ []) (λ p. words_of line.now ≡ p.0.now ∷ words_of p.1.now) }
+    ensures { MatchOption result (words_of line.now ≡ []) (λ p. words_of line.now
+        ≡ p.0.now ∷ words_of p.1.now) }
 {
     let (begin, end) = word_at(line, 0)?;
     let (front, rest) = line.split_at(end);
@@ -46,7 +50,7 @@ fn is_text(byte: u8) -> bool
     byte == b'\t' || (b' '..=b'~').contains(&byte)
 }
 
-// Whether all bytes are.
+// Whether all bytes are tabs or printable.
 fn all_text(line: &[u8]) -> bool
     ensures { result ≡ list_all is_text_lem line.now }
 {

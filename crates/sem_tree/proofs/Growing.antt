@@ -18,11 +18,17 @@ rows_none gs rows none = record {
 }
 
 -- one row more
-pub rows_more : (gs : List (KeyName × KeyName)) (ks : List KeyName) (i : ℕ) (k : KeyName) (parent : Option KeyName) (now new : List TreeRow) → i < length ks → k ≡ get_or ks i k → AreRows gs (take i ks) now → parent ≡ parent_in gs k → new ≡ now ++ record { key = k; parent = parent } ∷ [] → AreRows gs (take (i + 1) ks) new
+pub rows_more : (gs : List (KeyName × KeyName)) (ks : List KeyName) (i : ℕ) (k : KeyName) (parent : Option KeyName) (now new : List TreeRow) → i < length ks →
+    k ≡ get_or ks i k → AreRows gs (take i ks) now → parent ≡ parent_in gs k → new ≡ now ++ record { key = k; parent = parent } ∷ [] →
+    AreRows gs (take (i + 1) ks) new
 rows_more gs ks i k parent now new more at so_far above is =
     let row : TreeRow = record { key = k; parent = parent } in
     let one_more : take (i + 1) ks ≡ take i ks ++ k ∷ [] = take_more ks i k more ∙ ap (λ x. take i ks ++ x ∷ []) (sym at) in
     record {
       keys = ap (map (λ (r : TreeRow). r.key)) is ∙ (map-append (λ (r : TreeRow). r.key) now (row ∷ []) ∙ (ap (λ xs. xs ++ k ∷ []) so_far.keys ∙ sym one_more));
-      parents = ap (map (λ (r : TreeRow). r.parent)) is ∙ (map-append (λ (r : TreeRow). r.parent) now (row ∷ []) ∙ (ap (λ xs. xs ++ parent ∷ []) so_far.parents ∙ (ap (λ p. map (parent_in gs) (take i ks) ++ p ∷ []) above ∙ (sym (map-append (parent_in gs) (take i ks) (k ∷ [])) ∙ ap (map (parent_in gs)) (sym one_more)))));
+      parents = ap (map (λ (r : TreeRow). r.parent)) is
+          ∙ (map-append (λ (r : TreeRow). r.parent) now (row ∷ [])
+          ∙ (ap (λ xs. xs ++ parent ∷ []) so_far.parents
+          ∙ (ap (λ p. map (parent_in gs) (take i ks) ++ p ∷ []) above
+          ∙ (sym (map-append (parent_in gs) (take i ks) (k ∷ [])) ∙ ap (map (parent_in gs)) (sym one_more)))));
     }

@@ -1,4 +1,4 @@
-// Which clears begin at a key.
+// The clears that begin at a key.
 use sem_key::{Key, same_key};
 use sem_msg::{Call, Detail, Entry};
 
@@ -16,7 +16,6 @@ pub fn clear_of(entries: &[Entry], key: Key) -> Option<usize> {
     last
 }
 
-// Whether the entry is a clear.
 fn is_clear(entry: &Entry) -> bool {
     match entry.detail {
         Detail::Called {

@@ -1,4 +1,4 @@
-// The forests after each of some entries, told as what changes from one to the next.
+// The forests after each of some entries, told as the changes from one to the next.
 use crate::nodes::nodes_of;
 use crate::rows::tree_rows;
 use crate::trees::{KEYS, key_count};
@@ -14,7 +14,7 @@ use std::alloc::Global;
 pub enum ForestsFault {
     /// The entry of this number is not the one that the machine makes.
     Wrong(usize),
-    /// There would be so many keys, more than a forest may have.
+    /// There would be that many keys, more than a forest may have.
     TooMany(usize),
     Memory,
 }
@@ -25,7 +25,7 @@ impl From<OutOfMemory> for ForestsFault {
     }
 }
 
-// A forest after so many entries: the keys that it has anew, or of which something else is told.
+// A forest after that many entries: its new keys, and those with changed texts.
 #[derive(Debug, Drop, Serialize)]
 struct ForestLine {
     after: u64,
@@ -43,8 +43,8 @@ struct KeyLine {
     text: String,
 }
 
-/// The forest after the first `from` entries, and after each one up to `to`, a JSON object a line:
-/// each tells the keys that are new, or of which it tells something else than the line before.
+/// The forest after the first `from` entries, and after each one up to `to`, a JSON object a line.
+/// Each tells its new keys, and those that changed since the line before.
 pub fn forest_lines(
     alloc: Global,
     setup: &Setup,
@@ -78,7 +78,7 @@ pub fn forest_lines(
     Ok(out)
 }
 
-// Appends the line of a forest behind another one.
+// Appends the line of a forest after another one.
 fn push_changes(
     alloc: Global,
     out: &mut String,
@@ -103,12 +103,12 @@ fn push_changes(
     out.push('\n')
 }
 
-// Whether the one node tells the same of its key as the other.
+// Whether the two nodes tell the same of their key.
 fn is_told(before: &Node, node: &Node) -> bool {
     before.state == node.state && before.text.as_str() == node.text.as_str()
 }
 
-// What is told of the node at a place.
+// The line of the node at a place.
 fn key_line(alloc: Global, place: usize, node: &Node) -> Result<KeyLine, OutOfMemory> {
     Ok(KeyLine {
         place: place as u64,
@@ -119,7 +119,6 @@ fn key_line(alloc: Global, place: usize, node: &Node) -> Result<KeyLine, OutOfMe
     })
 }
 
-// The name of what has become of a key.
 fn state_name(state: State) -> &'static str {
     match state {
         State::Held => "held",

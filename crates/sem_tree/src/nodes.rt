@@ -1,4 +1,4 @@
-// The rows of a forest as nodes that can be drawn.
+// The rows of a forest as drawable nodes.
 use crate::clears::clear_of;
 use crate::places::Places;
 use crate::rows::TreeRow;
@@ -11,7 +11,7 @@ use sem_key::{Key, Object, OutOfMemory};
 use sem_msg::{Entry, Setup};
 use std::alloc::Global;
 
-/// The nodes of the rows, of which each is one, after these entries.
+/// The nodes of the rows, one for each, after these entries.
 pub fn nodes_of(
     alloc: Global,
     setup: &Setup,
@@ -53,7 +53,7 @@ fn hint_text(alloc: Global, key: Key) -> Result<String, OutOfMemory> {
     format!(in alloc; "semper-view story {key}")
 }
 
-// How many nodes stand above one with that parent.
+// How many nodes are above one with that parent.
 fn depth_below(depths: &[usize], parent: Option<usize>) -> usize {
     match parent.and_then(|place| depths.get(place)) {
         Some(depth) => depth.saturating_add(1),
@@ -61,7 +61,7 @@ fn depth_below(depths: &[usize], parent: Option<usize>) -> usize {
     }
 }
 
-// Appends from what a key was made that stands deeper than text shows.
+// Appends what a key was made from, if the key is deeper than text shows.
 fn push_deep(
     alloc: Global,
     text: &mut String,
@@ -77,7 +77,7 @@ fn push_deep(
     Ok(())
 }
 
-// What has become of a key that is held so.
+// The state of a key, by who holds it.
 fn state_of(key: Key, hold: Option<Hold>, walk: &Walk) -> State {
     match hold {
         Some(hold) if hold.is_marked => State::Marked,
@@ -87,7 +87,7 @@ fn state_of(key: Key, hold: Option<Hold>, walk: &Walk) -> State {
     }
 }
 
-// What has become of a key, who has it, and at which selector.
+// The state of a key, its holder, and the selector.
 fn place_text(
     alloc: Global,
     setup: &Setup,
@@ -129,7 +129,7 @@ fn push_endpoints(
     Ok(())
 }
 
-// Appends what takes the key, if something does: the entry `taker`, or a clear that keeps it.
+// Appends what takes the key, if anything does: the entry `taker`, or a clear that keeps it.
 fn push_cause(
     alloc: Global,
     text: &mut String,

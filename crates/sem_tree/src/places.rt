@@ -11,7 +11,7 @@ pub struct Places {
 }
 
 impl Places {
-    /// Those of these rows.
+    /// The places of these rows.
     pub fn of_rows(alloc: Global, rows: &[TreeRow]) -> Result<Places, OutOfMemory> {
         let mut sorted = Vec::new(alloc);
         for (place, row) in rows.iter().enumerate() {

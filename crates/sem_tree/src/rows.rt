@@ -7,23 +7,26 @@ use sem_key::{Key, OutOfMemory, same_key};
 use sem_msg::{Entry, Journal, Setup};
 use std::alloc::Global;
 
-/// A key that was made, and the one that it was made from; a root has none.
+/// A made key, and the one that it was made from; a root has none.
 #[derive(Clone, Copy, Debug)]
 pub struct TreeRow {
     pub key: Key,
     pub parent: Option<Key>,
 }
 
-/// A row for each key that was made by the setup and the first `count` entries of the journal, each
-/// once: the roots, and then the children of grants in the order of these.
+/// A row for each key made by the setup and the first `count` entries of the journal, each once:
+/// the roots, and then the children of grants in the order of the grants.
 pub fn tree_rows(
     alloc: Global,
     setup: &Setup,
     journal: &Journal,
     count: usize,
 ) -> Result<Vec<TreeRow>, OutOfMemory>
-    ensures keys { IfOk result (λ rows. map (λ r. r.key) rows.items ≡ made setup.now (take count journal.now.entries)) }
-    ensures parents { IfOk result (λ rows. map (λ r. r.parent) rows.items ≡ map (parent_in (grants (take count journal.now.entries))) (made setup.now (take count journal.now.entries))) }
+    ensures keys { IfOk result (λ rows. map (λ r. r.key) rows.items
+        ≡ made setup.now (take count journal.now.entries)) }
+    ensures parents { IfOk result (λ rows. map (λ r. r.parent) rows.items
+        ≡ map (parent_in (grants (take count journal.now.entries)))
+        (made setup.now (take count journal.now.entries))) }
 {
     let first = first_entries(alloc, journal, count)?;
     let granted = granted(alloc, first.as_slice())?;
@@ -31,7 +34,7 @@ pub fn tree_rows(
     rows_of(alloc, &made, &granted)
 }
 
-// The journal of the first entries of a journal, at most so many.
+// The journal of the first entries of a journal, at most that many.
 fn first_entries(alloc: Global, journal: &Journal, count: usize) -> Result<Journal, OutOfMemory>
     ensures { IfOk result (λ first. first.entries ≡ take count journal.now.entries) }
 {
@@ -55,10 +58,11 @@ fn granted(alloc: Global, entries: &[Entry]) -> Result<Vec<(Key, Key)>, OutOfMem
     Ok(granted)
 }
 
-// A row for each of the keys, where there were these grants.
+// A row for each of the keys, given these grants.
 fn rows_of(alloc: Global, made: &[Key], granted: &[(Key, Key)]) -> Result<Vec<TreeRow>, OutOfMemory>
     ensures keys { IfOk result (λ rows. map (λ r. r.key) rows.items ≡ made.now) }
-    ensures parents { IfOk result (λ rows. map (λ r. r.parent) rows.items ≡ map (parent_in granted.now) made.now) }
+    ensures parents { IfOk result (λ rows. map (λ r. r.parent) rows.items
+        ≡ map (parent_in granted.now) made.now) }
 {
     let mut rows = Vec::new(alloc);
     for key in made {

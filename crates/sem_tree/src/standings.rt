@@ -1,4 +1,4 @@
-// What has become of keys.
+// The states of keys.
 use sem_kernel::{Kernel, World};
 use sem_key::{Cap, Key, OutOfMemory, pack, same_key};
 use std::alloc::Global;
@@ -6,7 +6,8 @@ use std::alloc::Global;
 /// The most turns of a search among capabilities.
 const TURNS: usize = 64;
 
-/// The capability of the key in the kernel, if it holds it. It holds them in rising key order.
+/// The capability of the key in the kernel, if the kernel holds it. Kernels hold them in rising key
+/// order.
 pub fn held_in(kernel: &Kernel, key: Key) -> Option<&Cap> {
     let (mut low, mut high) = (0usize, kernel.capability_count());
     for _ in 0..TURNS {
@@ -24,22 +25,22 @@ pub fn held_in(kernel: &Kernel, key: Key) -> Option<&Cap> {
         .filter(|cap| same_key(&cap.key, &key))
 }
 
-/// Where a key is held, and whether it is marked there.
+/// The holder of a key, and whether the key is marked there.
 #[derive(Clone, Copy, Debug)]
 pub struct Hold {
     pub selector: u8,
     pub is_marked: bool,
 }
 
-/// What the kernels hold, by key.
+/// The held keys of all kernels, by key.
 #[derive(Drop)]
 pub struct Holds {
-    // In rising order of the packed words of the keys.
+    // The holds, in rising order of the packed words of the keys.
     sorted: Vec<(u64, Hold)>,
 }
 
 impl Holds {
-    /// What the kernels of the world hold.
+    /// The held keys of the world's kernels.
     pub fn of_world(alloc: Global, world: &World) -> Result<Holds, OutOfMemory> {
         let mut sorted = Vec::new(alloc);
         for kernel in world.kernels() {
@@ -53,7 +54,7 @@ impl Holds {
         Ok(Holds { sorted })
     }
 
-    /// Where the key is held, if it is.
+    /// The hold of the key, if it is held.
     pub fn of(&self, key: Key) -> Option<Hold> {
         let word = pack(key);
         let at = self.sorted.binary_search_by_key(&word, |one| one.0).ok()?;
@@ -61,7 +62,7 @@ impl Holds {
     }
 }
 
-// Where a capability stands.
+// The hold of a capability.
 fn hold_of(cap: &Cap) -> Hold {
     Hold {
         selector: cap.selector,

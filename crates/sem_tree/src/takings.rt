@@ -11,10 +11,12 @@ use sem_msg::{Act, Call, Detail, Entry};
 use std::alloc::Global;
 
 /// Whether the entry takes the key back: it begins a revoke of the key, or a clear of what the key
-/// was made from, or the VPE of the key ends. `grant` is the grant of the key, where it came before
+/// was made from, or the VPE of the key ends. `grant` is the grant of the key, if it came before
 /// the entry.
 pub fn takes(entry: &Entry, key: &Key, grant: &Option<(Key, Key)>) -> bool
-    ensures { result ≡ (has_key (option_map_or (cut_off (option_to_list grant.now) entry.now.detail) entry.now.cut []) key.now
+    ensures { result ≡ (has_key
+        (option_map_or (cut_off (option_to_list grant.now) entry.now.detail) entry.now.cut [])
+        key.now
         || ends key.now.vpe entry.now.event.act entry.now.detail) }
 {
     cuts_off(entry, key, grant) || ends_vpe(entry, key.vpe)
@@ -22,7 +24,9 @@ pub fn takes(entry: &Entry, key: &Key, grant: &Option<(Key, Key)>) -> bool
 
 // Whether the entry begins a revoke of the key, or a clear of what the key was made from.
 fn cuts_off(entry: &Entry, key: &Key, grant: &Option<(Key, Key)>) -> bool
-    ensures { result ≡ has_key (option_map_or (cut_off (option_to_list grant.now) entry.now.detail) entry.now.cut []) key.now }
+    ensures { result ≡ has_key
+        (option_map_or (cut_off (option_to_list grant.now) entry.now.detail) entry.now.cut [])
+        key.now }
 {
     let Some(root) = entry.cut else {
         return false;
@@ -67,7 +71,7 @@ struct Taking {
     by: Option<usize>,
 }
 
-/// The number of the first entry that takes a row, or one above it, back; for each row.
+/// For each row, the number of the first entry that takes it, or one above it, back.
 pub fn takings(
     alloc: Global,
     rows: &[TreeRow],
@@ -115,7 +119,7 @@ fn note_entry(own: &mut Vec<Taking>, rows: &[TreeRow], number: usize, entry: &En
     }
 }
 
-// The first entries that take rows or what stands above them. A parent stands before its children.
+// The first entries that take rows, or those above them, back. A parent comes before its children.
 fn inherited(
     alloc: Global,
     rows: &[TreeRow],
@@ -132,7 +136,7 @@ fn inherited(
     Ok(first)
 }
 
-// The earlier of two entries, where there are two.
+// The earlier of two optional entries.
 fn earlier(one: Option<usize>, other: Option<usize>) -> Option<usize>
     ensures both { (a b : ℕ) → one ≡ Some a → other ≡ Some b → result ≡ Some (min a b) }
     ensures one { other ≡ None → result ≡ one }

@@ -1,4 +1,4 @@
-// What is asked for, and what is answered.
+// Requests for a forest, and their answers.
 use crate::nodes::nodes_of;
 use crate::rows::tree_rows;
 use crate::walks::Walk;
@@ -21,7 +21,7 @@ pub enum TreeForm {
     Dot,
 }
 
-/// What is asked for: the forest after the first `at` entries, or after all of them.
+/// A request for the forest after the first `at` entries, or after all of them.
 #[derive(Clone, Copy, Debug)]
 pub struct TreeRequest {
     pub form: TreeForm,
@@ -98,8 +98,8 @@ fn first_wrong(
     Ok(None)
 }
 
-// The forest, drawn. Below the text stands how to ask for the life of a key; in an SVG picture each
-// key tells it.
+// Draws the forest. Text also tells how to ask for the life of a key; in an SVG picture each key
+// tells it.
 fn draw(alloc: Global, nodes: &[Node], form: TreeForm) -> Result<String, OutOfMemory> {
     let TreeForm::Drawn { picture } = form else {
         return tree_as_dot(alloc, nodes);

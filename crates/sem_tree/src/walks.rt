@@ -1,4 +1,4 @@
-// The machine led through entries, with what is to be told of keys.
+// The machine led through entries, with what is needed to tell of keys.
 use crate::standings::held_in;
 use crate::takings::ends_vpe;
 use sem_kernel::{Kernel, StepError, World};
@@ -6,7 +6,7 @@ use sem_key::{Key, Object, OutOfMemory, same_key};
 use sem_msg::{Act, Call, Detail, Entry, Message, Setup};
 use std::alloc::Global;
 
-/// A key that was granted to a VPE of another kernel and is not installed yet; whether its
+/// A key that was granted to a VPE of another kernel and is not yet installed, and whether its
 /// ObtainOk has arrived.
 #[derive(Clone, Copy, Debug)]
 struct Flight {
@@ -14,7 +14,7 @@ struct Flight {
     has_arrived: bool,
 }
 
-/// An endpoint of a VPE and the key to which it is bound.
+/// An endpoint of a VPE and the key that it is bound to.
 #[derive(Clone, Copy, Debug)]
 pub struct Binding {
     pub vpe: u16,
@@ -22,8 +22,8 @@ pub struct Binding {
     pub key: Key,
 }
 
-/// The world after some entries; the objects of the keys that were made by then, in the order in
-/// which they were made; which keys are on their way, and what endpoints are bound to.
+/// The world after some entries; the objects of the keys made by then, in the order in which they
+/// were made; which keys are on their way, and what endpoints are bound to.
 #[derive(Drop)]
 pub struct Walk {
     pub world: World,
@@ -56,8 +56,8 @@ impl Walk {
             .any(|flight| same_key(&flight.key, &key))
     }
 
-    /// Goes through an entry. Whether it is the one that its event makes; where it is not, the walk
-    /// means nothing.
+    /// Goes through an entry, and returns whether its event makes it. If not, the walk means
+    /// nothing.
     pub fn go_on(&mut self, setup: &Setup, entry: &Entry) -> Result<bool, OutOfMemory> {
         let target = self.bound_key(entry);
         match self.world.step(entry.event) {
@@ -71,7 +71,7 @@ impl Walk {
         Ok(true)
     }
 
-    // The key to which the entry binds an endpoint, if it does.
+    // The key that the entry binds an endpoint to, if it binds one.
     fn bound_key(&self, entry: &Entry) -> Option<Key> {
         let kernel = self.kernel(entry)?;
         let (vpe, _, selector) = binding_of(entry)?;
@@ -86,7 +86,6 @@ impl Walk {
         None
     }
 
-    // The kernel of an entry.
     fn kernel(&self, entry: &Entry) -> Option<&Kernel> {
         self.world.kernels().get(entry.event.kernel as usize)
     }
@@ -132,7 +131,7 @@ impl Walk {
         }
     }
 
-    // Notes the object of the key that the entry makes: the kernel of the entry holds the key, or
+    // Notes the object of the key that the entry makes. The kernel of the entry holds the key, or
     // what it was made from.
     fn note_object(&mut self, entry: &Entry) -> Result<(), OutOfMemory> {
         let Some((parent, child)) = entry.grant else {
@@ -153,8 +152,8 @@ impl Walk {
         Ok(())
     }
 
-    // Notes which endpoint the entry binds to a key, and which it unbinds: those of what is marked
-    // or gone after it, and of what a clear begins with.
+    // Notes which endpoint the entry binds to a key, and which it unbinds: those of keys that are
+    // marked or gone after it, and of the key that a clear begins with.
     fn note_binding(
         &mut self,
         setup: &Setup,
@@ -180,7 +179,7 @@ impl Walk {
     }
 }
 
-// The VPE, the endpoint and the selector of a bind that is answered with success.
+// The VPE, the endpoint and the selector of a bind that succeeded.
 fn binding_of(entry: &Entry) -> Option<(u16, u8, u8)> {
     match (entry.event.act, entry.detail, entry.reply) {
         (
@@ -211,7 +210,7 @@ fn begins_jobs(entry: &Entry) -> bool {
     }
 }
 
-// Whether what is bound to the key in the kernel of the entry stays bound.
+// Whether an endpoint that is bound to the key in the kernel of the entry stays bound.
 fn is_kept(kernel: &Kernel, entry: &Entry, key: Key) -> bool {
     match (held_in(kernel, key), entry.cut) {
         (Some(cap), Some(root)) => cap.mark.is_none() && !same_key(&root, &key),

@@ -1,5 +1,6 @@
 -- What is known once one seat carries all kernels.
-use Rattle.std.proofs.Common.{◌≡◌, ◌≢◌, ℕ, zero, suc, ◌+◌, ◌<◌, ◌≤◌, true, false, cond, List, [], ◌∷◌, length, Option, Some, None, refl, sym, ap, ◌∙◌, subst, ⊎_elim, arith}
+use Rattle.std.proofs.Common.{◌≡◌, ◌≢◌, ℕ, zero, suc, ◌+◌, ◌<◌, ◌≤◌, true, false, cond, List, [], ◌∷◌, length, Option, Some, None, refl, sym, ap, ◌∙◌, subst}
+use Rattle.std.proofs.Common.{⊎_elim, arith}
 use Rattle.std.specs.Prelude.{nat_lt, All, sum_by}
 use Rattle.std.proofs.lemmas.List.Sums.{sum_by-cons}
 use mathlib.Core.Option.{some, some-injective}
@@ -35,7 +36,8 @@ all_below n [] h = refl
 all_below n (p ∷ ps) h =
     let rest = all_below n ps (λ k le. let z = h k le in let all = shares_of-cons k p ps in omega (arith, z, all)) in
     let head : is_below n p ≡ 1 = dite (dec_le n p.kernel)
-    (λ (le : n ≤ p.kernel). absurd (let z = h p.kernel le in let all = shares_of-cons p.kernel p ps in let one = is_of_hit p.kernel p refl in omega (arith, z, all, one)))
+    (λ (le : n ≤ p.kernel). absurd (let z = h p.kernel le in let all = shares_of-cons p.kernel p ps in let one = is_of_hit p.kernel p refl in
+    omega (arith, z, all, one)))
     (λ gt. once_below_yes p.kernel n (omega arith)) in
     let x : ℕ = is_below n p in
     let y : ℕ = sum_by (is_below n) ps in
@@ -106,7 +108,8 @@ below_fewer : (m k : ℕ) (ps : List Share) → k < m → shares_of k ps ≡ 0 �
 below_fewer zero k ps lt none h = absurd (omega arith)
 below_fewer (suc m) k ps lt none h =
     dite (ℕ_discrete k m)
-    (λ (e : k ≡ m). let s = below_step m ps in let t = below_most m ps h in let none' : shares_of m ps ≡ 0 = subst (λ j. shares_of j ps ≡ 0) e none in omega (arith, s, t, none'))
+    (λ (e : k ≡ m). let s = below_step m ps in let t = below_most m ps h in let none' : shares_of m ps ≡ 0 = subst (λ j. shares_of j ps ≡ 0) e none in
+    omega (arith, s, t, none'))
     (λ ne. let less : k < m = omega arith in let r = below_fewer m k ps less none h in let s = below_step m ps in let t = h m in omega (arith, r, s, t))
 
 -- n shares, no two of one kernel and none of another kernel than those below n, are one of each
@@ -114,16 +117,21 @@ pub each_once : (n : ℕ) (ps : List Share) → length ps ≡ n → ((k : ℕ) �
 each_once n ps len most k lt =
     let one = once_below_yes k n lt in
     let here = most k in
-    let few : (j : ℕ) → shares_of j ps < 2 = λ j. elim (nat_lt j n) as (λ b. shares_of j ps ≤ cond b 1 0 → shares_of j ps < 2) [ true ↦ λ h. omega (arith, h) | false ↦ λ h. omega (arith, h) ] (most j) in
+    let few : (j : ℕ) → shares_of j ps < 2 = λ j. elim (nat_lt j n) as (λ b. shares_of j ps ≤ cond b 1 0 → shares_of j ps < 2) [
+      | true ↦ λ h. omega (arith, h)
+      | false ↦ λ h. omega (arith, h)
+    ] (most j) in
     dite (ℕ_discrete (shares_of k ps) 0)
     (λ (none : shares_of k ps ≡ 0).
     let less = below_fewer n k ps lt none few in
-    let all = all_below n ps (λ j le. let no = once_below_no j n le in let m = most j in let x : ℕ = shares_of j ps in let y : ℕ = once_below j n in let no' : y ≡ 0 = no in let m' : x ≤ y = m in let r : x ≡ 0 = omega (arith, no', m') in r) in
+    let all = all_below n ps (λ j le. let no = once_below_no j n le in let m = most j in let x : ℕ = shares_of j ps in let y : ℕ = once_below j n in
+    let no' : y ≡ 0 = no in let m' : x ≤ y = m in let r : x ≡ 0 = omega (arith, no', m') in r) in
     let x : ℕ = below n ps in
     let less' : x < n = less in
     let all' : x ≡ length ps = all in
     absurd (omega (arith, less', all', len)))
-    (λ some_here. let x : ℕ = shares_of k ps in let y : ℕ = once_below k n in let one' : y ≡ 1 = one in let here' : x ≤ y = here in let not_none : x ≢ 0 = some_here in let r : x ≡ 1 = omega (arith, one', here', not_none) in r)
+    (λ some_here. let x : ℕ = shares_of k ps in let y : ℕ = once_below k n in let one' : y ≡ 1 = one in let here' : x ≤ y = here in
+    let not_none : x ≢ 0 = some_here in let r : x ≡ 1 = omega (arith, one', here', not_none) in r)
 
 -- what the table has at the end
 pub record IsClosed (T : Setup) (ps : List Share) (xs : List (Option FabricValue)) : Type 0 where
@@ -152,16 +160,19 @@ closes key T id v ws xs key_is free len last =
     (λ (home : IsFree s h.fabric). last.4 0 (Some h.fabric) (ap (λ hs. get_elem? hs 0) home.1))
     (λ (held : IsHeld s h.fabric).
     let now = held.2 in
-    let apart : now.0 ≢ id = λ e. absurd (let same : now.1 ≡ v = some-injective now.1 v (sym now.2 ∙ ap (λ j. get_elem? s.views j) e ∙ at) in cc (sym now.3 ∙ ap (λ (x : View). x.taken) same ∙ free)) in
+    let apart : now.0 ≢ id = λ e. absurd (let same : now.1 ≡ v = some-injective now.1 v (sym now.2 ∙ ap (λ j. get_elem? s.views j) e ∙ at) in
+    cc (sym now.3 ∙ ap (λ (x : View). x.taken) same ∙ free)) in
     let k = head_kernel now.1.shares now.4 in
     let two = total_two (carries k.0) s.views id now.0 v now.1 apart at now.2 in
     let all = h.once k.0 in
     absurd (dite (dec_le n k.0)
     (λ (le : n ≤ k.0). let no = once_below_no k.0 n le in
     let a : ℕ = shares_of k.0 v.shares in let b : ℕ = shares_of k.0 now.1.shares in let t : ℕ = sum_by (carries k.0) s.views in let o : ℕ = once_below k.0 n in
-    let two' : a + b ≤ t = two in let all' : t ≡ o = all in let no' : o ≡ 0 = no in let some' : 0 < b = k.1 in let r : ⊥ = omega (arith, two', all', no', some') in r)
+    let two' : a + b ≤ t = two in let all' : t ≡ o = all in let no' : o ≡ 0 = no in let some' : 0 < b = k.1 in
+    let r : ⊥ = omega (arith, two', all', no', some') in r)
     (λ lt. let yes = once_below_yes k.0 n (omega arith) in let mine = once k.0 (omega arith) in
     let a : ℕ = shares_of k.0 v.shares in let b : ℕ = shares_of k.0 now.1.shares in let t : ℕ = sum_by (carries k.0) s.views in let o : ℕ = once_below k.0 n in
-    let two' : a + b ≤ t = two in let all' : t ≡ o = all in let yes' : o ≡ 1 = yes in let some' : 0 < b = k.1 in let mine' : a ≡ 1 = mine in let r : ⊥ = omega (arith, two', all', yes', some', mine') in r)))
+    let two' : a + b ≤ t = two in let all' : t ≡ o = all in let yes' : o ≡ 1 = yes in let some' : 0 < b = k.1 in let mine' : a ≡ 1 = mine in
+    let r : ⊥ = omega (arith, two', all', yes', some', mine') in r)))
     h.stands in
     record { fabric = h.fabric; there = there; whole = h.whole; fits = h.each id v at; once = once }

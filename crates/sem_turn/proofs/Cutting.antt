@@ -17,7 +17,8 @@ use Rattle.sem_turn.proofs.Fitting.{fits-rest, fits-front, shares_of-cut}
 use Rattle.sem_turn.proofs.Moves.{all_set}
 
 -- what holds of each view holds on where one is set and one is added
-all_split : (P : View → Type 0) (views : List View) (id : ℕ) (w u : View) → ((j : ℕ) (v : View) → get_elem? views j ≡ some v → P v) → P w → P u → (j : ℕ) (v : View)
+all_split : (P : View → Type 0) (views : List View) (id : ℕ) (w u : View) → ((j : ℕ) (v : View) → get_elem? views j ≡ some v → P v) → P w → P u →
+    (j : ℕ) (v : View)
     → get_elem? (set views id w ++ u ∷ []) j ≡ some v → P v
 all_split P views id w u all pw pu j v e =
     ⊎_elim
@@ -28,7 +29,8 @@ all_split P views id w u all pw pu j v e =
 -- a view that does not hold the turn is not the holder's
 not_holder : (views : List View) (holder i : ℕ) (h v : View) (f : FabricValue) → get_elem? views holder ≡ some h → h.taken ≡ Some f → get_elem? views i ≡ some v
     → v.taken ≡ None → holder ≢ i
-not_holder views holder i h v f there holds at free same = absurd (let equal : h ≡ v = some-injective h v (sym there ∙ ap (λ j. get_elem? views j) same ∙ at) in cc (sym holds ∙ ap (λ (x : View). x.taken) equal ∙ free))
+not_holder views holder i h v f there holds at free same = absurd (let equal : h ≡ v = some-injective h v (sym there ∙ ap (λ j. get_elem? views j) same ∙ at) in
+    cc (sym holds ∙ ap (λ (x : View). x.taken) equal ∙ free))
 
 -- cutting keeps the rule
 pub split_moves : (T : Setup) (id : ℕ) (v : View) → v.taken ≡ None → Splits (IsInTurn T) id v (cut_rest v) (cut_front v)
@@ -59,7 +61,8 @@ split_moves T id v free s h at = record {
         ),
       ))
       h.stands;
-  each = all_split (λ x. All (Fits h.fabric) x.shares) s.views id (cut_rest v) (cut_front v) h.each (fits-rest h.fabric v.shares (h.each id v at)) (fits-front h.fabric v.shares (h.each id v at));
+  each = all_split (λ x. All (Fits h.fabric) x.shares) s.views id (cut_rest v) (cut_front v) h.each (fits-rest h.fabric v.shares (h.each id v at))
+      (fits-front h.fabric v.shares (h.each id v at));
   once = λ k.
       let t = total_set (carries k) s.views id v (cut_rest v) at in
       let a = sum_by_push (carries k) (set s.views id (cut_rest v)) (cut_front v) in
@@ -85,7 +88,8 @@ join_moves T id other v w free free' s h at apart there =
     let both = glued v w in
     let there' : get_elem? s.views other ≡ some w = sym (set_else s.views id other both apart) ∙ there in
     let after = set (set s.views id both) other nobody in
-    let all : (P : View → Type 0) → ((j : ℕ) (u : View) → get_elem? s.views j ≡ some u → P u) → P both → P nobody → (j : ℕ) (u : View) → get_elem? after j ≡ some u → P u = λ P was pb pn.
+    let all : (P : View → Type 0) → ((j : ℕ) (u : View) → get_elem? s.views j ≡ some u → P u) → P both → P nobody → (j : ℕ) (u : View) →
+    get_elem? after j ≡ some u → P u = λ P was pb pn.
     all_set P (set s.views id both) other nobody (λ j u _ e. all_set P s.views id both (λ i x _ d. was i x d) pb j u e) pn in record {
       fabric = h.fabric;
       whole = h.whole;
@@ -93,7 +97,8 @@ join_moves T id other v w free free' s h at apart there =
           (λ (home : IsFree s h.fabric). inl (home.0, home.1, all (λ u. u.taken ≡ None) home.2 free refl))
           (λ (held : IsHeld s h.fabric).
           let now = held.2 in
-          let off : (i : ℕ) (u : View) → get_elem? s.views i ≡ some u → u.taken ≡ None → now.0 ≢ i = λ i u e none. not_holder s.views now.0 i now.1 u h.fabric now.2 now.3 e none in
+          let off : (i : ℕ) (u : View) → get_elem? s.views i ≡ some u → u.taken ≡ None →
+          now.0 ≢ i = λ i u e none. not_holder s.views now.0 i now.1 u h.fabric now.2 now.3 e none in
           inr (
             held.0,
             held.1,
@@ -113,7 +118,8 @@ join_moves T id other v w free free' s h at apart there =
             ),
           ))
           h.stands;
-      each = all (λ x. All (Fits h.fabric) x.shares) h.each (All-append (Fits h.fabric) v.shares w.shares (h.each id v at) (h.each other w there')) (All-nil (Fits h.fabric));
+      each = all (λ x. All (Fits h.fabric) x.shares) h.each (All-append (Fits h.fabric) v.shares w.shares (h.each id v at) (h.each other w there'))
+          (All-nil (Fits h.fabric));
       once = λ k.
           let t = total_set (carries k) s.views id v both at in
           let t2 = total_set (carries k) (set s.views id both) other w nobody there in

@@ -33,7 +33,8 @@ fits-followed k old new (p ∷ ps) may none h =
 -- the shares that the fabric has fit it
 pub fits-self : (f : FabricValue) (ps : List Share) → All (Fits f) (shares_in f ps)
 fits-self f [] = All-nil (Fits f)
-fits-self f (p ∷ ps) = All-cons (Fits f) (record { kernel = p.kernel; entries = part f.journal p.kernel; placed = has_place f p.kernel }) (shares_in f ps) (refl, λ placed. placed) (fits-self f ps)
+fits-self f (p ∷ ps) = All-cons (Fits f) (record { kernel = p.kernel; entries = part f.journal p.kernel; placed = has_place f p.kernel }) (shares_in f ps)
+    (refl, λ placed. placed) (fits-self f ps)
 
 -- and they are of the same kernels
 pub shares_of-in : (k : ℕ) (f : FabricValue) (ps : List Share) → shares_of k (shares_in f ps) ≡ shares_of k ps

@@ -1,5 +1,6 @@
 -- Lists of passes, one pass at a time.
-use Rattle.std.proofs.Common.{◌≡◌, ℕ, suc, ◌+◌, ◌-◌, ◌<◌, ◌==◌, cond, false, List, [], ◌∷◌, ◌++◌, length, None, Some, refl, sym, ap, ◌∙◌, subst, arith, length-append}
+use Rattle.std.proofs.Common.{◌≡◌, ℕ, suc, ◌+◌, ◌-◌, ◌<◌, ◌==◌, cond, false, List, [], ◌∷◌, ◌++◌, length, None, Some, refl, sym, ap, ◌∙◌, subst, arith}
+use Rattle.std.proofs.Common.{length-append}
 use Rattle.std.specs.Prelude.{All}
 use Rattle.std.proofs.lemmas.List.Elements.{All-nil, All-push, All-head, All-pop}
 use Rattle.std.proofs.lemmas.List.FromFn.{map-range_with_len_more}
@@ -49,7 +50,8 @@ module _ (before after : List PassValue) (h : PassValue) (p : before ≡ after +
         → HaveParts f.journal after → HaveParts f.journal all
     popped_fits f all was fit g =
         let r = fits-parts f ps (share h.kernel h.entries h.placed ∷ []) (subst (All (Fits f)) q fit) in
-        was r.0 (subst (HaveParts f.journal) (sym p) (All-push (λ (x : PassValue). x.entries ≡ part f.journal x.kernel) after h g (All-head (Fits f) (share h.kernel h.entries h.placed) [] r.1).0))
+        was r.0 (subst (HaveParts f.journal) (sym p) (All-push (λ (x : PassValue). x.entries ≡ part f.journal x.kernel) after h g
+        (All-head (Fits f) (share h.kernel h.entries h.placed) [] r.1).0))
 
 -- The first seat carries the kernels from number k on: kernel k is in front, and behind the cut the others are left.
 module _ (k n : ℕ) (before : k < n) (me : Sat) (is : me ≡ (view (new_shares k (n - k)) None, [])) where
@@ -63,7 +65,8 @@ module _ (k n : ℕ) (before : k < n) (me : Sat) (is : me ≡ (view (new_shares 
   cut_others after told = ◌∙◌ {A = Sat} told (ap (λ (m : Sat). (view (rest_of m.0.shares) None, [])) cut_now)
 
 -- the passes with the next one
-pub next_pass : (k : ℕ) (before after : List PassValue) (p : PassValue) → before ≡ new_passes k → p ≡ new_pass k → after ≡ before ++ p ∷ [] → after ≡ new_passes (k + 1)
+pub next_pass : (k : ℕ) (before after : List PassValue) (p : PassValue) → before ≡ new_passes k → p ≡ new_pass k → after ≡ before ++ p ∷ [] →
+    after ≡ new_passes (k + 1)
 next_pass k before after p is new pushed =
     ◌∙◌ {A = List PassValue} pushed
     (◌∙◌ {A = List PassValue} (λ i. is i ++ new i ∷ []) (sym (map-range_with_len_more new_pass 0 k k (omega arith))))

@@ -1,5 +1,6 @@
 -- Taking and giving back keep the rule of the turn.
-use Rattle.std.proofs.Common.{◌≡◌, ◌≢◌, ℕ, ◌+◌, ◌<◌, ◌≤◌, ◌==◌, Bool, true, false, cond, List, [], ◌∷◌, length, set, Option, Some, None, refl, sym, ap, ◌∙◌, subst, inl, inr, ⊎_elim, arith}
+use Rattle.std.proofs.Common.{◌≡◌, ◌≢◌, ℕ, ◌+◌, ◌<◌, ◌≤◌, ◌==◌, Bool, true, false, cond, List, [], ◌∷◌, length, set, Option, Some, None, refl, sym, ap, ◌∙◌}
+use Rattle.std.proofs.Common.{subst, inl, inr, ⊎_elim, arith}
 use Rattle.std.specs.Prelude.{slice_index, nat_lt, All, sum_by}
 use Rattle.std.specs.Option.{unwrap_or, IsSomeAnd}
 use mathlib.Core.Option as maybe
@@ -58,7 +59,8 @@ module _ (T : Setup) (id : ℕ) (ps : List Share) (st : Step (Option FabricValue
   -- what a try to take leaves, at these words and homes
   abbrev Taken : List ℕ → Homes → Type 0
   Taken ws hs =
-      (w : View) × (a : Act (Option FabricValue)) × Valid hs [] a × IsInTurn T (stepped (board ws hs views) 0 (either (slice_index ws 0 == 0) 1 (slice_index ws 0)) id [] w a)
+      (w : View) × (a : Act (Option FabricValue)) × Valid hs [] a
+      × IsInTurn T (stepped (board ws hs views) 0 (either (slice_index ws 0 == 0) 1 (slice_index ws 0)) id [] w a)
       × Takes T st (view ps None, []) (slice_index ws 0) (w, carried_after [] a)
 
 -- a try to take keeps the rule: it takes, or finds the turn held
@@ -98,7 +100,8 @@ take_moves T id ps st some_share s h len at fits =
     ) in
     subst (λ (x : List ℕ × Homes). Taken T id ps st s.views x.0 x.1) (λ i. (sym free.0 i, sym free.1 i)) go)
     (λ (held : IsHeld s h.fabric).
-    let same : IsInTurn T (board (1 ∷ []) (maybe.none ∷ []) s.views) = subst (λ (x : List ℕ × Homes). IsInTurn T (board x.0 x.1 s.views)) (λ i. (held.0 i, held.1 i)) h in
+    let same : IsInTurn T (board (1 ∷ []) (maybe.none ∷ []) s.views) =
+    subst (λ (x : List ℕ × Homes). IsInTurn T (board x.0 x.1 s.views)) (λ i. (held.0 i, held.1 i)) h in
     let go : Taken T id ps st s.views (1 ∷ []) (maybe.none ∷ []) = (
       view ps None,
       keeps,
@@ -110,11 +113,13 @@ take_moves T id ps st some_share s h len at fits =
     h.stands
 
 -- so a seat that carries a kernel and has nothing out may try
-pub take_asks : (T key : Setup) (slots id : ℕ) (me : Sat) (st : Step (Option FabricValue)) → key ≡ T → slots ≡ 1 → me.0.taken ≡ None → me.1 ≡ [] → 0 < length me.0.shares
+pub take_asks : (T key : Setup) (slots id : ℕ) (me : Sat) (st : Step (Option FabricValue)) → key ≡ T → slots ≡ 1 → me.0.taken ≡ None → me.1 ≡ [] →
+    0 < length me.0.shares
     → Allows (IsInTurn key) slots id me 0 (λ m. either (m == 0) 1 m) (Takes T st me)
 take_asks T key slots id me st key_is slots_is free none some_share =
     subst (λ (m : Sat). Allows (IsInTurn key) slots id m 0 (λ m. either (m == 0) 1 m) (Takes T st m)) (λ i. (view me.0.shares (sym free i), sym none i))
-    (subst (λ (x : Setup × ℕ). Allows (IsInTurn x.0) x.1 id (view me.0.shares None, []) 0 (λ m. either (m == 0) 1 m) (Takes T st (view me.0.shares None, []))) (λ i. (sym key_is i, sym slots_is i)) (take_moves T id me.0.shares st some_share))
+    (subst (λ (x : Setup × ℕ). Allows (IsInTurn x.0) x.1 id (view me.0.shares None, []) 0 (λ m. either (m == 0) 1 m) (Takes T st (view me.0.shares None, [])))
+    (λ i. (sym key_is i, sym slots_is i)) (take_moves T id me.0.shares st some_share))
 
 -- the fabric in a list of slots
 abbrev fabric_of : FabricValue → List (ℕ × Option FabricValue) → FabricValue
@@ -165,7 +170,8 @@ return_moves T id k ps f g st mine whole may s h len at fits =
         fabric = g;
         whole = whole;
         stands = inl (refl, refl, all_set (λ v. v.taken ≡ None) s.views id w (λ j v ne e. now.5 j v (λ is. ne (is ∙ sym here)) e) refl);
-        each = all_set (λ v. All (Fits g) v.shares) s.views id w (λ j v ne e. fits-followed k h.fabric g v.shares may' (alone j v ne e) (h.each j v e)) (fits-self g ps);
+        each = all_set (λ v. All (Fits g) v.shares) s.views id w (λ j v ne e. fits-followed k h.fabric g v.shares may' (alone j v ne e) (h.each j v e))
+            (fits-self g ps);
         once = once_set T.kernels s.views id (view ps (Some f)) w at (λ k. sym (shares_of-in k g ps)) h.once;
       },
       λ x e. let same_fabric : g ≡ x = ap (fabric_of g) e in ap (λ (y : FabricValue). (view (shares_in y ps) None, [])) same_fabric,
@@ -179,7 +185,11 @@ return_asks : (T key : Setup) (slots id k : ℕ) (me : Sat) (f g : FabricValue) 
     → Allows (IsInTurn key) slots id me 0 (λ _. 0) (λ _. Returns st me 0)
 return_asks T key slots id k me f g st key_is slots_is taken out mine whole may =
     subst (λ (m : Sat). Allows (IsInTurn key) slots id m 0 (λ _. 0) (λ _. Returns st m 0)) (λ i. (view me.0.shares (sym taken i), sym out i))
-    (subst (λ (x : Setup × ℕ). Allows (IsInTurn x.0) x.1 id (view me.0.shares (Some f), (0, Some g) ∷ []) 0 (λ _. 0) (λ _. Returns st (view me.0.shares (Some f), (0, Some g) ∷ []) 0)) (λ i. (sym key_is i, sym slots_is i)) (return_moves T id k me.0.shares f g st mine whole may))
+    (subst (λ (x : Setup × ℕ). Allows (IsInTurn x.0) x.1 id (
+      view me.0.shares (Some f),
+      (0, Some g) ∷ [],
+    ) 0 (λ _. 0) (λ _. Returns st (view me.0.shares (Some f), (0, Some g) ∷ []) 0)) (λ i. (sym key_is i, sym slots_is i))
+    (return_moves T id k me.0.shares f g st mine whole may))
 
 -- what is so of what an option has
 pub some_and : {X : Type 0} (o : Option X) (P : X → Type 0) → IsSomeAnd o P → (x : X) × (o ≡ Some x) × P x
@@ -193,7 +203,8 @@ module _ (k : ℕ) (es : List Entry) (placed : Bool) (t : Option FabricValue) (o
   filled = now ∙ ap (λ (o : Sat). (o.0, (0, Some g) ∷ rest o.1)) (was ∙ ap (λ (x : Option FabricValue). (view (share k es placed ∷ []) x, out_with x)) taken)
 
   -- it may give back
-  pub give_asks : (T key : Setup) (slots id : ℕ) → key ≡ T → slots ≡ 1 → IsWhole T g → Follows k f g → Allows (IsInTurn key) slots id me 0 (λ _. 0) (λ _. Returns st me 0)
+  pub give_asks : (T key : Setup) (slots id : ℕ) → key ≡ T → slots ≡ 1 → IsWhole T g → Follows k f g →
+      Allows (IsInTurn key) slots id me 0 (λ _. 0) (λ _. Returns st me 0)
   give_asks T key slots id key_is slots_is whole may =
       let own = is_of_hit k (share k es placed) refl in
       let sum = shares_of-cons k (share k es placed) [] in

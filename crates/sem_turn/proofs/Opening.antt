@@ -93,4 +93,5 @@ begins T = record {
 pub begins_as : (T : Setup) (f : FabricValue) (slots : List (Option FabricValue)) → slots ≡ Some f ∷ [] → f ≡ new_fabric T
     → IsInTurn T (opening (0 ∷ []) slots (first_view T.kernels))
 begins_as T f slots slots_are new =
-    subst (λ (x : List (Option FabricValue)). IsInTurn T (opening (0 ∷ []) x (first_view T.kernels))) (sym (◌∙◌ {A = List (Option FabricValue)} slots_are (ap (λ (g : FabricValue). Some g ∷ []) new))) (begins T)
+    subst (λ (x : List (Option FabricValue)). IsInTurn T (opening (0 ∷ []) x (first_view T.kernels)))
+    (sym (◌∙◌ {A = List (Option FabricValue)} slots_are (ap (λ (g : FabricValue). Some g ∷ []) new))) (begins T)

@@ -1,23 +1,26 @@
--- The rule of the turn: what holds of the table between any two steps ("The turn" in docs/machine.md).
--- The table has one word, one slot, and a view for each seat. No step but those of Steps.antt changes them.
-use Rattle.std.specs.Prelude.{◌≡◌, ◌≢◌, ◌⊎◌, ◌==◌, ◌<◌, nat_lt, cond, ℕ, Bool, true, false, List, [], ◌∷◌, map, length, Option, Some, None, All, count_by, sum_by}
+-- The rule of the turn: what holds of the table between any two steps ("The turn" in
+-- docs/machine.md).
+-- The table has one word, one slot, and a view for each seat. Only the steps of Steps.antt change
+-- them.
+use Rattle.std.specs.Prelude.{◌≡◌, ◌≢◌, ◌⊎◌, ◌==◌, ◌<◌, nat_lt, cond, ℕ, Bool, true, false, List, [], ◌∷◌, map}
+use Rattle.std.specs.Prelude.{length, Option, Some, None, All, count_by, sum_by}
 use Rattle.std.specs.List.{range_with_len}
 use mathlib.Core.Option as maybe
 use lib.ListN.{get_elem?}
 use Rattle.atomic_table.specs.Table.{State}
 use Rattle.sem_msg.specs.declared.entry.Entry.{Entry}
-use Rattle.sem_msg.specs.Setup.{Setup}
+use Rattle.sem_msg.specs.Prelude.{Setup, FabricValue}
 use Rattle.sem_msg.specs.Journal.{part}
-use Rattle.sem_msg.specs.Fabric.{FabricValue}
 use Rattle.sem_turn.specs.declared.rule.Share.{Share}
 use Rattle.sem_turn.specs.declared.rule.View.{View}
 use Rattle.sem_turn.specs.Passes.{has_place, IsWhole}
 
--- the table as plain data: the word, the fabric where it is at home, and the views
+-- the table as plain data: the word, the fabric if it is at home, and the views
 abbrev pub Board : Type 0
 Board = State (Option FabricValue) View
 
--- The share of a kernel fits the fabric: its entries are the kernel's part of the journal, and where it notes a place, the kernel has one.
+-- The share of a kernel fits the fabric: its entries are the kernel's part of the journal, and the
+-- kernel has every place that it notes.
 abbrev pub Fits : FabricValue → Share → Type 0
 Fits f p = (p.entries ≡ part f.journal p.kernel) × (p.placed ≡ true → has_place f p.kernel ≡ true)
 
@@ -27,11 +30,13 @@ IsFree s f =
     (s.words ≡ 0 ∷ []) × (s.homes ≡ maybe.some (Some f) ∷ [])
     × ((j : ℕ) (v : View) → get_elem? s.views j ≡ maybe.some v → v.taken ≡ None)
 
--- The turn is held: the word is 1, the fabric is out, one view took it so and carries a kernel, and no other view holds it.
+-- The turn is held: the word is 1 and the fabric is out. The view that took it carries a kernel,
+-- and no other view holds it.
 abbrev pub IsHeld : Board → FabricValue → Type 0
 IsHeld s f =
     (s.words ≡ 1 ∷ []) × (s.homes ≡ maybe.none ∷ [])
-    × ((holder : ℕ) × (h : View) × (get_elem? s.views holder ≡ maybe.some h) × (h.taken ≡ Some f) × (0 < length h.shares)
+    × ((holder : ℕ) × (h : View) × (get_elem? s.views holder ≡ maybe.some h) × (h.taken ≡ Some f)
+    × (0 < length h.shares)
     × ((j : ℕ) (v : View) → j ≢ holder → get_elem? s.views j ≡ maybe.some v → v.taken ≡ None))
 
 -- how often the view carries kernel k
@@ -42,8 +47,10 @@ carries k v = count_by (λ p. p.kernel == k) v.shares
 abbrev pub once_below : ℕ → ℕ → ℕ
 once_below k n = cond (nat_lt k n) 1 0
 
--- The rule. There is a fabric, a whole one of the setup. The turn is free with it, or held since it was taken so.
--- The shares of all views fit it, and each kernel of the setup is carried once, no other ever.
+-- The rule. There is a fabric, a whole one of the setup. The turn is free with it, or held since it
+-- was taken so.
+-- The shares of all views fit it. Each kernel of the setup is carried exactly once, and no other
+-- kernel ever is.
 pub record IsInTurn (T : Setup) (s : Board) : Type 0 where
   pub fabric : FabricValue
   pub whole : IsWhole T fabric

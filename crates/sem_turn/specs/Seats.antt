@@ -3,11 +3,11 @@ use Rattle.std.specs.Prelude.{◌≡◌, ℕ, Bool, false, List, [], ◌∷◌, 
 use Rattle.atomic_table.specs.Seated.{TableId}
 use Rattle.atomic_table.specs.declared.shared.Seat.{Seat}
 use Rattle.sem_msg.specs.declared.entry.Entry.{Entry}
-use Rattle.sem_msg.specs.Fabric.{FabricValue}
+use Rattle.sem_msg.specs.Prelude.{FabricValue}
 use Rattle.sem_turn.specs.declared.rule.Share.{Share}
 use Rattle.sem_turn.specs.declared.rule.View.{View}
 
--- what the seat of a pass has out: the slot, out of which the fabric was taken
+-- what the seat of a pass has out: the slot that it took the fabric from
 abbrev pub out_with : Option FabricValue → List (ℕ × Option FabricValue)
 out_with None = []
 out_with (Some f) = (0, None) ∷ []
@@ -17,7 +17,7 @@ abbrev pub entries_of : List Share → List Entry
 entries_of [] = []
 entries_of (p ∷ ps) = p.entries
 
--- the place that the first share notes
+-- whether the first share notes a place
 abbrev pub placed_of : List Share → Bool
 placed_of [] = false
 placed_of (p ∷ ps) = p.placed

@@ -1,4 +1,5 @@
-//! The turn over the fabric: one thread at a time has the fabric, and the pass of each kernel has the kernel's part of the journal.
+//! The turn over the fabric: one thread at a time has the fabric, and the pass of each kernel has
+//! the kernel's part of the journal.
 #![tactic(auto)]
 
 mod name;

@@ -1,7 +1,7 @@
 use std::marker::Brand;
 
-/// The name of a run. It stands for one table and one setup, which the type of each value that has
-/// the name keeps.
+/// The name of a run. It stands for one table and one setup; the type of every value with the name
+/// keeps them.
 pub trait RunName {
     ghost use Rattle.atomic_table.specs.Seated.{TableId};
     ghost use Rattle.sem_msg.specs.Setup.{Setup};

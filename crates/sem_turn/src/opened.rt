@@ -18,7 +18,7 @@ pub type Board = Table<Option<Fabric>, View, Setup, InTurn, Global>;
 /// A seat at the table.
 pub type Place = Seat<Option<Fabric>, View>;
 
-/// The table and its first seat, with no name yet.
+/// The table and its first seat, with no name yet. Only `new` takes memory.
 #[derive(Drop)]
 pub struct Opened {
     board: Board,
@@ -43,7 +43,8 @@ impl Model for Opened {
 }
 
 impl Opened {
-    /// A table with the fabric, a new one of the setup. After want of memory it is dropped.
+    /// A table with the fabric, a new one of the setup. If memory is refused, the fabric is
+    /// dropped.
     pub fn new(alloc: Global, setup: &Setup, fabric: Fabric) -> Result<Self, OutOfMemory>
         requires { fabric ≡ new_fabric setup.now }
         ensures { IfOk result (λ opened. opened.setup ≡ setup.now) }
@@ -58,8 +59,7 @@ impl Opened {
         }
     }
 
-    /// The turn and the first seat, under a name that stands for this table and this setup. Takes no
-    /// memory.
+    /// The turn and the first seat, under a name that stands for this table and this setup.
     pub fn named<N: RunName>(self) -> (Turn<N>, First<N>)
         requires table { self.table ≡ N.table }
         requires setup { self.setup ≡ N.setup }

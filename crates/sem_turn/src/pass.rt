@@ -34,11 +34,16 @@ impl<N: RunName> Model for Pass<N> {
     ghost invariant = { λ p.
         (p.seat.table_id ≡ N.table)
         × (p.kernel < N.setup.kernels)
-        × (p.seat.me ≡ (view_of (share p.kernel (entries_of p.seat.me.0.shares) (placed_of p.seat.me.0.shares) ∷ []) p.seat.me.0.taken, out_with p.seat.me.0.taken)) };
+        × (p.seat.me ≡ (
+          view_of
+              (share p.kernel (entries_of p.seat.me.0.shares) (placed_of p.seat.me.0.shares) ∷ [])
+              p.seat.me.0.taken,
+          out_with p.seat.me.0.taken,
+        )) };
 }
 
 impl<N: RunName> Pass<N> {
-    /// The number of its kernel.
+    /// The number of the kernel that it takes the turn for.
     pub fn kernel(&self) -> u32
         ensures number { result ≡ self.now.kernel }
         ensures below { result < N.setup.kernels }
@@ -46,7 +51,7 @@ impl<N: RunName> Pass<N> {
         self.kernel
     }
 
-    // The seat, which carries the kernel.
+    // The pass's seat, which carries its kernel.
     pub(crate) fn into_seat(self) -> Seat<Option<Fabric>, View>
         requires { self.taken ≡ None }
         ensures idle { IsIdle N.table result }

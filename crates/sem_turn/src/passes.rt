@@ -7,7 +7,7 @@ use sem_key::OutOfMemory;
 use std::alloc::Global;
 use std::marker::Model;
 
-/// A list of passes.
+/// A list of passes. Only `push` takes memory.
 #[derive(Drop)]
 pub struct Passes<N: RunName> {
     items: Vec<Pass<N>>,
@@ -23,7 +23,7 @@ impl<N: RunName> Model for Passes<N> {
 }
 
 impl<N: RunName> Passes<N> {
-    /// No passes. Takes no memory.
+    /// No passes.
     pub fn new(alloc: Global) -> Self
         ensures { result ≡ [] }
     {
@@ -32,7 +32,7 @@ impl<N: RunName> Passes<N> {
         }
     }
 
-    /// Appends a pass; after want of memory it is dropped.
+    /// Appends a pass; if memory is refused, the pass is dropped.
     pub fn push(&mut self, pass: Pass<N>) -> Result<(), OutOfMemory>
         ensures ok { OnOk result (self.new ≡ self.old ++ pass ∷ []) }
         ensures err { OnErr result (self.new ≡ self.old) }
@@ -41,10 +41,11 @@ impl<N: RunName> Passes<N> {
         Ok(())
     }
 
-    /// Takes out the last pass; none where there is none.
+    /// Takes out the last pass; none if the list is empty.
     pub fn pop(&mut self) -> Option<Pass<N>>
         ensures last { self.old ≡ self.new ++ option_to_list result }
-        ensures none { MatchOption result (self.old ≡ []) (λ _. length self.old ≡ length self.new + 1) }
+        ensures none { MatchOption result (self.old ≡ []) (λ _. length self.old
+            ≡ length self.new + 1) }
     {
         self.items.pop()
     }

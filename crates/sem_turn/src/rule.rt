@@ -7,7 +7,7 @@ use std::collections::LinkedList;
 use std::marker::PhantomData;
 
 /// A kernel that a seat carries, with the kernel's entries so far, and whether the seat knows of a
-/// place that it has in the journal. No value of it is made.
+/// place of that kernel in the journal. No code makes a value of it.
 pub struct Share {
     pub kernel: u32,
     pub entries: LinkedList<Entry>,
@@ -15,7 +15,7 @@ pub struct Share {
 }
 
 /// What a seat knows: the kernels that it carries, and, while it holds the turn, the fabric as it
-/// was taken. No value of it is made.
+/// took it. No code makes a value of it.
 pub struct View {
     pub shares: LinkedList<Share>,
     pub taken: Option<Fabric>,

@@ -1,4 +1,5 @@
-ghost use Rattle.std.specs.Prelude.{◌≡◌, ◌<◌, ◌≤◌, ◌∷◌, ◌++◌, ◌==◌, ℕ, [], length, count_by, All, IfOk, IfSome, IfNone, IsSomeAnd, None, Some, true, false};
+ghost use Rattle.std.specs.Prelude.{◌≡◌, ◌<◌, ◌≤◌, ◌∷◌, ◌++◌, ◌==◌, ℕ, [], length, count_by, All};
+ghost use Rattle.std.specs.Prelude.{IfOk, IfSome, IfNone, IsSomeAnd, None, Some, true, false};
 ghost use Rattle.sem_msg.specs.Journal.{part};
 ghost use Rattle.sem_turn.specs.Passes.{new_pass, new_passes, times, has_place, IsWhole, Follows};
 ghost use Rattle.sem_turn.specs.Rule.{Fits, carries, first_view, share, view as view_of};
@@ -22,10 +23,10 @@ use std::sync::atomic::{AtomicU64, Ordering};
 const TRIES: u32 = 64;
 
 /// The fabric, which one pass at a time takes out. The word of the table is 1 while it is out, and
-/// 0 else; the fabric stands in the only slot.
+/// 0 otherwise; the fabric stands in the only slot. Neither `give_back` nor `close` takes memory.
 #[derive(Drop)]
 pub struct Turn<N: RunName> {
-    // How many threads sleep until the turn is free, or are about to.
+    // How many threads sleep until the turn is free, or are about to sleep.
     pub(crate) sleepers: AtomicU64,
     pub(crate) board: Board,
     pub(crate) of: PhantomData<N>,
@@ -43,8 +44,8 @@ pub struct First<N: RunName> {
 }
 
 impl<N: RunName> Turn<N> {
-    /// Waits for the turn, and takes the fabric. It is whole; in its journal the entries of the
-    /// pass's kernel are those of the pass, and the kernel has a place where the pass says so.
+    /// Waits for the turn, and takes the fabric. The fabric is whole. In its journal the entries of
+    /// the pass's kernel are those of the pass, and the kernel has a place if the pass says so.
     pub fn take<W: Wait>(&self, rt: &W, pass: &mut Pass<N>) -> Fabric
         requires { pass.old.taken ≡ None }
         ensures pass { pass.new ≡ record pass.old { taken = Some result } }
@@ -68,34 +69,38 @@ impl<N: RunName> Turn<N> {
         unreachable!()
     }
 
-    // Sleeps unless the turn is free. The thread is counted before the word is looked at, and whoever
-    // gives back looks at the count after it has freed the word, so that no wake is lost.
+    // Sleeps unless the turn is free. No wake is lost: a thread is counted before it looks at the
+    // word, and a thread that gives back frees the word before it looks at the count.
     fn sleep<W: Wait>(&self, rt: &W) {
         self.sleepers.fetch_add(1, Ordering::SeqCst);
         self.board.shared.park(rt, 0, 1);
         self.sleepers.fetch_sub(1, Ordering::SeqCst);
     }
 
-    // The fabric, as `take` gives it; none where another pass has the turn.
+    // The fabric, as `take` gives it; none if another pass has the turn.
     fn try_take(&self, pass: &mut Pass<N>) -> Option<Fabric>
         requires { pass.old.taken ≡ None }
         ensures none { IfNone result (pass.new ≡ pass.old) }
         ensures pass { IfSome result (λ f. pass.new ≡ record pass.old { taken = Some f }) }
         ensures kernel { pass.old.kernel < N.setup.kernels }
         ensures entries { IfSome result (λ f. pass.old.entries ≡ part f.journal pass.old.kernel) }
-        ensures place { IfSome result (λ f. pass.old.placed ≡ true → has_place f pass.old.kernel ≡ true) }
+        ensures place { IfSome result (λ f. pass.old.placed ≡ true →
+            has_place f pass.old.kernel ≡ true) }
         ensures whole { IfSome result (IsWhole N.setup) }
     {
         self.try_out(&mut pass.seat)
     }
 
-    // Takes the fabric out of its slot; none where another seat has the turn.
+    // Takes the fabric out of its slot; none if another seat has the turn.
     fn try_out(&self, seat: &mut Place) -> Option<Fabric>
         requires idle { IsIdle N.table seat.old }
         requires carries { 0 < length seat.old.me.0.shares }
         ensures table { seat.new.table_id ≡ N.table }
         ensures none { IfNone result (seat.new.me ≡ seat.old.me) }
-        ensures seat { IfSome result (λ f. seat.new.me ≡ (view_of seat.old.me.0.shares (Some f), (0, None) ∷ [])) }
+        ensures seat { IfSome result (λ f. seat.new.me ≡ (
+          view_of seat.old.me.0.shares (Some f),
+          (0, None) ∷ [],
+        )) }
         ensures fits { IfSome result (λ f. All (Fits f) seat.old.me.0.shares) }
         ensures whole { IfSome result (IsWhole N.setup) }
     {
@@ -106,12 +111,15 @@ impl<N: RunName> Turn<N> {
         }
     }
 
-    /// Gives the fabric back, as it was taken or with one entry more of the pass's kernel. Takes no
-    /// memory.
+    /// Gives the fabric back, unchanged or with one more entry of the pass's kernel.
     pub fn give_back(&self, pass: &mut Pass<N>, fabric: Fabric)
         requires held { IsSomeAnd pass.old.taken (λ f. Follows pass.old.kernel f fabric) }
         requires whole { IsWhole N.setup fabric }
-        ensures { pass.new ≡ record pass.old { entries = part fabric.journal pass.old.kernel; placed = has_place fabric pass.old.kernel; taken = None } }
+        ensures { pass.new ≡ record pass.old {
+          entries = part fabric.journal pass.old.kernel;
+          placed = has_place fabric pass.old.kernel;
+          taken = None;
+        } }
     {
         match self.board.shared.exchange(&mut pass.seat, 0, Some(fabric)) {
             None => {}
@@ -123,7 +131,7 @@ impl<N: RunName> Turn<N> {
         }
     }
 
-    /// One pass for each kernel, in order. After want of memory the passes are dropped.
+    /// One pass for each kernel, in order. If memory is refused, the passes are dropped.
     pub fn split(
         &self,
         alloc: Global,
@@ -141,10 +149,11 @@ impl<N: RunName> Turn<N> {
         Ok(passes)
     }
 
-    // The pass of the first kernel that the seat carries; the seat keeps the others.
+    // A pass for the first kernel that the seat carries; the seat keeps the others.
     fn cut(&self, seat: &mut Place, kernel: u32) -> Pass<N>
         requires table { seat.old.table_id ≡ N.table }
-        requires front { seat.old.me ≡ (view_of (share kernel [] false ∷ rest_of seat.old.me.0.shares) None, []) }
+        requires front { seat.old.me
+            ≡ (view_of (share kernel [] false ∷ rest_of seat.old.me.0.shares) None, []) }
         requires kernel { kernel < N.setup.kernels }
         ensures table { seat.new.table_id ≡ N.table }
         ensures rest { seat.new.me ≡ (view_of (rest_of seat.old.me.0.shares) None, []) }
@@ -157,8 +166,8 @@ impl<N: RunName> Turn<N> {
         }
     }
 
-    /// The fabric, once all passes are back: each kernel has one of them, with the kernel's part of
-    /// the journal. Takes no memory.
+    /// The fabric, once all passes are back: one for each kernel, with the kernel's part of the
+    /// journal.
     pub fn close(self, mut passes: Passes<N>) -> Fabric
         requires count { length passes ≡ N.setup.kernels }
         requires free { All (λ p. p.taken ≡ None) passes }
@@ -176,17 +185,18 @@ impl<N: RunName> Turn<N> {
         self.finish(seat)
     }
 
-    // The seat carries the pass's kernel too.
+    // Lets the seat carry the pass's kernel too.
     fn join(&self, seat: &mut Place, pass: Pass<N>)
         requires seat { IsIdle N.table seat.old }
         requires pass { pass.taken ≡ None }
         ensures idle { IsIdle N.table seat.new }
-        ensures carries { seat.new.me.0.shares ≡ seat.old.me.0.shares ++ share pass.kernel pass.entries pass.placed ∷ [] }
+        ensures carries { seat.new.me.0.shares ≡ seat.old.me.0.shares
+            ++ share pass.kernel pass.entries pass.placed ∷ [] }
     {
         self.board.shared.join_seat::<Glue>(seat, pass.into_seat());
     }
 
-    // The fabric, once a seat carries all kernels.
+    // The fabric, once one seat carries all kernels.
     fn finish(self, seat: Place) -> Fabric
         requires idle { IsIdle N.table seat }
         requires count { length seat.me.0.shares ≡ N.setup.kernels }

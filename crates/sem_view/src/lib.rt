@@ -1,4 +1,4 @@
-//! What reports tell, told again: message charts and counts.
+//! Views of a report: message charts and counts.
 #![tactic(auto)]
 
 mod queues;

@@ -3,7 +3,7 @@ use sem_key::{OutOfMemory, VPES};
 use sem_msg::{Act, Call, Detail, Entry, Message};
 use std::alloc::Global;
 
-/// How many messages are on each link, and how many were at most.
+/// How many messages are on each link, and the most that ever were.
 #[derive(Debug, Drop)]
 pub struct LinkQueues {
     kernels: u32,
@@ -12,7 +12,7 @@ pub struct LinkQueues {
 }
 
 impl LinkQueues {
-    /// The links of so many kernels after the entries.
+    /// The links of that many kernels after the entries.
     pub fn of(alloc: Global, kernels: u32, entries: &[Entry]) -> Result<LinkQueues, OutOfMemory> {
         let mut queues = LinkQueues {
             kernels,
@@ -29,7 +29,7 @@ impl LinkQueues {
         Ok(queues)
     }
 
-    /// How many messages were at most on the link from a kernel to another.
+    /// The most messages that were ever on the link from a kernel to another.
     pub fn longest(&self, from: u32, to: u32) -> usize {
         self.longest.get(self.place(from, to)).copied().unwrap_or(0)
     }
@@ -41,7 +41,7 @@ impl LinkQueues {
             .saturating_add(to as usize)
     }
 
-    // Counts what the entry gives to a link or takes out of one.
+    // Counts the message that the entry puts on a link or takes out of one.
     fn follow(&mut self, entry: &Entry) {
         match entry.event.act {
             Act::Flush { to } => {
@@ -66,8 +66,8 @@ impl LinkQueues {
     }
 }
 
-// That an ask begins or ends to wait for a VPE, and in which entry. Of one entry and VPE an end
-// comes before a beginning.
+// The beginning or the end of an ask's wait for a VPE, and its entry. For the same entry and VPE an
+// end comes before a beginning.
 #[derive(Clone, Copy, Debug, PartialEq, Eq, PartialOrd, Ord)]
 struct Change {
     vpe: u16,
@@ -75,9 +75,9 @@ struct Change {
     begins: bool,
 }
 
-/// How many asks waited at most for each VPE, by its number. An ask waits from the entry in which it
-/// comes to the kernel of the VPE, which is that of the call where they have one kernel, to the
-/// upcall. Asks for which there is no upcall do not count.
+/// The most asks that waited at once for each VPE, by its number. An ask waits from the entry in
+/// which it comes to the kernel of the VPE up to the upcall. If both VPEs have the same kernel,
+/// that entry is the call. Asks without an upcall do not count.
 pub fn ask_queues(alloc: Global, entries: &[Entry]) -> Result<Vec<usize>, OutOfMemory> {
     let mut changes = changes_of(alloc, entries)?;
     changes.sort()?;
@@ -104,7 +104,7 @@ pub fn ask_queues(alloc: Global, entries: &[Entry]) -> Result<Vec<usize>, OutOfM
     Ok(longest)
 }
 
-// When asks began and ended to wait.
+// The entries in which waits of asks begin and end.
 fn changes_of(alloc: Global, entries: &[Entry]) -> Result<Vec<Change>, OutOfMemory> {
     let mut came = Vec::new(alloc);
     for _ in 0..VPES {

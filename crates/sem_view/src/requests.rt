@@ -1,4 +1,4 @@
-// What is asked for, and what is answered.
+// Requests about a report, and their answers.
 use crate::stats::stats_of;
 use crate::stats_json::stats_as_json;
 use crate::stats_text::stats_as_text;
@@ -15,7 +15,8 @@ use std::alloc::Global;
 /// The most rows of a chart.
 pub const ROWS: usize = 10_000;
 
-/// What is asked for. Entries are named by their numbers, from 0; `to` is the last that is shown.
+/// A request about a report. Entries are named by their numbers, from 0; `to` is the last one
+/// shown.
 #[derive(Debug, Drop)]
 pub enum Request {
     Chart {
@@ -27,7 +28,7 @@ pub enum Request {
     Stats {
         is_json: bool,
     },
-    /// The calls that waited: those of a VPE alone, and those of a number alone.
+    /// The calls that waited: only those of a VPE, and only those of a number, if they are named.
     Waits {
         vpe: Option<u64>,
         call: Option<u64>,
@@ -90,7 +91,7 @@ fn respond_with(
     }
 }
 
-// The range that is asked for, of so many entries, or why there is no chart of it.
+// The requested range, out of that many entries, or why there is no chart of it.
 fn range_of(
     alloc: Global,
     setup: &Setup,
@@ -133,7 +134,6 @@ fn range_of(
     }))
 }
 
-// The chart, drawn.
 fn draw_chart(alloc: Global, chart: &Chart, picture: Picture) -> Result<Answer, OutOfMemory> {
     if picture == Picture::Svg {
         return Ok(Answer::done(alloc, chart_as_svg(alloc, chart)?));

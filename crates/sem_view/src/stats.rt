@@ -1,4 +1,4 @@
-// What is counted of a report.
+// The counts of a report.
 use crate::queues::{LinkQueues, ask_queues};
 use sem_chart::{count_between, count_code, count_event, count_message};
 use sem_key::{Key, OutOfMemory};
@@ -6,8 +6,7 @@ use sem_msg::{Act, Call, Detail, Entry, Journal, Setup};
 use sem_waits::{Wait, longest_chain, waits_in};
 use std::alloc::Global;
 
-/// The messages from a kernel to another: how many were sent, and how many were at most on the
-/// link at a time.
+/// The messages from a kernel to another: how many were sent, and the most on the link at a time.
 #[derive(Clone, Copy, Debug)]
 pub struct LinkCount {
     pub from: u32,
@@ -16,7 +15,7 @@ pub struct LinkCount {
     pub longest: usize,
 }
 
-/// How many asks waited at most for a VPE at a time, of those that it was asked in the end.
+/// The most asks that waited at a time for a VPE, counting those with an upcall.
 #[derive(Clone, Copy, Debug)]
 pub struct AskCount {
     pub vpe: u16,
@@ -24,7 +23,7 @@ pub struct AskCount {
 }
 
 /// A revoke or a clear that began: its entry, its VPE, its key, and how many entries later it was
-/// answered; none where it was not.
+/// answered; none if it was not.
 #[derive(Clone, Copy, Debug)]
 pub struct RevokeTime {
     pub entry: usize,
@@ -34,7 +33,7 @@ pub struct RevokeTime {
     pub taken: Option<usize>,
 }
 
-/// What a call took: how many entries are its own, how many of these send a message, and how many
+/// The cost of a call: how many entries are its own, how many of these send a message, and how many
 /// entries later it was answered, if it was.
 #[derive(Clone, Copy, Debug)]
 pub struct CallCost {
@@ -46,8 +45,8 @@ pub struct CallCost {
     pub taken: Option<usize>,
 }
 
-/// What is counted of a report. The lists of numbers are by the numbers of events (from 1),
-/// messages (from 1) and codes (from 0).
+/// The counts of a report. The lists of numbers go by the numbers of events (from 1), messages
+/// (from 1) and codes (from 0).
 #[derive(Debug, Drop)]
 pub struct Stats {
     pub entries: usize,
@@ -58,11 +57,11 @@ pub struct Stats {
     pub asks: Vec<AskCount>,
     pub revokes: Vec<RevokeTime>,
     pub calls: Vec<CallCost>,
-    /// The greatest number of entries each of which had to wait for the one before.
+    /// The length of the longest chain of entries, each of which had to wait for the one before.
     pub chain: usize,
 }
 
-/// Counts what the journal of the setup tells.
+/// The counts of the journal of the setup.
 pub fn stats_of(alloc: Global, setup: &Setup, journal: &Journal) -> Result<Stats, OutOfMemory> {
     let entries = journal.as_slice();
     let mut events = Vec::new(alloc);
@@ -90,7 +89,7 @@ pub fn stats_of(alloc: Global, setup: &Setup, journal: &Journal) -> Result<Stats
     })
 }
 
-// What each call took, in the order in which they were made.
+// The cost of each call, in the order in which they were made.
 fn costs_of(alloc: Global, entries: &[Entry]) -> Result<Vec<CallCost>, OutOfMemory> {
     let waits = waits_in(alloc, entries)?;
     let mut costs = Vec::new(alloc);
@@ -100,7 +99,8 @@ fn costs_of(alloc: Global, entries: &[Entry]) -> Result<Vec<CallCost>, OutOfMemo
     Ok(costs)
 }
 
-// What the call took: its own entry, the one that answers it, and those between that it waited for.
+// The cost of the call: its own entry, the one that answers it, and those between that it waited
+// for.
 fn cost_of(entries: &[Entry], wait: &Wait) -> CallCost {
     let taken = wait.end.map(|end| end.saturating_sub(wait.begin));
     let ends = if taken.is_some_and(|taken| taken > 0) {
@@ -131,7 +131,7 @@ fn sent_among(entries: &[Entry], numbers: &[usize]) -> usize {
     sent
 }
 
-// What is counted of each link over which a message went.
+// The counts of each link that carried a message.
 fn links_of(
     alloc: Global,
     setup: &Setup,
@@ -171,7 +171,7 @@ fn asks_of(alloc: Global, setup: &Setup, entries: &[Entry]) -> Result<Vec<AskCou
     Ok(asks)
 }
 
-// The revokes and clears that began, in the order in which they did.
+// The revokes and clears that began, in the order in which they began.
 fn revokes_of(alloc: Global, entries: &[Entry]) -> Result<Vec<RevokeTime>, OutOfMemory> {
     let mut revokes: Vec<RevokeTime> = Vec::new(alloc);
     for (at, entry) in entries.iter().enumerate() {
@@ -194,7 +194,7 @@ fn revokes_of(alloc: Global, entries: &[Entry]) -> Result<Vec<RevokeTime>, OutOf
     Ok(revokes)
 }
 
-// Whether a call is a clear; none where it is neither that nor a revoke.
+// Whether a call is a clear; none if it is neither a clear nor a revoke.
 fn clears(call: &Call) -> Option<bool> {
     match call {
         Call::Revoke { .. } => Some(false),
@@ -203,7 +203,7 @@ fn clears(call: &Call) -> Option<bool> {
     }
 }
 
-// Notes that the last call of the VPE is answered at that entry, if it is a revoke that waits.
+// Notes that the last call of the VPE is answered at that entry, if it is a waiting revoke.
 fn answer(revokes: &mut [RevokeTime], vpe: u16, at: usize) {
     for revoke in revokes.iter_mut().rev() {
         if revoke.vpe == vpe {

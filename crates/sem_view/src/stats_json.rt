@@ -46,7 +46,6 @@ fn put(
     Ok(())
 }
 
-// A number.
 fn number(count: usize) -> Value {
     Value::from(count as u64)
 }
@@ -60,7 +59,6 @@ fn named(alloc: Global, names: &[&'static str], counts: &[usize]) -> Result<Valu
     Ok(Value::Object(members))
 }
 
-// The links.
 fn link_list(alloc: Global, links: &[LinkCount]) -> Result<Value, OutOfMemory> {
     let mut items = Vec::new(alloc);
     for link in links {
@@ -107,7 +105,6 @@ fn revoke_list(alloc: Global, revokes: &[RevokeTime]) -> Result<Value, OutOfMemo
     Ok(Value::Array(items))
 }
 
-// The calls.
 fn call_list(alloc: Global, calls: &[CallCost]) -> Result<Value, OutOfMemory> {
     let mut items = Vec::new(alloc);
     for call in calls {

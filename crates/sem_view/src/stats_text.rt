@@ -1,4 +1,4 @@
-// Counts as a table. After want of memory each of these functions may have appended a part.
+// Counts as a table. If memory is refused, each of these functions may have appended a part.
 use crate::stats::{CallCost, RevokeTime, Stats};
 use sem_hint::key_text;
 use sem_key::OutOfMemory;
@@ -6,10 +6,10 @@ use sem_names::{CODES, EVENTS, MESSAGES};
 use sem_waits::call_words;
 use std::alloc::Global;
 
-/// How many columns stand before the numbers.
+/// The columns before the numbers.
 const NAMES: usize = 48;
 
-/// How many columns the numbers have.
+/// The columns of the numbers.
 const NUMBERS: usize = 9;
 
 /// The counts as a table.
@@ -31,7 +31,7 @@ pub fn stats_as_text(alloc: Global, stats: &Stats) -> Result<String, OutOfMemory
     Ok(out)
 }
 
-/// The sum of the numbers; the greatest number where it is greater.
+/// The sum of the numbers, at most the greatest number.
 pub fn total(counts: &[usize]) -> usize {
     let mut sum = 0usize;
     for count in counts {
@@ -73,7 +73,7 @@ fn push_counts(
     Ok(())
 }
 
-// Appends a line for each link over which a message went.
+// Appends a line for each link that carried a message.
 fn push_links(alloc: Global, out: &mut String, stats: &Stats) -> Result<(), OutOfMemory> {
     if stats.links.is_empty() {
         return Ok(());
@@ -166,7 +166,7 @@ fn push_costs(alloc: Global, out: &mut String, stats: &Stats) -> Result<(), OutO
     Ok(())
 }
 
-// Appends what a call took.
+// Appends the cost of a call.
 fn push_cost(alloc: Global, out: &mut String, cost: &CallCost) -> Result<(), OutOfMemory> {
     let words = call_words(alloc, &cost.call)?;
     let (vpe, index) = (cost.vpe, cost.index);

@@ -26,7 +26,7 @@ end
 1 resume 1 reply 1 0
 ";
 
-// Their report.
+// The report of these logs.
 const REPORT: &str = "semper report 1
 semper trace 1
 kernels 2
@@ -56,8 +56,8 @@ key 1.1.1.0 5
 end
 ";
 
-// Kernel 2 does not log what kernel 0 takes in from it, and one reply less than its kill wants.
-// Kernel 0 does not log that it takes in all messages of kernel 1.
+// Kernel 2 does not log the flush of the message that kernel 0 fetches from it. It also logs one
+// reply fewer than its kill waits for. Kernel 0 does not log every fetch from kernel 1.
 const STUCK: &[u8] = b"semper trace 2
 kernels 3
 window 1

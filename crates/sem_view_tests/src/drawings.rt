@@ -11,7 +11,7 @@ const LANES: [Lane; 3] = [
     Lane::Kernel { number: 1 },
 ];
 
-// The VPE makes a call for which a message goes to the other kernel.
+// The VPE makes a call that sends a message to the other kernel.
 const ROWS: [(u64, Mark, &str); 5] = [
     (
         5,
@@ -88,7 +88,7 @@ fn a_chart_has_a_line_for_each_row_and_is_a_picture(rt: HostRuntime) -> Result<(
     Ok(())
 }
 
-// A root with two children, of which the first has one, and a second root.
+// A root with two children, the first of which has a child, and a second root.
 const NODES: [(Option<usize>, &str); 5] = [
     (None, "a"),
     (None, "b"),

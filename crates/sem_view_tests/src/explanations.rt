@@ -51,8 +51,7 @@ held 0
 end
 ";
 
-// A text, what stands in the place of a part of it, whether what comes of it is accepted, and what
-// is said of it.
+// A text, the replacement for a part of it, whether the result is accepted, and what is said of it.
 struct Case {
     text: &'static str,
     part: &'static str,

@@ -2,7 +2,7 @@ use sem_hint::{kind_of, refusal_text};
 use sem_trace::{Cause, TraceFault};
 use std::test::Fail;
 
-// What a text is refused for, and what is said of it.
+// A refused text, and what is said of it.
 struct Case {
     text: &'static str,
     line: u64,

@@ -1,5 +1,5 @@
-//! Tests of what shows reports and outcomes: charts, forests, bars, timelines, counts, explanations,
-//! comparisons and logs put together; nothing that runs.
+//! Tests of what shows reports and outcomes: charts, forests, bars, timelines, counts,
+//! explanations, comparisons and logs put together. No program uses this crate.
 #![tactic(auto)]
 
 #[cfg(test)]

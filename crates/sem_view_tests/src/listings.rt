@@ -17,7 +17,7 @@ do 1 close 4
 end
 ";
 
-// What they are compiled to.
+// The listing of these commands.
 const LISTED: &str = "semper trace 1
 kernels 2
 pe 0 0
@@ -60,7 +60,7 @@ call 2 ask 2 0 13
 end
 ";
 
-// There is no such file.
+// Commands that name a missing file.
 const WRONG: &[u8] = b"semper files 1
 kernels 1
 file 16 1

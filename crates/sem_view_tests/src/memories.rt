@@ -2,7 +2,7 @@ use sem_draw::{Ending, Picture};
 use sem_writers::{MemoryRequest, memory_picture};
 use std::test::Fail;
 
-// A VPE writes a part of its memory, and reads a part of that and more.
+// A VPE writes a part of its memory, and reads some of that part and more.
 const WRITTEN: &[u8] = b"semper report 1
 semper trace 1
 kernels 1

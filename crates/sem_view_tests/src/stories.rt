@@ -21,7 +21,7 @@ const ROOT: &str = "\
      29  |  bound to endpoint 0                       0 call 0 6 bind 0 0 reply 0 0
 ";
 
-// The life of a key that goes by the clear of its parent.
+// The life of a key that a clear of its parent takes.
 const CHILD: &str = "\
 3.3.1.0  memory, 4096 bytes from 0, rwx; of v3 of K1; made from 0.0.1.0
 
@@ -39,7 +39,7 @@ const TOO_EARLY: &str = "3.3.1.0 was never made in these 7 entries\n";
 
 const TOO_LATE: &str = "there are no 33 entries: the report has 32\n";
 
-// A key, after how many entries of a report its life is asked for, and what is answered.
+// A key, after how many entries of a report its life is asked for, and the answer.
 struct Case {
     key: &'static str,
     at: Option<u64>,
@@ -101,7 +101,7 @@ fn the_lives_of_keys_are_told(rt: HostRuntime) -> Result<(), Fail> {
     Ok(())
 }
 
-// The entries with which two revokes of one line begin, and what is said of the three keys then.
+// The entries that two revokes of one line begin with, and what is said of the three keys then.
 const REVOKES: [(&str, &str, [&str; 3], &str); 2] = [
     (
         REVOKE_OF_ROOT,

@@ -41,7 +41,7 @@ held 0
 end
 ";
 
-/// A clear unbinds the endpoints of its root and of what goes, and no others.
+/// A clear unbinds the endpoints of its root and of all that goes, and no others.
 pub const CLEARED: &[u8] = b"semper report 1
 semper trace 1
 kernels 2
@@ -113,7 +113,7 @@ key 0.0.1.1 3
 end
 ";
 
-/// A VPE is killed when what it obtains has arrived and is not installed.
+/// A VPE is killed when its obtained capability has arrived and is not yet installed.
 pub const KILLED: &[u8] = b"semper report 1
 semper trace 1
 kernels 2
@@ -146,7 +146,7 @@ key 0.0.1.0 0
 end
 ";
 
-// What is said of keys after so many entries.
+// What is said of keys after that many entries.
 struct Case {
     at: u64,
     said: [&'static str; 2],
@@ -338,7 +338,7 @@ fn what_no_run_makes_is_refused(rt: HostRuntime) -> Result<(), Fail> {
     Ok(())
 }
 
-// A root of the second report.
+// A root in the second report.
 const ROOT: Key = Key {
     pe: 0,
     vpe: 0,
@@ -346,7 +346,7 @@ const ROOT: Key = Key {
     number: 0,
 };
 
-// Another root of it.
+// Another root in it.
 const OTHER_ROOT: Key = Key { number: 1, ..ROOT };
 
 // The first child of the root.
@@ -378,7 +378,7 @@ fn rows_are_made_keys_of_which_a_clear_takes_what_was_granted_before(
     Ok(())
 }
 
-/// Two revokes of one line, but for the entries with which they begin.
+/// Two revokes of one line, without the entries that they begin with.
 pub const BEFORE_REVOKES: &str = "semper report 1
 semper trace 1
 kernels 2

@@ -96,8 +96,8 @@ const NO_ENTRIES: &str = "there are no such entries: the report has 3, from 0 on
 const NO_REPORT: &str =
     "the input is a trace, and a report is wanted: semper run 0 makes one of it\n";
 
-// A chart of entries, without box characters: the first and the last one, the one kernel that is
-// shown, and what is answered; of an error a part.
+// A chart of entries, without box characters: the first and the last one, the one kernel shown, and
+// the answer; of an error a part.
 struct Shown {
     report: &'static str,
     from: Option<u64>,
@@ -181,7 +181,7 @@ fn a_chart_shows_each_entry_and_what_is_not_there_is_refused(rt: HostRuntime) ->
     Ok(())
 }
 
-// The waiting of a clear for the kernel of a child.
+// What a clear waits for at the kernel of a child.
 const WAITS: &str = "\
 v0 call 3: clear 0: answered 9 entries later
     17  0 call 0 3 clear 0 cut 0.0.1.0

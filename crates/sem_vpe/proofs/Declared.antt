@@ -1,5 +1,6 @@
 -- The table at the start, read VPE by VPE.
-use Rattle.std.proofs.Common.{◌≡◌, ◌≢◌, ℕ, zero, suc, ◌+◌, ◌<◌, Bool, true, false, List, [], ◌∷◌, length, get_or, replicate, Option, Some, None, is_some, refl, sym, ◌∙◌, ap, subst, arith}
+use Rattle.std.proofs.Common.{◌≡◌, ◌≢◌, ℕ, zero, suc, ◌+◌, ◌<◌, Bool, true, false, List, [], ◌∷◌, length, get_or, replicate, Option, Some, None, is_some, refl}
+use Rattle.std.proofs.Common.{sym, ◌∙◌, ap, subst, arith}
 use Rattle.std.specs.Prelude.{◌==◌, unwrap_or, if◌then◌else◌}
 use Rattle.std.specs.List.{All, AllPairs, slice_get}
 use Rattle.std.specs.Option.{IsSome, option_and_then, option_map}
@@ -28,28 +29,34 @@ use Rattle.sem_vpe.proofs.Places.{marked-within}
 
 module _ (d : VpeDecl) where
   -- a selector at which none of them stands
-  slot_after : (rs : List Root) (x : VpeRow) (sel : ℕ) → All (λ r. r.sel ≢ sel) rs → get_or (in_turn (root_held d) rs x).slots sel Free ≡ get_or x.slots sel Free
+  slot_after : (rs : List Root) (x : VpeRow) (sel : ℕ) → All (λ r. r.sel ≢ sel) rs →
+      get_or (in_turn (root_held d) rs x).slots sel Free ≡ get_or x.slots sel Free
   unfolding in_turn
   slot_after [] x sel differ = refl
   slot_after (r ∷ rs) x sel differ =
       let here : r.sel ≢ sel = differ 0 r (omega arith) in
-      slot_after rs (root_held d r x) sel (λ k e lt. differ (suc k) e (omega arith)) ∙ get_or-put_other Free x.slots r.sel sel (Held (root_key d x.next_number r)) (λ same. here (sym same))
+      slot_after rs (root_held d r x) sel (λ k e lt. differ (suc k) e (omega arith))
+      ∙ get_or-put_other Free x.slots r.sel sel (Held (root_key d x.next_number r)) (λ same. here (sym same))
 
   -- a selector at which one of them stands, the one that is numbered m
-  root_after : (rs : List Root) (x : VpeRow) (n m : ℕ) (r : Root) → AllPairs (λ a b. a.sel ≢ b.sel) rs → slice_get rs n ≡ Some r → m ≡ x.next_number + n → get_or (in_turn (root_held d) rs x).slots r.sel Free ≡ Held (root_key d m r)
+  root_after : (rs : List Root) (x : VpeRow) (n m : ℕ) (r : Root) → AllPairs (λ a b. a.sel ≢ b.sel) rs → slice_get rs n ≡ Some r → m ≡ x.next_number + n →
+      get_or (in_turn (root_held d) rs x).slots r.sel Free ≡ Held (root_key d m r)
   unfolding in_turn
   root_after [] x n m r differ is number = absurd cc
   root_after (q ∷ rs) x zero m r differ is number =
       let same : q ≡ r = same_Some q r is in
       let first : x.next_number ≡ m = omega arith in
-      let here = slot_after rs (root_held d q x) q.sel (λ k e lt here. differ 0 (suc k) e (omega arith) (omega arith) (sym here)) ∙ get_or-put_same Free x.slots q.sel (Held (root_key d x.next_number q)) in
+      let here = slot_after rs (root_held d q x) q.sel (λ k e lt here. differ 0 (suc k) e (omega arith) (omega arith) (sym here))
+      ∙ get_or-put_same Free x.slots q.sel (Held (root_key d x.next_number q)) in
       subst (λ (r : Root). get_or (in_turn (root_held d) rs (root_held d q x)).slots r.sel Free ≡ Held (root_key d m r)) same
       (subst (λ (m : ℕ). get_or (in_turn (root_held d) rs (root_held d q x)).slots q.sel Free ≡ Held (root_key d m q)) first here)
   root_after (q ∷ rs) x (suc n) m r differ is number =
       root_after rs (root_held d q x) n m r (λ i j e lt within. differ (suc i) (suc j) e (omega arith) (omega arith)) is (omega arith)
 
   -- all else
-  rest_after : (rs : List Root) (x : VpeRow) → ((in_turn (root_held d) rs x).alive ≡ x.alive) × ((in_turn (root_held d) rs x).next_number ≡ x.next_number + length rs) × ((in_turn (root_held d) rs x).next_call ≡ x.next_call) × ((in_turn (root_held d) rs x).asks ≡ x.asks)
+  rest_after : (rs : List Root) (x : VpeRow) → ((in_turn (root_held d) rs x).alive ≡ x.alive)
+      × ((in_turn (root_held d) rs x).next_number ≡ x.next_number + length rs) × ((in_turn (root_held d) rs x).next_call ≡ x.next_call)
+      × ((in_turn (root_held d) rs x).asks ≡ x.asks)
   unfolding in_turn
   rest_after [] x = (refl, omega arith, refl, refl)
   rest_after (r ∷ rs) x = let rest = rest_after rs (root_held d r x) in (rest.0, omega (arith, rest.1), rest.2, rest.3)
@@ -100,10 +107,12 @@ module _ (T : Setup) (i : ℕ) (valid : IsSetup T) where
     rest = let after = rest_after d d.roots new_vpe in rw start_is (after.0, omega (arith, after.1), after.2, after.3)
 
     root_at : (n : ℕ) (r : Root) → slice_get d.roots n ≡ Some r → slot (start_table T i).rows v r.sel ≡ Held (root_key d n r)
-    root_at n r is = ap (λ (x : VpeRow). get_or x.slots r.sel Free) (row_is ∙ start_is) ∙ root_after d d.roots new_vpe n n r known.selectors_differ is (omega arith)
+    root_at n r is = ap (λ (x : VpeRow). get_or x.slots r.sel Free) (row_is ∙ start_is)
+        ∙ root_after d d.roots new_vpe n n r known.selectors_differ is (omega arith)
 
     free_elsewhere : (sel : ℕ) → All (λ r. r.sel ≢ sel) d.roots → slot (start_table T i).rows v sel ≡ Free
-    free_elsewhere sel differ = ap (λ (x : VpeRow). get_or x.slots sel Free) (row_is ∙ start_is) ∙ (slot_after d d.roots new_vpe sel differ ∙ free_at SELECTORS sel)
+    free_elsewhere sel differ = ap (λ (x : VpeRow). get_or x.slots sel Free) (row_is ∙ start_is)
+        ∙ (slot_after d d.roots new_vpe sel differ ∙ free_at SELECTORS sel)
 
   mark_is : (v : ℕ) → v < VPES → get_or (start_table T i).ours v false ≡ is_some (own_decl T i v)
   unfolding start_table

@@ -1,5 +1,6 @@
 -- What is kept of the VPEs after one place has changed.
-use Rattle.std.proofs.Common.{◌≡◌, ℕ, zero, suc, ◌<◌, Bool, true, false, List, [], ◌∷◌, ◌++◌, length, map, set, get_or, Option, Some, is_some, refl, sym, ◌∙◌, ap, inl, inr, arith}
+use Rattle.std.proofs.Common.{◌≡◌, ℕ, zero, suc, ◌<◌, Bool, true, false, List, [], ◌∷◌, ◌++◌, length, map, set, get_or, Option, Some, is_some, refl, sym, ◌∙◌}
+use Rattle.std.proofs.Common.{ap, inl, inr, arith}
 use Rattle.std.specs.Prelude.{IsTrue, unwrap_or, nat_lt, if◌then◌else◌}
 use Rattle.std.proofs.Math.Seq.{map-set_same}
 use Rattle.std.proofs.lemmas.Bool.{cases_eq}
@@ -45,7 +46,8 @@ table-put t v new valid ours is_row = record {
     ]
 
 -- a place of a VPE of this kernel, as it was found and as it is after
-module _ (places : List (Option VpeRow)) (v at : ℕ) (place : Option VpeRow) (kept new : VpeRow) (valid : IsVpeTable (plain places)) (ours : IsOurs (plain places) v) (at_v : at ≡ v) (found : place ≡ get_or places at place) (is : place ≡ Some kept) where
+module _ (places : List (Option VpeRow)) (v at : ℕ) (place : Option VpeRow) (kept new : VpeRow) (valid : IsVpeTable (plain places))
+    (ours : IsOurs (plain places) v) (at_v : at ≡ v) (found : place ≡ get_or places at place) (is : place ≡ Some kept) where
   within : at < length places
   within = let marked = marked-within (plain places).ours v ours in omega (arith, length-map places (λ (p : Option VpeRow). is_some p))
 
@@ -53,13 +55,17 @@ module _ (places : List (Option VpeRow)) (v at : ℕ) (place : Option VpeRow) (k
   here = sym found ∙ is
 
   pub row-here : row (plain places).rows v ≡ kept
-  row-here = rw (← at_v) (get_or-map (λ (p : Option VpeRow). unwrap_or p no_vpe) places at place no_vpe within ∙ ap (λ (p : Option VpeRow). unwrap_or p no_vpe) here)
+  row-here = rw (← at_v) (get_or-map (λ (p : Option VpeRow). unwrap_or p no_vpe) places at place no_vpe within
+      ∙ ap (λ (p : Option VpeRow). unwrap_or p no_vpe) here)
 
   written : plain (set places at (Some new)) ≡ record (plain places) { rows = put no_vpe (plain places).rows v new }
   written =
-      let marks : map (λ (p : Option VpeRow). is_some p) (set places at (Some new)) ≡ map (λ (p : Option VpeRow). is_some p) places = map-set_same (λ (p : Option VpeRow). is_some p) places at (Some new) place (ap (λ (p : Option VpeRow). is_some p) (sym here)) in
-      let rows : map (λ (p : Option VpeRow). unwrap_or p no_vpe) (set places at (Some new)) ≡ set (map (λ (p : Option VpeRow). unwrap_or p no_vpe) places) at new = map-set (λ (p : Option VpeRow). unwrap_or p no_vpe) places at (Some new) in
-      let long : at < length (map (λ (p : Option VpeRow). unwrap_or p no_vpe) places) = omega (arith, within, length-map places (λ (p : Option VpeRow). unwrap_or p no_vpe)) in
+      let marks : map (λ (p : Option VpeRow). is_some p) (set places at (Some new)) ≡ map (λ (p : Option VpeRow). is_some p) places =
+      map-set_same (λ (p : Option VpeRow). is_some p) places at (Some new) place (ap (λ (p : Option VpeRow). is_some p) (sym here)) in
+      let rows : map (λ (p : Option VpeRow). unwrap_or p no_vpe) (set places at (Some new))
+      ≡ set (map (λ (p : Option VpeRow). unwrap_or p no_vpe) places) at new = map-set (λ (p : Option VpeRow). unwrap_or p no_vpe) places at (Some new) in
+      let long : at < length (map (λ (p : Option VpeRow). unwrap_or p no_vpe) places) =
+      omega (arith, within, length-map places (λ (p : Option VpeRow). unwrap_or p no_vpe)) in
       rw (marks, rows, ← at_v, put-set no_vpe (map (λ (p : Option VpeRow). unwrap_or p no_vpe) places) at new long) refl
 
   -- the change is one of the row of that VPE
@@ -75,5 +81,6 @@ module _ (places : List (Option VpeRow)) (v at : ℕ) (place : Option VpeRow) (k
   table-kept is_row = rw written (table-put (plain places) v new valid ours is_row)
 
 -- an ask is appended where there is room for it
-pub appended-here : (r new : VpeRow) (a : Ask) → new ≡ record r { asks = if nat_lt (length r.asks) ASKS then r.asks ++ a ∷ [] else r.asks } → length r.asks < ASKS → new.asks ≡ r.asks ++ a ∷ []
+pub appended-here : (r new : VpeRow) (a : Ask) → new ≡ record r { asks = if nat_lt (length r.asks) ASKS then r.asks ++ a ∷ [] else r.asks } →
+    length r.asks < ASKS → new.asks ≡ r.asks ++ a ∷ []
 appended-here r new a is room = let fits : nat_lt (length r.asks) ASKS ≡ true = grind (arith, nat_tests) in rw fits at (ap (λ (x : VpeRow). x.asks) is)

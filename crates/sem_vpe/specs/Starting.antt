@@ -1,14 +1,14 @@
 -- What a kernel keeps of its VPEs at the start ("State" in docs/machine.md).
-use Rattle.std.specs.Prelude.{◌≡◌, ◌≢◌, ℕ, ◌<◌, ◌≤◌, ◌↔◌, true, All, [], length, slice_get, IsSome, map, Option, Some, unwrap_or, is_some}
+use Rattle.std.specs.Prelude.{◌≡◌, ◌≢◌, ℕ, ◌<◌, ◌≤◌, ◌↔◌, true, All, [], length, slice_get, IsSome, map, Option, Some}
+use Rattle.std.specs.Prelude.{unwrap_or, is_some}
 use Rattle.std.specs.List.{range_with_len}
 use Rattle.std.specs.Option.{option_map}
-use Rattle.sem_key.specs.declared.limits.TheConstants.{PES, VPES}
+use Rattle.sem_msg.specs.Prelude.{PES, VPES, VpeRow, no_vpe, Setup}
 use Rattle.sem_msg.specs.declared.limits.TheConstants.{SELECTORS}
 use Rattle.sem_msg.specs.declared.setup.Root.{Root}
 use Rattle.sem_msg.specs.declared.setup.VpeDecl.{VpeDecl}
 use Rattle.sem_msg.specs.declared.state.Slot.TheVariants.{Free, Held}
-use Rattle.sem_msg.specs.Rows.{VpeRow, no_vpe}
-use Rattle.sem_msg.specs.Setup.{Setup, root_key}
+use Rattle.sem_msg.specs.Setup.{root_key}
 use Rattle.sem_msg.specs.Lookups.{own_decl}
 use Rattle.sem_msg.specs.VpeRows.{start_row, row, slot, is_alive}
 use Rattle.sem_vpe.specs.VpeTable.{VpeTable, IsOurs}
@@ -31,16 +31,18 @@ pub record IsStartable (d : VpeDecl) : Type 0 where
   pub pe : d.pe < PES
   pub few_roots : length d.roots ≤ SELECTORS
 
--- The table, read VPE by VPE: what a kernel has at the start is what the setup declares on its PEs.
+-- The table, read VPE by VPE: at the start a kernel has exactly what the setup declares on its PEs.
 pub record IsAsDeclared (T : Setup) (i : ℕ) (t : VpeTable) : Type 0 where
-  -- the VPEs of this kernel are those that are declared on a PE that it owns
+  -- the VPEs of this kernel are those declared on a PE that it owns
   pub ours : (v : ℕ) → IsOurs t v ↔ IsSome (own_decl T i v)
   -- they are alive
   pub living : (v : ℕ) (d : VpeDecl) → own_decl T i v ≡ Some d → is_alive t.rows v ≡ true
   -- each root stands at its selector, under the key of its place in the list
-  pub roots : (v n : ℕ) (d : VpeDecl) (r : Root) → own_decl T i v ≡ Some d → slice_get d.roots n ≡ Some r → slot t.rows v r.sel ≡ Held (root_key d n r)
+  pub roots : (v n : ℕ) (d : VpeDecl) (r : Root) → own_decl T i v ≡ Some d → slice_get d.roots n ≡ Some r →
+      slot t.rows v r.sel ≡ Held (root_key d n r)
   -- the other selectors are free
-  pub others : (v sel : ℕ) (d : VpeDecl) → own_decl T i v ≡ Some d → All (λ r. r.sel ≢ sel) d.roots → slot t.rows v sel ≡ Free
+  pub others : (v sel : ℕ) (d : VpeDecl) → own_decl T i v ≡ Some d → All (λ r. r.sel ≢ sel) d.roots →
+      slot t.rows v sel ≡ Free
   -- as many numbers were drawn as there are roots
   pub numbers : (v : ℕ) (d : VpeDecl) → own_decl T i v ≡ Some d → (row t.rows v).next_number ≡ length d.roots
   -- no call was counted, and no ask waits

@@ -6,7 +6,7 @@ use thiserror::Error;
 #[error("the selector is held or promised")]
 pub struct Occupied;
 
-/// All numbers of the VPE were drawn.
+/// The VPE has drawn all its numbers.
 #[derive(Clone, Copy, Debug, PartialEq, Eq, Error)]
 #[error("all numbers of the VPE were drawn")]
 pub struct Numbers;

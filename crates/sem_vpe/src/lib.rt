@@ -1,9 +1,10 @@
 //! What one kernel keeps of its VPEs: whether they live, their selectors, numbers and calls, and
-//! what they are asked.
+//! their asks.
 #![tactic(auto)]
 
 mod fault;
 mod queue;
+mod refusals;
 #[cfg(test)]
 mod tests;
 mod vpe;

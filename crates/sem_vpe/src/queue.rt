@@ -1,5 +1,5 @@
-// An append for which there is room. It takes the item by reference: a push by value of an enum that
-// holds an enum that holds keys gets no generated proof.
+// An append into room that is there. It takes the item by reference: a push by value of an enum
+// that holds an enum that holds keys gets no generated proof.
 ghost use Rattle.std.specs.Prelude.{◌≡◌, ◌<◌, [], ◌∷◌, ◌++◌, length};
 ghost use Rattle.circular_buffer.specs.Buffer.{buffer};
 

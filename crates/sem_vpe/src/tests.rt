@@ -11,7 +11,6 @@ use std::ops::Range;
 use std::process::Abort;
 use std::test::Fail;
 
-// The list of these items.
 fn listed<T: Copy>(alloc: Global, items: &[T]) -> Result<Seq<T>, OutOfMemory>
     ensures { IfOk result (λ list. list ≡ items.now) }
 {
@@ -35,7 +34,7 @@ pub fn key(kind: Kind, number: u32) -> Key
     }
 }
 
-// What is asked about the selector of another VPE.
+// An ask for the capability at a selector of another VPE.
 pub fn question(sel: u8) -> Ask {
     Ask::Obtain {
         place: Place {
@@ -47,7 +46,7 @@ pub fn question(sel: u8) -> Ask {
     }
 }
 
-// What is offered at a selector.
+// An offer at a selector.
 pub fn offer(sel: u8) -> Ask {
     Ask::Delegate {
         parent: key(Kind::Mem, 0),
@@ -134,7 +133,7 @@ pub fn at_start(alloc: Global, kernel: u32) -> Result<Vpes, Fail> {
     Ok(Vpes::new(alloc, &setup, kernel)?)
 }
 
-// The calls on a VPE that belongs to the kernel.
+// The calls on a VPE of the kernel.
 
 pub fn alive(rt: &impl Abort, vpes: &Vpes, vpe: u16) -> bool {
     assert!(rt; vpes.is_ours(vpe));
@@ -207,14 +206,14 @@ pub fn end(rt: &impl Abort, vpes: &mut Vpes, vpe: u16) {
     vpes.end(vpe);
 }
 
-// Questions about so many selectors from the first on, all asked.
+// Asks about that many selectors from the first on, all asked.
 fn ask_all(rt: &impl Abort, vpes: &mut Vpes, sels: Range<u8>) {
     for sel in sels {
         ask(rt, vpes, 2, question(sel));
     }
 }
 
-// The oldest asks are these questions, and are taken out.
+// The oldest asks are these, and are taken out.
 fn take_all(rt: &impl Abort, vpes: &mut Vpes, sels: Range<u8>) {
     for sel in sels {
         assert_eq!(rt; front_ask(rt, vpes, 2), Some(question(sel)));
@@ -298,7 +297,7 @@ fn numbers_run_out_after_4096(rt: HostRuntime) -> Result<(), Fail> {
     Ok(())
 }
 
-// A selector that is promised and drawn a number for.
+// A promised selector, with a number drawn for it.
 fn taken(vpes: &mut Vpes, vpe: u16, sel: u8) -> Result<u32, Code>
     requires { IsOurs vpes.old vpe }
 {
@@ -354,7 +353,7 @@ fn a_dead_vpe_keeps_all_but_its_life(rt: HostRuntime) -> Result<(), Fail> {
 #[test]
 fn after_want_of_memory_the_vpes_can_be_made_anew(rt: HostRuntime) -> Result<(), Fail> {
     let setup = two_kernels(rt.alloc())?;
-    // With `rt try --test --fail-alloc N` and N from 5 to 14 there is no memory here at first.
+    // With `rt try --test --fail-alloc N` and N from 5 to 14, memory is refused here at first.
     let first = Vpes::new(rt.alloc(), &setup, 1);
     let mut vpes = match first {
         Ok(vpes) => vpes,

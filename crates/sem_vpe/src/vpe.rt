@@ -1,4 +1,6 @@
-ghost use Rattle.std.specs.Prelude.{◌≡◌, ◌+◌, ◌<◌, ◌≤◌, ◌↔◌, [], ◌∷◌, ◌++◌, length, drop, slice_get, slice_index_or, IsTrue, IfOk, IsErr, OnOk, OnErr, false, nat_lt, if◌then◌else◌};
+ghost use Rattle.std.specs.Prelude.{◌≡◌, ◌+◌, ◌<◌, ◌≤◌, ◌↔◌, [], ◌∷◌, ◌++◌, length, drop};
+ghost use Rattle.std.specs.Prelude.{slice_get, slice_index_or, IsTrue, IfOk, IsErr, OnOk, OnErr};
+ghost use Rattle.std.specs.Prelude.{false, nat_lt, if◌then◌else◌};
 ghost use Rattle.sem_key.specs.Lists.{put};
 ghost use Rattle.sem_msg.specs.declared.state.Slot.TheVariants.{Free, Held, Promised};
 ghost use Rattle.sem_msg.specs.VpeRows.{is_taken, root_held, start_row};
@@ -13,15 +15,15 @@ use sem_msg::{ASKS, Ask, Root, SELECTORS, Slot, VpeDecl};
 use std::alloc::Global;
 use std::marker::Model;
 
-/// What is kept of a VPE of this kernel. None of its calls but `new` takes memory.
+/// What is kept of a VPE of this kernel. Only `new` takes memory.
 #[derive(Debug, Drop)]
 pub struct Vpe {
     alive: bool,
-    // By selector.
+    // The slots, by selector.
     slots: Vec<Slot>,
     next_number: u32,
     next_call: u32,
-    // The oldest at the front.
+    // The waiting asks, the oldest at the front.
     asks: HeapCircularBuffer<Ask>,
 }
 
@@ -33,9 +35,22 @@ impl Model for Vpe {
 
     ghost Value = { VpeRow };
 
-    ghost view = { λ v. record { alive = v.alive; slots = v.slots.items; next_number = v.next_number; next_call = v.next_call; asks = v.asks.items } };
+    ghost view = { λ v. record {
+      alive = v.alive;
+      slots = v.slots.items;
+      next_number = v.next_number;
+      next_call = v.next_call;
+      asks = v.asks.items;
+    } };
 
-    ghost invariant = { λ v. IsVpeRow (record { alive = v.alive; slots = v.slots.items; next_number = v.next_number; next_call = v.next_call; asks = v.asks.items }) × (v.asks.capacity ≡ ASKS) };
+    ghost invariant = { λ v. IsVpeRow (record {
+      alive = v.alive;
+      slots = v.slots.items;
+      next_number = v.next_number;
+      next_call = v.next_call;
+      asks = v.asks.items;
+    })
+        × (v.asks.capacity ≡ ASKS) };
 }
 
 impl Vpe {
@@ -58,7 +73,6 @@ impl Vpe {
         Ok(vpe)
     }
 
-    /// Whether the VPE is alive.
     pub fn alive(&self) -> bool
         ensures { result ≡ self.now.alive }
     {
@@ -72,21 +86,21 @@ impl Vpe {
         self.slots[usize::from(sel)]
     }
 
-    /// How many calls were counted.
+    /// How many calls were counted, which is the number of the next one.
     pub fn next_call(&self) -> u32
         ensures { result ≡ self.now.next_call }
     {
         self.next_call
     }
 
-    /// How many numbers were drawn.
+    /// How many numbers were drawn, which is the next one to draw.
     pub fn next_number(&self) -> u32
         ensures { result ≡ self.now.next_number }
     {
         self.next_number
     }
 
-    /// How many asks wait.
+    /// How many asks wait, at most 128.
     pub fn asks(&self) -> usize
         ensures asks { result ≡ length self.now.asks }
         ensures few { result ≤ ASKS }
@@ -94,17 +108,19 @@ impl Vpe {
         self.asks.len()
     }
 
-    /// The oldest ask.
+    /// The oldest waiting ask; none if no ask waits.
     pub fn front_ask(&self) -> Option<Ask>
         ensures { result ≡ slice_get self.now.asks 0 }
     {
         self.asks.front().copied()
     }
 
-    /// Promises a selector. Nothing changes where it is held or promised.
+    /// Promises a selector. If it is held or promised, nothing changes.
     pub fn promise(&mut self, sel: u8) -> Result<(), Occupied>
-        ensures occupied { IsErr result ↔ IsTrue (is_taken (slice_index_or self.old.slots sel Free)) }
-        ensures ok { OnOk result (self.new ≡ record self.old { slots = put Free self.old.slots sel Promised }) }
+        ensures occupied { IsErr result
+            ↔ IsTrue (is_taken (slice_index_or self.old.slots sel Free)) }
+        ensures ok { OnOk result (self.new
+            ≡ record self.old { slots = put Free self.old.slots sel Promised }) }
         ensures err { OnErr result (self.new ≡ self.old) }
         ensures row { IsVpeRow self.new }
     {
@@ -125,12 +141,13 @@ impl Vpe {
         self.slots[usize::from(sel)] = state;
     }
 
-    /// Draws the next number.
+    /// Draws the next number. If all were drawn, nothing changes.
     pub fn draw(&mut self) -> Result<u32, Numbers>
         ensures numbers { IsErr result ↔ (NUMBERS ≤ self.old.next_number) }
         ensures number { IfOk result (λ number. number ≡ self.old.next_number) }
         ensures in_range { IfOk result (λ number. number < NUMBERS) }
-        ensures ok { OnOk result (self.new ≡ record self.old { next_number = self.old.next_number + 1 }) }
+        ensures ok { OnOk result (self.new
+            ≡ record self.old { next_number = self.old.next_number + 1 }) }
         ensures err { OnErr result (self.new ≡ self.old) }
         ensures row { IsVpeRow self.new }
     {
@@ -142,9 +159,13 @@ impl Vpe {
         Ok(number)
     }
 
-    /// Appends an ask, unless as many wait already as can.
+    /// Appends an ask, unless the most that can wait are waiting.
     pub fn ask(&mut self, ask: &Ask)
-        ensures asks { self.new ≡ record self.old { asks = (if nat_lt (length self.old.asks) ASKS then self.old.asks ++ ask.now ∷ [] else self.old.asks) } }
+        ensures asks { self.new
+            ≡ record self.old {
+              asks = (if nat_lt (length self.old.asks) ASKS
+                  then self.old.asks ++ ask.now ∷ [] else self.old.asks);
+            } }
         ensures row { IsVpeRow self.new }
     {
         if self.asks.len() < ASKS {
@@ -152,7 +173,7 @@ impl Vpe {
         }
     }
 
-    /// Takes the oldest ask out.
+    /// Takes out the oldest ask; none if no ask waits.
     pub fn next_ask(&mut self) -> Option<Ask>
         ensures front { result ≡ slice_get self.old.asks 0 }
         ensures asks { self.new ≡ record self.old { asks = drop 1 self.old.asks } }
@@ -161,7 +182,6 @@ impl Vpe {
         self.asks.pop_front()
     }
 
-    /// Counts a call.
     pub fn advance(&mut self)
         requires { self.old.next_call < 4294967295 }
         ensures next_call { self.new ≡ record self.old { next_call = self.old.next_call + 1 } }

@@ -1,6 +1,9 @@
-ghost use Rattle.std.specs.Prelude.{◌≡◌, ◌<◌, ◌≤◌, ◌↔◌, [], ◌∷◌, ◌++◌, length, slice_get, slice_index_or, false, IsTrue, IfOk, IfSome, IsErr, OnOk, OnErr};
+ghost use Rattle.std.specs.Prelude.{◌≡◌, ◌<◌, ◌≤◌, ◌↔◌, [], ◌∷◌, ◌++◌, length, slice_get};
+ghost use Rattle.std.specs.Prelude.{slice_index_or, false, IsTrue, IfOk, IfSome, IsErr, OnOk};
+ghost use Rattle.std.specs.Prelude.{OnErr};
 ghost use Rattle.sem_msg.specs.declared.state.Slot.TheVariants.{Held};
-ghost use Rattle.sem_msg.specs.VpeRows.{row, is_alive, slot as slot_lem, is_taken, call_counted, drawn, with_slot, promised, freed, asked, ask_taken, died};
+ghost use Rattle.sem_msg.specs.VpeRows.{row, is_alive, slot as slot_lem, is_taken, call_counted};
+ghost use Rattle.sem_msg.specs.VpeRows.{drawn, with_slot, promised, freed, asked, ask_taken, died};
 ghost use Rattle.sem_vpe.specs.VpeTable.{IsOurs, IsVpeRow, IsVpeTable};
 ghost use Rattle.sem_vpe.specs.Starting.{IsAsDeclared, start_place, start_table};
 
@@ -11,10 +14,11 @@ use sem_msg::{ASKS, Ask, Setup, Slot};
 use std::alloc::Global;
 use std::marker::Model;
 
-/// What a kernel keeps of its VPEs. A call about a VPE asks that it belongs to this kernel.
+/// What a kernel keeps of its VPEs. Every call about a VPE needs a VPE of this kernel. Only `new`
+/// takes memory.
 #[derive(Debug, Drop)]
 pub struct Vpes {
-    // By VPE number; none for the VPEs of other kernels.
+    // The VPEs, by number; none for the VPEs of other kernels.
     places: Vec<Option<Vpe>>,
 }
 
@@ -30,13 +34,13 @@ impl Model for Vpes {
 }
 
 impl Vpes {
-    /// The VPEs of a kernel as they are at the start. It takes all the memory that they need.
+    /// The VPEs of a kernel at the start. It takes all the memory that they need.
     pub fn new(alloc: Global, setup: &Setup, kernel: u32) -> Result<Self, OutOfMemory>
         ensures start { IfOk result (λ vpes. vpes ≡ start_table setup.now kernel) }
         ensures declared { IfOk result (λ vpes. IsAsDeclared setup.now kernel vpes) }
         ensures table { IfOk result IsVpeTable }
     {
-        // So that the proof knows what a setup keeps.
+        // Shows the proof what a setup keeps.
         let _ = &setup.vpes;
         let mut places = Vec::new(alloc);
         for vpe in 0..VPES {
@@ -87,7 +91,7 @@ impl Vpes {
         self.kept(vpe).asks()
     }
 
-    /// The oldest ask that waits for the VPE; none where no ask waits.
+    /// The oldest ask that waits for the VPE; none if no ask waits.
     pub fn front_ask(&self, vpe: u16) -> Option<Ask>
         requires { IsOurs self.now vpe }
         ensures { result ≡ slice_get (row self.now.rows vpe).asks 0 }
@@ -95,11 +99,12 @@ impl Vpes {
         self.kept(vpe).front_ask()
     }
 
-    /// Promises a selector. Nothing changes where it is held or promised. Takes no memory.
+    /// Promises a selector. If it is held or promised, nothing changes.
     pub fn promise(&mut self, vpe: u16, sel: u8) -> Result<(), Occupied>
         requires { IsOurs self.old vpe }
         ensures occupied { IsErr result ↔ IsTrue (is_taken (slot_lem self.old.rows vpe sel)) }
-        ensures ok { OnOk result (self.new ≡ record self.old { rows = promised vpe sel self.old.rows }) }
+        ensures ok { OnOk result (self.new
+            ≡ record self.old { rows = promised vpe sel self.old.rows }) }
         ensures err { OnErr result (self.new ≡ self.old) }
     {
         let Some(kept) = &mut self.places[usize::from(vpe)] else {
@@ -108,7 +113,7 @@ impl Vpes {
         kept.promise(sel)
     }
 
-    /// Lets the capability of that key stand at a selector. Takes no memory.
+    /// Lets a selector hold the capability of that key.
     pub fn fill(&mut self, vpe: u16, sel: u8, key: Key)
         requires { IsOurs self.old vpe }
         ensures { self.new ≡ record self.old { rows = with_slot vpe sel (Held key) self.old.rows } }
@@ -119,7 +124,7 @@ impl Vpes {
         kept.set(sel, Slot::Held(key));
     }
 
-    /// Makes a selector free. Takes no memory.
+    /// Makes a selector free.
     pub fn release(&mut self, vpe: u16, sel: u8)
         requires { IsOurs self.old vpe }
         ensures { self.new ≡ record self.old { rows = freed vpe sel self.old.rows } }
@@ -130,7 +135,7 @@ impl Vpes {
         kept.set(sel, Slot::Free);
     }
 
-    /// Draws the next number, 0 to 4095. Nothing changes where all 4,096 were drawn. Takes no memory.
+    /// Draws the next number, 0 to 4095. If all 4,096 were drawn, nothing changes.
     pub fn draw(&mut self, vpe: u16) -> Result<u32, Numbers>
         requires { IsOurs self.old vpe }
         ensures numbers { IsErr result ↔ (NUMBERS ≤ (row self.old.rows vpe).next_number) }
@@ -145,11 +150,12 @@ impl Vpes {
         kept.draw()
     }
 
-    /// Appends an ask to those that wait for the VPE, unless 128 wait. Takes no memory.
+    /// Appends an ask to those that wait for the VPE, unless 128 wait.
     pub fn ask(&mut self, vpe: u16, ask: Ask)
         requires { IsOurs self.old vpe }
         ensures asked { self.new ≡ record self.old { rows = asked vpe ask self.old.rows } }
-        ensures appended { length (row self.old.rows vpe).asks < ASKS → (row self.new.rows vpe).asks ≡ (row self.old.rows vpe).asks ++ ask ∷ [] }
+        ensures appended { length (row self.old.rows vpe).asks < ASKS →
+            (row self.new.rows vpe).asks ≡ (row self.old.rows vpe).asks ++ ask ∷ [] }
     {
         let Some(kept) = &mut self.places[usize::from(vpe)] else {
             unreachable!()
@@ -157,7 +163,8 @@ impl Vpes {
         kept.ask(&ask);
     }
 
-    /// Takes out the oldest ask that waits for the VPE; none where no ask waits, and then nothing changes. Takes no memory.
+    /// Takes out the oldest ask that waits for the VPE. If no ask waits, returns none and changes
+    /// nothing.
     pub fn next_ask(&mut self, vpe: u16) -> Option<Ask>
         requires { IsOurs self.old vpe }
         ensures front { result ≡ slice_get (row self.old.rows vpe).asks 0 }
@@ -169,9 +176,9 @@ impl Vpes {
         kept.next_ask()
     }
 
-    /// Counts a call of the VPE. Takes no memory.
+    /// Counts a call of the VPE.
     ///
-    /// Fewer than 4,294,967,295 were counted.
+    /// Fewer than 4,294,967,295 calls may have been counted.
     pub fn advance(&mut self, vpe: u16)
         requires ours { IsOurs self.old vpe }
         requires few { (row self.old.rows vpe).next_call < 4294967295 }
@@ -183,7 +190,7 @@ impl Vpes {
         kept.advance();
     }
 
-    /// Makes the VPE dead. Its selectors and what it was asked stay. Takes no memory.
+    /// Makes the VPE dead. Its selectors and its asks stay.
     pub fn end(&mut self, vpe: u16)
         requires { IsOurs self.old vpe }
         ensures { self.new ≡ record self.old { rows = died vpe self.old.rows } }
@@ -194,7 +201,6 @@ impl Vpes {
         kept.end();
     }
 
-    // Whether the VPE belongs to this kernel.
     #[cfg(test)]
     pub fn is_ours(&self, vpe: u16) -> bool
         ensures { result ≡ slice_index_or self.now.ours vpe false }
@@ -205,7 +211,6 @@ impl Vpes {
         }
     }
 
-    // What is kept of a VPE.
     fn kept(&self, vpe: u16) -> &Vpe
         requires { IsOurs self.now vpe }
         ensures row { result.now ≡ row self.now.rows vpe }
@@ -218,7 +223,7 @@ impl Vpes {
     }
 }
 
-// A VPE as it is at the start, if it belongs to the kernel.
+// A VPE at the start, if it belongs to the kernel.
 fn started(alloc: Global, setup: &Setup, kernel: u32, vpe: u16) -> Result<Option<Vpe>, OutOfMemory>
     ensures place { IfOk result (λ place. place ≡ start_place setup.now kernel vpe) }
     ensures row { IfOk result (λ place. IfSome place IsVpeRow) }

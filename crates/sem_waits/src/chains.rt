@@ -1,11 +1,11 @@
-// How much of a journal had to come one after another.
+// The longest part of a journal that had to come one after another.
 use sem_key::OutOfMemory;
 use sem_msg::{Act, Entry};
 use std::alloc::Global;
 use std::collections::VecDeque;
 
-// By kernel, the length of the chain that ends in its last entry; by link, that of each message
-// that is on it.
+// For each kernel, the length of the chain that ends in its last entry; for each link, that of each
+// message on it.
 #[derive(Debug, Drop)]
 struct Chains {
     kernels: u32,
@@ -14,7 +14,7 @@ struct Chains {
 }
 
 impl Chains {
-    // Before the first entry of so many kernels.
+    // Before the first entry of that many kernels.
     fn new(alloc: Global, kernels: u32) -> Result<Chains, OutOfMemory> {
         let mut last = Vec::new(alloc);
         for _ in 0..kernels {
@@ -31,7 +31,7 @@ impl Chains {
         })
     }
 
-    // Follows an entry. The length of the chain that ends in it.
+    // Follows an entry, and returns the length of the chain that ends in it.
     fn follow(&mut self, entry: &Entry) -> Result<usize, OutOfMemory> {
         let kernel = entry.event.kernel;
         let before = match entry.event.act {
@@ -79,9 +79,9 @@ impl Chains {
     }
 }
 
-/// The greatest number of entries each of which had to wait for the one before: the entries of a
-/// kernel come in turn, and a message is sent before it is taken. So many steps the run takes where
-/// each kernel has a processor of its own.
+/// The length of the longest chain of entries, each of which had to wait for the one before: the
+/// entries of a kernel come in turn, and a message is sent before it is taken. If each kernel has
+/// its own processor, the run takes that many steps.
 pub fn longest_chain(alloc: Global, kernels: u32, entries: &[Entry]) -> Result<usize, OutOfMemory> {
     let mut chains = Chains::new(alloc, kernels)?;
     let mut longest = 0usize;

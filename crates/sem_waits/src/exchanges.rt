@@ -1,8 +1,8 @@
-// The entries of an exchange: what is asked, what is answered, and the messages between kernels. A
-// VPE has one exchange under way at most.
+// The entries of an exchange: the asks, the answers, and the messages between kernels. A VPE has at
+// most one exchange under way.
 use sem_msg::{Detail, Message};
 
-/// The VPE whose exchange an entry with this detail is of, if it is of one.
+/// The VPE whose exchange an entry with this detail belongs to, if there is one.
 pub fn exchanger(detail: &Detail) -> Option<u16> {
     match detail {
         Detail::Asked { asker, .. } => Some(*asker),
@@ -11,7 +11,7 @@ pub fn exchanger(detail: &Detail) -> Option<u16> {
     }
 }
 
-// The VPE whose exchange the message asks for, or answers.
+// The VPE whose exchange the message asks for or answers.
 fn exchanger_by(message: &Message) -> Option<u16> {
     match message {
         Message::ObtainReq { place, .. } | Message::ObtainNo { place, .. } => Some(place.vpe),

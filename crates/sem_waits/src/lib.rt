@@ -1,5 +1,5 @@
-//! The calls of a journal, and what each waited for, entry by entry; how long the longest chain of
-//! entries is that had to wait for each other.
+//! The calls of a journal, and what each waited for, entry by entry; and the length of the longest
+//! chain of entries that had to wait for each other.
 #![tactic(auto)]
 
 mod chains;

@@ -1,10 +1,10 @@
-// The requests of revocations: for which key each asks, and from which key that was made.
+// The requests of revocations: the key that each asks for, and the key that this one was made from.
 use indexmap::IndexMap;
 use sem_key::{Key, OutOfMemory, pack};
 use sem_msg::{Act, Detail, Entry, Message};
 use std::alloc::Global;
 
-/// From which key each key was made, and for which key each request that is out asks.
+/// The key that each key was made from, and the key that each pending request asks for.
 #[derive(Debug, Drop)]
 pub struct Requests {
     parents: IndexMap<u64, Key>,
@@ -12,7 +12,7 @@ pub struct Requests {
 }
 
 impl Requests {
-    /// Nothing is made, and nothing asked for.
+    /// Nothing made and nothing requested yet.
     pub fn new(alloc: Global) -> Requests {
         Requests {
             parents: IndexMap::new(alloc),
@@ -20,7 +20,7 @@ impl Requests {
         }
     }
 
-    /// Notes what the entry makes.
+    /// Notes the key that the entry makes.
     pub fn note_grant(&mut self, entry: &Entry) -> Result<(), OutOfMemory> {
         if let Some((parent, child)) = entry.grant {
             let _ = self.parents.insert(pack(child), parent)?;
@@ -28,13 +28,13 @@ impl Requests {
         Ok(())
     }
 
-    /// The key from which the key was made, if it is known.
+    /// The key that this key was made from, if it is known.
     pub fn parent_of(&self, key: Key) -> Option<Key> {
         self.parents.get(&pack(key)).copied()
     }
 
-    /// The key for which the entry asks, or for which it answers, if it does. What it asks for is
-    /// noted where it is sent.
+    /// The key that the entry requests, or answers a request for, if any. A request is noted when
+    /// it is sent.
     pub fn key_of(&mut self, entry: &Entry) -> Result<Option<Key>, OutOfMemory> {
         let kernel = entry.event.kernel;
         match (&entry.event.act, &entry.detail) {
@@ -44,7 +44,7 @@ impl Requests {
         }
     }
 
-    // The key that a message from a kernel to another is about, where it is sent.
+    // The key of a message from a kernel to another, when it is sent.
     fn sent(&mut self, from: u32, to: u32, message: &Message) -> Result<Option<Key>, OutOfMemory> {
         if let Message::RevokeReq { key, job } = message {
             let _ = self.asked.insert((from, to, *job), *key)?;
@@ -52,7 +52,7 @@ impl Requests {
         Ok(self.taken(from, to, message))
     }
 
-    // The key that a message from a kernel to another is about.
+    // The key of a message from a kernel to another.
     fn taken(&self, from: u32, to: u32, message: &Message) -> Option<Key> {
         match message {
             Message::RevokeReq { key, .. } => Some(*key),

@@ -6,8 +6,8 @@ use sem_msg::{Call, Entry};
 use sem_trace::push_call;
 use std::alloc::Global;
 
-/// The calls that waited, each with the entries that it waited for; of one VPE alone, and of one
-/// number alone, where they are named.
+/// The calls that waited, each with the entries that it waited for; only those of one VPE, and of
+/// one number, if they are named.
 pub fn waits_as_text(
     alloc: Global,
     entries: &[Entry],
@@ -27,7 +27,7 @@ pub fn waits_as_text(
     Ok(out)
 }
 
-// Whether the call waited, and is one of those that are named.
+// Whether the call waited, and is one of the named ones.
 fn is_asked_for(wait: &Wait, vpe: Option<u64>, call: Option<u64>) -> bool {
     wait.end != Some(wait.begin)
         && vpe.is_none_or(|it| it == u64::from(wait.vpe))
@@ -93,7 +93,7 @@ fn push_entry(
     out.push_str(text.as_str())
 }
 
-// The bytes of a text that is printed, which are all of ASCII.
+// The printed bytes, which are all ASCII, as a text.
 fn as_text(alloc: Global, bytes: &[u8]) -> Result<String, OutOfMemory> {
     let mut text = String::new(alloc);
     for byte in bytes {

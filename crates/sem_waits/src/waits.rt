@@ -15,7 +15,7 @@ pub struct Wait {
     pub cut: Option<Key>,
     /// The number of its entry.
     pub begin: usize,
-    /// The number of the entry that answers it, which may be its own; none where it got no answer.
+    /// The number of the entry that answers it, which may be its own; none if it got no answer.
     pub end: Option<usize>,
     /// The numbers of the entries between that it waited for.
     pub between: Vec<usize>,

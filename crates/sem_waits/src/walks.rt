@@ -1,4 +1,4 @@
-// A walk through a journal, which notes for each entry which calls waited for it.
+// A walk through a journal, which notes for each entry the calls that waited for it.
 use crate::exchanges::exchanger;
 use crate::revokes::Requests;
 use crate::waits::Wait;
@@ -10,14 +10,14 @@ use std::alloc::Global;
 #[derive(Debug, Drop)]
 pub struct Walk {
     waits: Vec<Wait>,
-    // By VPE, the place of its open call.
+    // The place of each VPE's open call.
     open: Vec<Option<usize>>,
     requests: Requests,
     followed: usize,
 }
 
 impl Walk {
-    /// Before the first entry.
+    /// The walk before the first entry.
     pub fn new(alloc: Global) -> Result<Walk, OutOfMemory> {
         let mut open = Vec::new(alloc);
         for _ in 0..VPES {
@@ -107,7 +107,7 @@ impl Walk {
         Ok(())
     }
 
-    // Notes that the revocations of the key, and of the keys from which it descends, waited for the
+    // Notes that the revocations of the key, and of the keys that it descends from, waited for the
     // entry.
     fn note_revoke(&mut self, key: Key, number: usize) -> Result<(), OutOfMemory> {
         let mut above = Some(key);

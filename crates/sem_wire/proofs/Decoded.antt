@@ -9,14 +9,17 @@ use Rattle.sem_key.specs.declared.limits.TheConstants.{VPES}
 use Rattle.sem_key.specs.KeyName.{KeyName, IsValidKey, kind_number, packed}
 use Rattle.sem_msg.specs.declared.message.Target.TheVariants.{Sel as SelTarget, Serv as ServTarget, Offer as OfferTarget}
 use Rattle.sem_msg.specs.declared.message.Message.{Message}
-use Rattle.sem_msg.specs.declared.message.Message.TheVariants.{ObtainReq, ObtainOk, ObtainNo, DelegateReq, DelegatePrepared, DelegateNo, Ack, Orphan, RevokeReq, RevokeDone, Unlink}
+use Rattle.sem_msg.specs.declared.message.Message.TheVariants.{ObtainReq, ObtainOk, ObtainNo, DelegateReq, DelegatePrepared, DelegateNo, Ack, Orphan, RevokeReq}
+use Rattle.sem_msg.specs.declared.message.Message.TheVariants.{RevokeDone, Unlink}
 use Rattle.sem_msg.specs.Message.{Fits, IsDelegable}
 use Rattle.sem_wire.specs.declared.fault.WireFault.{WireFault}
 use Rattle.sem_wire.specs.declared.fault.WireFault.TheVariants.{Tag, Field}
 use Rattle.sem_wire.specs.declared.rows.Rows.{Rows}
 use Rattle.sem_wire.specs.Records.{blank, rows_of}
 use Rattle.sem_wire.specs.Grammar.{grammar, first_fault}
-use Rattle.sem_wire.specs.Reading.{◌>>=◌, allowed, unused, key_in, key_at, kind_key_at, place_at, no_index, no_object, no_job, object_in, sel_in, serv_target_in, offer_in, obtain_req_in, obtain_ok_in, obtain_no_in, delegate_req_in, delegate_no_in, ack_in, two_keys_in, of_two, revoke_req_in, revoke_done_in, message_in}
+use Rattle.sem_wire.specs.Reading.{◌>>=◌, allowed, unused, key_in, key_at, kind_key_at, place_at, no_index, no_object, no_job, object_in, sel_in}
+use Rattle.sem_wire.specs.Reading.{serv_target_in, offer_in, obtain_req_in, obtain_ok_in, obtain_no_in, delegate_req_in, delegate_no_in, ack_in, two_keys_in}
+use Rattle.sem_wire.specs.Reading.{of_two, revoke_req_in, revoke_done_in, message_in}
 use Rattle.sem_wire.proofs.SameRows.{same_rows}
 use Rattle.sem_wire.proofs.Words.{both, in_range, out_of_range, word_again}
 use Rattle.sem_wire.proofs.Steps.{fault_in, place_of}
@@ -61,9 +64,13 @@ sel_decoded r m e =
     let s : Rows = record r { tag = 1; form = 1 } in
     let place = place_of (key_in (r.first + 2 ^ 32)) in
     let made : Message = ObtainReq place (SelTarget r.vpe r.index) in
-    let vpe = allowed_ok 2 (nat_lt r.vpe VPES) (λ _. allowed 4 (nat_lt r.index (2 ^ 8)) >>= λ _. unused 6 r.after_index >>= λ _. place_at 8 r.first >>= λ place. unused 16 r.second >>= λ _. no_job s >>= λ _. Ok (ObtainReq place (SelTarget r.vpe r.index))) m e in
-    let index = allowed_ok 4 (nat_lt r.index (2 ^ 8)) (λ _. unused 6 r.after_index >>= λ _. place_at 8 r.first >>= λ place. unused 16 r.second >>= λ _. no_job s >>= λ _. Ok (ObtainReq place (SelTarget r.vpe r.index))) m vpe.1 in
-    let gap = unused_ok 6 r.after_index (λ _. place_at 8 r.first >>= λ place. unused 16 r.second >>= λ _. no_job s >>= λ _. Ok (ObtainReq place (SelTarget r.vpe r.index))) m index.1 in
+    let vpe = allowed_ok 2 (nat_lt r.vpe VPES) (λ _. allowed 4 (nat_lt r.index (2 ^ 8)) >>= λ _. unused 6 r.after_index >>= λ _. place_at 8 r.first >>= λ place.
+    unused 16 r.second >>= λ _. no_job s >>= λ _. Ok (ObtainReq place (SelTarget r.vpe r.index))) m e in
+    let index = allowed_ok 4 (nat_lt r.index (2 ^ 8))
+    (λ _. unused 6 r.after_index >>= λ _. place_at 8 r.first >>= λ place. unused 16 r.second >>= λ _. no_job s >>= λ _. Ok
+    (ObtainReq place (SelTarget r.vpe r.index))) m vpe.1 in
+    let gap = unused_ok 6 r.after_index (λ _. place_at 8 r.first >>= λ place. unused 16 r.second >>= λ _. no_job s >>= λ _. Ok
+    (ObtainReq place (SelTarget r.vpe r.index))) m index.1 in
     let first = place_ok 8 r.first (λ place. unused 16 r.second >>= λ _. no_job s >>= λ _. Ok (ObtainReq place (SelTarget r.vpe r.index))) m gap.1 in
     let second = unused_ok 16 r.second (λ _. no_job s >>= λ _. Ok made) m first.2 in
     let rest = rest_ok s made m second.1 in
@@ -71,7 +78,8 @@ sel_decoded r m e =
     let low : r.index < 2 ^ 8 = ltb-true _ _ index.0 in
     subst (IsDecoded s) rest.2 (record {
       fits = (word.0, (ltb-true _ _ vpe.0, omega (arith, low)));
-      rows = same_rows (rows_of made) s refl refl refl refl (sym gap.0) word.1 (sym second.0) (sym rest.0) (sym rest.1.kind) (sym rest.1.after_kind) (sym rest.1.main) (sym rest.1.more) (sym rest.1.last) (sym rest.1.after_last);
+      rows = same_rows (rows_of made) s refl refl refl refl (sym gap.0) word.1 (sym second.0) (sym rest.0) (sym rest.1.kind) (sym rest.1.after_kind)
+          (sym rest.1.main) (sym rest.1.more) (sym rest.1.last) (sym rest.1.after_last);
     })
 
 serv_target_decoded : (r : Rows) (m : Message) → serv_target_in (record r { tag = 1; form = 2 }) ≡ Ok m → IsDecoded (record r { tag = 1; form = 2 }) m
@@ -80,7 +88,8 @@ serv_target_decoded r m e =
     let s : Rows = record r { tag = 1; form = 2 } in
     let place = place_of (key_in (r.first + 2 ^ 32)) in
     let made : Message = ObtainReq place (ServTarget (key_in r.second)) in
-    let none = no_index_ok s (λ _. place_at 8 r.first >>= λ place. kind_key_at 16 4 r.second >>= λ service. no_job s >>= λ _. Ok (ObtainReq place (ServTarget service))) m e in
+    let none = no_index_ok s (λ _. place_at 8 r.first >>= λ place. kind_key_at 16 4 r.second >>= λ service. no_job s >>= λ _. Ok
+    (ObtainReq place (ServTarget service))) m e in
     let first = place_ok 8 r.first (λ place. kind_key_at 16 4 r.second >>= λ service. no_job s >>= λ _. Ok (ObtainReq place (ServTarget service))) m none.1 in
     let second = kind_key_ok 16 4 r.second (λ service. no_job s >>= λ _. Ok (ObtainReq place (ServTarget service))) m first.2 in
     let rest = rest_ok s made m second.2 in
@@ -88,7 +97,8 @@ serv_target_decoded r m e =
     let service = word_again r.second second.0 in
     subst (IsDecoded s) rest.2 (record {
       fits = (word.0, (service.0, same_kind _ ServKind second.1));
-      rows = same_rows (rows_of made) s refl refl (sym none.0.vpe) (sym none.0.index) (sym none.0.after_index) word.1 service.1 (sym rest.0) (sym rest.1.kind) (sym rest.1.after_kind) (sym rest.1.main) (sym rest.1.more) (sym rest.1.last) (sym rest.1.after_last);
+      rows = same_rows (rows_of made) s refl refl (sym none.0.vpe) (sym none.0.index) (sym none.0.after_index) word.1 service.1 (sym rest.0) (sym rest.1.kind)
+          (sym rest.1.after_kind) (sym rest.1.main) (sym rest.1.more) (sym rest.1.last) (sym rest.1.after_last);
     })
 
 offer_decoded : (r : Rows) (m : Message) → offer_in (record r { tag = 1; form = 3 }) ≡ Ok m → IsDecoded (record r { tag = 1; form = 3 }) m
@@ -97,10 +107,15 @@ offer_decoded r m e =
     let s : Rows = record r { tag = 1; form = 3 } in
     let place = place_of (key_in (r.first + 2 ^ 32)) in
     let made : Message = ObtainReq place (OfferTarget (key_in r.second) r.index) in
-    let vpe = unused_ok 2 r.vpe (λ _. allowed 4 (nat_lt r.index (2 ^ 8)) >>= λ _. unused 6 r.after_index >>= λ _. place_at 8 r.first >>= λ place. kind_key_at 16 4 r.second >>= λ service. no_job s >>= λ _. Ok (ObtainReq place (OfferTarget service r.index))) m e in
-    let index = allowed_ok 4 (nat_lt r.index (2 ^ 8)) (λ _. unused 6 r.after_index >>= λ _. place_at 8 r.first >>= λ place. kind_key_at 16 4 r.second >>= λ service. no_job s >>= λ _. Ok (ObtainReq place (OfferTarget service r.index))) m vpe.1 in
-    let gap = unused_ok 6 r.after_index (λ _. place_at 8 r.first >>= λ place. kind_key_at 16 4 r.second >>= λ service. no_job s >>= λ _. Ok (ObtainReq place (OfferTarget service r.index))) m index.1 in
-    let first = place_ok 8 r.first (λ place. kind_key_at 16 4 r.second >>= λ service. no_job s >>= λ _. Ok (ObtainReq place (OfferTarget service r.index))) m gap.1 in
+    let vpe = unused_ok 2 r.vpe (λ _. allowed 4 (nat_lt r.index (2 ^ 8)) >>= λ _. unused 6 r.after_index >>= λ _. place_at 8 r.first >>= λ place. kind_key_at 16
+    4 r.second >>= λ service. no_job s >>= λ _. Ok (ObtainReq place (OfferTarget service r.index))) m e in
+    let index = allowed_ok 4 (nat_lt r.index (2 ^ 8))
+    (λ _. unused 6 r.after_index >>= λ _. place_at 8 r.first >>= λ place. kind_key_at 16 4 r.second >>= λ service. no_job s >>= λ _. Ok
+    (ObtainReq place (OfferTarget service r.index))) m vpe.1 in
+    let gap = unused_ok 6 r.after_index (λ _. place_at 8 r.first >>= λ place. kind_key_at 16 4 r.second >>= λ service. no_job s >>= λ _. Ok
+    (ObtainReq place (OfferTarget service r.index))) m index.1 in
+    let first = place_ok 8 r.first (λ place. kind_key_at 16 4 r.second >>= λ service. no_job s >>= λ _. Ok (ObtainReq place (OfferTarget service r.index))) m
+    gap.1 in
     let second = kind_key_ok 16 4 r.second (λ service. no_job s >>= λ _. Ok (ObtainReq place (OfferTarget service r.index))) m first.2 in
     let rest = rest_ok s made m second.2 in
     let word = place_again r.first first.0 first.1 in
@@ -108,7 +123,8 @@ offer_decoded r m e =
     let low : r.index < 2 ^ 8 = ltb-true _ _ index.0 in
     subst (IsDecoded s) rest.2 (record {
       fits = (word.0, ((service.0, same_kind _ ServKind second.1), omega (arith, low)));
-      rows = same_rows (rows_of made) s refl refl (sym vpe.0) refl (sym gap.0) word.1 service.1 (sym rest.0) (sym rest.1.kind) (sym rest.1.after_kind) (sym rest.1.main) (sym rest.1.more) (sym rest.1.last) (sym rest.1.after_last);
+      rows = same_rows (rows_of made) s refl refl (sym vpe.0) refl (sym gap.0) word.1 service.1 (sym rest.0) (sym rest.1.kind) (sym rest.1.after_kind)
+          (sym rest.1.main) (sym rest.1.more) (sym rest.1.last) (sym rest.1.after_last);
     })
 
 obtain_req_decoded : Decodes 1 obtain_req_in
@@ -119,12 +135,14 @@ obtain_req_decoded r m e = by_form r.form r e
     by_form (suc zero) r e = sel_decoded r m e
     by_form (suc (suc zero)) r e = serv_target_decoded r m e
     by_form (suc (suc (suc zero))) r e = offer_decoded r m e
-    by_form (suc (suc (suc (suc n)))) r e = absurd (others (record r { tag = 1; form = suc (suc (suc (suc n))) }) (λ k lt. ne_eqb _ k (λ same. omega (arith, lt, same))) e)
+    by_form (suc (suc (suc (suc n)))) r e =
+        absurd (others (record r { tag = 1; form = suc (suc (suc (suc n))) }) (λ k lt. ne_eqb _ k (λ same. omega (arith, lt, same))) e)
       where
         others : (s : Rows) → ((k : ℕ) → k < 4 → (s.form == k) ≡ false) → obtain_req_in s ≡ Ok m → ⊥
         others s none e = refused (subst (λ b. (if b then offer_in s else Err (Field 1)) ≡ Ok m) (none 3 (omega arith))
             (subst (λ b. (if b then serv_target_in s else if s.form == 3 then offer_in s else Err (Field 1)) ≡ Ok m) (none 2 (omega arith))
-            (subst (λ b. (if b then sel_in s else if s.form == 2 then serv_target_in s else if s.form == 3 then offer_in s else Err (Field 1)) ≡ Ok m) (none 1 (omega arith)) e)))
+            (subst (λ b. (if b then sel_in s else if s.form == 2 then serv_target_in s else if s.form == 3 then offer_in s else Err (Field 1)) ≡ Ok m)
+            (none 1 (omega arith)) e)))
 
 -- ---- the others
 
@@ -133,7 +151,8 @@ unfolding obtain_no_in
 obtain_no_decoded r m e =
     let s : Rows = record r { tag = 3 } in
     let made : Message = ObtainNo (place_of (key_in (r.first + 2 ^ 32))) r.form in
-    let code = allowed_ok 1 (is_in_range 1 15 r.form) (λ _. no_index s >>= λ _. place_at 8 r.first >>= λ place. unused 16 r.second >>= λ _. no_job s >>= λ _. Ok (ObtainNo place r.form)) m e in
+    let code = allowed_ok 1 (is_in_range 1 15 r.form) (λ _. no_index s >>= λ _. place_at 8 r.first >>= λ place. unused 16 r.second >>= λ _. no_job s >>= λ _. Ok
+    (ObtainNo place r.form)) m e in
     let none = no_index_ok s (λ _. place_at 8 r.first >>= λ place. unused 16 r.second >>= λ _. no_job s >>= λ _. Ok (ObtainNo place r.form)) m code.1 in
     let first = place_ok 8 r.first (λ place. unused 16 r.second >>= λ _. no_job s >>= λ _. Ok (ObtainNo place r.form)) m none.1 in
     let second = unused_ok 16 r.second (λ _. no_job s >>= λ _. Ok made) m first.2 in
@@ -142,7 +161,8 @@ obtain_no_decoded r m e =
     let range = in_range 1 15 r.form code.0 in
     subst (IsDecoded s) rest.2 (record {
       fits = (word.0, (range.0, range.1));
-      rows = same_rows (rows_of made) s refl refl (sym none.0.vpe) (sym none.0.index) (sym none.0.after_index) word.1 (sym second.0) (sym rest.0) (sym rest.1.kind) (sym rest.1.after_kind) (sym rest.1.main) (sym rest.1.more) (sym rest.1.last) (sym rest.1.after_last);
+      rows = same_rows (rows_of made) s refl refl (sym none.0.vpe) (sym none.0.index) (sym none.0.after_index) word.1 (sym second.0) (sym rest.0)
+          (sym rest.1.kind) (sym rest.1.after_kind) (sym rest.1.main) (sym rest.1.more) (sym rest.1.last) (sym rest.1.after_last);
     })
 
 delegate_no_decoded : Decodes 6 delegate_no_in
@@ -150,7 +170,8 @@ unfolding delegate_no_in
 delegate_no_decoded r m e =
     let s : Rows = record r { tag = 6 } in
     let made : Message = DelegateNo (key_in r.first) r.form in
-    let code = allowed_ok 1 (is_in_range 1 15 r.form) (λ _. no_index s >>= λ _. key_at 8 r.first >>= λ parent. unused 16 r.second >>= λ _. no_job s >>= λ _. Ok (DelegateNo parent r.form)) m e in
+    let code = allowed_ok 1 (is_in_range 1 15 r.form) (λ _. no_index s >>= λ _. key_at 8 r.first >>= λ parent. unused 16 r.second >>= λ _. no_job s >>= λ _. Ok
+    (DelegateNo parent r.form)) m e in
     let none = no_index_ok s (λ _. key_at 8 r.first >>= λ parent. unused 16 r.second >>= λ _. no_job s >>= λ _. Ok (DelegateNo parent r.form)) m code.1 in
     let first = key_ok 8 r.first (λ parent. unused 16 r.second >>= λ _. no_job s >>= λ _. Ok (DelegateNo parent r.form)) m none.1 in
     let second = unused_ok 16 r.second (λ _. no_job s >>= λ _. Ok made) m first.1 in
@@ -159,7 +180,8 @@ delegate_no_decoded r m e =
     let range = in_range 1 15 r.form code.0 in
     subst (IsDecoded s) rest.2 (record {
       fits = (word.0, (range.0, range.1));
-      rows = same_rows (rows_of made) s refl refl (sym none.0.vpe) (sym none.0.index) (sym none.0.after_index) word.1 (sym second.0) (sym rest.0) (sym rest.1.kind) (sym rest.1.after_kind) (sym rest.1.main) (sym rest.1.more) (sym rest.1.last) (sym rest.1.after_last);
+      rows = same_rows (rows_of made) s refl refl (sym none.0.vpe) (sym none.0.index) (sym none.0.after_index) word.1 (sym second.0) (sym rest.0)
+          (sym rest.1.kind) (sym rest.1.after_kind) (sym rest.1.main) (sym rest.1.more) (sym rest.1.last) (sym rest.1.after_last);
     })
 
 -- yes or no
@@ -173,7 +195,8 @@ unfolding ack_in
 ack_decoded r m e =
     let s : Rows = record r { tag = 7 } in
     let made : Message = Ack (key_in r.first) (r.form == 1) in
-    let answer = allowed_ok 1 (nat_le r.form 1) (λ _. no_index s >>= λ _. key_at 8 r.first >>= λ key. unused 16 r.second >>= λ _. no_job s >>= λ _. Ok (Ack key (r.form == 1))) m e in
+    let answer = allowed_ok 1 (nat_le r.form 1) (λ _. no_index s >>= λ _. key_at 8 r.first >>= λ key. unused 16 r.second >>= λ _. no_job s >>= λ _. Ok
+    (Ack key (r.form == 1))) m e in
     let none = no_index_ok s (λ _. key_at 8 r.first >>= λ key. unused 16 r.second >>= λ _. no_job s >>= λ _. Ok (Ack key (r.form == 1))) m answer.1 in
     let first = key_ok 8 r.first (λ key. unused 16 r.second >>= λ _. no_job s >>= λ _. Ok (Ack key (r.form == 1))) m none.1 in
     let second = unused_ok 16 r.second (λ _. no_job s >>= λ _. Ok made) m first.1 in
@@ -181,20 +204,37 @@ ack_decoded r m e =
     let word = word_again r.first first.0 in
     subst (IsDecoded s) rest.2 (record {
       fits = word.0;
-      rows = same_rows (rows_of made) s refl (flag r.form (leb-true _ _ answer.0)) (sym none.0.vpe) (sym none.0.index) (sym none.0.after_index) word.1 (sym second.0) (sym rest.0) (sym rest.1.kind) (sym rest.1.after_kind) (sym rest.1.main) (sym rest.1.more) (sym rest.1.last) (sym rest.1.after_last);
+      rows = same_rows (rows_of made) s refl (flag r.form (leb-true _ _ answer.0)) (sym none.0.vpe) (sym none.0.index) (sym none.0.after_index) word.1
+          (sym second.0) (sym rest.0) (sym rest.1.kind) (sym rest.1.after_kind) (sym rest.1.main) (sym rest.1.more) (sym rest.1.last) (sym rest.1.after_last);
     })
 
 -- a parent and a key, and nothing else
 record IsTwoKeys (r : Rows) (keys : KeyName × KeyName) : Type 0 where
   parent : IsValidKey keys.0
   key : IsValidKey keys.1
-  rows : (tag : ℕ) → record { tag = tag; form = 0; vpe = 0; index = 0; after_index = 0; first = packed keys.0; second = packed keys.1; job = 0; kind = 0; after_kind = 0; main = 0; more = 0; last = 0; after_last = 0 } ≡ record r { tag = tag }
+  rows : (tag : ℕ) → record {
+    tag = tag;
+    form = 0;
+    vpe = 0;
+    index = 0;
+    after_index = 0;
+    first = packed keys.0;
+    second = packed keys.1;
+    job = 0;
+    kind = 0;
+    after_kind = 0;
+    main = 0;
+    more = 0;
+    last = 0;
+    after_last = 0;
+  } ≡ record r { tag = tag }
 
 two_keys_decoded : (r : Rows) (keys : KeyName × KeyName) → two_keys_in r ≡ Ok keys → IsTwoKeys r keys
 unfolding two_keys_in
 two_keys_decoded r keys e =
     let made : KeyName × KeyName = (key_in r.first, key_in r.second) in
-    let form = unused_ok 1 r.form (λ _. no_index r >>= λ _. key_at 8 r.first >>= λ parent. key_at 16 r.second >>= λ key. no_job r >>= λ _. Ok (parent, key)) keys e in
+    let form = unused_ok 1 r.form (λ _. no_index r >>= λ _. key_at 8 r.first >>= λ parent. key_at 16 r.second >>= λ key. no_job r >>= λ _. Ok (parent, key))
+    keys e in
     let none = no_index_ok r (λ _. key_at 8 r.first >>= λ parent. key_at 16 r.second >>= λ key. no_job r >>= λ _. Ok (parent, key)) keys form.1 in
     let first = key_ok 8 r.first (λ parent. key_at 16 r.second >>= λ key. no_job r >>= λ _. Ok (parent, key)) keys none.1 in
     let second = key_ok 16 r.second (λ key. no_job r >>= λ _. Ok (key_in r.first, key)) keys first.1 in
@@ -204,7 +244,8 @@ two_keys_decoded r keys e =
     subst (IsTwoKeys r) rest.2 (record {
       parent = one.0;
       key = two.0;
-      rows = λ tag. same_rows _ (record r { tag = tag }) refl (sym form.0) (sym none.0.vpe) (sym none.0.index) (sym none.0.after_index) one.1 two.1 (sym rest.0) (sym rest.1.kind) (sym rest.1.after_kind) (sym rest.1.main) (sym rest.1.more) (sym rest.1.last) (sym rest.1.after_last);
+      rows = λ tag. same_rows _ (record r { tag = tag }) refl (sym form.0) (sym none.0.vpe) (sym none.0.index) (sym none.0.after_index) one.1 two.1 (sym rest.0)
+          (sym rest.1.kind) (sym rest.1.after_kind) (sym rest.1.main) (sym rest.1.more) (sym rest.1.last) (sym rest.1.after_last);
     })
 
 prepared_decoded : Decodes 5 (of_two DelegatePrepared)
@@ -230,7 +271,8 @@ unfolding revoke_req_in
 revoke_req_decoded r m low e =
     let s : Rows = record r { tag = 9 } in
     let made : Message = RevokeReq (key_in r.first) r.job in
-    let form = unused_ok 1 r.form (λ _. no_index s >>= λ _. key_at 8 r.first >>= λ key. unused 16 r.second >>= λ _. no_object s >>= λ _. Ok (RevokeReq key r.job)) m e in
+    let form = unused_ok 1 r.form (λ _. no_index s >>= λ _. key_at 8 r.first >>= λ key. unused 16 r.second >>= λ _. no_object s >>= λ _. Ok
+    (RevokeReq key r.job)) m e in
     let none = no_index_ok s (λ _. key_at 8 r.first >>= λ key. unused 16 r.second >>= λ _. no_object s >>= λ _. Ok (RevokeReq key r.job)) m form.1 in
     let first = key_ok 8 r.first (λ key. unused 16 r.second >>= λ _. no_object s >>= λ _. Ok (RevokeReq key r.job)) m none.1 in
     let second = unused_ok 16 r.second (λ _. no_object s >>= λ _. Ok made) m first.1 in
@@ -238,7 +280,8 @@ revoke_req_decoded r m low e =
     let word = word_again r.first first.0 in
     subst (IsDecoded s) rest.1 (record {
       fits = (word.0, omega (arith, low));
-      rows = same_rows (rows_of made) s refl (sym form.0) (sym none.0.vpe) (sym none.0.index) (sym none.0.after_index) word.1 (sym second.0) refl (sym rest.0.kind) (sym rest.0.after_kind) (sym rest.0.main) (sym rest.0.more) (sym rest.0.last) (sym rest.0.after_last);
+      rows = same_rows (rows_of made) s refl (sym form.0) (sym none.0.vpe) (sym none.0.index) (sym none.0.after_index) word.1 (sym second.0) refl
+          (sym rest.0.kind) (sym rest.0.after_kind) (sym rest.0.main) (sym rest.0.more) (sym rest.0.last) (sym rest.0.after_last);
     })
 
 revoke_done_decoded : (r : Rows) (m : Message) → r.job < 2 ^ 32 → revoke_done_in (record r { tag = 10 }) ≡ Ok m → IsDecoded (record r { tag = 10 }) m
@@ -253,19 +296,26 @@ revoke_done_decoded r m low e =
     let rest = end_ok s made m second.1 in
     subst (IsDecoded s) rest.1 (record {
       fits = omega (arith, low);
-      rows = same_rows (rows_of made) s refl (sym form.0) (sym none.0.vpe) (sym none.0.index) (sym none.0.after_index) (sym first.0) (sym second.0) refl (sym rest.0.kind) (sym rest.0.after_kind) (sym rest.0.main) (sym rest.0.more) (sym rest.0.last) (sym rest.0.after_last);
+      rows = same_rows (rows_of made) s refl (sym form.0) (sym none.0.vpe) (sym none.0.index) (sym none.0.after_index) (sym first.0) (sym second.0) refl
+          (sym rest.0.kind) (sym rest.0.after_kind) (sym rest.0.main) (sym rest.0.more) (sym rest.0.last) (sym rest.0.after_last);
     })
 
 obtain_ok_decoded : Decodes 2 obtain_ok_in
 unfolding obtain_ok_in
 obtain_ok_decoded r m e =
     let s : Rows = record r { tag = 2 } in
-    let form = unused_ok 1 r.form (λ _. no_index s >>= λ _. key_at 8 r.first >>= λ parent. key_at 16 r.second >>= λ key. unused 24 r.job >>= λ _. allowed 28 (r.kind == kind_number key.kind) >>= λ _. object_in s >>= λ object. Ok (ObtainOk parent key object)) m e in
-    let none = no_index_ok s (λ _. key_at 8 r.first >>= λ parent. key_at 16 r.second >>= λ key. unused 24 r.job >>= λ _. allowed 28 (r.kind == kind_number key.kind) >>= λ _. object_in s >>= λ object. Ok (ObtainOk parent key object)) m form.1 in
-    let first = key_ok 8 r.first (λ parent. key_at 16 r.second >>= λ key. unused 24 r.job >>= λ _. allowed 28 (r.kind == kind_number key.kind) >>= λ _. object_in s >>= λ object. Ok (ObtainOk parent key object)) m none.1 in
-    let second = key_ok 16 r.second (λ key. unused 24 r.job >>= λ _. allowed 28 (r.kind == kind_number key.kind) >>= λ _. object_in s >>= λ object. Ok (ObtainOk (key_in r.first) key object)) m first.1 in
-    let job = unused_ok 24 r.job (λ _. allowed 28 (r.kind == kind_number (key_in r.second).kind) >>= λ _. object_in s >>= λ object. Ok (ObtainOk (key_in r.first) (key_in r.second) object)) m second.1 in
-    let kind = allowed_ok 28 (r.kind == kind_number (key_in r.second).kind) (λ _. object_in s >>= λ object. Ok (ObtainOk (key_in r.first) (key_in r.second) object)) m job.1 in
+    let form = unused_ok 1 r.form (λ _. no_index s >>= λ _. key_at 8 r.first >>= λ parent. key_at 16 r.second >>= λ key. unused 24 r.job >>= λ _. allowed 28
+    (r.kind == kind_number key.kind) >>= λ _. object_in s >>= λ object. Ok (ObtainOk parent key object)) m e in
+    let none = no_index_ok s (λ _. key_at 8 r.first >>= λ parent. key_at 16 r.second >>= λ key. unused 24 r.job >>= λ _. allowed 28
+    (r.kind == kind_number key.kind) >>= λ _. object_in s >>= λ object. Ok (ObtainOk parent key object)) m form.1 in
+    let first = key_ok 8 r.first (λ parent. key_at 16 r.second >>= λ key. unused 24 r.job >>= λ _. allowed 28 (r.kind == kind_number key.kind) >>= λ _.
+    object_in s >>= λ object. Ok (ObtainOk parent key object)) m none.1 in
+    let second = key_ok 16 r.second (λ key. unused 24 r.job >>= λ _. allowed 28 (r.kind == kind_number key.kind) >>= λ _. object_in s >>= λ object. Ok
+    (ObtainOk (key_in r.first) key object)) m first.1 in
+    let job = unused_ok 24 r.job (λ _. allowed 28 (r.kind == kind_number (key_in r.second).kind) >>= λ _. object_in s >>= λ object. Ok
+    (ObtainOk (key_in r.first) (key_in r.second) object)) m second.1 in
+    let kind = allowed_ok 28 (r.kind == kind_number (key_in r.second).kind)
+    (λ _. object_in s >>= λ object. Ok (ObtainOk (key_in r.first) (key_in r.second) object)) m job.1 in
     let found = bind_ok (object_in s) (λ object. Ok (ObtainOk (key_in r.first) (key_in r.second) object)) m kind.1 in
     let agrees : r.kind ≡ kind_number (key_in r.second).kind = eqb-true _ _ kind.0 in
     let object = object_read s found.0 (ap (is_in_range 1 5) agrees ∙ ranged_kind (key_in r.second).kind) found.1 in
@@ -274,7 +324,8 @@ obtain_ok_decoded r m e =
     subst (IsDecoded s) (ok_is (ObtainOk (key_in r.first) (key_in r.second) found.0) m found.2) (record {
       fits = (one.0, two.0, object.2.valid, same_kind _ _ (sym agrees ∙ sym object.2.kind));
       rows = object.2.rows (record blank { tag = 2; first = packed (key_in r.first); second = packed (key_in r.second) })
-          ∙ same_rows _ s refl (sym form.0) (sym none.0.vpe) (sym none.0.index) (sym none.0.after_index) one.1 two.1 (sym job.0) refl (sym object.0) refl refl refl (sym object.1);
+          ∙ same_rows _ s refl (sym form.0) (sym none.0.vpe) (sym none.0.index) (sym none.0.after_index) one.1 two.1 (sym job.0) refl
+          (sym object.0) refl refl refl (sym object.1);
     })
 
 delegate_req_decoded : Decodes 4 delegate_req_in
@@ -282,13 +333,23 @@ unfolding delegate_req_in
 delegate_req_decoded r m e =
     let s : Rows = record r { tag = 4 } in
     let delegable : KeyName → Bool = λ parent. is_in_range 1 3 r.kind && (r.kind == kind_number parent.kind) in
-    let form = unused_ok 1 r.form (λ _. allowed 2 (nat_lt r.vpe VPES) >>= λ _. allowed 4 (nat_lt r.index (2 ^ 8)) >>= λ _. unused 6 r.after_index >>= λ _. key_at 8 r.first >>= λ parent. unused 16 r.second >>= λ _. unused 24 r.job >>= λ _. allowed 28 (delegable parent) >>= λ _. object_in s >>= λ object. Ok (DelegateReq parent object r.vpe r.index)) m e in
-    let vpe = allowed_ok 2 (nat_lt r.vpe VPES) (λ _. allowed 4 (nat_lt r.index (2 ^ 8)) >>= λ _. unused 6 r.after_index >>= λ _. key_at 8 r.first >>= λ parent. unused 16 r.second >>= λ _. unused 24 r.job >>= λ _. allowed 28 (delegable parent) >>= λ _. object_in s >>= λ object. Ok (DelegateReq parent object r.vpe r.index)) m form.1 in
-    let index = allowed_ok 4 (nat_lt r.index (2 ^ 8)) (λ _. unused 6 r.after_index >>= λ _. key_at 8 r.first >>= λ parent. unused 16 r.second >>= λ _. unused 24 r.job >>= λ _. allowed 28 (delegable parent) >>= λ _. object_in s >>= λ object. Ok (DelegateReq parent object r.vpe r.index)) m vpe.1 in
-    let gap = unused_ok 6 r.after_index (λ _. key_at 8 r.first >>= λ parent. unused 16 r.second >>= λ _. unused 24 r.job >>= λ _. allowed 28 (delegable parent) >>= λ _. object_in s >>= λ object. Ok (DelegateReq parent object r.vpe r.index)) m index.1 in
-    let first = key_ok 8 r.first (λ parent. unused 16 r.second >>= λ _. unused 24 r.job >>= λ _. allowed 28 (delegable parent) >>= λ _. object_in s >>= λ object. Ok (DelegateReq parent object r.vpe r.index)) m gap.1 in
-    let second = unused_ok 16 r.second (λ _. unused 24 r.job >>= λ _. allowed 28 (delegable (key_in r.first)) >>= λ _. object_in s >>= λ object. Ok (DelegateReq (key_in r.first) object r.vpe r.index)) m first.1 in
-    let job = unused_ok 24 r.job (λ _. allowed 28 (delegable (key_in r.first)) >>= λ _. object_in s >>= λ object. Ok (DelegateReq (key_in r.first) object r.vpe r.index)) m second.1 in
+    let form = unused_ok 1 r.form (λ _. allowed 2 (nat_lt r.vpe VPES) >>= λ _. allowed 4 (nat_lt r.index (2 ^ 8)) >>= λ _. unused 6 r.after_index >>= λ _.
+    key_at 8 r.first >>= λ parent. unused 16 r.second >>= λ _. unused 24 r.job >>= λ _. allowed 28 (delegable parent) >>= λ _. object_in s >>= λ object. Ok
+    (DelegateReq parent object r.vpe r.index)) m e in
+    let vpe = allowed_ok 2 (nat_lt r.vpe VPES) (λ _. allowed 4 (nat_lt r.index (2 ^ 8)) >>= λ _. unused 6 r.after_index >>= λ _. key_at 8 r.first >>= λ parent.
+    unused 16 r.second >>= λ _. unused 24 r.job >>= λ _. allowed 28 (delegable parent) >>= λ _. object_in s >>= λ object. Ok
+    (DelegateReq parent object r.vpe r.index)) m form.1 in
+    let index = allowed_ok 4 (nat_lt r.index (2 ^ 8))
+    (λ _. unused 6 r.after_index >>= λ _. key_at 8 r.first >>= λ parent. unused 16 r.second >>= λ _. unused 24 r.job >>= λ _. allowed 28
+    (delegable parent) >>= λ _. object_in s >>= λ object. Ok (DelegateReq parent object r.vpe r.index)) m vpe.1 in
+    let gap = unused_ok 6 r.after_index (λ _. key_at 8 r.first >>= λ parent. unused 16 r.second >>= λ _. unused 24 r.job >>= λ _. allowed 28
+    (delegable parent) >>= λ _. object_in s >>= λ object. Ok (DelegateReq parent object r.vpe r.index)) m index.1 in
+    let first = key_ok 8 r.first (λ parent. unused 16 r.second >>= λ _. unused 24 r.job >>= λ _. allowed 28 (delegable parent) >>= λ _. object_in s >>=
+    λ object. Ok (DelegateReq parent object r.vpe r.index)) m gap.1 in
+    let second = unused_ok 16 r.second (λ _. unused 24 r.job >>= λ _. allowed 28 (delegable (key_in r.first)) >>= λ _. object_in s >>= λ object. Ok
+    (DelegateReq (key_in r.first) object r.vpe r.index)) m first.1 in
+    let job = unused_ok 24 r.job (λ _. allowed 28 (delegable (key_in r.first)) >>= λ _. object_in s >>= λ object. Ok
+    (DelegateReq (key_in r.first) object r.vpe r.index)) m second.1 in
     let kind = allowed_ok 28 (delegable (key_in r.first)) (λ _. object_in s >>= λ object. Ok (DelegateReq (key_in r.first) object r.vpe r.index)) m job.1 in
     let found = bind_ok (object_in s) (λ object. Ok (DelegateReq (key_in r.first) object r.vpe r.index)) m kind.1 in
     let tests = both (is_in_range 1 3 r.kind) (r.kind == kind_number (key_in r.first).kind) kind.0 in
@@ -297,7 +358,15 @@ delegate_req_decoded r m e =
     let object = object_read s found.0 (ap (is_in_range 1 5) agrees ∙ ranged_kind (key_in r.first).kind) found.1 in
     let one = word_again r.first first.0 in
     subst (IsDecoded s) (ok_is (DelegateReq (key_in r.first) found.0 r.vpe r.index) m found.2) (record {
-      fits = (one.0, object.2.valid, same_kind _ _ (sym agrees ∙ sym object.2.kind), delegable_kind (key_in r.first).kind (ap (is_in_range 1 3) (sym agrees) ∙ tests.0), ltb-true _ _ vpe.0, omega (arith, low));
+      fits = (
+        one.0,
+        object.2.valid,
+        same_kind _ _ (sym agrees ∙ sym object.2.kind),
+        delegable_kind (key_in r.first).kind (ap (is_in_range 1 3) (sym agrees)
+            ∙ tests.0),
+        ltb-true _ _ vpe.0,
+        omega (arith, low),
+      );
       rows = object.2.rows (record blank { tag = 4; vpe = r.vpe; index = r.index; first = packed (key_in r.first) })
           ∙ same_rows _ s refl (sym form.0) refl refl (sym gap.0) one.1 (sym second.0) (sym job.0) refl (sym object.0) refl refl refl (sym object.1);
     })
@@ -321,5 +390,6 @@ message_decoded r m low e = by_tag r.tag r low e
     by_tag (suc (suc (suc (suc (suc (suc (suc (suc (suc (suc (suc zero))))))))))) r low e = unlink_decoded r m e
     by_tag (suc (suc (suc (suc (suc (suc (suc (suc (suc (suc (suc (suc n)))))))))))) r low e =
         let s : Rows = record r { tag = suc (suc (suc (suc (suc (suc (suc (suc (suc (suc (suc (suc n))))))))))) } in
-        let fault : fault_in (message_in s) ≡ Some Tag = reads_to_the_fault s ∙ ap (λ b. if b then first_fault (grammar s) else Some Tag) (out_of_range 1 11 s.tag (omega arith)) in
+        let fault : fault_in (message_in s) ≡ Some Tag = reads_to_the_fault s
+        ∙ ap (λ b. if b then first_fault (grammar s) else Some Tag) (out_of_range 1 11 s.tag (omega arith)) in
         absurd (no_fault (sym (ap fault_in e) ∙ fault))

@@ -10,10 +10,13 @@ use Rattle.sem_key.specs.KeyName.{kind_number}
 use Rattle.sem_msg.specs.declared.message.Message.{Message}
 use Rattle.sem_msg.specs.declared.message.Message.TheVariants.{DelegatePrepared, Orphan, Unlink}
 use Rattle.sem_wire.specs.Grammar.{Row, row, gap, grammar, wire_fault, kind_in, is_key, is_owned, main_allowed, more_allowed, last_allowed}
-use Rattle.sem_wire.specs.Reading.{◌>>=◌, allowed, unused, kind_key_at, kind_at, no_index, no_object, no_job, mem_in, recv_in, send_in, serv_in, sess_in, of_kind, object_in, sel_in, serv_target_in, offer_in, obtain_req_in, obtain_ok_in, obtain_no_in, delegate_req_in, delegate_no_in, ack_in, two_keys_in, of_two, revoke_req_in, revoke_done_in, message_in}
+use Rattle.sem_wire.specs.Reading.{◌>>=◌, allowed, unused, kind_key_at, kind_at, no_index, no_object, no_job, mem_in, recv_in, send_in, serv_in, sess_in}
+use Rattle.sem_wire.specs.Reading.{of_kind, object_in, sel_in, serv_target_in, offer_in, obtain_req_in, obtain_ok_in, obtain_no_in, delegate_req_in}
+use Rattle.sem_wire.specs.Reading.{delegate_no_in, ack_in, two_keys_in, of_two, revoke_req_in, revoke_done_in, message_in}
 use Rattle.std.proofs.lemmas.Bool.{ne_eqb, eqb-true}
 use Rattle.sem_wire.proofs.Words.{both, renumbered, in_range, range_in, out_of_range}
-use Rattle.sem_wire.proofs.Steps.{fault_in, Says, then_says, passed, failed, allowed_as, then_step, allowed_step, unused_step, unused_end, key_step, kind_key_step, place_step}
+use Rattle.sem_wire.proofs.Steps.{fault_in, Says, then_says, passed, failed, allowed_as, then_step, allowed_step, unused_step, unused_end, key_step}
+use Rattle.sem_wire.proofs.Steps.{kind_key_step, place_step}
 
 -- ---- rows that stand together
 
@@ -21,16 +24,21 @@ no_index_step : {B : Type 0} (r : Rows) (b2 b4 : Bool) (f : Unit {0} → Result 
     Says (no_index r >>= f) (row 2 r.vpe false b2 ∷ row 4 r.index false b4 ∷ gap 6 r.after_index ∷ rows)
 unfolding no_index
 no_index_step r b2 b4 f rows go =
-    then_step (unused 2 r.vpe) _ f _ (unused_step 2 r.vpe b2 _ _ (then_step (unused 4 r.index) _ f _ (unused_step 4 r.index b4 _ _ (unused_step 6 r.after_index true f rows go))))
+    then_step (unused 2 r.vpe) _ f _
+    (unused_step 2 r.vpe b2 _ _ (then_step (unused 4 r.index) _ f _ (unused_step 4 r.index b4 _ _ (unused_step 6 r.after_index true f rows go))))
 
 no_object_fault : (r : Rows) (b28 b32 b40 b48 : Bool) →
-    Says (no_object r) (row 28 r.kind false b28 ∷ gap 29 r.after_kind ∷ row 32 r.main false b32 ∷ row 40 r.more false b40 ∷ row 48 r.last false b48 ∷ gap 56 r.after_last ∷ [])
+    Says (no_object r) (row 28 r.kind false b28 ∷ gap 29 r.after_kind ∷ row 32 r.main false b32 ∷ row 40 r.more false b40 ∷ row 48 r.last false b48
+    ∷ gap 56 r.after_last ∷ [])
 unfolding no_object
 no_object_fault r b28 b32 b40 b48 =
-    unused_step 28 r.kind b28 _ _ (unused_step 29 r.after_kind true _ _ (unused_step 32 r.main b32 _ _ (unused_step 40 r.more b40 _ _ (unused_step 48 r.last b48 _ _ (unused_end 56 r.after_last true)))))
+    unused_step 28 r.kind b28 _ _
+    (unused_step 29 r.after_kind true _ _
+    (unused_step 32 r.main b32 _ _ (unused_step 40 r.more b40 _ _ (unused_step 48 r.last b48 _ _ (unused_end 56 r.after_last true)))))
 
 no_job_fault : (r : Rows) (b24 b28 b32 b40 b48 : Bool) →
-    Says (no_job r) (row 24 r.job false b24 ∷ row 28 r.kind false b28 ∷ gap 29 r.after_kind ∷ row 32 r.main false b32 ∷ row 40 r.more false b40 ∷ row 48 r.last false b48 ∷ gap 56 r.after_last ∷ [])
+    Says (no_job r) (row 24 r.job false b24 ∷ row 28 r.kind false b28 ∷ gap 29 r.after_kind ∷ row 32 r.main false b32 ∷ row 40 r.more false b40
+    ∷ row 48 r.last false b48 ∷ gap 56 r.after_last ∷ [])
 unfolding no_job
 no_job_fault r b24 b28 b32 b40 b48 = unused_step 24 r.job b24 _ _ (no_object_fault r b28 b32 b40 b48)
 
@@ -85,7 +93,8 @@ module _ {B : Type 0} (f : Object → Result B WireFault) (rows : List Row) (go 
 abbrev one_of : List ℕ → ℕ → Bool
 one_of kinds kind = list_any (λ k. kind == k) kinds
 
-kind_step : {B : Type 0} (kind : ℕ) (r : Rows) → is_in_range 1 5 kind ≡ true → (f : Object → Result B WireFault) (rows : List Row) → ((o : Object) → Says (f o) rows) →
+kind_step : {B : Type 0} (kind : ℕ) (r : Rows) → is_in_range 1 5 kind ≡ true → (f : Object → Result B WireFault) (rows : List Row) →
+    ((o : Object) → Says (f o) rows) →
     Says (of_kind kind (record r { kind = kind }) >>= f) (object_rows (record r { kind = kind }) (one_of (1 ∷ 3 ∷ 5 ∷ []) kind) (one_of (1 ∷ 3 ∷ []) kind) rows)
 kind_step (suc zero) r e f rows go = mem_step f rows go r
 kind_step (suc (suc zero)) r e f rows go = recv_step f rows go r
@@ -108,7 +117,9 @@ SaysSo tag reader = (r : Rows) → Says (reader (record r { tag = tag })) (gramm
 
 -- the rows behind a last key or place
 abbrev rest_says : (s : Rows) (b24 b28 b32 b40 b48 : Bool) {B : Type 0} (x : B) → Type 0
-rest_says s b24 b28 b32 b40 b48 x = Says (no_job s >>= λ rest. Ok x) (row 24 s.job false b24 ∷ row 28 s.kind false b28 ∷ gap 29 s.after_kind ∷ row 32 s.main false b32 ∷ row 40 s.more false b40 ∷ row 48 s.last false b48 ∷ gap 56 s.after_last ∷ [])
+rest_says s b24 b28 b32 b40 b48 x =
+    Says (no_job s >>= λ rest. Ok x) (row 24 s.job false b24 ∷ row 28 s.kind false b28 ∷ gap 29 s.after_kind ∷ row 32 s.main false b32 ∷ row 40 s.more false b40
+    ∷ row 48 s.last false b48 ∷ gap 56 s.after_last ∷ [])
 
 rest : (s : Rows) (b24 b28 b32 b40 b48 : Bool) {B : Type 0} (x : B) → rest_says s b24 b28 b32 b40 b48 x
 rest s b24 b28 b32 b40 b48 x = then_says (no_job s) (λ rest. x) _ (no_job_fault s b24 b28 b32 b40 b48)
@@ -145,7 +156,8 @@ obtain_req_says r = by_form r.form r
     by_form (suc (suc zero)) r = serv_target_says r
     by_form (suc (suc (suc zero))) r = offer_says r
     by_form (suc (suc (suc (suc n)))) r =
-        rw (beyond n 1 (omega arith), beyond n 2 (omega arith), beyond n 3 (omega arith), out_of_range 1 3 (suc (suc (suc (suc n)))) (omega arith)) (failed 1 (suc (suc (suc (suc n)))) _)
+        rw (beyond n 1 (omega arith), beyond n 2 (omega arith), beyond n 3 (omega arith), out_of_range 1 3 (suc (suc (suc (suc n)))) (omega arith))
+        (failed 1 (suc (suc (suc (suc n)))) _)
 
 obtain_no_says : SaysSo 3 obtain_no_in
 unfolding obtain_no_in
@@ -205,7 +217,8 @@ unfolding obtain_ok_in
 obtain_ok_says r =
     let s : Rows = record r { tag = 2 } in
     unused_step 1 r.form _ _ _ (no_index_step s _ _ _ _ (key_step 8 r.first _ _ (λ _. key_step 16 r.second _ _ (λ key. unused_step 24 r.job _ _ _ (
-    allowed_as 28 r.kind _ _ (kind_as r.second r.kind key) _ _ (λ same. then_says (object_in s) _ _ (object_fault s (kind_ranged r.second r.kind key same))))))))
+    allowed_as 28 r.kind _ _ (kind_as r.second r.kind key) _ _
+    (λ same. then_says (object_in s) _ _ (object_fault s (kind_ranged r.second r.kind key same))))))))
   where
     kind_ranged : (w kind : ℕ) → is_key w ≡ true → (kind == kind_in w) ≡ true → is_in_range 1 5 kind ≡ true
     kind_ranged w kind key same = ap (is_in_range 1 5) (eqb-true kind (kind_in w) same) ∙ (both (is_in_range 1 5 (kind_in w)) (is_owned w) key).0
@@ -216,7 +229,8 @@ delegate_req_says r =
     let s : Rows = record r { tag = 4 } in
     unused_step 1 r.form _ _ _ (allowed_step 2 r.vpe _ _ _ (λ _. allowed_step 4 r.index _ _ _ (λ _. unused_step 6 r.after_index _ _ _ (
     key_step 8 r.first _ _ (λ key. unused_step 16 r.second _ _ _ (unused_step 24 r.job _ _ _ (
-    allowed_as 28 r.kind _ _ (ap (λ b. is_in_range 1 3 r.kind && b) (kind_as r.first r.kind key)) _ _ (λ is. then_says (object_in s) _ _ (object_fault s (wider r.kind (both (is_in_range 1 3 r.kind) _ is).0))))))))))
+    allowed_as 28 r.kind _ _ (ap (λ b. is_in_range 1 3 r.kind && b) (kind_as r.first r.kind key)) _ _
+    (λ is. then_says (object_in s) _ _ (object_fault s (wider r.kind (both (is_in_range 1 3 r.kind) _ is).0))))))))))
   where
     wider : (kind : ℕ) → is_in_range 1 3 kind ≡ true → is_in_range 1 5 kind ≡ true
     wider kind e = let h = in_range 1 3 kind e in range_in 1 5 kind h.0 (omega (arith, h.1))
@@ -239,7 +253,8 @@ reads_to_the_fault r = by_tag r.tag r
     by_tag (suc (suc (suc (suc (suc (suc (suc (suc (suc (suc zero)))))))))) r = (revoke_done_says r).fault
     by_tag (suc (suc (suc (suc (suc (suc (suc (suc (suc (suc (suc zero))))))))))) r = (unlink_says r).fault
     by_tag (suc (suc (suc (suc (suc (suc (suc (suc (suc (suc (suc (suc n)))))))))))) r =
-        let no : (k : ℕ) → k < 12 → (suc (suc (suc (suc (suc (suc (suc (suc (suc (suc (suc (suc n))))))))))) == k) ≡ false = λ k lt. ne_eqb _ k (λ e. omega (arith, lt, e)) in
+        let no : (k : ℕ) → k < 12 → (suc (suc (suc (suc (suc (suc (suc (suc (suc (suc (suc (suc n))))))))))) == k) ≡ false =
+        λ k lt. ne_eqb _ k (λ e. omega (arith, lt, e)) in
         rw (
           no 1 (omega arith),
           no 2 (omega arith),

@@ -43,7 +43,8 @@ module _ {B : Type 0} where
       by_test false q e = absurd cc
 
 module _ {B : Type 0} where
-  pub kind_key_ok : (at kind w : ℕ) (f : KeyName → Result B WireFault) (y : B) → (kind_key_at at kind w >>= f) ≡ Ok y → (is_key w ≡ true) × (kind_number (key_in w).kind ≡ kind) × (f (key_in w) ≡ Ok y)
+  pub kind_key_ok : (at kind w : ℕ) (f : KeyName → Result B WireFault) (y : B) → (kind_key_at at kind w >>= f) ≡ Ok y →
+      (is_key w ≡ true) × (kind_number (key_in w).kind ≡ kind) × (f (key_in w) ≡ Ok y)
   unfolding kind_key_at
   kind_key_ok at kind w f y e =
       let b = bind_ok (kind_key_at at kind w) f y e in
@@ -51,7 +52,8 @@ module _ {B : Type 0} where
       let a = allowed_ok at (kind_number (key_in w).kind == kind) (λ agrees. Ok (key_in w)) b.0 k.1 in
       (k.0, eqb-true _ _ a.0, ap f (ok_is (key_in w) b.0 a.1) ∙ b.2)
 
-  pub place_ok : (at w : ℕ) (f : PlaceName → Result B WireFault) (y : B) → (place_at at w >>= f) ≡ Ok y → (kind_in w ≡ 0) × (is_key (w + 2 ^ 32) ≡ true) × (f (place_of (key_in (w + 2 ^ 32))) ≡ Ok y)
+  pub place_ok : (at w : ℕ) (f : PlaceName → Result B WireFault) (y : B) → (place_at at w >>= f) ≡ Ok y → (kind_in w ≡ 0) × (is_key (w + 2 ^ 32) ≡ true)
+      × (f (place_of (key_in (w + 2 ^ 32))) ≡ Ok y)
   unfolding place_at
   place_ok at w f y e =
       let b = bind_ok (place_at at w) f y e in
@@ -60,7 +62,8 @@ module _ {B : Type 0} where
       (eqb-true _ _ a.0, k.0, ap f (ok_is (place_of (key_in (w + 2 ^ 32))) b.0 k.1) ∙ b.2)
 
 -- the place of such a word
-pub place_again : (w : ℕ) → kind_in w ≡ 0 → is_key (w + 2 ^ 32) ≡ true → IsValidPlace (place_of (key_in (w + 2 ^ 32))) × (place_word (place_of (key_in (w + 2 ^ 32))) ≡ w)
+pub place_again : (w : ℕ) → kind_in w ≡ 0 → is_key (w + 2 ^ 32) ≡ true → IsValidPlace (place_of (key_in (w + 2 ^ 32)))
+    × (place_word (place_of (key_in (w + 2 ^ 32))) ≡ w)
 place_again w none is =
     let kind : kind_in (w + 2 ^ 32) ≡ 1 = omega (arith, none) in
     let found = word_again (w + 2 ^ 32) is in
@@ -95,7 +98,8 @@ module _ {B : Type 0} where
 pub no_object_ok : (r : Rows) (x : Unit {0}) → no_object r ≡ Ok x → HasNoObject r
 unfolding no_object
 no_object_ok r x e =
-    let kind = unused_ok 28 r.kind (λ _. unused 29 r.after_kind >>= λ _. unused 32 r.main >>= λ _. unused 40 r.more >>= λ _. unused 48 r.last >>= λ _. unused 56 r.after_last) x e in
+    let kind = unused_ok 28 r.kind (λ _. unused 29 r.after_kind >>= λ _. unused 32 r.main >>= λ _. unused 40 r.more >>= λ _. unused 48 r.last >>= λ _. unused 56
+    r.after_last) x e in
     let gap = unused_ok 29 r.after_kind (λ _. unused 32 r.main >>= λ _. unused 40 r.more >>= λ _. unused 48 r.last >>= λ _. unused 56 r.after_last) x kind.1 in
     let main = unused_ok 32 r.main (λ _. unused 40 r.more >>= λ _. unused 48 r.last >>= λ _. unused 56 r.after_last) x gap.1 in
     let more = unused_ok 40 r.more (λ _. unused 48 r.last >>= λ _. unused 56 r.after_last) x main.1 in

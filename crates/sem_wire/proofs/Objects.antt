@@ -20,7 +20,12 @@ use Rattle.sem_wire.proofs.Inverses.{ok_is, bind_ok, allowed_ok, unused_ok, kind
 -- the object in the rows from 28 on
 pub record IsObjectIn (r : Rows) (o : Object) : Type 0 where
   pub valid : IsValidObject o
-  pub rows : (s : Rows) → with_object o (record s { kind = 0; main = 0; more = 0; last = 0 }) ≡ record s { kind = r.kind; main = r.main; more = r.more; last = r.last }
+  pub rows : (s : Rows) → with_object o (record s { kind = 0; main = 0; more = 0; last = 0 }) ≡ record s {
+    kind = r.kind;
+    main = r.main;
+    more = r.more;
+    last = r.last;
+  }
   pub kind : kind_number (object_kind o) ≡ r.kind
 
 -- kinds by their numbers
@@ -36,7 +41,8 @@ mem_read : (r : Rows) (o : Object) → mem_in (record r { kind = 1 }) ≡ Ok o �
 unfolding mem_in
 mem_read r o e =
     let s : Rows = record r { kind = 1 } in
-    let base = allowed_ok 32 (main_allowed s) (λ _. allowed 40 (more_allowed s) >>= λ _. allowed 48 (last_allowed s) >>= λ _. Ok (Mem r.main r.more r.last)) o e in
+    let base = allowed_ok 32 (main_allowed s) (λ _. allowed 40 (more_allowed s) >>= λ _. allowed 48 (last_allowed s) >>= λ _. Ok (Mem r.main r.more r.last)) o e
+    in
     let len = allowed_ok 40 (more_allowed s) (λ _. allowed 48 (last_allowed s) >>= λ _. Ok (Mem r.main r.more r.last)) o base.1 in
     let rights = allowed_ok 48 (last_allowed s) (λ _. Ok (Mem r.main r.more r.last)) o len.1 in
     let more = both (nat_lt r.more (2 ^ 32)) (nat_le (r.main + r.more) ADDRESSES) len.0 in
@@ -113,11 +119,13 @@ object_read r o ranged e =
     let after = unused_ok 56 r.after_last (λ _. Ok found.0) o found.2 in
     (gap.0, after.0, subst (IsObjectIn r) (ok_is found.0 o after.1) (by_kind r.kind r found.0 ranged found.1))
   where
-    by_kind : (kind : ℕ) (r : Rows) (o : Object) → is_in_range 1 5 kind ≡ true → of_kind kind (record r { kind = kind }) ≡ Ok o → IsObjectIn (record r { kind = kind }) o
+    by_kind : (kind : ℕ) (r : Rows) (o : Object) → is_in_range 1 5 kind ≡ true → of_kind kind (record r { kind = kind }) ≡ Ok o →
+        IsObjectIn (record r { kind = kind }) o
     by_kind (suc zero) r o ranged e = mem_read r o e
     by_kind (suc (suc zero)) r o ranged e = recv_read r o e
     by_kind (suc (suc (suc zero))) r o ranged e = send_read r o e
     by_kind (suc (suc (suc (suc zero)))) r o ranged e = serv_read r o e
     by_kind (suc (suc (suc (suc (suc zero))))) r o ranged e = sess_read r o e
     by_kind zero r o ranged e = absurd (let h = in_range 1 5 zero ranged in omega (arith, h.0))
-    by_kind (suc (suc (suc (suc (suc (suc n)))))) r o ranged e = absurd (let h = in_range 1 5 (suc (suc (suc (suc (suc (suc n)))))) ranged in omega (arith, h.1))
+    by_kind (suc (suc (suc (suc (suc (suc n)))))) r o ranged e = absurd (let h = in_range 1 5 (suc (suc (suc (suc (suc (suc n)))))) ranged in
+        omega (arith, h.1))

@@ -11,7 +11,8 @@ use Rattle.sem_key.specs.KeyName.{KeyName, IsValidKey, kind_number, packed}
 use Rattle.sem_key.specs.PlaceName.{PlaceName, IsValidPlace}
 use Rattle.sem_key.specs.ObjectRanges.{IsValidObject}
 use Rattle.sem_msg.specs.declared.message.Target.TheVariants.{Sel as SelTarget, Serv as ServTarget, Offer as OfferTarget}
-use Rattle.sem_msg.specs.declared.message.Message.TheVariants.{ObtainReq, ObtainOk, ObtainNo, DelegateReq, DelegatePrepared, DelegateNo, Ack, Orphan, RevokeReq, RevokeDone, Unlink}
+use Rattle.sem_msg.specs.declared.message.Message.TheVariants.{ObtainReq, ObtainOk, ObtainNo, DelegateReq, DelegatePrepared, DelegateNo, Ack, Orphan, RevokeReq}
+use Rattle.sem_msg.specs.declared.message.Message.TheVariants.{RevokeDone, Unlink}
 use Rattle.sem_msg.specs.declared.message.Message.{Message}
 use Rattle.sem_msg.specs.Message.{Fits}
 use Rattle.sem_wire.specs.declared.fault.WireFault.{WireFault}
@@ -44,7 +45,8 @@ nothing : (n : ℕ) → 0 < 256 ^ n
 nothing n = let h = one-le-pow n 256 (omega arith) in omega arith
 
 -- rows with the gaps of a message
-wide : (r : Rows) → r.after_index ≡ 0 → r.after_kind ≡ 0 → r.after_last ≡ 0 → r.vpe < 256 ^ 2 → r.index < 256 ^ 2 → r.first < 256 ^ 8 → r.second < 256 ^ 8 → r.job < 256 ^ 4 → r.main < 256 ^ 8 → r.more < 256 ^ 8 → r.last < 256 ^ 8 → AreWide r
+wide : (r : Rows) → r.after_index ≡ 0 → r.after_kind ≡ 0 → r.after_last ≡ 0 → r.vpe < 256 ^ 2 → r.index < 256 ^ 2 → r.first < 256 ^ 8 → r.second < 256 ^ 8 →
+    r.job < 256 ^ 4 → r.main < 256 ^ 8 → r.more < 256 ^ 8 → r.last < 256 ^ 8 → AreWide r
 wide r gap6 gap29 gap56 vpe index first second job main more last = record {
   vpe = vpe;
   index = index;
@@ -60,25 +62,92 @@ wide r gap6 gap29 gap56 vpe index first second job main more last = record {
 }
 
 -- the same without an object
-lone : (r : Rows) → r.after_index ≡ 0 → r.after_kind ≡ 0 → r.after_last ≡ 0 → r.main ≡ 0 → r.more ≡ 0 → r.last ≡ 0 → r.vpe < 256 ^ 2 → r.index < 256 ^ 2 → r.first < 256 ^ 8 → r.second < 256 ^ 8 → r.job < 256 ^ 4 → AreWide r
+lone : (r : Rows) → r.after_index ≡ 0 → r.after_kind ≡ 0 → r.after_last ≡ 0 → r.main ≡ 0 → r.more ≡ 0 → r.last ≡ 0 → r.vpe < 256 ^ 2 → r.index < 256 ^ 2 →
+    r.first < 256 ^ 8 → r.second < 256 ^ 8 → r.job < 256 ^ 4 → AreWide r
 lone r gap6 gap29 gap56 main more last vpe index first second job =
     wide r gap6 gap29 gap56 vpe index first second job (omega (arith, main)) (omega (arith, more)) (omega (arith, last))
 
 object_wide : (s : Rows) (o : Object) → IsValidObject o → AreWide s → AreWide (with_object o s)
-object_wide s (Mem base len rights) v w = record { vpe = w.vpe; index = w.index; after_index = w.after_index; first = w.first; second = w.second; job = w.job; after_kind = w.after_kind; main = omega (arith, v.0); more = omega (arith, v.1); last = omega (arith, v.2); after_last = w.after_last }
-object_wide s (Recv slots) v w = record { vpe = w.vpe; index = w.index; after_index = w.after_index; first = w.first; second = w.second; job = w.job; after_kind = w.after_kind; main = omega (arith, v.1); more = w.more; last = w.last; after_last = w.after_last }
-object_wide s (Send gate label credits) v w = record { vpe = w.vpe; index = w.index; after_index = w.after_index; first = w.first; second = w.second; job = w.job; after_kind = w.after_kind; main = key_wide gate v.0; more = omega (arith, v.2); last = omega (arith, v.4); after_last = w.after_last }
-object_wide s (Serv name) v w = record { vpe = w.vpe; index = w.index; after_index = w.after_index; first = w.first; second = w.second; job = w.job; after_kind = w.after_kind; main = omega (arith, v); more = w.more; last = w.last; after_last = w.after_last }
-object_wide s (Sess service ident) v w = record { vpe = w.vpe; index = w.index; after_index = w.after_index; first = w.first; second = w.second; job = w.job; after_kind = w.after_kind; main = key_wide service v.0; more = omega (arith, v.2); last = w.last; after_last = w.after_last }
+object_wide s (Mem base len rights) v w = record {
+  vpe = w.vpe;
+  index = w.index;
+  after_index = w.after_index;
+  first = w.first;
+  second = w.second;
+  job = w.job;
+  after_kind = w.after_kind;
+  main = omega (arith, v.0);
+  more = omega (arith, v.1);
+  last = omega (arith, v.2);
+  after_last = w.after_last;
+}
+object_wide s (Recv slots) v w = record {
+  vpe = w.vpe;
+  index = w.index;
+  after_index = w.after_index;
+  first = w.first;
+  second = w.second;
+  job = w.job;
+  after_kind = w.after_kind;
+  main = omega (arith, v.1);
+  more = w.more;
+  last = w.last;
+  after_last = w.after_last;
+}
+object_wide s (Send gate label credits) v w = record {
+  vpe = w.vpe;
+  index = w.index;
+  after_index = w.after_index;
+  first = w.first;
+  second = w.second;
+  job = w.job;
+  after_kind = w.after_kind;
+  main = key_wide gate v.0;
+  more = omega (arith, v.2);
+  last = omega (arith, v.4);
+  after_last = w.after_last;
+}
+object_wide s (Serv name) v w = record {
+  vpe = w.vpe;
+  index = w.index;
+  after_index = w.after_index;
+  first = w.first;
+  second = w.second;
+  job = w.job;
+  after_kind = w.after_kind;
+  main = omega (arith, v);
+  more = w.more;
+  last = w.last;
+  after_last = w.after_last;
+}
+object_wide s (Sess service ident) v w = record {
+  vpe = w.vpe;
+  index = w.index;
+  after_index = w.after_index;
+  first = w.first;
+  second = w.second;
+  job = w.job;
+  after_kind = w.after_kind;
+  main = key_wide service v.0;
+  more = omega (arith, v.2);
+  last = w.last;
+  after_last = w.after_last;
+}
 
 -- the numbers of a message that fits have room in their rows
 rows_wide : (m : Message) → Fits m → AreWide (rows_of m)
-rows_wide (ObtainReq p (SelTarget vpe sel)) v = lone _ refl refl refl refl refl refl (omega (arith, v.1.0)) (omega (arith, v.1.1)) (place_wide p v.0) (nothing 8) (nothing 4)
+rows_wide (ObtainReq p (SelTarget vpe sel)) v = lone _ refl refl refl refl refl refl (omega (arith, v.1.0)) (omega (arith, v.1.1)) (place_wide p v.0)
+    (nothing 8) (nothing 4)
 rows_wide (ObtainReq p (ServTarget k)) v = lone _ refl refl refl refl refl refl (nothing 2) (nothing 2) (place_wide p v.0) (key_wide k v.1.0) (nothing 4)
-rows_wide (ObtainReq p (OfferTarget k n)) v = lone _ refl refl refl refl refl refl (nothing 2) (omega (arith, v.1.1)) (place_wide p v.0) (key_wide k v.1.0.0) (nothing 4)
-rows_wide (ObtainOk parent key o) v = object_wide _ o v.2 (lone (record blank { tag = 2; first = packed parent; second = packed key }) refl refl refl refl refl refl (nothing 2) (nothing 2) (key_wide parent v.0) (key_wide key v.1) (nothing 4))
+rows_wide (ObtainReq p (OfferTarget k n)) v = lone _ refl refl refl refl refl refl (nothing 2) (omega (arith, v.1.1)) (place_wide p v.0) (key_wide k v.1.0.0)
+    (nothing 4)
+rows_wide (ObtainOk parent key o) v =
+    object_wide _ o v.2 (lone (record blank { tag = 2; first = packed parent; second = packed key }) refl refl refl refl refl refl (nothing 2) (nothing 2)
+    (key_wide parent v.0) (key_wide key v.1) (nothing 4))
 rows_wide (ObtainNo p code) v = lone _ refl refl refl refl refl refl (nothing 2) (nothing 2) (place_wide p v.0) (nothing 8) (nothing 4)
-rows_wide (DelegateReq parent o vpe sel) v = object_wide _ o v.1 (lone (record blank { tag = 4; vpe = vpe; index = sel; first = packed parent }) refl refl refl refl refl refl (omega (arith, v.4)) (omega (arith, v.5)) (key_wide parent v.0) (nothing 8) (nothing 4))
+rows_wide (DelegateReq parent o vpe sel) v =
+    object_wide _ o v.1 (lone (record blank { tag = 4; vpe = vpe; index = sel; first = packed parent }) refl refl refl refl refl refl (omega (arith, v.4))
+    (omega (arith, v.5)) (key_wide parent v.0) (nothing 8) (nothing 4))
 rows_wide (DelegatePrepared parent key) v = lone _ refl refl refl refl refl refl (nothing 2) (nothing 2) (key_wide parent v.0) (key_wide key v.1) (nothing 4)
 rows_wide (DelegateNo parent code) v = lone _ refl refl refl refl refl refl (nothing 2) (nothing 2) (key_wide parent v.0) (nothing 8) (nothing 4)
 rows_wide (Ack key yes') v = lone _ refl refl refl refl refl refl (nothing 2) (nothing 2) (key_wide key v) (nothing 8) (nothing 4)
@@ -123,10 +192,12 @@ refused_exactly r f = (λ e. sym (reads_to_the_fault r) ∙ ap fault_in e, λ e.
     by_result (Err g) e = cc
 
 -- the grammar finds nothing wrong exactly with records
-pub grammar_exact : (bytes : List ℕ) → length bytes ≡ 64 → AreBytes bytes → (wire_fault (rows_in bytes) ≡ None) ↔ ((m : Message) × Fits m × (record_of m ≡ bytes))
+pub grammar_exact : (bytes : List ℕ) → length bytes ≡ 64 → AreBytes bytes →
+    (wire_fault (rows_in bytes) ≡ None) ↔ ((m : Message) × Fits m × (record_of m ≡ bytes))
 grammar_exact bytes long small = (λ e. by_result (message_in (rows_in bytes)) refl (reads_to_the_fault (rows_in bytes) ∙ e), back)
   where
-    by_result : (result : Result Message WireFault) → message_in (rows_in bytes) ≡ result → fault_in (message_in (rows_in bytes)) ≡ None → (m : Message) × Fits m × (record_of m ≡ bytes)
+    by_result : (result : Result Message WireFault) → message_in (rows_in bytes) ≡ result → fault_in (message_in (rows_in bytes)) ≡ None →
+        (m : Message) × Fits m × (record_of m ≡ bytes)
     by_result (Ok m) e none = let found = (read_exactly bytes long small m).0 e in (m, found.0, found.1)
     by_result (Err f) e none = absurd (some_fault (sym (ap fault_in e) ∙ none))
 
@@ -134,7 +205,8 @@ grammar_exact bytes long small = (λ e. by_result (message_in (rows_in bytes)) r
     back h = sym (reads_to_the_fault (rows_in bytes)) ∙ ap fault_in ((read_exactly bytes long small h.0).1 (h.1, h.2))
 
 -- bytes that are a record are read as their message
-pub record_is_read : (bytes : List ℕ) → IsRecord bytes → (result : Result Message WireFault) → ((m : Message) → ((result ≡ Ok m) ↔ (Fits m × (record_of m ≡ bytes)))) → result ≡ Ok (message_of bytes)
+pub record_is_read : (bytes : List ℕ) → IsRecord bytes → (result : Result Message WireFault) →
+    ((m : Message) → ((result ≡ Ok m) ↔ (Fits m × (record_of m ≡ bytes)))) → result ≡ Ok (message_of bytes)
 record_is_read bytes is result read = (read (message_of bytes)).1 is
 
 -- the record of a message that fits

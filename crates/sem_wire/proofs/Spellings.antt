@@ -1,5 +1,6 @@
 -- The bytes of rows, and the rows of bytes.
-use Rattle.std.proofs.Common.{◌≡◌, ℕ, zero, suc, ◌+◌, ◌*◌, ◌^◌, ◌<◌, ◌≤◌, ◌/◌, ◌%◌, List, [], ◌∷◌, ◌++◌, length, take, drop, slice_index, append-nil, refl, sym, ap, ◌∙◌, arith}
+use Rattle.std.proofs.Common.{◌≡◌, ℕ, zero, suc, ◌+◌, ◌*◌, ◌^◌, ◌<◌, ◌≤◌, ◌/◌, ◌%◌, List, [], ◌∷◌, ◌++◌, length, take, drop, slice_index, append-nil, refl, sym}
+use Rattle.std.proofs.Common.{ap, ◌∙◌, arith}
 use Rattle.std.specs.Int.{byte_at, bytes_high_first}
 use Rattle.byteorder.specs.Endian.{big_from, big_number, big_bytes}
 use Rattle.byteorder.specs.Numbers.{big_from-cons, big_from-lt, big_number-reads_back}
@@ -82,13 +83,16 @@ bytes_again (suc n) (b ∷ bytes) long h =
     let rest : ℕ = big_from 0 n bytes in
     let small : rest < 256 ^ n = big_from-lt 0 n bytes more in
     let number : big_from 0 (suc n) (b ∷ bytes) ≡ b * 256 ^ n + rest = ap (λ x. b * 256 ^ n + x) (big_from-cons 0 n b bytes) in
-    let top : byte_at n (b * 256 ^ n + rest) ≡ b = byte_is n (b * 256 ^ n + rest) ∙ ap (λ x. x % 256) (div-mul-add b (256 ^ n) rest small) ∙ mod-eq_of_lt (h 0) in
-    let low : bytes_high_first n (b * 256 ^ n + rest) ≡ bytes_high_first n rest = same_low n (b * 256 ^ n + rest) rest (mul-add-mod_self_right b (256 ^ n) rest) in
+    let top : byte_at n (b * 256 ^ n + rest) ≡ b = byte_is n (b * 256 ^ n + rest) ∙ ap (λ x. x % 256) (div-mul-add b (256 ^ n) rest small)
+    ∙ mod-eq_of_lt (h 0) in
+    let low : bytes_high_first n (b * 256 ^ n + rest) ≡ bytes_high_first n rest =
+    same_low n (b * 256 ^ n + rest) rest (mul-add-mod_self_right b (256 ^ n) rest) in
     let tail = low ∙ bytes_again n bytes (omega (arith, long)) more in
     ap (bytes_high_first (suc n)) number ∙ (λ i. top i ∷ tail i)
 
 -- a row and what is behind it
-row_again : (n at : ℕ) (bytes : List ℕ) → at + n ≤ length bytes → AreBytes bytes → big_bytes n (big_number n (drop at bytes)) ++ drop (at + n) bytes ≡ drop at bytes
+row_again : (n at : ℕ) (bytes : List ℕ) → at + n ≤ length bytes → AreBytes bytes →
+    big_bytes n (big_number n (drop at bytes)) ++ drop (at + n) bytes ≡ drop at bytes
 row_again n at bytes long h =
     let front = bytes_again n (drop at bytes) (omega (arith, long, length-drop at bytes)) (bytes_drop at bytes h) in
     rw (front, ← drop-drop n at bytes) (take-append-drop n (drop at bytes))
@@ -101,10 +105,12 @@ byte_again (suc at) (b ∷ bytes) short = byte_again at bytes (omega (arith, sho
 -- what was read is spelled
 pub spelled_again : (bytes : List ℕ) → length bytes ≡ 64 → AreBytes bytes → spelled (rows_in bytes) ≡ bytes
 spelled_again bytes long h =
-    let row : (n at : ℕ) → at + n ≤ 64 → big_bytes n (big_number n (drop at bytes)) ++ drop (at + n) bytes ≡ drop at bytes = λ n at le. row_again n at bytes (omega (arith, le, long)) h in
+    let row : (n at : ℕ) → at + n ≤ 64 → big_bytes n (big_number n (drop at bytes)) ++ drop (at + n) bytes ≡ drop at bytes =
+    λ n at le. row_again n at bytes (omega (arith, le, long)) h in
     let byte : (at : ℕ) → at < 64 → slice_index bytes at ∷ drop (suc at) bytes ≡ drop at bytes = λ at lt. byte_again at bytes (omega (arith, lt, long)) in
     let s : Rows = rows_in bytes in
-    let at56 : big_bytes 8 s.after_last ≡ drop 56 bytes = sym (append-nil _) ∙ ap (λ x. big_bytes 8 s.after_last ++ x) (sym (drop_of_length-le bytes {i = 64} (omega (arith, long)))) ∙ row 8 56 (omega arith) in
+    let at56 : big_bytes 8 s.after_last ≡ drop 56 bytes = sym (append-nil _)
+    ∙ ap (λ x. big_bytes 8 s.after_last ++ x) (sym (drop_of_length-le bytes {i = 64} (omega (arith, long)))) ∙ row 8 56 (omega arith) in
     let at48 = ap (λ x. big_bytes 8 s.last ++ x) at56 ∙ row 8 48 (omega arith) in
     let at40 = ap (λ x. big_bytes 8 s.more ++ x) at48 ∙ row 8 40 (omega arith) in
     let at32 = ap (λ x. big_bytes 8 s.main ++ x) at40 ∙ row 8 32 (omega arith) in

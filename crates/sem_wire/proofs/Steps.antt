@@ -37,20 +37,27 @@ unfolding first_fault
 done_says x = record { fault = refl }
 
 module _ {B : Type 0} where
-  pub allowed_step : (at n : ℕ) (b : Bool) (f : Unit {0} → Result B WireFault) (rows : List Row) → (b ≡ true → Says (f tt) rows) → Says (allowed at b >>= f) (row at n true b ∷ rows)
+  pub allowed_step : (at n : ℕ) (b : Bool) (f : Unit {0} → Result B WireFault) (rows : List Row) → (b ≡ true → Says (f tt) rows) →
+      Says (allowed at b >>= f) (row at n true b ∷ rows)
   unfolding first_fault
   allowed_step at n true f rows go = record { fault = (go refl).fault }
   allowed_step at n false f rows go = record { fault = refl }
 
-  pub unused_step : (at n : ℕ) (b : Bool) (f : Unit {0} → Result B WireFault) (rows : List Row) → Says (f tt) rows → Says (unused at n >>= f) (row at n false b ∷ rows)
+  pub unused_step : (at n : ℕ) (b : Bool) (f : Unit {0} → Result B WireFault) (rows : List Row) → Says (f tt) rows →
+      Says (unused at n >>= f) (row at n false b ∷ rows)
   unfolding first_fault
   unused_step at n b f rows go = record { fault = by_test (n == 0) }
     where
-      by_test : (zero_is : Bool) → fault_in ((if zero_is then Ok (tt {0}) else Err (Padding at)) >>= f) ≡ elim (if zero_is then None else Some (Padding at)) [ Some fault ↦ Some fault | None ↦ first_fault rows ]
+      by_test : (zero_is : Bool) →
+          fault_in ((if zero_is then Ok (tt {0}) else Err (Padding at)) >>= f) ≡ elim (if zero_is then None else Some (Padding at)) [
+            | Some fault ↦ Some fault
+            | None ↦ first_fault rows
+          ]
       by_test true = go.fault
       by_test false = refl
 
-  pub key_step : (at w : ℕ) (f : KeyName → Result B WireFault) (rows : List Row) → (is_key w ≡ true → Says (f (key_in w)) rows) → Says (key_at at w >>= f) (row at w true (is_key w) ∷ rows)
+  pub key_step : (at w : ℕ) (f : KeyName → Result B WireFault) (rows : List Row) → (is_key w ≡ true → Says (f (key_in w)) rows) →
+      Says (key_at at w >>= f) (row at w true (is_key w) ∷ rows)
   unfolding first_fault
   key_step at w f rows go = record { fault = by_test (is_key w) refl }
     where
@@ -58,16 +65,20 @@ module _ {B : Type 0} where
       by_test true e = (go e).fault
       by_test false e = refl
 
-  pub kind_key_step : (at kind w : ℕ) → is_in_range 1 5 kind ≡ true → (f : KeyName → Result B WireFault) (rows : List Row) → (is_key_of kind w ≡ true → Says (f (key_in w)) rows) → Says (kind_key_at at kind w >>= f) (row at w true (is_key_of kind w) ∷ rows)
+  pub kind_key_step : (at kind w : ℕ) → is_in_range 1 5 kind ≡ true → (f : KeyName → Result B WireFault) (rows : List Row) →
+      (is_key_of kind w ≡ true → Says (f (key_in w)) rows) → Says (kind_key_at at kind w >>= f) (row at w true (is_key_of kind w) ∷ rows)
   unfolding kind_key_at first_fault
   kind_key_step at kind w ranged f rows go = record { fault = by_key (is_key w) refl }
     where
-      by_kind : (b n : ℕ) (owned same : Bool) → owned ≡ true → (b == kind) ≡ same → n ≡ b → ((same && owned) ≡ true → fault_in (f (key_in w)) ≡ first_fault rows) →
+      by_kind : (b n : ℕ) (owned same : Bool) → owned ≡ true → (b == kind) ≡ same → n ≡ b →
+          ((same && owned) ≡ true → fault_in (f (key_in w)) ≡ first_fault rows) →
           fault_in ((allowed at (n == kind) >>= λ agrees. Ok (key_in w)) >>= f) ≡ first_fault (row at w true (same && owned) ∷ rows)
       by_kind b n owned true o e same go = rw (same, e, o) (go o)
       by_kind b n owned false o e same go = rw (same, e) refl
 
-      by_key : (b : Bool) → is_key w ≡ b → fault_in (((if b then Ok (key_in w) else Err (Field at)) >>= λ key. allowed at (kind_number key.kind == kind) >>= λ agrees. Ok key) >>= f) ≡ first_fault (row at w true (is_key_of kind w) ∷ rows)
+      by_key : (b : Bool) → is_key w ≡ b →
+          fault_in (((if b then Ok (key_in w) else Err (Field at)) >>= λ key. allowed at (kind_number key.kind == kind) >>= λ agrees. Ok key) >>= f)
+          ≡ first_fault (row at w true (is_key_of kind w) ∷ rows)
       by_key true e =
           let h = both (is_in_range 1 5 (kind_in w)) (is_owned w) e in
           by_kind (kind_in w) (kind_number (kind_at (kind_in w))) (is_owned w) (kind_in w == kind) h.1 refl (renumbered (kind_in w) h.0) (λ e. (go e).fault)
@@ -78,16 +89,20 @@ module _ {B : Type 0} where
           by_same true false p q = refl
           by_same true true p q = absurd (apart (sym e ∙ rw (tells (kind_in w) kind p, ranged, q) refl))
 
-  pub place_step : (at w : ℕ) (f : PlaceName → Result B WireFault) (rows : List Row) → (is_place w ≡ true → Says (f (place_of (key_in (w + 2 ^ 32)))) rows) → Says (place_at at w >>= f) (row at w true (is_place w) ∷ rows)
+  pub place_step : (at w : ℕ) (f : PlaceName → Result B WireFault) (rows : List Row) → (is_place w ≡ true → Says (f (place_of (key_in (w + 2 ^ 32)))) rows) →
+      Says (place_at at w >>= f) (row at w true (is_place w) ∷ rows)
   unfolding place_at first_fault
   place_step at w f rows go = record { fault = by_kind (kind_in w == 0) refl }
     where
-      by_owned : (b : Bool) → is_key (w + 2 ^ 32) ≡ b → is_owned w ≡ b → (is_place w ≡ true → fault_in (f (place_of (key_in (w + 2 ^ 32)))) ≡ first_fault rows) → (kind_in w == 0) ≡ true →
-          fault_in (((if b then Ok (key_in (w + 2 ^ 32)) else Err (Field at)) >>= λ key. Ok (place_of key)) >>= f) ≡ first_fault (row at w true (true && b) ∷ rows)
+      by_owned : (b : Bool) → is_key (w + 2 ^ 32) ≡ b → is_owned w ≡ b →
+          (is_place w ≡ true → fault_in (f (place_of (key_in (w + 2 ^ 32)))) ≡ first_fault rows) → (kind_in w == 0) ≡ true →
+          fault_in (((if b then Ok (key_in (w + 2 ^ 32)) else Err (Field at)) >>= λ key. Ok (place_of key)) >>= f)
+          ≡ first_fault (row at w true (true && b) ∷ rows)
       by_owned true p q go e = go (rw (e, q) refl)
       by_owned false p q go e = refl
 
-      by_kind : (b : Bool) → (kind_in w == 0) ≡ b → fault_in ((allowed at b >>= λ no_kind. key_at at (w + 2 ^ 32) >>= λ key. Ok (place_of key)) >>= f) ≡ first_fault (row at w true (b && is_owned w) ∷ rows)
+      by_kind : (b : Bool) → (kind_in w == 0) ≡ b → fault_in ((allowed at b >>= λ no_kind. key_at at (w + 2 ^ 32) >>= λ key. Ok (place_of key)) >>= f)
+          ≡ first_fault (row at w true (b && is_owned w) ∷ rows)
       by_kind false e = refl
       by_kind true e =
           let same = place_key w (tells (kind_in w) 0 e) in
@@ -98,7 +113,11 @@ pub unused_end : (at n : ℕ) (b : Bool) → Says (unused at n) (row at n false 
 unfolding first_fault
 unused_end at n b = record { fault = by_test (n == 0) }
   where
-    by_test : (zero_is : Bool) → fault_in (if zero_is then Ok (tt {0}) else Err (Padding at)) ≡ elim (if zero_is then None else Some (Padding at)) [ Some fault ↦ Some fault | None ↦ None ]
+    by_test : (zero_is : Bool) →
+        fault_in (if zero_is then Ok (tt {0}) else Err (Padding at)) ≡ elim (if zero_is then None else Some (Padding at)) [
+          | Some fault ↦ Some fault
+          | None ↦ None
+        ]
     by_test true = refl
     by_test false = refl
 
@@ -108,7 +127,8 @@ module _ {A B : Type 0} where
   one_by_one (Ok x) f g = refl
   one_by_one (Err e) f g = refl
 
-  pub then_step : {C : Type 0} (r : Result A WireFault) (f : A → Result B WireFault) (g : B → Result C WireFault) (rows : List Row) → Says (r >>= λ x. f x >>= g) rows → Says ((r >>= f) >>= g) rows
+  pub then_step : {C : Type 0} (r : Result A WireFault) (f : A → Result B WireFault) (g : B → Result C WireFault) (rows : List Row) →
+      Says (r >>= λ x. f x >>= g) rows → Says ((r >>= f) >>= g) rows
   then_step r f g rows says = record { fault = ap fault_in (one_by_one r f g) ∙ says.fault }
 
 -- a row that is right, or wrong, whatever is read
@@ -121,5 +141,6 @@ unfolding first_fault
 failed at n rows = record { fault = refl }
 
 -- a test that is said otherwise
-pub allowed_as : {B : Type 0} (at n : ℕ) (b c : Bool) → b ≡ c → (f : Unit {0} → Result B WireFault) (rows : List Row) → (c ≡ true → Says (f tt) rows) → Says (allowed at b >>= f) (row at n true c ∷ rows)
+pub allowed_as : {B : Type 0} (at n : ℕ) (b c : Bool) → b ≡ c → (f : Unit {0} → Result B WireFault) (rows : List Row) → (c ≡ true → Says (f tt) rows) →
+    Says (allowed at b >>= f) (row at n true c ∷ rows)
 allowed_as at n b c e f rows go = subst (λ x. Says (allowed at x >>= f) (row at n true c ∷ rows)) (sym e) (allowed_step at n c f rows go)

@@ -15,7 +15,8 @@ use Rattle.sem_wire.specs.Grammar.{kind_in, is_key, is_owned}
 use Rattle.sem_wire.specs.Reading.{key_in, key_at, kind_at}
 
 -- the four fields of a packed key
-pub packed_fields : (k : KeyName) → IsValidKey k → (packed k / 2 ^ 56 ≡ k.pe) × (packed k / 2 ^ 40 % 2 ^ 16 ≡ k.vpe) × (kind_in (packed k) ≡ kind_number k.kind) × (packed k % 2 ^ 32 ≡ k.number)
+pub packed_fields : (k : KeyName) → IsValidKey k → (packed k / 2 ^ 56 ≡ k.pe) × (packed k / 2 ^ 40 % 2 ^ 16 ≡ k.vpe) × (kind_in (packed k) ≡ kind_number k.kind)
+    × (packed k % 2 ^ 32 ≡ k.number)
 packed_fields k v =
     let small : kind_number k.kind ≤ 5 = kind_small k.kind in
     (omega (arith, v.0, v.1, v.2, small), omega (arith, v.0, v.1, v.2, small), omega (arith, v.0, v.1, v.2, small), omega (arith, v.0, v.1, v.2, small))
@@ -105,10 +106,12 @@ word_again w e =
     ((f.0, f.1, f.2), omega (arith, kind))
 
 -- the key of a word, if it is one
-pub unpacked : (w : ℕ) (answer : Option KeyName) → ((key : KeyName) → IsValidKey key → ((answer ≡ Some key) ↔ (packed key ≡ w))) → IfSome answer IsValidKey → answer ≡ (if is_key w then Some (key_in w) else None)
+pub unpacked : (w : ℕ) (answer : Option KeyName) → ((key : KeyName) → IsValidKey key → ((answer ≡ Some key) ↔ (packed key ≡ w))) → IfSome answer IsValidKey →
+    answer ≡ (if is_key w then Some (key_in w) else None)
 unpacked w answer exact valid = by_test w answer exact valid (is_key w) refl
   where
-    by_test : (w : ℕ) (answer : Option KeyName) → ((key : KeyName) → IsValidKey key → ((answer ≡ Some key) ↔ (packed key ≡ w))) → IfSome answer IsValidKey → (b : Bool) → is_key w ≡ b → answer ≡ (if is_key w then Some (key_in w) else None)
+    by_test : (w : ℕ) (answer : Option KeyName) → ((key : KeyName) → IsValidKey key → ((answer ≡ Some key) ↔ (packed key ≡ w))) → IfSome answer IsValidKey →
+        (b : Bool) → is_key w ≡ b → answer ≡ (if is_key w then Some (key_in w) else None)
     by_test w answer exact valid true e = let f = word_again w e in (exact (key_in w) f.0).1 f.1 ∙ rw e refl
     by_test w None exact valid false e = rw e refl
     by_test w (Some key) exact valid false e =

@@ -1,8 +1,10 @@
--- What is wrong with 64 bytes that are the record of no message: the grammar of records, row by row ("Records" in docs/machine.md).
-use Rattle.std.specs.Prelude.{ℕ, ◌+◌, ◌^◌, ◌/◌, ◌%◌, Bool, true, false, not, ◌&&◌, ◌||◌, ◌==◌, nat_le, nat_lt, if◌then◌else◌, List, [], ◌∷◌, Option, Some, None}
+-- What is wrong with 64 bytes that are no message's record: the grammar of records, row by row
+-- ("Records" in docs/machine.md).
+use Rattle.std.specs.Prelude.{ℕ, ◌+◌, ◌^◌, ◌/◌, ◌%◌, Bool, true, false, not, ◌&&◌, ◌||◌, ◌==◌, nat_le, nat_lt}
+use Rattle.std.specs.Prelude.{if◌then◌else◌, List, [], ◌∷◌, Option, Some, None}
 use Rattle.std.specs.Int.{is_in_range}
 use Rattle.std.specs.List.{list_any}
-use Rattle.sem_key.specs.declared.limits.TheConstants.{PES, VPES, NUMBERS, SLOTS, ADDRESSES, RIGHTS}
+use Rattle.sem_msg.specs.Prelude.{PES, VPES, NUMBERS, SLOTS, ADDRESSES, RIGHTS}
 use Rattle.sem_wire.specs.declared.rows.Rows.{Rows}
 use Rattle.sem_wire.specs.declared.fault.WireFault.{WireFault}
 use Rattle.sem_wire.specs.declared.fault.WireFault.TheVariants.{Tag, Field, Padding}
@@ -25,18 +27,20 @@ is_key_of kind word = (kind_in word == kind) && is_owned word
 abbrev pub is_place : ℕ → Bool
 is_place word = is_key_of 0 word
 
--- whether the message has one of these numbers
+-- whether the number of the message is one of these
 abbrev pub is_one_of : List ℕ → Rows → Bool
 is_one_of tags r = list_any (λ tag. r.tag == tag) tags
 
--- whether it is an ObtainReq with one of these forms of target, a message with an object of one of these kinds
+-- whether it is an ObtainReq with one of these forms of target; whether it is a message with an
+-- object of one of these kinds
 abbrev pub has_form : List ℕ → Rows → Bool
 has_form forms r = (r.tag == 1) && list_any (λ form. r.form == form) forms
 
 abbrev pub has_kind : List ℕ → Rows → Bool
 has_kind kinds r = is_one_of (2 ∷ 4 ∷ []) r && list_any (λ kind. r.kind == kind) kinds
 
--- a row behind the first byte: its place, its number, whether the message uses it, and whether the number is allowed there if so
+-- a row after the first byte: its place, its number, whether the message uses it, and, if it does,
+-- whether it allows that number
 pub record Row : Type 0 where
   pub at : ℕ
   pub number : ℕ
@@ -50,7 +54,7 @@ row at number used allowed = record { at = at; number = number; is_used = used; 
 abbrev pub gap : ℕ → ℕ → Row
 gap at number = row at number false true
 
--- what an object may have in its rows, by its kind
+-- what the rows of an object may hold, by its kind
 abbrev pub main_allowed : Rows → Bool
 main_allowed r =
     if r.kind == 1 then nat_lt r.main (2 ^ 32)
@@ -70,7 +74,8 @@ last_allowed r = if r.kind == 1 then nat_le r.last RIGHTS else is_in_range 1 SLO
 
 -- the form of a target, a code, or yes or no
 abbrev pub form_allowed : Rows → Bool
-form_allowed r = if r.tag == 1 then is_in_range 1 3 r.form else if r.tag == 7 then nat_le r.form 1 else is_in_range 1 15 r.form
+form_allowed r = if r.tag == 1 then is_in_range 1 3 r.form else if r.tag == 7 then nat_le r.form 1
+    else is_in_range 1 15 r.form
 
 abbrev pub first_allowed : Rows → Bool
 first_allowed r = if is_one_of (1 ∷ 3 ∷ []) r then is_place r.first else is_key r.first
@@ -78,9 +83,10 @@ first_allowed r = if is_one_of (1 ∷ 3 ∷ []) r then is_place r.first else is_
 abbrev pub second_allowed : Rows → Bool
 second_allowed r = if r.tag == 1 then is_key_of 4 r.second else is_key r.second
 
--- the kind of the object is that of the key, and in a delegation that of the parent: memory or a gate
+-- the object has the kind of the key, and in a delegation the kind of the parent: memory or a gate
 abbrev pub kind_allowed : Rows → Bool
-kind_allowed r = if r.tag == 2 then r.kind == kind_in r.second else is_in_range 1 3 r.kind && (r.kind == kind_in r.first)
+kind_allowed r = if r.tag == 2 then r.kind == kind_in r.second
+    else is_in_range 1 3 r.kind && (r.kind == kind_in r.first)
 
 abbrev pub grammar : Rows → List Row
 grammar r =
@@ -99,18 +105,18 @@ grammar r =
     ∷ gap 56 r.after_last
     ∷ []
 
--- a row that is used has to be allowed, and any other has to be 0
+-- a used row must hold an allowed number, and every other row must be 0
 abbrev pub row_fault : Row → Option WireFault
 row_fault row =
     if row.is_used then (if row.is_allowed then None else Some (Field row.at))
     else if row.number == 0 then None
     else Some (Padding row.at)
 
--- the fault of the first row that is wrong
+-- the fault of the first wrong row
 unfoldable pub first_fault : List Row → Option WireFault
 first_fault [] = None
 first_fault (row ∷ rows) = elim (row_fault row) [ Some fault ↦ Some fault | None ↦ first_fault rows ]
 
--- what is wrong with a record that has these numbers in its rows
+-- what is wrong with a record with these numbers in its rows
 abbrev pub wire_fault : Rows → Option WireFault
 wire_fault r = if is_in_range 1 11 r.tag then first_fault (grammar r) else Some Tag

@@ -1,16 +1,17 @@
--- What the private functions of `decode` give: the rows from left to right, up to the first that is wrong.
-use Rattle.std.specs.Prelude.{ℕ, ◌+◌, ◌^◌, ◌/◌, ◌%◌, Bool, true, false, ◌==◌, ◌&&◌, nat_lt, nat_le, if◌then◌else◌, Result, Ok, Err}
+-- What the private functions of `decode` give: the rows from left to right, up to the first wrong
+-- one.
+use Rattle.std.specs.Prelude.{ℕ, ◌+◌, ◌^◌, ◌/◌, ◌%◌, Bool, true, false, ◌==◌, ◌&&◌, nat_lt, nat_le, if◌then◌else◌}
+use Rattle.std.specs.Prelude.{Result, Ok, Err}
 use Rattle.std.specs.Int.{is_in_range}
-use Rattle.sem_key.specs.declared.key.Kind.{Kind}
-use Rattle.sem_key.specs.declared.key.Kind.TheVariants.{Mem as MemKind, Recv as RecvKind, Send as SendKind, Serv as ServKind, Sess as SessKind}
-use Rattle.sem_key.specs.declared.limits.TheConstants.{VPES, SLOTS, ADDRESSES, RIGHTS}
-use Rattle.sem_key.specs.declared.object.Object.{Object}
-use Rattle.sem_key.specs.declared.object.Object.TheVariants.{Mem, Recv, Send, Serv, Sess}
-use Rattle.sem_key.specs.KeyName.{KeyName, kind_number}
-use Rattle.sem_key.specs.PlaceName.{PlaceName}
-use Rattle.sem_msg.specs.declared.message.Target.TheVariants.{Sel as SelTarget, Serv as ServTarget, Offer as OfferTarget}
+use Rattle.sem_msg.specs.Prelude.{Kind, ServKind, SessKind, VPES, SLOTS, ADDRESSES, RIGHTS, Object, Mem, Recv, Send}
+use Rattle.sem_msg.specs.Prelude.{Serv, Sess, KeyName, kind_number, PlaceName}
+use Rattle.sem_key.specs.declared.key.Kind.TheVariants.{Mem as MemKind, Recv as RecvKind, Send as SendKind}
+use Rattle.sem_msg.specs.declared.message.Target.TheVariants.{Sel as SelTarget, Serv as ServTarget}
+use Rattle.sem_msg.specs.declared.message.Target.TheVariants.{Offer as OfferTarget}
 use Rattle.sem_msg.specs.declared.message.Message.{Message}
-use Rattle.sem_msg.specs.declared.message.Message.TheVariants.{ObtainReq, ObtainOk, ObtainNo, DelegateReq, DelegatePrepared, DelegateNo, Ack, Orphan, RevokeReq, RevokeDone, Unlink}
+use Rattle.sem_msg.specs.declared.message.Message.TheVariants.{ObtainReq, ObtainOk, ObtainNo, DelegateReq}
+use Rattle.sem_msg.specs.declared.message.Message.TheVariants.{DelegatePrepared, DelegateNo, Ack, Orphan, RevokeReq}
+use Rattle.sem_msg.specs.declared.message.Message.TheVariants.{RevokeDone, Unlink}
 use Rattle.sem_wire.specs.declared.rows.Rows.{Rows}
 use Rattle.sem_wire.specs.declared.fault.WireFault.{WireFault}
 use Rattle.sem_wire.specs.declared.fault.WireFault.TheVariants.{Tag, Field, Padding}
@@ -23,13 +24,19 @@ abbrev pub ◌>>=◌ : {A B : Type 0} → Result A WireFault → (A → Result B
 
 -- the kind of that number
 abbrev pub kind_at : ℕ → Kind
-kind_at n = if n == 1 then MemKind else if n == 2 then RecvKind else if n == 3 then SendKind else if n == 4 then ServKind else SessKind
+kind_at n = if n == 1 then MemKind else if n == 2 then RecvKind else if n == 3 then SendKind else if n == 4
+    then ServKind else SessKind
 
 -- the key of a word
 abbrev pub key_in : ℕ → KeyName
-key_in word = record { pe = word / 2 ^ 56; vpe = word / 2 ^ 40 % 2 ^ 16; kind = kind_at (kind_in word); number = word % 2 ^ 32 }
+key_in word = record {
+  pe = word / 2 ^ 56;
+  vpe = word / 2 ^ 40 % 2 ^ 16;
+  kind = kind_at (kind_in word);
+  number = word % 2 ^ 32;
+}
 
--- a row that is used, and one that is not
+-- a row that the message uses, and one that it does not
 abbrev pub allowed : ℕ → Bool → Result (Unit {0}) WireFault
 allowed at true = Ok tt
 allowed at false = Err (Field at)
@@ -37,7 +44,7 @@ allowed at false = Err (Field at)
 abbrev pub unused : ℕ → ℕ → Result (Unit {0}) WireFault
 unused at number = if number == 0 then Ok tt else Err (Padding at)
 
--- a row with a key, with a key of the kind of that number, with a place
+-- a row with a key; with a key of the kind of that number; with a place
 abbrev pub key_at : ℕ → ℕ → Result KeyName WireFault
 key_at at word = if is_key word then Ok (key_in word) else Err (Field at)
 
@@ -53,7 +60,7 @@ place_at at word = do
   key ← key_at at (word + 2 ^ 32)
   Ok (record { pe = key.pe; vpe = key.vpe; number = key.number })
 
--- the rows at 2, 4 and 6 of a message without VPE and index
+-- the rows at 2, 4 and 6 of a message without a VPE and an index
 unfoldable pub no_index : Rows → Result (Unit {0}) WireFault
 no_index r = do
   vpe ← unused 2 r.vpe
@@ -129,7 +136,7 @@ object_in r = do
   after ← unused 56 r.after_last
   Ok object
 
--- the rows behind the first byte of each message
+-- the rows after the first byte of each message
 unfoldable pub sel_in : Rows → Result Message WireFault
 sel_in r = do
   vpe ← allowed 2 (nat_lt r.vpe VPES)
@@ -249,7 +256,7 @@ revoke_done_in r = do
   rest ← no_object r
   Ok (RevokeDone r.job)
 
--- the message by the number in the first byte
+-- the message, by the number in the first byte
 abbrev pub message_in : Rows → Result Message WireFault
 message_in r =
     if r.tag == 1 then obtain_req_in r

@@ -1,22 +1,38 @@
--- Messages as records of 64 bytes: what stands in which row ("Records" in docs/machine.md).
+-- Messages as records of 64 bytes: which row holds what ("Records" in docs/machine.md).
 use Rattle.std.specs.Prelude.{ℕ, ◌+◌, ◌*◌, ◌^◌, cond, List, ◌∷◌, ◌++◌, drop, slice_index}
 use Rattle.byteorder.specs.Endian.{big_bytes, big_number}
-use Rattle.sem_key.specs.declared.object.Object.{Object}
-use Rattle.sem_key.specs.declared.object.Object.TheVariants.{Mem, Recv, Send, Serv, Sess}
+use Rattle.sem_msg.specs.Prelude.{Object, Mem, Recv, Send, Serv, Sess, PlaceName}
 use Rattle.sem_key.specs.KeyName.{packed}
-use Rattle.sem_key.specs.PlaceName.{PlaceName}
-use Rattle.sem_msg.specs.declared.message.Target.TheVariants.{Sel as SelTarget, Serv as ServTarget, Offer as OfferTarget}
+use Rattle.sem_msg.specs.declared.message.Target.TheVariants.{Sel as SelTarget, Serv as ServTarget}
+use Rattle.sem_msg.specs.declared.message.Target.TheVariants.{Offer as OfferTarget}
 use Rattle.sem_msg.specs.declared.message.Message.{Message}
-use Rattle.sem_msg.specs.declared.message.Message.TheVariants.{ObtainReq, ObtainOk, ObtainNo, DelegateReq, DelegatePrepared, DelegateNo, Ack, Orphan, RevokeReq, RevokeDone, Unlink}
+use Rattle.sem_msg.specs.declared.message.Message.TheVariants.{ObtainReq, ObtainOk, ObtainNo, DelegateReq}
+use Rattle.sem_msg.specs.declared.message.Message.TheVariants.{DelegatePrepared, DelegateNo, Ack, Orphan, RevokeReq}
+use Rattle.sem_msg.specs.declared.message.Message.TheVariants.{RevokeDone, Unlink}
 use Rattle.sem_wire.specs.declared.rows.Rows.{Rows}
 
--- the word of a place: that of a key, with 0 where the kind is
+-- the word of a place: that of a key, with 0 in place of the kind
 abbrev pub place_word : PlaceName → ℕ
 place_word p = p.pe * 2 ^ 56 + p.vpe * 2 ^ 40 + p.number
 
--- rows with nothing in them
+-- empty rows
 abbrev pub blank : Rows
-blank = record { tag = 0; form = 0; vpe = 0; index = 0; after_index = 0; first = 0; second = 0; job = 0; kind = 0; after_kind = 0; main = 0; more = 0; last = 0; after_last = 0 }
+blank = record {
+  tag = 0;
+  form = 0;
+  vpe = 0;
+  index = 0;
+  after_index = 0;
+  first = 0;
+  second = 0;
+  job = 0;
+  kind = 0;
+  after_kind = 0;
+  main = 0;
+  more = 0;
+  last = 0;
+  after_last = 0;
+}
 
 -- the numbers of an object
 abbrev pub with_object : Object → Rows → Rows
@@ -28,12 +44,31 @@ with_object (Sess service ident) r = record r { kind = 5; main = packed service;
 
 -- the numbers of a message
 abbrev pub rows_of : Message → Rows
-rows_of (ObtainReq place (SelTarget vpe sel)) = record blank { tag = 1; form = 1; vpe = vpe; index = sel; first = place_word place }
-rows_of (ObtainReq place (ServTarget service)) = record blank { tag = 1; form = 2; first = place_word place; second = packed service }
-rows_of (ObtainReq place (OfferTarget service index)) = record blank { tag = 1; form = 3; index = index; first = place_word place; second = packed service }
-rows_of (ObtainOk parent key object) = with_object object (record blank { tag = 2; first = packed parent; second = packed key })
+rows_of (ObtainReq place (SelTarget vpe sel)) = record blank {
+  tag = 1;
+  form = 1;
+  vpe = vpe;
+  index = sel;
+  first = place_word place;
+}
+rows_of (ObtainReq place (ServTarget service)) = record blank {
+  tag = 1;
+  form = 2;
+  first = place_word place;
+  second = packed service;
+}
+rows_of (ObtainReq place (OfferTarget service index)) = record blank {
+  tag = 1;
+  form = 3;
+  index = index;
+  first = place_word place;
+  second = packed service;
+}
+rows_of (ObtainOk parent key object) =
+    with_object object (record blank { tag = 2; first = packed parent; second = packed key })
 rows_of (ObtainNo place code) = record blank { tag = 3; form = code; first = place_word place }
-rows_of (DelegateReq parent object vpe sel) = with_object object (record blank { tag = 4; vpe = vpe; index = sel; first = packed parent })
+rows_of (DelegateReq parent object vpe sel) =
+    with_object object (record blank { tag = 4; vpe = vpe; index = sel; first = packed parent })
 rows_of (DelegatePrepared parent key) = record blank { tag = 5; first = packed parent; second = packed key }
 rows_of (DelegateNo parent code) = record blank { tag = 6; form = code; first = packed parent }
 rows_of (Ack key yes') = record blank { tag = 7; form = cond yes' 1 0; first = packed key }
@@ -53,7 +88,7 @@ spelled r =
 abbrev pub record_of : Message → List ℕ
 record_of m = spelled (rows_of m)
 
--- the numbers that stand in the rows of 64 bytes
+-- the numbers in the rows of 64 bytes
 abbrev pub rows_in : List ℕ → Rows
 rows_in bytes = record {
   tag = slice_index bytes 0;

@@ -6,7 +6,7 @@ use Rattle.sem_msg.specs.Message.{Fits}
 use Rattle.sem_wire.specs.Records.{record_of, rows_in}
 use Rattle.sem_wire.specs.Reading.{message_in}
 
--- the message of which they are the record; where they are that of none, it is of no matter which
+-- the message whose record the bytes are; any message if they are the record of none
 unfoldable pub message_of : List ℕ → Message
 message_of bytes = elim (message_in (rows_in bytes)) [ Ok m ↦ m | Err f ↦ RevokeDone 0 ]
 

@@ -14,15 +14,16 @@ use crate::read_messages::{
 use crate::rows::{RECORD, Rows, read_rows};
 use sem_msg::Message;
 
-/// The message that fits of which the bytes are the record, or what is wrong with them.
+/// The fitting message whose record the bytes are, or what is wrong with them.
 pub fn decode(bytes: &[u8; RECORD]) -> Result<Message, WireFault>
     ensures read { (m : MessageOf) → ((result ≡ Ok m) ↔ (Fits m × (record_of m ≡ bytes.now))) }
-    ensures refused { (f : WireFaultOf) → ((result ≡ Err f) ↔ (wire_fault (rows_in bytes.now) ≡ Some f)) }
+    ensures refused { (f : WireFaultOf) →
+        ((result ≡ Err f) ↔ (wire_fault (rows_in bytes.now) ≡ Some f)) }
 {
     message(&read_rows(bytes))
 }
 
-// The message that has these numbers in its rows.
+// The message with these numbers in its rows.
 fn message(rows: &Rows) -> Result<Message, WireFault>
     ensures { result ≡ message_in rows.now }
 {

@@ -2,13 +2,14 @@ ghost use Rattle.std.specs.Prelude.{◌≡◌};
 ghost use Rattle.sem_key.specs.KeyName.{packed};
 ghost use Rattle.sem_msg.specs.Message.{Fits};
 ghost use Rattle.sem_msg.specs.declared.message.Message.TheVariants.{ObtainReq};
-ghost use Rattle.sem_wire.specs.Records.{blank, place_word as place_word_lem, record_of, rows_of as rows_of_lem, with_object as with_object_lem};
+ghost use Rattle.sem_wire.specs.Records.{blank, place_word as place_word_lem, record_of};
+ghost use Rattle.sem_wire.specs.Records.{rows_of as rows_of_lem, with_object as with_object_lem};
 
 use crate::rows::{RECORD, Rows, spell};
 use sem_key::{Key, Kind, Object, Place, keyed, pack};
 use sem_msg::{Message, Target};
 
-/// The record of a message, which fits.
+/// The record of a message. The message must fit.
 pub fn encode(message: &Message) -> [u8; RECORD]
     requires { Fits message.now }
     ensures { result ≡ record_of message.now }
@@ -16,7 +17,7 @@ pub fn encode(message: &Message) -> [u8; RECORD]
     spell(&rows_of(message))
 }
 
-// Rows with nothing in them but the number of the message.
+// Rows with only the number of the message in them.
 fn tagged(tag: u8) -> Rows
     ensures { result ≡ record blank { tag = tag } }
 {
@@ -38,7 +39,7 @@ fn tagged(tag: u8) -> Rows
     }
 }
 
-// The word of a place: that of a key, with 0 where the kind is.
+// The word of a place: that of a key, with 0 in place of the kind.
 fn place_word(place: Place) -> u64
     ensures { result ≡ place_word_lem place }
 {
@@ -140,7 +141,7 @@ fn two_keys(tag: u8, parent: Key, key: Key) -> Rows
     }
 }
 
-// The rows with the numbers of the object in theirs.
+// The rows, with the numbers of the object added.
 fn with_object(object: &Object, rows: Rows) -> Rows
     ensures { result ≡ with_object_lem object.now rows }
 {

@@ -5,8 +5,9 @@ ghost use Rattle.sem_wire.specs.Records.{record_of, rows_in};
 ghost use Rattle.sem_wire.specs.Grammar.{wire_fault};
 ghost use Rattle.sem_wire.specs.Standing.{message_of};
 
-/// A message that fits has one record, of 64 bytes, and a record one message; the grammar finds nothing
-/// wrong with 64 bytes exactly where they are the record of a message that fits.
+/// Every fitting message has exactly one record, of 64 bytes, and every record has exactly one
+/// message. The grammar finds nothing wrong with 64 bytes exactly if they are the record of a
+/// fitting message.
 pub fn a_message_has_one_record()
     ensures length { (m : Message) → length (record_of m) ≡ 64 }
     ensures again { (m : Message) → Fits m → message_of (record_of m) ≡ m }

@@ -1,5 +1,7 @@
 ghost use Rattle.std.specs.Prelude.{◌≡◌};
-ghost use Rattle.sem_wire.specs.Reading.{ack_in, delegate_no_in, delegate_req_in, obtain_no_in, obtain_ok_in, obtain_req_in, offer_in, revoke_done_in, revoke_req_in, sel_in, serv_target_in, two_keys_in};
+ghost use Rattle.sem_wire.specs.Reading.{ack_in, delegate_no_in, delegate_req_in, obtain_no_in};
+ghost use Rattle.sem_wire.specs.Reading.{obtain_ok_in, obtain_req_in, offer_in, revoke_done_in};
+ghost use Rattle.sem_wire.specs.Reading.{revoke_req_in, sel_in, serv_target_in, two_keys_in};
 
 use crate::fault::WireFault;
 use crate::read_objects::object;

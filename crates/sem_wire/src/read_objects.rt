@@ -1,7 +1,8 @@
 ghost use Rattle.std.specs.Prelude.{◌≡◌};
 ghost use Rattle.std.specs.Int.{is_in_range};
 ghost use Rattle.sem_key.specs.declared.limits.TheConstants.{SLOTS};
-ghost use Rattle.sem_wire.specs.Reading.{mem_in, object_in, of_kind as of_kind_lem, recv_in, send_in, serv_in, sess_in};
+ghost use Rattle.sem_wire.specs.Reading.{mem_in, object_in, of_kind as of_kind_lem, recv_in};
+ghost use Rattle.sem_wire.specs.Reading.{send_in, serv_in, sess_in};
 
 use crate::fault::WireFault;
 use crate::read_rows::{allowed, kind_key_at, unused};
@@ -32,7 +33,7 @@ fn of_kind(rows: &Rows) -> Result<Object, WireFault>
     }
 }
 
-// Whether it can be a number of slots or credits.
+// Whether the number is in the range of slots and credits.
 fn is_count(number: u64) -> bool
     ensures { result ≡ is_in_range 1 SLOTS number }
 {

@@ -1,12 +1,15 @@
 ghost use Rattle.std.specs.Prelude.{◌≡◌};
 ghost use Rattle.sem_key.specs.KeyName.{kind_number};
-ghost use Rattle.sem_wire.specs.Reading.{allowed as allowed_lem, key_at as key_at_lem, kind_key_at as kind_key_at_lem, no_index as no_index_lem, no_job as no_job_lem, no_object as no_object_lem, place_at as place_at_lem, unused as unused_lem};
+ghost use Rattle.sem_wire.specs.Reading.{allowed as allowed_lem, key_at as key_at_lem};
+ghost use Rattle.sem_wire.specs.Reading.{kind_key_at as kind_key_at_lem, no_index as no_index_lem};
+ghost use Rattle.sem_wire.specs.Reading.{no_job as no_job_lem, no_object as no_object_lem};
+ghost use Rattle.sem_wire.specs.Reading.{place_at as place_at_lem, unused as unused_lem};
 
 use crate::fault::WireFault;
 use crate::rows::Rows;
 use sem_key::{Key, Kind, Place, unpack};
 
-/// A row that the message uses: whether its value is allowed.
+/// A used row: whether its value is allowed.
 pub fn allowed(at: u8, is_allowed: bool) -> Result<(), WireFault>
     ensures { result ≡ allowed_lem at is_allowed }
 {
@@ -17,7 +20,7 @@ pub fn allowed(at: u8, is_allowed: bool) -> Result<(), WireFault>
     }
 }
 
-/// A row that the message does not use.
+/// A row that the message does not use: it must be 0.
 pub fn unused(at: u8, number: u64) -> Result<(), WireFault>
     ensures { result ≡ unused_lem at number }
 {
@@ -45,7 +48,7 @@ pub fn kind_key_at(at: u8, kind: Kind, word: u64) -> Result<Key, WireFault>
     Ok(key)
 }
 
-/// A row with a place: the word of a key, with 0 where the kind is.
+/// A row with a place: the word of a key, with 0 in place of the kind.
 #[tactic(auto, unfolding(crate::specs::Reading::place_at))]
 pub fn place_at(at: u8, word: u64) -> Result<Place, WireFault>
     ensures { result ≡ place_at_lem at word }

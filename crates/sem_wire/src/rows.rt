@@ -4,7 +4,7 @@ ghost use Rattle.sem_wire.specs.Records.{rows_in, spelled};
 
 use byteorder::{BigEndian, ByteOrder};
 
-/// How many bytes a record has.
+/// The bytes of a record.
 pub const RECORD: usize = 64;
 
 /// The numbers in the rows of a record, in the order of their places.
@@ -14,7 +14,7 @@ pub struct Rows {
     pub tag: u8,
     /// At 1: the form of a target, a code, or yes as 1 and no as 0.
     pub form: u8,
-    /// At 2.
+    /// At 2: a VPE.
     pub vpe: u16,
     /// At 4: a selector or an index.
     pub index: u16,
@@ -24,7 +24,7 @@ pub struct Rows {
     pub first: u64,
     /// At 16: the key, or the service of a target.
     pub second: u64,
-    /// At 24.
+    /// At 24: a job.
     pub job: u32,
     /// At 28: the kind of the object.
     pub kind: u8,

@@ -1,14 +1,14 @@
--- Cells: parts of a range of addresses that follow on each other.
+-- Cells: adjoining parts of a range of addresses.
 use Rattle.std.specs.Prelude.{◌≡◌, ℕ, ◌+◌, ◌≤◌, ◌==◌, List, Option, Some, None, fold, if◌then◌else◌}
 use Rattle.sem_access.specs.LastWrites.{looked}
 use Rattle.sem_writers.specs.declared.cells.Cell.{Cell}
 
--- where a cell ends that begins where the ones before it ended; none where it begins elsewhere
+-- the end of a cell that begins where the earlier ones ended; none if it begins elsewhere
 abbrev pub end_behind : Option ℕ → Cell → Option ℕ
 end_behind (Some end) c = if c.begin == end then Some (c.begin + c.len) else None
 end_behind None c = None
 
--- where cells end that follow on each other from an address on
+-- the end of adjoining cells from an address on
 abbrev pub cells_end : ℕ → List Cell → Option ℕ
 cells_end begin cs = fold end_behind (Some begin) cs
 

@@ -1,4 +1,4 @@
-// The areas of memory: each is that of a root memory, or of several that share addresses.
+// The areas of memory: each belongs to a root memory, or to several that share addresses.
 use sem_key::{Key, Kind, NUMBERS, Object, OutOfMemory, PES, VPES};
 use sem_msg::{Setup, VpeDecl};
 use std::alloc::Global;
@@ -12,7 +12,7 @@ pub struct Area {
 }
 
 impl Area {
-    /// Where it ends.
+    /// The address after its last one.
     pub fn end(&self) -> u64 {
         self.base.saturating_add(self.len)
     }
@@ -64,8 +64,8 @@ fn push_roots(roots: &mut Vec<RootMemory>, decl: &VpeDecl) -> Result<(), OutOfMe
     Ok(())
 }
 
-// The key of a root memory of the VPE; its roots are numbered from 0. None where that is no key,
-// which no setup has.
+// The key of a root memory of the VPE; its roots are numbered from 0. None if that is no key, which
+// no setup has.
 fn root_key(decl: &VpeDecl, place: usize) -> Option<Key> {
     let number = u32::try_from(place).ok()?;
     if usize::from(decl.pe) >= PES || decl.vpe >= VPES || number >= NUMBERS {
@@ -93,7 +93,7 @@ fn joins_last(areas: &mut Vec<Area>, root: &RootMemory) -> Result<bool, OutOfMem
     Ok(true)
 }
 
-/// The place of the area with the address: the last that begins there or before it.
+/// The place of the area with the address: the last one that begins there or before it.
 pub fn area_of(areas: &[Area], address: u64) -> Option<usize> {
     let mut found = None;
     for (place, area) in areas.iter().enumerate() {

@@ -1,4 +1,4 @@
-// An area as a bar that can be drawn.
+// An area as a drawable bar.
 ghost use Rattle.std.specs.Prelude.{◌≤◌};
 
 use crate::areas::Area;
@@ -13,7 +13,7 @@ use sem_mem::{Access, Look};
 use sem_msg::Setup;
 use std::alloc::Global;
 
-/// A part of an area: a run, or what was never written.
+/// A part of an area: a run, or addresses that were never written.
 #[derive(Clone, Copy, Debug)]
 pub struct Part {
     pub begin: u64,
@@ -26,11 +26,11 @@ pub struct Part {
 pub struct Found {
     pub access: Access,
     pub look: Look,
-    /// Who wrote the newest.
+    /// The access that wrote the newest.
     pub writer: Option<Access>,
 }
 
-/// The bar of an area, where `found` are the reads of it. `vpes` are all that have colours.
+/// The bar of an area, with `found` as the reads of it. `vpes` are all that have colours.
 pub fn bar_of(
     alloc: Global,
     setup: &Setup,
@@ -61,7 +61,7 @@ pub fn bar_of(
     })
 }
 
-// The parts of an area, which has these runs and others.
+// The parts of an area. `rows` has its runs and others.
 fn parts_of(alloc: Global, area: &Area, rows: &[Written]) -> Result<Vec<Part>, OutOfMemory> {
     let mut parts = Vec::new(alloc);
     let mut begin = area.base;
@@ -92,12 +92,12 @@ fn push_gap(parts: &mut Vec<Part>, begin: u64, end: u64) -> Result<(), OutOfMemo
     Ok(())
 }
 
-// Which colour a VPE has.
+// The colour of a VPE.
 fn color_of(vpes: &[u16], vpe: u16) -> usize {
     vpes.iter().position(|one| *one == vpe).unwrap_or(0)
 }
 
-// Who owns a run.
+// The owner of a run.
 fn owner_of(row: &Written, vpes: &[u16]) -> Option<Owner> {
     let writer = row.writer?;
     Some(Owner {
@@ -107,7 +107,7 @@ fn owner_of(row: &Written, vpes: &[u16]) -> Option<Owner> {
     })
 }
 
-// Who owns the cells of an area.
+// The owners of the cells of an area.
 fn owners_of(
     alloc: Global,
     area: &Area,
@@ -124,7 +124,7 @@ fn owners_of(
     Ok(owners)
 }
 
-/// How many addresses a cell of a range has.
+/// The number of addresses in a cell of a range.
 pub fn cell_size(len: u64) -> u32
     ensures { 1 ≤ result }
 {
@@ -132,14 +132,14 @@ pub fn cell_size(len: u64) -> u32
     size.max(1) as u32
 }
 
-// Who wrote by the entry.
+// The VPE that wrote by the entry.
 fn newest_owner(rows: &[Written], newest: Option<u64>, vpes: &[u16]) -> Option<Owner> {
     let entry = newest?;
     let row = rows.iter().find(|row| row.run.entry == entry)?;
     owner_of(row, vpes)
 }
 
-// What stands above the bar of an area.
+// The title above the bar of an area.
 fn title_of(alloc: Global, setup: &Setup, area: &Area) -> Result<String, OutOfMemory> {
     let (base, len) = (area.base, area.len);
     let mut text = format!(in alloc; "{len} bytes from {base};")?;
@@ -157,7 +157,7 @@ fn title_of(alloc: Global, setup: &Setup, area: &Area) -> Result<String, OutOfMe
     Ok(text)
 }
 
-// How many addresses a cell of an area has.
+// The text about how many addresses a cell of an area has.
 fn scale_of(alloc: Global, area: &Area) -> Result<String, OutOfMemory> {
     let size = cell_size(area.len);
     format!(in alloc; "{size} bytes a cell")
@@ -184,7 +184,7 @@ fn spans_of(alloc: Global, found: &[Found], vpes: &[u16]) -> Result<Vec<Span>, O
     Ok(spans)
 }
 
-// What is said of a read.
+// The text about a read.
 fn span_text(alloc: Global, found: &Found) -> Result<String, OutOfMemory> {
     let (entry, vpe, base) = (found.access.entry, found.access.vpe, found.access.base);
     let (len, written) = (found.access.len, found.look.written);

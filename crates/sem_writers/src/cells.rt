@@ -16,10 +16,10 @@ pub struct Cell {
     pub newest: Option<u64>,
 }
 
-/// The range in parts of `size` addresses, but for the last, which may be shorter. The parts follow
-/// on each other and have all addresses of the range.
+/// The range in parts of `size` addresses; the last may be shorter. The parts adjoin and have all
+/// addresses of the range.
 ///
-/// The range ends within 4 GiB.
+/// The range must end within 4 GiB.
 pub fn cells_of(
     alloc: Global,
     memory: &Memory,
@@ -46,7 +46,7 @@ pub fn cells_of(
     Ok(cells)
 }
 
-// The part that begins there.
+// The part that begins at that address.
 fn cell_at(memory: &Memory, begin: u64, end: u64, size: u32) -> Cell
     requires some { 1 ≤ size }
     requires before { begin < end }

@@ -1,4 +1,4 @@
-// The tables of a bar: its parts, and the reads of it.
+// The tables of a bar: its parts, and its reads.
 use crate::bars::{Found, Part};
 use sem_draw::Column;
 use sem_hint::key_text;
@@ -62,19 +62,18 @@ pub fn note_columns(alloc: Global, found: &[Found]) -> Result<Vec<Column>, OutOf
     Ok(table)
 }
 
-// The text of a number.
 fn number(alloc: Global, number: u64) -> Result<String, OutOfMemory> {
     format!(in alloc; "{number}")
 }
 
-// Who made an access, and through which key.
+// The VPE that made an access, and the key it went through.
 fn through(alloc: Global, access: &Access) -> Result<String, OutOfMemory> {
     let vpe = access.vpe;
     let key = key_text(alloc, &access.key)?;
     format!(in alloc; "v{vpe} through {key}")
 }
 
-// The newest entry that a read found, and whose it is.
+// The newest entry that a read found, and the VPE that wrote it.
 fn newest_text(alloc: Global, found: &Found) -> Result<String, OutOfMemory> {
     let Some(newest) = found.look.newest else {
         return Ok(String::new(alloc));

@@ -1,4 +1,4 @@
-// What is asked for, and what is answered.
+// Requests for a picture of memory, and their answers.
 use crate::areas::{Area, area_of, areas};
 use crate::bars::{Found, bar_of};
 use crate::holdings::{Holdings, holdings_after};
@@ -15,7 +15,7 @@ use std::alloc::Global;
 /// The most runs and accesses of a picture.
 pub const ROWS: usize = 10_000;
 
-/// What is asked for: what memory holds after the first `at` entries, or after all of them.
+/// A request for what memory holds after the first `at` entries, or after all of them.
 #[derive(Clone, Copy, Debug)]
 pub struct MemoryRequest {
     pub picture: Picture,
@@ -133,7 +133,6 @@ fn writer_in(list: &[Access], entry: u64) -> Option<Access> {
     list.iter().find(|access| access.entry == entry).copied()
 }
 
-// The bars, drawn.
 fn draw(alloc: Global, bars: &[Bar], picture: Picture) -> Result<String, OutOfMemory> {
     match picture {
         Picture::Boxes | Picture::Plain if bars.is_empty() => {

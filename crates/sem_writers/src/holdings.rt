@@ -1,5 +1,6 @@
 // What memory holds after a journal, and what its accesses found.
-ghost use Rattle.std.specs.Prelude.{◌≡◌, ◌+◌, ◌≤◌, ◌++◌, ◌∷◌, [], ℕ, Some, All, length, map, if◌then◌else◌, IfOk, OnOk};
+ghost use Rattle.std.specs.Prelude.{◌≡◌, ◌+◌, ◌≤◌, ◌++◌, ◌∷◌, [], ℕ, Some, All, length, map};
+ghost use Rattle.std.specs.Prelude.{if◌then◌else◌, IfOk, OnOk};
 ghost use Rattle.sem_key.specs.declared.limits.TheConstants.{ADDRESSES};
 ghost use Rattle.sem_machine.specs.Schedules.{IsSchedule};
 ghost use Rattle.sem_access.specs.Accesses.{accesses as accesses_lem};
@@ -15,8 +16,8 @@ use sem_mem::{Access, AccessList, Look, Memory, accesses};
 use sem_msg::{Journal, Setup};
 use std::alloc::Global;
 
-/// What memory holds: the runs with who wrote them, the accesses, and for each of these what it
-/// found before it.
+/// What memory holds: the runs with their writers, the accesses, and for each access what it found
+/// before it.
 #[derive(Debug, Drop)]
 pub struct Holdings {
     pub memory: Memory,
@@ -41,7 +42,7 @@ pub fn holdings_after(
     ensures writers { IfOk result (λ h. All (IsWriter h.accesses) h.rows.items) }
     ensures looks { IfOk result (λ h. h.looks.items ≡ map (found_by h.accesses) h.accesses) }
 {
-    // So that the proof knows what a setup keeps.
+    // Shows the proof what a setup keeps.
     let _ = &setup.vpes;
     let list = accesses(alloc, setup, journal)?;
     let (memory, looks) = followed(alloc, list.as_slice())?;
@@ -70,7 +71,7 @@ fn followed(alloc: Global, list: &[Access]) -> Result<(Memory, Vec<Look>), OutOf
     Ok((memory, looks))
 }
 
-// The access happens: what it finds is appended, and a write changes what memory holds.
+// Lets the access happen: appends what it finds, and a write changes what memory holds.
 fn take_in(memory: &mut Memory, looks: &mut Vec<Look>, access: &Access) -> Result<(), OutOfMemory>
     requires fits { access.now.base + access.now.len ≤ ADDRESSES }
     requires newer { IsNewer memory.old access.now.entry }

@@ -1,4 +1,4 @@
-//! Who wrote what memory holds after the first entries of a report, and what each read found.
+//! Which VPE wrote what memory holds after the first entries of a report, and what each read found.
 #![tactic(auto)]
 
 mod areas;

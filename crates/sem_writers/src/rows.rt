@@ -1,4 +1,4 @@
-// Runs of addresses with who wrote them.
+// Runs of addresses with their writers.
 ghost use Rattle.std.specs.Prelude.{◌≡◌, ◌==◌, All, find, map, option_copied, IfOk};
 ghost use Rattle.sem_writers.specs.Written.{IsWriter};
 
@@ -13,7 +13,7 @@ pub struct Written {
     pub writer: Option<Access>,
 }
 
-/// The runs with who wrote them, among these accesses.
+/// The runs with their writers, found among these accesses.
 pub fn written_rows(
     alloc: Global,
     runs: &[Run],

@@ -1,4 +1,4 @@
-//! The program.
+//! The program `semper`.
 #![tactic(auto)]
 
 use sem_run::program;

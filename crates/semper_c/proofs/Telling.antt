@@ -1,5 +1,6 @@
 -- What the top call leaves in memory is the answer that is promised.
-use Rattle.std.proofs.Common.{◌≡◌, ℕ, Bool, true, false, List, [], ◌++◌, Option, Some, None, IfSome, refl, sym, ◌∙◌, ap, subst, append-nil, arith, inl, inr, ◌∷◌, ◌<◌, ◌^◌, map, codes, decimal, String, string_bytes}
+use Rattle.std.proofs.Common.{◌≡◌, ℕ, Bool, true, false, List, [], ◌++◌, Option, Some, None, IfSome, refl, sym, ◌∙◌, ap, subst, append-nil, arith, inl, inr}
+use Rattle.std.proofs.Common.{◌∷◌, ◌<◌, ◌^◌, map, codes, decimal, String, string_bytes}
 use Rattle.std.specs.Prelude.{◌≢◌}
 use Rattle.std.proofs.lemmas.Bool.{false≢true}
 use Rattle.std.proofs.lemmas.Option.{none-some, same_Some}
@@ -33,7 +34,8 @@ use Rattle.semper_c.specs.Served.{from_memory, to_memory}
 run-words : (seed : ℕ) → seed < 2 ^ 64 → command_of (codes "run" ∷ decimal seed ∷ []) ≡ Some (Run seed)
 run-words seed fits = rw (number_of-decimal seed 18446744073709551615 (omega arith) fits) refl
 
-pub run-asked : {A : Type 0} (words : List (String A)) (first second : String A) (seed : ℕ) → words ≡ first ∷ second ∷ [] → string_bytes first ≡ codes "run" → string_bytes second ≡ decimal seed → seed < 2 ^ 64 → asked_by words ≡ Some (Run seed)
+pub run-asked : {A : Type 0} (words : List (String A)) (first second : String A) (seed : ℕ) → words ≡ first ∷ second ∷ [] → string_bytes first ≡ codes "run" →
+    string_bytes second ≡ decimal seed → seed < 2 ^ 64 → asked_by words ≡ Some (Run seed)
 run-asked words first second seed items is number fits = rw (items, is, number) (run-words seed fits)
 
 -- what was read to the end of an input is all of it
@@ -105,7 +107,8 @@ module _ (input : List ℕ) (rest : Option (List ℕ)) (J : List Entry) (text : 
     run-done told is (inr (inl ends)) = absurd (not-run g (Ask ends.question) (Run seed) ends.command refl refl refl)
     run-done told is (inr (inr (inl ends))) = absurd (not-run g (Generate ends.seed ends.vpes ends.calls) (Run seed) ends.command refl refl refl)
     run-done told is (inr (inr (inr (inl ends)))) = absurd (not-both g (Threads ends.seed) (Run seed) is_alone ends.command refl refl refl)
-    run-done told is (inr (inr (inr (inr (inl ends))))) = absurd (not-both g (Soak ends.seed ends.vpes ends.calls) (Run seed) is_alone ends.command refl refl refl)
+    run-done told is (inr (inr (inr (inr (inl ends))))) =
+        absurd (not-both g (Soak ends.seed ends.vpes ends.calls) (Run seed) is_alone ends.command refl refl refl)
     run-done told is (inr (inr (inr (inr (inr ends))))) = absurd (no-files g seed ends.seed (inl refl) ends.command)
 
     run-refused : (told : List ℕ) → text ≡ told → EndsRefused g J told → IsTraceRefused input text
@@ -152,7 +155,8 @@ module _ (input : List ℕ) (rest : Option (List ℕ)) (J : List Entry) (text : 
           spelled = sym (whole rest input (report T ends.entries) ends.input.taken ends.input.to_end);
           told = subst (λ t. IsAnswer question T ends.entries t) (sym is) told';
         }
-    report-done told is (inr (inr (inl ends))) = absurd (not-both h (Generate ends.seed ends.vpes ends.calls) (Ask question) reads_input ends.command refl refl refl)
+    report-done told is (inr (inr (inl ends))) =
+        absurd (not-both h (Generate ends.seed ends.vpes ends.calls) (Ask question) reads_input ends.command refl refl refl)
     report-done told is (inr (inr (inr (inl ends)))) = absurd (not-run h (Ask question) (Threads ends.seed) refl refl ends.command refl)
     report-done told is (inr (inr (inr (inr (inl ends))))) = absurd (not-run h (Ask question) (Soak ends.seed ends.vpes ends.calls) refl refl ends.command refl)
     report-done told is (inr (inr (inr (inr (inr ends))))) = absurd (not-run h (Ask question) (Files ends.seed) refl refl ends.command refl)

@@ -1,18 +1,16 @@
--- What each function of the library answers, and how it hands that to its caller
--- ("What a call promises" in docs/embedding.md).
+-- What each function of the library answers, and how it hands the answer to its caller ("What a
+-- call promises" in docs/embedding.md).
 use Rattle.std.specs.Prelude.{◌≡◌, ◌⊎◌, ℕ, ◌<◌, ◌≤◌, List, [], ◌++◌, length, drop, Some}
-use Rattle.sem_msg.specs.declared.entry.Entry.{Entry}
-use Rattle.sem_msg.specs.Setup.{Setup, IsSetup}
+use Rattle.sem_machine.specs.Prelude.{Entry, Setup, IsSetup, seeded, IsComplete}
 use Rattle.sem_trace.specs.declared.fault.TraceFault.{TraceFault}
 use Rattle.sem_trace.specs.Refusal.{refusal}
 use Rattle.sem_trace.specs.Standing.{Stands}
-use Rattle.sem_machine.specs.Seeded.{seeded}
-use Rattle.sem_machine.specs.Living.{IsComplete}
 use Rattle.sem_machine.specs.Safety.{IsSafe}
 use Rattle.sem_audit.specs.HeldKeys.{report}
 use Rattle.sem_cli.specs.declared.forms.Question.{Question}
 use Rattle.sem_cli.specs.declared.statuses.Status.{Status}
-use Rattle.sem_cli.specs.declared.statuses.Status.TheVariants.{Done, Usage, TraceRefused, ReadFault, WriteFault, Memory, ReportRefused}
+use Rattle.sem_cli.specs.declared.statuses.Status.TheVariants.{Done, Usage, TraceRefused, ReadFault, WriteFault}
+use Rattle.sem_cli.specs.declared.statuses.Status.TheVariants.{Memory, ReportRefused}
 use Rattle.sem_cli.specs.Messages.{refused_line}
 use Rattle.sem_cli.specs.Statuses.{status_number}
 use Rattle.sem_run.specs.Reports.{IsReport, IsRefusedReport}
@@ -62,11 +60,11 @@ ReportAnswer question bytes WriteFault text = ⊥
 ReportAnswer question bytes Memory text = text ≡ []
 ReportAnswer question bytes ReportRefused text = (¬ IsReport bytes) × IsRefusedReport bytes text
 
--- the number that says that the buffer is too small; no status of the program has it
+-- the number for a buffer that is too small; no status of the program has it
 abbrev pub too_small : ℕ
 too_small = 10
 
--- The text stands at the front of the buffer, and the number is that of the status.
+-- The text is at the front of the buffer, and the number is that of the status.
 pub record IsTold (status : Status) (text before after : List ℕ) (number : ℕ) : Type 0 where
   pub fits : length text ≤ length before
   pub written : after ≡ text ++ drop (length text) before
@@ -78,8 +76,8 @@ pub record IsTooLong (text before after : List ℕ) (number : ℕ) : Type 0 wher
   pub untouched : after ≡ before
   pub numbered : number ≡ too_small
 
--- Such an answer is handed over: the buffer before and after, the count of the bytes of the text,
--- and the number that is returned.
+-- The answer is handed over: the buffer before and after, the count of the bytes of the text, and
+-- the returned number.
 pub record Hands
     (Answer : Status → List ℕ → Type 0) (before after : List ℕ)
     (count number : ℕ) : Type 0 where

@@ -1,6 +1,6 @@
--- For private functions alone: what the top call leaves in memory.
+-- Only for private functions: what the top call leaves in memory.
 use Rattle.std.specs.Prelude.{◌≡◌, ◌≢◌, ◌⊎◌, ℕ, List, [], Option, Some}
-use Rattle.sem_msg.specs.declared.entry.Entry.{Entry}
+use Rattle.sem_machine.specs.Prelude.{Entry}
 use Rattle.sem_cli.specs.declared.forms.Command.{Command}
 use Rattle.sem_cli.specs.declared.statuses.Status.{Status}
 use Rattle.sem_cli.specs.declared.statuses.Status.TheVariants.{WriteFault, Memory}
@@ -18,7 +18,7 @@ from_memory asked input rest = record {
   faults_after = 0;
 }
 
--- an output in memory, of which this was written
+-- an output in memory with these written bytes
 abbrev pub to_memory : Status → List Entry → List ℕ → ℕ → Output
 to_memory status journal text faults = record {
   status = status;
@@ -39,7 +39,7 @@ pub record IsServed
   pub whole : status ≢ WriteFault
   pub serves : Serves (from_memory asked input rest) (to_memory status journal text faults)
 
--- so it is, or memory is lacking and there is no text
+-- the program serves so, or memory was refused and there is no text
 abbrev pub IsServedOrLacks : Option Command → List ℕ → Status → List ℕ → Type 0
 IsServedOrLacks asked input status text =
     IsServed asked input status text ⊎ ((status ≡ Memory) × (text ≡ []))

@@ -2,7 +2,8 @@
 ghost use Rattle.std.specs.Prelude.{◌≡◌, true, [], Some, IfOk};
 ghost use Rattle.sem_cli.specs.declared.forms.Command.{Command as CommandData};
 ghost use Rattle.sem_cli.specs.declared.forms.Command.TheVariants.{Run, Ask};
-ghost use Rattle.sem_cli.specs.declared.forms.Question.TheVariants.{Check as CheckQuestion, Contents as ContentsQuestion};
+ghost use Rattle.sem_cli.specs.declared.forms.Question.TheVariants.{Check as CheckQuestion};
+ghost use Rattle.sem_cli.specs.declared.forms.Question.TheVariants.{Contents as ContentsQuestion};
 ghost use Rattle.sem_run.specs.Inputs.{asked_by, is_alone};
 ghost use Rattle.semper_c.specs.Answers.{RunAnswer, ReportAnswer};
 ghost use Rattle.semper_c.specs.Served.{IsServedOrLacks};
@@ -14,7 +15,7 @@ use sem_msg::Journal;
 use sem_run::semper_alone;
 use std::alloc::{AllocError as OutOfMemory, Global};
 
-/// What the program answers: its status, and what it writes.
+/// What the program answers: its status, and the text that it writes.
 #[derive(Drop)]
 pub struct Answer {
     pub status: Status,
@@ -22,7 +23,7 @@ pub struct Answer {
 }
 
 impl Answer {
-    // The answer where memory was refused.
+    // The answer if memory was refused.
     fn out_of_memory(alloc: Global) -> Self
         ensures status { result.status ≡ Status.Memory }
         ensures text { result.text.items ≡ [] }
@@ -92,7 +93,7 @@ fn contents_words(alloc: Global) -> Result<Vec<String>, OutOfMemory>
     Ok(words)
 }
 
-// What the program answers to the words and the input. A write can fail only for lack of memory.
+// The program's answer to the words and the input. A write can fail only for lack of memory.
 fn serve(alloc: Global, words: &[String], input: &[u8]) -> Answer
     requires { (c : CommandData) → asked_by words.now ≡ Some c → is_alone c ≡ true }
     ensures { IsServedOrLacks (asked_by words.now) input.now result.status result.text.items }

@@ -1,11 +1,12 @@
 ghost use Rattle.std.specs.Prelude.{◌≡◌, ◌⊎◌, length};
-ghost use Rattle.sem_cli.specs.declared.forms.Question.TheVariants.{Check as CheckQuestion, Contents as ContentsQuestion};
+ghost use Rattle.sem_cli.specs.declared.forms.Question.TheVariants.{Check as CheckQuestion};
+ghost use Rattle.sem_cli.specs.declared.forms.Question.TheVariants.{Contents as ContentsQuestion};
 ghost use Rattle.semper_c.specs.Answers.{Hands, IsTold, IsTooLong, RunAnswer, ReportAnswer};
 
 use crate::answers::{Answer, check, contents, run};
 use std::alloc::Global;
 
-/// What is returned where the buffer is too small for the text. No status of the program is this.
+/// The result if the buffer is too small for the text. No status of the program has this number.
 const TOO_SMALL: u32 = 10;
 
 /// The version of this interface.
@@ -56,8 +57,8 @@ pub extern "C" fn semper_contents(
     hand_over(&contents(alloc, text), out, written)
 }
 
-// Copies the text into the buffer if it fits, and counts its bytes. The number of its status, or
-// TOO_SMALL.
+// Copies the text into the buffer if it fits, and counts its bytes. Returns the number of its
+// status, or TOO_SMALL.
 fn hand_over(answer: &Answer, out: &mut [u8], written: &mut usize) -> u32
     ensures counted { written.new ≡ length answer.now.text.items }
     ensures handed { IsTold answer.now.status answer.now.text.items out.old out.new result

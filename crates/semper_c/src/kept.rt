@@ -6,7 +6,8 @@ ghost use Rattle.sem_io.specs.SinkBytes.{Appends};
 use sem_io::{Failed, Sink};
 use std::alloc::Global;
 
-/// A sink in memory. It takes every piece whole, and fails only where memory is refused.
+/// A sink in memory. It takes every piece whole, and fails only if memory is refused. Making one
+/// takes no memory.
 #[derive(Drop)]
 pub struct KeptSink {
     /// What was written.
@@ -16,7 +17,7 @@ pub struct KeptSink {
 }
 
 impl KeptSink {
-    /// A sink to which nothing was written yet. Takes no memory.
+    /// A sink with nothing written yet.
     pub fn new(alloc: Global) -> Self
         ensures bytes { result.bytes.items ≡ [] }
         ensures failed { result.failed ≡ 0 }

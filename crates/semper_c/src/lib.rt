@@ -1,5 +1,5 @@
-//! The program as a static library with a C interface, which `include/semper.h` declares: texts in,
-//! texts out into the caller's buffer, a status back. It waits for nobody and keeps nothing.
+//! The program as a static library with a C interface, declared in `include/semper.h`: texts in,
+//! texts out into the caller's buffer, a status back. It never waits, and keeps nothing.
 #![tactic(auto)]
 
 mod answers;

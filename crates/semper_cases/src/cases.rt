@@ -1,4 +1,4 @@
-// A case: words and an input for the program, and what it writes and ends with.
+// A case: the words and the input for the program, and its expected output and exit status.
 use sem_cli::{Command, command};
 use sem_io::{MemSink, MemSource};
 use sem_msg::Journal;
@@ -8,7 +8,7 @@ use std::alloc::{AllocError, Global};
 /// The most bytes that a case may write.
 const MOST_BYTES: usize = 16_777_216;
 
-/// What the files of a case hold.
+/// The contents of a case's files.
 #[derive(Debug, Drop)]
 pub struct Case {
     /// The words of the command line, and a line feed.
@@ -34,7 +34,6 @@ pub fn passes(alloc: Global, case: &Case) -> Result<bool, AllocError> {
     Ok(ended.as_bytes() == case.status.as_slice() && sink.bytes == case.output)
 }
 
-// The words of the line.
 fn words_of(alloc: Global, line: &[u8]) -> Result<Vec<String>, AllocError> {
     let mut words = Vec::new(alloc);
     let Ok(text) = str::from_utf8(line) else {

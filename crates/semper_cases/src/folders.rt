@@ -3,7 +3,7 @@ use crate::cases::{Case, passes};
 use crate::waits::waits_so;
 use std::{fs, io};
 
-/// Tries each folder and tells how many of its cases passed. How many differ in all.
+/// Tries each folder and prints how many of its cases passed. Returns how many differ in all.
 pub fn try_folders(rt: &HostRuntime) -> io::Result<u64> {
     let mut differ = 0u64;
     for folder in &names(rt, ".", "")? {
@@ -12,7 +12,7 @@ pub fn try_folders(rt: &HostRuntime) -> io::Result<u64> {
     Ok(differ)
 }
 
-// Tries each case of the folder, and tells how many passed. How many differ.
+// Tries each case of the folder, and prints how many passed. Returns how many differ.
 fn try_folder(rt: &HostRuntime, folder: &str) -> io::Result<u64> {
     let mut passed = 0u64;
     let mut differ = 0u64;
@@ -29,7 +29,7 @@ fn try_folder(rt: &HostRuntime, folder: &str) -> io::Result<u64> {
     Ok(differ)
 }
 
-// Whether the case of that path, without what its files' names end in, passes.
+// Whether the case of that path passes. The path comes without the endings of the case's files.
 fn try_case(rt: &HostRuntime, path: &str) -> io::Result<bool> {
     let case = read_case(rt, path)?;
     if !passes(rt.alloc(), &case)? {
@@ -38,7 +38,6 @@ fn try_case(rt: &HostRuntime, path: &str) -> io::Result<bool> {
     try_waits(rt, path, &case.input)
 }
 
-// The case of that path.
 fn read_case(rt: &HostRuntime, path: &str) -> io::Result<Case> {
     let words = contents(rt, path, ".words")?;
     let input = contents(rt, path, ".in")?;
@@ -62,13 +61,13 @@ fn try_waits(rt: &HostRuntime, path: &str, report: &[u8]) -> io::Result<bool> {
     Ok(waits_so(rt.alloc(), report, &told)?)
 }
 
-// What the file of the case holds.
+// The contents of a file of the case.
 fn contents(rt: &HostRuntime, path: &str, ending: &str) -> io::Result<Vec<u8>> {
     let name = format!(in rt.alloc(); "{path}{ending}")?;
     fs::read(rt, name.as_str())
 }
 
-// The names in the folder that end so, without that, in rising order.
+// The names in the folder with that ending, without the ending, in rising order.
 fn names(rt: &HostRuntime, folder: &str, ending: &str) -> io::Result<Vec<String>> {
     let mut found = Vec::new(rt.alloc());
     for entry in fs::read_dir(rt, folder)? {

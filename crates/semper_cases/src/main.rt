@@ -1,6 +1,6 @@
-//! Runs the cases that lie in the folders below the one that it is run in, and tells folder by
-//! folder how many passed. A case that differs is named. Ends with 0 where all passed, with 1
-//! where one differs, and with 3 where a file cannot be read.
+//! Runs the cases in the folders below the current one, and prints folder by folder how many
+//! passed. It names every case that differs. Ends with 0 if all passed, with 1 if one differs, and
+//! with 3 if a file cannot be read.
 #![tactic(auto)]
 
 mod cases;

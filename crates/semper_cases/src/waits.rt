@@ -7,8 +7,8 @@ use sem_report::read_report;
 use sem_text::push_number;
 use std::alloc::Global;
 
-/// Whether the enabled events of the report's journal are told by these lines: how many entries
-/// come before, and then event by event its kernel and its words.
+/// Whether these lines tell the enabled events of the report's journal: how many entries come
+/// before, and then event by event its kernel and its words.
 pub fn waits_so(alloc: Global, report: &[u8], told: &[u8]) -> Result<bool, OutOfMemory> {
     let after = match told.iter().position(|byte| *byte == b'\n') {
         Some(end) => number_of(&told[..end]),
@@ -32,7 +32,7 @@ fn number_of(bytes: &[u8]) -> Option<u64> {
     }
 }
 
-// Appends a line for each event that is enabled after so many entries of the report's journal.
+// Appends a line for each event that is enabled after that many entries of the report's journal.
 fn push_enabled(
     alloc: Global,
     out: &mut Vec<u8>,
@@ -45,7 +45,7 @@ fn push_enabled(
     }
 }
 
-// The same, of the journal's entries.
+// The same for the journal's entries.
 fn push_enabled_after(
     alloc: Global,
     out: &mut Vec<u8>,
@@ -62,7 +62,7 @@ fn push_enabled_after(
     }
 }
 
-// The events of so many entries happen, up to one that cannot.
+// Lets the events of that many entries happen, up to one that cannot.
 fn go_on(world: &mut World, entries: &[Entry], after: u64) {
     for (place, entry) in entries.iter().enumerate() {
         if place as u64 == after || world.step(entry.event).is_err() {

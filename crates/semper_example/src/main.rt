@@ -1,5 +1,5 @@
-//! An example of a program over the crates: it reads a trace, runs it by the seed 0, has the
-//! journal checked, and says how many entries it has.
+//! An example of a program over the crates: it reads a trace, runs it by the seed 0, checks the
+//! journal, and prints how many entries it has.
 #![tactic(auto)]
 
 ghost use Rattle.std.specs.Prelude.{◌≡◌, IfOk};
@@ -23,8 +23,8 @@ fn run(alloc: Global, setup: &Setup, seed: u64) -> Result<Journal, OutOfMemory>
     Ok(fabric.into_journal())
 }
 
-/// Has a complete schedule checked. It is accepted, unless memory is refused: no run reaches the
-/// last two arms. The law says why, and does nothing when it is called.
+/// Checks a complete schedule. It is accepted, unless memory is refused: no run reaches the last
+/// two arms. The law says why, and does nothing when it is called.
 fn confirm(alloc: Global, setup: &Setup, journal: &Journal) -> Result<(), OutOfMemory>
     requires { IsComplete setup.now journal.now.entries }
 {

@@ -1,4 +1,4 @@
-// What is asked of files that the words name.
+// Requests about files that the words name.
 use sem_compare::{outcomes_merged, report_differences};
 use sem_draw::Answer;
 use std::alloc::AllocError;
@@ -7,7 +7,7 @@ use std::fs;
 /// Why there is no answer.
 #[derive(Clone, Copy, Debug, PartialEq, Eq)]
 pub enum FileFault {
-    /// A file could not be read, as was told on standard error.
+    /// A file could not be read, and standard error told so.
     Unread,
     Memory,
 }
@@ -29,7 +29,7 @@ pub fn merge(rt: &HostRuntime, names: &[String], is_json: bool) -> Result<Answer
     Ok(outcomes_merged(rt.alloc(), texts.as_slice(), is_json)?)
 }
 
-/// In what the reports in two files differ.
+/// The differences of the reports in two files.
 pub fn diff(rt: &HostRuntime, one: &str, other: &str) -> Result<Answer, FileFault> {
     let one = contents(rt, one)?;
     let other = contents(rt, other)?;

@@ -1,5 +1,5 @@
-//! The program: its words, standard input, and what it writes on standard output and on standard
-//! error.
+//! The program `semper-view`: its words, standard input, and what it writes to standard output and
+//! standard error.
 #![tactic(auto)]
 
 ghost use Rattle.std.specs.Prelude.{◌≤◌, length};
@@ -35,7 +35,7 @@ use std::process::ExitCode;
 /// The most bytes of an input.
 const MOST_BYTES: usize = 134_217_728;
 
-/// How the program ends where it was not able to do what was asked for.
+/// The exit status if the program was not able to do what was asked.
 const FAULT: u8 = 3;
 
 fn main(rt: HostRuntime) -> ExitCode {
@@ -63,7 +63,7 @@ fn main(rt: HostRuntime) -> ExitCode {
     }
 }
 
-// Reads what is asked for, and writes the answer.
+// Reads the input of the request, and writes the answer.
 fn answer(rt: &HostRuntime, asked: &Asked) -> ExitCode {
     match asked {
         Asked::Merge { files, is_json } => {
@@ -74,7 +74,7 @@ fn answer(rt: &HostRuntime, asked: &Asked) -> ExitCode {
     }
 }
 
-// Writes the answer to what is asked of files, if there is one.
+// Writes the answer to a request about files, if there is one.
 fn write_found(rt: &HostRuntime, found: Result<Answer, FileFault>) -> ExitCode {
     match found {
         Ok(answer) => write(rt, &answer),
@@ -83,7 +83,7 @@ fn write_found(rt: &HostRuntime, found: Result<Answer, FileFault>) -> ExitCode {
     }
 }
 
-// Reads the input, and writes the answer to what is asked of it.
+// Reads the input, and writes the answer to the request about it.
 fn answer_on_input(rt: &HostRuntime, asked: &Asked) -> ExitCode {
     let mut input = ReadSource::new(rt.stdin());
     let bytes = match read_all(rt.alloc(), &mut input, MOST_BYTES) {
@@ -97,7 +97,7 @@ fn answer_on_input(rt: &HostRuntime, asked: &Asked) -> ExitCode {
     }
 }
 
-// The answer to what is asked, with these bytes as the input.
+// The answer to the request, with these bytes as the input.
 fn answer_to(rt: &HostRuntime, asked: &Asked, bytes: &[u8]) -> Result<Answer, AllocError>
     requires few { length bytes.now ≤ 134217729 }
 {
@@ -121,8 +121,8 @@ fn answer_to(rt: &HostRuntime, asked: &Asked, bytes: &[u8]) -> Result<Answer, Al
     }
 }
 
-// Why these bytes, a trace, a report or file commands, are refused, or that they are accepted. Their
-// first line that says something tells which they are.
+// Why these bytes, a trace, a report or file commands, are refused, or that they are accepted.
+// Their first line that says something tells which of these they are.
 fn explain(alloc: Global, bytes: &[u8]) -> Result<Answer, AllocError>
     requires few { length bytes.now ≤ 134217729 }
 {
@@ -153,7 +153,7 @@ fn write(rt: &HostRuntime, answer: &Answer) -> ExitCode {
     })
 }
 
-// Tells why the program could not do what was asked for.
+// Writes to standard error why the program could not do what was asked.
 fn fault(rt: &HostRuntime, text: &str) -> ExitCode {
     let _ = eprintln!(rt; "semper-view: {text}");
     ExitCode::from(FAULT)

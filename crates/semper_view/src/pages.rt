@@ -12,7 +12,7 @@ use sem_tree::{ForestsFault, KEYS, forest_lines};
 use sem_view::{stats_as_json, stats_of};
 use std::alloc::Global;
 
-/// The page of the report, which shows the entries from `from` up to `to`.
+/// The page of the report with the entries from `from` up to `to`.
 pub fn page(
     alloc: Global,
     from: Option<u64>,

@@ -1,4 +1,4 @@
-// How far a search is, told on standard error where that is a terminal.
+// How far a search is, told on standard error if that is a terminal.
 use sem_outcomes::Progress;
 use std::io::IsTerminal;
 
@@ -13,7 +13,7 @@ pub struct Shown<'a> {
 }
 
 impl<'a> Shown<'a> {
-    /// Nothing is told yet.
+    /// Nothing told yet.
     pub fn new(rt: &'a HostRuntime) -> Self {
         Shown {
             rt,
@@ -21,7 +21,7 @@ impl<'a> Shown<'a> {
         }
     }
 
-    /// Takes what was told off the terminal.
+    /// Clears what was told from the terminal.
     pub fn clear(&self) {
         if self.is_terminal {
             let _ = eprint!(self.rt; "\r                                            \r");

@@ -1,4 +1,4 @@
-// The outcomes of a trace, searched for.
+// The search for the outcomes of a trace.
 use sem_compare::{Found, Telling, no_trace, outcomes_of, too_many};
 use sem_draw::Answer;
 use sem_msg::Setup;
@@ -10,7 +10,7 @@ use std::alloc::{AllocError, Global};
 /// Which outcomes of a trace are asked for.
 #[derive(Clone, Copy, Debug, PartialEq, Eq)]
 pub enum Search {
-    /// Those of so many seeds, the first of which is `from`.
+    /// Those of that many seeds, from the seed `from` on.
     Seeds { from: u64, seeds: u64 },
     /// All of them, if there are no more histories than the limit.
     All { limit: usize },
@@ -40,7 +40,7 @@ pub fn outcomes<P: Progress>(
     }
 }
 
-// The answer of all schedules of the setup.
+// The answer from all schedules of the setup.
 fn search_all<P: Progress>(
     alloc: Global,
     limit: usize,

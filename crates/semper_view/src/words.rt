@@ -12,16 +12,16 @@ use sem_view::Request;
 use sem_writers::MemoryRequest;
 use std::alloc::{AllocError, Global};
 
-/// A number of an entry, as its place in the help says.
+/// The word for the number of an entry in the help.
 const NUMBER: &str = "N";
 
-/// A key, as its place in the help says.
+/// The word for a key in the help.
 const KEY: &str = "KEY";
 
-/// How many seeds are run where no number is given.
+/// How many seeds are run if no number is given.
 const SEEDS: u64 = 1_000;
 
-/// The most histories of a search where no number is given.
+/// The most histories of a search if no number is given.
 const LIMIT: u64 = 1_000_000;
 
 /// What the words ask for.
@@ -31,7 +31,7 @@ pub enum Asked {
     View { request: Request },
     /// A forest.
     Tree { request: TreeRequest },
-    /// Who wrote what memory holds.
+    /// What memory holds, and which VPE wrote it.
     Memory { request: MemoryRequest },
     /// The life of a key.
     Story { request: StoryRequest },
@@ -39,7 +39,7 @@ pub enum Asked {
     Export { request: ExportRequest },
     /// The report as one page.
     Page { from: Option<u64>, to: Option<u64> },
-    /// What file commands are compiled to.
+    /// The trace that file commands compile to.
     Files,
     /// The report of the logs of kernels.
     Assemble,
@@ -47,13 +47,13 @@ pub enum Asked {
     Outcomes { search: Search, telling: Telling },
     /// The samples in these files, put together.
     Merge { files: Vec<String>, is_json: bool },
-    /// In what the reports in two files differ.
+    /// The differences of two reports.
     Diff { one: String, other: String },
     /// Why the input is refused.
     Explain,
 }
 
-/// What the words ask for, or what is to be told of them: a mistake, the help or the version.
+/// The request of the words, or the text in place of one: a mistake, the help or the version.
 pub fn read_words(alloc: Global, words: &[String]) -> Result<Asked, Error> {
     let mut texts = Vec::new(alloc);
     for word in words {
@@ -63,7 +63,7 @@ pub fn read_words(alloc: Global, words: &[String]) -> Result<Asked, Error> {
     meant(alloc, &matches)
 }
 
-// What the matches ask for.
+// The request of the matches.
 fn meant(alloc: Global, matches: &ArgMatches<'_>) -> Result<Asked, Error> {
     match matches.subcommand() {
         Some(("tree", tree)) => Ok(Asked::Tree {
@@ -128,7 +128,7 @@ fn meant(alloc: Global, matches: &ArgMatches<'_>) -> Result<Asked, Error> {
     }
 }
 
-// What the command for outcomes asks for.
+// The request of the command for outcomes.
 fn outcomes_asked(alloc: Global, matches: &ArgMatches<'_>) -> Result<Asked, AllocError> {
     let is_json = matches.get_flag("json");
     if let Some(names) = matches.get_strs("merge") {
@@ -156,7 +156,7 @@ fn outcomes_asked(alloc: Global, matches: &ArgMatches<'_>) -> Result<Asked, Allo
     })
 }
 
-// What the command of that name, one that shows a journal, asks for.
+// The request of the command of that name, one that shows a journal.
 fn viewed(alloc: Global, name: &str, matches: &ArgMatches<'_>) -> Result<Request, AllocError> {
     match name {
         "chart" => Ok(Request::Chart {
@@ -175,7 +175,6 @@ fn viewed(alloc: Global, name: &str, matches: &ArgMatches<'_>) -> Result<Request
     }
 }
 
-// The key that is named.
 fn key(alloc: Global, matches: &ArgMatches<'_>) -> Result<Key, Error> {
     let word = matches.get_str("key").unwrap_or("");
     if let Some(key) = key_of(word) {
@@ -188,7 +187,7 @@ fn key(alloc: Global, matches: &ArgMatches<'_>) -> Result<Key, Error> {
     Err(command.error(ErrorKind::ValueValidation, text.as_str())?)
 }
 
-// How a picture is to be written.
+// The form in which to write a picture.
 fn picture(matches: &ArgMatches<'_>) -> Picture {
     if matches.get_flag("svg") {
         Picture::Svg
@@ -199,7 +198,7 @@ fn picture(matches: &ArgMatches<'_>) -> Picture {
     }
 }
 
-// The kernels that are named; none where all are meant.
+// The named kernels; none if all are meant.
 fn kernels(alloc: Global, matches: &ArgMatches<'_>) -> Result<Vec<u32>, AllocError> {
     let mut kernels = Vec::new(alloc);
     if let Some(texts) = matches.get_strs("kernels") {
@@ -419,7 +418,7 @@ fn pictured<'a>(alloc: Global, command: Command<'a>) -> Result<Command<'a>, Allo
         .arg(flag(alloc, "ascii", "Write text without box characters"))
 }
 
-// An option that is a number.
+// A numeric option.
 fn number<'a>(alloc: Global, name: &'a str, help: &'a str) -> Arg<'a> {
     Arg::new(alloc, name)
         .long(name)
@@ -429,7 +428,6 @@ fn number<'a>(alloc: Global, name: &'a str, help: &'a str) -> Arg<'a> {
         .help(help)
 }
 
-// A flag.
 fn flag<'a>(alloc: Global, name: &'a str, help: &'a str) -> Arg<'a> {
     Arg::new(alloc, name)
         .long(name)

@@ -13,4 +13,5 @@ returns c =
     let made = c.deref.ensures.value ∙ c.in_ok-made.ensures.keys in
     let same = (c.in_ok-cut.ensures ∙ ap (λ (ks : List KeyName). key_set (cut_from [] J ++ filter (λ k. has_ended J k.vpe) ks)) made) in
     if_ok c.keys_without.result _ _ c.keys_without.ensures
-    (λ left is. forest-is c.in_ok-lost.lost c.args.setup.now c.made_keys.ensures.valid J c.requires c.in_ok-cut.cut.keys c.deref-2.result.now left.items (c.deref-2.ensures.value ∙ c.in_ok-made.ensures.keys) same c.in_ok-lost.ensures is)
+    (λ left is. forest-is c.in_ok-lost.lost c.args.setup.now c.made_keys.ensures.valid J c.requires c.in_ok-cut.cut.keys c.deref-2.result.now left.items
+    (c.deref-2.ensures.value ∙ c.in_ok-made.ensures.keys) same c.in_ok-lost.ensures is)

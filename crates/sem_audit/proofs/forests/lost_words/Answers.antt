@@ -8,4 +8,6 @@ loop-entry-init c = lost-start c.in_ok-words.words (has_key c.args.cut.now.keys)
 
 -- one entry more
 pub loop-entry-preserved : goal.loop-entry-preserved
-loop-entry-preserved c = lost-entry c.loop-entry.words c.add_lost.new.words (has_key c.args.cut.now.keys) c.as_slice-entry-items.result.now c.loop-entry.entry-index c.entry-item.result c.loop-entry-test.true c.entry-item.is c.add_lost.ensures.valid c.loop-entry.invariant c.in_ok-add_lost.ensures.added
+loop-entry-preserved c = lost-entry c.loop-entry.words c.add_lost.new.words (has_key c.args.cut.now.keys) c.as_slice-entry-items.result.now
+    c.loop-entry.entry-index c.entry-item.result c.loop-entry-test.true c.entry-item.is c.add_lost.ensures.valid c.loop-entry.invariant
+    c.in_ok-add_lost.ensures.added

@@ -7,12 +7,14 @@ loop-place-init c = record { added = sym (with_caps-none c.args.found.now.items)
 
 pub loop-place-preserved : goal.loop-place-preserved
 loop-place-preserved c = record {
-  added = with_caps-more c.args.found.now.items c.loop-place.found.items c.add_cap_at.new.found.items c.args.kernel.now.side.caps c.loop-place.place c.loop-place.invariant.added c.in_ok-add_cap_at.ensures.held;
+  added = with_caps-more c.args.found.now.items c.loop-place.found.items c.add_cap_at.new.found.items c.args.kernel.now.side.caps c.loop-place.place
+      c.loop-place.invariant.added c.in_ok-add_cap_at.ensures.held;
   order = c.in_ok-add_cap_at.ensures.order;
 }
 
 pub returns : goal.returns
 returns c = record {
-  held = with_caps-all c.args.found.now.items c.loop-place.found.items c.args.kernel.now.side.caps c.loop-place.place (omega arith) c.loop-place.invariant.added;
+  held = with_caps-all c.args.found.now.items c.loop-place.found.items c.args.kernel.now.side.caps c.loop-place.place
+      (omega arith) c.loop-place.invariant.added;
   order = c.loop-place.invariant.order;
 }

@@ -10,7 +10,9 @@ use Rattle.sem_audit.proofs.holds.add_held.Goals as goal
 pub returns : goal.returns
 returns c =
     let hs = c.args.found.now.items in
-    let place : IsPlaceFor hs c.args.held.key c.partition_point-at.result = IsPartitionPoint-from_clause (λ (h : Held). key_lt h.key c.args.held.key) hs _ (rw c.deref.ensures.value at c.partition_point-at.ensures.partitioned) (IsPartitionedBy-ltb (λ (h : Held). packed h.key) hs (packed c.args.held.key) c.requires) (λ a r q k. search rules) in
+    let place : IsPlaceFor hs c.args.held.key c.partition_point-at.result = IsPartitionPoint-from_clause (λ (h : Held). key_lt h.key c.args.held.key) hs _
+    (rw c.deref.ensures.value at c.partition_point-at.ensures.partitioned)
+    (IsPartitionedBy-ltb (λ (h : Held). packed h.key) hs (packed c.args.held.key) c.requires) (λ a r q k. search rules) in
     let edited : c.insert.new.self.items ≡ insert hs c.partition_point-at.result c.args.held = search rules in
     record {
       held = rw edited (insert-with_held hs c.args.held _ place);

@@ -7,7 +7,8 @@ loop-kernel-init c = rw c.new-found.ensures.items (record { added = sym (with_ca
 
 pub loop-kernel-preserved : goal.loop-kernel-preserved
 loop-kernel-preserved c = record {
-  added = with_kernels-more c.args.kernels.now c.loop-kernel.kernel-index c.kernel-item.result _ _ (omega arith) c.kernel-item.is c.loop-kernel.invariant.added c.in_ok-add_caps.ensures.held;
+  added = with_kernels-more c.args.kernels.now c.loop-kernel.kernel-index c.kernel-item.result _ _ (omega arith) c.kernel-item.is c.loop-kernel.invariant.added
+      c.in_ok-add_caps.ensures.held;
   order = c.in_ok-add_caps.ensures.order;
 }
 

@@ -7,4 +7,8 @@ use Rattle.sem_audit.proofs.holds.found_held.Given as goal
 
 -- what is held by the first kernels was added
 abbrev pub invariant-loop-kernel : goal.invariant-loop-kernel
-invariant-loop-kernel l = record { added : l.found.items ≡ with_caps [] (flat_map (λ (s : Side). s.caps) (take l.kernel-index (map (λ (k : KernelValue). k.side) l.kernels))); order : IsInOrder l.found.items }
+invariant-loop-kernel l =
+    record {
+      added : l.found.items ≡ with_caps [] (flat_map (λ (s : Side). s.caps) (take l.kernel-index (map (λ (k : KernelValue). k.side) l.kernels)));
+      order : IsInOrder l.found.items;
+    }

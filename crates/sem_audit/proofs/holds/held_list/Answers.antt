@@ -10,6 +10,7 @@ use Rattle.sem_audit.proofs.holds.held_list.Goals as goal
 -- the list has what was found of all kernels
 pub returns : goal.returns
 returns c =
-    IfOk-weaker c.list_of.result (λ (list : List Held). list ≡ c.deref.result.now) (λ (list : List Held). held_pairs list ≡ held (map (λ (k : KernelValue). k.side) c.args.kernels.now))
+    IfOk-weaker c.list_of.result (λ (list : List Held). list ≡ c.deref.result.now) (λ (list : List Held). held_pairs list
+    ≡ held (map (λ (k : KernelValue). k.side) c.args.kernels.now))
     (λ list is. rw (is, c.deref.ensures.value) (held-is (map (λ (k : KernelValue). k.side) c.args.kernels.now) c.in_ok-found.found.items c.in_ok-found.ensures))
     c.list_of.ensures

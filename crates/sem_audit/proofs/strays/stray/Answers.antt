@@ -9,4 +9,5 @@ use Rattle.sem_audit.proofs.strays.stray.Goals as goal
 pub returns : goal.returns
 returns c =
     if_ok c.stray_of.result _ _ c.stray_of.ensures
-    (λ count is. is ∙ ap (λ (ss : List Side). stray_count c.args.setup.now c.args.journal.now.entries ss) (c.kernels.ensures ∙ ap (λ (w : WorldValue). w.world.sides) c.in_ok-world.ensures))
+    (λ count is. is ∙ ap (λ (ss : List Side). stray_count c.args.setup.now c.args.journal.now.entries ss) (c.kernels.ensures
+    ∙ ap (λ (w : WorldValue). w.world.sides) c.in_ok-world.ensures))

@@ -17,4 +17,5 @@ returns-in-Some-clause-same c =
     let w = c.args.world.now in
     let first = sym c.in-Some.ensures.value in
     let listed = ap (λ (es : List Event). slice_get es 0) (sym (c.deref.ensures.value ∙ c.in_ok-enabled_events.ensures.ok)) in
-    IfOk-weaker c.make_entry.result _ _ (λ made is none. absurd (makes-some w.setup w.world c.in-Some.event.now made (listed ∙ first) is none)) c.make_entry.ensures.made
+    IfOk-weaker c.make_entry.result _ _ (λ made is none. absurd (makes-some w.setup w.world c.in-Some.event.now made (listed ∙ first) is none))
+    c.make_entry.ensures.made

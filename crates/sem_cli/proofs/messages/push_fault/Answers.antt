@@ -2,4 +2,8 @@ use Rattle.sem_cli.proofs.Appends.{four-appended}
 use Rattle.sem_cli.proofs.messages.push_fault.Goals as goal
 
 pub returns : goal.returns
-returns c = record { ok = four-appended _ _ _ _ _ _ _ _ _ _ c.in_ok-push_number.ensures.ok c.in_ok-extend_from_slice.ensures.items c.in_ok-extend_from_slice-2.ensures.items c.cause_name.ensures c.in_ok-push.ensures.items }
+returns c = record {
+  ok =
+      four-appended _ _ _ _ _ _ _ _ _ _ c.in_ok-push_number.ensures.ok c.in_ok-extend_from_slice.ensures.items c.in_ok-extend_from_slice-2.ensures.items
+      c.cause_name.ensures c.in_ok-push.ensures.items;
+}

@@ -11,12 +11,15 @@ use Rattle.sem_delegate.proofs.calls.delegate_call.Goals as goal
 pub returns-in-Some-clause-row : goal.returns-in-Some-clause-row
 returns-in-Some-clause-row c s =
     let side = with_caps c.args.caps.now.caps (offering c.args.vpes.now c.args.park.now c.args.outs.now s) in
-    row-refused side (delegate_tests c.args.setup.now c.args.kernel side c.args.vpe c.args.src c.args.other) _ c.in-Some.code c.answered.result c.in-Some.ensures c.answered.ensures
+    row-refused side (delegate_tests c.args.setup.now c.args.kernel side c.args.vpe c.args.src c.args.other) _ c.in-Some.code c.answered.result
+    c.in-Some.ensures c.answered.ensures
 
 -- no test holds
 pub returns-clause-row : goal.returns-clause-row
 returns-clause-row c s =
     let side = with_caps c.args.caps.now.caps (offering c.args.vpes.now c.args.park.now c.args.outs.now s) in
-    ap (λ o. record { side = with_caps c.args.caps.now.caps (offering c.make_offer.new.vpes c.make_offer.new.park c.make_offer.new.outs s); outcome = o }) c.nothing.ensures
+    ap (λ o. record { side = with_caps c.args.caps.now.caps (offering c.make_offer.new.vpes c.make_offer.new.park c.make_offer.new.outs s); outcome = o })
+    c.nothing.ensures
     ∙ c.make_offer.ensures.row (with_caps c.args.caps.now.caps s)
-    ∙ sym (delegate-done c.args.setup.now c.args.kernel side c.args.vpe c.args.src c.args.other c.args.dst (capability_of c.in-Some-own_cap.cap.now) c.in_default.ensures c.in-Some-own_cap.ensures)
+    ∙ sym (delegate-done c.args.setup.now c.args.kernel side c.args.vpe c.args.src c.args.other c.args.dst (capability_of c.in-Some-own_cap.cap.now)
+    c.in_default.ensures c.in-Some-own_cap.ensures)

@@ -18,7 +18,8 @@ returns-in-Some-clause-row c s =
     let side : Side = installing c.args.caps.now c.args.vpes.now c.args.park.now s in
     let waits : is_delegate_wait p (state_of c.args.park.now p.vpe) ≡ true = search rules in
     let consents : denies T c.args.vpe p.vpe ≡ false = search rules in
-    let row : record { side = installing c.args.caps.now c.args.vpes.now c.end_waiting-in-Some.new.park s; outcome = c.asked-in-Some.result } ≡ asking p.vpe Yes (plain (call_refused (code_number c.in-Some.code) p.vpe side)) = search rules in
+    let row : record { side = installing c.args.caps.now c.args.vpes.now c.end_waiting-in-Some.new.park s; outcome = c.asked-in-Some.result }
+    ≡ asking p.vpe Yes (plain (call_refused (code_number c.in-Some.code) p.vpe side)) = search rules in
     row ∙ sym (refused-here T c.args.kernel c.args.vpe p c.args.object c.args.sel side c.in-Some.code c.requires.here waits consents c.in-Some.ensures)
 
 -- no test holds

@@ -18,7 +18,8 @@ returns-in-Some-clause-row c s =
     let p = c.args.parent in
     let side : Side = preparing c.args.vpes.now c.args.pendings.now c.args.outs.now s in
     let consents : denies T c.args.vpe p.vpe ≡ false = search rules in
-    let row : record { side = preparing c.args.vpes.now c.args.pendings.now c.tell_owner-in-Some.new.outs s; outcome = c.asked-in-Some.result } ≡ asking p.vpe Yes (plain (send (owner_of T p) (DelegateNo p (code_number c.in-Some.code)) side)) = search rules in
+    let row : record { side = preparing c.args.vpes.now c.args.pendings.now c.tell_owner-in-Some.new.outs s; outcome = c.asked-in-Some.result }
+    ≡ asking p.vpe Yes (plain (send (owner_of T p) (DelegateNo p (code_number c.in-Some.code)) side)) = search rules in
     row ∙ sym (refused-elsewhere T c.args.kernel c.args.vpe p c.args.object c.args.sel side c.in-Some.code c.requires.other consents c.in-Some.ensures.code)
 
 -- no test holds
@@ -29,6 +30,7 @@ returns-clause-row c s =
     let side : Side = preparing c.args.vpes.now c.args.pendings.now c.args.outs.now s in
     let consents : denies T c.args.vpe p.vpe ≡ false = search rules in
     let shown = c.asked-2.ensures ∙ ap (λ (k : KeyName). record { asked = Some (k.vpe, Yes); grant = None; cut = None; reply = None }) c.parent.view_is in
-    let row : record { side = preparing c.prepare.new.vpes c.prepare.new.pendings c.prepare.new.outs s; outcome = c.asked-2.result } ≡ asking p.vpe Yes (delegate_prepared T c.args.vpe p c.args.object c.args.sel side) =
+    let row : record { side = preparing c.prepare.new.vpes c.prepare.new.pendings c.prepare.new.outs s; outcome = c.asked-2.result }
+    ≡ asking p.vpe Yes (delegate_prepared T c.args.vpe p c.args.object c.args.sel side) =
     λ i. record { side = (c.prepare.ensures.row s i).side; outcome = shown i } in
     row ∙ sym (prepared-elsewhere T c.args.kernel c.args.vpe p c.args.object c.args.sel side c.requires.other consents c.in_default.ensures.code)

@@ -28,7 +28,14 @@ returns-then-is-5 c = rw (c.in_ok-name.ensures.ok, c.if-is-5.ensures.0 refl) c.c
 pub returns-else-is-5 : goal.returns-else-is-5
 unfolding form_fault acts
 returns-else-is-5 c = record {
-  fault = rw (c.in_ok-name.ensures.ok, differs _ _ c.if-is.ensures, differs _ _ c.if-is-2.ensures, differs _ _ c.if-is-3.ensures, differs _ _ c.if-is-4.ensures, differs _ _ c.if-is-5.ensures) refl;
+  fault = rw (
+    c.in_ok-name.ensures.ok,
+    differs _ _ c.if-is.ensures,
+    differs _ _ c.if-is-2.ensures,
+    differs _ _ c.if-is-3.ensures,
+    differs _ _ c.if-is-4.ensures,
+    differs _ _ c.if-is-5.ensures,
+  ) refl;
   value = tt;
   ranges = tt;
 }

@@ -29,7 +29,14 @@ returns-then-is-5 c = rw (sym c.of-words.ensures ∙ c.in_ok-name.ensures.ok, c.
 pub returns-else-is-5 : goal.returns-else-is-5
 unfolding form_fault form lines
 returns-else-is-5 c = record {
-  fault = rw (sym c.of-words.ensures ∙ c.in_ok-name.ensures.ok, differs _ _ c.if-is.ensures, differs _ _ c.if-is-2.ensures, differs _ _ c.if-is-3.ensures, differs _ _ c.if-is-4.ensures, differs _ _ c.if-is-5.ensures) refl;
+  fault = rw (
+    sym c.of-words.ensures ∙ c.in_ok-name.ensures.ok,
+    differs _ _ c.if-is.ensures,
+    differs _ _ c.if-is-2.ensures,
+    differs _ _ c.if-is-3.ensures,
+    differs _ _ c.if-is-4.ensures,
+    differs _ _ c.if-is-5.ensures,
+  ) refl;
   value = tt;
   ranges = tt;
 }

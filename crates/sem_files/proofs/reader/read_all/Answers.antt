@@ -9,7 +9,12 @@ returns-in_err-reader-clause-refused c =
     rw (p.1, p.2) (bad_lines (lines_of c.args.bytes.now) _ c.in_err-reader.ensures.refused)
 
 pub returns-in-Ended-clause-said : goal.returns-in-Ended-clause-said
-returns-in-Ended-clause-said c = whole_text c.args.bytes.now c.in_ok-reader.lines c.in_ok-reader.reader _ c.in_ok-reader.ensures.read c.in-Ended.is c.into_files.ensures
+returns-in-Ended-clause-said c = whole_text c.args.bytes.now c.in_ok-reader.lines c.in_ok-reader.reader _ c.in_ok-reader.ensures.read c.in-Ended.is
+    c.into_files.ensures
 
 pub returns-in_default : goal.returns-in_default
-returns-in_default c = record { said = tt; refused = rw c.refused.ensures (no_end c.args.bytes.now c.in_ok-reader.lines c.in_ok-reader.reader c.in_ok-reader.ensures.read c.in_default.not-Ended) }
+returns-in_default c =
+    record {
+      said = tt;
+      refused = rw c.refused.ensures (no_end c.args.bytes.now c.in_ok-reader.lines c.in_ok-reader.reader c.in_ok-reader.ensures.read c.in_default.not-Ended);
+    }

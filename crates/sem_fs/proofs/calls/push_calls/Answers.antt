@@ -12,7 +12,8 @@ pub loop-command-preserved-then-command-client : goal.loop-command-preserved-the
 loop-command-preserved-then-command-client c =
     let i = c.loop-command.command-index in
     let command : Command = get_or c.as_slice-command-items.result.now i first in
-    let all : c.as_slice-command-items.result.now ≡ c.args.files.now.commands = c.as_slice-command-items.ensures ∙ ap (λ (F : Files). F.commands) c.files.view_is in
+    let all : c.as_slice-command-items.result.now ≡ c.args.files.now.commands = c.as_slice-command-items.ensures
+    ∙ ap (λ (F : Files). F.commands) c.files.view_is in
     other-behind c.args.files.now c.args.client i first command c.args.calls.now c.loop-command.calls c.loop-command.handles
     (omega (arith, ap (length {A = Command}) all)) (ap (λ (cs : List Command). get_or cs i first) (sym all)) c.if-command-client.true c.loop-command.invariant
 
@@ -20,7 +21,8 @@ pub push_command-requires : goal.push_command-requires
 push_command-requires c =
     let i = c.loop-command.command-index in
     let command : Command = get_or c.as_slice-command-items.result.now i first in
-    let all : c.as_slice-command-items.result.now ≡ c.args.files.now.commands = c.as_slice-command-items.ensures ∙ ap (λ (F : Files). F.commands) c.files.view_is in
+    let all : c.as_slice-command-items.result.now ≡ c.args.files.now.commands = c.as_slice-command-items.ensures
+    ∙ ap (λ (F : Files). F.commands) c.files.view_is in
     plain-at c.args.files.now (subst AreFiles c.files.view_is c.files.invariant) i first command
     (omega (arith, ap (length {A = Command}) all)) (ap (λ (cs : List Command). get_or cs i first) (sym all))
 
@@ -28,7 +30,8 @@ pub note-requires : goal.note-requires
 note-requires c =
     let i = c.loop-command.command-index in
     let command : Command = get_or c.as_slice-command-items.result.now i first in
-    let all : c.as_slice-command-items.result.now ≡ c.args.files.now.commands = c.as_slice-command-items.ensures ∙ ap (λ (F : Files). F.commands) c.files.view_is in
+    let all : c.as_slice-command-items.result.now ≡ c.args.files.now.commands = c.as_slice-command-items.ensures
+    ∙ ap (λ (F : Files). F.commands) c.files.view_is in
     handle-at c.args.files.now (subst AreFiles c.files.view_is c.files.invariant) i first command
     (omega (arith, ap (length {A = Command}) all)) (ap (λ (cs : List Command). get_or cs i first) (sym all))
 
@@ -46,6 +49,7 @@ loop-command-preserved c =
 
 pub returns : goal.returns
 returns c =
-    let all : c.as_slice-command-items.result.now ≡ c.args.files.now.commands = c.as_slice-command-items.ensures ∙ ap (λ (F : Files). F.commands) c.files.view_is in
+    let all : c.as_slice-command-items.result.now ≡ c.args.files.now.commands = c.as_slice-command-items.ensures
+    ∙ ap (λ (F : Files). F.commands) c.files.view_is in
     all-behind c.args.files.now c.args.client c.loop-command.command-index c.args.calls.now c.loop-command.calls c.loop-command.handles c.loop-command.invariant
     (omega (arith, ap (length {A = Command}) all))

@@ -10,10 +10,12 @@ use Rattle.sem_fs.proofs.Ordered.{client-valid}
 use Rattle.sem_fs.proofs.setups.compile.Goals as goal
 
 pub all_vpes-requires : goal.all_vpes-requires
-all_vpes-requires c = extents-near c.args.files.now (subst AreFiles c.files.view_is c.files.invariant) c.as_slice.result.now (c.as_slice.ensures ∙ c.in_ok-extents.ensures)
+all_vpes-requires c = extents-near c.args.files.now (subst AreFiles c.files.view_is c.files.invariant) c.as_slice.result.now (c.as_slice.ensures
+    ∙ c.in_ok-extents.ensures)
 
 pub offers-requires : goal.offers-requires
-offers-requires c = extents-near c.args.files.now (subst AreFiles c.files.view_is c.files.invariant) c.as_slice-2.result.now (c.as_slice-2.ensures ∙ c.in_ok-extents.ensures)
+offers-requires c = extents-near c.args.files.now (subst AreFiles c.files.view_is c.files.invariant) c.as_slice-2.result.now (c.as_slice-2.ensures
+    ∙ c.in_ok-extents.ensures)
 
 pub invariant_of-result : goal.invariant_of-result
 invariant_of-result c =
@@ -27,7 +29,8 @@ invariant_of-result c =
     (setup-is F AF (λ v among. client-valid F AF v))
 
 pub returns : goal.returns
-returns c = same-compiled c.args.files.now c.files.inside.kernels c.owners.result c.in_ok-extents.extents c.in_ok-vpes.vpes c.in_ok-services.services c.in_ok-offers.offers
+returns c = same-compiled c.args.files.now c.files.inside.kernels c.owners.result c.in_ok-extents.extents c.in_ok-vpes.vpes c.in_ok-services.services
+    c.in_ok-offers.offers
     c.new.result c.new-2.result (ap (λ (F : Files). F.kernels) c.files.view_is) c.owners.ensures c.in_ok-extents.ensures
     (c.in_ok-vpes.ensures ∙ ap (λ (xs : List ℕ). server_with xs ∷ clients_below c.args.files.now 63) c.as_slice.ensures)
     c.in_ok-services.ensures (c.in_ok-offers.ensures ∙ ap (map offer_of_extent) c.as_slice-2.ensures) c.new.ensures c.new-2.ensures

@@ -14,5 +14,6 @@ loop-place-preserved c =
     let word : c.next_word.result ≡ (pcg32 l.words).0 = search rules in
     record {
       words = advance-one g l.words c.next_word.new.self l._place l.invariant.words stepped;
-      list = drawn-more g c.args.vpes l._place c.next_word.result l.list c.push.new.self c.call_of.result l.invariant.list c.in_ok-push.ensures.ok c.call_of.ensures (rw word (word-here g l.words l._place l.invariant.words));
+      list = drawn-more g c.args.vpes l._place c.next_word.result l.list c.push.new.self c.call_of.result l.invariant.list c.in_ok-push.ensures.ok
+          c.call_of.ensures (rw word (word-here g l.words l._place l.invariant.words));
     }

@@ -19,5 +19,6 @@ loop-vpe-preserved c =
     let g = generator_of c.args.seed in
     record {
       words = words-more g l.words c.draw_calls.new.words l.vpe c.args.calls l.invariant.words c.in_ok-draw_calls.ensures.words;
-      list = vpes-more c.args.seed c.args.vpes c.args.calls l.vpe l.words l.list c.push.new.self c.in_ok-roots_of.field-0 c.in_ok-draw_calls.field-0 l.invariant.words l.invariant.list c.in_ok-roots_of.ensures c.in_ok-draw_calls.ensures.calls c.in_ok-push.ensures.ok;
+      list = vpes-more c.args.seed c.args.vpes c.args.calls l.vpe l.words l.list c.push.new.self c.in_ok-roots_of.field-0 c.in_ok-draw_calls.field-0
+          l.invariant.words l.invariant.list c.in_ok-roots_of.ensures c.in_ok-draw_calls.ensures.calls c.in_ok-push.ensures.ok;
     }

@@ -9,4 +9,5 @@ pub unwrap-requires : goal.unwrap-requires
 unwrap-requires c = is_set c.args.kernels c.loop-pe.pe c.loop-pe.owners c.set.result c.loop-pe.invariant (omega arith) c.set.ensures.taken
 
 pub loop-pe-preserved : goal.loop-pe-preserved
-loop-pe-preserved c = set-more c.args.kernels c.loop-pe.pe c.loop-pe.owners c.set.new.self c.set.result c.loop-pe.invariant (omega arith) c.set.ensures.taken c.set.ensures.ok
+loop-pe-preserved c = set-more c.args.kernels c.loop-pe.pe c.loop-pe.owners c.set.new.self c.set.result c.loop-pe.invariant
+    (omega arith) c.set.ensures.taken c.set.ensures.ok

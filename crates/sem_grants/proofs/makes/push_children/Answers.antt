@@ -12,7 +12,8 @@ children J = map (λ (g : KeyName × KeyName). g.1) (grants J)
 
 children-append : (xs ys : List Entry) → children (xs ++ ys) ≡ children xs ++ children ys
 unfolding children
-children-append xs ys = ap (map (λ (g : KeyName × KeyName). g.1)) (filter_map-append (λ (e : Entry). e.grant) xs ys) ∙ map-append (λ (g : KeyName × KeyName). g.1) (grants xs) (grants ys)
+children-append xs ys = ap (map (λ (g : KeyName × KeyName). g.1)) (filter_map-append (λ (e : Entry). e.grant) xs ys)
+    ∙ map-append (λ (g : KeyName × KeyName). g.1) (grants xs) (grants ys)
 
 pub loop-at-preserved : goal.loop-at-preserved
 unfolding children

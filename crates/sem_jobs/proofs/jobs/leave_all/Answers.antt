@@ -25,9 +25,11 @@ loop-spot-preserved c =
     let value = c.index_mut-open.ensures.value in
     let here : row ≡ get_or (rows_of slab spots) i row = row-read slab spots c.loop-spot.invariant.placed i within spot read row value in
     let inside : i < length before = omega (arith, length-rows c.args.slab.now spots, within) in
-    let more : set (rows_of slab spots) i (f row) ≡ waiter_removed vpe (take (i + 1) before) ++ drop (i + 1) before = map_over_more f before (rows_of slab spots) i row inside c.loop-spot.invariant.jobs here in
+    let more : set (rows_of slab spots) i (f row) ≡ waiter_removed vpe (take (i + 1) before) ++ drop (i + 1) before =
+    map_over_more f before (rows_of slab spots) i row inside c.loop-spot.invariant.jobs here in
     record {
-      jobs = rows-set slab spots c.loop-spot.invariant.placed i within spot read row value c.leave.new.self ∙ (ap (set (rows_of slab spots) i) c.leave.ensures ∙ more);
+      jobs = rows-set slab spots c.loop-spot.invariant.placed i within spot read row value c.leave.new.self
+          ∙ (ap (set (rows_of slab spots) i) c.leave.ensures ∙ more);
       placed = placed-set slab spots c.loop-spot.invariant.placed i within spot read row value c.leave.new.self (ap (λ (x : JobRow). x.id) c.leave.ensures);
       capacity = c.loop-spot.invariant.capacity;
     }

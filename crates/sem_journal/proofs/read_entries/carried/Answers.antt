@@ -15,14 +15,23 @@ pub returns-in_err-message : goal.returns-in_err-message
 unfolding form_fault
 returns-in_err-message c =
     let p = err_from_is_err_and c.from_residual-in_err-message.result c.from_residual-in_err-message.ensures.1 in
-    rw (p.1, p.2) (record { reads = failed_behind (kernel c.args.kernels ∷ []) (message_form c.args.version c.kernel.new.words) (message_form c.args.version (drop 1 c.args.words.now)) c.args.words.now c.kernel.new.words _ (ap (λ (words : List (List ℕ)). message_form c.args.version (drop 1 words)) c.in_ok-peer.ensures.reads.spelled) c.in_ok-peer.ensures.reads.filled c.in_err-message.ensures.reads; fits = tt })
+    rw (p.1, p.2) (record {
+      reads = failed_behind (kernel c.args.kernels ∷ []) (message_form c.args.version c.kernel.new.words)
+          (message_form c.args.version (drop 1 c.args.words.now)) c.args.words.now c.kernel.new.words _
+          (ap (λ (words : List (List ℕ)). message_form c.args.version (drop 1 words)) c.in_ok-peer.ensures.reads.spelled) c.in_ok-peer.ensures.reads.filled
+          c.in_err-message.ensures.reads;
+      fits = tt;
+    })
 
 pub returns : goal.returns
 unfolding form_fault
 returns c =
     record {
       reads = record {
-        filled = filled_both (kernel c.args.kernels ∷ []) (message_form c.args.version c.kernel.new.words) (message_form c.args.version (drop 1 c.args.words.now)) c.args.words.now c.kernel.new.words c.message.new.words (ap (λ (words : List (List ℕ)). message_form c.args.version (drop 1 words)) c.in_ok-peer.ensures.reads.spelled) c.in_ok-peer.ensures.reads.filled c.in_ok-message.ensures.reads.filled;
+        filled = filled_both (kernel c.args.kernels ∷ []) (message_form c.args.version c.kernel.new.words)
+            (message_form c.args.version (drop 1 c.args.words.now)) c.args.words.now c.kernel.new.words c.message.new.words
+            (ap (λ (words : List (List ℕ)). message_form c.args.version (drop 1 words)) c.in_ok-peer.ensures.reads.spelled) c.in_ok-peer.ensures.reads.filled
+            c.in_ok-message.ensures.reads.filled;
         spelled = rw (c.in_ok-peer.ensures.reads.spelled, c.in_ok-message.ensures.reads.spelled) refl;
       };
       fits = (c.in_ok-peer.ensures.fits, c.in_ok-message.ensures.fits);

@@ -34,4 +34,16 @@ returns-then-is-7 c = rw (c.in_ok-name.ensures.ok, c.if-is-7.ensures.0 refl) (c.
 
 pub returns-else-is-7 : goal.returns-else-is-7
 unfolding form_fault events event_form
-returns-else-is-7 c = record { reads = rw (c.in_ok-name.ensures.ok, differs _ _ c.if-is.ensures, differs _ _ c.if-is-2.ensures, differs _ _ c.if-is-3.ensures, differs _ _ c.if-is-4.ensures, differs _ _ c.if-is-5.ensures, differs _ _ c.if-is-6.ensures, differs _ _ c.if-is-7.ensures) (λ more. refl); fits = tt }
+returns-else-is-7 c = record {
+  reads = rw (
+    c.in_ok-name.ensures.ok,
+    differs _ _ c.if-is.ensures,
+    differs _ _ c.if-is-2.ensures,
+    differs _ _ c.if-is-3.ensures,
+    differs _ _ c.if-is-4.ensures,
+    differs _ _ c.if-is-5.ensures,
+    differs _ _ c.if-is-6.ensures,
+    differs _ _ c.if-is-7.ensures,
+  ) (λ more. refl);
+  fits = tt;
+}

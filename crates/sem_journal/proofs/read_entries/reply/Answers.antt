@@ -17,7 +17,11 @@ returns-in_err-code c =
 pub returns-in_err-no_more : goal.returns-in_err-no_more
 returns-in_err-no_more c =
     let p = err_from_is_err_and c.from_residual-in_err-no_more.result c.from_residual-in_err-no_more.ensures.1 in
-    rw (p.1, p.2) (record { fault = c.in_ok-vpe.ensures.reads.filled (code ∷ []) ∙ (c.in_ok-code.ensures.reads.filled [] ∙ c.in_err-no_more.ensures); spelled = tt; fits = tt })
+    rw (p.1, p.2) (record {
+      fault = c.in_ok-vpe.ensures.reads.filled (code ∷ []) ∙ (c.in_ok-code.ensures.reads.filled [] ∙ c.in_err-no_more.ensures);
+      spelled = tt;
+      fits = tt;
+    })
 
 pub returns : goal.returns
 returns c =

@@ -16,7 +16,11 @@ pub returns-in_err-yes : goal.returns-in_err-yes
 unfolding form_fault messages message_form
 returns-in_err-yes c =
     let p = err_from_is_err_and c.from_residual-in_err-yes.result c.from_residual-in_err-yes.ensures.1 in
-    rw (p.1, p.2) (record { reads = λ more. c.in_ok-key.ensures.reads.filled (Word (codes "yes" ∷ codes "no" ∷ []) ∷ more) ∙ c.in_err-yes.ensures more; fits = tt })
+    rw (p.1, p.2) (record {
+      reads = λ more. c.in_ok-key.ensures.reads.filled (Word (codes "yes" ∷ codes "no" ∷ []) ∷ more)
+          ∙ c.in_err-yes.ensures more;
+      fits = tt;
+    })
 
 pub returns : goal.returns
 unfolding form_fault messages message_form

@@ -46,4 +46,20 @@ returns-then-is-11 c = rw (c.in_ok-name.ensures.ok, c.if-is-11.ensures.0 refl) c
 
 pub returns-else-is-11 : goal.returns-else-is-11
 unfolding form_fault messages message_form
-returns-else-is-11 c = record { reads = rw (c.in_ok-name.ensures.ok, differs _ _ c.if-is.ensures, differs _ _ c.if-is-2.ensures, differs _ _ c.if-is-3.ensures, differs _ _ c.if-is-4.ensures, differs _ _ c.if-is-5.ensures, differs _ _ c.if-is-6.ensures, differs _ _ c.if-is-7.ensures, differs _ _ c.if-is-8.ensures, differs _ _ c.if-is-9.ensures, differs _ _ c.if-is-10.ensures, differs _ _ c.if-is-11.ensures) (λ more. refl); fits = tt }
+returns-else-is-11 c = record {
+  reads = rw (
+    c.in_ok-name.ensures.ok,
+    differs _ _ c.if-is.ensures,
+    differs _ _ c.if-is-2.ensures,
+    differs _ _ c.if-is-3.ensures,
+    differs _ _ c.if-is-4.ensures,
+    differs _ _ c.if-is-5.ensures,
+    differs _ _ c.if-is-6.ensures,
+    differs _ _ c.if-is-7.ensures,
+    differs _ _ c.if-is-8.ensures,
+    differs _ _ c.if-is-9.ensures,
+    differs _ _ c.if-is-10.ensures,
+    differs _ _ c.if-is-11.ensures,
+  ) (λ more. refl);
+  fits = tt;
+}

@@ -27,4 +27,14 @@ returns-then-is-5 c = rw (c.in_ok-name.ensures.ok, c.if-is-5.ensures.0 refl) c.s
 
 pub returns-else-is-5 : goal.returns-else-is-5
 unfolding form_fault objects
-returns-else-is-5 c = record { reads = rw (c.in_ok-name.ensures.ok, differs _ _ c.if-is.ensures, differs _ _ c.if-is-2.ensures, differs _ _ c.if-is-3.ensures, differs _ _ c.if-is-4.ensures, differs _ _ c.if-is-5.ensures) (λ more. refl); fits = tt }
+returns-else-is-5 c = record {
+  reads = rw (
+    c.in_ok-name.ensures.ok,
+    differs _ _ c.if-is.ensures,
+    differs _ _ c.if-is-2.ensures,
+    differs _ _ c.if-is-3.ensures,
+    differs _ _ c.if-is-4.ensures,
+    differs _ _ c.if-is-5.ensures,
+  ) (λ more. refl);
+  fits = tt;
+}

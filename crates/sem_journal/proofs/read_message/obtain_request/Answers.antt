@@ -15,14 +15,23 @@ pub returns-in_err-target : goal.returns-in_err-target
 unfolding form_fault messages message_form
 returns-in_err-target c =
     let p = err_from_is_err_and c.from_residual-in_err-target.result c.from_residual-in_err-target.ensures.1 in
-    rw (p.1, p.2) (record { reads = failed_behind (key_place c.args.version ∷ []) (choice (targets c.args.version) (word_at c.place.new.self 0)) (choice (targets c.args.version) (word_at c.args.words.now 1)) c.args.words.now c.place.new.self _ (ap (λ (words : List (List ℕ)). choice (targets c.args.version) (word_at words 1)) c.in_ok-place.ensures.reads.spelled) c.in_ok-place.ensures.reads.filled c.in_err-target.ensures.reads; fits = tt })
+    rw (p.1, p.2) (record {
+      reads = failed_behind (key_place c.args.version ∷ []) (choice (targets c.args.version) (word_at c.place.new.self 0))
+          (choice (targets c.args.version) (word_at c.args.words.now 1)) c.args.words.now c.place.new.self _
+          (ap (λ (words : List (List ℕ)). choice (targets c.args.version) (word_at words 1)) c.in_ok-place.ensures.reads.spelled)
+          c.in_ok-place.ensures.reads.filled c.in_err-target.ensures.reads;
+      fits = tt;
+    })
 
 pub returns : goal.returns
 unfolding form_fault messages message_form
 returns c =
     record {
       reads = record {
-        filled = filled_both (key_place c.args.version ∷ []) (choice (targets c.args.version) (word_at c.place.new.self 0)) (choice (targets c.args.version) (word_at c.args.words.now 1)) c.args.words.now c.place.new.self c.target.new.words (ap (λ (words : List (List ℕ)). choice (targets c.args.version) (word_at words 1)) c.in_ok-place.ensures.reads.spelled) c.in_ok-place.ensures.reads.filled c.in_ok-target.ensures.reads.filled;
+        filled = filled_both (key_place c.args.version ∷ []) (choice (targets c.args.version) (word_at c.place.new.self 0))
+            (choice (targets c.args.version) (word_at c.args.words.now 1)) c.args.words.now c.place.new.self c.target.new.words
+            (ap (λ (words : List (List ℕ)). choice (targets c.args.version) (word_at words 1)) c.in_ok-place.ensures.reads.spelled)
+            c.in_ok-place.ensures.reads.filled c.in_ok-target.ensures.reads.filled;
         spelled = rw (c.in_ok-place.ensures.reads.spelled, c.in_ok-target.ensures.reads.spelled) refl;
       };
       fits = (c.in_ok-place.ensures.told, c.in_ok-target.ensures.fits);

@@ -21,4 +21,8 @@ returns-then-is-3 c = rw (c.in_ok-name.ensures.ok, c.if-is-3.ensures.0 refl) c.o
 
 pub returns-else-is-3 : goal.returns-else-is-3
 unfolding form_fault targets
-returns-else-is-3 c = record { reads = rw (c.in_ok-name.ensures.ok, differs _ _ c.if-is.ensures, differs _ _ c.if-is-2.ensures, differs _ _ c.if-is-3.ensures) (λ more. refl); fits = tt }
+returns-else-is-3 c =
+    record {
+      reads = rw (c.in_ok-name.ensures.ok, differs _ _ c.if-is.ensures, differs _ _ c.if-is-2.ensures, differs _ _ c.if-is-3.ensures) (λ more. refl);
+      fits = tt;
+    }

@@ -10,4 +10,5 @@ fetch-requires-clause-kernels c =
 
 pub fetch-requires-clause-other : goal.fetch-requires-clause-other
 fetch-requires-clause-other c same =
-    (fetch-peer c.args.kernel.now c.args.fabric.now c.in-Fetch.from (subst (CanDo c.args.kernel.now c.args.fabric.now) c.in-Fetch.is c.requires)).1 (same ∙ c.id.ensures)
+    (fetch-peer c.args.kernel.now c.args.fabric.now c.in-Fetch.from (subst (CanDo c.args.kernel.now c.args.fabric.now) c.in-Fetch.is c.requires)).1 (same
+    ∙ c.id.ensures)

@@ -8,7 +8,8 @@ front-requires c = (flush-peer c.args.kernel.now c.args.fabric.now c.args.to c.r
 
 -- a message waits
 pub unreachable-requires : goal.unreachable-requires
-unreachable-requires c = false≢true (sym (ap is_some (sym c.front.ensures ∙ c.in_default.is)) ∙ flush-some c.args.kernel.now c.args.fabric.now c.args.to c.requires)
+unreachable-requires c = false≢true (sym (ap is_some (sym c.front.ensures ∙ c.in_default.is))
+    ∙ flush-some c.args.kernel.now c.args.fabric.now c.args.to c.requires)
 
 pub flush-requires-clause-other : goal.flush-requires-clause-other
 flush-requires-clause-other c same = (flush-peer c.args.kernel.now c.args.fabric.now c.args.to c.requires).1 (sym same ∙ c.id.ensures)

@@ -10,5 +10,7 @@ use Rattle.sem_kernel.proofs.happening.can_do.Goals as goal
 pub is_passable-requires-clause-peer : goal.is_passable-requires-clause-peer
 is_passable-requires-clause-peer c =
     let k = c.args.kernel.now in
-    let enabled = (and_parts (is_locally_enabled k.setup k.id k.side c.args.act) (is_timely k.setup c.replies.result c.args.act) (sym c.enabled.ensures ∙ c.if-enabled.true)).0 in
-    subst (λ i. NamesPeer c.args.fabric.now.kernels i c.args.act) (sym c.id.ensures) (subst (λ n. NamesPeer n k.id c.args.act) (sym c.requires.fabric.kernels) (enabled-peer k.setup k.id k.side c.args.act enabled))
+    let enabled = (and_parts (is_locally_enabled k.setup k.id k.side c.args.act) (is_timely k.setup c.replies.result c.args.act) (sym c.enabled.ensures
+    ∙ c.if-enabled.true)).0 in
+    subst (λ i. NamesPeer c.args.fabric.now.kernels i c.args.act) (sym c.id.ensures) (subst (λ n. NamesPeer n k.id c.args.act) (sym c.requires.fabric.kernels)
+    (enabled-peer k.setup k.id k.side c.args.act enabled))

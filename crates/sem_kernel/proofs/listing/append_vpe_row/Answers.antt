@@ -26,11 +26,14 @@ loop-own-preserved c =
     let items = c.own_vpes-own-items.ensures ∙ own-same T ks f c.requires.together i c.requires.few k c.index-kernels-kernel.is in
     let more : n < length (own_rows T i) = omega (arith, c.loop-own-test.true, ap length items) in
     let found : x ≡ get_or (own_rows T i) n x = ap (λ (xs : List OwnVpe). get_or xs n none) items ∙ get_or_default (own_rows T i) n none x more in
-    let told : c.can.result ≡ is_enabled T W (event i (vpe_act c.args.row x.vpe)) = c.can.ensures ∙ vpe-told T ks f c.requires.together i c.requires.few k c.index-kernels-kernel.is c.args.row x.vpe in
+    let told : c.can.result ≡ is_enabled T W (event i (vpe_act c.args.row x.vpe)) = c.can.ensures
+    ∙ vpe-told T ks f c.requires.together i c.requires.few k c.index-kernels-kernel.is c.args.row x.vpe in
     let next = row-more T W (λ (o : OwnVpe). event i (vpe_act c.args.row o.vpe)) (own_rows T i) n x c.args.out.now.items now in
     elim c.if-can.branch [
-      | then-can+in_ok-push w ↦ rw w.out-is (next w.push.new.self.items more found c.loop-own.invariant (w.in_ok-push.ensures.items ∙ (ap (λ act. now ++ event i act ∷ []) w.act.ensures ∙ one-enabled T W (event i (vpe_act c.args.row x.vpe)) now (sym told ∙ w.if-can.true))))
-      | else-can w ↦ rw w.out-is (next now more found c.loop-own.invariant (one-disabled T W (event i (vpe_act c.args.row x.vpe)) now (sym told ∙ w.if-can.false)))
+      | then-can+in_ok-push w ↦ rw w.out-is (next w.push.new.self.items more found c.loop-own.invariant (w.in_ok-push.ensures.items
+          ∙ (ap (λ act. now ++ event i act ∷ []) w.act.ensures ∙ one-enabled T W (event i (vpe_act c.args.row x.vpe)) now (sym told ∙ w.if-can.true))))
+      | else-can w ↦ rw w.out-is (next now more found c.loop-own.invariant (one-disabled T W (event i (vpe_act c.args.row x.vpe)) now (sym told
+          ∙ w.if-can.false)))
     ]
 
 -- the VPEs of other kernels have none
@@ -39,6 +42,8 @@ returns c =
     let T = c.args.setup.now in
     let W = world_of c.args.kernels.now c.args.fabric.now in
     let i = c.args.kernel in
-    let items = c.own_vpes-own-items.ensures ∙ own-same T c.args.kernels.now c.args.fabric.now c.requires.together i c.requires.few c.index-kernels-kernel.result c.index-kernels-kernel.is in
-    row-all T W (λ (o : OwnVpe). event i (vpe_act c.args.row o.vpe)) (own_rows T i) c.loop-own.own-index c.args.out.now.items c.loop-own.out.items (omega (arith, c.loop-own-test.false, ap length items)) c.loop-own.invariant
+    let items = c.own_vpes-own-items.ensures
+    ∙ own-same T c.args.kernels.now c.args.fabric.now c.requires.together i c.requires.few c.index-kernels-kernel.result c.index-kernels-kernel.is in
+    row-all T W (λ (o : OwnVpe). event i (vpe_act c.args.row o.vpe)) (own_rows T i) c.loop-own.own-index c.args.out.now.items c.loop-own.out.items
+    (omega (arith, c.loop-own-test.false, ap length items)) c.loop-own.invariant
     ∙ ap (λ es. c.args.out.now.items ++ es) (own-enough T W (rw c.setup.view_is at c.setup.invariant) i c.args.row)

@@ -8,4 +8,6 @@ use Rattle.sem_kernel.proofs.listing.append_vpe_row.Given as goal
 
 -- the first of its VPEs were tried
 abbrev pub invariant-loop-own : goal.invariant-loop-own
-invariant-loop-own l = l.out.items ≡ l.initial.out.items ++ enabled_among l.setup (world_of l.kernels l.fabric) (map (λ (o : OwnVpe). event l.kernel (vpe_act l.row o.vpe)) (take l.own-index (own_rows l.setup l.kernel)))
+invariant-loop-own l = l.out.items ≡ l.initial.out.items
+    ++ enabled_among l.setup (world_of l.kernels l.fabric)
+    (map (λ (o : OwnVpe). event l.kernel (vpe_act l.row o.vpe)) (take l.own-index (own_rows l.setup l.kernel)))

@@ -23,7 +23,8 @@ returns-clause-opened c s =
     let v = c.args.vpe in
     let parked = c.park.ensures.states ∙ ap (λ j. states_parked c.args.park.now v (RevokeWait j)) c.open_job-begun.ensures.id in
     c.open_job-begun.ensures.opened (with_parks c.park.new.self s)
-    ∙ ap (λ (ps : List (Option Parked)). opened c.args.setup.now c.args.kernel c.args.root None (v ∷ []) c.args.keep (pausing c.args.caps.now c.args.dtus.now c.args.jobs.now ps c.args.outs.now s)) parked
+    ∙ ap (λ (ps : List (Option Parked)). opened c.args.setup.now c.args.kernel c.args.root None (v ∷ []) c.args.keep
+    (pausing c.args.caps.now c.args.dtus.now c.args.jobs.now ps c.args.outs.now s)) parked
 
 pub returns-clause-row : goal.returns-clause-row
 returns-clause-row c s =

@@ -25,7 +25,8 @@ pub returns-clause-row : goal.returns-clause-row
 returns-clause-row c s =
     let side : Side = revoking c.args.caps.now c.args.vpes.now c.args.dtus.now c.args.jobs.now c.args.park.now c.args.outs.now s in
     (λ i. record { side = c.begin_call-done.ensures.row (with_vpes c.args.vpes.now.rows s) i; outcome = c.cut.ensures i })
-    ∙ sym (clear-done c.args.setup.now c.args.kernel side c.args.vpe c.args.sel (capability_of c.in-Some-own_cap.cap.now) c.in_default.ensures c.in-Some-own_cap.ensures)
+    ∙ sym (clear-done c.args.setup.now c.args.kernel side c.args.vpe c.args.sel (capability_of c.in-Some-own_cap.cap.now) c.in_default.ensures
+    c.in-Some-own_cap.ensures)
 
 pub returns-clause-opened : goal.returns-clause-opened
 returns-clause-opened c is d held s =
@@ -33,4 +34,5 @@ returns-clause-opened c is d held s =
     let key = ap (λ (x : Capability). x.key) same in
     let side : Side = revoking c.args.caps.now c.args.vpes.now c.args.dtus.now c.args.jobs.now c.args.park.now c.args.outs.now s in
     c.begin_call-done.ensures.opened (with_vpes c.args.vpes.now.rows s)
-    ∙ ap (λ (k : KeyName). opened c.args.setup.now c.args.kernel k None (c.args.vpe ∷ []) true (parked_as c.args.vpe (RevokeWait c.args.jobs.now.next) side)) key
+    ∙ ap (λ (k : KeyName). opened c.args.setup.now c.args.kernel k None (c.args.vpe ∷ []) true (parked_as c.args.vpe (RevokeWait c.args.jobs.now.next) side))
+    key

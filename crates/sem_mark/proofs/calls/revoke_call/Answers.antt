@@ -44,4 +44,5 @@ returns-clause-opened c is d held s =
     let key = ap (λ (x : Capability). x.key) same in
     let side : Side = revoking c.args.caps.now c.args.vpes.now c.args.dtus.now c.args.jobs.now c.args.park.now c.args.outs.now s in
     c.begin_call-done.ensures.opened (with_vpes c.args.vpes.now.rows s)
-    ∙ ap (λ (k : KeyName). opened c.args.setup.now c.args.kernel k None (c.args.vpe ∷ []) false (parked_as c.args.vpe (RevokeWait c.args.jobs.now.next) side)) key
+    ∙ ap (λ (k : KeyName). opened c.args.setup.now c.args.kernel k None (c.args.vpe ∷ []) false (parked_as c.args.vpe (RevokeWait c.args.jobs.now.next) side))
+    key

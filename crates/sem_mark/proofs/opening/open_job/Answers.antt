@@ -24,7 +24,8 @@ unbind_all-requires c = subst IsRising (sym c.deref.ensures.value) c.mark_region
 pub request_all-requires-clause-owners : goal.request_all-requires-clause-owners
 request_all-requires-clause-owners c =
     let caps : List Capability = c.args.caps.now.caps in
-    subst (All (HasOwner c.args.setup.now)) (sym (c.deref-2.ensures.value ∙ c.mark_region.ensures.links)) (children-owned c.args.setup.now caps (region caps c.args.root) c.requires.owners)
+    subst (All (HasOwner c.args.setup.now)) (sym (c.deref-2.ensures.value ∙ c.mark_region.ensures.links))
+    (children-owned c.args.setup.now caps (region caps c.args.root) c.requires.owners)
 
 -- what the stores are, one after the other
 pub returns-clause-opened : goal.returns-clause-opened
@@ -39,8 +40,10 @@ returns-clause-opened c s =
     let marked : Side = unbind_all ks (mark_all ks j (job_opened c.args.root c.args.up (waiters_of c.args.waiter) c.args.keep s0)) in
     let half : Side = beginning c.mark_region.new.caps c.unbind_all.new.self c.start_job-job.new.jobs c.args.outs.now s in
     let id : c.start_job-job.result ≡ j = c.start_job-job.ensures.id in
-    let caps1 : c.mark_region.new.caps.caps ≡ all_marked ks j caps = ap (λ (x : CapStore). x.caps) c.mark_region.ensures.caps ∙ ap (λ n. all_marked ks n caps) id in
-    let rows1 : c.unbind_all.new.self.rows ≡ rows_unbound ks c.args.dtus.now.rows = ap (λ (t : EndpointTable). t.rows) c.unbind_all.ensures ∙ ap (λ qs. rows_unbound qs c.args.dtus.now.rows) (c.deref.ensures.value ∙ c.mark_region.ensures.keys) in
+    let caps1 : c.mark_region.new.caps.caps ≡ all_marked ks j caps = ap (λ (x : CapStore). x.caps) c.mark_region.ensures.caps
+    ∙ ap (λ n. all_marked ks n caps) id in
+    let rows1 : c.unbind_all.new.self.rows ≡ rows_unbound ks c.args.dtus.now.rows = ap (λ (t : EndpointTable). t.rows) c.unbind_all.ensures
+    ∙ ap (λ qs. rows_unbound qs c.args.dtus.now.rows) (c.deref.ensures.value ∙ c.mark_region.ensures.keys) in
     let base : half ≡ marked = rw (caps1, rows1, c.start_job-job.ensures.jobs, c.start_job-job.ensures.next) refl in
     let links : c.deref-2.result.now ≡ children_of caps ks = c.deref-2.ensures.value ∙ c.mark_region.ensures.links in
     c.request_all.ensures.row (with_endpoints c.unbind_all.new.self.rows s)

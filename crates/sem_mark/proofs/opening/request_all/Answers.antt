@@ -11,7 +11,14 @@ use Rattle.sem_mark.proofs.opening.request_all.Goals as goal
 
 pub loop-at-init : goal.loop-at-init
 unfolding in_turn
-loop-at-init c = record { row = λ s. refl; count = c.requires.count; boxes = c.requires.boxes; sent = omega arith; spare = omega (arith, c.requires.spare); job_spare = refl }
+loop-at-init c = record {
+  row = λ s. refl;
+  count = c.requires.count;
+  boxes = c.requires.boxes;
+  sent = omega arith;
+  spare = omega (arith, c.requires.spare);
+  job_spare = refl;
+}
 
 pub loop-at-preserved : goal.loop-at-preserved
 unfolding in_turn
@@ -24,7 +31,8 @@ loop-at-preserved c =
     record {
       row = λ s.
           let s0 : Side = with_caps c.args.caps.now.caps (with_jobs c.args.jobs.now.jobs c.args.jobs.now.next (with_outs c.args.outs.now.boxes s)) in
-          c.request_or_adopt.ensures.row s ∙ (ap (f k) (c.loop-at.invariant.row s) ∙ sym (ap (λ ks. in_turn f ks s0) taken ∙ in_turn-append f (take at keys) (k ∷ []) s0));
+          c.request_or_adopt.ensures.row s
+          ∙ (ap (f k) (c.loop-at.invariant.row s) ∙ sym (ap (λ ks. in_turn f ks s0) taken ∙ in_turn-append f (take at keys) (k ∷ []) s0));
       count = c.request_or_adopt.ensures.count at c.loop-at.invariant.count;
       boxes = c.request_or_adopt.ensures.boxes;
       sent = omega (arith, c.request_or_adopt.ensures.spare, c.loop-at.invariant.sent);

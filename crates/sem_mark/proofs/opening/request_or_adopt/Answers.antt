@@ -9,7 +9,8 @@ returns-then-owner-kernel-clause-count c n few = rw c.add_outstanding.ensures (r
 
 -- there are as many outboxes after a message was sent
 pub returns-then-owner-kernel-clause-boxes : goal.returns-then-owner-kernel-clause-boxes
-returns-then-owner-kernel-clause-boxes c = boxes-sent c.args.setup.now c.args.outs.now c.send.new.self c.owner_of-owner.result _ (omega (arith, c.owner_of-owner.ensures, c.requires.owner, c.requires.boxes)) c.send.ensures.boxes c.requires.boxes
+returns-then-owner-kernel-clause-boxes c = boxes-sent c.args.setup.now c.args.outs.now c.send.new.self c.owner_of-owner.result _
+    (omega (arith, c.owner_of-owner.ensures, c.requires.owner, c.requires.boxes)) c.send.ensures.boxes c.requires.boxes
 
 -- a job that waits for another has as many tokens out as before
 pub returns-in-Some-clause-count : goal.returns-in-Some-clause-count

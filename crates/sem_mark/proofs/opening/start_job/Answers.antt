@@ -14,7 +14,8 @@ returns-then-keep-clause-jobs c =
     ap (λ (x : JobStore). x.jobs) c.keep.ensures
     ∙ ap (λ n. keep_set n c.begin-job.new.self.jobs) c.begin-job.ensures.id
     ∙ ap (keep_set next) c.begin-job.ensures.jobs
-    ∙ opened-kept next c.args.root c.args.up (waiters_of c.args.waiter) jobs (subst (λ xs. AllPairs (λ m n. m < n) (ids_of xs)) c.begin-job.ensures.jobs c.get.ensures.store.rising)
+    ∙ opened-kept next c.args.root c.args.up (waiters_of c.args.waiter) jobs
+    (subst (λ xs. AllPairs (λ m n. m < n) (ids_of xs)) c.begin-job.ensures.jobs c.get.ensures.store.rising)
     ∙ ap (λ keep. job_opened next c.args.root c.args.up (waiters_of c.args.waiter) keep jobs) (sym c.if-keep.true)
 
 pub returns-then-keep-clause-count : goal.returns-then-keep-clause-count

@@ -21,7 +21,8 @@ loop-at-init c =
     let none = ap length c.requires.empty in
     let caps = c.args.caps.now.caps in
     record {
-      walk = subst (λ w. IsWalk caps c.args.root c.args.job w 0) (ap (λ ks. reach c.args.job c.args.root (record { caps = caps; keys = ks })) (sym c.requires.empty) ∙ sym c.reach.ensures.walk) (IsWalk-start caps c.args.root c.args.job);
+      walk = subst (λ w. IsWalk caps c.args.root c.args.job w 0) (ap (λ ks. reach c.args.job c.args.root (record { caps = caps; keys = ks }))
+          (sym c.requires.empty) ∙ sym c.reach.ensures.walk) (IsWalk-start caps c.args.root c.args.job);
       rest = c.reach.ensures.rest;
       room = omega (arith, c.reach.ensures.room);
       links = c.requires.no_links;
@@ -42,7 +43,10 @@ loop-at-preserved c =
       walk = subst (λ w. IsWalk caps c.args.root c.args.job w (c.loop-at.at + 1)) (sym c.reach_children.ensures.walk) next;
       rest = c.reach_children.ensures.rest ∙ rw c.loop-at.invariant.rest refl;
       room = omega (arith, c.reach_children.ensures.room, c.loop-at.invariant.room);
-      links = c.reach_children.ensures.links ∙ (ap (λ ks. ks ++ children_at now.caps p) c.loop-at.invariant.links ∙ (sym (links-more caps c.args.root c.args.job now c.loop-at.at p (omega arith) here c.loop-at.invariant.walk) ∙ ap (λ (w : Walk). flat_map (children_at caps) (take (c.loop-at.at + 1) w.keys)) (sym c.reach_children.ensures.walk)));
+      links = c.reach_children.ensures.links
+          ∙ (ap (λ ks. ks ++ children_at now.caps p) c.loop-at.invariant.links
+          ∙ (sym (links-more caps c.args.root c.args.job now c.loop-at.at p (omega arith) here c.loop-at.invariant.walk)
+          ∙ ap (λ (w : Walk). flat_map (children_at caps) (take (c.loop-at.at + 1) w.keys)) (sym c.reach_children.ensures.walk)));
       valid = c.reach_children.ensures.valid c.loop-at.invariant.valid;
       link_capacity = c.reach_children.ensures.link_capacity ∙ c.loop-at.invariant.link_capacity;
       capacity = c.reach_children.ensures.capacity ∙ c.loop-at.invariant.capacity;
@@ -50,13 +54,15 @@ loop-at-preserved c =
     }
 
 pub returns-clause-keys : goal.returns-clause-keys
-returns-clause-keys c = IsWalk-end c.args.caps.now.caps c.args.root c.args.job _ c.loop-at.at c.reach.ensures.store.keys.rising (omega arith) c.loop-at.invariant.walk
+returns-clause-keys c = IsWalk-end c.args.caps.now.caps c.args.root c.args.job _ c.loop-at.at c.reach.ensures.store.keys.rising
+    (omega arith) c.loop-at.invariant.walk
 
 pub returns-clause-caps : goal.returns-clause-caps
 returns-clause-caps c =
     let caps = c.args.caps.now.caps in
     let same = IsWalk-end caps c.args.root c.args.job _ c.loop-at.at c.reach.ensures.store.keys.rising (omega arith) c.loop-at.invariant.walk in
-    c.loop-at.invariant.rest ∙ ap (λ cs. record c.args.caps.now { caps = cs }) (c.loop-at.invariant.walk.marked ∙ all_marked-same caps c.loop-at.keys.items (region caps c.args.root) c.args.job same)
+    c.loop-at.invariant.rest ∙ ap (λ cs. record c.args.caps.now { caps = cs }) (c.loop-at.invariant.walk.marked
+    ∙ all_marked-same caps c.loop-at.keys.items (region caps c.args.root) c.args.job same)
 
 pub reach_children-requires-clause-link_room : goal.reach_children-requires-clause-link_room
 reach_children-requires-clause-link_room c =

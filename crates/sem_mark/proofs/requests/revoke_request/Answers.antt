@@ -20,7 +20,8 @@ returns-in_default-clause-row c s =
     let side : Side = revoking c.args.caps.now c.args.vpes.now c.args.dtus.now c.args.jobs.now c.args.park.now c.args.outs.now s in
     let half : Side = revoking c.args.caps.now c.cancel_obtain.new.vpes c.args.dtus.now c.args.jobs.now c.cancel_obtain.new.park c.args.outs.now s in
     let after : Side = revoking c.args.caps.now c.cancel_obtain.new.vpes c.args.dtus.now c.args.jobs.now c.cancel_obtain.new.park c.send.new.self s in
-    let boxes = c.send.ensures.boxes ∙ ap (λ (m : Message). with_box c.args.outs.now.boxes c.args.from (box_for c.args.outs.now.boxes c.args.from ++ m ∷ [])) c.done.ensures.message in
+    let boxes = c.send.ensures.boxes
+    ∙ ap (λ (m : Message). with_box c.args.outs.now.boxes c.args.from (box_for c.args.outs.now.boxes c.args.from ++ m ∷ [])) c.done.ensures.message in
     let told : after ≡ send c.args.from (RevokeDone c.args.job) half = ap (λ (bs : List (List Message)). record half { outs = bs }) boxes in
     let cancelled : half ≡ obtain_cancelled c.args.key side = c.cancel_obtain.ensures.row side in
     finish-none T c.args.kernel (length after.jobs) after
@@ -30,7 +31,8 @@ returns-in_default-clause-row c s =
 
 -- there are as many outboxes after a message was sent
 pub returns-in_default-clause-boxes : goal.returns-in_default-clause-boxes
-returns-in_default-clause-boxes c = boxes-sent c.args.setup.now c.args.outs.now c.send.new.self c.args.from _ (omega (arith, c.requires.from, c.requires.boxes)) c.send.ensures.boxes c.requires.boxes
+returns-in_default-clause-boxes c = boxes-sent c.args.setup.now c.args.outs.now c.send.new.self c.args.from _ (omega (arith, c.requires.from, c.requires.boxes))
+    c.send.ensures.boxes c.requires.boxes
 
 -- a job has marked it
 pub returns-in-Some-mark-clause-row : goal.returns-in-Some-mark-clause-row
@@ -42,7 +44,8 @@ returns-in-Some-mark-clause-row c s =
     λ i. revoking c.args.caps.now c.args.vpes.now c.args.dtus.now (c.set_up.ensures i) c.args.park.now c.args.outs.now s in
     finish-none T c.args.kernel (length after.jobs) after
     ∙ waits
-    ∙ sym (request-marked T c.args.kernel side c.args.from c.args.job c.args.key (capability_of c.in-Some.cap.now) c.in-Some-mark.marker c.in-Some.ensures.cap c.in-Some-mark.is)
+    ∙ sym (request-marked T c.args.kernel side c.args.from c.args.job c.args.key (capability_of c.in-Some.cap.now) c.in-Some-mark.marker c.in-Some.ensures.cap
+    c.in-Some-mark.is)
 
 -- no job has marked it
 pub open_job-begun-requires-clause-spare : goal.open_job-begun-requires-clause-spare
@@ -60,7 +63,8 @@ returns-clause-row c s =
     let i = c.args.kernel in
     let next : ℕ = c.args.jobs.now.next in
     let side : Side = revoking c.args.caps.now c.args.vpes.now c.args.dtus.now c.args.jobs.now c.args.park.now c.args.outs.now s in
-    let after : Side = revoking c.open_job-begun.new.caps c.args.vpes.now c.open_job-begun.new.dtus c.open_job-begun.new.jobs c.args.park.now c.open_job-begun.new.outs s in
+    let after : Side = revoking c.open_job-begun.new.caps c.args.vpes.now c.open_job-begun.new.dtus c.open_job-begun.new.jobs c.args.park.now
+    c.open_job-begun.new.outs s in
     let done = c.done_job.ensures.done ∙ ap (λ j. if_done (job_of c.open_job-begun.new.jobs.jobs j)) c.open_job-begun.ensures.id in
     let begins = c.open_job-begun.ensures.opened (with_vpes c.args.vpes.now.rows (with_parks c.args.park.now s)) in
     begun T i next c.done_job.result after (opened T i c.args.key (Some (Remote c.args.from c.args.job)) [] false side) done begins

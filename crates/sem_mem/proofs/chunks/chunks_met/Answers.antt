@@ -14,10 +14,13 @@ returns c cs are same =
     let bs = c.args.beginnings.now in
     let i = c.partition_point-begun.result in
     let k = c.count_before.result in
-    let first : IsPartitionPoint (λ b. nat_le b c.args.base ≡ true) (λ b. nat_le b c.args.base ≡ false) bs i = IsPartitionPoint-from_clause (λ b. nat_le b c.args.base) bs _ c.partition_point-begun.ensures.partitioned (IsPartitionedBy-leb (λ (b : ℕ). b) bs c.args.base (begins-rise cs are bs same 0)) (λ a r q k. search rules) in
+    let first : IsPartitionPoint (λ b. nat_le b c.args.base ≡ true) (λ b. nat_le b c.args.base ≡ false) bs i =
+    IsPartitionPoint-from_clause (λ b. nat_le b c.args.base) bs _ c.partition_point-begun.ensures.partitioned
+    (IsPartitionedBy-leb (λ (b : ℕ). b) bs c.args.base (begins-rise cs are bs same 0)) (λ a r q k. search rules) in
     let front : k ≡ prefix_len (λ b. nat_lt b c.args.end) (drop i bs) = rw (take_rest bs i) at c.count_before.ensures.front in
     let short : k ≤ length (drop i bs) = rw (take_rest bs i) at c.count_before.ensures.within in
-    let second : IsPartitionPoint (λ b. nat_lt b c.args.end ≡ true) (λ b. nat_lt b c.args.end ≡ false) (drop i bs) k = walked (λ b. nat_lt b c.args.end) (drop i bs) k front (IsPartitionedBy-ltb (λ (b : ℕ). b) (drop i bs) c.args.end (begins-rise cs are bs same i)) in
+    let second : IsPartitionPoint (λ b. nat_lt b c.args.end ≡ true) (λ b. nat_lt b c.args.end ≡ false) (drop i bs) k =
+    walked (λ b. nat_lt b c.args.end) (drop i bs) k front (IsPartitionedBy-ltb (λ (b : ℕ). b) (drop i bs) c.args.end (begins-rise cs are bs same i)) in
     let size : length (drop i bs) ≡ length bs - i = length-drop i bs in
     let bound = c.partition_point-begun.ensures.bound in
     let low : c.saturating_sub-from.result ≤ i - 1 = omega (arith, c.saturating_sub-from.ensures) in

@@ -15,10 +15,12 @@ loop-place-init c = record {
 }
 
 pub go_on-requires : goal.go_on-requires
-go_on-requires c = next-enabled c.args.setup.now c.args.entries.now c.requires c.loop-place.place c.index-entries-place.result c.loop-place.world c.loop-place.invariant.world (omega arith) c.index-entries-place.is
+go_on-requires c = next-enabled c.args.setup.now c.args.entries.now c.requires c.loop-place.place c.index-entries-place.result c.loop-place.world
+    c.loop-place.invariant.world (omega arith) c.index-entries-place.is
 
 pub after-requires-clause-schedule : goal.after-requires-clause-schedule
-after-requires-clause-schedule c = next-runs c.args.setup.now c.args.entries.now c.requires c.loop-place.place c.index-entries-place.result c.loop-place.world c.loop-place.invariant.world (omega arith) c.index-entries-place.is
+after-requires-clause-schedule c = next-runs c.args.setup.now c.args.entries.now c.requires c.loop-place.place c.index-entries-place.result c.loop-place.world
+    c.loop-place.invariant.world (omega arith) c.index-entries-place.is
 
 pub after-requires-clause-expected : goal.after-requires-clause-expected
 after-requires-clause-expected c =
@@ -30,7 +32,8 @@ after-requires-clause-expected c =
     let count : length (take i J) ≡ i = length-take-le i J (omega arith) in
     subst (IsAccountBefore T (take i J) e) (sym c.before-in-loop-place.ensures) (record {
       past = record { kept = told.kept; newer = told.newer; told = told.told };
-      next = ap (λ (w : WorldValue). access_by w.setup w.world i (transfer_of e)) c.loop-place.invariant.world ∙ ap (λ n. access_by T (world_after T (take i J)) n (transfer_of e)) (sym count);
+      next = ap (λ (w : WorldValue). access_by w.setup w.world i (transfer_of e)) c.loop-place.invariant.world
+          ∙ ap (λ n. access_by T (world_after T (take i J)) n (transfer_of e)) (sym count);
     })
 
 pub loop-place-preserved : goal.loop-place-preserved
@@ -40,6 +43,8 @@ loop-place-preserved c =
     let i = c.loop-place.place in
     let e = c.index-entries-place.result in
     record {
-      world = next-world T J c.requires i e c.loop-place.world c.loop-place.invariant.world (omega arith) c.index-entries-place.is c.go_on.new.world c.in_ok-go_on.ensures;
-      told = subst (λ K. IsAccountOf T K c.after.new.self) (next-entries T J c.requires i e c.loop-place.world c.loop-place.invariant.world (omega arith) c.index-entries-place.is) c.in_ok-after.ensures;
+      world = next-world T J c.requires i e c.loop-place.world c.loop-place.invariant.world (omega arith) c.index-entries-place.is c.go_on.new.world
+          c.in_ok-go_on.ensures;
+      told = subst (λ K. IsAccountOf T K c.after.new.self) (next-entries T J c.requires i e c.loop-place.world c.loop-place.invariant.world
+          (omega arith) c.index-entries-place.is) c.in_ok-after.ensures;
     }

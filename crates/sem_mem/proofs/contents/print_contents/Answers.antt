@@ -15,7 +15,9 @@ returns-clause-ok c =
     let J : List Entry = c.args.journal.now.entries in
     let account = c.in_ok-account.account in
     let is : IsAccountOf T J account = subst (λ K. IsAccountOf T K account) c.as_slice.ensures c.in_ok-account.ensures in
-    let told : c.push_contents.new.out.items ≡ c.new-told.result.items ++ text (access_lines (accesses T J) (length J)) = c.in_ok-push_contents.ensures (accesses T J) (length J) is (all-before T J) in
+    let told : c.push_contents.new.out.items ≡ c.new-told.result.items ++ text (access_lines (accesses T J) (length J)) =
+    c.in_ok-push_contents.ensures (accesses T J) (length J) is (all-before T J) in
     let bytes : c.deref.result.now ≡ text (access_lines (accesses T J) (length J)) =
     c.deref.ensures.value ∙ (told ∙ ap (λ bs. bs ++ text (access_lines (accesses T J) (length J))) c.new-told.ensures.items) in
-    appended c.extend_from_slice.result c.args.out.now.items c.deref.result.now (text (access_lines (accesses T J) (length J))) c.extend_from_slice.new.self.items bytes c.extend_from_slice.ensures.items
+    appended c.extend_from_slice.result c.args.out.now.items c.deref.result.now (text (access_lines (accesses T J) (length J)))
+    c.extend_from_slice.new.self.items bytes c.extend_from_slice.ensures.items

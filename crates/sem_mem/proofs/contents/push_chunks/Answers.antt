@@ -9,5 +9,6 @@ use Rattle.sem_mem.proofs.contents.push_chunks.Goals as goal
 pub loop-chunk-preserved : goal.loop-chunk-preserved
 loop-chunk-preserved c =
     (rw (c.loop-chunk.invariant, c.deref.ensures.value) at c.in_ok-push_runs.ensures)
-    ∙ (ap (λ q. (c.args.out.now.items ++ text (map run_line (together (take c.loop-chunk.chunk-index c.args.chunks.now)))) ++ text (map run_line q.items)) c.chunk-item.is
+    ∙ (ap (λ q. (c.args.out.now.items ++ text (map run_line (together (take c.loop-chunk.chunk-index c.args.chunks.now))))
+    ++ text (map run_line q.items)) c.chunk-item.is
     ∙ chunk-told c.args.chunks.now c.loop-chunk.chunk-index c.chunk-item.result c.args.out.now.items c.loop-chunk-test.true)

@@ -7,7 +7,8 @@ use Rattle.sem_mem.proofs.contents.push_contents.Goals as goal
 
 pub returns : goal.returns
 returns c = on_ok_weaker c.push_line-2.result (λ ended xs n is before.
-    whole-text xs n (together c.chunks.result.now) c.args.out.now.items c.push_line.new.out.items c.extend_from_slice.new.self.items c.push_chunks.new.out.items c.push_line-2.new.out.items before
+    whole-text xs n (together c.chunks.result.now) c.args.out.now.items c.push_line.new.out.items c.extend_from_slice.new.self.items c.push_chunks.new.out.items
+    c.push_line-2.new.out.items before
     (subst AreRuns (sym c.chunks.ensures.runs) c.chunks.ensures.apart)
     (λ a. ap (λ rs. entry_at rs a) c.chunks.ensures.runs ∙ is.kept a)
     c.in_ok-push_line.ensures.ok

@@ -9,5 +9,6 @@ look_in-requires-clause-runs c = runs-within c.met_by-from.result.0 c.met_by-fro
 -- the runs that the range meets tell of it what all runs tell
 pub returns : goal.returns
 returns c =
-    let met : IsMetPart c.args.runs.now c.args.base (c.args.base + c.args.len) c.met_by-from.result.0 c.met_by-from.result.1 = rw (sym c.from.ensures) c.met_by-from.ensures in
+    let met : IsMetPart c.args.runs.now c.args.base (c.args.base + c.args.len) c.met_by-from.result.0 c.met_by-from.result.1 =
+    rw (sym c.from.ensures) c.met_by-from.ensures in
     c.look_in.ensures ∙ looked-middle c.args.runs.now c.args.base c.args.len c.met_by-from.result.0 c.met_by-from.result.1 c.requires.runs met

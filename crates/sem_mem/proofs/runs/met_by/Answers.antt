@@ -14,8 +14,12 @@ returns c =
     let rs = c.args.runs.now in
     let i = c.partition_point-from.result in
     let k = c.count_before.result in
-    let first : IsPartitionPoint (λ (r : Run). nat_le (r.base + r.len) c.args.base ≡ true) (λ (r : Run). nat_le (r.base + r.len) c.args.base ≡ false) rs i = IsPartitionPoint-from_clause (λ (r : Run). nat_le (r.base + r.len) c.args.base) rs _ c.partition_point-from.ensures.partitioned (IsPartitionedBy-leb (λ (r : Run). r.base + r.len) rs c.args.base (ends-rise rs c.requires)) (λ a r q k. search rules) in
+    let first : IsPartitionPoint (λ (r : Run). nat_le (r.base + r.len) c.args.base ≡ true) (λ (r : Run). nat_le (r.base + r.len) c.args.base ≡ false) rs i =
+    IsPartitionPoint-from_clause (λ (r : Run). nat_le (r.base + r.len) c.args.base) rs _ c.partition_point-from.ensures.partitioned
+    (IsPartitionedBy-leb (λ (r : Run). r.base + r.len) rs c.args.base (ends-rise rs c.requires)) (λ a r q k. search rules) in
     let front : k ≡ prefix_len (λ (r : Run). nat_lt r.base c.args.end) (drop i rs) = rw (take_rest rs i) at c.count_before.ensures.front in
     let short : k ≤ length (drop i rs) = rw (take_rest rs i) at c.count_before.ensures.within in
-    let second : IsPartitionPoint (λ (r : Run). nat_lt r.base c.args.end ≡ true) (λ (r : Run). nat_lt r.base c.args.end ≡ false) (drop i rs) k = walked (λ (r : Run). nat_lt r.base c.args.end) (drop i rs) k front (IsPartitionedBy-ltb (λ (r : Run). r.base) (drop i rs) c.args.end (bases-rise (drop i rs) (runs-dropped i rs c.requires))) in
+    let second : IsPartitionPoint (λ (r : Run). nat_lt r.base c.args.end ≡ true) (λ (r : Run). nat_lt r.base c.args.end ≡ false) (drop i rs) k =
+    walked (λ (r : Run). nat_lt r.base c.args.end) (drop i rs) k front
+    (IsPartitionedBy-ltb (λ (r : Run). r.base) (drop i rs) c.args.end (bases-rise (drop i rs) (runs-dropped i rs c.requires))) in
     met-part rs c.args.base c.args.end i k c.partition_point-from.ensures.bound short first second

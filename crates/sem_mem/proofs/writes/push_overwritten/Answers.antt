@@ -18,5 +18,14 @@ returns c =
     let i = c.met_by-from.result.0 in
     let j = c.met_by-from.result.1 in
     let met : IsMetPart rs c.args.base (c.args.base + c.args.len) i j = rw (sym c.from.ensures) c.met_by-from.ensures in
-    (rw (c.in_ok-push_upper_parts.ensures, c.in_ok-push.ensures.items, c.in_ok-push_lower_parts.ensures, c.in_ok-extend_from_slice.ensures.items, c.from.ensures, c.from-2.ensures, take_rest rs j) at c.in_ok-extend_from_slice-2.ensures.items)
-    ∙ (behind-others _ _ _ _ _ _ ∙ ap (λ (qs : List Run). c.args.out.now.items ++ qs) (overwritten-anew rs c.args.base c.args.len c.args.entry i j c.requires.runs met))
+    (rw (
+      c.in_ok-push_upper_parts.ensures,
+      c.in_ok-push.ensures.items,
+      c.in_ok-push_lower_parts.ensures,
+      c.in_ok-extend_from_slice.ensures.items,
+      c.from.ensures,
+      c.from-2.ensures,
+      take_rest rs j,
+    ) at c.in_ok-extend_from_slice-2.ensures.items)
+    ∙ (behind-others _ _ _ _ _ _
+    ∙ ap (λ (qs : List Run). c.args.out.now.items ++ qs) (overwritten-anew rs c.args.base c.args.len c.args.entry i j c.requires.runs met))

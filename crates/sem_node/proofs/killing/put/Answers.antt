@@ -16,5 +16,6 @@ next_place-placed-requires c =
 
 pub returns-clause-put : goal.returns-clause-put
 returns-clause-put c =
-    put-done c.args.kernel.now c.args.fabric.now c.args.vpe c.requires c.enter.new.self c.next_place-placed.new.fabric c.id-kernel_number.result c.replies.result c.enabled.result
+    put-done c.args.kernel.now c.args.fabric.now c.args.vpe c.requires c.enter.new.self c.next_place-placed.new.fabric c.id-kernel_number.result
+    c.replies.result c.enabled.result
     c.id-kernel_number.ensures c.enter.ensures c.next_place-placed.ensures.same c.replies.ensures c.enabled.ensures c.if-not-enabled.false

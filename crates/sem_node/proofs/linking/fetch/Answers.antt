@@ -15,14 +15,19 @@ pub fetch-requires-clause-other : goal.fetch-requires-clause-other
 fetch-requires-clause-other c = fetch-other c.args.kernel.now c.args.fabric.now c.args.from c.id-id.result c.id-id.ensures c.requires
 
 pub enter-requires-clause-kernel : goal.enter-requires-clause-kernel
-enter-requires-clause-kernel c = (fetch-enters c.args.kernel.now c.args.fabric.now c.fetch.new.self c.args.from c.id-id.result c.in-Some.message c.step.result c.requires c.id-id.ensures c.fetch.ensures.value c.step.ensures.entry).0
+enter-requires-clause-kernel c =
+    (fetch-enters c.args.kernel.now c.args.fabric.now c.fetch.new.self c.args.from c.id-id.result c.in-Some.message c.step.result c.requires c.id-id.ensures
+    c.fetch.ensures.value c.step.ensures.entry).0
 
 pub enter-requires-clause-place : goal.enter-requires-clause-place
-enter-requires-clause-place c = (fetch-enters c.args.kernel.now c.args.fabric.now c.fetch.new.self c.args.from c.id-id.result c.in-Some.message c.step.result c.requires c.id-id.ensures c.fetch.ensures.value c.step.ensures.entry).1
+enter-requires-clause-place c =
+    (fetch-enters c.args.kernel.now c.args.fabric.now c.fetch.new.self c.args.from c.id-id.result c.in-Some.message c.step.result c.requires c.id-id.ensures
+    c.fetch.ensures.value c.step.ensures.entry).1
 
 pub returns : goal.returns
 returns c =
-    fetch-stepped c.args.kernel.now c.args.fabric.now c.fetch.new.self c.args.from c.id-id.result c.in-Some.message c.step.result c.requires c.id-id.ensures c.fetch.ensures.value c.step.ensures.entry
+    fetch-stepped c.args.kernel.now c.args.fabric.now c.fetch.new.self c.args.from c.id-id.result c.in-Some.message c.step.result c.requires c.id-id.ensures
+    c.fetch.ensures.value c.step.ensures.entry
     c.step.new.self c.enter.new.self (sym c.fetch.ensures.front ∙ c.in-Some.is) c.in-Some.ensures.fits c.step.ensures.step c.enter.ensures
 
 pub full-full-requires-clause-kernels : goal.full-full-requires-clause-kernels

@@ -18,12 +18,17 @@ pub flush-requires-clause-fits : goal.flush-requires-clause-fits
 flush-requires-clause-fits c = flush-fits c.args.kernel.now c.args.fabric.now c.args.to c.requires c.in-Some.message (sym c.front.ensures ∙ c.in-Some.is)
 
 pub enter-requires-clause-kernel : goal.enter-requires-clause-kernel
-enter-requires-clause-kernel c = (flush-enters c.args.kernel.now c.args.fabric.now c.flush.new.self c.args.to c.id-id.result c.in-Some.message c.step.result c.requires c.id-id.ensures c.in-Ok.ensures.ok c.step.ensures.entry).0
+enter-requires-clause-kernel c =
+    (flush-enters c.args.kernel.now c.args.fabric.now c.flush.new.self c.args.to c.id-id.result c.in-Some.message c.step.result c.requires c.id-id.ensures
+    c.in-Ok.ensures.ok c.step.ensures.entry).0
 
 pub enter-requires-clause-place : goal.enter-requires-clause-place
-enter-requires-clause-place c = (flush-enters c.args.kernel.now c.args.fabric.now c.flush.new.self c.args.to c.id-id.result c.in-Some.message c.step.result c.requires c.id-id.ensures c.in-Ok.ensures.ok c.step.ensures.entry).1
+enter-requires-clause-place c =
+    (flush-enters c.args.kernel.now c.args.fabric.now c.flush.new.self c.args.to c.id-id.result c.in-Some.message c.step.result c.requires c.id-id.ensures
+    c.in-Ok.ensures.ok c.step.ensures.entry).1
 
 pub returns : goal.returns
 returns c =
-    flush-stepped c.args.kernel.now c.args.fabric.now c.flush.new.self c.args.to c.id-id.result c.in-Some.message c.step.result c.requires c.id-id.ensures c.in-Ok.ensures.ok c.step.ensures.entry
+    flush-stepped c.args.kernel.now c.args.fabric.now c.flush.new.self c.args.to c.id-id.result c.in-Some.message c.step.result c.requires c.id-id.ensures
+    c.in-Ok.ensures.ok c.step.ensures.entry
     c.step.new.self c.enter.new.self (sym c.front.ensures ∙ c.in-Some.is) (c.in-Ok.ensures.variant.0 refl) c.step.ensures.step c.enter.ensures

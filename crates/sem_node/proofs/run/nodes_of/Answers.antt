@@ -20,14 +20,16 @@ node_of-requires-clause-run g c =
     (zip_snoc R _ _ _ _ (subst (λ (ps : List PassValue). AllZip R (c.pop.new.self.items ++ c.in-Some.kernel ∷ []) ps) c.in-Some-pop.ensures.last first)).1
 
 pub node_of-requires-clause-free : goal.node_of-requires-clause-free
-node_of-requires-clause-free g c = (All-pop (λ (p : PassValue). p.taken ≡ None) _ _ (Some c.in-Some-pop.pass) c.in-Some-pop.ensures.last c.loop-kernel.invariant.free).1
+node_of-requires-clause-free g c =
+    (All-pop (λ (p : PassValue). p.taken ≡ None) _ _ (Some c.in-Some-pop.pass) c.in-Some-pop.ensures.last c.loop-kernel.invariant.free).1
 
 pub loop-kernel-preserved : goal.loop-kernel-preserved
 loop-kernel-preserved g c =
     let i = c.loop-kernel.invariant in
     let R = HasRun g.N.RunName.setup in
     let first = subst (λ xs. AllZip R xs c.loop-kernel.passes) c.in-Some.ensures.items i.run in record {
-      run = (zip_snoc R _ _ _ _ (subst (λ (ps : List PassValue). AllZip R (c.pop.new.self.items ++ c.in-Some.kernel ∷ []) ps) c.in-Some-pop.ensures.last first)).0;
+      run = (zip_snoc R _ _ _ _ (subst (λ (ps : List PassValue). AllZip R (c.pop.new.self.items ++ c.in-Some.kernel ∷ []) ps) c.in-Some-pop.ensures.last
+          first)).0;
       free = (All-pop (λ (p : PassValue). p.taken ≡ None) _ _ (Some c.in-Some-pop.pass) c.in-Some-pop.ensures.last i.free).0;
       count = omega (arith, i.count, c.in_ok-push.ensures.len, c.in-Some.ensures.cases);
     }

@@ -29,7 +29,16 @@ returns g c =
     let same : c.args.setup.now ≡ g.N.RunName.setup = sym c.requires.setup ∙ c.requires.named.1 in
     let many = ap (λ (ks : List KernelValue). length ks) c.requires.booted ∙ length-map-range_with_len (booted c.args.setup.now) 0 c.args.setup.now.kernels in
     let kernels = ap (λ (S : Setup). S.kernels) same in
-    let count : length c.in_ok-kernels.passes ≡ g.N.RunName.setup.kernels = omega (arith, many, kernels, c.args.kernels.ok.0, c.in_ok-kernels.ensures.count, c.as_slice.ensures.len, c.in_ok-nodes.ensures) in
+    let count : length c.in_ok-kernels.passes ≡ g.N.RunName.setup.kernels = omega (
+      arith,
+      many,
+      kernels,
+      c.args.kernels.ok.0,
+      c.in_ok-kernels.ensures.count,
+      c.as_slice.ensures.len,
+      c.in_ok-nodes.ensures,
+    ) in
     let e = c.close-fabric.ensures in
     subst (λ (S : Setup). HaveRun S c.put_in_order.new.kernels.items c.close-fabric.result) (sym same)
-    (gathered g.N.RunName.setup _ _ _ c.close-fabric.result c.in_ok-kernels.ensures.run count e.whole e.parts e.once c.put_in_order.ensures.same c.put_in_order.ensures.order)
+    (gathered g.N.RunName.setup _ _ _ c.close-fabric.result c.in_ok-kernels.ensures.run count e.whole e.parts e.once c.put_in_order.ensures.same
+    c.put_in_order.ensures.order)

@@ -4,4 +4,5 @@ use Rattle.sem_obtain.proofs.answers.obtain_answer.Goals as goal
 
 -- there are as many outboxes after a message was sent
 pub returns-then-not-alive-clause-boxes : goal.returns-then-not-alive-clause-boxes
-returns-then-not-alive-clause-boxes c = boxes-sent c.args.setup.now c.args.outs.now c.send.new.self c.owner_of.result _ (omega (arith, c.owner_of.ensures, c.requires.owner, c.requires.boxes)) c.send.ensures.boxes c.requires.boxes
+returns-then-not-alive-clause-boxes c = boxes-sent c.args.setup.now c.args.outs.now c.send.new.self c.owner_of.result _
+    (omega (arith, c.owner_of.ensures, c.requires.owner, c.requires.boxes)) c.send.ensures.boxes c.requires.boxes

@@ -8,7 +8,8 @@ use Rattle.sem_obtain.proofs.calls.obtain_call.Goals as goal
 pub returns-in-Some-clause-row : goal.returns-in-Some-clause-row
 returns-in-Some-clause-row c s =
     let side = asking c.args.vpes.now c.args.park.now c.args.outs.now s in
-    row-refused side (obtain_tests c.args.setup.now c.args.kernel side c.args.vpe c.args.dst c.args.other) _ c.in-Some.code c.answered.result c.in-Some.ensures c.answered.ensures
+    row-refused side (obtain_tests c.args.setup.now c.args.kernel side c.args.vpe c.args.dst c.args.other) _ c.in-Some.code c.answered.result c.in-Some.ensures
+    c.answered.ensures
 
 -- no test holds
 pub returns-clause-row : goal.returns-clause-row

@@ -13,14 +13,16 @@ use Rattle.sem_obtain.proofs.calls.open_call.Goals as goal
 pub returns-in-Some-clause-row : goal.returns-in-Some-clause-row
 returns-in-Some-clause-row c s =
     let side = asking c.args.vpes.now c.args.park.now c.args.outs.now s in
-    row-refused side (open_tests c.args.setup.now c.args.kernel side c.args.vpe c.args.dst c.args.name) _ c.in-Some.code c.answered.result c.in-Some.ensures c.answered.ensures
+    row-refused side (open_tests c.args.setup.now c.args.kernel side c.args.vpe c.args.dst c.args.name) _ c.in-Some.code c.answered.result c.in-Some.ensures
+    c.answered.ensures
 
 -- the VPE of the service is declared
 pub make_ask-requires-clause-asked : goal.make_ask-requires-clause-asked
 make_ask-requires-clause-asked c = ap (λ (k : KeyName). is_declared c.args.setup.now k.vpe) c.service.view_is ∙ c.in-Some-service_key.ensures.declared.0
 
 pub make_ask-requires-clause-free : goal.make_ask-requires-clause-free
-make_ask-requires-clause-free c = open-free c.args.setup.now c.args.kernel (with_vpes c.args.vpes.now.rows no_side) c.args.vpe c.args.dst c.args.name c.in_default.ensures
+make_ask-requires-clause-free c = open-free c.args.setup.now c.args.kernel (with_vpes c.args.vpes.now.rows no_side) c.args.vpe c.args.dst c.args.name
+    c.in_default.ensures
 
 -- no test holds
 pub returns-clause-row : goal.returns-clause-row
@@ -29,4 +31,5 @@ returns-clause-row c s =
     ap (λ o. record { side = asking c.make_ask.new.vpes c.make_ask.new.park c.make_ask.new.outs s; outcome = o }) c.nothing.ensures
     ∙ c.make_ask.ensures.row s
     ∙ ap (λ target. ask_made c.args.setup.now c.args.kernel c.args.vpe c.args.dst target side) c.session_with-target.ensures.target
-    ∙ sym (open-done c.args.setup.now c.args.kernel side c.args.vpe c.args.dst c.args.name c.in-Some-service_key.service c.in_default.ensures c.in-Some-service_key.ensures.key)
+    ∙ sym (open-done c.args.setup.now c.args.kernel side c.args.vpe c.args.dst c.args.name c.in-Some-service_key.service c.in_default.ensures
+    c.in-Some-service_key.ensures.key)

@@ -4,4 +4,9 @@ use Rattle.sem_obtain.proofs.ends.send_refusal.Goals as goal
 
 -- there are as many outboxes after a message was sent
 pub returns-clause-boxes : goal.returns-clause-boxes
-returns-clause-boxes c = boxes-sent c.args.setup.now c.args.outs.now c.send.new.self c.place_owner.result _ (omega (arith, c.place_owner.ensures, c.requires.owner, c.requires.boxes)) c.send.ensures.boxes c.requires.boxes
+returns-clause-boxes c = boxes-sent c.args.setup.now c.args.outs.now c.send.new.self c.place_owner.result _ (omega (
+  arith,
+  c.place_owner.ensures,
+  c.requires.owner,
+  c.requires.boxes,
+)) c.send.ensures.boxes c.requires.boxes

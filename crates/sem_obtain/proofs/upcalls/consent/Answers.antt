@@ -23,8 +23,10 @@ pub returns-clause-row : goal.returns-clause-row
 returns-clause-row c s =
     let side = giving c.args.caps.now c.args.vpes.now c.args.park.now c.args.outs.now s in
     let p = capability_of c.in_ok-cap.cap.now in
-    let givable : IsGivable c.args.caps.now p = subst (λ (o : Option Capability). IfSome o (IsGivable c.args.caps.now)) (sym c.in_ok-cap.ensures) c.requires.source in
-    let object : c.given-object.result ≡ given c.args.target c.args.place.vpe p = c.given-object.ensures ∙ ap (λ (q : PlaceName). given c.args.target q.vpe p) c.place.view_is in
+    let givable : IsGivable c.args.caps.now p =
+    subst (λ (o : Option Capability). IfSome o (IsGivable c.args.caps.now)) (sym c.in_ok-cap.ensures) c.requires.source in
+    let object : c.given-object.result ≡ given c.args.target c.args.place.vpe p = c.given-object.ensures
+    ∙ ap (λ (q : PlaceName). given c.args.target q.vpe p) c.place.view_is in
     let kind : c.kind.result ≡ given_kind c.args.target p = c.kind.ensures ∙ ap object_kind object ∙ given-kind c.args.target c.args.place.vpe p givable.kind in
     let key : c.keyed-key.result ≡ keyed c.args.place (given_kind c.args.target p) = c.keyed-key.ensures ∙ ap (keyed c.args.place) kind in
     ap (λ (t : Side). granting p.key c.keyed-key.result (plain t)) (c.give.ensures.row s)

@@ -15,7 +15,8 @@ use Rattle.sem_obtain.proofs.upcalls.give.Goals as goal
 pub give_here-requires-clause-absent : goal.give_here-requires-clause-absent
 give_here-requires-clause-absent c =
     let here : kernel_of c.args.setup.now c.args.key.vpe ≡ c.args.kernel = search rules in
-    ap (λ (store : CapStore). cap_of store.caps c.args.key) c.link.ensures ∙ absent-linked c.args.caps.now.caps c.args.parent c.args.key c.args.key (c.requires.free here)
+    ap (λ (store : CapStore). cap_of store.caps c.args.key) c.link.ensures
+    ∙ absent-linked c.args.caps.now.caps c.args.parent c.args.key c.args.key (c.requires.free here)
 
 -- the asker is of this kernel
 pub returns-then-kernel_of-kernel-clause-row : goal.returns-then-kernel_of-kernel-clause-row
@@ -23,9 +24,12 @@ returns-then-kernel_of-kernel-clause-row c s =
     let here : kernel_of c.args.setup.now c.args.key.vpe ≡ c.args.kernel = search rules in
     let t = with_outs c.args.outs.now.boxes s in
     c.give_here.ensures.row t
-    ∙ ap (λ (store : CapStore). given_here c.args.key c.args.parent c.args.object (state_of c.args.park.now c.args.key.vpe) (installing store c.args.vpes.now c.args.park.now t)) c.link.ensures
-    ∙ child-here c.args.setup.now c.args.kernel c.args.parent c.args.key c.args.object (giving c.args.caps.now c.args.vpes.now c.args.park.now c.args.outs.now s) here
+    ∙ ap (λ (store : CapStore). given_here c.args.key c.args.parent c.args.object (state_of c.args.park.now c.args.key.vpe)
+    (installing store c.args.vpes.now c.args.park.now t)) c.link.ensures
+    ∙ child-here c.args.setup.now c.args.kernel c.args.parent c.args.key c.args.object
+    (giving c.args.caps.now c.args.vpes.now c.args.park.now c.args.outs.now s) here
 
 -- there are as many outboxes after a message was sent
 pub returns-else-kernel_of-kernel-clause-boxes : goal.returns-else-kernel_of-kernel-clause-boxes
-returns-else-kernel_of-kernel-clause-boxes c = boxes-sent c.args.setup.now c.args.outs.now c.send.new.self c.owner_of.result _ (omega (arith, c.owner_of.ensures, c.requires.owner, c.requires.boxes)) c.send.ensures.boxes c.requires.boxes
+returns-else-kernel_of-kernel-clause-boxes c = boxes-sent c.args.setup.now c.args.outs.now c.send.new.self c.owner_of.result _
+    (omega (arith, c.owner_of.ensures, c.requires.owner, c.requires.boxes)) c.send.ensures.boxes c.requires.boxes

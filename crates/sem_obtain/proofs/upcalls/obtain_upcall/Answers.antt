@@ -18,7 +18,8 @@ returns-in-Dropped-clause-row c s =
 pub returns-in-No-clause-row : goal.returns-in-No-clause-row
 returns-in-No-clause-row c s =
     let side = giving c.args.caps.now c.args.vpes.now c.args.park.now c.args.outs.now s in
-    ap (λ (o : Outcome). record { side = giving c.args.caps.now c.refuse_ask.new.vpes c.refuse_ask.new.park c.refuse_ask.new.outs s; outcome = o }) (search rules)
+    ap (λ (o : Outcome). record { side = giving c.args.caps.now c.refuse_ask.new.vpes c.refuse_ask.new.park c.refuse_ask.new.outs s; outcome = o })
+    (search rules)
     ∙ ap (λ t. asking c.args.place.vpe No (plain t)) (c.refuse_ask.ensures.row c.args.target (with_caps c.args.caps.now.caps s))
     ∙ sym (decided-denied c.args.setup.now c.args.kernel c.args.vpe c.args.place c.args.target side (sym c.answer.ensures ∙ search rules))
 
@@ -31,6 +32,9 @@ consent-grant-requires-clause-free c kind here =
 pub returns-in-Yes-clause-row : goal.returns-in-Yes-clause-row
 returns-in-Yes-clause-row c s =
     let side = giving c.args.caps.now c.args.vpes.now c.args.park.now c.args.outs.now s in
-    ap (λ (o : Outcome). record { side = giving c.consent-grant.new.caps c.consent-grant.new.vpes c.consent-grant.new.park c.consent-grant.new.outs s; outcome = o }) (search rules)
+    ap (λ (o : Outcome). record {
+      side = giving c.consent-grant.new.caps c.consent-grant.new.vpes c.consent-grant.new.park c.consent-grant.new.outs s;
+      outcome = o;
+    }) (search rules)
     ∙ ap (asking c.args.place.vpe Yes) (c.consent-grant.ensures.row s)
     ∙ sym (decided-consented c.args.setup.now c.args.kernel c.args.vpe c.args.place c.args.target side (sym c.answer.ensures ∙ search rules))

@@ -34,6 +34,7 @@ returns-in_ok-push-in-None c = λ V is.
     let own : c.in_ok-outcome.outcome ≡ outcome T J = c.in_ok-outcome.ensures ∙ ap (outcome T) (c.as_slice.ensures ∙ journal) in
     let w : Witness = record { journal = c.into_journal-journal.result.entries; outcome = c.in_ok-outcome.outcome } in
     let made : w ≡ witness_of T J = λ k. record { journal = journal k; outcome = own k } in
-    let none = subst (λ (xs : List Listed). All (λ (l : Listed). l.witness.outcome ≢ c.in_ok-outcome.outcome) xs) c.as_slice-2.ensures.value c.in-None.ensures.none in
+    let none = subst (λ (xs : List Listed). All (λ (l : Listed). l.witness.outcome ≢ c.in_ok-outcome.outcome) xs) c.as_slice-2.ensures.value
+    c.in-None.ensures.none in
     subst (ListsEndings T (V ++ J ∷ [])) (sym c.in_ok-push-in-None.ensures.items)
     (endings-first-at T J c.args.found.now.items c.requires.complete w made none V is)

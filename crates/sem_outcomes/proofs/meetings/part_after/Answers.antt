@@ -26,7 +26,8 @@ index-requires c =
 pub find-requires : goal.find-requires
 find-requires c =
     let less = own-tree c.args.setup.now c.args.histories.now _ c.histories.view_is c.requires.met c.args.at c.requires.at c.args.event c.requires.enabled in
-    from-within c.args.setup.now c.args.histories.now _ c.histories.view_is c.requires.met c.args.at c.requires.at c.args.event c.requires.enabled c.args.fabric.now
+    from-within c.args.setup.now c.args.histories.now _ c.histories.view_is c.requires.met c.args.at c.requires.at c.args.event c.requires.enabled
+    c.args.fabric.now
     c.requires.links
     c.args.from c.requires.from c.input_of-message.result c.input_of-message.ensures c.index.result.now
     (get_or_read c.histories.inside.trees.items _ _ less c.index.ensures [])
@@ -34,7 +35,8 @@ find-requires c =
 pub returns-in-Some-clause-number : goal.returns-in-Some-clause-number
 returns-in-Some-clause-number c =
     let less = own-tree c.args.setup.now c.args.histories.now _ c.histories.view_is c.requires.met c.args.at c.requires.at c.args.event c.requires.enabled in
-    part-found c.args.setup.now c.args.histories.now _ c.histories.view_is c.requires.met c.args.at c.requires.at c.args.event c.requires.enabled c.args.fabric.now
+    part-found c.args.setup.now c.args.histories.now _ c.histories.view_is c.requires.met c.args.at c.requires.at c.args.event c.requires.enabled
+    c.args.fabric.now
     c.requires.links
     c.args.from c.requires.from c.input_of-message.result c.input_of-message.ensures c.index.result.now
     (get_or_read c.histories.inside.trees.items _ _ less c.index.ensures [])
@@ -48,7 +50,8 @@ index_mut-requires c =
 pub push-requires : goal.push-requires
 push-requires c =
     let less = own-tree c.args.setup.now c.args.histories.now _ c.histories.view_is c.requires.met c.args.at c.requires.at c.args.event c.requires.enabled in
-    from-within c.args.setup.now c.args.histories.now _ c.histories.view_is c.requires.met c.args.at c.requires.at c.args.event c.requires.enabled c.args.fabric.now
+    from-within c.args.setup.now c.args.histories.now _ c.histories.view_is c.requires.met c.args.at c.requires.at c.args.event c.requires.enabled
+    c.args.fabric.now
     c.requires.links
     c.args.from c.requires.from c.input_of-message.result c.input_of-message.ensures c.index_mut.result.now
     (get_or_read c.histories.inside.trees.items _ _ less c.index_mut.ensures.value [])
@@ -59,12 +62,14 @@ returns-in-Ok-clause-met c =
     let is_made = c.in-Ok.ensures ∙ ap (λ (ss : List Step). entry_of c.args.setup.now (world_after c.args.setup.now (journal_at c.args.setup.now ss c.args.at))
     c.args.event)
     (c.as_slice.ensures.value ∙ ap (λ (g : HistoriesValue). g.steps) c.histories.view_is) in
-    pushed-met c.args.setup.now c.args.histories.now _ c.histories.view_is c.requires.met c.args.at c.requires.at c.args.event c.requires.enabled c.args.fabric.now
+    pushed-met c.args.setup.now c.args.histories.now _ c.histories.view_is c.requires.met c.args.at c.requires.at c.args.event c.requires.enabled
+    c.args.fabric.now
     c.requires.links
     c.args.from c.requires.from c.input_of-message.result c.input_of-message.ensures c.index_mut.result.now
     (get_or_read c.histories.inside.trees.items _ _ less c.index_mut.ensures.value [])
     (subst (λ (ms : List Node). IsMissing ms c.args.from c.args.event c.input_of-message.result)
-    (get_or_read c.histories.inside.trees.items _ _ less c.index.ensures [] ∙ sym (get_or_read c.histories.inside.trees.items _ _ less c.index_mut.ensures.value []))
+    (get_or_read c.histories.inside.trees.items _ _ less c.index.ensures []
+    ∙ sym (get_or_read c.histories.inside.trees.items _ _ less c.index_mut.ensures.value []))
     c.in_default.ensures.none)
     c.push.result c.in-Ok.entry c.push.new.self _ is_made c.push.ensures.added c.push.ensures.err refl
 
@@ -79,6 +84,7 @@ returns-in-Ok-clause-number c =
     c.args.from c.requires.from c.input_of-message.result c.input_of-message.ensures c.index_mut.result.now
     (get_or_read c.histories.inside.trees.items _ _ less c.index_mut.ensures.value [])
     (subst (λ (ms : List Node). IsMissing ms c.args.from c.args.event c.input_of-message.result)
-    (get_or_read c.histories.inside.trees.items _ _ less c.index.ensures [] ∙ sym (get_or_read c.histories.inside.trees.items _ _ less c.index_mut.ensures.value []))
+    (get_or_read c.histories.inside.trees.items _ _ less c.index.ensures []
+    ∙ sym (get_or_read c.histories.inside.trees.items _ _ less c.index_mut.ensures.value []))
     c.in_default.ensures.none)
     c.push.result c.in-Ok.entry c.push.new.self _ is_made c.push.ensures.added c.push.ensures.number refl

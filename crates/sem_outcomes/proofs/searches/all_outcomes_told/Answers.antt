@@ -21,7 +21,8 @@ loop-at-preserved g c = (c.in_ok-go_on.ensures.search, c.in_ok-go_on.ensures.lis
 pub returns-clause-all : goal.returns-clause-all
 returns-clause-all g c =
     let l = c.loop-at in
-    all-told c.args.setup.now c.args.limit l.at l.histories l.invariant.0 (omega arith) l.found.items l.invariant.1 (subst IsSetup c.setup.view_is c.setup.invariant)
+    all-told c.args.setup.now c.args.limit l.at l.histories l.invariant.0 (omega arith) l.found.items l.invariant.1
+    (subst IsSetup c.setup.view_is c.setup.invariant)
 
 pub returns-clause-counts : goal.returns-clause-counts
 returns-clause-counts g c =

@@ -90,4 +90,5 @@ returns-clause-listed c =
     (λ same. eqb-false (vec_len out) 0 (sym c.is_empty.ensures ∙ c.if-is_empty.false) (omega (arith, same, long, out.ok.0))) in
     on_ok_weaker c.meet_all.result (λ more. went-listed T c.args.limit c.args.at c.args.histories.now _ c.histories.view_is c.requires.search c.requires.at ks f
     c.in_ok-kernels.ensures.stand entered
-    c.as_slice-3.result.now (c.as_slice-3.ensures.value ∙ all) some c.meet_all.new.histories more c.args.found.now.items c.requires.listed) c.meet_all.ensures.met
+    c.as_slice-3.result.now (c.as_slice-3.ensures.value ∙ all) some c.meet_all.new.histories more c.args.found.now.items c.requires.listed)
+    c.meet_all.ensures.met

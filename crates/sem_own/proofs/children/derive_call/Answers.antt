@@ -9,16 +9,25 @@ use Rattle.sem_own.proofs.children.derive_call.Goals as goal
 
 -- the first test that holds
 pub returns-in-Some-clause-row : goal.returns-in-Some-clause-row
-returns-in-Some-clause-row c s = row-refused (holding c.args.caps.now c.args.vpes.now s) (derive_tests (holding c.args.caps.now c.args.vpes.now s) c.args.vpe c.args.src c.args.dst c.args.part.now.off c.args.part.now.len c.args.part.now.rights) _ c.in-Some.code c.answered.result c.in-Some.ensures c.answered.ensures
+returns-in-Some-clause-row c s =
+    row-refused (holding c.args.caps.now c.args.vpes.now s)
+    (derive_tests (holding c.args.caps.now c.args.vpes.now s) c.args.vpe c.args.src c.args.dst c.args.part.now.off c.args.part.now.len c.args.part.now.rights) _
+    c.in-Some.code c.answered.result c.in-Some.ensures c.answered.ensures
 
 pub make_child-requires-clause-number : goal.make_child-requires-clause-number
-make_child-requires-clause-number c = derive-number (holding c.args.caps.now c.args.vpes.now no_side) c.args.vpe c.args.src c.args.dst c.args.part.now.off c.args.part.now.len c.args.part.now.rights c.in_default.ensures
+make_child-requires-clause-number c = derive-number (holding c.args.caps.now c.args.vpes.now no_side) c.args.vpe c.args.src c.args.dst c.args.part.now.off
+    c.args.part.now.len c.args.part.now.rights c.in_default.ensures
 
 pub make_child-requires-clause-child_room : goal.make_child-requires-clause-child_room
-make_child-requires-clause-child_room c = child-room c.args.caps.now (holding c.args.caps.now c.args.vpes.now no_side) (slot (holding c.args.caps.now c.args.vpes.now no_side) c.args.vpe c.args.src) (capability_of c.in-Some-own_cap.parent.now) refl c.in-Some-own_cap.ensures c.requires.child_room
+make_child-requires-clause-child_room c = child-room c.args.caps.now (holding c.args.caps.now c.args.vpes.now no_side)
+    (slot (holding c.args.caps.now c.args.vpes.now no_side) c.args.vpe c.args.src) (capability_of c.in-Some-own_cap.parent.now) refl c.in-Some-own_cap.ensures
+    c.requires.child_room
 
 -- no test holds
 pub returns-clause-row : goal.returns-clause-row
 returns-clause-row c s =
-    c.make_child.ensures.row s ∙ ap (λ o. child_made c.args.setup.now c.args.vpe c.args.dst o c.in-Some-own_cap.parent.now.key (holding c.args.caps.now c.args.vpes.now s)) c.narrowed-object.ensures
-    ∙ sym (derive-done c.args.setup.now (holding c.args.caps.now c.args.vpes.now s) c.args.vpe c.args.src c.args.dst c.args.part.now.off c.args.part.now.len c.args.part.now.rights (capability_of c.in-Some-own_cap.parent.now) c.in_default.ensures c.in-Some-own_cap.ensures)
+    c.make_child.ensures.row s
+    ∙ ap (λ o. child_made c.args.setup.now c.args.vpe c.args.dst o c.in-Some-own_cap.parent.now.key (holding c.args.caps.now c.args.vpes.now s))
+    c.narrowed-object.ensures
+    ∙ sym (derive-done c.args.setup.now (holding c.args.caps.now c.args.vpes.now s) c.args.vpe c.args.src c.args.dst c.args.part.now.off c.args.part.now.len
+    c.args.part.now.rights (capability_of c.in-Some-own_cap.parent.now) c.in_default.ensures c.in-Some-own_cap.ensures)

@@ -9,16 +9,23 @@ use Rattle.sem_own.proofs.children.gate_call.Goals as goal
 
 -- the first test that holds
 pub returns-in-Some-clause-row : goal.returns-in-Some-clause-row
-returns-in-Some-clause-row c s = row-refused (holding c.args.caps.now c.args.vpes.now s) (gate_tests (holding c.args.caps.now c.args.vpes.now s) c.args.vpe c.args.src c.args.dst c.args.credits) _ c.in-Some.code c.answered.result c.in-Some.ensures c.answered.ensures
+returns-in-Some-clause-row c s =
+    row-refused (holding c.args.caps.now c.args.vpes.now s)
+    (gate_tests (holding c.args.caps.now c.args.vpes.now s) c.args.vpe c.args.src c.args.dst c.args.credits) _ c.in-Some.code c.answered.result
+    c.in-Some.ensures c.answered.ensures
 
 pub make_child-requires-clause-number : goal.make_child-requires-clause-number
-make_child-requires-clause-number c = gate-number (holding c.args.caps.now c.args.vpes.now no_side) c.args.vpe c.args.src c.args.dst c.args.credits c.in_default.ensures
+make_child-requires-clause-number c = gate-number (holding c.args.caps.now c.args.vpes.now no_side) c.args.vpe c.args.src c.args.dst c.args.credits
+    c.in_default.ensures
 
 pub make_child-requires-clause-child_room : goal.make_child-requires-clause-child_room
-make_child-requires-clause-child_room c = child-room c.args.caps.now (holding c.args.caps.now c.args.vpes.now no_side) (slot (holding c.args.caps.now c.args.vpes.now no_side) c.args.vpe c.args.src) (capability_of c.in-Some-own_cap.parent.now) refl c.in-Some-own_cap.ensures c.requires.child_room
+make_child-requires-clause-child_room c = child-room c.args.caps.now (holding c.args.caps.now c.args.vpes.now no_side)
+    (slot (holding c.args.caps.now c.args.vpes.now no_side) c.args.vpe c.args.src) (capability_of c.in-Some-own_cap.parent.now) refl c.in-Some-own_cap.ensures
+    c.requires.child_room
 
 -- no test holds
 pub returns-clause-row : goal.returns-clause-row
 returns-clause-row c s =
     c.make_child.ensures.row s
-    ∙ sym (gate-done c.args.setup.now (holding c.args.caps.now c.args.vpes.now s) c.args.vpe c.args.src c.args.dst c.args.label c.args.credits (capability_of c.in-Some-own_cap.parent.now) c.in_default.ensures c.in-Some-own_cap.ensures)
+    ∙ sym (gate-done c.args.setup.now (holding c.args.caps.now c.args.vpes.now s) c.args.vpe c.args.src c.args.dst c.args.label c.args.credits
+    (capability_of c.in-Some-own_cap.parent.now) c.in_default.ensures c.in-Some-own_cap.ensures)

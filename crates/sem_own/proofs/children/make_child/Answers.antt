@@ -12,6 +12,12 @@ pub insert-requires-clause-absent : goal.insert-requires-clause-absent
 insert-requires-clause-absent c =
     let free = c.requires.free c.kind.result in
     let k : KeyName = record { pe = c.pe_of-pe.result; vpe = c.args.vpe; kind = c.kind.result; number = c.in-Ok.number } in
-    let same : k ≡ record { pe = pe_of c.args.setup.now c.args.vpe; vpe = c.args.vpe; kind = c.kind.result; number = (row c.args.vpes.now.rows c.args.vpe).next_number } =
+    let same : k ≡ record {
+      pe = pe_of c.args.setup.now c.args.vpe;
+      vpe = c.args.vpe;
+      kind = c.kind.result;
+      number = (row c.args.vpes.now.rows c.args.vpe).next_number;
+    } =
     λ i. record { pe = c.pe_of-pe.ensures.pe i; vpe = c.args.vpe; kind = c.kind.result; number = c.in-Ok.ensures.number i } in
-    ap (λ (store : CapStore). cap_of store.caps k) c.link.ensures ∙ absent-linked c.args.caps.now.caps c.args.parent k k (ap (cap_of c.args.caps.now.caps) same ∙ free)
+    ap (λ (store : CapStore). cap_of store.caps k) c.link.ensures ∙ absent-linked c.args.caps.now.caps c.args.parent k k (ap (cap_of c.args.caps.now.caps) same
+    ∙ free)

@@ -11,5 +11,6 @@ use Rattle.sem_query.proofs.builds.first_life.Goals as goal
 pub returns : goal.returns
 returns c =
     c.new.ensures
-    ∙ (ap (begun_life c.args.key) (c.held_selector.ensures ∙ ap (λ (W : World). option_map (λ (x : Capability). x.selector) (cap (side W (owner_of c.args.setup.now c.args.key)) c.args.key)) c.requires.start)
+    ∙ (ap (begun_life c.args.key) (c.held_selector.ensures
+    ∙ ap (λ (W : World). option_map (λ (x : Capability). x.selector) (cap (side W (owner_of c.args.setup.now c.args.key)) c.args.key)) c.requires.start)
     ∙ begun-is c.args.setup.now c.requires.setup c.args.key)

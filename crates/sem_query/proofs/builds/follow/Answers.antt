@@ -20,7 +20,9 @@ returns-clause-marked c =
     let first = c.in_ok-moved.ensures in
     let parted = c.in_ok-push_swept.ensures in
     on_ok_weaker c.note_grant.result (λ is.
-    follows-marked T c.requires.setup W e c.requires.next first.0 first.1 c.token_of-token.result c.token_of-token.ensures c.args.marked.now.items c.push_swept.new.marked.items parted.0 c.requires.marked V later parted.2 c.in_ok-moved.moved.items c.deref-2.result.now first.2 (c.deref-2.ensures.value ∙ parted.1)
+    follows-marked T c.requires.setup W e c.requires.next first.0 first.1 c.token_of-token.result c.token_of-token.ensures c.args.marked.now.items
+    c.push_swept.new.marked.items parted.0 c.requires.marked V later parted.2 c.in_ok-moved.moved.items c.deref-2.result.now first.2
+    (c.deref-2.ensures.value ∙ parted.1)
     c.note_moved.new.marked.items c.in_ok-note_moved.ensures.marked) c.note_grant.ensures
 
 pub returns-clause-index : goal.returns-clause-index
@@ -33,5 +35,7 @@ returns-clause-index c =
     let first = c.in_ok-moved.ensures in
     let parted = c.in_ok-push_swept.ensures in
     on_ok_weaker c.note_grant.result (λ is.
-    follows-lives T c.requires.setup W e c.requires.next first.0 first.1 c.token_of-token.result c.token_of-token.ensures c.args.marked.now.items c.push_swept.new.marked.items parted.0 c.requires.marked V later parted.2 c.in_ok-moved.moved.items c.deref-2.result.now first.2 (c.deref-2.ensures.value ∙ parted.1)
+    follows-lives T c.requires.setup W e c.requires.next first.0 first.1 c.token_of-token.result c.token_of-token.ensures c.args.marked.now.items
+    c.push_swept.new.marked.items parted.0 c.requires.marked V later parted.2 c.in_ok-moved.moved.items c.deref-2.result.now first.2
+    (c.deref-2.ensures.value ∙ parted.1)
     c.args.n c.args.index.now c.note_moved.new.index c.note_grant.new.index c.in_ok-note_moved.ensures.index is) c.note_grant.ensures

@@ -17,7 +17,8 @@ use Rattle.sem_query.proofs.builds.follow_all.Goals as goal
 pub follow-requires-clause-enabled : goal.follow-requires-clause-enabled
 follow-requires-clause-enabled c =
     let within : c.loop-place.place < length c.args.entries.now = c.loop-place-test.true in
-    next-enabled c.args.setup.now c.args.entries.now c.requires.schedule c.loop-place.place c.index-entries-place.result c.loop-place.world c.loop-place.invariant.world within c.index-entries-place.is
+    next-enabled c.args.setup.now c.args.entries.now c.requires.schedule c.loop-place.place c.index-entries-place.result c.loop-place.world
+    c.loop-place.invariant.world within c.index-entries-place.is
 
 pub follow-requires-clause-world : goal.follow-requires-clause-world
 follow-requires-clause-world c = ap (λ (w : WorldValue). w.setup) c.loop-place.invariant.world
@@ -25,10 +26,12 @@ follow-requires-clause-world c = ap (λ (w : WorldValue). w.setup) c.loop-place.
 pub follow-requires-clause-next : goal.follow-requires-clause-next
 follow-requires-clause-next c =
     let within : c.loop-place.place < length c.args.entries.now = c.loop-place-test.true in
-    next-entry c.args.setup.now c.requires.setup c.args.entries.now c.requires.schedule c.loop-place.place c.index-entries-place.result within c.index-entries-place.is c.loop-place.world c.loop-place.invariant.world
+    next-entry c.args.setup.now c.requires.setup c.args.entries.now c.requires.schedule c.loop-place.place c.index-entries-place.result within
+    c.index-entries-place.is c.loop-place.world c.loop-place.invariant.world
 
 pub follow-requires-clause-marked : goal.follow-requires-clause-marked
-follow-requires-clause-marked c = subst (λ (w : WorldValue). AreMarked c.args.setup.now w.world c.loop-place.marked.items) (sym c.loop-place.invariant.world) c.loop-place.invariant.marked
+follow-requires-clause-marked c = subst (λ (w : WorldValue). AreMarked c.args.setup.now w.world c.loop-place.marked.items)
+    (sym c.loop-place.invariant.world) c.loop-place.invariant.marked
 
 pub loop-place-init : goal.loop-place-init
 loop-place-init c = record {
@@ -44,11 +47,14 @@ loop-place-preserved c =
     let i = c.loop-place.place in
     let e = c.index-entries-place.result in
     let within : i < length J = c.loop-place-test.true in
-    let next : c.follow.new.world ≡ record { setup = T; world = world_after T (take (i + 1) J) } = next-world T J c.requires.schedule i e c.loop-place.world c.loop-place.invariant.world within c.index-entries-place.is c.follow.new.world c.in_ok-follow.ensures.world in
+    let next : c.follow.new.world ≡ record { setup = T; world = world_after T (take (i + 1) J) } =
+    next-world T J c.requires.schedule i e c.loop-place.world c.loop-place.invariant.world within c.index-entries-place.is c.follow.new.world
+    c.in_ok-follow.ensures.world in
     record {
       world = next;
       marked = subst (λ (w : WorldValue). AreMarked T w.world c.follow.new.marked.items) next c.in_ok-follow.ensures.marked;
-      lives = next-lives T c.requires.setup J c.requires.schedule i e within c.index-entries-place.is c.loop-place.world c.loop-place.invariant.world (key_set (made T J)) c.loop-place.index c.follow.new.index c.loop-place.invariant.lives c.in_ok-follow.ensures.index;
+      lives = next-lives T c.requires.setup J c.requires.schedule i e within c.index-entries-place.is c.loop-place.world c.loop-place.invariant.world
+          (key_set (made T J)) c.loop-place.index c.follow.new.index c.loop-place.invariant.lives c.in_ok-follow.ensures.index;
     }
 
 pub returns : goal.returns

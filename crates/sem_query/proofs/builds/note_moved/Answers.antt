@@ -16,13 +16,18 @@ loop-key-init c = record {
 pub loop-key-preserved : goal.loop-key-preserved
 loop-key-preserved c = record {
   index =
-      noted-more c.args.setup.now c.args.world.now.world c.args.n c.args.moved.now c.args.index.now c.loop-key.key-index c.key-item.result c.loop-key.index c.note.new.self c.loop-key-test.true c.key-item.is c.loop-key.invariant.index
+      noted-more c.args.setup.now c.args.world.now.world c.args.n c.args.moved.now c.args.index.now c.loop-key.key-index c.key-item.result c.loop-key.index
+      c.note.new.self c.loop-key-test.true c.key-item.is c.loop-key.invariant.index
       (c.in_ok-note.ensures ∙ ap (λ h. noted_of c.key-item.result c.args.n h c.loop-key.index) c.see.ensures);
-  marked = marked-more c.args.setup.now c.args.world.now.world c.args.moved.now c.loop-key.key-index c.key-item.result c.args.marked.now.items c.loop-key.marked.items c.push_marked.new.marked.items c.loop-key-test.true c.key-item.is c.loop-key.invariant.marked c.in_ok-push_marked.ensures;
+  marked = marked-more c.args.setup.now c.args.world.now.world c.args.moved.now c.loop-key.key-index c.key-item.result c.args.marked.now.items
+      c.loop-key.marked.items c.push_marked.new.marked.items c.loop-key-test.true c.key-item.is c.loop-key.invariant.marked c.in_ok-push_marked.ensures;
 }
 
 pub returns-clause-index : goal.returns-clause-index
-returns-clause-index c = c.loop-key.invariant.index ∙ noted-all c.args.setup.now c.args.world.now.world c.args.n c.args.moved.now c.args.index.now c.loop-key.key-index c.loop-key-test.false
+returns-clause-index c = c.loop-key.invariant.index
+    ∙ noted-all c.args.setup.now c.args.world.now.world c.args.n c.args.moved.now c.args.index.now c.loop-key.key-index c.loop-key-test.false
 
 pub returns-clause-marked : goal.returns-clause-marked
-returns-clause-marked c = c.loop-key.invariant.marked ∙ ap (λ (ks : List KeyName). c.args.marked.now.items ++ flat_map (marking c.args.setup.now c.args.world.now.world) ks) (take_all c.loop-key.key-index c.args.moved.now c.loop-key-test.false)
+returns-clause-marked c = c.loop-key.invariant.marked
+    ∙ ap (λ (ks : List KeyName). c.args.marked.now.items ++ flat_map (marking c.args.setup.now c.args.world.now.world) ks)
+    (take_all c.loop-key.key-index c.args.moved.now c.loop-key-test.false)

@@ -8,6 +8,9 @@ use Rattle.sem_query.proofs.builds.sort_keys.Goals as goal
 -- sorted by their words, without repetitions, the keys are their set
 pub returns : goal.returns
 returns c =
-    let climbs = IsNonDecreasingBy-from_sort_by_key packed c.sort_unstable_by_key.new.self.items c.sort_unstable_by_key.ensures.sorted (λ a r q k. search rules) in
-    let done = dedup_same _ same_word _ (λ x y b f' x' y' k. search rules) c.sort_unstable_by_key.new.self.items c.dedup_by.new.self.items c.dedup_by.ensures.filtered in
-    key_set-sorted c.args.keys.now.items c.sort_unstable_by_key.new.self.items c.dedup_by.new.self.items c.requires c.sort_unstable_by_key.ensures.permutation climbs done
+    let climbs = IsNonDecreasingBy-from_sort_by_key packed c.sort_unstable_by_key.new.self.items c.sort_unstable_by_key.ensures.sorted
+    (λ a r q k. search rules) in
+    let done = dedup_same _ same_word _ (λ x y b f' x' y' k. search rules) c.sort_unstable_by_key.new.self.items c.dedup_by.new.self.items
+    c.dedup_by.ensures.filtered in
+    key_set-sorted c.args.keys.now.items c.sort_unstable_by_key.new.self.items c.dedup_by.new.self.items c.requires c.sort_unstable_by_key.ensures.permutation
+    climbs done

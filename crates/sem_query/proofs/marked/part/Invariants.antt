@@ -8,5 +8,6 @@ use Rattle.sem_query.proofs.marked.part.Given as goal
 abbrev pub invariant-loop-marking : goal.invariant-loop-marking
 invariant-loop-marking l = record {
   kept : l.kept.items ≡ filter (λ p. not (is_swept l.setup l.world.world l.number l.only p)) (take l.marking-index l.marking-items);
-  gone : l.moved.items ≡ l.fn.moved.items ++ map (λ (p : KeyName × ℕ). p.0) (filter (is_swept l.setup l.world.world l.number l.only) (take l.marking-index l.marking-items));
+  gone : l.moved.items ≡ l.fn.moved.items
+      ++ map (λ (p : KeyName × ℕ). p.0) (filter (is_swept l.setup l.world.world l.number l.only) (take l.marking-index l.marking-items));
 }

@@ -11,7 +11,8 @@ pub returns-in_default : goal.returns-in_default
 returns-in_default c = (
   [],
   sym (append-nil c.args.moved.now.items),
-  subst (λ (o : Option Token). AreParted c.args.setup.now c.args.world.now.world c.args.entry.now o c.args.marked.now.items c.args.marked.now.items []) (sym c.in_default.is)
+  subst (λ (o : Option Token). AreParted c.args.setup.now c.args.world.now.world c.args.entry.now o c.args.marked.now.items c.args.marked.now.items [])
+      (sym c.in_default.is)
       (parted-none c.args.setup.now c.args.world.now.world c.args.entry.now c.args.marked.now.items),
 )
 
@@ -19,8 +20,10 @@ pub returns-then-is_marked_by : goal.returns-then-is_marked_by
 returns-then-is_marked_by c = (
   [],
   sym (append-nil c.args.moved.now.items),
-  subst (λ (o : Option Token). AreParted c.args.setup.now c.args.world.now.world c.args.entry.now o c.args.marked.now.items c.args.marked.now.items []) (sym c.in-Some.is)
-      (parted-open c.args.setup.now c.args.world.now.world c.args.entry.now c.args.marked.now.items c.in-Some.token (sym c.is_marked_by.ensures ∙ c.if-is_marked_by.true)),
+  subst (λ (o : Option Token). AreParted c.args.setup.now c.args.world.now.world c.args.entry.now o c.args.marked.now.items c.args.marked.now.items [])
+      (sym c.in-Some.is)
+      (parted-open c.args.setup.now c.args.world.now.world c.args.entry.now c.args.marked.now.items c.in-Some.token (sym c.is_marked_by.ensures
+      ∙ c.if-is_marked_by.true)),
 )
 
 pub returns : goal.returns

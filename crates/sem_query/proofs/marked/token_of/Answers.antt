@@ -6,7 +6,8 @@ use Rattle.sem_query.proofs.Parting.{idle-none, idle-unlisted}
 use Rattle.sem_query.proofs.marked.token_of.Goals as goal
 
 pub returns-in_default : goal.returns-in_default
-returns-in_default c = idle (idle-none c.args.setup.now c.args.world.now.world c.args.entry.now c.args.marked.now c.requires (sym c.returned.ensures ∙ c.in_default.is))
+returns-in_default c = idle (idle-none c.args.setup.now c.args.world.now.world c.args.entry.now c.args.marked.now c.requires (sym c.returned.ensures
+    ∙ c.in_default.is))
 
 pub returns-in-Some-first_marked : goal.returns-in-Some-first_marked
 returns-in-Some-first_marked c =
@@ -20,4 +21,6 @@ returns-in-Some-first_marked c =
     })
 
 pub returns-in-None : goal.returns-in-None
-returns-in-None c = idle (idle-unlisted c.args.setup.now c.args.world.now.world c.args.entry.now c.args.marked.now c.requires c.in-Some.job (sym c.returned.ensures ∙ c.in-Some.is) c.in-None.ensures.none)
+returns-in-None c =
+    idle (idle-unlisted c.args.setup.now c.args.world.now.world c.args.entry.now c.args.marked.now c.requires c.in-Some.job (sym c.returned.ensures
+    ∙ c.in-Some.is) c.in-None.ensures.none)

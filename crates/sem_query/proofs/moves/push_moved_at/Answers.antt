@@ -22,5 +22,8 @@ returns c =
     let new : List KeyName = c.push_revoked.new.keys.items in
     let s : Side = c.in-Some.kernel.now.side in
     let loud = sym c.is_revoking.ensures ∙ c.if-not-is_revoking.false in
-    on_ok_weaker c.push_revoked.result (λ (is : (ks : List KeyName) × AreRevoked s.caps e ks × (new ≡ c.push_ready_by.new.keys.items ++ revoked_by T e.event.kernel s e ks)). subst (λ (t : Side). (ks : List KeyName) × AreRevoked t.caps e ks × (new ≡ old ++ moved_at T e.event.kernel t e ks)) c.in-Some.ensures
-    (is.0, is.1, moved-loud T e.event.kernel s e is.0 old c.push_ready_by.new.keys.items new loud (rw c.resumed.ensures at c.in_ok-push_ready_by.ensures) is.2)) c.push_revoked.ensures
+    on_ok_weaker c.push_revoked.result (λ (is : (ks : List KeyName) × AreRevoked s.caps e ks
+    × (new ≡ c.push_ready_by.new.keys.items ++ revoked_by T e.event.kernel s e ks)). subst (λ (t : Side). (ks : List KeyName) × AreRevoked t.caps e ks
+    × (new ≡ old ++ moved_at T e.event.kernel t e ks)) c.in-Some.ensures
+    (is.0, is.1, moved-loud T e.event.kernel s e is.0 old c.push_ready_by.new.keys.items new loud (rw c.resumed.ensures at c.in_ok-push_ready_by.ensures) is.2))
+    c.push_revoked.ensures

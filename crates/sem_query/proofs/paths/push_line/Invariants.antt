@@ -7,4 +7,7 @@ use Rattle.sem_query.proofs.paths.push_line.Given as goal
 
 -- the line was told up to the last key
 abbrev pub invariant-loop : goal.invariant-loop
-invariant-loop l = IsToldTo l.cut.keys (grants l.journal.entries) (l.fn.out.items ++ text (map (step_words l.cut.keys) (line_in (length l.journal.entries) (grants l.journal.entries) l.fn.key))) l.out.items (length l.journal.entries - l.counter) l.last
+invariant-loop l =
+    IsToldTo l.cut.keys (grants l.journal.entries) (l.fn.out.items
+    ++ text (map (step_words l.cut.keys) (line_in (length l.journal.entries) (grants l.journal.entries) l.fn.key))) l.out.items
+    (length l.journal.entries - l.counter) l.last

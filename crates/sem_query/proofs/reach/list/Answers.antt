@@ -14,7 +14,8 @@ returns-in_ok-push-clause-listed c =
     let caps = c.args.kernel.now.side.caps in
     let ks = c.args.keys.now.items in
     subst (Lists caps (c.args.key ∷ []) ks) (sym c.in_ok-push.ensures.items)
-    (lists-push caps c.args.key ks (sym c.is_open.ensures ∙ c.if-is_open.true) (sym (c.requires.words c.args.key c.has_word.ensures.valid) ∙ (sym c.has_word.ensures.word ∙ c.if-not-has_word.true)))
+    (lists-push caps c.args.key ks (sym c.is_open.ensures ∙ c.if-is_open.true) (sym (c.requires.words c.args.key c.has_word.ensures.valid)
+    ∙ (sym c.has_word.ensures.word ∙ c.if-not-has_word.true)))
 
 pub returns-in_ok-push-clause-words : goal.returns-in_ok-push-clause-words
 returns-in_ok-push-clause-words c =
@@ -28,7 +29,8 @@ returns-else-is_open-clause-listed c =
     let ks = c.args.keys.now.items in
     elim c.else-is_open.branch [
       | else-is_open-via-then-is_open+else-not-has_word w ↦
-          lists-no caps c.args.key ks (λ _. Contains-from_has_key ks c.args.key (sym (c.requires.words c.args.key w.has_word.ensures.valid) ∙ (sym w.has_word.ensures.word ∙ w.if-not-has_word.false)))
+          lists-no caps c.args.key ks (λ _. Contains-from_has_key ks c.args.key (sym (c.requires.words c.args.key w.has_word.ensures.valid)
+          ∙ (sym w.has_word.ensures.word ∙ w.if-not-has_word.false)))
       | else-is_open-via-else-is_open w ↦
           lists-no caps c.args.key ks (λ open'. absurd (true≢false (sym open' ∙ (sym c.is_open.ensures ∙ w.if-is_open.false))))
     ]

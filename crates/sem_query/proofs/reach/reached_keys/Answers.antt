@@ -9,5 +9,6 @@ pub returns : goal.returns
 returns c =
     let caps = c.args.kernel.now.side.caps in
     IfOk-weaker c.walk.result _ _
-    (λ keys are. revoked-are caps c.args.entry.now keys.items (subst (λ (roots : List KeyName). AreReached caps roots keys.items) (c.deref.ensures.value ∙ c.in_ok-roots.ensures) are))
+    (λ keys are. revoked-are caps c.args.entry.now keys.items (subst (λ (roots : List KeyName). AreReached caps roots keys.items) (c.deref.ensures.value
+    ∙ c.in_ok-roots.ensures) are))
     c.walk.ensures

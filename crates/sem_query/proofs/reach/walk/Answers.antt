@@ -9,7 +9,9 @@ list_all-requires c = record { words = words-none c.new-words.result c.new-keys.
 
 pub loop-at-init : goal.loop-at-init
 loop-at-init c = record {
-  walk = walk-start c.args.kernel.now.side.caps c.args.roots.now c.list_all.new.keys.items (subst (λ (ks : List KeyName). Lists c.args.kernel.now.side.caps c.args.roots.now ks c.list_all.new.keys.items) c.new-keys.ensures.items c.in_ok-list_all.ensures.listed);
+  walk = walk-start c.args.kernel.now.side.caps c.args.roots.now c.list_all.new.keys.items
+      (subst (λ (ks : List KeyName). Lists c.args.kernel.now.side.caps c.args.roots.now ks c.list_all.new.keys.items) c.new-keys.ensures.items
+      c.in_ok-list_all.ensures.listed);
   words = c.in_ok-list_all.ensures.words;
 }
 
@@ -22,9 +24,11 @@ loop-at-smaller c =
 
 pub loop-at-preserved : goal.loop-at-preserved
 loop-at-preserved c = record {
-  walk = walk-next c.args.kernel.now.side.caps c.args.roots.now c.loop-at.keys.items c.list_children.new.keys.items c.loop-at.at c.index-key.result.now c.loop-at.invariant.walk (omega (arith, c.loop-at-test.true, c.len.ensures)) c.index-key.ensures c.in_ok-list_children.ensures.listed;
+  walk = walk-next c.args.kernel.now.side.caps c.args.roots.now c.loop-at.keys.items c.list_children.new.keys.items c.loop-at.at c.index-key.result.now
+      c.loop-at.invariant.walk (omega (arith, c.loop-at-test.true, c.len.ensures)) c.index-key.ensures c.in_ok-list_children.ensures.listed;
   words = c.in_ok-list_children.ensures.words;
 }
 
 pub returns : goal.returns
-returns c = walk-end c.args.kernel.now.side.caps c.args.roots.now c.loop-at.keys.items c.loop-at.at c.loop-at.invariant.walk (omega (arith, c.loop-at-test.false, c.len.ensures))
+returns c = walk-end c.args.kernel.now.side.caps c.args.roots.now c.loop-at.keys.items c.loop-at.at c.loop-at.invariant.walk
+    (omega (arith, c.loop-at-test.false, c.len.ensures))

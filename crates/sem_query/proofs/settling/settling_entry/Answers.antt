@@ -19,7 +19,9 @@ states_since-requires-clause-schedule c =
     (front-runs c.args.setup.now (subst IsSetup c.setup.view_is c.setup.invariant) c.args.journal.now.entries c.requires.schedule c.args.n c.requires.there)
 
 pub states_since-requires-clause-vpe : goal.states_since-requires-clause-vpe
-states_since-requires-clause-vpe c = called-small c.args.setup.now (subst IsSetup c.setup.view_is c.setup.invariant) c.args.journal.now.entries c.requires.schedule c.args.vpe c.args.n c.requires.called
+states_since-requires-clause-vpe c =
+    called-small c.args.setup.now (subst IsSetup c.setup.view_is c.setup.invariant) c.args.journal.now.entries c.requires.schedule c.args.vpe c.args.n
+    c.requires.called
 
 pub index-last-requires : goal.index-last-requires
 index-last-requires c =
@@ -27,7 +29,8 @@ index-last-requires c =
     let J = c.args.journal.now.entries in
     let b : ℕ = c.last_call-call.result in
     let early : b < c.args.n = let by = c.last_call-call.ensures.by_then in let other = c.if-call-n.false in omega (arith, by, other) in
-    let items : c.in_ok-states.states.items ≡ states_since T (take c.args.n J) c.args.vpe b = c.in_ok-states.ensures ∙ ap (λ (K : List Entry). states_since T (take c.args.n K) c.args.vpe b) c.as_slice.ensures in
+    let items : c.in_ok-states.states.items ≡ states_since T (take c.args.n J) c.args.vpe b = c.in_ok-states.ensures
+    ∙ ap (λ (K : List Entry). states_since T (take c.args.n K) c.args.vpe b) c.as_slice.ensures in
     let long = ap length items ∙ states-length T J c.args.vpe c.args.n b c.last_call-call.ensures early c.requires.there in
     omega (arith, early, long)
 
@@ -39,10 +42,14 @@ returns-clause-settles c =
     let n : ℕ = c.args.n in
     let b : ℕ = c.last_call-call.result in
     let early : b < n = let by = c.last_call-call.ensures.by_then in let other = c.if-call-n.false in omega (arith, by, other) in
-    let items : c.in_ok-states.states.items ≡ states_since T (take n J) v b = c.in_ok-states.ensures ∙ ap (λ (K : List Entry). states_since T (take n K) v b) c.as_slice.ensures in
-    let within : n - b - 1 < length (states_since T (take n J) v b) = let long = states-length T J v n b c.last_call-call.ensures early c.requires.there in omega (arith, early, long) in
+    let items : c.in_ok-states.states.items ≡ states_since T (take n J) v b = c.in_ok-states.ensures
+    ∙ ap (λ (K : List Entry). states_since T (take n K) v b) c.as_slice.ensures in
+    let within : n - b - 1 < length (states_since T (take n J) v b) = let long = states-length T J v n b c.last_call-call.ensures early c.requires.there in
+    omega (arith, early, long) in
     let last : c.index-last.result.now ≡ get_or (states_since T (take n J) v b) (n - b - 1) None =
     c.index-last.ensures ∙ (ap (λ (xs : List (Option Parked)). get_or xs (n - b - 1) c.index-last.result.now) items
     ∙ get_or_default (states_since T (take n J) v b) (n - b - 1) c.index-last.result.now None within) in
-    let place : IsFirstPlace (states_since T (take n J) v b) c.index-last.result.now c.first_place.result = subst (λ (xs : List (Option Parked)). IsFirstPlace xs c.index-last.result.now c.first_place.result) (c.deref.ensures.value ∙ items) c.first_place.ensures in
+    let place : IsFirstPlace (states_since T (take n J) v b) c.index-last.result.now c.first_place.result =
+    subst (λ (xs : List (Option Parked)). IsFirstPlace xs c.index-last.result.now c.first_place.result) (c.deref.ensures.value
+    ∙ items) c.first_place.ensures in
     settles-there T J v n b c.last_call-call.ensures early c.requires.there c.index-last.result.now last c.first_place.result place

@@ -9,7 +9,11 @@ returns-in_err-reader-clause-refused c =
     rw (p.1, p.2) (bad_lines (lines_of c.args.bytes.now) _ c.in_err-reader.ensures.refused)
 
 pub returns-in-Ok-clause-declared : goal.returns-in-Ok-clause-declared
-returns-in-Ok-clause-declared c = whole_text c.args.bytes.now c.in_ok-reader.lines c.in_ok-reader.reader _ c.in_ok-reader.ensures.read c.in-Ended.is c.in-Ok.ensures.setup
+returns-in-Ok-clause-declared c = whole_text c.args.bytes.now c.in_ok-reader.lines c.in_ok-reader.reader _ c.in_ok-reader.ensures.read c.in-Ended.is
+    c.in-Ok.ensures.setup
 
 pub returns : goal.returns
-returns c = record { declared = tt; refused = rw c.refused.ensures (no_end c.args.bytes.now c.in_ok-reader.lines c.in_ok-reader.reader c.in_ok-reader.ensures.read c.in_default.not-Ended) }
+returns c = record {
+  declared = tt;
+  refused = rw c.refused.ensures (no_end c.args.bytes.now c.in_ok-reader.lines c.in_ok-reader.reader c.in_ok-reader.ensures.read c.in_default.not-Ended);
+}

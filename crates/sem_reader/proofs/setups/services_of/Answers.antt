@@ -10,7 +10,8 @@ pub loop-name-init : goal.loop-name-init
 loop-name-init c = rw numbers-none c.new-services.ensures
 
 pub loop-name-preserved : goal.loop-name-preserved
-loop-name-preserved c = more_number (named (services_among c.args.vpes.now)) c.loop-name.name _ [] _ _ c.loop-name.invariant c.in_ok-push_some.ensures.ok (c.named.ensures ∙ ap (λ (ss : List Service). named ss c.loop-name.name) (c.as_slice.ensures ∙ c.in_ok-declared.ensures))
+loop-name-preserved c = more_number (named (services_among c.args.vpes.now)) c.loop-name.name _ [] _ _ c.loop-name.invariant c.in_ok-push_some.ensures.ok
+    (c.named.ensures ∙ ap (λ (ss : List Service). named ss c.loop-name.name) (c.as_slice.ensures ∙ c.in_ok-declared.ensures))
 
 pub returns : goal.returns
 unfolding services_of

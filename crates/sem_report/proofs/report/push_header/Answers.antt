@@ -6,4 +6,7 @@ use Rattle.sem_report.proofs.report.push_header.Goals as goal
 pub returns : goal.returns
 returns c =
     let version : c.from.result ≡ c.args.setup.now.version = c.from.ensures ∙ ap (λ (T : Setup). T.version) c.setup.view_is in
-    record { ok = subst (λ (v : ℕ). OnOk c.push_line.result (c.push_line.new.out.items ≡ c.args.out.now.items ++ line (codes "semper report" ∷ decimal v ∷ []))) version c.push_line.ensures.ok }
+    record {
+      ok = subst (λ (v : ℕ). OnOk c.push_line.result (c.push_line.new.out.items ≡ c.args.out.now.items ++ line (codes "semper report" ∷ decimal v ∷ [])))
+          version c.push_line.ensures.ok;
+    }

@@ -22,15 +22,19 @@ unfolding has_long_memory
 returns-in_err-is_canonical-clause-err c =
     let p = err_from_is_err_and c.from_residual-in_err-is_canonical.result c.from_residual-in_err-is_canonical.ensures.1 in
     let words : words_in c.args.line.now.whole.now ≡ c.args.name.now ∷ decimal c.in_ok-number.number ∷ [] = rw c.requires at c.in_ok-number.ensures.printed in
-    let text : c.deref.result.now ≡ line (c.args.name.now ∷ decimal c.in_ok-number.number ∷ []) = c.deref.ensures.value ∙ (c.in_ok-push_line.ensures.ok ∙ (rw c.clear.ensures.items refl)) in
-    rw (p.1, p.2) (spelling_bad (count_form c.args.name.now) c.args.line.now.whole.now (c.args.name.now ∷ decimal c.in_ok-number.number ∷ []) _ c.in_ok-is_text.ensures (rw c.requires at c.in_ok-number.ensures.fault) words refl (rw text at c.in_err-is_canonical.ensures))
+    let text : c.deref.result.now ≡ line (c.args.name.now ∷ decimal c.in_ok-number.number ∷ []) = c.deref.ensures.value
+    ∙ (c.in_ok-push_line.ensures.ok ∙ (rw c.clear.ensures.items refl)) in
+    rw (p.1, p.2) (spelling_bad (count_form c.args.name.now) c.args.line.now.whole.now (c.args.name.now ∷ decimal c.in_ok-number.number ∷ []) _
+    c.in_ok-is_text.ensures (rw c.requires at c.in_ok-number.ensures.fault) words refl (rw text at c.in_err-is_canonical.ensures))
 
 pub returns-clause-ok : goal.returns-clause-ok
 unfolding has_long_memory
 returns-clause-ok c =
     let words : words_in c.args.line.now.whole.now ≡ c.args.name.now ∷ decimal c.in_ok-number.number ∷ [] = rw c.requires at c.in_ok-number.ensures.printed in
-    let text : c.deref.result.now ≡ line (c.args.name.now ∷ decimal c.in_ok-number.number ∷ []) = c.deref.ensures.value ∙ (c.in_ok-push_line.ensures.ok ∙ (rw c.clear.ensures.items refl)) in
-    line_good (count_form c.args.name.now) c.args.line.now.whole.now (c.args.name.now ∷ decimal c.in_ok-number.number ∷ []) c.in_ok-is_text.ensures (rw c.requires at c.in_ok-number.ensures.fault) words refl (rw text at c.in_ok-is_canonical.ensures)
+    let text : c.deref.result.now ≡ line (c.args.name.now ∷ decimal c.in_ok-number.number ∷ []) = c.deref.ensures.value
+    ∙ (c.in_ok-push_line.ensures.ok ∙ (rw c.clear.ensures.items refl)) in
+    line_good (count_form c.args.name.now) c.args.line.now.whole.now (c.args.name.now ∷ decimal c.in_ok-number.number ∷ []) c.in_ok-is_text.ensures
+    (rw c.requires at c.in_ok-number.ensures.fault) words refl (rw text at c.in_ok-is_canonical.ensures)
 
 pub returns-clause-number : goal.returns-clause-number
 returns-clause-number c =

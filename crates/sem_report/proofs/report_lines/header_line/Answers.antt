@@ -24,18 +24,25 @@ pub returns-in_err-is_canonical-clause-err : goal.returns-in_err-is_canonical-cl
 unfolding has_long_memory
 returns-in_err-is_canonical-clause-err c =
     let p = err_from_is_err_and c.from_residual-in_err-is_canonical.result c.from_residual-in_err-is_canonical.ensures.1 in
-    let words : words_in c.args.line.now.whole.now ≡ codes "semper" ∷ codes "report" ∷ decimal c.in_ok-version.version ∷ [] = rw c.requires at c.in_ok-version.ensures.printed in
-    let text : c.deref.result.now ≡ line (codes "semper" ∷ codes "report" ∷ decimal c.in_ok-version.version ∷ []) = c.deref.ensures.value ∙ (c.in_ok-push_line.ensures.ok ∙ (rw (c.clear.ensures.items, c.from.ensures) refl)) in
-    rw (p.1, p.2) (spelling_bad report_form c.args.line.now.whole.now (codes "semper" ∷ codes "report" ∷ decimal c.in_ok-version.version ∷ []) _ c.in_ok-is_text.ensures (rw c.requires at c.in_ok-version.ensures.fault) words refl (rw text at c.in_err-is_canonical.ensures))
+    let words : words_in c.args.line.now.whole.now ≡ codes "semper" ∷ codes "report" ∷ decimal c.in_ok-version.version ∷ [] =
+    rw c.requires at c.in_ok-version.ensures.printed in
+    let text : c.deref.result.now ≡ line (codes "semper" ∷ codes "report" ∷ decimal c.in_ok-version.version ∷ []) = c.deref.ensures.value
+    ∙ (c.in_ok-push_line.ensures.ok ∙ (rw (c.clear.ensures.items, c.from.ensures) refl)) in
+    rw (p.1, p.2) (spelling_bad report_form c.args.line.now.whole.now (codes "semper" ∷ codes "report" ∷ decimal c.in_ok-version.version ∷ []) _
+    c.in_ok-is_text.ensures (rw c.requires at c.in_ok-version.ensures.fault) words refl (rw text at c.in_err-is_canonical.ensures))
 
 pub returns-clause-ok : goal.returns-clause-ok
 unfolding has_long_memory
 returns-clause-ok c =
-    let words : words_in c.args.line.now.whole.now ≡ codes "semper" ∷ codes "report" ∷ decimal c.in_ok-version.version ∷ [] = rw c.requires at c.in_ok-version.ensures.printed in
-    let text : c.deref.result.now ≡ line (codes "semper" ∷ codes "report" ∷ decimal c.in_ok-version.version ∷ []) = c.deref.ensures.value ∙ (c.in_ok-push_line.ensures.ok ∙ (rw (c.clear.ensures.items, c.from.ensures) refl)) in
-    line_good report_form c.args.line.now.whole.now (codes "semper" ∷ codes "report" ∷ decimal c.in_ok-version.version ∷ []) c.in_ok-is_text.ensures (rw c.requires at c.in_ok-version.ensures.fault) words refl (rw text at c.in_ok-is_canonical.ensures)
+    let words : words_in c.args.line.now.whole.now ≡ codes "semper" ∷ codes "report" ∷ decimal c.in_ok-version.version ∷ [] =
+    rw c.requires at c.in_ok-version.ensures.printed in
+    let text : c.deref.result.now ≡ line (codes "semper" ∷ codes "report" ∷ decimal c.in_ok-version.version ∷ []) = c.deref.ensures.value
+    ∙ (c.in_ok-push_line.ensures.ok ∙ (rw (c.clear.ensures.items, c.from.ensures) refl)) in
+    line_good report_form c.args.line.now.whole.now (codes "semper" ∷ codes "report" ∷ decimal c.in_ok-version.version ∷ []) c.in_ok-is_text.ensures
+    (rw c.requires at c.in_ok-version.ensures.fault) words refl (rw text at c.in_ok-is_canonical.ensures)
 
 pub returns-clause-version : goal.returns-clause-version
 returns-clause-version c =
-    let words : words_in c.args.line.now.whole.now ≡ codes "semper" ∷ codes "report" ∷ decimal c.in_ok-version.version ∷ [] = rw c.requires at c.in_ok-version.ensures.printed in
+    let words : words_in c.args.line.now.whole.now ≡ codes "semper" ∷ codes "report" ∷ decimal c.in_ok-version.version ∷ [] =
+    rw c.requires at c.in_ok-version.ensures.printed in
     ap version_in words ∙ (digits-decimal c.in_ok-version.version (small_version c.in_ok-version.version c.in_ok-version.ensures.versions)).1

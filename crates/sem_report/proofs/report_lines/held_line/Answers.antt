@@ -21,13 +21,19 @@ pub returns-in_err-is_canonical-clause-err : goal.returns-in_err-is_canonical-cl
 unfolding has_long_memory
 returns-in_err-is_canonical-clause-err c =
     let p = err_from_is_err_and c.from_residual-in_err-is_canonical.result c.from_residual-in_err-is_canonical.ensures.1 in
-    let words : words_in c.args.line.now.whole.now ≡ held_words_lem (c.in_ok-held.held.key, c.in_ok-held.held.sel) = rw c.requires at c.in_ok-held.ensures.printed in
-    let text : c.deref.result.now ≡ line (held_words_lem (c.in_ok-held.held.key, c.in_ok-held.held.sel)) = c.deref.ensures.value ∙ (c.in_ok-push_held.ensures.ok ∙ (rw c.clear.ensures.items refl)) in
-    rw (p.1, p.2) (spelling_bad (held_form c.args.version) c.args.line.now.whole.now (held_words_lem (c.in_ok-held.held.key, c.in_ok-held.held.sel)) _ c.in_ok-is_text.ensures (rw c.requires at c.in_ok-held.ensures.fault) words refl (rw text at c.in_err-is_canonical.ensures))
+    let words : words_in c.args.line.now.whole.now ≡ held_words_lem (c.in_ok-held.held.key, c.in_ok-held.held.sel) =
+    rw c.requires at c.in_ok-held.ensures.printed in
+    let text : c.deref.result.now ≡ line (held_words_lem (c.in_ok-held.held.key, c.in_ok-held.held.sel)) = c.deref.ensures.value
+    ∙ (c.in_ok-push_held.ensures.ok ∙ (rw c.clear.ensures.items refl)) in
+    rw (p.1, p.2) (spelling_bad (held_form c.args.version) c.args.line.now.whole.now (held_words_lem (c.in_ok-held.held.key, c.in_ok-held.held.sel)) _
+    c.in_ok-is_text.ensures (rw c.requires at c.in_ok-held.ensures.fault) words refl (rw text at c.in_err-is_canonical.ensures))
 
 pub returns-clause-ok : goal.returns-clause-ok
 unfolding has_long_memory
 returns-clause-ok c =
-    let words : words_in c.args.line.now.whole.now ≡ held_words_lem (c.in_ok-held.held.key, c.in_ok-held.held.sel) = rw c.requires at c.in_ok-held.ensures.printed in
-    let text : c.deref.result.now ≡ line (held_words_lem (c.in_ok-held.held.key, c.in_ok-held.held.sel)) = c.deref.ensures.value ∙ (c.in_ok-push_held.ensures.ok ∙ (rw c.clear.ensures.items refl)) in
-    line_good (held_form c.args.version) c.args.line.now.whole.now (held_words_lem (c.in_ok-held.held.key, c.in_ok-held.held.sel)) c.in_ok-is_text.ensures (rw c.requires at c.in_ok-held.ensures.fault) words refl (rw text at c.in_ok-is_canonical.ensures)
+    let words : words_in c.args.line.now.whole.now ≡ held_words_lem (c.in_ok-held.held.key, c.in_ok-held.held.sel) =
+    rw c.requires at c.in_ok-held.ensures.printed in
+    let text : c.deref.result.now ≡ line (held_words_lem (c.in_ok-held.held.key, c.in_ok-held.held.sel)) = c.deref.ensures.value
+    ∙ (c.in_ok-push_held.ensures.ok ∙ (rw c.clear.ensures.items refl)) in
+    line_good (held_form c.args.version) c.args.line.now.whole.now (held_words_lem (c.in_ok-held.held.key, c.in_ok-held.held.sel)) c.in_ok-is_text.ensures
+    (rw c.requires at c.in_ok-held.ensures.fault) words refl (rw text at c.in_ok-is_canonical.ensures)

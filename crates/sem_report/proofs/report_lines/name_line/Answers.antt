@@ -14,7 +14,8 @@ returns-in_err-is_text-clause-err c =
 pub returns-in_err-name_words-clause-err : goal.returns-in_err-name_words-clause-err
 returns-in_err-name_words-clause-err c =
     let p = err_from_is_err_and c.from_residual-in_err-name_words.result c.from_residual-in_err-name_words.ensures.1 in
-    rw (p.1, p.2) (words_bad (name_form c.args.name.now) c.args.line.now.whole.now _ c.in_ok-is_text.ensures (rw c.requires at c.in_err-name_words.ensures.fault))
+    rw (p.1, p.2) (words_bad (name_form c.args.name.now) c.args.line.now.whole.now _ c.in_ok-is_text.ensures
+    (rw c.requires at c.in_err-name_words.ensures.fault))
 
 pub returns-in_err-is_canonical-clause-err : goal.returns-in_err-is_canonical-clause-err
 unfolding has_long_memory
@@ -22,11 +23,13 @@ returns-in_err-is_canonical-clause-err c =
     let p = err_from_is_err_and c.from_residual-in_err-is_canonical.result c.from_residual-in_err-is_canonical.ensures.1 in
     let words : words_in c.args.line.now.whole.now ≡ c.args.name.now ∷ [] = rw c.requires at c.in_ok-name_words.ensures.printed in
     let text : c.deref.result.now ≡ line (c.args.name.now ∷ []) = c.deref.ensures.value ∙ (c.in_ok-push_line.ensures.ok ∙ (rw c.clear.ensures.items refl)) in
-    rw (p.1, p.2) (spelling_bad (name_form c.args.name.now) c.args.line.now.whole.now (c.args.name.now ∷ []) _ c.in_ok-is_text.ensures (rw c.requires at c.in_ok-name_words.ensures.fault) words refl (rw text at c.in_err-is_canonical.ensures))
+    rw (p.1, p.2) (spelling_bad (name_form c.args.name.now) c.args.line.now.whole.now (c.args.name.now ∷ []) _ c.in_ok-is_text.ensures
+    (rw c.requires at c.in_ok-name_words.ensures.fault) words refl (rw text at c.in_err-is_canonical.ensures))
 
 pub returns-clause-ok : goal.returns-clause-ok
 unfolding has_long_memory
 returns-clause-ok c =
     let words : words_in c.args.line.now.whole.now ≡ c.args.name.now ∷ [] = rw c.requires at c.in_ok-name_words.ensures.printed in
     let text : c.deref.result.now ≡ line (c.args.name.now ∷ []) = c.deref.ensures.value ∙ (c.in_ok-push_line.ensures.ok ∙ (rw c.clear.ensures.items refl)) in
-    line_good (name_form c.args.name.now) c.args.line.now.whole.now (c.args.name.now ∷ []) c.in_ok-is_text.ensures (rw c.requires at c.in_ok-name_words.ensures.fault) words refl (rw text at c.in_ok-is_canonical.ensures)
+    line_good (name_form c.args.name.now) c.args.line.now.whole.now (c.args.name.now ∷ []) c.in_ok-is_text.ensures
+    (rw c.requires at c.in_ok-name_words.ensures.fault) words refl (rw text at c.in_ok-is_canonical.ensures)

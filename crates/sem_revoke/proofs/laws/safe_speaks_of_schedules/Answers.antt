@@ -1,4 +1,5 @@
-use Rattle.sem_revoke.proofs.SampleRuns.{sample-setup, runs-grant, runs-bind, runs-revoke, runs-clear, on-its-way, line-of-part, bound, answered-revoke, part-gone, answered-clear, cleared-gone, memory-kept}
+use Rattle.sem_revoke.proofs.SampleRuns.{sample-setup, runs-grant, runs-bind, runs-revoke, runs-clear, on-its-way, line-of-part, bound, answered-revoke}
+use Rattle.sem_revoke.proofs.SampleRuns.{part-gone, answered-clear, cleared-gone, memory-kept}
 use Rattle.sem_revoke.proofs.laws.safe_speaks_of_schedules.Goals as goal
 
 pub returns-clause-setup : goal.returns-clause-setup

@@ -32,7 +32,8 @@ returns-in-Sighted c =
     let T : Setup = c.args.setup.now in
     let J : List Entry = c.args.journal.now.entries in
     subst (λ (f : Finding). OnOk c.push_whereabouts.result (IsAnswer (question_of f) T J c.push_whereabouts.new.out.items)) (sym c.in-Sighted.is)
-    (on_ok_weaker c.push_whereabouts.result (λ is. alone _ _ _ c.requires.empty is) (c.push_whereabouts.ensures.ok T (subst (IsFound T J) c.in-Sighted.is c.requires.found)))
+    (on_ok_weaker c.push_whereabouts.result (λ is. alone _ _ _ c.requires.empty is)
+    (c.push_whereabouts.ensures.ok T (subst (IsFound T J) c.in-Sighted.is c.requires.found)))
 
 pub returns-in-Line : goal.returns-in-Line
 returns-in-Line c =

@@ -9,7 +9,8 @@ use Rattle.sem_run.proofs.services.read_service.Goals as goal
 pub returns-in-Ok-compile-clause-reads : goal.returns-in-Ok-compile-clause-reads
 returns-in-Ok-compile-clause-reads g c asked = record {
   files = c.in-Ok-read_files.files;
-  read = reads-files _ c.in-Ok.bytes.items c.in-Ok.ensures.bytes c.in-Ok-read_files.files c.in-Ok.ensures.taken (rw c.deref.ensures.value at c.in-Ok-read_files.ensures.stands) (subst AreFiles c.files.view_is c.files.invariant);
+  read = reads-files _ c.in-Ok.bytes.items c.in-Ok.ensures.bytes c.in-Ok-read_files.files c.in-Ok.ensures.taken
+      (rw c.deref.ensures.value at c.in-Ok-read_files.ensures.stands) (subst AreFiles c.files.view_is c.files.invariant);
   made = c.in-Ok-compile.ensures;
   valid = subst IsSetup c.setup.view_is c.setup.invariant;
 }
@@ -17,5 +18,7 @@ returns-in-Ok-compile-clause-reads g c asked = record {
 -- it is refused
 pub returns-in-Err-Refused-clause-refused : goal.returns-in-Err-Refused-clause-refused
 returns-in-Err-Refused-clause-refused g c seed asked is =
-    let refused = files-refused _ c.in-Ok.bytes.items c.deref.result.now c.in-Err-Refused.fault c.in-Err-Refused.field-0 c.in-Ok.ensures.bytes c.deref.ensures.value c.in-Err-Refused.ensures.refused c.in-Err-Refused.field-0-is in
-    files-fault-ends _ _ _ (c.in-Ok.bytes.items, c.in-Ok.ensures.taken) c.in-Ok.ensures.quiet c.refuse_files.ensures.0 seed c.in-Err-Refused.fault is refused c.refuse_files.result.status c.refuse_files.ensures.1
+    let refused = files-refused _ c.in-Ok.bytes.items c.deref.result.now c.in-Err-Refused.fault c.in-Err-Refused.field-0 c.in-Ok.ensures.bytes
+    c.deref.ensures.value c.in-Err-Refused.ensures.refused c.in-Err-Refused.field-0-is in
+    files-fault-ends _ _ _ (c.in-Ok.bytes.items, c.in-Ok.ensures.taken) c.in-Ok.ensures.quiet c.refuse_files.ensures.0 seed c.in-Err-Refused.fault is refused
+    c.refuse_files.result.status c.refuse_files.ensures.1

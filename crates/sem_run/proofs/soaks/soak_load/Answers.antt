@@ -11,7 +11,8 @@ returns-in-Ok-kernels g c given asked untouched =
     let valid = subst IsSetup c.setup.view_is c.setup.invariant in
     let complete = rw c.in-Ok-kernels.is at c.run_to_end-journal.ensures.complete in
     let told = rw (c.from-in-Ok-kernels.ensures, c.from.ensures, c.from-2.ensures) at c.tell_load.ensures.told in
-    let ends = load-ends given c.run_to_end-journal.result.journal.entries c.tell_load.result.text.items c.args.seed c.args.vpes c.args.calls c.in-Ok.setup asked c.in-Ok.ensures valid untouched complete c.tell_load.result.status told in
+    let ends = load-ends given c.run_to_end-journal.result.journal.entries c.tell_load.result.text.items c.args.seed c.args.vpes c.args.calls c.in-Ok.setup
+    asked c.in-Ok.ensures valid untouched complete c.tell_load.result.status told in
     subst (λ (j : JournalList). WouldEnd given j.entries c.tell_load.result.text.items c.tell_load.result.status) (sym c.tell_load.ensures.journal) ends
 
 -- memory was lacking on the way
@@ -19,5 +20,7 @@ pub returns : goal.returns
 returns g c given asked untouched =
     let valid = subst IsSetup c.setup.view_is c.setup.invariant in
     let J = c.run_to_end-journal.result.journal.entries in
-    let ends = soak-part given J [] c.args.seed c.args.vpes c.args.calls c.in-Ok.setup asked c.in-Ok.ensures valid untouched c.run_to_end-journal.ensures.schedule refl in
-    memory-ends given c.out_of_memory-in-Err-kernels.result J c.out_of_memory-in-Err-kernels.ensures.status c.out_of_memory-in-Err-kernels.ensures.text (ap (λ (j : JournalList). j.entries) c.out_of_memory-in-Err-kernels.ensures.journal) ends
+    let ends = soak-part given J [] c.args.seed c.args.vpes c.args.calls c.in-Ok.setup asked c.in-Ok.ensures valid untouched
+    c.run_to_end-journal.ensures.schedule refl in
+    memory-ends given c.out_of_memory-in-Err-kernels.result J c.out_of_memory-in-Err-kernels.ensures.status c.out_of_memory-in-Err-kernels.ensures.text
+    (ap (λ (j : JournalList). j.entries) c.out_of_memory-in-Err-kernels.ensures.journal) ends

@@ -1,4 +1,6 @@
-use Rattle.sem_safety.proofs.Updates.{seen-with_row, seen-unbind_all, seen-with_endpoint, seen-parked_as, seen-unparked, seen-cap_added, seen-cap_changed, seen-mark_all, seen-caps_removed, seen-pending_added, seen-pending_removed, seen-job_opened, seen-job_changed, seen-job_removed, seen-send, seen-sent, seen-with_inbox}
+use Rattle.sem_safety.proofs.Updates.{seen-with_row, seen-unbind_all, seen-with_endpoint, seen-parked_as, seen-unparked, seen-cap_added, seen-cap_changed}
+use Rattle.sem_safety.proofs.Updates.{seen-mark_all, seen-caps_removed, seen-pending_added, seen-pending_removed, seen-job_opened, seen-job_changed}
+use Rattle.sem_safety.proofs.Updates.{seen-job_removed, seen-send, seen-sent, seen-with_inbox}
 use Rattle.sem_safety.proofs.observations.changes_are_seen.Goals as goal
 
 pub returns-clause-row : goal.returns-clause-row

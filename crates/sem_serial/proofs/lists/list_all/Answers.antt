@@ -10,4 +10,5 @@ loop-kernel-preserved c =
     let W = world_of c.args.kernels.now c.args.fabric.now in
     ap (map (λ list. list.items)) c.in_ok-push.ensures.items
     ∙ (map-append (λ list. list.items) c.loop-kernel.lists.items (c.append_enabled.new.out ∷ [])
-    ∙ listed-more c.args.setup.now W c.loop-kernel.kernel (map (λ list. list.items) c.loop-kernel.lists.items) c.append_enabled.new.out.items c.loop-kernel.invariant (c.in_ok-append_enabled.ensures ∙ ap (λ es. es ++ enabled_of c.args.setup.now W c.loop-kernel.kernel) c.new-list.ensures.items))
+    ∙ listed-more c.args.setup.now W c.loop-kernel.kernel (map (λ list. list.items) c.loop-kernel.lists.items) c.append_enabled.new.out.items
+    c.loop-kernel.invariant (c.in_ok-append_enabled.ensures ∙ ap (λ es. es ++ enabled_of c.args.setup.now W c.loop-kernel.kernel) c.new-list.ensures.items))

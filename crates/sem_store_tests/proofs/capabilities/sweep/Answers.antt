@@ -9,3 +9,10 @@ remove_marked-requires c =
     let both = length-filter_both (is_marked_by c.args.job) (λ x. not (is_marked_by c.args.job x)) (λ x. refl) c.args.caps.now.caps in
     let few : length (marked_by c.args.job c.args.caps.now.caps) ≤ length c.args.caps.now.caps = omega arith in
     search rules
+
+-- no more are marked than are held
+pub remove_marked_of-requires : goal.remove_marked_of-requires
+remove_marked_of-requires c =
+    let both = length-filter_both (is_marked_by c.args.job) (λ x. not (is_marked_by c.args.job x)) (λ x. refl) c.args.caps.now.caps in
+    let few : length (marked_by c.args.job c.args.caps.now.caps) ≤ length c.args.caps.now.caps = omega arith in
+    search rules

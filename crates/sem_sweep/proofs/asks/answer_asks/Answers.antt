@@ -33,12 +33,14 @@ loop-ask-preserved c =
     let s1 : Side → Side = λ s. answering c.next_ask.new.self c.loop-ask.park c.loop-ask.outs s in
     let s2 : Side → Side = λ s. answering c.end_ask.new.vpes c.end_ask.new.park c.end_ask.new.outs s in
     let taken : (s : Side) → s1 s ≡ ask_taken v (s0 s) = λ s. ap (λ (t : VpeTable). answering t c.loop-ask.park c.loop-ask.outs s) c.in-Some.ensures.taken in
-    let left : (row c.end_ask.new.vpes.rows v).asks ≡ drop 1 asks = turn-asks T i v a (s0 no_side) (s1 no_side) (s2 no_side) (taken no_side) (c.end_ask.ensures.row no_side) in
+    let left : (row c.end_ask.new.vpes.rows v).asks ≡ drop 1 asks = turn-asks T i v a (s0 no_side) (s1 no_side) (s2 no_side) (taken no_side)
+    (c.end_ask.ensures.row no_side) in
     let less = rest-length a asks c.in-Some.ensures.front in
     record {
       ours = c.end_ask.ensures.ours ∙ ap (λ (t : VpeTable). t.ours) c.in-Some.ensures.taken ∙ c.loop-ask.invariant.ours;
       askers = subst (All (HasAsker T)) (sym left) (rest-all (HasAsker T) a asks c.in-Some.ensures.front c.loop-ask.invariant.askers);
-      owes = subst (λ (t : Side). CanOwe T (state_of t.parks v)) (sym (c.end_ask.ensures.row no_side)) (ended-owes T i v a (s1 no_side) c.loop-ask.invariant.owes);
+      owes = subst (λ (t : Side). CanOwe T (state_of t.parks v)) (sym (c.end_ask.ensures.row no_side))
+          (ended-owes T i v a (s1 no_side) c.loop-ask.invariant.owes);
       boxes = c.end_ask.ensures.boxes;
       spare = omega (arith, ap length left, less, c.end_ask.ensures.spare, c.loop-ask.invariant.spare);
       row = λ s. turn-row T i v a (s0 s) (s1 s) (s2 s) (taken s) (c.end_ask.ensures.row s) c.in-Some.ensures.front ∙ c.loop-ask.invariant.row s;
@@ -48,4 +50,5 @@ pub returns-clause-row : goal.returns-clause-row
 returns-clause-row c s =
     let s0 : Side = answering c.loop-ask.vpes c.loop-ask.park c.loop-ask.outs s in
     let s1 : Side = answering c.next_ask.new.self c.loop-ask.park c.loop-ask.outs s in
-    last-row c.args.setup.now c.args.kernel c.args.vpe s0 s1 (ap (λ (t : VpeTable). answering t c.loop-ask.park c.loop-ask.outs s) c.in_default.ensures.taken) (search rules) ∙ c.loop-ask.invariant.row s
+    last-row c.args.setup.now c.args.kernel c.args.vpe s0 s1 (ap (λ (t : VpeTable). answering t c.loop-ask.park c.loop-ask.outs s) c.in_default.ensures.taken)
+    (search rules) ∙ c.loop-ask.invariant.row s

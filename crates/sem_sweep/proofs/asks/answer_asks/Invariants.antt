@@ -20,5 +20,6 @@ invariant-loop-ask l = record {
   owes : CanOwe l.setup (state_of l.park l.vpe);
   boxes : HasBoxes l.setup l.outs;
   spare : l.fn.outs.spare + length (row l.vpes.rows l.vpe).asks ≤ l.outs.spare + length (row l.fn.vpes.rows l.vpe).asks;
-  row : (s : Side) → in_turn (ask_ended l.setup l.kernel) (row l.vpes.rows l.vpe).asks (unasked l.vpe (answering l.vpes l.park l.outs s)) ≡ in_turn (ask_ended l.setup l.kernel) (row l.fn.vpes.rows l.vpe).asks (unasked l.vpe (answering l.fn.vpes l.fn.park l.fn.outs s));
+  row : (s : Side) → in_turn (ask_ended l.setup l.kernel) (row l.vpes.rows l.vpe).asks (unasked l.vpe (answering l.vpes l.park l.outs s))
+      ≡ in_turn (ask_ended l.setup l.kernel) (row l.fn.vpes.rows l.vpe).asks (unasked l.vpe (answering l.fn.vpes l.fn.park l.fn.outs s));
 }

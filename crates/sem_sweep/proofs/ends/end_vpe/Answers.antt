@@ -13,17 +13,20 @@ use Rattle.sem_sweep.proofs.ends.end_vpe.Goals as goal
 
 pub answer_asks-requires-clause-asks : goal.answer_asks-requires-clause-asks
 answer_asks-requires-clause-asks c =
-    let same : (row c.end.new.self.rows c.args.vpe).asks ≡ (row c.args.vpes.now.rows c.args.vpe).asks = ap (λ (t : VpeTable). (row t.rows c.args.vpe).asks) c.end.ensures ∙ died-asks c.args.vpe c.args.vpes.now.rows in
+    let same : (row c.end.new.self.rows c.args.vpe).asks ≡ (row c.args.vpes.now.rows c.args.vpe).asks =
+    ap (λ (t : VpeTable). (row t.rows c.args.vpe).asks) c.end.ensures ∙ died-asks c.args.vpe c.args.vpes.now.rows in
     subst (All (HasAsker c.args.setup.now)) (sym same) c.requires.asks
 
 pub answer_asks-requires-clause-spare : goal.answer_asks-requires-clause-spare
 answer_asks-requires-clause-spare c =
-    let same : (row c.end.new.self.rows c.args.vpe).asks ≡ (row c.args.vpes.now.rows c.args.vpe).asks = ap (λ (t : VpeTable). (row t.rows c.args.vpe).asks) c.end.ensures ∙ died-asks c.args.vpe c.args.vpes.now.rows in
+    let same : (row c.end.new.self.rows c.args.vpe).asks ≡ (row c.args.vpes.now.rows c.args.vpe).asks =
+    ap (λ (t : VpeTable). (row t.rows c.args.vpe).asks) c.end.ensures ∙ died-asks c.args.vpe c.args.vpes.now.rows in
     omega (arith, ap length same, c.requires.spare)
 
 pub end_call-requires-clause-spare : goal.end_call-requires-clause-spare
 end_call-requires-clause-spare c =
-    let same : (row c.end.new.self.rows c.args.vpe).asks ≡ (row c.args.vpes.now.rows c.args.vpe).asks = ap (λ (t : VpeTable). (row t.rows c.args.vpe).asks) c.end.ensures ∙ died-asks c.args.vpe c.args.vpes.now.rows in
+    let same : (row c.end.new.self.rows c.args.vpe).asks ≡ (row c.args.vpes.now.rows c.args.vpe).asks =
+    ap (λ (t : VpeTable). (row t.rows c.args.vpe).asks) c.end.ensures ∙ died-asks c.args.vpe c.args.vpes.now.rows in
     omega (arith, ap length same, c.requires.spare, c.answer_asks.ensures.spare)
 
 pub returns-clause-row : goal.returns-clause-row
@@ -34,12 +37,16 @@ returns-clause-row c s =
     let t : Side = with_jobs c.args.jobs.now.jobs c.args.jobs.now.next s in
     let s0 : Side = answering c.args.vpes.now c.args.park.now c.args.outs.now t in
     let asks : List Ask = (row c.args.vpes.now.rows v).asks in
-    let dead : unasked v (answering c.end.new.self c.args.park.now c.args.outs.now t) ≡ buried v s0 = ap (λ (u : VpeTable). unasked v (answering u c.args.park.now c.args.outs.now t)) c.end.ensures ∙ buried-is v s0 in
+    let dead : unasked v (answering c.end.new.self c.args.park.now c.args.outs.now t) ≡ buried v s0 =
+    ap (λ (u : VpeTable). unasked v (answering u c.args.park.now c.args.outs.now t)) c.end.ensures ∙ buried-is v s0 in
     let same : (row c.end.new.self.rows v).asks ≡ asks = ap (λ (u : VpeTable). (row u.rows v).asks) c.end.ensures ∙ died-asks v c.args.vpes.now.rows in
     c.end_call.ensures.row (with_vpes c.answer_asks.new.vpes.rows s)
-    ∙ ap (call_taken T v) (c.answer_asks.ensures.row t ∙ ap (λ waiting. in_turn (ask_ended T i) waiting (unasked v (answering c.end.new.self c.args.park.now c.args.outs.now t))) same ∙ ap (in_turn (ask_ended T i) asks) dead)
+    ∙ ap (call_taken T v) (c.answer_asks.ensures.row t
+    ∙ ap (λ waiting. in_turn (ask_ended T i) waiting (unasked v (answering c.end.new.self c.args.park.now c.args.outs.now t))) same
+    ∙ ap (in_turn (ask_ended T i) asks) dead)
 
 pub returns-clause-spare : goal.returns-clause-spare
 returns-clause-spare c =
-    let same : (row c.end.new.self.rows c.args.vpe).asks ≡ (row c.args.vpes.now.rows c.args.vpe).asks = ap (λ (t : VpeTable). (row t.rows c.args.vpe).asks) c.end.ensures ∙ died-asks c.args.vpe c.args.vpes.now.rows in
+    let same : (row c.end.new.self.rows c.args.vpe).asks ≡ (row c.args.vpes.now.rows c.args.vpe).asks =
+    ap (λ (t : VpeTable). (row t.rows c.args.vpe).asks) c.end.ensures ∙ died-asks c.args.vpe c.args.vpes.now.rows in
     omega (arith, ap length same, c.answer_asks.ensures.spare, c.end_call.ensures.spare)

@@ -16,7 +16,9 @@ pub returns-then-open-vpe : goal.returns-then-open-vpe
 returns-then-open-vpe c =
     let x : JobRow = c.in-Some.open in
     let own : x.root.vpe ≡ c.args.vpe = search rules in
-    c.give_up.ensures ∙ same_jobs _ _ _ _ (left-own c.args.job c.args.vpe c.args.jobs.now.jobs x c.in-Some.ensures.store.rising (sym c.in-Some.ensures.job) (eq-eqb x.root.vpe c.args.vpe own))
+    c.give_up.ensures
+    ∙ same_jobs _ _ _ _ (left-own c.args.job c.args.vpe c.args.jobs.now.jobs x c.in-Some.ensures.store.rising (sym c.in-Some.ensures.job)
+    (eq-eqb x.root.vpe c.args.vpe own))
 
 -- its root is of another VPE
 pub returns-else-open-vpe : goal.returns-else-open-vpe

@@ -10,10 +10,12 @@ use Rattle.sem_sweep.proofs.Swept.{left-owner, can-ours}
 use Rattle.sem_sweep.proofs.sweeps.close.Goals as goal
 
 pub remove_caps-requires-clause-ours : goal.remove_caps-requires-clause-ours
-remove_caps-requires-clause-ours c = can-ours c.args.setup.now c.args.kernel c.args.vpes.now c.spare_root.new.caps.caps c.requires.home (c.spare_root.ensures.kept c.args.setup.now c.args.kernel c.requires.caps)
+remove_caps-requires-clause-ours c = can-ours c.args.setup.now c.args.kernel c.args.vpes.now c.spare_root.new.caps.caps c.requires.home
+    (c.spare_root.ensures.kept c.args.setup.now c.args.kernel c.requires.caps)
 
 pub leave_parent-requires-clause-owner : goal.leave_parent-requires-clause-owner
-leave_parent-requires-clause-owner c = left-owner c.args.setup.now c.args.kernel c.args.caps.now.caps c.args.finished.now c.parent_to_leave-parent.result c.requires.caps c.parent_to_leave-parent.ensures
+leave_parent-requires-clause-owner c = left-owner c.args.setup.now c.args.kernel c.args.caps.now.caps c.args.finished.now c.parent_to_leave-parent.result
+    c.requires.caps c.parent_to_leave-parent.ensures
 
 pub returns-clause-row : goal.returns-clause-row
 unfolding closed_here
@@ -39,4 +41,6 @@ returns-clause-row c s =
     ∙ ap (parent_left T i x (left_parent s0 x)) woken1
 
 pub returns-clause-caps : goal.returns-clause-caps
-returns-clause-caps c = c.leave_parent.ensures.kept c.args.kernel (c.remove_caps.ensures.kept c.args.setup.now c.args.kernel (c.spare_root.ensures.kept c.args.setup.now c.args.kernel c.requires.caps))
+returns-clause-caps c =
+    c.leave_parent.ensures.kept c.args.kernel
+    (c.remove_caps.ensures.kept c.args.setup.now c.args.kernel (c.spare_root.ensures.kept c.args.setup.now c.args.kernel c.requires.caps))

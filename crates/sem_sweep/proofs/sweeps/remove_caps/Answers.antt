@@ -14,8 +14,14 @@ use Rattle.sem_sweep.specs.Sweeping.{pairs_freed, CanSweepCap}
 use Rattle.sem_sweep.proofs.Swept.{filter-length, pairs_freed-caps, pairs-ours}
 use Rattle.sem_sweep.proofs.sweeps.remove_caps.Goals as goal
 
-pub remove_marked-requires : goal.remove_marked-requires
-remove_marked-requires c = omega (arith, filter-length (is_marked_by c.args.job) c.args.caps.now.caps, c.requires.space, c.clear.ensures.len, c.clear.ensures.capacity)
+pub remove_marked_of-requires : goal.remove_marked_of-requires
+remove_marked_of-requires c = omega (
+  arith,
+  filter-length (is_marked_by c.args.job) c.args.caps.now.caps,
+  c.requires.space,
+  c.clear.ensures.len,
+  c.clear.ensures.capacity,
+)
 
 pub loop-at-init : goal.loop-at-init
 unfolding in_turn
@@ -24,9 +30,10 @@ loop-at-init c = record { rows = refl; ours = refl }
 pub release-requires : goal.release-requires
 release-requires c =
     let pair = c.index.result.now in
-    let items = c.remove_marked.new.gone.items in
-    let gone : items ≡ map key_and_selector (marked_by c.args.job c.args.caps.now.caps) = c.remove_marked.ensures.gone ∙ rw c.clear.ensures.items refl in
-    let all : All (λ (q : KeyName × ℕ). IsOurs c.args.vpes.now q.0.vpe) items = rw gone (pairs-ours c.args.vpes.now (is_marked_by c.args.job) c.args.caps.now.caps c.requires.ours) in
+    let items = c.remove_marked_of.new.gone.items in
+    let gone : items ≡ map key_and_selector (marked_by c.args.job c.args.caps.now.caps) = c.remove_marked_of.ensures.gone ∙ rw c.clear.ensures.items refl in
+    let all : All (λ (q : KeyName × ℕ). IsOurs c.args.vpes.now q.0.vpe) items =
+    rw gone (pairs-ours c.args.vpes.now (is_marked_by c.args.job) c.args.caps.now.caps c.requires.ours) in
     let here : IsOurs c.args.vpes.now (get_or items c.loop-at.at pair).0.vpe = all c.loop-at.at pair (omega (arith, c.len-at-end.ensures)) in
     let ours : IsOurs c.args.vpes.now pair.0.vpe = rw (← c.index.ensures) at here in
     let key : c.key.inside.vpe ≡ pair.0.vpe = ap (λ (k : KeyName). k.vpe) c.key.view_is in
@@ -36,27 +43,33 @@ pub loop-at-preserved : goal.loop-at-preserved
 unfolding in_turn
 loop-at-preserved c =
     let pair = c.index.result.now in
-    let items = c.remove_marked.new.gone.items in
+    let items = c.remove_marked_of.new.gone.items in
     let at = c.loop-at.at in
     let rows = c.args.vpes.now.rows in
     let key : c.key.inside.vpe ≡ pair.0.vpe = ap (λ (k : KeyName). k.vpe) c.key.view_is in
-    let taken : take (at + 1) items ≡ take at items ++ pair ∷ [] = take_more items at pair (omega (arith, c.len-at-end.ensures)) ∙ ap (λ x. take at items ++ x ∷ []) (sym c.index.ensures) in
+    let taken : take (at + 1) items ≡ take at items ++ pair ∷ [] = take_more items at pair (omega (arith, c.len-at-end.ensures))
+    ∙ ap (λ x. take at items ++ x ∷ []) (sym c.index.ensures) in
     record {
-      rows = ap (λ (t : VpeTable). t.rows) c.release.ensures ∙ (ap (λ v. freed v pair.1 c.loop-at.vpes.rows) key ∙ (ap (freed pair.0.vpe pair.1) c.loop-at.invariant.rows ∙ sym (ap (λ ps. pairs_freed ps rows) taken ∙ in_turn-append (λ p rs. freed p.0.vpe p.1 rs) (take at items) (pair ∷ []) rows)));
+      rows = ap (λ (t : VpeTable). t.rows) c.release.ensures
+          ∙ (ap (λ v. freed v pair.1 c.loop-at.vpes.rows) key
+          ∙ (ap (freed pair.0.vpe pair.1) c.loop-at.invariant.rows
+          ∙ sym (ap (λ ps. pairs_freed ps rows) taken ∙ in_turn-append (λ p rs. freed p.0.vpe p.1 rs) (take at items) (pair ∷ []) rows)));
       ours = ap (λ (t : VpeTable). t.ours) c.release.ensures ∙ c.loop-at.invariant.ours;
     }
 
 pub returns-clause-row : goal.returns-clause-row
 returns-clause-row c s =
-    let items = c.remove_marked.new.gone.items in
+    let items = c.remove_marked_of.new.gone.items in
     let rows = c.args.vpes.now.rows in
-    let gone : items ≡ map key_and_selector (marked_by c.args.job c.args.caps.now.caps) = c.remove_marked.ensures.gone ∙ rw c.clear.ensures.items refl in
+    let gone : items ≡ map key_and_selector (marked_by c.args.job c.args.caps.now.caps) = c.remove_marked_of.ensures.gone ∙ rw c.clear.ensures.items refl in
     let all : take c.loop-at.at items ≡ items = take_all c.loop-at.at items (omega (arith, c.len-at-end.ensures)) in
-    let freed_all : c.loop-at.vpes.rows ≡ all_freed (marked_by c.args.job c.args.caps.now.caps) rows = c.loop-at.invariant.rows ∙ (ap (λ ps. pairs_freed ps rows) (all ∙ gone) ∙ pairs_freed-caps (marked_by c.args.job c.args.caps.now.caps) rows) in
-    rw (c.remove_marked.ensures.caps, freed_all) refl
+    let freed_all : c.loop-at.vpes.rows ≡ all_freed (marked_by c.args.job c.args.caps.now.caps) rows = c.loop-at.invariant.rows
+    ∙ (ap (λ ps. pairs_freed ps rows) (all ∙ gone) ∙ pairs_freed-caps (marked_by c.args.job c.args.caps.now.caps) rows) in
+    rw (c.remove_marked_of.ensures.caps, freed_all) refl
 
 pub returns-clause-kept : goal.returns-clause-kept
-returns-clause-kept c T i can = rw c.remove_marked.ensures.caps (All-filter (λ x. not (is_marked_by c.args.job x)) (CanSweepCap T i) c.args.caps.now.caps can)
+returns-clause-kept c T i can =
+    rw c.remove_marked_of.ensures.caps (All-filter (λ x. not (is_marked_by c.args.job x)) (CanSweepCap T i) c.args.caps.now.caps can)
 
 pub returns-clause-count : goal.returns-clause-count
-returns-clause-count c = rw c.remove_marked.ensures.caps (filter-length (λ x. not (is_marked_by c.args.job x)) c.args.caps.now.caps)
+returns-clause-count c = rw c.remove_marked_of.ensures.caps (filter-length (λ x. not (is_marked_by c.args.job x)) c.args.caps.now.caps)

@@ -21,8 +21,10 @@ tell_up-next-requires-clause-up c =
 pub loop-next-smaller : goal.loop-next-smaller
 loop-next-smaller c =
     let xs = c.loop-next.jobs.jobs in
-    let less : length (jobs_removed c.in-Some.id xs) + 1 ≡ length xs = shorter xs c.loop-next.jobs.next c.in-Some-take.ensures.store c.in-Some.id c.in-Some-take.finished (sym c.in-Some-take.ensures.job) in
-    let told : length c.tell_up-next.new.jobs.jobs ≡ length c.take.new.self.jobs = ap (λ (t : JobStore). length t.jobs) c.tell_up-next.ensures.told ∙ told-length c.finished.inside.up c.take.new.self.jobs in
+    let less : length (jobs_removed c.in-Some.id xs) + 1 ≡ length xs =
+    shorter xs c.loop-next.jobs.next c.in-Some-take.ensures.store c.in-Some.id c.in-Some-take.finished (sym c.in-Some-take.ensures.job) in
+    let told : length c.tell_up-next.new.jobs.jobs ≡ length c.take.new.self.jobs = ap (λ (t : JobStore). length t.jobs) c.tell_up-next.ensures.told
+    ∙ told-length c.finished.inside.up c.take.new.self.jobs in
     let taken : length c.take.new.self.jobs ≡ length (jobs_removed c.in-Some.id xs) = ap length c.in-Some-take.ensures.jobs in
     let fewer : length c.tell_up-next.new.jobs.jobs < length xs = omega (arith, less, told, taken) in
     fewer
@@ -53,7 +55,8 @@ loop-next-preserved c =
       ups = rw is_told (told-kept T up ys (rw c.in-Some-take.ensures.jobs (removed-kept T id xs c.loop-next.invariant.ups)));
       boxes = c.tell_up-next.ensures.boxes;
       spare = omega (arith, less, told, taken, one, same_messages, c.tell_up-next.ensures.spare, c.close.ensures.spare, c.loop-next.invariant.spare);
-      job_spare = let kept = ap (λ (t : JobStore). t.spare) c.tell_up-next.ensures.told in omega (arith, kept, c.in-Some-take.ensures.spare, c.loop-next.invariant.job_spare);
+      job_spare = let kept = ap (λ (t : JobStore). t.spare) c.tell_up-next.ensures.told in
+          omega (arith, kept, c.in-Some-take.ensures.spare, c.loop-next.invariant.job_spare);
       caps_spare = omega (arith, c.close.ensures.caps_spare, c.loop-next.invariant.caps_spare);
       count = omega (arith, c.close.ensures.count, c.loop-next.invariant.count);
       space = c.close.ensures.space ∙ c.loop-next.invariant.space;
@@ -62,11 +65,17 @@ loop-next-preserved c =
       row = λ s.
           let s0 : Side = sweeping c.loop-next.caps c.loop-next.vpes c.loop-next.jobs c.loop-next.park c.loop-next.outs s in
           let s3 : Side = sweeping c.close.new.caps c.close.new.vpes c.tell_up-next.new.jobs c.close.new.park c.tell_up-next.new.outs s in
-          let out : sweeping c.loop-next.caps c.loop-next.vpes c.take.new.self c.loop-next.park c.loop-next.outs s ≡ job_removed x.id s0 = rw (c.in-Some-take.ensures.jobs, c.in-Some-take.ensures.next, x_id) refl in
+          let out : sweeping c.loop-next.caps c.loop-next.vpes c.take.new.self c.loop-next.park c.loop-next.outs s ≡ job_removed x.id s0 =
+          rw (c.in-Some-take.ensures.jobs, c.in-Some-take.ensures.next, x_id) refl in
           let closed1 = c.close.ensures.row (with_jobs c.take.new.self.jobs c.take.new.self.next s) ∙ ap (closed_here T i x) out in
-          let here : s3 ≡ closed T i x s0 = c.tell_up-next.ensures.row (closing c.close.new.caps c.close.new.vpes c.close.new.park c.close.new.outs s) ∙ (ap (up_told up) closed1 ∙ ap (λ u. up_told u (closed_here T i x (job_removed x.id s0))) same_up) in
-          finish-turn T i (length zs) (length xs) x up s0 s3 (option_and_then (job_of zs) c.tell_up-next.result) (option_and_then (job_of xs) c.loop-next.next) (omega (arith, less, told, taken)) (ap (option_and_then (job_of xs)) c.in-Some.is ∙ found) same_up here c.tell_up-next.ensures.next ∙ c.loop-next.invariant.row s;
+          let here : s3 ≡ closed T i x s0 = c.tell_up-next.ensures.row (closing c.close.new.caps c.close.new.vpes c.close.new.park c.close.new.outs s)
+          ∙ (ap (up_told up) closed1 ∙ ap (λ u. up_told u (closed_here T i x (job_removed x.id s0))) same_up) in
+          finish-turn T i (length zs) (length xs) x up s0 s3 (option_and_then (job_of zs) c.tell_up-next.result) (option_and_then (job_of xs) c.loop-next.next)
+          (omega (arith, less, told, taken)) (ap (option_and_then (job_of xs)) c.in-Some.is ∙ found) same_up here c.tell_up-next.ensures.next
+          ∙ c.loop-next.invariant.row s;
     }
 
 pub returns-clause-row : goal.returns-clause-row
-returns-clause-row c s = sym (finish-none c.args.setup.now c.args.kernel (length c.loop-next.jobs.jobs) _) ∙ (ap (λ o. finish c.args.setup.now c.args.kernel (length c.loop-next.jobs.jobs) (option_and_then (job_of c.loop-next.jobs.jobs) o) (sweeping c.loop-next.caps c.loop-next.vpes c.loop-next.jobs c.loop-next.park c.loop-next.outs s)) (sym c.in_default.is) ∙ c.loop-next.invariant.row s)
+returns-clause-row c s = sym (finish-none c.args.setup.now c.args.kernel (length c.loop-next.jobs.jobs) _)
+    ∙ (ap (λ o. finish c.args.setup.now c.args.kernel (length c.loop-next.jobs.jobs) (option_and_then (job_of c.loop-next.jobs.jobs) o)
+    (sweeping c.loop-next.caps c.loop-next.vpes c.loop-next.jobs c.loop-next.park c.loop-next.outs s)) (sym c.in_default.is) ∙ c.loop-next.invariant.row s)

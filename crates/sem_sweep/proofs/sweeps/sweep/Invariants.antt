@@ -27,5 +27,6 @@ invariant-loop-next l = record {
   space : vec_capacity l.scratch.gone ≡ vec_capacity l.fn.scratch.gone;
   keys : vec_capacity l.scratch.keys ≡ vec_capacity l.fn.scratch.keys;
   links : vec_capacity l.scratch.links ≡ vec_capacity l.fn.scratch.links;
-  row : (s : Side) → finish l.setup l.kernel (length l.jobs.jobs) (option_and_then (job_of l.jobs.jobs) l.next) (sweeping l.caps l.vpes l.jobs l.park l.outs s) ≡ finish l.setup l.kernel (length l.fn.jobs.jobs) (job_of l.fn.jobs.jobs l.fn.job) (sweeping l.fn.caps l.fn.vpes l.fn.jobs l.fn.park l.fn.outs s);
+  row : (s : Side) → finish l.setup l.kernel (length l.jobs.jobs) (option_and_then (job_of l.jobs.jobs) l.next) (sweeping l.caps l.vpes l.jobs l.park l.outs s)
+      ≡ finish l.setup l.kernel (length l.fn.jobs.jobs) (job_of l.fn.jobs.jobs l.fn.job) (sweeping l.fn.caps l.fn.vpes l.fn.jobs l.fn.park l.fn.outs s);
 }

@@ -1,5 +1,6 @@
-use Rattle.std.proofs.Common.{List, Option, [], ◌∷◌, sym, ◌∙◌, ap, arith}
+use Rattle.std.proofs.Common.{◌≤◌, List, Option, [], ◌∷◌, sym, ◌∙◌, ap, arith}
 use Rattle.std.proofs.lemmas.Bool.{false≢true}
+use Rattle.std.proofs.lemmas.List.Elements.{All-contains}
 use Rattle.std.specs.Prelude.{nat_lt, filter}
 use Rattle.sem_key.specs.Lists.{in_turn}
 use Rattle.sem_key.proofs.InTurns.{in_turn-append}
@@ -13,12 +14,13 @@ use Rattle.sem_sweep.proofs.Swept.{below-all, below-there, below-absent, below-n
 use Rattle.sem_sweep.proofs.sweeps.wake_all.Goals.{then-has, else-has}
 use Rattle.sem_sweep.proofs.sweeps.wake_all.Goals as goal
 
+-- nobody is below the first
 pub loop-vpe-init : goal.loop-vpe-init
 unfolding in_turn
-loop-vpe-init c = record {
-  list = λ lt. absurd (omega arith);
-  woken = ap (λ ws. all_woken ws c.args.park.now) (sym (below-none 0 c.args.waiters.now (λ x there. omega arith)));
-}
+loop-vpe-init c =
+    ap (λ ws. all_woken ws c.args.park.now)
+    (sym (below-none c.first-vpe.result c.args.waiters.now
+    (λ x there. All-contains (λ v. c.first-vpe.result ≤ v) c.args.waiters.now x c.first-vpe.ensures.first there)))
 
 pub loop-vpe-preserved : goal.loop-vpe-preserved
 unfolding in_turn
@@ -26,16 +28,17 @@ loop-vpe-preserved c =
     let ws = c.args.waiters.now in
     let v = c.loop-vpe.vpe in
     let before = c.args.park.now in
-    record {
-      list = λ lt. c.has.ensures.list;
-      woken = elim c.if-has.branch [
-        | then-has w ↦
-            w.park-is ∙ (w.wake.ensures ∙ (ap (λ (ps : List (Option Parked)). parked_as ps v (Ready (code_number OkCode))) c.loop-vpe.invariant.woken
-            ∙ sym (ap (λ xs. all_woken xs before) (below-there v ws c.has.ensures.list.rising (c.has.ensures.has.0 w.if-has.true)) ∙ in_turn-append (λ x ps. parked_as ps x (Ready (code_number OkCode))) (filter (λ x. nat_lt x v) ws) (v ∷ []) before)))
-        | else-has w ↦
-            w.park-is ∙ (c.loop-vpe.invariant.woken ∙ sym (ap (λ xs. all_woken xs before) (below-absent v ws (λ there. false≢true (sym w.if-has.false ∙ c.has.ensures.has.1 there)))))
-      ];
-    }
+    elim c.if-has.branch [
+      | then-has w ↦
+          w.park-is ∙ (w.wake.ensures ∙ (ap (λ (ps : List (Option Parked)). parked_as ps v (Ready (code_number OkCode))) c.loop-vpe.invariant
+          ∙ sym (ap (λ xs. all_woken xs before) (below-there v ws c.has.ensures.list.rising (c.has.ensures.has.0 w.if-has.true))
+          ∙ in_turn-append (λ x ps. parked_as ps x (Ready (code_number OkCode))) (filter (λ x. nat_lt x v) ws) (v ∷ []) before)))
+      | else-has w ↦
+          w.park-is ∙ (c.loop-vpe.invariant
+          ∙ sym (ap (λ xs. all_woken xs before) (below-absent v ws (λ there. false≢true (sym w.if-has.false ∙ c.has.ensures.has.1 there)))))
+    ]
 
 pub returns : goal.returns
-returns c = c.loop-vpe.invariant.woken ∙ ap (λ xs. all_woken xs c.args.park.now) (below-all c.loop-vpe.vpe c.args.waiters.now (λ k d lt. let few = (c.loop-vpe.invariant.list (omega arith)).below k d lt in omega arith))
+returns c = c.loop-vpe.invariant
+    ∙ ap (λ xs. all_woken xs c.args.park.now) (below-all c.loop-vpe.vpe c.args.waiters.now (λ k d lt. let few = c.first-vpe.ensures.list.below k d lt in
+    omega arith))

@@ -47,6 +47,41 @@ returns-then-is-11 c = rw (sym c.of-words.ensures ∙ c.in_ok-name.ensures.ok, c
 pub returns-else-is-11 : goal.returns-else-is-11
 unfolding form_fault form lines
 returns-else-is-11 c = elim (cases_Bool (c.args.version == 1)) [
-  | inl one ↦ record { fault = rw (sym c.of-words.ensures ∙ c.in_ok-name.ensures.ok, differs _ _ c.if-is.ensures, differs _ _ c.if-is-2.ensures, differs _ _ c.if-is-3.ensures, differs _ _ c.if-is-4.ensures, differs _ _ c.if-is-5.ensures, differs _ _ c.if-is-6.ensures, differs _ _ c.if-is-7.ensures, differs _ _ c.if-is-8.ensures, differs _ _ c.if-is-9.ensures, differs _ _ c.if-is-10.ensures, one) refl; value = tt; ranges = tt }
-  | inr other ↦ record { fault = rw (sym c.of-words.ensures ∙ c.in_ok-name.ensures.ok, differs _ _ c.if-is.ensures, differs _ _ c.if-is-2.ensures, differs _ _ c.if-is-3.ensures, differs _ _ c.if-is-4.ensures, differs _ _ c.if-is-5.ensures, differs _ _ c.if-is-6.ensures, differs _ _ c.if-is-7.ensures, differs _ _ c.if-is-8.ensures, differs _ _ c.if-is-9.ensures, differs _ _ c.if-is-10.ensures, other, differs _ _ c.if-is-11.ensures) refl; value = tt; ranges = tt }
+  | inl one ↦ record {
+    fault = rw (
+      sym c.of-words.ensures ∙ c.in_ok-name.ensures.ok,
+      differs _ _ c.if-is.ensures,
+      differs _ _ c.if-is-2.ensures,
+      differs _ _ c.if-is-3.ensures,
+      differs _ _ c.if-is-4.ensures,
+      differs _ _ c.if-is-5.ensures,
+      differs _ _ c.if-is-6.ensures,
+      differs _ _ c.if-is-7.ensures,
+      differs _ _ c.if-is-8.ensures,
+      differs _ _ c.if-is-9.ensures,
+      differs _ _ c.if-is-10.ensures,
+      one,
+    ) refl;
+    value = tt;
+    ranges = tt;
+  }
+  | inr other ↦ record {
+    fault = rw (
+      sym c.of-words.ensures ∙ c.in_ok-name.ensures.ok,
+      differs _ _ c.if-is.ensures,
+      differs _ _ c.if-is-2.ensures,
+      differs _ _ c.if-is-3.ensures,
+      differs _ _ c.if-is-4.ensures,
+      differs _ _ c.if-is-5.ensures,
+      differs _ _ c.if-is-6.ensures,
+      differs _ _ c.if-is-7.ensures,
+      differs _ _ c.if-is-8.ensures,
+      differs _ _ c.if-is-9.ensures,
+      differs _ _ c.if-is-10.ensures,
+      other,
+      differs _ _ c.if-is-11.ensures,
+    ) refl;
+    value = tt;
+    ranges = tt;
+  }
 ]

@@ -42,7 +42,17 @@ abbrev service : Service
 service = record { name = 9; key = record { pe = 3; vpe = 2; kind = ServKind; number = 2 } }
 
 abbrev setup : Setup
-setup = record { version = 2; window = 4; kernels = 2; owners = owners; vpes = first ∷ second ∷ third ∷ []; services = service ∷ []; offers = []; denies = []; kills = [] }
+setup = record {
+  version = 2;
+  window = 4;
+  kernels = 2;
+  owners = owners;
+  vpes = first ∷ second ∷ third ∷ [];
+  services = service ∷ [];
+  offers = [];
+  denies = [];
+  kills = [];
+}
 
 all_three : {X : Type 0} (P : X → Type 0) (a b c : X) → P a → P b → P c → All P (a ∷ b ∷ c ∷ [])
 all_three P a b c pa pb pc = All-cons P a (b ∷ c ∷ []) pa (All-cons P b (c ∷ []) pb (All-cons P c [] pc (All-nil P)))
@@ -58,7 +68,8 @@ first_is = record {
   pe = omega arith;
   owned = search rules;
   selectors_differ = pairs_three (λ (a b : Root). a.sel ≢ b.sel) memory receiver server (omega arith) (omega arith) (omega arith);
-  roots = all_three IsRoot memory receiver server (record { selector = omega arith; kind = tt; ranges = search rules }) (record { selector = omega arith; kind = tt; ranges = search rules }) (record { selector = omega arith; kind = tt; ranges = search rules });
+  roots = all_three IsRoot memory receiver server (record { selector = omega arith; kind = tt; ranges = search rules })
+      (record { selector = omega arith; kind = tt; ranges = search rules }) (record { selector = omega arith; kind = tt; ranges = search rules });
   calls = All-nil (IsValidCall VPES);
 }
 
@@ -108,5 +119,31 @@ is_setup membership = record {
 
 pub invariant_of-result : goal.invariant_of-result
 invariant_of-result c =
-    let membership : IsMembership owners = rw (c.in_ok-set-3.ensures.ok, c.in_ok-set-2.ensures.ok, c.in_ok-set.ensures.ok, c.empty-owners.ensures.empty) at c.in_ok-set-3.ensures.table in
-    rw (c.in_ok-set-3.ensures.ok, c.in_ok-set-2.ensures.ok, c.in_ok-set.ensures.ok, c.empty-owners.ensures.empty, c.in_ok-push-3.ensures.ok, c.in_ok-push-2.ensures.ok, c.in_ok-push.ensures.ok, c.new-vpes.ensures, c.in_ok-listed.ensures, c.in_ok-listed-2.ensures, c.new.ensures, c.new-2.ensures, c.new-3.ensures, c.new-4.ensures, c.in_ok-push-4.ensures.ok, c.new-services.ensures, c.key.ensures, c.new-5.ensures, c.new-6.ensures, c.new-7.ensures) (is_setup membership)
+    let membership : IsMembership owners = rw (
+      c.in_ok-set-3.ensures.ok,
+      c.in_ok-set-2.ensures.ok,
+      c.in_ok-set.ensures.ok,
+      c.empty-owners.ensures.empty,
+    ) at c.in_ok-set-3.ensures.table in
+    rw (
+      c.in_ok-set-3.ensures.ok,
+      c.in_ok-set-2.ensures.ok,
+      c.in_ok-set.ensures.ok,
+      c.empty-owners.ensures.empty,
+      c.in_ok-push-3.ensures.ok,
+      c.in_ok-push-2.ensures.ok,
+      c.in_ok-push.ensures.ok,
+      c.new-vpes.ensures,
+      c.in_ok-listed.ensures,
+      c.in_ok-listed-2.ensures,
+      c.new.ensures,
+      c.new-2.ensures,
+      c.new-3.ensures,
+      c.new-4.ensures,
+      c.in_ok-push-4.ensures.ok,
+      c.new-services.ensures,
+      c.key.ensures,
+      c.new-5.ensures,
+      c.new-6.ensures,
+      c.new-7.ensures,
+    ) (is_setup membership)

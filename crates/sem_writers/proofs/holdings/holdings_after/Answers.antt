@@ -11,7 +11,9 @@ use Rattle.sem_mem.proofs.KeptLongest.{kept-runs}
 use Rattle.sem_writers.proofs.holdings.holdings_after.Goals as goal
 
 pub followed-requires : goal.followed-requires
-followed-requires c = subst AreInOrder (sym (c.as_slice.ensures ∙ c.in_ok-list.ensures)) (in-order c.args.setup.now (subst IsSetup c.setup.view_is c.setup.invariant) c.args.journal.now.entries c.requires)
+followed-requires c =
+    subst AreInOrder (sym (c.as_slice.ensures ∙ c.in_ok-list.ensures))
+    (in-order c.args.setup.now (subst IsSetup c.setup.view_is c.setup.invariant) c.args.journal.now.entries c.requires)
 
 -- memory tells the last write of each address
 pub returns-clause-memory : goal.returns-clause-memory

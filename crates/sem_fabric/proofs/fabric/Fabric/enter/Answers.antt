@@ -29,6 +29,7 @@ invariant_of-self c =
       length-set places i false ∙ c.self.invariant.2,
       omega (arith, less, c.self.invariant.3, c.push.ensures.spare),
       let now = ap (λ J. length (replies J)) c.push.ensures.entries in let before = c.self.invariant.4 in omega (arith, now, more, one, before),
+      c.self.invariant.5,
     )
 
 pub invariant_of-self-else-is_some : goal.invariant_of-self-else-is_some
@@ -45,4 +46,5 @@ invariant_of-self-else-is_some c =
       length-set places i false ∙ c.self.invariant.2,
       omega (arith, less, c.self.invariant.3, c.push.ensures.spare),
       let now = ap (λ J. length (replies J)) c.push.ensures.entries in let before = c.self.invariant.4 in omega (arith, now, more, none, before),
+      c.self.invariant.5,
     )

@@ -6,4 +6,5 @@ use Rattle.sem_fabric.proofs.link.Link.pop.Goals as goal
 
 -- the records that are left are records
 pub invariant_of-self-2 : goal.invariant_of-self-2
-invariant_of-self-2 c = subst (All IsRecord) (sym (ap (λ b. b.items) c.in_ok-bytes.ensures.items)) (All-drop IsRecord 1 c.self.inside.records.items c.self.invariant)
+invariant_of-self-2 c = subst (All IsRecord) (sym (ap (λ b. b.items) c.in_ok-bytes.ensures.items))
+    (All-drop IsRecord 1 c.self.inside.records.items c.self.invariant)

@@ -11,4 +11,5 @@ returns-clause-value c =
     let there = c.index_mut.ensures.value in
     rw (← c.self.view_is)
     (row-put links window c.args.to c.index_mut.result.now here there (drop 1 c.index_mut.result.now.messages) c.pop.new.self c.pop.ensures.value
-    ∙ ap (λ ms. with_link_to c.args.to (drop 1 ms) (record { links = map (λ (l : LinkList). l.messages) links; window = window })) (sym (link-is links window c.args.to c.index_mut.result.now here there)))
+    ∙ ap (λ ms. with_link_to c.args.to (drop 1 ms) (record { links = map (λ (l : LinkList). l.messages) links; window = window }))
+    (sym (link-is links window c.args.to c.index_mut.result.now here there)))

@@ -13,4 +13,5 @@ returns-clause-ok c =
     on-ok c.push.result c.push.ensures.ok (λ (done : c.push.new.self ≡ relined (l.messages ++ c.args.message ∷ []) l).
     rw (← c.self.view_is)
     (row-put links window c.args.to l here there (l.messages ++ c.args.message ∷ []) c.push.new.self done
-    ∙ ap (λ ms. with_link_to c.args.to (ms ++ c.args.message ∷ []) (record { links = map (λ (l : LinkList). l.messages) links; window = window })) (sym (link-is links window c.args.to l here there))))
+    ∙ ap (λ ms. with_link_to c.args.to (ms ++ c.args.message ∷ []) (record { links = map (λ (l : LinkList). l.messages) links; window = window }))
+    (sym (link-is links window c.args.to l here there))))

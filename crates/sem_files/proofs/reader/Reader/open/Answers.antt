@@ -10,8 +10,10 @@ returns-in_err-said-clause-err c =
 
 pub returns-in-Some-clause-err : goal.returns-in-Some-clause-err
 returns-in-Some-clause-err c lines read =
-    open_refused lines _ c.args.self.now.tables c.in_ok-said.said _ (opened _ lines _ c.requires.stage read) c.in_ok-said.ensures.fault c.in_ok-said.ensures.value (sym c.in-Some.ensures)
+    open_refused lines _ c.args.self.now.tables c.in_ok-said.said _ (opened _ lines _ c.requires.stage read) c.in_ok-said.ensures.fault
+    c.in_ok-said.ensures.value (sym c.in-Some.ensures)
 
 pub returns-clause-ok : goal.returns-clause-ok
 returns-clause-ok c lines read =
-    rw c.stage_after-self.ensures (open_line lines _ c.args.self.now.tables c.enter.new.self c.in_ok-said.said (opened _ lines _ c.requires.stage read) c.in_ok-said.ensures.fault c.in_ok-said.ensures.value (sym c.in_default.ensures) c.in_ok-enter.ensures.said)
+    rw c.stage_after-self.ensures (open_line lines _ c.args.self.now.tables c.enter.new.self c.in_ok-said.said (opened _ lines _ c.requires.stage read)
+    c.in_ok-said.ensures.fault c.in_ok-said.ensures.value (sym c.in_default.ensures) c.in_ok-enter.ensures.said)

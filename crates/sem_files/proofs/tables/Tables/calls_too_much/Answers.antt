@@ -6,4 +6,9 @@ use Rattle.sem_files.proofs.CallNumbers.{call_number-more}
 use Rattle.sem_files.proofs.tables.Tables.calls_too_much.Goals as goal
 
 pub returns : goal.returns
-returns c = ap (nat_lt CALLS) (rw (c.requires.tells.calls, c.new_calls.ensures.number) (sym (call_number-more (files_in c.args.self.now) c.args.command.now c.requires.declared c.requires.client.0 c.requires.client.1)))
+returns c = ap (nat_lt CALLS)
+    (rw (
+      c.requires.tells.calls,
+      c.new_calls.ensures.number,
+    )
+    (sym (call_number-more (files_in c.args.self.now) c.args.command.now c.requires.declared c.requires.client.0 c.requires.client.1)))

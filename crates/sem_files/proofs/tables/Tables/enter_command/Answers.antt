@@ -12,7 +12,8 @@ count_opening-requires-clause-few c =
 pub returns-clause-tells : goal.returns-clause-tells
 returns-clause-tells c =
     let told = c.requires.tells in
-    tells_command c.args.self.now c.args.command c.push.new.self c.begin.new.begun c.count_opening.new.openings c.note_handle.new.handles c.use_number.new.used _ told c.requires.range c.requires.fine c.in_ok-push.ensures.ok
+    tells_command c.args.self.now c.args.command c.push.new.self c.begin.new.begun c.count_opening.new.openings c.note_handle.new.handles c.use_number.new.used
+    _ told c.requires.range c.requires.fine c.in_ok-push.ensures.ok
     (c.begin.ensures c.args.self.now.commands told.begun)
     (c.count_opening.ensures c.args.self.now.commands told.openings)
     (c.note_handle.ensures c.args.self.now.commands told.open')

@@ -10,7 +10,8 @@ use Rattle.sem_jobs.proofs.jobs.Jobs.add_outstanding.Goals as goal
 pub raise-requires : goal.raise-requires
 raise-requires c =
     let jobs : c.args.self.now.jobs ≡ rows_of c.self.inside.slab c.self.inside.spots.items = sym (ap (λ (s : JobStore). s.jobs) c.self.view_is) in
-    let open_at : IsOpenAt c.self.inside.slab c.self.inside.spots.items c.self.inside.next c.args.job c.in-Some.at c.index.result.now c.index_mut-open.result.now = record {
+    let open_at : IsOpenAt c.self.inside.slab c.self.inside.spots.items c.self.inside.next c.args.job c.in-Some.at c.index.result.now
+    c.index_mut-open.result.now = record {
       stored = c.self.invariant;
       place = rw jobs at c.in-Some.ensures.place;
       read = c.index.ensures;
@@ -22,7 +23,8 @@ raise-requires c =
 pub invariant_of-self : goal.invariant_of-self
 invariant_of-self c =
     let jobs : c.args.self.now.jobs ≡ rows_of c.self.inside.slab c.self.inside.spots.items = sym (ap (λ (s : JobStore). s.jobs) c.self.view_is) in
-    let open_at : IsOpenAt c.self.inside.slab c.self.inside.spots.items c.self.inside.next c.args.job c.in-Some.at c.index.result.now c.index_mut-open.result.now = record {
+    let open_at : IsOpenAt c.self.inside.slab c.self.inside.spots.items c.self.inside.next c.args.job c.in-Some.at c.index.result.now
+    c.index_mut-open.result.now = record {
       stored = c.self.invariant;
       place = rw jobs at c.in-Some.ensures.place;
       read = c.index.ensures;
@@ -33,7 +35,8 @@ invariant_of-self c =
 pub returns : goal.returns
 returns c =
     let jobs : c.args.self.now.jobs ≡ rows_of c.self.inside.slab c.self.inside.spots.items = sym (ap (λ (s : JobStore). s.jobs) c.self.view_is) in
-    let open_at : IsOpenAt c.self.inside.slab c.self.inside.spots.items c.self.inside.next c.args.job c.in-Some.at c.index.result.now c.index_mut-open.result.now = record {
+    let open_at : IsOpenAt c.self.inside.slab c.self.inside.spots.items c.self.inside.next c.args.job c.in-Some.at c.index.result.now
+    c.index_mut-open.result.now = record {
       stored = c.self.invariant;
       place = rw jobs at c.in-Some.ensures.place;
       read = c.index.ensures;
@@ -43,4 +46,6 @@ returns c =
 
 -- there is no such job
 pub returns-in_default : goal.returns-in_default
-returns-in_default c = same_jobs _ _ _ _ (sym (changed-absent c.args.job (λ (x : JobRow). record x { count = x.count + 1 }) c.args.self.now.jobs (c.in_default.ensures.absent refl)))
+returns-in_default c =
+    same_jobs _ _ _ _
+    (sym (changed-absent c.args.job (λ (x : JobRow). record x { count = x.count + 1 }) c.args.self.now.jobs (c.in_default.ensures.absent refl)))

@@ -15,9 +15,13 @@ invariant_of-self c =
     let row : JobRow = new_job c.self.inside.next c.args.root c.args.up c.of.result in
     let vacant = c.insert_reserved-place.ensures.was_vacant in
     let updates = c.insert_reserved-place.ensures.updates in
-    rw (c.push_reserved.ensures.items, rows-pushed slab c.insert_reserved-place.new.self c.insert_reserved-place.result row vacant updates spots c.self.invariant.1) (
+    rw (
+      c.push_reserved.ensures.items,
+      rows-pushed slab c.insert_reserved-place.new.self c.insert_reserved-place.result row vacant updates spots c.self.invariant.1,
+    ) (
       ids-opened (rows_of slab spots) c.self.inside.next c.self.invariant.0 row refl,
-      placed-pushed slab c.insert_reserved-place.new.self c.insert_reserved-place.result row vacant updates spots c.self.invariant.1 c.insert_reserved-place.ensures.len,
+      placed-pushed slab c.insert_reserved-place.new.self c.insert_reserved-place.result row vacant updates spots c.self.invariant.1
+          c.insert_reserved-place.ensures.len,
     )
 
 pub returns-clause-jobs : goal.returns-clause-jobs
@@ -25,7 +29,8 @@ returns-clause-jobs c =
     let slab = c.self.inside.slab in
     let spots = c.self.inside.spots.items in
     let row : JobRow = new_job c.self.inside.next c.args.root c.args.up c.of.result in
-    let more = rows-pushed slab c.insert_reserved-place.new.self c.insert_reserved-place.result row c.insert_reserved-place.ensures.was_vacant c.insert_reserved-place.ensures.updates spots c.self.invariant.1 in
+    let more = rows-pushed slab c.insert_reserved-place.new.self c.insert_reserved-place.result row c.insert_reserved-place.ensures.was_vacant
+    c.insert_reserved-place.ensures.updates spots c.self.invariant.1 in
     rw (← c.self.view_is, c.push_reserved.ensures.items) (rw c.of.ensures at more)
 
 -- no other job has the next id
@@ -34,5 +39,11 @@ returns-clause-there c =
     let slab = c.self.inside.slab in
     let spots = c.self.inside.spots.items in
     let row : JobRow = new_job c.self.inside.next c.args.root c.args.up c.of.result in
-    let more = rows-pushed slab c.insert_reserved-place.new.self c.insert_reserved-place.result row c.insert_reserved-place.ensures.was_vacant c.insert_reserved-place.ensures.updates spots c.self.invariant.1 in
-    rw (c.push_reserved.ensures.items, more, c.of.ensures) (found-opened (rows_of slab spots) c.self.inside.next c.self.invariant.0 (new_job c.self.inside.next c.args.root c.args.up (waiters_of c.args.waiter)) refl)
+    let more = rows-pushed slab c.insert_reserved-place.new.self c.insert_reserved-place.result row c.insert_reserved-place.ensures.was_vacant
+    c.insert_reserved-place.ensures.updates spots c.self.invariant.1 in
+    rw (
+      c.push_reserved.ensures.items,
+      more,
+      c.of.ensures,
+    ) (found-opened (rows_of slab spots) c.self.inside.next c.self.invariant.0
+    (new_job c.self.inside.next c.args.root c.args.up (waiters_of c.args.waiter)) refl)

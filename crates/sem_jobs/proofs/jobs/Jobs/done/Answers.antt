@@ -10,7 +10,8 @@ use Rattle.sem_jobs.proofs.jobs.Jobs.done.Goals as goal
 pub lower-requires : goal.lower-requires
 lower-requires c =
     let jobs : c.args.self.now.jobs ≡ rows_of c.self.inside.slab c.self.inside.spots.items = sym (ap (λ (s : JobStore). s.jobs) c.self.view_is) in
-    let open_at : IsOpenAt c.self.inside.slab c.self.inside.spots.items c.self.inside.next c.args.job c.in-Some.at c.index.result.now c.index_mut-open.result.now = record {
+    let open_at : IsOpenAt c.self.inside.slab c.self.inside.spots.items c.self.inside.next c.args.job c.in-Some.at c.index.result.now
+    c.index_mut-open.result.now = record {
       stored = c.self.invariant;
       place = rw jobs at c.in-Some.ensures.place;
       read = c.index.ensures;
@@ -22,7 +23,8 @@ lower-requires c =
 pub invariant_of-self : goal.invariant_of-self
 invariant_of-self c =
     let jobs : c.args.self.now.jobs ≡ rows_of c.self.inside.slab c.self.inside.spots.items = sym (ap (λ (s : JobStore). s.jobs) c.self.view_is) in
-    let open_at : IsOpenAt c.self.inside.slab c.self.inside.spots.items c.self.inside.next c.args.job c.in-Some.at c.index.result.now c.index_mut-open.result.now = record {
+    let open_at : IsOpenAt c.self.inside.slab c.self.inside.spots.items c.self.inside.next c.args.job c.in-Some.at c.index.result.now
+    c.index_mut-open.result.now = record {
       stored = c.self.invariant;
       place = rw jobs at c.in-Some.ensures.place;
       read = c.index.ensures;
@@ -33,7 +35,8 @@ invariant_of-self c =
 pub returns-clause-jobs : goal.returns-clause-jobs
 returns-clause-jobs c =
     let jobs : c.args.self.now.jobs ≡ rows_of c.self.inside.slab c.self.inside.spots.items = sym (ap (λ (s : JobStore). s.jobs) c.self.view_is) in
-    let open_at : IsOpenAt c.self.inside.slab c.self.inside.spots.items c.self.inside.next c.args.job c.in-Some.at c.index.result.now c.index_mut-open.result.now = record {
+    let open_at : IsOpenAt c.self.inside.slab c.self.inside.spots.items c.self.inside.next c.args.job c.in-Some.at c.index.result.now
+    c.index_mut-open.result.now = record {
       stored = c.self.invariant;
       place = rw jobs at c.in-Some.ensures.place;
       read = c.index.ensures;
@@ -45,7 +48,8 @@ returns-clause-jobs c =
 pub returns-clause-last : goal.returns-clause-last
 returns-clause-last c =
     let jobs : c.args.self.now.jobs ≡ rows_of c.self.inside.slab c.self.inside.spots.items = sym (ap (λ (s : JobStore). s.jobs) c.self.view_is) in
-    let open_at : IsOpenAt c.self.inside.slab c.self.inside.spots.items c.self.inside.next c.args.job c.in-Some.at c.index.result.now c.index_mut-open.result.now = record {
+    let open_at : IsOpenAt c.self.inside.slab c.self.inside.spots.items c.self.inside.next c.args.job c.in-Some.at c.index.result.now
+    c.index_mut-open.result.now = record {
       stored = c.self.invariant;
       place = rw jobs at c.in-Some.ensures.place;
       read = c.index.ensures;
@@ -53,4 +57,9 @@ returns-clause-last c =
     } in
     let there = changed-written open_at c.lower.new.self (λ (x : JobRow). record x { count = x.count - 1 }) c.lower.ensures in
     let count : c.open.inside.outstanding ≡ c.index_mut-open.result.now.count - 1 = ap (λ (x : JobRow). x.count) (c.open.view_is ∙ c.lower.ensures) in
-    rw (there, found-changed c.args.job (λ (x : JobRow). record x { count = x.count - 1 }) (λ x. refl) (rows_of c.self.inside.slab c.self.inside.spots.items), job-here open_at, count) refl
+    rw (
+      there,
+      found-changed c.args.job (λ (x : JobRow). record x { count = x.count - 1 }) (λ x. refl) (rows_of c.self.inside.slab c.self.inside.spots.items),
+      job-here open_at,
+      count,
+    ) refl

@@ -8,7 +8,8 @@ use Rattle.sem_jobs.proofs.jobs.Jobs.get.Goals as goal
 pub returns-clause-job : goal.returns-clause-job
 returns-clause-job c =
     let jobs : c.args.self.now.jobs ≡ rows_of c.self.inside.slab c.self.inside.spots.items = sym (ap (λ (s : JobStore). s.jobs) c.self.view_is) in
-    let open_at : IsOpenAt c.self.inside.slab c.self.inside.spots.items c.self.inside.next c.args.job c.in_ok-at.at c.index.result.now c.index-open.result.now = record {
+    let open_at : IsOpenAt c.self.inside.slab c.self.inside.spots.items c.self.inside.next c.args.job c.in_ok-at.at c.index.result.now c.index-open.result.now =
+    record {
       stored = c.self.invariant;
       place = rw jobs at c.in_ok-at.ensures.place;
       read = c.index.ensures;

@@ -10,7 +10,8 @@ use Rattle.sem_jobs.proofs.jobs.Jobs.keep.Goals as goal
 pub invariant_of-self : goal.invariant_of-self
 invariant_of-self c =
     let jobs : c.args.self.now.jobs ≡ rows_of c.self.inside.slab c.self.inside.spots.items = sym (ap (λ (s : JobStore). s.jobs) c.self.view_is) in
-    let open_at : IsOpenAt c.self.inside.slab c.self.inside.spots.items c.self.inside.next c.args.job c.in-Some.at c.index.result.now c.index_mut-open.result.now = record {
+    let open_at : IsOpenAt c.self.inside.slab c.self.inside.spots.items c.self.inside.next c.args.job c.in-Some.at c.index.result.now
+    c.index_mut-open.result.now = record {
       stored = c.self.invariant;
       place = rw jobs at c.in-Some.ensures.place;
       read = c.index.ensures;
@@ -21,7 +22,8 @@ invariant_of-self c =
 pub returns : goal.returns
 returns c =
     let jobs : c.args.self.now.jobs ≡ rows_of c.self.inside.slab c.self.inside.spots.items = sym (ap (λ (s : JobStore). s.jobs) c.self.view_is) in
-    let open_at : IsOpenAt c.self.inside.slab c.self.inside.spots.items c.self.inside.next c.args.job c.in-Some.at c.index.result.now c.index_mut-open.result.now = record {
+    let open_at : IsOpenAt c.self.inside.slab c.self.inside.spots.items c.self.inside.next c.args.job c.in-Some.at c.index.result.now
+    c.index_mut-open.result.now = record {
       stored = c.self.invariant;
       place = rw jobs at c.in-Some.ensures.place;
       read = c.index.ensures;

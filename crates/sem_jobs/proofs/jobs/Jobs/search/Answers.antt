@@ -13,7 +13,8 @@ returns c =
     let spots = c.self.inside.spots.items in
     let facts = c.binary_search_by_key.ensures in
     let by_id = facts.position (λ (s : IdSpot). s.id) (answers_always _ _ _ (λ f a r g called. search rules)) in
-    let parts = searched slab spots c.self.inside.next c.self.invariant c.args.job _ (rw c.deref.ensures.value at facts.bound) (rw c.deref.ensures.value at by_id) in
+    let parts = searched slab spots c.self.inside.next c.self.invariant c.args.job _ (rw c.deref.ensures.value at facts.bound)
+    (rw c.deref.ensures.value at by_id) in
     let jobs : c.args.self.now.jobs ≡ rows_of slab spots = sym (ap (λ (s : JobStore). s.jobs) c.self.view_is) in
     record {
       place = rw (jobs, c.ok.ensures.value) parts.place;

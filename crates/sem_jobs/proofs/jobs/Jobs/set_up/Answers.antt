@@ -10,7 +10,8 @@ use Rattle.sem_jobs.proofs.jobs.Jobs.set_up.Goals as goal
 pub invariant_of-self : goal.invariant_of-self
 invariant_of-self c =
     let jobs : c.args.self.now.jobs ≡ rows_of c.self.inside.slab c.self.inside.spots.items = sym (ap (λ (s : JobStore). s.jobs) c.self.view_is) in
-    let open_at : IsOpenAt c.self.inside.slab c.self.inside.spots.items c.self.inside.next c.args.job c.in-Some.at c.index.result.now c.index_mut-open.result.now = record {
+    let open_at : IsOpenAt c.self.inside.slab c.self.inside.spots.items c.self.inside.next c.args.job c.in-Some.at c.index.result.now
+    c.index_mut-open.result.now = record {
       stored = c.self.invariant;
       place = rw jobs at c.in-Some.ensures.place;
       read = c.index.ensures;
@@ -21,14 +22,18 @@ invariant_of-self c =
 pub returns : goal.returns
 returns c =
     let jobs : c.args.self.now.jobs ≡ rows_of c.self.inside.slab c.self.inside.spots.items = sym (ap (λ (s : JobStore). s.jobs) c.self.view_is) in
-    let open_at : IsOpenAt c.self.inside.slab c.self.inside.spots.items c.self.inside.next c.args.job c.in-Some.at c.index.result.now c.index_mut-open.result.now = record {
+    let open_at : IsOpenAt c.self.inside.slab c.self.inside.spots.items c.self.inside.next c.args.job c.in-Some.at c.index.result.now
+    c.index_mut-open.result.now = record {
       stored = c.self.invariant;
       place = rw jobs at c.in-Some.ensures.place;
       read = c.index.ensures;
       value = c.index_mut-open.ensures.value;
     } in
-    rw (← c.self.view_is) (same_jobs _ _ _ _ (changed-written open_at c.set_up.new.self (λ (x : JobRow). record x { up = Some c.args.up; keep = false }) c.set_up.ensures))
+    rw (← c.self.view_is)
+    (same_jobs _ _ _ _ (changed-written open_at c.set_up.new.self (λ (x : JobRow). record x { up = Some c.args.up; keep = false }) c.set_up.ensures))
 
 -- there is no such job
 pub returns-in_default : goal.returns-in_default
-returns-in_default c = same_jobs _ _ _ _ (sym (changed-absent c.args.job (λ (x : JobRow). record x { up = Some c.args.up; keep = false }) c.args.self.now.jobs (c.in_default.ensures.absent refl)))
+returns-in_default c =
+    same_jobs _ _ _ _
+    (sym (changed-absent c.args.job (λ (x : JobRow). record x { up = Some c.args.up; keep = false }) c.args.self.now.jobs (c.in_default.ensures.absent refl)))

@@ -16,10 +16,12 @@ invariant_of-self c =
     let place : IsPlaceOf (rows_of slab spots) c.args.job c.in_ok-at.at = rw jobs at c.in_ok-at.ensures.place in
     let within : c.in_ok-at.at < length spots = within-spots slab spots c.args.job c.in_ok-at.at place in
     let left : rows_of c.remove.new.self c.remove-spot.new.self.items ≡ job_removed c.args.job (rows_of slab spots) =
-    rw c.remove-spot.ensures.items (rows-taken slab spots c.self.invariant.1 c.in_ok-at.at within c.remove-spot.result c.remove-spot.ensures.value c.remove.new.self c.remove.ensures.updates)
+    rw c.remove-spot.ensures.items (rows-taken slab spots c.self.invariant.1 c.in_ok-at.at within c.remove-spot.result c.remove-spot.ensures.value
+    c.remove.new.self c.remove.ensures.updates)
     ∙ removed (rows_of slab spots) c.self.inside.next c.self.invariant.0 c.args.job c.in_ok-at.at place c.remove.result in (
       rw left (ids-removed (rows_of slab spots) c.self.inside.next c.self.invariant.0 c.args.job),
-      rw c.remove-spot.ensures.items (placed-taken slab spots c.self.invariant.1 c.in_ok-at.at within c.remove-spot.result c.remove-spot.ensures.value c.remove.new.self c.remove.ensures.updates c.remove.ensures.len),
+      rw c.remove-spot.ensures.items (placed-taken slab spots c.self.invariant.1 c.in_ok-at.at within c.remove-spot.result c.remove-spot.ensures.value
+          c.remove.new.self c.remove.ensures.updates c.remove.ensures.len),
     )
 
 pub returns-clause-job : goal.returns-clause-job
@@ -29,7 +31,8 @@ returns-clause-job c =
     let jobs : c.args.self.now.jobs ≡ rows_of slab spots = sym (ap (λ (s : JobStore). s.jobs) c.self.view_is) in
     let place : IsPlaceOf (rows_of slab spots) c.args.job c.in_ok-at.at = rw jobs at c.in_ok-at.ensures.place in
     let within : c.in_ok-at.at < length spots = within-spots slab spots c.args.job c.in_ok-at.at place in
-    let read = row-read slab spots c.self.invariant.1 c.in_ok-at.at within c.remove-spot.result c.remove-spot.ensures.value c.remove.result c.remove.ensures.value in
+    let read = row-read slab spots c.self.invariant.1 c.in_ok-at.at within c.remove-spot.result c.remove-spot.ensures.value c.remove.result
+    c.remove.ensures.value in
     rw jobs (sym (found (rows_of slab spots) c.self.inside.next c.self.invariant.0 c.args.job c.in_ok-at.at place c.remove.result read))
 
 pub returns-clause-jobs : goal.returns-clause-jobs
@@ -39,8 +42,10 @@ returns-clause-jobs c =
     let jobs : c.args.self.now.jobs ≡ rows_of slab spots = sym (ap (λ (s : JobStore). s.jobs) c.self.view_is) in
     let place : IsPlaceOf (rows_of slab spots) c.args.job c.in_ok-at.at = rw jobs at c.in_ok-at.ensures.place in
     let within : c.in_ok-at.at < length spots = within-spots slab spots c.args.job c.in_ok-at.at place in
-    let left = rows-taken slab spots c.self.invariant.1 c.in_ok-at.at within c.remove-spot.result c.remove-spot.ensures.value c.remove.new.self c.remove.ensures.updates in
-    rw (jobs, c.remove-spot.ensures.items) (left ∙ removed (rows_of slab spots) c.self.inside.next c.self.invariant.0 c.args.job c.in_ok-at.at place c.remove.result)
+    let left = rows-taken slab spots c.self.invariant.1 c.in_ok-at.at within c.remove-spot.result c.remove-spot.ensures.value c.remove.new.self
+    c.remove.ensures.updates in
+    rw (jobs, c.remove-spot.ensures.items) (left
+    ∙ removed (rows_of slab spots) c.self.inside.next c.self.invariant.0 c.args.job c.in_ok-at.at place c.remove.result)
 
 -- there is no such job
 pub returns-in_err-at-clause-jobs : goal.returns-in_err-at-clause-jobs

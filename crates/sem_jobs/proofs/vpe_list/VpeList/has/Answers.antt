@@ -9,7 +9,10 @@ pub returns-then-vpe-lt-VPES-clause-has : goal.returns-then-vpe-lt-VPES-clause-h
 returns-then-vpe-lt-VPES-clause-has c =
     let mask = c.self.inside.mask in
     let read = shr_and_one mask c.args.vpe in
-    rw (← c.self.view_is, read) (λ test. of-bit mask c.args.vpe c.if-vpe-lt-VPES.true (grind (arith, nat_tests)), λ there. let bit = bit-of mask c.args.vpe there in rw bit refl)
+    rw (← c.self.view_is, read) (
+      λ test. of-bit mask c.args.vpe c.if-vpe-lt-VPES.true (grind (arith, nat_tests)),
+      λ there. let bit = bit-of mask c.args.vpe there in rw bit refl,
+    )
 
 pub returns-then-vpe-lt-VPES-clause-list : goal.returns-then-vpe-lt-VPES-clause-list
 returns-then-vpe-lt-VPES-clause-list c = rw (← c.self.view_is) (IsVpeList-vpes_of c.self.inside.mask)

@@ -9,7 +9,8 @@ use Rattle.sem_kernel.proofs.kernel.Kernel.step.Goals as goal
 
 pub invariant_of-self : goal.invariant_of-self
 invariant_of-self c =
-    let enabled : is_locally_enabled c.self.inside.setup c.self.inside.id (side_of c.self.inside.stores) c.args.act ≡ true = rw (← c.self.view_is) at c.requires.enabled in
+    let enabled : is_locally_enabled c.self.inside.setup c.self.inside.id (side_of c.self.inside.stores) c.args.act ≡ true =
+    rw (← c.self.view_is) at c.requires.enabled in
     let side = ap (λ (x : Step). x.side) (rw c.get.ensures at c.act-detail.ensures.step) in
     let are = c.self.invariant.are in
     record {
@@ -17,11 +18,16 @@ invariant_of-self c =
         setup = are.setup;
         is_one = are.is_one;
         stores = rw c.get.ensures at c.act-detail.ensures.stores;
-        sound = subst (IsSound c.self.inside.setup c.self.inside.id) (sym side) (step-sound c.self.inside.setup are.setup c.self.inside.id are.is_one (side_of c.self.inside.stores) are.sound c.args.act enabled c.args.input (sound-input c.args.act c.args.input c.requires.input)).0;
+        sound = subst (IsSound c.self.inside.setup c.self.inside.id) (sym side)
+            (step-sound c.self.inside.setup are.setup c.self.inside.id are.is_one (side_of c.self.inside.stores) are.sound c.args.act enabled c.args.input
+            (sound-input c.args.act c.args.input c.requires.input)).0;
       };
       room = tt;
       known = c.self.invariant.known;
     }
 
 pub returns-clause-entry : goal.returns-clause-entry
-returns-clause-entry c = rw (← c.self.view_is) (entry-is c.self.inside.setup c.self.inside.id (side_of c.self.inside.stores) c.args.act c.args.input c.act-detail.result.0 c.act-detail.result.1 c.reply_of.result (side_of c.act-detail.new.self) (rw c.get.ensures at c.act-detail.ensures.step) (rw c.get.ensures at c.act-detail.ensures.detail_is) c.reply_of.ensures)
+returns-clause-entry c =
+    rw (← c.self.view_is) (entry-is c.self.inside.setup c.self.inside.id (side_of c.self.inside.stores) c.args.act c.args.input c.act-detail.result.0
+    c.act-detail.result.1 c.reply_of.result (side_of c.act-detail.new.self) (rw c.get.ensures at c.act-detail.ensures.step)
+    (rw c.get.ensures at c.act-detail.ensures.detail_is) c.reply_of.ensures)

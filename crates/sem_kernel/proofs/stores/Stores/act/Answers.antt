@@ -8,10 +8,12 @@ pub returns-in-Handle : goal.returns-in-Handle
 returns-in-Handle c = does-handle c.args.setup.now c.args.kernel c.args.self.now c.args.input.now _ _ _ 0 c.args.act c.in-Handle.is c.handle_next.ensures
 
 pub returns-in-Upcall : goal.returns-in-Upcall
-returns-in-Upcall c = does-upcall c.args.setup.now c.args.kernel c.args.self.now c.args.input.now _ _ _ c.in-Upcall.vpe c.args.act c.in-Upcall.is c.be_asked.ensures
+returns-in-Upcall c = does-upcall c.args.setup.now c.args.kernel c.args.self.now c.args.input.now _ _ _ c.in-Upcall.vpe c.args.act c.in-Upcall.is
+    c.be_asked.ensures
 
 pub returns-in-Resume : goal.returns-in-Resume
-returns-in-Resume c = does-resume c.args.setup.now c.args.kernel c.args.self.now c.args.input.now _ _ _ c.in-Resume.vpe c.args.act c.in-Resume.is c.go_on.ensures
+returns-in-Resume c = does-resume c.args.setup.now c.args.kernel c.args.self.now c.args.input.now _ _ _ c.in-Resume.vpe c.args.act c.in-Resume.is
+    c.go_on.ensures
 
 pub returns-in-Flush : goal.returns-in-Flush
 returns-in-Flush c = does-flush c.args.setup.now c.args.kernel c.args.self.now c.args.input.now _ _ _ c.in-Flush.to c.args.act c.in-Flush.is c.flush.ensures

@@ -7,7 +7,8 @@ pub offer_call-requires-clause-declared : goal.offer_call-requires-clause-declar
 offer_call-requires-clause-declared c = declared-here c.args.setup.now c.requires.are.setup c.args.kernel c.requires.are.is_one c.args.vpe c.requires.here
 
 pub offer_call-requires-clause-session : goal.offer_call-requires-clause-session
-offer_call-requires-clause-session c = own-sound c.args.setup.now c.requires.are.setup c.args.kernel c.requires.are.is_one (side_of c.args.self.now) c.requires.are.sound c.args.vpe c.args.session (λ p. IsSoundObject c.args.setup.now p.object) (λ p among sound. sound.object)
+offer_call-requires-clause-session c = own-sound c.args.setup.now c.requires.are.setup c.args.kernel c.requires.are.is_one
+    (side_of c.args.self.now) c.requires.are.sound c.args.vpe c.args.session (λ p. IsSoundObject c.args.setup.now p.object) (λ p among sound. sound.object)
 
 pub returns-clause-row : goal.returns-clause-row
 returns-clause-row c = c.offer_call.ensures.row (side_of c.args.self.now)

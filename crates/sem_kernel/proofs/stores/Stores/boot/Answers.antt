@@ -16,9 +16,22 @@ returns-clause-side c =
     side-start c.args.setup.now valid c.args.kernel c.requires _ c.in_ok-start_caps.ensures
     (ap (λ (t : VpeTable). t.rows) c.in_ok-new.ensures.start)
     (ap (λ (t : EndpointTable). t.rows) c.in_ok-new-2.ensures)
-    (ap (λ ps. record no_side { parks = ps; pendings = c.in_ok-new-3.field-0.pendings; jobs = c.in_ok-new-4.field-0.jobs; next_job = c.in_ok-new-4.field-0.next; outs = c.in_ok-new-5.field-0.boxes }) c.new-3.ensures.none
-    ∙ (ap (λ ps. record no_side { parks = replicate VPES None; pendings = ps; jobs = c.in_ok-new-4.field-0.jobs; next_job = c.in_ok-new-4.field-0.next; outs = c.in_ok-new-5.field-0.boxes }) c.in_ok-new-3.ensures
-    ∙ (ap (λ js. record no_side { parks = replicate VPES None; jobs = js; next_job = c.in_ok-new-4.field-0.next; outs = c.in_ok-new-5.field-0.boxes }) c.in_ok-new-4.ensures.jobs
+    (ap (λ ps. record no_side {
+      parks = ps;
+      pendings = c.in_ok-new-3.field-0.pendings;
+      jobs = c.in_ok-new-4.field-0.jobs;
+      next_job = c.in_ok-new-4.field-0.next;
+      outs = c.in_ok-new-5.field-0.boxes;
+    }) c.new-3.ensures.none
+    ∙ (ap (λ ps. record no_side {
+      parks = replicate VPES None;
+      pendings = ps;
+      jobs = c.in_ok-new-4.field-0.jobs;
+      next_job = c.in_ok-new-4.field-0.next;
+      outs = c.in_ok-new-5.field-0.boxes;
+    }) c.in_ok-new-3.ensures
+    ∙ (ap (λ js. record no_side { parks = replicate VPES None; jobs = js; next_job = c.in_ok-new-4.field-0.next; outs = c.in_ok-new-5.field-0.boxes })
+    c.in_ok-new-4.ensures.jobs
     ∙ (ap (λ n. record no_side { parks = replicate VPES None; next_job = n; outs = c.in_ok-new-5.field-0.boxes }) c.in_ok-new-4.ensures.next
     ∙ ap (λ bs. record no_side { parks = replicate VPES None; outs = bs }) outs))))
 

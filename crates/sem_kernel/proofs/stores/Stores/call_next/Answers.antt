@@ -14,7 +14,8 @@ use Rattle.sem_kernel.specs.KernelStores.{side_of}
 use Rattle.sem_kernel.proofs.stores.Stores.call_next.Goals as goal
 
 pub next_call-index-requires : goal.next_call-index-requires
-next_call-index-requires c = c.requires.are.stores.vpes c.args.vpe (call-here c.args.setup.now c.args.kernel (side_of c.args.self.now) c.args.vpe c.requires.enabled)
+next_call-index-requires c =
+    c.requires.are.stores.vpes c.args.vpe (call-here c.args.setup.now c.args.kernel (side_of c.args.self.now) c.args.vpe c.requires.enabled)
 
 pub next_call-requires-clause-here : goal.next_call-requires-clause-here
 next_call-requires-clause-here c = call-here c.args.setup.now c.args.kernel (side_of c.args.self.now) c.args.vpe c.requires.enabled
@@ -29,10 +30,12 @@ unreachable-requires c =
     clash no' = cc
 
 pub advance-requires-clause-ours : goal.advance-requires-clause-ours
-advance-requires-clause-ours c = c.requires.are.stores.vpes c.args.vpe (call-here c.args.setup.now c.args.kernel (side_of c.args.self.now) c.args.vpe c.requires.enabled)
+advance-requires-clause-ours c =
+    c.requires.are.stores.vpes c.args.vpe (call-here c.args.setup.now c.args.kernel (side_of c.args.self.now) c.args.vpe c.requires.enabled)
 
 pub advance-requires-clause-few : goal.advance-requires-clause-few
-advance-requires-clause-few c = calls-fit c.args.setup.now c.requires.are.setup c.args.kernel c.requires.are.is_one (side_of c.args.self.now) c.requires.are.sound c.args.vpe
+advance-requires-clause-few c = calls-fit c.args.setup.now c.requires.are.setup c.args.kernel c.requires.are.is_one
+    (side_of c.args.self.now) c.requires.are.sound c.args.vpe
 
 pub call-outcome-requires-clause-are : goal.call-outcome-requires-clause-are
 call-outcome-requires-clause-are c =
@@ -41,11 +44,14 @@ call-outcome-requires-clause-are c =
       setup = c.requires.are.setup;
       is_one = c.requires.are.is_one;
       stores = record {
-        vpes = λ v here. subst (λ o. IsTrue (slice_index_or o v false)) (sym (ap (λ (t : VpeTable). t.ours) c.advance.ensures)) (c.requires.are.stores.vpes v here);
+        vpes = λ v here. subst (λ o. IsTrue (slice_index_or o v false)) (sym (ap (λ (t : VpeTable). t.ours) c.advance.ensures))
+            (c.requires.are.stores.vpes v here);
         endpoints = c.requires.are.stores.endpoints;
         boxes = c.requires.are.stores.boxes;
       };
-      sound = counted-sound_side c.args.setup.now c.requires.are.setup c.args.kernel c.requires.are.is_one (side_of c.args.self.now) c.requires.are.sound c.args.vpe (call-here c.args.setup.now c.args.kernel (side_of c.args.self.now) c.args.vpe c.requires.enabled) c.advance.new.self.rows (ap (λ (t : VpeTable). t.rows) c.advance.ensures) c.in-Some.call next;
+      sound = counted-sound_side c.args.setup.now c.requires.are.setup c.args.kernel c.requires.are.is_one (side_of c.args.self.now) c.requires.are.sound
+          c.args.vpe (call-here c.args.setup.now c.args.kernel (side_of c.args.self.now) c.args.vpe c.requires.enabled) c.advance.new.self.rows
+          (ap (λ (t : VpeTable). t.rows) c.advance.ensures) c.in-Some.call next;
     }
 
 pub call-outcome-requires-clause-here : goal.call-outcome-requires-clause-here
@@ -57,7 +63,9 @@ call-outcome-requires-clause-idle c = none-is _ (call-idle c.args.setup.now c.ar
 pub call-outcome-requires-clause-pays : goal.call-outcome-requires-clause-pays
 call-outcome-requires-clause-pays c =
     let next : next_call c.args.setup.now (side_of c.args.self.now) c.args.vpe ≡ Some c.in-Some.call = search rules in
-    counted-pays_side c.args.setup.now c.requires.are.setup c.args.kernel c.requires.are.is_one (side_of c.args.self.now) c.requires.are.sound c.args.vpe (call-here c.args.setup.now c.args.kernel (side_of c.args.self.now) c.args.vpe c.requires.enabled) c.advance.new.self.rows (ap (λ (t : VpeTable). t.rows) c.advance.ensures) c.in-Some.call next
+    counted-pays_side c.args.setup.now c.requires.are.setup c.args.kernel c.requires.are.is_one (side_of c.args.self.now) c.requires.are.sound c.args.vpe
+    (call-here c.args.setup.now c.args.kernel (side_of c.args.self.now) c.args.vpe c.requires.enabled) c.advance.new.self.rows
+    (ap (λ (t : VpeTable). t.rows) c.advance.ensures) c.in-Some.call next
 
 pub call-outcome-requires-clause-valid : goal.call-outcome-requires-clause-valid
 call-outcome-requires-clause-valid c =
@@ -70,7 +78,11 @@ call-outcome-requires-clause-room c =
     let room = c.requires.ready.room refl in
     record {
       caps = room.caps;
-      child = room.child ∙ ap (held_key c.args.self.now.caps.caps) (counted-parent_side c.args.setup.now c.requires.are.setup c.args.kernel c.requires.are.is_one (side_of c.args.self.now) c.requires.are.sound c.args.vpe (call-here c.args.setup.now c.args.kernel (side_of c.args.self.now) c.args.vpe c.requires.enabled) c.advance.new.self.rows (ap (λ (t : VpeTable). t.rows) c.advance.ensures) c.in-Some.call next);
+      child = room.child
+          ∙ ap (held_key c.args.self.now.caps.caps) (counted-parent_side c.args.setup.now c.requires.are.setup c.args.kernel c.requires.are.is_one
+          (side_of c.args.self.now) c.requires.are.sound c.args.vpe
+          (call-here c.args.setup.now c.args.kernel (side_of c.args.self.now) c.args.vpe c.requires.enabled) c.advance.new.self.rows
+          (ap (λ (t : VpeTable). t.rows) c.advance.ensures) c.in-Some.call next);
       pendings = room.pendings;
       outs = room.outs;
       gone = room.gone;
@@ -80,7 +92,9 @@ pub call-outcome-requires-clause-revoke : goal.call-outcome-requires-clause-revo
 call-outcome-requires-clause-revoke c revoking =
     let next : next_call c.args.setup.now (side_of c.args.self.now) c.args.vpe ≡ Some c.in-Some.call = search rules in
     let room = c.requires.ready.revoke (ap (λ (o : Option Call). option_map_or is_revoking o false) next ∙ revoking) in
-    let asks = ap length (counted-asks c.args.setup.now c.requires.are.setup c.args.kernel c.requires.are.is_one (side_of c.args.self.now) c.requires.are.sound c.args.vpe (call-here c.args.setup.now c.args.kernel (side_of c.args.self.now) c.args.vpe c.requires.enabled) c.advance.new.self.rows (ap (λ (t : VpeTable). t.rows) c.advance.ensures) c.in-Some.call next) in
+    let asks = ap length (counted-asks c.args.setup.now c.requires.are.setup c.args.kernel c.requires.are.is_one (side_of c.args.self.now) c.requires.are.sound
+    c.args.vpe (call-here c.args.setup.now c.args.kernel (side_of c.args.self.now) c.args.vpe c.requires.enabled) c.advance.new.self.rows
+    (ap (λ (t : VpeTable). t.rows) c.advance.ensures) c.in-Some.call next) in
     record {
       jobs = room.jobs;
       outs = (let have = room.outs in omega (arith, have, asks));
@@ -94,7 +108,9 @@ pub returns : goal.returns
 returns c =
     let next : next_call c.args.setup.now (side_of c.args.self.now) c.args.vpe ≡ Some c.in-Some.call = search rules in
     record {
-      step = call-step c.args.setup.now c.args.kernel c.args.vpe (side_of c.args.self.now) c.advance.new.self.rows c.in-Some.call _ (ap (λ (t : VpeTable). t.rows) c.advance.ensures) next c.call-outcome.ensures.row;
-      detail_is = call-detail c.args.setup.now c.args.vpe c.next_call-index.result (side_of c.args.self.now) c.in-Some.call c.call-outcome.result c.next_call-index.ensures next;
+      step = call-step c.args.setup.now c.args.kernel c.args.vpe (side_of c.args.self.now) c.advance.new.self.rows c.in-Some.call _
+          (ap (λ (t : VpeTable). t.rows) c.advance.ensures) next c.call-outcome.ensures.row;
+      detail_is = call-detail c.args.setup.now c.args.vpe c.next_call-index.result (side_of c.args.self.now) c.in-Some.call c.call-outcome.result
+          c.next_call-index.ensures next;
       stores = c.call-outcome.ensures.stores;
     }

@@ -7,7 +7,8 @@ pub delegate_call-requires-clause-declared : goal.delegate_call-requires-clause-
 delegate_call-requires-clause-declared c = declared-here c.args.setup.now c.requires.are.setup c.args.kernel c.requires.are.is_one c.args.vpe c.requires.here
 
 pub delegate_call-requires-clause-valid : goal.delegate_call-requires-clause-valid
-delegate_call-requires-clause-valid c = own-sound c.args.setup.now c.requires.are.setup c.args.kernel c.requires.are.is_one (side_of c.args.self.now) c.requires.are.sound c.args.vpe c.args.src IsOfKind (λ p among sound. (sound.object.0, sound.kind))
+delegate_call-requires-clause-valid c = own-sound c.args.setup.now c.requires.are.setup c.args.kernel c.requires.are.is_one
+    (side_of c.args.self.now) c.requires.are.sound c.args.vpe c.args.src IsOfKind (λ p among sound. (sound.object.0, sound.kind))
 
 pub returns-clause-row : goal.returns-clause-row
 returns-clause-row c = c.delegate_call.ensures.row (side_of c.args.self.now)

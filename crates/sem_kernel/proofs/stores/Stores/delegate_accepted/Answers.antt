@@ -4,10 +4,12 @@ use Rattle.sem_kernel.proofs.Expected.{delegate_prepared-expected}
 use Rattle.sem_kernel.proofs.stores.Stores.delegate_accepted.Goals as goal
 
 pub delegate_prepared-requires-clause-vpe : goal.delegate_prepared-requires-clause-vpe
-delegate_prepared-requires-clause-vpe c = (delegate_prepared-expected c.args.setup.now c.args.kernel (side_of c.args.self.now) c.args.parent c.args.key c.requires.expected).0
+delegate_prepared-requires-clause-vpe c =
+    (delegate_prepared-expected c.args.setup.now c.args.kernel (side_of c.args.self.now) c.args.parent c.args.key c.requires.expected).0
 
 pub delegate_prepared-requires-clause-owner : goal.delegate_prepared-requires-clause-owner
-delegate_prepared-requires-clause-owner c = declared-below c.args.setup.now c.requires.are.setup c.args.key.pe c.args.key.vpe (delegate_prepared-expected c.args.setup.now c.args.kernel (side_of c.args.self.now) c.args.parent c.args.key c.requires.expected).1
+delegate_prepared-requires-clause-owner c = declared-below c.args.setup.now c.requires.are.setup c.args.key.pe c.args.key.vpe
+    (delegate_prepared-expected c.args.setup.now c.args.kernel (side_of c.args.self.now) c.args.parent c.args.key c.requires.expected).1
 
 pub returns-clause-row : goal.returns-clause-row
 returns-clause-row c = c.delegate_prepared.ensures.row c.args.from (side_of c.args.self.now)

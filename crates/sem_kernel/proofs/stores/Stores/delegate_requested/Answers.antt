@@ -4,13 +4,16 @@ use Rattle.sem_kernel.proofs.Expected.{delegate_req-expected}
 use Rattle.sem_kernel.proofs.stores.Stores.delegate_requested.Goals as goal
 
 pub delegate_request-requires-clause-vpe : goal.delegate_request-requires-clause-vpe
-delegate_request-requires-clause-vpe c = (delegate_req-expected c.args.setup.now c.args.kernel (side_of c.args.self.now) c.args.parent c.args.object c.args.vpe c.args.sel c.requires.expected).0
+delegate_request-requires-clause-vpe c =
+    (delegate_req-expected c.args.setup.now c.args.kernel (side_of c.args.self.now) c.args.parent c.args.object c.args.vpe c.args.sel c.requires.expected).0
 
 pub delegate_request-requires-clause-other : goal.delegate_request-requires-clause-other
-delegate_request-requires-clause-other c = (delegate_req-expected c.args.setup.now c.args.kernel (side_of c.args.self.now) c.args.parent c.args.object c.args.vpe c.args.sel c.requires.expected).1
+delegate_request-requires-clause-other c =
+    (delegate_req-expected c.args.setup.now c.args.kernel (side_of c.args.self.now) c.args.parent c.args.object c.args.vpe c.args.sel c.requires.expected).1
 
 pub delegate_request-requires-clause-owner : goal.delegate_request-requires-clause-owner
-delegate_request-requires-clause-owner c = declared-below c.args.setup.now c.requires.are.setup c.args.parent.pe c.args.parent.vpe (delegate_req-expected c.args.setup.now c.args.kernel (side_of c.args.self.now) c.args.parent c.args.object c.args.vpe c.args.sel c.requires.expected).2
+delegate_request-requires-clause-owner c = declared-below c.args.setup.now c.requires.are.setup c.args.parent.pe c.args.parent.vpe
+    (delegate_req-expected c.args.setup.now c.args.kernel (side_of c.args.self.now) c.args.parent c.args.object c.args.vpe c.args.sel c.requires.expected).2
 
 pub returns-clause-row : goal.returns-clause-row
 returns-clause-row c = c.delegate_request.ensures.row c.args.from (side_of c.args.self.now)

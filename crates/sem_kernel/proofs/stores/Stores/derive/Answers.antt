@@ -6,7 +6,8 @@ pub derive_call-requires-clause-declared : goal.derive_call-requires-clause-decl
 derive_call-requires-clause-declared c = declared-here c.args.setup.now c.requires.are.setup c.args.kernel c.requires.are.is_one c.args.vpe c.requires.here
 
 pub derive_call-requires-clause-free : goal.derive_call-requires-clause-free
-derive_call-requires-clause-free c = next-absent c.args.setup.now c.requires.are.setup c.args.kernel c.requires.are.is_one (side_of c.args.self.now) c.requires.are.sound c.args.vpe
+derive_call-requires-clause-free c = next-absent c.args.setup.now c.requires.are.setup c.args.kernel c.requires.are.is_one
+    (side_of c.args.self.now) c.requires.are.sound c.args.vpe
 
 pub returns-clause-row : goal.returns-clause-row
 returns-clause-row c = c.derive_call.ensures.row (side_of c.args.self.now)

@@ -25,6 +25,7 @@ returns c =
       stores = record {
         vpes = c.requires.are.stores.vpes;
         endpoints = c.requires.are.stores.endpoints;
-        boxes = boxes-sent c.args.setup.now c.args.self.now.outs c.pop-message.new.self c.args.to _ (omega (arith, to, boxes)) c.pop-message.ensures.boxes c.requires.are.stores.boxes;
+        boxes = boxes-sent c.args.setup.now c.args.self.now.outs c.pop-message.new.self c.args.to _ (omega (arith, to, boxes)) c.pop-message.ensures.boxes
+            c.requires.are.stores.boxes;
       };
     }

@@ -9,7 +9,8 @@ use Rattle.sem_kernel.proofs.Nexts.{handle-step, handle-detail}
 use Rattle.sem_kernel.proofs.stores.Stores.handle_next.Goals as goal
 
 pub unreachable-requires : goal.unreachable-requires
-unreachable-requires c = clash (sym (ap (λ (o : Option (ℕ × Message)). is_some o) c.in_default.is) ∙ handle-some c.args.setup.now c.args.kernel (side_of c.args.self.now) c.requires.enabled)
+unreachable-requires c = clash (sym (ap (λ (o : Option (ℕ × Message)). is_some o) c.in_default.is)
+    ∙ handle-some c.args.setup.now c.args.kernel (side_of c.args.self.now) c.requires.enabled)
   where
     clash : false ≡ true → ⊥
     clash no' = cc
@@ -23,7 +24,9 @@ pub returns : goal.returns
 returns c =
     let inbox : c.args.self.now.inbox ≡ Some (c.in-Some.from, c.in-Some.message) = search rules in
     record {
-      step = ap (λ (o : Outcome). step_of (side_of c.receive.new.self) o) c.nothing.ensures ∙ handle-step c.args.setup.now c.args.kernel (side_of c.args.self.now) (side_of c.receive.new.self) c.in-Some.from c.in-Some.message inbox c.receive.ensures.row;
+      step = ap (λ (o : Outcome). step_of (side_of c.receive.new.self) o) c.nothing.ensures
+          ∙ handle-step c.args.setup.now c.args.kernel (side_of c.args.self.now) (side_of c.receive.new.self) c.in-Some.from c.in-Some.message inbox
+          c.receive.ensures.row;
       detail_is = handle-detail c.args.setup.now (side_of c.args.self.now) c.in-Some.from c.in-Some.message c.nothing.result inbox;
       stores = c.receive.ensures.stores;
     }

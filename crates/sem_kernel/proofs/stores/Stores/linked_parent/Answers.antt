@@ -6,13 +6,20 @@ use Rattle.sem_kernel.proofs.Enabled.{call-here, upcall-here, resume-here}
 use Rattle.sem_kernel.proofs.stores.Stores.linked_parent.Goals as goal
 
 pub next_call-requires-clause-here : goal.next_call-requires-clause-here
-next_call-requires-clause-here c = call-here c.args.setup.now c.args.kernel (side_of c.args.self.now) c.in-Call.vpe (ap (is_locally_enabled c.args.setup.now c.args.kernel (side_of c.args.self.now)) (sym c.in-Call.is) ∙ c.requires.enabled)
+next_call-requires-clause-here c = call-here c.args.setup.now c.args.kernel (side_of c.args.self.now) c.in-Call.vpe
+    (ap (is_locally_enabled c.args.setup.now c.args.kernel (side_of c.args.self.now)) (sym c.in-Call.is) ∙ c.requires.enabled)
 
 pub called_parent-requires-clause-here : goal.called_parent-requires-clause-here
-called_parent-requires-clause-here c = call-here c.args.setup.now c.args.kernel (side_of c.args.self.now) c.in-Call.vpe (ap (is_locally_enabled c.args.setup.now c.args.kernel (side_of c.args.self.now)) (sym c.in-Call.is) ∙ c.requires.enabled)
+called_parent-requires-clause-here c = call-here c.args.setup.now c.args.kernel (side_of c.args.self.now) c.in-Call.vpe
+    (ap (is_locally_enabled c.args.setup.now c.args.kernel (side_of c.args.self.now)) (sym c.in-Call.is) ∙ c.requires.enabled)
 
 pub asked_parent-requires-clause-here : goal.asked_parent-requires-clause-here
-asked_parent-requires-clause-here c = upcall-here c.args.setup.now c.args.kernel (side_of c.args.self.now) c.in-Upcall.vpe (ap (is_locally_enabled c.args.setup.now c.args.kernel (side_of c.args.self.now)) (sym c.in-Upcall.is) ∙ c.requires.enabled)
+asked_parent-requires-clause-here c = upcall-here c.args.setup.now c.args.kernel (side_of c.args.self.now) c.in-Upcall.vpe
+    (ap (is_locally_enabled c.args.setup.now c.args.kernel (side_of c.args.self.now)) (sym c.in-Upcall.is) ∙ c.requires.enabled)
 
 pub state-requires : goal.state-requires
-state-requires c = kernel-vpe c.args.setup.now c.requires.are.setup c.in-Resume.vpe (subst (λ k. k < c.args.setup.now.kernels) (sym (resume-here c.args.setup.now c.args.kernel (side_of c.args.self.now) c.in-Resume.vpe (ap (is_locally_enabled c.args.setup.now c.args.kernel (side_of c.args.self.now)) (sym c.in-Resume.is) ∙ c.requires.enabled))) c.requires.are.is_one)
+state-requires c =
+    kernel-vpe c.args.setup.now c.requires.are.setup c.in-Resume.vpe
+    (subst (λ k. k < c.args.setup.now.kernels)
+    (sym (resume-here c.args.setup.now c.args.kernel (side_of c.args.self.now) c.in-Resume.vpe
+    (ap (is_locally_enabled c.args.setup.now c.args.kernel (side_of c.args.self.now)) (sym c.in-Resume.is) ∙ c.requires.enabled))) c.requires.are.is_one)

@@ -8,7 +8,8 @@ use Rattle.sem_kernel.proofs.stores.Stores.resume.Goals as goal
 pub obtain_resume-requires-clause-waits : goal.obtain_resume-requires-clause-waits
 obtain_resume-requires-clause-waits c =
     let ends : ends_obtain (parked (side_of c.args.self.now) c.args.vpe) ≡ true = search rules in
-    can-end c.args.setup.now c.requires.are.setup c.args.kernel c.requires.are.is_one c.args.self.now c.requires.are.sound c.args.vpe (parked (side_of c.args.self.now) c.args.vpe) refl ends
+    can-end c.args.setup.now c.requires.are.setup c.args.kernel c.requires.are.is_one c.args.self.now c.requires.are.sound c.args.vpe
+    (parked (side_of c.args.self.now) c.args.vpe) refl ends
 
 pub returns-then-ends_obtain-clause-row : goal.returns-then-ends_obtain-clause-row
 returns-then-ends_obtain-clause-row c = c.obtain_resume.ensures.row c.args.setup.now (side_of c.args.self.now)
@@ -16,7 +17,8 @@ returns-then-ends_obtain-clause-row c = c.obtain_resume.ensures.row c.args.setup
 pub delegate_resume-requires-clause-waits : goal.delegate_resume-requires-clause-waits
 delegate_resume-requires-clause-waits c =
     let ends : ends_delegate (parked (side_of c.args.self.now) c.args.vpe) ≡ true = search rules in
-    can-grant c.args.setup.now c.requires.are.setup c.args.kernel c.requires.are.is_one c.args.self.now c.requires.are.sound c.args.vpe (parked (side_of c.args.self.now) c.args.vpe) refl ends c.requires.room.child
+    can-grant c.args.setup.now c.requires.are.setup c.args.kernel c.requires.are.is_one c.args.self.now c.requires.are.sound c.args.vpe
+    (parked (side_of c.args.self.now) c.args.vpe) refl ends c.requires.room.child
 
 pub returns-then-ends_delegate-clause-row : goal.returns-then-ends_delegate-clause-row
 returns-then-ends_delegate-clause-row c = c.delegate_resume.ensures.row (side_of c.args.self.now)

@@ -37,14 +37,18 @@ loop-at-preserved c =
     let at = c.loop-at.at in
     let k = c.index-key.result.now in
     let below : at < length keys = omega (arith, c.loop-at-test.true, c.len-at-end.ensures) in
-    let taken : take (at + 1) keys ≡ take at keys ++ k ∷ [] = take_more keys at k below ∙ ap (λ x. take at keys ++ x ∷ []) (sym (listed c.loop-at.self c.args.self.now at k c.loop-at.invariant.ended c.index-key.ensures)) in
+    let taken : take (at + 1) keys ≡ take at keys ++ k ∷ [] = take_more keys at k below
+    ∙ ap (λ x. take at keys ++ x ∷ []) (sym (listed c.loop-at.self c.args.self.now at k c.loop-at.invariant.ended c.index-key.ensures)) in
     record {
-      row = c.revoke_if_left.ensures.row ∙ (ap (f k) c.loop-at.invariant.row ∙ sym (ap (λ ks. in_turn f ks (side_of c.args.self.now)) taken ∙ in_turn-append f (take at keys) (k ∷ []) (side_of c.args.self.now)));
+      row = c.revoke_if_left.ensures.row
+          ∙ (ap (f k) c.loop-at.invariant.row
+          ∙ sym (ap (λ ks. in_turn f ks (side_of c.args.self.now)) taken ∙ in_turn-append f (take at keys) (k ∷ []) (side_of c.args.self.now)));
       are = record {
         setup = c.requires.are.setup;
         is_one = c.requires.are.is_one;
         stores = c.revoke_if_left.ensures.stores;
-        sound = subst (IsSound c.args.setup.now c.args.kernel) (sym c.revoke_if_left.ensures.row) (left-sound c.args.setup.now c.requires.are.setup c.args.kernel c.requires.are.is_one (side_of c.loop-at.self) c.loop-at.invariant.are.sound k);
+        sound = subst (IsSound c.args.setup.now c.args.kernel) (sym c.revoke_if_left.ensures.row)
+            (left-sound c.args.setup.now c.requires.are.setup c.args.kernel c.requires.are.is_one (side_of c.loop-at.self) c.loop-at.invariant.are.sound k);
       };
       room = λ n same. c.revoke_if_left.ensures.room n (c.loop-at.invariant.room (n + 1) (omega (arith, same)));
       ended = c.revoke_if_left.ensures.ended ∙ c.loop-at.invariant.ended;

@@ -9,7 +9,9 @@ enter-entered-requires-clause-kernel g c =
     let l = c.step-entry.new.self in
     let p = c.self.inside.pass in
     let e = c.step-entry.result in
-    let made : IsMade T l p c.args.act e = step-made T c.self.inside.kernel c.room.new.self l p c.args.act 0 c.enabled.result None e c.self.invariant.0 c.enabled.ensures c.if-not-enabled.false c.in_ok-room.ensures.ok (own-input c.args.act c.requires) c.step-entry.ensures.entry c.step-entry.ensures.step in
+    let made : IsMade T l p c.args.act e = step-made T c.self.inside.kernel c.room.new.self l p c.args.act 0 c.enabled.result None e c.self.invariant.0
+    c.enabled.ensures c.if-not-enabled.false c.in_ok-room.ensures.ok (own-input c.args.act c.requires) c.step-entry.ensures.entry c.step-entry.ensures.step
+    in
     made-kernel-on T l p c.reserve.new.pass c.args.act e made c.reserve.ensures.same
 
 pub enter-entered-requires-clause-own : goal.enter-entered-requires-clause-own
@@ -18,7 +20,9 @@ enter-entered-requires-clause-own g c =
     let l = c.step-entry.new.self in
     let p = c.self.inside.pass in
     let e = c.step-entry.result in
-    let made : IsMade T l p c.args.act e = step-made T c.self.inside.kernel c.room.new.self l p c.args.act 0 c.enabled.result None e c.self.invariant.0 c.enabled.ensures c.if-not-enabled.false c.in_ok-room.ensures.ok (own-input c.args.act c.requires) c.step-entry.ensures.entry c.step-entry.ensures.step in
+    let made : IsMade T l p c.args.act e = step-made T c.self.inside.kernel c.room.new.self l p c.args.act 0 c.enabled.result None e c.self.invariant.0
+    c.enabled.ensures c.if-not-enabled.false c.in_ok-room.ensures.ok (own-input c.args.act c.requires) c.step-entry.ensures.entry c.step-entry.ensures.step
+    in
     subst IsOwnAct (sym made.act) c.requires
 
 pub invariant_of-self-2 : goal.invariant_of-self-2
@@ -27,5 +31,11 @@ invariant_of-self-2 g c =
     let l = c.step-entry.new.self in
     let p = c.self.inside.pass in
     let e = c.step-entry.result in
-    let made : IsMade T l p c.args.act e = step-made T c.self.inside.kernel c.room.new.self l p c.args.act 0 c.enabled.result None e c.self.invariant.0 c.enabled.ensures c.if-not-enabled.false c.in_ok-room.ensures.ok (own-input c.args.act c.requires) c.step-entry.ensures.entry c.step-entry.ensures.step in
-    (made-on T l p c.reserve.new.pass c.enter-entered.new.pass c.args.act e made c.reserve.ensures.same c.enter-entered.ensures.kernel c.enter-entered.ensures.entries, c.enter-entered.ensures.free, c.enter-entered.ensures.place)
+    let made : IsMade T l p c.args.act e = step-made T c.self.inside.kernel c.room.new.self l p c.args.act 0 c.enabled.result None e c.self.invariant.0
+    c.enabled.ensures c.if-not-enabled.false c.in_ok-room.ensures.ok (own-input c.args.act c.requires) c.step-entry.ensures.entry c.step-entry.ensures.step
+    in (
+      made-on T l p c.reserve.new.pass c.enter-entered.new.pass c.args.act e made c.reserve.ensures.same c.enter-entered.ensures.kernel
+          c.enter-entered.ensures.entries,
+      c.enter-entered.ensures.free,
+      c.enter-entered.ensures.place,
+    )

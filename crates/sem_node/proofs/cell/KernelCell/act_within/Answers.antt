@@ -3,29 +3,41 @@ use Rattle.sem_node.proofs.cell.KernelCell.act_within.Goals as goal
 
 pub turn_step-tried-requires : goal.turn_step-tried-requires
 turn_step-tried-requires g c =
-    can-try g.N.RunName.setup c.self.inside.kernel c.room.new.self c.self.inside.pass c.take-fabric.new.pass c.args.act 18446744073709551615 c.enabled.result c.take-fabric.result
-    c.self.invariant.0 c.enabled.ensures c.if-not-enabled.false c.in_ok-room.ensures.ok c.take-fabric.ensures.pass c.take-fabric.ensures.entries c.take-fabric.ensures.whole
+    can-try g.N.RunName.setup c.self.inside.kernel c.room.new.self c.self.inside.pass c.take-fabric.new.pass c.args.act 18446744073709551615 c.enabled.result
+    c.take-fabric.result
+    c.self.invariant.0 c.enabled.ensures c.if-not-enabled.false c.in_ok-room.ensures.ok c.take-fabric.ensures.pass c.take-fabric.ensures.entries
+    c.take-fabric.ensures.whole
 
 pub give_back-requires-clause-held : goal.give_back-requires-clause-held
 give_back-requires-clause-held g c =
-    held-on g.N.RunName.setup c.self.inside.kernel c.room.new.self c.self.inside.pass c.take-fabric.new.pass c.args.act 18446744073709551615 c.enabled.result c.take-fabric.result
-    c.self.invariant.0 c.enabled.ensures c.if-not-enabled.false c.in_ok-room.ensures.ok c.take-fabric.ensures.pass c.take-fabric.ensures.entries c.take-fabric.ensures.whole
+    held-on g.N.RunName.setup c.self.inside.kernel c.room.new.self c.self.inside.pass c.take-fabric.new.pass c.args.act 18446744073709551615 c.enabled.result
+    c.take-fabric.result
+    c.self.invariant.0 c.enabled.ensures c.if-not-enabled.false c.in_ok-room.ensures.ok c.take-fabric.ensures.pass c.take-fabric.ensures.entries
+    c.take-fabric.ensures.whole
     c.turn_step-tried.new.kernel c.turn_step-tried.new.fabric c.turn_step-tried.ensures.tried
 
 pub give_back-requires-clause-whole : goal.give_back-requires-clause-whole
 give_back-requires-clause-whole g c =
-    whole-on g.N.RunName.setup c.self.inside.kernel c.room.new.self c.self.inside.pass c.take-fabric.new.pass c.args.act 18446744073709551615 c.enabled.result c.take-fabric.result
-    c.self.invariant.0 c.enabled.ensures c.if-not-enabled.false c.in_ok-room.ensures.ok c.take-fabric.ensures.pass c.take-fabric.ensures.entries c.take-fabric.ensures.whole
+    whole-on g.N.RunName.setup c.self.inside.kernel c.room.new.self c.self.inside.pass c.take-fabric.new.pass c.args.act 18446744073709551615 c.enabled.result
+    c.take-fabric.result
+    c.self.invariant.0 c.enabled.ensures c.if-not-enabled.false c.in_ok-room.ensures.ok c.take-fabric.ensures.pass c.take-fabric.ensures.entries
+    c.take-fabric.ensures.whole
     c.turn_step-tried.new.kernel c.turn_step-tried.new.fabric c.turn_step-tried.ensures.tried
 
 pub invariant_of-self-in_err-tried : goal.invariant_of-self-in_err-tried
 invariant_of-self-in_err-tried g c =
-    cell-on g.N.RunName.setup c.self.inside.kernel c.room.new.self c.self.inside.pass c.take-fabric.new.pass c.args.act 18446744073709551615 c.enabled.result c.take-fabric.result
-    c.self.invariant.0 c.enabled.ensures c.if-not-enabled.false c.in_ok-room.ensures.ok c.take-fabric.ensures.pass c.take-fabric.ensures.entries c.take-fabric.ensures.whole
-    c.turn_step-tried.new.kernel c.turn_step-tried.new.fabric c.give_back.new.pass c.turn_step-tried.result.placed c.turn_step-tried.ensures.tried c.give_back.ensures c.turn_step-tried.ensures.place
+    cell-on g.N.RunName.setup c.self.inside.kernel c.room.new.self c.self.inside.pass c.take-fabric.new.pass c.args.act 18446744073709551615 c.enabled.result
+    c.take-fabric.result
+    c.self.invariant.0 c.enabled.ensures c.if-not-enabled.false c.in_ok-room.ensures.ok c.take-fabric.ensures.pass c.take-fabric.ensures.entries
+    c.take-fabric.ensures.whole
+    c.turn_step-tried.new.kernel c.turn_step-tried.new.fabric c.give_back.new.pass c.turn_step-tried.result.placed c.turn_step-tried.ensures.tried
+    c.give_back.ensures c.turn_step-tried.ensures.place
 
 pub invariant_of-self-2 : goal.invariant_of-self-2
 invariant_of-self-2 g c =
-    cell-on g.N.RunName.setup c.self.inside.kernel c.room.new.self c.self.inside.pass c.take-fabric.new.pass c.args.act 18446744073709551615 c.enabled.result c.take-fabric.result
-    c.self.invariant.0 c.enabled.ensures c.if-not-enabled.false c.in_ok-room.ensures.ok c.take-fabric.ensures.pass c.take-fabric.ensures.entries c.take-fabric.ensures.whole
-    c.turn_step-tried.new.kernel c.turn_step-tried.new.fabric c.give_back.new.pass c.turn_step-tried.result.placed c.turn_step-tried.ensures.tried c.give_back.ensures c.turn_step-tried.ensures.place
+    cell-on g.N.RunName.setup c.self.inside.kernel c.room.new.self c.self.inside.pass c.take-fabric.new.pass c.args.act 18446744073709551615 c.enabled.result
+    c.take-fabric.result
+    c.self.invariant.0 c.enabled.ensures c.if-not-enabled.false c.in_ok-room.ensures.ok c.take-fabric.ensures.pass c.take-fabric.ensures.entries
+    c.take-fabric.ensures.whole
+    c.turn_step-tried.new.kernel c.turn_step-tried.new.fabric c.give_back.new.pass c.turn_step-tried.result.placed c.turn_step-tried.ensures.tried
+    c.give_back.ensures c.turn_step-tried.ensures.place

@@ -20,5 +20,8 @@ invariant_of-self-then-killed g c =
     c.self.invariant.0 c.enabled.ensures c.if-not-enabled.false c.in_ok-room.ensures.ok tt c.step.ensures.entry c.step.ensures.step in
     let put : q.entries ≡ w.entries ++ own ∷ [] =
     subst (λ (b : Bool). MatchBool b (q.entries ≡ w.entries ++ own ∷ []) (q.entries ≡ w.entries)) c.if-killed.true c.enter_kill-killed.ensures.entries in
-    let pushed : q.entries ≡ w.entries ++ e ∷ [] = put ∙ ap (λ (x : Entry). w.entries ++ x ∷ []) (sym c.step.ensures.entry) in
-    (made-on T l p w q (Kill c.args.vpe) e made c.reserve.ensures.same c.enter_kill-killed.ensures.kernel pushed, c.enter_kill-killed.ensures.free, c.enter_kill-killed.ensures.place)
+    let pushed : q.entries ≡ w.entries ++ e ∷ [] = put ∙ ap (λ (x : Entry). w.entries ++ x ∷ []) (sym c.step.ensures.entry) in (
+      made-on T l p w q (Kill c.args.vpe) e made c.reserve.ensures.same c.enter_kill-killed.ensures.kernel pushed,
+      c.enter_kill-killed.ensures.free,
+      c.enter_kill-killed.ensures.place,
+    )

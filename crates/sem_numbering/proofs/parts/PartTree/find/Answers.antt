@@ -18,4 +18,5 @@ returns-clause-none c =
     let places = c.as_slice-2.ensures.value ∙ sym (read children from c.index-children.result.now c.index-children.result.now here c.index-children.ensures) in
     none-so c.find_node.result (λ none. subst (λ ns. IsMissing ns from by input) c.self.view_is
     (missing nodes (lists children) c.self.invariant from by input
-    (subst (Others nodes from by input) places (subst (λ ns. Others ns from by input c.as_slice-2.result.now) c.as_slice.ensures.value none)))) c.find_node.ensures.none
+    (subst (Others nodes from by input) places (subst (λ ns. Others ns from by input c.as_slice-2.result.now) c.as_slice.ensures.value none))))
+    c.find_node.ensures.none

@@ -13,7 +13,8 @@ returns-then-is_granted-clause-seen c =
     let k = c.args.self.now.key in
     c.see_granted-self.ensures
     ∙ (ap (λ (V : World). seen_granted k (side V (owner_of T k))) c.requires.world
-    ∙ granted-seen T (subst IsSetup c.setup.view_is c.setup.invariant) c.args.past.now c.args.next.now c.requires.schedule c.args.self.now c.requires.readied (omega arith) (sym c.if-is_granted.ensures))
+    ∙ granted-seen T (subst IsSetup c.setup.view_is c.setup.invariant) c.args.past.now c.args.next.now c.requires.schedule c.args.self.now c.requires.readied
+    (omega arith) (sym c.if-is_granted.ensures))
 
 pub returns-then-self-clause-seen : goal.returns-then-self-clause-seen
 returns-then-self-clause-seen c =
@@ -21,8 +22,10 @@ returns-then-self-clause-seen c =
     let k = c.args.self.now.key in
     c.see-self.ensures
     ∙ (ap (λ (V : World). seen_at_home k (side V (owner_of T k))) c.requires.world
-    ∙ moved-seen T (subst IsSetup c.setup.view_is c.setup.invariant) c.args.past.now c.args.next.now c.requires.schedule c.args.self.now c.requires.readied (omega arith) (sym c.if-is_granted.ensures) c.if-self.true)
+    ∙ moved-seen T (subst IsSetup c.setup.view_is c.setup.invariant) c.args.past.now c.args.next.now c.requires.schedule c.args.self.now c.requires.readied
+    (omega arith) (sym c.if-is_granted.ensures) c.if-self.true)
 
 pub returns-else-self-clause-seen : goal.returns-else-self-clause-seen
 returns-else-self-clause-seen c =
-    unmoved-seen c.args.setup.now (subst IsSetup c.setup.view_is c.setup.invariant) c.args.past.now c.args.next.now c.requires.schedule c.args.self.now c.requires.readied (omega arith) (sym c.if-is_granted.ensures) c.if-self.false
+    unmoved-seen c.args.setup.now (subst IsSetup c.setup.view_is c.setup.invariant) c.args.past.now c.args.next.now c.requires.schedule c.args.self.now
+    c.requires.readied (omega arith) (sym c.if-is_granted.ensures) c.if-self.false

@@ -8,4 +8,5 @@ returns-in_err-self-clause-err c =
     rw (p.1, p.2) (λ lines read. first_refused _ lines _ c.args.self.now.tables _ c.requires.stage c.in_err-self.ensures.fault read)
 
 pub returns-clause-ok : goal.returns-clause-ok
-returns-clause-ok c lines read = first_line _ lines _ c.args.self.now.tables c.in_ok-self.field-0 c.requires.stage read c.in_ok-self.ensures.fault c.in_ok-self.ensures.value c.in_ok-self.ensures.versions
+returns-clause-ok c lines read = first_line _ lines _ c.args.self.now.tables c.in_ok-self.field-0 c.requires.stage read c.in_ok-self.ensures.fault
+    c.in_ok-self.ensures.value c.in_ok-self.ensures.versions

@@ -8,4 +8,6 @@ returns-in_err-kernels-clause-err c =
     rw (p.1, p.2) (λ lines read. second_refused _ lines _ c.args.self.now.tables _ c.requires.stage c.in_err-kernels.ensures.fault read)
 
 pub returns-clause-ok : goal.returns-clause-ok
-returns-clause-ok c lines read = rw c.stage_behind-self.ensures (second_line _ lines _ c.args.self.now.tables c.in_ok-kernels.kernels 128 c.empty-self.result c.requires.stage read c.in_ok-kernels.ensures.fault c.in_ok-kernels.ensures.value c.in_ok-kernels.ensures.least c.in_ok-kernels.ensures.most c.empty-self.ensures.empty)
+returns-clause-ok c lines read =
+    rw c.stage_behind-self.ensures (second_line _ lines _ c.args.self.now.tables c.in_ok-kernels.kernels 128 c.empty-self.result c.requires.stage read
+    c.in_ok-kernels.ensures.fault c.in_ok-kernels.ensures.value c.in_ok-kernels.ensures.least c.in_ok-kernels.ensures.most c.empty-self.ensures.empty)

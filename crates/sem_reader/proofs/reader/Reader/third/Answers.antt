@@ -14,4 +14,5 @@ pub returns-clause-ok : goal.returns-clause-ok
 returns-clause-ok c lines read =
     let o = counted _ lines c.args.self.now.tables c.requires.stage read in
     let accepted = window_accepted lines c.args.self.now.tables c.in_ok-d.d o c.in_ok-d.ensures.window in
-    third_line lines _ c.args.self.now.tables c.enter.new.self c.in_ok-d.d o c.in_ok-d.ensures.fault c.in_ok-d.ensures.value c.in_ok-d.ensures.window (c.in_ok-enter.ensures.ok _ _ _ o.tells accepted)
+    third_line lines _ c.args.self.now.tables c.enter.new.self c.in_ok-d.d o c.in_ok-d.ensures.fault c.in_ok-d.ensures.value c.in_ok-d.ensures.window
+    (c.in_ok-enter.ensures.ok _ _ _ o.tells accepted)

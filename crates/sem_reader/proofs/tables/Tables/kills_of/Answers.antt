@@ -12,4 +12,7 @@ loop-declared-init c version kernels ds told = c.new-kills.ensures
 
 pub loop-declared-preserved : goal.loop-declared-preserved
 unfolding kills_of
-loop-declared-preserved c version kernels ds told = more_item (λ (d : VpeDecl). option_map (λ replies. (d.vpe, replies)) (kill_in ds d.vpe)) c.args.vpes.now c.loop-declared.declared-index c.declared-item.result _ [] _ _ (search rules) (rw c.as_slice-declared-items.ensures at c.declared-item.is) (c.loop-declared.invariant version kernels ds told) c.in_ok-push_some.ensures.ok (c.kill.ensures version kernels ds told)
+loop-declared-preserved c version kernels ds told =
+    more_item (λ (d : VpeDecl). option_map (λ replies. (d.vpe, replies)) (kill_in ds d.vpe)) c.args.vpes.now c.loop-declared.declared-index
+    c.declared-item.result _ [] _ _ (search rules) (rw c.as_slice-declared-items.ensures at c.declared-item.is)
+    (c.loop-declared.invariant version kernels ds told) c.in_ok-push_some.ensures.ok (c.kill.ensures version kernels ds told)

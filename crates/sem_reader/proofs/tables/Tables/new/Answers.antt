@@ -5,7 +5,8 @@ use Rattle.sem_reader.proofs.tables.Tables.new.Goals as goal
 
 pub returns-clause-tells : goal.returns-clause-tells
 returns-clause-tells c =
-    tells_nothing _ 128 128 128 128 128 256 128 refl refl c.empty.ensures.empty refl refl c.in_ok-no_roots.ensures c.in_ok-no_calls.ensures refl refl c.new.ensures.empty c.new-2.ensures.empty refl
+    tells_nothing _ 128 128 128 128 128 256 128 refl refl c.empty.ensures.empty refl refl c.in_ok-no_roots.ensures c.in_ok-no_calls.ensures refl refl
+    c.new.ensures.empty c.new-2.ensures.empty refl
 
 pub returns-clause-sizes : goal.returns-clause-sizes
 returns-clause-sizes c = record {

@@ -10,7 +10,9 @@ pub loop-vpe-init : goal.loop-vpe-init
 loop-vpe-init c version kernels ds told = rw (numbers-none) c.new-vpes.ensures
 
 pub loop-vpe-preserved : goal.loop-vpe-preserved
-loop-vpe-preserved c version kernels ds told = more_number (vpe_in ds) c.loop-vpe.vpe _ [] _ _ (c.loop-vpe.invariant version kernels ds told) c.in_ok-push_some.ensures.ok (c.in_ok-vpe.ensures version kernels ds told)
+loop-vpe-preserved c version kernels ds told =
+    more_number (vpe_in ds) c.loop-vpe.vpe _ [] _ _ (c.loop-vpe.invariant version kernels ds told) c.in_ok-push_some.ensures.ok
+    (c.in_ok-vpe.ensures version kernels ds told)
 
 pub returns : goal.returns
 unfolding vpes_of

@@ -7,7 +7,8 @@ use Rattle.sem_report.proofs.report_reader.Lines.entries.Goals as goal
 pub returns-in_err-append_entry-clause-err : goal.returns-in_err-append_entry-clause-err
 returns-in_err-append_entry-clause-err c =
     let p = err_from_is_err_and c.from_residual.result c.from_residual.ensures.1 in
-    rw (p.1, p.2) (stops_at (entry_form c.args.version c.args.kernels) c.loop.counter c.args.number _ _ _ _ _ c.loop.invariant.follows (omega arith) c.in_err-append_entry.ensures.err)
+    rw (p.1, p.2) (stops_at (entry_form c.args.version c.args.kernels) c.loop.counter c.args.number _ _ _ _ _ c.loop.invariant.follows
+    (omega arith) c.in_err-append_entry.ensures.err)
 
 pub loop-preserved : goal.loop-preserved
 loop-preserved c = record {

@@ -11,7 +11,8 @@ use Rattle.sem_report.proofs.report_reader.Lines.entries.Given as goal
 abbrev pub invariant-loop : goal.invariant-loop
 invariant-loop l = record {
   room : l.self.number + length l.self.rest.now ≤ 1000000000;
-  follows : Follows (replicate l.counter (entry_form l.version l.kernels)) (l.initial.self.number + 1) (whole_lines l.initial.self.rest.now) (l.self.number + 1) (whole_lines l.self.rest.now);
+  follows : Follows (replicate l.counter (entry_form l.version l.kernels)) (l.initial.self.number + 1) (whole_lines l.initial.self.rest.now) (l.self.number + 1)
+      (whole_lines l.self.rest.now);
   read : l.initial.self.rest.now ≡ text (map entry_words l.journal.entries) ++ l.self.rest.now;
   behind : whole_lines l.self.rest.now ≡ drop l.counter (whole_lines l.initial.self.rest.now);
   count : length l.journal.entries ≡ l.counter;

@@ -12,4 +12,5 @@ pub returns-in-Ok-clause-ok : goal.returns-in-Ok-clause-ok
 returns-in-Ok-clause-ok c = line_follows (entry_form c.args.version c.args.kernels) _ _ _ _ _ c.in_ok-line.ensures.ok c.in-Ok.ensures.ok
 
 pub returns-in-Err-clause-err : goal.returns-in-Err-clause-err
-returns-in-Err-clause-err c = rw c.at_line.ensures (line_stops (entry_form c.args.version c.args.kernels) _ _ _ _ _ _ c.in_ok-line.ensures.ok c.in-Err.ensures.err)
+returns-in-Err-clause-err c =
+    rw c.at_line.ensures (line_stops (entry_form c.args.version c.args.kernels) _ _ _ _ _ _ c.in_ok-line.ensures.ok c.in-Err.ensures.err)

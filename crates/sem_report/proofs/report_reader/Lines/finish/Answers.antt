@@ -6,4 +6,9 @@ pub returns-in-None-clause-ok : goal.returns-in-None-clause-ok
 returns-in-None-clause-ok c = no_lines_more _ _ c.in-None.ensures.lines
 
 pub returns-in-Some-clause-err : goal.returns-in-Some-clause-err
-returns-in-Some-clause-err c = rw (c.refused.ensures, c.unwrap_or-cause.ensures, c.bytes_fault.ensures, c.in-Some.ensures.content) (line_more _ _ _ _ _ c.in-Some.ensures.lines refl)
+returns-in-Some-clause-err c = rw (
+  c.refused.ensures,
+  c.unwrap_or-cause.ensures,
+  c.bytes_fault.ensures,
+  c.in-Some.ensures.content,
+) (line_more _ _ _ _ _ c.in-Some.ensures.lines refl)

@@ -13,7 +13,8 @@ use Rattle.sem_report.proofs.report_reader.Lines.held_keys.Given as goal
 abbrev pub invariant-loop : goal.invariant-loop
 invariant-loop l = record {
   room : l.self.number + length l.self.rest.now ≤ 1000000000;
-  follows : Follows (replicate l.counter (held_form l.version)) (l.initial.self.number + 1) (whole_lines l.initial.self.rest.now) (l.self.number + 1) (whole_lines l.self.rest.now);
+  follows : Follows (replicate l.counter (held_form l.version)) (l.initial.self.number + 1) (whole_lines l.initial.self.rest.now) (l.self.number + 1)
+      (whole_lines l.self.rest.now);
   read : l.initial.self.rest.now ≡ text (map held_line (held_pairs l.keys)) ++ l.self.rest.now;
   count : length l.keys ≡ l.counter;
   fits : All (HeldFits l.version) (held_pairs l.keys);

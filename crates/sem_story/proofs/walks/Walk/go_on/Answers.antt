@@ -13,7 +13,8 @@ returns c = λ J before later runs parts number after.
     let valid : IsSetup T = subst IsSetup c.setup.view_is c.setup.invariant in
     let e : Entry = c.args.entry.now in
     let old : Walk = c.args.self.now in
-    walked T before e c.args.key old _ (record { number = c.args.number; stage = c.stage_after-self.result }) c.note_grant.new.rows.items c.note_bindings.new.rows.items after
+    walked T before e c.args.key old _ (record { number = c.args.number; stage = c.stage_after-self.result }) c.note_grant.new.rows.items
+    c.note_bindings.new.rows.items after
     c.in_ok-happen.ensures
     (record {
       moves = c.entries_move_few_keys.ensures.moves T valid J before later e c.args.key runs parts;
@@ -21,4 +22,5 @@ returns c = λ J before later runs parts number after.
       passes = c.keys_live_once.ensures.passes T valid J before later e c.args.key runs parts;
     })
     (c.stage_after-self.ensures ∙ ap (λ (s : Stage). stage_after T c.args.key e old.stage s) c.seen_at_home-seen.ensures)
-    refl number c.in_ok-note_grant.ensures.notes c.in_ok-note_bindings.ensures.notes c.in_ok-note_stage.ensures.notes c.in_ok-note_grant.ensures.last c.in_ok-note_bindings.ensures.last c.in_ok-note_stage.ensures.last
+    refl number c.in_ok-note_grant.ensures.notes c.in_ok-note_bindings.ensures.notes c.in_ok-note_stage.ensures.notes c.in_ok-note_grant.ensures.last
+    c.in_ok-note_bindings.ensures.last c.in_ok-note_stage.ensures.last

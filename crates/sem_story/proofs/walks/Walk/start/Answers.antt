@@ -12,8 +12,10 @@ pub returns : goal.returns
 returns c =
     let T : Setup = c.args.setup.now in
     let valid : IsSetup T = subst IsSetup c.setup.view_is c.setup.invariant in
-    let told = stage-first T c.args.key (c.lives_go_on.ensures.first T) (c.lives_tell_where_keys_are.ensures.told T valid [] (schedule-empty T [] refl) c.args.key 0 (omega arith)) in
-    let stage : c.seen_at_home-stage.result ≡ stage_in T (start T) c.args.key = c.seen_at_home-stage.ensures ∙ (ap (λ (w : WorldValue). seen_by c.args.key (side w.world (owner_of T c.args.key))) c.in_ok-world.ensures ∙ told) in
+    let told = stage-first T c.args.key (c.lives_go_on.ensures.first T)
+    (c.lives_tell_where_keys_are.ensures.told T valid [] (schedule-empty T [] refl) c.args.key 0 (omega arith)) in
+    let stage : c.seen_at_home-stage.result ≡ stage_in T (start T) c.args.key = c.seen_at_home-stage.ensures
+    ∙ (ap (λ (w : WorldValue). seen_by c.args.key (side w.world (owner_of T c.args.key))) c.in_ok-world.ensures ∙ told) in
     record {
       world = c.in_ok-world.ensures;
       stage = stage;

@@ -48,11 +48,35 @@ returns-then-is-12 c = rw (c.in_ok-name.ensures.ok, c.if-is-12.ensures.0 refl) (
 
 pub returns-then-is-13 : goal.returns-then-is-13
 unfolding form_fault calls call_from
-returns-then-is-13 c = rw (c.in_ok-name.ensures.ok, c.if-is-13.ensures.0 refl) (record { reads = record { filled = λ more. refl; spelled = refl }; value = refl; valid = tt })
+returns-then-is-13 c = rw (c.in_ok-name.ensures.ok, c.if-is-13.ensures.0 refl) (record {
+  reads = record { filled = λ more. refl; spelled = refl };
+  value = refl;
+  valid = tt;
+})
 
 pub returns-then-is-14 : goal.returns-then-is-14
 returns-then-is-14 c = rw (c.in_ok-name.ensures.ok, c.if-is-14.ensures.0 refl) (c.clear.ensures c.args.version)
 
 pub returns-else-is-14 : goal.returns-else-is-14
 unfolding form_fault calls
-returns-else-is-14 c = record { reads = rw (c.in_ok-name.ensures.ok, differs _ _ c.if-is.ensures, differs _ _ c.if-is-2.ensures, differs _ _ c.if-is-3.ensures, differs _ _ c.if-is-4.ensures, differs _ _ c.if-is-5.ensures, differs _ _ c.if-is-6.ensures, differs _ _ c.if-is-7.ensures, differs _ _ c.if-is-8.ensures, differs _ _ c.if-is-9.ensures, differs _ _ c.if-is-10.ensures, differs _ _ c.if-is-11.ensures, differs _ _ c.if-is-12.ensures, differs _ _ c.if-is-13.ensures, differs _ _ c.if-is-14.ensures) (λ more. refl); value = tt; valid = tt }
+returns-else-is-14 c = record {
+  reads = rw (
+    c.in_ok-name.ensures.ok,
+    differs _ _ c.if-is.ensures,
+    differs _ _ c.if-is-2.ensures,
+    differs _ _ c.if-is-3.ensures,
+    differs _ _ c.if-is-4.ensures,
+    differs _ _ c.if-is-5.ensures,
+    differs _ _ c.if-is-6.ensures,
+    differs _ _ c.if-is-7.ensures,
+    differs _ _ c.if-is-8.ensures,
+    differs _ _ c.if-is-9.ensures,
+    differs _ _ c.if-is-10.ensures,
+    differs _ _ c.if-is-11.ensures,
+    differs _ _ c.if-is-12.ensures,
+    differs _ _ c.if-is-13.ensures,
+    differs _ _ c.if-is-14.ensures,
+  ) (λ more. refl);
+  value = tt;
+  valid = tt;
+}

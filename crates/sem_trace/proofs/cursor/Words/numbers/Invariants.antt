@@ -8,7 +8,8 @@ use Rattle.sem_trace.proofs.cursor.Words.numbers.Given as goal
 abbrev pub invariant-loop-place : goal.invariant-loop-place
 invariant-loop-place l = record {
   five : length l.values ≡ 5;
-  fault : (places : List Place) → form_fault (map number_place l.ranges ++ places) l.fn.self ≡ form_fault (map number_place (drop l.place l.ranges) ++ places) l.self;
+  fault : (places : List Place) →
+      form_fault (map number_place l.ranges ++ places) l.fn.self ≡ form_fault (map number_place (drop l.place l.ranges) ++ places) l.self;
   values : (i : ℕ) → i < l.place → get_or l.values i 0 ≡ number_at l.fn.self i;
   least : (i : ℕ) → i < l.place → least_at l.ranges i ≤ get_or l.values i 0;
   most : (i : ℕ) → i < l.place → get_or l.values i 0 ≤ most_at l.ranges i;

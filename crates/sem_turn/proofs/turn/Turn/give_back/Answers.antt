@@ -20,7 +20,8 @@ store-requires g c =
     let may = subst (λ k. Follows k o.0 c.args.fabric) (sym (ap (λ h. h.kernel) v)) o.2 in (
       e.0 ∙ i.0 ∙ sym t.named.0,
       omega (arith, t.sized.0),
-      give_asks _ _ _ _ c.pass.inside.seat.me _ o.0 c.args.fabric (step t.board.shared.table_id.slots 0 0 0 maybe.none) i.2 taken e.3 _ _ _ _ t.named.1 t.sized.1 c.requires.whole may,
+      give_asks _ _ _ _ c.pass.inside.seat.me _ o.0 c.args.fabric (step t.board.shared.table_id.slots 0 0 0 maybe.none) i.2 taken e.3 _ _ _ _ t.named.1
+          t.sized.1 c.requires.whole may,
     )
 
 pub invariant_of-pass : goal.invariant_of-pass
@@ -32,8 +33,12 @@ invariant_of-pass g c =
     let e = c.exchange.ensures in
     let s = c.store.ensures in
     let taken = ap (λ h. h.taken) v ∙ o.1 in
-    let done = give_done _ _ _ _ c.pass.inside.seat.me _ o.0 c.args.fabric (step t.board.shared.table_id.slots 0 0 0 maybe.none) i.2 taken e.3 _ s.2 in
-    (s.0 ∙ e.0 ∙ i.0, i.1, subst (λ (m : Sat). m ≡ (view (share c.pass.inside.kernel (entries_of m.0.shares) (placed_of m.0.shares) ∷ []) m.0.taken, out_with m.0.taken)) (sym done) refl)
+    let done = give_done _ _ _ _ c.pass.inside.seat.me _ o.0 c.args.fabric (step t.board.shared.table_id.slots 0 0 0 maybe.none) i.2 taken e.3 _ s.2 in (
+      s.0 ∙ e.0 ∙ i.0,
+      i.1,
+      subst (λ (m : Sat). m ≡ (view (share c.pass.inside.kernel (entries_of m.0.shares) (placed_of m.0.shares) ∷ []) m.0.taken, out_with m.0.taken))
+          (sym done) refl,
+    )
 
 pub returns : goal.returns
 returns g c =

@@ -5,7 +5,10 @@ use Rattle.sem_vpe.proofs.vpes.Vpes.advance.Goals as goal
 
 -- one row has changed, and it is kept as rows are
 pub invariant_of-self : goal.invariant_of-self
-invariant_of-self c = table-kept c.self.inside.places.items c.args.vpe c.from.result c.index_mut.result.now c.in-Some.kept c.advance.new.self c.self.invariant (rw (← c.self.view_is) at c.requires.ours) c.from.ensures c.index_mut.ensures.value c.in-Some.is c.advance.ensures.row
+invariant_of-self c = table-kept c.self.inside.places.items c.args.vpe c.from.result c.index_mut.result.now c.in-Some.kept c.advance.new.self c.self.invariant
+    (rw (← c.self.view_is) at c.requires.ours) c.from.ensures c.index_mut.ensures.value c.in-Some.is c.advance.ensures.row
 
 pub returns : goal.returns
-returns c = rw (← c.self.view_is) (changed c.self.inside.places.items c.args.vpe c.from.result c.index_mut.result.now c.in-Some.kept c.advance.new.self c.self.invariant (rw (← c.self.view_is) at c.requires.ours) c.from.ensures c.index_mut.ensures.value c.in-Some.is (λ (r : VpeRow). record r { next_call = r.next_call + 1 }) c.advance.ensures.next_call)
+returns c = rw (← c.self.view_is) (changed c.self.inside.places.items c.args.vpe c.from.result c.index_mut.result.now c.in-Some.kept c.advance.new.self
+    c.self.invariant (rw (← c.self.view_is) at c.requires.ours) c.from.ensures c.index_mut.ensures.value c.in-Some.is
+    (λ (r : VpeRow). record r { next_call = r.next_call + 1 }) c.advance.ensures.next_call)
