@@ -2,9 +2,10 @@
 use Rattle.std.proofs.Common.{◌≡◌, ℕ, Bool, true, false, cond, List, [], ◌∷◌, ◌++◌, map, Option, Some, None, refl, ap, sym, subst, ◌∙◌}
 use Rattle.std.specs.List.{filter_map, cons_option}
 use Rattle.sem_trace.specs.declared.fault.Cause.{Cause}
+use Rattle.sem_trace.specs.declared.fault.LineFault.{LineFault}
 use Rattle.sem_trace.specs.declared.fault.Cause.TheVariants.{TooMany}
 use Rattle.sem_trace.specs.TextLines.{words_of, is_significant, bytes_fault}
-use Rattle.sem_trace.specs.Forms.{form_fault}
+use Rattle.sem_trace.specs.Forms.{word_fault, whole_line}
 use Rattle.sem_trace.specs.Declarations.{number_at}
 use Rattle.sem_files.specs.declared.lines.FileLine.{FileLine}
 use Rattle.sem_files.specs.declared.lines.FileLine.TheVariants.{Kernels, File, Client, Do, End}
@@ -69,21 +70,21 @@ ended-push ls l not_yet = any_more is_end ls l ∙ (rw not_yet refl)
 -- The first line and the second.
 
 pub first_line : (stage : Stage) (lines : List (List (List ℕ))) (words : List (List ℕ)) (t : Tables) → stage ≡ Start → IsReadTo stage lines t →
-    form_fault first_form words ≡ None → (words_fault lines words ≡ None) × IsReadTo Named (lines ++ words ∷ []) t
+    word_fault first_form words ≡ None → (words_fault lines words ≡ None) × IsReadTo Named (lines ++ words ∷ []) t
 unfolding words_fault
 first_line stage lines words t at read fits =
     let start : lines ≡ [] = subst (λ (s : Stage). IsReadTo s lines t) at read in
     (rw start fits, (words, rw start refl))
 
-pub first_refused : (stage : Stage) (lines : List (List (List ℕ))) (words : List (List ℕ)) (t : Tables) (cause : Cause) → stage ≡ Start →
-    form_fault first_form words ≡ Some cause → IsReadTo stage lines t → words_fault lines words ≡ Some cause
+pub first_refused : (stage : Stage) (lines : List (List (List ℕ))) (words : List (List ℕ)) (t : Tables) (cause : LineFault) → stage ≡ Start →
+    word_fault first_form words ≡ Some cause → IsReadTo stage lines t → words_fault lines words ≡ Some cause
 unfolding words_fault
 first_refused stage lines words t cause at fault read =
     let start : lines ≡ [] = subst (λ (s : Stage). IsReadTo s lines t) at read in
     rw start fault
 
 pub second_line : (stage : Stage) (lines : List (List (List ℕ))) (words : List (List ℕ)) (t new : Tables) (kernels : ℕ) → stage ≡ Named →
-    IsReadTo stage lines t → form_fault second_form words ≡ None → kernels ≡ number_at words 1 → files_in new ≡ files_of kernels [] →
+    IsReadTo stage lines t → word_fault second_form words ≡ None → kernels ≡ number_at words 1 → files_in new ≡ files_of kernels [] →
     (words_fault lines words ≡ None) × IsReadTo Open (lines ++ words ∷ []) new
 unfolding words_fault is_ended
 second_line stage lines words t new kernels at read fits is says =
@@ -99,8 +100,8 @@ second_line stage lines words t new kernels at read fits is says =
       },
     )
 
-pub second_refused : (stage : Stage) (lines : List (List (List ℕ))) (words : List (List ℕ)) (t : Tables) (cause : Cause) → stage ≡ Named →
-    form_fault second_form words ≡ Some cause → IsReadTo stage lines t → words_fault lines words ≡ Some cause
+pub second_refused : (stage : Stage) (lines : List (List (List ℕ))) (words : List (List ℕ)) (t : Tables) (cause : LineFault) → stage ≡ Named →
+    word_fault second_form words ≡ Some cause → IsReadTo stage lines t → words_fault lines words ≡ Some cause
 unfolding words_fault
 second_refused stage lines words t cause at fault read =
     let named : IsReadTo Named lines t = subst (λ (s : Stage). IsReadTo s lines t) at read in
@@ -117,7 +118,7 @@ pub opened : (stage : Stage) (lines : List (List (List ℕ))) (t : Tables) → s
 opened stage lines t at read = subst (λ (s : Stage). IsReadTo s lines t) at read
 
 pub open_line : (lines : List (List (List ℕ))) (words : List (List ℕ)) (t after : Tables) (l : FileLine) → IsOpened lines t false →
-    form_fault (form words) words ≡ None → l ≡ said words → context_fault (files_in t) l ≡ None → files_in after ≡ with_line (files_in t) l →
+    word_fault (form words) words ≡ None → l ≡ said words → context_fault (files_in t) l ≡ None → files_in after ≡ with_line (files_in t) l →
     (words_fault lines words ≡ None) × IsReadTo (cond (is_end l) Ended Open) (lines ++ words ∷ []) after
 unfolding words_fault body_fault
 open_line lines words t after l read fits is accepted entered =
@@ -136,13 +137,13 @@ open_line lines words t after l read fits is accepted entered =
       }),
     )
 
-pub open_ill_formed : (lines : List (List (List ℕ))) (words : List (List ℕ)) (t : Tables) (cause : Cause) → IsOpened lines t false →
-    form_fault (form words) words ≡ Some cause → words_fault lines words ≡ Some cause
+pub open_ill_formed : (lines : List (List (List ℕ))) (words : List (List ℕ)) (t : Tables) (cause : LineFault) → IsOpened lines t false →
+    word_fault (form words) words ≡ Some cause → words_fault lines words ≡ Some cause
 unfolding words_fault body_fault
 open_ill_formed lines words t cause read fault = rw (read.are, read.last, fault) refl
 
-pub open_refused : (lines : List (List (List ℕ))) (words : List (List ℕ)) (t : Tables) (l : FileLine) (cause : Cause) → IsOpened lines t false →
-    form_fault (form words) words ≡ None → l ≡ said words → context_fault (files_in t) l ≡ Some cause → words_fault lines words ≡ Some cause
+pub open_refused : (lines : List (List (List ℕ))) (words : List (List ℕ)) (t : Tables) (l : FileLine) (cause : LineFault) → IsOpened lines t false →
+    word_fault (form words) words ≡ None → l ≡ said words → context_fault (files_in t) l ≡ Some cause → words_fault lines words ≡ Some cause
 unfolding words_fault body_fault
 open_refused lines words t l cause read fits is fault =
     let bad : context_fault (files_of (number_at read.second 1) (map said read.earlier)) l ≡ Some cause =
@@ -150,7 +151,7 @@ open_refused lines words t l cause read fits is fault =
     rw (read.are, read.last, fits, ← is) bad
 
 pub ended_refused : (stage : Stage) (lines : List (List (List ℕ))) (words : List (List ℕ)) (t : Tables) → stage ≡ Ended → IsReadTo stage lines t →
-    words_fault lines words ≡ Some TooMany
+    words_fault lines words ≡ Some (whole_line TooMany)
 unfolding words_fault body_fault
 ended_refused stage lines words t at read =
     let ended : IsOpened lines t true = subst (λ (s : Stage). IsReadTo s lines t) at read in
@@ -159,7 +160,8 @@ ended_refused stage lines words t at read =
 -- Any line.
 
 -- a line whose bytes are bad
-pub bad_bytes : (lines : List (List (List ℕ))) (line : List ℕ) (cause : Cause) → bytes_fault line ≡ Some cause → line_fault lines line ≡ Some cause
+pub bad_bytes : (lines : List (List (List ℕ))) (line : List ℕ) (cause : Cause) → bytes_fault line ≡ Some cause →
+    line_fault lines line ≡ Some (whole_line cause)
 unfolding line_fault
 bad_bytes lines line cause fault = rw fault refl
 
@@ -176,12 +178,12 @@ pub says : (lines : List (List (List ℕ))) (line : List ℕ) (P : List (List (L
 unfolding line_fault
 says lines line P fits something holds = (rw (fits, something) holds.0, rw something holds.1)
 
-pub refused : (lines : List (List (List ℕ))) (line : List ℕ) (cause : Cause) → bytes_fault line ≡ None → is_significant (words_of line) ≡ true →
+pub refused : (lines : List (List (List ℕ))) (line : List ℕ) (cause : LineFault) → bytes_fault line ≡ None → is_significant (words_of line) ≡ true →
     words_fault lines (words_of line) ≡ Some cause → line_fault lines line ≡ Some cause
 unfolding line_fault
 refused lines line cause fits something fault = rw (fits, something) fault
 
 -- what is wrong with a line, for another reason
-pub stops_weaker : (P Q : Cause → Type 0) → ((cause : Cause) → P cause → Q cause) → (e : LineError) → Stops P e → Stops Q e
+pub stops_weaker : (P Q : LineFault → Type 0) → ((cause : LineFault) → P cause → Q cause) → (e : LineError) → Stops P e → Stops Q e
 stops_weaker P Q more (Refused cause) stops = more cause stops
 stops_weaker P Q more Memory stops = tt

@@ -7,7 +7,7 @@ use Rattle.std.proofs.lemmas.Bool.{cases_Bool}
 use Rattle.std.proofs.Math.Seq.{take-append_seam}
 use Rattle.std.proofs.lemmas.Option.{none-some}
 use Rattle.std.specs.Result.{IfOk, IfErr}
-use Rattle.sem_trace.specs.declared.fault.Cause.{Cause}
+use Rattle.sem_trace.specs.declared.fault.LineFault.{LineFault}
 use Rattle.sem_trace.specs.declared.fault.Cause.TheVariants.{Missing, InputTooLong}
 use Rattle.sem_trace.specs.declared.fault.TraceError.{TraceError}
 use Rattle.sem_trace.specs.declared.fault.TraceError.TheVariants.{Refused, Memory}
@@ -70,7 +70,8 @@ read_at_end (x ∷ xs) y ys = read_at_end xs y ys
 
 -- the fault of a line behind those before it
 fault_here : (lines before after : List (List ℕ)) (line : List ℕ) → lines ≡ before ++ line ∷ after →
-    fault_at lines (length before) ≡ option_map (λ cause. record { line = length before + 1; cause = cause }) (line_fault (significant before) line)
+    fault_at lines (length before)
+    ≡ option_map (λ fault. record { line = length before + 1; word = fault.word; cause = fault.cause }) (line_fault (significant before) line)
 unfolding fault_at
 fault_here lines before after line are = rw (are, take-append_seam before (line ∷ after), read_at_end before line after) refl
 
@@ -122,14 +123,14 @@ read_more bytes line left behind number old new so_far next accepted tells =
     }
 
 -- a line is refused
-pub read_refused : (bytes line : List ℕ) (left behind : List (List ℕ)) (number : ℕ) (old : Reader) (cause : Cause) →
+pub read_refused : (bytes line : List ℕ) (left behind : List (List ℕ)) (number : ℕ) (old : Reader) (cause : LineFault) →
     (so_far : IsReadUpTo bytes left number old) → left ≡ line ∷ behind → line_fault (significant so_far.before) line ≡ Some cause →
-    first_fault (lines_of bytes) ≡ Some (record { line = number + 1; cause = cause })
+    first_fault (lines_of bytes) ≡ Some (record { line = number + 1; word = cause.word; cause = cause.cause })
 unfolding first_fault
 read_refused bytes line left behind number old cause so_far next fault =
     let whole : lines_of bytes ≡ so_far.before ++ line ∷ behind = so_far.lines ∙ ap (λ (ls : List (List ℕ)). so_far.before ++ ls) next in
     let count : number ≡ length so_far.before = so_far.count in
-    let here : fault_at (lines_of bytes) number ≡ Some (record { line = number + 1; cause = cause }) =
+    let here : fault_at (lines_of bytes) number ≡ Some (record { line = number + 1; word = cause.word; cause = cause.cause }) =
     rw count (fault_here (lines_of bytes) so_far.before behind line whole ∙ (rw fault refl)) in
     let long : length (lines_of bytes) ≡ number + suc (length behind) = ap length whole ∙ (length-append so_far.before (line ∷ behind) ∙ (rw count refl)) in
     rw long (first_bad (fault_at (lines_of bytes)) number (length behind) _ so_far.fine here)
@@ -151,7 +152,7 @@ no_first_fault bytes number r whole = let count : length (lines_of bytes) ≡ nu
     rw count whole.fine
 
 -- a text that is too long
-pub too_long : (bytes : List ℕ) → 8388608 < length bytes → refusal bytes ≡ Some (record { line = 0; cause = InputTooLong })
+pub too_long : (bytes : List ℕ) → 8388608 < length bytes → refusal bytes ≡ Some (record { line = 0; word = None; cause = InputTooLong })
 unfolding refusal
 too_long bytes long = rw (lt-ltb _ _ long) refl
 
@@ -189,7 +190,7 @@ unfinished Open lines t other read = rw read.are read.last
 unfinished Ended lines t other read = absurd (other refl)
 
 pub no_end : (bytes : List ℕ) (number : ℕ) (r : Reader) → IsReadUpTo bytes [] number r → (r.stage ≡ Ended → ⊥) →
-    lines_refusal (lines_of bytes) ≡ Some (record { line = number + 1; cause = Missing })
+    lines_refusal (lines_of bytes) ≡ Some (record { line = number + 1; word = None; cause = Missing })
 unfolding end_fault said_by
 no_end bytes number r whole other =
     let lines = all_lines bytes number r whole in

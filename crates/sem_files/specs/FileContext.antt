@@ -2,7 +2,8 @@
 use Rattle.std.specs.Prelude.{ℕ, ◌+◌, ◌*◌, ◌==◌, nat_lt, nat_le, Bool, true, false, not, ◌&&◌, ◌||◌, [], ◌∷◌, ◌++◌}
 use Rattle.std.specs.Prelude.{length, is_some, Option, Some, None, sum_by, if◌then◌else◌}
 use Rattle.sem_msg.specs.declared.limits.TheConstants.{CALLS}
-use Rattle.sem_trace.specs.declared.fault.Cause.{Cause}
+use Rattle.sem_trace.specs.declared.fault.LineFault.{LineFault}
+use Rattle.sem_trace.specs.Forms.{at_word}
 use Rattle.sem_trace.specs.declared.fault.Cause.TheVariants.{OutOfRange, Undeclared, Twice, TooMany}
 use Rattle.sem_files.specs.declared.files.FileAct.{FileAct}
 use Rattle.sem_files.specs.declared.files.FileAct.TheVariants.{OpenFile, Read, Write, Share, Close}
@@ -74,10 +75,32 @@ is_too_much F (Do c) =
     || nat_lt CALLS (call_number (with_command F c))
 is_too_much F line = false
 
--- what is wrong with what a line says
-unfoldable pub context_fault : Files → FileLine → Option Cause
+-- the word, counted from 0, that names what does not exist
+abbrev pub astray_word : Files → ℕ → FileAct → ℕ
+astray_word F v (OpenFile handle file) = 4
+astray_word F v (Share handle to other) = if is_open F v handle then 4 else 3
+astray_word F v act = 3
+
+abbrev pub undeclared_word : Files → FileLine → ℕ
+undeclared_word F (Do c) = if is_client F c.client then astray_word F c.client c.act else 1
+undeclared_word F line = 1
+
+-- the word, counted from 0, that says what was said before: the handle, the client itself, or the
+-- number that is used
+abbrev pub repeated_word : ℕ → FileAct → ℕ
+repeated_word v (Share handle to other) = if to == v then 4 else 5
+repeated_word v act = 3
+
+abbrev pub twice_word : FileLine → ℕ
+twice_word (Kernels kernels) = 0
+twice_word (Do c) = repeated_word c.client c.act
+twice_word line = 1
+
+-- what is wrong with what a line says. A range ends too far by its length, word 5; an act is too
+-- much as such, word 2
+unfoldable pub context_fault : Files → FileLine → Option LineFault
 context_fault F line =
-    if is_undeclared F line then Some Undeclared
-    else (if is_twice F line then Some Twice
-    else (if is_too_long F line then Some OutOfRange
-    else (if is_too_much F line then Some TooMany else None)))
+    if is_undeclared F line then Some (at_word (undeclared_word F line) Undeclared)
+    else (if is_twice F line then Some (at_word (twice_word line) Twice)
+    else (if is_too_long F line then Some (at_word 5 OutOfRange)
+    else (if is_too_much F line then Some (at_word 2 TooMany) else None)))

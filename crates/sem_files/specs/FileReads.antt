@@ -2,7 +2,9 @@
 use Rattle.std.specs.Prelude.{◌≡◌, ℕ, ◌≤◌, List, Result, IfOk}
 use Rattle.std.specs.Result.{result_err}
 use Rattle.sem_trace.specs.declared.fault.Cause.{Cause}
-use Rattle.sem_trace.specs.Forms.{form_fault, choice, word_at}
+use Rattle.sem_trace.specs.declared.fault.LineFault.{LineFault}
+use Rattle.sem_trace.specs.Forms.{form_fault, word_fault, choice, word_at}
+use Rattle.sem_trace.specs.Places.{told_fault}
 use Rattle.sem_files.specs.declared.files.FileAct.{FileAct}
 use Rattle.sem_files.specs.declared.files.FileAct.TheVariants.{OpenFile, Read, Write, Share, Close}
 use Rattle.sem_files.specs.declared.lines.FileLine.{FileLine}
@@ -37,13 +39,19 @@ IsInRange (Do c) = IsClientNumber c.client × IsActInRange c.act
 IsInRange End = Unit {0}
 
 -- an act is read, from its name to the end of the line
-pub record ReadsAct (words : List (List ℕ)) (result : Result FileAct Cause) : Type 0 where
-  pub fault : form_fault (choice acts (word_at words 0)) words ≡ result_err result
+pub record ReadsAct (words rest : List (List ℕ)) (result : Result FileAct Cause) : Type 0 where
+  pub fault : form_fault (choice acts (word_at words 0)) words ≡ told_fault result rest
   pub value : IfOk result (λ act. act ≡ act_from words)
   pub ranges : IfOk result IsActInRange
 
+-- what a line with these words says is read from its words
+pub record ReadsWords (words rest : List (List ℕ)) (result : Result FileLine Cause) : Type 0 where
+  pub fault : form_fault (form words) words ≡ told_fault result rest
+  pub value : IfOk result (λ line. line ≡ said words)
+  pub ranges : IfOk result IsInRange
+
 -- what a line with these words says is read
-pub record ReadsLine (words : List (List ℕ)) (result : Result FileLine Cause) : Type 0 where
-  pub fault : form_fault (form words) words ≡ result_err result
+pub record ReadsLine (words : List (List ℕ)) (result : Result FileLine LineFault) : Type 0 where
+  pub fault : word_fault (form words) words ≡ result_err result
   pub value : IfOk result (λ line. line ≡ said words)
   pub ranges : IfOk result IsInRange

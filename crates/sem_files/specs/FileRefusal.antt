@@ -1,13 +1,13 @@
--- Which texts of file commands are refused, at which line and why ("File commands" in
+-- Which texts of file commands are refused, at which line and word and why ("File commands" in
 -- docs/texts.md).
 use Rattle.std.specs.Prelude.{ℕ, ◌+◌, nat_lt, List, [], ◌∷◌, length, take, drop, map, slice_index_or, Option, Some}
 use Rattle.std.specs.Prelude.{None, option_map, if◌then◌else◌}
 use Rattle.std.specs.Option.{option_or}
-use Rattle.sem_trace.specs.declared.fault.Cause.{Cause}
+use Rattle.sem_trace.specs.declared.fault.LineFault.{LineFault}
 use Rattle.sem_trace.specs.declared.fault.Cause.TheVariants.{Missing, TooMany, InputTooLong}
 use Rattle.sem_trace.specs.declared.fault.TraceFault.{TraceFault}
 use Rattle.sem_trace.specs.TextLines.{lines_of, words_of, is_significant, significant, bytes_fault}
-use Rattle.sem_trace.specs.Forms.{form_fault}
+use Rattle.sem_trace.specs.Forms.{word_fault, whole_line}
 use Rattle.sem_trace.specs.Declarations.{number_at}
 use Rattle.sem_trace.specs.Earlier.{first_some}
 use Rattle.sem_trace.specs.Refusal.{numbers}
@@ -18,28 +18,28 @@ use Rattle.sem_files.specs.FileContext.{context_fault}
 
 -- what is wrong with the words of a line after the second, given the words of the earlier lines
 -- after the second
-unfoldable pub body_fault : ℕ → List (List (List ℕ)) → List (List ℕ) → Option Cause
+unfoldable pub body_fault : ℕ → List (List (List ℕ)) → List (List ℕ) → Option LineFault
 body_fault kernels earlier words =
-    if is_ended (map said earlier) then Some TooMany
-    else option_or (form_fault (form words) words)
+    if is_ended (map said earlier) then Some (whole_line TooMany)
+    else option_or (word_fault (form words) words)
     (context_fault (files_of kernels (map said earlier)) (said words))
 
 -- what is wrong with the words of a line, given the words of the earlier lines that say something
-unfoldable pub words_fault : List (List (List ℕ)) → List (List ℕ) → Option Cause
-words_fault [] words = form_fault first_form words
-words_fault (first ∷ []) words = form_fault second_form words
+unfoldable pub words_fault : List (List (List ℕ)) → List (List ℕ) → Option LineFault
+words_fault [] words = word_fault first_form words
+words_fault (first ∷ []) words = word_fault second_form words
 words_fault (first ∷ second ∷ earlier) words = body_fault (number_at second 1) earlier words
 
 -- what is wrong with a line after such lines
-unfoldable pub line_fault : List (List (List ℕ)) → List ℕ → Option Cause
+unfoldable pub line_fault : List (List (List ℕ)) → List ℕ → Option LineFault
 line_fault earlier line =
-    option_or (bytes_fault line)
+    option_or (option_map whole_line (bytes_fault line))
     (if is_significant (words_of line) then words_fault earlier (words_of line) else None)
 
 -- the fault of the line at a place, counted from 0, after all lines before it
 unfoldable pub fault_at : List (List ℕ) → ℕ → Option TraceFault
 fault_at lines i =
-    option_map (λ cause. record { line = i + 1; cause = cause })
+    option_map (λ fault. record { line = i + 1; word = fault.word; cause = fault.cause })
     (line_fault (significant (take i lines)) (slice_index_or lines i []))
 
 -- the first fault of a line
@@ -58,11 +58,11 @@ said_by lines = map said (drop 2 (significant lines))
 unfoldable pub end_fault : List (List ℕ) → Option TraceFault
 end_fault lines =
     if is_ended (said_by lines) then None
-    else Some (record { line = length lines + 1; cause = Missing })
+    else Some (record { line = length lines + 1; word = None; cause = Missing })
 
 -- the refusal of a text, if it is refused: that it is too long, or that of its first bad line, or
 -- that the last line is missing
 unfoldable pub refusal : List ℕ → Option TraceFault
 refusal bytes =
-    if nat_lt 8388608 (length bytes) then Some (record { line = 0; cause = InputTooLong })
+    if nat_lt 8388608 (length bytes) then Some (record { line = 0; word = None; cause = InputTooLong })
     else option_or (first_fault (lines_of bytes)) (end_fault (lines_of bytes))

@@ -2,7 +2,7 @@
 use Rattle.std.specs.Prelude.{◌≡◌, ℕ, ◌+◌, ◌≤◌, Bool, true, false, List, [], ◌∷◌, ◌++◌, length, map, Option, None}
 use Rattle.std.specs.Prelude.{Some, if◌then◌else◌}
 use Rattle.std.specs.Option.{option_or}
-use Rattle.sem_trace.specs.declared.fault.Cause.{Cause}
+use Rattle.sem_trace.specs.declared.fault.LineFault.{LineFault}
 use Rattle.sem_trace.specs.declared.fault.TraceFault.{TraceFault}
 use Rattle.sem_trace.specs.declared.fault.TraceError.{TraceError}
 use Rattle.sem_trace.specs.declared.fault.TraceError.TheVariants.{Refused as RefusedText, Memory as NoMemory}
@@ -47,10 +47,10 @@ Accepts words old new =
     (lines : List (List (List ℕ))) → IsRead lines old
     → (words_fault lines words ≡ None) × IsRead (lines ++ words ∷ []) new
 
--- the cause is what is wrong with a line of these words
-abbrev pub Refuses : List (List ℕ) → Reader → Cause → Type 0
-Refuses words old cause =
-    (lines : List (List (List ℕ))) → IsRead lines old → words_fault lines words ≡ Some cause
+-- the fault is what is wrong with a line of these words
+abbrev pub Refuses : List (List ℕ) → Reader → LineFault → Type 0
+Refuses words old fault =
+    (lines : List (List (List ℕ))) → IsRead lines old → words_fault lines words ≡ Some fault
 
 -- the lines, and the line too, if it says something
 abbrev pub with_significant : List (List (List ℕ)) → List ℕ → List (List (List ℕ))
@@ -64,13 +64,13 @@ AcceptsLine line old new =
     → (line_fault lines line ≡ None) × IsRead (with_significant lines line) new
 
 -- why a line is not read: what is wrong with it, or memory was refused
-abbrev pub Stops : (Cause → Type 0) → LineError → Type 0
-Stops refuses (Refused cause) = refuses cause
+abbrev pub Stops : (LineFault → Type 0) → LineError → Type 0
+Stops refuses (Refused fault) = refuses fault
 Stops refuses Memory = Unit {0}
 
-abbrev pub RefusesLine : List ℕ → Reader → Cause → Type 0
-RefusesLine line old cause =
-    (lines : List (List (List ℕ))) → IsRead lines old → line_fault lines line ≡ Some cause
+abbrev pub RefusesLine : List ℕ → Reader → LineFault → Type 0
+RefusesLine line old fault =
+    (lines : List (List (List ℕ))) → IsRead lines old → line_fault lines line ≡ Some fault
 
 -- All lines of a text but those that are left are read, and nothing was wrong with any of them.
 pub record IsReadUpTo (bytes : List ℕ) (left : List (List ℕ)) (number : ℕ) (r : Reader) : Type 0 where
@@ -84,7 +84,7 @@ pub record IsReadUpTo (bytes : List ℕ) (left : List (List ℕ)) (number : ℕ)
 
 -- why a text is not read, if that line of it is not
 abbrev pub at_line : ℕ → LineError → TraceError
-at_line line (Refused cause) = RefusedText (record { line = line; cause = cause })
+at_line line (Refused fault) = RefusedText (record { line = line; word = fault.word; cause = fault.cause })
 at_line line Memory = NoMemory
 
 -- the refusal of lines: that of the first bad one, or that the last line is missing

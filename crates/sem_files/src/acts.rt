@@ -27,7 +27,7 @@ const SIZE: Range = Range {
 
 // Reads the act at the end of a line.
 pub(crate) fn read_act(words: &mut Words<'_>) -> Result<FileAct, Cause>
-    ensures { ReadsAct words.old result }
+    ensures { ReadsAct words.old words.new result }
 {
     let name = words.word()?;
     if is(name, b"open") {
@@ -46,7 +46,7 @@ pub(crate) fn read_act(words: &mut Words<'_>) -> Result<FileAct, Cause>
 }
 
 fn open_file(words: &mut Words<'_>) -> Result<FileAct, Cause>
-    ensures { ReadsAct (codes "open" ∷ words.old) result }
+    ensures { ReadsAct (codes "open" ∷ words.old) words.new result }
 {
     let [handle, file, ..] = words.last_numbers(&[SMALL, SMALL])?;
     Ok(FileAct::OpenFile {
@@ -56,7 +56,7 @@ fn open_file(words: &mut Words<'_>) -> Result<FileAct, Cause>
 }
 
 fn read(words: &mut Words<'_>) -> Result<FileAct, Cause>
-    ensures { ReadsAct (codes "read" ∷ words.old) result }
+    ensures { ReadsAct (codes "read" ∷ words.old) words.new result }
 {
     let [handle, off, len, ..] = words.last_numbers(&[SMALL, OFFSET, SIZE])?;
     Ok(FileAct::Read {
@@ -67,7 +67,7 @@ fn read(words: &mut Words<'_>) -> Result<FileAct, Cause>
 }
 
 fn write(words: &mut Words<'_>) -> Result<FileAct, Cause>
-    ensures { ReadsAct (codes "write" ∷ words.old) result }
+    ensures { ReadsAct (codes "write" ∷ words.old) words.new result }
 {
     let [handle, off, len, ..] = words.last_numbers(&[SMALL, OFFSET, SIZE])?;
     Ok(FileAct::Write {
@@ -78,7 +78,7 @@ fn write(words: &mut Words<'_>) -> Result<FileAct, Cause>
 }
 
 fn share(words: &mut Words<'_>) -> Result<FileAct, Cause>
-    ensures { ReadsAct (codes "share" ∷ words.old) result }
+    ensures { ReadsAct (codes "share" ∷ words.old) words.new result }
 {
     let [handle, to, other, ..] = words.last_numbers(&[SMALL, CLIENT, SMALL])?;
     Ok(FileAct::Share {
@@ -89,7 +89,7 @@ fn share(words: &mut Words<'_>) -> Result<FileAct, Cause>
 }
 
 fn close(words: &mut Words<'_>) -> Result<FileAct, Cause>
-    ensures { ReadsAct (codes "close" ∷ words.old) result }
+    ensures { ReadsAct (codes "close" ∷ words.old) words.new result }
 {
     let [handle, ..] = words.last_numbers(&[SMALL])?;
     Ok(FileAct::Close {

@@ -13,6 +13,11 @@ ghost use Rattle.sem_files.specs.FileContext.{ends_behind as ends_behind_lem};
 ghost use Rattle.sem_files.specs.FileContext.{is_too_long as is_too_long_lem};
 ghost use Rattle.sem_files.specs.FileContext.{is_too_much as is_too_much_lem, call_number};
 ghost use Rattle.sem_files.specs.FileContext.{with_command, context_fault};
+ghost use Rattle.sem_files.specs.FileContext.{astray_word as astray_word_lem};
+ghost use Rattle.sem_files.specs.FileContext.{undeclared_word as undeclared_word_lem};
+ghost use Rattle.sem_files.specs.FileContext.{repeated_word as repeated_word_lem};
+ghost use Rattle.sem_files.specs.FileContext.{twice_word as twice_word_lem};
+ghost use Rattle.sem_trace.specs.Forms.{at_word as at_word_lem};
 ghost use Rattle.sem_files.specs.FileReads.{IsSmall, IsClientNumber, IsActInRange, IsInRange};
 ghost use Rattle.sem_files.specs.OneMore.{declared_extents as declared_extents_lem};
 ghost use Rattle.sem_files.specs.OneMore.{new_calls as new_calls_lem};
@@ -23,7 +28,7 @@ use crate::files::{Command, FileAct};
 use crate::lines::FileLine;
 use crate::tables::Tables;
 use sem_msg::CALLS;
-use sem_trace::Cause;
+use sem_trace::{Cause, LineFault};
 
 /// The most times that a client can open a file.
 const MOST_OPENINGS: u32 = 1000;
@@ -47,6 +52,37 @@ fn ends_behind(extents: u8, act: &FileAct) -> bool
             u64::from(off) + u64::from(len) > u64::from(EXTENT) * u64::from(extents)
         }
         FileAct::OpenFile { .. } | FileAct::Share { .. } | FileAct::Close { .. } => false,
+    }
+}
+
+// The fault of that cause at a word.
+fn at_word(word: u64, cause: Cause) -> LineFault
+    ensures { result ≡ at_word_lem word cause }
+{
+    LineFault {
+        cause,
+        word: Some(word),
+    }
+}
+
+// The word of an act that says what was said before.
+fn repeated_word(client: u16, act: &FileAct) -> u64
+    ensures { result ≡ repeated_word_lem client act.now }
+{
+    match *act {
+        FileAct::Share { to, .. } => { if to == client { 4 } else { 5 } }
+        _ => 3,
+    }
+}
+
+// The word that says what an earlier line says.
+fn twice_word(line: &FileLine) -> u64
+    ensures { result ≡ twice_word_lem line.now }
+{
+    match line {
+        FileLine::Kernels { .. } => 0,
+        FileLine::Do { command } => repeated_word(command.client, &command.act),
+        _ => 1,
     }
 }
 
@@ -255,21 +291,53 @@ impl Tables {
         }
     }
 
+    // The word that names the file, the handle or the client that does not exist.
+    fn astray_word(&self, client: u16, act: &FileAct) -> u64
+        requires tells { Tells self.now }
+        requires client { IsClientNumber client }
+        requires act { IsActInRange act.now }
+        ensures { result ≡ astray_word_lem (files_in self.now) client act.now }
+    {
+        match *act {
+            FileAct::OpenFile { .. } => 4,
+            FileAct::Share { handle, .. } => { if self.is_open(client, handle) { 4 } else { 3 } }
+            FileAct::Read { .. } | FileAct::Write { .. } | FileAct::Close { .. } => 3,
+        }
+    }
+
+    // The word that names what no earlier line declares.
+    fn undeclared_word(&self, line: &FileLine) -> u64
+        requires tells { Tells self.now }
+        requires range { IsInRange line.now }
+        ensures { result ≡ undeclared_word_lem (files_in self.now) line.now }
+    {
+        match line {
+            FileLine::Do { command } => {
+                if self.is_client(command.client) {
+                    self.astray_word(command.client, &command.act)
+                } else {
+                    1
+                }
+            }
+            _ => 1,
+        }
+    }
+
     /// What earlier lines make wrong with the line.
     #[tactic(auto, unfolding(crate::specs::FileContext::context_fault))]
-    pub(crate) fn fault(&self, line: &FileLine) -> Option<Cause>
+    pub(crate) fn fault(&self, line: &FileLine) -> Option<LineFault>
         requires tells { Tells self.now }
         requires range { IsInRange line.now }
         ensures { result ≡ context_fault (files_in self.now) line.now }
     {
         if self.is_undeclared(line) {
-            Some(Cause::Undeclared)
+            Some(at_word(self.undeclared_word(line), Cause::Undeclared))
         } else if self.is_twice(line) {
-            Some(Cause::Twice)
+            Some(at_word(twice_word(line), Cause::Twice))
         } else if self.is_too_long(line) {
-            Some(Cause::OutOfRange)
+            Some(at_word(5, Cause::OutOfRange))
         } else if self.is_too_much(line) {
-            Some(Cause::TooMany)
+            Some(at_word(2, Cause::TooMany))
         } else {
             None
         }

@@ -4,14 +4,15 @@
 ghost use Rattle.std.specs.Prelude.{◌≡◌, ◌∷◌, codes};
 ghost use Rattle.std.specs.Result.{result_err};
 ghost use Rattle.sem_trace.specs.TextLines.{words_of};
-ghost use Rattle.sem_trace.specs.Forms.{form_fault};
+ghost use Rattle.sem_trace.specs.Forms.{form_fault, word_fault};
+ghost use Rattle.sem_trace.specs.Places.{told_fault};
 ghost use Rattle.sem_files.specs.FileForms.{first_form};
-ghost use Rattle.sem_files.specs.FileReads.{ReadsLine};
+ghost use Rattle.sem_files.specs.FileReads.{ReadsWords, ReadsLine};
 
 use crate::acts::{CLIENT, SMALL, read_act};
 use crate::files::{Command, FileDecl};
 use crate::lines::FileLine;
-use sem_trace::{Cause, Range, Words, is};
+use sem_trace::{Cause, LineFault, Range, Words, is};
 
 /// How many kernels there are.
 const KERNELS: Range = Range { least: 1, most: 16 };
@@ -19,41 +20,60 @@ const KERNELS: Range = Range { least: 1, most: 16 };
 /// How many extents a file has.
 const EXTENTS: Range = Range { least: 1, most: 4 };
 
-/// Checks that the line is the first of file commands. Takes no memory.
 #[tactic(auto, unfolding(crate::specs::FileForms::first_form))]
-pub(crate) fn read_first(line: &[u8]) -> Result<(), Cause>
-    ensures { form_fault first_form (words_of line.now) ≡ result_err result }
+fn first_words(words: &mut Words<'_>) -> Result<(), Cause>
+    ensures { form_fault first_form words.old ≡ told_fault result words.new }
 {
-    let mut words = Words::of(line);
     words.fixed(b"semper")?;
     words.fixed(b"files")?;
     words.fixed(b"1")?;
     words.no_more()
 }
 
+/// Checks that the line is the first of file commands. Takes no memory.
+pub(crate) fn read_first(line: &[u8]) -> Result<(), LineFault>
+    ensures { word_fault first_form (words_of line.now) ≡ result_err result }
+{
+    let mut words = Words::of(line);
+    match first_words(&mut words) {
+        Ok(()) => Ok(()),
+        Err(cause) => Err(words.fault_in(line, cause)),
+    }
+}
+
 /// What a line after the second says. Takes no memory.
-pub(crate) fn read_line(line: &[u8]) -> Result<FileLine, Cause>
+pub(crate) fn read_line(line: &[u8]) -> Result<FileLine, LineFault>
     ensures { ReadsLine (words_of line.now) result }
 {
     let mut words = Words::of(line);
+    match read_words(&mut words) {
+        Ok(said) => Ok(said),
+        Err(cause) => Err(words.fault_in(line, cause)),
+    }
+}
+
+// What the words of a line after the second say.
+fn read_words(words: &mut Words<'_>) -> Result<FileLine, Cause>
+    ensures { ReadsWords words.old words.new result }
+{
     let name = words.word()?;
     if is(name, b"kernels") {
-        kernels_line(&mut words)
+        kernels_line(words)
     } else if is(name, b"file") {
-        file_line(&mut words)
+        file_line(words)
     } else if is(name, b"client") {
-        client_line(&mut words)
+        client_line(words)
     } else if is(name, b"do") {
-        do_line(&mut words)
+        do_line(words)
     } else if is(name, b"end") {
-        end_line(&mut words)
+        end_line(words)
     } else {
         Err(Cause::UnknownWord)
     }
 }
 
 fn kernels_line(words: &mut Words<'_>) -> Result<FileLine, Cause>
-    ensures { ReadsLine (codes "kernels" ∷ words.old) result }
+    ensures { ReadsWords (codes "kernels" ∷ words.old) words.new result }
 {
     let [kernels, ..] = words.last_numbers(&[KERNELS])?;
     Ok(FileLine::Kernels {
@@ -62,7 +82,7 @@ fn kernels_line(words: &mut Words<'_>) -> Result<FileLine, Cause>
 }
 
 fn file_line(words: &mut Words<'_>) -> Result<FileLine, Cause>
-    ensures { ReadsLine (codes "file" ∷ words.old) result }
+    ensures { ReadsWords (codes "file" ∷ words.old) words.new result }
 {
     let [file, extents, ..] = words.last_numbers(&[SMALL, EXTENTS])?;
     let declared = FileDecl {
@@ -73,7 +93,7 @@ fn file_line(words: &mut Words<'_>) -> Result<FileLine, Cause>
 }
 
 fn client_line(words: &mut Words<'_>) -> Result<FileLine, Cause>
-    ensures { ReadsLine (codes "client" ∷ words.old) result }
+    ensures { ReadsWords (codes "client" ∷ words.old) words.new result }
 {
     let [client, ..] = words.last_numbers(&[CLIENT])?;
     Ok(FileLine::Client {
@@ -82,7 +102,7 @@ fn client_line(words: &mut Words<'_>) -> Result<FileLine, Cause>
 }
 
 fn do_line(words: &mut Words<'_>) -> Result<FileLine, Cause>
-    ensures { ReadsLine (codes "do" ∷ words.old) result }
+    ensures { ReadsWords (codes "do" ∷ words.old) words.new result }
 {
     let [client, ..] = words.numbers(&[CLIENT])?;
     let act = read_act(words)?;
@@ -94,7 +114,7 @@ fn do_line(words: &mut Words<'_>) -> Result<FileLine, Cause>
 }
 
 fn end_line(words: &mut Words<'_>) -> Result<FileLine, Cause>
-    ensures { ReadsLine (codes "end" ∷ words.old) result }
+    ensures { ReadsWords (codes "end" ∷ words.old) words.new result }
 {
     words.no_more()?;
     Ok(FileLine::End)

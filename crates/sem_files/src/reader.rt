@@ -1,4 +1,4 @@
-ghost use Rattle.std.specs.Prelude.{◌≡◌, [], if◌then◌else◌, IfOk, IfErr, OnOk};
+ghost use Rattle.std.specs.Prelude.{◌≡◌, [], None, if◌then◌else◌, IfOk, IfErr, OnOk};
 ghost use Rattle.sem_trace.specs.TextLines.{lines_of, words_of};
 ghost use Rattle.sem_trace.specs.Standing.{IsWhy};
 ghost use Rattle.sem_trace.specs.declared.fault.TraceError.TheVariants.{Refused as RefusedText};
@@ -15,7 +15,9 @@ use crate::forms::{read_first, read_line};
 use crate::lines::FileLine;
 use crate::tables::Tables;
 use sem_key::OutOfMemory;
-use sem_trace::{Cause, Lines, TraceError, TraceFault, bytes_fault, is_significant, read_second};
+use sem_trace::{
+    Cause, LineFault, Lines, TraceError, TraceFault, bytes_fault, is_significant, read_second,
+};
 use std::alloc::Global;
 
 /// The most bytes of a text.
@@ -33,15 +35,15 @@ enum Stage {
 // Why a line is not read.
 #[derive(Clone, Copy, Debug)]
 enum LineError {
-    Refused(Cause),
+    Refused(LineFault),
     Memory,
 }
 
-impl From<Cause> for LineError {
-    ghost from_gives = { λ cause e. e ≡ Refused cause };
+impl From<LineFault> for LineError {
+    ghost from_gives = { λ fault e. e ≡ Refused fault };
 
-    fn from(cause: Cause) -> LineError {
-        LineError::Refused(cause)
+    fn from(fault: LineFault) -> LineError {
+        LineError::Refused(fault)
     }
 }
 
@@ -86,7 +88,7 @@ impl Tables {
 }
 
 impl Reader {
-    fn first(&mut self, line: &[u8]) -> Result<(), Cause>
+    fn first(&mut self, line: &[u8]) -> Result<(), LineFault>
         requires stage { self.old.stage ≡ Stage.Start }
         requires tells { Tells self.old.tables }
         ensures ok { OnOk result (Accepts (words_of line.now) self.old self.new) }
@@ -98,7 +100,7 @@ impl Reader {
         Ok(())
     }
 
-    fn second(&mut self, alloc: Global, line: &[u8]) -> Result<(), Cause>
+    fn second(&mut self, alloc: Global, line: &[u8]) -> Result<(), LineFault>
         requires stage { self.old.stage ≡ Stage.Named }
         ensures ok { OnOk result (Accepts (words_of line.now) self.old self.new) }
         ensures err { IfErr result (Refuses (words_of line.now) self.old) }
@@ -119,8 +121,8 @@ impl Reader {
         ensures tells { OnOk result (Tells self.new.tables) }
     {
         let said = read_line(line)?;
-        if let Some(cause) = self.tables.fault(&said) {
-            return Err(LineError::Refused(cause));
+        if let Some(fault) = self.tables.fault(&said) {
+            return Err(LineError::Refused(fault));
         }
         self.tables.enter(said)?;
         self.stage = stage_after(&said);
@@ -134,7 +136,7 @@ impl Reader {
         ensures tells { OnOk result (Tells self.new.tables) }
     {
         if let Some(cause) = bytes_fault(line) {
-            return Err(LineError::Refused(cause));
+            return Err(LineError::Refused(LineFault { cause, word: None }));
         }
         if !is_significant(line) {
             return Ok(());
@@ -143,16 +145,23 @@ impl Reader {
             Stage::Start => Ok(self.first(line)?),
             Stage::Named => Ok(self.second(alloc, line)?),
             Stage::Open => self.open(line),
-            Stage::Ended => Err(LineError::Refused(Cause::TooMany)),
+            Stage::Ended => Err(LineError::Refused(LineFault {
+                cause: Cause::TooMany,
+                word: None,
+            })),
         }
     }
 }
 
-// The refusal of a text at that line.
+// The refusal of a text at that line, as a whole.
 fn refused(line: u64, cause: Cause) -> TraceError
-    ensures { result ≡ RefusedText (record { line = line; cause = cause }) }
+    ensures { result ≡ RefusedText (record { line = line; word = None; cause = cause }) }
 {
-    TraceError::Refused(TraceFault { line, cause })
+    TraceError::Refused(TraceFault {
+        line,
+        word: None,
+        cause,
+    })
 }
 
 // Why a text is not read, if that line of it is not.
@@ -160,7 +169,11 @@ fn at_line(line: u64, e: LineError) -> TraceError
     ensures { result ≡ at_line_lem line e }
 {
     match e {
-        LineError::Refused(cause) => refused(line, cause),
+        LineError::Refused(fault) => TraceError::Refused(TraceFault {
+            line,
+            word: fault.word,
+            cause: fault.cause,
+        }),
         LineError::Memory => TraceError::Memory,
     }
 }

@@ -76,7 +76,7 @@ not-chosen false x y none = refl
 not-long : (bytes : List ℕ) → refusal bytes ≡ None → length bytes ≤ 8388608
 unfolding refusal
 not-long bytes accepted = ltb-false 8388608 (length bytes)
-    (not-chosen (nat_lt 8388608 (length bytes)) (record { line = 0; cause = InputTooLong }) (lines_refusal (lines_of bytes)) accepted)
+    (not-chosen (nat_lt 8388608 (length bytes)) (record { line = 0; word = None; cause = InputTooLong }) (lines_refusal (lines_of bytes)) accepted)
 
 -- the trace of a setup
 short-trace : (T : Setup) → IsSetup T → length (canonical T) ≤ 8388608

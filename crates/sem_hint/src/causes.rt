@@ -1,53 +1,25 @@
-// Finds where a line departs from its form.
+// What belongs in a place of a line.
 use crate::OutOfMemory;
 use crate::forms::{Choice, Slot, choice_words, follows, may_follow};
-use crate::places::{Limits, Setting};
+use crate::places::Setting;
 use crate::words::{Word, text_of};
 use sem_text::number;
 use std::alloc::Global;
 
-/// The place of the first word that departs from the form of its line, and what belongs there. For
-/// a line that ends too early it is the place after its words; for one with a word too many nothing
-/// belongs there.
-#[derive(Clone, Copy, Debug)]
-pub struct Fault {
-    pub place: usize,
-    pub wanted: Option<Slot>,
-}
-
-/// The most numbers of a key.
-const KEY_PARTS: usize = 4;
-
-/// The most numbers of a place.
-const PLACE_PARTS: usize = 3;
-
-/// Where the words depart from the form of their line; none if they have that form.
-pub fn fault_of(
+/// What belongs in the place of a line with these words, of which those before the place stand
+/// right; none if nothing belongs there.
+pub fn wanted_at(
     alloc: Global,
     setting: &Setting,
     words: &[Word],
-) -> Result<Option<Fault>, OutOfMemory> {
+    place: usize,
+) -> Result<Option<Slot>, OutOfMemory> {
     let mut open = reversed(alloc, setting.slots)?;
     let mut more = None;
-    for (place, word) in words.iter().enumerate() {
-        let slot = match open.pop() {
-            Some(slot) => slot,
-            None => match more {
-                Some(choice) => Slot::Choice(choice),
-                None => {
-                    return Ok(Some(Fault {
-                        place,
-                        wanted: None,
-                    }));
-                }
-            },
+    for word in words.iter().take(place) {
+        let Some(slot) = next_slot(&mut open, more) else {
+            return Ok(None);
         };
-        if !is_right(slot, word.text, &setting.limits) {
-            return Ok(Some(Fault {
-                place,
-                wanted: Some(slot),
-            }));
-        }
         if let Slot::Choice(choice) = slot {
             let text = text_of(alloc, word.text)?;
             for next in follows(choice, text.as_str()).iter().rev() {
@@ -56,12 +28,15 @@ pub fn fault_of(
             more = after(choice, text.as_str(), more);
         }
     }
-    Ok(
-        open.pop().map(|slot| Fault {
-            place: words.len(),
-            wanted: Some(slot),
-        }),
-    )
+    Ok(next_slot(&mut open, more))
+}
+
+// The next open slot, or the choice that may follow the form.
+fn next_slot(open: &mut Vec<Slot>, more: Option<Choice>) -> Option<Slot> {
+    match (open.pop(), more) {
+        (None, Some(choice)) => Some(Slot::Choice(choice)),
+        (slot, _) => slot,
+    }
 }
 
 // What may follow the open form, after that word of a choice.
@@ -83,47 +58,17 @@ fn reversed(alloc: Global, slots: &[Slot]) -> Result<Vec<Slot>, OutOfMemory> {
     Ok(open)
 }
 
-// Whether the word can stand in the slot.
-fn is_right(slot: Slot, word: &[u8], limits: &Limits) -> bool {
+/// Whether the word is one that the slot names, or a number of its range.
+pub fn is_named(slot: Slot, word: &[u8]) -> bool {
     match slot {
         Slot::Fixed(name) => word == name.as_bytes(),
-        Slot::Number(_, least, most) => is_within(word, least, most),
-        Slot::Node(_) => is_within(word, 0, limits.node),
-        Slot::Kernels => is_within(word, 1, limits.kernels),
-        Slot::Kernel => is_within(word, 0, limits.declared.saturating_sub(1)),
-        Slot::Key(_) => is_dotted(word, KEY_PARTS, limits),
-        Slot::Place => is_dotted(word, PLACE_PARTS, limits),
+        Slot::Number(_, least, most) => match number(word, most) {
+            Ok(value) => least <= value,
+            Err(_) => false,
+        },
         Slot::Choice(choice) => choice_words(choice)
             .iter()
             .any(|name| word == name.as_bytes()),
+        Slot::Node(_) | Slot::Kernels | Slot::Kernel | Slot::Key(_) | Slot::Place => false,
     }
-}
-
-// Whether the word is a number in that range.
-fn is_within(word: &[u8], least: u64, most: u64) -> bool {
-    match number(word, most) {
-        Ok(value) => least <= value,
-        Err(_) => false,
-    }
-}
-
-// Whether the word is that many numbers with points between them, each in its range.
-fn is_dotted(word: &[u8], parts: usize, limits: &Limits) -> bool {
-    let mut count = 0usize;
-    for part in word.split(|byte| *byte == b'.') {
-        let is_kind = parts == KEY_PARTS && count == 2;
-        let is_last = count.saturating_add(1) == parts;
-        let is_right = if is_kind {
-            is_within(part, 1, 5)
-        } else if is_last {
-            is_within(part, 0, 4095)
-        } else {
-            is_within(part, 0, limits.node)
-        };
-        if !is_right {
-            return false;
-        }
-        count = count.saturating_add(1);
-    }
-    count == parts
 }

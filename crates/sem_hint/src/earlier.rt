@@ -2,40 +2,36 @@
 // declares.
 use crate::OutOfMemory;
 use crate::words::{Word, words_of};
-use sem_trace::is;
 use std::alloc::Global;
 
-/// The number of the earlier line that says the same as these words, and the place of the word in
-/// which they agree.
+/// The number of the earlier line that says the same as these words in the word at the place.
 pub fn twice(
     alloc: Global,
     earlier: &[&[u8]],
     words: &[Word],
-) -> Result<Option<(usize, usize)>, OutOfMemory> {
-    for (place, line) in earlier.iter().enumerate() {
+    place: usize,
+) -> Result<Option<usize>, OutOfMemory> {
+    for (at, line) in earlier.iter().enumerate() {
         let others = words_of(alloc, line)?;
-        if let Some(word) = agreement(words, others.as_slice()) {
-            return Ok(Some((place.saturating_add(1), word)));
+        if agree(words, others.as_slice(), place) {
+            return Ok(Some(at.saturating_add(1)));
         }
     }
     Ok(None)
 }
 
-// The place of the word in which both say the same.
-fn agreement(words: &[Word], others: &[Word]) -> Option<usize> {
+// Whether both say the same thing, of which the word at the place is the last.
+fn agree(words: &[Word], others: &[Word], place: usize) -> bool {
     let same = |place: usize| is_same(words.get(place), others.get(place));
-    let name = words.first()?.text;
-    let other = others.first()?.text;
-    match (name, other) {
-        (b"pe", b"pe") | (b"kill", b"kill") if same(1) => Some(1),
-        (b"file", b"file") | (b"client", b"client") if same(1) => Some(1),
-        (b"vpe", b"vpe") if same(1) => Some(1),
-        (b"vpe", b"vpe") if same(2) => Some(2),
-        (b"root" | b"service", b"root" | b"service") if same(1) && same(2) => Some(2),
-        (b"service", b"service") if same(3) => Some(3),
-        (b"offer", b"offer") | (b"deny", b"deny") if same(1) && same(2) => Some(2),
-        (b"kernels", b"kernels") | (b"window", b"window") => Some(0),
-        _ => None,
+    let (Some(name), Some(other)) = (words.first(), others.first()) else {
+        return false;
+    };
+    match (name.text, place) {
+        (b"root" | b"service", 2) => {
+            matches!(other.text, b"root" | b"service") && same(1) && same(2)
+        }
+        (b"offer" | b"deny", _) => name.text == other.text && same(1) && same(place),
+        _ => name.text == other.text && same(place),
     }
 }
 
@@ -47,55 +43,11 @@ fn is_same(one: Option<&Word>, other: Option<&Word>) -> bool {
     }
 }
 
-/// The place of the word that names something that no earlier line declares, and what it names.
-pub fn undeclared(
-    alloc: Global,
-    earlier: &[&[u8]],
-    words: &[Word],
-) -> Result<Option<(usize, &'static str)>, OutOfMemory> {
-    let Some(name) = words.first() else {
-        return Ok(None);
-    };
-    for (place, what) in declared_before(name.text) {
-        if let Some(word) = words.get(*place)
-            && !is_declared(alloc, earlier, word.text, what)?
-        {
-            return Ok(Some((*place, what)));
-        }
-    }
-    Ok(None)
-}
-
-// The places of the words of a declaration that name something that an earlier line declares, and
-// what they name.
-fn declared_before(name: &[u8]) -> &'static [(usize, &'static str)] {
+/// What a line of that name names that an earlier line declares.
+pub fn named(name: &[u8]) -> &'static str {
     match name {
-        b"vpe" => &[(2, "PE")],
-        b"root" | b"service" | b"kill" | b"call" => &[(1, "VPE")],
-        b"deny" => &[(1, "VPE"), (2, "VPE")],
-        b"offer" => &[(1, "service")],
-        _ => &[],
+        b"vpe" => "PE",
+        b"offer" => "service",
+        _ => "VPE",
     }
-}
-
-// Whether an earlier line declares the thing.
-fn is_declared(
-    alloc: Global,
-    earlier: &[&[u8]],
-    number: &[u8],
-    what: &str,
-) -> Result<bool, OutOfMemory> {
-    for line in earlier {
-        let words = words_of(alloc, line)?;
-        let found = match (words.as_slice(), what) {
-            ([name, one, ..], "PE") => is(name.text, b"pe") && one.text == number,
-            ([name, one, ..], "VPE") => is(name.text, b"vpe") && one.text == number,
-            ([name, _, _, third, ..], _) => is(name.text, b"service") && third.text == number,
-            _ => false,
-        };
-        if found {
-            return Ok(true);
-        }
-    }
-    Ok(false)
 }

@@ -1,7 +1,7 @@
 // The text that tells why a line is refused.
 use crate::OutOfMemory;
-use crate::causes::{Fault, fault_of};
-use crate::earlier::{twice, undeclared};
+use crate::causes::{is_named, wanted_at};
+use crate::earlier::{named, twice};
 use crate::forms::{Choice, Slot, choice_name, choice_words};
 use crate::handles::strayed;
 use crate::places::{Limits, Setting, TextKind, kind_in_lines, setting_of};
@@ -38,14 +38,7 @@ pub fn refusal_text(
     let words = words_of(alloc, line)?;
     let first = setting.trace.unwrap_or(place).min(place);
     let earlier = &lines.as_slice()[first..place];
-    let remark = remark_of(
-        alloc,
-        fault.cause,
-        &setting,
-        earlier,
-        line,
-        words.as_slice(),
-    )?;
+    let remark = remark_of(alloc, fault, &setting, earlier, line, words.as_slice())?;
     let said = remark.text.as_str();
     let mut out = format!(in alloc; "line {number}")?;
     push_word_number(alloc, &mut out, words.as_slice(), &remark)?;
@@ -139,42 +132,83 @@ fn push_shown(
 // The remark on the line.
 fn remark_of(
     alloc: Global,
-    cause: Cause,
+    fault: &TraceFault,
     setting: &Setting,
     earlier: &[&[u8]],
     line: &[u8],
     words: &[Word],
 ) -> Result<Remark, OutOfMemory> {
-    if let Some((word, text)) = strayed(alloc, cause, earlier, words)? {
-        return Ok(at_word(words, word, text));
-    }
-    match cause {
-        Cause::LineTooLong => long_line(alloc, line),
-        Cause::NotText => odd_byte(alloc, line),
-        Cause::NotCanonical => whole(
+    match (fault.cause, fault.word) {
+        (Cause::LineTooLong, _) => long_line(alloc, line),
+        (Cause::NotText, _) => odd_byte(alloc, line),
+        (Cause::NotCanonical, _) => whole(
             alloc,
             line,
             "another spelling than the canonical one: one blank between words and none at the ends, numbers and lines as they are written",
         ),
-        Cause::Twice => match twice(alloc, earlier, words)? {
-            Some((number, word)) => {
+        (cause, Some(word)) => of_word(alloc, cause, word as usize, setting, earlier, line, words),
+        (cause, None) => of_cause(alloc, line, cause, setting.is_files),
+    }
+}
+
+// The remark on the word at the place.
+fn of_word(
+    alloc: Global,
+    cause: Cause,
+    place: usize,
+    setting: &Setting,
+    earlier: &[&[u8]],
+    line: &[u8],
+    words: &[Word],
+) -> Result<Remark, OutOfMemory> {
+    if let Some(text) = strayed(alloc, cause, place, earlier, words)? {
+        return Ok(at_word(words, place, text));
+    }
+    match cause {
+        Cause::Twice => match twice(alloc, earlier, words, place)? {
+            Some(number) => {
                 let number = number.saturating_add(setting.trace.unwrap_or(0));
                 let text = format!(in alloc; "line {number} says this already")?;
-                Ok(at_word(words, word, text))
+                Ok(at_word(words, place, text))
             }
             None => whole(alloc, line, "an earlier line says this already"),
         },
-        Cause::Undeclared => match undeclared(alloc, earlier, words)? {
-            Some((word, what)) => {
-                let text = format!(in alloc; "no earlier line declares this {what}")?;
-                Ok(at_word(words, word, text))
-            }
-            None => whole(alloc, line, "no earlier line declares this"),
-        },
-        _ => match fault_of(alloc, setting, words)? {
-            Some(fault) => of_fault(alloc, cause, line, words, (&fault, &setting.limits)),
-            None => of_cause(alloc, line, cause, setting.is_files),
-        },
+        Cause::Undeclared => {
+            let what = words.first().map_or("VPE", |name| named(name.text));
+            let text = format!(in alloc; "no earlier line declares this {what}")?;
+            Ok(at_word(words, place, text))
+        }
+        _ => of_form(alloc, cause, place, setting, line, words),
+    }
+}
+
+// The remark on the word at the place that departs from the form of its line, or on the line whose
+// words have their form.
+fn of_form(
+    alloc: Global,
+    cause: Cause,
+    place: usize,
+    setting: &Setting,
+    line: &[u8],
+    words: &[Word],
+) -> Result<Remark, OutOfMemory> {
+    match (wanted_at(alloc, setting, words, place)?, words.get(place)) {
+        (Some(slot), Some(word)) if is_named(slot, word.text) => {
+            of_cause(alloc, line, cause, setting.is_files)
+        }
+        (Some(slot), Some(word)) => of_other(alloc, cause, word, slot, &setting.limits),
+        (Some(slot), None) => {
+            let wanted = slot_text(alloc, slot, &setting.limits)?;
+            Ok(Remark {
+                begin: line.len(),
+                width: 1,
+                text: format!(in alloc; "the line ends here; wanted here: {wanted}")?,
+            })
+        }
+        (None, _) => {
+            let text = String::from_str(alloc, "a word too many")?;
+            Ok(at_word(words, place, text))
+        }
     }
 }
 
@@ -286,27 +320,15 @@ fn of_cause(
     }
 }
 
-// The remark on a word that departs from the form of its line.
-fn of_fault(
+// The remark on a word in the place of another.
+fn of_other(
     alloc: Global,
     cause: Cause,
-    line: &[u8],
-    words: &[Word],
-    found: (&Fault, &Limits),
+    word: &Word,
+    slot: Slot,
+    limits: &Limits,
 ) -> Result<Remark, OutOfMemory> {
-    let (fault, limits) = found;
-    let Some(slot) = fault.wanted else {
-        let text = String::from_str(alloc, "a word too many")?;
-        return Ok(at_word(words, fault.place, text));
-    };
     let wanted = slot_text(alloc, slot, limits)?;
-    let Some(word) = words.get(fault.place) else {
-        return Ok(Remark {
-            begin: line.len(),
-            width: 1,
-            text: format!(in alloc; "the line ends here; wanted here: {wanted}")?,
-        });
-    };
     let given = text_of(alloc, word.text)?;
     let text = match slot {
         Slot::Choice(choice) => of_choice(alloc, choice, given.as_str())?,
@@ -316,7 +338,11 @@ fn of_fault(
         }
         _ => format!(in alloc; "\"{given}\" cannot stand here; wanted here: {wanted}")?,
     };
-    Ok(at_word(words, fault.place, text))
+    Ok(Remark {
+        begin: word.begin,
+        width: word.text.len(),
+        text,
+    })
 }
 
 // The remark on a word that is not in a choice.

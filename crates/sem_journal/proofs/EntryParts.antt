@@ -1,29 +1,31 @@
 -- The faults of an entry, part by part.
 use Rattle.std.proofs.Common.{◌≡◌, ℕ, ◌+◌, true, false, List, [], ◌∷◌, ◌++◌, length, drop, map, Option, Some, None, refl, sym, ◌∙◌, drop-drop, inl, inr}
 use Rattle.std.proofs.Common.{decimal, append_assoc}
-use Rattle.std.specs.Option.{option_or}
+use Rattle.std.specs.Option.{option_or, option_map}
 use Rattle.std.proofs.lemmas.Bool.{cases_Bool}
 use Rattle.std.proofs.lemmas.Option.{none-some}
 use Rattle.std.proofs.lemmas.Slice.Eq.{bytes_eq-Decides}
 use Rattle.std.specs.Str.{bytes_eq}
 use Rattle.sem_trace.specs.declared.fault.Cause.{Cause}
-use Rattle.sem_trace.specs.declared.fault.Cause.TheVariants.{OutOfRange, UnknownWord, TooMany, Missing}
-use Rattle.sem_trace.specs.Forms.{Place, place_fault, form_fault}
+use Rattle.sem_trace.specs.declared.fault.Cause.TheVariants.{OutOfRange, UnknownWord}
+use Rattle.sem_trace.specs.Forms.{Place, place_fault, form_fault, at_word}
 use Rattle.sem_trace.specs.Forms.Place.{Word}
-use Rattle.sem_trace.specs.Places.{Fills, Fails}
+use Rattle.sem_trace.specs.Places.{Fills, left_at, placed}
+use Rattle.sem_trace.proofs.PlaceSteps.{unmapped, line_fault_is, no_line_fault}
+use Rattle.sem_journal.proofs.WordChoices.{FailsAt}
 use Rattle.sem_msg.specs.declared.event.Act.{Act}
 use Rattle.sem_msg.specs.declared.entry.Detail.{Detail}
 use Rattle.sem_msg.specs.declared.entry.Entry.{Entry}
 use Rattle.sem_journal.specs.declared.shown.Shown.{Shown}
 use Rattle.sem_journal.specs.EntryText.{act_words, detail_words, entry_words}
 use Rattle.sem_journal.specs.ShownWords.{shown_words}
-use Rattle.sem_journal.specs.EntryForms.{kernel, event_form, behind_event, entry_form, has_long_memory, entry_fault}
+use Rattle.sem_journal.specs.EntryForms.{kernel, event_form, behind_event, entry_form, has_long_memory, long_word, entry_fault}
 
 -- nothing stands behind the last place
 pub nothing_more : (words : List (List ℕ)) → form_fault [] words ≡ None → words ≡ []
 unfolding form_fault
 nothing_more [] fits = refl
-nothing_more (word ∷ words) fits = absurd (none-some TooMany (sym fits))
+nothing_more (word ∷ words) fits = absurd (none-some _ (sym fits))
 
 -- places for just these words
 abbrev pub exactly : List (List ℕ) → List Place
@@ -37,9 +39,13 @@ unfolding form_fault
 exactly_fits [] = refl
 exactly_fits (word ∷ words) = rw (same_bytes word) (exactly_fits words)
 
-or_none : (o p : Option Cause) → option_or o p ≡ None → (o ≡ None) × (p ≡ None)
+or_none : {X : Type 0} (o p : Option X) → option_or o p ≡ None → (o ≡ None) × (p ≡ None)
 or_none None p none = (refl, none)
-or_none (Some cause) p none = absurd (none-some cause (sym none))
+or_none (Some x) p none = absurd (none-some x (sym none))
+
+-- the fault of a word in its place, with words behind
+abbrev first_fault : Place → List ℕ → List (List ℕ) → Option (Cause × ℕ)
+first_fault place word words = option_map (λ cause. (cause, length (word ∷ words))) (place_fault place word)
 
 the_word : (name word : List ℕ) → place_fault (Word (name ∷ [])) word ≡ None → word ≡ name
 the_word name word fits = elim (cases_Bool (bytes_eq word name)) [
@@ -50,30 +56,30 @@ the_word name word fits = elim (cases_Bool (bytes_eq word name)) [
 pub exactly_is : (words others : List (List ℕ)) → form_fault (exactly words) others ≡ None → others ≡ words
 unfolding form_fault
 exactly_is [] [] fits = refl
-exactly_is [] (word ∷ others) fits = absurd (none-some TooMany (sym fits))
-exactly_is (word ∷ words) [] fits = absurd (none-some Missing (sym fits))
+exactly_is [] (word ∷ others) fits = absurd (none-some _ (sym fits))
+exactly_is (word ∷ words) [] fits = absurd (none-some _ (sym fits))
 exactly_is (word ∷ words) (other ∷ others) fits =
-    let both = or_none (place_fault (Word (word ∷ [])) other) (form_fault (exactly words) others) fits in
-    let first : other ≡ word = the_word word other both.0 in
+    let both = or_none (first_fault (Word (word ∷ [])) other others) (form_fault (exactly words) others) fits in
+    let first : other ≡ word = the_word word other (unmapped _ (place_fault (Word (word ∷ [])) other) both.0) in
     let rest : others ≡ words = exactly_is words others both.1 in
     rw (first, rest) refl
 
 rest_is : (places : List Place) (words rest : List (List ℕ)) → form_fault (places ++ exactly rest) words ≡ None → drop (length places) words ≡ rest
 unfolding form_fault
 rest_is [] words rest fits = exactly_is rest words fits
-rest_is (place ∷ places) [] rest fits = absurd (none-some Missing (sym fits))
-rest_is (place ∷ places) (word ∷ words) rest fits = rest_is places words rest (or_none (place_fault place word) _ fits).1
+rest_is (place ∷ places) [] rest fits = absurd (none-some _ (sym fits))
+rest_is (place ∷ places) (word ∷ words) rest fits = rest_is places words rest (or_none (first_fault place word words) _ fits).1
 
 -- the words that fill the places are as many as these
 pub behind_filled : (places : List Place) (words rest : List (List ℕ)) → Fills places words rest → drop (length places) words ≡ rest
 behind_filled places words rest fills = rest_is places words rest (fills (exactly rest) ∙ exactly_fits rest)
 
 -- an entry whose kernel is wrong
-pub kernel_fault : (version kernels : ℕ) (words : List (List ℕ)) (cause : Cause) → Fails (kernel kernels ∷ []) words cause →
-    entry_fault version kernels words ≡ Some cause
-unfolding entry_fault entry_form
-kernel_fault version kernels words cause fails =
-    rw (fails (event_form version kernels (drop 1 words) ++ behind_event version (drop (1 + length (event_form version kernels (drop 1 words))) words))) refl
+pub kernel_fault : (version kernels : ℕ) (words : List (List ℕ)) (fault : Cause × ℕ) → FailsAt (kernel kernels ∷ []) words fault →
+    form_fault (entry_form version kernels words) words ≡ Some fault
+unfolding entry_form
+kernel_fault version kernels words fault fails =
+    fails (event_form version kernels (drop 1 words) ++ behind_event version (drop (1 + length (event_form version kernels (drop 1 words))) words))
 
 -- the words of an entry behind its kernel
 pub behind_kernel : (version kernels : ℕ) (words rest : List (List ℕ)) → Fills (kernel kernels ∷ []) words rest →
@@ -91,10 +97,9 @@ behind_kernel version kernels words rest fills =
     drop_behind n words = sym (drop-drop n 1 words)
 
 -- an entry whose event is wrong
-pub event_fault : (version kernels : ℕ) (words rest : List (List ℕ)) (cause : Cause) → Fills (kernel kernels ∷ []) words rest →
-    Fails (event_form version kernels rest) rest cause → entry_fault version kernels words ≡ Some cause
-unfolding entry_fault
-event_fault version kernels words rest cause fills fails =
+pub event_fault : (version kernels : ℕ) (words rest : List (List ℕ)) (fault : Cause × ℕ) → Fills (kernel kernels ∷ []) words rest →
+    FailsAt (event_form version kernels rest) rest fault → form_fault (entry_form version kernels words) words ≡ Some fault
+event_fault version kernels words rest fault fills fails =
     rw (behind_kernel version kernels words rest fills, fails (behind_event version (drop (length (event_form version kernels rest)) rest))) refl
 
 -- what is wrong with an entry behind its event
@@ -103,20 +108,21 @@ pub shown_fault : (version kernels : ℕ) (words rest behind : List (List ℕ)) 
 shown_fault version kernels words rest behind fills event =
     rw (behind_kernel version kernels words rest fills, behind_filled (event_form version kernels rest) rest behind event) (event (behind_event version behind))
 
-pub fault_behind : (version kernels : ℕ) (words : List (List ℕ)) (cause : Cause) → form_fault (entry_form version kernels words) words ≡ Some cause →
-    entry_fault version kernels words ≡ Some cause
+-- the fault of the form
+pub fault_behind : (version kernels : ℕ) (words rest : List (List ℕ)) (cause : Cause) →
+    form_fault (entry_form version kernels words) words ≡ Some (cause, left_at cause rest) → entry_fault version kernels words ≡ Some (placed cause words rest)
 unfolding entry_fault
-fault_behind version kernels words cause fault = rw fault refl
+fault_behind version kernels words rest cause fault = rw (line_fault_is (entry_form version kernels words) words rest cause fault) refl
 
 pub long_fault : (version kernels : ℕ) (words : List (List ℕ)) → form_fault (entry_form version kernels words) words ≡ None → has_long_memory words ≡ true →
-    entry_fault version kernels words ≡ Some OutOfRange
+    entry_fault version kernels words ≡ Some (at_word (long_word words) OutOfRange)
 unfolding entry_fault
-long_fault version kernels words fits long = rw (fits, long) refl
+long_fault version kernels words fits long = rw (no_line_fault (entry_form version kernels words) words fits, long) refl
 
 pub no_fault : (version kernels : ℕ) (words : List (List ℕ)) → form_fault (entry_form version kernels words) words ≡ None → has_long_memory words ≡ false →
     entry_fault version kernels words ≡ None
 unfolding entry_fault
-no_fault version kernels words fits short = rw (fits, short) refl
+no_fault version kernels words fits short = rw (no_line_fault (entry_form version kernels words) words fits, short) refl
 
 -- the entry that these are the parts of
 abbrev pub entry : ℕ → Act → Detail → Shown → Entry

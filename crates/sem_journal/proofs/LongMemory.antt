@@ -1,5 +1,6 @@
 -- Whether the words of an entry tell memory that ends too far.
-use Rattle.std.proofs.Common.{◌≡◌, ℕ, ◌+◌, ◌<◌, ◌≤◌, ◌^◌, Bool, true, false, nat_lt, ◌==◌, ◌||◌, List, [], ◌∷◌, ◌++◌, Option, None, Some, refl, arith, decimal}
+use Rattle.std.proofs.Common.{◌≡◌, ℕ, ◌+◌, ◌<◌, ◌≤◌, ◌^◌, Bool, true, false, nat_lt, ◌==◌, ◌||◌, List, [], ◌∷◌, ◌++◌, Option, None, Some, refl}
+use Rattle.std.proofs.Common.{arith, decimal, sym, true≢false}
 use Rattle.std.specs.List.{list_all}
 use Rattle.std.specs.Prelude.{codes}
 use Rattle.std.specs.Str.{bytes_eq}
@@ -17,9 +18,9 @@ use Rattle.sem_msg.specs.declared.entry.Reply.{Reply}
 use Rattle.sem_msg.specs.declared.entry.Entry.{Entry}
 use Rattle.sem_text.specs.Number.{is_digit, number_value}
 use Rattle.sem_journal.specs.EntryText.{message_words, act_words, detail_words, grant_words, cut_words, reply_words, entry_words}
-use Rattle.sem_journal.specs.EntryForms.{has_long_memory}
+use Rattle.sem_journal.specs.EntryForms.{has_long_memory, long_word}
 use Rattle.sem_journal.specs.EntryRanges.{MessageFits, EventFits}
-use Rattle.sem_journal.specs.ShownWords.{carries_long}
+use Rattle.sem_journal.specs.ShownWords.{carries_long, length_word}
 use Rattle.sem_reader.proofs.Decimals.{digits-decimal}
 use Rattle.sem_reader.proofs.PlainText.{and-left}
 use Rattle.sem_journal.proofs.PrintedPlaces.{small}
@@ -130,3 +131,42 @@ long_event version kernels kernel (Kill v) (Asked asker answer) g k r fits = abs
 -- whether an entry carries such memory
 pub long_entry : (version kernels : ℕ) (e : Entry) → EventFits version kernels e.event.act e.detail → has_long_memory (entry_words e) ≡ carries_long e.detail
 long_entry version kernels e fits = long_event version kernels e.event.kernel e.event.act e.detail e.grant e.cut e.reply fits
+
+-- the word with the length of the memory
+place_message : (kernel name peer : List ℕ) (p : ℕ) (m : Message) (g : Option (KeyName × KeyName)) (k : Option KeyName) (r : Option Reply) →
+    long_word (kernel ∷ name ∷ peer ∷ message_words m ++ grant_words g ++ cut_words k ++ reply_words r) ≡ length_word (Carried p m)
+place_message kernel name peer p (ObtainReq place target) g k r = refl
+place_message kernel name peer p (ObtainOk parent key object) g k r = refl
+place_message kernel name peer p (ObtainNo place code) g k r = refl
+place_message kernel name peer p (DelegateReq parent object vpe sel) g k r = refl
+place_message kernel name peer p (DelegatePrepared parent key) g k r = refl
+place_message kernel name peer p (DelegateNo parent code) g k r = refl
+place_message kernel name peer p (Ack key accepted) g k r = refl
+place_message kernel name peer p (Orphan parent key) g k r = refl
+place_message kernel name peer p (RevokeReq key job) g k r = refl
+place_message kernel name peer p (RevokeDone job) g k r = refl
+place_message kernel name peer p (Unlink parent key) g k r = refl
+
+place_event : (version kernels kernel peer : ℕ) (act : Act) (m : Message) (g : Option (KeyName × KeyName)) (k : Option KeyName) (r : Option Reply) →
+    EventFits version kernels act (Carried peer m) →
+    long_word (decimal kernel ∷ act_words act ++ detail_words (Carried peer m) ++ grant_words g ++ cut_words k ++ reply_words r) ≡ length_word (Carried peer m)
+place_event version kernels kernel peer (Fetch from) m g k r fits = place_message (decimal kernel) (codes "fetch") (decimal peer) peer m g k r
+place_event version kernels kernel peer Handle m g k r fits = place_message (decimal kernel) (codes "handle") (decimal peer) peer m g k r
+place_event version kernels kernel peer (Flush to) m g k r fits = place_message (decimal kernel) (codes "flush") (decimal peer) peer m g k r
+place_event version kernels kernel peer (Calls v) m g k r fits = absurd fits
+place_event version kernels kernel peer (Upcall v) m g k r fits = absurd fits
+place_event version kernels kernel peer (Resume v) m g k r fits = absurd fits
+place_event version kernels kernel peer (Kill v) m g k r fits = absurd fits
+
+place_detail : (version kernels kernel : ℕ) (act : Act) (detail : Detail) (g : Option (KeyName × KeyName)) (k : Option KeyName) (r : Option Reply) →
+    EventFits version kernels act detail → carries_long detail ≡ true →
+    long_word (decimal kernel ∷ act_words act ++ detail_words detail ++ grant_words g ++ cut_words k ++ reply_words r) ≡ length_word detail
+place_detail version kernels kernel act (Carried peer m) g k r fits long = place_event version kernels kernel peer act m g k r fits
+place_detail version kernels kernel act (Called index call) g k r fits long = absurd (true≢false (sym long))
+place_detail version kernels kernel act (Asked asker answer) g k r fits long = absurd (true≢false (sym long))
+place_detail version kernels kernel act Nothing g k r fits long = absurd (true≢false (sym long))
+
+pub place_entry : (version kernels : ℕ) (e : Entry) → EventFits version kernels e.event.act e.detail → carries_long e.detail ≡ true →
+    long_word (entry_words e) ≡ length_word e.detail
+place_entry version kernels e fits long =
+    place_detail version kernels e.event.kernel e.event.act e.detail e.grant e.cut e.reply fits long

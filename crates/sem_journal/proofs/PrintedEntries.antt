@@ -26,7 +26,7 @@ use Rattle.sem_journal.proofs.EntryParts.{shown_fault, no_fault}
 use Rattle.sem_journal.proofs.PrintedPlaces.{Leaves, a_name, a_number, a_node, a_key, a_place, object_filled, target_filled, call_filled}
 
 -- an object before more words
-object_before : {c : Option Cause} (version : ℕ) (o : Object) (places more : List Place) (words rest : List (List ℕ)) → ObjectFits version o →
+object_before : {c : Option (Cause × ℕ)} (version : ℕ) (o : Object) (places more : List Place) (words rest : List (List ℕ)) → ObjectFits version o →
     Leaves (places ++ more) (words ++ rest) c →
     Leaves ((choice (objects version) (word_at ((object_words o ++ words) ++ rest) 0) ++ places) ++ more) ((object_words o ++ words) ++ rest) c
 unfolding objects
@@ -36,7 +36,8 @@ object_before version (Send gate label credits) places more words rest fits behi
 object_before version (Serv name) places more words rest fits behind = object_filled version (Serv name) fits behind
 object_before version (Sess service ident) places more words rest fits behind = object_filled version (Sess service ident) fits behind
 
-pub message_filled : {more : List Place} {rest : List (List ℕ)} {o : Option Cause} (version : ℕ) (m : Message) → MessageFits version m → Leaves more rest o →
+pub message_filled : {more : List Place} {rest : List (List ℕ)} {o : Option (Cause × ℕ)} (version : ℕ) (m : Message) → MessageFits version m →
+    Leaves more rest o →
     Leaves (message_form version (message_words m ++ rest) ++ more) (message_words m ++ rest) o
 unfolding message_form messages
 message_filled version (ObtainReq place target) fits behind = a_name refl (a_place version place fits.0 (target_filled version target fits.1 behind))
@@ -58,7 +59,7 @@ message_filled version (RevokeReq key job) fits behind =
 message_filled version (RevokeDone job) fits behind = a_name refl (a_number job (omega arith) (omega (arith, fits)) (omega (arith, fits)) behind)
 message_filled version (Unlink parent key) fits behind = a_name refl (a_key version parent fits.0 (a_key version key fits.1 behind))
 
-pub event_filled : {more : List Place} {rest : List (List ℕ)} {o : Option Cause} (version kernels : ℕ) (act : Act) (detail : Detail) → 1 ≤ kernels →
+pub event_filled : {more : List Place} {rest : List (List ℕ)} {o : Option (Cause × ℕ)} (version kernels : ℕ) (act : Act) (detail : Detail) → 1 ≤ kernels →
     kernels ≤ KERNELS → EventFits version kernels act detail → Leaves more rest o →
     Leaves (event_form version kernels (act_words act ++ detail_words detail ++ rest) ++ more) (act_words act ++ detail_words detail ++ rest) o
 unfolding event_form events

@@ -146,37 +146,39 @@ number_fits : (least most n : ℕ) → least ≤ n → n ≤ most → n < 2 ^ 64
 number_fits least most n low high fits = rw (is_number-decimal n fits, value n fits, le-leb least n low, le-leb n most high) refl
 
 -- what is wrong with these words in those places
-pub record Leaves (places : List Place) (words : List (List ℕ)) (o : Option Cause) : Type 0 where
+pub record Leaves (places : List Place) (words : List (List ℕ)) (o : Option (Cause × ℕ)) : Type 0 where
   pub is : form_fault places words ≡ o
 
 -- one place more
-filled : {place : Place} {places : List Place} {word : List ℕ} {words : List (List ℕ)} {o : Option Cause} → place_fault place word ≡ None →
+filled : {place : Place} {places : List Place} {word : List ℕ} {words : List (List ℕ)} {o : Option (Cause × ℕ)} → place_fault place word ≡ None →
     Leaves places words o → Leaves (place ∷ places) (word ∷ words) o
 unfolding form_fault
 filled fits rest = record { is = rw fits rest.is }
 
-pub a_name : {names : List (List ℕ)} {places : List Place} {word : List ℕ} {words : List (List ℕ)} {o : Option Cause} → list_any (bytes_eq word) names ≡ true →
+pub a_name : {names : List (List ℕ)} {places : List Place} {word : List ℕ} {words : List (List ℕ)} {o : Option (Cause × ℕ)} →
+    list_any (bytes_eq word) names ≡ true →
     Leaves places words o → Leaves (Word names ∷ places) (word ∷ words) o
 a_name {names} {places} {word} among rest = filled {place = Word names} {word = word} (rw among refl) rest
 
-pub a_number : {least most : ℕ} {places : List Place} {words : List (List ℕ)} {o : Option Cause} (n : ℕ) → least ≤ n → n ≤ most → n < 2 ^ 64 →
+pub a_number : {least most : ℕ} {places : List Place} {words : List (List ℕ)} {o : Option (Cause × ℕ)} (n : ℕ) → least ≤ n → n ≤ most → n < 2 ^ 64 →
     Leaves places words o → Leaves (Number least most ∷ places) (decimal n ∷ words) o
 a_number {least} {most} n low high fits rest = filled (number_fits least most n low high fits) rest
 
-pub a_node : {places : List Place} {words : List (List ℕ)} {o : Option Cause} (version n : ℕ) → IsNode version n → Leaves places words o →
+pub a_node : {places : List Place} {words : List (List ℕ)} {o : Option (Cause × ℕ)} (version n : ℕ) → IsNode version n → Leaves places words o →
     Leaves (node version ∷ places) (decimal n ∷ words) o
 a_node version n valid rest = a_number n (omega arith) (omega (arith, valid)) (small version n valid) rest
 
-pub a_key : {places : List Place} {words : List (List ℕ)} {o : Option Cause} (version : ℕ) (k : KeyName) → IsKeyInText version k → Leaves places words o →
+pub a_key : {places : List Place} {words : List (List ℕ)} {o : Option (Cause × ℕ)} (version : ℕ) (k : KeyName) → IsKeyInText version k → Leaves places words o →
     Leaves (key version ∷ places) (key_word k ∷ words) o
 a_key version k valid rest = filled {place = key version} (key_fits version k valid) rest
 
-pub a_place : {places : List Place} {words : List (List ℕ)} {o : Option Cause} (version : ℕ) (p : PlaceName) → IsPlaceInText version p → Leaves places words o →
+pub a_place : {places : List Place} {words : List (List ℕ)} {o : Option (Cause × ℕ)} (version : ℕ) (p : PlaceName) →
+    IsPlaceInText version p → Leaves places words o →
     Leaves (key_place version ∷ places) (place_word p ∷ words) o
 a_place version p valid rest = filled {place = key_place version} (place_fits version p valid) rest
 
 -- what is printed fills the places, whatever places and words follow
-pub object_filled : {more : List Place} {rest : List (List ℕ)} {c : Option Cause} (version : ℕ) (o : Object) → ObjectFits version o → Leaves more rest c →
+pub object_filled : {more : List Place} {rest : List (List ℕ)} {c : Option (Cause × ℕ)} (version : ℕ) (o : Object) → ObjectFits version o → Leaves more rest c →
     Leaves (choice (objects version) (word_at (object_words o ++ rest) 0) ++ more) (object_words o ++ rest) c
 unfolding objects
 object_filled version (Mem base len rights) fits behind =
@@ -190,7 +192,7 @@ object_filled version (Send gate label credits) fits behind =
 object_filled version (Serv name) fits behind = a_name refl (a_number name (omega arith) (omega (arith, fits)) (omega (arith, fits)) behind)
 object_filled version (Sess service ident) fits behind = a_name refl (a_key version service fits.0 (a_node version ident fits.1 behind))
 
-pub call_filled : {more : List Place} {rest : List (List ℕ)} {o : Option Cause} (version : ℕ) (c : Call) → IsValidCall (most_vpes version) c →
+pub call_filled : {more : List Place} {rest : List (List ℕ)} {o : Option (Cause × ℕ)} (version : ℕ) (c : Call) → IsValidCall (most_vpes version) c →
     Leaves more rest o → Leaves (choice (calls version) (word_at (call_words c ++ rest) 0) ++ more) (call_words c ++ rest) o
 unfolding calls
 call_filled version (Derive src dst off len rights) valid behind =
@@ -234,7 +236,7 @@ call_filled version (Credit ep) valid behind = a_name refl (a_number ep (omega a
 call_filled version Exit valid behind = a_name refl behind
 call_filled version (Clear src) valid behind = a_name refl (a_number src (omega arith) (omega (arith, valid)) (omega (arith, valid)) behind)
 
-pub target_filled : {more : List Place} {rest : List (List ℕ)} {o : Option Cause} (version : ℕ) (t : Target) → TargetFits version t → Leaves more rest o →
+pub target_filled : {more : List Place} {rest : List (List ℕ)} {o : Option (Cause × ℕ)} (version : ℕ) (t : Target) → TargetFits version t → Leaves more rest o →
     Leaves (choice (targets version) (word_at (target_words t ++ rest) 0) ++ more) (target_words t ++ rest) o
 unfolding targets
 target_filled version (SelTarget vpe sel) fits behind =

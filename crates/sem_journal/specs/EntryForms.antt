@@ -2,9 +2,10 @@
 use Rattle.std.specs.Prelude.{ℕ, ◌+◌, ◌-◌, nat_lt, Bool, ◌&&◌, ◌||◌, List, [], ◌∷◌, ◌++◌, length, drop, codes, Option}
 use Rattle.std.specs.Prelude.{Some, None, if◌then◌else◌}
 use Rattle.std.specs.Option.{option_or}
-use Rattle.sem_trace.specs.declared.fault.Cause.{Cause}
+use Rattle.sem_trace.specs.declared.fault.LineFault.{LineFault}
 use Rattle.sem_trace.specs.declared.fault.Cause.TheVariants.{OutOfRange}
-use Rattle.sem_trace.specs.Forms.{Place, Table, choice, form_fault, word_at, up_to, node, byte, rights, slots, word}
+use Rattle.sem_trace.specs.Forms.{Place, Table, choice, word_fault, at_word, word_at, up_to, node, byte, rights, slots}
+use Rattle.sem_trace.specs.Forms.{word}
 use Rattle.sem_trace.specs.Forms.{key, key_place, calls}
 use Rattle.sem_trace.specs.Forms.Place.{Word}
 use Rattle.sem_trace.specs.Declarations.{stands_at, number_at}
@@ -114,8 +115,12 @@ unfoldable pub has_long_memory : List (List ℕ) → Bool
 has_long_memory words = (stands_at words 3 (codes "obtain-ok") && is_long_at words 6)
     || (stands_at words 3 (codes "delegate-req") && is_long_at words 5)
 
+-- the word with the length of such memory, counted from 0
+abbrev pub long_word : List (List ℕ) → ℕ
+long_word words = if stands_at words 3 (codes "obtain-ok") then 8 else 7
+
 -- what is wrong with the words of an entry
-unfoldable pub entry_fault : (version kernels : ℕ) → List (List ℕ) → Option Cause
+unfoldable pub entry_fault : (version kernels : ℕ) → List (List ℕ) → Option LineFault
 entry_fault version kernels words =
-    option_or (form_fault (entry_form version kernels words) words) (if has_long_memory words then Some OutOfRange
-    else None)
+    option_or (word_fault (entry_form version kernels words) words)
+    (if has_long_memory words then Some (at_word (long_word words) OutOfRange) else None)

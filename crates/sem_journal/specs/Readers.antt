@@ -1,7 +1,6 @@
 -- What the readers of the parts of an entry promise.
 use Rattle.std.specs.Prelude.{◌≡◌, ℕ, ◌<◌, Bool, List, [], ◌∷◌, ◌++◌, drop, codes, decimal, Option, Some, Result}
 use Rattle.std.specs.Prelude.{IfOk}
-use Rattle.std.specs.Result.{result_err}
 use Rattle.sem_msg.specs.Prelude.{KeyName, Object}
 use Rattle.sem_msg.specs.declared.message.Target.{Target}
 use Rattle.sem_msg.specs.declared.message.Message.{Message}
@@ -12,7 +11,7 @@ use Rattle.sem_msg.specs.declared.entry.Reply.{Reply}
 use Rattle.sem_trace.specs.declared.fault.Cause.{Cause}
 use Rattle.sem_trace.specs.Forms.{Place, choice, word_at, form_fault, node, key}
 use Rattle.sem_trace.specs.Forms.Place.{Word}
-use Rattle.sem_trace.specs.Places.{Reads}
+use Rattle.sem_trace.specs.Places.{Reads, told_fault}
 use Rattle.sem_trace.specs.Ranges.{IsNode}
 use Rattle.sem_trace.specs.Words.{key_word, object_words}
 use Rattle.sem_journal.specs.declared.shown.Shown.{Shown}
@@ -73,28 +72,28 @@ ReadsCarried version kernels old =
 
 -- the last words fill the places: what they spell is read, and it is in its ranges
 pub record ReadsLast {X : Type 0} (places : List Place) (spelling : X → List (List ℕ)) (Fits : X →
-    Type 0) (words : List (List ℕ)) (result : Result X Cause) : Type 0 where
-  pub fault : form_fault places words ≡ result_err result
+    Type 0) (words rest : List (List ℕ)) (result : Result X Cause) : Type 0 where
+  pub fault : form_fault places words ≡ told_fault result rest
   pub spelled : IfOk result (λ x. words ≡ spelling x)
   pub fits : IfOk result Fits
 
 -- what follows the names of a reply and of a cut
-abbrev pub ReadsReply : ℕ → List (List ℕ) → Result Reply Cause → Type 0
+abbrev pub ReadsReply : ℕ → (words rest : List (List ℕ)) → Result Reply Cause → Type 0
 ReadsReply version = ReadsLast (node version ∷ code ∷ []) (λ r. decimal r.vpe ∷ decimal r.code ∷ [])
     (λ r. ReplyFits version (Some r))
 
-abbrev pub ReadsCut : ℕ → List (List ℕ) → Result (KeyName × Option Reply) Cause → Type 0
+abbrev pub ReadsCut : ℕ → (words rest : List (List ℕ)) → Result (KeyName × Option Reply) Cause → Type 0
 ReadsCut version words =
     ReadsLast (key version ∷ behind_cut version (drop 1 words)) (λ p. key_word p.0 ∷ reply_words p.1)
     (λ p. CutFits version (Some p.0) × ReplyFits version p.1) words
 
 -- what follows a cut, a grant and an event
-abbrev pub ReadsBehindCut : ℕ → List (List ℕ) → Result (Option Reply) Cause → Type 0
+abbrev pub ReadsBehindCut : ℕ → (words rest : List (List ℕ)) → Result (Option Reply) Cause → Type 0
 ReadsBehindCut version words = ReadsLast (behind_cut version words) reply_words (ReplyFits version) words
 
-abbrev pub ReadsBehindGrant : ℕ → List (List ℕ) → Result (Option KeyName × Option Reply) Cause → Type 0
+abbrev pub ReadsBehindGrant : ℕ → (words rest : List (List ℕ)) → Result (Option KeyName × Option Reply) Cause → Type 0
 ReadsBehindGrant version words = ReadsLast (behind_grant version words) (λ p. cut_words p.0 ++ reply_words p.1)
     (λ p. CutFits version p.0 × ReplyFits version p.1) words
 
-abbrev pub ReadsShown : ℕ → List (List ℕ) → Result Shown Cause → Type 0
+abbrev pub ReadsShown : ℕ → (words rest : List (List ℕ)) → Result Shown Cause → Type 0
 ReadsShown version words = ReadsLast (behind_event version words) shown_words (ShownFits version) words

@@ -26,3 +26,8 @@ abbrev pub carries_long : Detail → Bool
 carries_long (Carried peer (ObtainOk parent key object)) = is_long object
 carries_long (Carried peer (DelegateReq parent object vpe sel)) = is_long object
 carries_long detail = false
+
+-- the word with its length, in an entry
+abbrev pub length_word : Detail → ℕ
+length_word (Carried peer (ObtainOk parent key object)) = 8
+length_word detail = 7

@@ -1,15 +1,18 @@
 // Entries, read from the left.
 #![tactic(auto, unfolding(sem_trace::specs::Forms::form_fault, crate::specs::EntryForms::events, crate::specs::EntryForms::event_form, crate::specs::EntryForms::behind_cut, crate::specs::EntryForms::behind_grant, crate::specs::EntryForms::behind_event))]
 
-ghost use Rattle.std.specs.Prelude.{◌≡◌, ℕ, ◌≤◌, ◌∷◌, codes, IfOk};
+ghost use Rattle.std.specs.Prelude.{◌≡◌, ℕ, ◌≤◌, false, ◌∷◌, codes, IfOk};
 ghost use Rattle.std.specs.Result.{result_err};
 ghost use Rattle.sem_trace.specs.TextLines.{words_of};
 ghost use Rattle.sem_journal.specs.EntryText.{entry_words};
-ghost use Rattle.sem_trace.specs.Places.{number_place};
-ghost use Rattle.sem_journal.specs.EntryForms.{kernel as kernel_lem, entry_fault};
+ghost use Rattle.sem_trace.specs.Forms.{form_fault};
+ghost use Rattle.sem_trace.specs.Places.{number_place, told_fault};
+ghost use Rattle.sem_journal.specs.EntryForms.{kernel as kernel_lem, entry_form, entry_fault};
+ghost use Rattle.sem_journal.specs.EntryForms.{has_long_memory};
 ghost use Rattle.sem_journal.specs.ShownWords.{is_long as is_long_lem};
 ghost use Rattle.sem_journal.specs.ShownWords.{carries_long as carries_long_lem};
-ghost use Rattle.sem_journal.specs.EntryRanges.{EntryFits};
+ghost use Rattle.sem_journal.specs.ShownWords.{length_word as length_word_lem};
+ghost use Rattle.sem_journal.specs.EntryRanges.{EventFits, EntryFits};
 ghost use Rattle.sem_journal.specs.Readers.{ReadsKernel, ReadsConsent, ReadsEvent, ReadsCarried};
 ghost use Rattle.sem_journal.specs.Readers.{ReadsReply, ReadsCut, ReadsBehindCut, ReadsBehindGrant};
 ghost use Rattle.sem_journal.specs.Readers.{ReadsShown};
@@ -18,7 +21,7 @@ use crate::read_message::{CODE, message, two_keys, vpe};
 use crate::shown::Shown;
 use sem_key::{Key, Object};
 use sem_msg::{Act, Consent, Detail, Entry, Event, Message, Reply};
-use sem_trace::{Cause, Range, WORD, Words, is};
+use sem_trace::{Cause, LineFault, Range, WORD, Words, is};
 
 // The event granted, cut and replied nothing.
 const NOTHING: Shown = Shown {
@@ -165,7 +168,7 @@ fn event(words: &mut Words<'_>, version: u8, kernels: u32) -> Result<(Act, Detai
 
 // What follows the name of a reply.
 fn reply(words: &mut Words<'_>, version: u8) -> Result<Reply, Cause>
-    ensures { ReadsReply version words.old result }
+    ensures { ReadsReply version words.old words.new result }
 {
     let vpe = vpe(words, version)?;
     let code = words.number(CODE)?;
@@ -178,7 +181,7 @@ fn reply(words: &mut Words<'_>, version: u8) -> Result<Reply, Cause>
 
 // What follows a cut.
 fn behind_cut(words: &mut Words<'_>, version: u8) -> Result<Option<Reply>, Cause>
-    ensures { ReadsBehindCut version words.old result }
+    ensures { ReadsBehindCut version words.old words.new result }
 {
     let Some(name) = words.next_word() else {
         return Ok(None);
@@ -193,7 +196,7 @@ fn behind_cut(words: &mut Words<'_>, version: u8) -> Result<Option<Reply>, Cause
 
 // What follows the name of a cut.
 fn cut(words: &mut Words<'_>, version: u8) -> Result<(Key, Option<Reply>), Cause>
-    ensures { ReadsCut version words.old result }
+    ensures { ReadsCut version words.old words.new result }
 {
     let key = words.key(version)?;
     let reply = behind_cut(words, version)?;
@@ -202,7 +205,7 @@ fn cut(words: &mut Words<'_>, version: u8) -> Result<(Key, Option<Reply>), Cause
 
 // What follows a grant.
 fn behind_grant(words: &mut Words<'_>, version: u8) -> Result<(Option<Key>, Option<Reply>), Cause>
-    ensures { ReadsBehindGrant version words.old result }
+    ensures { ReadsBehindGrant version words.old words.new result }
 {
     let Some(name) = words.next_word() else {
         return Ok((None, None));
@@ -220,7 +223,7 @@ fn behind_grant(words: &mut Words<'_>, version: u8) -> Result<(Option<Key>, Opti
 
 // What follows the name of a grant.
 fn grant(words: &mut Words<'_>, version: u8) -> Result<Shown, Cause>
-    ensures { ReadsShown version (codes "grant" ∷ words.old) result }
+    ensures { ReadsShown version (codes "grant" ∷ words.old) words.new result }
 {
     let (parent, child) = two_keys(words, version)?;
     let (cut, reply) = behind_grant(words, version)?;
@@ -233,7 +236,7 @@ fn grant(words: &mut Words<'_>, version: u8) -> Result<Shown, Cause>
 
 // What follows an event.
 fn shown(words: &mut Words<'_>, version: u8) -> Result<Shown, Cause>
-    ensures { ReadsShown version words.old result }
+    ensures { ReadsShown version words.old words.new result }
 {
     let Some(name) = words.next_word() else {
         return Ok(NOTHING);
@@ -281,21 +284,32 @@ fn carries_long(detail: &Detail) -> bool
     }
 }
 
-/// The entry that the words of a line tell, in a report of the version with that many kernels, at
-/// least 1. Takes no memory.
-pub fn read_entry(line: &[u8], version: u8, kernels: u32) -> Result<Entry, Cause>
-    requires { 1 ≤ kernels }
-    ensures fault { entry_fault version kernels (words_of line.now) ≡ result_err result }
-    ensures printed { IfOk result (λ e. words_of line.now ≡ entry_words e) }
-    ensures fits { IfOk result (EntryFits version kernels) }
+// The word with the length of such memory, in an entry.
+fn length_word(detail: &Detail) -> u64
+    ensures { result ≡ length_word_lem detail.now }
 {
-    let mut words = Words::of(line);
-    let kernel = kernel(&mut words, kernels)?;
-    let (act, detail) = event(&mut words, version, kernels)?;
-    let shown = shown(&mut words, version)?;
-    if carries_long(&detail) {
-        return Err(Cause::OutOfRange);
+    match detail {
+        Detail::Carried {
+            message: Message::ObtainOk { .. },
+            ..
+        } => 8,
+        _ => 7,
     }
+}
+
+// The entry that the words tell, whatever memory it carries.
+fn entry(words: &mut Words<'_>, version: u8, kernels: u32) -> Result<Entry, Cause>
+    requires { 1 ≤ kernels }
+    ensures fault { form_fault (entry_form version kernels words.old) words.old
+        ≡ told_fault result words.new }
+    ensures printed { IfOk result (λ e. words.old ≡ entry_words e) }
+    ensures event { IfOk result (λ e. EventFits version kernels e.event.act e.detail) }
+    ensures fits { IfOk result (λ e. has_long_memory (entry_words e) ≡ false →
+        EntryFits version kernels e) }
+{
+    let kernel = kernel(words, kernels)?;
+    let (act, detail) = event(words, version, kernels)?;
+    let shown = shown(words, version)?;
     Ok(Entry {
         event: Event { kernel, act },
         detail,
@@ -303,4 +317,26 @@ pub fn read_entry(line: &[u8], version: u8, kernels: u32) -> Result<Entry, Cause
         cut: shown.cut,
         reply: shown.reply,
     })
+}
+
+/// The entry that the words of a line tell, in a report of the version with that many kernels, at
+/// least 1. Takes no memory.
+pub fn read_entry(line: &[u8], version: u8, kernels: u32) -> Result<Entry, LineFault>
+    requires { 1 ≤ kernels }
+    ensures fault { entry_fault version kernels (words_of line.now) ≡ result_err result }
+    ensures printed { IfOk result (λ e. words_of line.now ≡ entry_words e) }
+    ensures fits { IfOk result (EntryFits version kernels) }
+{
+    let mut words = Words::of(line);
+    let entry = match entry(&mut words, version, kernels) {
+        Ok(entry) => entry,
+        Err(cause) => return Err(words.fault_in(line, cause)),
+    };
+    if carries_long(&entry.detail) {
+        return Err(LineFault {
+            cause: Cause::OutOfRange,
+            word: Some(length_word(&entry.detail)),
+        });
+    }
+    Ok(entry)
 }

@@ -6,7 +6,6 @@ use Rattle.sem_msg.specs.declared.call.Call.TheVariants.{Derive, Gate, Obtain, D
 use Rattle.sem_msg.specs.declared.call.Call.TheVariants.{Credit, Exit, Clear}
 use Rattle.sem_msg.specs.Calls.{IsValidCall}
 use Rattle.sem_msg.specs.Versions.{most_vpes}
-use Rattle.sem_trace.specs.declared.fault.Cause.TheVariants.{Missing}
 use Rattle.sem_trace.specs.Forms.{Place, form_fault, choice, word_at, word, rights, slots, byte, node, endpoint, calls}
 use Rattle.sem_trace.specs.Words.{call_words}
 use Rattle.sem_readable.proofs.Values.{byte_fits, endpoint_fits}
@@ -131,7 +130,7 @@ module _ (version : ℕ) (more : List Place) where
 
   pub a_call : (words : List (List ℕ)) → form_fault (choice (calls version) (word_at words 0) ++ more) words ≡ None → BeginsCall words
   unfolding form_fault calls
-  a_call [] none = absurd (none-some Missing (sym none))
+  a_call [] none = absurd (none-some _ (sym none))
   a_call (w ∷ ws) none =
       chosen (calls version) (λ places. places ++ more) BeginsCall w ws (
         derive_row ws,

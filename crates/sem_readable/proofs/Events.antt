@@ -9,7 +9,6 @@ use Rattle.sem_msg.specs.declared.entry.Consent.TheVariants.{Yes, No, Dropped}
 use Rattle.sem_msg.specs.declared.entry.Detail.{Detail}
 use Rattle.sem_msg.specs.declared.entry.Detail.TheVariants.{Called, Carried, Asked, Nothing}
 use Rattle.sem_msg.specs.declared.message.Message.{Message}
-use Rattle.sem_trace.specs.declared.fault.Cause.TheVariants.{Missing}
 use Rattle.sem_trace.specs.Forms.{Place, place_fault, form_fault, choice, word_at, word, node, calls}
 use Rattle.sem_trace.specs.Forms.Place.{Word}
 use Rattle.sem_journal.specs.EntryText.{act_words, detail_words, message_words}
@@ -114,7 +113,7 @@ module _ (version kernels : ℕ) (some : 1 ≤ kernels) (few : kernels ≤ KERNE
 
   pub an_event : (words : List (List ℕ)) → form_fault (event_form version kernels words ++ more) words ≡ None → BeginsEvent words
   unfolding form_fault event_form events
-  an_event [] none = absurd (none-some Missing (sym none))
+  an_event [] none = absurd (none-some _ (sym none))
   an_event (w ∷ ws) none =
       chosen (events version kernels (w ∷ ws)) (λ places. places ++ more) BeginsEvent w ws
       (call_row ws, (fetch_row ws, (handle_row ws, (upcall_row ws, (resume_row ws, (flush_row ws, (kill_row ws, tt)))))))

@@ -1,5 +1,6 @@
 -- Lines without a fault are those of what they tell.
-use Rattle.std.proofs.Common.{◌≡◌, ℕ, zero, suc, ◌+◌, ◌≤◌, Bool, true, false, List, [], ◌∷◌, ◌++◌, length, map, replicate, Option, Some, None, refl, ap, sym}
+use Rattle.std.proofs.Common.{◌≡◌, ℕ, zero, suc, ◌+◌, ◌≤◌, Bool, true, false, List, [], ◌∷◌, ◌++◌, length, map, replicate, Option, Some, None, refl}
+use Rattle.std.proofs.Common.{ap, sym, inl, inr}
 use Rattle.std.proofs.Common.{◌∙◌, arith, decimal}
 use Rattle.std.specs.Prelude.{codes, if◌then◌else◌}
 use Rattle.std.specs.List.{All}
@@ -11,16 +12,18 @@ use Rattle.sem_key.specs.KeyName.{KeyName}
 use Rattle.sem_text.specs.Lines.{line}
 use Rattle.sem_trace.specs.declared.fault.Cause.TheVariants.{OutOfRange, NotCanonical, TooMany, Missing}
 use Rattle.sem_trace.specs.TextLines.{bytes_fault}
-use Rattle.sem_trace.specs.Forms.{form_fault, word, byte, key}
+use Rattle.sem_trace.specs.Forms.{form_fault, word_fault, whole_line, at_word, word, byte, key}
+use Rattle.sem_trace.proofs.PlaceSteps.{has_form}
+use Rattle.std.proofs.lemmas.Bool.{cases_Bool}
+use Rattle.std.proofs.lemmas.Slice.Eq.{bytes_eq-Decides}
 use Rattle.sem_trace.specs.Forms.Place.{Word}
 use Rattle.sem_trace.specs.Words.{key_word}
-use Rattle.sem_journal.specs.EntryForms.{has_long_memory}
+use Rattle.sem_journal.specs.EntryForms.{has_long_memory, long_word}
 use Rattle.sem_journal.specs.ReportText.{held_line}
 use Rattle.sem_journal.proofs.EntryParts.{nothing_more, exactly_is}
 use Rattle.sem_report.specs.ReportRanges.{HeldFits}
 use Rattle.sem_report.specs.WholeLines.{content}
 use Rattle.sem_report.specs.ReportRefusal.{Form, words_in, report_line_fault, forms_fault, fault_of, name_form, held_form}
-use Rattle.sem_report.proofs.LineForms.{spelled}
 use Rattle.sem_readable.proofs.Values.{none_of}
 use Rattle.sem_readable.proofs.Rows.{number, a_key, one_word}
 
@@ -37,14 +40,21 @@ pub record IsFine (form : Form) (whole : List ℕ) : Type 0 where
 pub fine_line : (form : Form) (whole : List ℕ) → report_line_fault form whole ≡ None → IsFine form whole
 unfolding report_line_fault
 fine_line form whole none =
-    let first = none_of (bytes_fault (content whole)) _ none in
-    let second = none_of (form_fault (form (words_in whole)) (words_in whole)) _ first.1 in
-    from (has_long_memory (words_in whole)) refl second.0 second.1
+    let first = none_of (option_map whole_line (bytes_fault (content whole))) _ none in
+    let second = none_of (word_fault (form (words_in whole)) (words_in whole)) _ first.1 in
+    from (has_long_memory (words_in whole)) refl (has_form _ _ second.0) second.1
   where
     from : (b : Bool) → has_long_memory (words_in whole) ≡ b → form_fault (form (words_in whole)) (words_in whole) ≡ None →
-        (if b then Some OutOfRange else (if bytes_eq whole (line (words_in whole)) then None else Some NotCanonical)) ≡ None → IsFine form whole
-    from true is fits none = absurd (none-some OutOfRange (sym none))
-    from false is fits none = record { fits = fits; short = is; printed = spelled whole (line (words_in whole)) none }
+        (if b then Some (at_word (long_word (words_in whole)) OutOfRange)
+        else (if bytes_eq whole (line (words_in whole)) then None else Some (whole_line NotCanonical))) ≡ None → IsFine form whole
+    from true is fits none = absurd (none-some (at_word (long_word (words_in whole)) OutOfRange) (sym none))
+    from false is fits none = record { fits = fits; short = is; printed = printed_so none }
+      where
+        printed_so : (if bytes_eq whole (line (words_in whole)) then None else Some (whole_line NotCanonical)) ≡ None → whole ≡ line (words_in whole)
+        printed_so none = elim (cases_Bool (bytes_eq whole (line (words_in whole)))) [
+          | inl same ↦ (bytes_eq-Decides whole (line (words_in whole))).0 same
+          | inr other ↦ absurd (none-some (whole_line NotCanonical) (sym (rw other at none)))
+        ]
 
 -- each line has its form
 abbrev pub Each : List Form → List (List ℕ) → Type 0
@@ -56,8 +66,8 @@ pub each_fine : (n : ℕ) (forms : List Form) (lines : List (List ℕ)) → form
 unfolding forms_fault
 each_fine n [] [] none = refl
 each_fine n [] (whole ∷ lines) none =
-    absurd (none-some TooMany (sym (none_of (bytes_fault (content whole)) (Some TooMany) (mapped_none (fault_of n) _ none)).1))
-each_fine n (form ∷ forms) [] none = absurd (none-some (fault_of n Missing) (sym none))
+    absurd (none-some TooMany (sym (none_of (bytes_fault (content whole)) (Some TooMany) (mapped_none whole_line _ (mapped_none (fault_of n) _ none))).1))
+each_fine n (form ∷ forms) [] none = absurd (none-some (fault_of n (whole_line Missing)) (sym none))
 each_fine n (form ∷ forms) (whole ∷ lines) none =
     let both = none_of (option_map (fault_of n) (report_line_fault form whole)) (forms_fault (n + 1) forms lines) none in
     (fine_line form whole (mapped_none (fault_of n) _ both.0), each_fine (n + 1) forms lines both.1)

@@ -4,7 +4,6 @@ use Rattle.std.specs.Prelude.{codes}
 use Rattle.std.proofs.lemmas.Option.{none-some}
 use Rattle.sem_msg.specs.declared.message.Message.TheVariants.{ObtainReq, ObtainOk, ObtainNo, DelegateReq, DelegatePrepared, DelegateNo, Ack, Orphan, RevokeReq}
 use Rattle.sem_msg.specs.declared.message.Message.TheVariants.{RevokeDone, Unlink}
-use Rattle.sem_trace.specs.declared.fault.Cause.TheVariants.{Missing}
 use Rattle.sem_trace.specs.Forms.{Place, form_fault, choice, word_at, word, byte, node, key, key_place}
 use Rattle.sem_trace.specs.Forms.Place.{Word}
 use Rattle.sem_trace.specs.Words.{key_word, place_word, object_words}
@@ -107,7 +106,7 @@ module _ (version : ℕ) (more : List Place) where
 
   pub a_message : (words : List (List ℕ)) → form_fault (message_form version words ++ more) words ≡ None → BeginsMessage words
   unfolding form_fault message_form messages
-  a_message [] none = absurd (none-some Missing (sym none))
+  a_message [] none = absurd (none-some _ (sym none))
   a_message (w ∷ ws) none =
       chosen (messages version (w ∷ ws)) (λ places. places ++ more) BeginsMessage w ws (
         obtain_req_row ws,

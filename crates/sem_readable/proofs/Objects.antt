@@ -4,7 +4,6 @@ use Rattle.std.specs.Prelude.{codes}
 use Rattle.std.proofs.lemmas.Option.{none-some}
 use Rattle.sem_key.specs.declared.object.Object.TheVariants.{Mem, Recv, Send, Serv, Sess}
 use Rattle.sem_msg.specs.declared.message.Target.TheVariants.{Sel as SelTarget, Serv as ServTarget, Offer as OfferTarget}
-use Rattle.sem_trace.specs.declared.fault.Cause.TheVariants.{Missing}
 use Rattle.sem_trace.specs.Forms.{Place, form_fault, choice, word_at, word, rights, slots, byte, node, key}
 use Rattle.sem_trace.specs.Words.{key_word, object_words}
 use Rattle.sem_journal.specs.EntryText.{target_words}
@@ -52,7 +51,7 @@ module _ (version : ℕ) (more : List Place) where
 
   pub an_object : (words : List (List ℕ)) → form_fault (choice (objects version) (word_at words 0) ++ more) words ≡ None → BeginsObject words
   unfolding form_fault objects
-  an_object [] none = absurd (none-some Missing (sym none))
+  an_object [] none = absurd (none-some _ (sym none))
   an_object (w ∷ ws) none = chosen (objects version) (λ places. places ++ more) BeginsObject w ws (
     mem_row ws,
     (recv_row ws, (send_row ws, (serv_row ws, (sess_row ws, tt)))),
@@ -83,5 +82,5 @@ module _ (version : ℕ) (more : List Place) where
 
   pub a_target : (words : List (List ℕ)) → form_fault (choice (targets version) (word_at words 0) ++ more) words ≡ None → BeginsTarget words
   unfolding form_fault targets
-  a_target [] none = absurd (none-some Missing (sym none))
+  a_target [] none = absurd (none-some _ (sym none))
   a_target (w ∷ ws) none = chosen (targets version) (λ places. places ++ more) BeginsTarget w ws (sel_row ws, (service_row ws, (offer_row ws, tt))) none

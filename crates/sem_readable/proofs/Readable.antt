@@ -11,7 +11,7 @@ use Rattle.sem_msg.specs.declared.entry.Entry.{Entry}
 use Rattle.sem_msg.specs.Setup.{Setup}
 use Rattle.sem_text.specs.Lines.{line, text}
 use Rattle.sem_trace.specs.declared.fault.Cause.TheVariants.{InputTooLong}
-use Rattle.sem_trace.specs.Forms.{form_fault}
+use Rattle.sem_trace.specs.Forms.{form_fault, whole_line}
 use Rattle.sem_trace.specs.Forms.Place.{Word}
 use Rattle.sem_trace.specs.Refusal.{version_in}
 use Rattle.sem_trace.specs.TraceText.{canonical}
@@ -155,10 +155,10 @@ report_of bytes none = short (nat_lt 134217728 (length bytes)) none
         (subst (λ (v : ℕ). refusal_behind v (drop 1 (whole_lines bytes)) ≡ None) headed.reads none)
 
     short : (b : Bool) →
-        (if b then Some (fault_of 0 InputTooLong)
+        (if b then Some (fault_of 0 (whole_line InputTooLong))
         else option_or (forms_fault 1 (report_form ∷ []) (take 1 (whole_lines bytes)))
         (refusal_behind (report_version (whole_lines bytes)) (drop 1 (whole_lines bytes)))) ≡ None → IsReportText bytes
-    short true none = absurd (none-some (fault_of 0 InputTooLong) (sym none))
+    short true none = absurd (none-some (fault_of 0 (whole_line InputTooLong)) (sym none))
     short false none =
         let both = none_of (forms_fault 1 (report_form ∷ []) (take 1 (whole_lines bytes))) _ none in
         from (headed (whole_lines bytes) (each_fine 1 (report_form ∷ []) (take 1 (whole_lines bytes)) both.0)) both.1

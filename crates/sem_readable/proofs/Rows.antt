@@ -1,5 +1,5 @@
 -- Words without a fault, taken from the left: the word of a value, or a name and what follows it.
-use Rattle.std.proofs.Common.{◌≡◌, ℕ, ◌<◌, ◌^◌, ◌-◌, true, true≢false, List, [], ◌∷◌, ◌++◌, map, None, inl, inr, sym, subst, arith, decimal}
+use Rattle.std.proofs.Common.{◌≡◌, ℕ, ◌<◌, ◌^◌, ◌-◌, true, true≢false, List, [], ◌∷◌, ◌++◌, map, length, Option, None, inl, inr, sym, subst, arith, decimal}
 use Rattle.std.specs.List.{list_any}
 use Rattle.std.specs.Str.{bytes_eq}
 use Rattle.std.proofs.lemmas.Bool.{cases_Bool}
@@ -8,13 +8,20 @@ use Rattle.std.proofs.lemmas.Slice.Eq.{bytes_eq-Decides}
 use Rattle.sem_key.specs.KeyName.{KeyName}
 use Rattle.sem_key.specs.PlaceName.{PlaceName}
 use Rattle.sem_msg.specs.Versions.{most_vpes}
-use Rattle.sem_trace.specs.declared.fault.Cause.TheVariants.{UnknownWord, Missing}
+use Rattle.std.specs.Option.{option_map}
+use Rattle.sem_trace.specs.declared.fault.Cause.{Cause}
+use Rattle.sem_trace.specs.declared.fault.Cause.TheVariants.{UnknownWord}
 use Rattle.sem_trace.specs.Forms.{Place, Table, place_fault, form_fault, behind, node, key, key_place}
 use Rattle.sem_trace.specs.Forms.Place.{Word, Number}
 use Rattle.sem_trace.specs.Ranges.{IsNode, IsKeyInText, IsPlaceInText}
 use Rattle.sem_trace.specs.Words.{key_word, place_word}
+use Rattle.sem_trace.proofs.PlaceSteps.{unmapped}
 use Rattle.sem_trace.proofs.Nodes.{few_vpes}
 use Rattle.sem_readable.proofs.Values.{none_of, IsWordOf, IsIn, number_word, key_of, place_of, node_in}
+
+-- the fault of a word in its place, with words behind
+abbrev first_fault : Place → List ℕ → List (List ℕ) → Option (Cause × ℕ)
+first_fault place word words = option_map (λ cause. (cause, length (word ∷ words))) (place_fault place word)
 
 -- what begins with the first words, and is in its ranges; the words behind it have no fault either
 pub record Begins {X : Type 0} (spelling : X → List (List ℕ)) (Fits : X → Type 0) (more : List Place) (words : List (List ℕ)) : Type 0 where
@@ -29,10 +36,10 @@ pub next : {X : Type 0} (spell : X → List ℕ) (Fits : X → Type 0) (place : 
     (more : List (List ℕ) → List Place) (G : List (List ℕ) → Type 0) (words : List (List ℕ)) → form_fault (place ∷ more words) words ≡ None →
     ((x : X) (rest : List (List ℕ)) → Fits x → form_fault (more (spell x ∷ rest)) rest ≡ None → G (spell x ∷ rest)) → G words
 unfolding form_fault
-next {X} spell Fits place read more G [] none follows = absurd (none-some Missing (sym none))
+next {X} spell Fits place read more G [] none follows = absurd (none-some _ (sym none))
 next {X} spell Fits place read more G (w ∷ ws) none follows =
-    let both = none_of (place_fault place w) (form_fault (more (w ∷ ws)) ws) none in
-    from (read w both.0) both.1
+    let both = none_of (first_fault place w ws) (form_fault (more (w ∷ ws)) ws) none in
+    from (read w (unmapped _ (place_fault place w) both.0)) both.1
   where
     from : IsWordOf spell Fits w → form_fault (more (w ∷ ws)) ws ≡ None → G (w ∷ ws)
     from (x, is, fits) left = subst (λ (v : List ℕ). form_fault (more (v ∷ ws)) ws ≡ None → G (v ∷ ws)) (sym is) (follows x ws fits) left
@@ -88,8 +95,9 @@ pub chosen : (table : Table) (K : List Place → List Place) (G : List (List ℕ
     ≡ None → G (w ∷ ws)
 unfolding form_fault
 chosen table K G w ws rows none =
-    let both = none_of (place_fault (Word (map (λ row. row.0) table)) w) (form_fault (K (behind table w)) ws) none in
-    by_row (λ name places. form_fault (K places) ws ≡ None → G (name ∷ ws)) table w rows (among _ w both.0) both.1
+    let both = none_of (first_fault (Word (map (λ row. row.0) table)) w ws) (form_fault (K (behind table w)) ws) none in
+    by_row (λ name places. form_fault (K places) ws ≡ None → G (name ∷ ws)) table w rows
+    (among _ w (unmapped _ (place_fault (Word (map (λ row. row.0) table)) w) both.0)) both.1
 
 -- what begins, and then what follows it
 pub after_it : {X : Type 0} {spelling : X → List (List ℕ)} {Fits : X → Type 0} {more : List Place} {words : List (List ℕ)} (G : List (List ℕ) → Type 0) →
@@ -112,7 +120,7 @@ of_one P (name ∷ names) w each any = elim (cases_Bool (bytes_eq w name)) [
 pub one_word : (names : List (List ℕ)) (more : List Place) (G : List (List ℕ) → Type 0) (words : List (List ℕ)) → form_fault (Word names ∷ more) words ≡ None →
     ((rest : List (List ℕ)) → form_fault more rest ≡ None → OfEach (λ name. G (name ∷ rest)) names) → G words
 unfolding form_fault
-one_word names more G [] none each = absurd (none-some Missing (sym none))
+one_word names more G [] none each = absurd (none-some _ (sym none))
 one_word names more G (w ∷ ws) none each =
-    let both = none_of (place_fault (Word names) w) (form_fault more ws) none in
-    of_one (λ name. G (name ∷ ws)) names w (each ws both.1) (among names w both.0)
+    let both = none_of (first_fault (Word names) w ws) (form_fault more ws) none in
+    of_one (λ name. G (name ∷ ws)) names w (each ws both.1) (among names w (unmapped _ (place_fault (Word names) w) both.0))

@@ -11,7 +11,8 @@ use Rattle.sem_text.specs.Number.{number_value}
 use Rattle.sem_trace.specs.declared.fault.Cause.TheVariants.{TooMany, Missing}
 use Rattle.sem_trace.specs.declared.fault.TraceFault.{TraceFault}
 use Rattle.sem_trace.specs.TextLines.{words_of, is_significant, significant, bytes_fault}
-use Rattle.sem_trace.specs.Forms.{form_fault, first_form, second_form, third_form, form, word_at}
+use Rattle.sem_trace.proofs.PlaceSteps.{has_form}
+use Rattle.sem_trace.specs.Forms.{form_fault, word_fault, whole_line, first_form, second_form, third_form, form, word_at}
 use Rattle.sem_trace.specs.Declarations.{number_at, declaration}
 use Rattle.sem_trace.specs.Ranges.{IsInRange}
 use Rattle.sem_trace.specs.Earlier.{first_some, window_in, is_ended}
@@ -74,7 +75,7 @@ second_good version words none = number_in (second_form version) words none 1 1 
 third_good : (version kernels : ℕ) (words : List (List ℕ)) → form_fault (third_form version) words ≡ None → IsInRange version kernels (declaration words)
     × (context_fault [] (declaration words) ≡ None)
 unfolding third_form form_fault declaration context_fault window_in
-third_good version kernels [] none = absurd (none-some Missing (sym none))
+third_good version kernels [] none = absurd (none-some _ (sym none))
 third_good version kernels (name ∷ ws) none =
     elim (Contains-cons_cases (codes "window") [] name (one_of (codes "window" ∷ []) name (at_place (third_form version) (name ∷ ws) none 0 (omega arith)))) [
       | inl is ↦ subst (λ (w : List ℕ). IsInRange version kernels (declaration (w ∷ ws)) × (context_fault [] (declaration (w ∷ ws)) ≡ None)) is
@@ -89,26 +90,27 @@ unfolding body_fault
 body_good version kernels earlier words some none = third earlier (is_third version earlier) refl none
   where
     behind_third : (earlier : List (List (List ℕ))) (b : Bool) → is_ended (map declaration earlier) ≡ b →
-        cond b (Some TooMany) (option_or (form_fault (form version kernels words) words) (context_fault (map declaration earlier) (declaration words))) ≡ None →
+        cond b (Some (whole_line TooMany))
+        (option_or (word_fault (form version kernels words) words) (context_fault (map declaration earlier) (declaration words))) ≡ None →
         IsInRange version kernels (declaration words) × (context_fault (map declaration earlier) (declaration words) ≡ None)
-    behind_third earlier true is none = absurd (none-some TooMany (sym none))
-    behind_third earlier false is none = let parts = both_none (form_fault (form version kernels words) words) _ none in
-        (form_ranges version kernels words some parts.0, parts.1)
+    behind_third earlier true is none = absurd (none-some (whole_line TooMany) (sym none))
+    behind_third earlier false is none = let parts = both_none (word_fault (form version kernels words) words) _ none in
+        (form_ranges version kernels words some (has_form _ _ parts.0), parts.1)
 
     third : (earlier : List (List (List ℕ))) (b : Bool) → is_third version earlier ≡ b →
-        cond b (form_fault (third_form version) words)
-        (cond (is_ended (map declaration earlier)) (Some TooMany)
-        (option_or (form_fault (form version kernels words) words) (context_fault (map declaration earlier) (declaration words)))) ≡ None →
+        cond b (word_fault (third_form version) words)
+        (cond (is_ended (map declaration earlier)) (Some (whole_line TooMany))
+        (option_or (word_fault (form version kernels words) words) (context_fault (map declaration earlier) (declaration words)))) ≡ None →
         IsInRange version kernels (declaration words) × (context_fault (map declaration earlier) (declaration words) ≡ None)
     third earlier false is none = behind_third earlier (is_ended (map declaration earlier)) refl none
-    third [] true is none = third_good version kernels words none
+    third [] true is none = third_good version kernels words (has_form _ _ none)
     third (e ∷ es) true is none = absurd (true≢false (sym is))
 
 -- one line more with which nothing is wrong
 good_more : (ls : List (List (List ℕ))) (words : List (List ℕ)) → IsGood ls → words_fault ls words ≡ None → IsGood (ls ++ words ∷ [])
 unfolding words_fault
-good_more [] words good none = first_good words none
-good_more (first ∷ []) words good none = let kernels = second_good (version_in first) words none in
+good_more [] words good none = first_good words (has_form _ _ none)
+good_more (first ∷ []) words good none = let kernels = second_good (version_in first) words (has_form _ _ none) in
     (good, kernels.0, kernels.1, accepted_none (version_in first) (number_at words 1))
 good_more (first ∷ second ∷ earlier) words good none =
     let more = body_good (version_in first) (number_at second 1) earlier words good.1 none in (
@@ -122,7 +124,7 @@ good_more (first ∷ second ∷ earlier) words good none =
 -- the same of a line that may say nothing
 good_line : (ls : List (List (List ℕ))) (line : List ℕ) → IsGood ls → line_fault ls line ≡ None → IsGood (with_line ls line)
 unfolding line_fault
-good_line ls line good none = from (is_significant (words_of line)) (both_none (bytes_fault line) _ none).1
+good_line ls line good none = from (is_significant (words_of line)) (both_none (option_map whole_line (bytes_fault line)) _ none).1
   where
     from : (b : Bool) → cond b (words_fault ls (words_of line)) None ≡ None → IsGood (cond b (ls ++ words_of line ∷ []) ls)
     from true none = good_more ls (words_of line) good none
@@ -160,7 +162,7 @@ accepted_setup lines none =
     good_setup (significant lines) good (ended (is_ended (map declaration (drop 2 (significant lines)))) refl parts.1)
   where
     ended : (b : Bool) → is_ended (map declaration (drop 2 (significant lines))) ≡ b →
-        cond {A = Option TraceFault} b None (Some (record { line = length lines + 1; cause = Missing })) ≡ None →
+        cond {A = Option TraceFault} b None (Some (record { line = length lines + 1; word = None; cause = Missing })) ≡ None →
         is_ended (map declaration (drop 2 (significant lines))) ≡ true
     ended true is none = is
     ended false is none = absurd (none-some _ (sym none))

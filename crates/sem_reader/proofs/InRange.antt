@@ -2,7 +2,8 @@
 use Rattle.std.proofs.Common.{◌≡◌, ℕ, zero, suc, ◌-◌, ◌<◌, ◌≤◌, ◌==◌, Bool, true, false, cond, List, [], ◌∷◌, length, get_or, map, codes, Option, Some, None}
 use Rattle.std.proofs.Common.{inl, inr, refl, sym, subst, arith}
 use Rattle.std.specs.List.{Contains, list_any}
-use Rattle.std.specs.Option.{option_or}
+use Rattle.std.specs.Option.{option_or, option_map}
+use Rattle.sem_trace.proofs.PlaceSteps.{unmapped}
 use Rattle.std.specs.Str.{bytes_eq}
 use Rattle.std.proofs.lemmas.Bool.{cases_Bool, and_parts, leb-true}
 use Rattle.std.proofs.lemmas.Option.{none-some}
@@ -18,18 +19,23 @@ use Rattle.sem_trace.specs.Forms.Place.{Word, Number}
 use Rattle.sem_trace.specs.Declarations.{number_at, call_from, root_from, declaration}
 use Rattle.sem_trace.specs.Ranges.{IsNode, IsInRange}
 
-or_none : (o p : Option Cause) → option_or o p ≡ None → (o ≡ None) × (p ≡ None)
+or_none : (o p : Option (Cause × ℕ)) → option_or o p ≡ None → (o ≡ None) × (p ≡ None)
 or_none None p none = (refl, none)
-or_none (Some cause) p none = absurd (none-some cause (sym none))
+or_none (Some fault) p none = absurd (none-some fault (sym none))
+
+-- the fault of a word in its place, with words behind
+abbrev first_fault : Place → List ℕ → List (List ℕ) → Option (Cause × ℕ)
+first_fault place word words = option_map (λ cause. (cause, length (word ∷ words))) (place_fault place word)
 
 -- each place of a form is filled without a fault
 pub at_place : (places : List Place) (words : List (List ℕ)) → form_fault places words ≡ None → (i : ℕ) → i < length places →
     place_fault (get_or places i (Word [])) (word_at words i) ≡ None
 unfolding form_fault
 at_place [] words none i within = absurd (omega arith)
-at_place (place ∷ places) [] none i within = absurd (none-some Missing (sym none))
-at_place (place ∷ places) (word ∷ words) none zero within = (or_none (place_fault place word) (form_fault places words) none).0
-at_place (place ∷ places) (word ∷ words) none (suc i) within = at_place places words (or_none (place_fault place word) (form_fault places words) none).1 i
+at_place (place ∷ places) [] none i within = absurd (none-some (Missing, 0) (sym none))
+at_place (place ∷ places) (word ∷ words) none zero within =
+    unmapped _ (place_fault place word) (or_none (first_fault place word words) (form_fault places words) none).0
+at_place (place ∷ places) (word ∷ words) none (suc i) within = at_place places words (or_none (first_fault place word words) (form_fault places words) none).1 i
     (omega arith)
 
 -- a number without a fault is in its range
@@ -277,9 +283,10 @@ module _ (version kernels : ℕ) (some : 1 ≤ kernels) where
 
   root_line : (ws : List (List ℕ)) → IsRow (codes "root") ws
   unfolding form lines objects form_fault
-  root_line [] none = absurd (none-some Missing (sym none))
-  root_line (v ∷ []) none = absurd (none-some Missing (sym (or_none (place_fault (node version) v) _ none).1))
-  root_line (v ∷ sel ∷ []) none = absurd (none-some Missing (sym (or_none (place_fault byte sel) _ (or_none (place_fault (node version) v) _ none).1).1))
+  root_line [] none = absurd (none-some (Missing, 0) (sym none))
+  root_line (v ∷ []) none = absurd (none-some (Missing, 0) (sym (or_none (first_fault (node version) v []) _ none).1))
+  root_line (v ∷ sel ∷ []) none =
+      absurd (none-some (Missing, 0) (sym (or_none (first_fault byte sel []) _ (or_none (first_fault (node version) v (sel ∷ [])) _ none).1).1))
   root_line (v ∷ sel ∷ name ∷ ws) none =
       of_one (λ w. IsRootRow v sel w ws) (map (λ row. row.0) objects) name
       (mem_root v sel ws, (recv_root v sel ws, tt))
@@ -289,8 +296,8 @@ module _ (version kernels : ℕ) (some : 1 ≤ kernels) where
 
   call_line : (ws : List (List ℕ)) → IsRow (codes "call") ws
   unfolding form lines calls form_fault declaration
-  call_line [] none = absurd (none-some Missing (sym none))
-  call_line (v ∷ []) none = absurd (none-some Missing (sym (or_none (place_fault (node version) v) _ none).1))
+  call_line [] none = absurd (none-some (Missing, 0) (sym none))
+  call_line (v ∷ []) none = absurd (none-some (Missing, 0) (sym (or_none (first_fault (node version) v []) _ none).1))
   call_line (v ∷ name ∷ ws) none =
       let n = number_in (form version kernels (codes "call" ∷ v ∷ name ∷ ws)) (codes "call" ∷ v ∷ name ∷ ws) none in
       (node_fits version _ (n 1 0 (most_vpes version - 1) (omega arith) refl).1, call_row version kernels v name ws none)
@@ -328,5 +335,5 @@ module _ (version kernels : ℕ) (some : 1 ≤ kernels) where
 pub form_ranges : (version kernels : ℕ) (words : List (List ℕ)) → 1 ≤ kernels → form_fault (form version kernels words) words ≡ None →
     IsInRange version kernels (declaration words)
 unfolding form_fault form
-form_ranges version kernels [] some none = absurd (none-some Missing (sym none))
+form_ranges version kernels [] some none = absurd (none-some (Missing, 0) (sym none))
 form_ranges version kernels (name ∷ ws) some none = line_row version kernels some name ws none

@@ -5,10 +5,11 @@ use Rattle.std.proofs.lemmas.Bool.{cases_Bool}
 use Rattle.sem_key.specs.MembershipTable.{MembershipTable}
 use Rattle.sem_msg.specs.Versions.{most_kernels}
 use Rattle.sem_trace.specs.declared.fault.Cause.{Cause}
+use Rattle.sem_trace.specs.declared.fault.LineFault.{LineFault}
 use Rattle.sem_trace.specs.declared.fault.Cause.TheVariants.{TooMany}
 use Rattle.sem_trace.specs.declared.declaration.Declaration.{Declaration}
 use Rattle.sem_trace.specs.TextLines.{words_of, is_significant, bytes_fault}
-use Rattle.sem_trace.specs.Forms.{form_fault, first_form, second_form, third_form, form}
+use Rattle.sem_trace.specs.Forms.{word_fault, whole_line, first_form, second_form, third_form, form}
 use Rattle.sem_trace.specs.Declarations.{number_at, declaration}
 use Rattle.sem_trace.specs.Earlier.{window_in, owner_in, is_end, is_ended}
 use Rattle.sem_trace.specs.Context.{context_fault}
@@ -77,15 +78,15 @@ tells_kernels version kernels n t owners some few is told = record {
 }
 
 pub first_line : (stage : Stage) (lines : List (List (List ℕ))) (words : List (List ℕ)) (t : Tables) (version : ℕ) → stage ≡ Start → IsReadTo stage lines t →
-    form_fault first_form words ≡ None → version ≡ version_in words → (version ≡ 1) ⊎ (version ≡ 2) →
+    word_fault first_form words ≡ None → version ≡ version_in words → (version ≡ 1) ⊎ (version ≡ 2) →
     (words_fault lines words ≡ None) × IsReadTo Named (lines ++ words ∷ []) (record t { version = version })
 unfolding words_fault
 first_line stage lines words t version at read fits is versions =
     let start : IsReadTo Start lines t = subst (λ (s : Stage). IsReadTo s lines t) at read in
     (rw start.0 fits, (words, rw start.0 refl, subst (λ (v : ℕ). Tells v 1 [] (record t { version = version })) is (tells_version version t versions start.1)))
 
-pub first_refused : (stage : Stage) (lines : List (List (List ℕ))) (words : List (List ℕ)) (t : Tables) (cause : Cause) → stage ≡ Start →
-    form_fault first_form words ≡ Some cause → IsReadTo stage lines t → words_fault lines words ≡ Some cause
+pub first_refused : (stage : Stage) (lines : List (List (List ℕ))) (words : List (List ℕ)) (t : Tables) (cause : LineFault) → stage ≡ Start →
+    word_fault first_form words ≡ Some cause → IsReadTo stage lines t → words_fault lines words ≡ Some cause
 unfolding words_fault
 first_refused stage lines words t cause at fault read =
     let start : IsReadTo Start lines t = subst (λ (s : Stage). IsReadTo s lines t) at read in
@@ -97,7 +98,7 @@ behind_second true lines t opened = opened
 behind_second false lines t opened = opened
 
 pub second_line : (stage : Stage) (lines : List (List (List ℕ))) (words : List (List ℕ)) (t : Tables) (kernels n : ℕ) (owners : MembershipTable) →
-    stage ≡ Named → IsReadTo stage lines t → form_fault (second_form t.version) words ≡ None → kernels ≡ number_at words 1 → 1 ≤ kernels →
+    stage ≡ Named → IsReadTo stage lines t → word_fault (second_form t.version) words ≡ None → kernels ≡ number_at words 1 → 1 ≤ kernels →
     kernels ≤ most_kernels t.version → owners ≡ record { kernels = kernels; owners = replicate n None } →
     (words_fault lines words ≡ None) × IsReadTo (cond (t.version == 1) Open Counted) (lines ++ words ∷ []) (record t { owners = owners })
 unfolding words_fault is_ended
@@ -118,8 +119,8 @@ second_line stage lines words t kernels n owners at read fits is some few empty 
       }),
     )
 
-pub second_refused : (stage : Stage) (lines : List (List (List ℕ))) (words : List (List ℕ)) (t : Tables) (cause : Cause) → stage ≡ Named →
-    form_fault (second_form t.version) words ≡ Some cause → IsReadTo stage lines t → words_fault lines words ≡ Some cause
+pub second_refused : (stage : Stage) (lines : List (List (List ℕ))) (words : List (List ℕ)) (t : Tables) (cause : LineFault) → stage ≡ Named →
+    word_fault (second_form t.version) words ≡ Some cause → IsReadTo stage lines t → words_fault lines words ≡ Some cause
 unfolding words_fault
 second_refused stage lines words t cause at fault read =
     let named : IsReadTo Named lines t = subst (λ (s : Stage). IsReadTo s lines t) at read in
@@ -159,7 +160,7 @@ unfolding context_fault window_in
 window_accepted lines t d read (window, is) = rw (none_earlier (version_in read.first) read.earlier read.due, is) refl
 
 pub third_line : (lines : List (List (List ℕ))) (words : List (List ℕ)) (t after : Tables) (d : Declaration) → (read : IsOpened lines t true false) →
-    form_fault (third_form t.version) words ≡ None → d ≡ declaration words → IsWindowLine d →
+    word_fault (third_form t.version) words ≡ None → d ≡ declaration words → IsWindowLine d →
     Tells (version_in read.first) (number_at read.second 1) (map declaration read.earlier ++ d ∷ []) after →
     (words_fault lines words ≡ None) × IsReadTo Open (lines ++ words ∷ []) after
 unfolding words_fault body_fault is_ended
@@ -180,8 +181,8 @@ third_line lines words t after d read fits says window told =
       },
     )
 
-pub third_refused : (lines : List (List (List ℕ))) (words : List (List ℕ)) (t : Tables) (cause : Cause) → (read : IsOpened lines t true false) →
-    form_fault (third_form t.version) words ≡ Some cause → words_fault lines words ≡ Some cause
+pub third_refused : (lines : List (List (List ℕ))) (words : List (List ℕ)) (t : Tables) (cause : LineFault) → (read : IsOpened lines t true false) →
+    word_fault (third_form t.version) words ≡ Some cause → words_fault lines words ≡ Some cause
 unfolding words_fault body_fault
 third_refused lines words t cause read fault = rw (read.are, read.due, ← read.tells.same_version) fault
 
@@ -190,7 +191,7 @@ pub opened : (stage : Stage) (lines : List (List (List ℕ))) (t : Tables) → s
 opened stage lines t at read = subst (λ (s : Stage). IsReadTo s lines t) at read
 
 pub open_line : (lines : List (List (List ℕ))) (words : List (List ℕ)) (t after : Tables) (kernels : ℕ) (d : Declaration) →
-    (read : IsOpened lines t false false) → kernels ≡ t.owners.kernels → form_fault (form t.version kernels words) words ≡ None → d ≡ declaration words →
+    (read : IsOpened lines t false false) → kernels ≡ t.owners.kernels → word_fault (form t.version kernels words) words ≡ None → d ≡ declaration words →
     context_fault (map declaration read.earlier) d ≡ None →
     Tells (version_in read.first) (number_at read.second 1) (map declaration read.earlier ++ d ∷ []) after →
     (words_fault lines words ≡ None) × IsReadTo (cond (is_end d) Ended Open) (lines ++ words ∷ []) after
@@ -212,16 +213,16 @@ open_line lines words t after kernels d read is fits says accepted told =
       }),
     )
 
-pub open_ill_formed : (lines : List (List (List ℕ))) (words : List (List ℕ)) (t : Tables) (kernels : ℕ) (cause : Cause) →
-    (read : IsOpened lines t false false) → kernels ≡ t.owners.kernels → form_fault (form t.version kernels words) words ≡ Some cause →
+pub open_ill_formed : (lines : List (List (List ℕ))) (words : List (List ℕ)) (t : Tables) (kernels : ℕ) (cause : LineFault) →
+    (read : IsOpened lines t false false) → kernels ≡ t.owners.kernels → word_fault (form t.version kernels words) words ≡ Some cause →
     words_fault lines words ≡ Some cause
 unfolding words_fault body_fault
 open_ill_formed lines words t kernels cause read is fault =
     let number : kernels ≡ number_at read.second 1 = is ∙ read.tells.number in
     rw (read.are, read.due, read.said, ← number, ← read.tells.same_version, fault) refl
 
-pub open_refused : (lines : List (List (List ℕ))) (words : List (List ℕ)) (t : Tables) (kernels : ℕ) (d : Declaration) (cause : Cause) →
-    (read : IsOpened lines t false false) → kernels ≡ t.owners.kernels → form_fault (form t.version kernels words) words ≡ None → d ≡ declaration words →
+pub open_refused : (lines : List (List (List ℕ))) (words : List (List ℕ)) (t : Tables) (kernels : ℕ) (d : Declaration) (cause : LineFault) →
+    (read : IsOpened lines t false false) → kernels ≡ t.owners.kernels → word_fault (form t.version kernels words) words ≡ None → d ≡ declaration words →
     context_fault (map declaration read.earlier) d ≡ Some cause → words_fault lines words ≡ Some cause
 unfolding words_fault body_fault
 open_refused lines words t kernels d cause read is fits says fault =
@@ -229,14 +230,15 @@ open_refused lines words t kernels d cause read is fits says fault =
     rw (read.are, read.due, read.said, ← number, ← read.tells.same_version, fits, ← says) fault
 
 pub ended_refused : (stage : Stage) (lines : List (List (List ℕ))) (words : List (List ℕ)) (t : Tables) → stage ≡ Ended → IsReadTo stage lines t →
-    words_fault lines words ≡ Some TooMany
+    words_fault lines words ≡ Some (whole_line TooMany)
 unfolding words_fault body_fault
 ended_refused stage lines words t at read =
     let ended : IsOpened lines t false true = subst (λ (s : Stage). IsReadTo s lines t) at read in
     rw (ended.are, ended.due, ended.said) refl
 
 -- a line whose bytes are bad
-pub bad_bytes : (lines : List (List (List ℕ))) (line : List ℕ) (cause : Cause) → bytes_fault line ≡ Some cause → line_fault lines line ≡ Some cause
+pub bad_bytes : (lines : List (List (List ℕ))) (line : List ℕ) (cause : Cause) → bytes_fault line ≡ Some cause →
+    line_fault lines line ≡ Some (whole_line cause)
 unfolding line_fault
 bad_bytes lines line cause fault = rw fault refl
 
@@ -253,12 +255,12 @@ pub said : (lines : List (List (List ℕ))) (line : List ℕ) (P : List (List (L
 unfolding line_fault
 said lines line P fits something holds = (rw (fits, something) holds.0, rw something holds.1)
 
-pub refused : (lines : List (List (List ℕ))) (line : List ℕ) (cause : Cause) → bytes_fault line ≡ None → is_significant (words_of line) ≡ true →
+pub refused : (lines : List (List (List ℕ))) (line : List ℕ) (cause : LineFault) → bytes_fault line ≡ None → is_significant (words_of line) ≡ true →
     words_fault lines (words_of line) ≡ Some cause → line_fault lines line ≡ Some cause
 unfolding line_fault
 refused lines line cause fits something fault = rw (fits, something) fault
 
 -- what is wrong with a line, for another reason
-pub stops_weaker : (P Q : Cause → Type 0) → ((cause : Cause) → P cause → Q cause) → (e : LineError) → Stops P e → Stops Q e
+pub stops_weaker : (P Q : LineFault → Type 0) → ((cause : LineFault) → P cause → Q cause) → (e : LineError) → Stops P e → Stops Q e
 stops_weaker P Q more (Refused cause) stops = more cause stops
 stops_weaker P Q more Memory stops = tt

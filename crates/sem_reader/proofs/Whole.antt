@@ -15,6 +15,7 @@ use Rattle.sem_trace.specs.declared.declaration.Declaration.{Declaration}
 use Rattle.sem_trace.specs.declared.declaration.Declaration.TheVariants.{Window, End}
 use Rattle.sem_trace.specs.TraceText.{canonical}
 use Rattle.sem_trace.specs.TextLines.{lines_of, words_of, is_significant, significant, bytes_fault}
+use Rattle.sem_trace.proofs.PlaceSteps.{no_line_fault}
 use Rattle.sem_trace.specs.Forms.{form, form_fault, first_form, second_form, third_form}
 use Rattle.sem_trace.specs.Declarations.{number_at, declaration}
 use Rattle.sem_trace.specs.Earlier.{first_some, is_end, is_ended}
@@ -175,8 +176,8 @@ steps : (first second : List (List ℕ)) (earlier : List (List (List ℕ))) (ws 
 unfolding words_fault body_fault
 steps first second earlier ws ds version k d told third a b c e f g =
     elim (cases_Bool (is_third version earlier)) [
-      | inl due ↦ rw (told, due) (third due)
-      | inr other ↦ rw (told, other, a, b, c, e, f, g) refl
+      | inl due ↦ rw (told, due) (no_line_fault _ _ (third due))
+      | inr other ↦ rw (told, other, a, b, c, no_line_fault (form version k ws) ws e, f, g) refl
     ]
 
 -- the first line behind the second of a printed text of version 2 tells the window
@@ -215,12 +216,12 @@ later_fits T fits before after d is =
 
 first_line : (ws : List (List ℕ)) → form_fault first_form ws ≡ None → words_fault [] ws ≡ None
 unfolding words_fault
-first_line ws fits = fits
+first_line ws fits = no_line_fault first_form ws fits
 
 second_line : (first ws : List (List ℕ)) (version : ℕ) → version_in first ≡ version → form_fault (second_form version) ws ≡ None →
     words_fault (first ∷ []) ws ≡ None
 unfolding words_fault
-second_line first ws version told fits = rw told fits
+second_line first ws version told fits = rw told (no_line_fault (second_form version) ws fits)
 
 words_fit : (T : Setup) → IsSetup T → (i : ℕ) → i < length (all_lines T) → words_fault (take i (all_lines T)) (slice_index_or (all_lines T) i []) ≡ None
 words_fit T fits zero lt = first_line (codes "semper" ∷ codes "trace" ∷ decimal T.version ∷ []) (first_fits T.version fits.versioned)

@@ -1,7 +1,7 @@
 -- What the reader keeps of the lines so far that say something, each as its words.
 use Rattle.std.specs.Prelude.{◌≡◌, ℕ, ◌+◌, ◌≤◌, Bool, true, false, List, [], ◌∷◌, ◌++◌, length, map, None, Some}
 use Rattle.std.specs.Prelude.{if◌then◌else◌}
-use Rattle.sem_trace.specs.declared.fault.Cause.{Cause}
+use Rattle.sem_trace.specs.declared.fault.LineFault.{LineFault}
 use Rattle.sem_trace.specs.declared.fault.TraceError.{TraceError}
 use Rattle.sem_trace.specs.declared.fault.TraceError.TheVariants.{Refused as RefusedText, Memory as NoMemory}
 use Rattle.sem_trace.specs.TextLines.{lines_of, words_of, is_significant, significant}
@@ -43,9 +43,9 @@ abbrev pub Accepts : List (List ℕ) → Reader → Reader → Type 0
 Accepts words old new = (lines : List (List (List ℕ))) → IsRead lines old →
     (words_fault lines words ≡ None) × IsRead (lines ++ words ∷ []) new
 
--- the cause is what is wrong with a line of these words
-abbrev pub Refuses : List (List ℕ) → Reader → Cause → Type 0
-Refuses words old cause = (lines : List (List (List ℕ))) → IsRead lines old → words_fault lines words ≡ Some cause
+-- the fault is what is wrong with a line of these words
+abbrev pub Refuses : List (List ℕ) → Reader → LineFault → Type 0
+Refuses words old fault = (lines : List (List (List ℕ))) → IsRead lines old → words_fault lines words ≡ Some fault
 
 -- the lines, and the line too, if it says something
 abbrev pub with_line : List (List (List ℕ)) → List ℕ → List (List (List ℕ))
@@ -57,12 +57,12 @@ AcceptsLine line old new = (lines : List (List (List ℕ))) → IsRead lines old
     (line_fault lines line ≡ None) × IsRead (with_line lines line) new
 
 -- why a line is not read: what is wrong with it, or memory was refused
-abbrev pub Stops : (Cause → Type 0) → LineError → Type 0
-Stops refuses (Refused cause) = refuses cause
+abbrev pub Stops : (LineFault → Type 0) → LineError → Type 0
+Stops refuses (Refused fault) = refuses fault
 Stops refuses Memory = Unit {0}
 
-abbrev pub RefusesLine : List ℕ → Reader → Cause → Type 0
-RefusesLine line old cause = (lines : List (List (List ℕ))) → IsRead lines old → line_fault lines line ≡ Some cause
+abbrev pub RefusesLine : List ℕ → Reader → LineFault → Type 0
+RefusesLine line old fault = (lines : List (List (List ℕ))) → IsRead lines old → line_fault lines line ≡ Some fault
 
 -- All lines of a text but those that are left are read, and nothing was wrong with any of them.
 pub record IsReadUpTo (bytes : List ℕ) (left : List (List ℕ)) (number : ℕ) (r : Reader) : Type 0 where
@@ -76,5 +76,5 @@ pub record IsReadUpTo (bytes : List ℕ) (left : List (List ℕ)) (number : ℕ)
 
 -- why a text is not read, if that line of it is not
 abbrev pub at_line : ℕ → LineError → TraceError
-at_line line (Refused cause) = RefusedText (record { line = line; cause = cause })
+at_line line (Refused fault) = RefusedText (record { line = line; word = fault.word; cause = fault.cause })
 at_line line Memory = NoMemory

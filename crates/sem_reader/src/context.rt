@@ -1,21 +1,34 @@
 // What earlier lines make wrong with a line.
-ghost use Rattle.std.specs.Prelude.{◌≡◌, ℕ, ◌<◌, ◌≤◌, List, is_none};
+ghost use Rattle.std.specs.Prelude.{◌≡◌, ℕ, ◌<◌, List, is_none};
 ghost use Rattle.sem_key.specs.declared.limits.TheConstants.{VPES};
 ghost use Rattle.sem_trace.specs.declared.declaration.Declaration.{Declaration as DeclarationData};
 ghost use Rattle.sem_trace.specs.Earlier.{pe_in, roots_in, holds_at};
 ghost use Rattle.sem_trace.specs.Context.{is_too_long as is_too_long_lem};
 ghost use Rattle.sem_trace.specs.Context.{is_undeclared as is_undeclared_lem};
 ghost use Rattle.sem_trace.specs.Context.{is_twice as is_twice_lem};
+ghost use Rattle.sem_trace.specs.Context.{undeclared_word as undeclared_word_lem};
+ghost use Rattle.sem_trace.specs.Context.{twice_word as twice_word_lem};
+ghost use Rattle.sem_trace.specs.Forms.{at_word as at_word_lem};
 ghost use Rattle.sem_trace.specs.Context.{is_call_too_many as is_call_too_many_lem, context_fault};
 ghost use Rattle.sem_trace.specs.Ranges.{IsInRange};
 ghost use Rattle.sem_reader.specs.Tells.{Tells, HasSizes};
 
 use crate::tables::Tables;
 use sem_msg::Root;
-use sem_trace::{Cause, Declaration};
+use sem_trace::{Cause, Declaration, LineFault};
 
 /// The most calls of a trace.
 const MOST_CALLS: u32 = 20000;
+
+// The fault of that cause at a word.
+fn at_word(word: u64, cause: Cause) -> LineFault
+    ensures { result ≡ at_word_lem word cause }
+{
+    LineFault {
+        cause,
+        word: Some(word),
+    }
+}
 
 // Whether one of the roots stands at the selector.
 fn holds(roots: &[Root], sel: u8) -> bool
@@ -114,22 +127,57 @@ impl Tables {
         }
     }
 
+    // The word that names what no line declares.
+    fn undeclared_word(&self, d: &Declaration) -> u64
+        requires { IsInRange self.now.version self.now.owners.kernels d.now }
+        ensures { (version kernels : ℕ) (ds : List DeclarationData) →
+            Tells version kernels ds self.now → result ≡ undeclared_word_lem ds d.now }
+    {
+        match *d {
+            Declaration::Vpe { .. } => 2,
+            Declaration::Deny { vpe, .. } => { if self.is_unknown(vpe) { 1 } else { 2 } }
+            _ => 1,
+        }
+    }
+
+    // The word that says what an earlier line says.
+    fn twice_word(&self, d: &Declaration) -> u64
+        requires range { IsInRange self.now.version self.now.owners.kernels d.now }
+        requires sizes { HasSizes self.now }
+        ensures { (version kernels : ℕ) (ds : List DeclarationData) →
+            Tells version kernels ds self.now → result ≡ twice_word_lem ds d.now }
+    {
+        match *d {
+            Declaration::Kernels { .. } | Declaration::Window { .. } => 0,
+            Declaration::Pe { .. } | Declaration::Kill { .. } => 1,
+            Declaration::Vpe { vpe, .. } => {
+                if self.pes[usize::from(vpe)].is_some() {
+                    1
+                } else {
+                    2
+                }
+            }
+            Declaration::Service { vpe, sel, .. } => { if self.holds_at(vpe, sel) { 2 } else { 3 } }
+            _ => 2,
+        }
+    }
+
     /// What earlier lines make wrong with the line. Takes no memory.
     #[tactic(auto, unfolding(sem_trace::specs::Context::context_fault))]
-    pub(crate) fn fault(&self, d: &Declaration) -> Option<Cause>
+    pub(crate) fn fault(&self, d: &Declaration) -> Option<LineFault>
         requires range { IsInRange self.now.version self.now.owners.kernels d.now }
         requires sizes { HasSizes self.now }
         ensures { (version kernels : ℕ) (ds : List DeclarationData) →
             Tells version kernels ds self.now → result ≡ context_fault ds d.now }
     {
         if is_too_long(d) {
-            Some(Cause::OutOfRange)
+            Some(at_word(5, Cause::OutOfRange))
         } else if self.is_undeclared(d) {
-            Some(Cause::Undeclared)
+            Some(at_word(self.undeclared_word(d), Cause::Undeclared))
         } else if self.is_twice(d) {
-            Some(Cause::Twice)
+            Some(at_word(self.twice_word(d), Cause::Twice))
         } else if self.is_call_too_many(d) {
-            Some(Cause::TooMany)
+            Some(at_word(0, Cause::TooMany))
         } else {
             None
         }

@@ -1,4 +1,4 @@
-ghost use Rattle.std.specs.Prelude.{◌≡◌, ◌≤◌, ◌==◌, if◌then◌else◌, [], IfOk, IfErr, OnOk};
+ghost use Rattle.std.specs.Prelude.{◌≡◌, ◌≤◌, ◌==◌, if◌then◌else◌, [], None, IfOk, IfErr, OnOk};
 ghost use Rattle.sem_trace.specs.TextLines.{lines_of, words_of};
 ghost use Rattle.sem_trace.specs.Refusal.{first_fault, lines_refusal, refusal};
 ghost use Rattle.sem_trace.specs.Standing.{Declare, Stands, IsWhy};
@@ -13,7 +13,7 @@ use crate::tables::Tables;
 use sem_key::{Membership, OutOfMemory};
 use sem_msg::Setup;
 use sem_trace::{
-    Cause, Declaration, Lines, TraceError, TraceFault, bytes_fault, is_significant,
+    Cause, Declaration, LineFault, Lines, TraceError, TraceFault, bytes_fault, is_significant,
     read_declaration, read_first, read_second, read_third,
 };
 use std::alloc::Global;
@@ -34,15 +34,15 @@ enum Stage {
 // Why a line is not read.
 #[derive(Clone, Copy, Debug)]
 enum LineError {
-    Refused(Cause),
+    Refused(LineFault),
     Memory,
 }
 
-impl From<Cause> for LineError {
-    ghost from_gives = { λ cause e. e ≡ Refused cause };
+impl From<LineFault> for LineError {
+    ghost from_gives = { λ fault e. e ≡ Refused fault };
 
-    fn from(cause: Cause) -> LineError {
-        LineError::Refused(cause)
+    fn from(fault: LineFault) -> LineError {
+        LineError::Refused(fault)
     }
 }
 
@@ -83,7 +83,7 @@ fn stage_after(d: &Declaration) -> Stage
 }
 
 impl Reader {
-    fn first(&mut self, line: &[u8]) -> Result<(), Cause>
+    fn first(&mut self, line: &[u8]) -> Result<(), LineFault>
         requires stage { self.old.stage ≡ Stage.Start }
         requires sizes { HasSizes self.old.tables }
         ensures ok { OnOk result (Accepts (words_of line.now) self.old self.new) }
@@ -95,7 +95,7 @@ impl Reader {
         Ok(())
     }
 
-    fn second(&mut self, line: &[u8]) -> Result<(), Cause>
+    fn second(&mut self, line: &[u8]) -> Result<(), LineFault>
         requires stage { self.old.stage ≡ Stage.Named }
         requires sizes { HasSizes self.old.tables }
         ensures ok { OnOk result (Accepts (words_of line.now) self.old self.new) }
@@ -133,8 +133,8 @@ impl Reader {
         ensures sizes { OnOk result (HasSizes self.new.tables) }
     {
         let d = read_declaration(line, self.tables.version, self.tables.owners.kernels())?;
-        if let Some(cause) = self.tables.fault(&d) {
-            return Err(LineError::Refused(cause));
+        if let Some(fault) = self.tables.fault(&d) {
+            return Err(LineError::Refused(fault));
         }
         self.tables.enter(d)?;
         self.stage = stage_after(&d);
@@ -149,7 +149,7 @@ impl Reader {
         ensures sizes { OnOk result (HasSizes self.new.tables) }
     {
         if let Some(cause) = bytes_fault(line) {
-            return Err(LineError::Refused(cause));
+            return Err(LineError::Refused(LineFault { cause, word: None }));
         }
         if !is_significant(line) {
             return Ok(());
@@ -159,16 +159,23 @@ impl Reader {
             Stage::Named => Ok(self.second(line)?),
             Stage::Counted => self.third(line),
             Stage::Open => self.open(line),
-            Stage::Ended => Err(LineError::Refused(Cause::TooMany)),
+            Stage::Ended => Err(LineError::Refused(LineFault {
+                cause: Cause::TooMany,
+                word: None,
+            })),
         }
     }
 }
 
-// The refusal of a text at that line.
+// The refusal of a text at that line, as a whole.
 fn refused(line: u64, cause: Cause) -> TraceError
-    ensures { result ≡ RefusedText (record { line = line; cause = cause }) }
+    ensures { result ≡ RefusedText (record { line = line; word = None; cause = cause }) }
 {
-    TraceError::Refused(TraceFault { line, cause })
+    TraceError::Refused(TraceFault {
+        line,
+        word: None,
+        cause,
+    })
 }
 
 // Why a text is not read, if that line of it is not.
@@ -176,7 +183,11 @@ fn at_line(line: u64, e: LineError) -> TraceError
     ensures { result ≡ at_line_lem line e }
 {
     match e {
-        LineError::Refused(cause) => refused(line, cause),
+        LineError::Refused(fault) => TraceError::Refused(TraceFault {
+            line,
+            word: fault.word,
+            cause: fault.cause,
+        }),
         LineError::Memory => TraceError::Memory,
     }
 }

@@ -1,16 +1,17 @@
 -- Lines against their forms, and lines that differ.
-use Rattle.std.proofs.Common.{◌≡◌, ℕ, ◌+◌, true, false, List, [], ◌∷◌, Option, Some, None, refl, sym, ◌∙◌, ◌⊎◌, inl, inr}
+use Rattle.std.proofs.Common.{◌≡◌, ℕ, ◌+◌, true, false, List, [], ◌∷◌, Option, Some, None, refl, sym, ap, ◌∙◌, ◌⊎◌, inl, inr}
 use Rattle.std.specs.Str.{bytes_eq}
 use Rattle.std.proofs.lemmas.Bool.{cases_Bool}
 use Rattle.std.proofs.lemmas.Slice.Eq.{bytes_eq-Decides}
-use Rattle.std.proofs.lemmas.Option.{none-some}
+use Rattle.std.proofs.lemmas.Option.{none-some, same_Some}
 use Rattle.std.specs.Prelude.{if◌then◌else◌}
 use Rattle.sem_text.specs.Lines.{line}
 use Rattle.sem_trace.specs.declared.fault.Cause.{Cause}
+use Rattle.sem_trace.specs.declared.fault.LineFault.{LineFault}
 use Rattle.sem_trace.specs.declared.fault.Cause.TheVariants.{OutOfRange, NotCanonical}
 use Rattle.sem_trace.specs.TextLines.{bytes_fault}
-use Rattle.sem_trace.specs.Forms.{form_fault}
-use Rattle.sem_journal.specs.EntryForms.{entry_form, entry_fault, has_long_memory}
+use Rattle.sem_trace.specs.Forms.{word_fault, whole_line, at_word}
+use Rattle.sem_journal.specs.EntryForms.{entry_form, entry_fault, has_long_memory, long_word}
 use Rattle.sem_report.specs.WholeLines.{content}
 use Rattle.sem_report.specs.ReportRefusal.{Form, words_in, report_line_fault, first_difference}
 
@@ -52,26 +53,35 @@ unfolding first_difference
 line_same first number a b rest others rest' others' line other same is is' equal = same ∙ (rw (is, is', equal) refl)
 
 -- What is wrong with a line of a report: its bytes, its words, its spelling.
-pub bytes_bad : (form : Form) (whole : List ℕ) (cause : Cause) → bytes_fault (content whole) ≡ Some cause → report_line_fault form whole ≡ Some cause
+pub bytes_bad : (form : Form) (whole : List ℕ) (cause : Cause) → bytes_fault (content whole) ≡ Some cause →
+    report_line_fault form whole ≡ Some (whole_line cause)
 unfolding report_line_fault
 bytes_bad form whole cause bad = rw bad refl
 
-pub words_bad : (form : Form) (whole : List ℕ) (cause : Cause) → bytes_fault (content whole) ≡ None →
-    form_fault (form (words_in whole)) (words_in whole) ≡ Some cause → report_line_fault form whole ≡ Some cause
+pub words_bad : (form : Form) (whole : List ℕ) (fault : LineFault) → bytes_fault (content whole) ≡ None →
+    word_fault (form (words_in whole)) (words_in whole) ≡ Some fault → report_line_fault form whole ≡ Some fault
 unfolding report_line_fault
-words_bad form whole cause text bad = rw (text, bad) refl
+words_bad form whole fault text bad = rw (text, bad) refl
 
 pub spelling_bad : (form : Form) (whole : List ℕ) (words : List (List ℕ)) (cause : Cause) → bytes_fault (content whole) ≡ None →
-    form_fault (form (words_in whole)) (words_in whole) ≡ None → words_in whole ≡ words → has_long_memory words ≡ false →
-    (if bytes_eq whole (line words) then None else Some NotCanonical) ≡ Some cause → report_line_fault form whole ≡ Some cause
+    word_fault (form (words_in whole)) (words_in whole) ≡ None → words_in whole ≡ words → has_long_memory words ≡ false →
+    (if bytes_eq whole (line words) then None else Some NotCanonical) ≡ Some cause → report_line_fault form whole ≡ Some (whole_line cause)
 unfolding report_line_fault
-spelling_bad form whole words cause text fits are short bad = rw (text, fits, are, short) bad
+spelling_bad form whole words cause text fits are short bad =
+    elim (cases_Bool (bytes_eq whole (line words))) [
+      | inl same ↦ absurd (none-some cause (rw same at bad))
+      | inr other ↦ rw (text, fits, are, short, other) (ap (λ (c : Cause). Some (whole_line c)) (same_Some NotCanonical cause (rw other at bad)))
+    ]
 
 pub line_good : (form : Form) (whole : List ℕ) (words : List (List ℕ)) → bytes_fault (content whole) ≡ None →
-    form_fault (form (words_in whole)) (words_in whole) ≡ None → words_in whole ≡ words → has_long_memory words ≡ false →
+    word_fault (form (words_in whole)) (words_in whole) ≡ None → words_in whole ≡ words → has_long_memory words ≡ false →
     (if bytes_eq whole (line words) then None else Some NotCanonical) ≡ None → report_line_fault form whole ≡ None
 unfolding report_line_fault
-line_good form whole words text fits are short good = rw (text, fits, are, short) good
+line_good form whole words text fits are short good =
+    elim (cases_Bool (bytes_eq whole (line words))) [
+      | inl same ↦ rw (text, fits, are, short, same) refl
+      | inr other ↦ absurd (none-some NotCanonical (sym (rw other at good)))
+    ]
 
 -- a line that is spelled as it is printed
 pub spelled : (whole printed : List ℕ) → (if bytes_eq whole printed then None else Some NotCanonical) ≡ None → whole ≡ printed
@@ -81,25 +91,25 @@ spelled whole printed good = elim (cases_Bool (bytes_eq whole printed)) [
 ]
 
 -- the fault of an entry is that of its words or of its memory
-pub entry_words_bad : (version kernels : ℕ) (whole : List ℕ) (cause : Cause) → bytes_fault (content whole) ≡ None →
-    entry_fault version kernels (words_in whole) ≡ Some cause → report_line_fault (entry_form version kernels) whole ≡ Some cause
+pub entry_words_bad : (version kernels : ℕ) (whole : List ℕ) (fault : LineFault) → bytes_fault (content whole) ≡ None →
+    entry_fault version kernels (words_in whole) ≡ Some fault → report_line_fault (entry_form version kernels) whole ≡ Some fault
 unfolding report_line_fault entry_fault
-entry_words_bad version kernels whole cause text bad =
-    elim (cases_Option (form_fault (entry_form version kernels (words_in whole)) (words_in whole))) [
+entry_words_bad version kernels whole fault text bad =
+    elim (cases_Option (word_fault (entry_form version kernels (words_in whole)) (words_in whole))) [
       | inl none ↦ elim (cases_Bool (has_long_memory (words_in whole))) [
         | inl long ↦ rw (text, none, long) (rw (none, long) at bad)
-        | inr short ↦ absurd (none-some cause (rw (none, short) at bad))
+        | inr short ↦ absurd (none-some fault (rw (none, short) at bad))
       ]
       | inr some ↦ rw (text, some.1) (rw some.1 at bad)
     ]
 
 pub entry_words_good : (version kernels : ℕ) (words : List (List ℕ)) → entry_fault version kernels words ≡ None →
-    (form_fault (entry_form version kernels words) words ≡ None) × (has_long_memory words ≡ false)
+    (word_fault (entry_form version kernels words) words ≡ None) × (has_long_memory words ≡ false)
 unfolding entry_fault
 entry_words_good version kernels words good =
-    elim (cases_Option (form_fault (entry_form version kernels words) words)) [
+    elim (cases_Option (word_fault (entry_form version kernels words) words)) [
       | inl none ↦ elim (cases_Bool (has_long_memory words)) [
-        | inl long ↦ absurd (none-some OutOfRange (sym (rw (none, long) at good)))
+        | inl long ↦ absurd (none-some (at_word (long_word words) OutOfRange) (sym (rw (none, long) at good)))
         | inr short ↦ (none, short)
       ]
       | inr some ↦ absurd (none-some some.0 (sym (rw some.1 at good)))

@@ -20,6 +20,7 @@ use Rattle.sem_journal.specs.EntryRanges.{EntryFits}
 use Rattle.sem_journal.specs.ReportText.{held_line}
 use Rattle.sem_report.specs.WholeLines.{content}
 use Rattle.sem_report.specs.ReportRefusal.{Form, words_in, report_line_fault, forms_fault, report_form, name_form, count_form, held_form}
+use Rattle.sem_trace.proofs.PlaceSteps.{no_line_fault, has_form}
 use Rattle.sem_trace.proofs.Nodes.{node_small}
 use Rattle.sem_reader.proofs.PlainText.{is_plain_word, are_plain, bare, bytes_fit}
 use Rattle.sem_journal.proofs.PrintedPlaces.{Leaves, a_name, a_number, a_key, kind_most}
@@ -60,7 +61,7 @@ printed_fine form ws plain short fits memory =
     let bytes : bytes_fault (content (line ws)) ≡ None =
     rw (content_line ws plain) (bytes_fit ws plain (omega (arith, size, length-append (bare ws) (10 ∷ [])))) in
     let words : words_in (line ws) ≡ ws = words_line ws plain in
-    line_good form (line ws) ws bytes (rw words fits) words memory (rw ((bytes_eq-Decides (line ws) (line ws)).1 refl) refl)
+    line_good form (line ws) ws bytes (rw words (no_line_fault (form ws) ws fits)) words memory (rw ((bytes_eq-Decides (line ws) (line ws)).1 refl) refl)
 
 filled : Leaves [] [] None
 unfolding form_fault
@@ -131,4 +132,4 @@ pub entry_fine : (version kernels : ℕ) (e : Entry) → 1 ≤ kernels → kerne
 entry_fine version kernels e some few fits =
     let good = entry_words_good version kernels (entry_words e) (entry_read version kernels e some few fits) in
     printed_fine (entry_form version kernels) (entry_words e) (printed_words version kernels e few fits) (omega (arith, short_line version kernels e few fits))
-    good.0 good.1
+    (has_form _ _ good.0) good.1

@@ -29,6 +29,7 @@ use Rattle.sem_trace.specs.Standing.{IsWhy}
 use Rattle.sem_report.specs.WholeLines.{whole_lines, content}
 use Rattle.sem_report.specs.ReportRefusal.{Form, report_form, report_version, count_form, audit_forms, forms_behind, words_in, count_at, report_line_fault}
 use Rattle.sem_report.specs.ReportRefusal.{forms_fault, fault_of}
+use Rattle.sem_trace.specs.Forms.{whole_line}
 use Rattle.sem_report.specs.ReadsReport.{Because, Follows, Stops, NextLine, OneEntry, IsMissing, at_line}
 
 pub missing_stops : (form : Form) (n : ℕ) (lines : List (List ℕ)) (e : TraceError) → IsMissing n lines e → Stops (form ∷ []) n lines e
@@ -114,11 +115,12 @@ unfolding forms_fault
 no_lines_more n lines none = rw none refl
 
 pub line_more : (n : ℕ) (lines behind : List (List ℕ)) (whole : List ℕ) (cause : Cause) → lines ≡ whole ∷ behind →
-    unwrap_or (bytes_fault (content whole)) TooMany ≡ cause → forms_fault n [] lines ≡ Some (fault_of n cause)
+    unwrap_or (bytes_fault (content whole)) TooMany ≡ cause → forms_fault n [] lines ≡ Some (fault_of n (whole_line cause))
 unfolding forms_fault
 line_more n lines behind whole cause is because = rw is (told (bytes_fault (content whole)) cause because)
   where
-    told : (o : Option Cause) (cause : Cause) → unwrap_or o TooMany ≡ cause → option_map (fault_of n) (option_or o (Some TooMany)) ≡ Some (fault_of n cause)
+    told : (o : Option Cause) (cause : Cause) → unwrap_or o TooMany ≡ cause →
+        option_map (fault_of n) (option_map whole_line (option_or o (Some TooMany))) ≡ Some (fault_of n (whole_line cause))
     told None cause because = rw because refl
     told (Some other) cause because = rw because refl
 

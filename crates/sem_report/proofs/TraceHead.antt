@@ -9,12 +9,14 @@ use Rattle.std.proofs.lemmas.Option.{none-some}
 use Rattle.sem_msg.specs.Setup.{Setup}
 use Rattle.sem_text.specs.Lines.{line}
 use Rattle.sem_trace.specs.declared.fault.Cause.{Cause}
+use Rattle.sem_trace.specs.declared.fault.LineFault.{LineFault}
 use Rattle.sem_trace.specs.declared.fault.TraceFault.{TraceFault}
 use Rattle.sem_trace.specs.TextLines.{words_of, is_significant, significant, bytes_fault}
-use Rattle.sem_trace.specs.Forms.{form_fault}
+use Rattle.sem_trace.specs.Forms.{form_fault, word_fault, whole_line}
 use Rattle.sem_trace.specs.Earlier.{is_ended}
 use Rattle.sem_trace.specs.Refusal.{version_in, version_of, declarations_of, first_fault, end_fault, lines_refusal}
 use Rattle.sem_trace.specs.TraceText.{trace_lines}
+use Rattle.sem_trace.proofs.PlaceSteps.{unmapped, has_form, no_line_fault}
 use Rattle.sem_reader.proofs.Decimals.{digits-decimal}
 use Rattle.sem_reader.proofs.PlainText.{are_plain, bare, bytes_fit, words_printed}
 use Rattle.sem_journal.proofs.EntryParts.{exactly_fits, exactly_is}
@@ -37,10 +39,6 @@ or_none : (o p : Option TraceFault) → option_or o p ≡ None → (o ≡ None) 
 or_none None p none = (refl, none)
 or_none (Some fault) p none = absurd (none-some fault (sym none))
 
-mapped_none : (n : ℕ) (o : Option Cause) → option_map (fault_of n) o ≡ None → o ≡ None
-mapped_none n None none = refl
-mapped_none n (Some cause) none = absurd (none-some (fault_of n cause) (sym none))
-
 words_tell : (version : ℕ) (words : List (List ℕ)) → version < 2 ^ 64 → form_fault (trace_form version) words ≡ None → version_in words ≡ version
 words_tell version words small fits = ap version_in (exactly_is (first_words version) words fits) ∙ (digits-decimal version small).1
 
@@ -50,10 +48,11 @@ first_tells : (version n : ℕ) (lines : List (List ℕ)) → version < 2 ^ 64 �
 unfolding head_fault
 first_tells version n [] small none = inl refl
 first_tells version n (line ∷ lines) small none =
-    let both = or_none (option_map (fault_of n) (bytes_fault line)) _ none in
+    let both = or_none (option_map (fault_of n) (option_map whole_line (bytes_fault line))) _ none in
     elim (cases_Bool (is_significant (words_of line))) [
       | inl says ↦ rw says
-          (inr (words_tell version (words_of line) small (mapped_none n (form_fault (trace_form version) (words_of line)) (rw says at both.1))))
+          (inr (words_tell version (words_of line) small (has_form (trace_form version) (words_of line)
+          (unmapped (fault_of n) (word_fault (trace_form version) (words_of line)) (rw says at both.1)))))
       | inr silent ↦ rw silent (first_tells version (n + 1) lines small (rw silent at both.1))
     ]
 
@@ -81,13 +80,13 @@ head_nothing version first number all rest same none = sym (same ∙ (rw none re
 
 pub head_bytes : (version first number : ℕ) (all rest behind : List (List ℕ)) (whole : List ℕ) (cause : Cause) →
     head_fault version first (map content all) ≡ head_fault version number (map content rest) → rest ≡ whole ∷ behind →
-    bytes_fault (content whole) ≡ Some cause → Some (fault_of number cause) ≡ head_fault version first (map content all)
+    bytes_fault (content whole) ≡ Some cause → Some (fault_of number (whole_line cause)) ≡ head_fault version first (map content all)
 unfolding head_fault
 head_bytes version first number all rest behind whole cause same is bad = sym (same ∙ (rw (is, bad) refl))
 
-pub head_words : (version first number : ℕ) (all rest behind : List (List ℕ)) (whole : List ℕ) (o : Option Cause) →
+pub head_words : (version first number : ℕ) (all rest behind : List (List ℕ)) (whole : List ℕ) (o : Option LineFault) →
     head_fault version first (map content all) ≡ head_fault version number (map content rest) → rest ≡ whole ∷ behind → bytes_fault (content whole) ≡ None →
-    is_significant (words_of (content whole)) ≡ true → form_fault (trace_form version) (words_of (content whole)) ≡ o →
+    is_significant (words_of (content whole)) ≡ true → word_fault (trace_form version) (words_of (content whole)) ≡ o →
     option_map (fault_of number) o ≡ head_fault version first (map content all)
 unfolding head_fault
 head_words version first number all rest behind whole o same is good says fault = sym (same ∙ (rw (is, good, says, fault) refl))
@@ -107,7 +106,7 @@ head_printed T versions =
     let text : content (line first) ≡ bare first = content_line first plain in
     let words : words_of (bare first) ≡ first = words_printed first plain in
     let bytes : bytes_fault (bare first) ≡ None = bytes_fit first plain (short T.version (small_version T.version versions)) in
-    rw (text, bytes, words, exactly_fits first) refl
+    rw (text, bytes, words, no_line_fault (trace_form T.version) first (exactly_fits first)) refl
   where
     short : (n : ℕ) → n < 2 ^ 64 → length (bare (first_words n)) ≤ 255
     short n small = omega (arith, length-append (decimal n) [], length-decimal-le 20 n (omega arith) (omega arith) (omega arith))

@@ -10,7 +10,8 @@ use Rattle.std.proofs.lemmas.Option.{none-some, same_Some}
 use Rattle.std.proofs.lemmas.Slice.Eq.{bytes_eq-Decides}
 use Rattle.sem_report.proofs.LineForms.{cases_Option}
 use Rattle.sem_msg.specs.Setup.{Setup}
-use Rattle.sem_trace.specs.declared.fault.Cause.{Cause}
+use Rattle.sem_trace.specs.declared.fault.LineFault.{LineFault}
+use Rattle.sem_trace.specs.Forms.{whole_line}
 use Rattle.sem_trace.specs.declared.fault.Cause.TheVariants.{NotCanonical}
 use Rattle.sem_trace.specs.declared.fault.TraceFault.{TraceFault}
 use Rattle.sem_trace.specs.declared.fault.TraceError.{TraceError}
@@ -43,7 +44,7 @@ fault_line : (lines : List (List ℕ)) (i : ℕ) (f : TraceFault) → fault_at l
 unfolding fault_at
 fault_line lines i f found = mapped _ i f found
   where
-    mapped : (o : Option Cause) (i : ℕ) (f : TraceFault) → option_map (λ cause. record { line = i + 1; cause = cause }) o ≡ Some f → f.line ≡ i + 1
+    mapped : (o : Option LineFault) (i : ℕ) (f : TraceFault) → option_map (fault_of (i + 1)) o ≡ Some f → f.line ≡ i + 1
     mapped None i f found = absurd (none-some f found)
     mapped (Some cause) i f found = ap (λ (g : TraceFault). g.line) (sym (same_Some _ f found))
 
@@ -126,7 +127,7 @@ section_version version section lines T versions is head declare =
 -- the spelling of the section of a trace, which is printed so
 pub section_spelled : (version : ℕ) (section printed : List ℕ) (lines : List (List ℕ)) (T : Setup) (o : Option ℕ) → whole_lines section ≡ lines →
     Declare (lines_of section) T → head_fault version 2 (map content lines) ≡ None → printed ≡ canonical T →
-    o ≡ first_difference 2 (whole_lines section) (whole_lines printed) → trace_refusal version lines ≡ option_map (λ n. fault_of n NotCanonical) o
+    o ≡ first_difference 2 (whole_lines section) (whole_lines printed) → trace_refusal version lines ≡ option_map (λ n. fault_of n (whole_line NotCanonical)) o
 section_spelled version section printed lines T o is declare head text found =
     let fine : lines_refusal (map content lines) ≡ None = rw (section_lines section lines is) at declare.accepted in
     let same : T ≡ setup_in lines = section_declares section lines T is declare in

@@ -14,11 +14,12 @@ use Rattle.sem_trace.specs.Standing.{IsWhy}
 use Rattle.sem_trace.specs.TraceText.{canonical, trace_lines}
 use Rattle.sem_journal.specs.ReportText.{journal_lines, audit_lines, report_text}
 use Rattle.sem_report.specs.WholeLines.{whole_lines}
+use Rattle.sem_trace.specs.Forms.{whole_line}
 use Rattle.sem_report.specs.ReportRefusal.{Form, report_form, report_version, forms_fault, forms_behind, trace_section, trace_refusal, setup_in, fault_of}
 use Rattle.sem_report.specs.ReportRefusal.{refusal_behind, report_refusal}
 use Rattle.sem_report.specs.ReadsReport.{Follows, Stops, IsRefused}
 
-pub too_long : (bytes : List ℕ) → 134217728 < length bytes → report_refusal bytes ≡ Some (fault_of 0 InputTooLong)
+pub too_long : (bytes : List ℕ) → 134217728 < length bytes → report_refusal bytes ≡ Some (fault_of 0 (whole_line InputTooLong))
 unfolding report_refusal
 too_long bytes long = rw (lt-ltb _ _ long) refl
 

@@ -1,21 +1,21 @@
--- Which texts are refused as reports, at which line and why ("The report" in docs/texts.md).
+-- Which texts are refused as reports, at which line and word and why ("The report" in docs/texts.md).
 use Rattle.std.specs.Prelude.{ℕ, ◌+◌, nat_lt, Bool, List, [], ◌∷◌, ◌++◌, length, take, drop, map, codes, decimal}
 use Rattle.std.specs.Prelude.{replicate, slice_index_or, Option, Some, None, option_map, if◌then◌else◌}
 use Rattle.std.specs.Option.{option_or}
 use Rattle.std.specs.Str.{bytes_eq}
 use Rattle.sem_msg.specs.Prelude.{Setup}
 use Rattle.sem_text.specs.Lines.{line}
-use Rattle.sem_trace.specs.declared.fault.Cause.{Cause}
+use Rattle.sem_trace.specs.declared.fault.LineFault.{LineFault}
 use Rattle.sem_trace.specs.declared.fault.Cause.TheVariants.{OutOfRange, Missing, TooMany, InputTooLong, NotCanonical}
 use Rattle.sem_trace.specs.declared.fault.TraceFault.{TraceFault}
 use Rattle.sem_trace.specs.TextLines.{words_of, is_significant, bytes_fault}
-use Rattle.sem_trace.specs.Forms.{Place, form_fault, byte, word, key}
+use Rattle.sem_trace.specs.Forms.{Place, word_fault, whole_line, at_word, byte, word, key}
 use Rattle.sem_trace.specs.Forms.Place.{Word}
 use Rattle.sem_trace.specs.Declarations.{stands_at, number_at}
 use Rattle.sem_trace.specs.Refusal.{lines_refusal, version_in, version_of, kernels_of, declarations_of}
 use Rattle.sem_trace.specs.Standing.{setup_of}
 use Rattle.sem_trace.specs.TraceText.{canonical}
-use Rattle.sem_journal.specs.EntryForms.{entry_form, has_long_memory}
+use Rattle.sem_journal.specs.EntryForms.{entry_form, has_long_memory, long_word}
 use Rattle.sem_report.specs.WholeLines.{whole_lines, content}
 
 -- the words of a line
@@ -28,22 +28,23 @@ Form = List (List ℕ) → List Place
 
 -- what is wrong with a line of that form: with its bytes, its words, the memory that it tells, or
 -- its spelling
-unfoldable pub report_line_fault : Form → List ℕ → Option Cause
+unfoldable pub report_line_fault : Form → List ℕ → Option LineFault
 report_line_fault form whole =
     let words : List (List ℕ) = words_in whole in
-    option_or (bytes_fault (content whole))
-    (option_or (form_fault (form words) words)
-    (if has_long_memory words then Some OutOfRange
-    else (if bytes_eq whole (line words) then None else Some NotCanonical)))
+    option_or (option_map whole_line (bytes_fault (content whole)))
+    (option_or (word_fault (form words) words)
+    (if has_long_memory words then Some (at_word (long_word words) OutOfRange)
+    else (if bytes_eq whole (line words) then None else Some (whole_line NotCanonical))))
 
-abbrev pub fault_of : ℕ → Cause → TraceFault
-fault_of n cause = record { line = n; cause = cause }
+abbrev pub fault_of : ℕ → LineFault → TraceFault
+fault_of n fault = record { line = n; word = fault.word; cause = fault.cause }
 
 -- the first fault of lines of these forms; the first line has that number
 unfoldable pub forms_fault : ℕ → List Form → List (List ℕ) → Option TraceFault
 forms_fault n [] [] = None
-forms_fault n [] (whole ∷ lines) = option_map (fault_of n) (option_or (bytes_fault (content whole)) (Some TooMany))
-forms_fault n (form ∷ forms) [] = Some (fault_of n Missing)
+forms_fault n [] (whole ∷ lines) =
+    option_map (fault_of n) (option_map whole_line (option_or (bytes_fault (content whole)) (Some TooMany)))
+forms_fault n (form ∷ forms) [] = Some (fault_of n (whole_line Missing))
 forms_fault n (form ∷ forms) (whole ∷ lines) =
     option_or (option_map (fault_of n) (report_line_fault form whole)) (forms_fault (n + 1) forms lines)
 
@@ -107,13 +108,13 @@ trace_form version = Word (codes "semper" ∷ []) ∷ Word (codes "trace" ∷ []
 unfoldable pub head_fault : (version n : ℕ) → List (List ℕ) → Option TraceFault
 head_fault version n [] = None
 head_fault version n (line ∷ lines) =
-    option_or (option_map (fault_of n) (bytes_fault line))
-    (if is_significant (words_of line) then option_map (fault_of n) (form_fault (trace_form version) (words_of line))
+    option_or (option_map (fault_of n) (option_map whole_line (bytes_fault line)))
+    (if is_significant (words_of line) then option_map (fault_of n) (word_fault (trace_form version) (words_of line))
     else head_fault version (n + 1) lines)
 
 -- a fault of the trace: its lines follow the first line of the report
 abbrev pub line_later : TraceFault → TraceFault
-line_later fault = record { line = fault.line + 1; cause = fault.cause }
+line_later fault = record { line = fault.line + 1; word = fault.word; cause = fault.cause }
 
 -- the number of the first line in which two texts differ, if the first lines have that number
 unfoldable pub first_difference : ℕ → List (List ℕ) → List (List ℕ) → Option ℕ
@@ -127,7 +128,7 @@ first_difference n (whole ∷ lines) (other ∷ others) = if bytes_eq whole othe
 -- second line of the report
 abbrev pub spelling_fault : List (List ℕ) → Setup → Option TraceFault
 spelling_fault section T =
-    option_map (λ n. fault_of n NotCanonical) (first_difference 2 section (whole_lines (canonical T)))
+    option_map (λ n. fault_of n (whole_line NotCanonical)) (first_difference 2 section (whole_lines (canonical T)))
 
 -- the refusal of the trace in a report of that version: that of its first line, then that of all
 -- its lines, then that of the first line with another spelling
@@ -149,6 +150,6 @@ refusal_behind version lines =
 -- the refusal of a text as a report, if it is refused
 unfoldable pub report_refusal : List ℕ → Option TraceFault
 report_refusal bytes =
-    if nat_lt 134217728 (length bytes) then Some (fault_of 0 InputTooLong)
+    if nat_lt 134217728 (length bytes) then Some (fault_of 0 (whole_line InputTooLong))
     else option_or (forms_fault 1 (report_form ∷ []) (take 1 (whole_lines bytes)))
     (refusal_behind (report_version (whole_lines bytes)) (drop 1 (whole_lines bytes)))

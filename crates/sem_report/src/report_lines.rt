@@ -5,7 +5,8 @@ ghost use Rattle.std.specs.Result.{result_err};
 ghost use Rattle.std.specs.Str.{bytes_eq};
 ghost use Rattle.sem_text.specs.Lines.{line as line_lem};
 ghost use Rattle.sem_trace.specs.TextLines.{words_of, bytes_fault as bytes_fault_lem};
-ghost use Rattle.sem_trace.specs.Forms.{form_fault};
+ghost use Rattle.sem_trace.specs.Forms.{form_fault, word_fault, whole_line};
+ghost use Rattle.sem_trace.specs.Places.{told_fault};
 ghost use Rattle.sem_trace.specs.Declarations.{number_at};
 ghost use Rattle.sem_trace.specs.Refusal.{version_in};
 ghost use Rattle.sem_trace.specs.declared.fault.Cause.TheVariants.{NotCanonical};
@@ -25,20 +26,29 @@ use crate::report::push_held;
 use sem_journal::{push_entry, read_entry};
 use sem_key::OutOfMemory;
 use sem_msg::{Entry, Held};
-use sem_trace::{BYTE, Cause, WORD, Words, bytes_fault, push_line};
+use sem_trace::{BYTE, Cause, LineFault, WORD, Words, bytes_fault, push_line};
 
 /// Why a line is not read.
 #[derive(Clone, Copy, Debug)]
 pub enum LineError {
-    Refused(Cause),
+    Refused(LineFault),
     Memory,
 }
 
+impl From<LineFault> for LineError {
+    ghost from_gives = { λ fault e. e ≡ Refused fault };
+
+    fn from(fault: LineFault) -> LineError {
+        LineError::Refused(fault)
+    }
+}
+
+// A cause without a word is that of the whole line.
 impl From<Cause> for LineError {
-    ghost from_gives = { λ cause e. e ≡ Refused cause };
+    ghost from_gives = { λ cause e. e ≡ Refused (whole_line cause) };
 
     fn from(cause: Cause) -> LineError {
-        LineError::Refused(cause)
+        LineError::Refused(LineFault { cause, word: None })
     }
 }
 
@@ -75,41 +85,64 @@ fn is_canonical(line: &Line, printed: &[u8]) -> Result<(), Cause>
 
 // Checks that the word is the only one.
 #[tactic(auto, using(sem_journal::proofs::EntryParts::nothing_more))]
-fn name_words(words: &[u8], name: &[u8]) -> Result<(), Cause>
-    ensures fault { form_fault (name_form name.now (words_of words.now)) (words_of words.now)
-        ≡ result_err result }
-    ensures printed { OnOk result (words_of words.now ≡ name.now ∷ []) }
+fn only_name(words: &mut Words<'_>, name: &[u8]) -> Result<(), Cause>
+    ensures fault { form_fault (name_form name.now words.old) words.old
+        ≡ told_fault result words.new }
+    ensures printed { OnOk result (words.old ≡ name.now ∷ []) }
 {
-    let mut words = Words::of(words);
     words.fixed(name)?;
     words.no_more()
 }
 
+// Checks that the word is the only one of the line.
+fn name_words(line: &[u8], name: &[u8]) -> Result<(), LineFault>
+    ensures fault { word_fault (name_form name.now (words_of line.now)) (words_of line.now)
+        ≡ result_err result }
+    ensures printed { OnOk result (words_of line.now ≡ name.now ∷ []) }
+{
+    let mut words = Words::of(line);
+    match only_name(&mut words, name) {
+        Ok(()) => Ok(()),
+        Err(cause) => Err(words.fault_in(line, cause)),
+    }
+}
+
 // The number after the word.
 #[tactic(auto, using(sem_journal::proofs::EntryParts::nothing_more))]
-fn count_words(words: &[u8], name: &[u8]) -> Result<u64, Cause>
-    ensures fault { form_fault (count_form name.now (words_of words.now)) (words_of words.now)
-        ≡ result_err result }
-    ensures printed { IfOk result (λ n. words_of words.now ≡ name.now ∷ decimal n ∷ []) }
+fn number_behind(words: &mut Words<'_>, name: &[u8]) -> Result<u64, Cause>
+    ensures fault { form_fault (count_form name.now words.old) words.old
+        ≡ told_fault result words.new }
+    ensures printed { IfOk result (λ n. words.old ≡ name.now ∷ decimal n ∷ []) }
     ensures small { IfOk result (λ n. n ≤ 4294967295) }
 {
-    let mut words = Words::of(words);
     words.fixed(name)?;
     let number = words.number(WORD)?;
     words.no_more()?;
     Ok(number)
 }
 
+// The number after the word in the line.
+fn count_words(line: &[u8], name: &[u8]) -> Result<u64, LineFault>
+    ensures fault { word_fault (count_form name.now (words_of line.now)) (words_of line.now)
+        ≡ result_err result }
+    ensures printed { IfOk result (λ n. words_of line.now ≡ name.now ∷ decimal n ∷ []) }
+    ensures small { IfOk result (λ n. n ≤ 4294967295) }
+{
+    let mut words = Words::of(line);
+    match number_behind(&mut words, name) {
+        Ok(number) => Ok(number),
+        Err(cause) => Err(words.fault_in(line, cause)),
+    }
+}
+
 // The held key and its selector, in a report of the version.
 #[tactic(auto, using(sem_journal::proofs::EntryParts::nothing_more))]
-fn held_words(words: &[u8], version: u8) -> Result<Held, Cause>
-    ensures fault { form_fault (held_form version (words_of words.now)) (words_of words.now)
-        ≡ result_err result }
-    ensures printed { IfOk result
-        (λ held. words_of words.now ≡ held_words_lem (held.key, held.sel)) }
+fn held_key(words: &mut Words<'_>, version: u8) -> Result<Held, Cause>
+    ensures fault { form_fault (held_form version words.old) words.old
+        ≡ told_fault result words.new }
+    ensures printed { IfOk result (λ held. words.old ≡ held_words_lem (held.key, held.sel)) }
     ensures fits { IfOk result (λ held. HeldFits version (held.key, held.sel)) }
 {
-    let mut words = Words::of(words);
     words.fixed(b"key")?;
     let key = words.key(version)?;
     let sel = words.number(BYTE)?;
@@ -118,6 +151,21 @@ fn held_words(words: &[u8], version: u8) -> Result<Held, Cause>
         key,
         sel: sel as u8,
     })
+}
+
+// The held key and its selector that the line tells, in a report of the version.
+fn held_words(line: &[u8], version: u8) -> Result<Held, LineFault>
+    ensures fault { word_fault (held_form version (words_of line.now)) (words_of line.now)
+        ≡ result_err result }
+    ensures printed { IfOk result
+        (λ held. words_of line.now ≡ held_words_lem (held.key, held.sel)) }
+    ensures fits { IfOk result (λ held. HeldFits version (held.key, held.sel)) }
+{
+    let mut words = Words::of(line);
+    match held_key(&mut words, version) {
+        Ok(held) => Ok(held),
+        Err(cause) => Err(words.fault_in(line, cause)),
+    }
 }
 
 /// Reads a line of one word. The old content of `printed` means nothing.
@@ -201,19 +249,32 @@ pub fn entry_line(
 
 // The version that the words of the first line tell.
 #[tactic(auto, using(sem_journal::proofs::EntryParts::nothing_more))]
-fn header_words(words: &[u8]) -> Result<u8, Cause>
-    ensures fault { form_fault (report_form (words_of words.now)) (words_of words.now)
-        ≡ result_err result }
+fn report_version(words: &mut Words<'_>) -> Result<u8, Cause>
+    ensures fault { form_fault (report_form words.old) words.old ≡ told_fault result words.new }
     ensures printed { IfOk result
-        (λ v. words_of words.now ≡ codes "semper" ∷ codes "report" ∷ decimal v ∷ []) }
+        (λ v. words.old ≡ codes "semper" ∷ codes "report" ∷ decimal v ∷ []) }
     ensures versions { IfOk result (λ v. (v ≡ 1) ⊎ (v ≡ 2)) }
 {
-    let mut words = Words::of(words);
     words.fixed(b"semper")?;
     words.fixed(b"report")?;
     let version = words.version()?;
     words.no_more()?;
     Ok(version)
+}
+
+// The version that the first line tells.
+fn header_words(line: &[u8]) -> Result<u8, LineFault>
+    ensures fault { word_fault (report_form (words_of line.now)) (words_of line.now)
+        ≡ result_err result }
+    ensures printed { IfOk result
+        (λ v. words_of line.now ≡ codes "semper" ∷ codes "report" ∷ decimal v ∷ []) }
+    ensures versions { IfOk result (λ v. (v ≡ 1) ⊎ (v ≡ 2)) }
+{
+    let mut words = Words::of(line);
+    match report_version(&mut words) {
+        Ok(version) => Ok(version),
+        Err(cause) => Err(words.fault_in(line, cause)),
+    }
 }
 
 /// Reads the first line, which tells the version. The old content of `printed` means nothing.

@@ -3,6 +3,7 @@ ghost use Rattle.std.specs.Prelude.{◌≡◌, ◌+◌, ◌≤◌, ◌⊎◌, []
 ghost use Rattle.std.specs.Prelude.{replicate, All, codes, decimal, None, IfOk, IfErr, OnOk};
 ghost use Rattle.sem_text.specs.Lines.{line as line_lem, text};
 ghost use Rattle.sem_trace.specs.declared.fault.TraceError.TheVariants.{Refused as RefusedText};
+ghost use Rattle.sem_trace.specs.Forms.{whole_line};
 ghost use Rattle.sem_trace.specs.Standing.{IsWhy};
 ghost use Rattle.sem_trace.specs.TraceText.{canonical};
 ghost use Rattle.sem_msg.specs.Audits.{held_pairs};
@@ -40,11 +41,15 @@ struct Lines<'a> {
     printed: Vec<u8>,
 }
 
-// The refusal of the line of that number.
+// The refusal of the whole line of that number.
 fn refused(line: u64, cause: Cause) -> TraceError
-    ensures { result ≡ RefusedText (fault_of line cause) }
+    ensures { result ≡ RefusedText (fault_of line (whole_line cause)) }
 {
-    TraceError::Refused(TraceFault { line, cause })
+    TraceError::Refused(TraceFault {
+        line,
+        word: None,
+        cause,
+    })
 }
 
 // Why a report is not read, if that line of it is not.
@@ -52,7 +57,11 @@ fn at_line(line: u64, e: LineError) -> TraceError
     ensures { result ≡ at_line_lem line e }
 {
     match e {
-        LineError::Refused(cause) => refused(line, cause),
+        LineError::Refused(fault) => TraceError::Refused(TraceFault {
+            line,
+            word: fault.word,
+            cause: fault.cause,
+        }),
         LineError::Memory => TraceError::Memory,
     }
 }
@@ -63,7 +72,10 @@ fn line_later(e: TraceError) -> TraceError
     ensures { result ≡ later e }
 {
     match e {
-        TraceError::Refused(fault) => refused(fault.line + 1, fault.cause),
+        TraceError::Refused(fault) => TraceError::Refused(TraceFault {
+            line: fault.line + 1,
+            ..fault
+        }),
         TraceError::Memory => TraceError::Memory,
     }
 }

@@ -17,6 +17,7 @@ use Rattle.sem_report.specs.declared.verdict.Verdict.{Verdict}
 use Rattle.sem_report.specs.declared.verdict.Verdict.TheVariants.{Accepted, BadLine, BadEntry, NotOver, BadAudit}
 use Rattle.sem_report.specs.WholeLines.{whole_lines}
 use Rattle.sem_report.specs.Audited.{audited, differing_line}
+use Rattle.sem_trace.specs.Forms.{whole_line}
 use Rattle.sem_report.specs.ReportRefusal.{fault_of, first_difference, report_refusal}
 use Rattle.sem_report.specs.ReportRanges.{ReportFits}
 use Rattle.sem_report.proofs.PrintedReport.{same_lines}
@@ -193,4 +194,4 @@ module _
         absurd (goes-or-ends U T k.entries J (length k.entries) y tells' goes tells.tells tells.complete.quiet)
     one-line (BadAudit l d) (BadAudit m e) (T, J, tells, differs) (U, K, tells', other) =
         let same : l ≡ m = same_Some l m (sym (one-audit T U J K d e l tells tells' differs) ∙ other) in
-        ap (λ n. bad_line (fault_of n NotCanonical)) same
+        ap (λ n. bad_line (fault_of n (whole_line NotCanonical))) same

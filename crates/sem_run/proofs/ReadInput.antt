@@ -39,7 +39,7 @@ untouched-part g untouched = ([], subst (λ after. Takes g.before after []) (sym
 
 -- the refusal of a text that is too long
 abbrev long_fault : TraceFault
-long_fault = record { line = 0; cause = InputTooLong }
+long_fault = record { line = 0; word = None; cause = InputTooLong }
 
 long-trace : (bytes : List ℕ) → 8388608 < length bytes → refusal bytes ≡ Some long_fault
 unfolding refusal

@@ -7,6 +7,7 @@ use Rattle.sem_journal.specs.ReportText.{report_text}
 use Rattle.sem_report.specs.declared.verdict.Verdict.{Verdict}
 use Rattle.sem_report.specs.declared.verdict.Verdict.TheVariants.{Accepted, BadLine, BadEntry, NotOver, BadAudit}
 use Rattle.sem_report.specs.Audited.{differing_line}
+use Rattle.sem_trace.specs.Forms.{whole_line}
 use Rattle.sem_report.specs.ReportRefusal.{fault_of, report_refusal}
 use Rattle.sem_report.specs.ReportRanges.{ReportFits}
 use Rattle.sem_audit.specs.HeldKeys.{report, IsAuditOf}
@@ -72,7 +73,7 @@ verdict_line (Accepted setup journal due) = ok_line
 verdict_line (BadLine fault) = bad_line fault
 verdict_line (BadEntry journal n entered replayed) = differing_entry n entered replayed
 verdict_line (NotOver journal next) = going_on_line (length journal.entries) next
-verdict_line (BadAudit line due) = bad_line (fault_of line NotCanonical)
+verdict_line (BadAudit line due) = bad_line (fault_of line (whole_line NotCanonical))
 
 -- Why bytes are refused as the report of a complete schedule, with the text that says so.
 pub record IsRefusedReport (bytes text : List ℕ) : Type 0 where

@@ -86,6 +86,7 @@ fn push_verdict(
         Verdict::BadAudit { line, .. } => {
             let fault = TraceFault {
                 line: *line,
+                word: None,
                 cause: Cause::NotCanonical,
             };
             push_bad_line(out, &fault)

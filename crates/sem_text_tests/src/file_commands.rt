@@ -48,7 +48,7 @@ fn a_client_writes_across_two_extents(rt: HostRuntime) -> Result<(), Fail> {
     Ok(())
 }
 
-// The line and the cause for which the text is refused, if it is.
+// The refusal of the text, if it is refused.
 fn refusal(alloc: Global, text: &[u8]) -> Option<TraceFault> {
     match read_files(alloc, text) {
         Err(TraceError::Refused(fault)) => Some(fault),
@@ -56,10 +56,10 @@ fn refusal(alloc: Global, text: &[u8]) -> Option<TraceFault> {
     }
 }
 
-// Checks that the text is refused at that line, for that cause.
-fn refuses(rt: &impl Abort, alloc: Global, text: &str, line: u64, cause: Cause) {
+// Checks that the text is refused at that line, at that word, for that cause.
+fn refuses(rt: &impl Abort, alloc: Global, text: &str, line: u64, word: Option<u64>, cause: Cause) {
     let found = refusal(alloc, text.as_bytes());
-    assert_eq!(rt; found, Some(TraceFault { line, cause }));
+    assert_eq!(rt; found, Some(TraceFault { line, word, cause }));
 }
 
 // The lines before those that are tested.
@@ -67,28 +67,28 @@ const BEGIN: &str = "semper files 1\nkernels 2\nfile 0 2\nclient 1\nclient 2\ndo
 
 #[test]
 fn bad_lines_are_refused(rt: HostRuntime) -> Result<(), Fail> {
-    for (text, cause) in [
-        ("do 1 write 0 8190 3\n", Cause::OutOfRange),
-        ("do 1 write 0 8190 0\n", Cause::OutOfRange),
-        ("do 1 close 1\n", Cause::Undeclared),
-        ("do 3 close 0\n", Cause::Undeclared),
-        ("do 1 open 1 1\n", Cause::Undeclared),
-        ("do 1 share 0 3 0\n", Cause::Undeclared),
-        ("do 1 share 0 1 0\n", Cause::Twice),
-        ("do 1 open 0 0\n", Cause::Twice),
-        ("file 0 1\n", Cause::Twice),
-        ("client 2\n", Cause::Twice),
-        ("kernels 2\n", Cause::Twice),
-        ("kernels 17\n", Cause::OutOfRange),
-        ("semper files 1\n", Cause::UnknownWord),
-        ("do 1 lend 0 2 0\n", Cause::UnknownWord),
-        ("do 1 share 0 2\n", Cause::Missing),
-        ("do 1 share 0 2 x\n", Cause::BadNumber),
-        ("end now\n", Cause::TooMany),
-        ("", Cause::Missing),
+    for (text, word, cause) in [
+        ("do 1 write 0 8190 3\n", Some(5), Cause::OutOfRange),
+        ("do 1 write 0 8190 0\n", Some(5), Cause::OutOfRange),
+        ("do 1 close 1\n", Some(3), Cause::Undeclared),
+        ("do 3 close 0\n", Some(1), Cause::Undeclared),
+        ("do 1 open 1 1\n", Some(4), Cause::Undeclared),
+        ("do 1 share 0 3 0\n", Some(4), Cause::Undeclared),
+        ("do 1 share 0 1 0\n", Some(4), Cause::Twice),
+        ("do 1 open 0 0\n", Some(3), Cause::Twice),
+        ("file 0 1\n", Some(1), Cause::Twice),
+        ("client 2\n", Some(1), Cause::Twice),
+        ("kernels 2\n", Some(0), Cause::Twice),
+        ("kernels 17\n", Some(1), Cause::OutOfRange),
+        ("semper files 1\n", Some(0), Cause::UnknownWord),
+        ("do 1 lend 0 2 0\n", Some(2), Cause::UnknownWord),
+        ("do 1 share 0 2\n", Some(5), Cause::Missing),
+        ("do 1 share 0 2 x\n", Some(5), Cause::BadNumber),
+        ("end now\n", Some(1), Cause::TooMany),
+        ("", None, Cause::Missing),
     ] {
         let whole = format!(in rt.alloc(); "{BEGIN}{text}")?;
-        refuses(&rt, rt.alloc(), &whole, 7, cause);
+        refuses(&rt, rt.alloc(), &whole, 7, word, cause);
     }
     Ok(())
 }
@@ -100,7 +100,7 @@ fn a_number_is_used_once(rt: HostRuntime) -> Result<(), Fail> {
     let found = refusal(rt.alloc(), once.as_bytes());
     assert_eq!(rt; found, None);
     let again = format!(in rt.alloc(); "{BEGIN}{more}do 1 share 0 2 0\n")?;
-    refuses(&rt, rt.alloc(), &again, 11, Cause::Twice);
+    refuses(&rt, rt.alloc(), &again, 11, Some(5), Cause::Twice);
     Ok(())
 }
 
@@ -120,7 +120,7 @@ fn a_client_opens_a_thousand_times(rt: HostRuntime) -> Result<(), Fail> {
     let found = refusal(rt.alloc(), most.as_bytes());
     assert_eq!(rt; found, None);
     let more = openings(rt.alloc(), 1001)?;
-    refuses(&rt, rt.alloc(), &more, 2006, Cause::TooMany);
+    refuses(&rt, rt.alloc(), &more, 2006, Some(2), Cause::TooMany);
     Ok(())
 }
 
@@ -144,6 +144,6 @@ fn there_are_20000_calls_at_most(rt: HostRuntime) -> Result<(), Fail> {
     let found = refusal(rt.alloc(), most.as_bytes());
     assert_eq!(rt; found, None);
     let more = most_calls(rt.alloc(), "do 1 close 1\n")?;
-    refuses(&rt, rt.alloc(), &more, 2508, Cause::TooMany);
+    refuses(&rt, rt.alloc(), &more, 2508, Some(2), Cause::TooMany);
     Ok(())
 }

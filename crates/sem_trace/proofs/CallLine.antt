@@ -4,7 +4,7 @@ use Rattle.sem_trace.specs.declared.fault.Cause.{Cause}
 use Rattle.sem_trace.specs.Forms.{Place, form_fault, lines, form, node, calls, choice, word_at}
 
 -- the fault behind the name is that of the words behind the VPE against the form of a call
-behind_fault : (version : ℕ) (words rest : List (List ℕ)) (fault : Option Cause) →
+behind_fault : (version : ℕ) (words rest : List (List ℕ)) (fault : Option (Cause × ℕ)) →
     ((more : List Place) → form_fault (node version ∷ more) words ≡ form_fault more rest) → rest ≡ drop 1 words →
     form_fault (choice (calls version) (word_at rest 0) ++ []) rest ≡ fault → form_fault (node version ∷ choice (calls version) (word_at words 1)) words ≡ fault
 behind_fault version words rest fault filled behind is =
@@ -12,7 +12,7 @@ behind_fault version words rest fault filled behind is =
     filled (choice (calls version) (word_at words 1)) ∙ (rw (← name) (rw append-nil at is))
 
 -- so is that of the line
-pub call_line_fault : (version kernels : ℕ) (words rest : List (List ℕ)) (fault : Option Cause) →
+pub call_line_fault : (version kernels : ℕ) (words rest : List (List ℕ)) (fault : Option (Cause × ℕ)) →
     ((more : List Place) → form_fault (node version ∷ more) words ≡ form_fault more rest) → rest ≡ drop 1 words →
     form_fault (choice (calls version) (word_at rest 0) ++ []) rest ≡ fault → form_fault (form version kernels (codes "call" ∷ words)) (codes "call" ∷ words)
     ≡ fault

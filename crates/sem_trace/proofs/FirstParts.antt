@@ -5,7 +5,9 @@ use Rattle.std.specs.List.{filter, slice_split, prefix_len, position_or_len}
 use Rattle.std.proofs.lemmas.Bool.{cases_Bool}
 use Rattle.std.proofs.lemmas.List.{drop_all, drop_min, drop-take}
 use Rattle.std.proofs.lemmas.Option.{none-some, same_Some}
-use Rattle.std.proofs.lemmas.List.Sums.{prefix_len-le-length}
+use Rattle.std.proofs.lemmas.List.Sums.{prefix_len-le-length, count_by-le-length, length-filter}
+use Rattle.std.proofs.lemmas.List.Splits.{length-slice_split}
+use Rattle.std.specs.List.{count_by}
 use Rattle.sem_text.specs.Words.{is_blank, word_from}
 use Rattle.sem_text.specs.Lines.{line_from}
 use Rattle.sem_trace.specs.TextLines.{without_empty_last, lines_of, is_word, words_of}
@@ -183,6 +185,17 @@ goes_on x n [] [] few = omega arith
 goes_on x n (b ∷ bs) [] few = omega arith
 goes_on x n [] (p ∷ parts) few = omega arith
 goes_on x n (b ∷ bs) (p ∷ parts) few = omega arith
+
+-- there are no more words than bytes, or one more
+pub few_words : (line : List ℕ) → length (words_of line) ≤ length line + 1
+unfolding words_of
+few_words line =
+    let parts : length (slice_split is_blank line) ≡ count_by is_blank line + 1 = length-slice_split is_blank line in
+    let words : length (filter is_word (slice_split is_blank line)) ≡ count_by is_word (slice_split is_blank line) =
+    length-filter is_word (slice_split is_blank line) in
+    let blanks : count_by is_blank line ≤ length line = count_by-le-length is_blank line in
+    let full : count_by is_word (slice_split is_blank line) ≤ length (slice_split is_blank line) = count_by-le-length is_word (slice_split is_blank line) in
+    omega arith
 
 -- there are no more lines than bytes
 pub few_lines : (text : List ℕ) → length (lines_of text) ≤ length text

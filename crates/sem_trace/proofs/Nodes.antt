@@ -1,5 +1,5 @@
 -- PEs and VPEs of the texts of a version.
-use Rattle.std.proofs.Common.{◌≡◌, ℕ, ◌-◌, ◌<◌, ◌≤◌, ◌==◌, inl, inr, List, [], ◌∷◌, ◌++◌, Some, ap, subst, refl, arith}
+use Rattle.std.proofs.Common.{◌≡◌, ℕ, ◌-◌, ◌<◌, ◌≤◌, ◌==◌, inl, inr, List, ◌∷◌, ◌++◌, Some, ap, subst, arith}
 use Rattle.std.proofs.lemmas.Bool.{cases_Bool}
 use Rattle.sem_key.specs.declared.limits.TheConstants.{VPES, KERNELS}
 use Rattle.sem_msg.specs.Versions.{most_vpes, most_kernels}
@@ -62,8 +62,8 @@ pub node_filled : (version : ℕ) (place : Place) (behind : List Place) (words r
 node_filled version place behind words rest is filled = subst (λ (p : Place). (more : List Place) →
     form_fault (p ∷ behind ++ more) words ≡ form_fault more rest) is filled
 
-pub node_failed : (version : ℕ) (place : Place) (behind : List Place) (words : List (List ℕ)) (cause : Cause) → place ≡ node version →
-    ((more : List Place) → form_fault (place ∷ behind ++ more) words ≡ Some cause) → (more : List Place) →
-    form_fault (node version ∷ behind ++ more) words ≡ Some cause
-node_failed version place behind words cause is failed = subst (λ (p : Place). (more : List Place) →
-    form_fault (p ∷ behind ++ more) words ≡ Some cause) is failed
+pub node_failed : (version : ℕ) (place : Place) (behind : List Place) (words : List (List ℕ)) (fault : Cause × ℕ) → place ≡ node version →
+    ((more : List Place) → form_fault (place ∷ behind ++ more) words ≡ Some fault) → (more : List Place) →
+    form_fault (node version ∷ behind ++ more) words ≡ Some fault
+node_failed version place behind words fault is failed = subst (λ (p : Place). (more : List Place) →
+    form_fault (p ∷ behind ++ more) words ≡ Some fault) is failed

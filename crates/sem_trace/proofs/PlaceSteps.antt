@@ -6,18 +6,22 @@ use Rattle.std.proofs.lemmas.Bool.{cases_eq, false_from_ne_true}
 use Rattle.std.proofs.lemmas.Slice.Eq.{bytes_eq-Decides}
 use Rattle.std.specs.Bool.{Decides}
 use Rattle.std.proofs.lemmas.List.{get_or-set_same, get_or-set_other}
-use Rattle.std.specs.Option.{MatchOption, ok_or}
+use Rattle.std.specs.Option.{MatchOption, ok_or, option_map}
 use Rattle.std.specs.Result.{IfErr}
 use Rattle.std.specs.Str.{bytes_eq}
 use Rattle.sem_trace.specs.declared.fault.Cause.{Cause}
-use Rattle.sem_trace.specs.declared.fault.Cause.TheVariants.{Missing, UnknownWord}
-use Rattle.sem_trace.specs.Forms.{Place, place_fault, form_fault, word_at}
-use Rattle.sem_trace.specs.Forms.Place.{Word}
-use Rattle.sem_trace.specs.Places.{number_place}
+use Rattle.sem_trace.specs.declared.fault.Cause.TheVariants.{Missing, UnknownWord, BadNumber, OutOfRange}
+use Rattle.sem_trace.specs.Forms.{Place, place_fault, form_fault, word_fault, word_at, parts_of, are_numbers, are_within, is_between}
+use Rattle.sem_trace.specs.Forms.Place.{Word, Number, Dotted}
+use Rattle.sem_trace.specs.Places.{number_place, left_at, placed}
+use Rattle.std.proofs.Common.{not, subst, if◌then◌else◌}
+use Rattle.std.proofs.lemmas.Option.{none-some, same_Some}
+use Rattle.std.specs.List.{list_any}
+use Rattle.sem_text.specs.Number.{is_number}
 use Rattle.sem_trace.specs.declared.forms.Range.{Range}
 
 -- no place is filled where there is no word
-pub no_place : (places : List Place) (place : Place) (all : List (List ℕ)) → all ≡ [] → form_fault (place ∷ places) all ≡ Some Missing
+pub no_place : (places : List Place) (place : Place) (all : List (List ℕ)) → all ≡ [] → form_fault (place ∷ places) all ≡ Some (Missing, 0)
 unfolding form_fault
 no_place places place all is = rw is refl
 
@@ -27,11 +31,40 @@ pub fills : (places : List Place) (place : Place) (word : List ℕ) (words all :
 unfolding form_fault
 fills places place word words all is fits = rw (is, fits) refl
 
+-- what holds of the causes that a place can have holds of its cause
+if_fault : (fits : Bool) (here cause : Cause) (P : Cause → Type 0) → P here → (if fits then None else Some here) ≡ Some cause → P cause
+if_fault true here cause P holds is = absurd (none-some _ is)
+if_fault false here cause P holds is = subst P (same_Some _ _ is) holds
+
+bad_or_range : (bad fits : Bool) (cause : Cause) (P : Cause → Type 0) → P BadNumber → P OutOfRange →
+    (if bad then Some BadNumber else (if fits then None else Some OutOfRange)) ≡ Some cause → P cause
+bad_or_range true fits cause P bad range is = subst P (same_Some _ _ is) bad
+bad_or_range false fits cause P bad range is = if_fault fits OutOfRange cause P range is
+
+-- a word with a fault is there
+place_left : (place : Place) (word : List ℕ) (words : List (List ℕ)) (cause : Cause) → place_fault place word ≡ Some cause →
+    left_at cause words ≡ suc (length words)
+place_left (Word names) word words cause is = if_fault (list_any (bytes_eq word) names) UnknownWord cause (λ c. left_at c words ≡ suc (length words)) refl is
+place_left (Number least most) word words cause is =
+    bad_or_range (not (is_number word)) (is_between (least, most) word) cause (λ c. left_at c words ≡ suc (length words)) refl refl is
+place_left (Dotted ranges) word words cause is =
+    bad_or_range (not (are_numbers ranges (parts_of word))) (are_within ranges (parts_of word)) cause (λ c. left_at c words ≡ suc (length words)) refl refl is
+
 -- a place with a fault
 pub faults : (places : List Place) (place : Place) (word : List ℕ) (words all : List (List ℕ)) (cause : Cause) → all ≡ word ∷ words →
-    place_fault place word ≡ Some cause → form_fault (place ∷ places) all ≡ Some cause
+    place_fault place word ≡ Some cause → form_fault (place ∷ places) all ≡ Some (cause, left_at cause words)
 unfolding form_fault
-faults places place word words all cause is fault = rw (is, fault) refl
+faults places place word words all cause is fault = rw (is, fault, place_left place word words cause fault) refl
+
+-- the fault of a line
+pub line_fault_is : (places : List Place) (words rest : List (List ℕ)) (cause : Cause) → form_fault places words ≡ Some (cause, left_at cause rest) →
+    word_fault places words ≡ Some (placed cause words rest)
+unfolding word_fault
+line_fault_is places words rest cause is = rw is refl
+
+pub no_line_fault : (places : List Place) (words : List (List ℕ)) → form_fault places words ≡ None → word_fault places words ≡ None
+unfolding word_fault
+no_line_fault places words is = rw is refl
 
 -- the words behind the first
 pub behind_first : (word : List ℕ) (words all : List (List ℕ)) → all ≡ word ∷ words → words ≡ drop 1 all
@@ -82,3 +115,12 @@ pub printed_more : (values : List ℕ) (i v : ℕ) (all words rest : List (List 
 printed_more values i v all words rest within so_far here =
     let next : i + 1 ≡ suc i = add-one i in
     so_far ∙ (rw (here, next, take-suc-set values i v within, map-append, append_assoc) refl)
+
+pub unmapped : {X Y : Type 0} (f : X → Y) (o : Option X) → option_map f o ≡ None → o ≡ None
+unmapped f None none = refl
+unmapped f (Some x) none = absurd (none-some (f x) (sym none))
+
+-- words without a fault have the form
+pub has_form : (places : List Place) (words : List (List ℕ)) → word_fault places words ≡ None → form_fault places words ≡ None
+unfolding word_fault
+has_form places words none = unmapped _ (form_fault places words) none

@@ -10,7 +10,7 @@ use Rattle.sem_trace.specs.declared.fault.Cause.{Cause}
 use Rattle.sem_trace.specs.declared.fault.Cause.TheVariants.{NotText, UnknownWord, BadNumber, OutOfRange, Twice, Undeclared, Missing, TooMany}
 use Rattle.sem_trace.specs.declared.fault.TraceFault.{TraceFault}
 use Rattle.sem_trace.specs.TextLines.{lines_of, words_of, bytes_fault}
-use Rattle.sem_trace.specs.Forms.{form_fault, objects, calls, lines, first_form, second_form, third_form, form}
+use Rattle.sem_trace.specs.Forms.{form_fault, word_fault, objects, calls, lines, first_form, second_form, third_form, form}
 use Rattle.sem_trace.specs.Declarations.{call_from, root_from, declaration}
 use Rattle.sem_trace.specs.Earlier.{window_in, owner_in, pe_in, is_taken, roots_in, calls_in, vpe_in, has_service, offer_in, is_denied, kill_in, call_number}
 use Rattle.sem_trace.specs.Earlier.{is_ended}
@@ -30,83 +30,105 @@ start = codes "semper trace 1" ∷ codes "kernels 1" ∷ codes "pe 0 0" ∷ code
 abbrev trace : List (List ℕ) → List ℕ
 trace ls = ended_lines (start ++ ls)
 
-abbrev refused : ℕ → Cause → Option TraceFault
-refused line cause = Some (record { line = line; cause = cause })
+abbrev refused : ℕ → ℕ → Cause → Option TraceFault
+refused line word cause = Some (record { line = line; word = Some word; cause = cause })
+
+abbrev whole : ℕ → Cause → Option TraceFault
+whole line cause = Some (record { line = line; word = None; cause = cause })
 
 -- a number with a leading zero is no number
-leading_zero : refusal (trace (codes "root 0 0 mem 0 4096 07" ∷ codes "end" ∷ [])) ≡ refused 5 BadNumber
-unfolding refusal lines_of words_of bytes_fault form_fault objects calls lines first_form second_form third_form form call_from root_from declaration window_in
-    owner_in pe_in is_taken roots_in calls_in vpe_in has_service offer_in is_denied kill_in call_number is_ended context_fault body_fault words_fault line_fault
+leading_zero : refusal (trace (codes "root 0 0 mem 0 4096 07" ∷ codes "end" ∷ [])) ≡ refused 5 6 BadNumber
+unfolding refusal word_fault lines_of words_of bytes_fault form_fault objects calls lines first_form second_form third_form form call_from root_from
+    declaration window_in owner_in pe_in is_taken roots_in calls_in vpe_in has_service offer_in is_denied kill_in call_number is_ended context_fault
+    body_fault words_fault line_fault
     numbers fault_at first_fault version_of kernels_of declarations_of end_fault
 leading_zero = refl
 
 -- the lines that say nothing are counted
-no_end : refusal (trace (codes "# nothing" ∷ [] ∷ [])) ≡ refused 7 Missing
-unfolding refusal lines_of words_of bytes_fault form_fault objects calls lines first_form second_form third_form form call_from root_from declaration window_in
-    owner_in pe_in is_taken roots_in calls_in vpe_in has_service offer_in is_denied kill_in call_number is_ended context_fault body_fault words_fault line_fault
+no_end : refusal (trace (codes "# nothing" ∷ [] ∷ [])) ≡ whole 7 Missing
+unfolding refusal word_fault lines_of words_of bytes_fault form_fault objects calls lines first_form second_form third_form form call_from root_from
+    declaration window_in owner_in pe_in is_taken roots_in calls_in vpe_in has_service offer_in is_denied kill_in call_number is_ended context_fault
+    body_fault words_fault line_fault
     numbers fault_at first_fault version_of kernels_of declarations_of end_fault
 no_end = refl
 
 -- that something is undeclared is told before that it comes twice
-undeclared_first : refusal (trace (codes "vpe 0 5" ∷ codes "end" ∷ [])) ≡ refused 5 Undeclared
-unfolding refusal lines_of words_of bytes_fault form_fault objects calls lines first_form second_form third_form form call_from root_from declaration window_in
-    owner_in pe_in is_taken roots_in calls_in vpe_in has_service offer_in is_denied kill_in call_number is_ended context_fault body_fault words_fault line_fault
+undeclared_first : refusal (trace (codes "vpe 0 5" ∷ codes "end" ∷ [])) ≡ refused 5 2 Undeclared
+unfolding refusal word_fault lines_of words_of bytes_fault form_fault objects calls lines first_form second_form third_form form call_from root_from
+    declaration window_in owner_in pe_in is_taken roots_in calls_in vpe_in has_service offer_in is_denied kill_in call_number is_ended context_fault
+    body_fault words_fault line_fault
     numbers fault_at first_fault version_of kernels_of declarations_of end_fault
 undeclared_first = refl
 
 -- a service and a root share the selectors
-twice : refusal (trace (codes "root 0 2 recv 1" ∷ codes "service 0 2 1" ∷ codes "end" ∷ [])) ≡ refused 6 Twice
-unfolding refusal lines_of words_of bytes_fault form_fault objects calls lines first_form second_form third_form form call_from root_from declaration window_in
-    owner_in pe_in is_taken roots_in calls_in vpe_in has_service offer_in is_denied kill_in call_number is_ended context_fault body_fault words_fault line_fault
+twice : refusal (trace (codes "root 0 2 recv 1" ∷ codes "service 0 2 1" ∷ codes "end" ∷ [])) ≡ refused 6 2 Twice
+unfolding refusal word_fault lines_of words_of bytes_fault form_fault objects calls lines first_form second_form third_form form call_from root_from
+    declaration window_in owner_in pe_in is_taken roots_in calls_in vpe_in has_service offer_in is_denied kill_in call_number is_ended context_fault
+    body_fault words_fault line_fault
     numbers fault_at first_fault version_of kernels_of declarations_of end_fault
 twice = refl
 
 -- memory ends at 2 ^ 32 at most, and that is told before that the VPE is undeclared
-too_far : refusal (trace (codes "root 1 0 mem 4294967295 2 7" ∷ codes "end" ∷ [])) ≡ refused 5 OutOfRange
-unfolding refusal lines_of words_of bytes_fault form_fault objects calls lines first_form second_form third_form form call_from root_from declaration window_in
-    owner_in pe_in is_taken roots_in calls_in vpe_in has_service offer_in is_denied kill_in call_number is_ended context_fault body_fault words_fault line_fault
+too_far : refusal (trace (codes "root 1 0 mem 4294967295 2 7" ∷ codes "end" ∷ [])) ≡ refused 5 5 OutOfRange
+unfolding refusal word_fault lines_of words_of bytes_fault form_fault objects calls lines first_form second_form third_form form call_from root_from
+    declaration window_in owner_in pe_in is_taken roots_in calls_in vpe_in has_service offer_in is_denied kill_in call_number is_ended context_fault
+    body_fault words_fault line_fault
     numbers fault_at first_fault version_of kernels_of declarations_of end_fault
 too_far = refl
 
 -- the leftmost fault is told
-leftmost : refusal (trace (codes "root 99 0 mem" ∷ codes "end" ∷ [])) ≡ refused 5 OutOfRange
-unfolding refusal lines_of words_of bytes_fault form_fault objects calls lines first_form second_form third_form form call_from root_from declaration window_in
-    owner_in pe_in is_taken roots_in calls_in vpe_in has_service offer_in is_denied kill_in call_number is_ended context_fault body_fault words_fault line_fault
+leftmost : refusal (trace (codes "root 99 0 mem" ∷ codes "end" ∷ [])) ≡ refused 5 1 OutOfRange
+unfolding refusal word_fault lines_of words_of bytes_fault form_fault objects calls lines first_form second_form third_form form call_from root_from
+    declaration window_in owner_in pe_in is_taken roots_in calls_in vpe_in has_service offer_in is_denied kill_in call_number is_ended context_fault
+    body_fault words_fault line_fault
     numbers fault_at first_fault version_of kernels_of declarations_of end_fault
 leftmost = refl
 
+-- a word that is missing stands after all words
+missing : refusal (trace (codes "root 0 0 mem 1" ∷ codes "end" ∷ [])) ≡ refused 5 5 Missing
+unfolding refusal word_fault lines_of words_of bytes_fault form_fault objects calls lines first_form second_form third_form form call_from root_from
+    declaration window_in owner_in pe_in is_taken roots_in calls_in vpe_in has_service offer_in is_denied kill_in call_number is_ended context_fault
+    body_fault words_fault line_fault
+    numbers fault_at first_fault version_of kernels_of declarations_of end_fault
+missing = refl
+
 -- a word more is told after the places
-too_many : refusal (trace (codes "call 0 exit 0" ∷ codes "end" ∷ [])) ≡ refused 5 TooMany
-unfolding refusal lines_of words_of bytes_fault form_fault objects calls lines first_form second_form third_form form call_from root_from declaration window_in
-    owner_in pe_in is_taken roots_in calls_in vpe_in has_service offer_in is_denied kill_in call_number is_ended context_fault body_fault words_fault line_fault
+too_many : refusal (trace (codes "call 0 exit 0" ∷ codes "end" ∷ [])) ≡ refused 5 3 TooMany
+unfolding refusal word_fault lines_of words_of bytes_fault form_fault objects calls lines first_form second_form third_form form call_from root_from
+    declaration window_in owner_in pe_in is_taken roots_in calls_in vpe_in has_service offer_in is_denied kill_in call_number is_ended context_fault
+    body_fault words_fault line_fault
     numbers fault_at first_fault version_of kernels_of declarations_of end_fault
 too_many = refl
 
 -- a call that there is not
-unknown : refusal (trace (codes "call 0 derived 0" ∷ codes "end" ∷ [])) ≡ refused 5 UnknownWord
-unfolding refusal lines_of words_of bytes_fault form_fault objects calls lines first_form second_form third_form form call_from root_from declaration window_in
-    owner_in pe_in is_taken roots_in calls_in vpe_in has_service offer_in is_denied kill_in call_number is_ended context_fault body_fault words_fault line_fault
+unknown : refusal (trace (codes "call 0 derived 0" ∷ codes "end" ∷ [])) ≡ refused 5 2 UnknownWord
+unfolding refusal word_fault lines_of words_of bytes_fault form_fault objects calls lines first_form second_form third_form form call_from root_from
+    declaration window_in owner_in pe_in is_taken roots_in calls_in vpe_in has_service offer_in is_denied kill_in call_number is_ended context_fault
+    body_fault words_fault line_fault
     numbers fault_at first_fault version_of kernels_of declarations_of end_fault
 unknown = refl
 
 -- the second line that says something says how many kernels there are
-second : refusal (ended_lines (codes "semper trace 1" ∷ codes "end" ∷ [])) ≡ refused 2 UnknownWord
-unfolding refusal lines_of words_of bytes_fault form_fault objects calls lines first_form second_form third_form form call_from root_from declaration window_in
-    owner_in pe_in is_taken roots_in calls_in vpe_in has_service offer_in is_denied kill_in call_number is_ended context_fault body_fault words_fault line_fault
+second : refusal (ended_lines (codes "semper trace 1" ∷ codes "end" ∷ [])) ≡ refused 2 0 UnknownWord
+unfolding refusal word_fault lines_of words_of bytes_fault form_fault objects calls lines first_form second_form third_form form call_from root_from
+    declaration window_in owner_in pe_in is_taken roots_in calls_in vpe_in has_service offer_in is_denied kill_in call_number is_ended context_fault
+    body_fault words_fault line_fault
     numbers fault_at first_fault version_of kernels_of declarations_of end_fault
 second = refl
 
 -- nothing is said behind the last line
-behind_end : refusal (trace (codes "end" ∷ codes "# nothing" ∷ codes "kernels" ∷ [])) ≡ refused 7 TooMany
-unfolding refusal lines_of words_of bytes_fault form_fault objects calls lines first_form second_form third_form form call_from root_from declaration window_in
-    owner_in pe_in is_taken roots_in calls_in vpe_in has_service offer_in is_denied kill_in call_number is_ended context_fault body_fault words_fault line_fault
+behind_end : refusal (trace (codes "end" ∷ codes "# nothing" ∷ codes "kernels" ∷ [])) ≡ whole 7 TooMany
+unfolding refusal word_fault lines_of words_of bytes_fault form_fault objects calls lines first_form second_form third_form form call_from root_from
+    declaration window_in owner_in pe_in is_taken roots_in calls_in vpe_in has_service offer_in is_denied kill_in call_number is_ended context_fault
+    body_fault words_fault line_fault
     numbers fault_at first_fault version_of kernels_of declarations_of end_fault
 behind_end = refl
 
 -- the bytes of a comment are tested
-bytes_first : refusal (trace ((codes "#" ++ 13 ∷ []) ∷ codes "end" ∷ [])) ≡ refused 5 NotText
-unfolding refusal lines_of words_of bytes_fault form_fault objects calls lines first_form second_form third_form form call_from root_from declaration window_in
-    owner_in pe_in is_taken roots_in calls_in vpe_in has_service offer_in is_denied kill_in call_number is_ended context_fault body_fault words_fault line_fault
+bytes_first : refusal (trace ((codes "#" ++ 13 ∷ []) ∷ codes "end" ∷ [])) ≡ whole 5 NotText
+unfolding refusal word_fault lines_of words_of bytes_fault form_fault objects calls lines first_form second_form third_form form call_from root_from
+    declaration window_in owner_in pe_in is_taken roots_in calls_in vpe_in has_service offer_in is_denied kill_in call_number is_ended context_fault
+    body_fault words_fault line_fault
     numbers fault_at first_fault version_of kernels_of declarations_of end_fault
 bytes_first = refl
 
@@ -135,7 +157,8 @@ declared = record {
 }
 
 stands : Stands small declared
-unfolding refusal lines_of words_of bytes_fault form_fault objects calls lines first_form second_form third_form form call_from root_from declaration window_in
-    owner_in pe_in is_taken roots_in calls_in vpe_in has_service offer_in is_denied kill_in call_number is_ended context_fault body_fault words_fault line_fault
+unfolding refusal word_fault lines_of words_of bytes_fault form_fault objects calls lines first_form second_form third_form form call_from root_from
+    declaration window_in owner_in pe_in is_taken roots_in calls_in vpe_in has_service offer_in is_denied kill_in call_number is_ended context_fault
+    body_fault words_fault line_fault
     numbers fault_at first_fault version_of kernels_of declarations_of end_fault vpes_of services_of offers_of denies_of kills_of setup_of services_from
 stands = record { accepted = refl; declared = refl }

@@ -1,7 +1,7 @@
 -- The forms of the lines of a trace, and the first fault of words against a form ("The trace" in
 -- docs/texts.md).
 use Rattle.std.specs.Prelude.{ℕ, ◌-◌, ◌==◌, nat_le, Bool, true, false, not, ◌&&◌, List, [], ◌∷◌, map, codes}
-use Rattle.std.specs.Prelude.{slice_index_or, Option, Some, None, if◌then◌else◌}
+use Rattle.std.specs.Prelude.{length, slice_index_or, Option, Some, None, option_map, if◌then◌else◌}
 use Rattle.std.specs.List.{list_any, slice_split}
 use Rattle.std.specs.Option.{option_or}
 use Rattle.std.specs.Str.{bytes_eq}
@@ -10,6 +10,7 @@ use Rattle.sem_msg.specs.declared.limits.TheConstants.{ENDPOINTS}
 use Rattle.sem_msg.specs.Versions.{most_kernels, least_window, most_window}
 use Rattle.sem_text.specs.Number.{is_number, number_value}
 use Rattle.sem_trace.specs.declared.fault.Cause.{Cause}
+use Rattle.sem_trace.specs.declared.fault.LineFault.{LineFault}
 use Rattle.sem_trace.specs.declared.fault.Cause.TheVariants.{UnknownWord, BadNumber, OutOfRange, Missing, TooMany}
 
 -- what can stand in a place of a line: one of some words, a number of a range, or numbers of such
@@ -50,12 +51,27 @@ place_fault (Dotted ranges) word =
     if not (are_numbers ranges (parts_of word)) then Some BadNumber
     else (if are_within ranges (parts_of word) then None else Some OutOfRange)
 
--- what is wrong with these words in those places: the leftmost fault
-unfoldable pub form_fault : List Place → List (List ℕ) → Option Cause
+-- what is wrong with these words in those places: the cause of the leftmost fault, and how many
+-- words are left at it, the faulty one included
+unfoldable pub form_fault : List Place → List (List ℕ) → Option (Cause × ℕ)
 form_fault [] [] = None
-form_fault [] (word ∷ words) = Some TooMany
-form_fault (place ∷ places) [] = Some Missing
-form_fault (place ∷ places) (word ∷ words) = option_or (place_fault place word) (form_fault places words)
+form_fault [] (word ∷ words) = Some (TooMany, length (word ∷ words))
+form_fault (place ∷ places) [] = Some (Missing, 0)
+form_fault (place ∷ places) (word ∷ words) =
+    option_or (option_map (λ cause. (cause, length (word ∷ words))) (place_fault place word)) (form_fault places words)
+
+-- the fault of that cause at a word of a line, counted from 0
+abbrev pub at_word : ℕ → Cause → LineFault
+at_word word cause = record { cause = cause; word = Some word }
+
+-- the fault of that cause of a whole line
+abbrev pub whole_line : Cause → LineFault
+whole_line cause = record { cause = cause; word = None }
+
+-- the leftmost fault of a line with these words in those places. A missing word stands after all
+-- words
+unfoldable pub word_fault : List Place → List (List ℕ) → Option LineFault
+word_fault places words = option_map (λ fault. at_word (length words - fault.1) fault.0) (form_fault places words)
 
 -- the word at a place, counted from 0; none past the end
 abbrev pub word_at : List (List ℕ) → ℕ → List ℕ

@@ -1,9 +1,11 @@
 -- Ranges of numbers as places of a line, and what a reader of places promises.
-use Rattle.std.specs.Prelude.{◌≡◌, ℕ, ◌<◌, ◌≤◌, List, ◌++◌, Some, length, slice_index, slice_index_or, Result}
-use Rattle.std.specs.Prelude.{MatchResult}
+use Rattle.std.specs.Prelude.{◌≡◌, ℕ, suc, ◌-◌, ◌<◌, ◌≤◌, List, ◌++◌, Option, Some, None, length, slice_index}
+use Rattle.std.specs.Prelude.{slice_index_or, Result, Ok, Err, MatchResult}
 use Rattle.sem_trace.specs.declared.forms.Range.{Range}
 use Rattle.sem_trace.specs.declared.fault.Cause.{Cause}
-use Rattle.sem_trace.specs.Forms.{Place, form_fault}
+use Rattle.sem_trace.specs.declared.fault.Cause.TheVariants.{Missing}
+use Rattle.sem_trace.specs.declared.fault.LineFault.{LineFault}
+use Rattle.sem_trace.specs.Forms.{Place, form_fault, at_word}
 use Rattle.sem_trace.specs.Forms.Place.{Number}
 use Rattle.sem_trace.specs.Declarations.{number_at}
 
@@ -40,9 +42,25 @@ bounds range = (range.least, range.most)
 abbrev pub Fills : List Place → List (List ℕ) → List (List ℕ) → Type 0
 Fills places words rest = (more : List Place) → form_fault (places ++ more) words ≡ form_fault more rest
 
--- the first words do not fill the places, whatever places follow
-abbrev pub Fails : List Place → List (List ℕ) → Cause → Type 0
-Fails places words cause = (more : List Place) → form_fault (places ++ more) words ≡ Some cause
+-- how many words are left at a fault, the faulty one included, if these are left after it
+abbrev pub left_at : Cause → List (List ℕ) → ℕ
+left_at Missing rest = 0
+left_at cause rest = suc (length rest)
+
+-- the first words do not fill the places, whatever places follow: the fault is at the word before
+-- the rest
+abbrev pub Fails : List Place → (words rest : List (List ℕ)) → Cause → Type 0
+Fails places words rest cause =
+    (more : List Place) → form_fault (places ++ more) words ≡ Some (cause, left_at cause rest)
+
+-- the fault that a reader tells, if these words are left
+abbrev pub told_fault : {X : Type 0} → Result X Cause → List (List ℕ) → Option (Cause × ℕ)
+told_fault (Ok x) rest = None
+told_fault (Err cause) rest = Some (cause, left_at cause rest)
+
+-- the fault of that cause in a line with these words, if that many are left after it
+abbrev pub placed : Cause → (words rest : List (List ℕ)) → LineFault
+placed cause words rest = at_word (length words - left_at cause rest) cause
 
 -- the words that spell what is read come first and fill the places, and the words after them are
 -- left
@@ -50,8 +68,9 @@ pub record IsRead (places : List Place) (spelling old new : List (List ℕ)) : T
   pub filled : Fills places old new
   pub spelled : old ≡ spelling ++ new
 
--- what a reader of these places promises: it reads what the first words spell, or its cause is
--- their leftmost fault
+-- what a reader of these places promises: it reads what the first words spell, or its cause is that
+-- of their leftmost fault, and the words after it are left
 abbrev pub Reads : {X : Type 0} → List Place → (X → List (List ℕ)) → List (List ℕ) → List (List ℕ) → Result X Cause →
     Type 0
-Reads places spelling old new result = MatchResult result (λ x. IsRead places (spelling x) old new) (Fails places old)
+Reads places spelling old new result =
+    MatchResult result (λ x. IsRead places (spelling x) old new) (Fails places old new)

@@ -4,10 +4,11 @@ use Rattle.std.specs.Result.{result_err}
 use Rattle.sem_msg.specs.Prelude.{most_vpes, IsValidCall}
 use Rattle.sem_msg.specs.declared.call.Call.{Call}
 use Rattle.sem_trace.specs.declared.fault.Cause.{Cause}
+use Rattle.sem_trace.specs.declared.fault.LineFault.{LineFault}
 use Rattle.sem_trace.specs.declared.declaration.Declaration.{Declaration}
 use Rattle.sem_trace.specs.declared.declaration.Declaration.TheVariants.{Window}
-use Rattle.sem_trace.specs.Forms.{calls, choice, word_at, form, form_fault}
-use Rattle.sem_trace.specs.Places.{Reads}
+use Rattle.sem_trace.specs.Forms.{calls, choice, word_at, form, form_fault, word_fault}
+use Rattle.sem_trace.specs.Places.{Reads, told_fault}
 use Rattle.sem_trace.specs.Words.{call_words}
 use Rattle.sem_trace.specs.Ranges.{IsInRange}
 use Rattle.sem_trace.specs.Declarations.{call_from, declaration}
@@ -18,11 +19,19 @@ pub record ReadsCall (version : ℕ) (old new : List (List ℕ)) (result : Resul
   pub value : IfOk result (λ call. call ≡ call_from old)
   pub valid : IfOk result (IsValidCall (most_vpes version))
 
+-- what a line with these words says is read from its words, in a text with that many kernels
+pub record ReadsWords (version kernels : ℕ) (words rest : List (List ℕ)) (result : Result Declaration Cause) : Type 0
+  where
+    pub fault : form_fault (form version kernels words) words ≡ told_fault result rest
+    pub value : IfOk result (λ d. d ≡ declaration words)
+    pub ranges : IfOk result (IsInRange version kernels)
+
 -- what a line with these words says is read, in a text with that many kernels
-pub record ReadsLine (version kernels : ℕ) (words : List (List ℕ)) (result : Result Declaration Cause) : Type 0 where
-  pub fault : form_fault (form version kernels words) words ≡ result_err result
-  pub value : IfOk result (λ d. d ≡ declaration words)
-  pub ranges : IfOk result (IsInRange version kernels)
+pub record ReadsLine (version kernels : ℕ) (words : List (List ℕ)) (result : Result Declaration LineFault) : Type 0
+  where
+    pub fault : word_fault (form version kernels words) words ≡ result_err result
+    pub value : IfOk result (λ d. d ≡ declaration words)
+    pub ranges : IfOk result (IsInRange version kernels)
 
 -- a line that says how many messages a link holds
 abbrev pub IsWindowLine : Declaration → Type 0

@@ -1,14 +1,14 @@
--- Which texts are refused, at which line and why ("The trace" in docs/texts.md).
+-- Which texts are refused, at which line and word and why ("The trace" in docs/texts.md).
 use Rattle.std.specs.Prelude.{ℕ, ◌+◌, ◌==◌, nat_lt, Bool, false, not, List, [], ◌∷◌, length, take, drop, map}
 use Rattle.std.specs.Prelude.{slice_index_or, Option, Some, None, option_map, if◌then◌else◌}
 use Rattle.std.specs.List.{range_with_len}
 use Rattle.std.specs.Option.{option_or}
-use Rattle.sem_trace.specs.declared.fault.Cause.{Cause}
+use Rattle.sem_trace.specs.declared.fault.LineFault.{LineFault}
 use Rattle.sem_trace.specs.declared.fault.Cause.TheVariants.{Missing, TooMany, InputTooLong}
 use Rattle.sem_trace.specs.declared.fault.TraceFault.{TraceFault}
 use Rattle.sem_trace.specs.declared.declaration.Declaration.{Declaration}
 use Rattle.sem_trace.specs.TextLines.{lines_of, words_of, is_significant, significant, bytes_fault}
-use Rattle.sem_trace.specs.Forms.{form_fault, first_form, second_form, third_form, form}
+use Rattle.sem_trace.specs.Forms.{word_fault, whole_line, first_form, second_form, third_form, form}
 use Rattle.sem_trace.specs.Declarations.{number_at, declaration}
 use Rattle.sem_trace.specs.Earlier.{first_some, is_ended}
 use Rattle.sem_trace.specs.Context.{context_fault}
@@ -25,22 +25,22 @@ is_third version (line ∷ earlier) = false
 
 -- what is wrong with the words of a line after the second, given the words of the earlier lines
 -- after the second
-unfoldable pub body_fault : (version kernels : ℕ) → List (List (List ℕ)) → List (List ℕ) → Option Cause
+unfoldable pub body_fault : (version kernels : ℕ) → List (List (List ℕ)) → List (List ℕ) → Option LineFault
 body_fault version kernels earlier words =
-    if is_third version earlier then form_fault (third_form version) words
-    else (if is_ended (map declaration earlier) then Some TooMany
-    else option_or (form_fault (form version kernels words) words)
+    if is_third version earlier then word_fault (third_form version) words
+    else (if is_ended (map declaration earlier) then Some (whole_line TooMany)
+    else option_or (word_fault (form version kernels words) words)
     (context_fault (map declaration earlier) (declaration words)))
 
 -- what is wrong with the words of a line, given the words of the earlier lines that say something
-unfoldable pub words_fault : List (List (List ℕ)) → List (List ℕ) → Option Cause
-words_fault [] words = form_fault first_form words
-words_fault (first ∷ []) words = form_fault (second_form (version_in first)) words
+unfoldable pub words_fault : List (List (List ℕ)) → List (List ℕ) → Option LineFault
+words_fault [] words = word_fault first_form words
+words_fault (first ∷ []) words = word_fault (second_form (version_in first)) words
 words_fault (first ∷ second ∷ earlier) words = body_fault (version_in first) (number_at second 1) earlier words
 
 -- what is wrong with a line after such lines
-unfoldable pub line_fault : List (List (List ℕ)) → List ℕ → Option Cause
-line_fault earlier line = option_or (bytes_fault line) (if is_significant (words_of line)
+unfoldable pub line_fault : List (List (List ℕ)) → List ℕ → Option LineFault
+line_fault earlier line = option_or (option_map whole_line (bytes_fault line)) (if is_significant (words_of line)
     then words_fault earlier (words_of line) else None)
 
 -- the numbers below n
@@ -50,7 +50,7 @@ numbers n = range_with_len 0 n
 -- the fault of the line at a place, counted from 0, after all lines before it
 unfoldable pub fault_at : List (List ℕ) → ℕ → Option TraceFault
 fault_at lines i =
-    option_map (λ cause. record { line = i + 1; cause = cause })
+    option_map (λ fault. record { line = i + 1; word = fault.word; cause = fault.cause })
     (line_fault (significant (take i lines)) (slice_index_or lines i []))
 
 -- the first fault of a line
@@ -72,7 +72,7 @@ declarations_of lines = map declaration (drop 2 (significant lines))
 -- the lines have no last line
 unfoldable pub end_fault : List (List ℕ) → Option TraceFault
 end_fault lines = if is_ended (declarations_of lines) then None
-    else Some (record { line = length lines + 1; cause = Missing })
+    else Some (record { line = length lines + 1; word = None; cause = Missing })
 
 -- the refusal of lines: that of the first bad one, or that the last line is missing
 abbrev pub lines_refusal : List (List ℕ) → Option TraceFault
@@ -81,5 +81,5 @@ lines_refusal lines = option_or (first_fault lines) (end_fault lines)
 -- the refusal of a text, if it is refused: that it is too long, or that of its lines
 unfoldable pub refusal : List ℕ → Option TraceFault
 refusal bytes =
-    if nat_lt 8388608 (length bytes) then Some (record { line = 0; cause = InputTooLong })
+    if nat_lt 8388608 (length bytes) then Some (record { line = 0; word = None; cause = InputTooLong })
     else lines_refusal (lines_of bytes)

@@ -1,13 +1,26 @@
 // The lines of a text and the words of a line, read from the front.
 ghost use Rattle.std.specs.Prelude.{◌≡◌, ◌≤◌, [], ◌∷◌, length, MatchOption, IfOk, IfErr};
-ghost use Rattle.std.specs.Result.{result_err};
 ghost use Rattle.sem_trace.specs.TextLines.{lines_of, words_of};
 ghost use Rattle.sem_trace.specs.Forms.{Place, form_fault};
-ghost use Rattle.sem_trace.specs.Places.{Fails};
+ghost use Rattle.sem_trace.specs.Places.{Fails, told_fault, placed};
 
-use crate::fault::Cause;
+use crate::fault::{Cause, LineFault};
 use crate::text_lines::{next_line, next_word};
 use std::marker::Model;
+
+// How many words the line has.
+fn word_count(line: &[u8]) -> u64
+    ensures number { result ≡ length (words_of line.now) }
+    ensures few { result ≤ 9223372036854775808 }
+{
+    let mut rest = line;
+    let mut number = 0;
+    while let Some((_, behind)) = next_word(rest) {
+        rest = behind;
+        number += 1;
+    }
+    number
+}
 
 /// The lines of a text that are not read yet, each without its line end. No call of it takes
 /// memory.
@@ -45,7 +58,7 @@ impl<'a> Lines<'a> {
     }
 }
 
-/// The words of a line that are not read yet. After an error nothing is said of which these are. No
+/// The words of a line that are not read yet. After an error they are those after the faulty one. No
 /// call of it takes memory.
 #[derive(Drop)]
 pub struct Words<'a> {
@@ -82,18 +95,34 @@ impl<'a> Words<'a> {
     /// The next word; an error if no word is left.
     pub fn word(&mut self) -> Result<&'a [u8], Cause>
         ensures ok { IfOk result (λ word. self.old ≡ word.now ∷ self.new) }
-        ensures err { IfErr result (λ cause. (place : Place) → Fails (place ∷ []) self.old cause) }
+        ensures err { IfErr result (λ cause. (place : Place) →
+            Fails (place ∷ []) self.old self.new cause) }
     {
         self.next_word().ok_or(Cause::Missing)
     }
 
     /// Refuses if a word is left.
-    pub fn no_more(&self) -> Result<(), Cause>
-        ensures { form_fault [] self.now ≡ result_err result }
+    pub fn no_more(&mut self) -> Result<(), Cause>
+        ensures { form_fault [] self.old ≡ told_fault result self.new }
     {
-        match next_word(self.line) {
+        match self.next_word() {
             Some(_) => Err(Cause::TooMany),
             None => Ok(()),
+        }
+    }
+
+    /// The fault of that cause in the line, if these words are left after the faulty one. Takes no
+    /// memory.
+    pub fn fault_in(&self, line: &[u8], cause: Cause) -> LineFault
+        ensures { result ≡ placed cause (words_of line.now) self.now }
+    {
+        let left = match cause {
+            Cause::Missing => 0,
+            _ => word_count(self.line) + 1,
+        };
+        LineFault {
+            cause,
+            word: Some(word_count(line).saturating_sub(left)),
         }
     }
 }

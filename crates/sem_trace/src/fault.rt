@@ -38,11 +38,24 @@ pub enum Cause {
     NotCanonical,
 }
 
-/// The first bad line, counted from 1, and its cause. A text that is too long is refused at line 0.
+/// Why a line is refused, and which of its words is wrong.
+#[derive(Clone, Copy, Debug, PartialEq, Eq)]
+pub struct LineFault {
+    pub cause: Cause,
+    /// The word, counted from 0. If a word is missing, it is the number of the line's words; none
+    /// if the whole line is wrong.
+    pub word: Option<u64>,
+}
+
+/// The first bad line, counted from 1, which of its words is wrong, and the cause. A text that is
+/// too long is refused at line 0.
 #[derive(Clone, Copy, Debug, PartialEq, Eq, Error)]
 #[error("line {line}: {cause}")]
 pub struct TraceFault {
     pub line: u64,
+    /// The word, counted from 0. If a word is missing, it is the number of the line's words; none
+    /// if the whole line or the whole text is wrong.
+    pub word: Option<u64>,
     pub cause: Cause,
 }
 

@@ -1,6 +1,6 @@
 // The places of a line, read from the left.
-ghost use Rattle.std.specs.Prelude.{◌≡◌, ℕ, ◌<◌, ◌≤◌, [], ◌∷◌, map, length, take, drop, decimal};
-ghost use Rattle.std.specs.Prelude.{slice_index, IfOk, OnOk};
+ghost use Rattle.std.specs.Prelude.{◌≡◌, ◌<◌, ◌≤◌, [], ◌∷◌, map, length, take, drop, decimal};
+ghost use Rattle.std.specs.Prelude.{IfOk, OnOk};
 ghost use Rattle.std.specs.Bool.{Decides};
 ghost use Rattle.std.specs.Result.{result_err};
 ghost use Rattle.sem_text.specs.Number.{number_value};
@@ -10,7 +10,7 @@ ghost use Rattle.sem_trace.specs.Forms.{place_fault, form_fault, node as node_le
 ghost use Rattle.sem_trace.specs.Forms.{kernel_count as kernel_count_lem, window as window_lem};
 ghost use Rattle.sem_trace.specs.Forms.Place.{Word};
 ghost use Rattle.sem_trace.specs.Declarations.{number_at};
-ghost use Rattle.sem_trace.specs.Places.{Reads, AreNumbers, number_place, IsWithin};
+ghost use Rattle.sem_trace.specs.Places.{Reads, AreNumbers, number_place, IsWithin, told_fault};
 
 use crate::cursor::Words;
 use crate::fault::Cause;
@@ -152,7 +152,8 @@ impl Words<'_> {
     /// The last words, numbers of those ranges, 5 at most.
     pub fn last_numbers(&mut self, ranges: &[Range]) -> Result<[u64; MOST_NUMBERS], Cause>
         requires { length ranges.now ≤ 5 }
-        ensures fault { form_fault (map number_place ranges.now) self.old ≡ result_err result }
+        ensures fault { form_fault (map number_place ranges.now) self.old
+            ≡ told_fault result self.new }
         ensures numbers { IfOk result (AreNumbers ranges.now self.old) }
     {
         let values = self.numbers(ranges)?;

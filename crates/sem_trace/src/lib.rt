@@ -17,7 +17,7 @@ pub use cursor::{Lines, Words};
 pub use declaration::Declaration;
 pub use declarations::{read_declaration, read_first, read_second, read_third};
 pub use dotted::read_key;
-pub use fault::{Cause, TraceError, TraceFault};
+pub use fault::{Cause, LineFault, TraceError, TraceFault};
 pub use forms::{BYTE, ENDPOINT, RIGHTS, Range, SLOTS, WORD, is, node};
 pub use limits::{LINK_WINDOW, most_kernels, most_vpes};
 pub use print::{print_trace, push_line, push_start, push_trace};

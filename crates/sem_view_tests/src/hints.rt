@@ -1,5 +1,9 @@
-use sem_hint::{kind_of, refusal_text};
-use sem_trace::{Cause, TraceFault};
+use sem_files::read_files;
+use sem_hint::{TextKind, kind_of, refusal_text};
+use sem_reader::read_trace;
+use sem_report::read_report;
+use sem_trace::{Cause, TraceError, TraceFault};
+use std::alloc::Global;
 use std::test::Fail;
 
 // A refused text, and what is said of it.
@@ -147,15 +151,37 @@ end
     },
 ];
 
+// The refusal of the text, if it is refused.
+fn refusal(alloc: Global, text: &[u8], kind: TextKind) -> Option<TraceFault> {
+    let refused = match kind {
+        TextKind::Trace => match read_trace(alloc, text) {
+            Err(error) => error,
+            Ok(_) => return None,
+        },
+        TextKind::Report => match read_report(alloc, text) {
+            Err(error) => error,
+            Ok(_) => return None,
+        },
+        TextKind::Files => match read_files(alloc, text) {
+            Err(error) => error,
+            Ok(_) => return None,
+        },
+    };
+    match refused {
+        TraceError::Refused(fault) => Some(fault),
+        TraceError::Memory => None,
+    }
+}
+
 #[test]
 fn refusals_are_told_in_words(rt: HostRuntime) -> Result<(), Fail> {
     for case in &CASES {
-        let fault = TraceFault {
-            line: case.line,
-            cause: case.cause,
-        };
         let text = case.text.as_bytes();
         let kind = kind_of(rt.alloc(), text)?;
+        let Some(fault) = refusal(rt.alloc(), text, kind) else {
+            return Err(Fail::from(case.text));
+        };
+        assert_eq!(rt; (fault.line, fault.cause), (case.line, case.cause));
         let said = refusal_text(rt.alloc(), text, &fault, kind)?;
         assert_eq!(rt; said.as_str(), case.said);
     }

@@ -17,7 +17,7 @@ returns-in-Ok c = head_words c.args.version c.args.first c.loop-line.number (who
 
 pub returns-in-Err : goal.returns-in-Err
 returns-in-Err c = head_words c.args.version c.args.first c.loop-line.number (whole_lines c.args.section.now) (whole_lines c.loop-line.rest.now)
-    (whole_lines c.in-Some.behind.now) c.in-Some.line.whole.now (Some c.in-Err.cause) c.loop-line.invariant.same c.in-Some.ensures.lines
+    (whole_lines c.in-Some.behind.now) c.in-Some.line.whole.now (Some c.in-Err.fault) c.loop-line.invariant.same c.in-Some.ensures.lines
     (sym (rw c.in-Some.ensures.content at c.in_default-bytes_fault.ensures)) (sym (rw c.in-Some.ensures.content at c.if-is_significant.ensures))
     (rw c.in-Some.ensures.content at c.in-Err.ensures)
 

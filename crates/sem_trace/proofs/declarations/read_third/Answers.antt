@@ -1,7 +1,8 @@
-use Rattle.std.proofs.Common.{refl, sym, ◌∙◌, arith}
-use Rattle.sem_trace.specs.Declarations.{declaration}
+use Rattle.sem_trace.proofs.PlaceSteps.{line_fault_is, no_line_fault}
 use Rattle.sem_trace.proofs.declarations.read_third.Goals as goal
 
-pub returns-clause-value : goal.returns-clause-value
-unfolding declaration
-returns-clause-value c = rw (sym c.of-words.ensures ∙ c.in_ok-fixed.ensures.spelled, c.in_ok-window.ensures.numbers.values 0 (omega arith)) refl
+pub returns-in-Ok-clause-fault : goal.returns-in-Ok-clause-fault
+returns-in-Ok-clause-fault c = rw (← c.of-words.ensures) (no_line_fault _ _ c.in-Ok.ensures.fault)
+
+pub returns-in-Err-clause-fault : goal.returns-in-Err-clause-fault
+returns-in-Err-clause-fault c = rw (c.fault_in.ensures, ← c.of-words.ensures) (line_fault_is _ _ _ _ c.in-Err.ensures.fault)
