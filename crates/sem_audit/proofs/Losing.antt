@@ -22,7 +22,8 @@ use Rattle.sem_audit.proofs.Upwards.{grants-more}
 use Rattle.sem_safety.specs.Growth.{grown, IsGrown}
 use Rattle.sem_safety.specs.Growth.IsGrown.{no_grants, granted_next}
 use Rattle.sem_safety.proofs.GrownLines.{line-stays, line-new, grown-more, grown-keeps, child-grown, few-grants}
-use Rattle.sem_audit.specs.Losing.{lose, lost, has_word, HasWords}
+use Rattle.sem_grants.specs.Words.{has_word, HasWords}
+use Rattle.sem_audit.specs.Losing.{lose, lost}
 
 or_false : (b : Bool) → (b || false) ≡ b
 or_false true = refl

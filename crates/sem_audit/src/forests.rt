@@ -5,11 +5,11 @@ ghost use Rattle.sem_key.specs.KeyName.{IsValidKey};
 ghost use Rattle.sem_key.specs.Region.{has_key};
 ghost use Rattle.sem_machine.specs.Journals.{forest, grants};
 ghost use Rattle.sem_machine.specs.Schedules.{IsSchedule};
-ghost use Rattle.sem_audit.specs.Losing.{HasWords, lost, has_word as has_word_lem};
+ghost use Rattle.sem_grants.specs.Words.{HasWords, has_word as has_word_lem};
+ghost use Rattle.sem_audit.specs.Losing.{lost};
 
-use crate::words::{add_word, has_word};
 use indexmap::IndexSet;
-use sem_grants::{cut_among, made_keys};
+use sem_grants::{add_word, cut_among, has_word, made_keys};
 use sem_key::{Key, Keys, OutOfMemory};
 use sem_msg::{Entry, Journal, Setup};
 use std::alloc::Global;

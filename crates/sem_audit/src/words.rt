@@ -1,12 +1,12 @@
 // Sets of keys, by their packed words.
-ghost use Rattle.std.specs.Prelude.{◌≡◌, ◌≤◌, ◌||◌, length, IfOk, OnOk};
-ghost use Rattle.sem_key.specs.KeyName.{IsValidKey, key_eq};
+ghost use Rattle.std.specs.Prelude.{◌≡◌, ◌≤◌, length, IfOk};
 ghost use Rattle.sem_key.specs.Region.{has_key};
+ghost use Rattle.sem_grants.specs.Words.{HasWords};
 ghost use Rattle.sem_audit.specs.Straying.{missing as missing_lem};
-ghost use Rattle.sem_audit.specs.Losing.{HasWords, has_word as has_word_lem};
 
 use indexmap::IndexSet;
-use sem_key::{Key, OutOfMemory, pack};
+use sem_grants::{add_word, has_word};
+use sem_key::{Key, OutOfMemory};
 use std::alloc::Global;
 
 fn words_of(alloc: Global, keys: &[Key]) -> Result<IndexSet<u64>, OutOfMemory>
@@ -17,22 +17,6 @@ fn words_of(alloc: Global, keys: &[Key]) -> Result<IndexSet<u64>, OutOfMemory>
         add_word(&mut words, *key)?;
     }
     Ok(words)
-}
-
-pub fn has_word(words: &IndexSet<u64>, key: Key) -> bool
-    ensures word { result ≡ has_word_lem words.now key }
-    ensures valid { IsValidKey key }
-{
-    words.contains(&pack(key))
-}
-
-pub fn add_word(words: &mut IndexSet<u64>, key: Key) -> Result<(), OutOfMemory>
-    ensures added { OnOk result (HasWords words.new
-        (λ k. has_word_lem words.old k || key_eq k key)) }
-    ensures valid { IsValidKey key }
-{
-    words.insert(pack(key))?;
-    Ok(())
 }
 
 // How many of the keys are not among the others.

@@ -7,7 +7,7 @@ ghost use Rattle.sem_check.specs.Replays.{IsLongestSchedule, IsLongestPrefix};
 use crate::follows::follow;
 use crate::watch::Unwatched;
 use sem_fabric::Fabric;
-use sem_kernel::{Kernel, World, boot, happen_enabled};
+use sem_kernel::{Kernel, World, advance, boot};
 use sem_key::OutOfMemory;
 use sem_msg::{Entry, Journal, Setup};
 use std::alloc::Global;
@@ -50,7 +50,7 @@ fn repeat(
 {
     let (mut kernels, mut fabric) = boot(alloc, setup, Journal::new(alloc))?;
     for entry in entries {
-        happen_enabled(setup, &mut kernels, &mut fabric, entry.event)?;
+        advance(setup, &mut kernels, &mut fabric, entry.event)?;
     }
     Ok((kernels, fabric))
 }

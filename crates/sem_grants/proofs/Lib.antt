@@ -1,4 +1,4 @@
 pub mod Reading
 pub mod Roots
 pub mod Ended
-pub mod CutOff
+pub mod Backward

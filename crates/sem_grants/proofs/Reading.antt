@@ -1,14 +1,18 @@
 -- Lists that are read place by place, and what is gathered from them.
 use Rattle.std.proofs.Common.{◌≡◌, ℕ, zero, suc, ◌+◌, ◌<◌, Bool, true, false, cond, List, [], ◌∷◌, ◌++◌, length, take, get_or, refl, add-one, append_assoc}
 use Rattle.std.proofs.Common.{append-nil}
-use Rattle.std.specs.List.{filter, slice_get}
+use Rattle.std.specs.List.{All, filter, slice_get}
 use Rattle.std.specs.Option.{option_to_list}
-use Rattle.std.proofs.lemmas.List.Elements.{filter_more}
-use Rattle.sem_key.specs.KeyName.{KeyName}
+use Rattle.std.proofs.lemmas.List.{take_more}
+use Rattle.std.proofs.lemmas.List.Elements.{All-push, filter_more}
+use Rattle.sem_key.specs.KeyName.{KeyName, IsValidKey}
 use Rattle.sem_key.specs.KeyList.{with_key}
 use Rattle.sem_key.specs.Lists.{in_turn}
 use Rattle.sem_key.proofs.InTurns.{in_turn-append}
-use Rattle.sem_grants.specs.Ending.{with_keys}
+
+-- the set with these keys added
+abbrev pub with_keys : List KeyName → List KeyName → List KeyName
+with_keys found ks = in_turn (λ k found. with_key found k) ks found
 
 take-suc-read : {X : Type 0} (xs : List X) (i : ℕ) → take (suc i) xs ≡ take i xs ++ option_to_list (slice_get xs i)
 take-suc-read [] zero = refl
@@ -35,22 +39,24 @@ pub with_keys-none : (found : List KeyName) → with_keys found [] ≡ found
 unfolding in_turn
 with_keys-none found = refl
 
--- the same for keys that are added to a set
-pub added_more : {X : Type 0} (f : List X → List KeyName) → ((xs ys : List X) → f (xs ++ ys) ≡ f xs ++ f ys) →
-    (xs : List X) (i : ℕ) (before now after : List KeyName) → now ≡ with_keys before (f (take i xs)) →
-    after ≡ with_keys now (f (option_to_list (slice_get xs i))) → after ≡ with_keys before (f (take (i + 1) xs))
-added_more f joins xs i before now after so_far more =
-    rw (take-read_more xs i, joins, with_keys-append, ← so_far) more
-
--- those keys are added that pass a test
+-- those keys are appended that pass a test
 module _ (p : KeyName → Bool) (ks : List KeyName) (i : ℕ) (k : KeyName) (before now : List KeyName) (more : i < length ks) (found : k ≡ get_or ks i k)
-    (so_far : now ≡ with_keys before (filter p (take i ks))) where
+    (so_far : now ≡ before ++ filter p (take i ks)) where
   next : filter p (take (i + 1) ks) ≡ filter p (take i ks) ++ cond (p k) (k ∷ []) []
   next = rw (← found) at (filter_more p ks i k more)
 
-  pub chosen_more : (after : List KeyName) → p k ≡ true → after ≡ with_key now k → after ≡ with_keys before (filter p (take (i + 1) ks))
-  unfolding in_turn
-  chosen_more after pass is = rw (next, pass, with_keys-append, ← so_far) is
+  pub chosen_more : (after : List KeyName) → p k ≡ true → after ≡ now ++ k ∷ [] → after ≡ before ++ filter p (take (i + 1) ks)
+  chosen_more after pass is = rw (next, pass, ← append_assoc before (filter p (take i ks)) (k ∷ []), ← so_far) is
 
-  pub chosen_skip : p k ≡ false → now ≡ with_keys before (filter p (take (i + 1) ks))
+  pub chosen_skip : p k ≡ false → now ≡ before ++ filter p (take (i + 1) ks)
   chosen_skip fail = rw (next, fail, append-nil) so_far
+
+-- the keys before place i were added to no keys; with the key there, those of one more
+pub set_more : (ks : List KeyName) (i : ℕ) (k : KeyName) (now after : List KeyName) → i < length ks → k ≡ get_or ks i k → now ≡ with_keys [] (take i ks) →
+    after ≡ with_key now k → after ≡ with_keys [] (take (i + 1) ks)
+unfolding in_turn
+set_more ks i k now after more found so_far is = rw (take_more ks i k more, ← found, with_keys-append, ← so_far) is
+
+pub valid_more : (ks : List KeyName) (i : ℕ) (k : KeyName) → i < length ks → k ≡ get_or ks i k → All IsValidKey (take i ks) → IsValidKey k →
+    All IsValidKey (take (i + 1) ks)
+valid_more ks i k more found so_far valid = rw (take_more ks i k more, ← found) (All-push IsValidKey (take i ks) k so_far valid)

@@ -1,12 +1,19 @@
-ghost use Rattle.std.specs.Prelude.{◌≡◌, ◌++◌, ◌==◌, [], slice_get, filter, IfOk, OnOk};
-ghost use Rattle.std.specs.List.{list_any};
-ghost use Rattle.std.specs.Option.{option_map_or, option_to_list};
+ghost use Rattle.std.specs.Prelude.{◌≡◌, ◌++◌, ◌||◌, [], nat_eq, filter, All};
+ghost use Rattle.std.specs.Prelude.{IfOk, OnOk, IfSome};
+ghost use Rattle.std.specs.Option.{option_to_list};
+ghost use Rattle.sem_key.specs.KeyName.{KeyName, IsValidKey};
 ghost use Rattle.sem_key.specs.KeyList.{key_set, with_key};
-ghost use Rattle.sem_machine.specs.Journals.{children_in, cut_off, cut_from, has_ended, cut};
-ghost use Rattle.sem_grants.specs.Ending.{ended_by as ended_by_lem, ended_in, with_keys};
+ghost use Rattle.sem_key.specs.Region.{has_key};
+ghost use Rattle.indexmap.specs.IndexSet.{contains};
+ghost use Rattle.sem_machine.specs.Journals.{cut_from, ends, has_ended, cut};
+ghost use Rattle.sem_grants.specs.Backward.{clears, cleared_child, revoked, HasVpes};
+ghost use Rattle.sem_grants.specs.Ending.{ended_by as ended_by_lem};
+ghost use Rattle.sem_grants.specs.Words.{HasWords, has_word as has_word_lem};
 
 use crate::makes::made_keys;
-use sem_key::{Key, Keys, OutOfMemory, same_key};
+use crate::words::{add_word, has_word};
+use indexmap::IndexSet;
+use sem_key::{Key, Keys, OutOfMemory, pack};
 use sem_msg::{Act, Call, Detail, Entry, Journal, Setup};
 use std::alloc::Global;
 
@@ -23,55 +30,79 @@ pub fn cut_among(alloc: Global, made: &[Key], journal: &Journal) -> Result<Keys,
     ensures { IfOk result (λ keys. keys.keys ≡ key_set (cut_from [] journal.now.entries
         ++ filter (λ k. has_ended journal.now.entries k.vpe) made.now)) }
 {
-    let mut keys = Keys::new(alloc);
-    add_cut_off(alloc, &mut keys, journal.as_slice())?;
-    let ended = ended_vpes(alloc, journal)?;
-    add_ended(&mut keys, made, &ended)?;
-    Ok(keys)
+    let mut found = cut_off_keys(alloc, journal.as_slice())?;
+    let ended = ended_vpes(alloc, journal.as_slice())?;
+    push_ended(&mut found, made, &ended)?;
+    set_of(alloc, found)
 }
 
-// Adds the keys that the entries of a journal cut off.
-fn add_cut_off(alloc: Global, keys: &mut Keys, entries: &[Entry]) -> Result<(), OutOfMemory>
-    ensures { OnOk result (keys.new.keys ≡ with_keys keys.old.keys (cut_from [] entries.now)) }
+// The keys that the entries cut off. A clear takes the children that were granted by then, so this
+// goes from the last entry to the first, and meets a grant after the clears that follow it.
+fn cut_off_keys(alloc: Global, entries: &[Entry]) -> Result<Vec<Key>, OutOfMemory>
+    ensures { IfOk result (λ found. (k : KeyName) →
+        has_key found.items k ≡ has_key (cut_from [] entries.now) k) }
 {
-    let mut granted = Vec::new(alloc);
-    for entry in entries {
-        add_cut_off_by(keys, &granted, entry)?;
-        push_grant(&mut granted, entry)?;
+    let mut found = Vec::new(alloc);
+    let mut cleared = IndexSet::new(alloc);
+    for at in (0..entries.len()).rev() {
+        let entry = &entries[at];
+        push_cleared_child(&mut found, &cleared, entry)?;
+        push_revoked(&mut found, entry)?;
+        add_cleared(&mut cleared, entry)?;
+    }
+    Ok(found)
+}
+
+// Appends the child that the entry grants, if the word of its parent is there.
+fn push_cleared_child(
+    found: &mut Vec<Key>,
+    cleared: &IndexSet<u64>,
+    entry: &Entry,
+) -> Result<(), OutOfMemory>
+    ensures found { OnOk result (found.new.items
+        ≡ found.old.items ++ cleared_child (has_word_lem cleared.now) entry.now.grant) }
+    ensures valid { IfSome entry.now.grant (λ grant. IsValidKey grant.0) }
+{
+    if let Some((parent, child)) = entry.grant {
+        if has_word(cleared, parent) {
+            found.push(child)?;
+        }
     }
     Ok(())
 }
 
-// Adds the keys that the entry cuts off, given the grants before it.
-fn add_cut_off_by(keys: &mut Keys, granted: &[(Key, Key)], entry: &Entry) -> Result<(), OutOfMemory>
-    ensures { OnOk result (keys.new.keys ≡ with_keys keys.old.keys
-        (option_map_or (cut_off granted.now entry.now.detail) entry.now.cut [])) }
+// Appends the key that the entry revokes, if it revokes one.
+fn push_revoked(found: &mut Vec<Key>, entry: &Entry) -> Result<(), OutOfMemory>
+    ensures { OnOk result (found.new.items
+        ≡ found.old.items ++ revoked entry.now.detail entry.now.cut) }
 {
-    let Some(key) = entry.cut else {
-        return Ok(());
-    };
-    match entry.detail {
+    if let (
         Detail::Called {
             call: Call::Revoke { .. },
             ..
-        } => add(keys, key),
+        },
+        Some(key),
+    ) = (entry.detail, entry.cut)
+    {
+        found.push(key)?;
+    }
+    Ok(())
+}
+
+// Adds the word of the key that the entry clears, if it clears one.
+fn add_cleared(cleared: &mut IndexSet<u64>, entry: &Entry) -> Result<(), OutOfMemory>
+    ensures { OnOk result (HasWords cleared.new
+        (λ k. has_word_lem cleared.old k || clears entry.now.detail entry.now.cut k)) }
+{
+    if let (
         Detail::Called {
             call: Call::Clear { .. },
             ..
-        } => add_children(keys, granted, key),
-        _ => Ok(()),
-    }
-}
-
-// Adds the keys that were granted below the parent.
-fn add_children(keys: &mut Keys, granted: &[(Key, Key)], parent: Key) -> Result<(), OutOfMemory>
-    ensures { OnOk result (keys.new.keys
-        ≡ with_keys keys.old.keys (children_in granted.now parent)) }
-{
-    for (above, child) in granted {
-        if same_key(above, &parent) {
-            add(keys, *child)?;
-        }
+        },
+        Some(key),
+    ) = (entry.detail, entry.cut)
+    {
+        add_word(cleared, key)?;
     }
     Ok(())
 }
@@ -87,48 +118,60 @@ pub fn push_grant(granted: &mut Vec<(Key, Key)>, entry: &Entry) -> Result<(), Ou
     Ok(())
 }
 
-// Adds those of the keys that belong to one of the VPEs.
-fn add_ended(keys: &mut Keys, made: &[Key], ended: &[u16]) -> Result<(), OutOfMemory>
-    ensures { OnOk result (keys.new.keys ≡ with_keys keys.old.keys
-        (filter (λ k. list_any (λ v. v == k.vpe) ended.now) made.now)) }
+// Appends those of the keys that belong to one of the VPEs.
+fn push_ended(found: &mut Vec<Key>, made: &[Key], ended: &IndexSet<u16>) -> Result<(), OutOfMemory>
+    ensures { OnOk result (found.new.items ≡ found.old.items
+        ++ filter (λ k. contains nat_eq ended.now k.vpe) made.now) }
 {
     for key in made {
         if ended.contains(&key.vpe) {
-            add(keys, *key)?;
+            found.push(*key)?;
         }
     }
     Ok(())
 }
 
+// The keys, each once. In rising order each goes to the end of those before it.
+fn set_of(alloc: Global, mut found: Vec<Key>) -> Result<Keys, OutOfMemory>
+    ensures keys { IfOk result (λ keys. keys.keys ≡ key_set found.items) }
+    ensures valid { OnOk result (All IsValidKey found.items) }
+{
+    found.sort_unstable_by_key(|key| pack(*key));
+    let mut keys = Keys::new(alloc);
+    for key in &found {
+        add(&mut keys, *key)?;
+    }
+    Ok(keys)
+}
+
 // Adds the key, unless it is there.
 fn add(keys: &mut Keys, key: Key) -> Result<(), OutOfMemory>
-    ensures { OnOk result (keys.new.keys ≡ with_key keys.old.keys key) }
+    ensures keys { OnOk result (keys.new.keys ≡ with_key keys.old.keys key) }
+    ensures valid { OnOk result (IsValidKey key) }
 {
     keys.room(1)?;
     keys.insert(key);
     Ok(())
 }
 
-fn ended_vpes(alloc: Global, journal: &Journal) -> Result<Vec<u16>, OutOfMemory>
-    ensures { IfOk result (λ vpes. vpes.items ≡ ended_in journal.now.entries) }
+// The VPEs that end in the entries.
+fn ended_vpes(alloc: Global, entries: &[Entry]) -> Result<IndexSet<u16>, OutOfMemory>
+    ensures { IfOk result (λ ended. HasVpes ended (has_ended entries.now)) }
 {
-    let mut vpes = Vec::new(alloc);
-    for at in 0..journal.len() {
-        push_ended_at(&mut vpes, journal, at)?;
+    let mut ended = IndexSet::new(alloc);
+    for entry in entries {
+        add_ended(&mut ended, entry)?;
     }
-    Ok(vpes)
+    Ok(ended)
 }
 
-// Appends the VPE that ends by the entry at that place, if there is one.
-fn push_ended_at(vpes: &mut Vec<u16>, journal: &Journal, at: usize) -> Result<(), OutOfMemory>
-    ensures { OnOk result (vpes.new.items ≡ vpes.old.items
-        ++ ended_in (option_to_list (slice_get journal.now.entries at))) }
+// Adds the VPE that ends by the entry, if one does.
+fn add_ended(ended: &mut IndexSet<u16>, entry: &Entry) -> Result<(), OutOfMemory>
+    ensures { OnOk result (HasVpes ended.new (λ v. contains nat_eq ended.old v
+        || ends v entry.now.event.act entry.now.detail)) }
 {
-    let Some(entry) = journal.get(at) else {
-        return Ok(());
-    };
-    if let Some(vpe) = ended_by(&entry) {
-        vpes.push(vpe)?;
+    if let Some(vpe) = ended_by(entry) {
+        ended.insert(vpe)?;
     }
     Ok(())
 }

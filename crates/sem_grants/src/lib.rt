@@ -3,6 +3,8 @@
 
 mod cuts;
 mod makes;
+mod words;
 
 pub use cuts::{cut_among, cut_keys, ended_by, push_grant};
 pub use makes::made_keys;
+pub use words::{add_word, has_word};

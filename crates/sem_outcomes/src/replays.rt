@@ -9,7 +9,7 @@ ghost use Rattle.sem_outcomes.specs.Ways.{ComesFrom};
 
 use crate::steps::Step;
 use sem_fabric::Fabric;
-use sem_kernel::{Kernel, boot, happen_enabled};
+use sem_kernel::{Kernel, advance, boot, happen_enabled};
 use sem_key::OutOfMemory;
 use sem_msg::{Entry, Event, Journal, Setup};
 use std::alloc::Global;
@@ -47,7 +47,7 @@ fn take_step(
     ensures journal { OnOk result (fabric.new.journal ≡ fabric.old.journal
         ++ entry_of setup.now (world_of kernels.old.items fabric.old) event ∷ []) }
 {
-    match happen_enabled(setup, kernels, fabric, event) {
+    match advance(setup, kernels, fabric, event) {
         Ok(_) => Ok(()),
         Err(error) => Err(error),
     }

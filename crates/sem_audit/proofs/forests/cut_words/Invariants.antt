@@ -1,6 +1,6 @@
 use Rattle.std.proofs.Common.{take}
 use Rattle.sem_key.specs.Region.{has_key}
-use Rattle.sem_audit.specs.Losing.{HasWords}
+use Rattle.sem_grants.specs.Words.{HasWords}
 use Rattle.sem_audit.proofs.forests.cut_words.Given as goal
 
 -- the words of the first keys

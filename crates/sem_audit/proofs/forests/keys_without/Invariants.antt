@@ -1,6 +1,6 @@
 use Rattle.std.proofs.Common.{◌≡◌, not, take}
 use Rattle.std.specs.List.{filter}
-use Rattle.sem_audit.specs.Losing.{has_word}
+use Rattle.sem_grants.specs.Words.{has_word}
 use Rattle.sem_audit.proofs.forests.keys_without.Given as goal
 
 -- those of the first keys are left

@@ -1,7 +1,8 @@
 use Rattle.std.proofs.Common.{take}
 use Rattle.sem_key.specs.Region.{has_key}
 use Rattle.sem_machine.specs.Journals.{grants}
-use Rattle.sem_audit.specs.Losing.{HasWords, lost}
+use Rattle.sem_grants.specs.Words.{HasWords}
+use Rattle.sem_audit.specs.Losing.{lost}
 use Rattle.sem_audit.proofs.forests.lost_words.Given as goal
 
 -- the words of what is lost after the first entries

@@ -7,10 +7,11 @@ use Rattle.sem_audit.specs.HeldKeys.{held}
 use Rattle.sem_audit.proofs.Order.{held-is}
 use Rattle.sem_audit.proofs.holds.held_list.Goals as goal
 
--- the list has what was found of all kernels
+-- the list has what was found of all kernels, sorted
 pub returns : goal.returns
 returns c =
     IfOk-weaker c.list_of.result (λ (list : List Held). list ≡ c.deref.result.now) (λ (list : List Held). held_pairs list
     ≡ held (map (λ (k : KernelValue). k.side) c.args.kernels.now))
-    (λ list is. rw (is, c.deref.ensures.value) (held-is (map (λ (k : KernelValue). k.side) c.args.kernels.now) c.in_ok-found.found.items c.in_ok-found.ensures))
+    (λ list is. rw (is, c.deref.ensures.value) (held-is (map (λ (k : KernelValue). k.side) c.args.kernels.now) c.in_ok-found.found.items
+    c.sort_held.new.found.items c.in_ok-found.ensures c.in_ok-sort_held.ensures.order c.sort_held.ensures.ties))
     c.list_of.ensures

@@ -1,10 +1,7 @@
-use Rattle.std.proofs.Common.{[]}
-use Rattle.std.proofs.lemmas.List.Elements.{filter_map-append}
-use Rattle.sem_msg.specs.declared.entry.Entry.{Entry}
-use Rattle.sem_grants.specs.Ending.{ended_by, ended_in}
-use Rattle.sem_grants.proofs.Reading.{gathered_more}
+use Rattle.sem_grants.proofs.Ended.{ended-more}
 use Rattle.sem_grants.proofs.cuts.ended_vpes.Goals as goal
 
-pub loop-at-preserved : goal.loop-at-preserved
-loop-at-preserved c = gathered_more ended_in (filter_map-append (λ (e : Entry). ended_by e.event.act e.detail)) c.args.journal.now.entries c.loop-at.at
-    [] _ _ c.loop-at.invariant c.in_ok-push_ended_at.ensures
+-- one entry more
+pub loop-entry-preserved : goal.loop-entry-preserved
+loop-entry-preserved c = ended-more c.loop-entry.ended c.add_ended.new.ended c.args.entries.now c.loop-entry.entry-index c.entry-item.result
+    c.loop-entry-test.true c.entry-item.is c.loop-entry.invariant c.in_ok-add_ended.ensures

@@ -1,7 +1,8 @@
-use Rattle.std.proofs.Common.{◌≡◌, take}
-use Rattle.sem_grants.specs.Ending.{ended_in}
+use Rattle.std.proofs.Common.{take}
+use Rattle.sem_machine.specs.Journals.{has_ended}
+use Rattle.sem_grants.specs.Backward.{HasVpes}
 use Rattle.sem_grants.proofs.cuts.ended_vpes.Given as goal
 
 -- the VPEs that end in the first entries
-abbrev pub invariant-loop-at : goal.invariant-loop-at
-invariant-loop-at l = l.vpes.items ≡ ended_in (take l.at l.journal.entries)
+abbrev pub invariant-loop-entry : goal.invariant-loop-entry
+invariant-loop-entry l = HasVpes l.ended (has_ended (take l.entry-index l.entries))
