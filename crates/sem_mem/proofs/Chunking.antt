@@ -2,20 +2,21 @@
 use Rattle.std.proofs.Common.{◌≡◌, ℕ, zero, suc, ◌+◌, ◌-◌, ◌≤◌, ◌<◌, true, false, List, [], ◌∷◌, ◌++◌, length, map, take, drop, get_or, Option, Some, None}
 use Rattle.std.proofs.Common.{refl, sym, ◌∙◌, ap, subst, arith}
 use Rattle.std.specs.Global.{Vec}
-use Rattle.std.specs.List.{All, slice_range, slice_set, splice}
+use Rattle.std.specs.List.{All, filter_map, insert, slice_range, slice_set, splice}
 use Rattle.std.specs.List.Sorted.{IsNonDecreasingBy, IsPartitionPoint}
-use Rattle.std.specs.Prelude.{nat_le, nat_lt, min}
-use Rattle.std.proofs.lemmas.Bool.{leb-true, ltb-false}
+use Rattle.std.specs.Prelude.{nat_lt, min}
+use Rattle.std.proofs.lemmas.Bool.{ltb-true, ltb-false}
 use Rattle.std.proofs.lemmas.List.Concat.{flat_map-append}
 use Rattle.std.proofs.Math.Seq.{take-nil, drop-nil}
 use Rattle.std.proofs.lemmas.List.{append-nil, append_assoc, set_split, take_more, take-append-drop, get_or-take, get_or-drop, get_or-map, length-take}
 use Rattle.std.proofs.lemmas.List.{length-drop, length-map, map-append, map-set, take-map, drop-map}
-use Rattle.std.proofs.lemmas.List.Elements.{All-nil, All-cons, All-head, All-tail, All-append, All-weaker, All-get_or, All-from_get_or, All-take, All-drop}
+use Rattle.std.proofs.lemmas.List.Elements.{All-nil, All-cons, All-head, All-tail, All-append, All-weaker, All-get_or, All-from_get_or, All-take, All-drop, filter_map-append}
+use Rattle.sem_key.specs.declared.limits.TheConstants.{ADDRESSES}
 use Rattle.sem_access.specs.declared.run.Run.{Run}
 use Rattle.sem_access.specs.LastWrites.{looked}
 use Rattle.sem_access.specs.Runs.{IsValidRun, AreRunsBehind, AreRuns, entry_at}
 use Rattle.sem_mem.specs.Chunks.{together, IsSized, AreChunks, beginning, beginnings_of, AreMetChunks}
-use Rattle.sem_mem.proofs.KeptRuns.{each-run, first-apart, more-runs}
+use Rattle.sem_mem.proofs.KeptRuns.{each-run, first-run, first-apart, more-runs}
 use Rattle.sem_mem.proofs.Behind.{EndsBy, BeginsFrom, end_behind, end-from, ends-by, begin-behind, entry_behind, runs-before, runs-behind, some-runs}
 use Rattle.sem_mem.specs.Writing.{overwritten}
 use Rattle.sem_mem.proofs.Meeting.{in-three, overwritten-within, looked-within}
@@ -116,7 +117,7 @@ module _ (cs : List (Vec Run)) (are : AreChunks cs) where
       (rises 0 cs up.0 (n + i) (n + j) d (omega (arith, le)) (omega (arith, within, size))))
 
   module _ (base end i k : ℕ) (within : i ≤ length cs) (short : k ≤ length (drop i cs))
-      (first : IsPartitionPoint (λ (c : Vec Run). nat_le (beginning c.items) base ≡ true) (λ (c : Vec Run). nat_le (beginning c.items) base ≡ false) cs i)
+      (first : IsPartitionPoint (λ (c : Vec Run). nat_lt (beginning c.items) base ≡ true) (λ (c : Vec Run). nat_lt (beginning c.items) base ≡ false) cs i)
       (second : IsPartitionPoint (λ (c : Vec Run). nat_lt (beginning c.items) end ≡ true) (λ (c : Vec Run). nat_lt (beginning c.items) end ≡ false)
       (drop i cs) k)
       (nowhere : Vec Run) where
@@ -125,7 +126,7 @@ module _ (cs : List (Vec Run)) (are : AreChunks cs) where
 
     ends-before : (m : ℕ) → suc m < i → All (EndsBy base) (get_or cs m nowhere).items
     ends-before m lt =
-        let next : beginning (get_or cs (suc m) nowhere).items ≤ base = leb-true _ base (first.0 (suc m) nowhere (omega arith) lt) in
+        let next = ltb-true _ base (first.0 (suc m) nowhere (omega arith) lt) in
         let ends = ends-by-next 0 cs up.0 m nowhere (omega (arith, lt, within)) in
         let end-le : end_behind 0 (get_or cs m nowhere).items ≤ base = omega (arith, next, ends) in
         let sooner : (r : Run) → EndsBy (end_behind 0 (get_or cs m nowhere).items) r → EndsBy base r = λ r ends. omega (arith, ends, end-le) in
@@ -177,7 +178,7 @@ none-met base end a b order few = record {
 
 -- what is found, or more
 pub met : (cs : List (Vec Run)) → AreChunks cs → (base end i k : ℕ) → i ≤ length cs → k ≤ length (drop i cs)
-    → IsPartitionPoint (λ (c : Vec Run). nat_le (beginning c.items) base ≡ true) (λ (c : Vec Run). nat_le (beginning c.items) base ≡ false) cs i
+    → IsPartitionPoint (λ (c : Vec Run). nat_lt (beginning c.items) base ≡ true) (λ (c : Vec Run). nat_lt (beginning c.items) base ≡ false) cs i
     → IsPartitionPoint (λ (c : Vec Run). nat_lt (beginning c.items) end ≡ true) (λ (c : Vec Run). nat_lt (beginning c.items) end ≡ false) (drop i cs) k
     → (a b : ℕ) → a ≤ i - 1 → i + k ≤ b → b ≤ length cs → AreMetChunks cs base end a b
 met [] are base end i k within short first second a b low high few = none-met base end a b (omega (arith, low, high)) few
@@ -201,6 +202,21 @@ pub begins-rise : (cs : List (Vec Run)) → AreChunks cs → (bs : List ℕ) →
 begins-rise cs are bs same n = subst (λ (ns : List ℕ). IsNonDecreasingBy (λ (b : ℕ). b) ns) (sym (ap (drop n) same ∙ drop-map begin_of n cs))
     (numbers-rise begin_of (drop n cs) (beginnings-rise cs are n))
 
+-- and lie within memory
+first-within : (b : ℕ) (e : Option ℕ) (rs : List Run) → 1 ≤ length rs → AreRunsBehind b e rs → beginning rs ≤ ADDRESSES
+first-within b e [] some are = absurd (omega (arith, some))
+first-within b e (r ∷ rs) some are = let is = first-run b e r rs are in omega (arith, is.1)
+
+begins-in : (b : ℕ) (e : Option ℕ) (cs : List (Vec Run)) → All IsSized cs → AreRunsBehind b e (together cs) → All (λ n. n ≤ ADDRESSES) (beginnings_of cs)
+begins-in b e [] sized are = All-nil (λ n. n ≤ ADDRESSES)
+begins-in b e (c ∷ cs) sized are =
+    All-cons (λ n. n ≤ ADDRESSES) (beginning c.items) (beginnings_of cs)
+    (first-within b e c.items (All-head IsSized c cs sized).0 (runs-before b e c.items (together cs) are))
+    (begins-in (end_behind b c.items) (entry_behind e c.items) cs (All-tail IsSized c cs sized) (runs-behind b e c.items (together cs) are))
+
+pub begins-within : (cs : List (Vec Run)) → AreChunks cs → (bs : List ℕ) → bs ≡ beginnings_of cs → All (λ n. n ≤ ADDRESSES) bs
+begins-within cs are bs same = subst (λ (ns : List ℕ). All (λ n. n ≤ ADDRESSES) ns) (sym same) (begins-in 0 None cs are.sized are.runs)
+
 -- where the places are parted, so are the chunks
 parted-chunks : (P Q : ℕ → Type 0) (cs : List (Vec Run)) (i : ℕ) → i ≤ length cs → IsPartitionPoint P Q (map begin_of cs) i →
     IsPartitionPoint (λ (c : Vec Run). P (beginning c.items)) (λ (c : Vec Run). Q (beginning c.items)) cs i
@@ -211,7 +227,7 @@ parted-chunks P Q cs i le point = (
 )
 
 met-from : (cs : List (Vec Run)) → AreChunks cs → (base end i k : ℕ) → i ≤ length (beginnings_of cs) → k ≤ length (drop i (beginnings_of cs))
-    → IsPartitionPoint (λ b. nat_le b base ≡ true) (λ b. nat_le b base ≡ false) (beginnings_of cs) i
+    → IsPartitionPoint (λ b. nat_lt b base ≡ true) (λ b. nat_lt b base ≡ false) (beginnings_of cs) i
     → IsPartitionPoint (λ b. nat_lt b end ≡ true) (λ b. nat_lt b end ≡ false) (drop i (beginnings_of cs)) k
     → (a b : ℕ) → a ≤ i - 1 → i + k ≤ b → b ≤ length (beginnings_of cs) → AreMetChunks cs base end a b
 met-from cs are base end i k within short first second a b low high few =
@@ -221,21 +237,21 @@ met-from cs are base end i k within short first second a b low high few =
     let short-there : k ≤ length (drop i cs) = subst (λ n. k ≤ n) count short in
     let second-there = subst (λ (bs : List ℕ). IsPartitionPoint (λ b. nat_lt b end ≡ true) (λ b. nat_lt b end ≡ false) bs k) rest second in
     met cs are base end i k (subst (λ n. i ≤ n) size within) short-there
-    (parted-chunks (λ b. nat_le b base ≡ true) (λ b. nat_le b base ≡ false) cs i (subst (λ n. i ≤ n) size within) first)
+    (parted-chunks (λ b. nat_lt b base ≡ true) (λ b. nat_lt b base ≡ false) cs i (subst (λ n. i ≤ n) size within) first)
     (parted-chunks (λ b. nat_lt b end ≡ true) (λ b. nat_lt b end ≡ false) (drop i cs) k short-there second-there)
     a b low high (subst (λ n. b ≤ n) size few)
 
 -- the same of the places where the chunks begin
 pub met-by-beginnings : (cs : List (Vec Run)) → AreChunks cs → (bs : List ℕ) → bs ≡ beginnings_of cs → (base end i k : ℕ) → i ≤ length bs →
     k ≤ length (drop i bs)
-    → IsPartitionPoint (λ b. nat_le b base ≡ true) (λ b. nat_le b base ≡ false) bs i
+    → IsPartitionPoint (λ b. nat_lt b base ≡ true) (λ b. nat_lt b base ≡ false) bs i
     → IsPartitionPoint (λ b. nat_lt b end ≡ true) (λ b. nat_lt b end ≡ false) (drop i bs) k
     → (a b : ℕ) → a ≤ i - 1 → i + k ≤ b → b ≤ length bs → AreMetChunks cs base end a b
 met-by-beginnings cs are bs same base end i k within short first second a b low high few =
     met-from cs are base end i k
     (subst (λ (ns : List ℕ). i ≤ length ns) same within)
     (subst (λ (ns : List ℕ). k ≤ length (drop i ns)) same short)
-    (subst (λ (ns : List ℕ). IsPartitionPoint (λ b. nat_le b base ≡ true) (λ b. nat_le b base ≡ false) ns i) same first)
+    (subst (λ (ns : List ℕ). IsPartitionPoint (λ b. nat_lt b base ≡ true) (λ b. nat_lt b base ≡ false) ns i) same first)
     (subst (λ (ns : List ℕ). IsPartitionPoint (λ b. nat_lt b end ≡ true) (λ b. nat_lt b end ≡ false) (drop i ns) k) same second)
     a b low high (subst (λ (ns : List ℕ). b ≤ length ns) same few)
 
@@ -270,6 +286,14 @@ together-more cs i c within =
     ap together (take_more cs i c within)
     ∙ (together-append (take i cs) (get_or cs i c ∷ [])
     ∙ ap (λ (rs : List Run). together (take i cs) ++ rs) (append-nil (get_or cs i c).items))
+
+-- and what a function makes of them, behind other runs
+pub parts-more : (h : Run → Option Run) (cs : List (Vec Run)) (i : ℕ) (c : Vec Run) (old : List Run) → i < length cs →
+    (old ++ filter_map h (together (take i cs))) ++ filter_map h (get_or cs i c).items ≡ old ++ filter_map h (together (take (i + 1) cs))
+parts-more h cs i c old within =
+    append_assoc old (filter_map h (together (take i cs))) (filter_map h (get_or cs i c).items)
+    ∙ ap (λ (rs : List Run). old ++ rs)
+    (sym (filter_map-append h (together (take i cs)) (get_or cs i c).items) ∙ ap (filter_map h) (sym (together-more cs i c within)))
 
 -- the runs up to a chunk are runs
 pub runs-up-to : (cs : List (Vec Run)) (i : ℕ) (c : Vec Run) → i < length cs → AreChunks cs → AreRuns (together (take i cs) ++ (get_or cs i c).items)
@@ -311,6 +335,22 @@ two-put cs i c d within =
     let two : i + 2 ≡ suc (suc i) = omega arith in
     rw (one, two) (next-put cs i c d (omega (arith, within)))
 
+-- two in the place of one
+split-put : (cs : List (Vec Run)) (i : ℕ) (c d : Vec Run) → i < length cs →
+    together (slice_set (insert cs (suc i) d) i c) ≡ together (take i cs) ++ ((c.items ++ d.items) ++ together (drop (suc i) cs))
+split-put [] i c d within = absurd (omega (arith, within))
+split-put (a ∷ cs) zero c d within = sym (append_assoc c.items d.items (together cs))
+split-put (a ∷ cs) (suc i) c d within =
+    ap (λ (rs : List Run). a.items ++ rs) (split-put cs i c d (omega (arith, within)))
+    ∙ sym (append_assoc a.items (together (take i cs)) ((c.items ++ d.items) ++ together (drop (suc i) cs)))
+
+pub one-split : (cs : List (Vec Run)) (i : ℕ) (c d : Vec Run) → i < length cs →
+    together (slice_set (insert cs (i + 1) d) i c) ≡ together (take i cs) ++ ((c.items ++ d.items) ++ together (drop (i + 1) cs))
+one-split cs i c d within = let one : i + 1 ≡ suc i = omega arith in rw one (split-put cs i c d within)
+
+pub each-split : (cs : List (Vec Run)) (i : ℕ) (d : Vec Run) → All IsSized cs → IsSized d → All IsSized (insert cs i d)
+each-split cs i d sized is = All-append IsSized (take i cs) (d ∷ drop i cs) (All-take IsSized i cs sized) (All-cons IsSized d (drop i cs) is (All-drop IsSized i cs sized))
+
 -- several in the place of others
 pub chunks-put : (cs ds : List (Vec Run)) (i j : ℕ) (rs : List Run) → together ds ≡ rs →
     together (splice cs i j ds) ≡ together (take i cs) ++ (rs ++ together (drop j cs))
@@ -328,6 +368,16 @@ each-put cs ds i j sized more =
 pub begins-set : (cs : List (Vec Run)) (bs : List ℕ) (i : ℕ) (c : Vec Run) → bs ≡ beginnings_of cs →
     slice_set bs i (beginning c.items) ≡ beginnings_of (slice_set cs i c)
 begins-set cs bs i c same = ap (λ (ns : List ℕ). slice_set ns i (beginning c.items)) same ∙ sym (map-set begin_of cs i c)
+
+pub begins-split : (cs : List (Vec Run)) (bs : List ℕ) (i : ℕ) (c d : Vec Run) → bs ≡ beginnings_of cs →
+    slice_set (insert bs (i + 1) (beginning d.items)) i (beginning c.items) ≡ beginnings_of (slice_set (insert cs (i + 1) d) i c)
+begins-split cs bs i c d same =
+    let first : take (i + 1) bs ≡ map begin_of (take (i + 1) cs) = ap (take (i + 1)) same ∙ take-map begin_of (i + 1) cs in
+    let last : drop (i + 1) bs ≡ map begin_of (drop (i + 1) cs) = ap (drop (i + 1)) same ∙ drop-map begin_of (i + 1) cs in
+    begins-set (insert cs (i + 1) d) (insert bs (i + 1) (beginning d.items)) i c
+    (ap (λ (ns : List ℕ). ns ++ beginning d.items ∷ drop (i + 1) bs) first
+    ∙ (ap (λ (ns : List ℕ). map begin_of (take (i + 1) cs) ++ beginning d.items ∷ ns) last
+    ∙ sym (map-append begin_of (take (i + 1) cs) (d ∷ drop (i + 1) cs))))
 
 pub begins-put : (cs ds : List (Vec Run)) (bs : List ℕ) (i j : ℕ) → bs ≡ beginnings_of cs →
     (take i bs ++ beginnings_of ds) ++ drop j bs ≡ beginnings_of (splice cs i j ds)

@@ -2,6 +2,7 @@ pub mod KeptRuns
 mod Looking
 mod Overwriting
 mod Meeting
+mod Halving
 mod Behind
 mod Chunking
 mod Replaying

@@ -1,19 +1,20 @@
 -- Runs that a range of addresses meets: only they change, and only they tell of it.
-use Rattle.std.proofs.Common.{◌≡◌, ℕ, zero, suc, ◌+◌, ◌-◌, ◌≤◌, ◌<◌, Bool, true, false, List, [], ◌∷◌, ◌++◌, length, take, drop, get_or, Option, Some, None}
+use Rattle.std.proofs.Common.{◌≡◌, ℕ, zero, suc, ◌+◌, ◌-◌, ◌≤◌, ◌<◌, Bool, true, false, cond, List, [], ◌∷◌, ◌++◌, length, take, drop, get_or, Option, Some, None}
 use Rattle.std.proofs.Common.{drop-drop, refl, sym, ◌∙◌, ap, subst, inl, inr, arith}
 use Rattle.std.specs.List.{All, filter_map, prefix_len, slice_range, range_with_len, cons_option}
+use Rattle.std.specs.Option.{option_to_list}
 use Rattle.std.specs.List.Sorted.{IsNonDecreasingBy, IsPartitionedBy, IsPartitionPoint}
-use Rattle.std.specs.Prelude.{min, max, nat_le, nat_lt}
-use Rattle.std.proofs.lemmas.Bool.{cases_Bool, leb-true, ltb-false}
+use Rattle.std.specs.Prelude.{Result, Ok, Err, is_ok, OnOk, min, max, nat_lt}
+use Rattle.std.proofs.lemmas.Bool.{cases_Bool, ltb-true, ltb-false}
 use Rattle.std.proofs.lemmas.List.Sums.{prefix_len_passes, prefix_len_stops}
-use Rattle.std.proofs.lemmas.List.{append_assoc, append-nil, take-append-drop, get_or-take, get_or-drop, length-take, length-drop}
-use Rattle.std.proofs.lemmas.List.Elements.{All-head, All-tail, All-take, All-drop, filter_map-append}
+use Rattle.std.proofs.lemmas.List.{append_assoc, append-nil, take-append-drop, take_all, drop_more, get_or-take, get_or-drop, length-take, length-drop}
+use Rattle.std.proofs.lemmas.List.Elements.{All-head, All-tail, All-take, All-drop, All-weaker, filter_map-append}
 use Rattle.sem_access.specs.declared.run.Run.{Run}
 use Rattle.sem_access.specs.LastWrites.{looked, greatest}
 use Rattle.sem_access.specs.Runs.{run_of, IsValidRun, AreRunsBehind, AreRuns, entry_at}
 use Rattle.sem_mem.specs.Writing.{lower_part, upper_part, overwritten}
 use Rattle.sem_mem.specs.Meeting.{IsMetPart}
-use Rattle.sem_mem.proofs.Behind.{EndsBy, BeginsFrom, some-runs, before-silent, behind-silent}
+use Rattle.sem_mem.proofs.Behind.{EndsBy, BeginsFrom, some-runs, begin-behind, before-silent, behind-silent}
 use Rattle.sem_mem.proofs.KeptRuns.{each-run, first-run, first-apart, more-runs, no-runs, run-before, entry-behind, entry-before}
 use Rattle.sem_mem.proofs.Overwriting.{whole-run, lower-cons_some, lower-cons_none, upper-cons_some, upper-cons_none}
 
@@ -123,14 +124,6 @@ looked-middle rs base len i j are met =
     (All-drop IsValidRun j rs (each-run rs are)) met.before met.behind
     ∙ ap (λ (qs : List Run). looked (entry_at qs) base len) (sym (in-three rs i j met.order))
 
--- and they alone change when it is written
-pub overwritten-middle : (rs : List Run) (base len entry i j : ℕ) → AreRuns rs → IsMetPart rs base (base + len) i j →
-    take i rs ++ (overwritten (slice_range rs i j) base len entry ++ drop j rs) ≡ overwritten rs base len entry
-overwritten-middle rs base len entry i j are met =
-    overwritten-within (take i rs) (slice_range rs i j) (drop j rs) base len (All-take IsValidRun i rs (each-run rs are))
-    (All-drop IsValidRun j rs (each-run rs are)) met.before met.behind entry
-    ∙ ap (λ (qs : List Run). overwritten qs base len entry) (sym (in-three rs i j met.order))
-
 -- Parts of runs are runs.
 
 dropped-runs : (b : ℕ) (e : Option ℕ) (n : ℕ) (rs : List Run) → AreRunsBehind b e rs → AreRuns (drop n rs)
@@ -193,7 +186,7 @@ walked p xs k is parted = (
 )
 
 pub met-part : (rs : List Run) (base end i k : ℕ) → i ≤ length rs → k ≤ length (drop i rs)
-    → IsPartitionPoint (λ (r : Run). nat_le (r.base + r.len) base ≡ true) (λ (r : Run). nat_le (r.base + r.len) base ≡ false) rs i
+    → IsPartitionPoint (λ (r : Run). nat_lt (r.base + r.len) base ≡ true) (λ (r : Run). nat_lt (r.base + r.len) base ≡ false) rs i
     → IsPartitionPoint (λ (r : Run). nat_lt r.base end ≡ true) (λ (r : Run). nat_lt r.base end ≡ false) (drop i rs) k
     → IsMetPart rs base end i (i + k)
 met-part rs base end i k within short first second =
@@ -204,7 +197,8 @@ met-part rs base end i k within short first second =
       before = λ m d lt.
           let few : length (take i rs) ≡ min i (length rs) = length-take i rs in
           let below : m < i = omega (arith, lt, few) in
-          subst (EndsBy base) (sym (get_or-take i rs m d below)) (leb-true _ base (first.0 m d (omega arith) below));
+          let ends = ltb-true _ base (first.0 m d (omega arith) below) in
+          subst (EndsBy base) (sym (get_or-take i rs m d below)) (omega (arith, ends));
       behind = λ m d lt.
           let far : length (drop (i + k) rs) ≡ length rs - (i + k) = length-drop (i + k) rs in
           let assoc : i + (k + m) ≡ i + k + m = omega arith in
@@ -213,24 +207,79 @@ met-part rs base end i k within short first second =
           subst (BeginsFrom end) same (ltb-false _ end (second.1 (k + m) d (omega arith) (omega (arith, lt, far, rest))));
     }
 
--- Runs that are written anew: those before the range, the parts below it, the range, the parts behind it, and those behind the range.
+-- runs that were appended, unless memory ran out
+pub added : {E : Type 0} (r : Result Unit E) (old more told new : List Run) → old ++ more ≡ told → new ≡ cond (is_ok r) (old ++ more) old →
+    OnOk r (new ≡ told)
+added (Ok x) old more told new same is = is ∙ same
+added (Err e) old more told new same is = tt
 
-placed : (a b c d : List Run) (w : Run) → (((a ++ b) ++ w ∷ []) ++ c) ++ d ≡ a ++ ((b ++ w ∷ c) ++ d)
-placed a b c d w = simp append_assoc
+listed-first : (o : Option Run) (rs : List Run) → cons_option o rs ≡ option_to_list o ++ rs
+listed-first None rs = refl
+listed-first (Some r) rs = refl
 
-pub overwritten-anew : (rs : List Run) (base len entry i j : ℕ) → AreRuns rs → IsMetPart rs base (base + len) i j
-    → (((take i rs ++ filter_map (lower_part base) (slice_range rs i j)) ++ run_of base len entry ∷ [])
-    ++ filter_map (upper_part (base + len)) (slice_range rs i j)) ++ drop j rs ≡ overwritten rs base len entry
-overwritten-anew rs base len entry i j are met =
-    placed (take i rs) (filter_map (lower_part base) (slice_range rs i j)) (filter_map (upper_part (base + len)) (slice_range rs i j)) (drop j rs)
-    (run_of base len entry)
-    ∙ overwritten-middle rs base len entry i j are met
+listed-alone : (o : Option Run) → cons_option o [] ≡ option_to_list o
+listed-alone None = refl
+listed-alone (Some r) = refl
 
--- what comes behind other runs, piece by piece
-pub behind-others : (o a b c d : List Run) (r : Run) → ((((o ++ a) ++ b) ++ r ∷ []) ++ c) ++ d ≡ o ++ ((((a ++ b) ++ r ∷ []) ++ c) ++ d)
-behind-others o a b c d r =
-    let two : (o ++ a) ++ b ≡ o ++ (a ++ b) = append_assoc o a b in
-    let three : ((o ++ a) ++ b) ++ r ∷ [] ≡ o ++ ((a ++ b) ++ r ∷ []) = ap (λ (xs : List Run). xs ++ r ∷ []) two ∙ append_assoc o (a ++ b) (r ∷ []) in
-    let four : (((o ++ a) ++ b) ++ r ∷ []) ++ c ≡ o ++ (((a ++ b) ++ r ∷ []) ++ c) = ap (λ (xs : List Run). xs ++ c) three
-    ∙ append_assoc o ((a ++ b) ++ r ∷ []) c in
-    ap (λ (xs : List Run). xs ++ d) four ∙ append_assoc o (((a ++ b) ++ r ∷ []) ++ c) d
+-- The runs on one side of an address, where those before place i are the ones that end before it.
+
+module _ (a i : ℕ) (rs : List Run) (are : AreRuns rs)
+    (point : IsPartitionPoint (λ (r : Run). nat_lt (r.base + r.len) a ≡ true) (λ (r : Run). nat_lt (r.base + r.len) a ≡ false) rs i) where
+  first-end : All (EndsBy a) (take i rs)
+  first-end m d lt =
+      let few : length (take i rs) ≡ min i (length rs) = length-take i rs in
+      let below : m < i = omega (arith, lt, few) in
+      let ends = ltb-true _ a (point.0 m d (omega arith) below) in
+      subst (EndsBy a) (sym (get_or-take i rs m d below)) (omega (arith, ends))
+
+  first-lower : filter_map (lower_part a) (take i rs) ≡ take i rs
+  first-lower = lower-whole a (take i rs) (All-take IsValidRun i rs (each-run rs are)) first-end
+
+  first-upper : filter_map (upper_part a) (take i rs) ≡ []
+  first-upper = upper-none a a (take i rs) (omega arith) first-end
+
+  split : (h : Run → Option Run) → filter_map h rs ≡ filter_map h (take i rs) ++ filter_map h (drop i rs)
+  split h = ap (filter_map h) (sym (take-append-drop i rs)) ∙ filter_map-append h (take i rs) (drop i rs)
+
+  -- all of them
+  pub lower-all : length rs ≤ i → filter_map (lower_part a) rs ≡ take i rs
+  lower-all all = ap (filter_map (lower_part a)) (sym (take_all i rs all)) ∙ first-lower
+
+  pub upper-all : length rs ≤ i → filter_map (upper_part a) rs ≡ []
+  upper-all all = ap (filter_map (upper_part a)) (sym (take_all i rs all)) ∙ first-upper
+
+  -- or there is one at place i
+  module _ (z : Run) (within : i < length rs) where
+    abbrev here : Run
+    here = get_or rs i z
+
+    abbrev rest : List Run
+    rest = drop (i + 1) rs
+
+    from-here : drop i rs ≡ here ∷ rest
+    from-here = drop_more rs i z within
+
+    rest-runs : AreRunsBehind (here.base + here.len) (Some here.entry) rest
+    rest-runs = more-runs 0 None here rest (subst AreRuns from-here (runs-dropped i rs are))
+
+    rest-begin : All (BeginsFrom a) rest
+    rest-begin =
+        let late = ltb-false _ a (point.1 i z (omega arith) within) in
+        let later : (q : Run) → BeginsFrom (here.base + here.len) q → BeginsFrom a q = λ q from. omega (arith, from, late) in
+        All-weaker (BeginsFrom (here.base + here.len)) (BeginsFrom a) later rest (begin-behind (here.base + here.len) (Some here.entry) rest rest-runs)
+
+    pub lower-at : filter_map (lower_part a) rs ≡ take i rs ++ option_to_list (lower_part a here)
+    lower-at =
+        split (lower_part a)
+        ∙ (ap (λ (xs : List Run). xs ++ filter_map (lower_part a) (drop i rs)) first-lower
+        ∙ ap (λ (xs : List Run). take i rs ++ xs)
+        (ap (filter_map (lower_part a)) from-here
+        ∙ (ap (cons_option (lower_part a here)) (lower-none a a rest (omega arith) rest-begin) ∙ listed-alone (lower_part a here))))
+
+    pub upper-at : filter_map (upper_part a) rs ≡ option_to_list (upper_part a here) ++ rest
+    upper-at =
+        split (upper_part a)
+        ∙ (ap (λ (xs : List Run). xs ++ filter_map (upper_part a) (drop i rs)) first-upper
+        ∙ (ap (filter_map (upper_part a)) from-here
+        ∙ (ap (cons_option (upper_part a here)) (upper-whole a rest (each-run rest (some-runs _ _ rest rest-runs)) rest-begin)
+        ∙ listed-first (upper_part a here) rest)))

@@ -11,6 +11,7 @@ mod memory;
 mod parts;
 mod replays;
 mod runs;
+mod steps;
 mod writes;
 
 pub use account::Account;

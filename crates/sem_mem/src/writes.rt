@@ -1,16 +1,15 @@
 // Overwriting chunks of runs.
-ghost use Rattle.std.specs.Prelude.{◌≡◌, ◌+◌, ◌*◌, ◌≤◌, ◌++◌, length, take, drop, All, slice_range};
+ghost use Rattle.std.specs.Prelude.{◌≡◌, ◌+◌, ◌*◌, ◌<◌, ◌≤◌, ◌++◌, length, take, drop, All};
 ghost use Rattle.std.specs.Prelude.{OnOk, OnErr, IfOk};
 ghost use Rattle.sem_key.specs.declared.limits.TheConstants.{ADDRESSES};
 ghost use Rattle.sem_mem.specs.declared.chunks.TheConstants.{CHUNK as CHUNK_LEM};
+ghost use Rattle.sem_mem.specs.declared.writes.TheConstants.{CUT as CUT_LEM};
 ghost use Rattle.sem_mem.specs.Writing.{overwritten as overwritten_lem};
-ghost use Rattle.sem_access.specs.Runs.{AreRuns};
 ghost use Rattle.sem_mem.specs.Chunks.{together, AreChunks, AreIndexed, HasRun, IsSized};
 ghost use Rattle.sem_mem.specs.Chunks.{beginnings_of};
 
 use crate::chunks::{CHUNK, beginning_of, chunks_met};
 use crate::parts::{push_lower_parts, push_upper_parts};
-use crate::runs::{met_by, runs_of};
 use sem_access::Run;
 use sem_key::OutOfMemory;
 use std::alloc::Global;
@@ -39,17 +38,15 @@ pub fn overwrite(
     ensures err { OnErr result (chunks.new.items ≡ chunks.old.items) }
     ensures unmoved { OnErr result (beginnings.new.items ≡ beginnings.old.items) }
 {
-    let alloc = *chunks.allocator();
     let (from, to) = chunks_met(beginnings, base, base + u64::from(len));
     spare.clear();
     spare.reserve(CHUNK)?;
-    overwrite_together(alloc, spare, &chunks[from..to], base, len, entry)?;
+    push_overwritten(spare, &chunks[from..to], base, len, entry)?;
     replace(chunks, beginnings, from, to, spare)
 }
 
-// Appends the runs of the chunks after the entry wrote the range. Mostly there is one chunk.
-fn overwrite_together(
-    alloc: Global,
+// Appends the parts of the runs below the range, the range, and the parts after it.
+fn push_overwritten(
     out: &mut Vec<Run>,
     chunks: &[Vec<Run>],
     base: u64,
@@ -61,38 +58,14 @@ fn overwrite_together(
     ensures { OnOk result (out.new.items
         ≡ out.old.items ++ overwritten_lem (together chunks.now) base len entry) }
 {
-    match chunks {
-        [chunk] => push_overwritten(out, chunk, base, len, entry),
-        _ => push_overwritten(out, &runs_of(alloc, chunks)?, base, len, entry),
-    }
-}
-
-// Appends the parts of the runs below the range, the range, and the parts after it.
-fn push_overwritten(
-    out: &mut Vec<Run>,
-    runs: &[Run],
-    base: u64,
-    len: u32,
-    entry: u64,
-) -> Result<(), OutOfMemory>
-    requires range { base + len ≤ ADDRESSES }
-    requires runs { AreRuns runs.now }
-    ensures { OnOk result (out.new.items
-        ≡ out.old.items ++ overwritten_lem runs.now base len entry) }
-{
-    let end = base + u64::from(len);
-    let (from, to) = met_by(runs, base, end);
-    out.extend_from_slice(&runs[..from])?;
-    push_lower_parts(out, &runs[from..to], base)?;
     let written = Run {
         base,
         len: u64::from(len),
         entry,
     };
+    push_lower_parts(out, chunks, base)?;
     out.push(written)?;
-    push_upper_parts(out, &runs[from..to], end)?;
-    out.extend_from_slice(&runs[to..])?;
-    Ok(())
+    push_upper_parts(out, chunks, base + u64::from(len))
 }
 
 // Puts the runs in place of the chunks from one place up to another. If memory is refused, all are
@@ -122,6 +95,9 @@ fn replace(
         mem::swap(&mut chunks[from], runs);
         return Ok(());
     }
+    if to - from == 1 && runs.len() <= CUT + CHUNK {
+        return split(chunks, beginnings, from, runs);
+    }
     if to - from == 2 && runs.len() >= 2 && runs.len() <= 2 * CHUNK {
         return replace_two(chunks, beginnings, from, runs);
     }
@@ -134,6 +110,37 @@ fn replace(
     all.extend_from_slice(&beginnings[to..])?;
     chunks.splice(from..to, parts)?;
     *beginnings = all;
+    Ok(())
+}
+
+// The runs, too many for one chunk, take the place of a chunk as two. If memory is refused, all are
+// as before. `runs` may hold anything then.
+fn split(
+    chunks: &mut Vec<Vec<Run>>,
+    beginnings: &mut Vec<u64>,
+    from: usize,
+    runs: &mut Vec<Run>,
+) -> Result<(), OutOfMemory>
+    requires within { from < length chunks.old.items }
+    requires each { All IsSized chunks.old.items }
+    requires begin { beginnings.old.items ≡ beginnings_of chunks.old.items }
+    requires many { CHUNK_LEM < length runs.old.items }
+    requires few { length runs.old.items ≤ CUT_LEM + CHUNK_LEM }
+    ensures ok { OnOk result (together chunks.new.items
+        ≡ together (take from chunks.old.items)
+        ++ (runs.old.items ++ together (drop (from + 1) chunks.old.items))) }
+    ensures sized { OnOk result (All IsSized chunks.new.items) }
+    ensures begin { OnOk result (beginnings.new.items ≡ beginnings_of chunks.new.items) }
+    ensures err { OnErr result (chunks.new.items ≡ chunks.old.items) }
+    ensures unmoved { OnErr result (beginnings.new.items ≡ beginnings.old.items) }
+{
+    chunks.reserve(1)?;
+    beginnings.reserve(1)?;
+    let rest = runs.split_off(CUT)?;
+    beginnings.insert(from + 1, beginning_of(&rest))?;
+    beginnings[from] = beginning_of(runs);
+    chunks.insert(from + 1, rest)?;
+    mem::swap(&mut chunks[from], runs);
     Ok(())
 }
 

@@ -8,8 +8,8 @@ use Rattle.sem_mem.specs.Chunks.{together, AreMetChunks}
 use Rattle.sem_mem.proofs.Chunking.{chunks-within, overwritten-chunks}
 use Rattle.sem_mem.proofs.writes.overwrite.Goals as goal
 
-pub overwrite_together-requires-clause-chunks : goal.overwrite_together-requires-clause-chunks
-overwrite_together-requires-clause-chunks c =
+pub push_overwritten-requires-clause-chunks : goal.push_overwritten-requires-clause-chunks
+push_overwritten-requires-clause-chunks c =
     let met : AreMetChunks c.args.chunks.now.items c.args.base (c.args.base + c.args.len) c.chunks_met-from.result.0 c.chunks_met-from.result.1 =
     rw (sym c.from.ensures) (c.chunks_met-from.ensures c.args.chunks.now.items c.requires.indexed.chunks (c.deref.ensures.value
     ∙ c.requires.indexed.begin)) in
@@ -17,7 +17,7 @@ overwrite_together-requires-clause-chunks c =
 
 pub replace-requires-clause-some : goal.replace-requires-clause-some
 replace-requires-clause-some c =
-    let is = rw (c.reserve.ensures.items, c.clear.ensures.items) at c.in_ok-overwrite_together.ensures in
+    let is = rw (c.reserve.ensures.items, c.clear.ensures.items) at c.in_ok-push_overwritten.ensures in
     some-there _ _ _ _ is
   where
     some-there : (qs below above : List Run) (part : Run) → qs ≡ below ++ part ∷ above → 1 ≤ length qs
@@ -33,8 +33,8 @@ returns-clause-ok c =
     let j = c.chunks_met-from.result.1 in
     let met : AreMetChunks cs c.args.base (c.args.base + c.args.len) i j =
     rw (sym c.from.ensures) (c.chunks_met-from.ensures cs c.requires.indexed.chunks (c.deref.ensures.value ∙ c.requires.indexed.begin)) in
-    let runs : c.overwrite_together.new.out.items ≡ overwritten (together (slice_range cs i j)) c.args.base c.args.len c.args.entry =
-    rw (c.deref-2.ensures.value, c.reserve.ensures.items, c.clear.ensures.items) at c.in_ok-overwrite_together.ensures in
+    let runs : c.push_overwritten.new.out.items ≡ overwritten (together (slice_range cs i j)) c.args.base c.args.len c.args.entry =
+    rw (c.deref-2.ensures.value, c.reserve.ensures.items, c.clear.ensures.items) at c.in_ok-push_overwritten.ensures in
     subst (λ (rs : List Run). OnOk c.replace.result (together c.replace.new.chunks.items ≡ rs))
     (ap (λ (rs : List Run). together (take i cs) ++ (rs ++ together (drop j cs))) runs
     ∙ overwritten-chunks cs c.args.base c.args.len i j c.requires.indexed.chunks met c.args.entry)

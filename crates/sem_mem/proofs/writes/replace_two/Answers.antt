@@ -1,9 +1,9 @@
-use Rattle.std.proofs.Common.{◌≡◌, ◌+◌, ◌++◌, ◌/◌, List, take, drop, rules, sym, ◌∙◌, ap}
+use Rattle.std.proofs.Common.{◌≡◌, ◌+◌, ◌++◌, ◌/◌, List, take, drop, rules, ◌∙◌, ap}
 use Rattle.std.specs.Global.{Vec}
 use Rattle.std.specs.List.{slice_set}
 use Rattle.std.proofs.lemmas.List.{take-append-drop}
 use Rattle.sem_access.specs.declared.run.Run.{Run}
-use Rattle.sem_mem.specs.Chunks.{together, beginning, beginnings_of}
+use Rattle.sem_mem.specs.Chunks.{together, beginning}
 use Rattle.sem_mem.proofs.Chunking.{two-put, begins-set}
 use Rattle.sem_mem.proofs.writes.replace_two.Goals as goal
 
