@@ -1,6 +1,6 @@
 -- The entry of a kill, made before the kernel steps.
-use Rattle.std.proofs.Common.{◌≡◌, ℕ, ◌<◌, ◌&&◌, Bool, true, false, List, [], ◌∷◌, ◌++◌, length, Option, None, Some, refl, sym, ◌∙◌, ap, subst, inl, arith}
-use Rattle.std.specs.Prelude.{MatchBool}
+use Rattle.std.proofs.Common.{◌≡◌, ℕ, ◌<◌, ◌&&◌, Bool, true, false, List, [], ◌∷◌, ◌++◌, length, None, Some, refl, sym, ◌∙◌, ap, subst, inl, arith}
+use Rattle.std.specs.Prelude.{MatchBool, is_some}
 use Rattle.std.specs.Option.{IsSomeAnd}
 use Rattle.std.proofs.lemmas.Bool.{and_parts}
 use Rattle.sem_msg.specs.declared.event.Act.TheVariants.{Kill}
@@ -17,7 +17,7 @@ use Rattle.sem_kernel.specs.KernelValue.{KernelValue, is_timely}
 use Rattle.sem_turn.specs.Passes.{PassValue, has_place, IsWhole, Follows}
 use Rattle.sem_node.specs.Stepping.{MayGetPlace}
 use Rattle.sem_node.specs.Killing.{CanPut, HasPut}
-use Rattle.sem_node.specs.Running.{HasRun}
+use Rattle.sem_node.specs.Telling.{HasOneMore}
 use Rattle.sem_node.proofs.Trying.{entered-journal, entered-follows, entered-whole}
 
 -- what the entry of a kill is, whatever the side of its kernel
@@ -102,3 +102,13 @@ module _ (T : Setup) (k : KernelValue) (p u : PassValue) (f : FabricValue) (v : 
 
     pub put-shown : (q : PassValue) (c : Bool) → q.placed ≡ has_place g u.kernel → (c ≡ true → has_place g k.id ≡ true) → c ≡ true → q.placed ≡ true
     put-shown q c back shown on = back ∙ (ap (λ m. has_place g m) (ap (λ (x : PassValue). x.kernel) took ∙ sym id) ∙ shown on)
+
+-- The entry of a kill is the one more of its pass.
+pub kill-tells : (T : Setup) (i : ℕ) (s : Side) (v : ℕ) (old new : List Entry) → new ≡ old ++ local_entry T i s (Kill v) None ∷ []
+    → HasOneMore (Kill v) false old new
+kill-tells T i s v old new came = record {
+  entry = local_entry T i s (Kill v) None;
+  came = came;
+  tells = ap (λ (e : Entry). e.event.act) (kill-entry T i s v);
+  reply = ap (λ (e : Entry). is_some e.reply) (kill-entry T i s v);
+}

@@ -82,17 +82,28 @@ module _ (k l : KernelValue) (f x h : FabricValue) (act : Act) (input : Option M
 
   -- so the step is one
   pub has-stepped : l ≡ record k { side = (local_step k.setup k.id k.side act input).side; ready = None } → IsInput act input → h ≡ entered e x
-      → IsWhole k.setup (entered (local_entry k.setup k.id k.side act input) (record f { links = ls })) → HasStepped k f act l h
-  has-stepped stepped handed at_end whole = record {
+      → (local_entry k.setup k.id k.side act input).reply ≡ None → IsWhole k.setup (entered (local_entry k.setup k.id k.side act input) (record f { links = ls })) → HasStepped k f act l h
+  has-stepped stepped handed at_end silent whole = record {
     input = input;
     entry = e;
     handed = handed;
     made = made;
+    silent = ap (λ (y : Entry). y.reply) made ∙ silent;
     kernel = stepped;
     whole = subst (IsWhole k.setup) (λ n. sym (at_end ∙ (λ m. entered (made m) (moved m))) n) whole;
     journal = ap (λ (y : FabricValue). y.journal) at_end ∙ ap (λ (y : FabricValue). y.journal ++ e ∷ []) moved;
     places = ap (λ (y : FabricValue). y.places) at_end ∙ (λ n. set (ap (λ (y : FabricValue). y.places) moved n) (made-by n) false);
   }
+
+-- Neither of the two steps replies.
+
+fetch-silent : (k : KernelValue) (j : ℕ) (m : Message) → (local_entry k.setup k.id k.side (Fetch j) (Some m)).reply ≡ None
+unfolding local_entry local_step
+fetch-silent k j m = refl
+
+flush-silent : (k : KernelValue) (j : ℕ) → (local_entry k.setup k.id k.side (Flush j) None).reply ≡ None
+unfolding local_entry local_step
+flush-silent k j = refl
 
 -- The fabric is whole after the two steps.
 
@@ -136,7 +147,7 @@ module _ (k : KernelValue) (f x : FabricValue) (j i : ℕ) (m : Message) (e : En
   fetch-stepped l h first fits stepped at_end =
       let ls : List (List (List Message)) = link_put j k.id (drop 1 (link_in f.links j k.id)) f.links in
       has-stepped k l f x h (Fetch j) (Some m) e ls can made fetch-moved stepped fits at_end
-      (fetch-whole k f j m can (subst (λ n. slice_get (link_in f.links j n) 0 ≡ Some m) i_is first))
+      (fetch-silent k j m) (fetch-whole k f j m can (subst (λ n. slice_get (link_in f.links j n) 0 ≡ Some m) i_is first))
 
 -- A flush.
 module _ (k : KernelValue) (f x : FabricValue) (j i : ℕ) (m : Message) (e : Entry) (can : CanStep k f (Flush j)) (i_is : i ≡ k.id)
@@ -156,4 +167,4 @@ module _ (k : KernelValue) (f x : FabricValue) (j i : ℕ) (m : Message) (e : En
   flush-stepped l h waits room stepped at_end =
       let ls : List (List (List Message)) = link_put k.id j (link_in f.links k.id j ++ m ∷ []) f.links in
       has-stepped k l f x h (Flush j) None e ls can made flush-moved stepped tt at_end
-      (flush-whole k f j m can waits (subst (λ n. length (link_in f.links n j) < f.window) i_is room))
+      (flush-silent k j) (flush-whole k f j m can waits (subst (λ n. length (link_in f.links n j) < f.window) i_is room))

@@ -1,5 +1,6 @@
 -- The step of a kernel, with its entry in the pass, keeps that the pass tells the kernel's run.
-use Rattle.std.proofs.Common.{◌≡◌, ℕ, ◌<◌, ◌&&◌, Bool, true, List, [], ◌∷◌, ◌++◌, Option, None, Some, refl, sym, ◌∙◌, ap, subst}
+use Rattle.std.proofs.Common.{◌≡◌, ℕ, ◌<◌, ◌&&◌, Bool, true, false, List, [], ◌∷◌, ◌++◌, Option, None, Some, refl, sym, ◌∙◌, ap, subst}
+use Rattle.std.specs.Prelude.{is_some, if◌then◌else◌}
 use Rattle.std.proofs.lemmas.Bool.{and_parts}
 use Rattle.sem_msg.specs.declared.message.Message.{Message}
 use Rattle.sem_msg.specs.declared.event.Act.{Act}
@@ -18,6 +19,8 @@ use Rattle.sem_turn.specs.Passes.{PassValue}
 use Rattle.sem_parts.specs.Parts.{IsHanded, RunsTo}
 use Rattle.sem_parts.proofs.LocalRuns.{entry-event, runs-step}
 use Rattle.sem_node.specs.Running.{HasRun}
+use Rattle.sem_node.specs.declared.cell.Progress.TheVariants.{Done, Replied}
+use Rattle.sem_node.specs.Telling.{Tells}
 
 -- room for an act changes nothing of the run
 pub run-roomed : (T : Setup) (k r : KernelValue) (p : PassValue) (act : Act) → HasRun T k p → r ≡ record k { ready = Some act } → HasRun T r p
@@ -151,3 +154,9 @@ made-on T l p w q act e made same kernel pushed =
 pub made-kernel-on : (T : Setup) (l : KernelValue) (p w : PassValue) (act : Act) (e : Entry) → IsMade T l p act e → w ≡ record p { placed = w.placed } →
     e.event.kernel ≡ w.kernel
 made-kernel-on T l p w act e made same = made.kernel ∙ sym (ap (λ (x : PassValue). x.kernel) same)
+
+-- what an act that a kernel did alone says of its entry
+pub tells-alone : (act : Act) (old new : List Entry) (e : Entry) (b : Bool) (n : ℕ) → new ≡ old ++ e ∷ [] → e.event.act ≡ act → b ≡ is_some e.reply →
+    Tells act old new (if b then Replied n else Done)
+tells-alone act old new e true n came tells replied = record { entry = e; came = came; tells = tells; reply = sym replied }
+tells-alone act old new e false n came tells replied = record { entry = e; came = came; tells = tells; reply = sym replied }

@@ -81,55 +81,57 @@ module _ (k : KernelValue) (f : FabricValue) (act : Act) (can : CanTry k f act) 
 
   -- what it does then is a try
   pub try-done : (h : FabricValue) (n : ℕ) → n ≡ k.id → h ≡ placed n f → (l : KernelValue) (g : FabricValue) (d : Bool)
-      → MatchBool d (HasStepped k h act l g) (IsUnchanged k h l g) → HasTried k f act l g
-  try-done h n same got l g true s = inl (record {
+      → MatchBool d (HasStepped k h act l g) (IsUnchanged k h l g) → HasTried d k f act l g
+  try-done h n same got l g true s = record {
     input = s.input;
     entry = s.entry;
     handed = s.handed;
     made = s.made;
+    silent = s.silent;
     kernel = s.kernel;
     whole = s.whole;
     journal = s.journal ∙ ap (λ (x : FabricValue). x.journal ++ s.entry ∷ []) got;
     others = λ j apart. ap (λ (ps : List Bool). get_or ps j false) s.places
         ∙ (get_or-set_other h.places k.id j false false apart ∙ others-placed h n same got j apart);
-  })
-  try-done h n same got l g false rest = inr (record {
+  }
+  try-done h n same got l g false rest = record {
     kernel = rest.0;
     whole = subst (IsWhole k.setup) (sym (rest.1 ∙ got)) (placed-whole k.setup n f can.whole);
     journal = ap (λ (x : FabricValue). x.journal) (rest.1 ∙ got);
     others = λ j apart. ap (λ (x : FabricValue). has_place x j) rest.1 ∙ others-placed h n same got j apart;
-  })
+  }
 
   -- so is nothing at all
-  pub try-none : (l : KernelValue) (g : FabricValue) → l ≡ k → g ≡ f → HasTried k f act l g
-  try-none l g kept same = inr (record {
+  pub try-none : (l : KernelValue) (g : FabricValue) → l ≡ k → g ≡ f → HasTried false k f act l g
+  try-none l g kept same = record {
     kernel = kept;
     whole = subst (IsWhole k.setup) (sym same) can.whole;
     journal = ap (λ (x : FabricValue). x.journal) same;
     others = λ j apart. ap (λ (x : FabricValue). has_place x j) same;
-  })
+  }
 
   module _ (l : KernelValue) (g h : FabricValue) where
     -- a kernel that tried is one of the fabric still
-    pub tried-below : (n : ℕ) → n ≡ k.id → HasTried k f act l g → n < g.kernels
-    tried-below n same (inl done) = let few = can.few in let kernels = done.whole.agrees.same_kernels in omega (arith, few, kernels, same)
-    tried-below n same (inr rest) = let few = can.few in let kernels = rest.whole.agrees.same_kernels in omega (arith, few, kernels, same)
+    pub tried-below : (n : ℕ) (d : Bool) → n ≡ k.id → HasTried d k f act l g → n < g.kernels
+    tried-below n true same done = let few = can.few in let kernels = done.whole.agrees.same_kernels in omega (arith, few, kernels, same)
+    tried-below n false same rest = let few = can.few in let kernels = rest.whole.agrees.same_kernels in omega (arith, few, kernels, same)
 
     -- a place more is no other try
-    pub tried-got : (n : ℕ) → n ≡ k.id → HasTried k f act l g → MayGetPlace n g h → HasTried k f act l h
-    tried-got n same (inl done) got = inl (record {
+    pub tried-got : (n : ℕ) (d : Bool) → n ≡ k.id → HasTried d k f act l g → MayGetPlace n g h → HasTried d k f act l h
+    tried-got n true same done got = record {
       input = done.input;
       entry = done.entry;
       handed = done.handed;
       made = done.made;
+      silent = done.silent;
       kernel = done.kernel;
       whole = got-whole n g h k.setup got done.whole;
       journal = got-journal n g h got ∙ done.journal;
       others = λ j apart. got-others n g h got j (λ is. apart (is ∙ same)) ∙ done.others j apart;
-    })
-    tried-got n same (inr rest) got = inr (record {
+    }
+    tried-got n false same rest got = record {
       kernel = rest.kernel;
       whole = got-whole n g h k.setup got rest.whole;
       journal = got-journal n g h got ∙ rest.journal;
       others = λ j apart. got-others n g h got j (λ is. apart (is ∙ same)) ∙ rest.others j apart;
-    })
+    }

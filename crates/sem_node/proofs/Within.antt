@@ -1,8 +1,10 @@
 -- A kernel's step within a turn: what it asks, and what the pass and the cell have afterwards.
-use Rattle.std.proofs.Common.{◌≡◌, ℕ, ◌<◌, ◌&&◌, Bool, true, List, [], ◌∷◌, ◌++◌, Option, None, Some, sym, ◌∙◌, ap, subst, inl, inr}
+use Rattle.std.proofs.Common.{◌≡◌, ℕ, ◌<◌, ◌&&◌, Bool, true, false, List, [], ◌∷◌, ◌++◌, Option, None, Some, sym, ◌∙◌, ap, subst, inl, inr}
+use Rattle.std.specs.Prelude.{MatchBool, is_some}
 use Rattle.std.specs.Option.{IsSomeAnd}
 use Rattle.sem_msg.specs.declared.event.Act.{Act}
 use Rattle.sem_msg.specs.declared.entry.Entry.{Entry}
+use Rattle.sem_msg.specs.declared.entry.Reply.{Reply}
 use Rattle.sem_msg.specs.Setup.{Setup}
 use Rattle.sem_msg.specs.Journal.{part}
 use Rattle.sem_msg.specs.Fabric.{FabricValue}
@@ -13,8 +15,9 @@ use Rattle.sem_kernel.specs.KernelValue.{KernelValue, is_timely}
 use Rattle.sem_turn.specs.Passes.{PassValue, has_place, IsWhole, Follows}
 use Rattle.sem_parts.specs.Parts.{RunsTo}
 use Rattle.sem_node.specs.Running.{HasRun}
-use Rattle.sem_node.specs.Stepping.{CanTry, HasTried}
-use Rattle.sem_node.proofs.Stepping.{run-roomed, enabled-roomed, made-kernel, run-goes-on}
+use Rattle.sem_node.specs.Stepping.{CanTry, HasTried, HasActed, HasRested}
+use Rattle.sem_node.specs.Telling.{HasOneMore}
+use Rattle.sem_node.proofs.Stepping.{run-roomed, enabled-roomed, made-kernel, made-act, run-goes-on}
 
 -- a pass with the same kernel and entries tells the same run
 run-same : (T : Setup) (k : KernelValue) (p q : PassValue) → HasRun T k p → q.kernel ≡ p.kernel → q.entries ≡ p.entries → HasRun T k q
@@ -55,45 +58,62 @@ module _ (T : Setup) (k r : KernelValue) (p u : PassValue) (act : Act) (n : ℕ)
   }
 
   module _ (l : KernelValue) (g : FabricValue) where
-    follows : HasTried r f act l g → Follows u.kernel f g
-    follows (inl done) = (
+    follows : (d : Bool) → HasTried d r f act l g → Follows u.kernel f g
+    follows true done = (
       inr (done.entry, made-kernel T r l p act done.input done.entry now able done.handed done.made done.kernel ∙ sym u-kernel, done.journal),
       λ j apart. done.others j (λ is. apart (is ∙ id-kernel)),
     )
-    follows (inr rest) = (inl rest.journal, λ j apart. rest.others j (λ is. apart (is ∙ id-kernel)))
+    follows false rest = (inl rest.journal, λ j apart. rest.others j (λ is. apart (is ∙ id-kernel)))
 
     -- the fabric follows the one that was taken
-    pub held-on : HasTried r f act l g → IsSomeAnd u.taken (λ x. Follows u.kernel x g)
-    held-on tried = subst (λ (o : Option FabricValue). IsSomeAnd o (λ x. Follows u.kernel x g)) (sym (ap (λ (x : PassValue). x.taken) took)) (follows tried)
+    pub held-on : (d : Bool) → HasTried d r f act l g → IsSomeAnd u.taken (λ x. Follows u.kernel x g)
+    held-on d tried = subst (λ (o : Option FabricValue). IsSomeAnd o (λ x. Follows u.kernel x g)) (sym (ap (λ (x : PassValue). x.taken) took)) (follows d tried)
 
     -- and is whole
-    pub whole-on : HasTried r f act l g → IsWhole T g
-    whole-on (inl done) = subst (λ (S : Setup). IsWhole S g) now.setup done.whole
-    whole-on (inr rest) = subst (λ (S : Setup). IsWhole S g) now.setup rest.whole
+    pub whole-on : (d : Bool) → HasTried d r f act l g → IsWhole T g
+    whole-on true done = subst (λ (S : Setup). IsWhole S g) now.setup done.whole
+    whole-on false rest = subst (λ (S : Setup). IsWhole S g) now.setup rest.whole
 
     old : part f.journal u.kernel ≡ p.entries
     old = ap (λ m. part f.journal m) u-kernel ∙ sym entries
 
-    -- once it is given back, the pass tells the run
-    run-on : (q : PassValue) → HasTried r f act l g → q ≡ record u { entries = part g.journal u.kernel; placed = has_place g u.kernel; taken = None } →
+    module _ (q : PassValue) (back : q ≡ record u { entries = part g.journal u.kernel; placed = has_place g u.kernel; taken = None }) where
+      pushed-on : (done : HasActed r f act l g) → q.entries ≡ p.entries ++ done.entry ∷ []
+      pushed-on done =
+          let by = made-kernel T r l p act done.input done.entry now able done.handed done.made done.kernel in
+          ap (λ (x : PassValue). x.entries) back
+          ∙ (ap (λ (J : List Entry). part J u.kernel) done.journal
+          ∙ (part-own f.journal done.entry u.kernel (by ∙ sym u-kernel) ∙ ap (λ (L : List Entry). L ++ done.entry ∷ []) old))
+
+      kept-on : HasRested r f l g → q.entries ≡ p.entries
+      kept-on rest = ap (λ (x : PassValue). x.entries) back ∙ (ap (λ (J : List Entry). part J u.kernel) rest.journal ∙ old)
+
+      -- once it is given back, the pass has one more entry, or none
+      pub told-on : (d : Bool) → HasTried d r f act l g → MatchBool d (HasOneMore act false p.entries q.entries) (q.entries ≡ p.entries)
+      told-on true done = record {
+        entry = done.entry;
+        came = pushed-on done;
+        tells = made-act T r l p act done.input done.entry now able done.handed done.made done.kernel;
+        reply = ap (λ (o : Option Reply). is_some o) done.silent;
+      }
+      told-on false rest = kept-on rest
+
+    -- and tells the run
+    run-on : (q : PassValue) (d : Bool) → HasTried d r f act l g → q ≡ record u { entries = part g.journal u.kernel; placed = has_place g u.kernel; taken = None } →
         HasRun T l q
-    run-on q (inl done) back =
-        let by = made-kernel T r l p act done.input done.entry now able done.handed done.made done.kernel in
-        let pushed : q.entries ≡ p.entries ++ done.entry ∷ [] =
-        ap (λ (x : PassValue). x.entries) back
-        ∙ (ap (λ (J : List Entry). part J u.kernel) done.journal
-        ∙ (part-own f.journal done.entry u.kernel (by ∙ sym u-kernel) ∙ ap (λ (L : List Entry). L ++ done.entry ∷ []) old)) in
-        run-goes-on T r l p act done.input done.entry now able done.handed done.made done.kernel q (ap (λ (x : PassValue). x.kernel) back ∙ u-kernel) pushed
-    run-on q (inr rest) back =
-        let kept : q.entries ≡ p.entries = ap (λ (x : PassValue). x.entries) back ∙ (ap (λ (J : List Entry). part J u.kernel) rest.journal ∙ old) in
-        subst (λ (x : KernelValue). HasRun T x q) (sym rest.kernel) (run-same T r p q now (ap (λ (x : PassValue). x.kernel) back ∙ u-kernel) kept)
+    run-on q true done back =
+        run-goes-on T r l p act done.input done.entry now able done.handed done.made done.kernel q (ap (λ (x : PassValue). x.kernel) back ∙ u-kernel)
+        (pushed-on q back done)
+    run-on q false rest back =
+        subst (λ (x : KernelValue). HasRun T x q) (sym rest.kernel)
+        (run-same T r p q now (ap (λ (x : PassValue). x.kernel) back ∙ u-kernel) (kept-on q back rest))
 
     -- which is free, and has the place that the turn showed
-    pub cell-on : (q : PassValue) (b : Bool) → HasTried r f act l g →
+    pub cell-on : (q : PassValue) (b d : Bool) → HasTried d r f act l g →
         q ≡ record u { entries = part g.journal u.kernel; placed = has_place g u.kernel; taken = None }
         → (b ≡ true → has_place g r.id ≡ true) → HasRun T l q × (q.taken ≡ None) × (b ≡ true → q.placed ≡ true)
-    cell-on q b tried back shown = (
-      run-on q tried back,
+    cell-on q b d tried back shown = (
+      run-on q d tried back,
       ap (λ (x : PassValue). x.taken) back,
       λ on. ap (λ (x : PassValue). x.placed) back ∙ (ap (λ m. has_place g m) (sym id-kernel) ∙ shown on),
     )

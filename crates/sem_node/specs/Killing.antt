@@ -1,4 +1,4 @@
--- The entry of a kill, which a kernel makes before it steps.
+-- What the private functions say of the entry of a kill, which a kernel makes before it steps.
 use Rattle.std.specs.Prelude.{◌≡◌, ◌<◌, ℕ, Bool, true, [], ◌∷◌, ◌++◌, None, MatchBool}
 use Rattle.sem_machine.specs.Prelude.{Kill, FabricValue, local_entry}
 use Rattle.sem_kernel.specs.KernelValue.{KernelValue}

@@ -1,16 +1,19 @@
-ghost use Rattle.std.specs.Prelude.{◌≡◌, None};
+ghost use Rattle.std.specs.Prelude.{◌≡◌, if◌then◌else◌, false, MatchBool, None, IfOk, OnErr};
+ghost use Rattle.sem_msg.specs.declared.event.Act.TheVariants.{Kill};
 ghost use Rattle.sem_msg.specs.Fabric.{IsOwnAct};
 ghost use Rattle.sem_msg.specs.Lookups.{kernel_of};
+ghost use Rattle.sem_node.specs.declared.cell.Progress.TheVariants.{Done, Replied};
 ghost use Rattle.sem_node.specs.Running.{HasRun};
+ghost use Rattle.sem_node.specs.Telling.{HasOneMore, Tells, is_done};
 
 use crate::bell::Bell;
-use crate::gate::Gate;
+use crate::gate::{Gate, Gated, Permit};
 use crate::killing::enter_kill;
 use crate::linking::{Linked, turn_step};
 use crate::turns::{enter, reserve};
 use sem_kernel::Kernel;
 use sem_key::OutOfMemory;
-use sem_msg::{Act, act_number};
+use sem_msg::Act;
 use sem_turn::{Pass, RunName, Turn};
 use std::marker::{Model, PhantomData};
 use std::sync::Wait;
@@ -46,7 +49,7 @@ pub struct Caller<N: RunName> {
 /// entries are a local run of the kernel.
 #[derive(Drop)]
 pub struct KernelCell<N: RunName> {
-    pub(crate) kernel: Kernel,
+    pub(crate) kernel: Gated,
     pub(crate) pass: Pass<N>,
     // Whether the kernel has a place in the journal, as of its last turn.
     placed: bool,
@@ -66,7 +69,9 @@ impl<N: RunName> Model for KernelCell<N> {
 }
 
 // What became of an entered act, which may have answered a call.
-fn progress_of(replied: bool, replies: u64) -> Progress {
+fn progress_of(replied: bool, replies: u64) -> Progress
+    ensures { result ≡ (if replied then Replied replies else Done) }
+{
     if replied {
         Progress::Replied(replies)
     } else {
@@ -81,7 +86,7 @@ impl<N: RunName> KernelCell<N> {
         requires free { pass.taken ≡ None }
     {
         KernelCell {
-            kernel,
+            kernel: Gated::new(kernel),
             pass,
             placed: false,
         }
@@ -97,7 +102,7 @@ impl<N: RunName> KernelCell<N> {
             pass,
             placed: _,
         } = self;
-        (kernel, pass)
+        (kernel.into_kernel(), pass)
     }
 
     /// Whether the act is enabled as far as the kernel can tell. For a fetch it does not know the
@@ -121,14 +126,16 @@ impl<N: RunName> KernelCell<N> {
         act: Act,
     ) -> Result<Progress, OutOfMemory>
         requires { IsOwnAct act }
+        ensures told { IfOk result (Tells act self.old.pass.entries self.new.pass.entries) }
+        ensures err { OnErr result (self.new.pass.entries ≡ self.old.pass.entries) }
     {
         if !self.kernel.enabled(act, 0) {
             return Ok(Progress::Nothing);
         }
-        gate.before(self.kernel.id(), act_number(act));
+        let permit = Permit::of(gate, self.kernel.id(), act);
         self.kernel.room(act)?;
         reserve(rt, turn, &mut self.pass, self.placed)?;
-        let entry = self.kernel.step(act, None);
+        let entry = self.kernel.step(permit, act, None);
         let replied = entry.reply.is_some();
         let entered = enter(rt, turn, &mut self.pass, entry);
         self.placed = entered.placed;
@@ -143,18 +150,23 @@ impl<N: RunName> KernelCell<N> {
         turn: &Turn<N>,
         gate: &G,
         vpe: u16,
-    ) -> Result<bool, OutOfMemory> {
+    ) -> Result<bool, OutOfMemory>
+        ensures told { IfOk result (λ due. MatchBool due
+            (HasOneMore (Kill vpe) false self.old.pass.entries self.new.pass.entries)
+            (self.new.pass.entries ≡ self.old.pass.entries)) }
+        ensures err { OnErr result (self.new.pass.entries ≡ self.old.pass.entries) }
+    {
         let act = Act::Kill { vpe };
         if !self.kernel.enabled(act, u64::MAX) {
             return Ok(false);
         }
-        gate.before(self.kernel.id(), act_number(act));
+        let permit = Permit::of(gate, self.kernel.id(), act);
         self.kernel.room(act)?;
         reserve(rt, turn, &mut self.pass, self.placed)?;
         let killed = enter_kill(rt, turn, &mut self.pass, &self.kernel, vpe);
         self.placed = killed.placed;
         if killed.due {
-            self.kernel.step(act, None);
+            self.kernel.step(permit, act, None);
         }
         Ok(killed.due)
     }
@@ -167,14 +179,19 @@ impl<N: RunName> KernelCell<N> {
         turn: &Turn<N>,
         gate: &G,
         act: Act,
-    ) -> Result<Option<Linked>, OutOfMemory> {
+    ) -> Result<Option<Linked>, OutOfMemory>
+        ensures told { IfOk result (λ linked. MatchBool (is_done linked)
+            (HasOneMore act false self.old.pass.entries self.new.pass.entries)
+            (self.new.pass.entries ≡ self.old.pass.entries)) }
+        ensures err { OnErr result (self.new.pass.entries ≡ self.old.pass.entries) }
+    {
         if !self.kernel.enabled(act, u64::MAX) {
             return Ok(None);
         }
-        gate.before(self.kernel.id(), act_number(act));
+        let permit = Permit::of(gate, self.kernel.id(), act);
         self.kernel.room(act)?;
         let mut fabric = turn.take(rt, &mut self.pass);
-        let tried = turn_step(&mut self.kernel, &mut fabric, act);
+        let tried = turn_step(&mut self.kernel, &mut fabric, permit, act);
         self.placed = tried.placed;
         turn.give_back(&mut self.pass, fabric);
         Ok(Some(tried.linked?))

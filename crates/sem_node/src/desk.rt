@@ -1,5 +1,5 @@
 // What other threads tell the dispatcher of a kernel.
-ghost use Rattle.std.specs.Prelude.{◌≡◌, ◌<◌};
+ghost use Rattle.std.specs.Prelude.{◌≡◌, IfOk};
 
 use crate::bell::Bell;
 use sem_key::OutOfMemory;
@@ -17,7 +17,9 @@ pub struct Due {
 }
 
 impl Due {
-    pub fn new(vpe: u16, number: u64) -> Self {
+    pub fn new(vpe: u16, number: u64) -> Self
+        ensures { (result.vpe ≡ vpe) × (result.number ≡ number) }
+    {
         Due {
             vpe,
             number,
@@ -68,7 +70,9 @@ fn set(flags: &[AtomicBool], kernel: u32, value: bool) {
 
 impl Desk {
     /// The desk of a kernel among that many, with the kills of its VPEs.
-    pub fn new(alloc: Global, kernels: u32, kills: Vec<Due>) -> Result<Self, OutOfMemory> {
+    pub fn new(alloc: Global, kernels: u32, kills: Vec<Due>) -> Result<Self, OutOfMemory>
+        ensures { IfOk result (λ desk. desk.kills ≡ kills) }
+    {
         Ok(Desk {
             bell: Bell::new(),
             mail: flags(alloc, kernels)?,

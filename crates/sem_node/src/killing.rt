@@ -3,12 +3,11 @@ ghost use Rattle.std.specs.Prelude.{◌≡◌, ◌++◌, ◌∷◌, [], MatchBoo
 ghost use Rattle.sem_msg.specs.declared.event.Act.TheVariants.{Kill};
 ghost use Rattle.sem_machine.specs.Machine.{local_entry};
 ghost use Rattle.sem_turn.specs.Passes.{has_place};
-ghost use Rattle.sem_node.specs.Stepping.{CanStep, MayGetPlace};
 ghost use Rattle.sem_node.specs.Killing.{CanPut, HasPut};
 
+use crate::gate::Gated;
 use crate::places::next_place;
 use sem_fabric::Fabric;
-use sem_kernel::Kernel;
 use sem_msg::{Act, Detail, Entry, Event};
 use sem_turn::{Pass, RunName, Turn};
 use std::sync::Wait;
@@ -23,7 +22,7 @@ pub struct Killed {
 }
 
 // Enters the kill of the VPE, if it is due, and makes the next place.
-fn put(kernel: &Kernel, fabric: &mut Fabric, vpe: u16) -> Killed
+fn put(kernel: &Gated, fabric: &mut Fabric, vpe: u16) -> Killed
     requires { CanPut kernel.now fabric.old vpe }
     ensures put { HasPut result.due kernel.now fabric.old vpe fabric.new }
     ensures place { result.placed ≡ true → has_place fabric.new kernel.now.id ≡ true }
@@ -55,7 +54,7 @@ pub fn enter_kill<N: RunName, W: Wait>(
     rt: &W,
     turn: &Turn<N>,
     pass: &mut Pass<N>,
-    kernel: &Kernel,
+    kernel: &Gated,
     vpe: u16,
 ) -> Killed
     requires free { pass.old.taken ≡ None }

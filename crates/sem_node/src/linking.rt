@@ -4,10 +4,11 @@ ghost use Rattle.std.specs.Prelude.{◌≡◌, MatchBool, true};
 ghost use Rattle.sem_msg.specs.declared.event.Act.TheVariants.{Fetch, Flush};
 ghost use Rattle.sem_turn.specs.Passes.{has_place};
 ghost use Rattle.sem_node.specs.Stepping.{CanStep, HasStepped, IsUnchanged, CanTry, HasTried};
+ghost use Rattle.sem_node.specs.Stepping.{was_done};
 
+use crate::gate::{Gated, Permit};
 use crate::places::next_place;
 use sem_fabric::Fabric;
-use sem_kernel::Kernel;
 use sem_key::OutOfMemory;
 use sem_msg::Act;
 
@@ -23,8 +24,9 @@ pub struct Linked {
 }
 
 // Takes the oldest message out of the link from that kernel into the inbox, if there is one.
-fn fetch(kernel: &mut Kernel, fabric: &mut Fabric, from: u32) -> Linked
-    requires { CanStep kernel.old fabric.old (Fetch from) }
+fn fetch(kernel: &mut Gated, fabric: &mut Fabric, permit: Permit, from: u32) -> Linked
+    requires step { CanStep kernel.old fabric.old (Fetch from) }
+    requires permit { permit ≡ record { kernel = kernel.old.id; act = Fetch from } }
     ensures { MatchBool result.done
         (HasStepped kernel.old fabric.old (Fetch from) kernel.new fabric.new)
         (IsUnchanged kernel.old fabric.old kernel.new fabric.new) }
@@ -42,7 +44,7 @@ fn fetch(kernel: &mut Kernel, fabric: &mut Fabric, from: u32) -> Linked
     let Some(message) = fabric.fetch(id, from) else {
         unreachable!()
     };
-    fabric.enter(kernel.step(Act::Fetch { from }, Some(message)));
+    fabric.enter(kernel.step(permit, Act::Fetch { from }, Some(message)));
     Linked {
         done: true,
         full,
@@ -52,8 +54,9 @@ fn fetch(kernel: &mut Kernel, fabric: &mut Fabric, from: u32) -> Linked
 
 // Puts the oldest message that waits for that kernel at the end of the link to it, if there is
 // room.
-fn flush(kernel: &mut Kernel, fabric: &mut Fabric, to: u32) -> bool
-    requires { CanStep kernel.old fabric.old (Flush to) }
+fn flush(kernel: &mut Gated, fabric: &mut Fabric, permit: Permit, to: u32) -> bool
+    requires step { CanStep kernel.old fabric.old (Flush to) }
+    requires permit { permit ≡ record { kernel = kernel.old.id; act = Flush to } }
     ensures { MatchBool result (HasStepped kernel.old fabric.old (Flush to) kernel.new fabric.new)
         (IsUnchanged kernel.old fabric.old kernel.new fabric.new) }
 {
@@ -65,7 +68,7 @@ fn flush(kernel: &mut Kernel, fabric: &mut Fabric, to: u32) -> bool
         Ok(()) => {}
         Err(_) => return false,
     }
-    fabric.enter(kernel.step(Act::Flush { to }, None));
+    fabric.enter(kernel.step(permit, Act::Flush { to }, None));
     true
 }
 
@@ -81,25 +84,32 @@ fn unseen(done: bool) -> Linked
 }
 
 // Does a fetch or a flush, if the link allows it.
-fn link_step(kernel: &mut Kernel, fabric: &mut Fabric, act: Act) -> Linked
-    requires { CanStep kernel.old fabric.old act }
+fn link_step(kernel: &mut Gated, fabric: &mut Fabric, permit: Permit, act: Act) -> Linked
+    requires step { CanStep kernel.old fabric.old act }
+    requires permit { permit ≡ record { kernel = kernel.old.id; act = act } }
     ensures { MatchBool result.done (HasStepped kernel.old fabric.old act kernel.new fabric.new)
         (IsUnchanged kernel.old fabric.old kernel.new fabric.new) }
 {
     match act {
-        Act::Fetch { from } => fetch(kernel, fabric, from),
-        Act::Flush { to } => unseen(flush(kernel, fabric, to)),
+        Act::Fetch { from } => fetch(kernel, fabric, permit, from),
+        Act::Flush { to } => unseen(flush(kernel, fabric, permit, to)),
         _ => unseen(false),
     }
 }
 
 // The same, once the kernel has a place in the journal.
-fn placed_step(kernel: &mut Kernel, fabric: &mut Fabric, act: Act) -> Result<Linked, OutOfMemory>
-    requires { CanTry kernel.old fabric.old act }
-    ensures { HasTried kernel.old fabric.old act kernel.new fabric.new }
+fn placed_step(
+    kernel: &mut Gated,
+    fabric: &mut Fabric,
+    permit: Permit,
+    act: Act,
+) -> Result<Linked, OutOfMemory>
+    requires can { CanTry kernel.old fabric.old act }
+    requires permit { permit ≡ record { kernel = kernel.old.id; act = act } }
+    ensures { HasTried (was_done result) kernel.old fabric.old act kernel.new fabric.new }
 {
     fabric.reserve(kernel.id())?;
-    Ok(link_step(kernel, fabric, act))
+    Ok(link_step(kernel, fabric, permit, act))
 }
 
 /// What a turn shows in which a kernel tried a fetch or a flush.
@@ -111,13 +121,15 @@ pub struct Tried {
 }
 
 // Makes a place, does a fetch or a flush, if the link allows it, and makes the next place.
-pub fn turn_step(kernel: &mut Kernel, fabric: &mut Fabric, act: Act) -> Tried
-    requires { CanTry kernel.old fabric.old act }
-    ensures tried { HasTried kernel.old fabric.old act kernel.new fabric.new }
+pub fn turn_step(kernel: &mut Gated, fabric: &mut Fabric, permit: Permit, act: Act) -> Tried
+    requires can { CanTry kernel.old fabric.old act }
+    requires permit { permit ≡ record { kernel = kernel.old.id; act = act } }
+    ensures tried { HasTried (was_done result.linked) kernel.old fabric.old act
+        kernel.new fabric.new }
     ensures place { result.placed ≡ true → has_place fabric.new kernel.old.id ≡ true }
 {
     let id = kernel.id();
-    let linked = placed_step(kernel, fabric, act);
+    let linked = placed_step(kernel, fabric, permit, act);
     let placed = next_place(fabric, id);
     Tried { linked, placed }
 }

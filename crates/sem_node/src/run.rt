@@ -1,5 +1,7 @@
 // All kernels of a setup in threads, and the kernels afterwards.
-ghost use Rattle.std.specs.Prelude.{◌≡◌, ◌<◌, List, [], map, length, vec_len, All, IfOk, None};
+ghost use Rattle.std.specs.Prelude.{◌≡◌, ◌<◌, ◌++◌, map, length, vec_len, All, IfOk};
+ghost use Rattle.std.specs.Prelude.{OnOk, None};
+ghost use Rattle.std.specs.Option.{option_to_list};
 ghost use Rattle.std.specs.List.{AllZip, range_with_len};
 ghost use Rattle.std.specs.List.Sorted.{IsPermutation, IsNonDecreasingBy};
 ghost use Rattle.sem_machine.specs.Schedules.{IsSchedule, world_after};
@@ -8,6 +10,7 @@ ghost use Rattle.sem_kernel.specs.Worlds.{world_of, AreKernelsOf, booted as boot
 ghost use Rattle.sem_parts.specs.Standing.{StandAt};
 ghost use Rattle.sem_node.specs.Running.{HasRun};
 ghost use Rattle.sem_node.specs.Ending.{HaveRun};
+ghost use Rattle.sem_node.specs.Own.{own_caller, own_callers, own_kill, own_kills};
 
 use crate::bell::Bell;
 use crate::cell::{Caller, KernelCell};
@@ -18,7 +21,7 @@ use crate::shared::Run;
 use sem_fabric::Fabric;
 use sem_kernel::Kernel;
 use sem_key::OutOfMemory;
-use sem_msg::Setup;
+use sem_msg::{Setup, VpeDecl};
 use sem_turn::{Opened, Pass, Passes, RunName};
 use std::alloc::Global;
 use std::marker::{Brand, PhantomData};
@@ -34,33 +37,69 @@ fn callers_of<N: RunName>(
     id: u32,
 ) -> Result<Vec<Caller<N>>, OutOfMemory>
     requires { setup.now ≡ N.setup }
+    ensures { IfOk result (λ callers.
+        map (λ c. (c.vpe, c.calls)) callers.items ≡ own_callers setup.now id) }
 {
     let mut callers = Vec::new(alloc);
     for decl in setup.vpes.as_slice() {
-        let kernel = setup.kernel_of(decl.vpe);
-        if kernel == id {
-            callers.push(Caller {
-                kernel,
-                vpe: decl.vpe,
-                calls: decl.calls.len(),
-                of: PhantomData,
-                bell: Bell::new(),
-                due: AtomicBool::new(false),
-            })?;
-        }
+        push_caller(&mut callers, setup, decl, id)?;
     }
     Ok(callers)
 }
 
+// Appends the VPE, if it is one of the kernel.
+fn push_caller<N: RunName>(
+    callers: &mut Vec<Caller<N>>,
+    setup: &Setup,
+    decl: &VpeDecl,
+    id: u32,
+) -> Result<(), OutOfMemory>
+    requires { setup.now ≡ N.setup }
+    ensures { OnOk result (map (λ c. (c.vpe, c.calls)) callers.new.items
+        ≡ map (λ c. (c.vpe, c.calls)) callers.old.items
+        ++ option_to_list (own_caller setup.now id decl.now)) }
+{
+    let kernel = setup.kernel_of(decl.vpe);
+    if kernel == id {
+        callers.push(Caller {
+            kernel,
+            vpe: decl.vpe,
+            calls: decl.calls.len(),
+            of: PhantomData,
+            bell: Bell::new(),
+            due: AtomicBool::new(false),
+        })?;
+    }
+    Ok(())
+}
+
 // The kills of VPEs of the kernel.
-fn kills_of(alloc: Global, setup: &Setup, id: u32) -> Result<Vec<Due>, OutOfMemory> {
+fn kills_of(alloc: Global, setup: &Setup, id: u32) -> Result<Vec<Due>, OutOfMemory>
+    ensures { IfOk result (λ kills.
+        map (λ d. (d.vpe, d.number)) kills.items ≡ own_kills setup.now id) }
+{
     let mut kills = Vec::new(alloc);
     for kill in setup.kills.as_slice() {
-        if setup.kernel_of(kill.0) == id {
-            kills.push(Due::new(kill.0, kill.1))?;
-        }
+        push_kill(&mut kills, setup, *kill, id)?;
     }
     Ok(kills)
+}
+
+// Appends the kill, if its VPE is one of the kernel.
+fn push_kill(
+    kills: &mut Vec<Due>,
+    setup: &Setup,
+    kill: (u16, u64),
+    id: u32,
+) -> Result<(), OutOfMemory>
+    ensures { OnOk result (map (λ d. (d.vpe, d.number)) kills.new.items
+        ≡ map (λ d. (d.vpe, d.number)) kills.old.items
+        ++ option_to_list (own_kill setup.now id kill)) }
+{
+    if setup.kernel_of(kill.0) == id {
+        kills.push(Due::new(kill.0, kill.1))?;
+    }
+    Ok(())
 }
 
 // A desk for the dispatcher of each kernel.
@@ -82,6 +121,8 @@ fn node_of<N: RunName>(
     requires setup { setup.now ≡ N.setup }
     requires run { HasRun N.setup kernel pass }
     requires free { pass.taken ≡ None }
+    ensures { IfOk result (λ node. map (λ c. (c.vpe, c.calls)) node.callers.items
+        ≡ own_callers setup.now kernel.id) }
 {
     let id = kernel.id();
     let callers = callers_of(alloc, setup, id)?;
