@@ -2,13 +2,14 @@
 use crate::clears::clear_of;
 use crate::places::Places;
 use crate::rows::TreeRow;
-use crate::standings::{Hold, Holds};
+use crate::standings::{Hold, hold_of};
 use crate::takings::takings;
-use crate::walks::{Binding, Walk};
+use crate::walks::Walk;
 use sem_draw::{LEVELS, Node, State};
 use sem_hint::{cause_text, key_text, object_text};
-use sem_key::{Key, Object, OutOfMemory};
-use sem_msg::{Entry, Setup};
+use sem_kernel::World;
+use sem_key::{Key, Object, OutOfMemory, same_key};
+use sem_msg::{ENDPOINTS, Entry, Setup};
 use std::alloc::Global;
 
 /// The nodes of the rows, one for each, after these entries.
@@ -21,17 +22,16 @@ pub fn nodes_of(
 ) -> Result<Vec<Node>, OutOfMemory> {
     let places = Places::of_rows(alloc, rows)?;
     let taken = takings(alloc, rows, &places, entries)?;
-    let holds = Holds::of_world(alloc, &walk.world)?;
     let mut depths: Vec<usize> = Vec::new(alloc);
     let mut nodes = Vec::new(alloc);
     for (place, row) in rows.iter().enumerate() {
         let parent = row.parent.and_then(|parent| places.of(parent));
         let depth = depth_below(depths.as_slice(), parent);
-        let hold = holds.of(row.key);
+        let hold = hold_of(&walk.world, setup, row.key);
         let taker = taken.get(place).copied().flatten();
         let state = state_of(row.key, hold, walk);
         let mut text = place_text(alloc, setup, row.key, state, hold)?;
-        push_endpoints(alloc, &mut text, row.key, walk.bindings.as_slice())?;
+        push_endpoints(alloc, &mut text, row.key, &walk.world)?;
         push_cause(alloc, &mut text, entries, row.key, state, taker)?;
         push_object(alloc, &mut text, walk.objects.get(place))?;
         push_deep(alloc, &mut text, row, depth)?;
@@ -111,17 +111,18 @@ fn place_text(
     Ok(text)
 }
 
-// Appends the endpoints that are bound to a key.
+// Appends the endpoints of its VPE that are bound to the key.
 fn push_endpoints(
     alloc: Global,
     text: &mut String,
     key: Key,
-    bindings: &[Binding],
+    world: &World,
 ) -> Result<(), OutOfMemory> {
     let mut begin = " and endpoint";
-    for bound in bindings {
-        if bound.key == key {
-            let endpoint = bound.endpoint;
+    for endpoint in 0..ENDPOINTS as u8 {
+        if let Some((bound, _)) = world.binding(key.vpe, endpoint)
+            && same_key(&bound, &key)
+        {
             text.push_str(format!(in alloc; "{begin} {endpoint}")?.as_str())?;
             begin = ",";
         }

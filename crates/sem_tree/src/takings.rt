@@ -47,8 +47,8 @@ fn cuts_off(entry: &Entry, key: &Key, grant: &Option<(Key, Key)>) -> bool
     }
 }
 
-/// Whether the VPE ends by the entry: it is killed, or calls `exit`.
-pub fn ends_vpe(entry: &Entry, vpe: u16) -> bool
+// Whether the VPE ends by the entry: it is killed, or calls `exit`.
+fn ends_vpe(entry: &Entry, vpe: u16) -> bool
     ensures { result ≡ ends vpe entry.now.event.act entry.now.detail }
 {
     match (entry.event.act, entry.detail) {

@@ -1,9 +1,7 @@
-// The machine led through entries, with what is needed to tell of keys.
-use crate::standings::held_in;
-use crate::takings::ends_vpe;
-use sem_kernel::{Kernel, StepError, World};
+// The machine led through entries, with what the kernels do not tell of keys.
+use sem_kernel::{StepError, World};
 use sem_key::{Key, Object, OutOfMemory, same_key};
-use sem_msg::{Act, Call, Detail, Entry, Message, Setup};
+use sem_msg::{Act, Detail, Entry, Message, Setup};
 use std::alloc::Global;
 
 /// A key that was granted to a VPE of another kernel and is not yet installed, and whether its
@@ -14,21 +12,12 @@ struct Flight {
     has_arrived: bool,
 }
 
-/// An endpoint of a VPE and the key that it is bound to.
-#[derive(Clone, Copy, Debug)]
-pub struct Binding {
-    pub vpe: u16,
-    pub endpoint: u8,
-    pub key: Key,
-}
-
 /// The world after some entries; the objects of the keys made by then, in the order in which they
-/// were made; which keys are on their way, and what endpoints are bound to.
+/// were made; and which keys are on their way.
 #[derive(Drop)]
 pub struct Walk {
     pub world: World,
     pub objects: Vec<Object>,
-    pub bindings: Vec<Binding>,
     flights: Vec<Flight>,
 }
 
@@ -44,7 +33,6 @@ impl Walk {
         Ok(Walk {
             world: World::boot(alloc, setup)?,
             objects,
-            bindings: Vec::new(alloc),
             flights: Vec::new(alloc),
         })
     }
@@ -59,7 +47,6 @@ impl Walk {
     /// Goes through an entry, and returns whether its event makes it. If not, the walk means
     /// nothing.
     pub fn go_on(&mut self, setup: &Setup, entry: &Entry) -> Result<bool, OutOfMemory> {
-        let target = self.bound_key(entry);
         match self.world.step(entry.event) {
             Ok(made) if made == *entry => {}
             Ok(_) | Err(StepError::NotEnabled) => return Ok(false),
@@ -67,27 +54,7 @@ impl Walk {
         }
         self.note_flight(setup, entry)?;
         self.note_object(entry)?;
-        self.note_binding(setup, entry, target)?;
         Ok(true)
-    }
-
-    // The key that the entry binds an endpoint to, if it binds one.
-    fn bound_key(&self, entry: &Entry) -> Option<Key> {
-        let kernel = self.kernel(entry)?;
-        let (vpe, _, selector) = binding_of(entry)?;
-        for place in 0..kernel.capability_count() {
-            if let Some(cap) = kernel.capability(place)
-                && cap.key.vpe == vpe
-                && cap.selector == selector
-            {
-                return Some(cap.key);
-            }
-        }
-        None
-    }
-
-    fn kernel(&self, entry: &Entry) -> Option<&Kernel> {
-        self.world.kernels().get(entry.event.kernel as usize)
     }
 
     // Notes which key the entry sends on its way, and which it lands.
@@ -137,10 +104,10 @@ impl Walk {
         let Some((parent, child)) = entry.grant else {
             return Ok(());
         };
-        let Some(kernel) = self.kernel(entry) else {
+        let Some(kernel) = self.world.kernels().get(entry.event.kernel as usize) else {
             return Ok(());
         };
-        let given = match (held_in(kernel, child), held_in(kernel, parent)) {
+        let given = match (kernel.held(child), kernel.held(parent)) {
             (Some(cap), _) => cap.object,
             (None, Some(cap)) if cap.key.kind == child.kind => cap.object,
             (None, _) => Object::Sess {
@@ -150,71 +117,5 @@ impl Walk {
         };
         self.objects.push(given)?;
         Ok(())
-    }
-
-    // Notes which endpoint the entry binds to a key, and which it unbinds: those of keys that are
-    // marked or gone after it, and of the key that a clear begins with.
-    fn note_binding(
-        &mut self,
-        setup: &Setup,
-        entry: &Entry,
-        target: Option<Key>,
-    ) -> Result<(), OutOfMemory> {
-        if let Some((vpe, endpoint, _)) = binding_of(entry)
-            && let Some(key) = target
-        {
-            self.bindings
-                .retain(|bound| bound.vpe != vpe || bound.endpoint != endpoint);
-            self.bindings.push(Binding { vpe, endpoint, key })?;
-        }
-        if !begins_jobs(entry) {
-            return Ok(());
-        }
-        let Some(kernel) = self.world.kernels().get(entry.event.kernel as usize) else {
-            return Ok(());
-        };
-        self.bindings.retain(|bound| setup.kernel_of(bound.vpe) != kernel.id()
-            || is_kept(kernel, entry, bound.key));
-        Ok(())
-    }
-}
-
-// The VPE, the endpoint and the selector of a bind that succeeded.
-fn binding_of(entry: &Entry) -> Option<(u16, u8, u8)> {
-    match (entry.event.act, entry.detail, entry.reply) {
-        (
-            Act::Call { vpe },
-            Detail::Called {
-                call: Call::Bind { ep, src },
-                ..
-            },
-            Some(reply),
-        ) if reply.code == 0 => Some((vpe, ep, src)),
-        _ => None,
-    }
-}
-
-// Whether a revocation can begin by the entry.
-fn begins_jobs(entry: &Entry) -> bool {
-    match (entry.event.act, entry.detail) {
-        (Act::Call { vpe }, _) => entry.cut.is_some() || ends_vpe(entry, vpe),
-        (Act::Kill { .. }, _) => true,
-        (
-            Act::Handle,
-            Detail::Carried {
-                message: Message::RevokeReq { .. },
-                ..
-            },
-        ) => true,
-        _ => false,
-    }
-}
-
-// Whether an endpoint that is bound to the key in the kernel of the entry stays bound.
-fn is_kept(kernel: &Kernel, entry: &Entry, key: Key) -> bool {
-    match (held_in(kernel, key), entry.cut) {
-        (Some(cap), Some(root)) => cap.mark.is_none() && !same_key(&root, &key),
-        (Some(cap), None) => cap.mark.is_none(),
-        (None, _) => false,
     }
 }
