@@ -4,7 +4,7 @@ use sem_journal::read_entry;
 use sem_key::OutOfMemory;
 use sem_msg::{Entry, Journal, Setup};
 use sem_reader::read_trace;
-use sem_trace::{Cause, Lines, TraceError, bytes_fault, is, is_significant, next_word};
+use sem_trace::{LineFault, Lines, TraceError, bytes_fault, is, is_significant, next_word};
 use std::alloc::Global;
 
 /// What a trace declares, and the entries after it in the order of their lines, each with the
@@ -77,7 +77,7 @@ fn read_entries(
                 numbers.push(number)?;
             }
             Ok(None) => {}
-            Err(cause) => return Ok(Err(no_entry_text(alloc, &setup, line, number, cause)?)),
+            Err(fault) => return Ok(Err(no_entry_text(alloc, &setup, line, number, &fault)?)),
         }
     }
     Ok(Ok(Logs {
@@ -88,15 +88,15 @@ fn read_entries(
 }
 
 // The entry that the line tells, in any spelling; none if the line says nothing.
-fn entry_in(setup: &Setup, line: &[u8]) -> Result<Option<Entry>, Cause> {
+fn entry_in(setup: &Setup, line: &[u8]) -> Result<Option<Entry>, LineFault> {
     if let Some(cause) = bytes_fault(line) {
-        return Err(cause);
+        return Err(LineFault { cause, word: None });
     }
     if !is_significant(line) {
         return Ok(None);
     }
     match read_entry(line, setup.version, setup.kernels.max(1)) {
         Ok(entry) => Ok(Some(entry)),
-        Err(cause) => Err(cause),
+        Err(fault) => Err(fault),
     }
 }

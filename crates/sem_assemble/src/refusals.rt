@@ -2,7 +2,7 @@
 use sem_hint::{TextKind, refusal_text};
 use sem_key::OutOfMemory;
 use sem_msg::Setup;
-use sem_trace::{Cause, TraceFault};
+use sem_trace::{LineFault, TraceFault};
 use std::alloc::Global;
 
 /// The lines of the report before its entry.
@@ -25,12 +25,13 @@ pub fn no_entry_text(
     setup: &Setup,
     line: &[u8],
     number: u64,
-    cause: Cause,
+    refused: &LineFault,
 ) -> Result<String, OutOfMemory> {
     let report = report_of(alloc, setup, line)?;
     let fault = TraceFault {
         line: LINES_BEFORE.saturating_add(1),
-        cause,
+        word: refused.word,
+        cause: refused.cause,
     };
     let told = refusal_text(alloc, report.as_slice(), &fault, TextKind::Report)?;
     let said = told
