@@ -13,6 +13,6 @@ pub use charts::{Range, chart_of};
 pub use counts::{count_between, count_code, count_event, count_message, message_number};
 pub use labels::{OtherEnd, label_of};
 pub use lanes::{Shown, vpe_of};
-pub use names::message_name;
+pub use names::{message_name, message_names};
 pub use partners::{Partners, partners_of};
 pub use rows::{NumberedEntry, chart_rows};

@@ -1,9 +1,6 @@
 -- The one-line texts of the program ("The command line" in docs/texts.md).
 use Rattle.std.specs.Prelude.{ℕ, List, [], ◌∷◌, ◌++◌, codes, decimal}
-use Rattle.sem_trace.specs.declared.fault.Cause.{Cause}
-use Rattle.sem_trace.specs.declared.fault.Cause.TheVariants.{NotText, UnknownWord, BadNumber, OutOfRange, Twice}
-use Rattle.sem_trace.specs.declared.fault.Cause.TheVariants.{Undeclared, Missing, TooMany, LineTooLong, InputTooLong}
-use Rattle.sem_trace.specs.declared.fault.Cause.TheVariants.{NotCanonical}
+use Rattle.sem_trace.specs.Causes.{cause_name}
 use Rattle.sem_trace.specs.declared.fault.TraceFault.{TraceFault}
 
 -- the forms of a command, with a vertical bar between blanks
@@ -16,19 +13,6 @@ usage_line =
 -- the report is that of a complete schedule
 abbrev pub ok_line : List ℕ
 ok_line = codes "ok" ++ 10 ∷ []
-
-abbrev pub cause_name : Cause → List ℕ
-cause_name NotText = codes "NotText"
-cause_name UnknownWord = codes "UnknownWord"
-cause_name BadNumber = codes "BadNumber"
-cause_name OutOfRange = codes "OutOfRange"
-cause_name Twice = codes "Twice"
-cause_name Undeclared = codes "Undeclared"
-cause_name Missing = codes "Missing"
-cause_name TooMany = codes "TooMany"
-cause_name LineTooLong = codes "LineTooLong"
-cause_name InputTooLong = codes "InputTooLong"
-cause_name NotCanonical = codes "NotCanonical"
 
 -- the number of a bad line and its cause, to the end of a line
 abbrev pub fault_words : TraceFault → List ℕ

@@ -1,10 +1,10 @@
 ghost use Rattle.std.specs.Prelude.{◌≡◌, ◌++◌, OnOk};
-ghost use Rattle.sem_cli.specs.Messages.{usage_line, ok_line, cause_name as cause_name_lem};
+ghost use Rattle.sem_cli.specs.Messages.{usage_line, ok_line};
 ghost use Rattle.sem_cli.specs.Messages.{fault_words, refused_line, files_refused_line};
 
 use sem_key::OutOfMemory;
 use sem_text::push_number;
-use sem_trace::{Cause, TraceFault};
+use sem_trace::TraceFault;
 
 /// The line that tells which words are commands.
 pub fn usage() -> &'static [u8]
@@ -46,25 +46,7 @@ pub(crate) fn push_fault(out: &mut Vec<u8>, fault: &TraceFault) -> Result<(), Ou
 {
     push_number(out, fault.line)?;
     out.extend_from_slice(b": ")?;
-    out.extend_from_slice(cause_name(fault.cause))?;
+    out.extend_from_slice(fault.cause.name().as_bytes())?;
     out.push(b'\n')?;
     Ok(())
-}
-
-fn cause_name(cause: Cause) -> &'static [u8]
-    ensures { result.now ≡ cause_name_lem cause }
-{
-    match cause {
-        Cause::NotText => b"NotText",
-        Cause::UnknownWord => b"UnknownWord",
-        Cause::BadNumber => b"BadNumber",
-        Cause::OutOfRange => b"OutOfRange",
-        Cause::Twice => b"Twice",
-        Cause::Undeclared => b"Undeclared",
-        Cause::Missing => b"Missing",
-        Cause::TooMany => b"TooMany",
-        Cause::LineTooLong => b"LineTooLong",
-        Cause::InputTooLong => b"InputTooLong",
-        Cause::NotCanonical => b"NotCanonical",
-    }
 }

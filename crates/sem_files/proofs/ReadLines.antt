@@ -1,6 +1,7 @@
 -- One line more is read.
 use Rattle.std.proofs.Common.{◌≡◌, ℕ, Bool, true, false, cond, List, [], ◌∷◌, ◌++◌, map, Option, Some, None, refl, ap, sym, subst, ◌∙◌}
 use Rattle.std.specs.List.{filter_map, cons_option}
+use Rattle.sem_trace.specs.LineErrors.{Stops}
 use Rattle.sem_trace.specs.declared.fault.Cause.{Cause}
 use Rattle.sem_trace.specs.declared.fault.LineFault.{LineFault}
 use Rattle.sem_trace.specs.declared.fault.Cause.TheVariants.{TooMany}
@@ -11,8 +12,8 @@ use Rattle.sem_files.specs.declared.lines.FileLine.{FileLine}
 use Rattle.sem_files.specs.declared.lines.FileLine.TheVariants.{Kernels, File, Client, Do, End}
 use Rattle.sem_files.specs.declared.reader.Stage.{Stage}
 use Rattle.sem_files.specs.declared.reader.Stage.TheVariants.{Start, Named, Open, Ended}
-use Rattle.sem_files.specs.declared.reader.LineError.{LineError}
-use Rattle.sem_files.specs.declared.reader.LineError.TheVariants.{Refused, Memory}
+use Rattle.sem_trace.specs.declared.line_error.LineError.{LineError}
+use Rattle.sem_trace.specs.declared.line_error.LineError.TheVariants.{Refused, Memory}
 use Rattle.sem_files.specs.declared.tables.Tables.{Tables}
 use Rattle.sem_files.specs.Files.{Files}
 use Rattle.sem_files.specs.FileForms.{first_form, second_form, form}
@@ -21,7 +22,7 @@ use Rattle.sem_files.specs.FileContext.{context_fault}
 use Rattle.sem_files.specs.FileRefusal.{body_fault, words_fault, line_fault}
 use Rattle.sem_files.specs.OneMore.{with_line}
 use Rattle.sem_files.specs.Tells.{files_in}
-use Rattle.sem_files.specs.Reads.{IsOpened, IsReadTo, with_significant, Stops}
+use Rattle.sem_files.specs.Reads.{IsOpened, IsReadTo, with_significant}
 use Rattle.sem_files.proofs.Lists.{any_more}
 
 -- What is said with one line more.

@@ -7,6 +7,7 @@ use Rattle.std.proofs.lemmas.Bool.{cases_Bool}
 use Rattle.std.proofs.Math.Seq.{take-append_seam}
 use Rattle.std.proofs.lemmas.Option.{none-some}
 use Rattle.std.specs.Result.{IfOk, IfErr}
+use Rattle.sem_trace.specs.LineErrors.{Stops, at_line}
 use Rattle.sem_trace.specs.declared.fault.LineFault.{LineFault}
 use Rattle.sem_trace.specs.declared.fault.Cause.TheVariants.{Missing, InputTooLong}
 use Rattle.sem_trace.specs.declared.fault.TraceError.{TraceError}
@@ -21,12 +22,12 @@ use Rattle.sem_files.specs.FileRefusal.{line_fault, fault_at, first_fault, kerne
 use Rattle.sem_files.specs.Standing.{FilesStand}
 use Rattle.sem_files.specs.declared.reader.Stage.{Stage}
 use Rattle.sem_files.specs.declared.reader.Stage.TheVariants.{Start, Named, Open, Ended}
-use Rattle.sem_files.specs.declared.reader.LineError.{LineError}
-use Rattle.sem_files.specs.declared.reader.LineError.TheVariants.{Refused as LineRefused, Memory as LineMemory}
+use Rattle.sem_trace.specs.declared.line_error.LineError.{LineError}
+use Rattle.sem_trace.specs.declared.line_error.LineError.TheVariants.{Refused as LineRefused, Memory as LineMemory}
 use Rattle.sem_files.specs.declared.reader.Reader.{Reader}
 use Rattle.sem_files.specs.declared.tables.Tables.{Tables}
 use Rattle.sem_files.specs.Tells.{Tells, files_in}
-use Rattle.sem_files.specs.Reads.{IsOpened, IsReadTo, IsRead, with_significant, IsReadUpTo, Stops, at_line, lines_refusal, Say}
+use Rattle.sem_files.specs.Reads.{IsOpened, IsReadTo, IsRead, with_significant, IsReadUpTo, lines_refusal, Say}
 use Rattle.sem_files.proofs.Lists.{range-push}
 
 -- the numbers below n

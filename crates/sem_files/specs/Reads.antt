@@ -4,8 +4,6 @@ use Rattle.std.specs.Prelude.{Some, if◌then◌else◌}
 use Rattle.std.specs.Option.{option_or}
 use Rattle.sem_trace.specs.declared.fault.LineFault.{LineFault}
 use Rattle.sem_trace.specs.declared.fault.TraceFault.{TraceFault}
-use Rattle.sem_trace.specs.declared.fault.TraceError.{TraceError}
-use Rattle.sem_trace.specs.declared.fault.TraceError.TheVariants.{Refused as RefusedText, Memory as NoMemory}
 use Rattle.sem_trace.specs.TextLines.{lines_of, words_of, is_significant, significant}
 use Rattle.sem_trace.specs.Declarations.{number_at}
 use Rattle.sem_trace.specs.Earlier.{first_some}
@@ -16,8 +14,6 @@ use Rattle.sem_files.specs.FileRefusal.{words_fault, line_fault, fault_at, first
 use Rattle.sem_files.specs.FileRefusal.{said_by}
 use Rattle.sem_files.specs.declared.reader.Stage.{Stage}
 use Rattle.sem_files.specs.declared.reader.Stage.TheVariants.{Start, Named, Open, Ended}
-use Rattle.sem_files.specs.declared.reader.LineError.{LineError}
-use Rattle.sem_files.specs.declared.reader.LineError.TheVariants.{Refused, Memory}
 use Rattle.sem_files.specs.declared.reader.Reader.{Reader}
 use Rattle.sem_files.specs.declared.tables.Tables.{Tables}
 use Rattle.sem_files.specs.Tells.{Tells, files_in}
@@ -63,11 +59,6 @@ AcceptsLine line old new =
     (lines : List (List (List ℕ))) → IsRead lines old
     → (line_fault lines line ≡ None) × IsRead (with_significant lines line) new
 
--- why a line is not read: what is wrong with it, or memory was refused
-abbrev pub Stops : (LineFault → Type 0) → LineError → Type 0
-Stops refuses (Refused fault) = refuses fault
-Stops refuses Memory = Unit {0}
-
 abbrev pub RefusesLine : List ℕ → Reader → LineFault → Type 0
 RefusesLine line old fault =
     (lines : List (List (List ℕ))) → IsRead lines old → line_fault lines line ≡ Some fault
@@ -81,11 +72,6 @@ pub record IsReadUpTo (bytes : List ℕ) (left : List (List ℕ)) (number : ℕ)
   pub read : IsRead (significant before) r
   pub tells : Tells r.tables
   pub room : number + length left ≤ length bytes
-
--- why a text is not read, if that line of it is not
-abbrev pub at_line : ℕ → LineError → TraceError
-at_line line (Refused fault) = RefusedText (record { line = line; word = fault.word; cause = fault.cause })
-at_line line Memory = NoMemory
 
 -- the refusal of lines: that of the first bad one, or that the last line is missing
 abbrev pub lines_refusal : List (List ℕ) → Option TraceFault

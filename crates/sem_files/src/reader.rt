@@ -1,22 +1,21 @@
 ghost use Rattle.std.specs.Prelude.{◌≡◌, [], None, if◌then◌else◌, IfOk, IfErr, OnOk};
+ghost use Rattle.sem_trace.specs.LineErrors.{Stops};
 ghost use Rattle.sem_trace.specs.TextLines.{lines_of, words_of};
 ghost use Rattle.sem_trace.specs.Standing.{IsWhy};
-ghost use Rattle.sem_trace.specs.declared.fault.TraceError.TheVariants.{Refused as RefusedText};
 ghost use Rattle.sem_files.specs.Said.{is_end};
 ghost use Rattle.sem_files.specs.FileRefusal.{first_fault, refusal};
 ghost use Rattle.sem_files.specs.Standing.{FilesStand};
 ghost use Rattle.sem_files.specs.Tells.{Tells, files_in};
-ghost use Rattle.sem_files.specs.Reads.{Accepts, Refuses, AcceptsLine, RefusesLine, Stops};
-ghost use Rattle.sem_files.specs.Reads.{IsReadUpTo, at_line as at_line_lem, lines_refusal, Say};
-ghost use Rattle.sem_files.specs.declared.reader.LineError.TheVariants.{Refused, Memory};
+ghost use Rattle.sem_files.specs.Reads.{Accepts, Refuses, AcceptsLine, RefusesLine};
+ghost use Rattle.sem_files.specs.Reads.{IsReadUpTo, lines_refusal, Say};
 
 use crate::files::Files;
 use crate::forms::{read_first, read_line};
 use crate::lines::FileLine;
 use crate::tables::Tables;
-use sem_key::OutOfMemory;
 use sem_trace::{
-    Cause, LineFault, Lines, TraceError, TraceFault, bytes_fault, is_significant, read_second,
+    Cause, LineError, LineFault, Lines, TraceError, at_line, bytes_fault, is_significant,
+    read_second, refused,
 };
 use std::alloc::Global;
 
@@ -30,29 +29,6 @@ enum Stage {
     Named,
     Open,
     Ended,
-}
-
-// Why a line is not read.
-#[derive(Clone, Copy, Debug)]
-enum LineError {
-    Refused(LineFault),
-    Memory,
-}
-
-impl From<LineFault> for LineError {
-    ghost from_gives = { λ fault e. e ≡ Refused fault };
-
-    fn from(fault: LineFault) -> LineError {
-        LineError::Refused(fault)
-    }
-}
-
-impl From<OutOfMemory> for LineError {
-    ghost from_gives = { λ _ e. e ≡ Memory };
-
-    fn from(_: OutOfMemory) -> LineError {
-        LineError::Memory
-    }
 }
 
 // What is read so far.
@@ -150,31 +126,6 @@ impl Reader {
                 word: None,
             })),
         }
-    }
-}
-
-// The refusal of a text at that line, as a whole.
-fn refused(line: u64, cause: Cause) -> TraceError
-    ensures { result ≡ RefusedText (record { line = line; word = None; cause = cause }) }
-{
-    TraceError::Refused(TraceFault {
-        line,
-        word: None,
-        cause,
-    })
-}
-
-// Why a text is not read, if that line of it is not.
-fn at_line(line: u64, e: LineError) -> TraceError
-    ensures { result ≡ at_line_lem line e }
-{
-    match e {
-        LineError::Refused(fault) => TraceError::Refused(TraceFault {
-            line,
-            word: fault.word,
-            cause: fault.cause,
-        }),
-        LineError::Memory => TraceError::Memory,
     }
 }
 

@@ -1,9 +1,10 @@
 // What belongs in a place of a line.
 use crate::OutOfMemory;
-use crate::forms::{Choice, Slot, choice_words, follows, may_follow};
-use crate::places::Setting;
+use crate::forms::{Choice, Slot, choice_words, may_follow, push_following};
+use crate::places::{Limits, Setting};
 use crate::words::{Word, text_of};
 use sem_text::number;
+use sem_trace::Slot as Number;
 use std::alloc::Global;
 
 /// What belongs in the place of a line with these words, of which those before the place stand
@@ -22,9 +23,7 @@ pub fn wanted_at(
         };
         if let Slot::Choice(choice) = slot {
             let text = text_of(alloc, word.text)?;
-            for next in follows(choice, text.as_str()).iter().rev() {
-                open.push(*next)?;
-            }
+            push_following(&mut open, choice, text.as_str())?;
             more = after(choice, text.as_str(), more);
         }
     }
@@ -58,17 +57,34 @@ fn reversed(alloc: Global, slots: &[Slot]) -> Result<Vec<Slot>, OutOfMemory> {
     Ok(open)
 }
 
-/// Whether the word is one that the slot names, or a number of its range.
-pub fn is_named(slot: Slot, word: &[u8]) -> bool {
+/// Whether the word is one that the slot names, or a number of its range, which no earlier line
+/// settles.
+pub fn is_named(
+    alloc: Global,
+    slot: Slot,
+    word: &[u8],
+    limits: &Limits,
+) -> Result<bool, OutOfMemory> {
     match slot {
-        Slot::Fixed(name) => word == name.as_bytes(),
-        Slot::Number(_, least, most) => match number(word, most) {
-            Ok(value) => least <= value,
-            Err(_) => false,
-        },
-        Slot::Choice(choice) => choice_words(choice)
-            .iter()
-            .any(|name| word == name.as_bytes()),
-        Slot::Node(_) | Slot::Kernels | Slot::Kernel | Slot::Key(_) | Slot::Place => false,
+        Slot::Fixed(name) => Ok(word == name.as_bytes()),
+        Slot::Within(_, least, most) => Ok(is_between(word, least, most)),
+        Slot::Choice(choice) => {
+            let words = choice_words(alloc, choice)?;
+            Ok(words.iter().any(|name| word == name.as_bytes()))
+        }
+        Slot::Number(Number::Vpe | Number::Pe | Number::KernelCount | Number::Kernel) => Ok(false),
+        Slot::Number(number) => {
+            let range = number.range(limits.version, limits.kernels);
+            Ok(is_between(word, range.least, range.most))
+        }
+        Slot::Key(_) | Slot::Place => Ok(false),
+    }
+}
+
+// Whether the word is a number from `least` to `most`.
+fn is_between(word: &[u8], least: u64, most: u64) -> bool {
+    match number(word, most) {
+        Ok(value) => least <= value,
+        Err(_) => false,
     }
 }

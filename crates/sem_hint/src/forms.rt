@@ -1,18 +1,21 @@
 // What can stand where in a line: the forms of `docs/texts.md`.
 
+use crate::OutOfMemory;
+use sem_trace::{
+    CallForm, Form, KeyRole, LineForm, LineKind, Part, PlainKind, RootForm, Slot as Number,
+    form_named,
+};
+use std::alloc::Global;
+
 /// What belongs in one place of a line.
 #[derive(Clone, Copy, Debug, PartialEq, Eq)]
 pub enum Slot {
     /// That word.
     Fixed(&'static str),
+    /// A number of a trace or a report.
+    Number(Number),
     /// A number from `least` to `most`, and its meaning.
-    Number(&'static str, u64, u64),
-    /// A PE or a VPE; the version gives the range.
-    Node(&'static str),
-    /// The number of kernels.
-    Kernels,
-    /// A kernel.
-    Kernel,
+    Within(&'static str, u64, u64),
     /// A key.
     Key(&'static str),
     /// A place.
@@ -44,47 +47,45 @@ pub enum Choice {
     FileAct,
 }
 
-/// A number of one byte.
-const BYTE: u64 = 255;
+const CODE: Slot = Slot::Number(Number::Code);
 
-/// A number of four bytes.
-const WORD: u64 = 4_294_967_295;
+const VPE: Slot = Slot::Number(Number::Vpe);
 
-const SELECTOR: Slot = Slot::Number("selector", 0, BYTE);
+const KERNELS: Slot = Slot::Number(Number::KernelCount);
 
-const ENDPOINT: Slot = Slot::Number("endpoint", 0, 15);
+const KERNEL: Slot = Slot::Number(Number::Kernel);
 
-const RIGHTS: Slot = Slot::Number("mask of rights", 0, 7);
+const FILE: Slot = Slot::Within("file", 0, 15);
 
-const NAME: Slot = Slot::Number("name of a service", 0, BYTE);
+const HANDLE: Slot = Slot::Within("handle", 0, 15);
 
-const INDEX: Slot = Slot::Number("index of an offer", 0, BYTE);
+const CLIENT: Slot = Slot::Within("client", 1, 63);
 
-const BASE: Slot = Slot::Number("base", 0, WORD);
-
-const LENGTH: Slot = Slot::Number("length", 0, WORD);
-
-const OFFSET: Slot = Slot::Number("offset", 0, WORD);
-
-const LABEL: Slot = Slot::Number("label", 0, WORD);
-
-const SLOTS: Slot = Slot::Number("number of slots", 1, 64);
-
-const CREDITS: Slot = Slot::Number("number of credits", 1, 64);
-
-const CODE: Slot = Slot::Number("code", 0, 15);
-
-const JOB: Slot = Slot::Number("number of a job", 0, WORD);
-
-const VPE: Slot = Slot::Node("VPE");
-
-const PE: Slot = Slot::Node("PE");
-
-const FILE: Slot = Slot::Number("file", 0, 15);
-
-const HANDLE: Slot = Slot::Number("handle", 0, 15);
-
-const CLIENT: Slot = Slot::Number("client", 1, 63);
+/// What a number means.
+pub fn meaning(number: Number) -> &'static str {
+    match number {
+        Number::Selector => "selector",
+        Number::ServiceName => "name of a service",
+        Number::OfferIndex => "index of an offer",
+        Number::Endpoint => "endpoint",
+        Number::Rights => "mask of rights",
+        Number::Base => "base",
+        Number::Length => "length",
+        Number::Offset => "offset",
+        Number::Label => "label",
+        Number::SlotCount => "number of slots",
+        Number::Credits => "number of credits",
+        Number::Vpe => "VPE",
+        Number::Pe => "PE",
+        Number::KernelCount => "number of kernels",
+        Number::Kernel => "kernel",
+        Number::Window => "number of messages",
+        Number::Replies => "number of replies",
+        Number::Code => "code",
+        Number::Job => "number of a job",
+        Number::CallNumber => "number of the call",
+    }
+}
 
 /// The name of a choice, for a word that it does not have.
 pub fn choice_name(choice: Choice) -> &'static str {
@@ -105,35 +106,70 @@ pub fn choice_name(choice: Choice) -> &'static str {
 }
 
 /// The words of a choice.
-pub fn choice_words(choice: Choice) -> &'static [&'static str] {
+pub fn choice_words(alloc: Global, choice: Choice) -> Result<Vec<&'static str>, OutOfMemory> {
+    let mut words = Vec::new(alloc);
     match choice {
-        Choice::Declaration => &[
-            "pe", "vpe", "root", "service", "offer", "deny", "kill", "call", "end", "kernels",
-            "window",
-        ],
-        Choice::RootObject => &["mem", "recv"],
-        Choice::Object => &["mem", "recv", "send", "serv", "sess"],
-        Choice::Call => &[
-            "derive", "gate", "obtain", "delegate", "open", "ask", "revoke", "bind", "read",
-            "write", "send", "credit", "exit", "clear",
-        ],
+        Choice::Declaration => return line_names(alloc),
+        Choice::Call => {
+            for form in CallForm::all() {
+                words.push(text(form.name))?;
+            }
+        }
+        Choice::RootObject => {
+            for form in RootForm::all() {
+                words.push(text(form.name))?;
+            }
+        }
+        Choice::Object => return form_names(alloc, Form::objects()),
+        Choice::Target => return form_names(alloc, Form::targets()),
+        Choice::Message => return form_names(alloc, Form::messages()),
+        _ => {}
+    }
+    words.extend_from_slice(own_words(choice))?;
+    Ok(words)
+}
+
+// The names of the forms.
+fn form_names<K>(alloc: Global, forms: &[Form<K>]) -> Result<Vec<&'static str>, OutOfMemory> {
+    let mut words = Vec::new(alloc);
+    for form in forms {
+        words.push(form.name)?;
+    }
+    Ok(words)
+}
+
+// The names of the lines after the second, those last that belong before all others.
+fn line_names(alloc: Global) -> Result<Vec<&'static str>, OutOfMemory> {
+    let mut words = Vec::new(alloc);
+    for is_first in [false, true] {
+        for form in LineForm::all(2) {
+            if is_first_kind(form.kind) == is_first {
+                words.push(text(form.name))?;
+            }
+        }
+    }
+    Ok(words)
+}
+
+// Whether lines of the kind belong before all others.
+fn is_first_kind(kind: LineKind) -> bool {
+    matches!(
+        kind,
+        LineKind::Plain(PlainKind::Kernels | PlainKind::Window)
+    )
+}
+
+// The name as text.
+fn text(name: &'static [u8]) -> &'static str {
+    std::str::from_utf8(name).unwrap_or("")
+}
+
+// The words of a choice that no table of forms has.
+fn own_words(choice: Choice) -> &'static [&'static str] {
+    match choice {
         Choice::Event => &[
             "call", "resume", "upcall", "handle", "fetch", "flush", "kill",
         ],
-        Choice::Message => &[
-            "obtain-req",
-            "obtain-ok",
-            "obtain-no",
-            "delegate-req",
-            "delegate-prepared",
-            "delegate-no",
-            "ack",
-            "orphan",
-            "revoke-req",
-            "revoke-done",
-            "unlink",
-        ],
-        Choice::Target => &["sel", "serv", "offer"],
         Choice::Consent => &["yes", "no", "drop"],
         Choice::YesOrNo => &["yes", "no"],
         Choice::Version => &["1", "2"],
@@ -142,21 +178,109 @@ pub fn choice_words(choice: Choice) -> &'static [&'static str] {
         Choice::AfterCut => &["reply"],
         Choice::FileLine => &["file", "client", "do", "end", "kernels"],
         Choice::FileAct => &["open", "read", "write", "share", "close"],
+        Choice::Declaration | Choice::RootObject | Choice::Object | Choice::Call => &[],
+        Choice::Message | Choice::Target => &[],
     }
 }
 
-/// What follows that word of a choice.
-pub fn follows(choice: Choice, word: &str) -> &'static [Slot] {
+/// Appends what follows that word of a choice, the last first.
+pub fn push_following(open: &mut Vec<Slot>, choice: Choice, word: &str) -> Result<(), OutOfMemory> {
+    let name = word.as_bytes();
     match choice {
-        Choice::Declaration => declaration(word),
-        Choice::RootObject | Choice::Object => object(word),
-        Choice::Call => call(word),
+        Choice::Declaration => push_line(open, name)?,
+        Choice::Call => {
+            for form in CallForm::all() {
+                if form.name == name {
+                    push_numbers(open, form.slots)?;
+                }
+            }
+        }
+        Choice::RootObject => {
+            for form in RootForm::all() {
+                if form.name == name {
+                    push_numbers(open, form.slots)?;
+                }
+            }
+        }
+        Choice::Object => push_parts(open, Form::objects(), name)?,
+        Choice::Target => push_parts(open, Form::targets(), name)?,
+        Choice::Message => push_parts(open, Form::messages(), name)?,
+        _ => {}
+    }
+    for slot in own_following(choice, word).iter().rev() {
+        open.push(*slot)?;
+    }
+    Ok(())
+}
+
+// Appends what follows the name of a line, the last first.
+fn push_line(open: &mut Vec<Slot>, name: &[u8]) -> Result<(), OutOfMemory> {
+    for form in LineForm::all(2) {
+        if form.name == name {
+            match form.kind {
+                LineKind::Plain(_) => {}
+                LineKind::Root => open.push(Slot::Choice(Choice::RootObject))?,
+                LineKind::Call => open.push(Slot::Choice(Choice::Call))?,
+            }
+            push_numbers(open, form.slots)?;
+        }
+    }
+    Ok(())
+}
+
+// Appends the numbers, the last first.
+fn push_numbers(open: &mut Vec<Slot>, numbers: &[Number]) -> Result<(), OutOfMemory> {
+    for number in numbers.iter().rev() {
+        open.push(Slot::Number(*number))?;
+    }
+    Ok(())
+}
+
+// Appends the parts of the form of that name, the last first.
+fn push_parts<K>(
+    open: &mut Vec<Slot>,
+    forms: &'static [Form<K>],
+    name: &[u8],
+) -> Result<(), OutOfMemory> {
+    if let Some(form) = form_named(forms, name) {
+        for part in form.parts.iter().rev() {
+            open.push(slot_of(*part))?;
+        }
+    }
+    Ok(())
+}
+
+// What belongs in the part.
+fn slot_of(part: Part) -> Slot {
+    match part {
+        Part::Key(role) => Slot::Key(role_name(role)),
+        Part::Place => Slot::Place,
+        Part::Number(number) => Slot::Number(number),
+        Part::Object => Slot::Choice(Choice::Object),
+        Part::Target => Slot::Choice(Choice::Target),
+        Part::YesOrNo => Slot::Choice(Choice::YesOrNo),
+    }
+}
+
+// Whose key it is.
+fn role_name(role: KeyRole) -> &'static str {
+    match role {
+        KeyRole::Parent => "parent",
+        KeyRole::Child => "child",
+        KeyRole::Gate => "gate",
+        KeyRole::Service => "service",
+    }
+}
+
+// What follows that word of a choice that no table of forms has.
+fn own_following(choice: Choice, word: &str) -> &'static [Slot] {
+    match choice {
         Choice::Event => event(word),
-        Choice::Message => message(word),
-        Choice::Target => target(word),
         Choice::Outcome | Choice::AfterGrant | Choice::AfterCut => outcome(word),
         Choice::FileLine => file_line(word),
         Choice::FileAct => file_act(word),
+        Choice::Declaration | Choice::RootObject | Choice::Object | Choice::Call => &[],
+        Choice::Message | Choice::Target => &[],
         Choice::Consent | Choice::YesOrNo | Choice::Version => &[],
     }
 }
@@ -171,30 +295,13 @@ pub fn may_follow(choice: Choice, word: &str) -> Option<Choice> {
     }
 }
 
-// What follows the name of a declaration.
-fn declaration(word: &str) -> &'static [Slot] {
-    match word {
-        "pe" => &[PE, Slot::Kernel],
-        "vpe" => &[VPE, PE],
-        "root" => &[VPE, SELECTOR, Slot::Choice(Choice::RootObject)],
-        "service" => &[VPE, SELECTOR, NAME],
-        "offer" => &[NAME, INDEX, SELECTOR],
-        "deny" => &[VPE, VPE],
-        "kill" => &[VPE, Slot::Number("number of replies", 0, WORD)],
-        "call" => &[VPE, Slot::Choice(Choice::Call)],
-        "kernels" => &[Slot::Kernels],
-        "window" => &[Slot::Number("number of messages", 1, 32)],
-        _ => &[],
-    }
-}
-
 // What follows the name of a line of file commands.
 fn file_line(word: &str) -> &'static [Slot] {
     match word {
-        "file" => &[FILE, Slot::Number("number of extents", 1, 4)],
+        "file" => &[FILE, Slot::Within("number of extents", 1, 4)],
         "client" => &[CLIENT],
         "do" => &[CLIENT, Slot::Choice(Choice::FileAct)],
-        "kernels" => &[Slot::Kernels],
+        "kernels" => &[KERNELS],
         _ => &[],
     }
 }
@@ -205,45 +312,15 @@ fn file_act(word: &str) -> &'static [Slot] {
         "open" => &[HANDLE, FILE],
         "read" | "write" => &[
             HANDLE,
-            Slot::Number("offset", 0, 16383),
-            Slot::Number("length", 1, 16384),
+            Slot::Within("offset", 0, 16383),
+            Slot::Within("length", 1, 16384),
         ],
         "share" => &[
             HANDLE,
             CLIENT,
-            Slot::Number("number of what is given", 0, 15),
+            Slot::Within("number of what is given", 0, 15),
         ],
         "close" => &[HANDLE],
-        _ => &[],
-    }
-}
-
-// What follows the name of an object.
-fn object(word: &str) -> &'static [Slot] {
-    match word {
-        "mem" => &[BASE, LENGTH, RIGHTS],
-        "recv" => &[SLOTS],
-        "send" => &[Slot::Key("gate"), LABEL, CREDITS],
-        "serv" => &[NAME],
-        "sess" => &[Slot::Key("service"), VPE],
-        _ => &[],
-    }
-}
-
-// What follows the name of a call.
-fn call(word: &str) -> &'static [Slot] {
-    match word {
-        "derive" => &[SELECTOR, SELECTOR, OFFSET, LENGTH, RIGHTS],
-        "gate" => &[SELECTOR, SELECTOR, LABEL, CREDITS],
-        "obtain" => &[SELECTOR, VPE, SELECTOR],
-        "delegate" => &[SELECTOR, VPE, SELECTOR],
-        "open" => &[SELECTOR, NAME],
-        "ask" => &[SELECTOR, SELECTOR, INDEX],
-        "revoke" | "clear" => &[SELECTOR],
-        "bind" => &[ENDPOINT, SELECTOR],
-        "read" | "write" => &[ENDPOINT, OFFSET, LENGTH],
-        "send" => &[ENDPOINT, LENGTH],
-        "credit" => &[ENDPOINT],
         _ => &[],
     }
 }
@@ -253,47 +330,12 @@ fn event(word: &str) -> &'static [Slot] {
     match word {
         "call" => &[
             VPE,
-            Slot::Number("number of the call", 0, WORD),
+            Slot::Number(Number::CallNumber),
             Slot::Choice(Choice::Call),
         ],
         "resume" | "kill" => &[VPE],
         "upcall" => &[VPE, VPE, Slot::Choice(Choice::Consent)],
-        "handle" | "fetch" | "flush" => &[Slot::Kernel, Slot::Choice(Choice::Message)],
-        _ => &[],
-    }
-}
-
-// What follows the name of a message.
-fn message(word: &str) -> &'static [Slot] {
-    match word {
-        "obtain-req" => &[Slot::Place, Slot::Choice(Choice::Target)],
-        "obtain-ok" => &[
-            Slot::Key("parent"),
-            Slot::Key("child"),
-            Slot::Choice(Choice::Object),
-        ],
-        "obtain-no" => &[Slot::Place, CODE],
-        "delegate-req" => &[
-            Slot::Key("parent"),
-            Slot::Choice(Choice::Object),
-            VPE,
-            SELECTOR,
-        ],
-        "delegate-prepared" | "orphan" | "unlink" => &[Slot::Key("parent"), Slot::Key("child")],
-        "delegate-no" => &[Slot::Key("parent"), CODE],
-        "ack" => &[Slot::Key("child"), Slot::Choice(Choice::YesOrNo)],
-        "revoke-req" => &[Slot::Key("child"), JOB],
-        "revoke-done" => &[JOB],
-        _ => &[],
-    }
-}
-
-// What follows the name of a target.
-fn target(word: &str) -> &'static [Slot] {
-    match word {
-        "sel" => &[VPE, SELECTOR],
-        "serv" => &[Slot::Key("service")],
-        "offer" => &[Slot::Key("service"), INDEX],
+        "handle" | "fetch" | "flush" => &[KERNEL, Slot::Choice(Choice::Message)],
         _ => &[],
     }
 }

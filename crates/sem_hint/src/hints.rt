@@ -2,11 +2,11 @@
 use crate::OutOfMemory;
 use crate::causes::{is_named, wanted_at};
 use crate::earlier::{named, twice};
-use crate::forms::{Choice, Slot, choice_name, choice_words};
+use crate::forms::{Choice, Slot, choice_name, choice_words, meaning};
 use crate::handles::strayed;
 use crate::places::{Limits, Setting, TextKind, kind_in_lines, setting_of};
 use crate::words::{Word, lines_of, nearest, text_of, words_of};
-use sem_trace::{Cause, TraceFault};
+use sem_trace::{Cause, Range, TraceFault};
 use std::alloc::Global;
 
 /// The most bytes of a line that a text shows.
@@ -193,10 +193,13 @@ fn of_form(
     words: &[Word],
 ) -> Result<Remark, OutOfMemory> {
     match (wanted_at(alloc, setting, words, place)?, words.get(place)) {
-        (Some(slot), Some(word)) if is_named(slot, word.text) => {
-            of_cause(alloc, line, cause, setting.is_files)
+        (Some(slot), Some(word)) => {
+            if is_named(alloc, slot, word.text, &setting.limits)? {
+                of_cause(alloc, line, cause, setting.is_files)
+            } else {
+                of_other(alloc, cause, word, slot, &setting.limits)
+            }
         }
-        (Some(slot), Some(word)) => of_other(alloc, cause, word, slot, &setting.limits),
         (Some(slot), None) => {
             let wanted = slot_text(alloc, slot, &setting.limits)?;
             Ok(Remark {
@@ -347,13 +350,14 @@ fn of_other(
 
 // The remark on a word that is not in a choice.
 fn of_choice(alloc: Global, choice: Choice, given: &str) -> Result<String, OutOfMemory> {
-    let (name, names) = (choice_name(choice), choice_words(choice));
+    let name = choice_name(choice);
+    let names = choice_words(alloc, choice)?;
     let mut text = format!(in alloc; "\"{given}\" is no {name}")?;
-    match nearest(alloc, given, names)? {
+    match nearest(alloc, given, names.as_slice())? {
         Some(near) => text.push_str(format!(in alloc; "; did you mean \"{near}\"?")?.as_str())?,
         None => {
             text.push_str("; wanted here: ")?;
-            push_list(&mut text, names)?;
+            push_list(&mut text, names.as_slice())?;
         }
     }
     Ok(text)
@@ -374,20 +378,13 @@ fn push_list(text: &mut String, names: &[&'static str]) -> Result<(), OutOfMemor
 fn slot_text(alloc: Global, slot: Slot, limits: &Limits) -> Result<String, OutOfMemory> {
     match slot {
         Slot::Fixed(name) => format!(in alloc; "\"{name}\""),
-        Slot::Number(what, least, most) => {
+        Slot::Number(number) => {
+            let what = meaning(number);
+            let Range { least, most } = number.range(limits.version, limits.kernels);
             format!(in alloc; "the {what}, from {least} to {most}")
         }
-        Slot::Node(what) => {
-            let most = limits.node;
-            format!(in alloc; "the {what}, from 0 to {most}")
-        }
-        Slot::Kernels => {
-            let most = limits.kernels;
-            format!(in alloc; "the number of kernels, from 1 to {most}")
-        }
-        Slot::Kernel => {
-            let most = limits.declared.saturating_sub(1);
-            format!(in alloc; "the kernel, from 0 to {most}")
+        Slot::Within(what, least, most) => {
+            format!(in alloc; "the {what}, from {least} to {most}")
         }
         Slot::Key(what) => {
             format!(in alloc;
@@ -397,7 +394,7 @@ fn slot_text(alloc: Global, slot: Slot, limits: &Limits) -> Result<String, OutOf
         Slot::Place => String::from_str(alloc, "a place, as PE.VPE.NUMBER"),
         Slot::Choice(choice) => {
             let mut text = String::from_str(alloc, "one of ")?;
-            push_list(&mut text, choice_words(choice))?;
+            push_list(&mut text, choice_words(alloc, choice)?.as_slice())?;
             Ok(text)
         }
     }

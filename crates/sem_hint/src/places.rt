@@ -3,18 +3,16 @@ use crate::OutOfMemory;
 use crate::forms::{Choice, Slot};
 use crate::words::{first_word, words_of};
 use sem_text::number;
-use sem_trace::is;
+use sem_trace::{Slot as Number, is, most_kernels};
 use std::alloc::Global;
 
 /// The limits that the text of a line sets.
 #[derive(Clone, Copy, Debug)]
 pub struct Limits {
-    /// The greatest number of a PE or a VPE.
-    pub node: u64,
-    /// The greatest number of kernels.
-    pub kernels: u64,
-    /// How many kernels are declared.
-    pub declared: u64,
+    /// The version of the text.
+    pub version: u8,
+    /// How many kernels are declared; the most that can be, if none are.
+    pub kernels: u32,
 }
 
 /// What the place of a line tells.
@@ -72,7 +70,7 @@ pub fn setting_of(
 ) -> Result<Setting, OutOfMemory> {
     let limits = limits_of(alloc, lines)?;
     let slots = match kind {
-        TextKind::Trace => trace_slots(lines, 0, at, limits.node > 63),
+        TextKind::Trace => trace_slots(lines, 0, at, limits.version != 1),
         TextKind::Files => file_slots(lines, at),
         TextKind::Report => return report_setting(alloc, lines, at, limits),
     };
@@ -94,7 +92,7 @@ fn report_setting(
     let end = trace_end(lines);
     let in_trace = at > 0 && at <= end;
     let slots = if in_trace {
-        trace_slots(lines, 1, at, limits.node > 63)
+        trace_slots(lines, 1, at, limits.version != 1)
     } else {
         report_slots(alloc, lines, end, at)?
     };
@@ -108,27 +106,33 @@ fn report_setting(
 
 // The limits of a text with these lines.
 fn limits_of(alloc: Global, lines: &[&[u8]]) -> Result<Limits, OutOfMemory> {
-    let mut is_second = false;
+    let mut version = 1;
     let mut declared = None;
     for line in lines {
         let words = words_of(alloc, line)?;
         match words.as_slice() {
-            [one, _, version, ..] if is(one.text, b"semper") => {
-                is_second = is(version.text, b"2");
+            [one, _, second, ..] if is(one.text, b"semper") => {
+                version = if is(second.text, b"2") { 2 } else { 1 };
             }
             [one, count, ..] if is(one.text, b"kernels") && declared.is_none() => {
-                declared = number(count.text, 32).ok();
+                declared = kernels_said(count.text);
             }
             [one, ..] if is(one.text, b"journal") => break,
             _ => {}
         }
     }
-    let kernels = if is_second { 32 } else { 16 };
     Ok(Limits {
-        node: if is_second { 127 } else { 63 },
-        kernels,
-        declared: declared.unwrap_or(kernels),
+        version,
+        kernels: declared.unwrap_or(most_kernels(version)),
     })
+}
+
+// The number of kernels that the word tells.
+fn kernels_said(word: &[u8]) -> Option<u32> {
+    match number(word, 32) {
+        Ok(count) => Some(count as u32),
+        Err(_) => None,
+    }
 }
 
 // The place of the line that ends the trace of a report, or of the last line if none does.
@@ -154,11 +158,8 @@ fn trace_slots(lines: &[&[u8]], first: usize, at: usize, has_window: bool) -> &'
             Slot::Fixed("trace"),
             Slot::Choice(Choice::Version),
         ],
-        1 => &[Slot::Fixed("kernels"), Slot::Kernels],
-        2 if has_window => &[
-            Slot::Fixed("window"),
-            Slot::Number("number of messages", 1, 32),
-        ],
+        1 => &[Slot::Fixed("kernels"), Slot::Number(Number::KernelCount)],
+        2 if has_window => &[Slot::Fixed("window"), Slot::Number(Number::Window)],
         _ => &[Slot::Choice(Choice::Declaration)],
     }
 }
@@ -182,7 +183,7 @@ fn file_slots(lines: &[&[u8]], at: usize) -> &'static [Slot] {
             Slot::Fixed("files"),
             Slot::Fixed("1"),
         ],
-        1 => &[Slot::Fixed("kernels"), Slot::Kernels],
+        1 => &[Slot::Fixed("kernels"), Slot::Number(Number::KernelCount)],
         _ => &[Slot::Choice(Choice::FileLine)],
     }
 }
@@ -219,11 +220,11 @@ fn report_slots(
     if at <= end.saturating_add(1) {
         return Ok(&[
             Slot::Fixed("journal"),
-            Slot::Number("number of entries", 0, MANY),
+            Slot::Within("number of entries", 0, MANY),
         ]);
     }
     if at < audit {
-        return Ok(&[Slot::Kernel, Slot::Choice(Choice::Event)]);
+        return Ok(&[Slot::Number(Number::Kernel), Slot::Choice(Choice::Event)]);
     }
     Ok(audit_slots(at.saturating_sub(audit), held))
 }
@@ -234,20 +235,20 @@ fn audit_slots(at: usize, held: usize) -> &'static [Slot] {
         0 => &[Slot::Fixed("audit")],
         1 => &[
             Slot::Fixed("made"),
-            Slot::Number("number of made keys", 0, MANY),
+            Slot::Within("number of made keys", 0, MANY),
         ],
         2 => &[
             Slot::Fixed("cut"),
-            Slot::Number("number of keys in the cut", 0, MANY),
+            Slot::Within("number of keys in the cut", 0, MANY),
         ],
         3 => &[
             Slot::Fixed("held"),
-            Slot::Number("number of held keys", 0, MANY),
+            Slot::Within("number of held keys", 0, MANY),
         ],
         _ if at.saturating_sub(4) < held => &[
             Slot::Fixed("key"),
             Slot::Key("held key"),
-            Slot::Number("selector", 0, 255),
+            Slot::Number(Number::Selector),
         ],
         _ => &[Slot::Fixed("end")],
     }

@@ -21,7 +21,8 @@ use Rattle.sem_msg.specs.declared.entry.Reply.{Reply}
 use Rattle.sem_msg.specs.declared.entry.Entry.{Entry}
 use Rattle.sem_trace.specs.Forms.{parts_of, word_at, choice}
 use Rattle.sem_trace.specs.Declarations.{stands_at, number_at, call_from}
-use Rattle.sem_journal.specs.EntryForms.{objects, event_form}
+use Rattle.sem_trace.specs.MessageForms.{objects}
+use Rattle.sem_journal.specs.EntryForms.{event_form}
 
 unfoldable pub kind_from : ℕ → Kind
 kind_from n =

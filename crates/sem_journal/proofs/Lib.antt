@@ -8,3 +8,4 @@ pub mod PrintedEntries
 pub mod EntryFrom
 pub mod OneEntry
 pub mod PlainEntries
+pub mod PartSteps

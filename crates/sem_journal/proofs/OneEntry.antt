@@ -31,7 +31,8 @@ use Rattle.sem_trace.specs.Places.{Fills}
 use Rattle.sem_trace.specs.Words.{key_word, place_word, object_words, call_words}
 use Rattle.sem_trace.specs.Declarations.{call_from}
 use Rattle.sem_journal.specs.EntryText.{target_words, message_words, act_words, detail_words, consent_word, grant_words, cut_words, reply_words, entry_words}
-use Rattle.sem_journal.specs.EntryForms.{objects, event_form}
+use Rattle.sem_trace.specs.MessageForms.{objects}
+use Rattle.sem_journal.specs.EntryForms.{event_form}
 use Rattle.sem_journal.specs.EntryRanges.{ObjectFits, TargetFits, MessageFits, EventFits, GrantFits, CutFits, ReplyFits, EntryFits}
 use Rattle.sem_journal.proofs.EntryParts.{behind_filled}
 use Rattle.sem_journal.proofs.PrintedPlaces.{value, small as small_node, kind_most, key_parts, place_parts}

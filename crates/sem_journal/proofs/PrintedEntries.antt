@@ -19,7 +19,8 @@ use Rattle.sem_trace.specs.Places.{Fills}
 use Rattle.sem_trace.specs.Forms.{Place, form_fault, choice, word_at, node, byte}
 use Rattle.sem_trace.specs.Words.{object_words}
 use Rattle.sem_journal.specs.EntryText.{message_words, act_words, detail_words, grant_words, cut_words, reply_words, entry_words}
-use Rattle.sem_journal.specs.EntryForms.{kernel, objects, messages, message_form, events, event_form, behind_cut, behind_grant, behind_event, entry_form}
+use Rattle.sem_trace.specs.MessageForms.{objects, messages, message_form}
+use Rattle.sem_journal.specs.EntryForms.{kernel, events, event_form, behind_cut, behind_grant, behind_event, entry_form}
 use Rattle.sem_journal.specs.EntryForms.{entry_fault}
 use Rattle.sem_journal.specs.EntryRanges.{ObjectFits, MessageFits, EventFits, GrantFits, CutFits, ReplyFits, EntryFits}
 use Rattle.sem_journal.proofs.EntryParts.{shown_fault, no_fault}

@@ -27,7 +27,7 @@ use Rattle.sem_trace.specs.Words.{key_word, place_word, object_words, call_words
 use Rattle.sem_trace.specs.Forms.{Place, place_fault, form_fault, parts_of, are_numbers, are_within, choice, word_at, node, key, key_place, calls}
 use Rattle.sem_trace.specs.Forms.Place.{Word, Number, Dotted}
 use Rattle.sem_journal.specs.EntryText.{target_words}
-use Rattle.sem_journal.specs.EntryForms.{objects, targets}
+use Rattle.sem_trace.specs.MessageForms.{objects, targets}
 use Rattle.sem_journal.specs.EntryRanges.{ObjectFits, TargetFits}
 use Rattle.sem_trace.proofs.Nodes.{few_vpes}
 use Rattle.sem_reader.proofs.Decimals.{digits-decimal, is_number-decimal}

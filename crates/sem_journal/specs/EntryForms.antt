@@ -4,55 +4,14 @@ use Rattle.std.specs.Prelude.{Some, None, if◌then◌else◌}
 use Rattle.std.specs.Option.{option_or}
 use Rattle.sem_trace.specs.declared.fault.LineFault.{LineFault}
 use Rattle.sem_trace.specs.declared.fault.Cause.TheVariants.{OutOfRange}
-use Rattle.sem_trace.specs.Forms.{Place, Table, choice, word_fault, at_word, word_at, up_to, node, byte, rights, slots}
-use Rattle.sem_trace.specs.Forms.{word}
-use Rattle.sem_trace.specs.Forms.{key, key_place, calls}
+use Rattle.sem_trace.specs.Forms.{Place, Table, choice, word_fault, at_word, word_at, up_to, node, word, key, calls}
 use Rattle.sem_trace.specs.Forms.Place.{Word}
+use Rattle.sem_trace.specs.MessageForms.{code, message_form}
 use Rattle.sem_trace.specs.Declarations.{stands_at, number_at}
-
--- the code of a reply
-abbrev pub code : Place
-code = up_to 15
 
 -- one of that many kernels
 abbrev pub kernel : ℕ → Place
 kernel kernels = up_to (kernels - 1)
-
--- the objects that a message can carry, in a report of that version
-unfoldable pub objects : ℕ → Table
-objects version =
-    (codes "mem", word ∷ word ∷ rights ∷ [])
-    ∷ (codes "recv", slots ∷ [])
-    ∷ (codes "send", key version ∷ word ∷ slots ∷ [])
-    ∷ (codes "serv", byte ∷ [])
-    ∷ (codes "sess", key version ∷ node version ∷ [])
-    ∷ []
-
-unfoldable pub targets : ℕ → Table
-targets version =
-    (codes "sel", node version ∷ byte ∷ [])
-    ∷ (codes "serv", key version ∷ [])
-    ∷ (codes "offer", key version ∷ byte ∷ [])
-    ∷ []
-
--- messages, from their name on
-unfoldable pub messages : ℕ → List (List ℕ) → Table
-messages version words =
-    (codes "obtain-req", key_place version ∷ choice (targets version) (word_at words 2))
-    ∷ (codes "obtain-ok", key version ∷ key version ∷ choice (objects version) (word_at words 3))
-    ∷ (codes "obtain-no", key_place version ∷ code ∷ [])
-    ∷ (codes "delegate-req", key version ∷ choice (objects version) (word_at words 2) ++ node version ∷ byte ∷ [])
-    ∷ (codes "delegate-prepared", key version ∷ key version ∷ [])
-    ∷ (codes "delegate-no", key version ∷ code ∷ [])
-    ∷ (codes "ack", key version ∷ Word (codes "yes" ∷ codes "no" ∷ []) ∷ [])
-    ∷ (codes "orphan", key version ∷ key version ∷ [])
-    ∷ (codes "revoke-req", key version ∷ word ∷ [])
-    ∷ (codes "revoke-done", word ∷ [])
-    ∷ (codes "unlink", key version ∷ key version ∷ [])
-    ∷ []
-
-unfoldable pub message_form : ℕ → List (List ℕ) → List Place
-message_form version words = choice (messages version words) (word_at words 0)
 
 -- events, from their name on, in a text with that many kernels
 unfoldable pub events : (version kernels : ℕ) → List (List ℕ) → Table

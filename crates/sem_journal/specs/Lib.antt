@@ -5,3 +5,4 @@ pub mod EntryForms
 pub mod EntryRanges
 pub mod ShownWords
 pub mod Readers
+pub mod PartValues

@@ -17,7 +17,8 @@ use Rattle.sem_trace.specs.Words.{key_word, object_words}
 use Rattle.sem_journal.specs.declared.shown.Shown.{Shown}
 use Rattle.sem_journal.specs.EntryText.{target_words, yes_or_no, message_words, consent_word, act_words, detail_words}
 use Rattle.sem_journal.specs.EntryText.{cut_words, reply_words}
-use Rattle.sem_journal.specs.EntryForms.{kernel, code, objects, targets, message_form, event_form, behind_cut}
+use Rattle.sem_trace.specs.MessageForms.{code, objects, targets, message_form}
+use Rattle.sem_journal.specs.EntryForms.{kernel, event_form, behind_cut}
 use Rattle.sem_journal.specs.EntryForms.{behind_grant, behind_event}
 use Rattle.sem_journal.specs.EntryRanges.{ObjectFits, TargetFits, MessageFits, EventFits, GrantFits, CutFits}
 use Rattle.sem_journal.specs.EntryRanges.{ReplyFits}

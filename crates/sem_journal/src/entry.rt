@@ -1,19 +1,21 @@
 // An entry as words. If memory is refused, each of these functions but `print_entry` may have
 // appended a part.
-ghost use Rattle.std.specs.Prelude.{◌≡◌, [], ◌∷◌, ◌++◌, decimal, OnOk, OnErr};
+ghost use Rattle.std.specs.Prelude.{◌≡◌, ◌≤◌, [], ◌∷◌, ◌++◌, length, decimal, OnOk, OnErr};
 ghost use Rattle.sem_text.specs.Lines.{behind_blanks, line};
-ghost use Rattle.sem_trace.specs.Words.{key_word, object_words};
+ghost use Rattle.sem_trace.specs.Words.{key_word};
 ghost use Rattle.sem_journal.specs.EntryText.{target_words, yes_or_no, message_words, act_words};
 ghost use Rattle.sem_journal.specs.EntryText.{consent_word, detail_words, grant_words, cut_words};
 ghost use Rattle.sem_journal.specs.EntryText.{reply_words, entry_words, entry_line};
+ghost use Rattle.sem_journal.specs.PartValues.{target_kind, value_words, parts_words};
 ghost use Rattle.sem_journal.specs.SpacedWords.{spaced};
 
-use sem_key::{Key, Object, OutOfMemory};
+use crate::parts::{MOST_PARTS, PartValue, values_of};
+use sem_key::{Key, OutOfMemory};
 use sem_msg::{Act, Consent, Detail, Entry, Message, Reply, Target};
 use sem_text::push_number;
 use sem_trace::{
-    push_call, push_key_word, push_named, push_number_word, push_numbers, push_object,
-    push_place_word, push_word,
+    Form, Part, TargetKind, push_call, push_key_word, push_named, push_number_word, push_numbers,
+    push_object, push_place_word, push_word,
 };
 use std::alloc::Global;
 
@@ -27,56 +29,32 @@ fn push_keys(out: &mut Vec<u8>, name: &[u8], parent: &Key, key: &Key) -> Result<
     push_key_word(out, key)
 }
 
-// Appends the name, a key and a number, each after a blank.
-fn push_numbered_key(
-    out: &mut Vec<u8>,
-    name: &[u8],
-    key: &Key,
-    number: u64,
-) -> Result<(), OutOfMemory>
-    ensures ok { OnOk result (out.new.items ≡ out.old.items
-        ++ behind_blanks (name.now ∷ key_word key.now ∷ decimal number ∷ [])) }
-{
-    push_word(out, name)?;
-    push_key_word(out, key)?;
-    push_number_word(out, number)
-}
-
-// Appends the name, the delegated capability, and the VPE and selector that receive it, each word
-// after a blank.
-fn push_delegation(
-    out: &mut Vec<u8>,
-    name: &[u8],
-    parent: &Key,
-    object: &Object,
-    vpe: u16,
-    sel: u8,
-) -> Result<(), OutOfMemory>
-    ensures ok { OnOk result (out.new.items ≡ out.old.items ++ behind_blanks (name.now
-        ∷ key_word parent.now ∷ object_words object.now ++ decimal vpe ∷ decimal sel ∷ [])) }
-{
-    push_word(out, name)?;
-    push_key_word(out, parent)?;
-    push_object(out, object)?;
-    push_numbers(out, &[u64::from(vpe), u64::from(sel)])
-}
-
 /// Appends the words of the target, each after a blank.
+#[tactic(auto, unfolding(sem_trace::specs::MessageForms::targets))]
 pub fn push_target(out: &mut Vec<u8>, target: &Target) -> Result<(), OutOfMemory>
     ensures ok { OnOk result
         (out.new.items ≡ out.old.items ++ behind_blanks (target_words target.now)) }
 {
+    push_word(out, Form::of_target(kind_of(target)).name.as_bytes())?;
     match target {
-        Target::Sel { vpe, sel } => push_named(out, b"sel", &[u64::from(*vpe), u64::from(*sel)]),
-        Target::Serv { service } => {
-            push_word(out, b"serv")?;
-            push_key_word(out, service)
-        }
+        Target::Sel { vpe, sel } => push_numbers(out, &[u64::from(*vpe), u64::from(*sel)]),
+        Target::Serv { service } => push_key_word(out, service),
         Target::Offer { service, index } => {
-            push_word(out, b"offer")?;
             push_key_word(out, service)?;
             push_number_word(out, u64::from(*index))
         }
+    }
+}
+
+// What the target is.
+#[inline]
+fn kind_of(target: &Target) -> TargetKind
+    ensures { result ≡ target_kind target.now }
+{
+    match target {
+        Target::Sel { .. } => TargetKind::Sel,
+        Target::Serv { .. } => TargetKind::Serv,
+        Target::Offer { .. } => TargetKind::Offer,
     }
 }
 
@@ -91,54 +69,48 @@ fn push_yes_or_no(out: &mut Vec<u8>, yes: bool) -> Result<(), OutOfMemory>
     }
 }
 
+// Appends the words of a part of a message, each after a blank.
+#[inline]
+fn push_value(out: &mut Vec<u8>, value: &PartValue) -> Result<(), OutOfMemory>
+    ensures ok { OnOk result
+        (out.new.items ≡ out.old.items ++ behind_blanks (value_words value.now)) }
+{
+    match value {
+        PartValue::Key(key) => push_key_word(out, key),
+        PartValue::Place(place) => push_place_word(out, place),
+        PartValue::Number(number) => push_number_word(out, *number),
+        PartValue::Object(object) => push_object(out, object),
+        PartValue::Target(target) => push_target(out, target),
+        PartValue::YesOrNo(yes) => push_yes_or_no(out, *yes),
+    }
+}
+
+// Appends the words of these parts, each after a blank.
+#[inline]
+fn push_values(
+    out: &mut Vec<u8>,
+    parts: &[Part],
+    values: &[PartValue; MOST_PARTS],
+) -> Result<(), OutOfMemory>
+    requires { length parts.now ≤ 4 }
+    ensures ok { OnOk result
+        (out.new.items ≡ out.old.items ++ behind_blanks (parts_words parts.now values.now)) }
+{
+    for value in &values[..parts.len()] {
+        push_value(out, value)?;
+    }
+    Ok(())
+}
+
 /// Appends the words of the message, each after a blank.
 pub fn push_message(out: &mut Vec<u8>, message: &Message) -> Result<(), OutOfMemory>
     ensures ok { OnOk result
         (out.new.items ≡ out.old.items ++ behind_blanks (message_words message.now)) }
 {
-    match message {
-        Message::ObtainReq { place, target } => {
-            push_word(out, b"obtain-req")?;
-            push_place_word(out, place)?;
-            push_target(out, target)
-        }
-        Message::ObtainOk {
-            parent,
-            key,
-            object,
-        } => {
-            push_keys(out, b"obtain-ok", parent, key)?;
-            push_object(out, object)
-        }
-        Message::ObtainNo { place, code } => {
-            push_word(out, b"obtain-no")?;
-            push_place_word(out, place)?;
-            push_number_word(out, u64::from(*code))
-        }
-        Message::DelegateReq {
-            parent,
-            object,
-            vpe,
-            sel,
-        } => push_delegation(out, b"delegate-req", parent, object, *vpe, *sel),
-        Message::DelegatePrepared { parent, key } => {
-            push_keys(out, b"delegate-prepared", parent, key)
-        }
-        Message::DelegateNo { parent, code } => {
-            push_numbered_key(out, b"delegate-no", parent, u64::from(*code))
-        }
-        Message::Ack { key, yes } => {
-            push_word(out, b"ack")?;
-            push_key_word(out, key)?;
-            push_yes_or_no(out, *yes)
-        }
-        Message::Orphan { parent, key } => push_keys(out, b"orphan", parent, key),
-        Message::RevokeReq { key, job } => {
-            push_numbered_key(out, b"revoke-req", key, u64::from(*job))
-        }
-        Message::RevokeDone { job } => push_named(out, b"revoke-done", &[u64::from(*job)]),
-        Message::Unlink { parent, key } => push_keys(out, b"unlink", parent, key),
-    }
+    let (kind, values) = values_of(message);
+    let form = Form::of_message(kind);
+    push_word(out, form.name.as_bytes())?;
+    push_values(out, form.parts, &values)
 }
 
 /// Appends the words of the act, each after a blank. The kernel of a fetch or a flush is not among

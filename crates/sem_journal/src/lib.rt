@@ -3,6 +3,7 @@
 
 mod entry;
 mod laws;
+mod parts;
 mod read_entries;
 mod read_message;
 mod shown;

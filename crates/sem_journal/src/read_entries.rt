@@ -17,11 +17,11 @@ ghost use Rattle.sem_journal.specs.Readers.{ReadsKernel, ReadsConsent, ReadsEven
 ghost use Rattle.sem_journal.specs.Readers.{ReadsReply, ReadsCut, ReadsBehindCut, ReadsBehindGrant};
 ghost use Rattle.sem_journal.specs.Readers.{ReadsShown};
 
-use crate::read_message::{CODE, message, two_keys, vpe};
+use crate::read_message::{message, two_keys, vpe};
 use crate::shown::Shown;
 use sem_key::{Key, Object};
 use sem_msg::{Act, Consent, Detail, Entry, Event, Message, Reply};
-use sem_trace::{Cause, LineFault, Range, WORD, Words, is};
+use sem_trace::{CODE, Cause, LineFault, Range, WORD, Words, is};
 
 // The event granted, cut and replied nothing.
 const NOTHING: Shown = Shown {

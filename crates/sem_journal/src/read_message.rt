@@ -1,16 +1,23 @@
 // Objects, targets and messages, read from the left.
-#![tactic(auto, unfolding(sem_trace::specs::Forms::form_fault, crate::specs::EntryForms::objects, crate::specs::EntryForms::targets, crate::specs::EntryForms::messages, crate::specs::EntryForms::message_form))]
+#![tactic(auto, unfolding(sem_trace::specs::Forms::form_fault, sem_trace::specs::MessageForms::objects, sem_trace::specs::MessageForms::targets, sem_trace::specs::MessageForms::messages, sem_trace::specs::MessageForms::message_form))]
 
-ghost use Rattle.std.specs.Prelude.{ℕ, ◌∷◌, codes};
+ghost use Rattle.std.specs.Prelude.{◌≡◌, ℕ, ◌≤◌, [], ◌∷◌, length};
+ghost use Rattle.std.specs.List.{All};
+ghost use Rattle.sem_trace.specs.MessageForms.{objects, object_parts, object_row, targets};
+ghost use Rattle.sem_trace.specs.MessageForms.{target_parts, target_row, messages, message_parts};
+ghost use Rattle.sem_trace.specs.MessageForms.{message_row, name_at};
+ghost use Rattle.sem_trace.specs.Words.{object_words};
+ghost use Rattle.sem_journal.specs.EntryRanges.{ObjectFits, TargetFits, MessageFits};
+ghost use Rattle.sem_journal.specs.EntryText.{target_words, message_words};
+ghost use Rattle.sem_journal.specs.PartValues.{IsPlain, ReadsValue, ReadsValues, ValuesFit};
+ghost use Rattle.sem_journal.specs.PartValues.{parts_words};
 ghost use Rattle.sem_journal.specs.Readers.{ReadsVpe, ReadsKeys, ReadsYesOrNo, ReadsObject};
 ghost use Rattle.sem_journal.specs.Readers.{ReadsTarget, ReadsMessage};
 
-use sem_key::{Key, Object};
+use crate::parts::{MOST_PARTS, PartValue};
+use sem_key::{Key, Kind, Object};
 use sem_msg::{Message, Target};
-use sem_trace::{BYTE, Cause, RIGHTS, Range, SLOTS, WORD, Words, is, node};
-
-/// The code of a reply.
-pub const CODE: Range = Range { least: 0, most: 15 };
+use sem_trace::{Cause, Form, MessageKind, Part, TargetKind, Words, form_named, is, node};
 
 // The next word, a VPE.
 pub(crate) fn vpe(words: &mut Words<'_>, version: u8) -> Result<u16, Cause>
@@ -29,52 +36,66 @@ pub(crate) fn two_keys(words: &mut Words<'_>, version: u8) -> Result<(Key, Key),
     Ok((first, second))
 }
 
-fn memory(words: &mut Words<'_>) -> Result<Object, Cause>
-    ensures { (version : ℕ) → ReadsObject version (codes "mem" ∷ words.old) words.new result }
+// The next words, a part of an object or of a target.
+fn plain_part(words: &mut Words<'_>, version: u8, part: Part) -> Result<PartValue, Cause>
+    requires { IsPlain part }
+    ensures { ReadsValue version part words.old words.new result }
 {
-    let [base, len, rights, ..] = words.numbers(&[WORD, WORD, RIGHTS])?;
-    let memory = Object::Mem {
-        base: base as u32,
-        len: len as u32,
-        rights: rights as u8,
-    };
-    Ok(memory)
+    match part {
+        Part::Key(_) => Ok(PartValue::Key(words.key(version)?)),
+        Part::Number(slot) => Ok(PartValue::Number(words.number(slot.range(version, 1))?)),
+        _ => unreachable!(),
+    }
 }
 
-fn receive_gate(words: &mut Words<'_>) -> Result<Object, Cause>
-    ensures { (version : ℕ) → ReadsObject version (codes "recv" ∷ words.old) words.new result }
+// The next words, those parts of an object or of a target, 4 at most.
+fn plain_parts(
+    words: &mut Words<'_>,
+    version: u8,
+    parts: &[Part],
+) -> Result<[PartValue; MOST_PARTS], Cause>
+    requires few { length parts.now ≤ 4 }
+    requires plain { All IsPlain parts.now }
+    ensures { ReadsValues version parts.now words.old words.new result }
 {
-    let slots = words.number(SLOTS)?;
-    Ok(Object::Recv { slots: slots as u8 })
+    let mut values = [PartValue::YesOrNo(false); MOST_PARTS];
+    for (place, kind) in parts.iter().enumerate() {
+        values[place] = plain_part(words, version, *kind)?;
+    }
+    Ok(values)
 }
 
-fn send_gate(words: &mut Words<'_>, version: u8) -> Result<Object, Cause>
-    ensures { ReadsObject version (codes "send" ∷ words.old) words.new result }
+// The object of that kind with these parts.
+fn object_from(kind: Kind, values: &[PartValue; MOST_PARTS]) -> Object
+    requires { (version : ℕ) × ValuesFit version (object_parts kind) values.now }
+    ensures words { object_words result
+        ≡ name_at (objects 1) (object_row kind) ∷ parts_words (object_parts kind) values.now }
+    ensures fits { (version : ℕ) → ValuesFit version (object_parts kind) values.now
+        → ObjectFits version result }
 {
-    let gate = words.key(version)?;
-    let label = words.number(WORD)?;
-    let credits = words.number(SLOTS)?;
-    let gate = Object::Send {
-        gate,
-        label: label as u32,
-        credits: credits as u8,
-    };
-    Ok(gate)
-}
-
-fn service(words: &mut Words<'_>) -> Result<Object, Cause>
-    ensures { (version : ℕ) → ReadsObject version (codes "serv" ∷ words.old) words.new result }
-{
-    let name = words.number(BYTE)?;
-    Ok(Object::Serv { name: name as u8 })
-}
-
-fn session(words: &mut Words<'_>, version: u8) -> Result<Object, Cause>
-    ensures { ReadsObject version (codes "sess" ∷ words.old) words.new result }
-{
-    let service = words.key(version)?;
-    let ident = vpe(words, version)?;
-    Ok(Object::Sess { service, ident })
+    let [first, second, third, _] = *values;
+    match kind {
+        Kind::Mem => Object::Mem {
+            base: first.number() as u32,
+            len: second.number() as u32,
+            rights: third.number() as u8,
+        },
+        Kind::Recv => Object::Recv {
+            slots: first.number() as u8,
+        },
+        Kind::Send => Object::Send {
+            gate: first.key(),
+            label: second.number() as u32,
+            credits: third.number() as u8,
+        },
+        Kind::Serv => Object::Serv {
+            name: first.number() as u8,
+        },
+        Kind::Sess => Object::Sess {
+            service: first.key(),
+            ident: second.number() as u16,
+        },
+    }
 }
 
 // The next words, an object.
@@ -82,50 +103,35 @@ fn object(words: &mut Words<'_>, version: u8) -> Result<Object, Cause>
     ensures { ReadsObject version words.old words.new result }
 {
     let name = words.word()?;
-    if is(name, b"mem") {
-        memory(words)
-    } else if is(name, b"recv") {
-        receive_gate(words)
-    } else if is(name, b"send") {
-        send_gate(words, version)
-    } else if is(name, b"serv") {
-        service(words)
-    } else if is(name, b"sess") {
-        session(words, version)
-    } else {
-        Err(Cause::UnknownWord)
+    let Some(form) = form_named(Form::objects(), name) else {
+        return Err(Cause::UnknownWord);
+    };
+    let values = plain_parts(words, version, form.parts)?;
+    Ok(object_from(form.kind, &values))
+}
+
+// The target of that kind with these parts.
+fn target_from(kind: TargetKind, values: &[PartValue; MOST_PARTS]) -> Target
+    requires { (version : ℕ) × ValuesFit version (target_parts kind) values.now }
+    ensures words { target_words result
+        ≡ name_at (targets 1) (target_row kind) ∷ parts_words (target_parts kind) values.now }
+    ensures fits { (version : ℕ) → ValuesFit version (target_parts kind) values.now
+        → TargetFits version result }
+{
+    let [first, second, ..] = *values;
+    match kind {
+        TargetKind::Sel => Target::Sel {
+            vpe: first.number() as u16,
+            sel: second.number() as u8,
+        },
+        TargetKind::Serv => Target::Serv {
+            service: first.key(),
+        },
+        TargetKind::Offer => Target::Offer {
+            service: first.key(),
+            index: second.number() as u8,
+        },
     }
-}
-
-fn selector_target(words: &mut Words<'_>, version: u8) -> Result<Target, Cause>
-    ensures { ReadsTarget version (codes "sel" ∷ words.old) words.new result }
-{
-    let vpe = vpe(words, version)?;
-    let sel = words.number(BYTE)?;
-    let target = Target::Sel {
-        vpe,
-        sel: sel as u8,
-    };
-    Ok(target)
-}
-
-fn service_target(words: &mut Words<'_>, version: u8) -> Result<Target, Cause>
-    ensures { ReadsTarget version (codes "serv" ∷ words.old) words.new result }
-{
-    let service = words.key(version)?;
-    Ok(Target::Serv { service })
-}
-
-fn offer_target(words: &mut Words<'_>, version: u8) -> Result<Target, Cause>
-    ensures { ReadsTarget version (codes "offer" ∷ words.old) words.new result }
-{
-    let service = words.key(version)?;
-    let index = words.number(BYTE)?;
-    let target = Target::Offer {
-        service,
-        index: index as u8,
-    };
-    Ok(target)
 }
 
 // The next words, a target.
@@ -133,83 +139,11 @@ fn target(words: &mut Words<'_>, version: u8) -> Result<Target, Cause>
     ensures { ReadsTarget version words.old words.new result }
 {
     let name = words.word()?;
-    if is(name, b"sel") {
-        selector_target(words, version)
-    } else if is(name, b"serv") {
-        service_target(words, version)
-    } else if is(name, b"offer") {
-        offer_target(words, version)
-    } else {
-        Err(Cause::UnknownWord)
-    }
-}
-
-fn obtain_request(words: &mut Words<'_>, version: u8) -> Result<Message, Cause>
-    ensures { ReadsMessage version (codes "obtain-req" ∷ words.old) words.new result }
-{
-    let place = words.place(version)?;
-    let target = target(words, version)?;
-    Ok(Message::ObtainReq { place, target })
-}
-
-fn obtain_ok(words: &mut Words<'_>, version: u8) -> Result<Message, Cause>
-    ensures { ReadsMessage version (codes "obtain-ok" ∷ words.old) words.new result }
-{
-    let (parent, key) = two_keys(words, version)?;
-    let object = object(words, version)?;
-    let message = Message::ObtainOk {
-        parent,
-        key,
-        object,
+    let Some(form) = form_named(Form::targets(), name) else {
+        return Err(Cause::UnknownWord);
     };
-    Ok(message)
-}
-
-fn obtain_no(words: &mut Words<'_>, version: u8) -> Result<Message, Cause>
-    ensures { ReadsMessage version (codes "obtain-no" ∷ words.old) words.new result }
-{
-    let place = words.place(version)?;
-    let code = words.number(CODE)?;
-    let message = Message::ObtainNo {
-        place,
-        code: code as u8,
-    };
-    Ok(message)
-}
-
-fn delegate_request(words: &mut Words<'_>, version: u8) -> Result<Message, Cause>
-    ensures { ReadsMessage version (codes "delegate-req" ∷ words.old) words.new result }
-{
-    let parent = words.key(version)?;
-    let object = object(words, version)?;
-    let vpe = vpe(words, version)?;
-    let sel = words.number(BYTE)?;
-    let message = Message::DelegateReq {
-        parent,
-        object,
-        vpe,
-        sel: sel as u8,
-    };
-    Ok(message)
-}
-
-fn delegate_prepared(words: &mut Words<'_>, version: u8) -> Result<Message, Cause>
-    ensures { ReadsMessage version (codes "delegate-prepared" ∷ words.old) words.new result }
-{
-    let (parent, key) = two_keys(words, version)?;
-    Ok(Message::DelegatePrepared { parent, key })
-}
-
-fn delegate_no(words: &mut Words<'_>, version: u8) -> Result<Message, Cause>
-    ensures { ReadsMessage version (codes "delegate-no" ∷ words.old) words.new result }
-{
-    let parent = words.key(version)?;
-    let code = words.number(CODE)?;
-    let message = Message::DelegateNo {
-        parent,
-        code: code as u8,
-    };
-    Ok(message)
+    let values = plain_parts(words, version, form.parts)?;
+    Ok(target_from(form.kind, &values))
 }
 
 // The next word, yes or no.
@@ -226,46 +160,93 @@ fn yes_or_no(words: &mut Words<'_>) -> Result<bool, Cause>
     }
 }
 
-fn ack(words: &mut Words<'_>, version: u8) -> Result<Message, Cause>
-    ensures { ReadsMessage version (codes "ack" ∷ words.old) words.new result }
+// The next words, a part of a message.
+fn part(words: &mut Words<'_>, version: u8, part: Part) -> Result<PartValue, Cause>
+    ensures { ReadsValue version part words.old words.new result }
 {
-    let key = words.key(version)?;
-    let yes = yes_or_no(words)?;
-    Ok(Message::Ack { key, yes })
+    match part {
+        Part::Key(_) => Ok(PartValue::Key(words.key(version)?)),
+        Part::Place => Ok(PartValue::Place(words.place(version)?)),
+        Part::Number(slot) => Ok(PartValue::Number(words.number(slot.range(version, 1))?)),
+        Part::Object => Ok(PartValue::Object(object(words, version)?)),
+        Part::Target => Ok(PartValue::Target(target(words, version)?)),
+        Part::YesOrNo => Ok(PartValue::YesOrNo(yes_or_no(words)?)),
+    }
 }
 
-fn orphan(words: &mut Words<'_>, version: u8) -> Result<Message, Cause>
-    ensures { ReadsMessage version (codes "orphan" ∷ words.old) words.new result }
+// The next words, those parts of a message, 4 at most.
+fn parts(
+    words: &mut Words<'_>,
+    version: u8,
+    parts: &[Part],
+) -> Result<[PartValue; MOST_PARTS], Cause>
+    requires { length parts.now ≤ 4 }
+    ensures { ReadsValues version parts.now words.old words.new result }
 {
-    let (parent, key) = two_keys(words, version)?;
-    Ok(Message::Orphan { parent, key })
+    let mut values = [PartValue::YesOrNo(false); MOST_PARTS];
+    for (place, kind) in parts.iter().enumerate() {
+        values[place] = part(words, version, *kind)?;
+    }
+    Ok(values)
 }
 
-fn revoke_request(words: &mut Words<'_>, version: u8) -> Result<Message, Cause>
-    ensures { ReadsMessage version (codes "revoke-req" ∷ words.old) words.new result }
+// The message of that kind with these parts.
+fn message_from(kind: MessageKind, values: &[PartValue; MOST_PARTS]) -> Message
+    requires { (version : ℕ) × ValuesFit version (message_parts kind) values.now }
+    ensures words { message_words result
+        ≡ name_at (messages 1 []) (message_row kind) ∷ parts_words (message_parts kind) values.now }
+    ensures fits { (version : ℕ) → ValuesFit version (message_parts kind) values.now
+        → MessageFits version result }
 {
-    let key = words.key(version)?;
-    let job = words.number(WORD)?;
-    let message = Message::RevokeReq {
-        key,
-        job: job as u32,
-    };
-    Ok(message)
-}
-
-fn revoke_done(words: &mut Words<'_>) -> Result<Message, Cause>
-    ensures { (version : ℕ)
-        → ReadsMessage version (codes "revoke-done" ∷ words.old) words.new result }
-{
-    let job = words.number(WORD)?;
-    Ok(Message::RevokeDone { job: job as u32 })
-}
-
-fn unlink(words: &mut Words<'_>, version: u8) -> Result<Message, Cause>
-    ensures { ReadsMessage version (codes "unlink" ∷ words.old) words.new result }
-{
-    let (parent, key) = two_keys(words, version)?;
-    Ok(Message::Unlink { parent, key })
+    let [first, second, third, fourth] = *values;
+    match kind {
+        MessageKind::ObtainReq => Message::ObtainReq {
+            place: first.place(),
+            target: second.target(),
+        },
+        MessageKind::ObtainOk => Message::ObtainOk {
+            parent: first.key(),
+            key: second.key(),
+            object: third.object(),
+        },
+        MessageKind::ObtainNo => Message::ObtainNo {
+            place: first.place(),
+            code: second.number() as u8,
+        },
+        MessageKind::DelegateReq => Message::DelegateReq {
+            parent: first.key(),
+            object: second.object(),
+            vpe: third.number() as u16,
+            sel: fourth.number() as u8,
+        },
+        MessageKind::DelegatePrepared => Message::DelegatePrepared {
+            parent: first.key(),
+            key: second.key(),
+        },
+        MessageKind::DelegateNo => Message::DelegateNo {
+            parent: first.key(),
+            code: second.number() as u8,
+        },
+        MessageKind::Ack => Message::Ack {
+            key: first.key(),
+            yes: second.yes_or_no(),
+        },
+        MessageKind::Orphan => Message::Orphan {
+            parent: first.key(),
+            key: second.key(),
+        },
+        MessageKind::RevokeReq => Message::RevokeReq {
+            key: first.key(),
+            job: second.number() as u32,
+        },
+        MessageKind::RevokeDone => Message::RevokeDone {
+            job: first.number() as u32,
+        },
+        MessageKind::Unlink => Message::Unlink {
+            parent: first.key(),
+            key: second.key(),
+        },
+    }
 }
 
 /// The next words, a message.
@@ -273,29 +254,9 @@ pub(crate) fn message(words: &mut Words<'_>, version: u8) -> Result<Message, Cau
     ensures { ReadsMessage version words.old words.new result }
 {
     let name = words.word()?;
-    if is(name, b"obtain-req") {
-        obtain_request(words, version)
-    } else if is(name, b"obtain-ok") {
-        obtain_ok(words, version)
-    } else if is(name, b"obtain-no") {
-        obtain_no(words, version)
-    } else if is(name, b"delegate-req") {
-        delegate_request(words, version)
-    } else if is(name, b"delegate-prepared") {
-        delegate_prepared(words, version)
-    } else if is(name, b"delegate-no") {
-        delegate_no(words, version)
-    } else if is(name, b"ack") {
-        ack(words, version)
-    } else if is(name, b"orphan") {
-        orphan(words, version)
-    } else if is(name, b"revoke-req") {
-        revoke_request(words, version)
-    } else if is(name, b"revoke-done") {
-        revoke_done(words)
-    } else if is(name, b"unlink") {
-        unlink(words, version)
-    } else {
-        Err(Cause::UnknownWord)
-    }
+    let Some(form) = form_named(Form::messages(), name) else {
+        return Err(Cause::UnknownWord);
+    };
+    let values = parts(words, version, form.parts)?;
+    Ok(message_from(form.kind, &values))
 }

@@ -12,7 +12,8 @@ use Rattle.sem_trace.specs.Forms.{Place, form_fault, node, key}
 use Rattle.sem_trace.specs.Places.{Fills}
 use Rattle.sem_trace.specs.Words.{key_word}
 use Rattle.sem_journal.specs.EntryText.{act_words, detail_words, cut_words, reply_words, entry_words}
-use Rattle.sem_journal.specs.EntryForms.{code, reply_row, cut_row, grant_row, behind_cut, behind_grant, behind_event, event_form, entry_form, has_long_memory}
+use Rattle.sem_trace.specs.MessageForms.{code}
+use Rattle.sem_journal.specs.EntryForms.{reply_row, cut_row, grant_row, behind_cut, behind_grant, behind_event, event_form, entry_form, has_long_memory}
 use Rattle.sem_journal.specs.EntryRanges.{EventFits, CutFits, ReplyFits, EntryFits}
 use Rattle.sem_journal.specs.ShownWords.{shown_words, ShownFits}
 use Rattle.sem_journal.proofs.EntryParts.{nothing_more, behind_filled, entry, entry_is}

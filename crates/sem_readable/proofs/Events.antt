@@ -12,7 +12,8 @@ use Rattle.sem_msg.specs.declared.message.Message.{Message}
 use Rattle.sem_trace.specs.Forms.{Place, place_fault, form_fault, choice, word_at, word, node, calls}
 use Rattle.sem_trace.specs.Forms.Place.{Word}
 use Rattle.sem_journal.specs.EntryText.{act_words, detail_words, message_words}
-use Rattle.sem_journal.specs.EntryForms.{kernel, message_form, events, event_form}
+use Rattle.sem_trace.specs.MessageForms.{message_form}
+use Rattle.sem_journal.specs.EntryForms.{kernel, events, event_form}
 use Rattle.sem_journal.specs.EntryRanges.{MessageFits, EventFits}
 use Rattle.sem_readable.proofs.Values.{IsWordOf, IsIn, number_word}
 use Rattle.sem_readable.proofs.Rows.{Begins, next, number, vpe, chosen, after_it, one_word}

@@ -23,7 +23,8 @@ use Rattle.sem_journal.specs.ReportText.{held_line}
 use Rattle.sem_journal.proofs.EntryParts.{nothing_more, exactly_is}
 use Rattle.sem_report.specs.ReportRanges.{HeldFits}
 use Rattle.sem_report.specs.WholeLines.{content}
-use Rattle.sem_report.specs.ReportRefusal.{Form, words_in, report_line_fault, forms_fault, fault_of, name_form, held_form}
+use Rattle.sem_trace.specs.LineErrors.{fault_of}
+use Rattle.sem_report.specs.ReportRefusal.{Form, words_in, report_line_fault, forms_fault, name_form, held_form}
 use Rattle.sem_readable.proofs.Values.{none_of}
 use Rattle.sem_readable.proofs.Rows.{number, a_key, one_word}
 

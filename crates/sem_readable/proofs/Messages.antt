@@ -8,7 +8,7 @@ use Rattle.sem_trace.specs.Forms.{Place, form_fault, choice, word_at, word, byte
 use Rattle.sem_trace.specs.Forms.Place.{Word}
 use Rattle.sem_trace.specs.Words.{key_word, place_word, object_words}
 use Rattle.sem_journal.specs.EntryText.{message_words}
-use Rattle.sem_journal.specs.EntryForms.{code, objects, targets, messages, message_form}
+use Rattle.sem_trace.specs.MessageForms.{code, objects, targets, messages, message_form}
 use Rattle.sem_journal.specs.EntryRanges.{MessageFits}
 use Rattle.sem_readable.proofs.Values.{byte_fits}
 use Rattle.sem_readable.proofs.Rows.{Begins, number, vpe, a_key, a_place, chosen, after_it, one_word}

@@ -7,7 +7,7 @@ use Rattle.sem_msg.specs.declared.message.Target.TheVariants.{Sel as SelTarget, 
 use Rattle.sem_trace.specs.Forms.{Place, form_fault, choice, word_at, word, rights, slots, byte, node, key}
 use Rattle.sem_trace.specs.Words.{key_word, object_words}
 use Rattle.sem_journal.specs.EntryText.{target_words}
-use Rattle.sem_journal.specs.EntryForms.{objects, targets}
+use Rattle.sem_trace.specs.MessageForms.{objects, targets}
 use Rattle.sem_journal.specs.EntryRanges.{ObjectFits, TargetFits}
 use Rattle.sem_readable.proofs.Values.{byte_fits}
 use Rattle.sem_readable.proofs.Rows.{Begins, number, vpe, a_key, chosen}

@@ -20,7 +20,8 @@ use Rattle.sem_journal.specs.ReportText.{held_line, journal_lines, audit_lines, 
 use Rattle.sem_journal.proofs.EntryParts.{nothing_more}
 use Rattle.sem_journal.proofs.PrintedPlaces.{value}
 use Rattle.sem_report.specs.WholeLines.{whole_lines}
-use Rattle.sem_report.specs.ReportRefusal.{words_in, report_form, report_version, forms_fault, forms_behind, fault_of, trace_section, trace_refusal, setup_in}
+use Rattle.sem_trace.specs.LineErrors.{fault_of}
+use Rattle.sem_report.specs.ReportRefusal.{words_in, report_form, report_version, forms_fault, forms_behind, trace_section, trace_refusal, setup_in}
 use Rattle.sem_report.specs.ReportRefusal.{refusal_behind, report_refusal}
 use Rattle.sem_report.proofs.PrintedReport.{few_kernels, audit_whole, behind_whole}
 use Rattle.sem_report.proofs.TraceInReport.{whole-parts}

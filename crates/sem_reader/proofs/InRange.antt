@@ -14,7 +14,7 @@ use Rattle.sem_msg.specs.Versions.{most_vpes, least_window, most_window}
 use Rattle.sem_text.specs.Number.{is_number, number_value}
 use Rattle.sem_trace.specs.declared.fault.Cause.{Cause}
 use Rattle.sem_trace.specs.declared.fault.Cause.TheVariants.{UnknownWord, BadNumber, OutOfRange, Missing}
-use Rattle.sem_trace.specs.Forms.{Place, place_fault, form_fault, is_between, word_at, node, byte, objects, window_line, calls, lines, form}
+use Rattle.sem_trace.specs.Forms.{Place, place_fault, form_fault, is_between, word_at, node, byte, root_objects, window_line, calls, lines, form}
 use Rattle.sem_trace.specs.Forms.Place.{Word, Number}
 use Rattle.sem_trace.specs.Declarations.{number_at, call_from, root_from, declaration}
 use Rattle.sem_trace.specs.Ranges.{IsNode, IsInRange}
@@ -261,7 +261,7 @@ module _ (version kernels : ℕ) (some : 1 ≤ kernels) where
   IsRootRow v sel name ws = IsRow (codes "root") (v ∷ sel ∷ name ∷ ws)
 
   mem_root : (v sel : List ℕ) (ws : List (List ℕ)) → IsRootRow v sel (codes "mem") ws
-  unfolding form lines objects declaration root_from
+  unfolding form lines root_objects declaration root_from
   mem_root v sel ws none =
       let n = number_in (form version kernels (codes "root" ∷ v ∷ sel ∷ codes "mem" ∷ ws)) (codes "root" ∷ v ∷ sel ∷ codes "mem" ∷ ws) none in (
         node_fits version _ (n 1 0 (most_vpes version - 1) (omega arith) refl).1,
@@ -272,7 +272,7 @@ module _ (version kernels : ℕ) (some : 1 ≤ kernels) where
       )
 
   recv_root : (v sel : List ℕ) (ws : List (List ℕ)) → IsRootRow v sel (codes "recv") ws
-  unfolding form lines objects declaration root_from
+  unfolding form lines root_objects declaration root_from
   recv_root v sel ws none =
       let n = number_in (form version kernels (codes "root" ∷ v ∷ sel ∷ codes "recv" ∷ ws)) (codes "root" ∷ v ∷ sel ∷ codes "recv" ∷ ws) none in (
         node_fits version _ (n 1 0 (most_vpes version - 1) (omega arith) refl).1,
@@ -282,15 +282,15 @@ module _ (version kernels : ℕ) (some : 1 ≤ kernels) where
       )
 
   root_line : (ws : List (List ℕ)) → IsRow (codes "root") ws
-  unfolding form lines objects form_fault
+  unfolding form lines root_objects form_fault
   root_line [] none = absurd (none-some (Missing, 0) (sym none))
   root_line (v ∷ []) none = absurd (none-some (Missing, 0) (sym (or_none (first_fault (node version) v []) _ none).1))
   root_line (v ∷ sel ∷ []) none =
       absurd (none-some (Missing, 0) (sym (or_none (first_fault byte sel []) _ (or_none (first_fault (node version) v (sel ∷ [])) _ none).1).1))
   root_line (v ∷ sel ∷ name ∷ ws) none =
-      of_one (λ w. IsRootRow v sel w ws) (map (λ row. row.0) objects) name
+      of_one (λ w. IsRootRow v sel w ws) (map (λ row. row.0) root_objects) name
       (mem_root v sel ws, (recv_root v sel ws, tt))
-      (one_of (map (λ row. row.0) objects) name (at_place (form version kernels (codes "root" ∷ v ∷ sel ∷ name ∷ ws)) (codes "root" ∷ v ∷ sel ∷ name ∷ ws) none
+      (one_of (map (λ row. row.0) root_objects) name (at_place (form version kernels (codes "root" ∷ v ∷ sel ∷ name ∷ ws)) (codes "root" ∷ v ∷ sel ∷ name ∷ ws) none
       3 (omega arith)))
       none
 

@@ -13,7 +13,7 @@ use Rattle.sem_trace.specs.declared.declaration.Declaration.{Declaration}
 use Rattle.sem_trace.specs.declared.declaration.Declaration.TheVariants.{Kernels, Window, Pe, Vpe, Memory, Receive, Service, Offer, Deny, Kill, Call as Calls}
 use Rattle.sem_trace.specs.declared.declaration.Declaration.TheVariants.{End}
 use Rattle.sem_trace.specs.Words.{call_words}
-use Rattle.sem_trace.specs.Forms.{Place, place_fault, form_fault, choice, word_at, node, byte, endpoint, rights, slots, word, up_to, objects, calls, lines}
+use Rattle.sem_trace.specs.Forms.{Place, place_fault, form_fault, choice, word_at, node, byte, endpoint, rights, slots, word, up_to, root_objects, calls, lines}
 use Rattle.sem_trace.specs.Forms.{form, kernel_count, window, first_form, second_form, third_form}
 use Rattle.sem_trace.specs.Forms.Place.{Number}
 use Rattle.sem_trace.specs.Declarations.{call_from, root_from, declaration, number_at}
@@ -338,7 +338,7 @@ unfolding form_fault form lines
 line_call version k ws = refl
 
 line_root : (version k : ℕ) (ws : List (List ℕ)) →
-    form_fault (form version k (codes "root" ∷ ws)) (codes "root" ∷ ws) ≡ form_fault (node version ∷ byte ∷ choice objects (word_at ws 2)) ws
+    form_fault (form version k (codes "root" ∷ ws)) (codes "root" ∷ ws) ≡ form_fault (node version ∷ byte ∷ choice root_objects (word_at ws 2)) ws
 unfolding form_fault form lines
 line_root version k ws = refl
 
@@ -351,12 +351,12 @@ line_window : (version k : ℕ) (ws : List (List ℕ)) → (version == 1) ≡ fa
 unfolding form_fault form lines
 line_window version k ws two = rw two refl
 
-object_mem : (ws : List (List ℕ)) → form_fault (choice objects (codes "mem")) (codes "mem" ∷ ws) ≡ form_fault (word ∷ word ∷ rights ∷ []) ws
-unfolding form_fault objects
+object_mem : (ws : List (List ℕ)) → form_fault (choice root_objects (codes "mem")) (codes "mem" ∷ ws) ≡ form_fault (word ∷ word ∷ rights ∷ []) ws
+unfolding form_fault root_objects
 object_mem ws = refl
 
-object_recv : (ws : List (List ℕ)) → form_fault (choice objects (codes "recv")) (codes "recv" ∷ ws) ≡ form_fault (slots ∷ []) ws
-unfolding form_fault objects
+object_recv : (ws : List (List ℕ)) → form_fault (choice root_objects (codes "recv")) (codes "recv" ∷ ws) ≡ form_fault (slots ∷ []) ws
+unfolding form_fault root_objects
 object_recv ws = refl
 
 -- a line as it is printed has its form

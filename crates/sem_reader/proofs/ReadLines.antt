@@ -4,6 +4,7 @@ use Rattle.std.proofs.Common.{subst, ◌∙◌, inl, inr}
 use Rattle.std.proofs.lemmas.Bool.{cases_Bool}
 use Rattle.sem_key.specs.MembershipTable.{MembershipTable}
 use Rattle.sem_msg.specs.Versions.{most_kernels}
+use Rattle.sem_trace.specs.LineErrors.{Stops}
 use Rattle.sem_trace.specs.declared.fault.Cause.{Cause}
 use Rattle.sem_trace.specs.declared.fault.LineFault.{LineFault}
 use Rattle.sem_trace.specs.declared.fault.Cause.TheVariants.{TooMany}
@@ -16,13 +17,13 @@ use Rattle.sem_trace.specs.Context.{context_fault}
 use Rattle.sem_trace.specs.Refusal.{version_in, is_third, body_fault, words_fault, line_fault}
 use Rattle.sem_reader.specs.declared.reader.Stage.{Stage}
 use Rattle.sem_reader.specs.declared.reader.Stage.TheVariants.{Start, Named, Counted, Open, Ended}
-use Rattle.sem_reader.specs.declared.reader.LineError.{LineError}
-use Rattle.sem_reader.specs.declared.reader.LineError.TheVariants.{Refused, Memory}
+use Rattle.sem_trace.specs.declared.line_error.LineError.{LineError}
+use Rattle.sem_trace.specs.declared.line_error.LineError.TheVariants.{Refused, Memory}
 use Rattle.sem_reader.specs.declared.tables.Tables.{Tables}
 use Rattle.sem_trace.specs.Readers.{IsWindowLine}
 use Rattle.sem_trace.proofs.Nodes.{some_kernel}
 use Rattle.sem_reader.specs.Tells.{Tells}
-use Rattle.sem_reader.specs.Reads.{IsOpened, IsReadTo, with_line, Stops}
+use Rattle.sem_reader.specs.Reads.{IsOpened, IsReadTo, with_line}
 use Rattle.sem_reader.proofs.OneMore.{accepted_none, is_ended-same, is_ended-new}
 use Rattle.sem_reader.proofs.Empty.{entry}
 

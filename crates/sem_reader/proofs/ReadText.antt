@@ -7,6 +7,7 @@ use Rattle.std.proofs.lemmas.Bool.{cases_Bool}
 use Rattle.std.proofs.Math.Seq.{take-append_seam}
 use Rattle.std.proofs.lemmas.Option.{none-some}
 use Rattle.std.specs.Result.{IfOk, IfErr}
+use Rattle.sem_trace.specs.LineErrors.{Stops, at_line}
 use Rattle.sem_trace.specs.declared.fault.LineFault.{LineFault}
 use Rattle.sem_trace.specs.declared.fault.Cause.TheVariants.{Missing, InputTooLong}
 use Rattle.sem_trace.specs.declared.fault.TraceError.{TraceError}
@@ -20,12 +21,12 @@ use Rattle.sem_trace.specs.Standing.{Declare, setup_of, Stands, IsWhy}
 use Rattle.sem_msg.specs.Setup.{Setup}
 use Rattle.sem_reader.specs.declared.reader.Stage.{Stage}
 use Rattle.sem_reader.specs.declared.reader.Stage.TheVariants.{Start, Named, Counted, Open, Ended}
-use Rattle.sem_reader.specs.declared.reader.LineError.{LineError}
-use Rattle.sem_reader.specs.declared.reader.LineError.TheVariants.{Refused as LineRefused, Memory as LineMemory}
+use Rattle.sem_trace.specs.declared.line_error.LineError.{LineError}
+use Rattle.sem_trace.specs.declared.line_error.LineError.TheVariants.{Refused as LineRefused, Memory as LineMemory}
 use Rattle.sem_reader.specs.declared.reader.Reader.{Reader}
 use Rattle.sem_reader.specs.declared.tables.Tables.{Tables}
 use Rattle.sem_reader.specs.Tells.{Tells, HasSizes, IsTold}
-use Rattle.sem_reader.specs.Reads.{IsOpened, IsReadTo, IsRead, with_line, IsReadUpTo, Stops, at_line}
+use Rattle.sem_reader.specs.Reads.{IsOpened, IsReadTo, IsRead, with_line, IsReadUpTo}
 use Rattle.sem_reader.proofs.OneMore.{first_same}
 use Rattle.sem_reader.proofs.MoreItems.{numbers-more, numbers-none}
 

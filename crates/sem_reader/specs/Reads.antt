@@ -2,16 +2,12 @@
 use Rattle.std.specs.Prelude.{◌≡◌, ℕ, ◌+◌, ◌≤◌, Bool, true, false, List, [], ◌∷◌, ◌++◌, length, map, None, Some}
 use Rattle.std.specs.Prelude.{if◌then◌else◌}
 use Rattle.sem_trace.specs.declared.fault.LineFault.{LineFault}
-use Rattle.sem_trace.specs.declared.fault.TraceError.{TraceError}
-use Rattle.sem_trace.specs.declared.fault.TraceError.TheVariants.{Refused as RefusedText, Memory as NoMemory}
 use Rattle.sem_trace.specs.TextLines.{lines_of, words_of, is_significant, significant}
 use Rattle.sem_trace.specs.Declarations.{number_at, declaration}
 use Rattle.sem_trace.specs.Earlier.{first_some, is_ended}
 use Rattle.sem_trace.specs.Refusal.{version_in, is_third, words_fault, line_fault, numbers, fault_at}
 use Rattle.sem_reader.specs.declared.reader.Stage.{Stage}
 use Rattle.sem_reader.specs.declared.reader.Stage.TheVariants.{Start, Named, Counted, Open, Ended}
-use Rattle.sem_reader.specs.declared.reader.LineError.{LineError}
-use Rattle.sem_reader.specs.declared.reader.LineError.TheVariants.{Refused, Memory}
 use Rattle.sem_reader.specs.declared.reader.Reader.{Reader}
 use Rattle.sem_reader.specs.declared.tables.Tables.{Tables}
 use Rattle.sem_reader.specs.Tells.{Tells, HasSizes}
@@ -56,11 +52,6 @@ abbrev pub AcceptsLine : List ℕ → Reader → Reader → Type 0
 AcceptsLine line old new = (lines : List (List (List ℕ))) → IsRead lines old →
     (line_fault lines line ≡ None) × IsRead (with_line lines line) new
 
--- why a line is not read: what is wrong with it, or memory was refused
-abbrev pub Stops : (LineFault → Type 0) → LineError → Type 0
-Stops refuses (Refused fault) = refuses fault
-Stops refuses Memory = Unit {0}
-
 abbrev pub RefusesLine : List ℕ → Reader → LineFault → Type 0
 RefusesLine line old fault = (lines : List (List (List ℕ))) → IsRead lines old → line_fault lines line ≡ Some fault
 
@@ -73,8 +64,3 @@ pub record IsReadUpTo (bytes : List ℕ) (left : List (List ℕ)) (number : ℕ)
   pub read : IsRead (significant before) r
   pub sizes : HasSizes r.tables
   pub room : number + length left ≤ length bytes
-
--- why a text is not read, if that line of it is not
-abbrev pub at_line : ℕ → LineError → TraceError
-at_line line (Refused fault) = RefusedText (record { line = line; word = fault.word; cause = fault.cause })
-at_line line Memory = NoMemory

@@ -1,20 +1,18 @@
 ghost use Rattle.std.specs.Prelude.{◌≡◌, ◌≤◌, ◌==◌, if◌then◌else◌, [], None, IfOk, IfErr, OnOk};
+ghost use Rattle.sem_trace.specs.LineErrors.{Stops};
 ghost use Rattle.sem_trace.specs.TextLines.{lines_of, words_of};
 ghost use Rattle.sem_trace.specs.Refusal.{first_fault, lines_refusal, refusal};
 ghost use Rattle.sem_trace.specs.Standing.{Declare, Stands, IsWhy};
-ghost use Rattle.sem_trace.specs.declared.fault.TraceError.TheVariants.{Refused as RefusedText};
 ghost use Rattle.sem_trace.specs.Earlier.{is_end};
 ghost use Rattle.sem_reader.specs.Tells.{HasSizes};
-ghost use Rattle.sem_reader.specs.Reads.{Accepts, Refuses, AcceptsLine, RefusesLine, Stops};
-ghost use Rattle.sem_reader.specs.Reads.{IsReadUpTo, at_line as at_line_lem};
-ghost use Rattle.sem_reader.specs.declared.reader.LineError.TheVariants.{Refused, Memory};
+ghost use Rattle.sem_reader.specs.Reads.{Accepts, Refuses, AcceptsLine, RefusesLine, IsReadUpTo};
 
 use crate::tables::Tables;
-use sem_key::{Membership, OutOfMemory};
+use sem_key::Membership;
 use sem_msg::Setup;
 use sem_trace::{
-    Cause, Declaration, LineFault, Lines, TraceError, TraceFault, bytes_fault, is_significant,
-    read_declaration, read_first, read_second, read_third,
+    Cause, Declaration, LineError, LineFault, Lines, TraceError, at_line, bytes_fault,
+    is_significant, read_declaration, read_first, read_second, read_third, refused,
 };
 use std::alloc::Global;
 
@@ -29,29 +27,6 @@ enum Stage {
     Counted,
     Open,
     Ended,
-}
-
-// Why a line is not read.
-#[derive(Clone, Copy, Debug)]
-enum LineError {
-    Refused(LineFault),
-    Memory,
-}
-
-impl From<LineFault> for LineError {
-    ghost from_gives = { λ fault e. e ≡ Refused fault };
-
-    fn from(fault: LineFault) -> LineError {
-        LineError::Refused(fault)
-    }
-}
-
-impl From<OutOfMemory> for LineError {
-    ghost from_gives = { λ _ e. e ≡ Memory };
-
-    fn from(_: OutOfMemory) -> LineError {
-        LineError::Memory
-    }
 }
 
 // What is read so far.
@@ -164,31 +139,6 @@ impl Reader {
                 word: None,
             })),
         }
-    }
-}
-
-// The refusal of a text at that line, as a whole.
-fn refused(line: u64, cause: Cause) -> TraceError
-    ensures { result ≡ RefusedText (record { line = line; word = None; cause = cause }) }
-{
-    TraceError::Refused(TraceFault {
-        line,
-        word: None,
-        cause,
-    })
-}
-
-// Why a text is not read, if that line of it is not.
-fn at_line(line: u64, e: LineError) -> TraceError
-    ensures { result ≡ at_line_lem line e }
-{
-    match e {
-        LineError::Refused(fault) => TraceError::Refused(TraceFault {
-            line,
-            word: fault.word,
-            cause: fault.cause,
-        }),
-        LineError::Memory => TraceError::Memory,
     }
 }
 

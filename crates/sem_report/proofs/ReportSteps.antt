@@ -14,10 +14,11 @@ use Rattle.sem_journal.specs.EntryForms.{entry_form}
 use Rattle.sem_journal.specs.EntryText.{entry_words}
 use Rattle.sem_journal.specs.EntryRanges.{EntryFits}
 use Rattle.sem_text.specs.Lines.{line, text}
+use Rattle.sem_trace.specs.LineErrors.{at_line, fault_of}
 use Rattle.sem_trace.specs.declared.fault.TraceError.{TraceError}
 use Rattle.sem_trace.specs.declared.fault.TraceError.TheVariants.{Refused as RefusedText, Memory as NoMemory}
-use Rattle.sem_report.specs.declared.report_lines.LineError.{LineError}
-use Rattle.sem_report.specs.declared.report_lines.LineError.TheVariants.{Refused, Memory}
+use Rattle.sem_trace.specs.declared.line_error.LineError.{LineError}
+use Rattle.sem_trace.specs.declared.line_error.LineError.TheVariants.{Refused, Memory}
 use Rattle.sem_trace.specs.declared.fault.Cause.{Cause}
 use Rattle.sem_trace.specs.declared.fault.Cause.TheVariants.{TooMany}
 use Rattle.sem_trace.specs.TextLines.{bytes_fault}
@@ -28,9 +29,9 @@ use Rattle.sem_trace.specs.Refusal.{version_in}
 use Rattle.sem_trace.specs.Standing.{IsWhy}
 use Rattle.sem_report.specs.WholeLines.{whole_lines, content}
 use Rattle.sem_report.specs.ReportRefusal.{Form, report_form, report_version, count_form, audit_forms, forms_behind, words_in, count_at, report_line_fault}
-use Rattle.sem_report.specs.ReportRefusal.{forms_fault, fault_of}
+use Rattle.sem_report.specs.ReportRefusal.{forms_fault}
 use Rattle.sem_trace.specs.Forms.{whole_line}
-use Rattle.sem_report.specs.ReadsReport.{Because, Follows, Stops, NextLine, OneEntry, IsMissing, at_line}
+use Rattle.sem_report.specs.ReadsReport.{Because, Follows, Stops, NextLine, OneEntry, IsMissing}
 
 pub missing_stops : (form : Form) (n : ℕ) (lines : List (List ℕ)) (e : TraceError) → IsMissing n lines e → Stops (form ∷ []) n lines e
 unfolding forms_fault

@@ -8,6 +8,7 @@ use Rattle.std.proofs.lemmas.Fmt.{length-decimal-le}
 use Rattle.std.proofs.lemmas.Option.{none-some}
 use Rattle.sem_msg.specs.Setup.{Setup}
 use Rattle.sem_text.specs.Lines.{line}
+use Rattle.sem_trace.specs.LineErrors.{fault_of}
 use Rattle.sem_trace.specs.declared.fault.Cause.{Cause}
 use Rattle.sem_trace.specs.declared.fault.LineFault.{LineFault}
 use Rattle.sem_trace.specs.declared.fault.TraceFault.{TraceFault}
@@ -21,7 +22,7 @@ use Rattle.sem_reader.proofs.Decimals.{digits-decimal}
 use Rattle.sem_reader.proofs.PlainText.{are_plain, bare, bytes_fit, words_printed}
 use Rattle.sem_journal.proofs.EntryParts.{exactly_fits, exactly_is}
 use Rattle.sem_report.specs.WholeLines.{content}
-use Rattle.sem_report.specs.ReportRefusal.{fault_of, trace_form, head_fault}
+use Rattle.sem_report.specs.ReportRefusal.{trace_form, head_fault}
 use Rattle.sem_report.proofs.WholeText.{decimal_plain, content_line}
 
 pub small_version : (version : ℕ) → (version ≡ 1) ⊎ (version ≡ 2) → version < 2 ^ 64

@@ -10,6 +10,7 @@ use Rattle.std.proofs.lemmas.Option.{none-some, same_Some}
 use Rattle.std.proofs.lemmas.Slice.Eq.{bytes_eq-Decides}
 use Rattle.sem_report.proofs.LineForms.{cases_Option}
 use Rattle.sem_msg.specs.Setup.{Setup}
+use Rattle.sem_trace.specs.LineErrors.{fault_of}
 use Rattle.sem_trace.specs.declared.fault.LineFault.{LineFault}
 use Rattle.sem_trace.specs.Forms.{whole_line}
 use Rattle.sem_trace.specs.declared.fault.Cause.TheVariants.{NotCanonical}
@@ -22,7 +23,7 @@ use Rattle.sem_trace.specs.Refusal.{fault_at, first_fault, end_fault, lines_refu
 use Rattle.sem_trace.specs.Standing.{Declare, IsWhy, setup_of}
 use Rattle.sem_trace.specs.TraceText.{canonical}
 use Rattle.sem_report.specs.WholeLines.{whole_lines, content}
-use Rattle.sem_report.specs.ReportRefusal.{head_fault, trace_refusal, first_difference, setup_in, fault_of}
+use Rattle.sem_report.specs.ReportRefusal.{head_fault, trace_refusal, first_difference, setup_in}
 use Rattle.sem_report.specs.ReadsReport.{IsBelow, later}
 use Rattle.sem_report.proofs.TextInLines.{lines-whole}
 use Rattle.sem_report.proofs.TraceHead.{version_told}

@@ -7,6 +7,7 @@ use Rattle.sem_key.specs.KeyName.{KeyName}
 use Rattle.sem_msg.specs.declared.entry.Entry.{Entry}
 use Rattle.sem_msg.specs.Setup.{Setup}
 use Rattle.sem_text.specs.Lines.{line, text}
+use Rattle.sem_trace.specs.LineErrors.{fault_of}
 use Rattle.sem_trace.specs.declared.fault.Cause.TheVariants.{InputTooLong}
 use Rattle.sem_trace.specs.declared.fault.TraceError.{TraceError}
 use Rattle.sem_trace.specs.declared.fault.TraceError.TheVariants.{Refused as RefusedText, Memory as NoMemory}
@@ -15,7 +16,7 @@ use Rattle.sem_trace.specs.TraceText.{canonical, trace_lines}
 use Rattle.sem_journal.specs.ReportText.{journal_lines, audit_lines, report_text}
 use Rattle.sem_report.specs.WholeLines.{whole_lines}
 use Rattle.sem_trace.specs.Forms.{whole_line}
-use Rattle.sem_report.specs.ReportRefusal.{Form, report_form, report_version, forms_fault, forms_behind, trace_section, trace_refusal, setup_in, fault_of}
+use Rattle.sem_report.specs.ReportRefusal.{Form, report_form, report_version, forms_fault, forms_behind, trace_section, trace_refusal, setup_in}
 use Rattle.sem_report.specs.ReportRefusal.{refusal_behind, report_refusal}
 use Rattle.sem_report.specs.ReadsReport.{Follows, Stops, IsRefused}
 

@@ -1,5 +1,6 @@
 -- Lines of a report, read one after another, and why one is not read.
 use Rattle.std.specs.Prelude.{◌≡◌, ℕ, ◌+◌, ◌<◌, List, [], ◌∷◌, ◌++◌, Option, Some}
+use Rattle.sem_trace.specs.LineErrors.{fault_of}
 use Rattle.sem_trace.specs.declared.fault.LineFault.{LineFault}
 use Rattle.sem_trace.specs.declared.fault.Cause.TheVariants.{Missing}
 use Rattle.sem_trace.specs.declared.fault.TraceFault.{TraceFault}
@@ -9,11 +10,11 @@ use Rattle.sem_msg.specs.declared.entry.Entry.{Entry}
 use Rattle.sem_text.specs.Lines.{line}
 use Rattle.sem_journal.specs.EntryText.{entry_words}
 use Rattle.sem_journal.specs.EntryRanges.{EntryFits}
-use Rattle.sem_report.specs.declared.report_lines.LineError.{LineError}
-use Rattle.sem_report.specs.declared.report_lines.LineError.TheVariants.{Refused, Memory}
+use Rattle.sem_trace.specs.declared.line_error.LineError.{LineError}
+use Rattle.sem_trace.specs.declared.line_error.LineError.TheVariants.{Refused, Memory}
 use Rattle.sem_trace.specs.Forms.{whole_line}
 use Rattle.sem_report.specs.WholeLines.{whole_lines}
-use Rattle.sem_report.specs.ReportRefusal.{Form, forms_fault, fault_of, line_later}
+use Rattle.sem_report.specs.ReportRefusal.{Form, forms_fault, line_later}
 
 -- why a line is not read: what is wrong with it, or memory was refused
 abbrev pub Because : Option LineFault → LineError → Type 0
@@ -39,11 +40,6 @@ pub record NextLine (n : ℕ) (text whole : List ℕ) (m : ℕ) (behind : List �
 -- no lines are left where line n should be
 abbrev pub IsMissing : ℕ → List (List ℕ) → TraceError → Type 0
 IsMissing n lines e = (lines ≡ []) × (e ≡ RefusedText (fault_of n (whole_line Missing)))
-
--- why a report is not read, if line n of it is not
-abbrev pub at_line : ℕ → LineError → TraceError
-at_line n (Refused fault) = RefusedText (fault_of n fault)
-at_line n Memory = NoMemory
 
 -- the first line of a text is that of an entry of a report of that version, and the entry joins the
 -- end of a list

@@ -12,6 +12,7 @@ use Rattle.sem_trace.specs.TextLines.{words_of, is_significant, bytes_fault}
 use Rattle.sem_trace.specs.Forms.{Place, word_fault, whole_line, at_word, byte, word, key}
 use Rattle.sem_trace.specs.Forms.Place.{Word}
 use Rattle.sem_trace.specs.Declarations.{stands_at, number_at}
+use Rattle.sem_trace.specs.LineErrors.{fault_of}
 use Rattle.sem_trace.specs.Refusal.{lines_refusal, version_in, version_of, kernels_of, declarations_of}
 use Rattle.sem_trace.specs.Standing.{setup_of}
 use Rattle.sem_trace.specs.TraceText.{canonical}
@@ -35,9 +36,6 @@ report_line_fault form whole =
     (option_or (word_fault (form words) words)
     (if has_long_memory words then Some (at_word (long_word words) OutOfRange)
     else (if bytes_eq whole (line words) then None else Some (whole_line NotCanonical))))
-
-abbrev pub fault_of : ℕ → LineFault → TraceFault
-fault_of n fault = record { line = n; word = fault.word; cause = fault.cause }
 
 -- the first fault of lines of these forms; the first line has that number
 unfoldable pub forms_fault : ℕ → List Form → List (List ℕ) → Option TraceFault

@@ -5,12 +5,11 @@ ghost use Rattle.std.specs.Result.{result_err};
 ghost use Rattle.std.specs.Str.{bytes_eq};
 ghost use Rattle.sem_text.specs.Lines.{line as line_lem};
 ghost use Rattle.sem_trace.specs.TextLines.{words_of, bytes_fault as bytes_fault_lem};
-ghost use Rattle.sem_trace.specs.Forms.{form_fault, word_fault, whole_line};
+ghost use Rattle.sem_trace.specs.Forms.{form_fault, word_fault};
 ghost use Rattle.sem_trace.specs.Places.{told_fault};
 ghost use Rattle.sem_trace.specs.Declarations.{number_at};
 ghost use Rattle.sem_trace.specs.Refusal.{version_in};
 ghost use Rattle.sem_trace.specs.declared.fault.Cause.TheVariants.{NotCanonical};
-ghost use Rattle.sem_report.specs.declared.report_lines.LineError.TheVariants.{Refused, Memory};
 ghost use Rattle.sem_journal.specs.EntryForms.{entry_form};
 ghost use Rattle.sem_journal.specs.EntryRanges.{EntryFits};
 ghost use Rattle.sem_journal.specs.EntryText.{entry_words};
@@ -24,41 +23,8 @@ ghost use Rattle.sem_report.specs.ReportRanges.{HeldFits};
 use crate::lines::{Line, same};
 use crate::report::push_held;
 use sem_journal::{push_entry, read_entry};
-use sem_key::OutOfMemory;
 use sem_msg::{Entry, Held};
-use sem_trace::{BYTE, Cause, LineFault, WORD, Words, bytes_fault, push_line};
-
-/// Why a line is not read.
-#[derive(Clone, Copy, Debug)]
-pub enum LineError {
-    Refused(LineFault),
-    Memory,
-}
-
-impl From<LineFault> for LineError {
-    ghost from_gives = { λ fault e. e ≡ Refused fault };
-
-    fn from(fault: LineFault) -> LineError {
-        LineError::Refused(fault)
-    }
-}
-
-// A cause without a word is that of the whole line.
-impl From<Cause> for LineError {
-    ghost from_gives = { λ cause e. e ≡ Refused (whole_line cause) };
-
-    fn from(cause: Cause) -> LineError {
-        LineError::Refused(LineFault { cause, word: None })
-    }
-}
-
-impl From<OutOfMemory> for LineError {
-    ghost from_gives = { λ _ e. e ≡ Memory };
-
-    fn from(_: OutOfMemory) -> LineError {
-        LineError::Memory
-    }
-}
+use sem_trace::{BYTE, Cause, LineError, LineFault, WORD, Words, bytes_fault, push_line};
 
 // Checks that the line is short and is text.
 fn is_text(line: &Line) -> Result<(), Cause>

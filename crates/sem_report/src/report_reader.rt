@@ -2,8 +2,6 @@
 ghost use Rattle.std.specs.Prelude.{◌≡◌, ◌+◌, ◌≤◌, ◌⊎◌, [], ◌∷◌, ◌++◌, length, take, drop, map};
 ghost use Rattle.std.specs.Prelude.{replicate, All, codes, decimal, None, IfOk, IfErr, OnOk};
 ghost use Rattle.sem_text.specs.Lines.{line as line_lem, text};
-ghost use Rattle.sem_trace.specs.declared.fault.TraceError.TheVariants.{Refused as RefusedText};
-ghost use Rattle.sem_trace.specs.Forms.{whole_line};
 ghost use Rattle.sem_trace.specs.Standing.{IsWhy};
 ghost use Rattle.sem_trace.specs.TraceText.{canonical};
 ghost use Rattle.sem_msg.specs.Audits.{held_pairs};
@@ -15,19 +13,19 @@ ghost use Rattle.sem_journal.specs.ReportText.{audit_lines, report_text};
 ghost use Rattle.sem_report.specs.WholeLines.{whole_lines, content as content_lem};
 ghost use Rattle.sem_report.specs.ReportRefusal.{report_form, report_version, name_form};
 ghost use Rattle.sem_report.specs.ReportRefusal.{count_form, held_form, audit_forms, count_at};
-ghost use Rattle.sem_report.specs.ReportRefusal.{fault_of, forms_fault, forms_behind};
+ghost use Rattle.sem_report.specs.ReportRefusal.{forms_fault, forms_behind};
 ghost use Rattle.sem_report.specs.ReportRefusal.{trace_section, trace_refusal, setup_in};
 ghost use Rattle.sem_report.specs.ReportRefusal.{report_refusal};
 ghost use Rattle.sem_report.specs.ReadsReport.{Follows, Stops, NextLine, OneEntry, IsMissing};
-ghost use Rattle.sem_report.specs.ReadsReport.{IsRefused, IsBelow, later, at_line as at_line_lem};
+ghost use Rattle.sem_report.specs.ReadsReport.{IsRefused, IsBelow, later};
 ghost use Rattle.sem_report.specs.ReportRanges.{HeldFits, ReportFits};
 
 use crate::lines::{Line, first_difference, next_whole_line, split_section};
-use crate::report_lines::{LineError, count_line, entry_line, header_line, held_line, name_line};
+use crate::report_lines::{count_line, entry_line, header_line, held_line, name_line};
 use crate::trace_head::head_fault;
 use sem_msg::{Audit, Entry, Held, HeldList, Journal, Setup};
 use sem_reader::read_section;
-use sem_trace::{Cause, TraceError, TraceFault, bytes_fault, push_trace};
+use sem_trace::{Cause, TraceError, TraceFault, at_line, bytes_fault, push_trace, refused};
 use std::alloc::Global;
 
 /// The most bytes of a report.
@@ -39,31 +37,6 @@ struct Lines<'a> {
     rest: &'a [u8],
     number: u64,
     printed: Vec<u8>,
-}
-
-// The refusal of the whole line of that number.
-fn refused(line: u64, cause: Cause) -> TraceError
-    ensures { result ≡ RefusedText (fault_of line (whole_line cause)) }
-{
-    TraceError::Refused(TraceFault {
-        line,
-        word: None,
-        cause,
-    })
-}
-
-// Why a report is not read, if that line of it is not.
-fn at_line(line: u64, e: LineError) -> TraceError
-    ensures { result ≡ at_line_lem line e }
-{
-    match e {
-        LineError::Refused(fault) => TraceError::Refused(TraceFault {
-            line,
-            word: fault.word,
-            cause: fault.cause,
-        }),
-        LineError::Memory => TraceError::Memory,
-    }
 }
 
 // Why a report is not read, given why its trace is not: the trace begins one line later.

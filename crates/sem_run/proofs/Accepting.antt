@@ -18,7 +18,8 @@ use Rattle.sem_report.specs.declared.verdict.Verdict.TheVariants.{Accepted, BadL
 use Rattle.sem_report.specs.WholeLines.{whole_lines}
 use Rattle.sem_report.specs.Audited.{audited, differing_line}
 use Rattle.sem_trace.specs.Forms.{whole_line}
-use Rattle.sem_report.specs.ReportRefusal.{fault_of, first_difference, report_refusal}
+use Rattle.sem_trace.specs.LineErrors.{fault_of}
+use Rattle.sem_report.specs.ReportRefusal.{first_difference, report_refusal}
 use Rattle.sem_report.specs.ReportRanges.{ReportFits}
 use Rattle.sem_report.proofs.PrintedReport.{same_lines}
 use Rattle.sem_audit.specs.HeldKeys.{held, report, IsAuditOf}

@@ -8,7 +8,8 @@ use Rattle.sem_report.specs.declared.verdict.Verdict.{Verdict}
 use Rattle.sem_report.specs.declared.verdict.Verdict.TheVariants.{Accepted, BadLine, BadEntry, NotOver, BadAudit}
 use Rattle.sem_report.specs.Audited.{differing_line}
 use Rattle.sem_trace.specs.Forms.{whole_line}
-use Rattle.sem_report.specs.ReportRefusal.{fault_of, report_refusal}
+use Rattle.sem_trace.specs.LineErrors.{fault_of}
+use Rattle.sem_report.specs.ReportRefusal.{report_refusal}
 use Rattle.sem_report.specs.ReportRanges.{ReportFits}
 use Rattle.sem_audit.specs.HeldKeys.{report, IsAuditOf}
 use Rattle.sem_check.specs.Replays.{DiffersAt}

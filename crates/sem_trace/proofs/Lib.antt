@@ -3,6 +3,7 @@ pub mod TraceExamples
 pub mod FirstParts
 pub mod PlaceSteps
 pub mod WordReads
-pub mod CallLine
 pub mod PrintedNumbers
 pub mod Nodes
+pub mod CallRows
+pub mod LineRows

@@ -13,12 +13,11 @@ use Rattle.sem_trace.specs.declared.fault.Cause.{Cause}
 use Rattle.sem_trace.specs.declared.fault.Cause.TheVariants.{Missing, UnknownWord, BadNumber, OutOfRange}
 use Rattle.sem_trace.specs.Forms.{Place, place_fault, form_fault, word_fault, word_at, parts_of, are_numbers, are_within, is_between}
 use Rattle.sem_trace.specs.Forms.Place.{Word, Number, Dotted}
-use Rattle.sem_trace.specs.Places.{number_place, left_at, placed}
+use Rattle.sem_trace.specs.Places.{left_at, placed, CanStand, CanStandIn}
 use Rattle.std.proofs.Common.{not, subst, if◌then◌else◌}
 use Rattle.std.proofs.lemmas.Option.{none-some, same_Some}
 use Rattle.std.specs.List.{list_any}
 use Rattle.sem_text.specs.Number.{is_number}
-use Rattle.sem_trace.specs.declared.forms.Range.{Range}
 
 -- no place is filled where there is no word
 pub no_place : (places : List Place) (place : Place) (all : List (List ℕ)) → all ≡ [] → form_fault (place ∷ places) all ≡ Some (Missing, 0)
@@ -83,13 +82,25 @@ pub if_missing : {X : Type 0} (o : Option X) (N : Type 0) (P : X → Type 0) (Q 
 if_missing None N P Q found then' = then' found
 if_missing (Some x) N P Q found then' = tt
 
--- one number more: the places behind it are those of one range less
-pub more_places : (ranges : List Range) (i : ℕ) (d : Range) (places : List Place) (words rest : List (List ℕ)) → i < length ranges →
-    ((more : List Place) → form_fault (number_place (get_or ranges i d) ∷ more) words ≡ form_fault more rest) →
-    form_fault (map number_place (drop i ranges) ++ places) words ≡ form_fault (map number_place (drop (i + 1) ranges) ++ places) rest
-more_places ranges i d places words rest within step =
+-- one place more: those behind it are those of one element less
+pub more_places : {X : Type 0} (place : X → Place) (xs : List X) (i : ℕ) (d : X) (places : List Place) (words rest : List (List ℕ)) → i < length xs →
+    ((more : List Place) → form_fault (place (get_or xs i d) ∷ more) words ≡ form_fault more rest) →
+    form_fault (map place (drop i xs) ++ places) words ≡ form_fault (map place (drop (i + 1) xs) ++ places) rest
+more_places place xs i d places words rest within step =
     let next : i + 1 ≡ suc i = add-one i in
-    rw (next, drop-cons ranges i d within) (step (map number_place (drop (suc i) ranges) ++ places))
+    rw (next, drop-cons xs i d within) (step (map place (drop (suc i) xs) ++ places))
+
+-- a fault at one place is that of the places from it on
+pub more_failed : {X : Type 0} (place : X → Place) (xs : List X) (i : ℕ) (d : X) (places : List Place) (words : List (List ℕ)) (fault : Cause × ℕ) → i < length xs →
+    ((more : List Place) → form_fault (place (get_or xs i d) ∷ more) words ≡ Some fault) → form_fault (map place (drop i xs) ++ places) words ≡ Some fault
+more_failed place xs i d places words fault within failed = rw (drop-cons xs i d within) (failed (map place (drop (suc i) xs) ++ places))
+
+-- numbers of which each can stand in its place
+pub can_stand_in : {X : Type 0} (place : X → Place) (xs : List X) (d : X) (ns : List ℕ) →
+    ((i : ℕ) → i < length xs → CanStand (place (get_or xs i d)) (get_or ns i 0)) → CanStandIn (map place xs) ns
+can_stand_in place [] d ns each = tt
+can_stand_in place (x ∷ xs) d [] each = tt
+can_stand_in place (x ∷ xs) d (n ∷ ns) each = (each 0 (omega arith), can_stand_in place xs d ns (λ i within. each (suc i) (omega arith)))
 
 -- what holds of the numbers so far and of one more holds of all these
 pub more_all : (values : List ℕ) (i v : ℕ) (P : ℕ → ℕ → Type 0) → i < length values → ((k : ℕ) → k < i → P k (get_or values k 0)) → P i v → (k : ℕ) →
@@ -99,6 +110,12 @@ more_all values i v P within so_far here k below =
       | inl same ↦ rw (same, get_or-set_same values i v 0 within) here
       | inr other ↦ rw (get_or-set_other values i k v 0 other) (so_far k (omega arith))
     ]
+
+-- what holds at each place so far and at one more holds at all these
+pub more_stand : {X : Type 0} (place : X → Place) (xs : List X) (d : X) (values : List ℕ) (i v : ℕ) → i < length values →
+    ((k : ℕ) → k < i → CanStand (place (get_or xs k d)) (get_or values k 0)) → CanStand (place (get_or xs i d)) v → (k : ℕ) → k < i + 1 →
+    CanStand (place (get_or xs k d)) (get_or (set values i v) k 0)
+more_stand place xs d values i v within so_far here = more_all values i v (λ k n. CanStand (place (get_or xs k d)) n) within so_far here
 
 -- a word that a test did not find
 pub differs : (word name : List ℕ) → Decides false (word ≡ name) → bytes_eq word name ≡ false

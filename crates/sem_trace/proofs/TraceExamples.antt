@@ -10,7 +10,7 @@ use Rattle.sem_trace.specs.declared.fault.Cause.{Cause}
 use Rattle.sem_trace.specs.declared.fault.Cause.TheVariants.{NotText, UnknownWord, BadNumber, OutOfRange, Twice, Undeclared, Missing, TooMany}
 use Rattle.sem_trace.specs.declared.fault.TraceFault.{TraceFault}
 use Rattle.sem_trace.specs.TextLines.{lines_of, words_of, bytes_fault}
-use Rattle.sem_trace.specs.Forms.{form_fault, word_fault, objects, calls, lines, first_form, second_form, third_form, form}
+use Rattle.sem_trace.specs.Forms.{form_fault, word_fault, root_objects, calls, lines, first_form, second_form, third_form, form}
 use Rattle.sem_trace.specs.Declarations.{call_from, root_from, declaration}
 use Rattle.sem_trace.specs.Earlier.{window_in, owner_in, pe_in, is_taken, roots_in, calls_in, vpe_in, has_service, offer_in, is_denied, kill_in, call_number}
 use Rattle.sem_trace.specs.Earlier.{is_ended}
@@ -38,7 +38,7 @@ whole line cause = Some (record { line = line; word = None; cause = cause })
 
 -- a number with a leading zero is no number
 leading_zero : refusal (trace (codes "root 0 0 mem 0 4096 07" ∷ codes "end" ∷ [])) ≡ refused 5 6 BadNumber
-unfolding refusal word_fault lines_of words_of bytes_fault form_fault objects calls lines first_form second_form third_form form call_from root_from
+unfolding refusal word_fault lines_of words_of bytes_fault form_fault root_objects calls lines first_form second_form third_form form call_from root_from
     declaration window_in owner_in pe_in is_taken roots_in calls_in vpe_in has_service offer_in is_denied kill_in call_number is_ended context_fault
     body_fault words_fault line_fault
     numbers fault_at first_fault version_of kernels_of declarations_of end_fault
@@ -46,7 +46,7 @@ leading_zero = refl
 
 -- the lines that say nothing are counted
 no_end : refusal (trace (codes "# nothing" ∷ [] ∷ [])) ≡ whole 7 Missing
-unfolding refusal word_fault lines_of words_of bytes_fault form_fault objects calls lines first_form second_form third_form form call_from root_from
+unfolding refusal word_fault lines_of words_of bytes_fault form_fault root_objects calls lines first_form second_form third_form form call_from root_from
     declaration window_in owner_in pe_in is_taken roots_in calls_in vpe_in has_service offer_in is_denied kill_in call_number is_ended context_fault
     body_fault words_fault line_fault
     numbers fault_at first_fault version_of kernels_of declarations_of end_fault
@@ -54,7 +54,7 @@ no_end = refl
 
 -- that something is undeclared is told before that it comes twice
 undeclared_first : refusal (trace (codes "vpe 0 5" ∷ codes "end" ∷ [])) ≡ refused 5 2 Undeclared
-unfolding refusal word_fault lines_of words_of bytes_fault form_fault objects calls lines first_form second_form third_form form call_from root_from
+unfolding refusal word_fault lines_of words_of bytes_fault form_fault root_objects calls lines first_form second_form third_form form call_from root_from
     declaration window_in owner_in pe_in is_taken roots_in calls_in vpe_in has_service offer_in is_denied kill_in call_number is_ended context_fault
     body_fault words_fault line_fault
     numbers fault_at first_fault version_of kernels_of declarations_of end_fault
@@ -62,7 +62,7 @@ undeclared_first = refl
 
 -- a service and a root share the selectors
 twice : refusal (trace (codes "root 0 2 recv 1" ∷ codes "service 0 2 1" ∷ codes "end" ∷ [])) ≡ refused 6 2 Twice
-unfolding refusal word_fault lines_of words_of bytes_fault form_fault objects calls lines first_form second_form third_form form call_from root_from
+unfolding refusal word_fault lines_of words_of bytes_fault form_fault root_objects calls lines first_form second_form third_form form call_from root_from
     declaration window_in owner_in pe_in is_taken roots_in calls_in vpe_in has_service offer_in is_denied kill_in call_number is_ended context_fault
     body_fault words_fault line_fault
     numbers fault_at first_fault version_of kernels_of declarations_of end_fault
@@ -70,7 +70,7 @@ twice = refl
 
 -- memory ends at 2 ^ 32 at most, and that is told before that the VPE is undeclared
 too_far : refusal (trace (codes "root 1 0 mem 4294967295 2 7" ∷ codes "end" ∷ [])) ≡ refused 5 5 OutOfRange
-unfolding refusal word_fault lines_of words_of bytes_fault form_fault objects calls lines first_form second_form third_form form call_from root_from
+unfolding refusal word_fault lines_of words_of bytes_fault form_fault root_objects calls lines first_form second_form third_form form call_from root_from
     declaration window_in owner_in pe_in is_taken roots_in calls_in vpe_in has_service offer_in is_denied kill_in call_number is_ended context_fault
     body_fault words_fault line_fault
     numbers fault_at first_fault version_of kernels_of declarations_of end_fault
@@ -78,7 +78,7 @@ too_far = refl
 
 -- the leftmost fault is told
 leftmost : refusal (trace (codes "root 99 0 mem" ∷ codes "end" ∷ [])) ≡ refused 5 1 OutOfRange
-unfolding refusal word_fault lines_of words_of bytes_fault form_fault objects calls lines first_form second_form third_form form call_from root_from
+unfolding refusal word_fault lines_of words_of bytes_fault form_fault root_objects calls lines first_form second_form third_form form call_from root_from
     declaration window_in owner_in pe_in is_taken roots_in calls_in vpe_in has_service offer_in is_denied kill_in call_number is_ended context_fault
     body_fault words_fault line_fault
     numbers fault_at first_fault version_of kernels_of declarations_of end_fault
@@ -86,7 +86,7 @@ leftmost = refl
 
 -- a word that is missing stands after all words
 missing : refusal (trace (codes "root 0 0 mem 1" ∷ codes "end" ∷ [])) ≡ refused 5 5 Missing
-unfolding refusal word_fault lines_of words_of bytes_fault form_fault objects calls lines first_form second_form third_form form call_from root_from
+unfolding refusal word_fault lines_of words_of bytes_fault form_fault root_objects calls lines first_form second_form third_form form call_from root_from
     declaration window_in owner_in pe_in is_taken roots_in calls_in vpe_in has_service offer_in is_denied kill_in call_number is_ended context_fault
     body_fault words_fault line_fault
     numbers fault_at first_fault version_of kernels_of declarations_of end_fault
@@ -94,7 +94,7 @@ missing = refl
 
 -- a word more is told after the places
 too_many : refusal (trace (codes "call 0 exit 0" ∷ codes "end" ∷ [])) ≡ refused 5 3 TooMany
-unfolding refusal word_fault lines_of words_of bytes_fault form_fault objects calls lines first_form second_form third_form form call_from root_from
+unfolding refusal word_fault lines_of words_of bytes_fault form_fault root_objects calls lines first_form second_form third_form form call_from root_from
     declaration window_in owner_in pe_in is_taken roots_in calls_in vpe_in has_service offer_in is_denied kill_in call_number is_ended context_fault
     body_fault words_fault line_fault
     numbers fault_at first_fault version_of kernels_of declarations_of end_fault
@@ -102,7 +102,7 @@ too_many = refl
 
 -- a call that there is not
 unknown : refusal (trace (codes "call 0 derived 0" ∷ codes "end" ∷ [])) ≡ refused 5 2 UnknownWord
-unfolding refusal word_fault lines_of words_of bytes_fault form_fault objects calls lines first_form second_form third_form form call_from root_from
+unfolding refusal word_fault lines_of words_of bytes_fault form_fault root_objects calls lines first_form second_form third_form form call_from root_from
     declaration window_in owner_in pe_in is_taken roots_in calls_in vpe_in has_service offer_in is_denied kill_in call_number is_ended context_fault
     body_fault words_fault line_fault
     numbers fault_at first_fault version_of kernels_of declarations_of end_fault
@@ -110,7 +110,7 @@ unknown = refl
 
 -- the second line that says something says how many kernels there are
 second : refusal (ended_lines (codes "semper trace 1" ∷ codes "end" ∷ [])) ≡ refused 2 0 UnknownWord
-unfolding refusal word_fault lines_of words_of bytes_fault form_fault objects calls lines first_form second_form third_form form call_from root_from
+unfolding refusal word_fault lines_of words_of bytes_fault form_fault root_objects calls lines first_form second_form third_form form call_from root_from
     declaration window_in owner_in pe_in is_taken roots_in calls_in vpe_in has_service offer_in is_denied kill_in call_number is_ended context_fault
     body_fault words_fault line_fault
     numbers fault_at first_fault version_of kernels_of declarations_of end_fault
@@ -118,7 +118,7 @@ second = refl
 
 -- nothing is said behind the last line
 behind_end : refusal (trace (codes "end" ∷ codes "# nothing" ∷ codes "kernels" ∷ [])) ≡ whole 7 TooMany
-unfolding refusal word_fault lines_of words_of bytes_fault form_fault objects calls lines first_form second_form third_form form call_from root_from
+unfolding refusal word_fault lines_of words_of bytes_fault form_fault root_objects calls lines first_form second_form third_form form call_from root_from
     declaration window_in owner_in pe_in is_taken roots_in calls_in vpe_in has_service offer_in is_denied kill_in call_number is_ended context_fault
     body_fault words_fault line_fault
     numbers fault_at first_fault version_of kernels_of declarations_of end_fault
@@ -126,7 +126,7 @@ behind_end = refl
 
 -- the bytes of a comment are tested
 bytes_first : refusal (trace ((codes "#" ++ 13 ∷ []) ∷ codes "end" ∷ [])) ≡ whole 5 NotText
-unfolding refusal word_fault lines_of words_of bytes_fault form_fault objects calls lines first_form second_form third_form form call_from root_from
+unfolding refusal word_fault lines_of words_of bytes_fault form_fault root_objects calls lines first_form second_form third_form form call_from root_from
     declaration window_in owner_in pe_in is_taken roots_in calls_in vpe_in has_service offer_in is_denied kill_in call_number is_ended context_fault
     body_fault words_fault line_fault
     numbers fault_at first_fault version_of kernels_of declarations_of end_fault
@@ -157,7 +157,7 @@ declared = record {
 }
 
 stands : Stands small declared
-unfolding refusal word_fault lines_of words_of bytes_fault form_fault objects calls lines first_form second_form third_form form call_from root_from
+unfolding refusal word_fault lines_of words_of bytes_fault form_fault root_objects calls lines first_form second_form third_form form call_from root_from
     declaration window_in owner_in pe_in is_taken roots_in calls_in vpe_in has_service offer_in is_denied kill_in call_number is_ended context_fault
     body_fault words_fault line_fault
     numbers fault_at first_fault version_of kernels_of declarations_of end_fault vpes_of services_of offers_of denies_of kills_of setup_of services_from

@@ -132,8 +132,8 @@ abbrev pub key_place : ℕ → Place
 key_place version = Dotted ((0, most_vpes version - 1) ∷ (0, most_vpes version - 1) ∷ (0, NUMBERS - 1) ∷ [])
 
 -- the objects that a line `root` declares
-unfoldable pub objects : Table
-objects =
+unfoldable pub root_objects : Table
+root_objects =
     (codes "mem", word ∷ word ∷ rights ∷ [])
     ∷ (codes "recv", slots ∷ [])
     ∷ []
@@ -166,7 +166,7 @@ lines version kernels words =
     (codes "kernels", kernel_count version ∷ [])
     ∷ (codes "pe", node version ∷ up_to (kernels - 1) ∷ [])
     ∷ (codes "vpe", node version ∷ node version ∷ [])
-    ∷ (codes "root", node version ∷ byte ∷ choice objects (word_at words 3))
+    ∷ (codes "root", node version ∷ byte ∷ choice root_objects (word_at words 3))
     ∷ (codes "service", node version ∷ byte ∷ byte ∷ [])
     ∷ (codes "offer", byte ∷ byte ∷ byte ∷ [])
     ∷ (codes "deny", node version ∷ node version ∷ [])

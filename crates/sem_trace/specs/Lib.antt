@@ -10,3 +10,9 @@ pub mod Earlier
 pub mod Context
 pub mod Refusal
 pub mod Standing
+pub mod Slots
+pub mod MessageForms
+pub mod CallForms
+pub mod LineForms
+pub mod Causes
+pub mod LineErrors

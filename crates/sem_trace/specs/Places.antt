@@ -1,12 +1,12 @@
 -- Ranges of numbers as places of a line, and what a reader of places promises.
-use Rattle.std.specs.Prelude.{◌≡◌, ℕ, suc, ◌-◌, ◌<◌, ◌≤◌, List, ◌++◌, Option, Some, None, length, slice_index}
+use Rattle.std.specs.Prelude.{◌≡◌, ℕ, suc, ◌-◌, ◌<◌, ◌≤◌, List, [], ◌∷◌, ◌++◌, Option, Some, None, length, slice_index}
 use Rattle.std.specs.Prelude.{slice_index_or, Result, Ok, Err, MatchResult}
 use Rattle.sem_trace.specs.declared.forms.Range.{Range}
 use Rattle.sem_trace.specs.declared.fault.Cause.{Cause}
 use Rattle.sem_trace.specs.declared.fault.Cause.TheVariants.{Missing}
 use Rattle.sem_trace.specs.declared.fault.LineFault.{LineFault}
 use Rattle.sem_trace.specs.Forms.{Place, form_fault, at_word}
-use Rattle.sem_trace.specs.Forms.Place.{Number}
+use Rattle.sem_trace.specs.Forms.Place.{Word, Number, Dotted}
 use Rattle.sem_trace.specs.Declarations.{number_at}
 
 abbrev pub number_place : Range → Place
@@ -32,6 +32,22 @@ pub record AreNumbers (ranges : List Range) (words : List (List ℕ)) (numbers :
   pub values : (i : ℕ) → i < length ranges → slice_index numbers i ≡ number_at words i
   pub least : (i : ℕ) → i < length ranges → least_at ranges i ≤ slice_index numbers i
   pub most : (i : ℕ) → i < length ranges → slice_index numbers i ≤ most_at ranges i
+
+-- the number can stand in the place
+abbrev pub CanStand : Place → ℕ → Type 0
+CanStand (Number least most) n = (least ≤ n) × (n ≤ most)
+CanStand (Word names) n = Unit {0}
+CanStand (Dotted ranges) n = Unit {0}
+
+-- each of the first numbers can stand in its place
+abbrev pub CanStandIn : List Place → List ℕ → Type 0
+CanStandIn [] ns = Unit {0}
+CanStandIn (place ∷ places) [] = Unit {0}
+CanStandIn (place ∷ places) (n ∷ ns) = CanStand place n × CanStandIn places ns
+
+-- the first numbers are those of the first words
+abbrev pub AreOf : ℕ → List (List ℕ) → List ℕ → Type 0
+AreOf count words numbers = (i : ℕ) → i < count → slice_index numbers i ≡ number_at words i
 
 -- the least and the greatest number of a range
 abbrev pub bounds : Range → ℕ × ℕ

@@ -1,12 +1,15 @@
 // The call of a line, from its name on.
-#![tactic(auto, unfolding(crate::specs::Forms::form_fault, crate::specs::Forms::calls, crate::specs::Declarations::call_from))]
-
-ghost use Rattle.std.specs.Prelude.{ℕ, ◌∷◌, codes};
+ghost use Rattle.std.specs.Prelude.{◌≡◌, ℕ, Some, map, IfOk, IfErr};
+ghost use Rattle.sem_trace.specs.Forms.{calls, place_fault};
+ghost use Rattle.sem_trace.specs.Forms.Place.{Word};
+ghost use Rattle.sem_trace.specs.CallForms.{IsRow, call_row, call_with};
+ghost use Rattle.sem_trace.specs.Places.{CanStandIn};
 ghost use Rattle.sem_trace.specs.Readers.{ReadsCall};
 
+use crate::call_forms::{CallForm, CallKind};
 use crate::cursor::Words;
 use crate::fault::Cause;
-use crate::forms::{BYTE, ENDPOINT, RIGHTS, SLOTS, WORD, is, node};
+use crate::forms::is;
 use sem_msg::Call;
 
 impl Words<'_> {
@@ -15,177 +18,171 @@ impl Words<'_> {
         ensures { ReadsCall version self.old self.new result }
     {
         let name = self.word()?;
-        if is(name, b"derive") {
-            derive(self)
-        } else if is(name, b"gate") {
-            gate(self)
-        } else if is(name, b"obtain") {
-            obtain(self, version)
-        } else if is(name, b"delegate") {
-            delegate(self, version)
-        } else if is(name, b"open") {
-            open_session(self)
-        } else if is(name, b"ask") {
-            ask_offer(self)
-        } else if is(name, b"revoke") {
-            revoke(self)
-        } else if is(name, b"bind") {
-            bind(self)
-        } else if is(name, b"read") {
-            read(self)
-        } else if is(name, b"write") {
-            write(self)
-        } else if is(name, b"send") {
-            send(self)
-        } else if is(name, b"credit") {
-            credit(self)
-        } else if is(name, b"exit") {
-            Ok(Call::Exit)
-        } else if is(name, b"clear") {
-            clear(self)
-        } else {
-            Err(Cause::UnknownWord)
-        }
+        let form = named(name)?;
+        let numbers = self.slot_numbers(form.slots, version, 1)?;
+        Ok(call_of(form.kind, numbers))
     }
 }
 
-fn derive(words: &mut Words<'_>) -> Result<Call, Cause>
-    ensures { (version : ℕ) → ReadsCall version (codes "derive" ∷ words.old) words.new result }
+// The form of the calls of that name.
+#[inline]
+fn named(name: &[u8]) -> Result<&'static CallForm, Cause>
+    ensures name { IfOk result (λ form. name.now ≡ form.now.name.now) }
+    ensures row { IfOk result (λ form. IsRow form.now) }
+    ensures fault { IfErr result (λ cause. (version : ℕ) →
+        place_fault (Word (map (λ row. row.0) (calls version))) name.now ≡ Some cause) }
 {
-    let [src, dst, off, len, rights] = words.numbers(&[BYTE, BYTE, WORD, WORD, RIGHTS])?;
-    let call = Call::Derive {
-        src: src as u8,
-        dst: dst as u8,
-        off: off as u32,
-        len: len as u32,
-        rights: rights as u8,
-    };
-    Ok(call)
+    let forms = CallForm::all();
+    for form in forms {
+        if is(name, form.name) {
+            return Ok(form);
+        }
+    }
+    Err(Cause::UnknownWord)
 }
 
-fn gate(words: &mut Words<'_>) -> Result<Call, Cause>
-    ensures { (version : ℕ) → ReadsCall version (codes "gate" ∷ words.old) words.new result }
+// The call of that kind with these numbers.
+#[inline]
+#[tactic(auto, using(crate::proofs::Nodes::few_vpes), unfolding(crate::specs::Forms::calls))]
+fn call_of(kind: CallKind, numbers: [u64; 5]) -> Call
+    requires { (version : ℕ) × CanStandIn (call_row version kind).1 numbers }
+    ensures { result ≡ call_with kind numbers }
 {
-    let [src, dst, label, credits, ..] = words.numbers(&[BYTE, BYTE, WORD, SLOTS])?;
-    let call = Call::Gate {
-        src: src as u8,
-        dst: dst as u8,
-        label: label as u32,
-        credits: credits as u8,
-    };
-    Ok(call)
+    let [first, second, third, fourth, fifth] = numbers;
+    match kind {
+        CallKind::Derive => Call::Derive {
+            src: first as u8,
+            dst: second as u8,
+            off: third as u32,
+            len: fourth as u32,
+            rights: fifth as u8,
+        },
+        CallKind::Gate => Call::Gate {
+            src: first as u8,
+            dst: second as u8,
+            label: third as u32,
+            credits: fourth as u8,
+        },
+        CallKind::Obtain => Call::Obtain {
+            dst: first as u8,
+            vpe: second as u16,
+            src: third as u8,
+        },
+        CallKind::Delegate => Call::Delegate {
+            src: first as u8,
+            vpe: second as u16,
+            dst: third as u8,
+        },
+        CallKind::OpenSession => Call::OpenSession {
+            dst: first as u8,
+            name: second as u8,
+        },
+        CallKind::AskOffer => Call::AskOffer {
+            dst: first as u8,
+            session: second as u8,
+            index: third as u8,
+        },
+        CallKind::Revoke => Call::Revoke { src: first as u8 },
+        CallKind::Bind => Call::Bind {
+            ep: first as u8,
+            src: second as u8,
+        },
+        CallKind::Read => Call::Read {
+            ep: first as u8,
+            off: second as u32,
+            len: third as u32,
+        },
+        CallKind::Write => Call::Write {
+            ep: first as u8,
+            off: second as u32,
+            len: third as u32,
+        },
+        CallKind::Send => Call::Send {
+            ep: first as u8,
+            len: second as u32,
+        },
+        CallKind::Credit => Call::Credit { ep: first as u8 },
+        CallKind::Exit => Call::Exit,
+        CallKind::Clear => Call::Clear { src: first as u8 },
+    }
 }
 
-fn obtain(words: &mut Words<'_>, version: u8) -> Result<Call, Cause>
-    ensures { ReadsCall version (codes "obtain" ∷ words.old) words.new result }
+/// The kind of the call, and its numbers with zeros behind them.
+#[inline]
+pub fn numbers_of(call: &Call) -> (CallKind, [u64; 5])
+    ensures { call.now ≡ call_with result.0 result.1 }
 {
-    let [dst, vpe, src, ..] = words.numbers(&[BYTE, node(version), BYTE])?;
-    let call = Call::Obtain {
-        dst: dst as u8,
-        vpe: vpe as u16,
-        src: src as u8,
-    };
-    Ok(call)
-}
-
-fn delegate(words: &mut Words<'_>, version: u8) -> Result<Call, Cause>
-    ensures { ReadsCall version (codes "delegate" ∷ words.old) words.new result }
-{
-    let [src, vpe, dst, ..] = words.numbers(&[BYTE, node(version), BYTE])?;
-    let call = Call::Delegate {
-        src: src as u8,
-        vpe: vpe as u16,
-        dst: dst as u8,
-    };
-    Ok(call)
-}
-
-fn open_session(words: &mut Words<'_>) -> Result<Call, Cause>
-    ensures { (version : ℕ) → ReadsCall version (codes "open" ∷ words.old) words.new result }
-{
-    let [dst, name, ..] = words.numbers(&[BYTE, BYTE])?;
-    let call = Call::OpenSession {
-        dst: dst as u8,
-        name: name as u8,
-    };
-    Ok(call)
-}
-
-fn ask_offer(words: &mut Words<'_>) -> Result<Call, Cause>
-    ensures { (version : ℕ) → ReadsCall version (codes "ask" ∷ words.old) words.new result }
-{
-    let [dst, session, index, ..] = words.numbers(&[BYTE, BYTE, BYTE])?;
-    let call = Call::AskOffer {
-        dst: dst as u8,
-        session: session as u8,
-        index: index as u8,
-    };
-    Ok(call)
-}
-
-fn revoke(words: &mut Words<'_>) -> Result<Call, Cause>
-    ensures { (version : ℕ) → ReadsCall version (codes "revoke" ∷ words.old) words.new result }
-{
-    let [src, ..] = words.numbers(&[BYTE])?;
-    Ok(Call::Revoke { src: src as u8 })
-}
-
-fn bind(words: &mut Words<'_>) -> Result<Call, Cause>
-    ensures { (version : ℕ) → ReadsCall version (codes "bind" ∷ words.old) words.new result }
-{
-    let [ep, src, ..] = words.numbers(&[ENDPOINT, BYTE])?;
-    let call = Call::Bind {
-        ep: ep as u8,
-        src: src as u8,
-    };
-    Ok(call)
-}
-
-fn read(words: &mut Words<'_>) -> Result<Call, Cause>
-    ensures { (version : ℕ) → ReadsCall version (codes "read" ∷ words.old) words.new result }
-{
-    let [ep, off, len, ..] = words.numbers(&[ENDPOINT, WORD, WORD])?;
-    let call = Call::Read {
-        ep: ep as u8,
-        off: off as u32,
-        len: len as u32,
-    };
-    Ok(call)
-}
-
-fn write(words: &mut Words<'_>) -> Result<Call, Cause>
-    ensures { (version : ℕ) → ReadsCall version (codes "write" ∷ words.old) words.new result }
-{
-    let [ep, off, len, ..] = words.numbers(&[ENDPOINT, WORD, WORD])?;
-    let call = Call::Write {
-        ep: ep as u8,
-        off: off as u32,
-        len: len as u32,
-    };
-    Ok(call)
-}
-
-fn send(words: &mut Words<'_>) -> Result<Call, Cause>
-    ensures { (version : ℕ) → ReadsCall version (codes "send" ∷ words.old) words.new result }
-{
-    let [ep, len, ..] = words.numbers(&[ENDPOINT, WORD])?;
-    let call = Call::Send {
-        ep: ep as u8,
-        len: len as u32,
-    };
-    Ok(call)
-}
-
-fn credit(words: &mut Words<'_>) -> Result<Call, Cause>
-    ensures { (version : ℕ) → ReadsCall version (codes "credit" ∷ words.old) words.new result }
-{
-    let [ep, ..] = words.numbers(&[ENDPOINT])?;
-    Ok(Call::Credit { ep: ep as u8 })
-}
-
-fn clear(words: &mut Words<'_>) -> Result<Call, Cause>
-    ensures { (version : ℕ) → ReadsCall version (codes "clear" ∷ words.old) words.new result }
-{
-    let [src, ..] = words.numbers(&[BYTE])?;
-    Ok(Call::Clear { src: src as u8 })
+    match call {
+        Call::Derive {
+            src,
+            dst,
+            off,
+            len,
+            rights,
+        } => {
+            let numbers = [
+                u64::from(*src),
+                u64::from(*dst),
+                u64::from(*off),
+                u64::from(*len),
+                u64::from(*rights),
+            ];
+            (CallKind::Derive, numbers)
+        }
+        Call::Gate {
+            src,
+            dst,
+            label,
+            credits,
+        } => {
+            let numbers = [
+                u64::from(*src),
+                u64::from(*dst),
+                u64::from(*label),
+                u64::from(*credits),
+                0,
+            ];
+            (CallKind::Gate, numbers)
+        }
+        Call::Obtain { dst, vpe, src } => {
+            let numbers = [u64::from(*dst), u64::from(*vpe), u64::from(*src), 0, 0];
+            (CallKind::Obtain, numbers)
+        }
+        Call::Delegate { src, vpe, dst } => {
+            let numbers = [u64::from(*src), u64::from(*vpe), u64::from(*dst), 0, 0];
+            (CallKind::Delegate, numbers)
+        }
+        Call::OpenSession { dst, name } => {
+            let numbers = [u64::from(*dst), u64::from(*name), 0, 0, 0];
+            (CallKind::OpenSession, numbers)
+        }
+        Call::AskOffer {
+            dst,
+            session,
+            index,
+        } => {
+            let numbers = [
+                u64::from(*dst),
+                u64::from(*session),
+                u64::from(*index),
+                0,
+                0,
+            ];
+            (CallKind::AskOffer, numbers)
+        }
+        Call::Revoke { src } => (CallKind::Revoke, [u64::from(*src), 0, 0, 0, 0]),
+        Call::Bind { ep, src } => (CallKind::Bind, [u64::from(*ep), u64::from(*src), 0, 0, 0]),
+        Call::Read { ep, off, len } => {
+            let numbers = [u64::from(*ep), u64::from(*off), u64::from(*len), 0, 0];
+            (CallKind::Read, numbers)
+        }
+        Call::Write { ep, off, len } => {
+            let numbers = [u64::from(*ep), u64::from(*off), u64::from(*len), 0, 0];
+            (CallKind::Write, numbers)
+        }
+        Call::Send { ep, len } => (CallKind::Send, [u64::from(*ep), u64::from(*len), 0, 0, 0]),
+        Call::Credit { ep } => (CallKind::Credit, [u64::from(*ep), 0, 0, 0, 0]),
+        Call::Exit => (CallKind::Exit, [0; 5]),
+        Call::Clear { src } => (CallKind::Clear, [u64::from(*src), 0, 0, 0, 0]),
+    }
 }

@@ -1,26 +1,31 @@
 // What a line says, from its first word on.
-#![tactic(auto, unfolding(crate::specs::Forms::form_fault, crate::specs::Forms::form, crate::specs::Forms::lines, crate::specs::Declarations::declaration))]
+#![tactic(auto, unfolding(crate::specs::Forms::form_fault, crate::specs::Declarations::declaration))]
 
-ghost use Rattle.std.specs.Prelude.{◌≡◌, ℕ, ◌<◌, ◌≤◌, ◌⊎◌, ◌∷◌, [], codes, decimal, IfOk};
+ghost use Rattle.std.specs.Prelude.{◌≡◌, ℕ, ◌<◌, ◌≤◌, ◌⊎◌, ◌∷◌, [], List, map, Some, codes};
+ghost use Rattle.std.specs.Prelude.{decimal, IfOk, IfErr};
 ghost use Rattle.std.specs.Result.{result_err};
-ghost use Rattle.sem_trace.specs.declared.declaration.Declaration.TheVariants.{Memory, Receive};
 ghost use Rattle.sem_key.specs.declared.limits.TheConstants.{VPES};
 ghost use Rattle.sem_msg.specs.Versions.{most_kernels};
+ghost use Rattle.sem_trace.specs.declared.declaration.Declaration.TheVariants.{Call as Calls};
 ghost use Rattle.sem_trace.specs.TextLines.{words_of};
-ghost use Rattle.sem_trace.specs.Forms.{form_fault, word_fault, first_form, second_form};
-ghost use Rattle.sem_trace.specs.Forms.{third_form, word};
-ghost use Rattle.sem_trace.specs.Forms.{rights as rights_lem, slots as slots_lem};
-ghost use Rattle.sem_trace.specs.Declarations.{number_at, declaration};
-ghost use Rattle.sem_trace.specs.Refusal.{version_in};
+ghost use Rattle.sem_trace.specs.Forms.{form_fault, place_fault, word_fault, first_form};
+ghost use Rattle.sem_trace.specs.Forms.{second_form, third_form, choice, root_objects, calls, lines, word_at};
 ghost use Rattle.sem_trace.specs.Forms.Place.{Word};
-ghost use Rattle.sem_trace.specs.Places.{Reads, told_fault};
+ghost use Rattle.sem_trace.specs.Declarations.{number_at, call_from, declaration};
+ghost use Rattle.sem_trace.specs.Refusal.{version_in};
+ghost use Rattle.sem_trace.specs.Places.{Reads, CanStandIn, told_fault};
 ghost use Rattle.sem_trace.specs.Ranges.{IsNode, IsInRange};
 ghost use Rattle.sem_trace.specs.Readers.{ReadsWords, ReadsLine, IsWindowLine};
+ghost use Rattle.sem_trace.specs.LineForms.{IsLineRow, IsRootRow, FitPlain, plain_with};
+ghost use Rattle.sem_trace.specs.LineForms.{root_row, root_with, root_of};
 
 use crate::cursor::Words;
 use crate::declaration::Declaration;
 use crate::fault::{Cause, LineFault};
-use crate::forms::{BYTE, RIGHTS, Range, SLOTS, WORD, is, kernel_count, node, window};
+use crate::forms::{is, kernel_count, window};
+use crate::line_forms::{
+    KERNELS_LINE, LineForm, LineKind, PlainKind, RootForm, RootKind, WINDOW_LINE,
+};
 
 impl Words<'_> {
     /// The next word, a version of the texts: 1 or 2.
@@ -74,7 +79,7 @@ fn second(words: &mut Words<'_>, version: u8) -> Result<u32, Cause>
     ensures least { IfOk result (λ kernels. 1 ≤ kernels) }
     ensures most { IfOk result (λ kernels. kernels ≤ most_kernels version) }
 {
-    words.fixed(b"kernels")?;
+    words.fixed(KERNELS_LINE.name)?;
     let [kernels, ..] = words.last_numbers(&[kernel_count(version)])?;
     Ok(kernels as u32)
 }
@@ -100,7 +105,7 @@ fn third(words: &mut Words<'_>, version: u8) -> Result<Declaration, Cause>
     ensures window { IfOk result IsWindowLine }
     ensures ranges { (kernels : ℕ) → IfOk result (IsInRange version kernels) }
 {
-    words.fixed(b"window")?;
+    words.fixed(WINDOW_LINE.name)?;
     let [window, ..] = words.last_numbers(&[window(version)])?;
     Ok(Declaration::Window {
         window: window as u32,
@@ -141,185 +146,157 @@ impl Words<'_> {
         ensures { ReadsWords version kernels self.old self.new result }
     {
         let name = self.word()?;
-        if is(name, b"kernels") {
-            kernels_line(self, version)
-        } else if is(name, b"pe") {
-            pe_line(self, version, kernels)
-        } else if is(name, b"vpe") {
-            vpe_line(self, version)
-        } else if is(name, b"root") {
-            root_line(self, version)
-        } else if is(name, b"service") {
-            service_line(self, version)
-        } else if is(name, b"offer") {
-            offer_line(self)
-        } else if is(name, b"deny") {
-            deny_line(self, version)
-        } else if is(name, b"kill") {
-            kill_line(self, version)
-        } else if is(name, b"call") {
-            call_line(self, version)
-        } else if is(name, b"end") {
-            end_line(self)
-        } else if is(name, b"window") {
-            window_line(self, version)
-        } else {
-            Err(Cause::UnknownWord)
+        let form = line_named(name, version)?;
+        let numbers = self.slot_numbers(form.slots, version, kernels)?;
+        match form.kind {
+            LineKind::Plain(kind) => self.plain(kind, numbers),
+            LineKind::Root => self.root(numbers[0] as u16, numbers[1] as u8),
+            LineKind::Call => self.last_call(numbers[0] as u16, version),
         }
     }
-}
 
-// Version 1 has no such line.
-fn window_line(words: &mut Words<'_>, version: u8) -> Result<Declaration, Cause>
-    ensures { (kernels : ℕ) → ReadsWords version kernels (codes "window" ∷ words.old) words.new result }
-{
-    if version == 1 {
-        return Err(Cause::UnknownWord);
+    // What a line of that kind with these numbers says, if no word is left.
+    fn plain(&mut self, kind: PlainKind, numbers: [u64; 5]) -> Result<Declaration, Cause>
+        requires { FitPlain kind numbers }
+        ensures fault { form_fault [] self.old ≡ told_fault result self.new }
+        ensures value { IfOk result (λ d. d ≡ plain_with kind numbers) }
+    {
+        self.no_more()?;
+        Ok(plain_of(kind, numbers))
     }
-    let [window, ..] = words.last_numbers(&[window(version)])?;
-    Ok(Declaration::Window {
-        window: window as u32,
-    })
-}
 
-fn kernels_line(words: &mut Words<'_>, version: u8) -> Result<Declaration, Cause>
-    ensures { (kernels : ℕ) → ReadsWords version kernels (codes "kernels" ∷ words.old) words.new result }
-{
-    let [kernels, ..] = words.last_numbers(&[kernel_count(version)])?;
-    Ok(Declaration::Kernels {
-        kernels: kernels as u32,
-    })
-}
+    // The last words, an object that the VPE holds at the selector.
+    fn root(&mut self, vpe: u16, sel: u8) -> Result<Declaration, Cause>
+        requires { vpe < VPES }
+        ensures fault { form_fault (choice root_objects (word_at self.old 0)) self.old
+            ≡ told_fault result self.new }
+        ensures value { IfOk result (λ d. d ≡ root_of vpe sel self.old) }
+        ensures ranges { (version kernels : ℕ) → IsNode version vpe →
+            IfOk result (IsInRange version kernels) }
+    {
+        let name = self.word()?;
+        let form = root_named(name)?;
+        let numbers = self.slot_numbers(form.slots, 1, 1)?;
+        self.no_more()?;
+        Ok(object_of(vpe, sel, form.kind, numbers))
+    }
 
-fn vpe_line(words: &mut Words<'_>, version: u8) -> Result<Declaration, Cause>
-    ensures { (kernels : ℕ) → ReadsWords version kernels (codes "vpe" ∷ words.old) words.new result }
-{
-    let [vpe, pe, ..] = words.last_numbers(&[node(version), node(version)])?;
-    Ok(Declaration::Vpe {
-        vpe: vpe as u16,
-        pe: pe as u8,
-    })
-}
-
-fn service_line(words: &mut Words<'_>, version: u8) -> Result<Declaration, Cause>
-    ensures { (kernels : ℕ) → ReadsWords version kernels (codes "service" ∷ words.old) words.new result }
-{
-    let [vpe, sel, name, ..] = words.last_numbers(&[node(version), BYTE, BYTE])?;
-    Ok(Declaration::Service {
-        vpe: vpe as u16,
-        sel: sel as u8,
-        name: name as u8,
-    })
-}
-
-fn offer_line(words: &mut Words<'_>) -> Result<Declaration, Cause>
-    ensures { (version kernels : ℕ) → ReadsWords version kernels (codes "offer" ∷ words.old) words.new result }
-{
-    let [name, index, sel, ..] = words.last_numbers(&[BYTE, BYTE, BYTE])?;
-    Ok(Declaration::Offer {
-        name: name as u8,
-        index: index as u8,
-        sel: sel as u8,
-    })
-}
-
-fn deny_line(words: &mut Words<'_>, version: u8) -> Result<Declaration, Cause>
-    ensures { (kernels : ℕ) → ReadsWords version kernels (codes "deny" ∷ words.old) words.new result }
-{
-    let [vpe, asker, ..] = words.last_numbers(&[node(version), node(version)])?;
-    Ok(Declaration::Deny {
-        vpe: vpe as u16,
-        asker: asker as u16,
-    })
-}
-
-fn kill_line(words: &mut Words<'_>, version: u8) -> Result<Declaration, Cause>
-    ensures { (kernels : ℕ) → ReadsWords version kernels (codes "kill" ∷ words.old) words.new result }
-{
-    let [vpe, replies, ..] = words.last_numbers(&[node(version), WORD])?;
-    Ok(Declaration::Kill {
-        vpe: vpe as u16,
-        replies,
-    })
-}
-
-fn pe_line(words: &mut Words<'_>, version: u8, kernels: u32) -> Result<Declaration, Cause>
-    requires { 1 ≤ kernels }
-    ensures { ReadsWords version kernels (codes "pe" ∷ words.old) words.new result }
-{
-    let last = Range {
-        least: 0,
-        most: u64::from(kernels) - 1,
-    };
-    let [pe, kernel, ..] = words.last_numbers(&[node(version), last])?;
-    Ok(Declaration::Pe {
-        pe: pe as u8,
-        kernel: kernel as u32,
-    })
-}
-
-fn memory(vpe: u16, sel: u8, words: &mut Words<'_>) -> Result<Declaration, Cause>
-    requires { vpe < VPES }
-    ensures fault { form_fault (word ∷ word ∷ rights_lem ∷ []) words.old ≡ told_fault result words.new }
-    ensures value { let n = number_at words.old in
-        IfOk result (λ d. d ≡ Memory vpe sel (n 0) (n 1) (n 2)) }
-    ensures ranges { (version kernels : ℕ) → IsNode version vpe →
-        IfOk result (IsInRange version kernels) }
-{
-    let [base, len, rights, ..] = words.last_numbers(&[WORD, WORD, RIGHTS])?;
-    Ok(Declaration::Memory {
-        vpe,
-        sel,
-        base: base as u32,
-        len: len as u32,
-        rights: rights as u8,
-    })
-}
-
-fn receive(vpe: u16, sel: u8, words: &mut Words<'_>) -> Result<Declaration, Cause>
-    requires { vpe < VPES }
-    ensures fault { form_fault (slots_lem ∷ []) words.old ≡ told_fault result words.new }
-    ensures value { let n = number_at words.old in IfOk result (λ d. d ≡ Receive vpe sel (n 0)) }
-    ensures ranges { (version kernels : ℕ) → IsNode version vpe →
-        IfOk result (IsInRange version kernels) }
-{
-    let [slots, ..] = words.last_numbers(&[SLOTS])?;
-    Ok(Declaration::Receive {
-        vpe,
-        sel,
-        slots: slots as u8,
-    })
-}
-
-fn root_line(words: &mut Words<'_>, version: u8) -> Result<Declaration, Cause>
-    ensures { (kernels : ℕ) → ReadsWords version kernels (codes "root" ∷ words.old) words.new result }
-{
-    let [vpe, sel, ..] = words.numbers(&[node(version), BYTE])?;
-    let name = words.word()?;
-    if is(name, b"mem") {
-        memory(vpe as u16, sel as u8, words)
-    } else if is(name, b"recv") {
-        receive(vpe as u16, sel as u8, words)
-    } else {
-        Err(Cause::UnknownWord)
+    // The last words, a call of the VPE.
+    fn last_call(&mut self, vpe: u16, version: u8) -> Result<Declaration, Cause>
+        requires { vpe < VPES }
+        ensures fault { form_fault (choice (calls version) (word_at self.old 0)) self.old
+            ≡ told_fault result self.new }
+        ensures value { IfOk result (λ d. d ≡ Calls vpe (call_from self.old)) }
+        ensures ranges { (kernels : ℕ) → IsNode version vpe →
+            IfOk result (IsInRange version kernels) }
+    {
+        let call = self.call(version)?;
+        self.no_more()?;
+        Ok(Declaration::Call { vpe, call })
     }
 }
 
-fn call_line(words: &mut Words<'_>, version: u8) -> Result<Declaration, Cause>
-    ensures { (kernels : ℕ) → ReadsWords version kernels (codes "call" ∷ words.old) words.new result }
+// The form of the lines of that name, in a text of the version.
+#[inline]
+fn line_named(name: &[u8], version: u8) -> Result<&'static LineForm, Cause>
+    ensures name { IfOk result (λ form. name.now ≡ form.now.name.now) }
+    ensures row { IfOk result (λ form. IsLineRow version form.now) }
+    ensures fault { IfErr result (λ cause. (kernels : ℕ) (words : List (List ℕ)) →
+        place_fault (Word (map (λ row. row.0) (lines version kernels words))) name.now
+        ≡ Some cause) }
 {
-    let [vpe, ..] = words.numbers(&[node(version)])?;
-    let call = words.call(version)?;
-    words.no_more()?;
-    Ok(Declaration::Call {
-        vpe: vpe as u16,
-        call,
-    })
+    let forms = LineForm::all(version);
+    for form in forms {
+        if is(name, form.name) {
+            return Ok(form);
+        }
+    }
+    Err(Cause::UnknownWord)
 }
 
-fn end_line(words: &mut Words<'_>) -> Result<Declaration, Cause>
-    ensures { (version kernels : ℕ) → ReadsWords version kernels (codes "end" ∷ words.old) words.new result }
+// The form of the objects of that name.
+#[inline]
+fn root_named(name: &[u8]) -> Result<&'static RootForm, Cause>
+    ensures name { IfOk result (λ form. name.now ≡ form.now.name.now) }
+    ensures row { IfOk result (λ form. IsRootRow form.now) }
+    ensures fault { IfErr result (λ cause.
+        place_fault (Word (map (λ row. row.0) root_objects)) name.now ≡ Some cause) }
 {
-    words.no_more()?;
-    Ok(Declaration::End)
+    let forms = RootForm::all();
+    for form in forms {
+        if is(name, form.name) {
+            return Ok(form);
+        }
+    }
+    Err(Cause::UnknownWord)
+}
+
+// What a line of that kind with these numbers says.
+#[inline]
+#[tactic(auto, using(crate::proofs::Nodes::few_vpes, crate::proofs::Nodes::few_kernels), unfolding(crate::specs::Forms::lines))]
+fn plain_of(kind: PlainKind, numbers: [u64; 5]) -> Declaration
+    requires { FitPlain kind numbers }
+    ensures { result ≡ plain_with kind numbers }
+{
+    let [first, second, third, ..] = numbers;
+    match kind {
+        PlainKind::Kernels => Declaration::Kernels {
+            kernels: first as u32,
+        },
+        PlainKind::Window => Declaration::Window {
+            window: first as u32,
+        },
+        PlainKind::Pe => Declaration::Pe {
+            pe: first as u8,
+            kernel: second as u32,
+        },
+        PlainKind::Vpe => Declaration::Vpe {
+            vpe: first as u16,
+            pe: second as u8,
+        },
+        PlainKind::Service => Declaration::Service {
+            vpe: first as u16,
+            sel: second as u8,
+            name: third as u8,
+        },
+        PlainKind::Offer => Declaration::Offer {
+            name: first as u8,
+            index: second as u8,
+            sel: third as u8,
+        },
+        PlainKind::Deny => Declaration::Deny {
+            vpe: first as u16,
+            asker: second as u16,
+        },
+        PlainKind::Kill => Declaration::Kill {
+            vpe: first as u16,
+            replies: second,
+        },
+        PlainKind::End => Declaration::End,
+    }
+}
+
+// The root of that kind with these numbers.
+#[inline]
+#[tactic(auto, unfolding(crate::specs::Forms::root_objects))]
+fn object_of(vpe: u16, sel: u8, kind: RootKind, numbers: [u64; 5]) -> Declaration
+    requires vpe { vpe < VPES }
+    requires fit { CanStandIn (root_row kind).1 numbers }
+    ensures { result ≡ root_with vpe sel kind numbers }
+{
+    let [first, second, third, ..] = numbers;
+    match kind {
+        RootKind::Memory => Declaration::Memory {
+            vpe,
+            sel,
+            base: first as u32,
+            len: second as u32,
+            rights: third as u8,
+        },
+        RootKind::Receive => Declaration::Receive {
+            vpe,
+            sel,
+            slots: first as u8,
+        },
+    }
 }

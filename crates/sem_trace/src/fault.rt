@@ -1,42 +1,69 @@
+ghost use Rattle.std.specs.Prelude.{◌≡◌};
+ghost use Rattle.sem_trace.specs.Causes.{cause_name};
+
+use std::fmt;
 use thiserror::Error;
 
 /// Why a line is refused.
-#[derive(Clone, Copy, Debug, PartialEq, Eq, Error)]
+#[derive(Clone, Copy, Debug, PartialEq, Eq)]
 pub enum Cause {
     /// A byte that is neither a tab nor printable.
-    #[error("NotText")]
     NotText,
     /// A word that cannot stand in its place.
-    #[error("UnknownWord")]
     UnknownWord,
     /// A word that is no number, in the place of one.
-    #[error("BadNumber")]
     BadNumber,
     /// A number that its place does not allow, or memory that ends too far.
-    #[error("OutOfRange")]
     OutOfRange,
     /// An earlier line says this already.
-    #[error("Twice")]
     Twice,
     /// It names something that no earlier line declares.
-    #[error("Undeclared")]
     Undeclared,
     /// A place without a word, or a text without its last line.
-    #[error("Missing")]
     Missing,
     /// A word after the last place, a line after the last one, or a call too many.
-    #[error("TooMany")]
     TooMany,
     /// More bytes than a line may have.
-    #[error("LineTooLong")]
     LineTooLong,
     /// More bytes than a text may have.
-    #[error("InputTooLong")]
     InputTooLong,
     /// Another spelling than the canonical one. Only a report is refused for it.
-    #[error("NotCanonical")]
     NotCanonical,
 }
+
+impl Cause {
+    /// Its name, as messages tell it.
+    pub fn name(self) -> &'static str
+        ensures { result.now ≡ cause_name self }
+    {
+        match self {
+            Cause::NotText => "NotText",
+            Cause::UnknownWord => "UnknownWord",
+            Cause::BadNumber => "BadNumber",
+            Cause::OutOfRange => "OutOfRange",
+            Cause::Twice => "Twice",
+            Cause::Undeclared => "Undeclared",
+            Cause::Missing => "Missing",
+            Cause::TooMany => "TooMany",
+            Cause::LineTooLong => "LineTooLong",
+            Cause::InputTooLong => "InputTooLong",
+            Cause::NotCanonical => "NotCanonical",
+        }
+    }
+}
+
+impl fmt::Display for Cause {
+    ghost use Rattle.std.specs.Prelude.{Some};
+    ghost use Rattle.sem_trace.specs.Causes.{cause_name};
+
+    ghost output = { λ cause. Some (cause_name cause) };
+
+    fn fmt<W: fmt::Write>(&self, f: &mut fmt::Formatter<W>) -> fmt::Result {
+        f.write_str(self.name())
+    }
+}
+
+impl std::error::Error for Cause {}
 
 /// Why a line is refused, and which of its words is wrong.
 #[derive(Clone, Copy, Debug, PartialEq, Eq)]

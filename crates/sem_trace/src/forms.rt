@@ -11,10 +11,13 @@ ghost use Rattle.sem_trace.specs.Forms.{kernel_count as kernel_count_lem, window
 ghost use Rattle.sem_trace.specs.Forms.Place.{Word};
 ghost use Rattle.sem_trace.specs.Declarations.{number_at};
 ghost use Rattle.sem_trace.specs.Places.{Reads, AreNumbers, number_place, IsWithin, told_fault};
+ghost use Rattle.sem_trace.specs.Places.{CanStand, CanStandIn, AreOf};
+ghost use Rattle.sem_trace.specs.Slots.{slot_place};
 
 use crate::cursor::Words;
 use crate::fault::Cause;
 use crate::limits::{most_kernels, most_vpes};
+use crate::slots::Slot;
 use sem_msg::{ENDPOINTS, WINDOW};
 use sem_text::{NumberFault, number};
 
@@ -48,6 +51,9 @@ pub const WORD: Range = Range {
     least: 0,
     most: 4294967295,
 };
+
+/// The code of a reply.
+pub const CODE: Range = Range { least: 0, most: 15 };
 
 /// The most numbers side by side in a place.
 const MOST_NUMBERS: usize = 5;
@@ -145,6 +151,38 @@ impl Words<'_> {
         let mut values = [0; MOST_NUMBERS];
         for (place, range) in ranges.iter().enumerate() {
             values[place] = self.number(*range)?;
+        }
+        Ok(values)
+    }
+
+    /// The next word, the number of that slot, in a text of the version with that many kernels.
+    pub fn slot_number(&mut self, slot: Slot, version: u8, kernels: u32) -> Result<u64, Cause>
+        ensures reads { Reads (slot_place version kernels slot ∷ []) (λ n. decimal n ∷ [])
+            self.old self.new result }
+        ensures value { IfOk result (λ n. n ≡ number_at self.old 0) }
+        ensures within { IfOk result (CanStand (slot_place version kernels slot)) }
+    {
+        self.number(slot.range(version, kernels))
+    }
+
+    /// The next words, numbers of those slots, 5 at most, in a text of the version with that many
+    /// kernels.
+    pub fn slot_numbers(
+        &mut self,
+        slots: &[Slot],
+        version: u8,
+        kernels: u32,
+    ) -> Result<[u64; MOST_NUMBERS], Cause>
+        requires { length slots.now ≤ 5 }
+        ensures reads { Reads (map (slot_place version kernels) slots.now)
+            (λ ns. map decimal (take (length slots.now) ns)) self.old self.new result }
+        ensures within { IfOk result (CanStandIn (map (slot_place version kernels) slots.now)) }
+        ensures values { IfOk result (AreOf (length slots.now) self.old) }
+        ensures behind { OnOk result (self.new ≡ drop (length slots.now) self.old) }
+    {
+        let mut values = [0; MOST_NUMBERS];
+        for (place, slot) in slots.iter().enumerate() {
+            values[place] = self.slot_number(*slot, version, kernels)?;
         }
         Ok(values)
     }

@@ -10,6 +10,10 @@ ghost use Rattle.sem_trace.specs.Words.{call_words};
 ghost use Rattle.sem_trace.specs.TraceText.{pe_line, vpe_line, root_line, offer_line, deny_line};
 ghost use Rattle.sem_trace.specs.TraceText.{kill_line, window_lines, trace_lines, canonical};
 
+use crate::line_forms::{
+    CALL_LINE, DENY_LINE, END_LINE, KERNELS_LINE, KILL_LINE, OFFER_LINE, PE_LINE, ROOT_LINE,
+    SERVICE_LINE, VPE_LINE, WINDOW_LINE,
+};
 use crate::push::{push_call, push_numbers, push_object};
 use sem_key::{Membership, Object, OutOfMemory, PES};
 use sem_msg::{Calls, Denies, Kills, Offers, Root, Roots, Setup, Vpes0};
@@ -41,7 +45,7 @@ fn push_owner(out: &mut Vec<u8>, owners: &Membership, pe: u8) -> Result<(), OutO
         ++ text (pe_line (pe, owner_at owners.now pe))) }
 {
     match owners.owner(pe) {
-        Some(kernel) => push_line(out, b"pe", &[u64::from(pe), u64::from(kernel)]),
+        Some(kernel) => push_line(out, PE_LINE.name, &[u64::from(pe), u64::from(kernel)]),
         None => Ok(()),
     }
 }
@@ -64,7 +68,7 @@ fn push_vpes(out: &mut Vec<u8>, vpes: &Vpes0) -> Result<(), OutOfMemory>
 {
     for declared in vpes.as_slice() {
         let numbers = [u64::from(declared.vpe), u64::from(declared.pe)];
-        push_line(out, b"vpe", &numbers)?;
+        push_line(out, VPE_LINE.name, &numbers)?;
     }
     Ok(())
 }
@@ -76,9 +80,9 @@ fn push_root(out: &mut Vec<u8>, vpe: u16, root: &Root) -> Result<(), OutOfMemory
     let vpe = u64::from(vpe);
     let sel = u64::from(root.sel);
     match &root.object {
-        Object::Serv { name } => push_line(out, b"service", &[vpe, sel, u64::from(*name)]),
+        Object::Serv { name } => push_line(out, SERVICE_LINE.name, &[vpe, sel, u64::from(*name)]),
         object => {
-            push_start(out, b"root", &[vpe, sel])?;
+            push_start(out, ROOT_LINE.name, &[vpe, sel])?;
             push_object(out, object)?;
             Ok(out.push(b'\n')?)
         }
@@ -117,7 +121,7 @@ fn push_offers(out: &mut Vec<u8>, offers: &Offers) -> Result<(), OutOfMemory>
             u64::from(offer.index),
             u64::from(offer.sel),
         ];
-        push_line(out, b"offer", &numbers)?;
+        push_line(out, OFFER_LINE.name, &numbers)?;
     }
     Ok(())
 }
@@ -127,7 +131,7 @@ fn push_denies(out: &mut Vec<u8>, denies: &Denies) -> Result<(), OutOfMemory>
     ensures ok { OnOk result (out.new.items ≡ out.old.items ++ text (map deny_line denies.now)) }
 {
     for deny in denies.as_slice() {
-        push_line(out, b"deny", &[u64::from(deny.0), u64::from(deny.1)])?;
+        push_line(out, DENY_LINE.name, &[u64::from(deny.0), u64::from(deny.1)])?;
     }
     Ok(())
 }
@@ -137,7 +141,7 @@ fn push_kills(out: &mut Vec<u8>, kills: &Kills) -> Result<(), OutOfMemory>
     ensures ok { OnOk result (out.new.items ≡ out.old.items ++ text (map kill_line kills.now)) }
 {
     for kill in kills.as_slice() {
-        push_line(out, b"kill", &[u64::from(kill.0), kill.1])?;
+        push_line(out, KILL_LINE.name, &[u64::from(kill.0), kill.1])?;
     }
     Ok(())
 }
@@ -148,7 +152,7 @@ fn push_calls(out: &mut Vec<u8>, vpe: u16, calls: &Calls) -> Result<(), OutOfMem
         ++ text (map (λ c. codes "call" ∷ decimal vpe ∷ call_words c) calls.now)) }
 {
     for call in calls.as_slice() {
-        push_start(out, b"call", &[u64::from(vpe)])?;
+        push_start(out, CALL_LINE.name, &[u64::from(vpe)])?;
         push_call(out, call)?;
         out.push(b'\n')?;
     }
@@ -182,7 +186,7 @@ fn push_window(out: &mut Vec<u8>, setup: &Setup) -> Result<(), OutOfMemory>
     if setup.version == 1 {
         Ok(())
     } else {
-        push_line(out, b"window", &[u64::from(setup.window)])
+        push_line(out, WINDOW_LINE.name, &[u64::from(setup.window)])
     }
 }
 
@@ -193,7 +197,7 @@ fn push_members(out: &mut Vec<u8>, setup: &Setup) -> Result<(), OutOfMemory>
         ++ flat_map pe_line (enumerate_from 0 setup.now.owners.owners)
         ++ map vpe_line setup.now.vpes)) }
 {
-    push_line(out, b"kernels", &[u64::from(setup.kernels)])?;
+    push_line(out, KERNELS_LINE.name, &[u64::from(setup.kernels)])?;
     push_window(out, setup)?;
     push_owners(out, &setup.owners)?;
     push_vpes(out, &setup.vpes)
@@ -220,7 +224,7 @@ pub fn push_trace(out: &mut Vec<u8>, setup: &Setup) -> Result<(), OutOfMemory>
     push_members(out, setup)?;
     push_terms(out, setup)?;
     push_all_calls(out, &setup.vpes)?;
-    push_line(out, b"end", &[])?;
+    push_line(out, END_LINE.name, &[])?;
     Ok(())
 }
 

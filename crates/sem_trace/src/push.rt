@@ -4,6 +4,9 @@ ghost use Rattle.sem_key.specs.KeyName.{kind_number};
 ghost use Rattle.sem_text.specs.Lines.{behind_blanks};
 ghost use Rattle.sem_trace.specs.Words.{key_word, place_word, object_words, call_words};
 
+use crate::call_forms::CallForm;
+use crate::calls::numbers_of;
+use crate::message_forms::Form;
 use sem_key::{Key, Object, OutOfMemory, Place};
 use sem_msg::Call;
 use sem_text::{push_number, push_number_behind};
@@ -108,28 +111,28 @@ pub fn push_place_word(out: &mut Vec<u8>, place: &Place) -> Result<(), OutOfMemo
 }
 
 /// Appends the words of the object, each after a blank.
+#[tactic(auto, unfolding(crate::specs::MessageForms::objects))]
 pub fn push_object(out: &mut Vec<u8>, object: &Object) -> Result<(), OutOfMemory>
     ensures ok { OnOk result (out.new.items ≡ out.old.items
         ++ behind_blanks (object_words object.now)) }
 {
+    push_word(out, Form::of_object(object.kind()).name.as_bytes())?;
     match object {
         Object::Mem { base, len, rights } => {
             let numbers = [u64::from(*base), u64::from(*len), u64::from(*rights)];
-            push_named(out, b"mem", &numbers)
+            push_numbers(out, &numbers)
         }
-        Object::Recv { slots } => push_named(out, b"recv", &[u64::from(*slots)]),
+        Object::Recv { slots } => push_number_word(out, u64::from(*slots)),
         Object::Send {
             gate,
             label,
             credits,
         } => {
-            push_word(out, b"send")?;
             push_key_word(out, gate)?;
             push_numbers(out, &[u64::from(*label), u64::from(*credits)])
         }
-        Object::Serv { name } => push_named(out, b"serv", &[u64::from(*name)]),
+        Object::Serv { name } => push_number_word(out, u64::from(*name)),
         Object::Sess { service, ident } => {
-            push_word(out, b"sess")?;
             push_key_word(out, service)?;
             push_number_word(out, u64::from(*ident))
         }
@@ -141,69 +144,7 @@ pub fn push_call(out: &mut Vec<u8>, call: &Call) -> Result<(), OutOfMemory>
     ensures ok { OnOk result (out.new.items ≡ out.old.items
         ++ behind_blanks (call_words call.now)) }
 {
-    match call {
-        Call::Derive {
-            src,
-            dst,
-            off,
-            len,
-            rights,
-        } => {
-            let numbers = [
-                u64::from(*src),
-                u64::from(*dst),
-                u64::from(*off),
-                u64::from(*len),
-                u64::from(*rights),
-            ];
-            push_named(out, b"derive", &numbers)
-        }
-        Call::Gate {
-            src,
-            dst,
-            label,
-            credits,
-        } => {
-            let numbers = [
-                u64::from(*src),
-                u64::from(*dst),
-                u64::from(*label),
-                u64::from(*credits),
-            ];
-            push_named(out, b"gate", &numbers)
-        }
-        Call::Obtain { dst, vpe, src } => {
-            let numbers = [u64::from(*dst), u64::from(*vpe), u64::from(*src)];
-            push_named(out, b"obtain", &numbers)
-        }
-        Call::Delegate { src, vpe, dst } => {
-            let numbers = [u64::from(*src), u64::from(*vpe), u64::from(*dst)];
-            push_named(out, b"delegate", &numbers)
-        }
-        Call::OpenSession { dst, name } => {
-            push_named(out, b"open", &[u64::from(*dst), u64::from(*name)])
-        }
-        Call::AskOffer {
-            dst,
-            session,
-            index,
-        } => {
-            let numbers = [u64::from(*dst), u64::from(*session), u64::from(*index)];
-            push_named(out, b"ask", &numbers)
-        }
-        Call::Revoke { src } => push_named(out, b"revoke", &[u64::from(*src)]),
-        Call::Bind { ep, src } => push_named(out, b"bind", &[u64::from(*ep), u64::from(*src)]),
-        Call::Read { ep, off, len } => {
-            let numbers = [u64::from(*ep), u64::from(*off), u64::from(*len)];
-            push_named(out, b"read", &numbers)
-        }
-        Call::Write { ep, off, len } => {
-            let numbers = [u64::from(*ep), u64::from(*off), u64::from(*len)];
-            push_named(out, b"write", &numbers)
-        }
-        Call::Send { ep, len } => push_named(out, b"send", &[u64::from(*ep), u64::from(*len)]),
-        Call::Credit { ep } => push_named(out, b"credit", &[u64::from(*ep)]),
-        Call::Exit => push_word(out, b"exit"),
-        Call::Clear { src } => push_named(out, b"clear", &[u64::from(*src)]),
-    }
+    let (kind, numbers) = numbers_of(call);
+    let form = CallForm::of(kind);
+    push_named(out, form.name, &numbers[..form.slots.len()])
 }

@@ -1,9 +1,10 @@
 // Counts as JSON.
 use crate::stats::{AskCount, CallCost, LinkCount, RevokeTime, Stats};
 use crate::stats_text::{call_name, total};
+use sem_chart::message_names;
 use sem_hint::key_text;
 use sem_key::OutOfMemory;
-use sem_names::{CODES, EVENTS, MESSAGES};
+use sem_names::{CODES, EVENTS};
 use sem_waits::call_words;
 use serde_json::{Map, Value};
 use std::alloc::Global;
@@ -16,7 +17,8 @@ pub fn stats_as_json(alloc: Global, stats: &Stats) -> Result<String, OutOfMemory
     put(alloc, &mut all, "events", events)?;
     let sent = total(stats.messages.as_slice());
     put(alloc, &mut all, "sent", number(sent))?;
-    let messages = named(alloc, &MESSAGES, stats.messages.as_slice())?;
+    let names = message_names(alloc)?;
+    let messages = named(alloc, names.as_slice(), stats.messages.as_slice())?;
     put(alloc, &mut all, "messages", messages)?;
     let codes = named(alloc, &CODES, stats.codes.as_slice())?;
     put(alloc, &mut all, "replies", codes)?;

@@ -1,8 +1,9 @@
 // Counts as a table. If memory is refused, each of these functions may have appended a part.
 use crate::stats::{CallCost, RevokeTime, Stats};
+use sem_chart::message_names;
 use sem_hint::key_text;
 use sem_key::OutOfMemory;
-use sem_names::{CODES, EVENTS, MESSAGES};
+use sem_names::{CODES, EVENTS};
 use sem_waits::call_words;
 use std::alloc::Global;
 
@@ -19,7 +20,13 @@ pub fn stats_as_text(alloc: Global, stats: &Stats) -> Result<String, OutOfMemory
     push_counts(alloc, &mut out, &EVENTS, stats.events.as_slice())?;
     let sent = total(stats.messages.as_slice());
     push_count(alloc, &mut out, "messages", sent)?;
-    push_counts(alloc, &mut out, &MESSAGES, stats.messages.as_slice())?;
+    let messages = message_names(alloc)?;
+    push_counts(
+        alloc,
+        &mut out,
+        messages.as_slice(),
+        stats.messages.as_slice(),
+    )?;
     push_links(alloc, &mut out, stats)?;
     let replies = total(stats.codes.as_slice());
     push_count(alloc, &mut out, "replies", replies)?;

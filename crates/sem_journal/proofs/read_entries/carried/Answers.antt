@@ -1,7 +1,8 @@
 use Rattle.std.proofs.Common.{ℕ, List, [], ◌∷◌, ◌++◌, refl, ap, drop}
 use Rattle.std.proofs.lemmas.Result.{err_from_is_err_and}
 use Rattle.sem_trace.specs.Forms.{form_fault}
-use Rattle.sem_journal.specs.EntryForms.{kernel, message_form}
+use Rattle.sem_trace.specs.MessageForms.{message_form}
+use Rattle.sem_journal.specs.EntryForms.{kernel}
 use Rattle.sem_journal.proofs.WordChoices.{filled_both, failed_behind}
 use Rattle.sem_journal.proofs.read_entries.carried.Goals as goal
 

@@ -1,6 +1,6 @@
 use Rattle.std.proofs.Common.{[], ◌∷◌, refl, ◌∙◌}
 use Rattle.std.proofs.lemmas.Result.{err_from_is_err_and}
-use Rattle.sem_journal.specs.EntryForms.{code}
+use Rattle.sem_trace.specs.MessageForms.{code}
 use Rattle.sem_journal.proofs.EntryParts.{nothing_more}
 use Rattle.sem_journal.proofs.read_entries.reply.Goals as goal
 

@@ -1,65 +1,36 @@
-use Rattle.std.proofs.Common.{refl, ◌++◌}
+use Rattle.std.proofs.Common.{List, ℕ, ◌∷◌, ◌∙◌, ap}
+use Rattle.std.proofs.lemmas.List.Elements.{All-contains}
 use Rattle.std.proofs.lemmas.Result.{err_from_is_err_and}
-use Rattle.sem_trace.specs.Forms.{form_fault, behind}
-use Rattle.sem_journal.specs.EntryForms.{messages, message_form}
-use Rattle.sem_journal.proofs.WordChoices.{differs}
+use Rattle.sem_trace.specs.MessageForms.{IsMessageRow}
+use Rattle.sem_journal.proofs.PartSteps.{message_filled, message_fails, no_message}
 use Rattle.sem_journal.proofs.read_message.message.Goals as goal
 
-pub returns-in_err-name : goal.returns-in_err-name
-unfolding message_form
-returns-in_err-name c =
-    let p = err_from_is_err_and c.from_residual.result c.from_residual.ensures.1 in
-    rw (p.1, p.2) (record { reads = λ more. c.in_err-name.ensures.err _ (behind (messages c.args.version _) _ ++ more); fits = tt })
-
-pub returns-then-is : goal.returns-then-is
-returns-then-is c = rw (c.in_ok-name.ensures.ok, c.if-is.ensures.0 refl) c.obtain_request.ensures
-
-pub returns-then-is-2 : goal.returns-then-is-2
-returns-then-is-2 c = rw (c.in_ok-name.ensures.ok, c.if-is-2.ensures.0 refl) c.obtain_ok.ensures
-
-pub returns-then-is-3 : goal.returns-then-is-3
-returns-then-is-3 c = rw (c.in_ok-name.ensures.ok, c.if-is-3.ensures.0 refl) c.obtain_no.ensures
-
-pub returns-then-is-4 : goal.returns-then-is-4
-returns-then-is-4 c = rw (c.in_ok-name.ensures.ok, c.if-is-4.ensures.0 refl) c.delegate_request.ensures
-
-pub returns-then-is-5 : goal.returns-then-is-5
-returns-then-is-5 c = rw (c.in_ok-name.ensures.ok, c.if-is-5.ensures.0 refl) c.delegate_prepared.ensures
-
-pub returns-then-is-6 : goal.returns-then-is-6
-returns-then-is-6 c = rw (c.in_ok-name.ensures.ok, c.if-is-6.ensures.0 refl) c.delegate_no.ensures
-
-pub returns-then-is-7 : goal.returns-then-is-7
-returns-then-is-7 c = rw (c.in_ok-name.ensures.ok, c.if-is-7.ensures.0 refl) c.ack.ensures
-
-pub returns-then-is-8 : goal.returns-then-is-8
-returns-then-is-8 c = rw (c.in_ok-name.ensures.ok, c.if-is-8.ensures.0 refl) c.orphan.ensures
-
-pub returns-then-is-9 : goal.returns-then-is-9
-returns-then-is-9 c = rw (c.in_ok-name.ensures.ok, c.if-is-9.ensures.0 refl) c.revoke_request.ensures
-
-pub returns-then-is-10 : goal.returns-then-is-10
-returns-then-is-10 c = rw (c.in_ok-name.ensures.ok, c.if-is-10.ensures.0 refl) (c.revoke_done.ensures c.args.version)
-
-pub returns-then-is-11 : goal.returns-then-is-11
-returns-then-is-11 c = rw (c.in_ok-name.ensures.ok, c.if-is-11.ensures.0 refl) c.unlink.ensures
-
-pub returns-else-is-11 : goal.returns-else-is-11
-unfolding form_fault messages message_form
-returns-else-is-11 c = record {
-  reads = rw (
-    c.in_ok-name.ensures.ok,
-    differs _ _ c.if-is.ensures,
-    differs _ _ c.if-is-2.ensures,
-    differs _ _ c.if-is-3.ensures,
-    differs _ _ c.if-is-4.ensures,
-    differs _ _ c.if-is-5.ensures,
-    differs _ _ c.if-is-6.ensures,
-    differs _ _ c.if-is-7.ensures,
-    differs _ _ c.if-is-8.ensures,
-    differs _ _ c.if-is-9.ensures,
-    differs _ _ c.if-is-10.ensures,
-    differs _ _ c.if-is-11.ensures,
-  ) (λ more. refl);
+pub returns-in_default : goal.returns-in_default
+returns-in_default c = record {
+  reads = no_message c.args.version c.messages.result.now c.in_ok-name.name.now c.word.new.self c.args.words.now c.in_ok-name.ensures.ok
+      (c.messages.ensures.table c.args.version c.args.words.now) c.in_default.ensures;
   fits = tt;
 }
+
+pub returns : goal.returns
+returns c =
+    let row : IsMessageRow c.in-Some.form.now = All-contains IsMessageRow c.messages.result.now c.in-Some.form.now c.messages.ensures.rows c.in-Some.ensures.0 in
+    record {
+      reads = record {
+        filled = message_filled c.args.version c.in-Some.form.now.kind c.in-Some.form.now.parts.now c.in_ok-name.name.now c.word.new.self c.args.words.now
+            c.parts.new.words row.parts (c.in-Some.ensures.1 ∙ row.name) c.in_ok-name.ensures.ok c.in_ok-values.ensures.reads.filled;
+        spelled = rw (c.message_from.ensures.words, ← row.parts, ← row.name, ← c.in-Some.ensures.1)
+            (c.in_ok-name.ensures.ok ∙ ap (λ (words : List (List ℕ)). c.in_ok-name.name.now ∷ words) c.in_ok-values.ensures.reads.spelled);
+      };
+      fits = c.message_from.ensures.fits c.args.version (rw row.parts at c.in_ok-values.ensures.fits);
+    }
+
+pub returns-in_err-values : goal.returns-in_err-values
+returns-in_err-values c =
+    let row : IsMessageRow c.in-Some.form.now = All-contains IsMessageRow c.messages.result.now c.in-Some.form.now c.messages.ensures.rows c.in-Some.ensures.0 in
+    let p = err_from_is_err_and c.from_residual-in_err-values.result c.from_residual-in_err-values.ensures.1 in
+    rw (p.1, p.2) (record {
+      reads = message_fails c.args.version c.in-Some.form.now.kind c.in-Some.form.now.parts.now c.in_ok-name.name.now c.word.new.self c.args.words.now _
+          row.parts (c.in-Some.ensures.1 ∙ row.name) c.in_ok-name.ensures.ok c.in_err-values.ensures.reads;
+      fits = tt;
+    })

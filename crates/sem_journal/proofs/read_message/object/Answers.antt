@@ -1,40 +1,31 @@
-use Rattle.std.proofs.Common.{refl, ◌++◌}
-use Rattle.std.proofs.lemmas.Result.{err_from_is_err_and}
-use Rattle.sem_trace.specs.Forms.{form_fault, behind}
-use Rattle.sem_journal.specs.EntryForms.{objects}
-use Rattle.sem_journal.proofs.WordChoices.{differs}
+use Rattle.std.proofs.Common.{List, ℕ, [], ◌∷◌, ◌∙◌, ap}
+use Rattle.std.proofs.lemmas.List.Elements.{All-contains}
+use Rattle.sem_trace.specs.MessageForms.{objects, IsObjectRow}
+use Rattle.sem_journal.proofs.PartSteps.{object_left, plain_object, not_named}
 use Rattle.sem_journal.proofs.read_message.object.Goals as goal
 
-pub returns-in_err-name : goal.returns-in_err-name
-returns-in_err-name c =
-    let p = err_from_is_err_and c.from_residual.result c.from_residual.ensures.1 in
-    rw (p.1, p.2) (record { reads = λ more. c.in_err-name.ensures.err _ (behind (objects c.args.version) _ ++ more); fits = tt })
-
-pub returns-then-is : goal.returns-then-is
-returns-then-is c = rw (c.in_ok-name.ensures.ok, c.if-is.ensures.0 refl) (c.memory.ensures c.args.version)
-
-pub returns-then-is-2 : goal.returns-then-is-2
-returns-then-is-2 c = rw (c.in_ok-name.ensures.ok, c.if-is-2.ensures.0 refl) (c.receive_gate.ensures c.args.version)
-
-pub returns-then-is-3 : goal.returns-then-is-3
-returns-then-is-3 c = rw (c.in_ok-name.ensures.ok, c.if-is-3.ensures.0 refl) c.send_gate.ensures
-
-pub returns-then-is-4 : goal.returns-then-is-4
-returns-then-is-4 c = rw (c.in_ok-name.ensures.ok, c.if-is-4.ensures.0 refl) (c.service.ensures c.args.version)
-
-pub returns-then-is-5 : goal.returns-then-is-5
-returns-then-is-5 c = rw (c.in_ok-name.ensures.ok, c.if-is-5.ensures.0 refl) c.session.ensures
-
-pub returns-else-is-5 : goal.returns-else-is-5
-unfolding form_fault objects
-returns-else-is-5 c = record {
-  reads = rw (
-    c.in_ok-name.ensures.ok,
-    differs _ _ c.if-is.ensures,
-    differs _ _ c.if-is-2.ensures,
-    differs _ _ c.if-is-3.ensures,
-    differs _ _ c.if-is-4.ensures,
-    differs _ _ c.if-is-5.ensures,
-  ) (λ more. refl);
+pub returns-in_default : goal.returns-in_default
+returns-in_default c = record {
+  reads = not_named c.args.version [] c.objects.result.now (objects c.args.version) c.in_ok-name.name.now c.word.new.self c.args.words.now c.in_ok-name.ensures.ok
+      (c.objects.ensures.table c.args.version) c.in_default.ensures;
   fits = tt;
 }
+
+pub plain_parts-requires : goal.plain_parts-requires
+plain_parts-requires c =
+    let row : IsObjectRow c.in-Some.form.now = All-contains IsObjectRow c.objects.result.now c.in-Some.form.now c.objects.ensures.rows c.in-Some.ensures.0 in
+    let plain = plain_object c.in-Some.form.now.kind c.in-Some.form.now.parts.now row.parts in
+    record { few = plain.0; plain = plain.1 }
+
+pub returns : goal.returns
+returns c =
+    let row : IsObjectRow c.in-Some.form.now = All-contains IsObjectRow c.objects.result.now c.in-Some.form.now c.objects.ensures.rows c.in-Some.ensures.0 in
+    record {
+      reads = record {
+        filled = λ more. object_left c.args.version c.in-Some.form.now.kind c.in-Some.form.now.parts.now c.in_ok-name.name.now c.word.new.self c.args.words.now
+            row.parts (c.in-Some.ensures.1 ∙ row.name) c.in_ok-name.ensures.ok more ∙ c.in_ok-values.ensures.reads.filled more;
+        spelled = rw (c.object_from.ensures.words, ← row.parts, ← row.name, ← c.in-Some.ensures.1)
+            (c.in_ok-name.ensures.ok ∙ ap (λ (words : List (List ℕ)). c.in_ok-name.name.now ∷ words) c.in_ok-values.ensures.reads.spelled);
+      };
+      fits = c.object_from.ensures.fits c.args.version (rw row.parts at c.in_ok-values.ensures.fits);
+    }

@@ -1,7 +1,8 @@
 use Rattle.std.proofs.Common.{List, ℕ, sym}
 use Rattle.std.proofs.lemmas.Result.{err_from_is_err_and, on_ok_weaker, IfErr-weaker}
+use Rattle.sem_trace.specs.LineErrors.{Stops}
 use Rattle.sem_trace.specs.TextLines.{words_of}
-use Rattle.sem_files.specs.Reads.{IsRead, Refuses, RefusesLine, Stops}
+use Rattle.sem_files.specs.Reads.{IsRead, Refuses, RefusesLine}
 use Rattle.sem_files.proofs.ReadLines.{bad_bytes, skipped, says, refused, ended_refused, stops_weaker}
 use Rattle.sem_files.proofs.reader.Reader.line.Goals as goal
 

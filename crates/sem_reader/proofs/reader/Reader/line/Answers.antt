@@ -1,7 +1,8 @@
 use Rattle.std.proofs.Common.{List, ℕ, sym}
 use Rattle.std.proofs.lemmas.Result.{err_from_is_err_and, on_ok_weaker, IfErr-weaker}
+use Rattle.sem_trace.specs.LineErrors.{Stops}
 use Rattle.sem_trace.specs.TextLines.{words_of}
-use Rattle.sem_reader.specs.Reads.{IsRead, Refuses, RefusesLine, Stops}
+use Rattle.sem_reader.specs.Reads.{IsRead, Refuses, RefusesLine}
 use Rattle.sem_reader.proofs.ReadLines.{bad_bytes, skipped, said, refused, ended_refused, stops_weaker}
 use Rattle.sem_reader.proofs.reader.Reader.line.Goals as goal
 

@@ -1,87 +1,96 @@
-use Rattle.std.proofs.Common.{◌==◌, inl, inr, refl}
-use Rattle.std.proofs.lemmas.Bool.{cases_Bool}
+use Rattle.std.proofs.Common.{◌≡◌, length, rules, arith}
 use Rattle.std.proofs.lemmas.Result.{err_from_is_err_and}
-use Rattle.sem_trace.specs.Forms.{form_fault, lines, form}
-use Rattle.sem_trace.proofs.PlaceSteps.{differs}
+use Rattle.sem_trace.specs.Forms.{form, lines, behind}
+use Rattle.sem_trace.proofs.Nodes.{node_small, few_vpes}
+use Rattle.sem_trace.proofs.PlaceSteps.{faults}
+use Rattle.sem_trace.proofs.LineRows.{few_line_slots, line_failed, plain_fits, plain_read, root_numbers, root_read, call_numbers, call_line_read}
 use Rattle.sem_trace.proofs.cursor.Words.declaration.Goals as goal
 
 pub returns-in_err-name : goal.returns-in_err-name
 unfolding form
 returns-in_err-name c =
     let p = err_from_is_err_and c.from_residual.result c.from_residual.ensures.1 in
-    rw (p.1, p.2) (record { fault = c.in_err-name.ensures.err _ _; value = tt; ranges = tt })
+    rw (p.1, p.2) (record { fault = c.in_err-name.ensures.err _ (behind (lines c.args.version c.args.kernels c.args.self.now) _); value = tt; ranges = tt })
 
-pub returns-then-is : goal.returns-then-is
-returns-then-is c = rw (c.in_ok-name.ensures.ok, c.if-is.ensures.0 refl) (c.kernels_line.ensures c.args.kernels)
+pub returns-in_err-form : goal.returns-in_err-form
+unfolding form
+returns-in_err-form c =
+    let p = err_from_is_err_and c.from_residual-in_err-form.result c.from_residual-in_err-form.ensures.1 in
+    rw (p.1, p.2) (record {
+      fault = faults (behind (lines c.args.version c.args.kernels c.args.self.now) _) _ _ _ _ _ c.in_ok-name.ensures.ok
+          (c.in_err-form.ensures.fault c.args.kernels c.args.self.now);
+      value = tt;
+      ranges = tt;
+    })
 
-pub returns-then-is-2 : goal.returns-then-is-2
-returns-then-is-2 c = rw (c.in_ok-name.ensures.ok, c.if-is-2.ensures.0 refl) (c.pe_line.ensures)
+pub slot_numbers-requires : goal.slot_numbers-requires
+slot_numbers-requires c = few_line_slots c.args.version c.in_ok-form.form.now c.in_ok-form.ensures.row
 
-pub returns-then-is-3 : goal.returns-then-is-3
-returns-then-is-3 c = rw (c.in_ok-name.ensures.ok, c.if-is-3.ensures.0 refl) (c.vpe_line.ensures c.args.kernels)
+pub returns-in_err-numbers : goal.returns-in_err-numbers
+returns-in_err-numbers c =
+    let p = err_from_is_err_and c.from_residual-in_err-numbers.result c.from_residual-in_err-numbers.ensures.1 in
+    rw (p.1, p.2) (record {
+      fault = line_failed c.args.version c.args.kernels c.in_ok-form.form.now _ _ _ _ c.in_ok-form.ensures.row c.in_ok-form.ensures.name c.in_ok-name.ensures.ok
+          c.in_err-numbers.ensures.reads;
+      value = tt;
+      ranges = tt;
+    })
 
-pub returns-then-is-4 : goal.returns-then-is-4
-returns-then-is-4 c = rw (c.in_ok-name.ensures.ok, c.if-is-4.ensures.0 refl) (c.root_line.ensures c.args.kernels)
+pub plain-requires : goal.plain-requires
+plain-requires c =
+    plain_fits c.args.version c.args.kernels c.in_ok-form.form.now _ c.in_ok-numbers.numbers (omega (arith, c.ranges.kernels.fits)) c.in_ok-form.ensures.row c.in-Plain.is
+    c.in_ok-numbers.ensures.within
 
-pub returns-then-is-5 : goal.returns-then-is-5
-returns-then-is-5 c = rw (c.in_ok-name.ensures.ok, c.if-is-5.ensures.0 refl) (c.service_line.ensures c.args.kernels)
+pub overflow_cast-numbers : goal.overflow_cast-numbers
+overflow_cast-numbers c =
+    let five : length c.in_ok-numbers.numbers ≡ 5 = search rules in
+    let numbers = root_numbers c.args.version c.args.kernels c.in_ok-form.form.now c.in_ok-numbers.numbers c.in_ok-form.ensures.row c.in-Root.is five c.in_ok-numbers.ensures.within in
+    let few = few_vpes c.args.version in
+    omega (arith, numbers.0, few)
 
-pub returns-then-is-6 : goal.returns-then-is-6
-returns-then-is-6 c = rw (c.in_ok-name.ensures.ok, c.if-is-6.ensures.0 refl) (c.offer_line.ensures c.args.version c.args.kernels)
+pub overflow_cast-numbers-in-Root : goal.overflow_cast-numbers-in-Root
+overflow_cast-numbers-in-Root c =
+    let five : length c.in_ok-numbers.numbers ≡ 5 = search rules in
+    let numbers = root_numbers c.args.version c.args.kernels c.in_ok-form.form.now c.in_ok-numbers.numbers c.in_ok-form.ensures.row c.in-Root.is five c.in_ok-numbers.ensures.within in
+    omega (arith, numbers.1)
 
-pub returns-then-is-7 : goal.returns-then-is-7
-returns-then-is-7 c = rw (c.in_ok-name.ensures.ok, c.if-is-7.ensures.0 refl) (c.deny_line.ensures c.args.kernels)
+pub root-requires : goal.root-requires
+root-requires c =
+    let five : length c.in_ok-numbers.numbers ≡ 5 = search rules in
+    let numbers = root_numbers c.args.version c.args.kernels c.in_ok-form.form.now c.in_ok-numbers.numbers c.in_ok-form.ensures.row c.in-Root.is five c.in_ok-numbers.ensures.within in
+    node_small c.args.version _ numbers.0
 
-pub returns-then-is-8 : goal.returns-then-is-8
-returns-then-is-8 c = rw (c.in_ok-name.ensures.ok, c.if-is-8.ensures.0 refl) (c.kill_line.ensures c.args.kernels)
+pub overflow_cast-numbers-in-Call : goal.overflow_cast-numbers-in-Call
+overflow_cast-numbers-in-Call c =
+    let five : length c.in_ok-numbers.numbers ≡ 5 = search rules in
+    let numbers = call_numbers c.args.version c.args.kernels c.in_ok-form.form.now c.in_ok-numbers.numbers c.in_ok-form.ensures.row c.in-Call.is five c.in_ok-numbers.ensures.within in
+    let few = few_vpes c.args.version in
+    omega (arith, numbers, few)
 
-pub returns-then-is-9 : goal.returns-then-is-9
-returns-then-is-9 c = rw (c.in_ok-name.ensures.ok, c.if-is-9.ensures.0 refl) (c.call_line.ensures c.args.kernels)
+pub last_call-requires : goal.last_call-requires
+last_call-requires c =
+    let five : length c.in_ok-numbers.numbers ≡ 5 = search rules in
+    let numbers = call_numbers c.args.version c.args.kernels c.in_ok-form.form.now c.in_ok-numbers.numbers c.in_ok-form.ensures.row c.in-Call.is five c.in_ok-numbers.ensures.within in
+    node_small c.args.version _ numbers
 
-pub returns-then-is-10 : goal.returns-then-is-10
-returns-then-is-10 c = rw (c.in_ok-name.ensures.ok, c.if-is-10.ensures.0 refl) (c.end_line.ensures c.args.version c.args.kernels)
+pub returns-in-Plain : goal.returns-in-Plain
+returns-in-Plain c =
+    plain_read c.args.version c.args.kernels c.in_ok-form.form.now _ _ _ _ _ _ c.in_ok-numbers.numbers _ c.requires c.in_ok-form.ensures.row c.in-Plain.is
+    c.in_ok-form.ensures.name c.in_ok-name.ensures.ok (search rules) c.in_ok-numbers.ensures.reads.filled c.in_ok-numbers.ensures.behind
+    c.in_ok-numbers.ensures.within c.in_ok-numbers.ensures.values c.plain.ensures.fault c.plain.ensures.value
 
-pub returns-then-is-11 : goal.returns-then-is-11
-returns-then-is-11 c = rw (c.in_ok-name.ensures.ok, c.if-is-11.ensures.0 refl) (c.window_line.ensures c.args.kernels)
+pub returns-in-Root : goal.returns-in-Root
+returns-in-Root c =
+    let five : length c.in_ok-numbers.numbers ≡ 5 = search rules in
+    let numbers = root_numbers c.args.version c.args.kernels c.in_ok-form.form.now c.in_ok-numbers.numbers c.in_ok-form.ensures.row c.in-Root.is five c.in_ok-numbers.ensures.within in
+    root_read c.args.version c.args.kernels c.in_ok-form.form.now _ _ _ _ _ c.in_ok-numbers.numbers _ c.in_ok-form.ensures.row c.in-Root.is
+    c.in_ok-form.ensures.name c.in_ok-name.ensures.ok c.in_ok-numbers.ensures.reads.filled c.in_ok-numbers.ensures.behind
+    c.in_ok-numbers.ensures.values c.root.ensures.fault c.root.ensures.value (c.root.ensures.ranges c.args.version c.args.kernels numbers.0)
 
-pub returns-else-is-11 : goal.returns-else-is-11
-unfolding form_fault form lines
-returns-else-is-11 c = elim (cases_Bool (c.args.version == 1)) [
-  | inl one ↦ record {
-    fault = rw (
-      c.in_ok-name.ensures.ok,
-      differs _ _ c.if-is.ensures,
-      differs _ _ c.if-is-2.ensures,
-      differs _ _ c.if-is-3.ensures,
-      differs _ _ c.if-is-4.ensures,
-      differs _ _ c.if-is-5.ensures,
-      differs _ _ c.if-is-6.ensures,
-      differs _ _ c.if-is-7.ensures,
-      differs _ _ c.if-is-8.ensures,
-      differs _ _ c.if-is-9.ensures,
-      differs _ _ c.if-is-10.ensures,
-      one,
-    ) refl;
-    value = tt;
-    ranges = tt;
-  }
-  | inr other ↦ record {
-    fault = rw (
-      c.in_ok-name.ensures.ok,
-      differs _ _ c.if-is.ensures,
-      differs _ _ c.if-is-2.ensures,
-      differs _ _ c.if-is-3.ensures,
-      differs _ _ c.if-is-4.ensures,
-      differs _ _ c.if-is-5.ensures,
-      differs _ _ c.if-is-6.ensures,
-      differs _ _ c.if-is-7.ensures,
-      differs _ _ c.if-is-8.ensures,
-      differs _ _ c.if-is-9.ensures,
-      differs _ _ c.if-is-10.ensures,
-      other,
-      differs _ _ c.if-is-11.ensures,
-    ) refl;
-    value = tt;
-    ranges = tt;
-  }
-]
+pub returns-in-Call : goal.returns-in-Call
+returns-in-Call c =
+    let five : length c.in_ok-numbers.numbers ≡ 5 = search rules in
+    let numbers = call_numbers c.args.version c.args.kernels c.in_ok-form.form.now c.in_ok-numbers.numbers c.in_ok-form.ensures.row c.in-Call.is five c.in_ok-numbers.ensures.within in
+    call_line_read c.args.version c.args.kernels c.in_ok-form.form.now _ _ _ _ _ c.in_ok-numbers.numbers _ c.in_ok-form.ensures.row c.in-Call.is
+    c.in_ok-form.ensures.name c.in_ok-name.ensures.ok c.in_ok-numbers.ensures.reads.filled c.in_ok-numbers.ensures.behind
+    c.in_ok-numbers.ensures.values c.last_call.ensures.fault c.last_call.ensures.value (c.last_call.ensures.ranges c.args.kernels numbers)

@@ -2,7 +2,7 @@ use Rattle.std.proofs.Common.{◌≡◌, ℕ, ◌≤◌, length, length-set, Lis
 use Rattle.sem_text.specs.Number.{number_value}
 use Rattle.sem_trace.specs.Forms.{word_at}
 use Rattle.sem_trace.specs.Declarations.{number_at}
-use Rattle.sem_trace.specs.Places.{least_at, most_at}
+use Rattle.sem_trace.specs.Places.{number_place, least_at, most_at}
 use Rattle.sem_trace.proofs.PlaceSteps.{behind_first, more_places, more_all, printed_more}
 use Rattle.sem_trace.proofs.cursor.Words.numbers.Goals as goal
 
@@ -17,7 +17,7 @@ loop-place-preserved c =
     let short : length c.args.ranges.now ≤ 5 = c.requires in
     record {
       five = rw length-set five;
-      fault = λ places. c.loop-place.invariant.fault places ∙ more_places c.args.ranges.now i _ places _ _ (omega arith) c.in_ok-values.ensures.reads.filled;
+      fault = λ places. c.loop-place.invariant.fault places ∙ more_places number_place c.args.ranges.now i _ places _ _ (omega arith) c.in_ok-values.ensures.reads.filled;
       values = more_all c.loop-place.values i c.in_ok-values.field-0 (λ k n. n ≡ number_at all k) (omega arith) c.loop-place.invariant.values
           (c.in_ok-values.ensures.value ∙ ap number_value here);
       least = more_all c.loop-place.values i c.in_ok-values.field-0 (λ k n. least_at c.args.ranges.now k ≤ n) (omega arith) c.loop-place.invariant.least
