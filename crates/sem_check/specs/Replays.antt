@@ -2,9 +2,9 @@
 -- that differs, the longest schedule ("Checks" in docs/machine.md).
 use Rattle.std.specs.Prelude.{◌≡◌, ◌≢◌, ℕ, ◌≤◌, List, length, take, slice_get, Option, Some, None, if◌then◌else◌}
 use Rattle.std.specs.Option.{option_map}
-use Rattle.sem_machine.specs.Prelude.{Event, Entry, Setup, World, after, enabled, is_enabled, entry_of, IsSchedule}
+use Rattle.sem_machine.specs.Prelude.{Event, Entry, Setup, World, enabled, is_enabled, entry_of, IsSchedule}
 use Rattle.sem_machine.specs.Prelude.{world_after}
-use Rattle.sem_kernel.specs.Worlds.{WorldValue}
+use Rattle.sem_kernel.specs.Worlds.{WorldValue, stepped_value}
 
 -- the entry that an event makes, if it is enabled
 abbrev pub entry_made : Setup → World → Event → Option Entry
@@ -14,10 +14,6 @@ entry_made T W e = if is_enabled T W e then Some (entry_of T W e) else None
 abbrev pub next_made : Setup → World → Option Entry
 next_made T W = option_map (entry_of T W) (slice_get (enabled T W) 0)
 
--- the world after the event, with its setup
-abbrev pub stepped : WorldValue → Event → WorldValue
-stepped w e = record { setup = w.setup; world = after w.setup w.world e }
-
 -- the world after the journal, with its setup
 abbrev pub world_value : Setup → List Entry → WorldValue
 world_value T J = record { setup = T; world = world_after T J }
@@ -25,7 +21,7 @@ world_value T J = record { setup = T; world = world_after T J }
 -- the entry is the one that its event makes, and this is the world after it
 pub record IsStep (w : WorldValue) (e : Entry) (v : WorldValue) : Type 0 where
   pub made : entry_made w.setup w.world e.event ≡ Some e
-  pub world : v ≡ stepped w e.event
+  pub world : v ≡ stepped_value w e.event
 
 -- the event of the entry makes another one, or is not enabled
 pub record IsOther (w : WorldValue) (e : Entry) (replayed : Option Entry) : Type 0 where

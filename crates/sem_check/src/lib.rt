@@ -13,5 +13,5 @@ mod watch;
 pub use checks::{check, check_watched};
 pub use faults::CheckError;
 pub use laws::a_journal_has_one_verdict;
-pub use replays::replay;
+pub use replays::{first_schedule, replay};
 pub use watch::{Unwatched, Watch};

@@ -1,13 +1,18 @@
 -- What is known of an act that is enabled.
-use Rattle.std.proofs.Common.{◌≡◌, ℕ, ◌<◌, ◌&&◌, true, not, is_none, is_some, slice_get}
+use Rattle.std.proofs.Common.{◌≡◌, ℕ, ◌<◌, ◌&&◌, true, not, is_none, is_some, slice_get, subst}
 use Rattle.std.specs.Prelude.{◌==◌, nat_lt}
 use Rattle.std.proofs.lemmas.Bool.{and_parts, eqb-true, ltb-true}
+use Rattle.sem_msg.specs.declared.event.Act.{Act}
 use Rattle.sem_msg.specs.declared.event.Act.TheVariants.{Call as Calls, Handle, Upcall, Resume, Flush, Kill}
 use Rattle.sem_msg.specs.Setup.{Setup}
 use Rattle.sem_msg.specs.Lookups.{kernel_of}
 use Rattle.sem_machine.specs.Sides.{Side, row, parked, is_alive, outbox}
 use Rattle.sem_machine.specs.Resumes.{can_resume}
 use Rattle.sem_machine.specs.Machine.{next_call, is_locally_enabled, is_other_kernel}
+use Rattle.sem_kernel.specs.declared.stores.Stores.{Stores}
+use Rattle.sem_kernel.specs.KernelStores.{side_of, AreSound}
+use Rattle.sem_kernel.specs.Rooms.{IsReady}
+use Rattle.sem_kernel.specs.Acting.{StoresCanAct}
 
 module _ (T : Setup) (i : ℕ) (s : Side) (v : ℕ) where
   -- the VPE is one of the kernel
@@ -58,3 +63,12 @@ unfolding is_locally_enabled
 flush-to T i s to enabled =
     ltb-true to T.kernels
     (and_parts (nat_lt to T.kernels) (not (to == i)) (and_parts (is_other_kernel T i to) (is_some (slice_get (outbox s to) 0)) enabled).0).0
+
+-- an act that is enabled and has its room can be done, also under another name of it
+pub can-act : (T : Setup) (i : ℕ) (x : Stores) (act other : Act) → act ≡ other → AreSound T i x → is_locally_enabled T i (side_of x) act ≡ true →
+    IsReady T act x → StoresCanAct T i other x
+can-act T i x act other same are enabled ready = record {
+  are = are;
+  enabled = subst (λ (a : Act). is_locally_enabled T i (side_of x) a ≡ true) same enabled;
+  ready = subst (λ (a : Act). IsReady T a x) same ready;
+}

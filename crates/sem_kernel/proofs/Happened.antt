@@ -139,11 +139,13 @@ module _ (T : Setup) (ks : List KernelValue) (f : FabricValue) (are : AreKernels
       ∙ (and_parts (nat_lt i T.kernels) (is_locally_enabled T i (side W i) act && is_allowed T W i act) enabled).1 in
       let parts = and_parts (is_locally_enabled k.setup k.id k.side act && is_timely k.setup (length (replies f.journal)) act) (is_passable f k.id act) can in
       record {
-        setup = subst IsSetup (sym is.setup) valid;
-        few = few-here;
-        sound = subst (λ S. IsSound S k.id k.side) (sym is.setup) (subst (λ j. IsSound T j k.side) (sym is.id) is.sound);
-        fabric = fabric-here;
-        enabled = (and_parts (is_locally_enabled k.setup k.id k.side act) (is_timely k.setup (length (replies f.journal)) act) parts.0).0;
+        able = record {
+          setup = subst IsSetup (sym is.setup) valid;
+          few = few-here;
+          sound = subst (λ S. IsSound S k.id k.side) (sym is.setup) (subst (λ j. IsSound T j k.side) (sym is.id) is.sound);
+          fabric = fabric-here;
+          enabled = (and_parts (is_locally_enabled k.setup k.id k.side act) (is_timely k.setup (length (replies f.journal)) act) parts.0).0;
+        };
         passes = parts.1;
       }
 

@@ -18,5 +18,6 @@ pub mod Beginning
 pub mod Listings
 pub mod PeerRows
 pub mod Owned
+pub mod VpeMasks
 pub mod Passing
 pub mod Stands

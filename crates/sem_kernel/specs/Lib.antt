@@ -2,6 +2,7 @@ pub mod KernelStores
 pub mod Rooms
 pub mod Ending
 pub mod Acting
+pub mod Handing
 pub mod KernelValue
 pub mod Worlds
 pub mod Standing

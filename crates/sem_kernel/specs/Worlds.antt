@@ -1,12 +1,12 @@
 -- The world of kernels and their fabric, and what an act does to the fabric.
-use Rattle.std.specs.Prelude.{◌≡◌, ◌≢◌, ℕ, ◌<◌, nat_lt, Bool, true, ◌&&◌, List, ◌∷◌, [], ◌++◌, length, map, drop}
-use Rattle.std.specs.Prelude.{slice_get, slice_index_or, Option, None, is_some}
+use Rattle.std.specs.Prelude.{◌≡◌, ◌≢◌, ℕ, ◌<◌, nat_lt, Bool, true, false, ◌&&◌, List, ◌∷◌, [], ◌++◌, length, map, drop}
+use Rattle.std.specs.Prelude.{slice_get, slice_index_or, Option, None, Some, is_some}
 use Rattle.std.specs.Option.{option_map_or}
-use Rattle.sem_machine.specs.Prelude.{Message, Act, Calls, Fetch, Handle, Upcall, Resume, Flush, Kill, Entry, replies}
-use Rattle.sem_machine.specs.Prelude.{Setup, IsSetup, FabricValue, Side, outbox, IsSound, World, start_side}
-use Rattle.sem_machine.specs.Prelude.{is_locally_enabled, local_step, local_entry}
+use Rattle.sem_machine.specs.Prelude.{Message, Act, Calls, Fetch, Handle, Upcall, Resume, Flush, Kill, Event, Entry}
+use Rattle.sem_machine.specs.Prelude.{replies, Setup, IsSetup, FabricValue, Side, outbox, IsSound, World, start_side}
+use Rattle.sem_machine.specs.Prelude.{after, is_locally_enabled, local_step, local_entry}
 use Rattle.sem_msg.specs.Fabric.{link_in, relinked}
-use Rattle.sem_kernel.specs.KernelValue.{KernelValue, is_timely}
+use Rattle.sem_kernel.specs.KernelValue.{KernelValue, is_timely, IsInput}
 
 -- the sides of the kernels, the links of the fabric, and the number of replies in its journal
 abbrev pub world_of : List KernelValue → FabricValue → World
@@ -73,26 +73,37 @@ abbrev pub can_do : KernelValue → FabricValue → Act → Bool
 can_do k f act = (is_locally_enabled k.setup k.id k.side act && is_timely k.setup (length (replies f.journal)) act)
     && is_passable f k.id act
 
--- the kernel can do the act with that fabric: both are of one setup, and its side and the links
--- allow it
-pub record CanDo (k : KernelValue) (f : FabricValue) (act : Act) : Type 0 where
+-- the act is enabled as far as the side of the kernel tells, and both are of one setup
+pub record CanAct (k : KernelValue) (f : FabricValue) (act : Act) : Type 0 where
   pub setup : IsSetup k.setup
   pub few : k.id < k.setup.kernels
   pub sound : IsSound k.setup k.id k.side
   pub fabric : IsFabricOf k.setup f
   pub enabled : is_locally_enabled k.setup k.id k.side act ≡ true
+
+-- the kernel can do the act with that fabric: the links allow it too
+pub record CanDo (k : KernelValue) (f : FabricValue) (act : Act) : Type 0 where
+  pub able : CanAct k f act
   pub passes : is_passable f k.id act ≡ true
 
+-- the kernel can try the act with that fabric: it has its room and a place in the journal
+pub record CanTry (k : KernelValue) (f : FabricValue) (act : Act) : Type 0 where
+  pub able : CanAct k f act
+  pub ready : k.ready ≡ Some act
+  pub place : slice_index_or f.places k.id false ≡ true
+
 -- kernel k did the act with the fabric f, and they became l and g: the entry of the act is in the
--- journal
+-- journal, where the other kernels keep their places
 pub record HasDone (k : KernelValue) (f : FabricValue) (act : Act) (l : KernelValue) (g : FabricValue)
     (e : Entry) : Type 0 where
+  pub input : IsInput act (taken f k.id act)
   pub entry : e ≡ local_entry k.setup k.id k.side act (taken f k.id act)
   pub kernel : l ≡ record k { side = (local_step k.setup k.id k.side act (taken f k.id act)).side; ready = None }
   pub sound : IsSound k.setup k.id l.side
   pub links : g.links ≡ (carried k.id k.side act f).links
   pub journal : g.journal ≡ f.journal ++ e ∷ []
   pub fabric : IsFabricOf k.setup g
+  pub others : (j : ℕ) → j ≢ k.id → slice_index_or g.places j false ≡ slice_index_or f.places j false
 
 -- the act was done so, and whether its entry has a reply was told
 pub record HasReplied (k : KernelValue) (f : FabricValue) (act : Act) (l : KernelValue) (g : FabricValue)
@@ -111,6 +122,10 @@ pub record HasNotDone (k : KernelValue) (f : FabricValue) (l : KernelValue) (g :
 pub record WorldValue : Type 0 where
   pub setup : Setup
   pub world : World
+
+-- the same after an event
+abbrev pub stepped_value : WorldValue → Event → WorldValue
+stepped_value w e = record { setup = w.setup; world = after w.setup w.world e }
 
 -- kernel i at the start
 abbrev pub booted : Setup → ℕ → KernelValue

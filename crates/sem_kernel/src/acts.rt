@@ -6,7 +6,7 @@ ghost use Rattle.sem_msg.specs.declared.event.Act.TheVariants.{Upcall, Resume, F
 ghost use Rattle.sem_msg.specs.declared.entry.Detail.TheVariants.{Carried, Nothing};
 ghost use Rattle.sem_machine.specs.Machine.{asked_detail as asked_detail_lem, is_locally_enabled};
 ghost use Rattle.sem_kernel.specs.KernelStores.{side_of, AreSound};
-ghost use Rattle.sem_kernel.specs.Acting.{DoesAct};
+ghost use Rattle.sem_kernel.specs.Acting.{StoresCanAct, DoesAct};
 ghost use Rattle.sem_kernel.specs.Rooms.{IsReady};
 
 use crate::stores::Stores;
@@ -39,10 +39,7 @@ impl Stores {
     }
 
     fn call_next(&mut self, setup: &Setup, kernel: u32, vpe: u16) -> (Detail, Outcome)
-        requires are { AreSound setup.now kernel self.old }
-        requires enabled { is_locally_enabled setup.now kernel (side_of self.old) (Calls vpe)
-            ≡ true }
-        requires ready { IsReady setup.now (Calls vpe) self.old }
+        requires can { StoresCanAct setup.now kernel (Calls vpe) self.old }
         ensures { DoesAct setup.now kernel self.old (Calls vpe) None self.new result.0 result.1 }
     {
         let index = self.vpes.next_call(vpe);
@@ -56,9 +53,7 @@ impl Stores {
 
     // Handles the message in the inbox.
     fn handle_next(&mut self, setup: &Setup, kernel: u32) -> (Detail, Outcome)
-        requires are { AreSound setup.now kernel self.old }
-        requires enabled { is_locally_enabled setup.now kernel (side_of self.old) Handle ≡ true }
-        requires ready { IsReady setup.now Handle self.old }
+        requires can { StoresCanAct setup.now kernel Handle self.old }
         ensures { DoesAct setup.now kernel self.old Handle None self.new result.0 result.1 }
     {
         let inbox = self.inbox;
@@ -75,10 +70,7 @@ impl Stores {
     }
 
     fn kill(&mut self, setup: &Setup, kernel: u32, vpe: u16) -> (Detail, Outcome)
-        requires are { AreSound setup.now kernel self.old }
-        requires enabled { is_locally_enabled setup.now kernel (side_of self.old) (Kill vpe)
-            ≡ true }
-        requires ready { IsReady setup.now (Kill vpe) self.old }
+        requires can { StoresCanAct setup.now kernel (Kill vpe) self.old }
         ensures { DoesAct setup.now kernel self.old (Kill vpe) None self.new result.0 result.1 }
     {
         self.end(setup, kernel, vpe);
@@ -108,9 +100,7 @@ impl Stores {
     // Takes out the next message for a kernel.
     #[tactic(auto, unfolding(sem_machine::specs::Machine::local_step))]
     fn flush(&mut self, setup: &Setup, kernel: u32, to: u32) -> (Detail, Outcome)
-        requires are { AreSound setup.now kernel self.old }
-        requires enabled { is_locally_enabled setup.now kernel (side_of self.old) (Flush to)
-            ≡ true }
+        requires can { StoresCanAct setup.now kernel (Flush to) self.old }
         ensures { DoesAct setup.now kernel self.old (Flush to) None self.new result.0 result.1 }
     {
         let message = self.outs.pop(to);
@@ -120,10 +110,7 @@ impl Stores {
     // Asks the VPE for its consent.
     #[tactic(auto, unfolding(sem_machine::specs::Machine::local_step))]
     fn be_asked(&mut self, setup: &Setup, kernel: u32, vpe: u16) -> (Detail, Outcome)
-        requires are { AreSound setup.now kernel self.old }
-        requires enabled { is_locally_enabled setup.now kernel (side_of self.old) (Upcall vpe)
-            ≡ true }
-        requires ready { IsReady setup.now (Upcall vpe) self.old }
+        requires can { StoresCanAct setup.now kernel (Upcall vpe) self.old }
         ensures { DoesAct setup.now kernel self.old (Upcall vpe) None self.new result.0 result.1 }
     {
         let outcome = self.upcall(setup, kernel, vpe);
@@ -133,10 +120,7 @@ impl Stores {
     // Ends the waiting call of the VPE.
     #[tactic(auto, unfolding(sem_machine::specs::Machine::local_step))]
     fn go_on(&mut self, setup: &Setup, kernel: u32, vpe: u16) -> (Detail, Outcome)
-        requires are { AreSound setup.now kernel self.old }
-        requires enabled { is_locally_enabled setup.now kernel (side_of self.old) (Resume vpe)
-            ≡ true }
-        requires ready { IsReady setup.now (Resume vpe) self.old }
+        requires can { StoresCanAct setup.now kernel (Resume vpe) self.old }
         ensures { DoesAct setup.now kernel self.old (Resume vpe) None self.new result.0 result.1 }
     {
         let outcome = self.resume(setup, kernel, vpe);

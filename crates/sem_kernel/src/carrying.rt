@@ -17,7 +17,7 @@ pub fn is_passable(fabric: &Fabric, kernel: u32, act: Act) -> bool
     ensures { result ≡ is_passable_lem fabric.now kernel act }
 {
     match act {
-        Act::Fetch { from } => fabric.peek(kernel, from).is_some(),
+        Act::Fetch { from } => fabric.waiting(from, kernel) > 0,
         Act::Flush { to } => !fabric.full(kernel, to),
         _ => true,
     }

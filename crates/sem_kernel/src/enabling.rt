@@ -9,12 +9,19 @@ ghost use Rattle.sem_machine.specs.Machine.{next_call as next_call_lem};
 ghost use Rattle.sem_machine.specs.Resumes.{can_resume as can_resume_lem};
 ghost use Rattle.sem_machine.specs.Sides.{is_alive, outbox, parked, row};
 ghost use Rattle.sem_kernel.specs.KernelStores.{side_of, AreStoresOf, AreSound};
-ghost use Rattle.sem_kernel.specs.Listing.{vpe_act};
+ghost use Rattle.sem_kernel.specs.Listing.{AreVpeActs};
 
-use crate::listing::VpeRow;
 use crate::own::OwnVpe;
 use crate::stores::Stores;
 use sem_msg::{Act, Call, Parked, Setup};
+
+// Which acts of a VPE are enabled.
+#[derive(Clone, Copy)]
+pub struct VpeActs {
+    pub call: bool,
+    pub resume: bool,
+    pub upcall: bool,
+}
 
 impl Stores {
     // Whether the act is enabled, as far as the stores tell.
@@ -51,24 +58,21 @@ impl Stores {
         }
     }
 
-    // Whether the act of the row is enabled for the VPE, one of this kernel.
+    // Which acts of the VPE, one of this kernel, are enabled.
     #[tactic(auto, unfolding(sem_machine::specs::Machine::is_locally_enabled))]
-    pub fn can(&self, setup: &Setup, kernel: u32, row: VpeRow, own: OwnVpe) -> bool
+    pub fn vpe_acts(&self, setup: &Setup, kernel: u32, own: OwnVpe) -> VpeActs
         requires are { AreSound setup.now kernel self.now }
         requires here { kernel_of_lem setup.now own.vpe ≡ kernel }
         requires calls { length (calls_of setup.now own.vpe) ≡ own.calls }
-        ensures { result ≡ is_locally_enabled setup.now kernel (side_of self.now)
-            (vpe_act row own.vpe) }
+        ensures { AreVpeActs setup.now kernel (side_of self.now) own.vpe result }
     {
         let vpe = own.vpe;
-        match row {
-            VpeRow::Calls => {
-                self.vpes.alive(vpe)
-                    && self.park.state(vpe).is_none()
-                    && self.has_next_call(setup, kernel, own)
-            }
-            VpeRow::Resumes => can_resume(&self.park.state(vpe)),
-            VpeRow::Upcalls => self.vpes.alive(vpe) && self.is_asked(setup, kernel, vpe),
+        let alive = self.vpes.alive(vpe);
+        let state = self.park.state(vpe);
+        VpeActs {
+            call: alive && state.is_none() && self.has_next_call(setup, kernel, own),
+            resume: can_resume(&state),
+            upcall: alive && self.is_asked(setup, kernel, vpe),
         }
     }
 

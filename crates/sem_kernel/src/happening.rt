@@ -1,11 +1,13 @@
 // The events of kernels and their fabric.
 ghost use Rattle.std.specs.Prelude.{◌≡◌, ◌<◌, ◌&&◌, ◌↔◌, ◌∷◌, ◌++◌, true, false, []};
-ghost use Rattle.std.specs.Prelude.{slice_index_or, is_some, IfOk, OnOk, OnErr, IsErrOf};
+ghost use Rattle.std.specs.Prelude.{slice_index_or, None, is_some, IfSome, IfOk, OnOk, OnErr};
+ghost use Rattle.std.specs.Prelude.{IsErrOf};
 ghost use Rattle.sem_msg.specs.Fabric.{entered};
 ghost use Rattle.sem_machine.specs.Machine.{is_enabled as is_enabled_lem, after as after_lem};
 ghost use Rattle.sem_machine.specs.Machine.{entry_of};
 ghost use Rattle.sem_kernel.specs.Worlds.{world_of, AreKernelsOf, IsFabricOf, can_do as can_do_lem};
-ghost use Rattle.sem_kernel.specs.Worlds.{CanDo, HasReplied, HasNotDone};
+ghost use Rattle.sem_kernel.specs.Worlds.{is_passable as is_passable_lem, CanDo, CanTry};
+ghost use Rattle.sem_kernel.specs.Worlds.{HasReplied, HasNotDone};
 ghost use Rattle.sem_kernel.specs.Standing.{StandsAt};
 
 use crate::carrying::{carry, is_passable};
@@ -140,8 +142,8 @@ fn can_do(kernel: &Kernel, fabric: &Fabric, act: Act) -> bool
     kernel.enabled(act, fabric.replies()) && is_passable(fabric, kernel.id(), act)
 }
 
-// Lets the kernel do the act with the fabric, enters the entry of the act, and tells whether it has
-// a reply.
+// Lets the kernel do the act with the fabric, and tells whether its entry has a reply. If memory is
+// refused, nothing is done.
 fn step(kernel: &mut Kernel, fabric: &mut Fabric, act: Act) -> Result<bool, OutOfMemory>
     requires { CanDo kernel.old fabric.old act }
     ensures ok { IfOk result (HasReplied kernel.old fabric.old act kernel.new fabric.new) }
@@ -149,10 +151,31 @@ fn step(kernel: &mut Kernel, fabric: &mut Fabric, act: Act) -> Result<bool, OutO
 {
     kernel.make_room(act)?;
     fabric.reserve(kernel.id())?;
+    let Some(replied) = try_step(kernel, fabric, act) else {
+        unreachable!()
+    };
+    Ok(replied)
+}
+
+/// Lets the kernel do the act with the fabric, if the links allow it: moves the message of the act,
+/// steps, and enters the entry. Returns whether the entry has a reply; none if the links do not
+/// allow the act, and then nothing changes. Takes no memory.
+///
+/// The kernel and the fabric must be of one setup. The act must be enabled, as far as the kernel's
+/// side tells, and ready, and the kernel must have a place in the journal.
+pub fn try_step(kernel: &mut Kernel, fabric: &mut Fabric, act: Act) -> Option<bool>
+    requires { CanTry kernel.old fabric.old act }
+    ensures allowed { is_some result ≡ is_passable_lem fabric.old kernel.old.id act }
+    ensures done { IfSome result (HasReplied kernel.old fabric.old act kernel.new fabric.new) }
+    ensures not_done { result ≡ None → HasNotDone kernel.old fabric.old kernel.new fabric.new }
+{
+    if !is_passable(fabric, kernel.id(), act) {
+        return None;
+    }
     let input = carry(kernel, fabric, act);
     let entry = kernel.step(act, input);
     enter(fabric, &entry);
-    Ok(entry.reply.is_some())
+    Some(entry.reply.is_some())
 }
 
 // Appends the entry to the journal, at its kernel's place there.

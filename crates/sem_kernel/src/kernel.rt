@@ -10,11 +10,10 @@ ghost use Rattle.sem_machine.specs.Sides.{is_alive, endpoint, cap, parked as par
 ghost use Rattle.sem_machine.specs.Machine.{start_side, is_locally_enabled, local_step};
 ghost use Rattle.sem_machine.specs.Machine.{local_entry, replied_vpe as replied_vpe_lem};
 ghost use Rattle.sem_kernel.specs.KernelValue.{is_timely as is_timely_lem, IsInput};
-ghost use Rattle.sem_kernel.specs.Listing.{vpe_act};
+ghost use Rattle.sem_kernel.specs.Listing.{AreVpeActs};
 ghost use Rattle.sem_kernel.specs.Owning.{own_rows};
 
-use crate::enabling::kill_number;
-use crate::listing::VpeRow;
+use crate::enabling::{VpeActs, kill_number};
 use crate::own::{OwnVpe, own_vpes};
 use crate::shared::SharedSetup;
 use crate::stores::Stores;
@@ -115,20 +114,19 @@ impl Kernel {
         self.stores.inbox.is_some()
     }
 
-    // Its VPEs, by number.
-    pub(crate) fn own_vpes(&self) -> &[OwnVpe]
+    /// Its VPEs, by number.
+    pub fn own_vpes(&self) -> &[OwnVpe]
         ensures { result.now ≡ own_rows self.now.setup self.now.id }
     {
         &self.own
     }
 
-    // Whether the act of the row is enabled for one of its VPEs.
-    pub(crate) fn can(&self, row: VpeRow, own: OwnVpe) -> bool
+    // Which acts of one of its VPEs are enabled.
+    pub(crate) fn vpe_acts(&self, own: OwnVpe) -> VpeActs
         requires { Contains (own_rows self.now.setup self.now.id) own }
-        ensures { result ≡ is_locally_enabled self.now.setup self.now.id self.now.side
-            (vpe_act row own.vpe) }
+        ensures { AreVpeActs self.now.setup self.now.id self.now.side own.vpe result }
     {
-        self.stores.can(self.setup.get(), self.id, row, own)
+        self.stores.vpe_acts(self.setup.get(), self.id, own)
     }
 
     /// Whether the VPE, one of this kernel, is alive.

@@ -23,9 +23,10 @@ mod strays;
 mod upcalls;
 mod world;
 
-pub use happening::{StepError, advance, happen, happen_enabled, is_enabled};
+pub use happening::{StepError, advance, happen, happen_enabled, is_enabled, try_step};
 pub use kernel::Kernel;
 pub use listing::{append_enabled, enabled_events};
+pub use own::OwnVpe;
 pub use sem_key::OutOfMemory;
 pub use starts::boot;
 pub use world::{World, boot_kernels};

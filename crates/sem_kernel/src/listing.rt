@@ -1,21 +1,25 @@
 // The list of the enabled events of kernels and their fabric.
-ghost use Rattle.std.specs.Prelude.{◌≡◌, ◌<◌, ◌++◌, ◌∷◌, [], map, OnOk, OnErr};
+ghost use Rattle.std.specs.Prelude.{◌≡◌, ◌<◌, ◌==◌, ◌||◌, ◌++◌, ◌∷◌, [], map};
+ghost use Rattle.std.specs.Prelude.{IfOk, OnOk, OnErr};
 ghost use Rattle.std.specs.List.{range_with_len};
 ghost use Rattle.sem_msg.specs.declared.event.Act.TheVariants.{Fetch, Handle, Flush, Kill};
+ghost use Rattle.sem_msg.specs.Masks.{has_bit};
 ghost use Rattle.sem_machine.specs.Machine.{event, enabled};
+ghost use Rattle.sem_kernel.specs.declared.listing.VpeRow.TheVariants.{Calls, Resumes, Upcalls};
 ghost use Rattle.sem_kernel.specs.Worlds.{world_of, AreKernelsOf};
-ghost use Rattle.sem_kernel.specs.Listing.{enabled_of, enabled_among, others_in, vpe_act, peer_act};
+ghost use Rattle.sem_kernel.specs.Listing.{enabled_of, enabled_among, enabled_in, vpe_events};
+ghost use Rattle.sem_kernel.specs.Listing.{IsVpeMaskOf, others_in, vpe_act, peer_act};
 
 use crate::happening::is_enabled;
 use crate::kernel::Kernel;
 use sem_fabric::Fabric;
-use sem_key::OutOfMemory;
+use sem_key::{OutOfMemory, VPES};
 use sem_msg::{Act, Event, Setup, with_bit, without};
 use std::alloc::Global;
 
 // The rows of events that go through the VPEs.
 #[derive(Clone, Copy)]
-pub enum VpeRow {
+enum VpeRow {
     Calls,
     Resumes,
     Upcalls,
@@ -51,6 +55,13 @@ impl PeerRow {
             PeerRow::Flushes => Act::Flush { to: peer },
         }
     }
+}
+
+// VPEs of a kernel, a bit for each: those with an enabled resume, and those with an enabled upcall.
+#[derive(Clone, Copy)]
+struct VpeMasks {
+    resumes: u128,
+    upcalls: u128,
 }
 
 /// Replaces the list by the enabled events, kernel by kernel. For each kernel come its calls,
@@ -108,41 +119,82 @@ fn append_rows(
     ensures { OnOk result (out.new.items ≡ out.old.items
         ++ enabled_of setup.now (world_of kernels.now fabric.now) kernel) }
 {
-    append_vpe_row(setup, kernels, fabric, kernel, VpeRow::Calls, out)?;
-    append_vpe_row(setup, kernels, fabric, kernel, VpeRow::Resumes, out)?;
-    append_vpe_row(setup, kernels, fabric, kernel, VpeRow::Upcalls, out)?;
+    let masks = append_calls(setup, kernels, fabric, kernel, out)?;
+    append_vpes(kernel, VpeRow::Resumes, masks.resumes, out)?;
+    append_vpes(kernel, VpeRow::Upcalls, masks.upcalls, out)?;
     append_handling(setup, kernels, fabric, kernel, out)?;
     append_fetches(setup, kernels, fabric, kernel, out)?;
     append_flushes(setup, kernels, fabric, kernel, out)?;
     append_kills(setup, kernels, fabric, kernel, out)
 }
 
-// Appends the enabled events of a row that goes through the VPEs.
-fn append_vpe_row(
+// Appends the enabled calls of the kernel, and returns the VPEs with an enabled resume and those
+// with an enabled upcall.
+fn append_calls(
     setup: &Setup,
     kernels: &[Kernel],
     fabric: &Fabric,
     kernel: u32,
-    row: VpeRow,
     out: &mut Vec<Event>,
-) -> Result<(), OutOfMemory>
+) -> Result<VpeMasks, OutOfMemory>
     requires together { AreKernelsOf setup.now kernels.now fabric.now }
     requires few { kernel < setup.now.kernels }
-    ensures { OnOk result (out.new.items ≡ out.old.items
-        ++ enabled_among setup.now (world_of kernels.now fabric.now)
-        (map (λ d. event kernel (vpe_act row d.vpe)) setup.now.vpes)) }
+    ensures calls { OnOk result (out.new.items ≡ out.old.items
+        ++ enabled_in setup.now (world_of kernels.now fabric.now) kernel Calls) }
+    ensures resumes { IfOk result (λ masks. vpe_events kernel Resumes masks.resumes
+        ≡ enabled_in setup.now (world_of kernels.now fabric.now) kernel Resumes) }
+    ensures upcalls { IfOk result (λ masks. vpe_events kernel Upcalls masks.upcalls
+        ≡ enabled_in setup.now (world_of kernels.now fabric.now) kernel Upcalls) }
 {
     // Shows the proof what a setup keeps.
     let _ = &setup.vpes;
+    let mut resumes = 0;
+    let mut upcalls = 0;
     // A VPE of another kernel has no events here.
     let this = &kernels[kernel as usize];
     for own in this.own_vpes() {
-        if this.can(row, *own) {
+        let acts = this.vpe_acts(*own);
+        if acts.call {
             out.push(Event {
                 kernel,
-                act: row.act(own.vpe),
+                act: VpeRow::Calls.act(own.vpe),
             })?;
         }
+        if acts.resume {
+            resumes = with_vpe(resumes, own.vpe);
+        }
+        if acts.upcall {
+            upcalls = with_vpe(upcalls, own.vpe);
+        }
+    }
+    Ok(VpeMasks { resumes, upcalls })
+}
+
+// The mask with a bit for the VPE too.
+fn with_vpe(mask: u128, vpe: u16) -> u128
+    requires { vpe < VPES }
+    ensures { IsVpeMaskOf (λ v. has_bit mask v || (v == vpe)) result }
+{
+    mask | 1 << vpe
+}
+
+// Appends the event of a row for each VPE that has a bit in the mask, in their order.
+fn append_vpes(
+    kernel: u32,
+    row: VpeRow,
+    mask: u128,
+    out: &mut Vec<Event>,
+) -> Result<(), OutOfMemory>
+    ensures { OnOk result (out.new.items ≡ out.old.items ++ vpe_events kernel row mask) }
+{
+    let mut left = mask;
+    while left != 0 {
+        let vpe = left.trailing_zeros();
+        left &= !(1 << vpe);
+        out.push(Event {
+            kernel,
+            act: row.act(vpe as u16),
+        })?;
     }
     Ok(())
 }

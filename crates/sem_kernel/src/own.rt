@@ -6,7 +6,7 @@ use sem_key::OutOfMemory;
 use sem_msg::Setup;
 use std::alloc::Global;
 
-// A VPE of a kernel, and how many calls it makes.
+/// A VPE of a kernel, and how many calls it makes.
 #[derive(Clone, Copy, Debug)]
 pub struct OwnVpe {
     pub vpe: u16,

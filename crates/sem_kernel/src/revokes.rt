@@ -3,15 +3,14 @@ ghost use Rattle.std.specs.Prelude.{◌≡◌, ◌≢◌, ◌+◌, ◌<◌, ◌�
 ghost use Rattle.std.specs.Prelude.{vec_capacity};
 ghost use Rattle.sem_msg.specs.declared.message.Message.TheVariants.{RevokeReq, RevokeDone};
 ghost use Rattle.sem_msg.specs.JobRows.{job_of};
-ghost use Rattle.sem_msg.specs.Lookups.{kernel_of as kernel_of_lem};
 ghost use Rattle.sem_msg.specs.Message.{IsJobId};
 ghost use Rattle.sem_msg.specs.Setup.{IsSetup};
 ghost use Rattle.sem_machine.specs.Sides.{parked};
 ghost use Rattle.sem_machine.specs.Calls.{clear_row, revoke_row};
-ghost use Rattle.sem_machine.specs.Handles.{handle_row};
 ghost use Rattle.sem_machine.specs.Revokes.{finished};
 ghost use Rattle.sem_machine.specs.Sound.{IsSoundBut, ids_owed, ids_paid};
 ghost use Rattle.sem_kernel.specs.KernelStores.{side_of, AreStoresOf, AreSound};
+ghost use Rattle.sem_kernel.specs.Handing.{CanCall, HasCalled, HasHandled};
 ghost use Rattle.sem_kernel.specs.Rooms.{HasRoomToRevoke};
 
 use crate::stores::Stores;
@@ -22,13 +21,11 @@ use sem_sweep::{revoke_done, sweep};
 
 impl Stores {
     pub fn revoke(&mut self, setup: &Setup, kernel: u32, vpe: u16, src: u8) -> Outcome
-        requires are { AreSound setup.now kernel self.old }
-        requires here { kernel_of_lem setup.now vpe ≡ kernel }
+        requires can { CanCall setup.now kernel vpe self.old }
         requires idle { parked (side_of self.old) vpe ≡ None }
         requires room { HasRoomToRevoke 0 self.old }
-        ensures row { record { side = side_of self.new; outcome = result }
-            ≡ revoke_row setup.now kernel (side_of self.old) vpe src }
-        ensures stores { AreStoresOf setup.now kernel self.new }
+        ensures { HasCalled setup.now kernel self.new result
+            (revoke_row setup.now kernel (side_of self.old) vpe src) }
     {
         let (outcome, done) = revoke_call(
             setup,
@@ -49,14 +46,12 @@ impl Stores {
 
     // The call `clear`, which pays for its job.
     pub fn clear(&mut self, setup: &Setup, kernel: u32, vpe: u16, src: u8) -> Outcome
-        requires are { AreSound setup.now kernel self.old }
-        requires here { kernel_of_lem setup.now vpe ≡ kernel }
+        requires can { CanCall setup.now kernel vpe self.old }
         requires idle { parked (side_of self.old) vpe ≡ None }
         requires pays { ids_owed (side_of self.old) + 1 ≤ ids_paid (side_of self.old) }
         requires room { HasRoomToRevoke 0 self.old }
-        ensures row { record { side = side_of self.new; outcome = result }
-            ≡ clear_row setup.now kernel (side_of self.old) vpe src }
-        ensures stores { AreStoresOf setup.now kernel self.new }
+        ensures { HasCalled setup.now kernel self.new result
+            (clear_row setup.now kernel (side_of self.old) vpe src) }
     {
         let (outcome, done) = clear_call(
             setup,
@@ -82,9 +77,7 @@ impl Stores {
         requires other { from ≢ kernel }
         requires id { IsJobId job }
         requires room { HasRoomToRevoke 0 self.old }
-        ensures row { side_of self.new
-            ≡ handle_row setup.now kernel (side_of self.old) from (RevokeReq key job) }
-        ensures stores { AreStoresOf setup.now kernel self.new }
+        ensures { HasHandled setup.now kernel from self.old self.new (RevokeReq key job) }
     {
         let done = revoke_request(
             setup,
@@ -108,9 +101,7 @@ impl Stores {
         requires are { AreSound setup.now kernel self.old }
         requires outs { length self.old.jobs.jobs ≤ self.old.outs.spare }
         requires gone { length self.old.caps.caps ≤ vec_capacity self.old.scratch.gone }
-        ensures row { side_of self.new
-            ≡ handle_row setup.now kernel (side_of self.old) from (RevokeDone job) }
-        ensures stores { AreStoresOf setup.now kernel self.new }
+        ensures { HasHandled setup.now kernel from self.old self.new (RevokeDone job) }
     {
         let done = revoke_done(job, &mut self.jobs);
         self.finish(setup, kernel, done);

@@ -1,11 +1,11 @@
 // The asks of a VPE and its waiting call, on the stores of its kernel.
 ghost use Rattle.std.specs.Prelude.{◌≡◌, true, is_some, slice_get};
 ghost use Rattle.std.specs.Option.{option_and_then};
-ghost use Rattle.sem_msg.specs.Lookups.{kernel_of as kernel_of_lem};
 ghost use Rattle.sem_machine.specs.Sides.{row, parked};
 ghost use Rattle.sem_machine.specs.Upcalls.{upcall_row};
 ghost use Rattle.sem_machine.specs.Resumes.{resume_row, can_resume};
-ghost use Rattle.sem_kernel.specs.KernelStores.{side_of, AreStoresOf, AreSound};
+ghost use Rattle.sem_kernel.specs.KernelStores.{side_of};
+ghost use Rattle.sem_kernel.specs.Handing.{CanCall, HasCalled};
 ghost use Rattle.sem_kernel.specs.Rooms.{HasRoom, asked_parent, resumed_parent};
 ghost use Rattle.sem_kernel.specs.Ending.{ends_obtain as ends_obtain_lem};
 ghost use Rattle.sem_kernel.specs.Ending.{ends_delegate as ends_delegate_lem};
@@ -18,15 +18,13 @@ use sem_obtain::{obtain_resume, obtain_upcall};
 impl Stores {
     // The oldest ask that waits for the VPE asks it for its consent, and it decides.
     pub fn upcall(&mut self, setup: &Setup, kernel: u32, vpe: u16) -> Outcome
-        requires are { AreSound setup.now kernel self.old }
-        requires here { kernel_of_lem setup.now vpe ≡ kernel }
+        requires can { CanCall setup.now kernel vpe self.old }
         requires asked { is_some (slice_get (row (side_of self.old) vpe).asks 0) ≡ true }
         requires room { HasRoom
             (option_and_then (asked_parent setup.now (side_of self.old) vpe)
             (slice_get (row (side_of self.old) vpe).asks 0)) self.old }
-        ensures row { record { side = side_of self.new; outcome = result }
-            ≡ upcall_row setup.now kernel (side_of self.old) vpe }
-        ensures stores { AreStoresOf setup.now kernel self.new }
+        ensures { HasCalled setup.now kernel self.new result
+            (upcall_row setup.now kernel (side_of self.old) vpe) }
     {
         let ask = self.vpes.next_ask(vpe);
         match &ask {
@@ -66,13 +64,11 @@ impl Stores {
 
     // Lets the waiting call of the VPE go on.
     pub fn resume(&mut self, setup: &Setup, kernel: u32, vpe: u16) -> Outcome
-        requires are { AreSound setup.now kernel self.old }
-        requires here { kernel_of_lem setup.now vpe ≡ kernel }
-        requires can { can_resume (parked (side_of self.old) vpe) ≡ true }
+        requires can { CanCall setup.now kernel vpe self.old }
+        requires resumes { can_resume (parked (side_of self.old) vpe) ≡ true }
         requires room { HasRoom (resumed_parent (parked (side_of self.old) vpe)) self.old }
-        ensures row { record { side = side_of self.new; outcome = result }
-            ≡ resume_row setup.now (side_of self.old) vpe }
-        ensures stores { AreStoresOf setup.now kernel self.new }
+        ensures { HasCalled setup.now kernel self.new result
+            (resume_row setup.now (side_of self.old) vpe) }
     {
         let state = self.park.state(vpe);
         if ends_obtain(&state) {

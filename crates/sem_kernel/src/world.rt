@@ -1,13 +1,13 @@
-ghost use Rattle.std.specs.Prelude.{◌≡◌, ◌<◌, ◌↔◌, false, map, IfOk, OnOk, OnErr, IsErrOf};
+ghost use Rattle.std.specs.Prelude.{◌≡◌, ◌<◌, ◌↔◌, false, true, map, IfOk, OnOk, OnErr, IsErrOf};
 ghost use Rattle.std.specs.List.{range_with_len};
 ghost use Rattle.std.specs.Option.{option_map};
 ghost use Rattle.sem_msg.specs.Lookups.{kernel_of};
 ghost use Rattle.sem_machine.specs.Sides.{is_alive as is_alive_lem, endpoint};
 ghost use Rattle.sem_machine.specs.Machine.{side, start, enabled, is_enabled as is_enabled_lem};
 ghost use Rattle.sem_machine.specs.Machine.{after as after_lem, entry_of};
-ghost use Rattle.sem_kernel.specs.Worlds.{booted};
+ghost use Rattle.sem_kernel.specs.Worlds.{booted, stepped_value};
 
-use crate::happening::{StepError, happen, is_enabled};
+use crate::happening::{StepError, advance, happen, is_enabled};
 use crate::kernel::Kernel;
 use crate::listing::enabled_events;
 use crate::shared::SharedSetup;
@@ -17,8 +17,8 @@ use sem_msg::{ENDPOINTS, Entry, Event, Journal, Setup};
 use std::alloc::Global;
 use std::marker::Model;
 
-/// All kernels of a setup and the fabric between them. Only `boot`, `enabled_events` and `step`
-/// take memory.
+/// All kernels of a setup and the fabric between them. Only `boot`, `enabled_events`, `step` and
+/// `advance` take memory.
 #[derive(Debug, Drop)]
 pub struct World {
     setup: Setup,
@@ -121,6 +121,16 @@ impl World {
         ensures unchanged { OnErr result (self.new ≡ self.old) }
     {
         happen(&self.setup, &mut self.kernels, &mut self.fabric, event)
+    }
+
+    /// Lets the event happen, an enabled one. If memory is refused, the world is as before.
+    pub fn advance(&mut self, event: Event) -> Result<(), OutOfMemory>
+        requires { is_enabled_lem self.old.setup self.old.world event ≡ true }
+        ensures ok { OnOk result (self.new ≡ stepped_value self.old event) }
+        ensures err { OnErr result (self.new ≡ self.old) }
+    {
+        advance(&self.setup, &mut self.kernels, &mut self.fabric, event)?;
+        Ok(())
     }
 }
 

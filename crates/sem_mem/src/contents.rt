@@ -16,7 +16,6 @@ ghost use Rattle.sem_mem.specs.Accounts.{IsAccount, IsAccountOf};
 
 use crate::account::Account;
 use crate::memory::Memory;
-use crate::replays::go_on;
 use sem_access::{Access, Look, Run};
 use sem_kernel::World;
 use sem_key::OutOfMemory;
@@ -55,7 +54,7 @@ fn account_of(alloc: Global, setup: &Setup, entries: &[Entry]) -> Result<Account
     let mut account = Account::new(alloc);
     for (place, entry) in entries.iter().enumerate() {
         account.before(&world, place as u64, entry);
-        go_on(&mut world, entry.event)?;
+        world.advance(entry.event)?;
         account.after(setup, &entries[..place], entry)?;
     }
     Ok(account)

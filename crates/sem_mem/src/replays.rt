@@ -1,15 +1,14 @@
 // The accesses of a journal.
-ghost use Rattle.std.specs.Prelude.{◌≡◌, ◌++◌, true, IfOk, OnOk};
+ghost use Rattle.std.specs.Prelude.{◌≡◌, ◌++◌, IfOk, OnOk};
 ghost use Rattle.std.specs.Option.{option_to_list};
-ghost use Rattle.sem_machine.specs.Machine.{is_enabled, after};
 ghost use Rattle.sem_machine.specs.Schedules.{IsSchedule};
 ghost use Rattle.sem_access.specs.Accesses.{accesses as accesses_lem};
 ghost use Rattle.sem_access.specs.Transfers.{transfer_of as transfer_of_lem, access_by};
 
 use sem_access::{Access, AccessList, transfer_of};
-use sem_kernel::{StepError, World};
+use sem_kernel::World;
 use sem_key::OutOfMemory;
-use sem_msg::{Entry, Event, Journal, Setup};
+use sem_msg::{Entry, Journal, Setup};
 use std::alloc::Global;
 
 /// The reads and writes that succeeded, of a journal that the machine can make. It goes through the
@@ -24,7 +23,7 @@ pub fn accesses(alloc: Global, setup: &Setup, journal: &Journal) -> Result<Acces
     let mut found = AccessList::new(alloc);
     for (place, entry) in journal.as_slice().iter().enumerate() {
         push_access(&mut found, &world, place as u64, entry)?;
-        go_on(&mut world, entry.event)?;
+        world.advance(entry.event)?;
     }
     Ok(found)
 }
@@ -54,20 +53,5 @@ pub fn access_at(world: &World, place: u64, entry: &Entry) -> Option<Access>
     match world.binding(transfer.vpe, transfer.ep) {
         Some((key, object)) => Some(transfer.access(place, key, &object)),
         None => None,
-    }
-}
-
-/// Takes the step of an enabled event.
-pub fn go_on(world: &mut World, event: Event) -> Result<(), OutOfMemory>
-    requires { is_enabled world.old.setup world.old.world event ≡ true }
-    ensures { OnOk result (world.new ≡ record {
-      setup = world.old.setup;
-      world = after world.old.setup world.old.world event;
-    }) }
-{
-    match world.step(event) {
-        Ok(_) => Ok(()),
-        Err(StepError::Memory) => Err(OutOfMemory),
-        Err(StepError::NotEnabled) => unreachable!(),
     }
 }

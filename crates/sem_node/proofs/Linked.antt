@@ -1,170 +1,114 @@
--- The step of a kernel that has the fabric: what it asks of the fabric, and what it leaves.
-use Rattle.std.proofs.Common.{◌≡◌, ◌≢◌, ℕ, ◌<◌, Bool, true, false, List, [], ◌∷◌, ◌++◌, length, drop, set, slice_get, Option, None, Some, refl, sym, ◌∙◌, ap}
-use Rattle.std.proofs.Common.{subst, arith}
-use Rattle.std.specs.Prelude.{slice_index_or}
-use Rattle.std.proofs.lemmas.Option.{slice_get_within, get_or_from_slice_get}
+-- What a fetch or a flush of a kernel leaves: the fabric is whole, and no call was answered.
+use Rattle.std.proofs.Common.{◌≡◌, ℕ, ◌<◌, true, [], ◌∷◌, ◌++◌, length, drop, slice_get, Option, None, Some, refl, sym, ◌∙◌, ap, subst}
+use Rattle.std.specs.Option.{option_map_or}
+use Rattle.std.proofs.lemmas.Bool.{ltb-true}
 use Rattle.sem_msg.specs.declared.message.Message.{Message}
-use Rattle.sem_msg.specs.Message.{Fits}
 use Rattle.sem_msg.specs.declared.event.Act.{Act}
-use Rattle.sem_msg.specs.declared.event.Act.TheVariants.{Fetch, Flush}
-use Rattle.sem_msg.specs.declared.event.Event.{Event}
+use Rattle.sem_msg.specs.declared.event.Act.TheVariants.{Call as Calls, Fetch, Handle, Upcall, Resume, Flush, Kill}
 use Rattle.sem_msg.specs.declared.entry.Entry.{Entry}
-use Rattle.sem_msg.specs.declared.entry.Detail.TheVariants.{Carried}
-use Rattle.sem_msg.specs.Fabric.{FabricValue, link_in, link_put, relinked, entered}
+use Rattle.sem_msg.specs.Setup.{Setup}
+use Rattle.sem_msg.specs.Fabric.{FabricValue, link_in, relinked, entered}
 use Rattle.sem_msg.proofs.Squares.{square-put}
 use Rattle.sem_msg.proofs.Entering.{agrees-fetch, agrees-flush}
 use Rattle.sem_machine.specs.Sides.{outbox}
 use Rattle.sem_machine.specs.Machine.{local_step, local_entry}
 use Rattle.sem_kernel.specs.KernelValue.{KernelValue, IsInput}
-use Rattle.sem_kernel.proofs.Peers.{enabled-peer}
-use Rattle.sem_parts.proofs.LocalRuns.{entry-event}
+use Rattle.sem_kernel.specs.Rooms.{only_moves}
+use Rattle.sem_kernel.specs.Worlds.{is_passable, taken, carried, CanAct, HasDone}
+use Rattle.sem_kernel.proofs.Peers.{enabled-peer, able-below}
 use Rattle.sem_parts.proofs.EnteredSteps.{flush-carries}
 use Rattle.sem_turn.specs.Passes.{IsWhole}
-use Rattle.sem_node.specs.Stepping.{CanStep, HasStepped}
-
--- the kernel is one of the fabric
-pub own-below : (k : KernelValue) (f : FabricValue) (act : Act) → CanStep k f act → k.id < f.kernels
-own-below k f act can = let few = can.few in let same = can.whole.agrees.same_kernels in omega (arith, few, same)
-
-module _ (k : KernelValue) (f : FabricValue) (j i : ℕ) (i_is : i ≡ k.id) where
-  -- a fetch goes between kernels of the fabric
-  pub fetch-kernels : CanStep k f (Fetch j) → (j < f.kernels) × (i < f.kernels)
-  fetch-kernels can =
-      let peer = (enabled-peer k.setup k.id k.side (Fetch j) can.enabled).0 in
-      let same = can.whole.agrees.same_kernels in
-      let own = own-below k f (Fetch j) can in
-      (omega (arith, peer, same), omega (arith, own, i_is))
-
-  -- and so does a flush
-  pub flush-kernels : CanStep k f (Flush j) → (i < f.kernels) × (j < f.kernels)
-  flush-kernels can =
-      let peer = (enabled-peer k.setup k.id k.side (Flush j) can.enabled).0 in
-      let same = can.whole.agrees.same_kernels in
-      let own = own-below k f (Flush j) can in
-      (omega (arith, own, i_is), omega (arith, peer, same))
-
-  pub fetch-other : CanStep k f (Fetch j) → j ≢ i
-  fetch-other can same = (enabled-peer k.setup k.id k.side (Fetch j) can.enabled).1 (same ∙ i_is)
-
-  pub flush-other : CanStep k f (Flush j) → i ≢ j
-  flush-other can same = (enabled-peer k.setup k.id k.side (Flush j) can.enabled).1 (sym same ∙ i_is)
-
--- the receiver of a flush is a kernel of the setup
-pub flush-to : (k : KernelValue) (f : FabricValue) (j : ℕ) → CanStep k f (Flush j) → j < k.setup.kernels
-flush-to k f j can = (enabled-peer k.setup k.id k.side (Flush j) can.enabled).0
-
--- a message waits
-pub flush-some : (k : KernelValue) (f : FabricValue) (j : ℕ) → CanStep k f (Flush j) → slice_get (outbox k.side j) 0 ≡ None → ⊥
-flush-some k f j can none = let waits = flush-carries k.setup k.id k.side j can.enabled in let both : None ≡ Some waits.0 = sym none ∙ waits.2 in absurd cc
-
--- and fits
-pub flush-fits : (k : KernelValue) (f : FabricValue) (j : ℕ) → CanStep k f (Flush j) → (m : Message) → slice_get (outbox k.side j) 0 ≡ Some m → Fits m
-flush-fits k f j can m at = (can.sound.outs j m (0, slice_get_within (outbox k.side j) 0 m at, get_or_from_slice_get (outbox k.side j) 0 m m at)).0
-
--- The kernel k stepped and became l; x is the fabric f with other links, and h has the entry too.
-module _ (k l : KernelValue) (f x h : FabricValue) (act : Act) (input : Option Message) (e : Entry) (ls : List (List (List Message)))
-    (can : CanStep k f act) (made : e ≡ local_entry k.setup k.id k.side act input) (moved : x ≡ record f { links = ls }) where
-  made-by : e.event.kernel ≡ k.id
-  made-by = ap (λ (y : Entry). y.event.kernel) made ∙ ap (λ (y : Event). y.kernel) (entry-event k.setup k.id k.side act input)
-
-  -- the entry is of a kernel of the fabric
-  pub enter-kernel : e.event.kernel < x.kernels
-  enter-kernel =
-      let own = own-below k f act can in
-      let by = made-by in
-      let same = ap (λ (y : FabricValue). y.kernels) moved in
-      omega (arith, own, by, same)
-
-  -- which has a place
-  pub enter-place : slice_index_or x.places e.event.kernel false ≡ true
-  enter-place = subst (λ (y : List Bool × ℕ). slice_index_or y.0 y.1 false ≡ true) (λ n. (sym (ap (λ (y : FabricValue). y.places) moved) n, sym made-by n))
-      can.place
-
-  -- so the step is one
-  pub has-stepped : l ≡ record k { side = (local_step k.setup k.id k.side act input).side; ready = None } → IsInput act input → h ≡ entered e x
-      → (local_entry k.setup k.id k.side act input).reply ≡ None → IsWhole k.setup (entered (local_entry k.setup k.id k.side act input) (record f { links = ls })) → HasStepped k f act l h
-  has-stepped stepped handed at_end silent whole = record {
-    input = input;
-    entry = e;
-    handed = handed;
-    made = made;
-    silent = ap (λ (y : Entry). y.reply) made ∙ silent;
-    kernel = stepped;
-    whole = subst (IsWhole k.setup) (λ n. sym (at_end ∙ (λ m. entered (made m) (moved m))) n) whole;
-    journal = ap (λ (y : FabricValue). y.journal) at_end ∙ ap (λ (y : FabricValue). y.journal ++ e ∷ []) moved;
-    places = ap (λ (y : FabricValue). y.places) at_end ∙ (λ n. set (ap (λ (y : FabricValue). y.places) moved n) (made-by n) false);
-  }
 
 -- Neither of the two steps replies.
 
-fetch-silent : (k : KernelValue) (j : ℕ) (m : Message) → (local_entry k.setup k.id k.side (Fetch j) (Some m)).reply ≡ None
+moves-silent : (k : KernelValue) (act : Act) (input : Option Message) → only_moves act ≡ true → IsInput act input →
+    (local_entry k.setup k.id k.side act input).reply ≡ None
 unfolding local_entry local_step
-fetch-silent k j m = refl
-
-flush-silent : (k : KernelValue) (j : ℕ) → (local_entry k.setup k.id k.side (Flush j) None).reply ≡ None
-unfolding local_entry local_step
-flush-silent k j = refl
+moves-silent k (Fetch j) None moves is = absurd is
+moves-silent k (Fetch j) (Some m) moves is = refl
+moves-silent k (Flush j) None moves is = refl
+moves-silent k (Flush j) (Some m) moves is = absurd is
+moves-silent k (Calls v) input moves is = absurd cc
+moves-silent k Handle input moves is = absurd cc
+moves-silent k (Upcall v) input moves is = absurd cc
+moves-silent k (Resume v) input moves is = absurd cc
+moves-silent k (Kill v) input moves is = absurd cc
 
 -- The fabric is whole after the two steps.
 
-pub fetch-whole : (k : KernelValue) (f : FabricValue) (j : ℕ) (m : Message) → CanStep k f (Fetch j) → slice_get (link_in f.links j k.id) 0 ≡ Some m
-    → IsWhole k.setup (entered (local_entry k.setup k.id k.side (Fetch j) (Some m)) (relinked j k.id (drop 1 (link_in f.links j k.id)) f))
-unfolding local_entry
-fetch-whole k f j m can first = record {
-  agrees = agrees-fetch k.setup f can.whole.agrees (local_entry k.setup k.id k.side (Fetch j) (Some m)) (own-below k f (Fetch j) can) j m refl refl first;
-  square = square-put k.setup.kernels f.links j k.id (drop 1 (link_in f.links j k.id)) can.whole.square
-      (enabled-peer k.setup k.id k.side (Fetch j) can.enabled).0 can.few;
-}
+module _ (k : KernelValue) (f : FabricValue) (whole : IsWhole k.setup f) where
+  fetch-whole : (j : ℕ) (o : Option Message) → CanAct k f (Fetch j) → IsInput (Fetch j) o → slice_get (link_in f.links j k.id) 0 ≡ o →
+      IsWhole k.setup (entered (local_entry k.setup k.id k.side (Fetch j) o) (relinked j k.id (drop 1 (link_in f.links j k.id)) f))
+  unfolding local_entry
+  fetch-whole j None can is first = absurd is
+  fetch-whole j (Some m) can is first = record {
+    agrees = agrees-fetch k.setup f whole.agrees (local_entry k.setup k.id k.side (Fetch j) (Some m)) (able-below k f (Fetch j) can) j m refl refl first;
+    square = square-put k.setup.kernels f.links j k.id (drop 1 (link_in f.links j k.id)) whole.square
+        (enabled-peer k.setup k.id k.side (Fetch j) can.enabled).0 can.few;
+  }
 
-pub flush-whole : (k : KernelValue) (f : FabricValue) (j : ℕ) (m : Message) → CanStep k f (Flush j) → slice_get (outbox k.side j) 0 ≡ Some m →
-    length (link_in f.links k.id j) < f.window
-    → IsWhole k.setup (entered (local_entry k.setup k.id k.side (Flush j) None) (relinked k.id j (link_in f.links k.id j ++ m ∷ []) f))
-unfolding local_entry
-flush-whole k f j m can waits room =
-    let carried = flush-carries k.setup k.id k.side j can.enabled in
-    let same : carried.0 ≡ m = cc (sym carried.2 ∙ waits) in
-    record {
-      agrees = agrees-flush k.setup f can.whole.agrees (local_entry k.setup k.id k.side (Flush j) None) (own-below k f (Flush j) can) j m refl (carried.1
-          ∙ ap (Carried j) same) room;
-      square = square-put k.setup.kernels f.links k.id j (link_in f.links k.id j ++ m ∷ []) can.whole.square can.few (flush-to k f j can);
-    }
+  flush-whole : (j : ℕ) → CanAct k f (Flush j) → length (link_in f.links k.id j) < f.window →
+      IsWhole k.setup (entered (local_entry k.setup k.id k.side (Flush j) None) (carried k.id k.side (Flush j) f))
+  unfolding local_entry
+  flush-whole j can room =
+      let sent = flush-carries k.setup k.id k.side j can.enabled in
+      subst (λ o. IsWhole k.setup (entered (local_entry k.setup k.id k.side (Flush j) None)
+      (option_map_or (λ m. relinked k.id j (link_in f.links k.id j ++ m ∷ []) f) o f))) (sym sent.2) (record {
+        agrees = agrees-flush k.setup f whole.agrees (local_entry k.setup k.id k.side (Flush j) None) (able-below k f (Flush j) can) j sent.0 refl sent.1 room;
+        square = square-put k.setup.kernels f.links k.id j (link_in f.links k.id j ++ sent.0 ∷ []) whole.square can.few
+            (enabled-peer k.setup k.id k.side (Flush j) can.enabled).0;
+      })
 
--- A fetch as the code makes it, where i is the kernel's number.
-module _ (k : KernelValue) (f x : FabricValue) (j i : ℕ) (m : Message) (e : Entry) (can : CanStep k f (Fetch j)) (i_is : i ≡ k.id)
-    (moved : x ≡ relinked j i (drop 1 (link_in f.links j i)) f) (made : e ≡ local_entry k.setup k.id k.side (Fetch j) (Some m)) where
-  fetch-moved : x ≡ relinked j k.id (drop 1 (link_in f.links j k.id)) f
-  fetch-moved = subst (λ n. x ≡ relinked j n (drop 1 (link_in f.links j n)) f) i_is moved
+  moves-whole : (act : Act) → CanAct k f act → only_moves act ≡ true → is_passable f k.id act ≡ true → IsInput act (taken f k.id act) →
+      IsWhole k.setup (entered (local_entry k.setup k.id k.side act (taken f k.id act)) (carried k.id k.side act f))
+  moves-whole (Fetch j) can moves passes is = fetch-whole j (slice_get (link_in f.links j k.id) 0) can is refl
+  moves-whole (Flush j) can moves passes is = flush-whole j can (ltb-true (length (link_in f.links k.id j)) f.window passes)
+  moves-whole (Calls v) can moves passes is = absurd cc
+  moves-whole Handle can moves passes is = absurd cc
+  moves-whole (Upcall v) can moves passes is = absurd cc
+  moves-whole (Resume v) can moves passes is = absurd cc
+  moves-whole (Kill v) can moves passes is = absurd cc
 
-  pub fetch-enters : (e.event.kernel < x.kernels) × (slice_index_or x.places e.event.kernel false ≡ true)
-  fetch-enters =
-      let ls : List (List (List Message)) = link_put j k.id (drop 1 (link_in f.links j k.id)) f.links in (
-        enter-kernel k k f x x (Fetch j) (Some m) e ls can made fetch-moved,
-        enter-place k k f x x (Fetch j) (Some m) e ls can made fetch-moved,
-      )
+  module _ (act : Act) (can : CanAct k f act) (moves : only_moves act ≡ true) (l : KernelValue) (g : FabricValue) (e : Entry)
+      (done : HasDone k f act l g e) where
+    pub done-silent : e.reply ≡ None
+    done-silent = ap (λ (x : Entry). x.reply) done.entry ∙ moves-silent k act (taken f k.id act) moves done.input
 
-  pub fetch-stepped : (l : KernelValue) (h : FabricValue) → slice_get (link_in f.links j i) 0 ≡ Some m → Fits m
-      → l ≡ record k { side = (local_step k.setup k.id k.side (Fetch j) (Some m)).side; ready = None } → h ≡ entered e x → HasStepped k f (Fetch j) l h
-  fetch-stepped l h first fits stepped at_end =
-      let ls : List (List (List Message)) = link_put j k.id (drop 1 (link_in f.links j k.id)) f.links in
-      has-stepped k l f x h (Fetch j) (Some m) e ls can made fetch-moved stepped fits at_end
-      (fetch-silent k j m) (fetch-whole k f j m can (subst (λ n. slice_get (link_in f.links j n) 0 ≡ Some m) i_is first))
+    -- places do not matter
+    pub done-whole : is_passable f k.id act ≡ true → IsWhole k.setup g
+    done-whole passes =
+        let after : FabricValue = entered (local_entry k.setup k.id k.side act (taken f k.id act)) (carried k.id k.side act f) in
+        let there : IsWhole k.setup after = moves-whole act can moves passes done.input in
+        let journal : g.journal ≡ f.journal ++ local_entry k.setup k.id k.side act (taken f k.id act) ∷ [] =
+        done.journal ∙ ap (λ x. f.journal ++ x ∷ []) done.entry in
+        same-whole k.setup after g (done.fabric.kernels ∙ sym there.agrees.same_kernels) (done.fabric.window ∙ sym there.agrees.same_window)
+        (done.fabric.kills ∙ sym there.agrees.same_kills) (journal ∙ sym (carried-journal act)) done.links there
+      where
+        same-whole : (T : Setup) (x y : FabricValue) → y.kernels ≡ x.kernels → y.window ≡ x.window → y.kills ≡ x.kills → y.journal ≡ x.journal →
+            y.links ≡ x.links → IsWhole T x → IsWhole T y
+        same-whole T x y kernels window kills journal links whole =
+            let same : y ≡ record x { places = y.places } = λ i. record {
+              kernels = kernels i;
+              window = window i;
+              kills = kills i;
+              journal = journal i;
+              links = links i;
+              places = y.places;
+            } in
+            subst (IsWhole T) (sym same) (record { agrees = whole.agrees; square = whole.square })
 
--- A flush.
-module _ (k : KernelValue) (f x : FabricValue) (j i : ℕ) (m : Message) (e : Entry) (can : CanStep k f (Flush j)) (i_is : i ≡ k.id)
-    (moved : x ≡ relinked i j (link_in f.links i j ++ m ∷ []) f) (made : e ≡ local_entry k.setup k.id k.side (Flush j) None) where
-  flush-moved : x ≡ relinked k.id j (link_in f.links k.id j ++ m ∷ []) f
-  flush-moved = subst (λ n. x ≡ relinked n j (link_in f.links n j ++ m ∷ []) f) i_is moved
-
-  pub flush-enters : (e.event.kernel < x.kernels) × (slice_index_or x.places e.event.kernel false ≡ true)
-  flush-enters =
-      let ls : List (List (List Message)) = link_put k.id j (link_in f.links k.id j ++ m ∷ []) f.links in (
-        enter-kernel k k f x x (Flush j) None e ls can made flush-moved,
-        enter-place k k f x x (Flush j) None e ls can made flush-moved,
-      )
-
-  pub flush-stepped : (l : KernelValue) (h : FabricValue) → slice_get (outbox k.side j) 0 ≡ Some m → length (link_in f.links i j) < f.window
-      → l ≡ record k { side = (local_step k.setup k.id k.side (Flush j) None).side; ready = None } → h ≡ entered e x → HasStepped k f (Flush j) l h
-  flush-stepped l h waits room stepped at_end =
-      let ls : List (List (List Message)) = link_put k.id j (link_in f.links k.id j ++ m ∷ []) f.links in
-      has-stepped k l f x h (Flush j) None e ls can made flush-moved stepped tt at_end
-      (flush-silent k j) (flush-whole k f j m can waits (subst (λ n. length (link_in f.links n j) < f.window) i_is room))
+        carried-journal : (a : Act) → (entered (local_entry k.setup k.id k.side act (taken f k.id act)) (carried k.id k.side a f)).journal
+            ≡ f.journal ++ local_entry k.setup k.id k.side act (taken f k.id act) ∷ []
+        carried-journal (Calls v) = refl
+        carried-journal (Resume v) = refl
+        carried-journal (Upcall v) = refl
+        carried-journal Handle = refl
+        carried-journal (Fetch j) = refl
+        carried-journal (Flush j) = from (slice_get (outbox k.side j) 0)
+          where
+            from : (o : Option Message) → (entered (local_entry k.setup k.id k.side act (taken f k.id act))
+                (option_map_or (λ m. relinked k.id j (link_in f.links k.id j ++ m ∷ []) f) o f)).journal
+                ≡ f.journal ++ local_entry k.setup k.id k.side act (taken f k.id act) ∷ []
+            from None = refl
+            from (Some m) = refl
+        carried-journal (Kill v) = refl

@@ -22,9 +22,9 @@ use Rattle.sem_node.specs.Running.{HasRun}
 use Rattle.sem_node.specs.declared.cell.Progress.TheVariants.{Done, Replied}
 use Rattle.sem_node.specs.Telling.{Tells}
 
--- room for an act changes nothing of the run
-pub run-roomed : (T : Setup) (k r : KernelValue) (p : PassValue) (act : Act) → HasRun T k p → r ≡ record k { ready = Some act } → HasRun T r p
-run-roomed T k r p act run same = subst (λ (x : KernelValue). HasRun T x p) (sym same) (record {
+-- for which act there is room changes nothing of the run
+pub run-readied : (T : Setup) (k r : KernelValue) (p : PassValue) → r ≡ record k { ready = r.ready } → HasRun T k p → HasRun T r p
+run-readied T k r p same run = subst (λ (x : KernelValue). HasRun T x p) (sym same) (record {
   valid = run.valid;
   setup = run.setup;
   id = run.id;
@@ -32,6 +32,10 @@ run-roomed T k r p act run same = subst (λ (x : KernelValue). HasRun T x p) (sy
   runs = run.runs;
   sound = run.sound;
 })
+
+pub run-roomed : (T : Setup) (k r : KernelValue) (p : PassValue) (act : Act) → HasRun T k p → r ≡ record k { ready = Some act } → HasRun T r p
+run-roomed T k r p act run same =
+    run-readied T k r p (same ∙ ap (λ (x : KernelValue). record k { ready = x.ready }) (sym same)) run
 
 -- what is enabled before there is room is enabled then
 pub enabled-roomed : (k r : KernelValue) (act : Act) (replies : ℕ) → r ≡ record k { ready = Some act }

@@ -1,7 +1,7 @@
 -- Places that a kernel gets, and its try of an act within a turn, with the places before and after.
-use Rattle.std.proofs.Common.{◌≡◌, ℕ, ◌<◌, Bool, true, false, List, [], ◌∷◌, ◌++◌, get_or, get_or-set_other, Result, Ok, Err, sym, ◌∙◌, ap, subst, inl, inr}
+use Rattle.std.proofs.Common.{◌≡◌, ◌≢◌, ℕ, ◌<◌, Bool, true, false, List, [], ◌∷◌, ◌++◌, get_or-set_other, Option, Some, None, Result, Ok, Err, refl, sym, ◌∙◌, ap, subst, inl, inr}
 use Rattle.std.proofs.Common.{arith}
-use Rattle.std.specs.Prelude.{MatchBool, OnOk, OnErr, is_ok}
+use Rattle.std.specs.Prelude.{OnOk, OnErr, IfSome, is_ok, is_some}
 use Rattle.sem_msg.specs.declared.event.Act.{Act}
 use Rattle.sem_msg.specs.declared.entry.Entry.{Entry}
 use Rattle.sem_msg.specs.Setup.{Setup}
@@ -10,8 +10,17 @@ use Rattle.sem_msg.specs.Fabric.{FabricValue, entered}
 use Rattle.sem_msg.proofs.Moves.{part-own}
 use Rattle.sem_fabric.specs.Fabrics.{placed}
 use Rattle.sem_kernel.specs.KernelValue.{KernelValue}
+use Rattle.sem_kernel.specs.Rooms.{only_moves}
+use Rattle.sem_kernel.specs.Worlds.{is_passable, CanAct, HasDone, HasReplied, HasNotDone}
+use Rattle.sem_kernel.proofs.Peers.{able-below}
+use Rattle.sem_kernel.proofs.Doing.{done-placed}
 use Rattle.sem_turn.specs.Passes.{has_place, IsWhole, Follows}
-use Rattle.sem_node.specs.Stepping.{CanStep, CanTry, HasStepped, IsUnchanged, HasTried, KeepsOthers, MayGetPlace}
+use Rattle.sem_node.specs.Stepping.{IsReadyToTry, HasTried, MayGetPlace}
+use Rattle.sem_node.proofs.Linked.{done-silent, done-whole}
+
+-- the kernels other than k have the same places as before
+abbrev KeepsOthers : ℕ → FabricValue → FabricValue → Type 0
+KeepsOthers k f g = (j : ℕ) → j ≢ k → has_place g j ≡ has_place f j
 
 pub placed-whole : (T : Setup) (n : ℕ) (f : FabricValue) → IsWhole T f → IsWhole T (placed n f)
 placed-whole T n f whole = record { agrees = whole.agrees; square = whole.square }
@@ -24,6 +33,10 @@ module _ (n : ℕ) (f g : FabricValue) where
   pub got-journal : MayGetPlace n f g → g.journal ≡ f.journal
   got-journal (inl got) = ap (λ (x : FabricValue). x.journal) got
   got-journal (inr same) = ap (λ (x : FabricValue). x.journal) same
+
+  pub got-rest : MayGetPlace n f g → g ≡ record f { places = g.places }
+  got-rest (inl got) = got ∙ ap (λ (x : FabricValue). record f { places = x.places }) (sym got)
+  got-rest (inr same) = same ∙ ap (λ (x : FabricValue). record f { places = x.places }) (sym same)
 
   pub got-others : MayGetPlace n f g → KeepsOthers n f g
   got-others (inl got) = λ j apart. ap (λ (x : FabricValue). has_place x j) got ∙ placed-others n f j apart
@@ -60,74 +73,95 @@ module _ (T : Setup) (f x h : FabricValue) (e : Entry) (n : ℕ) (by : e.event.k
   pub entered-part : part h.journal n ≡ part f.journal n ++ e ∷ []
   entered-part = ap (λ (J : List Entry). part J n) entered-journal ∙ part-own f.journal e n by
 
--- the kernel is one of a whole fabric
-pub try-below : (k : KernelValue) (f : FabricValue) (act : Act) (n : ℕ) → CanTry k f act → n ≡ k.id → n < f.kernels
-try-below k f act n can same = let few = can.few in let kernels = can.whole.agrees.same_kernels in omega (arith, few, kernels, same)
+-- what was done is done in a fabric with other places
+done-then : (k : KernelValue) (f : FabricValue) (act : Act) (l : KernelValue) (g h : FabricValue) (e : Entry) → HasDone k f act l g e →
+    h ≡ record g { places = h.places } → KeepsOthers k.id g h → HasDone k f act l h e
+done-then k f act l g h e done rest others = record {
+  input = done.input;
+  entry = done.entry;
+  kernel = done.kernel;
+  sound = done.sound;
+  links = ap (λ (x : FabricValue). x.links) rest ∙ done.links;
+  journal = ap (λ (x : FabricValue). x.journal) rest ∙ done.journal;
+  fabric = record {
+    kernels = ap (λ (x : FabricValue). x.kernels) rest ∙ done.fabric.kernels;
+    window = ap (λ (x : FabricValue). x.window) rest ∙ done.fabric.window;
+    kills = ap (λ (x : FabricValue). x.kills) rest ∙ done.fabric.kills;
+  };
+  others = λ j apart. others j apart ∙ done.others j apart;
+}
 
-module _ (k : KernelValue) (f : FabricValue) (act : Act) (can : CanTry k f act) where
-  -- with a place, it can step
-  pub try-steps : (h : FabricValue) (n : ℕ) → n ≡ k.id → h ≡ placed n f → has_place h n ≡ true → CanStep k h act
-  try-steps h n same got has = record {
-    few = can.few;
-    sound = can.sound;
-    whole = subst (IsWhole k.setup) (sym got) (placed-whole k.setup n f can.whole);
-    enabled = can.enabled;
-    ready = can.ready;
-    place = subst (λ m. has_place h m ≡ true) same has;
+module _ (k : KernelValue) (f : FabricValue) (act : Act) (can : IsReadyToTry k f act) where
+  -- the kernel is one of the fabric
+  pub try-below : (n : ℕ) → n ≡ k.id → n < f.kernels
+  try-below n same = let below = able-below k f act can.able in omega (arith, below, same)
+
+  module _ (h : FabricValue) (n : ℕ) (same : n ≡ k.id) (got : h ≡ placed n f) where
+    -- with a place, it is ready still
+    pub try-placed : IsReadyToTry k h act
+    try-placed = record {
+      able = subst (λ (x : FabricValue). CanAct k x act) (sym got) (record {
+        setup = can.able.setup;
+        few = can.able.few;
+        sound = can.able.sound;
+        fabric = record { kernels = can.able.fabric.kernels; window = can.able.fabric.window; kills = can.able.fabric.kills };
+        enabled = can.able.enabled;
+      });
+      ready = can.ready;
+      whole = subst (IsWhole k.setup) (sym got) (placed-whole k.setup n f can.whole);
+    }
+
+    others-placed : KeepsOthers k.id f h
+    others-placed = λ j apart. ap (λ (x : FabricValue). has_place x j) got ∙ placed-others n f j (λ is. apart (is ∙ same))
+
+    -- what it does then is a try
+    pub try-done : (l : KernelValue) (g : FabricValue) (d : Bool) → HasTried d k h act l g → HasTried d k f act l g
+    try-done l g true acted = record {
+      entry = acted.entry;
+      done = done-placed k f act n same l g acted.entry (subst (λ (x : FabricValue). HasDone k x act l g acted.entry) got acted.done);
+      silent = acted.silent;
+      whole = acted.whole;
+    }
+    try-done l g false rest = record {
+      kernel = rest.kernel;
+      whole = rest.whole;
+      journal = rest.journal ∙ ap (λ (x : FabricValue). x.journal) got;
+      others = λ j apart. rest.others j apart ∙ others-placed j apart;
+    }
+
+  -- nothing at all is a try too
+  pub try-none : (l : KernelValue) (g : FabricValue) → HasNotDone k f l g → HasTried false k f act l g
+  try-none l g none = record {
+    kernel = none.kernel;
+    whole = subst (IsWhole k.setup) (sym none.fabric) can.whole;
+    journal = ap (λ (x : FabricValue). x.journal) none.fabric;
+    others = λ j apart. ap (λ (x : FabricValue). has_place x j) none.fabric;
   }
 
-  others-placed : (h : FabricValue) (n : ℕ) → n ≡ k.id → h ≡ placed n f → KeepsOthers k.id f h
-  others-placed h n same got = λ j apart. ap (λ (x : FabricValue). has_place x j) got ∙ placed-others n f j (λ is. apart (is ∙ same))
-
-  -- what it does then is a try
-  pub try-done : (h : FabricValue) (n : ℕ) → n ≡ k.id → h ≡ placed n f → (l : KernelValue) (g : FabricValue) (d : Bool)
-      → MatchBool d (HasStepped k h act l g) (IsUnchanged k h l g) → HasTried d k f act l g
-  try-done h n same got l g true s = record {
-    input = s.input;
-    entry = s.entry;
-    handed = s.handed;
-    made = s.made;
-    silent = s.silent;
-    kernel = s.kernel;
-    whole = s.whole;
-    journal = s.journal ∙ ap (λ (x : FabricValue). x.journal ++ s.entry ∷ []) got;
-    others = λ j apart. ap (λ (ps : List Bool). get_or ps j false) s.places
-        ∙ (get_or-set_other h.places k.id j false false apart ∙ others-placed h n same got j apart);
-  }
-  try-done h n same got l g false rest = record {
-    kernel = rest.0;
-    whole = subst (IsWhole k.setup) (sym (rest.1 ∙ got)) (placed-whole k.setup n f can.whole);
-    journal = ap (λ (x : FabricValue). x.journal) (rest.1 ∙ got);
-    others = λ j apart. ap (λ (x : FabricValue). has_place x j) rest.1 ∙ others-placed h n same got j apart;
-  }
-
-  -- so is nothing at all
-  pub try-none : (l : KernelValue) (g : FabricValue) → l ≡ k → g ≡ f → HasTried false k f act l g
-  try-none l g kept same = record {
-    kernel = kept;
-    whole = subst (IsWhole k.setup) (sym same) can.whole;
-    journal = ap (λ (x : FabricValue). x.journal) same;
-    others = λ j apart. ap (λ (x : FabricValue). has_place x j) same;
+  -- a fetch or a flush that was allowed or not
+  pub try-told : only_moves act ≡ true → (l : KernelValue) (g : FabricValue) (o : Option Bool) → is_some o ≡ is_passable f k.id act →
+      IfSome o (HasReplied k f act l g) → (o ≡ None → HasNotDone k f l g) → HasTried (is_some o) k f act l g
+  try-told moves l g None allowed done not_done = try-none l g (not_done refl)
+  try-told moves l g (Some b) allowed done not_done = record {
+    entry = done.entry;
+    done = done.done;
+    silent = done-silent k f can.whole act can.able moves l g done.entry done.done;
+    whole = done-whole k f can.whole act can.able moves l g done.entry done.done (sym allowed);
   }
 
   module _ (l : KernelValue) (g h : FabricValue) where
     -- a kernel that tried is one of the fabric still
     pub tried-below : (n : ℕ) (d : Bool) → n ≡ k.id → HasTried d k f act l g → n < g.kernels
-    tried-below n true same done = let few = can.few in let kernels = done.whole.agrees.same_kernels in omega (arith, few, kernels, same)
-    tried-below n false same rest = let few = can.few in let kernels = rest.whole.agrees.same_kernels in omega (arith, few, kernels, same)
+    tried-below n true same done = let few = can.able.few in let kernels = done.whole.agrees.same_kernels in omega (arith, few, kernels, same)
+    tried-below n false same rest = let few = can.able.few in let kernels = rest.whole.agrees.same_kernels in omega (arith, few, kernels, same)
 
     -- a place more is no other try
     pub tried-got : (n : ℕ) (d : Bool) → n ≡ k.id → HasTried d k f act l g → MayGetPlace n g h → HasTried d k f act l h
-    tried-got n true same done got = record {
-      input = done.input;
-      entry = done.entry;
-      handed = done.handed;
-      made = done.made;
-      silent = done.silent;
-      kernel = done.kernel;
-      whole = got-whole n g h k.setup got done.whole;
-      journal = got-journal n g h got ∙ done.journal;
-      others = λ j apart. got-others n g h got j (λ is. apart (is ∙ same)) ∙ done.others j apart;
+    tried-got n true same acted got = record {
+      entry = acted.entry;
+      done = done-then k f act l g h acted.entry acted.done (got-rest n g h got) (λ j apart. got-others n g h got j (λ is. apart (is ∙ same)));
+      silent = acted.silent;
+      whole = got-whole n g h k.setup got acted.whole;
     }
     tried-got n false same rest got = record {
       kernel = rest.kernel;

@@ -1,11 +1,12 @@
 // Before each step of a kernel its thread goes through a gate.
-ghost use Rattle.std.specs.Prelude.{◌≡◌, ◌<◌, ◌&&◌, true, Some, None, slice_get, OnOk, OnErr};
+ghost use Rattle.std.specs.Prelude.{◌≡◌, ◌&&◌, true, Some, None, is_some, IfSome, OnOk, OnErr};
 ghost use Rattle.sem_msg.specs.Lookups.{kernel_of};
-ghost use Rattle.sem_machine.specs.Sides.{outbox};
 ghost use Rattle.sem_machine.specs.Machine.{is_locally_enabled, local_step, local_entry};
 ghost use Rattle.sem_kernel.specs.KernelValue.{is_timely, IsInput};
+ghost use Rattle.sem_kernel.specs.Worlds.{is_passable, CanTry, HasReplied, HasNotDone};
 
-use sem_kernel::Kernel;
+use sem_fabric::Fabric;
+use sem_kernel::{Kernel, try_step};
 use sem_key::OutOfMemory;
 use sem_msg::{Act, Entry, Message, act_number};
 use std::marker::Model;
@@ -91,14 +92,6 @@ impl Gated {
         self.kernel.is_alive(vpe)
     }
 
-    /// The oldest message that waits to be sent to that kernel; none if none waits.
-    pub fn front(&self, to: u32) -> Option<Message>
-        requires { to < self.now.setup.kernels }
-        ensures { result ≡ slice_get (outbox self.now.side to) 0 }
-    {
-        self.kernel.front(to)
-    }
-
     /// Makes all the room that the step of the act can need, as `Kernel::room`.
     pub fn room(&mut self, act: Act) -> Result<(), OutOfMemory>
         ensures ok { OnOk result (self.new ≡ record self.old { ready = Some act }) }
@@ -123,5 +116,17 @@ impl Gated {
     {
         let Permit { kernel: _, act: _ } = permit;
         self.kernel.step(act, input)
+    }
+
+    /// Does the act with the fabric, as `try_step`, with the permit for it.
+    pub fn try_step(&mut self, permit: Permit, fabric: &mut Fabric, act: Act) -> Option<bool>
+        requires permit { permit ≡ record { kernel = self.old.id; act = act } }
+        requires can { CanTry self.old fabric.old act }
+        ensures allowed { is_some result ≡ is_passable fabric.old self.old.id act }
+        ensures done { IfSome result (HasReplied self.old fabric.old act self.new fabric.new) }
+        ensures not_done { result ≡ None → HasNotDone self.old fabric.old self.new fabric.new }
+    {
+        let Permit { kernel: _, act: _ } = permit;
+        try_step(&mut self.kernel, fabric, act)
     }
 }

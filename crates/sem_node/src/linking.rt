@@ -1,10 +1,12 @@
 // What a kernel does with the links while it has the turn: it tests, steps and enters. A later turn
 // would not know what an earlier one showed of the links.
-ghost use Rattle.std.specs.Prelude.{◌≡◌, MatchBool, true};
-ghost use Rattle.sem_msg.specs.declared.event.Act.TheVariants.{Fetch, Flush};
+ghost use Rattle.std.specs.Prelude.{◌≡◌, ◌<◌, true};
+ghost use Rattle.std.specs.Result.{result_ok};
+ghost use Rattle.sem_kernel.specs.Rooms.{only_moves as only_moves_lem};
+ghost use Rattle.sem_kernel.specs.Worlds.{NamesPeer};
 ghost use Rattle.sem_turn.specs.Passes.{has_place};
-ghost use Rattle.sem_node.specs.Stepping.{CanStep, HasStepped, IsUnchanged, CanTry, HasTried};
-ghost use Rattle.sem_node.specs.Stepping.{was_done};
+ghost use Rattle.sem_node.specs.Stepping.{IsReadyToTry, HasTried};
+ghost use Rattle.sem_node.specs.Telling.{is_done};
 
 use crate::gate::{Gated, Permit};
 use crate::places::next_place;
@@ -23,78 +25,41 @@ pub struct Linked {
     pub more: bool,
 }
 
-// Takes the oldest message out of the link from that kernel into the inbox, if there is one.
-fn fetch(kernel: &mut Gated, fabric: &mut Fabric, permit: Permit, from: u32) -> Linked
-    requires step { CanStep kernel.old fabric.old (Fetch from) }
-    requires permit { permit ≡ record { kernel = kernel.old.id; act = Fetch from } }
-    ensures { MatchBool result.done
-        (HasStepped kernel.old fabric.old (Fetch from) kernel.new fabric.new)
-        (IsUnchanged kernel.old fabric.old kernel.new fabric.new) }
+// Whether the act only moves a message.
+fn only_moves(act: Act) -> bool
+    ensures { result ≡ only_moves_lem act }
 {
-    let id = kernel.id();
-    let full = fabric.full(from, id);
-    let more = fabric.waiting(from, id) > 1;
-    if fabric.peek(id, from).is_none() {
-        return Linked {
-            done: false,
-            full,
-            more,
-        };
-    }
-    let Some(message) = fabric.fetch(id, from) else {
-        unreachable!()
-    };
-    fabric.enter(kernel.step(permit, Act::Fetch { from }, Some(message)));
-    Linked {
-        done: true,
-        full,
-        more,
-    }
+    matches!(act, Act::Fetch { .. } | Act::Flush { .. })
 }
 
-// Puts the oldest message that waits for that kernel at the end of the link to it, if there is
-// room.
-fn flush(kernel: &mut Gated, fabric: &mut Fabric, permit: Permit, to: u32) -> bool
-    requires step { CanStep kernel.old fabric.old (Flush to) }
-    requires permit { permit ≡ record { kernel = kernel.old.id; act = Flush to } }
-    ensures { MatchBool result (HasStepped kernel.old fabric.old (Flush to) kernel.new fabric.new)
-        (IsUnchanged kernel.old fabric.old kernel.new fabric.new) }
+// Whether the link of a fetch is full, and whether it holds more than one message.
+fn fetched_link(fabric: &Fabric, kernel: u32, act: Act) -> (bool, bool)
+    requires kernel { kernel < fabric.now.kernels }
+    requires peer { NamesPeer fabric.now.kernels kernel act }
 {
-    let id = kernel.id();
-    let Some(message) = kernel.front(to) else {
-        unreachable!()
-    };
-    match fabric.flush(id, to, message) {
-        Ok(()) => {}
-        Err(_) => return false,
-    }
-    fabric.enter(kernel.step(permit, Act::Flush { to }, None));
-    true
-}
-
-// The result of an act that did not look at its link.
-fn unseen(done: bool) -> Linked
-    ensures { result.done ≡ done }
-{
-    Linked {
-        done,
-        full: false,
-        more: false,
+    match act {
+        Act::Fetch { from } => (fabric.full(from, kernel), fabric.waiting(from, kernel) > 1),
+        _ => (false, false),
     }
 }
 
 // Does a fetch or a flush, if the link allows it.
 fn link_step(kernel: &mut Gated, fabric: &mut Fabric, permit: Permit, act: Act) -> Linked
-    requires step { CanStep kernel.old fabric.old act }
+    requires can { IsReadyToTry kernel.old fabric.old act }
+    requires place { has_place fabric.old kernel.old.id ≡ true }
     requires permit { permit ≡ record { kernel = kernel.old.id; act = act } }
-    ensures { MatchBool result.done (HasStepped kernel.old fabric.old act kernel.new fabric.new)
-        (IsUnchanged kernel.old fabric.old kernel.new fabric.new) }
+    ensures { HasTried result.done kernel.old fabric.old act kernel.new fabric.new }
 {
-    match act {
-        Act::Fetch { from } => fetch(kernel, fabric, permit, from),
-        Act::Flush { to } => unseen(flush(kernel, fabric, permit, to)),
-        _ => unseen(false),
+    if !only_moves(act) {
+        return Linked {
+            done: false,
+            full: false,
+            more: false,
+        };
     }
+    let (full, more) = fetched_link(fabric, kernel.id(), act);
+    let done = kernel.try_step(permit, fabric, act).is_some();
+    Linked { done, full, more }
 }
 
 // The same, once the kernel has a place in the journal.
@@ -104,9 +69,10 @@ fn placed_step(
     permit: Permit,
     act: Act,
 ) -> Result<Linked, OutOfMemory>
-    requires can { CanTry kernel.old fabric.old act }
+    requires can { IsReadyToTry kernel.old fabric.old act }
     requires permit { permit ≡ record { kernel = kernel.old.id; act = act } }
-    ensures { HasTried (was_done result) kernel.old fabric.old act kernel.new fabric.new }
+    ensures { HasTried (is_done (result_ok result)) kernel.old fabric.old act kernel.new
+        fabric.new }
 {
     fabric.reserve(kernel.id())?;
     Ok(link_step(kernel, fabric, permit, act))
@@ -122,9 +88,9 @@ pub struct Tried {
 
 // Makes a place, does a fetch or a flush, if the link allows it, and makes the next place.
 pub fn turn_step(kernel: &mut Gated, fabric: &mut Fabric, permit: Permit, act: Act) -> Tried
-    requires can { CanTry kernel.old fabric.old act }
+    requires can { IsReadyToTry kernel.old fabric.old act }
     requires permit { permit ≡ record { kernel = kernel.old.id; act = act } }
-    ensures tried { HasTried (was_done result.linked) kernel.old fabric.old act
+    ensures tried { HasTried (is_done (result_ok result.linked)) kernel.old fabric.old act
         kernel.new fabric.new }
     ensures place { result.placed ≡ true → has_place fabric.new kernel.old.id ≡ true }
 {

@@ -4,13 +4,15 @@ ghost use Rattle.std.specs.Prelude.{OnOk, None};
 ghost use Rattle.std.specs.Option.{option_to_list};
 ghost use Rattle.std.specs.List.{AllZip, range_with_len};
 ghost use Rattle.std.specs.List.Sorted.{IsPermutation, IsNonDecreasingBy};
+ghost use Rattle.sem_msg.specs.Setup.{IsSetup};
 ghost use Rattle.sem_machine.specs.Schedules.{IsSchedule, world_after};
 ghost use Rattle.sem_fabric.specs.Fabrics.{new_fabric};
 ghost use Rattle.sem_kernel.specs.Worlds.{world_of, AreKernelsOf, booted as booted_lem};
+ghost use Rattle.sem_kernel.specs.Owning.{own_rows};
 ghost use Rattle.sem_parts.specs.Standing.{StandAt};
 ghost use Rattle.sem_node.specs.Running.{HasRun};
 ghost use Rattle.sem_node.specs.Ending.{HaveRun};
-ghost use Rattle.sem_node.specs.Own.{own_caller, own_callers, own_kill, own_kills};
+ghost use Rattle.sem_node.specs.Own.{own_kill, own_kills};
 
 use crate::bell::Bell;
 use crate::cell::{Caller, KernelCell};
@@ -21,7 +23,7 @@ use crate::shared::Run;
 use sem_fabric::Fabric;
 use sem_kernel::Kernel;
 use sem_key::OutOfMemory;
-use sem_msg::{Setup, VpeDecl};
+use sem_msg::Setup;
 use sem_turn::{Opened, Pass, Passes, RunName};
 use std::alloc::Global;
 use std::marker::{Brand, PhantomData};
@@ -30,47 +32,26 @@ use std::sync::{Mutex, Wait};
 use std::thread;
 use std::thread::Threads;
 
-// The VPEs of the kernel.
-fn callers_of<N: RunName>(
-    alloc: Global,
-    setup: &Setup,
-    id: u32,
-) -> Result<Vec<Caller<N>>, OutOfMemory>
-    requires { setup.now ≡ N.setup }
+// The VPEs of the kernel, with what their threads share.
+fn callers_of<N: RunName>(alloc: Global, kernel: &Kernel) -> Result<Vec<Caller<N>>, OutOfMemory>
+    requires valid { IsSetup N.setup }
+    requires setup { kernel.now.setup ≡ N.setup }
     ensures { IfOk result (λ callers.
-        map (λ c. (c.vpe, c.calls)) callers.items ≡ own_callers setup.now id) }
+        map (λ c. record { vpe = c.vpe; calls = c.calls }) callers.items
+        ≡ own_rows kernel.now.setup kernel.now.id) }
 {
     let mut callers = Vec::new(alloc);
-    for decl in setup.vpes.as_slice() {
-        push_caller(&mut callers, setup, decl, id)?;
-    }
-    Ok(callers)
-}
-
-// Appends the VPE, if it is one of the kernel.
-fn push_caller<N: RunName>(
-    callers: &mut Vec<Caller<N>>,
-    setup: &Setup,
-    decl: &VpeDecl,
-    id: u32,
-) -> Result<(), OutOfMemory>
-    requires { setup.now ≡ N.setup }
-    ensures { OnOk result (map (λ c. (c.vpe, c.calls)) callers.new.items
-        ≡ map (λ c. (c.vpe, c.calls)) callers.old.items
-        ++ option_to_list (own_caller setup.now id decl.now)) }
-{
-    let kernel = setup.kernel_of(decl.vpe);
-    if kernel == id {
+    for own in kernel.own_vpes() {
         callers.push(Caller {
-            kernel,
-            vpe: decl.vpe,
-            calls: decl.calls.len(),
+            kernel: kernel.id(),
+            vpe: own.vpe,
+            calls: own.calls,
             of: PhantomData,
             bell: Bell::new(),
             due: AtomicBool::new(false),
         })?;
     }
-    Ok(())
+    Ok(callers)
 }
 
 // The kills of VPEs of the kernel.
@@ -112,20 +93,15 @@ fn desks_of(alloc: Global, setup: &Setup) -> Result<Vec<Desk>, OutOfMemory> {
 }
 
 // The kernel with its pass, for its threads.
-fn node_of<N: RunName>(
-    alloc: Global,
-    setup: &Setup,
-    kernel: Kernel,
-    pass: Pass<N>,
-) -> Result<Node<N>, OutOfMemory>
-    requires setup { setup.now ≡ N.setup }
+fn node_of<N: RunName>(alloc: Global, kernel: Kernel, pass: Pass<N>) -> Result<Node<N>, OutOfMemory>
     requires run { HasRun N.setup kernel pass }
     requires free { pass.taken ≡ None }
-    ensures { IfOk result (λ node. map (λ c. (c.vpe, c.calls)) node.callers.items
-        ≡ own_callers setup.now kernel.id) }
+    ensures { IfOk result (λ node.
+        map (λ c. record { vpe = c.vpe; calls = c.calls }) node.callers.items
+        ≡ own_rows kernel.setup kernel.id) }
 {
     let id = kernel.id();
-    let callers = callers_of(alloc, setup, id)?;
+    let callers = callers_of(alloc, &kernel)?;
     Ok(Node {
         id,
         cell: Mutex::new(KernelCell::new(kernel, pass)),
@@ -136,11 +112,9 @@ fn node_of<N: RunName>(
 // All kernels with their passes.
 fn nodes_of<N: RunName>(
     alloc: Global,
-    setup: &Setup,
     mut kernels: Vec<Kernel>,
     mut passes: Passes<N>,
 ) -> Result<Vec<Node<N>>, OutOfMemory>
-    requires setup { setup.now ≡ N.setup }
     requires run { AllZip (HasRun N.setup) kernels.items passes }
     requires free { All (λ p. p.taken ≡ None) passes }
     ensures { IfOk result (λ nodes. vec_len nodes ≡ vec_len kernels) }
@@ -150,7 +124,7 @@ fn nodes_of<N: RunName>(
         let Some(pass) = passes.pop() else {
             unreachable!()
         };
-        nodes.push(node_of(alloc, setup, kernel, pass)?)?;
+        nodes.push(node_of(alloc, kernel, pass)?)?;
     }
     Ok(nodes)
 }
@@ -236,7 +210,7 @@ fn run_named<N: RunName + Send + Sync, R: Threads + Wait + Sync, G: Gate + Sync>
     let _ = &setup.vpes;
     let (turn, first) = opened.named::<N>();
     let passes = turn.split(alloc, first, setup.kernels)?;
-    let nodes = nodes_of(alloc, setup, kernels, passes)?;
+    let nodes = nodes_of(alloc, kernels, passes)?;
     let desks = desks_of(alloc, setup)?;
     let run = Run::new(turn, desks, setup.kernels, setup.vpes.len() as u64);
     run_all(rt, &run, nodes.as_slice(), gate);

@@ -3,12 +3,11 @@ use Rattle.std.specs.Prelude.{◌≡◌, ℕ, ◌+◌, ◌==◌, nat_lt, ◌&&�
 use Rattle.std.specs.Prelude.{Some, None, unwrap_or, is_none, if◌then◌else◌}
 use Rattle.std.specs.Option.{option_map_or, option_and_then, option_to_list}
 use Rattle.sem_key.specs.declared.limits.TheConstants.{VPES}
-use Rattle.sem_machine.specs.Prelude.{KeyName, key_eq, in_turn, Act, Event, Handle, Resume, Detail, Carried, Entry}
+use Rattle.sem_machine.specs.Prelude.{KeyName, key_eq, in_turn, Act, Handle, Resume, Detail, Carried, Entry}
 use Rattle.sem_machine.specs.Prelude.{Message, ObtainOk, Ack, RevokeReq, RevokeDone, Parked, ObtainReady, Setup}
 use Rattle.sem_machine.specs.Prelude.{owner_of, is_ready_with, Side, cap, parked, World, side, after, IsSchedule}
 use Rattle.sem_machine.specs.Prelude.{world_after}
 use Rattle.sem_key.specs.Lists.{change}
-use Rattle.sem_kernel.specs.Worlds.{WorldValue}
 use Rattle.sem_grants.specs.Ending.{ended_by}
 use Rattle.sem_query.specs.declared.holder.Holder.{Holder}
 use Rattle.sem_query.specs.declared.holder.Holder.TheVariants.{Way}
@@ -163,7 +162,3 @@ pub record IsNext (T : Setup) (W : World) (e : Entry) : Type 0 where
 abbrev pub IsFollowed : Setup → World → ℕ → Entry → List KeyLife → List KeyLife → Type 0
 IsFollowed T W n e old new =
     (ks : List KeyName) × AreMoved T W e ks × (new ≡ followed T (after T W e.event) n e ks old)
-
--- the world after an event, with its setup
-abbrev pub stepped_value : WorldValue → Event → WorldValue
-stepped_value w e = record { setup = w.setup; world = after w.setup w.world e }

@@ -8,7 +8,8 @@ ghost use Rattle.sem_machine.specs.Machine.{is_enabled, start};
 ghost use Rattle.sem_machine.specs.Journals.{made};
 ghost use Rattle.sem_machine.specs.Schedules.{IsSchedule};
 ghost use Rattle.sem_query.specs.Lives.{lives};
-ghost use Rattle.sem_query.specs.Building.{life_so_far, all_noted, grant_noted, stepped_value};
+ghost use Rattle.sem_kernel.specs.Worlds.{stepped_value};
+ghost use Rattle.sem_query.specs.Building.{life_so_far, all_noted, grant_noted};
 ghost use Rattle.sem_query.specs.Building.{IsNext, IsFollowed};
 ghost use Rattle.sem_query.specs.MarkedKeys.{marking, AreMarked};
 
@@ -16,7 +17,7 @@ use crate::index::Index;
 use crate::life::Life;
 use crate::marked::{push_marked, push_swept, token_of};
 use crate::moves::moved_keys;
-use crate::sights::{go_on, held_selector, see, see_granted};
+use crate::sights::{held_selector, see, see_granted};
 use sem_grants::made_keys;
 use sem_kernel::World;
 use sem_key::{Key, OutOfMemory, pack};
@@ -125,7 +126,7 @@ fn follow(
 {
     let mut moved = moved_keys(alloc, setup, world, entry)?;
     let token = token_of(marked, setup, world, entry);
-    go_on(world, entry.event)?;
+    world.advance(entry.event)?;
     push_swept(alloc, marked, setup, world, entry, token, &mut moved)?;
     note_moved(index, marked, setup, world, n, &moved)?;
     note_grant(alloc, index, setup, world, n, entry)

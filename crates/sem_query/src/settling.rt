@@ -6,7 +6,7 @@ ghost use Rattle.sem_machine.specs.Schedules.{IsSchedule};
 ghost use Rattle.sem_query.specs.Denials.{IsCallAt, IsLastCall, Settles};
 ghost use Rattle.sem_query.specs.Parking.{states_since as states_since_lem, IsFirstPlace};
 
-use crate::sights::{go_on, parked_state};
+use crate::sights::parked_state;
 use crate::states::same_state;
 use sem_kernel::World;
 use sem_key::{OutOfMemory, VPES};
@@ -81,7 +81,7 @@ fn states_since(
     let mut world = World::boot(alloc, setup)?;
     let mut states = Vec::new(alloc);
     for (place, entry) in entries.iter().enumerate() {
-        go_on(&mut world, entry.event)?;
+        world.advance(entry.event)?;
         if from <= place {
             states.push(parked_state(&world, kernel, vpe))?;
         }

@@ -1,19 +1,19 @@
-// What a world shows, and how it goes on.
-ghost use Rattle.std.specs.Prelude.{◌≡◌, ◌<◌, true, is_some, option_copied, OnOk};
+// What a world shows.
+ghost use Rattle.std.specs.Prelude.{◌≡◌, ◌<◌, is_some, option_copied};
 ghost use Rattle.std.specs.Option.{option_map, option_map_or};
 ghost use Rattle.sem_key.specs.Capability.{capability_of};
 ghost use Rattle.sem_msg.specs.Lookups.{owner_of};
 ghost use Rattle.sem_msg.specs.ParkedStates.{is_ready_with as is_ready_with_lem};
 ghost use Rattle.sem_machine.specs.Sides.{no_side, cap, parked};
-ghost use Rattle.sem_machine.specs.Machine.{side, is_enabled};
+ghost use Rattle.sem_machine.specs.Machine.{side};
 ghost use Rattle.sem_query.specs.Whereabouts.{held_as as held_as_lem};
 ghost use Rattle.sem_query.specs.Changes.{seen_at_home};
-ghost use Rattle.sem_query.specs.Building.{seen_granted as seen_granted_lem, stepped_value};
+ghost use Rattle.sem_query.specs.Building.{seen_granted as seen_granted_lem};
 
 use crate::holder::Holder;
-use sem_kernel::{Kernel, StepError, World};
-use sem_key::{Cap, Key, OutOfMemory, VPES, same_key};
-use sem_msg::{Event, Parked, Setup};
+use sem_kernel::{Kernel, World};
+use sem_key::{Cap, Key, VPES, same_key};
+use sem_msg::{Parked, Setup};
 
 /// The kernel of that number; none if there is no such kernel.
 pub fn kernel_at(world: &World, number: u32) -> Option<&Kernel>
@@ -108,17 +108,5 @@ fn held_as(cap: &Cap) -> Holder
     match cap.mark {
         Some(_) => Holder::Marked(cap.selector),
         None => Holder::Unmarked(cap.selector),
-    }
-}
-
-/// Takes the step of an event that is enabled.
-pub fn go_on(world: &mut World, event: Event) -> Result<(), OutOfMemory>
-    requires { is_enabled world.old.setup world.old.world event ≡ true }
-    ensures { OnOk result (world.new ≡ stepped_value world.old event) }
-{
-    match world.step(event) {
-        Ok(_) => Ok(()),
-        Err(StepError::Memory) => Err(OutOfMemory),
-        Err(StepError::NotEnabled) => unreachable!(),
     }
 }

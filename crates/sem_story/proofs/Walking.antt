@@ -18,7 +18,8 @@ use Rattle.sem_story.specs.declared.walks.When.{When}
 use Rattle.sem_story.specs.Stages.{stage_in, seen_by}
 use Rattle.sem_story.specs.Changes.{stage_after}
 use Rattle.sem_story.specs.Telling.{last_stage}
-use Rattle.sem_story.specs.Walks.{IsAfter, IsOneOf, Notes, stepped_value}
+use Rattle.sem_kernel.specs.Worlds.{stepped_value}
+use Rattle.sem_story.specs.Walks.{IsAfter, IsOneOf, Notes}
 use Rattle.sem_story.proofs.Laws.{Laws, stage-told}
 use Rattle.sem_story.proofs.Told.{noted-before, told-all, told-end, one-then}
 

@@ -1,8 +1,7 @@
 -- How far a walk has come. These words serve private functions.
 use Rattle.std.specs.Prelude.{◌≡◌, ℕ, ◌+◌, ◌<◌, ◌⊎◌, List, [], All, length, take}
 use Rattle.std.specs.List.Sorted.{IsNonDecreasingBy}
-use Rattle.sem_machine.specs.Prelude.{KeyName, Event, Entry, Setup, start, after, world_after}
-use Rattle.sem_kernel.specs.Worlds.{WorldValue}
+use Rattle.sem_machine.specs.Prelude.{KeyName, Entry, Setup, start, world_after}
 use Rattle.sem_story.specs.declared.rows.StoryRow.{StoryRow}
 use Rattle.sem_story.specs.declared.stages.Stage.{Stage}
 use Rattle.sem_story.specs.declared.walks.Walk.{Walk}
@@ -13,10 +12,6 @@ use Rattle.sem_story.specs.Telling.{entries_of, stage_at, IsTold, AreTold}
 -- the rows of a key with this stage before the first entry
 abbrev pub AreFirst : Stage → List StoryRow → Type 0
 AreFirst stage rows = (T : Setup) (k : KeyName) → stage ≡ stage_in T (start T) k → AreTold T [] k rows
-
--- the world after an event
-abbrev pub stepped_value : WorldValue → Event → WorldValue
-stepped_value w e = record { setup = w.setup; world = after w.setup w.world e }
 
 -- The rows tell of the journal, whose last entry is being noted: they need not yet tell of its end.
 pub record AreNoted (T : Setup) (J : List Entry) (k : KeyName) (rows : List StoryRow) : Type 0 where

@@ -3,7 +3,6 @@
 
 mod ancestors;
 mod moments;
-mod replays;
 mod rows;
 mod stages;
 mod starts;

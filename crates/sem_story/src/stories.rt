@@ -5,9 +5,9 @@ ghost use Rattle.sem_machine.specs.Schedules.{IsSchedule};
 
 use crate::ancestors::Line;
 use crate::moments::{Source, moments_of};
-use crate::replays::first_schedule;
 use crate::starts::root_name;
 use crate::walks::{Walk, walk_through};
+use sem_check::first_schedule;
 use sem_draw::{Answer, Ending, Picture, Timeline, timeline_as_svg, timeline_as_text};
 use sem_hint::{key_text, no_report_text, object_text};
 use sem_key::{Key, OutOfMemory};

@@ -6,13 +6,13 @@ ghost use Rattle.sem_machine.specs.Machine.{is_enabled};
 ghost use Rattle.sem_machine.specs.Schedules.{IsSchedule, world_after};
 ghost use Rattle.sem_story.specs.Stages.{stage_in};
 ghost use Rattle.sem_story.specs.Telling.{AreTold, last_stage};
-ghost use Rattle.sem_story.specs.Walks.{AreFirst, IsAfter, IsOneOf, Notes, stepped_value};
+ghost use Rattle.sem_story.specs.Walks.{AreFirst, IsAfter, IsOneOf, Notes};
 
 use crate::rows::{Happening, StoryRow};
 use crate::stages::{Stage, object_given, object_of, seen_at_home, stage_after};
-use sem_kernel::{StepError, World};
+use sem_kernel::World;
 use sem_key::{Key, Object, OutOfMemory, same_key};
-use sem_msg::{Act, ENDPOINTS, Entry, Event, Setup};
+use sem_msg::{Act, ENDPOINTS, Entry, Setup};
 use sem_query::laws::{
     entries_move_few_keys, keys_live_once, lives_go_on, lives_tell_where_keys_are,
     moved_keys_are_seen_at_home,
@@ -79,7 +79,7 @@ impl Walk {
         entries_move_few_keys();
         moved_keys_are_seen_at_home();
         keys_live_once();
-        happen(&mut self.world, entry.event)?;
+        self.world.advance(entry.event)?;
         let before = self.stage;
         let seen = seen_at_home(setup, &self.world, key);
         self.stage = stage_after(setup, key, entry, before, seen);
@@ -120,18 +120,6 @@ pub fn walk_through(
         walk.go_on(setup, key, place as u64, &entries[place])?;
     }
     Ok(walk)
-}
-
-// Lets the event, an enabled one, happen.
-fn happen(world: &mut World, event: Event) -> Result<(), OutOfMemory>
-    requires { is_enabled world.old.setup world.old.world event ≡ true }
-    ensures { OnOk result (world.new ≡ stepped_value world.old event) }
-{
-    match world.step(event) {
-        Ok(_) => Ok(()),
-        Err(StepError::Memory) => Err(OutOfMemory),
-        Err(StepError::NotEnabled) => unreachable!(),
-    }
 }
 
 // The rows of a key before the first entry.

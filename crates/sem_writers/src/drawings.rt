@@ -2,7 +2,7 @@
 use crate::areas::{Area, area_of, areas};
 use crate::bars::{Found, bar_of};
 use crate::holdings::{Holdings, holdings_after};
-use crate::replays::first_schedule;
+use sem_check::first_schedule;
 use sem_draw::{Answer, Bar, Ending, Picture, bars_as_svg, bars_as_text};
 use sem_hint::no_report_text;
 use sem_key::OutOfMemory;

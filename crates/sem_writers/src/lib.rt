@@ -7,7 +7,6 @@ mod cells;
 mod columns;
 mod drawings;
 mod holdings;
-mod replays;
 mod rows;
 
 pub use cells::{Cell, cells_of};

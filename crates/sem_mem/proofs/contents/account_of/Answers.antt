@@ -14,8 +14,8 @@ loop-place-init c = record {
   told = subst (λ xs. IsAccount xs c.new-account.result) (no-accesses c.args.setup.now) c.new-account.ensures;
 }
 
-pub go_on-requires : goal.go_on-requires
-go_on-requires c = next-enabled c.args.setup.now c.args.entries.now c.requires c.loop-place.place c.index-entries-place.result c.loop-place.world
+pub advance-requires : goal.advance-requires
+advance-requires c = next-enabled c.args.setup.now c.args.entries.now c.requires c.loop-place.place c.index-entries-place.result c.loop-place.world
     c.loop-place.invariant.world (omega arith) c.index-entries-place.is
 
 pub after-requires-clause-schedule : goal.after-requires-clause-schedule
@@ -43,8 +43,8 @@ loop-place-preserved c =
     let i = c.loop-place.place in
     let e = c.index-entries-place.result in
     record {
-      world = next-world T J c.requires i e c.loop-place.world c.loop-place.invariant.world (omega arith) c.index-entries-place.is c.go_on.new.world
-          c.in_ok-go_on.ensures;
+      world = next-world T J c.requires i e c.loop-place.world c.loop-place.invariant.world (omega arith) c.index-entries-place.is c.advance.new.self
+          c.in_ok-advance.ensures.ok;
       told = subst (λ K. IsAccountOf T K c.after.new.self) (next-entries T J c.requires i e c.loop-place.world c.loop-place.invariant.world
           (omega arith) c.index-entries-place.is) c.in_ok-after.ensures;
     }

@@ -1,4 +1,4 @@
-use Rattle.sem_node.proofs.KilledEntry.{can-put, put-held, put-whole, put-entries, put-shown}
+use Rattle.sem_node.proofs.KilledEntry.{can-put, put-held, put-whole}
 use Rattle.sem_node.proofs.killing.enter_kill.Goals as goal
 
 pub put-killed-requires : goal.put-killed-requires

@@ -1,7 +1,7 @@
-use Rattle.std.proofs.Common.{◌≡◌, map, take, filter_map}
-use Rattle.sem_node.specs.Own.{own_caller}
+use Rattle.std.proofs.Common.{◌≡◌, map, take}
+use Rattle.sem_kernel.specs.Owning.{own_rows}
 use Rattle.sem_node.proofs.run.callers_of.Given as goal
 
--- the VPEs of the kernel among the first ones
-abbrev pub invariant-loop-decl : goal.invariant-loop-decl
-invariant-loop-decl g l = map (λ c. (c.vpe, c.calls)) l.callers.items ≡ filter_map (own_caller l.setup l.id) (take l.decl-index l.decl-items)
+-- the first VPEs of the kernel
+abbrev pub invariant-loop-own : goal.invariant-loop-own
+invariant-loop-own g l = map (λ c. record { vpe = c.vpe; calls = c.calls }) l.callers.items ≡ take l.own-index (own_rows l.kernel.setup l.kernel.id)

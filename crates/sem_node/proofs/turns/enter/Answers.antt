@@ -1,9 +1,8 @@
-use Rattle.std.proofs.Common.{◌≡◌, Option, sym, ◌∙◌, ap, subst, arith}
+use Rattle.std.proofs.Common.{sym, subst, arith}
 use Rattle.std.specs.Option.{IsSomeAnd}
-use Rattle.sem_msg.specs.Fabric.{FabricValue}
 use Rattle.sem_turn.specs.Passes.{PassValue, IsWhole, Follows}
 use Rattle.sem_node.specs.Stepping.{MayGetPlace}
-use Rattle.sem_node.proofs.Trying.{entered-follows, entered-whole, entered-part}
+use Rattle.sem_node.proofs.Trying.{entered-follows, entered-whole}
 use Rattle.sem_node.proofs.turns.enter.Goals as goal
 
 pub give_back-requires-clause-held : goal.give_back-requires-clause-held

@@ -15,8 +15,8 @@ returns-clause-marked c =
     let T = c.args.setup.now in
     let W : World = c.args.world.now.world in
     let e = c.args.entry.now in
-    let V : World = c.go_on.new.world.world in
-    let later : V ≡ after T W e.event = ap (λ (w : WorldValue). w.world) c.in_ok-go_on.ensures ∙ ap (λ (S : Setup). after S W e.event) c.requires.world in
+    let V : World = c.advance.new.self.world in
+    let later : V ≡ after T W e.event = ap (λ (w : WorldValue). w.world) c.in_ok-advance.ensures.ok ∙ ap (λ (S : Setup). after S W e.event) c.requires.world in
     let first = c.in_ok-moved.ensures in
     let parted = c.in_ok-push_swept.ensures in
     on_ok_weaker c.note_grant.result (λ is.
@@ -30,8 +30,8 @@ returns-clause-index c =
     let T = c.args.setup.now in
     let W : World = c.args.world.now.world in
     let e = c.args.entry.now in
-    let V : World = c.go_on.new.world.world in
-    let later : V ≡ after T W e.event = ap (λ (w : WorldValue). w.world) c.in_ok-go_on.ensures ∙ ap (λ (S : Setup). after S W e.event) c.requires.world in
+    let V : World = c.advance.new.self.world in
+    let later : V ≡ after T W e.event = ap (λ (w : WorldValue). w.world) c.in_ok-advance.ensures.ok ∙ ap (λ (S : Setup). after S W e.event) c.requires.world in
     let first = c.in_ok-moved.ensures in
     let parted = c.in_ok-push_swept.ensures in
     on_ok_weaker c.note_grant.result (λ is.

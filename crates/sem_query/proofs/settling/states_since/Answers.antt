@@ -14,27 +14,27 @@ loop-place-init c = record {
       ∙ no-states c.args.setup.now c.args.entries.now c.args.vpe c.args.from;
 }
 
-pub go_on-requires : goal.go_on-requires
-go_on-requires c = next-enabled c.args.setup.now c.args.entries.now c.requires.schedule c.loop-place.place c.index-entries-place.result c.loop-place.world
+pub advance-requires : goal.advance-requires
+advance-requires c = next-enabled c.args.setup.now c.args.entries.now c.requires.schedule c.loop-place.place c.index-entries-place.result c.loop-place.world
     c.loop-place.invariant.world c.loop-place-test.true c.index-entries-place.is
 
 pub loop-place-preserved : goal.loop-place-preserved
 loop-place-preserved c =
     let T = c.args.setup.now in
     let J = c.args.entries.now in
-    let next : c.go_on.new.world ≡ record { setup = T; world = world_after T (take (c.loop-place.place + 1) J) } =
+    let next : c.advance.new.self ≡ record { setup = T; world = world_after T (take (c.loop-place.place + 1) J) } =
     next-world T J c.requires.schedule c.loop-place.place c.index-entries-place.result c.loop-place.world c.loop-place.invariant.world c.loop-place-test.true
-    c.index-entries-place.is c.go_on.new.world c.in_ok-go_on.ensures in
+    c.index-entries-place.is c.advance.new.self c.in_ok-advance.ensures.ok in
     record {
       world = next;
       states = elim c.if-from-place.branch [
         | then-from-place+in_ok-push w ↦
-            let state : w.parked_state.result ≡ parked (side c.go_on.new.world.world (kernel_of T c.args.vpe)) c.args.vpe = w.parked_state.ensures
-            ∙ ap (λ k. parked (side c.go_on.new.world.world k) c.args.vpe) c.kernel_of-kernel.ensures in
+            let state : w.parked_state.result ≡ parked (side c.advance.new.self.world (kernel_of T c.args.vpe)) c.args.vpe = w.parked_state.ensures
+            ∙ ap (λ k. parked (side c.advance.new.self.world k) c.args.vpe) c.kernel_of-kernel.ensures in
             let pushed : w.push.new.self.items ≡ c.loop-place.states.items ++ w.parked_state.result ∷ [] = w.in_ok-push.ensures.items in
             rw w.states-is (pushed
             ∙ (ap (λ o. c.loop-place.states.items ++ o ∷ []) state
-            ∙ states-more T J c.args.vpe c.args.from c.loop-place.place c.go_on.new.world c.loop-place.states.items w.if-from-place.true next
+            ∙ states-more T J c.args.vpe c.args.from c.loop-place.place c.advance.new.self c.loop-place.states.items w.if-from-place.true next
             c.loop-place.invariant.states))
         | else-from-place w ↦
             rw w.states-is (c.loop-place.invariant.states ∙ states-same T J c.args.vpe c.args.from c.loop-place.place w.if-from-place.false)

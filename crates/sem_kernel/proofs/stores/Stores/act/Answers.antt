@@ -1,4 +1,5 @@
 use Rattle.sem_kernel.proofs.Nexts.{does-call, does-handle, does-upcall, does-resume, does-flush, does-kill}
+use Rattle.sem_kernel.proofs.Enabled.{can-act}
 use Rattle.sem_kernel.proofs.stores.Stores.act.Goals as goal
 
 pub returns-in-Call : goal.returns-in-Call
@@ -20,3 +21,39 @@ returns-in-Flush c = does-flush c.args.setup.now c.args.kernel c.args.self.now c
 
 pub returns-in-Kill : goal.returns-in-Kill
 returns-in-Kill c = does-kill c.args.setup.now c.args.kernel c.args.self.now c.args.input.now _ _ _ c.in-Kill.vpe c.args.act c.in-Kill.is c.kill.ensures
+
+pub call_next-requires : goal.call_next-requires
+call_next-requires c = record {
+  can = can-act c.args.setup.now c.args.kernel c.args.self.now c.args.act _ c.in-Call.is
+      c.requires.are c.requires.enabled c.requires.ready;
+}
+
+pub handle_next-requires : goal.handle_next-requires
+handle_next-requires c = record {
+  can = can-act c.args.setup.now c.args.kernel c.args.self.now c.args.act _ c.in-Handle.is
+      c.requires.are c.requires.enabled c.requires.ready;
+}
+
+pub be_asked-requires : goal.be_asked-requires
+be_asked-requires c = record {
+  can = can-act c.args.setup.now c.args.kernel c.args.self.now c.args.act _ c.in-Upcall.is
+      c.requires.are c.requires.enabled c.requires.ready;
+}
+
+pub go_on-requires : goal.go_on-requires
+go_on-requires c = record {
+  can = can-act c.args.setup.now c.args.kernel c.args.self.now c.args.act _ c.in-Resume.is
+      c.requires.are c.requires.enabled c.requires.ready;
+}
+
+pub flush-requires : goal.flush-requires
+flush-requires c = record {
+  can = can-act c.args.setup.now c.args.kernel c.args.self.now c.args.act _ c.in-Flush.is
+      c.requires.are c.requires.enabled c.requires.ready;
+}
+
+pub kill-requires : goal.kill-requires
+kill-requires c = record {
+  can = can-act c.args.setup.now c.args.kernel c.args.self.now c.args.act _ c.in-Kill.is
+      c.requires.are c.requires.enabled c.requires.ready;
+}

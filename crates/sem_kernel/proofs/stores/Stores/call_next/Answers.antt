@@ -15,14 +15,14 @@ use Rattle.sem_kernel.proofs.stores.Stores.call_next.Goals as goal
 
 pub next_call-index-requires : goal.next_call-index-requires
 next_call-index-requires c =
-    c.requires.are.stores.vpes c.args.vpe (call-here c.args.setup.now c.args.kernel (side_of c.args.self.now) c.args.vpe c.requires.enabled)
+    c.requires.can.are.stores.vpes c.args.vpe (call-here c.args.setup.now c.args.kernel (side_of c.args.self.now) c.args.vpe c.requires.can.enabled)
 
 pub next_call-requires-clause-here : goal.next_call-requires-clause-here
-next_call-requires-clause-here c = call-here c.args.setup.now c.args.kernel (side_of c.args.self.now) c.args.vpe c.requires.enabled
+next_call-requires-clause-here c = call-here c.args.setup.now c.args.kernel (side_of c.args.self.now) c.args.vpe c.requires.can.enabled
 
 pub unreachable-requires : goal.unreachable-requires
 unreachable-requires c =
-    let idle = call-idle c.args.setup.now c.args.kernel (side_of c.args.self.now) c.args.vpe c.requires.enabled in
+    let idle = call-idle c.args.setup.now c.args.kernel (side_of c.args.self.now) c.args.vpe c.requires.can.enabled in
     let none : next_call c.args.setup.now (side_of c.args.self.now) c.args.vpe ≡ None = search rules in
     clash (sym (ap (λ (o : Option Call). is_some o) none) ∙ idle.1)
   where
@@ -31,57 +31,57 @@ unreachable-requires c =
 
 pub advance-requires-clause-ours : goal.advance-requires-clause-ours
 advance-requires-clause-ours c =
-    c.requires.are.stores.vpes c.args.vpe (call-here c.args.setup.now c.args.kernel (side_of c.args.self.now) c.args.vpe c.requires.enabled)
+    c.requires.can.are.stores.vpes c.args.vpe (call-here c.args.setup.now c.args.kernel (side_of c.args.self.now) c.args.vpe c.requires.can.enabled)
 
 pub advance-requires-clause-few : goal.advance-requires-clause-few
-advance-requires-clause-few c = calls-fit c.args.setup.now c.requires.are.setup c.args.kernel c.requires.are.is_one
-    (side_of c.args.self.now) c.requires.are.sound c.args.vpe
+advance-requires-clause-few c = calls-fit c.args.setup.now c.requires.can.are.setup c.args.kernel c.requires.can.are.is_one
+    (side_of c.args.self.now) c.requires.can.are.sound c.args.vpe
 
-pub call-outcome-requires-clause-are : goal.call-outcome-requires-clause-are
-call-outcome-requires-clause-are c =
+pub call-outcome-requires-clause-can : goal.call-outcome-requires-clause-can
+call-outcome-requires-clause-can c =
+    let here = call-here c.args.setup.now c.args.kernel (side_of c.args.self.now) c.args.vpe c.requires.can.enabled in
     let next : next_call c.args.setup.now (side_of c.args.self.now) c.args.vpe ≡ Some c.in-Some.call = search rules in
     record {
-      setup = c.requires.are.setup;
-      is_one = c.requires.are.is_one;
-      stores = record {
-        vpes = λ v here. subst (λ o. IsTrue (slice_index_or o v false)) (sym (ap (λ (t : VpeTable). t.ours) c.advance.ensures))
-            (c.requires.are.stores.vpes v here);
-        endpoints = c.requires.are.stores.endpoints;
-        boxes = c.requires.are.stores.boxes;
+      are = record {
+        setup = c.requires.can.are.setup;
+        is_one = c.requires.can.are.is_one;
+        stores = record {
+          vpes = λ v own. subst (λ o. IsTrue (slice_index_or o v false)) (sym (ap (λ (t : VpeTable). t.ours) c.advance.ensures))
+              (c.requires.can.are.stores.vpes v own);
+          endpoints = c.requires.can.are.stores.endpoints;
+          boxes = c.requires.can.are.stores.boxes;
+        };
+        sound = counted-sound_side c.args.setup.now c.requires.can.are.setup c.args.kernel c.requires.can.are.is_one (side_of c.args.self.now) c.requires.can.are.sound
+            c.args.vpe here c.advance.new.self.rows (ap (λ (t : VpeTable). t.rows) c.advance.ensures) c.in-Some.call next;
       };
-      sound = counted-sound_side c.args.setup.now c.requires.are.setup c.args.kernel c.requires.are.is_one (side_of c.args.self.now) c.requires.are.sound
-          c.args.vpe (call-here c.args.setup.now c.args.kernel (side_of c.args.self.now) c.args.vpe c.requires.enabled) c.advance.new.self.rows
-          (ap (λ (t : VpeTable). t.rows) c.advance.ensures) c.in-Some.call next;
+      here = here;
     }
 
-pub call-outcome-requires-clause-here : goal.call-outcome-requires-clause-here
-call-outcome-requires-clause-here c = call-here c.args.setup.now c.args.kernel (side_of c.args.self.now) c.args.vpe c.requires.enabled
-
 pub call-outcome-requires-clause-idle : goal.call-outcome-requires-clause-idle
-call-outcome-requires-clause-idle c = none-is _ (call-idle c.args.setup.now c.args.kernel (side_of c.args.self.now) c.args.vpe c.requires.enabled).0
+call-outcome-requires-clause-idle c = none-is _ (call-idle c.args.setup.now c.args.kernel (side_of c.args.self.now) c.args.vpe c.requires.can.enabled).0
 
 pub call-outcome-requires-clause-pays : goal.call-outcome-requires-clause-pays
 call-outcome-requires-clause-pays c =
     let next : next_call c.args.setup.now (side_of c.args.self.now) c.args.vpe ≡ Some c.in-Some.call = search rules in
-    counted-pays_side c.args.setup.now c.requires.are.setup c.args.kernel c.requires.are.is_one (side_of c.args.self.now) c.requires.are.sound c.args.vpe
-    (call-here c.args.setup.now c.args.kernel (side_of c.args.self.now) c.args.vpe c.requires.enabled) c.advance.new.self.rows
+    counted-pays_side c.args.setup.now c.requires.can.are.setup c.args.kernel c.requires.can.are.is_one (side_of c.args.self.now) c.requires.can.are.sound c.args.vpe
+    (call-here c.args.setup.now c.args.kernel (side_of c.args.self.now) c.args.vpe c.requires.can.enabled) c.advance.new.self.rows
     (ap (λ (t : VpeTable). t.rows) c.advance.ensures) c.in-Some.call next
 
 pub call-outcome-requires-clause-valid : goal.call-outcome-requires-clause-valid
 call-outcome-requires-clause-valid c =
     let next : next_call c.args.setup.now (side_of c.args.self.now) c.args.vpe ≡ Some c.in-Some.call = search rules in
-    call-valid c.args.setup.now c.requires.are.setup c.args.kernel c.requires.are.is_one c.args.vpe _ c.in-Some.call next
+    call-valid c.args.setup.now c.requires.can.are.setup c.args.kernel c.requires.can.are.is_one c.args.vpe _ c.in-Some.call next
 
 pub call-outcome-requires-clause-room : goal.call-outcome-requires-clause-room
 call-outcome-requires-clause-room c =
     let next : next_call c.args.setup.now (side_of c.args.self.now) c.args.vpe ≡ Some c.in-Some.call = search rules in
-    let room = c.requires.ready.room refl in
+    let room = c.requires.can.ready.room refl in
     record {
       caps = room.caps;
       child = room.child
-          ∙ ap (held_key c.args.self.now.caps.caps) (counted-parent_side c.args.setup.now c.requires.are.setup c.args.kernel c.requires.are.is_one
-          (side_of c.args.self.now) c.requires.are.sound c.args.vpe
-          (call-here c.args.setup.now c.args.kernel (side_of c.args.self.now) c.args.vpe c.requires.enabled) c.advance.new.self.rows
+          ∙ ap (held_key c.args.self.now.caps.caps) (counted-parent_side c.args.setup.now c.requires.can.are.setup c.args.kernel c.requires.can.are.is_one
+          (side_of c.args.self.now) c.requires.can.are.sound c.args.vpe
+          (call-here c.args.setup.now c.args.kernel (side_of c.args.self.now) c.args.vpe c.requires.can.enabled) c.advance.new.self.rows
           (ap (λ (t : VpeTable). t.rows) c.advance.ensures) c.in-Some.call next);
       pendings = room.pendings;
       outs = room.outs;
@@ -91,9 +91,9 @@ call-outcome-requires-clause-room c =
 pub call-outcome-requires-clause-revoke : goal.call-outcome-requires-clause-revoke
 call-outcome-requires-clause-revoke c revoking =
     let next : next_call c.args.setup.now (side_of c.args.self.now) c.args.vpe ≡ Some c.in-Some.call = search rules in
-    let room = c.requires.ready.revoke (ap (λ (o : Option Call). option_map_or is_revoking o false) next ∙ revoking) in
-    let asks = ap length (counted-asks c.args.setup.now c.requires.are.setup c.args.kernel c.requires.are.is_one (side_of c.args.self.now) c.requires.are.sound
-    c.args.vpe (call-here c.args.setup.now c.args.kernel (side_of c.args.self.now) c.args.vpe c.requires.enabled) c.advance.new.self.rows
+    let room = c.requires.can.ready.revoke (ap (λ (o : Option Call). option_map_or is_revoking o false) next ∙ revoking) in
+    let asks = ap length (counted-asks c.args.setup.now c.requires.can.are.setup c.args.kernel c.requires.can.are.is_one (side_of c.args.self.now) c.requires.can.are.sound
+    c.args.vpe (call-here c.args.setup.now c.args.kernel (side_of c.args.self.now) c.args.vpe c.requires.can.enabled) c.advance.new.self.rows
     (ap (λ (t : VpeTable). t.rows) c.advance.ensures) c.in-Some.call next) in
     record {
       jobs = room.jobs;

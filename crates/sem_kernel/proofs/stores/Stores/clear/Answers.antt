@@ -1,4 +1,4 @@
-use Rattle.std.proofs.Common.{◌∙◌, true, ap, arith}
+use Rattle.std.proofs.Common.{◌∙◌, true, ap, arith, rules}
 use Rattle.sem_machine.specs.Sides.{Side}
 use Rattle.sem_sound.proofs.Meeting.{ids-fit}
 use Rattle.sem_kernel.proofs.Openings.{lead-home, call-middle, call-jobs, call-caps, step_of}
@@ -6,23 +6,23 @@ use Rattle.sem_kernel.specs.KernelStores.{side_of}
 use Rattle.sem_kernel.proofs.stores.Stores.clear.Goals as goal
 
 pub clear_call-outcome-requires-clause-ids : goal.clear_call-outcome-requires-clause-ids
-clear_call-outcome-requires-clause-ids c = ids-fit c.args.setup.now c.requires.are.setup c.args.kernel c.requires.are.is_one
-    (side_of c.args.self.now) c.requires.are.sound
+clear_call-outcome-requires-clause-ids c = ids-fit c.args.setup.now c.requires.can.are.setup c.args.kernel c.requires.can.are.is_one
+    (side_of c.args.self.now) c.requires.can.are.sound
 
 pub clear_call-outcome-requires-clause-owners : goal.clear_call-outcome-requires-clause-owners
-clear_call-outcome-requires-clause-owners c = lead-home c.args.setup.now c.requires.are.setup c.args.kernel c.requires.are.is_one
-    (side_of c.args.self.now) c.requires.are.sound
+clear_call-outcome-requires-clause-owners c = lead-home c.args.setup.now c.requires.can.are.setup c.args.kernel c.requires.can.are.is_one
+    (side_of c.args.self.now) c.requires.can.are.sound
 
 pub finish-requires-clause-sound : goal.finish-requires-clause-sound
 finish-requires-clause-sound c =
-    call-middle c.args.setup.now c.requires.are.setup c.args.kernel c.requires.are.is_one (side_of c.args.self.now) c.requires.are.sound c.args.vpe c.args.src
-    c.requires.here c.requires.idle true c.requires.pays c.clear_call-outcome.result.1 _ c.clear_call-outcome.ensures.done
+    call-middle c.args.setup.now c.requires.can.are.setup c.args.kernel c.requires.can.are.is_one (side_of c.args.self.now) c.requires.can.are.sound c.args.vpe c.args.src
+    c.requires.can.here c.requires.idle true c.requires.pays c.clear_call-outcome.result.1 _ c.clear_call-outcome.ensures.done
     c.clear_call-outcome.ensures.unmarked
     (λ some p at. c.clear_call-outcome.ensures.opened some p at (side_of c.args.self.now))
 
 pub finish-requires-clause-outs : goal.finish-requires-clause-outs
 finish-requires-clause-outs c some =
-    let jobs = call-jobs c.args.setup.now c.requires.are.setup c.args.kernel c.requires.are.is_one (side_of c.args.self.now) c.requires.are.sound c.args.vpe
+    let jobs = call-jobs c.args.setup.now c.requires.can.are.setup c.args.kernel c.requires.can.are.is_one (side_of c.args.self.now) c.requires.can.are.sound c.args.vpe
     c.args.src true c.clear_call-outcome.result.1 _ c.clear_call-outcome.ensures.unmarked
     (λ some' p at. c.clear_call-outcome.ensures.opened some' p at (side_of c.args.self.now)) some in
     let spare = c.clear_call-outcome.ensures.spare in
@@ -31,13 +31,16 @@ finish-requires-clause-outs c some =
 
 pub finish-requires-clause-gone : goal.finish-requires-clause-gone
 finish-requires-clause-gone c some =
-    let caps = call-caps c.args.setup.now c.requires.are.setup c.args.kernel c.requires.are.is_one (side_of c.args.self.now) c.requires.are.sound c.args.vpe
+    let caps = call-caps c.args.setup.now c.requires.can.are.setup c.args.kernel c.requires.can.are.is_one (side_of c.args.self.now) c.requires.can.are.sound c.args.vpe
     c.args.src true c.clear_call-outcome.result.1 _ c.clear_call-outcome.ensures.unmarked
     (λ some' p at. c.clear_call-outcome.ensures.opened some' p at (side_of c.args.self.now)) some in
     let gone = c.clear_call-outcome.ensures.gone in
     let room = c.requires.room.gone in
     omega (arith, caps, gone, room)
 
-pub returns-clause-row : goal.returns-clause-row
-returns-clause-row c = ap (λ (t : Side). step_of t c.clear_call-outcome.result.0) c.finish.ensures.row
-    ∙ c.clear_call-outcome.ensures.row (side_of c.args.self.now)
+pub returns : goal.returns
+returns c = record {
+  row = ap (λ (t : Side). step_of t c.clear_call-outcome.result.0) c.finish.ensures.row
+      ∙ c.clear_call-outcome.ensures.row (side_of c.args.self.now);
+  stores = search rules;
+}

@@ -10,7 +10,7 @@ use Rattle.sem_kernel.proofs.stores.Stores.handle_next.Goals as goal
 
 pub unreachable-requires : goal.unreachable-requires
 unreachable-requires c = clash (sym (ap (λ (o : Option (ℕ × Message)). is_some o) c.in_default.is)
-    ∙ handle-some c.args.setup.now c.args.kernel (side_of c.args.self.now) c.requires.enabled)
+    ∙ handle-some c.args.setup.now c.args.kernel (side_of c.args.self.now) c.requires.can.enabled)
   where
     clash : false ≡ true → ⊥
     clash no' = cc
@@ -18,7 +18,7 @@ unreachable-requires c = clash (sym (ap (λ (o : Option (ℕ × Message)). is_so
 pub receive-requires-clause-sound : goal.receive-requires-clause-sound
 receive-requires-clause-sound c =
     let inbox : c.args.self.now.inbox ≡ Some (c.in-Some.from, c.in-Some.message) = search rules in
-    c.requires.are.sound.inbox c.in-Some.from c.in-Some.message inbox
+    c.requires.can.are.sound.inbox c.in-Some.from c.in-Some.message inbox
 
 pub returns : goal.returns
 returns c =

@@ -5,7 +5,7 @@ use Rattle.sem_kernel.specs.KernelStores.{side_of}
 use Rattle.sem_kernel.proofs.stores.Stores.kill.Goals as goal
 
 pub end-requires-clause-here : goal.end-requires-clause-here
-end-requires-clause-here c = kill-here c.args.setup.now c.args.kernel (side_of c.args.self.now) c.args.vpe c.requires.enabled
+end-requires-clause-here c = kill-here c.args.setup.now c.args.kernel (side_of c.args.self.now) c.args.vpe c.requires.can.enabled
 
 pub returns : goal.returns
 unfolding local_step

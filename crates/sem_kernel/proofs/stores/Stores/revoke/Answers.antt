@@ -1,4 +1,4 @@
-use Rattle.std.proofs.Common.{◌∙◌, false, ap, arith}
+use Rattle.std.proofs.Common.{◌∙◌, false, ap, arith, rules}
 use Rattle.std.specs.Prelude.{IfSome, IsSome}
 use Rattle.sem_msg.specs.JobRows.{job_of}
 use Rattle.sem_machine.specs.Sides.{Side}
@@ -10,30 +10,30 @@ use Rattle.sem_kernel.specs.KernelStores.{side_of}
 use Rattle.sem_kernel.proofs.stores.Stores.revoke.Goals as goal
 
 pub revoke_call-outcome-requires-clause-marker : goal.revoke_call-outcome-requires-clause-marker
-revoke_call-outcome-requires-clause-marker c = own-sound c.args.setup.now c.requires.are.setup c.args.kernel c.requires.are.is_one
-    (side_of c.args.self.now) c.requires.are.sound c.args.vpe c.args.src (λ p. IfSome p.mark (λ j. IsSome (job_of c.args.self.now.jobs.jobs j)))
-    (λ p among sound. marker-there c.args.setup.now c.requires.are.setup c.args.kernel c.requires.are.is_one (side_of c.args.self.now) c.requires.are.sound p
+revoke_call-outcome-requires-clause-marker c = own-sound c.args.setup.now c.requires.can.are.setup c.args.kernel c.requires.can.are.is_one
+    (side_of c.args.self.now) c.requires.can.are.sound c.args.vpe c.args.src (λ p. IfSome p.mark (λ j. IsSome (job_of c.args.self.now.jobs.jobs j)))
+    (λ p among sound. marker-there c.args.setup.now c.requires.can.are.setup c.args.kernel c.requires.can.are.is_one (side_of c.args.self.now) c.requires.can.are.sound p
     among)
 
 pub revoke_call-outcome-requires-clause-ids : goal.revoke_call-outcome-requires-clause-ids
-revoke_call-outcome-requires-clause-ids c = ids-fit c.args.setup.now c.requires.are.setup c.args.kernel c.requires.are.is_one
-    (side_of c.args.self.now) c.requires.are.sound
+revoke_call-outcome-requires-clause-ids c = ids-fit c.args.setup.now c.requires.can.are.setup c.args.kernel c.requires.can.are.is_one
+    (side_of c.args.self.now) c.requires.can.are.sound
 
 pub revoke_call-outcome-requires-clause-owners : goal.revoke_call-outcome-requires-clause-owners
-revoke_call-outcome-requires-clause-owners c = lead-home c.args.setup.now c.requires.are.setup c.args.kernel c.requires.are.is_one
-    (side_of c.args.self.now) c.requires.are.sound
+revoke_call-outcome-requires-clause-owners c = lead-home c.args.setup.now c.requires.can.are.setup c.args.kernel c.requires.can.are.is_one
+    (side_of c.args.self.now) c.requires.can.are.sound
 
 pub finish-requires-clause-sound : goal.finish-requires-clause-sound
 finish-requires-clause-sound c =
-    call-middle c.args.setup.now c.requires.are.setup c.args.kernel c.requires.are.is_one (side_of c.args.self.now) c.requires.are.sound c.args.vpe c.args.src
-    c.requires.here c.requires.idle false (slack-of c.args.setup.now c.requires.are.setup c.args.kernel c.requires.are.is_one
-    (side_of c.args.self.now) c.requires.are.sound) c.revoke_call-outcome.result.1 _ c.revoke_call-outcome.ensures.done
+    call-middle c.args.setup.now c.requires.can.are.setup c.args.kernel c.requires.can.are.is_one (side_of c.args.self.now) c.requires.can.are.sound c.args.vpe c.args.src
+    c.requires.can.here c.requires.idle false (slack-of c.args.setup.now c.requires.can.are.setup c.args.kernel c.requires.can.are.is_one
+    (side_of c.args.self.now) c.requires.can.are.sound) c.revoke_call-outcome.result.1 _ c.revoke_call-outcome.ensures.done
     c.revoke_call-outcome.ensures.unmarked
     (λ some p at. c.revoke_call-outcome.ensures.opened some p at (side_of c.args.self.now))
 
 pub finish-requires-clause-outs : goal.finish-requires-clause-outs
 finish-requires-clause-outs c some =
-    let jobs = call-jobs c.args.setup.now c.requires.are.setup c.args.kernel c.requires.are.is_one (side_of c.args.self.now) c.requires.are.sound c.args.vpe
+    let jobs = call-jobs c.args.setup.now c.requires.can.are.setup c.args.kernel c.requires.can.are.is_one (side_of c.args.self.now) c.requires.can.are.sound c.args.vpe
     c.args.src false c.revoke_call-outcome.result.1 _ c.revoke_call-outcome.ensures.unmarked
     (λ some' p at. c.revoke_call-outcome.ensures.opened some' p at (side_of c.args.self.now)) some in
     let spare = c.revoke_call-outcome.ensures.spare in
@@ -42,13 +42,16 @@ finish-requires-clause-outs c some =
 
 pub finish-requires-clause-gone : goal.finish-requires-clause-gone
 finish-requires-clause-gone c some =
-    let caps = call-caps c.args.setup.now c.requires.are.setup c.args.kernel c.requires.are.is_one (side_of c.args.self.now) c.requires.are.sound c.args.vpe
+    let caps = call-caps c.args.setup.now c.requires.can.are.setup c.args.kernel c.requires.can.are.is_one (side_of c.args.self.now) c.requires.can.are.sound c.args.vpe
     c.args.src false c.revoke_call-outcome.result.1 _ c.revoke_call-outcome.ensures.unmarked
     (λ some' p at. c.revoke_call-outcome.ensures.opened some' p at (side_of c.args.self.now)) some in
     let gone = c.revoke_call-outcome.ensures.gone in
     let room = c.requires.room.gone in
     omega (arith, caps, gone, room)
 
-pub returns-clause-row : goal.returns-clause-row
-returns-clause-row c = ap (λ (t : Side). step_of t c.revoke_call-outcome.result.0) c.finish.ensures.row
-    ∙ c.revoke_call-outcome.ensures.row (side_of c.args.self.now)
+pub returns : goal.returns
+returns c = record {
+  row = ap (λ (t : Side). step_of t c.revoke_call-outcome.result.0) c.finish.ensures.row
+      ∙ c.revoke_call-outcome.ensures.row (side_of c.args.self.now);
+  stores = search rules;
+}

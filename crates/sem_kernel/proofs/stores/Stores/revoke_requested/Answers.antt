@@ -1,4 +1,4 @@
-use Rattle.std.proofs.Common.{◌∙◌, arith}
+use Rattle.std.proofs.Common.{◌∙◌, arith, rules}
 use Rattle.sem_sound.proofs.Meeting.{ids-fit}
 use Rattle.sem_kernel.proofs.Openings.{lead-home, request-middle, request-jobs, request-caps, ready-here}
 use Rattle.sem_kernel.specs.KernelStores.{side_of}
@@ -39,5 +39,8 @@ finish-requires-clause-gone c some =
     let room = c.requires.room.gone in
     omega (arith, caps, gone, room)
 
-pub returns-clause-row : goal.returns-clause-row
-returns-clause-row c = c.finish.ensures.row ∙ c.revoke_request-done.ensures.row (side_of c.args.self.now)
+pub returns : goal.returns
+returns c = record {
+  row = c.finish.ensures.row ∙ c.revoke_request-done.ensures.row (side_of c.args.self.now);
+  stores = search rules;
+}

@@ -1,4 +1,4 @@
-use Rattle.std.proofs.Common.{◌∙◌, ap}
+use Rattle.std.proofs.Common.{◌∙◌, ap, rules}
 use Rattle.sem_jobs.specs.JobStore.{JobStore}
 use Rattle.sem_kernel.proofs.Openings.{done-middle}
 use Rattle.sem_kernel.specs.KernelStores.{side_of}
@@ -9,5 +9,8 @@ finish-requires-clause-sound c = done-middle c.args.setup.now c.args.kernel (sid
     c.revoke_done-done.new.jobs (ap (λ (x : JobStore). x.jobs) c.revoke_done-done.ensures.lowered)
     (ap (λ (x : JobStore). x.next) c.revoke_done-done.ensures.lowered) c.revoke_done-done.ensures.answer
 
-pub returns-clause-row : goal.returns-clause-row
-returns-clause-row c = c.finish.ensures.row ∙ c.revoke_done-done.ensures.row c.args.setup.now c.args.kernel c.args.from (side_of c.args.self.now)
+pub returns : goal.returns
+returns c = record {
+  row = c.finish.ensures.row ∙ c.revoke_done-done.ensures.row c.args.setup.now c.args.kernel c.args.from (side_of c.args.self.now);
+  stores = search rules;
+}

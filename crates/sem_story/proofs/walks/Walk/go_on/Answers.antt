@@ -15,7 +15,7 @@ returns c = λ J before later runs parts number after.
     let old : Walk = c.args.self.now in
     walked T before e c.args.key old _ (record { number = c.args.number; stage = c.stage_after-self.result }) c.note_grant.new.rows.items
     c.note_bindings.new.rows.items after
-    c.in_ok-happen.ensures
+    c.in_ok-advance.ensures.ok
     (record {
       moves = c.entries_move_few_keys.ensures.moves T valid J before later e c.args.key runs parts;
       home = c.moved_keys_are_seen_at_home.ensures.seen T valid J before later e c.args.key runs parts;

@@ -1,0 +1,119 @@
+use Rattle.std.proofs.Common.{◌∙◌, ap, sym, subst, rules}
+use Rattle.sem_machine.specs.Handles.{handle_row, is_stray}
+use Rattle.sem_sound.proofs.Named.{declared-below}
+use Rattle.sem_kernel.specs.Handing.{CanHandle, HasHandled}
+use Rattle.sem_kernel.specs.KernelStores.{side_of}
+use Rattle.sem_kernel.proofs.Expected.{obtain_req-expected, obtain_no-expected, delegate_no-expected}
+use Rattle.sem_kernel.proofs.stores.Stores.handle.Goals as goal
+
+pub obtain_request-requires-clause-vpe : goal.obtain_request-requires-clause-vpe
+obtain_request-requires-clause-vpe c =
+    (obtain_req-expected c.args.setup.now c.args.kernel (side_of c.args.self.now) c.in-ObtainReq.place c.in-ObtainReq.target
+    (ap (is_stray c.args.setup.now c.args.kernel (side_of c.args.self.now)) (sym c.in-ObtainReq.is) ∙ c.requires.can.expected)).0
+
+pub obtain_request-requires-clause-other : goal.obtain_request-requires-clause-other
+obtain_request-requires-clause-other c =
+    (obtain_req-expected c.args.setup.now c.args.kernel (side_of c.args.self.now) c.in-ObtainReq.place c.in-ObtainReq.target
+    (ap (is_stray c.args.setup.now c.args.kernel (side_of c.args.self.now)) (sym c.in-ObtainReq.is) ∙ c.requires.can.expected)).1
+
+pub obtain_request-requires-clause-owner : goal.obtain_request-requires-clause-owner
+obtain_request-requires-clause-owner c =
+    declared-below c.args.setup.now c.requires.can.are.setup c.in-ObtainReq.place.pe c.in-ObtainReq.place.vpe
+    (obtain_req-expected c.args.setup.now c.args.kernel (side_of c.args.self.now) c.in-ObtainReq.place c.in-ObtainReq.target
+    (ap (is_stray c.args.setup.now c.args.kernel (side_of c.args.self.now)) (sym c.in-ObtainReq.is) ∙ c.requires.can.expected)).2
+
+pub obtain_refused-requires-clause-vpe : goal.obtain_refused-requires-clause-vpe
+obtain_refused-requires-clause-vpe c =
+    obtain_no-expected c.args.setup.now c.args.kernel (side_of c.args.self.now) c.in-ObtainNo.place c.in-ObtainNo.code
+    (ap (is_stray c.args.setup.now c.args.kernel (side_of c.args.self.now)) (sym c.in-ObtainNo.is) ∙ c.requires.can.expected)
+
+pub delegate_refused-requires-clause-vpe : goal.delegate_refused-requires-clause-vpe
+delegate_refused-requires-clause-vpe c =
+    (delegate_no-expected c.args.setup.now c.args.kernel (side_of c.args.self.now) c.in-DelegateNo.parent c.in-DelegateNo.code
+    (ap (is_stray c.args.setup.now c.args.kernel (side_of c.args.self.now)) (sym c.in-DelegateNo.is) ∙ c.requires.can.expected)).0
+
+pub delegate_refused-requires-clause-waits : goal.delegate_refused-requires-clause-waits
+delegate_refused-requires-clause-waits c =
+    (delegate_no-expected c.args.setup.now c.args.kernel (side_of c.args.self.now) c.in-DelegateNo.parent c.in-DelegateNo.code
+    (ap (is_stray c.args.setup.now c.args.kernel (side_of c.args.self.now)) (sym c.in-DelegateNo.is) ∙ c.requires.can.expected)).1
+
+pub returns-in-ObtainReq : goal.returns-in-ObtainReq
+returns-in-ObtainReq c = record {
+  row = c.obtain_request.ensures.row c.args.from (side_of c.args.self.now)
+      ∙ ap (λ m. handle_row c.args.setup.now c.args.kernel (side_of c.args.self.now) c.args.from m) (sym c.in-ObtainReq.is);
+  stores = search rules;
+}
+
+pub returns-in-ObtainNo : goal.returns-in-ObtainNo
+returns-in-ObtainNo c = record {
+  row = c.obtain_refused.ensures.row c.args.from (side_of c.args.self.now)
+      ∙ ap (λ m. handle_row c.args.setup.now c.args.kernel (side_of c.args.self.now) c.args.from m) (sym c.in-ObtainNo.is);
+  stores = search rules;
+}
+
+pub returns-in-DelegateNo : goal.returns-in-DelegateNo
+returns-in-DelegateNo c = record {
+  row = c.delegate_refused.ensures.row c.args.from (side_of c.args.self.now)
+      ∙ ap (λ m. handle_row c.args.setup.now c.args.kernel (side_of c.args.self.now) c.args.from m) (sym c.in-DelegateNo.is);
+  stores = search rules;
+}
+
+pub returns-in-Orphan : goal.returns-in-Orphan
+returns-in-Orphan c = record {
+  row = c.orphan.ensures.row c.args.setup.now c.args.kernel c.args.from (side_of c.args.self.now)
+      ∙ ap (λ m. handle_row c.args.setup.now c.args.kernel (side_of c.args.self.now) c.args.from m) (sym c.in-Orphan.is);
+  stores = search rules;
+}
+
+pub returns-in-Unlink : goal.returns-in-Unlink
+returns-in-Unlink c = record {
+  row = c.unlink.ensures.row c.args.setup.now c.args.kernel c.args.from (side_of c.args.self.now)
+      ∙ ap (λ m. handle_row c.args.setup.now c.args.kernel (side_of c.args.self.now) c.args.from m) (sym c.in-Unlink.is);
+  stores = search rules;
+}
+
+pub obtain_answered-requires-clause-can : goal.obtain_answered-requires-clause-can
+obtain_answered-requires-clause-can c =
+    subst (CanHandle c.args.setup.now c.args.kernel c.args.self.now) c.in-ObtainOk.is c.requires.can
+
+pub returns-in-ObtainOk : goal.returns-in-ObtainOk
+returns-in-ObtainOk c =
+    subst (HasHandled c.args.setup.now c.args.kernel c.args.from c.args.self.now _)
+    (sym c.in-ObtainOk.is) (c.obtain_answered.ensures c.args.from)
+
+pub delegate_requested-requires-clause-can : goal.delegate_requested-requires-clause-can
+delegate_requested-requires-clause-can c =
+    subst (CanHandle c.args.setup.now c.args.kernel c.args.self.now) c.in-DelegateReq.is c.requires.can
+
+pub returns-in-DelegateReq : goal.returns-in-DelegateReq
+returns-in-DelegateReq c =
+    subst (HasHandled c.args.setup.now c.args.kernel c.args.from c.args.self.now _)
+    (sym c.in-DelegateReq.is) (c.delegate_requested.ensures c.args.from)
+
+pub delegate_accepted-requires-clause-can : goal.delegate_accepted-requires-clause-can
+delegate_accepted-requires-clause-can c =
+    subst (CanHandle c.args.setup.now c.args.kernel c.args.self.now) c.in-DelegatePrepared.is c.requires.can
+
+pub returns-in-DelegatePrepared : goal.returns-in-DelegatePrepared
+returns-in-DelegatePrepared c =
+    subst (HasHandled c.args.setup.now c.args.kernel c.args.from c.args.self.now _)
+    (sym c.in-DelegatePrepared.is) (c.delegate_accepted.ensures c.args.from)
+
+pub acknowledged-requires-clause-can : goal.acknowledged-requires-clause-can
+acknowledged-requires-clause-can c =
+    subst (CanHandle c.args.setup.now c.args.kernel c.args.self.now) c.in-Ack.is c.requires.can
+
+pub returns-in-Ack : goal.returns-in-Ack
+returns-in-Ack c =
+    subst (HasHandled c.args.setup.now c.args.kernel c.args.from c.args.self.now _)
+    (sym c.in-Ack.is) (c.acknowledged.ensures c.args.from)
+
+pub returns-in-RevokeReq : goal.returns-in-RevokeReq
+returns-in-RevokeReq c =
+    subst (HasHandled c.args.setup.now c.args.kernel c.args.from c.args.self.now _)
+    (sym c.in-RevokeReq.is) c.revoke_requested.ensures
+
+pub returns-in-RevokeDone : goal.returns-in-RevokeDone
+returns-in-RevokeDone c =
+    subst (HasHandled c.args.setup.now c.args.kernel c.args.from c.args.self.now _)
+    (sym c.in-RevokeDone.is) c.token_returned.ensures

@@ -1,5 +1,0 @@
-use Rattle.sem_kernel.specs.KernelStores.{side_of}
-use Rattle.sem_kernel.proofs.stores.Stores.read.Goals as goal
-
-pub returns-clause-row : goal.returns-clause-row
-returns-clause-row c = c.read_call.ensures.row (side_of c.args.self.now)
