@@ -6,7 +6,8 @@ use sem_audit::{answered, audit, audit_of, held_list, stray, stray_of};
 use sem_check::{CheckError, check, replay};
 use sem_grants::{cut_keys, made_keys};
 use sem_kernel::{World, boot_kernels, is_enabled};
-use sem_msg::{Act, Call, Detail, Entry, Event, Held, Journal, Reply, Setup};
+use sem_key::Key;
+use sem_msg::{Act, Audit, Call, Detail, Entry, Event, Held, Journal, Reply, Setup};
 use std::alloc::Global;
 use std::test::Fail;
 
@@ -100,18 +101,21 @@ fn goes_on(alloc: Global, entries: &[Entry], event: Event) -> Result<bool, Fail>
 #[test]
 fn a_check_tells_where_a_journal_ends_too_early_or_differs(rt: HostRuntime) -> Result<(), Fail> {
     let entries = [DERIVED, REVOKED, RESUMED, RESUMED];
-    assert_eq!(rt; fault(rt.alloc(), &entries[..3])?, None);
+    let none = fault(rt.alloc(), &entries[..3])?;
+    assert!(rt; none.is_none());
     let incomplete = CheckError::Incomplete {
         entry: 2,
         next: RESUMED,
     };
-    assert_eq!(rt; fault(rt.alloc(), &entries[..2])?, Some(incomplete));
+    let early = fault(rt.alloc(), &entries[..2])?;
+    assert!(rt; early == Some(incomplete));
     let differs = CheckError::Differs {
         entry: 3,
         entered: RESUMED,
         replayed: None,
     };
-    assert_eq!(rt; fault(rt.alloc(), &entries)?, Some(differs));
+    let late = fault(rt.alloc(), &entries)?;
+    assert!(rt; late == Some(differs));
     Ok(())
 }
 
@@ -124,44 +128,80 @@ fn a_replay_stops_before_what_differs(rt: HostRuntime) -> Result<(), Fail> {
     Ok(())
 }
 
+// The keys that are made in a journal of these events.
+fn made(alloc: Global, events: &[Event]) -> Result<Vec<Key>, Fail> {
+    let setup = setup_of(alloc, ONE_VPE)?;
+    let journal = played(alloc, &setup, events)?;
+    Ok(made_keys(alloc, &setup, &journal)?)
+}
+
+// How many keys are cut in a journal of these events, and whether this one is among them.
+fn cut(alloc: Global, events: &[Event], key: Key) -> Result<(usize, bool), Fail> {
+    let setup = setup_of(alloc, ONE_VPE)?;
+    let journal = played(alloc, &setup, events)?;
+    let keys = cut_keys(alloc, &setup, &journal)?;
+    Ok((keys.len(), keys.has(key)))
+}
+
+// The audit after these events.
+fn audited(alloc: Global, events: &[Event]) -> Result<Audit, Fail> {
+    let setup = setup_of(alloc, ONE_VPE)?;
+    let journal = played(alloc, &setup, events)?;
+    Ok(audit(alloc, &setup, &journal)?)
+}
+
+// How many calls are answered after these events, and how many keys are stray.
+fn answered_and_stray(alloc: Global, events: &[Event]) -> Result<(u64, u64), Fail> {
+    let setup = setup_of(alloc, ONE_VPE)?;
+    let journal = played(alloc, &setup, events)?;
+    Ok((answered(&journal), stray(alloc, &setup, &journal)?))
+}
+
+// How many keys are stray, if the kernels are still as at the start after these events.
+fn stray_at_start(alloc: Global, events: &[Event]) -> Result<u64, Fail> {
+    let setup = setup_of(alloc, ONE_VPE)?;
+    let journal = played(alloc, &setup, events)?;
+    let start = boot_kernels(alloc, &setup)?;
+    Ok(stray_of(alloc, &setup, &journal, &start)?)
+}
+
+// How many keys the kernels hold at the start, and by the audit after these events.
+fn held_at_start(alloc: Global, events: &[Event]) -> Result<(usize, usize), Fail> {
+    let setup = setup_of(alloc, ONE_VPE)?;
+    let journal = played(alloc, &setup, events)?;
+    let start = boot_kernels(alloc, &setup)?;
+    let told = audit_of(alloc, &setup, &journal, &start)?;
+    Ok((held_list(alloc, &start)?.len(), told.held.len()))
+}
+
 #[test]
 fn a_journal_makes_roots_and_children_and_cuts_what_is_revoked(
     rt: HostRuntime,
 ) -> Result<(), Fail> {
-    let setup = setup_of(rt.alloc(), ONE_VPE)?;
-    let journal = played(rt.alloc(), &setup, &[CALL, CALL, RESUME])?;
-    let made = made_keys(rt.alloc(), &setup, &journal)?;
-    assert_eq!(rt; made.as_slice(), [ROOT, CHILD].as_slice());
-    let cut = cut_keys(rt.alloc(), &setup, &journal)?;
-    assert!(rt; cut.len() == 1 && cut.has(ROOT));
+    let events = [CALL, CALL, RESUME];
+    let made = made(rt.alloc(), &events)?;
+    assert!(rt; made.as_slice() == [ROOT, CHILD].as_slice());
+    let cut = cut(rt.alloc(), &events, ROOT)?;
+    assert!(rt; cut == (1, true));
     Ok(())
 }
 
 #[test]
 fn what_is_held_after_a_journal_is_told(rt: HostRuntime) -> Result<(), Fail> {
-    let setup = setup_of(rt.alloc(), ONE_VPE)?;
-    let journal = played(rt.alloc(), &setup, &[CALL])?;
-    let told = audit(rt.alloc(), &setup, &journal)?;
+    let told = audited(rt.alloc(), &[CALL])?;
     let held = [Held { key: ROOT, sel: 0 }, Held { key: CHILD, sel: 1 }];
-    assert_eq!(rt; (told.made, told.cut), (2, 0));
-    assert_eq!(rt; told.held.as_slice(), held.as_slice());
-    assert_eq!(rt;
-        (answered(&journal), stray(rt.alloc(), &setup, &journal)?),
-        (1, 0)
-    );
+    assert!(rt; (told.made, told.cut) == (2, 0));
+    assert!(rt; told.held.as_slice() == held.as_slice());
+    let counts = answered_and_stray(rt.alloc(), &[CALL])?;
+    assert!(rt; counts == (1, 0));
     Ok(())
 }
 
 #[test]
 fn what_was_granted_and_is_not_held_is_stray(rt: HostRuntime) -> Result<(), Fail> {
-    let setup = setup_of(rt.alloc(), ONE_VPE)?;
-    let journal = played(rt.alloc(), &setup, &[CALL])?;
-    let start = boot_kernels(rt.alloc(), &setup)?;
-    assert_eq!(rt; stray_of(rt.alloc(), &setup, &journal, &start)?, 1);
-    assert_eq!(rt; held_list(rt.alloc(), &start)?.len(), 1);
-    assert_eq!(rt;
-        audit_of(rt.alloc(), &setup, &journal, &start)?.held.len(),
-        1
-    );
+    let stray = stray_at_start(rt.alloc(), &[CALL])?;
+    assert!(rt; stray == 1);
+    let held = held_at_start(rt.alloc(), &[CALL])?;
+    assert!(rt; held == (1, 1));
     Ok(())
 }

@@ -79,9 +79,20 @@ fn fetched(kernel: &mut Kernel, message: Message) -> Result<Entry, Fail>
     Ok(kernel.step(act, Some(message)))
 }
 
+// The world of the trace at the start.
+fn world(alloc: Global, text: &str) -> Result<World, Fail> {
+    let setup = setup_of(alloc, text)?;
+    Ok(World::boot(alloc, &setup)?)
+}
+
+// Lets the event happen, if it is enabled, and returns its entry.
+fn entered(world: &mut World, event: Event) -> Result<Entry, StepError> {
+    world.step(event)
+}
+
 // Lets the event happen, and returns whether it was enabled.
 fn happens(world: &mut World, event: Event) -> bool {
-    world.is_enabled(event) && world.step(event).is_ok()
+    world.is_enabled(event) && entered(world, event).is_ok()
 }
 
 // Whether the event is not enabled, and so does not happen.
@@ -125,8 +136,7 @@ fn an_answer_is_taken_out_of_the_link_into_the_inbox(rt: HostRuntime) -> Result<
 
 #[test]
 fn two_kernels_do_an_obtain_over_their_fabric(rt: HostRuntime) -> Result<(), Fail> {
-    let setup = setup_of(rt.alloc(), TWO_KERNELS)?;
-    let mut world = World::boot(rt.alloc(), &setup)?;
+    let mut world = world(rt.alloc(), TWO_KERNELS)?;
     for event in [
         near(Act::Call { vpe: 3 }),
         near(Act::Flush { to: 1 }),
@@ -147,15 +157,14 @@ fn two_kernels_do_an_obtain_over_their_fabric(rt: HostRuntime) -> Result<(), Fai
         cut: None,
         reply: Some(Reply { vpe: 3, code: 0 }),
     };
-    assert_eq!(rt; world.step(resume), Ok(wanted));
+    assert_eq!(rt; entered(&mut world, resume), Ok(wanted));
     assert!(rt; world.is_alive(3) && !world.is_alive(5) && world.kernels().len() == 2);
     Ok(())
 }
 
 #[test]
 fn an_event_that_is_not_enabled_does_not_happen(rt: HostRuntime) -> Result<(), Fail> {
-    let setup = setup_of(rt.alloc(), TWO_KERNELS)?;
-    let mut world = World::boot(rt.alloc(), &setup)?;
+    let mut world = world(rt.alloc(), TWO_KERNELS)?;
     let handle = Event {
         kernel: 2,
         act: Act::Handle,
@@ -183,8 +192,7 @@ fn all_numbers(alloc: Global) -> Result<String, Fail> {
 #[test]
 fn a_vpe_draws_no_more_numbers_than_there_are(rt: HostRuntime) -> Result<(), Fail> {
     let text = all_numbers(rt.alloc())?;
-    let setup = setup_of(rt.alloc(), text.as_str())?;
-    let mut world = World::boot(rt.alloc(), &setup)?;
+    let mut world = world(rt.alloc(), text.as_str())?;
     let call = near(Act::Call { vpe: 0 });
     for _ in 0..4095 {
         assert!(rt; happens(&mut world, call) && happens(&mut world, call));
@@ -208,7 +216,7 @@ fn a_vpe_draws_no_more_numbers_than_there_are(rt: HostRuntime) -> Result<(), Fai
             cut: None,
             reply: Some(Reply { vpe: 0, code }),
         };
-        assert_eq!(rt; world.step(call), Ok(wanted));
+        assert_eq!(rt; entered(&mut world, call), Ok(wanted));
     }
     Ok(())
 }

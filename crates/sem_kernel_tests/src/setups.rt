@@ -40,12 +40,32 @@ pub fn setup_of(alloc: Global, text: &str) -> Result<Setup, Fail> {
     }
 }
 
+// The version, the window and the number of kernels, as declared and by the table of the PEs.
+fn numbers(setup: &Setup) -> [u32; 4] {
+    [
+        u32::from(setup.version),
+        setup.window,
+        setup.kernels,
+        setup.owners.kernels(),
+    ]
+}
+
+// How many VPEs, services, offers, denies and kills are declared.
+fn lengths(setup: &Setup) -> [usize; 5] {
+    [
+        setup.vpes.len(),
+        setup.services.len(),
+        setup.offers.len(),
+        setup.denies.len(),
+        setup.kills.len(),
+    ]
+}
+
 #[test]
 fn a_copied_setup_declares_the_same(rt: HostRuntime) -> Result<(), Fail> {
     let copy = setup_of(rt.alloc(), ONE_VPE)?.copy(rt.alloc())?;
-    assert_eq!(rt; (copy.version, copy.window), (1, 4));
-    assert_eq!(rt; (copy.kernels, copy.owners.kernels()), (1, 1));
-    assert_eq!(rt; copy.vpes.len(), 1);
+    assert_eq!(rt; numbers(&copy), [1, 4, 1, 1]);
+    assert_eq!(rt; lengths(&copy), [1, 0, 0, 0, 0]);
     let vpe = copy.vpes.get(0).ok_or("no VPE")?;
     assert_eq!(rt; (vpe.vpe, vpe.pe), (0, 0));
     let object = Object::Mem {
@@ -58,21 +78,32 @@ fn a_copied_setup_declares_the_same(rt: HostRuntime) -> Result<(), Fail> {
         vpe.calls.as_slice(),
         [DERIVE, Call::Revoke { src: 0 }].as_slice()
     );
-    assert_eq!(rt; (copy.services.len(), copy.offers.len()), (0, 0));
-    assert_eq!(rt; (copy.denies.len(), copy.kills.len()), (0, 0));
     Ok(())
+}
+
+// Whether the VPE has a declaration and is declared; its PE, and its kernel.
+fn said_of_vpe(setup: &Setup, vpe: u16) -> (bool, bool, u8, u32) {
+    (
+        setup.decl(vpe).is_some(),
+        setup.is_declared(vpe),
+        setup.pe_of(vpe),
+        setup.kernel_of(vpe),
+    )
+}
+
+// Whether the kernel has a declaration of VPE 0, and whether the VPE is its own.
+fn said_of_kernel(setup: &Setup, kernel: u32) -> (bool, bool) {
+    (setup.own_decl(kernel, 0).is_some(), setup.is_own(kernel, 0))
 }
 
 #[test]
 fn what_is_not_declared_is_of_no_kernel_and_on_no_pe(rt: HostRuntime) -> Result<(), Fail> {
     let setup = setup_of(rt.alloc(), ONE_VPE)?;
-    assert!(rt; setup.decl(0).is_some() && setup.decl(1).is_none());
-    assert!(rt; setup.own_decl(0, 0).is_some() && setup.own_decl(1, 0).is_none());
-    assert_eq!(rt; (setup.is_own(0, 0), setup.is_own(1, 0)), (true, false));
-    assert_eq!(rt; (setup.is_declared(0), setup.is_declared(1)), (true, false));
-    assert_eq!(rt; (setup.pe_of(0), setup.pe_of(1)), (0, 128));
+    assert_eq!(rt; said_of_vpe(&setup, 0), (true, true, 0, 0));
+    assert_eq!(rt; said_of_vpe(&setup, 1), (false, false, 128, 1));
+    assert_eq!(rt; said_of_kernel(&setup, 0), (true, true));
+    assert_eq!(rt; said_of_kernel(&setup, 1), (false, false));
     assert_eq!(rt; (setup.pe_owner(0), setup.pe_owner(1)), (0, 1));
-    assert_eq!(rt; (setup.kernel_of(0), setup.kernel_of(1)), (0, 1));
     assert_eq!(rt; setup.owner_of(CHILD), 0);
     Ok(())
 }

@@ -4,6 +4,7 @@ use crate::endings::ended_over;
 use sem_cli::Status;
 use sem_io::{MemSink, MemSource};
 use sem_node::OpenGate;
+use sem_samples::{REVOKE_REPORT, REVOKE_TRACE};
 use std::test::Fail;
 
 /// The most bytes of a call.
@@ -16,38 +17,6 @@ struct Row {
     text: &'static str,
     entries: usize,
 }
-
-// A trace with a derive and a revoke.
-const TRACE: &str = "semper trace 1
-kernels 1
-pe 0 0
-vpe 0 0
-root 0 0 mem 0 4096 7
-call 0 derive 0 1 0 1024 1
-call 0 revoke 0
-end
-";
-
-// The report of its run.
-const REPORT: &str = "semper report 1
-semper trace 1
-kernels 1
-pe 0 0
-vpe 0 0
-root 0 0 mem 0 4096 7
-call 0 derive 0 1 0 1024 1
-call 0 revoke 0
-end
-journal 3
-0 call 0 0 derive 0 1 0 1024 1 grant 0.0.1.0 0.0.1.1 reply 0 0
-0 call 0 1 revoke 0 cut 0.0.1.0
-0 resume 0 reply 0 0
-audit
-made 2
-cut 1
-held 0
-end
-";
 
 // File commands of a client that opens a file and reads it.
 const FILES: &str = "semper files 1
@@ -99,31 +68,31 @@ end
 const ROWS: [Row; 7] = [
     Row {
         line: "check",
-        input: REPORT,
+        input: REVOKE_REPORT,
         text: "ok\n",
         entries: 0,
     },
     Row {
         line: "contents",
-        input: REPORT,
+        input: REVOKE_REPORT,
         text: "semper contents 1\nend\n",
         entries: 0,
     },
     Row {
         line: "query holder 0.0.1.1 1",
-        input: REPORT,
+        input: REVOKE_REPORT,
         text: "held 1 unmarked\n",
         entries: 0,
     },
     Row {
         line: "query path 0.0.1.1",
-        input: REPORT,
+        input: REVOKE_REPORT,
         text: "key 0.0.1.1 kept\nkey 0.0.1.0 cut\n",
         entries: 0,
     },
     Row {
         line: "query denied 1",
-        input: REPORT,
+        input: REVOKE_REPORT,
         text: "none\n",
         entries: 0,
     },
@@ -135,8 +104,8 @@ const ROWS: [Row; 7] = [
     },
     Row {
         line: "run 0",
-        input: TRACE,
-        text: REPORT,
+        input: REVOKE_TRACE,
+        text: REVOKE_REPORT,
         entries: 3,
     },
 ];

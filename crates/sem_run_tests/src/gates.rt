@@ -1,8 +1,8 @@
 // Runs in threads with gates that hold the threads up.
 use crate::endings::accepted;
-use crate::seeds::CHAIN_OF_FORTY_ONE;
 use crate::threads::{CROSSING, is_set};
 use sem_node::Gate;
+use sem_samples::CHAIN_OF_FORTY_ONE;
 use std::hint;
 use std::sync::atomic::{AtomicBool, AtomicU64, AtomicUsize, Ordering};
 use std::test::Fail;

@@ -5,6 +5,7 @@ use crate::endings::ended;
 use crate::threads::CROSSING;
 use sem_cli::Status;
 use sem_node::OpenGate;
+use sem_samples::{CHAIN_OF_FORTY_ONE, KILL_OF_CHAIN, REVOKE_TRACE};
 use std::alloc::Global;
 use std::process::Abort;
 use std::sync::Wait;
@@ -28,17 +29,6 @@ struct Row {
     // The end of the report: the audit, and the journal too if there is only one.
     told: &'static str,
 }
-
-// One VPE derives and revokes.
-const DERIVE_AND_REVOKE: &str = "semper trace 1
-kernels 1
-pe 0 0
-vpe 0 0
-root 0 0 mem 0 4096 7
-call 0 derive 0 1 0 1024 1
-call 0 revoke 0
-end
-";
 
 const DERIVED_AND_REVOKED: &str = "journal 3
 0 call 0 0 derive 0 1 0 1024 1 grant 0.0.1.0 0.0.1.1 reply 0 0
@@ -126,69 +116,6 @@ held 0
 end
 ";
 
-// Two kernels delegate and obtain in turn, until the first one revokes all of it. A line before
-// this part declares the kernels.
-pub(crate) const CHAIN_OF_FORTY_ONE: &str = "pe 0 0
-pe 1 1
-vpe 0 0
-vpe 1 1
-root 0 0 mem 0 4096 7
-call 0 delegate 0 1 1
-call 0 obtain 2 1 1
-call 0 delegate 2 1 3
-call 0 obtain 4 1 3
-call 0 delegate 4 1 5
-call 0 obtain 6 1 5
-call 0 delegate 6 1 7
-call 0 obtain 8 1 7
-call 0 delegate 8 1 9
-call 0 obtain 10 1 9
-call 0 delegate 10 1 11
-call 0 obtain 12 1 11
-call 0 delegate 12 1 13
-call 0 obtain 14 1 13
-call 0 delegate 14 1 15
-call 0 obtain 16 1 15
-call 0 delegate 16 1 17
-call 0 obtain 18 1 17
-call 0 delegate 18 1 19
-call 0 obtain 20 1 19
-call 0 delegate 20 1 21
-call 0 obtain 22 1 21
-call 0 delegate 22 1 23
-call 0 obtain 24 1 23
-call 0 delegate 24 1 25
-call 0 obtain 26 1 25
-call 0 delegate 26 1 27
-call 0 obtain 28 1 27
-call 0 delegate 28 1 29
-call 0 obtain 30 1 29
-call 0 delegate 30 1 31
-call 0 obtain 32 1 31
-call 0 delegate 32 1 33
-call 0 obtain 34 1 33
-call 0 delegate 34 1 35
-call 0 obtain 36 1 35
-call 0 delegate 36 1 37
-call 0 obtain 38 1 37
-call 0 delegate 38 1 39
-call 0 obtain 40 1 39
-call 0 revoke 0
-end
-";
-
-// A whole chain goes with its owner, who is killed.
-const KILL_OF_CHAIN: &str = "pe 0 0
-pe 1 1
-vpe 0 0
-vpe 1 1
-root 0 0 mem 0 4096 7
-call 0 delegate 0 1 1
-call 0 obtain 1 1 1
-kill 0 2
-end
-";
-
 // A VPE opens a session, asks for three offers, uses them and revokes all of them; another VPE
 // opens a session.
 const SESSIONS_AND_OFFERS: &str = "semper trace 1
@@ -258,7 +185,7 @@ const ROWS: [Row; 11] = [
     Row {
         command: "run",
         head: "",
-        rest: DERIVE_AND_REVOKE,
+        rest: REVOKE_TRACE,
         entries: 3,
         replies: "0 0 0\n1\n2\n",
         told: DERIVED_AND_REVOKED,

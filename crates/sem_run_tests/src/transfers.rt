@@ -70,9 +70,8 @@ fn all_bytes_come_whatever_the_step(rt: HostRuntime) -> Result<(), Fail> {
         let mut source = MemSource::new(bytes.clone()?, step, Vec::new(rt.alloc()));
         let read = read_all(rt.alloc(), &mut source, 1000)?;
         assert_eq!(rt; read.as_slice(), bytes.as_slice(), "step {step}");
-        assert_eq!(rt; source.at, 100, "step {step}");
-        assert_eq!(rt; source.calls, calls, "step {step}");
-        assert_eq!(rt; source.failed, 0, "step {step}");
+        let counts = (source.at, source.calls, source.failed);
+        assert_eq!(rt; counts, (100, calls, 0), "step {step}");
     }
     Ok(())
 }
@@ -85,9 +84,9 @@ fn a_read_that_fails_ends_it_with_a_prefix_taken(rt: HostRuntime) -> Result<(), 
         let mut source = MemSource::new(counting(rt.alloc(), 100)?, 7, fails);
         let outcome = read_all(rt.alloc(), &mut source, 1000);
         assert_eq!(rt; outcome.err(), Some(ReadError::Fault), "call {call}");
-        assert_eq!(rt; source.failed, 1, "call {call}");
-        assert_eq!(rt; source.calls, call + 1, "call {call}");
-        assert_eq!(rt; source.at, (call as usize * 7).min(100), "call {call}");
+        let counts = (source.at, source.calls, source.failed);
+        let taken = (call as usize * 7).min(100);
+        assert_eq!(rt; counts, (taken, call + 1, 1), "call {call}");
     }
     Ok(())
 }
@@ -111,8 +110,7 @@ fn all_bytes_are_written_whatever_the_step(rt: HostRuntime) -> Result<(), Fail> 
         let mut sink = MemSink::new(rt.alloc(), 100, step, Vec::new(rt.alloc()))?;
         write_all(&mut sink, &bytes)?;
         assert_eq!(rt; sink.bytes.as_slice(), bytes.as_slice(), "step {step}");
-        assert_eq!(rt; sink.calls, calls, "step {step}");
-        assert_eq!(rt; sink.failed, 0, "step {step}");
+        assert_eq!(rt; (sink.calls, sink.failed), (calls, 0), "step {step}");
     }
     Ok(())
 }

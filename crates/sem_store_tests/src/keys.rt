@@ -2,8 +2,8 @@ ghost use Rattle.std.specs.Prelude.{◌≡◌, ◌<◌};
 ghost use Rattle.sem_key.specs.declared.limits.TheConstants.{NUMBERS, PES, VPES};
 
 use sem_key::{
-    Cap, Key, KeyWord, Keys, Kind, Membership, Object, Place, Taken, keyed, narrows, pack,
-    same_key, unpack,
+    Key, KeyWord, Keys, Kind, Membership, Object, Place, Taken, keyed, narrows, pack, same_key,
+    unpack,
 };
 use std::test::Fail;
 
@@ -23,11 +23,15 @@ fn key(pe: u8, vpe: u16, kind: Kind, number: u32) -> Key
 
 #[test]
 fn a_kind_has_its_number(rt: HostRuntime) {
-    assert_eq!(rt; Kind::Mem.number(), 1);
-    assert_eq!(rt; Kind::Recv.number(), 2);
-    assert_eq!(rt; Kind::Send.number(), 3);
-    assert_eq!(rt; Kind::Serv.number(), 4);
-    assert_eq!(rt; Kind::Sess.number(), 5);
+    for (kind, number) in [
+        (Kind::Mem, 1),
+        (Kind::Recv, 2),
+        (Kind::Send, 3),
+        (Kind::Serv, 4),
+        (Kind::Sess, 5),
+    ] {
+        assert_eq!(rt; kind.number(), number);
+    }
 }
 
 #[test]
@@ -216,62 +220,4 @@ fn a_pe_keeps_its_first_owner(rt: HostRuntime) {
     for pe in [0, 4, 6, 63, 64, 255] {
         assert_eq!(rt; table.owner(pe), None, "of PE {pe} at the end");
     }
-}
-
-#[test]
-fn an_object_holds_what_it_was_made_of(rt: HostRuntime) {
-    let gate = key(2, 1, Kind::Recv, 7);
-    let service = key(4, 0, Kind::Serv, 8);
-    let memory = Object::Mem {
-        base: 4096,
-        len: 512,
-        rights: 3,
-    };
-    let receiver = Object::Recv { slots: 64 };
-    let sender = Object::Send {
-        gate,
-        label: 77,
-        credits: 5,
-    };
-    let server = Object::Serv { name: 9 };
-    let session = Object::Sess { service, ident: 44 };
-    assert!(rt;
-        matches!(
-            &memory,
-            Object::Mem {
-                base: 4096,
-                len: 512,
-                rights: 3
-            }
-        )
-    );
-    assert!(rt; matches!(&receiver, Object::Recv { slots: 64 }));
-    assert!(rt; matches!(&sender, Object::Send { gate: to, label: 77, credits: 5 } if *to == gate));
-    assert!(rt; matches!(&server, Object::Serv { name: 9 }));
-    assert!(rt; matches!(&session, Object::Sess { service: of, ident: 44 } if *of == service));
-}
-
-#[test]
-fn a_capability_holds_what_it_was_made_of(rt: HostRuntime) -> Result<(), Fail> {
-    let parent = key(1, 1, Kind::Recv, 6);
-    let child = key(9, 2, Kind::Send, 1);
-    let mut children = Keys::new(rt.alloc());
-    children.room(1)?;
-    children.insert(child);
-    let cap = Cap {
-        key: key(2, 1, Kind::Recv, 7),
-        parent: Some(parent),
-        children,
-        mark: Some(30),
-        selector: 4,
-        object: Object::Recv { slots: 64 },
-    };
-    assert_eq!(rt;
-        (cap.key, cap.parent),
-        (key(2, 1, Kind::Recv, 7), Some(parent))
-    );
-    assert_eq!(rt; cap.children.as_slice(), [KeyWord::new(child)].as_slice());
-    assert_eq!(rt; (cap.mark, cap.selector), (Some(30), 4));
-    assert_eq!(rt; cap.object, Object::Recv { slots: 64 });
-    Ok(())
 }

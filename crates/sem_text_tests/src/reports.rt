@@ -1,97 +1,45 @@
 //! Reports that are read and printed, and texts that are no reports.
 
 use sem_report::{print_report, read_report};
+use sem_samples::{OBTAIN_REPORT, REVOKE_REPORT};
 use sem_trace::{Cause, TraceError};
+use std::alloc::Global;
 use std::test::Fail;
 
-// One VPE derives from its memory and revokes it.
-const REPORT: &str = "\
-semper report 1
-semper trace 1
-kernels 1
-pe 0 0
-vpe 0 0
-root 0 0 mem 0 4096 7
-call 0 derive 0 1 0 1024 1
-call 0 revoke 0
-end
-journal 3
-0 call 0 0 derive 0 1 0 1024 1 grant 0.0.1.0 0.0.1.1 reply 0 0
-0 call 0 1 revoke 0 cut 0.0.1.0
-0 resume 0 reply 0 0
-audit
-made 2
-cut 1
-held 0
-end
-";
+// What makes of `OBTAIN_REPORT` the same in version 2, where both VPEs and both kernels have the
+// numbers farthest apart: each part, and what stands in all its places.
+const FARTHEST: [(&str, &str); 12] = [
+    ("report 1\n", "report 2\n"),
+    ("trace 1\nkernels 2\n", "trace 2\nkernels 32\nwindow 32\n"),
+    ("\npe 1 1", "\npe 127 31"),
+    ("vpe 1 1", "vpe 127 127"),
+    ("call 1", "call 127"),
+    ("\n1 ", "\n31 "),
+    ("fetch 1", "fetch 31"),
+    ("handle 1", "handle 31"),
+    ("flush 1", "flush 31"),
+    ("upcall 0 1", "upcall 0 127"),
+    ("resume 1 reply 1", "resume 127 reply 127"),
+    ("1.1.", "127.127."),
+];
 
-// One VPE obtains the memory of another, on another kernel.
-const PAIR: &str = "\
-semper report 1
-semper trace 1
-kernels 2
-pe 0 0
-pe 1 1
-vpe 0 0
-vpe 1 1
-root 0 0 mem 0 4096 7
-call 1 obtain 5 0 0
-end
-journal 9
-1 call 1 0 obtain 5 0 0
-1 flush 0 obtain-req 1.1.0 sel 0 0
-0 fetch 1 obtain-req 1.1.0 sel 0 0
-0 handle 1 obtain-req 1.1.0 sel 0 0
-0 upcall 0 1 yes grant 0.0.1.0 1.1.1.0
-0 flush 1 obtain-ok 0.0.1.0 1.1.1.0 mem 0 4096 7
-1 fetch 0 obtain-ok 0.0.1.0 1.1.1.0 mem 0 4096 7
-1 handle 0 obtain-ok 0.0.1.0 1.1.1.0 mem 0 4096 7
-1 resume 1 reply 1 0
-audit
-made 2
-cut 0
-held 2
-key 0.0.1.0 0
-key 1.1.1.0 5
-end
-";
-
-// The same in version 2; both VPEs and both kernels have the numbers farthest apart.
-const FAR_PAIR: &str = "\
-semper report 2
-semper trace 2
-kernels 32
-window 32
-pe 0 0
-pe 127 31
-vpe 0 0
-vpe 127 127
-root 0 0 mem 0 4096 7
-call 127 obtain 5 0 0
-end
-journal 9
-31 call 127 0 obtain 5 0 0
-31 flush 0 obtain-req 127.127.0 sel 0 0
-0 fetch 31 obtain-req 127.127.0 sel 0 0
-0 handle 31 obtain-req 127.127.0 sel 0 0
-0 upcall 0 127 yes grant 0.0.1.0 127.127.1.0
-0 flush 31 obtain-ok 0.0.1.0 127.127.1.0 mem 0 4096 7
-31 fetch 0 obtain-ok 0.0.1.0 127.127.1.0 mem 0 4096 7
-31 handle 0 obtain-ok 0.0.1.0 127.127.1.0 mem 0 4096 7
-31 resume 127 reply 127 0
-audit
-made 2
-cut 0
-held 2
-key 0.0.1.0 0
-key 127.127.1.0 5
-end
-";
+// `OBTAIN_REPORT` with these changes.
+fn far_report(alloc: Global) -> Result<String, Fail> {
+    let mut text = String::from_str(alloc, OBTAIN_REPORT)?;
+    for (part, by) in FARTHEST {
+        text = text.replacen(alloc, part, by, usize::MAX)?;
+    }
+    Ok(text)
+}
 
 #[test]
 fn a_report_is_read_as_it_is_printed(rt: HostRuntime) -> Result<(), Fail> {
-    for (text, entries, held) in [(REPORT, 3, 0), (PAIR, 9, 2), (FAR_PAIR, 9, 2)] {
+    let far = far_report(rt.alloc())?;
+    for (text, entries, held) in [
+        (REVOKE_REPORT, 3, 0),
+        (OBTAIN_REPORT, 9, 2),
+        (far.as_str(), 9, 2),
+    ] {
         let Ok((setup, journal, audit)) = read_report(rt.alloc(), text.as_bytes()) else {
             return Err(Fail::new("the report is read"));
         };
@@ -105,7 +53,7 @@ fn a_report_is_read_as_it_is_printed(rt: HostRuntime) -> Result<(), Fail> {
     Ok(())
 }
 
-// A part of the first report, its replacement, and the line and the cause for which the result is
+// A part of `REVOKE_REPORT`, its replacement, and the line and the cause for which the result is
 // refused.
 const CHANGES: [(&str, &str, u64, Cause); 38] = [
     // The first line.
@@ -204,9 +152,10 @@ const FAR_CHANGES: [(&str, &str, u64, Cause); 5] = [
 
 #[test]
 fn a_report_is_refused_at_its_first_bad_line(rt: HostRuntime) -> Result<(), Fail> {
+    let far = far_report(rt.alloc())?;
     for (report, changes) in [
-        (REPORT, CHANGES.as_slice()),
-        (FAR_PAIR, FAR_CHANGES.as_slice()),
+        (REVOKE_REPORT, CHANGES.as_slice()),
+        (far.as_str(), FAR_CHANGES.as_slice()),
     ] {
         for (part, by, line, cause) in changes {
             let text = report.replacen(rt.alloc(), *part, by, 1)?;

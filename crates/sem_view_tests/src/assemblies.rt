@@ -1,8 +1,9 @@
 use sem_assemble::assemble;
 use sem_draw::Ending;
+use sem_samples::OBTAIN_REPORT;
 use std::test::Fail;
 
-// A trace and the logs of its two kernels, in any spelling.
+// The trace of `OBTAIN_REPORT` and the logs of its two kernels, in any spelling.
 const LOGS: &[u8] = b"semper trace 1
 kernels 2
 pe 0 0
@@ -24,36 +25,6 @@ end
 1 fetch 0 obtain-ok 0.0.1.0 1.1.1.0 mem 0 4096 7
 1 handle 0 obtain-ok 0.0.1.0 1.1.1.0 mem 0 4096 7
 1 resume 1 reply 1 0
-";
-
-// The report of these logs.
-const REPORT: &str = "semper report 1
-semper trace 1
-kernels 2
-pe 0 0
-pe 1 1
-vpe 0 0
-vpe 1 1
-root 0 0 mem 0 4096 7
-call 1 obtain 5 0 0
-end
-journal 9
-1 call 1 0 obtain 5 0 0
-1 flush 0 obtain-req 1.1.0 sel 0 0
-0 fetch 1 obtain-req 1.1.0 sel 0 0
-0 handle 1 obtain-req 1.1.0 sel 0 0
-0 upcall 0 1 yes grant 0.0.1.0 1.1.1.0
-0 flush 1 obtain-ok 0.0.1.0 1.1.1.0 mem 0 4096 7
-1 fetch 0 obtain-ok 0.0.1.0 1.1.1.0 mem 0 4096 7
-1 handle 0 obtain-ok 0.0.1.0 1.1.1.0 mem 0 4096 7
-1 resume 1 reply 1 0
-audit
-made 2
-cut 0
-held 2
-key 0.0.1.0 0
-key 1.1.1.0 5
-end
 ";
 
 // Kernel 2 does not log the flush of the message that kernel 0 fetches from it. It also logs one
@@ -102,7 +73,7 @@ the logs are refused: line 5, word 1: \"1\" is out of range; wanted here: the ke
 #[test]
 fn logs_are_put_together_or_what_is_wrong_is_told(rt: HostRuntime) -> Result<(), Fail> {
     for (text, ending, out, error) in [
-        (LOGS, Ending::Done, REPORT, ""),
+        (LOGS, Ending::Done, OBTAIN_REPORT, ""),
         (STUCK, Ending::Refused, "", STUCK_TEXT),
         (WRONG, Ending::Refused, "", WRONG_TEXT),
     ] {

@@ -3,8 +3,9 @@ use sem_compare::{outcomes_merged, report_differences};
 use sem_draw::Ending;
 use std::test::Fail;
 
-// A VPE clears its memory while another one obtains it: the obtain is granted first.
-const GRANTED_FIRST: &[u8] = b"semper report 1
+// A VPE clears its memory while another one obtains it: the first lines of the report of a run.
+const CLEAR_AND_OBTAIN: &str = "\
+semper report 1
 semper trace 1
 kernels 1
 pe 0 0
@@ -16,6 +17,10 @@ call 0 clear 0
 call 1 obtain 1 0 0
 end
 journal 5
+";
+
+// The obtain is granted first.
+const GRANTED_FIRST: &str = "\
 0 call 1 0 obtain 1 0 0
 0 upcall 0 1 yes grant 0.0.1.0 1.1.1.0
 0 call 0 0 clear 0 cut 0.0.1.0
@@ -30,18 +35,7 @@ end
 ";
 
 // The clear comes first.
-const CLEARED_FIRST: &[u8] = b"semper report 1
-semper trace 1
-kernels 1
-pe 0 0
-pe 1 0
-vpe 0 0
-vpe 1 1
-root 0 0 mem 0 4096 7
-call 0 clear 0
-call 1 obtain 1 0 0
-end
-journal 5
+const CLEARED_FIRST: &str = "\
 0 call 1 0 obtain 1 0 0
 0 call 0 0 clear 0 cut 0.0.1.0
 0 upcall 0 1 yes grant 0.0.1.0 1.1.1.0
@@ -70,7 +64,9 @@ const BOTH_SAMPLES: &str = "{\"trace\":\"t\",\"seeds\":[{\"from\":0,\"count\":2}
 
 #[test]
 fn two_reports_differ_in_an_entry_and_in_what_is_held(rt: HostRuntime) -> Result<(), Fail> {
-    let answer = report_differences(rt.alloc(), GRANTED_FIRST, CLEARED_FIRST)?;
+    let granted = format!(in rt.alloc(); "{CLEAR_AND_OBTAIN}{GRANTED_FIRST}")?;
+    let cleared = format!(in rt.alloc(); "{CLEAR_AND_OBTAIN}{CLEARED_FIRST}")?;
+    let answer = report_differences(rt.alloc(), granted.as_bytes(), cleared.as_bytes())?;
     let wanted = "\
 the first entry is the same
 entry 1 of A: 0 upcall 0 1 yes grant 0.0.1.0 1.1.1.0
@@ -78,7 +74,7 @@ entry 1 of B: 0 call 0 0 clear 0 cut 0.0.1.0
 only B holds 1.1.1.0, at selector 1
 ";
     assert_eq!(rt; answer.out.as_str(), wanted);
-    let answer = report_differences(rt.alloc(), GRANTED_FIRST, CLEARED)?;
+    let answer = report_differences(rt.alloc(), granted.as_bytes(), CLEARED)?;
     assert!(rt; answer.ending == Ending::WrongWords);
     Ok(())
 }

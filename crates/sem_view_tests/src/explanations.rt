@@ -1,39 +1,8 @@
 use sem_draw::Ending;
 use sem_explain::{explain_report, explain_trace};
 use sem_run::judge;
+use sem_samples::{REVOKE_REPORT, REVOKE_TRACE};
 use std::test::Fail;
-
-// The trace of a derive and a revoke.
-const TRACE: &str = "semper trace 1
-kernels 1
-pe 0 0
-vpe 0 0
-root 0 0 mem 0 4096 7
-call 0 derive 0 1 0 1024 1
-call 0 revoke 0
-end
-";
-
-// The report of its run.
-const REPORT: &str = "semper report 1
-semper trace 1
-kernels 1
-pe 0 0
-vpe 0 0
-root 0 0 mem 0 4096 7
-call 0 derive 0 1 0 1024 1
-call 0 revoke 0
-end
-journal 3
-0 call 0 0 derive 0 1 0 1024 1 grant 0.0.1.0 0.0.1.1 reply 0 0
-0 call 0 1 revoke 0 cut 0.0.1.0
-0 resume 0 reply 0 0
-audit
-made 2
-cut 1
-held 0
-end
-";
 
 // A journal that ends too early.
 const SHORT: &str = "semper report 1
@@ -62,21 +31,21 @@ struct Case {
 
 const CASES: [Case; 7] = [
     Case {
-        text: REPORT,
+        text: REVOKE_REPORT,
         part: "",
         by: "",
         ending: Ending::Done,
         said: "the report is accepted: it is that of a complete schedule\n",
     },
     Case {
-        text: TRACE,
+        text: REVOKE_TRACE,
         part: "",
         by: "",
         ending: Ending::Done,
         said: "the trace is accepted\n",
     },
     Case {
-        text: TRACE,
+        text: REVOKE_TRACE,
         part: "derive",
         by: "dervie",
         ending: Ending::Refused,
@@ -86,7 +55,7 @@ const CASES: [Case; 7] = [
 ",
     },
     Case {
-        text: REPORT,
+        text: REVOKE_REPORT,
         part: "cut 0.0.1.0\n",
         by: "cut 0.0.1.0 reply 0 0\n",
         ending: Ending::Refused,
@@ -97,7 +66,7 @@ const CASES: [Case; 7] = [
 ",
     },
     Case {
-        text: REPORT,
+        text: REVOKE_REPORT,
         part: "0 call 0 0 derive 0 1 0 1024 1 grant 0.0.1.0 0.0.1.1 reply 0 0",
         by: "0 resume 0 reply 0 0",
         ending: Ending::Refused,
@@ -107,7 +76,7 @@ const CASES: [Case; 7] = [
 ",
     },
     Case {
-        text: REPORT,
+        text: REVOKE_REPORT,
         part: "cut 1\n",
         by: "cut 2\n",
         ending: Ending::Refused,

@@ -1,9 +1,10 @@
 use crate::trees::{
     BEFORE_REVOKES, BEHIND_REVOKES, CLEARED, KILLED, REVOKE_OF_CHILD, REVOKE_OF_ROOT, WRONG,
 };
-use sem_draw::{Ending, Picture};
+use sem_draw::{Answer, Ending, Picture};
 use sem_story::{StoryRequest, key_of, story};
 use sem_tree::{TreeForm, TreeRequest, tree};
+use std::alloc::Global;
 use std::test::Fail;
 
 // The life of a root that is cleared.
@@ -157,25 +158,36 @@ fn a_key_goes_by_the_first_that_takes_its_line(rt: HostRuntime) -> Result<(), Fa
     Ok(())
 }
 
-#[test]
-fn a_story_is_a_picture(rt: HostRuntime) -> Result<(), Fail> {
+// The life of the root in a report, as a picture, after that many entries.
+fn picture(alloc: Global, report: &[u8], at: Option<u64>) -> Result<Answer, Fail> {
     let Some(key) = key_of("0.0.1.0") else {
         return Err(Fail::from("no key"));
     };
-    let mut request = StoryRequest {
+    let request = StoryRequest {
         picture: Picture::Svg,
         key,
-        at: None,
+        at,
     };
-    let answer = story(rt.alloc(), &request, CLEARED)?;
-    let picture = answer.out.as_str();
-    assert!(rt; picture.starts_with("<svg "));
-    assert!(rt; picture.contains(">marked by job 0 of K0</text>"));
-    assert!(rt; picture.contains(">0 call 0 3 clear 0 cut 0.0.1.0</text>"));
-    assert!(rt; picture.ends_with("</svg>\n"));
-    assert!(rt; story(rt.alloc(), &request, WRONG)?.ending == Ending::Refused);
-    request.at = Some(0);
-    assert!(rt; story(rt.alloc(), &request, WRONG)?.ending == Ending::Done);
-    assert!(rt; story(rt.alloc(), &request, b"semper")?.ending == Ending::Refused);
+    Ok(story(alloc, &request, report)?)
+}
+
+#[test]
+fn a_story_is_a_picture(rt: HostRuntime) -> Result<(), Fail> {
+    let answer = picture(rt.alloc(), CLEARED, None)?;
+    let text = answer.out.as_str();
+    assert!(rt; text.starts_with("<svg ") && text.ends_with("</svg>\n"));
+    for said in [
+        ">marked by job 0 of K0</text>",
+        ">0 call 0 3 clear 0 cut 0.0.1.0</text>",
+    ] {
+        assert!(rt; text.contains(said), "{said}");
+    }
+    for (report, at, ending) in [
+        (WRONG, None, Ending::Refused),
+        (WRONG, Some(0), Ending::Done),
+        (b"semper".as_slice(), Some(0), Ending::Refused),
+    ] {
+        assert_eq!(rt; picture(rt.alloc(), report, at)?.ending, ending);
+    }
     Ok(())
 }

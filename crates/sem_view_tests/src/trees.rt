@@ -319,22 +319,26 @@ end
 
 #[test]
 fn what_no_run_makes_is_refused(rt: HostRuntime) -> Result<(), Fail> {
-    let mut request = TreeRequest {
-        form: TreeForm::Drawn {
-            picture: Picture::Svg,
-        },
-        at: None,
-    };
-    assert!(rt; tree(rt.alloc(), &request, WRONG)?.ending == Ending::Refused);
-    request.at = Some(0);
-    let answer = tree(rt.alloc(), &request, WRONG)?;
-    assert!(rt; answer.ending == Ending::Done);
-    assert!(rt; answer.out.as_str().contains(">0.0.1.0</text>"));
+    let key = ">0.0.1.0</text>";
     let hint = "<title>semper-view story 0.0.1.0</title>";
-    assert!(rt; answer.out.as_str().contains(hint));
-    request.at = Some(2);
-    assert!(rt; tree(rt.alloc(), &request, WRONG)?.ending == Ending::WrongWords);
-    assert!(rt; tree(rt.alloc(), &request, b"semper")?.ending == Ending::Refused);
+    for (at, report, ending, said) in [
+        (None, WRONG, Ending::Refused, ["", ""]),
+        (Some(0), WRONG, Ending::Done, [key, hint]),
+        (Some(2), WRONG, Ending::WrongWords, ["", ""]),
+        (Some(2), b"semper".as_slice(), Ending::Refused, ["", ""]),
+    ] {
+        let request = TreeRequest {
+            form: TreeForm::Drawn {
+                picture: Picture::Svg,
+            },
+            at,
+        };
+        let answer = tree(rt.alloc(), &request, report)?;
+        assert_eq!(rt; answer.ending, ending);
+        for part in said {
+            assert!(rt; answer.out.as_str().contains(part), "{part}");
+        }
+    }
     Ok(())
 }
 

@@ -1,75 +1,42 @@
 use crate::trees::CLEARED;
 use sem_draw::{Ending, Picture};
+use sem_msg::Entry;
 use sem_report::read_report;
+use sem_samples::{OBTAIN_REPORT, REVOKE_REPORT};
 use sem_view::{
     Request, chart_rows, count_between, count_code, count_event, count_message, respond,
 };
+use std::alloc::Global;
 use std::test::Fail;
 
-// One VPE derives from its memory and revokes it.
-const REPORT: &str = "semper report 1
-semper trace 1
-kernels 1
-pe 0 0
-vpe 0 0
-root 0 0 mem 0 4096 7
-call 0 derive 0 1 0 1024 1
-call 0 revoke 0
-end
-journal 3
-0 call 0 0 derive 0 1 0 1024 1 grant 0.0.1.0 0.0.1.1 reply 0 0
-0 call 0 1 revoke 0 cut 0.0.1.0
-0 resume 0 reply 0 0
-audit
-made 2
-cut 1
-held 0
-end
-";
-
-// One VPE obtains the memory of another, on another kernel.
-const PAIR: &[u8] = b"semper report 1
-semper trace 1
-kernels 2
-pe 0 0
-pe 1 1
-vpe 0 0
-vpe 1 1
-root 0 0 mem 0 4096 7
-call 1 obtain 5 0 0
-end
-journal 9
-1 call 1 0 obtain 5 0 0
-1 flush 0 obtain-req 1.1.0 sel 0 0
-0 fetch 1 obtain-req 1.1.0 sel 0 0
-0 handle 1 obtain-req 1.1.0 sel 0 0
-0 upcall 0 1 yes grant 0.0.1.0 1.1.1.0
-0 flush 1 obtain-ok 0.0.1.0 1.1.1.0 mem 0 4096 7
-1 fetch 0 obtain-ok 0.0.1.0 1.1.1.0 mem 0 4096 7
-1 handle 0 obtain-ok 0.0.1.0 1.1.1.0 mem 0 4096 7
-1 resume 1 reply 1 0
-audit
-made 2
-cut 0
-held 2
-key 0.0.1.0 0
-key 1.1.1.0 5
-end
-";
+// Two counts of events, two of messages, two of messages between kernels, and one of replies.
+fn counts(entries: &[Entry]) -> [usize; 7] {
+    [
+        count_event(entries, 6),
+        count_event(entries, 7),
+        count_message(entries, 1),
+        count_message(entries, 9),
+        count_between(entries, 1, 0),
+        count_between(entries, 1, 1),
+        count_code(entries, 0),
+    ]
+}
 
 #[test]
 fn entries_are_counted(rt: HostRuntime) -> Result<(), Fail> {
-    let Ok((_, journal, _)) = read_report(rt.alloc(), PAIR) else {
+    let Ok((_, journal, _)) = read_report(rt.alloc(), OBTAIN_REPORT.as_bytes()) else {
+        return Err(Fail::from("no report"));
+    };
+    assert_eq!(rt; counts(journal.as_slice()), [2, 0, 1, 0, 1, 0, 1]);
+    Ok(())
+}
+
+#[test]
+fn the_rows_of_a_chart_are_those_of_its_entries(rt: HostRuntime) -> Result<(), Fail> {
+    let Ok((_, journal, _)) = read_report(rt.alloc(), OBTAIN_REPORT.as_bytes()) else {
         return Err(Fail::from("no report"));
     };
     let entries = journal.as_slice();
-    assert_eq!(rt; count_event(entries, 6), 2);
-    assert_eq!(rt; count_event(entries, 7), 0);
-    assert_eq!(rt; count_message(entries, 1), 1);
-    assert_eq!(rt; count_message(entries, 9), 0);
-    assert_eq!(rt; count_between(entries, 1, 0), 1);
-    assert_eq!(rt; count_between(entries, 1, 1), 0);
-    assert_eq!(rt; count_code(entries, 0), 1);
     assert!(rt; entries.len() >= 9);
     let rows = chart_rows(rt.alloc(), entries, 7, 9)?;
     assert_eq!(rt; rows.len(), 2);
@@ -110,7 +77,7 @@ struct Shown {
 
 const CHARTS: [Shown; 5] = [
     Shown {
-        report: REPORT,
+        report: REVOKE_REPORT,
         from: None,
         to: None,
         kernel: None,
@@ -119,7 +86,7 @@ const CHARTS: [Shown; 5] = [
         error: "",
     },
     Shown {
-        report: REPORT,
+        report: REVOKE_REPORT,
         from: Some(2),
         to: Some(2),
         kernel: Some(0),
@@ -128,7 +95,7 @@ const CHARTS: [Shown; 5] = [
         error: "",
     },
     Shown {
-        report: REPORT,
+        report: REVOKE_REPORT,
         from: Some(4),
         to: None,
         kernel: None,
@@ -137,7 +104,7 @@ const CHARTS: [Shown; 5] = [
         error: NO_ENTRIES,
     },
     Shown {
-        report: REPORT,
+        report: REVOKE_REPORT,
         from: None,
         to: None,
         kernel: Some(1),
@@ -194,23 +161,28 @@ v0 call 3: clear 0: answered 9 entries later
     26  0 resume 0 reply 0 0
 ";
 
+// What is said of the counts in the report of a derive and a revoke.
+fn stats(alloc: Global, is_json: bool) -> Result<String, Fail> {
+    Ok(respond(alloc, &Request::Stats { is_json }, REVOKE_REPORT.as_bytes())?.out)
+}
+
 #[test]
-fn counts_and_waits_are_told(rt: HostRuntime) -> Result<(), Fail> {
-    let answer = respond(
-        rt.alloc(),
-        &Request::Stats { is_json: true },
-        REPORT.as_bytes(),
-    )?;
-    assert!(rt; answer.out.as_str().contains("\"call\":2"));
-    assert!(rt; answer.out.as_str().contains("\"Ok\":2"));
+fn counts_are_told(rt: HostRuntime) -> Result<(), Fail> {
     let revoke = "[{\"call\":\"revoke\",\"entry\":1,\"key\":\"0.0.1.0\",\"taken\":1,\"vpe\":0}]";
-    assert!(rt; answer.out.as_str().contains(revoke));
-    let answer = respond(
-        rt.alloc(),
-        &Request::Stats { is_json: false },
-        REPORT.as_bytes(),
-    )?;
-    assert!(rt; answer.out.as_str().contains("  resume"));
+    for (is_json, said) in [
+        (true, "\"call\":2"),
+        (true, "\"Ok\":2"),
+        (true, revoke),
+        (false, "  resume"),
+    ] {
+        let text = stats(rt.alloc(), is_json)?;
+        assert!(rt; text.as_str().contains(said), "{said}");
+    }
+    Ok(())
+}
+
+#[test]
+fn waits_are_told(rt: HostRuntime) -> Result<(), Fail> {
     let request = Request::Waits {
         vpe: Some(0),
         call: None,
