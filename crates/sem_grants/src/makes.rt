@@ -45,7 +45,7 @@ fn push_roots(keys: &mut Vec<Key>, decl: &VpeDecl) -> Result<(), OutOfMemory>
             pe: decl.pe,
             vpe: decl.vpe,
             kind: root.object.kind(),
-            number: number as u32,
+            number: number as u16,
         })?;
     }
     Ok(())

@@ -68,13 +68,13 @@ fn add_roots(caps: &mut Caps, decl: &VpeDecl) -> Result<(), OutOfMemory>
     ensures upto { OnOk result (All (λ c. c.key.vpe ≤ decl.now.vpe) caps.new.caps) }
 {
     for (number, root) in decl.roots.as_slice().iter().enumerate() {
-        add_root(caps, decl, number as u32, root)?;
+        add_root(caps, decl, number as u16, root)?;
     }
     Ok(())
 }
 
 // Adds a root or service of a VPE under the key of its number. That key must not be held.
-fn add_root(caps: &mut Caps, decl: &VpeDecl, number: u32, root: &Root) -> Result<(), OutOfMemory>
+fn add_root(caps: &mut Caps, decl: &VpeDecl, number: u16, root: &Root) -> Result<(), OutOfMemory>
     requires vpe { decl.now.vpe < VPES }
     requires pe { decl.now.pe < PES }
     requires number { number < NUMBERS }
@@ -90,7 +90,7 @@ fn add_root(caps: &mut Caps, decl: &VpeDecl, number: u32, root: &Root) -> Result
 }
 
 // The key of a root or service of a VPE.
-fn root_key(decl: &VpeDecl, number: u32, root: &Root) -> Key
+fn root_key(decl: &VpeDecl, number: u16, root: &Root) -> Key
     requires vpe { decl.now.vpe < VPES }
     requires pe { decl.now.pe < PES }
     requires number { number < NUMBERS }

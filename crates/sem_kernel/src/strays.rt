@@ -81,7 +81,7 @@ impl Stores {
     }
 
     // Whether the VPE, one of this kernel, lives and no asking call of it waits with that number.
-    fn is_unasked(&self, setup: &Setup, kernel: u32, vpe: u16, number: u32) -> bool
+    fn is_unasked(&self, setup: &Setup, kernel: u32, vpe: u16, number: u16) -> bool
         requires stores { AreStoresOf setup.now kernel self.now }
         requires here { is_here_lem setup.now kernel vpe ≡ true }
         ensures { result ≡ lives_without (is_obtain_wait number) (side_of self.now) vpe }
@@ -101,7 +101,7 @@ impl Stores {
 }
 
 // Whether an asking call with that number waits.
-fn waits_with(number: u32, state: &Option<Parked>) -> bool
+fn waits_with(number: u16, state: &Option<Parked>) -> bool
     ensures { result ≡ is_obtain_wait number state.now }
 {
     match state {

@@ -34,7 +34,7 @@ impl Kind {
 /// and a number (0 to 4095) that the VPE has drawn for it.
 #[derive(Clone, Copy, Debug, PartialEq, Eq)]
 pub struct Key {
-    pub number: u32,
+    pub number: u16,
     pub vpe: u16,
     pub pe: u8,
     pub kind: Kind,
@@ -55,7 +55,7 @@ impl Model for Key {
 /// A key whose kind is not known yet; the ranges are those of `Key`.
 #[derive(Clone, Copy, Debug, PartialEq, Eq)]
 pub struct Place {
-    pub number: u32,
+    pub number: u16,
     pub vpe: u16,
     pub pe: u8,
 }
@@ -138,6 +138,6 @@ pub fn unpack(word: u64) -> Option<Key>
         pe: pe as u8,
         vpe: vpe as u16,
         kind,
-        number: number as u32,
+        number: number as u16,
     })
 }

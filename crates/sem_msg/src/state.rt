@@ -33,7 +33,7 @@ pub enum Ask {
 pub enum Parked {
     /// An asking call that waits for its answer.
     ObtainWait {
-        number: u32,
+        number: u16,
         sel: u8,
     },
     /// Its answer has come, and the capability is to be installed.

@@ -96,7 +96,7 @@ fn is_unawaited(setup: &Setup, kernel: u32, place: Place, park: &Park) -> bool
 }
 
 // Whether an asking call with that number waits.
-fn waits_with(number: u32, state: &Option<Parked>) -> bool
+fn waits_with(number: u16, state: &Option<Parked>) -> bool
     ensures { result ≡ is_obtain_wait number state.now }
 {
     match state {

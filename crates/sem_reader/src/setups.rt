@@ -35,7 +35,7 @@ fn push_some<T: Drop>(list: &mut Seq<T>, item: Option<T>) -> Result<(), OutOfMem
 }
 
 // The service of the root at that place, if the root is one.
-fn service_with(pe: u8, vpe: u16, number: u32, object: &Object) -> Option<Service>
+fn service_with(pe: u8, vpe: u16, number: u16, object: &Object) -> Option<Service>
     requires pe { pe < VPES_LEM }
     requires vpe { vpe < VPES_LEM }
     requires number { number < NUMBERS }
@@ -68,7 +68,7 @@ fn push_services(services: &mut Services, declared: &VpeDecl) -> Result<(), OutO
         ++ services_from declared.now 0 declared.now.roots) }
 {
     for (number, root) in declared.roots.as_slice().iter().enumerate() {
-        let service = service_with(declared.pe, declared.vpe, number as u32, &root.object);
+        let service = service_with(declared.pe, declared.vpe, number as u16, &root.object);
         push_some(services, service)?;
     }
     Ok(())

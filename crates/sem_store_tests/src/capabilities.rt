@@ -15,7 +15,7 @@ const MEMORY: Object = Object::Mem {
 };
 
 // The key of a memory of that VPE, which is on the PE of the same number.
-fn key(vpe: u8, number: u32) -> Key
+fn key(vpe: u8, number: u16) -> Key
     requires vpe_in_range { vpe < VPES }
     requires number_in_range { number ≤ 4095 }
 {
@@ -198,7 +198,7 @@ fn three_thirds(rt: &impl Abort, alloc: Global) -> Result<Caps, OutOfMemory> {
         put(rt, &mut caps, key, None, 9)?;
         if number % 3 > 0 {
             assert!(rt; is_unmarked(&caps, key));
-            caps.mark(key, number % 3);
+            caps.mark(key, u32::from(number % 3));
         }
     }
     Ok(caps)
@@ -212,7 +212,7 @@ fn what_a_job_has_marked_goes_in_key_order_and_no_other_moves(rt: HostRuntime) -
     assert_eq!(rt; (gone.len(), caps.len()), (1365, 2731));
     for (at, (gone, selector)) in gone.iter().enumerate() {
         assert_eq!(rt;
-            (gone.number % 3, gone.number as usize / 3, *selector),
+            (gone.number % 3, usize::from(gone.number) / 3, *selector),
             (1, at, 9)
         );
     }

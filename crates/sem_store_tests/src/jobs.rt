@@ -17,7 +17,7 @@ fn root(number: u32) -> Key
         pe: 1,
         vpe: 1,
         kind: Kind::Mem,
-        number,
+        number: number as u16,
     }
 }
 

@@ -7,7 +7,7 @@ use sem_key::{
 };
 use std::test::Fail;
 
-fn key(pe: u8, vpe: u16, kind: Kind, number: u32) -> Key
+fn key(pe: u8, vpe: u16, kind: Kind, number: u16) -> Key
     requires pe_in_range { pe < PES }
     requires vpe_in_range { vpe < VPES }
     requires number_in_range { number < NUMBERS }

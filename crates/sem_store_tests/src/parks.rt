@@ -4,7 +4,7 @@ use sem_key::{Key, Kind, Object, VPES};
 use sem_park::{Park, Parked};
 
 // The key of a memory of that VPE, which is on the PE of the same number.
-fn key(vpe: u8, number: u32) -> Key
+fn key(vpe: u8, number: u16) -> Key
     requires vpe_in_range { vpe < VPES }
     requires number_in_range { number ≤ 4095 }
 {

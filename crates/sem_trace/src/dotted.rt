@@ -16,7 +16,7 @@ use crate::cursor::Words;
 use crate::fault::Cause;
 use crate::forms::{Range, node, number_in};
 use sem_key::{Key, Kind, NUMBERS, Place};
-use sem_text::{NumberFault, number};
+use sem_text::is_number;
 
 /// The number of a kind.
 const KIND: Range = Range { least: 1, most: 5 };
@@ -47,12 +47,6 @@ fn split_point(text: &[u8]) -> Option<(&[u8], &[u8])>
     let (front, rest) = text.split_at(end);
     let (_, behind) = rest.split_at(1);
     Some((front, behind))
-}
-
-fn is_number(word: &[u8]) -> bool
-    ensures { result ≡ is_number_lem word.now }
-{
-    !matches!(number(word, u64::MAX), Err(NumberFault::Bad))
 }
 
 // The number before the first point, and the text after it.
@@ -131,7 +125,7 @@ pub fn read_key(word: &[u8], version: u8) -> Result<Key, Cause>
         pe: part_in(pe, node)? as u8,
         vpe: part_in(vpe, node)? as u16,
         kind: kind(part_in(kind_number, KIND)?),
-        number: part_in(number, DRAWN)? as u32,
+        number: part_in(number, DRAWN)? as u16,
     })
 }
 
@@ -149,7 +143,7 @@ fn place(word: &[u8], version: u8) -> Result<Place, Cause>
     Ok(Place {
         pe: part_in(pe, node)? as u8,
         vpe: part_in(vpe, node)? as u16,
-        number: part_in(number, DRAWN)? as u32,
+        number: part_in(number, DRAWN)? as u16,
     })
 }
 

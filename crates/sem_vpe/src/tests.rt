@@ -22,7 +22,7 @@ fn listed<T: Copy>(alloc: Global, items: &[T]) -> Result<Seq<T>, OutOfMemory>
 }
 
 // A key of VPE 2.
-pub fn key(kind: Kind, number: u32) -> Key
+pub fn key(kind: Kind, number: u16) -> Key
     requires { number ≤ 4095 }
     ensures { result ≡ record { pe = 3; vpe = 2; kind = kind; number = number } }
 {
@@ -150,7 +150,7 @@ pub fn next_call(rt: &impl Abort, vpes: &Vpes, vpe: u16) -> u32 {
     vpes.next_call(vpe)
 }
 
-pub fn next_number(rt: &impl Abort, vpes: &Vpes, vpe: u16) -> u32 {
+pub fn next_number(rt: &impl Abort, vpes: &Vpes, vpe: u16) -> u16 {
     assert!(rt; vpes.is_ours(vpe));
     vpes.next_number(vpe)
 }
@@ -180,7 +180,7 @@ pub fn release(rt: &impl Abort, vpes: &mut Vpes, vpe: u16, sel: u8) {
     vpes.release(vpe, sel);
 }
 
-pub fn draw(rt: &impl Abort, vpes: &mut Vpes, vpe: u16) -> Result<u32, Numbers> {
+pub fn draw(rt: &impl Abort, vpes: &mut Vpes, vpe: u16) -> Result<u16, Numbers> {
     assert!(rt; vpes.is_ours(vpe));
     vpes.draw(vpe)
 }
@@ -298,7 +298,7 @@ fn numbers_run_out_after_4096(rt: HostRuntime) -> Result<(), Fail> {
 }
 
 // A promised selector, with a number drawn for it.
-fn taken(vpes: &mut Vpes, vpe: u16, sel: u8) -> Result<u32, Code>
+fn taken(vpes: &mut Vpes, vpe: u16, sel: u8) -> Result<u16, Code>
     requires { IsOurs vpes.old vpe }
 {
     vpes.promise(vpe, sel)?;

@@ -21,7 +21,7 @@ pub struct Vpe {
     alive: bool,
     // The slots, by selector.
     slots: Vec<Slot>,
-    next_number: u32,
+    next_number: u16,
     next_call: u32,
     // The waiting asks, the oldest at the front.
     asks: HeapCircularBuffer<Ask>,
@@ -94,7 +94,7 @@ impl Vpe {
     }
 
     /// How many numbers were drawn, which is the next one to draw.
-    pub fn next_number(&self) -> u32
+    pub fn next_number(&self) -> u16
         ensures { result ≡ self.now.next_number }
     {
         self.next_number
@@ -142,7 +142,7 @@ impl Vpe {
     }
 
     /// Draws the next number. If all were drawn, nothing changes.
-    pub fn draw(&mut self) -> Result<u32, Numbers>
+    pub fn draw(&mut self) -> Result<u16, Numbers>
         ensures numbers { IsErr result ↔ (NUMBERS ≤ self.old.next_number) }
         ensures number { IfOk result (λ number. number ≡ self.old.next_number) }
         ensures in_range { IfOk result (λ number. number < NUMBERS) }

@@ -75,7 +75,7 @@ impl Vpes {
     }
 
     /// How many numbers were drawn for the keys of the VPE.
-    pub fn next_number(&self, vpe: u16) -> u32
+    pub fn next_number(&self, vpe: u16) -> u16
         requires { IsOurs self.now vpe }
         ensures { result ≡ (row self.now.rows vpe).next_number }
     {
@@ -136,7 +136,7 @@ impl Vpes {
     }
 
     /// Draws the next number, 0 to 4095. If all 4,096 were drawn, nothing changes.
-    pub fn draw(&mut self, vpe: u16) -> Result<u32, Numbers>
+    pub fn draw(&mut self, vpe: u16) -> Result<u16, Numbers>
         requires { IsOurs self.old vpe }
         ensures numbers { IsErr result ↔ (NUMBERS ≤ (row self.old.rows vpe).next_number) }
         ensures number { IfOk result (λ number. number ≡ (row self.old.rows vpe).next_number) }

@@ -67,7 +67,7 @@ fn push_roots(roots: &mut Vec<RootMemory>, decl: &VpeDecl) -> Result<(), OutOfMe
 // The key of a root memory of the VPE; its roots are numbered from 0. None if that is no key, which
 // no setup has.
 fn root_key(decl: &VpeDecl, place: usize) -> Option<Key> {
-    let number = u32::try_from(place).ok()?;
+    let number = u16::try_from(place).ok()?;
     if usize::from(decl.pe) >= PES || decl.vpe >= VPES || number >= NUMBERS {
         return None;
     }
