@@ -9,3 +9,4 @@ pub mod EntryFrom
 pub mod OneEntry
 pub mod PlainEntries
 pub mod PartSteps
+pub mod MessageNames

@@ -3,9 +3,7 @@ use Rattle.std.proofs.Common.{◌≡◌, ℕ, zero, suc, add-zero, ◌+◌, ◌<
 use Rattle.std.proofs.Common.{drop-cons, get_or-drop, append_assoc, arith}
 use Rattle.std.proofs.Common.{rules}
 use Rattle.std.specs.List.{All}
-use Rattle.std.proofs.lemmas.Grind.{flat_map-append}
 use Rattle.std.proofs.lemmas.List.{append-nil}
-use Rattle.sem_text.specs.Lines.{behind_blanks}
 use Rattle.sem_trace.specs.declared.fault.Cause.{Cause}
 use Rattle.sem_trace.specs.declared.fault.Cause.TheVariants.{UnknownWord}
 use Rattle.sem_trace.specs.declared.message_forms.Form.{Form}
@@ -83,23 +81,6 @@ words_more (part ∷ parts) [] i value within room = absurd (omega arith)
 words_more (part ∷ parts) (first ∷ values) zero value within room = append-nil (value_words value)
 words_more (part ∷ parts) (first ∷ values) (suc i) value within room =
     rw (words_more parts values i value (omega arith) (omega arith)) (sym (append_assoc (value_words first) (parts_words (take i parts) values) (value_words value)))
-
--- the words of one part more
-words_next : (parts : List Part) (values : List PartValue) (i : ℕ) (d : PartValue) → i < length parts → i < length values →
-    parts_words (take (suc i) parts) values ≡ parts_words (take i parts) values ++ value_words (get_or values i d)
-words_next [] values i d within room = absurd (omega arith)
-words_next (part ∷ parts) [] i d within room = absurd (omega arith)
-words_next (part ∷ parts) (first ∷ values) zero d within room = append-nil (value_words first)
-words_next (part ∷ parts) (first ∷ values) (suc i) d within room =
-    rw (words_next parts values i d (omega arith) (omega arith))
-    (sym (append_assoc (value_words first) (parts_words (take i parts) values) (value_words (get_or values i d))))
-
--- and behind blanks
-pub printed_next : (parts : List Part) (values : List PartValue) (i : ℕ) (d : PartValue) (before now after : List ℕ) → i < length parts → i < length values →
-    now ≡ before ++ behind_blanks (parts_words (take i parts) values) → after ≡ now ++ behind_blanks (value_words (get_or values i d)) →
-    after ≡ before ++ behind_blanks (parts_words (take (i + 1) parts) values)
-printed_next parts values i d before now after within room so_far here =
-    rw (add-one i, words_next parts values i d within room, flat_map-append, here, so_far) (append_assoc before _ _)
 
 -- the places behind the name of a kind
 pub kind_places : (version : ℕ) (kind : MessageKind) (words : List (List ℕ)) →

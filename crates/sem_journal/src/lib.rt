@@ -4,6 +4,7 @@
 mod entry;
 mod laws;
 mod parts;
+mod put;
 mod read_entries;
 mod read_message;
 mod shown;
@@ -13,4 +14,5 @@ pub use entry::{
     push_grant, push_message, push_reply, push_target,
 };
 pub use laws::{entries_are_read, entry_lines_are_short, one_entry};
+pub use put::{MOST_LINE, put_entry};
 pub use read_entries::read_entry;

@@ -34,7 +34,7 @@ joined : (ds : List ℕ) (a b c : ℕ) → ((ds ++ (a ∷ [])) ++ (b ∷ [])) ++
 joined ds a b c = append_assoc (ds ++ (a ∷ [])) (b ∷ []) (c ∷ []) ∙ append_assoc ds (a ∷ []) (b ∷ c ∷ [])
 
 -- a number of more than three digits is written as its front, and its last three digits behind that
-pub last_digits : (out : List ℕ) (n : ℕ) → 1000 ≤ n → n < 1000000000 → (out ++ decimal (n / 1000)) ++ three_digits (n % 1000) ≡ out ++ decimal n
+pub last_digits : (out : List ℕ) (n : ℕ) → 1000 ≤ n → n < 4294967296 → (out ++ decimal (n / 1000)) ++ three_digits (n % 1000) ≡ out ++ decimal n
 last_digits out n more few =
     let front : n / 10 / 10 / 10 ≡ n / 1000 = omega arith in
     let a : n / 10 / 10 % 10 ≡ n % 1000 / 100 = omega arith in

@@ -21,7 +21,60 @@ pub enum NumberFault {
 
 /// The number that the word is, if it is one and at most `most`. A number is `0`, or a digit 1 to 9
 /// followed by digits. Takes no memory.
+// Most numbers have one digit, and their way is inlined.
+#[inline(always)]
 pub fn number(word: &[u8], most: u64) -> Result<u64, NumberFault>
+    ensures { result ≡ number_of word.now most }
+{
+    match word {
+        [ones] => one_digit(*ones, most),
+        _ => number_of_digits(word, most),
+    }
+}
+
+#[inline(never)]
+fn number_of_digits(word: &[u8], most: u64) -> Result<u64, NumberFault>
+    ensures { result ≡ number_of word.now most }
+{
+    match word {
+        [tens, ones] => two_digits(*tens, *ones, most),
+        _ => long_number(word, most),
+    }
+}
+
+#[inline]
+fn one_digit(ones: u8, most: u64) -> Result<u64, NumberFault>
+    ensures { result ≡ number_of (ones ∷ []) most }
+{
+    if !ones.is_ascii_digit() {
+        return Err(NumberFault::Bad);
+    }
+    up_to(u64::from(ones - b'0'), most)
+}
+
+#[inline]
+fn two_digits(tens: u8, ones: u8, most: u64) -> Result<u64, NumberFault>
+    ensures { result ≡ number_of (tens ∷ ones ∷ []) most }
+{
+    if !tens.is_ascii_digit() || !ones.is_ascii_digit() || tens == b'0' {
+        return Err(NumberFault::Bad);
+    }
+    up_to(u64::from(tens - b'0') * 10 + u64::from(ones - b'0'), most)
+}
+
+// The value, if it is at most `most`.
+#[inline]
+fn up_to(value: u64, most: u64) -> Result<u64, NumberFault>
+    ensures { result ≡ (if nat_lt most value then Err Range else Ok value) }
+{
+    if value <= most {
+        Ok(value)
+    } else {
+        Err(NumberFault::Range)
+    }
+}
+
+fn long_number(word: &[u8], most: u64) -> Result<u64, NumberFault>
     ensures { result ≡ number_of word.now most }
 {
     if !is_number(word) {
@@ -34,7 +87,8 @@ pub fn number(word: &[u8], most: u64) -> Result<u64, NumberFault>
     Ok(value)
 }
 
-fn is_number(word: &[u8]) -> bool
+/// Whether the word is a number, however large. Takes no memory.
+pub fn is_number(word: &[u8]) -> bool
     ensures { result ≡ is_number_lem word.now }
 {
     match word {
@@ -66,81 +120,92 @@ fn with_digit(value: u64, digit: u8, most: u64) -> Result<u64, NumberFault>
 }
 
 /// Appends the decimal text of the number. If memory is refused, `out` is as before.
-// Most numbers have one digit, and their way is inlined.
-#[inline(always)]
 pub fn push_number(out: &mut Vec<u8>, value: u64) -> Result<(), OutOfMemory>
     ensures ok { OnOk result (out.new.items ≡ out.old.items ++ decimal value) }
     ensures err { OnErr result (out.new.items ≡ out.old.items) }
 {
-    if value < 10 {
-        out.reserve(1)?;
-        put_digit(out, value as u8);
-        return Ok(());
+    if value > u64::from(u32::MAX) {
+        return push_long(out, value);
     }
-    push_digits(out, value)
+    out.reserve(10)?;
+    put_number(out, value as u32);
+    Ok(())
 }
 
 /// Appends the byte, and then the decimal text of the number. If memory is refused, a part may be
 /// there.
-#[inline(always)]
 pub fn push_number_behind(out: &mut Vec<u8>, byte: u8, value: u64) -> Result<(), OutOfMemory>
     ensures ok { OnOk result (out.new.items ≡ out.old.items ++ byte ∷ decimal value) }
 {
-    if value < 10 {
-        out.reserve(2)?;
-        out.push_reserved(byte);
-        put_digit(out, value as u8);
-        return Ok(());
+    if value > u64::from(u32::MAX) {
+        out.push(byte)?;
+        return push_long(out, value);
     }
-    push_digits_behind(out, byte, value)
+    out.reserve(11)?;
+    put_number_behind(out, byte, value as u32);
+    Ok(())
 }
 
-#[inline(never)]
-fn push_digits(out: &mut Vec<u8>, value: u64) -> Result<(), OutOfMemory>
-    ensures ok { OnOk result (out.new.items ≡ out.old.items ++ decimal value) }
-    ensures err { OnErr result (out.new.items ≡ out.old.items) }
-{
-    if value < 1000 {
-        out.reserve(3)?;
-        put_three_digits(out, value as u32);
-        return Ok(());
-    }
-    push_long(out, value)
-}
-
-#[inline(never)]
-fn push_digits_behind(out: &mut Vec<u8>, byte: u8, value: u64) -> Result<(), OutOfMemory>
-    ensures ok { OnOk result (out.new.items ≡ out.old.items ++ byte ∷ decimal value) }
-{
-    if value < 1000 {
-        out.reserve(4)?;
-        out.push_reserved(byte);
-        put_three_digits(out, value as u32);
-        return Ok(());
-    }
-    out.push(byte)?;
-    push_long(out, value)
-}
-
-// Appends the decimal text of the number. Up to nine digits need no buffer.
+// Appends the decimal text of the number, of any length.
 #[inline(never)]
 fn push_long(out: &mut Vec<u8>, value: u64) -> Result<(), OutOfMemory>
     ensures ok { OnOk result (out.new.items ≡ out.old.items ++ decimal value) }
     ensures err { OnErr result (out.new.items ≡ out.old.items) }
 {
-    if value < 1_000_000_000 {
-        out.reserve(9)?;
-        put_digits(out, value as u32);
-        return Ok(());
-    }
     out.extend_from_slice(Buffer::new().format(value).as_bytes())
 }
 
-// Appends the decimal text of a number below 1,000,000,000. There must be room for it.
+/// Appends the decimal text of the number. There must be room for it.
+// Most numbers have one digit, and their way is inlined.
+#[inline(always)]
+pub fn put_number(out: &mut Vec<u8>, value: u32)
+    requires room { vec_len out.old + 10 ≤ vec_capacity out.old }
+    ensures items { out.new.items ≡ out.old.items ++ decimal value }
+    ensures len { vec_len out.new ≤ vec_len out.old + 10 }
+    ensures capacity { vec_capacity out.new ≡ vec_capacity out.old }
+{
+    if value < 10 {
+        put_digit(out, value as u8);
+    } else {
+        put_digits(out, value);
+    }
+}
+
+/// Appends the byte, and then the decimal text of the number. There must be room for it.
+#[inline(always)]
+pub fn put_number_behind(out: &mut Vec<u8>, byte: u8, value: u32)
+    requires room { vec_len out.old + 11 ≤ vec_capacity out.old }
+    ensures items { out.new.items ≡ out.old.items ++ byte ∷ decimal value }
+    ensures len { vec_len out.new ≤ vec_len out.old + 11 }
+    ensures capacity { vec_capacity out.new ≡ vec_capacity out.old }
+{
+    out.push_reserved(byte);
+    put_number(out, value);
+}
+
+/// Appends the decimal text of a number below 10,000. There must be room for it.
+#[inline(always)]
+pub fn put_small_number(out: &mut Vec<u8>, value: u32)
+    requires few { value < 10000 }
+    requires room { vec_len out.old + 4 ≤ vec_capacity out.old }
+    ensures items { out.new.items ≡ out.old.items ++ decimal value }
+    ensures len { vec_len out.new ≤ vec_len out.old + 4 }
+    ensures capacity { vec_capacity out.new ≡ vec_capacity out.old }
+{
+    if value < 10 {
+        put_digit(out, value as u8);
+    } else {
+        put_four_digits(out, value);
+    }
+}
+
+// Appends the decimal text of the number. There must be room for it.
+#[inline(never)]
 fn put_digits(out: &mut Vec<u8>, value: u32)
-    requires few { value < 1000000000 }
-    requires room { vec_len out.old + 9 ≤ vec_capacity out.old }
-    ensures { out.new.items ≡ out.old.items ++ decimal value }
+    requires room { vec_len out.old + 10 ≤ vec_capacity out.old }
+    ensures items { out.new.items ≡ out.old.items ++ decimal value }
+    ensures len { vec_len out.new ≤ vec_len out.old + 10 }
+    ensures capacity { vec_capacity out.new ≡ vec_capacity out.old }
 {
     if value < 1000 {
         put_three_digits(out, value);
@@ -148,8 +213,25 @@ fn put_digits(out: &mut Vec<u8>, value: u32)
         put_three_digits(out, value / 1000);
         put_last_digits(out, value % 1000);
     } else {
-        put_three_digits(out, value / 1_000_000);
+        put_four_digits(out, value / 1_000_000);
         put_last_digits(out, value / 1000 % 1000);
+        put_last_digits(out, value % 1000);
+    }
+}
+
+// Appends the decimal text of a number below 10,000. There must be room for it.
+#[inline(never)]
+fn put_four_digits(out: &mut Vec<u8>, value: u32)
+    requires few { value < 10000 }
+    requires room { vec_len out.old + 4 ≤ vec_capacity out.old }
+    ensures items { out.new.items ≡ out.old.items ++ decimal value }
+    ensures len { vec_len out.new ≤ vec_len out.old + 4 }
+    ensures capacity { vec_capacity out.new ≡ vec_capacity out.old }
+{
+    if value < 1000 {
+        put_three_digits(out, value);
+    } else {
+        put_digit(out, (value / 1000) as u8);
         put_last_digits(out, value % 1000);
     }
 }

@@ -228,12 +228,28 @@ pub call_stands : (version : ℕ) (form : CallForm) (ns : List ℕ) → IsRow fo
     (v : ℕ) × CanStandIn (call_row v form.kind).1 ns
 call_stands version form ns row stand = (version, rw (same_places (row version)) at stand)
 
--- the words of a call are its name and its numbers
-pub form_words : (form : CallForm) (kind : CallKind) (ns : List ℕ) (call : Call) → IsRow form → form.kind ≡ kind →
-    call ≡ call_with kind ns → length ns ≡ 5 →
-    call_words call ≡ form.name.now ∷ map decimal (take (length form.slots.now) ns)
-form_words form k ns call row kind_is call_is five =
-    let name_is : form.name.now ≡ (call_row 1 form.kind).0 = same_name (row 1) in
-    let count : length form.slots.now ≡ length (call_row 1 form.kind).1
-    = sym (length-map form.slots.now (slot_place 1 1)) ∙ ap length (same_places (row 1)) in
-    rw (name_is, count, kind_is, call_is) (row_words 1 k ns five)
+-- a form has the name of its kind
+pub form_name : (form : CallForm) (k : CallKind) → IsRow form → form.kind ≡ k →
+    form.name.now ≡ (call_row 1 k).0
+form_name form k row kind_is = rw kind_is at (same_name (row 1))
+
+-- which is short
+short_row : (k : CallKind) → length (call_row 1 k).0 ≤ 8
+unfolding calls
+short_row Derives = omega arith
+short_row Gates = omega arith
+short_row Obtains = omega arith
+short_row Delegates = omega arith
+short_row Opens = omega arith
+short_row Asks = omega arith
+short_row Revokes = omega arith
+short_row Binds = omega arith
+short_row Reads = omega arith
+short_row Writes = omega arith
+short_row Sends = omega arith
+short_row Credits = omega arith
+short_row Exits = omega arith
+short_row Clears = omega arith
+
+pub short_name : (form : CallForm) (k : CallKind) → IsRow form → form.kind ≡ k → length form.name.now ≤ 8
+short_name form k row kind_is = rw (form_name form k row kind_is) (short_row k)

@@ -1,8 +1,9 @@
 -- The first line of a text and the first word of a line.
-use Rattle.std.proofs.Common.{◌≡◌, ◌≢◌, ℕ, suc, ◌+◌, ◌<◌, ◌≤◌, ◌==◌, ◌⊎◌, inl, inr, Bool, true, false, cond, not, true≢false, min, List, [], ◌∷◌, length, take}
+use Rattle.std.proofs.Common.{◌≡◌, ◌≢◌, ℕ, suc, ◌+◌, ◌<◌, ◌≤◌, ◌==◌, ◌⊎◌, inl, inr, Bool, true, false, cond, not, true≢false, min, List, [], ◌∷◌, length, take, get_or}
 use Rattle.std.proofs.Common.{drop, Some, None, ap, sym, ◌∙◌, refl, arith, drop-drop, one-add, length-drop, length-take, eq-eqb, eqb-true}
 use Rattle.std.specs.List.{filter, slice_split, prefix_len, position_or_len}
 use Rattle.std.proofs.lemmas.Bool.{cases_Bool}
+use Rattle.std.proofs.lemmas.Bool.Decides.{nat_tests}
 use Rattle.std.proofs.lemmas.List.{drop_all, drop_min, drop-take}
 use Rattle.std.proofs.lemmas.Option.{none-some, same_Some}
 use Rattle.std.proofs.lemmas.List.Sums.{prefix_len-le-length, count_by-le-length, length-filter}
@@ -10,7 +11,7 @@ use Rattle.std.proofs.lemmas.List.Splits.{length-slice_split}
 use Rattle.std.specs.List.{count_by}
 use Rattle.sem_text.specs.Words.{is_blank, word_from}
 use Rattle.sem_text.specs.Lines.{line_from}
-use Rattle.sem_trace.specs.TextLines.{without_empty_last, lines_of, is_word, words_of}
+use Rattle.sem_trace.specs.TextLines.{without_empty_last, lines_of, is_word, words_of, is_significant}
 
 module _ (p : ℕ → Bool) where
   -- the first part ends before the first element that passes
@@ -108,6 +109,42 @@ word_found line begin end found =
     let begins : begin ≡ n = ap (λ (q : ℕ × ℕ). q.0) h.1 in
     let ends : end ≡ n + prefix_len (λ b. not (is_blank b)) (drop n line) = ap (λ (q : ℕ × ℕ). q.1) h.1 in
     rw (begins, ends) (found_word line n (omega arith) (λ e. true≢false (sym (eq-eqb _ _ e) ∙ h.0)))
+
+-- a byte that is no blank begins the first word
+begins_word : (b : ℕ) (bs : List ℕ) → is_blank b ≡ false → is_significant (words_of (b ∷ bs)) ≡ not (b == 35)
+unfolding words_of
+begins_word b bs other = rw (first_part is_blank (b ∷ bs), other, one-add) refl
+
+no_blank : (b : ℕ) → 32 < b → is_blank b ≡ false
+no_blank b above = grind (arith, nat_tests)
+
+-- a byte above the blank tells whether the line says something
+pub first_byte : (line : List ℕ) → 1 ≤ length line → 32 < get_or line 0 0 → is_significant (words_of line) ≡ not (get_or line 0 0 == 35)
+first_byte [] some above = absurd (omega arith)
+first_byte (b ∷ bs) some above = begins_word b bs (no_blank b above)
+
+-- a word of one byte between a blank and a blank or the end
+byte_word : (b : ℕ) (bs : List ℕ) → is_blank b ≡ false → words_of (32 ∷ b ∷ 32 ∷ bs) ≡ (b ∷ []) ∷ words_of (32 ∷ bs)
+unfolding words_of
+byte_word b bs other = rw other refl
+
+last_byte_word : (b : ℕ) → is_blank b ≡ false → words_of (32 ∷ b ∷ []) ≡ (b ∷ []) ∷ words_of []
+unfolding words_of
+last_byte_word b other = rw other refl
+
+pub byte_word_first : (line : List ℕ) → 3 ≤ length line → get_or line 0 0 ≡ 32 → 32 < get_or line 1 0 → get_or line 2 0 ≡ 32 →
+    words_of line ≡ drop 1 (take 2 line) ∷ words_of (drop 2 line)
+byte_word_first [] long first above third = absurd (omega arith)
+byte_word_first (a ∷ []) long first above third = absurd (omega arith)
+byte_word_first (a ∷ b ∷ []) long first above third = absurd (omega arith)
+byte_word_first (a ∷ b ∷ c ∷ bs) long first above third = rw (first, third) (byte_word b bs (no_blank b above))
+
+pub byte_word_last : (line : List ℕ) → length line ≡ 2 → get_or line 0 0 ≡ 32 → 32 < get_or line 1 0 →
+    words_of line ≡ drop 1 (take 2 line) ∷ words_of (drop 2 line)
+byte_word_last [] two first above = absurd (omega arith)
+byte_word_last (a ∷ []) two first above = absurd (omega arith)
+byte_word_last (a ∷ b ∷ []) two first above = rw first (last_byte_word b (no_blank b above))
+byte_word_last (a ∷ b ∷ c ∷ bs) two first above = absurd (omega arith)
 
 pub no_word : (line : List ℕ) → word_from line 0 ≡ None → words_of line ≡ []
 unfolding words_of

@@ -25,7 +25,7 @@ use Rattle.sem_trace.specs.Places.{CanStandIn, AreOf, told_fault}
 use Rattle.sem_trace.specs.Ranges.{IsNode, IsInRange}
 use Rattle.sem_trace.specs.Readers.{ReadsWords}
 use Rattle.sem_trace.specs.Slots.{slot_place}
-use Rattle.sem_trace.specs.LineForms.{rest_places, line_row, number_places, HasKind, IsLineRow, FitPlain, plain_with}
+use Rattle.sem_trace.specs.LineForms.{line_form, rest_places, line_row, number_places, HasKind, IsLineRow, FitPlain, plain_with}
 use Rattle.sem_trace.specs.LineForms.{root_row, IsRootRow, root_with, root_of}
 use Rattle.sem_trace.proofs.CallRows.{of_five, same_name, same_places}
 use Rattle.sem_trace.proofs.Nodes.{some_vpe}
@@ -119,6 +119,16 @@ line_fault version kernels (Plain TheWindow) name words has named =
     (sym window') (window_fault version kernels words has)
 line_fault version kernels Root name words has named = rw named refl
 line_fault version kernels Call name words has named = rw named refl
+
+-- each version has the line of a call, and nine others
+pub some_lines : (version : ℕ) (forms : List LineForm) →
+    ((kernels : ℕ) (words : List (List ℕ)) → map (line_form version kernels words) forms ≡ lines version kernels words) →
+    10 ≤ length forms
+unfolding lines
+some_lines version forms table =
+    let rows : length (map (line_form version 1 []) forms) ≡ length (lines version 1 []) = ap length (table 1 []) in
+    let count : length (map (line_form version 1 []) forms) ≡ length forms = length-map forms (line_form version 1 []) in
+    omega arith
 
 -- a line has five numbers at most
 few_line_places : (version kernels : ℕ) (k : LineKind) → HasKind version k →

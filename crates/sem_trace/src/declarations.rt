@@ -27,6 +27,9 @@ use crate::line_forms::{
     KERNELS_LINE, LineForm, LineKind, PlainKind, RootForm, RootKind, WINDOW_LINE,
 };
 
+// The place of the calls among the forms of the lines: most lines are calls.
+const CALL_ROW: usize = 8;
+
 impl Words<'_> {
     /// The next word, a version of the texts: 1 or 2.
     pub fn version(&mut self) -> Result<u8, Cause>
@@ -206,6 +209,10 @@ fn line_named(name: &[u8], version: u8) -> Result<&'static LineForm, Cause>
         ≡ Some cause) }
 {
     let forms = LineForm::all(version);
+    let call = &forms[CALL_ROW];
+    if is(name, call.name) {
+        return Ok(call);
+    }
     for form in forms {
         if is(name, form.name) {
             return Ok(form);

@@ -110,10 +110,20 @@ pub(crate) fn number_in(word: &[u8], range: Range) -> Result<u64, Cause>
 }
 
 /// Whether the word is that one. Takes no memory.
+// Words are short, and most differ from the name in their length or at the first byte.
+#[inline]
 pub fn is(word: &[u8], name: &[u8]) -> bool
     ensures { Decides result (word.now ≡ name.now) }
 {
-    word == name
+    if word.len() != name.len() {
+        return false;
+    }
+    for (place, byte) in word.iter().enumerate() {
+        if *byte != name[place] {
+            return false;
+        }
+    }
+    true
 }
 
 impl Words<'_> {
@@ -130,6 +140,7 @@ impl Words<'_> {
     }
 
     /// The next word, a number of that range.
+    #[inline]
     pub fn number(&mut self, range: Range) -> Result<u64, Cause>
         ensures reads { Reads (number_place range ∷ []) (λ n. decimal n ∷ []) self.old self.new
             result }
@@ -167,6 +178,7 @@ impl Words<'_> {
 
     /// The next words, numbers of those slots, 5 at most, in a text of the version with that many
     /// kernels.
+    #[inline]
     pub fn slot_numbers(
         &mut self,
         slots: &[Slot],

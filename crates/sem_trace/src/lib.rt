@@ -15,6 +15,7 @@ mod line_forms;
 mod message_forms;
 mod print;
 mod push;
+mod put;
 mod slots;
 mod text_lines;
 
@@ -33,6 +34,9 @@ pub use print::{print_trace, push_line, push_start, push_trace};
 pub use push::{
     push_call, push_key, push_key_word, push_named, push_number_word, push_numbers, push_object,
     push_place, push_place_word, push_word,
+};
+pub use put::{
+    put_call, put_key_word, put_number_word, put_numbers, put_object, put_place_word, put_word,
 };
 pub use slots::Slot;
 pub use text_lines::{bytes_fault, is_significant, next_word};

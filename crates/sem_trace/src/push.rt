@@ -1,15 +1,12 @@
 // Words of a line. If memory is refused, each of these functions may have appended a part.
 ghost use Rattle.std.specs.Prelude.{◌≡◌, ◌∷◌, ◌++◌, map, decimal, OnOk};
-ghost use Rattle.sem_key.specs.KeyName.{kind_number};
 ghost use Rattle.sem_text.specs.Lines.{behind_blanks};
 ghost use Rattle.sem_trace.specs.Words.{key_word, place_word, object_words, call_words};
 
-use crate::call_forms::CallForm;
-use crate::calls::numbers_of;
-use crate::message_forms::Form;
+use crate::put::{put_call, put_key, put_key_word, put_object, put_place, put_place_word};
 use sem_key::{Key, Object, OutOfMemory, Place};
 use sem_msg::Call;
-use sem_text::{push_number, push_number_behind};
+use sem_text::push_number_behind;
 
 /// Appends a blank and the word.
 #[inline(always)]
@@ -50,93 +47,50 @@ pub fn push_named(out: &mut Vec<u8>, name: &[u8], values: &[u64]) -> Result<(), 
     push_numbers(out, values)
 }
 
-// Appends a point and the number.
-#[inline(always)]
-fn push_part(out: &mut Vec<u8>, value: u64) -> Result<(), OutOfMemory>
-    ensures ok { OnOk result (out.new.items ≡ out.old.items ++ 46 ∷ decimal value) }
-{
-    push_number_behind(out, b'.', value)
-}
-
-// Appends what follows the PE of a key.
-fn push_key_parts(out: &mut Vec<u8>, key: &Key) -> Result<(), OutOfMemory>
-    ensures ok { OnOk result (out.new.items ≡ out.old.items
-        ++ 46 ∷ decimal key.now.vpe ++ 46 ∷ decimal (kind_number key.now.kind)
-        ++ 46 ∷ decimal key.now.number) }
-{
-    push_part(out, u64::from(key.vpe))?;
-    push_part(out, u64::from(key.kind.number()))?;
-    push_part(out, u64::from(key.number))
-}
-
 /// Appends the key.
 pub fn push_key(out: &mut Vec<u8>, key: &Key) -> Result<(), OutOfMemory>
     ensures ok { OnOk result (out.new.items ≡ out.old.items ++ key_word key.now) }
 {
-    push_number(out, u64::from(key.pe))?;
-    push_key_parts(out, key)
+    out.reserve(19)?;
+    put_key(out, key);
+    Ok(())
 }
 
 /// Appends a blank and the key.
 pub fn push_key_word(out: &mut Vec<u8>, key: &Key) -> Result<(), OutOfMemory>
     ensures ok { OnOk result (out.new.items ≡ out.old.items ++ 32 ∷ key_word key.now) }
 {
-    push_number_word(out, u64::from(key.pe))?;
-    push_key_parts(out, key)
-}
-
-// Appends what follows the PE of a place.
-fn push_place_parts(out: &mut Vec<u8>, place: &Place) -> Result<(), OutOfMemory>
-    ensures ok { OnOk result (out.new.items ≡ out.old.items
-        ++ 46 ∷ decimal place.now.vpe ++ 46 ∷ decimal place.now.number) }
-{
-    push_part(out, u64::from(place.vpe))?;
-    push_part(out, u64::from(place.number))
+    out.reserve(20)?;
+    put_key_word(out, key);
+    Ok(())
 }
 
 /// Appends the place.
 pub fn push_place(out: &mut Vec<u8>, place: &Place) -> Result<(), OutOfMemory>
     ensures ok { OnOk result (out.new.items ≡ out.old.items ++ place_word place.now) }
 {
-    push_number(out, u64::from(place.pe))?;
-    push_place_parts(out, place)
+    out.reserve(14)?;
+    put_place(out, place);
+    Ok(())
 }
 
 /// Appends a blank and the place.
 pub fn push_place_word(out: &mut Vec<u8>, place: &Place) -> Result<(), OutOfMemory>
     ensures ok { OnOk result (out.new.items ≡ out.old.items ++ 32 ∷ place_word place.now) }
 {
-    push_number_word(out, u64::from(place.pe))?;
-    push_place_parts(out, place)
+    out.reserve(15)?;
+    put_place_word(out, place);
+    Ok(())
 }
 
 /// Appends the words of the object, each after a blank.
-#[tactic(auto, unfolding(crate::specs::MessageForms::objects))]
 pub fn push_object(out: &mut Vec<u8>, object: &Object) -> Result<(), OutOfMemory>
     ensures ok { OnOk result (out.new.items ≡ out.old.items
         ++ behind_blanks (object_words object.now)) }
 {
-    push_word(out, Form::of_object(object.kind()).name.as_bytes())?;
-    match object {
-        Object::Mem { base, len, rights } => {
-            let numbers = [u64::from(*base), u64::from(*len), u64::from(*rights)];
-            push_numbers(out, &numbers)
-        }
-        Object::Recv { slots } => push_number_word(out, u64::from(*slots)),
-        Object::Send {
-            gate,
-            label,
-            credits,
-        } => {
-            push_key_word(out, gate)?;
-            push_numbers(out, &[u64::from(*label), u64::from(*credits)])
-        }
-        Object::Serv { name } => push_number_word(out, u64::from(*name)),
-        Object::Sess { service, ident } => {
-            push_key_word(out, service)?;
-            push_number_word(out, u64::from(*ident))
-        }
-    }
+    out.reserve(47)?;
+    put_object(out, object);
+    Ok(())
 }
 
 /// Appends the words of the call, each after a blank.
@@ -144,7 +98,7 @@ pub fn push_call(out: &mut Vec<u8>, call: &Call) -> Result<(), OutOfMemory>
     ensures ok { OnOk result (out.new.items ≡ out.old.items
         ++ behind_blanks (call_words call.now)) }
 {
-    let (kind, numbers) = numbers_of(call);
-    let form = CallForm::of(kind);
-    push_named(out, form.name, &numbers[..form.slots.len()])
+    out.reserve(64)?;
+    put_call(out, call);
+    Ok(())
 }

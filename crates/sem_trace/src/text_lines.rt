@@ -1,5 +1,5 @@
 // Lines of a text and words of a line, from the front.
-ghost use Rattle.std.specs.Prelude.{◌≡◌, MatchOption, ◌∷◌, []};
+ghost use Rattle.std.specs.Prelude.{◌≡◌, ◌≤◌, true, MatchOption, ◌∷◌, [], length, take, drop};
 ghost use Rattle.std.specs.List.{list_all};
 ghost use Rattle.sem_trace.specs.TextLines.{lines_of, words_of, is_text as is_text_lem};
 ghost use Rattle.sem_trace.specs.TextLines.{is_significant as is_significant_lem};
@@ -22,8 +22,37 @@ pub fn next_line(text: &[u8]) -> Option<(&[u8], &[u8])>
     Some((line, rest))
 }
 
+// Whether the line begins with a blank, a word of one byte, and then a blank or nothing.
+#[inline]
+fn begins_with_byte_word(line: &[u8]) -> bool
+    ensures within { result ≡ true → 2 ≤ length line.now }
+    ensures words { result ≡ true → words_of line.now
+        ≡ drop 1 (take 2 line.now) ∷ words_of (drop 2 line.now) }
+{
+    match line {
+        [b' ', byte] => *byte > b' ',
+        [b' ', byte, b' ', ..] => *byte > b' ',
+        _ => false,
+    }
+}
+
 /// The first word, and the rest after it; none if there is no word. Takes no memory.
+// Most words are numbers of one digit, and their way is inlined.
+#[inline(always)]
 pub fn next_word(line: &[u8]) -> Option<(&[u8], &[u8])>
+    ensures { MatchOption result (words_of line.now ≡ []) (λ p. words_of line.now
+        ≡ p.0.now ∷ words_of p.1.now) }
+{
+    if begins_with_byte_word(line) {
+        let (front, rest) = line.split_at(2);
+        let (_, word) = front.split_at(1);
+        return Some((word, rest));
+    }
+    next_word_of_any_length(line)
+}
+
+#[inline(never)]
+fn next_word_of_any_length(line: &[u8]) -> Option<(&[u8], &[u8])>
     ensures { MatchOption result (words_of line.now ≡ []) (λ p. words_of line.now
         ≡ p.0.now ∷ words_of p.1.now) }
 {
@@ -35,6 +64,15 @@ pub fn next_word(line: &[u8]) -> Option<(&[u8], &[u8])>
 
 /// Whether the line says something: it has a word, and the first is no comment. Takes no memory.
 pub fn is_significant(line: &[u8]) -> bool
+    ensures { result ≡ is_significant_lem (words_of line.now) }
+{
+    match line {
+        [first, ..] if *first > b' ' => *first != b'#',
+        _ => is_significant_behind_blanks(line),
+    }
+}
+
+fn is_significant_behind_blanks(line: &[u8]) -> bool
     ensures { result ≡ is_significant_lem (words_of line.now) }
 {
     match next_word(line) {
@@ -50,11 +88,15 @@ fn is_text(byte: u8) -> bool
     byte == b'\t' || (b' '..=b'~').contains(&byte)
 }
 
-// Whether all bytes are tabs or printable.
+// Whether all bytes are tabs or printable. It tests many at a time, for it has no early exit.
 fn all_text(line: &[u8]) -> bool
     ensures { result ≡ list_all is_text_lem line.now }
 {
-    line.iter().all(|byte| is_text(*byte))
+    let mut all = true;
+    for byte in line {
+        all &= is_text(*byte);
+    }
+    all
 }
 
 /// What is wrong with the bytes of the line, whatever it says. Takes no memory.

@@ -1,6 +1,6 @@
 use Rattle.std.proofs.Common.{sym, arith}
 use Rattle.sem_trace.proofs.FirstParts.{word_found, no_word}
-use Rattle.sem_trace.proofs.text_lines.next_word.Goals as goal
+use Rattle.sem_trace.proofs.text_lines.next_word_of_any_length.Goals as goal
 
 pub returns-in_err-begin : goal.returns-in_err-begin
 returns-in_err-begin c = rw c.from_residual.ensures (no_word c.args.line.now (sym c.in_err-begin.ensures))

@@ -1,7 +1,7 @@
 use Rattle.std.proofs.Common.{arith}
 use Rattle.std.proofs.lemmas.Grind.{common_steps}
 use Rattle.sem_text.proofs.Digits.{out_of_range}
-use Rattle.sem_text.proofs.numbers.number.Goals as goal
+use Rattle.sem_text.proofs.numbers.long_number.Goals as goal
 
 -- a value above `most` stays above it
 pub returns-in_err-value : goal.returns-in_err-value

@@ -1,6 +1,6 @@
 use Rattle.std.proofs.Common.{◌≡◌, ◌≤◌, true, take}
 use Rattle.sem_text.specs.Number.{is_number, number_value}
-use Rattle.sem_text.proofs.numbers.number.Given as goal
+use Rattle.sem_text.proofs.numbers.long_number.Given as goal
 
 -- the value of the digits so far, which is in range
 abbrev pub invariant-loop-byte : goal.invariant-loop-byte
