@@ -8,6 +8,9 @@ use sem_kernel::World;
 use sem_key::OutOfMemory;
 use sem_msg::{Entry, Setup};
 
+// After so many entries the world drops those that it made, so that there is one long journal.
+const DROPPED: usize = 8192;
+
 /// The first entry that its event does not make, and the one that the event makes, or none if the
 /// event is not enabled.
 #[derive(Clone, Copy, Debug)]
@@ -60,6 +63,7 @@ fn take_step(
         (λ d. (d.entry ≡ place) × (d.entered ≡ entered.now)
         × IsOther world.old entered.now d.replayed)) }
 {
+    drop_past(world, place);
     let replayed = make_entry(world, entered.event)?;
     if is_made(&replayed, entered) {
         Ok(None)
@@ -69,5 +73,14 @@ fn take_step(
             entered: *entered,
             replayed,
         }))
+    }
+}
+
+// Drops the entries that the world made before, from time to time.
+fn drop_past(world: &mut World, place: usize)
+    ensures { world.new ≡ world.old }
+{
+    if place % DROPPED == 0 {
+        world.drop_entries();
     }
 }

@@ -1,7 +1,7 @@
 -- One entry more: the replies, and the places that are left.
 use Rattle.std.proofs.Common.{◌≡◌, ℕ, suc, ◌+◌, ◌<◌, ◌≤◌, Bool, true, false, cond, List, [], ◌∷◌, ◌++◌, length, get_or, set, Option, Some, None, refl, ◌∙◌, ap}
 use Rattle.std.proofs.Common.{arith, length-append}
-use Rattle.std.specs.List.{count_by, cons_option, filter_map}
+use Rattle.std.specs.List.{count_by, cons_option, filter, filter_map}
 use Rattle.std.specs.Option.{is_some}
 use Rattle.std.proofs.lemmas.List.Sums.{sum_by-set}
 use Rattle.std.proofs.lemmas.List.Elements.{filter_map-append}
@@ -38,3 +38,13 @@ places-less places i within here =
     let one : counts (get_or places i false) ≡ 1 = ap counts here in
     let moved = sum_by-set counts places i false false within in
     omega (arith, one, moved)
+
+-- what replies is all that the replies are counted from
+pub replies-kept : (J : List Entry) → replies (filter (λ e. is_some e.reply) J) ≡ replies J
+replies-kept [] = refl
+replies-kept (e ∷ J) = by_reply (filter (λ (x : Entry). is_some x.reply) J) (replies-kept J) e.reply refl
+  where
+    by_reply : (kept : List Entry) → replies kept ≡ replies J → (o : Option Reply) → e.reply ≡ o →
+        replies (cond (is_some o) (e ∷ kept) kept) ≡ cons_option o (replies J)
+    by_reply kept same None is = same
+    by_reply kept same (Some r) is = ap (λ o. cons_option o (replies kept)) is ∙ ap (cons_option (Some r)) same

@@ -1,6 +1,6 @@
 ghost use Rattle.std.specs.Prelude.{◌≡◌, ◌≢◌, ◌↔◌, ◌<◌, ◌≤◌, ◌&&◌, true, false, [], ◌∷◌, ◌++◌};
-ghost use Rattle.std.specs.Prelude.{length, drop, nat_lt, nat_le, slice_get, slice_index_or, IsOk};
-ghost use Rattle.std.specs.Prelude.{IfOk, IfErr, IfSome, OnOk, OnErr, MatchOption};
+ghost use Rattle.std.specs.Prelude.{length, drop, filter, nat_lt, nat_le, slice_get, slice_index_or};
+ghost use Rattle.std.specs.Prelude.{is_some, IsOk, IfOk, IfErr, IfSome, OnOk, OnErr, MatchOption};
 ghost use Rattle.sem_msg.specs.Message.{Fits};
 ghost use Rattle.sem_msg.specs.Journal.{replies as replies_in};
 ghost use Rattle.sem_msg.specs.Fabric.{link_in, relinked, entered};
@@ -217,6 +217,15 @@ impl Fabric {
         ensures { result ≡ length (replies_in self.now.journal) }
     {
         self.replies
+    }
+
+    /// Drops all entries of the journal but those that reply to a call.
+    pub fn keep_replies(&mut self)
+        ensures { self.new ≡ record self.old {
+          journal = filter (λ e. is_some e.reply) self.old.journal;
+        } }
+    {
+        self.journal.keep_replies();
     }
 
     /// The journal alone, without the links.

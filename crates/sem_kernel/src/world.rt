@@ -132,6 +132,14 @@ impl World {
         advance(&self.setup, &mut self.kernels, &mut self.fabric, event)?;
         Ok(())
     }
+
+    /// Drops the entries of the steps so far but those that reply to a call, which are counted. The
+    /// world stays the same.
+    pub fn drop_entries(&mut self)
+        ensures { self.new ≡ self.old }
+    {
+        self.fabric.keep_replies();
+    }
 }
 
 /// The kernels of the setup at the start, by number.

@@ -1,5 +1,5 @@
 ghost use Rattle.std.specs.Prelude.{◌≡◌, ◌+◌, ◌^◌, ◌<◌, ◌≤◌, [], ◌∷◌, ◌++◌, length, slice_get};
-ghost use Rattle.std.specs.Prelude.{OnOk};
+ghost use Rattle.std.specs.Prelude.{OnOk, filter, is_some};
 
 use crate::entry::Entry;
 use crate::reserved;
@@ -63,6 +63,14 @@ impl Journal {
         ensures spare { self.old.spare ≤ self.new.spare }
     {
         self.entries.reserve(more)
+    }
+
+    /// Drops all entries but those that reply to a call.
+    pub fn keep_replies(&mut self)
+        ensures entries { self.new.entries ≡ filter (λ e. is_some e.reply) self.old.entries }
+        ensures spare { self.old.spare ≤ self.new.spare }
+    {
+        self.entries.retain(|entry| entry.reply.is_some());
     }
 
     /// Appends the entry. There must be room for it.
