@@ -1,6 +1,6 @@
 -- The text of lines that are appended one after another.
 use Rattle.std.proofs.Common.{◌≡◌, ℕ, zero, suc, ◌+◌, List, [], ◌∷◌, ◌++◌, length, take, map, Result, Ok, Err, OnOk, refl, arith, add-one, append_assoc}
-use Rattle.std.proofs.Common.{append-nil}
+use Rattle.std.proofs.Common.{append-nil, ap, ◌∙◌}
 use Rattle.std.specs.Prelude.{codes, decimal}
 use Rattle.std.specs.List.{slice_get}
 use Rattle.std.specs.Option.{option_to_list}
@@ -13,6 +13,7 @@ use Rattle.sem_text.specs.Lines.{line, text}
 use Rattle.sem_trace.specs.TraceText.{trace_lines}
 use Rattle.sem_journal.specs.EntryText.{entry_words}
 use Rattle.sem_journal.specs.ReportText.{held_line, audit_lines, report_text}
+use Rattle.sem_report.specs.ReportHead.{BeginsReport}
 
 -- what follows from what an `Ok` says
 pub OnOk-then : {T E P Q : Type 0} (r : Result T E) → OnOk r P → (P → Q) → OnOk r Q
@@ -46,16 +47,21 @@ pub text-audit : (made cut : ℕ) (held : List (KeyName × ℕ)) (before a b c d
 text-audit made cut held = text-framed (codes "audit" ∷ []) (codes "made" ∷ decimal made ∷ []) (codes "cut" ∷ decimal cut ∷ [])
     (codes "held" ∷ decimal (length held) ∷ []) (codes "end" ∷ []) (map held_line held)
 
--- a text of a line and three parts more
-text-parts : (first : List (List ℕ)) (xs ys zs : List (List (List ℕ))) (before a b c after : List ℕ) → a ≡ before ++ line first → b ≡ a ++ text xs →
-    c ≡ b ++ text ys → after ≡ c ++ text zs → after ≡ before ++ text (first ∷ xs ++ ys ++ zs)
-text-parts first xs ys zs before a b c after at_first at_xs at_ys at_zs =
-    rw (at_zs, at_ys, at_xs, at_first) (simp (flat_map-append, append_assoc))
+-- a line, some lines, and a line, with two parts more behind them
+text-parts : (first last : List (List ℕ)) (xs ys zs : List (List (List ℕ))) (before a b after : List ℕ) → a ≡ before ++ line first → b ≡ a ++ text xs →
+    after ≡ b ++ line last → after ++ text ys ++ text zs ≡ before ++ text (first ∷ xs ++ (last ∷ ys) ++ zs)
+text-parts first last xs ys zs before a b after at_first at_xs at_last = rw (at_last, at_xs, at_first) (simp (flat_map-append, append_assoc))
 
--- the text of a report, in four pieces
-pub text-report : (T : Setup) (J : List Entry) (made cut : ℕ) (held : List (KeyName × ℕ)) (before a b c after : List ℕ) →
+-- the text of a report before its entries, in three pieces
+pub text-head : (T : Setup) (J : List Entry) (before a b after : List ℕ) →
     a ≡ before ++ line (codes "semper" ∷ codes "report" ∷ decimal T.version ∷ []) → b ≡ a ++ text (trace_lines T) →
-    c ≡ b ++ text ((codes "journal" ∷ decimal (length J) ∷ []) ∷ map entry_words J) → after ≡ c ++ text (audit_lines made cut held) →
+    after ≡ b ++ line (codes "journal" ∷ decimal (length J) ∷ []) → BeginsReport T J before after
+text-head T J before a b after at_first at_trace at_count made cut held = text-parts (codes "semper" ∷ codes "report" ∷ decimal T.version ∷ [])
+    (codes "journal" ∷ decimal (length J) ∷ []) (trace_lines T) (map entry_words J) (audit_lines made cut held) before a b after at_first at_trace at_count
+
+-- the text of a report: what comes before its entries, its entries and its audit
+pub text-report : (T : Setup) (J : List Entry) (made cut : ℕ) (held : List (KeyName × ℕ)) (before head entries after : List ℕ) →
+    BeginsReport T J before head → entries ≡ head ++ text (map entry_words J) → after ≡ entries ++ text (audit_lines made cut held) →
     after ≡ before ++ report_text T J made cut held
-text-report T J made cut held = text-parts (codes "semper" ∷ codes "report" ∷ decimal T.version ∷ []) (trace_lines T)
-    ((codes "journal" ∷ decimal (length J) ∷ []) ∷ map entry_words J) (audit_lines made cut held)
+text-report T J made cut held before head entries after begins at_entries at_audit =
+    at_audit ∙ (ap (λ e. e ++ text (audit_lines made cut held)) at_entries ∙ begins made cut held)

@@ -3,3 +3,4 @@ pub mod ReportRefusal
 pub mod ReadsReport
 pub mod ReportRanges
 pub mod Audited
+pub mod ReportHead

@@ -1,5 +1,5 @@
 // Comparing audits.
-ghost use Rattle.std.specs.Prelude.{◌≡◌, ◌-◌, ◌≤◌, ℕ, List, length, MatchOption};
+ghost use Rattle.std.specs.Prelude.{◌≡◌, ◌↔◌, ◌-◌, ◌≤◌, ℕ, List, length, IsTrue, MatchOption};
 ghost use Rattle.sem_msg.specs.declared.entry.Entry.{Entry as EntryData};
 ghost use Rattle.sem_msg.specs.Setup.{Setup as SetupRecord};
 ghost use Rattle.sem_report.specs.WholeLines.{whole_lines};
@@ -7,6 +7,19 @@ ghost use Rattle.sem_report.specs.Audited.{audited, AuditFits, differing_line, D
 
 use crate::lines::next_whole_line;
 use sem_msg::{Audit, Held};
+
+/// Whether the audits are the same.
+pub fn same_audit(told: &Audit, due: &Audit) -> bool
+    ensures { IsTrue result ↔ (told.now ≡ due.now) }
+{
+    if told.made != due.made || told.cut != due.cut || told.held.len() != due.held.len() {
+        return false;
+    }
+    match first_other(told.held.as_slice(), due.held.as_slice()) {
+        None => true,
+        Some(_) => false,
+    }
+}
 
 /// The number of the first line in which the report's audit differs from the due one. The text must
 /// be the report with the told audit. Takes no memory.

@@ -1,6 +1,6 @@
 // The text of a report. If memory is refused, each of these functions but `print_report` may have
 // appended a part.
-ghost use Rattle.std.specs.Prelude.{◌≡◌, [], ◌∷◌, ◌++◌, length, map, codes, decimal, slice_get};
+ghost use Rattle.std.specs.Prelude.{◌≡◌, [], ◌∷◌, ◌++◌, map, codes, decimal, slice_get};
 ghost use Rattle.std.specs.Prelude.{OnOk, OnErr};
 ghost use Rattle.std.specs.Option.{option_to_list};
 ghost use Rattle.sem_key.specs.KeyName.{KeyName};
@@ -8,6 +8,7 @@ ghost use Rattle.sem_text.specs.Lines.{line, text};
 ghost use Rattle.sem_msg.specs.Audits.{held_pairs};
 ghost use Rattle.sem_journal.specs.EntryText.{entry_words};
 ghost use Rattle.sem_journal.specs.ReportText.{held_line, audit_lines, report_text};
+ghost use Rattle.sem_report.specs.ReportHead.{BeginsReport};
 
 use sem_journal::push_entry;
 use sem_key::OutOfMemory;
@@ -35,16 +36,6 @@ fn push_entries(out: &mut Vec<u8>, journal: &Journal) -> Result<(), OutOfMemory>
         push_entry_at(out, journal, at)?;
     }
     Ok(())
-}
-
-// Appends the line that says how many entries there are, and the lines of the entries.
-fn push_journal(out: &mut Vec<u8>, journal: &Journal) -> Result<(), OutOfMemory>
-    ensures ok { OnOk result (out.new.items ≡ out.old.items
-        ++ text ((codes "journal" ∷ decimal (length journal.now.entries) ∷ [])
-        ∷ map entry_words journal.now.entries)) }
-{
-    push_line(out, b"journal", &[journal.len() as u64])?;
-    push_entries(out, journal)
 }
 
 /// Appends the line of a held key.
@@ -91,6 +82,17 @@ fn push_header(out: &mut Vec<u8>, setup: &Setup) -> Result<(), OutOfMemory>
     push_line(out, b"semper report", &[u64::from(setup.version)])
 }
 
+/// Appends the lines of a report before those of its entries: its first line, the trace, and the
+/// line that says how many entries there are. If memory is refused, it may have appended a part.
+pub fn push_head(out: &mut Vec<u8>, setup: &Setup, journal: &Journal) -> Result<(), OutOfMemory>
+    ensures ok { OnOk result
+        (BeginsReport setup.now journal.now.entries out.old.items out.new.items) }
+{
+    push_header(out, setup)?;
+    push_trace(out, setup)?;
+    push_line(out, b"journal", &[journal.len() as u64])
+}
+
 fn push_report(
     out: &mut Vec<u8>,
     setup: &Setup,
@@ -101,9 +103,8 @@ fn push_report(
         ++ report_text setup.now journal.now.entries audit.now.made audit.now.cut
         (held_pairs audit.now.held)) }
 {
-    push_header(out, setup)?;
-    push_trace(out, setup)?;
-    push_journal(out, journal)?;
+    push_head(out, setup, journal)?;
+    push_entries(out, journal)?;
     push_audit(out, audit)
 }
 

@@ -25,6 +25,7 @@ use Rattle.sem_run.specs.declared.response.Response.{Response}
 use Rattle.sem_run.specs.Inputs.{Given, Asks, AsksRun, IsUntouched, ReadsPart, ReadsTrace, IsRefused, AreRefused, IsQuietlyRead}
 use Rattle.sem_run.specs.Inputs.RunsSetup.{is_read, is_compiled, is_generated}
 use Rattle.sem_run.specs.Ends.{WouldEnd}
+use Rattle.sem_run.specs.Texts.{text_of}
 use Rattle.sem_run.specs.Readings.{EndsRun, IsRefusalTold, IsLoadTold, IsOkWith, ReadsService}
 use Rattle.sem_run.proofs.ReadInput.{untouched-part}
 
@@ -159,6 +160,6 @@ module _ (g : Given) (J : List Entry) (text : List ℕ) where
   nothing-done untouched empty told = record { part = inl empty; read = untouched-part g untouched; quiet = untouched.quiet; told = told }
 
 -- a response for lack of memory
-pub memory-ends : (g : Given) (r : Response) (J : List Entry) → r.status ≡ Memory → r.text.items ≡ [] → r.journal.entries ≡ J → WouldEnd g J [] Memory →
-    WouldEnd g r.journal.entries r.text.items r.status
+pub memory-ends : (g : Given) (r : Response) (J : List Entry) → r.status ≡ Memory → text_of r.text r.journal.entries ≡ [] → r.journal.entries ≡ J →
+    WouldEnd g J [] Memory → WouldEnd g r.journal.entries (text_of r.text r.journal.entries) r.status
 memory-ends g r J status text journal ends = rw (status, text, journal) ends

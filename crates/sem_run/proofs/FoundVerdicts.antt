@@ -30,7 +30,7 @@ module _ (bytes : List ℕ) (T : Setup) (J : List Entry) (told : Audit) (tells :
     tells-complete = record { tells = tells-report; complete = complete; audit = audit }
 
     -- what is printed with the audit that is due is the report
-    due-report : audited T J due ≡ report T J
+    pub due-report : audited T J due ≡ report T J
     due-report = rw (audit.made, audit.cut, audit.held) refl
 
     pub due-fits : AuditFits T J due

@@ -5,4 +5,6 @@ pub mod Ending
 pub mod FoundVerdicts
 pub mod Accepting
 pub mod Serving
+pub mod Pieces
+pub mod ReportParts
 mod Finding

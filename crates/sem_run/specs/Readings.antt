@@ -21,6 +21,7 @@ use Rattle.sem_report.specs.ReportRefusal.{report_refusal}
 use Rattle.sem_run.specs.Inputs.{Given, ReadsFiles}
 use Rattle.sem_run.specs.Reports.{is_accepted, verdict_line}
 use Rattle.sem_run.specs.Ends.{IsAnswer, WouldEnd}
+use Rattle.sem_run.specs.Texts.{text_of}
 
 -- some words ask for that command
 abbrev pub IsAsked : Option Command → Type 0
@@ -28,7 +29,7 @@ IsAsked asked = (words : List (List ℕ)) × (command_of words ≡ asked)
 
 -- the program can end with the response
 abbrev pub Responds : Given → Response → Type 0
-Responds g r = WouldEnd g r.journal.entries r.text.items r.status
+Responds g r = WouldEnd g r.journal.entries (text_of r.text r.journal.entries) r.status
 
 -- the input is refused with this line, or memory was refused
 abbrev pub IsRefusalTold : List ℕ → List ℕ → Status → Type 0
@@ -42,7 +43,9 @@ IsRefusalTold line text ReportRefused = ⊥
 
 -- the response to an input that is refused with this line
 abbrev pub TellsRefusal : List ℕ → Response → Type 0
-TellsRefusal line r = (r.journal.entries ≡ []) × IsRefusalTold line r.text.items r.status
+TellsRefusal line r =
+    (r.journal.entries ≡ [])
+    × IsRefusalTold line (text_of r.text r.journal.entries) r.status
 
 -- The input was read to its end, and stands for file commands that compile to the setup.
 pub record ReadsService (g : Given) (T : Setup) : Type 0 where
@@ -106,7 +109,8 @@ IsVerdictTold question verdict text ReportRefused =
 -- the response to a text with that verdict
 abbrev pub TellsVerdict : Question → Verdict → Response → Type 0
 TellsVerdict question verdict r =
-    (r.journal.entries ≡ []) × IsVerdictTold question verdict r.text.items r.status
+    (r.journal.entries ≡ [])
+    × IsVerdictTold question verdict (text_of r.text r.journal.entries) r.status
 
 -- no line of the bytes is bad, and they tell this setup, journal and audit
 pub record TellsAudit (bytes : List ℕ) (T : Setup) (J : List Entry) (told : Audit) : Type 0 where

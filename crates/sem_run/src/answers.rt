@@ -34,7 +34,7 @@ pub fn answer<S: Source>(alloc: Global, question: Question, input: &mut S) -> Re
         Err(error) => return Response::unread(alloc, error),
     };
     let mut finding = Finding::new(alloc, question);
-    match judge_watched(alloc, &bytes, &mut finding) {
+    match judge_watched(alloc, bytes, &mut finding) {
         Ok(verdict) => tell_verdict(alloc, &finding, &verdict),
         Err(_) => Response::out_of_memory(alloc, Journal::new(alloc)),
     }

@@ -1,7 +1,10 @@
 // The verdict on a text that should be the report of a complete schedule.
-ghost use Rattle.std.specs.Prelude.{◌≡◌, ◌≤◌, length, IfOk, OnOk};
+ghost use Rattle.std.specs.Prelude.{◌≡◌, ◌≤◌, length, IfOk, IfErr, OnOk};
 ghost use Rattle.sem_machine.specs.Living.{IsComplete};
 ghost use Rattle.sem_check.specs.Verdicts.{TellsDifference, TellsNext};
+ghost use Rattle.sem_trace.specs.Standing.{IsWhy};
+ghost use Rattle.sem_report.specs.Audited.{audited, AuditFits, differing_line};
+ghost use Rattle.sem_report.specs.ReportRefusal.{report_refusal};
 ghost use Rattle.sem_audit.specs.HeldKeys.{IsAuditOf};
 ghost use Rattle.sem_run.specs.Reports.{IsVerdict};
 ghost use Rattle.sem_run.specs.Readings.{TellsAudit};
@@ -11,7 +14,7 @@ use sem_audit::audit_of;
 use sem_check::{CheckError, Unwatched, Watch, check_watched};
 use sem_key::OutOfMemory;
 use sem_msg::{Audit, Journal, Setup};
-use sem_report::{Verdict, audit_difference, read_report};
+use sem_report::{Verdict, audit_difference, print_report, read_report, same_audit};
 use sem_trace::TraceError;
 use std::alloc::Global;
 
@@ -21,28 +24,60 @@ pub fn judge(alloc: Global, bytes: &[u8]) -> Result<Verdict, OutOfMemory>
     requires { length bytes.now ≤ 134217729 }
     ensures { IfOk result (IsVerdict bytes.now) }
 {
-    judge_watched(alloc, bytes, &mut Unwatched)
+    match read_report(alloc, bytes) {
+        Ok((setup, journal, told)) => judge_told(alloc, setup, journal, &told, &mut Unwatched),
+        Err(TraceError::Refused(fault)) => Ok(Verdict::BadLine { fault }),
+        Err(TraceError::Memory) => Err(OutOfMemory),
+    }
 }
 
-/// The same, while `watch` sees every world on the way.
+/// The same, while `watch` sees every world on the way. The memory of the bytes is free again
+/// before the replay.
 pub fn judge_watched<W: Watch>(
     alloc: Global,
-    bytes: &[u8],
+    bytes: Vec<u8>,
     watch: &mut W,
 ) -> Result<Verdict, OutOfMemory>
-    requires few { length bytes.now ≤ 134217729 }
+    requires few { length bytes.items ≤ 134217729 }
     requires new { W.is_new watch.old }
-    ensures verdict { IfOk result (IsVerdict bytes.now) }
+    ensures verdict { IfOk result (IsVerdict bytes.items) }
     ensures gathered { IfOk result (IfAccepted (λ T J. W.gathers T J watch.new)) }
     ensures same { W.subject watch.new ≡ W.subject watch.old }
 {
-    let (setup, journal, told) = match read_report(alloc, bytes) {
-        Ok(report) => report,
-        Err(TraceError::Refused(fault)) => return Ok(Verdict::BadLine { fault }),
-        Err(TraceError::Memory) => return Err(OutOfMemory),
-    };
+    match read_taken(alloc, bytes) {
+        Ok((setup, journal, told)) => judge_told(alloc, setup, journal, &told, watch),
+        Err(TraceError::Refused(fault)) => Ok(Verdict::BadLine { fault }),
+        Err(TraceError::Memory) => Err(OutOfMemory),
+    }
+}
+
+// What the bytes tell, as `read_report`. They are dropped here.
+fn read_taken(alloc: Global, bytes: Vec<u8>) -> Result<(Setup, Journal, Audit), TraceError>
+    ensures spelled { IfOk result (λ r. bytes.items ≡ audited r.0 r.1.entries r.2) }
+    ensures told { IfOk result (λ r. TellsAudit bytes.items r.0 r.1.entries r.2) }
+    ensures refused { IfErr result (IsWhy (report_refusal bytes.items)) }
+{
+    read_report(alloc, &bytes)
+}
+
+// The verdict on the text that tells this setup, journal and audit.
+fn judge_told<W: Watch>(
+    alloc: Global,
+    setup: Setup,
+    journal: Journal,
+    told: &Audit,
+    watch: &mut W,
+) -> Result<Verdict, OutOfMemory>
+    requires few { length (audited setup journal.entries told.now) ≤ 134217729 }
+    requires told { TellsAudit (audited setup journal.entries told.now)
+        setup journal.entries told.now }
+    requires new { W.is_new watch.old }
+    ensures verdict { IfOk result (IsVerdict (audited setup journal.entries told.now)) }
+    ensures gathered { IfOk result (IfAccepted (λ T J. W.gathers T J watch.new)) }
+    ensures same { W.subject watch.new ≡ W.subject watch.old }
+{
     match audit_complete(alloc, &setup, &journal, watch) {
-        Ok(due) => Ok(judge_audit(bytes, setup, journal, &told, due)),
+        Ok(due) => judge_audit(alloc, setup, journal, told, due),
         Err(
             CheckError::Differs {
                 entry,
@@ -85,22 +120,55 @@ fn audit_complete<W: Watch>(
     }
 }
 
-// The verdict on bytes that tell this journal, a complete schedule, with one audit, while another
-// may be due.
-fn judge_audit(bytes: &[u8], setup: Setup, journal: Journal, told: &Audit, due: Audit) -> Verdict
-    requires few { length bytes.now ≤ 134217729 }
-    requires told { TellsAudit bytes.now setup journal.entries told.now }
+// The verdict on the text that tells this journal, a complete schedule, with one audit, while
+// another may be due. Where they differ, the text is printed again to find the line.
+fn judge_audit(
+    alloc: Global,
+    setup: Setup,
+    journal: Journal,
+    told: &Audit,
+    due: Audit,
+) -> Result<Verdict, OutOfMemory>
+    requires few { length (audited setup journal.entries told.now) ≤ 134217729 }
+    requires told { TellsAudit (audited setup journal.entries told.now)
+        setup journal.entries told.now }
     requires complete { IsComplete setup journal.entries }
     requires due { IsAuditOf setup journal.entries due }
-    ensures verdict { IsVerdict bytes.now result }
-    ensures of { IsOf setup journal.entries result }
+    ensures verdict { IfOk result (IsVerdict (audited setup journal.entries told.now)) }
+    ensures of { IfOk result (IsOf setup journal.entries) }
 {
-    match audit_difference(bytes, told, &due) {
-        None => Verdict::Accepted {
+    if same_audit(told, &due) {
+        return Ok(Verdict::Accepted {
             setup,
             journal,
             audit: due,
-        },
-        Some(line) => Verdict::BadAudit { line, due },
+        });
     }
+    match other_line(alloc, &setup, &journal, told, &due)? {
+        None => Ok(Verdict::Accepted {
+            setup,
+            journal,
+            audit: due,
+        }),
+        Some(line) => Ok(Verdict::BadAudit { line, due }),
+    }
+}
+
+// The first line in which the text that tells one audit differs from the one that tells another.
+fn other_line(
+    alloc: Global,
+    setup: &Setup,
+    journal: &Journal,
+    told: &Audit,
+    due: &Audit,
+) -> Result<Option<u64>, OutOfMemory>
+    requires few { length (audited setup.now journal.now.entries told.now) ≤ 134217729 }
+    requires told { AuditFits setup.now journal.now.entries told.now }
+    requires due { AuditFits setup.now journal.now.entries due.now }
+    ensures { IfOk result (λ line. line ≡ differing_line
+        (audited setup.now journal.now.entries told.now) setup.now journal.now.entries due.now) }
+{
+    let mut text = Vec::new(alloc);
+    print_report(alloc, setup, journal, told, &mut text)?;
+    Ok(audit_difference(&text, told, due))
 }

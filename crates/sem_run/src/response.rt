@@ -6,10 +6,12 @@ ghost use Rattle.sem_run.specs.Inputs.{Given as GivenRecord};
 ghost use Rattle.sem_run.specs.Ends.{left};
 ghost use Rattle.sem_run.specs.Readings.{Responds};
 ghost use Rattle.sem_run.specs.Serves.{Serves};
+ghost use Rattle.sem_run.specs.Texts.{text_of};
 
 use crate::accepts::reports_are_accepted;
+use crate::text::Text;
 use sem_cli::Status;
-use sem_io::{Failed, ReadError, Sink, write_all};
+use sem_io::{Failed, ReadError, Sink};
 use sem_msg::Journal;
 use std::alloc::Global;
 
@@ -17,7 +19,7 @@ use std::alloc::Global;
 #[derive(Drop)]
 pub struct Response {
     pub status: Status,
-    pub text: Vec<u8>,
+    pub text: Text,
     pub journal: Journal,
 }
 
@@ -25,12 +27,12 @@ impl Response {
     /// A response of a command that runs nothing.
     pub fn told(alloc: Global, status: Status, text: Vec<u8>) -> Self
         ensures status { result.status ≡ status }
-        ensures text { result.text ≡ text }
+        ensures text { text_of result.text result.journal.entries ≡ text.items }
         ensures journal { result.journal.entries ≡ [] }
     {
         Response {
             status,
-            text,
+            text: Text::Whole(text),
             journal: Journal::new(alloc),
         }
     }
@@ -38,12 +40,12 @@ impl Response {
     /// The response if memory was refused, with the journal of the run so far.
     pub fn out_of_memory(alloc: Global, journal: Journal) -> Self
         ensures status { result.status ≡ Status.Memory }
-        ensures text { result.text.items ≡ [] }
+        ensures text { text_of result.text result.journal.entries ≡ [] }
         ensures journal { result.journal ≡ journal }
     {
         Response {
             status: Status::Memory,
-            text: Vec::new(alloc),
+            text: Text::Whole(Vec::new(alloc)),
             journal,
         }
     }
@@ -52,7 +54,7 @@ impl Response {
     pub fn unread(alloc: Global, error: ReadError) -> Self
         ensures fault { error ≡ ReadError.Fault → result.status ≡ Status.ReadFault }
         ensures memory { error ≡ ReadError.Memory → result.status ≡ Status.Memory }
-        ensures text { result.text.items ≡ [] }
+        ensures text { text_of result.text result.journal.entries ≡ [] }
         ensures journal { result.journal.entries ≡ [] }
     {
         let status = match error {
@@ -69,7 +71,7 @@ impl Response {
     {
         reports_are_accepted();
         *journal = self.journal;
-        match write_all(out, &self.text) {
+        match self.text.write(out, journal) {
             Ok(()) => self.status,
             Err(Failed) => Status::WriteFault,
         }

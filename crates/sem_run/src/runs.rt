@@ -11,8 +11,11 @@ ghost use Rattle.sem_kernel.specs.Standing.{StandsAt};
 ghost use Rattle.sem_run.specs.Inputs.{given, AsksRun, ReadsTrace};
 ghost use Rattle.sem_audit.specs.HeldKeys.{IsAuditOf};
 ghost use Rattle.sem_run.specs.Readings.{AreAfter, EndsRun, IsOkWith, Responds, TellsRefusal};
+ghost use Rattle.sem_run.specs.Texts.{text_of};
 
+use crate::piece::Piece;
 use crate::response::Response;
+use crate::text::Text;
 use sem_audit::audit_of;
 use sem_cli::{Status, push_refused};
 use sem_fabric::Fabric;
@@ -21,7 +24,7 @@ use sem_kernel::{Kernel, boot};
 use sem_key::OutOfMemory;
 use sem_msg::{Audit, Journal, Setup};
 use sem_reader::read_trace;
-use sem_report::print_report;
+use sem_report::{push_audit, push_head};
 use sem_serial::drain;
 use sem_trace::{TraceError, TraceFault};
 use std::alloc::Global;
@@ -91,7 +94,8 @@ fn refuse_trace(alloc: Global, fault: &TraceFault) -> Response
 pub fn report_run(alloc: Global, setup: &Setup, started: Started, seed: u64) -> Response
     requires { IfOk started (λ s. StandsAt setup.now s.0.items s.1) }
     ensures schedule { IsSchedule setup.now result.journal.entries }
-    ensures ends { EndsRun setup.now result.journal.entries result.text.items result.status }
+    ensures ends { EndsRun setup.now result.journal.entries
+        (text_of result.text result.journal.entries) result.status }
     ensures drained { result.status ≡ Status.Done → IsOkWith
         (λ s. result.journal.entries ≡ drained setup.now s.1.journal seed) started }
 {
@@ -139,20 +143,26 @@ pub fn run_to_end(alloc: Global, setup: &Setup, started: Started, seed: u64) -> 
     }
 }
 
-// The report of a journal that ends with these kernels.
+// The text of the report of a journal that ends with these kernels.
 fn report_of(
     alloc: Global,
     setup: &Setup,
     journal: &Journal,
     kernels: Vec<Kernel>,
-) -> Result<Vec<u8>, OutOfMemory>
+) -> Result<Text, OutOfMemory>
     requires { AreAfter setup.now journal.now.entries kernels.items }
-    ensures { IfOk result (λ text. text.items ≡ report setup.now journal.now.entries) }
+    ensures { IfOk result
+        (λ text. text_of text journal.now.entries ≡ report setup.now journal.now.entries) }
 {
     let audit = audit_of_run(alloc, setup, journal, kernels)?;
-    let mut text = Vec::new(alloc);
-    print_report(alloc, setup, journal, &audit, &mut text)?;
-    Ok(text)
+    let mut head = Vec::new(alloc);
+    push_head(&mut head, setup, journal)?;
+    let mut tail = Vec::new(alloc);
+    push_audit(&mut tail, &audit)?;
+    Ok(Text::Report {
+        head: Piece::new(head)?,
+        tail,
+    })
 }
 
 // The audit of a journal that ends with these kernels. They are dropped here, so that their memory

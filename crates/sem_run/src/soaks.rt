@@ -7,9 +7,11 @@ ghost use Rattle.sem_cli.specs.Summary.{summary};
 ghost use Rattle.sem_cli.specs.declared.forms.Command.TheVariants.{Soak};
 ghost use Rattle.sem_run.specs.Inputs.{Given as GivenRecord, Asks, IsUntouched};
 ghost use Rattle.sem_run.specs.Readings.{AreAfter, IsLoadTold, Responds};
+ghost use Rattle.sem_run.specs.Texts.{text_of};
 
 use crate::response::Response;
 use crate::runs::{Run, run_to_end};
+use crate::text::Text;
 use crate::threads::run_in_threads;
 use sem_audit::{answered, stray_of};
 use sem_cli::{Status, push_summary};
@@ -65,12 +67,12 @@ fn tell_load(
     requires after { AreAfter setup.now journal.entries kernels.items }
     ensures journal { result.journal ≡ journal }
     ensures told { IsLoadTold setup.now journal.entries vpes calls
-        result.text.items result.status }
+        (text_of result.text result.journal.entries) result.status }
 {
     match summary_of(alloc, setup, &journal, kernels, vpes, calls) {
         Ok(text) => Response {
             status: Status::Done,
-            text,
+            text: Text::Whole(text),
             journal,
         },
         Err(_) => Response::out_of_memory(alloc, journal),

@@ -6,5 +6,5 @@ pub returns : goal.returns
 returns c = record {
   ok =
       OnOk-then c.push_audit.result c.push_audit.ensures.ok (text-report c.args.setup.now c.args.journal.now.entries c.args.audit.now.made c.args.audit.now.cut
-      (held_pairs c.args.audit.now.held) _ _ _ _ _ c.in_ok-push_header.ensures.ok c.in_ok-push_trace.ensures.ok c.in_ok-push_journal.ensures.ok);
+      (held_pairs c.args.audit.now.held) _ _ _ _ c.in_ok-push_head.ensures.ok c.in_ok-push_entries.ensures.ok);
 }

@@ -2,6 +2,7 @@ use Rattle.std.proofs.Common.{[], refl, sym, ap, subst}
 use Rattle.sem_msg.specs.Journal.{JournalList}
 use Rattle.sem_msg.specs.Setup.{IsSetup}
 use Rattle.sem_run.specs.Ends.{WouldEnd}
+use Rattle.sem_run.specs.Texts.{text_of}
 use Rattle.sem_run.proofs.Ending.{load-ends, soak-part, memory-ends}
 use Rattle.sem_run.proofs.soaks.soak_load.Goals as goal
 
@@ -11,9 +12,11 @@ returns-in-Ok-kernels g c given asked untouched =
     let valid = subst IsSetup c.setup.view_is c.setup.invariant in
     let complete = rw c.in-Ok-kernels.is at c.run_to_end-journal.ensures.complete in
     let told = rw (c.from-in-Ok-kernels.ensures, c.from.ensures, c.from-2.ensures) at c.tell_load.ensures.told in
-    let ends = load-ends given c.run_to_end-journal.result.journal.entries c.tell_load.result.text.items c.args.seed c.args.vpes c.args.calls c.in-Ok.setup
-    asked c.in-Ok.ensures valid untouched complete c.tell_load.result.status told in
-    subst (λ (j : JournalList). WouldEnd given j.entries c.tell_load.result.text.items c.tell_load.result.status) (sym c.tell_load.ensures.journal) ends
+    let r = c.tell_load.result in
+    let text = text_of r.text r.journal.entries in
+    let ends = load-ends given c.run_to_end-journal.result.journal.entries text c.args.seed c.args.vpes c.args.calls c.in-Ok.setup asked c.in-Ok.ensures valid
+    untouched complete r.status told in
+    subst (λ (j : JournalList). WouldEnd given j.entries text r.status) (sym c.tell_load.ensures.journal) ends
 
 -- memory was lacking on the way
 pub returns : goal.returns
