@@ -143,7 +143,10 @@ fn each_write_that_fails_leaves_a_prefix(rt: HostRuntime) -> Result<(), Fail> {
             let sink = MemSink::new(rt.alloc(), 4096, STEP, vec![in rt.alloc(); call as u64]?)?;
             let ending = ended_over(&rt, rt.alloc(), row.line, source, sink, &OpenGate)?;
             assert_eq!(rt; ending.status, Status::WriteFault);
-            assert_eq!(rt; ending.written.len(), call.saturating_mul(STEP));
+            // A report is written in two parts, so one call may write less than it could.
+            let most = call.saturating_mul(STEP);
+            let written = ending.written.len();
+            assert!(rt; written <= most && most < written.saturating_add(STEP));
             assert!(rt; row.text.as_bytes().starts_with(&ending.written));
             assert_eq!(rt; ending.journal.len(), row.entries);
         }
