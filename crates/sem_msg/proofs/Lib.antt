@@ -1,5 +1,7 @@
 pub mod Masks
-pub mod OutboxRows
+pub mod Queues
+pub mod Pools
+pub mod Boxes
 pub mod Declared
 pub mod OneVpe
 pub mod Snocs

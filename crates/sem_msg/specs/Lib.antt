@@ -7,6 +7,7 @@ pub mod Calls
 pub mod Setup
 pub mod Journal
 pub mod Masks
+pub mod Queues
 pub mod Outboxes
 pub mod Rows
 pub mod Lookups

@@ -1,5 +1,5 @@
 -- The outboxes of a kernel as contracts see them ("State" in docs/machine.md).
-use Rattle.std.specs.Prelude.{◌≡◌, ℕ, ◌≤◌, List, [], length, map, slice_get, slice_index_or, is_some, All}
+use Rattle.std.specs.Prelude.{◌≡◌, ℕ, List, [], length, slice_get, slice_index_or, is_some, All}
 use Rattle.sem_key.specs.Prelude.{put}
 use Rattle.sem_msg.specs.declared.message.Message.{Message}
 use Rattle.sem_msg.specs.Message.{Fits}
@@ -12,11 +12,6 @@ pub record OutboxList : Type 0 where
   -- how many more can be sent without taking memory
   pub spare : ℕ
 
--- the messages for one kernel, and room for how many more
-pub record OutboxRow : Type 0 where
-  pub messages : List Message
-  pub spare : ℕ
-
 -- the messages for a kernel
 abbrev pub box_for : List (List Message) → ℕ → List Message
 box_for boxes to = slice_index_or boxes to []
@@ -24,14 +19,6 @@ box_for boxes to = slice_index_or boxes to []
 -- the outboxes with other messages for a kernel
 abbrev pub with_box : List (List Message) → ℕ → List Message → List (List Message)
 with_box boxes to messages = put [] boxes to messages
-
--- the messages in the rows
-abbrev pub messages_of : List OutboxRow → List (List Message)
-messages_of rows = map (λ row. row.messages) rows
-
--- each row has room for that many more messages
-abbrev pub HaveRoom : List OutboxRow → ℕ → Type 0
-HaveRoom rows spare = All (λ row. spare ≤ row.spare) rows
 
 -- all messages fit
 abbrev pub AllFit : List (List Message) → Type 0

@@ -14,6 +14,7 @@ mod list;
 mod lookups;
 mod message;
 mod outboxes;
+mod pool;
 mod reserved;
 mod same;
 mod setup;

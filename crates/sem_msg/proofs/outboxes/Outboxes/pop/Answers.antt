@@ -1,36 +1,56 @@
-use Rattle.std.proofs.Common.{◌<◌, length, drop, arith}
+use Rattle.std.proofs.Common.{◌≡◌, ◌<◌, ◌∙◌, ap, drop, length, length-drop, arith}
+use Rattle.std.specs.List.{slice_get}
+use Rattle.std.specs.Prelude.{Some}
 use Rattle.std.proofs.lemmas.List.Elements.{All-drop}
 use Rattle.sem_msg.specs.Message.{Fits}
-use Rattle.sem_msg.specs.Outboxes.{messages_of}
-use Rattle.sem_msg.proofs.OutboxRows.{HaveRoom-set, HaveRoom-here, AllFit-set, AllFit-here, AreFilled-set, box-edited, first-fits}
+use Rattle.sem_msg.specs.Outboxes.{box_for}
+use Rattle.sem_msg.proofs.Boxes.{AllFit-put, AreFilled-put, fits-here, first-fits, box-queue, boxes-popped, free-popped, length-popped, box-popped, none-popped}
+use Rattle.sem_msg.proofs.Boxes.{empty-none, some-len}
 use Rattle.sem_msg.proofs.outboxes.Outboxes.pop.Goals as goal
+
+-- no message waits
+pub returns-in_err-message-clause-boxes : goal.returns-in_err-message-clause-boxes
+returns-in_err-message-clause-boxes c =
+    let pool = c.self.inside.pool in
+    let within : c.args.to < length (drop 1 pool) = rw (← c.self.view_is) at c.requires in
+    let same : box_for pool c.queue_of-queue.result ≡ box_for (drop 1 pool) c.args.to = ap (box_for pool) c.queue_of-queue.ensures ∙ box-queue pool c.args.to in
+    let none = c.in_err-message.ensures ∙ ap (λ ms. slice_get ms 0) same in
+    rw (← c.self.view_is) (none-popped (drop 1 pool) c.args.to within (empty-none _ none))
+
+pub len-requires : goal.len-requires
+len-requires c =
+    let pool = c.self.inside.pool in
+    let within : c.args.to < length (drop 1 pool) = rw (← c.self.view_is) at c.requires in
+    let long = length-popped pool c.move_first.new.self c.args.to _ c.in_ok-message.message c.queue_of-queue.ensures within c.move_first.ensures in
+    omega (arith, within, long, length-drop 1 pool, c.queue_of-queue.ensures)
 
 -- the messages that are left fit
 pub invariant_of-self : goal.invariant_of-self
 invariant_of-self c =
-    let rows = c.self.inside.boxes.items in
-    let spare = c.self.inside.spare in
-    let have = c.self.invariant.0 in
-    let within : c.args.to < length (messages_of rows) = rw (← c.self.view_is) at c.requires in
-    let here = HaveRoom-here rows c.args.to c.index_mut-outbox.result.now within c.index_mut-outbox.ensures.value spare have in
-    let fit = AllFit-here rows c.args.to c.index_mut-outbox.result.now within c.index_mut-outbox.ensures.value c.self.invariant.1 in (
-      HaveRoom-set rows c.args.to c.pop-message.new.self spare spare have (omega arith) (omega (arith, here, c.pop-message.ensures.spare)),
-      AllFit-set rows c.args.to c.pop-message.new.self c.self.invariant.1
-          (rw c.pop-message.ensures.messages (All-drop Fits 1 c.index_mut-outbox.result.now.messages fit)),
-      AreFilled-set rows c.args.to within c.self.inside.filled c.with_bit-self-inside.result c.self.invariant.2 c.pop-message.new.self c.is_filled.result
-          c.is_filled.ensures c.with_bit-self-inside.ensures,
+    let pool = c.self.inside.pool in
+    let new = c.move_first.new.self in
+    let number = c.queue_of-queue.ensures in
+    let within : c.args.to < length (drop 1 pool) = rw (← c.self.view_is) at c.requires in
+    let boxes = boxes-popped pool new c.args.to _ c.in_ok-message.message number within c.move_first.ensures in
+    let long = length-popped pool new c.args.to _ c.in_ok-message.message number within c.move_first.ensures in
+    let free = free-popped pool new c.args.to _ c.in_ok-message.message number within c.move_first.ensures in
+    let left = box-popped pool new c.args.to _ c.in_ok-message.message number within c.move_first.ensures in (
+      omega (arith, long, c.self.invariant.0),
+      omega (arith, free, c.self.invariant.1),
+      AllFit-put _ _ _ _ boxes within c.self.invariant.2 (All-drop Fits 1 _ (fits-here _ _ within c.self.invariant.2)),
+      AreFilled-put _ _ _ _ boxes within _ _ _ c.self.invariant.3 (some-len _ _ (c.len.ensures ∙ ap length left)) c.with_bit-self-inside.ensures,
     )
 
 pub returns-clause-boxes : goal.returns-clause-boxes
 returns-clause-boxes c =
-    let within : c.args.to < length (messages_of c.self.inside.boxes.items) = rw (← c.self.view_is) at c.requires in
-    rw (← c.self.view_is) (box-edited c.self.inside.boxes.items c.args.to c.index_mut-outbox.result.now within c.index_mut-outbox.ensures.value
-    (drop 1) c.pop-message.new.self c.pop-message.ensures.messages)
+    let pool = c.self.inside.pool in
+    let within : c.args.to < length (drop 1 pool) = rw (← c.self.view_is) at c.requires in
+    rw (← c.self.view_is) (boxes-popped pool c.move_first.new.self c.args.to _ c.in_ok-message.message c.queue_of-queue.ensures within c.move_first.ensures)
 
 -- all messages fitted, so the first does
 pub returns-clause-fits : goal.returns-clause-fits
 returns-clause-fits c =
-    let rows = c.self.inside.boxes.items in
-    let within : c.args.to < length (messages_of rows) = rw (← c.self.view_is) at c.requires in
-    let fit = AllFit-here rows c.args.to c.index_mut-outbox.result.now within c.index_mut-outbox.ensures.value c.self.invariant.1 in
-    first-fits _ _ fit c.pop-message.ensures.front
+    let pool = c.self.inside.pool in
+    let within : c.args.to < length (drop 1 pool) = rw (← c.self.view_is) at c.requires in
+    let same : box_for pool c.queue_of-queue.result ≡ box_for (drop 1 pool) c.args.to = ap (box_for pool) c.queue_of-queue.ensures ∙ box-queue pool c.args.to in
+    first-fits _ (Some c.in_ok-message.message) (fits-here _ _ within c.self.invariant.2) (c.in_ok-message.ensures ∙ ap (λ ms. slice_get ms 0) same)
