@@ -1,10 +1,7 @@
 // What a job has marked is taken out of a store.
-ghost use Rattle.std.specs.Prelude.{◌≡◌, ◌+◌, ◌≤◌, ◌++◌, length, map, filter, not, vec_len};
-ghost use Rattle.std.specs.Prelude.{vec_capacity, IfSome};
-ghost use Rattle.sem_key.specs.Capability.{capability_of};
-ghost use Rattle.sem_key.specs.CapList.{is_marked_by, marked_by, not_marked_by, link_count};
-ghost use Rattle.sem_caps.specs.CapStore.{key_and_selector};
-ghost use Rattle.sem_caps.specs.Stored.{plain, rows_of, row_at, IsAlone, IsPlaced, IsTallied};
+ghost use Rattle.std.specs.Prelude.{IfSome};
+ghost use Rattle.sem_caps.specs.Stored.{plain, rows_of, IsAlone, IsTallied};
+ghost use Rattle.sem_caps.specs.Taking.{CanTakeOut, HasTakenOut};
 
 use crate::marks::count_of;
 use crate::rows::{child_count, take_marked};
@@ -24,26 +21,10 @@ pub fn take_out(
     job: u32,
     gone: &mut Vec<(Key, u8)>,
 ) -> usize
-    requires placed { IsPlaced slab.old spots.old.items }
-    requires counted { links ≡ link_count (plain (rows_of slab.old spots.old.items)) }
+    requires can { CanTakeOut job slab.old spots.old gone.old links }
     requires tallied { IsTallied (rows_of slab.old spots.old.items) marks.now.items }
     requires alone { IfSome alone (IsAlone job (plain (rows_of slab.old spots.old.items))) }
-    requires room { vec_len gone.old
-        + length (marked_by job (plain (rows_of slab.old spots.old.items)))
-        ≤ vec_capacity gone.old }
-    ensures gone { gone.new.items ≡ gone.old.items
-        ++ map key_and_selector (marked_by job (plain (rows_of slab.old spots.old.items))) }
-    ensures spots { spots.new.items
-        ≡ filter (λ s. not (is_marked_by job (capability_of (row_at slab.old s)))) spots.old.items }
-    ensures rows { rows_of slab.new spots.new.items
-        ≡ filter (λ c. not (is_marked_by job (capability_of c)))
-        (rows_of slab.old spots.old.items) }
-    ensures placed { IsPlaced slab.new spots.new.items }
-    ensures links { result
-        ≡ link_count (not_marked_by job (plain (rows_of slab.old spots.old.items))) }
-    ensures slab_capacity { slab.new.capacity ≡ slab.old.capacity }
-    ensures spots_capacity { vec_capacity spots.new ≡ vec_capacity spots.old }
-    ensures gone_capacity { vec_capacity gone.new ≡ vec_capacity gone.old }
+    ensures { HasTakenOut job slab.old slab.new spots.old spots.new gone.old gone.new result }
 {
     if count_of(job, marks) == 0 {
         return links;
@@ -64,25 +45,9 @@ fn take_alone(
     job: u32,
     gone: &mut Vec<(Key, u8)>,
 ) -> usize
-    requires placed { IsPlaced slab.old spots.old.items }
-    requires counted { links ≡ link_count (plain (rows_of slab.old spots.old.items)) }
+    requires can { CanTakeOut job slab.old spots.old gone.old links }
     requires alone { IsAlone job (plain (rows_of slab.old spots.old.items)) at }
-    requires room { vec_len gone.old
-        + length (marked_by job (plain (rows_of slab.old spots.old.items)))
-        ≤ vec_capacity gone.old }
-    ensures gone { gone.new.items ≡ gone.old.items
-        ++ map key_and_selector (marked_by job (plain (rows_of slab.old spots.old.items))) }
-    ensures spots { spots.new.items
-        ≡ filter (λ s. not (is_marked_by job (capability_of (row_at slab.old s)))) spots.old.items }
-    ensures rows { rows_of slab.new spots.new.items
-        ≡ filter (λ c. not (is_marked_by job (capability_of c)))
-        (rows_of slab.old spots.old.items) }
-    ensures placed { IsPlaced slab.new spots.new.items }
-    ensures links { result
-        ≡ link_count (not_marked_by job (plain (rows_of slab.old spots.old.items))) }
-    ensures slab_capacity { slab.new.capacity ≡ slab.old.capacity }
-    ensures spots_capacity { vec_capacity spots.new ≡ vec_capacity spots.old }
-    ensures gone_capacity { vec_capacity gone.new ≡ vec_capacity gone.old }
+    ensures { HasTakenOut job slab.old slab.new spots.old spots.new gone.old gone.new result }
 {
     let spot = spots.remove(at);
     let cap = slab.remove(spot.place());
